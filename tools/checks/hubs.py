@@ -15,8 +15,8 @@ MOST = 120
 HUB = "Names"
 FILE = HUB + ".antt"
 FIRST = "-- The names of other crates, and of this crate's definitions,"
-TOP = FIRST + """ that its proofs speak of, each by its home.
--- A proof takes them by `use proofs.Names.{..}`; tools/checks/imports.py brings in those that a proof imports by their home.
+TOP = FIRST + """ that its proofs speak of, each by its home. A proof takes
+-- them by `use proofs.Names.{..}`; tools/checks/imports.py brings in those that a proof imports by their home.
 """
 USE = re.compile(r"^(pub |unfoldable pub )?use (.+)$")
 LIBRARY = re.compile(r"^(Rattle\.(?:\w+\.specs\.)?(\w+)\.(specs|proofs))(?:\.|$)(.*)$")

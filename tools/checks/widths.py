@@ -1,16 +1,21 @@
 #!/usr/bin/env python3
-"""Finds lines of the code that are over 120 columns: clauses and comments.
+"""Finds lines of code, specs and proofs that are over 120 columns: clauses, statements and comments.
 
     tools/checks/widths.py [--check | --write]
 
 Prints each with its file, its number and its width, and ends with status 1 where there is one. With `--write` it
-breaks clauses first: after a field of a record, before an arrow, another relation or an argument, as far outside in
-the clause as can be; `rt fmt` then lays out the fields of a record. A further line stands 4 columns further in.
-Imports and attributes, which the kit lays out, and lines that are one literal are left as they are.
+breaks clauses of the code first: after a field of a record, before an arrow, another relation or an argument, as far
+outside in the clause as can be; `rt fmt` then lays out the fields of a record. A further line stands 4 columns further
+in. Lines of specs and proofs are broken by tools/maintenance/columns.py.
+Imports of the code and attributes, which the kit lays out, and lines that are one literal are left as they are, and so
+are the cases that makers write (tools/checks/fresh.py): a line of theirs is a report or its rows, which nobody reads,
+and the check that they are fresh compares them with what their makers write now.
 """
 import pathlib
 import re
 import sys
+
+import fresh
 
 ROOT = pathlib.Path(__file__).resolve().parent.parent.parent
 MOST = 120
@@ -19,8 +24,9 @@ STEP = 4
 # How many columns of a clause a line has at least, where it is broken.
 LEAST = 24
 CLAUSE = re.compile(r"(requires|ensures|invariant|ghost (view|inverse|invariant))\b")
-# Lines that stay: imports, attributes, literals.
+# Lines that stay: imports, attributes, literals; of specs and proofs literals, and imports of one name.
 STAYING = re.compile(r'(pub )?(ghost )?use |#!?\[|\*?b?"')
+STAYING_LOGIC = re.compile(r'"|use [^,]*$')
 # What a further line may begin with, the best first.
 MARKS = ("→ ", "× ", "≡ ", "≤ ", "< ", "++ ", "(λ ", "in ", "(", "∷ ")
 
@@ -62,12 +68,20 @@ def rewritten(text):
     return "\n".join(lines) + "\n"
 
 
-def too_wide(text):
+def too_wide(text, staying=STAYING):
     """The numbers and widths of the lines that are over the limit."""
     for number, line in enumerate(text.splitlines(), 1):
         word = line.lstrip()
-        if len(line) > MOST and not STAYING.match(word):
+        if len(line) > MOST and not staying.match(word):
             yield number, len(line)
+
+
+def logic():
+    """The files of specs and proofs, without those that makers write."""
+    for part in ("specs", "proofs"):
+        for path in sorted((ROOT / "crates").glob("*/%s/**/*.antt" % part)):
+            if str(path.relative_to(ROOT)) not in fresh.MADE:
+                yield path
 
 
 def main():
@@ -78,7 +92,9 @@ def main():
             text = rewritten(text)
             path.write_text(text)
         wide += ["%s:%d: %d columns" % (path.relative_to(ROOT), *line) for line in too_wide(text)]
-    print("\n".join(wide) if wide else "no line of the code is over %d columns" % MOST)
+    for path in logic():
+        wide += ["%s:%d: %d columns" % (path.relative_to(ROOT), *line) for line in too_wide(path.read_text(), STAYING_LOGIC)]
+    print("\n".join(wide) if wide else "no line of code, specs and proofs is over %d columns" % MOST)
     sys.exit(1 if wide else 0)
 
 

@@ -1,5 +1,7 @@
 -- Small lemmas on tests, numbers and lists, for the proofs of all crates.
-use Rattle.std.proofs.Common.{ℕ, suc, ◌≡◌, ◌+◌, Bool, true, false, not, ◌&&◌, ◌||◌, ◌∙◌, List, [], ◌∷◌, ◌++◌, Option, Some, None, refl, sym, ap, arith, ◌<◌, length, get_or, set, ◌≢◌, ◌-◌, rules, add-one, drop-cons, drop, ◌*◌, reverse, subst}
+use Rattle.std.proofs.Common.{ℕ, suc, ◌≡◌, ◌+◌, Bool, true, false, not, ◌&&◌, ◌||◌, ◌∙◌, List, [], ◌∷◌, ◌++◌, Option}
+use Rattle.std.proofs.Common.{Some, None, refl, sym, ap, arith, ◌<◌, length, get_or, set, ◌≢◌, ◌-◌, rules, add-one}
+use Rattle.std.proofs.Common.{drop-cons, drop, ◌*◌, reverse, subst}
 use Rattle.std.proofs.lemmas.Bool.{eqb-true, eqb-false, or_left, or_right}
 use Rattle.std.proofs.lemmas.Bool.Decides.{nat_tests}
 use Rattle.std.proofs.lemmas.List.{get_or-set_same, get_or-set_other, length-append, reverse-append}
@@ -61,15 +63,18 @@ unless false b f = f refl
 pub none_number : (y : ℕ) → (let o : Option ℕ = None in o) ≡ Some y → ⊥
 none_number y e = cc
 
-pub all_append : {A : Type 0} (P : A → Type 0) (xs ys : List A) → AllByRecursion P xs → AllByRecursion P ys → AllByRecursion P (xs ++ ys)
+pub all_append : {A : Type 0} (P : A → Type 0) (xs ys : List A) → AllByRecursion P xs → AllByRecursion P ys
+    → AllByRecursion P (xs ++ ys)
 all_append P [] ys a b = b
 all_append P (x ∷ xs) ys a b = (a.0, all_append P xs ys a.1 b)
 
 pub all_reverse : {A : Type 0} (P : A → Type 0) (xs : List A) → AllByRecursion P xs → AllByRecursion P (reverse xs)
 all_reverse P [] h = tt
-all_reverse P (x ∷ xs) h = subst (AllByRecursion P) (sym (reverse-append (x ∷ []) xs)) (all_append P (reverse xs) (x ∷ []) (all_reverse P xs h.1) (h.0, tt))
+all_reverse P (x ∷ xs) h = subst (AllByRecursion P) (sym (reverse-append (x ∷ []) xs))
+    (all_append P (reverse xs) (x ∷ []) (all_reverse P xs h.1) (h.0, tt))
 
-pub all_with : {A : Type 0} (P : A → Type 0) (xs : List A) (x : A) → AllByRecursion P xs → P x → AllByRecursion P (xs ++ x ∷ [])
+pub all_with : {A : Type 0} (P : A → Type 0) (xs : List A) (x : A) → AllByRecursion P xs → P x
+    → AllByRecursion P (xs ++ x ∷ [])
 all_with P xs x h k = all_append P xs (x ∷ []) h (k, tt)
 
 pub nil_of : (xs : List ℕ) → length xs ≡ 0 → xs ≡ []
@@ -115,10 +120,12 @@ suc_some n = grind (arith, nat_tests)
 pub dropped : {A : Type 0} (i : ℕ) (xs : List A) (d : A) → i < length xs → drop i xs ≡ get_or xs i d ∷ drop (i + 1) xs
 dropped i xs d below = rw (add-one, drop-cons xs i d) refl
 
-pub item_next : {A : Type 0} (i : ℕ) (xs : List A) (x : A) → i < length xs → x ≡ get_or xs i x → drop i xs ≡ x ∷ drop (i + 1) xs
+pub item_next : {A : Type 0} (i : ℕ) (xs : List A) (x : A) → i < length xs → x ≡ get_or xs i x
+    → drop i xs ≡ x ∷ drop (i + 1) xs
 item_next i xs x below is = dropped i xs x below ∙ ap (λ y. y ∷ drop (i + 1) xs) (sym is)
 
-pub put_at : (had : List Bool) (k t : ℕ) (x : Bool) → t < length had → get_or (set had k x) t false ≡ (if k == t then x else get_or had t false)
+pub put_at : (had : List Bool) (k t : ℕ) (x : Bool) → t < length had
+    → get_or (set had k x) t false ≡ (if k == t then x else get_or had t false)
 put_at had k t x l = go (k == t) refl
   where
     go : (y : Bool) → (k == t) ≡ y → get_or (set had k x) t false ≡ (if y then x else get_or had t false)
@@ -145,14 +152,16 @@ implication_parts false b e = absurd cc
 pub times_none : (n : ℕ) → 0 ≡ n * 0
 times_none n = omega arith
 
-pub rises_none : (io q : Bool) (x y : ℕ) (z : Option ℕ) → io ≡ true → (if io then (if q then Some x else None) else z) ≡ None → q ≡ false
+pub rises_none : (io q : Bool) (x y : ℕ) (z : Option ℕ) → io ≡ true
+    → (if io then (if q then Some x else None) else z) ≡ None → q ≡ false
 rises_none io true x y z e f = absurd (some_none x (sym (ap (λ (r : Bool). if r then Some x else z) e) ∙ f))
   where
     some_none : (x : ℕ) → Some x ≡ (let a : Option ℕ = None in a) → ⊥
     some_none x e = cc
 rises_none io false x y z e f = refl
 
-pub rises_some : (io q : Bool) (x dev : ℕ) (z : Option ℕ) → io ≡ true → (if io then (if q then Some x else None) else z) ≡ Some dev → q ≡ true
+pub rises_some : (io q : Bool) (x dev : ℕ) (z : Option ℕ) → io ≡ true
+    → (if io then (if q then Some x else None) else z) ≡ Some dev → q ≡ true
 rises_some io true x dev z e f = refl
 rises_some io false x dev z e f = absurd (nothing dev (sym (ap (λ (r : Bool). if r then None else z) e) ∙ f))
   where

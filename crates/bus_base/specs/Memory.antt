@@ -1,5 +1,6 @@
 -- A source and a sink in memory: what they hold, and what a call does to them.
-use Rattle.std.specs.Prelude.{ℕ, ◌-◌, min, List, [], ◌++◌, length, take, drop, Bool, ◌==◌, ◌&&◌, ◌||◌, if◌then◌else◌, Result, Ok, Err, nat_lt}
+use Rattle.std.specs.Prelude.{ℕ, ◌-◌, min, List, [], ◌++◌, length, take, drop, Bool, ◌==◌, ◌&&◌, ◌||◌, if◌then◌else◌}
+use Rattle.std.specs.Prelude.{Result, Ok, Err, nat_lt}
 use Rattle.std.specs.List.{list_any}
 use Rattle.bus_base.specs.Faults.{counted_on}
 use Rattle.bus_base.specs.declared.failures.Failed.{Failed}

@@ -15,8 +15,8 @@ end_of cuts.Fault = ends.Fault
 abbrev pub TakesBeyond : Option (List ℕ) → Option (List ℕ) → ℕ → Type 0
 TakesBeyond old left limit = IfSome old (λ xs. (limit < length xs) × (left ≡ Some (drop (limit + 1) xs)))
 
--- The bytes that a source had left, `old`, came to the front of `into`, as many as are told. At TooLong they are more than
--- the limit, and one more than the limit were taken; at Fault none was.
+-- The bytes that a source had left, `old`, came to the front of `into`, as many as are told. At TooLong they are more
+-- than the limit, and one more than the limit were taken; at Fault none was.
 abbrev pub ReadsPiece : Option (List ℕ) → Option (List ℕ) → List ℕ → ℕ → Result ℕ Cut → Type 0
 ReadsPiece old left into limit (Ok n) = IfSome old (λ xs. TakesFront xs left into n)
 ReadsPiece old left into limit (Err cuts.TooLong) = TakesBeyond old left limit

@@ -1,5 +1,5 @@
--- The causes in some runs of `bus_due`: a command that is refused; and processes that a target of limit 0 gives up in DATA OUT, DATA IN
--- and STATUS, and one of limit 1 in STATUS.
+-- The causes in some runs of `bus_due`: a command that is refused; and processes that a target of limit 0 gives up in
+-- DATA OUT, DATA IN and STATUS, and one of limit 1 in STATUS.
 use Rattle.bus_books.proofs
 use proofs.Names.{ℕ, ◌≡◌, true, false, [], refl, sym, ◌∙◌, ProcId, line_of, union_below, form_out, form_in, need_of}
 use proofs.Names.{sent_of, full_queue_due, full_queue_due_rows, given_up_due, given_up_due_rows, status_given_up_due}
@@ -10,11 +10,14 @@ use lib.Count.{ones}
 abbrev command : ℕ → ProcId
 command n = record { command = n; sense = false }
 
-second_refused : was_refused full_queue_due (run_state full_queue_due (onto full_queue_due_rows [])).story.history (command 2) ≡ true
+second_refused :
+    was_refused full_queue_due (run_state full_queue_due (onto full_queue_due_rows [])).story.history (command 2) ≡ true
 unfolding need_of sent_of ones union_below line_of form_out form_in
 second_refused = refl
 
-first_not_refused : was_refused full_queue_due (run_state full_queue_due (onto full_queue_due_rows [])).story.history (command 1) ≡ false
+first_not_refused :
+    was_refused full_queue_due (run_state full_queue_due (onto full_queue_due_rows [])).story.history (command 1)
+    ≡ false
 unfolding need_of sent_of ones union_below line_of form_out form_in
 first_not_refused = refl
 

@@ -1,5 +1,6 @@
 -- What the books of one process ask of all that is kept.
-use Rattle.std.specs.Prelude.{ℕ, Bool, true, false, not, ◌&&◌, ◌||◌, List, [], ◌∷◌, length, Option, Some, None, is_some, nat_lt, if◌then◌else◌}
+use Rattle.std.specs.Prelude.{ℕ, Bool, true, false, not, ◌&&◌, ◌||◌, List, [], ◌∷◌, length, Option, Some, None, is_some}
+use Rattle.std.specs.Prelude.{nat_lt, if◌then◌else◌}
 use Rattle.bus_due.specs.bus_base.specs.declared.ProcId.{ProcId}
 use Rattle.bus_due.specs.msg_grammar.specs.declared.message.MsgIn.{MsgIn}
 use Rattle.bus_due.specs.msg_grammar.specs.Messages.{in_bytes}
@@ -51,7 +52,8 @@ messages_to_come phases.MessageIn cause messages count = messages_left messages 
 messages_to_come phases.MessageOut causes.InMessage messages count = messages_left messages 0
 messages_to_come _ _ messages count = []
 
--- The process that the target serves, as it will be: where the initiator does not know it yet, its pointers will be restored.
+-- The process that the target serves, as it will be: where the initiator does not know it yet, its pointers will be
+-- restored.
 abbrev pub carried_once_named : Option Item → CarriedBytes → CarriedBytes
 carried_once_named None c = with_restored_pointers c
 carried_once_named (Some item) c = c

@@ -1,5 +1,5 @@
--- What a process has carried are its own bytes: its command descriptor block and, where it writes, the data that it sends; the
--- pointers stand in them (6.4, 6.6.19, 6.6.20).
+-- What a process has carried are its own bytes: its command descriptor block and, where it writes, the data that it
+-- sends; the pointers stand in them (6.4, 6.6.19, 6.6.20).
 use Rattle.std.specs.Prelude.{ℕ, ◌%◌, ◌≡◌, ◌≤◌, ◌<◌, true, List, [], ◌∷◌, ⊤, ◌++◌, length, slice_index_or, Some}
 use Rattle.bus_due.specs.bus_base.specs.declared.ProcId.{ProcId}
 use Rattle.bus_due.specs.bus_trace.specs.declared.Row.{Row}
@@ -20,7 +20,8 @@ pub record IsFilled (a : Area) (content : List ℕ) : Type 0 where
   pub active_in : a.active ≤ length a.bytes
   pub saved_in : a.saved ≤ length a.bytes
 
--- The bytes of COMMAND since the pointers were last restored are a front of the block, and the pointer stands at their end.
+-- The bytes of COMMAND since the pointers were last restored are a front of the block, and the pointer stands at their
+-- end.
 pub record TakesBlock (c : CarriedBytes) (cdb : List ℕ) : Type 0 where
   pub rest : List ℕ
   pub block_is : c.block ++ rest ≡ cdb
@@ -41,17 +42,20 @@ pub record AllCarryOwn (s : ScenarioValue) (k : RunState) : Type 0 where
   pub each : (id : ProcId) → IsOwn s (carried_here k id)
   pub undone : (l : Link) (c : CarriedBytes) → k.story.link ≡ Some l → l.undo ≡ Some c → IsOwn s c
 
--- A byte that crosses in COMMAND, or in a data phase of a process that writes, is that at the pointer of the process of the
--- connection, and stands in what it sends: what the initiator is due to drive, as long as the target asks for no byte more.
+-- A byte that crosses in COMMAND, or in a data phase of a process that writes, is that at the pointer of the process of
+-- the connection, and stands in what it sends: what the initiator is due to drive, as long as the target asks for no
+-- byte more.
 pub record SendsNext (s : ScenarioValue) (k : RunState) (p : Process) (d : RowReading) : Type 0 where
   pub command : is_command d.change.before ≡ true
-      → (d.change.after.data_bits % 256 ≡ slice_index_or p.cdb (carried_here k p.id).command.active 0) × ((carried_here k p.id).command.active < length p.cdb)
+      → (d.change.after.data_bits % 256 ≡ slice_index_or p.cdb (carried_here k p.id).command.active 0)
+      × ((carried_here k p.id).command.active < length p.cdb)
   pub moved : is_data d.change.before ≡ true → is_writing p ≡ true
-      → (d.change.after.data_bits % 256 ≡ slice_index_or p.sent (carried_here k p.id).moved.active 0) × ((carried_here k p.id).moved.active < length p.sent)
+      → (d.change.after.data_bits % 256 ≡ slice_index_or p.sent (carried_here k p.id).moved.active 0)
+      × ((carried_here k p.id).moved.active < length p.sent)
 
 abbrev pub SendsOwn : ScenarioValue → RunState → Row → Type 0
-SendsOwn s k row =
-    (p : Process) → process_here s k ≡ Some p → (row_reading k.story.bus_state row).crosses ≡ true → SendsNext s k p (row_reading k.story.bus_state row)
+SendsOwn s k row = (p : Process) → process_here s k ≡ Some p → (row_reading k.story.bus_state row).crosses ≡ true
+    → SendsNext s k p (row_reading k.story.bus_state row)
 
 -- In all of these rows.
 abbrev pub AllSendOwn : ScenarioValue → List Row → Type 0

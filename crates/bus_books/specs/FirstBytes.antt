@@ -1,5 +1,5 @@
--- Until a byte has crossed in a connection, the next one begins an IDENTIFY: the opening of the initiator after a selection, the names
--- of the target after a reselection (6.1.3, 6.1.4, 6.6.7).
+-- Until a byte has crossed in a connection, the next one begins an IDENTIFY: the opening of the initiator after a
+-- selection, the names of the target after a reselection (6.1.3, 6.1.4, 6.6.7).
 use Rattle.std.specs.Prelude.{ℕ, ◌≡◌, ◌<◌, true, false, List, [], ◌∷◌, Some}
 use Rattle.bus_due.specs.bus_trace.specs.LineSet.{LineSet}
 use Rattle.bus_due.specs.bus_trace.specs.declared.connection.Connection.{Connection}
@@ -22,8 +22,10 @@ pub record OpensConnection (words : List ℕ) : Type 0 where
 
 pub data IsUnopened (n : Connection) (x : Exchange) (d : Dialogue) (h : Handshakes) (b : LineSet) : Type 0 where
   before_all : n.reselected ≡ false → x.begun ≡ false → OpensConnection x.speech.words → IsUnopened n x d h b
-  in_opening : n.reselected ≡ false → x.begun ≡ true → is_message_out b ≡ true → x.speech.place ≡ 0 → d.is_last ≡ false → OpensConnection x.speech.words → IsUnopened n x d h b
-  in_names : n.reselected ≡ true → x.begun ≡ true → is_message_in b ≡ true → h.requests ≡ 0 → (lun : ℕ) → x.plan.messages.first ≡ Some (to_initiator.Identify lun) → lun < 8 → IsUnopened n x d h b
+  in_opening : n.reselected ≡ false → x.begun ≡ true → is_message_out b ≡ true → x.speech.place ≡ 0 → d.is_last ≡ false
+      → OpensConnection x.speech.words → IsUnopened n x d h b
+  in_names : n.reselected ≡ true → x.begun ≡ true → is_message_in b ≡ true → h.requests ≡ 0
+      → (lun : ℕ) → x.plan.messages.first ≡ Some (to_initiator.Identify lun) → lun < 8 → IsUnopened n x d h b
 
 abbrev pub OpensBy : Connection → Exchange → Dialogue → Handshakes → LineSet → Type 0
 OpensBy n x d h b = d.begun ≡ false → IsUnopened n x d h b

@@ -1,4 +1,5 @@
--- Why a command ends with QUEUE FULL, or with the sense of ABORTED COMMAND, in a history of events alone (7.3, 7.8, 8.2.14).
+-- Why a command ends with QUEUE FULL, or with the sense of ABORTED COMMAND, in a history of events alone (7.3, 7.8,
+-- 8.2.14).
 use Rattle.std.specs.Prelude.{ℕ, Bool, true, false, not, ◌&&◌, ◌||◌, ◌==◌, List, [], ◌∷◌, Option, Some, None, nat_lt}
 use Rattle.std.specs.List.{list_any}
 use Rattle.bus_due.specs.bus_base.specs.declared.ProcId.{ProcId}
@@ -31,7 +32,8 @@ is_full (Some u) = process_count u == u.depth
 -- A command for which the queue is full; a REQUEST SENSE needs no place in it.
 abbrev pub finds_full_queue : Array → Option Process → Bool
 finds_full_queue a None = false
-finds_full_queue a (Some p) = not (is_request_sense (command_of p.cdb)) && is_full (unit_state_at a.units p.target p.unit)
+finds_full_queue a (Some p) =
+    not (is_request_sense (command_of p.cdb)) && is_full (unit_state_at a.units p.target p.unit)
 
 -- There is no room for it: no fewer are there than the depth.
 abbrev pub is_crowded : Option UnitState → Bool
@@ -54,7 +56,8 @@ finds_full_queue_if (Some a) p = finds_full_queue a p
 
 -- The process was refused in this history, the newest event first, and the queue was full then.
 abbrev pub is_refused_at : ScenarioValue → List Event → ProcId → Event → Bool
-is_refused_at s before id event = same_event event (events.Refuse id) && finds_full_queue_if (array_after s before) (process_of s id)
+is_refused_at s before id event =
+    same_event event (events.Refuse id) && finds_full_queue_if (array_after s before) (process_of s id)
 
 abbrev pub was_refused : ScenarioValue → List Event → ProcId → Bool
 was_refused s [] id = false

@@ -1,5 +1,5 @@
--- What devices are due to do as they leave a phase, and what is still to be proved of the data runs: with these, a row of a
--- connection tells what was to be said.
+-- What devices are due to do as they leave a phase, and what is still to be proved of the data runs: with these, a row
+-- of a connection tells what was to be said.
 use Rattle.std.specs.Prelude.{◌+◌, ◌≡◌, Bool, true, false, ◌&&◌, is_some, length, Some, ◌==◌}
 use Rattle.bus_due.specs.bus_trace.specs.declared.connection.Connection.{Connection}
 use Rattle.bus_due.specs.cdb_codec.specs.Cdb.{has_group_len}
@@ -28,22 +28,28 @@ is_out_phase _ = false
 abbrev pub HasPhase : RunState → Type 0
 HasPhase k = (bus_of k).msg ≡ true → ((bus_of k).cd ≡ true) × (k.exchange.begun ≡ true)
 
--- The present phase may be left: MESSAGE OUT after a byte with ATN false, MESSAGE IN after all bytes, or one where ATN is true, COMMAND
--- struck or once the block has the length of its group, and after a reselection any other phase once a name was heard, but MESSAGE IN with ATN true (6.1.6, 6.2.1).
+-- The present phase may be left: MESSAGE OUT after a byte with ATN false, MESSAGE IN after all bytes, or one where ATN
+-- is true, COMMAND struck or once the block has the length of its group, and after a reselection any other phase once a
+-- name was heard, but MESSAGE IN with ATN true (6.1.6, 6.2.1).
 pub record LeavesWhole (s : ScenarioValue) (k : RunState) (n : Connection) : Type 0 where
   pub out : phase_of (bus_of k) ≡ phases.MessageOut → k.story.bus_state.dialogue.is_last ≡ true
   pub some : phase_of (bus_of k) ≡ phases.MessageIn → (k.handshakes.requests == 0) ≡ false
-  pub given : phase_of (bus_of k) ≡ phases.MessageIn → (bus_of k).atn ≡ false → k.handshakes.requests ≡ length (bytes_of_messages k.exchange.plan.messages)
-  pub command : (p : Process) → process_served s k ≡ Some p → phase_of (bus_of k) ≡ phases.Command → (has_group_len p.cdb ≡ true) × (k.exchange.plan.struck ≡ false → has_group_len (carried_here k p.id).block ≡ true)
-  pub named : n.reselected ≡ true → is_out_phase (phase_of (bus_of k)) ≡ false → (is_in_phase (phase_of (bus_of k)) && (bus_of k).atn) ≡ false → is_some (item_of k.story.link) ≡ true
+  pub given : phase_of (bus_of k) ≡ phases.MessageIn → (bus_of k).atn ≡ false
+      → k.handshakes.requests ≡ length (bytes_of_messages k.exchange.plan.messages)
+  pub command : (p : Process) → process_served s k ≡ Some p → phase_of (bus_of k) ≡ phases.Command
+      → (has_group_len p.cdb ≡ true)
+      × (k.exchange.plan.struck ≡ false → has_group_len (carried_here k p.id).block ≡ true)
+  pub named : n.reselected ≡ true → is_out_phase (phase_of (bus_of k)) ≡ false
+      → (is_in_phase (phase_of (bus_of k)) && (bus_of k).atn) ≡ false → is_some (item_of k.story.link) ≡ true
 
--- In DATA OUT the process writes, its initiator knows it, and its pointer stands as many bytes after the beginning of its run as
--- were answered.
+-- In DATA OUT the process writes, its initiator knows it, and its pointer stands as many bytes after the beginning of
+-- its run as were answered.
 pub record IsAtRun (s : ScenarioValue) (k : RunState) (n : Connection) (p : Process) (t : Task) : Type 0 where
   pub named : n.reselected ≡ true → is_some (item_of k.story.link) ≡ true
   pub writes : is_writing p ≡ true
-  pub active_is : (carried_here k p.id).moved.active ≡ (run_at (policy_of (target_def_of s p.target)) t t.runs).start + k.handshakes.answers
+  pub active_is : (carried_here k p.id).moved.active
+      ≡ (run_at (policy_of (target_def_of s p.target)) t t.runs).start + k.handshakes.answers
 
 abbrev pub MovesRuns : ScenarioValue → RunState → Connection → Type 0
-MovesRuns s k n =
-    (p : Process) (t : Task) → process_served s k ≡ Some p → task_of s k ≡ Some t → phase_of (bus_of k) ≡ phases.DataOut → IsAtRun s k n p t
+MovesRuns s k n = (p : Process) (t : Task) → process_served s k ≡ Some p → task_of s k ≡ Some t
+    → phase_of (bus_of k) ≡ phases.DataOut → IsAtRun s k n p t

@@ -1,5 +1,5 @@
--- The initiator of a connection knows the process that the target serves: by its own item after a selection, by its names after a
--- reselection (6.1.4, 6.6.7, 6.6.17).
+-- The initiator of a connection knows the process that the target serves: by its own item after a selection, by its
+-- names after a reselection (6.1.4, 6.6.7, 6.6.17).
 use Rattle.std.specs.Prelude.{◌≡◌, ◌⊎◌, true, false, Some, None}
 use Rattle.bus_due.specs.bus_trace.specs.declared.Row.{Row}
 use Rattle.bus_due.specs.bus_trace.specs.declared.connection.Connection.{Connection}
@@ -25,6 +25,7 @@ pub record Knows (s : ScenarioValue) (k : RunState) (n : Connection) : Type 0 wh
 
 -- A name that the row makes whole after a reselection is of the process that is served, or of none.
 abbrev pub NamesServed : ScenarioValue → RunState → Row → Connection → Type 0
-NamesServed s k row n =
-    (l : Link) (m : MsgIn) → n.reselected ≡ true → k.story.link ≡ Some l → (row_reading k.story.bus_state row).into ≡ Some m → is_name m ≡ true
-    → ((link_after_name k.story.sent s.commands l m).item ≡ k.served) ⊎ ((link_after_name k.story.sent s.commands l m).item ≡ None)
+NamesServed s k row n = (l : Link) (m : MsgIn) → n.reselected ≡ true → k.story.link ≡ Some l
+    → (row_reading k.story.bus_state row).into ≡ Some m → is_name m ≡ true
+    → ((link_after_name k.story.sent s.commands l m).item ≡ k.served)
+    ⊎ ((link_after_name k.story.sent s.commands l m).item ≡ None)

@@ -33,7 +33,8 @@ understood u (b ∷ bytes) = understood (understood_byte u b) bytes
 -- The bytes form whole messages: none of them makes an unknown one, and none is half heard at the end.
 abbrev pub form_messages : Understanding → List ℕ → Bool
 form_messages u [] = is_nil u.half
-form_messages u (b ∷ bytes) = not (is_unknown (reading_out (got_out (u.half ++ b ∷ [])))) && form_messages (understood_byte u b) bytes
+form_messages u (b ∷ bytes) =
+    not (is_unknown (reading_out (got_out (u.half ++ b ∷ [])))) && form_messages (understood_byte u b) bytes
 
 -- What it has heard in MESSAGE OUT; and what of it counts with the next byte, which may begin anew (6.6.10).
 abbrev pub understanding : Plan → Dialogue → Understanding
@@ -50,5 +51,5 @@ half_after half (b ∷ bytes) = half_after (left_of (got_in (half ++ b ∷ [])) 
 
 abbrev pub form_messages_in : List ℕ → List ℕ → Bool
 form_messages_in half [] = is_nil half
-form_messages_in half (b ∷ bytes) =
-    not (is_unknown (reading_in (got_in (half ++ b ∷ [])))) && form_messages_in (left_of (got_in (half ++ b ∷ [])) (half ++ b ∷ [])) bytes
+form_messages_in half (b ∷ bytes) = not (is_unknown (reading_in (got_in (half ++ b ∷ []))))
+    && form_messages_in (left_of (got_in (half ++ b ∷ [])) (half ++ b ∷ [])) bytes

@@ -1,5 +1,6 @@
 -- The rows of a trace as tests on what is kept: each is of one of the kinds of `Traces.antt`, with all that this asks.
-use Rattle.std.specs.Prelude.{ℕ, ◌+◌, ◌%◌, Bool, true, false, not, ◌&&◌, ◌||◌, ◌==◌, List, [], ◌∷◌, length, slice_index_or, Option, Some, None, is_some, is_none, nat_lt, if◌then◌else◌}
+use Rattle.std.specs.Prelude.{ℕ, ◌+◌, ◌%◌, Bool, true, false, not, ◌&&◌, ◌||◌, ◌==◌, List, [], ◌∷◌, length}
+use Rattle.std.specs.Prelude.{slice_index_or, Option, Some, None, is_some, is_none, nat_lt, if◌then◌else◌}
 use Rattle.bus_due.specs.bus_trace.specs.declared.Row.{Row}
 use Rattle.bus_due.specs.bus_trace.specs.declared.changes.Change.{Change}
 use Rattle.bus_due.specs.bus_trace.specs.declared.connection.Connection.{Connection}
@@ -54,9 +55,9 @@ is_made_for s k n true = is_ready_for s n (ready_of s k n.target)
 is_made_for s k n false = is_aimed_at s n (aim_of k.story.aims n.initiator)
 
 abbrev pub is_first_row : ScenarioValue → RunState → Row → RowReading → Connection → Bool
-is_first_row s k row d n =
-    not (is_fault row.kind) && not (is_message_out d.change.after) && k.handshakes.requests == 0
-    && not (rises d.change.before.req d.change.after.req) && (is_made_for s k n n.reselected && (not n.reselected || is_message_in d.change.after))
+is_first_row s k row d n = not (is_fault row.kind) && not (is_message_out d.change.after)
+    && k.handshakes.requests == 0 && not (rises d.change.before.req d.change.after.req)
+    && (is_made_for s k n n.reselected && (not n.reselected || is_message_in d.change.after))
 
 -- ---- a phase is left
 
@@ -67,14 +68,14 @@ is_block_whole k (Some p) = has_group_len p.cdb && (k.exchange.plan.struck || ha
 abbrev pub is_phase_whole : ScenarioValue → RunState → Phase → Bool
 is_phase_whole s k phases.MessageOut = k.story.bus_state.dialogue.is_last
 is_phase_whole s k phases.Command = is_block_whole k (process_served s k)
-is_phase_whole s k phases.MessageIn =
-    not (k.handshakes.requests == 0) && ((bus_of k).atn || k.handshakes.requests == length (bytes_of_messages k.exchange.plan.messages))
+is_phase_whole s k phases.MessageIn = not (k.handshakes.requests == 0)
+    && ((bus_of k).atn || k.handshakes.requests == length (bytes_of_messages k.exchange.plan.messages))
 is_phase_whole s k _ = true
 
 abbrev pub leaves_whole : ScenarioValue → RunState → Connection → Bool
-leaves_whole s k n =
-    is_phase_whole s k (phase_of (bus_of k))
-    && (not n.reselected || is_out_phase (phase_of (bus_of k)) || (is_in_phase (phase_of (bus_of k)) && (bus_of k).atn) || is_some (item_of k.story.link))
+leaves_whole s k n = is_phase_whole s k (phase_of (bus_of k))
+    && (not n.reselected || is_out_phase (phase_of (bus_of k)) || (is_in_phase (phase_of (bus_of k)) && (bus_of k).atn)
+    || is_some (item_of k.story.link))
 
 abbrev pub has_phase : RunState → Bool
 has_phase k = not (bus_of k).msg || ((bus_of k).cd && k.exchange.begun)
@@ -82,9 +83,8 @@ has_phase k = not (bus_of k).msg || ((bus_of k).cd && k.exchange.begun)
 -- ---- a byte crosses
 
 abbrev pub says_next : RunState → Change → Bool
-says_next k c =
-    not (is_message_out c.before)
-    || (c.after.data_bits % 256 == next_word k.exchange.speech && same_bool c.after.atn (attends_with k.exchange.speech))
+says_next k c = not (is_message_out c.before) || (c.after.data_bits % 256 == next_word k.exchange.speech
+    && same_bool c.after.atn (attends_with k.exchange.speech))
 
 abbrev pub gives_next : RunState → Change → Bool
 gives_next k c =
@@ -94,16 +94,17 @@ gives_next k c =
 
 abbrev pub sends_next : RunState → Change → Option Process → Bool
 sends_next k c None = true
-sends_next k c (Some p) =
-    (not (is_command c.before)
-    || (c.after.data_bits % 256 == slice_index_or p.cdb (carried_here k p.id).command.active 0 && nat_lt (carried_here k p.id).command.active (length p.cdb)))
+sends_next k c (Some p) = (not (is_command c.before)
+    || (c.after.data_bits % 256 == slice_index_or p.cdb (carried_here k p.id).command.active 0
+    && nat_lt (carried_here k p.id).command.active (length p.cdb)))
     && (not (is_data c.before) || not (is_writing p)
-    || (c.after.data_bits % 256 == slice_index_or p.sent (carried_here k p.id).moved.active 0 && nat_lt (carried_here k p.id).moved.active (length p.sent)))
+    || (c.after.data_bits % 256 == slice_index_or p.sent (carried_here k p.id).moved.active 0
+    && nat_lt (carried_here k p.id).moved.active (length p.sent)))
 
 abbrev pub is_at_run : ScenarioValue → RunState → Connection → Option Process → Option Task → Phase → Bool
-is_at_run s k n (Some p) (Some t) phases.DataOut =
-    (not n.reselected || is_some (item_of k.story.link)) && is_writing p
-    && (carried_here k p.id).moved.active == (run_at (policy_of (target_def_of s p.target)) t t.runs).start + k.handshakes.answers
+is_at_run s k n (Some p) (Some t) phases.DataOut = (not n.reselected || is_some (item_of k.story.link)) && is_writing p
+    && (carried_here k p.id).moved.active
+    == (run_at (policy_of (target_def_of s p.target)) t t.runs).start + k.handshakes.answers
 is_at_run s k n p t phase = true
 
 abbrev pub same_item_if : Option Item → Option Item → Bool
@@ -113,15 +114,16 @@ same_item_if (Some (abort a)) (Some (abort b)) = a == b
 same_item_if _ _ = false
 
 abbrev pub names_served : ScenarioValue → RunState → Connection → Option Link → Option MsgIn → Bool
-names_served s k n (Some l) (Some m) =
-    not n.reselected || not (is_name m)
-    || (same_item_if (link_after_name k.story.sent s.commands l m).item k.served || is_none (link_after_name k.story.sent s.commands l m).item)
+names_served s k n (Some l) (Some m) = not n.reselected || not (is_name m)
+    || (same_item_if (link_after_name k.story.sent s.commands l m).item k.served
+    || is_none (link_after_name k.story.sent s.commands l m).item)
 names_served s k n l m = true
 
 abbrev pub crosses_well : ScenarioValue → RunState → Connection → RowReading → Bool
 crosses_well s k n d =
     says_next k d.change && gives_next k d.change && k.exchange.begun && sends_next k d.change (process_here s k)
-    && is_at_run s k n (process_served s k) (task_of s k) (phase_of (bus_of k)) && names_served s k n k.story.link d.into
+    && is_at_run s k n (process_served s k) (task_of s k) (phase_of (bus_of k))
+    && names_served s k n k.story.link d.into
 
 -- ---- a row of a connection
 
@@ -129,10 +131,10 @@ abbrev pub is_of_kind : Bool → Bool → Bool → Bool
 is_of_kind fault phase now = not (fault && phase) && not (fault && now) && not (phase && now)
 
 abbrev pub is_row_in : ScenarioValue → RunState → Row → RowReading → Connection → Bool
-is_row_in s k row d n =
-    d.change.after.bsy && not (bus_of k).rst && has_phase k
+is_row_in s k row d n = d.change.after.bsy && not (bus_of k).rst && has_phase k
     && is_of_kind (is_fault row.kind) (changes_phase d.change) (is_some (receiver_in n d.change))
-    && (not d.crosses || crosses_well s k n d) && (not (changes_phase d.change) || (leaves_whole s k n && (k.exchange.begun || is_message_out d.change.after)))
+    && (not d.crosses || crosses_well s k n d)
+    && (not (changes_phase d.change) || (leaves_whole s k n && (k.exchange.begun || is_message_out d.change.after)))
 
 abbrev pub is_last_row : ScenarioValue → RunState → RowReading → Connection → Bool
 is_last_row s k d n =
@@ -145,7 +147,8 @@ is_row_by s k row d (Some m) None = is_last_row s k d m
 is_row_by s k row d (Some m) (Some n) = is_row_in s k row d m
 
 abbrev pub is_row_reading : ScenarioValue → RunState → Row → RowReading → Bool
-is_row_reading s k row d = if d.change.after.rst then not d.crosses else is_row_by s k row d k.story.bus_state.connection d.next
+is_row_reading s k row d =
+    if d.change.after.rst then not d.crosses else is_row_by s k row d k.story.bus_state.connection d.next
 
 abbrev pub is_row_of : ScenarioValue → RunState → Row → Bool
 is_row_of s k row = is_row_reading s k row (row_reading k.story.bus_state row)

@@ -24,8 +24,8 @@ abbrev pub is_link_of : Option Link → ProcId → Bool
 is_link_of None id = false
 is_link_of (Some l) id = is_item_of l.item id
 
--- A byte of these lines, struck, makes a command fail with this code: SCSI PARITY ERROR in COMMAND and DATA OUT, INITIATOR
--- DETECTED ERROR MESSAGE RECEIVED in DATA IN.
+-- A byte of these lines, struck, makes a command fail with this code: SCSI PARITY ERROR in COMMAND and DATA OUT,
+-- INITIATOR DETECTED ERROR MESSAGE RECEIVED in DATA IN.
 abbrev pub fails_with : LineSet → ℕ → Bool
 fails_with s code =
     if is_command s then code == PARITY_ERROR

@@ -1,6 +1,7 @@
--- The books of a prompt trace as tests on what is kept: what was said, given and carried, the processes and the items. They
--- hold after every row of it, but that a connection is asked nothing under RST.
-use Rattle.std.specs.Prelude.{ℕ, ◌+◌, Bool, true, false, not, ◌&&◌, ◌||◌, ◌==◌, List, [], ◌∷◌, take, length, slice_index_or, Option, Some, None, is_some, is_none, nat_le, nat_lt, if◌then◌else◌}
+-- The books of a prompt trace as tests on what is kept: what was said, given and carried, the processes and the items.
+-- They hold after every row of it, but that a connection is asked nothing under RST.
+use Rattle.std.specs.Prelude.{ℕ, ◌+◌, Bool, true, false, not, ◌&&◌, ◌||◌, ◌==◌, List, [], ◌∷◌, take, length}
+use Rattle.std.specs.Prelude.{slice_index_or, Option, Some, None, is_some, is_none, nat_le, nat_lt, if◌then◌else◌}
 use Rattle.std.specs.List.{list_all}
 use Rattle.bus_due.specs.bus_base.specs.declared.ProcId.{ProcId}
 use Rattle.bus_due.specs.bus_base.specs.declared.AbortKind.{AbortKind}
@@ -37,8 +38,10 @@ use Rattle.bus_due.specs.bus_dialogue.specs.NextPhase.{phase_of}
 use Rattle.bus_due.specs.RunState.{RunState, bus_of, array_of, process_served}
 use Rattle.bus_due.specs.Defs.{host_of, opening}
 use Rattle.bus_due.specs.Faithful.{same_tag, is_kind, same_process}
-use Rattle.bus_books.specs.Listening.{Understanding, nothing_understood, understood, form_messages, understanding, understanding_anew, half_after, form_messages_in}
-use Rattle.bus_books.specs.Accounts.{is_open_in, is_served_by, is_in_array, Account, account_of, policy_for, task_in, next_start, content_of}
+use Rattle.bus_books.specs.Listening.{Understanding, nothing_understood, understood, form_messages, understanding}
+use Rattle.bus_books.specs.Listening.{understanding_anew, half_after, form_messages_in}
+use Rattle.bus_books.specs.Accounts.{is_open_in, is_served_by, is_in_array, Account, account_of, policy_for, task_in}
+use Rattle.bus_books.specs.Accounts.{next_start, content_of}
 
 -- ---- equal values
 
@@ -68,7 +71,8 @@ is_front (b ∷ bytes) (c ∷ all) = b == c && is_front bytes all
 
 -- What is said is what the target asked for.
 abbrev pub are_words_for : ScenarioValue → RunState → Connection → Cause → Bool
-are_words_for s k n causes.Selected = same_bytes k.exchange.speech.words (opening s n.initiator k.exchange.plan.negotiates k.served)
+are_words_for s k n causes.Selected =
+    same_bytes k.exchange.speech.words (opening s n.initiator k.exchange.plan.negotiates k.served)
 are_words_for s k n causes.InMessage =
     same_bytes k.exchange.speech.words parity_error
     || same_bytes k.exchange.speech.words (answer_bytes (host_of s n.initiator) k.exchange.speech.asked)
@@ -94,8 +98,8 @@ is_selected causes.Selected = true
 is_selected _ = false
 
 abbrev pub is_about_to_speak : ScenarioValue → RunState → Connection → Bool
-is_about_to_speak s k n =
-    is_selected k.exchange.plan.cause && are_words_for s k n causes.Selected && nat_lt 0 (length k.exchange.speech.words)
+is_about_to_speak s k n = is_selected k.exchange.plan.cause && are_words_for s k n causes.Selected
+    && nat_lt 0 (length k.exchange.speech.words)
 
 abbrev pub speaks : ScenarioValue → RunState → Connection → Phase → Bool
 speaks s k n phases.MessageOut = speaks_well s k n && form_messages nothing_understood k.exchange.speech.words
@@ -115,7 +119,8 @@ gives k _ = true
 
 -- ---- the ends of the connection know the process
 
--- Names are said after a reselection alone; until then the initiator knows no process, after them that which the target serves.
+-- Names are said after a reselection alone; until then the initiator knows no process, after them that which the target
+-- serves.
 abbrev pub is_known : Connection → Option Item → Option Item → Bool
 is_known n item served = same_process served item && is_some item || (n.reselected && is_none item)
 
@@ -135,11 +140,11 @@ abbrev pub is_at : Area → ℕ → ℕ → Bool
 is_at a active saved = a.active == active && a.saved == saved
 
 abbrev pub takes_block : RunState → Process → CarriedBytes → Bool
-takes_block k p c =
-    is_front c.block p.cdb && length c.block == k.handshakes.answers && is_filled c.command p.cdb && is_at c.command (length c.block) 0
-    && k.story.bus_state.dialogue.heard.now.command.count == length c.block
+takes_block k p c = is_front c.block p.cdb && length c.block == k.handshakes.answers && is_filled c.command p.cdb
+    && is_at c.command (length c.block) 0 && k.story.bus_state.dialogue.heard.now.command.count == length c.block
     && (length c.block == 0 || k.story.bus_state.dialogue.heard.now.command.first == slice_index_or c.block 0 0)
-    && same_bool c.struck k.exchange.plan.struck && same_number c.failure (if k.exchange.plan.struck then Some PARITY_ERROR else None)
+    && same_bool c.struck k.exchange.plan.struck
+    && same_number c.failure (if k.exchange.plan.struck then Some PARITY_ERROR else None)
     && c.moved.active == c.moved.saved
 
 -- A run that began here, so many bytes of which have crossed.
@@ -192,8 +197,8 @@ moves_if s k (Some p) phase = moves s k (account_of s k p.id) p phase
 
 abbrev pub is_talk : ScenarioValue → RunState → Connection → Bool → Bool
 is_talk s k n false = n.reselected || is_about_to_speak s k n
-is_talk s k n true =
-    speaks s k n (phase_of (bus_of k)) && gives k (phase_of (bus_of k)) && moves_if s k (process_served s k) (phase_of (bus_of k))
+is_talk s k n true = speaks s k n (phase_of (bus_of k)) && gives k (phase_of (bus_of k))
+    && moves_if s k (process_served s k) (phase_of (bus_of k))
 
 abbrev pub is_connected_well : ScenarioValue → RunState → Option Connection → Bool
 is_connected_well s k None = is_none k.story.link && is_none k.served
@@ -220,10 +225,11 @@ is_found s b p =
     same_process (Some (process p.id)) (named_item_from b p.initiator p.target p.unit (tag_number p.tag) 1 s.commands)
 
 abbrev pub stands_by_reply : ScenarioValue → RunState → Account → Process → Option Reply → Bool
-stands_by_reply s k a p (Some reply) = is_served_by a.served p.id && is_in_array a.array p.id && a.carried.status.saved == 0 && has_carried k a p reply
-stands_by_reply s k a p None =
-    has_pointers s a p
-    && (if is_in_array a.array p.id then same_bytes a.carried.command.bytes p.cdb && (is_served_by a.served p.id || is_found s a.sent p) else is_served_by a.served p.id)
+stands_by_reply s k a p (Some reply) =
+    is_served_by a.served p.id && is_in_array a.array p.id && a.carried.status.saved == 0 && has_carried k a p reply
+stands_by_reply s k a p None = has_pointers s a p && (if is_in_array a.array p.id
+    then same_bytes a.carried.command.bytes p.cdb && (is_served_by a.served p.id || is_found s a.sent p)
+    else is_served_by a.served p.id)
 
 abbrev pub stands_open : ScenarioValue → RunState → Account → Option Process → Bool
 stands_open s k a None = false
@@ -244,11 +250,13 @@ all_stand s k n (c ∷ commands) =
 -- Open commands of one initiator are not confused (6.6.17, 7.8), and each item is sent once.
 abbrev pub clashes_with_none : Sent → CmdDef → ℕ → List CmdDef → Bool
 clashes_with_none b c n [] = true
-clashes_with_none b c n (d ∷ commands) = not (d.host == c.host && is_open b n && is_clash c d) && clashes_with_none b c (n + 1) commands
+clashes_with_none b c n (d ∷ commands) =
+    not (d.host == c.host && is_open b n && is_clash c d) && clashes_with_none b c (n + 1) commands
 
 abbrev pub have_no_clash : Sent → ℕ → List CmdDef → Bool
 have_no_clash b n [] = true
-have_no_clash b n (c ∷ commands) = (not (is_open b n) || clashes_with_none b c (n + 1) commands) && have_no_clash b (n + 1) commands
+have_no_clash b n (c ∷ commands) =
+    (not (is_open b n) || clashes_with_none b c (n + 1) commands) && have_no_clash b (n + 1) commands
 
 abbrev pub are_sent_once : List Item → Bool
 are_sent_once [] = true
@@ -268,7 +276,8 @@ is_current_of_unit u None = true
 is_current_of_unit u (Some r) = is_of_unit u r.process
 
 abbrev pub have_own_processes : List UnitState → Bool
-have_own_processes units = list_all (λ (u : UnitState). list_all (λ (p : Process). is_of_unit u p) u.waiting && is_current_of_unit u u.current) units
+have_own_processes units = list_all
+    (λ (u : UnitState). list_all (λ (p : Process). is_of_unit u p) u.waiting && is_current_of_unit u u.current) units
 
 abbrev pub are_items_well : ScenarioValue → RunState → Bool
 are_items_well s k =

@@ -1,5 +1,5 @@
--- The rows of a trace, by what they do with a connection: what the lines show, and what devices are due to do. With these the books
--- hold after all of them.
+-- The rows of a trace, by what they do with a connection: what the lines show, and what devices are due to do. With
+-- these the books hold after all of them.
 use Rattle.std.specs.Prelude.{◌≡◌, ◌<◌, true, false, List, [], ◌∷◌, Some, None, ⊤}
 use Rattle.bus_due.specs.bus_trace.specs.declared.Row.{Row}
 use Rattle.bus_due.specs.bus_trace.specs.declared.changes.Change.{Change}
@@ -22,7 +22,8 @@ use Rattle.bus_books.specs.Knowing.{Knows, NamesServed}
 use Rattle.bus_books.specs.Rows.{IsRowIn, IsFirstRow}
 use Rattle.bus_books.specs.Speaking.{Speaks, SaysNext}
 
--- The process that a target has ready is of the scenario, and of the ends of the connection that it makes; its unit is 0 to 7.
+-- The process that a target has ready is of the scenario, and of the ends of the connection that it makes; its unit is
+-- 0 to 7.
 pub record IsReadyFor (s : ScenarioValue) (k : RunState) (n : Connection) : Type 0 where
   pub ready : Ready
   pub ready_is : ready_of s k n.target ≡ Some ready
@@ -44,9 +45,9 @@ pub record Begins (s : ScenarioValue) (k : RunState) (row : Row) (n : Connection
   pub reselects : n.reselected ≡ true → IsReadyFor s k n
   pub names : n.reselected ≡ true → is_message_in (row_reading k.story.bus_state row).change.after ≡ true
 
--- A row of a connection, before and after which RST is false: the bytes that cross are those that the two ends are due to drive,
--- and cross in a phase that has begun; the first phase is MESSAGE OUT; names are of the process that is served, the data pointer
--- stands where the run does, and a phase is left as it is due to be.
+-- A row of a connection, before and after which RST is false: the bytes that cross are those that the two ends are due
+-- to drive, and cross in a phase that has begun; the first phase is MESSAGE OUT; names are of the process that is
+-- served, the data pointer stands where the run does, and a phase is left as it is due to be.
 pub record GoesOn (s : ScenarioValue) (k : RunState) (row : Row) (n : Connection) (c : Change) : Type 0 where
   pub row_is : IsRowIn k row n c
   pub calm : (bus_of k).rst ≡ false
@@ -56,7 +57,8 @@ pub record GoesOn (s : ScenarioValue) (k : RunState) (row : Row) (n : Connection
   pub names : NamesServed s k row n
   pub sends : SendsOwn s k row
   pub begun : (row_reading k.story.bus_state row).crosses ≡ true → k.exchange.begun ≡ true
-  pub first : changes_phase (row_reading k.story.bus_state row).change ≡ true → k.exchange.begun ≡ false → is_message_out (row_reading k.story.bus_state row).change.after ≡ true
+  pub first : changes_phase (row_reading k.story.bus_state row).change ≡ true → k.exchange.begun ≡ false
+      → is_message_out (row_reading k.story.bus_state row).change.after ≡ true
   pub runs : (row_reading k.story.bus_state row).crosses ≡ true → MovesRuns s k n
   pub leaves : changes_phase (row_reading k.story.bus_state row).change ≡ true → LeavesWhole s k n
 
@@ -74,7 +76,8 @@ pub data RowOf (s : ScenarioValue) (k : RunState) (row : Row) : Type 0 where
   begins : (n : Connection) → Begins s k row n → RowOf s k row
   goes_on : (n : Connection) (c : Change) → GoesOn s k row n c → RowOf s k row
   ends : (n : Connection) → Ends s k row n → RowOf s k row
-  under_reset : (row_reading k.story.bus_state row).change.after.rst ≡ true → (row_reading k.story.bus_state row).crosses ≡ false → RowOf s k row
+  under_reset : (row_reading k.story.bus_state row).change.after.rst ≡ true
+      → (row_reading k.story.bus_state row).crosses ≡ false → RowOf s k row
 
 abbrev pub AreRowsOf : ScenarioValue → List Row → Type 0
 AreRowsOf s [] = ⊤

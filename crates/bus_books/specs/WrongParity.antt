@@ -1,5 +1,6 @@
 -- Phases in which parity was wrong, counted for a process; and that its target gives it up (6.6.10, 6.6.13, 6.6.19).
-use Rattle.std.specs.Prelude.{ℕ, ◌+◌, Bool, true, false, not, ◌&&◌, ◌||◌, ◌==◌, List, [], ◌∷◌, Option, Some, None, is_some, is_none, nat_lt, if◌then◌else◌}
+use Rattle.std.specs.Prelude.{ℕ, ◌+◌, Bool, true, false, not, ◌&&◌, ◌||◌, ◌==◌, List, [], ◌∷◌, Option, Some, None}
+use Rattle.std.specs.Prelude.{is_some, is_none, nat_lt, if◌then◌else◌}
 use Rattle.bus_due.specs.bus_base.specs.declared.ProcId.{ProcId}
 use Rattle.bus_due.specs.bus_trace.specs.declared.Row.{Row}
 use Rattle.bus_due.specs.bus_trace.specs.declared.connection.Connection.{Connection}
@@ -69,9 +70,8 @@ leaves_wrong_phase struck k d id =
 
 abbrev pub wrong_phases : ScenarioValue → List Row → ProcId → ℕ
 wrong_phases s [] id = 0
-wrong_phases s (row ∷ rows) id =
-    wrong_phases s rows id
-    + one_if (leaves_wrong_phase (is_struck_phase s rows) (run_state s rows) (row_reading (run_state s rows).story.bus_state row) id)
+wrong_phases s (row ∷ rows) id = wrong_phases s rows id + one_if (leaves_wrong_phase (is_struck_phase s rows)
+    (run_state s rows) (row_reading (run_state s rows).story.bus_state row) id)
 
 -- ---- giving up
 
@@ -88,8 +88,8 @@ is_loss causes.InMessage phases.MessageOut = true
 is_loss causes.InStatus phases.MessageOut = true
 is_loss cause _ = false
 
--- As many recoveries were counted as the target's limit allows, and so many phases with wrong parity are more than it; its
--- initiator does not stand in the hold of the unit, where none would count.
+-- As many recoveries were counted as the target's limit allows, and so many phases with wrong parity are more than it;
+-- its initiator does not stand in the hold of the unit, where none would count.
 abbrev pub is_past_limit : Option TargetDef → Option Task → ℕ → Bool
 is_past_limit def None count = false
 is_past_limit def (Some t) count =
@@ -98,8 +98,8 @@ is_past_limit def (Some t) count =
 -- The row after these rows is one with which the target of this connection gives up a process that has had more phases
 -- with wrong parity than its limit.
 abbrev pub gives_up : ScenarioValue → List Row → Row → Connection → ProcId → Bool
-gives_up s rows row n id =
-    leaves_wrong_phase (is_struck_phase s rows) (run_state s rows) (row_reading (run_state s rows).story.bus_state row) id
+gives_up s rows row n id = leaves_wrong_phase (is_struck_phase s rows)
+    (run_state s rows) (row_reading (run_state s rows).story.bus_state row) id
     && is_past_limit (target_def_of s n.target) (task_of s (run_state s rows)) (wrong_phases s (row ∷ rows) id)
 
 -- ---- of a whole trace
@@ -139,8 +139,8 @@ is_refusal_after k d struck was =
 
 abbrev pub is_refusing : ScenarioValue → List Row → Bool
 is_refusing s [] = false
-is_refusing s (row ∷ rows) =
-    is_refusal_after (run_state s rows) (row_reading (run_state s rows).story.bus_state row) (is_struck_phase s rows) (is_refusing s rows)
+is_refusing s (row ∷ rows) = is_refusal_after (run_state s rows) (row_reading (run_state s rows).story.bus_state row)
+    (is_struck_phase s rows) (is_refusing s rows)
 
 -- A complaint of the initiator is of such a phase.
 abbrev pub is_complaining : Plan → Phase → Bool

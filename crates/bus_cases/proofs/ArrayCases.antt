@@ -1,5 +1,6 @@
--- Small histories on the plain disk array, and queues of a few commands, computed. Each decides a condition of `disk_array` that no history of a
--- whole run does: what is not allowed, two guests at a time, what an abort leaves, and which of several commands may run.
+-- Small histories on the plain disk array, and queues of a few commands, computed. Each decides a condition of
+-- `disk_array` that no history of a whole run does: what is not allowed, two guests at a time, what an abort leaves,
+-- and which of several commands may run.
 use Rattle.std.proofs.Common.{ℕ, ◌≡◌, Bool, true, false, List, [], ◌∷◌, reverse, is_some, refl}
 use Rattle.std.specs.Prelude.{Option, Some, None}
 use lib.Count.{ones}
@@ -30,7 +31,8 @@ abbrev sense : ℕ → ProcId
 sense n = record { command = n; sense = true }
 
 abbrev pub line : ℕ → ℕ → ℕ → Tag → List ℕ → CmdDef
-line host target unit tag cdb = record { host = host; target = target; unit = unit; at = 0; tag = tag; cdb = cdb; payload = payloads.Nothing }
+line host target unit tag cdb =
+    record { host = host; target = target; unit = unit; at = 0; tag = tag; cdb = cdb; payload = payloads.Nothing }
 
 abbrev pub test_unit_ready : List ℕ
 test_unit_ready = 0x00 ∷ 0x00 ∷ 0x00 ∷ 0x00 ∷ 0x00 ∷ 0x00 ∷ []
@@ -42,10 +44,43 @@ request_sense = 0x03 ∷ 0x00 ∷ 0x00 ∷ 0x00 ∷ 0x12 ∷ 0x00 ∷ []
 abbrev pub disks : ScenarioValue
 disks = record {
   version = 1;
-  hosts = record { dev = 7; latency = 0; most = 8; retries = 2; period = 0; offset = 0; lag = 0; offers = true } ∷ record { dev = 6; latency = 0; most = 8; retries = 2; period = 0; offset = 0; lag = 0; offers = true } ∷ [];
-  targets = record { dev = 0; latency = 0; retries = 2; disc = policies.Command; pick = picks.First; seek = 0; period = 0; offset = 0; begins = false } ∷ record { dev = 1; latency = 0; retries = 2; disc = policies.Command; pick = picks.First; seek = 0; period = 0; offset = 0; begins = false } ∷ [];
-  units = record { target = 0; unit = 0; blocks = 4; size = 16; depth = 4 } ∷ record { target = 0; unit = 1; blocks = 4; size = 16; depth = 4 } ∷ record { target = 1; unit = 0; blocks = 4; size = 16; depth = 1 } ∷ [];
-  fills = record { target = 1; unit = 0; lba = 2; bytes = (0 ∷ 1 ∷ 2 ∷ 3 ∷ 4 ∷ 5 ∷ 6 ∷ 7 ∷ 8 ∷ 9 ∷ 10 ∷ 11 ∷ 12 ∷ 13 ∷ 14 ∷ 15 ∷ []) } ∷ record { target = 1; unit = 0; lba = 3; bytes = (0 ∷ 0 ∷ 0 ∷ 0 ∷ 0 ∷ 0 ∷ 0 ∷ 0 ∷ 0 ∷ 0 ∷ 0 ∷ 0 ∷ 0 ∷ 0 ∷ 0 ∷ 0 ∷ []) } ∷ [];
+  hosts = record { dev = 7; latency = 0; most = 8; retries = 2; period = 0; offset = 0; lag = 0; offers = true }
+      ∷ record { dev = 6; latency = 0; most = 8; retries = 2; period = 0; offset = 0; lag = 0; offers = true } ∷ [];
+  targets = record {
+    dev = 0;
+    latency = 0;
+    retries = 2;
+    disc = policies.Command;
+    pick = picks.First;
+    seek = 0;
+    period = 0;
+    offset = 0;
+    begins = false;
+  } ∷ record {
+    dev = 1;
+    latency = 0;
+    retries = 2;
+    disc = policies.Command;
+    pick = picks.First;
+    seek = 0;
+    period = 0;
+    offset = 0;
+    begins = false;
+  } ∷ [];
+  units = record { target = 0; unit = 0; blocks = 4; size = 16; depth = 4 }
+      ∷ record { target = 0; unit = 1; blocks = 4; size = 16; depth = 4 }
+      ∷ record { target = 1; unit = 0; blocks = 4; size = 16; depth = 1 } ∷ [];
+  fills = record {
+    target = 1;
+    unit = 0;
+    lba = 2;
+    bytes = (0 ∷ 1 ∷ 2 ∷ 3 ∷ 4 ∷ 5 ∷ 6 ∷ 7 ∷ 8 ∷ 9 ∷ 10 ∷ 11 ∷ 12 ∷ 13 ∷ 14 ∷ 15 ∷ []);
+  } ∷ record {
+    target = 1;
+    unit = 0;
+    lba = 3;
+    bytes = (0 ∷ 0 ∷ 0 ∷ 0 ∷ 0 ∷ 0 ∷ 0 ∷ 0 ∷ 0 ∷ 0 ∷ 0 ∷ 0 ∷ 0 ∷ 0 ∷ 0 ∷ 0 ∷ []);
+  } ∷ [];
   commands =
       line 7 0 0 (tags.Simple 1) test_unit_ready
       ∷ line 6 0 0 (tags.Simple 1) test_unit_ready
@@ -82,10 +117,12 @@ printed (c ∷ all) = printed_blocks c ∷ printed all
 
 -- The data of REQUEST SENSE: nothing to tell, and 0B/47.
 abbrev nothing_told : List ℕ
-nothing_told = 0x70 ∷ 0x00 ∷ 0x00 ∷ 0x00 ∷ 0x00 ∷ 0x00 ∷ 0x00 ∷ 0x0a ∷ 0x00 ∷ 0x00 ∷ 0x00 ∷ 0x00 ∷ 0x00 ∷ 0x00 ∷ 0x00 ∷ 0x00 ∷ 0x00 ∷ 0x00 ∷ []
+nothing_told = 0x70 ∷ 0x00 ∷ 0x00 ∷ 0x00 ∷ 0x00 ∷ 0x00 ∷ 0x00 ∷ 0x0a ∷ 0x00 ∷ 0x00 ∷ 0x00 ∷ 0x00 ∷ 0x00 ∷ 0x00 ∷ 0x00
+    ∷ 0x00 ∷ 0x00 ∷ 0x00 ∷ []
 
 abbrev parity_told : List ℕ
-parity_told = 0x70 ∷ 0x00 ∷ 0x0b ∷ 0x00 ∷ 0x00 ∷ 0x00 ∷ 0x00 ∷ 0x0a ∷ 0x00 ∷ 0x00 ∷ 0x00 ∷ 0x00 ∷ 0x47 ∷ 0x00 ∷ 0x00 ∷ 0x00 ∷ 0x00 ∷ 0x00 ∷ []
+parity_told = 0x70 ∷ 0x00 ∷ 0x0b ∷ 0x00 ∷ 0x00 ∷ 0x00 ∷ 0x00 ∷ 0x0a ∷ 0x00 ∷ 0x00 ∷ 0x00 ∷ 0x00 ∷ 0x47 ∷ 0x00 ∷ 0x00
+    ∷ 0x00 ∷ 0x00 ∷ 0x00 ∷ []
 
 -- ---- what is not allowed
 
@@ -93,15 +130,21 @@ runs_once : is_permitted (events.Accept (command 1) ∷ events.Run (command 1) �
 unfolding need_of sent_of ones
 runs_once = refl
 
-a_hold_stops_the_current_process : is_permitted (events.Accept (command 1) ∷ events.Fail (command 2) 0x47 ∷ events.End (command 2) 0x02 ∷ events.Run (command 1) ∷ []) ≡ false
+a_hold_stops_the_current_process : is_permitted (events.Accept (command 1)
+    ∷ events.Fail (command 2) 0x47 ∷ events.End (command 2) 0x02 ∷ events.Run (command 1) ∷ [])
+    ≡ false
 unfolding need_of sent_of ones
 a_hold_stops_the_current_process = refl
 
-a_guest_runs_in_a_hold : is_permitted (events.Accept (command 1) ∷ events.Fail (command 2) 0x47 ∷ events.End (command 2) 0x02 ∷ events.Accept (sense 2) ∷ events.Run (sense 2) ∷ events.End (sense 2) 0x00 ∷ events.Run (command 1) ∷ []) ≡ true
+a_guest_runs_in_a_hold :
+    is_permitted (events.Accept (command 1) ∷ events.Fail (command 2) 0x47 ∷ events.End (command 2) 0x02
+    ∷ events.Accept (sense 2) ∷ events.Run (sense 2) ∷ events.End (sense 2) 0x00 ∷ events.Run (command 1) ∷ [])
+    ≡ true
 unfolding need_of sent_of ones
 a_guest_runs_in_a_hold = refl
 
-ends_with_its_own_status : is_permitted (events.Accept (command 1) ∷ events.Run (command 1) ∷ events.End (command 1) 0x02 ∷ []) ≡ false
+ends_with_its_own_status :
+    is_permitted (events.Accept (command 1) ∷ events.Run (command 1) ∷ events.End (command 1) 0x02 ∷ []) ≡ false
 unfolding need_of sent_of ones
 ends_with_its_own_status = refl
 
@@ -109,7 +152,8 @@ no_refusal_below_the_depth : is_permitted (events.Refuse (command 1) ∷ []) ≡
 unfolding need_of sent_of ones
 no_refusal_below_the_depth = refl
 
-refusal_at_the_depth : reply_after (events.Accept (command 10) ∷ events.Refuse (command 4) ∷ []) (command 4) ≡ Some (queue_full)
+refusal_at_the_depth : reply_after (events.Accept (command 10) ∷ events.Refuse (command 4) ∷ []) (command 4)
+    ≡ Some (queue_full)
 unfolding need_of sent_of ones
 refusal_at_the_depth = refl
 
@@ -129,19 +173,24 @@ write_waits_for_room : is_permitted (events.Accept (command 10) ∷ events.Accep
 unfolding need_of sent_of ones
 write_waits_for_room = refl
 
-no_failure_after_a_reply : is_permitted (events.Accept (command 1) ∷ events.Run (command 1) ∷ events.Fail (command 1) 0x47 ∷ []) ≡ false
+no_failure_after_a_reply :
+    is_permitted (events.Accept (command 1) ∷ events.Run (command 1) ∷ events.Fail (command 1) 0x47 ∷ []) ≡ false
 unfolding need_of sent_of ones
 no_failure_after_a_reply = refl
 
-no_failure_while_it_waits : is_permitted (events.Accept (command 1) ∷ events.Accept (command 2) ∷ events.Fail (command 2) 0x47 ∷ []) ≡ false
+no_failure_while_it_waits :
+    is_permitted (events.Accept (command 1) ∷ events.Accept (command 2) ∷ events.Fail (command 2) 0x47 ∷ []) ≡ false
 unfolding need_of sent_of ones
 no_failure_while_it_waits = refl
 
-no_failure_after_the_end : is_permitted (events.Accept (command 1) ∷ events.Run (command 1) ∷ events.End (command 1) 0x00 ∷ events.Fail (command 1) 0x47 ∷ []) ≡ false
+no_failure_after_the_end : is_permitted (events.Accept (command 1) ∷ events.Run (command 1)
+    ∷ events.End (command 1) 0x00 ∷ events.Fail (command 1) 0x47 ∷ [])
+    ≡ false
 unfolding need_of sent_of ones
 no_failure_after_the_end = refl
 
-failure_of_the_current_process : is_permitted (events.Accept (command 1) ∷ events.Fail (command 1) 0x47 ∷ events.End (command 1) 0x02 ∷ []) ≡ true
+failure_of_the_current_process :
+    is_permitted (events.Accept (command 1) ∷ events.Fail (command 1) 0x47 ∷ events.End (command 1) 0x02 ∷ []) ≡ true
 unfolding need_of sent_of ones
 failure_of_the_current_process = refl
 
@@ -149,103 +198,156 @@ lost_once : is_permitted (events.Accept (command 1) ∷ events.Lost (command 1) 
 unfolding need_of sent_of ones
 lost_once = refl
 
-no_loss_after_the_end : is_permitted (events.Accept (command 1) ∷ events.Run (command 1) ∷ events.End (command 1) 0x00 ∷ events.Lost (command 1) ∷ []) ≡ false
+no_loss_after_the_end : is_permitted
+    (events.Accept (command 1) ∷ events.Run (command 1) ∷ events.End (command 1) 0x00 ∷ events.Lost (command 1) ∷ [])
+    ≡ false
 unfolding need_of sent_of ones
 no_loss_after_the_end = refl
 
-a_hold_leaves_another_unit : is_permitted (events.Fail (command 2) 0x47 ∷ events.End (command 2) 0x02 ∷ events.Accept (command 3) ∷ events.Run (command 3) ∷ []) ≡ true
+a_hold_leaves_another_unit : is_permitted (events.Fail (command 2) 0x47
+    ∷ events.End (command 2) 0x02 ∷ events.Accept (command 3) ∷ events.Run (command 3) ∷ [])
+    ≡ true
 unfolding need_of sent_of ones
 a_hold_leaves_another_unit = refl
 
-a_hold_leaves_another_target : is_permitted (events.Fail (command 2) 0x47 ∷ events.End (command 2) 0x02 ∷ events.Accept (command 10) ∷ events.Run (command 10) ∷ []) ≡ true
+a_hold_leaves_another_target : is_permitted (events.Fail (command 2) 0x47
+    ∷ events.End (command 2) 0x02 ∷ events.Accept (command 10) ∷ events.Run (command 10) ∷ [])
+    ≡ true
 unfolding need_of sent_of ones
 a_hold_leaves_another_target = refl
 
-a_hold_ends_alone : is_permitted (events.Fail (command 2) 0x47 ∷ events.End (command 2) 0x02 ∷ events.Fail (command 3) 0x47 ∷ events.End (command 3) 0x02 ∷ events.Accept (sense 2) ∷ events.Run (sense 2) ∷ events.End (sense 2) 0x00 ∷ events.Accept (command 16) ∷ events.Run (command 16) ∷ []) ≡ false
+a_hold_ends_alone : is_permitted (events.Fail (command 2) 0x47 ∷ events.End (command 2) 0x02
+    ∷ events.Fail (command 3) 0x47 ∷ events.End (command 3) 0x02 ∷ events.Accept (sense 2) ∷ events.Run (sense 2)
+    ∷ events.End (sense 2) 0x00 ∷ events.Accept (command 16) ∷ events.Run (command 16) ∷ [])
+    ≡ false
 unfolding need_of sent_of ones
 a_hold_ends_alone = refl
 
 -- ---- guests
 
-two_guests_first : reply_after (events.Fail (command 2) 0x47 ∷ events.End (command 2) 0x02 ∷ events.Accept (command 7) ∷ events.Accept (command 8) ∷ events.Run (command 8) ∷ events.Run (command 7) ∷ events.End (command 7) 0x00 ∷ events.End (command 8) 0x00 ∷ []) (command 7) ≡ Some (good nothing_told)
+two_guests_first : reply_after (events.Fail (command 2) 0x47 ∷ events.End (command 2) 0x02
+    ∷ events.Accept (command 7) ∷ events.Accept (command 8) ∷ events.Run (command 8)
+    ∷ events.Run (command 7) ∷ events.End (command 7) 0x00 ∷ events.End (command 8) 0x00 ∷ []) (command 7)
+    ≡ Some (good nothing_told)
 unfolding need_of sent_of ones
 two_guests_first = refl
 
-two_guests_second : reply_after (events.Fail (command 2) 0x47 ∷ events.End (command 2) 0x02 ∷ events.Accept (command 7) ∷ events.Accept (command 8) ∷ events.Run (command 8) ∷ events.Run (command 7) ∷ events.End (command 7) 0x00 ∷ events.End (command 8) 0x00 ∷ []) (command 8) ≡ Some (good parity_told)
+two_guests_second : reply_after (events.Fail (command 2) 0x47 ∷ events.End (command 2) 0x02
+    ∷ events.Accept (command 7) ∷ events.Accept (command 8) ∷ events.Run (command 8)
+    ∷ events.Run (command 7) ∷ events.End (command 7) 0x00 ∷ events.End (command 8) 0x00 ∷ []) (command 8)
+    ≡ Some (good parity_told)
 unfolding need_of sent_of ones
 two_guests_second = refl
 
-a_guest_ends_once : is_permitted (events.Accept (command 7) ∷ events.Run (command 7) ∷ events.End (command 7) 0x00 ∷ events.End (command 7) 0x00 ∷ []) ≡ false
+a_guest_ends_once : is_permitted (events.Accept (command 7) ∷ events.Run (command 7)
+    ∷ events.End (command 7) 0x00 ∷ events.End (command 7) 0x00 ∷ [])
+    ≡ false
 unfolding need_of sent_of ones
 a_guest_ends_once = refl
 
-a_good_end_keeps_the_sense : reply_after (events.Accept (command 1) ∷ events.Run (command 1) ∷ events.Fail (command 14) 0x47 ∷ events.End (command 14) 0x02 ∷ events.End (command 1) 0x00 ∷ events.Accept (command 7) ∷ events.Run (command 7) ∷ []) (command 7) ≡ Some (good parity_told)
+a_good_end_keeps_the_sense : reply_after
+    (events.Accept (command 1) ∷ events.Run (command 1) ∷ events.Fail (command 14) 0x47 ∷ events.End (command 14) 0x02
+    ∷ events.End (command 1) 0x00 ∷ events.Accept (command 7) ∷ events.Run (command 7) ∷ []) (command 7)
+    ≡ Some (good parity_told)
 unfolding need_of sent_of ones
 a_good_end_keeps_the_sense = refl
 
-units_of_two_targets : reply_after (events.Accept (command 10) ∷ events.Accept (command 1) ∷ events.Run (command 1) ∷ []) (command 1) ≡ Some (good [])
+units_of_two_targets :
+    reply_after (events.Accept (command 10) ∷ events.Accept (command 1) ∷ events.Run (command 1) ∷ []) (command 1)
+    ≡ Some (good [])
 unfolding need_of sent_of ones
 units_of_two_targets = refl
 
 -- ---- aborts and resets
 
-all_drops_its_own : is_permitted (events.Accept (command 1) ∷ events.Accept (command 2) ∷ events.Accept (command 3) ∷ events.Accept (command 10) ∷ events.Aborted 7 0 0 aborts.All ∷ events.Run (command 1) ∷ []) ≡ false
+all_drops_its_own : is_permitted (events.Accept (command 1) ∷ events.Accept (command 2) ∷ events.Accept (command 3)
+    ∷ events.Accept (command 10) ∷ events.Aborted 7 0 0 aborts.All ∷ events.Run (command 1) ∷ [])
+    ≡ false
 unfolding need_of sent_of ones
 all_drops_its_own = refl
 
-all_leaves_those_of_another : is_permitted (events.Accept (command 1) ∷ events.Accept (command 2) ∷ events.Accept (command 3) ∷ events.Accept (command 10) ∷ events.Aborted 7 0 0 aborts.All ∷ events.Run (command 2) ∷ []) ≡ true
+all_leaves_those_of_another :
+    is_permitted (events.Accept (command 1) ∷ events.Accept (command 2) ∷ events.Accept (command 3)
+    ∷ events.Accept (command 10) ∷ events.Aborted 7 0 0 aborts.All ∷ events.Run (command 2) ∷ [])
+    ≡ true
 unfolding need_of sent_of ones
 all_leaves_those_of_another = refl
 
-all_leaves_another_unit : is_permitted (events.Accept (command 1) ∷ events.Accept (command 2) ∷ events.Accept (command 3) ∷ events.Accept (command 10) ∷ events.Aborted 7 0 0 aborts.All ∷ events.Run (command 3) ∷ []) ≡ true
+all_leaves_another_unit :
+    is_permitted (events.Accept (command 1) ∷ events.Accept (command 2) ∷ events.Accept (command 3)
+    ∷ events.Accept (command 10) ∷ events.Aborted 7 0 0 aborts.All ∷ events.Run (command 3) ∷ [])
+    ≡ true
 unfolding need_of sent_of ones
 all_leaves_another_unit = refl
 
-all_leaves_another_target : is_permitted (events.Accept (command 1) ∷ events.Accept (command 2) ∷ events.Accept (command 3) ∷ events.Accept (command 10) ∷ events.Aborted 7 0 0 aborts.All ∷ events.Run (command 10) ∷ []) ≡ true
+all_leaves_another_target :
+    is_permitted (events.Accept (command 1) ∷ events.Accept (command 2) ∷ events.Accept (command 3)
+    ∷ events.Accept (command 10) ∷ events.Aborted 7 0 0 aborts.All ∷ events.Run (command 10) ∷ [])
+    ≡ true
 unfolding need_of sent_of ones
 all_leaves_another_target = refl
 
-tag_leaves_that_of_another : is_permitted (events.Accept (command 2) ∷ events.Aborted 7 0 0 (aborts.Tag 1) ∷ events.Run (command 2) ∷ []) ≡ true
+tag_leaves_that_of_another :
+    is_permitted (events.Accept (command 2) ∷ events.Aborted 7 0 0 (aborts.Tag 1) ∷ events.Run (command 2) ∷ []) ≡ true
 unfolding need_of sent_of ones
 tag_leaves_that_of_another = refl
 
-tag_leaves_another_unit : is_permitted (events.Accept (command 3) ∷ events.Aborted 7 0 0 (aborts.Tag 1) ∷ events.Run (command 3) ∷ []) ≡ true
+tag_leaves_another_unit :
+    is_permitted (events.Accept (command 3) ∷ events.Aborted 7 0 0 (aborts.Tag 1) ∷ events.Run (command 3) ∷ []) ≡ true
 unfolding need_of sent_of ones
 tag_leaves_another_unit = refl
 
-tag_leaves_an_untagged_process : is_permitted (events.Accept (command 6) ∷ events.Aborted 7 0 0 (aborts.Tag 0) ∷ events.Run (command 6) ∷ []) ≡ true
+tag_leaves_an_untagged_process :
+    is_permitted (events.Accept (command 6) ∷ events.Aborted 7 0 0 (aborts.Tag 0) ∷ events.Run (command 6) ∷ []) ≡ true
 unfolding need_of sent_of ones
 tag_leaves_an_untagged_process = refl
 
-tag_drops_an_ordered_process : is_permitted (events.Accept (command 15) ∷ events.Aborted 7 0 0 (aborts.Tag 15) ∷ events.Run (command 15) ∷ []) ≡ false
+tag_drops_an_ordered_process :
+    is_permitted (events.Accept (command 15) ∷ events.Aborted 7 0 0 (aborts.Tag 15) ∷ events.Run (command 15) ∷ [])
+    ≡ false
 unfolding need_of sent_of ones
 tag_drops_an_ordered_process = refl
 
-another_tag_leaves_an_ordered_process : is_permitted (events.Accept (command 15) ∷ events.Aborted 7 0 0 (aborts.Tag 5) ∷ events.Run (command 15) ∷ []) ≡ true
+another_tag_leaves_an_ordered_process :
+    is_permitted (events.Accept (command 15) ∷ events.Aborted 7 0 0 (aborts.Tag 5) ∷ events.Run (command 15) ∷ [])
+    ≡ true
 unfolding need_of sent_of ones
 another_tag_leaves_an_ordered_process = refl
 
-tag_drops_a_head_of_queue : is_permitted (events.Accept (command 5) ∷ events.Aborted 7 0 0 (aborts.Tag 5) ∷ events.Run (command 5) ∷ []) ≡ false
+tag_drops_a_head_of_queue :
+    is_permitted (events.Accept (command 5) ∷ events.Aborted 7 0 0 (aborts.Tag 5) ∷ events.Run (command 5) ∷ []) ≡ false
 unfolding need_of sent_of ones
 tag_drops_a_head_of_queue = refl
 
-another_tag_leaves_a_head_of_queue : is_permitted (events.Accept (command 5) ∷ events.Aborted 7 0 0 (aborts.Tag 15) ∷ events.Run (command 5) ∷ []) ≡ true
+another_tag_leaves_a_head_of_queue :
+    is_permitted (events.Accept (command 5) ∷ events.Aborted 7 0 0 (aborts.Tag 15) ∷ events.Run (command 5) ∷ []) ≡ true
 unfolding need_of sent_of ones
 another_tag_leaves_a_head_of_queue = refl
 
-device_drops_a_process : is_permitted (events.Accept (command 1) ∷ events.Accept (command 9) ∷ events.Accept (command 10) ∷ events.Accept (command 11) ∷ events.Aborted 6 0 0 aborts.Device ∷ events.Run (command 1) ∷ []) ≡ false
+device_drops_a_process :
+    is_permitted (events.Accept (command 1) ∷ events.Accept (command 9) ∷ events.Accept (command 10)
+    ∷ events.Accept (command 11) ∷ events.Aborted 6 0 0 aborts.Device ∷ events.Run (command 1) ∷ [])
+    ≡ false
 unfolding need_of sent_of ones
 device_drops_a_process = refl
 
-device_drops_a_guest : is_permitted (events.Accept (command 1) ∷ events.Accept (command 9) ∷ events.Accept (command 10) ∷ events.Accept (command 11) ∷ events.Aborted 6 0 0 aborts.Device ∷ events.Run (command 9) ∷ []) ≡ false
+device_drops_a_guest : is_permitted (events.Accept (command 1) ∷ events.Accept (command 9) ∷ events.Accept (command 10)
+    ∷ events.Accept (command 11) ∷ events.Aborted 6 0 0 aborts.Device ∷ events.Run (command 9) ∷ [])
+    ≡ false
 unfolding need_of sent_of ones
 device_drops_a_guest = refl
 
-device_leaves_a_process_of_another_target : is_permitted (events.Accept (command 1) ∷ events.Accept (command 9) ∷ events.Accept (command 10) ∷ events.Accept (command 11) ∷ events.Aborted 6 0 0 aborts.Device ∷ events.Run (command 10) ∷ []) ≡ true
+device_leaves_a_process_of_another_target :
+    is_permitted (events.Accept (command 1) ∷ events.Accept (command 9) ∷ events.Accept (command 10)
+    ∷ events.Accept (command 11) ∷ events.Aborted 6 0 0 aborts.Device ∷ events.Run (command 10) ∷ [])
+    ≡ true
 unfolding need_of sent_of ones
 device_leaves_a_process_of_another_target = refl
 
-device_leaves_a_guest_of_another_target : is_permitted (events.Accept (command 1) ∷ events.Accept (command 9) ∷ events.Accept (command 10) ∷ events.Accept (command 11) ∷ events.Aborted 6 0 0 aborts.Device ∷ events.Run (command 11) ∷ []) ≡ true
+device_leaves_a_guest_of_another_target :
+    is_permitted (events.Accept (command 1) ∷ events.Accept (command 9) ∷ events.Accept (command 10)
+    ∷ events.Accept (command 11) ∷ events.Aborted 6 0 0 aborts.Device ∷ events.Run (command 11) ∷ [])
+    ≡ true
 unfolding need_of sent_of ones
 device_leaves_a_guest_of_another_target = refl
 
@@ -259,25 +361,30 @@ reset_drops_a_guest = refl
 
 -- ---- the blocks at the start, and those that are printed
 
-fills_of_one_target : printed (disks_of (array_after disks [])) ≡ [] ∷ [] ∷ ((2, 0 ∷ 1 ∷ 2 ∷ 3 ∷ 4 ∷ 5 ∷ 6 ∷ 7 ∷ 8 ∷ 9 ∷ 10 ∷ 11 ∷ 12 ∷ 13 ∷ 14 ∷ 15 ∷ []) ∷ []) ∷ []
+fills_of_one_target : printed (disks_of (array_after disks []))
+    ≡ [] ∷ [] ∷ ((2, 0 ∷ 1 ∷ 2 ∷ 3 ∷ 4 ∷ 5 ∷ 6 ∷ 7 ∷ 8 ∷ 9 ∷ 10 ∷ 11 ∷ 12 ∷ 13 ∷ 14 ∷ 15 ∷ []) ∷ []) ∷ []
 unfolding need_of sent_of ones
 fills_of_one_target = refl
 
 -- ---- which may run, and which is chosen (6.6.17, 7.8.2)
 
 abbrev waits : ℕ → Class → ℕ → ℕ → Bool → Entry
-waits from class first count writes = record { id = command 1; from = from; tag = Some 1; class = class; first = first; count = count; writes = writes }
+waits from class first count writes =
+    record { id = command 1; from = from; tag = Some 1; class = class; first = first; count = count; writes = writes }
 
 abbrev plain : Class → Entry
 plain class = waits 7 class 0 0 false
 
-two_reads_of_one_block : chosen_place picks.Last (waits 7 classes.Simple 0 1 false ∷ waits 7 classes.Simple 0 1 false ∷ []) ≡ Some 1
+two_reads_of_one_block :
+    chosen_place picks.Last (waits 7 classes.Simple 0 1 false ∷ waits 7 classes.Simple 0 1 false ∷ []) ≡ Some 1
 two_reads_of_one_block = refl
 
-no_blocks_before_a_write : chosen_place picks.Last (waits 7 classes.Simple 1 0 true ∷ waits 7 classes.Simple 0 4 false ∷ []) ≡ Some 1
+no_blocks_before_a_write :
+    chosen_place picks.Last (waits 7 classes.Simple 1 0 true ∷ waits 7 classes.Simple 0 4 false ∷ []) ≡ Some 1
 no_blocks_before_a_write = refl
 
-no_blocks_after_a_write : chosen_place picks.Last (waits 7 classes.Simple 0 4 true ∷ waits 7 classes.Simple 1 0 false ∷ []) ≡ Some 1
+no_blocks_after_a_write :
+    chosen_place picks.Last (waits 7 classes.Simple 0 4 true ∷ waits 7 classes.Simple 1 0 false ∷ []) ≡ Some 1
 no_blocks_after_a_write = refl
 
 first_before_an_ordered : may_run (plain classes.Simple ∷ plain classes.Ordered ∷ plain classes.Simple ∷ []) 0 ≡ true
@@ -318,7 +425,9 @@ one_and_no_number = refl
 
 -- ---- whether a process runs with these events
 
-shows_none : shows_run (events.Accept (command 1) ∷ events.Refuse (command 1) ∷ events.Fail (command 1) 0x47 ∷ events.End (command 1) 0x00 ∷ events.Lost (command 1) ∷ events.Aborted 7 0 0 aborts.All ∷ events.Reset 7 ∷ []) ≡ false
+shows_none : shows_run (events.Accept (command 1) ∷ events.Refuse (command 1) ∷ events.Fail (command 1) 0x47
+    ∷ events.End (command 1) 0x00 ∷ events.Lost (command 1) ∷ events.Aborted 7 0 0 aborts.All ∷ events.Reset 7 ∷ [])
+    ≡ false
 shows_none = refl
 
 shows_one : shows_run (events.Accept (command 1) ∷ events.Run (command 1) ∷ []) ≡ true

@@ -1,5 +1,5 @@
--- What is right of the bytes that were carried, and which commands are valid, computed: each case decides a condition of `bus_story` by
--- what is not so.
+-- What is right of the bytes that were carried, and which commands are valid, computed: each case decides a condition
+-- of `bus_story` by what is not so.
 use Rattle.std.proofs.Common.{ℕ, ◌≡◌, Bool, true, false, List, [], ◌∷◌, refl}
 use Rattle.std.specs.Prelude.{Some, None}
 use lib.Count.{ones}
@@ -33,7 +33,8 @@ abbrev area : List ℕ → Area
 area bytes = record { bytes = bytes; active = 0; saved = 0 }
 
 abbrev carried : List ℕ → List ℕ → List ℕ → CarriedBytes
-carried block moved status = record (nothing_carried (command 1)) { command = area block; moved = area moved; status = area status }
+carried block moved status =
+    record (nothing_carried (command 1)) { command = area block; moved = area moved; status = area status }
 
 abbrev story_of : List Event → CarriedBytes → Story
 story_of history k = record empty_story { history = history; carried = k ∷ [] }
@@ -52,15 +53,19 @@ another_block : is_carried disks (story_of ran (carried other_block [] (0 ∷ []
 unfolding need_of sent_of ones
 another_block = refl
 
-a_byte_of_data : is_carried disks (story_of ran (carried test_unit_ready (0 ∷ []) (0 ∷ []))) (events.End (command 1) 0) ≡ false
+a_byte_of_data : is_carried disks (story_of ran (carried test_unit_ready (0 ∷ []) (0 ∷ []))) (events.End (command 1) 0)
+    ≡ false
 unfolding need_of sent_of ones
 a_byte_of_data = refl
 
-another_status : is_carried disks (story_of ran (carried test_unit_ready [] (2 ∷ []))) (events.End (command 1) 0) ≡ false
+another_status : is_carried disks (story_of ran (carried test_unit_ready [] (2 ∷ []))) (events.End (command 1) 0)
+    ≡ false
 unfolding need_of sent_of ones
 another_status = refl
 
-did_not_run : is_carried disks (story_of (events.Accept (command 1) ∷ []) (carried other_block [] [])) (events.End (command 1) 0) ≡ true
+did_not_run :
+    is_carried disks (story_of (events.Accept (command 1) ∷ []) (carried other_block [] [])) (events.End (command 1) 0)
+    ≡ true
 unfolding need_of sent_of ones
 did_not_run = refl
 
@@ -71,11 +76,14 @@ without_reply : carried_by (carried test_unit_ready [] (0 ∷ [])) (process_of d
 unfolding need_of sent_of ones
 without_reply = refl
 
-first_event_wrong : all_carried disks (story_of ran (carried other_block [] (0 ∷ []))) (events.End (command 1) 0 ∷ ran) ≡ false
+first_event_wrong : all_carried disks (story_of ran (carried other_block [] (0 ∷ []))) (events.End (command 1) 0 ∷ ran)
+    ≡ false
 unfolding need_of sent_of ones
 first_event_wrong = refl
 
-later_event_wrong : all_carried disks (story_of ran (carried other_block [] (0 ∷ []))) (events.Reset 7 ∷ events.End (command 1) 0 ∷ ran) ≡ false
+later_event_wrong :
+    all_carried disks (story_of ran (carried other_block [] (0 ∷ []))) (events.Reset 7 ∷ events.End (command 1) 0 ∷ ran)
+    ≡ false
 unfolding need_of sent_of ones
 later_event_wrong = refl
 
@@ -93,7 +101,8 @@ no_unit = refl
 inquiry_of_no_unit : is_valid disks (line 7 0 2 tags.Untagged (0x12 ∷ 0x00 ∷ 0x00 ∷ 0x00 ∷ 0x24 ∷ 0x00 ∷ [])) ≡ true
 inquiry_of_no_unit = refl
 
-request_sense_of_no_unit : is_valid disks (line 7 0 2 tags.Untagged (0x03 ∷ 0x00 ∷ 0x00 ∷ 0x00 ∷ 0x12 ∷ 0x00 ∷ [])) ≡ true
+request_sense_of_no_unit : is_valid disks (line 7 0 2 tags.Untagged (0x03 ∷ 0x00 ∷ 0x00 ∷ 0x00 ∷ 0x12 ∷ 0x00 ∷ []))
+    ≡ true
 request_sense_of_no_unit = refl
 
 faulty_block : is_valid disks (line 7 0 0 tags.Untagged (0x00 ∷ 0x00 ∷ 0x00 ∷ 0x00 ∷ 0x00 ∷ 0x01 ∷ [])) ≡ false

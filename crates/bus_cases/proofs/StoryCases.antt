@@ -27,13 +27,17 @@ use Rattle.bus_due.specs.scenario.specs.Needs.{need_of}
 use Rattle.bus_due.specs.bus_story.specs.PairAgreements.{agreements_at_end}
 use Rattle.bus_due.specs.bus_story.specs.BusState.{RowReading, quiet_bus, row_reading, bus_state_after}
 use Rattle.bus_due.specs.bus_story.specs.Items.{Item, Sent, command_item, sense_item, item_at, sense_from}
-use Rattle.bus_due.specs.bus_story.specs.CarriedBytes.{CarriedBytes, nothing_carried, carried_of, carried_after_byte, is_whole_block}
+use Rattle.bus_due.specs.bus_story.specs.CarriedBytes.{CarriedBytes, nothing_carried, carried_of, carried_after_byte}
+use Rattle.bus_due.specs.bus_story.specs.CarriedBytes.{is_whole_block}
 use Rattle.bus_due.specs.bus_story.specs.Links.{Link, plain, abortive, named_item}
-use Rattle.bus_due.specs.bus_story.specs.Story.{Story, by_loss, by_reset, empty_story, is_aborted, with_check, with_ending}
+use Rattle.bus_due.specs.bus_story.specs.Story.{Story, by_loss, by_reset, empty_story, is_aborted, with_check}
+use Rattle.bus_due.specs.bus_story.specs.Story.{with_ending}
 use Rattle.bus_due.specs.bus_story.specs.HistoryEvents.{is_completion}
-use Rattle.bus_due.specs.bus_story.specs.TraceHistory.{is_arbitration_entry, story_after_calling_by, story_after_connection, story_after_in, story_after_out}
+use Rattle.bus_due.specs.bus_story.specs.TraceHistory.{is_arbitration_entry, story_after_calling_by}
+use Rattle.bus_due.specs.bus_story.specs.TraceHistory.{story_after_connection, story_after_in, story_after_out}
 use Rattle.bus_due.specs.bus_story.specs.CurrentAgreement.{current_agreement}
-use Rattle.bus_due.specs.bus_story.specs.Samples.{Sample, Strike, with_sample, with_strike, kept_samples, samples_on, samples_with_ids_of}
+use Rattle.bus_due.specs.bus_story.specs.Samples.{Sample, Strike, with_sample, with_strike, kept_samples, samples_on}
+use Rattle.bus_due.specs.bus_story.specs.Samples.{samples_with_ids_of}
 use Rattle.bus_due.specs.bus_story.specs.Budget.{budget}
 use Rattle.bus_cases.proofs.ArrayCases.{command, line, test_unit_ready, disks}
 use Rattle.bus_cases.proofs.GuardCases.{abort_leaves_the_offer_guard_rows}

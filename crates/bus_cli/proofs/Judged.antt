@@ -1,5 +1,6 @@
 -- What the word `judge` says of the bytes that were read.
-use Rattle.std.proofs.Common.{ℕ, ◌≡◌, ◌+◌, ◌<◌, ◌≤◌, Bool, true, false, cond, List, [], ◌∷◌, ◌++◌, Option, Some, None, Result, Ok, Err, length, take, drop, reverse, refl, sym, ap, subst, ◌∙◌, arith}
+use Rattle.std.proofs.Common.{ℕ, ◌≡◌, ◌+◌, ◌<◌, ◌≤◌, Bool, true, false, cond, List, [], ◌∷◌, ◌++◌, Option, Some, None}
+use Rattle.std.proofs.Common.{Result, Ok, Err, length, take, drop, reverse, refl, sym, ap, subst, ◌∙◌, arith}
 use Rattle.std.specs.Prelude.{IfSome, nat_lt}
 use Rattle.std.specs.Result.{IsErr, IsErrAnd}
 use Rattle.std.proofs.lemmas.Bool.{lt-ltb}
@@ -20,7 +21,8 @@ use Rattle.bus_base.specs.Pieces.{ReadsPiece}
 use Rattle.bus_base.specs.declared.reading.Cut.{Cut}
 use Rattle.bus_base.specs.declared.reading.Cut.TheVariants.{TooLong, Fault}
 use Rattle.bus_cli.specs.declared.status.Status.{Status}
-use Rattle.bus_cli.specs.declared.status.Status.TheVariants.{Done, Words, Refused, Read, Write, Memory, Broken, BadTrace, BadDump}
+use Rattle.bus_cli.specs.declared.status.Status.TheVariants.{Done, Words, Refused, Read, Write, Memory, Broken}
+use Rattle.bus_cli.specs.declared.status.Status.TheVariants.{BadTrace, BadDump}
 use Rattle.bus_base.proofs.ReadSoFar.{HasRead, told, read_more, beyond}
 use Rattle.bus_cli.proofs.TooLong.{map_some, first_of}
 use Rattle.bus_cli.proofs.Undumped.{not_first}
@@ -29,41 +31,57 @@ use Rattle.bus_cli.proofs.Undumped.{not_first}
 
 back : {A : Type 0} (xs : List A) → reverse (reverse xs) ≡ xs
 back [] = refl
-back (x ∷ xs) = ap (λ (ys : List _). reverse ys) (reverse-append (x ∷ []) xs) ∙ reverse-append (reverse xs) (x ∷ []) ∙ ap (λ (ys : List _). x ∷ ys) (back xs)
+back (x ∷ xs) = ap (λ (ys : List _). reverse ys) (reverse-append (x ∷ []) xs) ∙ reverse-append (reverse xs) (x ∷ [])
+    ∙ ap (λ (ys : List _). x ∷ ys) (back xs)
 
-of_end : (bytes : List ℕ) (end : Result ℕ ℕ) → verdict_of (with_rows (reverse (rows_of bytes)) end) ≡ verdict_at bytes end
-of_end bytes (Ok end) = ap (λ (rows : List Row). let r : Result Verdict ℕ = Ok (judged_whole rows end) in r) (back (rows_of bytes))
+of_end : (bytes : List ℕ) (end : Result ℕ ℕ)
+    → verdict_of (with_rows (reverse (rows_of bytes)) end) ≡ verdict_at bytes end
+of_end bytes (Ok end) =
+    ap (λ (rows : List Row). let r : Result Verdict ℕ = Ok (judged_whole rows end) in r) (back (rows_of bytes))
 of_end bytes (Err line) = refl
 
 pub heard_is : (bytes : List ℕ) → length bytes ≤ TRACE_LIMIT → heard_verdict (reverse bytes) ≡ verdict_on bytes
 heard_is bytes few =
     let short : nat_lt TRACE_LIMIT (length bytes) ≡ false = grind (arith, nat_tests) in
-    let read : trace_of bytes ≡ with_rows (reverse (rows_of (reverse bytes))) (end_of (reverse bytes)) = not_first (nat_lt TRACE_LIMIT (length bytes)) (Err 0) (with_rows (reverse (rows_of (reverse bytes))) (end_of (reverse bytes))) short in
+    let read : trace_of bytes ≡ with_rows (reverse (rows_of (reverse bytes))) (end_of (reverse bytes)) = not_first
+    (nat_lt TRACE_LIMIT (length bytes)) (Err 0)
+    (with_rows (reverse (rows_of (reverse bytes))) (end_of (reverse bytes))) short in
     sym (ap (λ (r : Result (List Row × ℕ) ℕ). verdict_of r) read ∙ of_end (reverse bytes) (end_of (reverse bytes)))
 
 -- ---- the end of the input
 
 -- it is over
-pub hears_all : (old now next : Option (List ℕ)) (bytes into : List ℕ) (n : ℕ) (v : Result Verdict ℕ) → HasRead old now bytes → IfSome now (λ ys. TakesFront ys next into n) → n ≡ 0 → 0 < length into → length bytes ≤ TRACE_LIMIT → v ≡ heard_verdict (reverse bytes) → IfSome old (λ xs. (verdict_on xs ≡ v) × (next ≡ Some []))
+pub hears_all : (old now next : Option (List ℕ)) (bytes into : List ℕ) (n : ℕ) (v : Result Verdict ℕ)
+    → HasRead old now bytes → IfSome now (λ ys. TakesFront ys next into n) → n ≡ 0
+    → 0 < length into → length bytes ≤ TRACE_LIMIT → v ≡ heard_verdict (reverse bytes)
+    → IfSome old (λ xs. (verdict_on xs ≡ v) × (next ≡ Some []))
 hears_all None now next bytes into n v so_far took none room few is = tt
 hears_all (Some xs) now next bytes into n v (rest, whole, left) took none room few is =
     let t = told now next rest into n left took in
     let over : rest ≡ [] = t.ends none room in
-    let all : xs ≡ bytes = whole ∙ ap (λ (ys : List ℕ). bytes ++ ys) over ∙ append-nil bytes in
-    (ap (λ (ys : List ℕ). verdict_on ys) all ∙ sym (heard_is bytes few) ∙ sym is, t.rest ∙ ap (λ (ys : List ℕ). let o : Option (List ℕ) = Some (drop n ys) in o) over ∙ ap (λ k. let o : Option (List ℕ) = Some (drop k []) in o) none)
+    let all : xs ≡ bytes = whole ∙ ap (λ (ys : List ℕ). bytes ++ ys) over ∙ append-nil bytes in (
+      ap (λ (ys : List ℕ). verdict_on ys) all ∙ sym (heard_is bytes few) ∙ sym is,
+      t.rest ∙ ap (λ (ys : List ℕ). let o : Option (List ℕ) = Some (drop n ys) in o) over
+          ∙ ap (λ k. let o : Option (List ℕ) = Some (drop k []) in o) none,
+    )
 
 -- no more bytes come
-pub hears_cut : (old now next : Option (List ℕ)) (bytes into : List ℕ) (spare : ℕ) (cut : Cut) (r : Result (Result Verdict ℕ) Cut) → HasRead old now bytes → ReadsPiece now next into spare (Err cut) → length bytes + spare ≡ TRACE_LIMIT → IsErr r × IsErrAnd r (λ e. e ≡ cut) → HearsAll old next r
-hears_cut old now next bytes into spare TooLong (Err e) so_far piece sum (any, same) =
-    subst (λ (x : Cut). HearsAll old next (Err x)) (sym same) (beyond old now next bytes spare TRACE_LIMIT so_far piece sum)
+pub hears_cut :
+    (old now next : Option (List ℕ)) (bytes into : List ℕ) (spare : ℕ) (cut : Cut) (r : Result (Result Verdict ℕ) Cut)
+    → HasRead old now bytes → ReadsPiece now next into spare (Err cut) → length bytes + spare ≡ TRACE_LIMIT
+    → IsErr r × IsErrAnd r (λ e. e ≡ cut) → HearsAll old next r
+hears_cut old now next bytes into spare TooLong (Err e) so_far piece sum (any, same) = subst
+    (λ (x : Cut). HearsAll old next (Err x)) (sym same) (beyond old now next bytes spare TRACE_LIMIT so_far piece sum)
 hears_cut old now next bytes into spare Fault (Err e) so_far piece sum (any, same) =
     subst (λ (x : Cut). HearsAll old next (Err x)) (sym same) tt
 hears_cut old now next bytes into spare cut (Ok v) so_far piece sum (any, same) = absurd cc
 
 -- ---- what is said of the verdict is said of the input
 
-of_input : (status : Status) (input : Option (List ℕ)) (v : Result Verdict ℕ) (w : Writing) → IfSome input (λ xs. verdict_on xs ≡ v) → SaysVerdict status (Some v) w → JudgeSays status input w
-of_input status (Some xs) v w same says = subst (λ (u : Result Verdict ℕ). SaysVerdict status (Some u) w) (sym same) says
+of_input : (status : Status) (input : Option (List ℕ)) (v : Result Verdict ℕ) (w : Writing)
+    → IfSome input (λ xs. verdict_on xs ≡ v) → SaysVerdict status (Some v) w → JudgeSays status input w
+of_input status (Some xs) v w same says =
+    subst (λ (u : Result Verdict ℕ). SaysVerdict status (Some u) w) (sym same) says
 of_input Done None v w same says = (tt, says.1)
 of_input Write None v w same says = (tt, says.1)
 of_input Broken None v w same says = (says.0, says.1, tt, says.3)
@@ -74,15 +92,21 @@ of_input Memory None v w same says = says
 of_input Refused None v w same says = says
 of_input BadDump None v w same says = says
 
-verdict_told : (input left : Option (List ℕ)) (v : Result Verdict ℕ) → HearsAll input left (Ok v) → IfSome input (λ xs. verdict_on xs ≡ v)
+verdict_told : (input left : Option (List ℕ)) (v : Result Verdict ℕ) → HearsAll input left (Ok v)
+    → IfSome input (λ xs. verdict_on xs ≡ v)
 verdict_told None left v h = tt
 verdict_told (Some xs) left v h = h.0
 
-pub said_of_all : (status : Status) (input left : Option (List ℕ)) (v : Result Verdict ℕ) (old written : Option (List ℕ)) (f g : ℕ) → HearsAll input left (Ok v) → IfSome old (λ before. SaysVerdict status (Some v) (writing before written f g)) → IfSome old (λ before. JudgeSays status input (writing before written f g))
-said_of_all status input left v old written f g h says =
-    map_some old (λ before. SaysVerdict status (Some v) (writing before written f g)) (λ before. JudgeSays status input (writing before written f g)) (λ before. of_input status input v (writing before written f g) (verdict_told input left v h)) says
+pub said_of_all :
+    (status : Status) (input left : Option (List ℕ)) (v : Result Verdict ℕ) (old written : Option (List ℕ)) (f g : ℕ)
+    → HearsAll input left (Ok v) → IfSome old (λ before. SaysVerdict status (Some v) (writing before written f g))
+    → IfSome old (λ before. JudgeSays status input (writing before written f g))
+said_of_all status input left v old written f g h says = map_some old (λ before. SaysVerdict status
+    (Some v) (writing before written f g)) (λ before. JudgeSays status input (writing before written f g))
+    (λ before. of_input status input v (writing before written f g) (verdict_told input left v h)) says
 
-pub told_of_all : (status : Status) (input left : Option (List ℕ)) (v : Result Verdict ℕ) → HearsAll input left (Ok v) → TellsVerdict status v → IfSome input (λ xs. JudgeTells status xs)
+pub told_of_all : (status : Status) (input left : Option (List ℕ)) (v : Result Verdict ℕ) → HearsAll input left (Ok v)
+    → TellsVerdict status v → IfSome input (λ xs. JudgeTells status xs)
 told_of_all status None left v h tells = tt
 told_of_all status (Some xs) left v h tells = subst (λ (w : Result Verdict ℕ). TellsVerdict status w) (sym h.0) tells
 
@@ -96,34 +120,46 @@ too_long bytes h =
 abbrev IsLong : Option (List ℕ) → Type 0
 IsLong input = IfSome input (λ xs. TRACE_LIMIT < length xs)
 
-all_long : (input left : Option (List ℕ)) → HearsAll input left (Err TooLong) → IfSome input (λ xs. TRACE_LIMIT < length xs)
+all_long : (input left : Option (List ℕ)) → HearsAll input left (Err TooLong)
+    → IfSome input (λ xs. TRACE_LIMIT < length xs)
 all_long None left h = tt
 all_long (Some xs) left h = h.0
 
-pub long_of : (input left : Option (List ℕ)) (end : Cut) → end ≡ TooLong → HearsAll input left (Err end) → IfSome input (λ xs. TRACE_LIMIT < length xs)
+pub long_of : (input left : Option (List ℕ)) (end : Cut) → end ≡ TooLong → HearsAll input left (Err end)
+    → IfSome input (λ xs. TRACE_LIMIT < length xs)
 long_of input left end e h =
     let P : Cut → Type 0 = λ r. HearsAll input left (Err r) in
     all_long input left (subst P e h)
 
-pub told_long : (input : Option (List ℕ)) → IfSome input (λ xs. TRACE_LIMIT < length xs) → IfSome input (λ xs. JudgeTells BadTrace xs)
-told_long input h = map_some input (λ xs. TRACE_LIMIT < length xs) (λ xs. JudgeTells BadTrace xs) (λ xs long. (0, too_long xs long)) h
+pub told_long : (input : Option (List ℕ)) → IfSome input (λ xs. TRACE_LIMIT < length xs)
+    → IfSome input (λ xs. JudgeTells BadTrace xs)
+told_long input h =
+    map_some input (λ xs. TRACE_LIMIT < length xs) (λ xs. JudgeTells BadTrace xs) (λ xs long. (0, too_long xs long)) h
 
-said_beyond : (input : Option (List ℕ)) (text : List ℕ) (w : Writing) → IsLong input → text ≡ trace_line 0 → SaysLine text w → JudgeSays BadTrace input w
+said_beyond : (input : Option (List ℕ)) (text : List ℕ) (w : Writing) → IsLong input → text ≡ trace_line 0
+    → SaysLine text w → JudgeSays BadTrace input w
 said_beyond None text w long same says = (0, tt, subst (λ (x : List ℕ). SaysLine x w) same says)
 said_beyond (Some xs) text w long same says = (0, too_long xs long, subst (λ (x : List ℕ). SaysLine x w) same says)
 
-pub said_long : (input : Option (List ℕ)) (text : List ℕ) (old written : Option (List ℕ)) (f g : ℕ) → IfSome input (λ xs. TRACE_LIMIT < length xs) → text ≡ trace_line 0 → IfSome old (λ before. SaysLine text (writing before written f g)) → IfSome old (λ before. JudgeSays BadTrace input (writing before written f g))
+pub said_long : (input : Option (List ℕ)) (text : List ℕ) (old written : Option (List ℕ)) (f g : ℕ)
+    → IfSome input (λ xs. TRACE_LIMIT < length xs) → text ≡ trace_line 0
+    → IfSome old (λ before. SaysLine text (writing before written f g))
+    → IfSome old (λ before. JudgeSays BadTrace input (writing before written f g))
 said_long input text old written f g long same says =
-    map_some old (λ before. SaysLine text (writing before written f g)) (λ before. JudgeSays BadTrace input (writing before written f g)) (λ before. said_beyond input text (writing before written f g) long same) says
+    map_some old (λ before. SaysLine text (writing before written f g)) (λ before. JudgeSays BadTrace input
+    (writing before written f g)) (λ before. said_beyond input text (writing before written f g) long same) says
 
 -- ---- a piece more
 
-pub hears_more : (old now next : Option (List ℕ)) (bytes into piece : List ℕ) (n count : ℕ) (j : Hearing) → HasRead old now bytes → IfSome now (λ ys. TakesFront ys next into n) → length bytes ≡ count → piece ≡ take n into → n ≤ length into → count + n ≤ TRACE_LIMIT
+pub hears_more : (old now next : Option (List ℕ)) (bytes into piece : List ℕ) (n count : ℕ) (j : Hearing)
+    → HasRead old now bytes → IfSome now (λ ys. TakesFront ys next into n)
+    → length bytes ≡ count → piece ≡ take n into → n ≤ length into → count + n ≤ TRACE_LIMIT
     → (length (reverse bytes) + length piece ≤ TRACE_LIMIT → IsHearingOf (reverse piece ++ reverse bytes) j)
     → (xs : List ℕ) × HasRead old next xs × (length xs ≡ count + n) × IsHearingOf (reverse xs) j
 hears_more old now next bytes into piece n count j read took len same within few heard =
     let size : length piece ≡ n = ap (λ (ys : List ℕ). length ys) same ∙ length-take-le n into within in
-    let all : reverse piece ++ reverse bytes ≡ reverse (bytes ++ take n into) = ap (λ (ys : List ℕ). reverse ys ++ reverse bytes) same ∙ sym (reverse-append bytes (take n into)) in (
+    let all : reverse piece ++ reverse bytes ≡ reverse (bytes ++ take n into) =
+    ap (λ (ys : List ℕ). reverse ys ++ reverse bytes) same ∙ sym (reverse-append bytes (take n into)) in (
       bytes ++ take n into,
       read_more old now next bytes into n read took,
       length-append bytes (take n into) ∙ (λ i. len i + (length-take-le n into within) i),

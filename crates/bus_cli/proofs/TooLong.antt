@@ -20,7 +20,8 @@ long_of : (limit : ℕ) (input left : Option (List ℕ)) → ReadsAll input left
 long_of limit None left h = tt
 long_of limit (Some xs) left h = h.0
 
-pub is_long : (limit : ℕ) (input left : Option (List ℕ)) (end : ReadEnd) → end ≡ TooLong → ReadsAll input left limit (Err end) → IsLong limit input
+pub is_long : (limit : ℕ) (input left : Option (List ℕ)) (end : ReadEnd) → end ≡ TooLong
+    → ReadsAll input left limit (Err end) → IsLong limit input
 is_long limit input left end e h =
     let P : ReadEnd → Type 0 = λ r. ReadsAll input left limit (Err r) in
     long_of limit input left (subst P e h)

@@ -17,14 +17,16 @@ use Rattle.bus_cli.specs.Vcd.{VcdTells}
 use Rattle.bus_cli.specs.Texts.{SaysText, TellsText}
 use Rattle.bus_cli.specs.Transcripts.{text_of_rows, IsTranscriptOf, SaysTranscript, TranscriptSays, TellsTrace}
 use Rattle.bus_cli.specs.declared.status.Status.{Status}
-use Rattle.bus_cli.specs.declared.status.Status.TheVariants.{Done, Words, Refused, Read, Write, Memory, Broken, BadTrace, BadDump}
+use Rattle.bus_cli.specs.declared.status.Status.TheVariants.{Done, Words, Refused, Read, Write, Memory, Broken}
+use Rattle.bus_cli.specs.declared.status.Status.TheVariants.{BadTrace, BadDump}
 use Rattle.bus_cli.proofs.TooLong.{map_some, IsLong, is_long}
 use Rattle.bus_cli.proofs.Judged.{too_long}
 use Rattle.bus_cli.proofs.Dumped.{verdict_is, told_of, all_of}
 
 -- ---- a lawful trace
 
-pub told_lawful : (status : Status) (verdict : Result Verdict ℕ) → Ok Lawful ≡ verdict → TellsText status → TellsTrace status verdict
+pub told_lawful : (status : Status) (verdict : Result Verdict ℕ) → Ok Lawful ≡ verdict → TellsText status
+    → TellsTrace status verdict
 told_lawful Done verdict is tells = sym is
 told_lawful Write verdict is tells = sym is
 told_lawful Memory verdict is tells = tt
@@ -35,7 +37,8 @@ told_lawful Broken verdict is tells = elim tells [ ]
 told_lawful BadTrace verdict is tells = elim tells [ ]
 told_lawful BadDump verdict is tells = elim tells [ ]
 
-says_lawful : (status : Status) (rows : List Row) (end : ℕ) (w : Writing) → SaysText status (text_of_rows rows) w → SaysTranscript status rows end w
+says_lawful : (status : Status) (rows : List Row) (end : ℕ) (w : Writing) → SaysText status (text_of_rows rows) w
+    → SaysTranscript status rows end w
 says_lawful Done rows end w says = says
 says_lawful Write rows end w says = says
 says_lawful Memory rows end w says = says
@@ -46,13 +49,17 @@ says_lawful Broken rows end w says = elim says [ ]
 says_lawful BadTrace rows end w says = elim says [ ]
 says_lawful BadDump rows end w says = elim says [ ]
 
-pub said_lawful : (status : Status) (rows : List Row) (end : ℕ) (old written : Option (List ℕ)) (f g : ℕ) → IfSome old (λ before. SaysText status (text_of_rows rows) (writing before written f g)) → IfSome old (λ before. SaysTranscript status rows end (writing before written f g))
-said_lawful status rows end old written f g says =
-    map_some old (λ before. SaysText status (text_of_rows rows) (writing before written f g)) (λ before. SaysTranscript status rows end (writing before written f g)) (λ before. says_lawful status rows end (writing before written f g)) says
+pub said_lawful : (status : Status) (rows : List Row) (end : ℕ) (old written : Option (List ℕ)) (f g : ℕ)
+    → IfSome old (λ before. SaysText status (text_of_rows rows) (writing before written f g))
+    → IfSome old (λ before. SaysTranscript status rows end (writing before written f g))
+said_lawful status rows end old written f g says = map_some old (λ before. SaysText status (text_of_rows rows)
+    (writing before written f g)) (λ before. SaysTranscript status rows end (writing before written f g))
+    (λ before. says_lawful status rows end (writing before written f g)) says
 
 -- ---- a trace that was read
 
-pub told_trace : (status : Status) (bytes : List ℕ) (rows : List Row) (end : ℕ) → trace_of bytes ≡ Ok (rows, end) → TellsTrace status (Ok (judged_whole (reverse rows) end)) → VcdTells status bytes
+pub told_trace : (status : Status) (bytes : List ℕ) (rows : List Row) (end : ℕ) → trace_of bytes ≡ Ok (rows, end)
+    → TellsTrace status (Ok (judged_whole (reverse rows) end)) → VcdTells status bytes
 told_trace Done bytes rows end is tells = told_of Done bytes rows end is tells
 told_trace Words bytes rows end is tells = tt
 told_trace Refused bytes rows end is tells = elim tells [ ]
@@ -63,10 +70,19 @@ told_trace Broken bytes rows end is tells = told_of Broken bytes rows end is tel
 told_trace BadTrace bytes rows end is tells = told_of BadTrace bytes rows end is tells
 told_trace BadDump bytes rows end is tells = elim tells [ ]
 
-says_of : (status : Status) (bytes : List ℕ) (rows : List Row) (end : ℕ) (w : Writing) → trace_of bytes ≡ Ok (rows, end) → TellsTrace status (Ok (judged_whole (reverse rows) end)) → SaysTranscript status rows end w → TranscriptSays status (Some bytes) w
-says_of Done bytes rows end w is tells says = (text_of_rows rows, (rows, end, (is, sym (verdict_is bytes rows end is) ∙ tells), refl), says)
-says_of Write bytes rows end w is tells says = (text_of_rows rows, (rows, end, (is, sym (verdict_is bytes rows end is) ∙ tells), refl), says)
-says_of Broken bytes rows end w is tells says = (says.0, says.1, sym (verdict_is bytes rows end is) ∙ ap (λ (v : Verdict). let r : Result Verdict ℕ = Ok v in r) says.2, says.3)
+says_of : (status : Status) (bytes : List ℕ) (rows : List Row) (end : ℕ) (w : Writing) → trace_of bytes ≡ Ok (rows, end)
+    → TellsTrace status (Ok (judged_whole (reverse rows) end)) → SaysTranscript status rows end w
+    → TranscriptSays status (Some bytes) w
+says_of Done bytes rows end w is tells says =
+    (text_of_rows rows, (rows, end, (is, sym (verdict_is bytes rows end is) ∙ tells), refl), says)
+says_of Write bytes rows end w is tells says =
+    (text_of_rows rows, (rows, end, (is, sym (verdict_is bytes rows end is) ∙ tells), refl), says)
+says_of Broken bytes rows end w is tells says = (
+  says.0,
+  says.1,
+  sym (verdict_is bytes rows end is) ∙ ap (λ (v : Verdict). let r : Result Verdict ℕ = Ok v in r) says.2,
+  says.3,
+)
 says_of Memory bytes rows end w is tells says = says
 says_of Words bytes rows end w is tells says = elim says [ ]
 says_of Refused bytes rows end w is tells says = elim says [ ]
@@ -74,25 +90,34 @@ says_of Read bytes rows end w is tells says = elim says [ ]
 says_of BadTrace bytes rows end w is tells says = elim says [ ]
 says_of BadDump bytes rows end w is tells says = elim says [ ]
 
-pub said_of : (status : Status) (bytes : List ℕ) (rows : List Row) (end : ℕ) (old written : Option (List ℕ)) (f g : ℕ) → trace_of bytes ≡ Ok (rows, end) → TellsTrace status (Ok (judged_whole (reverse rows) end)) → IfSome old (λ before. SaysTranscript status rows end (writing before written f g)) → IfSome old (λ before. TranscriptSays status (Some bytes) (writing before written f g))
-said_of status bytes rows end old written f g is tells says =
-    map_some old (λ before. SaysTranscript status rows end (writing before written f g)) (λ before. TranscriptSays status (Some bytes) (writing before written f g)) (λ before. says_of status bytes rows end (writing before written f g) is tells) says
+pub said_of : (status : Status) (bytes : List ℕ) (rows : List Row) (end : ℕ) (old written : Option (List ℕ)) (f g : ℕ)
+    → trace_of bytes ≡ Ok (rows, end) → TellsTrace status (Ok (judged_whole (reverse rows) end))
+    → IfSome old (λ before. SaysTranscript status rows end (writing before written f g))
+    → IfSome old (λ before. TranscriptSays status (Some bytes) (writing before written f g))
+said_of status bytes rows end old written f g is tells says = map_some old (λ before. SaysTranscript status rows end
+    (writing before written f g)) (λ before. TranscriptSays status (Some bytes) (writing before written f g))
+    (λ before. says_of status bytes rows end (writing before written f g) is tells) says
 
 -- ---- a line that breaks the form
 
-says_bad : (bytes text : List ℕ) (line : ℕ) (w : Writing) → trace_of bytes ≡ Err line → text ≡ trace_line line → SaysLine text w → TranscriptSays BadTrace (Some bytes) w
+says_bad : (bytes text : List ℕ) (line : ℕ) (w : Writing) → trace_of bytes ≡ Err line → text ≡ trace_line line
+    → SaysLine text w → TranscriptSays BadTrace (Some bytes) w
 says_bad bytes text line w is same says = (line, ap verdict_of is, subst (λ (x : List ℕ). SaysLine x w) same says)
 
-pub said_bad : (bytes text : List ℕ) (line : ℕ) (old written : Option (List ℕ)) (f g : ℕ) → trace_of bytes ≡ Err line → text ≡ trace_line line → IfSome old (λ before. SaysLine text (writing before written f g)) → IfSome old (λ before. TranscriptSays BadTrace (Some bytes) (writing before written f g))
+pub said_bad : (bytes text : List ℕ) (line : ℕ) (old written : Option (List ℕ)) (f g : ℕ) → trace_of bytes ≡ Err line
+    → text ≡ trace_line line → IfSome old (λ before. SaysLine text (writing before written f g))
+    → IfSome old (λ before. TranscriptSays BadTrace (Some bytes) (writing before written f g))
 said_bad bytes text line old written f g is same says =
-    map_some old (λ before. SaysLine text (writing before written f g)) (λ before. TranscriptSays BadTrace (Some bytes) (writing before written f g)) (λ before. says_bad bytes text line (writing before written f g) is same) says
+    map_some old (λ before. SaysLine text (writing before written f g)) (λ before. TranscriptSays BadTrace (Some bytes)
+    (writing before written f g)) (λ before. says_bad bytes text line (writing before written f g) is same) says
 
 -- ---- what is said of bytes is said of the input that they are
 
 transcript_of_any : (bytes text : List ℕ) → IsTranscriptOf (Some bytes) text → IsTranscriptOf None text
 transcript_of_any bytes text h = (h.0, h.3)
 
-of_input : (status : Status) (input : Option (List ℕ)) (bytes : List ℕ) (w : Writing) → IfSome input (λ xs. bytes ≡ xs) → TranscriptSays status (Some bytes) w → TranscriptSays status input w
+of_input : (status : Status) (input : Option (List ℕ)) (bytes : List ℕ) (w : Writing) → IfSome input (λ xs. bytes ≡ xs)
+    → TranscriptSays status (Some bytes) w → TranscriptSays status input w
 of_input status (Some xs) bytes w same says = subst (λ (b : List ℕ). TranscriptSays status (Some b) w) same says
 of_input Done None bytes w same says = (says.0, transcript_of_any bytes says.0 says.1, says.2)
 of_input Write None bytes w same says = (says.0, transcript_of_any bytes says.0 says.1, says.2)
@@ -104,16 +129,26 @@ of_input Memory None bytes w same says = says
 of_input Refused None bytes w same says = elim says [ ]
 of_input BadDump None bytes w same says = elim says [ ]
 
-pub said_of_all : (status : Status) (input left old written : Option (List ℕ)) (v : Vec ℕ Global) (bytes : List ℕ) (f g : ℕ) → bytes ≡ v.items → ReadsAll input left TRACE_LIMIT (Ok v) → IfSome old (λ before. TranscriptSays status (Some bytes) (writing before written f g)) → IfSome old (λ before. TranscriptSays status input (writing before written f g))
-said_of_all status input left old written v bytes f g same h says =
-    map_some old (λ before. TranscriptSays status (Some bytes) (writing before written f g)) (λ before. TranscriptSays status input (writing before written f g)) (λ before. of_input status input bytes (writing before written f g) (all_of input left v bytes same h)) says
+pub said_of_all :
+    (status : Status) (input left old written : Option (List ℕ)) (v : Vec ℕ Global) (bytes : List ℕ) (f g : ℕ)
+    → bytes ≡ v.items → ReadsAll input left TRACE_LIMIT (Ok v)
+    → IfSome old (λ before. TranscriptSays status (Some bytes) (writing before written f g))
+    → IfSome old (λ before. TranscriptSays status input (writing before written f g))
+said_of_all status input left old written v bytes f g same h says = map_some old (λ before. TranscriptSays status
+    (Some bytes) (writing before written f g)) (λ before. TranscriptSays status input (writing before written f g))
+    (λ before. of_input status input bytes (writing before written f g) (all_of input left v bytes same h)) says
 
 -- ---- more bytes than the limit
 
-said_beyond : (input : Option (List ℕ)) (text : List ℕ) (w : Writing) → IsLong TRACE_LIMIT input → text ≡ trace_line 0 → SaysLine text w → TranscriptSays BadTrace input w
+said_beyond : (input : Option (List ℕ)) (text : List ℕ) (w : Writing) → IsLong TRACE_LIMIT input → text ≡ trace_line 0
+    → SaysLine text w → TranscriptSays BadTrace input w
 said_beyond None text w long same says = (0, tt, subst (λ (x : List ℕ). SaysLine x w) same says)
 said_beyond (Some xs) text w long same says = (0, too_long xs long, subst (λ (x : List ℕ). SaysLine x w) same says)
 
-pub said_long : (input left : Option (List ℕ)) (end : ReadEnd) (text : List ℕ) (old written : Option (List ℕ)) (f g : ℕ) → end ≡ TooLong → ReadsAll input left TRACE_LIMIT (Err end) → text ≡ trace_line 0 → IfSome old (λ before. SaysLine text (writing before written f g)) → IfSome old (λ before. TranscriptSays BadTrace input (writing before written f g))
-said_long input left end text old written f g e h same says =
-    map_some old (λ before. SaysLine text (writing before written f g)) (λ before. TranscriptSays BadTrace input (writing before written f g)) (λ before. said_beyond input text (writing before written f g) (is_long TRACE_LIMIT input left end e h) same) says
+pub said_long : (input left : Option (List ℕ)) (end : ReadEnd) (text : List ℕ) (old written : Option (List ℕ)) (f g : ℕ)
+    → end ≡ TooLong → ReadsAll input left TRACE_LIMIT (Err end) → text ≡ trace_line 0
+    → IfSome old (λ before. SaysLine text (writing before written f g))
+    → IfSome old (λ before. TranscriptSays BadTrace input (writing before written f g))
+said_long input left end text old written f g e h same says = map_some old (λ before. SaysLine text
+    (writing before written f g)) (λ before. TranscriptSays BadTrace input (writing before written f g))
+    (λ before. said_beyond input text (writing before written f g) (is_long TRACE_LIMIT input left end e h) same) says

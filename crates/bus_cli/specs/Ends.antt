@@ -1,5 +1,6 @@
 -- How the program ends: what it wrote, how far it read, and what the input was.
-use Rattle.std.specs.Prelude.{ℕ, ◌≡◌, ◌+◌, ◌<◌, ◌≤◌, ◌⊎◌, List, [], length, drop, Option, Some, None, IfSome, map, String, string_bytes}
+use Rattle.std.specs.Prelude.{ℕ, ◌≡◌, ◌+◌, ◌<◌, ◌≤◌, ◌⊎◌, List, [], length, drop, Option, Some, None, IfSome, map}
+use Rattle.std.specs.Prelude.{String, string_bytes}
 use Rattle.std.specs.declared.alloc.Global.{Global}
 use Rattle.scenario.specs.declared.bounds.TheConstants.{COMMAND_LIMIT}
 use Rattle.scenario.specs.Reading.{scenario_of}
@@ -13,7 +14,8 @@ use Rattle.bus_cli.specs.Vcd.{VcdSays, VcdTells}
 use Rattle.bus_cli.specs.Transcripts.{TranscriptSays}
 use Rattle.bus_cli.specs.Unvcd.{UnvcdSays, UnvcdTells, dump_on, dump_status}
 use Rattle.bus_cli.specs.declared.status.Status.{Status}
-use Rattle.bus_cli.specs.declared.status.Status.TheVariants.{Done, Words, Refused, Read, Write, Memory, Broken, BadTrace, BadDump}
+use Rattle.bus_cli.specs.declared.status.Status.TheVariants.{Done, Words, Refused, Read, Write, Memory, Broken}
+use Rattle.bus_cli.specs.declared.status.Status.TheVariants.{BadTrace, BadDump}
 use Rattle.bus_cli.specs.declared.words.Word.{Word}
 use Rattle.bus_cli.specs.declared.words.Word.TheVariants as words
 

@@ -9,9 +9,11 @@ use Rattle.trace_text.specs.Whole.{trace_of}
 use Rattle.bus_base.specs.Pieces.{TakesBeyond}
 use Rattle.bus_base.specs.declared.reading.Cut.{Cut}
 use Rattle.bus_base.specs.declared.reading.Cut.TheVariants as cuts
-use Rattle.bus_cli.specs.Lines.{usage_line, fault_line, lawful_line, broken_line, trace_line, Writing, Adds, AddsFront, SaysLine}
+use Rattle.bus_cli.specs.Lines.{usage_line, fault_line, lawful_line, broken_line, trace_line, Writing, Adds, AddsFront}
+use Rattle.bus_cli.specs.Lines.{SaysLine}
 use Rattle.bus_cli.specs.declared.status.Status.{Status}
-use Rattle.bus_cli.specs.declared.status.Status.TheVariants.{Done, Words, Refused, Read, Write, Memory, Broken, BadTrace, BadDump}
+use Rattle.bus_cli.specs.declared.status.Status.TheVariants.{Done, Words, Refused, Read, Write, Memory, Broken}
+use Rattle.bus_cli.specs.declared.status.Status.TheVariants.{BadTrace, BadDump}
 
 -- what is judged of a text that was read
 abbrev pub verdict_of : Result (List Row × ℕ) ℕ → Result Verdict ℕ

@@ -16,7 +16,8 @@ lawful_line = codes "lawful\n"
 
 -- the line that tells of the first line of a scenario with a reason
 abbrev pub refusal_line : ℕ → ℕ → List ℕ
-refusal_line line reason = codes "scenario line " ++ (decimal line ++ (codes " reason " ++ (decimal reason ++ codes "\n")))
+refusal_line line reason =
+    codes "scenario line " ++ (decimal line ++ (codes " reason " ++ (decimal reason ++ codes "\n")))
 
 -- the line that tells of the first row of a trace that breaks a rule
 abbrev pub broken_line : ℕ → ℕ → List ℕ

@@ -4,10 +4,11 @@ use Rattle.scenario.specs.Writing.{text_of}
 use Rattle.scenario.specs.Making.{made}
 use Rattle.bus_cli.specs.Lines.{memory_line, Writing, Adds, AddsFront, SaysLine}
 use Rattle.bus_cli.specs.declared.status.Status.{Status}
-use Rattle.bus_cli.specs.declared.status.Status.TheVariants.{Done, Words, Refused, Read, Write, Memory, Broken, BadTrace, BadDump}
+use Rattle.bus_cli.specs.declared.status.Status.TheVariants.{Done, Words, Refused, Read, Write, Memory, Broken}
+use Rattle.bus_cli.specs.declared.status.Status.TheVariants.{BadTrace, BadDump}
 
--- What was written with this status: the text of the scenario of this number, or with Write a front of it; or the status' own
--- line.
+-- What was written with this status: the text of the scenario of this number, or with Write a front of it; or the
+-- status' own line.
 abbrev pub MakeSays : ℕ → ℕ → Status → Writing → Type 0
 MakeSays seed n Done w = Adds (text_of (made seed n)) w
 MakeSays seed n Write w = AddsFront (text_of (made seed n)) w

@@ -12,7 +12,8 @@ use Rattle.bus_cli.specs.declared.words.Extent.{Extent}
 use Rattle.bus_cli.specs.declared.words.Extent.TheVariants.{Whole, Short, Transcript}
 use Rattle.bus_cli.specs.Lines.{usage_line, fault_line, memory_line, refusal_line, Writing, Adds, AddsFront, SaysLine}
 use Rattle.bus_cli.specs.declared.status.Status.{Status}
-use Rattle.bus_cli.specs.declared.status.Status.TheVariants.{Done, Words, Refused, Read, Write, Memory, Broken, BadTrace, BadDump}
+use Rattle.bus_cli.specs.declared.status.Status.TheVariants.{Done, Words, Refused, Read, Write, Memory, Broken}
+use Rattle.bus_cli.specs.declared.status.Status.TheVariants.{BadTrace, BadDump}
 
 -- the scenario that the input says; where nothing is told of the bytes, any
 abbrev pub IsSaid : Option (List ℕ) → ScenarioValue → Type 0

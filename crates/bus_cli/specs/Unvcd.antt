@@ -1,5 +1,6 @@
 -- The word `unvcd`: what each status says of the input, and what is written.
-use Rattle.std.specs.Prelude.{ℕ, ◌≡◌, ◌≤◌, List, [], length, Option, Some, None, option_map, IfSome, Result, Ok, Err, nat_lt, if◌then◌else◌}
+use Rattle.std.specs.Prelude.{ℕ, ◌≡◌, ◌≤◌, List, [], length, Option, Some, None, option_map, IfSome, Result, Ok, Err}
+use Rattle.std.specs.Prelude.{nat_lt, if◌then◌else◌}
 use Rattle.bus_base.specs.Pieces.{TakesBeyond}
 use Rattle.bus_base.specs.declared.reading.ReadEnd.{ReadEnd}
 use Rattle.bus_base.specs.declared.reading.ReadEnd.TheVariants as ends
@@ -10,10 +11,11 @@ use Rattle.vcd_text.specs.declared.reader.VcdReader.{VcdReader}
 use Rattle.vcd_text.specs.Reading.{read_of, vcd_of}
 use Rattle.bus_cli.specs.Lines.{usage_line, fault_line, memory_line, dump_line, Writing, Adds, AddsFront, SaysLine}
 use Rattle.bus_cli.specs.declared.status.Status.{Status}
-use Rattle.bus_cli.specs.declared.status.Status.TheVariants.{Done, Words, Refused, Read, Write, Memory, Broken, BadTrace, BadDump}
+use Rattle.bus_cli.specs.declared.status.Status.TheVariants.{Done, Words, Refused, Read, Write, Memory, Broken}
+use Rattle.bus_cli.specs.declared.status.Status.TheVariants.{BadTrace, BadDump}
 
--- The rows and the end of the dump that these bytes are, or the line of the first token that breaks its form; line 0 where
--- there are more than 1,073,741,824 bytes.
+-- The rows and the end of the dump that these bytes are, or the line of the first token that breaks its form; line 0
+-- where there are more than 1,073,741,824 bytes.
 abbrev pub dump_on : List ℕ → Result (List Row × ℕ) ℕ
 dump_on bytes = if nat_lt DUMP_LIMIT (length bytes) then Err 0 else vcd_of bytes
 
@@ -22,8 +24,8 @@ abbrev pub IsRead : Option (Result (List Row × ℕ) ℕ) → Result (List Row �
 IsRead None read = Unit {0}
 IsRead (Some told) read = told ≡ read
 
--- What was written with this status, by what was read: the text of its trace, or with Write a front of it; or the status' own
--- line.
+-- What was written with this status, by what was read: the text of its trace, or with Write a front of it; or the
+-- status' own line.
 abbrev pub SaysRead : Status → Option (Result (List Row × ℕ) ℕ) → Writing → Type 0
 SaysRead Done told w = (rows : List Row) × (end : ℕ) × IsRead told (Ok (rows, end)) × Adds (trace_text rows end) w
 SaysRead Write told w =

@@ -1,5 +1,5 @@
--- The dialogue of two ends, computed on small records: initiator 7 and target 3. What is expected stands as the standard
--- and docs/behaviour.md have it: messages as their bytes, lines as a trace has them.
+-- The dialogue of two ends, computed on small records: initiator 7 and target 3. What is expected stands as the
+-- standard and docs/behaviour.md have it: messages as their bytes, lines as a trace has them.
 use Rattle.std.proofs.Common.{ℕ, ◌≡◌, Bool, true, false, [], ◌∷◌, Option, Some, None, refl}
 use lib.Count.{ones}
 use Rattle.scenario.specs.bus_base.specs.declared.AbortKind.{AbortKind}
@@ -38,7 +38,8 @@ use Rattle.bus_dialogue.specs.declared.exchange.Leaving.{Leaving}
 use Rattle.bus_dialogue.specs.declared.exchange.Task.{Task}
 use Rattle.bus_dialogue.specs.declared.exchange.Room.{Room}
 use Rattle.bus_dialogue.specs.Exchange.{Speech, next_word, attends_with}
-use Rattle.bus_dialogue.specs.Words.{process_opening, abort_opening, parity_error, detected_error, answer_bytes, naming_messages, reply_to, request_by}
+use Rattle.bus_dialogue.specs.Words.{process_opening, abort_opening, parity_error, detected_error, answer_bytes}
+use Rattle.bus_dialogue.specs.Words.{naming_messages, reply_to, request_by}
 use Rattle.bus_dialogue.specs.Speaking.{speech_after}
 use Rattle.bus_dialogue.specs.Planning.{first_plan, plan_after}
 use Rattle.bus_dialogue.specs.Arrivals.{arrival_by, policy_of}
@@ -54,7 +55,8 @@ abbrev pair : ℕ → ℕ → Agreement
 pair period offset = record { period = period; offset = offset }
 
 abbrev host : Bool → ℕ → Option HostDef
-host offers period = Some (record { dev = 7; latency = 0; most = 1; retries = 2; period = period; offset = 8; lag = 40; offers = offers })
+host offers period = Some
+    (record { dev = 7; latency = 0; most = 1; retries = 2; period = period; offset = 8; lag = 40; offers = offers })
 
 -- It tries again twice, and its seek time is 500.
 abbrev disk : Policy → Bool → ℕ → Option TargetDef
@@ -71,14 +73,23 @@ disk policy begins period = Some (record {
 })
 
 abbrev process : Bool → Tag → Option Process
-process sense tag = Some (record { id = record { command = 1; sense = sense }; initiator = 7; target = 3; unit = 2; tag = tag; cdb = []; sent = [] })
+process sense tag = Some (record {
+  id = record { command = 1; sense = sense };
+  initiator = 7;
+  target = 3;
+  unit = 2;
+  tag = tag;
+  cdb = [];
+  sent = [];
+})
 
 -- ---- what the initiator says after a selection (6.6.7, 6.6.17, 6.6.21)
 
 opens_a_command : process_opening (host true 50) false (process false tags.Untagged) ≡ 0xc2 ∷ []
 opens_a_command = refl
 
-opens_with_an_offer : process_opening (host true 50) true (process false (tags.Simple 9)) ≡ 0xc2 ∷ 0x20 ∷ 9 ∷ 0x01 ∷ 0x03 ∷ 0x01 ∷ 50 ∷ 8 ∷ []
+opens_with_an_offer : process_opening (host true 50) true (process false (tags.Simple 9))
+    ≡ 0xc2 ∷ 0x20 ∷ 9 ∷ 0x01 ∷ 0x03 ∷ 0x01 ∷ 50 ∷ 8 ∷ []
 opens_with_an_offer = refl
 
 opens_at_the_head : process_opening (host false 50) true (process false (tags.Head 9)) ≡ 0xc2 ∷ 0x21 ∷ 9 ∷ []
@@ -91,7 +102,8 @@ opens_in_order = refl
 opens_a_sense : process_opening (host true 50) false (process true tags.Untagged) ≡ 0x82 ∷ []
 opens_a_sense = refl
 
-opens_a_sense_with_an_offer : process_opening (host true 25) true (process true tags.Untagged) ≡ 0x82 ∷ 0x01 ∷ 0x03 ∷ 0x01 ∷ 25 ∷ 8 ∷ []
+opens_a_sense_with_an_offer : process_opening (host true 25) true (process true tags.Untagged)
+    ≡ 0x82 ∷ 0x01 ∷ 0x03 ∷ 0x01 ∷ 25 ∷ 8 ∷ []
 opens_a_sense_with_an_offer = refl
 
 opens_nothing : process_opening (host true 50) true None ≡ []
@@ -170,10 +182,26 @@ messages m n = record { first = Some m; second = Some n }
 abbrev named : Messages
 named = messages (to_initiator.Identify 2) (to_initiator.SimpleTag 9)
 
-names_a_tagged_one : naming_messages (record { id = record { command = 1; sense = false }; initiator = 7; target = 3; unit = 2; tag = tags.Head 9; cdb = []; sent = [] }) ≡ named
+names_a_tagged_one : naming_messages (record {
+  id = record { command = 1; sense = false };
+  initiator = 7;
+  target = 3;
+  unit = 2;
+  tag = tags.Head 9;
+  cdb = [];
+  sent = [];
+}) ≡ named
 names_a_tagged_one = refl
 
-names_an_untagged_one : naming_messages (record { id = record { command = 1; sense = false }; initiator = 7; target = 3; unit = 2; tag = tags.Untagged; cdb = []; sent = [] }) ≡ message (to_initiator.Identify 2)
+names_an_untagged_one : naming_messages (record {
+  id = record { command = 1; sense = false };
+  initiator = 7;
+  target = 3;
+  unit = 2;
+  tag = tags.Untagged;
+  cdb = [];
+  sent = [];
+}) ≡ message (to_initiator.Identify 2)
 names_an_untagged_one = refl
 
 -- ---- a row, as it tells the two ends: the lines before it and after it
@@ -215,7 +243,8 @@ second_word = refl
 no_further_word : next_word (speech 3) ≡ 0
 no_further_word = refl
 
-attends_with_all_but_the_last : attends_with (speech 0) ∷ attends_with (speech 1) ∷ attends_with (speech 2) ∷ [] ≡ true ∷ true ∷ false ∷ []
+attends_with_all_but_the_last : attends_with (speech 0) ∷ attends_with (speech 1) ∷ attends_with (speech 2) ∷ []
+    ≡ true ∷ true ∷ false ∷ []
 attends_with_all_but_the_last = refl
 
 speech_goes_on : hears (says false None) 1 ≡ speech 2
@@ -227,7 +256,8 @@ speech_begins_anew = refl
 speech_stays_under_a_fault : hears (faults 0x0ea00) 1 ≡ speech 1
 speech_stays_under_a_fault = refl
 
-speech_hears_a_request : hears (tells (Some (to_initiator.Sdtr (pair 30 4)))) 1 ≡ record (speech 1) { asked = pair 30 4 }
+speech_hears_a_request : hears (tells (Some (to_initiator.Sdtr (pair 30 4)))) 1
+    ≡ record (speech 1) { asked = pair 30 4 }
 speech_hears_a_request = refl
 
 speech_hears_another : hears (tells (Some to_initiator.Disconnect)) 1 ≡ speech 1
@@ -240,20 +270,23 @@ opening_begins = refl
 opening_is_over : hears (turns 0x02a00 0x00a00) 1 ≡ speech 0
 opening_is_over = refl
 
-speaks_of_a_struck_message : hears (record (turns 0x13a00 0x12a00) { struck = true }) 0 ≡ record (speech 0) { words = 0x09 ∷ [] }
+speaks_of_a_struck_message : hears (record (turns 0x13a00 0x12a00) { struck = true }) 0
+    ≡ record (speech 0) { words = 0x09 ∷ [] }
 speaks_of_a_struck_message = refl
 
 speaks_an_answer : hears (turns 0x13a00 0x12a00) 1 ≡ record (speech 0) { words = 0x01 ∷ 0x03 ∷ 0x01 ∷ 100 ∷ 8 ∷ [] }
 speaks_an_answer = refl
 
-speaks_of_struck_data : hears (record (turns 0x11200 0x12a00) { struck = true }) 0 ≡ record (speech 0) { words = 0x05 ∷ [] }
+speaks_of_struck_data : hears (record (turns 0x11200 0x12a00) { struck = true }) 0
+    ≡ record (speech 0) { words = 0x05 ∷ [] }
 speaks_of_struck_data = refl
 
 -- The last byte of the run was well, one before it was not.
 speaks_of_data_struck_before : hears (turns 0x11200 0x12a00) 0 ≡ record (speech 0) { words = 0x05 ∷ [] }
 speaks_of_data_struck_before = refl
 
-speaks_of_a_struck_status : hears (record (turns 0x11a00 0x12a00) { struck = true }) 0 ≡ record (speech 0) { words = 0x05 ∷ [] }
+speaks_of_a_struck_status : hears (record (turns 0x11a00 0x12a00) { struck = true }) 0
+    ≡ record (speech 0) { words = 0x05 ∷ [] }
 speaks_of_a_struck_status = refl
 
 -- ---- what the target hears
@@ -262,7 +295,8 @@ abbrev quiet : Said
 quiet = record { unit = None; tag = tags.Untagged; aborts = None; offer = None }
 
 abbrev plan : Said → Messages → Next → Plan
-plan said m next = record { negotiates = true; messages = m; next = next; cause = causes.Selected; said = said; struck = false }
+plan said m next =
+    record { negotiates = true; messages = m; next = next; cause = causes.Selected; said = said; struck = false }
 
 abbrev silent : Plan
 silent = plan quiet no_message nexts.FreeBus
@@ -280,54 +314,75 @@ plans w p = plan_after w free p
 abbrev tagged : Said
 tagged = record quiet { unit = Some 2; tag = tags.Simple 9 }
 
-hears_identify : plans (says false (Some (to_target.Identify true 2))) silent ≡ plan (record quiet { unit = Some 2 }) no_message nexts.FreeBus
+hears_identify : plans (says false (Some (to_target.Identify true 2))) silent
+    ≡ plan (record quiet { unit = Some 2 }) no_message nexts.FreeBus
 hears_identify = refl
 
-hears_a_tag : plans (says false (Some (to_target.SimpleTag 9))) (plan (record quiet { unit = Some 2 }) no_message nexts.FreeBus) ≡ plan tagged no_message nexts.FreeBus
+hears_a_tag :
+    plans (says false (Some (to_target.SimpleTag 9))) (plan (record quiet { unit = Some 2 }) no_message nexts.FreeBus)
+    ≡ plan tagged no_message nexts.FreeBus
 hears_a_tag = refl
 
-hears_a_head_tag : plans (says false (Some (to_target.HeadTag 9))) silent ≡ plan (record quiet { tag = tags.Head 9 }) no_message nexts.FreeBus
+hears_a_head_tag : plans (says false (Some (to_target.HeadTag 9))) silent
+    ≡ plan (record quiet { tag = tags.Head 9 }) no_message nexts.FreeBus
 hears_a_head_tag = refl
 
-hears_an_ordered_tag : plans (says false (Some (to_target.OrderedTag 9))) silent ≡ plan (record quiet { tag = tags.Ordered 9 }) no_message nexts.FreeBus
+hears_an_ordered_tag : plans (says false (Some (to_target.OrderedTag 9))) silent
+    ≡ plan (record quiet { tag = tags.Ordered 9 }) no_message nexts.FreeBus
 hears_an_ordered_tag = refl
 
-hears_an_offer : plans (says false (Some (to_target.Sdtr (pair 50 8)))) (plan tagged no_message nexts.FreeBus) ≡ plan (record tagged { offer = Some (pair 50 8) }) no_message nexts.FreeBus
+hears_an_offer : plans (says false (Some (to_target.Sdtr (pair 50 8)))) (plan tagged no_message nexts.FreeBus)
+    ≡ plan (record tagged { offer = Some (pair 50 8) }) no_message nexts.FreeBus
 hears_an_offer = refl
 
 abbrev hears_abort : MsgOut → Said → Plan
 hears_abort m said = plans (says false (Some m)) (plan said no_message nexts.FreeBus)
 
-hears_abort_of_all : hears_abort to_target.Abort tagged ≡ plan (record tagged { aborts = Some aborts.All }) no_message nexts.FreeBus
+hears_abort_of_all : hears_abort to_target.Abort tagged
+    ≡ plan (record tagged { aborts = Some aborts.All }) no_message nexts.FreeBus
 hears_abort_of_all = refl
 
-hears_abort_of_its_tag : hears_abort to_target.AbortTag tagged ≡ plan (record tagged { aborts = Some (aborts.Tag 9) }) no_message nexts.FreeBus
+hears_abort_of_its_tag : hears_abort to_target.AbortTag tagged
+    ≡ plan (record tagged { aborts = Some (aborts.Tag 9) }) no_message nexts.FreeBus
 hears_abort_of_its_tag = refl
 
-hears_abort_of_the_queue : hears_abort to_target.ClearQueue tagged ≡ plan (record tagged { aborts = Some aborts.WholeQueue }) no_message nexts.FreeBus
+hears_abort_of_the_queue : hears_abort to_target.ClearQueue tagged
+    ≡ plan (record tagged { aborts = Some aborts.WholeQueue }) no_message nexts.FreeBus
 hears_abort_of_the_queue = refl
 
-hears_a_device_reset : hears_abort to_target.DeviceReset tagged ≡ plan (record tagged { aborts = Some aborts.Device }) no_message nexts.FreeBus
+hears_a_device_reset : hears_abort to_target.DeviceReset tagged
+    ≡ plan (record tagged { aborts = Some aborts.Device }) no_message nexts.FreeBus
 hears_a_device_reset = refl
 
-hears_nothing_new : plans (says false (Some to_target.Nop)) (plan tagged no_message nexts.FreeBus) ≡ plan tagged no_message nexts.FreeBus
+hears_nothing_new : plans (says false (Some to_target.Nop)) (plan tagged no_message nexts.FreeBus)
+    ≡ plan tagged no_message nexts.FreeBus
 hears_nothing_new = refl
 
-hears_no_whole_message : plans (says false None) (plan tagged no_message nexts.FreeBus) ≡ plan tagged no_message nexts.FreeBus
+hears_no_whole_message : plans (says false None) (plan tagged no_message nexts.FreeBus)
+    ≡ plan tagged no_message nexts.FreeBus
 hears_no_whole_message = refl
 
 -- The number of a tag of any kind; 0 where none was named.
-hears_aborts_of_tags : (hears_abort to_target.AbortTag (record quiet { tag = tags.Head 4 })).said.aborts ∷ (hears_abort to_target.AbortTag (record quiet { tag = tags.Ordered 5 })).said.aborts ∷ (hears_abort to_target.AbortTag quiet).said.aborts ∷ [] ≡ Some (aborts.Tag 4) ∷ Some (aborts.Tag 5) ∷ Some (aborts.Tag 0) ∷ []
+hears_aborts_of_tags : (hears_abort to_target.AbortTag (record quiet { tag = tags.Head 4 })).said.aborts
+    ∷ (hears_abort to_target.AbortTag (record quiet { tag = tags.Ordered 5 })).said.aborts
+    ∷ (hears_abort to_target.AbortTag quiet).said.aborts ∷ []
+    ≡ Some (aborts.Tag 4) ∷ Some (aborts.Tag 5) ∷ Some (aborts.Tag 0) ∷ []
 hears_aborts_of_tags = refl
 
-hears_nothing_in_message_in : plans (record (tells (Some to_initiator.Disconnect)) { is_last = true; out = Some to_target.Abort }) (plan tagged named nexts.GoOn) ≡ plan tagged named nexts.GoOn
+hears_nothing_in_message_in : plans (record (tells (Some to_initiator.Disconnect)) {
+  is_last = true;
+  out = Some to_target.Abort;
+}) (plan tagged named nexts.GoOn) ≡ plan tagged named nexts.GoOn
 hears_nothing_in_message_in = refl
 
 -- The byte before crossed with ATN false: all bytes begin anew.
-hears_all_anew : plans (says true (Some (to_target.Identify true 4))) (record (plan tagged no_message nexts.FreeBus) { struck = true }) ≡ plan (record quiet { unit = Some 4 }) no_message nexts.FreeBus
+hears_all_anew : plans (says true (Some (to_target.Identify true 4)))
+    (record (plan tagged no_message nexts.FreeBus) { struck = true })
+    ≡ plan (record quiet { unit = Some 4 }) no_message nexts.FreeBus
 hears_all_anew = refl
 
-hears_a_struck_byte : plans (faults 0x0ea00) (plan tagged no_message nexts.FreeBus) ≡ record (plan tagged no_message nexts.FreeBus) { struck = true }
+hears_a_struck_byte : plans (faults 0x0ea00) (plan tagged no_message nexts.FreeBus)
+    ≡ record (plan tagged no_message nexts.FreeBus) { struck = true }
 hears_a_struck_byte = refl
 
 -- Of a byte to the initiator it learns by ATN alone.
@@ -348,10 +403,14 @@ plans_names = refl
 plans_first_message_out : plans (record (turns 0x10200 0x12a00) { begun = false }) silent ≡ silent
 plans_first_message_out = refl
 
-plans_messages : plan_after (turns 0x00a00 0x03a00) (leaving (Some phases.MessageIn) (message to_initiator.Disconnect) nexts.FreeBus) (record (plan tagged named nexts.GoOn) { struck = true }) ≡ plan quiet (message to_initiator.Disconnect) nexts.FreeBus
+plans_messages :
+    plan_after (turns 0x00a00 0x03a00) (leaving (Some phases.MessageIn) (message to_initiator.Disconnect) nexts.FreeBus)
+    (record (plan tagged named nexts.GoOn) { struck = true })
+    ≡ plan quiet (message to_initiator.Disconnect) nexts.FreeBus
 plans_messages = refl
 
--- ATN: why it asks for MESSAGE OUT, and the messages from the struck one on. IDENTIFY has one byte, SIMPLE QUEUE TAG two.
+-- ATN: why it asks for MESSAGE OUT, and the messages from the struck one on. IDENTIFY has one byte, SIMPLE QUEUE TAG
+-- two.
 abbrev asks : ℕ → ℕ → Plan
 asks lines offered = plans (record (turns lines 0x12a00) { offered = offered }) (plan tagged named nexts.GoOn)
 
@@ -457,7 +516,9 @@ other_commands_are_not_cut = refl
 abbrev counts_of : Policy → ℕ
 counts_of policy = runs_in_all policy reads
 
-counts_of_runs : counts_of policies.Never ∷ counts_of policies.Command ∷ counts_of (policies.Burst 2) ∷ counts_of (policies.Burst 5) ∷ counts_of (policies.NoSave 4) ∷ counts_of (policies.NoSave 5) ∷ [] ≡ 1 ∷ 1 ∷ 3 ∷ 1 ∷ 2 ∷ 1 ∷ []
+counts_of_runs : counts_of policies.Never ∷ counts_of policies.Command ∷ counts_of (policies.Burst 2)
+    ∷ counts_of (policies.Burst 5) ∷ counts_of (policies.NoSave 4) ∷ counts_of (policies.NoSave 5) ∷ []
+    ≡ 1 ∷ 1 ∷ 3 ∷ 1 ∷ 2 ∷ 1 ∷ []
 counts_of_runs = refl
 
 no_bytes_no_runs : runs_in_all (policies.Burst 2) (record reads { moved = 0 }) ≡ 0
@@ -468,10 +529,14 @@ length_of_the_last_run = refl
 
 -- ---- phases
 
-every_phase : phase_of (set_of 0x00200) ∷ phase_of (set_of 0x01200) ∷ phase_of (set_of 0x00a00) ∷ phase_of (set_of 0x01a00) ∷ phase_of (set_of 0x02a00) ∷ phase_of (set_of 0x03a00) ∷ [] ≡ phases.DataOut ∷ phases.DataIn ∷ phases.Command ∷ phases.Status ∷ phases.MessageOut ∷ phases.MessageIn ∷ []
+every_phase : phase_of (set_of 0x00200) ∷ phase_of (set_of 0x01200) ∷ phase_of (set_of 0x00a00)
+    ∷ phase_of (set_of 0x01a00) ∷ phase_of (set_of 0x02a00) ∷ phase_of (set_of 0x03a00) ∷ []
+    ≡ phases.DataOut ∷ phases.DataIn ∷ phases.Command ∷ phases.Status ∷ phases.MessageOut ∷ phases.MessageIn ∷ []
 every_phase = refl
 
-lines_of_every_phase : phase_lines phases.DataOut ∷ phase_lines phases.DataIn ∷ phase_lines phases.Command ∷ phase_lines phases.Status ∷ phase_lines phases.MessageOut ∷ phase_lines phases.MessageIn ∷ [] ≡ set_of 0x00200 ∷ set_of 0x01200 ∷ set_of 0x00a00 ∷ set_of 0x01a00 ∷ set_of 0x02a00 ∷ set_of 0x03a00 ∷ []
+lines_of_every_phase : phase_lines phases.DataOut ∷ phase_lines phases.DataIn ∷ phase_lines phases.Command
+    ∷ phase_lines phases.Status ∷ phase_lines phases.MessageOut ∷ phase_lines phases.MessageIn ∷ []
+    ≡ set_of 0x00200 ∷ set_of 0x01200 ∷ set_of 0x00a00 ∷ set_of 0x01a00 ∷ set_of 0x02a00 ∷ set_of 0x03a00 ∷ []
 lines_of_every_phase = refl
 
 moves_the_rest : next_data_phase (policies.Burst 2) (task false 2) 2 ≡ phases.DataIn
@@ -528,10 +593,12 @@ opened_for_a_command = refl
 opened_for_an_abort : opened burst (record tagged { aborts = Some aborts.All; offer = Some (pair 100 4) }) ≡ free
 opened_for_an_abort = refl
 
-opened_with_an_offer : opened burst (record tagged { offer = Some (pair 100 4) }) ≡ tell (message (to_initiator.Sdtr (pair 100 4))) nexts.Command
+opened_with_an_offer : opened burst (record tagged { offer = Some (pair 100 4) })
+    ≡ tell (message (to_initiator.Sdtr (pair 100 4))) nexts.Command
 opened_with_an_offer = refl
 
-opened_with_offset_255 : opened burst (record tagged { offer = Some (pair 100 255) }) ≡ tell (message to_initiator.Reject) nexts.Command
+opened_with_offset_255 : opened burst (record tagged { offer = Some (pair 100 255) })
+    ≡ tell (message to_initiator.Reject) nexts.Command
 opened_with_offset_255 = refl
 
 abbrev beginning : Option TargetDef
@@ -540,10 +607,13 @@ beginning = disk policies.Never true 30
 target_begins_to_negotiate : opened beginning tagged ≡ tell (message (to_initiator.Sdtr (pair 30 8))) nexts.Command
 target_begins_to_negotiate = refl
 
-target_answers_in_place_of_it : opened beginning (record tagged { offer = Some (pair 25 4) }) ≡ tell (message (to_initiator.Sdtr (pair 30 4))) nexts.Command
+target_answers_in_place_of_it : opened beginning (record tagged { offer = Some (pair 25 4) })
+    ≡ tell (message (to_initiator.Sdtr (pair 30 4))) nexts.Command
 target_answers_in_place_of_it = refl
 
-target_may_not_begin : leaving_by (serves beginning (record (plan tagged no_message nexts.FreeBus) { negotiates = false }) reads) true (set_of 0x02a00) ≡ goes phases.Command
+target_may_not_begin :
+    leaving_by (serves beginning (record (plan tagged no_message nexts.FreeBus) { negotiates = false }) reads) true
+    (set_of 0x02a00) ≡ goes phases.Command
 target_may_not_begin = refl
 
 -- ---- after ATN in MESSAGE IN
@@ -551,17 +621,22 @@ target_may_not_begin = refl
 abbrev refused : Messages → Task → Leaving
 refused m t = leaves_from 0x02a00 (asked_for causes.InMessage m) t
 
-answered_request : leaves_from 0x02a00 (record (plan (record quiet { offer = Some (pair 50 4) }) (message (to_initiator.Sdtr (pair 50 8))) nexts.Command) { cause = causes.InMessage }) (tried 2) ≡ goes phases.Command
+answered_request : leaves_from 0x02a00
+    (record (plan (record quiet { offer = Some (pair 50 4) }) (message (to_initiator.Sdtr (pair 50 8))) nexts.Command) {
+      cause = causes.InMessage;
+    }) (tried 2) ≡ goes phases.Command
 answered_request = refl
 
 -- The names of a process are sent again without count and limit.
 names_sent_again : refused named (tried 2) ≡ tell named nexts.GoOn
 names_sent_again = refl
 
-tag_sent_again : refused (message (to_initiator.SimpleTag 9)) (tried 0) ≡ tell (message (to_initiator.SimpleTag 9)) nexts.GoOn
+tag_sent_again : refused (message (to_initiator.SimpleTag 9)) (tried 0)
+    ≡ tell (message (to_initiator.SimpleTag 9)) nexts.GoOn
 tag_sent_again = refl
 
-message_sent_again : refused (message to_initiator.Disconnect) (tried 1) ≡ tell_counted (message to_initiator.Disconnect) nexts.GoOn
+message_sent_again : refused (message to_initiator.Disconnect) (tried 1)
+    ≡ tell_counted (message to_initiator.Disconnect) nexts.GoOn
 message_sent_again = refl
 
 message_given_up : refused (message to_initiator.Disconnect) (tried 2) ≡ free
@@ -570,10 +645,14 @@ message_given_up = refl
 no_message_given_up : refused no_message (tried 2) ≡ free
 no_message_given_up = refl
 
-message_sent_again_in_the_hold : refused (message to_initiator.Disconnect) held ≡ tell (message to_initiator.Disconnect) nexts.GoOn
+message_sent_again_in_the_hold : refused (message to_initiator.Disconnect) held
+    ≡ tell (message to_initiator.Disconnect) nexts.GoOn
 message_sent_again_in_the_hold = refl
 
-message_of_no_process : leaving_by (record (serves burst (asked_for causes.InMessage (message to_initiator.Disconnect)) reads) { task = None }) true (set_of 0x02a00) ≡ free
+message_of_no_process :
+    leaving_by (record (serves burst (asked_for causes.InMessage (message to_initiator.Disconnect)) reads) {
+      task = None;
+    }) true (set_of 0x02a00) ≡ free
 message_of_no_process = refl
 
 -- ---- after ATN in DATA IN and STATUS
@@ -632,7 +711,9 @@ told_with_attention = refl
 
 abbrev commanded : Bool → Arrival → Task → Leaving
 commanded struck arrival t =
-    leaving_by (record (serves burst (record (plan tagged no_message nexts.FreeBus) { struck = struck }) t) { arrival = arrival }) true (set_of 0x10a00)
+    leaving_by (record (serves burst (record (plan tagged no_message nexts.FreeBus) { struck = struck }) t) {
+      arrival = arrival;
+    }) true (set_of 0x10a00)
 
 command_again : commanded true arrivals.Queued (tried 1) ≡ restored_counted nexts.Command
 command_again = refl
@@ -663,7 +744,8 @@ command_waits = refl
 abbrev ran : Leaving → Leaving
 ran l = record l { done = true }
 
-run_before_another : leaves_from 0x01200 silent (task false 1) ≡ ran (tell (messages to_initiator.SavePointer to_initiator.Disconnect) nexts.FreeBus)
+run_before_another : leaves_from 0x01200 silent (task false 1)
+    ≡ ran (tell (messages to_initiator.SavePointer to_initiator.Disconnect) nexts.FreeBus)
 run_before_another = refl
 
 last_run : leaves_from 0x01200 silent (task false 2) ≡ ran (goes phases.Status)
@@ -672,10 +754,12 @@ last_run = refl
 run_with_attention : leaves_from 0x11200 silent (task false 1) ≡ goes phases.MessageOut
 run_with_attention = refl
 
-part_before_all : leaving_by (serves (disk (policies.NoSave 2) false 50) silent reads) true (set_of 0x01200) ≡ ran (tell (message to_initiator.Disconnect) nexts.FreeBus)
+part_before_all : leaving_by (serves (disk (policies.NoSave 2) false 50) silent reads) true (set_of 0x01200)
+    ≡ ran (tell (message to_initiator.Disconnect) nexts.FreeBus)
 part_before_all = refl
 
-run_to_the_target : leaves_from 0x00200 silent (task true 1) ≡ ran (tell (messages to_initiator.SavePointer to_initiator.Disconnect) nexts.FreeBus)
+run_to_the_target : leaves_from 0x00200 silent (task true 1)
+    ≡ ran (tell (messages to_initiator.SavePointer to_initiator.Disconnect) nexts.FreeBus)
 run_to_the_target = refl
 
 last_run_to_the_target : leaves_from 0x10200 silent (task true 2) ≡ ran (goes phases.Status)
@@ -721,7 +805,8 @@ gives_a_byte_of_its_run = refl
 gives_a_byte_of_the_run_after : phase_byte (bytewise silent (three 1)) phases.DataIn named 1 0 ≡ 23
 gives_a_byte_of_the_run_after = refl
 
-gives_a_byte_at_a_place : phase_byte (serves (disk policies.Never false 50) silent (three 0)) phases.DataIn named 0 2 ≡ 23
+gives_a_byte_at_a_place : phase_byte (serves (disk policies.Never false 50) silent (three 0)) phases.DataIn named 0 2
+    ≡ 23
 gives_a_byte_at_a_place = refl
 
 gives_all_again : phase_byte (serves (disk (policies.NoSave 1) false 50) silent (three 1)) phases.DataIn named 0 1 ≡ 22
@@ -769,24 +854,33 @@ block_goes_on = refl
 has_whole_block : follows silent reads (rose 6 6) false phases.Command ≡ false
 has_whole_block = refl
 
-block_is_struck : follows (record silent { struck = true }) (record reads { whole = false }) (rose 5 5) false phases.Command ≡ false
+block_is_struck :
+    follows (record silent { struck = true }) (record reads { whole = false }) (rose 5 5) false phases.Command ≡ false
 block_is_struck = refl
 
-one_status_byte : follows silent reads (rose 0 0) false phases.Status ∷ follows silent reads (rose 1 1) false phases.Status ∷ [] ≡ true ∷ false ∷ []
+one_status_byte :
+    follows silent reads (rose 0 0) false phases.Status ∷ follows silent reads (rose 1 1) false phases.Status ∷ []
+    ≡ true ∷ false ∷ []
 one_status_byte = refl
 
 -- A run of 32 bytes: to the initiator by REQ, to the target by ACK.
-run_to_the_initiator_goes_on : follows silent reads (rose 31 30) true phases.DataIn ∷ follows silent reads (rose 32 31) true phases.DataIn ∷ [] ≡ true ∷ false ∷ []
+run_to_the_initiator_goes_on :
+    follows silent reads (rose 31 30) true phases.DataIn ∷ follows silent reads (rose 32 31) true phases.DataIn ∷ []
+    ≡ true ∷ false ∷ []
 run_to_the_initiator_goes_on = refl
 
-run_to_the_target_goes_on : follows silent (task true 0) (rose 32 31) true phases.DataOut ∷ follows silent (task true 0) (rose 32 32) true phases.DataOut ∷ [] ≡ true ∷ false ∷ []
+run_to_the_target_goes_on : follows silent (task true 0) (rose 32 31) true phases.DataOut
+    ∷ follows silent (task true 0) (rose 32 32) true phases.DataOut ∷ []
+    ≡ true ∷ false ∷ []
 run_to_the_target_goes_on = refl
 
 -- No process is served.
 abbrev idle : Serving
 idle = record (bytewise silent (three 1)) { task = None }
 
-idle_has_no_bytes : follows_in idle (rose 0 0) false phases.Command ∷ follows_in idle (rose 0 0) false phases.DataIn ∷ follows_in idle (rose 0 0) false phases.DataOut ∷ [] ≡ false ∷ false ∷ false ∷ []
+idle_has_no_bytes : follows_in idle (rose 0 0) false phases.Command
+    ∷ follows_in idle (rose 0 0) false phases.DataIn ∷ follows_in idle (rose 0 0) false phases.DataOut ∷ []
+    ≡ false ∷ false ∷ false ∷ []
 idle_has_no_bytes = refl
 
 idle_gives_nothing : phase_byte idle phases.DataIn named 0 0 ∷ phase_byte idle phases.Status named 0 0 ∷ [] ≡ 0 ∷ 0 ∷ []
@@ -801,7 +895,9 @@ leaves_to_the_status_byte : lines_to true (ran (goes phases.Status)) (three 2) (
 unfolding ones
 leaves_to_the_status_byte = refl
 
-leaves_to_a_message : lines_to true (tell (message to_initiator.CommandComplete) nexts.FreeBus) (three 2) (Some phases.MessageIn) ≡ 0x03b00
+leaves_to_a_message :
+    lines_to true (tell (message to_initiator.CommandComplete) nexts.FreeBus) (three 2) (Some phases.MessageIn)
+    ≡ 0x03b00
 unfolding ones
 leaves_to_a_message = refl
 
@@ -836,21 +932,34 @@ sends_its_data = refl
 sends_no_further_data : byte_to_send (set_of 0x04200) (speech 1) (record sending { moved = 3 }) ≡ 0
 sends_no_further_data = refl
 
-has_words_to_send : answering_by (speech 1) sending (set_of 0x16a00) None 70 ≡ record { byte = 0x20; attends = true; speaks = false; raised = 70 }
+has_words_to_send : answering_by (speech 1) sending (set_of 0x16a00) None 70
+    ≡ record { byte = 0x20; attends = true; speaks = false; raised = 70 }
 has_words_to_send = refl
 
-has_to_answer : answering_by (speech 2) sending (set_of 0x07a00) (Some ends.Target) 70 ≡ record { byte = 32; attends = false; speaks = true; raised = 70 }
+has_to_answer : answering_by (speech 2) sending (set_of 0x07a00) (Some ends.Target) 70
+    ≡ record { byte = 32; attends = false; speaks = true; raised = 70 }
 has_to_answer = refl
 
-has_asked_itself : answering_by (speech 2) sending (set_of 0x07a00) (Some ends.Initiator) 70 ≡ record { byte = 32; attends = false; speaks = false; raised = 70 }
+has_asked_itself : answering_by (speech 2) sending (set_of 0x07a00) (Some ends.Initiator) 70
+    ≡ record { byte = 32; attends = false; speaks = false; raised = 70 }
 has_asked_itself = refl
 
 -- ---- how bytes cross
 
-pulsed_data : pace_by true (set_of 0x01200) (pair 50 8) (host true 50) ≡ record { pulsed = true; offset = 8; times = record { period = 200; assertion = 90; negation = 90; set_up = 55; hold = 100 }; lag = 40 }
+pulsed_data : pace_by true (set_of 0x01200) (pair 50 8) (host true 50) ≡ record {
+  pulsed = true;
+  offset = 8;
+  times = record { period = 200; assertion = 90; negation = 90; set_up = 55; hold = 100 };
+  lag = 40;
+}
 pulsed_data = refl
 
-fast_data : pace_by true (set_of 0x00200) (pair 49 8) None ≡ record { pulsed = true; offset = 8; times = record { period = 196; assertion = 30; negation = 30; set_up = 25; hold = 35 }; lag = 0 }
+fast_data : pace_by true (set_of 0x00200) (pair 49 8) None ≡ record {
+  pulsed = true;
+  offset = 8;
+  times = record { period = 196; assertion = 30; negation = 30; set_up = 25; hold = 35 };
+  lag = 0;
+}
 fast_data = refl
 
 asynchronous_data : (pace_by true (set_of 0x01200) (pair 50 0) (host true 50)).pulsed ≡ false
@@ -868,15 +977,17 @@ not_yet_pulsed = refl
 -- ---- the target: the byte, whether one follows, where it goes, and the seek time
 
 abbrev offering : Arrival → Plan → Bool → ℕ → ℕ → Offering
-offering arrival p pulsed lines requests =
-    offering_by (record (bytewise p (three 1)) { arrival = arrival }) true pulsed (set_of lines) (rose requests requests)
+offering arrival p pulsed lines requests = offering_by (record (bytewise p (three 1)) { arrival = arrival }) true pulsed
+    (set_of lines) (rose requests requests)
 
 -- A run is left after this one: SAVE DATA POINTER, 02.
-offers_a_byte : offering arrivals.Queued silent false 0x01200 0 ≡ record { byte = 22; follows = true; to = set_of 0x03a02; wait = 0 }
+offers_a_byte : offering arrivals.Queued silent false 0x01200 0
+    ≡ record { byte = 22; follows = true; to = set_of 0x03a02; wait = 0 }
 unfolding ones
 offers_a_byte = refl
 
-seeks_in_command : offering arrivals.AtOnce silent false 0x00a00 6 ≡ record { byte = 0; follows = false; to = set_of 0x01200; wait = 500 }
+seeks_in_command : offering arrivals.AtOnce silent false 0x00a00 6
+    ≡ record { byte = 0; follows = false; to = set_of 0x01200; wait = 500 }
 seeks_in_command = refl
 
 seeks_not_again : (offering arrivals.AtOnce silent false 0x01200 1).wait ≡ 0
@@ -890,8 +1001,12 @@ seeks_while_disconnected : (offering arrivals.Queued silent false 0x00a00 6).wai
 seeks_while_disconnected = refl
 
 -- By pulses a run to the target has a byte for each REQ.
-pulses_follow : (offering_by (bytewise silent (record (three 0) { writes = true })) true true (set_of 0x00200) (rose 0 0)).follows ≡ true
+pulses_follow :
+    (offering_by (bytewise silent (record (three 0) { writes = true })) true true (set_of 0x00200) (rose 0 0)).follows
+    ≡ true
 pulses_follow = refl
 
-pulses_do_not_follow : (offering_by (bytewise silent (record (three 0) { writes = true })) true true (set_of 0x00200) (rose 1 0)).follows ≡ false
+pulses_do_not_follow :
+    (offering_by (bytewise silent (record (three 0) { writes = true })) true true (set_of 0x00200) (rose 1 0)).follows
+    ≡ false
 pulses_do_not_follow = refl

@@ -8,11 +8,13 @@ use Rattle.scenario.specs.declared.value.TargetDef.{TargetDef}
 use Rattle.bus_dialogue.specs.declared.exchange.Leaving.{Leaving}
 use Rattle.scenario.specs.bus_base.specs.declared.Event.{Event}
 
-pub task_not : (x : Option Task) (f : Task → Leaving) → ((t : Task) → is_status_next (f t).to ≡ false) → is_status_next (with_task x f).to ≡ false
+pub task_not : (x : Option Task) (f : Task → Leaving) → ((t : Task) → is_status_next (f t).to ≡ false)
+    → is_status_next (with_task x f).to ≡ false
 task_not None f h = refl
 task_not (Some t) f h = h t
 
-pub recovery_not : (def : Option TargetDef) (t : Task) (again gives : Leaving) → is_status_next again.to ≡ false → is_status_next gives.to ≡ false → is_status_next (recovery def t again gives).to ≡ false
+pub recovery_not : (def : Option TargetDef) (t : Task) (again gives : Leaving) → is_status_next again.to ≡ false
+    → is_status_next gives.to ≡ false → is_status_next (recovery def t again gives).to ≡ false
 recovery_not def t again gives e f = go t.in_hold
   where
     limited : (y : Bool) → is_status_next (if y then record again { counts = true } else gives).to ≡ false

@@ -15,7 +15,8 @@ use Rattle.bus_reactions.specs.bus_lines.specs.Handshakes.{Handshakes, handshake
 use Rattle.bus_story.specs.bus_phases.specs.declared.agreements.Agreements.{Agreements}
 use Rattle.bus_story.specs.bus_phases.specs.declared.dialogue.Dialogue.{Dialogue}
 use Rattle.bus_story.specs.bus_phases.specs.declared.spoken.Spoken.{Spoken}
-use Rattle.bus_story.specs.bus_phases.specs.Dialogue.{asynchronous, byte_crosses, closed_agreement_by, dialogue_after, phase_begins, takes_data, agreed}
+use Rattle.bus_story.specs.bus_phases.specs.Dialogue.{asynchronous, byte_crosses, closed_agreement_by, dialogue_after}
+use Rattle.bus_story.specs.bus_phases.specs.Dialogue.{phase_begins, takes_data, agreed}
 use Rattle.bus_story.specs.bus_phases.specs.Tables.{AreAgreements}
 use Rattle.bus_story.specs.bus_phases.proofs.Agreeing.{agreeing}
 use Rattle.bus_dialogue.specs.declared.exchange.Hearing.{Hearing}
@@ -56,50 +57,59 @@ data_byte d c h =
     let cd = not-true _ both.1 in
     λ i. byte_crosses d (record c { before = record c.before { msg = msg i; cd = cd i } })
 
-no_message : (d : Dialogue) (c : Change) (r : Option ℕ) → changes_phase c ≡ false → (is_none r || is_data c.before) ≡ true
+no_message : (d : Dialogue) (c : Change) (r : Option ℕ)
+    → changes_phase c ≡ false → (is_none r || is_data c.before) ≡ true
     → (if is_some r then byte_crosses d c else if changes_phase c then phase_begins d else d) ≡ takes_data d (is_some r)
 no_message d c None ep h = λ i. if ep i then phase_begins d else d
 no_message d c (Some x) ep h = data_byte d c h
 
-same_messages : (d : Dialogue) (b a : Option Connection) (f : ℕ → ℕ → Agreement) (c : Change) (r : Option ℕ) → is_some b ≡ true → is_some a ≡ true → changes_phase c ≡ false
-    → (is_none r || is_data c.before) ≡ true → r ≡ receiver_of b c → takes_data d (is_some r) ≡ dialogue_after d b a f c
+same_messages : (d : Dialogue) (b a : Option Connection) (f : ℕ → ℕ → Agreement) (c : Change) (r : Option ℕ)
+    → is_some b ≡ true → is_some a ≡ true → changes_phase c ≡ false → (is_none r || is_data c.before) ≡ true
+    → r ≡ receiver_of b c → takes_data d (is_some r) ≡ dialogue_after d b a f c
 same_messages d None a f c r eb ea ep h er = absurd cc
 same_messages d (Some m) None f c r eb ea ep h er = absurd cc
-same_messages d (Some m) (Some n) f c r eb ea ep h er =
-    sym (no_message d c r ep h) ∙ (λ i. if is_some (er i) then byte_crosses d c else if changes_phase c then phase_begins d else d)
+same_messages d (Some m) (Some n) f c r eb ea ep h er = sym (no_message d c r ep h)
+    ∙ (λ i. if is_some (er i) then byte_crosses d c else if changes_phase c then phase_begins d else d)
 
-pub keeps_messages : (d : Dialogue) (f : ℕ → ℕ → Agreement) (e : RowEffect) → is_within_phase e ≡ true → e.receiver ≡ receiver_of e.before e.change
+pub keeps_messages : (d : Dialogue) (f : ℕ → ℕ → Agreement) (e : RowEffect)
+    → is_within_phase e ≡ true → e.receiver ≡ receiver_of e.before e.change
     → takes_data d (is_some e.receiver) ≡ dialogue_after d e.before e.after f e.change
 keeps_messages d f e h er =
     let w = within e h in
     same_messages d e.before e.after f e.change e.receiver w.before w.after w.phase w.byte er
 
-stays_agreed : (n : Option Connection) (s : Spoken) (i t : ℕ) (was : Agreement) → was ≡ closed_agreement_by n true s i t was
+stays_agreed : (n : Option Connection) (s : Spoken) (i t : ℕ) (was : Agreement)
+    → was ≡ closed_agreement_by n true s i t was
 stays_agreed None s i t was = refl
 stays_agreed (Some n) s i t was = refl
 
-pub keeps_agreements : (f : ℕ → ℕ → Agreement) (e : RowEffect) (s : Spoken) (a : Agreements) → is_within_phase e ≡ true → AreAgreements f a → AreAgreements (agreed_after e s f) a
+pub keeps_agreements : (f : ℕ → ℕ → Agreement) (e : RowEffect) (s : Spoken) (a : Agreements) → is_within_phase e ≡ true
+    → AreAgreements f a → AreAgreements (agreed_after e s f) a
 keeps_agreements f e s a h are =
     let w = within e h in
-    agreeing f (agreed_after e s f) a
-    (λ i t. stays_agreed e.before s i t (f i t) ∙ (λ j. if sym w.rst j then asynchronous else closed_agreement_by e.before (sym w.bsy j) s i t (f i t))) are
+    agreeing f (agreed_after e s f) a (λ i t. stays_agreed e.before s i t (f i t)
+    ∙ (λ j. if sym w.rst j then asynchronous else closed_agreement_by e.before (sym w.bsy j) s i t (f i t))) are
 
-same_begun : (was : Bool) (b a : Option Connection) (c : Change) → is_some b ≡ true → is_some a ≡ true → changes_phase c ≡ false → was ≡ begun_after was b a c
+same_begun : (was : Bool) (b a : Option Connection) (c : Change) → is_some b ≡ true → is_some a ≡ true
+    → changes_phase c ≡ false → was ≡ begun_after was b a c
 same_begun was None a c eb ea ep = absurd cc
 same_begun was (Some m) None c eb ea ep = absurd cc
 same_begun was (Some m) (Some n) c eb ea ep = λ i. sym ep i || was
 
-pub keeps_begun : (was : Bool) (e : RowEffect) → is_within_phase e ≡ true → was ≡ begun_after was e.before e.after e.change
+pub keeps_begun : (was : Bool) (e : RowEffect) → is_within_phase e ≡ true
+    → was ≡ begun_after was e.before e.after e.change
 keeps_begun was e h =
     let w = within e h in
     same_begun was e.before e.after e.change w.before w.after w.phase
 
 -- ---- all of it
 
-pub goes_on : (rows : List Row) (row : Row) (o : ObserverValue) (v : BusViewValue) (k : Handshakes) (e : RowEffect) (x : Hearing) (w : Bool) (g : Agreements) (d : Dialogue)
+pub goes_on : (rows : List Row) (row : Row) (o : ObserverValue) (v : BusViewValue)
+    (k : Handshakes) (e : RowEffect) (x : Hearing) (w : Bool) (g : Agreements) (d : Dialogue)
     → IsObserverOf rows o → IsBusViewOf (row ∷ rows) v → k ≡ handshakes rows → e ≡ effect (row ∷ rows)
     → x ≡ hearing_by o.dialogue o.begun k.requests k.struck e → w ≡ begun_after o.begun e.before e.after e.change
-    → AreAgreements (agreed_after e o.dialogue.heard.now (agreed rows)) g → d ≡ dialogue_after o.dialogue e.before e.after (agreed rows) e.change
+    → AreAgreements (agreed_after e o.dialogue.heard.now (agreed rows)) g
+    → d ≡ dialogue_after o.dialogue e.before e.after (agreed rows) e.change
     → IsObserverOf (row ∷ rows) (record { view = v; agreed = g; dialogue = d; begun = w; hearing = x })
 goes_on rows row o v k e x w g d h hv ek ee ex ew hg ed = record {
   view_is = hv;

@@ -32,14 +32,18 @@ test_unit_ready at unit tag = record {
 }
 
 abbrev own : ℕ → CmdDef → Bool → Bool → OwnCommand
-own n c sent over = record { number = n; def = c; sent = sent; over = over; sense_sent = false; sense_over = false; tries = 0 }
+own n c sent over =
+    record { number = n; def = c; sent = sent; over = over; sense_sent = false; sense_over = false; tries = 0 }
 
--- It may have two commands open; the second of its commands was sent, the others are still to be sent, from 1000 and 2000 on.
+-- It may have two commands open; the second of its commands was sent, the others are still to be sent, from 1000 and
+-- 2000 on.
 abbrev book : Book
 book = record {
   aborts = [];
   sense = None;
-  commands = own 2 (test_unit_ready 500 0 (tags.Simple 1)) true false ∷ own 5 (test_unit_ready 1000 0 (tags.Simple 2)) false false ∷ own 6 (test_unit_ready 2000 0 (tags.Simple 3)) false false ∷ [];
+  commands = own 2 (test_unit_ready 500 0 (tags.Simple 1)) true false
+      ∷ own 5 (test_unit_ready 1000 0 (tags.Simple 2)) false false
+      ∷ own 6 (test_unit_ready 2000 0 (tags.Simple 3)) false false ∷ [];
   most = 2;
 }
 
@@ -59,17 +63,30 @@ wants_from_its_time = refl
 one_open_at_most : item_by (record book { most = 1 }) 1000 ≡ None
 one_open_at_most = refl
 
-tag_in_use : item_by (record book { commands = own 2 (test_unit_ready 500 0 (tags.Simple 1)) true false ∷ own 5 (test_unit_ready 1000 0 (tags.Head 1)) false false ∷ [] }) 1000 ≡ None
+tag_in_use : item_by (record book {
+  commands = own 2 (test_unit_ready 500 0 (tags.Simple 1)) true false
+      ∷ own 5 (test_unit_ready 1000 0 (tags.Head 1)) false false ∷ [];
+}) 1000 ≡ None
 tag_in_use = refl
 
-untagged_beside_another : item_by (record book { commands = own 2 (test_unit_ready 500 0 (tags.Simple 1)) true false ∷ own 5 (test_unit_ready 1000 0 tags.Untagged) false false ∷ [] }) 1000 ≡ None
+untagged_beside_another : item_by (record book {
+  commands = own 2 (test_unit_ready 500 0 (tags.Simple 1)) true false
+      ∷ own 5 (test_unit_ready 1000 0 tags.Untagged) false false ∷ [];
+}) 1000 ≡ None
 untagged_beside_another = refl
 
-another_unit : item_by (record book { commands = own 2 (test_unit_ready 500 0 (tags.Simple 1)) true false ∷ own 5 (test_unit_ready 1000 3 (tags.Simple 1)) false false ∷ [] }) 1000 ≡ Some (command_item 5)
+another_unit : item_by (record book {
+  commands = own 2 (test_unit_ready 500 0 (tags.Simple 1)) true false
+      ∷ own 5 (test_unit_ready 1000 3 (tags.Simple 1)) false false ∷ [];
+}) 1000 ≡ Some (command_item 5)
 another_unit = refl
 
 -- The first that is still to be sent waits for room, and those after it wait for it.
-over_is_over : item_by (record book { commands = own 2 (test_unit_ready 500 0 (tags.Simple 1)) true true ∷ own 5 (test_unit_ready 1000 0 (tags.Simple 2)) false true ∷ own 6 (test_unit_ready 2000 0 (tags.Simple 3)) false false ∷ [] }) 3000 ≡ Some (command_item 6)
+over_is_over : item_by (record book {
+  commands = own 2 (test_unit_ready 500 0 (tags.Simple 1)) true true
+      ∷ own 5 (test_unit_ready 1000 0 (tags.Simple 2)) false true
+      ∷ own 6 (test_unit_ready 2000 0 (tags.Simple 3)) false false ∷ [];
+}) 3000 ≡ Some (command_item 6)
 over_is_over = refl
 
 -- An abort that is due goes first, then an automatic REQUEST SENSE.
@@ -91,7 +108,15 @@ wants_the_sense_always = refl
 -- ---- what a target has ready
 
 abbrev process_at : ℕ → Process
-process_at unit = record { id = record { command = 1; sense = false }; initiator = 7; target = 0; unit = unit; tag = tags.Untagged; cdb = []; sent = [] }
+process_at unit = record {
+  id = record { command = 1; sense = false };
+  initiator = 7;
+  target = 0;
+  unit = unit;
+  tag = tags.Untagged;
+  cdb = [];
+  sent = [];
+}
 
 abbrev ready : ℕ → ℕ → Option Ready
 ready unit time = ready_in false (Some (record { process = process_at unit; reply = None })) time
@@ -120,22 +145,30 @@ link = record { initiator = 7; target = 3; began = 5380; reselected = false }
 abbrev serving : Plan → Serving
 serving plan = record { def = None; plan = plan; task = None; given = []; arrival = arrivals.Queued }
 
-command_arrives : leaving_events (serving no_plan) link true true false phases.Command (Some this) ≡ events.Accept this ∷ []
+command_arrives : leaving_events (serving no_plan) link true true false phases.Command (Some this)
+    ≡ events.Accept this ∷ []
 command_arrives = refl
 
-struck_command_does_not : leaving_events (serving (record no_plan { struck = true })) link true true false phases.Command (Some this) ≡ []
+struck_command_does_not :
+    leaving_events (serving (record no_plan { struck = true })) link true true false phases.Command (Some this) ≡ []
 struck_command_does_not = refl
 
-refused_command : leaving_events (record (serving no_plan) { arrival = arrivals.Refused }) link true true false phases.Command (Some this) ≡ events.Refuse this ∷ []
+refused_command : leaving_events
+    (record (serving no_plan) { arrival = arrivals.Refused }) link true true false phases.Command (Some this)
+    ≡ events.Refuse this ∷ []
 refused_command = refl
 
-lost_in_status : leaving_events (serving no_plan) link true false false phases.Status (Some this) ≡ events.Lost this ∷ []
+lost_in_status : leaving_events (serving no_plan) link true false false phases.Status (Some this)
+    ≡ events.Lost this ∷ []
 lost_in_status = refl
 
 bus_freed_after_messages : leaving_events (serving no_plan) link true false false phases.MessageIn (Some this) ≡ []
 bus_freed_after_messages = refl
 
-abort_of_a_tag : leaving_events (serving (record no_plan { said = record nothing_heard { unit = Some 2; tag = tags.Simple 9; aborts = Some (aborts.Tag 9) } })) link true false false phases.MessageOut None ≡ events.Aborted 7 3 2 (aborts.Tag 9) ∷ []
+abort_of_a_tag : leaving_events (serving (record no_plan {
+  said = record nothing_heard { unit = Some 2; tag = tags.Simple 9; aborts = Some (aborts.Tag 9) };
+})) link true false false phases.MessageOut None
+    ≡ events.Aborted 7 3 2 (aborts.Tag 9) ∷ []
 abort_of_a_tag = refl
 
 first_phase_shows_nothing : leaving_events (serving no_plan) link false true false phases.MessageOut (Some this) ≡ []

@@ -17,8 +17,8 @@ is_never policies.Command = false
 is_never (policies.Burst most) = false
 is_never (policies.NoSave most) = false
 
--- At a full queue it is refused. Of a target that never disconnects, at a unit with no current process, an empty hold and
--- nothing that waits, it becomes current at once and runs in this connection.
+-- At a full queue it is refused. Of a target that never disconnects, at a unit with no current process, an empty hold
+-- and nothing that waits, it becomes current at once and runs in this connection.
 abbrev pub arrival_in : Policy → Room → Arrival
 arrival_in policy room =
     if room.full then arrivals.Refused

@@ -30,8 +30,8 @@ abbrev pub arrival_events : ProcId → Plan → Arrival → Phase → List Event
 arrival_events id plan arrival phases.Command = if plan.struck then [] else arrival_event id arrival ∷ []
 arrival_events id plan arrival _ = []
 
--- With the first STATUS phase: it gave up what it could not take (SCSI PARITY ERROR) or could not give (INITIATOR DETECTED
--- ERROR MESSAGE RECEIVED), or it was refused, or it runs.
+-- With the first STATUS phase: it gave up what it could not take (SCSI PARITY ERROR) or could not give (INITIATOR
+-- DETECTED ERROR MESSAGE RECEIVED), or it was refused, or it runs.
 abbrev pub detected_events : Cause → ProcId → List Event
 detected_events causes.InData id = events.Fail id INITIATOR_DETECTED_ERROR ∷ []
 detected_events _ id = events.Run id ∷ []
@@ -41,8 +41,10 @@ arrival_run_events arrivals.Refused id = []
 arrival_run_events _ id = events.Run id ∷ []
 
 abbrev pub reply_events : ProcId → Plan → Arrival → Phase → List Event
-reply_events id plan arrival phases.Command = if plan.struck then events.Fail id PARITY_ERROR ∷ [] else arrival_run_events arrival id
-reply_events id plan arrival phases.DataOut = if plan.struck then events.Fail id PARITY_ERROR ∷ [] else events.Run id ∷ []
+reply_events id plan arrival phases.Command =
+    if plan.struck then events.Fail id PARITY_ERROR ∷ [] else arrival_run_events arrival id
+reply_events id plan arrival phases.DataOut =
+    if plan.struck then events.Fail id PARITY_ERROR ∷ [] else events.Run id ∷ []
 reply_events id plan arrival phases.MessageOut = detected_events plan.cause id
 reply_events id plan arrival _ = events.Run id ∷ []
 
@@ -69,8 +71,8 @@ newest_with (e ∷ after) before = e ∷ before
 
 abbrev pub turn_events : Serving → Bool → Phase → ProcId → List Event
 turn_events v attention phase id =
-    newest_with (if is_status_next (phase_leaving v attention phase).to && not (has_replied v.task) then reply_events id v.plan v.arrival phase else [])
-    (arrival_events id v.plan v.arrival phase)
+    newest_with (if is_status_next (phase_leaving v attention phase).to && not (has_replied v.task)
+    then reply_events id v.plan v.arrival phase else []) (arrival_events id v.plan v.arrival phase)
 
 abbrev pub turn_events_if : Serving → Bool → Phase → Option ProcId → List Event
 turn_events_if v attention phase None = []
@@ -98,8 +100,8 @@ connection_end_events n plan phases.MessageOut id = after_opening_events n plan.
 connection_end_events n plan phases.MessageIn id = []
 connection_end_events n plan _ id = loss_events id
 
--- ---- the row with which it leaves a phase; the connection stands after it or not. Nothing is shown as the first phase of
--- all begins, or where the bus is left before it.
+-- ---- the row with which it leaves a phase; the connection stands after it or not. Nothing is shown as the first phase
+-- of all begins, or where the bus is left before it.
 abbrev pub leaving_events : Serving → Connection → Bool → Bool → Bool → Phase → Option ProcId → List Event
 leaving_events v n begun stands attention phase id =
     if not begun then []

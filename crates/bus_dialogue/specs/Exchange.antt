@@ -1,5 +1,6 @@
 -- What the two devices of a connection have to say to each other.
-use Rattle.std.specs.Prelude.{ℕ, ◌+◌, Bool, true, false, List, [], ◌++◌, length, slice_index_or, Option, Some, None, nat_lt, if◌then◌else◌}
+use Rattle.std.specs.Prelude.{ℕ, ◌+◌, Bool, true, false, List, [], ◌++◌, length, slice_index_or, Option, Some, None}
+use Rattle.std.specs.Prelude.{nat_lt, if◌then◌else◌}
 use Rattle.bus_story.specs.bus_trace.specs.declared.agreements.Agreement.{Agreement}
 use Rattle.bus_story.specs.msg_grammar.specs.declared.message.MsgOut.{MsgOut}
 use Rattle.bus_story.specs.msg_grammar.specs.declared.message.MsgOut.TheVariants as to_target
@@ -16,8 +17,8 @@ use Rattle.bus_dialogue.specs.declared.exchange.Cause.TheVariants as causes
 use Rattle.bus_dialogue.specs.declared.exchange.Next.TheVariants as nexts
 use Rattle.bus_story.specs.bus_phases.specs.Dialogue.{asynchronous}
 
--- At the initiator: what it says in MESSAGE OUT, the place of its next byte, and what the target has last asked for by a
--- synchronous data transfer request.
+-- At the initiator: what it says in MESSAGE OUT, the place of its next byte, and what the target has last asked for by
+-- a synchronous data transfer request.
 pub record Speech : Type 0 where
   pub words : List ℕ
   pub place : ℕ
@@ -45,7 +46,14 @@ abbrev pub nothing_heard : Said
 nothing_heard = record { unit = None; tag = tags.Untagged; aborts = None; offer = None }
 
 abbrev pub no_plan : Plan
-no_plan = record { negotiates = false; messages = no_messages; next = nexts.FreeBus; cause = causes.Selected; said = nothing_heard; struck = false }
+no_plan = record {
+  negotiates = false;
+  messages = no_messages;
+  next = nexts.FreeBus;
+  cause = causes.Selected;
+  said = nothing_heard;
+  struck = false;
+}
 
 abbrev pub no_exchange : Exchange
 no_exchange = record { begun = false; speech = no_speech; plan = no_plan }

@@ -1,5 +1,6 @@
 -- What a row tells the two ends of the connection that stands, by the rows before it.
-use Rattle.std.specs.Prelude.{ℕ, Bool, false, not, ◌&&◌, ◌||◌, List, [], ◌∷◌, Option, Some, None, is_some, is_none, if◌then◌else◌}
+use Rattle.std.specs.Prelude.{ℕ, Bool, false, not, ◌&&◌, ◌||◌, List, [], ◌∷◌, Option, Some, None, is_some, is_none}
+use Rattle.std.specs.Prelude.{if◌then◌else◌}
 use Rattle.bus_story.specs.bus_trace.specs.declared.Row.{Row}
 use Rattle.bus_story.specs.bus_trace.specs.declared.changes.Change.{Change}
 use Rattle.bus_story.specs.bus_trace.specs.declared.connection.Connection.{Connection}
@@ -18,8 +19,8 @@ use Rattle.bus_dialogue.specs.declared.exchange.Hearing.{Hearing}
 
 -- ---- a phase has begun in the connection that stands
 
--- Where a reselection began it, with its first row, in which the target also sets the phase lines (6.1.4); else with the
--- first row that changes them.
+-- Where a reselection began it, with its first row, in which the target also sets the phase lines (6.1.4); else with
+-- the first row that changes them.
 abbrev pub begun_after : Bool → Option Connection → Option Connection → Change → Bool
 begun_after was before None c = false
 begun_after was None (Some n) c = n.reselected
@@ -45,8 +46,8 @@ is_within_phase e =
 
 -- ---- what a row tells
 
--- Of before the row: what the messages say, whether a phase had begun, how often REQ had risen in it, and whether a fault
--- struck the byte of the last of these.
+-- Of before the row: what the messages say, whether a phase had begun, how often REQ had risen in it, and whether a
+-- fault struck the byte of the last of these.
 abbrev pub hearing_by : Dialogue → Bool → ℕ → Bool → RowEffect → Hearing
 hearing_by d begun offered struck e = record {
   change = e.change;
@@ -62,7 +63,8 @@ hearing_by d begun offered struck e = record {
 
 -- What this row tells after these rows.
 abbrev pub hearing : List Row → Row → Hearing
-hearing rows row = hearing_by (dialogue rows) (begun rows) (handshakes rows).requests (handshakes rows).struck (effect (row ∷ rows))
+hearing rows row =
+    hearing_by (dialogue rows) (begun rows) (handshakes rows).requests (handshakes rows).struck (effect (row ∷ rows))
 
 -- What the last row told; before any row, nothing.
 abbrev pub no_hearing : Hearing

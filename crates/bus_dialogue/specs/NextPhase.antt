@@ -1,5 +1,6 @@
 -- The course of a connection at its target: which phase follows, and what is said in it (6.1.5, 6.6).
-use Rattle.std.specs.Prelude.{ℕ, List, ◌+◌, Bool, true, false, not, ◌&&◌, Option, Some, None, is_some, nat_lt, if◌then◌else◌}
+use Rattle.std.specs.Prelude.{ℕ, List, ◌+◌, Bool, true, false, not, ◌&&◌, Option, Some, None, is_some, nat_lt}
+use Rattle.std.specs.Prelude.{if◌then◌else◌}
 use Rattle.bus_story.specs.bus_trace.specs.LineSet.{LineSet, none}
 use Rattle.bus_story.specs.bus_trace.specs.declared.agreements.Agreement.{Agreement}
 use Rattle.bus_story.specs.msg_grammar.specs.declared.message.MsgIn.TheVariants as to_initiator
@@ -57,7 +58,8 @@ abbrev pub with_task : Option Task → (Task → Leaving) → Leaving
 with_task None f = bus_free
 with_task (Some t) f = f t
 
--- ---- what the target of a connection decides by: its line of the scenario, what was said, and the process that it serves
+-- ---- what the target of a connection decides by: its line of the scenario, what was said, and the process that it
+-- serves
 
 pub record Serving : Type 0 where
   pub def : Option TargetDef
@@ -73,8 +75,8 @@ abbrev pub recovery_limit : Option TargetDef → ℕ
 recovery_limit None = 0
 recovery_limit (Some t) = t.retries
 
--- It is tried again while fewer recoveries than the target's limit were counted, and without count for an initiator that
--- stands in the hold of the unit; else the target gives up so (6.6.10, 6.6.13, 6.6.19).
+-- It is tried again while fewer recoveries than the target's limit were counted, and without count for an initiator
+-- that stands in the hold of the unit; else the target gives up so (6.6.10, 6.6.13, 6.6.19).
 abbrev pub recovery : Option TargetDef → Task → Leaving → Leaving → Leaving
 recovery def t again gives_up =
     if t.in_hold then again
@@ -124,8 +126,10 @@ after_refusal v =
 abbrev pub message_out_leaving : Serving → Cause → Leaving
 message_out_leaving v causes.Selected = after_opening v.def v.plan
 message_out_leaving v causes.InMessage = after_refusal v
-message_out_leaving v causes.InData = with_task v.task (λ t. recovery v.def t (pointer_restoration nexts.GoOn) (phase_entry phases.Status))
-message_out_leaving v causes.InStatus = with_task v.task (λ t. recovery v.def t (pointer_restoration nexts.Status) bus_free)
+message_out_leaving v causes.InData =
+    with_task v.task (λ t. recovery v.def t (pointer_restoration nexts.GoOn) (phase_entry phases.Status))
+message_out_leaving v causes.InStatus =
+    with_task v.task (λ t. recovery v.def t (pointer_restoration nexts.Status) bus_free)
 
 -- ---- MESSAGE IN is left
 
@@ -148,8 +152,9 @@ after_arrival def t arrivals.AtOnce = phase_entry (next_data_phase (policy_of de
 after_arrival def t arrivals.Queued = disconnection (one_message to_initiator.Disconnect)
 
 abbrev pub command_leaving : Serving → Arrival → Leaving
-command_leaving v arrival =
-    with_task v.task (λ t. if v.plan.struck then recovery v.def t (pointer_restoration nexts.Command) (phase_entry phases.Status) else after_arrival v.def t arrival)
+command_leaving v arrival = with_task v.task
+    (λ t. if v.plan.struck then recovery v.def t (pointer_restoration nexts.Command) (phase_entry phases.Status)
+    else after_arrival v.def t arrival)
 
 -- A command that runs at once waits the seek time in COMMAND.
 abbrev pub is_at_once : Arrival → Bool
@@ -170,14 +175,16 @@ disconnect_messages _ = one_message to_initiator.Disconnect
 
 abbrev pub after_run : Policy → Task → Leaving
 after_run policy t =
-    record (if nat_lt (t.runs + 1) (runs_in_all policy t) then disconnection (disconnect_messages policy) else phase_entry phases.Status) { done = true }
+    record (if nat_lt (t.runs + 1) (runs_in_all policy t) then disconnection (disconnect_messages policy)
+    else phase_entry phases.Status) { done = true }
 
 abbrev pub data_in_leaving : Serving → Leaving
 data_in_leaving v = with_task v.task (λ t. after_run (policy_of v.def) t)
 
 abbrev pub data_out_leaving : Serving → Leaving
-data_out_leaving v =
-    with_task v.task (λ t. if v.plan.struck then recovery v.def t (pointer_restoration nexts.GoOn) (phase_entry phases.Status) else after_run (policy_of v.def) t)
+data_out_leaving v = with_task v.task
+    (λ t. if v.plan.struck then recovery v.def t (pointer_restoration nexts.GoOn) (phase_entry phases.Status)
+    else after_run (policy_of v.def) t)
 
 -- ---- any phase but COMMAND; where ATN is true after bytes to the initiator, MESSAGE OUT follows (6.2.1)
 
@@ -190,7 +197,8 @@ phase_leaving v attention phases.MessageIn = unless_attention attention (after_m
 phase_leaving v attention phases.Command = command_leaving v v.arrival
 phase_leaving v attention phases.DataIn = unless_attention attention (data_in_leaving v)
 phase_leaving v attention phases.DataOut = data_out_leaving v
-phase_leaving v attention phases.Status = unless_attention attention (disconnection (one_message to_initiator.CommandComplete))
+phase_leaving v attention phases.Status =
+    unless_attention attention (disconnection (one_message to_initiator.CommandComplete))
 
 -- MESSAGE OUT is the first phase after a selection (6.1.3, 6.3).
 abbrev pub leaving_by : Serving → Bool → LineSet → Leaving

@@ -1,5 +1,6 @@
 -- The bytes that the target gives, and how many bytes a phase has.
-use Rattle.std.specs.Prelude.{ℕ, ◌+◌, Bool, true, false, not, ◌&&◌, ◌||◌, ◌==◌, List, length, slice_index_or, Option, Some, None, nat_lt, if◌then◌else◌}
+use Rattle.std.specs.Prelude.{ℕ, ◌+◌, Bool, true, false, not, ◌&&◌, ◌||◌, ◌==◌, List, length, slice_index_or, Option}
+use Rattle.std.specs.Prelude.{Some, None, nat_lt, if◌then◌else◌}
 use Rattle.bus_story.specs.bus_trace.specs.LineSet.{LineSet, none, byte_set}
 use Rattle.scenario.specs.declared.value.Policy.{Policy}
 use Rattle.bus_dialogue.specs.declared.exchange.Phase.{Phase}
@@ -62,6 +63,6 @@ one_if false = 0
 abbrev pub lines_by : Serving → Bool → Leaving → Option Phase → LineSet
 lines_by v io l None = none
 lines_by v io l (Some phase) =
-    if io && (phase_lines phase).io
-    then record (phase_lines phase) { data_bits = (byte_set (phase_byte v phase l.messages (one_if l.done) 0)).data_bits }
-    else phase_lines phase
+    if io && (phase_lines phase).io then record (phase_lines phase) {
+      data_bits = (byte_set (phase_byte v phase l.messages (one_if l.done) 0)).data_bits;
+    } else phase_lines phase

@@ -21,8 +21,11 @@ cause_after bus = if is_message_in bus then causes.InMessage else if bus.cd then
 
 -- MESSAGE OUT begins. Of refused messages the one that was struck, and those after it, are left.
 abbrev pub plan_in_message_out : Hearing → Plan → Plan
-plan_in_message_out w p =
-    record (plan_anew p) { cause = cause_after w.change.before; messages = if is_message_in w.change.before then from_byte p.messages (w.offered - 1) else p.messages }
+plan_in_message_out w p = record (plan_anew p) {
+  cause = cause_after w.change.before;
+  messages =
+      if is_message_in w.change.before then from_byte p.messages (w.offered - 1) else p.messages;
+}
 
 abbrev pub plan_in_phase : Hearing → Leaving → Plan → Plan
 plan_in_phase w l p =

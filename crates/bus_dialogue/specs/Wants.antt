@@ -1,6 +1,7 @@
--- What an initiator sends next, and since when it wants to, by the book of its own commands and aborts; and what a target has
--- ready, by the current processes of its units.
-use Rattle.std.specs.Prelude.{ℕ, Bool, false, not, ◌&&◌, ◌||◌, ◌==◌, List, [], ◌∷◌, length, Option, Some, None, is_some, nat_le, nat_lt, if◌then◌else◌}
+-- What an initiator sends next, and since when it wants to, by the book of its own commands and aborts; and what a
+-- target has ready, by the current processes of its units.
+use Rattle.std.specs.Prelude.{ℕ, Bool, false, not, ◌&&◌, ◌||◌, ◌==◌, List, [], ◌∷◌, length, Option, Some, None, is_some}
+use Rattle.std.specs.Prelude.{nat_le, nat_lt, if◌then◌else◌}
 use Rattle.std.specs.List.{list_any}
 use Rattle.scenario.specs.declared.value.CmdDef.{CmdDef}
 use Rattle.bus_story.specs.disk_array.specs.Processes.{Process}
@@ -10,8 +11,8 @@ use Rattle.bus_reactions.specs.Reactions.{sooner_time, time_if}
 
 -- ---- the book of an initiator
 
--- A command of its own, by its number among all commands, counted from 1: whether it was sent and is over, the same of its
--- automatic REQUEST SENSE, and its unanswered callings.
+-- A command of its own, by its number among all commands, counted from 1: whether it was sent and is over, the same of
+-- its automatic REQUEST SENSE, and its unanswered callings.
 pub record OwnCommand : Type 0 where
   pub number : ℕ
   pub def : CmdDef
@@ -27,8 +28,8 @@ pub record OwnAbort : Type 0 where
   pub at : ℕ
   pub done : Bool
 
--- The automatic REQUEST SENSE is that of the first command that ended with CHECK CONDITION whose sense is still to be sent;
--- `most` is how many commands it may have open.
+-- The automatic REQUEST SENSE is that of the first command that ended with CHECK CONDITION whose sense is still to be
+-- sent; `most` is how many commands it may have open.
 pub record Book : Type 0 where
   pub aborts : List OwnAbort
   pub sense : Option Item
@@ -39,14 +40,14 @@ abbrev pub open_in : List OwnCommand → List CmdDef
 open_in [] = []
 open_in (o ∷ own) = if o.sent && not o.over then o.def ∷ open_in own else open_in own
 
--- A command may be sent from its time on, beside these open ones: fewer than so many, and none at its unit that it would be
--- confused with (6.6.17, 7.8).
+-- A command may be sent from its time on, beside these open ones: fewer than so many, and none at its unit that it
+-- would be confused with (6.6.17, 7.8).
 abbrev pub may_follow : ℕ → ℕ → List CmdDef → CmdDef → Bool
 may_follow most time now c =
     nat_le c.at time && nat_lt (length now) most && not (list_any (λ (d : CmdDef). is_clash c d) now)
 
--- ---- what it sends at this time: an abort first, then an automatic REQUEST SENSE, then its first command that is still to be
--- sent
+-- ---- what it sends at this time: an abort first, then an automatic REQUEST SENSE, then its first command that is
+-- still to be sent
 
 abbrev pub abort_by : ℕ → List OwnAbort → Option Item
 abort_by time [] = None

@@ -1,5 +1,6 @@
 -- What the two ends of a connection say (6.6).
-use Rattle.std.specs.Prelude.{ℕ, max, min, Bool, true, false, not, ◌&&◌, ◌==◌, List, [], ◌++◌, Option, Some, None, nat_lt, if◌then◌else◌}
+use Rattle.std.specs.Prelude.{ℕ, max, min, Bool, true, false, not, ◌&&◌, ◌==◌, List, [], ◌++◌, Option, Some, None}
+use Rattle.std.specs.Prelude.{nat_lt, if◌then◌else◌}
 use Rattle.scenario.specs.bus_base.specs.declared.AbortKind.{AbortKind}
 use Rattle.scenario.specs.bus_base.specs.declared.AbortKind.TheVariants as aborts
 use Rattle.bus_story.specs.bus_trace.specs.declared.agreements.TheConstants.{UNLIMITED_OFFSET}
@@ -37,7 +38,9 @@ target_answer (Some t) heard = agreement_answer t.period t.offset heard
 
 abbrev pub offer_by : Option HostDef → List ℕ
 offer_by None = []
-offer_by (Some h) = if h.offers && nat_lt 0 h.period then out_bytes (to_target.Sdtr (record { period = h.period; offset = h.offset })) else []
+offer_by (Some h) =
+    if h.offers && nat_lt 0 h.period then out_bytes (to_target.Sdtr (record { period = h.period; offset = h.offset }))
+    else []
 
 abbrev pub offer_if : Bool → Option HostDef → List ℕ
 offer_if true h = offer_by h
@@ -100,8 +103,11 @@ is_naming (Some m) = is_name m
 
 -- An offer without a limit is rejected.
 abbrev pub reply_to : Option TargetDef → Agreement → MsgIn
-reply_to t offer = if offer.offset == UNLIMITED_OFFSET then to_initiator.Reject else to_initiator.Sdtr (target_answer t offer)
+reply_to t offer =
+    if offer.offset == UNLIMITED_OFFSET then to_initiator.Reject else to_initiator.Sdtr (target_answer t offer)
 
 abbrev pub request_by : Option TargetDef → Option MsgIn
 request_by None = None
-request_by (Some t) = if t.begins && nat_lt 0 t.period then Some (to_initiator.Sdtr (record { period = t.period; offset = t.offset })) else None
+request_by (Some t) =
+    if t.begins && nat_lt 0 t.period then Some (to_initiator.Sdtr (record { period = t.period; offset = t.offset }))
+    else None

@@ -13,9 +13,13 @@ use Rattle.bus_due.specs.RunSteps.{run_state}
 use Rattle.bus_due.specs.Plain.{IsPlain, AreOfDevices}
 use Rattle.bus_due.proofs.Plains.{IsBusStateOf, bus_state_is, change_same, run_state_plain}
 
-pub hearing_plain : (s : ScenarioValue) (rows : List Row) (row : Row) → AreOfDevices rows → row.dev < 8 → hearing_of (run_state s rows) row (row_reading (run_state s rows).story.bus_state row) ≡ hearing rows row
+pub hearing_plain : (s : ScenarioValue) (rows : List Row) (row : Row) → AreOfDevices rows → row.dev < 8
+    → hearing_of (run_state s rows) row (row_reading (run_state s rows).story.bus_state row) ≡ hearing rows row
 hearing_plain s rows row d lt =
     let h : IsPlain s rows (run_state s rows) = run_state_plain s rows d in
-    let w : IsBusStateOf rows (run_state s rows).story.bus_state = subst (λ (b : Story). IsBusStateOf rows b.bus_state) (sym h.story) (bus_state_is s rows d) in
-    let c : change_by (run_state s rows).story.bus_state row ≡ change_of rows row = change_same row rows (run_state s rows).story.bus_state w lt in
-    λ i. hearing_by (h.dialogue i) (h.begun i) (h.handshakes i).requests (h.handshakes i).struck (effect_of (h.connection i) (connection (row ∷ rows)) (c i) row)
+    let w : IsBusStateOf rows (run_state s rows).story.bus_state = subst
+    (λ (b : Story). IsBusStateOf rows b.bus_state) (sym h.story) (bus_state_is s rows d) in
+    let c : change_by (run_state s rows).story.bus_state row ≡ change_of rows row = change_same row rows
+    (run_state s rows).story.bus_state w lt in
+    λ i. hearing_by (h.dialogue i) (h.begun i) (h.handshakes i).requests (h.handshakes i).struck
+    (effect_of (h.connection i) (connection (row ∷ rows)) (c i) row)

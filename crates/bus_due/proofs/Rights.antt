@@ -17,7 +17,9 @@ use Rattle.bus_dialogue.specs.bus_story.specs.Outcomes.{Outcome, outcomes}
 use Rattle.bus_dialogue.specs.bus_story.specs.Samples.{expected_strikes, row_strikes}
 use Rattle.bus_dialogue.specs.bus_story.specs.Budget.{budget}
 use Rattle.bus_due.specs.Goals.{IsRight}
-use Rattle.bus_due.proofs.Cases.{resets_dropped_due, resets_dropped_due_rows, one_read_due, one_read_due_rows, unanswered_due, unanswered_due_rows, lost_due, lost_due_rows, delayed_ack_due, delayed_ack_due_rows}
+use Rattle.bus_due.proofs.Cases.{resets_dropped_due, resets_dropped_due_rows, one_read_due, one_read_due_rows}
+use Rattle.bus_due.proofs.Cases.{unanswered_due, unanswered_due_rows, lost_due, lost_due_rows, delayed_ack_due}
+use Rattle.bus_due.proofs.Cases.{delayed_ack_due_rows}
 
 resets_dropped_right : IsRight resets_dropped_due (reverse resets_dropped_due_rows)
 unfolding need_of sent_of ones union_below line_of form_out form_in seen_with
@@ -41,7 +43,9 @@ one_read_quiet : bus (reverse one_read_due_rows) ≡ none
 unfolding union_below
 one_read_quiet = refl
 
-one_read_answered : list_all (λ (o : Option Outcome). is_some o) (outcomes one_read_due (story one_read_due (reverse one_read_due_rows))) ≡ true
+one_read_answered : list_all (λ (o : Option Outcome). is_some o)
+    (outcomes one_read_due (story one_read_due (reverse one_read_due_rows)))
+    ≡ true
 unfolding need_of sent_of ones union_below line_of form_out form_in
 one_read_answered = refl
 
@@ -61,7 +65,9 @@ unanswered_quiet : bus (reverse unanswered_due_rows) ≡ none
 unfolding union_below
 unanswered_quiet = refl
 
-unanswered_answered : list_all (λ (o : Option Outcome). is_some o) (outcomes unanswered_due (story unanswered_due (reverse unanswered_due_rows))) ≡ true
+unanswered_answered : list_all (λ (o : Option Outcome). is_some o)
+    (outcomes unanswered_due (story unanswered_due (reverse unanswered_due_rows)))
+    ≡ true
 unfolding need_of sent_of ones union_below line_of form_out form_in
 unanswered_answered = refl
 
@@ -81,7 +87,8 @@ lost_quiet : bus (reverse lost_due_rows) ≡ none
 unfolding union_below
 lost_quiet = refl
 
-lost_answered : list_all (λ (o : Option Outcome). is_some o) (outcomes lost_due (story lost_due (reverse lost_due_rows))) ≡ true
+lost_answered :
+    list_all (λ (o : Option Outcome). is_some o) (outcomes lost_due (story lost_due (reverse lost_due_rows))) ≡ true
 unfolding need_of sent_of ones union_below line_of form_out form_in
 lost_answered = refl
 
@@ -101,7 +108,9 @@ delayed_ack_quiet : bus (reverse delayed_ack_due_rows) ≡ none
 unfolding union_below
 delayed_ack_quiet = refl
 
-delayed_ack_answered : list_all (λ (o : Option Outcome). is_some o) (outcomes delayed_ack_due (story delayed_ack_due (reverse delayed_ack_due_rows))) ≡ true
+delayed_ack_answered : list_all (λ (o : Option Outcome). is_some o)
+    (outcomes delayed_ack_due (story delayed_ack_due (reverse delayed_ack_due_rows)))
+    ≡ true
 unfolding need_of sent_of ones union_below line_of form_out form_in
 delayed_ack_answered = refl
 

@@ -23,7 +23,8 @@ coded_are a b m n make e =
     let parts = and_parts (same_id a b) (m == n) e in
     λ i. make (same_id_is a b parts.0 i) (eqb-true m n parts.1 i)
 
-aborts_are : (h i t v u w : ℕ) (x y : AbortKind) → (h == i && t == v && u == w && same_kind x y) ≡ true → events.Aborted h t u x ≡ events.Aborted i v w y
+aborts_are : (h i t v u w : ℕ) (x y : AbortKind) → (h == i && t == v && u == w && same_kind x y) ≡ true
+    → events.Aborted h t u x ≡ events.Aborted i v w y
 aborts_are h i t v u w x y e =
     let all = and_parts (h == i && t == v && u == w) (same_kind x y) e in
     let three = and_parts (h == i && t == v) (u == w) all.0 in

@@ -1,5 +1,5 @@
--- The four seams between what devices do and what rows tell, over all rows of a run: a forward pass over the rows decides
--- them.
+-- The four seams between what devices do and what rows tell, over all rows of a run: a forward pass over the rows
+-- decides them.
 use Rattle.std.proofs.Common.{◌≡◌, Bool, true, List, [], ◌∷◌, refl}
 use Rattle.std.specs.Prelude.{◌&&◌}
 use Rattle.std.proofs.lemmas.Bool.{and_from, and_parts}
@@ -24,8 +24,8 @@ row_holds s k row d = is_faithful s k d && is_true_telling s k row d && is_allow
 -- The rows are given the oldest first.
 abbrev pub rows_hold : ScenarioValue → RunState → List Row → Bool
 rows_hold s k [] = true
-rows_hold s k (row ∷ rows) =
-    row_holds s k row (row_reading k.story.bus_state row) && (is_sound s (run_state_after s k row) && rows_hold s (run_state_after s k row) rows)
+rows_hold s k (row ∷ rows) = row_holds s k row (row_reading k.story.bus_state row)
+    && (is_sound s (run_state_after s k row) && rows_hold s (run_state_after s k row) rows)
 
 abbrev pub state_holds : ScenarioValue → RunState → List Row → Bool
 state_holds s k rows = is_sound s k && rows_hold s k rows
@@ -36,7 +36,8 @@ pub record Hold (s : ScenarioValue) (rows : List Row) : Type 0 where
   pub allowed : allowed s rows ≡ true
   pub sound : sound s rows ≡ true
 
-hold_on : (s : ScenarioValue) (rows before : List Row) → Hold s before → rows_hold s (run_state s before) rows ≡ true → Hold s (onto rows before)
+hold_on : (s : ScenarioValue) (rows before : List Row) → Hold s before → rows_hold s (run_state s before) rows ≡ true
+    → Hold s (onto rows before)
 hold_on s [] before h e = h
 hold_on s (row ∷ rows) before h e =
     let k : RunState = run_state s before in
@@ -55,7 +56,8 @@ hold_on s (row ∷ rows) before h e =
     next.1
 
 -- Of a whole run.
-pub all_hold : (s : ScenarioValue) (rows : List Row) → state_holds s (first_run_state s) rows ≡ true → Hold s (onto rows [])
+pub all_hold : (s : ScenarioValue) (rows : List Row) → state_holds s (first_run_state s) rows ≡ true
+    → Hold s (onto rows [])
 all_hold s rows e =
     let start = and_parts (is_sound s (first_run_state s)) (rows_hold s (first_run_state s) rows) e in
     hold_on s rows [] (record { faithful = refl; telling = refl; allowed = refl; sound = start.0 }) start.1

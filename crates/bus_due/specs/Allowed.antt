@@ -14,4 +14,5 @@ is_allowed s k row d = is_some (array_after_events s k.array (row_events_by s k.
 -- Of all rows.
 abbrev pub allowed : ScenarioValue → List Row → Bool
 allowed s [] = true
-allowed s (row ∷ rows) = allowed s rows && is_allowed s (run_state s rows) row (row_reading (run_state s rows).story.bus_state row)
+allowed s (row ∷ rows) =
+    allowed s rows && is_allowed s (run_state s rows) row (row_reading (run_state s rows).story.bus_state row)

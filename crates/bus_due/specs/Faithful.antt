@@ -1,5 +1,7 @@
--- What crossed unstruck is what was to be said: the opening, the command block, the data of a run, and who the ends are.
-use Rattle.std.specs.Prelude.{ℕ, ◌+◌, ◌%◌, Bool, true, false, ◌&&◌, ◌||◌, ◌==◌, List, [], ◌∷◌, slice_index_or, Option, Some, None, is_none, if◌then◌else◌}
+-- What crossed unstruck is what was to be said: the opening, the command block, the data of a run, and who the ends
+-- are.
+use Rattle.std.specs.Prelude.{ℕ, ◌+◌, ◌%◌, Bool, true, false, ◌&&◌, ◌||◌, ◌==◌, List, [], ◌∷◌, slice_index_or, Option}
+use Rattle.std.specs.Prelude.{Some, None, is_none, if◌then◌else◌}
 use Rattle.bus_rules.specs.bus_trace.specs.declared.Row.{Row}
 use Rattle.bus_rules.specs.bus_trace.specs.Phases.{changes_phase}
 use Rattle.bus_dialogue.specs.scenario.specs.declared.value.Tag.{Tag}
@@ -77,8 +79,8 @@ is_true_leaving s k p _ = true
 -- Of a data run to the target each byte is that which the process sends there.
 abbrev pub is_sent_at : ScenarioValue → RunState → Process → Option Task → ℕ → Bool
 is_sent_at s k p None byte = true
-is_sent_at s k p (Some t) byte =
-    byte == slice_index_or p.sent ((run_at (policy_of (target_def_of s p.target)) t t.runs).start + k.handshakes.answers) 0
+is_sent_at s k p (Some t) byte = byte
+    == slice_index_or p.sent ((run_at (policy_of (target_def_of s p.target)) t t.runs).start + k.handshakes.answers) 0
 
 abbrev pub is_true_crossing : ScenarioValue → RunState → Option Process → ℕ → Phase → Bool
 is_true_crossing s k None byte phase = true
@@ -109,13 +111,16 @@ is_true_beginning s k _ _ = true
 abbrev pub is_true_hearing : ScenarioValue → RunState → RowReading → Bool
 is_true_hearing s k d =
     if d.crosses then is_true_crossing s k (process_served s k) (d.change.after.data_bits % 256) (phase_of (bus_of k))
-    else if changes_phase d.change && k.exchange.begun then is_known_process k (phase_of (bus_of k)) && is_true_leaving s k (process_served s k) (phase_of (bus_of k))
+    else if changes_phase d.change && k.exchange.begun
+    then is_known_process k (phase_of (bus_of k)) && is_true_leaving s k (process_served s k) (phase_of (bus_of k))
     else true
 
 abbrev pub is_faithful : ScenarioValue → RunState → RowReading → Bool
-is_faithful s k d = is_true_beginning s k k.story.bus_state.connection d.next && (d.change.after.rst || is_true_hearing s k d)
+is_faithful s k d =
+    is_true_beginning s k k.story.bus_state.connection d.next && (d.change.after.rst || is_true_hearing s k d)
 
 -- Of all rows.
 abbrev pub faithful : ScenarioValue → List Row → Bool
 faithful s [] = true
-faithful s (row ∷ rows) = faithful s rows && is_faithful s (run_state s rows) (row_reading (run_state s rows).story.bus_state row)
+faithful s (row ∷ rows) =
+    faithful s rows && is_faithful s (run_state s rows) (row_reading (run_state s rows).story.bus_state row)

@@ -31,7 +31,8 @@ pairs_without [] t = []
 pairs_without (p ∷ pairs) t = if p.1 == t then pairs_without pairs t else p ∷ pairs_without pairs t
 
 abbrev pub negotiated_after_device_reset : ℕ → Negotiated → ℕ → Negotiated
-negotiated_after_device_reset version m t = if version == 1 then record m { targets = t ∷ m.targets } else record m { pairs = pairs_without m.pairs t }
+negotiated_after_device_reset version m t =
+    if version == 1 then record m { targets = t ∷ m.targets } else record m { pairs = pairs_without m.pairs t }
 
 abbrev pub negotiated_after_reset : ℕ → Negotiated → Negotiated
 negotiated_after_reset version m = if version == 1 then record m { all = true } else record m { pairs = [] }
@@ -65,6 +66,8 @@ progress_in (p ∷ all) id = if same_id p.id id then p else progress_in all id
 -- The newest stands first.
 abbrev pub progress_with : List ProcessProgress → ProcId → Bool → Bool → List ProcessProgress
 progress_with all id runs recovers =
-    if runs || recovers
-    then record { id = id; runs = (progress_in all id).runs + one_if runs; recoveries = (progress_in all id).recoveries + one_if recovers } ∷ all
-    else all
+    if runs || recovers then record {
+      id = id;
+      runs = (progress_in all id).runs + one_if runs;
+      recoveries = (progress_in all id).recoveries + one_if recovers;
+    } ∷ all else all

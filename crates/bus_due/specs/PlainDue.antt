@@ -37,8 +37,8 @@ myself s rows dev latency = self_of (run_state s rows) dev latency
 
 -- RST goes before what is due without it (6.2.2).
 abbrev pub under_reset : ScenarioValue → List Row → ℕ → ℕ → Option Due → Option Due
-under_reset s rows dev latency calm =
-    with_reset (myself s rows dev latency) (own_of rows dev).rst (reset_from dev (own_of rows dev).released s.resets) calm
+under_reset s rows dev latency calm = with_reset (myself s rows dev latency) (own_of rows dev).rst
+    (reset_from dev (own_of rows dev).released s.resets) calm
 
 -- On the way to a connection: by the bus, by itself, and by what it wants.
 abbrev pub link_reaction : ScenarioValue → List Row → ℕ → ℕ → Option Due
@@ -48,15 +48,14 @@ link_reaction s rows dev latency =
 
 -- In a connection: its receiver samples a byte that crossed in the last row first.
 abbrev pub sampled_first : ScenarioValue → List Row → ℕ → Option Due → Option Due
-sampled_first s rows dev reaction =
-    sample_due (is_of_device (receiver rows) dev) (last_time rows) (flip_of (run_state s rows).faults (last_time rows)) reaction
+sampled_first s rows dev reaction = sample_due (is_of_device (receiver rows) dev) (last_time rows)
+    (flip_of (run_state s rows).faults (last_time rows)) reaction
 
 abbrev pub target_reaction : ScenarioValue → List Row → ℕ → ℕ → Option Due
-target_reaction s rows dev latency =
-    sampled_first s rows dev
-    (target_due (begun rows) (sight rows) (handshakes rows) (myself s rows dev latency) (pace_of s (run_state s rows) dev) (offering_of s (run_state s rows) dev))
+target_reaction s rows dev latency = sampled_first s rows dev (target_due (begun rows) (sight rows) (handshakes rows)
+    (myself s rows dev latency) (pace_of s (run_state s rows) dev) (offering_of s (run_state s rows) dev))
 
 abbrev pub initiator_reaction : ScenarioValue → List Row → ℕ → ℕ → Option Due
 initiator_reaction s rows dev latency =
-    sampled_first s rows dev
-    (initiator_due (begun rows) (sight rows) (handshakes rows) (myself s rows dev latency) (pace_of s (run_state s rows) dev) (answering_of s (run_state s rows) dev))
+    sampled_first s rows dev (initiator_due (begun rows) (sight rows) (handshakes rows) (myself s rows dev latency)
+    (pace_of s (run_state s rows) dev) (answering_of s (run_state s rows) dev))

@@ -1,5 +1,6 @@
 -- All that is kept, row by row.
-use Rattle.std.specs.Prelude.{ℕ, Bool, true, false, not, ◌&&◌, ◌||◌, List, [], ◌∷◌, drop, length, replicate, Option, Some, None, if◌then◌else◌}
+use Rattle.std.specs.Prelude.{ℕ, Bool, true, false, not, ◌&&◌, ◌||◌, List, [], ◌∷◌, drop, length, replicate, Option}
+use Rattle.std.specs.Prelude.{Some, None, if◌then◌else◌}
 use Rattle.bus_rules.specs.bus_base.specs.declared.Event.{Event}
 use Rattle.bus_rules.specs.bus_trace.specs.declared.Row.{Row}
 use Rattle.bus_rules.specs.bus_trace.specs.declared.connection.Connection.{Connection}
@@ -25,7 +26,8 @@ use Rattle.bus_dialogue.specs.Exchange.{Exchange, no_messages, no_exchange, no_s
 use Rattle.bus_dialogue.specs.Speaking.{speech_after}
 use Rattle.bus_dialogue.specs.Planning.{plan_after, first_plan}
 use Rattle.bus_dialogue.specs.scenario.specs.declared.value.HostDef.{HostDef}
-use Rattle.bus_due.specs.LastingState.{Negotiated, none_negotiated, has_negotiated, with_negotiated, negotiated_after, ProcessProgress, progress_with}
+use Rattle.bus_due.specs.LastingState.{Negotiated, none_negotiated, has_negotiated, with_negotiated, negotiated_after}
+use Rattle.bus_due.specs.LastingState.{ProcessProgress, progress_with}
 use Rattle.bus_due.specs.RunState.{RunState, or_start, process_served}
 use Rattle.bus_dialogue.specs.Wants.{Ready}
 use Rattle.bus_due.specs.Wants.{ready_of}
@@ -71,7 +73,8 @@ current_times_after (u ∷ before) (v ∷ after) (t ∷ times) time =
 
 abbrev pub current_times_if : ScenarioValue → RunState → List Event → Option Array → ℕ → List ℕ
 current_times_if s k [] after time = k.current_since
-current_times_if s k (event ∷ shown) after time = current_times_after (or_start s k.array).units (or_start s after).units k.current_since time
+current_times_if s k (event ∷ shown) after time =
+    current_times_after (or_start s k.array).units (or_start s after).units k.current_since time
 
 -- ---- what is said: a connection begins
 
@@ -112,7 +115,8 @@ first_exchange s k n item = record {
   plan = first_plan n.reselected (not n.reselected && may_negotiate k n item) (naming_of s k n);
 }
 
-abbrev pub exchange_after : ScenarioValue → RunState → Row → RowReading → Option Connection → Option Connection → Leaving → Exchange
+abbrev pub exchange_after : ScenarioValue → RunState → Row → RowReading → Option Connection → Option Connection
+    → Leaving → Exchange
 exchange_after s k row d None None l = k.exchange
 exchange_after s k row d (Some m) None l = no_exchange
 exchange_after s k row d None (Some n) l = first_exchange s k n (aim_of k.story.aims n.initiator)
@@ -126,7 +130,8 @@ abbrev pub served_after : ScenarioValue → RunState → Option Connection → O
 served_after s k None None = k.served
 served_after s k (Some m) None = None
 served_after s k (Some m) (Some n) = k.served
-served_after s k None (Some n) = if n.reselected then item_if (ready_of s k n.target) else aim_of k.story.aims n.initiator
+served_after s k None (Some n) =
+    if n.reselected then item_if (ready_of s k n.target) else aim_of k.story.aims n.initiator
 
 -- ---- books
 
@@ -134,13 +139,15 @@ abbrev pub negotiated_by_connection : RunState → Option Connection → Option 
 negotiated_by_connection k before None = k.negotiated
 negotiated_by_connection k (Some m) (Some n) = k.negotiated
 negotiated_by_connection k None (Some n) =
-    if not n.reselected && is_for_process (aim_of k.story.aims n.initiator) then with_negotiated k.negotiated n.initiator n.target else k.negotiated
+    if not n.reselected && is_for_process (aim_of k.story.aims n.initiator)
+    then with_negotiated k.negotiated n.initiator n.target else k.negotiated
 
 abbrev pub progress_by_leaving : RunState → Option Process → Leaving → List ProcessProgress
 progress_by_leaving k None l = k.progress
 progress_by_leaving k (Some p) l = progress_with k.progress p.id l.done l.counts
 
-abbrev pub progress_after : ScenarioValue → RunState → RowReading → Option Connection → Option Connection → Leaving → List ProcessProgress
+abbrev pub progress_after : ScenarioValue → RunState → RowReading → Option Connection → Option Connection → Leaving
+    → List ProcessProgress
 progress_after s k d (Some m) (Some n) l =
     if changes_phase d.change && k.exchange.begun then progress_by_leaving k (process_served s k) l else k.progress
 progress_after s k d before after l = k.progress
@@ -185,4 +192,5 @@ run_state s (row ∷ rows) = run_state_after s (run_state s rows) row
 
 -- The events that a row shows after these rows, the newest first.
 abbrev pub events_of_row : ScenarioValue → List Row → Row → List Event
-events_of_row s rows row = row_events_by s (run_state s rows).story (row_reading (run_state s rows).story.bus_state row) row
+events_of_row s rows row =
+    row_events_by s (run_state s rows).story (row_reading (run_state s rows).story.bus_state row) row

@@ -38,8 +38,8 @@ use Rattle.bus_due.specs.Tasks.{task_of, given_of, arrival_of}
 -- ---- any device: the bus
 
 abbrev pub stage_of : RunState → Stage
-stage_of k =
-    stage_by (bus_of k).rst k.ages.rst k.story.bus_state.connection k.story.bus_state.call k.arbitration (free_time k.ages)
+stage_of k = stage_by (bus_of k).rst k.ages.rst k.story.bus_state.connection k.story.bus_state.call k.arbitration
+    (free_time k.ages)
 
 abbrev pub sight_of : RunState → Sight
 sight_of k = record { bus = bus_of k; ages = k.ages; stage = stage_of k }
@@ -128,5 +128,5 @@ abbrev pub sending_of : ScenarioValue → RunState → Sending
 sending_of s k = sending_by k (process_here s k)
 
 abbrev pub answering_of : ScenarioValue → RunState → ℕ → Answering
-answering_of s k dev =
-    answering_by k.exchange.speech (sending_of s k) (bus_of k) k.story.bus_state.dialogue.heard.now.offer (own_at k.owns dev).ack
+answering_of s k dev = answering_by k.exchange.speech (sending_of s k)
+    (bus_of k) k.story.bus_state.dialogue.heard.now.offer (own_at k.owns dev).ack

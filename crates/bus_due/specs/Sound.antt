@@ -1,6 +1,7 @@
--- What holds on the bus after the rows of a prompt trace: which device drives what, by the stage of the bus; and nothing
--- that is due lies in the past.
-use Rattle.std.specs.Prelude.{ℕ, Bool, true, not, ◌&&◌, ◌||◌, ◌==◌, List, [], ◌∷◌, ◌+◌, ◌^◌, Option, Some, None, is_some, is_none, nat_le, if◌then◌else◌}
+-- What holds on the bus after the rows of a prompt trace: which device drives what, by the stage of the bus; and
+-- nothing that is due lies in the past.
+use Rattle.std.specs.Prelude.{ℕ, Bool, true, not, ◌&&◌, ◌||◌, ◌==◌, List, [], ◌∷◌, ◌+◌, ◌^◌, Option, Some, None}
+use Rattle.std.specs.Prelude.{is_some, is_none, nat_le, if◌then◌else◌}
 use Rattle.bus_rules.specs.bus_trace.specs.LineSet.{LineSet, none, same_set}
 use Rattle.bus_rules.specs.bus_trace.specs.declared.Row.{Row}
 use Rattle.bus_rules.specs.bus_trace.specs.declared.selection.Call.{Call}
@@ -10,7 +11,8 @@ use Rattle.bus_rules.specs.Connected.{has_no_target_line, has_no_initiator_line}
 use Rattle.bus_dialogue.specs.scenario.specs.Value.{ScenarioValue}
 use Rattle.bus_dialogue.specs.bus_reactions.specs.declared.due.Due.{Due}
 use Rattle.bus_dialogue.specs.bus_lines.specs.declared.stage.Stage.{Stage}
-use Rattle.bus_dialogue.specs.bus_lines.specs.declared.stage.Stage.TheVariants.{OnFreeBus, InArbitration, InCalling, InAnswer, InConnection, InReset}
+use Rattle.bus_dialogue.specs.bus_lines.specs.declared.stage.Stage.TheVariants.{OnFreeBus, InArbitration, InCalling}
+use Rattle.bus_dialogue.specs.bus_lines.specs.declared.stage.Stage.TheVariants.{InAnswer, InConnection, InReset}
 use Rattle.bus_dialogue.specs.bus_reactions.specs.FreeBus.{contender_lines}
 use Rattle.bus_due.specs.RunState.{RunState, drives_of}
 use Rattle.bus_due.specs.Sights.{stage_of}
@@ -29,8 +31,8 @@ is_quiet k dev = same_set (drives_of k dev) none
 abbrev pub contends_or_not : RunState → ℕ → Bool
 contends_or_not k dev = is_quiet k dev || same_set (drives_of k dev) (contender_lines dev)
 
--- The caller drives SEL, BSY until it releases it and again once a reselecting target resumes it, both IDs until it withdraws
--- them, and ATN or I/O (6.1.3, 6.1.4); the called device nothing but its answer.
+-- The caller drives SEL, BSY until it releases it and again once a reselecting target resumes it, both IDs until it
+-- withdraws them, and ATN or I/O (6.1.3, 6.1.4); the called device nothing but its answer.
 abbrev pub caller_lines : ℕ → Calling → LineSet
 caller_lines caller g = record none {
   data_bits = if is_some g.withdrawn then 0 else 2 ^ caller + 2 ^ g.called + 256;
@@ -44,12 +46,13 @@ abbrev pub called_lines : Calling → LineSet
 called_lines g = record none { bsy = is_some g.answered }
 
 abbrev pub call_sides : RunState → Call → Option Calling → Bool
-call_sides k c None =
-    each_device (λ d. if d == c.caller then same_set (drives_of k d) (record (contender_lines d) { sel = true }) else contends_or_not k d)
-call_sides k c (Some g) =
-    each_device (λ d. if d == c.caller then same_set (drives_of k d) (caller_lines d g) else if d == g.called then same_set (drives_of k d) (called_lines g) else is_quiet k d)
+call_sides k c None = each_device (λ d.
+    if d == c.caller then same_set (drives_of k d) (record (contender_lines d) { sel = true }) else contends_or_not k d)
+call_sides k c (Some g) = each_device (λ d. if d == c.caller then same_set (drives_of k d) (caller_lines d g)
+    else if d == g.called then same_set (drives_of k d) (called_lines g) else is_quiet k d)
 
--- In a connection each end drives lines of its own side, at most one of them data lines, and no third device a line (6.1.5).
+-- In a connection each end drives lines of its own side, at most one of them data lines, and no third device a line
+-- (6.1.5).
 abbrev pub initiator_side : Connection → LineSet → Bool
 initiator_side n s = has_no_target_line s && not s.sel && not s.rst && (n.reselected || not s.bsy)
 
@@ -57,8 +60,8 @@ abbrev pub target_side : LineSet → Bool
 target_side s = has_no_initiator_line s && not s.sel && not s.rst && s.bsy
 
 abbrev pub link_sides : RunState → Connection → Bool
-link_sides k n =
-    each_device (λ d. if d == n.initiator then initiator_side n (drives_of k d) else if d == n.target then target_side (drives_of k d) else is_quiet k d)
+link_sides k n = each_device (λ d. if d == n.initiator then initiator_side n (drives_of k d)
+    else if d == n.target then target_side (drives_of k d) else is_quiet k d)
     && ((drives_of k n.initiator).data_bits == 0 || (drives_of k n.target).data_bits == 0)
 
 -- Under RST a device that drives it drives nothing else (6.2.2).
@@ -68,7 +71,8 @@ sides_by k (InArbitration a) = each_device (contends_or_not k)
 sides_by k (InCalling c) = call_sides k c c.calling
 sides_by k (InAnswer c g answered) = call_sides k c (Some g)
 sides_by k (InConnection n) = link_sides k n
-sides_by k (InReset since) = each_device (λ d. not (drives_of k d).rst || same_set (drives_of k d) (record none { rst = true }))
+sides_by k (InReset since) =
+    each_device (λ d. not (drives_of k d).rst || same_set (drives_of k d) (record none { rst = true }))
 
 abbrev pub are_sides_kept : RunState → Bool
 are_sides_kept k = sides_by k (stage_of k)

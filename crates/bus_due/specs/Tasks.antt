@@ -10,7 +10,8 @@ use Rattle.bus_dialogue.specs.scenario.specs.declared.value.Policy.{Policy}
 use Rattle.bus_dialogue.specs.scenario.specs.Value.{ScenarioValue}
 use Rattle.bus_dialogue.specs.disk_array.specs.Processes.{Process}
 use Rattle.bus_dialogue.specs.disk_array.specs.Execution.{Reply, execution, is_request_sense}
-use Rattle.bus_dialogue.specs.disk_array.specs.Units.{UnitState, Array, Nexus, same_nexus, nexus_of, unit_state_at, has_no_current}
+use Rattle.bus_dialogue.specs.disk_array.specs.Units.{UnitState, Array, Nexus, same_nexus, nexus_of, unit_state_at}
+use Rattle.bus_dialogue.specs.disk_array.specs.Units.{has_no_current}
 use Rattle.bus_dialogue.specs.disk_array.specs.Units.{is_held}
 use Rattle.bus_dialogue.specs.disk_array.specs.Steps.{context_at, process_count}
 use Rattle.bus_dialogue.specs.bus_story.specs.CarriedBytes.{CarriedBytes}
@@ -63,8 +64,8 @@ task_with a made p c now given = record {
 
 abbrev pub task_if : ScenarioValue → RunState → Option Process → Option Task
 task_if s k None = None
-task_if s k (Some p) =
-    Some (task_with (array_of s k) (progress_in k.progress p.id) p (carried_here k p.id) (reply_now (array_of s k) p) (Play.reply_in (array_of s k).replies p.id))
+task_if s k (Some p) = Some (task_with (array_of s k) (progress_in k.progress p.id) p (carried_here k p.id)
+    (reply_now (array_of s k) p) (Play.reply_in (array_of s k).replies p.id))
 
 -- The bytes that it gives.
 abbrev pub given_if : ScenarioValue → RunState → Option Process → List ℕ

@@ -1,5 +1,6 @@
 -- The events that the two ends of a connection show, each by what it knows itself, are those that the rows show.
-use Rattle.std.specs.Prelude.{Bool, true, false, not, ◌&&◌, ◌||◌, ◌==◌, List, [], ◌∷◌, Option, Some, None, is_some, if◌then◌else◌}
+use Rattle.std.specs.Prelude.{Bool, true, false, not, ◌&&◌, ◌||◌, ◌==◌, List, [], ◌∷◌, Option, Some, None, is_some}
+use Rattle.std.specs.Prelude.{if◌then◌else◌}
 use Rattle.bus_rules.specs.bus_base.specs.declared.ProcId.{ProcId}
 use Rattle.bus_rules.specs.bus_base.specs.declared.AbortKind.{AbortKind}
 use Rattle.bus_rules.specs.bus_base.specs.declared.AbortKind.TheVariants as aborts
@@ -34,8 +35,8 @@ id_or_none None = record { command = 0; sense = false }
 id_or_none (Some id) = id
 
 abbrev pub target_events : ScenarioValue → RunState → Connection → Bool → List Event
-target_events s k n stands =
-    leaving_events (serving_of s k n.target) n k.exchange.begun stands (bus_of k).atn (phase_of (bus_of k)) (id_of k.served)
+target_events s k n stands = leaving_events (serving_of s k n.target) n k.exchange.begun stands (bus_of k).atn
+    (phase_of (bus_of k)) (id_of k.served)
 
 -- ---- the initiator, as it takes COMMAND COMPLETE
 
@@ -88,4 +89,5 @@ is_true_telling s k row d = same_events (events_of_ends s k row d) (row_events_b
 -- Of all rows.
 abbrev pub telling : ScenarioValue → List Row → Bool
 telling s [] = true
-telling s (row ∷ rows) = telling s rows && is_true_telling s (run_state s rows) row (row_reading (run_state s rows).story.bus_state row)
+telling s (row ∷ rows) =
+    telling s rows && is_true_telling s (run_state s rows) row (row_reading (run_state s rows).story.bus_state row)

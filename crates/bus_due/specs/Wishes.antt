@@ -19,8 +19,8 @@ use Rattle.bus_due.specs.LastingState.{Negotiated, ProcessProgress}
 use Rattle.bus_due.specs.RunState.{RunState}
 use Rattle.bus_due.specs.RunSteps.{run_state}
 
--- It drives lines and leaves RST false; no connection or phase begins or ends, SEL does not fall, no byte crosses, and no
--- event is shown.
+-- It drives lines and leaves RST false; no connection or phase begins or ends, SEL does not fall, no byte crosses, and
+-- no event is shown.
 pub record IsStillBy (s : ScenarioValue) (k : RunState) (row : Row) (d : RowReading) : Type 0 where
   pub lines : is_fault row.kind ≡ false
   pub reset : d.change.after.rst ≡ false
@@ -35,7 +35,8 @@ IsStill s rows row = IsStillBy s (run_state s rows) row (row_reading (run_state 
 
 -- In it a device enters arbitration.
 abbrev pub is_entry_row : ScenarioValue → List Row → Row → Bool
-is_entry_row s rows row = is_arbitration_entry (run_state s rows).story (row_reading (run_state s rows).story.bus_state row)
+is_entry_row s rows row =
+    is_arbitration_entry (run_state s rows).story (row_reading (run_state s rows).story.bus_state row)
 
 -- What is sent and over and in which order, to whom the connection belongs, what was carried, the plain disk array, and
 -- the books of the two ends.

@@ -17,6 +17,7 @@ label_of item = record {
   abort_is = λ n e. ap (λ (o : Option Item). (id_or_none (id_of o)).command == 0) e;
 }
 
-pub label_is : (s : ScenarioValue) (rows : List Row) (label : ProcId) → label ≡ process_known s rows → IsLabelOf (item_of (run_state s rows).story.link) label
-label_is s rows label e =
-    subst (λ (id : ProcId). IsLabelOf (item_of (run_state s rows).story.link) id) (sym e) (label_of (item_of (run_state s rows).story.link))
+pub label_is : (s : ScenarioValue) (rows : List Row) (label : ProcId) → label ≡ process_known s rows
+    → IsLabelOf (item_of (run_state s rows).story.link) label
+label_is s rows label e = subst (λ (id : ProcId). IsLabelOf (item_of (run_state s rows).story.link) id) (sym e)
+    (label_of (item_of (run_state s rows).story.link))

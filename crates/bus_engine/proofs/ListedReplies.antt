@@ -1,6 +1,6 @@
--- What the plain disk array lists of a process: its status is GOOD, CHECK CONDITION or QUEUE FULL, one that is GOOD was given as the
--- process ran, that of an automatic REQUEST SENSE has no more bytes than sense data, and the initiator of a command has room for its bytes
--- (7.3, 7.5, 8.2.14).
+-- What the plain disk array lists of a process: its status is GOOD, CHECK CONDITION or QUEUE FULL, one that is GOOD was
+-- given as the process ran, that of an automatic REQUEST SENSE has no more bytes than sense data, and the initiator of
+-- a command has room for its bytes (7.3, 7.5, 8.2.14).
 use Rattle.std.proofs.Common.{◌≡◌, Bool, true, false, not, ◌&&◌, ◌||◌, ◌∙◌, List, [], ◌∷◌, Option, Some, None, ℕ, refl}
 use Rattle.std.proofs.Common.{sym, ap, subst, ◌≤◌, length, arith}
 use Rattle.std.specs.Prelude.{if◌then◌else◌, ◌==◌, is_none, is_some, ⊤}
@@ -47,7 +47,8 @@ use Rattle.disk_array.specs.Steps
 
 -- A REQUEST SENSE gives no more than the sense data (8.2.14).
 sense_few : (m : CommandContext) (sent : List ℕ) → length (execution m sense_block sent).reply.bytes ≤ SENSE_LEN
-sense_few m sent = subst (λ (n : ℕ). n ≤ SENSE_LEN) (λ i. length (sym (sense_fetched m sent) i).reply.bytes) (omega arith)
+sense_few m sent =
+    subst (λ (n : ℕ). n ≤ SENSE_LEN) (λ i. length (sym (sense_fetched m sent) i).reply.bytes) (omega arith)
 
 -- ---- of each process
 
@@ -55,22 +56,35 @@ pub record IsGiven (s : ScenarioValue) (history : List Event) (id : ProcId) (rep
   pub known : is_known reply.status ≡ true
   pub ran : (reply.status == GOOD) ≡ true → has_run history id ≡ true
   pub few : id.sense ≡ true → length reply.bytes ≤ SENSE_LEN
-  pub room : id.sense ≡ false → (c : CmdDef) → command_at s.commands id.command ≡ Some c → has_target s c.target ≡ true → length reply.bytes ≤ data_room s c
+  pub room : id.sense ≡ false → (c : CmdDef) → command_at s.commands id.command ≡ Some c → has_target s c.target ≡ true
+      → length reply.bytes ≤ data_room s c
 
 abbrev pub AreGiven : ScenarioValue → List Event → List (ProcId × Reply) → Type 0
-AreGiven s history replies = (id : ProcId) (reply : Reply) → reply_in replies id ≡ Some reply → IsGiven s history id reply
+AreGiven s history replies =
+    (id : ProcId) (reply : Reply) → reply_in replies id ≡ Some reply → IsGiven s history id reply
 
-more : (s : ScenarioValue) (h : List Event) (e : Event) (id : ProcId) (reply : Reply) → IsGiven s h id reply → IsGiven s (e ∷ h) id reply
-more s h e id reply g = record { known = g.known; ran = λ z. or_right (is_run_of id e) (has_run h id) (g.ran z); few = g.few; room = g.room }
+more : (s : ScenarioValue) (h : List Event) (e : Event) (id : ProcId) (reply : Reply) → IsGiven s h id reply
+    → IsGiven s (e ∷ h) id reply
+more s h e id reply g = record {
+  known = g.known;
+  ran = λ z. or_right (is_run_of id e) (has_run h id) (g.ran z);
+  few = g.few;
+  room = g.room;
+}
 
-no_more : (s : ScenarioValue) (h : List Event) (e : Event) (replies after : List (ProcId × Reply)) → after ≡ replies → AreGiven s h replies → AreGiven s (e ∷ h) after
-no_more s h e replies after is g = subst (λ (x : List (ProcId × Reply)). AreGiven s (e ∷ h) x) (sym is) (λ id reply z. more s h e id reply (g id reply z))
+no_more : (s : ScenarioValue) (h : List Event) (e : Event) (replies after : List (ProcId × Reply)) → after ≡ replies
+    → AreGiven s h replies → AreGiven s (e ∷ h) after
+no_more s h e replies after is g = subst (λ (x : List (ProcId × Reply)). AreGiven s (e ∷ h) x) (sym is)
+    (λ id reply z. more s h e id reply (g id reply z))
 
-one_more : (s : ScenarioValue) (h : List Event) (e : Event) (replies after : List (ProcId × Reply)) (id : ProcId) (reply : Reply) → after ≡ (id, reply) ∷ replies
+one_more : (s : ScenarioValue) (h : List Event) (e : Event) (replies after : List (ProcId × Reply))
+    (id : ProcId) (reply : Reply) → after ≡ (id, reply) ∷ replies
     → ((x : ProcId) → same_id id x ≡ true → IsGiven s (e ∷ h) x reply) → AreGiven s h replies → AreGiven s (e ∷ h) after
-one_more s h e replies after id reply is own g = subst (λ (x : List (ProcId × Reply)). AreGiven s (e ∷ h) x) (sym is) (λ x r z. go x r (same_id id x) refl z)
+one_more s h e replies after id reply is own g =
+    subst (λ (x : List (ProcId × Reply)). AreGiven s (e ∷ h) x) (sym is) (λ x r z. go x r (same_id id x) refl z)
   where
-    go : (x : ProcId) (r : Reply) (q : Bool) → same_id id x ≡ q → (if q then Some reply else reply_in replies x) ≡ Some r → IsGiven s (e ∷ h) x r
+    go : (x : ProcId) (r : Reply) (q : Bool) → same_id id x ≡ q
+        → (if q then Some reply else reply_in replies x) ≡ Some r → IsGiven s (e ∷ h) x r
     go x r true f z = subst (λ (y : Reply). IsGiven s (e ∷ h) x y) (same_Some reply r z) (own x f)
     go x r false f z = more s h e x r (g x r z)
 
@@ -83,20 +97,25 @@ record IsAlong (s : ScenarioValue) (a : Array) : Type 0 where
   whole : HasWhole a
 
 -- The initiator of a command that runs has room for what it gives.
-has_room : (s : ScenarioValue) (a : Array) (p : Process) (c : CmdDef) → IsByLine s p → Obeys s → AreOfLines s a → HasWhole a → command_at s.commands p.id.command ≡ Some c → has_target s c.target ≡ true
+has_room : (s : ScenarioValue) (a : Array) (p : Process) (c : CmdDef) → IsByLine s p → Obeys s
+    → AreOfLines s a → HasWhole a → command_at s.commands p.id.command ≡ Some c → has_target s c.target ≡ true
     → length (reply_at a p (unit_state_at a.units p.target p.unit)).bytes ≤ data_room s c
 has_room s a p c by o lines whole at there =
     let same : by.line ≡ c = same_Some by.line c (sym by.is ∙ at) in
     let target : p.target ≡ c.target = by.target ∙ ap (λ (x : CmdDef). x.target) same in
     let unit : p.unit ≡ c.unit = by.unit ∙ ap (λ (x : CmdDef). x.unit) same in
     let cdb : p.cdb ≡ c.cdb = by.cdb ∙ ap (λ (x : CmdDef). x.cdb) same in
-    room_there s c (length (reply_at a p (unit_state_at a.units p.target p.unit)).bytes) there (command_fits s p.id.command c (obeys_fits s o) at).need
-    (subst (λ (n : ℕ). length (reply_at a p (unit_state_at a.units p.target p.unit)).bytes ≤ n) (λ i. most_given (command_of (cdb i)) (unit_of s (target i) (unit i))) (given_few s a p lines whole))
+    room_there s c (length (reply_at a p (unit_state_at a.units p.target p.unit)).bytes) there
+    (command_fits s p.id.command c (obeys_fits s o) at).need
+    (subst (λ (n : ℕ). length (reply_at a p (unit_state_at a.units p.target p.unit)).bytes ≤ n)
+    (λ i. most_given (command_of (cdb i)) (unit_of s (target i) (unit i))) (given_few s a p lines whole))
 
-ran : (s : ScenarioValue) (h : List Event) (a c : Array) (id : ProcId) (guest : Bool) (o : Option RunningProcess) → Obeys s → IsAlong s a → Steps.running_process a id ≡ o → Steps.run_step a guest o ≡ Some c
+ran : (s : ScenarioValue) (h : List Event) (a c : Array) (id : ProcId) (guest : Bool) (o : Option RunningProcess)
+    → Obeys s → IsAlong s a → Steps.running_process a id ≡ o → Steps.run_step a guest o ≡ Some c
     → AreGiven s h a.replies → AreGiven s (events.Run id ∷ h) c.replies
 ran s h a c id guest None o is f e g = none_some c e
-ran s h a c id guest (Some r) o is f e g = go (is_none r.reply && (guest || not (is_held a.holds r.process.target r.process.unit))) e
+ran s h a c id guest (Some r) o is f e g =
+    go (is_none r.reply && (guest || not (is_held a.holds r.process.target r.process.unit))) e
   where
     u : Option UnitState
     u = unit_state_at a.units r.process.target r.process.unit
@@ -105,53 +124,70 @@ ran s h a c id guest (Some r) o is f e g = go (is_none r.reply && (guest || not 
     own = running_id a id r f
 
     few : id.sense ≡ true → length (reply_at a r.process u).bytes ≤ SENSE_LEN
-    few w =
-        subst (λ (x : List ℕ). length (execution (Steps.context_at a (nexus_of r.process) u) x r.process.sent).reply.bytes ≤ SENSE_LEN) (sym (sense_cdb s id r.process w (running_own s a id r is.sound f)))
+    few w = subst
+        (λ (x : List ℕ). length (execution (Steps.context_at a (nexus_of r.process) u) x r.process.sent).reply.bytes
+        ≤ SENSE_LEN) (sym (sense_cdb s id r.process w (running_own s a id r is.sound f)))
         (sense_few (Steps.context_at a (nexus_of r.process) u) r.process.sent)
 
     process_is : process_of s r.process.id ≡ Some r.process
     process_is = ap (process_of s) own ∙ running_own s a id r is.sound f
 
-    room : r.process.id.sense ≡ false → (c : CmdDef) → command_at s.commands r.process.id.command ≡ Some c → has_target s c.target ≡ true → length (reply_at a r.process u).bytes ≤ data_room s c
+    room : r.process.id.sense ≡ false → (c : CmdDef) → command_at s.commands r.process.id.command ≡ Some c
+        → has_target s c.target ≡ true → length (reply_at a r.process u).bytes ≤ data_room s c
     room plain c at there = has_room s a r.process c (by_line s r.process process_is plain) o is.lines is.whole at there
 
-    go : (x : Bool) → (if x then Some (Steps.after_execution_at a r.process u) else None) ≡ Some c → AreGiven s (events.Run id ∷ h) c.replies
-    go true z =
-        one_more s h (events.Run id) a.replies c.replies r.process.id (reply_at a r.process u) (took (Steps.after_execution_at a r.process u) c _ z (executed a r.process u).replies)
-        (λ x same. record {
+    go : (x : Bool) → (if x then Some (Steps.after_execution_at a r.process u) else None) ≡ Some c
+        → AreGiven s (events.Run id ∷ h) c.replies
+    go true z = one_more s h (events.Run id) a.replies c.replies r.process.id (reply_at a r.process u)
+        (took (Steps.after_execution_at a r.process u) c _ z (executed a r.process u).replies) (λ x same. record {
           known = execution_known (Steps.context_at a (nexus_of r.process) u) r.process.cdb r.process.sent;
           ran = λ w. or_left (same_id id x) (has_run h x) (ap (λ (y : ProcId). same_id y x) (sym own) ∙ same);
           few = λ w. few (ap (λ (y : ProcId). y.sense) (sym own ∙ id_is r.process.id x same) ∙ w);
-          room = subst (λ (y : ProcId). y.sense ≡ false → (d : CmdDef) → command_at s.commands y.command ≡ Some d → has_target s d.target ≡ true → length (reply_at a r.process u).bytes ≤ data_room s d)
+          room = subst (λ (y : ProcId). y.sense ≡ false → (d : CmdDef) → command_at s.commands y.command ≡ Some d
+              → has_target s d.target ≡ true → length (reply_at a r.process u).bytes ≤ data_room s d)
               (id_is r.process.id x same) room;
         }) g
     go false z = none_some c z
 
-step_given : (s : ScenarioValue) (h : List Event) (a d : Array) (e : Event) → Obeys s → IsAlong s a → Steps.step s e a ≡ Some d → AreGiven s h a.replies → AreGiven s (e ∷ h) d.replies
+step_given : (s : ScenarioValue) (h : List Event) (a d : Array) (e : Event) → Obeys s → IsAlong s a
+    → Steps.step s e a ≡ Some d → AreGiven s h a.replies → AreGiven s (e ∷ h) d.replies
 step_given s h a d (events.Accept id) o is e g =
     settles (Steps.accept_step a (process_of s id)) d (λ (x : Array). AreGiven s (events.Accept id ∷ h) x.replies)
     (λ c k. no_more s h (events.Accept id) a.replies c.replies (accepted a c (process_of s id) k) g) e
-step_given s h a d (events.Refuse id) o is e g =
-    settles (Steps.refuse_step a (process_of s id)) d (λ (x : Array). AreGiven s (events.Refuse id ∷ h) x.replies)
-    (λ c k. one_more s h (events.Refuse id) a.replies c.replies id queue_full (refused s a c id (process_of s id) refl k) (λ x same. record { known = refl; ran = λ z. wrong' z; few = λ z. omega arith; room = λ w c at there. none_few (data_room s c) }) g) e
-step_given s h a d (events.Run id) o is e g =
-    settles (Steps.run_step a (is_some (guest_at a.guests id)) (Steps.running_process a id)) d (λ (x : Array). AreGiven s (events.Run id ∷ h) x.replies)
+step_given s h a d (events.Refuse id) o is e g = settles (Steps.refuse_step a (process_of s id)) d
+    (λ (x : Array). AreGiven s (events.Refuse id ∷ h) x.replies) (λ c k. one_more s h
+    (events.Refuse id) a.replies c.replies id queue_full (refused s a c id (process_of s id) refl k) (λ x same. record {
+      known = refl;
+      ran = λ z. wrong' z;
+      few = λ z. omega arith;
+      room = λ w c at there. none_few (data_room s c);
+    }) g) e
+step_given s h a d (events.Run id) o is e g = settles (Steps.run_step a (is_some (guest_at a.guests id))
+    (Steps.running_process a id)) d (λ (x : Array). AreGiven s (events.Run id ∷ h) x.replies)
     (λ c k. ran s h a c id (is_some (guest_at a.guests id)) (Steps.running_process a id) o is refl k g) e
-step_given s h a d (events.Fail id code) o is e g =
-    settles (Steps.fail_step s a id (check_condition (sense_of ABORTED_COMMAND code 0x00)) (Steps.running_process a id)) d (λ (x : Array). AreGiven s (events.Fail id code ∷ h) x.replies)
-    (λ c k. one_more s h (events.Fail id code) a.replies c.replies id (check_condition (sense_of ABORTED_COMMAND code 0x00))
-    (fail_lists s a c id (check_condition (sense_of ABORTED_COMMAND code 0x00)) (Steps.running_process a id) k) (λ x same. record { known = refl; ran = λ z. wrong' z; few = λ z. omega arith; room = λ w c at there. none_few (data_room s c) }) g) e
-step_given s h a d (events.End id status) o is e g =
-    settles (Steps.end_step a status (Steps.running_process a id)) d (λ (x : Array). AreGiven s (events.End id status ∷ h) x.replies)
-    (λ c k. no_more s h (events.End id status) a.replies c.replies (end_lists a c status (Steps.running_process a id) k) g) e
-step_given s h a d (events.Lost id) o is e g =
-    settles (Steps.loss_step a id) d (λ (x : Array). AreGiven s (events.Lost id ∷ h) x.replies) (λ c k. no_more s h (events.Lost id) a.replies c.replies (loss_lists a c id k) g) e
-step_given s h a d (events.Aborted i t n what) o is e g =
-    settles (Some (Steps.abort_step s a i t n what)) d (λ (x : Array). AreGiven s (events.Aborted i t n what ∷ h) x.replies)
-    (λ c k. no_more s h (events.Aborted i t n what) a.replies c.replies (took (Steps.abort_step s a i t n what) c a.replies k (abort_lists s a i t n what)) g) e
-step_given s h a d (events.Reset dev) o is e g =
-    settles (Some (Steps.reset_step s a)) d (λ (x : Array). AreGiven s (events.Reset dev ∷ h) x.replies)
-    (λ c k. no_more s h (events.Reset dev) a.replies c.replies (took (Steps.reset_step s a) c a.replies k (reset_lists s a)) g) e
+step_given s h a d (events.Fail id code) o is e g = settles
+    (Steps.fail_step s a id (check_condition (sense_of ABORTED_COMMAND code 0x00)) (Steps.running_process a id)) d
+    (λ (x : Array). AreGiven s (events.Fail id code ∷ h) x.replies) (λ c k. one_more s h
+    (events.Fail id code) a.replies c.replies id (check_condition (sense_of ABORTED_COMMAND code 0x00))
+    (fail_lists s a c id (check_condition (sense_of ABORTED_COMMAND code 0x00)) (Steps.running_process a id) k)
+    (λ x same. record {
+      known = refl;
+      ran = λ z. wrong' z;
+      few = λ z. omega arith;
+      room = λ w c at there. none_few (data_room s c);
+    }) g) e
+step_given s h a d (events.End id status) o is e g = settles (Steps.end_step a status (Steps.running_process a id)) d
+    (λ (x : Array). AreGiven s (events.End id status ∷ h) x.replies) (λ c k. no_more s h
+    (events.End id status) a.replies c.replies (end_lists a c status (Steps.running_process a id) k) g) e
+step_given s h a d (events.Lost id) o is e g = settles (Steps.loss_step a id) d (λ (x : Array). AreGiven s
+    (events.Lost id ∷ h) x.replies) (λ c k. no_more s h (events.Lost id) a.replies c.replies (loss_lists a c id k) g) e
+step_given s h a d (events.Aborted i t n what) o is e g = settles (Some (Steps.abort_step s a i t n what)) d
+    (λ (x : Array). AreGiven s (events.Aborted i t n what ∷ h) x.replies)
+    (λ c k. no_more s h (events.Aborted i t n what) a.replies c.replies
+    (took (Steps.abort_step s a i t n what) c a.replies k (abort_lists s a i t n what)) g) e
+step_given s h a d (events.Reset dev) o is e g = settles (Some (Steps.reset_step s a)) d
+    (λ (x : Array). AreGiven s (events.Reset dev ∷ h) x.replies) (λ c k. no_more s h
+    (events.Reset dev) a.replies c.replies (took (Steps.reset_step s a) c a.replies k (reset_lists s a)) g) e
 
 -- ---- after every history
 
@@ -166,13 +202,19 @@ given_after s [] o = λ id reply z. absurd (no_reply reply z)
     no_reply reply z = absurd cc
 given_after s (e ∷ h) o = go (array_after s h) refl (given_after s h o)
   where
-    by : (a : Array) → IsAlong s a → AreGiven s h a.replies → (b : Option Array) → Steps.step s e a ≡ b → IfGiven s (e ∷ h) b
+    by : (a : Array) → IsAlong s a → AreGiven s h a.replies → (b : Option Array) → Steps.step s e a ≡ b
+        → IfGiven s (e ∷ h) b
     by a is g None z = tt
     by a is g (Some d) z = step_given s h a d e o is z g
 
     go : (b : Option Array) → array_after s h ≡ b → IfGiven s h b → IfGiven s (e ∷ h) (array_step s e b)
     go None z g = tt
-    go (Some a) z g = by a (record { sound = history_sound s h a (seats_are s (obeys_fits s o)) z; lines = lines_always s h a z; whole = whole_always s h a o z }) g (Steps.step s e a) refl
+    go (Some a) z g = by a (record {
+      sound = history_sound s h a (seats_are s (obeys_fits s o)) z;
+      lines = lines_always s h a z;
+      whole = whole_always s h a o z;
+    }) g (Steps.step s e a) refl
 
-pub all_given : (s : ScenarioValue) (h : List Event) (a : Array) → Obeys s → array_after s h ≡ Some a → AreGiven s h a.replies
+pub all_given : (s : ScenarioValue) (h : List Event) (a : Array) → Obeys s → array_after s h ≡ Some a
+    → AreGiven s h a.replies
 all_given s h a o e = subst (λ (b : Option Array). IfGiven s h b) e (given_after s h o)

@@ -25,7 +25,8 @@ pub record IsProved (s : ScenarioValue) : Type 0 where
   pub written_are : (rows : List Row) → IsPrompt s rows → written s rows ≡ true
   pub attended_are : (rows : List Row) (row : Row) → IsPrompt s (row ∷ rows) → IsAttended s rows row
 
-own_pair : (s : ScenarioValue) (o : Option Connection) → ((n : Connection) → o ≡ Some n → HasEnds s n) → is_own_pair s o ≡ true
+own_pair : (s : ScenarioValue) (o : Option Connection) → ((n : Connection) → o ≡ Some n → HasEnds s n)
+    → is_own_pair s o ≡ true
 own_pair s None ends = refl
 own_pair s (Some n) ends = let h = ends n refl in λ i. h.initiator i && h.target i
 

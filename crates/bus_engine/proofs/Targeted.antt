@@ -12,15 +12,20 @@ use Rattle.bus_due.specs.Defs.{target_def_of}
 use Rattle.delivery_laws.specs.right_laws.proofs.Replies.Targeted.{is_there, are_targeted}
 use Rattle.bus_engine.specs.Disks.{have_targets}
 
-there_found : (targets : List TargetDef) (dev : ℕ) → is_there targets dev ≡ true → is_some (find (λ (t : TargetDef). t.dev == dev) targets) ≡ true
+there_found : (targets : List TargetDef) (dev : ℕ) → is_there targets dev ≡ true
+    → is_some (find (λ (t : TargetDef). t.dev == dev) targets) ≡ true
 there_found [] dev e = absurd (true≢false (sym e))
 there_found (t ∷ targets) dev e = go (t.dev == dev) e (λ z. there_found targets dev z)
   where
-    go : (q : Bool) → (q || is_there targets dev) ≡ true → (is_there targets dev ≡ true → is_some (find (λ (x : TargetDef). x.dev == dev) targets) ≡ true) → is_some (cond q (Some t) (find (λ (x : TargetDef). x.dev == dev) targets)) ≡ true
+    go : (q : Bool) → (q || is_there targets dev) ≡ true
+        → (is_there targets dev ≡ true → is_some (find (λ (x : TargetDef). x.dev == dev) targets) ≡ true)
+        → is_some (cond q (Some t) (find (λ (x : TargetDef). x.dev == dev) targets)) ≡ true
     go true z found = refl
     go false z found = found z
 
-all_found : (s : ScenarioValue) (units : List UnitDef) → AllByRecursion (λ (u : UnitDef). has_target s u.target ≡ true) units → list_all (λ (u : UnitDef). is_some (target_def_of s u.target)) units ≡ true
+all_found : (s : ScenarioValue) (units : List UnitDef)
+    → AllByRecursion (λ (u : UnitDef). has_target s u.target ≡ true) units
+    → list_all (λ (u : UnitDef). is_some (target_def_of s u.target)) units ≡ true
 all_found s [] a = refl
 all_found s (u ∷ units) a = and_from _ _ (there_found s.targets u.target a.0) (all_found s units a.1)
 

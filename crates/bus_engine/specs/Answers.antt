@@ -32,7 +32,8 @@ is_settled (Some e) sensed over = is_settled_by e sensed over
 abbrev pub sense_is_over : ScenarioValue → Story → ℕ → CmdDef → Bool
 sense_is_over s b n c = is_sense_over (mine_at (my_book s b.sent c.host).mines n)
 
--- ---- what came to its initiator is the reply: of a command that ended GOOD, and of an automatic REQUEST SENSE that ended
+-- ---- what came to its initiator is the reply: of a command that ended GOOD, and of an automatic REQUEST SENSE that
+-- ended
 
 abbrev pub is_good : Option Ending → Bool
 is_good None = false
@@ -63,7 +64,8 @@ are_replied s rows = are_replied_from s (run_state s rows).story 1 s.commands
 -- ---- and the outcome is known
 
 abbrev pub is_answered : ScenarioValue → Story → ℕ → CmdDef → Bool
-is_answered s b n c = is_settled (ending_of b.ended n) (has_end b.history (sense_id n)) (sense_is_over s b n c) && is_replied s b n c
+is_answered s b n c =
+    is_settled (ending_of b.ended n) (has_end b.history (sense_id n)) (sense_is_over s b n c) && is_replied s b n c
 
 -- The commands from the n-th on.
 abbrev pub are_answered_from : ScenarioValue → Story → ℕ → List CmdDef → Bool

@@ -1,5 +1,6 @@
 -- The units of a run that is over, by their targets, and what they hold.
-use Rattle.std.specs.Prelude.{ℕ, ◌≡◌, ◌<◌, ◌≤◌, ◌==◌, ◌&&◌, Bool, false, is_some, List, [], ◌∷◌, Option, Some, None, slice_index_or}
+use Rattle.std.specs.Prelude.{ℕ, ◌≡◌, ◌<◌, ◌≤◌, ◌==◌, ◌&&◌, Bool, false, is_some, List, [], ◌∷◌, Option, Some, None}
+use Rattle.std.specs.Prelude.{slice_index_or}
 use Rattle.std.specs.List.{AllByRecursion, list_all}
 use Rattle.bus_trace.specs.declared.Row.{Row}
 use Rattle.scenario.specs.declared.value.UnitDef.{UnitDef}
@@ -30,7 +31,8 @@ abbrev pub AreHeld : List (Option UnitsState) → List UnitDef → List Contents
 AreHeld of_target [] [] = Unit {0}
 AreHeld of_target [] (c ∷ contents) = ⊥
 AreHeld of_target (u ∷ units) [] = ⊥
-AreHeld of_target (u ∷ units) (c ∷ contents) = (held_at of_target u.target u.unit ≡ Some c) × AreHeld of_target units contents
+AreHeld of_target (u ∷ units) (c ∷ contents) =
+    (held_at of_target u.target u.unit ≡ Some c) × AreHeld of_target units contents
 
 -- No two lines are of one unit.
 abbrev pub IsOther : UnitDef → UnitDef → Type 0

@@ -20,8 +20,10 @@ use Rattle.bus_engine.specs.Members.{IsTarget}
 
 -- What came to the command of this number, and to its automatic REQUEST SENSE, is still there.
 pub record IsKept (s : ScenarioValue) (rows : List Row) (v : HostValue) (n : ℕ) (c : CmdDef) : Type 0 where
-  pub bytes : IsBufferOf (moved_of (run_state s rows).story (command_id n)) (room_of s c false) (buffer_at v.received (command_id n))
-  pub sense_bytes : IsBufferOf (moved_of (run_state s rows).story (sense_id n)) (room_of s c true) (buffer_at v.received (sense_id n))
+  pub bytes : IsBufferOf (moved_of (run_state s rows).story (command_id n)) (room_of s c false)
+      (buffer_at v.received (command_id n))
+  pub sense_bytes : IsBufferOf (moved_of (run_state s rows).story (sense_id n)) (room_of s c true)
+      (buffer_at v.received (sense_id n))
 
 -- This initiator was told of these rows, and then outcomes of commands below this number were taken.
 pub record IsHostOver (s : ScenarioValue) (rows : List Row) (dev first : ℕ) (v : HostValue) : Type 0 where
@@ -29,7 +31,8 @@ pub record IsHostOver (s : ScenarioValue) (rows : List Row) (dev first : ℕ) (v
   pub named : v.def.dev ≡ dev
   pub endings_are : AreEndingsOf s rows dev v.endings
   pub book_is : v.intent.wish.book ≡ my_book s (run_state s rows).story.sent dev
-  pub kept : undoes_no_byte s rows ≡ true → (n : ℕ) (c : CmdDef) → first ≤ n → command_at s.commands n ≡ Some c → (c.host == dev) ≡ true → IsKept s rows v n c
+  pub kept : undoes_no_byte s rows ≡ true → (n : ℕ) (c : CmdDef) → first ≤ n → command_at s.commands n ≡ Some c
+      → (c.host == dev) ≡ true → IsKept s rows v n c
 
 abbrev pub IsMemberOver : ScenarioValue → List Row → ℕ → ℕ → Member → Type 0
 IsMemberOver s rows dev first (Initiator host) = IsHostOver s rows dev first host

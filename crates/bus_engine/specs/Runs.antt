@@ -20,7 +20,8 @@ use Rattle.initiator.specs.Outcomes.{told_outcome}
 use Rattle.bus_run.specs.Runs.{AreEarly}
 use Rattle.run_record.specs.Value.{RunValue}
 use Rattle.transcript_laws.specs.bus_transcript.specs.Events.{TellsHistory}
-use Rattle.delivery_laws.specs.Delivery.{AreAnswered, AreCaused, AreChecked, AreOwnSenses, AreStoppedSenses, HaveStrikes, IsDelivered}
+use Rattle.delivery_laws.specs.Delivery.{AreAnswered, AreCaused, AreChecked, AreOwnSenses, AreStoppedSenses}
+use Rattle.delivery_laws.specs.Delivery.{HaveStrikes, IsDelivered}
 use Rattle.delivery_laws.specs.Endings.{AreExact, arrive_by_room}
 use Rattle.delivery_laws.specs.Openings.{AreAnsweredOffers, AreOfferReplies, AreOpenings}
 use Rattle.delivery_laws.specs.Recoveries.{AreRecoveries}
@@ -34,17 +35,19 @@ told_reply outcome = Some (told_outcome outcome)
 abbrev pub rows_of : RunValue → List Row
 rows_of run = reverse run.rows
 
--- The run of a scenario: its rows are the prompt trace, after which nothing is due, its history is what they tell, which the
--- plain disk array permits, each reply is the outcome that they tell, and its disks hold what the array holds after that
--- history; the rows and the end obey every rule of the bus, the fault rows are those of the scenario, and no line is true at
--- the end. Each process that ran and ended carried just its own bytes. The transcript of the rows has the events of that history, with
--- the names of processes in place of numbers. Each command has its outcome. Where queues have room and there is no reset and no abort, each valid
--- command that no more faults struck than it bears ended GOOD, and each that is not valid with the sense of what is wrong with it first; every other
--- outcome has its cause, each failure the fault row of a byte, and each complaint of an initiator a struck byte of that phase; the sense with
--- which a command ended is that of its own reply, and only where its automatic REQUEST SENSE was stopped is it without; and RST began by the
--- reset lines alone. Each outcome is exactly that of the first row that ended the command, and of its reply; each command was refused exactly
--- where it found a full queue; each phase with wrong parity was left to try again, or to give up, by the target's limit; what an initiator said first was its
--- opening, an offer was answered, and no request for synchronous transfer was open in COMMAND, data and STATUS.
+-- The run of a scenario: its rows are the prompt trace, after which nothing is due, its history is what they tell,
+-- which the plain disk array permits, each reply is the outcome that they tell, and its disks hold what the array holds
+-- after that history; the rows and the end obey every rule of the bus, the fault rows are those of the scenario, and no
+-- line is true at the end. Each process that ran and ended carried just its own bytes. The transcript of the rows has
+-- the events of that history, with the names of processes in place of numbers. Each command has its outcome. Where
+-- queues have room and there is no reset and no abort, each valid command that no more faults struck than it bears
+-- ended GOOD, and each that is not valid with the sense of what is wrong with it first; every other outcome has its
+-- cause, each failure the fault row of a byte, and each complaint of an initiator a struck byte of that phase; the
+-- sense with which a command ended is that of its own reply, and only where its automatic REQUEST SENSE was stopped is
+-- it without; and RST began by the reset lines alone. Each outcome is exactly that of the first row that ended the
+-- command, and of its reply; each command was refused exactly where it found a full queue; each phase with wrong parity
+-- was left to try again, or to give up, by the target's limit; what an initiator said first was its opening, an offer
+-- was answered, and no request for synchronous transfer was open in COMMAND, data and STATUS.
 pub record IsPromptRun (s : ScenarioValue) (run : RunValue) : Type 0 where
   pub prompt : IsPrompt s (rows_of run)
   pub lawful : IsLawful (rows_of run) run.end
@@ -74,9 +77,9 @@ pub record IsPromptRun (s : ScenarioValue) (run : RunValue) : Type 0 where
   pub offered : AreOfferReplies s (rows_of run)
   pub offers : AreAnsweredOffers (rows_of run)
 
--- Each row is of one of the eight devices and comes before 2^62 ns, the end is the time of the last, the rows are fewer than an
--- eighth of the budget, as each asks the eight devices, and fewer than 2^32 - 1, and there are as many replies as commands and
--- as many disks as units.
+-- Each row is of one of the eight devices and comes before 2^62 ns, the end is the time of the last, the rows are fewer
+-- than an eighth of the budget, as each asks the eight devices, and fewer than 2^32 - 1, and there are as many replies
+-- as commands and as many disks as units.
 pub record IsRunOf (s : ScenarioValue) (run : RunValue) : Type 0 where
   pub told : IsPromptRun s run
   pub devices : AreOfDevices run.rows

@@ -12,7 +12,8 @@ use Rattle.bus_due.specs.bus_lines.specs.Handshakes.{handshakes, no_handshakes}
 use Rattle.bus_due.specs.bus_dialogue.specs.Hearing.{begun}
 use Rattle.bus_laws.specs.Rows.{Stands}
 
--- The initiator drives BSY until it has handed it over, ACK, ATN and a byte; the target BSY, the phase lines, REQ and a byte.
+-- The initiator drives BSY until it has handed it over, ACK, ATN and a byte; the target BSY, the phase lines, REQ and a
+-- byte.
 pub record EndLines : Type 0 where
   pub bsy : Bool
   pub ack : Bool
@@ -31,7 +32,16 @@ abbrev pub target_side : EndLines → LineSet
 target_side e = record none { data_bits = e.given; bsy = true; msg = e.msg; cd = e.cd; io = e.io; req = e.req }
 
 abbrev pub connected_bus : EndLines → LineSet
-connected_bus e = record none { data_bits = bit_or e.sent e.given; bsy = true; msg = e.msg; cd = e.cd; io = e.io; req = e.req; ack = e.ack; atn = e.atn }
+connected_bus e = record none {
+  data_bits = bit_or e.sent e.given;
+  bsy = true;
+  msg = e.msg;
+  cd = e.cd;
+  io = e.io;
+  req = e.req;
+  ack = e.ack;
+  atn = e.atn;
+}
 
 -- The two ends of the connection that stands drive these lines, and no third device drives one.
 pub record Linked (p : List Row) (n : Connection) (e : EndLines) : Type 0 where
@@ -43,13 +53,24 @@ pub record Linked (p : List Row) (n : Connection) (e : EndLines) : Type 0 where
   pub target : drives p n.target ≡ target_side e
   pub rest : (d : ℕ) → d < 8 → d ≢ n.initiator → d ≢ n.target → drives p d ≡ none
 
--- After a selection the initiator drives ATN and the target BSY. After a reselection the initiator drives BSY, and the target
--- begins MESSAGE IN with a first byte.
+-- After a selection the initiator drives ATN and the target BSY. After a reselection the initiator drives BSY, and the
+-- target begins MESSAGE IN with a first byte.
 abbrev pub ends_selected : EndLines
-ends_selected = record { bsy = false; ack = false; atn = true; sent = 0; msg = false; cd = false; io = false; req = false; given = 0 }
+ends_selected = record {
+  bsy = false;
+  ack = false;
+  atn = true;
+  sent = 0;
+  msg = false;
+  cd = false;
+  io = false;
+  req = false;
+  given = 0;
+}
 
 abbrev pub ends_reselected : ℕ → EndLines
-ends_reselected y = record { bsy = true; ack = false; atn = false; sent = 0; msg = true; cd = true; io = true; req = false; given = y }
+ends_reselected y =
+    record { bsy = true; ack = false; atn = false; sent = 0; msg = true; cd = true; io = true; req = false; given = y }
 
 pub record BeginsSelected (p : List Row) (n : Connection) : Type 0 where
   pub linked : Linked p n ends_selected

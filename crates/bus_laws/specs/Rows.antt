@@ -21,7 +21,8 @@ abbrev pub change_to : LineSet → LineSet → LineSet → LineSet → Change
 change_to b a o n = record { before = b; after = a; own = o; next = n }
 
 -- What stands on the bus after some rows.
-pub record Stands (p : List Row) (b : LineSet) (a : Option Arbitration) (c : Option Call) (n : Option Connection) : Type 0 where
+pub record Stands (p : List Row) (b : LineSet) (a : Option Arbitration) (c : Option Call) (n : Option Connection) : Type
+    0 where
   pub bus_is : bus p ≡ b
   pub arbitration_is : arbitration p ≡ a
   pub call_is : call p ≡ c

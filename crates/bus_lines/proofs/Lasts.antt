@@ -3,7 +3,8 @@ use Rattle.std.proofs.Common.{◌≡◌, List, [], ◌∷◌, ◌++◌, refl, ap
 use Rattle.bus_lines.specs.declared.handshakes.Request.{Request}
 use Rattle.bus_lines.specs.Handshakes.{strikes_last}
 
-pub strikes_end : (xs : List Request) (r : Request) → strikes_last (xs ++ r ∷ []) ≡ xs ++ record { time = r.time; struck = true } ∷ []
+pub strikes_end : (xs : List Request) (r : Request)
+    → strikes_last (xs ++ r ∷ []) ≡ xs ++ record { time = r.time; struck = true } ∷ []
 strikes_end [] r = refl
 strikes_end (x ∷ []) r = refl
 strikes_end (x ∷ (y ∷ xs)) r = ap (λ (rest : List Request). x ∷ rest) (strikes_end (y ∷ xs) r)

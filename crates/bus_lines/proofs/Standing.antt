@@ -1,5 +1,5 @@
--- The stage, the effect of the last row and the handshakes of the phase, computed: on a selection of device 0 by device 7,
--- IDENTIFY and the first bytes of a DATA IN phase; and on a reselection of device 7 by device 0.
+-- The stage, the effect of the last row and the handshakes of the phase, computed: on a selection of device 0 by device
+-- 7, IDENTIFY and the first bytes of a DATA IN phase; and on a reselection of device 7 by device 0.
 use Rattle.std.proofs.Common.{ℕ, ◌≡◌, Bool, true, false, List, [], ◌∷◌, length, replicate, Option, Some, None, refl}
 use lib.Count.{ones}
 use Rattle.bus_trace.specs.LineSet.{none, set_of}
@@ -9,7 +9,8 @@ use Rattle.bus_trace.specs.declared.selection.Call.{Call}
 use Rattle.bus_trace.specs.declared.selection.Calling.{Calling}
 use Rattle.bus_trace.specs.declared.connection.Connection.{Connection}
 use Rattle.bus_lines.specs.declared.handshakes.Request.{Request}
-use Rattle.bus_lines.specs.declared.stage.Stage.TheVariants.{OnFreeBus, InArbitration, InCalling, InAnswer, InConnection, InReset}
+use Rattle.bus_lines.specs.declared.stage.Stage.TheVariants.{OnFreeBus, InArbitration, InCalling, InAnswer}
+use Rattle.bus_lines.specs.declared.stage.Stage.TheVariants.{InConnection, InReset}
 use Rattle.bus_lines.specs.Stage.{stage}
 use Rattle.bus_lines.specs.Effect.{effect, no_effect}
 use Rattle.bus_lines.specs.Handshakes.{handshakes, no_handshakes, room_by}
@@ -67,7 +68,8 @@ called_stage : stage called ≡ InCalling (call_to_0 (Some calling))
 unfolding union_below ones
 called_stage = refl
 
-answered_stage : stage answered ≡ InAnswer (call_to_0 (Some (record calling { answered = Some 5290 }))) (record calling { answered = Some 5290 }) 5290
+answered_stage : stage answered ≡ InAnswer (call_to_0 (Some (record calling { answered = Some 5290 })))
+    (record calling { answered = Some 5290 }) 5290
 unfolding union_below ones
 answered_stage = refl
 
@@ -106,13 +108,25 @@ asked = row 5780 7 0x001c0 ∷ row 5780 0 0x06a00 ∷ row 5380 0 0x02a00 ∷ joi
 abbrev sent : List Row
 sent = row 5870 7 0x081c0 ∷ asked
 
-asked_once : handshakes asked
-    ≡ record no_handshakes { requests = 1; last_req = 5780; reach = 1; waiting = record { time = 5780; struck = false } ∷ [] }
+asked_once : handshakes asked ≡ record no_handshakes {
+  requests = 1;
+  last_req = 5780;
+  reach = 1;
+  waiting = record { time = 5780; struck = false } ∷ [];
+}
 unfolding union_below ones
 asked_once = refl
 
-sent_once : handshakes sent
-    ≡ record { requests = 1; answers = 1; last_req = 5780; last_ack = 5870; struck = false; reach = 1; relieved = Some 5870; waiting = [] }
+sent_once : handshakes sent ≡ record {
+  requests = 1;
+  answers = 1;
+  last_req = 5780;
+  last_ack = 5870;
+  struck = false;
+  reach = 1;
+  relieved = Some 5870;
+  waiting = [];
+}
 unfolding union_below ones
 sent_once = refl
 
@@ -175,8 +189,13 @@ struck_effect
 unfolding union_below ones
 struck_effect = refl
 
-struck_once : handshakes struck
-    ≡ record no_handshakes { requests = 1; last_req = 6725; struck = true; reach = 1; waiting = record { time = 6725; struck = true } ∷ [] }
+struck_once : handshakes struck ≡ record no_handshakes {
+  requests = 1;
+  last_req = 6725;
+  struck = true;
+  reach = 1;
+  waiting = record { time = 6725; struck = true } ∷ [];
+}
 unfolding union_below ones
 struck_once = refl
 
@@ -191,8 +210,16 @@ unfolding union_below ones
 asked_twice = refl
 
 -- ACK answers the oldest request; room came with the first of the two.
-answered_twice : handshakes taken
-    ≡ record { requests = 2; answers = 2; last_req = 6925; last_ack = 7030; struck = false; reach = 2; relieved = Some 6930; waiting = [] }
+answered_twice : handshakes taken ≡ record {
+  requests = 2;
+  answers = 2;
+  last_req = 6925;
+  last_ack = 7030;
+  struck = false;
+  reach = 2;
+  relieved = Some 6930;
+  waiting = [];
+}
 unfolding union_below ones
 answered_twice = refl
 
@@ -210,12 +237,30 @@ abbrev asked_at : ℕ → Bool → Request
 asked_at time struck = record { time = time; struck = struck }
 
 -- Three requests, the last of which is struck, and two answers: the first of these made room.
-answered_in_turn : pulses.answered 950 (pulses.answered 900 (pulses.strikes (pulses.asked 800 (pulses.asked 700 (pulses.asked 600 no_handshakes)))))
-    ≡ record { requests = 3; answers = 2; last_req = 800; last_ack = 950; struck = true; reach = 3; relieved = Some 900; waiting = asked_at 800 true ∷ [] }
+answered_in_turn : pulses.answered 950
+    (pulses.answered 900 (pulses.strikes (pulses.asked 800 (pulses.asked 700 (pulses.asked 600 no_handshakes)))))
+    ≡ record {
+      requests = 3;
+      answers = 2;
+      last_req = 800;
+      last_ack = 950;
+      struck = true;
+      reach = 3;
+      relieved = Some 900;
+      waiting = asked_at 800 true ∷ [];
+    }
 answered_in_turn = refl
 
-asked_again : pulses.asked 990 (pulses.answered 950 (pulses.strikes (pulses.asked 600 no_handshakes)))
-    ≡ record { requests = 2; answers = 1; last_req = 990; last_ack = 950; struck = false; reach = 1; relieved = None; waiting = asked_at 990 false ∷ [] }
+asked_again : pulses.asked 990 (pulses.answered 950 (pulses.strikes (pulses.asked 600 no_handshakes))) ≡ record {
+  requests = 2;
+  answers = 1;
+  last_req = 990;
+  last_ack = 950;
+  struck = false;
+  reach = 1;
+  relieved = None;
+  waiting = asked_at 990 false ∷ [];
+}
 asked_again = refl
 
 struck_before_any : pulses.strikes no_handshakes ≡ no_handshakes
@@ -231,8 +276,8 @@ remembers_no_more = refl
 -- ---- a reselection
 
 abbrev rejoined : List Row
-rejoined =
-    row 5470 0 0x01200 ∷ row 5380 0 0x01781 ∷ row 5290 7 0x00200 ∷ row 4890 0 0x01581 ∷ row 4800 0 0x01781 ∷ row 3600 0 0x00601 ∷ row 1200 0 0x00201 ∷ []
+rejoined = row 5470 0 0x01200 ∷ row 5380 0 0x01781 ∷ row 5290 7 0x00200 ∷ row 4890 0 0x01581 ∷ row 4800 0 0x01781
+    ∷ row 3600 0 0x00601 ∷ row 1200 0 0x00201 ∷ []
 
 rejoined_stage : stage rejoined ≡ InConnection (record { initiator = 7; target = 0; began = 5470; reselected = true })
 unfolding union_below ones

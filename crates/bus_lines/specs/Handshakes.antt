@@ -1,7 +1,8 @@
 -- The rises of REQ and of ACK in the present phase (ANSI X3.131-1994, 6.1.5.1 and 6.1.5.2). What is kept of them is
 -- bounded, whatever the rows: counts stay at the last u64, and at most 255 requests are remembered as unanswered, since
 -- no REQ/ACK offset is higher (6.6.21).
-use Rattle.std.specs.Prelude.{ℕ, ◌==◌, Bool, true, false, not, List, [], ◌∷◌, ◌++◌, drop, length, Option, Some, None, nat_lt, if◌then◌else◌}
+use Rattle.std.specs.Prelude.{ℕ, ◌==◌, Bool, true, false, not, List, [], ◌∷◌, ◌++◌, drop, length, Option, Some, None}
+use Rattle.std.specs.Prelude.{nat_lt, if◌then◌else◌}
 use Rattle.bus_trace.specs.bus_base.specs.Faults.{counted_on}
 use Rattle.bus_trace.specs.declared.Row.{Row}
 use Rattle.bus_trace.specs.declared.changes.Change.{Change}
@@ -27,7 +28,16 @@ pub record Handshakes : Type 0 where
   pub waiting : List Request
 
 abbrev pub no_handshakes : Handshakes
-no_handshakes = record { requests = 0; answers = 0; last_req = 0; last_ack = 0; struck = false; reach = 0; relieved = None; waiting = [] }
+no_handshakes = record {
+  requests = 0;
+  answers = 0;
+  last_req = 0;
+  last_ack = 0;
+  struck = false;
+  reach = 0;
+  relieved = None;
+  waiting = [];
+}
 
 -- ---- REQ rises
 
@@ -116,8 +126,8 @@ abbrev pub is_struck : Option Request → Bool
 is_struck None = false
 is_struck (Some r) = r.struck
 
--- Since when fewer requests than the offset are unanswered (6.1.5.2). Where the last rise of REQ filled the offset, that
--- is since ACK first rose after it; else it was so before it.
+-- Since when fewer requests than the offset are unanswered (6.1.5.2). Where the last rise of REQ filled the offset,
+-- that is since ACK first rose after it; else it was so before it.
 abbrev pub or_zero : Option ℕ → ℕ
 or_zero None = 0
 or_zero (Some time) = time

@@ -8,7 +8,8 @@ use Rattle.bus_trace.specs.declared.selection.Call.{Call}
 use Rattle.bus_trace.specs.declared.selection.Calling.{Calling}
 use Rattle.bus_trace.specs.declared.connection.Connection.{Connection}
 use Rattle.bus_lines.specs.declared.stage.Stage.{Stage}
-use Rattle.bus_lines.specs.declared.stage.Stage.TheVariants.{OnFreeBus, InArbitration, InCalling, InAnswer, InConnection, InReset}
+use Rattle.bus_lines.specs.declared.stage.Stage.TheVariants.{OnFreeBus, InArbitration, InCalling, InAnswer}
+use Rattle.bus_lines.specs.declared.stage.Stage.TheVariants.{InConnection, InReset}
 use Rattle.bus_trace.specs.Terms.{free_since, arbitration, call, connection}
 
 -- While SEL is true: whether the called device has answered.
@@ -28,5 +29,5 @@ stage_by false rst None None (Some a) free = InArbitration a
 stage_by false rst None None None free = OnFreeBus free
 
 abbrev pub stage : List Row → Stage
-stage rows =
-    stage_by (bus rows).rst (since_line (λ x. x.rst) rows) (connection rows) (call rows) (arbitration rows) (free_since rows)
+stage rows = stage_by (bus rows).rst (since_line (λ x. x.rst) rows) (connection rows) (call rows) (arbitration rows)
+    (free_since rows)

@@ -6,7 +6,8 @@ use Rattle.bus_trace.specs.declared.selection.Call.{Call}
 use Rattle.bus_trace.specs.declared.selection.Calling.{Calling}
 use Rattle.bus_trace.specs.declared.connection.Connection.{Connection}
 use Rattle.bus_lines.specs.declared.stage.Stage.{Stage}
-use Rattle.bus_lines.specs.declared.stage.Stage.TheVariants.{OnFreeBus, InArbitration, InCalling, InAnswer, InConnection, InReset}
+use Rattle.bus_lines.specs.declared.stage.Stage.TheVariants.{OnFreeBus, InArbitration, InCalling, InAnswer}
+use Rattle.bus_lines.specs.declared.stage.Stage.TheVariants.{InConnection, InReset}
 use Rattle.bus_lines.specs.Handshakes.{Handshakes, first_of, time_of, or_zero}
 use Rattle.bus_lines.specs.BusView.{BusViewValue}
 

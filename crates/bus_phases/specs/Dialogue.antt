@@ -5,7 +5,8 @@
 -- next message of the connection in either direction is MESSAGE PARITY ERROR: so what holds without it is kept
 -- beside what holds with it, until the next message. The bytes of MESSAGE OUT begin anew with a byte after one
 -- that crossed with ATN false in the same phase: so what held when the phase began is kept too.
-use Rattle.std.specs.Prelude.{ℕ, Bool, true, false, not, ◌%◌, ◌&&◌, ◌==◌, List, [], ◌∷◌, ◌++◌, Option, Some, None, is_some, if◌then◌else◌}
+use Rattle.std.specs.Prelude.{ℕ, Bool, true, false, not, ◌%◌, ◌&&◌, ◌==◌, List, [], ◌∷◌, ◌++◌, Option, Some, None}
+use Rattle.std.specs.Prelude.{is_some, if◌then◌else◌}
 use Rattle.bus_base.specs.Faults.{counted_on}
 use Rattle.bus_trace.specs.LineSet.{LineSet}
 use Rattle.bus_trace.specs.Trace.{bus}
@@ -55,7 +56,8 @@ abbrev pub no_command : CommandBytes
 no_command = record { first = 0; count = 0 }
 
 abbrev pub nothing_spoken : Agreement → Spoken
-nothing_spoken agreement = record { agreement = agreement; offer = None; answered = None; command = no_command; device_reset = false }
+nothing_spoken agreement =
+    record { agreement = agreement; offer = None; answered = None; command = no_command; device_reset = false }
 
 abbrev pub asynchronous : Agreement
 asynchronous = record { period = 0; offset = 0 }
@@ -93,7 +95,8 @@ abbrev pub spoken_with_word : Spoken → End → Word → Spoken
 spoken_with_word s end (words.Offer a) = spoken_with_offer s end a
 spoken_with_word s end words.Reject = spoken_with_reject s end
 spoken_with_word s end words.Restore = record s { command = no_command; answered = None }
-spoken_with_word s end words.DeviceReset = record s { agreement = without_offset s.agreement; device_reset = true; answered = None }
+spoken_with_word s end words.DeviceReset =
+    record s { agreement = without_offset s.agreement; device_reset = true; answered = None }
 spoken_with_word s end words.ParityError = record s { answered = None }
 spoken_with_word s end words.Other = record s { answered = None }
 
@@ -105,7 +108,8 @@ void_or_now (Some s) now = s
 
 -- What held without the last message, where that came in MESSAGE IN, holds again with MESSAGE PARITY ERROR.
 abbrev pub heard_with_out : Heard → Word → Heard
-heard_with_out h words.ParityError = record { now = spoken_with_word (void_or_now h.void h.now) ends.Initiator words.ParityError; void = None }
+heard_with_out h words.ParityError =
+    record { now = spoken_with_word (void_or_now h.void h.now) ends.Initiator words.ParityError; void = None }
 heard_with_out h word = record { now = spoken_with_word h.now ends.Initiator word; void = None }
 
 -- A MESSAGE IN message begins, and one that is whole is heard.
@@ -181,7 +185,9 @@ byte_in d byte = record d {
 
 abbrev pub byte_else : Dialogue → LineSet → ℕ → Dialogue
 byte_else d s byte =
-    if is_command s then record d { heard = heard_with_command d.heard byte; begun = true } else record d { begun = true }
+    if is_command s then record d { heard = heard_with_command d.heard byte; begun = true } else record d {
+      begun = true;
+    }
 
 -- A byte that crosses in the phase of these lines.
 abbrev pub byte_crosses : Dialogue → Change → Dialogue
@@ -230,7 +236,8 @@ abbrev mutual
   -- What the messages of the connection that stands say.
   pub dialogue : List Row → Dialogue
   dialogue [] = opened asynchronous
-  dialogue (row ∷ rows) = dialogue_after (dialogue rows) (connection rows) (connection (row ∷ rows)) (agreed rows) (change_of rows row)
+  dialogue (row ∷ rows) =
+      dialogue_after (dialogue rows) (connection rows) (connection (row ∷ rows)) (agreed rows) (change_of rows row)
 
 -- A byte of DATA crosses, and makes nothing of a message.
 abbrev pub takes_data : Dialogue → Bool → Dialogue

@@ -79,5 +79,5 @@ duty_after duty (Some n) c held =
 
 abbrev pub duty : List Row → Duty
 duty [] = duties.Nothing
-duty (row ∷ rows) =
-    duty_after (duty rows) (connection (row ∷ rows)) (change_of rows row) (is_attention_held (change_of rows row) (since_line (λ s. s.atn) rows) row.time)
+duty (row ∷ rows) = duty_after (duty rows) (connection (row ∷ rows)) (change_of rows row)
+    (is_attention_held (change_of rows row) (since_line (λ s. s.atn) rows) row.time)

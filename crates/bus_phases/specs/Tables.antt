@@ -13,5 +13,5 @@ IsRaisesOf line rows r = (dev : ℕ) → dev < 8 → slice_index r.times dev ≡
 
 -- The agreement of each pair.
 abbrev pub AreAgreements : (ℕ → ℕ → Agreement) → Agreements → Type 0
-AreAgreements agreed a =
-    (i t : ℕ) → i < 8 → t < 8 → (slice_index a.periods (i * 8 + t) ≡ (agreed i t).period) × (slice_index a.offsets (i * 8 + t) ≡ (agreed i t).offset)
+AreAgreements agreed a = (i t : ℕ) → i < 8 → t < 8 → (slice_index a.periods (i * 8 + t) ≡ (agreed i t).period)
+    × (slice_index a.offsets (i * 8 + t) ≡ (agreed i t).offset)

@@ -1,6 +1,8 @@
 -- From the rise of SEL to its fall: selection and reselection (6.1.2 to 6.1.4).
-use Rattle.std.specs.Prelude.{ℕ, ◌+◌, Bool, true, false, not, ◌&&◌, ◌==◌, Option, Some, None, is_some, is_none, nat_lt, if◌then◌else◌}
-use Rattle.bus_lines.specs.bus_trace.specs.declared.delays.TheConstants.{QUIET_TIME, TWO_DESKEW, BUS_SETTLE_DELAY, SELECTION_TIMEOUT_DELAY, SELECTION_ABORT_TIME}
+use Rattle.std.specs.Prelude.{ℕ, ◌+◌, Bool, true, false, not, ◌&&◌, ◌==◌, Option, Some, None, is_some, is_none, nat_lt}
+use Rattle.std.specs.Prelude.{if◌then◌else◌}
+use Rattle.bus_lines.specs.bus_trace.specs.declared.delays.TheConstants.{QUIET_TIME, TWO_DESKEW, BUS_SETTLE_DELAY}
+use Rattle.bus_lines.specs.bus_trace.specs.declared.delays.TheConstants.{SELECTION_TIMEOUT_DELAY, SELECTION_ABORT_TIME}
 use Rattle.bus_lines.specs.bus_trace.specs.LineSet.{LineSet, none, ids_set, byte_set}
 use Rattle.bus_lines.specs.bus_trace.specs.declared.selection.Call.{Call}
 use Rattle.bus_lines.specs.bus_trace.specs.declared.selection.Calling.{Calling}
@@ -25,8 +27,8 @@ with_calling_mark reselects lines = if reselects then record lines { io = true }
 abbrev pub calling_start : Bool → Myself → Option ℕ → Option Due
 calling_start reselects me None = None
 calling_start reselects me (Some other) =
-    due_where (nat_lt other 8 && not (other == me.dev))
-    (due_at (me.since + QUIET_TIME + me.latency) (with_calling_mark reselects (record (ids_set me.dev other) { bsy = true; sel = true })))
+    due_where (nat_lt other 8 && not (other == me.dev)) (due_at (me.since + QUIET_TIME + me.latency)
+    (with_calling_mark reselects (record (ids_set me.dev other) { bsy = true; sel = true })))
 
 -- Two deskew delays later it releases BSY (6.1.3, 6.1.4).
 abbrev pub calling_bsy_release : Myself → Option Due
@@ -50,8 +52,8 @@ abbrev pub bsy_takeover : Myself → ℕ → Option Due
 bsy_takeover me answered = due_at (answered + me.latency) (record me.own { bsy = true })
 
 abbrev pub reselection_end : Myself → ℕ → Option Due
-reselection_end me first =
-    due_at (me.since + TWO_DESKEW + me.latency) (record (byte_set first) { bsy = true; msg = true; cd = true; io = true })
+reselection_end me first = due_at (me.since + TWO_DESKEW + me.latency)
+    (record (byte_set first) { bsy = true; msg = true; cd = true; io = true })
 
 abbrev pub unanswered_due : Myself → Calling → Option ℕ → Option Due
 unanswered_due me c None = calling_bsy_release me

@@ -27,8 +27,8 @@ target_due begun v b me p g =
     else if p.pulsed then target_pulse v b me p g
     else target_handshake v b me g
 
--- After a reselection it releases BSY when SEL is false. What it still drives of a pulsed phase that was left it releases
--- at the end of the hold time (6.1.4, 6.1.5.2).
+-- After a reselection it releases BSY when SEL is false. What it still drives of a pulsed phase that was left it
+-- releases at the end of the hold time (6.1.4, 6.1.5.2).
 abbrev pub bsy_release : Sight → Myself → Option Due
 bsy_release v me = due_at (v.ages.sel + me.latency) (record me.own { bsy = false })
 
@@ -43,8 +43,8 @@ initiator_due begun v b me p a =
     else if owes_release v me then byte_release me p a
     else initiator_handshake v b me a
 
--- The receiver of the byte that crossed in the last row samples it at once, at that time. Where a fault strikes a bit of
--- it, it makes the fault row first.
+-- The receiver of the byte that crossed in the last row samples it at once, at that time. Where a fault strikes a bit
+-- of it, it makes the fault row first.
 abbrev pub sample_due : Bool → ℕ → Option ℕ → Option Due → Option Due
 sample_due true last flip plain = fault_or last flip plain
 sample_due false last flip plain = plain

@@ -17,7 +17,8 @@ entry me free w = due_at (max (free + ENTRY_DELAY) w + me.latency) (contender_li
 
 -- It does so on the free bus, or at most a bus set delay after the first entry (6.1.2).
 abbrev pub later_entry : Myself → Arbitration → ℕ → Option Due
-later_entry me a w = due_where (nat_le (max (a.free + ENTRY_DELAY) w + me.latency) (a.first + BUS_SET_DELAY)) (entry me a.free w)
+later_entry me a w =
+    due_where (nat_le (max (a.free + ENTRY_DELAY) w + me.latency) (a.first + BUS_SET_DELAY)) (entry me a.free w)
 
 abbrev pub free_due : Myself → ℕ → Option ℕ → Option Due
 free_due me free None = None
@@ -30,7 +31,8 @@ later_entry_if me a (Some w) = later_entry me a w
 -- An arbitration delay after its entry a contender looks for a higher ID, and adds SEL where none is true. One that
 -- has lost waits for SEL (6.1.2).
 abbrev pub win : LineSet → Myself → Option Due
-win bus me = due_where (not (has_id_above bus me.dev)) (due_at (me.since + ARBITRATION_DELAY + me.latency) (record me.own { sel = true }))
+win bus me = due_where (not (has_id_above bus me.dev))
+    (due_at (me.since + ARBITRATION_DELAY + me.latency) (record me.own { sel = true }))
 
 abbrev pub arbitration_due : LineSet → Myself → Arbitration → Option ℕ → Option Due
 arbitration_due bus me a w = if me.own.bsy then win bus me else later_entry_if me a w

@@ -1,6 +1,7 @@
 -- What the initiator of a connection does next by REQ and ACK: byte by byte (6.1.5.1, 6.1.9, 6.1.10), and by pulses
 -- under an offset and a period (6.1.5.2, 6.6.21).
-use Rattle.std.specs.Prelude.{ℕ, ◌+◌, max, Bool, true, false, not, ◌&&◌, ◌||◌, ◌==◌, length, Option, None, if◌then◌else◌}
+use Rattle.std.specs.Prelude.{ℕ, ◌+◌, max, Bool, true, false, not, ◌&&◌, ◌||◌, ◌==◌, length, Option, None}
+use Rattle.std.specs.Prelude.{if◌then◌else◌}
 use Rattle.bus_lines.specs.bus_trace.specs.declared.delays.TheConstants.{SET_UP_TIME, TWO_DESKEW}
 use Rattle.bus_lines.specs.bus_trace.specs.LineSet.{LineSet, byte_set}
 use Rattle.bus_lines.specs.bus_trace.specs.Phases.{is_message_out}
@@ -50,9 +51,9 @@ initiator_byte v me a = due_at (v.ages.req + me.latency) (out_lines a.byte (atte
 -- ACK comes a deskew delay and a cable skew delay later; in MESSAGE OUT also two deskew delays after the last change
 -- of ATN (6.1.5.1, 6.2.1).
 abbrev pub sent_byte_ack : Sight → Myself → Option Due
-sent_byte_ack v me =
-    due_at ((if is_message_out v.bus then max (me.since + SET_UP_TIME) (v.ages.atn + TWO_DESKEW) else me.since + SET_UP_TIME) + me.latency)
-    (record me.own { ack = true })
+sent_byte_ack v me = due_at
+    ((if is_message_out v.bus then max (me.since + SET_UP_TIME) (v.ages.atn + TWO_DESKEW) else me.since + SET_UP_TIME)
+    + me.latency) (record me.own { ack = true })
 
 abbrev pub initiator_turn : Sight → Handshakes → Myself → Answering → Option Due
 initiator_turn v b me a =
@@ -70,8 +71,8 @@ initiator_handshake v b me a =
 -- An ACK pulse ends after the assertion period; where ATN rose with it after two deskew delays, if that is longer
 -- (6.1.5.2, 6.2.1).
 abbrev pub ack_pulse_end : Sight → Myself → Pace → Option Due
-ack_pulse_end v me p =
-    due_at (v.ages.ack + (if rose_with_ack v me then max TWO_DESKEW p.times.assertion else p.times.assertion) + me.latency)
+ack_pulse_end v me p = due_at
+    (v.ages.ack + (if rose_with_ack v me then max TWO_DESKEW p.times.assertion else p.times.assertion) + me.latency)
     (record me.own { ack = false })
 
 -- The ACK pulse of the oldest REQ pulse begins its lag after that, a period after the last ACK pulse, and a negation
@@ -88,23 +89,26 @@ ack_pulse_time v b p = max (oldest_req_time b + p.lag) (next_ack_time v b p)
 
 -- In DATA IN with ATN, where the parity of that byte was wrong (6.2.1).
 abbrev pub received_byte_pulse : Sight → Handshakes → Myself → Pace → Option Due
-received_byte_pulse v b me p = due_at (ack_pulse_time v b p + me.latency) (ack_lines (is_struck (first_of b.waiting)) me.own)
+received_byte_pulse v b me p =
+    due_at (ack_pulse_time v b p + me.latency) (ack_lines (is_struck (first_of b.waiting)) me.own)
 
--- In DATA OUT it drives the byte of the oldest REQ pulse at its rise, and no sooner than the end of the hold time of the
--- byte before; a set-up time later ACK may rise. An equal byte makes no row, and counts as driven at that time (6.1.5.2).
+-- In DATA OUT it drives the byte of the oldest REQ pulse at its rise, and no sooner than the end of the hold time of
+-- the byte before; a set-up time later ACK may rise. An equal byte makes no row, and counts as driven at that time
+-- (6.1.5.2).
 abbrev pub byte_hold_end : Myself → Pace → Answering → ℕ
 byte_hold_end me p a = a.raised + p.times.hold + me.latency
 
 abbrev pub byte_time : Handshakes → Myself → Pace → Answering → ℕ
 byte_time b me p a =
-    if b.answers == 0 then oldest_req_time b + me.latency else max (oldest_req_time b + me.latency) (byte_hold_end me p a)
+    if b.answers == 0 then oldest_req_time b + me.latency
+    else max (oldest_req_time b + me.latency) (byte_hold_end me p a)
 
 abbrev pub pulsed_byte : Handshakes → Myself → Pace → Answering → Option Due
 pulsed_byte b me p a = due_at (byte_time b me p a) (with_data_bits me.own (byte_bits a.byte))
 
 abbrev pub sent_byte_pulse : Sight → Handshakes → Myself → Pace → Answering → Option Due
-sent_byte_pulse v b me p a =
-    due_at (max (ack_pulse_time v b p) (byte_time b me p a + p.times.set_up) + me.latency) (record me.own { ack = true })
+sent_byte_pulse v b me p a = due_at (max (ack_pulse_time v b p) (byte_time b me p a + p.times.set_up) + me.latency)
+    (record me.own { ack = true })
 
 -- At the end of a hold time it releases its data lines, where no REQ pulse is unanswered (6.1.5.2).
 abbrev pub byte_release : Myself → Pace → Answering → Option Due

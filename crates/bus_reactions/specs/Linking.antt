@@ -6,7 +6,8 @@ use Rattle.bus_reactions.specs.declared.due.Due.{Due}
 use Rattle.bus_reactions.specs.declared.due.Myself.{Myself}
 use Rattle.bus_reactions.specs.declared.due.Want.{Want}
 use Rattle.bus_lines.specs.declared.stage.Stage.{Stage}
-use Rattle.bus_lines.specs.declared.stage.Stage.TheVariants.{OnFreeBus, InArbitration, InCalling, InAnswer, InConnection, InReset}
+use Rattle.bus_lines.specs.declared.stage.Stage.TheVariants.{OnFreeBus, InArbitration, InCalling, InAnswer}
+use Rattle.bus_lines.specs.declared.stage.Stage.TheVariants.{InConnection, InReset}
 use Rattle.bus_reactions.specs.declared.sight.Sight.{Sight}
 use Rattle.bus_reactions.specs.Reactions.{release_after}
 use Rattle.bus_reactions.specs.FreeBus.{free_due, arbitration_due}

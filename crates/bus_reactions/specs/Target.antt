@@ -1,6 +1,7 @@
 -- What the target of a connection does next by REQ and ACK: byte by byte, and the first byte of every phase (6.1.5.1,
 -- 6.1.9, 6.1.10); and by pulses under an offset and a period (6.1.5.2, 6.6.21).
-use Rattle.std.specs.Prelude.{ℕ, ◌+◌, max, Bool, true, false, not, ◌&&◌, ◌||◌, ◌==◌, length, Option, None, nat_lt, if◌then◌else◌}
+use Rattle.std.specs.Prelude.{ℕ, ◌+◌, max, Bool, true, false, not, ◌&&◌, ◌||◌, ◌==◌, length, Option, None, nat_lt}
+use Rattle.std.specs.Prelude.{if◌then◌else◌}
 use Rattle.bus_lines.specs.bus_trace.specs.declared.delays.TheConstants.{BUS_SETTLE_DELAY, TURN_DELAY, SET_UP_TIME}
 use Rattle.bus_lines.specs.bus_trace.specs.LineSet.{LineSet, byte_set}
 use Rattle.bus_reactions.specs.declared.due.Due.{Due}
@@ -27,9 +28,9 @@ has_io_turned v = v.bus.io && v.ages.io == phase_time v.ages
 abbrev pub req_assertion : Myself → ℕ → Option Due
 req_assertion me time = due_at (time + me.latency) (record me.own { req = true })
 
--- The first REQ of a phase rises a bus settle delay after the phase lines. Where I/O turned to true the first byte comes
--- a data release delay and a bus settle delay after them, and REQ a deskew delay and a cable skew delay after the byte
--- (6.1.5.1, 6.1.10).
+-- The first REQ of a phase rises a bus settle delay after the phase lines. Where I/O turned to true the first byte
+-- comes a data release delay and a bus settle delay after them, and REQ a deskew delay and a cable skew delay after the
+-- byte (6.1.5.1, 6.1.10).
 abbrev pub first_byte : Sight → Myself → Offering → Option Due
 first_byte v me g = due_at (phase_time v.ages + TURN_DELAY + me.latency) (with_data_bits me.own (byte_bits g.byte))
 
@@ -41,7 +42,8 @@ first_req v me g =
 
 -- ---- byte by byte
 
--- On ACK it negates REQ. In the same row it drives the next byte to the initiator, or releases the data lines (6.1.5.1).
+-- On ACK it negates REQ. In the same row it drives the next byte to the initiator, or releases the data lines
+-- (6.1.5.1).
 abbrev pub bits_if : Bool → ℕ → ℕ
 bits_if follows byte = if follows then byte_bits byte else 0
 
@@ -89,8 +91,8 @@ abbrev pub set_up_end : Sight → Handshakes → Myself → Pace → ℕ
 set_up_end v b me p = if v.bus.io then hold_end b me p + p.times.set_up else 0
 
 abbrev pub req_pulse : Sight → Handshakes → Myself → Pace → Option Due
-req_pulse v b me p =
-    req_assertion me (max (max (b.last_req + p.times.period) (v.ages.req + p.times.negation)) (max (room_by p.offset b) (set_up_end v b me p)))
+req_pulse v b me p = req_assertion me (max (max (b.last_req + p.times.period) (v.ages.req + p.times.negation))
+    (max (room_by p.offset b) (set_up_end v b me p)))
 
 -- The phase is left once all pulses are answered, ACK is false, and the last byte has been held (6.1.5.2, 6.1.10).
 abbrev pub last_hold_end : Sight → Handshakes → Pace → ℕ

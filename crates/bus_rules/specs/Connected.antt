@@ -43,9 +43,8 @@ changes_well c = implies (changes_phase c) (not c.before.req && not c.before.ack
 -- REQ rises at least a bus settle delay after their last change, and after the connection's beginning, and
 -- never in a reserved phase.
 abbrev pub asks_well : Connection → Seen → ℕ → Bool
-asks_well n s time =
-    implies (rises s.change.before.req s.change.after.req)
-    (not (changes_phase s.change) && not (is_reserved s.change.before) && nat_le (max (phase_time s.times) n.began + BUS_SETTLE_DELAY) time)
+asks_well n s time = implies (rises s.change.before.req s.change.after.req) (not (changes_phase s.change)
+    && not (is_reserved s.change.before) && nat_le (max (phase_time s.times) n.began + BUS_SETTLE_DELAY) time)
 
 -- Rule 14. These three.
 abbrev pub keeps_lines_of : Seen → Row → Option Connection → Bool
@@ -91,9 +90,8 @@ io_true_since s time = if rises s.change.before.io s.change.after.io then time e
 -- settle delay later or more. Before a row later than a deskew delay after I/O became false it drives none.
 abbrev pub waits_for_turn : Seen → Row → Option Connection → Bool
 waits_for_turn s row None = true
-waits_for_turn s row (Some n) =
-    implies (s.change.after.io && turned_after s.turned s.connection s.change && row.dev == n.target && drives_data s.change.next)
-    (nat_le (io_true_since s row.time + TURN_DELAY) row.time)
+waits_for_turn s row (Some n) = implies (s.change.after.io && turned_after s.turned s.connection s.change
+    && row.dev == n.target && drives_data s.change.next) (nat_le (io_true_since s row.time + TURN_DELAY) row.time)
 
 abbrev pub target_released_of : Seen → ℕ → Option Connection → Bool
 target_released_of s time None = true

@@ -1,8 +1,10 @@
 -- Rows that change data lines, REQ and ACK alone, in a DATA phase or, where no byte crosses, in another one, and a
 -- short test that such a row breaks no rule.
-use Rattle.std.specs.Prelude.{ℕ, ◌+◌, Bool, true, false, not, max, ◌&&◌, ◌||◌, ◌==◌, List, Option, Some, None, nat_le, nat_lt, is_some, is_none, if◌then◌else◌}
+use Rattle.std.specs.Prelude.{ℕ, ◌+◌, Bool, true, false, not, max, ◌&&◌, ◌||◌, ◌==◌, List, Option, Some, None, nat_le}
+use Rattle.std.specs.Prelude.{nat_lt, is_some, is_none, if◌then◌else◌}
 use Rattle.bus_trace.specs.declared.agreements.TheConstants.{UNLIMITED_OFFSET}
-use Rattle.bus_trace.specs.declared.delays.TheConstants.{BUS_SETTLE_DELAY, DATA_RELEASE_DELAY, DESKEW_DELAY, SET_UP_TIME, TURN_DELAY}
+use Rattle.bus_trace.specs.declared.delays.TheConstants.{BUS_SETTLE_DELAY, DATA_RELEASE_DELAY, DESKEW_DELAY}
+use Rattle.bus_trace.specs.declared.delays.TheConstants.{SET_UP_TIME, TURN_DELAY}
 use Rattle.bus_trace.specs.LineSet.{LineSet, data_of, same, same_set, has_odd_parity}
 use Rattle.bus_trace.specs.Trace.{drives, last_time, since}
 use Rattle.bus_trace.specs.View.{View}
@@ -115,8 +117,8 @@ abbrev pub is_quiet_bus : LineSet → Bool
 is_quiet_bus s = s.bsy && not s.sel && not s.rst
 
 abbrev pub is_calm_row : Change → Bool
-is_calm_row c =
-    is_quiet_bus c.before && same_stage c.before c.after && (not c.own.sel && not c.own.rst && same_stage c.own c.next) && is_calm c
+is_calm_row c = is_quiet_bus c.before && same_stage c.before c.after
+    && (not c.own.sel && not c.own.rst && same_stage c.own c.next) && is_calm c
 
 -- The phase has settled, no MESSAGE OUT is owed, and the target alone drives BSY: REQ may rise.
 abbrev pub has_settled : Connection → Standing → ℕ → Bool
@@ -129,7 +131,8 @@ is_in_turn is_target c = implies (raises_data c) (same is_target c.before.io)
 
 abbrev pub has_turned : Standing → Bool → Change → ℕ → Bool
 has_turned s is_target c time =
-    if c.before.io then (not s.initiator_data || nat_le time (s.times.io + DATA_RELEASE_DELAY)) && implies (s.turned && is_target && drives_data c.next) (nat_le (s.times.io + TURN_DELAY) time)
+    if c.before.io then (not s.initiator_data || nat_le time (s.times.io + DATA_RELEASE_DELAY))
+    && implies (s.turned && is_target && drives_data c.next) (nat_le (s.times.io + TURN_DELAY) time)
     else (not s.target_data || nat_le time (s.times.io + DESKEW_DELAY))
 
 -- Since when the data lines stand as they do after the row.
@@ -158,7 +161,8 @@ crosses_well s c set_up time = may_cross s c && nat_le (stand_since c s.data_sin
 
 -- What moves does so in its turn, where bytes cross asynchronously: as REQ rises, and as ACK does;
 abbrev pub asks_in_turn : Connection → Standing → Change → ℕ → Bool
-asks_in_turn n s c time = has_settled n s time && not c.before.ack && implies c.before.io (crosses_well s c SET_UP_TIME time)
+asks_in_turn n s c time =
+    has_settled n s time && not c.before.ack && implies c.before.io (crosses_well s c SET_UP_TIME time)
 
 abbrev pub answers_in_turn : Standing → Change → ℕ → Bool
 answers_in_turn s c time = c.before.req && (c.before.io || crosses_well s c SET_UP_TIME time)
@@ -203,30 +207,31 @@ initiator_pulses_well s c t time =
 -- A DATA phase under an agreement with an offset uses pulses.
 abbrev pub target_moves_well : Connection → Standing → Change → ℕ → Bool
 target_moves_well n s c time =
-    if is_data c.before && not (s.agreement.offset == 0) then target_pulses_well n s c (times_of s.agreement.period) time
-    else target_shakes_well n s c time
+    if is_data c.before && not (s.agreement.offset == 0)
+    then target_pulses_well n s c (times_of s.agreement.period) time else target_shakes_well n s c time
 
 abbrev pub initiator_moves_well : Standing → Change → ℕ → Bool
 initiator_moves_well s c time =
-    if is_data c.before && not (s.agreement.offset == 0) then initiator_pulses_well s c (times_of s.agreement.period) time
-    else initiator_shakes_well s c time
+    if is_data c.before && not (s.agreement.offset == 0)
+    then initiator_pulses_well s c (times_of s.agreement.period) time else initiator_shakes_well s c time
 
 abbrev pub turns_well : Standing → Bool → Change → ℕ → Bool
 turns_well s is_target c time = is_in_turn is_target c && has_turned s is_target c time
 
 -- A row of the target leaves ACK as it is, one of the initiator REQ; neither drives a line of the other end.
 abbrev pub target_passes : Connection → Standing → Change → ℕ → Bool
-target_passes n s c time =
-    same c.before.ack c.after.ack && has_no_initiator_line c.next && turns_well s true c time && target_moves_well n s c time
+target_passes n s c time = same c.before.ack c.after.ack && has_no_initiator_line c.next && turns_well s true c time
+    && target_moves_well n s c time
 
 abbrev pub initiator_passes : Standing → Change → ℕ → Bool
-initiator_passes s c time =
-    same c.before.req c.after.req && has_no_target_line c.next && turns_well s false c time && initiator_moves_well s c time
+initiator_passes s c time = same c.before.req c.after.req && has_no_target_line c.next && turns_well s false c time
+    && initiator_moves_well s c time
 
 -- In this connection such a row of one of its ends breaks no rule.
 abbrev pub passes_in : Connection → Standing → Change → Row → Bool
 passes_in n s c row =
-    if row.dev == n.target then target_passes n s c row.time else (row.dev == n.initiator && initiator_passes s c row.time)
+    if row.dev == n.target then target_passes n s c row.time
+    else (row.dev == n.initiator && initiator_passes s c row.time)
 
 abbrev pub passes_of : Standing → Change → Row → Option Connection → Bool
 passes_of s c row None = false
@@ -237,13 +242,15 @@ abbrev pub is_move : Change → Row → Bool
 is_move c row = not (is_fault row.kind) && not (same_set c.own c.next)
 
 abbrev pub passes : Standing → Change → Row → Bool
-passes s c row = nat_le s.last row.time && is_move c row && is_calm_row c && s.is_alone && passes_of s c row s.connection
+passes s c row =
+    nat_le s.last row.time && is_move c row && is_calm_row c && s.is_alone && passes_of s c row s.connection
 
 -- ---- the terms after such a row
 
 abbrev pub duty_in_data : Duty → Change → Bool → Duty
 duty_in_data duty c held =
-    if rises c.before.req c.after.req then duties.Nothing else if falls c.before.ack c.after.ack && held then duties.Asked else duty
+    if rises c.before.req c.after.req then duties.Nothing
+    else if falls c.before.ack c.after.ack && held then duties.Asked else duty
 
 abbrev pub course_after_transfer : Course → Bool → Change → ℕ → Course
 course_after_transfer k held c time = record k {

@@ -26,8 +26,8 @@ abbrev pub keeps_off : Seen → Bool
 keeps_off s = implies (is_idle s) (raises_none s.change || is_entry s)
 
 abbrev pub is_cleared : Seen → ℕ → Bool
-is_cleared s time =
-    implies (is_idle s) (nat_le time (max s.times.bsy s.times.sel + QUIET_TIME) || is_within s.change.before (record none { rst = true }))
+is_cleared s time = implies (is_idle s)
+    (nat_le time (max s.times.bsy s.times.sel + QUIET_TIME) || is_within s.change.before (record none { rst = true }))
 
 abbrev pub keeps_free_bus : Seen → Row → Bool
 keeps_free_bus s row = keeps_off s && is_cleared s row.time
@@ -46,14 +46,15 @@ is_soon (Some a) time = nat_le time (a.first + BUS_SET_DELAY)
 -- delay and a bus free delay after the bus became free, and at most a bus set delay after the first entry.
 -- Otherwise a contender only releases all its lines or raises SEL (6.1.2).
 abbrev pub enters_well : Seen → Row → Bool
-enters_well s row =
-    same_set s.change.own none && same_set s.change.next (record (id_set row.dev) { bsy = true }) && nat_le (free_before (free_time s.times) s.arbitration + ENTRY_DELAY) row.time && is_soon s.arbitration row.time
+enters_well s row = same_set s.change.own none && same_set s.change.next (record (id_set row.dev) { bsy = true })
+    && nat_le (free_before (free_time s.times) s.arbitration + ENTRY_DELAY) row.time && is_soon s.arbitration row.time
 
 abbrev pub contends_well : Seen → Bool
 contends_well s = same_set s.change.next none || rises s.change.own.sel s.change.next.sel
 
 abbrev pub keeps_arbitration : Seen → Row → Bool
-keeps_arbitration s row = implies (is_entry s) (enters_well s row) && implies (is_contender s && not (is_entry s)) (contends_well s)
+keeps_arbitration s row =
+    implies (is_entry s) (enters_well s row) && implies (is_contender s && not (is_entry s)) (contends_well s)
 
 -- The row raises SEL.
 abbrev pub raises_sel : Seen → Bool
@@ -61,9 +62,11 @@ raises_sel s = rises s.change.own.sel s.change.next.sel
 
 -- Rule 5. A row that raises SEL is of a contender, at least an arbitration delay after its entry (6.1.2).
 abbrev pub keeps_arbitration_delay : Seen → Row → Bool
-keeps_arbitration_delay s row = implies (raises_sel s) (is_contender s && nat_le (s.bsy_raised + ARBITRATION_DELAY) row.time)
+keeps_arbitration_delay s row =
+    implies (raises_sel s) (is_contender s && nat_le (s.bsy_raised + ARBITRATION_DELAY) row.time)
 
 -- Rule 6. In the row that raises SEL no ID higher than the device's is true, and it adds SEL and nothing
 -- else (6.1.2).
 abbrev pub wins_well : Seen → Row → Bool
-wins_well s row = implies (raises_sel s) (not (has_id_above s.change.before row.dev) && adds (record none { sel = true }) s.change)
+wins_well s row =
+    implies (raises_sel s) (not (has_id_above s.change.before row.dev) && adds (record none { sel = true }) s.change)

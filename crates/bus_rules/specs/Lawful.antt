@@ -19,13 +19,13 @@ IsLawful rows end = AreLawful rows × KeepsAll (obeys_at_end rows end)
 
 -- This rule is judged and is not kept, and every lower one is.
 abbrev pub IsLowest : (ℕ → Bool) → ℕ → Type 0
-IsLowest kept rule =
-    (list_any (λ n. n == rule) judged_rules ≡ true) × (kept rule ≡ false) × AllByRecursion (λ n. n < rule → kept n ≡ true) judged_rules
+IsLowest kept rule = (list_any (λ n. n == rule) judged_rules ≡ true) × (kept rule ≡ false)
+    × AllByRecursion (λ n. n < rule → kept n ≡ true) judged_rules
 
 -- A row at this place, counted from 1, is the first that breaks a rule, and this is the lowest that it breaks.
 abbrev pub IsFirstRow : List Row → ℕ → ℕ → Type 0
-IsFirstRow rows place rule =
-    (later : List Row) × (row : Row) × (before : List Row) × (rows ≡ later ++ row ∷ before) × (place ≡ length before + 1) × AreLawful before × IsLowest (obeys before row) rule
+IsFirstRow rows place rule = (later : List Row) × (row : Row) × (before : List Row) × (rows ≡ later ++ row ∷ before)
+    × (place ≡ length before + 1) × AreLawful before × IsLowest (obeys before row) rule
 
 -- Or every row obeys every rule, and the end, which counts as one row more, does not.
 abbrev pub IsEnd : List Row → ℕ → ℕ → ℕ → Type 0

@@ -1,5 +1,6 @@
 -- Rules 24 to 26: attention, messages, and the bytes of the command (6.2.1, 6.6, 7.2).
-use Rattle.std.specs.Prelude.{ℕ, ◌+◌, ◌%◌, Bool, true, false, not, ◌&&◌, ◌||◌, ◌==◌, Option, Some, None, nat_le, nat_lt, is_some, if◌then◌else◌}
+use Rattle.std.specs.Prelude.{ℕ, ◌+◌, ◌%◌, Bool, true, false, not, ◌&&◌, ◌||◌, ◌==◌, Option, Some, None, nat_le, nat_lt}
+use Rattle.std.specs.Prelude.{is_some, if◌then◌else◌}
 use Rattle.bus_trace.specs.declared.delays.TheConstants.{TWO_DESKEW}
 use Rattle.bus_trace.specs.declared.Row.{Row}
 use Rattle.cdb_codec.specs.Cdb.{group_len}
@@ -23,10 +24,10 @@ atn_false_since s time = if falls s.change.before.atn s.change.after.atn then ti
 -- ATN does not fall while ACK is true in MESSAGE OUT. Where ACK rises in MESSAGE OUT with ATN false, ATN has been
 -- false for two deskew delays.
 abbrev pub negates_atn_well : Seen → ℕ → Bool
-negates_atn_well s time =
-    implies (is_message_out s.change.before)
+negates_atn_well s time = implies (is_message_out s.change.before)
     (implies (falls s.change.before.atn s.change.after.atn) (not s.change.before.ack)
-    && implies (rises s.change.before.ack s.change.after.ack && not s.change.after.atn) (nat_le (atn_false_since s time + TWO_DESKEW) time))
+    && implies (rises s.change.before.ack s.change.after.ack && not s.change.after.atn)
+    (nat_le (atn_false_since s time + TWO_DESKEW) time))
 
 abbrev pub is_owed : Duty → Bool
 is_owed duties.Nothing = false
@@ -66,7 +67,8 @@ same_bool false b = not b
 -- reselection it is an IDENTIFY in MESSAGE IN.
 abbrev pub opens_well : Seen → Option Connection → Bool
 opens_well s None = true
-opens_well s (Some n) = implies (crosses s && not s.begun) (is_opening s.reading && same_bool n.reselected s.change.before.io)
+opens_well s (Some n) =
+    implies (crosses s && not s.begun) (is_opening s.reading && same_bool n.reselected s.change.before.io)
 
 -- A MESSAGE phase is left with no message half sent, but for MESSAGE IN with ATN true, and for BUS FREE.
 abbrev pub leaves_message_well : Seen → Bool

@@ -25,8 +25,9 @@ strikes_byte s row = is_of_device s.receiver row.dev && s.last == row.time
 -- BSY has been false for a bus settle delay (6.1.3, 6.1.4).
 abbrev pub strikes_ids_of : Seen → Row → Option Calling → Bool
 strikes_ids_of s row None = false
-strikes_ids_of s row (Some k) =
-    (row.dev == k.called && is_none k.answered && not k.struck) && (s.change.before.sel && has_id s.change.before k.called && not s.change.before.bsy) && nat_le (s.times.bsy + BUS_SETTLE_DELAY) row.time
+strikes_ids_of s row (Some k) = (row.dev == k.called && is_none k.answered && not k.struck)
+    && (s.change.before.sel && has_id s.change.before k.called && not s.change.before.bsy)
+    && nat_le (s.times.bsy + BUS_SETTLE_DELAY) row.time
 
 abbrev pub strikes_ids : Seen → Row → Option Call → Bool
 strikes_ids s row None = false

@@ -15,15 +15,18 @@ only_rst = record none { rst = true }
 
 -- A row that raises RST raises no other line, nor does a row while RST is true.
 abbrev pub raises_rst_alone : Seen → Bool
-raises_rst_alone s = implies (s.change.before.rst || rises s.change.own.rst s.change.next.rst) (raises_only only_rst s.change)
+raises_rst_alone s =
+    implies (s.change.before.rst || rises s.change.own.rst s.change.next.rst) (raises_only only_rst s.change)
 
 -- Before a row later than a bus clear delay after RST rose no line but RST is true.
 abbrev pub is_quiet_in_reset : Seen → ℕ → Bool
-is_quiet_in_reset s time = implies s.change.before.rst (nat_le time (s.times.rst + BUS_CLEAR_DELAY) || is_within s.change.before only_rst)
+is_quiet_in_reset s time =
+    implies s.change.before.rst (nat_le time (s.times.rst + BUS_CLEAR_DELAY) || is_within s.change.before only_rst)
 
 -- A device releases RST at least a reset hold time after it raised it.
 abbrev pub holds_reset : Seen → Row → Bool
-holds_reset s row = implies (falls s.change.own.rst s.change.next.rst) (nat_le (s.rst_raised + RESET_HOLD_TIME) row.time)
+holds_reset s row =
+    implies (falls s.change.own.rst s.change.next.rst) (nat_le (s.rst_raised + RESET_HOLD_TIME) row.time)
 
 -- Rule 28. All of these.
 abbrev pub keeps_reset : Seen → Row → Bool

@@ -1,5 +1,6 @@
 -- The rules by their numbers, and what a judge says of a trace.
-use Rattle.std.specs.Prelude.{ℕ, ◌+◌, Bool, true, not, ◌&&◌, ◌||◌, ◌==◌, List, [], ◌∷◌, length, Option, Some, None, if◌then◌else◌}
+use Rattle.std.specs.Prelude.{ℕ, ◌+◌, Bool, true, not, ◌&&◌, ◌||◌, ◌==◌, List, [], ◌∷◌, length, Option, Some, None}
+use Rattle.std.specs.Prelude.{if◌then◌else◌}
 use Rattle.bus_trace.specs.declared.Row.{Row}
 use Rattle.bus_rules.specs.declared.seen.Seen.{Seen}
 use Rattle.bus_rules.specs.declared.verdict.Verdict.{Verdict}
@@ -7,9 +8,12 @@ use Rattle.bus_rules.specs.declared.verdict.Verdict.TheVariants.{Lawful, Broken}
 use Rattle.bus_rules.specs.Seen.{seen, end_row}
 use Rattle.bus_rules.specs.Order.{is_in_order, is_news}
 use Rattle.bus_rules.specs.FreeBus.{keeps_free_bus, is_cleared, keeps_arbitration, keeps_arbitration_delay, wins_well}
-use Rattle.bus_rules.specs.Selection.{keeps_losers_off, is_left, keeps_winner, keeps_calling, keeps_answer, keeps_end, keeps_time_out, keeps_reselection}
-use Rattle.bus_rules.specs.Connected.{keeps_lines, keeps_data_direction, initiator_released, keeps_direction_delay, target_released, keeps_freeing}
-use Rattle.bus_rules.specs.Transfer.{has_parity, keeps_handshake, keeps_set_up, keeps_data, keeps_offset, keeps_pulses, leaves_well}
+use Rattle.bus_rules.specs.Selection.{keeps_losers_off, is_left, keeps_winner, keeps_calling, keeps_answer, keeps_end}
+use Rattle.bus_rules.specs.Selection.{keeps_time_out, keeps_reselection}
+use Rattle.bus_rules.specs.Connected.{keeps_lines, keeps_data_direction, initiator_released, keeps_direction_delay}
+use Rattle.bus_rules.specs.Connected.{target_released, keeps_freeing}
+use Rattle.bus_rules.specs.Transfer.{has_parity, keeps_handshake, keeps_set_up, keeps_data, keeps_offset, keeps_pulses}
+use Rattle.bus_rules.specs.Transfer.{leaves_well}
 use Rattle.bus_rules.specs.Messages.{keeps_attention, keeps_messages, keeps_command}
 use Rattle.bus_rules.specs.Reset.{is_reset, keeps_reset, is_quiet_in_reset}
 
@@ -83,8 +87,8 @@ obeys_at_end rows time n = keeps_at_end n (seen rows (end_row time)) time
 
 -- The rules.
 abbrev pub judged_rules : List ℕ
-judged_rules =
-    1 ∷ 2 ∷ 3 ∷ 4 ∷ 5 ∷ 6 ∷ 7 ∷ 8 ∷ 9 ∷ 10 ∷ 11 ∷ 12 ∷ 13 ∷ 14 ∷ 15 ∷ 16 ∷ 17 ∷ 18 ∷ 19 ∷ 20 ∷ 21 ∷ 22 ∷ 23 ∷ 24 ∷ 25 ∷ 26 ∷ 27 ∷ 28 ∷ []
+judged_rules = 1 ∷ 2 ∷ 3 ∷ 4 ∷ 5 ∷ 6 ∷ 7 ∷ 8 ∷ 9 ∷ 10 ∷ 11 ∷ 12 ∷ 13 ∷ 14 ∷ 15 ∷ 16 ∷ 17 ∷ 18 ∷ 19 ∷ 20 ∷ 21 ∷ 22 ∷ 23
+    ∷ 24 ∷ 25 ∷ 26 ∷ 27 ∷ 28 ∷ []
 
 -- The first of these that isn't kept.
 abbrev pub first_broken : (ℕ → Bool) → List ℕ → Option ℕ

@@ -23,7 +23,8 @@ other_drives lines dev other = not (other == dev) && not (same_set (lines other)
 
 abbrev pub others_drive : (ℕ → LineSet) → ℕ → Bool
 others_drive lines dev =
-    other_drives lines dev 0 || other_drives lines dev 1 || other_drives lines dev 2 || other_drives lines dev 3 || other_drives lines dev 4 || other_drives lines dev 5 || other_drives lines dev 6 || other_drives lines dev 7
+    other_drives lines dev 0 || other_drives lines dev 1 || other_drives lines dev 2 || other_drives lines dev 3
+    || other_drives lines dev 4 || other_drives lines dev 5 || other_drives lines dev 6 || other_drives lines dev 7
 
 -- While SEL is true: a device but the caller drives a line.
 abbrev pub others_in_call : (ℕ → LineSet) → Option Call → Bool
@@ -92,7 +93,8 @@ seen_with rows dev c reading = record {
 }
 
 abbrev pub seen : List Row → Row → Seen
-seen rows row = seen_with rows row.dev (change_of rows row) (reading_of (dialogue rows).half (connection rows) (change_of rows row))
+seen rows row =
+    seen_with rows row.dev (change_of rows row) (reading_of (dialogue rows).half (connection rows) (change_of rows row))
 
 -- The end is judged as a row of its time that changes nothing.
 abbrev pub end_row : ℕ → Row

@@ -1,14 +1,17 @@
 -- Rules 7 to 13: selection and reselection (6.1.3, 6.1.4).
-use Rattle.std.specs.Prelude.{ℕ, ◌+◌, Bool, true, false, not, ◌&&◌, ◌||◌, ◌==◌, Option, Some, None, nat_le, is_none, is_some, if◌then◌else◌}
+use Rattle.std.specs.Prelude.{ℕ, ◌+◌, Bool, true, false, not, ◌&&◌, ◌||◌, ◌==◌, Option, Some, None, nat_le, is_none}
+use Rattle.std.specs.Prelude.{is_some, if◌then◌else◌}
 use Rattle.std.specs.Int.{bit_at}
-use Rattle.bus_trace.specs.declared.delays.TheConstants.{BUS_CLEAR_DELAY, QUIET_TIME, TWO_DESKEW, BUS_SETTLE_DELAY, SELECTION_TIMEOUT_DELAY, SELECTION_ABORT_TIME}
+use Rattle.bus_trace.specs.declared.delays.TheConstants.{BUS_CLEAR_DELAY, QUIET_TIME, TWO_DESKEW, BUS_SETTLE_DELAY}
+use Rattle.bus_trace.specs.declared.delays.TheConstants.{SELECTION_TIMEOUT_DELAY, SELECTION_ABORT_TIME}
 use Rattle.bus_trace.specs.LineSet.{LineSet, none, same, same_set, has_id}
 use Rattle.bus_trace.specs.declared.Row.{Row}
 use Rattle.bus_trace.specs.declared.selection.Call.{Call}
 use Rattle.bus_trace.specs.declared.selection.Calling.{Calling}
 use Rattle.bus_trace.specs.declared.connection.Connection.{Connection}
 use Rattle.bus_rules.specs.declared.seen.Seen.{Seen}
-use Rattle.bus_trace.specs.Changes.{rises, falls, implies, is_within, raises_none, raises_only, releases_bsy, releases_data}
+use Rattle.bus_trace.specs.Changes.{rises, falls, implies, is_within, raises_none, raises_only, releases_bsy}
+use Rattle.bus_trace.specs.Changes.{releases_data}
 use Rattle.bus_trace.specs.Terms.{drives_two_ids}
 
 -- That a line is one of a time: at least this long after a moment that has come.
@@ -54,14 +57,15 @@ keeps_winner s row = keeps_winner_of row s.call
 -- A calling drives exactly BSY, SEL, two IDs of which one is the caller's, DB(P) by their parity, which is
 -- even, and either ATN, to select, or I/O, to reselect.
 abbrev pub calls_exactly : ℕ → LineSet → Bool
-calls_exactly caller s =
-    (drives_two_ids caller s && bit_at s.data_bits 8 == 1) && (s.bsy && s.sel && not (same s.atn s.io)) && not (s.cd || s.msg || s.req || s.ack || s.rst)
+calls_exactly caller s = (drives_two_ids caller s && bit_at s.data_bits 8 == 1)
+    && (s.bsy && s.sel && not (same s.atn s.io)) && not (s.cd || s.msg || s.req || s.ack || s.rst)
 
 -- Rule 9. That row is a calling. The caller's next row releases exactly BSY, at least two deskew delays later
 -- (6.1.3, 6.1.4).
 abbrev pub calls_well : Seen → Row → ℕ → Option Calling → Bool
 calls_well s row caller None = calls_exactly caller s.change.next
-calls_well s row caller (Some k) = implies (is_none k.released) (releases_bsy s.change && nat_le (k.at + TWO_DESKEW) row.time)
+calls_well s row caller (Some k) =
+    implies (is_none k.released) (releases_bsy s.change && nat_le (k.at + TWO_DESKEW) row.time)
 
 abbrev pub keeps_calling_of : Seen → Row → Option Call → Bool
 keeps_calling_of s row None = true
@@ -87,13 +91,14 @@ has_settled s time k =
     && is_past k.released BUS_SETTLE_DELAY time
 
 abbrev pub answers_well : Seen → Row → Calling → Bool
-answers_well s row k = same_set s.change.own none && not k.struck && has_settled s row.time k && drives_answer k s.change.next
+answers_well s row k =
+    same_set s.change.own none && not k.struck && has_settled s row.time k && drives_answer k s.change.next
 
 -- In a reselection, after the answer, the caller may raise BSY, and the called device ATN.
 abbrev pub may_raise : Seen → Row → ℕ → Calling → Bool
-may_raise s row caller k =
-    (k.reselects && is_some k.answered)
-    && ((row.dev == caller && raises_only (record none { bsy = true }) s.change) || (row.dev == k.called && raises_only (record none { atn = true }) s.change))
+may_raise s row caller k = (k.reselects && is_some k.answered)
+    && ((row.dev == caller && raises_only (record none { bsy = true }) s.change)
+    || (row.dev == k.called && raises_only (record none { atn = true }) s.change))
 
 -- Rule 10. An answer is as said. Between the calling and the row in which SEL falls no other row raises a
 -- line, but as said (6.1.3, 6.1.4).
@@ -130,7 +135,8 @@ ends_call_well s row k =
 
 abbrev pub keeps_end_to : Seen → Row → ℕ → Option Calling → Bool
 keeps_end_to s row caller None = true
-keeps_end_to s row caller (Some k) = implies (row.dev == caller && releases_sel s && is_some k.answered) (ends_call_well s row k)
+keeps_end_to s row caller (Some k) =
+    implies (row.dev == caller && releases_sel s && is_some k.answered) (ends_call_well s row k)
 
 abbrev pub keeps_end_of : Seen → Row → Option Call → Bool
 keeps_end_of s row None = true
@@ -164,8 +170,8 @@ keeps_time_out s row = keeps_time_out_of s row s.call
 abbrev pub hands_over_to : Seen → Row → ℕ → Option Calling → Bool
 hands_over_to s row caller None = true
 hands_over_to s row caller (Some k) =
-    implies (k.reselects && is_some k.answered)
-    (implies (row.dev == caller && releases_sel s) ((s.change.own.bsy && s.change.own.io) && (s.change.next.bsy && s.change.next.io))
+    implies (k.reselects && is_some k.answered) (implies (row.dev == caller && releases_sel s)
+    ((s.change.own.bsy && s.change.own.io) && (s.change.next.bsy && s.change.next.io))
     && implies (row.dev == k.called) (not (falls s.change.own.bsy s.change.next.bsy)))
 
 abbrev pub hands_over : Seen → Row → Option Call → Bool
@@ -175,10 +181,10 @@ hands_over s row (Some k) = hands_over_to s row k.caller k.calling
 -- In a connection that a reselection began the initiator that releases BSY keeps no line but ATN.
 abbrev pub takes_over : Seen → Row → Option Connection → Bool
 takes_over s row None = true
-takes_over s row (Some n) =
-    implies (n.reselected && row.dev == n.initiator && falls s.change.own.bsy s.change.next.bsy) (is_within s.change.next (record none { atn = true }))
+takes_over s row (Some n) = implies (n.reselected && row.dev == n.initiator && falls s.change.own.bsy s.change.next.bsy)
+    (is_within s.change.next (record none { atn = true }))
 
 -- Rule 13. These two; and REQ does not rise while the initiator drives BSY (6.1.4).
 abbrev pub keeps_reselection : Seen → Row → Bool
-keeps_reselection s row =
-    hands_over s row s.call && takes_over s row s.connection && implies (rises s.change.before.req s.change.after.req) (not s.initiator_bsy)
+keeps_reselection s row = hands_over s row s.call && takes_over s row s.connection
+    && implies (rises s.change.before.req s.change.after.req) (not s.initiator_bsy)

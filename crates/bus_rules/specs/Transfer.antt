@@ -1,5 +1,6 @@
 -- Rules 17 to 23: REQ and ACK, asynchronous and synchronous (6.1.5.1, 6.1.5.2).
-use Rattle.std.specs.Prelude.{ℕ, ◌+◌, Bool, true, not, ◌&&◌, ◌||◌, ◌==◌, Option, Some, None, nat_le, nat_lt, is_some, if◌then◌else◌}
+use Rattle.std.specs.Prelude.{ℕ, ◌+◌, Bool, true, not, ◌&&◌, ◌||◌, ◌==◌, Option, Some, None, nat_le, nat_lt, is_some}
+use Rattle.std.specs.Prelude.{if◌then◌else◌}
 use Rattle.bus_trace.specs.declared.agreements.TheConstants.{UNLIMITED_OFFSET}
 use Rattle.bus_trace.specs.declared.delays.TheConstants.{SET_UP_TIME}
 use Rattle.bus_trace.specs.LineSet.{LineSet, has_odd_parity}
@@ -37,9 +38,10 @@ changes_data c = not (c.before.data_bits == c.after.data_bits)
 -- Rule 18. Asynchronous: REQ rises while ACK is false and falls while ACK is true; ACK rises while REQ is true
 -- and falls while REQ is false.
 abbrev pub alternates : Change → Bool
-alternates c =
-    (implies (rises c.before.req c.after.req) (not c.before.ack) && implies (falls c.before.req c.after.req) c.before.ack)
-    && (implies (rises c.before.ack c.after.ack) c.before.req && implies (falls c.before.ack c.after.ack) (not c.before.req))
+alternates c = (implies (rises c.before.req c.after.req) (not c.before.ack)
+    && implies (falls c.before.req c.after.req) c.before.ack)
+    && (implies (rises c.before.ack c.after.ack) c.before.req
+    && implies (falls c.before.ack c.after.ack) (not c.before.req))
 
 abbrev pub keeps_handshake : Seen → Bool
 keeps_handshake s = implies (is_asynchronous_transfer s) (alternates s.change)
@@ -47,7 +49,8 @@ keeps_handshake s = implies (is_asynchronous_transfer s) (alternates s.change)
 -- Rule 19. Asynchronous: the data lines have not changed for a deskew delay and a cable skew delay before a
 -- byte crosses.
 abbrev pub keeps_set_up : Seen → Row → Bool
-keeps_set_up s row = implies (is_asynchronous_transfer s && crosses s) (nat_le (data_stand_since s row.time + SET_UP_TIME) row.time)
+keeps_set_up s row =
+    implies (is_asynchronous_transfer s && crosses s) (nat_le (data_stand_since s row.time + SET_UP_TIME) row.time)
 
 -- Rule 20. Asynchronous: with I/O true the data lines do not change while REQ is true and ACK false; with I/O
 -- false they do not change while both are true.
@@ -60,9 +63,8 @@ keeps_data s = implies (is_asynchronous_transfer s && holds_still s.change.befor
 -- Rule 21. Pulsed: the rises of REQ are never fewer than those of ACK, and at most the offset more, where
 -- that sets a limit.
 abbrev pub keeps_offset : Seen → Bool
-keeps_offset s =
-    implies (is_pulsed s)
-    (implies (rises s.change.before.req s.change.after.req) (s.agreement.offset == UNLIMITED_OFFSET || nat_lt s.pulses.req (s.pulses.ack + s.agreement.offset))
+keeps_offset s = implies (is_pulsed s) (implies (rises s.change.before.req s.change.after.req)
+    (s.agreement.offset == UNLIMITED_OFFSET || nat_lt s.pulses.req (s.pulses.ack + s.agreement.offset))
     && implies (rises s.change.before.ack s.change.after.ack) (nat_lt s.pulses.ack s.pulses.req))
 
 -- At least this long after a moment, if there was one.
@@ -73,8 +75,8 @@ is_after (Some t) delay time = nat_le (t + delay) time
 -- One line of pulses: its rises are a period apart, it is true for at least the assertion period, and false for
 -- at least the negation period between pulses.
 abbrev pub pulses_well : TransferTimes → Bool → Bool → ℕ → Option ℕ → ℕ → Bool
-pulses_well t before after since last time =
-    implies (rises before after) (is_after last t.period time && (not (is_some last) || nat_le (since + t.negation) time))
+pulses_well t before after since last time = implies (rises before after)
+    (is_after last t.period time && (not (is_some last) || nat_le (since + t.negation) time))
     && implies (falls before after) (nat_le (since + t.assertion) time)
 
 -- When the last byte of this phase crossed.
@@ -95,5 +97,5 @@ keeps_pulses s row = implies (is_pulsed s) (pulses_of (times_of s.agreement.peri
 
 -- Rule 23. A pulsed phase is left, by the phase lines or BSY, only with as many rises of ACK as of REQ.
 abbrev pub leaves_well : Seen → Bool
-leaves_well s =
-    implies (is_pulsed s && (changes_phase s.change || falls s.change.before.bsy s.change.after.bsy)) (s.pulses.req == s.pulses.ack)
+leaves_well s = implies (is_pulsed s && (changes_phase s.change || falls s.change.before.bsy s.change.after.bsy))
+    (s.pulses.req == s.pulses.ack)

@@ -22,13 +22,18 @@ no_target : (t : Option TargetDef) (o : Option ℕ) → target_latency t o ≡ N
 no_target (Some t) o e i = cc
 no_target None o e i = cc
 
-absent : {D : Type 0} → (IsOf : ScenarioValue → List Row → ℕ → D → Type 0) (s : ScenarioValue) (rows : List Row) (dev : ℕ) (place : Option D) → place ≡ None → IsIn IsOf s rows dev place → latency_of s dev ≡ None
+absent : {D : Type 0} → (IsOf : ScenarioValue → List Row → ℕ → D → Type 0) (s : ScenarioValue) (rows : List Row)
+    (dev : ℕ) (place : Option D) → place ≡ None → IsIn IsOf s rows dev place → latency_of s dev ≡ None
 absent {D} IsOf s rows dev place e h = subst (λ (p : Option D). IsIn IsOf s rows dev p) e h
 
-pub absent_initiator : {D : Type 0} → (IsOf : ScenarioValue → List Row → ℕ → D → Type 0) (s : ScenarioValue) (rows : List Row) (n : Connection) (place : Option D) → place ≡ None → seams s rows ≡ true → connection rows ≡ Some n → IsIn IsOf s rows n.initiator place → ⊥
-absent_initiator IsOf s rows n place e t k h =
-    no_host (target_def_of s n.initiator) (host_of s n.initiator) (absent IsOf s rows n.initiator place e h) (ends_are s rows n t k).0
+pub absent_initiator : {D : Type 0} → (IsOf : ScenarioValue → List Row → ℕ → D → Type 0)
+    (s : ScenarioValue) (rows : List Row) (n : Connection) (place : Option D)
+    → place ≡ None → seams s rows ≡ true → connection rows ≡ Some n → IsIn IsOf s rows n.initiator place → ⊥
+absent_initiator IsOf s rows n place e t k h = no_host (target_def_of s n.initiator) (host_of s n.initiator)
+    (absent IsOf s rows n.initiator place e h) (ends_are s rows n t k).0
 
-pub absent_target : {D : Type 0} → (IsOf : ScenarioValue → List Row → ℕ → D → Type 0) (s : ScenarioValue) (rows : List Row) (n : Connection) (place : Option D) → place ≡ None → seams s rows ≡ true → connection rows ≡ Some n → IsIn IsOf s rows n.target place → ⊥
-absent_target IsOf s rows n place e t k h =
-    no_target (target_def_of s n.target) (host_latency (host_of s n.target)) (absent IsOf s rows n.target place e h) (ends_are s rows n t k).1
+pub absent_target : {D : Type 0} → (IsOf : ScenarioValue → List Row → ℕ → D → Type 0)
+    (s : ScenarioValue) (rows : List Row) (n : Connection) (place : Option D)
+    → place ≡ None → seams s rows ≡ true → connection rows ≡ Some n → IsIn IsOf s rows n.target place → ⊥
+absent_target IsOf s rows n place e t k h = no_target (target_def_of s n.target) (host_latency (host_of s n.target))
+    (absent IsOf s rows n.target place e h) (ends_are s rows n t k).1

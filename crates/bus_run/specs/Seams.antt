@@ -25,9 +25,9 @@ paired s [] = true
 paired s (row ∷ rows) = paired s rows && is_own_pair s (connection (row ∷ rows))
 
 -- What crossed is what was to be said, the two ends of a connection show the events that the rows show, the plain disk
--- array permits them, the ends of a connection are of the scenario, the target of a connection hears in it what is of the
--- process that it serves, the bytes of a write come in their order, and the events of a row in a connection are of that
--- process.
+-- array permits them, the ends of a connection are of the scenario, the target of a connection hears in it what is of
+-- the process that it serves, the bytes of a write come in their order, and the events of a row in a connection are of
+-- that process.
 unfoldable pub seams : ScenarioValue → List Row → Bool
 seams s rows =
     faithful s rows

@@ -8,8 +8,8 @@ use Rattle.bus_laws.specs.scsi_device.specs.Lines.{FitsBus}
 use Rattle.bus_run.specs.Runs.{AreEarly}
 use Rattle.bus_run.specs.Seams.{seams}
 
--- The observer has seen just these rows, which are of the eight devices, few and early, and they tie what the devices of
--- this scenario know to what the rows tell.
+-- The observer has seen just these rows, which are of the eight devices, few and early, and they tie what the devices
+-- of this scenario know to what the rows tell.
 pub record AreSeen (s : ScenarioValue) (rows : List Row) (o : ObserverValue) : Type 0 where
   pub fits : FitsBus s
   pub observed : IsObserverOf rows o

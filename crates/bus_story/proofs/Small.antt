@@ -21,13 +21,31 @@ use Rattle.bus_story.specs.Outcomes.{is_valid, is_roomy}
 
 -- READ(6) of five blocks from this one on.
 abbrev read : ℕ → CmdDef
-read lba = record { host = 7; target = 0; unit = 0; at = 0; tag = tags.Untagged; cdb = 8 ∷ 0 ∷ 0 ∷ lba ∷ 5 ∷ 0 ∷ []; payload = payloads.Nothing }
+read lba = record {
+  host = 7;
+  target = 0;
+  unit = 0;
+  at = 0;
+  tag = tags.Untagged;
+  cdb = 8 ∷ 0 ∷ 0 ∷ lba ∷ 5 ∷ 0 ∷ [];
+  payload = payloads.Nothing;
+}
 
 abbrev with_policy : Policy → List FaultDef → List ResetDef → ℕ → ScenarioValue
 with_policy policy faults resets depth = record {
   version = 1;
   hosts = record { dev = 7; latency = 0; most = 2; retries = 0; period = 50; offset = 0; lag = 0; offers = false } ∷ [];
-  targets = record { dev = 0; latency = 0; retries = 0; disc = policy; pick = picks.First; seek = 0; period = 50; offset = 0; begins = false } ∷ [];
+  targets = record {
+    dev = 0;
+    latency = 0;
+    retries = 0;
+    disc = policy;
+    pick = picks.First;
+    seek = 0;
+    period = 50;
+    offset = 0;
+    begins = false;
+  } ∷ [];
   units = record { target = 0; unit = 0; blocks = 8; size = 16; depth = depth } ∷ [];
   fills = [];
   commands = read 0 ∷ [];
@@ -54,7 +72,8 @@ unfolding need_of ones
 all_at_once = refl
 
 -- 1024 * (288 + 144) + 32768 * (9 + 4) + 8192 * 2
-fault_and_reset : budget (with_policy policies.Never (record { at = 5; bit = 0 } ∷ []) (record { dev = 7; at = 5 } ∷ []) 1) ≡ 884736
+fault_and_reset :
+    budget (with_policy policies.Never (record { at = 5; bit = 0 } ∷ []) (record { dev = 7; at = 5 } ∷ []) 1) ≡ 884736
 unfolding need_of ones
 fault_and_reset = refl
 

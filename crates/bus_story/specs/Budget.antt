@@ -1,5 +1,6 @@
 -- The budget of a run: a bound on the steps of its devices that depends on the scenario alone.
-use Rattle.std.specs.Prelude.{ℕ, ◌+◌, ◌-◌, ◌*◌, ◌/◌, max, ◌==◌, List, [], ◌∷◌, length, Option, Some, None, Result, Ok, Err, nat_le, if◌then◌else◌}
+use Rattle.std.specs.Prelude.{ℕ, ◌+◌, ◌-◌, ◌*◌, ◌/◌, max, ◌==◌, List, [], ◌∷◌, length, Option, Some, None, Result, Ok}
+use Rattle.std.specs.Prelude.{Err, nat_le, if◌then◌else◌}
 use Rattle.std.specs.List.{find}
 use Rattle.disk_array.specs.cdb_codec.specs.declared.command.Command.{Command}
 use Rattle.disk_array.specs.cdb_codec.specs.declared.command.CdbFault.{CdbFault}

@@ -1,5 +1,6 @@
 -- The bus after some rows, and what a row does on it. The terms are those of `bus_rules`, kept from row to row.
-use Rattle.std.specs.Prelude.{◌%◌, Bool, true, false, List, [], ◌∷◌, ◌++◌, replicate, slice_set, Option, Some, None, is_some, if◌then◌else◌}
+use Rattle.std.specs.Prelude.{◌%◌, Bool, true, false, List, [], ◌∷◌, ◌++◌, replicate, slice_set, Option, Some, None}
+use Rattle.std.specs.Prelude.{is_some, if◌then◌else◌}
 use Rattle.bus_phases.specs.bus_trace.specs.LineSet.{LineSet, none}
 use Rattle.bus_phases.specs.bus_trace.specs.View.{driven_at, union_all}
 use Rattle.bus_phases.specs.bus_trace.specs.Trace.{driven_after}
@@ -31,7 +32,15 @@ pub record BusState : Type 0 where
   pub crossed : Option Change
 
 abbrev pub quiet_bus : BusState
-quiet_bus = record { driven = replicate 8 none; bus = none; call = None; connection = None; dialogue = opened asynchronous; agreed = []; crossed = None }
+quiet_bus = record {
+  driven = replicate 8 none;
+  bus = none;
+  call = None;
+  connection = None;
+  dialogue = opened asynchronous;
+  agreed = [];
+  crossed = None;
+}
 
 -- What a row does: what it changes, the connection after it, and the messages that it makes whole, bytes that were
 -- begun anew being left out.
@@ -64,11 +73,13 @@ whole_in More = None
 whole_in Unknown = None
 
 abbrev pub message_out : Dialogue → Change → Bool → Option MsgOut
-message_out d c true = if is_message_out c.before then whole_out (got_out (fresh_bytes d ++ c.after.data_bits % 256 ∷ [])) else None
+message_out d c true =
+    if is_message_out c.before then whole_out (got_out (fresh_bytes d ++ c.after.data_bits % 256 ∷ [])) else None
 message_out d c false = None
 
 abbrev pub message_in : Dialogue → Change → Bool → Option MsgIn
-message_in d c true = if is_message_in c.before then whole_in (got_in (d.half ++ c.after.data_bits % 256 ∷ [])) else None
+message_in d c true =
+    if is_message_in c.before then whole_in (got_in (d.half ++ c.after.data_bits % 256 ∷ [])) else None
 message_in d c false = None
 
 abbrev pub row_reading_with : BusState → Row → Change → Bool → RowReading
@@ -93,6 +104,8 @@ bus_state_after w row d = record {
   call = call_after w.call d.change row;
   connection = d.next;
   dialogue = dialogue_after w.dialogue w.connection d.next (λ i t. agreement_in w.agreed i t) d.change;
-  agreed = if d.change.after.rst then [] else agreements_at_end w.agreed w.connection d.change.after.bsy w.dialogue.heard.now;
+  agreed =
+      if d.change.after.rst then []
+      else agreements_at_end w.agreed w.connection d.change.after.bsy w.dialogue.heard.now;
   crossed = if d.crosses then Some d.change else None;
 }

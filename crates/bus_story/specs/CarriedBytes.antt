@@ -1,5 +1,7 @@
--- What the bytes of a process carried: its command block, its data and its status, by its pointers (6.4, 6.6.19, 6.6.20).
-use Rattle.std.specs.Prelude.{ℕ, ◌+◌, Bool, true, false, not, ◌&&◌, ◌==◌, List, [], ◌∷◌, ◌++◌, length, slice_set, Option, Some, None, nat_lt, if◌then◌else◌}
+-- What the bytes of a process carried: its command block, its data and its status, by its pointers (6.4, 6.6.19,
+-- 6.6.20).
+use Rattle.std.specs.Prelude.{ℕ, ◌+◌, Bool, true, false, not, ◌&&◌, ◌==◌, List, [], ◌∷◌, ◌++◌, length, slice_set}
+use Rattle.std.specs.Prelude.{Option, Some, None, nat_lt, if◌then◌else◌}
 use Rattle.bus_phases.specs.bus_base.specs.declared.ProcId.{ProcId}
 use Rattle.bus_phases.specs.bus_trace.specs.LineSet.{LineSet}
 use Rattle.bus_phases.specs.msg_grammar.specs.declared.message.MsgIn.{MsgIn}
@@ -43,11 +45,27 @@ pub record CarriedBytes : Type 0 where
   pub shown : Bool
 
 abbrev pub nothing_carried : ProcId → CarriedBytes
-nothing_carried id = record { id = id; command = empty_area; moved = empty_area; status = empty_area; block = []; struck = false; failure = None; refused = false; shown = false }
+nothing_carried id = record {
+  id = id;
+  command = empty_area;
+  moved = empty_area;
+  status = empty_area;
+  block = [];
+  struck = false;
+  failure = None;
+  refused = false;
+  shown = false;
+}
 
 -- A connection begins, or RESTORE POINTERS comes: the active pointers are set to the saved ones.
 abbrev pub with_restored_pointers : CarriedBytes → CarriedBytes
-with_restored_pointers k = record k { command = restored_area k.command; moved = restored_area k.moved; status = restored_area k.status; block = []; struck = false }
+with_restored_pointers k = record k {
+  command = restored_area k.command;
+  moved = restored_area k.moved;
+  status = restored_area k.status;
+  block = [];
+  struck = false;
+}
 
 abbrev pub carried_after_message : CarriedBytes → MsgIn → CarriedBytes
 carried_after_message k to_initiator.SavePointer = record k { moved = record k.moved { saved = k.moved.active } }

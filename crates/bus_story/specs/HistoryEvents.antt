@@ -1,5 +1,6 @@
 -- The events that a row shows, by what is known before it.
-use Rattle.std.specs.Prelude.{ℕ, zero, suc, Bool, true, false, not, ◌&&◌, List, [], ◌∷◌, slice_index, Option, Some, None, is_some, if◌then◌else◌}
+use Rattle.std.specs.Prelude.{ℕ, zero, suc, Bool, true, false, not, ◌&&◌, List, [], ◌∷◌, slice_index, Option, Some}
+use Rattle.std.specs.Prelude.{None, is_some, if◌then◌else◌}
 use Rattle.std.specs.List.{list_any}
 use Rattle.bus_phases.specs.bus_base.specs.declared.ProcId.{ProcId}
 use Rattle.bus_phases.specs.bus_base.specs.declared.Event.{Event}
@@ -27,11 +28,13 @@ carried_if b (Some (abort k)) = None
 
 -- The command block stands whole, and no fault struck it, as COMMAND is left. At a full queue the command is refused.
 abbrev pub queue_event : ScenarioValue → List Event → ProcId → Event
-queue_event s history id = if is_some (array_after s (events.Accept id ∷ history)) then events.Accept id else events.Refuse id
+queue_event s history id =
+    if is_some (array_after s (events.Accept id ∷ history)) then events.Accept id else events.Refuse id
 
 abbrev pub queue_events : ScenarioValue → Story → Option CarriedBytes → LineSet → List Event
 queue_events s b None before = []
-queue_events s b (Some k) before = if is_command before && is_whole_block k then queue_event s b.history k.id ∷ [] else []
+queue_events s b (Some k) before =
+    if is_command before && is_whole_block k then queue_event s b.history k.id ∷ [] else []
 
 -- ---- the first STATUS phase of a process that was not refused (7.3)
 

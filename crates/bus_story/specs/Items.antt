@@ -1,5 +1,6 @@
 -- What an initiator sends next.
-use Rattle.std.specs.Prelude.{ℕ, ◌+◌, Bool, true, false, not, ◌&&◌, ◌||◌, ◌==◌, List, [], ◌∷◌, length, Option, Some, None, nat_le, nat_lt, if◌then◌else◌}
+use Rattle.std.specs.Prelude.{ℕ, ◌+◌, Bool, true, false, not, ◌&&◌, ◌||◌, ◌==◌, List, [], ◌∷◌, length, Option, Some}
+use Rattle.std.specs.Prelude.{None, nat_le, nat_lt, if◌then◌else◌}
 use Rattle.std.specs.List.{list_any}
 use Rattle.bus_phases.specs.bus_base.specs.declared.ProcId.{ProcId}
 use Rattle.disk_array.specs.scenario.specs.declared.value.HostDef.{HostDef}
@@ -56,7 +57,8 @@ is_done b item = has_item b.sent item || has_item b.over item
 abbrev pub abort_from : Sent → ℕ → ℕ → ℕ → List AbortDef → Option Item
 abort_from b dev time k [] = None
 abort_from b dev time k (a ∷ aborts) =
-    if a.host == dev && nat_le a.at time && not (is_done b (abort k)) then Some (abort k) else abort_from b dev time (k + 1) aborts
+    if a.host == dev && nat_le a.at time && not (is_done b (abort k)) then Some (abort k)
+    else abort_from b dev time (k + 1) aborts
 
 -- ---- then the automatic REQUEST SENSE of the command that ended first with CHECK CONDITION
 
@@ -67,7 +69,8 @@ is_of_host (Some c) dev = c.host == dev
 abbrev pub sense_from : ScenarioValue → Sent → ℕ → List ℕ → Option Item
 sense_from s b dev [] = None
 sense_from s b dev (n ∷ checks) =
-    if is_of_host (command_at s.commands n) dev && not (is_done b (sense_item n)) then Some (sense_item n) else sense_from s b dev checks
+    if is_of_host (command_at s.commands n) dev && not (is_done b (sense_item n)) then Some (sense_item n)
+    else sense_from s b dev checks
 
 -- ---- then its first command that is neither sent nor ended, where it may send it now
 
@@ -94,8 +97,8 @@ open_limit_of [] dev = 0
 open_limit_of (h ∷ hosts) dev = if h.dev == dev then h.most else open_limit_of hosts dev
 
 abbrev pub may_send : ScenarioValue → ℕ → List CmdDef → CmdDef → Bool
-may_send s time now c =
-    nat_le c.at time && nat_lt (length now) (open_limit_of s.hosts c.host) && not (list_any (λ (d : CmdDef). is_clash c d) now)
+may_send s time now c = nat_le c.at time && nat_lt (length now) (open_limit_of s.hosts c.host)
+    && not (list_any (λ (d : CmdDef). is_clash c d) now)
 
 abbrev pub command_from : ScenarioValue → Sent → ℕ → ℕ → ℕ → List CmdDef → Option Item
 command_from s b dev time n [] = None
@@ -110,5 +113,5 @@ or_else (Some item) next = Some item
 
 -- What this initiator sends next at this time.
 abbrev pub item_at : ScenarioValue → Sent → ℕ → ℕ → Option Item
-item_at s b dev time =
-    or_else (abort_from b dev time 1 s.aborts) (or_else (sense_from s b dev b.checks) (command_from s b dev time 1 s.commands))
+item_at s b dev time = or_else (abort_from b dev time 1 s.aborts)
+    (or_else (sense_from s b dev b.checks) (command_from s b dev time 1 s.commands))

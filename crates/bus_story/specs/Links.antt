@@ -29,7 +29,15 @@ pub record Link : Type 0 where
   pub undo : Option CarriedBytes
 
 abbrev pub link_of : Connection → Option Item → Link
-link_of n item = record { initiator = n.initiator; target = n.target; item = item; unit = 0; last = plain; before = plain; undo = None }
+link_of n item = record {
+  initiator = n.initiator;
+  target = n.target;
+  item = item;
+  unit = 0;
+  last = plain;
+  before = plain;
+  undo = None;
+}
 
 abbrev pub last_out : MsgOut → Link → LastMessage
 last_out to_target.Abort l = abortive
@@ -56,7 +64,8 @@ is_open_sense b n = has_item b.sent (sense_item n) && not (has_item b.over (sens
 abbrev pub named_item_from : Sent → ℕ → ℕ → ℕ → Option ℕ → ℕ → List CmdDef → Option Item
 named_item_from b initiator target unit tag n [] = None
 named_item_from b initiator target unit tag n (c ∷ commands) =
-    if is_of_nexus c initiator target unit && is_open b n && same_number (tag_number c.tag) tag then Some (command_item n)
+    if is_of_nexus c initiator target unit && is_open b n && same_number (tag_number c.tag) tag
+    then Some (command_item n)
     else if is_of_nexus c initiator target unit && is_open_sense b n && same_number None tag then Some (sense_item n)
     else named_item_from b initiator target unit tag (n + 1) commands
 

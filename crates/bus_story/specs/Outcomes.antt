@@ -1,5 +1,6 @@
 -- How each command ended, as its initiator knows it; and which commands and scenarios must end well.
-use Rattle.std.specs.Prelude.{ℕ, ◌+◌, Bool, true, false, not, ◌&&◌, ◌||◌, ◌==◌, List, [], ◌∷◌, slice_index, Option, Some, None, Result, Ok, Err, nat_le, if◌then◌else◌}
+use Rattle.std.specs.Prelude.{ℕ, ◌+◌, Bool, true, false, not, ◌&&◌, ◌||◌, ◌==◌, List, [], ◌∷◌, slice_index, Option}
+use Rattle.std.specs.Prelude.{Some, None, Result, Ok, Err, nat_le, if◌then◌else◌}
 use Rattle.std.specs.List.{list_any}
 use Rattle.bus_phases.specs.bus_base.specs.declared.ProcId.{ProcId}
 use Rattle.bus_phases.specs.bus_base.specs.declared.Event.{Event}
@@ -42,8 +43,8 @@ has_end history id = list_any (λ e. is_end_of id e) history
 -- Sense data name the key in byte 2, and the code and its qualifier in bytes 12 and 13 (8.2.14).
 abbrev pub sense_in : List ℕ → Option Sense
 sense_in [] = None
-sense_in (b ∷ bytes) =
-    Some (record { key = slice_index (b ∷ bytes) 2; asc = slice_index (b ∷ bytes) 12; ascq = slice_index (b ∷ bytes) 13 })
+sense_in (b ∷ bytes) = Some
+    (record { key = slice_index (b ∷ bytes) 2; asc = slice_index (b ∷ bytes) 12; ascq = slice_index (b ∷ bytes) 13 })
 
 abbrev pub reply_bytes_if : Option Reply → List ℕ
 reply_bytes_if None = []
@@ -97,7 +98,8 @@ fits_unit (Some u) k = is_good_range u.blocks (range_of k)
 
 abbrev pub is_sound_command : ScenarioValue → CmdDef → Result Command CdbFault → Bool
 is_sound_command s c (Err fault) = false
-is_sound_command s c (Ok k) = is_opcode c.cdb INQUIRY || is_opcode c.cdb REQUEST_SENSE || fits_unit (unit_of s c.target c.unit) k
+is_sound_command s c (Ok k) =
+    is_opcode c.cdb INQUIRY || is_opcode c.cdb REQUEST_SENSE || fits_unit (unit_of s c.target c.unit) k
 
 -- Its target is there; its command descriptor block has no fault; and its unit is there and its range is good, or it
 -- is INQUIRY or REQUEST SENSE.

@@ -1,7 +1,8 @@
 -- A trace, its history, the outcomes and the blocks belong together: the history is what the rows tell, the plain disk
 -- array permits it and holds these blocks, the outcomes follow, and each command that ran and ended carried exactly its
 -- own bytes.
-use Rattle.std.specs.Prelude.{ℕ, ◌≡◌, Bool, true, false, not, ◌&&◌, ◌||◌, ◌==◌, List, [], ◌∷◌, reverse, Option, Some, None, is_some, if◌then◌else◌}
+use Rattle.std.specs.Prelude.{ℕ, ◌≡◌, Bool, true, false, not, ◌&&◌, ◌||◌, ◌==◌, List, [], ◌∷◌, reverse, Option, Some}
+use Rattle.std.specs.Prelude.{None, is_some, if◌then◌else◌}
 use Rattle.std.specs.List.{list_any}
 use Rattle.bus_phases.specs.bus_base.specs.declared.ProcId.{ProcId}
 use Rattle.bus_phases.specs.bus_base.specs.declared.Event.{Event}
@@ -59,7 +60,8 @@ all_carried s b (e ∷ history) = is_carried s b e && all_carried s b history
 
 -- ---- all of it
 
-pub record Right (s : ScenarioValue) (rows : List Row) (history : List Event) (ended : List (Option Outcome)) (disks : List Contents) : Type 0 where
+pub record Right (s : ScenarioValue) (rows : List Row) (history : List Event) (ended : List (Option Outcome))
+    (disks : List Contents) : Type 0 where
   pub told : (story s (reverse rows)).history ≡ reverse history
   pub permitted : is_some (array_after s (reverse history)) ≡ true
   pub blocks : disks_of (array_after s (reverse history)) ≡ disks

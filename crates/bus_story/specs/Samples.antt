@@ -1,5 +1,6 @@
 -- What is sampled, where and when; and which samples the faults of a scenario strike.
-use Rattle.std.specs.Prelude.{ℕ, ◌+◌, Bool, ◌&&◌, ◌||◌, ◌==◌, List, [], ◌∷◌, Option, Some, None, is_none, nat_le, nat_lt, if◌then◌else◌}
+use Rattle.std.specs.Prelude.{ℕ, ◌+◌, Bool, ◌&&◌, ◌||◌, ◌==◌, List, [], ◌∷◌, Option, Some, None, is_none, nat_le}
+use Rattle.std.specs.Prelude.{nat_lt, if◌then◌else◌}
 use Rattle.std.specs.List.{find}
 use Rattle.bus_phases.specs.bus_trace.specs.declared.Row.{Row}
 use Rattle.bus_phases.specs.bus_trace.specs.declared.Kind.{Kind}
@@ -35,7 +36,8 @@ is_kept_by_reset row a = nat_lt a.time row.time || (a.time == row.time && nat_lt
 
 abbrev pub kept_samples : Row → List Sample → List Sample
 kept_samples row [] = []
-kept_samples row (a ∷ samples) = if is_kept_by_reset row a then a ∷ kept_samples row samples else kept_samples row samples
+kept_samples row (a ∷ samples) =
+    if is_kept_by_reset row a then a ∷ kept_samples row samples else kept_samples row samples
 
 -- ---- the IDs: a bus settle delay and its latency after BSY became false in the calling (6.1.3, 6.1.4)
 
@@ -49,16 +51,18 @@ target_latency (Some t) other = Some t.latency
 
 -- The latency of a device that is there.
 abbrev pub latency_of : ScenarioValue → ℕ → Option ℕ
-latency_of s dev =
-    target_latency (find (λ (t : TargetDef). t.dev == dev) s.targets) (host_latency (find (λ (h : HostDef). h.dev == dev) s.hosts))
+latency_of s dev = target_latency (find (λ (t : TargetDef). t.dev == dev) s.targets)
+    (host_latency (find (λ (h : HostDef). h.dev == dev) s.hosts))
 
 abbrev pub samples_with_ids_after : Option ℕ → ℕ → ℕ → List Sample → List Sample
 samples_with_ids_after None dev time samples = samples
-samples_with_ids_after (Some latency) dev time samples = with_sample (record { time = time + BUS_SETTLE_DELAY + latency; dev = dev }) samples
+samples_with_ids_after (Some latency) dev time samples =
+    with_sample (record { time = time + BUS_SETTLE_DELAY + latency; dev = dev }) samples
 
 abbrev pub samples_with_ids_of : ScenarioValue → Option Calling → ℕ → List Sample → List Sample
 samples_with_ids_of s None time samples = samples
-samples_with_ids_of s (Some k) time samples = if is_none k.answered then samples_with_ids_after (latency_of s k.called) k.called time samples else samples
+samples_with_ids_of s (Some k) time samples =
+    if is_none k.answered then samples_with_ids_after (latency_of s k.called) k.called time samples else samples
 
 abbrev pub samples_with_ids : ScenarioValue → Option Call → ℕ → List Sample → List Sample
 samples_with_ids s None time samples = samples
@@ -105,7 +109,8 @@ with_first_strike (Some a) bit strikes = with_strike (record { sample = a; bit =
 
 abbrev pub strikes_by : List FaultDef → List Sample → List Strike
 strikes_by [] samples = []
-strikes_by (f ∷ faults) samples = with_first_strike (first_from f.at samples) f.bit (strikes_by faults (without_first f.at samples))
+strikes_by (f ∷ faults) samples =
+    with_first_strike (first_from f.at samples) f.bit (strikes_by faults (without_first f.at samples))
 
 -- In order of time, then of their lines.
 abbrev pub with_fault : FaultDef → List FaultDef → List FaultDef

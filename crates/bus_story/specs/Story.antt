@@ -1,5 +1,6 @@
 -- What is known after some rows, and how an event ends what is open.
-use Rattle.std.specs.Prelude.{ℕ, ◌+◌, Bool, true, false, not, ◌&&◌, ◌||◌, ◌==◌, List, [], ◌∷◌, ◌++◌, replicate, Option, None, if◌then◌else◌}
+use Rattle.std.specs.Prelude.{ℕ, ◌+◌, Bool, true, false, not, ◌&&◌, ◌||◌, ◌==◌, List, [], ◌∷◌, ◌++◌, replicate, Option}
+use Rattle.std.specs.Prelude.{None, if◌then◌else◌}
 use Rattle.std.specs.List.{list_any}
 use Rattle.bus_phases.specs.bus_base.specs.declared.ProcId.{ProcId}
 use Rattle.bus_phases.specs.bus_base.specs.declared.AbortKind.{AbortKind}
@@ -61,7 +62,8 @@ story_with_end b id e = record (story_with_over b (process id)) { ended = with_e
 
 abbrev pub with_check : Story → ProcId → ℕ → Story
 with_check b id status =
-    if not id.sense && status == CHECK_CONDITION then record b { sent = record b.sent { checks = b.sent.checks ++ id.command ∷ [] } } else b
+    if not id.sense && status == CHECK_CONDITION
+    then record b { sent = record b.sent { checks = b.sent.checks ++ id.command ∷ [] } } else b
 
 -- Every open command that this test names ends so, and every automatic REQUEST SENSE that the other names is stopped.
 abbrev pub story_with_end_if : (CmdDef → Bool) → (CmdDef → Bool) → Ending → ℕ → CmdDef → Story → Story
@@ -72,7 +74,8 @@ story_with_end_if drops stops e n c b =
 
 abbrev pub story_with_ends : (CmdDef → Bool) → (CmdDef → Bool) → Ending → ℕ → List CmdDef → Story → Story
 story_with_ends drops stops e n [] b = b
-story_with_ends drops stops e n (c ∷ commands) b = story_with_ends drops stops e (n + 1) commands (story_with_end_if drops stops e n c b)
+story_with_ends drops stops e n (c ∷ commands) b =
+    story_with_ends drops stops e (n + 1) commands (story_with_end_if drops stops e n c b)
 
 abbrev pub is_unit_of : CmdDef → ℕ → ℕ → Bool
 is_unit_of c target unit = c.target == target && c.unit == unit
@@ -98,9 +101,12 @@ marked_shown k = record k { shown = true }
 
 abbrev pub story_after_event : ScenarioValue → Story → Event → Story
 story_after_event s b (events.Accept id) = b
-story_after_event s b (events.Refuse id) = record b { carried = with_carried b.carried (marked_refused (carried_of b.carried id)) }
-story_after_event s b (events.Run id) = record b { carried = with_carried b.carried (marked_shown (carried_of b.carried id)) }
-story_after_event s b (events.Fail id code) = record b { carried = with_carried b.carried (marked_shown (carried_of b.carried id)) }
+story_after_event s b (events.Refuse id) =
+    record b { carried = with_carried b.carried (marked_refused (carried_of b.carried id)) }
+story_after_event s b (events.Run id) =
+    record b { carried = with_carried b.carried (marked_shown (carried_of b.carried id)) }
+story_after_event s b (events.Fail id code) =
+    record b { carried = with_carried b.carried (marked_shown (carried_of b.carried id)) }
 story_after_event s b (events.End id status) = with_check (story_with_end b id (by_status status)) id status
 story_after_event s b (events.Lost id) = story_with_end b id by_loss
 story_after_event s b (events.Aborted host target unit what) =

@@ -1,6 +1,7 @@
 -- What the rows of a scenario's trace tell: its history, and what each process carried. Each row tells by the rows
 -- before it; nothing is asked of a device.
-use Rattle.std.specs.Prelude.{ℕ, zero, suc, ◌%◌, Bool, true, false, not, ◌&&◌, ◌==◌, List, [], ◌∷◌, ◌++◌, slice_set, Option, Some, None, is_some, is_none, nat_lt, if◌then◌else◌}
+use Rattle.std.specs.Prelude.{ℕ, zero, suc, ◌%◌, Bool, true, false, not, ◌&&◌, ◌==◌, List, [], ◌∷◌, ◌++◌, slice_set}
+use Rattle.std.specs.Prelude.{Option, Some, None, is_some, is_none, nat_lt, if◌then◌else◌}
 use Rattle.bus_phases.specs.bus_base.specs.declared.Event.{Event}
 use Rattle.bus_phases.specs.bus_trace.specs.declared.Row.{Row}
 use Rattle.bus_phases.specs.bus_trace.specs.declared.Kind.{Kind}
@@ -18,7 +19,8 @@ use Rattle.disk_array.specs.scenario.specs.Value.{ScenarioValue}
 use Rattle.bus_story.specs.BusState.{BusState, RowReading, row_reading, bus_state_after}
 use Rattle.bus_story.specs.Items.{Item, process, abort, count_item, item_at}
 use Rattle.bus_story.specs.Links.{Link, link_of, last_out, last_in, link_after_name}
-use Rattle.bus_story.specs.CarriedBytes.{CarriedBytes, carried_of, with_carried, with_restored_pointers, carried_after_message, carried_after_byte, carried_after_fault}
+use Rattle.bus_story.specs.CarriedBytes.{CarriedBytes, carried_of, with_carried, with_restored_pointers}
+use Rattle.bus_story.specs.CarriedBytes.{carried_after_message, carried_after_byte, carried_after_fault}
 use Rattle.bus_story.specs.Story.{Story, empty_story, unanswered, story_with_over, story_with_end, story_after_events}
 use Rattle.bus_story.specs.HistoryEvents.{carried_if, row_events_by}
 use Rattle.disk_array.specs.Seats.{is_initiator}
@@ -27,7 +29,8 @@ use Rattle.disk_array.specs.Seats.{is_initiator}
 
 -- A device enters: it raises BSY, neither in a connection nor as an answer.
 abbrev pub is_arbitration_entry : Story → RowReading → Bool
-is_arbitration_entry b d = rises d.change.own.bsy d.change.next.bsy && not d.change.before.sel && is_none b.bus_state.connection
+is_arbitration_entry b d =
+    rises d.change.own.bsy d.change.next.bsy && not d.change.before.sel && is_none b.bus_state.connection
 
 abbrev pub aim_of : List (Option Item) → ℕ → Option Item
 aim_of [] dev = None
@@ -35,8 +38,9 @@ aim_of (item ∷ items) zero = item
 aim_of (item ∷ items) (suc dev) = aim_of items dev
 
 abbrev pub story_with_aim : ScenarioValue → Story → Row → Story
-story_with_aim s b row =
-    record b { aims = slice_set b.aims row.dev (if is_initiator s.hosts row.dev then item_at s b.sent row.dev row.time else None) }
+story_with_aim s b row = record b {
+  aims = slice_set b.aims row.dev (if is_initiator s.hosts row.dev then item_at s b.sent row.dev row.time else None);
+}
 
 abbrev pub retries_of : List HostDef → ℕ → ℕ
 retries_of [] dev = 0
@@ -55,7 +59,8 @@ abbrev pub story_with_try : ScenarioValue → Story → ℕ → Option Item → 
 story_with_try s b dev None = b
 story_with_try s b dev (Some item) =
     let next : Story = record b { sent = record b.sent { tries = item ∷ b.sent.tries } } in
-    if is_counted item && nat_lt (retries_of s.hosts dev) (count_item next.sent.tries item) then story_without_answer next item else next
+    if is_counted item && nat_lt (retries_of s.hosts dev) (count_item next.sent.tries item)
+    then story_without_answer next item else next
 
 -- The caller ends its calling without an answer.
 abbrev pub story_after_calling_by : ScenarioValue → Story → ℕ → Option Calling → Story
@@ -77,7 +82,8 @@ story_on_free_bus s b d row =
 
 abbrev pub story_with_restored : Story → Option Item → Story
 story_with_restored b None = b
-story_with_restored b (Some (process id)) = record b { carried = with_carried b.carried (with_restored_pointers (carried_of b.carried id)) }
+story_with_restored b (Some (process id)) =
+    record b { carried = with_carried b.carried (with_restored_pointers (carried_of b.carried id)) }
 story_with_restored b (Some (abort k)) = b
 
 abbrev pub story_with_sent : Story → Option Item → Story
@@ -86,8 +92,9 @@ story_with_sent b (Some item) = record b { sent = record b.sent { sent = item �
 
 abbrev pub story_after_connection : Story → Connection → Story
 story_after_connection b n =
-    if n.reselected then record b { link = Some (link_of n None) }
-    else story_with_restored (story_with_sent (record b { link = Some (link_of n (aim_of b.aims n.initiator)) }) (aim_of b.aims n.initiator)) (aim_of b.aims n.initiator)
+    if n.reselected then record b { link = Some (link_of n None) } else story_with_restored
+    (story_with_sent (record b { link = Some (link_of n (aim_of b.aims n.initiator)) }) (aim_of b.aims n.initiator))
+    (aim_of b.aims n.initiator)
 
 -- ---- in a connection: messages
 
@@ -101,8 +108,8 @@ is_parity_error _ = false
 
 abbrev pub story_after_out : Story → Link → Option MsgOut → Story
 story_after_out b l None = b
-story_after_out b l (Some m) =
-    story_with_carried (record b { link = Some (record l { last = last_out m l }) }) (if is_parity_error m then l.undo else None)
+story_after_out b l (Some m) = story_with_carried (record b { link = Some (record l { last = last_out m l }) })
+    (if is_parity_error m then l.undo else None)
 
 abbrev pub carried_after_message_if : Option CarriedBytes → MsgIn → Option CarriedBytes
 carried_after_message_if None m = None
@@ -110,7 +117,8 @@ carried_after_message_if (Some k) m = Some (carried_after_message k m)
 
 -- The message came while the connection belonged to this item, or has just named it.
 abbrev pub story_after_message : ScenarioValue → Story → Link → MsgIn → Story
-story_after_message s b l m = story_with_carried (record b { link = Some l }) (carried_after_message_if (carried_if b l.item) m)
+story_after_message s b l m =
+    story_with_carried (record b { link = Some l }) (carried_after_message_if (carried_if b l.item) m)
 
 abbrev pub story_after_name : ScenarioValue → Story → Link → Link → MsgIn → Story
 story_after_name s b l next m =
@@ -129,7 +137,8 @@ carried_after_byte_if (Some k) d = Some (carried_after_byte k d.change.before (d
 
 -- A byte is carried in COMMAND, DATA and STATUS alone; one of a message changes nothing here.
 abbrev pub story_after_byte : Story → Link → RowReading → Story
-story_after_byte b l d = if d.change.before.msg then b else story_with_carried b (carried_after_byte_if (carried_if b l.item) d)
+story_after_byte b l d =
+    if d.change.before.msg then b else story_with_carried b (carried_after_byte_if (carried_if b l.item) d)
 
 abbrev pub carried_after_fault_if : Option CarriedBytes → Option Change → Option CarriedBytes
 carried_after_fault_if None c = None
@@ -138,7 +147,8 @@ carried_after_fault_if (Some k) (Some c) = Some (carried_after_fault k c.before)
 
 abbrev pub story_after_fault : Story → Link → Kind → Story
 story_after_fault b l (Drives lines) = b
-story_after_fault b l (Fault bit) = story_with_carried b (carried_after_fault_if (carried_if b l.item) b.bus_state.crossed)
+story_after_fault b l (Fault bit) =
+    story_with_carried b (carried_after_fault_if (carried_if b l.item) b.bus_state.crossed)
 
 abbrev pub story_after_crossing : ScenarioValue → Story → Link → RowReading → Story
 story_after_crossing s b l d =
@@ -148,7 +158,8 @@ story_after_crossing s b l d =
 
 abbrev pub story_in_connection : ScenarioValue → Story → Option Link → RowReading → Row → Story
 story_in_connection s b None d row = b
-story_in_connection s b (Some l) d row = if d.crosses then story_after_crossing s b l d else story_after_fault b l row.kind
+story_in_connection s b (Some l) d row =
+    if d.crosses then story_after_crossing s b l d else story_after_fault b l row.kind
 
 -- ---- a row
 
@@ -160,13 +171,15 @@ story_on_bus s b (Some m) (Some n) d row = story_in_connection s b b.link d row
 
 -- RST ends the connection.
 abbrev pub story_by_change : ScenarioValue → Story → RowReading → Row → Story
-story_by_change s b d row = if d.change.after.rst then record b { link = None } else story_on_bus s b b.bus_state.connection d.next d row
+story_by_change s b d row =
+    if d.change.after.rst then record b { link = None } else story_on_bus s b b.bus_state.connection d.next d row
 
 abbrev pub story_with_history : Story → BusState → List Event → List Event → Story
 story_with_history b state shown history = record b { bus_state = state; history = shown ++ history }
 
 abbrev pub story_with : ScenarioValue → Story → Row → RowReading → List Event → Story
-story_with s b row d shown = story_with_history (story_after_events s (story_by_change s b d row) shown) (bus_state_after b.bus_state row d) shown b.history
+story_with s b row d shown = story_with_history (story_after_events s (story_by_change s b d row) shown)
+    (bus_state_after b.bus_state row d) shown b.history
 
 abbrev pub story_by : ScenarioValue → Story → Row → RowReading → Story
 story_by s b row d = story_with s b row d (row_events_by s b d row)

@@ -1,5 +1,6 @@
 -- Since when a line has stood.
-use Rattle.std.proofs.Common.{ℕ, ◌≡◌, ◌≢◌, ◌≤◌, ◌<◌, ◌==◌, Bool, true, false, List, [], ◌∷◌, if◌then◌else◌, ◌∙◌, refl, sym, arith}
+use Rattle.std.proofs.Common.{ℕ, ◌≡◌, ◌≢◌, ◌≤◌, ◌<◌, ◌==◌, Bool, true, false, List, [], ◌∷◌, if◌then◌else◌, ◌∙◌, refl}
+use Rattle.std.proofs.Common.{sym, arith}
 use Rattle.std.specs.Prelude.{not, cond}
 use Rattle.std.specs.Int.{bit_at}
 use Rattle.bus_trace.specs.LineSet.{LineSet, bit_value, line_of, same}
@@ -68,33 +69,42 @@ pub if_le : (q : Bool) (was time : ℕ) → was ≤ time → (if q then was else
 if_le true was time h = h
 if_le false was time h = omega arith
 
-pub newer_le : (seen : LineSet → ℕ) (a b : LineSet) (was time age : ℕ) → age ≡ newer seen a b was time → was ≤ time → age ≤ time
+pub newer_le : (seen : LineSet → ℕ) (a b : LineSet) (was time age : ℕ) → age ≡ newer seen a b was time → was ≤ time
+    → age ≤ time
 newer_le seen a b was time age e h = let le = if_le (seen a == seen b) was time h in omega arith
 
-pub newer_lt : (seen : LineSet → ℕ) (a b : LineSet) (was time age end : ℕ) → age ≡ newer seen a b was time → was < end → time < end → age < end
+pub newer_lt : (seen : LineSet → ℕ) (a b : LineSet) (was time age end : ℕ) → age ≡ newer seen a b was time → was < end
+    → time < end → age < end
 newer_lt seen a b was time age end e h t = let lt = if_less (seen a == seen b) was time end h t in omega arith
 
 -- where nothing changed before its time, a row leaves no change after its time
-pub since_le : (seen : LineSet → ℕ) (row : Row) (rows : List Row) → since seen rows ≤ row.time → since seen (row ∷ rows) ≤ row.time
+pub since_le : (seen : LineSet → ℕ) (row : Row) (rows : List Row) → since seen rows ≤ row.time
+    → since seen (row ∷ rows) ≤ row.time
 since_le seen row rows h = if_le (seen (bus rows) == seen (bus (row ∷ rows))) _ _ h
 
-pub since_line_le : (on : LineSet → Bool) (row : Row) (rows : List Row) → since_line on rows ≤ row.time → since_line on (row ∷ rows) ≤ row.time
+pub since_line_le : (on : LineSet → Bool) (row : Row) (rows : List Row) → since_line on rows ≤ row.time
+    → since_line on (row ∷ rows) ≤ row.time
 since_line_le on row rows h = if_le (same (on (bus rows)) (on (bus (row ∷ rows)))) _ _ h
 
 -- what stays keeps its time, and what changes takes that of the row
-pub since-kept : (seen : LineSet → ℕ) (row : Row) (rows : List Row) → seen (bus rows) ≡ seen (bus (row ∷ rows)) → since seen (row ∷ rows) ≡ since seen rows
+pub since-kept : (seen : LineSet → ℕ) (row : Row) (rows : List Row) → seen (bus rows) ≡ seen (bus (row ∷ rows))
+    → since seen (row ∷ rows) ≡ since seen rows
 since-kept seen row rows e = if_yes _ _ _ (eq-eqb (seen (bus rows)) (seen (bus (row ∷ rows))) e)
 
-pub since-set : (seen : LineSet → ℕ) (row : Row) (rows : List Row) → seen (bus rows) ≢ seen (bus (row ∷ rows)) → since seen (row ∷ rows) ≡ row.time
+pub since-set : (seen : LineSet → ℕ) (row : Row) (rows : List Row) → seen (bus rows) ≢ seen (bus (row ∷ rows))
+    → since seen (row ∷ rows) ≡ row.time
 since-set seen row rows e = if_no _ _ _ (ne_eqb (seen (bus rows)) (seen (bus (row ∷ rows))) e)
 
-pub since_line-kept : (on : LineSet → Bool) (row : Row) (rows : List Row) → on (bus rows) ≡ on (bus (row ∷ rows)) → since_line on (row ∷ rows) ≡ since_line on rows
+pub since_line-kept : (on : LineSet → Bool) (row : Row) (rows : List Row) → on (bus rows) ≡ on (bus (row ∷ rows))
+    → since_line on (row ∷ rows) ≡ since_line on rows
 since_line-kept on row rows e = if_yes _ _ _ (same_yes (on (bus rows)) (on (bus (row ∷ rows))) e)
 
-pub since_line-set : (on : LineSet → Bool) (row : Row) (rows : List Row) → on (bus rows) ≢ on (bus (row ∷ rows)) → since_line on (row ∷ rows) ≡ row.time
+pub since_line-set : (on : LineSet → Bool) (row : Row) (rows : List Row) → on (bus rows) ≢ on (bus (row ∷ rows))
+    → since_line on (row ∷ rows) ≡ row.time
 since_line-set on row rows e = if_no _ _ _ (same_no (on (bus rows)) (on (bus (row ∷ rows))) e)
 
-pub newer_along : (seen : LineSet → ℕ) (a a' b b' : LineSet) (x x' t : ℕ) → a ≡ a' → b ≡ b' → x ≡ x' → newer seen a b x t ≡ newer seen a' b' x' t
+pub newer_along : (seen : LineSet → ℕ) (a a' b b' : LineSet) (x x' t : ℕ) → a ≡ a' → b ≡ b' → x ≡ x'
+    → newer seen a b x t ≡ newer seen a' b' x' t
 newer_along seen a a' b b' x x' t p q r = λ i. newer seen (p i) (q i) (r i) t
 
 same_value : (a b : Bool) → (bit_value a 1 == bit_value b 1) ≡ same a b
@@ -111,19 +121,22 @@ since_by_line on (row ∷ rows) =
     let was = since_by_line on rows in
     λ i. if test i then was i else row.time
 
-pub since_line_of : (line : ℕ) (on : LineSet → Bool) → ((s : LineSet) → line_of line s ≡ bit_value (on s) 1) → (rows : List Row) → since (line_of line) rows ≡ since_line on rows
+pub since_line_of : (line : ℕ) (on : LineSet → Bool) → ((s : LineSet) → line_of line s ≡ bit_value (on s) 1)
+    → (rows : List Row) → since (line_of line) rows ≡ since_line on rows
 since_line_of line on law rows =
     let e : since (line_of line) rows ≡ since (λ s. bit_value (on s) 1) rows = λ i. since (λ s. law s i) rows in
     e ∙ since_by_line on rows
 
 -- where no data line changes the time of each stays
-pub data_stay : (b a : LineSet) (time : ℕ) (old : ℕ → ℕ) → b.data_bits ≡ a.data_bits → (k : ℕ) → k < 9 → old k ≡ newer (line_of k) b a (old k) time
+pub data_stay : (b a : LineSet) (time : ℕ) (old : ℕ → ℕ) → b.data_bits ≡ a.data_bits → (k : ℕ) → k < 9
+    → old k ≡ newer (line_of k) b a (old k) time
 data_stay b a time old same k lt =
     let e : line_of k b ≡ line_of k a = line_low k b lt ∙ ((λ i. bit_at (same i) k) ∙ sym (line_low k a lt)) in
     sym (if_yes (line_of k b == line_of k a) (old k) time (eq-eqb _ _ e))
 
 -- the time of a line that differs is the newest
-pub newest_is : (k : ℕ) (b a : LineSet) (time was new : ℕ) (differs : Bool) → differs ≡ not (line_of k b == line_of k a) → new ≡ cond differs time was → new ≡ newer (line_of k) b a was time
+pub newest_is : (k : ℕ) (b a : LineSet) (time was new : ℕ) (differs : Bool) → differs ≡ not (line_of k b == line_of k a)
+    → new ≡ cond differs time was → new ≡ newer (line_of k) b a was time
 newest_is k b a time was new differs ed en = en ∙ ((λ i. cond (ed i) time was) ∙ go (line_of k b == line_of k a))
   where
     go : (q : Bool) → cond (not q) time was ≡ (if q then was else time)

@@ -1,5 +1,6 @@
 -- What shifts and masks of a number say of its set of lines.
-use Rattle.std.proofs.Common.{not, zero, suc, ℕ, ◌≡◌, ◌+◌, ◌-◌, ◌*◌, ◌/◌, ◌%◌, ◌^◌, ◌<◌, ◌==◌, ◌||◌, Bool, true, false, refl, arith, ap, sym, subst, ◌∙◌, max, ltb, nat_lt}
+use Rattle.std.proofs.Common.{not, zero, suc, ℕ, ◌≡◌, ◌+◌, ◌-◌, ◌*◌, ◌/◌, ◌%◌, ◌^◌, ◌<◌, ◌==◌, ◌||◌, Bool, true, false}
+use Rattle.std.proofs.Common.{refl, arith, ap, sym, subst, ◌∙◌, max, ltb, nat_lt}
 use Rattle.std.specs.Int.{bit_at}
 use Rattle.std.specs.Int.RustNames.{bit_or, bit_and}
 use Rattle.std.proofs.lemmas.Nat.{or_mod, div-add-mod', pow_pos}
@@ -23,8 +24,18 @@ or_bit a b i = ap (λ x. x == 1) (bit_at_or a b i) ∙ or_bit_by _ _ (bit_at-lt 
 
 -- the set of an OR is the union
 pub set_of-or : (a b : ℕ) → set_of (bit_or a b) ≡ union (set_of a) (set_of b)
-set_of-or a b =
-    simp (or_bit a b 9, or_bit a b 10, or_bit a b 11, or_bit a b 12, or_bit a b 13, or_bit a b 14, or_bit a b 15, or_bit a b 16, or_bit a b 17, or_mod a b 9)
+set_of-or a b = simp (
+  or_bit a b 9,
+  or_bit a b 10,
+  or_bit a b 11,
+  or_bit a b 12,
+  or_bit a b 13,
+  or_bit a b 14,
+  or_bit a b 15,
+  or_bit a b 16,
+  or_bit a b 17,
+  or_mod a b 9,
+)
 
 pub union_of : (a b : ℕ) (s t : LineSet) → set_of a ≡ s → set_of b ≡ t → set_of (bit_or a b) ≡ union s t
 union_of a b s t p q = set_of-or a b ∙ (ap (λ (x : LineSet). union x (set_of b)) p ∙ ap (λ (x : LineSet). union s x) q)
@@ -86,6 +97,7 @@ pub shift_line : (n line : ℕ) (s : LineSet) → line < 18 → set_of n ≡ s �
 shift_line n line s h e = shr_and_one n line ∙ (bit_at_line n line h ∙ ap (λ (t : LineSet). line_of line t) e)
 
 -- what a shift reads of the data lines
-pub shift_data : (n line : ℕ) (s : LineSet) → line < 9 → set_of n ≡ s → bit_and (n / 2 ^ line) 1 ≡ bit_at s.data_bits line
+pub shift_data : (n line : ℕ) (s : LineSet) → line < 9 → set_of n ≡ s
+    → bit_and (n / 2 ^ line) 1 ≡ bit_at s.data_bits line
 shift_data n line s h e =
     shr_and_one n line ∙ (bit_at_mod n 9 line h ∙ ap (λ (t : LineSet). bit_at t.data_bits line) e)

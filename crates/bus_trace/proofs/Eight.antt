@@ -18,15 +18,22 @@ pub is_of_eight
 is_of_eight [] long a b c d e f g h a' b' c' d' e' f' g' h' ea eb ec ed ee ef eg eh = absurd (omega arith)
 is_of_eight (x0 ∷ []) long a b c d e f g h a' b' c' d' e' f' g' h' ea eb ec ed ee ef eg eh = absurd (omega arith)
 is_of_eight (x0 ∷ x1 ∷ []) long a b c d e f g h a' b' c' d' e' f' g' h' ea eb ec ed ee ef eg eh = absurd (omega arith)
-is_of_eight (x0 ∷ x1 ∷ x2 ∷ []) long a b c d e f g h a' b' c' d' e' f' g' h' ea eb ec ed ee ef eg eh = absurd (omega arith)
-is_of_eight (x0 ∷ x1 ∷ x2 ∷ x3 ∷ []) long a b c d e f g h a' b' c' d' e' f' g' h' ea eb ec ed ee ef eg eh = absurd (omega arith)
-is_of_eight (x0 ∷ x1 ∷ x2 ∷ x3 ∷ x4 ∷ []) long a b c d e f g h a' b' c' d' e' f' g' h' ea eb ec ed ee ef eg eh = absurd (omega arith)
-is_of_eight (x0 ∷ x1 ∷ x2 ∷ x3 ∷ x4 ∷ x5 ∷ []) long a b c d e f g h a' b' c' d' e' f' g' h' ea eb ec ed ee ef eg eh = absurd (omega arith)
-is_of_eight (x0 ∷ x1 ∷ x2 ∷ x3 ∷ x4 ∷ x5 ∷ x6 ∷ []) long a b c d e f g h a' b' c' d' e' f' g' h' ea eb ec ed ee ef eg eh = absurd (omega arith)
-is_of_eight (x0 ∷ x1 ∷ x2 ∷ x3 ∷ x4 ∷ x5 ∷ x6 ∷ x7 ∷ []) long a b c d e f g h a' b' c' d' e' f' g' h' ea eb ec ed ee ef eg eh =
-    λ i. ea i ∷ eb i ∷ ec i ∷ ed i ∷ ee i ∷ ef i ∷ eg i ∷ eh i ∷ []
-is_of_eight (x0 ∷ x1 ∷ x2 ∷ x3 ∷ x4 ∷ x5 ∷ x6 ∷ x7 ∷ x8 ∷ xs) long a b c d e f g h a' b' c' d' e' f' g' h' ea eb ec ed ee ef eg eh = absurd (omega arith)
+is_of_eight (x0 ∷ x1 ∷ x2 ∷ []) long a b c d e f g h a' b' c' d' e' f' g' h' ea eb ec ed ee ef eg eh =
+    absurd (omega arith)
+is_of_eight (x0 ∷ x1 ∷ x2 ∷ x3 ∷ []) long a b c d e f g h a' b' c' d' e' f' g' h' ea eb ec ed ee ef eg eh =
+    absurd (omega arith)
+is_of_eight (x0 ∷ x1 ∷ x2 ∷ x3 ∷ x4 ∷ []) long a b c d e f g h a' b' c' d' e' f' g' h' ea eb ec ed ee ef eg eh =
+    absurd (omega arith)
+is_of_eight (x0 ∷ x1 ∷ x2 ∷ x3 ∷ x4 ∷ x5 ∷ []) long a b c d e f g h a' b' c' d' e' f' g' h' ea eb ec ed ee ef eg eh =
+    absurd (omega arith)
+is_of_eight (x0 ∷ x1 ∷ x2 ∷ x3 ∷ x4 ∷ x5 ∷ x6 ∷ []) long a b c d e f g h a' b' c' d' e' f' g' h' ea eb ec ed ee ef eg
+    eh = absurd (omega arith)
+is_of_eight (x0 ∷ x1 ∷ x2 ∷ x3 ∷ x4 ∷ x5 ∷ x6 ∷ x7 ∷ []) long a b c d e f g h a' b' c' d' e' f' g' h' ea eb ec ed ee ef
+    eg eh = λ i. ea i ∷ eb i ∷ ec i ∷ ed i ∷ ee i ∷ ef i ∷ eg i ∷ eh i ∷ []
+is_of_eight (x0 ∷ x1 ∷ x2 ∷ x3 ∷ x4 ∷ x5 ∷ x6 ∷ x7 ∷ x8 ∷ xs) long a b c d e f g h a' b' c' d' e' f' g' h' ea eb ec ed
+    ee ef eg eh = absurd (omega arith)
 
 -- A view with the same lines.
-pub view_with : (v : View) (driven : List LineSet) (present : LineSet) → driven ≡ v.driven → present ≡ v.present → record v { driven = driven; present = present } ≡ v
+pub view_with : (v : View) (driven : List LineSet) (present : LineSet) → driven ≡ v.driven → present ≡ v.present
+    → record v { driven = driven; present = present } ≡ v
 view_with v driven present d p = λ i. record v { driven = d i; present = p i }

@@ -1,5 +1,6 @@
 -- ID bits on the data lines.
-use Rattle.std.proofs.Common.{inl, inr, zero, suc, ℕ, ◌≡◌, ◌≢◌, ◌+◌, ◌%◌, ◌^◌, ◌<◌, ◌≤◌, ◌==◌, ◌||◌, ◌&&◌, Bool, true, false, refl, arith, ap, sym, ◌∙◌, leb, not}
+use Rattle.std.proofs.Common.{inl, inr, zero, suc, ℕ, ◌≡◌, ◌≢◌, ◌+◌, ◌%◌, ◌^◌, ◌<◌, ◌≤◌, ◌==◌, ◌||◌, ◌&&◌, Bool, true}
+use Rattle.std.proofs.Common.{false, refl, arith, ap, sym, ◌∙◌, leb, not}
 use Rattle.std.specs.Int.{bit_at}
 use Rattle.std.specs.Int.RustNames.{count_ones}
 use Rattle.std.proofs.Math.Nat.{pow-le-pow_right, mod-lt}
@@ -40,7 +41,8 @@ each_below f (suc n) e k lt =
       | inr ne ↦ each_below f n h.0 k (omega arith)
     ]
 
-each_pair : (f : ℕ → ℕ → Bool) (n : ℕ) → all_below (λ a. all_below (f a) n) n ≡ true → (a b : ℕ) → a < n → b < n → f a b ≡ true
+each_pair : (f : ℕ → ℕ → Bool) (n : ℕ) → all_below (λ a. all_below (f a) n) n ≡ true → (a b : ℕ) → a < n → b < n
+    → f a b ≡ true
 each_pair f n e a b la lb = each_below (f a) n (each_below (λ a. all_below (f a) n) n e a la) b lb
 
 -- what holds of two different IDs: two ones, and odd parity with DB(P)
@@ -60,13 +62,13 @@ two_from n e = grind (arith, nat_tests)
 
 -- a selection shows two IDs
 pub ids_in-ids_set : (a b : ℕ) → a < 8 → b < 8 → a ≢ b → ids_in (ids_set a b) ≡ 2
-ids_in-ids_set a b la lb ne =
-    two_from _ (good_parts (a == b) (ids_in (ids_set a b) == 2) (has_odd_parity (ids_set a b)) (good_pairs a b la lb) (ne_eqb a b ne)).0
+ids_in-ids_set a b la lb ne = two_from _ (good_parts (a == b) (ids_in (ids_set a b) == 2) (has_odd_parity (ids_set a b))
+    (good_pairs a b la lb) (ne_eqb a b ne)).0
 
 -- with odd parity
 pub ids_odd : (a b : ℕ) → a < 8 → b < 8 → a ≢ b → has_odd_parity (ids_set a b) ≡ true
-ids_odd a b la lb ne =
-    (good_parts (a == b) (ids_in (ids_set a b) == 2) (has_odd_parity (ids_set a b)) (good_pairs a b la lb) (ne_eqb a b ne)).1
+ids_odd a b la lb ne = (good_parts (a == b) (ids_in (ids_set a b) == 2) (has_odd_parity (ids_set a b))
+    (good_pairs a b la lb) (ne_eqb a b ne)).1
 
 abbrev same_test : Bool → Bool → Bool
 same_test true q = q
@@ -87,8 +89,8 @@ shown k a b lk la lb =
     each_below (λ k. shows a b k) 8 (each_pair (λ a b. all_below (λ k. shows a b k) 8) 8 refl a b la lb) k lk
 
 pub has_id-ids_set : (a b k : ℕ) → a < 8 → b < 8 → k < 8 → a ≢ b → has_id (ids_set a b) k ≡ ((a == k) || (b == k))
-has_id-ids_set a b k la lb lk ne =
-    same_from _ _ (or_second (a == b) (same_test (has_id (ids_set a b) k) ((a == k) || (b == k))) (shown k a b lk la lb) (ne_eqb a b ne))
+has_id-ids_set a b k la lb lk ne = same_from _ _ (or_second (a == b)
+    (same_test (has_id (ids_set a b) k) ((a == k) || (b == k))) (shown k a b lk la lb) (ne_eqb a b ne))
 
 pub bit_from : (b : ℕ) → (b == 1) ≡ true → b ≡ 1
 bit_from b e = grind (arith, nat_tests)

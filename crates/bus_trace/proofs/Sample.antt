@@ -3,7 +3,8 @@ use Rattle.std.proofs.Common.{ℕ, ◌≡◌, List, [], ◌∷◌, refl}
 use Rattle.std.specs.Int.RustNames.{count_ones}
 use Rattle.bus_trace.specs.LineSet.{byte_set, ids_set, none, set_of, line_of, data_of}
 use Rattle.bus_trace.specs.View.{union_below}
-use Rattle.bus_trace.specs.declared.delays.TheConstants.{SET_UP_TIME, DATA_HOLD, TWO_DESKEW, ENTRY_DELAY, QUIET_TIME, TURN_DELAY}
+use Rattle.bus_trace.specs.declared.delays.TheConstants.{SET_UP_TIME, DATA_HOLD, TWO_DESKEW, ENTRY_DELAY, QUIET_TIME}
+use Rattle.bus_trace.specs.declared.delays.TheConstants.{TURN_DELAY}
 use Rattle.bus_trace.specs.declared.rows.Row.{Row}
 use Rattle.bus_trace.specs.declared.rows.Kind.TheVariants.{Drives, Fault}
 use Rattle.bus_trace.specs.Trace.{drives, bus, last_time, since, since_line}
@@ -15,8 +16,8 @@ abbrev pub fault : ℕ → ℕ → ℕ → Row
 fault time dev code = record { time = time; dev = dev; kind = Fault code }
 
 abbrev sample : List Row
-sample =
-    row 5780 7 0x001c0 ∷ row 5780 0 0x06a00 ∷ row 5380 0 0x02a00 ∷ row 5380 7 0x10000 ∷ row 5290 0 0x00200 ∷ fault 5000 7 3 ∷ row 4890 7 0x10581 ∷ row 4800 7 0x10781 ∷ row 3600 7 0x00680 ∷ row 1200 7 0x00280 ∷ []
+sample = row 5780 7 0x001c0 ∷ row 5780 0 0x06a00 ∷ row 5380 0 0x02a00 ∷ row 5380 7 0x10000 ∷ row 5290 0 0x00200
+    ∷ fault 5000 7 3 ∷ row 4890 7 0x10581 ∷ row 4800 7 0x10781 ∷ row 3600 7 0x00680 ∷ row 1200 7 0x00280 ∷ []
 
 bus_after : bus sample ≡ set_of 0x06bc0
 unfolding union_below

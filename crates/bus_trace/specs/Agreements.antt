@@ -1,6 +1,8 @@
 -- When two agreements of synchronous data transfer are the same, and the times of a transfer period.
 use Rattle.std.specs.Prelude.{ℕ, ◌*◌, Bool, ◌&&◌, ◌||◌, Option, Some, None, nat_lt, ◌==◌, if◌then◌else◌, ◌<◌}
-use Rattle.bus_trace.specs.declared.delays.TheConstants.{ASSERTION_PERIOD, NEGATION_PERIOD, SET_UP_TIME, DATA_HOLD, FAST_ASSERTION_PERIOD, FAST_NEGATION_PERIOD, FAST_SET_UP_TIME, FAST_DATA_HOLD}
+use Rattle.bus_trace.specs.declared.delays.TheConstants.{ASSERTION_PERIOD, NEGATION_PERIOD, SET_UP_TIME, DATA_HOLD}
+use Rattle.bus_trace.specs.declared.delays.TheConstants.{FAST_ASSERTION_PERIOD, FAST_NEGATION_PERIOD, FAST_SET_UP_TIME}
+use Rattle.bus_trace.specs.declared.delays.TheConstants.{FAST_DATA_HOLD}
 use Rattle.bus_trace.specs.declared.agreements.TheConstants.{LEAST_FACTOR, LEAST_SLOW_FACTOR}
 use Rattle.bus_trace.specs.declared.agreements.Agreement.{Agreement}
 use Rattle.bus_trace.specs.declared.agreements.TransferTimes.{TransferTimes}
@@ -16,14 +18,24 @@ same_agreement a b = (is_asynchronous a && is_asynchronous b) || (a.period == b.
 -- The times of a fast synchronous data transfer, in ns: a set-up time of a fast deskew delay and a fast cable
 -- skew delay, after which data stays for both and a fast hold time.
 abbrev pub fast_times : ℕ → TransferTimes
-fast_times factor =
-    record { period = 4 * factor; assertion = FAST_ASSERTION_PERIOD; negation = FAST_NEGATION_PERIOD; set_up = FAST_SET_UP_TIME; hold = FAST_DATA_HOLD }
+fast_times factor = record {
+  period = 4 * factor;
+  assertion = FAST_ASSERTION_PERIOD;
+  negation = FAST_NEGATION_PERIOD;
+  set_up = FAST_SET_UP_TIME;
+  hold = FAST_DATA_HOLD;
+}
 
 -- The times of a synchronous data transfer that is not fast, in ns: a set-up time of a deskew delay and a cable
 -- skew delay, after which data stays for both and a hold time.
 abbrev pub slow_times : ℕ → TransferTimes
-slow_times factor =
-    record { period = 4 * factor; assertion = ASSERTION_PERIOD; negation = NEGATION_PERIOD; set_up = SET_UP_TIME; hold = DATA_HOLD }
+slow_times factor = record {
+  period = 4 * factor;
+  assertion = ASSERTION_PERIOD;
+  negation = NEGATION_PERIOD;
+  set_up = SET_UP_TIME;
+  hold = DATA_HOLD;
+}
 
 -- The times that go with a transfer period factor, in units of 4 ns: none below 25, those of a fast
 -- transfer up to 49, and the others from 50 on.

@@ -38,11 +38,24 @@ bit_value false weight = 0
 
 -- the number whose bits are the lines of a set
 abbrev pub number_of : LineSet → ℕ
-number_of s = s.data_bits + bit_value s.bsy 512 + bit_value s.sel 1024 + bit_value s.cd 2048 + bit_value s.io 4096 + bit_value s.msg 8192 + bit_value s.req 16384 + bit_value s.ack 32768 + bit_value s.atn 65536 + bit_value s.rst 131072
+number_of s = s.data_bits + bit_value s.bsy 512 + bit_value s.sel 1024 + bit_value s.cd 2048 + bit_value s.io 4096
+    + bit_value s.msg 8192 + bit_value s.req 16384 + bit_value s.ack 32768 + bit_value s.atn 65536
+    + bit_value s.rst 131072
 
 -- no line
 abbrev pub none : LineSet
-none = record { data_bits = 0; bsy = false; sel = false; cd = false; io = false; msg = false; req = false; ack = false; atn = false; rst = false }
+none = record {
+  data_bits = 0;
+  bsy = false;
+  sel = false;
+  cd = false;
+  io = false;
+  msg = false;
+  req = false;
+  ack = false;
+  atn = false;
+  rst = false;
+}
 
 -- the lines of either set: the wired OR of the bus
 abbrev pub union : LineSet → LineSet → LineSet
@@ -65,10 +78,11 @@ same a b = if a then b else not b
 
 -- whether two sets have the same lines
 abbrev pub same_set : LineSet → LineSet → Bool
-same_set a b =
-    (a.data_bits == b.data_bits) && same a.bsy b.bsy && same a.sel b.sel && same a.cd b.cd && same a.io b.io && same a.msg b.msg && same a.req b.req && same a.ack b.ack && same a.atn b.atn && same a.rst b.rst
+same_set a b = (a.data_bits == b.data_bits) && same a.bsy b.bsy && same a.sel b.sel && same a.cd b.cd && same a.io b.io
+    && same a.msg b.msg && same a.req b.req && same a.ack b.ack && same a.atn b.atn && same a.rst b.rst
 
--- a line by its number, 1 where it is true: 0 to 7 are DB(0) to DB(7), 8 is DB(P), 9 to 17 are BSY, SEL, C/D, I/O, MSG, REQ, ACK, ATN and RST
+-- a line by its number, 1 where it is true: 0 to 7 are DB(0) to DB(7), 8 is DB(P), 9 to 17 are BSY, SEL, C/D, I/O, MSG,
+-- REQ, ACK, ATN and RST
 unfoldable pub line_of : ℕ → LineSet → ℕ
 line_of line s =
     if nat_lt line 9 then bit_at s.data_bits line

@@ -18,5 +18,16 @@ mod_small n h = omega arith
 
 -- a number below 2 ^ 18 comes back
 pub number_back : (n : ℕ) → n < 2 ^ 18 → number_of (set_of n) ≡ n
-number_back n h =
-    omega (arith, mod_small n h, step n 9, step n 10, step n 11, step n 12, step n 13, step n 14, step n 15, step n 16, step n 17)
+number_back n h = omega (
+  arith,
+  mod_small n h,
+  step n 9,
+  step n 10,
+  step n 11,
+  step n 12,
+  step n 13,
+  step n 14,
+  step n 15,
+  step n 16,
+  step n 17,
+)

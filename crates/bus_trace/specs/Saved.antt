@@ -1,5 +1,6 @@
 -- What stands on the bus as plain words, and what such words say. Any words say something.
-use Rattle.std.specs.Prelude.{ℕ, ◌-◌, ◌%◌, ◌^◌, ◌==◌, not, Bool, List, [], ◌∷◌, slice_index, Option, Some, None, if◌then◌else◌}
+use Rattle.std.specs.Prelude.{ℕ, ◌-◌, ◌%◌, ◌^◌, ◌==◌, not, Bool, List, [], ◌∷◌, slice_index, Option, Some, None}
+use Rattle.std.specs.Prelude.{if◌then◌else◌}
 use Rattle.bus_trace.specs.LineSet.{LineSet, set_of}
 use Rattle.bus_trace.specs.View.{View}
 use Rattle.bus_trace.specs.declared.arbitration.Arbitration.{Arbitration}
@@ -43,11 +44,14 @@ calling_in s =
     else None
 
 abbrev pub call_in : SavedCall → Option Call
-call_in s = if is_yes s.is_some then Some (record { caller = s.caller % 8; at = s.at; calling = calling_in s.calling }) else None
+call_in s =
+    if is_yes s.is_some then Some (record { caller = s.caller % 8; at = s.at; calling = calling_in s.calling })
+    else None
 
 abbrev pub connection_in : SavedConnection → Option Connection
 connection_in s =
-    if is_yes s.is_some then Some (record { initiator = s.initiator % 8; target = s.target % 8; began = s.began; reselected = is_yes s.reselected })
+    if is_yes s.is_some then Some
+    (record { initiator = s.initiator % 8; target = s.target % 8; began = s.began; reselected = is_yes s.reselected })
     else None
 
 abbrev pub lines_in : ℕ → LineSet
@@ -55,8 +59,9 @@ lines_in word = set_of (word % 2 ^ 18)
 
 -- What each device drives.
 abbrev pub driven_in : List ℕ → List LineSet
-driven_in words =
-    lines_in (slice_index words 0) ∷ lines_in (slice_index words 1) ∷ lines_in (slice_index words 2) ∷ lines_in (slice_index words 3) ∷ lines_in (slice_index words 4) ∷ lines_in (slice_index words 5) ∷ lines_in (slice_index words 6) ∷ lines_in (slice_index words 7) ∷ []
+driven_in words = lines_in (slice_index words 0) ∷ lines_in (slice_index words 1) ∷ lines_in (slice_index words 2)
+    ∷ lines_in (slice_index words 3) ∷ lines_in (slice_index words 4) ∷ lines_in (slice_index words 5)
+    ∷ lines_in (slice_index words 6) ∷ lines_in (slice_index words 7) ∷ []
 
 abbrev pub view_in : SavedView → View
 view_in s = record {

@@ -1,6 +1,7 @@
--- What stands on the bus after some rows, lawful or not: the terms of the rules, and what devices go by (ANSI X3.131-1994,
--- clause 6.1). The newest row stands first; each term goes on by one step a row.
-use Rattle.std.specs.Prelude.{ℕ, Bool, true, false, not, max, ◌&&◌, ◌||◌, ◌==◌, List, [], ◌∷◌, Option, Some, None, if◌then◌else◌}
+-- What stands on the bus after some rows, lawful or not: the terms of the rules, and what devices go by (ANSI
+-- X3.131-1994, clause 6.1). The newest row stands first; each term goes on by one step a row.
+use Rattle.std.specs.Prelude.{ℕ, Bool, true, false, not, max, ◌&&◌, ◌||◌, ◌==◌, List, [], ◌∷◌, Option, Some, None}
+use Rattle.std.specs.Prelude.{if◌then◌else◌}
 use Rattle.bus_trace.specs.LineSet.{LineSet, has_id, ids_in}
 use Rattle.bus_trace.specs.Trace.{drives, driven_after, since_line}
 use Rattle.bus_trace.specs.declared.rows.Row.{Row}
@@ -31,7 +32,8 @@ raised_next own next time was = if rises own next then time else was
 abbrev pub raised : (LineSet → Bool) → List Row → ℕ → ℕ
 raised line [] dev = 0
 raised line (row ∷ rows) dev =
-    if row.dev == dev then raised_next (line (drives rows dev)) (line (driven_after row.kind (drives rows dev))) row.time (raised line rows dev) else raised line rows dev
+    if row.dev == dev then raised_next (line (drives rows dev))
+    (line (driven_after row.kind (drives rows dev))) row.time (raised line rows dev) else raised line rows dev
 
 -- ---- arbitration (6.1.2)
 
@@ -104,7 +106,8 @@ called_goes_on k c row = record k {
 }
 
 abbrev pub calling_after : ℕ → Option Calling → Change → Row → Option Calling
-calling_after caller None c row = if row.dev == caller && drives_two_ids caller c.next then Some (new_calling caller c.next row.time) else None
+calling_after caller None c row =
+    if row.dev == caller && drives_two_ids caller c.next then Some (new_calling caller c.next row.time) else None
 calling_after caller (Some k) c row =
     if row.dev == caller then Some (caller_goes_on k c row.time)
     else if row.dev == k.called then Some (called_goes_on k c row)

@@ -44,8 +44,8 @@ abbrev pub since_line : (LineSet → Bool) → List Row → ℕ
 since_line on [] = 0
 since_line on (row ∷ rows) = newer_line (on (bus rows)) (on (bus (row ∷ rows))) (since_line on rows) row.time
 
--- Since when each line but the data lines stands as it does: before any row; when the bus goes on from one set to the next at
--- this time; and after these rows.
+-- Since when each line but the data lines stands as it does: before any row; when the bus goes on from one set to the
+-- next at this time; and after these rows.
 abbrev pub no_times : LineTimes
 no_times = record { bsy = 0; sel = 0; cd = 0; io = 0; msg = 0; req = 0; ack = 0; atn = 0; rst = 0 }
 

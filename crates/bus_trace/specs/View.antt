@@ -27,8 +27,9 @@ driven_at driven dev = slice_index_or driven dev none
 
 -- what all eight devices drive together
 abbrev pub union_all : List LineSet → LineSet
-union_all driven =
-    union (union (union (union (union (union (union (driven_at driven 0) (driven_at driven 1)) (driven_at driven 2)) (driven_at driven 3)) (driven_at driven 4)) (driven_at driven 5)) (driven_at driven 6)) (driven_at driven 7)
+union_all driven = union (union (union
+    (union (union (union (union (driven_at driven 0) (driven_at driven 1)) (driven_at driven 2)) (driven_at driven 3))
+    (driven_at driven 4)) (driven_at driven 5)) (driven_at driven 6)) (driven_at driven 7)
 
 -- when a line by its number last changed: 0 to 8 the data lines, 9 to 17 the others
 abbrev pub time_by_number : LineTimes → ℕ → ℕ

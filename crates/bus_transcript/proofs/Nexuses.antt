@@ -24,7 +24,9 @@ numbers (Some x) None = refl
 numbers (Some x) (Some y) = unsigned_tied x y
 
 pub by_key : (a b : Name) → is_at (key_cmp (key_of a)) (key_of b) ≡ same_nexus a b
-by_key a b =
-    both (ordering_then (nat_cmp a.initiator b.initiator) (nat_cmp a.target b.target)) (ordering_then (option_cmp nat_cmp a.unit b.unit) (option_cmp nat_cmp a.tag b.tag))
-    ∙ (λ i. both (nat_cmp a.initiator b.initiator) (nat_cmp a.target b.target) i && both (option_cmp nat_cmp a.unit b.unit) (option_cmp nat_cmp a.tag b.tag) i)
-    ∙ (λ i. (unsigned_tied a.initiator b.initiator i && unsigned_tied a.target b.target i) && (numbers a.unit b.unit i && numbers a.tag b.tag i))
+by_key a b = both (ordering_then (nat_cmp a.initiator b.initiator) (nat_cmp a.target b.target))
+    (ordering_then (option_cmp nat_cmp a.unit b.unit) (option_cmp nat_cmp a.tag b.tag))
+    ∙ (λ i. both (nat_cmp a.initiator b.initiator) (nat_cmp a.target b.target) i
+    && both (option_cmp nat_cmp a.unit b.unit) (option_cmp nat_cmp a.tag b.tag) i)
+    ∙ (λ i. (unsigned_tied a.initiator b.initiator i && unsigned_tied a.target b.target i)
+    && (numbers a.unit b.unit i && numbers a.tag b.tag i))

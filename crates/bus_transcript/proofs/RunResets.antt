@@ -12,7 +12,10 @@ use Rattle.bus_transcript.specs.Events.{resets_shown, resets_told}
 use Rattle.bus_transcript.specs.Rows.{transcript_of}
 use Rattle.bus_transcript.proofs.Resets.{resets_alike}
 
-pub resets_of_run : (made : Result Transcript NoMemory) (s : ScenarioValue) (given rows : List Row) (history : List Event) → given ≡ rows → IfOk made (λ t. t.items.items ≡ transcript_of (reverse given)) → IfOk made (λ t. reverse history ≡ trace_history s (reverse rows) → resets_shown t.items.items ≡ resets_told history)
+pub resets_of_run :
+    (made : Result Transcript NoMemory) (s : ScenarioValue) (given rows : List Row) (history : List Event)
+    → given ≡ rows → IfOk made (λ t. t.items.items ≡ transcript_of (reverse given)) → IfOk made
+    (λ t. reverse history ≡ trace_history s (reverse rows) → resets_shown t.items.items ≡ resets_told history)
 resets_of_run (Ok t) s given rows history same is = λ told.
     ap resets_shown is
     ∙ ap (λ (xs : List Row). resets_shown (transcript_of (reverse xs))) same

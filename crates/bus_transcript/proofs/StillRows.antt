@@ -13,8 +13,10 @@ use Rattle.bus_phases.specs.Half.{is_nil}
 use Rattle.bus_story.specs.BusState.{BusState, RowReading, change_by, row_reading}
 use Rattle.bus_story.specs.PairAgreements.{agreement_in}
 use Rattle.bus_transcript.specs.declared.part.Part.TheVariants.{Completion}
-use Rattle.bus_transcript.specs.Opened.{OpenedValue, is_complete, is_completion, with_fault, with_part, with_row, with_still_row, with_crossing, phase_entered, phase_over}
-use Rattle.bus_transcript.specs.Rows.{TranscriberValue, after_row, bus_seen, by_change, in_connection, is_silent, on_bus, under_reset, with_bus}
+use Rattle.bus_transcript.specs.Opened.{OpenedValue, is_complete, is_completion, with_fault, with_part, with_row}
+use Rattle.bus_transcript.specs.Opened.{with_still_row, with_crossing, phase_entered, phase_over}
+use Rattle.bus_transcript.specs.Rows.{TranscriberValue, after_row, bus_seen, by_change, in_connection, is_silent}
+use Rattle.bus_transcript.specs.Rows.{on_bus, under_reset, with_bus}
 use Rattle.bus_transcript.specs.Still.{stands_on, is_still, still_bus}
 use Rattle.bus_transcript.proofs.Silence.{silent_stays}
 use Rattle.bus_base.proofs.Tests.{or_false}
@@ -39,7 +41,9 @@ is_there (Some x) z = absurd (cc)
 
 -- ---- the connection
 
-stays_open : (k : OpenedValue) (w : BusState) (d : RowReading) (kind : Kind) → d.crosses ≡ false → changes_phase d.change ≡ false → is_message_in d.change.before ≡ false → is_fault kind ≡ false → with_row k w d kind ≡ k
+stays_open : (k : OpenedValue) (w : BusState) (d : RowReading) (kind : Kind) → d.crosses ≡ false
+    → changes_phase d.change ≡ false → is_message_in d.change.before ≡ false → is_fault kind ≡ false
+    → with_row k w d kind ≡ k
 stays_open k w d kind crosses phase message fault =
     (λ i. if crosses i then with_crossing k w.dialogue.is_last d
     else if phase i then phase_entered (phase_over k d.change.before w.dialogue.half true) d.change.after
@@ -48,7 +52,8 @@ stays_open k w d kind crosses phase message fault =
     ∙ (λ i. record k { struck = or_false k.struck i })
   where
     taken : is_completion k w.dialogue.half d.change ≡ false
-    taken = second_false (rises d.change.before.ack d.change.after.ack) (is_message_in d.change.before) (is_complete k.held) (is_nil w.dialogue.half) (not d.change.after.atn) message
+    taken = second_false (rises d.change.before.ack d.change.after.ack) (is_message_in d.change.before)
+        (is_complete k.held) (is_nil w.dialogue.half) (not d.change.after.atn) message
 
 -- What a row leaves in which this connection stands, before and after.
 record Stays (d : RowReading) (row : Row) (before : Option Connection) (n : Connection) : Type 0 where
@@ -60,7 +65,8 @@ record Stays (d : RowReading) (row : Row) (before : Option Connection) (n : Conn
   message : is_message_in d.change.before ≡ false
   fault : is_fault row.kind ≡ false
 
-by_still : (t : TranscriberValue) (d : RowReading) (row : Row) (n : Connection) → Stays d row t.bus_state.connection n → by_change t d row ≡ t
+by_still : (t : TranscriberValue) (d : RowReading) (row : Row) (n : Connection) → Stays d row t.bus_state.connection n
+    → by_change t d row ≡ t
 unfolding by_change
 by_still t d row n h =
     (λ i. if h.rst i then under_reset t d row else on_bus t t.bus_state.connection d.next d row)
@@ -69,11 +75,16 @@ by_still t d row n h =
   where
     go : (o : Option OpenedValue) → t.opened ≡ o → in_connection t o d row.kind ≡ t
     go None e = refl
-    go (Some k) e = λ i. record t { opened = (ap (λ (x : OpenedValue). Some x) (stays_open k t.bus_state d row.kind h.crosses h.phase h.message h.fault) ∙ sym e) i }
+    go (Some k) e = λ i. record t {
+      opened =
+          (ap (λ (x : OpenedValue). Some x) (stays_open k t.bus_state d row.kind h.crosses h.phase h.message h.fault)
+          ∙ sym e) i;
+    }
 
 -- ---- the bus
 
-seen_still : (w : BusState) (d : RowReading) (row : Row) (n : Connection) → Stays d row w.connection n → is_none (receiver_of w.connection d.change) ≡ true → still_bus w row d.change ≡ bus_seen w row d
+seen_still : (w : BusState) (d : RowReading) (row : Row) (n : Connection) → Stays d row w.connection n
+    → is_none (receiver_of w.connection d.change) ≡ true → still_bus w row d.change ≡ bus_seen w row d
 seen_still w d row n h none = λ i. record {
   driven = slice_set w.driven row.dev d.change.next;
   bus = d.change.after;
@@ -92,16 +103,24 @@ seen_still w d row n h none = λ i. record {
 
 stands_in : (w : BusState) (c : Change) (kind : Kind) → is_still w c kind ≡ true → is_some w.connection ≡ true
 stands_in w c kind is =
-    let four = and_parts (stands_on c && (is_none (receiver_of w.connection c) && not (changes_phase c)) && is_some w.connection && not (is_fault kind)) (not (is_message_in c.before)) is in
-    let three = and_parts (stands_on c && (is_none (receiver_of w.connection c) && not (changes_phase c)) && is_some w.connection) (not (is_fault kind)) four.0 in
-    (and_parts (stands_on c && (is_none (receiver_of w.connection c) && not (changes_phase c))) (is_some w.connection) three.0).1
+    let four = and_parts (stands_on c && (is_none (receiver_of w.connection c) && not (changes_phase c))
+    && is_some w.connection && not (is_fault kind)) (not (is_message_in c.before)) is in
+    let three = and_parts (stands_on c && (is_none (receiver_of w.connection c) && not (changes_phase c))
+    && is_some w.connection) (not (is_fault kind)) four.0 in
+    (and_parts (stands_on c && (is_none (receiver_of w.connection c) && not (changes_phase c)))
+    (is_some w.connection) three.0).1
 
-stays : (w : BusState) (row : Row) (n : Connection) → w.connection ≡ Some n → is_still w (change_by w row) row.kind ≡ true → Stays (row_reading w row) row w.connection n × is_none (receiver_of w.connection (change_by w row)) ≡ true
+stays : (w : BusState) (row : Row) (n : Connection)
+    → w.connection ≡ Some n → is_still w (change_by w row) row.kind ≡ true
+    → Stays (row_reading w row) row w.connection n × is_none (receiver_of w.connection (change_by w row)) ≡ true
 stays w row n con is =
     let c : Change = change_by w row in
-    let four = and_parts (stands_on c && (is_none (receiver_of w.connection c) && not (changes_phase c)) && is_some w.connection && not (is_fault row.kind)) (not (is_message_in c.before)) is in
-    let three = and_parts (stands_on c && (is_none (receiver_of w.connection c) && not (changes_phase c)) && is_some w.connection) (not (is_fault row.kind)) four.0 in
-    let two = and_parts (stands_on c && (is_none (receiver_of w.connection c) && not (changes_phase c))) (is_some w.connection) three.0 in
+    let four = and_parts (stands_on c && (is_none (receiver_of w.connection c) && not (changes_phase c))
+    && is_some w.connection && not (is_fault row.kind)) (not (is_message_in c.before)) is in
+    let three = and_parts (stands_on c && (is_none (receiver_of w.connection c) && not (changes_phase c))
+    && is_some w.connection) (not (is_fault row.kind)) four.0 in
+    let two = and_parts (stands_on c && (is_none (receiver_of w.connection c) && not (changes_phase c)))
+    (is_some w.connection) three.0 in
     let one = and_parts (stands_on c) (is_none (receiver_of w.connection c) && not (changes_phase c)) two.0 in
     let on = and_parts c.after.bsy (not c.after.rst) one.0 in
     let silent = and_parts (is_none (receiver_of w.connection c)) (not (changes_phase c)) one.1 in (
@@ -119,14 +138,17 @@ stays w row n con is =
 
 -- ---- the row
 
-pub still_row : (t : TranscriberValue) (row : Row) → is_still t.bus_state (change_by t.bus_state row) row.kind ≡ true → record t { bus_state = still_bus t.bus_state row (change_by t.bus_state row) } ≡ after_row t row
+pub still_row : (t : TranscriberValue) (row : Row) → is_still t.bus_state (change_by t.bus_state row) row.kind ≡ true
+    → record t { bus_state = still_bus t.bus_state row (change_by t.bus_state row) } ≡ after_row t row
 still_row t row is = go t.bus_state.connection refl
   where
     w : BusState
     w = t.bus_state
 
-    go : (o : Option Connection) → w.connection ≡ o → record t { bus_state = still_bus w row (change_by w row) } ≡ after_row t row
-    go None e = absurd (opposed (sym (stands_in w (change_by w row) row.kind is) ∙ ap (λ (o : Option Connection). is_some o) e))
+    go : (o : Option Connection) → w.connection ≡ o
+        → record t { bus_state = still_bus w row (change_by w row) } ≡ after_row t row
+    go None e =
+        absurd (opposed (sym (stands_in w (change_by w row) row.kind is) ∙ ap (λ (o : Option Connection). is_some o) e))
     go (Some n) e =
         let h = stays w row n e is in
         (λ i. record t { bus_state = seen_still w (row_reading w row) row n h.0 h.1 i })

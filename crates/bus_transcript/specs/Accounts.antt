@@ -1,12 +1,14 @@
 -- The items of a connection: its parts with the name of its process, by the pointers (6.4, 6.6.19, 6.6.20).
-use Rattle.std.specs.Prelude.{ℕ, Bool, true, false, not, ◌&&◌, ◌||◌, ◌==◌, List, [], ◌∷◌, ◌++◌, length, Some, if◌then◌else◌}
+use Rattle.std.specs.Prelude.{ℕ, Bool, true, false, not, ◌&&◌, ◌||◌, ◌==◌, List, [], ◌∷◌, ◌++◌, length, Some}
+use Rattle.std.specs.Prelude.{if◌then◌else◌}
 use Rattle.msg_grammar.specs.declared.message.MsgIn.{MsgIn}
 use Rattle.msg_grammar.specs.declared.message.MsgIn.TheVariants as to_initiator
 use Rattle.cdb_codec.specs.Cdb.{has_group_len}
 use Rattle.bus_transcript.specs.declared.item.Item.{Item}
 use Rattle.bus_transcript.specs.declared.item.Item.TheVariants as items
 use Rattle.bus_transcript.specs.declared.part.Part.{Part}
-use Rattle.bus_transcript.specs.declared.part.Part.TheVariants.{Out, In, BrokenOff, Command, Data, StatusPhase, Status, Completion}
+use Rattle.bus_transcript.specs.declared.part.Part.TheVariants.{Out, In, BrokenOff, Command, Data, StatusPhase, Status}
+use Rattle.bus_transcript.specs.declared.part.Part.TheVariants.{Completion}
 use Rattle.bus_transcript.specs.declared.process.Process.{Process}
 use Rattle.bus_transcript.specs.Numbers.{advanced}
 
@@ -23,7 +25,8 @@ pub record AccountValue : Type 0 where
 
 -- A connection of this process begins: the active pointers are the saved ones.
 abbrev pub account_of : Process → List Item → AccountValue
-account_of p items = record { process = p; active = p.saved; status_first = true; block = []; struck = false; items = items }
+account_of p items =
+    record { process = p; active = p.saved; status_first = true; block = []; struck = false; items = items }
 
 abbrev pub with_item : AccountValue → Item → AccountValue
 with_item a item = record a { items = a.items ++ item ∷ [] }
@@ -51,17 +54,22 @@ after_command a bytes struck left = arrived (with_cdb (with_block a bytes struck
 -- ---- the other phases
 
 abbrev pub after_data : AccountValue → Bool → List ℕ → AccountValue
-after_data a out bytes = record (with_item a (items.Payload out a.active bytes)) { active = advanced a.active (length bytes) }
+after_data a out bytes =
+    record (with_item a (items.Payload out a.active bytes)) { active = advanced a.active (length bytes) }
 
 -- The first STATUS phase of the process.
 abbrev pub after_status_phase : AccountValue → AccountValue
 after_status_phase a =
-    if a.process.shown then a else record (with_item a (items.Ready a.process.name)) { process = record a.process { shown = true } }
+    if a.process.shown then a else record (with_item a (items.Ready a.process.name)) {
+      process = record a.process { shown = true };
+    }
 
 -- A byte of STATUS is the status of the process where the status pointer is 0.
 abbrev pub after_status : AccountValue → ℕ → AccountValue
-after_status a byte =
-    record (with_item a (items.Status byte)) { process = (if a.status_first then record a.process { status = Some byte } else a.process); status_first = false }
+after_status a byte = record (with_item a (items.Status byte)) {
+  process = (if a.status_first then record a.process { status = Some byte } else a.process);
+  status_first = false;
+}
 
 -- ---- messages
 

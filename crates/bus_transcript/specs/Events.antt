@@ -1,5 +1,6 @@
 -- The events of a transcript beside those of the history that the same rows tell of a scenario.
-use Rattle.std.specs.Prelude.{ℕ, ◌≡◌, Bool, true, false, ◌&&◌, ◌==◌, List, [], ◌∷◌, reverse, Option, Some, None, if◌then◌else◌}
+use Rattle.std.specs.Prelude.{ℕ, ◌≡◌, Bool, true, false, ◌&&◌, ◌==◌, List, [], ◌∷◌, reverse, Option, Some, None}
+use Rattle.std.specs.Prelude.{if◌then◌else◌}
 use Rattle.std.specs.List.{flat_map, list_any}
 use Rattle.bus_base.specs.declared.ProcId.{ProcId}
 use Rattle.bus_base.specs.declared.Event.{Event}
@@ -47,8 +48,8 @@ name_begun _ = []
 abbrev pub names_begun : List Item → List Name
 names_begun list = flat_map name_begun list
 
--- The name of the connection with which this process was sent. What initiators sent is given in its order, and so are the
--- names of the connections that they began, one for each.
+-- The name of the connection with which this process was sent. What initiators sent is given in its order, and so are
+-- the names of the connections that they began, one for each.
 abbrev pub name_sent : List told.Item → List Name → ProcId → Option Name
 name_sent [] names id = None
 name_sent (item ∷ sent) [] id = None
@@ -108,8 +109,8 @@ event_shown refused (items.Reset dev) = items.Reset dev ∷ []
 event_shown refused _ = []
 
 abbrev pub refused_names : ScenarioValue → List Row → List Name
-refused_names s rows =
-    flat_map (λ event. refused_name (reverse (story s rows).sent.sent) (names_begun (transcript_of rows)) event) (reverse (trace_history s rows))
+refused_names s rows = flat_map (λ event. refused_name (reverse (story s rows).sent.sent)
+    (names_begun (transcript_of rows)) event) (reverse (trace_history s rows))
 
 abbrev pub events_shown : ScenarioValue → List Row → List Item
 events_shown s rows = flat_map (λ item. event_shown (refused_names s rows) item) (transcript_of rows)
@@ -135,7 +136,8 @@ is_last (Some last) name = same_name last name
 
 abbrev pub is_of_last : Option Name → ℕ → ℕ → Option ℕ → Bool
 is_of_last None initiator target unit = false
-is_of_last (Some last) initiator target unit = last.initiator == initiator && last.target == target && same_number last.unit unit
+is_of_last (Some last) initiator target unit =
+    last.initiator == initiator && last.target == target && same_number last.unit unit
 
 -- An event of a process is of this connection's, and so is an abort.
 abbrev pub is_in : Option Name → Item → Bool

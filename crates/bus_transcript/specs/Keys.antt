@@ -12,5 +12,5 @@ abbrev pub key_of : Name → Key
 key_of name = ((name.initiator, name.target), (name.unit, name.tag))
 
 abbrev pub key_cmp : Key → Key → Ordering
-key_cmp x y =
-    ordering_then (ordering_then (nat_cmp (x.0).0 (y.0).0) (nat_cmp (x.0).1 (y.0).1)) (ordering_then (option_cmp nat_cmp (x.1).0 (y.1).0) (option_cmp nat_cmp (x.1).1 (y.1).1))
+key_cmp x y = ordering_then (ordering_then (nat_cmp (x.0).0 (y.0).0) (nat_cmp (x.0).1 (y.0).1))
+    (ordering_then (option_cmp nat_cmp (x.1).0 (y.1).0) (option_cmp nat_cmp (x.1).1 (y.1).1))

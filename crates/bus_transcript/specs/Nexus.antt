@@ -53,8 +53,8 @@ kind_of _ tag = aborts.All
 abbrev pub no_summary : Summary
 no_summary = record { unit = None; tag = None; awaits_tag = false; abort = None; departure = Loss }
 
--- A message of the end that names the nexus, which names this unit or this tag: the first IDENTIFY counts, and a tag as the
--- next message of that end.
+-- A message of the end that names the nexus, which names this unit or this tag: the first IDENTIFY counts, and a tag as
+-- the next message of that end.
 abbrev pub named : Summary → Option ℕ → Option ℕ → Summary
 named s unit tag =
     if is_none s.unit then record s { unit = unit; awaits_tag = is_some unit }

@@ -1,7 +1,8 @@
--- What the connection that stands has carried so far, part by part. Messages that are void and bytes of MESSAGE OUT that were
--- begun anew leave no part (6.6.13, 6.1.9): a MESSAGE IN message is held until the next message of the connection, and the
--- messages of a MESSAGE OUT phase until the phase ends.
-use Rattle.std.specs.Prelude.{ℕ, ◌%◌, Bool, true, false, not, ◌&&◌, ◌||◌, List, [], ◌∷◌, ◌++◌, Option, Some, None, is_some, if◌then◌else◌}
+-- What the connection that stands has carried so far, part by part. Messages that are void and bytes of MESSAGE OUT
+-- that were begun anew leave no part (6.6.13, 6.1.9): a MESSAGE IN message is held until the next message of the
+-- connection, and the messages of a MESSAGE OUT phase until the phase ends.
+use Rattle.std.specs.Prelude.{ℕ, ◌%◌, Bool, true, false, not, ◌&&◌, ◌||◌, List, [], ◌∷◌, ◌++◌, Option, Some, None}
+use Rattle.std.specs.Prelude.{is_some, if◌then◌else◌}
 use Rattle.bus_trace.specs.LineSet.{LineSet}
 use Rattle.bus_trace.specs.declared.rows.Kind.{Kind}
 use Rattle.bus_trace.specs.declared.changes.Change.{Change}
@@ -18,7 +19,8 @@ use Rattle.bus_story.specs.CarriedBytes.{is_status_phase}
 use Rattle.bus_transcript.specs.declared.part.Incoming.{Incoming}
 use Rattle.bus_transcript.specs.declared.part.Incoming.TheVariants.{Whole, Broken}
 use Rattle.bus_transcript.specs.declared.part.Part.{Part}
-use Rattle.bus_transcript.specs.declared.part.Part.TheVariants.{Out, In, BrokenOff, Command, Data, StatusPhase, Status, Completion}
+use Rattle.bus_transcript.specs.declared.part.Part.TheVariants.{Out, In, BrokenOff, Command, Data, StatusPhase, Status}
+use Rattle.bus_transcript.specs.declared.part.Part.TheVariants.{Completion}
 use Rattle.bus_story.specs.TraceHistory.{is_parity_error}
 
 pub record OpenedValue : Type 0 where
@@ -35,7 +37,8 @@ pub record OpenedValue : Type 0 where
   pub struck : Bool
 
 abbrev pub opened_connection : Connection → OpenedValue
-opened_connection n = record { connection = n; parts = []; held = None; since = []; said = []; bytes = []; struck = false }
+opened_connection n =
+    record { connection = n; parts = []; held = None; since = []; said = []; bytes = []; struck = false }
 
 abbrev pub with_part : OpenedValue → Part → OpenedValue
 with_part k part = record k { since = k.since ++ part ∷ [] }
@@ -52,7 +55,8 @@ held_part (Some m) = incoming_part m ∷ []
 
 -- The next message is there: the one that was held is void with MESSAGE PARITY ERROR.
 abbrev pub settled : OpenedValue → Bool → OpenedValue
-settled k void = record k { parts = k.parts ++ ((if void then [] else held_part k.held) ++ k.since); held = None; since = [] }
+settled k void =
+    record k { parts = k.parts ++ ((if void then [] else held_part k.held) ++ k.since); held = None; since = [] }
 
 abbrev pub with_out : OpenedValue → MsgOut → OpenedValue
 with_out k m = with_part (settled k (is_parity_error m)) (Out m)
@@ -129,7 +133,8 @@ with_fault k strikes = record k { struck = k.struck || strikes }
 
 abbrev pub with_still_row : OpenedValue → BusState → Change → Kind → OpenedValue
 with_still_row k w c kind =
-    if is_completion k w.dialogue.half c then with_part k Completion else with_fault k (is_fault kind && is_some w.crossed)
+    if is_completion k w.dialogue.half c then with_part k Completion
+    else with_fault k (is_fault kind && is_some w.crossed)
 
 abbrev pub with_row : OpenedValue → BusState → RowReading → Kind → OpenedValue
 with_row k w d kind =

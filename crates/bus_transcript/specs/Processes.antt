@@ -18,18 +18,21 @@ with_last last p = insert_entry key_cmp last (key_of p.name) p
 
 -- Of one nexus: initiator, target, unit and tag.
 abbrev pub same_nexus : Name → Name → Bool
-same_nexus a b = (a.initiator == b.initiator && a.target == b.target) && (same_number a.unit b.unit && same_number a.tag b.tag)
+same_nexus a b =
+    (a.initiator == b.initiator && a.target == b.target) && (same_number a.unit b.unit && same_number a.tag b.tag)
 
 -- After a process more it is the last of its nexus, and those of the others are as before.
 abbrev pub IsLast : List (Key × Process) → List (Key × Process) → Process → Type 0
-IsLast old new p = (name : Name) → process_of new name ≡ (if same_nexus p.name name then Some p else process_of old name)
+IsLast old new p =
+    (name : Name) → process_of new name ≡ (if same_nexus p.name name then Some p else process_of old name)
 
 -- A process begins: its saved pointer is 0, and it has carried nothing.
 abbrev pub new_process : Name → ℕ → Process
 new_process name number = record { name = record name { number = number }; saved = 0; status = None; shown = false }
 
--- The process of a connection, by the last one of its nexus. One that an initiator began starts a process, but one with an
--- abort message, which has the number 0. One that a target began goes on with the last, or starts one where there is none.
+-- The process of a connection, by the last one of its nexus. One that an initiator began starts a process, but one with
+-- an abort message, which has the number 0. One that a target began goes on with the last, or starts one where there is
+-- none.
 abbrev pub process_after : Bool → Bool → Option Process → Name → Process
 process_after again aborts None name = new_process name (if aborts && not again then 0 else next_number 0)
 process_after again aborts (Some p) name =

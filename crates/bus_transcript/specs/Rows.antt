@@ -1,6 +1,7 @@
--- The transcript of a trace: what its rows show and carry, row by row, with the processes named. Each row tells by the rows
--- before it; nothing is asked of a device or a scenario.
-use Rattle.std.specs.Prelude.{ℕ, Bool, true, false, List, [], ◌∷◌, ◌++◌, Option, Some, None, is_some, is_none, if◌then◌else◌, not, ◌&&◌}
+-- The transcript of a trace: what its rows show and carry, row by row, with the processes named. Each row tells by the
+-- rows before it; nothing is asked of a device or a scenario.
+use Rattle.std.specs.Prelude.{ℕ, Bool, true, false, List, [], ◌∷◌, ◌++◌, Option, Some, None, is_some, is_none}
+use Rattle.std.specs.Prelude.{if◌then◌else◌, not, ◌&&◌}
 use Rattle.bus_trace.specs.declared.rows.Kind.{Kind}
 use Rattle.bus_trace.specs.declared.rows.Row.{Row}
 use Rattle.bus_trace.specs.declared.changes.Change.{Change}
@@ -70,12 +71,14 @@ abbrev pub departed_if : Bool → AccountValue → Summary → AccountValue
 departed_if free a s = if free then departed a s.departure s.abort else a
 
 abbrev pub with_account : TranscriberValue → Bool → Bool → AccountValue → TranscriberValue
-with_account t again aborts a = record t { opened = None; processes = with_process again aborts t.processes a.process; items = a.items }
+with_account t again aborts a =
+    record t { opened = None; processes = with_process again aborts t.processes a.process; items = a.items }
 
 -- Proofs open it by name, since it is long.
 unfoldable pub closed_by : TranscriberValue → Connection → List Part → Bool → Summary → TranscriberValue
-closed_by t n parts free s =
-    with_account t n.reselected (is_some s.abort) (departed_if free (account_parts n (process_after n.reselected (is_some s.abort) (process_of t.processes (name_of n s)) (name_of n s)) parts t.items) s)
+closed_by t n parts free s = with_account t n.reselected (is_some s.abort) (departed_if free (account_parts n
+    (process_after n.reselected (is_some s.abort) (process_of t.processes (name_of n s)) (name_of n s)) parts t.items)
+    s)
 
 -- A connection with these parts is over; it may have ended with BUS FREE.
 abbrev pub closed_parts : TranscriberValue → Connection → List Part → Bool → TranscriberValue
@@ -85,7 +88,8 @@ abbrev pub closed_with : TranscriberValue → OpenedValue → Bool → Transcrib
 closed_with t k free = closed_parts t k.connection k.parts free
 
 abbrev pub closed_phase : TranscriberValue → OpenedValue → RowReading → Bool → TranscriberValue
-closed_phase t k d free = closed_with t (settled (phase_over k d.change.before t.bus_state.dialogue.half false) false) free
+closed_phase t k d free =
+    closed_with t (settled (phase_over k d.change.before t.bus_state.dialogue.half false) false) free
 
 abbrev pub closed_if : TranscriberValue → Option OpenedValue → RowReading → Bool → TranscriberValue
 closed_if t None d free = t
@@ -103,8 +107,8 @@ free_items (Some n) (Some m) time = []
 
 -- RST is true after the row: it ends what the connection shows.
 abbrev pub under_reset : TranscriberValue → RowReading → Row → TranscriberValue
-under_reset t d row =
-    with_items (with_items (closed_if t t.opened d false) (reset_items d.change row.dev)) (free_items t.bus_state.connection d.next row.time)
+under_reset t d row = with_items (with_items (closed_if t t.opened d false) (reset_items d.change row.dev))
+    (free_items t.bus_state.connection d.next row.time)
 
 -- The caller has released all lines, and no answer had come.
 abbrev pub unanswered_by : ℕ → Option Calling → ℕ → List Item
@@ -116,7 +120,8 @@ unanswered_items None time = []
 unanswered_items (Some k) time = unanswered_by k.caller k.calling time
 
 abbrev pub on_free_bus : TranscriberValue → Change → ℕ → TranscriberValue
-on_free_bus t c time = if falls c.before.sel c.after.sel then with_items t (unanswered_items t.bus_state.call time) else t
+on_free_bus t c time =
+    if falls c.before.sel c.after.sel then with_items t (unanswered_items t.bus_state.call time) else t
 
 abbrev pub in_connection : TranscriberValue → Option OpenedValue → RowReading → Kind → TranscriberValue
 in_connection t None d kind = t
@@ -132,7 +137,8 @@ on_bus t (Some m) (Some n) d row = in_connection t t.opened d row.kind
 unfoldable pub by_change : TranscriberValue → RowReading → Row → TranscriberValue
 by_change t d row = if d.change.after.rst then under_reset t d row else on_bus t t.bus_state.connection d.next d row
 
--- What its messages say. A row in which no byte crosses and no phase begins, while the connection stands, changes nothing.
+-- What its messages say. A row in which no byte crosses and no phase begins, while the connection stands, changes
+-- nothing.
 abbrev pub dialogue_seen : BusState → RowReading → Dialogue
 dialogue_seen w d = dialogue_after w.dialogue w.connection d.next (λ i t. agreement_in w.agreed i t) d.change
 

@@ -13,9 +13,15 @@ stands_on c = c.after.bsy && not c.after.rst
 
 -- No byte crosses, no phase begins, no fault strikes, and no message is taken.
 abbrev pub is_still : BusState → Change → Kind → Bool
-is_still w c kind =
-    stands_on c && (is_none (receiver_of w.connection c) && not (changes_phase c)) && is_some w.connection && not (is_fault kind) && not (is_message_in c.before)
+is_still w c kind = stands_on c && (is_none (receiver_of w.connection c) && not (changes_phase c))
+    && is_some w.connection && not (is_fault kind) && not (is_message_in c.before)
 
 -- The bus after such a row; at agreements nothing here looks.
 abbrev pub still_bus : BusState → Row → Change → BusState
-still_bus w row c = record w { driven = slice_set w.driven row.dev c.next; bus = c.after; call = call_after w.call c row; agreed = []; crossed = None }
+still_bus w row c = record w {
+  driven = slice_set w.driven row.dev c.next;
+  bus = c.after;
+  call = call_after w.call c row;
+  agreed = [];
+  crossed = None;
+}

@@ -28,8 +28,8 @@ number_or_dash (Some n) = decimal n
 
 -- initiator, target, unit, tag and number, with points between them
 abbrev pub name_text : Name → List ℕ
-name_text name =
-    decimal name.initiator ++ (46 ∷ [] ++ (decimal name.target ++ (46 ∷ [] ++ (number_or_dash name.unit ++ (46 ∷ [] ++ (number_or_dash name.tag ++ (46 ∷ [] ++ decimal name.number)))))))
+name_text name = decimal name.initiator ++ (46 ∷ [] ++ (decimal name.target ++ (46 ∷ []
+    ++ (number_or_dash name.unit ++ (46 ∷ [] ++ (number_or_dash name.tag ++ (46 ∷ [] ++ decimal name.number)))))))
 
 -- how a connection began: by selection or by reselection
 abbrev pub beginning_text : Bool → List ℕ
@@ -46,7 +46,8 @@ data_word true = codes "dataout "
 data_word false = codes "datain "
 
 abbrev pub item_words : Item → List ℕ
-item_words (items.Connect at name again) = codes "connect " ++ (decimal at ++ (32 ∷ [] ++ (name_text name ++ beginning_text again)))
+item_words (items.Connect at name again) =
+    codes "connect " ++ (decimal at ++ (32 ∷ [] ++ (name_text name ++ beginning_text again)))
 item_words (items.Unanswered at caller called) =
     codes "unanswered " ++ (decimal at ++ (32 ∷ [] ++ (decimal caller ++ (32 ∷ [] ++ decimal called))))
 item_words (items.Out m) = codes "out " ++ hex_text (out_bytes (fitted_out m))
@@ -58,8 +59,8 @@ item_words (items.Arrive name) = codes "arrive " ++ name_text name
 item_words (items.Ready name) = codes "ready " ++ name_text name
 item_words (items.End name status) = codes "end " ++ (name_text name ++ (32 ∷ [] ++ status_text status))
 item_words (items.Lost name) = codes "lost " ++ name_text name
-item_words (items.Abort initiator target unit kind) =
-    codes "abort " ++ (decimal initiator ++ (32 ∷ [] ++ (decimal target ++ (32 ∷ [] ++ (number_or_dash unit ++ (32 ∷ [] ++ abort_text kind))))))
+item_words (items.Abort initiator target unit kind) = codes "abort " ++ (decimal initiator
+    ++ (32 ∷ [] ++ (decimal target ++ (32 ∷ [] ++ (number_or_dash unit ++ (32 ∷ [] ++ abort_text kind))))))
 item_words (items.Reset dev) = codes "reset " ++ decimal dev
 item_words (items.Free at) = codes "free " ++ decimal at
 

@@ -2,9 +2,11 @@
 use Rattle.std.proofs.Common.{◌≡◌, ℕ, Bool, true, false, cond, Option, Some, refl, sym, ap, ◌∙◌, arith}
 use Rattle.std.specs.Prelude.{◌==◌}
 use Rattle.std.proofs.lemmas.Bool.Decides.{nat_tests}
-use Rattle.cdb_codec.specs.declared.operation.TheConstants.{TEST_UNIT_READY, REQUEST_SENSE, READ_6, WRITE_6, INQUIRY, READ_CAPACITY, READ_10, WRITE_10}
+use Rattle.cdb_codec.specs.declared.operation.TheConstants.{TEST_UNIT_READY, REQUEST_SENSE, READ_6, WRITE_6, INQUIRY}
+use Rattle.cdb_codec.specs.declared.operation.TheConstants.{READ_CAPACITY, READ_10, WRITE_10}
 use Rattle.cdb_codec.specs.declared.operation.Operation.{Operation}
-use Rattle.cdb_codec.specs.declared.operation.Operation.TheVariants.{TestUnitReady, RequestSense, Read6, Write6, Inquiry, ReadCapacity, Read10, Write10}
+use Rattle.cdb_codec.specs.declared.operation.Operation.TheVariants.{TestUnitReady, RequestSense, Read6, Write6}
+use Rattle.cdb_codec.specs.declared.operation.Operation.TheVariants.{Inquiry, ReadCapacity, Read10, Write10}
 use Rattle.cdb_codec.specs.Operations.{operation_of}
 
 -- the code of an operation
@@ -19,7 +21,8 @@ code_of Read10 = READ_10
 code_of Write10 = WRITE_10
 
 -- a code before which the table gives this operation, or one after it
-coded : (code n : ℕ) (t : Bool) (o p : Operation) (r : Option Operation) → ((code == n) ≡ t) → code_of p ≡ n → (r ≡ Some o → code ≡ code_of o) → cond t (Some p) r ≡ Some o → code ≡ code_of o
+coded : (code n : ℕ) (t : Bool) (o p : Operation) (r : Option Operation) → ((code == n) ≡ t) → code_of p ≡ n
+    → (r ≡ Some o → code ≡ code_of o) → cond t (Some p) r ≡ Some o → code ≡ code_of o
 coded code n true o p r e is more h =
     let same : p ≡ o = cc in
     let here : code ≡ n = grind (arith, nat_tests) in

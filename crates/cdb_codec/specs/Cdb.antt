@@ -1,12 +1,15 @@
 -- What a command descriptor block says, and how a command is written as one.
-use Rattle.std.specs.Prelude.{ℕ, ◌+◌, ◌*◌, ◌/◌, ◌%◌, ◌^◌, ◌<◌, Bool, false, ◌||◌, List, [], ◌∷◌, ◌++◌, length, drop, slice_index, slice_set, Option, Some, None, Result, Ok, Err, nat_lt, ◌==◌, if◌then◌else◌}
+use Rattle.std.specs.Prelude.{ℕ, ◌+◌, ◌*◌, ◌/◌, ◌%◌, ◌^◌, ◌<◌, Bool, false, ◌||◌, List, [], ◌∷◌, ◌++◌, length, drop}
+use Rattle.std.specs.Prelude.{slice_index, slice_set, Option, Some, None, Result, Ok, Err, nat_lt, ◌==◌, if◌then◌else◌}
 use Rattle.std.specs.List.{list_all}
 use Rattle.byteorder.specs.Endian.{big_bytes, big_number}
 use Rattle.cdb_codec.specs.declared.command.Command.{Command}
-use Rattle.cdb_codec.specs.declared.command.Command.TheVariants.{TestUnitReady, RequestSense, Read6, Write6, Inquiry, ReadCapacity, Read10, Write10}
+use Rattle.cdb_codec.specs.declared.command.Command.TheVariants.{TestUnitReady, RequestSense, Read6, Write6, Inquiry}
+use Rattle.cdb_codec.specs.declared.command.Command.TheVariants.{ReadCapacity, Read10, Write10}
 use Rattle.cdb_codec.specs.declared.command.CdbFault.{CdbFault}
 use Rattle.cdb_codec.specs.declared.command.CdbFault.TheVariants.{Opcode, Length, Field}
-use Rattle.cdb_codec.specs.declared.operation.TheConstants.{TEST_UNIT_READY, REQUEST_SENSE, READ_6, WRITE_6, INQUIRY, READ_CAPACITY, READ_10, WRITE_10}
+use Rattle.cdb_codec.specs.declared.operation.TheConstants.{TEST_UNIT_READY, REQUEST_SENSE, READ_6, WRITE_6, INQUIRY}
+use Rattle.cdb_codec.specs.declared.operation.TheConstants.{READ_CAPACITY, READ_10, WRITE_10}
 use Rattle.cdb_codec.specs.declared.operation.Operation.{Operation}
 use Rattle.cdb_codec.specs.declared.operation.Operation.TheVariants as operations
 use Rattle.cdb_codec.specs.Operations.{operation_of}
@@ -92,8 +95,8 @@ spare_10 bytes = slice_index bytes 1 % 8 ∷ slice_index bytes 6 ∷ slice_index
 
 -- TEST UNIT READY names no byte.
 abbrev pub test_unit_ready_of : List ℕ → Result Command CdbFault
-test_unit_ready_of bytes =
-    where_zero (slice_index bytes 1 % 32 ∷ slice_index bytes 2 ∷ slice_index bytes 3 ∷ slice_index bytes 4 ∷ slice_index bytes 5 ∷ []) TestUnitReady
+test_unit_ready_of bytes = where_zero (slice_index bytes 1 % 32 ∷ slice_index bytes 2 ∷ slice_index bytes 3
+    ∷ slice_index bytes 4 ∷ slice_index bytes 5 ∷ []) TestUnitReady
 
 -- REQUEST SENSE has room in byte 4.
 abbrev pub request_sense_of : List ℕ → Result Command CdbFault
@@ -113,8 +116,9 @@ inquiry_of bytes = where_zero (spare_room bytes) (Inquiry (slice_index bytes 4))
 
 -- READ CAPACITY names no byte: RelAdr, the block and PMI must be 0.
 abbrev pub read_capacity_of : List ℕ → Result Command CdbFault
-read_capacity_of bytes =
-    where_zero (slice_index bytes 1 % 32 ∷ slice_index bytes 2 ∷ slice_index bytes 3 ∷ slice_index bytes 4 ∷ slice_index bytes 5 ∷ slice_index bytes 6 ∷ slice_index bytes 7 ∷ slice_index bytes 8 ∷ slice_index bytes 9 ∷ []) ReadCapacity
+read_capacity_of bytes = where_zero
+    (slice_index bytes 1 % 32 ∷ slice_index bytes 2 ∷ slice_index bytes 3 ∷ slice_index bytes 4 ∷ slice_index bytes 5
+    ∷ slice_index bytes 6 ∷ slice_index bytes 7 ∷ slice_index bytes 8 ∷ slice_index bytes 9 ∷ []) ReadCapacity
 
 -- READ(10) has the block in bytes 2 to 5 and the count in bytes 7 and 8.
 abbrev pub read10_of : List ℕ → Result Command CdbFault

@@ -2,13 +2,15 @@
 use Rattle.std.proofs.Common.{◌≡◌, Bool, true, false, ◌==◌, is_some, refl, if◌then◌else◌}
 use Rattle.bus_trace.specs.LineSet.{none, same_set}
 use Rattle.bus_lines.specs.declared.Stage.{Stage}
-use Rattle.bus_lines.specs.declared.Stage.TheVariants.{OnFreeBus, InArbitration, InCalling, InAnswer, InConnection, InReset}
+use Rattle.bus_lines.specs.declared.Stage.TheVariants.{OnFreeBus, InArbitration, InCalling, InAnswer, InConnection}
+use Rattle.bus_lines.specs.declared.Stage.TheVariants.{InReset}
 use Rattle.connect.specs.DeviceValue.{DeviceValue}
 use Rattle.connect.specs.Links.{device_of, released_link, driving_link, link_by_row, link_after_row}
 use Rattle.connect.specs.declared.states.Link.{Link}
 use Rattle.connect.specs.declared.states.Link.TheVariants as in_state
 
-either : (b : Bool) (x y : Link) (d : DeviceValue) → device_of x ≡ d → device_of y ≡ d → device_of (if b then x else y) ≡ d
+either : (b : Bool) (x y : Link) (d : DeviceValue) → device_of x ≡ d → device_of y ≡ d
+    → device_of (if b then x else y) ≡ d
 either true x y d p q = p
 either false x y d p q = q
 

@@ -1,10 +1,11 @@
--- The seven states of a device on its way to a connection: what it knows and wants in each, which of them the view of the
--- bus shows, and to which its own rows lead.
+-- The seven states of a device on its way to a connection: what it knows and wants in each, which of them the view of
+-- the bus shows, and to which its own rows lead.
 use Rattle.std.specs.Prelude.{ℕ, Bool, true, false, ◌==◌, Option, Some, None, is_some, if◌then◌else◌}
 use Rattle.bus_trace.specs.LineSet.{LineSet, none, same_set}
 use Rattle.bus_trace.specs.declared.Connection.{Connection}
 use Rattle.bus_lines.specs.declared.Stage.{Stage}
-use Rattle.bus_lines.specs.declared.Stage.TheVariants.{OnFreeBus, InArbitration, InCalling, InAnswer, InConnection, InReset}
+use Rattle.bus_lines.specs.declared.Stage.TheVariants.{OnFreeBus, InArbitration, InCalling, InAnswer, InConnection}
+use Rattle.bus_lines.specs.declared.Stage.TheVariants.{InReset}
 use Rattle.bus_reactions.specs.declared.due.Myself.{Myself}
 use Rattle.bus_reactions.specs.declared.due.Want.{Want}
 use Rattle.connect.specs.DeviceValue.{DeviceValue}
@@ -46,7 +47,8 @@ peer_at dev _ = None
 -- ---- what the view shows: what it drives, and the connection of which it is an end
 
 abbrev pub linked_state : DeviceValue → ℕ → Bool → Link
-linked_state d peer is_target = in_state.Linked (record { device = record d { want = no_want }; peer = peer; is_target = is_target })
+linked_state d peer is_target =
+    in_state.Linked (record { device = record d { want = no_want }; peer = peer; is_target = is_target })
 
 -- It is no end of a connection. Where it was one, it is idle.
 abbrev pub link_apart : LineSet → Link → Link
@@ -73,13 +75,17 @@ present_link own link _ = link_apart own link
 
 -- It drives nothing: it waits where it wants the bus still, as after a lost arbitration or without an answer.
 abbrev pub released_link : DeviceValue → Link
-released_link d = if is_some d.want.since then in_state.Waiting (record { device = d }) else in_state.Idle (record { device = d })
+released_link d =
+    if is_some d.want.since then in_state.Waiting (record { device = d }) else in_state.Idle (record { device = d })
 
 -- Else the stage of the bus says what the row was; `contends` says whether it drove BSY before.
 abbrev pub driving_link : Bool → DeviceValue → Stage → Link
 driving_link contends d (OnFreeBus free) = in_state.Contending (record { device = d })
-driving_link contends d (InArbitration a) = if contends then in_state.Won (record { device = d }) else in_state.Contending (record { device = d })
-driving_link contends d (InCalling c) = if c.caller == d.me.dev then in_state.Calling (record { device = d }) else in_state.Answering (record { device = d })
+driving_link contends d (InArbitration a) =
+    if contends then in_state.Won (record { device = d }) else in_state.Contending (record { device = d })
+driving_link contends d (InCalling c) =
+    if c.caller == d.me.dev then in_state.Calling (record { device = d })
+    else in_state.Answering (record { device = d })
 driving_link contends d (InAnswer c k answered) = in_state.Calling (record { device = d })
 driving_link contends d (InConnection n) = in_state.Idle (record { device = d })
 driving_link contends d (InReset since) = in_state.Idle (record { device = d })

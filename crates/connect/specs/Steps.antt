@@ -1,5 +1,6 @@
 -- A step of a device on its way to a connection: what it makes now, and when it is due next.
-use Rattle.std.specs.Prelude.{ℕ, ◌≡◌, Bool, false, not, ◌&&◌, ◌==◌, List, Option, Some, None, is_some, nat_le, nat_lt, if◌then◌else◌}
+use Rattle.std.specs.Prelude.{ℕ, ◌≡◌, Bool, false, not, ◌&&◌, ◌==◌, List, Option, Some, None, is_some, nat_le, nat_lt}
+use Rattle.std.specs.Prelude.{if◌then◌else◌}
 use Rattle.bus_trace.specs.declared.Row.{Row}
 use Rattle.bus_trace.specs.declared.Kind.{Kind}
 use Rattle.bus_trace.specs.declared.Kind.TheVariants.{Drives, Fault}
@@ -79,7 +80,8 @@ abbrev pub me_in : List Row → Link → Myself
 me_in rows link = myself (link_in rows link)
 
 abbrev pub due_in : List Row → Link → ℕ → Option ℕ → Option Due
-due_in rows link first flip = step_due (sight rows) (me_in rows link) (record (want_of (link_in rows link)) { first = first }) flip
+due_in rows link first flip =
+    step_due (sight rows) (me_in rows link) (record (want_of (link_in rows link)) { first = first }) flip
 
 abbrev pub step_by : Link → Stage → ℕ → Option Due → Bool → Step Link
 step_by link s now due sampled = record {
@@ -90,13 +92,15 @@ step_by link s now due sampled = record {
 }
 
 abbrev pub step_from : List Row → Link → ℕ → Option ℕ → Step Link
-step_from rows link now flip =
-    step_by link (stage rows) now (step_due (sight rows) (myself link) (want_of link) flip) (is_sampling (sight rows) (myself link) now)
+step_from rows link now flip = step_by link (stage rows) now (step_due (sight rows) (myself link) (want_of link) flip)
+    (is_sampling (sight rows) (myself link) now)
 
--- A row of lines is made exactly where one is due at or before now, and `wake` is the time of one that is due later. The IDs are
--- sampled whether or not a fault strikes them; where one does, its row is the caller's to make, and no lines are.
+-- A row of lines is made exactly where one is due at or before now, and `wake` is the time of one that is due later.
+-- The IDs are sampled whether or not a fault strikes them; where one does, its row is the caller's to make, and no
+-- lines are.
 pub record IsStepOf (rows : List Row) (link : Link) (now : ℕ) (flip : Option ℕ) (s : Step Link) : Type 0 where
-  pub drives : (first : ℕ) → s.drives ≡ lines_now (ends_reselection (me_in rows link) (stage rows)) now (due_in rows link first flip)
+  pub drives : (first : ℕ)
+      → s.drives ≡ lines_now (ends_reselection (me_in rows link) (stage rows)) now (due_in rows link first flip)
   pub wake : (first : ℕ) → s.wake ≡ time_later now (due_in rows link first flip)
   pub sampled : s.sampled ≡ is_sampling (sight rows) (me_in rows link) now
   pub next : s.next ≡ next_link (link_in rows link) now (stage rows) s.drives

@@ -1,4 +1,5 @@
--- In some runs, computed: the faults that struck a command, and how many it bears; the resets; and the sense with which a command ends.
+-- In some runs, computed: the faults that struck a command, and how many it bears; the resets; and the sense with which
+-- a command ends.
 use Rattle.delivery_laws.proofs
 use proofs.Names.{ℕ, ◌≡◌, true, false, List, [], ◌∷◌, Some, refl, line_of, union_below, ABORTED_COMMAND}
 use proofs.Names.{INITIATOR_DETECTED_ERROR, form_out, form_in, need_of, sent_of, ScenarioValue, CmdDef, sense_of}
@@ -35,7 +36,8 @@ lost_bears = refl
 
 -- ---- resets
 
--- The line of device 7 at 20000 has its row, and no other row begins RST; one that fell while it drove RST would have none.
+-- The line of device 7 at 20000 has its row, and no other row begins RST; one that fell while it drove RST would have
+-- none.
 reset_line_has : has_line (onto data_out_given_up_due_rows []) (record { dev = 7; at = 20000 }) ≡ true
 unfolding ones line_of
 reset_line_has = refl
@@ -63,6 +65,8 @@ reset_ends = refl
 -- ---- senses
 
 -- A command that failed in DATA IN ends with the sense of its own failure.
-data_in_given_up_ends : outcome_of data_in_given_up_due (story data_in_given_up_due (onto data_in_given_up_due_rows [])) 1 ≡ Some (ended_check (Some (sense_of ABORTED_COMMAND INITIATOR_DETECTED_ERROR 0x00)))
+data_in_given_up_ends :
+    outcome_of data_in_given_up_due (story data_in_given_up_due (onto data_in_given_up_due_rows [])) 1
+    ≡ Some (ended_check (Some (sense_of ABORTED_COMMAND INITIATOR_DETECTED_ERROR 0x00)))
 unfolding need_of sent_of ones union_below line_of form_out form_in
 data_in_given_up_ends = refl

@@ -1,5 +1,5 @@
--- In some runs, computed: what each law of this crate asks is met, and what it says then holds. The other outcomes are those of proofs/OutcomeCases.antt, the limits
--- those of proofs/LimitCases.antt.
+-- In some runs, computed: what each law of this crate asks is met, and what it says then holds. The other outcomes are
+-- those of proofs/OutcomeCases.antt, the limits those of proofs/LimitCases.antt.
 use Rattle.delivery_laws.proofs
 use proofs.Names.{ℕ, ◌≡◌, ◌+◌, Bool, true, false, not, ◌&&◌, ◌||◌, List, [], ◌∷◌, Option, Some, None, refl, ◌==◌}
 use proofs.Names.{is_none, is_some, if◌then◌else◌, Event, change_of, line_of, changes_phase, is_message_out, connection}
@@ -23,8 +23,8 @@ use lib.Count.{ones}
 -- ---- phases with wrong parity, by how they are left
 
 abbrev is_leaving : List Row → Row → Bool
-is_leaving rows row =
-    (is_some (connection rows) && begun rows) && ((not (bus rows).rst && not (bus (row ∷ rows)).rst) && (changes_phase (change_of rows row) || is_none (connection (row ∷ rows))))
+is_leaving rows row = (is_some (connection rows) && begun rows) && ((not (bus rows).rst && not (bus (row ∷ rows)).rst)
+    && (changes_phase (change_of rows row) || is_none (connection (row ∷ rows))))
 
 abbrev same_phase : Phase → Phase → Bool
 same_phase Phase.DataOut Phase.DataOut = true
@@ -44,12 +44,14 @@ same_next a b = false
 abbrev left_by : ScenarioValue → List Row → Row → Option Connection → Option Task → Bool → Bool
 left_by s rows row (Some n) (Some t) again =
     same_bool (is_tried_again (target_def_of s n.target) (run_state s rows).exchange.plan t (phase_of (bus rows))) again
-    && same_next (phase_after rows row) (phase_after_wrong (phase_of (bus rows)) (run_state s rows).exchange.plan.cause again)
+    && same_next (phase_after rows row)
+    (phase_after_wrong (phase_of (bus rows)) (run_state s rows).exchange.plan.cause again)
 left_by s rows row n t again = false
 
 abbrev is_left_so : ScenarioValue → List Row → Row → Bool → Bool
-is_left_so s rows row again =
-    is_leaving rows row && is_wrong_phase (is_struck_phase s rows) (run_state s rows).exchange.plan (phase_of (bus rows)) && left_by s rows row (connection rows) (task_of s (run_state s rows)) again
+is_left_so s rows row again = is_leaving rows row
+    && is_wrong_phase (is_struck_phase s rows) (run_state s rows).exchange.plan (phase_of (bus rows))
+    && left_by s rows row (connection rows) (task_of s (run_state s rows)) again
 
 abbrev lefts : ScenarioValue → List Row → Bool → ℕ
 lefts s [] again = 0
@@ -98,8 +100,8 @@ given_up_in_message_in : left_told disconnect_twice_limit (onto disconnect_twice
 unfolding need_of sent_of ones union_below line_of form_out form_in
 given_up_in_message_in = refl
 
--- Where the target's limit is 0 the names after a reselection are said again, three times, and of the REQUEST SENSE of an initiator that stands in the hold of the
--- unit COMMAND and DATA IN.
+-- Where the target's limit is 0 the names after a reselection are said again, three times, and of the REQUEST SENSE of
+-- an initiator that stands in the hold of the unit COMMAND and DATA IN.
 again_in_names : left_told struck_names_due (onto struck_names_due_rows []) 5 0 ≡ true
 unfolding need_of sent_of ones union_below line_of form_out form_in
 again_in_names = refl
@@ -117,17 +119,20 @@ abbrev is_away_if : ScenarioValue → Option CmdDef → Bool
 is_away_if s None = false
 is_away_if s (Some c) = not (has_target s c.target)
 
-wrong_command : (is_calm hold_of_a_unit_due && is_wrong_if hold_of_a_unit_due (command_at hold_of_a_unit_due.commands 1)) ≡ true
+wrong_command :
+    (is_calm hold_of_a_unit_due && is_wrong_if hold_of_a_unit_due (command_at hold_of_a_unit_due.commands 1)) ≡ true
 unfolding need_of sent_of ones union_below line_of form_out form_in
 wrong_command = refl
 
-away_command : (is_calm absent_target_limit && is_away_if absent_target_limit (command_at absent_target_limit.commands 1)) ≡ true
+away_command :
+    (is_calm absent_target_limit && is_away_if absent_target_limit (command_at absent_target_limit.commands 1)) ≡ true
 unfolding need_of sent_of ones union_below line_of form_out form_in
 away_command = refl
 
 -- ---- a full queue, a stopped sense
 
-refused_at_full : (arrive_by_room full_queue_due (trace_history full_queue_due (onto full_queue_due_rows [])) && has_event (trace_history full_queue_due (onto full_queue_due_rows [])) (Event.Refuse (command_id 2))) ≡ true
+refused_at_full : (arrive_by_room full_queue_due (trace_history full_queue_due (onto full_queue_due_rows []))
+    && has_event (trace_history full_queue_due (onto full_queue_due_rows [])) (Event.Refuse (command_id 2))) ≡ true
 unfolding need_of sent_of ones union_below line_of form_out form_in
 refused_at_full = refl
 
@@ -135,11 +140,14 @@ abbrev stopped_if : ScenarioValue → List Row → ℕ → Option CmdDef → Boo
 stopped_if s rows n None = false
 stopped_if s rows n (Some c) = was_sense_stopped (trace_history s rows) n c
 
-sense_stopped : stopped_if data_out_given_up_due (onto data_out_given_up_due_rows []) 1 (command_at data_out_given_up_due.commands 1) ≡ true
+sense_stopped : stopped_if data_out_given_up_due (onto data_out_given_up_due_rows []) 1
+    (command_at data_out_given_up_due.commands 1)
+    ≡ true
 unfolding need_of sent_of ones union_below line_of form_out form_in
 sense_stopped = refl
 
-sense_unstopped : stopped_if hold_of_a_unit_due (onto hold_of_a_unit_due_rows []) 1 (command_at hold_of_a_unit_due.commands 1) ≡ false
+sense_unstopped :
+    stopped_if hold_of_a_unit_due (onto hold_of_a_unit_due_rows []) 1 (command_at hold_of_a_unit_due.commands 1) ≡ false
 unfolding need_of sent_of ones union_below line_of form_out form_in
 sense_unstopped = refl
 
@@ -161,8 +169,8 @@ is_opened Cause.Selected = true
 is_opened _ = false
 
 abbrev is_opening_left : ScenarioValue → List Row → Row → Bool
-is_opening_left s rows row =
-    is_leaving rows row && (changes_phase (change_of rows row) && (selects (connection rows) && (is_message_out (bus rows) && is_opened (run_state s rows).exchange.plan.cause)))
+is_opening_left s rows row = is_leaving rows row && (changes_phase (change_of rows row)
+    && (selects (connection rows) && (is_message_out (bus rows) && is_opened (run_state s rows).exchange.plan.cause)))
 
 -- Those that were due, the newest first.
 abbrev openings : ScenarioValue → List Row → List (List ℕ)
@@ -179,22 +187,30 @@ abbrev openings_told : ScenarioValue → List Row → List (List ℕ) → Bool
 openings_told s rows said = same_all (openings s rows) said
 
 -- Two commands with their tags, and ABORT TAG of the first.
-openings_with_tags : openings_told tag_aborted_due (onto tag_aborted_due_rows []) ((128 ∷ 32 ∷ 5 ∷ 13 ∷ []) ∷ (192 ∷ 32 ∷ 6 ∷ []) ∷ (192 ∷ 32 ∷ 5 ∷ []) ∷ []) ≡ true
+openings_with_tags : openings_told tag_aborted_due (onto tag_aborted_due_rows [])
+    ((128 ∷ 32 ∷ 5 ∷ 13 ∷ []) ∷ (192 ∷ 32 ∷ 6 ∷ []) ∷ (192 ∷ 32 ∷ 5 ∷ []) ∷ [])
+    ≡ true
 unfolding need_of sent_of ones union_below line_of form_out form_in
 openings_with_tags = refl
 
 -- Two initiators offer, one without a limit.
-openings_with_offers : openings_told offset_255_due (onto offset_255_due_rows []) ((199 ∷ 1 ∷ 3 ∷ 1 ∷ 70 ∷ 2 ∷ []) ∷ (192 ∷ 1 ∷ 3 ∷ 1 ∷ 50 ∷ 255 ∷ []) ∷ []) ≡ true
+openings_with_offers : openings_told offset_255_due (onto offset_255_due_rows [])
+    ((199 ∷ 1 ∷ 3 ∷ 1 ∷ 70 ∷ 2 ∷ []) ∷ (192 ∷ 1 ∷ 3 ∷ 1 ∷ 50 ∷ 255 ∷ []) ∷ [])
+    ≡ true
 unfolding need_of sent_of ones union_below line_of form_out form_in
 openings_with_offers = refl
 
 -- The REQUEST SENSE after it has no offer, nor the disconnect privilege.
-opening_without_offer : openings_told field_in_a_command_due (onto field_in_a_command_due_rows []) ((128 ∷ []) ∷ (192 ∷ 1 ∷ 3 ∷ 1 ∷ 200 ∷ 7 ∷ []) ∷ []) ≡ true
+opening_without_offer : openings_told field_in_a_command_due
+    (onto field_in_a_command_due_rows []) ((128 ∷ []) ∷ (192 ∷ 1 ∷ 3 ∷ 1 ∷ 200 ∷ 7 ∷ []) ∷ [])
+    ≡ true
 unfolding need_of sent_of ones union_below line_of form_out form_in
 opening_without_offer = refl
 
 -- After BUS DEVICE RESET the offer is made again.
-opening_with_offer_again : openings_told device_reset_by_message_due (onto device_reset_by_message_due_rows []) ((193 ∷ 1 ∷ 3 ∷ 1 ∷ 50 ∷ 2 ∷ []) ∷ (129 ∷ 12 ∷ []) ∷ (193 ∷ 1 ∷ 3 ∷ 1 ∷ 50 ∷ 2 ∷ []) ∷ []) ≡ true
+opening_with_offer_again : openings_told device_reset_by_message_due (onto device_reset_by_message_due_rows [])
+    ((193 ∷ 1 ∷ 3 ∷ 1 ∷ 50 ∷ 2 ∷ []) ∷ (129 ∷ 12 ∷ []) ∷ (193 ∷ 1 ∷ 3 ∷ 1 ∷ 50 ∷ 2 ∷ []) ∷ [])
+    ≡ true
 unfolding need_of sent_of ones union_below line_of form_out form_in
 opening_with_offer_again = refl
 
@@ -205,13 +221,14 @@ abbrev same_messages : Messages → Messages → Bool
 same_messages a b = same_bytes (bytes_of_messages a) (bytes_of_messages b)
 
 abbrev is_replied : ScenarioValue → List Row → Row → Option Connection → Option Agreement → Bool
-is_replied s rows row (Some n) (Some offer) =
-    same_next (phase_after rows row) (Some Phase.MessageIn) && same_messages (plan_at s (row ∷ rows)).messages (one_message (reply_to (target_def_of s n.target) offer))
+is_replied s rows row (Some n) (Some offer) = same_next (phase_after rows row) (Some Phase.MessageIn)
+    && same_messages (plan_at s (row ∷ rows)).messages (one_message (reply_to (target_def_of s n.target) offer))
 is_replied s rows row n offer = false
 
 abbrev replied : ScenarioValue → List Row → ℕ
 replied s [] = 0
-replied s (row ∷ rows) = replied s rows + one_if (is_opening_left s rows row && is_replied s rows row (connection rows) (plan_at s rows).said.offer)
+replied s (row ∷ rows) = replied s rows
+    + one_if (is_opening_left s rows row && is_replied s rows row (connection rows) (plan_at s rows).said.offer)
 
 offers_replied : (replied offset_255_due (onto offset_255_due_rows []) == 2) ≡ true
 unfolding need_of sent_of ones union_below line_of form_out form_in
@@ -223,9 +240,12 @@ is_request_open rows = is_some (connection rows) && is_some (dialogue rows).hear
 -- After so many rows of message phases one was open, and after so many others.
 abbrev rows_open : Bool → List Row → ℕ
 rows_open msg [] = 0
-rows_open msg (row ∷ rows) = rows_open msg rows + one_if (is_request_open (row ∷ rows) && same_bool (bus (row ∷ rows)).msg msg)
+rows_open msg (row ∷ rows) =
+    rows_open msg rows + one_if (is_request_open (row ∷ rows) && same_bool (bus (row ∷ rows)).msg msg)
 
 -- Not in COMMAND, data and STATUS.
-request_open : (not (rows_open true (onto offset_255_due_rows []) == 0) && rows_open false (onto offset_255_due_rows []) == 0) ≡ true
+request_open :
+    (not (rows_open true (onto offset_255_due_rows []) == 0) && rows_open false (onto offset_255_due_rows []) == 0)
+    ≡ true
 unfolding ones union_below line_of form_out form_in
 request_open = refl

@@ -1,6 +1,7 @@
--- What strikes a command on its way, and how much of it the command bears; and that a valid command which is within that ends GOOD
--- (6.1.3, 6.1.3.1, 6.6.10, 7.8).
-use Rattle.std.specs.Prelude.{ℕ, ◌≡◌, ◌⊎◌, ◌==◌, ◌++◌, ◌+◌, Bool, true, false, not, ◌&&◌, min, nat_le, nat_lt, List, [], ◌∷◌, Option, Some, None, Result, Ok, Err, is_some, if◌then◌else◌}
+-- What strikes a command on its way, and how much of it the command bears; and that a valid command which is within
+-- that ends GOOD (6.1.3, 6.1.3.1, 6.6.10, 7.8).
+use Rattle.std.specs.Prelude.{ℕ, ◌≡◌, ◌⊎◌, ◌==◌, ◌++◌, ◌+◌, Bool, true, false, not, ◌&&◌, min, nat_le, nat_lt, List, []}
+use Rattle.std.specs.Prelude.{◌∷◌, Option, Some, None, Result, Ok, Err, is_some, if◌then◌else◌}
 use Rattle.bus_due.specs.bus_base.specs.declared.ProcId.{ProcId}
 use Rattle.bus_due.specs.bus_base.specs.declared.Event.{Event}
 use Rattle.bus_due.specs.bus_base.specs.declared.Event.TheVariants as events
@@ -13,7 +14,8 @@ use Rattle.bus_due.specs.scenario.specs.declared.value.TargetDef.{TargetDef}
 use Rattle.bus_due.specs.scenario.specs.Value.{ScenarioValue}
 use Rattle.bus_due.specs.scenario.specs.Writing.{Obeys}
 use Rattle.bus_due.specs.disk_array.specs.ArrayHistory.{array_after, reply_of}
-use Rattle.bus_due.specs.disk_array.specs.Execution.{Reply, aborted_reply, block_out_of_range, execution, invalid_field, invalid_opcode, needs_unit, queue_full, unit_not_supported}
+use Rattle.bus_due.specs.disk_array.specs.Execution.{Reply, aborted_reply, block_out_of_range, execution, invalid_field}
+use Rattle.bus_due.specs.disk_array.specs.Execution.{invalid_opcode, needs_unit, queue_full, unit_not_supported}
 use Rattle.bus_due.specs.disk_array.specs.Processes.{Process, command_at, process_of, same_id}
 use Rattle.bus_due.specs.disk_array.specs.Steps.{context_at}
 use Rattle.bus_due.specs.disk_array.specs.Units.{Array, nexus_of, unit_state_at}
@@ -25,7 +27,8 @@ use Rattle.bus_due.specs.cdb_codec.specs.declared.Sense.{Sense}
 use Rattle.bus_due.specs.cdb_codec.specs.declared.sense.TheConstants.{ABORTED_COMMAND}
 use Rattle.bus_due.specs.cdb_codec.specs.declared.status.TheConstants.{CHECK_CONDITION}
 use Rattle.bus_due.specs.bus_story.specs.Items.{Item, same_item, command_id, command_item}
-use Rattle.bus_due.specs.bus_story.specs.Outcomes.{ending_of, ended_aborted, ended_check, ended_full, ended_lost, ended_reset, ended_unanswered, is_valid, is_roomy, outcome_of}
+use Rattle.bus_due.specs.bus_story.specs.Outcomes.{ending_of, ended_aborted, ended_check, ended_full, ended_lost}
+use Rattle.bus_due.specs.bus_story.specs.Outcomes.{ended_reset, ended_unanswered, is_valid, is_roomy, outcome_of}
 use Rattle.bus_due.specs.bus_story.specs.Story.{by_status}
 use Rattle.bus_due.specs.bus_story.specs.TraceHistory.{aim_of, retries_of, story, trace_history}
 use Rattle.bus_due.specs.bus_dialogue.specs.PhaseBytes.{one_if}
@@ -68,7 +71,8 @@ calling_faults s (row ∷ rows) item = calling_faults s rows item + one_if (is_c
 abbrev pub command_faults : ScenarioValue → List Row → ℕ → ℕ
 command_faults s rows n = fault_rows s rows (command_id n) + calling_faults s rows (command_item n)
 
--- How many it bears: the smaller retry limit of its initiator and its target, or that of its initiator where the target is absent.
+-- How many it bears: the smaller retry limit of its initiator and its target, or that of its initiator where the target
+-- is absent.
 abbrev pub limit_with : ℕ → Option TargetDef → ℕ
 limit_with own None = own
 limit_with own (Some t) = min own t.retries
@@ -91,11 +95,12 @@ is_calm_event _ = true
 
 -- ---- what is proved
 
--- Of a trace: where queues have room for all that may be open, and there is no reset and no abort, every valid command that no more faults
--- struck than it bears ends GOOD.
+-- Of a trace: where queues have room for all that may be open, and there is no reset and no abort, every valid command
+-- that no more faults struck than it bears ends GOOD.
 abbrev pub IsDelivered : ScenarioValue → List Row → Type 0
-IsDelivered s rows =
-    is_roomy s ≡ true → s.resets ≡ [] → s.aborts ≡ [] → (n : ℕ) (c : CmdDef) → command_at s.commands n ≡ Some c → is_valid s c ≡ true → nat_le (command_faults s rows n) (fault_limit s c) ≡ true → is_good (outcome_of s (story s rows) n) ≡ true
+IsDelivered s rows = is_roomy s ≡ true → s.resets ≡ [] → s.aborts ≡ [] → (n : ℕ) (c : CmdDef)
+    → command_at s.commands n ≡ Some c → is_valid s c ≡ true → nat_le (command_faults s rows n) (fault_limit s c) ≡ true
+    → is_good (outcome_of s (story s rows) n) ≡ true
 
 -- So of every trace.
 abbrev pub Delivers : Type 0
@@ -105,20 +110,27 @@ Delivers = (s : ScenarioValue) (rows : List Row) → Obeys s → IsPrompt s rows
 abbrev pub has_too_many : ScenarioValue → List Row → ℕ → CmdDef → Bool
 has_too_many s rows n c = nat_lt (fault_limit s c) (command_faults s rows n)
 
--- Of a trace: why a command ends otherwise than GOOD. It is lost, or fails with the sense of ABORTED COMMAND, only where more faults struck
--- it than it bears, and ends unanswered only there or where its target is absent; it ends with QUEUE FULL only where it was refused at a full
--- queue, and by a reset or an abort only where the history has one.
+-- Of a trace: why a command ends otherwise than GOOD. It is lost, or fails with the sense of ABORTED COMMAND, only
+-- where more faults struck it than it bears, and ends unanswered only there or where its target is absent; it ends with
+-- QUEUE FULL only where it was refused at a full queue, and by a reset or an abort only where the history has one.
 pub record AreCaused (s : ScenarioValue) (rows : List Row) : Type 0 where
-  pub lost : (n : ℕ) (c : CmdDef) → command_at s.commands n ≡ Some c → outcome_of s (story s rows) n ≡ Some ended_lost → has_too_many s rows n c ≡ true
-  pub failed : (n code : ℕ) (c : CmdDef) → command_at s.commands n ≡ Some c → has_event (trace_history s rows) (events.Fail (command_id n) code) ≡ true → has_too_many s rows n c ≡ true
-  pub unanswered : (n : ℕ) (c : CmdDef) → command_at s.commands n ≡ Some c → outcome_of s (story s rows) n ≡ Some ended_unanswered → (has_target s c.target ≡ false) ⊎ (has_too_many s rows n c ≡ true)
-  pub full : (n : ℕ) → outcome_of s (story s rows) n ≡ Some ended_full → was_refused s (trace_history s rows) (command_id n) ≡ true
+  pub lost : (n : ℕ) (c : CmdDef) → command_at s.commands n ≡ Some c → outcome_of s (story s rows) n ≡ Some ended_lost
+      → has_too_many s rows n c ≡ true
+  pub failed : (n code : ℕ) (c : CmdDef) → command_at s.commands n ≡ Some c
+      → has_event (trace_history s rows) (events.Fail (command_id n) code) ≡ true → has_too_many s rows n c ≡ true
+  pub unanswered : (n : ℕ) (c : CmdDef) → command_at s.commands n ≡ Some c
+      → outcome_of s (story s rows) n ≡ Some ended_unanswered
+      → (has_target s c.target ≡ false) ⊎ (has_too_many s rows n c ≡ true)
+  pub full : (n : ℕ) → outcome_of s (story s rows) n ≡ Some ended_full
+      → was_refused s (trace_history s rows) (command_id n) ≡ true
   pub reset : (n : ℕ) → outcome_of s (story s rows) n ≡ Some ended_reset → has_bus_reset (trace_history s rows) ≡ true
-  pub aborted : (n : ℕ) (c : CmdDef) → command_at s.commands n ≡ Some c → outcome_of s (story s rows) n ≡ Some ended_aborted → has_command_abort (trace_history s rows) c ≡ true
+  pub aborted : (n : ℕ) (c : CmdDef) → command_at s.commands n ≡ Some c
+      → outcome_of s (story s rows) n ≡ Some ended_aborted → has_command_abort (trace_history s rows) c ≡ true
 
 -- Of a trace: a command is without the sense of its CHECK CONDITION only where its automatic REQUEST SENSE was stopped.
 abbrev pub AreStoppedSenses : ScenarioValue → List Row → Type 0
-AreStoppedSenses s rows = (n : ℕ) (c : CmdDef) → command_at s.commands n ≡ Some c → outcome_of s (story s rows) n ≡ Some (ended_check None) → has_sense_stop (trace_history s rows) n c ≡ true
+AreStoppedSenses s rows = (n : ℕ) (c : CmdDef) → command_at s.commands n ≡ Some c
+    → outcome_of s (story s rows) n ≡ Some (ended_check None) → has_sense_stop (trace_history s rows) n c ≡ true
 
 -- ---- why a process has its reply
 
@@ -131,7 +143,9 @@ pub record HasRun (s : ScenarioValue) (h : List Event) (id : ProcId) (reply : Re
   pub array_is : array_after s earlier ≡ Some array
   pub process : Process
   pub process_is : process_of s id ≡ Some process
-  pub reply_is : reply ≡ (execution (context_at array (nexus_of process) (unit_state_at array.units process.target process.unit)) process.cdb process.sent).reply
+  pub reply_is : reply
+      ≡ (execution (context_at array (nexus_of process) (unit_state_at array.units process.target process.unit))
+      process.cdb process.sent).reply
 
 -- Or it failed with this code, or was refused.
 pub data IsGiven (s : ScenarioValue) (h : List Event) (id : ProcId) (reply : Reply) : Type 0 where
@@ -143,7 +157,8 @@ pub data IsGiven (s : ScenarioValue) (h : List Event) (id : ProcId) (reply : Rep
 
 -- Of a trace: each failure in its history has a fault row of a byte of that process.
 abbrev pub HaveStrikes : ScenarioValue → List Row → Type 0
-HaveStrikes s rows = (id : ProcId) (code : ℕ) → has_event (trace_history s rows) (events.Fail id code) ≡ true → has_strike s rows id code ≡ true
+HaveStrikes s rows = (id : ProcId) (code : ℕ) → has_event (trace_history s rows) (events.Fail id code) ≡ true
+    → has_strike s rows id code ≡ true
 
 -- ---- whose sense came back
 
@@ -161,12 +176,17 @@ pub record RanSo (s : ScenarioValue) (h : List Event) (n : ℕ) (sense : Sense) 
   pub check : reply.status ≡ CHECK_CONDITION
   pub sense_is : reply.sense ≡ sense
 
--- Of a trace: the sense with which a command ends is that of its own reply. With the key ABORTED COMMAND it failed with that code, and more
--- faults struck it than it bears; any other is what the plain disk array answered as it ran.
+-- Of a trace: the sense with which a command ends is that of its own reply. With the key ABORTED COMMAND it failed with
+-- that code, and more faults struck it than it bears; any other is what the plain disk array answered as it ran.
 pub record AreOwnSenses (s : ScenarioValue) (rows : List Row) : Type 0 where
-  pub own : (n : ℕ) (sense : Sense) → outcome_of s (story s rows) n ≡ Some (ended_check (Some sense)) → IsOwnSense s (trace_history s rows) n sense
-  pub failed : (n : ℕ) (c : CmdDef) (sense : Sense) → command_at s.commands n ≡ Some c → outcome_of s (story s rows) n ≡ Some (ended_check (Some sense)) → (sense.key == ABORTED_COMMAND) ≡ true → (has_event (trace_history s rows) (events.Fail (command_id n) sense.asc) ≡ true) × (has_too_many s rows n c ≡ true)
-  pub ran : (n : ℕ) (sense : Sense) → outcome_of s (story s rows) n ≡ Some (ended_check (Some sense)) → (sense.key == ABORTED_COMMAND) ≡ false → RanSo s (trace_history s rows) n sense
+  pub own : (n : ℕ) (sense : Sense) → outcome_of s (story s rows) n ≡ Some (ended_check (Some sense))
+      → IsOwnSense s (trace_history s rows) n sense
+  pub failed : (n : ℕ) (c : CmdDef) (sense : Sense) → command_at s.commands n ≡ Some c
+      → outcome_of s (story s rows) n ≡ Some (ended_check (Some sense)) → (sense.key == ABORTED_COMMAND) ≡ true
+      → (has_event (trace_history s rows) (events.Fail (command_id n) sense.asc) ≡ true)
+      × (has_too_many s rows n c ≡ true)
+  pub ran : (n : ℕ) (sense : Sense) → outcome_of s (story s rows) n ≡ Some (ended_check (Some sense))
+      → (sense.key == ABORTED_COMMAND) ≡ false → RanSo s (trace_history s rows) n sense
 
 -- ---- what a command that is not valid answers
 
@@ -176,21 +196,28 @@ fault_sense (Err faults.Length) = invalid_field
 fault_sense (Err faults.Field) = invalid_field
 fault_sense (Ok command) = block_out_of_range
 
--- The sense of what is wrong with it first: its unit is absent, or its operation code or a field is none, or it goes past the last block.
+-- The sense of what is wrong with it first: its unit is absent, or its operation code or a field is none, or it goes
+-- past the last block.
 abbrev pub checked_sense : ScenarioValue → CmdDef → Sense
-checked_sense s c = if not (is_some (unit_of s c.target c.unit)) && needs_unit c.cdb then unit_not_supported else fault_sense (command_of c.cdb)
+checked_sense s c =
+    if not (is_some (unit_of s c.target c.unit)) && needs_unit c.cdb then unit_not_supported
+    else fault_sense (command_of c.cdb)
 
--- Of a trace that has ended, in a scenario without resets and aborts: a command whose target is absent ends unanswered; and where queues have
--- room, one that is not valid ends with CHECK CONDITION and this sense, if no more faults struck it than it bears.
+-- Of a trace that has ended, in a scenario without resets and aborts: a command whose target is absent ends unanswered;
+-- and where queues have room, one that is not valid ends with CHECK CONDITION and this sense, if no more faults struck
+-- it than it bears.
 pub record AreChecked (s : ScenarioValue) (rows : List Row) : Type 0 where
-  pub unheard : (n : ℕ) (c : CmdDef) → command_at s.commands n ≡ Some c → has_target s c.target ≡ false → outcome_of s (story s rows) n ≡ Some ended_unanswered
-  pub checked : (n : ℕ) (c : CmdDef) → is_roomy s ≡ true → command_at s.commands n ≡ Some c → has_target s c.target ≡ true → is_valid s c ≡ false → nat_le (command_faults s rows n) (fault_limit s c) ≡ true
+  pub unheard : (n : ℕ) (c : CmdDef) → command_at s.commands n ≡ Some c → has_target s c.target ≡ false
+      → outcome_of s (story s rows) n ≡ Some ended_unanswered
+  pub checked : (n : ℕ) (c : CmdDef) → is_roomy s ≡ true → command_at s.commands n ≡ Some c
+      → has_target s c.target ≡ true → is_valid s c ≡ false → nat_le (command_faults s rows n) (fault_limit s c) ≡ true
       → outcome_of s (story s rows) n ≡ Some (ended_check (Some (checked_sense s c)))
 
 -- ---- how a command ends that ran with CHECK CONDITION
 
 -- Of a trace: a command that ran so and ended with a status ends with CHECK CONDITION and this sense, or without sense.
 abbrev pub AreAnswered : ScenarioValue → List Row → Type 0
-AreAnswered s rows =
-    (n status : ℕ) (reply : Reply) → HasRun s (trace_history s rows) (command_id n) reply → reply.status ≡ CHECK_CONDITION → ending_of (story s rows).ended n ≡ Some (by_status status)
-    → (outcome_of s (story s rows) n ≡ Some (ended_check None)) ⊎ (outcome_of s (story s rows) n ≡ Some (ended_check (Some reply.sense)))
+AreAnswered s rows = (n status : ℕ) (reply : Reply) → HasRun s (trace_history s rows) (command_id n) reply
+    → reply.status ≡ CHECK_CONDITION → ending_of (story s rows).ended n ≡ Some (by_status status)
+    → (outcome_of s (story s rows) n ≡ Some (ended_check None))
+    ⊎ (outcome_of s (story s rows) n ≡ Some (ended_check (Some reply.sense)))

@@ -1,5 +1,7 @@
--- How each command ended, exactly: by the first row that ends it, and by what the plain disk array answered (6.1.3.1, 7.3, 7.6, 7.8, 8.2.14).
-use Rattle.std.specs.Prelude.{ℕ, ◌≡◌, ◌+◌, ◌==◌, ◌&&◌, ◌||◌, Bool, true, false, not, nat_lt, is_none, List, [], ◌∷◌, Option, Some, None, if◌then◌else◌}
+-- How each command ended, exactly: by the first row that ends it, and by what the plain disk array answered (6.1.3.1,
+-- 7.3, 7.6, 7.8, 8.2.14).
+use Rattle.std.specs.Prelude.{ℕ, ◌≡◌, ◌+◌, ◌==◌, ◌&&◌, ◌||◌, Bool, true, false, not, nat_lt, is_none, List, [], ◌∷◌}
+use Rattle.std.specs.Prelude.{Option, Some, None, if◌then◌else◌}
 use Rattle.bus_due.specs.bus_base.specs.declared.ProcId.{ProcId}
 use Rattle.bus_due.specs.bus_base.specs.declared.Event.{Event}
 use Rattle.bus_due.specs.bus_base.specs.declared.Event.TheVariants as events
@@ -17,8 +19,11 @@ use Rattle.bus_due.specs.disk_array.specs.Processes.{command_at, process_of, sam
 use Rattle.bus_due.specs.bus_dialogue.specs.PhaseBytes.{one_if}
 use Rattle.bus_due.specs.bus_story.specs.BusState.{RowReading, row_reading}
 use Rattle.bus_due.specs.bus_story.specs.Items.{Item, command_id, command_item, has_item, sense_id}
-use Rattle.bus_due.specs.bus_story.specs.Outcomes.{Outcome, ended_aborted, ended_check, ended_full, ended_good, ended_lost, ended_reset, ended_unanswered, has_end, outcome_of, reply_bytes}
-use Rattle.bus_due.specs.bus_story.specs.Story.{Ending, Story, by_abort, by_loss, by_reset, by_status, is_aborted, unanswered}
+use Rattle.bus_due.specs.bus_story.specs.Outcomes.{Outcome, ended_aborted, ended_check, ended_full, ended_good}
+use Rattle.bus_due.specs.bus_story.specs.Outcomes.{ended_lost, ended_reset, ended_unanswered, has_end, outcome_of}
+use Rattle.bus_due.specs.bus_story.specs.Outcomes.{reply_bytes}
+use Rattle.bus_due.specs.bus_story.specs.Story.{Ending, Story, by_abort, by_loss, by_reset, by_status, is_aborted}
+use Rattle.bus_due.specs.bus_story.specs.Story.{unanswered}
 use Rattle.bus_due.specs.bus_story.specs.TraceHistory.{aim_of, retries_of, row_events, story, trace_history}
 use Rattle.progress_laws.specs.bus_books.specs.FullQueues.{finds_full_queue_if, has_event, was_refused}
 use Rattle.initiator.specs.Causes.{has_status, is_bus_reset, is_sense_abort}
@@ -38,13 +43,14 @@ is_unheard_call aims item (Some k) = is_unheard k.calling && is_for_item (aim_of
 
 -- With this row SEL becomes false, and neither a connection nor RST ended the call.
 abbrev pub is_end_in_vain : Story → RowReading → Item → Bool
-is_end_in_vain b d item =
-    (not d.change.after.rst && (is_none b.bus_state.connection && is_none d.next)) && (falls d.change.before.sel d.change.after.sel && is_unheard_call b.aims item b.bus_state.call)
+is_end_in_vain b d item = (not d.change.after.rst && (is_none b.bus_state.connection && is_none d.next))
+    && (falls d.change.before.sel d.change.after.sel && is_unheard_call b.aims item b.bus_state.call)
 
 -- How often an initiator called for this item, and nobody answered.
 abbrev pub calls_in_vain : ScenarioValue → List Row → Item → ℕ
 calls_in_vain s [] item = 0
-calls_in_vain s (row ∷ rows) item = calls_in_vain s rows item + one_if (is_end_in_vain (story s rows) (row_reading (story s rows).bus_state row) item)
+calls_in_vain s (row ∷ rows) item =
+    calls_in_vain s rows item + one_if (is_end_in_vain (story s rows) (row_reading (story s rows).bus_state row) item)
 
 -- More often than its initiator tries again.
 abbrev pub is_tried_out : ScenarioValue → List Row → ℕ → CmdDef → Bool
@@ -52,11 +58,13 @@ is_tried_out s rows n c = nat_lt (retries_of s.hosts c.host) (calls_in_vain s ro
 
 -- ---- the first row that ends a command
 
--- The event ends the command, the n-th: it ends with its status, or is lost; or it was sent, and a reset, or an abort that concerns it, comes.
+-- The event ends the command, the n-th: it ends with its status, or is lost; or it was sent, and a reset, or an abort
+-- that concerns it, comes.
 abbrev pub event_ending : Bool → ℕ → CmdDef → Event → Option Ending
 event_ending sent n c (events.End id status) = if same_id id (command_id n) then Some (by_status status) else None
 event_ending sent n c (events.Lost id) = if same_id id (command_id n) then Some by_loss else None
-event_ending sent n c (events.Aborted host target unit what) = if sent && is_aborted host target unit what c then Some by_abort else None
+event_ending sent n c (events.Aborted host target unit what) =
+    if sent && is_aborted host target unit what c then Some by_abort else None
 event_ending sent n c (events.Reset dev) = if sent then Some by_reset else None
 event_ending sent n c _ = None
 
@@ -75,8 +83,8 @@ was_sent s rows n = has_item (story s rows).sent.sent (command_item n)
 
 -- The row after these rows ends it: its initiator has called for it too often, or the row shows an event that ends it.
 abbrev pub row_ending : ScenarioValue → List Row → Row → ℕ → CmdDef → Option Ending
-row_ending s rows row n c =
-    first_of (if is_tried_out s (row ∷ rows) n c then Some unanswered else None) (events_ending (was_sent s (row ∷ rows) n) n c (row_events s (story s rows) row))
+row_ending s rows row n c = first_of (if is_tried_out s (row ∷ rows) n c then Some unanswered else None)
+    (events_ending (was_sent s (row ∷ rows) n) n c (row_events s (story s rows) row))
 
 abbrev pub first_ending : ScenarioValue → List Row → ℕ → CmdDef → Option Ending
 first_ending s [] n c = None
@@ -88,11 +96,13 @@ first_ending s (row ∷ rows) n c = first_of (first_ending s rows n c) (row_endi
 abbrev pub is_sense_stop : CmdDef → Event → Bool
 is_sense_stop c e = is_bus_reset e || is_sense_abort c e
 
--- In this history, the newest event first, one came after the command had ended with CHECK CONDITION, and before its automatic REQUEST SENSE ended.
+-- In this history, the newest event first, one came after the command had ended with CHECK CONDITION, and before its
+-- automatic REQUEST SENSE ended.
 abbrev pub was_sense_stopped : List Event → ℕ → CmdDef → Bool
 was_sense_stopped [] n c = false
 was_sense_stopped (e ∷ history) n c =
-    (is_sense_stop c e && (has_status history (command_id n) CHECK_CONDITION && not (has_end history (sense_id n)))) || was_sense_stopped history n c
+    (is_sense_stop c e && (has_status history (command_id n) CHECK_CONDITION && not (has_end history (sense_id n))))
+    || was_sense_stopped history n c
 
 -- ---- the outcome that follows
 
@@ -102,7 +112,8 @@ sense_if (Some reply) = Some reply.sense
 
 -- The sense of its own reply, unless its automatic REQUEST SENSE was stopped.
 abbrev pub own_sense_of : ScenarioValue → List Event → ℕ → CmdDef → Option Sense
-own_sense_of s history n c = if was_sense_stopped history n c then None else sense_if (reply_of (array_after s history) (command_id n))
+own_sense_of s history n c =
+    if was_sense_stopped history n c then None else sense_if (reply_of (array_after s history) (command_id n))
 
 abbrev pub status_outcome : ScenarioValue → List Event → ℕ → CmdDef → ℕ → Outcome
 status_outcome s history n c status =
@@ -147,24 +158,35 @@ pub record HasReplyOf (s : ScenarioValue) (history : List Event) (id : ProcId) (
   pub reply_is : reply_of (array_after s history) id ≡ Some reply
   pub status_is : reply.status ≡ status
 
--- Of a trace that has ended: how each command ended, exactly. Its outcome is that of the first row that ends it, with the bytes, or the sense, of its
--- own reply (`outcome`); it ends unanswered exactly where its initiator called for it in vain more often than it tries again (`unanswered`), and with
--- QUEUE FULL exactly where it was refused at a full queue and its first end has that status (`full`). The status with which a command ended first is
--- that of its reply (`status`). A process has a reply exactly where it ran, failed or was refused, and that is the reply that it got then: by its
--- execution on the plain disk array, by the code of its failure, or QUEUE FULL (`given`, `ran`, `failed`, `refused`).
+-- Of a trace that has ended: how each command ended, exactly. Its outcome is that of the first row that ends it, with
+-- the bytes, or the sense, of its own reply (`outcome`); it ends unanswered exactly where its initiator called for it
+-- in vain more often than it tries again (`unanswered`), and with QUEUE FULL exactly where it was refused at a full
+-- queue and its first end has that status (`full`). The status with which a command ended first is that of its reply
+-- (`status`). A process has a reply exactly where it ran, failed or was refused, and that is the reply that it got
+-- then: by its execution on the plain disk array, by the code of its failure, or QUEUE FULL (`given`, `ran`, `failed`,
+-- `refused`).
 pub record AreExact (s : ScenarioValue) (rows : List Row) : Type 0 where
-  pub outcome : (n : ℕ) (c : CmdDef) → command_at s.commands n ≡ Some c → outcome_of s (story s rows) n ≡ first_outcome s rows n c
-  pub unanswered : (n : ℕ) (c : CmdDef) → command_at s.commands n ≡ Some c → is_unanswered (outcome_of s (story s rows) n) ≡ is_tried_out s rows n c
-  pub full : (n : ℕ) (c : CmdDef) → command_at s.commands n ≡ Some c → is_full (outcome_of s (story s rows) n) ≡ (was_refused s (trace_history s rows) (command_id n) && is_by_status QUEUE_FULL (first_ending s rows n c))
-  pub status : (n status : ℕ) (c : CmdDef) → command_at s.commands n ≡ Some c → first_ending s rows n c ≡ Some (by_status status) → HasReplyOf s (trace_history s rows) (command_id n) status
-  pub given : (id : ProcId) (reply : Reply) → reply_of (array_after s (trace_history s rows)) id ≡ Some reply → IsGiven s (trace_history s rows) id reply
-  pub ran : (id : ProcId) (reply : Reply) → HasRun s (trace_history s rows) id reply → reply_of (array_after s (trace_history s rows)) id ≡ Some reply
-  pub failed : (id : ProcId) (code : ℕ) → has_event (trace_history s rows) (events.Fail id code) ≡ true → reply_of (array_after s (trace_history s rows)) id ≡ Some (aborted_reply code)
-  pub refused : (id : ProcId) → has_event (trace_history s rows) (events.Refuse id) ≡ true → reply_of (array_after s (trace_history s rows)) id ≡ Some queue_full
+  pub outcome : (n : ℕ) (c : CmdDef) → command_at s.commands n ≡ Some c
+      → outcome_of s (story s rows) n ≡ first_outcome s rows n c
+  pub unanswered : (n : ℕ) (c : CmdDef) → command_at s.commands n ≡ Some c
+      → is_unanswered (outcome_of s (story s rows) n) ≡ is_tried_out s rows n c
+  pub full : (n : ℕ) (c : CmdDef) → command_at s.commands n ≡ Some c → is_full (outcome_of s (story s rows) n)
+      ≡ (was_refused s (trace_history s rows) (command_id n) && is_by_status QUEUE_FULL (first_ending s rows n c))
+  pub status : (n status : ℕ) (c : CmdDef) → command_at s.commands n ≡ Some c
+      → first_ending s rows n c ≡ Some (by_status status) → HasReplyOf s (trace_history s rows) (command_id n) status
+  pub given : (id : ProcId) (reply : Reply) → reply_of (array_after s (trace_history s rows)) id ≡ Some reply
+      → IsGiven s (trace_history s rows) id reply
+  pub ran : (id : ProcId) (reply : Reply) → HasRun s (trace_history s rows) id reply
+      → reply_of (array_after s (trace_history s rows)) id ≡ Some reply
+  pub failed : (id : ProcId) (code : ℕ) → has_event (trace_history s rows) (events.Fail id code) ≡ true
+      → reply_of (array_after s (trace_history s rows)) id ≡ Some (aborted_reply code)
+  pub refused : (id : ProcId) → has_event (trace_history s rows) (events.Refuse id) ≡ true
+      → reply_of (array_after s (trace_history s rows)) id ≡ Some queue_full
 
 -- ---- which commands are refused
 
--- Of a history, the newest event first: each command that arrives is refused exactly where it finds the queue of its unit full.
+-- Of a history, the newest event first: each command that arrives is refused exactly where it finds the queue of its
+-- unit full.
 abbrev pub arrives_by_room : ScenarioValue → List Event → Event → Bool
 arrives_by_room s before (events.Accept id) = not (finds_full_queue_if (array_after s before) (process_of s id))
 arrives_by_room s before (events.Refuse id) = finds_full_queue_if (array_after s before) (process_of s id)

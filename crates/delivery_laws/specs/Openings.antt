@@ -1,4 +1,5 @@
--- What an initiator says first in a connection that it began, and that requests for synchronous transfer are answered (6.6.7, 6.6.17, 6.6.21).
+-- What an initiator says first in a connection that it began, and that requests for synchronous transfer are answered
+-- (6.6.7, 6.6.17, 6.6.21).
 use Rattle.std.specs.Prelude.{ℕ, ◌≡◌, ◌++◌, true, false, List, [], ◌∷◌, Option, Some, None}
 use Rattle.bus_due.specs.bus_trace.specs.declared.Row.{Row}
 use Rattle.bus_due.specs.bus_trace.specs.declared.connection.Connection.{Connection}
@@ -22,8 +23,9 @@ use Rattle.bus_due.specs.RunSteps.{opening_of, run_state}
 use Rattle.progress_laws.specs.bus_books.specs.Listening.{nothing_understood, understanding, understood}
 use Rattle.delivery_laws.specs.Recoveries.{IsLeaving, phase_after}
 
--- Of the connection that stands after these rows, by what stood as it began: IDENTIFY, the tag of the command, and an offer where this is the first
--- connection in which its ends may negotiate; or IDENTIFY and the message of an abort (`opening_of`).
+-- Of the connection that stands after these rows, by what stood as it began: IDENTIFY, the tag of the command, and an
+-- offer where this is the first connection in which its ends may negotiate; or IDENTIFY and the message of an abort
+-- (`opening_of`).
 abbrev pub opening_with : ScenarioValue → List Row → Option Connection → Option Connection → List ℕ → List ℕ
 opening_with s rows None (Some n) was = opening_of s (run_state s rows) n (aim_of (story s rows).aims n.initiator)
 opening_with s rows (Some m) (Some n) was = was
@@ -35,23 +37,29 @@ opening_since s (row ∷ rows) = opening_with s rows (connection rows) (connecti
 
 -- Of a trace: as the first phase after a selection, MESSAGE OUT, is left, its target has understood just that.
 abbrev pub AreOpenings : ScenarioValue → List Row → Type 0
-AreOpenings s rows =
-    (later before : List Row) (row : Row) (n : Connection) → rows ≡ later ++ row ∷ before → IsLeaving before row n → changes_phase (change_of before row) ≡ true → n.reselected ≡ false → is_message_out (bus before) ≡ true
-    → (run_state s before).exchange.plan.cause ≡ causes.Selected
-    → understanding (run_state s before).exchange.plan (run_state s before).story.bus_state.dialogue ≡ understood nothing_understood (opening_since s before)
+AreOpenings s rows = (later before : List Row) (row : Row) (n : Connection) → rows ≡ later ++ row ∷ before
+    → IsLeaving before row n → changes_phase (change_of before row) ≡ true → n.reselected ≡ false
+    → is_message_out (bus before) ≡ true → (run_state s before).exchange.plan.cause ≡ causes.Selected
+    → understanding (run_state s before).exchange.plan (run_state s before).story.bus_state.dialogue
+    ≡ understood nothing_understood (opening_since s before)
 
--- Of a trace: while COMMAND, data or STATUS stands no synchronous data transfer request is open, of either end: it was answered, or rejected, before.
+-- Of a trace: while COMMAND, data or STATUS stands no synchronous data transfer request is open, of either end: it was
+-- answered, or rejected, before.
 abbrev pub AreAnsweredOffers : List Row → Type 0
-AreAnsweredOffers rows =
-    (later before : List Row) (n : Connection) → rows ≡ later ++ before → connection before ≡ Some n → (bus before).rst ≡ false → begun before ≡ true → (bus before).msg ≡ false → (dialogue before).heard.now.offer ≡ None
+AreAnsweredOffers rows = (later before : List Row) (n : Connection) → rows ≡ later ++ before
+    → connection before ≡ Some n → (bus before).rst ≡ false → begun before ≡ true → (bus before).msg ≡ false
+    → (dialogue before).heard.now.offer ≡ None
 
 -- What the target of the connection has heard in it, and plans to say, after these rows.
 abbrev pub plan_at : ScenarioValue → List Row → Plan
 plan_at s rows = (run_state s rows).exchange.plan
 
--- Of a trace: as an opening with an offer is left MESSAGE IN follows, for which the target plans just its answer, or MESSAGE REJECT where the offset has no limit.
+-- Of a trace: as an opening with an offer is left MESSAGE IN follows, for which the target plans just its answer, or
+-- MESSAGE REJECT where the offset has no limit.
 abbrev pub AreOfferReplies : ScenarioValue → List Row → Type 0
 AreOfferReplies s rows =
-    (later before : List Row) (row : Row) (n : Connection) (offer : Agreement) → rows ≡ later ++ row ∷ before → IsLeaving before row n → phase_of (bus before) ≡ phases.MessageOut → (plan_at s before).cause ≡ causes.Selected
+    (later before : List Row) (row : Row) (n : Connection) (offer : Agreement) → rows ≡ later ++ row ∷ before
+    → IsLeaving before row n → phase_of (bus before) ≡ phases.MessageOut → (plan_at s before).cause ≡ causes.Selected
     → (plan_at s before).said.aborts ≡ None → (plan_at s before).said.offer ≡ Some offer
-    → (phase_after before row ≡ Some phases.MessageIn) × ((plan_at s (row ∷ before)).messages ≡ one_message (reply_to (target_def_of s n.target) offer))
+    → (phase_after before row ≡ Some phases.MessageIn)
+    × ((plan_at s (row ∷ before)).messages ≡ one_message (reply_to (target_def_of s n.target) offer))

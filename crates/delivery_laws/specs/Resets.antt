@@ -1,5 +1,6 @@
 -- The reset lines of a scenario and the rows that raise RST (6.2.2).
-use Rattle.std.specs.Prelude.{ℕ, ◌≡◌, ◌+◌, ◌==◌, Bool, true, false, not, ◌&&◌, ◌||◌, List, [], ◌∷◌, Option, Some, None, nat_le, nat_lt}
+use Rattle.std.specs.Prelude.{ℕ, ◌≡◌, ◌+◌, ◌==◌, Bool, true, false, not, ◌&&◌, ◌||◌, List, [], ◌∷◌, Option, Some, None}
+use Rattle.std.specs.Prelude.{nat_le, nat_lt}
 use Rattle.std.specs.List.{list_all, list_any}
 use Rattle.bus_due.specs.bus_trace.specs.declared.Row.{Row}
 use Rattle.bus_due.specs.bus_trace.specs.declared.delays.TheConstants.{RESET_HOLD_TIME}
@@ -28,13 +29,16 @@ began_reset rows dev = (own_of rows dev).rst
 abbrev pub is_reset_row : List Row → Row → ℕ → ℕ → Bool
 is_reset_row rows row dev time = row.dev == dev && (row.time == time && begins_reset rows row)
 
--- The line falls while its device drives RST, or as it releases it: with this row it releases RST, at this time or later, and it began before it.
+-- The line falls while its device drives RST, or as it releases it: with this row it releases RST, at this time or
+-- later, and it began before it.
 abbrev pub is_reset_over : List Row → Row → ℕ → ℕ → Bool
-is_reset_over rows row dev time = row.dev == dev && (ends_reset rows row && (nat_le time row.time && nat_lt (began_reset rows dev) time))
+is_reset_over rows row dev time =
+    row.dev == dev && (ends_reset rows row && (nat_le time row.time && nat_lt (began_reset rows dev) time))
 
 abbrev pub has_reset : List Row → ℕ → ℕ → Bool
 has_reset [] dev time = false
-has_reset (row ∷ rows) dev time = (is_reset_row rows row dev time || is_reset_over rows row dev time) || has_reset rows dev time
+has_reset (row ∷ rows) dev time =
+    (is_reset_row rows row dev time || is_reset_over rows row dev time) || has_reset rows dev time
 
 -- ---- all rows
 
@@ -44,23 +48,27 @@ is_line_of dev time r = r.dev == dev && r.at == time
 -- A row with which its device begins to drive RST is that of a reset line.
 abbrev pub are_lines : ScenarioValue → List Row → Bool
 are_lines s [] = true
-are_lines s (row ∷ rows) = (not (begins_reset rows row) || list_any (λ (r : ResetDef). is_line_of row.dev row.time r) s.resets) && are_lines s rows
+are_lines s (row ∷ rows) =
+    (not (begins_reset rows row) || list_any (λ (r : ResetDef). is_line_of row.dev row.time r) s.resets)
+    && are_lines s rows
 
 abbrev pub is_release : List Row → Row → Option ℕ → Bool
 is_release rows row None = false
-is_release rows row (Some latency) = ends_reset rows row && row.time == began_reset rows row.dev + RESET_HOLD_TIME + latency
+is_release rows row (Some latency) =
+    ends_reset rows row && row.time == began_reset rows row.dev + RESET_HOLD_TIME + latency
 
 -- While a device drives RST its next row releases it, a reset hold time and its latency after it began.
 abbrev pub are_releases : ScenarioValue → List Row → Bool
 are_releases s [] = true
-are_releases s (row ∷ rows) = (not (drives rows row.dev).rst || is_release rows row (latency_of s row.dev)) && are_releases s rows
+are_releases s (row ∷ rows) =
+    (not (drives rows row.dev).rst || is_release rows row (latency_of s row.dev)) && are_releases s rows
 
 -- Of a trace that has ended: the reset line has its row, or falls while its device drives RST, or as it releases it.
 abbrev pub has_line : List Row → ResetDef → Bool
 has_line rows r = has_reset rows r.dev r.at
 
--- Of a trace that has ended: RST begins by the reset lines alone, each device that drives it releases it in time, and each reset line had its row
--- or fell into the RST of its own device.
+-- Of a trace that has ended: RST begins by the reset lines alone, each device that drives it releases it in time, and
+-- each reset line had its row or fell into the RST of its own device.
 pub record AreResets (s : ScenarioValue) (rows : List Row) : Type 0 where
   pub begins : are_lines s rows ≡ true
   pub ends : are_releases s rows ≡ true

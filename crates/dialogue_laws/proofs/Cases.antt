@@ -8,7 +8,9 @@ use lib.Count.{ones}
 -- ---- abort lines
 
 -- A connection began for ABORT; its target is not there for CLEAR QUEUE.
-abort_sent : has_item (run_state own_processes_aborted_due (onto own_processes_aborted_due_rows [])).story.sent.sent (abort 1) ≡ true
+abort_sent :
+    has_item (run_state own_processes_aborted_due (onto own_processes_aborted_due_rows [])).story.sent.sent (abort 1)
+    ≡ true
 unfolding need_of sent_of ones union_below line_of form_out form_in
 abort_sent = refl
 

@@ -1,5 +1,5 @@
--- The names of other crates, and of this crate's definitions, that its proofs speak of, each by its home.
--- A proof takes them by `use proofs.Names.{..}`; tools/checks/imports.py brings in those that a proof imports by their home.
+-- The names of other crates, and of this crate's definitions, that its proofs speak of, each by its home. A proof takes
+-- them by `use proofs.Names.{..}`; tools/checks/imports.py brings in those that a proof imports by their home.
 use Rattle.std.proofs as std_proofs
 pub use std_proofs.Common.{Bool, List, None, Option, Some, [], ap, arith, false, inl, inr, length, not, refl, subst}
 pub use std_proofs.Common.{suc, sym, true, zero, ℕ, ◌&&◌, ◌++◌, ◌+◌, ◌<◌, ◌||◌, ◌∙◌, ◌∷◌, ◌≡◌, ◌≤◌, ◌⊎◌}

@@ -12,7 +12,8 @@ Test = ScenarioValue → RunState → Connection → Process → Bool
 -- ---- rows
 
 abbrev leaves : RunState → RowReading → Bool
-leaves k d = k.exchange.begun && not (bus_of k).rst && not d.change.after.rst && (changes_phase d.change || not (is_some d.next))
+leaves k d =
+    k.exchange.begun && not (bus_of k).rst && not d.change.after.rst && (changes_phase d.change || not (is_some d.next))
 
 abbrev holds_of : Test → ScenarioValue → RunState → Option Connection → Option Process → Bool
 holds_of test s k None p = false
@@ -21,23 +22,27 @@ holds_of test s k (Some n) (Some p) = test s k n p
 
 abbrev pub turns_from : Test → ScenarioValue → RunState → List Row → ℕ
 turns_from test s k [] = 0
-turns_from test s k (row ∷ rows) =
-    one_if (leaves k (row_reading k.story.bus_state row) && holds_of test s k k.story.bus_state.connection (process_served s k))
+turns_from test s k (row ∷ rows) = one_if (leaves k (row_reading k.story.bus_state row)
+    && holds_of test s k k.story.bus_state.connection (process_served s k))
     + turns_from test s (run_state_after s k row) rows
 
 -- Of the phases in which a fault row stands alone.
 abbrev pub struck_turns_from : Test → ScenarioValue → RunState → Bool → List Row → ℕ
 struck_turns_from test s k struck [] = 0
-struck_turns_from test s k struck (row ∷ rows) =
-    one_if (struck && leaves k (row_reading k.story.bus_state row) && holds_of test s k k.story.bus_state.connection (process_served s k))
-    + struck_turns_from test s (run_state_after s k row) (is_struck_after k row (row_reading k.story.bus_state row) struck) rows
+struck_turns_from test s k struck (row ∷ rows) = one_if (struck && leaves k (row_reading k.story.bus_state row)
+    && holds_of test s k k.story.bus_state.connection (process_served s k))
+    + struck_turns_from test s (run_state_after s k row)
+    (is_struck_after k row (row_reading k.story.bus_state row) struck) rows
 
 -- Of MESSAGE OUT after such a phase to the initiator alone.
 abbrev pub refused_turns_from : Test → ScenarioValue → RunState → (struck refusing : Bool) → List Row → ℕ
 refused_turns_from test s k struck refusing [] = 0
 refused_turns_from test s k struck refusing (row ∷ rows) =
-    one_if (refusing && leaves k (row_reading k.story.bus_state row) && holds_of test s k k.story.bus_state.connection (process_served s k))
-    + refused_turns_from test s (run_state_after s k row) (is_struck_after k row (row_reading k.story.bus_state row) struck) (is_refusal_after k (row_reading k.story.bus_state row) struck refusing) rows
+    one_if (refusing && leaves k (row_reading k.story.bus_state row)
+    && holds_of test s k k.story.bus_state.connection (process_served s k))
+    + refused_turns_from test s (run_state_after s k row)
+    (is_struck_after k row (row_reading k.story.bus_state row) struck)
+    (is_refusal_after k (row_reading k.story.bus_state row) struck refusing) rows
 
 -- ---- tests
 
@@ -70,15 +75,17 @@ is_cause _ _ = false
 -- The initiator complains.
 abbrev pub complains_of : Cause → Bool → Test
 complains_of cause spent s k n p =
-    is_in Phase.MessageOut k && is_cause cause k.exchange.plan.cause && is_none k.exchange.plan.said.offer && not (is_naming k.exchange.plan.messages.first)
-    && same spent (is_spent s k n p)
+    is_in Phase.MessageOut k && is_cause cause k.exchange.plan.cause && is_none k.exchange.plan.said.offer
+    && not (is_naming k.exchange.plan.messages.first) && same spent (is_spent s k n p)
 
 abbrev pub complains_of_names : Test
-complains_of_names s k n p = is_in Phase.MessageOut k && is_cause Cause.InMessage k.exchange.plan.cause && is_none k.exchange.plan.said.offer && is_naming k.exchange.plan.messages.first
+complains_of_names s k n p = is_in Phase.MessageOut k && is_cause Cause.InMessage k.exchange.plan.cause
+    && is_none k.exchange.plan.said.offer && is_naming k.exchange.plan.messages.first
 
 abbrev pub run_done : Bool → Test
 run_done more s k n p =
-    ((is_in Phase.DataIn k && not (bus_of k).atn) || (is_in Phase.DataOut k && not k.exchange.plan.struck)) && same more (nat_lt (runs_of k p + 1) (all_runs s k n p))
+    ((is_in Phase.DataIn k && not (bus_of k).atn) || (is_in Phase.DataOut k && not k.exchange.plan.struck))
+    && same more (nat_lt (runs_of k p + 1) (all_runs s k n p))
 
 abbrev is_arrival : Arrival → Arrival → Bool
 is_arrival Arrival.Refused Arrival.Refused = true
@@ -88,7 +95,8 @@ is_arrival Arrival.AtOnce Arrival.AtOnce = true
 is_arrival _ _ = false
 
 abbrev pub arrives_as : Arrival → Bool → Test
-arrives_as a more s k n p = is_in Phase.Command k && not k.exchange.plan.struck && is_arrival a (arrival_of s k (policy_at s n)) && same more (has_data_left s k n p)
+arrives_as a more s k n p = is_in Phase.Command k && not k.exchange.plan.struck
+    && is_arrival a (arrival_of s k (policy_at s n)) && same more (has_data_left s k n p)
 
 abbrev is_next : Next → Next → Bool
 is_next Next.Command Next.Command = true
@@ -98,7 +106,8 @@ is_next Next.FreeBus Next.FreeBus = true
 is_next _ _ = false
 
 abbrev pub said : Next → Bool → Test
-said next more s k n p = is_in Phase.MessageIn k && not (bus_of k).atn && is_next next k.exchange.plan.next && same more (has_data_left s k n p)
+said next more s k n p = is_in Phase.MessageIn k && not (bus_of k).atn && is_next next k.exchange.plan.next
+    && same more (has_data_left s k n p)
 
 abbrev pub said_out : Test
 said_out s k n p = is_in Phase.MessageOut k
@@ -111,4 +120,5 @@ status_given s k n p = is_in Phase.Status k
 
 -- Its last byte has crossed, or a byte is left.
 abbrev pub messages_given : Bool → Test
-messages_given more s k n p = is_in Phase.MessageIn k && same more (nat_lt k.handshakes.requests (length (bytes_of_messages k.exchange.plan.messages)))
+messages_given more s k n p = is_in Phase.MessageIn k
+    && same more (nat_lt k.handshakes.requests (length (bytes_of_messages k.exchange.plan.messages)))

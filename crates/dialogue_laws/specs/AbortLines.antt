@@ -9,11 +9,13 @@ use Rattle.bus_due.specs.bus_story.specs.Items.{Item, Sent, abort, count_item, h
 use Rattle.bus_due.specs.bus_story.specs.TraceHistory.{retries_of}
 use Rattle.bus_due.specs.RunSteps.{run_state}
 
--- A connection began for it, as its initiator had called for it in vain no more often than it calls again; or it was dropped with the
--- first calling in vain beyond that, and no connection began for it.
+-- A connection began for it, as its initiator had called for it in vain no more often than it calls again; or it was
+-- dropped with the first calling in vain beyond that, and no connection began for it.
 pub data AbortEnd (s : ScenarioValue) (b : Sent) (n : ℕ) (a : AbortDef) : Type 0 where
-  was_sent : has_item b.sent (abort n) ≡ true → has_item b.over (abort n) ≡ false → count_item b.tries (abort n) ≤ retries_of s.hosts a.host → AbortEnd s b n a
-  was_dropped : has_item b.sent (abort n) ≡ false → has_item b.over (abort n) ≡ true → count_item b.tries (abort n) ≡ retries_of s.hosts a.host + 1 → AbortEnd s b n a
+  was_sent : has_item b.sent (abort n) ≡ true → has_item b.over (abort n) ≡ false
+      → count_item b.tries (abort n) ≤ retries_of s.hosts a.host → AbortEnd s b n a
+  was_dropped : has_item b.sent (abort n) ≡ false → has_item b.over (abort n) ≡ true
+      → count_item b.tries (abort n) ≡ retries_of s.hosts a.host + 1 → AbortEnd s b n a
 
 -- It is still to be sent.
 pub record IsToSend (s : ScenarioValue) (b : Sent) (n : ℕ) (a : AbortDef) : Type 0 where
@@ -29,7 +31,8 @@ is_served_for (Some i) item = same_item i item
 
 -- RST cut it: a device began to drive RST while it stood.
 abbrev pub is_cut_by : ScenarioValue → List Row → Row → ℕ → Bool
-is_cut_by s rows row n = is_served_for (run_state s rows).served (abort n) && rises (bus rows).rst (bus (row ∷ rows)).rst
+is_cut_by s rows row n =
+    is_served_for (run_state s rows).served (abort n) && rises (bus rows).rst (bus (row ∷ rows)).rst
 
 abbrev pub is_cut : ScenarioValue → List Row → ℕ → Bool
 is_cut s [] n = false

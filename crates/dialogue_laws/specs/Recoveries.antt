@@ -1,4 +1,5 @@
--- How the target goes on as it leaves a phase in which parity was wrong: it recovers, or gives up the process (6.6.10, 6.6.13, 6.6.19).
+-- How the target goes on as it leaves a phase in which parity was wrong: it recovers, or gives up the process (6.6.10,
+-- 6.6.13, 6.6.19).
 use Rattle.std.specs.Prelude.{ℕ, ◌+◌, ◌≡◌, Bool, true, false, not, ◌&&◌, List, [], ◌∷◌, Option, Some, None, nat_lt}
 use Rattle.bus_due.specs.bus_base.specs.declared.Event.TheVariants as events
 use Rattle.bus_due.specs.bus_trace.specs.Changes.{change_of}
@@ -33,8 +34,8 @@ phase_if (Some n) lines = Some (phase_of lines)
 abbrev pub present_phase : List Row → Option Phase
 present_phase rows = phase_if (connection rows) (bus rows)
 
--- With this row the target of this connection leaves a phase that has begun, for another or for BUS FREE, while it serves this
--- process; RST is false.
+-- With this row the target of this connection leaves a phase that has begun, for another or for BUS FREE, while it
+-- serves this process; RST is false.
 pub record LeavesPhase (s : ScenarioValue) (rows : List Row) (row : Row) (n : Connection) (p : Process) : Type 0 where
   pub leaving_row : IsLeaving s rows row n
   pub served : process_served s (run_state s rows) ≡ Some p
@@ -58,13 +59,15 @@ recoveries_of k p = (progress_in k.progress p.id).recoveries
 
 -- One more would count, and as many were counted as the limit of the target.
 abbrev pub is_spent : ScenarioValue → RunState → Connection → Process → Bool
-is_spent s k n p = not (is_uncounted s k p) && not (nat_lt (recoveries_of k p) (recovery_limit (target_def_of s n.target)))
+is_spent s k n p =
+    not (is_uncounted s k p) && not (nat_lt (recoveries_of k p) (recovery_limit (target_def_of s n.target)))
 
 -- ---- with the row after these
 
--- MESSAGE IN follows, in which the target has these messages to say, and after which it means to go on so; nothing is told. One
--- recovery more is counted, if any.
-pub record Repeats (s : ScenarioValue) (rows : List Row) (row : Row) (p : Process) (m : Messages) (next : Next) (counts : Bool) : Type 0 where
+-- MESSAGE IN follows, in which the target has these messages to say, and after which it means to go on so; nothing is
+-- told. One recovery more is counted, if any.
+pub record Repeats (s : ScenarioValue) (rows : List Row) (row : Row) (p : Process) (m : Messages) (next : Next)
+    (counts : Bool) : Type 0 where
   pub phase : present_phase (row ∷ rows) ≡ Some phases.MessageIn
   pub messages : (run_state s (row ∷ rows)).exchange.plan.messages ≡ m
   pub follows : (run_state s (row ∷ rows)).exchange.plan.next ≡ next

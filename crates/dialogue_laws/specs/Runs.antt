@@ -40,10 +40,11 @@ policy_at s n = policy_of (target_def_of s n.target)
 
 -- What the target knows of it.
 abbrev pub task_at : ScenarioValue → RunState → Process → Task
-task_at s k p =
-    task_with (array_of s k) (progress_in k.progress p.id) p (carried_here k p.id) (reply_now (array_of s k) p) (reply_in (array_of s k).replies p.id)
+task_at s k p = task_with (array_of s k) (progress_in k.progress p.id) p (carried_here k p.id)
+    (reply_now (array_of s k) p) (reply_in (array_of s k).replies p.id)
 
--- In how many runs its data are moved: in one, but for blocks where the policy cuts them; in none where it moves no bytes.
+-- In how many runs its data are moved: in one, but for blocks where the policy cuts them; in none where it moves no
+-- bytes.
 abbrev pub all_runs : ScenarioValue → RunState → Connection → Process → ℕ
 all_runs s k n p = runs_in_all (policy_at s n) (task_at s k p)
 
@@ -54,7 +55,8 @@ runs_of k p = (progress_in k.progress p.id).runs
 -- ---- with the row after these
 
 -- The target says these messages, and goes to BUS FREE after them; and this is told.
-pub record Disconnects (s : ScenarioValue) (rows : List Row) (row : Row) (m : Messages) (shown : List Event) : Type 0 where
+pub record Disconnects (s : ScenarioValue) (rows : List Row) (row : Row) (m : Messages) (shown : List Event) : Type
+    0 where
   pub phase : present_phase (row ∷ rows) ≡ Some phases.MessageIn
   pub messages : (run_state s (row ∷ rows)).exchange.plan.messages ≡ m
   pub follows : (run_state s (row ∷ rows)).exchange.plan.next ≡ nexts.FreeBus
@@ -80,8 +82,8 @@ data_phase t = if t.writes then phases.DataOut else phases.DataIn
 -- ---- a command arrives: COMMAND is left, and no byte of it was struck
 
 abbrev pub Arrives : ScenarioValue → List Row → Connection → Arrival → Type 0
-Arrives s rows n a =
-    (phase_of (bus rows) ≡ phases.Command) × (is_struck_phase s rows ≡ false) × (arrival_of s (run_state s rows) (policy_at s n) ≡ a)
+Arrives s rows n a = (phase_of (bus rows) ≡ phases.Command) × (is_struck_phase s rows ≡ false)
+    × (arrival_of s (run_state s rows) (policy_at s n) ≡ a)
 
 -- It is neither refused nor queued.
 abbrev pub GoesOnAtOnce : ScenarioValue → List Row → Connection → Type 0

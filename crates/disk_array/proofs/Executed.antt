@@ -1,5 +1,6 @@
--- How a command comes out at the unit that it meets, in three ways: a check fails, an attention is reported, or a disk carries it out (7.3,
--- 7.9, 8.2.14, 9.2). Lemmas split this view, and not the tests of `execution`; a further kind of unit is a further way.
+-- How a command comes out at the unit that it meets, in three ways: a check fails, an attention is reported, or a disk
+-- carries it out (7.3, 7.9, 8.2.14, 9.2). Lemmas split this view, and not the tests of `execution`; a further kind of
+-- unit is a further way.
 use Rattle.std.proofs.Common.{ℕ, ◌≡◌, Bool, true, false, not, ◌&&◌, ◌∙◌, List, Option, Some, None, refl, sym, subst}
 use Rattle.std.specs.Prelude.{Result, Ok, Err, if◌then◌else◌}
 use Rattle.cdb_codec.specs.Cdb.{command_of}
@@ -7,7 +8,10 @@ use Rattle.cdb_codec.specs.declared.Sense.{Sense}
 use Rattle.cdb_codec.specs.declared.command.CdbFault.{CdbFault}
 use Rattle.cdb_codec.specs.declared.command.CdbFault.TheVariants as faults
 use Rattle.cdb_codec.specs.declared.command.Command.{Command}
-use Rattle.disk_array.specs.Execution.{CommandContext, Execution, execution, attention_execution, cdb_execution, command_execution, reply_execution, check_condition, heeds_attention, needs_unit, is_good_range, range_of, block_out_of_range, invalid_opcode, invalid_field, unit_not_supported}
+use Rattle.disk_array.specs.Execution.{CommandContext, Execution, execution, attention_execution, cdb_execution}
+use Rattle.disk_array.specs.Execution.{command_execution, reply_execution, check_condition, heeds_attention, needs_unit}
+use Rattle.disk_array.specs.Execution.{is_good_range, range_of, block_out_of_range, invalid_opcode, invalid_field}
+use Rattle.disk_array.specs.Execution.{unit_not_supported}
 
 pub none_some : {A B : Type 0} (x : A) → (let o : Option A = None in o) ≡ Some x → B
 none_some x e = absurd cc
@@ -26,7 +30,8 @@ sense_of_fault faults.Opcode = invalid_opcode
 sense_of_fault faults.Length = invalid_field
 sense_of_fault faults.Field = invalid_field
 
--- Its unit is there, if it needs one, and no attention is pending that it heeds: so its command descriptor block is looked at.
+-- Its unit is there, if it needs one, and no attention is pending that it heeds: so its command descriptor block is
+-- looked at.
 pub record Passes (m : CommandContext) (cdb : List ℕ) : Type 0 where
   pub there : (not m.present && needs_unit cdb) ≡ false
   pub calm : (sense : Sense) → m.attention ≡ Some sense → heeds_attention cdb ≡ false
@@ -56,9 +61,10 @@ executed m cdb = first (not m.present && needs_unit cdb) refl
     Is : (Option Sense → List ℕ → Execution) → Type 0
     Is f = Executed m cdb f
 
-    in_range : Passes m cdb → (c : Command) → command_of cdb ≡ Ok c → (q : Bool)
-        → is_good_range m.contents.count (range_of c) ≡ q
-        → Is (λ x sent. if q then command_execution (storing m x) c sent else reply_execution (storing m x) (check_condition block_out_of_range))
+    in_range : Passes m cdb → (c : Command) → command_of cdb ≡ Ok c
+        → (q : Bool) → is_good_range m.contents.count (range_of c) ≡ q
+        → Is (λ x sent. if q then command_execution (storing m x) c sent
+        else reply_execution (storing m x) (check_condition block_out_of_range))
     in_range p c e true g = at_disk c p e g (λ x sent. refl)
     in_range p c e false g = refused block_out_of_range (outside c p e g) (λ x sent. refl)
 
@@ -71,7 +77,8 @@ executed m cdb = first (not m.present && needs_unit cdb) refl
 
     attended : (not m.present && needs_unit cdb) ≡ false → (o : Option Sense) → m.attention ≡ o
         → Is (λ x sent. attention_execution (storing m x) o cdb sent)
-    attended there None e = by_block (record { there = there; calm = λ sense f. none_some sense (sym e ∙ f) }) (command_of cdb) refl
+    attended there None e =
+        by_block (record { there = there; calm = λ sense f. none_some sense (sym e ∙ f) }) (command_of cdb) refl
     attended there (Some a) e = go (heeds_attention cdb) refl
       where
         go : (q : Bool) → heeds_attention cdb ≡ q
@@ -80,7 +87,8 @@ executed m cdb = first (not m.present && needs_unit cdb) refl
         go false h = by_block (record { there = there; calm = λ sense f. h }) (command_of cdb) refl
 
     first : (q : Bool) → (not m.present && needs_unit cdb) ≡ q
-        → Is (λ x sent. if q then reply_execution (storing m x) (check_condition unit_not_supported) else attention_execution (storing m x) m.attention cdb sent)
+        → Is (λ x sent. if q then reply_execution (storing m x) (check_condition unit_not_supported)
+        else attention_execution (storing m x) m.attention cdb sent)
     first true e = refused unit_not_supported (absent e) (λ x sent. refl)
     first false e = attended e m.attention refl
 
@@ -105,7 +113,8 @@ of_all m cdb sent Is h = by (λ x given. execution (storing m x) cdb given) (exe
 -- The unit is absent, and the command needs it.
 pub absent_executed : (m : CommandContext) (cdb sent : List ℕ) → (not m.present && needs_unit cdb) ≡ true
     → execution m cdb sent ≡ reply_execution m (check_condition unit_not_supported)
-absent_executed m cdb sent e = λ i. if e i then reply_execution m (check_condition unit_not_supported) else attention_execution m m.attention cdb sent
+absent_executed m cdb sent e = λ i. if e i then reply_execution m (check_condition unit_not_supported)
+    else attention_execution m m.attention cdb sent
 
 -- An attention is pending that it heeds.
 pub reported_executed : (m : CommandContext) (cdb sent : List ℕ) (sense : Sense)
@@ -117,7 +126,8 @@ reported_executed m cdb sent sense e a h =
 
 passed : (m : CommandContext) (cdb sent : List ℕ) → Passes m cdb
     → execution m cdb sent ≡ cdb_execution m (command_of cdb) sent
-passed m cdb sent p = (λ i. if p.there i then reply_execution m (check_condition unit_not_supported) else attention_execution m m.attention cdb sent) ∙ past m.attention refl
+passed m cdb sent p = (λ i. if p.there i then reply_execution m (check_condition unit_not_supported)
+    else attention_execution m m.attention cdb sent) ∙ past m.attention refl
   where
     past : (o : Option Sense) → m.attention ≡ o
         → attention_execution m o cdb sent ≡ cdb_execution m (command_of cdb) sent

@@ -1,5 +1,7 @@
--- What laws use of an execution, each fact once, by the ways of `Executed` (7.3, 7.9, 8.2.14, 9.2). docs/array.md has who uses which.
-use Rattle.std.proofs.Common.{ℕ, ◌≡◌, ◌*◌, Bool, true, false, not, ◌&&◌, ◌==◌, ◌∙◌, ◌⊎◌, inl, inr, List, [], Option, Some, None, refl, sym, ap, subst, arith, length, take}
+-- What laws use of an execution, each fact once, by the ways of `Executed` (7.3, 7.9, 8.2.14, 9.2). docs/array.md has
+-- who uses which.
+use Rattle.std.proofs.Common.{ℕ, ◌≡◌, ◌*◌, Bool, true, false, not, ◌&&◌, ◌==◌, ◌∙◌, ◌⊎◌, inl, inr, List, [], Option}
+use Rattle.std.proofs.Common.{Some, None, refl, sym, ap, subst, arith, length, take}
 use Rattle.std.specs.Prelude.{Result, Ok, Err, min}
 use Rattle.cdb_codec.specs.Cdb.{command_of}
 use Rattle.cdb_codec.specs.Blocks.{blocks_moved}
@@ -15,11 +17,15 @@ use Rattle.cdb_codec.specs.declared.command.Command.TheVariants as commands
 use Rattle.cdb_codec.specs.declared.operation.TheConstants.{INQUIRY}
 use Rattle.scenario.specs.Needs.{is_write}
 use Rattle.disk_array.specs.Contents.{bytes_at, with_bytes}
-use Rattle.disk_array.specs.Execution.{CommandContext, Execution, execution, command_execution, reply_execution, good, heeds_attention, is_opcode, is_request_sense, is_good_range, range_of, returned_sense}
+use Rattle.disk_array.specs.Execution.{CommandContext, Execution, execution, command_execution, reply_execution, good}
+use Rattle.disk_array.specs.Execution.{heeds_attention, is_opcode, is_request_sense, is_good_range, range_of}
+use Rattle.disk_array.specs.Execution.{returned_sense}
 use Rattle.disk_array.specs.Order.{count_in}
 use Rattle.disk_array.specs.Processes.{sense_block}
 use Rattle.disk_array.proofs.OperationCodes.{heeds_none}
-use Rattle.disk_array.proofs.Executed.{Executed, refused, reported, at_disk, executed, of_all, storing, sense_of_fault, Passes, IsRefused, absent, faulty, outside, absent_executed, faulty_executed, outside_executed, carried_executed, none_some}
+use Rattle.disk_array.proofs.Executed.{Executed, refused, reported, at_disk, executed, of_all, storing, sense_of_fault}
+use Rattle.disk_array.proofs.Executed.{Passes, IsRefused, absent, faulty, outside, absent_executed, faulty_executed}
+use Rattle.disk_array.proofs.Executed.{outside_executed, carried_executed, none_some}
 use Rattle.disk_array.proofs.WholeBlocks.{HasSameExtent, extent_self, bytes_extent, AreWhole, bytes_whole}
 
 wrong : {A : Type 0} → false ≡ true → A
@@ -52,13 +58,15 @@ command_good m c sent = (done m c sent).good
 
 pub status_known : (m : CommandContext) (cdb sent : List ℕ)
     → ((execution m cdb sent).reply.status ≡ GOOD) ⊎ ((execution m cdb sent).reply.status ≡ CHECK_CONDITION)
-status_known m cdb sent = of_all m cdb sent (λ x. (x.reply.status ≡ GOOD) ⊎ (x.reply.status ≡ CHECK_CONDITION)) (record {
-  refused_is = λ sense k. inr refl;
-  reported_is = λ sense a. inr refl;
-  disk_is = λ c is g. inl (command_good m c sent);
-})
+status_known m cdb sent =
+    of_all m cdb sent (λ x. (x.reply.status ≡ GOOD) ⊎ (x.reply.status ≡ CHECK_CONDITION)) (record {
+      refused_is = λ sense k. inr refl;
+      reported_is = λ sense a. inr refl;
+      disk_is = λ c is g. inl (command_good m c sent);
+    })
 
--- ---- REQUEST SENSE without fault changes and reports nothing, ends GOOD, and gives the first bytes of the stored sense
+-- ---- REQUEST SENSE without fault changes and reports nothing, ends GOOD, and gives the first bytes of the stored
+-- sense
 
 pub record IsSenseBlock (cdb : List ℕ) : Type 0 where
   pub room : ℕ
@@ -75,8 +83,8 @@ none_needed : (x y : Bool) → (x && (y && false)) ≡ false
 none_needed true true = refl
 none_needed _ _ = refl
 
-pub sense_executed : (m : CommandContext) (cdb sent : List ℕ) (k : IsSenseBlock cdb)
-    → execution m cdb sent ≡ reply_execution m (good (take (min k.room SENSE_LEN) (sense_data (returned_sense m.present m.stored))))
+pub sense_executed : (m : CommandContext) (cdb sent : List ℕ) (k : IsSenseBlock cdb) → execution m cdb sent
+    ≡ reply_execution m (good (take (min k.room SENSE_LEN) (sense_data (returned_sense m.present m.stored))))
 sense_executed m cdb sent k = carried_executed m cdb sent (commands.RequestSense k.room) passes k.command_is refl
   where
     passes : Passes m cdb
@@ -89,24 +97,26 @@ sense_executed m cdb sent k = carried_executed m cdb sent (commands.RequestSense
 -- The automatic one gives all of them.
 pub sense_fetched : (m : CommandContext) (sent : List ℕ)
     → execution m sense_block sent ≡ reply_execution m (good (sense_data (returned_sense m.present m.stored)))
-sense_fetched m sent =
-    carried_executed m sense_block sent (commands.RequestSense SENSE_LEN) (record { there = none_needed (not m.present) true; calm = λ sense a. refl }) refl refl
+sense_fetched m sent = carried_executed m sense_block sent (commands.RequestSense SENSE_LEN)
+    (record { there = none_needed (not m.present) true; calm = λ sense a. refl }) refl refl
 
 -- ---- only REQUEST SENSE looks at the stored sense
 
-command_apart : (m : CommandContext) (x a : Option Sense) (c : Command) (sent : List ℕ) → is_request_sense (Ok c) ≡ false
+command_apart :
+    (m : CommandContext) (x a : Option Sense) (c : Command) (sent : List ℕ) → is_request_sense (Ok c) ≡ false
     → command_execution (record m { stored = x; attention = a }) c sent ≡ command_execution m c sent
 command_apart m x a (commands.RequestSense room) sent e = wrong (sym e)
 command_apart m x a _ sent e = refl
 
-pub stored_apart : (m : CommandContext) (x : Option Sense) (cdb sent : List ℕ) → is_request_sense (command_of cdb) ≡ false
-    → execution (storing m x) cdb sent ≡ execution m cdb sent
+pub stored_apart : (m : CommandContext) (x : Option Sense) (cdb sent : List ℕ)
+    → is_request_sense (command_of cdb) ≡ false → execution (storing m x) cdb sent ≡ execution m cdb sent
 stored_apart m x cdb sent h = by (λ y given. execution (storing m y) cdb given) (executed m cdb)
   where
     by : (f : Option Sense → List ℕ → Execution) → Executed m cdb f → f x sent ≡ f m.stored sent
     by f (refused sense k e) = e x sent ∙ sym (e m.stored sent)
     by f (reported sense a k e) = e x sent ∙ sym (e m.stored sent)
-    by f (at_disk c p is g e) = e x sent ∙ command_apart m x m.attention c sent ((λ i. is_request_sense (sym is i)) ∙ h) ∙ sym (e m.stored sent)
+    by f (at_disk c p is g e) =
+        e x sent ∙ command_apart m x m.attention c sent ((λ i. is_request_sense (sym is i)) ∙ h) ∙ sym (e m.stored sent)
 
 -- ---- the reply does not depend on what was sent
 
@@ -124,8 +134,8 @@ sent_apart m cdb a b = by (λ y given. execution (storing m y) cdb given) (execu
 
 -- ---- attentions: one that the command does not heed is as none, and without one nothing is reported
 
-pub attention_apart : (m : CommandContext) (cdb sent : List ℕ) → is_request_sense (command_of cdb) ≡ false → heeds_attention cdb ≡ false
-    → execution m cdb sent ≡ execution (record m { attention = None }) cdb sent
+pub attention_apart : (m : CommandContext) (cdb sent : List ℕ) → is_request_sense (command_of cdb) ≡ false
+    → heeds_attention cdb ≡ false → execution m cdb sent ≡ execution (record m { attention = None }) cdb sent
 attention_apart m cdb sent r h = by (λ y given. execution (storing m y) cdb given) (executed m cdb)
   where
     n : CommandContext
@@ -140,7 +150,8 @@ attention_apart m cdb sent r h = by (λ y given. execution (storing m y) cdb giv
     by f (refused _ (outside c p k g) e) = e m.stored sent ∙ sym (outside_executed n cdb sent c (passes p) k g)
     by f (reported sense a k e) = wrong (sym h ∙ k)
     by f (at_disk c p is g e) =
-        e m.stored sent ∙ sym (command_apart m m.stored None c sent ((λ i. is_request_sense (sym is i)) ∙ r)) ∙ sym (carried_executed n cdb sent c (passes p) is g)
+        e m.stored sent ∙ sym (command_apart m m.stored None c sent ((λ i. is_request_sense (sym is i)) ∙ r))
+        ∙ sym (carried_executed n cdb sent c (passes p) is g)
 
 pub unreported : (m : CommandContext) (cdb sent : List ℕ) → m.attention ≡ None → (execution m cdb sent).reported ≡ false
 unreported m cdb sent n = of_all m cdb sent (λ x. x.reported ≡ false) (record {
@@ -189,7 +200,8 @@ pub good_range : (m : CommandContext) (cdb sent : List ℕ) (c : Command) → co
     → (execution m cdb sent).reply.status ≡ GOOD → is_good_range m.contents.count (range_of c) ≡ true
 good_range m cdb sent c is e =
     let h = carried_out m cdb sent e in
-    subst (λ (d : Command). is_good_range m.contents.count (range_of d) ≡ true) (same_Ok h.command c (sym h.command_is ∙ is)) h.range_is
+    subst (λ (d : Command). is_good_range m.contents.count (range_of d) ≡ true)
+    (same_Ok h.command c (sym h.command_is ∙ is)) h.range_is
 
 -- A read of these blocks gives them.
 pub read_gives : (m : CommandContext) (cdb sent : List ℕ) (c : Command) (lba n : ℕ) → command_of cdb ≡ Ok c
@@ -197,7 +209,8 @@ pub read_gives : (m : CommandContext) (cdb sent : List ℕ) (c : Command) (lba n
     → (execution m cdb sent).reply.bytes ≡ bytes_at m.contents lba n
 read_gives m cdb sent c lba n is gives e =
     let h = carried_out m cdb sent e in
-    (λ i. (h.is i).reply.bytes) ∙ (λ i. (command_execution m (same_Ok h.command c (sym h.command_is ∙ is) i) sent).reply.bytes) ∙ gives
+    (λ i. (h.is i).reply.bytes)
+    ∙ (λ i. (command_execution m (same_Ok h.command c (sym h.command_is ∙ is) i) sent).reply.bytes) ∙ gives
 
 -- ---- the contents stay, but for the blocks of a write that ends GOOD; one that does not end GOOD gives no bytes
 
@@ -217,7 +230,8 @@ changes m cdb sent = of_all m cdb sent (Changes m cdb sent) (record {
   where
     by : (c : Command) → command_of cdb ≡ Ok c → is_good_range m.contents.count (range_of c) ≡ true
         → Changes m cdb sent (command_execution m c sent)
-    by (commands.Write6 lba count) e g = blocks (commands.Write6 lba count) lba (blocks_moved (commands.Write6 lba count)) e refl refl g refl refl
+    by (commands.Write6 lba count) e g =
+        blocks (commands.Write6 lba count) lba (blocks_moved (commands.Write6 lba count)) e refl refl g refl refl
     by (commands.Write10 lba count) e g = blocks (commands.Write10 lba count) lba count e refl refl g refl refl
     by _ e g = nothing refl
 
@@ -246,10 +260,12 @@ extent_kept m cdb sent = by (changes m cdb sent)
 -- ---- blocks stay whole, where a write that ends GOOD was sent as many bytes as its blocks have
 
 pub whole_kept : (m : CommandContext) (cdb sent : List ℕ) → AreWhole m.contents
-    → ((c : Command) (n : ℕ) → command_of cdb ≡ Ok c → is_write (Ok c) ≡ true → count_in (range_of c) ≡ n → is_good_range m.contents.count (range_of c) ≡ true → (execution m cdb sent).reply.status ≡ GOOD → length sent ≡ n * m.contents.size)
-    → AreWhole (execution m cdb sent).contents
+    → ((c : Command) (n : ℕ) → command_of cdb ≡ Ok c → is_write (Ok c) ≡ true → count_in (range_of c) ≡ n
+    → is_good_range m.contents.count (range_of c) ≡ true → (execution m cdb sent).reply.status ≡ GOOD
+    → length sent ≡ n * m.contents.size) → AreWhole (execution m cdb sent).contents
 whole_kept m cdb sent h f = by (changes m cdb sent)
   where
     by : Changes m cdb sent (execution m cdb sent) → AreWhole (execution m cdb sent).contents
     by (nothing e) = subst AreWhole (sym e) h
-    by (blocks c lba n is w r g good e) = subst AreWhole (sym e) (bytes_whole n m.contents lba sent (f c n is w (λ i. count_in (r i)) g good) h)
+    by (blocks c lba n is w r g good e) =
+        subst AreWhole (sym e) (bytes_whole n m.contents lba sent (f c n is w (λ i. count_in (r i)) g good) h)

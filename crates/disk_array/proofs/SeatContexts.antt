@@ -18,9 +18,16 @@ choice_keeps held u = go (has_no_current u.current && not held)
     go true = with (choice u.pick u.waiting)
     go false = refl
 
-pub settled_context : (seat : Seat) (initiator : ℕ) → context_of (settled_seat seat) initiator ≡ context_of seat initiator
+pub settled_context : (seat : Seat) (initiator : ℕ)
+    → context_of (settled_seat seat) initiator ≡ context_of seat initiator
 settled_context seat initiator = go seat.unit
   where
-    go : (x : Option UnitState) → context_of (settled_seat (record seat { unit = x })) initiator ≡ context_of (record seat { unit = x }) initiator
+    go : (x : Option UnitState) → context_of (settled_seat (record seat { unit = x })) initiator
+        ≡ context_of (record seat { unit = x }) initiator
     go None = refl
-    go (Some u) = λ i. record { present = true; contents = choice_keeps (Seats.is_any_held seat.hold) u i; stored = seat.senses initiator; attention = seat.attentions initiator }
+    go (Some u) = λ i. record {
+      present = true;
+      contents = choice_keeps (Seats.is_any_held seat.hold) u i;
+      stored = seat.senses initiator;
+      attention = seat.attentions initiator;
+    }

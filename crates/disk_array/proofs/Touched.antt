@@ -1,26 +1,32 @@
 -- Blocks put and looked up, and the contents as a plain list.
-use Rattle.std.proofs.Common.{ℕ, zero, suc, ◌≡◌, ◌+◌, ◌-◌, ◌<◌, ◌≤◌, List, [], ◌∷◌, ◌++◌, ◌∙◌, ◌⊎◌, inl, inr, refl, sym, ap, arith, length, take, drop, replicate}
+use Rattle.std.proofs.Common.{ℕ, zero, suc, ◌≡◌, ◌+◌, ◌-◌, ◌<◌, ◌≤◌, List, [], ◌∷◌, ◌++◌, ◌∙◌, ◌⊎◌, inl, inr, refl, sym}
+use Rattle.std.proofs.Common.{ap, arith, length, take, drop, replicate}
 use Rattle.std.specs.Prelude.{◌==◌, if◌then◌else◌}
 use Rattle.std.proofs.lemmas.Bool.Decides.{nat_tests}
 use Rattle.std.proofs.lemmas.List.{take_at}
 use Rattle.std.proofs.Math.Seq.{drop-append_seam}
-use Rattle.disk_array.specs.Contents.{Contents, blank_contents, zero_block, touched_block, touched_with, block_at, with_block, bytes_at, with_bytes}
+use Rattle.disk_array.specs.Contents.{Contents, blank_contents, zero_block, touched_block, touched_with, block_at}
+use Rattle.disk_array.specs.Contents.{with_block, bytes_at, with_bytes}
 use Rattle.disk_array.specs.PlainBlocks.{blocks_from, plain_blocks, bytes_of_blocks, blocks_of_bytes}
 
 -- ---- one block
 
-pub touched_same : (touched : List (ℕ × List ℕ)) (n : ℕ) (b : List ℕ) (k : ℕ) (z : List ℕ) → touched_block (touched_with touched n b) k z ≡ (if n == k then b else touched_block touched k z)
+pub touched_same : (touched : List (ℕ × List ℕ)) (n : ℕ) (b : List ℕ) (k : ℕ) (z : List ℕ)
+    → touched_block (touched_with touched n b) k z ≡ (if n == k then b else touched_block touched k z)
 touched_same [] n b k z = refl
 touched_same (e ∷ touched) n b k z =
-    let h : touched_block (touched_with touched n b) k z ≡ (if n == k then b else touched_block touched k z) = touched_same touched n b k z in
+    let h : touched_block (touched_with touched n b) k z ≡ (if n == k then b else touched_block touched k z) =
+    touched_same touched n b k z in
     grind (arith, nat_tests)
 
-pub block_same : (c : Contents) (n : ℕ) (b : List ℕ) (k : ℕ) → block_at (with_block c n b) k ≡ (if n == k then b else block_at c k)
+pub block_same : (c : Contents) (n : ℕ) (b : List ℕ) (k : ℕ)
+    → block_at (with_block c n b) k ≡ (if n == k then b else block_at c k)
 block_same c n b k = touched_same c.touched n b k (zero_block c.size)
 
 -- ---- lists of blocks
 
-from_split : (f : ℕ → List ℕ) (lba a b : ℕ) → blocks_from f lba (a + b) ≡ blocks_from f lba a ++ blocks_from f (lba + a) b
+from_split : (f : ℕ → List ℕ) (lba a b : ℕ)
+    → blocks_from f lba (a + b) ≡ blocks_from f lba a ++ blocks_from f (lba + a) b
 from_split f lba zero b =
     let e : 0 + b ≡ b = omega arith in
     let w : lba ≡ lba + 0 = omega arith in
@@ -28,7 +34,8 @@ from_split f lba zero b =
 from_split f lba (suc a) b =
     let e : suc a + b ≡ suc (a + b) = omega arith in
     let w : (lba + 1) + a ≡ lba + suc a = omega arith in
-    let h : blocks_from f (lba + 1) (a + b) ≡ blocks_from f (lba + 1) a ++ blocks_from f ((lba + 1) + a) b = from_split f (lba + 1) a b in
+    let h : blocks_from f (lba + 1) (a + b) ≡ blocks_from f (lba + 1) a ++ blocks_from f ((lba + 1) + a) b = from_split
+    f (lba + 1) a b in
     ap (λ (x : ℕ). blocks_from f lba x) e
     ∙ ap (λ (t : List (List ℕ)). f lba ∷ t) (h ∙ ap (λ (x : ℕ). blocks_from f (lba + 1) a ++ blocks_from f x b) w)
 
@@ -36,11 +43,13 @@ from_length : (f : ℕ → List ℕ) (lba n : ℕ) → length (blocks_from f lba
 from_length f lba zero = refl
 from_length f lba (suc n) = ap (λ (x : ℕ). suc x) (from_length f (lba + 1) n)
 
-from_same : (f g : ℕ → List ℕ) (lba n : ℕ) → ((k : ℕ) → lba ≤ k → k < lba + n → f k ≡ g k) → blocks_from f lba n ≡ blocks_from g lba n
+from_same : (f g : ℕ → List ℕ) (lba n : ℕ) → ((k : ℕ) → lba ≤ k → k < lba + n → f k ≡ g k)
+    → blocks_from f lba n ≡ blocks_from g lba n
 from_same f g lba zero h = refl
 from_same f g lba (suc n) h =
     let one : f lba ≡ g lba = h lba (omega arith) (omega arith) in
-    let more : blocks_from f (lba + 1) n ≡ blocks_from g (lba + 1) n = from_same f g (lba + 1) n (λ k l u. h k (omega arith) (omega arith)) in
+    let more : blocks_from f (lba + 1) n ≡ blocks_from g (lba + 1) n = from_same f g
+    (lba + 1) n (λ k l u. h k (omega arith) (omega arith)) in
     λ i. one i ∷ more i
 
 from_front : (f : ℕ → List ℕ) (lba a b : ℕ) → take a (blocks_from f lba (a + b)) ≡ blocks_from f lba a
@@ -60,7 +69,8 @@ read_of : (c : Contents) (lba n : ℕ) → bytes_at c lba n ≡ bytes_of_blocks 
 read_of c lba zero = refl
 read_of c lba (suc n) = ap (λ (t : List ℕ). block_at c lba ++ t) (read_of c (lba + 1) n)
 
-pub read_plain : (c : Contents) (lba n : ℕ) → lba + n ≤ c.count → bytes_at c lba n ≡ bytes_of_blocks (take n (drop lba (plain_blocks c)))
+pub read_plain : (c : Contents) (lba n : ℕ) → lba + n ≤ c.count
+    → bytes_at c lba n ≡ bytes_of_blocks (take n (drop lba (plain_blocks c)))
 read_plain c lba n h =
     let f : ℕ → List ℕ = block_at c in
     let rest : ℕ = c.count - (lba + n) in
@@ -97,23 +107,28 @@ put_here c n b = block_same c n b n ∙ go (block_at c n)
     go : (z : List ℕ) → (if n == n then b else z) ≡ b
     go z = grind (arith, nat_tests)
 
-pub write_other : (c : Contents) (lba n : ℕ) (bytes : List ℕ) (k : ℕ) → ((k < lba) ⊎ (lba + n ≤ k)) → block_at (with_bytes c lba n bytes) k ≡ block_at c k
+pub write_other : (c : Contents) (lba n : ℕ) (bytes : List ℕ) (k : ℕ)
+    → ((k < lba) ⊎ (lba + n ≤ k)) → block_at (with_bytes c lba n bytes) k ≡ block_at c k
 write_other c lba zero bytes k h = refl
 write_other c lba (suc n) bytes k h =
     write_other (with_block c lba (take c.size bytes)) (lba + 1) n (drop c.size bytes) k
     (elim h [ inl u ↦ inl (omega arith) | inr u ↦ inr (omega arith) ])
     ∙ put_other c lba (take c.size bytes) k (elim h [ inl u ↦ λ e. omega arith | inr u ↦ λ e. omega arith ])
 
-write_here : (c : Contents) (lba n : ℕ) (bytes : List ℕ) → blocks_from (block_at (with_bytes c lba n bytes)) lba n ≡ blocks_of_bytes c.size n bytes
+write_here : (c : Contents) (lba n : ℕ) (bytes : List ℕ)
+    → blocks_from (block_at (with_bytes c lba n bytes)) lba n ≡ blocks_of_bytes c.size n bytes
 write_here c lba zero bytes = refl
 write_here c lba (suc n) bytes =
     let d : Contents = with_block c lba (take c.size bytes) in
     let one : block_at (with_bytes d (lba + 1) n (drop c.size bytes)) lba ≡ take c.size bytes =
     write_other d (lba + 1) n (drop c.size bytes) lba (inl (omega arith)) ∙ put_here c lba (take c.size bytes) in
-    let more : blocks_from (block_at (with_bytes d (lba + 1) n (drop c.size bytes))) (lba + 1) n ≡ blocks_of_bytes c.size n (drop c.size bytes) = write_here d (lba + 1) n (drop c.size bytes) in
+    let more : blocks_from (block_at (with_bytes d (lba + 1) n (drop c.size bytes))) (lba + 1) n
+    ≡ blocks_of_bytes c.size n (drop c.size bytes) = write_here d (lba + 1) n (drop c.size bytes) in
     λ i. one i ∷ more i
 
-pub write_plain : (c : Contents) (lba n : ℕ) (bytes : List ℕ) → lba + n ≤ c.count → plain_blocks (with_bytes c lba n bytes) ≡ take lba (plain_blocks c) ++ (blocks_of_bytes c.size n bytes ++ drop (lba + n) (plain_blocks c))
+pub write_plain : (c : Contents) (lba n : ℕ) (bytes : List ℕ) → lba + n ≤ c.count
+    → plain_blocks (with_bytes c lba n bytes)
+    ≡ take lba (plain_blocks c) ++ (blocks_of_bytes c.size n bytes ++ drop (lba + n) (plain_blocks c))
 write_plain c lba n bytes h =
     let f : ℕ → List ℕ = block_at c in
     let g : ℕ → List ℕ = block_at (with_bytes c lba n bytes) in

@@ -1,5 +1,6 @@
 -- Blocks that are put leave the unit its number of blocks and their size; and whole ones stay whole.
-use Rattle.std.proofs.Common.{ℕ, zero, suc, ◌≡◌, ◌+◌, ◌-◌, ◌*◌, Bool, true, false, List, ◌∙◌, refl, ap, arith, length, take, drop}
+use Rattle.std.proofs.Common.{ℕ, zero, suc, ◌≡◌, ◌+◌, ◌-◌, ◌*◌, Bool, true, false, List, ◌∙◌, refl, ap, arith, length}
+use Rattle.std.proofs.Common.{take, drop}
 use Rattle.std.specs.Prelude.{◌==◌, if◌then◌else◌, min}
 use Rattle.std.proofs.lemmas.List.{length-take, length-drop, length-replicate}
 use Rattle.disk_array.specs.Contents.{Contents, blank_contents, block_at, with_block, with_bytes}
@@ -19,9 +20,11 @@ extent_more a b c h k = record { count = k.count ∙ h.count; size = k.size ∙ 
 
 pub bytes_extent : (n : ℕ) (c : Contents) (lba : ℕ) (bytes : List ℕ) → HasSameExtent c (with_bytes c lba n bytes)
 bytes_extent zero c lba bytes = extent_self c
-bytes_extent (suc n) c lba bytes =
-    extent_more c (with_block c lba (take c.size bytes)) (with_bytes (with_block c lba (take c.size bytes)) (lba + 1) n (drop c.size bytes)) (record { count = refl; size = refl })
-    (bytes_extent n (with_block c lba (take c.size bytes)) (lba + 1) (drop c.size bytes))
+bytes_extent (suc n) c lba bytes = extent_more c (with_block c lba (take c.size bytes))
+    (with_bytes (with_block c lba (take c.size bytes)) (lba + 1) n (drop c.size bytes)) (record {
+      count = refl;
+      size = refl;
+    }) (bytes_extent n (with_block c lba (take c.size bytes)) (lba + 1) (drop c.size bytes))
 
 -- ---- each block has as many bytes as the unit's blocks have
 
@@ -45,7 +48,8 @@ bytes_whole zero c lba bytes e h = h
 bytes_whole (suc n) c lba bytes e h =
     let first = length-take c.size bytes in
     let rest = length-drop c.size bytes in
-    bytes_whole n (with_block c lba (take c.size bytes)) (lba + 1) (drop c.size bytes) (left (length bytes) (length (drop c.size bytes)) n c.size rest e)
+    bytes_whole n (with_block c lba (take c.size bytes)) (lba + 1) (drop c.size bytes)
+    (left (length bytes) (length (drop c.size bytes)) n c.size rest e)
     (block_whole c lba (take c.size bytes) (first ∙ least c.size (length bytes) n e) h)
   where
     left : (all rest n size : ℕ) → rest ≡ all - size → all ≡ suc n * size → rest ≡ n * size

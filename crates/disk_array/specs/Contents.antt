@@ -1,5 +1,6 @@
 -- The blocks of a unit, and its fills.
-use Rattle.std.specs.Prelude.{ℕ, zero, suc, ◌+◌, ◌==◌, Bool, ◌&&◌, List, [], ◌∷◌, ◌++◌, take, drop, replicate, nat_lt, if◌then◌else◌}
+use Rattle.std.specs.Prelude.{ℕ, zero, suc, ◌+◌, ◌==◌, Bool, ◌&&◌, List, [], ◌∷◌, ◌++◌, take, drop, replicate, nat_lt}
+use Rattle.std.specs.Prelude.{if◌then◌else◌}
 use Rattle.std.specs.List.{list_all}
 use Rattle.scenario.specs.declared.value.UnitDef.{UnitDef}
 use Rattle.scenario.specs.declared.value.FillDef.{FillDef}
@@ -69,7 +70,8 @@ is_zero_block block = list_all (λ (byte : ℕ). byte == 0) block
 
 abbrev pub nonzero_blocks : List (ℕ × List ℕ) → List (ℕ × List ℕ)
 nonzero_blocks [] = []
-nonzero_blocks (entry ∷ touched) = if is_zero_block entry.1 then nonzero_blocks touched else entry ∷ nonzero_blocks touched
+nonzero_blocks (entry ∷ touched) =
+    if is_zero_block entry.1 then nonzero_blocks touched else entry ∷ nonzero_blocks touched
 
 abbrev pub printed_blocks : Contents → List (ℕ × List ℕ)
 printed_blocks c = nonzero_blocks c.touched

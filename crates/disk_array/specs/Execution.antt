@@ -1,9 +1,13 @@
 -- What a command does at a unit, and what it answers (7.2, 7.3, 7.5, 8.2, 9.2).
-use Rattle.std.specs.Prelude.{ℕ, ◌+◌, ◌-◌, min, Bool, true, false, not, ◌&&◌, ◌==◌, List, [], length, take, slice_index, Option, Some, None, Result, Ok, Err, nat_le, nat_lt, if◌then◌else◌}
+use Rattle.std.specs.Prelude.{ℕ, ◌+◌, ◌-◌, min, Bool, true, false, not, ◌&&◌, ◌==◌, List, [], length, take, slice_index}
+use Rattle.std.specs.Prelude.{Option, Some, None, Result, Ok, Err, nat_le, nat_lt, if◌then◌else◌}
 use Rattle.cdb_codec.specs.declared.Sense.{Sense}
 use Rattle.cdb_codec.specs.declared.operation.TheConstants.{REQUEST_SENSE, INQUIRY}
 use Rattle.cdb_codec.specs.declared.replies.TheConstants.{SENSE_LEN, INQUIRY_LEN}
-use Rattle.cdb_codec.specs.declared.sense.TheConstants.{NO_SENSE, ILLEGAL_REQUEST, UNIT_ATTENTION, ABORTED_COMMAND, NO_ADDITIONAL_SENSE, INVALID_OPERATION_CODE, BLOCK_OUT_OF_RANGE, INVALID_FIELD, UNIT_NOT_SUPPORTED, RESET_OCCURRED, COMMANDS_CLEARED}
+use Rattle.cdb_codec.specs.declared.sense.TheConstants.{NO_SENSE, ILLEGAL_REQUEST, UNIT_ATTENTION, ABORTED_COMMAND}
+use Rattle.cdb_codec.specs.declared.sense.TheConstants.{NO_ADDITIONAL_SENSE, INVALID_OPERATION_CODE, BLOCK_OUT_OF_RANGE}
+use Rattle.cdb_codec.specs.declared.sense.TheConstants.{INVALID_FIELD, UNIT_NOT_SUPPORTED, RESET_OCCURRED}
+use Rattle.cdb_codec.specs.declared.sense.TheConstants.{COMMANDS_CLEARED}
 use Rattle.cdb_codec.specs.declared.status.TheConstants.{GOOD, CHECK_CONDITION, QUEUE_FULL}
 use Rattle.cdb_codec.specs.declared.command.Command.{Command}
 use Rattle.cdb_codec.specs.declared.command.Command.TheVariants as commands
@@ -132,16 +136,23 @@ write_execution m lba n sent = record { contents = with_bytes m.contents lba n s
 
 abbrev pub command_execution : CommandContext → Command → List ℕ → Execution
 command_execution m commands.TestUnitReady sent = reply_execution m (good [])
-command_execution m (commands.RequestSense room) sent = reply_execution m (good (take (min room SENSE_LEN) (sense_data (returned_sense m.present m.stored))))
-command_execution m (commands.Read6 lba count) sent = reply_execution m (good (bytes_at m.contents lba (blocks_moved (commands.Read6 lba count))))
-command_execution m (commands.Write6 lba count) sent = write_execution m lba (blocks_moved (commands.Write6 lba count)) sent
-command_execution m (commands.Inquiry room) sent = reply_execution m (good (take (min room INQUIRY_LEN) (inquiry_data m.present)))
-command_execution m commands.ReadCapacity sent = reply_execution m (good (capacity_data (m.contents.count - 1) m.contents.size))
+command_execution m (commands.RequestSense room) sent =
+    reply_execution m (good (take (min room SENSE_LEN) (sense_data (returned_sense m.present m.stored))))
+command_execution m (commands.Read6 lba count) sent =
+    reply_execution m (good (bytes_at m.contents lba (blocks_moved (commands.Read6 lba count))))
+command_execution m (commands.Write6 lba count) sent =
+    write_execution m lba (blocks_moved (commands.Write6 lba count)) sent
+command_execution m (commands.Inquiry room) sent =
+    reply_execution m (good (take (min room INQUIRY_LEN) (inquiry_data m.present)))
+command_execution m commands.ReadCapacity sent =
+    reply_execution m (good (capacity_data (m.contents.count - 1) m.contents.size))
 command_execution m (commands.Read10 lba count) sent = reply_execution m (good (bytes_at m.contents lba count))
 command_execution m (commands.Write10 lba count) sent = write_execution m lba count sent
 
 abbrev pub range_execution : CommandContext → Command → List ℕ → Execution
-range_execution m c sent = if is_good_range m.contents.count (range_of c) then command_execution m c sent else reply_execution m (check_condition block_out_of_range)
+range_execution m c sent =
+    if is_good_range m.contents.count (range_of c) then command_execution m c sent
+    else reply_execution m (check_condition block_out_of_range)
 
 abbrev pub cdb_execution : CommandContext → Result Command CdbFault → List ℕ → Execution
 cdb_execution m (Ok c) sent = range_execution m c sent
@@ -152,8 +163,11 @@ cdb_execution m (Err faults.Field) sent = reply_execution m (check_condition inv
 abbrev pub attention_execution : CommandContext → Option Sense → List ℕ → List ℕ → Execution
 attention_execution m None cdb sent = cdb_execution m (command_of cdb) sent
 attention_execution m (Some attention) cdb sent =
-    if heeds_attention cdb then record { contents = m.contents; reported = true; reply = check_condition attention } else cdb_execution m (command_of cdb) sent
+    if heeds_attention cdb then record { contents = m.contents; reported = true; reply = check_condition attention }
+    else cdb_execution m (command_of cdb) sent
 
 -- What a command does at the unit that it meets, with the bytes that it sends.
 abbrev pub execution : CommandContext → List ℕ → List ℕ → Execution
-execution m cdb sent = if not m.present && needs_unit cdb then reply_execution m (check_condition unit_not_supported) else attention_execution m m.attention cdb sent
+execution m cdb sent =
+    if not m.present && needs_unit cdb then reply_execution m (check_condition unit_not_supported)
+    else attention_execution m m.attention cdb sent

@@ -1,5 +1,6 @@
 -- Which waiting command may run, and which is chosen (6.6.17, 7.8.2).
-use Rattle.std.specs.Prelude.{ℕ, zero, suc, ◌+◌, Bool, true, false, not, ◌&&◌, ◌||◌, ◌==◌, List, [], ◌∷◌, ◌++◌, Option, Some, None, Result, Ok, Err, nat_lt, if◌then◌else◌}
+use Rattle.std.specs.Prelude.{ℕ, zero, suc, ◌+◌, Bool, true, false, not, ◌&&◌, ◌||◌, ◌==◌, List, [], ◌∷◌, ◌++◌, Option}
+use Rattle.std.specs.Prelude.{Some, None, Result, Ok, Err, nat_lt, if◌then◌else◌}
 use Rattle.std.specs.List.{list_any}
 use Rattle.bus_base.specs.declared.events.Pick.{Pick}
 use Rattle.bus_base.specs.declared.events.Pick.TheVariants as picks
@@ -130,7 +131,8 @@ may_run waiting place = may_run_by (last_head waiting 0 None) waiting place
 abbrev pub runnable_after : List Entry → ℕ → List Entry → List ℕ
 runnable_after before place [] = []
 runnable_after before place (p ∷ waiting) =
-    if may_run_after before p then place ∷ runnable_after (before ++ p ∷ []) (suc place) waiting else runnable_after (before ++ p ∷ []) (suc place) waiting
+    if may_run_after before p then place ∷ runnable_after (before ++ p ∷ []) (suc place) waiting
+    else runnable_after (before ++ p ∷ []) (suc place) waiting
 
 abbrev pub runnable_by : Option ℕ → List Entry → List ℕ
 runnable_by (Some head) waiting = head ∷ []
@@ -171,4 +173,5 @@ choice pick waiting = process_at_if waiting (chosen_place pick (entries_of waiti
 -- Without this process.
 abbrev pub without_process : List Process → ProcId → List Process
 without_process [] id = []
-without_process (p ∷ waiting) id = if same_id p.id id then without_process waiting id else p ∷ without_process waiting id
+without_process (p ∷ waiting) id =
+    if same_id p.id id then without_process waiting id else p ∷ without_process waiting id

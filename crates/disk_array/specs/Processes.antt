@@ -1,5 +1,6 @@
 -- Processes: the commands of a scenario, and their automatic REQUEST SENSE (ANSI X3.131-1994, 7.6 and 7.8).
-use Rattle.std.specs.Prelude.{ℕ, zero, suc, ◌+◌, ◌%◌, Bool, true, false, ◌&&◌, ◌==◌, List, [], ◌∷◌, Option, Some, None, if◌then◌else◌}
+use Rattle.std.specs.Prelude.{ℕ, zero, suc, ◌+◌, ◌%◌, Bool, true, false, ◌&&◌, ◌==◌, List, [], ◌∷◌, Option, Some, None}
+use Rattle.std.specs.Prelude.{if◌then◌else◌}
 use Rattle.bus_base.specs.declared.ProcId.{ProcId}
 use Rattle.cdb_codec.specs.declared.operation.TheConstants.{REQUEST_SENSE}
 use Rattle.cdb_codec.specs.declared.replies.TheConstants.{SENSE_LEN}
@@ -44,11 +45,26 @@ abbrev pub sense_block : List ℕ
 sense_block = REQUEST_SENSE ∷ 0x00 ∷ 0x00 ∷ 0x00 ∷ SENSE_LEN ∷ 0x00 ∷ []
 
 abbrev pub sense_process : ProcId → CmdDef → Process
-sense_process id c = record { id = id; initiator = c.host; target = c.target; unit = c.unit; tag = tags.Untagged; cdb = sense_block; sent = [] }
+sense_process id c = record {
+  id = id;
+  initiator = c.host;
+  target = c.target;
+  unit = c.unit;
+  tag = tags.Untagged;
+  cdb = sense_block;
+  sent = [];
+}
 
 abbrev pub command_process : ScenarioValue → ProcId → CmdDef → Process
-command_process s id c =
-    record { id = id; initiator = c.host; target = c.target; unit = c.unit; tag = c.tag; cdb = c.cdb; sent = payload_bytes c.payload (sent_of s c) }
+command_process s id c = record {
+  id = id;
+  initiator = c.host;
+  target = c.target;
+  unit = c.unit;
+  tag = c.tag;
+  cdb = c.cdb;
+  sent = payload_bytes c.payload (sent_of s c);
+}
 
 abbrev pub process_by : ScenarioValue → ProcId → CmdDef → Process
 process_by s id c = if id.sense then sense_process id c else command_process s id c

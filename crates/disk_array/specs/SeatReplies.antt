@@ -11,8 +11,8 @@ use Rattle.disk_array.specs.Seats.{Seat, seat_of, current_of, is_waiting_at, run
 use Rattle.disk_array.specs.SoundArray.{AllOwnGuests}
 use Rattle.disk_array.specs.Units.{RunningProcess, Array}
 
--- Of these replies, the newest first, the last of a process that runs is the one that it has, if any; a process that waits
--- has none, and does not run.
+-- Of these replies, the newest first, the last of a process that runs is the one that it has, if any; a process that
+-- waits has none, and does not run.
 pub record HasReplies (replies : List (ProcId × Reply)) (seat : Seat) : Type 0 where
   pub running : (id : ProcId) (r : RunningProcess) → running_at seat id ≡ Some r → reply_in replies id ≡ r.reply
   pub waiting : (id : ProcId) → is_waiting_at seat.unit id ≡ true → reply_in replies id ≡ None
@@ -37,8 +37,10 @@ HaveReplies a = (target unit : ℕ) → HasReplies a.replies (seat_of a target u
 -- A process that arrives stands nowhere, and was not answered before it is accepted; and every other event of a process
 -- is of one of the scenario.
 abbrev pub ArrivesOnce : ScenarioValue → Array → Event → Type 0
-ArrivesOnce s a (events.Accept id) = (p : Process) × (process_of s id ≡ Some p) × IsNowhere (seat_of a p.target p.unit) id × (reply_in a.replies id ≡ None)
-ArrivesOnce s a (events.Refuse id) = (p : Process) × (process_of s id ≡ Some p) × IsNowhere (seat_of a p.target p.unit) id
+ArrivesOnce s a (events.Accept id) = (p : Process) × (process_of s id ≡ Some p)
+    × IsNowhere (seat_of a p.target p.unit) id × (reply_in a.replies id ≡ None)
+ArrivesOnce s a (events.Refuse id) =
+    (p : Process) × (process_of s id ≡ Some p) × IsNowhere (seat_of a p.target p.unit) id
 ArrivesOnce s a (events.Run id) = (p : Process) × (process_of s id ≡ Some p)
 ArrivesOnce s a (events.Fail id code) = (p : Process) × (process_of s id ≡ Some p)
 ArrivesOnce s a (events.End id status) = (p : Process) × (process_of s id ≡ Some p)

@@ -1,5 +1,6 @@
 -- One seat of the array, a unit of a target that is there or not, and what each event leaves of it.
-use Rattle.std.specs.Prelude.{ℕ, zero, suc, Bool, true, false, not, ◌&&◌, ◌||◌, ◌==◌, List, [], ◌∷◌, ◌++◌, Option, Some, None, is_some, is_none, nat_lt, if◌then◌else◌}
+use Rattle.std.specs.Prelude.{ℕ, zero, suc, Bool, true, false, not, ◌&&◌, ◌||◌, ◌==◌, List, [], ◌∷◌, ◌++◌, Option, Some}
+use Rattle.std.specs.Prelude.{None, is_some, is_none, nat_lt, if◌then◌else◌}
 use Rattle.std.specs.List.{list_any}
 use Rattle.bus_base.specs.declared.AbortKind.{AbortKind}
 use Rattle.bus_base.specs.declared.AbortKind.TheVariants as aborts
@@ -13,13 +14,17 @@ use Rattle.scenario.specs.declared.value.HostDef.{HostDef}
 use Rattle.scenario.specs.Value.{ScenarioValue}
 use Rattle.disk_array.specs.Contents.{Contents, no_contents}
 use Rattle.disk_array.specs.Processes.{Process, process_of, same_id}
-use Rattle.disk_array.specs.Execution.{Reply, CommandContext, Execution, execution, is_request_sense, queue_full, reset_occurred, commands_cleared}
+use Rattle.disk_array.specs.Execution.{Reply, CommandContext, Execution, execution, is_request_sense, queue_full}
+use Rattle.disk_array.specs.Execution.{reset_occurred, commands_cleared}
 use Rattle.disk_array.specs.Order.{choice}
-use Rattle.disk_array.specs.Units.{RunningProcess, UnitState, Nexus, Array, sense_of_nexus, same_nexus, unit_state_at, guest_at, without_guest, with_current, has_no_current}
-use Rattle.disk_array.specs.Steps.{process_count, guests_with_reply, current_with_reply, running_if, unit_without, kept_processes, kept_running, kept_guests, is_of_unit, has_tag, is_reset_pending, unit_processes}
+use Rattle.disk_array.specs.Units.{RunningProcess, UnitState, Nexus, Array, sense_of_nexus, same_nexus, unit_state_at}
+use Rattle.disk_array.specs.Units.{guest_at, without_guest, with_current, has_no_current}
+use Rattle.disk_array.specs.Steps.{process_count, guests_with_reply, current_with_reply, running_if, unit_without}
+use Rattle.disk_array.specs.Steps.{kept_processes, kept_running, kept_guests, is_of_unit, has_tag, is_reset_pending}
+use Rattle.disk_array.specs.Steps.{unit_processes}
 
--- The unit, where it is there; the guests that came to it; and by initiator the stored senses, the pending attentions and
--- the hold.
+-- The unit, where it is there; the guests that came to it; and by initiator the stored senses, the pending attentions
+-- and the hold.
 pub record Seat : Type 0 where
   pub unit : Option UnitState
   pub guests : List RunningProcess
@@ -35,7 +40,8 @@ in_hold holds nexus = list_any (λ (q : Nexus). same_nexus q nexus) holds
 
 abbrev pub guests_at : List RunningProcess → ℕ → ℕ → List RunningProcess
 guests_at [] target unit = []
-guests_at (g ∷ guests) target unit = if is_of_unit g.process target unit then g ∷ guests_at guests target unit else guests_at guests target unit
+guests_at (g ∷ guests) target unit =
+    if is_of_unit g.process target unit then g ∷ guests_at guests target unit else guests_at guests target unit
 
 abbrev pub seat_of : Array → ℕ → ℕ → Seat
 seat_of a target unit = record {
@@ -90,7 +96,8 @@ seat_with_guest seat p reply = record seat { guests = seat.guests ++ record { pr
 
 abbrev pub seat_with_waiting : Seat → Process → UnitState → Option Seat
 seat_with_waiting seat p u =
-    if nat_lt (process_count u) u.depth then Some (record seat { unit = Some (record u { waiting = u.waiting ++ p ∷ [] }) }) else None
+    if nat_lt (process_count u) u.depth
+    then Some (record seat { unit = Some (record u { waiting = u.waiting ++ p ∷ [] }) }) else None
 
 abbrev pub seat_after_accept_at : Seat → Process → Option UnitState → Option Seat
 seat_after_accept_at seat p None = Some (seat_with_guest seat p None)
@@ -103,7 +110,8 @@ seat_after_accept p seat = seat_after_accept_at seat p seat.unit
 abbrev pub seat_after_refuse_at : Seat → Process → Option UnitState → Option Seat
 seat_after_refuse_at seat p None = None
 seat_after_refuse_at seat p (Some u) =
-    if not (is_request_sense (command_of p.cdb)) && process_count u == u.depth then Some (seat_with_guest seat p (Some queue_full)) else None
+    if not (is_request_sense (command_of p.cdb)) && process_count u == u.depth
+    then Some (seat_with_guest seat p (Some queue_full)) else None
 
 abbrev pub seat_after_refuse : Process → Seat → Option Seat
 seat_after_refuse p seat = seat_after_refuse_at seat p seat.unit
@@ -121,7 +129,8 @@ current_of (Some u) = u.current
 
 -- The guest or the current process of this number.
 abbrev pub running_at : Seat → ProcId → Option RunningProcess
-running_at seat id = if is_some (guest_at seat.guests id) then guest_at seat.guests id else running_if (current_of seat.unit) id
+running_at seat id =
+    if is_some (guest_at seat.guests id) then guest_at seat.guests id else running_if (current_of seat.unit) id
 
 abbrev pub contents_of : Option UnitState → Contents
 contents_of None = no_contents
@@ -142,8 +151,10 @@ abbrev pub unit_with_contents : Contents → UnitState → UnitState
 unit_with_contents contents u = record u { contents = contents }
 
 abbrev pub seat_with_reply : Seat → ProcId → Reply → Seat
-seat_with_reply seat id reply =
-    record seat { unit = unit_mapped (unit_with_reply id reply) seat.unit; guests = guests_with_reply seat.guests id reply }
+seat_with_reply seat id reply = record seat {
+  unit = unit_mapped (unit_with_reply id reply) seat.unit;
+  guests = guests_with_reply seat.guests id reply;
+}
 
 abbrev pub seat_with_execution : Seat → Process → Execution → Seat
 seat_with_execution seat p done =
@@ -155,8 +166,9 @@ seat_with_execution seat p done =
 abbrev pub seat_after_run_of : Seat → Bool → Option RunningProcess → Option Seat
 seat_after_run_of seat guest None = None
 seat_after_run_of seat guest (Some r) =
-    if is_none r.reply && (guest || not (is_any_held seat.hold))
-    then Some (seat_with_execution seat r.process (execution (context_of seat r.process.initiator) r.process.cdb r.process.sent)) else None
+    if is_none r.reply && (guest || not (is_any_held seat.hold)) then Some
+    (seat_with_execution seat r.process (execution (context_of seat r.process.initiator) r.process.cdb r.process.sent))
+    else None
 
 abbrev pub seat_after_run : ProcId → Seat → Option Seat
 seat_after_run id seat = seat_after_run_of seat (is_some (guest_at seat.guests id)) (running_at seat id)
@@ -168,8 +180,10 @@ is_waiting_at None id = false
 is_waiting_at (Some u) id = list_any (λ (p : Process). same_id p.id id) u.waiting
 
 abbrev pub seat_after_failure_of : Seat → Bool → Process → Reply → Option RunningProcess → Option Seat
-seat_after_failure_of seat ended p reply (Some r) = if is_none r.reply then Some (seat_with_reply seat p.id reply) else None
-seat_after_failure_of seat ended p reply None = if is_waiting_at seat.unit p.id || ended then None else Some (seat_with_guest seat p (Some reply))
+seat_after_failure_of seat ended p reply (Some r) =
+    if is_none r.reply then Some (seat_with_reply seat p.id reply) else None
+seat_after_failure_of seat ended p reply None =
+    if is_waiting_at seat.unit p.id || ended then None else Some (seat_with_guest seat p (Some reply))
 
 -- `ended` says whether the process has ended or was lost.
 abbrev pub seat_after_failure : Bool → Process → Reply → Seat → Option Seat
@@ -178,17 +192,23 @@ seat_after_failure ended p reply seat = seat_after_failure_of seat ended p reply
 -- ---- a command ends
 
 abbrev pub seat_without : Seat → ProcId → Seat
-seat_without seat id = record seat { unit = unit_mapped (λ u. unit_without u id) seat.unit; guests = without_guest seat.guests id }
+seat_without seat id =
+    record seat { unit = unit_mapped (λ u. unit_without u id) seat.unit; guests = without_guest seat.guests id }
 
 abbrev pub seat_after_status : Seat → Process → Reply → Seat
 seat_after_status seat p reply =
-    if reply.status == CHECK_CONDITION then record seat { senses = with_sense_of seat.senses p.initiator (Some reply.sense); hold = with_hold_of seat.hold p.initiator true }
-    else if reply.status == GOOD && is_request_sense (command_of p.cdb) then record seat { senses = with_sense_of seat.senses p.initiator None; hold = with_hold_of seat.hold p.initiator false }
-    else seat
+    if reply.status == CHECK_CONDITION then record seat {
+      senses = with_sense_of seat.senses p.initiator (Some reply.sense);
+      hold = with_hold_of seat.hold p.initiator true;
+    } else if reply.status == GOOD && is_request_sense (command_of p.cdb) then record seat {
+      senses = with_sense_of seat.senses p.initiator None;
+      hold = with_hold_of seat.hold p.initiator false;
+    } else seat
 
 abbrev pub seat_after_end_with : Seat → Process → ℕ → Option Reply → Option Seat
 seat_after_end_with seat p status None = None
-seat_after_end_with seat p status (Some reply) = if reply.status == status then Some (seat_without (seat_after_status seat p reply) p.id) else None
+seat_after_end_with seat p status (Some reply) =
+    if reply.status == status then Some (seat_without (seat_after_status seat p reply) p.id) else None
 
 abbrev pub seat_after_end_of : Seat → ℕ → Option RunningProcess → Option Seat
 seat_after_end_of seat status None = None
@@ -206,11 +226,14 @@ abbrev pub unit_kept : (Process → Bool) → UnitState → UnitState
 unit_kept drops u = record u { waiting = kept_processes drops u.waiting; current = kept_running drops u.current }
 
 abbrev pub seat_kept : (Process → Bool) → Seat → Seat
-seat_kept drops seat = record seat { unit = unit_mapped (unit_kept drops) seat.unit; guests = kept_guests drops seat.guests }
+seat_kept drops seat =
+    record seat { unit = unit_mapped (unit_kept drops) seat.unit; guests = kept_guests drops seat.guests }
 
 abbrev pub seat_after_abort : ℕ → Seat → Seat
-seat_after_abort initiator seat =
-    record (seat_kept (λ p. p.initiator == initiator) seat) { senses = with_sense_of seat.senses initiator None; hold = with_hold_of seat.hold initiator false }
+seat_after_abort initiator seat = record (seat_kept (λ p. p.initiator == initiator) seat) {
+  senses = with_sense_of seat.senses initiator None;
+  hold = with_hold_of seat.hold initiator false;
+}
 
 abbrev pub seat_after_abort_tag : ℕ → ℕ → Seat → Seat
 seat_after_abort_tag initiator n seat = seat_kept (λ p. p.initiator == initiator && has_tag p.tag n) seat
@@ -224,8 +247,9 @@ abbrev pub attention_if_told : Bool → Option Sense → Option Sense
 attention_if_told told attention = if told && not (is_reset_pending attention) then Some commands_cleared else attention
 
 abbrev pub seat_after_clear_queue : ℕ → Seat → Seat
-seat_after_clear_queue initiator seat =
-    record (seat_kept (λ p. true) seat) { attentions = λ other. attention_if_told (is_told initiator (unit_processes seat.unit) other) (seat.attentions other) }
+seat_after_clear_queue initiator seat = record (seat_kept (λ p. true) seat) {
+  attentions = λ other. attention_if_told (is_told initiator (unit_processes seat.unit) other) (seat.attentions other);
+}
 
 abbrev pub is_initiator : List HostDef → ℕ → Bool
 is_initiator hosts dev = list_any (λ (h : HostDef). h.dev == dev) hosts
@@ -236,7 +260,8 @@ seat_after_reset hosts seat =
     record (seat_kept (λ p. true) seat) {
       senses = λ initiator. None;
       hold = λ initiator. false;
-      attentions = λ initiator. if is_some seat.unit && is_initiator hosts initiator then Some reset_occurred else seat.attentions initiator;
+      attentions = λ initiator. if is_some seat.unit && is_initiator hosts initiator then Some reset_occurred
+          else seat.attentions initiator;
     }
 
 abbrev pub seat_after_aborted : List HostDef → ℕ → AbortKind → Seat → Seat
@@ -266,5 +291,6 @@ is_elsewhere s (events.Run id) target unit = is_of_other_unit (process_of s id) 
 is_elsewhere s (events.Fail id code) target unit = is_of_other_unit (process_of s id) target unit
 is_elsewhere s (events.End id status) target unit = is_of_other_unit (process_of s id) target unit
 is_elsewhere s (events.Lost id) target unit = is_of_other_unit (process_of s id) target unit
-is_elsewhere s (events.Aborted initiator to_target to_unit what) target unit = is_abort_of_other_unit to_target to_unit what target unit
+is_elsewhere s (events.Aborted initiator to_target to_unit what) target unit =
+    is_abort_of_other_unit to_target to_unit what target unit
 is_elsewhere s (events.Reset dev) target unit = false

@@ -41,8 +41,8 @@ abbrev pub AreApart : List UnitState → Type 0
 AreApart [] = Unit {0}
 AreApart (u ∷ units) = (unit_state_at units u.target u.unit ≡ None) × AreApart units
 
--- The waiting and current processes are of their unit and of the scenario, and so are the guests; only initiators stand in a
--- hold; units stand once; and no unit still has to choose.
+-- The waiting and current processes are of their unit and of the scenario, and so are the guests; only initiators stand
+-- in a hold; units stand once; and no unit still has to choose.
 pub record IsSound (s : ScenarioValue) (a : Array) : Type 0 where
   pub units : AllOwnUnits s a.units
   pub guests : AllOwnGuests s a.guests

@@ -64,23 +64,27 @@ sense_of_nexus (entry ∷ entries) nexus = if same_nexus entry.0 nexus then Some
 
 abbrev pub senses_without : List (Nexus × Sense) → Nexus → List (Nexus × Sense)
 senses_without [] nexus = []
-senses_without (entry ∷ entries) nexus = if same_nexus entry.0 nexus then senses_without entries nexus else entry ∷ senses_without entries nexus
+senses_without (entry ∷ entries) nexus =
+    if same_nexus entry.0 nexus then senses_without entries nexus else entry ∷ senses_without entries nexus
 
 abbrev pub nexuses_without : List Nexus → Nexus → List Nexus
 nexuses_without [] nexus = []
-nexuses_without (p ∷ nexuses) nexus = if same_nexus p nexus then nexuses_without nexuses nexus else p ∷ nexuses_without nexuses nexus
+nexuses_without (p ∷ nexuses) nexus =
+    if same_nexus p nexus then nexuses_without nexuses nexus else p ∷ nexuses_without nexuses nexus
 
 abbrev pub is_held : List Nexus → ℕ → ℕ → Bool
 is_held nexuses target unit = list_any (λ (p : Nexus). is_at_unit p target unit) nexuses
 
 abbrev pub unit_state_at : List UnitState → ℕ → ℕ → Option UnitState
 unit_state_at [] target unit = None
-unit_state_at (u ∷ units) target unit = if u.target == target && u.unit == unit then Some u else unit_state_at units target unit
+unit_state_at (u ∷ units) target unit =
+    if u.target == target && u.unit == unit then Some u else unit_state_at units target unit
 
 -- The unit of the same target and number is replaced.
 abbrev pub with_unit : List UnitState → UnitState → List UnitState
 with_unit [] new = []
-with_unit (u ∷ units) new = if u.target == new.target && u.unit == new.unit then new ∷ units else u ∷ with_unit units new
+with_unit (u ∷ units) new =
+    if u.target == new.target && u.unit == new.unit then new ∷ units else u ∷ with_unit units new
 
 abbrev pub guest_at : List RunningProcess → ProcId → Option RunningProcess
 guest_at [] id = None
@@ -97,7 +101,8 @@ nexus_of p = record { initiator = p.initiator; target = p.target; unit = p.unit 
 
 abbrev pub with_current : UnitState → Option Process → UnitState
 with_current u None = u
-with_current u (Some p) = record u { waiting = without_process u.waiting p.id; current = Some (record { process = p; reply = None }) }
+with_current u (Some p) =
+    record u { waiting = without_process u.waiting p.id; current = Some (record { process = p; reply = None }) }
 
 abbrev pub has_no_current : Option RunningProcess → Bool
 has_no_current None = true
@@ -105,7 +110,8 @@ has_no_current (Some r) = false
 
 abbrev pub unit_after_choice : List Nexus → UnitState → UnitState
 unit_after_choice holds u =
-    if has_no_current u.current && not (is_held holds u.target u.unit) then with_current u (choice u.pick u.waiting) else u
+    if has_no_current u.current && not (is_held holds u.target u.unit) then with_current u (choice u.pick u.waiting)
+    else u
 
 abbrev pub units_after_choice : List Nexus → List UnitState → List UnitState
 units_after_choice holds [] = []
@@ -136,4 +142,12 @@ starting_units s [] = []
 starting_units s (u ∷ units) = starting_unit s u ∷ starting_units s units
 
 abbrev pub starting_array : ScenarioValue → Array
-starting_array s = record { units = starting_units s s.units; guests = []; senses = []; holds = []; attentions = []; replies = []; ended = [] }
+starting_array s = record {
+  units = starting_units s s.units;
+  guests = [];
+  senses = [];
+  holds = [];
+  attentions = [];
+  replies = [];
+  ended = [];
+}

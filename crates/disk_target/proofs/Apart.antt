@@ -25,16 +25,28 @@ never_own rows dev m x others own =
     absurd cc
 
 -- A connection of its own stood before a row, and one stands after it.
-pub in_own : (rows : List Row) (row : Row) (dev : ℕ) (o p : Option Connection) → connection rows ≡ o → connection (row ∷ rows) ≡ p → are_own o p (change_of rows row) dev ≡ true → StandsInOwn rows row dev
+pub in_own : (rows : List Row) (row : Row) (dev : ℕ) (o p : Option Connection) → connection rows ≡ o
+    → connection (row ∷ rows) ≡ p → are_own o p (change_of rows row) dev ≡ true → StandsInOwn rows row dev
 in_own rows row dev (Some m) (Some n) was is e =
     let two = and_parts (m.target == dev) (not (bus rows).rst) e in
-    record { before = m; after = n; own = record { stands = was; own = two.0 }; calm = not-true (bus rows).rst two.1; stands = is }
+    record {
+      before = m;
+      after = n;
+      own = record { stands = was; own = two.0 };
+      calm = not-true (bus rows).rst two.1;
+      stands = is;
+    }
 in_own rows row dev (Some m) None was is e = absurd cc
 in_own rows row dev None p was is e = absurd cc
 
 -- In a connection it does not count which unit is ready.
-pub ready_any : (rows : List Row) (d : TargetDef) (f : Option FaultDef) (i : TargetState) (ready : Option Ready) (n : Connection) → connection rows ≡ Some n → (bus rows).rst ≡ false → target_next d (told rows d.dev) f i ≡ target_next d (told rows d.dev) f (record i { ready = ready })
+pub ready_any :
+    (rows : List Row) (d : TargetDef) (f : Option FaultDef) (i : TargetState) (ready : Option Ready) (n : Connection)
+    → connection rows ≡ Some n → (bus rows).rst ≡ false
+    → target_next d (told rows d.dev) f i ≡ target_next d (told rows d.dev) f (record i { ready = ready })
 ready_any rows d f i ready n stands calm =
     let y : TargetState = record i { ready = ready } in
-    (λ j. with_reset (myself_by d (told rows d.dev) i) i.own.rst i.reset (calm_by d (told rows d.dev) f i (calm j) (stands j)))
-    ∙ (λ j. with_reset (myself_by d (told rows d.dev) y) y.own.rst y.reset (calm_by d (told rows d.dev) f y (sym calm j) (sym stands j)))
+    (λ j. with_reset (myself_by d (told rows d.dev) i) i.own.rst i.reset
+    (calm_by d (told rows d.dev) f i (calm j) (stands j)))
+    ∙ (λ j. with_reset (myself_by d (told rows d.dev) y) y.own.rst y.reset
+    (calm_by d (told rows d.dev) f y (sym calm j) (sym stands j)))

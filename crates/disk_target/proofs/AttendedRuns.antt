@@ -21,16 +21,20 @@ rows_attended s k i all (row ∷ rows) =
     && rows_attended s (run_state_after s k row) (instructions_by k row (row_reading k.story.bus_state row) i)
     (writers_after s k (hearing_of k row (row_reading k.story.bus_state row)) all) rows
 
-attended_on : (s : ScenarioValue) (rows before : List Row) → attended s before ≡ true → rows_attended s (run_state s before) (instructions s before) (writers s before) rows ≡ true → attended s (onto rows before) ≡ true
+attended_on : (s : ScenarioValue) (rows before : List Row) → attended s before ≡ true
+    → rows_attended s (run_state s before) (instructions s before) (writers s before) rows ≡ true
+    → attended s (onto rows before) ≡ true
 attended_on s [] before h e = h
 attended_on s (row ∷ rows) before h e =
     let k : RunState = run_state s before in
     let d : RowReading = row_reading k.story.bus_state row in
     let i : Instructions = instructions s before in
     let all : List Writer = writers s before in
-    let here = and_parts (is_attended s k row d i all) (rows_attended s (run_state_after s k row) (instructions_by k row d i) (writers_after s k (hearing_of k row d) all) rows) e in
+    let here = and_parts (is_attended s k row d i all) (rows_attended s (run_state_after s k row)
+    (instructions_by k row d i) (writers_after s k (hearing_of k row d) all) rows) e in
     attended_on s rows (row ∷ before) (and_from (attended s before) (is_attended s k row d i all) h here.0) here.1
 
 -- Of a whole run.
-pub all_attended : (s : ScenarioValue) (rows : List Row) → rows_attended s (first_run_state s) no_instructions [] rows ≡ true → attended s (onto rows []) ≡ true
+pub all_attended : (s : ScenarioValue) (rows : List Row)
+    → rows_attended s (first_run_state s) no_instructions [] rows ≡ true → attended s (onto rows []) ≡ true
 all_attended s rows e = attended_on s rows [] refl e

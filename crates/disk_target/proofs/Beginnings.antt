@@ -14,30 +14,41 @@ use Rattle.bus_base.proofs.Tests.{and_first, and_second, is_nothing, or_none_fir
 
 -- ---- guests
 
-none_here : (gs : List RunningProcess) (t n : ℕ) (id : ProcId) → guest_at gs id ≡ None → guest_at (guests_at gs t n) id ≡ None
+none_here : (gs : List RunningProcess) (t n : ℕ) (id : ProcId) → guest_at gs id ≡ None
+    → guest_at (guests_at gs t n) id ≡ None
 none_here [] t n id h = refl
-none_here (g ∷ gs) t n id h = go (λ k. none_here gs t n id k) (same_id g.process.id id) refl h (is_of_unit g.process t n)
+none_here (g ∷ gs) t n id h =
+    go (λ k. none_here gs t n id k) (same_id g.process.id id) refl h (is_of_unit g.process t n)
   where
-    go : (guest_at gs id ≡ None → guest_at (guests_at gs t n) id ≡ None) → (y : Bool) → same_id g.process.id id ≡ y → (if y then Some g else guest_at gs id) ≡ None → (z : Bool) → guest_at (if z then g ∷ guests_at gs t n else guests_at gs t n) id ≡ None
+    go : (guest_at gs id ≡ None → guest_at (guests_at gs t n) id ≡ None) → (y : Bool) → same_id g.process.id id ≡ y
+        → (if y then Some g else guest_at gs id) ≡ None
+        → (z : Bool) → guest_at (if z then g ∷ guests_at gs t n else guests_at gs t n) id ≡ None
     go rest true e k z = cc
     go rest false e k true = (λ i. if e i then Some g else guest_at (guests_at gs t n) id) ∙ rest k
     go rest false e k false = rest k
 
 -- ---- the unit
 
-outside : (us : List UnitState) (t n : ℕ) (id : ProcId) → is_waiting us id ≡ false → running_in us id ≡ None → is_inside (unit_state_at us t n) id ≡ false
+outside : (us : List UnitState) (t n : ℕ) (id : ProcId) → is_waiting us id ≡ false → running_in us id ≡ None
+    → is_inside (unit_state_at us t n) id ≡ false
 outside [] t n id w r = refl
-outside (u ∷ us) t n id w r = go (λ k l. outside us t n id k l) (u.target == t && u.unit == n) (running_if u.current id) refl r
+outside (u ∷ us) t n id w r =
+    go (λ k l. outside us t n id k l) (u.target == t && u.unit == n) (running_if u.current id) refl r
   where
-    go : (is_waiting us id ≡ false → running_in us id ≡ None → is_inside (unit_state_at us t n) id ≡ false) → (y : Bool) → (x : Option RunningProcess) → running_if u.current id ≡ x → (if is_some x then x else running_in us id) ≡ None → is_inside (if y then Some u else unit_state_at us t n) id ≡ false
+    go : (is_waiting us id ≡ false → running_in us id ≡ None → is_inside (unit_state_at us t n) id ≡ false) → (y : Bool)
+        → (x : Option RunningProcess) → running_if u.current id ≡ x → (if is_some x then x else running_in us id) ≡ None
+        → is_inside (if y then Some u else unit_state_at us t n) id ≡ false
     go rest y (Some q) e k = cc
     go rest true None e k = (λ i. or_none_first (waits_in u.waiting id) (is_waiting us id) w i || is_some (e i))
     go rest false None e k = rest (or_none_second (waits_in u.waiting id) (is_waiting us id) w) k
 
-runs_nowhere : (a : Array) (id : ProcId) → running_process a id ≡ None → (guest_at a.guests id ≡ None) × (running_in a.units id ≡ None)
+runs_nowhere : (a : Array) (id : ProcId) → running_process a id ≡ None
+    → (guest_at a.guests id ≡ None) × (running_in a.units id ≡ None)
 runs_nowhere a id h = go (guest_at a.guests id) refl h
   where
-    go : (x : Option RunningProcess) → guest_at a.guests id ≡ x → (if is_some x then x else running_in a.units id) ≡ None → (guest_at a.guests id ≡ None) × (running_in a.units id ≡ None)
+    go : (x : Option RunningProcess) → guest_at a.guests id ≡ x
+        → (if is_some x then x else running_in a.units id) ≡ None
+        → (guest_at a.guests id ≡ None) × (running_in a.units id ≡ None)
     go None e k = (e, k)
     go (Some g) e k = cc
 
@@ -48,8 +59,10 @@ new_nowhere a p t n h =
     record { none = none_here a.guests t n p.id runs.0; inside_is = outside a.units t n p.id waits runs.1 }
 
 -- A current process that is no guest.
-pub current_inside : (a : Array) (p : Process) (t n : ℕ) (r : RunningProcess) → guest_at a.guests p.id ≡ None → current_of (unit_state_at a.units t n) ≡ Some r → r.process ≡ p → IsNoGuest (seat_of a t n) p true
-current_inside a p t n r none e same = record { none = none_here a.guests t n p.id none; inside_is = go (unit_state_at a.units t n) e }
+pub current_inside : (a : Array) (p : Process) (t n : ℕ) (r : RunningProcess) → guest_at a.guests p.id ≡ None
+    → current_of (unit_state_at a.units t n) ≡ Some r → r.process ≡ p → IsNoGuest (seat_of a t n) p true
+current_inside a p t n r none e same =
+    record { none = none_here a.guests t n p.id none; inside_is = go (unit_state_at a.units t n) e }
   where
     or_true : (x : Bool) → (x || true) ≡ true
     or_true true = refl

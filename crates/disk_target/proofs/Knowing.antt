@@ -35,7 +35,8 @@ use Rattle.disk_target.specs.declared.known.Known.{Known}
 use Rattle.disk_target.specs.declared.turn.Turn.{Turn}
 use Rattle.target_course.proofs.Fits.{plan_fits}
 
-pub sources : (s : ScenarioValue) (rows : List Row) (v : TargetValue) → KnowsRows s rows v → AreSourcesOf s rows v.def v.units v.progress
+pub sources : (s : ScenarioValue) (rows : List Row) (v : TargetValue) → KnowsRows s rows v
+    → AreSourcesOf s rows v.def v.units v.progress
 sources s rows v h = record {
   units_dev = h.units_dev;
   progress_dev = h.progress_dev;
@@ -45,30 +46,45 @@ sources s rows v h = record {
 }
 
 -- In a connection of others it has no course to keep.
-pub away_course : (s : ScenarioValue) (rows : List Row) (dev : ℕ) (c : Option CourseState) → ((x : Connection) → IsOwnConnection rows dev x → ⊥) → IsCourseIf s rows dev c
+pub away_course : (s : ScenarioValue) (rows : List Row) (dev : ℕ) (c : Option CourseState)
+    → ((x : Connection) → IsOwnConnection rows dev x → ⊥) → IsCourseIf s rows dev c
 away_course s rows dev None away = λ n own. absurd (away n own)
 away_course s rows dev (Some c) away = λ n own calm. absurd (away n own)
 
 -- What it has to do by it is what the rows have it do.
-pub alike_by : (s : ScenarioValue) (rows : List Row) (n : Connection) (d : TargetDef) (u : UnitsState) (p : ProgressValue) (r : Option Reply) (c : CourseState) (k : Known) → IsKnownBy d u p r c k → IsPlain s rows (run_state s rows) → d.dev < 8 → target_def_of s d.dev ≡ Some d → heard s rows ≡ true → AreToldOf s rows c k.state → IsCourseOf s rows d.dev c → IsOwnConnection rows d.dev n → (bus rows).rst ≡ false
-    → AreAlikeIn rows d.dev (offering_in rows (serving_with k.serving (given_of s (run_state s rows)))) (offering_in rows (serving_of s (run_state s rows) d.dev))
-alike_by s rows n d u p r c k h plain below line e told course own calm =
-    subst (λ (v : next_phase.Serving). AreAlikeIn rows d.dev (offering_in rows v) (offering_in rows (serving_of s (run_state s rows) d.dev)))
-    (sym (h.serving (given_of s (run_state s rows)))) (course_offers s rows d c k.state below plain line e told course n own calm)
+pub alike_by : (s : ScenarioValue) (rows : List Row) (n : Connection) (d : TargetDef) (u : UnitsState)
+    (p : ProgressValue) (r : Option Reply) (c : CourseState) (k : Known) → IsKnownBy d u p r c k
+    → IsPlain s rows (run_state s rows) → d.dev < 8 → target_def_of s d.dev ≡ Some d → heard s rows ≡ true
+    → AreToldOf s rows c k.state → IsCourseOf s rows d.dev c → IsOwnConnection rows d.dev n → (bus rows).rst ≡ false
+    → AreAlikeIn rows d.dev (offering_in rows (serving_with k.serving (given_of s (run_state s rows))))
+    (offering_in rows (serving_of s (run_state s rows) d.dev))
+alike_by s rows n d u p r c k h plain below line e told course own calm = subst
+    (λ (v : next_phase.Serving). AreAlikeIn rows d.dev (offering_in rows v)
+    (offering_in rows (serving_of s (run_state s rows) d.dev))) (sym (h.serving (given_of s (run_state s rows))))
+    (course_offers s rows d c k.state below plain line e told course n own calm)
 
-pub alike_known : (s : ScenarioValue) (rows : List Row) (n : Connection) (v : TargetValue) (c : CourseState) (k : Known) → IsKnownBy v.def v.units v.progress v.reply c k → IsPlain s rows (run_state s rows) → FitsBus s → heard s rows ≡ true → IsServable s rows v.def
-    → KnowsRows s rows v → IsCourseOf s rows v.def.dev c → IsOwnConnection rows v.def.dev n → (bus rows).rst ≡ false → n.initiator ≡ k.from
-    → AreAlikeIn rows v.def.dev (offering_in rows (serving_with k.serving (given_of s (run_state s rows)))) (offering_in rows (serving_of s (run_state s rows) v.def.dev))
+pub alike_known : (s : ScenarioValue) (rows : List Row) (n : Connection) (v : TargetValue) (c : CourseState) (k : Known)
+    → IsKnownBy v.def v.units v.progress v.reply c k → IsPlain s rows (run_state s rows) → FitsBus s
+    → heard s rows ≡ true → IsServable s rows v.def → KnowsRows s rows v → IsCourseOf s rows v.def.dev c
+    → IsOwnConnection rows v.def.dev n → (bus rows).rst ≡ false → n.initiator ≡ k.from
+    → AreAlikeIn rows v.def.dev (offering_in rows (serving_with k.serving (given_of s (run_state s rows))))
+    (offering_in rows (serving_of s (run_state s rows) v.def.dev))
 alike_known s rows n v c k x plain fits e able h course own calm from =
-    alike_by s rows n v.def v.units v.progress v.reply c k x plain h.line.below h.line.target_is e
-    (x.told s rows n fits able (sources s rows v h) h.reply_is (course n own calm).ends_are own calm from) course own calm
+    alike_by s rows n v.def v.units v.progress v.reply c k x plain h.line.below h.line.target_is e (x.told s rows n fits
+    able (sources s rows v h) h.reply_is (course n own calm).ends_are own calm from) course own calm
 
 -- What it has kept.
-pub kept : (v : TargetValue) (was : Option Known) (c : CourseState) (k : Known) → IsKnownIf v.def v.units v.progress v.reply v.course was → v.course ≡ Some c → was ≡ Some k → IsKnownBy v.def v.units v.progress v.reply c k
-kept v was c k h course is = subst (λ (x : Option Known). IsKnownIf v.def v.units v.progress v.reply v.course x) is h c course
+pub kept : (v : TargetValue) (was : Option Known) (c : CourseState) (k : Known)
+    → IsKnownIf v.def v.units v.progress v.reply v.course was → v.course ≡ Some c → was ≡ Some k
+    → IsKnownBy v.def v.units v.progress v.reply c k
+kept v was c k h course is =
+    subst (λ (x : Option Known). IsKnownIf v.def v.units v.progress v.reply v.course x) is h c course
 
 -- Its plan goes on.
-planned : (d : TargetDef) (u : UnitsState) (p : ProgressValue) (r : Option Reply) (c : CourseState) (k : Known) (q : Plan) → AreFit q.messages → IsKnownBy d u p r c k → IsKnownBy d u p r (record c { plan = q }) (with_plan k (record c { plan = q }))
+planned :
+    (d : TargetDef) (u : UnitsState) (p : ProgressValue) (r : Option Reply) (c : CourseState) (k : Known) (q : Plan)
+    → AreFit q.messages → IsKnownBy d u p r c k
+    → IsKnownBy d u p r (record c { plan = q }) (with_plan k (record c { plan = q }))
 planned d u p r c k q fits h = record {
   unit = h.unit;
   device = h.device;
@@ -82,24 +98,34 @@ planned d u p r c k q fits h = record {
   fits = fits;
 }
 
-known_on : (d : TargetDef) (u : UnitsState) (p : ProgressValue) (r : Option Reply) (c : CourseState) (k : Option Known) (w : Hearing) (l : Leaving) → AreFit l.messages → IsKnownIf d u p r (Some c) k
-    → IsKnownIf d u p r (Some (record c { plan = plan_after w l c.plan })) (refreshed k (Some (record c { plan = plan_after w l c.plan })))
+known_on : (d : TargetDef) (u : UnitsState) (p : ProgressValue) (r : Option Reply) (c : CourseState)
+    (k : Option Known) (w : Hearing) (l : Leaving) → AreFit l.messages → IsKnownIf d u p r (Some c) k
+    → IsKnownIf d u p r (Some (record c { plan = plan_after w l c.plan }))
+    (refreshed k (Some (record c { plan = plan_after w l c.plan })))
 known_on d u p r c None w l fits h = tt
 known_on d u p r c (Some k) w l fits h = λ x e.
     let it = h c refl in
     let q : Plan = plan_after w l c.plan in
     let was = subst (λ (v : next_phase.Serving). AreFit v.plan.messages) (it.serving []) it.fits in
-    subst (λ (y : CourseState). IsKnownBy d u p r y (with_plan k (record c { plan = q }))) (some_is _ _ e) (planned d u p r c k q (plan_fits w l c.plan was fits) it)
+    subst (λ (y : CourseState). IsKnownBy d u p r y (with_plan k (record c { plan = q }))) (some_is _ _ e)
+    (planned d u p r c k q (plan_fits w l c.plan was fits) it)
 
-pub still_known : (d : TargetDef) (u : UnitsState) (p : ProgressValue) (r : Option Reply) (was now : Option CourseState) (k : Option Known) (t : Turn) (w : Hearing) (before own : Option Connection) (shown : List Event) → IsStill t w before own was shown → AreFit t.leaving.messages
-    → ((c : CourseState) → was ≡ Some c → now ≡ Some (course_after w t.leaving c)) → IsKnownIf d u p r was k → IsKnownIf d u p r now (refreshed k now)
+pub still_known : (d : TargetDef) (u : UnitsState) (p : ProgressValue) (r : Option Reply) (was now : Option CourseState)
+    (k : Option Known) (t : Turn) (w : Hearing) (before own : Option Connection) (shown : List Event)
+    → IsStill t w before own was shown → AreFit t.leaving.messages
+    → ((c : CourseState) → was ≡ Some c → now ≡ Some (course_after w t.leaving c)) → IsKnownIf d u p r was k
+    → IsKnownIf d u p r now (refreshed k now)
 still_known d u p r None now k t w before own shown h fits goes known = let bad : false ≡ true = h.knows in absurd cc
 still_known d u p r (Some c) now k t w before own shown h fits goes known =
     let q : Plan = plan_after w t.leaving c.plan in
-    let e : now ≡ Some (record c { plan = q }) = goes c refl ∙ (λ i. Some (record (if h.knows i then c else course_told w c) { plan = q })) in
-    subst (λ (x : Option CourseState). IsKnownIf d u p r x (refreshed k x)) (sym e) (known_on d u p r c k w t.leaving fits known)
+    let e : now ≡ Some (record c { plan = q }) = goes c refl
+    ∙ (λ i. Some (record (if h.knows i then c else course_told w c) { plan = q })) in
+    subst (λ (x : Option CourseState). IsKnownIf d u p r x (refreshed k x)) (sym e)
+    (known_on d u p r c k w t.leaving fits known)
 
-pub progress_stays : (v : ProgressValue) (process : Option ProcId) (l : Leaving) (w : Hearing) (before after : Option Connection) → is_phase_left w ≡ false → progress_seen v process l w before after ≡ v
+pub progress_stays :
+    (v : ProgressValue) (process : Option ProcId) (l : Leaving) (w : Hearing) (before after : Option Connection)
+    → is_phase_left w ≡ false → progress_seen v process l w before after ≡ v
 progress_stays v process l w None after stays = refl
 progress_stays v process l w (Some m) None stays = refl
 progress_stays v process l w (Some m) (Some n) stays =

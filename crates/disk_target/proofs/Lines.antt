@@ -1,5 +1,6 @@
 -- What the lines of a scenario say of its processes and of its targets.
-use Rattle.std.proofs.Common.{ℕ, ◌≡◌, ◌<◌, ◌==◌, Bool, true, false, List, [], ◌∷◌, refl, subst, cond, Option, Some, None}
+use Rattle.std.proofs.Common.{ℕ, ◌≡◌, ◌<◌, ◌==◌, Bool, true, false, List, [], ◌∷◌, refl, subst, cond, Option, Some}
+use Rattle.std.proofs.Common.{None}
 use Rattle.std.specs.Prelude.{if◌then◌else◌}
 use Rattle.std.specs.List.{find}
 use Rattle.bus_base.specs.declared.ProcId.{ProcId}
@@ -8,7 +9,8 @@ use Rattle.scenario.specs.declared.value.TargetDef.{TargetDef}
 use Rattle.scenario.specs.Value.{ScenarioValue}
 use Rattle.scenario.specs.declared.value.Tag.TheVariants as tags
 use Rattle.scenario.specs.Needs.{sent_of}
-use Rattle.disk_array.specs.Processes.{Process, payload_bytes, sense_block, command_at, process_by, process_if, process_of}
+use Rattle.disk_array.specs.Processes.{Process, payload_bytes, sense_block, command_at, process_by, process_if}
+use Rattle.disk_array.specs.Processes.{process_of}
 use Rattle.disk_array.specs.Seats.{is_initiator}
 use Rattle.bus_due.specs.Defs.{target_def_of}
 use Rattle.bus_due.specs.Wants.{seek_of}
@@ -22,29 +24,48 @@ pub record IsOfLine (s : ScenarioValue) (p : Process) : Type 0 where
   pub host : is_initiator s.hosts p.initiator ≡ true
 
 line_by : (s : ScenarioValue) (id : ProcId) (c : CmdDef) → IsCommandLine s c → IsOfLine s (process_by s id c)
-line_by s id c l = either id.sense
-    (record { id = id; initiator = c.host; target = c.target; unit = c.unit; tag = tags.Untagged; cdb = sense_block; sent = [] })
-    (record { id = id; initiator = c.host; target = c.target; unit = c.unit; tag = c.tag; cdb = c.cdb; sent = payload_bytes c.payload (sent_of s c) })
-    (record { unit = l.unit; host = l.host_is }) (record { unit = l.unit; host = l.host_is })
+line_by s id c l = either id.sense (record {
+  id = id;
+  initiator = c.host;
+  target = c.target;
+  unit = c.unit;
+  tag = tags.Untagged;
+  cdb = sense_block;
+  sent = [];
+}) (record {
+  id = id;
+  initiator = c.host;
+  target = c.target;
+  unit = c.unit;
+  tag = c.tag;
+  cdb = c.cdb;
+  sent = payload_bytes c.payload (sent_of s c);
+}) (record { unit = l.unit; host = l.host_is }) (record { unit = l.unit; host = l.host_is })
   where
     either : (y : Bool) (one two : Process) → IsOfLine s one → IsOfLine s two → IsOfLine s (if y then one else two)
     either true one two f g = f
     either false one two f g = g
 
-pub line_of_process : (s : ScenarioValue) (id : ProcId) (p : Process) → ((n : ℕ) (c : CmdDef) → command_at s.commands n ≡ Some c → IsCommandLine s c) → process_of s id ≡ Some p → IsOfLine s p
+pub line_of_process : (s : ScenarioValue) (id : ProcId) (p : Process)
+    → ((n : ℕ) (c : CmdDef) → command_at s.commands n ≡ Some c → IsCommandLine s c) → process_of s id ≡ Some p
+    → IsOfLine s p
 line_of_process s id p lines e = go (command_at s.commands id.command) refl e
   where
     go : (x : Option CmdDef) → command_at s.commands id.command ≡ x → process_if s id x ≡ Some p → IsOfLine s p
     go None f k = absurd (none_some p k)
-    go (Some c) f k = subst (λ (q : Process). IsOfLine s q) (some_is (process_by s id c) p k) (line_by s id c (lines id.command c f))
+    go (Some c) f k =
+        subst (λ (q : Process). IsOfLine s q) (some_is (process_by s id c) p k) (line_by s id c (lines id.command c f))
 
 -- ---- the seek time of a target
 
-sought : (targets : List TargetDef) (dev : ℕ) (t : TargetDef) → find (λ (x : TargetDef). x.dev == dev) targets ≡ Some t → seek_of targets dev ≡ t.seek
+sought : (targets : List TargetDef) (dev : ℕ) (t : TargetDef) → find (λ (x : TargetDef). x.dev == dev) targets ≡ Some t
+    → seek_of targets dev ≡ t.seek
 sought [] dev t e = absurd (none_some t e)
 sought (x ∷ targets) dev t e = go (x.dev == dev) e (λ k. sought targets dev t k)
   where
-    go : (y : Bool) → cond y (Some x) (find (λ (z : TargetDef). z.dev == dev) targets) ≡ Some t → (find (λ (z : TargetDef). z.dev == dev) targets ≡ Some t → seek_of targets dev ≡ t.seek) → (if y then x.seek else seek_of targets dev) ≡ t.seek
+    go : (y : Bool) → cond y (Some x) (find (λ (z : TargetDef). z.dev == dev) targets) ≡ Some t
+        → (find (λ (z : TargetDef). z.dev == dev) targets ≡ Some t → seek_of targets dev ≡ t.seek)
+        → (if y then x.seek else seek_of targets dev) ≡ t.seek
     go true k more = λ i. (some_is x t k i).seek
     go false k more = more k
 

@@ -23,7 +23,8 @@ use Rattle.disk_target.specs.Targets.{AreTied}
 use Rattle.disk_target.specs.Turns.{AreAttendedOf, AreAttendedOn, is_reset}
 use Rattle.disk_target.proofs.RowOutside.{outside_row}
 use Rattle.disk_target.proofs.RowServed.{before_own}
-use Rattle.disk_target.proofs.RowShapes.{ShowsIn, nothing, turned, lost, aborted, ended, none_shown, reset_is, row_shows}
+use Rattle.disk_target.proofs.RowShapes.{ShowsIn, nothing, turned, lost, aborted, ended, none_shown, reset_is}
+use Rattle.disk_target.proofs.RowShapes.{row_shows}
 use Rattle.disk_target.proofs.UnitRows.{stays}
 
 pub record Resets (s : ScenarioValue) (rows : List Row) (row : Row) : Type 0 where
@@ -38,7 +39,8 @@ shape_none i shapes.runs = refl
 shape_none i (shapes.fails code) = refl
 shape_none i shapes.accepts_and_runs = refl
 
-pub resets : (s : ScenarioValue) (rows : List Row) (row : Row) → telling s (row ∷ rows) ≡ true → is_reset (events_of_row s rows row) ≡ true → Resets s rows row
+pub resets : (s : ScenarioValue) (rows : List Row) (row : Row) → telling s (row ∷ rows) ≡ true
+    → is_reset (events_of_row s rows row) ≡ true → Resets s rows row
 resets s rows row e is = go d.change.after.rst refl
   where
     k : RunState
@@ -51,7 +53,8 @@ resets s rows row e is = go d.change.after.rst refl
     never shown f g = let bad : false ≡ true = sym g ∙ sym (λ i. is_reset (f i)) ∙ is in absurd cc
 
     rising : (y : Bool) → rises d.change.own.rst d.change.next.rst ≡ y → d.change.after.rst ≡ true → Resets s rows row
-    rising true g r = record { shown = reset_is s rows row r ∙ (λ i. if g i then events.Reset row.dev ∷ [] else []); rst = r }
+    rising true g r =
+        record { shown = reset_is s rows row r ∙ (λ i. if g i then events.Reset row.dev ∷ [] else []); rst = r }
     rising false g r = never [] (reset_is s rows row r ∙ (λ i. if g i then events.Reset row.dev ∷ [] else [])) refl
 
     by : (n : Connection) → ShowsIn s k d n (events_of_row s rows row) → Resets s rows row
@@ -69,11 +72,14 @@ resets s rows row e is = go d.change.after.rst refl
     go true r = rising (rises d.change.own.rst d.change.next.rst) refl r
     go false r = calm r k.story.bus_state.connection refl
 
-pub outside_on : (s : ScenarioValue) (rows : List Row) (row : Row) (dev : ℕ) (v : ProcessesState) → ((before : List Row) → AreOfDevices before → IsPlain s before (run_state s before)) → AreOfDevices (row ∷ rows) → HasSeats s → AreTied s (row ∷ rows)
-    → ((n : Connection) → IsOwnConnection rows dev n → (bus rows).rst ≡ true) → is_reset (events_of_row s rows row) ≡ false → AreAttendedOf s rows dev v → AreAttendedOn s rows row dev v
+pub outside_on : (s : ScenarioValue) (rows : List Row) (row : Row) (dev : ℕ) (v : ProcessesState)
+    → ((before : List Row) → AreOfDevices before → IsPlain s before (run_state s before)) → AreOfDevices (row ∷ rows)
+    → HasSeats s → AreTied s (row ∷ rows) → ((n : Connection) → IsOwnConnection rows dev n → (bus rows).rst ≡ true)
+    → is_reset (events_of_row s rows row) ≡ false → AreAttendedOf s rows dev v → AreAttendedOn s rows row dev v
 outside_on s rows row dev v plain d seats tied away none h = record {
   dev_is = h.dev_is;
-  kept = stays s rows row v.units seats tied.allowed_are (subst (λ (n : ℕ). AreOutside s n (events_of_row s rows row)) (sym h.dev_is) (outside_row s rows row dev plain d tied away none)) h.kept;
+  kept = stays s rows row v.units seats tied.allowed_are (subst (λ (n : ℕ). AreOutside s n (events_of_row s rows row))
+      (sym h.dev_is) (outside_row s rows row dev plain d tied away none)) h.kept;
   standing = λ m x n p own calm is.
       let before = before_own s rows row dev m n (plain rows d.1) (plain (row ∷ rows) d) tied.heard_are x own calm in
       let bad : true ≡ false = sym (away m before.0) ∙ before.1 in

@@ -1,5 +1,6 @@
 -- A process that runs, and ends GOOD, has sent what its target has gathered of it.
-use Rattle.std.proofs.Common.{ℕ, ◌≡◌, ◌≤◌, ◌+◌, ◌-◌, ◌*◌, ◌^◌, ◌∙◌, ◌==◌, arith, Bool, true, false, List, [], ◌∷◌, refl, sym, length, take, Option, Some, None, ◌⊎◌, inl, inr}
+use Rattle.std.proofs.Common.{ℕ, ◌≡◌, ◌≤◌, ◌+◌, ◌-◌, ◌*◌, ◌^◌, ◌∙◌, ◌==◌, arith, Bool, true, false, List, [], ◌∷◌, refl}
+use Rattle.std.proofs.Common.{sym, length, take, Option, Some, None, ◌⊎◌, inl, inr}
 use Rattle.std.specs.Prelude.{if◌then◌else◌, not, ◌&&◌, min, nat_le}
 use Rattle.std.proofs.lemmas.Bool.{and_parts, eqb-true, leb-true}
 use Rattle.std.proofs.lemmas.List.{take_all, length-take}
@@ -50,12 +51,16 @@ block_count None = refl
 block_count (Some range) = refl
 
 -- A write that would end GOOD sends the blocks that it names.
-pub sends_as_named : (s : ScenarioValue) (a : Array) (p : Process) → FitsBus s → AreOfLines s a → has_target s p.target ≡ true → process_of s p.id ≡ Some p → is_writing p ≡ true → ((reply_now a p).status == GOOD) ≡ true
+pub sends_as_named : (s : ScenarioValue) (a : Array) (p : Process) → FitsBus s
+    → AreOfLines s a → has_target s p.target ≡ true → process_of s p.id ≡ Some p
+    → is_writing p ≡ true → ((reply_now a p).status == GOOD) ≡ true
     → taken_by p.cdb (size_of (unit_state_at a.units p.target p.unit)) ≡ length p.sent
 sends_as_named s a p fits lines target is writes good =
     let size : ℕ = size_of (unit_state_at a.units p.target p.unit) in
-    few (count_if (blocks_in (range_in (command_of p.cdb))) * size) (length p.sent)
-    ((λ i. block_count (range_in (command_of p.cdb)) i * size) ∙ named s a p fits lines target is writes (eqb-true (reply_now a p).status GOOD good)) (process_few s p.id p fits is)
+    few (count_if (blocks_in (range_in (command_of p.cdb))) * size)
+    (length p.sent) ((λ i. block_count (range_in (command_of p.cdb)) i * size)
+    ∙ named s a p fits lines target is writes (eqb-true (reply_now a p).status GOOD good))
+    (process_few s p.id p fits is)
 
 -- ---- which bytes
 
@@ -71,8 +76,11 @@ enough : (a len most : ℕ) → len ≤ a → min a len ≤ most → len ≤ mos
 enough a len most h k = omega arith
 
 -- All of them have come.
-all_come : (s : ScenarioValue) (rows : List Row) (v : GatheredValue) (p : Process) (n : Connection) → AreAllGathered s rows v → IsOwnConnection rows v.dev n → (bus rows).rst ≡ false → (run_state s rows).exchange.begun ≡ true → process_served s (run_state s rows) ≡ Some p
-    → process_of s p.id ≡ Some p → p.target ≡ v.dev → writer_of (writers s rows) p.target p.unit ≡ Some p.id → length p.sent ≤ came s (run_state s rows) p → length p.sent ≤ length (gathering_at v.units p.unit).bytes
+all_come : (s : ScenarioValue) (rows : List Row) (v : GatheredValue) (p : Process) (n : Connection)
+    → AreAllGathered s rows v → IsOwnConnection rows v.dev n → (bus rows).rst ≡ false
+    → (run_state s rows).exchange.begun ≡ true → process_served s (run_state s rows) ≡ Some p
+    → process_of s p.id ≡ Some p → p.target ≡ v.dev → writer_of (writers s rows) p.target p.unit ≡ Some p.id
+    → length p.sent ≤ came s (run_state s rows) p → length p.sent ≤ length (gathering_at v.units p.unit).bytes
 all_come s rows v p n all own calm begins is process at w most = go (is_data_out (phase_of (bus_of k))) refl most
   where
     k : RunState
@@ -81,20 +89,23 @@ all_come s rows v p n all own calm begins is process at w most = go (is_data_out
     start : ℕ
     start = start_of_run s p (progress_in k.progress p.id).runs
 
-    go : (y : Bool) → is_data_out (phase_of (bus_of k)) ≡ y → length p.sent ≤ start + (if y then k.handshakes.answers else 0) → length p.sent ≤ length (gathering_at v.units p.unit).bytes
-    go true e most =
-        enough (start + k.handshakes.answers) (length p.sent) (length (gathering_at v.units p.unit).bytes) most
-        (all.come p n (record { own = own; served = is; calm = calm; begun = begins; phase = data_out_is (phase_of (bus_of k)) e }) w)
-    go false e most =
-        enough start (length p.sent) (length (gathering_at v.units p.unit).bytes) (omega (arith, most)) (all.made p.id p process at w)
+    go : (y : Bool) → is_data_out (phase_of (bus_of k)) ≡ y
+        → length p.sent ≤ start + (if y then k.handshakes.answers else 0)
+        → length p.sent ≤ length (gathering_at v.units p.unit).bytes
+    go true e most = enough (start + k.handshakes.answers) (length p.sent)
+        (length (gathering_at v.units p.unit).bytes) most (all.come p n
+        (record { own = own; served = is; calm = calm; begun = begins; phase = data_out_is (phase_of (bus_of k)) e }) w)
+    go false e most = enough start (length p.sent) (length (gathering_at v.units p.unit).bytes) (omega (arith, most))
+        (all.made p.id p process at w)
 
-whole_taken : (s : ScenarioValue) (v : GatheredValue) (p : Process) (n : ℕ) → IsGatheredOf s v → n ≡ p.unit → (gathering_at v.units p.unit).owner ≡ Some p.id → process_of s p.id ≡ Some p → p.unit ≤ 7 → length p.sent ≤ length (gathering_at v.units p.unit).bytes
+whole_taken : (s : ScenarioValue) (v : GatheredValue) (p : Process) (n : ℕ) → IsGatheredOf s v
+    → n ≡ p.unit → (gathering_at v.units p.unit).owner ≡ Some p.id → process_of s p.id ≡ Some p
+    → p.unit ≤ 7 → length p.sent ≤ length (gathering_at v.units p.unit).bytes
     → bytes_of (gathering_at v.units n) p.id (length p.sent) ≡ p.sent
-whole_taken s v p n g at owned process small most =
-    (λ i. bytes_of (gathering_at v.units (at i)) p.id (length p.sent))
-    ∙ bytes_sent s (gathering_at v.units p.unit) p.id (length p.sent) p (bytes_of (gathering_at v.units p.unit) p.id (length p.sent)) (g.each p.unit (omega (arith, small))) process refl (omega (arith, long))
-    ∙ (λ i. take (long i) p.sent)
-    ∙ take_all (length p.sent) p.sent (omega arith)
+whole_taken s v p n g at owned process small most = (λ i. bytes_of (gathering_at v.units (at i)) p.id (length p.sent))
+    ∙ bytes_sent s (gathering_at v.units p.unit) p.id (length p.sent) p
+    (bytes_of (gathering_at v.units p.unit) p.id (length p.sent)) (g.each p.unit (omega (arith, small))) process refl
+    (omega (arith, long)) ∙ (λ i. take (long i) p.sent) ∙ take_all (length p.sent) p.sent (omega arith)
   where
     bytes : List ℕ
     bytes = (gathering_at v.units p.unit).bytes
@@ -103,18 +114,26 @@ whole_taken s v p n g at owned process small most =
     mine = (λ i. is_same_process (owned i) (Some p.id)) ∙ id_self p.id
 
     long : length (bytes_of (gathering_at v.units p.unit) p.id (length p.sent)) ≡ length p.sent
-    long = (λ i. length (if mine i then take (length p.sent) bytes else [])) ∙ length-take (length p.sent) bytes ∙ shorter (length p.sent) (length bytes) most
+    long = (λ i. length (if mine i then take (length p.sent) bytes else [])) ∙ length-take (length p.sent) bytes
+        ∙ shorter (length p.sent) (length bytes) most
       where
         shorter : (a b : ℕ) → a ≤ b → min a b ≡ a
         shorter a b h = omega arith
 
 -- As it runs.
-pub all_sent : (s : ScenarioValue) (rows : List Row) (v : GatheredValue) (p : Process) (n : Connection) (c : CourseState) (t : Turn) (unit : ℕ) → FitsBus s → AreOfLines s (array_of s (run_state s rows)) → has_target s p.target ≡ true → IsGatheredOf s v → AreAllGathered s rows v → IsOwnConnection rows v.dev n → (bus rows).rst ≡ false → (run_state s rows).exchange.begun ≡ true
-    → process_served s (run_state s rows) ≡ Some p → process_of s p.id ≡ Some p → p.target ≡ v.dev → p.unit ≤ 7 → unit ≡ p.unit → c.id ≡ p.id → c.block ≡ p.cdb
+pub all_sent : (s : ScenarioValue) (rows : List Row) (v : GatheredValue) (p : Process) (n : Connection)
+    (c : CourseState) (t : Turn) (unit : ℕ) → FitsBus s → AreOfLines s (array_of s (run_state s rows))
+    → has_target s p.target ≡ true → IsGatheredOf s v → AreAllGathered s rows v → IsOwnConnection rows v.dev n
+    → (bus rows).rst ≡ false → (run_state s rows).exchange.begun ≡ true → process_served s (run_state s rows) ≡ Some p
+    → process_of s p.id ≡ Some p → p.target ≡ v.dev → p.unit ≤ 7 → unit ≡ p.unit → c.id ≡ p.id → c.block ≡ p.cdb
     → t.plan.out_len ≡ taken_by c.block (size_of (unit_state_at (array_of s (run_state s rows)).units p.target p.unit))
-    → is_whole_run s (run_state s rows) (writers s rows) (Some p) ≡ true → (reply_now (array_of s (run_state s rows)) p).status ≡ GOOD → bytes_of (gathering_at v.units unit) c.id (count_sent t c) ≡ p.sent
-all_sent s rows v p n c t unit fits lines target g all own calm begins is process at small unit_is id block taken whole status =
-    (λ i. bytes_of (gathering_at v.units unit) (id i) (count_sent t c)) ∙ go (either (length p.sent == 0) (is_writing p && (is_writer (writer_of (writers s rows) p.target p.unit) p.id && nat_le (length p.sent) (came s k p))) ran)
+    → is_whole_run s (run_state s rows) (writers s rows) (Some p) ≡ true
+    → (reply_now (array_of s (run_state s rows)) p).status ≡ GOOD
+    → bytes_of (gathering_at v.units unit) c.id (count_sent t c) ≡ p.sent
+all_sent s rows v p n c t unit fits lines target g all own calm begins is process at small unit_is
+    id block taken whole status = (λ i. bytes_of (gathering_at v.units unit) (id i) (count_sent t c))
+    ∙ go (either (length p.sent == 0) (is_writing p
+    && (is_writer (writer_of (writers s rows) p.target p.unit) p.id && nat_le (length p.sent) (came s k p))) ran)
   where
     k : RunState
     k = run_state s rows
@@ -139,13 +158,20 @@ all_sent s rows v p n c t unit fits lines target g all own calm begins is proces
     zero_count true w e = count w ∙ e
     zero_count false w e = λ i. if (writes ∙ w) i then t.plan.out_len else 0
 
-    go : ((length p.sent == 0) ≡ true) ⊎ ((is_writing p && (is_writer (writer_of (writers s rows) p.target p.unit) p.id && nat_le (length p.sent) (came s k p))) ≡ true) → bytes_of (gathering_at v.units unit) p.id (count_sent t c) ≡ p.sent
+    go : ((length p.sent == 0) ≡ true) ⊎ ((is_writing p
+        && (is_writer (writer_of (writers s rows) p.target p.unit) p.id && nat_le (length p.sent) (came s k p))) ≡ true)
+        → bytes_of (gathering_at v.units unit) p.id (count_sent t c) ≡ p.sent
     go (inl e) =
         let none : length p.sent ≡ 0 = eqb-true (length p.sent) 0 e in
-        no_bytes (gathering_at v.units unit) p.id (count_sent t c) (zero_count (is_writing p) refl none) ∙ sym (nil_of p.sent none)
+        no_bytes (gathering_at v.units unit) p.id (count_sent t c) (zero_count (is_writing p) refl none)
+        ∙ sym (nil_of p.sent none)
     go (inr e) =
-        let one = and_parts (is_writing p) (is_writer (writer_of (writers s rows) p.target p.unit) p.id && nat_le (length p.sent) (came s k p)) e in
-        let two = and_parts (is_writer (writer_of (writers s rows) p.target p.unit) p.id) (nat_le (length p.sent) (came s k p)) one.1 in
-        let w : writer_of (writers s rows) p.target p.unit ≡ Some p.id = is_writer_is (writer_of (writers s rows) p.target p.unit) p.id two.0 in
+        let one = and_parts (is_writing p)
+        (is_writer (writer_of (writers s rows) p.target p.unit) p.id && nat_le (length p.sent) (came s k p)) e in
+        let two = and_parts (is_writer (writer_of (writers s rows) p.target p.unit) p.id)
+        (nat_le (length p.sent) (came s k p)) one.1 in
+        let w : writer_of (writers s rows) p.target p.unit ≡ Some p.id = is_writer_is
+        (writer_of (writers s rows) p.target p.unit) p.id two.0 in
         (λ i. bytes_of (gathering_at v.units unit) p.id (count one.0 i))
-        ∙ whole_taken s v p unit g unit_is (all.owned p.id p process at w) process small (all_come s rows v p n all own calm begins is process at w (leb-true (length p.sent) (came s k p) two.1))
+        ∙ whole_taken s v p unit g unit_is (all.owned p.id p process at w) process small
+        (all_come s rows v p n all own calm begins is process at w (leb-true (length p.sent) (came s k p) two.1))

@@ -5,7 +5,8 @@ use Rattle.bus_reactions.specs.declared.due.Myself.{Myself}
 use Rattle.bus_reactions.specs.declared.ends.Offering.{Offering}
 use Rattle.bus_reactions.specs.declared.ends.Pace.{Pace}
 use Rattle.bus_reactions.specs.Ends.{message_out_start, target_due}
-use Rattle.bus_reactions.specs.Target.{bits_if, byte_change, first_req, pulse_turn, req_negation, req_pulse_end, target_pulse, target_turn}
+use Rattle.bus_reactions.specs.Target.{bits_if, byte_change, first_req, pulse_turn, req_negation, req_pulse_end}
+use Rattle.bus_reactions.specs.Target.{target_pulse, target_turn}
 use Rattle.scenario.specs.declared.value.TargetDef.{TargetDef}
 use Rattle.target_course.specs.scsi_device.specs.Told.{Told, pace_of}
 use Rattle.target_course.specs.Dues.{myself_by, offering_of_target, plain_by}
@@ -41,7 +42,8 @@ waiting_is d t i e = go t.begun p.pulsed t.lines.req t.sight.bus.ack e
     go false pulsed false true x = absurd cc
 
 -- And where it drives a REQ pulse it ends that, as with any other offering.
-pub pulse_ends : (d : TargetDef) (t : Told) (i : TargetState) (g : Offering) → is_in_pulse t ≡ true → target_due t.begun t.sight t.handshakes (myself_by d t i) (pace_of t None) g ≡ plain_by d t i
+pub pulse_ends : (d : TargetDef) (t : Told) (i : TargetState) (g : Offering) → is_in_pulse t ≡ true
+    → target_due t.begun t.sight t.handshakes (myself_by d t i) (pace_of t None) g ≡ plain_by d t i
 pulse_ends d t i g e = go t.lines.req t.begun p.pulsed e
   where
     p : Pace
@@ -54,12 +56,16 @@ pulse_ends d t i g e = go t.lines.req t.begun p.pulsed e
     h = offering_of_target t i
 
     go : (req begun pulsed : Bool) → drives_pulse req begun pulsed ≡ true
-        → (if not begun then message_out_start t.sight me
-        else if pulsed then (if req then req_pulse_end t.sight me p else (if t.handshakes.requests == 0 then first_req t.sight me g else if t.sight.bus.io && not (me.own.data_bits == bits_if g.follows g.byte) then byte_change t.handshakes me p g else pulse_turn t.sight t.handshakes me p g))
-        else (if req then (if t.sight.bus.ack then req_negation t.sight me g else None) else if t.sight.bus.ack then None else target_turn t.sight t.handshakes me g))
-        ≡ (if not begun then message_out_start t.sight me
-        else if pulsed then (if req then req_pulse_end t.sight me p else (if t.handshakes.requests == 0 then first_req t.sight me h else if t.sight.bus.io && not (me.own.data_bits == bits_if h.follows h.byte) then byte_change t.handshakes me p h else pulse_turn t.sight t.handshakes me p h))
-        else (if req then (if t.sight.bus.ack then req_negation t.sight me h else None) else if t.sight.bus.ack then None else target_turn t.sight t.handshakes me h))
+        → (if not begun then message_out_start t.sight me else if pulsed then (if req then req_pulse_end t.sight me p
+        else (if t.handshakes.requests == 0 then first_req t.sight me g else if t.sight.bus.io && not (me.own.data_bits
+        == bits_if g.follows g.byte) then byte_change t.handshakes me p g else pulse_turn t.sight t.handshakes me p g))
+        else (if req then (if t.sight.bus.ack then req_negation t.sight me g else None)
+        else if t.sight.bus.ack then None else target_turn t.sight t.handshakes me g))
+        ≡ (if not begun then message_out_start t.sight me else if pulsed then (if req then req_pulse_end t.sight me p
+        else (if t.handshakes.requests == 0 then first_req t.sight me h else if t.sight.bus.io && not (me.own.data_bits
+        == bits_if h.follows h.byte) then byte_change t.handshakes me p h else pulse_turn t.sight t.handshakes me p h))
+        else (if req then (if t.sight.bus.ack then req_negation t.sight me h else None)
+        else if t.sight.bus.ack then None else target_turn t.sight t.handshakes me h))
     go true true true x = refl
     go false begun pulsed x = absurd cc
     go true false pulsed x = absurd cc

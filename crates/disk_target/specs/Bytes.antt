@@ -1,5 +1,6 @@
 -- What a target decides by in a connection of its own, with the bytes that its process gives.
-use Rattle.std.specs.Prelude.{ℕ, ◌≡◌, ◌==◌, ◌*◌, ◌-◌, ◌^◌, min, if◌then◌else◌, ◌&&◌, not, Bool, true, false, List, ◌∷◌, Option, Some, None}
+use Rattle.std.specs.Prelude.{ℕ, ◌≡◌, ◌==◌, ◌*◌, ◌-◌, ◌^◌, min, if◌then◌else◌, ◌&&◌, not, Bool, true, false, List, ◌∷◌}
+use Rattle.std.specs.Prelude.{Option, Some, None}
 use Rattle.bus_trace.specs.declared.Row.{Row}
 use Rattle.bus_trace.specs.declared.changes.Change.{Change}
 use Rattle.bus_trace.specs.declared.connection.Connection.{Connection}
@@ -88,5 +89,8 @@ pub record StandsInOwn (rows : List Row) (row : Row) (dev : ℕ) : Type 0 where
 -- By this and these bytes it does what the rows have it do.
 pub record DecidesAs (s : ScenarioValue) (rows : List Row) (t : TargetDef) (v : Serving) (b : DataBytes) : Type 0 where
   pub given : List ℕ
-  pub bytes_are : AreBytesOf (serving_with v given) (leaving_by (serving_with v given) (begun rows) (bus rows)) (handshakes rows).requests b
-  pub alike : (n : Connection) → IsOwnConnection rows t.dev n → (bus rows).rst ≡ false → AreAlikeIn rows t.dev (offering_in rows (serving_with v given)) (offering_in rows (serving_of s (run_state s rows) t.dev))
+  pub bytes_are : AreBytesOf (serving_with v given) (leaving_by (serving_with v given) (begun rows) (bus rows))
+      (handshakes rows).requests b
+  pub alike : (n : Connection) → IsOwnConnection rows t.dev n → (bus rows).rst ≡ false
+      → AreAlikeIn rows t.dev (offering_in rows (serving_with v given))
+      (offering_in rows (serving_of s (run_state s rows) t.dev))

@@ -36,19 +36,25 @@ leaving_offering v begun bus = record {
 -- ---- by what it decides by, with bytes between which and those of its process nothing that it does next tells
 
 -- At this place of its present run, or with `done` of the next one, these have this byte.
-pub record GivesAs (s : ScenarioValue) (rows : List Row) (dev : ℕ) (v : Serving) (done : Bool) (place byte : ℕ) : Type 0 where
+pub record GivesAs (s : ScenarioValue) (rows : List Row) (dev : ℕ) (v : Serving) (done : Bool) (place byte : ℕ) : Type
+    0 where
   pub given : List ℕ
   pub byte_is : byte ≡ data_byte v.def.disc v.task given (one_if done) place
-  pub alike : AreAlikeIn rows dev (offering_in rows (serving_with v given)) (offering_in rows (serving_of s (run_state s rows) dev))
+  pub alike : AreAlikeIn rows dev (offering_in rows (serving_with v given))
+      (offering_in rows (serving_of s (run_state s rows) dev))
 
 -- This byte is driven next, if one is.
-pub record DrivesAs (s : ScenarioValue) (rows : List Row) (dev : ℕ) (v : Serving) (driven : Bool) (byte : ℕ) : Type 0 where
+pub record DrivesAs (s : ScenarioValue) (rows : List Row) (dev : ℕ) (v : Serving) (driven : Bool) (byte : ℕ) : Type
+    0 where
   pub given : List ℕ
-  pub byte_is : driven ≡ true → byte ≡ phase_byte (serving_with v given) (next_phase.phase_of (bus rows)) v.plan.messages 0 (handshakes rows).requests
-  pub alike : AreAlikeIn rows dev (offering_in rows (serving_with v given)) (offering_in rows (serving_of s (run_state s rows) dev))
+  pub byte_is : driven ≡ true → byte
+      ≡ phase_byte (serving_with v given) (next_phase.phase_of (bus rows)) v.plan.messages 0 (handshakes rows).requests
+  pub alike : AreAlikeIn rows dev (offering_in rows (serving_with v given))
+      (offering_in rows (serving_of s (run_state s rows) dev))
 
 -- It leaves the phase so.
 pub record LeavesAs (s : ScenarioValue) (rows : List Row) (dev : ℕ) (v : Serving) (g : Offering) : Type 0 where
   pub given : List ℕ
   pub leaves : g ≡ leaving_offering (serving_with v given) (begun rows) (bus rows)
-  pub alike : AreAlikeIn rows dev (offering_in rows (serving_with v given)) (offering_in rows (serving_of s (run_state s rows) dev))
+  pub alike : AreAlikeIn rows dev (offering_in rows (serving_with v given))
+      (offering_in rows (serving_of s (run_state s rows) dev))

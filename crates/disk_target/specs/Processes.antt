@@ -25,7 +25,8 @@ pub record ProcessesState : Type 0 where
   pub standing : Standing
 
 -- The units are those of the array, in which this process stands so at its unit.
-pub record AreProcessesAt (s : ScenarioValue) (a : Array) (times : List ℕ) (p : Process) (unit : ℕ) (v : ProcessesState) : Type 0 where
+pub record AreProcessesAt (s : ScenarioValue) (a : Array) (times : List ℕ) (p : Process) (unit : ℕ)
+    (v : ProcessesState) : Type 0 where
   pub units : AreUnitsOf s a times v.units.dev v.units.units
   pub standing : IsStanding (seat_of a v.units.dev unit) p v.standing
 
@@ -33,8 +34,8 @@ pub record AreProcessesAt (s : ScenarioValue) (a : Array) (times : List ℕ) (p 
 abbrev pub AreProcessesAfter : ScenarioValue → Array → Array → List ℕ → ℕ → Process → ℕ → ProcessesState → Type 0
 AreProcessesAfter s a b times now p unit v = AreProcessesAt s b (current_times_after a.units b.units times now) p unit v
 
--- ---- an event of this process, which stands so at its unit before it: it arrives and runs once its command is known, runs
--- in the queue with the bytes that it sends and without a reply, and ends GOOD only where its command is known
+-- ---- an event of this process, which stands so at its unit before it: it arrives and runs once its command is known,
+-- runs in the queue with the bytes that it sends and without a reply, and ends GOOD only where its command is known
 
 pub record IsRunInside (a : Array) (dev unit : ℕ) (p : Process) (x : Served) : Type 0 where
   pub sent : HasSent (seat_of a dev unit) p x.sent.now
@@ -43,7 +44,8 @@ pub record IsRunInside (a : Array) (dev unit : ℕ) (p : Process) (x : Served) :
 abbrev pub IsOwnEvent : Array → ℕ → ℕ → Process → Served → Standing → Event → Type 0
 IsOwnEvent a dev unit p x v (events.Accept id) = (id ≡ p.id) × (v ≡ standings.Nowhere) × HasBlock p x
 IsOwnEvent a dev unit p x v (events.Refuse id) = (id ≡ p.id) × (v ≡ standings.Nowhere) × HasBlock p x
-IsOwnEvent a dev unit p x v (events.Run id) = (id ≡ p.id) × HasBlock p x × (is_guest v ≡ false → IsRunInside a dev unit p x)
+IsOwnEvent a dev unit p x v (events.Run id) =
+    (id ≡ p.id) × HasBlock p x × (is_guest v ≡ false → IsRunInside a dev unit p x)
 IsOwnEvent a dev unit p x v (events.Fail id code) = id ≡ p.id
 IsOwnEvent a dev unit p x v (events.End id status) = (id ≡ p.id) × ((status == GOOD) ≡ true → HasBlock p x)
 IsOwnEvent a dev unit p x v (events.Lost id) = id ≡ p.id
@@ -61,17 +63,20 @@ AreOwnEvents s a dev unit p x v (it ∷ first ∷ zeroth ∷ more) = ⊥
 
 -- ---- after some rows
 
-pub record AreSettledAt (s : ScenarioValue) (a : Array) (times : List ℕ) (p : Process) (unit : ℕ) (v : ProcessesState) : Type 0 where
+pub record AreSettledAt (s : ScenarioValue) (a : Array) (times : List ℕ) (p : Process) (unit : ℕ) (v : ProcessesState) :
+    Type 0 where
   pub sound : IsSound s a
   pub at : AreProcessesAt s a times p unit v
 
 -- The units are those that the rows tell of, and this process stands so at its unit.
 abbrev pub AreProcessesOf : ScenarioValue → List Row → Process → ℕ → ProcessesState → Type 0
-AreProcessesOf s rows p unit v = AreSettledAt s (array_of s (run_state s rows)) (run_state s rows).current_since p unit v
+AreProcessesOf s rows p unit v =
+    AreSettledAt s (array_of s (run_state s rows)) (run_state s rows).current_since p unit v
 
 abbrev pub times_of_events : ScenarioValue → Option Array → List ℕ → List Event → Option Array → ℕ → List ℕ
 times_of_events s before times [] after now = times
-times_of_events s before times (event ∷ shown) after now = current_times_after (or_start s before).units (or_start s after).units times now
+times_of_events s before times (event ∷ shown) after now =
+    current_times_after (or_start s before).units (or_start s after).units times now
 
 -- The units alone.
 pub record AreKeptAt (s : ScenarioValue) (a : Array) (times : List ℕ) (v : UnitsState) : Type 0 where
@@ -89,5 +94,6 @@ IsOutside s dev it = (n : ℕ) → n < 8 → is_elsewhere s it dev n ≡ true
 abbrev pub AreOutside : ScenarioValue → ℕ → List Event → Type 0
 AreOutside s dev [] = Unit {0}
 AreOutside s dev (it ∷ []) = IsOutside s dev it
-AreOutside s dev (it ∷ first ∷ []) = (id : ProcId) × (first ≡ events.Accept id) × IsOutside s dev first × IsOutside s dev it
+AreOutside s dev (it ∷ first ∷ []) =
+    (id : ProcId) × (first ≡ events.Accept id) × IsOutside s dev first × IsOutside s dev it
 AreOutside s dev (it ∷ first ∷ zeroth ∷ more) = ⊥

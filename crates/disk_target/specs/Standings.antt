@@ -30,8 +30,10 @@ pub record IsServed (s : ScenarioValue) (dev : ℕ) (p : Process) (v : Served) :
 abbrev pub HasBlock : Process → Served → Type 0
 HasBlock p v = p.cdb ≡ v.cdb.now
 
-abbrev pub words_of : (s : ScenarioValue) (dev : ℕ) (p : Process) (v : Served) → IsServed s dev p v → HasBlock p v → IsProcess p v.id v.from v.tag v.class v.cdb.now
-words_of s dev p v h block = record { id_is = h.id_is; from_is = h.from_is; tag_is = h.tag_is; class_is = h.class_is; cdb_is = block }
+abbrev pub words_of : (s : ScenarioValue) (dev : ℕ) (p : Process) (v : Served) → IsServed s dev p v → HasBlock p v
+    → IsProcess p v.id v.from v.tag v.class v.cdb.now
+words_of s dev p v h block =
+    record { id_is = h.id_is; from_is = h.from_is; tag_is = h.tag_is; class_is = h.class_is; cdb_is = block }
 
 -- ---- at its unit
 

@@ -54,8 +54,8 @@ IsCourseIf s rows dev (Some c) = IsCourseOf s rows dev c
 
 -- In a connection of its own, while RST is false, the process that it serves stands so at its unit.
 abbrev pub IsStandingOf : ScenarioValue → List Row → ℕ → Standing → Type 0
-IsStandingOf s rows dev v =
-    (n : Connection) (p : Process) → IsOwnConnection rows dev n → (bus rows).rst ≡ false → process_served s (run_state s rows) ≡ Some p → IsStanding (seat_of (array_of s (run_state s rows)) dev p.unit) p v
+IsStandingOf s rows dev v = (n : Connection) (p : Process) → IsOwnConnection rows dev n → (bus rows).rst ≡ false
+    → process_served s (run_state s rows) ≡ Some p → IsStanding (seat_of (array_of s (run_state s rows)) dev p.unit) p v
 
 -- Its parts are of this target of the scenario, and each knows what these rows make known.
 pub record KnowsRows (s : ScenarioValue) (rows : List Row) (v : TargetValue) : Type 0 where
@@ -67,7 +67,8 @@ pub record KnowsRows (s : ScenarioValue) (rows : List Row) (v : TargetValue) : T
   pub negotiated_dev : v.negotiated.dev ≡ v.def.dev
   pub gathered_dev : v.gathered.dev ≡ v.def.dev
   pub itself_is : IsItselfOf s rows v.itself
-  pub units_are : AreUnitsOf s (array_of s (run_state s rows)) (run_state s rows).current_since v.units.dev v.units.units
+  pub units_are : AreUnitsOf s (array_of s (run_state s rows))
+      (run_state s rows).current_since v.units.dev v.units.units
   pub sound : IsSound s (array_of s (run_state s rows))
   pub progress_is : IsProgressOf s rows v.progress
   pub negotiated_are : IsNegotiatedOf s rows v.negotiated
@@ -83,10 +84,11 @@ pub record KnowsRows (s : ScenarioValue) (rows : List Row) (v : TargetValue) : T
 -- Rows are fewer than 2 ^ 64, and each time since which a process is current lies, with the seek time, before 2 ^ 63.
 pub record IsServable (s : ScenarioValue) (rows : List Row) (t : TargetDef) : Type 0 where
   pub few : length rows < 2 ^ 64
-  pub early : (n : ℕ) → n < 8 → since_of (array_of s (run_state s rows)).units (run_state s rows).current_since t.dev n + t.seek < 2 ^ 63
+  pub early : (n : ℕ) → n < 8
+      → since_of (array_of s (run_state s rows)).units (run_state s rows).current_since t.dev n + t.seek < 2 ^ 63
 
--- This is the target of the scenario after these rows: it knows what they make known, what it has heard is what was to be said to it,
--- it is the initiator of no connection, and its times are small.
+-- This is the target of the scenario after these rows: it knows what they make known, what it has heard is what was to
+-- be said to it, it is the initiator of no connection, and its times are small.
 pub record IsTargetAfter (s : ScenarioValue) (rows : List Row) (v : TargetValue) : Type 0 where
   pub knows : KnowsRows s rows v
   pub heard_are : heard s rows ≡ true

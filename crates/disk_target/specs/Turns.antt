@@ -1,5 +1,6 @@
 -- What a target has of a connection of its own before a row.
-use Rattle.std.specs.Prelude.{ℕ, ◌≡◌, true, false, List, ◌∷◌, Option, Some, None, slice_get, if◌then◌else◌, Bool, not, ◌&&◌, ◌||◌}
+use Rattle.std.specs.Prelude.{ℕ, ◌≡◌, true, false, List, ◌∷◌, Option, Some, None, slice_get, if◌then◌else◌, Bool, not}
+use Rattle.std.specs.Prelude.{◌&&◌, ◌||◌}
 use Rattle.bus_base.specs.declared.Event.{Event}
 use Rattle.bus_base.specs.declared.Event.TheVariants as events
 use Rattle.bus_trace.specs.declared.Row.{Row}
@@ -82,21 +83,25 @@ abbrev pub count_sent : Turn → CourseState → ℕ
 count_sent t c = if is_write (command_of c.block) then t.plan.out_len else 0
 
 -- Of this course, in this connection of its own, while RST is false.
-pub record IsTurnIn (s : ScenarioValue) (rows : List Row) (row : Row) (d : TargetDef) (n : Connection) (c : CourseState) (t : Turn) : Type 0 where
+pub record IsTurnIn (s : ScenarioValue) (rows : List Row) (row : Row) (d : TargetDef) (n : Connection) (c : CourseState)
+    (t : Turn) : Type 0 where
   pub state : ProcessState
   pub told : AreToldOf s rows c state
   pub leaving_is : t.leaving ≡ leaving_by (serving_by d c state (given_of s (run_state s rows))) (begun rows) (bus rows)
   pub opening_is : t.opening ≡ is_opening_by n (hearing rows row) c
   pub from_is : t.from ≡ n.initiator
-  pub unit_is : (p : Process) → process_served s (run_state s rows) ≡ Some p → c.named ≡ Some (name_of p) → t.unit ≡ p.unit
-  pub taken : (p : Process) → process_served s (run_state s rows) ≡ Some p → c.named ≡ Some (name_of p) → t.plan.out_len ≡ taken_by c.block (size_of (unit_state_at (array_of s (run_state s rows)).units p.target p.unit))
+  pub unit_is : (p : Process) → process_served s (run_state s rows) ≡ Some p → c.named ≡ Some (name_of p)
+      → t.unit ≡ p.unit
+  pub taken : (p : Process) → process_served s (run_state s rows) ≡ Some p → c.named ≡ Some (name_of p) → t.plan.out_len
+      ≡ taken_by c.block (size_of (unit_state_at (array_of s (run_state s rows)).units p.target p.unit))
 
 abbrev pub IsTurnIf : ScenarioValue → List Row → Row → TargetDef → Option CourseState → Turn → Type 0
 IsTurnIf s rows row d None t = (n : Connection) → IsOwnConnection rows d.dev n → (bus rows).rst ≡ true
-IsTurnIf s rows row d (Some c) t = (n : Connection) → IsOwnConnection rows d.dev n → (bus rows).rst ≡ false → IsTurnIn s rows row d n c t
+IsTurnIf s rows row d (Some c) t =
+    (n : Connection) → IsOwnConnection rows d.dev n → (bus rows).rst ≡ false → IsTurnIn s rows row d n c t
 
--- With a row in a connection of its own, before and after which RST is false, it shows this, and the process that runs then
--- ends so.
+-- With a row in a connection of its own, before and after which RST is false, it shows this, and the process that runs
+-- then ends so.
 pub record IsTurnShown (s : ScenarioValue) (rows : List Row) (row : Row) (n : Connection) (t : Turn) : Type 0 where
   pub shows : shown_list t.shown ≡ events_of_target s rows row n
   pub outlook : IsOutlookAt s rows (shown_list t.shown) t.plan
@@ -117,17 +122,20 @@ pub record GathersOn (s : ScenarioValue) (rows : List Row) (row : Row) (g : Gath
   pub all : AreAllGathered s (row ∷ rows) g
 
 -- Before this row it is as the parts of a target want it.
-pub record IsTurnOf (s : ScenarioValue) (rows : List Row) (row : Row) (d : TargetDef) (c : Option CourseState) (t : Turn) : Type 0 where
+pub record IsTurnOf (s : ScenarioValue) (rows : List Row) (row : Row) (d : TargetDef) (c : Option CourseState)
+    (t : Turn) : Type 0 where
   pub course : IsTurnIf s rows row d c t
   pub left : IsLeftSo s rows d.dev (hearing rows row) (connection (row ∷ rows)) t.process t.leaving
   pub hears : IsHeardSo s rows d.dev t.aborts
   pub sends : IsSentSo s rows d.dev (hearing rows row) t.process t.place
   pub at_unit : IsAtUnit s rows d.dev (hearing rows row) t.unit
-  pub shows : (n : Connection) → IsOwnConnection rows d.dev n → (bus rows).rst ≡ false → (bus (row ∷ rows)).rst ≡ false → IsTurnShown s rows row n t
+  pub shows : (n : Connection) → IsOwnConnection rows d.dev n → (bus rows).rst ≡ false → (bus (row ∷ rows)).rst ≡ false
+      → IsTurnShown s rows row n t
 
 -- ---- a row of a scenario, as its units see it
 
-pub record IsRowFor (s : ScenarioValue) (rows : List Row) (row : Row) (d : TargetDef) (c : Option CourseState) (t : Turn) (g : GatheredValue) (shown : List Event) (now : ℕ) : Type 0 where
+pub record IsRowFor (s : ScenarioValue) (rows : List Row) (row : Row) (d : TargetDef) (c : Option CourseState)
+    (t : Turn) (g : GatheredValue) (shown : List Event) (now : ℕ) : Type 0 where
   pub fits : FitsBus s
   pub devices : AreOfDevices (row ∷ rows)
   pub tied : AreTied s (row ∷ rows)

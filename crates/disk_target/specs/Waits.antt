@@ -11,8 +11,8 @@ use Rattle.target_course.specs.scsi_device.specs.Told.{Told, told, pace_of}
 use Rattle.target_course.specs.Dues.{plain_by}
 use Rattle.target_course.specs.States.{TargetState}
 
--- Byte by byte, while REQ is true and ACK false, or the other way round, it does nothing, whatever it has to do in the phase
--- (6.1.5.1).
+-- Byte by byte, while REQ is true and ACK false, or the other way round, it does nothing, whatever it has to do in the
+-- phase (6.1.5.1).
 abbrev pub differ : Bool → Bool → Bool
 differ true ack = not ack
 differ false ack = ack
@@ -32,5 +32,5 @@ is_in_pulse t = drives_pulse t.lines.req t.begun (pace_of t None).pulsed
 
 -- By its own times it does this by REQ and ACK, as the rows have it do.
 abbrev pub DoesAs : ScenarioValue → List Row → TargetDef → Own → Option Due → Type 0
-DoesAs s rows t own plain =
-    (i : TargetState) → i.own ≡ own → i.serving ≡ serving_of s (run_state s rows) t.dev → plain ≡ plain_by t (told rows t.dev) i
+DoesAs s rows t own plain = (i : TargetState) → i.own ≡ own → i.serving ≡ serving_of s (run_state s rows) t.dev
+    → plain ≡ plain_by t (told rows t.dev) i

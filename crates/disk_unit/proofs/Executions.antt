@@ -15,7 +15,8 @@ unit_context c stored attention = record { present = true; contents = c; stored 
 
 -- No attention is pending.
 plainly : (c : Contents) (stored : Option Sense) (cdb sent : List ℕ) → is_request_sense (command_of cdb) ≡ false
-    → execution (unit_context c stored None) cdb sent ≡ record { contents = (disk_execution c cdb sent).contents; reported = false; reply = disk_reply c cdb }
+    → execution (unit_context c stored None) cdb sent
+    ≡ record { contents = (disk_execution c cdb sent).contents; reported = false; reply = disk_reply c cdb }
 plainly c stored cdb sent h =
     stored_apart (disk_context c) stored cdb sent h
     ∙ (λ i. record {
@@ -24,12 +25,22 @@ plainly c stored cdb sent h =
       reply = sent_apart (disk_context c) cdb sent [] i;
     })
 
-pub executed : (c : Contents) (stored attention : Option Sense) (cdb sent : List ℕ) → is_request_sense (command_of cdb) ≡ false
-    → execution (unit_context c stored attention) cdb sent ≡ record { contents = if is_reported attention cdb then c else (disk_execution c cdb sent).contents; reported = is_reported attention cdb; reply = reply_with attention cdb (disk_reply c cdb) }
+pub executed : (c : Contents) (stored attention : Option Sense) (cdb sent : List ℕ)
+    → is_request_sense (command_of cdb) ≡ false → execution (unit_context c stored attention) cdb sent ≡ record {
+      contents =
+          if is_reported attention cdb then c else (disk_execution c cdb sent).contents;
+      reported = is_reported attention cdb;
+      reply = reply_with attention cdb (disk_reply c cdb);
+    }
 executed c stored None cdb sent h = plainly c stored cdb sent h
 executed c stored (Some a) cdb sent h = go (heeds_attention cdb) refl
   where
-    go : (x : Bool) → heeds_attention cdb ≡ x
-        → execution (unit_context c stored (Some a)) cdb sent ≡ record { contents = if x then c else (disk_execution c cdb sent).contents; reported = x; reply = if x then check_condition a else disk_reply c cdb }
+    go : (x : Bool) → heeds_attention cdb ≡ x → execution (unit_context c stored (Some a)) cdb sent ≡ record {
+      contents =
+          if x then c else (disk_execution c cdb sent).contents;
+      reported = x;
+      reply =
+          if x then check_condition a else disk_reply c cdb;
+    }
     go true e = reported_executed (unit_context c stored (Some a)) cdb sent a refl refl e
     go false e = attention_apart (unit_context c stored (Some a)) cdb sent h e ∙ plainly c stored cdb sent h

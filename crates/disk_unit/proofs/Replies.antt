@@ -29,10 +29,12 @@ clipped m n bytes e =
     let h : length (take (min m n) bytes) ≡ min (min m n) (length bytes) = length-take (min m n) bytes in
     omega arith
 
-moved : (c : Contents) → ((k : ℕ) → length (block_at c k) ≡ c.size) → (lba n r : ℕ) → r ≡ c.size → n * r ≡ length (Rattle.disk_array.specs.Contents.bytes_at c lba n)
+moved : (c : Contents) → ((k : ℕ) → length (block_at c k) ≡ c.size) → (lba n r : ℕ) → r ≡ c.size
+    → n * r ≡ length (Rattle.disk_array.specs.Contents.bytes_at c lba n)
 moved c w lba n r e = ap (λ (x : ℕ). n * x) e ∙ sym (length_bytes c w lba n)
 
-pub reply_length : (c : Contents) → ((k : ℕ) → length (block_at c k) ≡ c.size) → (command : Command) (r : ℕ) → r ≡ c.size → bytes_in command r ≡ length (command_reply c command).bytes
+pub reply_length : (c : Contents) → ((k : ℕ) → length (block_at c k) ≡ c.size) → (command : Command) (r : ℕ)
+    → r ≡ c.size → bytes_in command r ≡ length (command_reply c command).bytes
 reply_length c w commands.TestUnitReady r e = refl
 reply_length c w (commands.RequestSense room) r e = clipped room SENSE_LEN (sense_data no_sense) refl
 reply_length c w (commands.Read6 lba count) r e = moved c w lba (blocks_moved (commands.Read6 lba count)) r e
@@ -43,9 +45,11 @@ reply_length c w (commands.Read10 lba count) r e = moved c w lba count r e
 reply_length c w (commands.Write10 lba count) r e = refl
 
 -- A command without fault is carried out where its blocks are the unit's.
-pub carried_out : (c : Contents) (command : Command) → is_good_range c.count (range_of command) ≡ ((range_execution (disk_context c) command []).reply.status == GOOD)
+pub carried_out : (c : Contents) (command : Command)
+    → is_good_range c.count (range_of command) ≡ ((range_execution (disk_context c) command []).reply.status == GOOD)
 carried_out c command = go (is_good_range c.count (range_of command))
   where
-    go : (x : Bool) → x ≡ ((if x then command_execution (disk_context c) command [] else reply_execution (disk_context c) (check_condition block_out_of_range)).reply.status == GOOD)
+    go : (x : Bool) → x ≡ ((if x then command_execution (disk_context c) command []
+        else reply_execution (disk_context c) (check_condition block_out_of_range)).reply.status == GOOD)
     go true = λ i. sym (command_good (disk_context c) command []) i == GOOD
     go false = refl

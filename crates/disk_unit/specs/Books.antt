@@ -1,11 +1,13 @@
 -- What a unit keeps of its commands, and for each initiator, and what each call does to that.
-use Rattle.std.specs.Prelude.{◌≡◌, ℕ, ◌<◌, ◌==◌, Bool, true, false, not, ◌&&◌, List, [], ◌∷◌, Option, Some, None, is_some, replicate, length, slice_set, slice_index_or, take, if◌then◌else◌}
+use Rattle.std.specs.Prelude.{◌≡◌, ℕ, ◌<◌, ◌==◌, Bool, true, false, not, ◌&&◌, List, [], ◌∷◌, Option, Some, None}
+use Rattle.std.specs.Prelude.{is_some, replicate, length, slice_set, slice_index_or, take, if◌then◌else◌}
 use Rattle.bus_base.specs.declared.events.Pick.{Pick}
 use Rattle.cdb_codec.specs.declared.Sense.{Sense}
 use Rattle.disk_array.specs.declared.entries.Entry.{Entry}
 use Rattle.disk_array.specs.Execution.{no_sense, reset_occurred}
 use Rattle.disk_array.specs.Seats.{attention_if_told}
-use Rattle.tag_queue.specs.Queue.{Queued, QueueState, empty_queue, queue_with, queue_started, queue_without, queue_cleared_of, with_held, with_none_held, entry_at, chosen_key, has_any}
+use Rattle.tag_queue.specs.Queue.{Queued, QueueState, empty_queue, queue_with, queue_started, queue_without}
+use Rattle.tag_queue.specs.Queue.{queue_cleared_of, with_held, with_none_held, entry_at, chosen_key, has_any}
 use Rattle.tag_queue.specs.declared.those.Those.{Those}
 use Rattle.tag_queue.specs.declared.those.Those.TheVariants as those
 use Rattle.disk_unit.specs.declared.command_block.CommandBlock.{CommandBlock}
@@ -34,7 +36,8 @@ AreBounded keys [] = Unit {0}
 AreBounded keys (q ∷ queued) = (q.key < keys) × (q.entry.from < 8) × AreBounded keys queued
 
 abbrev pub empty_books : ℕ → ℕ → List (List ℕ) → UnitBooks
-empty_books depth keys blocks = record { queue = empty_queue depth keys; blocks = blocks; senses = replicate 8 None; attentions = replicate 8 None }
+empty_books depth keys blocks =
+    record { queue = empty_queue depth keys; blocks = blocks; senses = replicate 8 None; attentions = replicate 8 None }
 
 -- ---- a command arrives, is chosen, leaves
 
@@ -57,7 +60,8 @@ books_without b key = record b { queue = queue_without b.queue key }
 -- ---- senses and the hold
 
 abbrev pub books_with_sense : UnitBooks → ℕ → Sense → UnitBooks
-books_with_sense b dev sense = record b { queue = with_held b.queue dev true; senses = slice_set b.senses dev (Some sense) }
+books_with_sense b dev sense =
+    record b { queue = with_held b.queue dev true; senses = slice_set b.senses dev (Some sense) }
 
 abbrev pub books_without_sense : UnitBooks → ℕ → UnitBooks
 books_without_sense b dev = record b { queue = with_held b.queue dev false; senses = slice_set b.senses dev None }
@@ -98,10 +102,15 @@ pub record IsCleared (by : ℕ) (old new : UnitBooks) : Type 0 where
   pub blocks : new.blocks ≡ old.blocks
   pub senses : new.senses ≡ old.senses
   pub eight : length new.attentions ≡ 8
-  pub attentions : (dev : ℕ) → dev < 8 → slice_index_or new.attentions dev None ≡ attention_if_told (is_told by old.queue.arrived dev) (slice_index_or old.attentions dev None)
+  pub attentions : (dev : ℕ) → dev < 8 → slice_index_or new.attentions dev None
+      ≡ attention_if_told (is_told by old.queue.arrived dev) (slice_index_or old.attentions dev None)
 
 abbrev pub books_after_reset : UnitBooks → UnitBooks
-books_after_reset b = record b { queue = with_none_held (queue_cleared_of b.queue those.All); senses = replicate 8 None; attentions = replicate 8 (Some reset_occurred) }
+books_after_reset b = record b {
+  queue = with_none_held (queue_cleared_of b.queue those.All);
+  senses = replicate 8 None;
+  attentions = replicate 8 (Some reset_occurred);
+}
 
 -- ---- the command of a key
 

@@ -9,7 +9,8 @@ use Rattle.cdb_codec.specs.declared.command.CdbFault.{CdbFault}
 use Rattle.cdb_codec.specs.Cdb.{command_of}
 use Rattle.disk_array.specs.scenario.specs.Needs.{is_write}
 use Rattle.disk_array.specs.Contents.{Contents}
-use Rattle.disk_array.specs.Execution.{Reply, CommandContext, Execution, cdb_execution, command_execution, range_of, is_good_range}
+use Rattle.disk_array.specs.Execution.{Reply, CommandContext, Execution, cdb_execution, command_execution, range_of}
+use Rattle.disk_array.specs.Execution.{is_good_range}
 use Rattle.disk_array.specs.Order.{range_in, first_in, count_in}
 use Rattle.disk_unit.specs.declared.media.Extent.{Extent}
 

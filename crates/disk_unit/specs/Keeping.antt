@@ -15,7 +15,8 @@ pub record IsKeptAt (hosts : List HostDef) (seat : Seat) (b : UnitBooks) : Type 
   pub eight_attentions : length b.attentions ≡ 8
   pub eight_held : length b.queue.hold ≡ 8
   pub senses : (dev : ℕ) → dev < 8 → slice_index_or b.senses dev None ≡ seat.senses dev
-  pub attentions : (dev : ℕ) → dev < 8 → is_initiator hosts dev ≡ true → slice_index_or b.attentions dev None ≡ seat.attentions dev
+  pub attentions : (dev : ℕ) → dev < 8 → is_initiator hosts dev ≡ true
+      → slice_index_or b.attentions dev None ≡ seat.attentions dev
   pub hold : (dev : ℕ) → dev < 8 → slice_index_or b.queue.hold dev false ≡ seat.hold dev
 
 -- CHECK CONDITION stores its sense and puts the initiator into the hold; a REQUEST SENSE that ends GOOD takes both

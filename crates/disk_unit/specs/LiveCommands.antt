@@ -1,5 +1,6 @@
 -- The live commands of a unit, and the waiting and the current process of the plain disk array.
-use Rattle.std.specs.Prelude.{ℕ, ◌≡◌, ◌<◌, Bool, true, false, ◌==◌, List, [], ◌∷◌, length, Option, Some, None, ⊤, slice_index_or, if◌then◌else◌}
+use Rattle.std.specs.Prelude.{ℕ, ◌≡◌, ◌<◌, Bool, true, false, ◌==◌, List, [], ◌∷◌, length, Option, Some, None, ⊤}
+use Rattle.std.specs.Prelude.{slice_index_or, if◌then◌else◌}
 use Rattle.bus_base.specs.declared.ProcId.{ProcId}
 use Rattle.disk_array.specs.Order.{entry_of}
 use Rattle.disk_array.specs.Processes.{Process, same_id}
@@ -20,7 +21,8 @@ queued_of (x ∷ live) = queued x.key (entry_of x.process) ∷ queued_of live
 -- In order of arrival, but for the current one.
 abbrev pub waiting_processes : Option ℕ → List LiveCommand → List Process
 waiting_processes current [] = []
-waiting_processes current (x ∷ live) = if is_current current x.key then waiting_processes current live else x.process ∷ waiting_processes current live
+waiting_processes current (x ∷ live) =
+    if is_current current x.key then waiting_processes current live else x.process ∷ waiting_processes current live
 
 abbrev pub process_under : List LiveCommand → ℕ → Option Process
 process_under [] key = None
@@ -37,7 +39,8 @@ AreApart (x ∷ live) = (has_key (queued_of live) x.key ≡ false) × (has_proce
 
 abbrev pub HaveBlocks : List (List ℕ) → List LiveCommand → Type 0
 HaveBlocks blocks [] = ⊤
-HaveBlocks blocks (x ∷ live) = (x.key < length blocks) × (slice_index_or blocks x.key [] ≡ x.process.cdb) × HaveBlocks blocks live
+HaveBlocks blocks (x ∷ live) =
+    (x.key < length blocks) × (slice_index_or blocks x.key [] ≡ x.process.cdb) × HaveBlocks blocks live
 
 -- The current command is the current process.
 abbrev pub IsCurrentOf : List LiveCommand → Option ℕ → Option RunningProcess → Type 0

@@ -12,7 +12,8 @@ use Rattle.disk_unit.specs.declared.unit.Reply.{Reply as UnitReply}
 use Rattle.disk_unit.specs.declared.unit.Accepted.{Accepted}
 use Rattle.disk_unit.specs.declared.unit.Accepted.TheVariants as accepted
 use Rattle.tag_queue.specs.Queue.{has_key}
-use Rattle.disk_unit.specs.Books.{UnitBooks, IsCleared, block_at, attention_at, books_with, books_without_attention, books_after_abort, books_after_abort_tag, books_after_reset}
+use Rattle.disk_unit.specs.Books.{UnitBooks, IsCleared, block_at, attention_at, books_with, books_without_attention}
+use Rattle.disk_unit.specs.Books.{books_after_abort, books_after_abort_tag, books_after_reset}
 use Rattle.disk_unit.specs.Plans.{sense_if, plan_of}
 use Rattle.disk_unit.specs.declared.media.Plan.{Plan}
 
@@ -49,8 +50,8 @@ IsAccepted true old entry cdb new accepted.AtOnce = new ≡ old
 IsAccepted true old entry cdb new (accepted.Queued key) = ⊥
 IsAccepted true old entry cdb new accepted.Full = ⊥
 IsAccepted false old entry cdb new accepted.AtOnce = ⊥
-IsAccepted false old entry cdb new (accepted.Queued key) =
-    (length old.queue.arrived < old.queue.depth) × (has_key old.queue.arrived key ≡ false) × (key < length old.blocks) × (new ≡ books_with old key entry cdb)
+IsAccepted false old entry cdb new (accepted.Queued key) = (length old.queue.arrived < old.queue.depth)
+    × (has_key old.queue.arrived key ≡ false) × (key < length old.blocks) × (new ≡ books_with old key entry cdb)
 IsAccepted false old entry cdb new accepted.Full = (length old.queue.arrived ≡ old.queue.depth) × (new ≡ old)
 
 abbrev pub books_if_reported : UnitBooks → Bool → ℕ → UnitBooks
@@ -69,7 +70,8 @@ unit_plan b key reply taken = plan_of (unit_reply b key reply) (bytes_taken b ke
 
 -- The same of a command of an initiator with this attention.
 abbrev pub plan_for : Option Sense → List ℕ → Reply → ℕ → Plan
-plan_for attention cdb reply taken = plan_of (reply_with attention cdb reply) (if is_reported attention cdb then 0 else taken)
+plan_for attention cdb reply taken =
+    plan_of (reply_with attention cdb reply) (if is_reported attention cdb then 0 else taken)
 
 -- The books before and after an abort of an initiator.
 abbrev pub IsAborted : AbortKind → ℕ → UnitBooks → UnitBooks → Type 0

@@ -79,6 +79,7 @@ due_makes : (q : Bool) (d : StepInput) (x : Due) → is_lines x.kind ≡ true �
 due_makes true d x l = row_makes d x.kind l
 due_makes false d x l = refl
 
-pub makes : (d : StepInput) (due : Option Due) → has_lines due ≡ true → is_some (hand_of d due).drives ≡ is_made d.now due
+pub makes : (d : StepInput) (due : Option Due) → has_lines due ≡ true
+    → is_some (hand_of d due).drives ≡ is_made d.now due
 makes d None l = refl
 makes d (Some x) l = due_makes (nat_le x.time d.now) d x l

@@ -13,11 +13,13 @@ use Rattle.bus_reactions.specs.declared.ends.Offering.{Offering}
 use Rattle.bus_reactions.specs.declared.ends.Answering.{Answering}
 use Rattle.bus_reactions.specs.Reactions.{due_where}
 use Rattle.bus_reactions.specs.Sight.{sight}
-use Rattle.bus_reactions.specs.Target.{bits_if, byte_bits, has_io_turned, target_turn, target_handshake, first_req, pulse_turn, target_pulse}
+use Rattle.bus_reactions.specs.Target.{bits_if, byte_bits, has_io_turned, target_turn, target_handshake, first_req}
+use Rattle.bus_reactions.specs.Target.{pulse_turn, target_pulse}
 use Rattle.bus_reactions.specs.Initiator.{initiator_turn, initiator_handshake, ack_pulse, initiator_pulse}
 use Rattle.bus_reactions.specs.Ends.{target_due, initiator_due, owes_release}
 use Rattle.handshake.specs.declared.end_state.EndState.{EndState}
-use Rattle.handshake.specs.Steps.{has_more, self_of, initiator_next, target_next, initiator_hand, target_hand, answering_by, offering_by}
+use Rattle.handshake.specs.Steps.{has_more, self_of, initiator_next, target_next, initiator_hand, target_hand}
+use Rattle.handshake.specs.Steps.{answering_by, offering_by}
 use Rattle.handshake.specs.Telling.{MakesWhatIsDue}
 use Rattle.handshake.proofs.Hands.{step_input, has_lines, makes}
 
@@ -86,9 +88,8 @@ ack_pulse_lines v h me p a = either v.bus.io _ _ refl (either (me.own.data_bits 
 
 host_pulse_lines : (v : Sight) (h : Handshakes) (me : Myself) (p : Pace) (a : Answering) →
     has_lines (initiator_pulse v h me p a) ≡ true
-host_pulse_lines v h me p a =
-    either me.own.ack _ _ refl
-    (either (not (length h.waiting == 0)) _ _ (ack_pulse_lines v h me p a) (either (me.own.data_bits == 0) _ _ refl refl))
+host_pulse_lines v h me p a = either me.own.ack _ _ refl (either (not (length h.waiting == 0)) _ _
+    (ack_pulse_lines v h me p a) (either (me.own.data_bits == 0) _ _ refl refl))
 
 initiator_lines : (v : Sight) (h : Handshakes) (me : Myself) (p : Pace) (a : Answering) →
     has_lines (initiator_due true v h me p a) ≡ true

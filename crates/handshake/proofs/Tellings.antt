@@ -1,5 +1,6 @@
 -- A byte that crosses is told by the first step after its row, and by no other.
-use Rattle.std.proofs.Common.{ℕ, ◌≡◌, ◌≤◌, ◌<◌, ◌-◌, ◌^◌, Bool, true, false, List, ◌∷◌, Option, Some, None, refl, ap, ◌∙◌, arith}
+use Rattle.std.proofs.Common.{ℕ, ◌≡◌, ◌≤◌, ◌<◌, ◌-◌, ◌^◌, Bool, true, false, List, ◌∷◌, Option, Some, None, refl, ap}
+use Rattle.std.proofs.Common.{◌∙◌, arith}
 use Rattle.std.specs.Prelude.{not, ◌&&◌, ◌==◌, is_some, if◌then◌else◌}
 use Rattle.std.proofs.lemmas.Bool.Decides.{nat_tests}
 use Rattle.bus_base.specs.Faults.{counted_on}
@@ -26,7 +27,8 @@ no_news : (q : Bool) (count : ℕ) → (q && not (count == count)) ≡ false
 no_news true count = grind (arith, nat_tests)
 no_news false count = refl
 
-not_again : (into : Bool) (flip : Option ℕ) (rows : List Row) → untold_crossing into (crossings into (handshakes rows)) flip rows ≡ None
+not_again : (into : Bool) (flip : Option ℕ) (rows : List Row)
+    → untold_crossing into (crossings into (handshakes rows)) flip rows ≡ None
 not_again into flip rows =
     ap (λ (q : Bool). if q then Some (crossed_byte (bus rows) flip) else None)
     (no_news (is_crossing into (effect rows)) (crossings into (handshakes rows)))
@@ -35,8 +37,8 @@ pub again : (into : Bool) (rows : List Row) (e : EndState) (now : ℕ) (flip : O
     (later : ℕ) (other : Option ℕ) (next : Option Due) →
     (hand_after into rows (hand_after into rows e now flip due).next later other next).crossed ≡ None
 again into rows e now flip due later other next =
-    (step_of (step_input into rows (hand_after into rows e now flip due).next later other) next).crossed
-    ∙ ap (λ (count : ℕ). untold_crossing into count other rows) (step_of (step_input into rows e now flip) due).byte_count
+    (step_of (step_input into rows (hand_after into rows e now flip due).next later other) next).crossed ∙ ap
+    (λ (count : ℕ). untold_crossing into count other rows) (step_of (step_input into rows e now flip) due).byte_count
     ∙ not_again into other rows
 
 -- ---- a byte that crosses is counted

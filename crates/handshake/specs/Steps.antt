@@ -1,5 +1,6 @@
 -- A step of an end of a connection in a phase: what it keeps, which reaction is its next, and what a step makes of it.
-use Rattle.std.specs.Prelude.{ℕ, ◌<◌, ◌≤◌, ◌^◌, Bool, true, false, not, ◌&&◌, ◌||◌, ◌==◌, List, length, Option, Some, None, is_some, nat_le, if◌then◌else◌}
+use Rattle.std.specs.Prelude.{ℕ, ◌<◌, ◌≤◌, ◌^◌, Bool, true, false, not, ◌&&◌, ◌||◌, ◌==◌, List, length, Option, Some}
+use Rattle.std.specs.Prelude.{None, is_some, nat_le, if◌then◌else◌}
 use Rattle.bus_trace.specs.LineSet.{LineSet, none}
 use Rattle.bus_trace.specs.declared.rows.Row.{Row}
 use Rattle.bus_trace.specs.declared.rows.Kind.{Kind}
@@ -60,7 +61,8 @@ pub record IsBounded (e : EndState) : Type 0 where
 abbrev pub self_of : EndState → List Row → ℕ → Myself
 self_of e rows dev = record { dev = dev; latency = e.latency; own = drives rows dev; since = e.since }
 
--- A byte that is asked for where none is offered is 00. ATN is the device's, and no time depends on whether it will ask.
+-- A byte that is asked for where none is offered is 00. ATN is the device's, and no time depends on whether it will
+-- ask.
 abbrev pub byte_or_zero : Option ℕ → ℕ
 byte_or_zero None = 0
 byte_or_zero (Some byte) = byte
@@ -77,7 +79,8 @@ initiator_reaction v h e offered me =
     due_where (not me.own.bsy) (initiator_due true v h me e.pace (answering_by e.raised offered))
 
 -- The target, as long as it has something to do in the phase: a byte follows, or its REQ is true, or the last byte of a
--- pulsed phase to the initiator has not been held. Then it leaves the phase, which is not of the phase (6.1.5.2, 6.1.10).
+-- pulsed phase to the initiator has not been held. Then it leaves the phase, which is not of the phase (6.1.5.2,
+-- 6.1.10).
 abbrev pub holds_byte : Sight → Handshakes → Pace → Myself → Bool
 holds_byte v h p me = p.pulsed && v.bus.io && not (h.requests == 0) && not (me.own.data_bits == 0)
 

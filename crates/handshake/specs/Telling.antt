@@ -1,5 +1,6 @@
 -- What holds of steps: of the bytes that they tell, of the rows that they make, and of what stands outside a phase.
-use Rattle.std.specs.Prelude.{ℕ, ◌≡◌, ◌≤◌, ◌<◌, ◌-◌, ◌^◌, Bool, true, false, List, ◌∷◌, Option, Some, None, is_some, nat_le, if◌then◌else◌}
+use Rattle.std.specs.Prelude.{ℕ, ◌≡◌, ◌≤◌, ◌<◌, ◌-◌, ◌^◌, Bool, true, false, List, ◌∷◌, Option, Some, None, is_some}
+use Rattle.std.specs.Prelude.{nat_le, if◌then◌else◌}
 use Rattle.bus_trace.specs.LineSet.{LineSet, none}
 use Rattle.bus_trace.specs.declared.rows.Row.{Row}
 use Rattle.bus_trace.specs.declared.rows.Kind.{Kind}
@@ -23,8 +24,8 @@ use Rattle.handshake.specs.declared.hand.Hand.{Hand}
 use Rattle.handshake.specs.Crossings.{is_crossing, crossings, crossed_byte, untold_crossing}
 use Rattle.handshake.specs.Steps.{has_more, answering_by}
 
--- ---- a step of an end, and its next reaction, by the direction of the phase, the rows, what it keeps, the time, the byte that
--- is offered and the bit that a fault strikes
+-- ---- a step of an end, and its next reaction, by the direction of the phase, the rows, what it keeps, the time, the
+-- byte that is offered and the bit that a fault strikes
 
 abbrev pub Step : Type 0
 Step = Bool → List Row → EndState → ℕ → Option ℕ → Option ℕ → Hand EndState

@@ -4,7 +4,8 @@ use Rattle.std.specs.Prelude.{◌%◌}
 use Rattle.std.proofs.lemmas.List.{append_assoc}
 use Rattle.disk_array.specs.Processes.{bytes_from}
 
-pub one_byte_more : (xs all : List ℕ) (first i n byte : ℕ) → i < n → byte ≡ (first + i) % 256 → xs ++ bytes_from (first + i) (n - i) ≡ all → (xs ++ byte ∷ []) ++ bytes_from (first + (i + 1)) (n - (i + 1)) ≡ all
+pub one_byte_more : (xs all : List ℕ) (first i n byte : ℕ) → i < n → byte ≡ (first + i) % 256
+    → xs ++ bytes_from (first + i) (n - i) ≡ all → (xs ++ byte ∷ []) ++ bytes_from (first + (i + 1)) (n - (i + 1)) ≡ all
 one_byte_more xs all first i n byte h b e =
     let left : n - i ≡ suc (n - (i + 1)) = omega (arith, h) in
     let next : first + (i + 1) ≡ first + i + 1 = omega arith in

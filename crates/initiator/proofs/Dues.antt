@@ -42,11 +42,18 @@ latency_is s h g = λ j. target_latency (g.no_target j) (host_latency (g.host_is
 
 -- ---- what it is itself, and wants
 
-myself_is : (s : ScenarioValue) (rows : List Row) (h : HostDef) (i : InitiatorState) → IsHostOf s h → IsPlain s rows (run_state s rows) → IsInitiatorOf s rows h i → self_of (run_state s rows) h.dev h.latency ≡ myself_by h (told rows h.dev) i
-myself_is s rows h i g p r =
-    λ j. record { dev = h.dev; latency = h.latency; own = p.drives h.dev g.below j; since = ((p.own h.dev g.below ∙ sym r.own_is) j).row }
+myself_is : (s : ScenarioValue) (rows : List Row) (h : HostDef) (i : InitiatorState)
+    → IsHostOf s h → IsPlain s rows (run_state s rows) → IsInitiatorOf s rows h i
+    → self_of (run_state s rows) h.dev h.latency ≡ myself_by h (told rows h.dev) i
+myself_is s rows h i g p r = λ j. record {
+  dev = h.dev;
+  latency = h.latency;
+  own = p.drives h.dev g.below j;
+  since = ((p.own h.dev g.below ∙ sym r.own_is) j).row;
+}
 
-want_is : (s : ScenarioValue) (rows : List Row) (h : HostDef) (i : InitiatorState) → IsHostOf s h → IsNoTarget s rows h.dev → IsInitiatorOf s rows h i → want_of s (run_state s rows) h.dev ≡ want_by i
+want_is : (s : ScenarioValue) (rows : List Row) (h : HostDef) (i : InitiatorState) → IsHostOf s h
+    → IsNoTarget s rows h.dev → IsInitiatorOf s rows h i → want_of s (run_state s rows) h.dev ≡ want_by i
 want_is s rows h i g t r =
     let k : RunState = run_state s rows in
     (λ j. record {
@@ -59,7 +66,10 @@ want_is s rows h i g t r =
 
 -- ---- on its way to a connection
 
-links_are : AreFlips → (s : ScenarioValue) (rows : List Row) (h : HostDef) (i : InitiatorState) (f : Option FaultDef) → IsHostOf s h → IsNoTarget s rows h.dev → IsPlain s rows (run_state s rows) → IsInitiatorOf s rows h i → f ≡ first_fault (run_state s rows).faults → link_due_of s (run_state s rows) (myself_by h (told rows h.dev) i) ≡ link_by h (told rows h.dev) f i
+links_are : AreFlips → (s : ScenarioValue) (rows : List Row) (h : HostDef) (i : InitiatorState) (f : Option FaultDef)
+    → IsHostOf s h → IsNoTarget s rows h.dev → IsPlain s rows (run_state s rows)
+    → IsInitiatorOf s rows h i → f ≡ first_fault (run_state s rows).faults
+    → link_due_of s (run_state s rows) (myself_by h (told rows h.dev) i) ≡ link_by h (told rows h.dev) f i
 links_are flips_are s rows h i f g t p r e =
     let k : RunState = run_state s rows in
     let me : Myself = myself_by h (told rows h.dev) i in
@@ -67,7 +77,11 @@ links_are flips_are s rows h i f g t p r e =
 
 -- ---- in a connection of its own
 
-hands_are : AreFlips → (s : ScenarioValue) (rows : List Row) (h : HostDef) (i : InitiatorState) (f : Option FaultDef) (n : Connection) → IsHostOf s h → IsPlain s rows (run_state s rows) → IsInitiatorOf s rows h i → f ≡ first_fault (run_state s rows).faults → IsOwnConnection rows h.dev n → initiator_reaction s rows h.dev h.latency ≡ hand_by h (told rows h.dev) f i
+hands_are : AreFlips
+    → (s : ScenarioValue) (rows : List Row) (h : HostDef) (i : InitiatorState) (f : Option FaultDef) (n : Connection)
+    → IsHostOf s h → IsPlain s rows (run_state s rows) → IsInitiatorOf s rows h i
+    → f ≡ first_fault (run_state s rows).faults → IsOwnConnection rows h.dev n
+    → initiator_reaction s rows h.dev h.latency ≡ hand_by h (told rows h.dev) f i
 hands_are flips_are s rows h i f n g p r e o =
     let k : RunState = run_state s rows in
     let last : ℕ = last_time rows in
@@ -77,16 +91,20 @@ hands_are flips_are s rows h i f n g p r e o =
     (λ j. hand.sample_due (is_of_device (receiver rows) h.dev) last (flips_are k.faults f last e j)
     (hand.initiator_due (begun rows) (sight rows) (handshakes rows) (myself_is s rows h i g p r j)
     (pace_by (p.begun j) (p.bus j) (p.dialogue j).heard.now.agreement (g.host_is j))
-    (answering_by (sym (r.speech_is n o) j) (sending_of s k) (p.bus j) (p.dialogue j).heard.now.offer ((p.own h.dev g.below ∙ sym r.own_is) j).ack)))
-    ∙ (λ j. hand.sample_due (is_of_device (receiver rows) h.dev) last (flip_by f last)
-    (hand.initiator_due (begun rows) (sight rows) (handshakes rows) me pace (record a { byte = sym (r.sending_is n o (bus rows) i.speech) j })))
+    (answering_by (sym (r.speech_is n o) j) (sending_of s k) (p.bus j)
+    (p.dialogue j).heard.now.offer ((p.own h.dev g.below ∙ sym r.own_is) j).ack)))
+    ∙ (λ j. hand.sample_due (is_of_device (receiver rows) h.dev) last (flip_by f last) (hand.initiator_due (begun rows)
+    (sight rows) (handshakes rows) me pace (record a { byte = sym (r.sending_is n o (bus rows) i.speech) j })))
 
 -- ---- whatever stands
 
-pub dues_are : ((s : ScenarioValue) (rows : List Row) (dev latency : ℕ) (n : Connection) → IsThere s rows dev latency → IsLinked rows n → (n.initiator == dev) ≡ true → due s rows dev ≡ under_reset s rows dev latency (initiator_reaction s rows dev latency))
+pub dues_are : ((s : ScenarioValue) (rows : List Row) (dev latency : ℕ) (n : Connection)
+    → IsThere s rows dev latency → IsLinked rows n → (n.initiator == dev) ≡ true
+    → due s rows dev ≡ under_reset s rows dev latency (initiator_reaction s rows dev latency))
     → AreFlips → AreOthersStill
-    → (s : ScenarioValue) (rows : List Row) (h : HostDef) (i : InitiatorState) (f : Option FaultDef) → IsHostOf s h → AreOfDevices rows → IsPlain s rows (run_state s rows) → IsNoTarget s rows h.dev → IsInitiatorOf s rows h i → f ≡ first_fault (run_state s rows).faults
-    → due s rows h.dev ≡ initiator_next h (told rows h.dev) f i
+    → (s : ScenarioValue) (rows : List Row) (h : HostDef) (i : InitiatorState) (f : Option FaultDef) → IsHostOf s h
+    → AreOfDevices rows → IsPlain s rows (run_state s rows) → IsNoTarget s rows h.dev → IsInitiatorOf s rows h i
+    → f ≡ first_fault (run_state s rows).faults → due s rows h.dev ≡ initiator_next h (told rows h.dev) f i
 dues_are law flips_are others_are s rows h i f g d p t r e = go (bus rows).rst refl (connection rows) refl
   where
     k : RunState
@@ -106,12 +124,13 @@ dues_are law flips_are others_are s rows h i f g d p t r e = go (bus rows).rst r
 
     -- by the stage
     staged : due s rows h.dev ≡ with_reset me i.own.rst i.reset (stage_due s k me (bus rows).rst (connection rows))
-    staged =
-        (λ j. due_if s k h.dev (latency_is s h g j))
-        ∙ (λ j. with_reset (mine j) ((p.own h.dev g.below ∙ sym r.own_is) j).rst (reset_from h.dev (p.own h.dev g.below j).released s.resets) (stage_due s k (mine j) (p.bus j).rst (p.connection j)))
+    staged = (λ j. due_if s k h.dev (latency_is s h g j)) ∙ (λ j. with_reset (mine j)
+        ((p.own h.dev g.below ∙ sym r.own_is) j).rst (reset_from h.dev (p.own h.dev g.below j).released s.resets)
+        (stage_due s k (mine j) (p.bus j).rst (p.connection j)))
         ∙ (λ j. with_reset me i.own.rst (sym r.reset_is j) (stage_due s k me (bus rows).rst (connection rows)))
 
-    go : (q : Bool) → (bus rows).rst ≡ q → (x : Option Connection) → connection rows ≡ x → due s rows h.dev ≡ initiator_next h (told rows h.dev) f i
+    go : (q : Bool) → (bus rows).rst ≡ q → (x : Option Connection) → connection rows ≡ x
+        → due s rows h.dev ≡ initiator_next h (told rows h.dev) f i
     go true rst x c =
         staged
         ∙ (λ j. reset_by (stage_due s k me (rst j) (connection rows)))
@@ -125,9 +144,9 @@ dues_are law flips_are others_are s rows h i f g d p t r e = go (bus rows).rst r
     go false rst (Some n) c = linked (n.initiator == h.dev) refl
       where
         linked : (q : Bool) → (n.initiator == h.dev) ≡ q → due s rows h.dev ≡ initiator_next h (told rows h.dev) f i
-        linked true x =
-            law s rows h.dev h.latency n there (record { calm = rst; stands = c }) x
-            ∙ (λ j. with_reset (mine j) (sym r.own_is j).rst (sym r.reset_is j) (hands_are flips_are s rows h i f n g p r e (record { stands = c; own = x }) j))
+        linked true x = law s rows h.dev h.latency n there (record { calm = rst; stands = c }) x
+            ∙ (λ j. with_reset (mine j) (sym r.own_is j).rst (sym r.reset_is j)
+            (hands_are flips_are s rows h i f n g p r e (record { stands = c; own = x }) j))
             ∙ (λ j. reset_by (if sym x j then hand_by h (told rows h.dev) f i else None))
             ∙ (λ j. reset_by (calm_by h (told rows h.dev) f i (sym rst j) (sym c j)))
         linked false x =

@@ -1,5 +1,6 @@
 -- An initiator by its parts.
-use Rattle.std.proofs.Common.{ℕ, ◌≡◌, ◌≢◌, ◌==◌, ◌∙◌, ◌<◌, ◌≤◌, Bool, true, false, List, [], ◌∷◌, sym, subst, Option, Some, None}
+use Rattle.std.proofs.Common.{ℕ, ◌≡◌, ◌≢◌, ◌==◌, ◌∙◌, ◌<◌, ◌≤◌, Bool, true, false, List, [], ◌∷◌, sym, subst, Option}
+use Rattle.std.proofs.Common.{Some, None}
 use Rattle.std.specs.Prelude.{if◌then◌else◌, not, ◌&&◌}
 use Rattle.std.proofs.lemmas.Bool.Decides.{nat_tests}
 use native.Mathlib.Omega.{arith}
@@ -41,18 +42,23 @@ use Rattle.std.proofs.lemmas.Bool.{eqb-true, ne_eqb}
 use Rattle.bus_base.proofs.Tests.{and_second}
 
 -- What it says first in a connection that it begins, where it knows whether the two may negotiate.
-pub first_is : (s : ScenarioValue) (rows : List Row) (dev target : ℕ) (x : Bool) (n : Connection) → (n.initiator == dev) ≡ true → n.target ≡ target → n.reselected ≡ false
-    → x ≡ (is_for_process (aim_of (run_state s rows).story.aims dev) && not (has_negotiated (run_state s rows).negotiated dev target))
+pub first_is : (s : ScenarioValue) (rows : List Row) (dev target : ℕ) (x : Bool) (n : Connection)
+    → (n.initiator == dev) ≡ true → n.target ≡ target → n.reselected ≡ false
+    → x ≡ (is_for_process (aim_of (run_state s rows).story.aims dev)
+    && not (has_negotiated (run_state s rows).negotiated dev target))
     → opening s dev x (aim_of (run_state s rows).story.aims dev) ≡ first_words s rows n
 first_is s rows dev target x n own called first e =
     let k : RunState = run_state s rows in
     let same : dev ≡ n.initiator = sym (eqb-true n.initiator dev own) in
-    (λ i. opening s dev (e i) (aim_of k.story.aims dev))
-    ∙ (λ i. opening s (same i) (is_for_process (aim_of k.story.aims (same i)) && not (has_negotiated k.negotiated (same i) (sym called i))) (aim_of k.story.aims (same i)))
-    ∙ (λ i. if sym first i then [] else opening s n.initiator (may_negotiate k n (aim_of k.story.aims n.initiator)) (aim_of k.story.aims n.initiator))
+    (λ i. opening s dev (e i) (aim_of k.story.aims dev)) ∙ (λ i. opening s (same i)
+    (is_for_process (aim_of k.story.aims (same i)) && not (has_negotiated k.negotiated (same i) (sym called i)))
+    (aim_of k.story.aims (same i)))
+    ∙ (λ i. if sym first i then []
+    else opening s n.initiator (may_negotiate k n (aim_of k.story.aims n.initiator)) (aim_of k.story.aims n.initiator))
 
 -- It is the initiator that its line names, and has its limit of tries.
-pub is_initiator : (s : ScenarioValue) (h : HostDef) (dev retries : ℕ) → IsHostLine s h → dev ≡ h.dev → retries ≡ h.retries → IsInitiator s dev retries
+pub is_initiator : (s : ScenarioValue) (h : HostDef) (dev retries : ℕ) → IsHostLine s h → dev ≡ h.dev
+    → retries ≡ h.retries → IsInitiator s dev retries
 is_initiator s h dev retries line e r = record {
   below = subst (λ (n : ℕ). n < 8) (sym e) line.below;
   is_one = (λ i. is_host s.hosts (e i)) ∙ line.is_one;
@@ -70,8 +76,11 @@ item_owned s dev None h = tt
 item_owned s dev (Some l) h = h.item
 
 -- In a connection of its own it sends what the scenario has it send.
-pub host_sends : (s : ScenarioValue) (rows : List Row) (v : HostValue) → ((m : ℕ) (c : CmdDef) → command_at s.commands m ≡ Some c → IsCommandLine s c) → IsPlain s rows (run_state s rows) → AreOfDevices rows → IsHostAfter s rows v → (n : Connection) → IsOwnConnection rows v.def.dev n
-    → AreSameBytes (sending_from v.bytes (process_of_link v.transfers.link) (active_at v.transfers.held (process_of_link v.transfers.link))) (sending_of s (run_state s rows))
+pub host_sends : (s : ScenarioValue) (rows : List Row) (v : HostValue)
+    → ((m : ℕ) (c : CmdDef) → command_at s.commands m ≡ Some c → IsCommandLine s c) → IsPlain s rows (run_state s rows)
+    → AreOfDevices rows → IsHostAfter s rows v → (n : Connection) → IsOwnConnection rows v.def.dev n
+    → AreSameBytes (sending_from v.bytes (process_of_link v.transfers.link)
+    (active_at v.transfers.held (process_of_link v.transfers.link))) (sending_of s (run_state s rows))
 host_sends s rows v lines p d h n o = λ bus q.
     (λ i. byte_to_send bus q (sending_from (h.bytes_are i) (serves i) (place i)))
     ∙ sendings_are s k v.def.dev (item_of k.story.link) lines mine bus q
@@ -95,9 +104,14 @@ host_sends s rows v lines p d h n o = λ bus q.
     mine = item_owned s v.def.dev k.story.link (subst (λ (z : ℕ). IsOwnedIf s z k.story.link) h.transfers_dev owned)
 
 -- It has heard a row, and the rest goes on by the row.
-pub host_goes_on : (s : ScenarioValue) (rows : List Row) (row : Row) (v m : HostValue) (itself : ItselfValue) (intent : IntentValue) (ends : List CommandEnd) → m.def ≡ v.def → m.bytes ≡ v.bytes → itself.dev ≡ v.itself.dev → intent.dev ≡ v.intent.dev → intent.retries ≡ v.intent.retries → IsItselfOf s (row ∷ rows) itself → IsIntentOf s (row ∷ rows) intent → AreEndingsOf s (row ∷ rows) v.def.dev ends → IsHostAfter s rows v → HasHeard s rows row m → IsHostAfter s (row ∷ rows) (record m { itself = itself; intent = intent; endings = ends })
-host_goes_on s rows row v m itself intent ends def bytes itself_dev intent_dev retries itself_is intent_is endings_are h w =
-    record {
+pub host_goes_on : (s : ScenarioValue) (rows : List Row) (row : Row) (v m : HostValue)
+    (itself : ItselfValue) (intent : IntentValue) (ends : List CommandEnd)
+    → m.def ≡ v.def → m.bytes ≡ v.bytes → itself.dev ≡ v.itself.dev → intent.dev ≡ v.intent.dev
+    → intent.retries ≡ v.intent.retries → IsItselfOf s (row ∷ rows) itself → IsIntentOf s (row ∷ rows) intent
+    → AreEndingsOf s (row ∷ rows) v.def.dev ends → IsHostAfter s rows v → HasHeard s rows row m
+    → IsHostAfter s (row ∷ rows) (record m { itself = itself; intent = intent; endings = ends })
+host_goes_on s rows row v m itself intent ends def bytes itself_dev intent_dev retries itself_is intent_is endings_are h
+    w = record {
       line = subst (λ (z : HostDef). IsHostLine s z) (sym def) h.line;
       itself_dev = itself_dev ∙ h.itself_dev ∙ (λ i. (sym def i).dev);
       intent_dev = intent_dev ∙ h.intent_dev ∙ (λ i. (sym def i).dev);

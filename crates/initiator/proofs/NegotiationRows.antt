@@ -1,5 +1,6 @@
 -- With which targets an initiator has negotiated goes on row by row.
-use Rattle.std.proofs.Common.{ℕ, zero, suc, ◌≡◌, ◌≢◌, ◌<◌, Bool, true, false, List, [], ◌∷◌, ◌∙◌, refl, sym, subst, arith, length, get_or, set, replicate, Option, Some, None}
+use Rattle.std.proofs.Common.{ℕ, zero, suc, ◌≡◌, ◌≢◌, ◌<◌, Bool, true, false, List, [], ◌∷◌, ◌∙◌, refl, sym, subst}
+use Rattle.std.proofs.Common.{arith, length, get_or, set, replicate, Option, Some, None}
 use Rattle.std.specs.Prelude.{if◌then◌else◌, ◌&&◌, ◌||◌, ◌==◌, not}
 use Rattle.std.specs.List.{list_any}
 use Rattle.std.proofs.lemmas.Bool.{eqb-true, eqb-false}
@@ -17,8 +18,11 @@ use Rattle.bus_story.specs.TraceHistory.{aim_of}
 use Rattle.bus_due.specs.Plain.{IsPlain}
 use Rattle.bus_due.specs.RunState.{RunState}
 use Rattle.bus_due.specs.RunSteps.{run_state, is_for_process, negotiated_by_connection, events_of_row}
-use Rattle.bus_due.specs.LastingState.{Negotiated, none_negotiated, has_negotiated, with_negotiated, pairs_without, negotiated_after_event, negotiated_after}
-use Rattle.initiator.specs.Negotiations.{NegotiationsValue, no_negotiations, had_in, had_by_connection, had_after_abort, had_after_event, had_after_events, negotiations_after, HasHad, IsNegotiationsOf, aims_at_process}
+use Rattle.bus_due.specs.LastingState.{Negotiated, none_negotiated, has_negotiated, with_negotiated, pairs_without}
+use Rattle.bus_due.specs.LastingState.{negotiated_after_event, negotiated_after}
+use Rattle.initiator.specs.Negotiations.{NegotiationsValue, no_negotiations, had_in, had_by_connection, had_after_abort}
+use Rattle.initiator.specs.Negotiations.{had_after_event, had_after_events, negotiations_after, HasHad}
+use Rattle.initiator.specs.Negotiations.{IsNegotiationsOf, aims_at_process}
 use Rattle.bus_base.proofs.Tests.{put_at}
 use Rattle.bus_due.proofs.NegotiatedPairs.{with_pair, pairs_gone}
 
@@ -46,7 +50,8 @@ all_kept (suc (suc (suc (suc (suc (suc zero)))))) l = refl
 all_kept (suc (suc (suc (suc (suc (suc (suc zero))))))) l = refl
 all_kept (suc (suc (suc (suc (suc (suc (suc (suc t)))))))) l = absurd (omega arith)
 
-pub starts_kept : (dev version : ℕ) → HasHad none_negotiated (record { dev = dev; version = version; had = replicate 8 false })
+pub starts_kept :
+    (dev version : ℕ) → HasHad none_negotiated (record { dev = dev; version = version; had = replicate 8 false })
 starts_kept dev version = record { eight = refl; had_is = λ t l. none_kept t l; unbarred = λ e. (refl, refl) }
 
 -- ---- a connection
@@ -57,27 +62,32 @@ or_case false true x = refl
 or_case false false true = refl
 or_case false false false = refl
 
-pub connection_kept : (m : Negotiated) (v : NegotiationsValue) (process any : Bool) (n : Connection) → ((n.initiator == v.dev) ≡ true → any ≡ process) → HasHad m v → HasHad (if not n.reselected && any then with_negotiated m n.initiator n.target else m) (had_in v process n)
+pub connection_kept : (m : Negotiated) (v : NegotiationsValue) (process any : Bool) (n : Connection)
+    → ((n.initiator == v.dev) ≡ true → any ≡ process) → HasHad m v
+    → HasHad (if not n.reselected && any then with_negotiated m n.initiator n.target else m) (had_in v process n)
 connection_kept m v process any n own h = go n.reselected any process (n.initiator == v.dev) refl own
   where
     of_other : (n.initiator == v.dev) ≡ false → HasHad (with_negotiated m n.initiator n.target) v
     of_other e = record {
       eight = h.eight;
-      had_is = λ t l. h.had_is t l ∙ sym (with_pair m n.initiator n.target v.dev t ∙ (λ i. if e i && n.target == t then true else has_negotiated m v.dev t));
+      had_is = λ t l. h.had_is t l ∙ sym (with_pair m n.initiator n.target v.dev t
+          ∙ (λ i. if e i && n.target == t then true else has_negotiated m v.dev t));
       unbarred = h.unbarred;
     }
 
-    of_own : (n.initiator == v.dev) ≡ true → HasHad (with_negotiated m n.initiator n.target) (record v { had = set v.had n.target true })
+    of_own : (n.initiator == v.dev) ≡ true
+        → HasHad (with_negotiated m n.initiator n.target) (record v { had = set v.had n.target true })
     of_own e = record {
       eight = length-set v.had n.target true ∙ h.eight;
-      had_is = λ t l.
-          put_at v.had n.target t true (let k = h.eight in omega arith)
-          ∙ (λ i. if n.target == t then true else h.had_is t l i)
-          ∙ sym (with_pair m n.initiator n.target v.dev t ∙ (λ i. if e i && n.target == t then true else has_negotiated m v.dev t));
+      had_is = λ t l. put_at v.had n.target t true (let k = h.eight in omega arith)
+          ∙ (λ i. if n.target == t then true else h.had_is t l i) ∙ sym (with_pair m n.initiator n.target v.dev t
+          ∙ (λ i. if e i && n.target == t then true else has_negotiated m v.dev t));
       unbarred = h.unbarred;
     }
 
-    go : (r a p o : Bool) → (n.initiator == v.dev) ≡ o → (o ≡ true → a ≡ p) → HasHad (if not r && a then with_negotiated m n.initiator n.target else m) (if r then v else if o then (if p then record v { had = set v.had n.target true } else v) else v)
+    go : (r a p o : Bool) → (n.initiator == v.dev) ≡ o → (o ≡ true → a ≡ p)
+        → HasHad (if not r && a then with_negotiated m n.initiator n.target else m)
+        (if r then v else if o then (if p then record v { had = set v.had n.target true } else v) else v)
     go true a p o e k = h
     go false true true true e k = of_own e
     go false true false true e k = let bad : true ≡ false = k refl in cc
@@ -88,13 +98,15 @@ connection_kept m v process any n own h = go n.reselected any process (n.initiat
 
 -- ---- resets
 
-device_kept : (m : Negotiated) (v : NegotiationsValue) (k : ℕ) (one : Bool) → (v.version == 1) ≡ one → HasHad m v → HasHad (if one then record m { targets = k ∷ m.targets } else record m { pairs = pairs_without m.pairs k }) (record v { had = set v.had k one })
+device_kept : (m : Negotiated) (v : NegotiationsValue) (k : ℕ) (one : Bool) → (v.version == 1) ≡ one → HasHad m v
+    → HasHad (if one then record m { targets = k ∷ m.targets } else record m { pairs = pairs_without m.pairs k })
+    (record v { had = set v.had k one })
 device_kept m v k true e h = record {
   eight = length-set v.had k true ∙ h.eight;
-  had_is = λ t l.
-      put_at v.had k t true (let n = h.eight in omega arith)
-      ∙ (λ i. if k == t then true else h.had_is t l i)
-      ∙ barred m.all (k == t) (list_any (λ n. n == t) m.targets) (list_any (λ (p : ℕ × ℕ). p.0 == v.dev && p.1 == t) m.pairs);
+  had_is =
+      λ t l. put_at v.had k t true (let n = h.eight in omega arith) ∙ (λ i. if k == t then true else h.had_is t l i)
+      ∙ barred m.all (k == t) (list_any (λ n. n == t) m.targets)
+      (list_any (λ (p : ℕ × ℕ). p.0 == v.dev && p.1 == t) m.pairs);
   unbarred = λ f. (let bad : true ≡ false = sym e ∙ f in cc);
 }
   where
@@ -105,18 +117,19 @@ device_kept m v k true e h = record {
     barred false false b y = refl
 device_kept m v k false e h = record {
   eight = length-set v.had k false ∙ h.eight;
-  had_is = λ t l.
-      put_at v.had k t false (let n = h.eight in omega arith)
-      ∙ (λ i. if k == t then false else (h.had_is t l ∙ free t) i)
-      ∙ sym (pairs_gone m.pairs k v.dev t)
-      ∙ (λ i. sym (h.unbarred e).0 i || list_any (λ n. n == t) (sym (h.unbarred e).1 i) || list_any (λ (p : ℕ × ℕ). p.0 == v.dev && p.1 == t) (pairs_without m.pairs k));
+  had_is = λ t l. put_at v.had k t false (let n = h.eight in omega arith)
+      ∙ (λ i. if k == t then false else (h.had_is t l ∙ free t) i) ∙ sym (pairs_gone m.pairs k v.dev t)
+      ∙ (λ i. sym (h.unbarred e).0 i || list_any (λ n. n == t) (sym (h.unbarred e).1 i)
+      || list_any (λ (p : ℕ × ℕ). p.0 == v.dev && p.1 == t) (pairs_without m.pairs k));
   unbarred = h.unbarred;
 }
   where
     free : (t : ℕ) → has_negotiated m v.dev t ≡ list_any (λ (p : ℕ × ℕ). p.0 == v.dev && p.1 == t) m.pairs
-    free t = λ i. (h.unbarred e).0 i || list_any (λ n. n == t) ((h.unbarred e).1 i) || list_any (λ (p : ℕ × ℕ). p.0 == v.dev && p.1 == t) m.pairs
+    free t = λ i. (h.unbarred e).0 i || list_any (λ n. n == t) ((h.unbarred e).1 i)
+        || list_any (λ (p : ℕ × ℕ). p.0 == v.dev && p.1 == t) m.pairs
 
-reset_kept : (m : Negotiated) (v : NegotiationsValue) (one : Bool) → (v.version == 1) ≡ one → HasHad m v → HasHad (if one then record m { all = true } else record m { pairs = [] }) (record v { had = replicate 8 one })
+reset_kept : (m : Negotiated) (v : NegotiationsValue) (one : Bool) → (v.version == 1) ≡ one → HasHad m v
+    → HasHad (if one then record m { all = true } else record m { pairs = [] }) (record v { had = replicate 8 one })
 reset_kept m v true e h = record {
   eight = refl;
   had_is = λ t l. all_kept t l;
@@ -124,11 +137,13 @@ reset_kept m v true e h = record {
 }
 reset_kept m v false e h = record {
   eight = refl;
-  had_is = λ t l. none_kept t l ∙ (λ i. sym (h.unbarred e).0 i || list_any (λ n. n == t) (sym (h.unbarred e).1 i) || false);
+  had_is =
+      λ t l. none_kept t l ∙ (λ i. sym (h.unbarred e).0 i || list_any (λ n. n == t) (sym (h.unbarred e).1 i) || false);
   unbarred = h.unbarred;
 }
 
-event_kept : (m : Negotiated) (v : NegotiationsValue) (e : Event) → HasHad m v → HasHad (negotiated_after_event v.version m e) (had_after_event v e)
+event_kept : (m : Negotiated) (v : NegotiationsValue) (e : Event) → HasHad m v
+    → HasHad (negotiated_after_event v.version m e) (had_after_event v e)
 event_kept m v (events.Aborted host target unit aborts.Device) h = device_kept m v target (v.version == 1) refl h
 event_kept m v (events.Aborted host target unit aborts.All) h = h
 event_kept m v (events.Aborted host target unit (aborts.Tag n)) h = h
@@ -145,7 +160,8 @@ version_stays : (v : NegotiationsValue) (shown : List Event) → (had_after_even
 version_stays v [] = refl
 version_stays v (e ∷ shown) = go e ∙ version_stays v shown
   where
-    abort : (t : ℕ) (k : AbortKind) → (had_after_event (had_after_events v shown) (events.Aborted 0 t 0 k)).version ≡ (had_after_events v shown).version
+    abort : (t : ℕ) (k : AbortKind) → (had_after_event (had_after_events v shown) (events.Aborted 0 t 0 k)).version
+        ≡ (had_after_events v shown).version
     abort t aborts.Device = refl
     abort t aborts.All = refl
     abort t (aborts.Tag n) = refl
@@ -161,28 +177,35 @@ version_stays v (e ∷ shown) = go e ∙ version_stays v shown
     go (events.End id status) = refl
     go (events.Lost id) = refl
 
-pub events_kept : (m : Negotiated) (v : NegotiationsValue) (shown : List Event) → HasHad m v → HasHad (negotiated_after v.version m shown) (had_after_events v shown)
+pub events_kept : (m : Negotiated) (v : NegotiationsValue) (shown : List Event) → HasHad m v
+    → HasHad (negotiated_after v.version m shown) (had_after_events v shown)
 events_kept m v [] h = h
-events_kept m v (e ∷ shown) h =
-    subst (λ (n : ℕ). HasHad (negotiated_after_event n (negotiated_after v.version m shown) e) (had_after_event (had_after_events v shown) e)) (version_stays v shown)
+events_kept m v (e ∷ shown) h = subst
+    (λ (n : ℕ). HasHad (negotiated_after_event n (negotiated_after v.version m shown) e)
+    (had_after_event (had_after_events v shown) e)) (version_stays v shown)
     (event_kept (negotiated_after v.version m shown) (had_after_events v shown) e (events_kept m v shown h))
 
 -- ---- a row
 
-by_connection : (k : RunState) (v : NegotiationsValue) (process : Bool) (before after : Option Connection) → process ≡ is_for_process (aim_of k.story.aims v.dev) → HasHad k.negotiated v → HasHad (negotiated_by_connection k before after) (had_by_connection v process before after)
+by_connection : (k : RunState) (v : NegotiationsValue) (process : Bool) (before after : Option Connection)
+    → process ≡ is_for_process (aim_of k.story.aims v.dev) → HasHad k.negotiated v
+    → HasHad (negotiated_by_connection k before after) (had_by_connection v process before after)
 by_connection k v process None None e h = h
 by_connection k v process (Some m) None e h = h
 by_connection k v process (Some m) (Some n) e h = h
-by_connection k v process None (Some n) e h =
-    connection_kept k.negotiated v process (is_for_process (aim_of k.story.aims n.initiator)) n
-    (λ own. let same : n.initiator ≡ v.dev = eqb-true n.initiator v.dev own in (λ i. is_for_process (aim_of k.story.aims (same i))) ∙ sym e) h
+by_connection k v process None (Some n) e h = connection_kept k.negotiated v process (is_for_process
+    (aim_of k.story.aims n.initiator)) n (λ own. let same : n.initiator ≡ v.dev = eqb-true n.initiator v.dev own in
+    (λ i. is_for_process (aim_of k.story.aims (same i))) ∙ sym e) h
 
-version_had : (v : NegotiationsValue) (process : Bool) (before after : Option Connection) → (had_by_connection v process before after).version ≡ v.version
+version_had : (v : NegotiationsValue) (process : Bool) (before after : Option Connection)
+    → (had_by_connection v process before after).version ≡ v.version
 version_had v process None None = refl
 version_had v process (Some m) after = refl
 version_had v process None (Some n) = go n.reselected (n.initiator == v.dev) process
   where
-    go : (r o p : Bool) → (if r then v else if o then (if p then record v { had = set v.had n.target true } else v) else v).version ≡ v.version
+    go : (r o p : Bool)
+        → (if r then v else if o then (if p then record v { had = set v.had n.target true } else v) else v).version
+        ≡ v.version
     go true o p = refl
     go false true true = refl
     go false true false = refl
@@ -191,20 +214,31 @@ version_had v process None (Some n) = go n.reselected (n.initiator == v.dev) pro
 pub negotiations_start : (s : ScenarioValue) (dev : ℕ) → IsNegotiationsOf s [] (no_negotiations dev s.version)
 negotiations_start s dev = record { version_is = refl; kept = starts_kept dev s.version }
 
-pub negotiations_go_on : (s : ScenarioValue) (rows : List Row) (row : Row) (v : NegotiationsValue) (process : Bool) (before after : Option Connection) (shown : List Event) → IsPlain s rows (run_state s rows) → IsPlain s (row ∷ rows) (run_state s (row ∷ rows)) → before ≡ connection rows → after ≡ connection (row ∷ rows) → process ≡ aims_at_process s rows v.dev → shown ≡ events_of_row s rows row → IsNegotiationsOf s rows v → IsNegotiationsOf s (row ∷ rows) (negotiations_after v process before after shown)
+pub negotiations_go_on : (s : ScenarioValue) (rows : List Row) (row : Row) (v : NegotiationsValue)
+    (process : Bool) (before after : Option Connection) (shown : List Event)
+    → IsPlain s rows (run_state s rows) → IsPlain s (row ∷ rows) (run_state s (row ∷ rows)) → before ≡ connection rows
+    → after ≡ connection (row ∷ rows) → process ≡ aims_at_process s rows v.dev → shown ≡ events_of_row s rows row
+    → IsNegotiationsOf s rows v → IsNegotiationsOf s (row ∷ rows) (negotiations_after v process before after shown)
 negotiations_go_on s rows row v process before after shown p q b a e told h =
     let k : RunState = run_state s rows in
     let d : RowReading = row_reading k.story.bus_state row in
-    let x : HasHad (negotiated_by_connection k k.story.bus_state.connection d.next) (had_by_connection v process k.story.bus_state.connection d.next) = by_connection k v process k.story.bus_state.connection d.next e h.kept in
+    let x : HasHad (negotiated_by_connection k k.story.bus_state.connection d.next)
+    (had_by_connection v process k.story.bus_state.connection d.next) = by_connection
+    k v process k.story.bus_state.connection d.next e h.kept in
     let w : NegotiationsValue = had_by_connection v process k.story.bus_state.connection d.next in
     let same : w.version ≡ s.version = version_had v process k.story.bus_state.connection d.next ∙ h.version_is in
-    let y : HasHad (negotiated_after s.version (negotiated_by_connection k k.story.bus_state.connection d.next) (events_of_row s rows row)) (had_after_events w (events_of_row s rows row)) =
-    subst (λ (n : ℕ). HasHad (negotiated_after n (negotiated_by_connection k k.story.bus_state.connection d.next) (events_of_row s rows row)) (had_after_events w (events_of_row s rows row))) same (events_kept (negotiated_by_connection k k.story.bus_state.connection d.next) w (events_of_row s rows row) x) in
+    let y : HasHad (negotiated_after s.version (negotiated_by_connection k k.story.bus_state.connection d.next)
+    (events_of_row s rows row)) (had_after_events w (events_of_row s rows row)) = subst (λ (n : ℕ). HasHad
+    (negotiated_after n (negotiated_by_connection k k.story.bus_state.connection d.next) (events_of_row s rows row))
+    (had_after_events w (events_of_row s rows row))) same
+    (events_kept (negotiated_by_connection k k.story.bus_state.connection d.next) w (events_of_row s rows row) x) in
     let first : k.story.bus_state.connection ≡ before = p.connection ∙ sym b in
     let last : d.next ≡ after = q.connection ∙ sym a in
-    let path : had_after_events w (events_of_row s rows row) ≡ negotiations_after v process before after shown = λ i. had_after_events (had_by_connection v process (first i) (last i)) (sym told i) in
+    let path : had_after_events w (events_of_row s rows row) ≡ negotiations_after v process before after shown =
+    λ i. had_after_events (had_by_connection v process (first i) (last i)) (sym told i) in
     record {
-      version_is = version_stays (had_by_connection v process before after) shown ∙ version_had v process before after ∙ h.version_is;
+      version_is = version_stays (had_by_connection v process before after) shown ∙ version_had v process before after
+          ∙ h.version_is;
       kept = subst (λ (z : NegotiationsValue). HasHad (run_state s (row ∷ rows)).negotiated z) path y;
     }
 
@@ -213,13 +247,15 @@ negotiations_go_on s rows row v process before after shown p q b a e told h =
 same_in : (v : NegotiationsValue) (process : Bool) (n : Connection) → (had_in v process n).dev ≡ v.dev
 same_in v process n = go n.reselected (n.initiator == v.dev) process
   where
-    go : (p q r : Bool) → (if p then v else if q then (if r then record v { had = set v.had n.target true } else v) else v).dev ≡ v.dev
+    go : (p q r : Bool)
+        → (if p then v else if q then (if r then record v { had = set v.had n.target true } else v) else v).dev ≡ v.dev
     go true q r = refl
     go false false r = refl
     go false true true = refl
     go false true false = refl
 
-pub same_by_connection : (v : NegotiationsValue) (process : Bool) (before after : Option Connection) → (had_by_connection v process before after).dev ≡ v.dev
+pub same_by_connection : (v : NegotiationsValue) (process : Bool) (before after : Option Connection)
+    → (had_by_connection v process before after).dev ≡ v.dev
 same_by_connection v process None None = refl
 same_by_connection v process None (Some n) = same_in v process n
 same_by_connection v process (Some m) after = refl

@@ -1,5 +1,6 @@
 -- What an initiator sends of the process of its connection gives the bytes that the scenario has it send.
-use Rattle.std.proofs.Common.{ℕ, suc, zero, ◌≡◌, ◌==◌, ◌∙◌, ◌≤◌, ◌-◌, ◌^◌, min, Bool, true, false, List, [], ◌∷◌, refl, length, Option, Some, None, arith}
+use Rattle.std.proofs.Common.{ℕ, suc, zero, ◌≡◌, ◌==◌, ◌∙◌, ◌≤◌, ◌-◌, ◌^◌, min, Bool, true, false, List, [], ◌∷◌, refl}
+use Rattle.std.proofs.Common.{length, Option, Some, None, arith}
 use Rattle.std.specs.Prelude.{if◌then◌else◌, slice_index_or}
 use Rattle.std.proofs.Math.Nat.{min-eq_left}
 use Rattle.bus_base.specs.declared.ProcId.{ProcId}
@@ -20,14 +21,17 @@ use Rattle.bus_due.specs.Telling.{id_of}
 use Rattle.scsi_device.specs.Lines.{IsCommandLine}
 use Rattle.scsi_device.proofs.Places.{held_place}
 use Rattle.scsi_device.proofs.SentBytes.{sent_few}
-use Rattle.initiator.specs.OwnBytes.{CommandBytesValue, no_bytes, sense_bytes, bytes_of_command, bytes_if_own, bytes_of_commands, own_bytes, sending_from}
+use Rattle.initiator.specs.OwnBytes.{CommandBytesValue, no_bytes, sense_bytes, bytes_of_command, bytes_if_own}
+use Rattle.initiator.specs.OwnBytes.{bytes_of_commands, own_bytes, sending_from}
 use Rattle.initiator.specs.States.{AreSameBytes}
 use Rattle.initiator.specs.Transfers.{active_of}
 use Rattle.initiator.specs.Wishes.{IsItemIf}
 
 -- ---- the bytes of a command of its own
 
-bytes_at : (s : ScenarioValue) (dev : ℕ) (commands : List CmdDef) (n : ℕ) (c : CmdDef) → command_at commands n ≡ Some c → (c.host == dev) ≡ true → slice_index_or (no_bytes ∷ bytes_of_commands s dev commands) n no_bytes ≡ bytes_of_command s c
+bytes_at : (s : ScenarioValue) (dev : ℕ) (commands : List CmdDef) (n : ℕ) (c : CmdDef)
+    → command_at commands n ≡ Some c → (c.host == dev) ≡ true
+    → slice_index_or (no_bytes ∷ bytes_of_commands s dev commands) n no_bytes ≡ bytes_of_command s c
 bytes_at s dev commands zero c e own = absurd (never_first commands c e)
 bytes_at s dev [] (suc n) c e own = cc
 bytes_at s dev (d ∷ commands) (suc zero) c e own =
@@ -52,8 +56,8 @@ most = 0xffffffff
 byte_is : (bus : LineSet) (p : Speech) (cdb sent : List ℕ) (command moved : ℕ) → length cdb ≤ most → length sent ≤ most
     → byte_to_send bus p (record { cdb = cdb; sent = sent; command = min command most; moved = min moved most })
     ≡ byte_to_send bus p (record { cdb = cdb; sent = sent; command = command; moved = moved })
-byte_is bus p cdb sent command moved x y =
-    λ i. if is_message_out bus then next_word p else if is_command bus then held_place cdb command most x i else held_place sent moved most y i
+byte_is bus p cdb sent command moved x y = λ i. if is_message_out bus then next_word p
+    else if is_command bus then held_place cdb command most x i else held_place sent moved most y i
 
 block_within : (n : ℕ) → n ≤ 10 → n ≤ most
 block_within n h = omega arith
@@ -69,8 +73,10 @@ none_within = omega arith
 
 -- ---- of the process of its connection
 
-of_command : (s : ScenarioValue) (k : RunState) (dev : ℕ) (id : ProcId) (c : CmdDef) → IsCommandLine s c → command_at s.commands id.command ≡ Some c → (c.host == dev) ≡ true
-    → AreSameBytes (sending_from (own_bytes s dev) (Some id) (active_of k (Some id))) (sending_by k (Some (process_by s id c)))
+of_command : (s : ScenarioValue) (k : RunState) (dev : ℕ) (id : ProcId) (c : CmdDef)
+    → IsCommandLine s c → command_at s.commands id.command ≡ Some c → (c.host == dev) ≡ true
+    → AreSameBytes (sending_from (own_bytes s dev) (Some id) (active_of k (Some id)))
+    (sending_by k (Some (process_by s id c)))
 of_command s k dev id c l e own = λ bus p. go bus p id.sense
   where
     command : ℕ
@@ -79,21 +85,52 @@ of_command s k dev id c l e own = λ bus p. go bus p id.sense
     moved : ℕ
     moved = (carried_here k id).moved.active
 
-    go : (bus : LineSet) (p : Speech) (sense : Bool)
-        → (let v : CommandBytesValue = if sense then sense_bytes else slice_index_or (own_bytes s dev) id.command no_bytes in byte_to_send bus p (record { cdb = v.cdb; sent = v.sent; command = min command most; moved = min moved most }))
-        ≡ byte_to_send bus p (sending_by k (Some (if sense then record { id = id; initiator = c.host; target = c.target; unit = c.unit; tag = tags.Untagged; cdb = sense_block; sent = [] } else record { id = id; initiator = c.host; target = c.target; unit = c.unit; tag = c.tag; cdb = c.cdb; sent = payload_bytes c.payload (sent_of s c) })))
+    go : (bus : LineSet) (p : Speech) (sense : Bool) → (let v : CommandBytesValue =
+        if sense then sense_bytes else slice_index_or (own_bytes s dev) id.command no_bytes in
+        byte_to_send bus p (record { cdb = v.cdb; sent = v.sent; command = min command most; moved = min moved most }))
+        ≡ byte_to_send bus p (sending_by k (Some (if sense then record {
+          id = id;
+          initiator = c.host;
+          target = c.target;
+          unit = c.unit;
+          tag = tags.Untagged;
+          cdb = sense_block;
+          sent = [];
+        } else record {
+          id = id;
+          initiator = c.host;
+          target = c.target;
+          unit = c.unit;
+          tag = c.tag;
+          cdb = c.cdb;
+          sent = payload_bytes c.payload (sent_of s c);
+        })))
     go bus p true = byte_is bus p sense_block [] command moved (few 6 refl) none_within
-    go bus p false =
-        (λ i. byte_to_send bus p (record { cdb = (bytes_at s dev s.commands id.command c e own i).cdb; sent = (bytes_at s dev s.commands id.command c e own i).sent; command = min command most; moved = min moved most }))
-        ∙ (λ i. byte_to_send bus p (record { cdb = c.cdb; sent = payload_bytes c.payload (count_is s c l i); command = min command most; moved = min moved most }))
-        ∙ byte_is bus p c.cdb (payload_bytes c.payload (sent_of s c)) command moved (block_within (length c.cdb) l.most_block) (sent_is_within (length (payload_bytes c.payload (sent_of s c))) (sent_of s c) l.sent (sent_few s c l.need))
+    go bus p false = (λ i. byte_to_send bus p (record {
+      cdb = (bytes_at s dev s.commands id.command c e own i).cdb;
+      sent = (bytes_at s dev s.commands id.command c e own i).sent;
+      command = min command most;
+      moved = min moved most;
+    })) ∙ (λ i. byte_to_send bus p (record {
+      cdb = c.cdb;
+      sent = payload_bytes c.payload (count_is s c l i);
+      command = min command most;
+      moved = min moved most;
+    }))
+        ∙ byte_is bus p c.cdb (payload_bytes c.payload (sent_of s c)) command moved
+        (block_within (length c.cdb) l.most_block)
+        (sent_is_within (length (payload_bytes c.payload (sent_of s c))) (sent_of s c) l.sent (sent_few s c l.need))
 
-pub sendings_are : (s : ScenarioValue) (k : RunState) (dev : ℕ) (item : Option Item) → ((n : ℕ) (c : CmdDef) → command_at s.commands n ≡ Some c → IsCommandLine s c) → IsItemIf s dev item
-    → AreSameBytes (sending_from (own_bytes s dev) (id_of item) (active_of k (id_of item))) (sending_by k (process_item s item))
+pub sendings_are : (s : ScenarioValue) (k : RunState) (dev : ℕ) (item : Option Item)
+    → ((n : ℕ) (c : CmdDef) → command_at s.commands n ≡ Some c → IsCommandLine s c) → IsItemIf s dev item
+    → AreSameBytes (sending_from (own_bytes s dev) (id_of item) (active_of k (id_of item)))
+    (sending_by k (process_item s item))
 sendings_are s k dev None lines own = λ bus p. refl
 sendings_are s k dev (Some (abort n)) lines own = λ bus p. refl
 sendings_are s k dev (Some (process id)) lines own = go (command_at s.commands id.command) refl own
   where
-    go : (d : Option CmdDef) → command_at s.commands id.command ≡ d → is_of_host d dev ≡ true → AreSameBytes (sending_from (own_bytes s dev) (Some id) (active_of k (Some id))) (sending_by k (process_if s id d))
+    go : (d : Option CmdDef) → command_at s.commands id.command ≡ d → is_of_host d dev ≡ true
+        → AreSameBytes (sending_from (own_bytes s dev) (Some id) (active_of k (Some id)))
+        (sending_by k (process_if s id d))
     go None e own = cc
     go (Some c) e own = of_command s k dev id c (lines id.command c e) e own

@@ -22,23 +22,36 @@ use Rattle.bus_due.specs.Plain.{IsPlain}
 use Rattle.initiator.specs.Speeches.{first_words, speech_at, speech_by, IsSpeechOf, IsOpeningOf}
 
 -- A connection stands before the row and after it.
-pub speech_goes_on : (s : ScenarioValue) (rows : List Row) (row : Row) (m n : Connection) → IsPlain s rows (run_state s rows) → IsPlain s (row ∷ rows) (run_state s (row ∷ rows)) → hearing_of (run_state s rows) row (row_reading (run_state s rows).story.bus_state row) ≡ hearing rows row → connection rows ≡ Some m → connection (row ∷ rows) ≡ Some n → speech_at s (row ∷ rows) ≡ speech_after (host_of s n.initiator) (hearing rows row) (speech_at s rows)
+pub speech_goes_on : (s : ScenarioValue) (rows : List Row) (row : Row) (m n : Connection)
+    → IsPlain s rows (run_state s rows) → IsPlain s (row ∷ rows) (run_state s (row ∷ rows))
+    → hearing_of (run_state s rows) row (row_reading (run_state s rows).story.bus_state row) ≡ hearing rows row
+    → connection rows ≡ Some m → connection (row ∷ rows) ≡ Some n
+    → speech_at s (row ∷ rows) ≡ speech_after (host_of s n.initiator) (hearing rows row) (speech_at s rows)
 speech_goes_on s rows row m n p q w x y =
     let k : RunState = run_state s rows in
     let d : RowReading = row_reading k.story.bus_state row in
-    (λ i. (exchange_after s k row d ((p.connection ∙ x) i) ((q.connection ∙ y) i) (leaving_of s k ((p.connection ∙ x) i))).speech)
+    (λ i. (exchange_after s k row d ((p.connection ∙ x) i)
+    ((q.connection ∙ y) i) (leaving_of s k ((p.connection ∙ x) i))).speech)
     ∙ (λ i. speech_after (host_of s n.initiator) (w i) k.exchange.speech)
 
 -- The row begins the connection.
-pub speech_begins : (s : ScenarioValue) (rows : List Row) (row : Row) (n : Connection) → IsPlain s rows (run_state s rows) → IsPlain s (row ∷ rows) (run_state s (row ∷ rows)) → connection rows ≡ None → connection (row ∷ rows) ≡ Some n → speech_at s (row ∷ rows) ≡ speech_of no_speech (first_words s rows n)
+pub speech_begins : (s : ScenarioValue) (rows : List Row) (row : Row) (n : Connection)
+    → IsPlain s rows (run_state s rows) → IsPlain s (row ∷ rows) (run_state s (row ∷ rows)) → connection rows ≡ None
+    → connection (row ∷ rows) ≡ Some n → speech_at s (row ∷ rows) ≡ speech_of no_speech (first_words s rows n)
 speech_begins s rows row n p q x y =
     let k : RunState = run_state s rows in
     let d : RowReading = row_reading k.story.bus_state row in
-    λ i. (exchange_after s k row d ((p.connection ∙ x) i) ((q.connection ∙ y) i) (leaving_of s k ((p.connection ∙ x) i))).speech
+    λ i. (exchange_after s k row d ((p.connection ∙ x) i) ((q.connection ∙ y) i)
+    (leaving_of s k ((p.connection ∙ x) i))).speech
 
-pub speeches_go_on : (s : ScenarioValue) (rows : List Row) (row : Row) (h : HostDef) (opening : List ℕ) (p : Speech) → IsPlain s rows (run_state s rows) → IsPlain s (row ∷ rows) (run_state s (row ∷ rows)) → hearing_of (run_state s rows) row (row_reading (run_state s rows).story.bus_state row) ≡ hearing rows row → host_of s h.dev ≡ Some h → IsOpeningOf s rows row h.dev opening → IsSpeechOf s rows h.dev p
-    → (before after : Option Connection) → before ≡ connection rows → after ≡ connection (row ∷ rows) → IsSpeechOf s (row ∷ rows) h.dev (speech_by h opening (hearing rows row) before after p)
-speeches_go_on s rows row h opening p plain next heard host first old before None b a n own = (let bad : None ≡ Some n = a ∙ own.stands in cc)
+pub speeches_go_on : (s : ScenarioValue) (rows : List Row) (row : Row) (h : HostDef) (opening : List ℕ) (p : Speech)
+    → IsPlain s rows (run_state s rows) → IsPlain s (row ∷ rows) (run_state s (row ∷ rows))
+    → hearing_of (run_state s rows) row (row_reading (run_state s rows).story.bus_state row) ≡ hearing rows row
+    → host_of s h.dev ≡ Some h → IsOpeningOf s rows row h.dev opening → IsSpeechOf s rows h.dev p
+    → (before after : Option Connection) → before ≡ connection rows → after ≡ connection (row ∷ rows)
+    → IsSpeechOf s (row ∷ rows) h.dev (speech_by h opening (hearing rows row) before after p)
+speeches_go_on s rows row h opening p plain next heard host first old before None b a n own =
+    (let bad : None ≡ Some n = a ∙ own.stands in cc)
 speeches_go_on s rows row h opening p plain next heard host first old None (Some k) b a n own =
     let same : k ≡ n = (let e : Some k ≡ Some n = a ∙ own.stands in cc) in
     let mine : (k.initiator == h.dev) ≡ true = (λ i. (same i).initiator == h.dev) ∙ own.own in
@@ -46,10 +59,12 @@ speeches_go_on s rows row h opening p plain next heard host first old None (Some
     ∙ said mine k.reselected refl
     ∙ sym (speech_begins s rows row k plain next (sym b) (sym a))
   where
-    said : (k.initiator == h.dev) ≡ true → (r : Bool) → k.reselected ≡ r → speech_of no_speech (if k.reselected then [] else opening) ≡ speech_of no_speech (first_words s rows k)
-    said mine true e =
-        (λ i. speech_of no_speech (if e i then [] else opening))
-        ∙ (λ i. speech_of no_speech (if sym e i then [] else Defs.opening s k.initiator (may_negotiate (run_state s rows) k (aim_of (run_state s rows).story.aims k.initiator)) (aim_of (run_state s rows).story.aims k.initiator)))
+    said : (k.initiator == h.dev) ≡ true → (r : Bool) → k.reselected ≡ r
+        → speech_of no_speech (if k.reselected then [] else opening) ≡ speech_of no_speech (first_words s rows k)
+    said mine true e = (λ i. speech_of no_speech (if e i then [] else opening))
+        ∙ (λ i. speech_of no_speech (if sym e i then [] else Defs.opening s k.initiator
+        (may_negotiate (run_state s rows) k (aim_of (run_state s rows).story.aims k.initiator))
+        (aim_of (run_state s rows).story.aims k.initiator)))
     said mine false e =
         (λ i. speech_of no_speech (if e i then [] else opening))
         ∙ (λ i. speech_of no_speech (first k (sym b) (sym a) mine e i))

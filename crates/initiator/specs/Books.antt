@@ -1,5 +1,6 @@
 -- The book of an initiator: its own commands and aborts, and what it sends next.
-use Rattle.std.specs.Prelude.{ℕ, ◌+◌, Bool, true, false, not, ◌&&◌, ◌||◌, ◌==◌, List, [], ◌∷◌, ◌++◌, length, nat_lt, map, Option, Some, None, is_some, if◌then◌else◌}
+use Rattle.std.specs.Prelude.{ℕ, ◌+◌, Bool, true, false, not, ◌&&◌, ◌||◌, ◌==◌, List, [], ◌∷◌, ◌++◌, length, nat_lt}
+use Rattle.std.specs.Prelude.{map, Option, Some, None, is_some, if◌then◌else◌}
 use Rattle.std.specs.List.{list_any}
 use Rattle.bus_base.specs.declared.ProcId.{ProcId}
 use Rattle.bus_base.specs.declared.Event.{Event}
@@ -11,10 +12,11 @@ use Rattle.initiator.specs.declared.mine.Mine.{Mine}
 use Rattle.initiator.specs.declared.mine.MyAbort.{MyAbort}
 use Rattle.initiator.specs.declared.mine.OwnItem.{OwnItem}
 use Rattle.initiator.specs.declared.mine.OwnItem.TheVariants as own
-use Rattle.initiator.specs.Mines.{mines_of, my_aborts, capped, is_check, sent_at, over_at, tried_at, mine_after_event, open_mines, mines_since, mine_by, my_aborts_since, my_abort_by}
+use Rattle.initiator.specs.Mines.{mines_of, my_aborts, capped, is_check, sent_at, over_at, tried_at, mine_after_event}
+use Rattle.initiator.specs.Mines.{open_mines, mines_since, mine_by, my_aborts_since, my_abort_by}
 
--- `queue` are its commands that ended with CHECK CONDITION, in the order of that, so many at most; `most` is how many it may
--- have open.
+-- `queue` are its commands that ended with CHECK CONDITION, in the order of that, so many at most; `most` is how many
+-- it may have open.
 pub record BookValue : Type 0 where
   pub mines : List Mine
   pub aborts : List MyAbort
@@ -57,8 +59,8 @@ my_book s b dev = record {
   most = open_limit_of s.hosts dev;
 }
 
--- ---- since when it wants to send something, and what at this time: an abort first, then an automatic REQUEST SENSE, then
--- its first command that is still to be sent
+-- ---- since when it wants to send something, and what at this time: an abort first, then an automatic REQUEST SENSE,
+-- then its first command that is still to be sent
 
 abbrev pub my_since : BookValue → Option ℕ
 my_since v =
@@ -78,8 +80,8 @@ command_if None = None
 command_if (Some n) = Some (own.Command n)
 
 abbrev pub my_item : BookValue → ℕ → Option OwnItem
-my_item v time =
-    abort_if (my_abort_by time v.aborts) (sense_if (my_sense v.mines v.queue) (command_if (mine_by v.most time (open_mines v.mines) v.mines)))
+my_item v time = abort_if (my_abort_by time v.aborts)
+    (sense_if (my_sense v.mines v.queue) (command_if (mine_by v.most time (open_mines v.mines) v.mines)))
 
 -- The item of the story that it is.
 abbrev pub item_of : OwnItem → Item
@@ -128,4 +130,5 @@ queue_after_event v (events.End id status) = queue_after_end v id status
 queue_after_event v _ = v.queue
 
 abbrev pub book_after_event : BookValue → Event → BookValue
-book_after_event v e = record v { mines = map (λ (m : Mine). mine_after_event e m) v.mines; queue = queue_after_event v e }
+book_after_event v e =
+    record v { mines = map (λ (m : Mine). mine_after_event e m) v.mines; queue = queue_after_event v e }

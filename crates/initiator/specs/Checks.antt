@@ -1,5 +1,6 @@
 -- The queue of the commands that ended with CHECK CONDITION, as it is kept.
-use Rattle.std.specs.Prelude.{ℕ, ◌≡◌, ◌≤◌, Bool, true, false, not, ◌&&◌, ◌==◌, List, [], ◌∷◌, ◌++◌, length, take, nat_lt, slice_index_or, if◌then◌else◌}
+use Rattle.std.specs.Prelude.{ℕ, ◌≡◌, ◌≤◌, Bool, true, false, not, ◌&&◌, ◌==◌, List, [], ◌∷◌, ◌++◌, length, take}
+use Rattle.std.specs.Prelude.{nat_lt, slice_index_or, if◌then◌else◌}
 use Rattle.std.specs.List.{list_any}
 use Rattle.initiator.specs.declared.mine.Mine.{Mine}
 use Rattle.initiator.specs.Books.{is_sense_due}
@@ -14,7 +15,8 @@ is_in queue n = list_any (λ k. k == n) queue
 
 -- Each stands in it once.
 abbrev pub with_check : ChecksValue → ℕ → ChecksValue
-with_check v n = if not (is_in v.queue n) && nat_lt (length v.queue) v.room then record v { queue = v.queue ++ n ∷ [] } else v
+with_check v n =
+    if not (is_in v.queue n) && nat_lt (length v.queue) v.room then record v { queue = v.queue ++ n ∷ [] } else v
 
 -- By number it is marked what stands in it.
 pub record AreMarked (count : ℕ) (slots : List ℕ) (marks : List Bool) : Type 0 where

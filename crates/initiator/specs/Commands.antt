@@ -1,5 +1,6 @@
 -- An initiator's own commands as they are kept: found by their numbers, and between two places all that may be open.
-use Rattle.std.specs.Prelude.{ℕ, ◌≡◌, ◌+◌, ◌<◌, ◌≤◌, Bool, true, false, not, ◌&&◌, ◌||◌, ◌==◌, List, [], ◌∷◌, length, take, drop, nat_le, nat_lt, slice_index, slice_index_or}
+use Rattle.std.specs.Prelude.{ℕ, ◌≡◌, ◌+◌, ◌<◌, ◌≤◌, Bool, true, false, not, ◌&&◌, ◌||◌, ◌==◌, List, [], ◌∷◌, length}
+use Rattle.std.specs.Prelude.{take, drop, nat_le, nat_lt, slice_index, slice_index_or}
 use Rattle.bus_base.specs.declared.Event.{Event}
 use Rattle.bus_base.specs.declared.Event.TheVariants as events
 use Rattle.initiator.specs.declared.mine.Mine.{Mine}
@@ -28,12 +29,14 @@ all_fresh (m ∷ mines) = is_fresh m && all_fresh mines
 -- By the number of each the places tell where it stands, the first of these at this place.
 abbrev pub are_placed : List ℕ → ℕ → List Mine → Bool
 are_placed places k [] = true
-are_placed places k (m ∷ mines) = (nat_lt m.number (length places) && slice_index places m.number == k) && are_placed places (k + 1) mines
+are_placed places k (m ∷ mines) =
+    (nat_lt m.number (length places) && slice_index places m.number == k) && are_placed places (k + 1) mines
 
 -- The numbers of these rise, the first being this one or more, and are below the limit.
 abbrev pub are_rising : ℕ → ℕ → List Mine → Bool
 are_rising limit least [] = true
-are_rising limit least (m ∷ mines) = (nat_le least m.number && nat_lt m.number limit) && are_rising limit (m.number + 1) mines
+are_rising limit least (m ∷ mines) =
+    (nat_le least m.number && nat_lt m.number limit) && are_rising limit (m.number + 1) mines
 
 -- At this place stands the command of this number.
 pub record IsPlaceOf (mines : List Mine) (place number : ℕ) : Type 0 where

@@ -1,5 +1,6 @@
 -- How each command of an initiator's own ended, and what each row does to that.
-use Rattle.std.specs.Prelude.{ℕ, ◌≡◌, ◌+◌, ◌==◌, ◌&&◌, Bool, true, false, List, [], ◌∷◌, length, drop, Option, Some, None, is_none, is_some, slice_set, slice_index_or, if◌then◌else◌}
+use Rattle.std.specs.Prelude.{ℕ, ◌≡◌, ◌+◌, ◌==◌, ◌&&◌, Bool, true, false, List, [], ◌∷◌, length, drop, Option, Some}
+use Rattle.std.specs.Prelude.{None, is_none, is_some, slice_set, slice_index_or, if◌then◌else◌}
 use Rattle.bus_base.specs.declared.ProcId.{ProcId}
 use Rattle.bus_base.specs.declared.Event.{Event}
 use Rattle.bus_base.specs.declared.Event.TheVariants as events
@@ -50,7 +51,8 @@ ends_with_sense v n = slice_set v n (with_sense_end (end_at v n))
 -- ---- an event is shown: a process ends with a status, or is lost
 
 abbrev pub ends_after_end : List CommandEnd → ProcId → ℕ → List CommandEnd
-ends_after_end v id status = if id.sense then ends_with_sense v id.command else ends_with v id.command (ends.Status status)
+ends_after_end v id status =
+    if id.sense then ends_with_sense v id.command else ends_with v id.command (ends.Status status)
 
 abbrev pub ends_after_loss : List CommandEnd → ProcId → List CommandEnd
 ends_after_loss v id = if id.sense then v else ends_with v id.command ends.Loss
@@ -63,12 +65,14 @@ is_named _ m = false
 
 abbrev pub ends_of_mines : Event → Ending → List Mine → List CommandEnd → List CommandEnd
 ends_of_mines event e [] v = v
-ends_of_mines event e (m ∷ mines) v = ends_of_mines event e mines (if m.sent && is_named event m then ends_with v m.number e else v)
+ends_of_mines event e (m ∷ mines) v =
+    ends_of_mines event e mines (if m.sent && is_named event m then ends_with v m.number e else v)
 
 abbrev pub ends_after_event : List Mine → List CommandEnd → Event → List CommandEnd
 ends_after_event mines v (events.End id status) = ends_after_end v id status
 ends_after_event mines v (events.Lost id) = ends_after_loss v id
-ends_after_event mines v (events.Aborted host target unit what) = ends_of_mines (events.Aborted host target unit what) ends.Abort mines v
+ends_after_event mines v (events.Aborted host target unit what) =
+    ends_of_mines (events.Aborted host target unit what) ends.Abort mines v
 ends_after_event mines v (events.Reset dev) = ends_of_mines (events.Reset dev) ends.Reset mines v
 ends_after_event mines v _ = v
 
@@ -85,7 +89,8 @@ is_over (Some m) = m.over
 
 abbrev pub ends_after_calling : List Mine → List CommandEnd → Option OwnItem → List CommandEnd
 ends_after_calling mines v None = v
-ends_after_calling mines v (Some (own.Command n)) = if is_over (mine_at mines n) then ends_with v n ends.Unanswered else v
+ends_after_calling mines v (Some (own.Command n)) =
+    if is_over (mine_at mines n) then ends_with v n ends.Unanswered else v
 ends_after_calling mines v (Some (own.Sense n)) = v
 ends_after_calling mines v (Some (own.Abort n)) = v
 
@@ -124,4 +129,5 @@ pub record IsEndOf (b : Story) (n : ℕ) (x : CommandEnd) : Type 0 where
 -- So each command of this initiator's own ended after these rows.
 pub record AreEndingsOf (s : ScenarioValue) (rows : List Row) (dev : ℕ) (v : List CommandEnd) : Type 0 where
   pub long : length v ≡ length s.commands + 1
-  pub ends : (n : ℕ) (c : CmdDef) → command_at s.commands n ≡ Some c → (c.host == dev) ≡ true → IsEndOf (run_state s rows).story n (end_at v n)
+  pub ends : (n : ℕ) (c : CmdDef) → command_at s.commands n ≡ Some c → (c.host == dev) ≡ true
+      → IsEndOf (run_state s rows).story n (end_at v n)

@@ -1,5 +1,6 @@
 -- What an initiator holds of its processes: of each its pointers (6.4) and its status.
-use Rattle.std.specs.Prelude.{ℕ, min, ◌≡◌, ◌+◌, ◌≤◌, Bool, true, false, ◌==◌, List, length, Option, Some, None, nat_lt, slice_index, slice_index_or, slice_set, if◌then◌else◌}
+use Rattle.std.specs.Prelude.{ℕ, min, ◌≡◌, ◌+◌, ◌≤◌, Bool, true, false, ◌==◌, List, length, Option, Some, None, nat_lt}
+use Rattle.std.specs.Prelude.{slice_index, slice_index_or, slice_set, if◌then◌else◌}
 use Rattle.bus_base.specs.declared.ProcId.{ProcId}
 use Rattle.bus_trace.specs.LineSet.{LineSet}
 use Rattle.bus_trace.specs.Phases.{is_data, is_command}
@@ -19,13 +20,14 @@ use Rattle.initiator.specs.declared.held.HeldPair.{HeldPair}
 
 -- A place past the last one of 32 bits is held as that one.
 abbrev pub capped_place : Place → Place
-capped_place p = record { command = min p.command 0xffffffff; payload = min p.payload 0xffffffff; status = min p.status 0xffffffff }
+capped_place p =
+    record { command = min p.command 0xffffffff; payload = min p.payload 0xffffffff; status = min p.status 0xffffffff }
 
 abbrev pub capped_pointers : Pointers → Pointers
 capped_pointers p = record { saved = capped_place p.saved; active = capped_place p.active }
 
--- It is what is held of a process that has carried this: of the status its first byte. No pointer to the status stands past
--- what has come of it.
+-- It is what is held of a process that has carried this: of the status its first byte. No pointer to the status stands
+-- past what has come of it.
 pub record IsHeldOf (k : CarriedBytes) (v : Held) : Type 0 where
   pub pointers_are : v.pointers ≡ capped_pointers (pointers_of k)
   pub status_is : v.status ≡ slice_index k.status.bytes 0
@@ -56,9 +58,8 @@ status_after v byte = if v.pointers.active.status == 0 then byte else v.status
 abbrev pub held_after_byte : Held → LineSet → ℕ → Held
 held_after_byte v s byte =
     if is_command s then record v { pointers = advanced_within v.pointers areas.Command }
-    else if is_data s then record v { pointers = advanced_within v.pointers areas.Payload }
-    else if is_status_phase s then record { pointers = advanced_within v.pointers areas.Status; status = status_after v byte }
-    else v
+    else if is_data s then record v { pointers = advanced_within v.pointers areas.Payload } else if is_status_phase s
+    then record { pointers = advanced_within v.pointers areas.Status; status = status_after v byte } else v
 
 -- ---- of all, by the numbers of their commands
 
@@ -95,4 +96,5 @@ byte_if all (Some id) s byte = with_held all id (held_after_byte (held_at all id
 -- Of each process of this initiator it is what is held, where all have carried this.
 pub record AreHeldOf (s : ScenarioValue) (dev : ℕ) (carried : List CarriedBytes) (all : List HeldPair) : Type 0 where
   pub long : length all ≡ length s.commands + 1
-  pub held : (id : ProcId) → is_of_host (command_at s.commands id.command) dev ≡ true → IsHeldOf (carried_of carried id) (held_at all id)
+  pub held : (id : ProcId) → is_of_host (command_at s.commands id.command) dev ≡ true
+      → IsHeldOf (carried_of carried id) (held_at all id)

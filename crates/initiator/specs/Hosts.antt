@@ -62,8 +62,8 @@ pub record HasHeard (s : ScenarioValue) (rows : List Row) (row : Row) (v : HostV
   pub transfers_are : IsTransfersOf s (row ∷ rows) v.transfers
   pub received_is : undoes_no_byte s (row ∷ rows) ≡ true → AreReceived s (row ∷ rows) v.def.dev v.received
 
--- A row in a connection tells an initiator nothing: RST is false, and in a connection of its own no byte crosses and the
--- phase stays.
+-- A row in a connection tells an initiator nothing: RST is false, and in a connection of its own no byte crosses and
+-- the phase stays.
 abbrev pub is_of_others : ℕ → Connection → Connection → Bool
 is_of_others dev m n = not (m.initiator == dev) && not (n.initiator == dev)
 

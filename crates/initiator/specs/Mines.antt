@@ -1,5 +1,6 @@
 -- What an initiator keeps of its own commands, and what is done to it.
-use Rattle.std.specs.Prelude.{ℕ, min, ◌+◌, Bool, true, false, not, ◌&&◌, ◌||◌, ◌==◌, List, [], ◌∷◌, length, map, Option, Some, None, nat_le, nat_lt, if◌then◌else◌}
+use Rattle.std.specs.Prelude.{ℕ, min, ◌+◌, Bool, true, false, not, ◌&&◌, ◌||◌, ◌==◌, List, [], ◌∷◌, length, map, Option}
+use Rattle.std.specs.Prelude.{Some, None, nat_le, nat_lt, if◌then◌else◌}
 use Rattle.std.specs.List.{list_any}
 use Rattle.bus_base.specs.declared.AbortKind.{AbortKind}
 use Rattle.bus_base.specs.declared.AbortKind.TheVariants as aborts
@@ -132,8 +133,8 @@ over_at id m = if id.command == m.number then with_over id.sense m else m
 abbrev pub tried_at : ℕ → Mine → Mine
 tried_at n m = if n == m.number then with_one_try m else m
 
--- Each open one that the first test names is over; of another that the second names and that ended with CHECK CONDITION its
--- automatic REQUEST SENSE.
+-- Each open one that the first test names is over; of another that the second names and that ended with CHECK CONDITION
+-- its automatic REQUEST SENSE.
 abbrev pub mine_with_end : Bool → Bool → Mine → Mine
 mine_with_end drops stops m =
     if m.sent && not m.over && drops then record m { over = true }

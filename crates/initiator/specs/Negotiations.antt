@@ -1,5 +1,6 @@
 -- With which targets an initiator has had the connection in which the two may negotiate (6.6.21).
-use Rattle.std.specs.Prelude.{ℕ, ◌≡◌, ◌<◌, Bool, true, false, ◌==◌, List, [], ◌∷◌, length, Option, Some, None, replicate, slice_set, slice_index_or, if◌then◌else◌}
+use Rattle.std.specs.Prelude.{ℕ, ◌≡◌, ◌<◌, Bool, true, false, ◌==◌, List, [], ◌∷◌, length, Option, Some, None}
+use Rattle.std.specs.Prelude.{replicate, slice_set, slice_index_or, if◌then◌else◌}
 use Rattle.bus_base.specs.declared.AbortKind.{AbortKind}
 use Rattle.bus_base.specs.declared.AbortKind.TheVariants as aborts
 use Rattle.bus_base.specs.declared.Event.{Event}
@@ -55,7 +56,8 @@ abbrev pub had_after_events : NegotiationsValue → List Event → NegotiationsV
 had_after_events v [] = v
 had_after_events v (e ∷ shown) = had_after_event (had_after_events v shown) e
 
-abbrev pub negotiations_after : NegotiationsValue → Bool → Option Connection → Option Connection → List Event → NegotiationsValue
+abbrev pub negotiations_after : NegotiationsValue → Bool → Option Connection → Option Connection → List Event
+    → NegotiationsValue
 negotiations_after v process before after shown = had_after_events (had_by_connection v process before after) shown
 
 -- What is kept of all pairs is, of this initiator, what it keeps. In version 2 no pair is barred for good.

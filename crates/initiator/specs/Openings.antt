@@ -1,5 +1,6 @@
 -- What an initiator says first for an item of its own, by its book.
-use Rattle.std.specs.Prelude.{ℕ, ◌++◌, ◌%◌, ◌==◌, Bool, true, false, not, List, [], ◌∷◌, Option, Some, None, if◌then◌else◌}
+use Rattle.std.specs.Prelude.{ℕ, ◌++◌, ◌%◌, ◌==◌, Bool, true, false, not, List, [], ◌∷◌, Option, Some, None}
+use Rattle.std.specs.Prelude.{if◌then◌else◌}
 use Rattle.msg_grammar.specs.declared.MsgOut.TheVariants as to_target
 use Rattle.msg_grammar.specs.Messages.{out_bytes}
 use Rattle.scenario.specs.declared.value.HostDef.{HostDef}
@@ -26,7 +27,8 @@ tag_of true tag = tags.Untagged
 tag_of false tag = tag
 
 abbrev pub opening_for : Option HostDef → Bool → Bool → ℕ → Tag → List ℕ
-opening_for h negotiates sense unit tag = out_bytes (to_target.Identify (not sense) unit) ++ (tag_bytes (tag_of sense tag) ++ offer_if negotiates h)
+opening_for h negotiates sense unit tag =
+    out_bytes (to_target.Identify (not sense) unit) ++ (tag_bytes (tag_of sense tag) ++ offer_if negotiates h)
 
 -- IDENTIFY has room for a unit of 0 to 7.
 abbrev pub mine_opening : Option HostDef → Bool → Bool → Option Mine → List ℕ

@@ -5,7 +5,8 @@ use Rattle.bus_base.specs.declared.ProcId.{ProcId}
 use Rattle.cdb_codec.specs.declared.status.TheConstants.{GOOD, QUEUE_FULL}
 use Rattle.scenario.specs.Value.{ScenarioValue}
 use Rattle.bus_story.specs.Outcomes as told
-use Rattle.bus_story.specs.Outcomes.{ended_good, ended_check, ended_full, ended_unanswered, ended_lost, ended_reset, ended_aborted, sense_in, reply_bytes, outcome_of}
+use Rattle.bus_story.specs.Outcomes.{ended_good, ended_check, ended_full, ended_unanswered, ended_lost, ended_reset}
+use Rattle.bus_story.specs.Outcomes.{ended_aborted, sense_in, reply_bytes, outcome_of}
 use Rattle.bus_story.specs.Right.{same_bytes}
 use Rattle.bus_story.specs.Story.{Story}
 use Rattle.bus_story.specs.Items.{sense_id, command_id}
@@ -18,8 +19,8 @@ use Rattle.run_record.specs.declared.outcome.Outcome.TheVariants as outcomes
 
 -- ---- whether it is known
 
--- A command that ended with another status than GOOD and QUEUE FULL waits for its automatic REQUEST SENSE: until that has
--- ended, or is over without an end.
+-- A command that ended with another status than GOOD and QUEUE FULL waits for its automatic REQUEST SENSE: until that
+-- has ended, or is over without an end.
 abbrev pub is_settled_by : Ending → Bool → Bool → Bool
 is_settled_by (ends.Status status) sensed over = status == GOOD || status == QUEUE_FULL || sensed || over
 is_settled_by ends.Loss sensed over = true
@@ -81,8 +82,8 @@ is_reply_of s history id bytes = same_bytes bytes (reply_bytes s history id)
 
 -- What came is the reply: of a command that ended GOOD, and of an automatic REQUEST SENSE that ended.
 abbrev pub are_replies : ScenarioValue → Story → ℕ → CommandEnd → List ℕ → List ℕ → Bool
-are_replies s b n x bytes sense =
-    (not (is_good x.ending) || is_reply_of s b.history (command_id n) bytes) && (not x.sense_ended || is_reply_of s b.history (sense_id n) sense)
+are_replies s b n x bytes sense = (not (is_good x.ending) || is_reply_of s b.history (command_id n) bytes)
+    && (not x.sense_ended || is_reply_of s b.history (sense_id n) sense)
 
 -- The outcome that the rows tell, once it is settled.
 abbrev pub settled_outcome : ScenarioValue → Story → ℕ → CommandEnd → Bool → Option told.Outcome

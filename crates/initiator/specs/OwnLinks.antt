@@ -1,5 +1,6 @@
 -- What an initiator knows of its own connection: to which process or abort it belongs, and what its last message was.
-use Rattle.std.specs.Prelude.{ℕ, ◌≡◌, Bool, true, false, not, ◌&&◌, ◌==◌, List, [], ◌∷◌, Option, Some, None, ⊤, if◌then◌else◌}
+use Rattle.std.specs.Prelude.{ℕ, ◌≡◌, Bool, true, false, not, ◌&&◌, ◌==◌, List, [], ◌∷◌, Option, Some, None, ⊤}
+use Rattle.std.specs.Prelude.{if◌then◌else◌}
 use Rattle.bus_base.specs.declared.ProcId.{ProcId}
 use Rattle.bus_trace.specs.declared.connection.Connection.{Connection}
 use Rattle.msg_grammar.specs.declared.message.MsgOut.{MsgOut}
@@ -38,7 +39,8 @@ is_open_sense_of m = m.sense_sent && not m.sense_over
 abbrev pub named_in : List Mine → ℕ → ℕ → Option ℕ → Option OwnItem
 named_in [] target unit tag = None
 named_in (m ∷ mines) target unit tag =
-    if is_at_unit_of m target unit && is_open_mine m && same_number (tag_number m.tag) tag then Some (own.Command m.number)
+    if is_at_unit_of m target unit && is_open_mine m && same_number (tag_number m.tag) tag
+    then Some (own.Command m.number)
     else if is_at_unit_of m target unit && is_open_sense_of m && same_number None tag then Some (own.Sense m.number)
     else named_in mines target unit tag
 
@@ -63,7 +65,8 @@ last_after_in to_initiator.Disconnect = latest.Disconnect
 last_after_in _ = latest.Plain
 
 abbrev pub new_link : ℕ → Option OwnItem → OwnLink
-new_link target item = record { target = target; item = item; unit = 0; last = latest.Plain; before = latest.Plain; undo = None }
+new_link target item =
+    record { target = target; item = item; unit = 0; last = latest.Plain; before = latest.Plain; undo = None }
 
 -- What was held before a message, of the process to which the connection belonged; MESSAGE PARITY ERROR brings it back
 -- (6.6.13).

@@ -1,5 +1,7 @@
 -- The bytes of data that came to an initiator of its own processes, and what each row does to them.
-use Rattle.std.specs.Prelude.{ℕ, min, ◌≡◌, ◌+◌, ◌-◌, ◌^◌, ◌%◌, ◌==◌, ◌&&◌, ◌++◌, not, Bool, true, false, List, [], ◌∷◌, length, take, nat_lt, Option, Some, None, is_some, slice_set, slice_index_or, if◌then◌else◌}
+use Rattle.std.specs.Prelude.{ℕ, min, ◌≡◌, ◌+◌, ◌-◌, ◌^◌, ◌%◌, ◌==◌, ◌&&◌, ◌++◌, not, Bool, true, false, List, [], ◌∷◌}
+use Rattle.std.specs.Prelude.{length, take, nat_lt, Option, Some, None, is_some, slice_set, slice_index_or}
+use Rattle.std.specs.Prelude.{if◌then◌else◌}
 use Rattle.bus_base.specs.declared.ProcId.{ProcId}
 use Rattle.bus_trace.specs.declared.Row.{Row}
 use Rattle.bus_trace.specs.declared.connection.Connection.{Connection}
@@ -77,7 +79,9 @@ room_of s c true = SENSE_LEN
 room_of s c false = data_room s c
 
 abbrev pub buffers_if_own : ScenarioValue → ℕ → CmdDef → BufferPairValue
-buffers_if_own s dev c = if c.host == dev then record { command = empty_buffer (data_room s c); sense = empty_buffer SENSE_LEN } else no_buffers
+buffers_if_own s dev c =
+    if c.host == dev then record { command = empty_buffer (data_room s c); sense = empty_buffer SENSE_LEN }
+    else no_buffers
 
 abbrev pub buffers_of_commands : ScenarioValue → ℕ → List CmdDef → List BufferPairValue
 buffers_of_commands s dev [] = []
@@ -94,9 +98,11 @@ abbrev pub brings_data : Hearing → Option Connection → Bool
 brings_data w after = w.crosses && is_data w.change.before && is_some after && not w.change.after.rst
 
 -- The process of its own connection, if there is one, and where its active data pointer stands before the row.
-abbrev pub received_after : List BufferPairValue → Option ProcId → ℕ → Hearing → Option Connection → List BufferPairValue
+abbrev pub received_after : List BufferPairValue → Option ProcId → ℕ → Hearing → Option Connection
+    → List BufferPairValue
 received_after v None place w after = v
-received_after v (Some id) place w after = if brings_data w after then received_with v id place (w.change.after.data_bits % 256) else v
+received_after v (Some id) place w after =
+    if brings_data w after then received_with v id place (w.change.after.data_bits % 256) else v
 
 -- ---- what the rows tell
 
@@ -111,7 +117,8 @@ pub record IsBufferOf (a : Area) (room : ℕ) (v : BufferValue) : Type 0 where
 -- So much came of each process of this initiator's own after these rows.
 pub record AreReceived (s : ScenarioValue) (rows : List Row) (dev : ℕ) (v : List BufferPairValue) : Type 0 where
   pub long : length v ≡ length s.commands + 1
-  pub buffers : (id : ProcId) (c : CmdDef) → command_at s.commands id.command ≡ Some c → (c.host == dev) ≡ true → IsBufferOf (moved_of (run_state s rows).story id) (room_of s c id.sense) (buffer_at v id)
+  pub buffers : (id : ProcId) (c : CmdDef) → command_at s.commands id.command ≡ Some c → (c.host == dev) ≡ true
+      → IsBufferOf (moved_of (run_state s rows).story id) (room_of s c id.sense) (buffer_at v id)
 
 -- ---- MESSAGE PARITY ERROR brings back what a process had carried before the message (6.6.13)
 
@@ -128,6 +135,6 @@ has_bytes_of carried (Some k) = same_bytes k.moved.bytes (carried_of carried k.i
 -- No row of these takes a byte of data back so.
 abbrev pub undoes_no_byte : ScenarioValue → List Row → Bool
 undoes_no_byte s [] = true
-undoes_no_byte s (row ∷ rows) =
-    has_bytes_of (run_state s rows).story.carried (undone_by (run_state s rows).story.link (row_reading (run_state s rows).story.bus_state row).out)
+undoes_no_byte s (row ∷ rows) = has_bytes_of (run_state s rows).story.carried
+    (undone_by (run_state s rows).story.link (row_reading (run_state s rows).story.bus_state row).out)
     && undoes_no_byte s rows

@@ -34,5 +34,5 @@ IsSpeechOf s rows dev p = (n : Connection) → IsOwnConnection rows dev n → p 
 
 -- This opening is for the connection that the row begins, if it begins one of its own by a selection.
 abbrev pub IsOpeningOf : ScenarioValue → List Row → Row → ℕ → List ℕ → Type 0
-IsOpeningOf s rows row dev opening =
-    (n : Connection) → connection rows ≡ None → connection (row ∷ rows) ≡ Some n → (n.initiator == dev) ≡ true → n.reselected ≡ false → opening ≡ first_words s rows n
+IsOpeningOf s rows row dev opening = (n : Connection) → connection rows ≡ None → connection (row ∷ rows) ≡ Some n
+    → (n.initiator == dev) ≡ true → n.reselected ≡ false → opening ≡ first_words s rows n

@@ -52,7 +52,8 @@ pub record IsInitiatorOf (s : ScenarioValue) (rows : List Row) (h : HostDef) (i 
   pub since_is : i.since ≡ item_want_time s (run_state s rows).story.sent h.dev
   pub callee_is : i.callee ≡ target_of s (aim_of (run_state s rows).story.aims h.dev)
   pub speech_is : (n : Connection) → IsOwnConnection rows h.dev n → i.speech ≡ (run_state s rows).exchange.speech
-  pub sending_is : (n : Connection) → IsOwnConnection rows h.dev n → AreSameBytes i.sending (sending_of s (run_state s rows))
+  pub sending_is : (n : Connection) → IsOwnConnection rows h.dev n
+      → AreSameBytes i.sending (sending_of s (run_state s rows))
 
 -- ---- what the scenario says of it
 

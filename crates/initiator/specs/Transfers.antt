@@ -1,5 +1,6 @@
 -- What an initiator holds of its own connection and of its own processes, and what each row does to that.
-use Rattle.std.specs.Prelude.{ℕ, ◌%◌, Bool, true, false, not, ◌&&◌, ◌==◌, List, Option, Some, None, is_none, replicate, if◌then◌else◌}
+use Rattle.std.specs.Prelude.{ℕ, ◌%◌, Bool, true, false, not, ◌&&◌, ◌==◌, List, Option, Some, None, is_none, replicate}
+use Rattle.std.specs.Prelude.{if◌then◌else◌}
 use Rattle.bus_base.specs.declared.ProcId.{ProcId}
 use Rattle.bus_base.specs.declared.Event.{Event}
 use Rattle.bus_base.specs.declared.Event.TheVariants as events
@@ -25,7 +26,8 @@ use Rattle.initiator.specs.declared.own_link.LastMessage.{LastMessage}
 use Rattle.initiator.specs.declared.own_link.LastMessage.TheVariants as latest
 use Rattle.initiator.specs.declared.own_link.OwnLink.{OwnLink}
 use Rattle.initiator.specs.HeldPointers.{capped_place, no_pair, held_at, restored_if, message_if, byte_if, AreHeldOf}
-use Rattle.initiator.specs.OwnLinks.{process_in, link_with_name, last_after_out, last_after_in, new_link, undo_of, undone, IsLinkIf, own_link}
+use Rattle.initiator.specs.OwnLinks.{process_in, link_with_name, last_after_out, last_after_in, new_link, undo_of}
+use Rattle.initiator.specs.OwnLinks.{undone, IsLinkIf, own_link}
 
 pub record TransfersValue : Type 0 where
   pub dev : ℕ
@@ -53,7 +55,8 @@ transfers_after_out m l v = record v {
 -- message names.
 abbrev pub transfers_after_name : MsgIn → OwnLink → OwnLink → TransfersValue → TransfersValue
 transfers_after_name m l next v = record v {
-  held = message_if (if is_none l.item then restored_if v.held (process_in next.item) else v.held) (process_in next.item) m;
+  held = message_if (if is_none l.item then restored_if v.held (process_in next.item) else v.held)
+      (process_in next.item) m;
   link = Some (record next { last = last_after_in m; before = l.last; undo = undo_of v.held (process_in l.item) });
 }
 
@@ -62,9 +65,12 @@ transfers_after_in mines m l v = transfers_after_name m l (link_with_name mines 
 
 abbrev pub transfers_after_byte : Change → OwnLink → TransfersValue → TransfersValue
 transfers_after_byte c l v =
-    if c.before.msg then v else record v { held = byte_if v.held (process_in l.item) c.before (c.after.data_bits % 256) }
+    if c.before.msg then v else record v {
+      held = byte_if v.held (process_in l.item) c.before (c.after.data_bits % 256);
+    }
 
-abbrev pub transfers_after_crossing : List Mine → Change → Option MsgOut → Option MsgIn → OwnLink → TransfersValue → TransfersValue
+abbrev pub transfers_after_crossing : List Mine → Change → Option MsgOut → Option MsgIn → OwnLink → TransfersValue
+    → TransfersValue
 transfers_after_crossing mines c (Some m) into l v = transfers_after_out m l v
 transfers_after_crossing mines c None (Some m) l v = transfers_after_in mines m l v
 transfers_after_crossing mines c None None l v = transfers_after_byte c l v
@@ -73,17 +79,20 @@ abbrev pub transfers_in_link : List Mine → Hearing → Option OwnLink → Tran
 transfers_in_link mines h None v = v
 transfers_in_link mines h (Some l) v = if h.crosses then transfers_after_crossing mines h.change h.out h.into l v else v
 
--- ---- a row that tells this, before and after which these connections stand; `aim` is for what the initiator last entered
--- arbitration before it
+-- ---- a row that tells this, before and after which these connections stand; `aim` is for what the initiator last
+-- entered arbitration before it
 
-abbrev pub transfers_on_bus : List Mine → Option OwnItem → Hearing → Option Connection → Option Connection → TransfersValue → TransfersValue
+abbrev pub transfers_on_bus : List Mine → Option OwnItem → Hearing → Option Connection → Option Connection
+    → TransfersValue → TransfersValue
 transfers_on_bus mines aim h None None v = v
 transfers_on_bus mines aim h None (Some n) v = if n.initiator == v.dev then transfers_begun aim n v else v
 transfers_on_bus mines aim h (Some m) None v = record v { link = None }
-transfers_on_bus mines aim h (Some m) (Some n) v = if n.initiator == v.dev then transfers_in_link mines h v.link v else v
+transfers_on_bus mines aim h (Some m) (Some n) v =
+    if n.initiator == v.dev then transfers_in_link mines h v.link v else v
 
 -- RST ends what the connection was for.
-abbrev pub transfers_after : List Mine → Option OwnItem → Hearing → Option Connection → Option Connection → TransfersValue → TransfersValue
+abbrev pub transfers_after : List Mine → Option OwnItem → Hearing → Option Connection → Option Connection
+    → TransfersValue → TransfersValue
 transfers_after mines aim h before after v =
     if h.change.after.rst then record v { link = None } else transfers_on_bus mines aim h before after v
 
@@ -106,7 +115,8 @@ is_last_complete latest.Abortive = false
 
 -- It takes COMMAND COMPLETE (6.6.5).
 abbrev pub takes_complete : OwnLink → Change → Bool
-takes_complete l c = rises c.before.ack c.after.ack && is_message_in c.before && is_last_complete l.last && not c.after.atn
+takes_complete l c =
+    rises c.before.ack c.after.ack && is_message_in c.before && is_last_complete l.last && not c.after.atn
 
 abbrev pub end_of : List HeldPair → Option ProcId → Option Event
 end_of held None = None

@@ -1,5 +1,6 @@
 -- What an initiator wants of the bus, and what each row does to that.
-use Rattle.std.specs.Prelude.{ℕ, ◌≡◌, ◌<◌, Bool, true, false, not, length, ◌&&◌, ◌==◌, List, [], ◌∷◌, Option, Some, None, is_none, nat_lt, ⊤, if◌then◌else◌}
+use Rattle.std.specs.Prelude.{ℕ, ◌≡◌, ◌<◌, Bool, true, false, not, length, ◌&&◌, ◌==◌, List, [], ◌∷◌, Option, Some}
+use Rattle.std.specs.Prelude.{None, is_none, nat_lt, ⊤, if◌then◌else◌}
 use Rattle.std.specs.List.{list_any}
 use Rattle.bus_base.specs.declared.Event.{Event}
 use Rattle.bus_trace.specs.declared.changes.Change.{Change}
@@ -20,7 +21,8 @@ use Rattle.initiator.specs.declared.mine.Mine.{Mine}
 use Rattle.initiator.specs.declared.mine.MyAbort.{MyAbort}
 use Rattle.initiator.specs.declared.mine.OwnItem.{OwnItem}
 use Rattle.initiator.specs.declared.mine.OwnItem.TheVariants as own
-use Rattle.initiator.specs.Books.{BookValue, my_book, my_item, item_if, book_with_sent, book_with_over, book_with_try, book_with_done, book_with_abort_try, book_after_event}
+use Rattle.initiator.specs.Books.{BookValue, my_book, my_item, item_if, book_with_sent, book_with_over, book_with_try}
+use Rattle.initiator.specs.Books.{book_with_done, book_with_abort_try, book_after_event}
 
 -- ---- whose an item is
 
@@ -145,7 +147,8 @@ abbrev pub book_after_events : BookValue → List Event → BookValue
 book_after_events v [] = v
 book_after_events v (e ∷ shown) = book_after_event (book_after_events v shown) e
 
-abbrev pub wish_after : ℕ → ℕ → Option Call → Wish → Change → Option Connection → Option Connection → ℕ → ℕ → List Event → Wish
+abbrev pub wish_after : ℕ → ℕ → Option Call → Wish → Change → Option Connection → Option Connection → ℕ → ℕ → List Event
+    → Wish
 wish_after dev retries called w c before after row_dev time shown =
     let x : Wish = wish_by_change dev retries called w c before after row_dev time in
     record x { book = book_after_events x.book shown }

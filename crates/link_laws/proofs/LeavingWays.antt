@@ -1,5 +1,5 @@
--- The ways in which a target leaves a phase: all that `phase_leaving` makes, each by its name, with what it comes from. A lemma on how
--- phases are left goes by these ways (`leaves`), and not by the tests of `phase_leaving` once more.
+-- The ways in which a target leaves a phase: all that `phase_leaving` makes, each by its name, with what it comes from.
+-- A lemma on how phases are left goes by these ways (`leaves`), and not by the tests of `phase_leaving` once more.
 use Rattle.link_laws.proofs
 use proofs.Names.{◌≡◌, Bool, true, false, Option, Some, None, refl, sym, ap, subst, inl, inr, ◌⊎◌, ◌+◌, ◌==◌, ◌&&◌}
 use proofs.Names.{cases_Bool, if◌then◌else◌, is_some, nat_lt, Agreement, UNLIMITED_OFFSET, MsgIn, Policy, TargetDef}

@@ -16,7 +16,8 @@ use proofs.Runs.Lengths.{HasShortRuns}
 
 -- ---- a connection begins
 
-first_stage : (s : ScenarioValue) (p : List Row) (n : Connection) → since data_of p ≤ last_time p → BeginsConnection p n → LinkStage s p n
+first_stage : (s : ScenarioValue) (p : List Row) (n : Connection) → since data_of p ≤ last_time p → BeginsConnection p n
+    → LinkStage s p n
 first_stage s p n past (by_selection h) = when_selected h
 first_stage s p n past (by_reselection y h) = when_settling true false true true true y (record {
   linked = h.linked;
@@ -30,7 +31,8 @@ first_stage s p n past (by_reselection y h) = when_settling true false true true
   quiet = h.handshakes_are;
   pulses_are = h.pulses_are;
   receiver_is = h.receiver_is;
-  unturned = below_differs (line_times p).io (phase_time (line_times p)) (let u = h.io_age in let w = h.msg_age in omega arith);
+  unturned = below_differs (line_times p).io (phase_time (line_times p))
+      (let u = h.io_age in let w = h.msg_age in omega arith);
   duty_is = ap (λ (d : Duty). is_owed_out d true) h.duty_is;
   side = refl;
   turned = λ a b. let w = sym a ∙ h.turned_is in absurd cc;
@@ -56,17 +58,21 @@ connected_begins s p (awaiting_answer v m c k t0 t1 t2 x h) z = not_apart s p h.
 connected_begins s p (after_withdrawal v m c k t0 t1 t2 t3 e h) z = not_apart s p h.stands.connection_is z
 connected_begins s p (after_answer m c k t0 t1 t2 t3 x h) z = not_apart s p h.here.stands.connection_is z
 connected_begins s p (after_takeover c k t0 t1 t2 t3 t4 x e f h) z = not_apart s p h.here.stands.connection_is z
-connected_begins s p (in_reset h) z = let w = sym z ∙ (λ i. is_some (connection p) && not (h.reset i)) ∙ and_false (is_some (connection p)) in absurd cc
+connected_begins s p (in_reset h) z =
+    let w = sym z ∙ (λ i. is_some (connection p) && not (h.reset i)) ∙ and_false (is_some (connection p)) in
+    absurd cc
 connected_begins s p (in_connection n e calm h) z = record { n = n; calm = calm; begins = h }
 
 -- ---- any row
 
 -- What stands after a row that leaves one of these stages.
-after_stage : (s : ScenarioValue) (p : List Row) (row : Row) → Standing s p → IsLeast (due s p) 8 row → NextRow s p row → NextAny s p row
+after_stage : (s : ScenarioValue) (p : List Row) (row : Row) → Standing s p → IsLeast (due s p) 8 row → NextRow s p row
+    → NextAny s p row
 after_stage s p row st m g = go (is_connected (row ∷ p)) refl
   where
     go : (q : Bool) → is_connected (row ∷ p) ≡ q → NextAny s p row
-    go false alone = record { obeys = g.obeys; standing = standing_next s p row st m g alone; here = apart g.here alone }
+    go false alone =
+        record { obeys = g.obeys; standing = standing_next s p row st m g alone; here = apart g.here alone }
     go true stood =
         let b = connected_begins s (row ∷ p) g.here stood in
         let order = g.order in
@@ -75,7 +81,8 @@ after_stage s p row st m g = go (is_connected (row ∷ p)) refl
         let devices : AreOfDevices (row ∷ p) = (m.inside, st.devices) in
         record {
           obeys = g.obeys;
-          standing = standing_after s p row st m g.order g.obeys (ahead_with_resets s p row st m b.calm (λ d lt x e. stage_ahead s (row ∷ p) b.n devices here d x e));
+          standing = standing_after s p row st m g.order g.obeys
+              (ahead_with_resets s p row st m b.calm (λ d lt x e. stage_ahead s (row ∷ p) b.n devices here d x e));
           here = linked b.n here;
         }
 
@@ -87,10 +94,12 @@ link_calm s p n (when_offering atn msg cd y h) = ap (λ (l : LineSet). l.rst) h.
 link_calm s p n (when_shaking msg cd io req ack atn x y h) = ap (λ (l : LineSet). l.rst) h.linked.stands.bus_is
 link_calm s p n (when_pulsing io req ack atn x y h a) = ap (λ (l : LineSet). l.rst) h.linked.stands.bus_is
 
-from_linked : (s : ScenarioValue) (p : List Row) (row : Row) (n : Connection) → HasShortLatencies s → HasShortRuns s → Standing s p → LinkStage s p n → KeepsBooksIn p row → IsLeast (due s p) 8 row → NextAny s p row
+from_linked : (s : ScenarioValue) (p : List Row) (row : Row) (n : Connection) → HasShortLatencies s → HasShortRuns s
+    → Standing s p → LinkStage s p n → KeepsBooksIn p row → IsLeast (due s p) 8 row → NextAny s p row
 from_linked s p row n fits runs st h books m =
     elim (reset_or_calm s p row st calm m) [
-      | by_reset e ↦ after_stage s p row st m (subst (λ (w : Row). NextRow s p w) (sym e) (raises s p row.time row.dev st calm (subst (λ (w : Row). IsLeast (due s p) 8 w) e m)))
+      | by_reset e ↦ after_stage s p row st m (subst (λ (w : Row). NextRow s p w) (sym e)
+          (raises s p row.time row.dev st calm (subst (λ (w : Row). IsLeast (due s p) 8 w) e m)))
       | by_calm always least ↦ after (from_link s p row n fits runs always st.there h books least)
     ]
   where
@@ -102,18 +111,21 @@ from_linked s p row n fits runs st h books m =
         let devices : AreOfDevices (row ∷ p) = (m.inside, st.devices) in
         record {
           obeys = g.obeys;
-          standing = standing_after s p row st m g.order g.obeys (ahead_with_resets s p row st m (link_calm s (row ∷ p) n g.stage) (λ d lt x e. stage_ahead s (row ∷ p) n devices g.stage d x e));
+          standing = standing_after s p row st m g.order g.obeys (ahead_with_resets s p row st m
+              (link_calm s (row ∷ p) n g.stage) (λ d lt x e. stage_ahead s (row ∷ p) n devices g.stage d x e));
           here = linked n g.stage;
         }
     after (frees g) =
         record {
           obeys = g.obeys;
-          standing = standing_after s p row st m g.order g.obeys (ahead_with_resets s p row st m (ap (λ (l : LineSet). l.rst) g.here.stands.bus_is) g.ahead);
+          standing = standing_after s p row st m g.order g.obeys
+              (ahead_with_resets s p row st m (ap (λ (l : LineSet). l.rst) g.here.stands.bus_is) g.ahead);
           here = apart (on_free_bus g.here) (λ i. is_some (g.here.stands.connection_is i) && not (bus (row ∷ p)).rst);
         }
 
 -- The next row, whatever stands.
-pub from_any : (s : ScenarioValue) (p : List Row) (row : Row) → HasShortLatencies s → HasShortRuns s → Standing s p → AnyStage s p → KeepsBooksIn p row → IsLeast (due s p) 8 row → NextAny s p row
+pub from_any : (s : ScenarioValue) (p : List Row) (row : Row) → HasShortLatencies s → HasShortRuns s → Standing s p
+    → AnyStage s p → KeepsBooksIn p row → IsLeast (due s p) 8 row → NextAny s p row
 from_any s p row fits runs st (apart h alone) books m = after_stage s p row st m (from_stage s p row fits st h alone m)
 from_any s p row fits runs st (linked n h) books m = from_linked s p row n fits runs st h books m
 
@@ -145,7 +157,8 @@ pub record Stood (s : ScenarioValue) (p : List Row) : Type 0 where
   pub standing : Standing s p
   pub here : AnyStage s p
 
-pub stood : (s : ScenarioValue) → HasShortLatencies s → HasShortRuns s → (p : List Row) → IsPrompt s p → Books p → Stood s p
+pub stood : (s : ScenarioValue) → HasShortLatencies s → HasShortRuns s → (p : List Row) → IsPrompt s p → Books p
+    → Stood s p
 stood s fits runs [] prompt b = record { standing = standing_first s; here = apart (stage_first s) refl }
 stood s fits runs (row ∷ p) prompt b =
     let was = stood s fits runs p prompt.0 (books_before p row b) in

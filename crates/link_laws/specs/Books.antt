@@ -1,4 +1,5 @@
--- What the laws of a connection do not prove of what the messages, the command and the data say: premises, one for each.
+-- What the laws of a connection do not prove of what the messages, the command and the data say: premises, one for
+-- each.
 use Rattle.std.specs.Prelude.{◌≡◌, Bool, true, not, ◌&&◌, List, [], ◌∷◌}
 use Rattle.bus_laws.specs.Stages.{is_connected}
 use Rattle.bus_due.specs.bus_trace.specs.declared.Row.{Row}
@@ -13,8 +14,8 @@ use Rattle.bus_due.specs.bus_rules.specs.Messages.{keeps_messages, keeps_command
 abbrev pub has_odd_byte : List Row → Row → Bool
 has_odd_byte rows row = has_parity (seen rows row)
 
--- The bytes of the message phases form messages, of which the first opens the connection; a message phase is left with no message
--- half sent; and no byte of data crosses while a synchronous data transfer request is open (6.6).
+-- The bytes of the message phases form messages, of which the first opens the connection; a message phase is left with
+-- no message half sent; and no byte of data crosses while a synchronous data transfer request is open (6.6).
 abbrev pub has_whole_messages : List Row → Row → Bool
 has_whole_messages rows row = keeps_messages (seen rows row)
 

@@ -1,5 +1,6 @@
 -- The stages of a connection (6.1.5 to 6.1.10): what the two ends drive in each, and since when.
-use Rattle.std.specs.Prelude.{⊤, ℕ, ◌≡◌, ◌≤◌, ◌+◌, ◌==◌, Bool, true, false, not, ◌&&◌, ◌||◌, List, Some, None, if◌then◌else◌}
+use Rattle.std.specs.Prelude.{⊤, ℕ, ◌≡◌, ◌≤◌, ◌+◌, ◌==◌, Bool, true, false, not, ◌&&◌, ◌||◌, List, Some, None}
+use Rattle.std.specs.Prelude.{if◌then◌else◌}
 use Rattle.bus_due.specs.bus_trace.specs.declared.Row.{Row}
 use Rattle.bus_due.specs.bus_trace.specs.declared.connection.Connection.{Connection}
 use Rattle.bus_due.specs.bus_trace.specs.LineSet.{data_of}
@@ -23,7 +24,8 @@ use Rattle.bus_laws.specs.Reactions.{own_time}
 use Rattle.bus_laws.specs.Ends.{EndLines, connected_bus, Linked}
 
 abbrev pub ends : Bool → Bool → Bool → ℕ → Bool → Bool → Bool → Bool → ℕ → EndLines
-ends bsy ack atn x msg cd io req y = record { bsy = bsy; ack = ack; atn = atn; sent = x; msg = msg; cd = cd; io = io; req = req; given = y }
+ends bsy ack atn x msg cd io req y =
+    record { bsy = bsy; ack = ack; atn = atn; sent = x; msg = msg; cd = cd; io = io; req = req; given = y }
 
 -- MESSAGE OUT is owed, or will be, only while ATN is true; and it is owed in a MESSAGE phase alone (6.2.1).
 abbrev pub fits_duty : Duty → (atn msg : Bool) → Bool
@@ -54,7 +56,8 @@ OneSide false x y = y ≡ 0
 abbrev pub HasTurned : List Row → Bool → Type 0
 HasTurned p io = turned p ≡ true → io ≡ true → (line_times p).io + 800 ≤ last_time p
 
--- A phase has begun in which REQ may rise a bus settle delay after the phase lines; the initiator that was reselected drives BSY still, or not.
+-- A phase has begun in which REQ may rise a bus settle delay after the phase lines; the initiator that was reselected
+-- drives BSY still, or not.
 pub record Settling (p : List Row) (n : Connection) (bsy atn msg cd io : Bool) (y : ℕ) : Type 0 where
   pub linked : Linked p n (ends bsy false atn 0 msg cd io false y)
   pub phase : InPhase p n (ends bsy false atn 0 msg cd io false y)
@@ -67,15 +70,18 @@ pub record Settling (p : List Row) (n : Connection) (bsy atn msg cd io : Bool) (
   pub turned : HasTurned p io
   pub driven : since data_of p ≤ phase_time (line_times p)
   pub fresh : last_time p ≤ phase_time (line_times p) + 400
-  pub hands : bsy ≡ true → (io ≡ true) × ((line_times p).sel ≤ phase_time (line_times p)) × (last_time p ≤ (line_times p).sel)
+  pub hands : bsy ≡ true
+      → (io ≡ true) × ((line_times p).sel ≤ phase_time (line_times p)) × (last_time p ≤ (line_times p).sel)
 
 -- I/O turned to true; the initiator has not released its last byte of a data phase yet, or has.
 pub record OwesRelease (s : ScenarioValue) (p : List Row) (n : Connection) (msg cd : Bool) : Type 0 where
   pub other : (not msg && not cd) ≡ false
   pub raised : (own_of p n.initiator).ack ≤ phase_time (line_times p)
-  pub ahead : (lat : ℕ) → latency_of s n.initiator ≡ Some lat → last_time p ≤ (own_of p n.initiator).ack + (times_of (dialogue p).heard.now.agreement.period).hold + lat
+  pub ahead : (lat : ℕ) → latency_of s n.initiator ≡ Some lat
+      → last_time p ≤ (own_of p n.initiator).ack + (times_of (dialogue p).heard.now.agreement.period).hold + lat
 
-pub record Turning (s : ScenarioValue) (p : List Row) (n : Connection) (atn : Bool) (x : ℕ) (msg cd : Bool) : Type 0 where
+pub record Turning (s : ScenarioValue) (p : List Row) (n : Connection) (atn : Bool) (x : ℕ) (msg cd : Bool) : Type
+    0 where
   pub linked : Linked p n (ends false false atn x msg cd true false 0)
   pub phase : InPhase p n (ends false false atn x msg cd true false 0)
   pub quiet : handshakes p ≡ no_handshakes
@@ -122,7 +128,9 @@ pub record Shaking (p : List Row) (n : Connection) (msg cd io req ack atn : Bool
   pub linked : Linked p n (ends false ack atn x msg cd io req y)
   pub phase : InPhase p n (ends false ack atn x msg cd io req y)
   pub asked : ((handshakes p).requests == 0) ≡ false
-  pub unpulsed : is_pulsed_phase true (connected_bus (ends false ack atn x msg cd io req y)) (dialogue p).heard.now.agreement ≡ false
+  pub unpulsed :
+      is_pulsed_phase true (connected_bus (ends false ack atn x msg cd io req y)) (dialogue p).heard.now.agreement
+      ≡ false
   pub settled : phase_time (line_times p) + 400 ≤ last_time p
   pub side : OneSide io x y
   pub turned : HasTurned p io

@@ -5,4 +5,5 @@ use proofs.{Data.Left.{falls_data_left}, Turns.Edges.{falls_opening, falls_strik
 use proofs.Turns.Leavings.{leaving_by_kinds}
 
 pub falls : Falls
-falls = falls_by_edges falls_opening falls_striking (leaving_by_kinds falls_words falls_data_left falls_data_entered falls_turning)
+falls = falls_by_edges falls_opening falls_striking
+    (leaving_by_kinds falls_words falls_data_left falls_data_entered falls_turning)

@@ -1,5 +1,7 @@
--- What is still to come of the scenario's lines, in rows: of its commands with their automatic REQUEST SENSE, its aborts, resets and faults.
-use Rattle.std.specs.Prelude.{ℕ, ◌+◌, ◌-◌, ◌*◌, Bool, true, false, not, ◌&&◌, ◌==◌, List, [], ◌∷◌, length, Option, Some, None, nat_lt, if◌then◌else◌}
+-- What is still to come of the scenario's lines, in rows: of its commands with their automatic REQUEST SENSE, its
+-- aborts, resets and faults.
+use Rattle.std.specs.Prelude.{ℕ, ◌+◌, ◌-◌, ◌*◌, Bool, true, false, not, ◌&&◌, ◌==◌, List, [], ◌∷◌, length, Option, Some}
+use Rattle.std.specs.Prelude.{None, nat_lt, if◌then◌else◌}
 use Rattle.std.specs.List.{list_any}
 use Rattle.bus_due.specs.cdb_codec.specs.Cdb.{command_of}
 use Rattle.bus_due.specs.bus_trace.specs.Phases.{is_data}
@@ -14,7 +16,8 @@ use Rattle.bus_due.specs.scenario.specs.Needs.{need_of}
 use Rattle.bus_due.specs.scenario.specs.Value.{ScenarioValue}
 use Rattle.bus_due.specs.disk_array.specs.Execution.{range_of}
 use Rattle.bus_due.specs.bus_story.specs.Budget.{data_runs}
-use Rattle.bus_due.specs.bus_story.specs.Items.{Item, Sent, abort, command_id, command_item, count_item, has_item, is_done, same_item, sense_item}
+use Rattle.bus_due.specs.bus_story.specs.Items.{Item, Sent, abort, command_id, command_item, count_item, has_item}
+use Rattle.bus_due.specs.bus_story.specs.Items.{is_done, same_item, sense_item}
 use Rattle.bus_due.specs.bus_story.specs.TraceHistory.{retries_of}
 use Rattle.bus_due.specs.bus_dialogue.specs.Arrivals.{policy_of}
 use Rattle.bus_due.specs.Defs.{target_def_of}
@@ -27,8 +30,8 @@ use Rattle.bus_due.specs.cdb_codec.specs.declared.command.Command.{Command}
 use Rattle.bus_due.specs.cdb_codec.specs.declared.command.CdbFault.{CdbFault}
 use Rattle.std.specs.Prelude.{Result, Ok, Err}
 
--- ---- the bytes of the data runs that are left after so many, by the policy of the target: with NOSAVE the first run may be made twice, once
--- cut short and once from the beginning
+-- ---- the bytes of the data runs that are left after so many, by the policy of the target: with NOSAVE the first run
+-- may be made twice, once cut short and once from the beginning
 
 abbrev pub cut_bytes : Policy → ℕ → ℕ → ℕ → ℕ
 cut_bytes policies.Never size need made = if made == 0 then need else 0
@@ -50,8 +53,8 @@ size_if None = 0
 size_if (Some u) = u.size
 
 abbrev pub bytes_after : ScenarioValue → CmdDef → ℕ → ℕ
-bytes_after s c made =
-    bytes_over (policy_of (target_def_of s c.target)) (range_if (command_of c.cdb)) (size_if (unit_of s c.target c.unit)) (need_of s c) made
+bytes_after s c made = bytes_over (policy_of (target_def_of s c.target)) (range_if (command_of c.cdb))
+    (size_if (unit_of s c.target c.unit)) (need_of s c) made
 
 -- ---- a command, the n-th
 
@@ -67,15 +70,15 @@ abbrev pub one_where : Bool → ℕ
 one_where true = 1
 one_where false = 0
 
--- It is not sent yet: a calling for each time that it may still be tried, the connection in which it is sent, that of its REQUEST SENSE, and
--- all its runs, each with a reselection, and one for STATUS.
+-- It is not sent yet: a calling for each time that it may still be tried, the connection in which it is sent, that of
+-- its REQUEST SENSE, and all its runs, each with a reselection, and one for STATUS.
 abbrev pub unsent_left : ScenarioValue → Sent → ℕ → CmdDef → ℕ
 unsent_left s b n c =
     for_calling * (retries_of s.hosts c.host + 1 - count_item b.tries (command_item n))
     + (2 * for_item + for_reselection * (data_runs s c + 1) + for_byte * bytes_after s c 0)
 
--- It is open, and its target serves it now, or not; it has made so many of its runs. In a data phase the present run is counted by the
--- connection. While it is not served one reselection more is set aside.
+-- It is open, and its target serves it now, or not; it has made so many of its runs. In a data phase the present run is
+-- counted by the connection. While it is not served one reselection more is set aside.
 abbrev pub open_left : ScenarioValue → Bool → Bool → ℕ → CmdDef → ℕ
 open_left s served moves made c =
     for_reselection * (data_runs s c - made + one_where (not served))
@@ -89,9 +92,8 @@ sense_left b n = if list_any (λ m. m == n) b.checks && not (is_done b (sense_it
 abbrev pub command_left : ScenarioValue → RunState → ℕ → CmdDef → ℕ
 command_left s k n c =
     if has_item k.story.sent.over (command_item n) then sense_left k.story.sent n
-    else if has_item k.story.sent.sent (command_item n)
-    then open_left s (serves_item k.served (command_item n)) (is_in_data k) (progress_in k.progress (command_id n)).runs c
-    else unsent_left s k.story.sent n c
+    else if has_item k.story.sent.sent (command_item n) then open_left s (serves_item k.served (command_item n))
+    (is_in_data k) (progress_in k.progress (command_id n)).runs c else unsent_left s k.story.sent n c
 
 abbrev pub commands_left : ScenarioValue → RunState → ℕ → List CmdDef → ℕ
 commands_left s k n [] = 0
@@ -101,7 +103,8 @@ commands_left s k n (c ∷ commands) = command_left s k n c + commands_left s k 
 
 abbrev pub abort_left : ScenarioValue → Sent → ℕ → AbortDef → ℕ
 abort_left s b n a =
-    if is_done b (abort n) then 0 else for_calling * (retries_of s.hosts a.host + 1 - count_item b.tries (abort n)) + for_item
+    if is_done b (abort n) then 0
+    else for_calling * (retries_of s.hosts a.host + 1 - count_item b.tries (abort n)) + for_item
 
 abbrev pub aborts_left : ScenarioValue → Sent → ℕ → List AbortDef → ℕ
 aborts_left s b n [] = 0
@@ -115,7 +118,8 @@ awaits_reset false o at = not (is_reset_past o.released at)
 
 abbrev pub resets_left : RunState → List ResetDef → ℕ
 resets_left k [] = 0
-resets_left k (r ∷ resets) = one_where (awaits_reset (drives_of k r.dev).rst (own_at k.owns r.dev) r.at) + resets_left k resets
+resets_left k (r ∷ resets) =
+    one_where (awaits_reset (drives_of k r.dev).rst (own_at k.owns r.dev) r.at) + resets_left k resets
 
 -- ---- all of them
 

@@ -1,5 +1,5 @@
--- The measure of a run: how many rows are still to come at most, as a natural number that is computed from the scenario and from what is kept
--- of the rows. It falls with each row of a prompt trace, and is within the budget at the start.
+-- The measure of a run: how many rows are still to come at most, as a natural number that is computed from the scenario
+-- and from what is kept of the rows. It falls with each row of a prompt trace, and is within the budget at the start.
 use Rattle.std.specs.Prelude.{ℕ, suc, ◌+◌, ◌/◌, ◌≤◌, Bool, true, false, List, [], ◌∷◌, Option, None}
 use Rattle.bus_due.specs.bus_trace.specs.declared.Row.{Row}
 use Rattle.bus_due.specs.bus_trace.specs.declared.connection.Connection.{Connection}
@@ -21,8 +21,8 @@ connection_if false n = n
 
 -- `struck` says that a fault row stands in the present phase, `refusing` that this is MESSAGE OUT after such a phase.
 abbrev pub measure_by : ScenarioValue → RunState → Bool → Bool → ℕ
-measure_by s k struck refusing =
-    future_left s k + way_left k + connection_left s k struck refusing (connection_if (bus_of k).rst k.story.bus_state.connection)
+measure_by s k struck refusing = future_left s k + way_left k
+    + connection_left s k struck refusing (connection_if (bus_of k).rst k.story.bus_state.connection)
 
 -- After these rows.
 abbrev pub measure : ScenarioValue → List Row → ℕ
@@ -36,4 +36,5 @@ StartsWithin = (s : ScenarioValue) → Obeys s → suc (measure s []) ≤ budget
 
 -- With each row of a prompt trace it falls, with fault rows too.
 abbrev pub Falls : Type 0
-Falls = (s : ScenarioValue) (rows : List Row) (row : Row) → Obeys s → IsPrompt s (row ∷ rows) → suc (measure s (row ∷ rows)) ≤ measure s rows
+Falls = (s : ScenarioValue) (rows : List Row) (row : Row) → Obeys s → IsPrompt s (row ∷ rows)
+    → suc (measure s (row ∷ rows)) ≤ measure s rows

@@ -31,7 +31,8 @@ measure_of s t = measure_by s t.state t.struck t.refusing
 -- The rows are given the oldest first.
 abbrev pub falls_along : ScenarioValue → Tally → List Row → Bool
 falls_along s t [] = true
-falls_along s t (row ∷ rows) = nat_lt (measure_of s (tally_after s t row)) (measure_of s t) && falls_along s (tally_after s t row) rows
+falls_along s t (row ∷ rows) =
+    nat_lt (measure_of s (tally_after s t row)) (measure_of s t) && falls_along s (tally_after s t row) rows
 
 abbrev pub is_measured : ScenarioValue → List Row → Bool
 is_measured s rows = nat_lt (measure_of s (first_tally s)) (budget s / 8) && falls_along s (first_tally s) rows

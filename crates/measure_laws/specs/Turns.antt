@@ -1,7 +1,8 @@
--- What is left of a connection, in rows: of its present phase, by REQ and ACK; and of the phases after it, without those that a fault calls for.
--- Each phase that may follow counts for one phase; those before COMMAND count for a reselection more, which pays for a command that waits in
--- the queue of its unit.
-use Rattle.std.specs.Prelude.{ℕ, ◌+◌, ◌-◌, ◌*◌, Bool, true, false, not, ◌&&◌, ◌||◌, ◌==◌, List, length, Option, Some, None, if◌then◌else◌}
+-- What is left of a connection, in rows: of its present phase, by REQ and ACK; and of the phases after it, without
+-- those that a fault calls for. Each phase that may follow counts for one phase; those before COMMAND count for a
+-- reselection more, which pays for a command that waits in the queue of its unit.
+use Rattle.std.specs.Prelude.{ℕ, ◌+◌, ◌-◌, ◌*◌, Bool, true, false, not, ◌&&◌, ◌||◌, ◌==◌, List, length, Option, Some}
+use Rattle.std.specs.Prelude.{None, if◌then◌else◌}
 use Rattle.bus_due.specs.bus_trace.specs.LineSet.{LineSet}
 use Rattle.bus_due.specs.bus_trace.specs.declared.connection.Connection.{Connection}
 use Rattle.bus_due.specs.msg_grammar.specs.declared.message.MsgIn.{MsgIn}
@@ -34,19 +35,17 @@ use Rattle.measure_laws.specs.Weights.{for_byte, for_phase, for_reselection, for
 
 -- ---- how often REQ may still rise in the phase
 
--- MESSAGE OUT: the words that are left, and all of them again where one was struck. The first of them begins them anew, and while it is asked
--- for again the flag is not counted.
+-- MESSAGE OUT: the words that are left, and all of them again where one was struck. The first of them begins them anew,
+-- and while it is asked for again the flag is not counted.
 abbrev pub repeated : Bool → ℕ → ℕ
 repeated struck words = if struck then words else 0
 
 -- `asked` says that a byte is asked for and not answered.
 abbrev pub words_left : Bool → Bool → Handshakes → Speech → ℕ
 words_left struck asked h p =
-    if h.requests == 0 then length p.words
-    else if not asked
-    then (if p.place == 0 then repeated struck (length p.words) else length p.words - p.place + repeated struck (length p.words))
-    else if p.place == 0 then length p.words - 1
-    else length p.words - (p.place + 1) + repeated struck (length p.words)
+    if h.requests == 0 then length p.words else if not asked then (if p.place == 0 then repeated struck (length p.words)
+    else length p.words - p.place + repeated struck (length p.words))
+    else if p.place == 0 then length p.words - 1 else length p.words - (p.place + 1) + repeated struck (length p.words)
 
 abbrev pub is_asked : LineSet → Bool
 is_asked bus = bus.req && not bus.ack
@@ -60,16 +59,17 @@ requests_by struck asked h p bytes run phases.DataIn = run - h.requests
 requests_by struck asked h p bytes run phases.DataOut = run - h.requests
 
 abbrev pub requests_left : ScenarioValue → RunState → ℕ → ℕ
-requests_left s k target =
-    requests_by k.exchange.plan.struck (is_asked (bus_of k)) k.handshakes k.exchange.speech (length (bytes_of_messages k.exchange.plan.messages))
+requests_left s k target = requests_by k.exchange.plan.struck
+    (is_asked (bus_of k)) k.handshakes k.exchange.speech (length (bytes_of_messages k.exchange.plan.messages))
     (run_length_if (policy_of (target_def_of s target)) (task_of s k)) (phase_of (bus_of k))
 
 -- ---- what is under way
 
--- The bytes that were asked for and not answered: four rows each (the byte, ACK, the end of ACK, the release), two less for the one that the
--- initiator drives already.
+-- The bytes that were asked for and not answered: four rows each (the byte, ACK, the end of ACK, the release), two less
+-- for the one that the initiator drives already.
 abbrev pub is_driven : Bool → LineSet → ℕ → Bool
-is_driven pulsed own byte = not own.ack && (if pulsed then own.data_bits == byte_bits byte else not (own.data_bits == 0))
+is_driven pulsed own byte =
+    not own.ack && (if pulsed then own.data_bits == byte_bits byte else not (own.data_bits == 0))
 
 abbrev pub waiting_left : Bool → Bool → ℕ → ℕ
 waiting_left io driven waiting = 4 * waiting - 2 * one_where (driven && not io && not (waiting == 0))
@@ -83,7 +83,8 @@ abbrev pub has_first_byte : LineSet → Handshakes → LineSet → Bool
 has_first_byte bus h own = h.requests == 0 && bus.io && own.data_bits == 0
 
 abbrev pub has_next_byte : Bool → LineSet → Handshakes → LineSet → Offering → Bool
-has_next_byte pulsed bus h own g = pulsed && bus.io && not (h.requests == 0) && not (own.data_bits == bits_if g.follows g.byte)
+has_next_byte pulsed bus h own g =
+    pulsed && bus.io && not (h.requests == 0) && not (own.data_bits == bits_if g.follows g.byte)
 
 abbrev pub under_way : Bool → LineSet → Handshakes → LineSet → LineSet → Offering → Answering → ℕ
 under_way pulsed bus h target initiator g a =
@@ -99,9 +100,9 @@ abbrev pub bytes_if_begun : Bool → ℕ → ℕ
 bytes_if_begun begun n = if begun then for_byte * n else 0
 
 abbrev pub phase_left : ScenarioValue → RunState → Connection → ℕ
-phase_left s k n =
-    bytes_if_begun k.exchange.begun (requests_left s k n.target)
-    + under_way (pace_of s k n.target).pulsed (bus_of k) k.handshakes (drives_of k n.target) (drives_of k n.initiator) (offering_of s k n.target) (answering_of s k n.initiator)
+phase_left s k n = bytes_if_begun k.exchange.begun (requests_left s k n.target)
+    + under_way (pace_of s k n.target).pulsed (bus_of k) k.handshakes (drives_of k n.target) (drives_of k n.initiator)
+    (offering_of s k n.target) (answering_of s k n.initiator)
 
 -- ---- the phases after it
 
@@ -150,7 +151,8 @@ phases_in refusing p phases.DataOut = 3 * for_phase
 
 abbrev pub phases_left : Bool → RunState → ℕ
 phases_left refusing k =
-    if k.exchange.begun then phases_in refusing k.exchange.plan (phase_of (bus_of k)) else for_reselection + 8 * for_phase
+    if k.exchange.begun then phases_in refusing k.exchange.plan (phase_of (bus_of k))
+    else for_reselection + 8 * for_phase
 
 -- The data of an automatic REQUEST SENSE, until it has made its run.
 abbrev pub sense_bytes_left : Bool → List ProcessProgress → Option Item → ℕ
@@ -166,4 +168,5 @@ struck_left s false = 0
 
 abbrev pub connection_left : ScenarioValue → RunState → Bool → Bool → Option Connection → ℕ
 connection_left s k struck refusing None = 0
-connection_left s k struck refusing (Some n) = phases_left refusing k + phase_left s k n + sense_bytes_left (is_in_data k) k.progress k.served + struck_left s struck
+connection_left s k struck refusing (Some n) = phases_left refusing k + phase_left s k n
+    + sense_bytes_left (is_in_data k) k.progress k.served + struck_left s struck

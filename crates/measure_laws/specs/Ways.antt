@@ -1,10 +1,11 @@
--- What is left of the way to a connection, in rows: of an arbitration, of a selection or reselection, and under RST. A free bus, and a
--- connection, have an arbitration set aside: who ends one has paid for the next.
+-- What is left of the way to a connection, in rows: of an arbitration, of a selection or reselection, and under RST. A
+-- free bus, and a connection, have an arbitration set aside: who ends one has paid for the next.
 use Rattle.std.specs.Prelude.{ℕ, ◌+◌, Bool, true, false, Option, Some, None, if◌then◌else◌}
 use Rattle.bus_due.specs.bus_trace.specs.LineSet.{none, same_set}
 use Rattle.bus_due.specs.bus_trace.specs.declared.selection.Calling.{Calling}
 use Rattle.bus_due.specs.bus_lines.specs.declared.stage.Stage.{Stage}
-use Rattle.bus_due.specs.bus_lines.specs.declared.stage.Stage.TheVariants.{OnFreeBus, InArbitration, InCalling, InAnswer, InConnection, InReset}
+use Rattle.bus_due.specs.bus_lines.specs.declared.stage.Stage.TheVariants.{OnFreeBus, InArbitration, InCalling}
+use Rattle.bus_due.specs.bus_lines.specs.declared.stage.Stage.TheVariants.{InAnswer, InConnection, InReset}
 use Rattle.bus_due.specs.RunState.{RunState, drives_of}
 use Rattle.bus_due.specs.Sights.{stage_of}
 use Rattle.measure_laws.specs.Weights.{for_calling, for_free_bus}
@@ -44,8 +45,8 @@ abbrev pub again_if : Bool → ℕ
 again_if true = for_calling
 again_if false = 0
 
--- Of a calling 7 are left once SEL is true, 6 with both IDs, 5 once BSY was let go, 4 once the IDs were withdrawn; and a row of each device
--- that drives lines.
+-- Of a calling 7 are left once SEL is true, 6 with both IDs, 5 once BSY was let go, 4 once the IDs were withdrawn; and
+-- a row of each device that drives lines.
 abbrev pub withdrawal_left : Option ℕ → ℕ
 withdrawal_left None = 5
 withdrawal_left (Some time) = 4

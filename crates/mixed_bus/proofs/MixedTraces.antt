@@ -1,5 +1,5 @@
--- Small traces of a target of ours, 0, that answers selections, among initiators of others, 6 and 7, computed. The verdicts
--- on them come from an independent program.
+-- Small traces of a target of ours, 0, that answers selections, among initiators of others, 6 and 7, computed. The
+-- verdicts on them come from an independent program.
 use Rattle.std.proofs.Common.{ℕ, ◌≡◌, true, false, List, [], ◌∷◌, None, refl}
 use lib.Count.{ones}
 use Rattle.bus_trace.specs.LineSet.{set_of, line_of}
@@ -17,7 +17,8 @@ drive time dev lines = record { time = time; dev = dev; kind = Drives (set_of li
 
 -- A selection that the target answers.
 abbrev selected : List Row
-selected = drive 5290 0 0x00200 ∷ drive 4890 7 0x10581 ∷ drive 4800 7 0x10781 ∷ drive 3600 7 0x00680 ∷ drive 1200 7 0x00280 ∷ []
+selected = drive 5290 0 0x00200 ∷ drive 4890 7 0x10581 ∷ drive 4800 7 0x10781 ∷ drive 3600 7 0x00680
+    ∷ drive 1200 7 0x00280 ∷ []
 
 -- lawful: the initiator releases SEL two deskew delays after the answer
 abbrev lawful : List Row
@@ -60,7 +61,8 @@ abbrev strike : ℕ → ℕ → ℕ → Row
 strike time dev bit = record { time = time; dev = dev; kind = Fault bit }
 
 abbrev struck : List Row
-struck = strike 5290 0 3 ∷ drive 4890 7 0x10581 ∷ drive 4800 7 0x10781 ∷ drive 3600 7 0x00680 ∷ drive 1200 7 0x00280 ∷ []
+struck =
+    strike 5290 0 3 ∷ drive 4890 7 0x10581 ∷ drive 4800 7 0x10781 ∷ drive 3600 7 0x00680 ∷ drive 1200 7 0x00280 ∷ []
 
 struck_is_played : is_played (answering 0) 0 struck ≡ true
 unfolding union_below ones
@@ -72,7 +74,8 @@ struck_answers_no_more = refl
 
 -- The target answers a nanosecond before it is due: rule 10, and it is not played.
 abbrev hasty : List Row
-hasty = drive 5289 0 0x00200 ∷ drive 4890 7 0x10581 ∷ drive 4800 7 0x10781 ∷ drive 3600 7 0x00680 ∷ drive 1200 7 0x00280 ∷ []
+hasty = drive 5289 0 0x00200 ∷ drive 4890 7 0x10581 ∷ drive 4800 7 0x10781 ∷ drive 3600 7 0x00680 ∷ drive 1200 7 0x00280
+    ∷ []
 
 hasty_is_not_played : is_played (answering 0) 0 hasty ≡ false
 unfolding union_below ones

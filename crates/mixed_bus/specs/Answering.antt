@@ -11,13 +11,15 @@ use Rattle.bus_trace.specs.Terms.{call}
 use Rattle.mixed_bus.specs.Playing.{Doing}
 
 abbrev pub answer_at : ℕ → Option ℕ → Option ℕ → Option Row
-answer_at dev (Some released) None = Some (record { time = released + BUS_SETTLE_DELAY; dev = dev; kind = Drives (record none { bsy = true }) })
+answer_at dev (Some released) None =
+    Some (record { time = released + BUS_SETTLE_DELAY; dev = dev; kind = Drives (record none { bsy = true }) })
 answer_at dev (Some released) (Some answered) = None
 answer_at dev None answered = None
 
 abbrev pub answer_to : ℕ → Option Calling → Option Row
 answer_to dev None = None
-answer_to dev (Some k) = if k.called == dev && not k.reselects && not k.struck then answer_at dev k.released k.answered else None
+answer_to dev (Some k) =
+    if k.called == dev && not k.reselects && not k.struck then answer_at dev k.released k.answered else None
 
 abbrev pub answer_in : ℕ → Option Call → Option Row
 answer_in dev None = None

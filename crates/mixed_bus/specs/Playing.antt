@@ -1,6 +1,7 @@
 -- A device among others: by the rows so far, the newest first, it is to make this row next, or none before another row
 -- comes.
-use Rattle.std.specs.Prelude.{ℕ, Bool, true, false, not, ◌&&◌, ◌==◌, nat_le, List, [], ◌∷◌, Option, Some, None, if◌then◌else◌}
+use Rattle.std.specs.Prelude.{ℕ, Bool, true, false, not, ◌&&◌, ◌==◌, nat_le, List, [], ◌∷◌, Option, Some, None}
+use Rattle.std.specs.Prelude.{if◌then◌else◌}
 use Rattle.bus_trace.specs.LineSet.{same_set}
 use Rattle.bus_trace.specs.declared.rows.Row.{Row}
 use Rattle.bus_trace.specs.declared.rows.Kind.{Kind}

@@ -1,5 +1,6 @@
 -- Each answer comes exactly where it is right.
-use Rattle.std.proofs.Common.{◌≡◌, ℕ, ◌<◌, ◌↔◌, List, [], ◌++◌, length, take, drop, Option, Some, None, refl, sym, ap, subst, ◌∙◌, arith, length-append}
+use Rattle.std.proofs.Common.{◌≡◌, ℕ, ◌<◌, ◌↔◌, List, [], ◌++◌, length, take, drop, Option, Some, None, refl, sym, ap}
+use Rattle.std.proofs.Common.{subst, ◌∙◌, arith, length-append}
 use Rattle.std.proofs.lemmas.List.{length-take-le, take-append-drop, take-append-le, take_all}
 use Rattle.msg_grammar.specs.declared.message.Got.{Got}
 use Rattle.msg_grammar.specs.declared.message.Got.TheVariants.{Whole, More, Unknown}
@@ -10,11 +11,12 @@ use Rattle.msg_grammar.proofs.Gets.{IsRight, right}
 module _ {M : Type 0} (form : ℕ → Form M) where
   -- a message at the front is got
   front_got : (bytes : List ℕ) (m : M) (n : ℕ) → Begins (msg_by form) bytes m n → got_by form bytes ≡ Whole m n
-  front_got bytes m n h =
-      ap (λ (x : List ℕ). got_by form x) (sym (take-append-drop n bytes)) ∙ (again form (take n bytes) (drop n bytes) m h.1 ∙ ap (λ (k : ℕ). Whole m k) (length-take-le n bytes h.0))
+  front_got bytes m n h = ap (λ (x : List ℕ). got_by form x) (sym (take-append-drop n bytes))
+      ∙ (again form (take n bytes) (drop n bytes) m h.1 ∙ ap (λ (k : ℕ). Whole m k) (length-take-le n bytes h.0))
 
   -- and stands at the front whatever follows
-  longer : (bytes more : List ℕ) (m : M) (n : ℕ) → Begins (msg_by form) bytes m n → Begins (msg_by form) (bytes ++ more) m n
+  longer : (bytes more : List ℕ) (m : M) (n : ℕ) → Begins (msg_by form) bytes m n
+      → Begins (msg_by form) (bytes ++ more) m n
   longer bytes more m n h =
       let e : take n (bytes ++ more) ≡ take n bytes = take-append-le n bytes more h.0 in
       let short = h.0 in
@@ -57,7 +59,8 @@ module _ {M : Type 0} (form : ℕ → Form M) where
     pub whole : (bytes : List ℕ) (k : M) (n : ℕ) → (got_by form bytes ≡ Whole k n) ↔ Begins (msg_by form) bytes k n
     whole bytes k n = (known_right bytes (Whole k n), front_got bytes k n)
 
-    more_from : (bytes : List ℕ) (r : Got M) → got_by form bytes ≡ r → GoesOn (msg_by form) bytes → got_by form bytes ≡ More
+    more_from : (bytes : List ℕ) (r : Got M) → got_by form bytes ≡ r → GoesOn (msg_by form) bytes
+        → got_by form bytes ≡ More
     more_from bytes (Whole k n) g h = absurd (not_whole bytes k n (known_right bytes (Whole k n) g) h)
     more_from bytes More g h = g
     more_from bytes Unknown g h = absurd (never_goes_on bytes h (known_right bytes Unknown g))
@@ -65,7 +68,8 @@ module _ {M : Type 0} (form : ℕ → Form M) where
     pub more : (bytes : List ℕ) → (got_by form bytes ≡ More) ↔ GoesOn (msg_by form) bytes
     more bytes = (known_right bytes More, more_from bytes (got_by form bytes) refl)
 
-    unknown_from : (bytes : List ℕ) (r : Got M) → got_by form bytes ≡ r → NeverBegins (msg_by form) bytes → got_by form bytes ≡ Unknown
+    unknown_from : (bytes : List ℕ) (r : Got M) → got_by form bytes ≡ r → NeverBegins (msg_by form) bytes
+        → got_by form bytes ≡ Unknown
     unknown_from bytes (Whole k n) g h = absurd (never_whole bytes k n (known_right bytes (Whole k n) g) h)
     unknown_from bytes More g h = absurd (never_goes_on bytes (known_right bytes More g) h)
     unknown_from bytes Unknown g h = g

@@ -1,5 +1,6 @@
 -- Each message has one spelling.
-use Rattle.std.proofs.Common.{◌≡◌, ℕ, ◌+◌, ◌-◌, ◌<◌, ◌≤◌, ◌↔◌, Bool, true, false, ◌&&◌, cond, List, [], ◌∷◌, ◌++◌, length, Some, None, refl, ap, subst, ◌∙◌, arith}
+use Rattle.std.proofs.Common.{◌≡◌, ℕ, ◌+◌, ◌-◌, ◌<◌, ◌≤◌, ◌↔◌, Bool, true, false, ◌&&◌, cond, List, [], ◌∷◌, ◌++◌}
+use Rattle.std.proofs.Common.{length, Some, None, refl, ap, subst, ◌∙◌, arith}
 use Rattle.std.specs.Prelude.{option_map, ◌==◌}
 use Rattle.std.proofs.lemmas.Bool.Decides.{nat_tests}
 use Rattle.bus_trace.specs.declared.agreements.Agreement.{Agreement}
@@ -10,7 +11,8 @@ use Rattle.msg_grammar.specs.declared.message.MsgIn.{MsgIn}
 use Rattle.msg_grammar.specs.declared.message.MsgIn.TheVariants as to_initiator
 use Rattle.msg_grammar.specs.Grammar.{Form, alone, tagged, extended, reserved, msg_after, msg_by}
 use Rattle.msg_grammar.specs.declared.message.Got.TheVariants.{Whole}
-use Rattle.msg_grammar.specs.Messages.{is_of_eight, form_out, msg_out_of, got_out, FitsOut, out_bytes, form_in, msg_in_of, got_in, FitsIn, in_bytes}
+use Rattle.msg_grammar.specs.Messages.{is_of_eight, form_out, msg_out_of, got_out, FitsOut, out_bytes, form_in}
+use Rattle.msg_grammar.specs.Messages.{msg_in_of, got_in, FitsIn, in_bytes}
 use Rattle.msg_grammar.proofs.Again.{again}
 use Rattle.std.proofs.lemmas.Bool.{eqb-true}
 
@@ -32,12 +34,14 @@ module _ {M : Type 0} (spelling : M → List ℕ) (fits : M → Type 0) where
   taken : (k m : M) (bytes : List ℕ) → k ≡ m → (bytes ≡ spelling k) × fits k → (bytes ≡ spelling m) × fits m
   taken k m bytes e s = subst (λ (x : M). (bytes ≡ spelling x) × fits x) e s
 
-  offered : (len code : Bool) (f : Agreement → M) (o : Agreement) (m : M) → option_map f (cond (len && code) (Some o) None) ≡ Some m → (len ≡ true) × (code ≡ true) × (f o ≡ m)
+  offered : (len code : Bool) (f : Agreement → M) (o : Agreement) (m : M)
+      → option_map f (cond (len && code) (Some o) None) ≡ Some m → (len ≡ true) × (code ≡ true) × (f o ≡ m)
   offered true true f o m e = (refl, refl, cc)
   offered true false f o m e = absurd cc
   offered false code f o m e = absurd cc
 
-  after_spelled : (first : ℕ) (form : Form M) → IsSpelled first form → (bytes : List ℕ) (m : M) → msg_after form bytes ≡ Some m → (first ∷ bytes ≡ spelling m) × fits m
+  after_spelled : (first : ℕ) (form : Form M) → IsSpelled first form → (bytes : List ℕ) (m : M)
+      → msg_after form bytes ≡ Some m → (first ∷ bytes ≡ spelling m) × fits m
   after_spelled first (alone k) s [] m e = taken k m (first ∷ []) (cc) s
   after_spelled first (alone k) s (b ∷ bytes) m e = absurd cc
   after_spelled first (tagged f) s [] m e = absurd cc
@@ -58,7 +62,8 @@ module _ {M : Type 0} (spelling : M → List ℕ) (fits : M → Type 0) where
   after_spelled first reserved s bytes m e = absurd cc
 
   -- each message is spelled so, and fits
-  spelled : (form : ℕ → Form M) → ((b : ℕ) → IsSpelled b (form b)) → (bytes : List ℕ) (m : M) → msg_by form bytes ≡ Some m → (bytes ≡ spelling m) × fits m
+  spelled : (form : ℕ → Form M) → ((b : ℕ) → IsSpelled b (form b)) → (bytes : List ℕ) (m : M)
+      → msg_by form bytes ≡ Some m → (bytes ≡ spelling m) × fits m
   spelled form h [] m e = absurd cc
   spelled form h (first ∷ bytes) m e = after_spelled first (form first) (h first) bytes m e
 
@@ -121,28 +126,31 @@ in_spelled b =
 
 out_reads : (m : MsgOut) → FitsOut m → msg_out_of (out_bytes m) ≡ Some m
 unfolding form_out
-out_reads (to_target.Identify false lun) h =
-    below_8 (λ n. msg_out_of ((0x80 + n) ∷ []) ≡ Some (to_target.Identify false n)) refl refl refl refl refl refl refl refl lun h
-out_reads (to_target.Identify true lun) h =
-    below_8 (λ n. msg_out_of ((0xc0 + n) ∷ []) ≡ Some (to_target.Identify true n)) refl refl refl refl refl refl refl refl lun h
+out_reads (to_target.Identify false lun) h = below_8 (λ n. msg_out_of ((0x80 + n) ∷ [])
+    ≡ Some (to_target.Identify false n)) refl refl refl refl refl refl refl refl lun h
+out_reads (to_target.Identify true lun) h = below_8
+    (λ n. msg_out_of ((0xc0 + n) ∷ []) ≡ Some (to_target.Identify true n)) refl refl refl refl refl refl refl refl lun h
 out_reads _ h = refl
 
 in_reads : (m : MsgIn) → FitsIn m → msg_in_of (in_bytes m) ≡ Some m
 unfolding form_in
-in_reads (to_initiator.Identify lun) h =
-    below_8 (λ n. msg_in_of ((0x80 + n) ∷ []) ≡ Some (to_initiator.Identify n)) refl refl refl refl refl refl refl refl lun h
+in_reads (to_initiator.Identify lun) h = below_8
+    (λ n. msg_in_of ((0x80 + n) ∷ []) ≡ Some (to_initiator.Identify n)) refl refl refl refl refl refl refl refl lun h
 in_reads _ h = refl
 
 pub out_one : (bytes : List ℕ) (m : MsgOut) → (msg_out_of bytes ≡ Some m) ↔ ((bytes ≡ out_bytes m) × FitsOut m)
-out_one bytes m =
-    (spelled out_bytes FitsOut form_out out_spelled bytes m, λ h. ap (λ (x : List ℕ). msg_out_of x) h.0 ∙ out_reads m h.1)
+out_one bytes m = (
+  spelled out_bytes FitsOut form_out out_spelled bytes m,
+  λ h. ap (λ (x : List ℕ). msg_out_of x) h.0 ∙ out_reads m h.1,
+)
 
 pub in_one : (bytes : List ℕ) (m : MsgIn) → (msg_in_of bytes ≡ Some m) ↔ ((bytes ≡ in_bytes m) × FitsIn m)
 in_one bytes m =
     (spelled in_bytes FitsIn form_in in_spelled bytes m, λ h. ap (λ (x : List ℕ). msg_in_of x) h.0 ∙ in_reads m h.1)
 
 -- which reads back, whatever follows
-pub out_again : (m : MsgOut) (rest : List ℕ) → FitsOut m → got_out (out_bytes m ++ rest) ≡ Whole m (length (out_bytes m))
+pub out_again : (m : MsgOut) (rest : List ℕ) → FitsOut m
+    → got_out (out_bytes m ++ rest) ≡ Whole m (length (out_bytes m))
 out_again m rest h = again form_out (out_bytes m) rest m (out_reads m h)
 
 pub in_again : (m : MsgIn) (rest : List ℕ) → FitsIn m → got_in (in_bytes m ++ rest) ≡ Whole m (length (in_bytes m))

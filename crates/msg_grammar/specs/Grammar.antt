@@ -1,6 +1,7 @@
 -- The grammar of messages, of either direction: what the bytes of a message are, and what a list of bytes
 -- begins with.
-use Rattle.std.specs.Prelude.{ℕ, ◌≡◌, ◌<◌, ◌≤◌, ◌&&◌, List, [], ◌∷◌, ◌++◌, length, take, Option, Some, None, option_map, ◌==◌, if◌then◌else◌, true, false, Bool}
+use Rattle.std.specs.Prelude.{ℕ, ◌≡◌, ◌<◌, ◌≤◌, ◌&&◌, List, [], ◌∷◌, ◌++◌, length, take, Option, Some, None, option_map}
+use Rattle.std.specs.Prelude.{◌==◌, if◌then◌else◌, true, false, Bool}
 use Rattle.std.specs.List.{AllByRecursion}
 use Rattle.bus_trace.specs.declared.agreements.Agreement.{Agreement}
 use Rattle.msg_grammar.specs.declared.message.Got.{Got}
@@ -106,7 +107,8 @@ Begins message bytes m n = (n ≤ length bytes) × (message (take n bytes) ≡ S
 
 -- These bytes and some more, at least one, are a message.
 abbrev pub GoesOn : {M : Type 0} → (List ℕ → Option M) → List ℕ → Type 0
-GoesOn {M} message bytes = (more : List ℕ) × (m : M) × (0 < length more) × AreBytes more × (message (bytes ++ more) ≡ Some m)
+GoesOn {M} message bytes =
+    (more : List ℕ) × (m : M) × (0 < length more) × AreBytes more × (message (bytes ++ more) ≡ Some m)
 
 -- No front of these bytes is a message, whatever follows them: no message begins with them, and none is
 -- a part of them at their front.

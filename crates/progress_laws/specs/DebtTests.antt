@@ -1,5 +1,6 @@
 -- The senses that are owed, as tests that are computed on runs.
-use Rattle.std.specs.Prelude.{ℕ, ◌+◌, ◌==◌, ◌&&◌, ◌||◌, Bool, true, not, List, [], ◌∷◌, Option, Some, None, nat_le, if◌then◌else◌}
+use Rattle.std.specs.Prelude.{ℕ, ◌+◌, ◌==◌, ◌&&◌, ◌||◌, Bool, true, not, List, [], ◌∷◌, Option, Some, None, nat_le}
+use Rattle.std.specs.Prelude.{if◌then◌else◌}
 use Rattle.std.specs.List.{list_any}
 use Rattle.bus_due.specs.bus_trace.specs.declared.Row.{Row}
 use Rattle.bus_due.specs.cdb_codec.specs.declared.status.TheConstants.{GOOD}
@@ -20,7 +21,8 @@ use Rattle.progress_laws.specs.Debts.{is_owed, nexus_of_command}
 -- How many senses are owed to this initiator at this unit.
 abbrev pub count_debts : Sent → Nexus → ℕ → List CmdDef → ℕ
 count_debts b q n [] = 0
-count_debts b q n (c ∷ commands) = (if is_owed b n && same_nexus (nexus_of_command c) q then 1 else 0) + count_debts b q (n + 1) commands
+count_debts b q n (c ∷ commands) =
+    (if is_owed b n && same_nexus (nexus_of_command c) q then 1 else 0) + count_debts b q (n + 1) commands
 
 abbrev pub is_fetched : Option Reply → Bool
 is_fetched None = true
@@ -44,12 +46,14 @@ has_no_debt all b (Some c) = count_debts b (nexus_of_command c) 1 all == 0
 abbrev pub is_served_clear : List CmdDef → Sent → Option Item → Bool
 is_served_clear all b None = true
 is_served_clear all b (Some (abort k)) = true
-is_served_clear all b (Some (process id)) = id.sense || has_item b.over (process id) || has_no_debt all b (command_at all id.command)
+is_served_clear all b (Some (process id)) =
+    id.sense || has_item b.over (process id) || has_no_debt all b (command_at all id.command)
 
 -- ---- of a run: the rows are given the oldest first
 
 abbrev pub has_debt_books : ScenarioValue → RunState → Bool
-has_debt_books s k = are_debts s.commands k.story.sent (array_of s k) 1 s.commands && is_served_clear s.commands k.story.sent k.served
+has_debt_books s k =
+    are_debts s.commands k.story.sent (array_of s k) 1 s.commands && is_served_clear s.commands k.story.sent k.served
 
 abbrev pub keep_debts : ScenarioValue → RunState → List Row → Bool
 keep_debts s k [] = has_debt_books s k

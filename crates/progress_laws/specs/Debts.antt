@@ -1,5 +1,5 @@
--- The senses that are owed stand in holds, one for each initiator at each unit: as long as the automatic REQUEST SENSE of a command that ended
--- with CHECK CONDITION is not over, its initiator stands in the hold of the unit (7.6, 7.8).
+-- The senses that are owed stand in holds, one for each initiator at each unit: as long as the automatic REQUEST SENSE
+-- of a command that ended with CHECK CONDITION is not over, its initiator stands in the hold of the unit (7.6, 7.8).
 use Rattle.std.specs.Prelude.{ℕ, ◌≡◌, ◌==◌, ◌&&◌, Bool, true, false, not, List, Some, ⊤}
 use Rattle.std.specs.List.{list_any}
 use Rattle.bus_due.specs.bus_base.specs.declared.Event.{Event}
@@ -33,7 +33,8 @@ pub record IsDebt (s : ScenarioValue) (b : Sent) (n : ℕ) (q : Nexus) : Type 0 
 abbrev pub NoDebt : ScenarioValue → Sent → Nexus → Type 0
 NoDebt s b q = (n : ℕ) → IsDebt s b n q → ⊥
 
--- Those to whom a sense is owed stand in the hold, and no two senses are owed to one at one unit; a REQUEST SENSE is over of such commands alone.
+-- Those to whom a sense is owed stand in the hold, and no two senses are owed to one at one unit; a REQUEST SENSE is
+-- over of such commands alone.
 pub record Debts (s : ScenarioValue) (b : Sent) (holds : List Nexus) : Type 0 where
   pub held : (n : ℕ) (q : Nexus) → IsDebt s b n q → in_hold holds q ≡ true
   pub alone : (n m : ℕ) (q : Nexus) → IsDebt s b n q → IsDebt s b m q → n ≡ m
@@ -43,12 +44,12 @@ pub record Debts (s : ScenarioValue) (b : Sent) (holds : List Nexus) : Type 0 wh
 abbrev pub AreFetched : List (ProcId × Reply) → Type 0
 AreFetched replies = (n : ℕ) (r : Reply) → reply_in replies (sense_id n) ≡ Some r → r.status ≡ GOOD
 
--- An automatic REQUEST SENSE neither fails nor is lost, and ends with GOOD while it is owed. As a command ends no sense is owed to its initiator at its
--- unit.
+-- An automatic REQUEST SENSE neither fails nor is lost, and ends with GOOD while it is owed. As a command ends no sense
+-- is owed to its initiator at its unit.
 abbrev pub PaysWell : ScenarioValue → Sent → Event → Type 0
-PaysWell s b (events.End id status) =
-    (id.sense ≡ true → ((status == GOOD) ≡ true) × (is_owed b id.command ≡ true))
-    × (id.sense ≡ false → (has_item b.over (sense_item id.command) ≡ false) × ((c : CmdDef) → command_at s.commands id.command ≡ Some c → NoDebt s b (nexus_of_command c)))
+PaysWell s b (events.End id status) = (id.sense ≡ true → ((status == GOOD) ≡ true) × (is_owed b id.command ≡ true))
+    × (id.sense ≡ false → (has_item b.over (sense_item id.command) ≡ false)
+    × ((c : CmdDef) → command_at s.commands id.command ≡ Some c → NoDebt s b (nexus_of_command c)))
 PaysWell s b (events.Fail id code) = id.sense ≡ false
 PaysWell s b (events.Lost id) = id.sense ≡ false
 PaysWell s b _ = ⊤
@@ -57,5 +58,6 @@ PaysWell s b _ = ⊤
 pub record DebtBooks (s : ScenarioValue) (k : RunState) : Type 0 where
   pub debts : Debts s k.story.sent (array_of s k).holds
   pub fetched : AreFetched (array_of s k).replies
-  pub served : (id : ProcId) (c : CmdDef) → k.served ≡ Some (process id) → id.sense ≡ false → has_item k.story.sent.over (process id) ≡ false
-      → command_at s.commands id.command ≡ Some c → NoDebt s k.story.sent (nexus_of_command c)
+  pub served : (id : ProcId) (c : CmdDef) → k.served ≡ Some (process id) → id.sense ≡ false
+      → has_item k.story.sent.over (process id) ≡ false → command_at s.commands id.command ≡ Some c
+      → NoDebt s k.story.sent (nexus_of_command c)

@@ -1,5 +1,5 @@
--- What is to hold of a prompt trace that each command has its outcome at its end: an open command without a connection stands in a queue,
--- and to those that stand in a hold a sense is owed (7.6, 7.8).
+-- What is to hold of a prompt trace that each command has its outcome at its end: an open command without a connection
+-- stands in a queue, and to those that stand in a hold a sense is owed (7.6, 7.8).
 use Rattle.std.specs.Prelude.{ℕ, ◌≡◌, ◌==◌, true, false, List, [], ◌∷◌, Some, ⊤}
 use Rattle.std.specs.List.{list_any}
 use Rattle.bus_due.specs.scenario.specs.declared.value.CmdDef.{CmdDef}
@@ -13,10 +13,11 @@ use Rattle.trace_laws.specs.row_laws.specs.Places.{is_queued}
 
 -- Each command that was sent, is not over and has no connection stands in a queue.
 abbrev pub AreQueued : ScenarioValue → RunState → Type 0
-AreQueued s k = (n : ℕ) (c : CmdDef) → command_at s.commands n ≡ Some c → is_open k.story.sent n ≡ true → is_served_by k.served (command_id n) ≡ false → is_queued (array_of s k).units (command_id n) ≡ true
+AreQueued s k = (n : ℕ) (c : CmdDef) → command_at s.commands n ≡ Some c → is_open k.story.sent n ≡ true
+    → is_served_by k.served (command_id n) ≡ false → is_queued (array_of s k).units (command_id n) ≡ true
 
--- To an initiator that stands in the hold of a unit the sense of a command of this unit is owed, of which its automatic REQUEST
--- SENSE is not over (7.6).
+-- To an initiator that stands in the hold of a unit the sense of a command of this unit is owed, of which its automatic
+-- REQUEST SENSE is not over (7.6).
 pub record IsOwed (s : ScenarioValue) (b : Sent) (q : Nexus) : Type 0 where
   pub number : ℕ
   pub def : CmdDef

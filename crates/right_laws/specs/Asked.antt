@@ -1,5 +1,5 @@
--- What holds of each row of a prompt trace, of a process that runs with it: the bytes that a write sends have come with it; and any
--- other has carried the bytes that its reply gives.
+-- What holds of each row of a prompt trace, of a process that runs with it: the bytes that a write sends have come with
+-- it; and any other has carried the bytes that its reply gives.
 use Rattle.std.specs.Prelude.{◌≡◌, ◌≤◌, true, false, ◌&&◌, ◌==◌, List, [], ◌∷◌, length, Some, ⊤}
 use Rattle.bus_due.specs.bus_trace.specs.declared.Row.{Row}
 use Rattle.bus_due.specs.cdb_codec.specs.declared.status.TheConstants.{GOOD}
@@ -24,13 +24,13 @@ pub record IsRunning (s : ScenarioValue) (k : RunState) (row : Row) (p : Process
 
 -- All that it sends came, where it writes and ends GOOD; and its unit keeps the size of its blocks.
 abbrev pub SendsAtRun : ScenarioValue → RunState → Row → Type 0
-SendsAtRun s k row =
-    (p : Process) (reply : Reply) → IsRunning s k row p reply → is_writing p ≡ true → (reply.status == GOOD) ≡ true → (length p.sent ≤ bytes_come s k p) × (is_of_size s k p ≡ true)
+SendsAtRun s k row = (p : Process) (reply : Reply) → IsRunning s k row p reply → is_writing p ≡ true
+    → (reply.status == GOOD) ≡ true → (length p.sent ≤ bytes_come s k p) × (is_of_size s k p ≡ true)
 
 -- Any other has carried the bytes that it moves.
 abbrev pub GivesAtRun : ScenarioValue → RunState → Row → Type 0
-GivesAtRun s k row =
-    (p : Process) (reply : Reply) → IsRunning s k row p reply → (is_writing p && reply.status == GOOD) ≡ false → (carried_here k p.id).moved.bytes ≡ moved_bytes p reply
+GivesAtRun s k row = (p : Process) (reply : Reply) → IsRunning s k row p reply
+    → (is_writing p && reply.status == GOOD) ≡ false → (carried_here k p.id).moved.bytes ≡ moved_bytes p reply
 
 -- Of all rows.
 abbrev pub AllMove : ScenarioValue → List Row → Type 0

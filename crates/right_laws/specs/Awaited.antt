@@ -1,6 +1,8 @@
--- The sample that comes next after some rows, where one does: the receiver of the byte that crossed in the last row samples it
--- at once; and a called device samples the IDs a bus settle delay and its latency after BSY became false (6.1.3, 6.1.4).
-use Rattle.std.specs.Prelude.{ℕ, ◌+◌, Bool, true, false, ◌&&◌, List, [], ◌∷◌, Option, Some, None, is_none, if◌then◌else◌}
+-- The sample that comes next after some rows, where one does: the receiver of the byte that crossed in the last row
+-- samples it at once; and a called device samples the IDs a bus settle delay and its latency after BSY became false
+-- (6.1.3, 6.1.4).
+use Rattle.std.specs.Prelude.{ℕ, ◌+◌, Bool, true, false, ◌&&◌, List, [], ◌∷◌, Option, Some, None, is_none}
+use Rattle.std.specs.Prelude.{if◌then◌else◌}
 use Rattle.bus_due.specs.bus_trace.specs.declared.Row.{Row}
 use Rattle.bus_due.specs.bus_trace.specs.declared.delays.TheConstants.{BUS_SETTLE_DELAY}
 use Rattle.bus_due.specs.bus_trace.specs.declared.selection.Call.{Call}

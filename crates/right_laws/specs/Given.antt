@@ -1,6 +1,7 @@
--- What a process that is not over has given or sent of its data: none, or some where a write would end GOOD if it ran now, and any other has
--- given a front of what it would give then (6.1.5, 6.6.20); and what this asks of a row.
-use Rattle.std.specs.Prelude.{ℕ, ◌%◌, ◌≡◌, ◌≤◌, ◌<◌, ◌⊎◌, ◌==◌, true, false, List, [], ◌++◌, length, slice_index_or, Some, is_some}
+-- What a process that is not over has given or sent of its data: none, or some where a write would end GOOD if it ran
+-- now, and any other has given a front of what it would give then (6.1.5, 6.6.20); and what this asks of a row.
+use Rattle.std.specs.Prelude.{ℕ, ◌%◌, ◌≡◌, ◌≤◌, ◌<◌, ◌⊎◌, ◌==◌, true, false, List, [], ◌++◌, length, slice_index_or}
+use Rattle.std.specs.Prelude.{Some, is_some}
 use Rattle.bus_due.specs.bus_base.specs.declared.ProcId.{ProcId}
 use Rattle.bus_due.specs.bus_trace.specs.Phases.{changes_phase, is_command, is_data}
 use Rattle.bus_due.specs.bus_trace.specs.declared.Row.{Row}
@@ -35,38 +36,43 @@ HasGiven s a k id = (p : Process) → process_of s id ≡ Some p → GivenIn a p
 
 -- Of each process that waits, or runs, and has no reply.
 abbrev pub GivenFacts : ScenarioValue → List Row → Type 0
-GivenFacts s rows = OnOpen (HasGiven s (array_of s (run_state s rows)) (run_state s rows)) (array_of s (run_state s rows))
+GivenFacts s rows =
+    OnOpen (HasGiven s (array_of s (run_state s rows)) (run_state s rows)) (array_of s (run_state s rows))
 
 -- ---- what is asked of a row
 
--- As a byte of its data crosses: a write would end GOOD; any other gives the byte at its pointer, which stands in what it has carried, or at
--- its end, and in what it gives.
+-- As a byte of its data crosses: a write would end GOOD; any other gives the byte at its pointer, which stands in what
+-- it has carried, or at its end, and in what it gives.
 pub record GivesNext (s : ScenarioValue) (k : RunState) (p : Process) (id : ProcId) (byte : ℕ) : Type 0 where
   pub good : is_writing p ≡ true → (reply_now (array_of s k) p).status ≡ GOOD
-  pub byte_is : is_writing p ≡ false → byte ≡ slice_index_or (reply_now (array_of s k) p).bytes (carried_here k id).moved.active 0
+  pub byte_is : is_writing p ≡ false
+      → byte ≡ slice_index_or (reply_now (array_of s k) p).bytes (carried_here k id).moved.active 0
   pub active_in : is_writing p ≡ false → (carried_here k id).moved.active ≤ length (carried_here k id).moved.bytes
   pub within : is_writing p ≡ false → (carried_here k id).moved.active < length (reply_now (array_of s k) p).bytes
 
 abbrev pub GivesAtCrossing : ScenarioValue → RunState → Row → Type 0
-GivesAtCrossing s k row =
-    (l : Link) (id : ProcId) (p : Process) → k.story.link ≡ Some l → l.item ≡ Some (process id) → process_of s id ≡ Some p → (row_reading k.story.bus_state row).crosses ≡ true
-    → is_data (row_reading k.story.bus_state row).change.before ≡ true → GivesNext s k p id ((row_reading k.story.bus_state row).change.after.data_bits % 256)
+GivesAtCrossing s k row = (l : Link) (id : ProcId) (p : Process) → k.story.link ≡ Some l
+    → l.item ≡ Some (process id) → process_of s id ≡ Some p → (row_reading k.story.bus_state row).crosses ≡ true
+    → is_data (row_reading k.story.bus_state row).change.before ≡ true
+    → GivesNext s k p id ((row_reading k.story.bus_state row).change.after.data_bits % 256)
 
 -- As COMMAND is left no data were carried.
 abbrev pub NoneAtArrival : RunState → Row → Type 0
-NoneAtArrival k row =
-    (l : Link) (id : ProcId) → k.story.link ≡ Some l → l.item ≡ Some (process id) → (row_reading k.story.bus_state row).change.after.rst ≡ false → is_some (row_reading k.story.bus_state row).next ≡ true → changes_phase (row_reading k.story.bus_state row).change ≡ true → is_command (row_reading k.story.bus_state row).change.before ≡ true
-    → (carried_here k id).moved.bytes ≡ []
+NoneAtArrival k row = (l : Link) (id : ProcId) → k.story.link ≡ Some l
+    → l.item ≡ Some (process id) → (row_reading k.story.bus_state row).change.after.rst ≡ false
+    → is_some (row_reading k.story.bus_state row).next ≡ true
+    → changes_phase (row_reading k.story.bus_state row).change ≡ true
+    → is_command (row_reading k.story.bus_state row).change.before ≡ true → (carried_here k id).moved.bytes ≡ []
 
 -- As it runs as many bytes were carried as its reply has.
 abbrev pub WholeAtRun : ScenarioValue → RunState → Row → Type 0
-WholeAtRun s k row =
-    (p : Process) (reply : Reply) → IsRunning s k row p reply → is_writing p ≡ false → length reply.bytes ≤ length (carried_here k p.id).moved.bytes
+WholeAtRun s k row = (p : Process) (reply : Reply) → IsRunning s k row p reply → is_writing p ≡ false
+    → length reply.bytes ≤ length (carried_here k p.id).moved.bytes
 
 -- One that has carried some of its data has the reply that it had.
 abbrev pub HasReplyStill : ScenarioValue → RunState → RunState → ProcId → Type 0
-HasReplyStill s k j id =
-    (p : Process) → process_of s id ≡ Some p → ((carried_here j id).moved.bytes ≡ [] → ⊥) → reply_now (array_of s j) p ≡ reply_now (array_of s k) p
+HasReplyStill s k j id = (p : Process) → process_of s id ≡ Some p → ((carried_here j id).moved.bytes ≡ [] → ⊥)
+    → reply_now (array_of s j) p ≡ reply_now (array_of s k) p
 
 pub record GivesAsked (s : ScenarioValue) (k : RunState) (row : Row) : Type 0 where
   pub crosses : GivesAtCrossing s k row

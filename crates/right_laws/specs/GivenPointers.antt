@@ -1,5 +1,6 @@
--- Where the data pointer of a process that does not write stands as a byte of DATA IN crosses: as many bytes after the beginning of its run as
--- were asked for, and the run has that byte; and as it runs, past the bytes of its reply (6.1.5.1, 6.6.6, 6.6.20).
+-- Where the data pointer of a process that does not write stands as a byte of DATA IN crosses: as many bytes after the
+-- beginning of its run as were asked for, and the run has that byte; and as it runs, past the bytes of its reply
+-- (6.1.5.1, 6.6.6, 6.6.20).
 use Rattle.std.specs.Prelude.{ℕ, ◌+◌, ◌≡◌, ◌≤◌, ◌<◌, ◌==◌, Bool, true, false, not, ◌&&◌, ◌||◌, is_none, List, [], ◌∷◌}
 use Rattle.std.specs.Prelude.{length, Some, ⊤}
 use Rattle.bus_due.specs.bus_base.specs.declared.AbortKind.{AbortKind}
@@ -29,18 +30,19 @@ use Rattle.bus_due.specs.bus_base.specs.declared.Event.TheVariants as events
 use Rattle.bus_due.specs.bus_dialogue.specs.declared.exchange.Phase.TheVariants as phases
 
 pub record PointsAtRun (s : ScenarioValue) (k : RunState) (n : Connection) (p : Process) (t : Task) : Type 0 where
-  pub active_is : (carried_here k p.id).moved.active ≡ (run_at (policy_of (target_def_of s n.target)) t t.runs).start + k.handshakes.requests
+  pub active_is : (carried_here k p.id).moved.active
+      ≡ (run_at (policy_of (target_def_of s n.target)) t t.runs).start + k.handshakes.requests
   pub more : k.handshakes.requests < run_length (policy_of (target_def_of s n.target)) t
 
 abbrev pub PointsAtCrossing : ScenarioValue → RunState → Row → Type 0
-PointsAtCrossing s k row =
-    (n : Connection) (p : Process) (t : Task) → k.story.bus_state.connection ≡ Some n → process_served s k ≡ Some p → task_of s k ≡ Some t → is_writing p ≡ false → (row_reading k.story.bus_state row).crosses ≡ true
-    → phase_of (bus_of k) ≡ phases.DataIn → PointsAtRun s k n p t
+PointsAtCrossing s k row = (n : Connection) (p : Process) (t : Task) → k.story.bus_state.connection ≡ Some n
+    → process_served s k ≡ Some p → task_of s k ≡ Some t → is_writing p ≡ false
+    → (row_reading k.story.bus_state row).crosses ≡ true → phase_of (bus_of k) ≡ phases.DataIn → PointsAtRun s k n p t
 
 -- As it runs its pointer stands past the bytes of its reply.
 abbrev pub PointsAtEnd : ScenarioValue → RunState → Row → Type 0
-PointsAtEnd s k row =
-    (p : Process) (reply : Reply) → IsRunning s k row p reply → is_writing p ≡ false → length reply.bytes ≤ (carried_here k p.id).moved.active
+PointsAtEnd s k row = (p : Process) (reply : Reply) → IsRunning s k row p reply → is_writing p ≡ false
+    → length reply.bytes ≤ (carried_here k p.id).moved.active
 
 -- ---- what changes a reply
 
@@ -69,7 +71,8 @@ any_may_change s p (e ∷ shown) = may_change s p e || any_may_change s p shown
 -- With such an event one that has carried some of its data has the reply that it had.
 abbrev pub HasReplyThen : ScenarioValue → RunState → Row → ProcId → Type 0
 HasReplyThen s k row id =
-    (p : Process) → process_of s id ≡ Some p → ((carried_here (run_state_after s k row) id).moved.bytes ≡ [] → ⊥) → any_may_change s p (row_events_by s k.story (row_reading k.story.bus_state row) row) ≡ true
+    (p : Process) → process_of s id ≡ Some p → ((carried_here (run_state_after s k row) id).moved.bytes ≡ [] → ⊥)
+    → any_may_change s p (row_events_by s k.story (row_reading k.story.bus_state row) row) ≡ true
     → reply_now (array_of s (run_state_after s k row)) p ≡ reply_now (array_of s k) p
 
 abbrev pub StaysSo : ScenarioValue → RunState → Row → Type 0

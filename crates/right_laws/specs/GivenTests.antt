@@ -1,4 +1,5 @@
--- What is asked of a row of what processes give, and of their data pointers, as tests on what is kept before it and after it.
+-- What is asked of a row of what processes give, and of their data pointers, as tests on what is kept before it and
+-- after it.
 use Rattle.std.specs.Prelude.{ℕ, ◌+◌, Bool, true, false, not, ◌&&◌, ◌||◌, ◌==◌, nat_le, nat_lt, List, [], ◌∷◌, length}
 use Rattle.std.specs.Prelude.{Option, Some, None, is_some}
 use Rattle.std.specs.List.{list_all}
@@ -30,8 +31,8 @@ use Rattle.trace_laws.specs.scsi_device.specs.Writes.{is_data_in}
 -- As a byte of DATA IN crosses for a process that does not write.
 abbrev is_at_run : ScenarioValue → RunState → Connection → Process → Option Task → Bool
 is_at_run s k n p None = false
-is_at_run s k n p (Some t) =
-    (carried_here k p.id).moved.active == (run_at (policy_of (target_def_of s n.target)) t t.runs).start + k.handshakes.requests
+is_at_run s k n p (Some t) = (carried_here k p.id).moved.active
+    == (run_at (policy_of (target_def_of s n.target)) t t.runs).start + k.handshakes.requests
     && nat_lt k.handshakes.requests (run_length (policy_of (target_def_of s n.target)) t)
 
 abbrev is_read_at : ScenarioValue → RunState → Option Connection → Option Process → Bool
@@ -40,8 +41,8 @@ is_read_at s k (Some n) None = true
 is_read_at s k (Some n) (Some p) = is_writing p || is_at_run s k n p (task_of s k)
 
 abbrev are_pointed : ScenarioValue → RunState → Row → Bool
-are_pointed s k row =
-    not (row_reading k.story.bus_state row).crosses || not (is_data_in (phase_of (bus_of k))) || is_read_at s k k.story.bus_state.connection (process_served s k)
+are_pointed s k row = not (row_reading k.story.bus_state row).crosses || not (is_data_in (phase_of (bus_of k)))
+    || is_read_at s k k.story.bus_state.connection (process_served s k)
 
 -- As COMMAND is left.
 abbrev is_unmoved_item : RunState → Option Item → Bool
@@ -54,8 +55,8 @@ is_unmoved_link k None = true
 is_unmoved_link k (Some l) = is_unmoved_item k l.item
 
 abbrev are_new : RunState → Row → Bool
-are_new k row =
-    not (changes_phase (row_reading k.story.bus_state row).change) || not (is_command (row_reading k.story.bus_state row).change.before) || is_unmoved_link k k.story.link
+are_new k row = not (changes_phase (row_reading k.story.bus_state row).change)
+    || not (is_command (row_reading k.story.bus_state row).change.before) || is_unmoved_link k k.story.link
 
 -- As one runs.
 abbrev is_past : ScenarioValue → RunState → RunState → Process → Option Reply → Bool
@@ -68,8 +69,8 @@ is_past_if s k j shown (Some p) = not (has_run shown p.id) || is_past s k j p (r
 
 abbrev are_past : ScenarioValue → RunState → RunState → List Event → ℕ → List CmdDef → Bool
 are_past s k j shown n [] = true
-are_past s k j shown n (c ∷ commands) =
-    is_past_if s k j shown (process_of s (record { command = n; sense = false })) && is_past_if s k j shown (process_of s (record { command = n; sense = true }))
+are_past s k j shown n (c ∷ commands) = is_past_if s k j shown (process_of s (record { command = n; sense = false }))
+    && is_past_if s k j shown (process_of s (record { command = n; sense = true }))
     && are_past s k j shown (n + 1) commands
 
 -- The status and the bytes of the reply of one that has carried some of its data.
@@ -77,7 +78,8 @@ abbrev is_same_reply : Reply → Reply → Bool
 is_same_reply a b = a.status == b.status && same_bytes a.bytes b.bytes
 
 abbrev has_reply_still : ScenarioValue → RunState → RunState → Process → Bool
-has_reply_still s k j p = length (carried_here j p.id).moved.bytes == 0 || is_same_reply (reply_now (array_of s j) p) (reply_now (array_of s k) p)
+has_reply_still s k j p = length (carried_here j p.id).moved.bytes == 0
+    || is_same_reply (reply_now (array_of s j) p) (reply_now (array_of s k) p)
 
 abbrev has_reply_still_if : ScenarioValue → RunState → RunState → Option RunningProcess → Bool
 has_reply_still_if s k j None = true
@@ -85,12 +87,14 @@ has_reply_still_if s k j (Some r) = is_some r.reply || has_reply_still s k j r.p
 
 abbrev have_replies_still : ScenarioValue → RunState → RunState → List UnitState → Bool
 have_replies_still s k j [] = true
-have_replies_still s k j (u ∷ units) = list_all (λ (p : Process). has_reply_still s k j p) u.waiting && has_reply_still_if s k j u.current && have_replies_still s k j units
+have_replies_still s k j (u ∷ units) = list_all (λ (p : Process). has_reply_still s k j p) u.waiting
+    && has_reply_still_if s k j u.current && have_replies_still s k j units
 
 abbrev pub is_given_by : ScenarioValue → RunState → RunState → Row → Bool
-is_given_by s k j row =
-    are_pointed s k row && are_new k row && are_past s k j (row_events_by s k.story (row_reading k.story.bus_state row) row) 1 s.commands
-    && have_replies_still s k j (array_of s j).units && list_all (λ (r : RunningProcess). is_some r.reply || has_reply_still s k j r.process) (array_of s j).guests
+is_given_by s k j row = are_pointed s k row && are_new k row
+    && are_past s k j (row_events_by s k.story (row_reading k.story.bus_state row) row) 1 s.commands
+    && have_replies_still s k j (array_of s j).units
+    && list_all (λ (r : RunningProcess). is_some r.reply || has_reply_still s k j r.process) (array_of s j).guests
 
 -- Of each row of a run, the oldest first.
 abbrev pub give_well : ScenarioValue → RunState → List Row → Bool

@@ -16,7 +16,8 @@ left_if faults (Some bit) = drop 1 faults
 
 abbrev pub strikes_in_turn : List FaultDef → List Sample → List Strike
 strikes_in_turn faults [] = []
-strikes_in_turn faults (a ∷ samples) = strike_if a (flip_of faults a.time) ++ strikes_in_turn (left_if faults (flip_of faults a.time)) samples
+strikes_in_turn faults (a ∷ samples) =
+    strike_if a (flip_of faults a.time) ++ strikes_in_turn (left_if faults (flip_of faults a.time)) samples
 
 abbrev pub faults_left : List FaultDef → List Sample → List FaultDef
 faults_left faults [] = faults

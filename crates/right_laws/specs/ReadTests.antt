@@ -1,5 +1,6 @@
 -- The same of the bytes, and of the pointers in DATA IN and outside a connection, as tests on what is kept.
-use Rattle.std.specs.Prelude.{ℕ, ◌+◌, Bool, true, false, not, ◌&&◌, ◌||◌, ◌==◌, List, [], ◌∷◌, length, Option, Some, None, is_some, nat_le}
+use Rattle.std.specs.Prelude.{ℕ, ◌+◌, Bool, true, false, not, ◌&&◌, ◌||◌, ◌==◌, List, [], ◌∷◌, length, Option, Some}
+use Rattle.std.specs.Prelude.{None, is_some, nat_le}
 use Rattle.std.specs.List.{list_all}
 use Rattle.bus_due.specs.bus_trace.specs.declared.Row.{Row}
 use Rattle.bus_due.specs.bus_trace.specs.declared.connection.Connection.{Connection}
@@ -20,10 +21,11 @@ use Rattle.right_laws.specs.Reads.{content_now}
 use Rattle.trace_laws.specs.scsi_device.specs.Writes.{is_data_in}
 
 abbrev is_given : ScenarioValue → RunState → Process → Bool
-is_given s k p =
-    is_front (carried_here k p.id).moved.bytes (content_now (array_of s k) p) && nat_le (carried_here k p.id).moved.active (length (carried_here k p.id).moved.bytes)
+is_given s k p = is_front (carried_here k p.id).moved.bytes (content_now (array_of s k) p)
+    && nat_le (carried_here k p.id).moved.active (length (carried_here k p.id).moved.bytes)
     && nat_le (carried_here k p.id).moved.saved (length (carried_here k p.id).moved.bytes)
-    && (length (carried_here k p.id).moved.bytes == 0 || not (is_writing p) || (reply_now (array_of s k) p).status == GOOD)
+    && (length (carried_here k p.id).moved.bytes == 0 || not (is_writing p)
+    || (reply_now (array_of s k) p).status == GOOD)
 
 abbrev is_given_if : ScenarioValue → RunState → Option RunningProcess → Bool
 is_given_if s k None = true
@@ -31,32 +33,33 @@ is_given_if s k (Some r) = is_some r.reply || is_given s k r.process
 
 abbrev are_units_given : ScenarioValue → RunState → List UnitState → Bool
 are_units_given s k [] = true
-are_units_given s k (u ∷ units) = list_all (λ (p : Process). length (carried_here k p.id).moved.bytes == 0) u.waiting && is_given_if s k u.current && are_units_given s k units
+are_units_given s k (u ∷ units) = list_all (λ (p : Process). length (carried_here k p.id).moved.bytes == 0) u.waiting
+    && is_given_if s k u.current && are_units_given s k units
 
 abbrev is_in_run : ScenarioValue → RunState → Option Process → Bool
 is_in_run s k None = true
-is_in_run s k (Some q) =
-    is_writing q || ((carried_here k q.id).moved.active == run_start s k q + k.handshakes.requests && (carried_here k q.id).moved.saved == run_start s k q)
+is_in_run s k (Some q) = is_writing q || ((carried_here k q.id).moved.active == run_start s k q + k.handshakes.requests
+    && (carried_here k q.id).moved.saved == run_start s k q)
 
 abbrev are_served_well : ScenarioValue → RunState → Option Connection → Bool
 are_served_well s k None = true
-are_served_well s k (Some n) = (bus_of k).rst || not k.exchange.begun || not (is_data_in (phase_of (bus_of k))) || is_in_run s k (process_served s k)
+are_served_well s k (Some n) = (bus_of k).rst || not k.exchange.begun || not (is_data_in (phase_of (bus_of k)))
+    || is_in_run s k (process_served s k)
 
 -- Of each process that does not write, is not served and not over, and has shown no reply.
 abbrev is_waiting_if : ScenarioValue → RunState → Option Process → Bool
 is_waiting_if s k None = true
-is_waiting_if s k (Some q) =
-    is_writing q || is_served_by k.served q.id || has_item k.story.sent.over (process q.id) || is_marked (carried_here k q.id) || (carried_here k q.id).moved.saved == run_start s k q
+is_waiting_if s k (Some q) = is_writing q || is_served_by k.served q.id || has_item k.story.sent.over (process q.id)
+    || is_marked (carried_here k q.id) || (carried_here k q.id).moved.saved == run_start s k q
 
 abbrev are_waiting : ScenarioValue → RunState → ℕ → List CmdDef → Bool
 are_waiting s k n [] = true
-are_waiting s k n (c ∷ commands) =
-    is_waiting_if s k (process_of s (record { command = n; sense = false })) && is_waiting_if s k (process_of s (record { command = n; sense = true }))
-    && are_waiting s k (n + 1) commands
+are_waiting s k n (c ∷ commands) = is_waiting_if s k (process_of s (record { command = n; sense = false }))
+    && is_waiting_if s k (process_of s (record { command = n; sense = true })) && are_waiting s k (n + 1) commands
 
 abbrev pub is_read_well : ScenarioValue → RunState → Bool
-is_read_well s k =
-    are_units_given s k (array_of s k).units && list_all (λ (r : RunningProcess). is_some r.reply || is_given s k r.process) (array_of s k).guests
+is_read_well s k = are_units_given s k (array_of s k).units
+    && list_all (λ (r : RunningProcess). is_some r.reply || is_given s k r.process) (array_of s k).guests
     && are_served_well s k k.story.bus_state.connection && are_waiting s k 1 s.commands
 
 -- After each row of a run, the oldest first.

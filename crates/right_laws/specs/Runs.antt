@@ -17,9 +17,11 @@ use Rattle.bus_due.specs.RunState.{RunState, array_of, carried_here}
 use Rattle.bus_due.specs.RunSteps.{run_state, run_state_after}
 use Rattle.right_laws.specs.Open.{OnEvents, HasBlock}
 
--- It is a process of the scenario with a reply, and has carried its command block and the bytes that it moves with this reply.
+-- It is a process of the scenario with a reply, and has carried its command block and the bytes that it moves with this
+-- reply.
 abbrev pub HasMoved : ScenarioValue → RunState → ProcId → Type 0
-HasMoved s k id = (p : Process) (reply : Reply) → process_of s id ≡ Some p → reply_in (array_of s k).replies id ≡ Some reply → (carried_here k id).moved.bytes ≡ moved_bytes p reply
+HasMoved s k id = (p : Process) (reply : Reply) → process_of s id ≡ Some p
+    → reply_in (array_of s k).replies id ≡ Some reply → (carried_here k id).moved.bytes ≡ moved_bytes p reply
 
 pub record HasRun (s : ScenarioValue) (k : RunState) (id : ProcId) : Type 0 where
   pub process : Process
@@ -48,12 +50,15 @@ pub record RightFacts (s : ScenarioValue) (rows : List Row) : Type 0 where
 
 -- A process that runs with it has carried the bytes that it moves.
 abbrev pub MovesAtRun : ScenarioValue → RunState → Row → Type 0
-MovesAtRun s k row =
-    (id : ProcId) (p : Process) (reply : Reply) → has_run (row_events_by s k.story (row_reading k.story.bus_state row) row) id ≡ true → process_of s id ≡ Some p
-    → reply_in (array_of s (run_state_after s k row)).replies id ≡ Some reply → (carried_here k id).moved.bytes ≡ moved_bytes p reply
+MovesAtRun s k row = (id : ProcId) (p : Process) (reply : Reply)
+    → has_run (row_events_by s k.story (row_reading k.story.bus_state row) row) id ≡ true
+    → process_of s id ≡ Some p → reply_in (array_of s (run_state_after s k row)).replies id ≡ Some reply
+    → (carried_here k id).moved.bytes ≡ moved_bytes p reply
 
 -- As COMMAND COMPLETE is taken one byte of STATUS was carried.
 abbrev pub StatusAtEnd : RunState → Row → Type 0
-StatusAtEnd k row =
-    (l : Link) (id : ProcId) → k.story.link ≡ Some l → l.item ≡ Some (process id) → (row_reading k.story.bus_state row).change.after.rst ≡ false → is_some (row_reading k.story.bus_state row).next ≡ true
-    → is_completion l (row_reading k.story.bus_state row).change ≡ true → (status : ℕ) × ((carried_here k id).status.bytes ≡ status ∷ [])
+StatusAtEnd k row = (l : Link) (id : ProcId) → k.story.link ≡ Some l
+    → l.item ≡ Some (process id) → (row_reading k.story.bus_state row).change.after.rst ≡ false
+    → is_some (row_reading k.story.bus_state row).next ≡ true
+    → is_completion l (row_reading k.story.bus_state row).change ≡ true
+    → (status : ℕ) × ((carried_here k id).status.bytes ≡ status ∷ [])

@@ -1,4 +1,5 @@
--- What the faults of a scenario have struck after some rows: all that they strike of the samples but for the one that comes next.
+-- What the faults of a scenario have struck after some rows: all that they strike of the samples but for the one that
+-- comes next.
 use Rattle.std.specs.Prelude.{◌≡◌, List, ◌++◌, reverse}
 use Rattle.bus_due.specs.bus_trace.specs.declared.Row.{Row}
 use Rattle.bus_due.specs.scenario.specs.Value.{ScenarioValue}

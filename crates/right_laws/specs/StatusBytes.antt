@@ -1,5 +1,5 @@
--- What a process has carried of its status, by the phase of its connection: nothing before it has a reply; one byte once STATUS was given; and
--- as STATUS comes again the pointer stands at its beginning (6.4, 6.6.5, 6.6.10, 6.6.19).
+-- What a process has carried of its status, by the phase of its connection: nothing before it has a reply; one byte
+-- once STATUS was given; and as STATUS comes again the pointer stands at its beginning (6.4, 6.6.5, 6.6.10, 6.6.19).
 use Rattle.std.specs.Prelude.{ℕ, ◌≡◌, ◌⊎◌, true, false, ◌==◌, List, [], ◌∷◌, Some, is_some, ⊤}
 use Rattle.bus_due.specs.bus_base.specs.declared.ProcId.{ProcId}
 use Rattle.bus_due.specs.bus_trace.specs.Terms.{connection}
@@ -47,16 +47,18 @@ StatusAsked c p causes.InStatus = HasOne c
 
 abbrev pub StatusBy : CarriedBytes → Plan → ℕ → Phase → Type 0
 StatusBy c p count phases.Status = ((count == 0) ≡ true → IsReady c) × ((count == 0) ≡ false → HasOne c)
-StatusBy c p count phases.MessageIn = StatusSays c p.messages p.next × (p.next ≡ nexts.Status → (count == 0) ≡ false → IsReady c)
+StatusBy c p count phases.MessageIn =
+    StatusSays c p.messages p.next × (p.next ≡ nexts.Status → (count == 0) ≡ false → IsReady c)
 StatusBy c p count phases.MessageOut = StatusAsked c p p.cause
 StatusBy c p count phases.Command = ⊤
 StatusBy c p count phases.DataIn = ⊤
 StatusBy c p count phases.DataOut = ⊤
 
 abbrev pub StatusTalks : RunState → Type 0
-StatusTalks k =
-    (id : ProcId) → k.served ≡ Some (process id) → k.exchange.begun ≡ true → StatusBy (carried_here k id) k.exchange.plan k.handshakes.requests (phase_of (bus_of k))
+StatusTalks k = (id : ProcId) → k.served ≡ Some (process id) → k.exchange.begun ≡ true
+    → StatusBy (carried_here k id) k.exchange.plan k.handshakes.requests (phase_of (bus_of k))
 
 pub record StatusFacts (s : ScenarioValue) (rows : List Row) : Type 0 where
-  pub empty : (id : ProcId) → is_some (reply_in (array_of s (run_state s rows)).replies id) ≡ false → (carried_here (run_state s rows) id).status.bytes ≡ []
+  pub empty : (id : ProcId) → is_some (reply_in (array_of s (run_state s rows)).replies id) ≡ false
+      → (carried_here (run_state s rows) id).status.bytes ≡ []
   pub talks : (n : Connection) → connection rows ≡ Some n → (bus rows).rst ≡ false → StatusTalks (run_state s rows)

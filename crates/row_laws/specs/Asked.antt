@@ -1,5 +1,5 @@
--- What the laws of the books and those of connections ask of a row of a connection beside what is due: each part is proved of the rows of
--- prompt traces.
+-- What the laws of the books and those of connections ask of a row of a connection beside what is due: each part is
+-- proved of the rows of prompt traces.
 use Rattle.std.specs.Prelude.{◌+◌, ◌≡◌, ◌<◌, true, false, List, ◌∷◌, length, Some, is_some, ◌&&◌}
 use Rattle.bus_due.specs.bus_trace.specs.declared.Row.{Row}
 use Rattle.bus_due.specs.bus_trace.specs.declared.connection.Connection.{Connection}
@@ -29,28 +29,34 @@ pub record PointsInto (k : RunState) (p : Process) : Type 0 where
   pub command : is_command (bus_of k) ≡ true → (carried_here k p.id).command.active < length p.cdb
   pub moved : is_data (bus_of k) ≡ true → is_writing p ≡ true → (carried_here k p.id).moved.active < length p.sent
 
--- In DATA OUT the initiator of the process knows it, and its pointer stands as many bytes after the beginning of its run as were
--- answered.
+-- In DATA OUT the initiator of the process knows it, and its pointer stands as many bytes after the beginning of its
+-- run as were answered.
 pub record StandsAtRun (s : ScenarioValue) (k : RunState) (n : Connection) (p : Process) (t : Task) : Type 0 where
   pub named : n.reselected ≡ true → is_some (item_of k.story.link) ≡ true
-  pub active_is : (carried_here k p.id).moved.active ≡ (run_at (policy_of (target_def_of s p.target)) t t.runs).start + k.handshakes.answers
+  pub active_is : (carried_here k p.id).moved.active
+      ≡ (run_at (policy_of (target_def_of s p.target)) t t.runs).start + k.handshakes.answers
 
 abbrev pub MovesAtRun : ScenarioValue → RunState → Connection → Type 0
-MovesAtRun s k n =
-    (p : Process) (t : Task) → process_served s k ≡ Some p → task_of s k ≡ Some t → phase_of (bus_of k) ≡ phases.DataOut → StandsAtRun s k n p t
+MovesAtRun s k n = (p : Process) (t : Task) → process_served s k ≡ Some p → task_of s k ≡ Some t
+    → phase_of (bus_of k) ≡ phases.DataOut → StandsAtRun s k n p t
 
 -- A row of a connection, before and after which RST is false.
 pub record IsAskedIn (s : ScenarioValue) (rows : List Row) (row : Row) (n : Connection) : Type 0 where
   -- a name that is whole with the row is of the process that is served
   pub names : NamesServed s (run_state s rows) row n
   -- as a byte crosses the pointers stand in what is sent, the data pointer where the run does
-  pub pointers : (p : Process) → process_here s (run_state s rows) ≡ Some p → (row_reading (run_state s rows).story.bus_state row).crosses ≡ true → PointsInto (run_state s rows) p
+  pub pointers : (p : Process) → process_here s (run_state s rows) ≡ Some p
+      → (row_reading (run_state s rows).story.bus_state row).crosses ≡ true → PointsInto (run_state s rows) p
   pub runs : (row_reading (run_state s rows).story.bus_state row).crosses ≡ true → MovesAtRun s (run_state s rows) n
   -- as a phase is left the initiator knows the process, but after MESSAGE OUT, and MESSAGE IN with ATN true
-  pub named : changes_phase (row_reading (run_state s rows).story.bus_state row).change ≡ true → n.reselected ≡ true → is_out_phase (phase_of (bus_of (run_state s rows))) ≡ false → (is_in_phase (phase_of (bus_of (run_state s rows))) && (bus_of (run_state s rows)).atn) ≡ false → is_some (item_of (run_state s rows).story.link) ≡ true
+  pub named : changes_phase (row_reading (run_state s rows).story.bus_state row).change ≡ true
+      → n.reselected ≡ true → is_out_phase (phase_of (bus_of (run_state s rows))) ≡ false
+      → (is_in_phase (phase_of (bus_of (run_state s rows))) && (bus_of (run_state s rows)).atn) ≡ false
+      → is_some (item_of (run_state s rows).story.link) ≡ true
   -- no request is open as data cross; as many bytes of COMMAND cross as the command has
   pub settles : settles_offers (seen rows row) ≡ true
   pub command : has_whole_command rows row ≡ true
 
 abbrev pub IsAsked : ScenarioValue → List Row → Row → Type 0
-IsAsked s rows row = (n : Connection) → connection rows ≡ Some n → (bus rows).rst ≡ false → (bus (row ∷ rows)).rst ≡ false → IsAskedIn s rows row n
+IsAsked s rows row = (n : Connection) → connection rows ≡ Some n → (bus rows).rst ≡ false
+    → (bus (row ∷ rows)).rst ≡ false → IsAskedIn s rows row n

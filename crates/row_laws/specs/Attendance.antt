@@ -1,6 +1,6 @@
--- Which events a row of a connection shows: those of the process that its target serves, or of the abort that comes in it; a process ends
--- GOOD only where the target knows its command; and in the opening after a selection nothing is shown while the connection stands
--- (6.1.6, 6.6, 7.3).
+-- Which events a row of a connection shows: those of the process that its target serves, or of the abort that comes in
+-- it; a process ends GOOD only where the target knows its command; and in the opening after a selection nothing is
+-- shown while the connection stands (6.1.6, 6.6, 7.3).
 use Rattle.std.specs.Prelude.{ℕ, ◌≡◌, ◌<◌, ◌==◌, Bool, true, false, List, [], ◌∷◌, Option, Some, None, is_some, ⊤}
 use Rattle.bus_due.specs.bus_base.specs.declared.AbortKind.{AbortKind}
 use Rattle.bus_due.specs.bus_base.specs.declared.Event.{Event}
@@ -29,9 +29,11 @@ pub data IsShown (k : RunState) (n : Connection) (known : Bool) : Event → Type
   refuses : (id : ProcId) → k.served ≡ Some (process id) → IsShown k n known (events.Refuse id)
   runs : (id : ProcId) → k.served ≡ Some (process id) → IsShown k n known (events.Run id)
   fails : (id : ProcId) (code : ℕ) → k.served ≡ Some (process id) → IsShown k n known (events.Fail id code)
-  ends : (id : ProcId) (status : ℕ) → k.served ≡ Some (process id) → ((status == GOOD) ≡ true → known ≡ true) → IsShown k n known (events.End id status)
+  ends : (id : ProcId) (status : ℕ) → k.served ≡ Some (process id)
+      → ((status == GOOD) ≡ true → known ≡ true) → IsShown k n known (events.End id status)
   loses : (id : ProcId) → k.served ≡ Some (process id) → IsShown k n known (events.Lost id)
-  aborts : (host target unit : ℕ) (what : AbortKind) → host ≡ n.initiator → target ≡ n.target → unit < 8 → host < 8 → IsShown k n known (events.Aborted host target unit what)
+  aborts : (host target unit : ℕ) (what : AbortKind) → host ≡ n.initiator → target ≡ n.target → unit < 8 → host < 8
+      → IsShown k n known (events.Aborted host target unit what)
 
 abbrev pub AreShown : RunState → Connection → Bool → List Event → Type 0
 AreShown k n known [] = ⊤
@@ -39,11 +41,14 @@ AreShown k n known (e ∷ shown) = IsShown k n known e × AreShown k n known sho
 
 -- ---- a row
 
--- In a connection, RST being false before it and after it. In the opening a process is not served where the connection ends.
+-- In a connection, RST being false before it and after it. In the opening a process is not served where the connection
+-- ends.
 pub record ShowsIn (s : ScenarioValue) (rows : List Row) (row : Row) (n : Connection) : Type 0 where
   pub shown : AreShown (run_state s rows) n (instructions s rows).known (events_of_row s rows row)
-  pub silent : n.reselected ≡ false → is_opening (run_state s rows) ≡ true → is_some (row_reading (run_state s rows).story.bus_state row).next ≡ true → events_of_row s rows row ≡ []
-  pub ends_alone : n.reselected ≡ false → is_opening (run_state s rows) ≡ true → (row_reading (run_state s rows).story.bus_state row).next ≡ None → process_served s (run_state s rows) ≡ None
+  pub silent : n.reselected ≡ false → is_opening (run_state s rows) ≡ true
+      → is_some (row_reading (run_state s rows).story.bus_state row).next ≡ true → events_of_row s rows row ≡ []
+  pub ends_alone : n.reselected ≡ false → is_opening (run_state s rows) ≡ true
+      → (row_reading (run_state s rows).story.bus_state row).next ≡ None → process_served s (run_state s rows) ≡ None
 
 -- As RST falls no connection stands any more, and nothing is shown (6.2.2).
 pub record ShowsAfterReset (s : ScenarioValue) (rows : List Row) (row : Row) : Type 0 where
@@ -51,14 +56,17 @@ pub record ShowsAfterReset (s : ScenarioValue) (rows : List Row) (row : Row) : T
   pub none : events_of_row s rows row ≡ []
 
 pub record Shows (s : ScenarioValue) (rows : List Row) (row : Row) : Type 0 where
-  pub inside : (n : Connection) → connection rows ≡ Some n → (bus rows).rst ≡ false → (bus (row ∷ rows)).rst ≡ false → ShowsIn s rows row n
-  pub after_reset : (n : Connection) → connection rows ≡ Some n → (bus rows).rst ≡ true → (bus (row ∷ rows)).rst ≡ false → ShowsAfterReset s rows row
+  pub inside : (n : Connection) → connection rows ≡ Some n → (bus rows).rst ≡ false → (bus (row ∷ rows)).rst ≡ false
+      → ShowsIn s rows row n
+  pub after_reset : (n : Connection) → connection rows ≡ Some n → (bus rows).rst ≡ true → (bus (row ∷ rows)).rst ≡ false
+      → ShowsAfterReset s rows row
 
 -- ---- what holds of the rows so far
 
 -- An abort that is served is of both ends.
 abbrev pub AbortsBetween : ScenarioValue → RunState → Connection → Type 0
-AbortsBetween s k n = (m : ℕ) (a : AbortDef) → k.served ≡ Some (abort m) → abort_line_at s.aborts m ≡ Some a → a.target ≡ n.target
+AbortsBetween s k n =
+    (m : ℕ) (a : AbortDef) → k.served ≡ Some (abort m) → abort_line_at s.aborts m ≡ Some a → a.target ≡ n.target
 
 abbrev pub IsNotGood : Option Reply → Type 0
 IsNotGood given = (reply : Reply) → given ≡ Some reply → (reply.status == GOOD) ≡ false
@@ -68,5 +76,7 @@ abbrev pub AnswersBadly : ScenarioValue → RunState → Type 0
 AnswersBadly s k = (id : ProcId) → k.served ≡ Some (process id) → IsNotGood (reply_in (array_of s k).replies id)
 
 pub record AttendedFacts (s : ScenarioValue) (rows : List Row) : Type 0 where
-  pub aborts : (n : Connection) → connection rows ≡ Some n → (bus rows).rst ≡ false → AbortsBetween s (run_state s rows) n
-  pub answers : (n : Connection) → connection rows ≡ Some n → (bus rows).rst ≡ false → n.reselected ≡ false → (instructions s rows).known ≡ false → AnswersBadly s (run_state s rows)
+  pub aborts : (n : Connection) → connection rows ≡ Some n → (bus rows).rst ≡ false
+      → AbortsBetween s (run_state s rows) n
+  pub answers : (n : Connection) → connection rows ≡ Some n → (bus rows).rst ≡ false → n.reselected ≡ false
+      → (instructions s rows).known ≡ false → AnswersBadly s (run_state s rows)

@@ -9,9 +9,11 @@ use Rattle.bus_due.specs.bus_dialogue.specs.PhaseBytes.{phase_byte, one_if}
 use Rattle.bus_due.specs.RunState.{RunState, bus_of}
 use Rattle.bus_due.specs.Sights.{serving_of, leaving, offering_of}
 
--- What the target is due to give is a byte, and what the initiator is due to say; and so is the first byte of the phase that comes
--- next.
+-- What the target is due to give is a byte, and what the initiator is due to say; and so is the first byte of the phase
+-- that comes next.
 pub record HasByteValues (s : ScenarioValue) (k : RunState) (n : Connection) : Type 0 where
   pub offered : (offering_of s k n.target).byte < 256
   pub said : is_message_out (bus_of k) ≡ true → next_word k.exchange.speech < 256
-  pub entering : (phase : Phase) → (leaving s k n.target).to ≡ Some phase → phase_byte (serving_of s k n.target) phase (leaving s k n.target).messages (one_if (leaving s k n.target).done) 0 < 256
+  pub entering : (phase : Phase) → (leaving s k n.target).to ≡ Some phase
+      → phase_byte (serving_of s k n.target) phase (leaving s k n.target).messages
+      (one_if (leaving s k n.target).done) 0 < 256

@@ -1,6 +1,6 @@
--- Where the data pointers of processes stand (6.6.6, 6.6.19, 6.6.20): between connections the saved one at the beginning of the next
--- run; in a connection as the messages that are on their way will set it; in DATA OUT as far in the run as bytes were answered, in DATA IN
--- as bytes were asked for.
+-- Where the data pointers of processes stand (6.6.6, 6.6.19, 6.6.20): between connections the saved one at the
+-- beginning of the next run; in a connection as the messages that are on their way will set it; in DATA OUT as far in
+-- the run as bytes were answered, in DATA IN as bytes were asked for.
 use Rattle.std.specs.Prelude.{ℕ, ◌+◌, ◌*◌, ◌≡◌, ◌⊎◌, Bool, true, false, ◌||◌, Option, Some, None, ⊤}
 use Rattle.bus_due.specs.bus_base.specs.declared.ProcId.{ProcId}
 use Rattle.bus_due.specs.bus_trace.specs.declared.connection.Connection.{Connection}
@@ -63,8 +63,8 @@ step_in policy (Some blocks) size = step_by policy size
 
 -- Of a process, by the blocks of its unit.
 abbrev pub run_step : ScenarioValue → Process → ℕ
-run_step s p =
-    step_in (policy_for s p) (blocks_in (range_in (command_of p.cdb))) (size_of (unit_state_at (starting_array s).units p.target p.unit))
+run_step s p = step_in (policy_for s p) (blocks_in (range_in (command_of p.cdb)))
+    (size_of (unit_state_at (starting_array s).units p.target p.unit))
 
 -- Where its next run begins.
 abbrev pub run_start : ScenarioValue → RunState → Process → ℕ
@@ -94,10 +94,12 @@ abbrev pub IsUndisturbed : Policy → Link → Type 0
 IsUndisturbed policy l = (is_never policy ≡ true) ⊎ ((l.last ≡ plain) × (l.before ≡ plain))
 
 -- Both pointers stand at the beginning of the run, whatever messages come.
-pub record IsCalm (policy : Policy) (l : Link) (c : CarriedBytes) (m : Messages) (next : Next) (start : ℕ) : Type 0 where
+pub record IsCalm (policy : Policy) (l : Link) (c : CarriedBytes) (m : Messages) (next : Next) (start : ℕ) : Type
+    0 where
   pub here : IsAt c.moved start
   pub undone : OnUndo (λ (u : CarriedBytes). IsAt u.moved start) l.undo
-  pub plain : ((next ≡ nexts.GoOn) × IsUndisturbed policy l × OnMessages IsPlainIn m) ⊎ ((next ≡ nexts.GoOn → ⊥) × OnMessages IsNoName m)
+  pub plain : ((next ≡ nexts.GoOn) × IsUndisturbed policy l × OnMessages IsPlainIn m)
+      ⊎ ((next ≡ nexts.GoOn → ⊥) × OnMessages IsNoName m)
 
 abbrev pub IsClosing : Next → Type 0
 IsClosing next = (next ≡ nexts.Status) ⊎ (next ≡ nexts.FreeBus)
@@ -106,29 +108,39 @@ abbrev pub IsOfStatus : Messages → Type 0
 IsOfStatus m = (m ≡ one_message to_initiator.CommandComplete) ⊎ (m ≡ one_message to_initiator.RestorePointers)
 
 -- In MESSAGE IN, so many bytes of which have crossed.
-pub data PointersIn (policy : Policy) (l : Link) (c : CarriedBytes) (m : Messages) (next : Next) (count start : ℕ) : Type 0 where
+pub data PointersIn (policy : Policy) (l : Link) (c : CarriedBytes) (m : Messages) (next : Next) (count start : ℕ) :
+    Type 0 where
   calm : IsCalm policy l c m next start → PointersIn policy l c m next count start
-  restores : m ≡ one_message to_initiator.RestorePointers → next ≡ nexts.GoOn → IsUndisturbed policy l → c.moved.saved ≡ start
-      → (count ≡ 0) ⊎ ((c.moved.active ≡ start) × OnUndo (λ (u : CarriedBytes). u.moved.saved ≡ start) l.undo) → PointersIn policy l c m next count start
-  saves : m ≡ two_messages to_initiator.SavePointer to_initiator.Disconnect → next ≡ nexts.FreeBus → l.last ≡ plain → count ≡ 0 → c.moved.active ≡ start
+  restores : m ≡ one_message to_initiator.RestorePointers
+      → next ≡ nexts.GoOn → IsUndisturbed policy l → c.moved.saved ≡ start
+      → (count ≡ 0) ⊎ ((c.moved.active ≡ start) × OnUndo (λ (u : CarriedBytes). u.moved.saved ≡ start) l.undo)
       → PointersIn policy l c m next count start
-  saved : m ≡ two_messages to_initiator.SavePointer to_initiator.Disconnect → next ≡ nexts.FreeBus → l.last ≡ plain → l.before ≡ plain → count ≡ 1 → IsAt c.moved start
-      → OnUndo (λ (u : CarriedBytes). u.moved.active ≡ start) l.undo → PointersIn policy l c m next count start
+  saves : m ≡ two_messages to_initiator.SavePointer to_initiator.Disconnect → next ≡ nexts.FreeBus → l.last ≡ plain
+      → count ≡ 0 → c.moved.active ≡ start → PointersIn policy l c m next count start
+  saved : m ≡ two_messages to_initiator.SavePointer to_initiator.Disconnect → next ≡ nexts.FreeBus → l.last ≡ plain
+      → l.before ≡ plain → count ≡ 1 → IsAt c.moved start → OnUndo (λ (u : CarriedBytes). u.moved.active ≡ start) l.undo
+      → PointersIn policy l c m next count start
   disconnects : m ≡ one_message to_initiator.Disconnect → next ≡ nexts.FreeBus → c.moved.saved ≡ start
-      → (count ≡ 0) ⊎ OnUndo (λ (u : CarriedBytes). u.moved.saved ≡ start) l.undo → PointersIn policy l c m next count start
+      → (count ≡ 0) ⊎ OnUndo (λ (u : CarriedBytes). u.moved.saved ≡ start) l.undo
+      → PointersIn policy l c m next count start
   closes : IsOfStatus m → IsClosing next → is_marked c ≡ true
-      → (count ≡ 0) ⊎ OnUndo (λ (u : CarriedBytes). is_marked u ≡ true) l.undo → PointersIn policy l c m next count start
+      → (count ≡ 0) ⊎ OnUndo (λ (u : CarriedBytes). is_marked u ≡ true) l.undo
+      → PointersIn policy l c m next count start
 
 -- In a MESSAGE OUT that answers them these messages come again.
-pub data PointersRefused (policy : Policy) (l : Link) (c : CarriedBytes) (m : Messages) (next : Next) (start : ℕ) : Type 0 where
+pub data PointersRefused (policy : Policy) (l : Link) (c : CarriedBytes) (m : Messages) (next : Next) (start : ℕ) : Type
+    0 where
   still_calm : IsCalm policy l c m next start → PointersRefused policy l c m next start
-  restores_again : m ≡ one_message to_initiator.RestorePointers → next ≡ nexts.GoOn → IsUndisturbed policy l → c.moved.saved ≡ start
-      → OnUndo (λ (u : CarriedBytes). u.moved.saved ≡ start) l.undo → PointersRefused policy l c m next start
-  saves_again : m ≡ two_messages to_initiator.SavePointer to_initiator.Disconnect → next ≡ nexts.FreeBus → l.last ≡ plain → l.before ≡ plain → c.moved.active ≡ start
+  restores_again : m ≡ one_message to_initiator.RestorePointers → next ≡ nexts.GoOn → IsUndisturbed policy l
+      → c.moved.saved ≡ start → OnUndo (λ (u : CarriedBytes). u.moved.saved ≡ start) l.undo
+      → PointersRefused policy l c m next start
+  saves_again : m ≡ two_messages to_initiator.SavePointer to_initiator.Disconnect
+      → next ≡ nexts.FreeBus → l.last ≡ plain → l.before ≡ plain → c.moved.active ≡ start
       → OnUndo (λ (u : CarriedBytes). u.moved.active ≡ start) l.undo → PointersRefused policy l c m next start
   disconnects_again : m ≡ one_message to_initiator.Disconnect → next ≡ nexts.FreeBus → c.moved.saved ≡ start
       → OnUndo (λ (u : CarriedBytes). u.moved.saved ≡ start) l.undo → PointersRefused policy l c m next start
-  closes_again : IsOfStatus m → IsClosing next → is_marked c ≡ true → OnUndo (λ (u : CarriedBytes). is_marked u ≡ true) l.undo → PointersRefused policy l c m next start
+  closes_again : IsOfStatus m → IsClosing next → is_marked c ≡ true
+      → OnUndo (λ (u : CarriedBytes). is_marked u ≡ true) l.undo → PointersRefused policy l c m next start
 
 -- ---- in a connection whose initiator knows the process
 
@@ -166,7 +178,8 @@ PointersBy policy l c x h b start = PointersIf x.begun policy l c x.plan h start
 
 -- ---- before it has heard a name after a reselection
 
-pub record IsUnnamed (policy : Policy) (l : Link) (c : CarriedBytes) (x : Exchange) (b : LineSet) (start : ℕ) : Type 0 where
+pub record IsUnnamed (policy : Policy) (l : Link) (c : CarriedBytes) (x : Exchange) (b : LineSet) (start : ℕ) : Type
+    0 where
   pub begun : x.begun ≡ true
   pub undone : OnUndo (λ (u : CarriedBytes). u.moved.saved ≡ start) l.undo
   pub undisturbed : IsUndisturbed policy l
@@ -176,21 +189,26 @@ pub record IsUnnamed (policy : Policy) (l : Link) (c : CarriedBytes) (x : Exchan
   pub phase : (phase_of b ≡ phases.MessageIn) ⊎ ((phase_of b ≡ phases.MessageOut) × (x.plan.cause ≡ causes.InMessage))
 
 pub data ServedPointers (s : ScenarioValue) (k : RunState) (q : Process) : Type 0 where
-  unnamed : (l : Link) → k.story.link ≡ Some l → l.item ≡ None → IsUnnamed (run_policy s q) l (carried_here k q.id) k.exchange (bus_of k) (run_start s k q) → ServedPointers s k q
+  unnamed : (l : Link) → k.story.link ≡ Some l → l.item ≡ None
+      → IsUnnamed (run_policy s q) l (carried_here k q.id) k.exchange (bus_of k) (run_start s k q)
+      → ServedPointers s k q
   named : (l : Link) → k.story.link ≡ Some l → l.item ≡ Some (process q.id)
-      → PointersBy (run_policy s q) l (carried_here k q.id) k.exchange k.handshakes (bus_of k) (run_start s k q) → ServedPointers s k q
+      → PointersBy (run_policy s q) l (carried_here k q.id) k.exchange k.handshakes (bus_of k) (run_start s k q)
+      → ServedPointers s k q
 
 -- ---- outside a connection
 
 -- Of a process that is not over and has shown no reply.
 pub record IsWaiting (s : ScenarioValue) (k : RunState) (q : Process) : Type 0 where
-  pub saved : has_item k.story.sent.over (process q.id) ≡ false → is_marked (carried_here k q.id) ≡ false → (carried_here k q.id).moved.saved ≡ run_start s k q
+  pub saved : has_item k.story.sent.over (process q.id) ≡ false → is_marked (carried_here k q.id) ≡ false
+      → (carried_here k q.id).moved.saved ≡ run_start s k q
 
 -- ---- in every connection
 
 -- What MESSAGE PARITY ERROR would bring back is of the process that is served.
 abbrev pub UndoesServed : RunState → Type 0
-UndoesServed k = (l : Link) (u : CarriedBytes) → k.story.link ≡ Some l → l.undo ≡ Some u → k.served ≡ Some (process u.id)
+UndoesServed k =
+    (l : Link) (u : CarriedBytes) → k.story.link ≡ Some l → l.undo ≡ Some u → k.served ≡ Some (process u.id)
 
 -- Where COMMAND does not follow, no request is answered.
 abbrev pub RefusesLater : RunState → Type 0

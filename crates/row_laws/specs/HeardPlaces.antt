@@ -1,5 +1,5 @@
--- What of the place of a served process in the plain disk array the target of its connection rests on: as the connection begins, and
--- by the phase (6.1.5, 7.5).
+-- What of the place of a served process in the plain disk array the target of its connection rests on: as the
+-- connection begins, and by the phase (6.1.5, 7.5).
 use Rattle.std.specs.Prelude.{◌≡◌, true, false, List, ◌∷◌, Some, None, is_some, is_none}
 use Rattle.bus_due.specs.bus_trace.specs.declared.Row.{Row}
 use Rattle.bus_due.specs.bus_trace.specs.declared.connection.Connection.{Connection}
@@ -21,16 +21,19 @@ use Rattle.scsi_device.specs.Heard.{is_unanswered, moves_data}
 -- It is new in COMMAND, runs without a reply while data move, and with one as its status is given.
 pub record IsPlacedIn (a : Array) (p : Process) (phase : Phase) (next : Next) : Type 0 where
   pub new : is_command_phase phase ≡ true → is_new a p ≡ true
-  pub unanswered : moves_data phase next ≡ true → (is_unanswered (running_process a p.id) ≡ true) × (is_none (reply_in a.replies p.id) ≡ true)
-  pub answered : gives_status phase next ≡ true → (is_answered (running_process a p.id) ≡ true) × (is_some (reply_in a.replies p.id) ≡ true)
+  pub unanswered : moves_data phase next ≡ true
+      → (is_unanswered (running_process a p.id) ≡ true) × (is_none (reply_in a.replies p.id) ≡ true)
+  pub answered : gives_status phase next ≡ true
+      → (is_answered (running_process a p.id) ≡ true) × (is_some (reply_in a.replies p.id) ≡ true)
 
 -- After the opening.
 abbrev pub IsPlacedAt : ScenarioValue → RunState → Type 0
-IsPlacedAt s k =
-    is_opening k ≡ false → (p : Process) → process_served s k ≡ Some p → IsPlacedIn (array_of s k) p (phase_of (bus_of k)) k.exchange.plan.next
+IsPlacedAt s k = is_opening k ≡ false → (p : Process) → process_served s k ≡ Some p
+    → IsPlacedIn (array_of s k) p (phase_of (bus_of k)) k.exchange.plan.next
 
 abbrev pub ArePlaced : ScenarioValue → List Row → Type 0
-ArePlaced s rows = (n : Connection) → connection rows ≡ Some n → (bus rows).rst ≡ false → IsPlacedAt s (run_state s rows)
+ArePlaced s rows =
+    (n : Connection) → connection rows ≡ Some n → (bus rows).rst ≡ false → IsPlacedAt s (run_state s rows)
 
 -- As a connection begins.
 abbrev pub BeginsPlaced : ScenarioValue → List Row → Row → Type 0

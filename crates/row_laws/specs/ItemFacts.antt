@@ -5,7 +5,8 @@ use Rattle.bus_due.specs.LastingState.{ProcessProgress, progress_in}
 use Rattle.bus_due.specs.RunState.{RunState, array_of, bus_of}
 use Rattle.bus_due.specs.RunSteps.{run_state}
 use Rattle.bus_due.specs.bus_story.specs.CarriedBytes.{CarriedBytes, carried_at}
-use Rattle.bus_due.specs.bus_story.specs.Items.{Item, Sent, abort, command_item, has_item, is_clash, is_done, is_open, may_send}
+use Rattle.bus_due.specs.bus_story.specs.Items.{Item, Sent, abort, command_item, has_item, is_clash, is_done, is_open}
+use Rattle.bus_due.specs.bus_story.specs.Items.{may_send}
 use Rattle.bus_due.specs.bus_story.specs.Items.{open_from, process, sense_from, sense_item}
 use Rattle.bus_due.specs.bus_story.specs.Links.{Link, is_open_sense}
 use Rattle.bus_due.specs.bus_story.specs.Story.{Story}
@@ -24,16 +25,22 @@ use Rattle.bus_due.specs.scenario.specs.declared.value.CmdDef.{CmdDef}
 use Rattle.std.specs.List.{list_any}
 use Rattle.row_laws.specs.ItemTalks.{Talks}
 
--- What an initiator sends next: an abort, the automatic REQUEST SENSE of a command that ended with CHECK CONDITION, or a command of its own
--- that may be sent beside those that are open, where no REQUEST SENSE is to be sent before it. It was neither sent nor given up.
+-- What an initiator sends next: an abort, the automatic REQUEST SENSE of a command that ended with CHECK CONDITION, or
+-- a command of its own that may be sent beside those that are open, where no REQUEST SENSE is to be sent before it. It
+-- was neither sent nor given up.
 pub data IsNext (s : ScenarioValue) (b : Sent) (dev : ℕ) : Item → Type 0 where
   is_abort : (n : ℕ) → is_done b (abort n) ≡ false → IsNext s b dev (abort n)
-  is_sense : (n : ℕ) (c : CmdDef) → command_at s.commands n ≡ Some c → c.host ≡ dev → list_any (λ k. k == n) b.checks ≡ true → is_done b (sense_item n) ≡ false → IsNext s b dev (process (record { command = n; sense = true }))
-  is_command : (n time : ℕ) (c : CmdDef) → command_at s.commands n ≡ Some c → c.host ≡ dev → is_done b (command_item n) ≡ false → may_send s time (open_from b dev 1 s.commands) c ≡ true → sense_from s b dev b.checks ≡ None → IsNext s b dev (process (record { command = n; sense = false }))
+  is_sense : (n : ℕ) (c : CmdDef) → command_at s.commands n ≡ Some c → c.host ≡ dev
+      → list_any (λ k. k == n) b.checks ≡ true → is_done b (sense_item n) ≡ false
+      → IsNext s b dev (process (record { command = n; sense = true }))
+  is_command : (n time : ℕ) (c : CmdDef) → command_at s.commands n ≡ Some c → c.host ≡ dev
+      → is_done b (command_item n) ≡ false → may_send s time (open_from b dev 1 s.commands) c ≡ true
+      → sense_from s b dev b.checks ≡ None → IsNext s b dev (process (record { command = n; sense = false }))
 
 -- Two open commands of one initiator that would be confused are one.
 abbrev pub NoClash : ScenarioValue → Sent → Type 0
-NoClash s b = (n m : ℕ) (c d : CmdDef) → command_at s.commands n ≡ Some c → command_at s.commands m ≡ Some d → c.host ≡ d.host → is_open b n ≡ true → is_open b m ≡ true → is_clash c d ≡ true → n ≡ m
+NoClash s b = (n m : ℕ) (c d : CmdDef) → command_at s.commands n ≡ Some c → command_at s.commands m ≡ Some d
+    → c.host ≡ d.host → is_open b n ≡ true → is_open b m ≡ true → is_clash c d ≡ true → n ≡ m
 
 -- What the device entered arbitration for, if anything, is what it sends next.
 abbrev pub IsAimed : ScenarioValue → RunState → ℕ → Type 0
@@ -41,7 +48,8 @@ IsAimed s k dev = (item : Item) → aim_of k.story.aims dev ≡ Some item → Is
 
 -- Of the contenders, and of the caller.
 pub record AimsFit (s : ScenarioValue) (p : List Row) : Type 0 where
-  pub contends : (dev : ℕ) (a : Arbitration) → dev < 8 → arbitration p ≡ Some a → (drives p dev).bsy ≡ true → is_initiator s.hosts dev ≡ true → IsAimed s (run_state s p) dev
+  pub contends : (dev : ℕ) (a : Arbitration) → dev < 8 → arbitration p ≡ Some a → (drives p dev).bsy ≡ true
+      → is_initiator s.hosts dev ≡ true → IsAimed s (run_state s p) dev
   pub calls : (c : Call) → call p ≡ Some c → is_initiator s.hosts c.caller ≡ true → IsAimed s (run_state s p) c.caller
 
 -- The item of a link, and the process whose bytes MESSAGE PARITY ERROR brings back, were sent.
@@ -90,8 +98,8 @@ pub record IsChecked (s : ScenarioValue) (b : Sent) (n : ℕ) : Type 0 where
 abbrev pub no_progress : ProcId → ProcessProgress
 no_progress id = record { id = id; runs = 0; recoveries = 0 }
 
--- What was carried, is served and stands in a queue was sent, and what stands in a queue is open; open commands of one initiator do not
--- clash; an automatic REQUEST SENSE is open only while it is served.
+-- What was carried, is served and stands in a queue was sent, and what stands in a queue is open; open commands of one
+-- initiator do not clash; an automatic REQUEST SENSE is open only while it is served.
 pub record Items (s : ScenarioValue) (k : RunState) : Type 0 where
   pub apart : k.story.bus_state.connection ≡ None → (k.story.link ≡ None) × (k.served ≡ None)
   pub only : SentOnly k.story
@@ -100,8 +108,10 @@ pub record Items (s : ScenarioValue) (k : RunState) : Type 0 where
   pub checks : (n : ℕ) → has_item k.story.sent.sent (sense_item n) ≡ true → IsChecked s k.story.sent n
   pub queued : UnitsP (IsQueued s k.story.sent) (array_of s k).units
   pub served : (i : Item) → k.served ≡ Some i → has_item k.story.sent.sent i ≡ true
-  pub senses : (n : ℕ) → is_open_sense k.story.sent n ≡ true → (k.served ≡ Some (sense_item n)) × ((bus_of k).rst ≡ false)
-  pub progress : (id : ProcId) → has_item k.story.sent.sent (process id) ≡ false → progress_in k.progress id ≡ no_progress id
+  pub senses : (n : ℕ) → is_open_sense k.story.sent n ≡ true
+      → (k.served ≡ Some (sense_item n)) × ((bus_of k).rst ≡ false)
+  pub progress : (id : ProcId) → has_item k.story.sent.sent (process id) ≡ false
+      → progress_in k.progress id ≡ no_progress id
   pub talks : (n : Connection) → k.story.bus_state.connection ≡ Some n → (bus_of k).rst ≡ false → Talks s k n
 
 -- And while no connection stands what a contender calls for is what it sends next.

@@ -1,5 +1,5 @@
--- What holds of the process of a connection: it is open until COMMAND COMPLETE was taken, after which the bus is freed; and after a
--- reselection the target names it alone.
+-- What holds of the process of a connection: it is open until COMMAND COMPLETE was taken, after which the bus is freed;
+-- and after a reselection the target names it alone.
 use Rattle.std.specs.Prelude.{Bool, List, None, Option, Some, false, is_none, length, not, true, ℕ, ⊤, ◌&&◌, ◌<◌, ◌||◌}
 use Rattle.std.specs.Prelude.{◌≡◌, ◌⊎◌}
 use Rattle.bus_due.specs.bus_base.specs.declared.ProcId.{ProcId}
@@ -35,8 +35,8 @@ frees_bus nexts.Command = false
 frees_bus nexts.Status = false
 frees_bus nexts.GoOn = false
 
--- COMMAND COMPLETE stands alone, and the bus is freed after it. Of a process that stays (an automatic REQUEST SENSE) no message
--- is DISCONNECT.
+-- COMMAND COMPLETE stands alone, and the bus is freed after it. Of a process that stays (an automatic REQUEST SENSE) no
+-- message is DISCONNECT.
 abbrev pub plans_well : Bool → Messages → Next → Bool
 plans_well stays m next =
     not (is_complete_in m.second) && (not (is_complete_in m.first) || (is_none m.second && frees_bus next))
@@ -94,7 +94,8 @@ pub record HasEnded (t : Talk) : Type 0 where
 
 -- Of an automatic REQUEST SENSE no message but COMMAND COMPLETE tells how the connection ends.
 abbrev pub last_well : Bool → Link → Bool
-last_well sense l = not (is_complete l.before) && (not sense || (is_plain l.before && (is_plain l.last || is_complete l.last)))
+last_well sense l =
+    not (is_complete l.before) && (not sense || (is_plain l.before && (is_plain l.last || is_complete l.last)))
 
 -- The names of a process; other messages are none.
 abbrev pub IsNameOf : Process → MsgIn → Type 0
@@ -125,7 +126,9 @@ pub record TalksBy (s : ScenarioValue) (t : Talk) (n : Connection) (l : Link) : 
   pub last : last_well (is_sense_item t.served) l ≡ true
   pub completes : is_complete l.last ≡ true → IsTaken t ⊎ ((is_message_out t.bus ≡ true) × (t.is_last ≡ false))
   pub over : (i : Item) → t.served ≡ Some i → has_item t.over i ≡ true → HasEnded t
-  pub closes : n.reselected ≡ false → is_complete l.last ≡ true → is_message_in t.bus ≡ true → (id : ProcId) → t.served ≡ Some (process id) → (has_item t.over (process id) ≡ true) ⊎ ((t.bus.atn ≡ true) ⊎ (awaits t.bus ≡ true))
+  pub closes : n.reselected ≡ false → is_complete l.last ≡ true
+      → is_message_in t.bus ≡ true → (id : ProcId) → t.served ≡ Some (process id)
+      → (has_item t.over (process id) ≡ true) ⊎ ((t.bus.atn ≡ true) ⊎ (awaits t.bus ≡ true))
   pub selected : is_sense_item t.served ≡ true → n.reselected ≡ false
   pub names : n.reselected ≡ true → HasNames s t n l
 

@@ -1,4 +1,5 @@
--- Synchronous data transfer requests: whose request is open, by the phase and by what both ends have said in it (6.6.21).
+-- Synchronous data transfer requests: whose request is open, by the phase and by what both ends have said in it
+-- (6.6.21).
 use Rattle.std.specs.Prelude.{ℕ, ◌≡◌, ◌⊎◌, ◌<◌, Bool, true, false, ◌==◌, List, length, Option, Some, None, is_some}
 use Rattle.std.specs.Prelude.{if◌then◌else◌}
 use Rattle.bus_due.specs.bus_trace.specs.LineSet.{LineSet}
@@ -42,17 +43,20 @@ is_request _ = false
 abbrev pub IsNoRequest : MsgIn → Type 0
 IsNoRequest m = is_request m ≡ false
 
--- The message of a target that answers the open request of the initiator, or rejects it, or is a request of its own: whose request is
--- open before and after it.
+-- The message of a target that answers the open request of the initiator, or rejects it, or is a request of its own:
+-- whose request is open before and after it.
 pub data Negotiates (before after : Option End) (m : MsgIn) : Type 0 where
-  answers : (a : Agreement) → before ≡ Some ends.Initiator → after ≡ None → m ≡ to_initiator.Sdtr a → Negotiates before after m
+  answers : (a : Agreement) → before ≡ Some ends.Initiator → after ≡ None → m ≡ to_initiator.Sdtr a
+      → Negotiates before after m
   refuses : before ≡ Some ends.Initiator → after ≡ None → m ≡ to_initiator.Reject → Negotiates before after m
-  requests : (a : Agreement) → before ≡ None → after ≡ Some ends.Target → m ≡ to_initiator.Sdtr a → Negotiates before after m
+  requests : (a : Agreement) → before ≡ None → after ≡ Some ends.Target → m ≡ to_initiator.Sdtr a
+      → Negotiates before after m
 
 -- What it plans where this request is open: to say one such message and then to go on to COMMAND; or no request.
 pub data Plans (open_to : Option End) (messages : Messages) (next : Next) : Type 0 where
   plain : open_to ≡ None → OnMessages IsNoRequest messages → Plans open_to messages next
-  negotiates : (after : Option End) (m : MsgIn) → Negotiates open_to after m → messages ≡ one_message m → next ≡ nexts.Command → Plans open_to messages next
+  negotiates : (after : Option End) (m : MsgIn) → Negotiates open_to after m → messages ≡ one_message m
+      → next ≡ nexts.Command → Plans open_to messages next
 
 -- ---- what was heard
 
@@ -67,9 +71,14 @@ pub record WasOpen (h : Heard) (before : Option End) : Type 0 where
 
 -- In MESSAGE IN, after so many bytes of it.
 pub data IsHeardIn (messages : Messages) (next : Next) (d : Dialogue) (count : ℕ) : Type 0 where
-  no_request : OnMessages IsNoRequest messages → offer_now d ≡ None → (count ≡ 0) ⊎ WasOpen d.heard None → IsHeardIn messages next d count
-  in_part : (before after : Option End) (m : MsgIn) → Negotiates before after m → messages ≡ one_message m → next ≡ nexts.Command → offer_now d ≡ before → (count ≡ 0) ⊎ WasOpen d.heard before → count < length (in_bytes m) → IsHeardIn messages next d count
-  whole : (before after : Option End) (m : MsgIn) → Negotiates before after m → messages ≡ one_message m → next ≡ nexts.Command → offer_now d ≡ after → WasOpen d.heard before → count ≡ length (in_bytes m) → IsHeardIn messages next d count
+  no_request : OnMessages IsNoRequest messages → offer_now d ≡ None → (count ≡ 0) ⊎ WasOpen d.heard None
+      → IsHeardIn messages next d count
+  in_part : (before after : Option End) (m : MsgIn) → Negotiates before after m → messages ≡ one_message m
+      → next ≡ nexts.Command → offer_now d ≡ before → (count ≡ 0) ⊎ WasOpen d.heard before → count < length (in_bytes m)
+      → IsHeardIn messages next d count
+  whole : (before after : Option End) (m : MsgIn) → Negotiates before after m → messages ≡ one_message m
+      → next ≡ nexts.Command → offer_now d ≡ after → WasOpen d.heard before → count ≡ length (in_bytes m)
+      → IsHeardIn messages next d count
 
 -- What the initiator says is this one message: it counts after its last byte, and not before.
 pub record SaysOne (m : MsgOut) (v : Speech) (d : Dialogue) : Type 0 where
@@ -85,24 +94,31 @@ is_detected causes.InData = true
 is_detected causes.InStatus = true
 is_detected _ = false
 
--- In MESSAGE OUT: the opening, with a request of the initiator or without; MESSAGE PARITY ERROR, after which the message is said again;
--- the answer to the request of the target; INITIATOR DETECTED ERROR.
+-- In MESSAGE OUT: the opening, with a request of the initiator or without; MESSAGE PARITY ERROR, after which the
+-- message is said again; the answer to the request of the target; INITIATOR DETECTED ERROR.
 pub data IsHeardOut (x : Exchange) (d : Dialogue) : Type 0 where
-  opens : x.plan.cause ≡ causes.Selected → d.at_phase.now.offer ≡ None → d.at_phase.void ≡ None → d.heard.void ≡ None → offer_now d ≡ offer_said x.plan.said → IsHeardOut x d
-  repeats : (before : Option End) → x.plan.cause ≡ causes.InMessage → SaysOne to_target.ParityError x.speech d → WasOpen d.at_phase before → Plans before x.plan.messages x.plan.next → IsHeardOut x d
-  answers_it : (a : Agreement) → x.plan.cause ≡ causes.InMessage → x.plan.next ≡ nexts.Command → SaysOne (to_target.Sdtr a) x.speech d → d.at_phase.now.offer ≡ Some ends.Target → IsHeardOut x d
-  detects : is_detected x.plan.cause ≡ true → SaysOne to_target.DetectedError x.speech d → d.at_phase.now.offer ≡ None → IsHeardOut x d
+  opens : x.plan.cause ≡ causes.Selected → d.at_phase.now.offer ≡ None → d.at_phase.void ≡ None → d.heard.void ≡ None
+      → offer_now d ≡ offer_said x.plan.said → IsHeardOut x d
+  repeats : (before : Option End) → x.plan.cause ≡ causes.InMessage → SaysOne to_target.ParityError x.speech d
+      → WasOpen d.at_phase before → Plans before x.plan.messages x.plan.next → IsHeardOut x d
+  answers_it : (a : Agreement) → x.plan.cause ≡ causes.InMessage → x.plan.next ≡ nexts.Command
+      → SaysOne (to_target.Sdtr a) x.speech d → d.at_phase.now.offer ≡ Some ends.Target → IsHeardOut x d
+  detects : is_detected x.plan.cause ≡ true → SaysOne to_target.DetectedError x.speech d → d.at_phase.now.offer ≡ None
+      → IsHeardOut x d
 
 -- ---- in a connection
 
--- In MESSAGE IN the initiator raises ATN where a byte was struck, or a request of the target is open, as it answers the byte.
+-- In MESSAGE IN the initiator raises ATN where a byte was struck, or a request of the target is open, as it answers the
+-- byte.
 pub record OffersBy (x : Exchange) (d : Dialogue) (h : Handshakes) (b : LineSet) : Type 0 where
   pub unbegun : x.begun ≡ false → (offer_now d ≡ None) × (d.heard.void ≡ None)
   pub settled : x.begun ≡ true → b.msg ≡ false → offer_now d ≡ None
   pub out : x.begun ≡ true → is_message_out b ≡ true → IsHeardOut x d
   pub into : x.begun ≡ true → is_message_in b ≡ true → IsHeardIn x.plan.messages x.plan.next d h.requests
-  pub why : x.begun ≡ true → is_message_in b ≡ true → b.atn ≡ true → ((h.requests == 0) ≡ false) × ((h.struck ≡ true) ⊎ (offer_now d ≡ Some ends.Target))
-  pub asks : x.begun ≡ true → is_message_in b ≡ true → offer_now d ≡ Some ends.Target → (b.atn ≡ true) ⊎ (awaits b ≡ true)
+  pub why : x.begun ≡ true → is_message_in b ≡ true → b.atn ≡ true
+      → ((h.requests == 0) ≡ false) × ((h.struck ≡ true) ⊎ (offer_now d ≡ Some ends.Target))
+  pub asks : x.begun ≡ true → is_message_in b ≡ true → offer_now d ≡ Some ends.Target
+      → (b.atn ≡ true) ⊎ (awaits b ≡ true)
 
 abbrev pub Offers : RunState → Type 0
 Offers k = OffersBy k.exchange k.story.bus_state.dialogue k.handshakes (bus_of k)

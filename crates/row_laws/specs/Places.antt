@@ -1,5 +1,5 @@
--- Where the process that a target serves stands in the plain disk array, by the phase of its connection; and where the others stand
--- (6.1.5, 6.6.6, 7.5, 7.8).
+-- Where the process that a target serves stands in the plain disk array, by the phase of its connection; and where the
+-- others stand (6.1.5, 6.6.6, 7.5, 7.8).
 use Rattle.std.specs.Prelude.{◌≡◌, ◌⊎◌, ◌≤◌, Bool, true, false, not, ◌||◌, ◌==◌, List, [], ◌∷◌, Option, Some, None}
 use Rattle.std.specs.Prelude.{is_some, ⊤}
 use Rattle.std.specs.List.{list_any}
@@ -11,7 +11,8 @@ use Rattle.bus_due.specs.disk_array.specs.Execution.{Reply, is_request_sense}
 use Rattle.bus_due.specs.disk_array.specs.Processes.{Process, process_of, same_id}
 use Rattle.bus_due.specs.disk_array.specs.SoundArray.{IsSound}
 use Rattle.bus_due.specs.disk_array.specs.Steps.{process_count, running_if, running_process, has_ended}
-use Rattle.bus_due.specs.disk_array.specs.Units.{RunningProcess, UnitState, Array, unit_state_at, guest_at, is_held, without_reply}
+use Rattle.bus_due.specs.disk_array.specs.Units.{RunningProcess, UnitState, Array, unit_state_at, guest_at, is_held}
+use Rattle.bus_due.specs.disk_array.specs.Units.{without_reply}
 use Rattle.bus_due.specs.bus_dialogue.specs.declared.exchange.Cause.{Cause}
 use Rattle.bus_due.specs.bus_dialogue.specs.declared.exchange.Messages.{Messages}
 use Rattle.bus_due.specs.bus_dialogue.specs.declared.exchange.Next.{Next}
@@ -125,7 +126,8 @@ pub record AnsweredOpen (a : Array) (id : ProcId) : Type 0 where
   pub answered : IsAnswered a id
   pub open_is : has_ended a id ≡ false
 
--- It will be disconnected, and stands in a queue, or has ended once its initiator takes COMMAND COMPLETE (6.6.5, 6.6.6).
+-- It will be disconnected, and stands in a queue, or has ended once its initiator takes COMMAND COMPLETE (6.6.5,
+-- 6.6.6).
 pub data Closes (a : Array) (p : Process) (m : Messages) : Type 0 where
   completes : m ≡ one_message to_initiator.CommandComplete → AnsweredOpen a p.id → Closes a p m
   disconnects : TellNoEnd m → IsAtRest a p.id → has_ended a p.id ≡ false → is_queued a.units p.id ≡ true → Closes a p m
@@ -177,7 +179,8 @@ pub record HasPlaces (s : ScenarioValue) (k : RunState) : Type 0 where
   pub unserved : k.story.bus_state.connection ≡ None → k.served ≡ None
   pub sent : (id : ProcId) → k.served ≡ Some (process id) → has_item k.story.sent.sent (process id) ≡ true
   pub of_scenario : (id : ProcId) → k.served ≡ Some (process id) → (p : Process) × (process_of s id ≡ Some p)
-  pub placed : (n : Connection) → k.story.bus_state.connection ≡ Some n → (bus_of k).rst ≡ false → (p : Process) → process_served s k ≡ Some p
+  pub placed : (n : Connection) → k.story.bus_state.connection ≡ Some n
+      → (bus_of k).rst ≡ false → (p : Process) → process_served s k ≡ Some p
       → PlacedIf k.exchange.begun array p k.exchange.plan k.handshakes (bus_of k).atn (phase_of (bus_of k))
 
 abbrev pub PlaceFacts : ScenarioValue → List Row → Type 0

@@ -1,6 +1,6 @@
--- What the target of a connection knows of the process that it serves is what the rows tell of it: whether it has a reply, and by
--- which code it fails; and the last message tells how the connection ends as the target means it. So each end shows the events
--- that the rows show (6.1.6, 6.6, 7.3).
+-- What the target of a connection knows of the process that it serves is what the rows tell of it: whether it has a
+-- reply, and by which code it fails; and the last message tells how the connection ends as the target means it. So each
+-- end shows the events that the rows show (6.1.6, 6.6, 7.3).
 use Rattle.std.specs.Prelude.{ℕ, ◌≡◌, ◌⊎◌, Bool, true, false, List, ◌∷◌, Option, Some, None, is_some, ⊤}
 use Rattle.bus_due.specs.bus_base.specs.declared.ProcId.{ProcId}
 use Rattle.bus_due.specs.bus_trace.specs.declared.connection.Connection.{Connection}
@@ -56,7 +56,8 @@ FailsBefore c nexts.GoOn = c.failure ≡ None
 FailsBefore c nexts.Status = is_marked c ≡ true
 FailsBefore c _ = ⊤
 
--- A struck byte of COMMAND and DATA OUT is known to the target; one of DATA IN to the initiator, which raises ATN (6.6.10).
+-- A struck byte of COMMAND and DATA OUT is known to the target; one of DATA IN to the initiator, which raises ATN
+-- (6.6.10).
 abbrev pub FailsIn : Plan → Bool → CarriedBytes → Phase → Type 0
 FailsIn p attention c phases.Command = (c.struck ≡ p.struck) × (c.failure ≡ code_if p.struck PARITY_ERROR)
 FailsIn p attention c phases.DataOut = c.failure ≡ code_if p.struck PARITY_ERROR
@@ -86,16 +87,20 @@ LastIn p attention last _ = ⊤
 -- A process of the scenario; or an abort of the two ends, all of whose connection is MESSAGE OUT.
 pub data IsServed (s : ScenarioValue) (k : RunState) (n : Connection) : Type 0 where
   of_process : (id : ProcId) (p : Process) → k.served ≡ Some (process id) → process_of s id ≡ Some p → IsServed s k n
-  of_abort : (m : ℕ) (a : AbortDef) → k.served ≡ Some (abort m) → abort_line_at s.aborts m ≡ Some a → a.host ≡ n.initiator → a.target ≡ n.target → n.reselected ≡ false
-      → (k.exchange.begun ≡ true → (phase_of (bus_of k) ≡ phases.MessageOut) × (k.exchange.plan.cause ≡ causes.Selected)) → IsServed s k n
+  of_abort : (m : ℕ) (a : AbortDef) → k.served ≡ Some (abort m) → abort_line_at s.aborts m ≡ Some a
+      → a.host ≡ n.initiator → a.target ≡ n.target → n.reselected ≡ false → (k.exchange.begun ≡ true
+      → (phase_of (bus_of k) ≡ phases.MessageOut) × (k.exchange.plan.cause ≡ causes.Selected)) → IsServed s k n
 
 -- ---- a connection, as its present phase is left
 
 pub record Tells (s : ScenarioValue) (k : RunState) (n : Connection) : Type 0 where
   pub served : IsServed s k n
-  pub failure : (id : ProcId) → item_of k.story.link ≡ Some (process id) → FailsIn k.exchange.plan (bus_of k).atn (carried_here k id) (phase_of (bus_of k))
+  pub failure : (id : ProcId) → item_of k.story.link ≡ Some (process id)
+      → FailsIn k.exchange.plan (bus_of k).atn (carried_here k id) (phase_of (bus_of k))
   -- names that were struck are said again without limit (6.6.13)
-  pub naming : item_of k.story.link ≡ None → ((phase_of (bus_of k) ≡ phases.MessageOut) × (k.exchange.plan.cause ≡ causes.InMessage) × (is_naming k.exchange.plan.messages.first ≡ true)) ⊎ ((phase_of (bus_of k) ≡ phases.MessageIn) × ((bus_of k).atn ≡ true))
+  pub naming : item_of k.story.link ≡ None → ((phase_of (bus_of k) ≡ phases.MessageOut)
+      × (k.exchange.plan.cause ≡ causes.InMessage) × (is_naming k.exchange.plan.messages.first ≡ true))
+      ⊎ ((phase_of (bus_of k) ≡ phases.MessageIn) × ((bus_of k).atn ≡ true))
   pub last : (l : Link) → k.story.link ≡ Some l → LastIn k.exchange.plan (bus_of k).atn l.last (phase_of (bus_of k))
 
 -- The present phase of a connection, which has begun, is left with the row, or the connection ends.
@@ -104,15 +109,16 @@ pub record IsLeaving (s : ScenarioValue) (rows : List Row) (row : Row) (n : Conn
   pub calm : (bus rows).rst ≡ false
   pub calm_after : (bus (row ∷ rows)).rst ≡ false
   pub begun : (run_state s rows).exchange.begun ≡ true
-  pub leaves : (changes_phase (row_reading (run_state s rows).story.bus_state row).change ≡ true) ⊎ ((row_reading (run_state s rows).story.bus_state row).next ≡ None)
+  pub leaves : (changes_phase (row_reading (run_state s rows).story.bus_state row).change ≡ true)
+      ⊎ ((row_reading (run_state s rows).story.bus_state row).next ≡ None)
 
 abbrev pub TellsAsLeft : ScenarioValue → List Row → Row → Type 0
 TellsAsLeft s rows row = (n : Connection) → IsLeaving s rows row n → Tells s (run_state s rows) n
 
 -- What MESSAGE PARITY ERROR brings back with the row agrees in this with what the process has (6.6.13).
 abbrev pub UndoesSame : {A : Type 0} → (CarriedBytes → A) → RunState → Row → Type 0
-UndoesSame what k row =
-    (l : Link) (m : MsgOut) (u : CarriedBytes) → k.story.link ≡ Some l → (row_reading k.story.bus_state row).out ≡ Some m → is_parity_error m ≡ true → l.undo ≡ Some u
+UndoesSame what k row = (l : Link) (m : MsgOut) (u : CarriedBytes) → k.story.link ≡ Some l
+    → (row_reading k.story.bus_state row).out ≡ Some m → is_parity_error m ≡ true → l.undo ≡ Some u
     → what u ≡ what (carried_here k u.id)
 
 -- It has an answer exactly where the process has one.
@@ -125,12 +131,14 @@ UndoesAnswers k row = UndoesSame is_marked k row
 abbrev pub FailsAsLeft : ScenarioValue → List Row → Row → Type 0
 FailsAsLeft s rows row =
     (n : Connection) (id : ProcId) → IsLeaving s rows row n → item_of (run_state s rows).story.link ≡ Some (process id)
-    → FailsIn (run_state s rows).exchange.plan (bus_of (run_state s rows)).atn (carried_here (run_state s rows) id) (phase_of (bus_of (run_state s rows)))
+    → FailsIn (run_state s rows).exchange.plan (bus_of (run_state s rows)).atn (carried_here (run_state s rows) id)
+    (phase_of (bus_of (run_state s rows)))
 
 -- ---- where MESSAGE PARITY ERROR may come, what it brings back agrees with what the process has
 
 abbrev pub UndoFits : {A : Type 0} → (CarriedBytes → A) → RunState → Type 0
-UndoFits what k = (l : Link) (u : CarriedBytes) → k.story.link ≡ Some l → l.undo ≡ Some u → what u ≡ what (carried_here k u.id)
+UndoFits what k =
+    (l : Link) (u : CarriedBytes) → k.story.link ≡ Some l → l.undo ≡ Some u → what u ≡ what (carried_here k u.id)
 
 -- After COMMAND the first message is one of one byte, with which nothing older can be brought back.
 abbrev pub is_short : Option MsgIn → Bool
@@ -153,10 +161,13 @@ UndoBy fits p requests _ = ⊤
 
 pub record UndoBooks {A : Type 0} (what : CarriedBytes → A) (k : RunState) : Type 0 where
   pub unbegun : k.exchange.begun ≡ false → UndoFits what k
-  pub begun : k.exchange.begun ≡ true → UndoBy (UndoFits what k) k.exchange.plan k.handshakes.requests (phase_of (bus_of k))
+  pub begun : k.exchange.begun ≡ true
+      → UndoBy (UndoFits what k) k.exchange.plan k.handshakes.requests (phase_of (bus_of k))
 
 abbrev pub UndoFacts : {A : Type 0} → (CarriedBytes → A) → ScenarioValue → List Row → Type 0
-UndoFacts what s rows = (n : Connection) → connection rows ≡ Some n → (bus rows).rst ≡ false → UndoBooks what (run_state s rows)
+UndoFacts what s rows =
+    (n : Connection) → connection rows ≡ Some n → (bus rows).rst ≡ false → UndoBooks what (run_state s rows)
 
 abbrev pub ServedFacts : ScenarioValue → List Row → Type 0
-ServedFacts s rows = (n : Connection) → connection rows ≡ Some n → (bus rows).rst ≡ false → IsServed s (run_state s rows) n
+ServedFacts s rows =
+    (n : Connection) → connection rows ≡ Some n → (bus rows).rst ≡ false → IsServed s (run_state s rows) n

@@ -1,5 +1,5 @@
--- Which process last sent its unit a byte of the data of writes: one of the scenario that writes there; and the current process of a
--- unit, once it has made a run, until it has its reply (6.1.5.1, 7.8).
+-- Which process last sent its unit a byte of the data of writes: one of the scenario that writes there; and the current
+-- process of a unit, once it has made a run, until it has its reply (6.1.5.1, 7.8).
 use Rattle.std.specs.Prelude.{ℕ, ◌≡◌, ◌==◌, nat_le, true, false, List, [], ◌∷◌, Some, None, ⊤}
 use Rattle.bus_due.specs.bus_base.specs.declared.ProcId.{ProcId}
 use Rattle.bus_due.specs.bus_trace.specs.declared.Row.{Row}
@@ -41,7 +41,8 @@ IsUnrun made p = is_writing p ≡ true → (progress_in made p.id).runs ≡ 0
 -- One that has made a run, and has no reply, last sent its unit a byte.
 abbrev pub IsLastWriter : List ProcessProgress → List Writer → RunningProcess → Type 0
 IsLastWriter made all r =
-    is_writing r.process ≡ true → r.reply ≡ None → ((progress_in made r.process.id).runs == 0) ≡ false → writer_of all r.process.target r.process.unit ≡ Some r.process.id
+    is_writing r.process ≡ true → r.reply ≡ None → ((progress_in made r.process.id).runs == 0) ≡ false
+    → writer_of all r.process.target r.process.unit ≡ Some r.process.id
 
 abbrev pub IsOther : RunningProcess → Process → Type 0
 IsOther r p = same_id p.id r.process.id ≡ false
@@ -68,20 +69,22 @@ pub record IsWriterOf (s : ScenarioValue) (target unit : ℕ) (id : ProcId) : Ty
 
 -- Before the target of a connection knows the command, the process that it serves has made no run.
 abbrev pub IsUnrunServed : ScenarioValue → List Row → Type 0
-IsUnrunServed s rows =
-    (n : Connection) (p : Process) → connection rows ≡ Some n → (bus rows).rst ≡ false → (instructions s rows).known ≡ false → process_served s (run_state s rows) ≡ Some p
+IsUnrunServed s rows = (n : Connection) (p : Process) → connection rows ≡ Some n → (bus rows).rst ≡ false
+    → (instructions s rows).known ≡ false → process_served s (run_state s rows) ≡ Some p
     → (progress_in (run_state s rows).progress p.id).runs ≡ 0
 
 -- In DATA OUT, once a byte has come, the process that is served last sent one.
 abbrev pub IsPresentWriter : ScenarioValue → List Row → Type 0
-IsPresentWriter s rows =
-    (n : Connection) (p : Process) → connection rows ≡ Some n → (bus rows).rst ≡ false → (run_state s rows).exchange.begun ≡ true
-    → phase_of (bus_of (run_state s rows)) ≡ phases.DataOut → process_served s (run_state s rows) ≡ Some p
-    → ((run_state s rows).handshakes.answers == 0) ≡ false → writer_of (writers s rows) p.target p.unit ≡ Some p.id
+IsPresentWriter s rows = (n : Connection) (p : Process) → connection rows ≡ Some n → (bus rows).rst ≡ false
+    → (run_state s rows).exchange.begun ≡ true → phase_of (bus_of (run_state s rows)) ≡ phases.DataOut
+    → process_served s (run_state s rows) ≡ Some p → ((run_state s rows).handshakes.answers == 0) ≡ false
+    → writer_of (writers s rows) p.target p.unit ≡ Some p.id
 
 pub record WriteFacts (s : ScenarioValue) (rows : List Row) : Type 0 where
-  pub whose : (target unit : ℕ) (id : ProcId) → writer_of (writers s rows) target unit ≡ Some id → IsWriterOf s target unit id
-  pub units : AllUnits (IsWrittenUnit (run_state s rows).progress (writers s rows)) (array_of s (run_state s rows)).units
+  pub whose : (target unit : ℕ) (id : ProcId) → writer_of (writers s rows) target unit ≡ Some id
+      → IsWriterOf s target unit id
+  pub units : AllUnits (IsWrittenUnit (run_state s rows).progress (writers s rows))
+      (array_of s (run_state s rows)).units
   pub reset : (bus rows).rst ≡ true → AllUnits IsEmptyUnit (array_of s (run_state s rows)).units
   pub unrun : IsUnrunServed s rows
   pub present : IsPresentWriter s rows
@@ -90,10 +93,9 @@ pub record WriteFacts (s : ScenarioValue) (rows : List Row) : Type 0 where
 
 -- In DATA OUT the process that is served is no guest.
 abbrev pub IsNoGuest : ScenarioValue → List Row → Type 0
-IsNoGuest s rows =
-    (n : Connection) (p : Process) → connection rows ≡ Some n → (bus rows).rst ≡ false → (run_state s rows).exchange.begun ≡ true
-    → phase_of (bus_of (run_state s rows)) ≡ phases.DataOut → process_served s (run_state s rows) ≡ Some p
-    → guest_at (array_of s (run_state s rows)).guests p.id ≡ None
+IsNoGuest s rows = (n : Connection) (p : Process) → connection rows ≡ Some n → (bus rows).rst ≡ false
+    → (run_state s rows).exchange.begun ≡ true → phase_of (bus_of (run_state s rows)) ≡ phases.DataOut
+    → process_served s (run_state s rows) ≡ Some p → guest_at (array_of s (run_state s rows)).guests p.id ≡ None
 
 -- Of a run that has bytes all were answered.
 pub record IsAnsweredWhole (s : ScenarioValue) (k : RunState) (p : Process) (t : Task) : Type 0 where
@@ -103,15 +105,19 @@ pub record IsAnsweredWhole (s : ScenarioValue) (k : RunState) (p : Process) (t :
 
 -- Under RST a connection that still stands is in DATA IN only for a process that does not write.
 abbrev pub ReadsUnderRst : ScenarioValue → List Row → Type 0
-ReadsUnderRst s rows =
-    (n : Connection) (p : Process) → connection rows ≡ Some n → (bus rows).rst ≡ true → (run_state s rows).exchange.begun ≡ true
-    → phase_of (bus_of (run_state s rows)) ≡ phases.DataIn → process_served s (run_state s rows) ≡ Some p → is_writing p ≡ false
+ReadsUnderRst s rows = (n : Connection) (p : Process) → connection rows ≡ Some n → (bus rows).rst ≡ true
+    → (run_state s rows).exchange.begun ≡ true → phase_of (bus_of (run_state s rows)) ≡ phases.DataIn
+    → process_served s (run_state s rows) ≡ Some p → is_writing p ≡ false
 
--- Data move for a process that runs; the units keep the size of their blocks; and as DATA OUT is left with no byte struck its run was
--- answered whole.
+-- Data move for a process that runs; the units keep the size of their blocks; and as DATA OUT is left with no byte
+-- struck its run was answered whole.
 pub record WritesAsked (s : ScenarioValue) (rows : List Row) (row : Row) : Type 0 where
   pub placed : ArePlaced s rows
   pub guests : IsNoGuest s rows
   pub resets : ReadsUnderRst s rows
   pub sizes : (p : Process) → process_served s (run_state s rows) ≡ Some p → is_of_size s (run_state s rows) p ≡ true
-  pub answered : (n : Connection) (p : Process) (t : Task) → connection rows ≡ Some n → (bus rows).rst ≡ false → (bus (row ∷ rows)).rst ≡ false → connection (row ∷ rows) ≡ Some n → begun rows ≡ true → changes_phase (change_of rows row) ≡ true → phase_of (bus_of (run_state s rows)) ≡ phases.DataOut → (run_state s rows).exchange.plan.struck ≡ false → process_served s (run_state s rows) ≡ Some p → task_of s (run_state s rows) ≡ Some t → IsAnsweredWhole s (run_state s rows) p t
+  pub answered : (n : Connection) (p : Process) (t : Task) → connection rows ≡ Some n → (bus rows).rst ≡ false
+      → (bus (row ∷ rows)).rst ≡ false → connection (row ∷ rows) ≡ Some n → begun rows ≡ true
+      → changes_phase (change_of rows row) ≡ true → phase_of (bus_of (run_state s rows)) ≡ phases.DataOut
+      → (run_state s rows).exchange.plan.struck ≡ false → process_served s (run_state s rows) ≡ Some p
+      → task_of s (run_state s rows) ≡ Some t → IsAnsweredWhole s (run_state s rows) p t

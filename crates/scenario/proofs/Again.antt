@@ -1,5 +1,6 @@
 -- What is written is read again: texts.
-use Rattle.std.proofs.Common.{◌≡◌, ℕ, ◌+◌, Bool, true, false, cond, ◌&&◌, List, [], ◌∷◌, ◌++◌, Option, Some, None, Result, Ok, Err, refl, sym, ap, subst, ◌∙◌, arith, append_assoc}
+use Rattle.std.proofs.Common.{◌≡◌, ℕ, ◌+◌, Bool, true, false, cond, ◌&&◌, List, [], ◌∷◌, ◌++◌, Option, Some, None}
+use Rattle.std.proofs.Common.{Result, Ok, Err, refl, sym, ap, subst, ◌∙◌, arith, append_assoc}
 use Rattle.std.specs.Prelude.{◌==◌, decimal, codes}
 use Rattle.std.specs.List.{list_all, flat_map, AllByRecursion}
 use Rattle.std.specs.Char.{is_ascii_digit}
@@ -18,9 +19,14 @@ use Rattle.scenario.specs.declared.form.TagForm.TheVariants as tags
 use Rattle.scenario.specs.declared.form.WhatForm.{WhatForm}
 use Rattle.scenario.specs.declared.form.WhatForm.TheVariants as whats
 use Rattle.scenario.specs.Parts.{PayloadSaid, no_bytes, these_bytes, bytes_from}
-use Rattle.scenario.specs.Forms.{Said, scsi_line, initiator_line, target_line, unit_line, fill_line, cmd_line, abort_line, reset_line, fault_line, end_line}
-use Rattle.scenario.specs.Reading.{Progress, is_printable, line_after, said_after, read_from, and_then, is_end, is_skipped, ◌>>=◌}
-use Rattle.scenario.specs.Writing.{numbered, flag_text, scsi_text, policy_text, pick_text, tag_text, payload_text, what_text, host_sync_text, initiator_text, target_seek_text, target_disc_text, target_text, unit_text, fill_text, cmd_tag_text, cmd_text, abort_text, reset_text, fault_text, said_text, said_line, built}
+use Rattle.scenario.specs.Forms.{Said, scsi_line, initiator_line, target_line, unit_line, fill_line, cmd_line}
+use Rattle.scenario.specs.Forms.{abort_line, reset_line, fault_line, end_line}
+use Rattle.scenario.specs.Reading.{Progress, is_printable, line_after, said_after, read_from, and_then, is_end}
+use Rattle.scenario.specs.Reading.{is_skipped, ◌>>=◌}
+use Rattle.scenario.specs.Writing.{numbered, flag_text, scsi_text, policy_text, pick_text, tag_text, payload_text}
+use Rattle.scenario.specs.Writing.{what_text, host_sync_text, initiator_text, target_seek_text, target_disc_text}
+use Rattle.scenario.specs.Writing.{target_text, unit_text, fill_text, cmd_tag_text, cmd_text, abort_text, reset_text}
+use Rattle.scenario.specs.Writing.{fault_text, said_text, said_line, built}
 use Rattle.scenario.proofs.PartsAgain.{IsSmall, IsSmallPolicy, IsSmallTag, IsSpelledPayload, IsSmallWhat}
 use Rattle.scenario.proofs.FormsAgain.{IsSpelled, form_again}
 use Rattle.text_words.proofs.FirstFeed.{ended_line}
@@ -30,10 +36,12 @@ use Rattle.text_words.proofs.FirstFeed.{ended_line}
 abbrev Prints : List ℕ → Type 0
 Prints xs = list_all is_printable xs ≡ true
 
-passes-weaker : (p q : ℕ → Bool) → ((x : ℕ) → p x ≡ true → q x ≡ true) → (xs : List ℕ) → list_all p xs ≡ true → list_all q xs ≡ true
+passes-weaker : (p q : ℕ → Bool) → ((x : ℕ) → p x ≡ true → q x ≡ true) → (xs : List ℕ) → list_all p xs ≡ true
+    → list_all q xs ≡ true
 passes-weaker p q f [] h = refl
 passes-weaker p q f (x ∷ xs) h = go (p x) refl h (passes-weaker p q f xs) where
-  go : (b : Bool) → p x ≡ b → (b && list_all p xs) ≡ true → (list_all p xs ≡ true → list_all q xs ≡ true) → (q x && list_all q xs) ≡ true
+  go : (b : Bool) → p x ≡ b → (b && list_all p xs) ≡ true → (list_all p xs ≡ true → list_all q xs ≡ true)
+      → (q x && list_all q xs) ≡ true
   go true e h ih = rw (f x e) (ih h)
   go false e h ih = absurd cc
 
@@ -51,7 +59,8 @@ join xs ys a b = list_all-append is_printable xs ys ∙ (λ t. a t && b t)
 
 numbered_prints : (text : List ℕ) (u : Number) → Prints text → IsSmall u → Prints (numbered text u)
 numbered_prints text None p h = absurd h
-numbered_prints text (Some n) p h = join text (decimal n) p (passes-weaker is_ascii_digit is_printable digit_prints (decimal n) (decimal_passes n h))
+numbered_prints text (Some n) p h =
+    join text (decimal n) p (passes-weaker is_ascii_digit is_printable digit_prints (decimal n) (decimal_passes n h))
 
 flag_prints : (text : List ℕ) (o : Option Bool) → Prints text → Prints (flag_text text o)
 flag_prints text None p = refl
@@ -92,7 +101,8 @@ scsi_prints v = go (v == 2) where
   go false = refl
 
 pub said_prints : (x : Said) → IsSpelled x → list_all is_printable (said_text x) ≡ true
-unfolding initiator_text host_sync_text target_text target_disc_text target_seek_text unit_text fill_text cmd_text cmd_tag_text abort_text reset_text fault_text
+unfolding initiator_text host_sync_text target_text target_disc_text target_seek_text unit_text fill_text cmd_text
+    cmd_tag_text abort_text reset_text fault_text
 said_prints (scsi_line v) h = scsi_prints v
 said_prints (initiator_line f) h =
     let r7 : List ℕ = flag_text (codes " offers ") f.offers in
@@ -102,13 +112,17 @@ said_prints (initiator_line f) h =
     let r5 : List ℕ = numbered (codes " ") f.offset ++ r6 in
     let p5 : Prints r5 = join (numbered (codes " ") f.offset) r6 (numbered_prints (codes " ") f.offset refl h.5) p6 in
     let r4 : List ℕ = numbered (codes " sync ") f.period ++ r5 in
-    let p4 : Prints r4 = join (numbered (codes " sync ") f.period) r5 (numbered_prints (codes " sync ") f.period refl h.4) p5 in
+    let p4 : Prints r4 = join (numbered (codes " sync ") f.period) r5
+    (numbered_prints (codes " sync ") f.period refl h.4) p5 in
     let r3 : List ℕ = numbered (codes " retries ") f.retries ++ r4 in
-    let p3 : Prints r3 = join (numbered (codes " retries ") f.retries) r4 (numbered_prints (codes " retries ") f.retries refl h.3) p4 in
+    let p3 : Prints r3 = join (numbered (codes " retries ") f.retries) r4
+    (numbered_prints (codes " retries ") f.retries refl h.3) p4 in
     let r2 : List ℕ = numbered (codes " open ") f.«open» ++ r3 in
-    let p2 : Prints r2 = join (numbered (codes " open ") f.«open») r3 (numbered_prints (codes " open ") f.«open» refl h.2) p3 in
+    let p2 : Prints r2 = join (numbered (codes " open ") f.«open») r3
+    (numbered_prints (codes " open ") f.«open» refl h.2) p3 in
     let r1 : List ℕ = numbered (codes " latency ") f.latency ++ r2 in
-    let p1 : Prints r1 = join (numbered (codes " latency ") f.latency) r2 (numbered_prints (codes " latency ") f.latency refl h.1) p2 in
+    let p1 : Prints r1 = join (numbered (codes " latency ") f.latency) r2
+    (numbered_prints (codes " latency ") f.latency refl h.1) p2 in
     join (numbered (codes "initiator ") f.device) r1 (numbered_prints (codes "initiator ") f.device refl h.0) p1
 said_prints (target_line f) h =
     let r10 : List ℕ = flag_text (codes " begins ") f.begins in
@@ -116,9 +130,11 @@ said_prints (target_line f) h =
     let r9 : List ℕ = numbered (codes " ") f.offset ++ r10 in
     let p9 : Prints r9 = join (numbered (codes " ") f.offset) r10 (numbered_prints (codes " ") f.offset refl h.6) p10 in
     let r8 : List ℕ = numbered (codes " sync ") f.period ++ r9 in
-    let p8 : Prints r8 = join (numbered (codes " sync ") f.period) r9 (numbered_prints (codes " sync ") f.period refl h.5) p9 in
+    let p8 : Prints r8 = join (numbered (codes " sync ") f.period) r9
+    (numbered_prints (codes " sync ") f.period refl h.5) p9 in
     let r7 : List ℕ = numbered (codes " seek ") f.seek ++ r8 in
-    let p7 : Prints r7 = join (numbered (codes " seek ") f.seek) r8 (numbered_prints (codes " seek ") f.seek refl h.4) p8 in
+    let p7 : Prints r7 = join (numbered (codes " seek ") f.seek) r8
+    (numbered_prints (codes " seek ") f.seek refl h.4) p8 in
     let r6 : List ℕ = pick_text f.pick ++ r7 in
     let p6 : Prints r6 = join (pick_text f.pick) r7 (pick_prints f.pick) p7 in
     let r5 : List ℕ = codes " pick " ++ r6 in
@@ -128,17 +144,21 @@ said_prints (target_line f) h =
     let r3 : List ℕ = codes " disc " ++ r4 in
     let p3 : Prints r3 = p4 in
     let r2 : List ℕ = numbered (codes " retries ") f.retries ++ r3 in
-    let p2 : Prints r2 = join (numbered (codes " retries ") f.retries) r3 (numbered_prints (codes " retries ") f.retries refl h.2) p3 in
+    let p2 : Prints r2 = join (numbered (codes " retries ") f.retries) r3
+    (numbered_prints (codes " retries ") f.retries refl h.2) p3 in
     let r1 : List ℕ = numbered (codes " latency ") f.latency ++ r2 in
-    let p1 : Prints r1 = join (numbered (codes " latency ") f.latency) r2 (numbered_prints (codes " latency ") f.latency refl h.1) p2 in
+    let p1 : Prints r1 = join (numbered (codes " latency ") f.latency) r2
+    (numbered_prints (codes " latency ") f.latency refl h.1) p2 in
     join (numbered (codes "target ") f.device) r1 (numbered_prints (codes "target ") f.device refl h.0) p1
 said_prints (unit_line f) h =
     let r4 : List ℕ = numbered (codes " depth ") f.depth in
     let p4 : Prints r4 = numbered_prints (codes " depth ") f.depth refl h.4 in
     let r3 : List ℕ = numbered (codes " size ") f.size ++ r4 in
-    let p3 : Prints r3 = join (numbered (codes " size ") f.size) r4 (numbered_prints (codes " size ") f.size refl h.3) p4 in
+    let p3 : Prints r3 = join (numbered (codes " size ") f.size) r4
+    (numbered_prints (codes " size ") f.size refl h.3) p4 in
     let r2 : List ℕ = numbered (codes " blocks ") f.blocks ++ r3 in
-    let p2 : Prints r2 = join (numbered (codes " blocks ") f.blocks) r3 (numbered_prints (codes " blocks ") f.blocks refl h.2) p3 in
+    let p2 : Prints r2 = join (numbered (codes " blocks ") f.blocks) r3
+    (numbered_prints (codes " blocks ") f.blocks refl h.2) p3 in
     let r1 : List ℕ = numbered (codes " ") f.unit ++ r2 in
     let p1 : Prints r1 = join (numbered (codes " ") f.unit) r2 (numbered_prints (codes " ") f.unit refl h.1) p2 in
     join (numbered (codes "unit ") f.target) r1 (numbered_prints (codes "unit ") f.target refl h.0) p1
@@ -196,7 +216,9 @@ said_prints end_line h = refl
 
 -- ---- a written line is one line
 
-line_step : (b : ℕ) (text rest : List ℕ) (q : Bool) → is_printable b ≡ q → (list_all is_printable text ≡ true → lines_of (text ++ 10 ∷ rest) ≡ ended_line text ∷ lines_of rest) → (q && list_all is_printable text) ≡ true
+line_step : (b : ℕ) (text rest : List ℕ) (q : Bool) → is_printable b ≡ q
+    → (list_all is_printable text ≡ true → lines_of (text ++ 10 ∷ rest) ≡ ended_line text ∷ lines_of rest)
+    → (q && list_all is_printable text) ≡ true
     → lines_of (b ∷ (text ++ 10 ∷ rest)) ≡ ended_line (b ∷ text) ∷ lines_of rest
 line_step b text rest true e ih h =
     let other : (b == 10) ≡ false = grind (arith, nat_tests) in
@@ -204,7 +226,8 @@ line_step b text rest true e ih h =
     start ∙ ap (onto b) (ih h)
 line_step b text rest false e ih h = absurd cc
 
-pub line_again : (text rest : List ℕ) → list_all is_printable text ≡ true → lines_of (text ++ 10 ∷ rest) ≡ ended_line text ∷ lines_of rest
+pub line_again : (text rest : List ℕ) → list_all is_printable text ≡ true
+    → lines_of (text ++ 10 ∷ rest) ≡ ended_line text ∷ lines_of rest
 line_again [] rest h = refl
 line_again (b ∷ text) rest h = line_step b text rest (is_printable b) refl (line_again text rest) h
 
@@ -215,7 +238,8 @@ scsi_not_skipped v = go (v == 2) where
   go false = refl
 
 not_skipped : (x : Said) → is_skipped (said_text x) ≡ false
-unfolding initiator_text host_sync_text target_text target_disc_text target_seek_text unit_text fill_text cmd_text cmd_tag_text abort_text reset_text fault_text
+unfolding initiator_text host_sync_text target_text target_disc_text target_seek_text unit_text fill_text cmd_text
+    cmd_tag_text abort_text reset_text fault_text
 not_skipped (scsi_line v) = scsi_not_skipped v
 not_skipped (initiator_line f) = refl
 not_skipped (target_line f) = refl
@@ -242,18 +266,25 @@ done d = Ok d
 ok_is : (d e : Progress) → done d ≡ done e → d ≡ e
 ok_is d e h = cc
 
-step_on : (n : ℕ) (r : Result Progress ℕ) (xs : List Said) (lines : List Line) (e : Progress) → (r >>= λ d. built d xs) ≡ Ok e → ((d : Progress) → built d xs ≡ Ok e → read_from d (n + 1) lines ≡ Ok e.scenario)
+step_on : (n : ℕ) (r : Result Progress ℕ) (xs : List Said) (lines : List Line) (e : Progress)
+    → (r >>= λ d. built d xs) ≡ Ok e → ((d : Progress) → built d xs ≡ Ok e → read_from d (n + 1) lines ≡ Ok e.scenario)
     → and_then n r (λ d. read_from d (n + 1) lines) ≡ Ok e.scenario
 step_on n (Ok d) xs lines e h ih = ih d h
 step_on n (Err r) xs lines e h ih = absurd cc
 
 -- A text of lines that have a spelling says what these lines say.
-pub text_again : (xs : List Said) → AreSpelled xs → (d e : Progress) (n : ℕ) → built d xs ≡ Ok e → is_end e.last ≡ true → read_from d n (lines_of (flat_map said_line xs)) ≡ Ok e.scenario
+pub text_again : (xs : List Said) → AreSpelled xs → (d e : Progress) (n : ℕ) → built d xs ≡ Ok e → is_end e.last ≡ true
+    → read_from d n (lines_of (flat_map said_line xs)) ≡ Ok e.scenario
 unfolding read_from
-text_again [] h d e n b end = subst (λ (x : Progress). read_from x n [] ≡ Ok e.scenario) (sym (ok_is d e b)) (rw end refl)
+text_again [] h d e n b end =
+    subst (λ (x : Progress). read_from x n [] ≡ Ok e.scenario) (sym (ok_is d e b)) (rw end refl)
 text_again (x ∷ xs) h d e n b end =
     let rest : List ℕ = flat_map said_line xs in
     let parts : flat_map said_line (x ∷ xs) ≡ said_text x ++ 10 ∷ rest = append_assoc (said_text x) (10 ∷ []) rest in
-    let cut : lines_of (flat_map said_line (x ∷ xs)) ≡ ended_line (said_text x) ∷ lines_of rest = ap lines_of parts ∙ line_again (said_text x) rest (said_prints x h.0) in
-    let first : read_from d n (ended_line (said_text x) ∷ lines_of rest) ≡ and_then n (said_after d x) (λ (f : Progress). read_from f (n + 1) (lines_of rest)) = ap (λ (r : Result Progress ℕ). and_then n r (λ f. read_from f (n + 1) (lines_of rest))) (line_after_said d x h.0) in
-    ap (read_from d n) cut ∙ first ∙ step_on n (said_after d x) xs (lines_of rest) e b (λ f c. text_again xs h.1 f e (n + 1) c end)
+    let cut : lines_of (flat_map said_line (x ∷ xs)) ≡ ended_line (said_text x) ∷ lines_of rest = ap lines_of parts
+    ∙ line_again (said_text x) rest (said_prints x h.0) in
+    let first : read_from d n (ended_line (said_text x) ∷ lines_of rest)
+    ≡ and_then n (said_after d x) (λ (f : Progress). read_from f (n + 1) (lines_of rest)) = ap
+    (λ (r : Result Progress ℕ). and_then n r (λ f. read_from f (n + 1) (lines_of rest))) (line_after_said d x h.0) in
+    ap (read_from d n) cut ∙ first
+    ∙ step_on n (said_after d x) xs (lines_of rest) e b (λ f c. text_again xs h.1 f e (n + 1) c end)

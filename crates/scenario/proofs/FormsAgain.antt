@@ -1,5 +1,6 @@
 -- What is written is read again: lines.
-use Rattle.std.proofs.Common.{◌≡◌, ℕ, ◌<◌, ◌⊎◌, inl, inr, Bool, true, false, List, ◌++◌, length, Option, Some, None, refl, sym, ap, subst, arith}
+use Rattle.std.proofs.Common.{◌≡◌, ℕ, ◌<◌, ◌⊎◌, inl, inr, Bool, true, false, List, ◌++◌, length, Option, Some, None}
+use Rattle.std.proofs.Common.{refl, sym, ap, subst, arith}
 use Rattle.std.specs.Prelude.{codes, ◌==◌, ◌||◌}
 use Rattle.text_words.specs.Words.{after}
 use Rattle.text_words.specs.Spelling.{hex_text, AreBytes}
@@ -11,9 +12,17 @@ use Rattle.scenario.specs.declared.form.AbortForm.{AbortForm}
 use Rattle.scenario.specs.declared.form.ResetForm.{ResetForm}
 use Rattle.scenario.specs.declared.form.FaultForm.{FaultForm}
 use Rattle.scenario.specs.Parts.{or, numbered_at, exactly_at}
-use Rattle.scenario.specs.Forms.{Said, FillSaid, CmdSaid, scsi_line, initiator_line, target_line, unit_line, fill_line, cmd_line, abort_line, reset_line, fault_line, end_line, scsi_at, initiator_at, target_at, unit_at, fill_at, cmd_at, abort_at, reset_at, fault_at, end_at, form_of}
-use Rattle.scenario.specs.Writing.{numbered, flag_text, policy_text, pick_text, tag_text, payload_text, what_text, host_sync_text, initiator_text, target_seek_text, target_disc_text, target_text, unit_text, fill_text, cmd_tag_text, cmd_text, abort_text, reset_text, fault_text, said_text}
-use Rattle.scenario.proofs.PartsAgain.{IsSmall, IsSmallPolicy, IsSmallTag, IsSpelledPayload, IsSmallWhat, numbered_again, numbered_last, offers_again, begins_again, offers_ends, begins_ends, policy_again, pick_again, tag_again, hex_last, payload_again, what_again}
+use Rattle.scenario.specs.Forms.{Said, FillSaid, CmdSaid, scsi_line, initiator_line, target_line, unit_line, fill_line}
+use Rattle.scenario.specs.Forms.{cmd_line, abort_line, reset_line, fault_line, end_line, scsi_at, initiator_at}
+use Rattle.scenario.specs.Forms.{target_at, unit_at, fill_at, cmd_at, abort_at, reset_at, fault_at, end_at, form_of}
+use Rattle.scenario.specs.Writing.{numbered, flag_text, policy_text, pick_text, tag_text, payload_text, what_text}
+use Rattle.scenario.specs.Writing.{host_sync_text, initiator_text, target_seek_text, target_disc_text, target_text}
+use Rattle.scenario.specs.Writing.{unit_text, fill_text, cmd_tag_text, cmd_text, abort_text, reset_text, fault_text}
+use Rattle.scenario.specs.Writing.{said_text}
+use Rattle.scenario.proofs.PartsAgain.{IsSmall, IsSmallPolicy, IsSmallTag, IsSpelledPayload, IsSmallWhat}
+use Rattle.scenario.proofs.PartsAgain.{numbered_again, numbered_last, offers_again, begins_again, offers_ends}
+use Rattle.scenario.proofs.PartsAgain.{begins_ends, policy_again, pick_again, tag_again, hex_last, payload_again}
+use Rattle.scenario.proofs.PartsAgain.{what_again}
 
 -- Its version is 1 or 2.
 abbrev pub IsVersion : ℕ → Type 0
@@ -22,17 +31,21 @@ IsVersion v = (v == 1 || v == 2) ≡ true
 -- What has a spelling.
 abbrev pub IsSpelled : Said → Type 0
 IsSpelled (scsi_line v) = IsVersion v
-IsSpelled (initiator_line f) = IsSmall f.device × IsSmall f.latency × IsSmall f.«open» × IsSmall f.retries × IsSmall f.period × IsSmall f.offset × IsSmall f.lag
-IsSpelled (target_line f) = IsSmall f.device × IsSmall f.latency × IsSmall f.retries × IsSmallPolicy f.disc × IsSmall f.seek × IsSmall f.period × IsSmall f.offset
+IsSpelled (initiator_line f) = IsSmall f.device × IsSmall f.latency × IsSmall f.«open» × IsSmall f.retries
+    × IsSmall f.period × IsSmall f.offset × IsSmall f.lag
+IsSpelled (target_line f) = IsSmall f.device × IsSmall f.latency × IsSmall f.retries × IsSmallPolicy f.disc
+    × IsSmall f.seek × IsSmall f.period × IsSmall f.offset
 IsSpelled (unit_line f) = IsSmall f.target × IsSmall f.unit × IsSmall f.blocks × IsSmall f.size × IsSmall f.depth
 IsSpelled (fill_line f) = IsSmall f.target × IsSmall f.unit × IsSmall f.lba × AreBytes f.bytes × (0 < length f.bytes)
-IsSpelled (cmd_line c) = IsSmall c.host × IsSmall c.target × IsSmall c.unit × IsSmall c.at × IsSmallTag c.tag × AreBytes c.cdb × (0 < length c.cdb) × IsSpelledPayload c.payload
+IsSpelled (cmd_line c) = IsSmall c.host × IsSmall c.target × IsSmall c.unit × IsSmall c.at × IsSmallTag c.tag
+    × AreBytes c.cdb × (0 < length c.cdb) × IsSpelledPayload c.payload
 IsSpelled (abort_line f) = IsSmall f.host × IsSmall f.target × IsSmall f.unit × IsSmall f.at × IsSmallWhat f.what
 IsSpelled (reset_line f) = IsSmall f.device × IsSmall f.at
 IsSpelled (fault_line f) = IsSmall f.at × IsSmall f.bit
 IsSpelled end_line = Unit {0}
 
-initiator_again : (f : HostForm) → IsSpelled (initiator_line f) → initiator_at (initiator_text f) ≡ Some (initiator_line f)
+initiator_again : (f : HostForm) → IsSpelled (initiator_line f)
+    → initiator_at (initiator_text f) ≡ Some (initiator_line f)
 unfolding initiator_at initiator_text host_sync_text
 initiator_again f h =
     let r7 : List ℕ = flag_text (codes " offers ") f.offers in
@@ -86,7 +99,13 @@ unit_again f h =
     let r3 : List ℕ = numbered (codes " size ") f.size ++ r4 in
     let r2 : List ℕ = numbered (codes " blocks ") f.blocks ++ r3 in
     let r1 : List ℕ = numbered (codes " ") f.unit ++ r2 in
-    rw (numbered_again (codes "unit ") f.target r1 h.0 refl, numbered_again (codes " ") f.unit r2 h.1 refl, numbered_again (codes " blocks ") f.blocks r3 h.2 refl, numbered_again (codes " size ") f.size r4 h.3 refl, numbered_last (codes " depth ") f.depth h.4) refl
+    rw (
+      numbered_again (codes "unit ") f.target r1 h.0 refl,
+      numbered_again (codes " ") f.unit r2 h.1 refl,
+      numbered_again (codes " blocks ") f.blocks r3 h.2 refl,
+      numbered_again (codes " size ") f.size r4 h.3 refl,
+      numbered_last (codes " depth ") f.depth h.4,
+    ) refl
 
 fill_again : (f : FillSaid) → IsSpelled (fill_line f) → fill_at (fill_text f) ≡ Some (fill_line f)
 unfolding fill_at fill_text
@@ -94,7 +113,14 @@ fill_again f h =
     let r3 : List ℕ = codes " " ++ hex_text f.bytes in
     let r2 : List ℕ = numbered (codes " ") f.lba ++ r3 in
     let r1 : List ℕ = numbered (codes " ") f.unit ++ r2 in
-    rw (numbered_again (codes "fill ") f.target r1 h.0 refl, numbered_again (codes " ") f.unit r2 h.1 refl, numbered_again (codes " ") f.lba r3 h.2 refl, after_same (codes " ") (hex_text f.bytes), hex_last f.bytes h.3 h.4, bytes_again f.bytes h.3) refl
+    rw (
+      numbered_again (codes "fill ") f.target r1 h.0 refl,
+      numbered_again (codes " ") f.unit r2 h.1 refl,
+      numbered_again (codes " ") f.lba r3 h.2 refl,
+      after_same (codes " ") (hex_text f.bytes),
+      hex_last f.bytes h.3 h.4,
+      bytes_again f.bytes h.3,
+    ) refl
 
 cmd_again : (c : CmdSaid) → IsSpelled (cmd_line c) → cmd_at (cmd_text c) ≡ Some (cmd_line c)
 unfolding cmd_at cmd_text cmd_tag_text
@@ -128,7 +154,14 @@ abort_again f h =
     let r3 : List ℕ = numbered (codes " at ") f.at ++ r4 in
     let r2 : List ℕ = numbered (codes " ") f.unit ++ r3 in
     let r1 : List ℕ = numbered (codes " ") f.target ++ r2 in
-    rw (numbered_again (codes "abort ") f.host r1 h.0 refl, numbered_again (codes " ") f.target r2 h.1 refl, numbered_again (codes " ") f.unit r3 h.2 refl, numbered_again (codes " at ") f.at r4 h.3 refl, after_same (codes " ") r5, what_again f.what h.4) refl
+    rw (
+      numbered_again (codes "abort ") f.host r1 h.0 refl,
+      numbered_again (codes " ") f.target r2 h.1 refl,
+      numbered_again (codes " ") f.unit r3 h.2 refl,
+      numbered_again (codes " at ") f.at r4 h.3 refl,
+      after_same (codes " ") r5,
+      what_again f.what h.4,
+    ) refl
 
 reset_again : (f : ResetForm) → IsSpelled (reset_line f) → reset_at (reset_text f) ≡ Some (reset_line f)
 unfolding reset_at reset_text
@@ -165,7 +198,9 @@ scsi_again v h = elim (is_version v h) [
 
 -- What has a spelling is read from it.
 pub form_again : (x : Said) → IsSpelled x → form_of (said_text x) ≡ Some x
-unfolding after numbered_at exactly_at scsi_at initiator_at target_at unit_at fill_at cmd_at abort_at reset_at fault_at end_at initiator_text host_sync_text target_text target_disc_text target_seek_text unit_text fill_text cmd_text cmd_tag_text abort_text reset_text fault_text
+unfolding after numbered_at exactly_at scsi_at initiator_at target_at unit_at fill_at cmd_at abort_at reset_at fault_at
+    end_at initiator_text host_sync_text target_text target_disc_text target_seek_text unit_text fill_text cmd_text
+    cmd_tag_text abort_text reset_text fault_text
 form_again (scsi_line v) h = scsi_again v h
 form_again (initiator_line f) h = ap (λ (o : Option Said). or (or o None) None) (initiator_again f h)
 form_again (target_line f) h = ap (λ (o : Option Said). or (or o None) None) (target_again f h)

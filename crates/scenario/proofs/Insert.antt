@@ -16,14 +16,18 @@ again : (b c : Bool) → (b || c) ≡ (b || (b || c))
 again true c = refl
 again false c = refl
 
-insert_step : {K : Type 0} (p : K → Bool) (cmp : K → K → Ordering) → CmpEqualImpliesEq cmp → (k x : K) (xs : List K) (o : Ordering) → cmp k x ≡ o → list_any p (insert_key cmp xs k) ≡ (p k || list_any p xs)
+insert_step : {K : Type 0} (p : K → Bool) (cmp : K → K → Ordering) → CmpEqualImpliesEq cmp
+    → (k x : K) (xs : List K) (o : Ordering) → cmp k x ≡ o → list_any p (insert_key cmp xs k) ≡ (p k || list_any p xs)
     → list_any p (match_ordering o (k ∷ x ∷ xs) (x ∷ xs) (x ∷ insert_key cmp xs k)) ≡ (p k || (p x || list_any p xs))
 insert_step p cmp exact k x xs Less e ih = refl
-insert_step p cmp exact k x xs Equal e ih = let same : p k ≡ p x = ap p (exact k x e) in rw same (again (p x) (list_any p xs))
+insert_step p cmp exact k x xs Equal e ih =
+    let same : p k ≡ p x = ap p (exact k x e) in
+    rw same (again (p x) (list_any p xs))
 insert_step p cmp exact k x xs Greater e ih = ap (λ (b : Bool). p x || b) ih ∙ or_swapped (p x) (p k) (list_any p xs)
 
 -- A key more in a set: one of the keys passes, or one did before.
-pub any-insert_key : {K : Type 0} (p : K → Bool) (cmp : K → K → Ordering) → CmpEqualImpliesEq cmp → (k : K) (xs : List K) → list_any p (insert_key cmp xs k) ≡ (p k || list_any p xs)
+pub any-insert_key : {K : Type 0} (p : K → Bool) (cmp : K → K → Ordering) → CmpEqualImpliesEq cmp
+    → (k : K) (xs : List K) → list_any p (insert_key cmp xs k) ≡ (p k || list_any p xs)
 any-insert_key p cmp exact k [] = refl
 any-insert_key p cmp exact k (x ∷ xs) = insert_step p cmp exact k x xs (cmp k x) refl (any-insert_key p cmp exact k xs)
 
@@ -43,5 +47,7 @@ or_last false true = refl
 or_last false false = refl
 
 -- A fill more in the list.
-pub has-push : (fills : List Fill) (f : Fill) (t u l : ℕ) → has_fill (fills ++ f ∷ []) t u l ≡ (((f.target == t && f.unit == u) && f.lba == l) || has_fill fills t u l)
-has-push fills f t u l = list_any-append (λ (g : Fill). (g.target == t && g.unit == u) && g.lba == l) fills (f ∷ []) ∙ sym (or_last ((f.target == t && f.unit == u) && f.lba == l) (has_fill fills t u l))
+pub has-push : (fills : List Fill) (f : Fill) (t u l : ℕ)
+    → has_fill (fills ++ f ∷ []) t u l ≡ (((f.target == t && f.unit == u) && f.lba == l) || has_fill fills t u l)
+has-push fills f t u l = list_any-append (λ (g : Fill). (g.target == t && g.unit == u) && g.lba == l) fills (f ∷ [])
+    ∙ sym (or_last ((f.target == t && f.unit == u) && f.lba == l) (has_fill fills t u l))

@@ -14,14 +14,20 @@ use Rattle.scenario.specs.declared.value.AbortDef.{AbortDef}
 use Rattle.scenario.specs.declared.value.ResetDef.{ResetDef}
 use Rattle.scenario.specs.declared.value.FaultDef.{FaultDef}
 use Rattle.scenario.specs.Value.{ScenarioValue}
-use Rattle.scenario.specs.Forms.{Said, scsi_line, initiator_line, target_line, unit_line, fill_line, cmd_line, abort_line, reset_line, fault_line, end_line}
-use Rattle.scenario.specs.Reading.{Progress, guard, host_def, target_def, unit_def, fill_def, full_cmd_def, abort_def, reset_def, fault_def, fits_version, added, said_after, in_order, rank, kind_of, nothing, scenario_of, is_end}
-use Rattle.scenario.specs.Writing.{saids, body_of, events_of, text_of, built, Obeys, IsHex, IsHexPayload, said_payload, said_host, said_target, said_unit, said_fill, said_cmd, said_abort, said_reset, said_fault}
+use Rattle.scenario.specs.Forms.{Said, scsi_line, initiator_line, target_line, unit_line, fill_line, cmd_line}
+use Rattle.scenario.specs.Forms.{abort_line, reset_line, fault_line, end_line}
+use Rattle.scenario.specs.Reading.{Progress, guard, host_def, target_def, unit_def, fill_def, full_cmd_def, abort_def}
+use Rattle.scenario.specs.Reading.{reset_def, fault_def, fits_version, added, said_after, in_order, rank, kind_of}
+use Rattle.scenario.specs.Reading.{nothing, scenario_of, is_end}
+use Rattle.scenario.specs.Writing.{saids, body_of, events_of, text_of, built, Obeys, IsHex, IsHexPayload, said_payload}
+use Rattle.scenario.specs.Writing.{said_host, said_target, said_unit, said_fill, said_cmd, said_abort, said_reset}
+use Rattle.scenario.specs.Writing.{said_fault}
 use Rattle.scenario.proofs.FormsAgain.{IsVersion, IsSpelled}
 use Rattle.scenario.proofs.PartsAgain.{IsSpelledPayload}
 use Rattle.scenario.proofs.Again.{AreSpelled, text_again}
 use Rattle.scenario.proofs.Steps.{bind_ok, ok_is, guard_ok}
-use Rattle.scenario.proofs.Declared.{host_declared, target_declared, unit_declared, fill_declared, full_cmd_declared, abort_declared, reset_declared, fault_declared}
+use Rattle.scenario.proofs.Declared.{host_declared, target_declared, unit_declared, fill_declared, full_cmd_declared}
+use Rattle.scenario.proofs.Declared.{abort_declared, reset_declared, fault_declared}
 
 -- What a line tells can be spelled, but for its numbers.
 abbrev pub CanSay : Said → Type 0
@@ -36,17 +42,34 @@ CanSay (reset_line f) = Unit {0}
 CanSay (fault_line f) = Unit {0}
 CanSay end_line = Unit {0}
 
-pub spelled_added : (d e : Progress) (x : Said) → fits_version d.scenario.version x ≡ true → CanSay x → added d x ≡ Ok e → IsSpelled x
+pub spelled_added : (d e : Progress) (x : Said) → fits_version d.scenario.version x ≡ true → CanSay x → added d x ≡ Ok e
+    → IsSpelled x
 unfolding added
 spelled_added d e (scsi_line v) f h ok = h
-spelled_added d e (initiator_line x) f h ok = let a = bind_ok (host_def d.scenario x) _ e ok in (host_declared d.scenario d.scenario.version x a.0 f a.1).spelled
-spelled_added d e (target_line x) f h ok = let a = bind_ok (target_def d.scenario x) _ e ok in (target_declared d.scenario d.scenario.version x a.0 f a.1).spelled
-spelled_added d e (unit_line x) f h ok = let a = bind_ok (unit_def d.scenario x) _ e ok in (unit_declared d.scenario x a.0 a.1).spelled
-spelled_added d e (fill_line x) f h ok = let a = bind_ok (fill_def d.scenario x) _ e ok in (fill_declared d.scenario x a.0 h a.1).spelled
-spelled_added d e (cmd_line x) f h ok = let a = bind_ok (full_cmd_def d.scenario d.needs x) _ e ok in (full_cmd_declared d.scenario d.needs x a.0 h.0 h.1 a.1).spelled
-spelled_added d e (abort_line x) f h ok = let a = bind_ok (abort_def d.scenario x) _ e ok in (abort_declared d.scenario x a.0 a.1).spelled
-spelled_added d e (reset_line x) f h ok = let a = bind_ok (reset_def d.scenario x) _ e ok in (reset_declared d.scenario x a.0 a.1).spelled
-spelled_added d e (fault_line x) f h ok = let a = bind_ok (fault_def d.scenario x) _ e ok in (fault_declared d.scenario x a.0 a.1).spelled
+spelled_added d e (initiator_line x) f h ok =
+    let a = bind_ok (host_def d.scenario x) _ e ok in
+    (host_declared d.scenario d.scenario.version x a.0 f a.1).spelled
+spelled_added d e (target_line x) f h ok =
+    let a = bind_ok (target_def d.scenario x) _ e ok in
+    (target_declared d.scenario d.scenario.version x a.0 f a.1).spelled
+spelled_added d e (unit_line x) f h ok =
+    let a = bind_ok (unit_def d.scenario x) _ e ok in
+    (unit_declared d.scenario x a.0 a.1).spelled
+spelled_added d e (fill_line x) f h ok =
+    let a = bind_ok (fill_def d.scenario x) _ e ok in
+    (fill_declared d.scenario x a.0 h a.1).spelled
+spelled_added d e (cmd_line x) f h ok =
+    let a = bind_ok (full_cmd_def d.scenario d.needs x) _ e ok in
+    (full_cmd_declared d.scenario d.needs x a.0 h.0 h.1 a.1).spelled
+spelled_added d e (abort_line x) f h ok =
+    let a = bind_ok (abort_def d.scenario x) _ e ok in
+    (abort_declared d.scenario x a.0 a.1).spelled
+spelled_added d e (reset_line x) f h ok =
+    let a = bind_ok (reset_def d.scenario x) _ e ok in
+    (reset_declared d.scenario x a.0 a.1).spelled
+spelled_added d e (fault_line x) f h ok =
+    let a = bind_ok (fault_def d.scenario x) _ e ok in
+    (fault_declared d.scenario x a.0 a.1).spelled
 spelled_added d e end_line f h ok = tt
 
 -- The steps of a line that was taken.
@@ -70,7 +93,9 @@ spelled_after d e x h ok = let t = taken d e x ok in spelled_added d t.before x 
 
 are_spelled : (xs : List Said) (d e : Progress) → AllByRecursion CanSay xs → built d xs ≡ Ok e → AreSpelled xs
 are_spelled [] d e h ok = tt
-are_spelled (x ∷ xs) d e h ok = let b = bind_ok (said_after d x) _ e ok in (spelled_after d b.0 x h.0 b.1, are_spelled xs b.0 e h.1 b.2)
+are_spelled (x ∷ xs) d e h ok =
+    let b = bind_ok (said_after d x) _ e ok in
+    (spelled_after d b.0 x h.0 b.1, are_spelled xs b.0 e h.1 b.2)
 
 -- Where the last line is `end`, it was the last one taken.
 ends : (xs : List Said) (d e : Progress) → built d (xs ++ end_line ∷ []) ≡ Ok e → is_end e.last ≡ true
@@ -81,7 +106,8 @@ ends [] d e ok =
     sym (ap (λ (p : Progress). is_end p.last) same)
 ends (x ∷ xs) d e ok = let b = bind_ok (said_after d x) _ e ok in ends xs b.0 e b.2
 
-pub append_all : (P : Said → Type 0) (xs ys : List Said) → AllByRecursion P xs → AllByRecursion P ys → AllByRecursion P (xs ++ ys)
+pub append_all : (P : Said → Type 0) (xs ys : List Said) → AllByRecursion P xs → AllByRecursion P ys
+    → AllByRecursion P (xs ++ ys)
 append_all P [] ys a b = b
 append_all P (x ∷ xs) ys a b = (a.0, append_all P xs ys a.1 b)
 
@@ -106,7 +132,8 @@ payload_can payloads.Nothing h = tt
 payload_can (payloads.Hex bytes) h = h
 payload_can (payloads.From b) h = h
 
-cmds_can : (xs : List CmdDef) → AllByRecursion (λ c. IsHex c.cdb × IsHexPayload c.payload) xs → AllByRecursion CanSay (map said_cmd xs)
+cmds_can : (xs : List CmdDef) → AllByRecursion (λ c. IsHex c.cdb × IsHexPayload c.payload) xs
+    → AllByRecursion CanSay (map said_cmd xs)
 cmds_can [] h = tt
 cmds_can (x ∷ xs) h = (((h.0).0, payload_can x.payload (h.0).1), cmds_can xs h.1)
 
@@ -124,9 +151,13 @@ faults_can (x ∷ xs) = (tt, faults_can xs)
 
 saids_can : (s : ScenarioValue) → Obeys s → AllByRecursion CanSay (saids s)
 saids_can s h =
-    let events : AllByRecursion CanSay (events_of s) = append_all CanSay (map said_cmd s.commands) _ (cmds_can s.commands h.commands) (append_all CanSay (map said_abort s.aborts) _ (aborts_can s.aborts) (append_all CanSay (map said_reset s.resets) _ (resets_can s.resets) (faults_can s.faults))) in
-    let body : AllByRecursion CanSay (body_of s) = append_all CanSay (map (said_host s.version) s.hosts) _ (hosts_can s.version s.hosts) (append_all CanSay (map (said_target s.version) s.targets) _ (targets_can s.version s.targets)
-    (append_all CanSay (map said_unit s.units) _ (units_can s.units) (append_all CanSay (map said_fill s.fills) _ (fills_can s.fills h.fills) events))) in
+    let events : AllByRecursion CanSay (events_of s) = append_all CanSay (map said_cmd s.commands) _
+    (cmds_can s.commands h.commands) (append_all CanSay (map said_abort s.aborts) _ (aborts_can s.aborts)
+    (append_all CanSay (map said_reset s.resets) _ (resets_can s.resets) (faults_can s.faults))) in
+    let body : AllByRecursion CanSay (body_of s) = append_all CanSay (map (said_host s.version) s.hosts) _
+    (hosts_can s.version s.hosts) (append_all CanSay (map (said_target s.version) s.targets) _
+    (targets_can s.version s.targets) (append_all CanSay (map said_unit s.units) _ (units_can s.units)
+    (append_all CanSay (map said_fill s.fills) _ (fills_can s.fills h.fills) events))) in
     (h.version, append_all CanSay (body_of s) (end_line ∷ []) body (tt, tt))
 
 pub read_back : (s : ScenarioValue) → Obeys s → scenario_of (text_of s) ≡ Ok s
@@ -135,4 +166,5 @@ read_back s h =
     let spelled = are_spelled (saids s) nothing b.0 (saids_can s h) b.1 in
     let end = ends (scsi_line s.version ∷ body_of s) nothing b.0 b.1 in
     let limit = h.limit in
-    rw (le-ltb LIMIT (length (text_of s)) limit) (text_again (saids s) spelled nothing b.0 0 b.1 end ∙ ap (λ (t : ScenarioValue). Ok t) (ok_is (b.0).scenario s b.2))
+    rw (le-ltb LIMIT (length (text_of s)) limit)
+    (text_again (saids s) spelled nothing b.0 0 b.1 end ∙ ap (λ (t : ScenarioValue). Ok t) (ok_is (b.0).scenario s b.2))

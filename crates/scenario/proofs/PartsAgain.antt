@@ -1,5 +1,6 @@
 -- What is written is read again: the parts of a line.
-use Rattle.std.proofs.Common.{◌≡◌, ℕ, ◌^◌, ◌<◌, Bool, true, false, List, [], ◌∷◌, ◌++◌, length, Option, Some, None, refl, sym, ap, ◌∙◌, arith, append_assoc}
+use Rattle.std.proofs.Common.{◌≡◌, ℕ, ◌^◌, ◌<◌, Bool, true, false, List, [], ◌∷◌, ◌++◌, length, Option, Some, None}
+use Rattle.std.proofs.Common.{refl, sym, ap, ◌∙◌, arith, append_assoc}
 use Rattle.std.specs.Prelude.{codes}
 use Rattle.std.proofs.lemmas.List.{append-nil}
 use Rattle.bus_base.specs.declared.events.Pick.{Pick}
@@ -13,7 +14,9 @@ use Rattle.scenario.specs.declared.form.TagForm.{TagForm}
 use Rattle.scenario.specs.declared.form.TagForm.TheVariants as tags
 use Rattle.scenario.specs.declared.form.WhatForm.{WhatForm}
 use Rattle.scenario.specs.declared.form.WhatForm.TheVariants as whats
-use Rattle.scenario.specs.Parts.{numbered_at, exactly_at, yes_no_at, flag_at, policy_at, pick_at, tag_at, PayloadSaid, no_bytes, these_bytes, bytes_from, nothing_at, hex_at, from_at, payload_at, what_tag_at, what_at}
+use Rattle.scenario.specs.Parts.{numbered_at, exactly_at, yes_no_at, flag_at, policy_at, pick_at, tag_at, PayloadSaid}
+use Rattle.scenario.specs.Parts.{no_bytes, these_bytes, bytes_from, nothing_at, hex_at, from_at, payload_at}
+use Rattle.scenario.specs.Parts.{what_tag_at, what_at}
 use Rattle.scenario.specs.Writing.{numbered, flag_text, policy_text, pick_text, tag_text, payload_text, what_text}
 
 -- The number has a spelling.
@@ -21,15 +24,17 @@ abbrev pub IsSmall : Number → Type 0
 IsSmall None = ⊥
 IsSmall (Some n) = n < 2 ^ 64
 
-number_text_again : (u : Number) (rest : List ℕ) → IsSmall u → EndsNumber rest → number_at (number_text u ++ rest) ≡ Some (u, rest)
+number_text_again : (u : Number) (rest : List ℕ) → IsSmall u → EndsNumber rest
+    → number_at (number_text u ++ rest) ≡ Some (u, rest)
 number_text_again None rest h e = absurd h
 number_text_again (Some n) rest h e = number_again n rest h e
 
-pub numbered_again : (text : List ℕ) (u : Number) (rest : List ℕ) → IsSmall u → EndsNumber rest → numbered_at text (numbered text u ++ rest) ≡ Some (u, rest)
+pub numbered_again : (text : List ℕ) (u : Number) (rest : List ℕ) → IsSmall u → EndsNumber rest
+    → numbered_at text (numbered text u ++ rest) ≡ Some (u, rest)
 unfolding numbered_at
-numbered_again text u rest h e =
-    ap (numbered_at text) (append_assoc text (number_text u) rest)
-    ∙ (ap (λ (o : Option (List ℕ)). o >>= λ r. number_at r) (after_same text (number_text u ++ rest)) ∙ number_text_again u rest h e)
+numbered_again text u rest h e = ap (numbered_at text) (append_assoc text (number_text u) rest)
+    ∙ (ap (λ (o : Option (List ℕ)). o >>= λ r. number_at r) (after_same text (number_text u ++ rest))
+    ∙ number_text_again u rest h e)
 
 pub numbered_last : (text : List ℕ) (u : Number) → IsSmall u → numbered_at text (numbered text u) ≡ Some (u, [])
 numbered_last text u h = ap (numbered_at text) (sym (append-nil (numbered text u))) ∙ numbered_again text u [] h refl
@@ -70,7 +75,8 @@ not_burst : (k : Number) (rest : List ℕ) → numbered_at (codes "burst ") (num
 unfolding numbered_at after
 not_burst k rest = refl
 
-pub policy_again : (p : PolicyForm) (rest : List ℕ) → IsSmallPolicy p → EndsNumber rest → policy_at (policy_text p ++ rest) ≡ Some (p, rest)
+pub policy_again : (p : PolicyForm) (rest : List ℕ) → IsSmallPolicy p → EndsNumber rest
+    → policy_at (policy_text p ++ rest) ≡ Some (p, rest)
 unfolding policy_at after
 policy_again policies.Never rest h e = refl
 policy_again policies.Command rest h e = refl
@@ -90,7 +96,8 @@ IsSmallTag (tags.Simple n) = IsSmall n
 IsSmallTag (tags.Ordered n) = IsSmall n
 IsSmallTag (tags.Head n) = IsSmall n
 
-simple_ordered : (n : Number) (rest : List ℕ) → numbered_at (codes "simple ") (numbered (codes "ordered ") n ++ rest) ≡ None
+simple_ordered : (n : Number) (rest : List ℕ)
+    → numbered_at (codes "simple ") (numbered (codes "ordered ") n ++ rest) ≡ None
 unfolding numbered_at after
 simple_ordered n rest = refl
 
@@ -102,16 +109,19 @@ ordered_head : (n : Number) (rest : List ℕ) → numbered_at (codes "ordered ")
 unfolding numbered_at after
 ordered_head n rest = refl
 
-pub tag_again : (t : TagForm) (rest : List ℕ) → IsSmallTag t → EndsNumber rest → tag_at (tag_text t ++ rest) ≡ Some (t, rest)
+pub tag_again : (t : TagForm) (rest : List ℕ) → IsSmallTag t → EndsNumber rest
+    → tag_at (tag_text t ++ rest) ≡ Some (t, rest)
 unfolding tag_at after
 tag_again tags.Untagged rest h e = refl
 tag_again (tags.Simple n) rest h e = rw (numbered_again (codes "simple ") n rest h e) refl
 tag_again (tags.Ordered n) rest h e = rw (simple_ordered n rest, numbered_again (codes "ordered ") n rest h e) refl
-tag_again (tags.Head n) rest h e = rw (simple_head n rest, ordered_head n rest, numbered_again (codes "head ") n rest h e) refl
+tag_again (tags.Head n) rest h e =
+    rw (simple_head n rest, ordered_head n rest, numbered_again (codes "head ") n rest h e) refl
 
 -- ---- BYTES
 
-pub hex_last : (bytes : List ℕ) → AreBytes bytes → 0 < length bytes → hex_digits_at (hex_text bytes) ≡ Some (hex_text bytes, [])
+pub hex_last : (bytes : List ℕ) → AreBytes bytes → 0 < length bytes
+    → hex_digits_at (hex_text bytes) ≡ Some (hex_text bytes, [])
 hex_last bytes h some = ap hex_digits_at (sym (append-nil (hex_text bytes))) ∙ hex_again bytes [] h some refl
 
 abbrev pub IsSpelledPayload : PayloadSaid → Type 0
@@ -119,13 +129,19 @@ IsSpelledPayload no_bytes = Unit {0}
 IsSpelledPayload (these_bytes bytes) = AreBytes bytes × (0 < length bytes)
 IsSpelledPayload (bytes_from b) = b < 256
 
-hex_out : (bytes : List ℕ) → AreBytes bytes → 0 < length bytes → hex_at (codes "out hex " ++ hex_text bytes) ≡ Some (these_bytes bytes)
+hex_out : (bytes : List ℕ) → AreBytes bytes → 0 < length bytes
+    → hex_at (codes "out hex " ++ hex_text bytes) ≡ Some (these_bytes bytes)
 unfolding hex_at
-hex_out bytes h some = rw (after_same (codes "out hex ") (hex_text bytes), hex_last bytes h some, bytes_again bytes h) refl
+hex_out bytes h some =
+    rw (after_same (codes "out hex ") (hex_text bytes), hex_last bytes h some, bytes_again bytes h) refl
 
 from_out : (b : ℕ) → b < 256 → from_at (codes "out from " ++ byte_text b) ≡ Some (bytes_from b)
 unfolding from_at
-from_out b h = rw (after_same (codes "out from ") (byte_text b), ap (hex_array_at 1) (sym (append-nil (hex_text (b ∷ [])))) ∙ hex_array_again 1 (b ∷ []) [] (h, tt) refl (omega arith) refl) refl
+from_out b h = rw (
+  after_same (codes "out from ") (byte_text b),
+  ap (hex_array_at 1) (sym (append-nil (hex_text (b ∷ []))))
+      ∙ hex_array_again 1 (b ∷ []) [] (h, tt) refl (omega arith) refl,
+) refl
 
 not_hex : (b : ℕ) → hex_at (codes "out from " ++ byte_text b) ≡ None
 unfolding hex_at after

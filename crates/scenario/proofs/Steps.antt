@@ -1,10 +1,12 @@
 -- What a step that was taken shows.
-use Rattle.std.proofs.Common.{◌≡◌, ℕ, ◌^◌, ◌<◌, ◌≤◌, Bool, true, false, cond, ◌&&◌, Some, None, Result, Ok, Err, refl, sym, ap, subst, arith}
+use Rattle.std.proofs.Common.{◌≡◌, ℕ, ◌^◌, ◌<◌, ◌≤◌, Bool, true, false, cond, ◌&&◌, Some, None, Result, Ok, Err, refl}
+use Rattle.std.proofs.Common.{sym, ap, subst, arith}
 use Rattle.std.specs.Prelude.{nat_le, ◌==◌, ◌||◌}
 use Rattle.std.proofs.lemmas.Bool.Decides.{nat_tests}
 use Rattle.bus_base.specs.declared.events.AbortKind.{AbortKind}
 use Rattle.text_words.specs.Words.{Number}
-use Rattle.scenario.specs.declared.bounds.TheConstants.{LEAST_FACTOR, FACTOR_LIMIT, TAG_LIMIT, BURST_LIMIT, LEAST_SIZE, SIZE_LIMIT}
+use Rattle.scenario.specs.declared.bounds.TheConstants.{LEAST_FACTOR, FACTOR_LIMIT, TAG_LIMIT, BURST_LIMIT, LEAST_SIZE}
+use Rattle.scenario.specs.declared.bounds.TheConstants.{SIZE_LIMIT}
 use Rattle.scenario.specs.declared.value.Policy.{Policy}
 use Rattle.scenario.specs.declared.value.Tag.{Tag}
 use Rattle.scenario.specs.declared.form.PolicyForm.{PolicyForm}
@@ -17,7 +19,8 @@ use Rattle.scenario.specs.Reading.{◌>>=◌, guard, within, period_in, is_size,
 use Rattle.scenario.specs.Writing.{said_policy, said_tag, said_what}
 use Rattle.scenario.proofs.PartsAgain.{IsSmall, IsSmallPolicy, IsSmallTag, IsSmallWhat}
 
-pub bind_ok : {A B : Type 0} (r : Result A ℕ) (f : A → Result B ℕ) (y : B) → (r >>= f) ≡ Ok y → (x : A) × (r ≡ Ok x) × (f x ≡ Ok y)
+pub bind_ok : {A B : Type 0} (r : Result A ℕ) (f : A → Result B ℕ) (y : B) → (r >>= f) ≡ Ok y
+    → (x : A) × (r ≡ Ok x) × (f x ≡ Ok y)
 bind_ok (Ok x) f y e = (x, refl, e)
 bind_ok (Err d) f y e = absurd cc
 
@@ -47,7 +50,9 @@ pub record IsRead (u : Number) (n : ℕ) : Type 0 where
   pub small : IsSmall u
 
 pub read_within : (u : Number) (least most n : ℕ) → within u least most ≡ Ok n → most < 2 ^ 64 → IsRead u n
-read_within u least most n e lt = let p = within_ok u least most n e in record { same = p.0; small = subst IsSmall (sym p.0) (let le = p.2 in omega arith) }
+read_within u least most n e lt =
+    let p = within_ok u least most n e in
+    record { same = p.0; small = subst IsSmall (sym p.0) (let le = p.2 in omega arith) }
 
 pub read_period : (u : Number) (n : ℕ) → period_in u ≡ Ok n → IsRead u n
 unfolding period_in
@@ -70,15 +75,18 @@ pub record IsPolicyRead (f : PolicyForm) (p : Policy) : Type 0 where
 pub read_policy : (f : PolicyForm) (p : Policy) → policy_in f ≡ Ok p → IsPolicyRead f p
 unfolding policy_in
 read_policy policies.Never p e = subst (IsPolicyRead policies.Never) (ok_is _ p e) (record { same = refl; small = tt })
-read_policy policies.Command p e = subst (IsPolicyRead policies.Command) (ok_is _ p e) (record { same = refl; small = tt })
+read_policy policies.Command p e =
+    subst (IsPolicyRead policies.Command) (ok_is _ p e) (record { same = refl; small = tt })
 read_policy (policies.Burst k) p e =
     let a = bind_ok (within k 1 BURST_LIMIT) _ p e in
     let r = read_within k 1 BURST_LIMIT a.0 a.1 (omega arith) in
-    subst (IsPolicyRead (policies.Burst k)) (ok_is _ p a.2) (record { same = ap policies.Burst r.same; small = r.small })
+    subst (IsPolicyRead (policies.Burst k)) (ok_is _ p a.2)
+    (record { same = ap policies.Burst r.same; small = r.small })
 read_policy (policies.NoSave k) p e =
     let a = bind_ok (within k 1 BURST_LIMIT) _ p e in
     let r = read_within k 1 BURST_LIMIT a.0 a.1 (omega arith) in
-    subst (IsPolicyRead (policies.NoSave k)) (ok_is _ p a.2) (record { same = ap policies.NoSave r.same; small = r.small })
+    subst (IsPolicyRead (policies.NoSave k)) (ok_is _ p a.2)
+    (record { same = ap policies.NoSave r.same; small = r.small })
 
 pub record IsTagRead (f : TagForm) (t : Tag) : Type 0 where
   pub same : f ≡ said_tag t

@@ -12,7 +12,8 @@ use Rattle.scenario.specs.declared.form.AbortForm.{AbortForm}
 use Rattle.scenario.specs.declared.form.ResetForm.{ResetForm}
 use Rattle.scenario.specs.declared.form.FaultForm.{FaultForm}
 use Rattle.scenario.specs.declared.form.TagForm.{TagForm}
-use Rattle.scenario.specs.Parts.{or, numbered_at, exactly_at, flag_at, policy_at, pick_at, tag_at, PayloadSaid, payload_said, payload_at, what_at}
+use Rattle.scenario.specs.Parts.{or, numbered_at, exactly_at, flag_at, policy_at, pick_at, tag_at, PayloadSaid}
+use Rattle.scenario.specs.Parts.{payload_said, payload_at, what_at}
 
 -- What a fill's line says.
 pub record FillSaid : Type 0 where
@@ -50,7 +51,15 @@ fill_said f = record { target = f.target; unit = f.unit; lba = f.lba; bytes = by
 
 -- What the program's form of a command says.
 abbrev pub cmd_said : CmdForm → CmdSaid
-cmd_said c = record { host = c.host; target = c.target; unit = c.unit; at = c.at; tag = c.tag; cdb = bytes_of c.cdb.now; payload = payload_said c.payload }
+cmd_said c = record {
+  host = c.host;
+  target = c.target;
+  unit = c.unit;
+  at = c.at;
+  tag = c.tag;
+  cdb = bytes_of c.cdb.now;
+  payload = payload_said c.payload;
+}
 
 -- What the program's form of a line says.
 abbrev pub said : Form → Said
@@ -67,7 +76,8 @@ said forms.End = end_line
 
 -- scsi 1, scsi 2
 unfoldable pub scsi_at : List ℕ → Option Said
-scsi_at line = or (exactly_at (codes "scsi 1") line >>= λ _. Some (scsi_line 1)) (exactly_at (codes "scsi 2") line >>= λ _. Some (scsi_line 2))
+scsi_at line = or (exactly_at (codes "scsi 1") line >>= λ _. Some (scsi_line 1))
+    (exactly_at (codes "scsi 2") line >>= λ _. Some (scsi_line 2))
 
 -- initiator D latency L open N retries R sync P O lag G, and in text 2 also: offers YN
 unfoldable pub initiator_at : List ℕ → Option Said
@@ -80,7 +90,16 @@ initiator_at line = do
   offset ← numbered_at (codes " ") period.1
   lag ← numbered_at (codes " lag ") offset.1
   offers ← flag_at (codes " offers ") lag.1
-  Some (initiator_line (record { device = device.0; latency = latency.0; «open» = most.0; retries = retries.0; period = period.0; offset = offset.0; lag = lag.0; offers = offers }))
+  Some (initiator_line (record {
+    device = device.0;
+    latency = latency.0;
+    «open» = most.0;
+    retries = retries.0;
+    period = period.0;
+    offset = offset.0;
+    lag = lag.0;
+    offers = offers;
+  }))
 
 -- target D latency L retries R disc POLICY pick PICK seek S sync P O, and in text 2 also: begins YN
 unfoldable pub target_at : List ℕ → Option Said
@@ -96,7 +115,17 @@ target_at line = do
   period ← numbered_at (codes " sync ") seek.1
   offset ← numbered_at (codes " ") period.1
   begins ← flag_at (codes " begins ") offset.1
-  Some (target_line (record { device = device.0; latency = latency.0; retries = retries.0; disc = disc.0; pick = pick.0; seek = seek.0; period = period.0; offset = offset.0; begins = begins }))
+  Some (target_line (record {
+    device = device.0;
+    latency = latency.0;
+    retries = retries.0;
+    disc = disc.0;
+    pick = pick.0;
+    seek = seek.0;
+    period = period.0;
+    offset = offset.0;
+    begins = begins;
+  }))
 
 -- unit T U blocks N size B depth Q
 unfoldable pub unit_at : List ℕ → Option Said
@@ -133,7 +162,15 @@ cmd_at line = do
   cdb ← hex_digits_at b
   c ← after (codes " ") cdb.1
   payload ← payload_at c
-  Some (cmd_line (record { host = host.0; target = target.0; unit = unit.0; at = at.0; tag = tag.0; cdb = bytes_of cdb.0; payload = payload }))
+  Some (cmd_line (record {
+    host = host.0;
+    target = target.0;
+    unit = unit.0;
+    at = at.0;
+    tag = tag.0;
+    cdb = bytes_of cdb.0;
+    payload = payload;
+  }))
 
 -- abort I T U at NS WHAT
 unfoldable pub abort_at : List ℕ → Option Said

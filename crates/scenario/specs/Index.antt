@@ -7,4 +7,5 @@ use Rattle.scenario.specs.Lookups.{has_fill}
 
 -- The set has exactly the blocks of these fills: target and unit, and the block there.
 abbrev pub IsIndexOf : BTreeSet ((ℕ × ℕ) × ℕ) → List FillDef → Type 0
-IsIndexOf blocks fills = (t u l : ℕ) → list_any (λ k. ((k.0).0 == t && (k.0).1 == u) && k.1 == l) blocks.keys ≡ has_fill fills t u l
+IsIndexOf blocks fills =
+    (t u l : ℕ) → list_any (λ k. ((k.0).0 == t && (k.0).1 == u) && k.1 == l) blocks.keys ≡ has_fill fills t u l

@@ -25,4 +25,5 @@ unit_of s target unit = find (λ (u : UnitDef). u.target == target && u.unit == 
 
 -- One of these fills is of this block.
 abbrev pub has_fill : List FillDef → ℕ → ℕ → ℕ → Bool
-has_fill fills target unit lba = list_any (λ (f : FillDef). (f.target == target && f.unit == unit) && f.lba == lba) fills
+has_fill fills target unit lba =
+    list_any (λ (f : FillDef). (f.target == target && f.unit == unit) && f.lba == lba) fills

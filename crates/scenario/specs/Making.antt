@@ -24,10 +24,37 @@ made_hosts =
 
 -- three targets, each with a policy of its own
 abbrev pub made_targets : List TargetDef
-made_targets =
-    record { dev = 0; latency = 0; retries = 2; disc = policies.Command; pick = First; seek = 2000; period = 50; offset = 8; begins = false }
-    ∷ record { dev = 1; latency = 30; retries = 2; disc = policies.Burst 1; pick = Last; seek = 3000; period = 50; offset = 8; begins = false }
-    ∷ record { dev = 2; latency = 10; retries = 2; disc = policies.Never; pick = First; seek = 1000; period = 0; offset = 0; begins = false } ∷ []
+made_targets = record {
+  dev = 0;
+  latency = 0;
+  retries = 2;
+  disc = policies.Command;
+  pick = First;
+  seek = 2000;
+  period = 50;
+  offset = 8;
+  begins = false;
+} ∷ record {
+  dev = 1;
+  latency = 30;
+  retries = 2;
+  disc = policies.Burst 1;
+  pick = Last;
+  seek = 3000;
+  period = 50;
+  offset = 8;
+  begins = false;
+} ∷ record {
+  dev = 2;
+  latency = 10;
+  retries = 2;
+  disc = policies.Never;
+  pick = First;
+  seek = 1000;
+  period = 0;
+  offset = 0;
+  begins = false;
+} ∷ []
 
 abbrev pub made_unit : ℕ → UnitDef
 made_unit target = record { target = target; unit = 0; blocks = 2048; size = 128; depth = 16 }
@@ -55,7 +82,15 @@ sent false c = payloads.Nothing
 
 -- command c, of which q is the number
 abbrev pub command_at : ℕ → ℕ → CmdDef
-command_at c q = record { host = 7 - q % 2; target = q / 2 % 3; unit = 0; at = 0; tag = tags.Simple (c % 256); cdb = cdb_bytes (transfer (is_writing q) c q); payload = sent (is_writing q) c }
+command_at c q = record {
+  host = 7 - q % 2;
+  target = q / 2 % 3;
+  unit = 0;
+  at = 0;
+  tag = tags.Simple (c % 256);
+  cdb = cdb_bytes (transfer (is_writing q) c q);
+  payload = sent (is_writing q) c;
+}
 
 abbrev pub made_command : ℕ → ℕ → CmdDef
 made_command seed c = command_at c (spread seed c)
@@ -67,4 +102,14 @@ made_commands seed (suc n) = made_commands seed n ++ made_command seed (suc n) �
 
 -- The scenario of this number with n commands.
 abbrev pub made : ℕ → ℕ → ScenarioValue
-made seed n = record { version = 1; hosts = made_hosts; targets = made_targets; units = made_units; fills = []; commands = made_commands seed n; aborts = []; resets = []; faults = [] }
+made seed n = record {
+  version = 1;
+  hosts = made_hosts;
+  targets = made_targets;
+  units = made_units;
+  fills = [];
+  commands = made_commands seed n;
+  aborts = [];
+  resets = [];
+  faults = [];
+}

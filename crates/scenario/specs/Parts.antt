@@ -35,7 +35,8 @@ exactly_at text bytes = after text bytes >>= λ rest. is_whole rest
 
 -- YN: `yes` or `no`, at the end of a line.
 unfoldable pub yes_no_at : List ℕ → Option Bool
-yes_no_at bytes = or (exactly_at (codes "yes") bytes >>= λ _. Some true) (exactly_at (codes "no") bytes >>= λ _. Some false)
+yes_no_at bytes =
+    or (exactly_at (codes "yes") bytes >>= λ _. Some true) (exactly_at (codes "no") bytes >>= λ _. Some false)
 
 -- The end of an initiator's or target's line: the text and YN in text 2, nothing in text 1.
 unfoldable pub flag_at : List ℕ → List ℕ → Option (Option Bool)

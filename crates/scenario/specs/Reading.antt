@@ -1,12 +1,18 @@
 -- What a text says, or its first line with a reason: the steps of reading.
-use Rattle.std.specs.Prelude.{ℕ, ◌+◌, ◌-◌, ◌^◌, ◌≡◌, Bool, true, false, not, ◌&&◌, ◌||◌, List, [], ◌∷◌, ◌++◌, length, Option, Some, None, Result, Ok, Err, nat_lt, nat_le, ◌==◌, is_some, if◌then◌else◌}
+use Rattle.std.specs.Prelude.{ℕ, ◌+◌, ◌-◌, ◌^◌, ◌≡◌, Bool, true, false, not, ◌&&◌, ◌||◌, List, [], ◌∷◌, ◌++◌, length}
+use Rattle.std.specs.Prelude.{Option, Some, None, Result, Ok, Err, nat_lt, nat_le, ◌==◌, is_some, if◌then◌else◌}
 use Rattle.std.specs.List.{list_all, list_any}
 use Rattle.bus_base.specs.declared.events.AbortKind.{AbortKind}
 use Rattle.bus_base.specs.declared.events.AbortKind.TheVariants as kills
 use Rattle.cdb_codec.specs.Cdb.{group_len, is_len}
 use Rattle.text_words.specs.Words.{Number}
 use Rattle.text_words.specs.Lines.{Line, lines_of}
-use Rattle.scenario.specs.declared.bounds.TheConstants.{LIMIT, TIME_LIMIT, LATENCY_LIMIT, OPEN_LIMIT, RETRY_LIMIT, LEAST_FACTOR, FACTOR_LIMIT, HOST_OFFSET_LIMIT, TARGET_OFFSET_LIMIT, TAG_LIMIT, LAG_LIMIT, SEEK_LIMIT, BURST_LIMIT, BLOCK_LIMIT, LEAST_SIZE, SIZE_LIMIT, DEPTH_LIMIT, COMMAND_LIMIT, NEED_LIMIT, NEEDS_LIMIT, ABORT_LIMIT, FAULT_LIMIT}
+use Rattle.scenario.specs.declared.bounds.TheConstants.{LIMIT, TIME_LIMIT, LATENCY_LIMIT, OPEN_LIMIT, RETRY_LIMIT}
+use Rattle.scenario.specs.declared.bounds.TheConstants.{LEAST_FACTOR, FACTOR_LIMIT, HOST_OFFSET_LIMIT}
+use Rattle.scenario.specs.declared.bounds.TheConstants.{TARGET_OFFSET_LIMIT, TAG_LIMIT, LAG_LIMIT, SEEK_LIMIT}
+use Rattle.scenario.specs.declared.bounds.TheConstants.{BURST_LIMIT, BLOCK_LIMIT, LEAST_SIZE, SIZE_LIMIT, DEPTH_LIMIT}
+use Rattle.scenario.specs.declared.bounds.TheConstants.{COMMAND_LIMIT, NEED_LIMIT, NEEDS_LIMIT, ABORT_LIMIT}
+use Rattle.scenario.specs.declared.bounds.TheConstants.{FAULT_LIMIT}
 use Rattle.scenario.specs.declared.value.HostDef.{HostDef}
 use Rattle.scenario.specs.declared.value.Policy.{Policy}
 use Rattle.scenario.specs.declared.value.Policy.TheVariants as policies
@@ -43,7 +49,8 @@ use Rattle.scenario.specs.Value.{ScenarioValue, nothing_said}
 use Rattle.scenario.specs.Lookups.{has_host, has_target, has_device, unit_of, has_fill}
 use Rattle.scenario.specs.Needs.{need_of, sent_of}
 use Rattle.scenario.specs.Parts.{PayloadSaid, no_bytes, these_bytes, bytes_from}
-use Rattle.scenario.specs.Forms.{Said, FillSaid, CmdSaid, scsi_line, initiator_line, target_line, unit_line, fill_line, cmd_line, abort_line, reset_line, fault_line, end_line, form_of}
+use Rattle.scenario.specs.Forms.{Said, FillSaid, CmdSaid, scsi_line, initiator_line, target_line, unit_line, fill_line}
+use Rattle.scenario.specs.Forms.{cmd_line, abort_line, reset_line, fault_line, end_line, form_of}
 
 -- The next step is taken only where this one has no reason.
 infixl 10 ◌>>=◌
@@ -143,7 +150,16 @@ host_def s f = do
   offset ← within f.offset 0 HOST_OFFSET_LIMIT
   lag ← within f.lag 0 LAG_LIMIT
   new ← guard 5 (not (has_device s dev))
-  Ok (record { dev = dev; latency = latency; most = most; retries = retries; period = period; offset = offset; lag = lag; offers = says true f.offers })
+  Ok (record {
+    dev = dev;
+    latency = latency;
+    most = most;
+    retries = retries;
+    period = period;
+    offset = offset;
+    lag = lag;
+    offers = says true f.offers;
+  })
 
 -- A target. In text 1 it does not begin.
 unfoldable pub target_def : ScenarioValue → TargetForm → Result TargetDef ℕ
@@ -156,7 +172,17 @@ target_def s f = do
   period ← period_in f.period
   offset ← within f.offset 0 TARGET_OFFSET_LIMIT
   new ← guard 5 (not (has_device s dev))
-  Ok (record { dev = dev; latency = latency; retries = retries; disc = disc; pick = f.pick; seek = seek; period = period; offset = offset; begins = says false f.begins })
+  Ok (record {
+    dev = dev;
+    latency = latency;
+    retries = retries;
+    disc = disc;
+    pick = f.pick;
+    seek = seek;
+    period = period;
+    offset = offset;
+    begins = says false f.begins;
+  })
 
 -- A unit of a target.
 unfoldable pub unit_def : ScenarioValue → UnitForm → Result UnitDef ℕ
@@ -210,7 +236,15 @@ cmd_def s c = do
   tag ← tag_in c.tag
   block ← guard 4 (is_block c.cdb)
   known ← guard 6 (are_ends s host target)
-  Ok (record { host = host; target = target; unit = unit; at = at; tag = tag; cdb = c.cdb; payload = payload_of c.payload })
+  Ok (record {
+    host = host;
+    target = target;
+    unit = unit;
+    at = at;
+    tag = tag;
+    cdb = c.cdb;
+    payload = payload_of c.payload;
+  })
 
 -- Where n bytes are to be sent, `out` stands exactly where n is above 0, and bytes that are told are n.
 abbrev pub is_payload : ℕ → Payload → Bool
@@ -335,14 +369,24 @@ with_scenario d s = record d { scenario = s }
 
 unfoldable pub added : Progress → Said → Result Progress ℕ
 added d (scsi_line v) = Ok (with_scenario d (record d.scenario { version = v }))
-added d (initiator_line f) = host_def d.scenario f >>= λ def. Ok (with_scenario d (record d.scenario { hosts = d.scenario.hosts ++ def ∷ [] }))
-added d (target_line f) = target_def d.scenario f >>= λ def. Ok (with_scenario d (record d.scenario { targets = d.scenario.targets ++ def ∷ [] }))
-added d (unit_line f) = unit_def d.scenario f >>= λ def. Ok (with_scenario d (record d.scenario { units = d.scenario.units ++ def ∷ [] }))
-added d (fill_line f) = fill_def d.scenario f >>= λ def. Ok (with_scenario d (record d.scenario { fills = d.scenario.fills ++ def ∷ [] }))
-added d (cmd_line f) = full_cmd_def d.scenario d.needs f >>= λ def. Ok (record d { scenario = record d.scenario { commands = d.scenario.commands ++ def ∷ [] }; needs = d.needs + need_of d.scenario def })
-added d (abort_line f) = abort_def d.scenario f >>= λ def. Ok (with_scenario d (record d.scenario { aborts = d.scenario.aborts ++ def ∷ [] }))
-added d (reset_line f) = reset_def d.scenario f >>= λ def. Ok (with_scenario d (record d.scenario { resets = d.scenario.resets ++ def ∷ [] }))
-added d (fault_line f) = fault_def d.scenario f >>= λ def. Ok (with_scenario d (record d.scenario { faults = d.scenario.faults ++ def ∷ [] }))
+added d (initiator_line f) =
+    host_def d.scenario f >>= λ def. Ok (with_scenario d (record d.scenario { hosts = d.scenario.hosts ++ def ∷ [] }))
+added d (target_line f) = target_def d.scenario f
+    >>= λ def. Ok (with_scenario d (record d.scenario { targets = d.scenario.targets ++ def ∷ [] }))
+added d (unit_line f) =
+    unit_def d.scenario f >>= λ def. Ok (with_scenario d (record d.scenario { units = d.scenario.units ++ def ∷ [] }))
+added d (fill_line f) =
+    fill_def d.scenario f >>= λ def. Ok (with_scenario d (record d.scenario { fills = d.scenario.fills ++ def ∷ [] }))
+added d (cmd_line f) = full_cmd_def d.scenario d.needs f >>= λ def. Ok (record d {
+  scenario = record d.scenario { commands = d.scenario.commands ++ def ∷ [] };
+  needs = d.needs + need_of d.scenario def;
+})
+added d (abort_line f) = abort_def d.scenario f
+    >>= λ def. Ok (with_scenario d (record d.scenario { aborts = d.scenario.aborts ++ def ∷ [] }))
+added d (reset_line f) = reset_def d.scenario f
+    >>= λ def. Ok (with_scenario d (record d.scenario { resets = d.scenario.resets ++ def ∷ [] }))
+added d (fault_line f) = fault_def d.scenario f
+    >>= λ def. Ok (with_scenario d (record d.scenario { faults = d.scenario.faults ++ def ∷ [] }))
 added d end_line = Ok d
 
 -- What was read with a line more that has a form.

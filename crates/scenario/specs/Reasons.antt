@@ -1,9 +1,14 @@
 -- The reasons, each a test of its own; the lowest that holds is told.
-use Rattle.std.specs.Prelude.{ℕ, ◌-◌, ◌^◌, Bool, true, false, not, ◌&&◌, ◌||◌, List, length, Option, Some, None, Result, Ok, Err, nat_lt, nat_le, ◌==◌, is_some, is_none, if◌then◌else◌}
+use Rattle.std.specs.Prelude.{ℕ, ◌-◌, ◌^◌, Bool, true, false, not, ◌&&◌, ◌||◌, List, length, Option, Some, None, Result}
+use Rattle.std.specs.Prelude.{Ok, Err, nat_lt, nat_le, ◌==◌, is_some, is_none, if◌then◌else◌}
 use Rattle.std.specs.List.{list_all}
 use Rattle.text_words.specs.Words.{Number}
 use Rattle.text_words.specs.Lines.{Line}
-use Rattle.scenario.specs.declared.bounds.TheConstants.{TIME_LIMIT, LATENCY_LIMIT, OPEN_LIMIT, RETRY_LIMIT, LEAST_FACTOR, FACTOR_LIMIT, HOST_OFFSET_LIMIT, TARGET_OFFSET_LIMIT, TAG_LIMIT, LAG_LIMIT, SEEK_LIMIT, BURST_LIMIT, BLOCK_LIMIT, LEAST_SIZE, SIZE_LIMIT, DEPTH_LIMIT, FAULT_LIMIT}
+use Rattle.scenario.specs.declared.bounds.TheConstants.{TIME_LIMIT, LATENCY_LIMIT, OPEN_LIMIT, RETRY_LIMIT}
+use Rattle.scenario.specs.declared.bounds.TheConstants.{LEAST_FACTOR, FACTOR_LIMIT, HOST_OFFSET_LIMIT}
+use Rattle.scenario.specs.declared.bounds.TheConstants.{TARGET_OFFSET_LIMIT, TAG_LIMIT, LAG_LIMIT, SEEK_LIMIT}
+use Rattle.scenario.specs.declared.bounds.TheConstants.{BURST_LIMIT, BLOCK_LIMIT, LEAST_SIZE, SIZE_LIMIT, DEPTH_LIMIT}
+use Rattle.scenario.specs.declared.bounds.TheConstants.{FAULT_LIMIT}
 use Rattle.scenario.specs.declared.value.Tag.{Tag}
 use Rattle.scenario.specs.declared.value.Tag.TheVariants as tags
 use Rattle.scenario.specs.declared.value.UnitDef.{UnitDef}
@@ -17,8 +22,10 @@ use Rattle.scenario.specs.declared.form.WhatForm.TheVariants as whats
 use Rattle.scenario.specs.Value.{ScenarioValue}
 use Rattle.scenario.specs.Lookups.{has_target, has_device, unit_of, has_fill}
 use Rattle.scenario.specs.Needs.{need_of, sent_of}
-use Rattle.scenario.specs.Forms.{Said, CmdSaid, scsi_line, initiator_line, target_line, unit_line, fill_line, cmd_line, abort_line, reset_line, fault_line, end_line, form_of}
-use Rattle.scenario.specs.Reading.{Progress, is_size, is_block, is_block_of, are_ends, payload_of, is_payload, has_room, has_abort_room, rank, kind_of, in_order, fits_version, is_printable, is_skipped}
+use Rattle.scenario.specs.Forms.{Said, CmdSaid, scsi_line, initiator_line, target_line, unit_line, fill_line, cmd_line}
+use Rattle.scenario.specs.Forms.{abort_line, reset_line, fault_line, end_line, form_of}
+use Rattle.scenario.specs.Reading.{Progress, is_size, is_block, is_block_of, are_ends, payload_of, is_payload, has_room}
+use Rattle.scenario.specs.Reading.{has_abort_room, rank, kind_of, in_order, fits_version, is_printable, is_skipped}
 
 -- A number from `least` to `most`.
 abbrev pub is_in : Number → ℕ → ℕ → Bool
@@ -76,7 +83,15 @@ tag_value (tag_forms.Head t) = tags.Head (value t)
 
 -- The command that a line says.
 abbrev pub cmd_value : CmdSaid → CmdDef
-cmd_value c = record { host = value c.host; target = value c.target; unit = value c.unit; at = value c.at; tag = tag_value c.tag; cdb = c.cdb; payload = payload_of c.payload }
+cmd_value c = record {
+  host = value c.host;
+  target = value c.target;
+  unit = value c.unit;
+  at = value c.at;
+  tag = tag_value c.tag;
+  cdb = c.cdb;
+  payload = payload_of c.payload;
+}
 
 -- Reason 3: a kind out of order.
 abbrev pub breaks_order : Progress → Said → Bool
@@ -85,12 +100,19 @@ breaks_order d x = not (in_order (rank d.last) (rank (kind_of x)))
 -- All numbers of the line are within their limits.
 abbrev pub keeps_limits : Said → Bool
 keeps_limits (scsi_line v) = true
-keeps_limits (initiator_line f) = is_device f.device && (is_in f.latency 0 LATENCY_LIMIT && (is_in f.«open» 1 OPEN_LIMIT && (is_in f.retries 0 RETRY_LIMIT && (is_period f.period && (is_in f.offset 0 HOST_OFFSET_LIMIT && is_in f.lag 0 LAG_LIMIT)))))
-keeps_limits (target_line f) = is_device f.device && (is_in f.latency 0 LATENCY_LIMIT && (is_in f.retries 0 RETRY_LIMIT && (is_policy f.disc && (is_in f.seek 0 SEEK_LIMIT && (is_period f.period && is_in f.offset 0 TARGET_OFFSET_LIMIT)))))
-keeps_limits (unit_line f) = is_device f.target && (is_device f.unit && (is_in f.blocks 1 BLOCK_LIMIT && (is_block_size f.size && is_in f.depth 1 DEPTH_LIMIT)))
+keeps_limits (initiator_line f) = is_device f.device
+    && (is_in f.latency 0 LATENCY_LIMIT && (is_in f.«open» 1 OPEN_LIMIT && (is_in f.retries 0 RETRY_LIMIT
+    && (is_period f.period && (is_in f.offset 0 HOST_OFFSET_LIMIT && is_in f.lag 0 LAG_LIMIT)))))
+keeps_limits (target_line f) = is_device f.device
+    && (is_in f.latency 0 LATENCY_LIMIT && (is_in f.retries 0 RETRY_LIMIT && (is_policy f.disc
+    && (is_in f.seek 0 SEEK_LIMIT && (is_period f.period && is_in f.offset 0 TARGET_OFFSET_LIMIT)))))
+keeps_limits (unit_line f) = is_device f.target
+    && (is_device f.unit && (is_in f.blocks 1 BLOCK_LIMIT && (is_block_size f.size && is_in f.depth 1 DEPTH_LIMIT)))
 keeps_limits (fill_line f) = is_device f.target && (is_device f.unit && is_in f.lba 0 (2 ^ 64 - 1))
-keeps_limits (cmd_line c) = is_device c.host && (is_device c.target && (is_device c.unit && (is_time c.at && (is_tag c.tag && is_block c.cdb))))
-keeps_limits (abort_line f) = is_device f.host && (is_device f.target && (is_device f.unit && (is_time f.at && is_what f.what)))
+keeps_limits (cmd_line c) =
+    is_device c.host && (is_device c.target && (is_device c.unit && (is_time c.at && (is_tag c.tag && is_block c.cdb))))
+keeps_limits (abort_line f) =
+    is_device f.host && (is_device f.target && (is_device f.unit && (is_time f.at && is_what f.what)))
 keeps_limits (reset_line f) = is_device f.device && is_time f.at
 keeps_limits (fault_line f) = is_time f.at && is_in f.bit 0 8
 keeps_limits end_line = true

@@ -23,4 +23,14 @@ pub record ScenarioValue : Type 0 where
 
 -- No line was read: no version is known, which is 0, and nothing is declared.
 abbrev pub nothing_said : ScenarioValue
-nothing_said = record { version = 0; hosts = []; targets = []; units = []; fills = []; commands = []; aborts = []; resets = []; faults = [] }
+nothing_said = record {
+  version = 0;
+  hosts = [];
+  targets = [];
+  units = [];
+  fills = [];
+  commands = [];
+  aborts = [];
+  resets = [];
+  faults = [];
+}

@@ -1,5 +1,6 @@
 -- The one spelling of a scenario, and the rules that a scenario obeys.
-use Rattle.std.specs.Prelude.{◌≡◌, ℕ, ◌<◌, ◌≤◌, Bool, true, false, List, [], ◌∷◌, ◌++◌, length, map, Option, Some, None, Result, Ok, codes, ◌==◌, ◌||◌, if◌then◌else◌}
+use Rattle.std.specs.Prelude.{◌≡◌, ℕ, ◌<◌, ◌≤◌, Bool, true, false, List, [], ◌∷◌, ◌++◌, length, map, Option, Some, None}
+use Rattle.std.specs.Prelude.{Result, Ok, codes, ◌==◌, ◌||◌, if◌then◌else◌}
 use Rattle.std.specs.List.{flat_map, AllByRecursion}
 use Rattle.bus_base.specs.declared.events.Pick.{Pick}
 use Rattle.bus_base.specs.declared.events.Pick.TheVariants as picks
@@ -36,7 +37,8 @@ use Rattle.scenario.specs.declared.form.ResetForm.{ResetForm}
 use Rattle.scenario.specs.declared.form.FaultForm.{FaultForm}
 use Rattle.scenario.specs.Value.{ScenarioValue}
 use Rattle.scenario.specs.Parts.{PayloadSaid, no_bytes, these_bytes, bytes_from}
-use Rattle.scenario.specs.Forms.{Said, FillSaid, CmdSaid, scsi_line, initiator_line, target_line, unit_line, fill_line, cmd_line, abort_line, reset_line, fault_line, end_line}
+use Rattle.scenario.specs.Forms.{Said, FillSaid, CmdSaid, scsi_line, initiator_line, target_line, unit_line, fill_line}
+use Rattle.scenario.specs.Forms.{cmd_line, abort_line, reset_line, fault_line, end_line}
 use Rattle.scenario.specs.Reading.{Progress, ◌>>=◌, said_after, nothing}
 
 -- ---- The spelling of a line.
@@ -93,43 +95,53 @@ what_text whats.Device = codes "device"
 
 -- The line of an initiator, from `sync` on.
 unfoldable pub host_sync_text : HostForm → List ℕ
-host_sync_text f = numbered (codes " sync ") f.period ++ (numbered (codes " ") f.offset ++ (numbered (codes " lag ") f.lag ++ flag_text (codes " offers ") f.offers))
+host_sync_text f = numbered (codes " sync ") f.period
+    ++ (numbered (codes " ") f.offset ++ (numbered (codes " lag ") f.lag ++ flag_text (codes " offers ") f.offers))
 
 -- The line of an initiator.
 unfoldable pub initiator_text : HostForm → List ℕ
-initiator_text f = numbered (codes "initiator ") f.device ++ (numbered (codes " latency ") f.latency ++ (numbered (codes " open ") f.«open» ++ (numbered (codes " retries ") f.retries ++ host_sync_text f)))
+initiator_text f = numbered (codes "initiator ") f.device ++ (numbered (codes " latency ") f.latency
+    ++ (numbered (codes " open ") f.«open» ++ (numbered (codes " retries ") f.retries ++ host_sync_text f)))
 
 -- The line of a target, from `seek` on.
 unfoldable pub target_seek_text : TargetForm → List ℕ
-target_seek_text f = numbered (codes " seek ") f.seek ++ (numbered (codes " sync ") f.period ++ (numbered (codes " ") f.offset ++ flag_text (codes " begins ") f.begins))
+target_seek_text f = numbered (codes " seek ") f.seek
+    ++ (numbered (codes " sync ") f.period ++ (numbered (codes " ") f.offset ++ flag_text (codes " begins ") f.begins))
 
 -- The line of a target, from `disc` on.
 unfoldable pub target_disc_text : TargetForm → List ℕ
-target_disc_text f = codes " disc " ++ (policy_text f.disc ++ (codes " pick " ++ (pick_text f.pick ++ target_seek_text f)))
+target_disc_text f =
+    codes " disc " ++ (policy_text f.disc ++ (codes " pick " ++ (pick_text f.pick ++ target_seek_text f)))
 
 -- The line of a target.
 unfoldable pub target_text : TargetForm → List ℕ
-target_text f = numbered (codes "target ") f.device ++ (numbered (codes " latency ") f.latency ++ (numbered (codes " retries ") f.retries ++ target_disc_text f))
+target_text f = numbered (codes "target ") f.device
+    ++ (numbered (codes " latency ") f.latency ++ (numbered (codes " retries ") f.retries ++ target_disc_text f))
 
 -- The line of a unit.
 unfoldable pub unit_text : UnitForm → List ℕ
-unit_text f = numbered (codes "unit ") f.target ++ (numbered (codes " ") f.unit ++ (numbered (codes " blocks ") f.blocks ++ (numbered (codes " size ") f.size ++ numbered (codes " depth ") f.depth)))
+unit_text f = numbered (codes "unit ") f.target ++ (numbered (codes " ") f.unit ++ (numbered (codes " blocks ") f.blocks
+    ++ (numbered (codes " size ") f.size ++ numbered (codes " depth ") f.depth)))
 
 -- The line of a fill.
 unfoldable pub fill_text : FillSaid → List ℕ
-fill_text f = numbered (codes "fill ") f.target ++ (numbered (codes " ") f.unit ++ (numbered (codes " ") f.lba ++ (codes " " ++ hex_text f.bytes)))
+fill_text f = numbered (codes "fill ") f.target
+    ++ (numbered (codes " ") f.unit ++ (numbered (codes " ") f.lba ++ (codes " " ++ hex_text f.bytes)))
 
 -- The line of a command, from its tag on.
 unfoldable pub cmd_tag_text : CmdSaid → List ℕ
-cmd_tag_text c = codes " " ++ (tag_text c.tag ++ (codes " cdb " ++ (hex_text c.cdb ++ (codes " " ++ payload_text c.payload))))
+cmd_tag_text c =
+    codes " " ++ (tag_text c.tag ++ (codes " cdb " ++ (hex_text c.cdb ++ (codes " " ++ payload_text c.payload))))
 
 -- The line of a command.
 unfoldable pub cmd_text : CmdSaid → List ℕ
-cmd_text c = numbered (codes "cmd ") c.host ++ (numbered (codes " ") c.target ++ (numbered (codes " ") c.unit ++ (numbered (codes " at ") c.at ++ cmd_tag_text c)))
+cmd_text c = numbered (codes "cmd ") c.host ++ (numbered (codes " ") c.target
+    ++ (numbered (codes " ") c.unit ++ (numbered (codes " at ") c.at ++ cmd_tag_text c)))
 
 -- The line of an abort.
 unfoldable pub abort_text : AbortForm → List ℕ
-abort_text f = numbered (codes "abort ") f.host ++ (numbered (codes " ") f.target ++ (numbered (codes " ") f.unit ++ (numbered (codes " at ") f.at ++ (codes " " ++ what_text f.what))))
+abort_text f = numbered (codes "abort ") f.host ++ (numbered (codes " ") f.target
+    ++ (numbered (codes " ") f.unit ++ (numbered (codes " at ") f.at ++ (codes " " ++ what_text f.what))))
 
 -- The line of a reset.
 unfoldable pub reset_text : ResetForm → List ℕ
@@ -164,7 +176,16 @@ said_flag version answer = if version == 2 then Some answer else None
 
 -- An initiator.
 abbrev pub host_form : ℕ → HostDef → HostForm
-host_form version h = record { device = Some h.dev; latency = Some h.latency; «open» = Some h.most; retries = Some h.retries; period = Some h.period; offset = Some h.offset; lag = Some h.lag; offers = said_flag version h.offers }
+host_form version h = record {
+  device = Some h.dev;
+  latency = Some h.latency;
+  «open» = Some h.most;
+  retries = Some h.retries;
+  period = Some h.period;
+  offset = Some h.offset;
+  lag = Some h.lag;
+  offers = said_flag version h.offers;
+}
 
 abbrev pub said_host : ℕ → HostDef → Said
 said_host version h = initiator_line (host_form version h)
@@ -178,14 +199,30 @@ said_policy (policies.NoSave k) = policy_forms.NoSave (Some k)
 
 -- A target.
 abbrev pub target_form : ℕ → TargetDef → TargetForm
-target_form version t = record { device = Some t.dev; latency = Some t.latency; retries = Some t.retries; disc = said_policy t.disc; pick = t.pick; seek = Some t.seek; period = Some t.period; offset = Some t.offset; begins = said_flag version t.begins }
+target_form version t = record {
+  device = Some t.dev;
+  latency = Some t.latency;
+  retries = Some t.retries;
+  disc = said_policy t.disc;
+  pick = t.pick;
+  seek = Some t.seek;
+  period = Some t.period;
+  offset = Some t.offset;
+  begins = said_flag version t.begins;
+}
 
 abbrev pub said_target : ℕ → TargetDef → Said
 said_target version t = target_line (target_form version t)
 
 -- A unit.
 abbrev pub said_unit : UnitDef → Said
-said_unit u = unit_line (record { target = Some u.target; unit = Some u.unit; blocks = Some u.blocks; size = Some u.size; depth = Some u.depth })
+said_unit u = unit_line (record {
+  target = Some u.target;
+  unit = Some u.unit;
+  blocks = Some u.blocks;
+  size = Some u.size;
+  depth = Some u.depth;
+})
 
 -- A fill.
 abbrev pub said_fill : FillDef → Said
@@ -206,7 +243,15 @@ said_payload (payloads.From b) = bytes_from b
 
 -- A command.
 abbrev pub cmd_form : CmdDef → CmdSaid
-cmd_form c = record { host = Some c.host; target = Some c.target; unit = Some c.unit; at = Some c.at; tag = said_tag c.tag; cdb = c.cdb; payload = said_payload c.payload }
+cmd_form c = record {
+  host = Some c.host;
+  target = Some c.target;
+  unit = Some c.unit;
+  at = Some c.at;
+  tag = said_tag c.tag;
+  cdb = c.cdb;
+  payload = said_payload c.payload;
+}
 
 abbrev pub said_cmd : CmdDef → Said
 said_cmd c = cmd_line (cmd_form c)
@@ -220,7 +265,8 @@ said_what kills.Device = whats.Device
 
 -- An abort message.
 abbrev pub said_abort : AbortDef → Said
-said_abort a = abort_line (record { host = Some a.host; target = Some a.target; unit = Some a.unit; at = Some a.at; what = said_what a.what })
+said_abort a = abort_line
+    (record { host = Some a.host; target = Some a.target; unit = Some a.unit; at = Some a.at; what = said_what a.what })
 
 -- A reset.
 abbrev pub said_reset : ResetDef → Said
@@ -232,11 +278,13 @@ said_fault f = fault_line (record { at = Some f.at; bit = Some f.bit })
 
 -- What the lines that say what happens say, in their order.
 abbrev pub events_of : ScenarioValue → List Said
-events_of s = map said_cmd s.commands ++ (map said_abort s.aborts ++ (map said_reset s.resets ++ map said_fault s.faults))
+events_of s =
+    map said_cmd s.commands ++ (map said_abort s.aborts ++ (map said_reset s.resets ++ map said_fault s.faults))
 
 -- What the lines between the first and the last say, in their order.
 abbrev pub body_of : ScenarioValue → List Said
-body_of s = map (said_host s.version) s.hosts ++ (map (said_target s.version) s.targets ++ (map said_unit s.units ++ (map said_fill s.fills ++ events_of s)))
+body_of s = map (said_host s.version) s.hosts
+    ++ (map (said_target s.version) s.targets ++ (map said_unit s.units ++ (map said_fill s.fills ++ events_of s)))
 
 -- What the lines of a scenario say.
 abbrev pub saids : ScenarioValue → List Said

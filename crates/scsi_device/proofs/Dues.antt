@@ -14,24 +14,29 @@ use Rattle.bus_due.specs.Sights.{flip_of}
 use Rattle.scsi_device.specs.Told.{first_fault, flip_by}
 use Rattle.bus_due.specs.bus_rules.specs.Order.{is_of_device}
 
-pub flips_are : (faults : List FaultDef) (f : Option FaultDef) (time : ℕ) → f ≡ first_fault faults → flip_of faults time ≡ flip_by f time
+pub flips_are : (faults : List FaultDef) (f : Option FaultDef) (time : ℕ) → f ≡ first_fault faults
+    → flip_of faults time ≡ flip_by f time
 flips_are [] f time e = λ j. flip_by (sym e j) time
 flips_are (g ∷ faults) f time e = λ j. flip_by (sym e j) time
 
-no_receiver : (n : Connection) (c : Change) (dev : ℕ) → (n.initiator == dev) ≡ false → (n.target == dev) ≡ false → is_receiver n (Some c) dev ≡ false
+no_receiver : (n : Connection) (c : Change) (dev : ℕ) → (n.initiator == dev) ≡ false → (n.target == dev) ≡ false
+    → is_receiver n (Some c) dev ≡ false
 no_receiver n c dev x y = go c.before.io (rises c.before.req c.after.req) (rises c.before.ack c.after.ack)
   where
-    go : (io req ack : Bool) → is_of_device (if io then (if req then Some n.initiator else None) else (if ack then Some n.target else None)) dev ≡ false
+    go : (io req ack : Bool) → is_of_device
+        (if io then (if req then Some n.initiator else None) else (if ack then Some n.target else None)) dev ≡ false
     go true true ack = x
     go true false ack = refl
     go false req true = y
     go false req false = refl
 
-other_receiver : (n : Connection) (c : Option Change) (dev : ℕ) → (n.initiator == dev) ≡ false → (n.target == dev) ≡ false → is_receiver n c dev ≡ false
+other_receiver : (n : Connection) (c : Option Change) (dev : ℕ) → (n.initiator == dev) ≡ false
+    → (n.target == dev) ≡ false → is_receiver n c dev ≡ false
 other_receiver n None dev x y = refl
 other_receiver n (Some c) dev x y = no_receiver n c dev x y
 
-pub others_are : (s : ScenarioValue) (k : RunState) (me : Myself) (n : Connection) → (n.initiator == me.dev) ≡ false → (n.target == me.dev) ≡ false → connected_due s k me n ≡ None
+pub others_are : (s : ScenarioValue) (k : RunState) (me : Myself) (n : Connection) → (n.initiator == me.dev) ≡ false
+    → (n.target == me.dev) ≡ false → connected_due s k me n ≡ None
 others_are s k me n x y =
     λ j. hand.sample_due (other_receiver n k.story.bus_state.crossed me.dev x y j) k.last (flip_of k.faults k.last)
     (if x j then initiator_end_due s k me else if y j then target_end_due s k me else None)

@@ -1,5 +1,6 @@
 -- A scenario that obeys the rules of its text fits the bus.
-use Rattle.std.proofs.Common.{ℕ, zero, suc, ◌≡◌, ◌+◌, ◌<◌, Bool, true, false, cond, ◌&&◌, ◌||◌, List, [], ◌∷◌, length, Option, Some, None, refl, sym, ap, subst, ◌∙◌, arith}
+use Rattle.std.proofs.Common.{ℕ, zero, suc, ◌≡◌, ◌+◌, ◌<◌, Bool, true, false, cond, ◌&&◌, ◌||◌, List, [], ◌∷◌, length}
+use Rattle.std.proofs.Common.{Option, Some, None, refl, sym, ap, subst, ◌∙◌, arith}
 use Rattle.std.specs.Prelude.{◌==◌, nat_lt, if◌then◌else◌}
 use Rattle.std.specs.List.{AllByRecursion}
 use Rattle.bus_base.specs.declared.ProcId.{ProcId}
@@ -16,7 +17,8 @@ use Rattle.scenario.specs.Lookups.{unit_of}
 use Rattle.scenario.specs.Needs.{need_of, sent_of}
 use Rattle.scenario.specs.Reading.{is_payload}
 use Rattle.scenario.specs.Writing.{Obeys, IsHex, IsHexPayload}
-use Rattle.bus_due.specs.disk_array.specs.Processes.{Process, process_by, process_if, command_at, sense_block, payload_bytes, bytes_from}
+use Rattle.bus_due.specs.disk_array.specs.Processes.{Process, process_by, process_if, command_at, sense_block}
+use Rattle.bus_due.specs.disk_array.specs.Processes.{payload_bytes, bytes_from}
 use Rattle.bus_due.specs.disk_array.specs.Units.{starting_unit, starting_units, unit_state_at}
 use Rattle.bus_due.specs.disk_array.specs.SoundArray.{AreApart, HasSeats}
 use Rattle.bus_due.specs.disk_array.specs.Seats.{is_initiator}
@@ -25,9 +27,11 @@ use Rattle.bus_due.specs.bus_story.specs.TraceHistory.{retries_of}
 use Rattle.bus_due.specs.Defs.{host_of, target_def_of}
 use Rattle.scsi_device.specs.NoUnits.{has_unit}
 use Rattle.scsi_device.specs.Lines.{IsHostLine, IsTargetLine, IsUnitLine, IsCommandLine, IsAbortLine, FitsBus, AreUnits}
-use Rattle.scsi_device.proofs.Finds.{some_is, none_some, all_are, all_both, find_none, found_any, found_passes, found_holds}
+use Rattle.scsi_device.proofs.Finds.{some_is, none_some, all_are, all_both, find_none, found_any, found_passes}
+use Rattle.scsi_device.proofs.Finds.{found_holds}
 use Rattle.scsi_device.proofs.LineReads.{IsHostWithin}
-use Rattle.scsi_device.proofs.LinesSoFar.{IsTargetFit, IsUnitFit, IsCommandFit, IsAbortFit, AreUnitsApart, AreFit, host_at, target_at, unit_at}
+use Rattle.scsi_device.proofs.LinesSoFar.{IsTargetFit, IsUnitFit, IsCommandFit, IsAbortFit, AreUnitsApart, AreFit}
+use Rattle.scsi_device.proofs.LinesSoFar.{host_at, target_at, unit_at}
 use Rattle.scsi_device.proofs.LinesBuilt.{obeys_fit}
 use Rattle.std.proofs.lemmas.Bool.{eqb-true, and_parts}
 
@@ -36,31 +40,38 @@ use Rattle.std.proofs.lemmas.Bool.{eqb-true, and_parts}
 true_false : (q : Bool) → q ≡ true → q ≡ false → ⊥
 true_false q e f = cc
 
-no_target_there : (hosts : List HostDef) (targets : List TargetDef) (dev : ℕ) → AllByRecursion (IsTargetFit hosts) targets → is_initiator hosts dev ≡ true → target_at targets dev ≡ None
+no_target_there : (hosts : List HostDef) (targets : List TargetDef) (dev : ℕ)
+    → AllByRecursion (IsTargetFit hosts) targets → is_initiator hosts dev ≡ true → target_at targets dev ≡ None
 no_target_there hosts [] dev a e = refl
 no_target_there hosts (t ∷ targets) dev a e = go (t.dev == dev) refl (no_target_there hosts targets dev a.1 e)
   where
     go : (q : Bool) → (t.dev == dev) ≡ q → target_at targets dev ≡ None → cond q (Some t) (target_at targets dev) ≡ None
-    go true is more = absurd (true_false (is_initiator hosts dev) e (subst (λ (d : ℕ). is_initiator hosts d ≡ false) (eqb-true t.dev dev is) (a.0).no_host))
+    go true is more = absurd (true_false (is_initiator hosts dev) e
+        (subst (λ (d : ℕ). is_initiator hosts d ≡ false) (eqb-true t.dev dev is) (a.0).no_host))
     go false is more = more
 
-no_unit_there : (hosts : List HostDef) (units : List UnitDef) (dev : ℕ) → AllByRecursion (IsUnitFit hosts) units → is_initiator hosts dev ≡ true → has_unit units dev ≡ false
+no_unit_there : (hosts : List HostDef) (units : List UnitDef) (dev : ℕ) → AllByRecursion (IsUnitFit hosts) units
+    → is_initiator hosts dev ≡ true → has_unit units dev ≡ false
 no_unit_there hosts [] dev a e = refl
 no_unit_there hosts (u ∷ units) dev a e = go (u.target == dev) refl (no_unit_there hosts units dev a.1 e)
   where
     go : (q : Bool) → (u.target == dev) ≡ q → has_unit units dev ≡ false → (q || has_unit units dev) ≡ false
-    go true is more = absurd (true_false (is_initiator hosts dev) e (subst (λ (d : ℕ). is_initiator hosts d ≡ false) (eqb-true u.target dev is) (a.0).no_host))
+    go true is more = absurd (true_false (is_initiator hosts dev) e
+        (subst (λ (d : ℕ). is_initiator hosts d ≡ false) (eqb-true u.target dev is) (a.0).no_host))
     go false is more = more
 
-retries_found : (hosts : List HostDef) (dev : ℕ) (h : HostDef) → host_at hosts dev ≡ Some h → h.retries ≡ retries_of hosts dev
+retries_found : (hosts : List HostDef) (dev : ℕ) (h : HostDef) → host_at hosts dev ≡ Some h
+    → h.retries ≡ retries_of hosts dev
 retries_found [] dev h e = absurd (none_some h e)
 retries_found (g ∷ hosts) dev h e = go (g.dev == dev) (λ z. retries_found hosts dev h z) e
   where
-    go : (q : Bool) → (host_at hosts dev ≡ Some h → h.retries ≡ retries_of hosts dev) → cond q (Some g) (host_at hosts dev) ≡ Some h → h.retries ≡ (if q then g.retries else retries_of hosts dev)
+    go : (q : Bool) → (host_at hosts dev ≡ Some h → h.retries ≡ retries_of hosts dev)
+        → cond q (Some g) (host_at hosts dev) ≡ Some h → h.retries ≡ (if q then g.retries else retries_of hosts dev)
     go true more z = ap (λ (x : HostDef). x.retries) (sym (some_is g h z))
     go false more z = more z
 
-host_line : (s : ScenarioValue) (h : HostDef) → AreFit s → IsHostWithin h → host_at s.hosts h.dev ≡ Some h → IsHostLine s h
+host_line : (s : ScenarioValue) (h : HostDef) → AreFit s → IsHostWithin h → host_at s.hosts h.dev ≡ Some h
+    → IsHostLine s h
 host_line s h a w e =
     let is : is_initiator s.hosts h.dev ≡ true = found_any (λ (x : HostDef). x.dev == h.dev) s.hosts h e in
     record {
@@ -76,7 +87,8 @@ host_line s h a w e =
       no_unit = no_unit_there s.hosts s.units h.dev a.units is;
     }
 
-target_line : (s : ScenarioValue) (t : TargetDef) → IsTargetFit s.hosts t → target_at s.targets t.dev ≡ Some t → IsTargetLine s t
+target_line : (s : ScenarioValue) (t : TargetDef) → IsTargetFit s.hosts t → target_at s.targets t.dev ≡ Some t
+    → IsTargetLine s t
 target_line s t w e = record {
   below = w.limits.below;
   latency = w.limits.latency;
@@ -89,20 +101,28 @@ target_line s t w e = record {
 
 -- ---- units as they start
 
-starts_found : (s : ScenarioValue) (units : List UnitDef) (target unit : ℕ) (u : UnitDef) → unit_at units target unit ≡ Some u → unit_state_at (starting_units s units) target unit ≡ Some (starting_unit s u)
+starts_found : (s : ScenarioValue) (units : List UnitDef) (target unit : ℕ) (u : UnitDef)
+    → unit_at units target unit ≡ Some u → unit_state_at (starting_units s units) target unit ≡ Some (starting_unit s u)
 starts_found s [] target unit u e = absurd (none_some u e)
-starts_found s (v ∷ units) target unit u e = go (v.target == target && v.unit == unit) (λ z. starts_found s units target unit u z) e
+starts_found s (v ∷ units) target unit u e =
+    go (v.target == target && v.unit == unit) (λ z. starts_found s units target unit u z) e
   where
-    go : (q : Bool) → (unit_at units target unit ≡ Some u → unit_state_at (starting_units s units) target unit ≡ Some (starting_unit s u)) → cond q (Some v) (unit_at units target unit) ≡ Some u
-        → (if q then Some (starting_unit s v) else unit_state_at (starting_units s units) target unit) ≡ Some (starting_unit s u)
+    go : (q : Bool) → (unit_at units target unit ≡ Some u
+        → unit_state_at (starting_units s units) target unit ≡ Some (starting_unit s u))
+        → cond q (Some v) (unit_at units target unit) ≡ Some u
+        → (if q then Some (starting_unit s v) else unit_state_at (starting_units s units) target unit)
+        ≡ Some (starting_unit s u)
     go true more z = ap (λ (x : UnitDef). Some (starting_unit s x)) (some_is v u z)
     go false more z = more z
 
-pub starts_none : (s : ScenarioValue) (units : List UnitDef) (target unit : ℕ) → unit_at units target unit ≡ None → unit_state_at (starting_units s units) target unit ≡ None
+pub starts_none : (s : ScenarioValue) (units : List UnitDef) (target unit : ℕ) → unit_at units target unit ≡ None
+    → unit_state_at (starting_units s units) target unit ≡ None
 starts_none s [] target unit e = refl
-starts_none s (v ∷ units) target unit e = go (v.target == target && v.unit == unit) (λ z. starts_none s units target unit z) e
+starts_none s (v ∷ units) target unit e =
+    go (v.target == target && v.unit == unit) (λ z. starts_none s units target unit z) e
   where
-    go : (q : Bool) → (unit_at units target unit ≡ None → unit_state_at (starting_units s units) target unit ≡ None) → cond q (Some v) (unit_at units target unit) ≡ None
+    go : (q : Bool) → (unit_at units target unit ≡ None → unit_state_at (starting_units s units) target unit ≡ None)
+        → cond q (Some v) (unit_at units target unit) ≡ None
         → (if q then Some (starting_unit s v) else unit_state_at (starting_units s units) target unit) ≡ None
     go true more z = absurd (none_some v (sym z))
     go false more z = more z
@@ -111,7 +131,8 @@ starts_apart : (s : ScenarioValue) (units : List UnitDef) → AreUnitsApart unit
 starts_apart s [] a = tt
 starts_apart s (u ∷ units) a = (starts_none s units u.target u.unit a.0, starts_apart s units a.1)
 
-unit_line : (s : ScenarioValue) (u : UnitDef) → IsUnitFit s.hosts u → unit_at s.units u.target u.unit ≡ Some u → IsUnitLine s u
+unit_line : (s : ScenarioValue) (u : UnitDef) → IsUnitFit s.hosts u → unit_at s.units u.target u.unit ≡ Some u
+    → IsUnitLine s u
 unit_line s u w e = record {
   target = w.limits.target;
   unit = w.limits.unit;
@@ -137,7 +158,8 @@ payload_length payloads.Nothing n e = sym (eqb-true n 0 e)
 payload_length (payloads.Hex bytes) n e = eqb-true (length bytes) n (and_parts (nat_lt 0 n) (length bytes == n) e).1
 payload_length (payloads.From first) n e = length_from first n
 
-command_line : (s : ScenarioValue) (c : CmdDef) → IsCommandFit s.hosts (sent_of s c) (need_of s c) c → IsHex c.cdb × IsHexPayload c.payload → IsCommandLine s c
+command_line : (s : ScenarioValue) (c : CmdDef) → IsCommandFit s.hosts (sent_of s c) (need_of s c) c
+    → IsHex c.cdb × IsHexPayload c.payload → IsCommandLine s c
 command_line s c w h = record {
   host = w.limits.host;
   target = w.limits.target;
@@ -168,12 +190,17 @@ pub obeys_fits : (s : ScenarioValue) → Obeys s → FitsBus s
 obeys_fits s o =
     let a = obeys_fit s o in
     record {
-      hosts = all_both IsHostWithin (λ (h : HostDef). host_at s.hosts h.dev ≡ Some h) (IsHostLine s) s.hosts (λ h w e. host_line s h a w e) a.hosts a.hosts_once;
-      targets = all_both (IsTargetFit s.hosts) (λ (t : TargetDef). target_at s.targets t.dev ≡ Some t) (IsTargetLine s) s.targets (λ t w e. target_line s t w e) a.targets a.targets_once;
-      units = all_both (IsUnitFit s.hosts) (λ (u : UnitDef). unit_at s.units u.target u.unit ≡ Some u) (IsUnitLine s) s.units (λ u w e. unit_line s u w e) a.units a.units_once;
+      hosts = all_both IsHostWithin (λ (h : HostDef). host_at s.hosts h.dev ≡ Some h) (IsHostLine s) s.hosts
+          (λ h w e. host_line s h a w e) a.hosts a.hosts_once;
+      targets = all_both (IsTargetFit s.hosts) (λ (t : TargetDef). target_at s.targets t.dev ≡ Some t)
+          (IsTargetLine s) s.targets (λ t w e. target_line s t w e) a.targets a.targets_once;
+      units = all_both (IsUnitFit s.hosts) (λ (u : UnitDef). unit_at s.units u.target u.unit ≡ Some u)
+          (IsUnitLine s) s.units (λ u w e. unit_line s u w e) a.units a.units_once;
       apart = starts_apart s s.units a.units_apart;
       fills = a.fills;
-      commands = all_both (λ (c : CmdDef). IsCommandFit s.hosts (sent_of s c) (need_of s c) c) (λ (c : CmdDef). IsHex c.cdb × IsHexPayload c.payload) (IsCommandLine s) s.commands (λ c w h. command_line s c w h) a.commands o.commands;
+      commands = all_both (λ (c : CmdDef). IsCommandFit s.hosts (sent_of s c) (need_of s c) c)
+          (λ (c : CmdDef). IsHex c.cdb × IsHexPayload c.payload) (IsCommandLine s) s.commands
+          (λ c w h. command_line s c w h) a.commands o.commands;
       aborts = all_are (IsAbortFit s.hosts) (IsAbortLine s) s.aborts (λ b w. abort_line s b w) a.aborts;
       resets = a.resets;
       faults = a.faults;
@@ -183,22 +210,26 @@ obeys_fits s o =
 
 -- ---- its lines, by their numbers and by the devices that they are of
 
-at_number : (P : CmdDef → Type 0) (commands : List CmdDef) (n : ℕ) (c : CmdDef) → AllByRecursion P commands → command_at commands n ≡ Some c → P c
+at_number : (P : CmdDef → Type 0) (commands : List CmdDef) (n : ℕ) (c : CmdDef) → AllByRecursion P commands
+    → command_at commands n ≡ Some c → P c
 at_number P [] n c a e = absurd (none_some c e)
 at_number P (d ∷ commands) zero c a e = absurd (none_some c e)
 at_number P (d ∷ commands) (suc zero) c a e = subst P (some_is d c e) a.0
 at_number P (d ∷ commands) (suc (suc n)) c a e = at_number P commands (suc n) c a.1 e
 
-abort_at_number : (P : AbortDef → Type 0) (aborts : List AbortDef) (n : ℕ) (b : AbortDef) → AllByRecursion P aborts → abort_line_at aborts n ≡ Some b → P b
+abort_at_number : (P : AbortDef → Type 0) (aborts : List AbortDef) (n : ℕ) (b : AbortDef) → AllByRecursion P aborts
+    → abort_line_at aborts n ≡ Some b → P b
 abort_at_number P [] n b a e = absurd (none_some b e)
 abort_at_number P (d ∷ aborts) zero b a e = absurd (none_some b e)
 abort_at_number P (d ∷ aborts) (suc zero) b a e = subst P (some_is d b e) a.0
 abort_at_number P (d ∷ aborts) (suc (suc n)) b a e = abort_at_number P aborts (suc n) b a.1 e
 
-pub command_fits : (s : ScenarioValue) (n : ℕ) (c : CmdDef) → FitsBus s → command_at s.commands n ≡ Some c → IsCommandLine s c
+pub command_fits : (s : ScenarioValue) (n : ℕ) (c : CmdDef) → FitsBus s → command_at s.commands n ≡ Some c
+    → IsCommandLine s c
 command_fits s n c f e = at_number (IsCommandLine s) s.commands n c f.commands e
 
-pub abort_fits : (s : ScenarioValue) (n : ℕ) (b : AbortDef) → FitsBus s → abort_line_at s.aborts n ≡ Some b → IsAbortLine s b
+pub abort_fits : (s : ScenarioValue) (n : ℕ) (b : AbortDef) → FitsBus s → abort_line_at s.aborts n ≡ Some b
+    → IsAbortLine s b
 abort_fits s n b f e = abort_at_number (IsAbortLine s) s.aborts n b f.aborts e
 
 pub units_are : (s : ScenarioValue) → FitsBus s → AreUnits s
@@ -207,32 +238,59 @@ units_are s f = record {
   aborts = λ n b e. (abort_fits s n b f e).unit;
 }
 
-pub host_fits : (s : ScenarioValue) (dev : ℕ) (h : HostDef) → FitsBus s → host_of s dev ≡ Some h → IsHostLine s h × (h.dev ≡ dev)
-host_fits s dev h f e =
-    (found_holds (IsHostLine s) (λ (x : HostDef). x.dev == dev) s.hosts h f.hosts e, eqb-true h.dev dev (found_passes (λ (x : HostDef). x.dev == dev) s.hosts h e))
+pub host_fits : (s : ScenarioValue) (dev : ℕ) (h : HostDef) → FitsBus s → host_of s dev ≡ Some h
+    → IsHostLine s h × (h.dev ≡ dev)
+host_fits s dev h f e = (
+  found_holds (IsHostLine s) (λ (x : HostDef). x.dev == dev) s.hosts h f.hosts e,
+  eqb-true h.dev dev (found_passes (λ (x : HostDef). x.dev == dev) s.hosts h e),
+)
 
-pub target_fits : (s : ScenarioValue) (dev : ℕ) (t : TargetDef) → FitsBus s → target_def_of s dev ≡ Some t → IsTargetLine s t × (t.dev ≡ dev)
-target_fits s dev t f e =
-    (found_holds (IsTargetLine s) (λ (x : TargetDef). x.dev == dev) s.targets t f.targets e, eqb-true t.dev dev (found_passes (λ (x : TargetDef). x.dev == dev) s.targets t e))
+pub target_fits : (s : ScenarioValue) (dev : ℕ) (t : TargetDef) → FitsBus s → target_def_of s dev ≡ Some t
+    → IsTargetLine s t × (t.dev ≡ dev)
+target_fits s dev t f e = (
+  found_holds (IsTargetLine s) (λ (x : TargetDef). x.dev == dev) s.targets t f.targets e,
+  eqb-true t.dev dev (found_passes (λ (x : TargetDef). x.dev == dev) s.targets t e),
+)
 
-pub unit_fits : (s : ScenarioValue) (target unit : ℕ) (u : UnitDef) → FitsBus s → unit_of s target unit ≡ Some u → IsUnitLine s u × (u.target ≡ target) × (u.unit ≡ unit)
+pub unit_fits : (s : ScenarioValue) (target unit : ℕ) (u : UnitDef) → FitsBus s → unit_of s target unit ≡ Some u
+    → IsUnitLine s u × (u.target ≡ target) × (u.unit ≡ unit)
 unit_fits s target unit u f e =
-    let both = and_parts (u.target == target) (u.unit == unit) (found_passes (λ (x : UnitDef). x.target == target && x.unit == unit) s.units u e) in
-    (found_holds (IsUnitLine s) (λ (x : UnitDef). x.target == target && x.unit == unit) s.units u f.units e, eqb-true u.target target both.0, eqb-true u.unit unit both.1)
+    let both = and_parts (u.target == target) (u.unit == unit)
+    (found_passes (λ (x : UnitDef). x.target == target && x.unit == unit) s.units u e) in (
+      found_holds (IsUnitLine s) (λ (x : UnitDef). x.target == target && x.unit == unit) s.units u f.units e,
+      eqb-true u.target target both.0,
+      eqb-true u.unit unit both.1,
+    )
 
 -- ---- its processes
 
-initiator_is : (s : ScenarioValue) (id : ProcId) (c : CmdDef) → (let p : Process = process_by s id c in p.initiator) ≡ c.host
-initiator_is s id c = either id.sense
-    (record { id = id; initiator = c.host; target = c.target; unit = c.unit; tag = tags.Untagged; cdb = sense_block; sent = [] })
-    (record { id = id; initiator = c.host; target = c.target; unit = c.unit; tag = c.tag; cdb = c.cdb; sent = payload_bytes c.payload (sent_of s c) })
-    refl refl
+initiator_is : (s : ScenarioValue) (id : ProcId) (c : CmdDef)
+    → (let p : Process = process_by s id c in p.initiator) ≡ c.host
+initiator_is s id c = either id.sense (record {
+  id = id;
+  initiator = c.host;
+  target = c.target;
+  unit = c.unit;
+  tag = tags.Untagged;
+  cdb = sense_block;
+  sent = [];
+}) (record {
+  id = id;
+  initiator = c.host;
+  target = c.target;
+  unit = c.unit;
+  tag = c.tag;
+  cdb = c.cdb;
+  sent = payload_bytes c.payload (sent_of s c);
+}) refl refl
   where
-    either : (q : Bool) (one two : Process) → one.initiator ≡ c.host → two.initiator ≡ c.host → (let p : Process = if q then one else two in p.initiator) ≡ c.host
+    either : (q : Bool) (one two : Process) → one.initiator ≡ c.host → two.initiator ≡ c.host
+        → (let p : Process = if q then one else two in p.initiator) ≡ c.host
     either true one two a b = a
     either false one two a b = b
 
-initiator_below : (s : ScenarioValue) (id : ProcId) (o : Option CmdDef) (p : Process) → ((c : CmdDef) → o ≡ Some c → c.host < 8) → process_if s id o ≡ Some p → p.initiator < 8
+initiator_below : (s : ScenarioValue) (id : ProcId) (o : Option CmdDef) (p : Process)
+    → ((c : CmdDef) → o ≡ Some c → c.host < 8) → process_if s id o ≡ Some p → p.initiator < 8
 initiator_below s id None p f e = absurd (none_some p e)
 initiator_below s id (Some c) p f e =
     let same : process_by s id c ≡ p = some_is (process_by s id c) p e in
@@ -240,6 +298,7 @@ initiator_below s id (Some c) p f e =
 
 pub seats_are : (s : ScenarioValue) → FitsBus s → HasSeats s
 seats_are s f = record {
-  initiators = λ id p e. initiator_below s id (command_at s.commands id.command) p (λ c k. (command_fits s id.command c f k).host) e;
+  initiators = λ id p e. initiator_below s id (command_at s.commands id.command) p
+      (λ c k. (command_fits s id.command c f k).host) e;
   apart = f.apart;
 }

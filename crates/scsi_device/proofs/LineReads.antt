@@ -1,10 +1,13 @@
 -- What one line of a scenario shows that has no reason.
-use Rattle.std.proofs.Common.{ℕ, ◌≡◌, ◌≤◌, ◌<◌, ◌-◌, ◌^◌, ◌∙◌, Bool, true, false, not, List, [], ◌∷◌, length, Option, Some, None, Result, Ok, Err, subst, arith}
+use Rattle.std.proofs.Common.{ℕ, ◌≡◌, ◌≤◌, ◌<◌, ◌-◌, ◌^◌, ◌∙◌, Bool, true, false, not, List, [], ◌∷◌, length, Option}
+use Rattle.std.proofs.Common.{Some, None, Result, Ok, Err, subst, arith}
 use Rattle.std.specs.Prelude.{is_some, nat_lt, if◌then◌else◌}
 use Rattle.std.proofs.lemmas.Bool.Decides.{nat_tests}
 use Rattle.bus_due.specs.cdb_codec.specs.Cdb.{is_len}
 use Rattle.text_words.specs.Words.{Number}
-use Rattle.scenario.specs.declared.bounds.TheConstants.{LATENCY_LIMIT, OPEN_LIMIT, RETRY_LIMIT, HOST_OFFSET_LIMIT, TARGET_OFFSET_LIMIT, LAG_LIMIT, SEEK_LIMIT, BLOCK_LIMIT, LEAST_SIZE, SIZE_LIMIT, DEPTH_LIMIT, FAULT_LIMIT}
+use Rattle.scenario.specs.declared.bounds.TheConstants.{LATENCY_LIMIT, OPEN_LIMIT, RETRY_LIMIT, HOST_OFFSET_LIMIT}
+use Rattle.scenario.specs.declared.bounds.TheConstants.{TARGET_OFFSET_LIMIT, LAG_LIMIT, SEEK_LIMIT, BLOCK_LIMIT}
+use Rattle.scenario.specs.declared.bounds.TheConstants.{LEAST_SIZE, SIZE_LIMIT, DEPTH_LIMIT, FAULT_LIMIT}
 use Rattle.scenario.specs.declared.value.HostDef.{HostDef}
 use Rattle.scenario.specs.declared.value.TargetDef.{TargetDef}
 use Rattle.scenario.specs.declared.value.UnitDef.{UnitDef}
@@ -16,9 +19,13 @@ use Rattle.scenario.specs.declared.value.FaultDef.{FaultDef}
 use Rattle.scenario.specs.Value.{ScenarioValue}
 use Rattle.scenario.specs.Lookups.{has_target, has_device, unit_of, has_fill}
 use Rattle.scenario.specs.Needs.{need_of, sent_of}
-use Rattle.scenario.specs.Forms.{Said, CmdSaid, initiator_line, target_line, unit_line, fill_line, abort_line, reset_line, fault_line}
+use Rattle.scenario.specs.Forms.{Said, CmdSaid, initiator_line, target_line, unit_line, fill_line, abort_line}
+use Rattle.scenario.specs.Forms.{reset_line, fault_line}
 use Rattle.scenario.specs.Reasons.{is_block_in}
-use Rattle.scenario.specs.Reading.{guard, found, is_block_of, fill_def, within, in_8, period_in, policy_in, time_in, tag_in, what_in, size_in, is_size, is_block, are_ends, is_payload, has_room, has_abort_room, host_def, target_def, unit_def, cmd_def, full_cmd_def, abort_def, reset_def, fault_def}
+use Rattle.scenario.specs.Reading.{guard, found, is_block_of, fill_def, within, in_8, period_in, policy_in, time_in}
+use Rattle.scenario.specs.Reading.{tag_in, what_in, size_in, is_size, is_block, are_ends, is_payload, has_room}
+use Rattle.scenario.specs.Reading.{has_abort_room, host_def, target_def, unit_def, cmd_def, full_cmd_def, abort_def}
+use Rattle.scenario.specs.Reading.{reset_def, fault_def}
 use Rattle.scenario.proofs.Steps.{bind_ok, ok_is, guard_ok, within_ok}
 use Rattle.scsi_device.proofs.Finds.{none_is}
 use Rattle.std.proofs.lemmas.Bool.{not-true}
@@ -74,7 +81,8 @@ size_within u n e =
     let g = bind_ok (guard 4 (is_size a.0)) _ n a.2 in
     subst (λ (m : ℕ). (16 ≤ m) × (m ≤ 2048)) (ok_is a.0 n g.2) (within_of u 16 2048 a.0 a.1)
 
-six_or_ten : (q r : Bool) (n : ℕ) → is_len (if q then Some 6 else if r then Some 10 else None) n ≡ true → (1 ≤ n) × (n ≤ 10)
+six_or_ten : (q r : Bool) (n : ℕ) → is_len (if q then Some 6 else if r then Some 10 else None) n ≡ true
+    → (1 ≤ n) × (n ≤ 10)
 six_or_ten true r n e = (grind (arith, nat_tests), grind (arith, nat_tests))
 six_or_ten false true n e = (grind (arith, nat_tests), grind (arith, nat_tests))
 six_or_ten false false n e = absurd cc
@@ -90,7 +98,8 @@ host_by s (initiator_line f) = host_def s f
 host_by s _ = Err 0
 
 -- An initiator or a target is new.
-pub host_read : (s : ScenarioValue) (x : Said) (h : HostDef) → host_by s x ≡ Ok h → IsHostWithin h × (has_device s h.dev ≡ false)
+pub host_read : (s : ScenarioValue) (x : Said) (h : HostDef) → host_by s x ≡ Ok h
+    → IsHostWithin h × (has_device s h.dev ≡ false)
 unfolding host_def
 host_read s (initiator_line f) h e =
     let b1 = bind_ok (in_8 f.device) _ h e in
@@ -106,15 +115,18 @@ host_read s (initiator_line f) h e =
     let w3 = within_of f.«open» 1 32 b3.0 b3.1 in
     let w4 = within_of f.retries 0 16 b4.0 b4.1 in
     let w7 = within_of f.lag 0 10000 b7.0 b7.1 in
-    subst (λ (x : HostDef). IsHostWithin x × (has_device s x.dev ≡ false)) (ok_is _ h b8.2)
-    (record { below = let w = w1.1 in omega arith; latency = w2.1; lag = w7.1; most = w3.1; few = w4.1 }, not-true (has_device s b1.0) (guard_ok 5 _ b8.0 b8.1))
+    subst (λ (x : HostDef). IsHostWithin x × (has_device s x.dev ≡ false)) (ok_is _ h b8.2) (
+      record { below = let w = w1.1 in omega arith; latency = w2.1; lag = w7.1; most = w3.1; few = w4.1 },
+      not-true (has_device s b1.0) (guard_ok 5 _ b8.0 b8.1),
+    )
 host_read s _ h e = absurd cc
 
 abbrev pub target_by : ScenarioValue → Said → Result TargetDef ℕ
 target_by s (target_line f) = target_def s f
 target_by s _ = Err 0
 
-pub target_read : (s : ScenarioValue) (x : Said) (t : TargetDef) → target_by s x ≡ Ok t → IsTargetWithin t × (has_device s t.dev ≡ false)
+pub target_read : (s : ScenarioValue) (x : Said) (t : TargetDef) → target_by s x ≡ Ok t
+    → IsTargetWithin t × (has_device s t.dev ≡ false)
 unfolding target_def
 target_read s (target_line f) t e =
     let b1 = bind_ok (in_8 f.device) _ t e in
@@ -129,8 +141,10 @@ target_read s (target_line f) t e =
     let w2 = within_of f.latency 0 100 b2.0 b2.1 in
     let w3 = within_of f.retries 0 16 b3.0 b3.1 in
     let w5 = within_of f.seek 0 1000000000 b5.0 b5.1 in
-    subst (λ (x : TargetDef). IsTargetWithin x × (has_device s x.dev ≡ false)) (ok_is _ t b8.2)
-    (record { below = let w = w1.1 in omega arith; latency = w2.1; few = w3.1; seek = w5.1 }, not-true (has_device s b1.0) (guard_ok 5 _ b8.0 b8.1))
+    subst (λ (x : TargetDef). IsTargetWithin x × (has_device s x.dev ≡ false)) (ok_is _ t b8.2) (
+      record { below = let w = w1.1 in omega arith; latency = w2.1; few = w3.1; seek = w5.1 },
+      not-true (has_device s b1.0) (guard_ok 5 _ b8.0 b8.1),
+    )
 target_read s _ t e = absurd cc
 
 -- A unit is new, and its target is known.
@@ -212,13 +226,15 @@ pub record IsFullCommandRead (s : ScenarioValue) (needs : ℕ) (c : CmdDef) : Ty
   pub sends : is_payload (sent_of s c) c.payload ≡ true
   pub room : has_room s needs (need_of s c) ≡ true
 
-pub full_cmd_read : (s : ScenarioValue) (needs : ℕ) (f : CmdSaid) (c : CmdDef) → full_cmd_def s needs f ≡ Ok c → IsFullCommandRead s needs c
+pub full_cmd_read : (s : ScenarioValue) (needs : ℕ) (f : CmdSaid) (c : CmdDef) → full_cmd_def s needs f ≡ Ok c
+    → IsFullCommandRead s needs c
 unfolding full_cmd_def
 full_cmd_read s needs f c e =
     let b = bind_ok (cmd_def s f) _ c e in
     let u = bind_ok (guard 7 (is_payload (sent_of s b.0) (b.0).payload)) _ c b.2 in
     let v = bind_ok (guard 8 (has_room s needs (need_of s b.0))) _ c u.2 in
-    subst (IsFullCommandRead s needs) (ok_is b.0 c v.2) (record { is = cmd_read s f b.0 b.1; sends = guard_ok 7 _ u.0 u.1; room = guard_ok 8 _ v.0 v.1 })
+    subst (IsFullCommandRead s needs) (ok_is b.0 c v.2)
+    (record { is = cmd_read s f b.0 b.1; sends = guard_ok 7 _ u.0 u.1; room = guard_ok 8 _ v.0 v.1 })
 
 -- An abort is of an initiator, too, and goes to a device that is none, and there is room for it.
 pub record IsAbortRead (s : ScenarioValue) (a : AbortDef) : Type 0 where
@@ -265,7 +281,8 @@ found_is None u e = absurd cc
 found_is (Some v) u e = cc
 
 -- A fill is of a block of its unit.
-pub fill_read : (s : ScenarioValue) (x : Said) (d : FillDef) → fill_by s x ≡ Ok d → is_block_in (unit_of s d.target d.unit) d.lba d.bytes ≡ true
+pub fill_read : (s : ScenarioValue) (x : Said) (d : FillDef) → fill_by s x ≡ Ok d
+    → is_block_in (unit_of s d.target d.unit) d.lba d.bytes ≡ true
 unfolding fill_def
 fill_read s (fill_line f) d e =
     let b1 = bind_ok (in_8 f.target) _ d e in
@@ -296,11 +313,13 @@ abbrev pub fault_by : ScenarioValue → Said → Result FaultDef ℕ
 fault_by s (fault_line f) = fault_def s f
 fault_by s _ = Err 0
 
-pub fault_read : (s : ScenarioValue) (x : Said) (y : FaultDef) → fault_by s x ≡ Ok y → (y.at ≤ 1000000000000) × (y.bit ≤ 8)
+pub fault_read : (s : ScenarioValue) (x : Said) (y : FaultDef) → fault_by s x ≡ Ok y
+    → (y.at ≤ 1000000000000) × (y.bit ≤ 8)
 unfolding fault_def
 fault_read s (fault_line f) y e =
     let b1 = bind_ok (time_in f.at) _ y e in
     let b2 = bind_ok (within f.bit 0 8) _ y b1.2 in
     let b3 = bind_ok (guard 8 (nat_lt (length s.faults) FAULT_LIMIT)) _ y b2.2 in
-    subst (λ (d : FaultDef). (d.at ≤ 1000000000000) × (d.bit ≤ 8)) (ok_is _ y b3.2) ((within_of f.at 0 1000000000000 b1.0 b1.1).1, (within_of f.bit 0 8 b2.0 b2.1).1)
+    subst (λ (d : FaultDef). (d.at ≤ 1000000000000) × (d.bit ≤ 8)) (ok_is _ y b3.2)
+    ((within_of f.at 0 1000000000000 b1.0 b1.1).1, (within_of f.bit 0 8 b2.0 b2.1).1)
 fault_read s _ y e = absurd cc

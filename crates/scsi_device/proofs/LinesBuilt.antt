@@ -7,76 +7,184 @@ use Rattle.scenario.specs.Value.{ScenarioValue}
 use Rattle.scenario.specs.Lookups.{unit_of}
 use Rattle.scenario.specs.Needs.{need_of, sent_of}
 use Rattle.scenario.specs.Reasons.{is_block_in}
-use Rattle.scenario.specs.Forms.{Said, scsi_line, initiator_line, target_line, unit_line, fill_line, cmd_line, abort_line, reset_line, fault_line, end_line}
-use Rattle.scenario.specs.Reading.{Progress, guard, host_def, target_def, unit_def, fill_def, full_cmd_def, abort_def, reset_def, fault_def, added, said_after, fits_version, in_order, rank, kind_of, nothing}
+use Rattle.scenario.specs.Forms.{Said, scsi_line, initiator_line, target_line, unit_line, fill_line, cmd_line}
+use Rattle.scenario.specs.Forms.{abort_line, reset_line, fault_line, end_line}
+use Rattle.scenario.specs.Reading.{Progress, guard, host_def, target_def, unit_def, fill_def, full_cmd_def, abort_def}
+use Rattle.scenario.specs.Reading.{reset_def, fault_def, added, said_after, fits_version, in_order, rank, kind_of}
+use Rattle.scenario.specs.Reading.{nothing}
 use Rattle.scenario.specs.Writing.{saids, built, Obeys}
 use Rattle.scenario.proofs.Steps.{bind_ok, ok_is, guard_ok}
 use Rattle.scsi_device.proofs.Finds.{all_more}
-use Rattle.scsi_device.proofs.LineReads.{host_read, target_read, unit_read, fill_read, full_cmd_read, abort_read, reset_read, fault_read}
-use Rattle.scsi_device.proofs.LinesSoFar.{AreFit, AreLater, no_sooner, still, with_host, with_target, with_unit, with_command, with_abort}
+use Rattle.scsi_device.proofs.LineReads.{host_read, target_read, unit_read, fill_read, full_cmd_read, abort_read}
+use Rattle.scsi_device.proofs.LineReads.{reset_read, fault_read}
+use Rattle.scsi_device.proofs.LinesSoFar.{AreFit, AreLater, no_sooner, still, with_host, with_target, with_unit}
+use Rattle.scsi_device.proofs.LinesSoFar.{with_command, with_abort}
 
 -- ---- any line more
 
-fit_added : (d z : Progress) (x : Said) → added d x ≡ Ok z → AreFit d.scenario → AreLater (rank (kind_of x)) d.scenario → AreFit z.scenario
+fit_added : (d z : Progress) (x : Said) → added d x ≡ Ok z → AreFit d.scenario → AreLater (rank (kind_of x)) d.scenario
+    → AreFit z.scenario
 unfolding added need_of sent_of
-fit_added d z (scsi_line v) e a l =
-    subst (λ (p : Progress). AreFit p.scenario) (ok_is _ z e) (record { hosts = a.hosts; hosts_once = a.hosts_once; targets = a.targets; targets_once = a.targets_once; units = a.units; units_once = a.units_once; units_apart = a.units_apart; fills = a.fills; commands = a.commands; aborts = a.aborts; resets = a.resets; faults = a.faults; few_commands = a.few_commands; few_aborts = a.few_aborts })
+fit_added d z (scsi_line v) e a l = subst (λ (p : Progress). AreFit p.scenario) (ok_is _ z e) (record {
+  hosts = a.hosts;
+  hosts_once = a.hosts_once;
+  targets = a.targets;
+  targets_once = a.targets_once;
+  units = a.units;
+  units_once = a.units_once;
+  units_apart = a.units_apart;
+  fills = a.fills;
+  commands = a.commands;
+  aborts = a.aborts;
+  resets = a.resets;
+  faults = a.faults;
+  few_commands = a.few_commands;
+  few_aborts = a.few_aborts;
+})
 fit_added d z (initiator_line f) e a l =
     let b = bind_ok (host_def d.scenario f) _ z e in
-    subst (λ (p : Progress). AreFit p.scenario) (ok_is _ z b.2) (with_host d.scenario b.0 a l (host_read d.scenario (initiator_line f) b.0 b.1))
+    subst (λ (p : Progress). AreFit p.scenario) (ok_is _ z b.2)
+    (with_host d.scenario b.0 a l (host_read d.scenario (initiator_line f) b.0 b.1))
 fit_added d z (target_line f) e a l =
     let b = bind_ok (target_def d.scenario f) _ z e in
-    subst (λ (p : Progress). AreFit p.scenario) (ok_is _ z b.2) (with_target d.scenario b.0 a l (target_read d.scenario (target_line f) b.0 b.1))
+    subst (λ (p : Progress). AreFit p.scenario) (ok_is _ z b.2)
+    (with_target d.scenario b.0 a l (target_read d.scenario (target_line f) b.0 b.1))
 fit_added d z (unit_line f) e a l =
     let b = bind_ok (unit_def d.scenario f) _ z e in
-    subst (λ (p : Progress). AreFit p.scenario) (ok_is _ z b.2) (with_unit d.scenario b.0 a l (unit_read d.scenario (unit_line f) b.0 b.1))
+    subst (λ (p : Progress). AreFit p.scenario) (ok_is _ z b.2)
+    (with_unit d.scenario b.0 a l (unit_read d.scenario (unit_line f) b.0 b.1))
 fit_added d z (fill_line f) e a l =
     let b = bind_ok (fill_def d.scenario f) _ z e in
-    let r = all_more (λ (x : FillDef). is_block_in (unit_of d.scenario x.target x.unit) x.lba x.bytes ≡ true) d.scenario.fills b.0 a.fills (fill_read d.scenario (fill_line f) b.0 b.1) in
-    subst (λ (p : Progress). AreFit p.scenario) (ok_is _ z b.2) (record { hosts = a.hosts; hosts_once = a.hosts_once; targets = a.targets; targets_once = a.targets_once; units = a.units; units_once = a.units_once; units_apart = a.units_apart; fills = r; commands = a.commands; aborts = a.aborts; resets = a.resets; faults = a.faults; few_commands = a.few_commands; few_aborts = a.few_aborts })
+    let r = all_more (λ (x : FillDef). is_block_in (unit_of d.scenario x.target x.unit) x.lba x.bytes ≡ true)
+    d.scenario.fills b.0 a.fills (fill_read d.scenario (fill_line f) b.0 b.1) in
+    subst (λ (p : Progress). AreFit p.scenario) (ok_is _ z b.2) (record {
+      hosts = a.hosts;
+      hosts_once = a.hosts_once;
+      targets = a.targets;
+      targets_once = a.targets_once;
+      units = a.units;
+      units_once = a.units_once;
+      units_apart = a.units_apart;
+      fills = r;
+      commands = a.commands;
+      aborts = a.aborts;
+      resets = a.resets;
+      faults = a.faults;
+      few_commands = a.few_commands;
+      few_aborts = a.few_aborts;
+    })
 fit_added d z (cmd_line f) e a l =
     let b = bind_ok (full_cmd_def d.scenario d.needs f) _ z e in
-    subst (λ (p : Progress). AreFit p.scenario) (ok_is _ z b.2) (with_command d.scenario d.needs b.0 a (full_cmd_read d.scenario d.needs f b.0 b.1))
+    subst (λ (p : Progress). AreFit p.scenario) (ok_is _ z b.2)
+    (with_command d.scenario d.needs b.0 a (full_cmd_read d.scenario d.needs f b.0 b.1))
 fit_added d z (abort_line f) e a l =
     let b = bind_ok (abort_def d.scenario f) _ z e in
-    subst (λ (p : Progress). AreFit p.scenario) (ok_is _ z b.2) (with_abort d.scenario b.0 a (abort_read d.scenario (abort_line f) b.0 b.1))
+    subst (λ (p : Progress). AreFit p.scenario) (ok_is _ z b.2)
+    (with_abort d.scenario b.0 a (abort_read d.scenario (abort_line f) b.0 b.1))
 fit_added d z (reset_line f) e a l =
     let b = bind_ok (reset_def d.scenario f) _ z e in
-    let r = all_more (λ (r : ResetDef). r.at ≤ 1000000000000) d.scenario.resets b.0 a.resets (reset_read d.scenario (reset_line f) b.0 b.1) in
-    subst (λ (p : Progress). AreFit p.scenario) (ok_is _ z b.2) (record { hosts = a.hosts; hosts_once = a.hosts_once; targets = a.targets; targets_once = a.targets_once; units = a.units; units_once = a.units_once; units_apart = a.units_apart; fills = a.fills; commands = a.commands; aborts = a.aborts; resets = r; faults = a.faults; few_commands = a.few_commands; few_aborts = a.few_aborts })
+    let r = all_more (λ (r : ResetDef). r.at ≤ 1000000000000) d.scenario.resets b.0 a.resets
+    (reset_read d.scenario (reset_line f) b.0 b.1) in
+    subst (λ (p : Progress). AreFit p.scenario) (ok_is _ z b.2) (record {
+      hosts = a.hosts;
+      hosts_once = a.hosts_once;
+      targets = a.targets;
+      targets_once = a.targets_once;
+      units = a.units;
+      units_once = a.units_once;
+      units_apart = a.units_apart;
+      fills = a.fills;
+      commands = a.commands;
+      aborts = a.aborts;
+      resets = r;
+      faults = a.faults;
+      few_commands = a.few_commands;
+      few_aborts = a.few_aborts;
+    })
 fit_added d z (fault_line f) e a l =
     let b = bind_ok (fault_def d.scenario f) _ z e in
-    let r = all_more (λ (f : FaultDef). (f.at ≤ 1000000000000) × (f.bit ≤ 8)) d.scenario.faults b.0 a.faults (fault_read d.scenario (fault_line f) b.0 b.1) in
-    subst (λ (p : Progress). AreFit p.scenario) (ok_is _ z b.2) (record { hosts = a.hosts; hosts_once = a.hosts_once; targets = a.targets; targets_once = a.targets_once; units = a.units; units_once = a.units_once; units_apart = a.units_apart; fills = a.fills; commands = a.commands; aborts = a.aborts; resets = a.resets; faults = r; few_commands = a.few_commands; few_aborts = a.few_aborts })
+    let r = all_more (λ (f : FaultDef). (f.at ≤ 1000000000000) × (f.bit ≤ 8)) d.scenario.faults b.0 a.faults
+    (fault_read d.scenario (fault_line f) b.0 b.1) in
+    subst (λ (p : Progress). AreFit p.scenario) (ok_is _ z b.2) (record {
+      hosts = a.hosts;
+      hosts_once = a.hosts_once;
+      targets = a.targets;
+      targets_once = a.targets_once;
+      units = a.units;
+      units_once = a.units_once;
+      units_apart = a.units_apart;
+      fills = a.fills;
+      commands = a.commands;
+      aborts = a.aborts;
+      resets = a.resets;
+      faults = r;
+      few_commands = a.few_commands;
+      few_aborts = a.few_aborts;
+    })
 fit_added d z end_line e a l = subst (λ (p : Progress). AreFit p.scenario) (ok_is d z e) a
 
-later_added : (d z : Progress) (x : Said) → added d x ≡ Ok z → AreLater (rank (kind_of x)) d.scenario → AreLater (rank (kind_of x)) z.scenario
+later_added : (d z : Progress) (x : Said) → added d x ≡ Ok z → AreLater (rank (kind_of x)) d.scenario
+    → AreLater (rank (kind_of x)) z.scenario
 unfolding added
-later_added d z (scsi_line v) e l = subst (λ (p : Progress). AreLater 1 p.scenario) (ok_is _ z e) (record { targets = l.targets; units = l.units; fills = l.fills; commands = l.commands; aborts = l.aborts })
+later_added d z (scsi_line v) e l = subst (λ (p : Progress). AreLater 1 p.scenario) (ok_is _ z e)
+    (record { targets = l.targets; units = l.units; fills = l.fills; commands = l.commands; aborts = l.aborts })
 later_added d z (initiator_line f) e l =
     let b = bind_ok (host_def d.scenario f) _ z e in
-    subst (λ (p : Progress). AreLater 2 p.scenario) (ok_is _ z b.2) (record { targets = l.targets; units = l.units; fills = l.fills; commands = l.commands; aborts = l.aborts })
+    subst (λ (p : Progress). AreLater 2 p.scenario) (ok_is _ z b.2)
+    (record { targets = l.targets; units = l.units; fills = l.fills; commands = l.commands; aborts = l.aborts })
 later_added d z (target_line f) e l =
     let b = bind_ok (target_def d.scenario f) _ z e in
-    subst (λ (p : Progress). AreLater 3 p.scenario) (ok_is _ z b.2) (record { targets = λ w. absurd (omega arith); units = l.units; fills = l.fills; commands = l.commands; aborts = l.aborts })
+    subst (λ (p : Progress). AreLater 3 p.scenario) (ok_is _ z b.2) (record {
+      targets = λ w. absurd (omega arith);
+      units = l.units;
+      fills = l.fills;
+      commands = l.commands;
+      aborts = l.aborts;
+    })
 later_added d z (unit_line f) e l =
     let b = bind_ok (unit_def d.scenario f) _ z e in
-    subst (λ (p : Progress). AreLater 4 p.scenario) (ok_is _ z b.2) (record { targets = λ w. absurd (omega arith); units = λ w. absurd (omega arith); fills = l.fills; commands = l.commands; aborts = l.aborts })
+    subst (λ (p : Progress). AreLater 4 p.scenario) (ok_is _ z b.2) (record {
+      targets = λ w. absurd (omega arith);
+      units = λ w. absurd (omega arith);
+      fills = l.fills;
+      commands = l.commands;
+      aborts = l.aborts;
+    })
 later_added d z (fill_line f) e l =
     let b = bind_ok (fill_def d.scenario f) _ z e in
-    subst (λ (p : Progress). AreLater 5 p.scenario) (ok_is _ z b.2) (record { targets = l.targets; units = l.units; fills = λ w. absurd (omega arith); commands = l.commands; aborts = l.aborts })
+    subst (λ (p : Progress). AreLater 5 p.scenario) (ok_is _ z b.2) (record {
+      targets = l.targets;
+      units = l.units;
+      fills = λ w. absurd (omega arith);
+      commands = l.commands;
+      aborts = l.aborts;
+    })
 later_added d z (cmd_line f) e l =
     let b = bind_ok (full_cmd_def d.scenario d.needs f) _ z e in
-    subst (λ (p : Progress). AreLater 6 p.scenario) (ok_is _ z b.2) (record { targets = l.targets; units = l.units; fills = l.fills; commands = λ w. absurd (omega arith); aborts = l.aborts })
+    subst (λ (p : Progress). AreLater 6 p.scenario) (ok_is _ z b.2) (record {
+      targets = l.targets;
+      units = l.units;
+      fills = l.fills;
+      commands = λ w. absurd (omega arith);
+      aborts = l.aborts;
+    })
 later_added d z (abort_line f) e l =
     let b = bind_ok (abort_def d.scenario f) _ z e in
-    subst (λ (p : Progress). AreLater 7 p.scenario) (ok_is _ z b.2) (record { targets = l.targets; units = l.units; fills = l.fills; commands = l.commands; aborts = λ w. absurd (omega arith) })
+    subst (λ (p : Progress). AreLater 7 p.scenario) (ok_is _ z b.2) (record {
+      targets = l.targets;
+      units = l.units;
+      fills = l.fills;
+      commands = l.commands;
+      aborts = λ w. absurd (omega arith);
+    })
 later_added d z (reset_line f) e l =
     let b = bind_ok (reset_def d.scenario f) _ z e in
-    subst (λ (p : Progress). AreLater 8 p.scenario) (ok_is _ z b.2) (record { targets = l.targets; units = l.units; fills = l.fills; commands = l.commands; aborts = l.aborts })
+    subst (λ (p : Progress). AreLater 8 p.scenario) (ok_is _ z b.2)
+    (record { targets = l.targets; units = l.units; fills = l.fills; commands = l.commands; aborts = l.aborts })
 later_added d z (fault_line f) e l =
     let b = bind_ok (fault_def d.scenario f) _ z e in
-    subst (λ (p : Progress). AreLater 9 p.scenario) (ok_is _ z b.2) (record { targets = l.targets; units = l.units; fills = l.fills; commands = l.commands; aborts = l.aborts })
+    subst (λ (p : Progress). AreLater 9 p.scenario) (ok_is _ z b.2)
+    (record { targets = l.targets; units = l.units; fills = l.fills; commands = l.commands; aborts = l.aborts })
 later_added d z end_line e l = subst (λ (p : Progress). AreLater 10 p.scenario) (ok_is d z e) l
 
 -- ---- all lines
@@ -91,8 +199,10 @@ fit_after d z x e a =
     let v = bind_ok (guard 2 (fits_version d.scenario.version x)) _ z e in
     let o = bind_ok (guard 3 (in_order (rank d.last) (rank (kind_of x)))) _ z v.2 in
     let b = bind_ok (added d x) _ z o.2 in
-    let later = still d.scenario (rank d.last) (rank (kind_of x)) a.later (no_sooner (rank d.last) (rank (kind_of x)) (guard_ok 3 _ o.0 o.1)) in
-    subst IsFitSoFar (ok_is _ z b.2) (record { fit = fit_added d b.0 x b.1 a.fit later; later = later_added d b.0 x b.1 later })
+    let later = still d.scenario (rank d.last) (rank (kind_of x)) a.later
+    (no_sooner (rank d.last) (rank (kind_of x)) (guard_ok 3 _ o.0 o.1)) in
+    subst IsFitSoFar (ok_is _ z b.2)
+    (record { fit = fit_added d b.0 x b.1 a.fit later; later = later_added d b.0 x b.1 later })
 
 fit_built : (d z : Progress) (xs : List Said) → built d xs ≡ Ok z → IsFitSoFar d → IsFitSoFar z
 fit_built d z [] e a = subst IsFitSoFar (ok_is d z e) a
@@ -100,8 +210,24 @@ fit_built d z (x ∷ xs) e a = let b = bind_ok (said_after d x) _ z e in fit_bui
 
 fit_nothing : IsFitSoFar nothing
 fit_nothing = record {
-  fit = record { hosts = tt; hosts_once = tt; targets = tt; targets_once = tt; units = tt; units_once = tt; units_apart = tt; fills = tt; commands = tt; aborts = tt; resets = tt; faults = tt; few_commands = omega arith; few_aborts = omega arith };
-  later = record { targets = λ w. refl; units = λ w. refl; fills = λ w. refl; commands = λ w. refl; aborts = λ w. refl };
+  fit = record {
+    hosts = tt;
+    hosts_once = tt;
+    targets = tt;
+    targets_once = tt;
+    units = tt;
+    units_once = tt;
+    units_apart = tt;
+    fills = tt;
+    commands = tt;
+    aborts = tt;
+    resets = tt;
+    faults = tt;
+    few_commands = omega arith;
+    few_aborts = omega arith;
+  };
+  later =
+      record { targets = λ w. refl; units = λ w. refl; fills = λ w. refl; commands = λ w. refl; aborts = λ w. refl };
 }
 
 pub obeys_fit : (s : ScenarioValue) → Obeys s → AreFit s

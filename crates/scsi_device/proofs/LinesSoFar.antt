@@ -1,5 +1,6 @@
 -- What holds of the lines of a scenario so far, each after those before it.
-use Rattle.std.proofs.Common.{ℕ, ◌≡◌, ◌≤◌, ◌<◌, Bool, true, false, cond, not, ◌||◌, ◌&&◌, List, [], ◌∷◌, ◌++◌, length, Option, Some, None, refl, subst, arith, length-append}
+use Rattle.std.proofs.Common.{ℕ, ◌≡◌, ◌≤◌, ◌<◌, Bool, true, false, cond, not, ◌||◌, ◌&&◌, List, [], ◌∷◌, ◌++◌, length}
+use Rattle.std.proofs.Common.{Option, Some, None, refl, subst, arith, length-append}
 use Rattle.std.specs.Prelude.{◌==◌, nat_lt, nat_le}
 use Rattle.std.specs.List.{find, list_any, AllByRecursion}
 use Rattle.std.proofs.lemmas.Bool.Decides.{nat_tests}
@@ -16,8 +17,10 @@ use Rattle.scenario.specs.Lookups.{has_host, has_target, has_device}
 use Rattle.scenario.specs.Needs.{need_of, sent_of}
 use Rattle.scenario.specs.Reasons.{is_block_in}
 use Rattle.scenario.specs.Reading.{is_payload, has_room, has_abort_room, in_order}
-use Rattle.scsi_device.proofs.Finds.{all_more, all_are, all_of_none, find_kept, find_new, find_not, find_none, find_rest}
-use Rattle.scsi_device.proofs.LineReads.{IsHostWithin, IsTargetWithin, IsUnitWithin, IsCommandWithin, IsAbortWithin, IsUnitRead, IsFullCommandRead, IsAbortRead}
+use Rattle.scsi_device.proofs.Finds.{all_more, all_are, all_of_none, find_kept, find_new, find_not, find_none}
+use Rattle.scsi_device.proofs.Finds.{find_rest}
+use Rattle.scsi_device.proofs.LineReads.{IsHostWithin, IsTargetWithin, IsUnitWithin, IsCommandWithin, IsAbortWithin}
+use Rattle.scsi_device.proofs.LineReads.{IsUnitRead, IsFullCommandRead, IsAbortRead}
 use Rattle.std.proofs.lemmas.Bool.{not-true, eqb-true, and_parts, or_parts}
 use Rattle.bus_base.proofs.Tests.{eq_self}
 use Rattle.bus_due.specs.disk_array.specs.Seats.{is_initiator}
@@ -67,7 +70,8 @@ pub record AreFit (s : ScenarioValue) : Type 0 where
   pub units : AllByRecursion (IsUnitFit s.hosts) s.units
   pub units_once : AllByRecursion (λ u. unit_at s.units u.target u.unit ≡ Some u) s.units
   pub units_apart : AreUnitsApart s.units
-  pub fills : AllByRecursion (λ (f : FillDef). is_block_in (unit_at s.units f.target f.unit) f.lba f.bytes ≡ true) s.fills
+  pub fills : AllByRecursion (λ (f : FillDef). is_block_in (unit_at s.units f.target f.unit) f.lba f.bytes ≡ true)
+      s.fills
   pub commands : AllByRecursion (λ c. IsCommandFit s.hosts (sent_of s c) (need_of s c) c) s.commands
   pub aborts : AllByRecursion (IsAbortFit s.hosts) s.aborts
   pub resets : AllByRecursion (λ (r : ResetDef). r.at ≤ 1000000000000) s.resets
@@ -86,17 +90,25 @@ pub record AreLater (r : ℕ) (s : ScenarioValue) : Type 0 where
 
 pub no_sooner : (last next : ℕ) → in_order last next ≡ true → last ≤ next
 no_sooner last next e = go (last == 0) refl e where
-  go : (q : Bool) → (last == 0) ≡ q → cond q (next == 1) ((nat_lt 1 next && nat_le last next) && nat_lt last 10) ≡ true → last ≤ next
+  go : (q : Bool) → (last == 0) ≡ q → cond q (next == 1) ((nat_lt 1 next && nat_le last next) && nat_lt last 10) ≡ true
+      → last ≤ next
   go true a h = grind (arith, nat_tests)
   go false a h = grind (arith, nat_tests)
 
 pub still : (s : ScenarioValue) (r q : ℕ) → AreLater r s → r ≤ q → AreLater q s
-still s r q a le = record { targets = λ z. a.targets (omega arith); units = λ z. a.units (omega arith); fills = λ z. a.fills (omega arith); commands = λ z. a.commands (omega arith); aborts = λ z. a.aborts (omega arith) }
+still s r q a le = record {
+  targets = λ z. a.targets (omega arith);
+  units = λ z. a.units (omega arith);
+  fills = λ z. a.fills (omega arith);
+  commands = λ z. a.commands (omega arith);
+  aborts = λ z. a.aborts (omega arith);
+}
 
 -- ---- one line more
 
 -- An initiator comes before all but initiators.
-pub with_host : (s : ScenarioValue) (h : HostDef) → AreFit s → AreLater 2 s → IsHostWithin h × (has_device s h.dev ≡ false) → AreFit (record s { hosts = s.hosts ++ h ∷ [] })
+pub with_host : (s : ScenarioValue) (h : HostDef) → AreFit s → AreLater 2 s
+    → IsHostWithin h × (has_device s h.dev ≡ false) → AreFit (record s { hosts = s.hosts ++ h ∷ [] })
 unfolding need_of sent_of
 with_host s h a l r =
     let new = or_parts (has_host s h.dev) (has_target s h.dev) r.1 in
@@ -104,15 +116,18 @@ with_host s h a l r =
     record {
       hosts = all_more IsHostWithin s.hosts h a.hosts r.0;
       hosts_once = all_more (λ (g : HostDef). host_at hs g.dev ≡ Some g) s.hosts h
-          (all_are (λ (g : HostDef). host_at s.hosts g.dev ≡ Some g) (λ (g : HostDef). host_at hs g.dev ≡ Some g) s.hosts (λ g e. find_kept (λ (x : HostDef). x.dev == g.dev) s.hosts h g e) a.hosts_once)
-          (find_new (λ (x : HostDef). x.dev == h.dev) s.hosts h (find_none (λ (x : HostDef). x.dev == h.dev) s.hosts new.0) (eq_self h.dev));
+          (all_are (λ (g : HostDef). host_at s.hosts g.dev ≡ Some g) (λ (g : HostDef). host_at hs g.dev ≡ Some g)
+          s.hosts (λ g e. find_kept (λ (x : HostDef). x.dev == g.dev) s.hosts h g e) a.hosts_once)
+          (find_new (λ (x : HostDef). x.dev == h.dev) s.hosts h
+          (find_none (λ (x : HostDef). x.dev == h.dev) s.hosts new.0) (eq_self h.dev));
       targets = all_of_none (IsTargetFit hs) s.targets (l.targets (omega arith));
       targets_once = a.targets_once;
       units = all_of_none (IsUnitFit hs) s.units (l.units (omega arith));
       units_once = a.units_once;
       units_apart = a.units_apart;
       fills = a.fills;
-      commands = all_of_none (λ (c : CmdDef). IsCommandFit hs (sent_of s c) (need_of s c) c) s.commands (l.commands (omega arith));
+      commands = all_of_none (λ (c : CmdDef). IsCommandFit hs (sent_of s c) (need_of s c) c) s.commands
+          (l.commands (omega arith));
       aborts = all_of_none (IsAbortFit hs) s.aborts (l.aborts (omega arith));
       resets = a.resets;
       faults = a.faults;
@@ -121,7 +136,8 @@ with_host s h a l r =
     }
 
 -- A target comes before commands.
-pub with_target : (s : ScenarioValue) (t : TargetDef) → AreFit s → AreLater 3 s → IsTargetWithin t × (has_device s t.dev ≡ false) → AreFit (record s { targets = s.targets ++ t ∷ [] })
+pub with_target : (s : ScenarioValue) (t : TargetDef) → AreFit s → AreLater 3 s
+    → IsTargetWithin t × (has_device s t.dev ≡ false) → AreFit (record s { targets = s.targets ++ t ∷ [] })
 with_target s t a l r =
     let new = or_parts (has_host s t.dev) (has_target s t.dev) r.1 in
     let ts : List TargetDef = s.targets ++ t ∷ [] in
@@ -130,14 +146,17 @@ with_target s t a l r =
       hosts = a.hosts;
       hosts_once = a.hosts_once;
       targets = all_more (IsTargetFit s.hosts) s.targets t a.targets (record { limits = r.0; no_host = new.0 });
-      targets_once = all_more (λ (g : TargetDef). target_at ts g.dev ≡ Some g) s.targets t
-          (all_are (λ (g : TargetDef). target_at s.targets g.dev ≡ Some g) (λ (g : TargetDef). target_at ts g.dev ≡ Some g) s.targets (λ g e. find_kept (λ (x : TargetDef). x.dev == g.dev) s.targets t g e) a.targets_once)
-          (find_new (λ (x : TargetDef). x.dev == t.dev) s.targets t (find_none (λ (x : TargetDef). x.dev == t.dev) s.targets new.1) (eq_self t.dev));
+      targets_once = all_more (λ (g : TargetDef). target_at ts g.dev ≡ Some g) s.targets t (all_are
+          (λ (g : TargetDef). target_at s.targets g.dev ≡ Some g) (λ (g : TargetDef). target_at ts g.dev ≡ Some g)
+          s.targets (λ g e. find_kept (λ (x : TargetDef). x.dev == g.dev) s.targets t g e) a.targets_once)
+          (find_new (λ (x : TargetDef). x.dev == t.dev) s.targets t
+          (find_none (λ (x : TargetDef). x.dev == t.dev) s.targets new.1) (eq_self t.dev));
       units = a.units;
       units_once = a.units_once;
       units_apart = a.units_apart;
       fills = a.fills;
-      commands = all_of_none (λ (c : CmdDef). IsCommandFit s.hosts (sent_of z c) (need_of z c) c) s.commands (l.commands (omega arith));
+      commands = all_of_none (λ (c : CmdDef). IsCommandFit s.hosts (sent_of z c) (need_of z c) c) s.commands
+          (l.commands (omega arith));
       aborts = a.aborts;
       resets = a.resets;
       faults = a.faults;
@@ -146,11 +165,14 @@ with_target s t a l r =
     }
 
 -- The target of a unit is no initiator.
-of_target : (hosts : List HostDef) (targets : List TargetDef) (dev : ℕ) → AllByRecursion (IsTargetFit hosts) targets → list_any (λ (t : TargetDef). t.dev == dev) targets ≡ true → is_initiator hosts dev ≡ false
+of_target : (hosts : List HostDef) (targets : List TargetDef) (dev : ℕ) → AllByRecursion (IsTargetFit hosts) targets
+    → list_any (λ (t : TargetDef). t.dev == dev) targets ≡ true → is_initiator hosts dev ≡ false
 of_target hosts [] dev a e = absurd cc
 of_target hosts (t ∷ targets) dev a e = go (t.dev == dev) refl (λ z. of_target hosts targets dev a.1 z) e
   where
-    go : (q : Bool) → (t.dev == dev) ≡ q → (list_any (λ (x : TargetDef). x.dev == dev) targets ≡ true → is_initiator hosts dev ≡ false) → (q || list_any (λ (x : TargetDef). x.dev == dev) targets) ≡ true → is_initiator hosts dev ≡ false
+    go : (q : Bool) → (t.dev == dev) ≡ q
+        → (list_any (λ (x : TargetDef). x.dev == dev) targets ≡ true → is_initiator hosts dev ≡ false)
+        → (q || list_any (λ (x : TargetDef). x.dev == dev) targets) ≡ true → is_initiator hosts dev ≡ false
     go true is more z = subst (λ (d : ℕ). is_initiator hosts d ≡ false) (eqb-true t.dev dev is) (a.0).no_host
     go false is more z = more z
 
@@ -160,14 +182,19 @@ other_way a b c d e = grind (arith, nat_tests)
 unit_itself : (a b : ℕ) → (a == a && b == b) ≡ true
 unit_itself a b = grind (arith, nat_tests)
 
-apart_more : (units : List UnitDef) (u : UnitDef) → AreUnitsApart units → unit_at units u.target u.unit ≡ None → AreUnitsApart (units ++ u ∷ [])
+apart_more : (units : List UnitDef) (u : UnitDef) → AreUnitsApart units → unit_at units u.target u.unit ≡ None
+    → AreUnitsApart (units ++ u ∷ [])
 apart_more [] u a e = (refl, tt)
 apart_more (v ∷ units) u a e =
-    let r = find_rest (λ (x : UnitDef). x.target == u.target && x.unit == u.unit) v units e in
-    (find_not (λ (x : UnitDef). x.target == v.target && x.unit == v.unit) units u a.0 (other_way v.target u.target v.unit u.unit r.0), apart_more units u a.1 r.1)
+    let r = find_rest (λ (x : UnitDef). x.target == u.target && x.unit == u.unit) v units e in (
+      find_not (λ (x : UnitDef). x.target == v.target && x.unit == v.unit) units u a.0
+          (other_way v.target u.target v.unit u.unit r.0),
+      apart_more units u a.1 r.1,
+    )
 
 -- A unit comes before commands, too.
-pub with_unit : (s : ScenarioValue) (u : UnitDef) → AreFit s → AreLater 4 s → IsUnitRead s u → AreFit (record s { units = s.units ++ u ∷ [] })
+pub with_unit : (s : ScenarioValue) (u : UnitDef) → AreFit s → AreLater 4 s → IsUnitRead s u
+    → AreFit (record s { units = s.units ++ u ∷ [] })
 with_unit s u a l r =
     let us : List UnitDef = s.units ++ u ∷ [] in
     let z : ScenarioValue = record s { units = us } in
@@ -176,13 +203,19 @@ with_unit s u a l r =
       hosts_once = a.hosts_once;
       targets = a.targets;
       targets_once = a.targets_once;
-      units = all_more (IsUnitFit s.hosts) s.units u a.units (record { limits = r.limits; no_host = of_target s.hosts s.targets u.target a.targets r.known });
+      units = all_more (IsUnitFit s.hosts) s.units u a.units
+          (record { limits = r.limits; no_host = of_target s.hosts s.targets u.target a.targets r.known });
       units_once = all_more (λ (g : UnitDef). unit_at us g.target g.unit ≡ Some g) s.units u
-          (all_are (λ (g : UnitDef). unit_at s.units g.target g.unit ≡ Some g) (λ (g : UnitDef). unit_at us g.target g.unit ≡ Some g) s.units (λ g e. find_kept (λ (x : UnitDef). x.target == g.target && x.unit == g.unit) s.units u g e) a.units_once)
-          (find_new (λ (x : UnitDef). x.target == u.target && x.unit == u.unit) s.units u r.new (unit_itself u.target u.unit));
+          (all_are (λ (g : UnitDef). unit_at s.units g.target g.unit ≡ Some g)
+          (λ (g : UnitDef). unit_at us g.target g.unit ≡ Some g) s.units
+          (λ g e. find_kept (λ (x : UnitDef). x.target == g.target && x.unit == g.unit) s.units u g e) a.units_once)
+          (find_new (λ (x : UnitDef). x.target == u.target && x.unit == u.unit) s.units u r.new
+          (unit_itself u.target u.unit));
       units_apart = apart_more s.units u a.units_apart r.new;
-      fills = all_of_none (λ (f : FillDef). is_block_in (unit_at us f.target f.unit) f.lba f.bytes ≡ true) s.fills (l.fills (omega arith));
-      commands = all_of_none (λ (c : CmdDef). IsCommandFit s.hosts (sent_of z c) (need_of z c) c) s.commands (l.commands (omega arith));
+      fills = all_of_none (λ (f : FillDef). is_block_in (unit_at us f.target f.unit) f.lba f.bytes ≡ true) s.fills
+          (l.fills (omega arith));
+      commands = all_of_none (λ (c : CmdDef). IsCommandFit s.hosts (sent_of z c) (need_of z c) c) s.commands
+          (l.commands (omega arith));
       aborts = a.aborts;
       resets = a.resets;
       faults = a.faults;
@@ -202,7 +235,8 @@ room_is s needs n e = (grind (arith, nat_tests), grind (arith, nat_tests))
 abort_room_is : (s : ScenarioValue) → has_abort_room s ≡ true → length s.aborts < 64
 abort_room_is s e = grind (arith, nat_tests)
 
-pub with_command : (s : ScenarioValue) (needs : ℕ) (c : CmdDef) → AreFit s → IsFullCommandRead s needs c → AreFit (record s { commands = s.commands ++ c ∷ [] })
+pub with_command : (s : ScenarioValue) (needs : ℕ) (c : CmdDef) → AreFit s → IsFullCommandRead s needs c
+    → AreFit (record s { commands = s.commands ++ c ∷ [] })
 unfolding need_of sent_of
 with_command s needs c a r =
     let ends = ends_are (has_host s c.host) (has_host s c.target) r.is.known in
@@ -225,7 +259,8 @@ with_command s needs c a r =
       few_aborts = a.few_aborts;
     }
 
-pub with_abort : (s : ScenarioValue) (b : AbortDef) → AreFit s → IsAbortRead s b → AreFit (record s { aborts = s.aborts ++ b ∷ [] })
+pub with_abort : (s : ScenarioValue) (b : AbortDef) → AreFit s → IsAbortRead s b
+    → AreFit (record s { aborts = s.aborts ++ b ∷ [] })
 unfolding need_of sent_of
 with_abort s b a r =
     let ends = ends_are (has_host s b.host) (has_host s b.target) r.known in
@@ -239,7 +274,8 @@ with_abort s b a r =
       units_apart = a.units_apart;
       fills = a.fills;
       commands = a.commands;
-      aborts = all_more (IsAbortFit s.hosts) s.aborts b a.aborts (record { limits = r.limits; host_is = ends.0; target_is = ends.1 });
+      aborts = all_more (IsAbortFit s.hosts) s.aborts b a.aborts
+          (record { limits = r.limits; host_is = ends.0; target_is = ends.1 });
       resets = a.resets;
       faults = a.faults;
       few_commands = a.few_commands;

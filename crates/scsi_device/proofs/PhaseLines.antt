@@ -11,7 +11,9 @@ use Rattle.bus_due.specs.bus_dialogue.specs.declared.exchange.Phase.{Phase}
 pub command_is : (bus : LineSet) → is_command bus ≡ is_command_phase (phase_of bus)
 command_is bus = go bus.msg bus.cd bus.io
   where
-    go : (m c o : Bool) → (not m && c && not o) ≡ is_command_phase (if m then (if o then phases.MessageIn else phases.MessageOut) else if c then (if o then phases.Status else phases.Command) else if o then phases.DataIn else phases.DataOut)
+    go : (m c o : Bool)
+        → (not m && c && not o) ≡ is_command_phase (if m then (if o then phases.MessageIn else phases.MessageOut)
+        else if c then (if o then phases.Status else phases.Command) else if o then phases.DataIn else phases.DataOut)
     go true c true = refl
     go true c false = refl
     go false true true = refl
@@ -22,7 +24,9 @@ command_is bus = go bus.msg bus.cd bus.io
 pub no_input : (b : LineSet) → phase_of b ≡ phases.DataOut → b.io ≡ false
 no_input b e = go b.msg b.cd b.io e
   where
-    go : (x y z : Bool) → (if x then (if z then phases.MessageIn else phases.MessageOut) else if y then (if z then phases.Status else phases.Command) else if z then phases.DataIn else phases.DataOut) ≡ phases.DataOut → z ≡ false
+    go : (x y z : Bool) → (if x then (if z then phases.MessageIn else phases.MessageOut)
+        else if y then (if z then phases.Status else phases.Command) else if z then phases.DataIn else phases.DataOut)
+        ≡ phases.DataOut → z ≡ false
     go true y true e = cc
     go true y false e = refl
     go false true true e = cc
@@ -41,7 +45,9 @@ phase_is_command phases.DataOut e = cc
 pub in_phase : (b : LineSet) → is_message_in b ≡ true → phase_of b ≡ phases.MessageIn
 in_phase b e = go b.msg b.cd b.io e
   where
-    go : (m d i : Bool) → (m && d && i) ≡ true → (if m then (if i then phases.MessageIn else phases.MessageOut) else if d then (if i then phases.Status else phases.Command) else if i then phases.DataIn else phases.DataOut) ≡ phases.MessageIn
+    go : (m d i : Bool) → (m && d && i) ≡ true → (if m then (if i then phases.MessageIn else phases.MessageOut)
+        else if d then (if i then phases.Status else phases.Command) else if i then phases.DataIn else phases.DataOut)
+        ≡ phases.MessageIn
     go true true true e = refl
     go true true false e = absurd (true≢false (sym e))
     go true false i e = absurd (true≢false (sym e))
@@ -50,7 +56,10 @@ in_phase b e = go b.msg b.cd b.io e
 pub out_phase : (b : LineSet) → is_message_out b ≡ true → phase_of b ≡ phases.MessageOut
 out_phase b e = go b.msg b.cd b.io e
   where
-    go : (m d i : Bool) → (m && d && not i) ≡ true → (if m then (if i then phases.MessageIn else phases.MessageOut) else if d then (if i then phases.Status else phases.Command) else if i then phases.DataIn else phases.DataOut) ≡ phases.MessageOut
+    go : (m d i : Bool) → (m && d && not i) ≡ true
+        → (if m then (if i then phases.MessageIn else phases.MessageOut)
+        else if d then (if i then phases.Status else phases.Command) else if i then phases.DataIn else phases.DataOut)
+        ≡ phases.MessageOut
     go true true true e = absurd (true≢false (sym e))
     go true true false e = refl
     go true false i e = absurd (true≢false (sym e))

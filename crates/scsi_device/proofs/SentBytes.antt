@@ -18,16 +18,19 @@ sent_few s c few = go (is_write (command_of c.cdb))
     go true = few
     go false = omega arith
 
-pub process_few : (s : ScenarioValue) (id : ProcId) (p : Process) → FitsBus s → process_of s id ≡ Some p → length p.sent ≤ 65536
+pub process_few : (s : ScenarioValue) (id : ProcId) (p : Process) → FitsBus s → process_of s id ≡ Some p
+    → length p.sent ≤ 65536
 process_few s id p fits e = go (command_at s.commands id.command) refl e
   where
     same : (q : Process) → (let o : Option Process = Some q in o) ≡ Some p → q ≡ p
     same q z = cc
 
-    sent : (c : CmdDef) → IsCommandLine s c → (q : Bool) → length (process_by s (record { command = id.command; sense = q }) c).sent ≤ 65536
+    sent : (c : CmdDef) → IsCommandLine s c
+        → (q : Bool) → length (process_by s (record { command = id.command; sense = q }) c).sent ≤ 65536
     sent c h true = omega arith
     sent c h false = let few = sent_few s c h.need in let long = h.sent in omega (arith, few, long)
 
     go : (o : Option CmdDef) → command_at s.commands id.command ≡ o → process_if s id o ≡ Some p → length p.sent ≤ 65536
     go None there z = absurd cc
-    go (Some c) there z = subst (λ (q : Process). length q.sent ≤ 65536) (same (process_by s id c) z) (sent c (command_fits s id.command c fits there) id.sense)
+    go (Some c) there z = subst (λ (q : Process). length q.sent ≤ 65536) (same (process_by s id c) z)
+        (sent c (command_fits s id.command c fits there) id.sense)

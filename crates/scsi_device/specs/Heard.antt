@@ -1,6 +1,7 @@
--- What the target of a connection hears in it is of the process that it serves, and in each phase that process has come as
--- far as the phase says.
-use Rattle.std.specs.Prelude.{ℕ, ◌%◌, Bool, true, false, not, ◌&&◌, ◌||◌, ◌==◌, List, [], ◌∷◌, ◌++◌, Option, Some, None, is_some, is_none, if◌then◌else◌}
+-- What the target of a connection hears in it is of the process that it serves, and in each phase that process has come
+-- as far as the phase says.
+use Rattle.std.specs.Prelude.{ℕ, ◌%◌, Bool, true, false, not, ◌&&◌, ◌||◌, ◌==◌, List, [], ◌∷◌, ◌++◌, Option, Some, None}
+use Rattle.std.specs.Prelude.{is_some, is_none, if◌then◌else◌}
 use Rattle.bus_trace.specs.declared.Row.{Row}
 use Rattle.bus_trace.specs.declared.connection.Connection.{Connection}
 use Rattle.bus_trace.specs.Phases.{is_message_out, is_command, changes_phase}
@@ -26,14 +27,15 @@ use Rattle.bus_due.specs.bus_dialogue.specs.declared.exchange.Said.{Said}
 use Rattle.bus_due.specs.bus_dialogue.specs.NextPhase.{phase_of}
 use Rattle.bus_due.specs.bus_dialogue.specs.Ends.{follows_by}
 use Rattle.bus_due.specs.LastingState.{ProcessProgress, progress_in}
-use Rattle.bus_due.specs.RunState.{RunState, array_of, bus_of, drives_of, item_of, process_item, process_served, carried_here}
+use Rattle.bus_due.specs.RunState.{RunState, array_of, bus_of, drives_of, item_of, process_item, process_served}
+use Rattle.bus_due.specs.RunState.{carried_here}
 use Rattle.bus_due.specs.RunSteps.{run_state}
 use Rattle.bus_due.specs.Sights.{hearing_of, leaving, pace_of, serving_of}
 use Rattle.bus_due.specs.Faithful.{is_process_named, is_true_leaving, same_process}
 
--- ---- what the target has been told in the connection that stands: the opening, once that is left (6.6); the bytes of the
--- last COMMAND phase (6.1.6); and whether it knows the command, since COMMAND was left with no byte struck, or since it
--- reselected
+-- ---- what the target has been told in the connection that stands: the opening, once that is left (6.6); the bytes of
+-- the last COMMAND phase (6.1.6); and whether it knows the command, since COMMAND was left with no byte struck, or
+-- since it reselected
 
 pub record Instructions : Type 0 where
   pub opening : Option Said
@@ -80,7 +82,8 @@ instructions_after None (Some n) w p i = record no_instructions { known = n.rese
 instructions_after (Some m) (Some n) w p i = instructions_on w p i
 
 abbrev pub instructions_by : RunState → Row → RowReading → Instructions → Instructions
-instructions_by k row d i = instructions_after k.story.bus_state.connection d.next (hearing_of k row d) k.exchange.plan i
+instructions_by k row d i =
+    instructions_after k.story.bus_state.connection d.next (hearing_of k row d) k.exchange.plan i
 
 abbrev pub instructions : ScenarioValue → List Row → Instructions
 instructions s [] = no_instructions
@@ -170,8 +173,8 @@ is_of_scenario s (Some (abort n)) = is_some (abort_line_at s.aborts n)
 abbrev pub is_served : ScenarioValue → RunState → Bool
 is_served s k = is_of_scenario s k.served && (is_opening k || is_some (process_served s k))
 
--- Of a process that is served after the opening: the opening named it; the bytes of COMMAND so far are those that it carried,
--- and once they are known they are its command block.
+-- Of a process that is served after the opening: the opening named it; the bytes of COMMAND so far are those that it
+-- carried, and once they are known they are its command block.
 abbrev pub is_name : Option Said → Process → Bool
 is_name None p = false
 is_name (Some said) p = is_process_named said (Some p)
@@ -185,8 +188,8 @@ is_block i p = not i.known || (has_group_len i.block && same_bytes i.block p.cdb
 abbrev pub is_instructed : RunState → Instructions → Process → Phase → Bool
 is_instructed k i p phase = is_name i.opening p && is_carried k i p phase && is_block i p
 
--- Its place in the array: new in COMMAND, where its command is not known yet; running without a reply while data move, where
--- it is; and with a reply in STATUS.
+-- Its place in the array: new in COMMAND, where its command is not known yet; running without a reply while data move,
+-- where it is; and with a reply in STATUS.
 abbrev pub is_new : Array → Process → Bool
 is_new a p = not (is_waiting a.units p.id) && is_none (running_process a p.id) && is_none (reply_in a.replies p.id)
 
@@ -199,9 +202,9 @@ is_answered None = false
 is_answered (Some r) = is_some r.reply
 
 abbrev pub is_placed : Array → Process → Phase → Next → Bool → Bool
-is_placed a p phase next known =
-    (not (is_command_phase phase) || (not known && is_new a p))
-    && (not (moves_data phase next) || (known && is_unanswered (running_process a p.id) && is_none (reply_in a.replies p.id)))
+is_placed a p phase next known = (not (is_command_phase phase) || (not known && is_new a p))
+    && (not (moves_data phase next)
+    || (known && is_unanswered (running_process a p.id) && is_none (reply_in a.replies p.id)))
     && (not (gives_status phase next) || (is_answered (running_process a p.id) && is_some (reply_in a.replies p.id)))
 
 abbrev pub is_heard_process : ScenarioValue → RunState → Connection → Instructions → Option Process → Phase → Bool
@@ -220,8 +223,8 @@ is_heard s k (Some n) i = (bus_of k).rst || is_heard_in s k n i
 
 -- ---- a row
 
--- A connection begins: after a selection its process is new, and nothing is counted of it; after a reselection it has no
--- reply, and is no guest.
+-- A connection begins: after a selection its process is new, and nothing is counted of it; after a reselection it has
+-- no reply, and is no guest.
 abbrev pub is_uncounted : ProcessProgress → Bool
 is_uncounted p = p.runs == 0 && p.recoveries == 0
 
@@ -231,8 +234,8 @@ is_beginning s k n (Some p) =
     if n.reselected then is_none (guest_at (array_of s k).guests p.id) && is_none (reply_in (array_of s k).replies p.id)
     else is_new (array_of s k) p && is_uncounted (progress_in k.progress p.id)
 
--- The first phase after a selection is MESSAGE OUT (6.1.3). A phase that has begun is left only where it may be, and for the
--- one that its target means; so is the connection.
+-- The first phase after a selection is MESSAGE OUT (6.1.3). A phase that has begun is left only where it may be, and
+-- for the one that its target means; so is the connection.
 abbrev pub same_phase : Phase → Phase → Bool
 same_phase phases.MessageOut phases.MessageOut = true
 same_phase phases.MessageIn phases.MessageIn = true
@@ -258,7 +261,8 @@ abbrev pub is_heard_on : ScenarioValue → RunState → RunState → RowReading 
 is_heard_on s k next d None None = true
 is_heard_on s k next d None (Some n) = is_beginning s next n (process_served s next)
 is_heard_on s k next d (Some m) None = d.change.before.rst || is_true_end s k m
-is_heard_on s k next d (Some m) (Some n) = not d.change.before.rst && (not (changes_phase d.change) || is_true_turn s k m d)
+is_heard_on s k next d (Some m) (Some n) =
+    not d.change.before.rst && (not (changes_phase d.change) || is_true_turn s k m d)
 
 -- After a row in which RST is true nothing is asked.
 abbrev pub is_heard_row : ScenarioValue → RunState → RunState → RowReading → Bool
@@ -270,6 +274,5 @@ is_heard_after s k next d i = is_heard_row s k next d && is_heard s next d.next 
 
 abbrev pub heard : ScenarioValue → List Row → Bool
 heard s [] = true
-heard s (row ∷ rows) =
-    heard s rows
-    && is_heard_after s (run_state s rows) (run_state s (row ∷ rows)) (row_reading (run_state s rows).story.bus_state row) (instructions s (row ∷ rows))
+heard s (row ∷ rows) = heard s rows && is_heard_after s (run_state s rows) (run_state s (row ∷ rows))
+    (row_reading (run_state s rows).story.bus_state row) (instructions s (row ∷ rows))

@@ -20,7 +20,8 @@ pub record IsItselfOf (s : ScenarioValue) (rows : List Row) (v : ItselfValue) : 
 
 -- Before any row.
 abbrev pub itself : ℕ → List ResetDef → ItselfValue
-itself dev resets = record { dev = dev; own = idle_device; resets = resets; reset = reset_from dev idle_device.released resets }
+itself dev resets =
+    record { dev = dev; own = idle_device; resets = resets; reset = reset_from dev idle_device.released resets }
 
 -- With these times of its own rows.
 abbrev pub itself_with : ItselfValue → Own → ItselfValue

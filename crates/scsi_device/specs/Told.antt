@@ -64,4 +64,5 @@ flip_by (Some f) time = if nat_le f.at time then Some f.bit else None
 
 -- What flips in a byte goes by the first fault alone.
 abbrev pub AreFlips : Type 0
-AreFlips = (faults : List FaultDef) (f : Option FaultDef) (time : ℕ) → f ≡ first_fault faults → flip_of faults time ≡ flip_by f time
+AreFlips = (faults : List FaultDef) (f : Option FaultDef) (time : ℕ) → f ≡ first_fault faults
+    → flip_of faults time ≡ flip_by f time

@@ -1,5 +1,6 @@
 -- The data of writes come whole to each unit: from the first byte on, those of one process after those of another.
-use Rattle.std.specs.Prelude.{ℕ, Bool, true, false, not, ◌&&◌, ◌||◌, ◌==◌, List, [], ◌∷◌, length, Option, Some, None, nat_le, if◌then◌else◌}
+use Rattle.std.specs.Prelude.{ℕ, Bool, true, false, not, ◌&&◌, ◌||◌, ◌==◌, List, [], ◌∷◌, length, Option, Some, None}
+use Rattle.std.specs.Prelude.{nat_le, if◌then◌else◌}
 use Rattle.bus_base.specs.declared.ProcId.{ProcId}
 use Rattle.bus_trace.specs.declared.Row.{Row}
 use Rattle.bus_trace.specs.declared.connection.Connection.{Connection}
@@ -63,8 +64,8 @@ writers_after s k w all = if brings_byte w then writers_with all (process_served
 
 abbrev pub writers : ScenarioValue → List Row → List Writer
 writers s [] = []
-writers s (row ∷ rows) =
-    writers_after s (run_state s rows) (hearing_of (run_state s rows) row (row_reading (run_state s rows).story.bus_state row)) (writers s rows)
+writers s (row ∷ rows) = writers_after s (run_state s rows)
+    (hearing_of (run_state s rows) row (row_reading (run_state s rows).story.bus_state row)) (writers s rows)
 
 -- ---- a row
 
@@ -75,10 +76,12 @@ block_size (Some u) = u.size
 
 -- Where the n-th run of a process begins, by the size of a block that the scenario says.
 abbrev pub start_of_run : ScenarioValue → Process → ℕ → ℕ
-start_of_run s p n = (run_in (policy_of (target_def_of s p.target)) (blocks_in (range_in (command_of p.cdb))) (block_size (unit_of s p.target p.unit)) 0 n).start
+start_of_run s p n = (run_in (policy_of (target_def_of s p.target)) (blocks_in (range_in (command_of p.cdb)))
+    (block_size (unit_of s p.target p.unit)) 0 n).start
 
 abbrev pub is_of_size : ScenarioValue → RunState → Process → Bool
-is_of_size s k p = size_of (unit_state_at (array_of s k).units p.target p.unit) == block_size (unit_of s p.target p.unit)
+is_of_size s k p =
+    size_of (unit_state_at (array_of s k).units p.target p.unit) == block_size (unit_of s p.target p.unit)
 
 abbrev pub is_writer : Option ProcId → ProcId → Bool
 is_writer None id = false
@@ -87,19 +90,19 @@ is_writer (Some w) id = same_id w id
 -- A byte comes in a phase that has begun, of the process that sent the last one to the unit, or as the first one of a
 -- process.
 abbrev pub is_next_byte : ScenarioValue → RunState → List Writer → Process → Bool
-is_next_byte s k all p =
-    is_writer (writer_of all p.target p.unit) p.id || (progress_in k.progress p.id).runs == 0 && k.handshakes.answers == 0
+is_next_byte s k all p = is_writer (writer_of all p.target p.unit) p.id
+    || (progress_in k.progress p.id).runs == 0 && k.handshakes.answers == 0
 
 abbrev pub is_written_byte : ScenarioValue → RunState → List Writer → Option Process → Bool
 is_written_byte s k all None = false
 is_written_byte s k all (Some p) = k.exchange.begun && not (bus_of k).rst && is_of_size s k p && is_next_byte s k all p
 
--- A data run is done: of DATA OUT all bytes have come, where the command moves all that its process sends; and no other run
--- is one of the process that sent the last byte to the unit.
+-- A data run is done: of DATA OUT all bytes have come, where the command moves all that its process sends; and no other
+-- run is one of the process that sent the last byte to the unit.
 abbrev pub is_whole_run : ScenarioValue → RunState → Process → Option Task → Bool
 is_whole_run s k p None = false
-is_whole_run s k p (Some t) =
-    not (bus_of k).rst && is_of_size s k p && t.moved == length p.sent && nat_le (run_length (policy_of (target_def_of s p.target)) t) k.handshakes.answers
+is_whole_run s k p (Some t) = not (bus_of k).rst && is_of_size s k p && t.moved == length p.sent
+    && nat_le (run_length (policy_of (target_def_of s p.target)) t) k.handshakes.answers
 
 abbrev pub is_written_run : ScenarioValue → RunState → List Writer → Option Process → Phase → Bool
 is_written_run s k all None phase = true
@@ -115,18 +118,20 @@ is_written_in s k w l all =
     && (not (ends_run k w l) || is_written_run s k all (process_served s k) (phase_of (bus_of k)))
 
 -- A connection does not begin in DATA OUT, and does not outlast RST (6.1.4, 6.2.2).
-abbrev pub is_written_on : ScenarioValue → RunState → Hearing → Leaving → List Writer → Option Connection → Option Connection → Bool
+abbrev pub is_written_on : ScenarioValue → RunState → Hearing → Leaving → List Writer → Option Connection
+    → Option Connection → Bool
 is_written_on s k w l all None None = true
 is_written_on s k w l all None (Some n) = not (n.reselected && is_data_out (phase_of w.change.after))
 is_written_on s k w l all (Some m) None = is_written_in s k w l all
-is_written_on s k w l all (Some m) (Some n) = (not w.change.before.rst || w.change.after.rst) && is_written_in s k w l all
+is_written_on s k w l all (Some m) (Some n) =
+    (not w.change.before.rst || w.change.after.rst) && is_written_in s k w l all
 
 abbrev pub is_written : ScenarioValue → RunState → Row → RowReading → List Writer → Bool
-is_written s k row d all =
-    is_written_on s k (hearing_of k row d) (leaving_of s k k.story.bus_state.connection) all k.story.bus_state.connection d.next
+is_written s k row d all = is_written_on s k (hearing_of k row d)
+    (leaving_of s k k.story.bus_state.connection) all k.story.bus_state.connection d.next
 
 -- Of all rows.
 abbrev pub written : ScenarioValue → List Row → Bool
 written s [] = true
-written s (row ∷ rows) =
-    written s rows && is_written s (run_state s rows) row (row_reading (run_state s rows).story.bus_state row) (writers s rows)
+written s (row ∷ rows) = written s rows
+    && is_written s (run_state s rows) row (row_reading (run_state s rows).story.bus_state row) (writers s rows)

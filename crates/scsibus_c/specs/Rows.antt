@@ -1,5 +1,6 @@
 -- What the rows and the verdicts of C mean.
-use Rattle.std.specs.Prelude.{ℕ, ◌+◌, ◌%◌, ◌^◌, ◌==◌, ◌&&◌, Bool, not, nat_lt, List, ◌++◌, map, reverse, Option, Some, None, if◌then◌else◌}
+use Rattle.std.specs.Prelude.{ℕ, ◌+◌, ◌%◌, ◌^◌, ◌==◌, ◌&&◌, Bool, not, nat_lt, List, ◌++◌, map, reverse, Option, Some}
+use Rattle.std.specs.Prelude.{None, if◌then◌else◌}
 use Rattle.bus_trace.specs.declared.rows.Row.{Row}
 use Rattle.bus_trace.specs.declared.rows.Kind.TheVariants.{Drives, Fault}
 use Rattle.bus_trace.specs.Saved.{lines_in}

@@ -13,7 +13,8 @@ use Rattle.scsibus_main_c.specs.declared.calls.ScsibusAnswer.{ScsibusAnswer}
 abbrev pub asked : List ℕ → Option Word
 asked words = word_of (words_in words)
 
--- What the program ends with, and the text that it writes, by its words and its input, where no read and no write fails.
+-- What the program ends with, and the text that it writes, by its words and its input, where no read and no write
+-- fails.
 pub record IsAnswer (words input : List ℕ) (status : Status) (text : List ℕ) : Type 0 where
   pub usage : (status ≡ statuses.Words) ↔ (asked words ≡ None)
   pub says : Says (asked words) status (Some input) (writing [] (Some text) 0 0)

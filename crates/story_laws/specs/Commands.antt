@@ -1,5 +1,5 @@
--- What the rules count of COMMAND in a connection, and what of its block the process that is served has taken (6.4, 6.6.19, 7.2): so
--- bytes of COMMAND cross up to its length, and data once it stands whole.
+-- What the rules count of COMMAND in a connection, and what of its block the process that is served has taken (6.4,
+-- 6.6.19, 7.2): so bytes of COMMAND cross up to its length, and data once it stands whole.
 use Rattle.std.specs.Prelude.{ℕ, ◌≡◌, ◌<◌, ◌==◌, true, false, List, [], length, slice_index, Option, Some, ⊤}
 use Rattle.bus_due.specs.bus_base.specs.declared.ProcId.{ProcId}
 use Rattle.bus_due.specs.bus_trace.specs.declared.Row.{Row}
@@ -100,7 +100,8 @@ pub data GivesBefore (k : RunState) (n : Connection) : Type 0 where
 pub data AnswersBefore (k : RunState) (n : Connection) : Type 0 where
   opens_answered : IsBeforeCommand k n → AnswersBefore k n
   restores_refused : Restores k n → k.exchange.speech.words ≡ parity_error → AnswersBefore k n
-  restores_answered : Restores k n → IsUntaken k → IsNone (dialogue_of k).at_phase.now.command → (h : Option HostDef) (a : Agreement) → k.exchange.speech.words ≡ answer_bytes h a → AnswersBefore k n
+  restores_answered : Restores k n → IsUntaken k → IsNone (dialogue_of k).at_phase.now.command
+      → (h : Option HostDef) (a : Agreement) → k.exchange.speech.words ≡ answer_bytes h a → AnswersBefore k n
 
 -- ---- in COMMAND
 
@@ -175,9 +176,14 @@ pub record CommandFacts (s : ScenarioValue) (rows : List Row) : Type 0 where
 
 -- What is asked of it: as a byte crosses in COMMAND the pointer stands in the block, and rule 26 is kept.
 pub record CommandAsked (s : ScenarioValue) (rows : List Row) (row : Row) : Type 0 where
-  pub pointer : (p : Process) → process_here s (run_state s rows) ≡ Some p → (row_reading (run_state s rows).story.bus_state row).crosses ≡ true → is_command (bus_of (run_state s rows)) ≡ true → (carried_here (run_state s rows) p.id).command.active < length p.cdb
+  pub pointer : (p : Process) → process_here s (run_state s rows) ≡ Some p
+      → (row_reading (run_state s rows).story.bus_state row).crosses ≡ true
+      → is_command (bus_of (run_state s rows)) ≡ true
+      → (carried_here (run_state s rows) p.id).command.active < length p.cdb
   pub command : has_whole_command rows row ≡ true
 
--- In MESSAGE IN the initiator asks for MESSAGE OUT because a byte was struck; or to answer a request, which COMMAND follows (6.6.21).
+-- In MESSAGE IN the initiator asks for MESSAGE OUT because a byte was struck; or to answer a request, which COMMAND
+-- follows (6.6.21).
 abbrev pub AnswersAtCommand : RunState → Type 0
-AnswersAtCommand k = is_message_in (bus_of k) ≡ true → (bus_of k).atn ≡ true → k.handshakes.struck ≡ false → k.exchange.plan.next ≡ nexts.Command
+AnswersAtCommand k = is_message_in (bus_of k) ≡ true → (bus_of k).atn ≡ true → k.handshakes.struck ≡ false
+    → k.exchange.plan.next ≡ nexts.Command

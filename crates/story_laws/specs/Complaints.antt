@@ -1,5 +1,5 @@
--- Why the initiator raises ATN in a phase to it, and what it says in the MESSAGE OUT that follows: a byte was struck, or a request of the
--- target is answered (6.6.10, 6.6.13, 6.6.21).
+-- Why the initiator raises ATN in a phase to it, and what it says in the MESSAGE OUT that follows: a byte was struck,
+-- or a request of the target is answered (6.6.10, 6.6.13, 6.6.21).
 use Rattle.std.specs.Prelude.{◌≡◌, ◌⊎◌, Bool, true, false, ◌||◌, List, [], ◌∷◌, Some, Option}
 use Rattle.bus_due.specs.bus_trace.specs.declared.Row.{Row}
 use Rattle.bus_due.specs.bus_trace.specs.declared.agreements.Agreement.{Agreement}
@@ -25,11 +25,13 @@ any_struck (r ∷ waiting) = r.struck || any_struck waiting
 -- The initiator refuses what was struck, or says that it answers a request.
 abbrev pub Refuses : Bool → RunState → Cause → Type 0
 Refuses refusing k causes.Selected = refusing ≡ refusing
-Refuses refusing k causes.InMessage = (refusing ≡ true) ⊎ ((h : Option HostDef) × (a : Agreement) × (k.exchange.speech.words ≡ answer_bytes h a))
+Refuses refusing k causes.InMessage =
+    (refusing ≡ true) ⊎ ((h : Option HostDef) × (a : Agreement) × (k.exchange.speech.words ≡ answer_bytes h a))
 Refuses refusing k causes.InData = refusing ≡ true
 Refuses refusing k causes.InStatus = refusing ≡ true
 
--- In a phase that has begun: a fault row stands in it where a byte was struck, and where ATN is true in DATA IN or STATUS.
+-- In a phase that has begun: a fault row stands in it where a byte was struck, and where ATN is true in DATA IN or
+-- STATUS.
 pub record ComplaintsBy (s : ScenarioValue) (rows : List Row) (k : RunState) : Type 0 where
   pub struck : k.handshakes.struck ≡ true → is_struck_phase s rows ≡ true
   pub waiting : any_struck k.handshakes.waiting ≡ true → is_struck_phase s rows ≡ true
@@ -37,4 +39,5 @@ pub record ComplaintsBy (s : ScenarioValue) (rows : List Row) (k : RunState) : T
   pub refuses : phase_of (bus_of k) ≡ phases.MessageOut → Refuses (is_refusing s rows) k k.exchange.plan.cause
 
 abbrev pub ComplaintFacts : ScenarioValue → List Row → Type 0
-ComplaintFacts s rows = (n : Connection) → connection rows ≡ Some n → (bus rows).rst ≡ false → (run_state s rows).exchange.begun ≡ true → ComplaintsBy s rows (run_state s rows)
+ComplaintFacts s rows = (n : Connection) → connection rows ≡ Some n → (bus rows).rst ≡ false
+    → (run_state s rows).exchange.begun ≡ true → ComplaintsBy s rows (run_state s rows)

@@ -1,4 +1,5 @@
--- What is kept of the data that processes send: where their data pointers stand, and how many bytes of a run were asked for and answered.
+-- What is kept of the data that processes send: where their data pointers stand, and how many bytes of a run were asked
+-- for and answered.
 use Rattle.std.specs.Prelude.{◌+◌, ◌≡◌, ◌<◌, true, List, ◌∷◌, length, Some, None}
 use Rattle.bus_due.specs.bus_base.specs.declared.ProcId.{ProcId}
 use Rattle.bus_due.specs.bus_trace.specs.declared.Row.{Row}
@@ -26,15 +27,22 @@ pub record DataFacts (s : ScenarioValue) (rows : List Row) : Type 0 where
   pub runs : RunFacts s rows
   pub counts : CountFacts s rows
 
--- What is asked of a row beside: that the process of a connection that begins is neither over nor has shown a reply, and that the
--- process that is served was sent.
+-- What is asked of a row beside: that the process of a connection that begins is neither over nor has shown a reply,
+-- and that the process that is served was sent.
 pub record DataPremises (s : ScenarioValue) (rows : List Row) (row : Row) : Type 0 where
-  pub anew : (n : Connection) → connection rows ≡ None → connection (row ∷ rows) ≡ Some n → IsServedAnew s (run_state s rows) n
-  pub sent : (id : ProcId) → (run_state s rows).served ≡ Some (process id) → has_item (run_state s rows).story.sent.sent (process id) ≡ true
+  pub anew : (n : Connection) → connection rows ≡ None → connection (row ∷ rows) ≡ Some n
+      → IsServedAnew s (run_state s rows) n
+  pub sent : (id : ProcId) → (run_state s rows).served ≡ Some (process id)
+      → has_item (run_state s rows).story.sent.sent (process id) ≡ true
 
--- What the laws ask of a row of a connection: as a byte crosses the data pointer stands in what is sent, in DATA OUT as many bytes after
--- the beginning of the run as were answered.
+-- What the laws ask of a row of a connection: as a byte crosses the data pointer stands in what is sent, in DATA OUT as
+-- many bytes after the beginning of the run as were answered.
 pub record DataAsked (s : ScenarioValue) (rows : List Row) (row : Row) : Type 0 where
-  pub moved : (p : Process) → process_here s (run_state s rows) ≡ Some p → (row_reading (run_state s rows).story.bus_state row).crosses ≡ true → is_data (bus_of (run_state s rows)) ≡ true → is_writing p ≡ true → (carried_here (run_state s rows) p.id).moved.active < length p.sent
-  pub active_is : (row_reading (run_state s rows).story.bus_state row).crosses ≡ true → (p : Process) (t : Task) → process_served s (run_state s rows) ≡ Some p → task_of s (run_state s rows) ≡ Some t → phase_of (bus_of (run_state s rows)) ≡ phases.DataOut
-      → (carried_here (run_state s rows) p.id).moved.active ≡ (run_at (policy_of (target_def_of s p.target)) t t.runs).start + (run_state s rows).handshakes.answers
+  pub moved : (p : Process) → process_here s (run_state s rows) ≡ Some p
+      → (row_reading (run_state s rows).story.bus_state row).crosses ≡ true → is_data (bus_of (run_state s rows)) ≡ true
+      → is_writing p ≡ true → (carried_here (run_state s rows) p.id).moved.active < length p.sent
+  pub active_is : (row_reading (run_state s rows).story.bus_state row).crosses ≡ true
+      → (p : Process) (t : Task) → process_served s (run_state s rows) ≡ Some p
+      → task_of s (run_state s rows) ≡ Some t → phase_of (bus_of (run_state s rows)) ≡ phases.DataOut
+      → (carried_here (run_state s rows) p.id).moved.active
+      ≡ (run_at (policy_of (target_def_of s p.target)) t t.runs).start + (run_state s rows).handshakes.answers

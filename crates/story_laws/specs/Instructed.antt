@@ -1,5 +1,5 @@
--- What the target of a connection has been told in it, by the phase: the opening names what it serves; the bytes of COMMAND are those that
--- the process carried; and it knows the command where data move, and not before (6.1.6, 6.6).
+-- What the target of a connection has been told in it, by the phase: the opening names what it serves; the bytes of
+-- COMMAND are those that the process carried; and it knows the command where data move, and not before (6.1.6, 6.6).
 use Rattle.std.specs.Prelude.{◌≡◌, Bool, true, false, List, Some, ⊤}
 use Rattle.bus_due.specs.bus_trace.specs.declared.Row.{Row}
 use Rattle.bus_due.specs.bus_trace.specs.declared.connection.Connection.{Connection}
@@ -49,7 +49,8 @@ pub record Selected (s : ScenarioValue) (k : RunState) (i : Instructions) : Type
   pub unbegun : k.exchange.begun ≡ false → i.known ≡ false
   pub stage : k.exchange.begun ≡ true → KnownIn i.known k.exchange.plan (phase_of (bus_of k))
   pub named : is_opening k ≡ false → (v : Serves s k) → is_name i.opening v.process ≡ true
-  pub carried : k.exchange.begun ≡ true → phase_of (bus_of k) ≡ phases.Command → (v : Serves s k) → i.block ≡ (carried_here k v.id).block
+  pub carried : k.exchange.begun ≡ true → phase_of (bus_of k) ≡ phases.Command
+      → (v : Serves s k) → i.block ≡ (carried_here k v.id).block
   pub block : i.known ≡ true → (v : Serves s k) → (has_group_len i.block ≡ true) × (i.block ≡ v.process.cdb)
 
 pub record Instructed (s : ScenarioValue) (k : RunState) (i : Instructions) (n : Connection) : Type 0 where
@@ -58,4 +59,5 @@ pub record Instructed (s : ScenarioValue) (k : RunState) (i : Instructions) (n :
   pub again : n.reselected ≡ true → (i.known ≡ true) × Serves s k
 
 abbrev pub InstructedFacts : ScenarioValue → List Row → Type 0
-InstructedFacts s rows = (n : Connection) → connection rows ≡ Some n → (bus rows).rst ≡ false → Instructed s (run_state s rows) (instructions s rows) n
+InstructedFacts s rows = (n : Connection) → connection rows ≡ Some n → (bus rows).rst ≡ false
+    → Instructed s (run_state s rows) (instructions s rows) n

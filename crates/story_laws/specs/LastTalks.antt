@@ -1,5 +1,5 @@
--- The last message of a connection, by the phase: it tells that the connection ends where the target means to free the bus, and not
--- before (6.6.1 to 6.6.6).
+-- The last message of a connection, by the phase: it tells that the connection ends where the target means to free the
+-- bus, and not before (6.6.1 to 6.6.6).
 use Rattle.std.specs.Prelude.{ℕ, ◌≡◌, ◌⊎◌, Bool, true, false, List, length, Some, ⊤}
 use Rattle.bus_due.specs.bus_base.specs.declared.ProcId.{ProcId}
 use Rattle.bus_due.specs.bus_trace.specs.declared.Row.{Row}
@@ -40,14 +40,18 @@ pub data EndsWell (m : Messages) (next : Next) : Type 0 where
 
 -- The last message tells that the command is complete exactly where COMMAND COMPLETE alone is said.
 abbrev pub CompletesBy : Messages → LastMessage → Type 0
-CompletesBy m last = (last ≡ complete → m ≡ one_message to_initiator.CommandComplete) × (m ≡ one_message to_initiator.CommandComplete → last ≡ complete)
+CompletesBy m last = (last ≡ complete → m ≡ one_message to_initiator.CommandComplete)
+    × (m ≡ one_message to_initiator.CommandComplete → last ≡ complete)
 
 -- So many bytes of them have crossed.
 pub data LastGiven (l : Link) (m : Messages) (next : Next) (count : ℕ) : Type 0 where
   still_stays : frees_bus next ≡ false → OnMessages IsPlainIn m → l.last ≡ plain → LastGiven l m next count
-  to_close : frees_bus next ≡ true → (x : MsgIn) → m ≡ one_message x → SaysEnd x → count ≡ 0 → l.last ≡ plain → LastGiven l m next count
-  to_save : frees_bus next ≡ true → m ≡ two_messages to_initiator.SavePointer to_initiator.Disconnect → (count ≡ 0) ⊎ (count ≡ 1) → l.last ≡ plain → LastGiven l m next count
-  closed : frees_bus next ≡ true → EndsWell m next → count ≡ length (bytes_of_messages m) → IsClosing l.last → CompletesBy m l.last → LastGiven l m next count
+  to_close : frees_bus next ≡ true → (x : MsgIn) → m ≡ one_message x → SaysEnd x → count ≡ 0 → l.last ≡ plain
+      → LastGiven l m next count
+  to_save : frees_bus next ≡ true → m ≡ two_messages to_initiator.SavePointer to_initiator.Disconnect
+      → (count ≡ 0) ⊎ (count ≡ 1) → l.last ≡ plain → LastGiven l m next count
+  closed : frees_bus next ≡ true → EndsWell m next → count ≡ length (bytes_of_messages m) → IsClosing l.last
+      → CompletesBy m l.last → LastGiven l m next count
 
 -- ---- of a process, by the phase
 
@@ -63,15 +67,17 @@ LastBy l p count is_last _ = l.last ≡ plain
 pub record LastTalk (k : RunState) (l : Link) : Type 0 where
   pub before : l.before ≡ plain
   pub unbegun : k.exchange.begun ≡ false → l.last ≡ plain
-  pub begun : k.exchange.begun ≡ true → LastBy l k.exchange.plan k.handshakes.requests k.story.bus_state.dialogue.is_last (phase_of (bus_of k))
+  pub begun : k.exchange.begun ≡ true
+      → LastBy l k.exchange.plan k.handshakes.requests k.story.bus_state.dialogue.is_last (phase_of (bus_of k))
 
 abbrev pub LastTalks : RunState → Type 0
 LastTalks k = (l : Link) (id : ProcId) → k.story.link ≡ Some l → k.served ≡ Some (process id) → LastTalk k l
 
 -- An abort is told with the last byte of its opening.
 abbrev pub AbortTalks : RunState → Type 0
-AbortTalks k =
-    (l : Link) (m : ℕ) → k.story.link ≡ Some l → k.served ≡ Some (abort m) → k.exchange.begun ≡ true → k.story.bus_state.dialogue.is_last ≡ true → l.last ≡ abortive
+AbortTalks k = (l : Link) (m : ℕ) → k.story.link ≡ Some l → k.served ≡ Some (abort m) → k.exchange.begun ≡ true
+    → k.story.bus_state.dialogue.is_last ≡ true → l.last ≡ abortive
 
 abbrev pub LastFacts : ScenarioValue → List Row → Type 0
-LastFacts s rows = (n : Connection) → connection rows ≡ Some n → (bus rows).rst ≡ false → LastTalks (run_state s rows) × AbortTalks (run_state s rows)
+LastFacts s rows = (n : Connection) → connection rows ≡ Some n → (bus rows).rst ≡ false
+    → LastTalks (run_state s rows) × AbortTalks (run_state s rows)

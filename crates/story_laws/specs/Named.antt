@@ -1,5 +1,5 @@
--- After a reselection the target says the names of the process that it serves, again where one was struck, until the initiator knows
--- it (6.1.4, 6.6.7, 6.6.13, 6.6.17).
+-- After a reselection the target says the names of the process that it serves, again where one was struck, until the
+-- initiator knows it (6.1.4, 6.6.7, 6.6.13, 6.6.17).
 use Rattle.std.specs.Prelude.{ℕ, ◌≡◌, true, false, ◌==◌, List, length, Option, Some, is_some}
 use Rattle.bus_due.specs.bus_trace.specs.LineSet.{LineSet}
 use Rattle.bus_due.specs.bus_trace.specs.declared.Row.{Row}
@@ -41,17 +41,20 @@ pub record AreFound (s : ScenarioValue) (k : RunState) (n : Connection) : Type 0
 
 -- The names of the process find one.
 abbrev pub IsFoundBy : ScenarioValue → Connection → Sent → Process → Type 0
-IsFoundBy s n sent p =
-    (l : Link) → l.initiator ≡ n.initiator → l.target ≡ n.target → l.unit ≡ p.unit → is_some (named_item sent s.commands l (tag_number p.tag)) ≡ true
+IsFoundBy s n sent p = (l : Link) → l.initiator ≡ n.initiator → l.target ≡ n.target → l.unit ≡ p.unit
+    → is_some (named_item sent s.commands l (tag_number p.tag)) ≡ true
 
 -- ---- its names
 
--- They are said from the first on, or from the second, and so many bytes of them have crossed: after IDENTIFY the initiator knows the unit.
+-- They are said from the first on, or from the second, and so many bytes of them have crossed: after IDENTIFY the
+-- initiator knows the unit.
 pub data Names (p : Process) (l : Link) (messages : Messages) (count : ℕ) : Type 0 where
   all : messages ≡ naming_messages p → ((count == 0) ≡ false → l.unit ≡ p.unit) → Names p l messages count
-  tag_alone : (m : MsgIn) → tag_named p.tag ≡ Some m → messages ≡ one_message m → l.unit ≡ p.unit → Names p l messages count
+  tag_alone : (m : MsgIn) → tag_named p.tag ≡ Some m → messages ≡ one_message m → l.unit ≡ p.unit
+      → Names p l messages count
 
-pub record IsNaming (s : ScenarioValue) (n : Connection) (sent : Sent) (link : Option Link) (p : Process) (l : Link) (x : Exchange) : Type 0 where
+pub record IsNaming (s : ScenarioValue) (n : Connection) (sent : Sent) (link : Option Link) (p : Process) (l : Link)
+    (x : Exchange) : Type 0 where
   pub link_is : link ≡ Some l
   pub initiator_is : l.initiator ≡ n.initiator
   pub target_is : l.target ≡ n.target
@@ -61,14 +64,21 @@ pub record IsNaming (s : ScenarioValue) (n : Connection) (sent : Sent) (link : O
   pub before : is_complete l.before ≡ false
   pub found : IsFoundBy s n sent p
 
--- The initiator knows the process, and no names follow; or they are said; or MESSAGE PARITY ERROR is, after which they are said again.
-pub data NamedBy (s : ScenarioValue) (n : Connection) (sent : Sent) (link : Option Link) (x : Exchange) (h : Handshakes) (b : LineSet) : Type 0 where
-  known : (l : Link) → link ≡ Some l → is_some l.item ≡ true → OnMessages IsNoName x.plan.messages → NamedBy s n sent link x h b
-  said : (p : Process) (l : Link) → IsNaming s n sent link p l x → is_message_in b ≡ true → Names p l x.plan.messages h.requests → (h.requests ≡ length (bytes_of_messages x.plan.messages) → is_some l.item ≡ true) → NamedBy s n sent link x h b
-  refused : (p : Process) (l : Link) → IsNaming s n sent link p l x → is_message_out b ≡ true → x.plan.cause ≡ causes.InMessage → Names p l x.plan.messages 0 → NamedBy s n sent link x h b
+-- The initiator knows the process, and no names follow; or they are said; or MESSAGE PARITY ERROR is, after which they
+-- are said again.
+pub data NamedBy (s : ScenarioValue) (n : Connection) (sent : Sent) (link : Option Link) (x : Exchange) (h : Handshakes)
+    (b : LineSet) : Type 0 where
+  known : (l : Link) → link ≡ Some l → is_some l.item ≡ true → OnMessages IsNoName x.plan.messages
+      → NamedBy s n sent link x h b
+  said : (p : Process) (l : Link) → IsNaming s n sent link p l x
+      → is_message_in b ≡ true → Names p l x.plan.messages h.requests
+      → (h.requests ≡ length (bytes_of_messages x.plan.messages) → is_some l.item ≡ true) → NamedBy s n sent link x h b
+  refused : (p : Process) (l : Link) → IsNaming s n sent link p l x → is_message_out b ≡ true
+      → x.plan.cause ≡ causes.InMessage → Names p l x.plan.messages 0 → NamedBy s n sent link x h b
 
 abbrev pub Named : ScenarioValue → RunState → Connection → Type 0
 Named s k n = NamedBy s n k.story.sent k.story.link k.exchange k.handshakes (bus_of k)
 
 abbrev pub NamedFacts : ScenarioValue → List Row → Type 0
-NamedFacts s rows = (n : Connection) → connection rows ≡ Some n → (bus rows).rst ≡ false → n.reselected ≡ true → Named s (run_state s rows) n
+NamedFacts s rows = (n : Connection) → connection rows ≡ Some n → (bus rows).rst ≡ false → n.reselected ≡ true
+    → Named s (run_state s rows) n

@@ -14,8 +14,8 @@ use Rattle.bus_due.specs.bus_dialogue.specs.NextPhase.{phase_of}
 use Rattle.row_laws.specs.link_laws.specs.Pulses.{run_count}
 use Rattle.bus_due.specs.bus_dialogue.specs.declared.exchange.Phase.TheVariants as phases
 
--- A run has a byte; no more are answered than it has, nor asked for by pulses; and one that REQ asks for and ACK has not answered is
--- of the run.
+-- A run has a byte; no more are answered than it has, nor asked for by pulses; and one that REQ asks for and ACK has
+-- not answered is of the run.
 pub record AreCounted (h : Handshakes) (b : LineSet) (pulsed : Bool) (run : ℕ) : Type 0 where
   pub some : 1 ≤ run
   pub asked : h.answers ≤ h.requests
@@ -28,4 +28,5 @@ abbrev pub pulses_here : List Row → Bool
 pulses_here p = is_pulsed_phase true (bus p) (dialogue p).heard.now.agreement
 
 pub record CountFacts (s : ScenarioValue) (p : List Row) : Type 0 where
-  pub counts : (n : Connection) → connection p ≡ Some n → (bus p).rst ≡ false → begun p ≡ true → phase_of (bus p) ≡ phases.DataOut → AreCounted (handshakes p) (bus p) (pulses_here p) (run_count s p n)
+  pub counts : (n : Connection) → connection p ≡ Some n → (bus p).rst ≡ false → begun p ≡ true
+      → phase_of (bus p) ≡ phases.DataOut → AreCounted (handshakes p) (bus p) (pulses_here p) (run_count s p n)

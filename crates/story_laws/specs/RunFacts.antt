@@ -18,11 +18,14 @@ pub record IsServedWell (s : ScenarioValue) (k : RunState) (n : Connection) (q :
 
 -- What is kept of those of this kind.
 pub record RunsBy (kind : Process → Type 0) (s : ScenarioValue) (k : RunState) : Type 0 where
-  pub waits : (q : Process) → process_of s q.id ≡ Some q → kind q → ((x : ProcId) → k.served ≡ Some (process x) → same_id x q.id ≡ false) → IsWaiting s k q
+  pub waits : (q : Process) → process_of s q.id ≡ Some q → kind q
+      → ((x : ProcId) → k.served ≡ Some (process x) → same_id x q.id ≡ false) → IsWaiting s k q
   pub free : k.story.bus_state.connection ≡ None → k.served ≡ None
-  pub reset : (n : Connection) (q : Process) → k.story.bus_state.connection ≡ Some n → (bus_of k).rst ≡ true → process_served s k ≡ Some q → kind q → has_item k.story.sent.over (process q.id) ≡ true
+  pub reset : (n : Connection) (q : Process) → k.story.bus_state.connection ≡ Some n → (bus_of k).rst ≡ true
+      → process_served s k ≡ Some q → kind q → has_item k.story.sent.over (process q.id) ≡ true
   pub undoes : (n : Connection) → k.story.bus_state.connection ≡ Some n → (bus_of k).rst ≡ false → UndoesServed k
-  pub served : (n : Connection) (q : Process) → k.story.bus_state.connection ≡ Some n → (bus_of k).rst ≡ false → process_served s k ≡ Some q → kind q → IsServedWell s k n q
+  pub served : (n : Connection) (q : Process) → k.story.bus_state.connection ≡ Some n → (bus_of k).rst ≡ false
+      → process_served s k ≡ Some q → kind q → IsServedWell s k n q
 
 abbrev pub IsWriter : Process → Type 0
 IsWriter q = is_writing q ≡ true

@@ -23,6 +23,6 @@ pub data IsWhole (s : ScenarioValue) (k : RunState) (all : List Writer) (p : Pro
 
 -- With a row of a connection, before and after which RST is false.
 abbrev pub RunsWhole : ScenarioValue → List Row → Row → Type 0
-RunsWhole s rows row =
-    (n : Connection) (p : Process) → connection rows ≡ Some n → (bus rows).rst ≡ false → (bus (row ∷ rows)).rst ≡ false → shows_run (events_of_row s rows row) ≡ true → process_served s (run_state s rows) ≡ Some p
-    → IsWhole s (run_state s rows) (writers s rows) p
+RunsWhole s rows row = (n : Connection) (p : Process) → connection rows ≡ Some n → (bus rows).rst ≡ false
+    → (bus (row ∷ rows)).rst ≡ false → shows_run (events_of_row s rows row) ≡ true
+    → process_served s (run_state s rows) ≡ Some p → IsWhole s (run_state s rows) (writers s rows) p

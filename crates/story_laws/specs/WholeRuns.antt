@@ -13,7 +13,8 @@ use Rattle.bus_due.specs.scenario.specs.declared.value.Policy.TheVariants as pol
 
 -- So many bytes have come with the runs that it has made, and with the present one in DATA OUT.
 abbrev pub bytes_come : ScenarioValue → RunState → Process → ℕ
-bytes_come s k p = start_of_run s p (progress_in k.progress p.id).runs + (if is_data_out (phase_of (bus_of k)) then k.handshakes.answers else 0)
+bytes_come s k p = start_of_run s p (progress_in k.progress p.id).runs
+    + (if is_data_out (phase_of (bus_of k)) then k.handshakes.answers else 0)
 
 pub record HasSentAll (s : ScenarioValue) (k : RunState) (all : List Writer) (p : Process) : Type 0 where
   pub writes : is_writing p ≡ true

@@ -1,5 +1,5 @@
--- An exchange of messages between an initiator and a target: what it tells by the rules, which of its messages count, and
--- what either end keeps of it.
+-- An exchange of messages between an initiator and a target: what it tells by the rules, which of its messages count,
+-- and what either end keeps of it.
 use Rattle.std.specs.Prelude.{ℕ, zero, suc, Bool, true, false, List, [], ◌∷◌, Option, Some, None, if◌then◌else◌}
 use Rattle.bus_trace.specs.declared.agreements.Agreement.{Agreement}
 use Rattle.bus_dialogue.specs.bus_phases.specs.declared.words.Word.{Word}
@@ -7,7 +7,9 @@ use Rattle.bus_dialogue.specs.bus_phases.specs.declared.words.Word.TheVariants a
 use Rattle.bus_dialogue.specs.bus_phases.specs.declared.words.End.{End}
 use Rattle.bus_dialogue.specs.bus_phases.specs.declared.words.End.TheVariants as ends
 use Rattle.bus_dialogue.specs.bus_phases.specs.declared.dialogue.Dialogue.{Dialogue}
-use Rattle.bus_dialogue.specs.bus_phases.specs.Dialogue.{asynchronous, is_same_end, opened, heard_with_out, heard_before_in, heard_with_in, heard_with_command, phase_begins}
+use Rattle.bus_dialogue.specs.bus_phases.specs.Dialogue.{asynchronous, is_same_end, opened, heard_with_out}
+use Rattle.bus_dialogue.specs.bus_phases.specs.Dialogue.{heard_before_in, heard_with_in, heard_with_command}
+use Rattle.bus_dialogue.specs.bus_phases.specs.Dialogue.{phase_begins}
 use Rattle.sync_nego.specs.Negotiation.{Negotiation, unsettled, answer_to, settled, cleared, renewed}
 
 -- What happens between the two, as far as their agreement goes. Lists of these have the newest first.
@@ -75,7 +77,8 @@ with_byte (Some cs) b = Some (carried b ∷ cs)
 
 -- MESSAGE PARITY ERROR makes the last message to the initiator void (6.6.13).
 abbrev pub counted_out : Counted → Word → Counted
-counted_out c words.ParityError = record c { now = said ends.Initiator words.ParityError ∷ or_now c.void c.now; void = None }
+counted_out c words.ParityError =
+    record c { now = said ends.Initiator words.ParityError ∷ or_now c.void c.now; void = None }
 counted_out c w = record c { now = said ends.Initiator w ∷ c.now; void = None }
 
 abbrev pub counted_after : Counted → Turn → Counted
@@ -117,7 +120,8 @@ voids renews n = if renews then renewed n else cleared n
 -- It says a request, which answers the one that it has heard; or it hears one, which answers its own.
 abbrev pub says_offer : Side → Agreement → Side
 says_offer x a =
-    if x.is_asked then record x { nego = settled x.nego (Some a); is_asked = false; answers = true; is_answered = false }
+    if x.is_asked
+    then record x { nego = settled x.nego (Some a); is_asked = false; answers = true; is_answered = false }
     else record (passes x) { asks = true }
 
 abbrev pub hears_offer : Side → Agreement → Side

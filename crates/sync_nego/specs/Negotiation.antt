@@ -35,7 +35,8 @@ offer_in n = if offers n then Some (to_initiator.Sdtr n.own) else None
 
 -- The answer to a request; to one of unlimited offset there is none but MESSAGE REJECT.
 abbrev pub answer_to : Agreement → Agreement → Option Agreement
-answer_to own heard = if heard.offset == UNLIMITED_OFFSET then None else Some (agreement_answer own.period own.offset heard)
+answer_to own heard =
+    if heard.offset == UNLIMITED_OFFSET then None else Some (agreement_answer own.period own.offset heard)
 
 -- How a target says it.
 abbrev pub reply_by : Option Agreement → MsgIn

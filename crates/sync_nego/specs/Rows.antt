@@ -1,5 +1,6 @@
 -- The exchange of an initiator and a target that the rows of a trace make, row by row.
-use Rattle.std.specs.Prelude.{ℕ, Bool, true, false, ◌%◌, ◌&&◌, ◌||◌, ◌==◌, List, [], ◌∷◌, ◌++◌, Option, Some, None, is_some, if◌then◌else◌}
+use Rattle.std.specs.Prelude.{ℕ, Bool, true, false, ◌%◌, ◌&&◌, ◌||◌, ◌==◌, List, [], ◌∷◌, ◌++◌, Option, Some, None}
+use Rattle.std.specs.Prelude.{is_some, if◌then◌else◌}
 use Rattle.bus_trace.specs.declared.Row.{Row}
 use Rattle.bus_trace.specs.declared.changes.Change.{Change}
 use Rattle.bus_trace.specs.declared.connection.Connection.{Connection}
@@ -13,7 +14,8 @@ use Rattle.msg_grammar.specs.declared.message.MsgIn.{MsgIn}
 use Rattle.msg_grammar.specs.Messages.{got_out, got_in}
 use Rattle.bus_dialogue.specs.bus_phases.specs.declared.dialogue.Dialogue.{Dialogue}
 use Rattle.bus_dialogue.specs.bus_phases.specs.Dialogue.{word_out, word_in, fresh_bytes, dialogue}
-use Rattle.sync_nego.specs.Exchange.{Turn, connects, begins_phase, begins_anew, to_target, begins_message, to_initiator, in_command, resets}
+use Rattle.sync_nego.specs.Exchange.{Turn, connects, begins_phase, begins_anew, to_target, begins_message, to_initiator}
+use Rattle.sync_nego.specs.Exchange.{in_command, resets}
 
 -- ---- a byte that crosses
 
@@ -38,10 +40,10 @@ in_turns Unknown ts = ts
 
 abbrev pub byte_turns : Dialogue → Change → List Turn → List Turn
 byte_turns d c ts =
-    if is_message_out c.before then out_turns (got_out (fresh_bytes d ++ c.after.data_bits % 256 ∷ [])) (anew_if d.is_last ts)
+    if is_message_out c.before
+    then out_turns (got_out (fresh_bytes d ++ c.after.data_bits % 256 ∷ [])) (anew_if d.is_last ts)
     else if is_message_in c.before then in_turns (got_in (d.half ++ c.after.data_bits % 256 ∷ [])) (begins_if d.half ts)
-    else if is_command c.before then in_command (c.after.data_bits % 256) ∷ ts
-    else ts
+    else if is_command c.before then in_command (c.after.data_bits % 256) ∷ ts else ts
 
 abbrev pub dialogue_turns : Dialogue → Connection → Change → List Turn → List Turn
 dialogue_turns d n c ts =
@@ -72,8 +74,10 @@ ends_all None d n c t = c.after.rst || (t == n.target && d.heard.now.device_rese
 abbrev pub row_turns : Option Connection → Option Connection → Dialogue → Change → ℕ → ℕ → List Turn → List Turn
 row_turns None None d c i t ts = resets_if c.after.rst ts
 row_turns None (Some n) d c i t ts = if is_of_pair n i t then connects ∷ ts else resets_if c.after.rst ts
-row_turns (Some n) after d c i t ts = if is_of_pair n i t then pair_turns after d n c ts else resets_if (ends_all after d n c t) ts
+row_turns (Some n) after d c i t ts =
+    if is_of_pair n i t then pair_turns after d n c ts else resets_if (ends_all after d n c t) ts
 
 abbrev pub turns : List Row → ℕ → ℕ → List Turn
 turns [] i t = []
-turns (row ∷ rows) i t = row_turns (connection rows) (connection (row ∷ rows)) (dialogue rows) (change_of rows row) i t (turns rows i t)
+turns (row ∷ rows) i t =
+    row_turns (connection rows) (connection (row ∷ rows)) (dialogue rows) (change_of rows row) i t (turns rows i t)

@@ -1,5 +1,6 @@
 -- The queue of a logical unit, and what each call does to it (6.6.17, 7.8).
-use Rattle.std.specs.Prelude.{ℕ, zero, suc, Bool, true, false, ◌&&◌, ◌==◌, List, [], ◌∷◌, ◌++◌, Option, Some, None, replicate, slice_set, if◌then◌else◌}
+use Rattle.std.specs.Prelude.{ℕ, zero, suc, Bool, true, false, ◌&&◌, ◌==◌, List, [], ◌∷◌, ◌++◌, Option, Some, None}
+use Rattle.std.specs.Prelude.{replicate, slice_set, if◌then◌else◌}
 use Rattle.std.specs.List.{list_any}
 use Rattle.bus_base.specs.declared.events.Pick.{Pick}
 use Rattle.bus_base.specs.declared.ProcId.{ProcId}
@@ -36,7 +37,8 @@ is_current (Some current) key = key == current
 
 abbrev pub waiting_in : Option ℕ → List Queued → List Queued
 waiting_in current [] = []
-waiting_in current (q ∷ arrived) = if is_current current q.key then waiting_in current arrived else q ∷ waiting_in current arrived
+waiting_in current (q ∷ arrived) =
+    if is_current current q.key then waiting_in current arrived else q ∷ waiting_in current arrived
 
 -- In order of arrival.
 abbrev pub waiting_of : QueueState → List Queued
@@ -79,7 +81,8 @@ is_held hold = list_any (λ (held : Bool). held) hold
 
 -- While the hold has a member no waiting command is chosen.
 abbrev pub chosen_key : QueueState → Pick → Option ℕ
-chosen_key q pick = if is_held q.hold then None else key_at_if (waiting_of q) (chosen_place pick (entries_in (waiting_of q)))
+chosen_key q pick =
+    if is_held q.hold then None else key_at_if (waiting_of q) (chosen_place pick (entries_in (waiting_of q)))
 
 abbrev pub may_run_key : QueueState → ℕ → Bool
 may_run_key q key = may_run (entries_in (waiting_of q)) (place_of (waiting_of q) key)
@@ -122,15 +125,18 @@ those_of (Some dev) = those.Of dev
 
 abbrev pub without_those_of : Those → List Queued → List Queued
 without_those_of who [] = []
-without_those_of who (q ∷ queued) = if is_of who q.entry then without_those_of who queued else q ∷ without_those_of who queued
+without_those_of who (q ∷ queued) =
+    if is_of who q.entry then without_those_of who queued else q ∷ without_those_of who queued
 
 abbrev pub current_among : List Queued → Option ℕ → Option ℕ
 current_among queued None = None
 current_among queued (Some key) = if has_key queued key then Some key else None
 
 abbrev pub queue_cleared_of : QueueState → Those → QueueState
-queue_cleared_of q who =
-    record q { arrived = without_those_of who q.arrived; current = current_among (without_those_of who q.arrived) q.current }
+queue_cleared_of q who = record q {
+  arrived = without_those_of who q.arrived;
+  current = current_among (without_those_of who q.arrived) q.current;
+}
 
 abbrev pub with_held : QueueState → ℕ → Bool → QueueState
 with_held q dev held = record q { hold = slice_set q.hold dev held }
@@ -142,7 +148,8 @@ with_none_held q = record q { hold = replicate 8 false }
 
 abbrev pub key_of : List Queued → ℕ → Option ℕ → Option ℕ
 key_of [] from tag = None
-key_of (q ∷ queued) from tag = if q.entry.from == from && same_number q.entry.tag tag then Some q.key else key_of queued from tag
+key_of (q ∷ queued) from tag =
+    if q.entry.from == from && same_number q.entry.tag tag then Some q.key else key_of queued from tag
 
 -- ---- the first live command of a process
 

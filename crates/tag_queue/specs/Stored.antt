@@ -1,5 +1,7 @@
--- How a queue stands in its fields: the entries in a slab, and the arrivals in their order. No public clause cites this.
-use Rattle.std.specs.Prelude.{◌≡◌, ℕ, ◌+◌, ◌-◌, ◌≤◌, Bool, true, false, ◌&&◌, ◌||◌, ◌==◌, List, [], ◌∷◌, ◌++◌, length, Option, Some, None, if◌then◌else◌}
+-- How a queue stands in its fields: the entries in a slab, and the arrivals in their order. No public clause cites
+-- this.
+use Rattle.std.specs.Prelude.{◌≡◌, ℕ, ◌+◌, ◌-◌, ◌≤◌, Bool, true, false, ◌&&◌, ◌||◌, ◌==◌, List, [], ◌∷◌, ◌++◌, length}
+use Rattle.std.specs.Prelude.{Option, Some, None, if◌then◌else◌}
 use Rattle.slab.specs.Slab.{Slab, get, slab_len}
 use Rattle.disk_array.specs.declared.entries.Entry.{Entry}
 use Rattle.disk_array.specs.Order.{holds_back}

@@ -32,7 +32,8 @@ use Rattle.bus_due.specs.Plain.{IsPlain, AreOfDevices}
 use Rattle.bus_due.specs.PlainDue.{IsThere, IsLinked, under_reset, target_reaction}
 use Rattle.bus_reactions.specs.declared.ends.Pace.{Pace}
 use Rattle.target_units.specs.scsi_device.specs.Told.{told, pace_of, first_fault, flip_by, AreFlips}
-use Rattle.target_course.specs.States.{offering_in, TargetState, IsOwnConnection, IsTargetOf, IsTargetLine, IsNoInitiator}
+use Rattle.target_course.specs.States.{offering_in, TargetState, IsOwnConnection, IsTargetOf, IsTargetLine}
+use Rattle.target_course.specs.States.{IsNoInitiator}
 use Rattle.target_units.specs.Readies.{ready_unit}
 use Rattle.target_course.proofs.Alike.{dues_alike}
 use Rattle.target_course.specs.Dues.{myself_by, want_of_ready, link_by, hand_by, calm_by, target_next}
@@ -45,9 +46,15 @@ latency_is s d g = λ j. target_latency (g.target_is j) (host_latency (host_of s
 
 -- ---- what it is itself, and wants
 
-myself_is : (s : ScenarioValue) (rows : List Row) (d : TargetDef) (i : TargetState) → IsTargetLine s d → IsPlain s rows (run_state s rows) → IsTargetOf s rows d i → self_of (run_state s rows) d.dev d.latency ≡ myself_by d (told rows d.dev) i
-myself_is s rows d i g p r =
-    λ j. record { dev = d.dev; latency = d.latency; own = p.drives d.dev g.below j; since = ((p.own d.dev g.below ∙ sym r.own_is) j).row }
+myself_is : (s : ScenarioValue) (rows : List Row) (d : TargetDef) (i : TargetState)
+    → IsTargetLine s d → IsPlain s rows (run_state s rows) → IsTargetOf s rows d i
+    → self_of (run_state s rows) d.dev d.latency ≡ myself_by d (told rows d.dev) i
+myself_is s rows d i g p r = λ j. record {
+  dev = d.dev;
+  latency = d.latency;
+  own = p.drives d.dev g.below j;
+  since = ((p.own d.dev g.below ∙ sym r.own_is) j).row;
+}
 
 -- A target wants what its first ready unit asks for.
 abbrev want_by : Option wants.Ready → Want
@@ -57,7 +64,8 @@ ready_wants : (r : Option wants.Ready) → want_by r ≡ want_of_ready (ready_un
 ready_wants None = refl
 ready_wants (Some r) = refl
 
-want_is : (s : ScenarioValue) (rows : List Row) (d : TargetDef) (i : TargetState) → IsTargetLine s d → IsTargetOf s rows d i → want_of s (run_state s rows) d.dev ≡ want_of_ready i.ready
+want_is : (s : ScenarioValue) (rows : List Row) (d : TargetDef) (i : TargetState) → IsTargetLine s d
+    → IsTargetOf s rows d i → want_of s (run_state s rows) d.dev ≡ want_of_ready i.ready
 want_is s rows d i g r =
     let k : RunState = run_state s rows in
     (λ j. record {
@@ -71,7 +79,10 @@ want_is s rows d i g r =
 
 -- ---- on its way to a connection
 
-links_are : AreFlips → (s : ScenarioValue) (rows : List Row) (d : TargetDef) (i : TargetState) (f : Option FaultDef) → IsTargetLine s d → IsPlain s rows (run_state s rows) → IsTargetOf s rows d i → f ≡ first_fault (run_state s rows).faults → link_due_of s (run_state s rows) (myself_by d (told rows d.dev) i) ≡ link_by d (told rows d.dev) f i
+links_are : AreFlips → (s : ScenarioValue) (rows : List Row) (d : TargetDef) (i : TargetState) (f : Option FaultDef)
+    → IsTargetLine s d → IsPlain s rows (run_state s rows)
+    → IsTargetOf s rows d i → f ≡ first_fault (run_state s rows).faults
+    → link_due_of s (run_state s rows) (myself_by d (told rows d.dev) i) ≡ link_by d (told rows d.dev) f i
 links_are flips_are s rows d i f g p r e =
     let k : RunState = run_state s rows in
     let me : Myself = myself_by d (told rows d.dev) i in
@@ -79,7 +90,11 @@ links_are flips_are s rows d i f g p r e =
 
 -- ---- in a connection of its own
 
-hands_are : AreFlips → (s : ScenarioValue) (rows : List Row) (d : TargetDef) (i : TargetState) (f : Option FaultDef) (n : Connection) → IsTargetLine s d → IsPlain s rows (run_state s rows) → IsTargetOf s rows d i → f ≡ first_fault (run_state s rows).faults → IsOwnConnection rows d.dev n → (bus rows).rst ≡ false → target_reaction s rows d.dev d.latency ≡ hand_by d (told rows d.dev) f i
+hands_are : AreFlips
+    → (s : ScenarioValue) (rows : List Row) (d : TargetDef) (i : TargetState) (f : Option FaultDef) (n : Connection)
+    → IsTargetLine s d → IsPlain s rows (run_state s rows) → IsTargetOf s rows d i
+    → f ≡ first_fault (run_state s rows).faults → IsOwnConnection rows d.dev n → (bus rows).rst ≡ false
+    → target_reaction s rows d.dev d.latency ≡ hand_by d (told rows d.dev) f i
 hands_are flips_are s rows d i f n g p r e o calm =
     let k : RunState = run_state s rows in
     let last : ℕ = last_time rows in
@@ -87,17 +102,21 @@ hands_are flips_are s rows d i f n g p r e o calm =
     let pace : Pace = pace_of (told rows d.dev) None in
     (λ j. hand.sample_due (is_of_device (receiver rows) d.dev) last (flips_are k.faults f last e j)
     (hand.target_due (begun rows) (sight rows) (handshakes rows) (myself_is s rows d i g p r j)
-    (pace_by (p.begun j) (p.bus j) (p.dialogue j).heard.now.agreement (g.no_host j))
-    (offering_by (serving_of s k d.dev) (p.begun j) (pace_by (p.begun j) (p.bus j) (p.dialogue j).heard.now.agreement (g.no_host j)).pulsed (p.bus j) (p.handshakes j))))
+    (pace_by (p.begun j) (p.bus j) (p.dialogue j).heard.now.agreement (g.no_host j)) (offering_by (serving_of s k d.dev)
+    (p.begun j) (pace_by (p.begun j) (p.bus j) (p.dialogue j).heard.now.agreement (g.no_host j)).pulsed
+    (p.bus j) (p.handshakes j))))
     ∙ (λ j. hand.sample_due (is_of_device (receiver rows) d.dev) last (flip_by f last)
-    (sym (dues_alike (begun rows) (sight rows) (handshakes rows) me pace (offering_in rows i.serving) (offering_in rows (serving_of s k d.dev)) (r.serving_is n o calm)) j))
+    (sym (dues_alike (begun rows) (sight rows) (handshakes rows) me pace (offering_in rows i.serving)
+    (offering_in rows (serving_of s k d.dev)) (r.serving_is n o calm)) j))
 
 -- ---- whatever stands
 
-pub dues_are : ((s : ScenarioValue) (rows : List Row) (dev latency : ℕ) (n : Connection) → IsThere s rows dev latency → IsLinked rows n → (n.initiator == dev) ≡ false → (n.target == dev) ≡ true → due s rows dev ≡ under_reset s rows dev latency (target_reaction s rows dev latency))
-    → AreFlips → AreOthersStill
-    → (s : ScenarioValue) (rows : List Row) (d : TargetDef) (i : TargetState) (f : Option FaultDef) → IsTargetLine s d → AreOfDevices rows → IsPlain s rows (run_state s rows) → IsNoInitiator rows d.dev → IsTargetOf s rows d i → f ≡ first_fault (run_state s rows).faults
-    → due s rows d.dev ≡ target_next d (told rows d.dev) f i
+pub dues_are : ((s : ScenarioValue) (rows : List Row) (dev latency : ℕ) (n : Connection)
+    → IsThere s rows dev latency → IsLinked rows n → (n.initiator == dev) ≡ false → (n.target == dev) ≡ true
+    → due s rows dev ≡ under_reset s rows dev latency (target_reaction s rows dev latency)) → AreFlips → AreOthersStill
+    → (s : ScenarioValue) (rows : List Row) (d : TargetDef) (i : TargetState) (f : Option FaultDef) → IsTargetLine s d
+    → AreOfDevices rows → IsPlain s rows (run_state s rows) → IsNoInitiator rows d.dev → IsTargetOf s rows d i
+    → f ≡ first_fault (run_state s rows).faults → due s rows d.dev ≡ target_next d (told rows d.dev) f i
 dues_are law flips_are others_are s rows d i f g q p t r e = go (bus rows).rst refl (connection rows) refl
   where
     k : RunState
@@ -117,12 +136,13 @@ dues_are law flips_are others_are s rows d i f g q p t r e = go (bus rows).rst r
 
     -- by the stage
     staged : due s rows d.dev ≡ with_reset me i.own.rst i.reset (stage_due s k me (bus rows).rst (connection rows))
-    staged =
-        (λ j. due_if s k d.dev (latency_is s d g j))
-        ∙ (λ j. with_reset (mine j) ((p.own d.dev g.below ∙ sym r.own_is) j).rst (reset_from d.dev (p.own d.dev g.below j).released s.resets) (stage_due s k (mine j) (p.bus j).rst (p.connection j)))
+    staged = (λ j. due_if s k d.dev (latency_is s d g j)) ∙ (λ j. with_reset (mine j)
+        ((p.own d.dev g.below ∙ sym r.own_is) j).rst (reset_from d.dev (p.own d.dev g.below j).released s.resets)
+        (stage_due s k (mine j) (p.bus j).rst (p.connection j)))
         ∙ (λ j. with_reset me i.own.rst (sym r.reset_is j) (stage_due s k me (bus rows).rst (connection rows)))
 
-    go : (x : Bool) → (bus rows).rst ≡ x → (y : Option Connection) → connection rows ≡ y → due s rows d.dev ≡ target_next d (told rows d.dev) f i
+    go : (x : Bool) → (bus rows).rst ≡ x → (y : Option Connection) → connection rows ≡ y
+        → due s rows d.dev ≡ target_next d (told rows d.dev) f i
     go true rst y c =
         staged
         ∙ (λ j. reset_by (stage_due s k me (rst j) (connection rows)))
@@ -136,9 +156,9 @@ dues_are law flips_are others_are s rows d i f g q p t r e = go (bus rows).rst r
     go false rst (Some n) c = linked (n.target == d.dev) refl
       where
         linked : (z : Bool) → (n.target == d.dev) ≡ z → due s rows d.dev ≡ target_next d (told rows d.dev) f i
-        linked true z =
-            law s rows d.dev d.latency n there (record { calm = rst; stands = c }) (t.not_calling n c) z
-            ∙ (λ j. with_reset (mine j) (sym r.own_is j).rst (sym r.reset_is j) (hands_are flips_are s rows d i f n g p r e (record { stands = c; own = z }) rst j))
+        linked true z = law s rows d.dev d.latency n there (record { calm = rst; stands = c }) (t.not_calling n c) z
+            ∙ (λ j. with_reset (mine j) (sym r.own_is j).rst (sym r.reset_is j)
+            (hands_are flips_are s rows d i f n g p r e (record { stands = c; own = z }) rst j))
             ∙ (λ j. reset_by (if sym z j then hand_by d (told rows d.dev) f i else None))
             ∙ (λ j. reset_by (calm_by d (told rows d.dev) f i (sym rst j) (sym c j)))
         linked false z =

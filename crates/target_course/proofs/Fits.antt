@@ -1,5 +1,6 @@
 -- The messages that a target plans fit, where those that it is to repeat do.
-use Rattle.std.specs.Prelude.{◌+◌, ◌-◌, ◌==◌, ◌&&◌, not, length, Bool, true, false, Option, Some, None, is_some, nat_lt, if◌then◌else◌}
+use Rattle.std.specs.Prelude.{◌+◌, ◌-◌, ◌==◌, ◌&&◌, not, length, Bool, true, false, Option, Some, None, is_some, nat_lt}
+use Rattle.std.specs.Prelude.{if◌then◌else◌}
 use Rattle.bus_trace.specs.LineSet.{LineSet}
 use Rattle.bus_trace.specs.Phases.{is_message_out, is_message_in, changes_phase}
 use Rattle.bus_trace.specs.declared.agreements.Agreement.{Agreement}
@@ -20,12 +21,19 @@ use Rattle.bus_due.specs.bus_dialogue.specs.declared.exchange.Leaving.{Leaving}
 use Rattle.bus_due.specs.bus_dialogue.specs.declared.exchange.Task.{Task}
 use Rattle.bus_due.specs.bus_dialogue.specs.declared.exchange.Plan.{Plan}
 use Rattle.bus_due.specs.bus_dialogue.specs.declared.exchange.Hearing.{Hearing}
-use Rattle.bus_due.specs.bus_dialogue.specs.Exchange.{one_message, plan_anew, plan_anew_if, plan_after_message, struck_plan, from_byte, message_bytes}
+use Rattle.bus_due.specs.bus_dialogue.specs.Exchange.{one_message, plan_anew, plan_anew_if, plan_after_message}
+use Rattle.bus_due.specs.bus_dialogue.specs.Exchange.{struck_plan, from_byte, message_bytes}
 use Rattle.bus_due.specs.bus_dialogue.specs.Planning.{plan_in_message_out, plan_in_phase, plan_with_byte, plan_after}
 use Rattle.bus_due.specs.bus_dialogue.specs.Words.{target_answer, reply_to, request_by, is_naming}
 use Rattle.bus_due.specs.bus_dialogue.specs.Arrivals.{policy_of}
 use Rattle.bus_due.specs.bus_dialogue.specs.DataRuns.{runs_in_all}
-use Rattle.bus_due.specs.bus_dialogue.specs.NextPhase.{Serving, phase_of, bus_free, phase_entry, with_task, recovery, recovery_limit, pointer_restoration, next_data_phase, request_or_command, after_offer, message_repetition, after_refusal, message_out_leaving, after_messages, disconnection, after_arrival, command_leaving, disconnect_messages, after_run, data_in_leaving, data_out_leaving, unless_attention, phase_leaving, leaving_by}
+use Rattle.bus_due.specs.bus_dialogue.specs.NextPhase.{Serving, phase_of, bus_free, phase_entry, with_task, recovery}
+use Rattle.bus_due.specs.bus_dialogue.specs.NextPhase.{recovery_limit, pointer_restoration, next_data_phase}
+use Rattle.bus_due.specs.bus_dialogue.specs.NextPhase.{request_or_command, after_offer, message_repetition}
+use Rattle.bus_due.specs.bus_dialogue.specs.NextPhase.{after_refusal, message_out_leaving, after_messages}
+use Rattle.bus_due.specs.bus_dialogue.specs.NextPhase.{disconnection, after_arrival, command_leaving}
+use Rattle.bus_due.specs.bus_dialogue.specs.NextPhase.{disconnect_messages, after_run, data_in_leaving}
+use Rattle.bus_due.specs.bus_dialogue.specs.NextPhase.{data_out_leaving, unless_attention, phase_leaving, leaving_by}
 use Rattle.target_course.specs.Fits.{FitsIf, AreFit}
 
 -- Either of two.
@@ -34,7 +42,8 @@ either true a b x y = x
 either false a b x y = y
 
 -- Of a process, if there is one.
-of_task : (t : Option Task) (f : Task → Leaving) → ((x : Task) → AreFit (f x).messages) → AreFit (with_task t f).messages
+of_task : (t : Option Task) (f : Task → Leaving) → ((x : Task) → AreFit (f x).messages)
+    → AreFit (with_task t f).messages
 of_task None f g = record { first = tt; second = tt }
 of_task (Some t) f g = g t
 
@@ -49,9 +58,10 @@ free_fits = record { first = tt; second = tt }
 restoration_fits : (n : Next) → AreFit (pointer_restoration n).messages
 restoration_fits n = record { first = tt; second = tt }
 
-recovery_fits : (def : Option TargetDef) (t : Task) (again gives_up : Leaving) → AreFit again.messages → AreFit gives_up.messages → AreFit (recovery def t again gives_up).messages
-recovery_fits def t again gives_up x y =
-    either t.in_hold again (if nat_lt t.recoveries (recovery_limit def) then record again { counts = true } else gives_up) x
+recovery_fits : (def : Option TargetDef) (t : Task) (again gives_up : Leaving) → AreFit again.messages
+    → AreFit gives_up.messages → AreFit (recovery def t again gives_up).messages
+recovery_fits def t again gives_up x y = either t.in_hold again
+    (if nat_lt t.recoveries (recovery_limit def) then record again { counts = true } else gives_up) x
     (either (nat_lt t.recoveries (recovery_limit def)) (record again { counts = true }) gives_up x y)
 
 reply_fits : (def : Option TargetDef) (offer : Agreement) → FitsIf (Some (reply_to def offer))
@@ -65,27 +75,35 @@ request_fits : (def : Option TargetDef) → AreFit (request_or_command (request_
 request_fits None = entry_fits phases.Command
 request_fits (Some t) = go (t.begins && nat_lt 0 t.period)
   where
-    go : (q : Bool) → AreFit (request_or_command (if q then Some (to_initiator.Sdtr (record { period = t.period; offset = t.offset })) else None)).messages
+    go : (q : Bool) → AreFit (request_or_command
+        (if q then Some (to_initiator.Sdtr (record { period = t.period; offset = t.offset })) else None)).messages
     go true = record { first = tt; second = tt }
     go false = entry_fits phases.Command
 
-offer_fits : (def : Option TargetDef) (negotiates : Bool) (offer : Option Agreement) → AreFit (after_offer def negotiates offer).messages
+offer_fits : (def : Option TargetDef) (negotiates : Bool) (offer : Option Agreement)
+    → AreFit (after_offer def negotiates offer).messages
 offer_fits def negotiates (Some offer) = record { first = reply_fits def offer; second = tt }
-offer_fits def negotiates None = either negotiates (request_or_command (request_by def)) (phase_entry phases.Command) (request_fits def) (entry_fits phases.Command)
+offer_fits def negotiates None = either negotiates (request_or_command (request_by def)) (phase_entry phases.Command)
+    (request_fits def) (entry_fits phases.Command)
 
 refusal_fits : (v : Serving) → AreFit v.plan.messages → AreFit (after_refusal v).messages
-refusal_fits v x =
-    either (is_some v.plan.said.offer) (phase_entry phases.Command) (if is_naming v.plan.messages.first then message_repetition v.plan else with_task v.task (λ t. recovery v.def t (message_repetition v.plan) bus_free)) (entry_fits phases.Command)
-    (either (is_naming v.plan.messages.first) (message_repetition v.plan) (with_task v.task (λ t. recovery v.def t (message_repetition v.plan) bus_free)) x
-    (of_task v.task (λ t. recovery v.def t (message_repetition v.plan) bus_free) (λ t. recovery_fits v.def t (message_repetition v.plan) bus_free x free_fits)))
+refusal_fits v x = either (is_some v.plan.said.offer) (phase_entry phases.Command)
+    (if is_naming v.plan.messages.first then message_repetition v.plan
+    else with_task v.task (λ t. recovery v.def t (message_repetition v.plan) bus_free))
+    (entry_fits phases.Command) (either (is_naming v.plan.messages.first) (message_repetition v.plan)
+    (with_task v.task (λ t. recovery v.def t (message_repetition v.plan) bus_free)) x
+    (of_task v.task (λ t. recovery v.def t (message_repetition v.plan) bus_free)
+    (λ t. recovery_fits v.def t (message_repetition v.plan) bus_free x free_fits)))
 
-restores_fit : (v : Serving) (n : Next) (gives_up : Leaving) → AreFit gives_up.messages → AreFit (with_task v.task (λ t. recovery v.def t (pointer_restoration n) gives_up)).messages
-restores_fit v n gives_up x =
-    of_task v.task (λ t. recovery v.def t (pointer_restoration n) gives_up) (λ t. recovery_fits v.def t (pointer_restoration n) gives_up (restoration_fits n) x)
+restores_fit : (v : Serving) (n : Next) (gives_up : Leaving) → AreFit gives_up.messages
+    → AreFit (with_task v.task (λ t. recovery v.def t (pointer_restoration n) gives_up)).messages
+restores_fit v n gives_up x = of_task v.task (λ t. recovery v.def t (pointer_restoration n) gives_up)
+    (λ t. recovery_fits v.def t (pointer_restoration n) gives_up (restoration_fits n) x)
 
 message_out_fits : (v : Serving) (c : Cause) → AreFit v.plan.messages → AreFit (message_out_leaving v c).messages
-message_out_fits v causes.Selected x =
-    either (is_some v.plan.said.aborts) bus_free (after_offer v.def v.plan.negotiates v.plan.said.offer) free_fits (offer_fits v.def v.plan.negotiates v.plan.said.offer)
+message_out_fits v causes.Selected x = either (is_some v.plan.said.aborts) bus_free
+    (after_offer v.def v.plan.negotiates v.plan.said.offer) free_fits
+    (offer_fits v.def v.plan.negotiates v.plan.said.offer)
 message_out_fits v causes.InMessage x = refusal_fits v x
 message_out_fits v causes.InData x = restores_fit v nexts.GoOn (phase_entry phases.Status) (entry_fits phases.Status)
 message_out_fits v causes.InStatus x = restores_fit v nexts.Status bus_free free_fits
@@ -93,8 +111,8 @@ message_out_fits v causes.InStatus x = restores_fit v nexts.Status bus_free free
 messages_fit : (v : Serving) (n : Next) → AreFit (after_messages v n).messages
 messages_fit v nexts.Command = entry_fits phases.Command
 messages_fit v nexts.Status = entry_fits phases.Status
-messages_fit v nexts.GoOn =
-    of_task v.task (λ t. phase_entry (next_data_phase (policy_of v.def) t t.runs)) (λ t. entry_fits (next_data_phase (policy_of v.def) t t.runs))
+messages_fit v nexts.GoOn = of_task v.task (λ t. phase_entry (next_data_phase (policy_of v.def) t t.runs))
+    (λ t. entry_fits (next_data_phase (policy_of v.def) t t.runs))
 messages_fit v nexts.FreeBus = free_fits
 
 arrival_fits : (def : Option TargetDef) (t : Task) (a : Arrival) → AreFit (after_arrival def t a).messages
@@ -110,8 +128,8 @@ disconnect_fits (policies.Burst most) = record { first = tt; second = tt }
 disconnect_fits (policies.NoSave most) = record { first = tt; second = tt }
 
 run_fits : (p : Policy) (t : Task) → AreFit (after_run p t).messages
-run_fits p t =
-    either (nat_lt (t.runs + 1) (runs_in_all p t)) (disconnection (disconnect_messages p)) (phase_entry phases.Status) (disconnect_fits p) (entry_fits phases.Status)
+run_fits p t = either (nat_lt (t.runs + 1) (runs_in_all p t)) (disconnection (disconnect_messages p))
+    (phase_entry phases.Status) (disconnect_fits p) (entry_fits phases.Status)
 
 attention_fits : (attention : Bool) (l : Leaving) → AreFit l.messages → AreFit (unless_attention attention l).messages
 attention_fits attention l x = either attention (phase_entry phases.MessageOut) l (entry_fits phases.MessageOut) x
@@ -122,12 +140,13 @@ command_fits v a = go v.task
     again : Task → Leaving
     again t = recovery v.def t (pointer_restoration nexts.Command) (phase_entry phases.Status)
 
-    go : (x : Option Task) → AreFit (with_task x (λ t. if v.plan.struck then recovery v.def t (pointer_restoration nexts.Command) (phase_entry phases.Status) else after_arrival v.def t a)).messages
+    go : (x : Option Task) → AreFit (with_task x
+        (λ t. if v.plan.struck then recovery v.def t (pointer_restoration nexts.Command) (phase_entry phases.Status)
+        else after_arrival v.def t a)).messages
     go None = free_fits
-    go (Some t) =
-        either v.plan.struck (again t) (after_arrival v.def t a)
-        (recovery_fits v.def t (pointer_restoration nexts.Command) (phase_entry phases.Status) (restoration_fits nexts.Command) (entry_fits phases.Status))
-        (arrival_fits v.def t a)
+    go (Some t) = either v.plan.struck (again t) (after_arrival v.def t a)
+        (recovery_fits v.def t (pointer_restoration nexts.Command) (phase_entry phases.Status)
+        (restoration_fits nexts.Command) (entry_fits phases.Status)) (arrival_fits v.def t a)
 
 data_out_fits : (v : Serving) → AreFit (data_out_leaving v).messages
 data_out_fits v = go v.task
@@ -135,29 +154,35 @@ data_out_fits v = go v.task
     again : Task → Leaving
     again t = recovery v.def t (pointer_restoration nexts.GoOn) (phase_entry phases.Status)
 
-    go : (x : Option Task) → AreFit (with_task x (λ t. if v.plan.struck then recovery v.def t (pointer_restoration nexts.GoOn) (phase_entry phases.Status) else after_run (policy_of v.def) t)).messages
+    go : (x : Option Task) → AreFit (with_task x
+        (λ t. if v.plan.struck then recovery v.def t (pointer_restoration nexts.GoOn) (phase_entry phases.Status)
+        else after_run (policy_of v.def) t)).messages
     go None = free_fits
-    go (Some t) =
-        either v.plan.struck (again t) (after_run (policy_of v.def) t)
-        (recovery_fits v.def t (pointer_restoration nexts.GoOn) (phase_entry phases.Status) (restoration_fits nexts.GoOn) (entry_fits phases.Status))
-        (run_fits (policy_of v.def) t)
+    go (Some t) = either v.plan.struck (again t) (after_run (policy_of v.def) t)
+        (recovery_fits v.def t (pointer_restoration nexts.GoOn) (phase_entry phases.Status)
+        (restoration_fits nexts.GoOn) (entry_fits phases.Status)) (run_fits (policy_of v.def) t)
 
-phase_fits : (v : Serving) (attention : Bool) (p : Phase) → AreFit v.plan.messages → AreFit (phase_leaving v attention p).messages
+phase_fits : (v : Serving) (attention : Bool) (p : Phase) → AreFit v.plan.messages
+    → AreFit (phase_leaving v attention p).messages
 phase_fits v attention phases.MessageOut x = message_out_fits v v.plan.cause x
-phase_fits v attention phases.MessageIn x = attention_fits attention (after_messages v v.plan.next) (messages_fit v v.plan.next)
+phase_fits v attention phases.MessageIn x =
+    attention_fits attention (after_messages v v.plan.next) (messages_fit v v.plan.next)
 phase_fits v attention phases.Command x = command_fits v v.arrival
-phase_fits v attention phases.DataIn x =
-    attention_fits attention (data_in_leaving v) (of_task v.task (λ t. after_run (policy_of v.def) t) (λ t. run_fits (policy_of v.def) t))
+phase_fits v attention phases.DataIn x = attention_fits attention (data_in_leaving v)
+    (of_task v.task (λ t. after_run (policy_of v.def) t) (λ t. run_fits (policy_of v.def) t))
 phase_fits v attention phases.DataOut x = data_out_fits v
-phase_fits v attention phases.Status x = attention_fits attention (disconnection (one_message to_initiator.CommandComplete)) (record { first = tt; second = tt })
+phase_fits v attention phases.Status x = attention_fits attention
+    (disconnection (one_message to_initiator.CommandComplete)) (record { first = tt; second = tt })
 
-pub leaving_fits : (v : Serving) (begun : Bool) (bus : LineSet) → AreFit v.plan.messages → AreFit (leaving_by v begun bus).messages
-leaving_fits v begun bus x =
-    either begun (phase_leaving v bus.atn (phase_of bus)) (phase_entry phases.MessageOut) (phase_fits v bus.atn (phase_of bus) x) (entry_fits phases.MessageOut)
+pub leaving_fits : (v : Serving) (begun : Bool) (bus : LineSet) → AreFit v.plan.messages
+    → AreFit (leaving_by v begun bus).messages
+leaving_fits v begun bus x = either begun (phase_leaving v bus.atn (phase_of bus)) (phase_entry phases.MessageOut)
+    (phase_fits v bus.atn (phase_of bus) x) (entry_fits phases.MessageOut)
 
 -- ---- what it plans
 
-pub plan_fits : (w : Hearing) (l : Leaving) (p : Plan) → AreFit p.messages → AreFit l.messages → AreFit (plan_after w l p).messages
+pub plan_fits : (w : Hearing) (l : Leaving) (p : Plan) → AreFit p.messages → AreFit l.messages
+    → AreFit (plan_after w l p).messages
 plan_fits w l p x y = go (changes_phase w.change) w.crosses (w.fault && not w.change.before.io)
   where
     begun_anew : (q : Bool) → AreFit (if q then from_byte p.messages (w.offered - 1) else p.messages)
@@ -172,7 +197,8 @@ plan_fits w l p x y = go (changes_phase w.change) w.crosses (w.fault && not w.ch
     in_out true = begun_anew (is_message_in w.change.before)
     in_out false = x
 
-    in_phase : (q : Bool) → AreFit (if not q then record (plan_anew p) { messages = l.messages; next = l.next } else if w.begun then plan_in_message_out w p else plan_anew p).messages
+    in_phase : (q : Bool) → AreFit (if not q then record (plan_anew p) { messages = l.messages; next = l.next }
+        else if w.begun then plan_in_message_out w p else plan_anew p).messages
     in_phase true = in_out w.begun
     in_phase false = y
 
@@ -184,7 +210,8 @@ plan_fits w l p x y = go (changes_phase w.change) w.crosses (w.fault && not w.ch
     byte true = anew w.is_last
     byte false = x
 
-    go : (q r t : Bool) → AreFit (if q then plan_in_phase w l p else if r then plan_with_byte w p else if t then struck_plan p else p).messages
+    go : (q r t : Bool) → AreFit
+        (if q then plan_in_phase w l p else if r then plan_with_byte w p else if t then struck_plan p else p).messages
     go true r t = in_phase (is_message_out w.change.after)
     go false true t = byte (is_message_out w.change.before)
     go false false true = x

@@ -14,16 +14,23 @@ use Rattle.bus_due.specs.Plain.{IsPlain}
 use Rattle.target_course.specs.Plans.{plan_at, leaving_after, plan_begun}
 
 -- A connection stands before the row and after it.
-pub plan_goes_on : (s : ScenarioValue) (rows : List Row) (row : Row) (m n : Connection) → IsPlain s rows (run_state s rows) → IsPlain s (row ∷ rows) (run_state s (row ∷ rows)) → hearing_of (run_state s rows) row (row_reading (run_state s rows).story.bus_state row) ≡ hearing rows row → connection rows ≡ Some m → connection (row ∷ rows) ≡ Some n → plan_at s (row ∷ rows) ≡ plan_after (hearing rows row) (leaving_after s rows m.target) (plan_at s rows)
+pub plan_goes_on : (s : ScenarioValue) (rows : List Row) (row : Row) (m n : Connection)
+    → IsPlain s rows (run_state s rows) → IsPlain s (row ∷ rows) (run_state s (row ∷ rows))
+    → hearing_of (run_state s rows) row (row_reading (run_state s rows).story.bus_state row) ≡ hearing rows row
+    → connection rows ≡ Some m → connection (row ∷ rows) ≡ Some n
+    → plan_at s (row ∷ rows) ≡ plan_after (hearing rows row) (leaving_after s rows m.target) (plan_at s rows)
 plan_goes_on s rows row m n p q w x y =
     let k : RunState = run_state s rows in
     let d : RowReading = row_reading k.story.bus_state row in
-    (λ i. (exchange_after s k row d ((p.connection ∙ x) i) ((q.connection ∙ y) i) (leaving_of s k ((p.connection ∙ x) i))).plan)
-    ∙ (λ i. plan_after (w i) (leaving s k m.target) k.exchange.plan)
+    (λ i. (exchange_after s k row d ((p.connection ∙ x) i) ((q.connection ∙ y) i)
+    (leaving_of s k ((p.connection ∙ x) i))).plan) ∙ (λ i. plan_after (w i) (leaving s k m.target) k.exchange.plan)
 
 -- The row begins the connection.
-pub plan_begins : (s : ScenarioValue) (rows : List Row) (row : Row) (n : Connection) → IsPlain s rows (run_state s rows) → IsPlain s (row ∷ rows) (run_state s (row ∷ rows)) → connection rows ≡ None → connection (row ∷ rows) ≡ Some n → plan_at s (row ∷ rows) ≡ plan_begun s rows n
+pub plan_begins : (s : ScenarioValue) (rows : List Row) (row : Row) (n : Connection) → IsPlain s rows (run_state s rows)
+    → IsPlain s (row ∷ rows) (run_state s (row ∷ rows)) → connection rows ≡ None → connection (row ∷ rows) ≡ Some n
+    → plan_at s (row ∷ rows) ≡ plan_begun s rows n
 plan_begins s rows row n p q x y =
     let k : RunState = run_state s rows in
     let d : RowReading = row_reading k.story.bus_state row in
-    λ i. (exchange_after s k row d ((p.connection ∙ x) i) ((q.connection ∙ y) i) (leaving_of s k ((p.connection ∙ x) i))).plan
+    λ i. (exchange_after s k row d ((p.connection ∙ x) i) ((q.connection ∙ y) i)
+    (leaving_of s k ((p.connection ∙ x) i))).plan

@@ -1,5 +1,6 @@
 -- With which initiators a target has had the connection in which the two may negotiate goes on row by row.
-use Rattle.std.proofs.Common.{ℕ, zero, suc, ◌≡◌, ◌≢◌, ◌<◌, Bool, true, false, List, [], ◌∷◌, ◌∙◌, refl, sym, subst, arith, length, get_or, set, replicate, Option, Some, None}
+use Rattle.std.proofs.Common.{ℕ, zero, suc, ◌≡◌, ◌≢◌, ◌<◌, Bool, true, false, List, [], ◌∷◌, ◌∙◌, refl, sym, subst}
+use Rattle.std.proofs.Common.{arith, length, get_or, set, replicate, Option, Some, None}
 use Rattle.std.specs.Prelude.{if◌then◌else◌, ◌&&◌, ◌||◌, ◌==◌, not}
 use Rattle.std.specs.List.{list_any}
 use Rattle.std.proofs.lemmas.Bool.{eqb-true, eqb-false}
@@ -24,14 +25,20 @@ use Rattle.bus_due.specs.bus_story.specs.TraceHistory.{aim_of}
 use Rattle.bus_due.specs.bus_dialogue.specs.Hearing.{hearing}
 use Rattle.bus_due.specs.bus_dialogue.specs.Planning.{first_plan}
 use Rattle.bus_due.specs.bus_dialogue.specs.declared.exchange.Hearing.{Hearing}
-use Rattle.bus_due.specs.LastingState.{Negotiated, has_negotiated, with_negotiated, pairs_without, negotiated_after_event, negotiated_after}
+use Rattle.bus_due.specs.LastingState.{Negotiated, has_negotiated, with_negotiated, pairs_without}
+use Rattle.bus_due.specs.LastingState.{negotiated_after_event, negotiated_after}
 use Rattle.bus_due.specs.Plain.{IsPlain, AreOfDevices}
 use Rattle.bus_due.specs.RunState.{RunState}
-use Rattle.bus_due.specs.RunSteps.{run_state, is_for_process, negotiated_by_connection, served_after, item_if, may_negotiate, naming_of, first_exchange, exchange_on, exchange_after, leaving_of, events_of_row}
+use Rattle.bus_due.specs.RunSteps.{run_state, is_for_process, negotiated_by_connection, served_after, item_if}
+use Rattle.bus_due.specs.RunSteps.{may_negotiate, naming_of, first_exchange, exchange_on, exchange_after, leaving_of}
+use Rattle.bus_due.specs.RunSteps.{events_of_row}
 use Rattle.bus_due.specs.Defs.{host_of}
 use Rattle.bus_due.specs.Sights.{hearing_of, leaving}
 use Rattle.bus_due.specs.Wants.{ready_of}
-use Rattle.target_course.specs.Negotiated.{NegotiatedValue, nobody_met, opened_in, met_by_opening, is_opening_left, met_by_connection, met_after_reset, met_after_event, met_after_events, negotiated_seen, is_open_to, HasMet, IsOpening, IsOpeningIf, IsNegotiatedOf, IsHeardSo}
+use Rattle.target_course.specs.Negotiated.{NegotiatedValue, nobody_met, opened_in, met_by_opening, is_opening_left}
+use Rattle.target_course.specs.Negotiated.{met_by_connection, met_after_reset, met_after_event, met_after_events}
+use Rattle.target_course.specs.Negotiated.{negotiated_seen, is_open_to, HasMet, IsOpening, IsOpeningIf, IsNegotiatedOf}
+use Rattle.target_course.specs.Negotiated.{IsHeardSo}
 use Rattle.target_course.specs.Progress.{is_phase_left}
 use Rattle.target_units.specs.scsi_device.specs.Heard.{heard}
 use Rattle.target_course.proofs.HeardOpenings.{left_told, cause_stays, phase_stays}
@@ -54,19 +61,24 @@ none_of_eight x (suc (suc (suc (suc (suc (suc (suc (suc t)))))))) l = absurd (om
 
 -- ---- where no opening lasts
 
-had_is : (m : Negotiated) (p : Bool) (v : NegotiatedValue) → v.opening ≡ None → HasMet m p v → (i : ℕ) → i < 8 → has_negotiated m i v.dev ≡ get_or v.had i false
-had_is m p v e h i l = h.met i l ∙ (λ j. get_or v.had i false || is_open_to (e j) i && p) ∙ or_false (get_or v.had i false)
+had_is : (m : Negotiated) (p : Bool) (v : NegotiatedValue) → v.opening ≡ None → HasMet m p v → (i : ℕ) → i < 8
+    → has_negotiated m i v.dev ≡ get_or v.had i false
+had_is m p v e h i l =
+    h.met i l ∙ (λ j. get_or v.had i false || is_open_to (e j) i && p) ∙ or_false (get_or v.had i false)
 
 closed : (m : Negotiated) (p q : Bool) (v : NegotiatedValue) → v.opening ≡ None → HasMet m p v → HasMet m q v
 closed m p q v e h = record {
   eight = h.eight;
-  met = λ i l. h.met i l ∙ (λ j. get_or v.had i false || is_open_to (e j) i && p) ∙ (λ j. get_or v.had i false || is_open_to (sym e j) i && q);
+  met = λ i l. h.met i l ∙ (λ j. get_or v.had i false || is_open_to (e j) i && p)
+      ∙ (λ j. get_or v.had i false || is_open_to (sym e j) i && q);
   unbarred = h.unbarred;
 }
 
 -- ---- a connection begins
 
-begun_so : (m : Negotiated) (v : NegotiatedValue) (p any q : Bool) (n : Connection) → v.opening ≡ None → (n.reselected ≡ false → q ≡ any) → HasMet m p v → HasMet (if not n.reselected && any then with_negotiated m n.initiator n.target else m) q (opened_in v n)
+begun_so : (m : Negotiated) (v : NegotiatedValue) (p any q : Bool) (n : Connection)
+    → v.opening ≡ None → (n.reselected ≡ false → q ≡ any) → HasMet m p v
+    → HasMet (if not n.reselected && any then with_negotiated m n.initiator n.target else m) q (opened_in v n)
 begun_so m v p any q n e same h = go n.reselected any (n.target == v.dev) refl same
   where
     case : (x y : Bool) → (if x then true else y) ≡ (y || x && true)
@@ -89,7 +101,9 @@ begun_so m v p any q n e same h = go n.reselected any (n.target == v.dev) refl s
     and_false true = refl
     and_false false = refl
 
-    go : (r a o : Bool) → (n.target == v.dev) ≡ o → (r ≡ false → q ≡ a) → HasMet (if not r && a then with_negotiated m n.initiator n.target else m) q (if not r && o then record v { opening = Some n.initiator } else v)
+    go : (r a o : Bool) → (n.target == v.dev) ≡ o → (r ≡ false → q ≡ a)
+        → HasMet (if not r && a then with_negotiated m n.initiator n.target else m) q
+        (if not r && o then record v { opening = Some n.initiator } else v)
     go true a o f k = closed m p q v e h
     go false true true f k = record {
       eight = h.eight;
@@ -124,7 +138,8 @@ begun_so m v p any q n e same h = go n.reselected any (n.target == v.dev) refl s
 
 -- ---- an opening is left
 
-left_so : (m : Negotiated) (v : NegotiatedValue) (p q aborts : Bool) (k : ℕ) → v.opening ≡ Some k → aborts ≡ not p → HasMet m p v → HasMet m q (met_by_opening v aborts (Some k))
+left_so : (m : Negotiated) (v : NegotiatedValue) (p q aborts : Bool) (k : ℕ) → v.opening ≡ Some k → aborts ≡ not p
+    → HasMet m p v → HasMet m q (met_by_opening v aborts (Some k))
 left_so m v p q aborts k e heard h = go p aborts heard h
   where
     case : (x y : Bool) → (y || x && true) ≡ ((if x then true else y) || false)
@@ -160,7 +175,8 @@ left_so m v p q aborts k e heard h = go p aborts heard h
       unbarred = h.unbarred;
     }
 
-left_if : (m : Negotiated) (v : NegotiatedValue) (p q aborts : Bool) (o : Option ℕ) → v.opening ≡ o → ((i : ℕ) → o ≡ Some i → aborts ≡ not p) → HasMet m p v → HasMet m q (met_by_opening v aborts o)
+left_if : (m : Negotiated) (v : NegotiatedValue) (p q aborts : Bool) (o : Option ℕ) → v.opening ≡ o
+    → ((i : ℕ) → o ≡ Some i → aborts ≡ not p) → HasMet m p v → HasMet m q (met_by_opening v aborts o)
 left_if m v p q aborts None e heard h = closed m p q v e h
 left_if m v p q aborts (Some k) e heard h = left_so m v p q aborts k e (heard k refl) h
 
@@ -169,7 +185,9 @@ left_if m v p q aborts (Some k) e heard h = left_so m v p q aborts k e (heard k 
 abbrev IsUnbarred : Negotiated → NegotiatedValue → Type 0
 IsUnbarred m v = (v.version == 1) ≡ false → (m.all ≡ false) × (m.targets ≡ [])
 
-reset_so : (m : Negotiated) (v : NegotiatedValue) (p one : Bool) → (v.version == 1) ≡ one → IsUnbarred m v → HasMet (if one then record m { all = true } else record m { pairs = [] }) p (record v { had = replicate 8 one; opening = None })
+reset_so : (m : Negotiated) (v : NegotiatedValue) (p one : Bool) → (v.version == 1) ≡ one → IsUnbarred m v
+    → HasMet (if one then record m { all = true } else record m { pairs = [] }) p
+    (record v { had = replicate 8 one; opening = None })
 reset_so m v p true e h = record {
   eight = refl;
   met = λ i l. sym ((λ j. none_of_eight true i l j || false));
@@ -177,14 +195,21 @@ reset_so m v p true e h = record {
 }
 reset_so m v p false e h = record {
   eight = refl;
-  met = λ i l. (λ j. (h e).0 j || list_any (λ n. n == v.dev) ((h e).1 j) || false) ∙ sym (λ j. none_of_eight false i l j || false);
+  met = λ i l. (λ j. (h e).0 j || list_any (λ n. n == v.dev) ((h e).1 j) || false)
+      ∙ sym (λ j. none_of_eight false i l j || false);
   unbarred = h;
 }
 
-device_so : (m : Negotiated) (v : NegotiatedValue) (p : Bool) (k : ℕ) (one own : Bool) → (v.version == 1) ≡ one → (k == v.dev) ≡ own → HasMet m p v → HasMet (if one then record m { targets = k ∷ m.targets } else record m { pairs = pairs_without m.pairs k }) p (if own then record v { had = replicate 8 one; opening = None } else v)
+device_so : (m : Negotiated) (v : NegotiatedValue) (p : Bool) (k : ℕ) (one own : Bool)
+    → (v.version == 1) ≡ one → (k == v.dev) ≡ own → HasMet m p v
+    → HasMet (if one then record m { targets = k ∷ m.targets } else record m { pairs = pairs_without m.pairs k }) p
+    (if own then record v { had = replicate 8 one; opening = None } else v)
 device_so m v p k true true e f h = record {
   eight = refl;
-  met = λ i l. (λ j. m.all || (f j || list_any (λ n. n == v.dev) m.targets) || list_any (λ (p : ℕ × ℕ). p.0 == i && p.1 == v.dev) m.pairs) ∙ barred m.all (list_any (λ (p : ℕ × ℕ). p.0 == i && p.1 == v.dev) m.pairs) ∙ sym (λ j. none_of_eight true i l j || false);
+  met = λ i l. (λ j. m.all || (f j || list_any (λ n. n == v.dev) m.targets)
+      || list_any (λ (p : ℕ × ℕ). p.0 == i && p.1 == v.dev) m.pairs)
+      ∙ barred m.all (list_any (λ (p : ℕ × ℕ). p.0 == i && p.1 == v.dev) m.pairs)
+      ∙ sym (λ j. none_of_eight true i l j || false);
   unbarred = λ z. (let bad : true ≡ false = sym e ∙ z in cc);
 }
   where
@@ -193,28 +218,31 @@ device_so m v p k true true e f h = record {
     barred false y = refl
 device_so m v p k true false e f h = record {
   eight = h.eight;
-  met = λ i l. (λ j. m.all || (f j || list_any (λ n. n == v.dev) m.targets) || list_any (λ (p : ℕ × ℕ). p.0 == i && p.1 == v.dev) m.pairs) ∙ h.met i l;
+  met = λ i l. (λ j. m.all || (f j || list_any (λ n. n == v.dev) m.targets)
+      || list_any (λ (p : ℕ × ℕ). p.0 == i && p.1 == v.dev) m.pairs)
+      ∙ h.met i l;
   unbarred = λ z. (let bad : true ≡ false = sym e ∙ z in cc);
 }
 device_so m v p k false true e f h = record {
   eight = refl;
-  met = λ i l.
-      (λ j. (h.unbarred e).0 j || list_any (λ n. n == v.dev) ((h.unbarred e).1 j) || list_any (λ (p : ℕ × ℕ). p.0 == i && p.1 == v.dev) (pairs_without m.pairs k))
-      ∙ pairs_gone m.pairs k i v.dev
+  met = λ i l. (λ j. (h.unbarred e).0 j || list_any (λ n. n == v.dev) ((h.unbarred e).1 j)
+      || list_any (λ (p : ℕ × ℕ). p.0 == i && p.1 == v.dev) (pairs_without m.pairs k)) ∙ pairs_gone m.pairs k i v.dev
       ∙ (λ j. if f j then false else list_any (λ (p : ℕ × ℕ). p.0 == i && p.1 == v.dev) m.pairs)
       ∙ sym (λ j. none_of_eight false i l j || false);
   unbarred = h.unbarred;
 }
 device_so m v p k false false e f h = record {
   eight = h.eight;
-  met = λ i l.
-      (λ j. m.all || list_any (λ n. n == v.dev) m.targets || (pairs_gone m.pairs k i v.dev ∙ (λ j. if f j then false else list_any (λ (p : ℕ × ℕ). p.0 == i && p.1 == v.dev) m.pairs)) j)
+  met = λ i l. (λ j. m.all || list_any (λ n. n == v.dev) m.targets || (pairs_gone m.pairs k i v.dev
+      ∙ (λ j. if f j then false else list_any (λ (p : ℕ × ℕ). p.0 == i && p.1 == v.dev) m.pairs)) j)
       ∙ h.met i l;
   unbarred = h.unbarred;
 }
 
-event_so : (m : Negotiated) (v : NegotiatedValue) (p : Bool) (e : Event) → HasMet m p v → HasMet (negotiated_after_event v.version m e) p (met_after_event v e)
-event_so m v p (events.Aborted host target unit aborts.Device) h = device_so m v p target (v.version == 1) (target == v.dev) refl refl h
+event_so : (m : Negotiated) (v : NegotiatedValue) (p : Bool) (e : Event) → HasMet m p v
+    → HasMet (negotiated_after_event v.version m e) p (met_after_event v e)
+event_so m v p (events.Aborted host target unit aborts.Device) h =
+    device_so m v p target (v.version == 1) (target == v.dev) refl refl h
 event_so m v p (events.Aborted host target unit aborts.All) h = h
 event_so m v p (events.Aborted host target unit (aborts.Tag n)) h = h
 event_so m v p (events.Aborted host target unit aborts.WholeQueue) h = h
@@ -270,12 +298,15 @@ events_dev : (v : NegotiatedValue) (shown : List Event) → (met_after_events v 
 events_dev v [] = refl
 events_dev v (e ∷ shown) = event_dev (met_after_events v shown) e ∙ events_dev v shown
 
-device_opens : (s : ScenarioValue) (v : NegotiatedValue) (rows : List Row) (dev : ℕ) (q : Bool) → IsOpeningIf s rows dev v.opening → IsOpeningIf s rows dev (if q then met_after_reset v else v).opening
+device_opens : (s : ScenarioValue) (v : NegotiatedValue) (rows : List Row) (dev : ℕ) (q : Bool)
+    → IsOpeningIf s rows dev v.opening → IsOpeningIf s rows dev (if q then met_after_reset v else v).opening
 device_opens s v rows dev true h = tt
 device_opens s v rows dev false h = h
 
-event_opens : (s : ScenarioValue) (v : NegotiatedValue) (rows : List Row) (dev : ℕ) (e : Event) → IsOpeningIf s rows dev v.opening → IsOpeningIf s rows dev (met_after_event v e).opening
-event_opens s v rows dev (events.Aborted host target unit aborts.Device) h = device_opens s v rows dev (target == v.dev) h
+event_opens : (s : ScenarioValue) (v : NegotiatedValue) (rows : List Row) (dev : ℕ) (e : Event)
+    → IsOpeningIf s rows dev v.opening → IsOpeningIf s rows dev (met_after_event v e).opening
+event_opens s v rows dev (events.Aborted host target unit aborts.Device) h =
+    device_opens s v rows dev (target == v.dev) h
 event_opens s v rows dev (events.Aborted host target unit aborts.All) h = h
 event_opens s v rows dev (events.Aborted host target unit (aborts.Tag n)) h = h
 event_opens s v rows dev (events.Aborted host target unit aborts.WholeQueue) h = h
@@ -287,14 +318,18 @@ event_opens s v rows dev (events.Fail id code) h = h
 event_opens s v rows dev (events.End id status) h = h
 event_opens s v rows dev (events.Lost id) h = h
 
-events_open : (s : ScenarioValue) (v : NegotiatedValue) (rows : List Row) (dev : ℕ) (shown : List Event) → IsOpeningIf s rows dev v.opening → IsOpeningIf s rows dev (met_after_events v shown).opening
+events_open : (s : ScenarioValue) (v : NegotiatedValue) (rows : List Row) (dev : ℕ) (shown : List Event)
+    → IsOpeningIf s rows dev v.opening → IsOpeningIf s rows dev (met_after_events v shown).opening
 events_open s v rows dev [] h = h
-events_open s v rows dev (e ∷ shown) h = event_opens s (met_after_events v shown) rows dev e (events_open s v rows dev shown h)
+events_open s v rows dev (e ∷ shown) h =
+    event_opens s (met_after_events v shown) rows dev e (events_open s v rows dev shown h)
 
-events_so : (m : Negotiated) (v : NegotiatedValue) (p : Bool) (shown : List Event) → HasMet m p v → HasMet (negotiated_after v.version m shown) p (met_after_events v shown)
+events_so : (m : Negotiated) (v : NegotiatedValue) (p : Bool) (shown : List Event) → HasMet m p v
+    → HasMet (negotiated_after v.version m shown) p (met_after_events v shown)
 events_so m v p [] h = h
-events_so m v p (e ∷ shown) h =
-    subst (λ (n : ℕ). HasMet (negotiated_after_event n (negotiated_after v.version m shown) e) p (met_after_event (met_after_events v shown) e)) (events_version v shown)
+events_so m v p (e ∷ shown) h = subst
+    (λ (n : ℕ). HasMet (negotiated_after_event n (negotiated_after v.version m shown) e) p
+    (met_after_event (met_after_events v shown) e)) (events_version v shown)
     (event_so (negotiated_after v.version m shown) (met_after_events v shown) p e (events_so m v p shown h))
 
 opening_version : (v : NegotiatedValue) (aborts : Bool) (o : Option ℕ) → (met_by_opening v aborts o).version ≡ v.version
@@ -305,7 +340,8 @@ opening_dev : (v : NegotiatedValue) (aborts : Bool) (o : Option ℕ) → (met_by
 opening_dev v aborts None = refl
 opening_dev v aborts (Some i) = refl
 
-met_version : (v : NegotiatedValue) (aborts : Bool) (w : Hearing) (before after : Option Connection) → (met_by_connection v aborts w before after).version ≡ v.version
+met_version : (v : NegotiatedValue) (aborts : Bool) (w : Hearing) (before after : Option Connection)
+    → (met_by_connection v aborts w before after).version ≡ v.version
 met_version v aborts w None None = refl
 met_version v aborts w None (Some n) = go (not n.reselected && n.target == v.dev)
   where
@@ -318,7 +354,8 @@ met_version v aborts w (Some m) after = go (is_opening_left w after)
     go true = opening_version v aborts v.opening
     go false = refl
 
-met_dev : (v : NegotiatedValue) (aborts : Bool) (w : Hearing) (before after : Option Connection) → (met_by_connection v aborts w before after).dev ≡ v.dev
+met_dev : (v : NegotiatedValue) (aborts : Bool) (w : Hearing) (before after : Option Connection)
+    → (met_by_connection v aborts w before after).dev ≡ v.dev
 met_dev v aborts w None None = refl
 met_dev v aborts w None (Some n) = go (not n.reselected && n.target == v.dev)
   where
@@ -331,8 +368,11 @@ met_dev v aborts w (Some m) after = go (is_opening_left w after)
     go true = opening_dev v aborts v.opening
     go false = refl
 
-pub same_target : (v : NegotiatedValue) (aborts : Bool) (w : Hearing) (before after : Option Connection) (shown : List Event) → (negotiated_seen v aborts w before after shown).dev ≡ v.dev
-same_target v aborts w before after shown = events_dev (met_by_connection v aborts w before after) shown ∙ met_dev v aborts w before after
+pub same_target :
+    (v : NegotiatedValue) (aborts : Bool) (w : Hearing) (before after : Option Connection) (shown : List Event)
+    → (negotiated_seen v aborts w before after shown).dev ≡ v.dev
+same_target v aborts w before after shown =
+    events_dev (met_by_connection v aborts w before after) shown ∙ met_dev v aborts w before after
 
 -- ---- RST rises with a row of a device that raises it
 
@@ -352,46 +392,57 @@ off_each rows on e d l = go (drives rows d).rst refl
     go true f = (let bad : true ≡ false = sym (on d l f) ∙ e in cc)
     go false f = f
 
-raises : (rows : List Row) (row : Row) → row.dev < 8 → IsOn rows → IsOff (row ∷ rows) → (bus rows).rst ≡ false → (bus (row ∷ rows)).rst ≡ true → rises (drives rows row.dev).rst (driven_after row.kind (drives rows row.dev)).rst ≡ true
+raises : (rows : List Row) (row : Row) → row.dev < 8 → IsOn rows
+    → IsOff (row ∷ rows) → (bus rows).rst ≡ false → (bus (row ∷ rows)).rst ≡ true
+    → rises (drives rows row.dev).rst (driven_after row.kind (drives rows row.dev)).rst ≡ true
 raises rows row lt on off e f = go (driven_after row.kind (drives rows row.dev)).rst refl
   where
     own : (drives rows row.dev).rst ≡ false
     own = off_each rows on e row.dev lt
 
-    go : (q : Bool) → (driven_after row.kind (drives rows row.dev)).rst ≡ q → rises (drives rows row.dev).rst (driven_after row.kind (drives rows row.dev)).rst ≡ true
+    go : (q : Bool) → (driven_after row.kind (drives rows row.dev)).rst ≡ q
+        → rises (drives rows row.dev).rst (driven_after row.kind (drives rows row.dev)).rst ≡ true
     go true g = λ i. rises (own i) (g i)
     go false g = (let bad : false ≡ true = sym (off each) ∙ f in cc)
       where
         each : (d : ℕ) → d < 8 → (drives (row ∷ rows) d).rst ≡ false
         each d l = by (row.dev == d) refl
           where
-            by : (q : Bool) → (row.dev == d) ≡ q → (if row.dev == d then driven_after row.kind (drives rows d) else drives rows d).rst ≡ false
-            by true z = (λ i. (if z i then driven_after row.kind (drives rows d) else drives rows d).rst) ∙ (λ i. (driven_after row.kind (drives rows (sym (eqb-true row.dev d z) i))).rst) ∙ g
-            by false z = (λ i. (if z i then driven_after row.kind (drives rows d) else drives rows d).rst) ∙ off_each rows on e d l
+            by : (q : Bool) → (row.dev == d) ≡ q
+                → (if row.dev == d then driven_after row.kind (drives rows d) else drives rows d).rst ≡ false
+            by true z = (λ i. (if z i then driven_after row.kind (drives rows d) else drives rows d).rst)
+                ∙ (λ i. (driven_after row.kind (drives rows (sym (eqb-true row.dev d z) i))).rst) ∙ g
+            by false z = (λ i. (if z i then driven_after row.kind (drives rows d) else drives rows d).rst)
+                ∙ off_each rows on e d l
 
 -- ---- a row
 
 -- While RST is false, or no opening lasts.
-row_so : (s : ScenarioValue) (k : RunState) (v : NegotiatedValue) (aborts : Bool) (w : Hearing) (before after : Option Connection)
-    → (before ≡ None → v.opening ≡ None)
+row_so : (s : ScenarioValue) (k : RunState) (v : NegotiatedValue) (aborts : Bool)
+    (w : Hearing) (before after : Option Connection) → (before ≡ None → v.opening ≡ None)
     → ((i : ℕ) → v.opening ≡ Some i → is_opening_left w after ≡ true → aborts ≡ not (is_for_process k.served))
-    → HasMet k.negotiated (is_for_process k.served) v → HasMet (negotiated_by_connection k before after) (is_for_process (served_after s k before after)) (met_by_connection v aborts w before after)
+    → HasMet k.negotiated (is_for_process k.served) v
+    → HasMet (negotiated_by_connection k before after) (is_for_process (served_after s k before after))
+    (met_by_connection v aborts w before after)
 row_so s k v aborts w None None free heard h = h
-row_so s k v aborts w None (Some n) free heard h =
-    begun_so k.negotiated v (is_for_process k.served) (is_for_process (aim_of k.story.aims n.initiator)) (is_for_process (served_after s k None (Some n))) n (free refl)
+row_so s k v aborts w None (Some n) free heard h = begun_so k.negotiated v (is_for_process k.served)
+    (is_for_process (aim_of k.story.aims n.initiator)) (is_for_process (served_after s k None (Some n))) n (free refl)
     (λ e. (λ i. is_for_process (if e i then item_if (ready_of s k n.target) else aim_of k.story.aims n.initiator))) h
 row_so s k v aborts w (Some m) None free heard h =
     left_if k.negotiated v (is_for_process k.served) false aborts v.opening refl (λ i e. heard i e refl) h
 row_so s k v aborts w (Some m) (Some n) free heard h = go (is_phase_left w) refl
   where
-    go : (q : Bool) → is_phase_left w ≡ q → HasMet k.negotiated (is_for_process k.served) (if is_phase_left w then met_by_opening v aborts v.opening else v)
-    go true e =
-        subst (λ (z : Bool). HasMet k.negotiated (is_for_process k.served) (if z then met_by_opening v aborts v.opening else v)) (sym e)
-        (left_if k.negotiated v (is_for_process k.served) (is_for_process k.served) aborts v.opening refl (λ i f. heard i f e) h)
-    go false e = subst (λ (z : Bool). HasMet k.negotiated (is_for_process k.served) (if z then met_by_opening v aborts v.opening else v)) (sym e) h
+    go : (q : Bool) → is_phase_left w ≡ q → HasMet k.negotiated (is_for_process k.served)
+        (if is_phase_left w then met_by_opening v aborts v.opening else v)
+    go true e = subst (λ (z : Bool). HasMet k.negotiated (is_for_process k.served)
+        (if z then met_by_opening v aborts v.opening else v)) (sym e) (left_if k.negotiated v (is_for_process k.served)
+        (is_for_process k.served) aborts v.opening refl (λ i f. heard i f e) h)
+    go false e = subst (λ (z : Bool). HasMet k.negotiated (is_for_process k.served)
+        (if z then met_by_opening v aborts v.opening else v)) (sym e) h
 
 -- A connection that begins stands under no RST, and one that is opened here is one of this target.
-begins_calm : (call : Option Call) (c : Change) (row : Row) (n : Connection) → connection_after None call c row ≡ Some n → c.after.rst ≡ false
+begins_calm : (call : Option Call) (c : Change) (row : Row) (n : Connection) → connection_after None call c row ≡ Some n
+    → c.after.rst ≡ false
 begins_calm call c row n e = go (falls c.before.sel c.after.sel) c.after.bsy c.after.rst e
   where
     go : (x y z : Bool) → (if x && y && not z then connection_of call row.time else None) ≡ Some n → z ≡ false
@@ -400,14 +451,19 @@ begins_calm call c row n e = go (falls c.before.sel c.after.sel) c.after.bsy c.a
     go true false true f = cc
     go false y true f = cc
 
-opens_so : (s : ScenarioValue) (rows : List Row) (row : Row) (v : NegotiatedValue) (aborts : Bool) (w : Hearing) (before after : Option Connection)
-    → IsPlain s rows (run_state s rows) → IsPlain s (row ∷ rows) (run_state s (row ∷ rows)) → w ≡ hearing_of (run_state s rows) row (row_reading (run_state s rows).story.bus_state row) → heard s (row ∷ rows) ≡ true
-    → (run_state s rows).story.bus_state.connection ≡ before → (row_reading (run_state s rows).story.bus_state row).next ≡ after → (before ≡ None → v.opening ≡ None)
+opens_so : (s : ScenarioValue) (rows : List Row) (row : Row) (v : NegotiatedValue)
+    (aborts : Bool) (w : Hearing) (before after : Option Connection)
+    → IsPlain s rows (run_state s rows) → IsPlain s (row ∷ rows) (run_state s (row ∷ rows))
+    → w ≡ hearing_of (run_state s rows) row (row_reading (run_state s rows).story.bus_state row)
+    → heard s (row ∷ rows) ≡ true → (run_state s rows).story.bus_state.connection ≡ before
+    → (row_reading (run_state s rows).story.bus_state row).next ≡ after → (before ≡ None → v.opening ≡ None)
     → ((i : ℕ) → v.opening ≡ Some i → (row_reading (run_state s rows).story.bus_state row).change.after.rst ≡ false)
-    → IsOpeningIf s rows v.dev v.opening → IsOpeningIf s (row ∷ rows) v.dev (met_by_connection v aborts w before after).opening
+    → IsOpeningIf s rows v.dev v.opening
+    → IsOpeningIf s (row ∷ rows) v.dev (met_by_connection v aborts w before after).opening
 opens_so s rows row v aborts w None None p q told hears b a free calm h =
     subst (λ (z : Option ℕ). IsOpeningIf s (row ∷ rows) v.dev z) (sym (free refl)) tt
-opens_so s rows row v aborts w None (Some n) p q told hears b a free calm h = go n.reselected refl (n.target == v.dev) refl
+opens_so s rows row v aborts w None (Some n) p q told hears b a free calm h =
+    go n.reselected refl (n.target == v.dev) refl
   where
     k : RunState
     k = run_state s rows
@@ -421,30 +477,40 @@ opens_so s rows row v aborts w None (Some n) p q told hears b a free calm h = go
     exchange : (run_state s (row ∷ rows)).exchange ≡ first_exchange s k n (aim_of k.story.aims n.initiator)
     exchange = λ i. exchange_after s k row d (b i) (a i) (leaving_of s k (b i))
 
-    go : (r : Bool) → n.reselected ≡ r → (o : Bool) → (n.target == v.dev) ≡ o → IsOpeningIf s (row ∷ rows) v.dev (if not n.reselected && n.target == v.dev then record v { opening = Some n.initiator } else v).opening
-    go true f o g = subst (λ (z : Bool). IsOpeningIf s (row ∷ rows) v.dev (if not z && n.target == v.dev then record v { opening = Some n.initiator } else v).opening) (sym f) stays
-    go false f false g =
-        subst (λ (z : Bool). IsOpeningIf s (row ∷ rows) v.dev (if not z && n.target == v.dev then record v { opening = Some n.initiator } else v).opening) (sym f)
-        (subst (λ (z : Bool). IsOpeningIf s (row ∷ rows) v.dev (if z then record v { opening = Some n.initiator } else v).opening) (sym g) stays)
-    go false f true g =
-        subst (λ (z : Bool). IsOpeningIf s (row ∷ rows) v.dev (if not z && n.target == v.dev then record v { opening = Some n.initiator } else v).opening) (sym f)
-        (subst (λ (z : Bool). IsOpeningIf s (row ∷ rows) v.dev (if z then record v { opening = Some n.initiator } else v).opening) (sym g) (
+    go : (r : Bool) → n.reselected ≡ r → (o : Bool) → (n.target == v.dev) ≡ o → IsOpeningIf s (row ∷ rows) v.dev
+        (if not n.reselected && n.target == v.dev then record v { opening = Some n.initiator } else v).opening
+    go true f o g = subst (λ (z : Bool). IsOpeningIf s (row ∷ rows) v.dev
+        (if not z && n.target == v.dev then record v { opening = Some n.initiator } else v).opening) (sym f) stays
+    go false f false g = subst (λ (z : Bool). IsOpeningIf s (row ∷ rows) v.dev
+        (if not z && n.target == v.dev then record v { opening = Some n.initiator } else v).opening)
+        (sym f) (subst (λ (z : Bool). IsOpeningIf s (row ∷ rows) v.dev
+        (if z then record v { opening = Some n.initiator } else v).opening) (sym g) stays)
+    go false f true g = subst (λ (z : Bool). IsOpeningIf s (row ∷ rows) v.dev
+        (if not z && n.target == v.dev then record v { opening = Some n.initiator } else v).opening)
+        (sym f) (subst (λ (z : Bool). IsOpeningIf s (row ∷ rows) v.dev
+        (if z then record v { opening = Some n.initiator } else v).opening) (sym g) (
           n,
           record {
             stands = sym q.connection ∙ a;
             own = g;
             by = refl;
-            calm = sym (λ i. (q.bus i).rst) ∙ begins_calm k.story.bus_state.call d.change row n (sym (λ i. connection_after (b i) k.story.bus_state.call d.change row) ∙ a);
-            cause = (λ i. (exchange i).plan.cause) ∙ (λ i. (first_plan (f i) (not n.reselected && may_negotiate k n (aim_of k.story.aims n.initiator)) (naming_of s k n)).cause);
+            calm = sym (λ i. (q.bus i).rst) ∙ begins_calm k.story.bus_state.call d.change row n
+                (sym (λ i. connection_after (b i) k.story.bus_state.call d.change row) ∙ a);
+            cause = (λ i. (exchange i).plan.cause)
+                ∙ (λ i. (first_plan (f i) (not n.reselected && may_negotiate k n (aim_of k.story.aims n.initiator))
+                (naming_of s k n)).cause);
             first = λ x. (let bad : true ≡ false = sym x ∙ (λ i. (exchange i).begun) ∙ f in cc);
           },
         ))
 opens_so s rows row v aborts w (Some m) None p q told hears b a free calm h = go v.opening refl
   where
     go : (o : Option ℕ) → v.opening ≡ o → IsOpeningIf s (row ∷ rows) v.dev (met_by_opening v aborts v.opening).opening
-    go None f = subst (λ (z : Option ℕ). IsOpeningIf s (row ∷ rows) v.dev (met_by_opening v aborts z).opening) (sym f) (subst (λ (z : Option ℕ). IsOpeningIf s (row ∷ rows) v.dev z) (sym f) tt)
-    go (Some i) f = subst (λ (z : Option ℕ). IsOpeningIf s (row ∷ rows) v.dev (met_by_opening v aborts z).opening) (sym f) tt
-opens_so s rows row v aborts w (Some m) (Some n) p q told hears b a free calm h = go (is_phase_left w) refl v.opening refl
+    go None f = subst (λ (z : Option ℕ). IsOpeningIf s (row ∷ rows) v.dev (met_by_opening v aborts z).opening) (sym f)
+        (subst (λ (z : Option ℕ). IsOpeningIf s (row ∷ rows) v.dev z) (sym f) tt)
+    go (Some i) f =
+        subst (λ (z : Option ℕ). IsOpeningIf s (row ∷ rows) v.dev (met_by_opening v aborts z).opening) (sym f) tt
+opens_so s rows row v aborts w (Some m) (Some n) p q told hears b a free calm h =
+    go (is_phase_left w) refl v.opening refl
   where
     k : RunState
     k = run_state s rows
@@ -455,44 +521,54 @@ opens_so s rows row v aborts w (Some m) (Some n) p q told hears b a free calm h 
     same : m ≡ n
     same = connection_stays k.story.bus_state.connection d.next k.story.bus_state.call d.change row m n refl b a
 
-    exchange : (run_state s (row ∷ rows)).exchange ≡ exchange_on (host_of s n.initiator) (hearing_of k row d) (leaving s k m.target) k.exchange
+    exchange : (run_state s (row ∷ rows)).exchange
+        ≡ exchange_on (host_of s n.initiator) (hearing_of k row d) (leaving s k m.target) k.exchange
     exchange = λ i. exchange_after s k row d (b i) (a i) (leaving_of s k (b i))
 
-    kept : is_phase_left w ≡ false → (o : Option ℕ) → v.opening ≡ o → IsOpeningIf s rows v.dev o → IsOpeningIf s (row ∷ rows) v.dev o
+    kept : is_phase_left w ≡ false → (o : Option ℕ) → v.opening ≡ o → IsOpeningIf s rows v.dev o
+        → IsOpeningIf s (row ∷ rows) v.dev o
     kept e None f x = tt
     kept e (Some i) f x =
         let is : x.0 ≡ n = same_Some x.0 n (sym x.1.stands ∙ sym p.connection ∙ b ∙ (λ j. Some (same j))) in
-        let still : (changes_phase d.change && k.exchange.begun) ≡ false = sym (λ j. changes_phase (told j).change && (told j).begun) ∙ e in (
+        let still : (changes_phase d.change && k.exchange.begun) ≡ false =
+        sym (λ j. changes_phase (told j).change && (told j).begun) ∙ e in (
           n,
           record {
             stands = sym q.connection ∙ a;
             own = (λ j. (sym is j).target == v.dev) ∙ x.1.own;
             by = (λ j. (sym is j).initiator) ∙ x.1.by;
             calm = sym (λ j. (q.bus j).rst) ∙ calm i f;
-            cause = (λ j. (exchange j).plan.cause) ∙ cause_stays (hearing_of k row d) (leaving s k m.target) k.exchange.plan still ∙ x.1.cause;
-            first = λ y. phase_stays s rows row n n p hears (x.1.stands ∙ (λ j. Some (is j))) a (calm i f) still x.1.first (sym (λ j. (exchange j).begun) ∙ y);
+            cause = (λ j. (exchange j).plan.cause)
+                ∙ cause_stays (hearing_of k row d) (leaving s k m.target) k.exchange.plan still ∙ x.1.cause;
+            first = λ y. phase_stays s rows row n n p hears (x.1.stands ∙ (λ j. Some (is j))) a
+                (calm i f) still x.1.first (sym (λ j. (exchange j).begun) ∙ y);
           },
         )
 
-    go : (q : Bool) → is_phase_left w ≡ q → (o : Option ℕ) → v.opening ≡ o → IsOpeningIf s (row ∷ rows) v.dev (if is_phase_left w then met_by_opening v aborts v.opening else v).opening
-    go true e None f =
-        subst (λ (z : Bool). IsOpeningIf s (row ∷ rows) v.dev (if z then met_by_opening v aborts v.opening else v).opening) (sym e)
-        (subst (λ (z : Option ℕ). IsOpeningIf s (row ∷ rows) v.dev (met_by_opening v aborts z).opening) (sym f) (subst (λ (z : Option ℕ). IsOpeningIf s (row ∷ rows) v.dev z) (sym f) tt))
-    go true e (Some i) f =
-        subst (λ (z : Bool). IsOpeningIf s (row ∷ rows) v.dev (if z then met_by_opening v aborts v.opening else v).opening) (sym e)
+    go : (q : Bool) → is_phase_left w ≡ q → (o : Option ℕ) → v.opening ≡ o
+        → IsOpeningIf s (row ∷ rows) v.dev (if is_phase_left w then met_by_opening v aborts v.opening else v).opening
+    go true e None f = subst
+        (λ (z : Bool). IsOpeningIf s (row ∷ rows) v.dev (if z then met_by_opening v aborts v.opening else v).opening)
+        (sym e) (subst (λ (z : Option ℕ). IsOpeningIf s (row ∷ rows) v.dev (met_by_opening v aborts z).opening) (sym f)
+        (subst (λ (z : Option ℕ). IsOpeningIf s (row ∷ rows) v.dev z) (sym f) tt))
+    go true e (Some i) f = subst (λ (z : Bool). IsOpeningIf s (row ∷ rows) v.dev
+        (if z then met_by_opening v aborts v.opening else v).opening) (sym e)
         (subst (λ (z : Option ℕ). IsOpeningIf s (row ∷ rows) v.dev (met_by_opening v aborts z).opening) (sym f) tt)
-    go false e o f =
-        subst (λ (z : Bool). IsOpeningIf s (row ∷ rows) v.dev (if z then met_by_opening v aborts v.opening else v).opening) (sym e)
-        (subst (λ (z : Option ℕ). IsOpeningIf s (row ∷ rows) v.dev z) (sym f) (kept e o f (subst (λ (z : Option ℕ). IsOpeningIf s rows v.dev z) f h)))
+    go false e o f = subst
+        (λ (z : Bool). IsOpeningIf s (row ∷ rows) v.dev (if z then met_by_opening v aborts v.opening else v).opening)
+        (sym e) (subst (λ (z : Option ℕ). IsOpeningIf s (row ∷ rows) v.dev z) (sym f)
+        (kept e o f (subst (λ (z : Option ℕ). IsOpeningIf s rows v.dev z) f h)))
 
 -- ---- a row that raises RST ends the opening, and shows a reset
 
-reset_shown : (s : ScenarioValue) (k : RunState) (row : Row) (d : RowReading) → d.change.after.rst ≡ true → rises d.change.own.rst d.change.next.rst ≡ true → row_events_by s k.story d row ≡ events.Reset row.dev ∷ []
+reset_shown : (s : ScenarioValue) (k : RunState) (row : Row) (d : RowReading) → d.change.after.rst ≡ true
+    → rises d.change.own.rst d.change.next.rst ≡ true → row_events_by s k.story d row ≡ events.Reset row.dev ∷ []
 reset_shown s k row d e f =
-    (λ i. if e i then (if rises d.change.own.rst d.change.next.rst then events.Reset row.dev ∷ [] else []) else link_events s k.story k.story.link d)
-    ∙ (λ i. if f i then events.Reset row.dev ∷ [] else [])
+    (λ i. if e i then (if rises d.change.own.rst d.change.next.rst then events.Reset row.dev ∷ [] else [])
+    else link_events s k.story k.story.link d) ∙ (λ i. if f i then events.Reset row.dev ∷ [] else [])
 
-unbarred_by : (k : RunState) (v : NegotiatedValue) (before after : Option Connection) → IsUnbarred k.negotiated v → IsUnbarred (negotiated_by_connection k before after) v
+unbarred_by : (k : RunState) (v : NegotiatedValue) (before after : Option Connection) → IsUnbarred k.negotiated v
+    → IsUnbarred (negotiated_by_connection k before after) v
 unbarred_by k v None None h = h
 unbarred_by k v (Some m) None h = h
 unbarred_by k v (Some m) (Some n) h = h
@@ -502,10 +578,14 @@ unbarred_by k v None (Some n) h = go (not n.reselected && is_for_process (aim_of
     go true = h
     go false = h
 
-pub negotiated_goes_on : (s : ScenarioValue) (rows : List Row) (row : Row) (v : NegotiatedValue) (aborts : Bool) (w : Hearing) (before after : Option Connection) (shown : List Event)
-    → IsPlain s rows (run_state s rows) → IsPlain s (row ∷ rows) (run_state s (row ∷ rows)) → hearing_of (run_state s rows) row (row_reading (run_state s rows).story.bus_state row) ≡ hearing rows row → IsOn rows → IsOff (row ∷ rows)
-    → AreOfDevices (row ∷ rows) → w ≡ hearing rows row → before ≡ connection rows → after ≡ connection (row ∷ rows) → shown ≡ events_of_row s rows row → heard s (row ∷ rows) ≡ true → IsHeardSo s rows v.dev aborts
-    → IsNegotiatedOf s rows v → IsNegotiatedOf s (row ∷ rows) (negotiated_seen v aborts w before after shown)
+pub negotiated_goes_on : (s : ScenarioValue) (rows : List Row) (row : Row) (v : NegotiatedValue)
+    (aborts : Bool) (w : Hearing) (before after : Option Connection) (shown : List Event)
+    → IsPlain s rows (run_state s rows) → IsPlain s (row ∷ rows) (run_state s (row ∷ rows))
+    → hearing_of (run_state s rows) row (row_reading (run_state s rows).story.bus_state row) ≡ hearing rows row
+    → IsOn rows → IsOff (row ∷ rows) → AreOfDevices (row ∷ rows) → w ≡ hearing rows row
+    → before ≡ connection rows → after ≡ connection (row ∷ rows) → shown ≡ events_of_row s rows row
+    → heard s (row ∷ rows) ≡ true → IsHeardSo s rows v.dev aborts → IsNegotiatedOf s rows v
+    → IsNegotiatedOf s (row ∷ rows) (negotiated_seen v aborts w before after shown)
 negotiated_goes_on s rows row v aborts w before after shown p q hears on off d told b a events_are hears_all says h =
     subst (λ (z : NegotiatedValue). IsNegotiatedOf s (row ∷ rows) z)
     (λ i. met_after_events (met_by_connection v aborts w (first i) (last i)) (sym events_are i))
@@ -539,42 +619,55 @@ negotiated_goes_on s rows row v aborts w before after shown p q hears on off d t
         by None f x = f
         by (Some i) f x = (let bad : Some x.0 ≡ None = sym x.1.stands ∙ sym p.connection ∙ e in cc)
 
-    by_events : HasMet (negotiated_by_connection k k.story.bus_state.connection r.next) (is_for_process (served_after s k k.story.bus_state.connection r.next)) u → IsOpeningIf s (row ∷ rows) v.dev u.opening → IsNegotiatedOf s (row ∷ rows) (met_after_events u (events_of_row s rows row))
+    by_events : HasMet (negotiated_by_connection k k.story.bus_state.connection r.next)
+        (is_for_process (served_after s k k.story.bus_state.connection r.next)) u
+        → IsOpeningIf s (row ∷ rows) v.dev u.opening
+        → IsNegotiatedOf s (row ∷ rows) (met_after_events u (events_of_row s rows row))
     by_events x o = record {
       version_is = events_version u (events_of_row s rows row) ∙ versions;
       kept =
-          subst (λ (n : ℕ). HasMet (negotiated_after n (negotiated_by_connection k k.story.bus_state.connection r.next) (events_of_row s rows row)) (is_for_process (served_after s k k.story.bus_state.connection r.next)) (met_after_events u (events_of_row s rows row))) versions
-          (events_so (negotiated_by_connection k k.story.bus_state.connection r.next) u (is_for_process (served_after s k k.story.bus_state.connection r.next)) (events_of_row s rows row) x);
-      opens =
-          subst (λ (n : ℕ). IsOpeningIf s (row ∷ rows) n (met_after_events u (events_of_row s rows row)).opening) (sym (events_dev u (events_of_row s rows row) ∙ met_dev v aborts w k.story.bus_state.connection r.next))
+          subst (λ (n : ℕ). HasMet (negotiated_after n (negotiated_by_connection k k.story.bus_state.connection r.next)
+          (events_of_row s rows row)) (is_for_process (served_after s k k.story.bus_state.connection r.next))
+          (met_after_events u (events_of_row s rows row))) versions
+          (events_so (negotiated_by_connection k k.story.bus_state.connection r.next) u
+          (is_for_process (served_after s k k.story.bus_state.connection r.next)) (events_of_row s rows row) x);
+      opens = subst (λ (n : ℕ). IsOpeningIf s (row ∷ rows) n (met_after_events u (events_of_row s rows row)).opening)
+          (sym (events_dev u (events_of_row s rows row) ∙ met_dev v aborts w k.story.bus_state.connection r.next))
           (events_open s u (row ∷ rows) v.dev (events_of_row s rows row) o);
     }
 
-    told_at : (i : ℕ) → v.opening ≡ Some i → r.change.after.rst ≡ false → (n : Connection) × IsOpening s rows v.dev i n → (after : Option Connection) → r.next ≡ after → is_opening_left w after ≡ true → aborts ≡ not (is_for_process k.served)
+    told_at : (i : ℕ) → v.opening ≡ Some i → r.change.after.rst ≡ false → (n : Connection) × IsOpening s rows v.dev i n
+        → (after : Option Connection) → r.next ≡ after → is_opening_left w after ≡ true
+        → aborts ≡ not (is_for_process k.served)
     told_at i f off x after e left =
         says x.0 (record { stands = x.1.stands; own = x.1.own }) x.1.calm
         ∙ left_told s rows row x.0 p hears_all x.1.stands x.1.calm off x.1.cause x.1.first after e
         (λ m g. sym (λ j. changes_phase (same j).change && (same j).begun) ∙ sym (λ j. is_opening_left w (g j)) ∙ left)
 
-    step : ((i : ℕ) → v.opening ≡ Some i → r.change.after.rst ≡ false) → IsNegotiatedOf s (row ∷ rows) (met_after_events u (events_of_row s rows row))
-    step calm =
-        by_events
-        (row_so s k v aborts w k.story.bus_state.connection r.next free
-        (λ i f left. told_at i f (calm i f) (subst (λ (z : Option ℕ). IsOpeningIf s rows v.dev z) f h.opens) r.next refl left) h.kept)
-        (opens_so s rows row v aborts w k.story.bus_state.connection r.next p q same hears_all refl refl free calm h.opens)
+    step : ((i : ℕ) → v.opening ≡ Some i → r.change.after.rst ≡ false)
+        → IsNegotiatedOf s (row ∷ rows) (met_after_events u (events_of_row s rows row))
+    step calm = by_events (row_so s k v aborts w k.story.bus_state.connection r.next free (λ i f left. told_at i f
+        (calm i f) (subst (λ (z : Option ℕ). IsOpeningIf s rows v.dev z) f h.opens) r.next refl left) h.kept) (opens_so
+        s rows row v aborts w k.story.bus_state.connection r.next p q same hears_all refl refl free calm h.opens)
 
-    go : (x : Bool) → r.change.after.rst ≡ x → (o : Option ℕ) → v.opening ≡ o → IsNegotiatedOf s (row ∷ rows) (met_after_events u (events_of_row s rows row))
+    go : (x : Bool) → r.change.after.rst ≡ x → (o : Option ℕ) → v.opening ≡ o
+        → IsNegotiatedOf s (row ∷ rows) (met_after_events u (events_of_row s rows row))
     go false e o f = step (λ i g. e)
     go true e None f = step (λ i g. (let bad : None ≡ Some i = sym f ∙ g in cc))
     go true e (Some i) f =
         subst (λ (z : List Event). IsNegotiatedOf s (row ∷ rows) (met_after_events u z)) (sym reset)
         (record {
           version_is = versions;
-          kept =
-              subst (λ (z : List Event). HasMet (negotiated_after s.version (negotiated_by_connection k k.story.bus_state.connection r.next) z) (is_for_process (served_after s k k.story.bus_state.connection r.next)) (met_after_reset u)) (sym reset)
-              (subst (λ (n : ℕ). HasMet (negotiated_after_event n (negotiated_by_connection k k.story.bus_state.connection r.next) (events.Reset row.dev)) (is_for_process (served_after s k k.story.bus_state.connection r.next)) (met_after_reset u)) versions
-              (reset_so (negotiated_by_connection k k.story.bus_state.connection r.next) u (is_for_process (served_after s k k.story.bus_state.connection r.next)) (u.version == 1) refl
-              (λ z. unbarred_by k v k.story.bus_state.connection r.next h.kept.unbarred ((λ j. sym (met_version v aborts w k.story.bus_state.connection r.next) j == 1) ∙ z))));
+          kept = subst (λ (z : List Event). HasMet
+              (negotiated_after s.version (negotiated_by_connection k k.story.bus_state.connection r.next) z)
+              (is_for_process (served_after s k k.story.bus_state.connection r.next)) (met_after_reset u))
+              (sym reset) (subst (λ (n : ℕ). HasMet (negotiated_after_event n
+              (negotiated_by_connection k k.story.bus_state.connection r.next) (events.Reset row.dev))
+              (is_for_process (served_after s k k.story.bus_state.connection r.next)) (met_after_reset u)) versions
+              (reset_so (negotiated_by_connection k k.story.bus_state.connection r.next) u
+              (is_for_process (served_after s k k.story.bus_state.connection r.next)) (u.version == 1) refl
+              (λ z. unbarred_by k v k.story.bus_state.connection r.next h.kept.unbarred
+              ((λ j. sym (met_version v aborts w k.story.bus_state.connection r.next) j == 1) ∙ z))));
           opens = tt;
         })
       where
@@ -585,21 +678,25 @@ negotiated_goes_on s rows row v aborts w before after shown p q hears on off d t
         raised = raises rows row d.0 on off stands.1.calm ((λ j. (sym q.bus j).rst) ∙ e)
 
         reset : events_of_row s rows row ≡ events.Reset row.dev ∷ []
-        reset = reset_shown s k row r e ((λ j. rises (p.drives row.dev d.0 j).rst (driven_after row.kind (p.drives row.dev d.0 j)).rst) ∙ raised)
+        reset = reset_shown s k row r e
+            ((λ j. rises (p.drives row.dev d.0 j).rst (driven_after row.kind (p.drives row.dev d.0 j)).rst) ∙ raised)
 
 -- ---- before any row
 
 pub negotiated_starts : (s : ScenarioValue) (dev : ℕ) → IsNegotiatedOf s [] (nobody_met dev s.version)
 negotiated_starts s dev = record {
   version_is = refl;
-  kept = record { eight = refl; met = λ i l. sym (λ j. none_of_eight false i l j || false); unbarred = λ e. (refl, refl) };
+  kept =
+      record { eight = refl; met = λ i l. sym (λ j. none_of_eight false i l j || false); unbarred = λ e. (refl, refl) };
   opens = tt;
 }
 
 -- ---- what it tells
 
-pub included : (s : ScenarioValue) (rows : List Row) (v : NegotiatedValue) (i : ℕ) → i < 8 → connection rows ≡ None → IsNegotiatedOf s rows v → get_or v.had i false ≡ has_negotiated (run_state s rows).negotiated i v.dev
-included s rows v i l e h = sym (had_is (run_state s rows).negotiated (is_for_process (run_state s rows).served) v (by v.opening refl h.opens) h.kept i l)
+pub included : (s : ScenarioValue) (rows : List Row) (v : NegotiatedValue) (i : ℕ) → i < 8 → connection rows ≡ None
+    → IsNegotiatedOf s rows v → get_or v.had i false ≡ has_negotiated (run_state s rows).negotiated i v.dev
+included s rows v i l e h = sym (had_is (run_state s rows).negotiated (is_for_process (run_state s rows).served) v
+    (by v.opening refl h.opens) h.kept i l)
   where
     by : (o : Option ℕ) → v.opening ≡ o → IsOpeningIf s rows v.dev o → v.opening ≡ None
     by None f x = f

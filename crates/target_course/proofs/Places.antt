@@ -1,5 +1,6 @@
 -- Places in bytes that stay at a last one.
-use Rattle.std.proofs.Common.{ℕ, ◌≡◌, ◌∙◌, ◌+◌, ◌*◌, ◌<◌, ◌≤◌, ◌⊎◌, inl, inr, zero, suc, min, refl, sym, Option, Some, None}
+use Rattle.std.proofs.Common.{ℕ, ◌≡◌, ◌∙◌, ◌+◌, ◌*◌, ◌<◌, ◌≤◌, ◌⊎◌, inl, inr, zero, suc, min, refl, sym, Option, Some}
+use Rattle.std.proofs.Common.{None}
 use Rattle.std.proofs.Math.Nat.{min-eq_left, min-eq_right, mul-zero, mul_comm, le-mul_of_pos_right}
 use Rattle.std.proofs.lemmas.Bool.{cases_lt}
 use native.Mathlib.Omega.{arith}
@@ -26,7 +27,8 @@ product_past a b m q = let times : a ≤ a * suc b = le-mul_of_pos_right a (suc_
 
 -- The first of two factors is past the last place.
 first_past : (a b m : ℕ) → 0 < m → m < a → min (m * min b m) m ≡ min (a * b) m
-first_past a zero m p q = (λ j. min (m * min-eq_left (least m) j) m) ∙ (λ j. min (mul-zero m j) m) ∙ (λ j. min (sym (mul-zero a) j) m)
+first_past a zero m p q =
+    (λ j. min (m * min-eq_left (least m) j) m) ∙ (λ j. min (mul-zero m j) m) ∙ (λ j. min (sym (mul-zero a) j) m)
 first_past a (suc b) m p q =
     both_past (m * min (suc b) m) (a * suc b) m (le-mul_of_pos_right m (above_0 b m p)) (product_past a b m q)
 
@@ -57,10 +59,12 @@ held_first a b m p = sym (held_second (min a m) b m (below a m) p) ∙ held_prod
     below a m = omega arith
 
 -- The first place of a run, where the number of the run is held at the last place.
-pub start_held : (policy : Policy) (t : Task) (n m : ℕ) → 0 < m → min (run_at policy t (min n m)).start m ≡ min (run_at policy t n).start m
+pub start_held : (policy : Policy) (t : Task) (n m : ℕ) → 0 < m
+    → min (run_at policy t (min n m)).start m ≡ min (run_at policy t n).start m
 start_held policy t n m p = go t.blocks policy
   where
-    go : (b : Option ℕ) (q : Policy) → min (run_in q b t.size t.moved (min n m)).start m ≡ min (run_in q b t.size t.moved n).start m
+    go : (b : Option ℕ) (q : Policy)
+        → min (run_in q b t.size t.moved (min n m)).start m ≡ min (run_in q b t.size t.moved n).start m
     go None q = refl
     go (Some k) policies.Never = refl
     go (Some k) policies.Command = refl

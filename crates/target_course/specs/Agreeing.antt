@@ -6,8 +6,8 @@ use Rattle.bus_due.specs.bus_dialogue.specs.declared.exchange.Task.{Task}
 use Rattle.bus_due.specs.bus_dialogue.specs.NextPhase.{Serving}
 use Rattle.target_units.specs.scsi_device.specs.Heard.{is_opening_in, is_command_phase, moves_data, gives_status}
 
--- The command matters while data move, and as COMMAND is left with a whole and unstruck block; the status as soon as it may be
--- given with the next row. `leaves` says that the phase may be left.
+-- The command matters while data move, and as COMMAND is left with a whole and unstruck block; the status as soon as it
+-- may be given with the next row. `leaves` says that the phase may be left.
 abbrev pub arrives : Bool → Phase → Plan → Bool → Bool
 arrives leaves phase plan whole = leaves && (is_command_phase phase && (not plan.struck && whole))
 

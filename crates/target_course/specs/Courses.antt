@@ -1,6 +1,7 @@
--- The course of a connection at its target: what it has heard in it, and what it decides by, with what its units and its
--- counts tell of the process.
-use Rattle.std.specs.Prelude.{ℕ, ◌≡◌, ◌%◌, Bool, true, false, not, ◌&&◌, ◌||◌, ◌==◌, List, [], ◌∷◌, ◌++◌, length, take, Option, Some, None, is_some, nat_lt, if◌then◌else◌}
+-- The course of a connection at its target: what it has heard in it, and what it decides by, with what its units and
+-- its counts tell of the process.
+use Rattle.std.specs.Prelude.{ℕ, ◌≡◌, ◌%◌, Bool, true, false, not, ◌&&◌, ◌||◌, ◌==◌, List, [], ◌∷◌, ◌++◌, length, take}
+use Rattle.std.specs.Prelude.{Option, Some, None, is_some, nat_lt, if◌then◌else◌}
 use Rattle.bus_base.specs.declared.Event.{Event}
 use Rattle.bus_base.specs.declared.ProcId.{ProcId}
 use Rattle.bus_trace.specs.declared.Row.{Row}
@@ -188,7 +189,8 @@ pub record IsCourse (s : ScenarioValue) (rows : List Row) (n : Connection) (c : 
   pub plan_is : c.plan ≡ record (plan_at s rows) { negotiates = c.plan.negotiates }
   pub negotiates_is : is_for_process (run_state s rows).served ≡ true → c.plan.negotiates ≡ (plan_at s rows).negotiates
   pub told : n.reselected ≡ false → IsTold (instructions s rows) c
-  pub current : n.reselected ≡ true → (p : Process) → process_served s (run_state s rows) ≡ Some p → IsOfProcess (instructions s rows) p c
+  pub current : n.reselected ≡ true → (p : Process) → process_served s (run_state s rows) ≡ Some p
+      → IsOfProcess (instructions s rows) p c
 
 -- In a connection of its own, while RST is false.
 abbrev pub IsCourseOf : ScenarioValue → List Row → ℕ → CourseState → Type 0
@@ -214,8 +216,10 @@ pub record IsOutlookOf (s : ScenarioValue) (k : RunState) (p : Process) (f : Pro
   pub sent : is_writing p ≡ true → (f.plan.status == GOOD) ≡ true → f.plan.out_len ≡ length p.sent
 
 pub record AreToldOf (s : ScenarioValue) (rows : List Row) (c : CourseState) (f : ProcessState) : Type 0 where
-  pub state : (p : Process) → process_served s (run_state s rows) ≡ Some p → c.id ≡ p.id → c.named ≡ Some (name_of p) → IsStateOf s (run_state s rows) p f
-  pub outlook : (p : Process) → process_served s (run_state s rows) ≡ Some p → c.id ≡ p.id → c.named ≡ Some (name_of p) → c.block ≡ p.cdb → IsOutlookOf s (run_state s rows) p f
+  pub state : (p : Process) → process_served s (run_state s rows) ≡ Some p → c.id ≡ p.id → c.named ≡ Some (name_of p)
+      → IsStateOf s (run_state s rows) p f
+  pub outlook : (p : Process) → process_served s (run_state s rows) ≡ Some p → c.id ≡ p.id → c.named ≡ Some (name_of p)
+      → c.block ≡ p.cdb → IsOutlookOf s (run_state s rows) p f
 
 -- ---- what begins it
 
@@ -232,7 +236,8 @@ pub record IsReadyProcess (s : ScenarioValue) (r : Ready) (id : ProcId) (name : 
 abbrev pub course_events : CourseState → Serving → Connection → Hearing → Option Connection → List Event
 course_events c v n w after =
     if changes_phase w.change || not (is_some after)
-    then leaving_events v n w.begun (is_some after) w.change.before.atn (phase_of w.change.before) (id_known c.id) else []
+    then leaving_events v n w.begun (is_some after) w.change.before.atn (phase_of w.change.before) (id_known c.id)
+    else []
 
 -- What its target shows with this row.
 abbrev pub events_of_target : ScenarioValue → List Row → Row → Connection → List Event

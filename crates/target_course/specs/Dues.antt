@@ -26,10 +26,12 @@ use Rattle.bus_due.specs.bus_rules.specs.Order.{is_of_device}
 abbrev pub myself_by : TargetDef → Told → TargetState → Myself
 myself_by d t i = record { dev = d.dev; latency = d.latency; own = t.lines; since = i.own.row }
 
--- A target reselects, for the unit that is ready first, and never selects; the first byte that it sends then is IDENTIFY.
+-- A target reselects, for the unit that is ready first, and never selects; the first byte that it sends then is
+-- IDENTIFY.
 abbrev pub want_of_ready : Option Ready → Want
 want_of_ready None = record { since = None; callee = None; reselects = true; first = 0x80 }
-want_of_ready (Some r) = record { since = Some r.time; callee = Some r.initiator; reselects = true; first = 0x80 + r.unit }
+want_of_ready (Some r) =
+    record { since = Some r.time; callee = Some r.initiator; reselects = true; first = 0x80 + r.unit }
 
 -- On its way to a connection (6.1.1 to 6.1.4).
 abbrev pub link_by : TargetDef → Told → Option FaultDef → TargetState → Option Due
@@ -70,5 +72,5 @@ target_next d t f i = with_reset (myself_by d t i) i.own.rst i.reset (calm_by d 
 -- ---- the bytes that its process gives, which it has of these after these rows
 
 abbrev pub HasBytesOf : List Row → Knowledge → List ℕ → Type 0
-HasBytesOf rows k given =
-    AreBytesOf (serving_with k.serving given) (leaving_of_target (told rows k.serving.def.dev) (state_of k given)) (handshakes rows).requests k.bytes
+HasBytesOf rows k given = AreBytesOf (serving_with k.serving given)
+    (leaving_of_target (told rows k.serving.def.dev) (state_of k given)) (handshakes rows).requests k.bytes

@@ -1,6 +1,7 @@
--- The bytes that came to a target of the data of writes (6.1.5.1, 6.4): of each unit those of the process that last sent it
--- some.
-use Rattle.std.specs.Prelude.{ℕ, min, max, ◌≡◌, ◌<◌, ◌≤◌, ◌+◌, ◌-◌, ◌^◌, ◌%◌, ◌==◌, ◌&&◌, ◌++◌, true, false, List, [], ◌∷◌, length, take, nat_lt, Option, Some, None, slice_set, slice_index_or, if◌then◌else◌}
+-- The bytes that came to a target of the data of writes (6.1.5.1, 6.4): of each unit those of the process that last
+-- sent it some.
+use Rattle.std.specs.Prelude.{ℕ, min, max, ◌≡◌, ◌<◌, ◌≤◌, ◌+◌, ◌-◌, ◌^◌, ◌%◌, ◌==◌, ◌&&◌, ◌++◌, true, false, List, []}
+use Rattle.std.specs.Prelude.{◌∷◌, length, take, nat_lt, Option, Some, None, slice_set, slice_index_or, if◌then◌else◌}
 use Rattle.bus_base.specs.declared.ProcId.{ProcId}
 use Rattle.bus_trace.specs.Trace.{bus}
 use Rattle.bus_trace.specs.declared.Row.{Row}
@@ -65,7 +66,8 @@ abbrev pub gathering_at : List Gathering → ℕ → Gathering
 gathering_at units n = slice_index_or units n (empty_gathering 0)
 
 abbrev pub gathered_with : List Gathering → ℕ → ProcId → ℕ → ℕ → List Gathering
-gathered_with units n id place byte = slice_set units n (gathering_with (gathering_of (gathering_at units n) id) place byte)
+gathered_with units n id place byte =
+    slice_set units n (gathering_with (gathering_of (gathering_at units n) id) place byte)
 
 -- ---- before any row: room for the longest write of the scenario at the unit
 
@@ -85,20 +87,23 @@ empty_unit s dev unit = empty_gathering (unit_room s dev unit)
 abbrev pub nothing_gathered : ScenarioValue → ℕ → GatheredValue
 nothing_gathered s dev = record {
   dev = dev;
-  units = empty_unit s dev 0 ∷ empty_unit s dev 1 ∷ empty_unit s dev 2 ∷ empty_unit s dev 3 ∷ empty_unit s dev 4 ∷ empty_unit s dev 5 ∷ empty_unit s dev 6 ∷ empty_unit s dev 7 ∷ [];
+  units = empty_unit s dev 0 ∷ empty_unit s dev 1 ∷ empty_unit s dev 2 ∷ empty_unit s dev 3 ∷ empty_unit s dev 4
+      ∷ empty_unit s dev 5 ∷ empty_unit s dev 6 ∷ empty_unit s dev 7 ∷ [];
 }
 
 -- ---- a row that tells this, before which this connection stands
 
--- In a connection of its own the target serves this process, which is of this unit; the byte is that at this place of its
--- data.
+-- In a connection of its own the target serves this process, which is of this unit; the byte is that at this place of
+-- its data.
 abbrev pub gathered_seen : GatheredValue → Option ProcId → ℕ → ℕ → Hearing → Option Connection → GatheredValue
 gathered_seen v None unit place w before = v
 gathered_seen v (Some id) unit place w None = v
 gathered_seen v (Some id) unit place w (Some n) =
-    if n.target == v.dev && brings_byte w then record v { units = gathered_with v.units unit id place (w.change.after.data_bits % 256) } else v
+    if n.target == v.dev && brings_byte w
+    then record v { units = gathered_with v.units unit id place (w.change.after.data_bits % 256) } else v
 
--- The place of the next byte of the present run, so many bytes of which came; places past the last u64 count as that one.
+-- The place of the next byte of the present run, so many bytes of which came; places past the last u64 count as that
+-- one.
 abbrev pub place_in_run : Policy → Option Task → ℕ → ℕ
 place_in_run policy None answers = 0
 place_in_run policy (Some t) answers = min ((run_at policy t t.runs).start + answers) (2 ^ 64 - 1)
@@ -109,7 +114,8 @@ place_in_run policy (Some t) answers = min ((run_at policy t t.runs).start + ans
 pub record IsGatheringOf (s : ScenarioValue) (g : Gathering) : Type 0 where
   pub fits : length g.bytes ≤ g.room
   pub small : g.room ≤ 0xffffffff
-  pub sent : (id : ProcId) (p : Process) (j : ℕ) → g.owner ≡ Some id → process_of s id ≡ Some p → j < length g.bytes → slice_index_or g.bytes j 0 ≡ slice_index_or p.sent j 0
+  pub sent : (id : ProcId) (p : Process) (j : ℕ) → g.owner ≡ Some id → process_of s id ≡ Some p → j < length g.bytes
+      → slice_index_or g.bytes j 0 ≡ slice_index_or p.sent j 0
 
 -- Of each unit.
 pub record IsGatheredOf (s : ScenarioValue) (v : GatheredValue) : Type 0 where
@@ -122,13 +128,13 @@ place_at s k dev = place_in_run (policy_of (target_def_of s dev)) (task_of s k) 
 
 -- Where a byte of DATA OUT crosses to this target, which process sends it, and at which place of its data.
 abbrev pub IsSentSo : ScenarioValue → List Row → ℕ → Hearing → Option ProcId → ℕ → Type 0
-IsSentSo s rows dev w process place =
-    (n : Connection) → IsOwnConnection rows dev n → brings_byte w ≡ true → (process ≡ id_of (run_state s rows).served) × (place ≡ place_at s (run_state s rows) dev)
+IsSentSo s rows dev w process place = (n : Connection) → IsOwnConnection rows dev n → brings_byte w ≡ true
+    → (process ≡ id_of (run_state s rows).served) × (place ≡ place_at s (run_state s rows) dev)
 
 -- And that process is of this unit.
 abbrev pub IsAtUnit : ScenarioValue → List Row → ℕ → Hearing → ℕ → Type 0
-IsAtUnit s rows dev w unit =
-    (n : Connection) (p : Process) → IsOwnConnection rows dev n → brings_byte w ≡ true → process_served s (run_state s rows) ≡ Some p → unit ≡ p.unit
+IsAtUnit s rows dev w unit = (n : Connection) (p : Process) → IsOwnConnection rows dev n → brings_byte w ≡ true
+    → process_served s (run_state s rows) ≡ Some p → unit ≡ p.unit
 
 -- ---- how much of it has come
 
@@ -143,10 +149,16 @@ pub record IsRunningIn (s : ScenarioValue) (rows : List Row) (dev : ℕ) (p : Pr
   pub begun : (run_state s rows).exchange.begun ≡ true
   pub phase : phase_of (bus_of (run_state s rows)) ≡ phases.DataOut
 
--- Of the process that last sent a unit a byte all data of the runs that it has made have come, and in DATA OUT of the present
--- run as many bytes as crossed.
+-- Of the process that last sent a unit a byte all data of the runs that it has made have come, and in DATA OUT of the
+-- present run as many bytes as crossed.
 pub record AreAllGathered (s : ScenarioValue) (rows : List Row) (v : GatheredValue) : Type 0 where
-  pub owned : (id : ProcId) (p : Process) → process_of s id ≡ Some p → p.target ≡ v.dev → writer_of (writers s rows) p.target p.unit ≡ Some id → (gathering_at v.units p.unit).owner ≡ Some id
-  pub made : (id : ProcId) (p : Process) → process_of s id ≡ Some p → p.target ≡ v.dev → writer_of (writers s rows) p.target p.unit ≡ Some id → HasCome v p (start_of_run s p (progress_in (run_state s rows).progress id).runs)
-  pub present : (p : Process) (n : Connection) → IsRunningIn s rows v.dev p n → 0 < (run_state s rows).handshakes.answers → writer_of (writers s rows) p.target p.unit ≡ Some p.id
-  pub come : (p : Process) (n : Connection) → IsRunningIn s rows v.dev p n → writer_of (writers s rows) p.target p.unit ≡ Some p.id → HasCome v p (start_of_run s p (progress_in (run_state s rows).progress p.id).runs + (run_state s rows).handshakes.answers)
+  pub owned : (id : ProcId) (p : Process) → process_of s id ≡ Some p → p.target ≡ v.dev
+      → writer_of (writers s rows) p.target p.unit ≡ Some id → (gathering_at v.units p.unit).owner ≡ Some id
+  pub made : (id : ProcId) (p : Process) → process_of s id ≡ Some p
+      → p.target ≡ v.dev → writer_of (writers s rows) p.target p.unit ≡ Some id
+      → HasCome v p (start_of_run s p (progress_in (run_state s rows).progress id).runs)
+  pub present : (p : Process) (n : Connection) → IsRunningIn s rows v.dev p n
+      → 0 < (run_state s rows).handshakes.answers → writer_of (writers s rows) p.target p.unit ≡ Some p.id
+  pub come : (p : Process) (n : Connection) → IsRunningIn s rows v.dev p n
+      → writer_of (writers s rows) p.target p.unit ≡ Some p.id → HasCome v p
+      (start_of_run s p (progress_in (run_state s rows).progress p.id).runs + (run_state s rows).handshakes.answers)

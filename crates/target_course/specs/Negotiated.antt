@@ -1,5 +1,6 @@
 -- With which initiators a target has had the connection in which the two may negotiate (6.6.21).
-use Rattle.std.specs.Prelude.{ℕ, ◌≡◌, ◌<◌, ⊤, Bool, true, false, not, ◌==◌, ◌&&◌, ◌||◌, List, [], ◌∷◌, length, Option, Some, None, is_some, replicate, slice_set, slice_index_or, if◌then◌else◌}
+use Rattle.std.specs.Prelude.{ℕ, ◌≡◌, ◌<◌, ⊤, Bool, true, false, not, ◌==◌, ◌&&◌, ◌||◌, List, [], ◌∷◌, length, Option}
+use Rattle.std.specs.Prelude.{Some, None, is_some, replicate, slice_set, slice_index_or, if◌then◌else◌}
 use Rattle.bus_base.specs.declared.AbortKind.{AbortKind}
 use Rattle.bus_base.specs.declared.AbortKind.TheVariants as aborts
 use Rattle.bus_base.specs.declared.Event.{Event}
@@ -41,14 +42,16 @@ opened_in v n = if not n.reselected && n.target == v.dev then record v { opening
 -- The opening is over, in which an abort was heard or not: without one the connection is for a process.
 abbrev pub met_by_opening : NegotiatedValue → Bool → Option ℕ → NegotiatedValue
 met_by_opening v aborts None = v
-met_by_opening v aborts (Some initiator) = record v { had = if aborts then v.had else slice_set v.had initiator true; opening = None }
+met_by_opening v aborts (Some initiator) =
+    record v { had = if aborts then v.had else slice_set v.had initiator true; opening = None }
 
 -- The phase is left that had begun, or the connection.
 abbrev pub is_opening_left : Hearing → Option Connection → Bool
 is_opening_left w None = true
 is_opening_left w (Some n) = is_phase_left w
 
-abbrev pub met_by_connection : NegotiatedValue → Bool → Hearing → Option Connection → Option Connection → NegotiatedValue
+abbrev pub met_by_connection : NegotiatedValue → Bool → Hearing → Option Connection → Option Connection
+    → NegotiatedValue
 met_by_connection v aborts w None None = v
 met_by_connection v aborts w None (Some n) = opened_in v n
 met_by_connection v aborts w (Some m) after = if is_opening_left w after then met_by_opening v aborts v.opening else v
@@ -78,7 +81,8 @@ abbrev pub met_after_events : NegotiatedValue → List Event → NegotiatedValue
 met_after_events v [] = v
 met_after_events v (e ∷ shown) = met_after_event (met_after_events v shown) e
 
-abbrev pub negotiated_seen : NegotiatedValue → Bool → Hearing → Option Connection → Option Connection → List Event → NegotiatedValue
+abbrev pub negotiated_seen : NegotiatedValue → Bool → Hearing → Option Connection → Option Connection → List Event
+    → NegotiatedValue
 negotiated_seen v aborts w before after shown = met_after_events (met_by_connection v aborts w before after) shown
 
 -- ---- what the rows tell
@@ -87,15 +91,16 @@ abbrev pub is_open_to : Option ℕ → ℕ → Bool
 is_open_to None initiator = false
 is_open_to (Some i) initiator = i == initiator
 
--- What is kept of all pairs is, of this target, what it keeps; and while an opening lasts the pair has had the connection
--- also where that is for a process. In version 2 no pair is barred for good.
+-- What is kept of all pairs is, of this target, what it keeps; and while an opening lasts the pair has had the
+-- connection also where that is for a process. In version 2 no pair is barred for good.
 pub record HasMet (m : Negotiated) (process : Bool) (v : NegotiatedValue) : Type 0 where
   pub eight : length v.had ≡ 8
-  pub met : (i : ℕ) → i < 8 → has_negotiated m i v.dev ≡ (slice_index_or v.had i false || is_open_to v.opening i && process)
+  pub met : (i : ℕ) → i < 8
+      → has_negotiated m i v.dev ≡ (slice_index_or v.had i false || is_open_to v.opening i && process)
   pub unbarred : (v.version == 1) ≡ false → (m.all ≡ false) × (m.targets ≡ [])
 
--- An opening is that of a connection of this target that began by a selection, under which RST is false; no phase but the
--- first, MESSAGE OUT, has begun in it.
+-- An opening is that of a connection of this target that began by a selection, under which RST is false; no phase but
+-- the first, MESSAGE OUT, has begun in it.
 pub record IsOpening (s : ScenarioValue) (rows : List Row) (dev initiator : ℕ) (n : Connection) : Type 0 where
   pub stands : connection rows ≡ Some n
   pub own : (n.target == dev) ≡ true
@@ -114,6 +119,8 @@ pub record IsNegotiatedOf (s : ScenarioValue) (rows : List Row) (v : NegotiatedV
   pub kept : HasMet (run_state s rows).negotiated (is_for_process (run_state s rows).served) v
   pub opens : IsOpeningIf s rows v.dev v.opening
 
--- In a connection of its own, while RST is false, whether the target has heard an abort in the present MESSAGE OUT phase.
+-- In a connection of its own, while RST is false, whether the target has heard an abort in the present MESSAGE OUT
+-- phase.
 abbrev pub IsHeardSo : ScenarioValue → List Row → ℕ → Bool → Type 0
-IsHeardSo s rows dev aborts = (n : Connection) → IsOwnConnection rows dev n → (bus rows).rst ≡ false → aborts ≡ is_some (plan_at s rows).said.aborts
+IsHeardSo s rows dev aborts = (n : Connection) → IsOwnConnection rows dev n → (bus rows).rst ≡ false
+    → aborts ≡ is_some (plan_at s rows).said.aborts

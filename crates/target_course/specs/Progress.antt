@@ -1,6 +1,7 @@
--- How far the processes of a target have come: the data runs that each has made, and the recoveries that were counted for
--- it (6.6.10, 6.6.13, 6.6.19, 6.6.20).
-use Rattle.std.specs.Prelude.{ℕ, min, ◌≡◌, ◌⊎◌, ◌+◌, ◌-◌, ◌^◌, ◌==◌, ◌&&◌, Bool, true, false, List, length, replicate, Option, Some, None, slice_set, slice_index_or, if◌then◌else◌}
+-- How far the processes of a target have come: the data runs that each has made, and the recoveries that were counted
+-- for it (6.6.10, 6.6.13, 6.6.19, 6.6.20).
+use Rattle.std.specs.Prelude.{ℕ, min, ◌≡◌, ◌⊎◌, ◌+◌, ◌-◌, ◌^◌, ◌==◌, ◌&&◌, Bool, true, false, List, length, replicate}
+use Rattle.std.specs.Prelude.{Option, Some, None, slice_set, slice_index_or, if◌then◌else◌}
 use Rattle.bus_base.specs.declared.ProcId.{ProcId}
 use Rattle.bus_trace.specs.declared.Row.{Row}
 use Rattle.bus_trace.specs.declared.connection.Connection.{Connection}
@@ -71,10 +72,12 @@ progress_counted v None l = v
 progress_counted v (Some id) l = record v { pairs = pairs_after v.pairs id l }
 
 -- In a connection of its own that stays, the target serves this process, and leaves a phase so.
-abbrev pub progress_seen : ProgressValue → Option ProcId → Leaving → Hearing → Option Connection → Option Connection → ProgressValue
+abbrev pub progress_seen : ProgressValue → Option ProcId → Leaving → Hearing → Option Connection → Option Connection
+    → ProgressValue
 progress_seen v process l w None after = v
 progress_seen v process l w (Some m) None = v
-progress_seen v process l w (Some m) (Some n) = if m.target == v.dev && is_phase_left w then progress_counted v process l else v
+progress_seen v process l w (Some m) (Some n) =
+    if m.target == v.dev && is_phase_left w then progress_counted v process l else v
 
 -- ---- what the rows tell
 
@@ -84,7 +87,8 @@ counts_of p = record { runs = min p.runs (2 ^ 64 - 1); recoveries = min p.recove
 -- It has what was counted of each process of this target.
 pub record AreCounted (s : ScenarioValue) (all : List ProcessProgress) (v : ProgressValue) : Type 0 where
   pub long : length v.pairs ≡ length s.commands + 1
-  pub counts : (id : ProcId) (p : Process) → process_of s id ≡ Some p → p.target ≡ v.dev → counts_at v.pairs id ≡ counts_of (progress_in all id)
+  pub counts : (id : ProcId) (p : Process) → process_of s id ≡ Some p → p.target ≡ v.dev
+      → counts_at v.pairs id ≡ counts_of (progress_in all id)
 
 abbrev pub IsProgressOf : ScenarioValue → List Row → ProgressValue → Type 0
 IsProgressOf s rows v = AreCounted s (run_state s rows).progress v
@@ -94,12 +98,13 @@ pub record IsUncounted (l : Leaving) : Type 0 where
   pub done : l.done ≡ false
   pub counts : l.counts ≡ false
 
--- Where a row that tells this, after which this connection stands, leaves a phase of this target, which process is served
--- there, and how the phase is left; or nothing is counted then, as in MESSAGE IN.
+-- Where a row that tells this, after which this connection stands, leaves a phase of this target, which process is
+-- served there, and how the phase is left; or nothing is counted then, as in MESSAGE IN.
 abbrev pub IsLeftSo : ScenarioValue → List Row → ℕ → Hearing → Option Connection → Option ProcId → Leaving → Type 0
 IsLeftSo s rows dev w after process l =
     (n m : Connection) → IsOwnConnection rows dev n → after ≡ Some m → is_phase_left w ≡ true
-    → ((process ≡ id_of (run_state s rows).served) × (l ≡ leaving_after s rows dev)) ⊎ (IsUncounted l × IsUncounted (leaving_after s rows dev))
+    → ((process ≡ id_of (run_state s rows).served) × (l ≡ leaving_after s rows dev))
+    ⊎ (IsUncounted l × IsUncounted (leaving_after s rows dev))
 
 -- This was counted, exactly.
 pub record AreExactly (p : ProcessProgress) (c : Counts) : Type 0 where

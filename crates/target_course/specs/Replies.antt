@@ -40,10 +40,11 @@ reply_after plan (e ∷ shown) was = reply_with plan e (reply_after plan shown w
 
 -- In a connection of its own, while RST is false.
 abbrev pub IsReplyOf : ScenarioValue → List Row → ℕ → Option UnitReply → Type 0
-IsReplyOf s rows dev reply =
-    (n : Connection) (p : Process) → IsOwnConnection rows dev n → (bus rows).rst ≡ false → process_served s (run_state s rows) ≡ Some p → reply ≡ reply_told (reply_in (array_of s (run_state s rows)).replies p.id)
+IsReplyOf s rows dev reply = (n : Connection) (p : Process) → IsOwnConnection rows dev n
+    → (bus rows).rst ≡ false → process_served s (run_state s rows) ≡ Some p
+    → reply ≡ reply_told (reply_in (array_of s (run_state s rows)).replies p.id)
 
 -- So would the command of the process end, where it runs with these events.
 abbrev pub IsOutlookAt : ScenarioValue → List Row → List Event → Plan → Type 0
-IsOutlookAt s rows shown plan =
-    (p : Process) → process_served s (run_state s rows) ≡ Some p → shows_run shown ≡ true → plan ≡ plan_of (reply_now (array_of s (run_state s rows)) p) plan.out_len
+IsOutlookAt s rows shown plan = (p : Process) → process_served s (run_state s rows) ≡ Some p → shows_run shown ≡ true
+    → plan ≡ plan_of (reply_now (array_of s (run_state s rows)) p) plan.out_len

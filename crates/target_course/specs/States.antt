@@ -38,7 +38,12 @@ pub record TargetState : Type 0 where
   pub serving : next_phase.Serving
 
 abbrev pub state_of : Knowledge → List ℕ → TargetState
-state_of k given = record { own = k.itself.now.own; reset = k.itself.now.reset; ready = k.ready; serving = serving_with k.serving given }
+state_of k given = record {
+  own = k.itself.now.own;
+  reset = k.itself.now.reset;
+  ready = k.ready;
+  serving = serving_with k.serving given;
+}
 
 -- A connection stands of which it is the target.
 pub record IsOwnConnection (rows : List Row) (dev : ℕ) (n : Connection) : Type 0 where
@@ -52,8 +57,8 @@ offering_in rows v =
 
 -- Nothing that it does next tells between these two.
 abbrev pub AreAlikeIn : List Row → ℕ → Offering → Offering → Type 0
-AreAlikeIn rows dev g h =
-    AreAlike (begun rows) (pace_of (told rows 0) None).pulsed (drives rows dev).req (bus rows).io (handshakes rows).requests g h
+AreAlikeIn rows dev g h = AreAlike (begun rows) (pace_of (told rows 0) None).pulsed (drives rows dev).req (bus rows).io
+    (handshakes rows).requests g h
 
 -- This is what the target of this line of the scenario knows after these rows. In a connection of its own, while RST is
 -- false, it may know less than the rows tell of the process, as long as nothing that it does next tells between them.
@@ -61,7 +66,8 @@ pub record IsTargetOf (s : ScenarioValue) (rows : List Row) (t : TargetDef) (i :
   pub own_is : i.own ≡ own_of rows t.dev
   pub reset_is : i.reset ≡ reset_from t.dev (own_of rows t.dev).released s.resets
   pub ready_is : i.ready ≡ ready_unit (ready_of s (run_state s rows) t.dev)
-  pub serving_is : (n : Connection) → IsOwnConnection rows t.dev n → (bus rows).rst ≡ false → AreAlikeIn rows t.dev (offering_in rows i.serving) (offering_in rows (serving_of s (run_state s rows) t.dev))
+  pub serving_is : (n : Connection) → IsOwnConnection rows t.dev n → (bus rows).rst ≡ false
+      → AreAlikeIn rows t.dev (offering_in rows i.serving) (offering_in rows (serving_of s (run_state s rows) t.dev))
 
 -- ---- what the scenario says of it
 

@@ -14,13 +14,15 @@ use Rattle.disk_array.specs.Steps.{step, settled_array_if}
 took : (c d b : Array) → Some d ≡ Some b → d.replies ≡ c.replies → b.replies ≡ c.replies
 took c d b e f = let same : d ≡ b = cc in (λ i. (sym same i).replies) ∙ f
 
-pub arrival_replies : (s : ScenarioValue) (a b : Array) (id : ProcId) → step s (events.Accept id) a ≡ Some b → b.replies ≡ a.replies
+pub arrival_replies : (s : ScenarioValue) (a b : Array) (id : ProcId) → step s (events.Accept id) a ≡ Some b
+    → b.replies ≡ a.replies
 arrival_replies s a b id e = of (process_of s id) e
   where
     never : None ≡ Some b → b.replies ≡ a.replies
     never k = cc
 
-    at : (p : Process) (u : Option UnitState) → settled_array_if (Steps.accept_step_at a p u) ≡ Some b → b.replies ≡ a.replies
+    at : (p : Process) (u : Option UnitState) → settled_array_if (Steps.accept_step_at a p u) ≡ Some b
+        → b.replies ≡ a.replies
     at p None k = took a (settled_array (Steps.with_guest a p None)) b k refl
     at p (Some u) k = sense (is_request_sense (command_of p.cdb)) k
       where
@@ -31,7 +33,9 @@ arrival_replies s a b id e = of (process_of s id) e
         room true m = took a (settled_array next) b m refl
         room false m = never m
 
-        sense : (y : Bool) → settled_array_if (if y then Some (Steps.with_guest a p None) else Steps.queue_step a p u) ≡ Some b → b.replies ≡ a.replies
+        sense : (y : Bool)
+            → settled_array_if (if y then Some (Steps.with_guest a p None) else Steps.queue_step a p u) ≡ Some b
+            → b.replies ≡ a.replies
         sense true m = took a (settled_array (Steps.with_guest a p None)) b m refl
         sense false m = room (nat_lt (Steps.process_count u) u.depth) m
 

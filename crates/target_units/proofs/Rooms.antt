@@ -44,15 +44,18 @@ use Rattle.cdb_codec.specs.declared.command.Command.TheVariants as commands
 
 -- ---- the blocks of a unit stay those of its line
 
-line_after : (o : Option UnitDef) (us vs : List UnitState) (t n : ℕ) → AreSame us vs → IsOfLine o (unit_state_at us t n) → IsOfLine o (unit_state_at vs t n)
+line_after : (o : Option UnitDef) (us vs : List UnitState) (t n : ℕ) → AreSame us vs → IsOfLine o (unit_state_at us t n)
+    → IsOfLine o (unit_state_at vs t n)
 line_after o [] [] t n h k = k
 line_after o [] (v ∷ vs) t n h k = absurd h
 line_after o (u ∷ us) [] t n h k = absurd h
-line_after o (u ∷ us) (v ∷ vs) t n h k =
-    subst (λ (x : Option UnitState). IsOfLine o x) (λ i. if sym h.0 i == t && sym h.1 i == n then Some v else unit_state_at vs t n)
+line_after o (u ∷ us) (v ∷ vs) t n h k = subst (λ (x : Option UnitState). IsOfLine o x)
+    (λ i. if sym h.0 i == t && sym h.1 i == n then Some v else unit_state_at vs t n)
     (go o (u.target == t && u.unit == n) k (λ m. line_after o us vs t n h.3 m))
   where
-    go : (x : Option UnitDef) (y : Bool) → IsOfLine x (if y then Some u else unit_state_at us t n) → (IsOfLine x (unit_state_at us t n) → IsOfLine x (unit_state_at vs t n)) → IsOfLine x (if y then Some v else unit_state_at vs t n)
+    go : (x : Option UnitDef) (y : Bool) → IsOfLine x (if y then Some u else unit_state_at us t n)
+        → (IsOfLine x (unit_state_at us t n) → IsOfLine x (unit_state_at vs t n))
+        → IsOfLine x (if y then Some v else unit_state_at vs t n)
     go None true m more = absurd m
     go (Some d) true m more = (h.2.count ∙ m.0, h.2.size ∙ m.1)
     go x false m more = more m
@@ -64,60 +67,75 @@ filled_extent : (u : UnitDef) (fills : List FillDef) (c : Contents) → HasSameE
 filled_extent u [] c = extent_self c
 filled_extent u (f ∷ fills) c = go (f.target == u.target && f.unit == u.unit) (λ d. filled_extent u fills d)
   where
-    go : (y : Bool) → ((d : Contents) → HasSameExtent d (filled_contents u fills d)) → HasSameExtent c (filled_contents u fills (if y then with_block c f.lba f.bytes else c))
+    go : (y : Bool) → ((d : Contents) → HasSameExtent d (filled_contents u fills d))
+        → HasSameExtent c (filled_contents u fills (if y then with_block c f.lba f.bytes else c))
     go true more =
         let next : Contents = with_block c f.lba f.bytes in
         extent_more c next (filled_contents u fills next) (record { count = refl; size = refl }) (more next)
     go false more = more c
 
-line_start : (s : ScenarioValue) (us : List UnitDef) (t n : ℕ) → IsOfLine (find (λ (u : UnitDef). u.target == t && u.unit == n) us) (unit_state_at (starting_units s us) t n)
+line_start : (s : ScenarioValue) (us : List UnitDef) (t n : ℕ)
+    → IsOfLine (find (λ (u : UnitDef). u.target == t && u.unit == n) us) (unit_state_at (starting_units s us) t n)
 line_start s [] t n = tt
 line_start s (u ∷ us) t n = go (u.target == t && u.unit == n) (line_start s us t n)
   where
     extent : HasSameExtent (blank_contents u.blocks u.size) (starting_contents u s.fills)
     extent = filled_extent u s.fills (blank_contents u.blocks u.size)
 
-    go : (y : Bool) → IsOfLine (find (λ (v : UnitDef). v.target == t && v.unit == n) us) (unit_state_at (starting_units s us) t n)
-        → IsOfLine (cond y (Some u) (find (λ (v : UnitDef). v.target == t && v.unit == n) us)) (if y then Some (starting_unit s u) else unit_state_at (starting_units s us) t n)
+    go : (y : Bool)
+        → IsOfLine (find (λ (v : UnitDef). v.target == t && v.unit == n) us) (unit_state_at (starting_units s us) t n)
+        → IsOfLine (cond y (Some u) (find (λ (v : UnitDef). v.target == t && v.unit == n) us))
+        (if y then Some (starting_unit s u) else unit_state_at (starting_units s us) t n)
     go true more = (extent.count, extent.size)
     go false more = more
 
 pub lines_start : (s : ScenarioValue) → AreOfLines s (settled_array (starting_array s))
 lines_start s = subst (λ (a : Array). AreOfLines s a) (sym (start_settled s)) (λ t n. line_start s s.units t n)
 
-pub lines_always : (s : ScenarioValue) (history : List Event) (a : Array) → array_after s history ≡ Some a → AreOfLines s a
-lines_always s [] a e = let same : settled_array (starting_array s) ≡ a = cc in subst (λ (x : Array). AreOfLines s x) same (lines_start s)
+pub lines_always : (s : ScenarioValue) (history : List Event) (a : Array) → array_after s history ≡ Some a
+    → AreOfLines s a
+lines_always s [] a e =
+    let same : settled_array (starting_array s) ≡ a = cc in
+    subst (λ (x : Array). AreOfLines s x) same (lines_start s)
 lines_always s (event ∷ history) a e = go (array_after s history) e (λ b f. lines_always s history b f)
   where
-    go : (x : Option Array) → array_step s event x ≡ Some a → ((b : Array) → x ≡ Some b → AreOfLines s b) → AreOfLines s a
+    go : (x : Option Array) → array_step s event x ≡ Some a
+        → ((b : Array) → x ≡ Some b → AreOfLines s b) → AreOfLines s a
     go None k before = cc
     go (Some b) k before = lines_after s b a (step_later s b a event k) (before b refl)
 
 -- ---- the blocks that are left
 
-pub left_less : (old new : List (ProcId × Reply)) → HasMore old new → (u : UnitDef) (n : ℕ) (cs : List CmdDef) → blocks_left new u n cs ≤ blocks_left old u n cs
+pub left_less : (old new : List (ProcId × Reply)) → HasMore old new → (u : UnitDef) (n : ℕ) (cs : List CmdDef)
+    → blocks_left new u n cs ≤ blocks_left old u n cs
 left_less old new more u n [] = omega arith
-left_less old new more u n (c ∷ cs) =
-    go (reply_in new (record { command = n; sense = false })) refl (reply_in old (record { command = n; sense = false })) refl (left_less old new more u (suc n) cs)
+left_less old new more u n (c ∷ cs) = go (reply_in new (record { command = n; sense = false })) refl
+    (reply_in old (record { command = n; sense = false })) refl (left_less old new more u (suc n) cs)
   where
-    go : (x : Option Reply) → reply_in new (record { command = n; sense = false }) ≡ x → (y : Option Reply) → reply_in old (record { command = n; sense = false }) ≡ y
+    go : (x : Option Reply) → reply_in new (record { command = n; sense = false }) ≡ x
+        → (y : Option Reply) → reply_in old (record { command = n; sense = false }) ≡ y
         → blocks_left new u (suc n) cs ≤ blocks_left old u (suc n) cs
-        → (if is_none x then blocks_by u c else 0) + blocks_left new u (suc n) cs ≤ (if is_none y then blocks_by u c else 0) + blocks_left old u (suc n) cs
+        → (if is_none x then blocks_by u c else 0) + blocks_left new u (suc n) cs
+        ≤ (if is_none y then blocks_by u c else 0) + blocks_left old u (suc n) cs
     go None f None g k = omega (arith, k)
     go None f (Some r) g k = let bad : None ≡ Some r = sym (more (record { command = n; sense = false }) f) ∙ g in cc
     go (Some r) f None g k = omega (arith, k)
     go (Some r) f (Some q) g k = omega (arith, k)
 
 -- One command has no reply before, and has one afterwards.
-left_without : (old new : List (ProcId × Reply)) → HasMore old new → (u : UnitDef) (n : ℕ) (cs : List CmdDef) (m j : ℕ) (c : CmdDef) (r : Reply) → j ≡ n + m → command_at cs (suc m) ≡ Some c
-    → reply_in old (record { command = j; sense = false }) ≡ None → reply_in new (record { command = j; sense = false }) ≡ Some r
+left_without : (old new : List (ProcId × Reply)) → HasMore old new
+    → (u : UnitDef) (n : ℕ) (cs : List CmdDef) (m j : ℕ) (c : CmdDef) (r : Reply) → j ≡ n + m
+    → command_at cs (suc m) ≡ Some c → reply_in old (record { command = j; sense = false }) ≡ None
+    → reply_in new (record { command = j; sense = false }) ≡ Some r
     → blocks_by u c + blocks_left new u n cs ≤ blocks_left old u n cs
 left_without old new more u n [] m j c r at e before after = cc
 left_without old new more u n (d ∷ cs) zero j c r at e before after =
     let same : d ≡ c = cc in
     let number : j ≡ n = omega (arith, at) in
-    let none : reply_in old (record { command = n; sense = false }) ≡ None = (λ i. reply_in old (record { command = sym number i; sense = false })) ∙ before in
-    let some : reply_in new (record { command = n; sense = false }) ≡ Some r = (λ i. reply_in new (record { command = sym number i; sense = false })) ∙ after in
+    let none : reply_in old (record { command = n; sense = false }) ≡ None =
+    (λ i. reply_in old (record { command = sym number i; sense = false })) ∙ before in
+    let some : reply_in new (record { command = n; sense = false }) ≡ Some r =
+    (λ i. reply_in new (record { command = sym number i; sense = false })) ∙ after in
     let rest = left_less old new more u (suc n) cs in
     let first : blocks_left new u n (d ∷ cs) ≡ blocks_left new u (suc n) cs =
     (λ i. (if is_none (some i) then blocks_by u d else 0) + blocks_left new u (suc n) cs) ∙ omega arith in
@@ -126,12 +144,14 @@ left_without old new more u n (d ∷ cs) zero j c r at e before after =
     omega (arith, rest, first, last)
 left_without old new more u n (d ∷ cs) (suc m) j c r at e before after =
     let later : j ≡ suc n + m = omega (arith, at) in
-    go (reply_in new (record { command = n; sense = false })) refl (reply_in old (record { command = n; sense = false })) refl
-    (left_without old new more u (suc n) cs m j c r later e before after)
+    go (reply_in new (record { command = n; sense = false })) refl (reply_in old
+    (record { command = n; sense = false })) refl (left_without old new more u (suc n) cs m j c r later e before after)
   where
-    go : (x : Option Reply) → reply_in new (record { command = n; sense = false }) ≡ x → (y : Option Reply) → reply_in old (record { command = n; sense = false }) ≡ y
+    go : (x : Option Reply) → reply_in new (record { command = n; sense = false }) ≡ x
+        → (y : Option Reply) → reply_in old (record { command = n; sense = false }) ≡ y
         → blocks_by u c + blocks_left new u (suc n) cs ≤ blocks_left old u (suc n) cs
-        → blocks_by u c + ((if is_none x then blocks_by u d else 0) + blocks_left new u (suc n) cs) ≤ (if is_none y then blocks_by u d else 0) + blocks_left old u (suc n) cs
+        → blocks_by u c + ((if is_none x then blocks_by u d else 0) + blocks_left new u (suc n) cs)
+        ≤ (if is_none y then blocks_by u d else 0) + blocks_left old u (suc n) cs
     go None f None g k = omega (arith, k)
     go None f (Some q) g k = let bad : None ≡ Some q = sym (more (record { command = n; sense = false }) f) ∙ g in cc
     go (Some q) f None g k = omega (arith, k)
@@ -145,18 +165,22 @@ pub left_at_start : (o : Option UnitDef) (cs : List CmdDef) → blocks_left_at [
 left_at_start None cs = refl
 left_at_start (Some u) cs = left_start u 1 cs
 
-pub left_at_less : (old new : List (ProcId × Reply)) → HasMore old new → (o : Option UnitDef) (cs : List CmdDef) → blocks_left_at new o cs ≤ blocks_left_at old o cs
+pub left_at_less : (old new : List (ProcId × Reply)) → HasMore old new → (o : Option UnitDef) (cs : List CmdDef)
+    → blocks_left_at new o cs ≤ blocks_left_at old o cs
 left_at_less old new more None cs = omega arith
 left_at_less old new more (Some u) cs = left_less old new more u 1 cs
 
 -- ---- before any event
 
-pub room_start : (s : ScenarioValue) (dev : ℕ) (units : List LogicalUnit) → FitsBus s → has_target s dev ≡ true → ((n : ℕ) → n < 8 → blocks_at (unit_of s dev n) s.commands ≤ spare_of (unit_in units n)) → HaveRoom s (starting_array s) dev units
+pub room_start : (s : ScenarioValue) (dev : ℕ) (units : List LogicalUnit) → FitsBus s → has_target s dev ≡ true
+    → ((n : ℕ) → n < 8 → blocks_at (unit_of s dev n) s.commands ≤ spare_of (unit_in units n))
+    → HaveRoom s (starting_array s) dev units
 room_start s dev units fits target spare = record {
   fits = fits;
   target = target;
   lines = λ t n. line_start s s.units t n;
-  left = λ n lt. subst (λ (k : ℕ). k ≤ spare_of (unit_in units n)) (sym (left_at_start (unit_of s dev n) s.commands)) (spare n lt);
+  left = λ n lt. subst (λ (k : ℕ). k ≤ spare_of (unit_in units n)) (sym (left_at_start (unit_of s dev n) s.commands))
+      (spare n lt);
 }
 
 -- ---- a process of a command of the scenario
@@ -176,7 +200,8 @@ by_line s p e plain = go (command_at s.commands p.id.command) refl e
     go None f k = cc
     go (Some c) f k =
         let made : process_by s p.id c ≡ p = cc in
-        let by : process_by s (record { command = p.id.command; sense = false }) c ≡ p = (λ i. process_by s (record { command = p.id.command; sense = sym plain i }) c) ∙ made in
+        let by : process_by s (record { command = p.id.command; sense = false }) c ≡ p =
+        (λ i. process_by s (record { command = p.id.command; sense = sym plain i }) c) ∙ made in
         record {
           line = c;
           is = f;
@@ -189,7 +214,8 @@ by_line s p e plain = go (command_at s.commands p.id.command) refl e
 -- ---- what it sends are the bytes of the blocks that it names
 
 -- What a write needs at a unit of this line, whose blocks are these.
-sends_by : (r : Result Command CdbFault) (u : UnitDef) (c : Contents) → c.count ≡ u.blocks → c.size ≡ u.size → ((command : Command) → r ≡ Ok command → is_good_range c.count (range_of command) ≡ true)
+sends_by : (r : Result Command CdbFault) (u : UnitDef) (c : Contents) → c.count ≡ u.blocks → c.size ≡ u.size
+    → ((command : Command) → r ≡ Ok command → is_good_range c.count (range_of command) ≡ true)
     → (if is_write r then moved_by r (Some u) else 0) ≡ blocks_written_by c r * c.size
 sends_by (Err fault) u c count size good = omega arith
 sends_by (Ok command) u c count size good = by command (good command refl)
@@ -198,17 +224,22 @@ sends_by (Ok command) u c count size good = by command (good command refl)
     none true = omega arith
     none false = omega arith
 
-    writes : (lba n : ℕ) → (nat_lt lba c.count && nat_le (lba + n) c.count) ≡ true → (if nat_le (lba + n) u.blocks then n * u.size else 0) ≡ (if nat_lt lba c.count && nat_le (lba + n) c.count then n else 0) * c.size
+    writes : (lba n : ℕ) → (nat_lt lba c.count && nat_le (lba + n) c.count) ≡ true
+        → (if nat_le (lba + n) u.blocks then n * u.size else 0)
+        ≡ (if nat_lt lba c.count && nat_le (lba + n) c.count then n else 0) * c.size
     writes lba n g =
         let within : nat_le (lba + n) c.count ≡ true = grind (arith, nat_tests, g) in
         (λ i. if nat_le (lba + n) (sym count i) then n * sym size i else 0)
         ∙ (λ i. if within i then n * c.size else 0)
         ∙ (λ i. (if sym g i then n else 0) * c.size)
 
-    by : (x : Command) → is_good_range c.count (range_of x) ≡ true → (if is_write (Ok x) then moved_by (Ok x) (Some u) else 0) ≡ (if is_good_range c.count (range_of x) then written_of x else 0) * c.size
+    by : (x : Command) → is_good_range c.count (range_of x) ≡ true
+        → (if is_write (Ok x) then moved_by (Ok x) (Some u) else 0)
+        ≡ (if is_good_range c.count (range_of x) then written_of x else 0) * c.size
     by commands.TestUnitReady g = none true
     by (commands.RequestSense room) g = none true
-    by (commands.Read6 lba count) g = none (nat_lt lba c.count && nat_le (lba + blocks_moved (commands.Read6 lba count)) c.count)
+    by (commands.Read6 lba count) g =
+        none (nat_lt lba c.count && nat_le (lba + blocks_moved (commands.Read6 lba count)) c.count)
     by (commands.Write6 lba count) g = writes lba (blocks_moved (commands.Write6 lba count)) g
     by (commands.Inquiry room) g = none true
     by commands.ReadCapacity g = none true
@@ -227,34 +258,45 @@ sends_none (Ok commands.ReadCapacity) = refl
 sends_none (Ok (commands.Read10 lba count)) = refl
 sends_none (Ok (commands.Write10 lba count)) = refl
 
-sent_is : (s : ScenarioValue) (c : CmdDef) → has_target s c.target ≡ true → sent_of s c ≡ (if is_write (command_of c.cdb) then moved_by (command_of c.cdb) (unit_of s c.target c.unit) else 0)
+sent_is : (s : ScenarioValue) (c : CmdDef) → has_target s c.target ≡ true
+    → sent_of s c ≡ (if is_write (command_of c.cdb) then moved_by (command_of c.cdb) (unit_of s c.target c.unit) else 0)
 unfolding sent_of need_of
-sent_is s c t = λ i. if is_write (command_of c.cdb) then (if t i then moved_by (command_of c.cdb) (unit_of s c.target c.unit) else 0) else 0
+sent_is s c t = λ i. if is_write (command_of c.cdb)
+    then (if t i then moved_by (command_of c.cdb) (unit_of s c.target c.unit) else 0) else 0
 
-count_same : (c d : Contents) (r : Result Command CdbFault) → c.count ≡ d.count → blocks_written_by c r ≡ blocks_written_by d r
+count_same : (c d : Contents) (r : Result Command CdbFault) → c.count ≡ d.count
+    → blocks_written_by c r ≡ blocks_written_by d r
 count_same c d (Err fault) e = refl
 count_same c d (Ok command) e = λ i. if is_good_range (e i) (range_of command) then written_of command else 0
 
 -- The bytes that it sends, where it is carried out, are those of the blocks that it names; and they are few.
 pub record Sends (a : Array) (p : Process) : Type 0 where
-  pub bytes : (execution (context_of (seat_of a p.target p.unit) p.initiator) p.cdb p.sent).reply.status ≡ GOOD → length p.sent ≡ blocks_written (contents_of (unit_state_at a.units p.target p.unit)) p.cdb * (contents_of (unit_state_at a.units p.target p.unit)).size
+  pub bytes : (execution (context_of (seat_of a p.target p.unit) p.initiator) p.cdb p.sent).reply.status ≡ GOOD
+      → length p.sent ≡ blocks_written (contents_of (unit_state_at a.units p.target p.unit)) p.cdb
+      * (contents_of (unit_state_at a.units p.target p.unit)).size
   pub few : length p.sent ≤ 65536
 
-pub sends : (s : ScenarioValue) (a : Array) (p : Process) → FitsBus s → AreOfLines s a → has_target s p.target ≡ true → process_of s p.id ≡ Some p → p.id.sense ≡ false → Sends a p
+pub sends : (s : ScenarioValue) (a : Array) (p : Process) → FitsBus s → AreOfLines s a → has_target s p.target ≡ true
+    → process_of s p.id ≡ Some p → p.id.sense ≡ false → Sends a p
 sends s a p fits lines target is plain =
     let by : IsByLine s p = by_line s p is plain in
     let line : IsCommandLine s by.line = command_fits s p.id.command by.line fits by.is in
     let declared : has_target s by.line.target ≡ true = (λ i. has_target s (sym by.target i)) ∙ target in
     let length_is : length p.sent ≡ sent_of s by.line = (λ i. length (by.sent i)) ∙ line.sent in
-    let moved : sent_of s by.line ≡ (if is_write (command_of p.cdb) then moved_by (command_of p.cdb) (unit_of s p.target p.unit) else 0) =
-    sent_is s by.line declared ∙ (λ i. if is_write (command_of (sym by.cdb i)) then moved_by (command_of (sym by.cdb i)) (unit_of s (sym by.target i) (sym by.unit i)) else 0) in
+    let moved : sent_of s by.line
+    ≡ (if is_write (command_of p.cdb) then moved_by (command_of p.cdb) (unit_of s p.target p.unit) else 0) =
+    sent_is s by.line declared ∙ (λ i. if is_write (command_of (sym by.cdb i))
+    then moved_by (command_of (sym by.cdb i)) (unit_of s (sym by.target i) (sym by.unit i)) else 0) in
     record {
-      bytes = λ good. length_is ∙ moved ∙ go (unit_of s p.target p.unit) (unit_state_at a.units p.target p.unit) refl (lines p.target p.unit) good;
+      bytes = λ good. length_is ∙ moved
+          ∙ go (unit_of s p.target p.unit) (unit_state_at a.units p.target p.unit) refl (lines p.target p.unit) good;
       few = process_few s p.id p fits is;
     }
   where
-    go : (o : Option UnitDef) (x : Option UnitState) → unit_state_at a.units p.target p.unit ≡ x → IsOfLine o x → (execution (context_of (seat_of a p.target p.unit) p.initiator) p.cdb p.sent).reply.status ≡ GOOD
-        → (if is_write (command_of p.cdb) then moved_by (command_of p.cdb) o else 0) ≡ blocks_written (contents_of x) p.cdb * (contents_of x).size
+    go : (o : Option UnitDef) (x : Option UnitState) → unit_state_at a.units p.target p.unit ≡ x → IsOfLine o x
+        → (execution (context_of (seat_of a p.target p.unit) p.initiator) p.cdb p.sent).reply.status ≡ GOOD
+        → (if is_write (command_of p.cdb) then moved_by (command_of p.cdb) o else 0)
+        ≡ blocks_written (contents_of x) p.cdb * (contents_of x).size
     go None None f h good = sends_none (command_of p.cdb) ∙ omega arith
     go None (Some v) f h good = absurd h
     go (Some u) None f h good = absurd h
@@ -266,7 +308,8 @@ sends s a p fits lines target is plain =
 
 -- ---- a process that runs
 
-named_blocks : (s : ScenarioValue) (c : CmdDef) (u : UnitDef) (v : Contents) → c.target ≡ u.target → c.unit ≡ u.unit → v.count ≡ u.blocks → blocks_by u c ≡ blocks_written v c.cdb
+named_blocks : (s : ScenarioValue) (c : CmdDef) (u : UnitDef) (v : Contents) → c.target ≡ u.target → c.unit ≡ u.unit
+    → v.count ≡ u.blocks → blocks_by u c ≡ blocks_written v c.cdb
 named_blocks s c u v target unit count =
     let one : (c.target == u.target) ≡ true = grind arith in
     let other : (c.unit == u.unit) ≡ true = grind arith in
@@ -281,16 +324,25 @@ no_blocks : (r : Result Command CdbFault) → blocks_written_by (blank_contents 
 no_blocks (Err fault) = refl
 no_blocks (Ok commands.TestUnitReady) = refl
 no_blocks (Ok (commands.RequestSense room)) = refl
-no_blocks (Ok (commands.Read6 lba count)) = either 0 (nat_lt lba 0 && nat_le (lba + blocks_moved (commands.Read6 lba count)) 0)
-no_blocks (Ok (commands.Write6 lba count)) = let none : nat_lt lba 0 ≡ false = grind (arith, nat_tests) in λ i. if none i && nat_le (lba + blocks_moved (commands.Write6 lba count)) 0 then blocks_moved (commands.Write6 lba count) else 0
+no_blocks (Ok (commands.Read6 lba count)) =
+    either 0 (nat_lt lba 0 && nat_le (lba + blocks_moved (commands.Read6 lba count)) 0)
+no_blocks (Ok (commands.Write6 lba count)) =
+    let none : nat_lt lba 0 ≡ false = grind (arith, nat_tests) in
+    λ i. if none i && nat_le (lba + blocks_moved (commands.Write6 lba count)) 0
+    then blocks_moved (commands.Write6 lba count) else 0
 no_blocks (Ok (commands.Inquiry room)) = refl
 no_blocks (Ok commands.ReadCapacity) = refl
 no_blocks (Ok (commands.Read10 lba count)) = either 0 (nat_lt lba 0 && nat_le (lba + count) 0)
-no_blocks (Ok (commands.Write10 lba count)) = let none : nat_lt lba 0 ≡ false = grind (arith, nat_tests) in λ i. if none i && nat_le (lba + count) 0 then count else 0
+no_blocks (Ok (commands.Write10 lba count)) =
+    let none : nat_lt lba 0 ≡ false = grind (arith, nat_tests) in
+    λ i. if none i && nat_le (lba + count) 0 then count else 0
 
 -- What it writes is among what is left, and is left no more once it has a reply.
-pub among : (s : ScenarioValue) (a : Array) (dev n : ℕ) (p : Process) (new : List (ProcId × Reply)) (r : Reply) → FitsBus s → AreOfLines s a → IsOwn s dev n p → p.id.sense ≡ false → reply_in a.replies p.id ≡ None → HasMore a.replies new → reply_in new p.id ≡ Some r
-    → blocks_written (contents_of (unit_state_at a.units dev n)) p.cdb + blocks_left_at new (unit_of s dev n) s.commands ≤ blocks_left_at a.replies (unit_of s dev n) s.commands
+pub among : (s : ScenarioValue) (a : Array) (dev n : ℕ) (p : Process) (new : List (ProcId × Reply)) (r : Reply)
+    → FitsBus s → AreOfLines s a → IsOwn s dev n p → p.id.sense ≡ false
+    → reply_in a.replies p.id ≡ None → HasMore a.replies new → reply_in new p.id ≡ Some r
+    → blocks_written (contents_of (unit_state_at a.units dev n)) p.cdb + blocks_left_at new (unit_of s dev n) s.commands
+    ≤ blocks_left_at a.replies (unit_of s dev n) s.commands
 among s a dev n p new r fits lines own plain unanswered more answered =
     let by : IsByLine s p = by_line s p own.is plain in
     go by (unit_of s dev n) refl (unit_state_at a.units dev n) (lines dev n)
@@ -298,41 +350,53 @@ among s a dev n p new r fits lines own plain unanswered more answered =
     id_is : p.id ≡ record { command = p.id.command; sense = false }
     id_is = λ i. record { command = p.id.command; sense = plain i }
 
-    counted : (c : CmdDef) (u : UnitDef) (k : ℕ) → p.id.command ≡ k → command_at s.commands k ≡ Some c → blocks_by u c + blocks_left new u 1 s.commands ≤ blocks_left a.replies u 1 s.commands
+    counted : (c : CmdDef) (u : UnitDef) (k : ℕ) → p.id.command ≡ k → command_at s.commands k ≡ Some c
+        → blocks_by u c + blocks_left new u 1 s.commands ≤ blocks_left a.replies u 1 s.commands
     counted c u zero e f = absurd (never_first s.commands c f)
-    counted c u (suc m) e f =
-        left_without a.replies new more u 1 s.commands m p.id.command c r (omega (arith, e)) f ((λ i. reply_in a.replies (sym id_is i)) ∙ unanswered) ((λ i. reply_in new (sym id_is i)) ∙ answered)
+    counted c u (suc m) e f = left_without a.replies new more u 1 s.commands m p.id.command c r (omega (arith, e)) f
+        ((λ i. reply_in a.replies (sym id_is i)) ∙ unanswered) ((λ i. reply_in new (sym id_is i)) ∙ answered)
 
-    go : IsByLine s p → (o : Option UnitDef) → unit_of s dev n ≡ o → (x : Option UnitState) → IsOfLine o x → blocks_written (contents_of x) p.cdb + blocks_left_at new o s.commands ≤ blocks_left_at a.replies o s.commands
-    go by None f None h = let none : blocks_written (contents_of None) p.cdb ≡ 0 = no_blocks (command_of p.cdb) in omega (arith, none)
+    go : IsByLine s p → (o : Option UnitDef) → unit_of s dev n ≡ o → (x : Option UnitState) → IsOfLine o x
+        → blocks_written (contents_of x) p.cdb + blocks_left_at new o s.commands ≤ blocks_left_at a.replies o s.commands
+    go by None f None h =
+        let none : blocks_written (contents_of None) p.cdb ≡ 0 = no_blocks (command_of p.cdb) in
+        omega (arith, none)
     go by None f (Some v) h = absurd h
     go by (Some u) f None h = absurd h
     go by (Some u) f (Some v) h =
         let place = unit_fits s dev n u fits f in
-        let named : blocks_by u by.line ≡ blocks_written v.contents by.line.cdb = named_blocks s by.line u v.contents (sym by.target ∙ own.target_is ∙ sym place.1) (sym by.unit ∙ own.unit_is ∙ sym place.2) h.0 in
-        let own_blocks : blocks_written v.contents p.cdb ≡ blocks_by u by.line = (λ i. blocks_written v.contents (by.cdb i)) ∙ sym named in
+        let named : blocks_by u by.line ≡ blocks_written v.contents by.line.cdb = named_blocks s by.line u v.contents
+        (sym by.target ∙ own.target_is ∙ sym place.1) (sym by.unit ∙ own.unit_is ∙ sym place.2) h.0 in
+        let own_blocks : blocks_written v.contents p.cdb ≡ blocks_by u by.line =
+        (λ i. blocks_written v.contents (by.cdb i)) ∙ sym named in
         let all = counted by.line u p.id.command refl by.is in
         omega (arith, own_blocks, all)
 
 -- It has room, and afterwards so have those that are still to run.
-pub has_room : (s : ScenarioValue) (a : Array) (dev n spare : ℕ) (p : Process) → FitsBus s → AreOfLines s a → has_target s dev ≡ true → blocks_left_at a.replies (unit_of s dev n) s.commands ≤ spare → IsOwn s dev n p → p.id.sense ≡ false → reply_in a.replies p.id ≡ None
-    → HasRoomFor (seat_of a dev n) p spare
+pub has_room : (s : ScenarioValue) (a : Array) (dev n spare : ℕ) (p : Process) → FitsBus s → AreOfLines s a
+    → has_target s dev ≡ true → blocks_left_at a.replies (unit_of s dev n) s.commands ≤ spare → IsOwn s dev n p
+    → p.id.sense ≡ false → reply_in a.replies p.id ≡ None → HasRoomFor (seat_of a dev n) p spare
 has_room s a dev n spare p fits lines target left own plain unanswered =
     let self : same_id p.id p.id ≡ true = id_self p.id in
-    let answered : reply_in ((p.id, queue_full) ∷ a.replies) p.id ≡ Some queue_full = λ i. if self i then Some queue_full else reply_in a.replies p.id in
-    let one = among s a dev n p ((p.id, queue_full) ∷ a.replies) queue_full fits lines own plain unanswered (one_more a.replies p.id queue_full) answered in
+    let answered : reply_in ((p.id, queue_full) ∷ a.replies) p.id ≡ Some queue_full =
+    λ i. if self i then Some queue_full else reply_in a.replies p.id in
+    let one = among s a dev n p ((p.id, queue_full) ∷ a.replies) queue_full fits lines own plain unanswered
+    (one_more a.replies p.id queue_full) answered in
     let declared : has_target s p.target ≡ true = (λ i. has_target s (own.target_is i)) ∙ target in
     let all : Sends a p = sends s a p fits lines declared own.is plain in
     record {
       blocks = omega (arith, one, left);
-      bytes = λ good.
-          all.bytes ((λ i. (execution (context_of (seat_of a (own.target_is i) (own.unit_is i)) p.initiator) p.cdb p.sent).reply.status) ∙ good)
-          ∙ (λ i. blocks_written (contents_of (unit_state_at a.units (own.target_is i) (own.unit_is i))) p.cdb * (contents_of (unit_state_at a.units (own.target_is i) (own.unit_is i))).size);
+      bytes = λ good. all.bytes ((λ i.
+          (execution (context_of (seat_of a (own.target_is i) (own.unit_is i)) p.initiator) p.cdb p.sent).reply.status)
+          ∙ good)
+          ∙ (λ i. blocks_written (contents_of (unit_state_at a.units (own.target_is i) (own.unit_is i))) p.cdb
+          * (contents_of (unit_state_at a.units (own.target_is i) (own.unit_is i))).size);
     }
 
 -- ---- a process of the queue is no automatic REQUEST SENSE
 
-pub plain_id : (s : ScenarioValue) (p : Process) → process_of s p.id ≡ Some p → is_request_sense (command_of p.cdb) ≡ false → p.id.sense ≡ false
+pub plain_id : (s : ScenarioValue) (p : Process) → process_of s p.id ≡ Some p
+    → is_request_sense (command_of p.cdb) ≡ false → p.id.sense ≡ false
 plain_id s p e plain = go p.id.sense refl (command_at s.commands p.id.command) e
   where
     go : (y : Bool) → p.id.sense ≡ y → (x : Option CmdDef) → process_if s p.id x ≡ Some p → y ≡ false
@@ -340,5 +404,6 @@ plain_id s p e plain = go p.id.sense refl (command_at s.commands p.id.command) e
     go true f None k = cc
     go true f (Some c) k =
         let made : process_by s p.id c ≡ p = cc in
-        let block : sense_block ≡ p.cdb = (λ i. (process_by s (record { command = p.id.command; sense = sym f i }) c).cdb) ∙ (λ i. (made i).cdb) in
+        let block : sense_block ≡ p.cdb =
+        (λ i. (process_by s (record { command = p.id.command; sense = sym f i }) c).cdb) ∙ (λ i. (made i).cdb) in
         (λ i. is_request_sense (command_of (block i))) ∙ plain

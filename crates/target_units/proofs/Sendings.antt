@@ -24,7 +24,8 @@ use Rattle.disk_array.proofs.ExecutionFacts.{good_range}
 use Rattle.target_units.proofs.UnitTellings.{reply_same}
 use Rattle.cdb_codec.specs.declared.command.Command.TheVariants as commands
 
-write_id : (s : ScenarioValue) (p : Process) → process_of s p.id ≡ Some p → is_write (command_of p.cdb) ≡ true → p.id.sense ≡ false
+write_id : (s : ScenarioValue) (p : Process) → process_of s p.id ≡ Some p → is_write (command_of p.cdb) ≡ true
+    → p.id.sense ≡ false
 write_id s p e writes = plain_id s p e (no_sense (command_of p.cdb) writes)
   where
     no_sense : (r : Result Command CdbFault) → is_write r ≡ true → is_request_sense r ≡ false
@@ -39,12 +40,15 @@ write_id s p e writes = plain_id s p e (no_sense (command_of p.cdb) writes)
     no_sense (Ok (commands.Write10 lba count)) k = refl
 
 -- The blocks of a write that is carried out are those that it names.
-pub written_named : (c : Contents) (r : Result Command CdbFault) → is_write r ≡ true → ((command : Command) → r ≡ Ok command → is_good_range c.count (range_of command) ≡ true) → blocks_written_by c r ≡ count_in (range_in r)
+pub written_named : (c : Contents) (r : Result Command CdbFault) → is_write r ≡ true
+    → ((command : Command) → r ≡ Ok command → is_good_range c.count (range_of command) ≡ true)
+    → blocks_written_by c r ≡ count_in (range_in r)
 written_named c (Err fault) k good = cc
 written_named c (Ok command) k good =
     (λ i. if good command refl i then written_of command else 0) ∙ (λ i. if k i then count_in (range_of command) else 0)
 
-pub named : (s : ScenarioValue) (a : Array) (p : Process) → FitsBus s → AreOfLines s a → has_target s p.target ≡ true → process_of s p.id ≡ Some p → is_write (command_of p.cdb) ≡ true → (reply_now a p).status ≡ GOOD
+pub named : (s : ScenarioValue) (a : Array) (p : Process) → FitsBus s → AreOfLines s a → has_target s p.target ≡ true
+    → process_of s p.id ≡ Some p → is_write (command_of p.cdb) ≡ true → (reply_now a p).status ≡ GOOD
     → count_in (range_in (command_of p.cdb)) * size_of (unit_state_at a.units p.target p.unit) ≡ length p.sent
 named s a p fits lines target is writes good =
     go (unit_state_at a.units p.target p.unit) refl
@@ -55,7 +59,8 @@ named s a p fits lines target is writes good =
     status : (execution (context_of (seat_of a p.target p.unit) p.initiator) p.cdb p.sent).reply.status ≡ GOOD
     status = (λ i. (reply_same a p.target p.unit p.initiator p.cdb p refl refl refl refl i).status) ∙ good
 
-    go : (x : Option UnitState) → unit_state_at a.units p.target p.unit ≡ x → count_in (range_in (command_of p.cdb)) * size_of (unit_state_at a.units p.target p.unit) ≡ length p.sent
+    go : (x : Option UnitState) → unit_state_at a.units p.target p.unit ≡ x
+        → count_in (range_in (command_of p.cdb)) * size_of (unit_state_at a.units p.target p.unit) ≡ length p.sent
     go None f =
         let blocks : ℕ = blocks_written (contents_of (unit_state_at a.units p.target p.unit)) p.cdb in
         let count : ℕ = count_in (range_in (command_of p.cdb)) in
@@ -63,6 +68,10 @@ named s a p fits lines target is writes good =
         (λ i. count * size_of (f i)) ∙ nothing ∙ (λ i. blocks * (contents_of (sym f i)).size) ∙ sym (all.bytes status)
     go (Some v) f =
         let there : is_some (unit_state_at a.units p.target p.unit) ≡ true = λ i. is_some (f i) in
-        let count : blocks_written_by (contents_of (unit_state_at a.units p.target p.unit)) (command_of p.cdb) ≡ count_in (range_in (command_of p.cdb)) =
-        written_named (contents_of (unit_state_at a.units p.target p.unit)) (command_of p.cdb) writes (λ command e. good_range (context_of (seat_of a p.target p.unit) p.initiator) p.cdb p.sent command e status) in
-        (λ i. sym count i * size_of (f i)) ∙ (λ i. blocks_written (contents_of (unit_state_at a.units p.target p.unit)) p.cdb * (contents_of (sym f i)).size) ∙ sym (all.bytes status)
+        let count : blocks_written_by (contents_of (unit_state_at a.units p.target p.unit)) (command_of p.cdb)
+        ≡ count_in (range_in (command_of p.cdb)) = written_named
+        (contents_of (unit_state_at a.units p.target p.unit)) (command_of p.cdb) writes
+        (λ command e. good_range (context_of (seat_of a p.target p.unit) p.initiator) p.cdb p.sent command e status) in
+        (λ i. sym count i * size_of (f i))
+        ∙ (λ i. blocks_written (contents_of (unit_state_at a.units p.target p.unit)) p.cdb
+        * (contents_of (sym f i)).size) ∙ sym (all.bytes status)

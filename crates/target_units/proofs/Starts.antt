@@ -1,5 +1,6 @@
 -- A unit before any event is that of the starting array.
-use Rattle.std.proofs.Common.{ℕ, zero, suc, replicate, Result, Ok, Err, ◌≡◌, ◌<◌, ◌^◌, cond, arith, Bool, true, false, List, [], ◌∷◌, ◌∙◌, refl, sym, ap, subst, length, Option, Some, None}
+use Rattle.std.proofs.Common.{ℕ, zero, suc, replicate, Result, Ok, Err, ◌≡◌, ◌<◌, ◌^◌, cond, arith, Bool, true, false}
+use Rattle.std.proofs.Common.{List, [], ◌∷◌, ◌∙◌, refl, sym, ap, subst, length, Option, Some, None}
 use Rattle.std.specs.Prelude.{nat_lt, if◌then◌else◌, IfOk, ◌==◌, ◌&&◌}
 use Rattle.bus_base.specs.declared.events.Pick.{Pick}
 use Rattle.scenario.specs.declared.value.FillDef.{FillDef}
@@ -7,7 +8,8 @@ use Rattle.scenario.specs.declared.value.UnitDef.{UnitDef}
 use Rattle.scenario.specs.Value.{ScenarioValue}
 use Rattle.disk_array.specs.Contents.{Contents, starting_contents, with_block}
 use Rattle.disk_array.specs.Seats.{seat_of}
-use Rattle.disk_array.specs.Units.{Array, UnitState, starting_array, starting_unit, starting_units, units_after_choice, settled_array, pick_of}
+use Rattle.disk_array.specs.Units.{Array, UnitState, starting_array, starting_unit, starting_units, units_after_choice}
+use Rattle.disk_array.specs.Units.{settled_array, pick_of}
 use Rattle.bus_due.specs.Wants.{since_of}
 use Rattle.target_units.specs.declared.logical.LogicalUnit.{LogicalUnit}
 use Rattle.target_units.specs.Units.{IsUnitOf, AreUnitsOf, HaveRoom, unit_in}
@@ -30,16 +32,21 @@ use Rattle.scsi_device.proofs.Finds.{none_some, some_is}
 use Rattle.scsi_device.proofs.FitLines.{starts_none}
 use Rattle.std.proofs.lemmas.Bool.{eqb-true, and_parts}
 
-pub fresh_at : (s : ScenarioValue) (u : UnitDef) (pick : Pick) (fills : List FillDef) (written : ℕ) (v : SeatedState) → IsFresh u pick fills written v → s.fills ≡ fills → pick ≡ pick_of s.targets u.target
-    → (seat_of (starting_array s) u.target u.unit).unit ≡ Some (starting_unit s u) → IsAtSeat s.hosts (seat_of (starting_array s) u.target u.unit) 0 v
+pub fresh_at : (s : ScenarioValue) (u : UnitDef) (pick : Pick) (fills : List FillDef) (written : ℕ) (v : SeatedState)
+    → IsFresh u pick fills written v → s.fills ≡ fills → pick ≡ pick_of s.targets u.target
+    → (seat_of (starting_array s) u.target u.unit).unit ≡ Some (starting_unit s u)
+    → IsAtSeat s.hosts (seat_of (starting_array s) u.target u.unit) 0 v
 fresh_at s u pick fills written v h same picks there =
-    let books : IsUnitAt s.hosts [] (starting_contents u s.fills) (starting_unit s u) (seat_of (starting_array s) u.target u.unit) v.books =
-    subst (λ (b : UnitBooks). IsUnitAt s.hosts [] (starting_contents u s.fills) (starting_unit s u) (seat_of (starting_array s) u.target u.unit) b) (sym h.books)
+    let books : IsUnitAt s.hosts [] (starting_contents u s.fills) (starting_unit s u)
+    (seat_of (starting_array s) u.target u.unit) v.books = subst (λ (b : UnitBooks). IsUnitAt s.hosts []
+    (starting_contents u s.fills) (starting_unit s u) (seat_of (starting_array s) u.target u.unit) b) (sym h.books)
     (seats.started s u u.target u.unit v.books.queue.keys v.books.blocks there) in (
       [],
       starting_unit s u,
       record {
-        kept = subst (λ (c : Contents). IsUnitAt s.hosts [] c (starting_unit s u) (seat_of (starting_array s) u.target u.unit) v.books) ((λ i. starting_contents u (same i)) ∙ sym h.contents) books;
+        kept = subst (λ (c : Contents). IsUnitAt s.hosts [] c (starting_unit s u)
+            (seat_of (starting_array s) u.target u.unit) v.books)
+            ((λ i. starting_contents u (same i)) ∙ sym h.contents) books;
         queued = tt;
         pick = h.pick_is ∙ picks;
         reply = h.reply;
@@ -49,7 +56,8 @@ fresh_at s u pick fills written v h same picks there =
 
 -- ---- a fill changes no number of blocks, nor their size
 
-pub fill_count : (y : Bool) (c : Contents) (lba : ℕ) (block : List ℕ) → (if y then with_block c lba block else c).count ≡ c.count
+pub fill_count : (y : Bool) (c : Contents) (lba : ℕ) (block : List ℕ)
+    → (if y then with_block c lba block else c).count ≡ c.count
 fill_count true c lba block = refl
 fill_count false c lba block = refl
 
@@ -59,7 +67,8 @@ if_ok P Q f (Err e) h = h
 
 -- ---- the starting array
 
-chosen_start : (s : ScenarioValue) (us : List UnitDef) → units_after_choice [] (starting_units s us) ≡ starting_units s us
+chosen_start : (s : ScenarioValue) (us : List UnitDef)
+    → units_after_choice [] (starting_units s us) ≡ starting_units s us
 chosen_start s [] = refl
 chosen_start s (u ∷ us) = λ i. starting_unit s u ∷ chosen_start s us i
 
@@ -83,59 +92,76 @@ since_start (u ∷ us) (suc k) t n = go (u.target == t && u.unit == n) (since_st
     go true h = refl
     go false h = h
 
-pub units_start : (s : ScenarioValue) (dev : ℕ) (units : List LogicalUnit) → length units ≡ 8 → ((n : ℕ) → n < 8 → IsUnitOf s.hosts (seat_of (starting_array s) dev n) 0 (unit_in units n))
-    → HaveRoom s (starting_array s) dev units → AreUnitsOf s (settled_array (starting_array s)) (replicate (length s.units) 0) dev units
+pub units_start : (s : ScenarioValue) (dev : ℕ) (units : List LogicalUnit) → length units ≡ 8
+    → ((n : ℕ) → n < 8 → IsUnitOf s.hosts (seat_of (starting_array s) dev n) 0 (unit_in units n))
+    → HaveRoom s (starting_array s) dev units
+    → AreUnitsOf s (settled_array (starting_array s)) (replicate (length s.units) 0) dev units
 units_start s dev units eight h room =
     subst (λ (a : Array). AreUnitsOf s a (replicate (length s.units) 0) dev units) (sym (start_settled s))
     (record {
       timed = times_length (length s.units) ∙ sym (start_length s s.units);
       eight = eight;
-      each = λ n lt. subst (λ (t : ℕ). IsUnitOf s.hosts (seat_of (starting_array s) dev n) t (unit_in units n)) (sym (since_start (starting_units s s.units) (length s.units) dev n)) (h n lt);
+      each = λ n lt. subst (λ (t : ℕ). IsUnitOf s.hosts (seat_of (starting_array s) dev n) t (unit_in units n))
+          (sym (since_start (starting_units s s.units) (length s.units) dev n)) (h n lt);
       room = room;
     })
 
 -- ---- the unit of a line, and one that is not there
 
 -- The fills of a unit are of its blocks.
-filled : (s : ScenarioValue) (u : UnitDef) (fills : List FillDef) → unit_of s u.target u.unit ≡ Some u → AllByRecursion (λ (f : FillDef). is_block_in (unit_of s f.target f.unit) f.lba f.bytes ≡ true) fills → AreFilled u fills
+filled : (s : ScenarioValue) (u : UnitDef) (fills : List FillDef) → unit_of s u.target u.unit ≡ Some u
+    → AllByRecursion (λ (f : FillDef). is_block_in (unit_of s f.target f.unit) f.lba f.bytes ≡ true) fills
+    → AreFilled u fills
 filled s u [] e a = tt
 filled s u (f ∷ fills) e a = (one, filled s u fills e a.1)
   where
     one : is_filled_by u f ≡ true → (f.lba < u.blocks) × (length f.bytes ≡ u.size)
     one h =
         let both = and_parts (f.target == u.target) (f.unit == u.unit) h in
-        let is : unit_of s f.target f.unit ≡ Some u = (λ i. unit_of s (eqb-true f.target u.target both.0 i) (eqb-true f.unit u.unit both.1 i)) ∙ e in
+        let is : unit_of s f.target f.unit ≡ Some u =
+        (λ i. unit_of s (eqb-true f.target u.target both.0 i) (eqb-true f.unit u.unit both.1 i)) ∙ e in
         let block : is_block_of u f.lba f.bytes ≡ true = (λ i. is_block_in (sym is i) f.lba f.bytes) ∙ a.0 in
         let within = and_parts (nat_lt f.lba u.blocks && nat_lt f.lba (2 ^ 32)) (length f.bytes == u.size) block in
         let below = (and_parts (nat_lt f.lba u.blocks) (nat_lt f.lba (2 ^ 32)) within.0).0 in
         (grind (arith, nat_tests, below), eqb-true (length f.bytes) u.size within.1)
 
-pub line_filled : (s : ScenarioValue) (u : UnitDef) → FitsBus s → unit_of s u.target u.unit ≡ Some u → AreFilled u s.fills
+pub line_filled : (s : ScenarioValue) (u : UnitDef) → FitsBus s → unit_of s u.target u.unit ≡ Some u
+    → AreFilled u s.fills
 line_filled s u fits e = filled s u s.fills e fits.fills
 
-picked : (targets : List TargetDef) (dev : ℕ) (t : TargetDef) → find (λ (x : TargetDef). x.dev == dev) targets ≡ Some t → t.pick ≡ pick_of targets dev
+picked : (targets : List TargetDef) (dev : ℕ) (t : TargetDef) → find (λ (x : TargetDef). x.dev == dev) targets ≡ Some t
+    → t.pick ≡ pick_of targets dev
 picked [] dev t e = absurd (none_some t e)
 picked (x ∷ targets) dev t e = go (x.dev == dev) e (λ k. picked targets dev t k)
   where
-    go : (y : Bool) → cond y (Some x) (find (λ (z : TargetDef). z.dev == dev) targets) ≡ Some t → (find (λ (z : TargetDef). z.dev == dev) targets ≡ Some t → t.pick ≡ pick_of targets dev) → t.pick ≡ (if y then x.pick else pick_of targets dev)
+    go : (y : Bool) → cond y (Some x) (find (λ (z : TargetDef). z.dev == dev) targets) ≡ Some t
+        → (find (λ (z : TargetDef). z.dev == dev) targets ≡ Some t → t.pick ≡ pick_of targets dev)
+        → t.pick ≡ (if y then x.pick else pick_of targets dev)
     go true k more = λ i. (sym (some_is x t k) i).pick
     go false k more = more k
 
 pub pick_is : (s : ScenarioValue) (t : TargetDef) → target_def_of s t.dev ≡ Some t → t.pick ≡ pick_of s.targets t.dev
 pick_is s t e = picked s.targets t.dev t e
 
-pub absent_at : (s : ScenarioValue) (dev n : ℕ) → unit_of s dev n ≡ None → IsAbsentAt (seat_of (starting_array s) dev n) nothing_kept
+pub absent_at : (s : ScenarioValue) (dev n : ℕ) → unit_of s dev n ≡ None
+    → IsAbsentAt (seat_of (starting_array s) dev n) nothing_kept
 absent_at s dev n e = starts s dev n (starts_none s s.units dev n e)
 
 -- A line that was looked for.
-pub found_line : (units lines : List UnitDef) (dev n : ℕ) (o line : Option UnitDef) → line ≡ find (λ (u : UnitDef). u.target == dev && u.unit == n) lines → lines ≡ units → line ≡ o → find (λ (u : UnitDef). u.target == dev && u.unit == n) units ≡ o
-found_line units lines dev n o line found same is = (λ i. find (λ (u : UnitDef). u.target == dev && u.unit == n) (sym same i)) ∙ sym found ∙ is
+pub found_line : (units lines : List UnitDef) (dev n : ℕ) (o line : Option UnitDef)
+    → line ≡ find (λ (u : UnitDef). u.target == dev && u.unit == n) lines → lines ≡ units → line ≡ o
+    → find (λ (u : UnitDef). u.target == dev && u.unit == n) units ≡ o
+found_line units lines dev n o line found same is =
+    (λ i. find (λ (u : UnitDef). u.target == dev && u.unit == n) (sym same i)) ∙ sym found ∙ is
 
-pub seated_place : (s : ScenarioValue) (a b c d : ℕ) (v : SeatedState) → a ≡ c → b ≡ d → IsAtSeat s.hosts (seat_of (starting_array s) a b) 0 v → IsAtSeat s.hosts (seat_of (starting_array s) c d) 0 v
-seated_place s a b c d v x y h = subst (λ (n : ℕ). IsAtSeat s.hosts (seat_of (starting_array s) c n) 0 v) y (subst (λ (t : ℕ). IsAtSeat s.hosts (seat_of (starting_array s) t b) 0 v) x h)
+pub seated_place : (s : ScenarioValue) (a b c d : ℕ) (v : SeatedState) → a ≡ c → b ≡ d
+    → IsAtSeat s.hosts (seat_of (starting_array s) a b) 0 v → IsAtSeat s.hosts (seat_of (starting_array s) c d) 0 v
+seated_place s a b c d v x y h = subst (λ (n : ℕ). IsAtSeat s.hosts (seat_of (starting_array s) c n) 0 v) y
+    (subst (λ (t : ℕ). IsAtSeat s.hosts (seat_of (starting_array s) t b) 0 v) x h)
 
 -- What holds of each of eight holds of all.
-pub eight_units : (P : ℕ → LogicalUnit → Type 0) (a b c d e f g h : LogicalUnit) → P 0 a → P 1 b → P 2 c → P 3 d → P 4 e → P 5 f → P 6 g → P 7 h → (n : ℕ) → n < 8 → P n (unit_in (a ∷ b ∷ c ∷ d ∷ e ∷ f ∷ g ∷ h ∷ []) n)
+pub eight_units : (P : ℕ → LogicalUnit → Type 0) (a b c d e f g h : LogicalUnit) → P 0 a → P 1 b → P 2 c → P 3 d → P 4 e
+    → P 5 f → P 6 g → P 7 h → (n : ℕ) → n < 8 → P n (unit_in (a ∷ b ∷ c ∷ d ∷ e ∷ f ∷ g ∷ h ∷ []) n)
 eight_units P a b c d e f g h pa pb pc pd pe pf pg ph zero lt = pa
 eight_units P a b c d e f g h pa pb pc pd pe pf pg ph (suc zero) lt = pb
 eight_units P a b c d e f g h pa pb pc pd pe pf pg ph (suc (suc zero)) lt = pc
@@ -144,4 +170,5 @@ eight_units P a b c d e f g h pa pb pc pd pe pf pg ph (suc (suc (suc (suc zero))
 eight_units P a b c d e f g h pa pb pc pd pe pf pg ph (suc (suc (suc (suc (suc zero))))) lt = pf
 eight_units P a b c d e f g h pa pb pc pd pe pf pg ph (suc (suc (suc (suc (suc (suc zero)))))) lt = pg
 eight_units P a b c d e f g h pa pb pc pd pe pf pg ph (suc (suc (suc (suc (suc (suc (suc zero))))))) lt = ph
-eight_units P a b c d e f g h pa pb pc pd pe pf pg ph (suc (suc (suc (suc (suc (suc (suc (suc n)))))))) lt = absurd (omega (arith, lt))
+eight_units P a b c d e f g h pa pb pc pd pe pf pg ph (suc (suc (suc (suc (suc (suc (suc (suc n)))))))) lt =
+    absurd (omega (arith, lt))

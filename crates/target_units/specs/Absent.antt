@@ -1,5 +1,6 @@
 -- What a target keeps of a logical unit that is not there, and what it answers for it.
-use Rattle.std.specs.Prelude.{◌≡◌, ℕ, ◌<◌, ◌==◌, ◌&&◌, min, Bool, true, false, List, length, take, Option, Some, None, Result, Ok, slice_index_or, slice_set, replicate, if◌then◌else◌}
+use Rattle.std.specs.Prelude.{◌≡◌, ℕ, ◌<◌, ◌==◌, ◌&&◌, min, Bool, true, false, List, length, take, Option, Some, None}
+use Rattle.std.specs.Prelude.{Result, Ok, slice_index_or, slice_set, replicate, if◌then◌else◌}
 use Rattle.bus_base.specs.declared.AbortKind.{AbortKind}
 use Rattle.bus_base.specs.declared.AbortKind.TheVariants as aborts
 use Rattle.cdb_codec.specs.declared.Sense.{Sense}
@@ -12,7 +13,8 @@ use Rattle.cdb_codec.specs.declared.sense.TheConstants.{ILLEGAL_REQUEST}
 use Rattle.cdb_codec.specs.declared.status.TheConstants.{GOOD, CHECK_CONDITION}
 use Rattle.cdb_codec.specs.Cdb.{command_of}
 use Rattle.cdb_codec.specs.Replies.{sense_data, inquiry_data}
-use Rattle.disk_array.specs.Execution.{Reply, good, check_condition, invalid_field, unit_not_supported, is_opcode, returned_sense, sense_of}
+use Rattle.disk_array.specs.Execution.{Reply, good, check_condition, invalid_field, unit_not_supported, is_opcode}
+use Rattle.disk_array.specs.Execution.{returned_sense, sense_of}
 use Rattle.disk_array.specs.Seats.{Seat}
 use Rattle.disk_unit.specs.declared.media.Plan.{Plan}
 use Rattle.disk_unit.specs.declared.unit.Reply.{Reply as UnitReply}
@@ -73,12 +75,14 @@ data_or_refusal (Some room) most bytes sense = good (take (min room most) bytes)
 -- By whether the operation code is that of INQUIRY.
 abbrev pub absent_reply_by : Option Sense → Bool → Result Command CdbFault → Reply
 absent_reply_by stored true r = data_or_refusal (inquiry_room r) INQUIRY_LEN (inquiry_data false) invalid_field
-absent_reply_by stored false r = data_or_refusal (sense_room r) SENSE_LEN (sense_data (returned_sense false stored)) unit_not_supported
+absent_reply_by stored false r =
+    data_or_refusal (sense_room r) SENSE_LEN (sense_data (returned_sense false stored)) unit_not_supported
 
 abbrev pub absent_reply : AbsentState → ℕ → List ℕ → Reply
 absent_reply v from cdb = absent_reply_by (slice_index_or v.senses from None) (is_opcode cdb INQUIRY) (command_of cdb)
 
 -- How it would end.
 abbrev pub plan_in : Option ℕ → ℕ → ℕ → Plan
-plan_in None most asc = record { status = CHECK_CONDITION; sense = Some (sense_of ILLEGAL_REQUEST asc 0x00); in_len = 0; out_len = 0 }
+plan_in None most asc =
+    record { status = CHECK_CONDITION; sense = Some (sense_of ILLEGAL_REQUEST asc 0x00); in_len = 0; out_len = 0 }
 plan_in (Some room) most asc = record { status = GOOD; sense = None; in_len = min room most; out_len = 0 }

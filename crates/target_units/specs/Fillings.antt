@@ -1,5 +1,6 @@
 -- What a unit holds at the start.
-use Rattle.std.specs.Prelude.{◌≡◌, ℕ, suc, ◌+◌, ◌<◌, ◌≤◌, ◌==◌, ◌&&◌, Bool, true, List, [], ◌∷◌, length, Option, Some, None, if◌then◌else◌}
+use Rattle.std.specs.Prelude.{◌≡◌, ℕ, suc, ◌+◌, ◌<◌, ◌≤◌, ◌==◌, ◌&&◌, Bool, true, List, [], ◌∷◌, length, Option, Some}
+use Rattle.std.specs.Prelude.{None, if◌then◌else◌}
 use Rattle.bus_base.specs.declared.events.Pick.{Pick}
 use Rattle.scenario.specs.declared.value.CmdDef.{CmdDef}
 use Rattle.scenario.specs.declared.value.FillDef.{FillDef}
@@ -24,7 +25,8 @@ fill_count u (f ∷ fills) = if is_filled_by u f then suc (fill_count u fills) e
 
 -- How many blocks a command writes at the unit.
 abbrev pub blocks_by : UnitDef → CmdDef → ℕ
-blocks_by u c = if c.target == u.target && c.unit == u.unit then blocks_written (blank_contents u.blocks u.size) c.cdb else 0
+blocks_by u c =
+    if c.target == u.target && c.unit == u.unit then blocks_written (blank_contents u.blocks u.size) c.cdb else 0
 
 abbrev pub blocks_by_all : UnitDef → List CmdDef → ℕ
 blocks_by_all u [] = 0

@@ -1,5 +1,6 @@
 -- The memory that the units of a target have for the blocks that are still written for the first time.
-use Rattle.std.specs.Prelude.{◌≡◌, ℕ, suc, ◌+◌, ◌*◌, ◌≤◌, Bool, false, List, [], ◌∷◌, length, Option, Some, None, is_none, if◌then◌else◌}
+use Rattle.std.specs.Prelude.{◌≡◌, ℕ, suc, ◌+◌, ◌*◌, ◌≤◌, Bool, false, List, [], ◌∷◌, length, Option, Some, None}
+use Rattle.std.specs.Prelude.{is_none, if◌then◌else◌}
 use Rattle.bus_base.specs.declared.ProcId.{ProcId}
 use Rattle.cdb_codec.specs.declared.status.TheConstants.{GOOD}
 use Rattle.scenario.specs.declared.value.CmdDef.{CmdDef}
@@ -20,10 +21,12 @@ use Rattle.target_units.specs.Fillings.{blocks_by}
 abbrev pub is_unanswered : List (ProcId × Reply) → ℕ → Bool
 is_unanswered replies n = is_none (reply_in replies (record { command = n; sense = false }))
 
--- How many blocks these commands write at the unit, the first of which has this number, but for those that have a reply.
+-- How many blocks these commands write at the unit, the first of which has this number, but for those that have a
+-- reply.
 abbrev pub blocks_left : List (ProcId × Reply) → UnitDef → ℕ → List CmdDef → ℕ
 blocks_left replies u n [] = 0
-blocks_left replies u n (c ∷ commands) = (if is_unanswered replies n then blocks_by u c else 0) + blocks_left replies u (suc n) commands
+blocks_left replies u n (c ∷ commands) =
+    (if is_unanswered replies n then blocks_by u c else 0) + blocks_left replies u (suc n) commands
 
 -- The same of the commands of a scenario, which are counted from 1, where the unit need not be there.
 abbrev pub blocks_left_at : List (ProcId × Reply) → Option UnitDef → List CmdDef → ℕ
@@ -46,4 +49,5 @@ AreOfLines s a = (target unit : ℕ) → IsOfLine (unit_of s target unit) (unit_
 -- There is memory for the blocks that it writes, and where it is carried out it sends their bytes.
 pub record HasRoomFor (seat : Seat) (p : Process) (spare : ℕ) : Type 0 where
   pub blocks : blocks_written (contents_of seat.unit) p.cdb ≤ spare
-  pub bytes : (execution (context_of seat p.initiator) p.cdb p.sent).reply.status ≡ GOOD → length p.sent ≡ blocks_written (contents_of seat.unit) p.cdb * (contents_of seat.unit).size
+  pub bytes : (execution (context_of seat p.initiator) p.cdb p.sent).reply.status ≡ GOOD
+      → length p.sent ≡ blocks_written (contents_of seat.unit) p.cdb * (contents_of seat.unit).size

@@ -1,5 +1,6 @@
 -- A logical unit at its seat of the plain disk array, with what its target keeps beside it.
-use Rattle.std.specs.Prelude.{◌≡◌, ℕ, ◌<◌, ◌≤◌, ◌+◌, ◌*◌, ◌==◌, ◌&&◌, Bool, true, false, List, [], ◌∷◌, length, Option, Some, None, nat_le, nat_lt, not, take, slice_index_or, if◌then◌else◌}
+use Rattle.std.specs.Prelude.{◌≡◌, ℕ, ◌<◌, ◌≤◌, ◌+◌, ◌*◌, ◌==◌, ◌&&◌, Bool, true, false, List, [], ◌∷◌, length, Option}
+use Rattle.std.specs.Prelude.{Some, None, nat_le, nat_lt, not, take, slice_index_or, if◌then◌else◌}
 use Rattle.bus_base.specs.declared.AbortKind.{AbortKind}
 use Rattle.bus_base.specs.declared.ProcId.{ProcId}
 use Rattle.bus_base.specs.declared.events.Class.{Class}
@@ -18,7 +19,8 @@ use Rattle.disk_array.specs.Steps.{running_if, process_count}
 use Rattle.disk_array.specs.Seats.{Seat, current_of, context_of, is_initiator, is_waiting_at}
 use Rattle.tag_queue.specs.Queue.{Queued, has_key, entry_at, is_held}
 use Rattle.disk_unit.specs.AtSeats.{IsUnitAt}
-use Rattle.disk_unit.specs.Books.{UnitBooks, block_at, attention_at, initiator_at, books_with, books_after_choice, books_after_end, books_without, books_with_sense, books_without_sense}
+use Rattle.disk_unit.specs.Books.{UnitBooks, block_at, attention_at, initiator_at, books_with, books_after_choice}
+use Rattle.disk_unit.specs.Books.{books_after_end, books_without, books_with_sense, books_without_sense}
 use Rattle.disk_unit.specs.Disk.{disk_execution, disk_reply, blocks_written}
 use Rattle.disk_unit.specs.LiveCommands.{LiveCommand}
 use Rattle.disk_unit.specs.Units.{IsAborted, is_reported, bytes_taken, books_if_reported, unit_reply, told_of}
@@ -64,7 +66,8 @@ AreQueued hosts guests (x ∷ live) =
     × AreQueued hosts guests live
 
 -- The unit of this seat is this one, with these live commands, and its current process is that since this time.
-pub record IsSeated (hosts : List HostDef) (live : List LiveCommand) (u : UnitState) (seat : Seat) (time : ℕ) (v : SeatedState) : Type 0 where
+pub record IsSeated (hosts : List HostDef) (live : List LiveCommand) (u : UnitState) (seat : Seat) (time : ℕ)
+    (v : SeatedState) : Type 0 where
   pub kept : IsUnitAt hosts live v.contents u seat v.books
   pub queued : AreQueued hosts seat.guests live
   pub pick : v.pick ≡ u.pick
@@ -132,7 +135,8 @@ with_books v b = record v { books = b }
 -- ---- a command arrives
 
 -- What the target has of a process as its command arrives.
-pub record IsProcess (p : Process) (id : ProcId) (from : ℕ) (tag : Option ℕ) (class : Class) (cdb : List ℕ) : Type 0 where
+pub record IsProcess (p : Process) (id : ProcId) (from : ℕ) (tag : Option ℕ) (class : Class) (cdb : List ℕ) : Type
+    0 where
   pub id_is : p.id ≡ id
   pub from_is : p.initiator ≡ from
   pub tag_is : tag_number p.tag ≡ tag
@@ -172,7 +176,8 @@ is_reported_at b key = is_reported (attention_at b key) (block_at b key)
 -- The command of this key ran, with these bytes.
 pub record IsRun (v : SeatedState) (key : ℕ) (sent : List ℕ) (new : SeatedState) : Type 0 where
   pub books : new.books ≡ books_if_reported v.books (is_reported_at v.books key) (initiator_at v.books key)
-  pub contents : new.contents ≡ (if is_reported_at v.books key then v.contents else (disk_execution v.contents (block_at v.books key) sent).contents)
+  pub contents : new.contents ≡ (if is_reported_at v.books key then v.contents
+      else (disk_execution v.contents (block_at v.books key) sent).contents)
   pub pick : new.pick ≡ v.pick
   pub reply : new.reply ≡ Some (told_of (unit_reply v.books key (disk_reply v.contents (block_at v.books key))))
   pub since : new.since ≡ v.since
@@ -182,7 +187,8 @@ pub record IsRun (v : SeatedState) (key : ℕ) (sent : List ℕ) (new : SeatedSt
 abbrev pub IsRunLive : SeatedState → List ℕ → Option ℕ → Option UnitReply → SeatedState → Type 0
 IsRunLive v sent None reply new = (reply ≡ None) × (new ≡ v)
 IsRunLive v sent (Some key) None new = (can_run v key (length sent) ≡ false) × (new ≡ v)
-IsRunLive v sent (Some key) (Some reply) new = (can_run v key (length sent) ≡ true) × IsRun v key (take (taken_at v key) sent) new × (Some reply ≡ new.reply)
+IsRunLive v sent (Some key) (Some reply) new =
+    (can_run v key (length sent) ≡ true) × IsRun v key (take (taken_at v key) sent) new × (Some reply ≡ new.reply)
 
 -- Where the command is carried out, these are the bytes of the process.
 abbrev pub HasSent : Seat → Process → List ℕ → Type 0
@@ -191,8 +197,10 @@ HasSent seat p sent = (execution (context_of seat p.initiator) p.cdb p.sent).rep
 -- ---- a command fails
 
 abbrev pub state_after_failure : SeatedState → ProcId → ℕ → SeatedState
-state_after_failure v id code =
-    record v { reply = if is_same_process (current_id v.books) (Some id) then Some (told_of (aborted_reply code)) else v.reply }
+state_after_failure v id code = record v {
+  reply =
+      if is_same_process (current_id v.books) (Some id) then Some (told_of (aborted_reply code)) else v.reply;
+}
 
 -- ---- a command leaves
 

@@ -1,5 +1,6 @@
 -- The eight logical units of a target, there or not, each at its seat of the plain disk array.
-use Rattle.std.specs.Prelude.{◌≡◌, ℕ, ◌<◌, ◌≤◌, ◌+◌, ◌^◌, ◌==◌, ◌&&◌, ◌||◌, Bool, true, false, List, [], length, Option, Some, None, nat_lt, slice_index_or, if◌then◌else◌}
+use Rattle.std.specs.Prelude.{◌≡◌, ℕ, ◌<◌, ◌≤◌, ◌+◌, ◌^◌, ◌==◌, ◌&&◌, ◌||◌, Bool, true, false, List, [], length, Option}
+use Rattle.std.specs.Prelude.{Some, None, nat_lt, slice_index_or, if◌then◌else◌}
 use Rattle.bus_base.specs.declared.AbortKind.{AbortKind}
 use Rattle.bus_base.specs.declared.AbortKind.TheVariants as aborts
 use Rattle.bus_base.specs.declared.Event.{Event}
@@ -54,9 +55,10 @@ pub record HaveRoom (s : ScenarioValue) (a : Array) (dev : ℕ) (units : List Lo
   pub lines : AreOfLines s a
   pub left : (n : ℕ) → n < 8 → blocks_left_at a.replies (unit_of s dev n) s.commands ≤ spare_of (unit_in units n)
 
--- These are the units of this target, whose current processes are that since these times, which stand beside the units of
--- the array.
-pub record AreUnitsOf (s : ScenarioValue) (a : Array) (times : List ℕ) (dev : ℕ) (units : List LogicalUnit) : Type 0 where
+-- These are the units of this target, whose current processes are that since these times, which stand beside the units
+-- of the array.
+pub record AreUnitsOf (s : ScenarioValue) (a : Array) (times : List ℕ) (dev : ℕ) (units : List LogicalUnit) : Type
+    0 where
   pub timed : length times ≡ length a.units
   pub eight : length units ≡ 8
   pub each : (n : ℕ) → n < 8 → IsUnitOf s.hosts (seat_of a dev n) (since_of a.units times dev n) (unit_in units n)

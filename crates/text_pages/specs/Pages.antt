@@ -18,20 +18,23 @@ place written faults page = record { written = written; faults = faults; held = 
 -- raised the count of faults; after it nothing is written.
 abbrev pub IsSent : Bool → Bool → Option (List ℕ) → Option (List ℕ) → ℕ → ℕ → List ℕ → Type 0
 IsSent false false old new before after piece = IfSome old (λ xs. new ≡ Some (xs ++ piece))
-IsSent false true old new before after piece = IfSome old (λ xs. (k : ℕ) × (new ≡ Some (xs ++ take k piece))) × HasRisen before after
+IsSent false true old new before after piece =
+    IfSome old (λ xs. (k : ℕ) × (new ≡ Some (xs ++ take k piece))) × HasRisen before after
 IsSent true true old new before after piece = new ≡ old
 IsSent true false old new before after piece = ⊥
 
 -- A sink took more bytes, and with `rest` after them they are those that stood on the page before and this
 -- text.
 abbrev pub Takes : Option (List ℕ) → Option (List ℕ) → List ℕ → List ℕ → List ℕ → Type 0
-Takes old new held rest text = IfSome old (λ xs. (taken : List ℕ) × (new ≡ Some (xs ++ taken)) × (taken ++ rest ≡ held ++ text))
+Takes old new held rest text =
+    IfSome old (λ xs. (taken : List ℕ) × (new ≡ Some (xs ++ taken)) × (taken ++ rest ≡ held ++ text))
 
 -- The text follows what was put before; from the write on that fails, which raises the count of faults, all
 -- is lost.
 abbrev pub IsPut : Bool → Bool → Place → Place → List ℕ → Type 0
 IsPut false false old new text = Takes old.written new.written old.held new.held text
-IsPut false true old new text = ((rest : List ℕ) × Takes old.written new.written old.held rest text) × HasRisen old.faults new.faults
+IsPut false true old new text =
+    ((rest : List ℕ) × Takes old.written new.written old.held rest text) × HasRisen old.faults new.faults
 IsPut true true old new text = new.written ≡ old.written
 IsPut true false old new text = ⊥
 
@@ -43,4 +46,5 @@ pub record Puts (old new : Place) (text : List ℕ) : Type 0 where
 -- This text was put to a sink by way of a page. It is given what tells the bytes of a sink and what counts its faults,
 -- the sink before and after, and the page before and after.
 abbrev pub Prints : {K : Type 0} → (K → Option (List ℕ)) → (K → ℕ) → K → K → Page → Page → List ℕ → Type 0
-Prints bytes faults old new page rest text = Puts (place (bytes old) (faults old) page) (place (bytes new) (faults new) rest) text
+Prints bytes faults old new page rest text =
+    Puts (place (bytes old) (faults old) page) (place (bytes new) (faults new) rest) text

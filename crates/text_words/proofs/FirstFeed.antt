@@ -1,5 +1,6 @@
 -- The first line of a text.
-use Rattle.std.proofs.Common.{◌≡◌, ℕ, suc, ◌+◌, ◌-◌, ◌<◌, ◌≤◌, Bool, true, false, cond, ltb, List, [], ◌∷◌, Some, None, refl, sym, subst, ap, take_all, ◌∙◌, arith, drop, length, take}
+use Rattle.std.proofs.Common.{◌≡◌, ℕ, suc, ◌+◌, ◌-◌, ◌<◌, ◌≤◌, Bool, true, false, cond, ltb, List, [], ◌∷◌, Some, None}
+use Rattle.std.proofs.Common.{refl, sym, subst, ap, take_all, ◌∙◌, arith, drop, length, take}
 use Rattle.std.specs.Prelude.{◌==◌}
 use Rattle.std.specs.List.{position_or_len, position}
 use Rattle.std.proofs.lemmas.Option.{cond_some}
@@ -14,7 +15,8 @@ abbrev pub ended_line : List ℕ → Line
 ended_line text = record { text = text; ended = true }
 
 abbrev pub AtFeed : List ℕ → Type 0
-AtFeed bs = feed_at bs < length bs → lines_of bs ≡ ended_line (take (feed_at bs) bs) ∷ lines_of (drop (feed_at bs + 1) bs)
+AtFeed bs =
+    feed_at bs < length bs → lines_of bs ≡ ended_line (take (feed_at bs) bs) ∷ lines_of (drop (feed_at bs + 1) bs)
 
 at_feed_step : (b : ℕ) (bs : List ℕ) → AtFeed bs → (q : Bool) → (b == 10) ≡ q → AtFeed (b ∷ bs)
 at_feed_step b bs ih true e lt = rw e refl
@@ -22,11 +24,13 @@ at_feed_step b bs ih false e lt =
     let f : feed_at (b ∷ bs) ≡ 1 + feed_at bs = rw e refl in
     let short : feed_at bs < length bs = omega arith in
     let start : lines_of (b ∷ bs) ≡ onto b (lines_of bs) = rw e refl in
-    let next : onto b (lines_of bs) ≡ ended_line (b ∷ take (feed_at bs) bs) ∷ lines_of (drop (feed_at bs + 1) bs) = ap (onto b) (ih short) in
+    let next : onto b (lines_of bs) ≡ ended_line (b ∷ take (feed_at bs) bs) ∷ lines_of (drop (feed_at bs + 1) bs) = ap
+    (onto b) (ih short) in
     let i : suc (feed_at bs) ≡ feed_at (b ∷ bs) = omega arith in
     let j : suc (feed_at bs + 1) ≡ feed_at (b ∷ bs) + 1 = omega arith in
-    let end : ended_line (b ∷ take (feed_at bs) bs) ∷ lines_of (drop (feed_at bs + 1) bs) ≡ ended_line (take (feed_at (b ∷ bs)) (b ∷ bs)) ∷ lines_of (drop (feed_at (b ∷ bs) + 1) (b ∷ bs))
-    = λ t. ended_line (take (i t) (b ∷ bs)) ∷ lines_of (drop (j t) (b ∷ bs)) in
+    let end : ended_line (b ∷ take (feed_at bs) bs) ∷ lines_of (drop (feed_at bs + 1) bs)
+    ≡ ended_line (take (feed_at (b ∷ bs)) (b ∷ bs)) ∷ lines_of (drop (feed_at (b ∷ bs) + 1) (b ∷ bs)) =
+    λ t. ended_line (take (i t) (b ∷ bs)) ∷ lines_of (drop (j t) (b ∷ bs)) in
     start ∙ next ∙ end
 
 pub line_at_feed : (bs : List ℕ) → AtFeed bs
@@ -52,15 +56,20 @@ pub line_without_feed : (bs : List ℕ) → WithoutFeed bs
 line_without_feed [] = λ le lt. absurd (omega arith)
 line_without_feed (b ∷ bs) = without_step b bs (line_without_feed bs) (b == 10) refl
 
-pub first_of_fed : (bs : List ℕ) (at : ℕ) → Some at ≡ position (λ b. b == 10) bs → lines_of bs ≡ ended_line (take at bs) ∷ lines_of (take (length bs - (at + 1)) (drop (at + 1) bs))
+pub first_of_fed : (bs : List ℕ) (at : ℕ) → Some at ≡ position (λ b. b == 10) bs
+    → lines_of bs ≡ ended_line (take at bs) ∷ lines_of (take (length bs - (at + 1)) (drop (at + 1) bs))
 first_of_fed bs at found =
     let p = cond_some (ltb (feed_at bs) (length bs)) (feed_at bs) at (sym found) in
     let short : feed_at bs < length bs = ltb-true _ _ p.0 in
-    let whole : take (length bs - (at + 1)) (drop (at + 1) bs) ≡ drop (at + 1) bs = take_all _ _ (omega (arith, length-drop (at + 1) bs)) in
-    rw whole (subst (λ (k : ℕ). lines_of bs ≡ ended_line (take k bs) ∷ lines_of (drop (k + 1) bs)) p.1 (line_at_feed bs short))
+    let whole : take (length bs - (at + 1)) (drop (at + 1) bs) ≡ drop (at + 1) bs = take_all _ _
+    (omega (arith, length-drop (at + 1) bs)) in
+    rw whole
+    (subst (λ (k : ℕ). lines_of bs ≡ ended_line (take k bs) ∷ lines_of (drop (k + 1) bs)) p.1 (line_at_feed bs short))
 
-pub last_unfed : (bs : List ℕ) → 0 < length bs → None ≡ position (λ b. b == 10) bs → lines_of bs ≡ record { text = bs; ended = false } ∷ []
+pub last_unfed : (bs : List ℕ) → 0 < length bs → None ≡ position (λ b. b == 10) bs
+    → lines_of bs ≡ record { text = bs; ended = false } ∷ []
 last_unfed bs some none = line_without_feed bs (not_found (ltb (feed_at bs) (length bs)) refl (sym none)) some where
-  not_found : (q : Bool) → ltb (feed_at bs) (length bs) ≡ q → cond q (Some (feed_at bs)) None ≡ None → length bs ≤ feed_at bs
+  not_found : (q : Bool) → ltb (feed_at bs) (length bs) ≡ q → cond q (Some (feed_at bs)) None ≡ None
+      → length bs ≤ feed_at bs
   not_found true e n = absurd cc
   not_found false e n = ltb-false _ _ e

@@ -1,5 +1,6 @@
 -- Words of a text, read from left to right: each gives a value and what follows it.
-use Rattle.std.specs.Prelude.{◌≡◌, ℕ, ◌+◌, ◌-◌, ◌*◌, ◌/◌, ◌%◌, ◌^◌, Bool, ◌&&◌, ◌||◌, not, List, [], ◌∷◌, length, take, drop, Option, Some, None, nat_lt, nat_le, nat_eq, ◌==◌, slice_index, if◌then◌else◌}
+use Rattle.std.specs.Prelude.{◌≡◌, ℕ, ◌+◌, ◌-◌, ◌*◌, ◌/◌, ◌%◌, ◌^◌, Bool, ◌&&◌, ◌||◌, not, List, [], ◌∷◌, length, take}
+use Rattle.std.specs.Prelude.{drop, Option, Some, None, nat_lt, nat_le, nat_eq, ◌==◌, slice_index, if◌then◌else◌}
 use Rattle.std.specs.List.{prefix_len}
 use Rattle.std.specs.Cmp.Lexicographic.{pointwise}
 use Rattle.std.specs.Char.{is_ascii_digit}
@@ -43,7 +44,8 @@ is_decimal ds = not (length ds == 0) && not (nat_lt 1 (length ds) && slice_index
 
 -- The number that the first n bytes, all of them digits, spell, and what follows it.
 abbrev pub number_of_len : ℕ → List ℕ → Option (Number × List ℕ)
-number_of_len n bytes = if is_decimal (take n bytes) then Some (small (value_after 0 (take n bytes)), drop n bytes) else None
+number_of_len n bytes =
+    if is_decimal (take n bytes) then Some (small (value_after 0 (take n bytes)), drop n bytes) else None
 
 -- The decimal number at the front, which takes all digits there, and what follows it.
 unfoldable pub number_at : List ℕ → Option (Number × List ℕ)

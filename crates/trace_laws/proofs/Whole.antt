@@ -93,14 +93,18 @@ asked s p row o prompt was n con calm off =
     record {
       names = items_asks s p row n o prompt was.stood was.facts.items con calm off;
       pointers = λ pr e f. record { command = c.pointer pr e f; moved = d.moved pr e f };
-      runs = λ f pr t ep et ef. record { named = named_at_run s p n was.facts.named con calm ef; active_is = d.active_is f pr t ep et ef };
+      runs = λ f pr t ep et ef. record {
+        named = named_at_run s p n was.facts.named con calm ef;
+        active_is = d.active_is f pr t ep et ef;
+      };
       named = named_asks s p row n o prompt was.stood was.facts.named con calm off;
       settles = offers_asks s p row n o prompt was.stood was.facts.offers con calm off;
       command = c.command;
     }
 
 -- A phase is left while RST is false, or it is MESSAGE IN.
-calm : (s : ScenarioValue) (p : List Row) (row : Row) → Obeys s → IsPrompt s (row ∷ p) → Whole s p → row.dev < 8 → IsCalmTurn (row_reading (run_state s p).story.bus_state row)
+calm : (s : ScenarioValue) (p : List Row) (row : Row) → Obeys s → IsPrompt s (row ∷ p) → Whole s p → row.dev < 8
+    → IsCalmTurn (row_reading (run_state s p).story.bus_state row)
 calm s p row o prompt was lt stands ep = go (connection p) refl (connection (row ∷ p)) refl
   where
     d : RowReading
@@ -112,16 +116,22 @@ calm s p row o prompt was lt stands ep = go (connection p) refl (connection (row
     next_is : d.next ≡ connection (row ∷ p)
     next_is = λ i. connection_after (was.stood.plain.connection i) (was.stood.plain.call i) (c i) row
 
-    by_rst : (n : Connection) → connection p ≡ Some n → connection (row ∷ p) ≡ Some n → (a b : Bool) → (bus p).rst ≡ a → (bus (row ∷ p)).rst ≡ b → ((d.change.before.rst ≡ false) × (d.change.after.rst ≡ false)) ⊎ (is_message_in d.change.before ≡ true)
-    by_rst n con after false false e f = inl (ap (λ (x : Change). x.before.rst) c ∙ e, ap (λ (x : Change). x.after.rst) c ∙ f)
-    by_rst n con after true b e f = inr (ap (λ (x : Change). is_message_in x.before) c ∙ cut_phase s p row n o prompt was.stood was.holds con after (inl e) (ap changes_phase (sym c) ∙ ep))
-    by_rst n con after false true e f = inr (ap (λ (x : Change). is_message_in x.before) c ∙ cut_phase s p row n o prompt was.stood was.holds con after (inr f) (ap changes_phase (sym c) ∙ ep))
+    by_rst : (n : Connection) → connection p ≡ Some n → connection (row ∷ p) ≡ Some n
+        → (a b : Bool) → (bus p).rst ≡ a → (bus (row ∷ p)).rst ≡ b
+        → ((d.change.before.rst ≡ false) × (d.change.after.rst ≡ false)) ⊎ (is_message_in d.change.before ≡ true)
+    by_rst n con after false false e f =
+        inl (ap (λ (x : Change). x.before.rst) c ∙ e, ap (λ (x : Change). x.after.rst) c ∙ f)
+    by_rst n con after true b e f = inr (ap (λ (x : Change). is_message_in x.before) c
+        ∙ cut_phase s p row n o prompt was.stood was.holds con after (inl e) (ap changes_phase (sym c) ∙ ep))
+    by_rst n con after false true e f = inr (ap (λ (x : Change). is_message_in x.before) c
+        ∙ cut_phase s p row n o prompt was.stood was.holds con after (inr f) (ap changes_phase (sym c) ∙ ep))
 
     same : (m n : Connection) (q : Bool) → (if q then Some m else None) ≡ Some n → m ≡ n
     same m n true e = same_Some m n e
     same m n false e = none_some n e
 
-    go : (x : Option Connection) → connection p ≡ x → (y : Option Connection) → connection (row ∷ p) ≡ y → ((d.change.before.rst ≡ false) × (d.change.after.rst ≡ false)) ⊎ (is_message_in d.change.before ≡ true)
+    go : (x : Option Connection) → connection p ≡ x → (y : Option Connection) → connection (row ∷ p) ≡ y
+        → ((d.change.before.rst ≡ false) × (d.change.after.rst ≡ false)) ⊎ (is_message_in d.change.before ≡ true)
     go x e None f = absurd (not_some (sym (ap (λ (z : Option Connection). is_some z) (next_is ∙ f)) ∙ stands))
       where
         not_some : false ≡ true → ⊥
@@ -129,17 +139,24 @@ calm s p row o prompt was lt stands ep = go (connection p) refl (connection (row
     go None e (Some n) f = inl (apart e f)
       where
         -- as a connection begins, no RST is true
-        apart : connection p ≡ None → connection (row ∷ p) ≡ Some n → (d.change.before.rst ≡ false) × (d.change.after.rst ≡ false)
-        apart e f = (ap (λ (x : Change). x.before.rst) c ∙ calm_before s p row n o prompt was.stood e f, ap (λ (x : Change). x.after.rst) c ∙ calm_after p row n e f)
+        apart : connection p ≡ None → connection (row ∷ p) ≡ Some n
+            → (d.change.before.rst ≡ false) × (d.change.after.rst ≡ false)
+        apart e f = (
+          ap (λ (x : Change). x.before.rst) c ∙ calm_before s p row n o prompt was.stood e f,
+          ap (λ (x : Change). x.after.rst) c ∙ calm_after p row n e f,
+        )
     go (Some m) e (Some n) f =
         let is = same m n (bus (row ∷ p)).bsy (sym (λ i. connection_after (e i) (call p) (change_of p row) row) ∙ f) in
         by_rst n (e ∙ ap (λ (z : Connection). Some z) is) f (bus p).rst (bus (row ∷ p)).rst refl refl
 
 -- The lines after the next row.
-pub standing_next : (s : ScenarioValue) (p : List Row) (row : Row) → Obeys s → IsPrompt s (row ∷ p) → Whole s p → NextStood s p row
+pub standing_next : (s : ScenarioValue) (p : List Row) (row : Row) → Obeys s → IsPrompt s (row ∷ p) → Whole s p
+    → NextStood s p row
 standing_next s p row o prompt was =
     let fits = obeys_fits s o in
-    next_stood s p row (units_are s fits) (seats_are s fits) (commands_are s o) (λ q n dv. byte_values s q n o (seats_are s fits) dv) (obeys_latencies s o) (runs_are_short s fits) was.stood (asked s p row o prompt was) (least_is s p row prompt.1)
+    next_stood s p row (units_are s fits) (seats_are s fits) (commands_are s o)
+    (λ q n dv. byte_values s q n o (seats_are s fits) dv) (obeys_latencies s o) (runs_are_short s fits) was.stood
+    (asked s p row o prompt was) (least_is s p row prompt.1)
 
 -- What of it the events rest on.
 pub record RowSteps (s : ScenarioValue) (p : List Row) (row : Row) : Type 0 where
@@ -152,10 +169,12 @@ pub record RowSteps (s : ScenarioValue) (p : List Row) (row : Row) : Type 0 wher
   pub instructed : InstructedFacts s (row ∷ p)
   pub writes : WritesAsked s p row
 
-pub steps : (s : ScenarioValue) (p : List Row) (row : Row) → Obeys s → IsPrompt s (row ∷ p) → Whole s p → RowSteps s p row
+pub steps : (s : ScenarioValue) (p : List Row) (row : Row) → Obeys s → IsPrompt s (row ∷ p) → Whole s p
+    → RowSteps s p row
 steps s p row o prompt was =
     let nx = standing_next s p row o prompt was in
-    let fails = fails_as_left s p row o prompt was.stood (sent_asks s p row o prompt was.stood was.facts was.sent) was.fails in
+    let fails = fails_as_left s p row o prompt was.stood
+    (sent_asks s p row o prompt was.stood was.facts was.sent) was.fails in
     let tells = left_tells s p row o prompt was.stood was.facts fails in
     record {
       stood = nx;
@@ -163,17 +182,24 @@ steps s p row o prompt was =
       commands = command_next s p row o prompt was.stood was.facts.offers nx was.commands;
       fails = fails;
       tells = tells;
-      places = place_row s p row o prompt was.stood nx was.facts was.shown was.places was.closes tells (status_asks s p row o prompt was.stood nx was.facts was.statuses);
+      places = place_row s p row o prompt was.stood nx was.facts was.shown was.places was.closes tells
+          (status_asks s p row o prompt was.stood nx was.facts was.statuses);
       instructed = instructed_next s p row o prompt was.stood nx was.facts.offers was.commands was.instructed;
       writes = write_premises s p row o prompt was.stood was.places was.sends was.resets;
     }
 
 -- What a target has heard after the row.
-heard_next : (s : ScenarioValue) (p : List Row) (row : Row) → Obeys s → IsPrompt s (row ∷ p) → Whole s p → RowSteps s p row → heard s (row ∷ p) ≡ true
+heard_next : (s : ScenarioValue) (p : List Row) (row : Row) → Obeys s → IsPrompt s (row ∷ p) → Whole s p
+    → RowSteps s p row → heard s (row ∷ p) ≡ true
 heard_next s p row o prompt was g =
     let begins = begins_placed s p row o prompt was.stood g.stood was.facts.items was.places in
-    let at : HeardFacts s (row ∷ p) =
-    record { stood = g.stood.stood; commands = g.commands; named = g.facts.named; told = g.instructed; placed = places_heard s (row ∷ p) g.stood.stood.standing.devices g.places } in
+    let at : HeardFacts s (row ∷ p) = record {
+      stood = g.stood.stood;
+      commands = g.commands;
+      named = g.facts.named;
+      told = g.instructed;
+      placed = places_heard s (row ∷ p) g.stood.stood.standing.devices g.places;
+    } in
     and_from (heard s p) _ was.hears (heard_row s p row o prompt was.stood begins at)
 
 next : (s : ScenarioValue) (p : List Row) (row : Row) → Obeys s → IsPrompt s (row ∷ p) → Whole s p → Whole s (row ∷ p)
@@ -183,10 +209,13 @@ next s p row o prompt was =
     let g = steps s p row o prompt was in
     let nx = g.stood in
     let left = left_row s p row o prompt was.stood m.inside nx.obeys in
-    let truly = complained_row s p row o prompt was.stood nx (λ stands ep. calm s p row o prompt was m.inside stands ep) was.complaints in
-    let row_told = tells_row s p row o prompt was.stood was.shown (ap (λ (a : Option Array). is_some a) was.places.array_is) g.tells in
+    let truly = complained_row s p row o prompt was.stood nx
+    (λ stands ep. calm s p row o prompt was m.inside stands ep) was.complaints in
+    let row_told = tells_row s p row o prompt was.stood was.shown
+    (ap (λ (a : Option Array). is_some a) was.places.array_is) g.tells in
     let sent = sent_asks s p row o prompt was.stood was.facts was.sent in
-    let unshown : (n : Connection) → connection p ≡ None → connection (row ∷ p) ≡ Some n → IsUnshown s k n = λ n alone after. unshown_ready s p n was.stood.standing.devices was.places was.shown alone in
+    let unshown : (n : Connection) → connection p ≡ None → connection (row ∷ p) ≡ Some n → IsUnshown s k n =
+    λ n alone after. unshown_ready s p n was.stood.standing.devices was.places was.shown alone in
     let attends = attendance_asked s p row nx.stood.standing.devices was.places g.places g.fails in
     record {
       stood = nx.stood;
@@ -199,16 +228,28 @@ next s p row o prompt was =
       resets = resets_next s p row o prompt was.stood nx was.resets;
       complaints = complaints_next s p row o prompt was.stood nx was.facts.offers was.complaints;
       crossed = crossed_next s p row o prompt was.stood nx;
-      fails = fail_rows s p row o prompt was.stood nx was.facts was.crossed sent (clear_asks s p row o prompt was.stood was.facts.items unshown was.clear) was.fails;
+      fails = fail_rows s p row o prompt was.stood nx was.facts was.crossed sent
+          (clear_asks s p row o prompt was.stood was.facts.items unshown was.clear) was.fails;
       sent = sent_next s p row o prompt was.stood nx was.facts was.fails was.crossed was.complaints was.sent;
       clear = clear_next s p row o prompt was.stood nx was.facts was.fails was.places g.facts.items sent was.clear;
       places = g.places;
-      shown = replies_next s k row (ap (λ (a : Option Array). is_some a) g.places.array_is) (undo_asks is_marked s p row was.stood nx was.facts.undo) was.shown;
+      shown = replies_next s k row (ap (λ (a : Option Array). is_some a) g.places.array_is)
+          (undo_asks is_marked s p row was.stood nx was.facts.undo) was.shown;
       statuses = status_next s p row o prompt was.stood nx was.facts was.places g.places g.fails was.statuses;
       closes = close_next s p row o prompt was.stood nx was.facts was.places g.places was.closes;
       instructed = g.instructed;
-      writes = writes_next s p row o prompt was.stood nx was.facts.items was.commands was.instructed g.writes was.writes;
-      attends = attended_next s p row (record { obeys = o; prompt = prompt; stood = was.stood; next = nx; told = was.instructed; told_next = g.instructed; asked = attends; facts = was.attends });
+      writes =
+          writes_next s p row o prompt was.stood nx was.facts.items was.commands was.instructed g.writes was.writes;
+      attends = attended_next s p row (record {
+        obeys = o;
+        prompt = prompt;
+        stood = was.stood;
+        next = nx;
+        told = was.instructed;
+        told_next = g.instructed;
+        asked = attends;
+        facts = was.attends;
+      });
       runs_left = runs_left_next s p row o prompt was.stood nx was.holds was.sends.runs g.places was.runs_left;
       ends = ends_on s p row (obeys_fits s o) was.stood nx.stood m.inside nx.obeys was.ends;
       left = and_from (left_as_due s p) _ was.left left;
@@ -224,12 +265,15 @@ whole s [] o prompt = first s o
 whole s (row ∷ p) o prompt = next s p row o prompt (whole s p o prompt.0)
 
 -- What a row shows in a connection.
-pub row_attendance : (s : ScenarioValue) (p : List Row) (row : Row) → Obeys s → IsPrompt s (row ∷ p) → IsAttended s p row
+pub row_attendance : (s : ScenarioValue) (p : List Row) (row : Row) → Obeys s → IsPrompt s (row ∷ p)
+    → IsAttended s p row
 row_attendance s p row o prompt =
     let was = whole s p o prompt.0 in
     let g = steps s p row o prompt was in
     record {
-      shows = attended_row s p row o prompt was.stood was.commands was.instructed (attendance_asked s p row g.stood.stood.standing.devices was.places g.places g.fails) was.attends;
-      whole = whole_as_left s p row o prompt was.stood g.stood was.facts was.commands was.instructed g.writes was.writes was.sends.runs was.places was.runs_left was.shown g.fails;
+      shows = attended_row s p row o prompt was.stood was.commands was.instructed
+          (attendance_asked s p row g.stood.stood.standing.devices was.places g.places g.fails) was.attends;
+      whole = whole_as_left s p row o prompt was.stood g.stood was.facts was.commands was.instructed g.writes was.writes
+          was.sends.runs was.places was.runs_left was.shown g.fails;
       turn = calm s p row o prompt was (least_is s p row prompt.1).inside;
     }

@@ -1,5 +1,5 @@
--- Between its connections nothing has struck a process that is open and has no answer: as one is disconnected in the middle of its data
--- no byte that was struck is left to be carried again (6.6.6, 6.6.10, 6.6.19).
+-- Between its connections nothing has struck a process that is open and has no answer: as one is disconnected in the
+-- middle of its data no byte that was struck is left to be carried again (6.6.6, 6.6.10, 6.6.19).
 use Rattle.std.specs.Prelude.{◌≡◌, true, false, List, Some}
 use Rattle.bus_due.specs.bus_base.specs.declared.ProcId.{ProcId}
 use Rattle.bus_due.specs.bus_trace.specs.declared.Row.{Row}
@@ -14,7 +14,8 @@ use Rattle.trace_laws.specs.Failures.{IsClear}
 
 -- Of a process that is not over and was not answered.
 pub record StandsClear (k : RunState) (id : ProcId) : Type 0 where
-  pub clear : has_item k.story.sent.over (process id) ≡ false → is_marked (carried_here k id) ≡ false → IsClear (carried_here k id)
+  pub clear : has_item k.story.sent.over (process id) ≡ false → is_marked (carried_here k id) ≡ false
+      → IsClear (carried_here k id)
 
 -- Of all that no connection serves, and under RST of all; in a connection MESSAGE PARITY ERROR brings back no other.
 pub record ClearBooks (k : RunState) : Type 0 where

@@ -1,4 +1,5 @@
--- COMMAND COMPLETE in MESSAGE IN: its byte is asked for and answered once; and with ATN false its process ends as it is (6.1.5.1, 6.6.5).
+-- COMMAND COMPLETE in MESSAGE IN: its byte is asked for and answered once; and with ATN false its process ends as it is
+-- (6.1.5.1, 6.6.5).
 use Rattle.std.specs.Prelude.{◌≡◌, ◌==◌, true, false, List, Some}
 use Rattle.bus_due.specs.bus_base.specs.declared.ProcId.{ProcId}
 use Rattle.bus_due.specs.bus_trace.specs.Phases.{is_message_in}
@@ -20,17 +21,19 @@ IsCompleting k = k.exchange.plan.messages ≡ one_message to_initiator.CommandCo
 
 -- A byte that awaits its ACK is the first; and one that does not was answered.
 pub record CloseCounts (k : RunState) : Type 0 where
-  pub asked : is_message_in (bus_of k) ≡ true → IsCompleting k → awaits (bus_of k) ≡ true → (k.handshakes.answers == 0) ≡ true
-  pub given : is_message_in (bus_of k) ≡ true → (k.handshakes.requests == 0) ≡ false → awaits (bus_of k) ≡ false → (k.handshakes.answers == 0) ≡ false
+  pub asked : is_message_in (bus_of k) ≡ true → IsCompleting k → awaits (bus_of k) ≡ true
+      → (k.handshakes.answers == 0) ≡ true
+  pub given : is_message_in (bus_of k) ≡ true → (k.handshakes.requests == 0) ≡ false → awaits (bus_of k) ≡ false
+      → (k.handshakes.answers == 0) ≡ false
 
 abbrev pub HasClosed : ScenarioValue → RunState → Type 0
-HasClosed s k =
-    (id : ProcId) → k.served ≡ Some (process id) → is_message_in (bus_of k) ≡ true → IsCompleting k → (k.handshakes.answers == 0) ≡ false → (bus_of k).atn ≡ false
-    → has_ended (array_of s k) id ≡ true
+HasClosed s k = (id : ProcId) → k.served ≡ Some (process id) → is_message_in (bus_of k) ≡ true → IsCompleting k
+    → (k.handshakes.answers == 0) ≡ false → (bus_of k).atn ≡ false → has_ended (array_of s k) id ≡ true
 
 pub record CloseBooks (s : ScenarioValue) (k : RunState) : Type 0 where
   pub counts : CloseCounts k
   pub ended : HasClosed s k
 
 abbrev pub CloseFacts : ScenarioValue → List Row → Type 0
-CloseFacts s rows = (n : Connection) → connection rows ≡ Some n → (bus rows).rst ≡ false → CloseBooks s (run_state s rows)
+CloseFacts s rows =
+    (n : Connection) → connection rows ≡ Some n → (bus rows).rst ≡ false → CloseBooks s (run_state s rows)

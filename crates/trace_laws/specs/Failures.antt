@@ -1,5 +1,5 @@
--- The code of the failure of the process that is served, by the phase: in COMMAND and DATA OUT it is that of a struck byte, after DATA IN
--- that of the initiator's complaint, and RESTORE POINTERS takes it away (6.6.10, 6.6.19).
+-- The code of the failure of the process that is served, by the phase: in COMMAND and DATA OUT it is that of a struck
+-- byte, after DATA IN that of the initiator's complaint, and RESTORE POINTERS takes it away (6.6.10, 6.6.19).
 use Rattle.std.specs.Prelude.{ℕ, ◌≡◌, ◌⊎◌, true, false, List, Option, Some, None, ⊤}
 use Rattle.bus_due.specs.bus_base.specs.declared.ProcId.{ProcId}
 use Rattle.bus_due.specs.bus_trace.specs.declared.Row.{Row}
@@ -45,7 +45,8 @@ pub data ClearIn (l : Link) (c : CarriedBytes) (m : Messages) (count : ℕ) : Ty
 
 pub data ClearOut (l : Link) (c : CarriedBytes) (m : Messages) (words : List ℕ) : Type 0 where
   still_clear : IsClear c → UndoesClear l.undo → ClearOut l c m words
-  restores_again : m ≡ one_message to_initiator.RestorePointers → (words ≡ parity_error) ⊎ IsClear c → ClearOut l c m words
+  restores_again : m ≡ one_message to_initiator.RestorePointers → (words ≡ parity_error) ⊎ IsClear c
+      → ClearOut l c m words
 
 -- Before the bus is freed the process is over, or goes on later with nothing that struck it.
 abbrev pub GivesFailure : Link → CarriedBytes → Plan → ℕ → Next → Type 0
@@ -78,16 +79,18 @@ FailsBy l c p words count phases.Status = is_marked c ≡ true
 
 pub record FailTalk (k : RunState) (l : Link) (c : CarriedBytes) : Type 0 where
   pub unbegun : k.exchange.begun ≡ false → IsClear c × UndoesClear l.undo
-  pub begun : k.exchange.begun ≡ true → FailsBy l c k.exchange.plan k.exchange.speech.words k.handshakes.requests (phase_of (bus_of k))
+  pub begun : k.exchange.begun ≡ true
+      → FailsBy l c k.exchange.plan k.exchange.speech.words k.handshakes.requests (phase_of (bus_of k))
 
 abbrev pub FailTalks : RunState → Type 0
-FailTalks k = (l : Link) (id : ProcId) → k.story.link ≡ Some l → k.served ≡ Some (process id) → FailTalk k l (carried_here k id)
+FailTalks k =
+    (l : Link) (id : ProcId) → k.story.link ≡ Some l → k.served ≡ Some (process id) → FailTalk k l (carried_here k id)
 
 abbrev pub FailFacts : ScenarioValue → List Row → Type 0
 FailFacts s rows = (n : Connection) → connection rows ≡ Some n → (bus rows).rst ≡ false → FailTalks (run_state s rows)
 
 -- As DATA IN is left, the initiator has raised ATN where a byte was struck, and only there (6.6.10).
 abbrev pub SentAsLeft : ScenarioValue → List Row → Row → Type 0
-SentAsLeft s rows row =
-    (n : Connection) (id : ProcId) → IsLeaving s rows row n → (run_state s rows).served ≡ Some (process id) → phase_of (bus_of (run_state s rows)) ≡ phases.DataIn
+SentAsLeft s rows row = (n : Connection) (id : ProcId) → IsLeaving s rows row n
+    → (run_state s rows).served ≡ Some (process id) → phase_of (bus_of (run_state s rows)) ≡ phases.DataIn
     → (carried_here (run_state s rows) id).failure ≡ code_if (bus_of (run_state s rows)).atn INITIATOR_DETECTED_ERROR

@@ -1,5 +1,5 @@
--- A connection that still stands under RST: its target alone drives the lines of the phase, and data come to the initiator only of a
--- process that does not write (6.1.5, 6.2.2).
+-- A connection that still stands under RST: its target alone drives the lines of the phase, and data come to the
+-- initiator only of a process that does not write (6.1.5, 6.2.2).
 use Rattle.std.specs.Prelude.{ℕ, ◌≡◌, ◌≢◌, ◌<◌, true, false, List, Some}
 use Rattle.bus_due.specs.bus_trace.specs.LineSet.{LineSet}
 use Rattle.bus_due.specs.bus_trace.specs.declared.Row.{Row}

@@ -1,5 +1,5 @@
--- In DATA IN: the requests that wait for ACK, and the code of the failure of the process that is served. It fails where ATN is true, or a
--- struck byte waits for the ACK with which the initiator raises it (6.1.5.1, 6.1.5.2, 6.2.1, 6.6.10).
+-- In DATA IN: the requests that wait for ACK, and the code of the failure of the process that is served. It fails where
+-- ATN is true, or a struck byte waits for the ACK with which the initiator raises it (6.1.5.1, 6.1.5.2, 6.2.1, 6.6.10).
 use Rattle.std.specs.Prelude.{◌≡◌, Bool, true, false, ◌||◌, ◌==◌, List, [], ◌∷◌, Some, is_some}
 use Rattle.bus_due.specs.bus_base.specs.declared.ProcId.{ProcId}
 use Rattle.bus_due.specs.bus_trace.specs.declared.Row.{Row}
@@ -34,8 +34,9 @@ pub record SentTalk (s : ScenarioValue) (rows : List Row) : Type 0 where
   pub received : is_some (receiver rows) ≡ true → is_some (first_of (handshakes rows).waiting) ≡ true
   pub waits : pulses_here rows ≡ false → WaitsFor (handshakes rows) (awaits (bus rows))
   pub code : (id : ProcId) → (run_state s rows).served ≡ Some (process id)
-      → (carried_here (run_state s rows) id).failure ≡ code_if ((bus rows).atn || any_struck (handshakes rows).waiting) INITIATOR_DETECTED_ERROR
+      → (carried_here (run_state s rows) id).failure
+      ≡ code_if ((bus rows).atn || any_struck (handshakes rows).waiting) INITIATOR_DETECTED_ERROR
 
 abbrev pub SentFacts : ScenarioValue → List Row → Type 0
-SentFacts s rows =
-    (n : Connection) → connection rows ≡ Some n → (bus rows).rst ≡ false → begun rows ≡ true → phase_of (bus rows) ≡ phases.DataIn → SentTalk s rows
+SentFacts s rows = (n : Connection) → connection rows ≡ Some n → (bus rows).rst ≡ false → begun rows ≡ true
+    → phase_of (bus rows) ≡ phases.DataIn → SentTalk s rows

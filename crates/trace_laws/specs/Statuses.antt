@@ -1,5 +1,5 @@
--- The status area of a process: each of its bytes is the status of the reply that the plain disk array has given, and it has none before a
--- reply was given; and where COMMAND COMPLETE is said it has one (6.1.5, 6.4, 6.6.5).
+-- The status area of a process: each of its bytes is the status of the reply that the plain disk array has given, and
+-- it has none before a reply was given; and where COMMAND COMPLETE is said it has one (6.1.5, 6.4, 6.6.5).
 use Rattle.std.specs.Prelude.{ℕ, ◌≡◌, ◌⊎◌, ◌==◌, true, false, List, [], ◌∷◌, length, Option, Some, None, ⊤}
 use Rattle.bus_due.specs.bus_base.specs.declared.ProcId.{ProcId}
 use Rattle.bus_due.specs.scenario.specs.Value.{ScenarioValue}
@@ -34,7 +34,8 @@ IsStatusIn s k id bytes = IsStatusOf (reply_in (array_of s k).replies id) bytes
 -- Of each process; and of what MESSAGE PARITY ERROR would bring back (6.6.13).
 pub record StatusAreas (s : ScenarioValue) (k : RunState) : Type 0 where
   pub areas : (id : ProcId) → IsStatusIn s k id (carried_here k id).status.bytes
-  pub undone : (l : Link) (u : CarriedBytes) → k.story.link ≡ Some l → l.undo ≡ Some u → IsStatusIn s k u.id u.status.bytes
+  pub undone : (l : Link) (u : CarriedBytes) → k.story.link ≡ Some l → l.undo ≡ Some u
+      → IsStatusIn s k u.id u.status.bytes
 
 -- ---- of the process that is served: a byte has crossed
 
@@ -48,8 +49,10 @@ UndoesStatus (Some u) = HasStatus u.status.bytes
 -- COMMAND COMPLETE is said after STATUS, and again where it was refused.
 abbrev pub CarriesBy : Link → List ℕ → Plan → ℕ → Phase → Type 0
 CarriesBy l bytes p count phases.Status = (count == 0) ≡ false → HasStatus bytes
-CarriesBy l bytes p count phases.MessageIn = p.messages ≡ one_message to_initiator.CommandComplete → HasStatus bytes × ((count ≡ 0) ⊎ UndoesStatus l.undo)
-CarriesBy l bytes p count phases.MessageOut = p.cause ≡ causes.InMessage → p.messages ≡ one_message to_initiator.CommandComplete → HasStatus bytes × UndoesStatus l.undo
+CarriesBy l bytes p count phases.MessageIn =
+    p.messages ≡ one_message to_initiator.CommandComplete → HasStatus bytes × ((count ≡ 0) ⊎ UndoesStatus l.undo)
+CarriesBy l bytes p count phases.MessageOut = p.cause ≡ causes.InMessage
+    → p.messages ≡ one_message to_initiator.CommandComplete → HasStatus bytes × UndoesStatus l.undo
 CarriesBy l bytes p count phases.Command = ⊤
 CarriesBy l bytes p count phases.DataIn = ⊤
 CarriesBy l bytes p count phases.DataOut = ⊤

@@ -12,11 +12,15 @@ digit_low : (b : ℕ) → is_hex b ≡ true → hex_or_16 b ≡ hex_value b
 digit_low b e = rw e refl
 
 abbrev AreLines : ℕ → ℕ → ℕ → ℕ → ℕ → Type 0
-AreLines a b c d e = (hex_or_16 a < 4) × (hex_or_16 b < 16) × (hex_or_16 c < 16) × (hex_or_16 d < 16) × (hex_or_16 e < 16)
+AreLines a b c d e =
+    (hex_or_16 a < 4) × (hex_or_16 b < 16) × (hex_or_16 c < 16) × (hex_or_16 d < 16) × (hex_or_16 e < 16)
 
-are_lines : (a b c d e : ℕ) → (((((is_hex a && is_hex b) && is_hex c) && is_hex d) && is_hex e) && ltb (value_of a b c d e) 0x40000) ≡ true → AreLines a b c d e
+are_lines : (a b c d e : ℕ)
+    → (((((is_hex a && is_hex b) && is_hex c) && is_hex d) && is_hex e) && ltb (value_of a b c d e) 0x40000) ≡ true
+    → AreLines a b c d e
 are_lines a b c d e t =
-    let all = and_parts ((((is_hex a && is_hex b) && is_hex c) && is_hex d) && is_hex e) (ltb (value_of a b c d e) 0x40000) t in
+    let all = and_parts ((((is_hex a && is_hex b) && is_hex c) && is_hex d) && is_hex e)
+    (ltb (value_of a b c d e) 0x40000) t in
     let four = and_parts (((is_hex a && is_hex b) && is_hex c) && is_hex d) (is_hex e) all.0 in
     let three = and_parts ((is_hex a && is_hex b) && is_hex c) (is_hex d) four.0 in
     let two = and_parts (is_hex a && is_hex b) (is_hex c) three.0 in
@@ -35,7 +39,11 @@ are_lines a b c d e t =
     (omega arith, omega arith, omega arith, omega arith, omega arith)
 
 pub not_driven : (a b c d e : ℕ) → (AreLines a b c d e → ⊥) → None ≡ kind_at (a ∷ b ∷ c ∷ d ∷ e ∷ [])
-not_driven a b c d e refuted = go ((((((is_hex a && is_hex b) && is_hex c) && is_hex d) && is_hex e) && ltb (value_of a b c d e) 0x40000)) refl where
-  go : (q : Bool) → (((((is_hex a && is_hex b) && is_hex c) && is_hex d) && is_hex e) && ltb (value_of a b c d e) 0x40000) ≡ q → None ≡ kind_at (a ∷ b ∷ c ∷ d ∷ e ∷ [])
-  go true t = absurd (refuted (are_lines a b c d e t))
-  go false t = rw t refl
+not_driven a b c d e refuted =
+    go ((((((is_hex a && is_hex b) && is_hex c) && is_hex d) && is_hex e) && ltb (value_of a b c d e) 0x40000)) refl
+  where
+    go : (q : Bool)
+        → (((((is_hex a && is_hex b) && is_hex c) && is_hex d) && is_hex e) && ltb (value_of a b c d e) 0x40000) ≡ q
+        → None ≡ kind_at (a ∷ b ∷ c ∷ d ∷ e ∷ [])
+    go true t = absurd (refuted (are_lines a b c d e t))
+    go false t = rw t refl

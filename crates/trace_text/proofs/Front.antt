@@ -1,5 +1,6 @@
 -- The front of a line says as much as the line.
-use Rattle.std.proofs.Common.{◌≡◌, ℕ, ◌+◌, ◌^◌, ◌<◌, ◌≤◌, Bool, true, false, List, [], ◌∷◌, ◌++◌, length, take, Option, Some, None, Result, refl, sym, ap, ◌∙◌, arith, inl, inr, take_all}
+use Rattle.std.proofs.Common.{◌≡◌, ℕ, ◌+◌, ◌^◌, ◌<◌, ◌≤◌, Bool, true, false, List, [], ◌∷◌, ◌++◌, length, take, Option}
+use Rattle.std.proofs.Common.{Some, None, Result, refl, sym, ap, ◌∙◌, arith, inl, inr, take_all}
 use Rattle.std.specs.Prelude.{◌==◌}
 use Rattle.std.proofs.lemmas.Bool.{cases_lt}
 use Rattle.std.proofs.lemmas.Bool.Decides.{nat_tests}
@@ -41,7 +42,8 @@ front_push line b =
       | inl lt ↦ ap (λ (l : List ℕ). take 28 (l ++ b ∷ [])) (take_all 28 line (omega arith))
       | inr le ↦
           let len : length (take 28 line) ≡ 28 = omega (arith, length-take 28 line) in
-          take-append-le 28 (take 28 line) (b ∷ []) (omega arith) ∙ (take_all 28 (take 28 line) (omega arith) ∙ sym (take-append-le 28 line (b ∷ []) le))
+          take-append-le 28 (take 28 line) (b ∷ []) (omega arith)
+          ∙ (take_all 28 (take 28 line) (omega arith) ∙ sym (take-append-le 28 line (b ∷ []) le))
     ]
 
 count_moved : (count : ℕ) (o : Option (Stage × Option Row)) → count_of (moved count o).0 ≡ count
@@ -72,22 +74,31 @@ count_bytes bytes r h = rw h.state (omega (arith, count_below (cut_of bytes).lin
 abbrev pub reader : List ℕ → State → TraceReader
 reader line state = record { line = line; state = state }
 
-feed_is : (r : TraceReader) (text : List ℕ) (p : State × Told) (bytes : List ℕ) → IsReaderOf bytes r → length bytes < TRACE_LIMIT → text ≡ r.line → (count_of r.state + 1 < 2 ^ 32 → p ≡ stepped r.state text) → p ≡ stepped (state_of (cut_of bytes).lines) (cut_of bytes).rest
+feed_is : (r : TraceReader) (text : List ℕ) (p : State × Told) (bytes : List ℕ) → IsReaderOf bytes r
+    → length bytes < TRACE_LIMIT → text ≡ r.line → (count_of r.state + 1 < 2 ^ 32 → p ≡ stepped r.state text)
+    → p ≡ stepped (state_of (cut_of bytes).lines) (cut_of bytes).rest
 feed_is r text p bytes h few t exact =
     let count = count_bytes bytes r h in
-    let same : stepped r.state text ≡ stepped (state_of (cut_of bytes).lines) (take 28 (cut_of bytes).rest) = λ i. stepped (h.state i) ((t ∙ h.line) i) in
+    let same : stepped r.state text ≡ stepped (state_of (cut_of bytes).lines) (take 28 (cut_of bytes).rest) =
+    λ i. stepped (h.state i) ((t ∙ h.line) i) in
     exact (omega arith) ∙ (same ∙ stepped_front (state_of (cut_of bytes).lines) (cut_of bytes).rest)
 
-pub feed_kept : (r : TraceReader) (b : ℕ) (text line : List ℕ) (p : State × Told) → b ≡ 10 → text ≡ r.line → (count_of r.state + 1 < 2 ^ 32 → p ≡ stepped r.state text) → line ≡ []
-    → (bytes : List ℕ) → IsReaderOf bytes r → length bytes < TRACE_LIMIT → IsReaderOf (b ∷ bytes) (reader line p.0)
+pub feed_kept : (r : TraceReader) (b : ℕ) (text line : List ℕ) (p : State × Told) → b ≡ 10 → text ≡ r.line
+    → (count_of r.state + 1 < 2 ^ 32 → p ≡ stepped r.state text) → line ≡ [] → (bytes : List ℕ) → IsReaderOf bytes r
+    → length bytes < TRACE_LIMIT → IsReaderOf (b ∷ bytes) (reader line p.0)
 feed_kept r b text line p e t exact empty bytes h few =
     let at : (b == 10) ≡ true = grind (arith, nat_tests) in
-    let next : cut_of (b ∷ bytes) ≡ record { lines = (cut_of bytes).rest ∷ (cut_of bytes).lines; rest = [] } = rw at refl in
+    let next : cut_of (b ∷ bytes) ≡ record { lines = (cut_of bytes).rest ∷ (cut_of bytes).lines; rest = [] } = rw
+    at refl in
     let p-is = feed_is r text p bytes h few t exact in
-    record { line = empty ∙ sym (ap (λ (c : Cut). take 28 c.rest) next); state = ap (λ (x : State × Told). x.0) p-is ∙ sym (ap (λ (c : Cut). state_of c.lines) next) }
+    record {
+      line = empty ∙ sym (ap (λ (c : Cut). take 28 c.rest) next);
+      state = ap (λ (x : State × Told). x.0) p-is ∙ sym (ap (λ (c : Cut). state_of c.lines) next);
+    }
 
-pub feed_told : (r : TraceReader) (b : ℕ) (text : List ℕ) (p : State × Told) → b ≡ 10 → text ≡ r.line → (count_of r.state + 1 < 2 ^ 32 → p ≡ stepped r.state text)
-    → (bytes : List ℕ) → IsReaderOf bytes r → length bytes < TRACE_LIMIT → p.1 ≡ told_at bytes b
+pub feed_told : (r : TraceReader) (b : ℕ) (text : List ℕ) (p : State × Told) → b ≡ 10 → text ≡ r.line
+    → (count_of r.state + 1 < 2 ^ 32 → p ≡ stepped r.state text) → (bytes : List ℕ) → IsReaderOf bytes r
+    → length bytes < TRACE_LIMIT → p.1 ≡ told_at bytes b
 feed_told r b text p e t exact bytes h few =
     let at : (b == 10) ≡ true = grind (arith, nat_tests) in
     let next : told_at bytes b ≡ (stepped (state_of (cut_of bytes).lines) (cut_of bytes).rest).1 = rw at refl in
@@ -97,13 +108,20 @@ pub byte_kept : (r : TraceReader) (b : ℕ) (line : List ℕ) → (b ≡ 10 → 
     → (bytes : List ℕ) → IsReaderOf bytes r → length bytes < TRACE_LIMIT → IsReaderOf (b ∷ bytes) (reader line r.state)
 byte_kept r b line e more bytes h few =
     let at : (b == 10) ≡ false = grind (arith, nat_tests) in
-    let next : cut_of (b ∷ bytes) ≡ record { lines = (cut_of bytes).lines; rest = (cut_of bytes).rest ++ b ∷ [] } = rw at refl in
-    let front : take 28 (r.line ++ b ∷ []) ≡ take 28 ((cut_of bytes).rest ++ b ∷ []) = ap (λ (l : List ℕ). take 28 (l ++ b ∷ [])) h.line ∙ front_push (cut_of bytes).rest b in
-    record { line = more ∙ (front ∙ sym (ap (λ (c : Cut). take 28 c.rest) next)); state = h.state ∙ sym (ap (λ (c : Cut). state_of c.lines) next) }
+    let next : cut_of (b ∷ bytes) ≡ record { lines = (cut_of bytes).lines; rest = (cut_of bytes).rest ++ b ∷ [] } = rw
+    at refl in
+    let front : take 28 (r.line ++ b ∷ []) ≡ take 28 ((cut_of bytes).rest ++ b ∷ []) =
+    ap (λ (l : List ℕ). take 28 (l ++ b ∷ [])) h.line ∙ front_push (cut_of bytes).rest b in
+    record {
+      line = more ∙ (front ∙ sym (ap (λ (c : Cut). take 28 c.rest) next));
+      state = h.state ∙ sym (ap (λ (c : Cut). state_of c.lines) next);
+    }
 
-pub ends : (r : TraceReader) (text : List ℕ) (result : Result ℕ ℕ) → text ≡ r.line → (count_of r.state < 2 ^ 31 → result ≡ end_told r.state text)
-    → (bytes : List ℕ) → IsReaderOf bytes r → length bytes ≤ TRACE_LIMIT → result ≡ end_of bytes
+pub ends : (r : TraceReader) (text : List ℕ) (result : Result ℕ ℕ) → text ≡ r.line
+    → (count_of r.state < 2 ^ 31 → result ≡ end_told r.state text) → (bytes : List ℕ) → IsReaderOf bytes r
+    → length bytes ≤ TRACE_LIMIT → result ≡ end_of bytes
 ends r text result t exact bytes h few =
     let count = count_bytes bytes r h in
-    let same : end_told r.state text ≡ end_told (state_of (cut_of bytes).lines) (take 28 (cut_of bytes).rest) = λ i. end_told (h.state i) ((t ∙ h.line) i) in
+    let same : end_told r.state text ≡ end_told (state_of (cut_of bytes).lines) (take 28 (cut_of bytes).rest) =
+    λ i. end_told (h.state i) ((t ∙ h.line) i) in
     exact (omega arith) ∙ (same ∙ end_front (state_of (cut_of bytes).lines) (cut_of bytes).rest)

@@ -1,5 +1,6 @@
 -- The line of a row is read again, and so is that of the end.
-use Rattle.std.proofs.Common.{◌≡◌, ℕ, zero, suc, ◌+◌, ◌≤◌, ◌-◌, ◌*◌, ◌/◌, ◌%◌, ◌^◌, ◌<◌, Bool, true, false, ◌&&◌, List, [], ◌∷◌, ◌++◌, Some, None, refl, sym, ap, ◌∙◌, arith, append_assoc}
+use Rattle.std.proofs.Common.{◌≡◌, ℕ, zero, suc, ◌+◌, ◌≤◌, ◌-◌, ◌*◌, ◌/◌, ◌%◌, ◌^◌, ◌<◌, Bool, true, false, ◌&&◌, List}
+use Rattle.std.proofs.Common.{[], ◌∷◌, ◌++◌, Some, None, refl, sym, ap, ◌∙◌, arith, append_assoc}
 use Rattle.std.specs.Prelude.{nat_le, codes, decimal}
 use Rattle.std.specs.List.{list_all}
 use Rattle.std.specs.Char.{is_ascii_digit}
@@ -32,8 +33,10 @@ head_of (b ∷ bytes) = b
 digit_passes : (d : ℕ) → d < 16 → is_hex (hex_digit d) ≡ true
 digit_passes d lt =
     let low : d % 16 ≡ d = omega arith in
-    let both : (is_hex (hex_digit (d / 16)) && (is_hex (hex_digit (d % 16)) && true)) ≡ true = hex_passes (d ∷ []) (omega arith, tt) in
-    ap (λ (x : ℕ). is_hex (hex_digit x)) (sym low) ∙ second (is_hex (hex_digit (d / 16))) (is_hex (hex_digit (d % 16))) both
+    let both : (is_hex (hex_digit (d / 16)) && (is_hex (hex_digit (d % 16)) && true)) ≡ true = hex_passes
+    (d ∷ []) (omega arith, tt) in
+    ap (λ (x : ℕ). is_hex (hex_digit x)) (sym low)
+    ∙ second (is_hex (hex_digit (d / 16))) (is_hex (hex_digit (d % 16))) both
   where
     second : (a b : Bool) → (a && (b && true)) ≡ true → b ≡ true
     second true true e = refl
@@ -44,18 +47,34 @@ digit_value : (d : ℕ) → d < 16 → hex_value (hex_digit d) ≡ d
 digit_value d lt =
     let high : d / 16 ≡ 0 = omega arith in
     let low : d % 16 ≡ d = omega arith in
-    let pair : hex_value (hex_digit (d / 16)) * 16 + hex_value (hex_digit (d % 16)) ≡ d = ap head_of (bytes_again (d ∷ []) (omega arith, tt)) in
+    let pair : hex_value (hex_digit (d / 16)) * 16 + hex_value (hex_digit (d % 16)) ≡ d = ap head_of
+    (bytes_again (d ∷ []) (omega arith, tt)) in
     let zero_digit : hex_value (hex_digit (d / 16)) ≡ 0 = ap (λ (x : ℕ). hex_value (hex_digit x)) high in
-    let digit : hex_value (hex_digit (d % 16)) ≡ hex_value (hex_digit d) = ap (λ (x : ℕ). hex_value (hex_digit x)) low in
+    let digit : hex_value (hex_digit (d % 16)) ≡ hex_value (hex_digit d) = ap
+    (λ (x : ℕ). hex_value (hex_digit x)) low in
     omega arith
 
-value_again : (n : ℕ) → n < 2 ^ 18 → value_of (hex_digit (n / 65536)) (hex_digit (n / 4096 % 16)) (hex_digit (n / 256 % 16)) (hex_digit (n / 16 % 16)) (hex_digit (n % 16)) ≡ n
-value_again n lt =
-    rw (digit_value (n / 65536) (omega arith), digit_value (n / 4096 % 16) (omega arith), digit_value (n / 256 % 16) (omega arith), digit_value (n / 16 % 16) (omega arith), digit_value (n % 16) (omega arith)) (omega arith)
+value_again : (n : ℕ) → n < 2 ^ 18
+    → value_of (hex_digit (n / 65536)) (hex_digit (n / 4096 % 16)) (hex_digit (n / 256 % 16)) (hex_digit (n / 16 % 16))
+    (hex_digit (n % 16)) ≡ n
+value_again n lt = rw (
+  digit_value (n / 65536) (omega arith),
+  digit_value (n / 4096 % 16) (omega arith),
+  digit_value (n / 256 % 16) (omega arith),
+  digit_value (n / 16 % 16) (omega arith),
+  digit_value (n % 16) (omega arith),
+) (omega arith)
 
 lines_again : (n : ℕ) → n < 2 ^ 18 → kind_at (lines_text n) ≡ Some (Drives (set_of n))
-lines_again n lt =
-    rw (digit_passes (n / 65536) (omega arith), digit_passes (n / 4096 % 16) (omega arith), digit_passes (n / 256 % 16) (omega arith), digit_passes (n / 16 % 16) (omega arith), digit_passes (n % 16) (omega arith), value_again n lt, lt-ltb n 0x40000 (omega arith)) refl
+lines_again n lt = rw (
+  digit_passes (n / 65536) (omega arith),
+  digit_passes (n / 4096 % 16) (omega arith),
+  digit_passes (n / 256 % 16) (omega arith),
+  digit_passes (n / 16 % 16) (omega arith),
+  digit_passes (n % 16) (omega arith),
+  value_again n lt,
+  lt-ltb n 0x40000 (omega arith),
+) refl
 
 -- the number of a bit is one digit
 pub one_digit : (bit : ℕ) → bit ≤ 8 → decimal bit ≡ (48 + bit) ∷ []
@@ -79,7 +98,8 @@ fault_again bit h =
     rw (low, high, value) refl
 
 kind_again : (k : Kind) → IsKind k → FitsBus k → kind_at (kind_text k) ≡ Some k
-kind_again (Drives lines) h fits = lines_again (number_of lines) (number_of-lt lines fits) ∙ ap (λ (s : LineSet). Some (Drives s)) (set_back lines fits)
+kind_again (Drives lines) h fits = lines_again (number_of lines) (number_of-lt lines fits)
+    ∙ ap (λ (s : LineSet). Some (Drives s)) (set_back lines fits)
 kind_again (Fault bit) h fits = ap (λ (l : List ℕ). kind_at (102 ∷ l)) (one_digit bit h) ∙ fault_again bit h
 
 -- ---- whole lines
@@ -89,13 +109,21 @@ abbrev pub row_line : Row → List ℕ
 row_line row = decimal row.time ++ 32 ∷ (48 + row.dev) ∷ 32 ∷ kind_text row.kind
 
 pub row_text-line : (row : Row) → row_text row ≡ row_line row ++ 10 ∷ []
-row_text-line row = ap (λ (l : List ℕ). l ++ 10 ∷ []) (append_assoc (decimal row.time) (32 ∷ (48 + row.dev) ∷ 32 ∷ []) (kind_text row.kind))
+row_text-line row = ap (λ (l : List ℕ). l ++ 10 ∷ [])
+    (append_assoc (decimal row.time) (32 ∷ (48 + row.dev) ∷ 32 ∷ []) (kind_text row.kind))
 
 pub row_again : (row : Row) → IsTraceRow row → row_at (row_line row) ≡ Some row
 unfolding row_at
 row_again row h =
     let time = h.time in
-    rw (number_again row.time (32 ∷ (48 + row.dev) ∷ 32 ∷ kind_text row.kind) (omega arith) refl, lt-ltb row.time (2 ^ 63) time, after_same (codes " ") ((48 + row.dev) ∷ 32 ∷ kind_text row.kind), digit_again row.dev (32 ∷ kind_text row.kind) h.named.device, after_same (codes " ") (kind_text row.kind), kind_again row.kind h.named.kind h.lines) refl
+    rw (
+      number_again row.time (32 ∷ (48 + row.dev) ∷ 32 ∷ kind_text row.kind) (omega arith) refl,
+      lt-ltb row.time (2 ^ 63) time,
+      after_same (codes " ") ((48 + row.dev) ∷ 32 ∷ kind_text row.kind),
+      digit_again row.dev (32 ∷ kind_text row.kind) h.named.device,
+      after_same (codes " ") (kind_text row.kind),
+      kind_again row.kind h.named.kind h.lines,
+    ) refl
 
 -- the line of the end without its line feed
 abbrev pub end_line : ℕ → List ℕ
@@ -104,7 +132,8 @@ end_line end = codes "end " ++ decimal end
 pub end_again : (end : ℕ) → end < 2 ^ 63 → end_at (end_line end) ≡ Some end
 unfolding end_at
 end_again end lt =
-    let number : number_at (decimal end) ≡ Some (Some end, []) = ap number_at (sym (append-nil (decimal end))) ∙ number_again end [] (omega arith) refl in
+    let number : number_at (decimal end) ≡ Some (Some end, []) = ap number_at (sym (append-nil (decimal end)))
+    ∙ number_again end [] (omega arith) refl in
     rw (after_same (codes "end ") (decimal end), number, lt-ltb end (2 ^ 63) lt) refl
 
 pub end_no_row : (end : ℕ) → row_at (end_line end) ≡ None
@@ -113,10 +142,12 @@ end_no_row end = refl
 
 -- ---- no line holds a line feed
 
-all_inner : (p : ℕ → Bool) → ((b : ℕ) → p b ≡ true → is_inner b ≡ true) → (bytes : List ℕ) → list_all p bytes ≡ true → list_all is_inner bytes ≡ true
+all_inner : (p : ℕ → Bool) → ((b : ℕ) → p b ≡ true → is_inner b ≡ true) → (bytes : List ℕ) → list_all p bytes ≡ true
+    → list_all is_inner bytes ≡ true
 all_inner p inner [] h = refl
 all_inner p inner (b ∷ bytes) h = step (p b) refl h (all_inner p inner bytes) where
-  step : (q : Bool) → p b ≡ q → (q && list_all p bytes) ≡ true → (list_all p bytes ≡ true → list_all is_inner bytes ≡ true) → list_all is_inner (b ∷ bytes) ≡ true
+  step : (q : Bool) → p b ≡ q → (q && list_all p bytes) ≡ true
+      → (list_all p bytes ≡ true → list_all is_inner bytes ≡ true) → list_all is_inner (b ∷ bytes) ≡ true
   step true e more ih = rw (inner b e, ih more) refl
   step false e more ih = absurd cc
 
@@ -130,8 +161,13 @@ hex_inner : (d : ℕ) → d < 16 → is_inner (hex_digit d) ≡ true
 hex_inner d lt = digit_inner (hex_digit d) (digit_passes d lt)
 
 lines_inner : (n : ℕ) → n < 2 ^ 18 → list_all is_inner (lines_text n) ≡ true
-lines_inner n lt =
-    rw (hex_inner (n / 65536) (omega arith), hex_inner (n / 4096 % 16) (omega arith), hex_inner (n / 256 % 16) (omega arith), hex_inner (n / 16 % 16) (omega arith), hex_inner (n % 16) (omega arith)) refl
+lines_inner n lt = rw (
+  hex_inner (n / 65536) (omega arith),
+  hex_inner (n / 4096 % 16) (omega arith),
+  hex_inner (n / 256 % 16) (omega arith),
+  hex_inner (n / 16 % 16) (omega arith),
+  hex_inner (n % 16) (omega arith),
+) refl
 
 printed_inner : (d : ℕ) → is_inner (48 + d) ≡ true
 printed_inner d = grind (arith, nat_tests)
@@ -143,7 +179,8 @@ kind_inner (Fault bit) h fits = decimal_inner bit (omega (arith, h))
 pub row_inner : (row : Row) → IsTraceRow row → list_all is_inner (row_line row) ≡ true
 row_inner row h =
     let time = h.time in
-    list_all-append is_inner (decimal row.time) (32 ∷ (48 + row.dev) ∷ 32 ∷ kind_text row.kind) ∙ rw (decimal_inner row.time (omega arith), printed_inner row.dev, kind_inner row.kind h.named.kind h.lines) refl
+    list_all-append is_inner (decimal row.time) (32 ∷ (48 + row.dev) ∷ 32 ∷ kind_text row.kind)
+    ∙ rw (decimal_inner row.time (omega arith), printed_inner row.dev, kind_inner row.kind h.named.kind h.lines) refl
 
 pub end_inner : (end : ℕ) → end < 2 ^ 63 → list_all is_inner (end_line end) ≡ true
 end_inner end lt = decimal_inner end (omega arith)

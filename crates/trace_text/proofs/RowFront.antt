@@ -1,5 +1,6 @@
 -- The line of a row at the front of a piece.
-use Rattle.std.proofs.Common.{◌≡◌, ℕ, ◌+◌, ◌-◌, ◌^◌, ◌<◌, ◌≤◌, Bool, true, false, ◌&&◌, List, [], ◌∷◌, ◌++◌, length, get_or, take, drop, take_all, Some, None, refl, sym, ap, ◌∙◌, arith, append_assoc}
+use Rattle.std.proofs.Common.{◌≡◌, ℕ, ◌+◌, ◌-◌, ◌^◌, ◌<◌, ◌≤◌, Bool, true, false, ◌&&◌, List, [], ◌∷◌, ◌++◌, length}
+use Rattle.std.proofs.Common.{get_or, take, drop, take_all, Some, None, refl, sym, ap, ◌∙◌, arith, append_assoc}
 use Rattle.std.specs.Prelude.{nat_lt, nat_le, ◌==◌, codes, decimal}
 use Rattle.std.specs.List.{prefix_len, list_all}
 use Rattle.std.proofs.lemmas.Bool.{lt-ltb, and_parts}
@@ -14,14 +15,16 @@ use Rattle.bus_trace.specs.declared.Kind.{Kind}
 use Rattle.bus_trace.specs.declared.Kind.TheVariants.{Drives}
 use Rattle.bus_trace.specs.declared.Row.{Row}
 use Rattle.trace_text.specs.Lines.{below, value_of, kind_at, row_at}
-use Rattle.trace_text.specs.Pieces.{is_inner, text_of, StartsWithRow, is_row_end, lines_of_row, with_kind, row_end, front_row}
+use Rattle.trace_text.specs.Pieces.{is_inner, text_of, StartsWithRow, is_row_end, lines_of_row, with_kind, row_end}
+use Rattle.trace_text.specs.Pieces.{front_row}
 use Rattle.trace_text.proofs.Short.{below_is}
 use Rattle.trace_text.proofs.RowAgain.{decimal_inner, digit_inner}
 use Rattle.trace_text.proofs.Pieces.{line_len_fed}
 
 -- what stands after the number
 abbrev pub end_of_row : List ℕ → List ℕ
-end_of_row ys = 32 ∷ get_or ys 1 0 ∷ 32 ∷ get_or ys 3 0 ∷ get_or ys 4 0 ∷ get_or ys 5 0 ∷ get_or ys 6 0 ∷ get_or ys 7 0 ∷ []
+end_of_row ys =
+    32 ∷ get_or ys 1 0 ∷ 32 ∷ get_or ys 3 0 ∷ get_or ys 4 0 ∷ get_or ys 5 0 ∷ get_or ys 6 0 ∷ get_or ys 7 0 ∷ []
 
 pub record IsRowEnd (ys : List ℕ) (kind : Kind) : Type 0 where
   pub nine : 9 ≤ length ys
@@ -32,7 +35,8 @@ pub record IsRowEnd (ys : List ℕ) (kind : Kind) : Type 0 where
   pub lines : kind_at (lines_of_row ys) ≡ Some kind
   pub feed : get_or ys 8 0 ≡ 10
 
-spread : (ys : List ℕ) → 9 ≤ length ys → ys ≡ (get_or ys 0 0 ∷ get_or ys 1 0 ∷ get_or ys 2 0 ∷ lines_of_row ys) ++ get_or ys 8 0 ∷ drop 9 ys
+spread : (ys : List ℕ) → 9 ≤ length ys
+    → ys ≡ (get_or ys 0 0 ∷ get_or ys 1 0 ∷ get_or ys 2 0 ∷ lines_of_row ys) ++ get_or ys 8 0 ∷ drop 9 ys
 spread [] h = absurd (omega arith)
 spread (a ∷ []) h = absurd (omega arith)
 spread (a ∷ b ∷ []) h = absurd (omega arith)
@@ -45,13 +49,17 @@ spread (a ∷ b ∷ c ∷ d ∷ e ∷ f ∷ g ∷ i ∷ []) h = absurd (omega ar
 spread (a ∷ b ∷ c ∷ d ∷ e ∷ f ∷ g ∷ i ∷ j ∷ ys) h = refl
 
 end_is : (ys : List ℕ) (kind : Kind) → IsRowEnd ys kind → ys ≡ end_of_row ys ++ 10 ∷ drop 9 ys
-end_is ys kind h = spread ys h.nine ∙ (λ i. (h.first i ∷ get_or ys 1 0 ∷ h.second i ∷ lines_of_row ys) ++ h.feed i ∷ drop 9 ys)
+end_is ys kind h =
+    spread ys h.nine ∙ (λ i. (h.first i ∷ get_or ys 1 0 ∷ h.second i ∷ lines_of_row ys) ++ h.feed i ∷ drop 9 ys)
 
 -- the five digits of lines are digits
-five_inner : (a b c d e : ℕ) (kind : Kind) → kind_at (a ∷ b ∷ c ∷ d ∷ e ∷ []) ≡ Some kind → list_all is_inner (a ∷ b ∷ c ∷ d ∷ e ∷ []) ≡ true
+five_inner : (a b c d e : ℕ) (kind : Kind) → kind_at (a ∷ b ∷ c ∷ d ∷ e ∷ []) ≡ Some kind
+    → list_all is_inner (a ∷ b ∷ c ∷ d ∷ e ∷ []) ≡ true
 five_inner a b c d e kind is =
-    let p = cond_some (((((is_hex a && is_hex b) && is_hex c) && is_hex d) && is_hex e) && nat_lt (value_of a b c d e) 0x40000) (Drives (set_of (value_of a b c d e))) kind is in
-    let all = and_parts ((((is_hex a && is_hex b) && is_hex c) && is_hex d) && is_hex e) (nat_lt (value_of a b c d e) 0x40000) p.0 in
+    let p = cond_some (((((is_hex a && is_hex b) && is_hex c) && is_hex d) && is_hex e)
+    && nat_lt (value_of a b c d e) 0x40000) (Drives (set_of (value_of a b c d e))) kind is in
+    let all = and_parts ((((is_hex a && is_hex b) && is_hex c) && is_hex d) && is_hex e)
+    (nat_lt (value_of a b c d e) 0x40000) p.0 in
     let four = and_parts (((is_hex a && is_hex b) && is_hex c) && is_hex d) (is_hex e) all.0 in
     let three = and_parts ((is_hex a && is_hex b) && is_hex c) (is_hex d) four.0 in
     let two = and_parts (is_hex a && is_hex b) (is_hex c) three.0 in
@@ -65,45 +73,72 @@ end_inner ys kind h =
     let device : is_inner (get_or ys 1 0) ≡ true = grind (arith, nat_tests) in
     rw device (five_inner (get_or ys 3 0) (get_or ys 4 0) (get_or ys 5 0) (get_or ys 6 0) (get_or ys 7 0) kind h.lines)
 
-row_is : (t : ℕ) (ys : List ℕ) (kind : Kind) → t < 2 ^ 63 → IsRowEnd ys kind → row_at (decimal t ++ end_of_row ys) ≡ Some (record { time = t; dev = get_or ys 1 0 - 48; kind = kind })
+row_is : (t : ℕ) (ys : List ℕ) (kind : Kind) → t < 2 ^ 63 → IsRowEnd ys kind
+    → row_at (decimal t ++ end_of_row ys) ≡ Some (record { time = t; dev = get_or ys 1 0 - 48; kind = kind })
 unfolding row_at
 row_is t ys kind lt h =
     let low = h.low in
     let high = h.high in
     let device : is_digit (get_or ys 1 0) ≡ true = grind (arith, nat_tests) in
-    rw (number_again t (end_of_row ys) (omega arith) refl, lt-ltb t (2 ^ 63) lt, after_same (codes " ") (get_or ys 1 0 ∷ 32 ∷ lines_of_row ys), device, after_same (codes " ") (lines_of_row ys), h.lines) refl
+    rw (
+      number_again t (end_of_row ys) (omega arith) refl,
+      lt-ltb t (2 ^ 63) lt,
+      after_same (codes " ") (get_or ys 1 0 ∷ 32 ∷ lines_of_row ys),
+      device,
+      after_same (codes " ") (lines_of_row ys),
+      h.lines,
+    ) refl
 
-starts : (bytes line rest : List ℕ) (row : Row) (len : ℕ) → bytes ≡ line ++ 10 ∷ rest → list_all is_inner line ≡ true → row_at line ≡ Some row → len ≡ length line + 1 → StartsWithRow bytes row len
+starts : (bytes line rest : List ℕ) (row : Row) (len : ℕ) → bytes ≡ line ++ 10 ∷ rest → list_all is_inner line ≡ true
+    → row_at line ≡ Some row → len ≡ length line + 1 → StartsWithRow bytes row len
 starts bytes line rest row len whole inner is e =
-    let run : prefix_len is_inner bytes ≡ length line = ap (prefix_len is_inner) whole ∙ run_of is_inner line (10 ∷ rest) inner refl in
+    let run : prefix_len is_inner bytes ≡ length line = ap (prefix_len is_inner) whole
+    ∙ run_of is_inner line (10 ∷ rest) inner refl in
     let text : text_of bytes ≡ line = (λ i. take (run i) (whole i)) ∙ take_at line (10 ∷ rest) (length line) refl in
     let size : length bytes ≡ length line + length (10 ∷ rest) = ap length whole ∙ length-append line (10 ∷ rest) in
     let fed : prefix_len is_inner bytes < length bytes = omega arith in
     let count = line_len_fed bytes fed in
     record { is = ap row_at text ∙ is; whole = omega arith; ended = fed }
 
-pub longer : (bytes ys : List ℕ) (n : Number) (t k : ℕ) → number_at bytes ≡ Some (n, ys) → below n ≡ Some t → length (take k (drop 9 ys)) ≤ length bytes
+pub longer : (bytes ys : List ℕ) (n : Number) (t k : ℕ) → number_at bytes ≡ Some (n, ys) → below n ≡ Some t
+    → length (take k (drop 9 ys)) ≤ length bytes
 longer bytes ys n t k e b =
     let n-is = below_is n t b in
     let only = number_only bytes t ys (e ∙ ap (λ (m : Number). let y : Number × List ℕ = (m, ys) in Some y) n-is.0) in
     omega (arith, ap length only.1, length-append (decimal t) ys, length-drop 9 ys, length-take k (drop 9 ys))
 
-pub row_front : (bytes ys : List ℕ) (n : Number) (t : ℕ) (kind : Kind) → number_at bytes ≡ Some (n, ys) → below n ≡ Some t → IsRowEnd ys kind → StartsWithRow bytes (record { time = t; dev = get_or ys 1 0 - 48; kind = kind }) (length bytes - length (take (length ys - 9) (drop 9 ys)))
+pub row_front : (bytes ys : List ℕ) (n : Number) (t : ℕ) (kind : Kind)
+    → number_at bytes ≡ Some (n, ys) → below n ≡ Some t → IsRowEnd ys kind
+    → StartsWithRow bytes (record { time = t; dev = get_or ys 1 0 - 48; kind = kind })
+    (length bytes - length (take (length ys - 9) (drop 9 ys)))
 row_front bytes ys n t kind e b h =
     let n-is = below_is n t b in
     let lt = n-is.1 in
     let only = number_only bytes t ys (e ∙ ap (λ (m : Number). let y : Number × List ℕ = (m, ys) in Some y) n-is.0) in
     let tail = end_is ys kind h in
-    let whole : bytes ≡ (decimal t ++ end_of_row ys) ++ 10 ∷ drop 9 ys = only.1 ∙ ap (λ (l : List ℕ). decimal t ++ l) tail ∙ sym (append_assoc (decimal t) (end_of_row ys) (10 ∷ drop 9 ys)) in
-    let inner : list_all is_inner (decimal t ++ end_of_row ys) ≡ true = list_all-append is_inner (decimal t) (end_of_row ys) ∙ rw (decimal_inner t (omega arith)) (end_inner ys kind h) in
+    let whole : bytes ≡ (decimal t ++ end_of_row ys) ++ 10 ∷ drop 9 ys = only.1
+    ∙ ap (λ (l : List ℕ). decimal t ++ l) tail ∙ sym (append_assoc (decimal t) (end_of_row ys) (10 ∷ drop 9 ys)) in
+    let inner : list_all is_inner (decimal t ++ end_of_row ys) ≡ true =
+    list_all-append is_inner (decimal t) (end_of_row ys) ∙ rw (decimal_inner t (omega arith)) (end_inner ys kind h) in
     let nine = h.nine in
-    let others : take (length ys - 9) (drop 9 ys) ≡ drop 9 ys = take_all (length ys - 9) (drop 9 ys) (omega (arith, length-drop 9 ys)) in
-    let len : length bytes - length (take (length ys - 9) (drop 9 ys)) ≡ length (decimal t ++ end_of_row ys) + 1 = omega (arith, ap length others, length-drop 9 ys, ap length only.1, length-append (decimal t) ys, length-append (decimal t) (end_of_row ys)) in
-    starts bytes (decimal t ++ end_of_row ys) (drop 9 ys) (record { time = t; dev = get_or ys 1 0 - 48; kind = kind }) _ whole inner (row_is t ys kind lt h) len
+    let others : take (length ys - 9) (drop 9 ys) ≡ drop 9 ys = take_all
+    (length ys - 9) (drop 9 ys) (omega (arith, length-drop 9 ys)) in
+    let len : length bytes - length (take (length ys - 9) (drop 9 ys)) ≡ length (decimal t ++ end_of_row ys) + 1 =
+    omega (
+      arith,
+      ap length others,
+      length-drop 9 ys,
+      ap length only.1,
+      length-append (decimal t) ys,
+      length-append (decimal t) (end_of_row ys),
+    ) in
+    starts bytes (decimal t ++ end_of_row ys) (drop 9 ys)
+    (record { time = t; dev = get_or ys 1 0 - 48; kind = kind }) _ whole inner (row_is t ys kind lt h) len
 
 -- ---- the same by its definition
 
-front_is : (bytes ys : List ℕ) (n : Number) (t : ℕ) → number_at bytes ≡ Some (n, ys) → below n ≡ Some t → row_end bytes ys t ≡ front_row bytes
+front_is : (bytes ys : List ℕ) (n : Number) (t : ℕ) → number_at bytes ≡ Some (n, ys) → below n ≡ Some t
+    → row_end bytes ys t ≡ front_row bytes
 unfolding front_row
 front_is bytes ys n t e b = rw (e, b) refl
 
@@ -118,8 +153,10 @@ pub record HasEnd (ys : List ℕ) : Type 0 where
 
 has_end : (ys : List ℕ) → is_row_end ys ≡ true → HasEnd ys
 has_end ys e =
-    let four = and_parts (nat_le 9 (length ys) && get_or ys 0 0 == 32 && is_digit (get_or ys 1 0) && get_or ys 2 0 == 32) (get_or ys 8 0 == 10) e in
-    let three = and_parts (nat_le 9 (length ys) && get_or ys 0 0 == 32 && is_digit (get_or ys 1 0)) (get_or ys 2 0 == 32) four.0 in
+    let four = and_parts (nat_le 9 (length ys) && get_or ys 0 0 == 32
+    && is_digit (get_or ys 1 0) && get_or ys 2 0 == 32) (get_or ys 8 0 == 10) e in
+    let three = and_parts (nat_le 9 (length ys) && get_or ys 0 0 == 32 && is_digit (get_or ys 1 0))
+    (get_or ys 2 0 == 32) four.0 in
     let two = and_parts (nat_le 9 (length ys) && get_or ys 0 0 == 32) (is_digit (get_or ys 1 0)) three.0 in
     let one = and_parts (nat_le 9 (length ys)) (get_or ys 0 0 == 32) two.0 in
     let digit = and_parts (nat_le 48 (get_or ys 1 0)) (nat_le (get_or ys 1 0) 55) two.1 in
@@ -129,9 +166,17 @@ has_end ys e =
     let high = digit.1 in
     let second = three.1 in
     let feed = four.1 in
-    record { nine = grind (arith, nat_tests); first = grind (arith, nat_tests); low = grind (arith, nat_tests); high = grind (arith, nat_tests); second = grind (arith, nat_tests); feed = grind (arith, nat_tests) }
+    record {
+      nine = grind (arith, nat_tests);
+      first = grind (arith, nat_tests);
+      low = grind (arith, nat_tests);
+      high = grind (arith, nat_tests);
+      second = grind (arith, nat_tests);
+      feed = grind (arith, nat_tests);
+    }
 
-pub front_none : (bytes ys : List ℕ) (n : Number) (t : ℕ) → number_at bytes ≡ Some (n, ys) → below n ≡ Some t → (HasEnd ys → ⊥) → None ≡ front_row bytes
+pub front_none : (bytes ys : List ℕ) (n : Number) (t : ℕ) → number_at bytes ≡ Some (n, ys) → below n ≡ Some t
+    → (HasEnd ys → ⊥) → None ≡ front_row bytes
 front_none bytes ys n t e b refuted = go (is_row_end ys) refl ∙ front_is bytes ys n t e b where
   go : (q : Bool) → is_row_end ys ≡ q → None ≡ row_end bytes ys t
   go true is = absurd (refuted (has_end ys is))

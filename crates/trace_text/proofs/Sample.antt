@@ -14,19 +14,22 @@ use Rattle.trace_text.specs.Whole.{trace_of}
 
 abbrev sample : RunValue
 sample = record {
-  rows = record { time = 4800; dev = 7; kind = Drives (set_of 0x1078a) } ∷ record { time = 7055; dev = 0; kind = Fault 8 } ∷ [];
+  rows = record { time = 4800; dev = 7; kind = Drives (set_of 0x1078a) }
+      ∷ record { time = 7055; dev = 0; kind = Fault 8 } ∷ [];
   end = 7055;
   history = Accept (record { command = 1; sense = false }) ∷ End (record { command = 12; sense = true }) 2 ∷ [];
   replies = Good (0x0a ∷ 0xff ∷ []) ∷ [];
   disks = record { count = 4294967296; size = 2; touched = (0, 0 ∷ 0 ∷ []) ∷ (4294967295, 1 ∷ 0xa2 ∷ []) ∷ [] } ∷ [];
 }
 
-report_of_sample : report_text ((3, 0) ∷ []) sample ≡ codes "trace 1\n4800 7 1078a\n7055 0 f8\nend 7055\nhistory\naccept 1\nend 12S 02\nreplies\ncmd 1 GOOD 0aff\nblocks\nblock 3 0 4294967295 01a2\ndone\n"
+report_of_sample : report_text ((3, 0) ∷ []) sample ≡ codes
+    "trace 1\n4800 7 1078a\n7055 0 f8\nend 7055\nhistory\naccept 1\nend 12S 02\nreplies\ncmd 1 GOOD 0aff\nblocks\nblock 3 0 4294967295 01a2\ndone\n"
 unfolding digits
 report_of_sample = refl
 
 -- the front of the report read as a trace, and two texts that break the form
-trace_of_report : trace_of (codes "trace 1\n4800 7 1078a\n7055 0 f8\nend 7055\nhistory\naccept 1\nend") ≡ Ok (sample.rows, 7055)
+trace_of_report : trace_of (codes "trace 1\n4800 7 1078a\n7055 0 f8\nend 7055\nhistory\naccept 1\nend")
+    ≡ Ok (sample.rows, 7055)
 unfolding after number_at row_at end_at
 trace_of_report = refl
 

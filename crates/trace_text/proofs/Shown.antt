@@ -10,7 +10,11 @@ use Rattle.trace_text.specs.BlockText.{disk_text, disks_text}
 use Rattle.trace_text.specs.ReportText.{disk_name}
 use Rattle.bus_base.proofs.Tests.{dropped, item_next}
 
-pub disk_next : (i : ℕ) (units : List UnitDef) (disks : List Store) (u : UnitDef) (disk : Store) → i < length units → i < length disks → disk ≡ get_or disks i disk → disks_text (map disk_name (drop i units)) (map held_by (drop i disks)) ≡ disk_text (get_or units i u).target (get_or units i u).unit disk.contents ++ disks_text (map disk_name (drop (i + 1) units)) (map held_by (drop (i + 1) disks))
+pub disk_next : (i : ℕ) (units : List UnitDef) (disks : List Store) (u : UnitDef) (disk : Store)
+    → i < length units → i < length disks → disk ≡ get_or disks i disk
+    → disks_text (map disk_name (drop i units)) (map held_by (drop i disks))
+    ≡ disk_text (get_or units i u).target (get_or units i u).unit disk.contents
+    ++ disks_text (map disk_name (drop (i + 1) units)) (map held_by (drop (i + 1) disks))
 disk_next i units disks u disk in_units in_disks is_disk =
     let ds = item_next i disks disk in_disks is_disk in
     let us = dropped i units u in_units in

@@ -10,17 +10,16 @@ is_zero bytes = list_all (λ b. b == 0) bytes
 -- `block T U LBA HEX`, or nothing for a block that is all zero
 abbrev pub block_text : ℕ → ℕ → ℕ → List ℕ → List ℕ
 block_text target unit lba bytes =
-    if is_zero bytes then []
-    else codes "block " ++ (decimal target ++ (32 ∷ [] ++ (decimal unit ++ (32 ∷ [] ++ (decimal lba ++ (32 ∷ [] ++ (hex_text bytes ++ 10 ∷ [])))))))
+    if is_zero bytes then [] else codes "block " ++ (decimal target
+    ++ (32 ∷ [] ++ (decimal unit ++ (32 ∷ [] ++ (decimal lba ++ (32 ∷ [] ++ (hex_text bytes ++ 10 ∷ [])))))))
 
--- The touched blocks of a disk of so many blocks, from this number on. Their numbers rise; one that does not is no block of
--- the disk, and no more is one that is not below the count.
+-- The touched blocks of a disk of so many blocks, from this number on. Their numbers rise; one that does not is no
+-- block of the disk, and no more is one that is not below the count.
 abbrev pub blocks_text : ℕ → ℕ → ℕ → ℕ → List (ℕ × List ℕ) → List ℕ
 blocks_text target unit count from [] = []
 blocks_text target unit count from (entry ∷ touched) =
-    if nat_lt entry.0 from then blocks_text target unit count from touched
-    else if nat_lt entry.0 count then block_text target unit entry.0 entry.1 ++ blocks_text target unit count (entry.0 + 1) touched
-    else []
+    if nat_lt entry.0 from then blocks_text target unit count from touched else if nat_lt entry.0 count
+    then block_text target unit entry.0 entry.1 ++ blocks_text target unit count (entry.0 + 1) touched else []
 
 abbrev pub blocks_from : ℕ → ℕ → Contents → ℕ → List ℕ
 blocks_from target unit disk from = blocks_text target unit disk.count from disk.touched

@@ -17,8 +17,8 @@ event_words (events.End p status) = codes "end " ++ (process_text p ++ (32 ∷ [
 event_words (events.Refuse p) = codes "refuse " ++ process_text p
 event_words (events.Fail p code) = codes "fail " ++ (process_text p ++ (32 ∷ [] ++ byte_text code))
 event_words (events.Lost p) = codes "lost " ++ process_text p
-event_words (events.Aborted initiator target unit what) =
-    codes "abort " ++ (decimal initiator ++ (32 ∷ [] ++ (decimal target ++ (32 ∷ [] ++ (decimal unit ++ (32 ∷ [] ++ abort_text what))))))
+event_words (events.Aborted initiator target unit what) = codes "abort " ++ (decimal initiator
+    ++ (32 ∷ [] ++ (decimal target ++ (32 ∷ [] ++ (decimal unit ++ (32 ∷ [] ++ abort_text what))))))
 event_words (events.Reset dev) = codes "reset " ++ decimal dev
 
 -- its words and a line feed

@@ -1,5 +1,6 @@
 -- The lines of a trace text, and what stands after some of them.
-use Rattle.std.specs.Prelude.{ℕ, ◌<◌, ◌+◌, ◌-◌, ◌*◌, ◌^◌, Bool, ◌&&◌, List, [], ◌∷◌, Option, Some, None, nat_lt, nat_le, nat_eq, ◌==◌, codes, if◌then◌else◌}
+use Rattle.std.specs.Prelude.{ℕ, ◌<◌, ◌+◌, ◌-◌, ◌*◌, ◌^◌, Bool, ◌&&◌, List, [], ◌∷◌, Option, Some, None, nat_lt, nat_le}
+use Rattle.std.specs.Prelude.{nat_eq, ◌==◌, codes, if◌then◌else◌}
 use Rattle.std.specs.Cmp.Lexicographic.{pointwise}
 use Rattle.text_words.specs.Words.{Number, ◌>>=◌, after, number_at, digit_at, is_hex, hex_value, is_whole}
 use Rattle.bus_trace.specs.LineSet.{set_of}
@@ -24,7 +25,9 @@ value_of a b c d e = (hex_value a * 16 + hex_value b) * 4096 + ((hex_value c * 1
 -- `HHHHH`, at most 3ffff: the lines that are driven; or `fB`, a fault on bit 0 to 8.
 abbrev pub kind_at : List ℕ → Option Kind
 kind_at (f ∷ bit ∷ []) = if f == 102 && nat_le 48 bit && nat_le bit 56 then Some (Fault (bit - 48)) else None
-kind_at (a ∷ b ∷ c ∷ d ∷ e ∷ []) = if ((((is_hex a && is_hex b) && is_hex c) && is_hex d) && is_hex e) && nat_lt (value_of a b c d e) 0x40000 then Some (Drives (set_of (value_of a b c d e))) else None
+kind_at (a ∷ b ∷ c ∷ d ∷ e ∷ []) =
+    if ((((is_hex a && is_hex b) && is_hex c) && is_hex d) && is_hex e) && nat_lt (value_of a b c d e) 0x40000
+    then Some (Drives (set_of (value_of a b c d e))) else None
 kind_at _ = None
 
 -- The line of a row: `T D HHHHH` or `T D fB`.

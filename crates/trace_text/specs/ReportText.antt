@@ -11,8 +11,9 @@ use Rattle.trace_text.specs.BlockText.{disks_text}
 
 -- the first list names the target and the unit of each disk
 abbrev pub report_text : List (ℕ × ℕ) → RunValue → List ℕ
-report_text units run =
-    trace_text run.rows run.end ++ (codes "history\n" ++ (flat_map event_text run.history ++ (codes "replies\n" ++ (replies_text 1 run.replies ++ (codes "blocks\n" ++ (disks_text units run.disks ++ codes "done\n"))))))
+report_text units run = trace_text run.rows run.end
+    ++ (codes "history\n" ++ (flat_map event_text run.history ++ (codes "replies\n"
+    ++ (replies_text 1 run.replies ++ (codes "blocks\n" ++ (disks_text units run.disks ++ codes "done\n"))))))
 
 -- the target and the unit of a disk
 abbrev pub disk_name : UnitDef → ℕ × ℕ

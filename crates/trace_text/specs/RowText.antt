@@ -9,8 +9,8 @@ use Rattle.bus_trace.specs.declared.Row.{Row}
 
 -- five hexadecimal digits, the bits of the 18 lines
 abbrev pub lines_text : ℕ → List ℕ
-lines_text n =
-    hex_digit (n / 65536) ∷ hex_digit (n / 4096 % 16) ∷ hex_digit (n / 256 % 16) ∷ hex_digit (n / 16 % 16) ∷ hex_digit (n % 16) ∷ []
+lines_text n = hex_digit (n / 65536) ∷ hex_digit (n / 4096 % 16) ∷ hex_digit (n / 256 % 16) ∷ hex_digit (n / 16 % 16)
+    ∷ hex_digit (n % 16) ∷ []
 
 -- the lines that are driven, or `f` and the number of the bit that is inverted, 0 to 8
 abbrev pub kind_text : Kind → List ℕ

@@ -26,10 +26,11 @@ abbrev pub ending_text : List ℕ → Ending → List Outcome → List ℕ
 ending_text name ending replies = count_text name (count_by (has_ended ending) replies)
 
 abbrev pub endings_text : List Outcome → List ℕ
-endings_text replies =
-    ending_text (codes "good") endings.Good replies ++ (ending_text (codes "check") endings.Check replies ++ (ending_text (codes "qfull") endings.QFull replies ++ (ending_text (codes "seltimeout") endings.SelTimeout replies
-    ++ (ending_text (codes "lost") endings.Lost replies ++ (ending_text (codes "reset") endings.Reset replies ++ ending_text (codes "aborted") endings.Aborted replies)))))
+endings_text replies = ending_text (codes "good") endings.Good replies
+    ++ (ending_text (codes "check") endings.Check replies ++ (ending_text (codes "qfull") endings.QFull replies
+    ++ (ending_text (codes "seltimeout") endings.SelTimeout replies ++ (ending_text (codes "lost") endings.Lost replies
+    ++ (ending_text (codes "reset") endings.Reset replies ++ ending_text (codes "aborted") endings.Aborted replies)))))
 
 abbrev pub short_text : RunValue → List ℕ
-short_text run =
-    codes "short 1\n" ++ (count_text (codes "rows") (length run.rows) ++ (count_text (codes "end") run.end ++ endings_text run.replies))
+short_text run = codes "short 1\n"
+    ++ (count_text (codes "rows") (length run.rows) ++ (count_text (codes "end") run.end ++ endings_text run.replies))

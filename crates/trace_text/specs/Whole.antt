@@ -16,7 +16,8 @@ with_rows rows (Err line) = Err line
 -- than 1,073,741,824 bytes.
 abbrev pub trace_of : List ℕ → Result (List Row × ℕ) ℕ
 trace_of bytes =
-    if nat_lt TRACE_LIMIT (length bytes) then Err 0 else with_rows (reverse (rows_of (reverse bytes))) (end_of (reverse bytes))
+    if nat_lt TRACE_LIMIT (length bytes) then Err 0
+    else with_rows (reverse (rows_of (reverse bytes))) (end_of (reverse bytes))
 
 -- What was read is this; want of memory is free.
 abbrev pub Answers : Result Trace TraceBad → Result (List Row × ℕ) ℕ → Type 0

@@ -14,7 +14,8 @@ use Rattle.transcript_laws.specs.Parts.{nexus_of}
 use Rattle.transcript_laws.specs.Told.{IsKeptOf}
 
 -- Its nexus has a last process, which has the name with which it was sent.
-pub record HasProcess (s : ScenarioValue) (last : List (Key × Process)) (sent : List Item) (names : List Name) (id : ProcId) : Type 0 where
+pub record HasProcess (s : ScenarioValue) (last : List (Key × Process)) (sent : List Item) (names : List Name)
+    (id : ProcId) : Type 0 where
   pub definition : array_of.Process
   pub definition_is : array_of.process_of s id ≡ Some definition
   pub process : Process
@@ -22,7 +23,8 @@ pub record HasProcess (s : ScenarioValue) (last : List (Key × Process)) (sent :
   pub named : name_sent sent names id ≡ Some process.name
 
 -- The last process of its nexus is this one.
-pub record IsKept (s : ScenarioValue) (last : List (Key × Process)) (sent : List Item) (names : List Name) (carried : List CarriedBytes) (id : ProcId) : Type 0 where
+pub record IsKept (s : ScenarioValue) (last : List (Key × Process)) (sent : List Item) (names : List Name)
+    (carried : List CarriedBytes) (id : ProcId) : Type 0 where
   pub definition : array_of.Process
   pub definition_is : array_of.process_of s id ≡ Some definition
   pub process : Process

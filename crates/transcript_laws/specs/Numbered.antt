@@ -1,4 +1,5 @@
--- The names of the connections that initiators began are apart: of one nexus each has its own number, but for aborts, which have 0.
+-- The names of the connections that initiators began are apart: of one nexus each has its own number, but for aborts,
+-- which have 0.
 use Rattle.std.specs.Prelude.{◌+◌, ◌≤◌, ◌≡◌, ◌==◌, true, false, List, [], ◌∷◌, length, Some, ⊤}
 use Rattle.bus_transcript.specs.declared.item.Name.{Name}
 use Rattle.bus_transcript.specs.declared.process.Process.{Process}

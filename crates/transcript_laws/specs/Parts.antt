@@ -1,5 +1,7 @@
--- The parts of the connection that stands, by what is void so far and what is still said, and the name that they give (6.5, 6.6.13).
-use Rattle.std.specs.Prelude.{Bool, true, false, not, ◌&&◌, ◌||◌, List, [], ◌∷◌, ◌++◌, Option, Some, None, if◌then◌else◌}
+-- The parts of the connection that stands, by what is void so far and what is still said, and the name that they give
+-- (6.5, 6.6.13).
+use Rattle.std.specs.Prelude.{Bool, true, false, not, ◌&&◌, ◌||◌, List, [], ◌∷◌, ◌++◌, Option, Some, None}
+use Rattle.std.specs.Prelude.{if◌then◌else◌}
 use Rattle.bus_due.specs.bus_base.specs.declared.ProcId.{ProcId}
 use Rattle.bus_due.specs.bus_trace.specs.LineSet.{LineSet}
 use Rattle.bus_due.specs.bus_trace.specs.Phases.{is_command}
@@ -58,7 +60,8 @@ abbrev pub summary_by : Connection → List Part → Summary
 summary_by n parts = summary_of n.reselected no_summary parts
 
 abbrev pub nexus_of : Process → Name
-nexus_of p = record { initiator = p.initiator; target = p.target; unit = Some p.unit; tag = tag_number p.tag; number = 0 }
+nexus_of p =
+    record { initiator = p.initiator; target = p.target; unit = Some p.unit; tag = tag_number p.tag; number = 0 }
 
 abbrev pub is_of : Name → Option Process → Bool
 is_of name None = false

@@ -53,9 +53,12 @@ items_by name event = items_if name event
 -- ---- which names were refused
 
 -- Those of the processes that the history has refused, and none of those whose status it has shown.
-pub record AreRefused (refused : List Name) (sent : List told.Item) (names : List Name) (history : List Event) : Type 0 where
-  pub refusals : (id : ProcId) (name : Name) → has_refusal history id ≡ true → name_sent sent names id ≡ Some name → is_listed refused name ≡ true
-  pub answers : (id : ProcId) (name : Name) → has_answer history id ≡ true → name_sent sent names id ≡ Some name → is_listed refused name ≡ false
+pub record AreRefused (refused : List Name) (sent : List told.Item) (names : List Name) (history : List Event) : Type
+    0 where
+  pub refusals : (id : ProcId) (name : Name) → has_refusal history id ≡ true → name_sent sent names id ≡ Some name
+      → is_listed refused name ≡ true
+  pub answers : (id : ProcId) (name : Name) → has_answer history id ≡ true → name_sent sent names id ≡ Some name
+      → is_listed refused name ≡ false
 
 -- ---- connections that are over
 
@@ -63,8 +66,10 @@ pub record IsPast (list : List Item) (sent : List told.Item) (history : List Eve
   pub count : length (names_begun list) ≡ length sent
   pub known : AreEventsSent sent history
   -- a process has a number
-  pub numbers : (id : ProcId) (name : Name) → name_sent sent (names_begun list) id ≡ Some name → (name.number == 0) ≡ false
-  pub shown : (refused : List Name) → AreRefused refused sent (names_begun list) history → shown_items refused list ≡ named_events sent (names_begun list) (reverse history)
+  pub numbers : (id : ProcId) (name : Name) → name_sent sent (names_begun list) id ≡ Some name
+      → (name.number == 0) ≡ false
+  pub shown : (refused : List Name) → AreRefused refused sent (names_begun list) history
+      → shown_items refused list ≡ named_events sent (names_begun list) (reverse history)
 
 -- ---- the events of one process
 
@@ -86,5 +91,5 @@ AreOwnEvents id (event ∷ list) = IsOwnEvent id event × AreOwnEvents id list
 
 -- A process that was refused and one that has shown its status have not the same name.
 abbrev pub AreApart : List told.Item → List Name → List Event → Type 0
-AreApart sent names history =
-    (x y : ProcId) (a b : Name) → has_refusal history x ≡ true → has_answer history y ≡ true → name_sent sent names x ≡ Some a → name_sent sent names y ≡ Some b → same_name a b ≡ false
+AreApart sent names history = (x y : ProcId) (a b : Name) → has_refusal history x ≡ true → has_answer history y ≡ true
+    → name_sent sent names x ≡ Some a → name_sent sent names y ≡ Some b → same_name a b ≡ false

@@ -1,4 +1,5 @@
--- The connection of a known process: its account is what the process has carried, and its items show the events of the connection.
+-- The connection of a known process: its account is what the process has carried, and its items show the events of the
+-- connection.
 use Rattle.std.specs.Prelude.{ℕ, ◌≡◌, Bool, true, false, ◌&&◌, List, [], ◌∷◌, reverse, Option, Some, if◌then◌else◌}
 use Rattle.std.specs.List.{flat_map}
 use Rattle.bus_due.specs.bus_base.specs.declared.Event.{Event}
@@ -28,10 +29,13 @@ pub record IsRefused (refused : List Name) (name : Name) (id : ProcId) (history 
   pub refusal : has_refusal history id ≡ true → is_listed refused name ≡ true
   pub answer : has_answer history id ≡ true → is_listed refused name ≡ false
 
--- What is carried now, what MESSAGE PARITY ERROR would bring back, and the events of the connection so far, the newest first.
-pub record IsServing (k : OpenedValue) (commands : Bool) (id : ProcId) (now back : CarriedBytes) (conn history : List Event) (was : Bool) (before : Option ℕ) : Type 0 where
+-- What is carried now, what MESSAGE PARITY ERROR would bring back, and the events of the connection so far, the newest
+-- first.
+pub record IsServing (k : OpenedValue) (commands : Bool) (id : ProcId) (now back : CarriedBytes)
+    (conn history : List Event) (was : Bool) (before : Option ℕ) : Type 0 where
   pub account : (p : Process) → IsAsBegun p was before → IsAccountOf (account_now k commands p) now
-  pub void : (m : Incoming) (p : Process) → k.held ≡ Some m → k.since ≡ [] → k.bytes ≡ [] → IsAsBegun p was before → IsAccountOf (account_after_all (account_of p []) k.parts) back
+  pub void : (m : Incoming) (p : Process) → k.held ≡ Some m → k.since ≡ [] → k.bytes ≡ [] → IsAsBegun p was before
+      → IsAccountOf (account_after_all (account_of p []) k.parts) back
   pub told : (refused : List Name) (p : Process) → IsAsBegun p was before → IsRefused refused p.name id history
       → shown_items refused (account_base k p).items ≡ flat_map (λ event. items_named p.name event) (reverse conn)
 

@@ -13,8 +13,8 @@ row time dev n = record { time = time; dev = dev; kind = Drives (set_of n) }
 
 -- one line, with a clock beside the device
 abbrev one_line : List ℕ
-one_line =
-    codes "$timescale 1ns $end $var reg 18 ! d7 [17:0] $end $var wire 1 % clk $end $enddefinitions $end #0 0% b0 ! #1200 1% b1010000000 !"
+one_line = codes
+    "$timescale 1ns $end $var reg 18 ! d7 [17:0] $end $var wire 1 % clk $end $enddefinitions $end #0 0% b0 ! #1200 1% b1010000000 !"
 
 one_line_check : vcd_of one_line ≡ Ok (row 1200 7 0x280 ∷ [], 1200)
 one_line_check = refl
@@ -81,10 +81,12 @@ shared_check : vcd_of (codes "$timescale 1ns $end $var wire 18 a d0 $end $var wi
 shared_check = refl
 
 -- a row where the value differs from what the device drives
-changes_check : vcd_of (head ++ codes "b1 ! #6 b01 ! B1 ! b0 ! b111111111111111111 !") ≡ Ok (row 0 7 1 ∷ row 6 7 0 ∷ row 6 7 0x3ffff ∷ [], 6)
+changes_check : vcd_of (head ++ codes "b1 ! #6 b01 ! B1 ! b0 ! b111111111111111111 !")
+    ≡ Ok (row 0 7 1 ∷ row 6 7 0 ∷ row 6 7 0x3ffff ∷ [], 6)
 changes_check = refl
 
 -- A fault row writes nothing, and a time is written once.
-fault_check : rows_text 5 (row 5 1 2 ∷ record { time = 7; dev = 1; kind = Fault 8 } ∷ row 9 1 0 ∷ []) ≡ codes "b000000000000000010 b\n#9\nb000000000000000000 b\n"
+fault_check : rows_text 5 (row 5 1 2 ∷ record { time = 7; dev = 1; kind = Fault 8 } ∷ row 9 1 0 ∷ [])
+    ≡ codes "b000000000000000010 b\n#9\nb000000000000000000 b\n"
 unfolding digits
 fault_check = refl

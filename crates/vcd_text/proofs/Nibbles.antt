@@ -2,7 +2,8 @@
 use Rattle.std.proofs.Common.{◌≡◌, ℕ, ◌+◌, ◌/◌, ◌%◌, [], ◌∷◌, arith}
 use Rattle.vcd_text.specs.DumpText.{bit_text, nibble_text}
 
-pub fourth : (n : ℕ) → nibble_text (n / 4096 % 16) ≡ bit_text n 32768 ∷ bit_text n 16384 ∷ bit_text n 8192 ∷ bit_text n 4096 ∷ []
+pub fourth :
+    (n : ℕ) → nibble_text (n / 4096 % 16) ≡ bit_text n 32768 ∷ bit_text n 16384 ∷ bit_text n 8192 ∷ bit_text n 4096 ∷ []
 fourth n =
     let a : n / 4096 % 16 / 8 % 2 ≡ n / 32768 % 2 = omega arith in
     let b : n / 4096 % 16 / 4 % 2 ≡ n / 16384 % 2 = omega arith in
@@ -10,7 +11,8 @@ fourth n =
     let d : n / 4096 % 16 / 1 % 2 ≡ n / 4096 % 2 = omega arith in
     λ i. (48 + a i) ∷ (48 + b i) ∷ (48 + c i) ∷ (48 + d i) ∷ []
 
-pub third : (n : ℕ) → nibble_text (n / 256 % 16) ≡ bit_text n 2048 ∷ bit_text n 1024 ∷ bit_text n 512 ∷ bit_text n 256 ∷ []
+pub third :
+    (n : ℕ) → nibble_text (n / 256 % 16) ≡ bit_text n 2048 ∷ bit_text n 1024 ∷ bit_text n 512 ∷ bit_text n 256 ∷ []
 third n =
     let a : n / 256 % 16 / 8 % 2 ≡ n / 2048 % 2 = omega arith in
     let b : n / 256 % 16 / 4 % 2 ≡ n / 1024 % 2 = omega arith in

@@ -7,8 +7,12 @@ use Rattle.bus_trace.specs.declared.rows.Row.{Row}
 
 -- the declarations, the time 0, and that no device drives a line
 abbrev pub head_text : List ℕ
-head_text =
-    codes "$timescale 1 ns $end\n$scope module scsi $end\n" ++ (codes "$var wire 18 a d0 $end\n$var wire 18 b d1 $end\n$var wire 18 c d2 $end\n$var wire 18 d d3 $end\n" ++ (codes "$var wire 18 e d4 $end\n$var wire 18 f d5 $end\n$var wire 18 g d6 $end\n$var wire 18 h d7 $end\n" ++ (codes "$upscope $end\n$enddefinitions $end\n#0\n$dumpvars\n" ++ (codes "b000000000000000000 a\nb000000000000000000 b\nb000000000000000000 c\nb000000000000000000 d\n" ++ codes "b000000000000000000 e\nb000000000000000000 f\nb000000000000000000 g\nb000000000000000000 h\n$end\n"))))
+head_text = codes "$timescale 1 ns $end\n$scope module scsi $end\n"
+    ++ (codes "$var wire 18 a d0 $end\n$var wire 18 b d1 $end\n$var wire 18 c d2 $end\n$var wire 18 d d3 $end\n"
+    ++ (codes "$var wire 18 e d4 $end\n$var wire 18 f d5 $end\n$var wire 18 g d6 $end\n$var wire 18 h d7 $end\n"
+    ++ (codes "$upscope $end\n$enddefinitions $end\n#0\n$dumpvars\n"
+    ++ (codes "b000000000000000000 a\nb000000000000000000 b\nb000000000000000000 c\nb000000000000000000 d\n"
+    ++ codes "b000000000000000000 e\nb000000000000000000 f\nb000000000000000000 g\nb000000000000000000 h\n$end\n"))))
 
 -- the binary digit of this weight
 abbrev pub bit_text : ℕ → ℕ → ℕ
@@ -20,8 +24,9 @@ nibble_text n = bit_text n 8 ∷ bit_text n 4 ∷ bit_text n 2 ∷ bit_text n 1 
 
 -- the 18 binary digits of the lines, RST first and DB(0) last
 abbrev pub bits_text : ℕ → List ℕ
-bits_text n =
-    bit_text n 131072 ∷ bit_text n 65536 ∷ bit_text n 32768 ∷ bit_text n 16384 ∷ bit_text n 8192 ∷ bit_text n 4096 ∷ bit_text n 2048 ∷ bit_text n 1024 ∷ bit_text n 512 ∷ bit_text n 256 ∷ bit_text n 128 ∷ bit_text n 64 ∷ bit_text n 32 ∷ bit_text n 16 ∷ bit_text n 8 ∷ bit_text n 4 ∷ bit_text n 2 ∷ bit_text n 1 ∷ []
+bits_text n = bit_text n 131072 ∷ bit_text n 65536 ∷ bit_text n 32768 ∷ bit_text n 16384 ∷ bit_text n 8192
+    ∷ bit_text n 4096 ∷ bit_text n 2048 ∷ bit_text n 1024 ∷ bit_text n 512 ∷ bit_text n 256 ∷ bit_text n 128
+    ∷ bit_text n 64 ∷ bit_text n 32 ∷ bit_text n 16 ∷ bit_text n 8 ∷ bit_text n 4 ∷ bit_text n 2 ∷ bit_text n 1 ∷ []
 
 -- `b`, the digits, a space and the letter of the device, which is its code, and a line feed
 abbrev pub value_text : ℕ → ℕ → List ℕ

@@ -1,5 +1,6 @@
 -- What a reader keeps of a token that has not ended: as many of its bytes as tell it from others.
-use Rattle.std.specs.Prelude.{◌≡◌, ℕ, ◌+◌, ◌≤◌, Bool, true, false, List, [], ◌∷◌, ◌++◌, length, Option, Some, None, ◌==◌, if◌then◌else◌}
+use Rattle.std.specs.Prelude.{◌≡◌, ℕ, ◌+◌, ◌≤◌, Bool, true, false, List, [], ◌∷◌, ◌++◌, length, Option, Some, None}
+use Rattle.std.specs.Prelude.{◌==◌, if◌then◌else◌}
 use Rattle.vcd_text.specs.declared.awaits.Awaits.{Awaits}
 use Rattle.vcd_text.specs.declared.awaits.Awaits.TheVariants.{VarWidth, VarCode, Change}
 use Rattle.vcd_text.specs.declared.dump.Dump.{Dump}

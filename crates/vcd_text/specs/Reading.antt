@@ -1,5 +1,6 @@
 -- A dump byte by byte: the tokens, and the first that breaks the form.
-use Rattle.std.specs.Prelude.{◌≡◌, ℕ, ◌+◌, ◌-◌, ◌^◌, Bool, true, false, List, [], ◌∷◌, ◌++◌, reverse, Option, Some, None, Result, Ok, Err, min, ◌==◌, if◌then◌else◌}
+use Rattle.std.specs.Prelude.{◌≡◌, ℕ, ◌+◌, ◌-◌, ◌^◌, Bool, true, false, List, [], ◌∷◌, ◌++◌, reverse, Option, Some}
+use Rattle.std.specs.Prelude.{None, Result, Ok, Err, min, ◌==◌, if◌then◌else◌}
 use Rattle.bus_trace.specs.declared.rows.Row.{Row}
 use Rattle.vcd_text.specs.declared.awaits.Awaits.{Awaits}
 use Rattle.vcd_text.specs.declared.awaits.Awaits.TheVariants.{Declaration, Change}
@@ -13,7 +14,8 @@ use Rattle.vcd_text.specs.Steps.{step}
 
 -- before any token, and before any byte
 abbrev pub no_dump : Dump
-no_dump = record { awaits = Declaration; has_timescale = false; code = []; codes = []; devices = []; time = 0; rows = [] }
+no_dump =
+    record { awaits = Declaration; has_timescale = false; code = []; codes = []; devices = []; time = 0; rows = [] }
 
 abbrev pub no_bytes : VcdReader
 no_bytes = record { dump = no_dump; bad = None; word = []; line = 1 }

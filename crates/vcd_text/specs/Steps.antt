@@ -1,13 +1,16 @@
 -- What has been read of a dump after each token.
-use Rattle.std.specs.Prelude.{◌≡◌, ℕ, ◌^◌, Bool, true, false, ◌&&◌, not, List, [], ◌∷◌, ◌++◌, Option, Some, None, nat_lt, nat_le, ◌==◌, codes, if◌then◌else◌}
+use Rattle.std.specs.Prelude.{◌≡◌, ℕ, ◌^◌, Bool, true, false, ◌&&◌, not, List, [], ◌∷◌, ◌++◌, Option, Some, None}
+use Rattle.std.specs.Prelude.{nat_lt, nat_le, ◌==◌, codes, if◌then◌else◌}
 use Rattle.bus_trace.specs.LineSet.{LineSet, same_set}
 use Rattle.bus_trace.specs.Trace.{drives}
 use Rattle.bus_trace.specs.declared.rows.Row.{Row}
 use Rattle.bus_trace.specs.declared.rows.Kind.TheVariants.{Drives}
 use Rattle.vcd_text.specs.declared.awaits.Awaits.{Awaits}
-use Rattle.vcd_text.specs.declared.awaits.Awaits.TheVariants.{Declaration, Timescale, VarCode, VarName, VarRange, Change, Code}
+use Rattle.vcd_text.specs.declared.awaits.Awaits.TheVariants.{Declaration, Timescale, VarCode, VarName, VarRange}
+use Rattle.vcd_text.specs.declared.awaits.Awaits.TheVariants.{Change, Code}
 use Rattle.vcd_text.specs.declared.dump.Dump.{Dump}
-use Rattle.vcd_text.specs.Tokens.{is_word, is_letter, is_state, decimal_of, device_named, given, after_keyword, after_part, after_change_keyword, after_value}
+use Rattle.vcd_text.specs.Tokens.{is_word, is_letter, is_state, decimal_of, device_named, given, after_keyword}
+use Rattle.vcd_text.specs.Tokens.{after_part, after_change_keyword, after_value}
 use Rattle.vcd_text.specs.Codes.{with_code, has_code, device_of, has_device}
 
 -- The token is one that the form allows, and this is awaited after it.

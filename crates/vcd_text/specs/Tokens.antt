@@ -1,11 +1,14 @@
 -- What a token of a dump says by itself.
-use Rattle.std.specs.Prelude.{ℕ, ◌+◌, ◌-◌, ◌*◌, ◌^◌, Bool, true, false, ◌&&◌, ◌||◌, not, List, [], ◌∷◌, length, Option, Some, None, option_map, nat_lt, nat_le, nat_eq, ◌==◌, codes, if◌then◌else◌}
+use Rattle.std.specs.Prelude.{ℕ, ◌+◌, ◌-◌, ◌*◌, ◌^◌, Bool, true, false, ◌&&◌, ◌||◌, not, List, [], ◌∷◌, length, Option}
+use Rattle.std.specs.Prelude.{Some, None, option_map, nat_lt, nat_le, nat_eq, ◌==◌, codes, if◌then◌else◌}
 use Rattle.std.specs.List.{list_all}
 use Rattle.std.specs.Cmp.Lexicographic.{pointwise}
 use Rattle.std.specs.Char.{is_ascii_digit}
 use Rattle.bus_trace.specs.LineSet.{LineSet, set_of}
 use Rattle.vcd_text.specs.declared.awaits.Awaits.{Awaits}
-use Rattle.vcd_text.specs.declared.awaits.Awaits.TheVariants.{Declaration, Remark, Timescale, Nanoseconds, ScopeKind, ScopeName, End, VarKind, VarWidth, VarCode, VarRange, LastEnd, Change, ChangeRemark, Code}
+use Rattle.vcd_text.specs.declared.awaits.Awaits.TheVariants.{Declaration, Remark, Timescale, Nanoseconds, ScopeKind}
+use Rattle.vcd_text.specs.declared.awaits.Awaits.TheVariants.{ScopeName, End, VarKind, VarWidth, VarCode, VarRange}
+use Rattle.vcd_text.specs.declared.awaits.Awaits.TheVariants.{LastEnd, Change, ChangeRemark, Code}
 
 -- Tokens stand between spaces, tabs, carriage returns and line feeds.
 abbrev pub is_space : ℕ → Bool

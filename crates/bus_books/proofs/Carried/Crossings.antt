@@ -19,9 +19,16 @@ restored_own s c h p e =
         block_is = refl;
         active_is = o.command.saved_is;
         saved_is = o.command.saved_is;
-        filled = record { rest = o.command.filled.rest; bytes_are = o.command.filled.bytes_are; active_in = o.command.filled.saved_in; saved_in = o.command.filled.saved_in };
+        filled = record {
+          rest = o.command.filled.rest;
+          bytes_are = o.command.filled.bytes_are;
+          active_in = o.command.filled.saved_in;
+          saved_in = o.command.filled.saved_in;
+        };
       };
-      sent = λ w. let m = o.sent w in record { rest = m.rest; bytes_are = m.bytes_are; active_in = m.saved_in; saved_in = m.saved_in };
+      sent = λ w.
+          let m = o.sent w in
+          record { rest = m.rest; bytes_are = m.bytes_are; active_in = m.saved_in; saved_in = m.saved_in };
       status = o.status;
     }
 
@@ -40,7 +47,8 @@ own_as s a b q h p e =
       command = record {
         rest = o.command.rest;
         block_is = ap (λ (x : List ℕ). x ++ o.command.rest) q.block ∙ o.command.block_is;
-        active_is = ap (λ (x : Area). x.active) q.command ∙ o.command.active_is ∙ ap (λ (x : List ℕ). length x) (sym q.block);
+        active_is =
+            ap (λ (x : Area). x.active) q.command ∙ o.command.active_is ∙ ap (λ (x : List ℕ). length x) (sym q.block);
         saved_is = ap (λ (x : Area). x.saved) q.command ∙ o.command.saved_is;
         filled = subst (λ (x : Area). IsFilled x p.cdb) (sym q.command) o.command.filled;
       };
@@ -49,45 +57,65 @@ own_as s a b q h p e =
     }
 
 pub refused_own : (s : ScenarioValue) (c : CarriedBytes) → IsOwn s c → IsOwn s (marked_refused c)
-refused_own s c h = own_as s (marked_refused c) c (record { id = refl; command = refl; moved = refl; status = refl; block = refl }) h
+refused_own s c h =
+    own_as s (marked_refused c) c (record { id = refl; command = refl; moved = refl; status = refl; block = refl }) h
 
 pub shown_own : (s : ScenarioValue) (c : CarriedBytes) → IsOwn s c → IsOwn s (marked_shown c)
-shown_own s c h = own_as s (marked_shown c) c (record { id = refl; command = refl; moved = refl; status = refl; block = refl }) h
+shown_own s c h =
+    own_as s (marked_shown c) c (record { id = refl; command = refl; moved = refl; status = refl; block = refl }) h
 
 pub fault_own : (s : ScenarioValue) (c : CarriedBytes) (b : LineSet) → IsOwn s c → IsOwn s (carried_after_fault c b)
 fault_own s c b h = own_as s (carried_after_fault c b) c (go (is_command b) (is_data b)) h
   where
-    go : (q r : Bool) → SameBytes (if q then record c { struck = true; failure = Some PARITY_ERROR } else if r then record c { failure = Some (if b.io then INITIATOR_DETECTED_ERROR else PARITY_ERROR) } else c) c
+    go : (q r : Bool) → SameBytes (if q then record c { struck = true; failure = Some PARITY_ERROR }
+        else if r then record c { failure = Some (if b.io then INITIATOR_DETECTED_ERROR else PARITY_ERROR) } else c) c
     go true r = record { id = refl; command = refl; moved = refl; status = refl; block = refl }
     go false true = record { id = refl; command = refl; moved = refl; status = refl; block = refl }
     go false false = record { id = refl; command = refl; moved = refl; status = refl; block = refl }
 
-saved_own : (s : ScenarioValue) (c : CarriedBytes) → IsOwn s c → IsOwn s (record c { moved = record c.moved { saved = c.moved.active } })
+saved_own : (s : ScenarioValue) (c : CarriedBytes) → IsOwn s c
+    → IsOwn s (record c { moved = record c.moved { saved = c.moved.active } })
 saved_own s c h p e =
     let o = h p e in
     record {
-      command = record { rest = o.command.rest; block_is = o.command.block_is; active_is = o.command.active_is; saved_is = o.command.saved_is; filled = o.command.filled };
-      sent = λ w. let m = o.sent w in record { rest = m.rest; bytes_are = m.bytes_are; active_in = m.active_in; saved_in = m.active_in };
+      command = record {
+        rest = o.command.rest;
+        block_is = o.command.block_is;
+        active_is = o.command.active_is;
+        saved_is = o.command.saved_is;
+        filled = o.command.filled;
+      };
+      sent = λ w.
+          let m = o.sent w in
+          record { rest = m.rest; bytes_are = m.bytes_are; active_in = m.active_in; saved_in = m.active_in };
       status = o.status;
     }
 
 pub message_own : (s : ScenarioValue) (c : CarriedBytes) (m : MsgIn) → IsOwn s c → IsOwn s (carried_after_message c m)
 message_own s c MsgIn.SavePointer h = saved_own s c h
-message_own s c MsgIn.RestorePointers h =
-    own_as s (carried_after_message c MsgIn.RestorePointers) (with_restored_pointers c) (record { id = refl; command = refl; moved = refl; status = refl; block = refl }) (restored_own s c h)
+message_own s c MsgIn.RestorePointers h = own_as s (carried_after_message c MsgIn.RestorePointers)
+    (with_restored_pointers c) (record { id = refl; command = refl; moved = refl; status = refl; block = refl })
+    (restored_own s c h)
 message_own s c _ h = h
 
 -- ---- a byte
 
 -- It is that at the pointer.
 pub record IsNext (c : CarriedBytes) (p : Process) (b : LineSet) (byte : ℕ) : Type 0 where
-  pub command : is_command b ≡ true → (byte ≡ slice_index_or p.cdb c.command.active 0) × (c.command.active < length p.cdb)
-  pub moved : is_data b ≡ true → is_writing p ≡ true → (byte ≡ slice_index_or p.sent c.moved.active 0) × (c.moved.active < length p.sent)
+  pub command : is_command b ≡ true
+      → (byte ≡ slice_index_or p.cdb c.command.active 0) × (c.command.active < length p.cdb)
+  pub moved : is_data b ≡ true → is_writing p ≡ true
+      → (byte ≡ slice_index_or p.sent c.moved.active 0) × (c.moved.active < length p.sent)
 
-pub byte_own : (s : ScenarioValue) (c : CarriedBytes) (b : LineSet) (byte : ℕ) → ((p : Process) → process_of s c.id ≡ Some p → IsNext c p b byte) → IsOwn s c → IsOwn s (carried_after_byte c b byte)
+pub byte_own : (s : ScenarioValue) (c : CarriedBytes) (b : LineSet) (byte : ℕ)
+    → ((p : Process) → process_of s c.id ≡ Some p → IsNext c p b byte) → IsOwn s c
+    → IsOwn s (carried_after_byte c b byte)
 byte_own s c b byte next h = go (is_command b) (is_data b) (is_status_phase b) refl refl
   where
-    go : (q r t : Bool) → is_command b ≡ q → is_data b ≡ r → IsOwn s (if q then record c { command = area_with c.command byte; block = c.block ++ byte ∷ [] } else if r then record c { moved = area_with c.moved byte } else if t then record c { status = area_with c.status byte } else c)
+    go : (q r t : Bool) → is_command b ≡ q → is_data b ≡ r
+        → IsOwn s (if q then record c { command = area_with c.command byte; block = c.block ++ byte ∷ [] }
+        else if r then record c { moved = area_with c.moved byte }
+        else if t then record c { status = area_with c.status byte } else c)
     go true r t eq er p e =
         let o = h p e in
         let x = (next p e).command eq in
@@ -97,14 +125,26 @@ byte_own s c b byte next h = go (is_command b) (is_data b) (is_status_phase b) r
     go false true t eq er p e =
         let o = h p e in
         record {
-          command = record { rest = o.command.rest; block_is = o.command.block_is; active_is = o.command.active_is; saved_is = o.command.saved_is; filled = o.command.filled };
+          command = record {
+            rest = o.command.rest;
+            block_is = o.command.block_is;
+            active_is = o.command.active_is;
+            saved_is = o.command.saved_is;
+            filled = o.command.filled;
+          };
           sent = λ w. let x = (next p e).moved er w in puts c.moved p.sent byte (o.sent w) x.0 x.1;
           status = o.status;
         }
     go false false true eq er p e =
         let o = h p e in
         record {
-          command = record { rest = o.command.rest; block_is = o.command.block_is; active_is = o.command.active_is; saved_is = o.command.saved_is; filled = o.command.filled };
+          command = record {
+            rest = o.command.rest;
+            block_is = o.command.block_is;
+            active_is = o.command.active_is;
+            saved_is = o.command.saved_is;
+            filled = o.command.filled;
+          };
           sent = o.sent;
           status = o.status;
         }
@@ -114,7 +154,13 @@ byte_own s c b byte next h = go (is_command b) (is_data b) (is_status_phase b) r
 
 pub nothing_own : (s : ScenarioValue) (id : ProcId) → IsOwn s (nothing_carried id)
 nothing_own s id p e = record {
-  command = record { rest = p.cdb; block_is = refl; active_is = refl; saved_is = refl; filled = record { rest = p.cdb; bytes_are = refl; active_in = omega arith; saved_in = omega arith } };
+  command = record {
+    rest = p.cdb;
+    block_is = refl;
+    active_is = refl;
+    saved_is = refl;
+    filled = record { rest = p.cdb; bytes_are = refl; active_in = omega arith; saved_in = omega arith };
+  };
   sent = λ w. record { rest = p.sent; bytes_are = refl; active_in = omega arith; saved_in = omega arith };
   status = refl;
 }

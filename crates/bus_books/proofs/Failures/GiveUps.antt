@@ -24,7 +24,8 @@ use proofs.{Names.{is_past_limit, gives_up}, Failures.Counts.{is_planned_wrong, 
 id_through : (a b c : ProcId) → same_id a b ≡ true → same_id b c ≡ true → same_id a c ≡ true
 id_through a b c h k = (λ i. same_id (same_id_is a b h i) c) ∙ k
 
-fail_through : (e f : Event) (id : ProcId) (code : ℕ) → same_event e f ≡ true → same_event f (Event.Fail id code) ≡ true → same_event e (Event.Fail id code) ≡ true
+fail_through : (e f : Event) (id : ProcId) (code : ℕ) → same_event e f ≡ true → same_event f (Event.Fail id code) ≡ true
+    → same_event e (Event.Fail id code) ≡ true
 fail_through (Event.Fail a x) (Event.Fail b y) id code h k =
     let one = and_parts (same_id a b) (x == y) h in
     let two = and_parts (same_id b id) (y == code) k in
@@ -44,7 +45,8 @@ fail_through e (Event.Lost a) id code h k = cc
 fail_through e (Event.Aborted a b c d) id code h k = cc
 fail_through e (Event.Reset a) id code h k = cc
 
-lost_through : (e f : Event) (id : ProcId) → same_event e f ≡ true → same_event f (Event.Lost id) ≡ true → same_event e (Event.Lost id) ≡ true
+lost_through : (e f : Event) (id : ProcId) → same_event e f ≡ true → same_event f (Event.Lost id) ≡ true
+    → same_event e (Event.Lost id) ≡ true
 lost_through (Event.Lost a) (Event.Lost b) id h k = id_through a b id h k
 lost_through (Event.Accept a) (Event.Lost b) id h k = cc
 lost_through (Event.Refuse a) (Event.Lost b) id h k = cc
@@ -65,18 +67,21 @@ either_true : (x y z : Bool) → (x ≡ true → z ≡ true) → (y ≡ true →
 either_true true y z f g h = f refl
 either_true false y z f g h = g h
 
-fails_in : (shown told : List Event) (id : ProcId) (code : ℕ) → same_events shown told ≡ true → has_event told (Event.Fail id code) ≡ true → has_event shown (Event.Fail id code) ≡ true
+fails_in : (shown told : List Event) (id : ProcId) (code : ℕ) → same_events shown told ≡ true
+    → has_event told (Event.Fail id code) ≡ true → has_event shown (Event.Fail id code) ≡ true
 fails_in [] [] id code h k = cc
 fails_in (e ∷ shown) (f ∷ told) id code h k =
     let two = and_parts (same_event e f) (same_events shown told) h in
     let now = fail_through e f id code two.0 in
     let later = fails_in shown told id code two.1 in
-    either_true (same_event f (Event.Fail id code)) (has_event told (Event.Fail id code)) (has_event (e ∷ shown) (Event.Fail id code))
+    either_true (same_event f (Event.Fail id code))
+    (has_event told (Event.Fail id code)) (has_event (e ∷ shown) (Event.Fail id code))
     (λ x. or_left (same_event e (Event.Fail id code)) (has_event shown (Event.Fail id code)) (now x))
     (λ x. or_right (same_event e (Event.Fail id code)) (has_event shown (Event.Fail id code)) (later x)) k
 fails_in _ _ id code h k = cc
 
-lost_in : (shown told : List Event) (id : ProcId) → same_events shown told ≡ true → has_event told (Event.Lost id) ≡ true → has_event shown (Event.Lost id) ≡ true
+lost_in : (shown told : List Event) (id : ProcId) → same_events shown told ≡ true
+    → has_event told (Event.Lost id) ≡ true → has_event shown (Event.Lost id) ≡ true
 lost_in [] [] id h k = cc
 lost_in (e ∷ shown) (f ∷ told) id h k =
     let two = and_parts (same_event e f) (same_events shown told) h in
@@ -93,10 +98,12 @@ abbrev is_spent : Option TargetDef → Option Task → Bool
 is_spent def None = false
 is_spent def (Some t) = not t.in_hold && not (nat_lt t.recoveries (recovery_limit def))
 
-spent_by : (f : Option Phase → Bool) (def : Option TargetDef) (t : Task) (a b : Leaving) → f a.to ≡ false → f (recovery def t a b).to ≡ true → is_spent def (Some t) ≡ true
+spent_by : (f : Option Phase → Bool) (def : Option TargetDef) (t : Task) (a b : Leaving) → f a.to ≡ false
+    → f (recovery def t a b).to ≡ true → is_spent def (Some t) ≡ true
 spent_by f def t a b h k = go t.in_hold (nat_lt t.recoveries (recovery_limit def)) k
   where
-    go : (q r : Bool) → f (if q then a else if r then record a { counts = true } else b).to ≡ true → (not q && not r) ≡ true
+    go : (q r : Bool) → f (if q then a else if r then record a { counts = true } else b).to ≡ true
+        → (not q && not r) ≡ true
     go true r e = wrong (sym e ∙ h)
     go false true e = wrong (sym e ∙ h)
     go false false e = refl
@@ -113,10 +120,13 @@ record Fails (v : Serving) (phase : Phase) (id other : ProcId) (code : ℕ) : Ty
 one_event : (e f : Event) → has_event (e ∷ []) f ≡ true → same_event e f ≡ true
 one_event e f h = elim (cases_Bool (same_event e f)) [ inl g ↦ rw g | inr g ↦ rw g cc ]
 
-arrival_fails : (id other : ProcId) (code : ℕ) (plan : Plan) (arrival : Arrival) (phase : Phase) → has_event (arrival_events id plan arrival phase) (Event.Fail other code) ≡ false
+arrival_fails : (id other : ProcId) (code : ℕ) (plan : Plan) (arrival : Arrival) (phase : Phase)
+    → has_event (arrival_events id plan arrival phase) (Event.Fail other code) ≡ false
 arrival_fails id other code plan arrival Phase.Command = go plan.struck arrival
   where
-    go : (q : Bool) (a : Arrival) → has_event (if q then [] else Rattle.bus_due.specs.bus_dialogue.specs.Events.arrival_event id a ∷ []) (Event.Fail other code) ≡ false
+    go : (q : Bool) (a : Arrival)
+        → has_event (if q then [] else Rattle.bus_due.specs.bus_dialogue.specs.Events.arrival_event id a ∷ [])
+        (Event.Fail other code) ≡ false
     go true a = refl
     go false Arrival.Refused = refl
     go false Arrival.Guest = refl
@@ -129,10 +139,15 @@ record Newer (q : Bool) (xs : List Event) (e : Event) : Type 0 where
   pub on : q ≡ true
   pub has : has_event xs e ≡ true
 
-newer : (q : Bool) (xs ys : List Event) (e : Event) → has_event ys e ≡ false → has_event (newest_with (if q then xs else []) ys) e ≡ true → Newer q xs e
+newer : (q : Bool) (xs ys : List Event) (e : Event) → has_event ys e ≡ false
+    → has_event (newest_with (if q then xs else []) ys) e ≡ true → Newer q xs e
 newer false xs ys e h k = wrong (sym k ∙ h)
 newer true [] ys e h k = wrong (sym k ∙ h)
-newer true (x ∷ xs) ys e h k = record { on = refl; has = or_left (same_event x e) (has_event xs e) (either_true (same_event x e) (has_event ys e) (same_event x e) (λ z. z) (λ z. wrong (sym z ∙ h)) k) }
+newer true (x ∷ xs) ys e h k = record {
+  on = refl;
+  has = or_left (same_event x e) (has_event xs e)
+      (either_true (same_event x e) (has_event ys e) (same_event x e) (λ z. z) (λ z. wrong (sym z ∙ h)) k);
+}
 
 -- What the events of a reply say of the plan.
 record Tells (v : Serving) (phase : Phase) (id other : ProcId) (code : ℕ) : Type 0 where
@@ -140,26 +155,40 @@ record Tells (v : Serving) (phase : Phase) (id other : ProcId) (code : ℕ) : Ty
   pub failure : is_failure v.plan.cause code phase ≡ true
   pub wrong : is_planned_wrong v.plan phase ≡ true
 
-run_fails : (a : Arrival) (id other : ProcId) (code : ℕ) → has_event (arrival_run_events a id) (Event.Fail other code) ≡ false
+run_fails : (a : Arrival) (id other : ProcId) (code : ℕ)
+    → has_event (arrival_run_events a id) (Event.Fail other code) ≡ false
 run_fails Arrival.Refused id other code = refl
 run_fails _ id other code = refl
 
-reply_tells : (v : Serving) (phase : Phase) (id other : ProcId) (code : ℕ) → has_event (reply_events id v.plan v.arrival phase) (Event.Fail other code) ≡ true → Tells v phase id other code
+reply_tells : (v : Serving) (phase : Phase) (id other : ProcId) (code : ℕ)
+    → has_event (reply_events id v.plan v.arrival phase) (Event.Fail other code) ≡ true → Tells v phase id other code
 reply_tells v Phase.Command id other code h = go v.plan.struck refl h
   where
-    go : (q : Bool) → v.plan.struck ≡ q → has_event (if q then Event.Fail id PARITY_ERROR ∷ [] else arrival_run_events v.arrival id) (Event.Fail other code) ≡ true → Tells v Phase.Command id other code
-    go true e k = let two = and_parts (same_id id other) (PARITY_ERROR == code) (one_event (Event.Fail id PARITY_ERROR) (Event.Fail other code) k) in record { same = two.0; failure = eq_turned code PARITY_ERROR ∙ two.1; wrong = e }
+    go : (q : Bool) → v.plan.struck ≡ q → has_event
+        (if q then Event.Fail id PARITY_ERROR ∷ [] else arrival_run_events v.arrival id) (Event.Fail other code) ≡ true
+        → Tells v Phase.Command id other code
+    go true e k =
+        let two = and_parts (same_id id other) (PARITY_ERROR == code)
+        (one_event (Event.Fail id PARITY_ERROR) (Event.Fail other code) k) in
+        record { same = two.0; failure = eq_turned code PARITY_ERROR ∙ two.1; wrong = e }
     go false e k = wrong (sym k ∙ run_fails v.arrival id other code)
 reply_tells v Phase.DataOut id other code h = go v.plan.struck refl h
   where
-    go : (q : Bool) → v.plan.struck ≡ q → has_event (if q then Event.Fail id PARITY_ERROR ∷ [] else Event.Run id ∷ []) (Event.Fail other code) ≡ true → Tells v Phase.DataOut id other code
-    go true e k = let two = and_parts (same_id id other) (PARITY_ERROR == code) (one_event (Event.Fail id PARITY_ERROR) (Event.Fail other code) k) in record { same = two.0; failure = eq_turned code PARITY_ERROR ∙ two.1; wrong = e }
+    go : (q : Bool) → v.plan.struck ≡ q
+        → has_event (if q then Event.Fail id PARITY_ERROR ∷ [] else Event.Run id ∷ []) (Event.Fail other code) ≡ true
+        → Tells v Phase.DataOut id other code
+    go true e k =
+        let two = and_parts (same_id id other) (PARITY_ERROR == code)
+        (one_event (Event.Fail id PARITY_ERROR) (Event.Fail other code) k) in
+        record { same = two.0; failure = eq_turned code PARITY_ERROR ∙ two.1; wrong = e }
     go false e k = cc
 reply_tells v Phase.MessageOut id other code h = go v.plan.cause refl h
   where
-    go : (c : Cause) → v.plan.cause ≡ c → has_event (detected_events c id) (Event.Fail other code) ≡ true → Tells v Phase.MessageOut id other code
+    go : (c : Cause) → v.plan.cause ≡ c → has_event (detected_events c id) (Event.Fail other code) ≡ true
+        → Tells v Phase.MessageOut id other code
     go Cause.InData e k =
-        let two = and_parts (same_id id other) (INITIATOR_DETECTED_ERROR == code) (one_event (Event.Fail id INITIATOR_DETECTED_ERROR) (Event.Fail other code) k) in
+        let two = and_parts (same_id id other) (INITIATOR_DETECTED_ERROR == code)
+        (one_event (Event.Fail id INITIATOR_DETECTED_ERROR) (Event.Fail other code) k) in
         record {
           same = two.0;
           failure = (λ i. is_failure (e i) code Phase.MessageOut) ∙ eq_turned code INITIATOR_DETECTED_ERROR ∙ two.1;
@@ -170,37 +199,62 @@ reply_tells v Phase.MessageOut id other code h = go v.plan.cause refl h
     go Cause.InStatus e k = cc
 reply_tells v _ id other code h = cc
 
-turn_spent : (v : Serving) (attention : Bool) (phase : Phase) (code : ℕ) → is_failure v.plan.cause code phase ≡ true → is_planned_wrong v.plan phase ≡ true → is_status_next (phase_leaving v attention phase).to ≡ true → is_spent v.def v.task ≡ true
-turn_spent v attention Phase.Command code f w h = go v.task ((λ i. is_status_next (with_task v.task (λ t. if sym w i then recovery v.def t (pointer_restoration Next.Command) (phase_entry Phase.Status) else after_arrival v.def t v.arrival)).to) ∙ h)
+turn_spent : (v : Serving) (attention : Bool) (phase : Phase) (code : ℕ) → is_failure v.plan.cause code phase ≡ true
+    → is_planned_wrong v.plan phase ≡ true → is_status_next (phase_leaving v attention phase).to ≡ true
+    → is_spent v.def v.task ≡ true
+turn_spent v attention Phase.Command code f w h = go v.task ((λ i. is_status_next (with_task v.task
+    (λ t. if sym w i then recovery v.def t (pointer_restoration Next.Command) (phase_entry Phase.Status)
+    else after_arrival v.def t v.arrival)).to) ∙ h)
   where
-    go : (o : Option Task) → is_status_next (with_task o (λ t. recovery v.def t (pointer_restoration Next.Command) (phase_entry Phase.Status))).to ≡ true → is_spent v.def o ≡ true
+    go : (o : Option Task) → is_status_next
+        (with_task o (λ t. recovery v.def t (pointer_restoration Next.Command) (phase_entry Phase.Status))).to ≡ true
+        → is_spent v.def o ≡ true
     go None k = cc
-    go (Some t) k = spent_by (λ x. is_status_next x) v.def t (pointer_restoration Next.Command) (phase_entry Phase.Status) refl k
-turn_spent v attention Phase.DataOut code f w h = go v.task ((λ i. is_status_next (with_task v.task (λ t. if sym w i then recovery v.def t (pointer_restoration Next.GoOn) (phase_entry Phase.Status) else after_run (policy_of v.def) t)).to) ∙ h)
+    go (Some t) k =
+        spent_by (λ x. is_status_next x) v.def t (pointer_restoration Next.Command) (phase_entry Phase.Status) refl k
+turn_spent v attention Phase.DataOut code f w h = go v.task ((λ i. is_status_next
+    (with_task v.task (λ t. if sym w i then recovery v.def t (pointer_restoration Next.GoOn) (phase_entry Phase.Status)
+    else after_run (policy_of v.def) t)).to) ∙ h)
   where
-    go : (o : Option Task) → is_status_next (with_task o (λ t. recovery v.def t (pointer_restoration Next.GoOn) (phase_entry Phase.Status))).to ≡ true → is_spent v.def o ≡ true
+    go : (o : Option Task) → is_status_next
+        (with_task o (λ t. recovery v.def t (pointer_restoration Next.GoOn) (phase_entry Phase.Status))).to ≡ true
+        → is_spent v.def o ≡ true
     go None k = cc
-    go (Some t) k = spent_by (λ x. is_status_next x) v.def t (pointer_restoration Next.GoOn) (phase_entry Phase.Status) refl k
+    go (Some t) k =
+        spent_by (λ x. is_status_next x) v.def t (pointer_restoration Next.GoOn) (phase_entry Phase.Status) refl k
 turn_spent v attention Phase.MessageOut code f w h = by_cause v.plan.cause f h
   where
-    go : (o : Option Task) → is_status_next (with_task o (λ t. recovery v.def t (pointer_restoration Next.GoOn) (phase_entry Phase.Status))).to ≡ true → is_spent v.def o ≡ true
+    go : (o : Option Task) → is_status_next
+        (with_task o (λ t. recovery v.def t (pointer_restoration Next.GoOn) (phase_entry Phase.Status))).to ≡ true
+        → is_spent v.def o ≡ true
     go None k = cc
-    go (Some t) k = spent_by (λ x. is_status_next x) v.def t (pointer_restoration Next.GoOn) (phase_entry Phase.Status) refl k
+    go (Some t) k =
+        spent_by (λ x. is_status_next x) v.def t (pointer_restoration Next.GoOn) (phase_entry Phase.Status) refl k
 
-    by_cause : (c : Cause) → is_failure c code Phase.MessageOut ≡ true → is_status_next (message_out_leaving v c).to ≡ true → is_spent v.def v.task ≡ true
+    by_cause : (c : Cause) → is_failure c code Phase.MessageOut ≡ true
+        → is_status_next (message_out_leaving v c).to ≡ true → is_spent v.def v.task ≡ true
     by_cause Cause.InData e k = go v.task k
     by_cause Cause.Selected e k = cc
     by_cause Cause.InMessage e k = cc
     by_cause Cause.InStatus e k = cc
 turn_spent v attention _ code f w h = cc
 
-turn_fails : (v : Serving) (attention : Bool) (phase : Phase) (id other : ProcId) (code : ℕ) → has_event (turn_events v attention phase id) (Event.Fail other code) ≡ true → Fails v phase id other code
+turn_fails : (v : Serving) (attention : Bool) (phase : Phase) (id other : ProcId) (code : ℕ)
+    → has_event (turn_events v attention phase id) (Event.Fail other code) ≡ true → Fails v phase id other code
 turn_fails v attention phase id other code h =
-    let n : Newer (is_status_next (phase_leaving v attention phase).to && not (has_replied v.task)) (reply_events id v.plan v.arrival phase) (Event.Fail other code) =
-    newer (is_status_next (phase_leaving v attention phase).to && not (has_replied v.task)) (reply_events id v.plan v.arrival phase) (arrival_events id v.plan v.arrival phase) (Event.Fail other code) (arrival_fails id other code v.plan v.arrival phase) h in
+    let n : Newer (is_status_next (phase_leaving v attention phase).to && not (has_replied v.task))
+    (reply_events id v.plan v.arrival phase) (Event.Fail other code) = newer
+    (is_status_next (phase_leaving v attention phase).to && not (has_replied v.task))
+    (reply_events id v.plan v.arrival phase) (arrival_events id v.plan v.arrival phase)
+    (Event.Fail other code) (arrival_fails id other code v.plan v.arrival phase) h in
     let t : Tells v phase id other code = reply_tells v phase id other code n.has in
     let on = and_parts (is_status_next (phase_leaving v attention phase).to) (not (has_replied v.task)) n.on in
-    record { same = t.same; failure = t.failure; wrong = t.wrong; spent = turn_spent v attention phase code t.failure t.wrong on.0 }
+    record {
+      same = t.same;
+      failure = t.failure;
+      wrong = t.wrong;
+      spent = turn_spent v attention phase code t.failure t.wrong on.0;
+    }
 
 -- ---- the row of a target
 
@@ -213,7 +267,8 @@ record Shows (k : RunState) (v : Serving) (phase : Phase) (other : ProcId) (code
   pub wrong : is_planned_wrong v.plan phase ≡ true
   pub spent : is_spent v.def v.task ≡ true
 
-id_served : (x : Option Item) (id other : ProcId) → id_of x ≡ Some id → same_id id other ≡ true → same_process x (Some (process other)) ≡ true
+id_served : (x : Option Item) (id other : ProcId) → id_of x ≡ Some id → same_id id other ≡ true
+    → same_process x (Some (process other)) ≡ true
 id_served None id other e h = cc
 id_served (Some (abort n)) id other e h = cc
 id_served (Some (process p)) id other e h = let same : p ≡ id = cc in (λ i. same_id (same i) other) ∙ h
@@ -222,7 +277,8 @@ some_id : (x : Option Item) (id : ProcId) → id_of x ≡ Some id → is_some x 
 some_id None id e = cc
 some_id (Some x) id e = refl
 
-end_fails : (n : Connection) (plan : Plan) (phase : Phase) (o : Option ProcId) (other : ProcId) (code : ℕ) → has_event (connection_end_events n plan phase o) (Event.Fail other code) ≡ false
+end_fails : (n : Connection) (plan : Plan) (phase : Phase) (o : Option ProcId) (other : ProcId) (code : ℕ)
+    → has_event (connection_end_events n plan phase o) (Event.Fail other code) ≡ false
 end_fails n plan phase o other code = go phase
   where
     lost : (x : Option ProcId) → has_event (loss_events x) (Event.Fail other code) ≡ false
@@ -238,21 +294,37 @@ end_fails n plan phase o other code = go phase
     go Phase.MessageIn = refl
     go _ = lost o
 
-target_fails : (k : RunState) (v : Serving) (n : Connection) (stands attention : Bool) (phase : Phase) (other : ProcId) (code : ℕ) → has_event (leaving_events v n k.exchange.begun stands attention phase (id_of k.served)) (Event.Fail other code) ≡ true → Shows k v phase other code
+target_fails :
+    (k : RunState) (v : Serving) (n : Connection) (stands attention : Bool) (phase : Phase) (other : ProcId) (code : ℕ)
+    → has_event (leaving_events v n k.exchange.begun stands attention phase (id_of k.served)) (Event.Fail other code)
+    ≡ true → Shows k v phase other code
 target_fails k v n stands attention phase other code h = go k.exchange.begun refl stands h
   where
-    turn : k.exchange.begun ≡ true → (o : Option ProcId) → id_of k.served ≡ o → has_event (turn_events_if v attention phase o) (Event.Fail other code) ≡ true → Shows k v phase other code
+    turn : k.exchange.begun ≡ true → (o : Option ProcId) → id_of k.served ≡ o
+        → has_event (turn_events_if v attention phase o) (Event.Fail other code) ≡ true → Shows k v phase other code
     turn b None e x = cc
     turn b (Some id) e x =
         let f : Fails v phase id other code = turn_fails v attention phase id other code x in
-        record { begun = b; served = id_served k.served id other e f.same; some = some_id k.served id e; failure = f.failure; wrong = f.wrong; spent = f.spent }
+        record {
+          begun = b;
+          served = id_served k.served id other e f.same;
+          some = some_id k.served id e;
+          failure = f.failure;
+          wrong = f.wrong;
+          spent = f.spent;
+        }
 
-    go : (b : Bool) → k.exchange.begun ≡ b → (q : Bool) → has_event (if not b then [] else if q then turn_events_if v attention phase (id_of k.served) else connection_end_events n v.plan phase (id_of k.served)) (Event.Fail other code) ≡ true → Shows k v phase other code
+    go : (b : Bool) → k.exchange.begun ≡ b → (q : Bool)
+        → has_event (if not b then [] else if q then turn_events_if v attention phase (id_of k.served)
+        else connection_end_events n v.plan phase (id_of k.served)) (Event.Fail other code) ≡ true
+        → Shows k v phase other code
     go false b q x = cc
     go true b true x = turn b (id_of k.served) refl x
     go true b false x = wrong (sym x ∙ end_fails n v.plan phase (id_of k.served) other code)
 
-completion_fails : (k : RunState) (o : Option Link) (d : RowReading) (e : Event) → ((id : ProcId) (status : ℕ) → same_event (Event.End id status) e ≡ false) → has_event (initiator_events k o d) e ≡ false
+completion_fails : (k : RunState) (o : Option Link) (d : RowReading) (e : Event)
+    → ((id : ProcId) (status : ℕ) → same_event (Event.End id status) e ≡ false)
+    → has_event (initiator_events k o d) e ≡ false
 completion_fails k None d e never = refl
 completion_fails k (Some l) d e never = go (is_completion l d.change) (carried_if k.story l.item)
   where
@@ -266,7 +338,9 @@ record Leaves (s : ScenarioValue) (k : RunState) (d : RowReading) (n : Connectio
   pub left : (if is_some d.next then changes_phase d.change else not d.change.after.rst) ≡ true
   pub has : has_event (target_events s k n (is_some d.next)) e ≡ true
 
-leaves_row : (s : ScenarioValue) (k : RunState) (row : Row) (d : RowReading) (n : Connection) (e : Event) → k.story.bus_state.connection ≡ Some n → ((id : ProcId) (status : ℕ) → same_event (Event.End id status) e ≡ false) → same_event (Event.Reset row.dev) e ≡ false → has_event (events_of_ends s k row d) e ≡ true → Leaves s k d n e
+leaves_row : (s : ScenarioValue) (k : RunState) (row : Row) (d : RowReading) (n : Connection) (e : Event)
+    → k.story.bus_state.connection ≡ Some n → ((id : ProcId) (status : ℕ) → same_event (Event.End id status) e ≡ false)
+    → same_event (Event.Reset row.dev) e ≡ false → has_event (events_of_ends s k row d) e ≡ true → Leaves s k d n e
 leaves_row s k row d n e z never calm h = go d.change.after.rst refl (rises d.change.own.rst d.change.next.rst) h
   where
     to_left : (c n r : Bool) → r ≡ false → (c || not n) ≡ true → (if n then c else not r) ≡ true
@@ -274,35 +348,54 @@ leaves_row s k row d n e z never calm h = go d.change.after.rst refl (rises d.ch
     to_left false true r f w = cc
     to_left c false r f w = λ i. not (f i)
 
-    here : d.change.after.rst ≡ false → (q : Bool) → (changes_phase d.change || not (is_some d.next)) ≡ q → has_event (if q then target_events s k n (is_some d.next) else initiator_events k k.story.link d) e ≡ true → Leaves s k d n e
-    here f true w x = record { left = to_left (changes_phase d.change) (is_some d.next) d.change.after.rst f w; has = x }
+    here : d.change.after.rst ≡ false → (q : Bool) → (changes_phase d.change || not (is_some d.next)) ≡ q
+        → has_event (if q then target_events s k n (is_some d.next) else initiator_events k k.story.link d) e ≡ true
+        → Leaves s k d n e
+    here f true w x =
+        record { left = to_left (changes_phase d.change) (is_some d.next) d.change.after.rst f w; has = x }
     here f false w x = wrong (sym x ∙ completion_fails k k.story.link d e never)
 
-    go : (q : Bool) → d.change.after.rst ≡ q → (r : Bool) → has_event (if q then (if r then Event.Reset row.dev ∷ [] else []) else events_of_ends_in s k k.story.bus_state.connection d) e ≡ true → Leaves s k d n e
+    go : (q : Bool) → d.change.after.rst ≡ q → (r : Bool)
+        → has_event (if q then (if r then Event.Reset row.dev ∷ [] else [])
+        else events_of_ends_in s k k.story.bus_state.connection d) e ≡ true
+        → Leaves s k d n e
     go true f true x = wrong (sym (one_event (Event.Reset row.dev) e x) ∙ calm)
     go true f false x = cc
-    go false f r x = here f (changes_phase d.change || not (is_some d.next)) refl ((λ i. has_event (events_of_ends_in s k (sym z i) d) e) ∙ x)
+    go false f r x = here f (changes_phase d.change || not (is_some d.next)) refl
+        ((λ i. has_event (events_of_ends_in s k (sym z i) d) e) ∙ x)
 
-connected : (s : ScenarioValue) (k : RunState) (row : Row) (d : RowReading) (e : Event) → same_event (Event.Reset row.dev) e ≡ false → has_event (events_of_ends s k row d) e ≡ true → (n : Connection) × (k.story.bus_state.connection ≡ Some n)
-connected s k row d e never h = go d.change.after.rst (rises d.change.own.rst d.change.next.rst) k.story.bus_state.connection refl h
+connected : (s : ScenarioValue) (k : RunState) (row : Row) (d : RowReading) (e : Event)
+    → same_event (Event.Reset row.dev) e ≡ false → has_event (events_of_ends s k row d) e ≡ true
+    → (n : Connection) × (k.story.bus_state.connection ≡ Some n)
+connected s k row d e never h =
+    go d.change.after.rst (rises d.change.own.rst d.change.next.rst) k.story.bus_state.connection refl h
   where
-    go : (q r : Bool) (o : Option Connection) → k.story.bus_state.connection ≡ o → has_event (if q then (if r then Event.Reset row.dev ∷ [] else []) else events_of_ends_in s k o d) e ≡ true → (n : Connection) × (k.story.bus_state.connection ≡ Some n)
+    go : (q r : Bool) (o : Option Connection) → k.story.bus_state.connection ≡ o
+        → has_event (if q then (if r then Event.Reset row.dev ∷ [] else []) else events_of_ends_in s k o d) e ≡ true
+        → (n : Connection) × (k.story.bus_state.connection ≡ Some n)
     go true true o z x = wrong (sym (one_event (Event.Reset row.dev) e x) ∙ never)
     go true false o z x = cc
     go false r None z x = cc
     go false r (Some n) z x = (n, z)
 
-calm : (s : ScenarioValue) (k : RunState) (row : Row) (d : RowReading) (e : Event) → same_event (Event.Reset row.dev) e ≡ false → has_event (events_of_ends s k row d) e ≡ true → d.change.after.rst ≡ false
+calm : (s : ScenarioValue) (k : RunState) (row : Row) (d : RowReading) (e : Event)
+    → same_event (Event.Reset row.dev) e ≡ false → has_event (events_of_ends s k row d) e ≡ true
+    → d.change.after.rst ≡ false
 calm s k row d e never h = go d.change.after.rst (rises d.change.own.rst d.change.next.rst) h
   where
-    go : (q r : Bool) → has_event (if q then (if r then Event.Reset row.dev ∷ [] else []) else events_of_ends_in s k k.story.bus_state.connection d) e ≡ true → q ≡ false
+    go : (q r : Bool) → has_event (if q then (if r then Event.Reset row.dev ∷ [] else [])
+        else events_of_ends_in s k k.story.bus_state.connection d) e ≡ true
+        → q ≡ false
     go true true x = wrong (sym (one_event (Event.Reset row.dev) e x) ∙ never)
     go true false x = cc
     go false r x = refl
 
 -- ---- past the limit
 
-past : (s : ScenarioValue) (rows : List Row) (row : Row) (n : Connection) (id : ProcId) → leaves_wrong_phase (is_struck_phase s rows) (run_state s rows) (row_reading (run_state s rows).story.bus_state row) id ≡ true → same_process (run_state s rows).served (Some (process id)) ≡ true → is_spent (target_def_of s n.target) (task_of s (run_state s rows)) ≡ true → gives_up s rows row n id ≡ true
+past : (s : ScenarioValue) (rows : List Row) (row : Row) (n : Connection) (id : ProcId) → leaves_wrong_phase
+    (is_struck_phase s rows) (run_state s rows) (row_reading (run_state s rows).story.bus_state row) id ≡ true
+    → same_process (run_state s rows).served (Some (process id)) ≡ true
+    → is_spent (target_def_of s n.target) (task_of s (run_state s rows)) ≡ true → gives_up s rows row n id ≡ true
 past s rows row n id leaves same spent = and_from _ _ leaves (go (process_served s k) refl spent)
   where
     k : RunState
@@ -311,42 +404,68 @@ past s rows row n id leaves same spent = and_from _ _ leaves (go (process_served
     limit : ℕ
     limit = recovery_limit (target_def_of s n.target)
 
-    numbers : (m w : ℕ) (hold : Bool) → m ≤ w → (not hold && not (nat_lt m limit)) ≡ true → (not hold && not (nat_lt m limit) && nat_lt limit (w + one_if true)) ≡ true
-    numbers m w hold h e = and_from (not hold && not (nat_lt m limit)) (nat_lt limit (w + one_if true)) e (more m w hold h e)
+    numbers : (m w : ℕ) (hold : Bool) → m ≤ w → (not hold && not (nat_lt m limit)) ≡ true
+        → (not hold && not (nat_lt m limit) && nat_lt limit (w + one_if true)) ≡ true
+    numbers m w hold h e =
+        and_from (not hold && not (nat_lt m limit)) (nat_lt limit (w + one_if true)) e (more m w hold h e)
       where
-        more : (m w : ℕ) (hold : Bool) → m ≤ w → (not hold && not (nat_lt m limit)) ≡ true → nat_lt limit (w + one_if true) ≡ true
+        more : (m w : ℕ) (hold : Bool) → m ≤ w → (not hold && not (nat_lt m limit)) ≡ true
+            → nat_lt limit (w + one_if true) ≡ true
         more m w true h e = cc
         more m w false h e = grind (arith, nat_tests)
 
-    own : (x : Option Item) (p : Process) → process_item s x ≡ Some p → same_process x (Some (process id)) ≡ true → p.id ≡ id
+    own : (x : Option Item) (p : Process) → process_item s x ≡ Some p → same_process x (Some (process id)) ≡ true
+        → p.id ≡ id
     own None p w q = cc
     own (Some (abort m)) p w q = cc
     own (Some (process m)) p w q = id_is s m p w ∙ same_id_is m id q
 
-    go : (o : Option Process) → process_served s k ≡ o → is_spent (target_def_of s n.target) (task_if s k o) ≡ true → is_past_limit (target_def_of s n.target) (task_if s k (process_served s k)) (wrong_phases s (row ∷ rows) id) ≡ true
+    go : (o : Option Process) → process_served s k ≡ o → is_spent (target_def_of s n.target) (task_if s k o) ≡ true
+        → is_past_limit (target_def_of s n.target) (task_if s k (process_served s k)) (wrong_phases s (row ∷ rows) id)
+        ≡ true
     go None w e = cc
     go (Some p) w e =
         (λ i. is_past_limit (target_def_of s n.target) (task_if s k (w i)) (wrong_phases s rows id + one_if (leaves i)))
-        ∙ numbers (progress_in k.progress p.id).recoveries (wrong_phases s rows id) (Rattle.std.specs.List.list_any (λ (q : Rattle.bus_due.specs.disk_array.specs.Units.Nexus). Rattle.bus_due.specs.disk_array.specs.Units.same_nexus q (Rattle.bus_due.specs.disk_array.specs.Units.nexus_of p)) (Rattle.bus_due.specs.RunState.array_of s k).holds)
-        (subst (λ (x : ProcId). (progress_in k.progress x).recoveries ≤ wrong_phases s rows id) (sym (own k.served p w same)) (counted s rows id)) e
+        ∙ numbers (progress_in k.progress p.id).recoveries (wrong_phases s rows id)
+        (Rattle.std.specs.List.list_any (λ (q : Rattle.bus_due.specs.disk_array.specs.Units.Nexus).
+        Rattle.bus_due.specs.disk_array.specs.Units.same_nexus q
+        (Rattle.bus_due.specs.disk_array.specs.Units.nexus_of p)) (Rattle.bus_due.specs.RunState.array_of s k).holds)
+        (subst (λ (x : ProcId). (progress_in k.progress x).recoveries ≤ wrong_phases s rows id)
+        (sym (own k.served p w same)) (counted s rows id)) e
 
-leaves_wrong : (s : ScenarioValue) (rows : List Row) (row : Row) (n : Connection) (id : ProcId) → (run_state s rows).story.bus_state.connection ≡ Some n → (run_state s rows).exchange.begun ≡ true → (if is_some (row_reading (run_state s rows).story.bus_state row).next then changes_phase (row_reading (run_state s rows).story.bus_state row).change else not (row_reading (run_state s rows).story.bus_state row).change.after.rst) ≡ true → same_process (run_state s rows).served (Some (process id)) ≡ true → is_some (run_state s rows).served ≡ true → is_planned_wrong (run_state s rows).exchange.plan (phase_of (bus_of (run_state s rows))) ≡ true → leaves_wrong_phase (is_struck_phase s rows) (run_state s rows) (row_reading (run_state s rows).story.bus_state row) id ≡ true
+leaves_wrong : (s : ScenarioValue) (rows : List Row) (row : Row) (n : Connection) (id : ProcId)
+    → (run_state s rows).story.bus_state.connection ≡ Some n → (run_state s rows).exchange.begun ≡ true
+    → (if is_some (row_reading (run_state s rows).story.bus_state row).next
+    then changes_phase (row_reading (run_state s rows).story.bus_state row).change
+    else not (row_reading (run_state s rows).story.bus_state row).change.after.rst) ≡ true
+    → same_process (run_state s rows).served (Some (process id)) ≡ true → is_some (run_state s rows).served ≡ true
+    → is_planned_wrong (run_state s rows).exchange.plan (phase_of (bus_of (run_state s rows))) ≡ true
+    → leaves_wrong_phase (is_struck_phase s rows) (run_state s rows)
+    (row_reading (run_state s rows).story.bus_state row) id ≡ true
 leaves_wrong s rows row n id z b left same some wrong =
     let k : RunState = run_state s rows in
     let d : RowReading = row_reading k.story.bus_state row in
-    all_three (is_left k d) (serves k id) (is_wrong_phase (is_struck_phase s rows) k.exchange.plan (phase_of (bus_of k)))
-    (all_three (is_some k.story.bus_state.connection) k.exchange.begun (if is_some d.next then changes_phase d.change else not d.change.after.rst) (λ i. is_some (z i)) b left)
+    all_three (is_left k d) (serves k id) (is_wrong_phase (is_struck_phase s rows) k.exchange.plan
+    (phase_of (bus_of k))) (all_three (is_some k.story.bus_state.connection) k.exchange.begun
+    (if is_some d.next then changes_phase d.change else not d.change.after.rst) (λ i. is_some (z i)) b left)
     (and_from _ _ same some) (planned_wrong s rows (phase_of (bus_of k)) wrong)
 
-pub failure_is : (s : ScenarioValue) (rows : List Row) (row : Row) (n : Connection) (id : ProcId) (code : ℕ) → (run_state s rows).story.bus_state.connection ≡ Some n → is_true_telling s (run_state s rows) row (row_reading (run_state s rows).story.bus_state row) ≡ true → has_event (row_events_by s (run_state s rows).story (row_reading (run_state s rows).story.bus_state row) row) (Event.Fail id code) ≡ true → (is_failure (run_state s rows).exchange.plan.cause code (phase_of (bus_of (run_state s rows))) && gives_up s rows row n id) ≡ true
+pub failure_is : (s : ScenarioValue) (rows : List Row) (row : Row) (n : Connection) (id : ProcId) (code : ℕ)
+    → (run_state s rows).story.bus_state.connection ≡ Some n
+    → is_true_telling s (run_state s rows) row (row_reading (run_state s rows).story.bus_state row) ≡ true
+    → has_event (row_events_by s (run_state s rows).story (row_reading (run_state s rows).story.bus_state row) row)
+    (Event.Fail id code) ≡ true
+    → (is_failure (run_state s rows).exchange.plan.cause code (phase_of (bus_of (run_state s rows)))
+    && gives_up s rows row n id) ≡ true
 failure_is s rows row n id code z told has =
     let k : RunState = run_state s rows in
     let d : RowReading = row_reading k.story.bus_state row in
-    let l : Leaves s k d n (Event.Fail id code) =
-    leaves_row s k row d n (Event.Fail id code) z (λ p status. refl) refl (fails_in (events_of_ends s k row d) (row_events_by s k.story d row) id code told has) in
-    let w : Shows k (serving_of s k n.target) (phase_of (bus_of k)) id code =
-    target_fails k (serving_of s k n.target) n (is_some d.next) (bus_of k).atn (phase_of (bus_of k)) id code l.has in
-    and_from _ _ w.failure (past s rows row n id (leaves_wrong s rows row n id z w.begun l.left w.served w.some w.wrong) w.served w.spent)
+    let l : Leaves s k d n (Event.Fail id code) = leaves_row s k row d n (Event.Fail id code) z
+    (λ p status. refl) refl (fails_in (events_of_ends s k row d) (row_events_by s k.story d row) id code told has) in
+    let w : Shows k (serving_of s k n.target) (phase_of (bus_of k)) id code = target_fails k
+    (serving_of s k n.target) n (is_some d.next) (bus_of k).atn (phase_of (bus_of k)) id code l.has in
+    and_from _ _ w.failure
+    (past s rows row n id (leaves_wrong s rows row n id z w.begun l.left w.served w.some w.wrong) w.served w.spent)
 
 -- ---- a process is lost
 
@@ -355,7 +474,8 @@ record Loses (v : Serving) (phase : Phase) : Type 0 where
   pub wrong : is_planned_wrong v.plan phase ≡ true
   pub spent : is_spent v.def v.task ≡ true
 
-recovered : (def : Option TargetDef) (t : Task) (a b : Leaving) → is_none a.to ≡ false → is_none b.to ≡ false → is_none (recovery def t a b).to ≡ false
+recovered : (def : Option TargetDef) (t : Task) (a b : Leaving) → is_none a.to ≡ false → is_none b.to ≡ false
+    → is_none (recovery def t a b).to ≡ false
 recovered def t a b h k = go t.in_hold (nat_lt t.recoveries (recovery_limit def))
   where
     go : (q r : Bool) → is_none (if q then a else if r then record a { counts = true } else b).to ≡ false
@@ -371,48 +491,76 @@ arrival_goes def t Arrival.Refused = refl
 arrival_goes def t _ = refl
 
 command_goes : (v : Serving) (t : Task) → v.task ≡ Some t → is_none (command_leaving v v.arrival).to ≡ false
-command_goes v t e = (λ i. is_none (with_task (e i) (λ x. if v.plan.struck then recovery v.def x (pointer_restoration Next.Command) (phase_entry Phase.Status) else after_arrival v.def x v.arrival)).to) ∙ go v.plan.struck
+command_goes v t e = (λ i. is_none (with_task (e i)
+    (λ x. if v.plan.struck then recovery v.def x (pointer_restoration Next.Command) (phase_entry Phase.Status)
+    else after_arrival v.def x v.arrival)).to) ∙ go v.plan.struck
   where
-    go : (q : Bool) → is_none (if q then recovery v.def t (pointer_restoration Next.Command) (phase_entry Phase.Status) else after_arrival v.def t v.arrival).to ≡ false
+    go : (q : Bool) → is_none (if q then recovery v.def t (pointer_restoration Next.Command) (phase_entry Phase.Status)
+        else after_arrival v.def t v.arrival).to ≡ false
     go true = recovered v.def t (pointer_restoration Next.Command) (phase_entry Phase.Status) refl refl
     go false = arrival_goes v.def t v.arrival
 
 data_out_goes : (v : Serving) (t : Task) → v.task ≡ Some t → is_none (data_out_leaving v).to ≡ false
-data_out_goes v t e = (λ i. is_none (with_task (e i) (λ x. if v.plan.struck then recovery v.def x (pointer_restoration Next.GoOn) (phase_entry Phase.Status) else after_run (policy_of v.def) x)).to) ∙ go v.plan.struck
+data_out_goes v t e = (λ i. is_none (with_task (e i)
+    (λ x. if v.plan.struck then recovery v.def x (pointer_restoration Next.GoOn) (phase_entry Phase.Status)
+    else after_run (policy_of v.def) x)).to) ∙ go v.plan.struck
   where
-    go : (q : Bool) → is_none (if q then recovery v.def t (pointer_restoration Next.GoOn) (phase_entry Phase.Status) else after_run (policy_of v.def) t).to ≡ false
+    go : (q : Bool) → is_none (if q then recovery v.def t (pointer_restoration Next.GoOn) (phase_entry Phase.Status)
+        else after_run (policy_of v.def) t).to ≡ false
     go true = recovered v.def t (pointer_restoration Next.GoOn) (phase_entry Phase.Status) refl refl
     go false = after_run_goes (policy_of v.def) t
 
 data_in_goes : (v : Serving) (t : Task) → v.task ≡ Some t → is_none (data_in_leaving v).to ≡ false
-data_in_goes v t e = (λ i. is_none (with_task (e i) (λ x. after_run (policy_of v.def) x)).to) ∙ after_run_goes (policy_of v.def) t
+data_in_goes v t e =
+    (λ i. is_none (with_task (e i) (λ x. after_run (policy_of v.def) x)).to) ∙ after_run_goes (policy_of v.def) t
 
 request_goes : (m : Option MsgIn) → is_none (request_or_command m).to ≡ false
 request_goes None = refl
 request_goes (Some m) = refl
 
-offer_goes : (def : Option TargetDef) (negotiates : Bool) (o : Option Agreement) → is_none (after_offer def negotiates o).to ≡ false
+offer_goes : (def : Option TargetDef) (negotiates : Bool) (o : Option Agreement)
+    → is_none (after_offer def negotiates o).to ≡ false
 offer_goes def negotiates (Some x) = refl
 offer_goes def true None = request_goes (request_by def)
 offer_goes def false None = refl
 
 opening_goes : (v : Serving) → v.plan.said.aborts ≡ None → is_none (message_out_leaving v Cause.Selected).to ≡ false
-opening_goes v e = (λ i. is_none (if is_some (e i) then bus_free else after_offer v.def v.plan.negotiates v.plan.said.offer).to) ∙ offer_goes v.def v.plan.negotiates v.plan.said.offer
+opening_goes v e =
+    (λ i. is_none (if is_some (e i) then bus_free else after_offer v.def v.plan.negotiates v.plan.said.offer).to)
+    ∙ offer_goes v.def v.plan.negotiates v.plan.said.offer
 
-message_out_loses : (v : Serving) (t : Task) → v.task ≡ Some t → v.plan.said.aborts ≡ None → is_none (message_out_leaving v v.plan.cause).to ≡ true → Loses v Phase.MessageOut
+message_out_loses : (v : Serving) (t : Task) → v.task ≡ Some t → v.plan.said.aborts ≡ None
+    → is_none (message_out_leaving v v.plan.cause).to ≡ true → Loses v Phase.MessageOut
 message_out_loses v t e a h = go v.plan.cause refl h
   where
-    spent : (b : Leaving) → is_none b.to ≡ false → is_none (with_task v.task (λ x. recovery v.def x b bus_free)).to ≡ true → is_spent v.def v.task ≡ true
-    spent b f k = (λ i. is_spent v.def (e i)) ∙ spent_by (λ x. is_none x) v.def t b bus_free f ((λ i. is_none (with_task (sym e i) (λ x. recovery v.def x b bus_free)).to) ∙ k)
+    spent : (b : Leaving) → is_none b.to ≡ false
+        → is_none (with_task v.task (λ x. recovery v.def x b bus_free)).to ≡ true → is_spent v.def v.task ≡ true
+    spent b f k = (λ i. is_spent v.def (e i)) ∙ spent_by (λ x. is_none x) v.def t b bus_free f
+        ((λ i. is_none (with_task (sym e i) (λ x. recovery v.def x b bus_free)).to) ∙ k)
 
-    restored : is_none (with_task v.task (λ x. recovery v.def x (pointer_restoration Next.GoOn) (phase_entry Phase.Status))).to ≡ false
-    restored = (λ i. is_none (with_task (e i) (λ x. recovery v.def x (pointer_restoration Next.GoOn) (phase_entry Phase.Status))).to) ∙ recovered v.def t (pointer_restoration Next.GoOn) (phase_entry Phase.Status) refl refl
+    restored :
+        is_none (with_task v.task (λ x. recovery v.def x (pointer_restoration Next.GoOn) (phase_entry Phase.Status))).to
+        ≡ false
+    restored = (λ i. is_none
+        (with_task (e i) (λ x. recovery v.def x (pointer_restoration Next.GoOn) (phase_entry Phase.Status))).to)
+        ∙ recovered v.def t (pointer_restoration Next.GoOn) (phase_entry Phase.Status) refl refl
 
-    named : v.plan.cause ≡ Cause.InMessage → v.plan.said.offer ≡ None → (q : Bool) → is_none (if q then message_repetition v.plan else with_task v.task (λ x. recovery v.def x (message_repetition v.plan) bus_free)).to ≡ true → Loses v Phase.MessageOut
+    named : v.plan.cause ≡ Cause.InMessage → v.plan.said.offer ≡ None → (q : Bool)
+        → is_none (if q then message_repetition v.plan
+        else with_task v.task (λ x. recovery v.def x (message_repetition v.plan) bus_free)).to ≡ true
+        → Loses v Phase.MessageOut
     named c o true k = cc
-    named c o false k = record { loss = λ i. is_loss (c i) Phase.MessageOut; wrong = (λ i. is_complaint v.plan (c i)) ∙ (λ i. is_none (o i)); spent = spent (message_repetition v.plan) refl k }
+    named c o false k = record {
+      loss = λ i. is_loss (c i) Phase.MessageOut;
+      wrong = (λ i. is_complaint v.plan (c i)) ∙ (λ i. is_none (o i));
+      spent = spent (message_repetition v.plan) refl k;
+    }
 
-    refused : v.plan.cause ≡ Cause.InMessage → (o : Option Agreement) → v.plan.said.offer ≡ o → is_none (if is_some o then phase_entry Phase.Command else if is_naming v.plan.messages.first then message_repetition v.plan else with_task v.task (λ x. recovery v.def x (message_repetition v.plan) bus_free)).to ≡ true → Loses v Phase.MessageOut
+    refused : v.plan.cause ≡ Cause.InMessage → (o : Option Agreement) → v.plan.said.offer ≡ o
+        → is_none (if is_some o then phase_entry Phase.Command
+        else if is_naming v.plan.messages.first then message_repetition v.plan
+        else with_task v.task (λ x. recovery v.def x (message_repetition v.plan) bus_free)).to ≡ true
+        → Loses v Phase.MessageOut
     refused c None o k = named c o (is_naming v.plan.messages.first) k
     refused c (Some x) o k = cc
 
@@ -420,12 +568,20 @@ message_out_loses v t e a h = go v.plan.cause refl h
     go Cause.Selected c k = wrong (sym k ∙ opening_goes v a)
     go Cause.InMessage c k = refused c v.plan.said.offer refl k
     go Cause.InData c k = wrong (sym k ∙ restored)
-    go Cause.InStatus c k = record { loss = λ i. is_loss (c i) Phase.MessageOut; wrong = λ i. is_complaint v.plan (c i); spent = spent (pointer_restoration Next.Status) refl k }
+    go Cause.InStatus c k = record {
+      loss = λ i. is_loss (c i) Phase.MessageOut;
+      wrong = λ i. is_complaint v.plan (c i);
+      spent = spent (pointer_restoration Next.Status) refl k;
+    }
 
-end_loses : (v : Serving) (n : Connection) (attention : Bool) (phase : Phase) (o : Option ProcId) (other : ProcId) (t : Task) → v.task ≡ Some t → is_none (phase_leaving v attention phase).to ≡ true → has_event (connection_end_events n v.plan phase o) (Event.Lost other) ≡ true → Loses v phase
+end_loses :
+    (v : Serving) (n : Connection) (attention : Bool) (phase : Phase) (o : Option ProcId) (other : ProcId) (t : Task)
+    → v.task ≡ Some t → is_none (phase_leaving v attention phase).to ≡ true
+    → has_event (connection_end_events n v.plan phase o) (Event.Lost other) ≡ true → Loses v phase
 end_loses v n attention Phase.MessageOut o other t e h k = go v.plan.said.aborts refl k
   where
-    go : (a : Option AbortKind) → v.plan.said.aborts ≡ a → has_event (after_opening_events n v.plan.said a o) (Event.Lost other) ≡ true → Loses v Phase.MessageOut
+    go : (a : Option AbortKind) → v.plan.said.aborts ≡ a
+        → has_event (after_opening_events n v.plan.said a o) (Event.Lost other) ≡ true → Loses v Phase.MessageOut
     go None a x = message_out_loses v t e a h
     go (Some what) a x = cc
 end_loses v n attention Phase.MessageIn o other t e h k = cc
@@ -438,15 +594,19 @@ end_loses v n false Phase.Status o other t e h k = cc
 
 -- ---- no turn to another phase shows it
 
-none_newer : (q : Bool) (xs ys : List Event) (e : Event) → has_event xs e ≡ false → has_event ys e ≡ false → has_event (newest_with (if q then xs else []) ys) e ≡ false
+none_newer : (q : Bool) (xs ys : List Event) (e : Event) → has_event xs e ≡ false → has_event ys e ≡ false
+    → has_event (newest_with (if q then xs else []) ys) e ≡ false
 none_newer false xs ys e h k = k
 none_newer true [] ys e h k = k
 none_newer true (x ∷ xs) ys e h k = (λ i. or_none_first (same_event x e) (has_event xs e) h i || k i)
 
-arrival_loses : (id other : ProcId) (plan : Plan) (arrival : Arrival) (phase : Phase) → has_event (arrival_events id plan arrival phase) (Event.Lost other) ≡ false
+arrival_loses : (id other : ProcId) (plan : Plan) (arrival : Arrival) (phase : Phase)
+    → has_event (arrival_events id plan arrival phase) (Event.Lost other) ≡ false
 arrival_loses id other plan arrival Phase.Command = go plan.struck arrival
   where
-    go : (q : Bool) (a : Arrival) → has_event (if q then [] else Rattle.bus_due.specs.bus_dialogue.specs.Events.arrival_event id a ∷ []) (Event.Lost other) ≡ false
+    go : (q : Bool) (a : Arrival)
+        → has_event (if q then [] else Rattle.bus_due.specs.bus_dialogue.specs.Events.arrival_event id a ∷ [])
+        (Event.Lost other) ≡ false
     go true a = refl
     go false Arrival.Refused = refl
     go false Arrival.Guest = refl
@@ -454,10 +614,12 @@ arrival_loses id other plan arrival Phase.Command = go plan.struck arrival
     go false Arrival.Queued = refl
 arrival_loses id other plan arrival _ = refl
 
-reply_loses : (v : Serving) (phase : Phase) (id other : ProcId) → has_event (reply_events id v.plan v.arrival phase) (Event.Lost other) ≡ false
+reply_loses : (v : Serving) (phase : Phase) (id other : ProcId)
+    → has_event (reply_events id v.plan v.arrival phase) (Event.Lost other) ≡ false
 reply_loses v Phase.Command id other = go v.plan.struck v.arrival
   where
-    go : (q : Bool) (a : Arrival) → has_event (if q then Event.Fail id PARITY_ERROR ∷ [] else arrival_run_events a id) (Event.Lost other) ≡ false
+    go : (q : Bool) (a : Arrival)
+        → has_event (if q then Event.Fail id PARITY_ERROR ∷ [] else arrival_run_events a id) (Event.Lost other) ≡ false
     go true a = refl
     go false Arrival.Refused = refl
     go false Arrival.Guest = refl
@@ -465,7 +627,8 @@ reply_loses v Phase.Command id other = go v.plan.struck v.arrival
     go false Arrival.Queued = refl
 reply_loses v Phase.DataOut id other = go v.plan.struck
   where
-    go : (q : Bool) → has_event (if q then Event.Fail id PARITY_ERROR ∷ [] else Event.Run id ∷ []) (Event.Lost other) ≡ false
+    go : (q : Bool)
+        → has_event (if q then Event.Fail id PARITY_ERROR ∷ [] else Event.Run id ∷ []) (Event.Lost other) ≡ false
     go true = refl
     go false = refl
 reply_loses v Phase.MessageOut id other = go v.plan.cause
@@ -485,20 +648,25 @@ record Drops (k : RunState) (v : Serving) (phase : Phase) (other : ProcId) : Typ
   pub some : is_some k.served ≡ true
   pub loses : Loses v phase
 
-lost_id : (o : Option ProcId) (other : ProcId) → has_event (loss_events o) (Event.Lost other) ≡ true → (id : ProcId) × (o ≡ Some id) × (same_id id other ≡ true)
+lost_id : (o : Option ProcId) (other : ProcId) → has_event (loss_events o) (Event.Lost other) ≡ true
+    → (id : ProcId) × (o ≡ Some id) × (same_id id other ≡ true)
 lost_id None other h = cc
 lost_id (Some id) other h = (id, refl, one_event (Event.Lost id) (Event.Lost other) h)
 
-end_id : (n : Connection) (plan : Plan) (phase : Phase) (o : Option ProcId) (other : ProcId) → has_event (connection_end_events n plan phase o) (Event.Lost other) ≡ true → (id : ProcId) × (o ≡ Some id) × (same_id id other ≡ true)
+end_id : (n : Connection) (plan : Plan) (phase : Phase) (o : Option ProcId) (other : ProcId)
+    → has_event (connection_end_events n plan phase o) (Event.Lost other) ≡ true
+    → (id : ProcId) × (o ≡ Some id) × (same_id id other ≡ true)
 end_id n plan Phase.MessageOut o other h = go plan.said.aborts h
   where
-    go : (a : Option AbortKind) → has_event (after_opening_events n plan.said a o) (Event.Lost other) ≡ true → (id : ProcId) × (o ≡ Some id) × (same_id id other ≡ true)
+    go : (a : Option AbortKind) → has_event (after_opening_events n plan.said a o) (Event.Lost other) ≡ true
+        → (id : ProcId) × (o ≡ Some id) × (same_id id other ≡ true)
     go None x = lost_id o other x
     go (Some what) x = cc
 end_id n plan Phase.MessageIn o other h = cc
 end_id n plan _ o other h = lost_id o other h
 
-served_task : (s : ScenarioValue) (k : RunState) (p : Process) → same_process k.served (Some (process p.id)) ≡ true → is_some k.served ≡ true → process_of s p.id ≡ Some p → task_of s k ≡ task_if s k (Some p)
+served_task : (s : ScenarioValue) (k : RunState) (p : Process) → same_process k.served (Some (process p.id)) ≡ true
+    → is_some k.served ≡ true → process_of s p.id ≡ Some p → task_of s k ≡ task_if s k (Some p)
 served_task s k p same some e = λ i. task_if s k (go k.served same some i)
   where
     go : (x : Option Item) → same_process x (Some (process p.id)) ≡ true → is_some x ≡ true → process_item s x ≡ Some p
@@ -506,7 +674,10 @@ served_task s k p same some e = λ i. task_if s k (go k.served same some i)
     go (Some (abort m)) a b = cc
     go (Some (process m)) a b = (λ i. process_of s (same_id_is m p.id a i)) ∙ e
 
-target_loses : (s : ScenarioValue) (k : RunState) (n : Connection) (stands : Bool) (p : Process) → process_of s p.id ≡ Some p → (stands ≡ false → is_none (leaving s k n.target).to ≡ true) → has_event (target_events s k n stands) (Event.Lost p.id) ≡ true → Drops k (serving_of s k n.target) (phase_of (bus_of k)) p.id
+target_loses : (s : ScenarioValue) (k : RunState) (n : Connection) (stands : Bool) (p : Process)
+    → process_of s p.id ≡ Some p → (stands ≡ false → is_none (leaving s k n.target).to ≡ true)
+    → has_event (target_events s k n stands) (Event.Lost p.id) ≡ true
+    → Drops k (serving_of s k n.target) (phase_of (bus_of k)) p.id
 target_loses s k n stands p own free h = go k.exchange.begun refl stands refl h
   where
     v : Serving
@@ -517,42 +688,80 @@ target_loses s k n stands p own free h = go k.exchange.begun refl stands refl h
 
     turned : (o : Option ProcId) → has_event (turn_events_if v (bus_of k).atn phase o) (Event.Lost p.id) ≡ false
     turned None = refl
-    turned (Some id) =
-        none_newer (is_status_next (phase_leaving v (bus_of k).atn phase).to && not (has_replied v.task)) (reply_events id v.plan v.arrival phase) (arrival_events id v.plan v.arrival phase) (Event.Lost p.id) (reply_loses v phase id p.id) (arrival_loses id p.id v.plan v.arrival phase)
+    turned (Some id) = none_newer (is_status_next (phase_leaving v (bus_of k).atn phase).to && not (has_replied v.task))
+        (reply_events id v.plan v.arrival phase) (arrival_events id v.plan v.arrival phase) (Event.Lost p.id)
+        (reply_loses v phase id p.id) (arrival_loses id p.id v.plan v.arrival phase)
 
-    ends : k.exchange.begun ≡ true → stands ≡ false → has_event (connection_end_events n v.plan phase (id_of k.served)) (Event.Lost p.id) ≡ true → Drops k v phase p.id
+    ends : k.exchange.begun ≡ true → stands ≡ false
+        → has_event (connection_end_events n v.plan phase (id_of k.served)) (Event.Lost p.id) ≡ true
+        → Drops k v phase p.id
     ends b q x =
         let who = end_id n v.plan phase (id_of k.served) p.id x in
         let same : same_process k.served (Some (process p.id)) ≡ true = id_served k.served who.0 p.id who.1 who.2 in
         let some : is_some k.served ≡ true = some_id k.served who.0 who.1 in
-        let out : is_none (phase_leaving v (bus_of k).atn phase).to ≡ true = (λ i. is_none (leaving_by v (sym b i) (bus_of k)).to) ∙ free q in
-        record { begun = b; served = same; some = some; loses = end_loses v n (bus_of k).atn phase (id_of k.served) p.id _ (served_task s k p same some own) out x }
+        let out : is_none (phase_leaving v (bus_of k).atn phase).to ≡ true =
+        (λ i. is_none (leaving_by v (sym b i) (bus_of k)).to) ∙ free q in
+        record {
+          begun = b;
+          served = same;
+          some = some;
+          loses = end_loses v n (bus_of k).atn phase (id_of k.served) p.id _ (served_task s k p same some own) out x;
+        }
 
-    go : (b : Bool) → k.exchange.begun ≡ b → (q : Bool) → stands ≡ q → has_event (if not b then [] else if q then turn_events_if v (bus_of k).atn phase (id_of k.served) else connection_end_events n v.plan phase (id_of k.served)) (Event.Lost p.id) ≡ true → Drops k v phase p.id
+    go : (b : Bool) → k.exchange.begun ≡ b → (q : Bool) → stands ≡ q
+        → has_event (if not b then [] else if q then turn_events_if v (bus_of k).atn phase (id_of k.served)
+        else connection_end_events n v.plan phase (id_of k.served)) (Event.Lost p.id) ≡ true
+        → Drops k v phase p.id
     go false b q y x = cc
     go true b true y x = wrong (sym x ∙ turned (id_of k.served))
     go true b false y x = ends b y x
 
-pub loss_by : (s : ScenarioValue) (rows : List Row) (row : Row) (n : Connection) (p : Process) → (run_state s rows).story.bus_state.connection ≡ Some n → is_true_telling s (run_state s rows) row (row_reading (run_state s rows).story.bus_state row) ≡ true → process_of s p.id ≡ Some p → (is_some (row_reading (run_state s rows).story.bus_state row).next ≡ false → is_none (leaving s (run_state s rows) n.target).to ≡ true) → has_event (row_events_by s (run_state s rows).story (row_reading (run_state s rows).story.bus_state row) row) (Event.Lost p.id) ≡ true → (is_loss (run_state s rows).exchange.plan.cause (phase_of (bus_of (run_state s rows))) && gives_up s rows row n p.id) ≡ true
+pub loss_by : (s : ScenarioValue) (rows : List Row) (row : Row) (n : Connection) (p : Process)
+    → (run_state s rows).story.bus_state.connection ≡ Some n
+    → is_true_telling s (run_state s rows) row (row_reading (run_state s rows).story.bus_state row) ≡ true
+    → process_of s p.id ≡ Some p → (is_some (row_reading (run_state s rows).story.bus_state row).next ≡ false
+    → is_none (leaving s (run_state s rows) n.target).to ≡ true)
+    → has_event (row_events_by s (run_state s rows).story (row_reading (run_state s rows).story.bus_state row) row)
+    (Event.Lost p.id) ≡ true
+    → (is_loss (run_state s rows).exchange.plan.cause (phase_of (bus_of (run_state s rows)))
+    && gives_up s rows row n p.id) ≡ true
 loss_by s rows row n p z told own free has =
     let k : RunState = run_state s rows in
     let d : RowReading = row_reading k.story.bus_state row in
-    let l : Leaves s k d n (Event.Lost p.id) =
-    leaves_row s k row d n (Event.Lost p.id) z (λ q status. refl) refl (lost_in (events_of_ends s k row d) (row_events_by s k.story d row) p.id told has) in
-    let w : Drops k (serving_of s k n.target) (phase_of (bus_of k)) p.id = target_loses s k n (is_some d.next) p own free l.has in
-    and_from _ _ w.loses.loss (past s rows row n p.id (leaves_wrong s rows row n p.id z w.begun l.left w.served w.some w.loses.wrong) w.served w.loses.spent)
+    let l : Leaves s k d n (Event.Lost p.id) = leaves_row s k row d n (Event.Lost p.id) z
+    (λ q status. refl) refl (lost_in (events_of_ends s k row d) (row_events_by s k.story d row) p.id told has) in
+    let w : Drops k (serving_of s k n.target) (phase_of (bus_of k)) p.id = target_loses s k n
+    (is_some d.next) p own free l.has in
+    and_from _ _ w.loses.loss (past s rows row n p.id
+    (leaves_wrong s rows row n p.id z w.begun l.left w.served w.some w.loses.wrong) w.served w.loses.spent)
 
-pub loss_is : (s : ScenarioValue) (rows : List Row) (row : Row) (n : Connection) (p : Process) → (run_state s rows).story.bus_state.connection ≡ Some n → is_true_telling s (run_state s rows) row (row_reading (run_state s rows).story.bus_state row) ≡ true → process_of s p.id ≡ Some p → (leaving s (run_state s rows) n.target).to ≡ None → has_event (row_events_by s (run_state s rows).story (row_reading (run_state s rows).story.bus_state row) row) (Event.Lost p.id) ≡ true → (is_loss (run_state s rows).exchange.plan.cause (phase_of (bus_of (run_state s rows))) && gives_up s rows row n p.id) ≡ true
+pub loss_is : (s : ScenarioValue) (rows : List Row) (row : Row) (n : Connection) (p : Process)
+    → (run_state s rows).story.bus_state.connection ≡ Some n
+    → is_true_telling s (run_state s rows) row (row_reading (run_state s rows).story.bus_state row) ≡ true
+    → process_of s p.id ≡ Some p → (leaving s (run_state s rows) n.target).to ≡ None
+    → has_event (row_events_by s (run_state s rows).story (row_reading (run_state s rows).story.bus_state row) row)
+    (Event.Lost p.id) ≡ true
+    → (is_loss (run_state s rows).exchange.plan.cause (phase_of (bus_of (run_state s rows)))
+    && gives_up s rows row n p.id) ≡ true
 loss_is s rows row n p z told own free has = loss_by s rows row n p z told own (λ x. λ i. is_none (free i)) has
 
 -- ---- such a row is of a connection
 
-pub fails_connected : (s : ScenarioValue) (k : RunState) (row : Row) (d : RowReading) (id : ProcId) (code : ℕ) → is_true_telling s k row d ≡ true → has_event (row_events_by s k.story d row) (Event.Fail id code) ≡ true → (n : Connection) × (k.story.bus_state.connection ≡ Some n)
-fails_connected s k row d id code told has = connected s k row d (Event.Fail id code) refl (fails_in (events_of_ends s k row d) (row_events_by s k.story d row) id code told has)
+pub fails_connected : (s : ScenarioValue) (k : RunState) (row : Row) (d : RowReading) (id : ProcId) (code : ℕ)
+    → is_true_telling s k row d ≡ true → has_event (row_events_by s k.story d row) (Event.Fail id code) ≡ true
+    → (n : Connection) × (k.story.bus_state.connection ≡ Some n)
+fails_connected s k row d id code told has = connected s k row d (Event.Fail id code) refl
+    (fails_in (events_of_ends s k row d) (row_events_by s k.story d row) id code told has)
 
-pub lost_connected : (s : ScenarioValue) (k : RunState) (row : Row) (d : RowReading) (id : ProcId) → is_true_telling s k row d ≡ true → has_event (row_events_by s k.story d row) (Event.Lost id) ≡ true → (n : Connection) × (k.story.bus_state.connection ≡ Some n)
-lost_connected s k row d id told has = connected s k row d (Event.Lost id) refl (lost_in (events_of_ends s k row d) (row_events_by s k.story d row) id told has)
+pub lost_connected : (s : ScenarioValue) (k : RunState) (row : Row) (d : RowReading) (id : ProcId)
+    → is_true_telling s k row d ≡ true → has_event (row_events_by s k.story d row) (Event.Lost id) ≡ true
+    → (n : Connection) × (k.story.bus_state.connection ≡ Some n)
+lost_connected s k row d id told has = connected s k row d (Event.Lost id) refl
+    (lost_in (events_of_ends s k row d) (row_events_by s k.story d row) id told has)
 
 -- Under RST none is shown.
-pub lost_calm : (s : ScenarioValue) (k : RunState) (row : Row) (d : RowReading) (id : ProcId) → is_true_telling s k row d ≡ true → has_event (row_events_by s k.story d row) (Event.Lost id) ≡ true → d.change.after.rst ≡ false
-lost_calm s k row d id told has = calm s k row d (Event.Lost id) refl (lost_in (events_of_ends s k row d) (row_events_by s k.story d row) id told has)
+pub lost_calm : (s : ScenarioValue) (k : RunState) (row : Row) (d : RowReading) (id : ProcId)
+    → is_true_telling s k row d ≡ true → has_event (row_events_by s k.story d row) (Event.Lost id) ≡ true
+    → d.change.after.rst ≡ false
+lost_calm s k row d id told has =
+    calm s k row d (Event.Lost id) refl (lost_in (events_of_ends s k row d) (row_events_by s k.story d row) id told has)

@@ -1,4 +1,5 @@
--- The messages of a target: with whatever phase it leaves a phase for, they are names of a reselection that it says again, or none.
+-- The messages of a target: with whatever phase it leaves a phase for, they are names of a reselection that it says
+-- again, or none.
 use Rattle.bus_books.proofs
 use proofs.Names.{◌≡◌, Bool, true, false, ◌&&◌, Option, Some, None, refl, ◌+◌, inl, inr, cases_Bool, if◌then◌else◌}
 use proofs.Names.{◌==◌, is_some, nat_lt, LineSet, Agreement, UNLIMITED_OFFSET, MsgIn, Policy, TargetDef, policy_of}
@@ -25,7 +26,8 @@ either : (q : MsgIn → Type 0) (r : Bool) (a b : Leaving) → On q a → On q b
 either q true a b h g = h
 either q false a b h g = g
 
-recovers : (q : MsgIn → Type 0) (def : Option TargetDef) (t : Task) (a b : Leaving) → On q a → On q b → On q (recovery def t a b)
+recovers : (q : MsgIn → Type 0) (def : Option TargetDef) (t : Task) (a b : Leaving) → On q a → On q b
+    → On q (recovery def t a b)
 recovers q def t a b h g = go t.in_hold (nat_lt t.recoveries (recovery_limit def))
   where
     go : (r z : Bool) → On q (if r then a else if z then record a { counts = true } else b)
@@ -48,7 +50,8 @@ requests : (q : MsgIn → Type 0) → IsOfOthers q → (def : Option TargetDef) 
 requests q o None = tt
 requests q o (Some t) = elim (cases_Bool (t.begins && nat_lt 0 t.period)) [ inl e ↦ rw e (o.sdtr _) | inr e ↦ rw e tt ]
 
-offers : (q : MsgIn → Type 0) → IsOfOthers q → (def : Option TargetDef) (negotiates : Bool) (offer : Option Agreement) → On q (after_offer def negotiates offer)
+offers : (q : MsgIn → Type 0) → IsOfOthers q → (def : Option TargetDef) (negotiates : Bool) (offer : Option Agreement)
+    → On q (after_offer def negotiates offer)
 offers q o def negotiates (Some offer) = (replies q o def offer, tt)
 offers q o def true None = asks q o (request_by def) (requests q o def)
 offers q o def false None = (tt, tt)
@@ -56,20 +59,29 @@ offers q o def false None = (tt, tt)
 restores : (q : MsgIn → Type 0) → IsOfOthers q → (next : Next) → On q (pointer_restoration next)
 restores q o next = (o.restore, tt)
 
-refuses : (q : MsgIn → Type 0) (v : Serving) (again : Leaving) (task : Option Task) → On q again → On q (with_task task (λ t. recovery v.def t again bus_free))
+refuses : (q : MsgIn → Type 0) (v : Serving) (again : Leaving) (task : Option Task) → On q again
+    → On q (with_task task (λ t. recovery v.def t again bus_free))
 refuses q v again None h = (tt, tt)
 refuses q v again (Some t) h = recovers q v.def t again bus_free h (tt, tt)
 
-out_left : (q : MsgIn → Type 0) → IsOfOthers q → (v : Serving) → OnMessages q v.plan.messages → (cause : Cause) (task : Option Task) → v.task ≡ task → On q (message_out_leaving v cause)
-out_left q o v h Cause.Selected task e = either q (is_some v.plan.said.aborts) bus_free (after_offer v.def v.plan.negotiates v.plan.said.offer) (tt, tt) (offers q o v.def v.plan.negotiates v.plan.said.offer)
-out_left q o v h Cause.InMessage task e =
-    either q (is_some v.plan.said.offer) (phase_entry Phase.Command) (if is_naming v.plan.messages.first then message_repetition v.plan else with_task v.task (λ t. recovery v.def t (message_repetition v.plan) bus_free)) (tt, tt)
-    (either q (is_naming v.plan.messages.first) (message_repetition v.plan) (with_task v.task (λ t. recovery v.def t (message_repetition v.plan) bus_free)) h (refuses q v (message_repetition v.plan) v.task h))
+out_left : (q : MsgIn → Type 0) → IsOfOthers q → (v : Serving) → OnMessages q v.plan.messages
+    → (cause : Cause) (task : Option Task) → v.task ≡ task → On q (message_out_leaving v cause)
+out_left q o v h Cause.Selected task e = either q (is_some v.plan.said.aborts) bus_free
+    (after_offer v.def v.plan.negotiates v.plan.said.offer) (tt, tt)
+    (offers q o v.def v.plan.negotiates v.plan.said.offer)
+out_left q o v h Cause.InMessage task e = either q (is_some v.plan.said.offer)
+    (phase_entry Phase.Command) (if is_naming v.plan.messages.first then message_repetition v.plan
+    else with_task v.task (λ t. recovery v.def t (message_repetition v.plan) bus_free))
+    (tt, tt) (either q (is_naming v.plan.messages.first) (message_repetition v.plan)
+    (with_task v.task (λ t. recovery v.def t (message_repetition v.plan) bus_free)) h
+    (refuses q v (message_repetition v.plan) v.task h))
 out_left q o v h Cause.InData task e = go v.task
   where
-    go : (t : Option Task) → On q (with_task t (λ t. recovery v.def t (pointer_restoration Next.GoOn) (phase_entry Phase.Status)))
+    go : (t : Option Task)
+        → On q (with_task t (λ t. recovery v.def t (pointer_restoration Next.GoOn) (phase_entry Phase.Status)))
     go None = (tt, tt)
-    go (Some t) = recovers q v.def t (pointer_restoration Next.GoOn) (phase_entry Phase.Status) (restores q o Next.GoOn) (tt, tt)
+    go (Some t) =
+        recovers q v.def t (pointer_restoration Next.GoOn) (phase_entry Phase.Status) (restores q o Next.GoOn) (tt, tt)
 out_left q o v h Cause.InStatus task e = go v.task
   where
     go : (t : Option Task) → On q (with_task t (λ t. recovery v.def t (pointer_restoration Next.Status) bus_free))
@@ -84,46 +96,61 @@ in_left q v Next.GoOn = go v.task
     go (Some t) = (tt, tt)
 in_left q v _ = (tt, tt)
 
-arrives : (q : MsgIn → Type 0) → IsOfOthers q → (def : Option TargetDef) (t : Task) (arrival : Arrival) → On q (after_arrival def t arrival)
+arrives : (q : MsgIn → Type 0) → IsOfOthers q → (def : Option TargetDef) (t : Task) (arrival : Arrival)
+    → On q (after_arrival def t arrival)
 arrives q o def t Arrival.Queued = (o.disconnect, tt)
 arrives q o def t _ = (tt, tt)
 
-command_left : (q : MsgIn → Type 0) → IsOfOthers q → (v : Serving) (arrival : Arrival) → On q (command_leaving v arrival)
+command_left : (q : MsgIn → Type 0) → IsOfOthers q → (v : Serving) (arrival : Arrival)
+    → On q (command_leaving v arrival)
 command_left q o v arrival = go v.task v.plan.struck
   where
-    go : (task : Option Task) (r : Bool) → On q (with_task task (λ t. if r then recovery v.def t (pointer_restoration Next.Command) (phase_entry Phase.Status) else after_arrival v.def t arrival))
+    go : (task : Option Task) (r : Bool) → On q
+        (with_task task (λ t. if r then recovery v.def t (pointer_restoration Next.Command) (phase_entry Phase.Status)
+        else after_arrival v.def t arrival))
     go None r = (tt, tt)
-    go (Some t) true = recovers q v.def t (pointer_restoration Next.Command) (phase_entry Phase.Status) (restores q o Next.Command) (tt, tt)
+    go (Some t) true = recovers q v.def t (pointer_restoration Next.Command) (phase_entry Phase.Status)
+        (restores q o Next.Command) (tt, tt)
     go (Some t) false = arrives q o v.def t arrival
 
 run_left : (q : MsgIn → Type 0) → IsOfOthers q → (policy : Policy) (t : Task) → On q (after_run policy t)
 run_left q o policy t = go (nat_lt (t.runs + 1) (runs_in_all policy t)) policy
   where
-    go : (r : Bool) (p : Policy) → On q (record (if r then disconnection (disconnect_messages p) else phase_entry Phase.Status) { done = true })
+    go : (r : Bool) (p : Policy)
+        → On q (record (if r then disconnection (disconnect_messages p) else phase_entry Phase.Status) { done = true })
     go true (Policy.Burst most) = (o.save, o.disconnect)
     go false p = (tt, tt)
     go true _ = (o.disconnect, tt)
 
-data_left : (q : MsgIn → Type 0) → IsOfOthers q → (policy : Policy) (task : Option Task) → On q (with_task task (λ t. after_run policy t))
+data_left : (q : MsgIn → Type 0) → IsOfOthers q → (policy : Policy) (task : Option Task)
+    → On q (with_task task (λ t. after_run policy t))
 data_left q o policy None = (tt, tt)
 data_left q o policy (Some t) = run_left q o policy t
 
 sent_left : (q : MsgIn → Type 0) → IsOfOthers q → (v : Serving) → On q (data_out_leaving v)
 sent_left q o v = go v.task v.plan.struck
   where
-    go : (task : Option Task) (r : Bool) → On q (with_task task (λ t. if r then recovery v.def t (pointer_restoration Next.GoOn) (phase_entry Phase.Status) else after_run (policy_of v.def) t))
+    go : (task : Option Task) (r : Bool) → On q
+        (with_task task (λ t. if r then recovery v.def t (pointer_restoration Next.GoOn) (phase_entry Phase.Status)
+        else after_run (policy_of v.def) t))
     go None r = (tt, tt)
-    go (Some t) true = recovers q v.def t (pointer_restoration Next.GoOn) (phase_entry Phase.Status) (restores q o Next.GoOn) (tt, tt)
+    go (Some t) true =
+        recovers q v.def t (pointer_restoration Next.GoOn) (phase_entry Phase.Status) (restores q o Next.GoOn) (tt, tt)
     go (Some t) false = run_left q o (policy_of v.def) t
 
-phase_left : (q : MsgIn → Type 0) → IsOfOthers q → (v : Serving) → OnMessages q v.plan.messages → (attention : Bool) (phase : Phase) → On q (phase_leaving v attention phase)
+phase_left : (q : MsgIn → Type 0) → IsOfOthers q → (v : Serving) → OnMessages q v.plan.messages
+    → (attention : Bool) (phase : Phase) → On q (phase_leaving v attention phase)
 phase_left q o v h attention Phase.MessageOut = out_left q o v h v.plan.cause v.task refl
-phase_left q o v h attention Phase.MessageIn = either q attention (phase_entry Phase.MessageOut) (after_messages v v.plan.next) (tt, tt) (in_left q v v.plan.next)
+phase_left q o v h attention Phase.MessageIn =
+    either q attention (phase_entry Phase.MessageOut) (after_messages v v.plan.next) (tt, tt) (in_left q v v.plan.next)
 phase_left q o v h attention Phase.Command = command_left q o v v.arrival
-phase_left q o v h attention Phase.DataIn = either q attention (phase_entry Phase.MessageOut) (data_in_leaving v) (tt, tt) (data_left q o (policy_of v.def) v.task)
+phase_left q o v h attention Phase.DataIn = either q attention (phase_entry Phase.MessageOut) (data_in_leaving v)
+    (tt, tt) (data_left q o (policy_of v.def) v.task)
 phase_left q o v h attention Phase.DataOut = sent_left q o v
-phase_left q o v h attention Phase.Status = either q attention (phase_entry Phase.MessageOut) (disconnection (one_message MsgIn.CommandComplete)) (tt, tt) (o.complete, tt)
+phase_left q o v h attention Phase.Status = either q attention (phase_entry Phase.MessageOut)
+    (disconnection (one_message MsgIn.CommandComplete)) (tt, tt) (o.complete, tt)
 
-pub left_messages : (q : MsgIn → Type 0) → IsOfOthers q → (v : Serving) (begun : Bool) (bus : LineSet) → OnMessages q v.plan.messages → OnMessages q (leaving_by v begun bus).messages
+pub left_messages : (q : MsgIn → Type 0) → IsOfOthers q → (v : Serving) (begun : Bool) (bus : LineSet)
+    → OnMessages q v.plan.messages → OnMessages q (leaving_by v begun bus).messages
 left_messages q o v true bus h = phase_left q o v h bus.atn (phase_of bus)
 left_messages q o v false bus h = (tt, tt)

@@ -10,7 +10,8 @@ held x = record none { data_bits = x.data_bits; bsy = x.bsy; sel = x.sel }
 pub held_by : (l m : LineSet) → l ≡ m → m ≡ held m → l ≡ held l
 held_by l m e h = e ∙ h ∙ ap held (sym e)
 
-pub held_below : (f : ℕ → LineSet) (n : ℕ) → ((d : ℕ) → d < n → f d ≡ held (f d)) → union_below f n ≡ held (union_below f n)
+pub held_below : (f : ℕ → LineSet) (n : ℕ) → ((d : ℕ) → d < n → f d ≡ held (f d))
+    → union_below f n ≡ held (union_below f n)
 unfolding union_below
 held_below f zero h = refl
 held_below f (suc n) h =
@@ -32,17 +33,21 @@ contender_held : (p : List Row) (e : ℕ) → ContendsOrNot p e → drives p e �
 contender_held p e (inl n) = held_by (drives p e) none n refl
 contender_held p e (inr k) = held_by (drives p e) (contender_lines e) k refl
 
-contender_off : (on : LineSet → Bool) (p : List Row) (e : ℕ) → on none ≡ false → ((k : ℕ) → on (contender_lines k) ≡ false) → ContendsOrNot p e → on (drives p e) ≡ false
+contender_off : (on : LineSet → Bool) (p : List Row) (e : ℕ) → on none ≡ false
+    → ((k : ℕ) → on (contender_lines k) ≡ false) → ContendsOrNot p e → on (drives p e) ≡ false
 contender_off on p e n0 n1 (inl n) = ap on n ∙ n0
 contender_off on p e n0 n1 (inr k) = ap on k ∙ n1 e
 
 -- the bus of an arbitration
-pub entries_is : (p : List Row) (d : ℕ) → d < 8 → drives p d ≡ contender_lines d → ((e : ℕ) → e < 8 → ContendsOrNot p e) → bus p ≡ arbitration_bus (bus p).data_bits
-entries_is p d lt own each =
-    as_entries (bus p) (held_below (drives p) 8 (λ e l. contender_held p e (each e l))) (bus_on (λ y. y.bsy) (λ _ _. refl) p d lt (ap (λ (y : LineSet). y.bsy) own)) (bus_off (λ y. y.sel) (λ _ _. refl) refl p (λ e l. contender_off (λ y. y.sel) p e refl (λ _. refl) (each e l)))
+pub entries_is : (p : List Row) (d : ℕ) → d < 8 → drives p d ≡ contender_lines d
+    → ((e : ℕ) → e < 8 → ContendsOrNot p e) → bus p ≡ arbitration_bus (bus p).data_bits
+entries_is p d lt own each = as_entries (bus p) (held_below (drives p) 8 (λ e l. contender_held p e (each e l)))
+    (bus_on (λ y. y.bsy) (λ _ _. refl) p d lt (ap (λ (y : LineSet). y.bsy) own))
+    (bus_off (λ y. y.sel) (λ _ _. refl) refl p (λ e l. contender_off (λ y. y.sel) p e refl (λ _. refl) (each e l)))
 
 -- and of one that is won
-pub winner_is : (p : List Row) (c : ℕ) → c < 8 → drives p c ≡ record (contender_lines c) { sel = true } → ((e : ℕ) → e < 8 → e ≢ c → ContendsOrNot p e) → bus p ≡ won_bus (bus p).data_bits
+pub winner_is : (p : List Row) (c : ℕ) → c < 8 → drives p c ≡ record (contender_lines c) { sel = true }
+    → ((e : ℕ) → e < 8 → e ≢ c → ContendsOrNot p e) → bus p ≡ won_bus (bus p).data_bits
 winner_is p c lt own each =
     as_winner (bus p)
     (held_below (drives p) 8 (λ e l. elim (cases_eq e c) [

@@ -4,7 +4,8 @@ use proofs.Names.{ℕ, ◌≡◌, ◌≢◌, ◌+◌, ◌^◌, ◌<◌, ◌||◌
 use proofs.Names.{eqb-true, ne_eqb, and_parts, bit_at, count_ones, ◌==◌, or_second, drives_two_ids, other_id, both_ids}
 
 abbrev good : Bool → ℕ → ℕ → Bool
-good m a b = (a == b) || (drives_two_ids a (both_ids m a b) && ((other_id (both_ids m a b) a == b) && (bit_at (both_ids m a b).data_bits 8 == 1)))
+good m a b = (a == b) || (drives_two_ids a (both_ids m a b)
+    && ((other_id (both_ids m a b) a == b) && (bit_at (both_ids m a b).data_bits 8 == 1)))
 
 all_good : (m : Bool) → agree_below (λ a. agree_below (good m a) (λ b. true) 8) (λ a. true) 8 ≡ true
 unfolding count_ones
@@ -18,7 +19,9 @@ pub record IsCall (m : Bool) (c k : ℕ) : Type 0 where
 
 pub is_call : (m : Bool) (c k : ℕ) → c < 8 → k < 8 → c ≢ k → IsCall m c k
 is_call m c k lc lk ne =
-    let g : good m c k ≡ true = agree_below_at (good m c) (λ b. true) 8 k (agree_below_at (λ a. agree_below (good m a) (λ b. true) 8) (λ a. true) 8 c (all_good m) lc) lk in
-    let h = and_parts _ _ (or_second (c == k) (drives_two_ids c (both_ids m c k) && ((other_id (both_ids m c k) c == k) && (bit_at (both_ids m c k).data_bits 8 == 1))) g (ne_eqb c k ne)) in
+    let g : good m c k ≡ true = agree_below_at (good m c) (λ b. true) 8 k
+    (agree_below_at (λ a. agree_below (good m a) (λ b. true) 8) (λ a. true) 8 c (all_good m) lc) lk in
+    let h = and_parts _ _ (or_second (c == k) (drives_two_ids c (both_ids m c k)
+    && ((other_id (both_ids m c k) c == k) && (bit_at (both_ids m c k).data_bits 8 == 1))) g (ne_eqb c k ne)) in
     let j = and_parts (other_id (both_ids m c k) c == k) (bit_at (both_ids m c k).data_bits 8 == 1) h.1 in
     record { two = h.0; other = eqb-true _ _ j.0; parity = j.1 }

@@ -12,11 +12,13 @@ use proofs.Lines.Rows.{change_is}
 -- without a connection nothing was said
 pub dialogue_none : (p : List Row) → connection p ≡ None → dialogue p ≡ opened asynchronous
 dialogue_none [] e = refl
-dialogue_none (row ∷ rows) e = λ i. dialogue_after (dialogue rows) (connection rows) (e i) (agreed rows) (change_of rows row)
+dialogue_none (row ∷ rows) e =
+    λ i. dialogue_after (dialogue rows) (connection rows) (e i) (agreed rows) (change_of rows row)
 
 pub duty_none : (p : List Row) → connection p ≡ None → duty p ≡ Duty.Nothing
 duty_none [] e = refl
-duty_none (row ∷ rows) e = λ i. duty_after (duty rows) (e i) (change_of rows row) (is_attention_held (change_of rows row) (since_line (λ s. s.atn) rows) row.time)
+duty_none (row ∷ rows) e = λ i. duty_after (duty rows) (e i) (change_of rows row)
+    (is_attention_held (change_of rows row) (since_line (λ s. s.atn) rows) row.time)
 
 pub pulses_none : (p : List Row) → connection p ≡ None → pulses p ≡ no_pulses
 pulses_none [] e = refl
@@ -50,7 +52,10 @@ seen_apart p dev c a k others = record {
   reading = Reading.NoMessage;
 }
 
-pub seen_by : (p : List Row) (row : Row) (g : Change) (b : LineSet) (a : Option Arbitration) (k : Option Call) (others : Bool) → Stands p b a k None → change_of p row ≡ g → others_in_call (drives p) k ≡ others → seen p row ≡ seen_apart p row.dev g a k others
+pub seen_by :
+    (p : List Row) (row : Row) (g : Change) (b : LineSet) (a : Option Arbitration) (k : Option Call) (others : Bool)
+    → Stands p b a k None → change_of p row ≡ g → others_in_call (drives p) k ≡ others
+    → seen p row ≡ seen_apart p row.dev g a k others
 unfolding seen_with
 seen_by p row g b a k others h c eq =
     let q : others_in_call (drives p) (call p) ≡ others = (λ i. others_in_call (drives p) (h.call_is i)) ∙ eq in
@@ -82,11 +87,19 @@ seen_by p row g b a k others h c eq =
       reading = reading_of (dialogue p).half (h.connection_is i) (c i);
     }
 
-pub obeys_by : (p : List Row) (row : Row) (g : Change) (b : LineSet) (a : Option Arbitration) (k : Option Call) (others : Bool) → Stands p b a k None → change_of p row ≡ g → others_in_call (drives p) k ≡ others → lowest_broken (seen_apart p row.dev g a k others) row ≡ None → broken_rule p row ≡ None
+pub obeys_by :
+    (p : List Row) (row : Row) (g : Change) (b : LineSet) (a : Option Arbitration) (k : Option Call) (others : Bool)
+    → Stands p b a k None → change_of p row ≡ g → others_in_call (drives p) k ≡ others
+    → lowest_broken (seen_apart p row.dev g a k others) row ≡ None → broken_rule p row ≡ None
 obeys_by p row g b a k others h e eq z =
     ap (λ (v : Seen). lowest_broken v row) (seen_by p row g b a k others h e eq) ∙ z
 
-pub obeys_apart : (p : List Row) (t d : ℕ) (l b b' o l' : LineSet) (a : Option Arbitration) (k : Option Call) (others : Bool) → Stands p b a k None → l ≡ l' → bus (row_of_lines t d l ∷ p) ≡ b' → drives p d ≡ o → others_in_call (drives p) k ≡ others → lowest_broken (seen_apart p d (change_to b b' o l') a k others) (row_of_lines t d l') ≡ None
+pub obeys_apart :
+    (p : List Row) (t d : ℕ) (l b b' o l' : LineSet) (a : Option Arbitration) (k : Option Call) (others : Bool)
+    → Stands p b a k None → l ≡ l' → bus (row_of_lines t d l ∷ p) ≡ b'
+    → drives p d ≡ o → others_in_call (drives p) k ≡ others
+    → lowest_broken (seen_apart p d (change_to b b' o l') a k others) (row_of_lines t d l') ≡ None
     → broken_rule p (row_of_lines t d l) ≡ None
-obeys_apart p t d l b b' o l' a k others h el ea eo eq z =
-    obeys_by p (row_of_lines t d l) (change_to b b' o l') b a k others h (change_is p t d l l' b b' o el h.bus_is ea eo) eq ((λ i. lowest_broken (seen_apart p d (change_to b b' o l') a k others) (row_of_lines t d (el i))) ∙ z)
+obeys_apart p t d l b b' o l' a k others h el ea eo eq z = obeys_by p (row_of_lines t d l)
+    (change_to b b' o l') b a k others h (change_is p t d l l' b b' o el h.bus_is ea eo) eq
+    ((λ i. lowest_broken (seen_apart p d (change_to b b' o l') a k others) (row_of_lines t d (el i))) ∙ z)

@@ -36,7 +36,9 @@ comes_by (Some x) (Some w) y e = go (nat_lt w.time x.time) refl
 
 pub comes_by_first : (a b : Option Due) (y : Due) → a ≡ Some y → NoLater (earlier_due a b) y.time
 comes_by_first None b y e = absurd (none-some y e)
-comes_by_first (Some x) None y e = let s = ap (λ (z : Due). z.time) (some_eq x y e) in record { x = x; is = refl; le = omega arith }
+comes_by_first (Some x) None y e =
+    let s = ap (λ (z : Due). z.time) (some_eq x y e) in
+    record { x = x; is = refl; le = omega arith }
 comes_by_first (Some x) (Some w) y e = go (nat_lt w.time x.time) refl
   where
     same : x.time ≡ y.time
@@ -51,23 +53,33 @@ comes_by_first (Some x) (Some w) y e = go (nat_lt w.time x.time) refl
 
 -- ---- what is due of a device that does not drive RST, and of one that does
 
-own_is : (s : ScenarioValue) (p : List Row) (d lat : ℕ) → AreOfDevices p → d < 8 → device_due s (run_state s p) (self_of (run_state s p) d lat) (own_at (run_state s p).owns d) ≡ device_due s (run_state s p) (self_of (run_state s p) d lat) (own_of p d)
-own_is s p d lat h lt = ap (λ (o : Own). device_due s (run_state s p) (self_of (run_state s p) d lat) o) ((run_state_plain s p h).own d lt)
+own_is : (s : ScenarioValue) (p : List Row) (d lat : ℕ) → AreOfDevices p → d < 8
+    → device_due s (run_state s p) (self_of (run_state s p) d lat) (own_at (run_state s p).owns d)
+    ≡ device_due s (run_state s p) (self_of (run_state s p) d lat) (own_of p d)
+own_is s p d lat h lt =
+    ap (λ (o : Own). device_due s (run_state s p) (self_of (run_state s p) d lat) o) ((run_state_plain s p h).own d lt)
 
-due_if_calm : (s : ScenarioValue) (p : List Row) (d : ℕ) (o : Option ℕ) → AreOfDevices p → d < 8 → (drives p d).rst ≡ false → due_if s (run_state s p) d o ≡ earlier_due (reset_due_if s p d o) (unreset_due_if s (run_state s p) d o)
+due_if_calm : (s : ScenarioValue) (p : List Row) (d : ℕ) (o : Option ℕ)
+    → AreOfDevices p → d < 8 → (drives p d).rst ≡ false
+    → due_if s (run_state s p) d o ≡ earlier_due (reset_due_if s p d o) (unreset_due_if s (run_state s p) d o)
 due_if_calm s p d None h lt e = refl
-due_if_calm s p d (Some lat) h lt e =
-    own_is s p d lat h lt
-    ∙ ap (λ (q : Bool). if q then rst_release (self_of (run_state s p) d lat) (own_of p d).rst else earlier_due (rst_assertion (reset_from d (own_of p d).released s.resets)) (calm_due s (run_state s p) (self_of (run_state s p) d lat))) (ap (λ (x : LineSet). x.rst) ((run_state_plain s p h).drives d lt) ∙ e)
+due_if_calm s p d (Some lat) h lt e = own_is s p d lat h lt
+    ∙ ap (λ (q : Bool). if q then rst_release (self_of (run_state s p) d lat) (own_of p d).rst
+    else earlier_due (rst_assertion (reset_from d (own_of p d).released s.resets))
+    (calm_due s (run_state s p) (self_of (run_state s p) d lat)))
+    (ap (λ (x : LineSet). x.rst) ((run_state_plain s p h).drives d lt) ∙ e)
 
-pub due_calm : (s : ScenarioValue) (p : List Row) (d : ℕ) → AreOfDevices p → d < 8 → (drives p d).rst ≡ false → due s p d ≡ earlier_due (reset_due s p d) (unreset_due s p d)
+pub due_calm : (s : ScenarioValue) (p : List Row) (d : ℕ) → AreOfDevices p → d < 8 → (drives p d).rst ≡ false
+    → due s p d ≡ earlier_due (reset_due s p d) (unreset_due s p d)
 due_calm s p d h lt e = due_if_calm s p d (latency_of s d) h lt e
 
-pub due_holding : (s : ScenarioValue) (p : List Row) (d lat : ℕ) → AreOfDevices p → d < 8 → latency_of s d ≡ Some lat → (drives p d).rst ≡ true → due s p d ≡ due_at ((own_of p d).rst + 25000 + lat) none
-due_holding s p d lat h lt there e =
-    ap (due_if s (run_state s p) d) there
-    ∙ own_is s p d lat h lt
-    ∙ ap (λ (q : Bool). if q then rst_release (self_of (run_state s p) d lat) (own_of p d).rst else earlier_due (rst_assertion (reset_from d (own_of p d).released s.resets)) (calm_due s (run_state s p) (self_of (run_state s p) d lat))) (ap (λ (x : LineSet). x.rst) ((run_state_plain s p h).drives d lt) ∙ e)
+pub due_holding : (s : ScenarioValue) (p : List Row) (d lat : ℕ) → AreOfDevices p → d < 8 → latency_of s d ≡ Some lat
+    → (drives p d).rst ≡ true → due s p d ≡ due_at ((own_of p d).rst + 25000 + lat) none
+due_holding s p d lat h lt there e = ap (due_if s (run_state s p) d) there ∙ own_is s p d lat h lt
+    ∙ ap (λ (q : Bool). if q then rst_release (self_of (run_state s p) d lat) (own_of p d).rst
+    else earlier_due (rst_assertion (reset_from d (own_of p d).released s.resets))
+    (calm_due s (run_state s p) (self_of (run_state s p) d lat)))
+    (ap (λ (x : LineSet). x.rst) ((run_state_plain s p h).drives d lt) ∙ e)
 
 -- A device of which something is due is there.
 pub due_there : (s : ScenarioValue) (p : List Row) (d : ℕ) (x : Due) → due s p d ≡ Some x → HasDevice s d
@@ -85,19 +97,27 @@ pub record IsReset (x : Due) (time : Option ℕ) : Type 0 where
 
 pub reset_is : (time : Option ℕ) (x : Due) → rst_assertion time ≡ Some x → IsReset x time
 reset_is None x e = absurd (none-some x e)
-reset_is (Some t) x e = let z = is_at t only_rst x e in record { time_is = ap (λ (y : ℕ). Some y) (sym z.time_is); kind_is = z.kind_is }
+reset_is (Some t) x e =
+    let z = is_at t only_rst x e in
+    record { time_is = ap (λ (y : ℕ). Some y) (sym z.time_is); kind_is = z.kind_is }
 
-pub own_reset_is : (s : ScenarioValue) (p : List Row) (d : ℕ) (x : Due) → reset_due s p d ≡ Some x → IsReset x (reset_from d (own_of p d).released s.resets)
+pub own_reset_is : (s : ScenarioValue) (p : List Row) (d : ℕ) (x : Due) → reset_due s p d ≡ Some x
+    → IsReset x (reset_from d (own_of p d).released s.resets)
 own_reset_is s p d x e = go (latency_of s d) e
   where
     go : (o : Option ℕ) → reset_due_if s p d o ≡ Some x → IsReset x (reset_from d (own_of p d).released s.resets)
     go None q = absurd (none-some x q)
     go (Some lat) q = reset_is (reset_from d (own_of p d).released s.resets) x q
 
-sooner_after : (t : ℕ) (a b : Option ℕ) (x : ℕ) → ((y : ℕ) → a ≡ Some y → t < y) → ((y : ℕ) → b ≡ Some y → t < y) → sooner_time a b ≡ Some x → t < x
+sooner_after : (t : ℕ) (a b : Option ℕ) (x : ℕ)
+    → ((y : ℕ) → a ≡ Some y → t < y) → ((y : ℕ) → b ≡ Some y → t < y) → sooner_time a b ≡ Some x → t < x
 sooner_after t None b x f g e = g x e
 sooner_after t (Some a) None x f g e = f x e
-sooner_after t (Some a) (Some b) x f g e = let h = same_Some (min a b) x e in let u = f a refl in let v = g b refl in omega arith
+sooner_after t (Some a) (Some b) x f g e =
+    let h = same_Some (min a b) x e in
+    let u = f a refl in
+    let v = g b refl in
+    omega arith
 
 time_after : (t : ℕ) (q : Bool) (at x : ℕ) → time_if (q && not (not (nat_lt t at))) at ≡ Some x → t < x
 time_after t true at x e = go (nat_lt t at) refl e
@@ -112,22 +132,30 @@ time_after t false at x e = absurd (none_number x e)
 
 pub reset_after : (dev t : ℕ) (resets : List ResetDef) (x : ℕ) → reset_from dev (Some t) resets ≡ Some x → t < x
 reset_after dev t [] x e = absurd (none_number x e)
-reset_after dev t (r ∷ resets) x e =
-    sooner_after t (time_if (r.dev == dev && not (is_reset_past (Some t) r.at)) r.at) (reset_from dev (Some t) resets) x (λ y z. time_after t (r.dev == dev) r.at y z) (λ y z. reset_after dev t resets y z) e
+reset_after dev t (r ∷ resets) x e = sooner_after t (time_if (r.dev == dev && not (is_reset_past (Some t) r.at)) r.at)
+    (reset_from dev (Some t) resets) x (λ y z. time_after t (r.dev == dev) r.at y z)
+    (λ y z. reset_after dev t resets y z) e
 
 -- ---- what a row leaves of a device's resets
 
-own_after_own : (p : List Row) (t d : ℕ) (l : LineSet) → own_of (row_of_lines t d l ∷ p) d ≡ own_after (own_of p d) (change_of p (row_of_lines t d l)) t
-own_after_own p t d l = λ i. if eq_self d i then own_after (own_of p d) (change_of p (row_of_lines t d l)) t else own_of p d
+own_after_own : (p : List Row) (t d : ℕ) (l : LineSet)
+    → own_of (row_of_lines t d l ∷ p) d ≡ own_after (own_of p d) (change_of p (row_of_lines t d l)) t
+own_after_own p t d l =
+    λ i. if eq_self d i then own_after (own_of p d) (change_of p (row_of_lines t d l)) t else own_of p d
 
 pub own_other : (p : List Row) (row : Row) (e : ℕ) → e ≢ row.dev → own_of (row ∷ p) e ≡ own_of p e
-own_other p row e ne = λ i. if ne_eqb row.dev e (λ x. ne (sym x)) i then own_next row.kind (own_of p e) (change_of p row) row.time else own_of p e
+own_other p row e ne =
+    λ i. if ne_eqb row.dev e (λ x. ne (sym x)) i then own_next row.kind (own_of p e) (change_of p row) row.time
+    else own_of p e
 
-pub released_own : (p : List Row) (t d : ℕ) (l : LineSet) → (own_of (row_of_lines t d l ∷ p) d).released ≡ when (falls (drives p d).rst l.rst) t (own_of p d).released
+pub released_own : (p : List Row) (t d : ℕ) (l : LineSet)
+    → (own_of (row_of_lines t d l ∷ p) d).released ≡ when (falls (drives p d).rst l.rst) t (own_of p d).released
 released_own p t d l = ap (λ (o : Own). o.released) (own_after_own p t d l)
 
-pub rst_own : (p : List Row) (t d : ℕ) (l : LineSet) → (own_of (row_of_lines t d l ∷ p) d).rst ≡ (if rises (drives p d).rst l.rst then t else (own_of p d).rst)
+pub rst_own : (p : List Row) (t d : ℕ) (l : LineSet)
+    → (own_of (row_of_lines t d l ∷ p) d).rst ≡ (if rises (drives p d).rst l.rst then t else (own_of p d).rst)
 rst_own p t d l = ap (λ (o : Own). o.rst) (own_after_own p t d l)
 
-pub own_fault : (p : List Row) (t d bit e : ℕ) → own_of (record { time = t; dev = d; kind = Fault bit } ∷ p) e ≡ own_of p e
+pub own_fault : (p : List Row) (t d bit e : ℕ)
+    → own_of (record { time = t; dev = d; kind = Fault bit } ∷ p) e ≡ own_of p e
 own_fault p t d bit e = elim (cases_Bool (d == e)) [ inl f ↦ rw f | inr f ↦ rw f ]

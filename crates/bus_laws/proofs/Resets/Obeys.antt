@@ -11,11 +11,80 @@ other_rule : (n : ℕ) (v : Seen) (row : Row) → stands_in_reset n ≡ false �
 other_rule n v row a b = λ i. if not (a i) && b i then true else test n v row
 
 -- While RST is true, or rises, three rules are judged.
-three_rules : (v : Seen) (row : Row) → is_reset v ≡ true → is_in_order v row.time ≡ true → is_news v row ≡ true → keeps_reset v row ≡ true → lowest_broken v row ≡ None
+three_rules : (v : Seen) (row : Row) → is_reset v ≡ true → is_in_order v row.time ≡ true → is_news v row ≡ true
+    → keeps_reset v row ≡ true → lowest_broken v row ≡ None
 three_rules v row r a b c =
     let o : (n : ℕ) → stands_in_reset n ≡ false → keeps n v row ≡ true = λ n e. other_rule n v row e r in
-    none_broken (λ n. keeps n v row) judged_rules
-    (a, (b, (o 3 refl, (o 4 refl, (o 5 refl, (o 6 refl, (o 7 refl, (o 8 refl, (o 9 refl, (o 10 refl, (o 11 refl, (o 12 refl, (o 13 refl, (o 14 refl, (o 15 refl, (o 16 refl, (o 17 refl, (o 18 refl, (o 19 refl, (o 20 refl, (o 21 refl, (o 22 refl, (o 23 refl, (o 24 refl, (o 25 refl, (o 26 refl, (o 27 refl, (c, tt))))))))))))))))))))))))))))
+    none_broken (λ n. keeps n v row) judged_rules (
+      a,
+      (
+        b,
+        (
+          o 3 refl,
+          (
+            o 4 refl,
+            (
+              o 5 refl,
+              (
+                o 6 refl,
+                (
+                  o 7 refl,
+                  (
+                    o 8 refl,
+                    (
+                      o 9 refl,
+                      (
+                        o 10 refl,
+                        (
+                          o 11 refl,
+                          (
+                            o 12 refl,
+                            (
+                              o 13 refl,
+                              (
+                                o 14 refl,
+                                (
+                                  o 15 refl,
+                                  (
+                                    o 16 refl,
+                                    (
+                                      o 17 refl,
+                                      (
+                                        o 18 refl,
+                                        (
+                                          o 19 refl,
+                                          (
+                                            o 20 refl,
+                                            (
+                                              o 21 refl,
+                                              (
+                                                o 22 refl,
+                                                (
+                                                  o 23 refl,
+                                                  (o 24 refl, (o 25 refl, (o 26 refl, (o 27 refl, (c, tt))))),
+                                                ),
+                                              ),
+                                            ),
+                                          ),
+                                        ),
+                                      ),
+                                    ),
+                                  ),
+                                ),
+                              ),
+                            ),
+                          ),
+                        ),
+                      ),
+                    ),
+                  ),
+                ),
+              ),
+            ),
+          ),
+        ),
+      ),
+    )
 
 -- What the three ask of a row of lines, by what it changes.
 pub record KeepsReset (p : List Row) (t d : ℕ) (b b' o l : LineSet) : Type 0 where
@@ -26,19 +95,21 @@ pub record KeepsReset (p : List Row) (t d : ℕ) (b b' o l : LineSet) : Type 0 w
   pub quiet : implies b.rst (nat_le t ((line_times p).rst + BUS_CLEAR_DELAY) || is_within b only_rst) ≡ true
   pub holds : implies (falls o.rst l.rst) (nat_le (raised (λ s. s.rst) p d + 25000) t) ≡ true
 
-pub reset_row_obeys : (p : List Row) (t d : ℕ) (l b b' o : LineSet) → change_of p (row_of_lines t d l) ≡ change_to b b' o l → KeepsReset p t d b b' o l → broken_rule p (row_of_lines t d l) ≡ None
+pub reset_row_obeys : (p : List Row) (t d : ℕ) (l b b' o : LineSet)
+    → change_of p (row_of_lines t d l) ≡ change_to b b' o l → KeepsReset p t d b b' o l
+    → broken_rule p (row_of_lines t d l) ≡ None
 unfolding seen_with
 reset_row_obeys p t d l b b' o e k =
     let row : Row = row_of_lines t d l in
     let v : Seen = seen p row in
-    three_rules v row
-    (ap (λ (c : Change). c.before.rst || c.after.rst) e ∙ k.reset)
-    (le-leb (last_time p) t k.order)
-    (ap (λ (c : Change). not (same_set c.own c.next)) e ∙ ap not k.news)
+    three_rules v row (ap (λ (c : Change). c.before.rst || c.after.rst) e ∙ k.reset)
+    (le-leb (last_time p) t k.order) (ap (λ (c : Change). not (same_set c.own c.next)) e ∙ ap not k.news)
     (all_three (raises_rst_alone v) (is_quiet_in_reset v t) (holds_reset v row)
-    (ap (λ (c : Change). implies (c.before.rst || rises c.own.rst c.next.rst) (is_within c.next (union only_rst c.own))) e ∙ k.alone)
-    (ap (λ (c : Change). implies c.before.rst (nat_le t ((line_times p).rst + BUS_CLEAR_DELAY) || is_within c.before only_rst)) e ∙ k.quiet)
-    (ap (λ (c : Change). implies (falls c.own.rst c.next.rst) (nat_le (raised (λ s. s.rst) p d + 25000) t)) e ∙ k.holds))
+    (ap (λ (c : Change). implies (c.before.rst || rises c.own.rst c.next.rst) (is_within c.next (union only_rst c.own)))
+    e ∙ k.alone) (ap (λ (c : Change). implies c.before.rst
+    (nat_le t ((line_times p).rst + BUS_CLEAR_DELAY) || is_within c.before only_rst)) e ∙ k.quiet)
+    (ap (λ (c : Change). implies (falls c.own.rst c.next.rst) (nat_le (raised (λ s. s.rst) p d + 25000) t)) e
+    ∙ k.holds))
 
 -- ---- what rises and what does not
 

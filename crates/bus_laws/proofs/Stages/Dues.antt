@@ -13,18 +13,19 @@ abbrev seen_at : List Row → Stage → Sight
 seen_at p g = record { bus = bus p; ages = line_times p; stage = g }
 
 -- What is due of a device whose lines are known, in a stage that is known and has no connection.
-pub due_in : (s : ScenarioValue) (p : List Row) (e lat : ℕ) (own : LineSet) (g : Stage) → AreOfDevices p → e < 8 → latency_of s e ≡ Some lat → connection p ≡ None → stage p ≡ g → drives p e ≡ own
-    → unreset_due s p e ≡ link_due_by (bus p) (line_times p).bsy (line_times p).sel (device_with e lat own (own_time p e)) (want_of s (run_state s p) e) (flip_of (run_state s p).faults ((line_times p).bsy + BUS_SETTLE_DELAY + lat)) g
+pub due_in : (s : ScenarioValue) (p : List Row) (e lat : ℕ) (own : LineSet) (g : Stage) → AreOfDevices p → e < 8
+    → latency_of s e ≡ Some lat → connection p ≡ None → stage p ≡ g → drives p e ≡ own → unreset_due s p e
+    ≡ link_due_by (bus p) (line_times p).bsy (line_times p).sel (device_with e lat own (own_time p e))
+    (want_of s (run_state s p) e) (flip_of (run_state s p).faults ((line_times p).bsy + BUS_SETTLE_DELAY + lat)) g
 due_in s p e lat own g h lt there alone eg eo =
     let k = run_state s p in
     let a = run_state_plain s p h in
     let o = a.drives e lt ∙ eo in
     let w = ap (λ (x : Own). x.row) (a.own e lt) in
     let v : sight_of k ≡ seen_at p g = a.sight ∙ (λ i. seen_at p (eg i)) in
-    ap (unreset_due_if s k e) there
-    ∙ ap (stage_due s k (self_of k e lat) (bus_of k).rst) (a.connection ∙ alone)
-    ∙ go (bus_of k).rst (self_of k e lat)
-    ∙ (λ i. link_due (v i) (device_with e lat (o i) (w i)) (want_of s k e) (flip_of k.faults (sample_time (v i) (device_with e lat (o i) (w i)))))
+    ap (unreset_due_if s k e) there ∙ ap (stage_due s k (self_of k e lat) (bus_of k).rst) (a.connection ∙ alone)
+    ∙ go (bus_of k).rst (self_of k e lat) ∙ (λ i. link_due (v i) (device_with e lat (o i) (w i)) (want_of s k e)
+    (flip_of k.faults (sample_time (v i) (device_with e lat (o i) (w i)))))
   where
     go : (q : Bool) (me : Myself) → stage_due s (run_state s p) me q None ≡ link_due_of s (run_state s p) me
     go true me = refl
@@ -35,7 +36,8 @@ pub not_there : (s : ScenarioValue) (p : List Row) (e : ℕ) → latency_of s e 
 not_there s p e there = ap (unreset_due_if s (run_state s p) e) there
 
 -- a device of which something is due is there
-pub is_there : (s : ScenarioValue) (p : List Row) (e : ℕ) (x : Due) → unreset_due s p e ≡ Some x → (lat : ℕ) × (latency_of s e ≡ Some lat)
+pub is_there : (s : ScenarioValue) (p : List Row) (e : ℕ) (x : Due) → unreset_due s p e ≡ Some x
+    → (lat : ℕ) × (latency_of s e ≡ Some lat)
 is_there s p e x h = go (latency_of s e) refl
   where
     go : (o : Option ℕ) → latency_of s e ≡ o → (lat : ℕ) × (latency_of s e ≡ Some lat)
@@ -69,7 +71,8 @@ pub record IsEntry (d lat free : ℕ) (w : Option ℕ) (x : Due) : Type 0 where
   pub after_free : free + ENTRY_DELAY ≤ x.time
   pub kind_is : x.kind ≡ Drives (contender_lines d)
 
-pub is_entry : (d lat since free : ℕ) (own : LineSet) (w : Option ℕ) (x : Due) → free_due (device_with d lat own since) free w ≡ Some x → IsEntry d lat free w x
+pub is_entry : (d lat since free : ℕ) (own : LineSet) (w : Option ℕ) (x : Due)
+    → free_due (device_with d lat own since) free w ≡ Some x → IsEntry d lat free w x
 is_entry d lat since free own None x e = absurd cc
 is_entry d lat since free own (Some w) x e =
     let h = is_at (max (free + ENTRY_DELAY) w + lat) (contender_lines d) x e in
@@ -77,7 +80,9 @@ is_entry d lat since free own (Some w) x e =
     record { after_free = omega arith; kind_is = h.kind_is }
 
 -- one in an arbitration is that of the free bus, and comes within a bus set delay
-pub is_entry_in : (d lat since : ℕ) (own : LineSet) (a : Arbitration) (w : Option ℕ) (x : Due) → later_entry_if (device_with d lat own since) a w ≡ Some x → (free_due (device_with d lat own since) a.free w ≡ Some x) × (x.time ≤ a.first + BUS_SET_DELAY)
+pub is_entry_in : (d lat since : ℕ) (own : LineSet) (a : Arbitration) (w : Option ℕ) (x : Due)
+    → later_entry_if (device_with d lat own since) a w ≡ Some x
+    → (free_due (device_with d lat own since) a.free w ≡ Some x) × (x.time ≤ a.first + BUS_SET_DELAY)
 is_entry_in d lat since own a None x e = absurd cc
 is_entry_in d lat since own a (Some w) x e =
     let h = where_is _ _ x e in
@@ -93,38 +98,50 @@ pub record IsWin (p : List Row) (e lat : ℕ) (x : Due) : Type 0 where
   pub kind_is : x.kind ≡ Drives (record (contender_lines e) { sel = true })
   pub highest : has_id_above (bus p) e ≡ false
 
-pub win_due : (s : ScenarioValue) (p : List Row) (e lat : ℕ) (a : Arbitration) (x : Due) → AreOfDevices p → e < 8 → latency_of s e ≡ Some lat → connection p ≡ None → stage p ≡ InArbitration a → drives p e ≡ contender_lines e → unreset_due s p e ≡ Some x → IsWin p e lat x
+pub win_due : (s : ScenarioValue) (p : List Row) (e lat : ℕ) (a : Arbitration) (x : Due) → AreOfDevices p → e < 8
+    → latency_of s e ≡ Some lat → connection p ≡ None → stage p ≡ InArbitration a → drives p e ≡ contender_lines e
+    → unreset_due s p e ≡ Some x → IsWin p e lat x
 win_due s p e lat a x h lt there alone eg eo r =
     let z = sym (due_in s p e lat (contender_lines e) (InArbitration a) h lt there alone eg eo) ∙ r in
-    let w = where_is (not (has_id_above (bus p) e)) (due_at (own_time p e + ARBITRATION_DELAY + lat) (record (contender_lines e) { sel = true })) x z in
+    let w = where_is (not (has_id_above (bus p) e))
+    (due_at (own_time p e + ARBITRATION_DELAY + lat) (record (contender_lines e) { sel = true })) x z in
     let v = is_at (own_time p e + ARBITRATION_DELAY + lat) (record (contender_lines e) { sel = true }) x w.1 in
     record { time_is = v.time_is; kind_is = v.kind_is; highest = not-true (has_id_above (bus p) e) w.0 }
 
-pub idle_due : (s : ScenarioValue) (p : List Row) (e lat : ℕ) (a : Arbitration) → AreOfDevices p → e < 8 → latency_of s e ≡ Some lat → connection p ≡ None → stage p ≡ InArbitration a → drives p e ≡ none → unreset_due s p e ≡ later_entry_if (device_with e lat none (own_time p e)) a (want_time s (run_state s p) e)
+pub idle_due : (s : ScenarioValue) (p : List Row) (e lat : ℕ) (a : Arbitration) → AreOfDevices p → e < 8
+    → latency_of s e ≡ Some lat → connection p ≡ None → stage p ≡ InArbitration a → drives p e ≡ none
+    → unreset_due s p e ≡ later_entry_if (device_with e lat none (own_time p e)) a (want_time s (run_state s p) e)
 idle_due s p e lat a h lt there alone eg eo = due_in s p e lat none (InArbitration a) h lt there alone eg eo
 
-pub free_due_is : (s : ScenarioValue) (p : List Row) (e lat f : ℕ) → AreOfDevices p → e < 8 → latency_of s e ≡ Some lat → connection p ≡ None → stage p ≡ OnFreeBus f → drives p e ≡ none → unreset_due s p e ≡ free_due (device_with e lat none (own_time p e)) f (want_time s (run_state s p) e)
+pub free_due_is : (s : ScenarioValue) (p : List Row) (e lat f : ℕ) → AreOfDevices p → e < 8
+    → latency_of s e ≡ Some lat → connection p ≡ None → stage p ≡ OnFreeBus f → drives p e ≡ none
+    → unreset_due s p e ≡ free_due (device_with e lat none (own_time p e)) f (want_time s (run_state s p) e)
 free_due_is s p e lat f h lt there alone eg eo = due_in s p e lat none (OnFreeBus f) h lt there alone eg eo
 
 -- when its last row was is nothing to an entry
-pub same_entry : (e lat x y free : ℕ) (w : Option ℕ) → free_due (device_with e lat none x) free w ≡ free_due (device_with e lat none y) free w
+pub same_entry : (e lat x y free : ℕ) (w : Option ℕ)
+    → free_due (device_with e lat none x) free w ≡ free_due (device_with e lat none y) free w
 same_entry e lat x y free None = refl
 same_entry e lat x y free (Some w) = refl
 
-pub same_entry_in : (e lat x y : ℕ) (a : Arbitration) (w : Option ℕ) → later_entry_if (device_with e lat none x) a w ≡ later_entry_if (device_with e lat none y) a w
+pub same_entry_in : (e lat x y : ℕ) (a : Arbitration) (w : Option ℕ)
+    → later_entry_if (device_with e lat none x) a w ≡ later_entry_if (device_with e lat none y) a w
 same_entry_in e lat x y a None = refl
 same_entry_in e lat x y a (Some w) = refl
 
 -- Under RST, whatever stands otherwise.
-pub due_in_reset : (s : ScenarioValue) (p : List Row) (e lat : ℕ) (own : LineSet) → AreOfDevices p → e < 8 → latency_of s e ≡ Some lat → (bus p).rst ≡ true → drives p e ≡ own
+pub due_in_reset : (s : ScenarioValue) (p : List Row) (e lat : ℕ) (own : LineSet)
+    → AreOfDevices p → e < 8 → latency_of s e ≡ Some lat → (bus p).rst ≡ true → drives p e ≡ own
     → unreset_due s p e ≡ bus_clear (device_with e lat own (own_time p e)) (line_times p).rst
 due_in_reset s p e lat own h lt there rst eo =
     let k = run_state s p in
     let a = run_state_plain s p h in
     let o = a.drives e lt ∙ eo in
     let w = ap (λ (x : Own). x.row) (a.own e lt) in
-    let g : stage p ≡ InReset (line_times p).rst = λ i. stage_by (rst i) (line_times p).rst (connection p) (call p) (arbitration p) (free_since p) in
+    let g : stage p ≡ InReset (line_times p).rst = λ i. stage_by (rst i)
+    (line_times p).rst (connection p) (call p) (arbitration p) (free_since p) in
     let v : sight_of k ≡ seen_at p (InReset (line_times p).rst) = a.sight ∙ (λ i. seen_at p (g i)) in
     ap (unreset_due_if s k e) there
     ∙ (λ i. stage_due s k (self_of k e lat) ((ap (λ (b : LineSet). b.rst) a.bus ∙ rst) i) k.story.bus_state.connection)
-    ∙ (λ i. link_due (v i) (device_with e lat (o i) (w i)) (want_of s k e) (flip_of k.faults (sample_time (v i) (device_with e lat (o i) (w i)))))
+    ∙ (λ i. link_due (v i) (device_with e lat (o i) (w i)) (want_of s k e)
+    (flip_of k.faults (sample_time (v i) (device_with e lat (o i) (w i)))))

@@ -29,7 +29,8 @@ IsShortForm word (tagged message) = (tag : ℕ) → IsShortWord (word (message t
 IsShortForm word (extended message) = (a : Agreement) → IsByteAgreement a → IsShortWord (word (message a))
 IsShortForm word reserved = Unit {0}
 
-form_if : {M : Type 0} → (word : M → Word) (q : Bool) (x y : Form M) → IsShortForm word x → IsShortForm word y → IsShortForm word (if q then x else y)
+form_if : {M : Type 0} → (word : M → Word) (q : Bool) (x y : Form M) → IsShortForm word x → IsShortForm word y
+    → IsShortForm word (if q then x else y)
 form_if word true x y a b = a
 form_if word false x y a b = b
 
@@ -68,7 +69,9 @@ IsShortGot word (Whole m n) = IsShortWord (word m)
 IsShortGot word More = Unit {0}
 IsShortGot word Unknown = Unit {0}
 
-offer_short : {M : Type 0} → (word : M → Word) (message : Agreement → M) (bytes : List ℕ) → ((a : Agreement) → IsByteAgreement a → IsShortWord (word (message a))) → AreBytes bytes → IsShortGot word (as_got message (got_offer bytes))
+offer_short : {M : Type 0} → (word : M → Word) (message : Agreement → M) (bytes : List ℕ)
+    → ((a : Agreement) → IsByteAgreement a → IsShortWord (word (message a))) → AreBytes bytes
+    → IsShortGot word (as_got message (got_offer bytes))
 offer_short word message [] f h = tt
 offer_short word message (len ∷ bytes) f h = by_len (len == 0x03)
   where
@@ -85,11 +88,13 @@ offer_short word message (len ∷ bytes) f h = by_len (len == 0x03)
     by_len true = code bytes h.1
     by_len false = tt
 
-got_short : {M : Type 0} → (word : M → Word) (form : ℕ → Form M) (bytes : List ℕ) → ((b : ℕ) → IsShortForm word (form b)) → AreBytes bytes → IsShortGot word (got_by form bytes)
+got_short : {M : Type 0} → (word : M → Word) (form : ℕ → Form M) (bytes : List ℕ)
+    → ((b : ℕ) → IsShortForm word (form b)) → AreBytes bytes → IsShortGot word (got_by form bytes)
 got_short {M = M} word form [] f h = tt
 got_short {M = M} word form (first ∷ bytes) f h = go (form first) (f first)
   where
-    tag : (message : ℕ → M) (x : List ℕ) → ((t : ℕ) → IsShortWord (word (message t))) → IsShortGot word (as_got message (got_tag x))
+    tag : (message : ℕ → M) (x : List ℕ) → ((t : ℕ) → IsShortWord (word (message t)))
+        → IsShortGot word (as_got message (got_tag x))
     tag message [] g = tt
     tag message (t ∷ x) g = g t
 
@@ -109,22 +114,28 @@ record IsShortHeard (h : Heard) : Type 0 where
   now : IsByteAgreement h.now.agreement
   void : IsShortVoid h.void
 
-word_short : (v : Spoken) (end : End) (w : Word) → IsByteAgreement v.agreement → IsShortWord w → IsByteAgreement (spoken_with_word v end w).agreement
+word_short : (v : Spoken) (end : End) (w : Word) → IsByteAgreement v.agreement → IsShortWord w
+    → IsByteAgreement (spoken_with_word v end w).agreement
 word_short v end (Word.Offer a) h g = go (is_of_other v.offer end)
   where
-    go : (q : Bool) → IsByteAgreement (if q then record v { agreement = a; offer = None; answered = Some end } else record v { offer = Some end; answered = None }).agreement
+    go : (q : Bool) → IsByteAgreement (if q then record v { agreement = a; offer = None; answered = Some end }
+        else record v { offer = Some end; answered = None }).agreement
     go true = g
     go false = h
 word_short v end Word.Reject h g = go (is_of_other v.offer end) (is_of_other v.answered end)
   where
-    go : (q r : Bool) → IsByteAgreement (if q then record v { agreement = record v.agreement { offset = 0 }; offer = None; answered = None } else if r then record v { agreement = record v.agreement { offset = 0 }; answered = None } else record v { answered = None }).agreement
+    go : (q r : Bool) → IsByteAgreement
+        (if q then record v { agreement = record v.agreement { offset = 0 }; offer = None; answered = None }
+        else if r then record v { agreement = record v.agreement { offset = 0 }; answered = None }
+        else record v { answered = None }).agreement
     go true r = (h.0, omega arith)
     go false true = (h.0, omega arith)
     go false false = h
 word_short v end Word.DeviceReset h g = (h.0, omega arith)
 word_short v end _ h g = h
 
-void_short : (o : Option Spoken) (v : Spoken) → IsShortVoid o → IsByteAgreement v.agreement → IsByteAgreement (void_or_now o v).agreement
+void_short : (o : Option Spoken) (v : Spoken) → IsShortVoid o → IsByteAgreement v.agreement
+    → IsByteAgreement (void_or_now o v).agreement
 void_short None v a b = b
 void_short (Some w) v a b = a
 
@@ -174,15 +185,18 @@ left_bytes More bytes h = h
 left_bytes Unknown bytes h = tt
 
 opened_short : (a : Agreement) → IsByteAgreement a → IsShortDialogue (opened a)
-opened_short a h = record { heard = record { now = h; void = tt }; at_phase = record { now = h; void = tt }; half = tt; fresh = tt }
+opened_short a h =
+    record { heard = record { now = h; void = tt }; at_phase = record { now = h; void = tt }; half = tt; fresh = tt }
 
-out_byte_short : (d : Dialogue) (b : ℕ) (last : Bool) → IsShortDialogue d → b < 256 → IsShortDialogue (byte_out d b last)
+out_byte_short : (d : Dialogue) (b : ℕ) (last : Bool) → IsShortDialogue d → b < 256
+    → IsShortDialogue (byte_out d b last)
 out_byte_short d b last k h =
     let f = fresh_short d.is_last in
     let fb = more_bytes (fresh_bytes d) b f h in
     let hb = more_bytes d.half b k.half h in
     record {
-      heard = heard_out_short (fresh_heard d) (got_out (fresh_bytes d ++ b ∷ [])) (heard_short d.is_last) (got_short word_out form_out (fresh_bytes d ++ b ∷ []) short_out fb);
+      heard = heard_out_short (fresh_heard d) (got_out (fresh_bytes d ++ b ∷ [])) (heard_short d.is_last)
+          (got_short word_out form_out (fresh_bytes d ++ b ∷ []) short_out fb);
       at_phase = k.at_phase;
       half = left_bytes (got_out (d.half ++ b ∷ [])) (d.half ++ b ∷ []) hb;
       fresh = left_bytes (got_out (fresh_bytes d ++ b ∷ [])) (fresh_bytes d ++ b ∷ []) fb;
@@ -200,7 +214,8 @@ in_byte_short : (d : Dialogue) (b : ℕ) → IsShortDialogue d → b < 256 → I
 in_byte_short d b k h =
     let hb = more_bytes d.half b k.half h in
     record {
-      heard = heard_in_short (heard_if_begun d.half d.heard) (got_in (d.half ++ b ∷ [])) (begun d.half) (got_short word_in form_in (d.half ++ b ∷ []) short_in hb);
+      heard = heard_in_short (heard_if_begun d.half d.heard) (got_in (d.half ++ b ∷ [])) (begun d.half)
+          (got_short word_in form_in (d.half ++ b ∷ []) short_in hb);
       at_phase = k.at_phase;
       half = left_bytes (got_in (d.half ++ b ∷ [])) (d.half ++ b ∷ []) hb;
       fresh = k.fresh;
@@ -219,10 +234,18 @@ crosses_short d c k = go (is_message_out c.before) (is_message_in c.before) (is_
     b : ℕ
     b = c.after.data_bits % 256
 
-    go : (q r x : Bool) → IsShortDialogue (if q then byte_out d (c.after.data_bits % 256) (not c.after.atn) else if r then byte_in d (c.after.data_bits % 256) else if x then record d { heard = heard_with_command d.heard (c.after.data_bits % 256); begun = true } else record d { begun = true })
+    go : (q r x : Bool) → IsShortDialogue (if q then byte_out d (c.after.data_bits % 256) (not c.after.atn)
+        else if r then byte_in d (c.after.data_bits % 256)
+        else if x then record d { heard = heard_with_command d.heard (c.after.data_bits % 256); begun = true }
+        else record d { begun = true })
     go true r x = out_byte_short d (c.after.data_bits % 256) (not c.after.atn) k (below_256 c.after.data_bits)
     go false true x = in_byte_short d (c.after.data_bits % 256) k (below_256 c.after.data_bits)
-    go false false true = record { heard = command_short d.heard (c.after.data_bits % 256) k.heard; at_phase = k.at_phase; half = k.half; fresh = k.fresh }
+    go false false true = record {
+      heard = command_short d.heard (c.after.data_bits % 256) k.heard;
+      at_phase = k.at_phase;
+      half = k.half;
+      fresh = k.fresh;
+    }
     go false false false = record { heard = k.heard; at_phase = k.at_phase; half = k.half; fresh = k.fresh }
 
 on_short : (d : Dialogue) (n : Option Connection) (c : Change) → IsShortDialogue d → IsShortDialogue (dialogue_on d n c)
@@ -233,7 +256,8 @@ on_short d n c k = go (is_some (receiver_of n c)) (changes_phase c)
     go false true = record { heard = k.heard; at_phase = k.heard; half = tt; fresh = tt }
     go false false = k
 
-after_short : (d : Dialogue) (m n : Option Connection) (f : ℕ → ℕ → Agreement) (c : Change) → IsShortDialogue d → ((i t : ℕ) → IsByteAgreement (f i t)) → IsShortDialogue (dialogue_after d m n f c)
+after_short : (d : Dialogue) (m n : Option Connection) (f : ℕ → ℕ → Agreement) (c : Change) → IsShortDialogue d
+    → ((i t : ℕ) → IsByteAgreement (f i t)) → IsShortDialogue (dialogue_after d m n f c)
 after_short d m None f c k g = opened_short asynchronous asynchronous_bytes
 after_short d None (Some n) f c k g = opened_short (f n.initiator n.target) (g n.initiator n.target)
 after_short d (Some m) (Some n) f c k g = on_short d (Some m) c k
@@ -246,7 +270,8 @@ rst_short : (q : Bool) (x : Agreement) → IsByteAgreement x → IsByteAgreement
 rst_short true x h = asynchronous_bytes
 rst_short false x h = h
 
-closed_short : (n : Option Connection) (stands : Bool) (v : Spoken) (i t : ℕ) (was : Agreement) → IsByteAgreement v.agreement → IsByteAgreement was → IsByteAgreement (closed_agreement_by n stands v i t was)
+closed_short : (n : Option Connection) (stands : Bool) (v : Spoken) (i t : ℕ) (was : Agreement)
+    → IsByteAgreement v.agreement → IsByteAgreement was → IsByteAgreement (closed_agreement_by n stands v i t was)
 closed_short None stands v i t was a b = b
 closed_short (Some n) true v i t was a b = b
 closed_short (Some n) false v i t was a b = go (i == n.initiator && t == n.target) (t == n.target && v.device_reset)
@@ -257,12 +282,16 @@ closed_short (Some n) false v i t was a b = go (i == n.initiator && t == n.targe
     go false false = b
 
 short_rows : (rows : List Row) → IsShort rows
-short_rows [] = record { dialogue_is = opened_short asynchronous asynchronous_bytes; agreed_is = λ i t. asynchronous_bytes }
+short_rows [] =
+    record { dialogue_is = opened_short asynchronous asynchronous_bytes; agreed_is = λ i t. asynchronous_bytes }
 short_rows (row ∷ rows) =
     let was = short_rows rows in
     record {
-      dialogue_is = after_short (dialogue rows) (connection rows) (connection (row ∷ rows)) (agreed rows) (change_of rows row) was.dialogue_is was.agreed_is;
-      agreed_is = λ i t. rst_short (bus (row ∷ rows)).rst (closed_agreement_by (connection rows) (bus (row ∷ rows)).bsy (dialogue rows).heard.now i t (agreed rows i t)) (closed_short (connection rows) (bus (row ∷ rows)).bsy (dialogue rows).heard.now i t (agreed rows i t) was.dialogue_is.heard.now (was.agreed_is i t));
+      dialogue_is = after_short (dialogue rows) (connection rows) (connection (row ∷ rows)) (agreed rows)
+          (change_of rows row) was.dialogue_is was.agreed_is;
+      agreed_is = λ i t. rst_short (bus (row ∷ rows)).rst (closed_agreement_by (connection rows) (bus (row ∷ rows)).bsy
+          (dialogue rows).heard.now i t (agreed rows i t)) (closed_short (connection rows) (bus (row ∷ rows)).bsy
+          (dialogue rows).heard.now i t (agreed rows i t) was.dialogue_is.heard.now (was.agreed_is i t));
     }
 
 -- The agreement of the connection that stands.

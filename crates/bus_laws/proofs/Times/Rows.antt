@@ -15,9 +15,12 @@ use proofs.Names.{current_times_if, is_same_running, array_after_events, since_o
 view_of : List Row → BusViewValue
 view_of rows = record {
   lines = record {
-    driven = drives rows 0 ∷ drives rows 1 ∷ drives rows 2 ∷ drives rows 3 ∷ drives rows 4 ∷ drives rows 5 ∷ drives rows 6 ∷ drives rows 7 ∷ [];
+    driven = drives rows 0 ∷ drives rows 1 ∷ drives rows 2 ∷ drives rows 3 ∷ drives rows 4 ∷ drives rows 5
+        ∷ drives rows 6 ∷ drives rows 7 ∷ [];
     present = bus rows;
-    data_lines = since (line_of 0) rows ∷ since (line_of 1) rows ∷ since (line_of 2) rows ∷ since (line_of 3) rows ∷ since (line_of 4) rows ∷ since (line_of 5) rows ∷ since (line_of 6) rows ∷ since (line_of 7) rows ∷ since (line_of 8) rows ∷ [];
+    data_lines = since (line_of 0) rows ∷ since (line_of 1) rows ∷ since (line_of 2) rows ∷ since (line_of 3) rows
+        ∷ since (line_of 4) rows ∷ since (line_of 5) rows ∷ since (line_of 6) rows ∷ since (line_of 7) rows
+        ∷ since (line_of 8) rows ∷ [];
     data_changed = since data_of rows;
     times = line_times rows;
     last = last_time rows;
@@ -78,11 +81,14 @@ pub ages_before : (end : ℕ) → 0 < end → (rows : List Row) → ComeBefore e
 unfolding view_of
 ages_before end some rows h = (is_timely end some rows h).lines.times
 
-pub handshakes_before : (end : ℕ) → 0 < end → (rows : List Row) → ComeBefore end rows → AreHandshakesBefore end (handshakes rows)
+pub handshakes_before : (end : ℕ) → 0 < end → (rows : List Row) → ComeBefore end rows
+    → AreHandshakesBefore end (handshakes rows)
 unfolding view_of
 handshakes_before end some rows h = (is_timely end some rows h).handshakes
 
-stage_from : (end : ℕ) (rst : Bool) (since free : ℕ) (n : Option Connection) (c : Option Call) (a : Option Arbitration) → since < end → free < end → IsConnectionBefore end n → IsCallBefore end c → IsArbitrationBefore end a → IsStageBefore end (stage_by rst since n c a free)
+stage_from : (end : ℕ) (rst : Bool) (since free : ℕ) (n : Option Connection) (c : Option Call) (a : Option Arbitration)
+    → since < end → free < end → IsConnectionBefore end n → IsCallBefore end c → IsArbitrationBefore end a
+    → IsStageBefore end (stage_by rst since n c a free)
 stage_from end true since free n c a s f x y z = s
 stage_from end false since free (Some n) c a s f x y z = x
 stage_from end false since free None (Some c) a s f x y z = by c.calling y.1
@@ -102,8 +108,11 @@ unfolding view_of
 stage_before end some rows h =
     let t = is_timely end some rows h in
     let a = ages_before end some rows h in
-    let b = a.bsy in let c = a.sel in let r = a.rst in
-    stage_from end (bus rows).rst (line_times rows).rst (free_since rows) (connection rows) (call rows) (arbitration rows) r (omega arith) t.connection t.call t.arbitration
+    let b = a.bsy in
+    let c = a.sel in
+    let r = a.rst in
+    stage_from end (bus rows).rst (line_times rows).rst (free_since rows) (connection rows) (call rows)
+    (arbitration rows) r (omega arith) t.connection t.call t.arbitration
 
 -- ---- a device's own rows
 
@@ -112,19 +121,26 @@ pub record IsOwnBefore (end : ℕ) (o : Own) : Type 0 where
   pub ack : o.ack < end
   pub rst : o.rst < end
 
-own_more : (end : ℕ) (k : Kind) (o : Own) (c : Change) (time : ℕ) → time < end → IsOwnBefore end o → IsOwnBefore end (own_next k o c time)
-own_more end (Drives lines) o c time t h = record { row = t; ack = if_less (rises c.own.ack c.next.ack) time o.ack end t h.ack; rst = if_less (rises c.own.rst c.next.rst) time o.rst end t h.rst }
+own_more : (end : ℕ) (k : Kind) (o : Own) (c : Change) (time : ℕ) → time < end → IsOwnBefore end o
+    → IsOwnBefore end (own_next k o c time)
+own_more end (Drives lines) o c time t h = record {
+  row = t;
+  ack = if_less (rises c.own.ack c.next.ack) time o.ack end t h.ack;
+  rst = if_less (rises c.own.rst c.next.rst) time o.rst end t h.rst;
+}
 own_more end (Fault bit) o c time t h = h
 
 own_if : (end : ℕ) (q : Bool) (a b : Own) → IsOwnBefore end a → IsOwnBefore end b → IsOwnBefore end (if q then a else b)
 own_if end true a b f g = f
 own_if end false a b f g = g
 
-pub own_before : (end : ℕ) → 0 < end → (rows : List Row) (dev : ℕ) → ComeBefore end rows → IsOwnBefore end (own_of rows dev)
+pub own_before : (end : ℕ) → 0 < end → (rows : List Row) (dev : ℕ) → ComeBefore end rows
+    → IsOwnBefore end (own_of rows dev)
 own_before end some [] dev h = record { row = some; ack = some; rst = some }
 own_before end some (row ∷ rows) dev h =
     let was = own_before end some rows dev h.1 in
-    own_if end (row.dev == dev) (own_next row.kind (own_of rows dev) (change_of rows row) row.time) (own_of rows dev) (own_more end row.kind (own_of rows dev) (change_of rows row) row.time h.0 was) was
+    own_if end (row.dev == dev) (own_next row.kind (own_of rows dev) (change_of rows row) row.time) (own_of rows dev)
+    (own_more end row.kind (own_of rows dev) (change_of rows row) row.time h.0 was) was
 
 -- ---- since when the current processes are that
 
@@ -135,25 +151,32 @@ zeros_before : (end n : ℕ) → 0 < end → AreNumbersBefore end (replicate n 0
 zeros_before end zero some = tt
 zeros_before end (suc n) some = (some, zeros_before end n some)
 
-times_after : (end time : ℕ) (before after : List UnitState) (times : List ℕ) → time < end → AreNumbersBefore end times → AreNumbersBefore end (current_times_after before after times time)
-times_after end time (u ∷ before) (v ∷ after) (x ∷ times) t h = (if_less (is_same_running u.current v.current) x time end h.0 t, times_after end time before after times t h.1)
+times_after : (end time : ℕ) (before after : List UnitState) (times : List ℕ) → time < end → AreNumbersBefore end times
+    → AreNumbersBefore end (current_times_after before after times time)
+times_after end time (u ∷ before) (v ∷ after) (x ∷ times) t h =
+    (if_less (is_same_running u.current v.current) x time end h.0 t, times_after end time before after times t h.1)
 times_after end time _ _ _ t h = tt
 
-times_if : (end : ℕ) (s : ScenarioValue) (k : RunState) (shown : List Event) (a : Option Array) (time : ℕ) → time < end → AreNumbersBefore end k.current_since → AreNumbersBefore end (current_times_if s k shown a time)
+times_if : (end : ℕ) (s : ScenarioValue) (k : RunState) (shown : List Event) (a : Option Array) (time : ℕ) → time < end
+    → AreNumbersBefore end k.current_since → AreNumbersBefore end (current_times_if s k shown a time)
 times_if end s k [] a time t h = h
-times_if end s k (event ∷ shown) a time t h = times_after end time (or_start s k.array).units (or_start s a).units k.current_since t h
+times_if end s k (event ∷ shown) a time t h =
+    times_after end time (or_start s k.array).units (or_start s a).units k.current_since t h
 
-pub current_before : (end : ℕ) → 0 < end → (s : ScenarioValue) (rows : List Row) → ComeBefore end rows → AreNumbersBefore end (run_state s rows).current_since
+pub current_before : (end : ℕ) → 0 < end → (s : ScenarioValue) (rows : List Row) → ComeBefore end rows
+    → AreNumbersBefore end (run_state s rows).current_since
 current_before end some s [] h = zeros_before end (length s.units) some
 current_before end some s (row ∷ rows) h =
     let k = run_state s rows in
     let shown = row_events_by s k.story (row_reading k.story.bus_state row) row in
     times_if end s k shown (array_after_events s k.array shown) row.time h.0 (current_before end some s rows h.1)
 
-pub since_before : (end : ℕ) → 0 < end → (units : List UnitState) (times : List ℕ) (t u : ℕ) → AreNumbersBefore end times → since_of units times t u < end
+pub since_before : (end : ℕ) → 0 < end → (units : List UnitState) (times : List ℕ) (t u : ℕ)
+    → AreNumbersBefore end times → since_of units times t u < end
 since_before end some [] times t u h = some
 since_before end some (v ∷ units) [] t u h = some
-since_before end some (v ∷ units) (x ∷ times) t u h = go (v.target == t) (v.unit == u) (since_before end some units times t u h.1)
+since_before end some (v ∷ units) (x ∷ times) t u h =
+    go (v.target == t) (v.unit == u) (since_before end some units times t u h.1)
   where
     go : (q r : Bool) → since_of units times t u < end → (if q && r then x else since_of units times t u) < end
     go true true k = h.0

@@ -9,18 +9,24 @@ use proofs.Names.{serves, item_is, Whole, whole}
 use Rattle.bus_due.specs.Faithful.{same_process}
 
 -- A line that is found is there.
-found_there : (targets : List TargetDef) (dev : ℕ) → is_some (find (λ (t : TargetDef). t.dev == dev) targets) ≡ true → list_any (λ (t : TargetDef). t.dev == dev) targets ≡ true
+found_there : (targets : List TargetDef) (dev : ℕ) → is_some (find (λ (t : TargetDef). t.dev == dev) targets) ≡ true
+    → list_any (λ (t : TargetDef). t.dev == dev) targets ≡ true
 found_there [] dev e = wrong' e
 found_there (t ∷ targets) dev e = go (t.dev == dev) e (λ z. found_there targets dev z)
   where
     go : (q : Bool) → is_some (cond q (Some t) (find (λ (x : TargetDef). x.dev == dev) targets)) ≡ true
-        → (is_some (find (λ (x : TargetDef). x.dev == dev) targets) ≡ true → list_any (λ (x : TargetDef). x.dev == dev) targets ≡ true) → (q || list_any (λ (x : TargetDef). x.dev == dev) targets) ≡ true
+        → (is_some (find (λ (x : TargetDef). x.dev == dev) targets) ≡ true
+        → list_any (λ (x : TargetDef). x.dev == dev) targets ≡ true)
+        → (q || list_any (λ (x : TargetDef). x.dev == dev) targets) ≡ true
     go true z rest = refl
     go false z rest = rest z
 
 -- The target of a process that is served is there.
-pub served_there : (s : ScenarioValue) (p : List Row) (n : Connection) → Obeys s → IsPrompt s p → connection p ≡ Some n → (id : ProcId) (q : Process) → process_of s id ≡ Some q → (run_state s p).served ≡ Some (process id) → has_target s q.target ≡ true
-served_there s p n o prompt con id q own serving = ap (has_target s) at ∙ found_there s.targets n.target (w.ends n con).target
+pub served_there : (s : ScenarioValue) (p : List Row) (n : Connection) → Obeys s → IsPrompt s p → connection p ≡ Some n
+    → (id : ProcId) (q : Process) → process_of s id ≡ Some q → (run_state s p).served ≡ Some (process id)
+    → has_target s q.target ≡ true
+served_there s p n o prompt con id q own serving =
+    ap (has_target s) at ∙ found_there s.targets n.target (w.ends n con).target
   where
     w : Whole s p
     w = whole s p o prompt
@@ -32,14 +38,15 @@ served_there s p n o prompt con id q own serving = ap (has_target s) at ∙ foun
     served = ap (process_item s) serving ∙ own
 
     at : q.target ≡ n.target
-    at =
-        eqb-true q.target n.target
-        (and_parts (q.initiator == n.initiator) (q.target == n.target)
-        (ap (λ (x : Option Process). has_ends x n) (sym served) ∙ ends_are s p (λ before d. run_state_plain s before d) w.stood.standing.devices true_to n con)).1
+    at = eqb-true q.target n.target (and_parts (q.initiator == n.initiator)
+        (q.target == n.target) (ap (λ (x : Option Process). has_ends x n) (sym served)
+        ∙ ends_are s p (λ before d. run_state_plain s before d) w.stood.standing.devices true_to n con)).1
 
-pub absent_unstruck : (s : ScenarioValue) (p : List Row) → Obeys s → IsPrompt s p → (id : ProcId) (q : Process) → process_of s id ≡ Some q → has_target s q.target ≡ false → fault_rows s p id ≡ 0
+pub absent_unstruck : (s : ScenarioValue) (p : List Row) → Obeys s → IsPrompt s p → (id : ProcId) (q : Process)
+    → process_of s id ≡ Some q → has_target s q.target ≡ false → fault_rows s p id ≡ 0
 absent_unstruck s [] o prompt id q own away = refl
-absent_unstruck s (row ∷ p) o prompt id q own away = λ i. absent_unstruck s p o prompt.0 id q own away i + one_if (none (is_fault_of k row id) refl i)
+absent_unstruck s (row ∷ p) o prompt id q own away =
+    λ i. absent_unstruck s p o prompt.0 id q own away i + one_if (none (is_fault_of k row id) refl i)
   where
     k : RunState
     k = run_state s p
@@ -47,16 +54,21 @@ absent_unstruck s (row ∷ p) o prompt id q own away = λ i. absent_unstruck s p
     pl : IsPlain s p k
     pl = run_state_plain s p (whole s p o prompt.0).stood.standing.devices
 
-    served_by : (x : Option Item) → k.served ≡ x → (same_process x (Some (process id)) && is_some x) ≡ true → k.served ≡ Some (process id)
+    served_by : (x : Option Item) → k.served ≡ x → (same_process x (Some (process id)) && is_some x) ≡ true
+        → k.served ≡ Some (process id)
     served_by None e z = wrong' z
-    served_by (Some item) e z = e ∙ ap (λ (y : Item). Some y) (item_is item (process id) (and_parts (same_process (Some item) (Some (process id))) true z).0)
+    served_by (Some item) e z = e ∙ ap (λ (y : Item). Some y)
+        (item_is item (process id) (and_parts (same_process (Some item) (Some (process id))) true z).0)
 
-    by : (x : Option Connection) → k.story.bus_state.connection ≡ x → is_some x ≡ true → serves k id ≡ true → is_fault_of k row id ≡ false
+    by : (x : Option Connection) → k.story.bus_state.connection ≡ x → is_some x ≡ true → serves k id ≡ true
+        → is_fault_of k row id ≡ false
     by None e z h = wrong' z
-    by (Some n) e z h = wrong (sym (served_there s p n o prompt.0 (sym pl.connection ∙ e) id q own (served_by k.served refl h)) ∙ away)
+    by (Some n) e z h =
+        wrong (sym (served_there s p n o prompt.0 (sym pl.connection ∙ e) id q own (served_by k.served refl h)) ∙ away)
 
     none : (x : Bool) → is_fault_of k row id ≡ x → is_fault_of k row id ≡ false
     none false e = e
     none true e =
         let two = and_parts (is_fault row.kind && is_some k.story.bus_state.connection) (serves k id) e in
-        by k.story.bus_state.connection refl (and_parts (is_fault row.kind) (is_some k.story.bus_state.connection) two.0).1 two.1
+        by k.story.bus_state.connection refl
+        (and_parts (is_fault row.kind) (is_some k.story.bus_state.connection) two.0).1 two.1

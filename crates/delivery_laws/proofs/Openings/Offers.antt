@@ -13,7 +13,9 @@ use proofs.{Names.{phase_after}, Recoveries.Rows.{leaves_as_due}}
 -- ---- where it goes, by the phase
 
 -- As the target is due to leave this phase.
-pub goes_by : (s : ScenarioValue) (p : List Row) (row : Row) (n : Connection) (phase : Phase) → Obeys s → IsPrompt s (row ∷ p) → IsLeaving p row n → phase_of (bus p) ≡ phase → leaving s (run_state s p) n.target ≡ phase_leaving (serving_at s (run_state s p) n.target phase) (bus p).atn phase
+pub goes_by : (s : ScenarioValue) (p : List Row) (row : Row) (n : Connection) (phase : Phase)
+    → Obeys s → IsPrompt s (row ∷ p) → IsLeaving p row n → phase_of (bus p) ≡ phase
+    → leaving s (run_state s p) n.target ≡ phase_leaving (serving_at s (run_state s p) n.target phase) (bus p).atn phase
 goes_by s p row n phase o prompt w e =
     let k : RunState = run_state s p in
     let pl : IsPlain s p k = run_state_plain s p (whole s p o prompt.0).stood.standing.devices in
@@ -25,16 +27,21 @@ goes_by s p row n phase o prompt w e =
 some_after : (p : List Row) (row : Row) (x : Phase) → phase_after p row ≡ Some x → is_some (connection (row ∷ p)) ≡ true
 some_after p row x e = go (connection (row ∷ p)) e
   where
-    go : (c : Option Connection) → (if is_some c then Some (phase_of (bus (row ∷ p))) else None) ≡ Some x → is_some c ≡ true
+    go : (c : Option Connection) → (if is_some c then Some (phase_of (bus (row ∷ p))) else None) ≡ Some x
+        → is_some c ≡ true
     go None z = none_some x z
     go (Some c) z = refl
 
-planned_in : (w : Hearing) (l : Leaving) (p : Plan) → changes_phase w.change ≡ true → is_message_out w.change.after ≡ false → (plan_after w l p).messages ≡ l.messages
-planned_in w l p turns other =
-    (λ i. (if turns i then plan_in_phase w l p else if w.crosses then plan_with_byte w p else if w.fault && not w.change.before.io then struck_plan p else p).messages)
-    ∙ (λ i. (if not (other i) then record (plan_anew p) { messages = l.messages; next = l.next } else if w.begun then plan_in_message_out w p else plan_anew p).messages)
+planned_in : (w : Hearing) (l : Leaving) (p : Plan) → changes_phase w.change ≡ true
+    → is_message_out w.change.after ≡ false → (plan_after w l p).messages ≡ l.messages
+planned_in w l p turns other = (λ i. (if turns i then plan_in_phase w l p else if w.crosses then plan_with_byte w p
+    else if w.fault && not w.change.before.io then struck_plan p else p).messages)
+    ∙ (λ i. (if not (other i) then record (plan_anew p) { messages = l.messages; next = l.next }
+    else if w.begun then plan_in_message_out w p else plan_anew p).messages)
 
-pub planned_for : (s : ScenarioValue) (p : List Row) (row : Row) (n : Connection) → Obeys s → IsPrompt s (row ∷ p) → IsLeaving p row n → phase_after p row ≡ Some Phase.MessageIn → (plan_at s (row ∷ p)).messages ≡ (leaving s (run_state s p) n.target).messages
+pub planned_for : (s : ScenarioValue) (p : List Row) (row : Row) (n : Connection) → Obeys s
+    → IsPrompt s (row ∷ p) → IsLeaving p row n → phase_after p row ≡ Some Phase.MessageIn
+    → (plan_at s (row ∷ p)).messages ≡ (leaving s (run_state s p) n.target).messages
 planned_for s p row n o prompt w e = by (connection (row ∷ p)) refl
   where
     k : RunState
@@ -58,7 +65,9 @@ planned_for s p row n o prompt w e = by (connection (row ∷ p)) refl
         some_is : (x y : Phase) → Some x ≡ Some y → x ≡ y
         some_is x y z = cc
 
-        go : (c : Option Connection) → (if is_some c then Some (phase_of (bus (row ∷ p))) else None) ≡ Some Phase.MessageIn → phase_of (bus (row ∷ p)) ≡ Phase.MessageIn
+        go : (c : Option Connection)
+            → (if is_some c then Some (phase_of (bus (row ∷ p))) else None) ≡ Some Phase.MessageIn
+            → phase_of (bus (row ∷ p)) ≡ Phase.MessageIn
         go None z = none_some Phase.MessageIn z
         go (Some c) z = some_is (phase_of (bus (row ∷ p))) Phase.MessageIn z
 
@@ -69,16 +78,22 @@ planned_for s p row n o prompt w e = by (connection (row ∷ p)) refl
         of (inl z) = ap changes_phase change ∙ z
         of (inr z) = none_some c (sym z ∙ f)
 
-    by : (x : Option Connection) → connection (row ∷ p) ≡ x → (plan_at s (row ∷ p)).messages ≡ (leaving s k n.target).messages
+    by : (x : Option Connection) → connection (row ∷ p) ≡ x
+        → (plan_at s (row ∷ p)).messages ≡ (leaving s k n.target).messages
     by None f = wrong (sym (some_after p row Phase.MessageIn e) ∙ ap (λ (c : Option Connection). is_some c) f)
-    by (Some c) f =
-        (λ i. (exchange_after s k row d (here i) (((λ j. connection_after (pl.connection j) (pl.call j) (change j) row) ∙ f) i) (leaving_of s k (here i))).plan.messages)
-        ∙ planned_in (hearing_of k row d) (leaving s k n.target) k.exchange.plan (turns c f) (ap (λ (y : Change). is_message_out y.after) change ∙ not_out (bus (row ∷ p)) phase_is)
+    by (Some c) f = (λ i. (exchange_after s k row d (here i)
+        (((λ j. connection_after (pl.connection j) (pl.call j) (change j) row) ∙ f) i)
+        (leaving_of s k (here i))).plan.messages)
+        ∙ planned_in (hearing_of k row d) (leaving s k n.target) k.exchange.plan (turns c f)
+        (ap (λ (y : Change). is_message_out y.after) change ∙ not_out (bus (row ∷ p)) phase_is)
 
 -- ---- the answer to an offer
 
-pub offer_answered : (s : ScenarioValue) (p : List Row) (row : Row) (n : Connection) (offer : Agreement) → Obeys s → IsPrompt s (row ∷ p) → IsLeaving p row n → phase_of (bus p) ≡ Phase.MessageOut → (plan_at s p).cause ≡ Cause.Selected → (plan_at s p).said.aborts ≡ None → (plan_at s p).said.offer ≡ Some offer
-    → (phase_after p row ≡ Some Phase.MessageIn) × ((plan_at s (row ∷ p)).messages ≡ one_message (reply_to (target_def_of s n.target) offer))
+pub offer_answered : (s : ScenarioValue) (p : List Row) (row : Row) (n : Connection) (offer : Agreement)
+    → Obeys s → IsPrompt s (row ∷ p) → IsLeaving p row n → phase_of (bus p) ≡ Phase.MessageOut
+    → (plan_at s p).cause ≡ Cause.Selected → (plan_at s p).said.aborts ≡ None → (plan_at s p).said.offer ≡ Some offer
+    → (phase_after p row ≡ Some Phase.MessageIn)
+    × ((plan_at s (row ∷ p)).messages ≡ one_message (reply_to (target_def_of s n.target) offer))
 offer_answered s p row n offer o prompt w e selected none offers =
     let def : Option TargetDef = target_def_of s n.target in
     let plan : Plan = plan_at s p in
@@ -86,5 +101,6 @@ offer_answered s p row n offer o prompt w e selected none offers =
     goes_by s p row n Phase.MessageOut o prompt w e
     ∙ (λ i. message_out_leaving (serving_at s (run_state s p) n.target Phase.MessageOut) (selected i))
     ∙ (λ i. if is_some (none i) then bus_free else after_offer def plan.negotiates (offers i)) in
-    let next : phase_after p row ≡ Some Phase.MessageIn = sym (leaves_as_due s p row n o prompt w) ∙ ap (λ (l : Leaving). l.to) goes in
+    let next : phase_after p row ≡ Some Phase.MessageIn = sym (leaves_as_due s p row n o prompt w)
+    ∙ ap (λ (l : Leaving). l.to) goes in
     (next, planned_for s p row n o prompt w next ∙ ap (λ (l : Leaving). l.messages) goes)

@@ -16,14 +16,16 @@ AreTaken h = list_all (λ (e : Event). is_taken e) h ≡ true
 
 pub taken_both : (xs ys : List Event) → AreTaken xs → AreTaken ys → AreTaken (xs ++ ys)
 taken_both [] ys h g = g
-taken_both (x ∷ xs) ys h g =
-    and_from (is_taken x) (list_all (λ (e : Event). is_taken e) (xs ++ ys)) (and_first (is_taken x) (list_all (λ (e : Event). is_taken e) xs) h)
+taken_both (x ∷ xs) ys h g = and_from (is_taken x) (list_all (λ (e : Event). is_taken e) (xs ++ ys))
+    (and_first (is_taken x) (list_all (λ (e : Event). is_taken e) xs) h)
     (taken_both xs ys (and_second (is_taken x) (list_all (λ (e : Event). is_taken e) xs) h) g)
 
 abbrev IsAccepted : ScenarioValue → Story → CarriedBytes → Type 0
 IsAccepted s b c = is_some (array_after s (Event.Accept c.id ∷ b.history)) ≡ true
 
-queue_taken : (s : ScenarioValue) (b : Story) (c : Option CarriedBytes) (before : LineSet) → ((x : CarriedBytes) → c ≡ Some x → is_whole_block x ≡ true → is_command before ≡ true → IsAccepted s b x) → AreTaken (queue_events s b c before)
+queue_taken : (s : ScenarioValue) (b : Story) (c : Option CarriedBytes) (before : LineSet)
+    → ((x : CarriedBytes) → c ≡ Some x → is_whole_block x ≡ true → is_command before ≡ true → IsAccepted s b x)
+    → AreTaken (queue_events s b c before)
 queue_taken s b None before h = refl
 queue_taken s b (Some k) before h = go (is_command before && is_whole_block k) refl
   where
@@ -31,13 +33,19 @@ queue_taken s b (Some k) before h = go (is_command before && is_whole_block k) r
     by true e = refl
     by false e = wrong' e
 
-    go : (q : Bool) → (is_command before && is_whole_block k) ≡ q → AreTaken (if q then (if is_some (array_after s (Event.Accept k.id ∷ b.history)) then Event.Accept k.id else Event.Refuse k.id) ∷ [] else [])
-    go true e = let two = and_parts (is_command before) (is_whole_block k) e in by (is_some (array_after s (Event.Accept k.id ∷ b.history))) (h k refl two.1 two.0)
+    go : (q : Bool) → (is_command before && is_whole_block k) ≡ q → AreTaken (if q
+        then (if is_some (array_after s (Event.Accept k.id ∷ b.history)) then Event.Accept k.id else Event.Refuse k.id)
+        ∷ [] else [])
+    go true e =
+        let two = and_parts (is_command before) (is_whole_block k) e in
+        by (is_some (array_after s (Event.Accept k.id ∷ b.history))) (h k refl two.1 two.0)
     go false e = refl
 
-status_taken : (c : Option CarriedBytes) (after : LineSet) (arrived : List Event) → AreTaken arrived → AreTaken (status_events c after arrived)
+status_taken : (c : Option CarriedBytes) (after : LineSet) (arrived : List Event) → AreTaken arrived
+    → AreTaken (status_events c after arrived)
 status_taken None after arrived h = h
-status_taken (Some k) after arrived h = go (is_status_phase after && not k.shown && not k.refused && not (list_any (λ e. is_refuse e) arrived)) k.failure
+status_taken (Some k) after arrived h =
+    go (is_status_phase after && not k.shown && not k.refused && not (list_any (λ e. is_refuse e) arrived)) k.failure
   where
     go : (q : Bool) (f : Option ℕ) → AreTaken (if q then status_event k.id f ∷ arrived else arrived)
     go true None = h
@@ -67,18 +75,21 @@ free_taken s l complete = refl
 free_taken s l disconnect = refl
 free_taken s l abortive = abort_taken s l.item
 
-pub row_taken : (s : ScenarioValue) (b : Story) (d : RowReading) (row : Row) → ((l : Link) (c : CarriedBytes) → ArrivesNow b d l c → IsAccepted s b c) → AreTaken (row_events_by s b d row)
+pub row_taken : (s : ScenarioValue) (b : Story) (d : RowReading) (row : Row)
+    → ((l : Link) (c : CarriedBytes) → ArrivesNow b d l c → IsAccepted s b c) → AreTaken (row_events_by s b d row)
 row_taken s b d row h = go d.change.after.rst refl
   where
     linked : d.change.after.rst ≡ false → (o : Option Link) → b.link ≡ o → AreTaken (link_events s b o d)
     linked calm None e = refl
     linked calm (Some l) e = by (is_some d.next) refl (changes_phase d.change) refl (is_completion l d.change)
       where
-        by : (x : Bool) → is_some d.next ≡ x → (y : Bool) → changes_phase d.change ≡ y → (z : Bool) → AreTaken (if x then (if y then phase_events s b (carried_if b l.item) d.change else if z then end_events (carried_if b l.item) else []) else bus_free_events s l l.last)
-        by true f true g z =
-            status_taken (carried_if b l.item) d.change.after (queue_events s b (carried_if b l.item) d.change.before)
-            (queue_taken s b (carried_if b l.item) d.change.before
-            (λ c i w m. h l c (record { link_is = e; carried_is = i; whole = w; calm = calm; stands = f; turns = g; command = m })))
+        by : (x : Bool) → is_some d.next ≡ x → (y : Bool) → changes_phase d.change ≡ y → (z : Bool)
+            → AreTaken (if x then (if y then phase_events s b (carried_if b l.item) d.change
+            else if z then end_events (carried_if b l.item) else []) else bus_free_events s l l.last)
+        by true f true g z = status_taken (carried_if b l.item) d.change.after
+            (queue_events s b (carried_if b l.item) d.change.before)
+            (queue_taken s b (carried_if b l.item) d.change.before (λ c i w m. h l c
+            (record { link_is = e; carried_is = i; whole = w; calm = calm; stands = f; turns = g; command = m })))
         by true f false g true = end_taken (carried_if b l.item)
         by true f false g false = refl
         by false f y g z = free_taken s l l.last
@@ -87,7 +98,9 @@ row_taken s b d row h = go d.change.after.rst refl
     reset true = refl
     reset false = refl
 
-    go : (x : Bool) → d.change.after.rst ≡ x → AreTaken (if x then (if rises d.change.own.rst d.change.next.rst then Event.Reset row.dev ∷ [] else []) else link_events s b b.link d)
+    go : (x : Bool) → d.change.after.rst ≡ x
+        → AreTaken (if x then (if rises d.change.own.rst d.change.next.rst then Event.Reset row.dev ∷ [] else [])
+        else link_events s b b.link d)
     go true e = reset (rises d.change.own.rst d.change.next.rst)
     go false e = linked e b.link refl
 

@@ -9,35 +9,49 @@ use proofs.Names.{is_loss, left_as_due, change_plain, least_is, whole}
 
 -- What the laws of the books say of such a row (give_ups_have_causes).
 abbrev pub AreFailures : Type 0
-AreFailures =
-    (s : ScenarioValue) (rows : List Row) (row : Row) (n : Connection) (id : ProcId) (code : ℕ) → (run_state s rows).story.bus_state.connection ≡ Some n → is_true_telling s (run_state s rows) row (row_reading (run_state s rows).story.bus_state row) ≡ true
-    → has_event (row_events_by s (run_state s rows).story (row_reading (run_state s rows).story.bus_state row) row) (Event.Fail id code) ≡ true
-    → (is_failure (run_state s rows).exchange.plan.cause code (phase_of (bus_of (run_state s rows))) && gives_up s rows row n id) ≡ true
+AreFailures = (s : ScenarioValue) (rows : List Row) (row : Row) (n : Connection) (id : ProcId) (code : ℕ)
+    → (run_state s rows).story.bus_state.connection ≡ Some n
+    → is_true_telling s (run_state s rows) row (row_reading (run_state s rows).story.bus_state row) ≡ true
+    → has_event (row_events_by s (run_state s rows).story (row_reading (run_state s rows).story.bus_state row) row)
+    (Event.Fail id code) ≡ true
+    → (is_failure (run_state s rows).exchange.plan.cause code (phase_of (bus_of (run_state s rows)))
+    && gives_up s rows row n id) ≡ true
 
 abbrev pub AreLosses : Type 0
-AreLosses =
-    (s : ScenarioValue) (rows : List Row) (row : Row) (n : Connection) (p : Process) → (run_state s rows).story.bus_state.connection ≡ Some n → is_true_telling s (run_state s rows) row (row_reading (run_state s rows).story.bus_state row) ≡ true
+AreLosses = (s : ScenarioValue) (rows : List Row) (row : Row) (n : Connection) (p : Process)
+    → (run_state s rows).story.bus_state.connection ≡ Some n
+    → is_true_telling s (run_state s rows) row (row_reading (run_state s rows).story.bus_state row) ≡ true
     → process_of s p.id ≡ Some p → (leaving s (run_state s rows) n.target).to ≡ None
-    → has_event (row_events_by s (run_state s rows).story (row_reading (run_state s rows).story.bus_state row) row) (Event.Lost p.id) ≡ true
-    → (is_loss (run_state s rows).exchange.plan.cause (phase_of (bus_of (run_state s rows))) && gives_up s rows row n p.id) ≡ true
+    → has_event (row_events_by s (run_state s rows).story (row_reading (run_state s rows).story.bus_state row) row)
+    (Event.Lost p.id) ≡ true
+    → (is_loss (run_state s rows).exchange.plan.cause (phase_of (bus_of (run_state s rows)))
+    && gives_up s rows row n p.id) ≡ true
 
 plain : (s : ScenarioValue) (p : List Row) (row : Row) → Obeys s → IsPrompt s (row ∷ p) → IsPlain s p (run_state s p)
 plain s p row o prompt = run_state_plain s p (whole s p o prompt.0).stood.standing.devices
 
-told_row : (s : ScenarioValue) (p : List Row) (row : Row) → telling s (row ∷ p) ≡ true → is_true_telling s (run_state s p) row (row_reading (run_state s p).story.bus_state row) ≡ true
-told_row s p row tell = and_second (telling s p) (is_true_telling s (run_state s p) row (row_reading (run_state s p).story.bus_state row)) tell
+told_row : (s : ScenarioValue) (p : List Row) (row : Row) → telling s (row ∷ p) ≡ true
+    → is_true_telling s (run_state s p) row (row_reading (run_state s p).story.bus_state row) ≡ true
+told_row s p row tell = and_second (telling s p)
+    (is_true_telling s (run_state s p) row (row_reading (run_state s p).story.bus_state row)) tell
 
-pub failed_by : (s : ScenarioValue) (p : List Row) (row : Row) (n : Connection) (id : ProcId) (code : ℕ) → AreFailures → telling s (row ∷ p) ≡ true → Obeys s → IsPrompt s (row ∷ p) → connection p ≡ Some n
-    → has_event (row_events s (story s p) row) (Event.Fail id code) ≡ true → (is_failure (run_state s p).exchange.plan.cause code (phase_of (bus p)) && gives_up s p row n id) ≡ true
+pub failed_by : (s : ScenarioValue) (p : List Row) (row : Row) (n : Connection) (id : ProcId) (code : ℕ)
+    → AreFailures → telling s (row ∷ p) ≡ true → Obeys s → IsPrompt s (row ∷ p)
+    → connection p ≡ Some n → has_event (row_events s (story s p) row) (Event.Fail id code) ≡ true
+    → (is_failure (run_state s p).exchange.plan.cause code (phase_of (bus p)) && gives_up s p row n id) ≡ true
 failed_by s p row n id code law tell o prompt con e =
     let k : RunState = run_state s p in
     let pl : IsPlain s p k = plain s p row o prompt in
     ap (λ (l : LineSet). is_failure k.exchange.plan.cause code (phase_of l) && gives_up s p row n id) (sym pl.bus)
-    ∙ law s p row n id code (pl.connection ∙ con) (told_row s p row tell) (ap (λ (b : Story). has_event (row_events s b row) (Event.Fail id code)) pl.story ∙ e)
+    ∙ law s p row n id code (pl.connection ∙ con) (told_row s p row tell)
+    (ap (λ (b : Story). has_event (row_events s b row) (Event.Fail id code)) pl.story ∙ e)
 
 -- It goes to BUS FREE as it is due to.
-freed : (s : ScenarioValue) (p : List Row) (row : Row) (n : Connection) → Obeys s → IsPrompt s (row ∷ p) → left_as_due s (row ∷ p) ≡ true → connection p ≡ Some n → connection (row ∷ p) ≡ None → (bus (row ∷ p)).rst ≡ false → (leaving s (run_state s p) n.target).to ≡ None
-freed s p row n o prompt left con over calm = none_is (leaving s k n.target).to (at (and_second (left_as_due s p) (is_left_as_due s k d) left))
+freed : (s : ScenarioValue) (p : List Row) (row : Row) (n : Connection) → Obeys s → IsPrompt s (row ∷ p)
+    → left_as_due s (row ∷ p) ≡ true → connection p ≡ Some n → connection (row ∷ p) ≡ None → (bus (row ∷ p)).rst ≡ false
+    → (leaving s (run_state s p) n.target).to ≡ None
+freed s p row n o prompt left con over calm =
+    none_is (leaving s k n.target).to (at (and_second (left_as_due s p) (is_left_as_due s k d) left))
   where
     k : RunState
     k = run_state s p
@@ -58,16 +72,22 @@ freed s p row n o prompt left con over calm = none_is (leaving s k n.target).to 
     off = ap (λ (c : Change). c.after.rst) change ∙ calm
 
     at : is_left_by s k d k.story.bus_state.connection ≡ true → is_none (leaving s k n.target).to ≡ true
-    at e = sym ((λ i. is_left_by s k d ((pl.connection ∙ con) i)) ∙ (λ i. off i || is_some (next i) || is_none (leaving s k n.target).to)) ∙ e
+    at e = sym ((λ i. is_left_by s k d ((pl.connection ∙ con) i))
+        ∙ (λ i. off i || is_some (next i) || is_none (leaving s k n.target).to))
+        ∙ e
 
     none_is : (x : Option Phase) → is_none x ≡ true → x ≡ None
     none_is None e = refl
     none_is (Some y) e = wrong' e
 
-pub lost_by : (s : ScenarioValue) (p : List Row) (row : Row) (n : Connection) (q : Process) → AreLosses → telling s (row ∷ p) ≡ true → left_as_due s (row ∷ p) ≡ true → Obeys s → IsPrompt s (row ∷ p) → connection p ≡ Some n → connection (row ∷ p) ≡ None → (bus (row ∷ p)).rst ≡ false
-    → process_of s q.id ≡ Some q → has_event (row_events s (story s p) row) (Event.Lost q.id) ≡ true → (is_loss (run_state s p).exchange.plan.cause (phase_of (bus p)) && gives_up s p row n q.id) ≡ true
+pub lost_by : (s : ScenarioValue) (p : List Row) (row : Row) (n : Connection) (q : Process) → AreLosses
+    → telling s (row ∷ p) ≡ true → left_as_due s (row ∷ p) ≡ true → Obeys s → IsPrompt s (row ∷ p)
+    → connection p ≡ Some n → connection (row ∷ p) ≡ None → (bus (row ∷ p)).rst ≡ false
+    → process_of s q.id ≡ Some q → has_event (row_events s (story s p) row) (Event.Lost q.id) ≡ true
+    → (is_loss (run_state s p).exchange.plan.cause (phase_of (bus p)) && gives_up s p row n q.id) ≡ true
 lost_by s p row n q law tell left o prompt con over calm own e =
     let k : RunState = run_state s p in
     let pl : IsPlain s p k = plain s p row o prompt in
     ap (λ (l : LineSet). is_loss k.exchange.plan.cause (phase_of l) && gives_up s p row n q.id) (sym pl.bus)
-    ∙ law s p row n q (pl.connection ∙ con) (told_row s p row tell) own (freed s p row n o prompt left con over calm) (ap (λ (b : Story). has_event (row_events s b row) (Event.Lost q.id)) pl.story ∙ e)
+    ∙ law s p row n q (pl.connection ∙ con) (told_row s p row tell) own (freed s p row n o prompt left con over calm)
+    (ap (λ (b : Story). has_event (row_events s b row) (Event.Lost q.id)) pl.story ∙ e)

@@ -16,7 +16,9 @@ is_taken _ = false
 taken_lines : (l : LineSet) → is_taken (phase_of l) ≡ true → (l.io ≡ false) × (is_message_out l ≡ false)
 taken_lines l e = go l.msg l.cd l.io e
   where
-    go : (m c i : Bool) → is_taken (if m then (if i then Phase.MessageIn else Phase.MessageOut) else if c then (if i then Phase.Status else Phase.Command) else if i then Phase.DataIn else Phase.DataOut) ≡ true → (i ≡ false) × ((m && c && not i) ≡ false)
+    go : (m c i : Bool) → is_taken (if m then (if i then Phase.MessageIn else Phase.MessageOut)
+        else if c then (if i then Phase.Status else Phase.Command) else if i then Phase.DataIn else Phase.DataOut)
+        ≡ true → (i ≡ false) × ((m && c && not i) ≡ false)
     go true c true z = wrong' z
     go false true false z = (refl, refl)
     go false false false z = (refl, refl)
@@ -25,14 +27,19 @@ taken_lines l e = go l.msg l.cd l.io e
 -- ---- one row
 
 -- A fault row, with which no byte crosses; or it was struck before.
-struck_on : (w : Hearing) (l : Leaving) (p : Plan) → changes_phase w.change ≡ false → (w.change.before.io ≡ false) × (is_message_out w.change.before ≡ false) → (w.fault ≡ true → w.crosses ≡ false) → (w.fault || p.struck) ≡ true → (plan_after w l p).struck ≡ true
+struck_on : (w : Hearing) (l : Leaving) (p : Plan) → changes_phase w.change ≡ false
+    → (w.change.before.io ≡ false) × (is_message_out w.change.before ≡ false)
+    → (w.fault ≡ true → w.crosses ≡ false) → (w.fault || p.struck) ≡ true → (plan_after w l p).struck ≡ true
 struck_on w l p stays lines alone e =
-    (λ i. (if stays i then plan_in_phase w l p else if w.crosses then plan_with_byte w p else if w.fault && not w.change.before.io then struck_plan p else p).struck)
+    (λ i. (if stays i then plan_in_phase w l p else if w.crosses then plan_with_byte w p
+    else if w.fault && not w.change.before.io then struck_plan p else p).struck)
     ∙ go w.crosses refl w.fault refl
   where
-    go : (q : Bool) → w.crosses ≡ q → (r : Bool) → w.fault ≡ r → (if q then plan_with_byte w p else if r && not w.change.before.io then struck_plan p else p).struck ≡ true
+    go : (q : Bool) → w.crosses ≡ q → (r : Bool) → w.fault ≡ r
+        → (if q then plan_with_byte w p else if r && not w.change.before.io then struck_plan p else p).struck ≡ true
     go true c true f = wrong (sym c ∙ alone f)
-    go true c false f = (λ i. (if lines.1 i then plan_after_message p w.is_last w.out else p).struck) ∙ (λ i. sym f i || p.struck) ∙ e
+    go true c false f =
+        (λ i. (if lines.1 i then plan_after_message p w.is_last w.out else p).struck) ∙ (λ i. sym f i || p.struck) ∙ e
     go false c true f = λ i. (if not (lines.0 i) then struck_plan p else p).struck
     go false c false f = (λ i. sym f i || p.struck) ∙ e
 
@@ -45,7 +52,9 @@ no_connection o e some = wrong (sym some ∙ ap (λ (x : Option Connection). is_
 
 -- ---- all rows of a prompt trace
 
-struck_next : (s : ScenarioValue) (p : List Row) (row : Row) → Obeys s → IsPrompt s (row ∷ p) → (is_struck_phase s p ≡ true → is_taken (phase_of (bus_of (run_state s p))) ≡ true → (run_state s p).exchange.plan.struck ≡ true) → is_struck_phase s (row ∷ p) ≡ true
+struck_next : (s : ScenarioValue) (p : List Row) (row : Row) → Obeys s → IsPrompt s (row ∷ p)
+    → (is_struck_phase s p ≡ true → is_taken (phase_of (bus_of (run_state s p))) ≡ true
+    → (run_state s p).exchange.plan.struck ≡ true) → is_struck_phase s (row ∷ p) ≡ true
     → is_taken (phase_of (bus_of (run_state s (row ∷ p)))) ≡ true → (run_state s (row ∷ p)).exchange.plan.struck ≡ true
 struck_next s p row o prompt more e taken = by k.story.bus_state.connection refl d.next refl
   where
@@ -55,8 +64,10 @@ struck_next s p row o prompt more e taken = by k.story.bus_state.connection refl
     d : RowReading
     d = row_reading k.story.bus_state row
 
-    four : (is_some k.story.bus_state.connection ≡ true) × ((is_some d.next ≡ true) × ((not (changes_phase d.change) ≡ true) × ((is_fault row.kind || is_struck_phase s p) ≡ true)))
-    four = all_four (is_some k.story.bus_state.connection) (is_some d.next) (not (changes_phase d.change)) (is_fault row.kind || is_struck_phase s p) e
+    four : (is_some k.story.bus_state.connection ≡ true) × ((is_some d.next ≡ true)
+        × ((not (changes_phase d.change) ≡ true) × ((is_fault row.kind || is_struck_phase s p) ≡ true)))
+    four = all_four (is_some k.story.bus_state.connection) (is_some d.next) (not (changes_phase d.change))
+        (is_fault row.kind || is_struck_phase s p) e
 
     stays : changes_phase d.change ≡ false
     stays = not-true (changes_phase d.change) four.1.1.0
@@ -70,7 +81,8 @@ struck_next s p row o prompt more e taken = by k.story.bus_state.connection refl
       where
         of_kind : (n : Connection) (c : Change) → IsRowIn k row n c → RowKind row n c → d.crosses ≡ false
         of_kind n c h (still g x y) = wrong (sym f ∙ g)
-        of_kind n c h (strikes g x y) = ap (λ (r : RowReading). r.crosses) (reading_is k row n c false h (ap (λ (z : Option ℕ). is_some z) y))
+        of_kind n c h (strikes g x y) =
+            ap (λ (r : RowReading). r.crosses) (reading_is k row n c false h (ap (λ (z : Option ℕ). is_some z) y))
         of_kind n c h (crosses dev g x y) = wrong (sym f ∙ g)
         of_kind n c h (turns g x y) = wrong (sym f ∙ g)
 
@@ -84,24 +96,31 @@ struck_next s p row o prompt more e taken = by k.story.bus_state.connection refl
     before : (is_fault row.kind || is_struck_phase s p) ≡ true → (is_fault row.kind || k.exchange.plan.struck) ≡ true
     before z = elim (cases_Bool (is_fault row.kind)) [ inl e ↦ rw e | inr e ↦ rw e (more (rw e at z) was) ]
 
-    by : (x : Option Connection) → k.story.bus_state.connection ≡ x → (y : Option Connection) → d.next ≡ y → (exchange_after s k row d x y (leaving_of s k k.story.bus_state.connection)).plan.struck ≡ true
+    by : (x : Option Connection) → k.story.bus_state.connection ≡ x → (y : Option Connection) → d.next ≡ y
+        → (exchange_after s k row d x y (leaving_of s k k.story.bus_state.connection)).plan.struck ≡ true
     by None f y g = no_connection k.story.bus_state.connection f four.0
     by (Some m) f None g = no_connection d.next g four.1.0
-    by (Some m) f (Some n) g = struck_on (hearing_of k row d) (leaving_of s k k.story.bus_state.connection) k.exchange.plan stays (taken_lines (bus_of k) was) crosses_none (before four.1.1.1)
+    by (Some m) f (Some n) g = struck_on (hearing_of k row d) (leaving_of s k k.story.bus_state.connection)
+        k.exchange.plan stays (taken_lines (bus_of k) was) crosses_none (before four.1.1.1)
 
-pub struck_taken : (s : ScenarioValue) (p : List Row) → Obeys s → IsPrompt s p → is_struck_phase s p ≡ true → is_taken (phase_of (bus_of (run_state s p))) ≡ true → (run_state s p).exchange.plan.struck ≡ true
+pub struck_taken : (s : ScenarioValue) (p : List Row) → Obeys s → IsPrompt s p → is_struck_phase s p ≡ true
+    → is_taken (phase_of (bus_of (run_state s p))) ≡ true → (run_state s p).exchange.plan.struck ≡ true
 struck_taken s [] o prompt e taken = wrong' e
-struck_taken s (row ∷ p) o prompt e taken = struck_next s p row o prompt (λ x y. struck_taken s p o prompt.0 x y) e taken
+struck_taken s (row ∷ p) o prompt e taken =
+    struck_next s p row o prompt (λ x y. struck_taken s p o prompt.0 x y) e taken
 
 -- So a phase that is wrong by its fault rows is wrong for the target.
-pub wrong_for_target : (s : ScenarioValue) (p : List Row) → Obeys s → IsPrompt s p → is_wrong_phase (is_struck_phase s p) (run_state s p).exchange.plan (phase_of (bus_of (run_state s p))) ≡ true
-    → is_wrong_phase (run_state s p).exchange.plan.struck (run_state s p).exchange.plan (phase_of (bus_of (run_state s p))) ≡ true
+pub wrong_for_target : (s : ScenarioValue) (p : List Row) → Obeys s → IsPrompt s p
+    → is_wrong_phase (is_struck_phase s p) (run_state s p).exchange.plan (phase_of (bus_of (run_state s p))) ≡ true
+    → is_wrong_phase (run_state s p).exchange.plan.struck (run_state s p).exchange.plan
+    (phase_of (bus_of (run_state s p))) ≡ true
 wrong_for_target s p o prompt e = go (phase_of (bus_of (run_state s p))) refl e
   where
     plan : Plan
     plan = (run_state s p).exchange.plan
 
-    go : (x : Phase) → phase_of (bus_of (run_state s p)) ≡ x → is_wrong_phase (is_struck_phase s p) plan x ≡ true → is_wrong_phase plan.struck plan x ≡ true
+    go : (x : Phase) → phase_of (bus_of (run_state s p)) ≡ x → is_wrong_phase (is_struck_phase s p) plan x ≡ true
+        → is_wrong_phase plan.struck plan x ≡ true
     go Phase.Command f z = struck_taken s p o prompt z (ap is_taken f)
     go Phase.DataOut f z = struck_taken s p o prompt z (ap is_taken f)
     go _ f z = z

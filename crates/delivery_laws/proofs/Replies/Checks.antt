@@ -15,32 +15,43 @@ last_there (x ∷ xs) n = elim (cases_Bool (x == n)) [ inl e ↦ rw e | inr e �
 
 -- ---- an event
 
-check_stands : (b : Story) (n status : ℕ) → (status == CHECK_CONDITION) ≡ true → IsChecked n (with_check b (command_id n) status).sent
-check_stands b n status e =
-    (λ i. list_any (λ k. k == n) (if e i then record b { sent = record b.sent { checks = b.sent.checks ++ n ∷ [] } } else b).sent.checks) ∙ last_there b.sent.checks n
+check_stands : (b : Story) (n status : ℕ) → (status == CHECK_CONDITION) ≡ true
+    → IsChecked n (with_check b (command_id n) status).sent
+check_stands b n status e = (λ i. list_any (λ k. k == n)
+    (if e i then record b { sent = record b.sent { checks = b.sent.checks ++ n ∷ [] } } else b).sent.checks)
+    ∙ last_there b.sent.checks n
 
-event_stands : (s : ScenarioValue) (b : Story) (n : ℕ) (e : Event) → is_status_of (command_id n) CHECK_CONDITION e ≡ true → IsChecked n (story_after_event s b e).sent
+event_stands : (s : ScenarioValue) (b : Story) (n : ℕ) (e : Event)
+    → is_status_of (command_id n) CHECK_CONDITION e ≡ true → IsChecked n (story_after_event s b e).sent
 event_stands s b n (Event.End id status) e =
-    let same : id ≡ command_id n = id_is id (command_id n) (and_first (same_id id (command_id n)) (status == CHECK_CONDITION) e) in
-    ap (λ (x : ProcId). list_any (λ k. k == n) (with_check (story_with_end b x (by_status status)) x status).sent.checks) same
-    ∙ check_stands (story_with_end b (command_id n) (by_status status)) n status (and_second (same_id id (command_id n)) (status == CHECK_CONDITION) e)
+    let same : id ≡ command_id n = id_is id (command_id n)
+    (and_first (same_id id (command_id n)) (status == CHECK_CONDITION) e) in
+    ap (λ (x : ProcId). list_any (λ k. k == n)
+    (with_check (story_with_end b x (by_status status)) x status).sent.checks) same
+    ∙ check_stands (story_with_end b (command_id n) (by_status status)) n status
+    (and_second (same_id id (command_id n)) (status == CHECK_CONDITION) e)
 event_stands s b n _ e = wrong' e
 
 -- ---- the events of a row
 
-shown_stands : (s : ScenarioValue) (b : Story) (n : ℕ) (shown : List Event) → has_status shown (command_id n) CHECK_CONDITION ≡ true → IsChecked n (story_after_events s b shown).sent
+shown_stands : (s : ScenarioValue) (b : Story) (n : ℕ) (shown : List Event)
+    → has_status shown (command_id n) CHECK_CONDITION ≡ true → IsChecked n (story_after_events s b shown).sent
 shown_stands s b n [] e = wrong' e
-shown_stands s b n (x ∷ shown) e = go (is_status_of (command_id n) CHECK_CONDITION x) refl e (λ z. shown_stands s b n shown z)
+shown_stands s b n (x ∷ shown) e =
+    go (is_status_of (command_id n) CHECK_CONDITION x) refl e (λ z. shown_stands s b n shown z)
   where
     was : Story
     was = story_after_events s b shown
 
-    go : (q : Bool) → is_status_of (command_id n) CHECK_CONDITION x ≡ q → (q || has_status shown (command_id n) CHECK_CONDITION) ≡ true
-        → (has_status shown (command_id n) CHECK_CONDITION ≡ true → IsChecked n was.sent) → IsChecked n (story_after_event s was x).sent
+    go : (q : Bool) → is_status_of (command_id n) CHECK_CONDITION x ≡ q
+        → (q || has_status shown (command_id n) CHECK_CONDITION) ≡ true
+        → (has_status shown (command_id n) CHECK_CONDITION ≡ true → IsChecked n was.sent)
+        → IsChecked n (story_after_event s was x).sent
     go true z f rest = event_stands s was n x z
     go false z f rest = (events_grow s was (x ∷ [])).checks n (rest f)
 
-either : (xs ys : List Event) (id : ProcId) (status : ℕ) → has_status (xs ++ ys) id status ≡ true → (has_status xs id status ≡ true) ⊎ (has_status ys id status ≡ true)
+either : (xs ys : List Event) (id : ProcId) (status : ℕ) → has_status (xs ++ ys) id status ≡ true
+    → (has_status xs id status ≡ true) ⊎ (has_status ys id status ≡ true)
 either [] ys id status e = inr e
 either (x ∷ xs) ys id status e =
     elim (cases_Bool (is_status_of id status x)) [
@@ -50,7 +61,9 @@ either (x ∷ xs) ys id status e =
 
 -- ---- after any rows
 
-pub checks_stand : (s : ScenarioValue) (p : List Row) (n : ℕ) → has_status (run_state s p).story.history (command_id n) CHECK_CONDITION ≡ true → IsChecked n (run_state s p).story.sent
+pub checks_stand : (s : ScenarioValue) (p : List Row) (n : ℕ)
+    → has_status (run_state s p).story.history (command_id n) CHECK_CONDITION ≡ true
+    → IsChecked n (run_state s p).story.sent
 checks_stand s [] n e = wrong' e
 checks_stand s (row ∷ p) n e = go (either now b.history (command_id n) CHECK_CONDITION e) (λ z. checks_stand s p n z)
   where
@@ -66,7 +79,10 @@ checks_stand s (row ∷ p) n e = go (either now b.history (command_id n) CHECK_C
     now : List Event
     now = row_events_by s b d row
 
-    go : (has_status now (command_id n) CHECK_CONDITION ≡ true) ⊎ (has_status b.history (command_id n) CHECK_CONDITION ≡ true)
-        → (has_status b.history (command_id n) CHECK_CONDITION ≡ true → IsChecked n b.sent) → IsChecked n (run_state s (row ∷ p)).story.sent
+    go : (has_status now (command_id n) CHECK_CONDITION ≡ true)
+        ⊎ (has_status b.history (command_id n) CHECK_CONDITION ≡ true)
+        → (has_status b.history (command_id n) CHECK_CONDITION ≡ true → IsChecked n b.sent)
+        → IsChecked n (run_state s (row ∷ p)).story.sent
     go (inl z) rest = shown_stands s c n now z
-    go (inr z) rest = (events_grow s c now).checks n (ap (λ (x : List ℕ). list_any (λ k. k == n) x) (changed s b d row).checks ∙ rest z)
+    go (inr z) rest = (events_grow s c now).checks n
+        (ap (λ (x : List ℕ). list_any (λ k. k == n) x) (changed s b d row).checks ∙ rest z)

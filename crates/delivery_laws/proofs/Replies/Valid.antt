@@ -1,4 +1,5 @@
--- In a history without resets and aborts no attention stands, so a valid command that runs is answered GOOD (7.2, 7.3, 8.2).
+-- In a history without resets and aborts no attention stands, so a valid command that runs is answered GOOD (7.2, 7.3,
+-- 8.2).
 use Rattle.delivery_laws.proofs
 use proofs.Names.{ℕ, ◌≡◌, ◌⊎◌, inl, inr, Bool, true, false, not, ◌&&◌, ◌||◌, ◌∙◌, List, [], ◌∷◌, ◌++◌, Option, Some}
 use proofs.Names.{None, Result, Ok, Err, length, refl, sym, ap, subst, eqb-true, or_left, or_right, and_right}
@@ -18,9 +19,11 @@ use Rattle.bus_due.specs.disk_array.specs.Steps
 
 -- ---- what a command without fault answers, where no attention stands and its range is good
 
-run_good : (m : CommandContext) (cdb sent : List ℕ) (c : Command) → (not m.present && needs_unit cdb) ≡ false → m.attention ≡ None → command_of cdb ≡ Ok c → is_good_range m.contents.count (range_of c) ≡ true → (execution m cdb sent).reply.status ≡ GOOD
-run_good m cdb sent c there calm is range =
-    (λ i. (carried_executed m cdb sent c (record { there = there; calm = λ sense a. none_some sense (sym calm ∙ a) }) is range i).reply.status)
+run_good : (m : CommandContext) (cdb sent : List ℕ) (c : Command) → (not m.present && needs_unit cdb) ≡ false
+    → m.attention ≡ None → command_of cdb ≡ Ok c → is_good_range m.contents.count (range_of c) ≡ true
+    → (execution m cdb sent).reply.status ≡ GOOD
+run_good m cdb sent c there calm is range = (λ i. (carried_executed m cdb sent c
+    (record { there = there; calm = λ sense a. none_some sense (sym calm ∙ a) }) is range i).reply.status)
     ∙ command_good m c sent
 
 -- ---- INQUIRY and REQUEST SENSE without fault name no blocks, and need no unit
@@ -33,24 +36,29 @@ is_sense_or_faulty _ = false
 sized_sense : (cdb : List ℕ) → is_sense_or_faulty (sized_of (Some Operation.RequestSense) cdb) ≡ true
 sized_sense cdb = go (has_group_len cdb) (are_zero (spare_room cdb))
   where
-    go : (y z : Bool) → is_sense_or_faulty (if y then (if z then Ok (Command.RequestSense (slice_index cdb 4)) else Err CdbFault.Field) else Err CdbFault.Length) ≡ true
+    go : (y z : Bool) → is_sense_or_faulty
+        (if y then (if z then Ok (Command.RequestSense (slice_index cdb 4)) else Err CdbFault.Field)
+        else Err CdbFault.Length) ≡ true
     go true true = refl
     go _ _ = refl
 
 sense_command : (cdb : List ℕ) → is_opcode cdb REQUEST_SENSE ≡ true → is_sense_or_faulty (command_of cdb) ≡ true
 sense_command cdb h = go (length cdb == 0) h
   where
-    go : (y : Bool) → (not y && slice_index cdb 0 == REQUEST_SENSE) ≡ true → is_sense_or_faulty (if y then Err CdbFault.Length else sized_of (operation_of (slice_index cdb 0)) cdb) ≡ true
+    go : (y : Bool) → (not y && slice_index cdb 0 == REQUEST_SENSE) ≡ true
+        → is_sense_or_faulty (if y then Err CdbFault.Length else sized_of (operation_of (slice_index cdb 0)) cdb) ≡ true
     go true k = refl
     go false k =
         let code : slice_index cdb 0 ≡ REQUEST_SENSE = eqb-true (slice_index cdb 0) REQUEST_SENSE k in
         (λ i. is_sense_or_faulty (sized_of (operation_of (code i)) cdb)) ∙ sized_sense cdb
 
-inquiry_range : (blocks : ℕ) (c : Command) → is_inquiry_or_faulty (Ok c) ≡ true → is_good_range blocks (range_of c) ≡ true
+inquiry_range : (blocks : ℕ) (c : Command) → is_inquiry_or_faulty (Ok c) ≡ true
+    → is_good_range blocks (range_of c) ≡ true
 inquiry_range blocks (Command.Inquiry room) e = refl
 inquiry_range blocks _ e = wrong' e
 
-sense_range : (blocks : ℕ) (c : Command) → is_sense_or_faulty (Ok c) ≡ true → (is_good_range blocks (range_of c) ≡ true) × (is_request_sense (Ok c) ≡ true)
+sense_range : (blocks : ℕ) (c : Command) → is_sense_or_faulty (Ok c) ≡ true
+    → (is_good_range blocks (range_of c) ≡ true) × (is_request_sense (Ok c) ≡ true)
 sense_range blocks (Command.RequestSense room) e = (refl, refl)
 sense_range blocks _ e = wrong' e
 
@@ -68,13 +76,20 @@ count_at : Option UnitState → ℕ
 count_at None = 0
 count_at (Some u) = u.contents.count
 
-fit_unit : (s : ScenarioValue) (c : CmdDef) (d : Option UnitDef) (u : Option UnitState) (k : Command) → IsOfLine d u → command_of c.cdb ≡ Ok k → fits_unit d k ≡ true → (is_some u ≡ true) × ((v : UnitState) → u ≡ Some v → is_good_range v.contents.count (range_of k) ≡ true)
+fit_unit : (s : ScenarioValue) (c : CmdDef) (d : Option UnitDef) (u : Option UnitState) (k : Command)
+    → IsOfLine d u → command_of c.cdb ≡ Ok k → fits_unit d k ≡ true
+    → (is_some u ≡ true) × ((v : UnitState) → u ≡ Some v → is_good_range v.contents.count (range_of k) ≡ true)
 fit_unit s c None u k line is e = wrong' e
 fit_unit s c (Some d) None k line is e = absurd line
-fit_unit s c (Some d) (Some u) k line is e = (refl, λ v z. subst (λ (w : UnitState). is_good_range w.contents.count (range_of k) ≡ true) (same_Some u v z) (ap (λ (n : ℕ). is_good_range n (range_of k)) line.0 ∙ e))
+fit_unit s c (Some d) (Some u) k line is e = (
+  refl,
+  λ v z. subst (λ (w : UnitState). is_good_range w.contents.count (range_of k) ≡ true) (same_Some u v z)
+      (ap (λ (n : ℕ). is_good_range n (range_of k)) line.0 ∙ e),
+)
 
 -- The context of a process at its unit, where no attention stands.
-pub calm_context : (a : Array) (q : Nexus) (u : Option UnitState) → a.attentions ≡ [] → (Steps.context_at a q u).attention ≡ None
+pub calm_context : (a : Array) (q : Nexus) (u : Option UnitState) → a.attentions ≡ []
+    → (Steps.context_at a q u).attention ≡ None
 calm_context a q None e = λ i. sense_of_nexus (e i) q
 calm_context a q (Some u) e = λ i. sense_of_nexus (e i) q
 
@@ -82,16 +97,26 @@ present_is : (a : Array) (q : Nexus) (u : Option UnitState) → (Steps.context_a
 present_is a q None = refl
 present_is a q (Some u) = refl
 
-answers_by_unit : (a : Array) (q : Nexus) (u : Option UnitState) (cdb sent : List ℕ) (k : Command) → a.attentions ≡ [] → command_of cdb ≡ Ok k → is_some u ≡ true → ((v : UnitState) → u ≡ Some v → is_good_range v.contents.count (range_of k) ≡ true) → (execution (Steps.context_at a q u) cdb sent).reply.status ≡ GOOD
+answers_by_unit : (a : Array) (q : Nexus) (u : Option UnitState) (cdb sent : List ℕ) (k : Command)
+    → a.attentions ≡ [] → command_of cdb ≡ Ok k → is_some u ≡ true
+    → ((v : UnitState) → u ≡ Some v → is_good_range v.contents.count (range_of k) ≡ true)
+    → (execution (Steps.context_at a q u) cdb sent).reply.status ≡ GOOD
 answers_by_unit a q None cdb sent k calm is some range = wrong' some
-answers_by_unit a q (Some u) cdb sent k calm is some range = run_good (Steps.context_at a q (Some u)) cdb sent k refl (calm_context a q (Some u) calm) is (range u refl)
+answers_by_unit a q (Some u) cdb sent k calm is some range =
+    run_good (Steps.context_at a q (Some u)) cdb sent k refl (calm_context a q (Some u) calm) is (range u refl)
 
-answers_anywhere : (a : Array) (q : Nexus) (u : Option UnitState) (cdb sent : List ℕ) (k : Command) → a.attentions ≡ [] → command_of cdb ≡ Ok k → needs_unit cdb ≡ false → ((n : ℕ) → is_good_range n (range_of k) ≡ true) → (execution (Steps.context_at a q u) cdb sent).reply.status ≡ GOOD
-answers_anywhere a q u cdb sent k calm is apart range =
-    run_good (Steps.context_at a q u) cdb sent k (and_right (not (Steps.context_at a q u).present) (needs_unit cdb) apart) (calm_context a q u calm) is (range (Steps.context_at a q u).contents.count)
+answers_anywhere : (a : Array) (q : Nexus) (u : Option UnitState) (cdb sent : List ℕ) (k : Command) → a.attentions ≡ []
+    → command_of cdb ≡ Ok k → needs_unit cdb ≡ false → ((n : ℕ) → is_good_range n (range_of k) ≡ true)
+    → (execution (Steps.context_at a q u) cdb sent).reply.status ≡ GOOD
+answers_anywhere a q u cdb sent k calm is apart range = run_good (Steps.context_at a q u) cdb sent k
+    (and_right (not (Steps.context_at a q u).present) (needs_unit cdb) apart) (calm_context a q u calm) is
+    (range (Steps.context_at a q u).contents.count)
 
-valid_answers : (s : ScenarioValue) (a : Array) (q : Nexus) (c : CmdDef) (sent : List ℕ) → AreOfLines s a → a.attentions ≡ [] → is_valid s c ≡ true → (execution (Steps.context_at a q (unit_state_at a.units c.target c.unit)) c.cdb sent).reply.status ≡ GOOD
-valid_answers s a q c sent lines calm valid = go (command_of c.cdb) refl (and_second (has_target s c.target) (is_sound_command s c (command_of c.cdb)) valid)
+valid_answers : (s : ScenarioValue) (a : Array) (q : Nexus) (c : CmdDef) (sent : List ℕ)
+    → AreOfLines s a → a.attentions ≡ [] → is_valid s c ≡ true
+    → (execution (Steps.context_at a q (unit_state_at a.units c.target c.unit)) c.cdb sent).reply.status ≡ GOOD
+valid_answers s a q c sent lines calm valid =
+    go (command_of c.cdb) refl (and_second (has_target s c.target) (is_sound_command s c (command_of c.cdb)) valid)
   where
     u : Option UnitState
     u = unit_state_at a.units c.target c.unit
@@ -107,15 +132,18 @@ valid_answers s a q c sent lines calm valid = go (command_of c.cdb) refl (and_se
     by_sense : (k : Command) → command_of c.cdb ≡ Ok k → is_opcode c.cdb REQUEST_SENSE ≡ true → Good
     by_sense k is e =
         let known : is_sense_or_faulty (Ok k) ≡ true = (λ i. is_sense_or_faulty (sym is i)) ∙ sense_command c.cdb e in
-        let senses : is_request_sense (command_of c.cdb) ≡ true = (λ i. is_request_sense (is i)) ∙ (sense_range 0 k known).1 in
-        answers_anywhere a q u c.cdb sent k calm is (and_right (not (is_opcode c.cdb INQUIRY)) (not (is_request_sense (command_of c.cdb))) (ap not senses)) (λ n. (sense_range n k known).0)
+        let senses : is_request_sense (command_of c.cdb) ≡ true = (λ i. is_request_sense (is i))
+        ∙ (sense_range 0 k known).1 in
+        answers_anywhere a q u c.cdb sent k calm is (and_right (not (is_opcode c.cdb INQUIRY))
+        (not (is_request_sense (command_of c.cdb))) (ap not senses)) (λ n. (sense_range n k known).0)
 
     by_unit : (k : Command) → command_of c.cdb ≡ Ok k → fits_unit (unit_of s c.target c.unit) k ≡ true → Good
     by_unit k is e =
         let w = fit_unit s c (unit_of s c.target c.unit) u k (lines c.target c.unit) is e in
         answers_by_unit a q u c.cdb sent k calm is w.0 w.1
 
-    either : (k : Command) → command_of c.cdb ≡ Ok k → (x y : Bool) → is_opcode c.cdb INQUIRY ≡ x → is_opcode c.cdb REQUEST_SENSE ≡ y → (x || y || fits_unit (unit_of s c.target c.unit) k) ≡ true → Good
+    either : (k : Command) → command_of c.cdb ≡ Ok k → (x y : Bool) → is_opcode c.cdb INQUIRY ≡ x
+        → is_opcode c.cdb REQUEST_SENSE ≡ y → (x || y || fits_unit (unit_of s c.target c.unit) k) ≡ true → Good
     either k is true y ex ey e = by_inquiry k is ex
     either k is false true ex ey e = by_sense k is ey
     either k is false false ex ey e = by_unit k is e
@@ -128,24 +156,36 @@ valid_answers s a q c sent lines calm valid = go (command_of c.cdb) refl (and_se
 
 -- A valid command is answered GOOD, unless it was given up.
 abbrev pub AreFair : ScenarioValue → List Event → List (ProcId × Reply) → Type 0
-AreFair s h replies = (n : ℕ) (c : CmdDef) (r : Reply) → command_at s.commands n ≡ Some c → is_valid s c ≡ true → reply_in replies (command_id n) ≡ Some r → (r.status ≡ GOOD) ⊎ (list_any (λ (e : Event). is_given_up_by (command_id n) e) h ≡ true)
+AreFair s h replies = (n : ℕ) (c : CmdDef) (r : Reply) → command_at s.commands n ≡ Some c
+    → is_valid s c ≡ true → reply_in replies (command_id n) ≡ Some r
+    → (r.status ≡ GOOD) ⊎ (list_any (λ (e : Event). is_given_up_by (command_id n) e) h ≡ true)
 
-later : (h : List Event) (e : Event) (id : ProcId) (x : Type 0) → x ⊎ (list_any (λ (y : Event). is_given_up_by id y) h ≡ true) → x ⊎ (list_any (λ (y : Event). is_given_up_by id y) (e ∷ h) ≡ true)
+later : (h : List Event) (e : Event) (id : ProcId) (x : Type 0)
+    → x ⊎ (list_any (λ (y : Event). is_given_up_by id y) h ≡ true)
+    → x ⊎ (list_any (λ (y : Event). is_given_up_by id y) (e ∷ h) ≡ true)
 later h e id x (inl z) = inl z
 later h e id x (inr z) = inr (or_right (is_given_up_by id e) (list_any (λ (y : Event). is_given_up_by id y) h) z)
 
-no_more : (s : ScenarioValue) (h : List Event) (e : Event) (replies after : List (ProcId × Reply)) → after ≡ replies → AreFair s h replies → AreFair s (e ∷ h) after
-no_more s h e replies after is g = subst (λ (x : List (ProcId × Reply)). AreFair s (e ∷ h) x) (sym is) (λ n c r at valid z. later h e (command_id n) (r.status ≡ GOOD) (g n c r at valid z))
+no_more : (s : ScenarioValue) (h : List Event) (e : Event) (replies after : List (ProcId × Reply)) → after ≡ replies
+    → AreFair s h replies → AreFair s (e ∷ h) after
+no_more s h e replies after is g = subst (λ (x : List (ProcId × Reply)). AreFair s (e ∷ h) x) (sym is)
+    (λ n c r at valid z. later h e (command_id n) (r.status ≡ GOOD) (g n c r at valid z))
 
-one_more : (s : ScenarioValue) (h : List Event) (e : Event) (replies after : List (ProcId × Reply)) (id : ProcId) (reply : Reply) → after ≡ (id, reply) ∷ replies
-    → ((n : ℕ) (c : CmdDef) → command_at s.commands n ≡ Some c → is_valid s c ≡ true → id ≡ command_id n → (reply.status ≡ GOOD) ⊎ (is_given_up_by (command_id n) e ≡ true)) → AreFair s h replies → AreFair s (e ∷ h) after
-one_more s h e replies after id reply is own g = subst (λ (x : List (ProcId × Reply)). AreFair s (e ∷ h) x) (sym is) (λ n c r at valid z. go n c r at valid (same_id id (command_id n)) refl z)
+one_more : (s : ScenarioValue) (h : List Event) (e : Event) (replies after : List (ProcId × Reply))
+    (id : ProcId) (reply : Reply) → after ≡ (id, reply) ∷ replies
+    → ((n : ℕ) (c : CmdDef) → command_at s.commands n ≡ Some c → is_valid s c ≡ true → id ≡ command_id n
+    → (reply.status ≡ GOOD) ⊎ (is_given_up_by (command_id n) e ≡ true)) → AreFair s h replies → AreFair s (e ∷ h) after
+one_more s h e replies after id reply is own g = subst (λ (x : List (ProcId × Reply)). AreFair s (e ∷ h) x) (sym is)
+    (λ n c r at valid z. go n c r at valid (same_id id (command_id n)) refl z)
   where
-    now : (n : ℕ) (r : Reply) → reply ≡ r → (reply.status ≡ GOOD) ⊎ (is_given_up_by (command_id n) e ≡ true) → (r.status ≡ GOOD) ⊎ (list_any (λ (y : Event). is_given_up_by (command_id n) y) (e ∷ h) ≡ true)
+    now : (n : ℕ) (r : Reply) → reply ≡ r → (reply.status ≡ GOOD) ⊎ (is_given_up_by (command_id n) e ≡ true)
+        → (r.status ≡ GOOD) ⊎ (list_any (λ (y : Event). is_given_up_by (command_id n) y) (e ∷ h) ≡ true)
     now n r same (inl z) = inl (ap (λ (x : Reply). x.status) (sym same) ∙ z)
-    now n r same (inr z) = inr (or_left (is_given_up_by (command_id n) e) (list_any (λ (y : Event). is_given_up_by (command_id n) y) h) z)
+    now n r same (inr z) =
+        inr (or_left (is_given_up_by (command_id n) e) (list_any (λ (y : Event). is_given_up_by (command_id n) y) h) z)
 
-    go : (n : ℕ) (c : CmdDef) (r : Reply) → command_at s.commands n ≡ Some c → is_valid s c ≡ true → (q : Bool) → same_id id (command_id n) ≡ q → (if q then Some reply else reply_in replies (command_id n)) ≡ Some r
+    go : (n : ℕ) (c : CmdDef) (r : Reply) → command_at s.commands n ≡ Some c → is_valid s c ≡ true → (q : Bool)
+        → same_id id (command_id n) ≡ q → (if q then Some reply else reply_in replies (command_id n)) ≡ Some r
         → (r.status ≡ GOOD) ⊎ (list_any (λ (y : Event). is_given_up_by (command_id n) y) (e ∷ h) ≡ true)
     go n c r at valid true f z = now n r (same_Some reply r z) (own n c at valid (id_is id (command_id n) f))
     go n c r at valid false f z = later h e (command_id n) (r.status ≡ GOOD) (g n c r at valid z)
@@ -157,47 +197,60 @@ record IsAlong (s : ScenarioValue) (a : Array) : Type 0 where
   lines : AreOfLines s a
   calm : a.attentions ≡ []
 
-ran : (s : ScenarioValue) (h : List Event) (a c : Array) (id : ProcId) (guest : Bool) (o : Option RunningProcess) → IsAlong s a → Steps.running_process a id ≡ o → Steps.run_step a guest o ≡ Some c → AreFair s h a.replies → AreFair s (Event.Run id ∷ h) c.replies
+ran : (s : ScenarioValue) (h : List Event) (a c : Array) (id : ProcId) (guest : Bool) (o : Option RunningProcess)
+    → IsAlong s a → Steps.running_process a id ≡ o → Steps.run_step a guest o ≡ Some c → AreFair s h a.replies
+    → AreFair s (Event.Run id ∷ h) c.replies
 ran s h a c id guest None is f e g = none_some c e
-ran s h a c id guest (Some r) is f e g = go (is_none r.reply && (guest || not (is_held a.holds r.process.target r.process.unit))) e
+ran s h a c id guest (Some r) is f e g =
+    go (is_none r.reply && (guest || not (is_held a.holds r.process.target r.process.unit))) e
   where
     u : Option UnitState
     u = unit_state_at a.units r.process.target r.process.unit
 
-    good : (n : ℕ) (d : CmdDef) → command_at s.commands n ≡ Some d → is_valid s d ≡ true → r.process.id ≡ command_id n → (reply_at a r.process u).status ≡ GOOD
+    good : (n : ℕ) (d : CmdDef) → command_at s.commands n ≡ Some d → is_valid s d ≡ true → r.process.id ≡ command_id n
+        → (reply_at a r.process u).status ≡ GOOD
     good n d at valid own =
-        let is_process : process_of s (command_id n) ≡ Some r.process = ap (process_of s) (sym own ∙ running_id a id r f) ∙ running_own s a id r is.sound f in
-        let by : process_by s (command_id n) d ≡ r.process = same_Some (process_by s (command_id n) d) r.process (sym (ap (process_if s (command_id n)) at) ∙ is_process) in
+        let is_process : process_of s (command_id n) ≡ Some r.process =
+        ap (process_of s) (sym own ∙ running_id a id r f) ∙ running_own s a id r is.sound f in
+        let by : process_by s (command_id n) d ≡ r.process = same_Some
+        (process_by s (command_id n) d) r.process (sym (ap (process_if s (command_id n)) at) ∙ is_process) in
         let target : d.target ≡ r.process.target = ap (λ (x : Process). x.target) by in
         let unit : d.unit ≡ r.process.unit = ap (λ (x : Process). x.unit) by in
         let cdb : d.cdb ≡ r.process.cdb = ap (λ (x : Process). x.cdb) by in
-        (λ i. (execution (Steps.context_at a (nexus_of r.process) (unit_state_at a.units (sym target i) (sym unit i))) (sym cdb i) r.process.sent).reply.status)
+        (λ i. (execution (Steps.context_at a (nexus_of r.process) (unit_state_at a.units (sym target i) (sym unit i)))
+        (sym cdb i) r.process.sent).reply.status)
         ∙ valid_answers s a (nexus_of r.process) d r.process.sent is.lines is.calm valid
 
-    go : (x : Bool) → (if x then Some (Steps.after_execution_at a r.process u) else None) ≡ Some c → AreFair s (Event.Run id ∷ h) c.replies
-    go true z =
-        one_more s h (Event.Run id) a.replies c.replies r.process.id (reply_at a r.process u) (took (Steps.after_execution_at a r.process u) c _ z (executed a r.process u).replies)
+    go : (x : Bool) → (if x then Some (Steps.after_execution_at a r.process u) else None) ≡ Some c
+        → AreFair s (Event.Run id ∷ h) c.replies
+    go true z = one_more s h (Event.Run id) a.replies c.replies r.process.id (reply_at a r.process u)
+        (took (Steps.after_execution_at a r.process u) c _ z (executed a r.process u).replies)
         (λ n d at valid own. inl (good n d at valid own)) g
     go false z = none_some c z
 
-step_fair : (s : ScenarioValue) (h : List Event) (a d : Array) (e : Event) → IsAlong s a → is_calm_event e ≡ true → Steps.step s e a ≡ Some d → AreFair s h a.replies → AreFair s (e ∷ h) d.replies
-step_fair s h a d (Event.Accept id) is calm e g =
-    settles (Steps.accept_step a (process_of s id)) d (λ (x : Array). AreFair s (Event.Accept id ∷ h) x.replies) (λ c k. no_more s h (Event.Accept id) a.replies c.replies (accepted a c (process_of s id) k) g) e
-step_fair s h a d (Event.Refuse id) is calm e g =
-    settles (Steps.refuse_step a (process_of s id)) d (λ (x : Array). AreFair s (Event.Refuse id ∷ h) x.replies)
-    (λ c k. one_more s h (Event.Refuse id) a.replies c.replies id queue_full (refused s a c id (process_of s id) refl k) (λ n x at valid own. inr (ap (λ (y : ProcId). same_id y (command_id n)) own ∙ self_id (command_id n))) g) e
-step_fair s h a d (Event.Run id) is calm e g =
-    settles (Steps.run_step a (is_some (guest_at a.guests id)) (Steps.running_process a id)) d (λ (x : Array). AreFair s (Event.Run id ∷ h) x.replies)
+step_fair : (s : ScenarioValue) (h : List Event) (a d : Array) (e : Event) → IsAlong s a → is_calm_event e ≡ true
+    → Steps.step s e a ≡ Some d → AreFair s h a.replies → AreFair s (e ∷ h) d.replies
+step_fair s h a d (Event.Accept id) is calm e g = settles (Steps.accept_step a (process_of s id)) d
+    (λ (x : Array). AreFair s (Event.Accept id ∷ h) x.replies)
+    (λ c k. no_more s h (Event.Accept id) a.replies c.replies (accepted a c (process_of s id) k) g) e
+step_fair s h a d (Event.Refuse id) is calm e g = settles (Steps.refuse_step a (process_of s id)) d
+    (λ (x : Array). AreFair s (Event.Refuse id ∷ h) x.replies)
+    (λ c k. one_more s h (Event.Refuse id) a.replies c.replies id queue_full (refused s a c id (process_of s id) refl k)
+    (λ n x at valid own. inr (ap (λ (y : ProcId). same_id y (command_id n)) own ∙ self_id (command_id n))) g) e
+step_fair s h a d (Event.Run id) is calm e g = settles (Steps.run_step a (is_some (guest_at a.guests id))
+    (Steps.running_process a id)) d (λ (x : Array). AreFair s (Event.Run id ∷ h) x.replies)
     (λ c k. ran s h a c id (is_some (guest_at a.guests id)) (Steps.running_process a id) is refl k g) e
-step_fair s h a d (Event.Fail id code) is calm e g =
-    settles (Steps.fail_step s a id (check_condition (sense_of ABORTED_COMMAND code 0x00)) (Steps.running_process a id)) d (λ (x : Array). AreFair s (Event.Fail id code ∷ h) x.replies)
-    (λ c k. one_more s h (Event.Fail id code) a.replies c.replies id (check_condition (sense_of ABORTED_COMMAND code 0x00))
-    (fail_lists s a c id (check_condition (sense_of ABORTED_COMMAND code 0x00)) (Steps.running_process a id) k) (λ n x at valid own. inr (ap (λ (y : ProcId). same_id y (command_id n)) own ∙ self_id (command_id n))) g) e
-step_fair s h a d (Event.End id status) is calm e g =
-    settles (Steps.end_step a status (Steps.running_process a id)) d (λ (x : Array). AreFair s (Event.End id status ∷ h) x.replies)
-    (λ c k. no_more s h (Event.End id status) a.replies c.replies (end_lists a c status (Steps.running_process a id) k) g) e
-step_fair s h a d (Event.Lost id) is calm e g =
-    settles (Steps.loss_step a id) d (λ (x : Array). AreFair s (Event.Lost id ∷ h) x.replies) (λ c k. no_more s h (Event.Lost id) a.replies c.replies (loss_lists a c id k) g) e
+step_fair s h a d (Event.Fail id code) is calm e g = settles
+    (Steps.fail_step s a id (check_condition (sense_of ABORTED_COMMAND code 0x00)) (Steps.running_process a id)) d
+    (λ (x : Array). AreFair s (Event.Fail id code ∷ h) x.replies) (λ c k. one_more s h
+    (Event.Fail id code) a.replies c.replies id (check_condition (sense_of ABORTED_COMMAND code 0x00))
+    (fail_lists s a c id (check_condition (sense_of ABORTED_COMMAND code 0x00)) (Steps.running_process a id) k)
+    (λ n x at valid own. inr (ap (λ (y : ProcId). same_id y (command_id n)) own ∙ self_id (command_id n))) g) e
+step_fair s h a d (Event.End id status) is calm e g = settles (Steps.end_step a status (Steps.running_process a id)) d
+    (λ (x : Array). AreFair s (Event.End id status ∷ h) x.replies) (λ c k. no_more s h
+    (Event.End id status) a.replies c.replies (end_lists a c status (Steps.running_process a id) k) g) e
+step_fair s h a d (Event.Lost id) is calm e g = settles (Steps.loss_step a id) d (λ (x : Array). AreFair s
+    (Event.Lost id ∷ h) x.replies) (λ c k. no_more s h (Event.Lost id) a.replies c.replies (loss_lists a c id k) g) e
 step_fair s h a d (Event.Aborted i t n what) is calm e g = wrong' calm
 step_fair s h a d (Event.Reset dev) is calm e g = wrong' calm
 
@@ -222,9 +275,11 @@ calm_accepted : (a : Array) (o : Option Process) → IsCalm a → IfCalm (Steps.
 calm_accepted a None h = tt
 calm_accepted a (Some p) h = at (unit_state_at a.units p.target p.unit)
   where
-    either : (u : UnitState) (q : Bool) → IfCalm (if q then Some (Steps.with_guest a p None) else Steps.queue_step a p u)
+    either : (u : UnitState) (q : Bool)
+        → IfCalm (if q then Some (Steps.with_guest a p None) else Steps.queue_step a p u)
     either u true = h
-    either u false = calm_if (nat_lt (Steps.process_count u) u.depth) (record a { units = with_unit a.units (record u { waiting = u.waiting ++ p ∷ [] }) }) h
+    either u false = calm_if (nat_lt (Steps.process_count u) u.depth)
+        (record a { units = with_unit a.units (record u { waiting = u.waiting ++ p ∷ [] }) }) h
 
     at : (u : Option UnitState) → IfCalm (Steps.accept_step_at a p u)
     at None = h
@@ -236,12 +291,14 @@ calm_refused a (Some p) h = at (unit_state_at a.units p.target p.unit)
   where
     at : (u : Option UnitState) → IfCalm (Steps.refuse_step_at a p u)
     at None = tt
-    at (Some u) = calm_if (not (is_request_sense (command_of p.cdb)) && Steps.process_count u == u.depth) (Steps.with_listed_reply (Steps.with_guest a p (Some queue_full)) p.id queue_full) h
+    at (Some u) = calm_if (not (is_request_sense (command_of p.cdb)) && Steps.process_count u == u.depth)
+        (Steps.with_listed_reply (Steps.with_guest a p (Some queue_full)) p.id queue_full) h
 
 calm_executed : (a : Array) (p : Process) (u : Option UnitState) → IsCalm a → IsCalm (Steps.after_execution_at a p u)
 calm_executed a p u h = go (execution (Steps.context_at a (nexus_of p) u) p.cdb p.sent).reported u
   where
-    go : (q : Bool) (v : Option UnitState) → (Steps.with_contents (Steps.without_attention a q (nexus_of p)) v (execution (Steps.context_at a (nexus_of p) u) p.cdb p.sent).contents).attentions ≡ []
+    go : (q : Bool) (v : Option UnitState) → (Steps.with_contents (Steps.without_attention a q (nexus_of p)) v
+        (execution (Steps.context_at a (nexus_of p) u) p.cdb p.sent).contents).attentions ≡ []
     go true None = λ i. senses_without (h i) (nexus_of p)
     go true (Some v) = λ i. senses_without (h i) (nexus_of p)
     go false None = h
@@ -249,47 +306,56 @@ calm_executed a p u h = go (execution (Steps.context_at a (nexus_of p) u) p.cdb 
 
 calm_ran : (a : Array) (guest : Bool) (o : Option RunningProcess) → IsCalm a → IfCalm (Steps.run_step a guest o)
 calm_ran a guest None h = tt
-calm_ran a guest (Some r) h =
-    calm_if (is_none r.reply && (guest || not (is_held a.holds r.process.target r.process.unit))) (Steps.after_execution_at a r.process (unit_state_at a.units r.process.target r.process.unit))
+calm_ran a guest (Some r) h = calm_if
+    (is_none r.reply && (guest || not (is_held a.holds r.process.target r.process.unit)))
+    (Steps.after_execution_at a r.process (unit_state_at a.units r.process.target r.process.unit))
     (calm_executed a r.process (unit_state_at a.units r.process.target r.process.unit) h)
 
-calm_failed : (s : ScenarioValue) (a : Array) (id : ProcId) (reply : Reply) (o : Option RunningProcess) → IsCalm a → IfCalm (Steps.fail_step s a id reply o)
+calm_failed : (s : ScenarioValue) (a : Array) (id : ProcId) (reply : Reply) (o : Option RunningProcess) → IsCalm a
+    → IfCalm (Steps.fail_step s a id reply o)
 calm_failed s a id reply (Some r) h = calm_if (is_none r.reply) (Steps.with_reply a id reply) h
 calm_failed s a id reply None h = go (process_of s id)
   where
     go : (o : Option Process) → IfCalm (Steps.fail_step_of_new a id reply o)
     go None = tt
-    go (Some p) = calm_none (Steps.is_waiting a.units id || Steps.has_ended a id) (Steps.with_listed_reply (Steps.with_guest a p (Some reply)) id reply) h
+    go (Some p) = calm_none (Steps.is_waiting a.units id || Steps.has_ended a id)
+        (Steps.with_listed_reply (Steps.with_guest a p (Some reply)) id reply) h
 
 calm_ended : (a : Array) (status : ℕ) (o : Option RunningProcess) → IsCalm a → IfCalm (Steps.end_step a status o)
 calm_ended a status None h = tt
 calm_ended a status (Some r) h = by r.reply
   where
-    stays : (reply : Reply) (x y : Bool)
-        → (if x then record a { senses = (nexus_of r.process, reply.sense) ∷ senses_without a.senses (nexus_of r.process); holds = nexus_of r.process ∷ nexuses_without a.holds (nexus_of r.process) }
-        else if y then record a { senses = senses_without a.senses (nexus_of r.process); holds = nexuses_without a.holds (nexus_of r.process) }
-        else a).attentions ≡ []
+    stays : (reply : Reply) (x y : Bool) → (if x then record a {
+      senses = (nexus_of r.process, reply.sense) ∷ senses_without a.senses (nexus_of r.process);
+      holds = nexus_of r.process ∷ nexuses_without a.holds (nexus_of r.process);
+    } else if y then record a {
+      senses = senses_without a.senses (nexus_of r.process);
+      holds = nexuses_without a.holds (nexus_of r.process);
+    } else a).attentions ≡ []
     stays reply true y = h
     stays reply false true = h
     stays reply false false = h
 
     by : (o : Option Reply) → IfCalm (Steps.end_step_with a r.process status o)
     by None = tt
-    by (Some reply) =
-        calm_if (reply.status == status) (Steps.array_without (Steps.after_status a r.process reply) r.process.id)
-        (stays reply (reply.status == CHECK_CONDITION) (reply.status == GOOD && is_request_sense (command_of r.process.cdb)))
+    by (Some reply) = calm_if (reply.status == status)
+        (Steps.array_without (Steps.after_status a r.process reply) r.process.id) (stays reply
+        (reply.status == CHECK_CONDITION) (reply.status == GOOD && is_request_sense (command_of r.process.cdb)))
 
-calm_event : (s : ScenarioValue) (a : Array) (e : Event) → is_calm_event e ≡ true → IsCalm a → IfCalm (Steps.event_step s a e)
+calm_event : (s : ScenarioValue) (a : Array) (e : Event) → is_calm_event e ≡ true → IsCalm a
+    → IfCalm (Steps.event_step s a e)
 calm_event s a (Event.Accept id) q h = calm_accepted a (process_of s id) h
 calm_event s a (Event.Refuse id) q h = calm_refused a (process_of s id) h
 calm_event s a (Event.Run id) q h = calm_ran a (is_some (guest_at a.guests id)) (Steps.running_process a id) h
-calm_event s a (Event.Fail id code) q h = calm_failed s a id (check_condition (sense_of ABORTED_COMMAND code 0x00)) (Steps.running_process a id) h
+calm_event s a (Event.Fail id code) q h =
+    calm_failed s a id (check_condition (sense_of ABORTED_COMMAND code 0x00)) (Steps.running_process a id) h
 calm_event s a (Event.End id status) q h = calm_ended a status (Steps.running_process a id) h
 calm_event s a (Event.Lost id) q h = calm_none (Steps.has_ended a id) (Steps.array_without a id) h
 calm_event s a (Event.Aborted i t n what) q h = wrong' q
 calm_event s a (Event.Reset dev) q h = wrong' q
 
-calm_step : (s : ScenarioValue) (a d : Array) (e : Event) → is_calm_event e ≡ true → Steps.step s e a ≡ Some d → IsCalm a → IsCalm d
+calm_step : (s : ScenarioValue) (a d : Array) (e : Event) → is_calm_event e ≡ true → Steps.step s e a ≡ Some d
+    → IsCalm a → IsCalm d
 calm_step s a d e q st h = go (Steps.event_step s a e) (calm_event s a e q h) st
   where
     go : (o : Option Array) → IfCalm o → Steps.settled_array_if o ≡ Some d → IsCalm d
@@ -302,25 +368,33 @@ pub record Fair (s : ScenarioValue) (h : List Event) (a : Array) : Type 0 where
   pub replies : AreFair s h a.replies
   pub calm : IsCalm a
 
-pub fair_after : (s : ScenarioValue) (h : List Event) (a : Array) → Obeys s → list_all (λ (e : Event). is_calm_event e) h ≡ true → array_after s h ≡ Some a → Fair s h a
-fair_after s [] a o calm e =
-    subst (λ (x : Array). Fair s [] x) (same_Some _ a e) (record { replies = λ n c r at valid z. absurd (no_reply r z); calm = refl })
+pub fair_after : (s : ScenarioValue) (h : List Event) (a : Array) → Obeys s
+    → list_all (λ (e : Event). is_calm_event e) h ≡ true → array_after s h ≡ Some a → Fair s h a
+fair_after s [] a o calm e = subst (λ (x : Array). Fair s [] x) (same_Some _ a e)
+    (record { replies = λ n c r at valid z. absurd (no_reply r z); calm = refl })
   where
     no_reply : (r : Reply) → (let x : Option Reply = None in x) ≡ Some r → ⊥
     no_reply r z = absurd cc
-fair_after s (x ∷ h) a o calm e = go (λ b z. fair_after s h b o (and_second (is_calm_event x) (list_all (λ (y : Event). is_calm_event y) h) calm) z) (array_after s h) refl e
+fair_after s (x ∷ h) a o calm e = go (λ b z. fair_after s h b o
+    (and_second (is_calm_event x) (list_all (λ (y : Event). is_calm_event y) h) calm) z) (array_after s h) refl e
   where
     now : is_calm_event x ≡ true
     now = and_first (is_calm_event x) (list_all (λ (y : Event). is_calm_event y) h) calm
 
-    go : ((b : Array) → array_after s h ≡ Some b → Fair s h b) → (b : Option Array) → array_after s h ≡ b → array_step s x b ≡ Some a → Fair s (x ∷ h) a
+    go : ((b : Array) → array_after s h ≡ Some b → Fair s h b) → (b : Option Array) → array_after s h ≡ b
+        → array_step s x b ≡ Some a → Fair s (x ∷ h) a
     go before None z st = none_some a st
     go before (Some b) z st =
         let was = before b z in
         record {
-          replies = step_fair s h b a x (record { sound = history_sound s h b (seats_are s (obeys_fits s o)) z; lines = lines_always s h b z; calm = was.calm }) now st was.replies;
+          replies = step_fair s h b a x (record {
+            sound = history_sound s h b (seats_are s (obeys_fits s o)) z;
+            lines = lines_always s h b z;
+            calm = was.calm;
+          }) now st was.replies;
           calm = calm_step s b a x now st was.calm;
         }
 
-pub valid_replies : (s : ScenarioValue) (h : List Event) (a : Array) → Obeys s → list_all (λ (e : Event). is_calm_event e) h ≡ true → array_after s h ≡ Some a → AreFair s h a.replies
+pub valid_replies : (s : ScenarioValue) (h : List Event) (a : Array) → Obeys s
+    → list_all (λ (e : Event). is_calm_event e) h ≡ true → array_after s h ≡ Some a → AreFair s h a.replies
 valid_replies s h a o calm e = (fair_after s h a o calm e).replies

@@ -31,7 +31,8 @@ any_more : {A : Type 0} (f : A → Bool) (xs ys : List A) → list_any f xs ≡ 
 any_more f [] ys e = wrong' e
 any_more f (x ∷ xs) ys e = elim (cases_Bool (f x)) [ inl g ↦ rw g | inr g ↦ rw g ((any_more f xs ys) (rw g at e)) ]
 
-all_to : {A : Type 0} (q w : A → Type 0) (xs : List A) → ((x : A) → q x → w x) → AllByRecursion q xs → AllByRecursion w xs
+all_to : {A : Type 0} (q w : A → Type 0) (xs : List A) → ((x : A) → q x → w x) → AllByRecursion q xs
+    → AllByRecursion w xs
 all_to q w [] f h = tt
 all_to q w (x ∷ xs) f h = (f x h.0, all_to q w xs f h.1)
 
@@ -40,24 +41,37 @@ unfolding added need_of sent_of
 there_added d z (scsi_line v) e w = subst (λ (y : Progress). AreThere y.scenario) (ok_is _ z e) w
 there_added d z (initiator_line f) e w =
     let b = bind_ok (host_def d.scenario f) _ z e in
-    subst (λ (y : Progress). AreThere y.scenario) (ok_is _ z b.2)
-    (all_to (λ (r : ResetDef). Has d.scenario r) (λ (r : ResetDef). Has (record d.scenario { hosts = d.scenario.hosts ++ b.0 ∷ [] }) r) d.scenario.resets
-    (λ r h. either_stays (has_host d.scenario r.dev) (has_target d.scenario r.dev) (has_host (record d.scenario { hosts = d.scenario.hosts ++ b.0 ∷ [] }) r.dev) (has_target d.scenario r.dev)
+    subst (λ (y : Progress). AreThere y.scenario) (ok_is _ z b.2) (all_to (λ (r : ResetDef). Has d.scenario r)
+    (λ (r : ResetDef). Has (record d.scenario { hosts = d.scenario.hosts ++ b.0 ∷ [] }) r) d.scenario.resets
+    (λ r h. either_stays (has_host d.scenario r.dev) (has_target d.scenario r.dev)
+    (has_host (record d.scenario { hosts = d.scenario.hosts ++ b.0 ∷ [] }) r.dev) (has_target d.scenario r.dev)
     (λ k. any_more (λ (y : HostDef). y.dev == r.dev) d.scenario.hosts (b.0 ∷ []) k) (λ k. k) h) w)
 there_added d z (target_line f) e w =
     let b = bind_ok (target_def d.scenario f) _ z e in
-    subst (λ (y : Progress). AreThere y.scenario) (ok_is _ z b.2)
-    (all_to (λ (r : ResetDef). Has d.scenario r) (λ (r : ResetDef). Has (record d.scenario { targets = d.scenario.targets ++ b.0 ∷ [] }) r) d.scenario.resets
-    (λ r h. either_stays (has_host d.scenario r.dev) (has_target d.scenario r.dev) (has_host d.scenario r.dev) (has_target (record d.scenario { targets = d.scenario.targets ++ b.0 ∷ [] }) r.dev)
-    (λ k. k) (λ k. any_more (λ (y : TargetDef). y.dev == r.dev) d.scenario.targets (b.0 ∷ []) k) h) w)
-there_added d z (unit_line f) e w = let b = bind_ok (unit_def d.scenario f) _ z e in subst (λ (y : Progress). AreThere y.scenario) (ok_is _ z b.2) w
-there_added d z (fill_line f) e w = let b = bind_ok (fill_def d.scenario f) _ z e in subst (λ (y : Progress). AreThere y.scenario) (ok_is _ z b.2) w
-there_added d z (cmd_line f) e w = let b = bind_ok (full_cmd_def d.scenario d.needs f) _ z e in subst (λ (y : Progress). AreThere y.scenario) (ok_is _ z b.2) w
-there_added d z (abort_line f) e w = let b = bind_ok (abort_def d.scenario f) _ z e in subst (λ (y : Progress). AreThere y.scenario) (ok_is _ z b.2) w
+    subst (λ (y : Progress). AreThere y.scenario) (ok_is _ z b.2) (all_to (λ (r : ResetDef). Has d.scenario r)
+    (λ (r : ResetDef). Has (record d.scenario { targets = d.scenario.targets ++ b.0 ∷ [] }) r) d.scenario.resets
+    (λ r h. either_stays (has_host d.scenario r.dev) (has_target d.scenario r.dev) (has_host d.scenario r.dev)
+    (has_target (record d.scenario { targets = d.scenario.targets ++ b.0 ∷ [] }) r.dev) (λ k. k)
+    (λ k. any_more (λ (y : TargetDef). y.dev == r.dev) d.scenario.targets (b.0 ∷ []) k) h) w)
+there_added d z (unit_line f) e w =
+    let b = bind_ok (unit_def d.scenario f) _ z e in
+    subst (λ (y : Progress). AreThere y.scenario) (ok_is _ z b.2) w
+there_added d z (fill_line f) e w =
+    let b = bind_ok (fill_def d.scenario f) _ z e in
+    subst (λ (y : Progress). AreThere y.scenario) (ok_is _ z b.2) w
+there_added d z (cmd_line f) e w =
+    let b = bind_ok (full_cmd_def d.scenario d.needs f) _ z e in
+    subst (λ (y : Progress). AreThere y.scenario) (ok_is _ z b.2) w
+there_added d z (abort_line f) e w =
+    let b = bind_ok (abort_def d.scenario f) _ z e in
+    subst (λ (y : Progress). AreThere y.scenario) (ok_is _ z b.2) w
 there_added d z (reset_line f) e w =
     let b = bind_ok (reset_def d.scenario f) _ z e in
-    subst (λ (y : Progress). AreThere y.scenario) (ok_is _ z b.2) (all_more (λ (r : ResetDef). Has d.scenario r) d.scenario.resets b.0 w (reset_there d.scenario (reset_line f) b.0 b.1))
-there_added d z (fault_line f) e w = let b = bind_ok (fault_def d.scenario f) _ z e in subst (λ (y : Progress). AreThere y.scenario) (ok_is _ z b.2) w
+    subst (λ (y : Progress). AreThere y.scenario) (ok_is _ z b.2) (all_more
+    (λ (r : ResetDef). Has d.scenario r) d.scenario.resets b.0 w (reset_there d.scenario (reset_line f) b.0 b.1))
+there_added d z (fault_line f) e w =
+    let b = bind_ok (fault_def d.scenario f) _ z e in
+    subst (λ (y : Progress). AreThere y.scenario) (ok_is _ z b.2) w
 there_added d z end_line e w = subst (λ (y : Progress). AreThere y.scenario) (ok_is d z e) w
 
 -- ---- all lines
@@ -72,7 +86,9 @@ there_after d z x e w =
 
 there_built : (d z : Progress) (xs : List Said) → built d xs ≡ Ok z → AreThere d.scenario → AreThere z.scenario
 there_built d z [] e w = subst (λ (y : Progress). AreThere y.scenario) (ok_is d z e) w
-there_built d z (x ∷ xs) e w = let b = bind_ok (said_after d x) _ z e in there_built b.0 z xs b.2 (there_after d b.0 x b.1 w)
+there_built d z (x ∷ xs) e w =
+    let b = bind_ok (said_after d x) _ z e in
+    there_built b.0 z xs b.2 (there_after d b.0 x b.1 w)
 
 pub resets_there : (s : ScenarioValue) → Obeys s → AreThere s
 resets_there s o =
@@ -98,11 +114,13 @@ device_there s dev e =
     targets : Option TargetDef
     targets = find (λ (t : TargetDef). t.dev == dev) s.targets
 
-    by_host : (x : Option TargetDef) (y : Option HostDef) → is_some y ≡ true → is_some (target_latency x (host_latency y)) ≡ true
+    by_host : (x : Option TargetDef) (y : Option HostDef) → is_some y ≡ true
+        → is_some (target_latency x (host_latency y)) ≡ true
     by_host None None z = wrong' z
     by_host None (Some h) z = refl
     by_host (Some t) y z = refl
 
-    by_target : (x : Option TargetDef) (y : Option HostDef) → is_some x ≡ true → is_some (target_latency x (host_latency y)) ≡ true
+    by_target : (x : Option TargetDef) (y : Option HostDef) → is_some x ≡ true
+        → is_some (target_latency x (host_latency y)) ≡ true
     by_target None y z = wrong' z
     by_target (Some t) y z = refl

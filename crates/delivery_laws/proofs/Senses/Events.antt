@@ -1,5 +1,5 @@
--- Event by event the sense that is owed of a command is that of its own reply: as long as it is owed, it is the one that is stored for its
--- initiator at its unit; so its automatic REQUEST SENSE brings it (7.6, 8.2.14).
+-- Event by event the sense that is owed of a command is that of its own reply: as long as it is owed, it is the one
+-- that is stored for its initiator at its unit; so its automatic REQUEST SENSE brings it (7.6, 8.2.14).
 use Rattle.delivery_laws.proofs
 use proofs.Names.{inl, inr, ℕ, ◌≡◌, ◌⊎◌, Bool, true, false, not, ◌&&◌, ◌||◌, ◌∙◌, List, [], ◌∷◌, ◌++◌, Option, Some}
 use proofs.Names.{None, refl, sym, ap, subst, eqb-true, cases_Bool, same_Some, list_any, if◌then◌else◌, ◌==◌, is_none}
@@ -32,16 +32,19 @@ pub record Brought (replies : List (ProcId × Reply)) (n : ℕ) (bytes : List �
   pub check : reply.status ≡ CHECK_CONDITION
   pub sense_is : sense_in bytes ≡ Some reply.sense
 
-pub record OwnSenses (s : ScenarioValue) (b : Sent) (senses : List (Nexus × Sense)) (replies : List (ProcId × Reply)) : Type 0 where
+pub record OwnSenses (s : ScenarioValue) (b : Sent) (senses : List (Nexus × Sense)) (replies : List (ProcId × Reply)) :
+    Type 0 where
   pub owned : (n : ℕ) (q : Nexus) → IsDebt s b n q → OwnReply senses replies n q
   pub brought : (n : ℕ) (r : Reply) → reply_in replies (sense_id n) ≡ Some r → Brought replies n r.bytes
 
--- A process is answered once; an automatic REQUEST SENSE runs as it is owed; and the one that ends has the reply that is listed.
+-- A process is answered once; an automatic REQUEST SENSE runs as it is owed; and the one that ends has the reply that
+-- is listed.
 abbrev pub Tells : Sent → Array → Event → Type 0
 Tells b a (Event.Run id) = (reply_in a.replies id ≡ None) × (id.sense ≡ true → is_owed b id.command ≡ true)
 Tells b a (Event.Refuse id) = reply_in a.replies id ≡ None
 Tells b a (Event.Fail id code) = reply_in a.replies id ≡ None
-Tells b a (Event.End id status) = (r : RunningProcess) (reply : Reply) → running_process a id ≡ Some r → r.reply ≡ Some reply → reply_in a.replies id ≡ Some reply
+Tells b a (Event.End id status) = (r : RunningProcess) (reply : Reply) → running_process a id ≡ Some r
+    → r.reply ≡ Some reply → reply_in a.replies id ≡ Some reply
 Tells b a _ = ⊤
 
 -- ---- the senses and the replies after a step
@@ -61,12 +64,16 @@ accepted f a (Some p) h = at (unit_state_at a.units p.target p.unit)
     at None = h
     at (Some u) = go (is_request_sense (command_of p.cdb)) (nat_lt (Steps.process_count u) u.depth)
       where
-        go : (q x : Bool) → IfBooks f (if q then Some (Steps.with_guest a p None) else if x then Some (record a { units = with_unit a.units (record u { waiting = u.waiting ++ p ∷ [] }) }) else None)
+        go : (q x : Bool) → IfBooks f (if q then Some (Steps.with_guest a p None)
+            else if x then Some (record a { units = with_unit a.units (record u { waiting = u.waiting ++ p ∷ [] }) })
+            else None)
         go true x = h
         go false true = h
         go false false = tt
 
-pub refused : (f : Book) (a : Array) (o : Option Process) → ((p : Process) → o ≡ Some p → is_request_sense (command_of p.cdb) ≡ false → f a.senses ((p.id, queue_full) ∷ a.replies)) → IfBooks f (Steps.refuse_step a o)
+pub refused : (f : Book) (a : Array) (o : Option Process) → ((p : Process) → o ≡ Some p
+    → is_request_sense (command_of p.cdb) ≡ false → f a.senses ((p.id, queue_full) ∷ a.replies))
+    → IfBooks f (Steps.refuse_step a o)
 refused f a None h = tt
 refused f a (Some p) h = at (unit_state_at a.units p.target p.unit)
   where
@@ -74,22 +81,31 @@ refused f a (Some p) h = at (unit_state_at a.units p.target p.unit)
     at None = tt
     at (Some u) = go (is_request_sense (command_of p.cdb)) refl (Steps.process_count u == u.depth)
       where
-        go : (q : Bool) → is_request_sense (command_of p.cdb) ≡ q → (x : Bool) → IfBooks f (if not q && x then Some (Steps.with_listed_reply (Steps.with_guest a p (Some queue_full)) p.id queue_full) else None)
+        go : (q : Bool) → is_request_sense (command_of p.cdb) ≡ q → (x : Bool) → IfBooks f
+            (if not q && x then Some (Steps.with_listed_reply (Steps.with_guest a p (Some queue_full)) p.id queue_full)
+            else None)
         go true e x = tt
         go false e true = h p refl e
         go false e false = tt
 
-executed : (f : Book) (a : Array) (p : Process) (u : Option UnitState) → f a.senses ((p.id, reply_at a p u) ∷ a.replies) → f (Steps.after_execution_at a p u).senses (Steps.after_execution_at a p u).replies
-executed f a p u h = inner (execution (Steps.context_at a (nexus_of p) u) p.cdb p.sent) (execution (Steps.context_at a (nexus_of p) u) p.cdb p.sent).reported u h
+executed : (f : Book) (a : Array) (p : Process) (u : Option UnitState) → f a.senses ((p.id, reply_at a p u) ∷ a.replies)
+    → f (Steps.after_execution_at a p u).senses (Steps.after_execution_at a p u).replies
+executed f a p u h = inner (execution (Steps.context_at a (nexus_of p) u) p.cdb p.sent)
+    (execution (Steps.context_at a (nexus_of p) u) p.cdb p.sent).reported u h
   where
     inner : (done : Execution) (x : Bool) (v : Option UnitState) → f a.senses ((p.id, done.reply) ∷ a.replies)
-        → f (Steps.with_reply (Steps.with_contents (Steps.without_attention a x (nexus_of p)) v done.contents) p.id done.reply).senses (Steps.with_reply (Steps.with_contents (Steps.without_attention a x (nexus_of p)) v done.contents) p.id done.reply).replies
+        → f (Steps.with_reply (Steps.with_contents (Steps.without_attention a x (nexus_of p)) v done.contents)
+        p.id done.reply).senses (Steps.with_reply
+        (Steps.with_contents (Steps.without_attention a x (nexus_of p)) v done.contents) p.id done.reply).replies
     inner done true None k = k
     inner done false None k = k
     inner done true (Some w) k = k
     inner done false (Some w) k = k
 
-pub run : (f : Book) (a : Array) (guest : Bool) (o : Option RunningProcess) → ((r : RunningProcess) → o ≡ Some r → f a.senses ((r.process.id, reply_at a r.process (unit_state_at a.units r.process.target r.process.unit)) ∷ a.replies)) → IfBooks f (Steps.run_step a guest o)
+pub run : (f : Book) (a : Array) (guest : Bool) (o : Option RunningProcess)
+    → ((r : RunningProcess) → o ≡ Some r → f a.senses
+    ((r.process.id, reply_at a r.process (unit_state_at a.units r.process.target r.process.unit)) ∷ a.replies))
+    → IfBooks f (Steps.run_step a guest o)
 run f a guest None h = tt
 run f a guest (Some r) h =
     elim (cases_Bool (is_none r.reply && (guest || not (is_held a.holds r.process.target r.process.unit)))) [
@@ -97,7 +113,8 @@ run f a guest (Some r) h =
       | inr e ↦ rw e tt
     ]
 
-pub failed : (f : Book) (s : ScenarioValue) (a : Array) (id : ProcId) (reply : Reply) (o : Option RunningProcess) → f a.senses ((id, reply) ∷ a.replies) → IfBooks f (Steps.fail_step s a id reply o)
+pub failed : (f : Book) (s : ScenarioValue) (a : Array) (id : ProcId) (reply : Reply) (o : Option RunningProcess)
+    → f a.senses ((id, reply) ∷ a.replies) → IfBooks f (Steps.fail_step s a id reply o)
 failed f s a id reply (Some r) h = elim (cases_Bool (is_none r.reply)) [ inl e ↦ rw e h | inr e ↦ rw e tt ]
 failed f s a id reply None h = new (process_of s id)
   where
@@ -105,27 +122,38 @@ failed f s a id reply None h = new (process_of s id)
     new None = tt
     new (Some p) = go (Steps.is_waiting a.units id || Steps.has_ended a id)
       where
-        go : (x : Bool) → IfBooks f (if x then None else Some (Steps.with_listed_reply (Steps.with_guest a p (Some reply)) id reply))
+        go : (x : Bool) → IfBooks f
+            (if x then None else Some (Steps.with_listed_reply (Steps.with_guest a p (Some reply)) id reply))
         go true = tt
         go false = h
 
-pub ended : (f : Book) (a : Array) (id : ProcId) (status : ℕ) → ((r : RunningProcess) (reply : Reply) → running_process a id ≡ Some r → r.reply ≡ Some reply → (reply.status == status) ≡ true → f (Steps.after_status a r.process reply).senses a.replies)
+pub ended : (f : Book) (a : Array) (id : ProcId) (status : ℕ)
+    → ((r : RunningProcess) (reply : Reply) → running_process a id ≡ Some r → r.reply ≡ Some reply
+    → (reply.status == status) ≡ true → f (Steps.after_status a r.process reply).senses a.replies)
     → IfBooks f (Steps.end_step a status (running_process a id))
 ended f a id status h = go (running_process a id) refl
   where
-    same : (r : RunningProcess) (reply : Reply) (q t : Bool) → (if q then record a { senses = (nexus_of r.process, reply.sense) ∷ senses_without a.senses (nexus_of r.process); holds = nexus_of r.process ∷ nexuses_without a.holds (nexus_of r.process) }
-        else if t then record a { senses = senses_without a.senses (nexus_of r.process); holds = nexuses_without a.holds (nexus_of r.process) }
-        else a).replies ≡ a.replies
+    same : (r : RunningProcess) (reply : Reply) (q t : Bool) → (if q then record a {
+      senses = (nexus_of r.process, reply.sense) ∷ senses_without a.senses (nexus_of r.process);
+      holds = nexus_of r.process ∷ nexuses_without a.holds (nexus_of r.process);
+    } else if t then record a {
+      senses = senses_without a.senses (nexus_of r.process);
+      holds = nexuses_without a.holds (nexus_of r.process);
+    } else a).replies ≡ a.replies
     same r reply true t = refl
     same r reply false true = refl
     same r reply false false = refl
 
-    by : (r : RunningProcess) → running_process a id ≡ Some r → (o : Option Reply) → r.reply ≡ o → IfBooks f (Steps.end_step_with a r.process status o)
+    by : (r : RunningProcess) → running_process a id ≡ Some r → (o : Option Reply) → r.reply ≡ o
+        → IfBooks f (Steps.end_step_with a r.process status o)
     by r e None g = tt
     by r e (Some reply) g = with_status (reply.status == status) refl
       where
-        with_status : (q : Bool) → (reply.status == status) ≡ q → IfBooks f (if q then Some (Steps.array_without (Steps.after_status a r.process reply) r.process.id) else None)
-        with_status true z = subst (λ (x : List (ProcId × Reply)). f (Steps.after_status a r.process reply).senses x) (sym (same r reply (reply.status == CHECK_CONDITION) (reply.status == GOOD && is_request_sense (command_of r.process.cdb)))) (h r reply e g z)
+        with_status : (q : Bool) → (reply.status == status) ≡ q → IfBooks f
+            (if q then Some (Steps.array_without (Steps.after_status a r.process reply) r.process.id) else None)
+        with_status true z = subst (λ (x : List (ProcId × Reply)). f (Steps.after_status a r.process reply).senses x)
+            (sym (same r reply (reply.status == CHECK_CONDITION)
+            (reply.status == GOOD && is_request_sense (command_of r.process.cdb)))) (h r reply e g z)
         with_status false z = tt
 
     go : (o : Option RunningProcess) → running_process a id ≡ o → IfBooks f (Steps.end_step a status o)
@@ -153,10 +181,12 @@ hosts_same (h ∷ hosts) t n a =
 then_same : (a b c : Array) → SameBooks a b → SameBooks b c → SameBooks a c
 then_same a b c h k = record { senses = k.senses ∙ h.senses; replies = k.replies ∙ h.replies }
 
-units_same : (hosts : List HostDef) (units : List UnitState) (is_one : UnitState → Bool) (a : Array) → SameBooks a (Steps.unit_reset_attentions hosts units is_one a)
+units_same : (hosts : List HostDef) (units : List UnitState) (is_one : UnitState → Bool) (a : Array)
+    → SameBooks a (Steps.unit_reset_attentions hosts units is_one a)
 units_same hosts [] is_one a = record { senses = refl; replies = refl }
-units_same hosts (u ∷ units) is_one a =
-    then_same a (if is_one u then Steps.reset_attentions hosts u.target u.unit a else a) (Steps.unit_reset_attentions hosts units is_one (if is_one u then Steps.reset_attentions hosts u.target u.unit a else a)) (go (is_one u))
+units_same hosts (u ∷ units) is_one a = then_same a
+    (if is_one u then Steps.reset_attentions hosts u.target u.unit a else a) (Steps.unit_reset_attentions hosts
+    units is_one (if is_one u then Steps.reset_attentions hosts u.target u.unit a else a)) (go (is_one u))
     (units_same hosts units is_one (if is_one u then Steps.reset_attentions hosts u.target u.unit a else a))
   where
     go : (q : Bool) → SameBooks a (if q then Steps.reset_attentions hosts u.target u.unit a else a)
@@ -165,8 +195,9 @@ units_same hosts (u ∷ units) is_one a =
 
 cleared_same : (by : ℕ) (gone : List Process) (a : Array) → SameBooks a (Steps.cleared_attentions by gone a)
 cleared_same by [] a = record { senses = refl; replies = refl }
-cleared_same by (p ∷ gone) a =
-    then_same a (if p.initiator == by then a else Steps.cleared_attention a (nexus_of p)) (Steps.cleared_attentions by gone (if p.initiator == by then a else Steps.cleared_attention a (nexus_of p))) (go (p.initiator == by))
+cleared_same by (p ∷ gone) a = then_same a (if p.initiator == by then a else Steps.cleared_attention a (nexus_of p))
+    (Steps.cleared_attentions by gone (if p.initiator == by then a else Steps.cleared_attention a (nexus_of p)))
+    (go (p.initiator == by))
     (cleared_same by gone (if p.initiator == by then a else Steps.cleared_attention a (nexus_of p)))
   where
     one : (q : Bool) (x : Array) → SameBooks a x → SameBooks a (if q then a else x)
@@ -175,58 +206,81 @@ cleared_same by (p ∷ gone) a =
 
     go : (q : Bool) → SameBooks a (if q then a else Steps.cleared_attention a (nexus_of p))
     go true = record { senses = refl; replies = refl }
-    go false =
-        one (Steps.is_reset_pending (sense_of_nexus a.attentions (nexus_of p))) (record a { attentions = (nexus_of p, commands_cleared) ∷ senses_without a.attentions (nexus_of p) })
-        (record { senses = refl; replies = refl })
+    go false = one (Steps.is_reset_pending (sense_of_nexus a.attentions (nexus_of p))) (record a {
+      attentions = (nexus_of p, commands_cleared) ∷ senses_without a.attentions (nexus_of p);
+    }) (record { senses = refl; replies = refl })
 
 by_same : (f : Book) (a b : Array) → SameBooks a b → f a.senses a.replies → f b.senses b.replies
-by_same f a b same h = subst (λ (x : List (Nexus × Sense)). f x b.replies) (sym same.senses) (subst (λ (x : List (ProcId × Reply)). f a.senses x) (sym same.replies) h)
+by_same f a b same h = subst (λ (x : List (Nexus × Sense)). f x b.replies) (sym same.senses)
+    (subst (λ (x : List (ProcId × Reply)). f a.senses x) (sym same.replies) h)
 
 -- ---- one more reply
 
-pub kept_reply : (replies : List (ProcId × Reply)) (id : ProcId) (x : Reply) (m : ProcId) (y : Reply) → reply_in replies id ≡ None → reply_in replies m ≡ Some y → reply_in ((id, x) ∷ replies) m ≡ Some y
+pub kept_reply : (replies : List (ProcId × Reply)) (id : ProcId) (x : Reply) (m : ProcId) (y : Reply)
+    → reply_in replies id ≡ None → reply_in replies m ≡ Some y → reply_in ((id, x) ∷ replies) m ≡ Some y
 kept_reply replies id x m y none e =
     elim (cases_Bool (same_id id m)) [
       | inl f ↦ rw f (none_some y (sym none ∙ ap (reply_in replies) (id_is id m f) ∙ e))
       | inr f ↦ rw f e
     ]
 
-one_more : (s : ScenarioValue) (b : Sent) (senses : List (Nexus × Sense)) (replies : List (ProcId × Reply)) (id : ProcId) (x : Reply) → reply_in replies id ≡ None
-    → ((n : ℕ) → id ≡ sense_id n → Brought ((id, x) ∷ replies) n x.bytes) → OwnSenses s b senses replies → OwnSenses s b senses ((id, x) ∷ replies)
+one_more : (s : ScenarioValue) (b : Sent) (senses : List (Nexus × Sense))
+    (replies : List (ProcId × Reply)) (id : ProcId) (x : Reply)
+    → reply_in replies id ≡ None → ((n : ℕ) → id ≡ sense_id n → Brought ((id, x) ∷ replies) n x.bytes)
+    → OwnSenses s b senses replies → OwnSenses s b senses ((id, x) ∷ replies)
 one_more s b senses replies id x none new h = record {
   owned = λ n q d. owns n q (h.owned n q d);
   brought = λ n r e. go n r (same_id id (sense_id n)) refl e;
 }
   where
     owns : (n : ℕ) (q : Nexus) → OwnReply senses replies n q → OwnReply senses ((id, x) ∷ replies) n q
-    owns n q w = record { reply = w.reply; reply_is = kept_reply replies id x (command_id n) w.reply none w.reply_is; check = w.check; stored = w.stored }
+    owns n q w = record {
+      reply = w.reply;
+      reply_is = kept_reply replies id x (command_id n) w.reply none w.reply_is;
+      check = w.check;
+      stored = w.stored;
+    }
 
     brings : (n : ℕ) (bytes : List ℕ) → Brought replies n bytes → Brought ((id, x) ∷ replies) n bytes
-    brings n bytes w = record { reply = w.reply; reply_is = kept_reply replies id x (command_id n) w.reply none w.reply_is; check = w.check; sense_is = w.sense_is }
+    brings n bytes w = record {
+      reply = w.reply;
+      reply_is = kept_reply replies id x (command_id n) w.reply none w.reply_is;
+      check = w.check;
+      sense_is = w.sense_is;
+    }
 
-    go : (n : ℕ) (r : Reply) (q : Bool) → same_id id (sense_id n) ≡ q → (if q then Some x else reply_in replies (sense_id n)) ≡ Some r → Brought ((id, x) ∷ replies) n r.bytes
-    go n r true z e = subst (λ (y : Reply). Brought ((id, x) ∷ replies) n y.bytes) (same_Some x r e) (new n (id_is id (sense_id n) z))
+    go : (n : ℕ) (r : Reply) (q : Bool) → same_id id (sense_id n) ≡ q
+        → (if q then Some x else reply_in replies (sense_id n)) ≡ Some r → Brought ((id, x) ∷ replies) n r.bytes
+    go n r true z e =
+        subst (λ (y : Reply). Brought ((id, x) ∷ replies) n y.bytes) (same_Some x r e) (new n (id_is id (sense_id n) z))
     go n r false z e = brings n r.bytes (h.brought n r e)
 
 -- That of a command.
 no_sense_id : {A : Type 0} (id : ProcId) (n : ℕ) → id.sense ≡ false → id ≡ sense_id n → A
 no_sense_id id n e f = wrong (sym (ap (λ (x : ProcId). x.sense) f) ∙ e)
 
-command_more : (s : ScenarioValue) (b : Sent) (senses : List (Nexus × Sense)) (replies : List (ProcId × Reply)) (id : ProcId) (x : Reply) → reply_in replies id ≡ None → id.sense ≡ false
-    → OwnSenses s b senses replies → OwnSenses s b senses ((id, x) ∷ replies)
-command_more s b senses replies id x none plain h = one_more s b senses replies id x none (λ n e. no_sense_id id n plain e) h
+command_more : (s : ScenarioValue) (b : Sent) (senses : List (Nexus × Sense)) (replies : List (ProcId × Reply))
+    (id : ProcId) (x : Reply) → reply_in replies id ≡ None → id.sense ≡ false → OwnSenses s b senses replies
+    → OwnSenses s b senses ((id, x) ∷ replies)
+command_more s b senses replies id x none plain h =
+    one_more s b senses replies id x none (λ n e. no_sense_id id n plain e) h
 
 -- ---- what an automatic REQUEST SENSE brings
 
-sense_brought : (m : CommandContext) (sent : List ℕ) (x : Sense) → m.stored ≡ Some x → sense_in (execution m sense_block sent).reply.bytes ≡ Some x
-sense_brought m sent x e = (λ i. sense_in (sense_fetched m sent i).reply.bytes) ∙ (λ i. Some (returned_sense m.present (e i)))
+sense_brought : (m : CommandContext) (sent : List ℕ) (x : Sense) → m.stored ≡ Some x
+    → sense_in (execution m sense_block sent).reply.bytes ≡ Some x
+sense_brought m sent x e =
+    (λ i. sense_in (sense_fetched m sent i).reply.bytes) ∙ (λ i. Some (returned_sense m.present (e i)))
 
-context_stored : (a : Array) (q : Nexus) (u : Option UnitState) → (Steps.context_at a q u).stored ≡ sense_of_nexus a.senses q
+context_stored : (a : Array) (q : Nexus) (u : Option UnitState)
+    → (Steps.context_at a q u).stored ≡ sense_of_nexus a.senses q
 context_stored a q None = refl
 context_stored a q (Some u) = refl
 
-ran : (s : ScenarioValue) (b : Sent) (a : Array) (id : ProcId) (r : RunningProcess) → IsSound s a → Tells b a (Event.Run id) → running_process a id ≡ Some r → OwnSenses s b a.senses a.replies
-    → OwnSenses s b a.senses ((r.process.id, reply_at a r.process (unit_state_at a.units r.process.target r.process.unit)) ∷ a.replies)
+ran : (s : ScenarioValue) (b : Sent) (a : Array) (id : ProcId) (r : RunningProcess) → IsSound s a
+    → Tells b a (Event.Run id) → running_process a id ≡ Some r → OwnSenses s b a.senses a.replies
+    → OwnSenses s b a.senses
+    ((r.process.id, reply_at a r.process (unit_state_at a.units r.process.target r.process.unit)) ∷ a.replies)
 ran s b a id r sound tells e h = one_more s b a.senses a.replies r.process.id (reply_at a p u) none new h
   where
     p : Process
@@ -245,7 +299,8 @@ ran s b a id r sound tells e h = one_more s b a.senses a.replies r.process.id (r
     is = running_own s a id r sound e
 
     new : (n : ℕ) → p.id ≡ sense_id n → Brought ((p.id, reply_at a p u) ∷ a.replies) n (reply_at a p u).bytes
-    new n f = subst (λ (x : ℕ). Brought ((p.id, reply_at a p u) ∷ a.replies) x (reply_at a p u).bytes) (ap (λ (x : ProcId). x.command) (sym own ∙ f)) now
+    new n f = subst (λ (x : ℕ). Brought ((p.id, reply_at a p u) ∷ a.replies) x (reply_at a p u).bytes)
+        (ap (λ (x : ProcId). x.command) (sym own ∙ f)) now
       where
         fetches : id.sense ≡ true
         fetches = ap (λ (x : ProcId). x.sense) (sym own ∙ f)
@@ -254,48 +309,65 @@ ran s b a id r sound tells e h = one_more s b a.senses a.replies r.process.id (r
         of = of_command s id p is
 
         w : OwnReply a.senses a.replies id.command (nexus_of p)
-        w = h.owned id.command (nexus_of p) (record { def = of.def; def_is = of.def_is; nexus_is = λ i. record { initiator = of.host_is i; target = of.target_is i; unit = of.unit_is i }; owed = tells.1 fetches })
+        w = h.owned id.command (nexus_of p) (record {
+          def = of.def;
+          def_is = of.def_is;
+          nexus_is = λ i. record { initiator = of.host_is i; target = of.target_is i; unit = of.unit_is i };
+          owed = tells.1 fetches;
+        })
 
         now : Brought ((p.id, reply_at a p u) ∷ a.replies) id.command (reply_at a p u).bytes
         now = record {
           reply = w.reply;
           reply_is = kept_reply a.replies p.id (reply_at a p u) (command_id id.command) w.reply none w.reply_is;
           check = w.check;
-          sense_is = (λ i. sense_in (execution (Steps.context_at a (nexus_of p) u) (sense_cdb s id p fetches is i) p.sent).reply.bytes)
-              ∙ sense_brought (Steps.context_at a (nexus_of p) u) p.sent w.reply.sense (context_stored a (nexus_of p) u ∙ w.stored);
+          sense_is = (λ i. sense_in
+              (execution (Steps.context_at a (nexus_of p) u) (sense_cdb s id p fetches is i) p.sent).reply.bytes)
+              ∙ sense_brought (Steps.context_at a (nexus_of p) u) p.sent w.reply.sense
+              (context_stored a (nexus_of p) u ∙ w.stored);
         }
 
 -- ---- what is stored elsewhere stays
 
-apart_without : (entries : List (Nexus × Sense)) (p q : Nexus) → (p ≡ q → ⊥) → sense_of_nexus (senses_without entries p) q ≡ sense_of_nexus entries q
+apart_without : (entries : List (Nexus × Sense)) (p q : Nexus)
+    → (p ≡ q → ⊥) → sense_of_nexus (senses_without entries p) q ≡ sense_of_nexus entries q
 apart_without entries p q apart = senses_without_at entries p q ∙ go (same_nexus p q) refl
   where
     go : (x : Bool) → same_nexus p q ≡ x → (if x then None else sense_of_nexus entries q) ≡ sense_of_nexus entries q
     go true z = absurd (apart (same_nexus_is p q z))
     go false z = refl
 
-apart_put : (entries : List (Nexus × Sense)) (p : Nexus) (sense : Sense) (q : Nexus) → (p ≡ q → ⊥) → sense_of_nexus ((p, sense) ∷ senses_without entries p) q ≡ sense_of_nexus entries q
+apart_put : (entries : List (Nexus × Sense)) (p : Nexus) (sense : Sense) (q : Nexus)
+    → (p ≡ q → ⊥) → sense_of_nexus ((p, sense) ∷ senses_without entries p) q ≡ sense_of_nexus entries q
 apart_put entries p sense q apart = sense_put_at entries p sense q ∙ go (same_nexus p q) refl
   where
-    go : (x : Bool) → same_nexus p q ≡ x → (if x then Some sense else sense_of_nexus entries q) ≡ sense_of_nexus entries q
+    go : (x : Bool) → same_nexus p q ≡ x
+        → (if x then Some sense else sense_of_nexus entries q) ≡ sense_of_nexus entries q
     go true z = absurd (apart (same_nexus_is p q z))
     go false z = refl
 
-kept_at : (drops : Nexus → Bool) (entries : List (Nexus × Sense)) (q : Nexus) → drops q ≡ false → sense_of_nexus (Steps.kept_senses drops entries) q ≡ sense_of_nexus entries q
+kept_at : (drops : Nexus → Bool) (entries : List (Nexus × Sense)) (q : Nexus) → drops q ≡ false
+    → sense_of_nexus (Steps.kept_senses drops entries) q ≡ sense_of_nexus entries q
 kept_at drops [] q keep = refl
 kept_at drops (x ∷ entries) q keep = go (drops x.0) refl (same_nexus x.0 q) refl (kept_at drops entries q keep)
   where
-    go : (y : Bool) → drops x.0 ≡ y → (z : Bool) → same_nexus x.0 q ≡ z → sense_of_nexus (Steps.kept_senses drops entries) q ≡ sense_of_nexus entries q
-        → sense_of_nexus (if y then Steps.kept_senses drops entries else x ∷ Steps.kept_senses drops entries) q ≡ (if z then Some x.1 else sense_of_nexus entries q)
+    go : (y : Bool) → drops x.0 ≡ y → (z : Bool) → same_nexus x.0 q ≡ z
+        → sense_of_nexus (Steps.kept_senses drops entries) q ≡ sense_of_nexus entries q
+        → sense_of_nexus (if y then Steps.kept_senses drops entries else x ∷ Steps.kept_senses drops entries) q
+        ≡ (if z then Some x.1 else sense_of_nexus entries q)
     go true f true g more = wrong (sym f ∙ ap drops (same_nexus_is x.0 q g) ∙ keep)
     go true f false g more = more
     go false f z g more = λ i. if g i then Some x.1 else more i
 
-still : (senses kept : List (Nexus × Sense)) (replies : List (ProcId × Reply)) (n : ℕ) (q : Nexus) → sense_of_nexus kept q ≡ sense_of_nexus senses q → OwnReply senses replies n q → OwnReply kept replies n q
-still senses kept replies n q same w = record { reply = w.reply; reply_is = w.reply_is; check = w.check; stored = same ∙ w.stored }
+still : (senses kept : List (Nexus × Sense)) (replies : List (ProcId × Reply)) (n : ℕ) (q : Nexus)
+    → sense_of_nexus kept q ≡ sense_of_nexus senses q → OwnReply senses replies n q → OwnReply kept replies n q
+still senses kept replies n q same w =
+    record { reply = w.reply; reply_is = w.reply_is; check = w.check; stored = same ∙ w.stored }
 
 -- What is owed was owed before.
-pub fewer_owned : (s : ScenarioValue) (b c : Sent) (senses : List (Nexus × Sense)) (replies : List (ProcId × Reply)) → ((n : ℕ) (q : Nexus) → IsDebt s c n q → IsDebt s b n q) → OwnSenses s b senses replies → OwnSenses s c senses replies
+pub fewer_owned : (s : ScenarioValue) (b c : Sent) (senses : List (Nexus × Sense)) (replies : List (ProcId × Reply))
+    → ((n : ℕ) (q : Nexus) → IsDebt s c n q → IsDebt s b n q) → OwnSenses s b senses replies
+    → OwnSenses s c senses replies
 fewer_owned s b c senses replies before h = record { owned = λ n q d. h.owned n q (before n q d); brought = h.brought }
 
 -- ---- a process ends
@@ -305,7 +377,8 @@ data Owes (s : ScenarioValue) (b : Sent) (id : ProcId) (status : ℕ) (p : Nexus
   own : id.command ≡ n → id.sense ≡ false → (status == CHECK_CONDITION) ≡ true → Owes s b id status p n q
   other : IsDebt s b n q → (p ≡ q → ⊥) → Owes s b id status p n q
 
-owes : (s : ScenarioValue) (b : Story) (holds : List Nexus) (id : ProcId) (status : ℕ) (p : Process) → OfCommand s id p → PaysWell s b.sent (Event.End id status) → Debts s b.sent holds → (n : ℕ) (q : Nexus)
+owes : (s : ScenarioValue) (b : Story) (holds : List Nexus) (id : ProcId) (status : ℕ) (p : Process)
+    → OfCommand s id p → PaysWell s b.sent (Event.End id status) → Debts s b.sent holds → (n : ℕ) (q : Nexus)
     → IsDebt s (story_after_event s b (Event.End id status)).sent n q → Owes s b.sent id status (nexus_of p) n q
 owes s b holds id status p of well h n q d = go (not id.sense && status == CHECK_CONDITION) refl
   where
@@ -319,8 +392,11 @@ owes s b holds id status p of well h n q d = go (not id.sense && status == CHECK
     more m z = (events_grow s b (Event.End id status ∷ [])).over (sense_item m) z
 
     checks : (x : Bool) → (not id.sense && status == CHECK_CONDITION) ≡ x
-        → c.checks ≡ (if x then record ends { sent = record ends.sent { checks = ends.sent.checks ++ id.command ∷ [] } } else ends).sent.checks
-    checks x z = λ i. (if z i then record ends { sent = record ends.sent { checks = ends.sent.checks ++ id.command ∷ [] } } else ends).sent.checks
+        → c.checks ≡ (if x then record ends { sent = record ends.sent { checks = ends.sent.checks ++ id.command ∷ [] } }
+        else ends).sent.checks
+    checks x z =
+        λ i. (if z i then record ends { sent = record ends.sent { checks = ends.sent.checks ++ id.command ∷ [] } }
+        else ends).sent.checks
 
     nexus : nexus_of_command of.def ≡ nexus_of p
     nexus = λ i. record { initiator = of.host_is i; target = of.target_is i; unit = of.unit_is i }
@@ -337,16 +413,19 @@ owes s b holds id status p of well h n q d = go (not id.sense && status == CHECK
 
         item : sense_item n ≡ process id
         item = λ i. process (record { command = h.alone n id.command q old mine i; sense = sym e i })
-    apart old false e same = (well.1 e).1 of.def of.def_is n (record { def = old.def; def_is = old.def_is; nexus_is = old.nexus_is ∙ sym same ∙ sym nexus; owed = old.owed })
+    apart old false e same = (well.1 e).1 of.def of.def_is n
+        (record { def = old.def; def_is = old.def_is; nexus_is = old.nexus_is ∙ sym same ∙ sym nexus; owed = old.owed })
 
     older : IsDebt s b.sent n q → Owes s b.sent id status (nexus_of p) n q
     older old = other old (apart old id.sense refl)
 
     go : (x : Bool) → (not id.sense && status == CHECK_CONDITION) ≡ x → Owes s b.sent id status (nexus_of p) n q
     go false z = older (same_debt s b.sent c n q (checks false z) more d)
-    go true z = by (in_append n id.command b.sent.checks (ap (λ (x : List ℕ). list_any (λ k. k == n) x) (sym (checks true z)) ∙ is_checked c n d.owed))
+    go true z = by (in_append n id.command b.sent.checks
+        (ap (λ (x : List ℕ). list_any (λ k. k == n) x) (sym (checks true z)) ∙ is_checked c n d.owed))
       where
-        plain : (x : Bool) → (not x && status == CHECK_CONDITION) ≡ true → (x ≡ false) × ((status == CHECK_CONDITION) ≡ true)
+        plain : (x : Bool) → (not x && status == CHECK_CONDITION) ≡ true
+            → (x ≡ false) × ((status == CHECK_CONDITION) ≡ true)
         plain true y = wrong' y
         plain false y = (refl, y)
 
@@ -354,15 +433,20 @@ owes s b holds id status p of well h n q d = go (not id.sense && status == CHECK
         by (inl old) = older (debt_before s b.sent c n q more old d)
         by (inr new) = own new (plain id.sense z).0 (plain id.sense z).1
 
-ends_own : (s : ScenarioValue) (b : Story) (a : Array) (id : ProcId) (status : ℕ) → IsSound s a → Debts s b.sent a.holds → PaysWell s b.sent (Event.End id status) → Tells b.sent a (Event.End id status) → OwnSenses s b.sent a.senses a.replies
-    → IfBooks (OwnSenses s (story_after_event s b (Event.End id status)).sent) (Steps.end_step a status (running_process a id))
+ends_own : (s : ScenarioValue) (b : Story) (a : Array) (id : ProcId) (status : ℕ)
+    → IsSound s a → Debts s b.sent a.holds → PaysWell s b.sent (Event.End id status)
+    → Tells b.sent a (Event.End id status) → OwnSenses s b.sent a.senses a.replies
+    → IfBooks (OwnSenses s (story_after_event s b (Event.End id status)).sent)
+    (Steps.end_step a status (running_process a id))
 ends_own s b a id status sound debts well tells h = ended (OwnSenses s c) a id status after
   where
     c : Sent
     c = (story_after_event s b (Event.End id status)).sent
 
-    after : (r : RunningProcess) (reply : Reply) → running_process a id ≡ Some r → r.reply ≡ Some reply → (reply.status == status) ≡ true → OwnSenses s c (Steps.after_status a r.process reply).senses a.replies
-    after r reply e f z = record { owned = λ n q d. by n q d (owes s b a.holds id status p of well debts n q d); brought = h.brought }
+    after : (r : RunningProcess) (reply : Reply) → running_process a id ≡ Some r → r.reply ≡ Some reply
+        → (reply.status == status) ≡ true → OwnSenses s c (Steps.after_status a r.process reply).senses a.replies
+    after r reply e f z =
+        record { owned = λ n q d. by n q d (owes s b a.holds id status p of well debts n q d); brought = h.brought }
       where
         p : Process
         p = r.process
@@ -373,12 +457,18 @@ ends_own s b a id status sound debts well tells h = ended (OwnSenses s c) a id s
         nexus : nexus_of_command of.def ≡ nexus_of p
         nexus = λ i. record { initiator = of.host_is i; target = of.target_is i; unit = of.unit_is i }
 
-        stays : (n : ℕ) (q : Nexus) → (nexus_of p ≡ q → ⊥) → sense_of_nexus (Steps.after_status a p reply).senses q ≡ sense_of_nexus a.senses q
-        stays n q apart = go (reply.status == CHECK_CONDITION) (reply.status == GOOD && is_request_sense (command_of p.cdb))
+        stays : (n : ℕ) (q : Nexus)
+            → (nexus_of p ≡ q → ⊥) → sense_of_nexus (Steps.after_status a p reply).senses q ≡ sense_of_nexus a.senses q
+        stays n q apart =
+            go (reply.status == CHECK_CONDITION) (reply.status == GOOD && is_request_sense (command_of p.cdb))
           where
-            go : (x t : Bool) → sense_of_nexus (if x then record a { senses = (nexus_of p, reply.sense) ∷ senses_without a.senses (nexus_of p); holds = nexus_of p ∷ nexuses_without a.holds (nexus_of p) }
-                else if t then record a { senses = senses_without a.senses (nexus_of p); holds = nexuses_without a.holds (nexus_of p) }
-                else a).senses q ≡ sense_of_nexus a.senses q
+            go : (x t : Bool) → sense_of_nexus (if x then record a {
+              senses = (nexus_of p, reply.sense) ∷ senses_without a.senses (nexus_of p);
+              holds = nexus_of p ∷ nexuses_without a.holds (nexus_of p);
+            } else if t then record a {
+              senses = senses_without a.senses (nexus_of p);
+              holds = nexuses_without a.holds (nexus_of p);
+            } else a).senses q ≡ sense_of_nexus a.senses q
             go true t = apart_put a.senses (nexus_of p) reply.sense q apart
             go false true = apart_without a.senses (nexus_of p) q apart
             go false false = refl
@@ -386,108 +476,146 @@ ends_own s b a id status sound debts well tells h = ended (OwnSenses s c) a id s
         same : reply.status ≡ status
         same = eqb-true reply.status status z
 
-        new : (n : ℕ) (q : Nexus) → IsDebt s c n q → id.command ≡ n → id.sense ≡ false → (status == CHECK_CONDITION) ≡ true → OwnReply (Steps.after_status a p reply).senses a.replies n q
+        new : (n : ℕ) (q : Nexus) → IsDebt s c n q → id.command ≡ n → id.sense ≡ false
+            → (status == CHECK_CONDITION) ≡ true → OwnReply (Steps.after_status a p reply).senses a.replies n q
         new n q d mine plain check = record {
           reply = reply;
-          reply_is = (λ i. reply_in a.replies (record { command = sym mine i; sense = sym plain i })) ∙ tells r reply e f;
+          reply_is =
+              (λ i. reply_in a.replies (record { command = sym mine i; sense = sym plain i })) ∙ tells r reply e f;
           check = same ∙ eqb-true status CHECK_CONDITION check;
-          stored = ap (λ (x : Bool). sense_of_nexus (if x then record a { senses = (nexus_of p, reply.sense) ∷ senses_without a.senses (nexus_of p); holds = nexus_of p ∷ nexuses_without a.holds (nexus_of p) }
-              else if reply.status == GOOD && is_request_sense (command_of p.cdb) then record a { senses = senses_without a.senses (nexus_of p); holds = nexuses_without a.holds (nexus_of p) }
-              else a).senses q) (ap (λ (x : ℕ). x == CHECK_CONDITION) same ∙ check)
+          stored = ap (λ (x : Bool). sense_of_nexus (if x then record a {
+            senses = (nexus_of p, reply.sense) ∷ senses_without a.senses (nexus_of p);
+            holds = nexus_of p ∷ nexuses_without a.holds (nexus_of p);
+          } else if reply.status == GOOD && is_request_sense (command_of p.cdb) then record a {
+            senses = senses_without a.senses (nexus_of p);
+            holds = nexuses_without a.holds (nexus_of p);
+          } else a).senses q) (ap (λ (x : ℕ). x == CHECK_CONDITION) same ∙ check)
               ∙ sense_put_at a.senses (nexus_of p) reply.sense q
-              ∙ ap (λ (x : Bool). if x then Some reply.sense else sense_of_nexus a.senses q) (ap (same_nexus (nexus_of p)) (sym here) ∙ self_nexus (nexus_of p));
+              ∙ ap (λ (x : Bool). if x then Some reply.sense else sense_of_nexus a.senses q)
+              (ap (same_nexus (nexus_of p)) (sym here) ∙ self_nexus (nexus_of p));
         }
           where
             here : nexus_of p ≡ q
-            here = sym nexus ∙ ap nexus_of_command (same_Some of.def d.def (sym of.def_is ∙ ap (command_at s.commands) mine ∙ d.def_is)) ∙ d.nexus_is
+            here = sym nexus ∙ ap nexus_of_command
+                (same_Some of.def d.def (sym of.def_is ∙ ap (command_at s.commands) mine ∙ d.def_is))
+                ∙ d.nexus_is
 
-        by : (n : ℕ) (q : Nexus) → IsDebt s c n q → Owes s b.sent id status (nexus_of p) n q → OwnReply (Steps.after_status a p reply).senses a.replies n q
+        by : (n : ℕ) (q : Nexus) → IsDebt s c n q → Owes s b.sent id status (nexus_of p) n q
+            → OwnReply (Steps.after_status a p reply).senses a.replies n q
         by n q d (own mine plain check) = new n q d mine plain check
-        by n q d (other old apart) = still a.senses (Steps.after_status a p reply).senses a.replies n q (stays n q apart) (h.owned n q old)
+        by n q d (other old apart) =
+            still a.senses (Steps.after_status a p reply).senses a.replies n q (stays n q apart) (h.owned n q old)
 
 -- ---- an abort, or RST
 
-ends_stopped : (s : ScenarioValue) (drops stops : CmdDef → Bool) (e : Ending) (b : Story) (senses kept : List (Nexus × Sense)) (replies : List (ProcId × Reply)) → AreChecked b.sent
-    → ((n : ℕ) → has_item b.sent.over (sense_item n) ≡ true → has_item (story_with_ends drops stops e 1 s.commands b).sent.over (sense_item n) ≡ true)
-    → ((def : CmdDef) (q : Nexus) → stops def ≡ false → nexus_of_command def ≡ q → sense_of_nexus kept q ≡ sense_of_nexus senses q) → OwnSenses s b.sent senses replies
-    → OwnSenses s (story_with_ends drops stops e 1 s.commands b).sent kept replies
+ends_stopped : (s : ScenarioValue) (drops stops : CmdDef → Bool) (e : Ending)
+    (b : Story) (senses kept : List (Nexus × Sense)) (replies : List (ProcId × Reply))
+    → AreChecked b.sent → ((n : ℕ) → has_item b.sent.over (sense_item n) ≡ true
+    → has_item (story_with_ends drops stops e 1 s.commands b).sent.over (sense_item n) ≡ true)
+    → ((def : CmdDef) (q : Nexus) → stops def ≡ false → nexus_of_command def ≡ q
+    → sense_of_nexus kept q ≡ sense_of_nexus senses q)
+    → OwnSenses s b.sent senses replies → OwnSenses s (story_with_ends drops stops e 1 s.commands b).sent kept replies
 ends_stopped s drops stops e b senses kept replies checked more keep h = record { owned = owned; brought = h.brought }
   where
     c : Sent
     c = (story_with_ends drops stops e 1 s.commands b).sent
 
-    unstopped : (n : ℕ) (q : Nexus) (d : IsDebt s c n q) → IsDebt s b.sent n q → (x : Bool) → stops d.def ≡ x → stops d.def ≡ false
+    unstopped : (n : ℕ) (q : Nexus) (d : IsDebt s c n q) → IsDebt s b.sent n q → (x : Bool) → stops d.def ≡ x
+        → stops d.def ≡ false
     unstopped n q d f false z = z
-    unstopped n q d f true z = wrong (sym (ends_senses s drops stops e b n d.def d.def_is z checked (is_checked b.sent n f.owed)) ∙ is_not_over c n d.owed)
+    unstopped n q d f true z =
+        wrong (sym (ends_senses s drops stops e b n d.def d.def_is z checked (is_checked b.sent n f.owed))
+        ∙ is_not_over c n d.owed)
 
     owned : (n : ℕ) (q : Nexus) → IsDebt s c n q → OwnReply kept replies n q
     owned n q d =
         let old : IsDebt s b.sent n q = same_debt s b.sent c n q (ends_checks drops stops e 1 s.commands b) more d in
-        still senses kept replies n q (keep d.def q (unstopped n q d old (stops d.def) refl) d.nexus_is) (h.owned n q old)
+        still senses kept replies n q (keep d.def q (unstopped n q d old (stops d.def) refl) d.nexus_is)
+        (h.owned n q old)
 
-aborted : (s : ScenarioValue) (b : Story) (a : Array) (i t n : ℕ) (what : AbortKind) → AreChecked b.sent → OwnSenses s b.sent a.senses a.replies
-    → OwnSenses s (story_after_event s b (Event.Aborted i t n what)).sent (Steps.abort_step s a i t n what).senses (Steps.abort_step s a i t n what).replies
-aborted s b a i t n what checked h = go what (λ m z. (events_grow s b (Event.Aborted i t n what ∷ [])).over (sense_item m) z)
+aborted : (s : ScenarioValue) (b : Story) (a : Array) (i t n : ℕ) (what : AbortKind)
+    → AreChecked b.sent → OwnSenses s b.sent a.senses a.replies
+    → OwnSenses s (story_after_event s b (Event.Aborted i t n what)).sent (Steps.abort_step s a i t n what).senses
+    (Steps.abort_step s a i t n what).replies
+aborted s b a i t n what checked h =
+    go what (λ m z. (events_grow s b (Event.Aborted i t n what ∷ [])).over (sense_item m) z)
   where
-    go : (what : AbortKind) → ((m : ℕ) → has_item b.sent.over (sense_item m) ≡ true → has_item (story_after_event s b (Event.Aborted i t n what)).sent.over (sense_item m) ≡ true)
-        → OwnSenses s (story_after_event s b (Event.Aborted i t n what)).sent (Steps.abort_step s a i t n what).senses (Steps.abort_step s a i t n what).replies
-    go AbortKind.All more =
-        ends_stopped s (is_aborted i t n AbortKind.All) (is_sense_stopped i t n AbortKind.All) by_abort b a.senses (senses_without a.senses (nexus_at i t n)) a.replies checked more
-        (λ def q e is. apart_without a.senses (nexus_at i t n) q (λ same. wrong (sym (ap (λ (x : Nexus). same_nexus x (nexus_at i t n)) (is ∙ sym same) ∙ self_nexus (nexus_at i t n)) ∙ e))) h
-    go (AbortKind.Tag tag) more =
-        ends_stopped s (is_aborted i t n (AbortKind.Tag tag)) (is_sense_stopped i t n (AbortKind.Tag tag)) by_abort b a.senses a.senses a.replies checked more (λ def q e is. refl) h
-    go AbortKind.WholeQueue more =
-        by_same (OwnSenses s (story_after_event s b (Event.Aborted i t n AbortKind.WholeQueue)).sent) (Steps.without_dropped a (λ p. Steps.is_of_unit p t n)) (Steps.abort_step s a i t n AbortKind.WholeQueue)
-        (cleared_same i (Steps.unit_processes (unit_state_at a.units t n)) (Steps.without_dropped a (λ p. Steps.is_of_unit p t n)))
-        (ends_stopped s (is_aborted i t n AbortKind.WholeQueue) (is_sense_stopped i t n AbortKind.WholeQueue) by_abort b a.senses a.senses a.replies checked more (λ def q e is. refl) h)
-    go AbortKind.Device more =
-        by_same (OwnSenses s (story_after_event s b (Event.Aborted i t n AbortKind.Device)).sent) kept (Steps.abort_step s a i t n AbortKind.Device) (units_same s.hosts a.units (λ u. u.target == t) kept)
-        (ends_stopped s (is_aborted i t n AbortKind.Device) (is_sense_stopped i t n AbortKind.Device) by_abort b a.senses (Steps.kept_senses (λ r. r.target == t) a.senses) a.replies checked more
+    go : (what : AbortKind) → ((m : ℕ) → has_item b.sent.over (sense_item m) ≡ true
+        → has_item (story_after_event s b (Event.Aborted i t n what)).sent.over (sense_item m) ≡ true)
+        → OwnSenses s (story_after_event s b (Event.Aborted i t n what)).sent (Steps.abort_step s a i t n what).senses
+        (Steps.abort_step s a i t n what).replies
+    go AbortKind.All more = ends_stopped s (is_aborted i t n AbortKind.All) (is_sense_stopped i t n AbortKind.All)
+        by_abort b a.senses (senses_without a.senses (nexus_at i t n)) a.replies checked more
+        (λ def q e is. apart_without a.senses (nexus_at i t n) q (λ same. wrong
+        (sym (ap (λ (x : Nexus). same_nexus x (nexus_at i t n)) (is ∙ sym same) ∙ self_nexus (nexus_at i t n)) ∙ e))) h
+    go (AbortKind.Tag tag) more = ends_stopped s (is_aborted i t n (AbortKind.Tag tag))
+        (is_sense_stopped i t n (AbortKind.Tag tag)) by_abort b a.senses a.senses a.replies checked more
+        (λ def q e is. refl) h
+    go AbortKind.WholeQueue more = by_same
+        (OwnSenses s (story_after_event s b (Event.Aborted i t n AbortKind.WholeQueue)).sent) (Steps.without_dropped a
+        (λ p. Steps.is_of_unit p t n)) (Steps.abort_step s a i t n AbortKind.WholeQueue) (cleared_same i
+        (Steps.unit_processes (unit_state_at a.units t n)) (Steps.without_dropped a (λ p. Steps.is_of_unit p t n)))
+        (ends_stopped s (is_aborted i t n AbortKind.WholeQueue) (is_sense_stopped i t n AbortKind.WholeQueue) by_abort b
+        a.senses a.senses a.replies checked more (λ def q e is. refl) h)
+    go AbortKind.Device more = by_same (OwnSenses s (story_after_event s b (Event.Aborted i t n AbortKind.Device)).sent)
+        kept (Steps.abort_step s a i t n AbortKind.Device) (units_same s.hosts a.units (λ u. u.target == t) kept)
+        (ends_stopped s (is_aborted i t n AbortKind.Device) (is_sense_stopped i t n AbortKind.Device)
+        by_abort b a.senses (Steps.kept_senses (λ r. r.target == t) a.senses) a.replies checked more
         (λ def q e is. kept_at (λ r. r.target == t) a.senses q (ap (λ (x : Nexus). x.target == t) (sym is) ∙ e)) h)
       where
         kept : Array
-        kept = record (Steps.without_dropped a (λ p. p.target == t)) { senses = Steps.kept_senses (λ r. r.target == t) a.senses; holds = Steps.kept_nexuses (λ r. r.target == t) a.holds }
+        kept = record (Steps.without_dropped a (λ p. p.target == t)) {
+          senses = Steps.kept_senses (λ r. r.target == t) a.senses;
+          holds = Steps.kept_nexuses (λ r. r.target == t) a.holds;
+        }
 
-reset : (s : ScenarioValue) (b : Story) (a : Array) (dev : ℕ) → AreChecked b.sent → OwnSenses s b.sent a.senses a.replies
-    → OwnSenses s (story_after_event s b (Event.Reset dev)).sent (Steps.reset_step s a).senses (Steps.reset_step s a).replies
-reset s b a dev checked h =
-    by_same (OwnSenses s (story_after_event s b (Event.Reset dev)).sent) cleared (Steps.reset_step s a) (units_same s.hosts a.units (λ u. true) cleared)
-    (ends_stopped s (λ x. true) (λ x. true) by_reset b a.senses [] a.replies checked (λ m z. (events_grow s b (Event.Reset dev ∷ [])).over (sense_item m) z) (λ def q e is. wrong e) h)
+reset : (s : ScenarioValue) (b : Story) (a : Array) (dev : ℕ)
+    → AreChecked b.sent → OwnSenses s b.sent a.senses a.replies
+    → OwnSenses s (story_after_event s b (Event.Reset dev)).sent (Steps.reset_step s a).senses
+    (Steps.reset_step s a).replies
+reset s b a dev checked h = by_same (OwnSenses s (story_after_event s b (Event.Reset dev)).sent) cleared
+    (Steps.reset_step s a) (units_same s.hosts a.units (λ u. true) cleared)
+    (ends_stopped s (λ x. true) (λ x. true) by_reset b a.senses [] a.replies checked
+    (λ m z. (events_grow s b (Event.Reset dev ∷ [])).over (sense_item m) z) (λ def q e is. wrong e) h)
   where
     cleared : Array
     cleared = record (Steps.without_dropped a (λ p. true)) { senses = []; holds = [] }
 
 -- ---- any event
 
-refused_plain : (s : ScenarioValue) (id : ProcId) (p : Process) → process_of s id ≡ Some p → is_request_sense (command_of p.cdb) ≡ false → id.sense ≡ false
+refused_plain : (s : ScenarioValue) (id : ProcId) (p : Process) → process_of s id ≡ Some p
+    → is_request_sense (command_of p.cdb) ≡ false → id.sense ≡ false
 refused_plain s id p is e =
     elim (cases_Bool id.sense) [ inl f ↦ wrong (sym ((of_command s id p is).fetches f) ∙ e) | inr f ↦ f ]
 
-event_own : (s : ScenarioValue) (b : Story) (a : Array) (event : Event) → IsSound s a → AreChecked b.sent → Debts s b.sent a.holds → PaysWell s b.sent event → Tells b.sent a event → OwnSenses s b.sent a.senses a.replies
+event_own : (s : ScenarioValue) (b : Story) (a : Array) (event : Event) → IsSound s a → AreChecked b.sent
+    → Debts s b.sent a.holds → PaysWell s b.sent event → Tells b.sent a event → OwnSenses s b.sent a.senses a.replies
     → IfBooks (OwnSenses s (story_after_event s b event).sent) (Steps.event_step s a event)
 event_own s b a (Event.Accept id) sound checked debts well tells h = accepted (OwnSenses s b.sent) a (process_of s id) h
-event_own s b a (Event.Refuse id) sound checked debts well tells h =
-    refused (OwnSenses s b.sent) a (process_of s id)
-    (λ p e f. let own : p.id ≡ id = sym (process_own p e) in
-    command_more s b.sent a.senses a.replies p.id queue_full (ap (reply_in a.replies) own ∙ tells) (ap (λ (x : ProcId). x.sense) own ∙ refused_plain s id p e f) h)
+event_own s b a (Event.Refuse id) sound checked debts well tells h = refused (OwnSenses s b.sent) a (process_of s id)
+    (λ p e f. let own : p.id ≡ id = sym (process_own p e) in command_more s b.sent a.senses a.replies p.id queue_full
+    (ap (reply_in a.replies) own ∙ tells) (ap (λ (x : ProcId). x.sense) own ∙ refused_plain s id p e f) h)
   where
     process_own : (p : Process) → process_of s id ≡ Some p → id ≡ p.id
     process_own p e = sym (Rattle.bus_due.specs.disk_array.proofs.SoundArrays.id_is s id p e)
-event_own s b a (Event.Run id) sound checked debts well tells h =
-    run (OwnSenses s b.sent) a (is_some (guest_at a.guests id)) (running_process a id) (λ r e. ran s b.sent a id r sound tells e h)
+event_own s b a (Event.Run id) sound checked debts well tells h = run (OwnSenses s b.sent) a
+    (is_some (guest_at a.guests id)) (running_process a id) (λ r e. ran s b.sent a id r sound tells e h)
 event_own s b a (Event.Fail id code) sound checked debts well tells h =
     failed (OwnSenses s b.sent) s a id (check_condition (sense_of ABORTED_COMMAND code 0x00)) (running_process a id)
     (command_more s b.sent a.senses a.replies id (check_condition (sense_of ABORTED_COMMAND code 0x00)) tells well h)
-event_own s b a (Event.End id status) sound checked debts well tells h = ends_own s b a id status sound debts well tells h
-event_own s b a (Event.Lost id) sound checked debts well tells h =
-    lost (OwnSenses s (story_after_event s b (Event.Lost id)).sent) a id
+event_own s b a (Event.End id status) sound checked debts well tells h =
+    ends_own s b a id status sound debts well tells h
+event_own s b a (Event.Lost id) sound checked debts well tells h = lost
+    (OwnSenses s (story_after_event s b (Event.Lost id)).sent) a id
     (fewer_owned s b.sent (story_after_event s b (Event.Lost id)).sent a.senses a.replies
-    (λ n q d. same_debt s b.sent (story_after_event s b (Event.Lost id)).sent n q refl (λ m z. (events_grow s b (Event.Lost id ∷ [])).over (sense_item m) z) d) h)
+    (λ n q d. same_debt s b.sent (story_after_event s b (Event.Lost id)).sent n q refl
+    (λ m z. (events_grow s b (Event.Lost id ∷ [])).over (sense_item m) z) d) h)
 event_own s b a (Event.Aborted i t n what) sound checked debts well tells h = aborted s b a i t n what checked h
 event_own s b a (Event.Reset dev) sound checked debts well tells h = reset s b a dev checked h
 
-pub step_own : (s : ScenarioValue) (b : Story) (a d : Array) (event : Event) → IsSound s a → AreChecked b.sent → Debts s b.sent a.holds → PaysWell s b.sent event → Tells b.sent a event → OwnSenses s b.sent a.senses a.replies
+pub step_own : (s : ScenarioValue) (b : Story) (a d : Array) (event : Event) → IsSound s a → AreChecked b.sent
+    → Debts s b.sent a.holds → PaysWell s b.sent event → Tells b.sent a event → OwnSenses s b.sent a.senses a.replies
     → Steps.step s event a ≡ Some d → OwnSenses s (story_after_event s b event).sent d.senses d.replies
-step_own s b a d event sound checked debts well tells h e =
-    subst (IfBooks (OwnSenses s (story_after_event s b event).sent)) e
-    (settled (OwnSenses s (story_after_event s b event).sent) (Steps.event_step s a event) (event_own s b a event sound checked debts well tells h))
+step_own s b a d event sound checked debts well tells h e = subst (IfBooks
+    (OwnSenses s (story_after_event s b event).sent)) e (settled (OwnSenses s (story_after_event s b event).sent)
+    (Steps.event_step s a event) (event_own s b a event sound checked debts well tells h))

@@ -1,5 +1,5 @@
--- STATUS and MESSAGE IN in which a byte was struck are left with ATN true (6.6.10, 6.6.13): that byte was the last, and with its ACK the
--- initiator raises ATN.
+-- STATUS and MESSAGE IN in which a byte was struck are left with ATN true (6.6.10, 6.6.13): that byte was the last, and
+-- with its ACK the initiator raises ATN.
 use Rattle.dialogue_laws.proofs
 use proofs.Names.{inl, inr, ℕ, ◌≡◌, ◌⊎◌, ◌<◌, Bool, true, false, not, ◌&&◌, ◌||◌, ◌∙◌, List, [], ◌∷◌, Option, Some}
 use proofs.Names.{None, refl, sym, ap, subst, eqb-true, if◌then◌else◌, is_some, or_false, or_true, wrong, wrong'}
@@ -24,7 +24,9 @@ is_talk _ = false
 talk_lines : (b : LineSet) → (b.msg ≡ true → b.cd ≡ true) → is_talk (phase_of b) ≡ true → (b.cd ≡ true) × (b.io ≡ true)
 talk_lines b known e = go b.msg b.cd b.io known e
   where
-    go : (m c i : Bool) → (m ≡ true → c ≡ true) → is_talk (if m then (if i then Phase.MessageIn else Phase.MessageOut) else if c then (if i then Phase.Status else Phase.Command) else if i then Phase.DataIn else Phase.DataOut) ≡ true → (c ≡ true) × (i ≡ true)
+    go : (m c i : Bool) → (m ≡ true → c ≡ true) → is_talk (if m then (if i then Phase.MessageIn else Phase.MessageOut)
+        else if c then (if i then Phase.Status else Phase.Command) else if i then Phase.DataIn else Phase.DataOut)
+        ≡ true → (c ≡ true) × (i ≡ true)
     go true c true k f = (k refl, refl)
     go true c false k f = wrong' f
     go false true true k f = (refl, refl)
@@ -39,16 +41,19 @@ fault_bus p row e = go row.kind refl e
     go (Drives l) f z = wrong' z
     go (Fault bit) f z = bus-fault row p bit f
 
-known : (s : ScenarioValue) (p : List Row) (n : Connection) → Whole s p → connection p ≡ Some n → (bus p).rst ≡ false → (bus p).msg ≡ true → (bus p).cd ≡ true
+known : (s : ScenarioValue) (p : List Row) (n : Connection) → Whole s p → connection p ≡ Some n → (bus p).rst ≡ false
+    → (bus p).msg ≡ true → (bus p).cd ≡ true
 known s p n was con off z = (link_phase s p n (stage_of_connection s p n was.stood con off) z).0
 
 -- Where a byte waits for its ACK one was asked for.
-asked : (s : ScenarioValue) (p : List Row) (n : Connection) → Whole s p → connection p ≡ Some n → (bus p).rst ≡ false → awaits (bus p) ≡ true → is_unasked p ≡ false
+asked : (s : ScenarioValue) (p : List Row) (n : Connection) → Whole s p → connection p ≡ Some n → (bus p).rst ≡ false
+    → awaits (bus p) ≡ true → is_unasked p ≡ false
 asked s p n was con off z = go (is_unasked p) refl
   where
     go : (x : Bool) → is_unasked p ≡ x → is_unasked p ≡ false
     go false e = e
-    go true e = wrong' (sym (ap (λ (x : Bool). x && not (bus p).ack) (unasked_low s p n (stage_of_connection s p n was.stood con off) (eqb-true (handshakes p).requests 0 e))) ∙ z)
+    go true e = wrong' (sym (ap (λ (x : Bool). x && not (bus p).ack)
+        (unasked_low s p n (stage_of_connection s p n was.stood con off) (eqb-true (handshakes p).requests 0 e))) ∙ z)
 
 -- ---- in it
 
@@ -60,9 +65,11 @@ record Struck (s : ScenarioValue) (p : List Row) : Type 0 where
   owing : is_struck_phase s p ≡ true → owes (bus p) ≡ true
 
 abbrev StruckFacts : ScenarioValue → List Row → Type 0
-StruckFacts s p = (n : Connection) → connection p ≡ Some n → (bus p).rst ≡ false → begun p ≡ true → is_talk (phase_of (bus p)) ≡ true → Struck s p
+StruckFacts s p = (n : Connection) → connection p ≡ Some n → (bus p).rst ≡ false → begun p ≡ true
+    → is_talk (phase_of (bus p)) ≡ true → Struck s p
 
-struck_next : (s : ScenarioValue) (p : List Row) (row : Row) → Obeys s → IsPrompt s (row ∷ p) → Whole s p → Whole s (row ∷ p) → StruckFacts s p → StruckFacts s (row ∷ p)
+struck_next : (s : ScenarioValue) (p : List Row) (row : Row) → Obeys s → IsPrompt s (row ∷ p) → Whole s p
+    → Whole s (row ∷ p) → StruckFacts s p → StruckFacts s (row ∷ p)
 struck_next s p row o prompt was now facts n after calm b here = by (row_kind s p row n o prompt was.stood after calm)
   where
     q : List Row
@@ -92,18 +99,20 @@ struck_next s p row o prompt was now facts n after calm b here = by (row_kind s 
     }
 
     alone_first : connection p ≡ None → Struck s q
-    alone_first alone = unstruck
-        (λ i. is_some ((pl.connection ∙ alone) i) && is_some d.next && not (changes_phase d.change) && (is_fault row.kind || is_struck_phase s p))
-        (ap (λ (x : Option Connection). is_some (receiver_of x c)) alone)
+    alone_first alone =
+        unstruck (λ i. is_some ((pl.connection ∙ alone) i) && is_some d.next && not (changes_phase d.change)
+        && (is_fault row.kind || is_struck_phase s p)) (ap (λ (x : Option Connection). is_some (receiver_of x c)) alone)
 
     entered : connection p ≡ Some n → (bus p).rst ≡ false → changes_phase c ≡ true → Struck s q
-    entered con off ep = unstruck
-        (fresh (is_some (run_state s p).story.bus_state.connection) (is_some d.next) (is_fault row.kind || is_struck_phase s p) (ap changes_phase change ∙ ep))
+    entered con off ep = unstruck (fresh (is_some (run_state s p).story.bus_state.connection)
+        (is_some d.next) (is_fault row.kind || is_struck_phase s p) (ap changes_phase change ∙ ep))
         (ap (λ (x : Option Connection). is_some (receiver_of x c)) con ∙ silent kind)
       where
         kind : RowKind row n c
         kind =
-            let g = going_row s p row n was.stood.standing.devices lt con after calm (standing_next s p row o prompt was).row_is (connection_row s p row n o prompt was.stood con off calm).facts in
+            let g = going_row s p row n was.stood.standing.devices lt con after calm
+            (standing_next s p row o prompt was).row_is
+            (connection_row s p row n o prompt was.stood con off calm).facts in
             subst (λ (x : Change). RowKind row n x) g.change_is g.goes.row_is.kind
 
         silent : RowKind row n c → is_some (receiver_in n c) ≡ false
@@ -126,7 +135,8 @@ struck_next s p row o prompt was now facts n after calm b here = by (row_kind s 
         phase = ap is_talk (sym (same_phase_of c ep)) ∙ here
 
         started : begun p ≡ true
-        started = or_left (begun p) ((λ i. sym ep i || begun p) ∙ (λ i. begun_after (begun p) (sym con i) (sym after i) c) ∙ b)
+        started = or_left (begun p)
+            ((λ i. sym ep i || begun p) ∙ (λ i. begun_after (begun p) (sym con i) (sym after i) c) ∙ b)
 
         link : LinkRow s p n row
         link = (connection_row s p row n o prompt was.stood con off calm).link
@@ -141,7 +151,8 @@ struck_next s p row o prompt was now facts n after calm b here = by (row_kind s 
         step = (struck_row s p row n lines.1 lines.0 link).stays after
 
         was_struck : is_struck_phase s q ≡ true → (is_fault row.kind || is_struck_phase s p) ≡ true
-        was_struck z = last (is_some (run_state s p).story.bus_state.connection) (is_some d.next) (not (changes_phase d.change)) (is_fault row.kind || is_struck_phase s p) z
+        was_struck z = last (is_some (run_state s p).story.bus_state.connection) (is_some d.next)
+            (not (changes_phase d.change)) (is_fault row.kind || is_struck_phase s p) z
           where
             last : (x y w u : Bool) → (x && y && w && u) ≡ true → u ≡ true
             last true true true u e = e
@@ -163,34 +174,40 @@ struck_next s p row o prompt was now facts n after calm b here = by (row_kind s 
             some = asked s p n was con off waits
 
             hand : handshakes q ≡ strikes (handshakes p)
-            hand = ap (λ (x : Bool). handshakes_after x (connection q) c row.time (handshakes p)) ef ∙ ap (λ (x : Bool). strikes_if x (handshakes p)) lines.1
+            hand = ap (λ (x : Bool). handshakes_after x (connection q) c row.time (handshakes p)) ef
+                ∙ ap (λ (x : Bool). strikes_if x (handshakes p)) lines.1
         on false ef = record {
           received = λ z. step.asks (rose (rises c.before.req c.after.req) refl (sym receives ∙ z));
           newest = λ z.
               let u = before z in
-              ap (λ (x : Handshakes). x.struck) hand
-              ∙ ap (λ (x : Bool). (answered_if (rises c.before.ack c.after.ack) row.time (asked_if x row.time (handshakes p))).struck) (step.owing (t.newest u) (t.owing u)).0
-              ∙ kept (rises c.before.ack c.after.ack)
-              ∙ t.newest u;
+              ap (λ (x : Handshakes). x.struck) hand ∙ ap (λ (x : Bool).
+              (answered_if (rises c.before.ack c.after.ack) row.time (asked_if x row.time (handshakes p))).struck)
+              (step.owing (t.newest u) (t.owing u)).0 ∙ kept (rises c.before.ack c.after.ack) ∙ t.newest u;
           owing = λ z. let u = before z in (step.owing (t.newest u) (t.owing u)).1;
         }
           where
             before : is_struck_phase s q ≡ true → is_struck_phase s p ≡ true
             before z = ap (λ (x : Bool). x || is_struck_phase s p) (sym ef) ∙ was_struck z
 
-            hand : handshakes q ≡ answered_if (rises c.before.ack c.after.ack) row.time (asked_if (rises c.before.req c.after.req) row.time (handshakes p))
-            hand = (λ i. handshakes_after (ef i) (after i) c row.time (handshakes p)) ∙ ap (λ (x : Bool). if x then no_handshakes else answered_if (rises c.before.ack c.after.ack) row.time (asked_if (rises c.before.req c.after.req) row.time (handshakes p))) ep
+            hand : handshakes q ≡ answered_if (rises c.before.ack c.after.ack) row.time
+                (asked_if (rises c.before.req c.after.req) row.time (handshakes p))
+            hand = (λ i. handshakes_after (ef i) (after i) c row.time (handshakes p))
+                ∙ ap (λ (x : Bool). if x then no_handshakes else answered_if (rises c.before.ack c.after.ack) row.time
+                (asked_if (rises c.before.req c.after.req) row.time (handshakes p))) ep
 
             kept : (a : Bool) → (answered_if a row.time (handshakes p)).struck ≡ (handshakes p).struck
             kept true = refl
             kept false = refl
 
-            receives : is_some (receiver q) ≡ is_some (if rises c.before.req c.after.req then Some n.initiator else None)
-            receives =
-                ap (λ (x : Option Connection). is_some (receiver_of x c)) con
-                ∙ ap (λ (x : Bool). is_some (if x then (if rises c.before.req c.after.req then Some n.initiator else None) else (if rises c.before.ack c.after.ack then Some n.target else None))) lines.1
+            receives : is_some (receiver q)
+                ≡ is_some (if rises c.before.req c.after.req then Some n.initiator else None)
+            receives = ap (λ (x : Option Connection). is_some (receiver_of x c)) con ∙ ap
+                (λ (x : Bool). is_some (if x then (if rises c.before.req c.after.req then Some n.initiator else None)
+                else (if rises c.before.ack c.after.ack then Some n.target else None))) lines.1
 
-            rose : (x : Bool) → rises c.before.req c.after.req ≡ x → is_some (if rises c.before.req c.after.req then Some n.initiator else None) ≡ true → rises c.before.req c.after.req ≡ true
+            rose : (x : Bool) → rises c.before.req c.after.req ≡ x
+                → is_some (if rises c.before.req c.after.req then Some n.initiator else None) ≡ true
+                → rises c.before.req c.after.req ≡ true
             rose true e z = e
             rose false e z = wrong' (sym (ap (λ (x : Bool). is_some (if x then Some n.initiator else None)) e) ∙ z)
 
@@ -204,11 +221,15 @@ struck_next s p row o prompt was now facts n after calm b here = by (row_kind s 
 
 struck_all : (s : ScenarioValue) (p : List Row) → Obeys s → IsPrompt s p → StruckFacts s p
 struck_all s [] o prompt = λ n e off b here. none_some n e
-struck_all s (row ∷ p) o prompt = struck_next s p row o prompt (whole s p o prompt.0) (whole s (row ∷ p) o prompt) (struck_all s p o prompt.0)
+struck_all s (row ∷ p) o prompt =
+    struck_next s p row o prompt (whole s p o prompt.0) (whole s (row ∷ p) o prompt) (struck_all s p o prompt.0)
 
 -- As the phase is left ATN is true, and the byte that crossed last was struck.
-pub struck_attends : (s : ScenarioValue) (p : List Row) (row : Row) (n : Connection) → Obeys s → IsPrompt s (row ∷ p) → IsLeaving s p row n → is_talk (phase_of (bus p)) ≡ true → is_struck_phase s p ≡ true → ((bus p).atn ≡ true) × ((handshakes p).struck ≡ true)
-struck_attends s p row n o prompt w phase struck = (sym (or_false (bus p).atn) ∙ ap (λ (x : Bool). (bus p).atn || x) (sym over) ∙ t.owing struck, t.newest struck)
+pub struck_attends : (s : ScenarioValue) (p : List Row) (row : Row) (n : Connection) → Obeys s
+    → IsPrompt s (row ∷ p) → IsLeaving s p row n → is_talk (phase_of (bus p)) ≡ true → is_struck_phase s p ≡ true
+    → ((bus p).atn ≡ true) × ((handshakes p).struck ≡ true)
+struck_attends s p row n o prompt w phase struck =
+    (sym (or_false (bus p).atn) ∙ ap (λ (x : Bool). (bus p).atn || x) (sym over) ∙ t.owing struck, t.newest struck)
   where
     was : Whole s p
     was = whole s p o prompt.0
@@ -225,7 +246,9 @@ struck_attends s p row n o prompt w phase struck = (sym (or_false (bus p).atn) �
     next_is : (row_reading (run_state s p).story.bus_state row).next ≡ connection (row ∷ p)
     next_is = λ i. connection_after (pl.connection i) (pl.call i) (change i) row
 
-    ended : (changes_phase (row_reading (run_state s p).story.bus_state row).change ≡ true) ⊎ ((row_reading (run_state s p).story.bus_state row).next ≡ None) → (changes_phase (change_of p row) ≡ true) ⊎ (connection (row ∷ p) ≡ None)
+    ended : (changes_phase (row_reading (run_state s p).story.bus_state row).change ≡ true)
+        ⊎ ((row_reading (run_state s p).story.bus_state row).next ≡ None)
+        → (changes_phase (change_of p row) ≡ true) ⊎ (connection (row ∷ p) ≡ None)
     ended (inl z) = inl (ap changes_phase (sym change) ∙ z)
     ended (inr z) = inr (sym next_is ∙ z)
 
@@ -233,4 +256,5 @@ struck_attends s p row n o prompt w phase struck = (sym (or_false (bus p).atn) �
     lines = talk_lines (bus p) (known s p n was w.stands w.calm) phase
 
     over : awaits (bus p) ≡ false
-    over = (struck_row s p row n lines.1 lines.0 (connection_row s p row n o prompt was.stood w.stands w.calm w.calm_after).link).over (ended w.leaves)
+    over = (struck_row s p row n lines.1 lines.0
+        (connection_row s p row n o prompt was.stood w.stands w.calm w.calm_after).link).over (ended w.leaves)

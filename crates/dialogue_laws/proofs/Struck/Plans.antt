@@ -12,13 +12,21 @@ use proofs.Names.{is_struck_phase, not_message_out}
 abbrev pub TakesBytes : LineSet → Type 0
 TakesBytes b = (b.io ≡ false) × (b.msg ≡ false)
 
-plan_knows : (w : Hearing) (l : Leaving) (p : Plan) (was : Bool) → TakesBytes w.change.before → changes_phase w.change ≡ false → (w.fault ≡ true → w.crosses ≡ false) → (was ≡ true → p.struck ≡ true) → (w.fault || was) ≡ true → (plan_after w l p).struck ≡ true
-plan_knows w l p was t ep apart h e = ap (λ (q : Bool). (if q then plan_in_phase w l p else if w.crosses then plan_with_byte w p else if w.fault && not w.change.before.io then struck_plan p else p).struck) ep ∙ go w.crosses refl w.fault refl
+plan_knows : (w : Hearing) (l : Leaving) (p : Plan) (was : Bool) → TakesBytes w.change.before
+    → changes_phase w.change ≡ false → (w.fault ≡ true → w.crosses ≡ false) → (was ≡ true → p.struck ≡ true)
+    → (w.fault || was) ≡ true → (plan_after w l p).struck ≡ true
+plan_knows w l p was t ep apart h e =
+    ap (λ (q : Bool). (if q then plan_in_phase w l p else if w.crosses then plan_with_byte w p
+    else if w.fault && not w.change.before.io then struck_plan p else p).struck) ep
+    ∙ go w.crosses refl w.fault refl
   where
     byte : p.struck ≡ true → (plan_with_byte w p).struck ≡ true
-    byte s = ap (λ (q : Bool). (if q then Rattle.bus_due.specs.bus_dialogue.specs.Exchange.plan_after_message p w.is_last w.out else p).struck) (not_message_out w.change.before t.1) ∙ s
+    byte s = ap (λ (q : Bool).
+        (if q then Rattle.bus_due.specs.bus_dialogue.specs.Exchange.plan_after_message p w.is_last w.out else p).struck)
+        (not_message_out w.change.before t.1) ∙ s
 
-    go : (c : Bool) → w.crosses ≡ c → (f : Bool) → w.fault ≡ f → (if c then plan_with_byte w p else if f && not w.change.before.io then struck_plan p else p).struck ≡ true
+    go : (c : Bool) → w.crosses ≡ c → (f : Bool) → w.fault ≡ f
+        → (if c then plan_with_byte w p else if f && not w.change.before.io then struck_plan p else p).struck ≡ true
     go true ec true ef = wrong (sym ec ∙ apart ef)
     go true ec false ef = byte (h (sym (ap (λ (q : Bool). q || was) ef) ∙ e))
     go false ec true ef = ap (λ (q : Bool). (if not q then struck_plan p else p).struck) t.0
@@ -28,9 +36,11 @@ four : (a b c d : Bool) → (a && b && c && d) ≡ true → (a ≡ true) × (b �
 four true true true d e = (refl, refl, refl, e)
 four _ _ _ d e = wrong' e
 
-pub struck_known : (s : ScenarioValue) (p : List Row) → AreRowsOf s p → is_struck_phase s p ≡ true → TakesBytes (bus_of (run_state s p)) → (run_state s p).exchange.plan.struck ≡ true
+pub struck_known : (s : ScenarioValue) (p : List Row) → AreRowsOf s p → is_struck_phase s p ≡ true
+    → TakesBytes (bus_of (run_state s p)) → (run_state s p).exchange.plan.struck ≡ true
 struck_known s [] rows e t = wrong' e
-struck_known s (row ∷ p) rows e t = by (λ z x. struck_known s p rows.0 z x) k.story.bus_state.connection refl d.next refl
+struck_known s (row ∷ p) rows e t =
+    by (λ z x. struck_known s p rows.0 z x) k.story.bus_state.connection refl d.next refl
   where
     k : RunState
     k = run_state s p
@@ -44,8 +54,10 @@ struck_known s (row ∷ p) rows e t = by (λ z x. struck_known s p rows.0 z x) k
     l : Leaving
     l = leaving_of s k k.story.bus_state.connection
 
-    parts : (is_some k.story.bus_state.connection ≡ true) × (is_some d.next ≡ true) × (not (changes_phase d.change) ≡ true) × ((is_fault row.kind || is_struck_phase s p) ≡ true)
-    parts = four (is_some k.story.bus_state.connection) (is_some d.next) (not (changes_phase d.change)) (is_fault row.kind || is_struck_phase s p) e
+    parts : (is_some k.story.bus_state.connection ≡ true) × (is_some d.next ≡ true)
+        × (not (changes_phase d.change) ≡ true) × ((is_fault row.kind || is_struck_phase s p) ≡ true)
+    parts = four (is_some k.story.bus_state.connection) (is_some d.next) (not (changes_phase d.change))
+        (is_fault row.kind || is_struck_phase s p) e
 
     stays : changes_phase d.change ≡ false
     stays = not-true (changes_phase d.change) parts.2
@@ -62,7 +74,8 @@ struck_known s (row ∷ p) rows e t = by (λ z x. struck_known s p rows.0 z x) k
     apart : is_fault row.kind ≡ true → d.crosses ≡ false
     apart f = of (rows.1)
       where
-        kinds : (n : Connection) (c : Change) → k.story.bus_state.connection ≡ Some n → d.change ≡ c → RowKind row n c → d.crosses ≡ false
+        kinds : (n : Connection) (c : Change) → k.story.bus_state.connection ≡ Some n → d.change ≡ c → RowKind row n c
+            → d.crosses ≡ false
         kinds n c con ch (still g ep er) = wrong (sym f ∙ g)
         kinds n c con ch (strikes g ep er) = (λ i. is_some (receiver_of (con i) (ch i))) ∙ no_byte (receiver_in n c) er
         kinds n c con ch (crosses dev g ep er) = wrong (sym f ∙ g)
@@ -75,7 +88,9 @@ struck_known s (row ∷ p) rows e t = by (λ z x. struck_known s p rows.0 z x) k
         of (ends n g) = wrong' (sym (ap (λ (x : Option Connection). is_some x) g.next_is) ∙ parts.1)
         of (under_reset on quiet) = quiet
 
-    by : (is_struck_phase s p ≡ true → TakesBytes (bus_of k) → k.exchange.plan.struck ≡ true) → (a : Option Connection) → k.story.bus_state.connection ≡ a → (b : Option Connection) → d.next ≡ b → (run_state s (row ∷ p)).exchange.plan.struck ≡ true
+    by : (is_struck_phase s p ≡ true → TakesBytes (bus_of k) → k.exchange.plan.struck ≡ true)
+        → (a : Option Connection) → k.story.bus_state.connection ≡ a → (b : Option Connection) → d.next ≡ b
+        → (run_state s (row ∷ p)).exchange.plan.struck ≡ true
     by was None ea b eb = wrong' (sym (ap (λ (x : Option Connection). is_some x) ea) ∙ parts.0)
     by was (Some m) ea None eb = wrong' (sym (ap (λ (x : Option Connection). is_some x) eb) ∙ parts.1)
     by was (Some m) ea (Some n) eb =

@@ -1,5 +1,5 @@
--- MESSAGE OUT that follows a phase to the initiator in which a byte was struck is left with the complaint heard (6.6.10, 6.6.13): it is
--- not the answer to a request of the target (6.6.21).
+-- MESSAGE OUT that follows a phase to the initiator in which a byte was struck is left with the complaint heard
+-- (6.6.10, 6.6.13): it is not the answer to a request of the target (6.6.21).
 use Rattle.dialogue_laws.proofs
 use proofs.Names.{inl, ◌≡◌, ◌<◌, Bool, true, false, not, ◌&&◌, ◌||◌, ◌∙◌, List, [], ◌∷◌, Option, Some, None, refl, sym}
 use proofs.Names.{ap, subst, if◌then◌else◌, is_none, is_some, wrong', change_of, LineSet, changes_phase, is_message_in}
@@ -24,7 +24,8 @@ Refuses x Cause.InData = true ≡ true
 Refuses x Cause.InStatus = true ≡ true
 
 abbrev RefusalFacts : ScenarioValue → List Row → Type 0
-RefusalFacts s p = (n : Connection) → connection p ≡ Some n → (bus p).rst ≡ false → begun p ≡ true → is_refusing s p ≡ true → Refuses (run_state s p).exchange (run_state s p).exchange.plan.cause
+RefusalFacts s p = (n : Connection) → connection p ≡ Some n → (bus p).rst ≡ false → begun p ≡ true
+    → is_refusing s p ≡ true → Refuses (run_state s p).exchange (run_state s p).exchange.plan.cause
 
 refuses_as : (x y : Exchange) (cause : Cause) → y.speech.words ≡ x.speech.words → Refuses x cause → Refuses y cause
 refuses_as x y Cause.InMessage e h = e ∙ h
@@ -32,7 +33,8 @@ refuses_as x y _ e h = h
 
 -- ---- the phase stays
 
-cause_said : (q last : Bool) (m : Option MsgOut) (p : Plan) → (if q then plan_after_message p last m else p).cause ≡ p.cause
+cause_said : (q last : Bool) (m : Option MsgOut) (p : Plan)
+    → (if q then plan_after_message p last m else p).cause ≡ p.cause
 cause_said true true m p = refl
 cause_said _ _ m p = refl
 
@@ -45,33 +47,42 @@ record SameWords (x y : Exchange) : Type 0 where
   words : y.speech.words ≡ x.speech.words
   cause : y.plan.cause ≡ x.plan.cause
 
-same_words : (s : ScenarioValue) (k : RunState) (row : Row) (n : Connection) (c : Change) (now fault : Bool) → InConnection s k row n c false now fault → SameWords k.exchange (run_state_after s k row).exchange
+same_words : (s : ScenarioValue) (k : RunState) (row : Row) (n : Connection) (c : Change) (now fault : Bool)
+    → InConnection s k row n c false now fault → SameWords k.exchange (run_state_after s k row).exchange
 same_words s k row n c true fault at =
     let d = reading_in k.story.bus_state n c true in
     record {
-      words = ap (λ (x : Exchange). x.speech.words) at.exchange_is ∙ speech_said (is_message_out c.before) d.into k.exchange.speech;
-      cause = ap (λ (x : Exchange). x.plan.cause) at.exchange_is ∙ cause_said (is_message_out c.before) k.story.bus_state.dialogue.is_last d.out k.exchange.plan;
+      words = ap (λ (x : Exchange). x.speech.words) at.exchange_is
+          ∙ speech_said (is_message_out c.before) d.into k.exchange.speech;
+      cause = ap (λ (x : Exchange). x.plan.cause) at.exchange_is
+          ∙ cause_said (is_message_out c.before) k.story.bus_state.dialogue.is_last d.out k.exchange.plan;
     }
 same_words s k row n c false fault at = record {
   words = ap (λ (x : Exchange). x.speech.words) at.exchange_is;
   cause = ap (λ (x : Exchange). x.plan.cause) at.exchange_is ∙ cause_struck (fault && not c.before.io) k.exchange.plan;
 }
 
-words_stay : (s : ScenarioValue) (p : List Row) (row : Row) (n : Connection) → Obeys s → IsPrompt s (row ∷ p) → Whole s p → IsWithin p row n → SameWords (run_state s p).exchange (run_state s (row ∷ p)).exchange
+words_stay : (s : ScenarioValue) (p : List Row) (row : Row) (n : Connection) → Obeys s → IsPrompt s (row ∷ p)
+    → Whole s p → IsWithin p row n → SameWords (run_state s p).exchange (run_state s (row ∷ p)).exchange
 words_stay s p row n o prompt was w =
     let k : RunState = run_state s p in
     let lt = (least_is s p row prompt.1).inside in
-    let g : GoingRow s p row n = going_row s p row n was.stood.standing.devices lt w.before w.after w.calm_after (standing_next s p row o prompt was).row_is (connection_row s p row n o prompt was.stood w.before w.calm w.calm_after).facts in
+    let g : GoingRow s p row n = going_row s p row n was.stood.standing.devices lt w.before w.after w.calm_after
+    (standing_next s p row o prompt was).row_is
+    (connection_row s p row n o prompt was.stood w.before w.calm w.calm_after).facts in
     same_words s k row n g.change (is_some (receiver_in n g.change)) (is_fault row.kind)
-    (in_connection s k row n g.change false (is_some (receiver_in n g.change)) (is_fault row.kind) g.goes.row_is (ap changes_phase g.change_is ∙ w.lasts) refl refl)
+    (in_connection s k row n g.change false (is_some (receiver_in n g.change)) (is_fault row.kind) g.goes.row_is
+    (ap changes_phase g.change_is ∙ w.lasts) refl refl)
 
-pub cause_stays : (s : ScenarioValue) (p : List Row) (row : Row) (n : Connection) → Obeys s → IsPrompt s (row ∷ p) → IsWithin p row n → (run_state s (row ∷ p)).exchange.plan.cause ≡ (run_state s p).exchange.plan.cause
+pub cause_stays : (s : ScenarioValue) (p : List Row) (row : Row) (n : Connection) → Obeys s → IsPrompt s (row ∷ p)
+    → IsWithin p row n → (run_state s (row ∷ p)).exchange.plan.cause ≡ (run_state s p).exchange.plan.cause
 cause_stays s p row n o prompt w = (words_stay s p row n o prompt (whole s p o prompt.0) w).cause
 
 -- ---- it begins
 
 -- I/O is true in phases alone.
-begun_with_io : (s : ScenarioValue) (p : List Row) (n : Connection) → LinkStage s p n → (bus p).io ≡ true → begun p ≡ true
+begun_with_io : (s : ScenarioValue) (p : List Row) (n : Connection) → LinkStage s p n → (bus p).io ≡ true
+    → begun p ≡ true
 begun_with_io s p n (when_selected h) io = wrong' (sym (ap (λ (l : LineSet). l.io) h.linked.stands.bus_is) ∙ io)
 begun_with_io s p n (when_settling bsy atn msg cd i y h) io = h.phase.begun_is
 begun_with_io s p n (when_turning atn x msg cd h) io = h.phase.begun_is
@@ -79,11 +90,16 @@ begun_with_io s p n (when_offering atn msg cd y h) io = h.phase.begun_is
 begun_with_io s p n (when_shaking msg cd i req ack atn x y h) io = h.phase.begun_is
 begun_with_io s p n (when_pulsing i req ack atn x y h a) io = h.phase.begun_is
 
-begins_refusing : (x : Exchange) (h : Option HostDef) (b : LineSet) (struck : Bool) (asked : Agreement) → x.plan.cause ≡ cause_after b → x.speech.words ≡ words_by h b struck asked → (is_message_in b ≡ true → struck ≡ true) → Refuses x x.plan.cause
-begins_refusing x h b struck asked cause words told = subst (λ (y : Cause). Refuses x y) (sym cause) (go (is_message_in b) refl b.cd)
+begins_refusing : (x : Exchange) (h : Option HostDef) (b : LineSet) (struck : Bool) (asked : Agreement)
+    → x.plan.cause ≡ cause_after b → x.speech.words ≡ words_by h b struck asked
+    → (is_message_in b ≡ true → struck ≡ true) → Refuses x x.plan.cause
+begins_refusing x h b struck asked cause words told =
+    subst (λ (y : Cause). Refuses x y) (sym cause) (go (is_message_in b) refl b.cd)
   where
-    go : (m : Bool) → is_message_in b ≡ m → (c : Bool) → Refuses x (if m then Cause.InMessage else if c then Cause.InStatus else Cause.InData)
-    go true e c = words ∙ (λ i. if not (e i) then detected_error else if told e i then parity_error else answer_bytes h asked)
+    go : (m : Bool) → is_message_in b ≡ m
+        → (c : Bool) → Refuses x (if m then Cause.InMessage else if c then Cause.InStatus else Cause.InData)
+    go true e c =
+        words ∙ (λ i. if not (e i) then detected_error else if told e i then parity_error else answer_bytes h asked)
     go false e true = refl
     go false e false = refl
 
@@ -93,7 +109,8 @@ three _ _ _ e = wrong' e
 
 -- ---- any row
 
-refusal_next : (s : ScenarioValue) (p : List Row) (row : Row) → Obeys s → IsPrompt s (row ∷ p) → Whole s p → RefusalFacts s p → RefusalFacts s (row ∷ p)
+refusal_next : (s : ScenarioValue) (p : List Row) (row : Row) → Obeys s → IsPrompt s (row ∷ p) → Whole s p
+    → RefusalFacts s p → RefusalFacts s (row ∷ p)
 refusal_next s p row o prompt was facts n after calm b here = by (row_kind s p row n o prompt was.stood after calm)
   where
     q : List Row
@@ -117,16 +134,22 @@ refusal_next s p row o prompt was facts n after calm b here = by (row_kind s p r
     change : d.change ≡ c
     change = change_plain s row p was.stood.standing.devices lt
 
-    refusing : (if changes_phase c then c.before.io && is_struck_phase s p && is_message_out c.after else is_refusing s p) ≡ true
-    refusing =
-        (λ i. if changes_phase (sym change i) then (sym change i).before.io && is_struck_phase s p && is_message_out (sym change i).after else is_refusing s p)
-        ∙ (three (is_some k.story.bus_state.connection) (is_some d.next) _ here).2
+    refusing :
+        (if changes_phase c then c.before.io && is_struck_phase s p && is_message_out c.after else is_refusing s p)
+        ≡ true
+    refusing = (λ i. if changes_phase (sym change i)
+        then (sym change i).before.io && is_struck_phase s p && is_message_out (sym change i).after
+        else is_refusing s p) ∙ (three (is_some k.story.bus_state.connection) (is_some d.next) _ here).2
 
-    entered : connection p ≡ Some n → (bus p).rst ≡ false → changes_phase c ≡ true → Refuses (run_state s q).exchange (run_state s q).exchange.plan.cause
-    entered con off ep = begins_refusing (run_state s q).exchange (host_of s n.initiator) (bus_of k) k.handshakes.struck k.exchange.speech.asked says.0 says.1 told
+    entered : connection p ≡ Some n → (bus p).rst ≡ false → changes_phase c ≡ true
+        → Refuses (run_state s q).exchange (run_state s q).exchange.plan.cause
+    entered con off ep = begins_refusing (run_state s q).exchange (host_of s n.initiator)
+        (bus_of k) k.handshakes.struck k.exchange.speech.asked says.0 says.1 told
       where
         begins : (c.before.io ≡ true) × (is_struck_phase s p ≡ true) × (is_message_out c.after ≡ true)
-        begins = three c.before.io (is_struck_phase s p) (is_message_out c.after) (ap (λ (x : Bool). if x then c.before.io && is_struck_phase s p && is_message_out c.after else is_refusing s p) (sym ep) ∙ refusing)
+        begins = three c.before.io (is_struck_phase s p) (is_message_out c.after) (ap
+            (λ (x : Bool). if x then c.before.io && is_struck_phase s p && is_message_out c.after else is_refusing s p)
+            (sym ep) ∙ refusing)
 
         w : IsLeaving s p row n
         w = record {
@@ -138,37 +161,44 @@ refusal_next s p row o prompt was facts n after calm b here = by (row_kind s p r
         }
 
         present : present_phase q ≡ Some Phase.MessageOut
-        present = ap (λ (x : Option Connection). phase_if x (bus q)) after ∙ ap (λ (x : Phase). Some x) (out_phase c.after begins.2)
+        present = ap (λ (x : Option Connection). phase_if x (bus q)) after
+            ∙ ap (λ (x : Phase). Some x) (out_phase c.after begins.2)
 
-        says : ((run_state s q).exchange.plan.cause ≡ cause_after (bus_of k)) × ((run_state s q).exchange.speech.words ≡ words_by (host_of s n.initiator) (bus_of k) k.handshakes.struck k.exchange.speech.asked)
+        says : ((run_state s q).exchange.plan.cause ≡ cause_after (bus_of k)) × ((run_state s q).exchange.speech.words
+            ≡ words_by (host_of s n.initiator) (bus_of k) k.handshakes.struck k.exchange.speech.asked)
         says = (phase_end s p row n o prompt w).says present
 
         told : is_message_in (bus_of k) ≡ true → k.handshakes.struck ≡ true
-        told m =
-            ap (λ (x : Handshakes). x.struck) pl.handshakes
-            ∙ (struck_attends s p row n o prompt w (ap is_talk (in_phase (bus p) (ap is_message_in (sym pl.bus) ∙ m))) begins.1).1
+        told m = ap (λ (x : Handshakes). x.struck) pl.handshakes ∙ (struck_attends s p row n o prompt w
+            (ap is_talk (in_phase (bus p) (ap is_message_in (sym pl.bus) ∙ m))) begins.1).1
 
-    stays : connection p ≡ Some n → (bus p).rst ≡ false → changes_phase c ≡ false → Refuses (run_state s q).exchange (run_state s q).exchange.plan.cause
-    stays con off ep =
-        subst (λ (x : Cause). Refuses (run_state s q).exchange x) (sym words.cause)
-        (refuses_as k.exchange (run_state s q).exchange k.exchange.plan.cause words.words (facts n con off started before))
+    stays : connection p ≡ Some n → (bus p).rst ≡ false → changes_phase c ≡ false
+        → Refuses (run_state s q).exchange (run_state s q).exchange.plan.cause
+    stays con off ep = subst (λ (x : Cause). Refuses (run_state s q).exchange x) (sym words.cause) (refuses_as
+        k.exchange (run_state s q).exchange k.exchange.plan.cause words.words (facts n con off started before))
       where
         started : begun p ≡ true
-        started = or_left (begun p) ((λ i. sym ep i || begun p) ∙ (λ i. begun_after (begun p) (sym con i) (sym after i) c) ∙ b)
+        started = or_left (begun p)
+            ((λ i. sym ep i || begun p) ∙ (λ i. begun_after (begun p) (sym con i) (sym after i) c) ∙ b)
 
         before : is_refusing s p ≡ true
-        before = ap (λ (x : Bool). if x then c.before.io && is_struck_phase s p && is_message_out c.after else is_refusing s p) (sym ep) ∙ refusing
+        before = ap
+            (λ (x : Bool). if x then c.before.io && is_struck_phase s p && is_message_out c.after else is_refusing s p)
+            (sym ep) ∙ refusing
 
         words : SameWords k.exchange (run_state s q).exchange
-        words = words_stay s p row n o prompt was (record { before = con; after = after; calm = off; calm_after = calm; lasts = ep })
+        words = words_stay s p row n o prompt was
+            (record { before = con; after = after; calm = off; calm_after = calm; lasts = ep })
 
-    on : connection p ≡ Some n → (bus p).rst ≡ false → (x : Bool) → changes_phase c ≡ x → Refuses (run_state s q).exchange (run_state s q).exchange.plan.cause
+    on : connection p ≡ Some n → (bus p).rst ≡ false → (x : Bool) → changes_phase c ≡ x
+        → Refuses (run_state s q).exchange (run_state s q).exchange.plan.cause
     on con off true ep = entered con off ep
     on con off false ep = stays con off ep
 
     none : connection p ≡ None → false ≡ true
-    none alone =
-        (λ i. is_some (sym (pl.connection ∙ alone) i) && is_some d.next && (if changes_phase d.change then d.change.before.io && is_struck_phase s p && is_message_out d.change.after else is_refusing s p)) ∙ here
+    none alone = (λ i. is_some (sym (pl.connection ∙ alone) i) && is_some d.next
+        && (if changes_phase d.change then d.change.before.io && is_struck_phase s p && is_message_out d.change.after
+        else is_refusing s p)) ∙ here
 
     by : RowKindOf s p row n → Refuses (run_state s q).exchange (run_state s q).exchange.plan.cause
     by (begins_now alone f) = wrong' (none alone)
@@ -180,15 +210,20 @@ refusals s (row ∷ p) o prompt = refusal_next s p row o prompt (whole s p o pro
 
 -- ---- MESSAGE OUT is left
 
-complains : (x : Exchange) (cause : Cause) → x.plan.cause ≡ cause → Refuses x cause → (x.speech.words ≡ parity_error → x.plan.said.offer ≡ None) → is_complaint x.plan cause ≡ true
+complains : (x : Exchange) (cause : Cause) → x.plan.cause ≡ cause → Refuses x cause
+    → (x.speech.words ≡ parity_error → x.plan.said.offer ≡ None) → is_complaint x.plan cause ≡ true
 complains x Cause.Selected e h f = wrong' h
 complains x Cause.InMessage e h f = ap (λ (a : Option Agreement). is_none a) (f h)
 complains x Cause.InData e h f = refl
 complains x Cause.InStatus e h f = refl
 
 -- The target has heard the complaint.
-pub refused_out : (s : ScenarioValue) (p : List Row) (row : Row) (n : Connection) (q : Process) → Obeys s → IsPrompt s (row ∷ p) → Left s p row n q → phase_of (bus p) ≡ Phase.MessageOut → is_refusing s p ≡ true → is_complaint (run_state s p).exchange.plan (run_state s p).exchange.plan.cause ≡ true
-refused_out s p row n q o prompt h e refusing = complains k.exchange k.exchange.plan.cause refl (refusals s p o prompt.0 n h.leaving_row.stands h.leaving_row.calm (sym pl.begun ∙ h.leaving_row.begun) refusing) unasked
+pub refused_out : (s : ScenarioValue) (p : List Row) (row : Row) (n : Connection) (q : Process) → Obeys s
+    → IsPrompt s (row ∷ p) → Left s p row n q → phase_of (bus p) ≡ Phase.MessageOut → is_refusing s p ≡ true
+    → is_complaint (run_state s p).exchange.plan (run_state s p).exchange.plan.cause ≡ true
+refused_out s p row n q o prompt h e refusing = complains k.exchange k.exchange.plan.cause refl
+    (refusals s p o prompt.0 n h.leaving_row.stands h.leaving_row.calm (sym pl.begun ∙ h.leaving_row.begun) refusing)
+    unasked
   where
     k : RunState
     k = run_state s p
@@ -202,6 +237,8 @@ refused_out s p row n q o prompt h e refusing = complains k.exchange k.exchange.
     -- of MESSAGE PARITY ERROR alone no request is heard
     unasked : k.exchange.speech.words ≡ parity_error → k.exchange.plan.said.offer ≡ None
     unasked words =
-        let speaks = h.end.was.stood.books.speaks n (pl.connection ∙ h.leaving_row.stands) (ap (λ (x : LineSet). x.rst) pl.bus ∙ h.leaving_row.calm) in
+        let speaks = h.end.was.stood.books.speaks n (pl.connection ∙ h.leaving_row.stands)
+        (ap (λ (x : LineSet). x.rst) pl.bus ∙ h.leaving_row.calm) in
         let heard = (speaks.in_message_out h.leaving_row.begun out).heard in
-        ap (λ (z : Said). z.offer) (all_said k.exchange k.story.bus_state.dialogue parity_error heard (taken_all s p row n o h.end h.leaving_row e).last words ∙ parity_said)
+        ap (λ (z : Said). z.offer) (all_said k.exchange k.story.bus_state.dialogue parity_error heard
+        (taken_all s p row n o h.end h.leaving_row e).last words ∙ parity_said)

@@ -73,7 +73,8 @@ seen_linked v c n e = record {
   reading = v.reading;
 }
 
-pub linked_is : (p : List Row) (row : Row) (n : Connection) (e : EndLines) (c : Change) → Linked p n e → change_of p row ≡ c → seen p row ≡ seen_linked (around p row.dev n c) c n e
+pub linked_is : (p : List Row) (row : Row) (n : Connection) (e : EndLines) (c : Change) → Linked p n e
+    → change_of p row ≡ c → seen p row ≡ seen_linked (around p row.dev n c) c n e
 unfolding seen_with
 linked_is p row n e c h ec =
     λ i. record {
@@ -84,9 +85,12 @@ linked_is p row n e c h ec =
       bsy_raised = raised (λ s. s.bsy) p row.dev;
       rst_raised = raised (λ s. s.rst) p row.dev;
       others_drive = others_in_call (drives p) (h.stands.call_is i);
-      initiator_bsy = ((λ j. drives_bsy (drives p) (initiator_of (h.stands.call_is j) (h.stands.connection_is j))) ∙ ap (λ (z : LineSet). z.bsy) h.initiator) i;
-      initiator_data = ((λ j. initiator_data (drives p) (h.stands.connection_is j)) ∙ ap (λ (z : LineSet). drives_data z) h.initiator) i;
-      target_data = ((λ j. target_data (drives p) (h.stands.connection_is j)) ∙ ap (λ (z : LineSet). drives_data z) h.target) i;
+      initiator_bsy = ((λ j. drives_bsy (drives p) (initiator_of (h.stands.call_is j) (h.stands.connection_is j)))
+          ∙ ap (λ (z : LineSet). z.bsy) h.initiator) i;
+      initiator_data = ((λ j. initiator_data (drives p) (h.stands.connection_is j))
+          ∙ ap (λ (z : LineSet). drives_data z) h.initiator) i;
+      target_data =
+          ((λ j. target_data (drives p) (h.stands.connection_is j)) ∙ ap (λ (z : LineSet). drives_data z) h.target) i;
       receiver = receiver p;
       arbitration = h.stands.arbitration_is i;
       call = h.stands.call_is i;
@@ -106,26 +110,112 @@ linked_is p row n e c h ec =
 -- ---- the rules that a row obeys by the wires, and those that it obeys by what is said
 
 abbrev pub wire_rules : List ℕ
-wire_rules = 1 ∷ 2 ∷ 3 ∷ 4 ∷ 5 ∷ 6 ∷ 7 ∷ 8 ∷ 9 ∷ 10 ∷ 11 ∷ 12 ∷ 13 ∷ 14 ∷ 15 ∷ 16 ∷ 18 ∷ 19 ∷ 20 ∷ 21 ∷ 22 ∷ 23 ∷ 24 ∷ 27 ∷ 28 ∷ []
+wire_rules = 1 ∷ 2 ∷ 3 ∷ 4 ∷ 5 ∷ 6 ∷ 7 ∷ 8 ∷ 9 ∷ 10 ∷ 11 ∷ 12 ∷ 13 ∷ 14 ∷ 15 ∷ 16 ∷ 18 ∷ 19 ∷ 20 ∷ 21 ∷ 22 ∷ 23 ∷ 24
+    ∷ 27 ∷ 28 ∷ []
 
 abbrev pub wire_broken : Seen → Row → Option ℕ
 wire_broken v row = first_broken (λ n. keeps n v row) wire_rules
 
-with_books : (v : Seen) (row : Row) → wire_broken v row ≡ None → keeps 17 v row ≡ true → keeps 25 v row ≡ true → keeps 26 v row ≡ true → lowest_broken v row ≡ None
+with_books : (v : Seen) (row : Row) → wire_broken v row ≡ None → keeps 17 v row ≡ true → keeps 25 v row ≡ true
+    → keeps 26 v row ≡ true → lowest_broken v row ≡ None
 with_books v row w h17 h25 h26 =
     let a = all_kept (λ n. keeps n v row) wire_rules w in
-    none_broken (λ n. keeps n v row) judged_rules
-    (a.0, (a.1.0, (a.1.1.0, (a.1.1.1.0, (a.1.1.1.1.0, (a.1.1.1.1.1.0, (a.1.1.1.1.1.1.0, (a.1.1.1.1.1.1.1.0, (a.1.1.1.1.1.1.1.1.0, (a.1.1.1.1.1.1.1.1.1.0, (a.1.1.1.1.1.1.1.1.1.1.0, (a.1.1.1.1.1.1.1.1.1.1.1.0, (a.1.1.1.1.1.1.1.1.1.1.1.1.0, (a.1.1.1.1.1.1.1.1.1.1.1.1.1.0, (a.1.1.1.1.1.1.1.1.1.1.1.1.1.1.0, (a.1.1.1.1.1.1.1.1.1.1.1.1.1.1.1.0, (h17, (a.1.1.1.1.1.1.1.1.1.1.1.1.1.1.1.1.0, (a.1.1.1.1.1.1.1.1.1.1.1.1.1.1.1.1.1.0, (a.1.1.1.1.1.1.1.1.1.1.1.1.1.1.1.1.1.1.0, (a.1.1.1.1.1.1.1.1.1.1.1.1.1.1.1.1.1.1.1.0, (a.1.1.1.1.1.1.1.1.1.1.1.1.1.1.1.1.1.1.1.1.0, (a.1.1.1.1.1.1.1.1.1.1.1.1.1.1.1.1.1.1.1.1.1.0, (a.1.1.1.1.1.1.1.1.1.1.1.1.1.1.1.1.1.1.1.1.1.1.0, (h25, (h26, (a.1.1.1.1.1.1.1.1.1.1.1.1.1.1.1.1.1.1.1.1.1.1.1.0, (a.1.1.1.1.1.1.1.1.1.1.1.1.1.1.1.1.1.1.1.1.1.1.1.1.0, tt))))))))))))))))))))))))))))
+    none_broken (λ n. keeps n v row) judged_rules (
+      a.0,
+      (
+        a.1.0,
+        (
+          a.1.1.0,
+          (
+            a.1.1.1.0,
+            (
+              a.1.1.1.1.0,
+              (
+                a.1.1.1.1.1.0,
+                (
+                  a.1.1.1.1.1.1.0,
+                  (
+                    a.1.1.1.1.1.1.1.0,
+                    (
+                      a.1.1.1.1.1.1.1.1.0,
+                      (
+                        a.1.1.1.1.1.1.1.1.1.0,
+                        (
+                          a.1.1.1.1.1.1.1.1.1.1.0,
+                          (
+                            a.1.1.1.1.1.1.1.1.1.1.1.0,
+                            (
+                              a.1.1.1.1.1.1.1.1.1.1.1.1.0,
+                              (
+                                a.1.1.1.1.1.1.1.1.1.1.1.1.1.0,
+                                (
+                                  a.1.1.1.1.1.1.1.1.1.1.1.1.1.1.0,
+                                  (
+                                    a.1.1.1.1.1.1.1.1.1.1.1.1.1.1.1.0,
+                                    (
+                                      h17,
+                                      (
+                                        a.1.1.1.1.1.1.1.1.1.1.1.1.1.1.1.1.0,
+                                        (
+                                          a.1.1.1.1.1.1.1.1.1.1.1.1.1.1.1.1.1.0,
+                                          (
+                                            a.1.1.1.1.1.1.1.1.1.1.1.1.1.1.1.1.1.1.0,
+                                            (
+                                              a.1.1.1.1.1.1.1.1.1.1.1.1.1.1.1.1.1.1.1.0,
+                                              (
+                                                a.1.1.1.1.1.1.1.1.1.1.1.1.1.1.1.1.1.1.1.1.0,
+                                                (
+                                                  a.1.1.1.1.1.1.1.1.1.1.1.1.1.1.1.1.1.1.1.1.1.0,
+                                                  (
+                                                    a.1.1.1.1.1.1.1.1.1.1.1.1.1.1.1.1.1.1.1.1.1.1.0,
+                                                    (
+                                                      h25,
+                                                      (
+                                                        h26,
+                                                        (
+                                                          a.1.1.1.1.1.1.1.1.1.1.1.1.1.1.1.1.1.1.1.1.1.1.1.0,
+                                                          (a.1.1.1.1.1.1.1.1.1.1.1.1.1.1.1.1.1.1.1.1.1.1.1.1.0, tt),
+                                                        ),
+                                                      ),
+                                                    ),
+                                                  ),
+                                                ),
+                                              ),
+                                            ),
+                                          ),
+                                        ),
+                                      ),
+                                    ),
+                                  ),
+                                ),
+                              ),
+                            ),
+                          ),
+                        ),
+                      ),
+                    ),
+                  ),
+                ),
+              ),
+            ),
+          ),
+        ),
+      ),
+    )
 
 kept_if : (n : ℕ) (q : Bool) (x : Bool) → x ≡ true → (if q then true else x) ≡ true
 kept_if n true x e = refl
 kept_if n false x e = e
 
-pub obeys_linked : (p : List Row) (row : Row) (n : Connection) (e : EndLines) (c : Change) → Linked p n e → change_of p row ≡ c → c.after.rst ≡ false → KeepsBooksIn p row → wire_broken (seen_linked (around p row.dev n c) c n e) row ≡ None → broken_rule p row ≡ None
+pub obeys_linked : (p : List Row) (row : Row) (n : Connection) (e : EndLines) (c : Change)
+    → Linked p n e → change_of p row ≡ c → c.after.rst ≡ false → KeepsBooksIn p row
+    → wire_broken (seen_linked (around p row.dev n c) c n e) row ≡ None → broken_rule p row ≡ None
 obeys_linked p row n e c h ec calm books z =
     let same = linked_is p row n e c h ec in
     let v : Seen = seen_linked (around p row.dev n c) c n e in
-    let now : is_row_of_connection p row ≡ true = λ i. is_some (h.stands.connection_is i) && not (h.stands.bus_is i).rst && not ((ap (λ (w : Change). w.after.rst) ec ∙ calm) i) in
+    let now : is_row_of_connection p row ≡ true = λ i. is_some (h.stands.connection_is i)
+    && not (h.stands.bus_is i).rst && not ((ap (λ (w : Change). w.after.rst) ec ∙ calm) i) in
     let k = books now in
-    ap (λ (w : Seen). lowest_broken w row) same
-    ∙ with_books v row z (kept_if 17 _ _ (ap has_parity (sym same) ∙ k.byte)) (kept_if 25 _ _ (ap keeps_messages (sym same) ∙ k.messages)) (kept_if 26 _ _ (ap keeps_command (sym same) ∙ k.command))
+    ap (λ (w : Seen). lowest_broken w row) same ∙ with_books v row z
+    (kept_if 17 _ _ (ap has_parity (sym same) ∙ k.byte)) (kept_if 25 _ _ (ap keeps_messages (sym same) ∙ k.messages))
+    (kept_if 26 _ _ (ap keeps_command (sym same) ∙ k.command))

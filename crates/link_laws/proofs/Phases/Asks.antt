@@ -18,12 +18,16 @@ use proofs.Phases.Stays.{unpulsed_goes, turn_test, receives_if, data_by}
 pub hold_short : (period : ℕ) → (times_of period).hold ≤ 100
 hold_short period = go (nat_lt period 25) (nat_lt period 50)
   where
-    go : (a b : Bool) → (times_or_slow period (if a then None else if b then Some (fast_times period) else Some (slow_times period))).hold ≤ 100
+    go : (a b : Bool) → (times_or_slow period
+        (if a then None else if b then Some (fast_times period) else Some (slow_times period))).hold ≤ 100
     go true b = omega arith
     go false true = omega arith
     go false false = omega arith
 
-pub releases_byte : (s : ScenarioValue) (p : List Row) (n : Connection) (atn : Bool) (x : ℕ) (msg cd : Bool) (t : ℕ) → last_time p ≤ t → t ≤ (line_times p).io + DATA_RELEASE_DELAY → (x == 0) ≡ false → (not msg && not cd) ≡ false → Turning s p n atn x msg cd → KeepsBooksIn p (initiator_row t n (ends false false atn 0 msg cd true false 0)) → NextLinked s p (initiator_row t n (ends false false atn 0 msg cd true false 0)) n
+pub releases_byte : (s : ScenarioValue) (p : List Row) (n : Connection) (atn : Bool) (x : ℕ) (msg cd : Bool) (t : ℕ)
+    → last_time p ≤ t → t ≤ (line_times p).io + DATA_RELEASE_DELAY → (x == 0) ≡ false → (not msg && not cd) ≡ false
+    → Turning s p n atn x msg cd → KeepsBooksIn p (initiator_row t n (ends false false atn 0 msg cd true false 0))
+    → NextLinked s p (initiator_row t n (ends false false atn 0 msg cd true false 0)) n
 releases_byte s p n atn x msg cd t order soon some other h books =
     let e : EndLines = ends false false atn x msg cd true false 0 in
     let f : EndLines = ends false false atn 0 msg cd true false 0 in
@@ -34,7 +38,8 @@ releases_byte s p n atn x msg cd t order soon some other h books =
     let r = initiator_in_phase p n e false false atn 0 t h.linked in
     record {
       order = order;
-      obeys = obeys_linked p row n e c h.linked m.change refl books (byte_release_obeys (around p n.initiator n c) n atn msg cd x t h.linked.apart order some soon other);
+      obeys = obeys_linked p row n e c h.linked m.change refl books
+          (byte_release_obeys (around p n.initiator n c) n atn msg cd x t h.linked.apart order some soon other);
       stage = when_turning atn 0 msg cd (record {
         linked = m.linked;
         phase = phase_goes p q n e false false atn 0 false 0 t r h.phase h.phase.asks;
@@ -42,15 +47,23 @@ releases_byte s p n atn x msg cd t order soon some other h books =
         pulses_are = r.pulses_are ∙ h.pulses_are;
         receiver_is = r.receiver_is;
         turned = (λ i. r.io_is i == r.phase_is i) ∙ h.turned;
-        duty_is = ap (λ (d : Duty). is_owed_out d true) (r.duty_is.1 ∙ ap (λ (b : Bool). if b || false then Duty.Nothing else duty p) (no_fall atn)) ∙ h.duty_is;
-        fresh = let w = r.phase_is in let u = eqb-true (line_times p).io (phase_time (line_times p)) h.turned in omega arith;
+        duty_is = ap (λ (d : Duty). is_owed_out d true)
+            (r.duty_is.1 ∙ ap (λ (b : Bool). if b || false then Duty.Nothing else duty p) (no_fall atn))
+            ∙ h.duty_is;
+        fresh =
+            let w = r.phase_is in
+            let u = eqb-true (line_times p).io (phase_time (line_times p)) h.turned in
+            omega arith;
         owed = λ b. absurd cc;
       });
     }
 
 -- ---- the first byte after the turn
 
-pub offers_byte : (s : ScenarioValue) (p : List Row) (n : Connection) (atn msg cd : Bool) (y t : ℕ) → CalmStanding s p → last_time p ≤ t → phase_time (line_times p) + TURN_DELAY ≤ t → (y == 0) ≡ false → Turning s p n atn 0 msg cd → KeepsBooksIn p (target_row t n (ends false false atn 0 msg cd true false y)) → NextLinked s p (target_row t n (ends false false atn 0 msg cd true false y)) n
+pub offers_byte : (s : ScenarioValue) (p : List Row) (n : Connection) (atn msg cd : Bool) (y t : ℕ)
+    → CalmStanding s p → last_time p ≤ t → phase_time (line_times p) + TURN_DELAY ≤ t → (y == 0) ≡ false
+    → Turning s p n atn 0 msg cd → KeepsBooksIn p (target_row t n (ends false false atn 0 msg cd true false y))
+    → NextLinked s p (target_row t n (ends false false atn 0 msg cd true false y)) n
 offers_byte s p n atn msg cd y t always order waited some h books =
     let e : EndLines = ends false false atn 0 msg cd true false 0 in
     let f : EndLines = ends false false atn 0 msg cd true false y in
@@ -62,7 +75,8 @@ offers_byte s p n atn msg cd y t always order waited some h books =
     let at_phase = eqb-true (line_times p).io (phase_time (line_times p)) h.turned in
     record {
       order = order;
-      obeys = obeys_linked p row n e c h.linked m.change refl books (first_byte_obeys (around p n.target n c) n atn msg cd y t h.linked.apart h.pulses_are order (omega arith) some);
+      obeys = obeys_linked p row n e c h.linked m.change refl books (first_byte_obeys
+          (around p n.target n c) n atn msg cd y t h.linked.apart h.pulses_are order (omega arith) some);
       stage = when_offering atn msg cd y (record {
         linked = m.linked;
         phase = phase_goes p q n e false false atn 0 false y t r h.phase h.phase.asks;
@@ -71,9 +85,14 @@ offers_byte s p n atn msg cd y t always order waited some h books =
         receiver_is = r.receiver_is;
         turned = (λ i. r.io_is i == r.phase_is i) ∙ h.turned;
         some = some;
-        duty_is = ap (λ (d : Duty). is_owed_out d true) (r.duty_is.1 ∙ ap (λ (b : Bool). if b || false then Duty.Nothing else duty p) (no_fall atn)) ∙ h.duty_is;
+        duty_is = ap (λ (d : Duty). is_owed_out d true)
+            (r.duty_is.1 ∙ ap (λ (b : Bool). if b || false then Duty.Nothing else duty p) (no_fall atn))
+            ∙ h.duty_is;
         waited = let w = r.io_is in omega arith;
-        driven = let u = data_by s p row always order in let w = own_time_own p t n.target (target_side f) in omega arith;
+        driven =
+            let u = data_by s p row always order in
+            let w = own_time_own p t n.target (target_side f) in
+            omega arith;
         fresh = let w = own_time_own p t n.target (target_side f) in omega arith;
       });
     }
@@ -94,7 +113,8 @@ pub record Asking (s : ScenarioValue) (p : List Row) (n : Connection) (atn msg c
   pub turn : turned p ≡ true → io ≡ true → (line_times p).io + TURN_DELAY ≤ t
   pub set_up : io ≡ true → since data_of p + 55 ≤ t
 
-pub may_ask_by : (s : ScenarioValue) (p : List Row) (n : Connection) (atn msg cd io : Bool) (y t dev : ℕ) (c : Change) → Asking s p n atn msg cd io y t → MayAsk (around p dev n c) n msg cd io t
+pub may_ask_by : (s : ScenarioValue) (p : List Row) (n : Connection) (atn msg cd io : Bool) (y t dev : ℕ) (c : Change)
+    → Asking s p n atn msg cd io y t → MayAsk (around p dev n c) n msg cd io t
 may_ask_by s p n atn msg cd io y t dev c h = record {
   apart = h.linked.apart;
   order = h.order;
@@ -104,7 +124,11 @@ may_ask_by s p n atn msg cd io y t dev c h = record {
   duty = h.duty_is;
 }
 
-pub asks_in : (s : ScenarioValue) (p : List Row) (n : Connection) (atn msg cd : Bool) (y t : ℕ) → Asking s p n atn msg cd true y t → is_pulsed_phase true (connected_bus (ends false false atn 0 msg cd true false y)) (dialogue p).heard.now.agreement ≡ false → KeepsBooksIn p (target_row t n (ends false false atn 0 msg cd true true y)) → NextLinked s p (target_row t n (ends false false atn 0 msg cd true true y)) n
+pub asks_in :
+    (s : ScenarioValue) (p : List Row) (n : Connection) (atn msg cd : Bool) (y t : ℕ) → Asking s p n atn msg cd true y t
+    → is_pulsed_phase true (connected_bus (ends false false atn 0 msg cd true false y)) (dialogue p).heard.now.agreement
+    ≡ false → KeepsBooksIn p (target_row t n (ends false false atn 0 msg cd true true y))
+    → NextLinked s p (target_row t n (ends false false atn 0 msg cd true true y)) n
 asks_in s p n atn msg cd y t h slow books =
     let e : EndLines = ends false false atn 0 msg cd true false y in
     let f : EndLines = ends false false atn 0 msg cd true true y in
@@ -115,7 +139,9 @@ asks_in s p n atn msg cd y t h slow books =
     let r = target_in_phase p n e true y t h.linked in
     record {
       order = h.order;
-      obeys = obeys_linked p row n e c h.linked m.change refl books (req_rises_in (around p n.target n c) n atn msg cd y t (may_ask_by s p n atn msg cd true y t n.target c h) (turn_test (turned p) ((line_times p).io + TURN_DELAY) t (λ w. h.turn w refl)) (h.set_up refl) slow);
+      obeys = obeys_linked p row n e c h.linked m.change refl books
+          (req_rises_in (around p n.target n c) n atn msg cd y t (may_ask_by s p n atn msg cd true y t n.target c h)
+          (turn_test (turned p) ((line_times p).io + TURN_DELAY) t (λ w. h.turn w refl)) (h.set_up refl) slow);
       stage = when_shaking msg cd true true false atn 0 y (record {
         linked = m.linked;
         phase = phase_goes p q n e false false atn 0 true y t r h.phase h.phase.asks;
@@ -124,13 +150,20 @@ asks_in s p n atn msg cd y t h slow books =
         settled = let u = h.settled in let w = r.phase_is in omega arith;
         side = refl;
         turned = λ a b. let u = h.turn (sym r.turned_is ∙ a) b in let w = r.io_is in omega arith;
-        driven = let u = data_by s p row h.always h.order in let w = own_time_own p t n.target (target_side f) in omega arith;
+        driven =
+            let u = data_by s p row h.always h.order in
+            let w = own_time_own p t n.target (target_side f) in
+            omega arith;
         fresh = let w = r.req_is in omega arith;
         receives = λ d. receives_if true _ n.initiator d r.receiver_is;
       });
     }
 
-pub asks_out : (s : ScenarioValue) (p : List Row) (n : Connection) (atn msg cd : Bool) (t : ℕ) → Asking s p n atn msg cd false 0 t → is_pulsed_phase true (connected_bus (ends false false atn 0 msg cd false false 0)) (dialogue p).heard.now.agreement ≡ false → KeepsBooksIn p (target_row t n (ends false false atn 0 msg cd false true 0)) → NextLinked s p (target_row t n (ends false false atn 0 msg cd false true 0)) n
+pub asks_out : (s : ScenarioValue) (p : List Row) (n : Connection) (atn msg cd : Bool) (t : ℕ)
+    → Asking s p n atn msg cd false 0 t → is_pulsed_phase true
+    (connected_bus (ends false false atn 0 msg cd false false 0)) (dialogue p).heard.now.agreement ≡ false
+    → KeepsBooksIn p (target_row t n (ends false false atn 0 msg cd false true 0))
+    → NextLinked s p (target_row t n (ends false false atn 0 msg cd false true 0)) n
 asks_out s p n atn msg cd t h slow books =
     let e : EndLines = ends false false atn 0 msg cd false false 0 in
     let f : EndLines = ends false false atn 0 msg cd false true 0 in
@@ -141,7 +174,8 @@ asks_out s p n atn msg cd t h slow books =
     let r = target_in_phase p n e true 0 t h.linked in
     record {
       order = h.order;
-      obeys = obeys_linked p row n e c h.linked m.change refl books (req_rises_out (around p n.target n c) n atn msg cd t (may_ask_by s p n atn msg cd false 0 t n.target c h) slow);
+      obeys = obeys_linked p row n e c h.linked m.change refl books (req_rises_out
+          (around p n.target n c) n atn msg cd t (may_ask_by s p n atn msg cd false 0 t n.target c h) slow);
       stage = when_shaking msg cd false true false atn 0 0 (record {
         linked = m.linked;
         phase = phase_goes p q n e false false atn 0 true 0 t r h.phase h.phase.asks;

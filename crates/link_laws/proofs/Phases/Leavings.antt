@@ -9,7 +9,8 @@ use Rattle.link_laws.proofs.LeavingWays as ways
 abbrev pub may_leave : (msg cd io atn : Bool) → Option Phase → Bool
 may_leave msg cd io atn None = not (io && atn)
 may_leave msg cd io atn (Some phase) =
-    not (same_phases msg cd io (phase_lines phase).msg (phase_lines phase).cd (phase_lines phase).io) && implies (io && atn) (is_message_out (phase_lines phase))
+    not (same_phases msg cd io (phase_lines phase).msg (phase_lines phase).cd (phase_lines phase).io)
+    && implies (io && atn) (is_message_out (phase_lines phase))
 
 -- Unattended: with ATN true, bytes to the initiator are followed by MESSAGE OUT.
 may : {v : Serving} {phase : Phase} {l : Leaving} → ways.Leaves v false phase l

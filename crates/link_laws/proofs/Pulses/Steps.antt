@@ -16,7 +16,9 @@ more_asked r run e short = let less = ltb-true r run e in omega arith
 -- ---- the requests that wait
 
 pub opened_is : (t : ℕ) (w : List Request) → length w < 255 → opened t w ≡ w ++ record { time = t; struck = false } ∷ []
-opened_is t w h = let e : nat_lt (length w) 255 ≡ true = lt_test (length w) 255 h in ap (λ (q : Bool). if q then w ++ record { time = t; struck = false } ∷ [] else w) e
+opened_is t w h =
+    let e : nat_lt (length w) 255 ≡ true = lt_test (length w) 255 h in
+    ap (λ (q : Bool). if q then w ++ record { time = t; struck = false } ∷ [] else w) e
   where
     lt_test : (a b : ℕ) → a < b → nat_lt a b ≡ true
     lt_test a b h = grind (arith, nat_tests)
@@ -35,7 +37,8 @@ one_less (q ∷ w) h = omega arith
 
 -- ---- the facts
 
-pub pulse_first : (t last assertion offset ack_time raised : ℕ) → nat_lt 0 offset ≡ true → last ≡ t → PulseFacts (asked t no_handshakes) t ack_time raised assertion offset last true false
+pub pulse_first : (t last assertion offset ack_time raised : ℕ) → nat_lt 0 offset ≡ true → last ≡ t
+    → PulseFacts (asked t no_handshakes) t ack_time raised assertion offset last true false
 pulse_first t last assertion offset ack_time raised off same = record {
   asked = refl;
   counts = refl;
@@ -51,11 +54,15 @@ pulse_first t last assertion offset ack_time raised off same = record {
   all_answered = λ z. absurd cc;
 }
 
-pub req_rises_facts : (h : Handshakes) (req_time ack_time raised assertion offset last t : ℕ) (ack : Bool) → PulseFacts h req_time ack_time raised assertion offset last false ack → length h.waiting < offset → offset < 256 → h.requests + 1 < 2 ^ 64 → last ≤ t → PulseFacts (asked t h) t ack_time raised assertion offset t true ack
+pub req_rises_facts : (h : Handshakes) (req_time ack_time raised assertion offset last t : ℕ) (ack : Bool)
+    → PulseFacts h req_time ack_time raised assertion offset last false ack → length h.waiting < offset → offset < 256
+    → h.requests + 1 < 2 ^ 64 → last ≤ t → PulseFacts (asked t h) t ack_time raised assertion offset t true ack
 req_rises_facts h req_time ack_time raised assertion offset last t ack f room byte short order =
     let same : counted_on h.requests ≡ h.requests + 1 = count_more h.requests short in
-    let wait : opened t h.waiting ≡ h.waiting ++ record { time = t; struck = false } ∷ [] = opened_is t h.waiting (omega arith) in
-    let long : length (opened t h.waiting) ≡ length h.waiting + 1 = ap (λ (x : List Request). length x) wait ∙ push_length h.waiting (record { time = t; struck = false }) in
+    let wait : opened t h.waiting ≡ h.waiting ++ record { time = t; struck = false } ∷ [] = opened_is t h.waiting
+    (omega arith) in
+    let long : length (opened t h.waiting) ≡ length h.waiting + 1 = ap (λ (x : List Request). length x) wait
+    ∙ push_length h.waiting (record { time = t; struck = false }) in
     let count = f.counts in
     let ack_past = f.ack_past in
     record {
@@ -73,7 +80,9 @@ req_rises_facts h req_time ack_time raised assertion offset last t ack f room by
       all_answered = λ z. absurd (omega arith);
     }
 
-pub req_falls_facts : (h : Handshakes) (req_time ack_time raised assertion offset last t : ℕ) (ack : Bool) → PulseFacts h req_time ack_time raised assertion offset last true ack → req_time + assertion ≤ t → last ≤ t → PulseFacts h t ack_time raised assertion offset t false ack
+pub req_falls_facts : (h : Handshakes) (req_time ack_time raised assertion offset last t : ℕ) (ack : Bool)
+    → PulseFacts h req_time ack_time raised assertion offset last true ack → req_time + assertion ≤ t → last ≤ t
+    → PulseFacts h t ack_time raised assertion offset t false ack
 req_falls_facts h req_time ack_time raised assertion offset last t ack f held order =
     let stands = f.req_stands in
     let req_past = f.req_past in
@@ -94,7 +103,9 @@ req_falls_facts h req_time ack_time raised assertion offset last t ack f held or
     }
 
 -- A row that changes neither REQ nor ACK.
-pub still_facts : (h : Handshakes) (req_time ack_time raised assertion offset last t : ℕ) (req ack : Bool) → PulseFacts h req_time ack_time raised assertion offset last req ack → last ≤ t → PulseFacts h req_time ack_time raised assertion offset t req ack
+pub still_facts : (h : Handshakes) (req_time ack_time raised assertion offset last t : ℕ) (req ack : Bool)
+    → PulseFacts h req_time ack_time raised assertion offset last req ack → last ≤ t
+    → PulseFacts h req_time ack_time raised assertion offset t req ack
 still_facts h req_time ack_time raised assertion offset last t req ack f order =
     let req_past = f.req_past in
     let ack_past = f.ack_past in
@@ -117,7 +128,9 @@ fewer : (o : Option ℕ) (t a b reach : ℕ) → Reached o a reach → b + 1 ≡
 fewer None t a b reach h e = omega arith
 fewer (Some w) t a b reach h e = omega arith
 
-pub ack_rises_facts : (h : Handshakes) (req_time ack_time raised assertion offset last t : ℕ) (req : Bool) → PulseFacts h req_time ack_time raised assertion offset last req false → (length h.waiting == 0) ≡ false → last ≤ t → PulseFacts (answered t h) req_time t t assertion offset t req true
+pub ack_rises_facts : (h : Handshakes) (req_time ack_time raised assertion offset last t : ℕ) (req : Bool)
+    → PulseFacts h req_time ack_time raised assertion offset last req false → (length h.waiting == 0) ≡ false → last ≤ t
+    → PulseFacts (answered t h) req_time t t assertion offset t req true
 ack_rises_facts h req_time ack_time raised assertion offset last t req f some order =
     let w = f.within in
     let count = f.counts in
@@ -139,7 +152,9 @@ ack_rises_facts h req_time ack_time raised assertion offset last t req f some or
       all_answered = λ z. omega arith;
     }
 
-pub ack_falls_facts : (h : Handshakes) (req_time ack_time raised assertion offset last t : ℕ) (req : Bool) → PulseFacts h req_time ack_time raised assertion offset last req true → ack_time + assertion ≤ t → last ≤ t → PulseFacts h req_time t raised assertion offset t req false
+pub ack_falls_facts : (h : Handshakes) (req_time ack_time raised assertion offset last t : ℕ) (req : Bool)
+    → PulseFacts h req_time ack_time raised assertion offset last req true → ack_time + assertion ≤ t → last ≤ t
+    → PulseFacts h req_time t raised assertion offset t req false
 ack_falls_facts h req_time ack_time raised assertion offset last t req f held order =
     let req_past = f.req_past in
     let ack_past = f.ack_past in
@@ -162,7 +177,10 @@ ack_falls_facts h req_time ack_time raised assertion offset last t req f held or
 pub assertion_short : (period : ℕ) → (times_of period).assertion ≤ (times_of period).hold
 assertion_short period = go (nat_lt period 25) (nat_lt period 50)
   where
-    go : (a b : Bool) → (times_or_slow period (if a then None else if b then Some (fast_times period) else Some (slow_times period))).assertion ≤ (times_or_slow period (if a then None else if b then Some (fast_times period) else Some (slow_times period))).hold
+    go : (a b : Bool) → (times_or_slow period
+        (if a then None else if b then Some (fast_times period) else Some (slow_times period))).assertion
+        ≤ (times_or_slow period
+        (if a then None else if b then Some (fast_times period) else Some (slow_times period))).hold
     go true b = omega arith
     go false true = omega arith
     go false false = omega arith
@@ -179,19 +197,25 @@ pub of_no_sooner : (t a : ℕ) → NoSooner t (Some a) → t ≤ a
 of_no_sooner t a f = f a refl
 
 -- Where only room, ACK and what hangs on them change.
-pub target_after : (pulses changes follows room room' held held' : Bool) (a b c c' d d' t : ℕ) → NoSooner t (target_time pulses changes follows room held a b c d) → (room' ≡ true → ((room ≡ true) × (c' ≡ c)) ⊎ (t ≤ c')) → (held' ≡ false → ((held ≡ false) × (d' ≡ d)) ⊎ (t ≤ d'))
+pub target_after : (pulses changes follows room room' held held' : Bool) (a b c c' d d' t : ℕ)
+    → NoSooner t (target_time pulses changes follows room held a b c d)
+    → (room' ≡ true → ((room ≡ true) × (c' ≡ c)) ⊎ (t ≤ c')) → (held' ≡ false → ((held ≡ false) × (d' ≡ d)) ⊎ (t ≤ d'))
     → NoSooner t (target_time pulses changes follows room' held' a b c' d')
 target_after true changes follows room room' held held' a b c c' d d' t f g k = f
 target_after false true follows room room' held held' a b c c' d d' t f g k = f
 target_after false false true room true held held' a b c c' d d' t f g k =
     elim (g refl) [
-      | inl z ↦ some_no_sooner t c' (let w = of_no_sooner t c (subst (λ q. NoSooner t (if q then Some c else None)) z.0 f) in let u = z.1 in omega arith)
+      | inl z ↦
+          some_no_sooner t c' (let w = of_no_sooner t c (subst (λ q. NoSooner t (if q then Some c else None)) z.0 f) in
+          let u = z.1 in omega arith)
       | inr z ↦ some_no_sooner t c' z
     ]
 target_after false false true room false held held' a b c c' d d' t f g k = none_no_sooner t
 target_after false false false room room' held true a b c c' d d' t f g k = none_no_sooner t
 target_after false false false room room' held false a b c c' d d' t f g k =
     elim (k refl) [
-      | inl z ↦ some_no_sooner t d' (let w = of_no_sooner t d (subst (λ q. NoSooner t (if q then None else Some d)) z.0 f) in let u = z.1 in omega arith)
+      | inl z ↦
+          some_no_sooner t d' (let w = of_no_sooner t d (subst (λ q. NoSooner t (if q then None else Some d)) z.0 f) in
+          let u = z.1 in omega arith)
       | inr z ↦ some_no_sooner t d' z
     ]

@@ -17,7 +17,8 @@ HasShortRuns s = (p : List Row) (n : Connection) → run_count s p n ≤ 2 ^ 43
 
 -- ---- the array, row by row
 
-events_short : (s : ScenarioValue) (shown : List Event) (o : Option Array) → HasShortUnitsIf o → HasShortUnitsIf (array_after_events s o shown)
+events_short : (s : ScenarioValue) (shown : List Event) (o : Option Array) → HasShortUnitsIf o
+    → HasShortUnitsIf (array_after_events s o shown)
 events_short s [] o h = h
 events_short s (event ∷ shown) o h = event_short s event (array_after_events s o shown) (events_short s shown o h)
 
@@ -44,18 +45,22 @@ moved_few p r sent given = go (r.status == GOOD) (is_writing p)
 cut : (start step moved : ℕ) → min (start + step) moved - start ≤ moved
 cut start step moved = omega arith
 
-first_part : (step moved : ℕ) (first shorter : Bool) → nat_lt step moved ≡ shorter → (if first && shorter then step else moved) - 0 ≤ moved
+first_part : (step moved : ℕ) (first shorter : Bool) → nat_lt step moved ≡ shorter
+    → (if first && shorter then step else moved) - 0 ≤ moved
 first_part step moved false shorter e = omega arith
 first_part step moved true false e = omega arith
 first_part step moved true true e = let less = ltb-true step moved e in omega (arith, less)
 
-part_of_all : (policy : Policy) (size moved n : ℕ) → (run_by policy size moved n).end - (run_by policy size moved n).start ≤ moved
+part_of_all : (policy : Policy) (size moved n : ℕ)
+    → (run_by policy size moved n).end - (run_by policy size moved n).start ≤ moved
 part_of_all Policy.Never size moved n = omega arith
 part_of_all Policy.Command size moved n = omega arith
 part_of_all (Policy.Burst most) size moved n = cut (n * (most * size)) (most * size) moved
-part_of_all (Policy.NoSave most) size moved n = first_part (most * size) moved (n == 0) (nat_lt (most * size) moved) refl
+part_of_all (Policy.NoSave most) size moved n =
+    first_part (most * size) moved (n == 0) (nat_lt (most * size) moved) refl
 
-run_in_all : (policy : Policy) (blocks : Option ℕ) (size moved n : ℕ) → (run_in policy blocks size moved n).end - (run_in policy blocks size moved n).start ≤ moved
+run_in_all : (policy : Policy) (blocks : Option ℕ) (size moved n : ℕ)
+    → (run_in policy blocks size moved n).end - (run_in policy blocks size moved n).start ≤ moved
 run_in_all policy None size moved n = omega arith
 run_in_all policy (Some blocks) size moved n = part_of_all policy size moved n
 
@@ -69,13 +74,16 @@ task_few : (s : ScenarioValue) (k : RunState) (policy : Policy) (o : Option Proc
 task_few s k policy None h f = omega arith
 task_few s k policy (Some p) h f =
     let a : Array = array_of s k in
-    let given = (gives_few (Steps.context_at a (nexus_of p) (unit_state_at a.units p.target p.unit)) p.cdb p.sent (context_at_short a (nexus_of p) p.target p.unit h)).bytes in
-    let t : Task = task_with a (progress_in k.progress p.id) p (carried_here k p.id) (reply_now a p) (Play.reply_in a.replies p.id) in
+    let given = (gives_few (Steps.context_at a (nexus_of p) (unit_state_at a.units p.target p.unit)) p.cdb p.sent
+    (context_at_short a (nexus_of p) p.target p.unit h)).bytes in
+    let t : Task = task_with a (progress_in k.progress p.id) p
+    (carried_here k p.id) (reply_now a p) (Play.reply_in a.replies p.id) in
     let part = run_within policy t in
     let all = moved_few p (reply_now a p) (f p refl) given in
     omega (arith, part, all)
 
-served_few : (s : ScenarioValue) (i : Option Item) (p : Process) → FitsBus s → process_item s i ≡ Some p → length p.sent ≤ 65536
+served_few : (s : ScenarioValue) (i : Option Item) (p : Process) → FitsBus s → process_item s i ≡ Some p
+    → length p.sent ≤ 65536
 served_few s None p fits e = absurd cc
 served_few s (Some (process id)) p fits e = process_few s id p fits e
 served_few s (Some (abort n)) p fits e = absurd cc
@@ -83,4 +91,5 @@ served_few s (Some (abort n)) p fits e = absurd cc
 pub runs_are_short : (s : ScenarioValue) → FitsBus s → HasShortRuns s
 runs_are_short s fits p n =
     let k : RunState = run_state s p in
-    task_few s k (policy_of (target_def_of s n.target)) (process_served s k) (or_start_short s k.array fits (array_short s p fits)) (λ q e. served_few s k.served q fits e)
+    task_few s k (policy_of (target_def_of s n.target)) (process_served s k)
+    (or_start_short s k.array fits (array_short s p fits)) (λ q e. served_few s k.served q fits e)

@@ -1,5 +1,5 @@
--- The target of a command that was sent is there; so is that of a command that ended with CHECK CONDITION, which its automatic REQUEST SENSE
--- is for.
+-- The target of a command that was sent is there; so is that of a command that ended with CHECK CONDITION, which its
+-- automatic REQUEST SENSE is for.
 use Rattle.measure_laws.proofs
 use proofs.Names.{◌⊎◌, inl, inr, ℕ, ◌≡◌, ◌<◌, ◌∙◌, Bool, true, false, ◌&&◌, List, [], ◌∷◌, Option, Some, None, refl}
 use proofs.Names.{sym, ap, subst, same_Some, find, list_any, not, ◌||◌, ◌++◌, ◌==◌, if◌then◌else◌, is_some, wrong'}
@@ -16,26 +16,33 @@ use proofs.Names.{free_keeps, restored_sent, sent_grows, connection_sent, Whole,
 -- ---- which commands end with CHECK CONDITION
 
 -- Of an event: its own, or none more.
-event_checks : (s : ScenarioValue) (b : Story) (e : Event) (n : ℕ) → list_any (λ k. k == n) (story_after_event s b e).sent.checks ≡ true → (list_any (λ k. k == n) b.sent.checks ≡ true) ⊎ (process_in e ≡ Some (command_id n))
+event_checks : (s : ScenarioValue) (b : Story) (e : Event) (n : ℕ)
+    → list_any (λ k. k == n) (story_after_event s b e).sent.checks ≡ true
+    → (list_any (λ k. k == n) b.sent.checks ≡ true) ⊎ (process_in e ≡ Some (command_id n))
 event_checks s b (Event.End id status) n z = go id.sense refl (status == CHECK_CONDITION) z
   where
     c : Story
     c = story_with_end b id (by_status status)
 
-    go : (q : Bool) → id.sense ≡ q → (r : Bool) → list_any (λ k. k == n) (if not q && r then record c { sent = record c.sent { checks = c.sent.checks ++ id.command ∷ [] } } else c).sent.checks ≡ true
-        → (list_any (λ k. k == n) b.sent.checks ≡ true) ⊎ (Some id ≡ Some (command_id n))
+    go : (q : Bool) → id.sense ≡ q → (r : Bool) → list_any (λ k. k == n)
+        (if not q && r then record c { sent = record c.sent { checks = c.sent.checks ++ id.command ∷ [] } }
+        else c).sent.checks ≡ true → (list_any (λ k. k == n) b.sent.checks ≡ true) ⊎ (Some id ≡ Some (command_id n))
     go true f r y = inl y
     go false f false y = inl y
     go false f true y = elim (in_append n id.command b.sent.checks y) [
       | inl w ↦ inl w
       | inr w ↦ inr (λ i. Some (record { command = w i; sense = f i }))
     ]
-event_checks s b (Event.Aborted host target unit what) n z =
-    inl (ap (λ (x : List ℕ). list_any (λ k. k == n) x) (sym (ends_checks (is_aborted host target unit what) (is_sense_stopped host target unit what) by_abort 1 s.commands b)) ∙ z)
-event_checks s b (Event.Reset dev) n z = inl (ap (λ (x : List ℕ). list_any (λ k. k == n) x) (sym (ends_checks (λ c. true) (λ c. true) by_reset 1 s.commands b)) ∙ z)
+event_checks s b (Event.Aborted host target unit what) n z = inl (ap (λ (x : List ℕ). list_any (λ k. k == n) x) (sym
+    (ends_checks (is_aborted host target unit what) (is_sense_stopped host target unit what) by_abort 1 s.commands b))
+    ∙ z)
+event_checks s b (Event.Reset dev) n z = inl
+    (ap (λ (x : List ℕ). list_any (λ k. k == n) x) (sym (ends_checks (λ c. true) (λ c. true) by_reset 1 s.commands b))
+    ∙ z)
 event_checks s b _ n z = inl z
 
-events_check : (s : ScenarioValue) (b : Story) (item : Option Item) (shown : List Event) (n : ℕ) → AllOf item shown → list_any (λ k. k == n) (story_after_events s b shown).sent.checks ≡ true
+events_check : (s : ScenarioValue) (b : Story) (item : Option Item) (shown : List Event) (n : ℕ)
+    → AllOf item shown → list_any (λ k. k == n) (story_after_events s b shown).sent.checks ≡ true
     → (list_any (λ k. k == n) b.sent.checks ≡ true) ⊎ (item ≡ Some (process (command_id n)))
 events_check s b item [] n h z = inl z
 events_check s b item (e ∷ shown) n h z =
@@ -55,36 +62,55 @@ record SendsAnew (s : ScenarioValue) (k : RunState) (d : RowReading) (i : Item) 
   selects : n.reselected ≡ false
   aim : aim_of k.story.aims n.initiator ≡ Some i
 
-change_sends : (s : ScenarioValue) (k : RunState) (d : RowReading) (row : Row) (i : Item) → has_item (story_by_change s k.story d row).sent.sent i ≡ true → (has_item k.story.sent.sent i ≡ true) ⊎ SendsAnew s k d i
+change_sends : (s : ScenarioValue) (k : RunState) (d : RowReading) (row : Row) (i : Item)
+    → has_item (story_by_change s k.story d row).sent.sent i ≡ true
+    → (has_item k.story.sent.sent i ≡ true) ⊎ SendsAnew s k d i
 change_sends s k d row i e = by_rst d.change.after.rst refl e
   where
     b : Story
     b = k.story
 
-    more : (n : Connection) → b.bus_state.connection ≡ None → d.next ≡ Some n → d.change.after.rst ≡ false → n.reselected ≡ false → (o : Option Item) → aim_of b.aims n.initiator ≡ o
-        → has_item (story_with_sent (record b { link = Some (link_of n o) }) o).sent.sent i ≡ true → (has_item b.sent.sent i ≡ true) ⊎ SendsAnew s k d i
+    more : (n : Connection) → b.bus_state.connection ≡ None → d.next ≡ Some n → d.change.after.rst ≡ false
+        → n.reselected ≡ false → (o : Option Item) → aim_of b.aims n.initiator ≡ o
+        → has_item (story_with_sent (record b { link = Some (link_of n o) }) o).sent.sent i ≡ true
+        → (has_item b.sent.sent i ≡ true) ⊎ SendsAnew s k d i
     more n was next calm selects None f z = inl z
     more n was next calm selects (Some a) f z = go (same_item a i) refl z
       where
-        go : (q : Bool) → same_item a i ≡ q → (q || has_item b.sent.sent i) ≡ true → (has_item b.sent.sent i ≡ true) ⊎ SendsAnew s k d i
-        go true g y = inr (record { n = n; was = was; next = next; calm = calm; selects = selects; aim = f ∙ ap (λ (x : Item). Some x) (item_is a i g) })
+        go : (q : Bool) → same_item a i ≡ q → (q || has_item b.sent.sent i) ≡ true
+            → (has_item b.sent.sent i ≡ true) ⊎ SendsAnew s k d i
+        go true g y = inr (record {
+          n = n;
+          was = was;
+          next = next;
+          calm = calm;
+          selects = selects;
+          aim = f ∙ ap (λ (x : Item). Some x) (item_is a i g);
+        })
         go false g y = inl y
 
-    by_begin : (n : Connection) → b.bus_state.connection ≡ None → d.next ≡ Some n → d.change.after.rst ≡ false → (q : Bool) → n.reselected ≡ q
-        → has_item (if q then record b { link = Some (link_of n None) } else story_with_restored (story_with_sent (record b { link = Some (link_of n (aim_of b.aims n.initiator)) }) (aim_of b.aims n.initiator)) (aim_of b.aims n.initiator)).sent.sent i ≡ true
+    by_begin : (n : Connection) → b.bus_state.connection ≡ None → d.next ≡ Some n
+        → d.change.after.rst ≡ false → (q : Bool) → n.reselected ≡ q
+        → has_item (if q then record b { link = Some (link_of n None) } else story_with_restored
+        (story_with_sent (record b { link = Some (link_of n (aim_of b.aims n.initiator)) }) (aim_of b.aims n.initiator))
+        (aim_of b.aims n.initiator)).sent.sent i ≡ true
         → (has_item b.sent.sent i ≡ true) ⊎ SendsAnew s k d i
     by_begin n was next calm true f z = inl z
-    by_begin n was next calm false f z =
-        more n was next calm f (aim_of b.aims n.initiator) refl
-        (ap (λ (x : List Item). has_item x i) (sym (restored_sent (story_with_sent (record b { link = Some (link_of n (aim_of b.aims n.initiator)) }) (aim_of b.aims n.initiator)) (aim_of b.aims n.initiator))) ∙ z)
+    by_begin n was next calm false f z = more n was next calm f (aim_of b.aims n.initiator) refl
+        (ap (λ (x : List Item). has_item x i) (sym (restored_sent
+        (story_with_sent (record b { link = Some (link_of n (aim_of b.aims n.initiator)) }) (aim_of b.aims n.initiator))
+        (aim_of b.aims n.initiator))) ∙ z)
 
-    by_bus : d.change.after.rst ≡ false → (m n : Option Connection) → b.bus_state.connection ≡ m → d.next ≡ n → has_item (story_on_bus s b m n d row).sent.sent i ≡ true → (has_item b.sent.sent i ≡ true) ⊎ SendsAnew s k d i
+    by_bus : d.change.after.rst ≡ false → (m n : Option Connection) → b.bus_state.connection ≡ m → d.next ≡ n
+        → has_item (story_on_bus s b m n d row).sent.sent i ≡ true → (has_item b.sent.sent i ≡ true) ⊎ SendsAnew s k d i
     by_bus calm None None f g z = inl (ap (λ (x : List Item). has_item x i) (sym (free_keeps s b d row).2) ∙ z)
     by_bus calm None (Some n) f g z = by_begin n f g calm n.reselected refl z
     by_bus calm (Some m) None f g z = inl z
     by_bus calm (Some m) (Some n) f g z = inl ((λ j. has_item (sym (connection_sent s b b.link d row) j).sent i) ∙ z)
 
-    by_rst : (q : Bool) → d.change.after.rst ≡ q → has_item (if q then record b { link = None } else story_on_bus s b b.bus_state.connection d.next d row).sent.sent i ≡ true → (has_item b.sent.sent i ≡ true) ⊎ SendsAnew s k d i
+    by_rst : (q : Bool) → d.change.after.rst ≡ q → has_item
+        (if q then record b { link = None } else story_on_bus s b b.bus_state.connection d.next d row).sent.sent i
+        ≡ true → (has_item b.sent.sent i ≡ true) ⊎ SendsAnew s k d i
     by_rst true f z = inl z
     by_rst false f z = by_bus f b.bus_state.connection d.next refl refl z
 
@@ -94,7 +120,10 @@ is_there : (s : ScenarioValue) (dev : ℕ) → is_some (target_def_of s dev) ≡
 is_there s dev e = go (target_def_of s dev) refl e
   where
     go : (o : Option TargetDef) → target_def_of s dev ≡ o → is_some o ≡ true → HasDevice s dev
-    go (Some t) f z = record { latency = t.latency; latency_is = λ i. target_latency (f i) (host_latency (find (λ (h : HostDef). h.dev == dev) s.hosts)) }
+    go (Some t) f z = record {
+      latency = t.latency;
+      latency_is = λ i. target_latency (f i) (host_latency (find (λ (h : HostDef). h.dev == dev) s.hosts));
+    }
     go None f z = wrong' z
 
 target_of_process : (s : ScenarioValue) (id : ProcId) (c : CmdDef) → (process_by s id c).target ≡ c.target
@@ -105,10 +134,13 @@ target_of_process s id c = go id.sense
     go false = refl
 
 record SentThere (s : ScenarioValue) (k : RunState) : Type 0 where
-  sent : (id : ProcId) (c : CmdDef) → has_item k.story.sent.sent (process id) ≡ true → command_at s.commands id.command ≡ Some c → HasDevice s c.target
-  checked : (n : ℕ) → list_any (λ m. m == n) k.story.sent.checks ≡ true → has_item k.story.sent.sent (command_item n) ≡ true
+  sent : (id : ProcId) (c : CmdDef) → has_item k.story.sent.sent (process id) ≡ true
+      → command_at s.commands id.command ≡ Some c → HasDevice s c.target
+  checked : (n : ℕ) → list_any (λ m. m == n) k.story.sent.checks ≡ true
+      → has_item k.story.sent.sent (command_item n) ≡ true
 
-sent_next : (s : ScenarioValue) (p : List Row) (row : Row) → Obeys s → IsPrompt s (row ∷ p) → SentThere s (run_state s p) → SentThere s (run_state s (row ∷ p))
+sent_next : (s : ScenarioValue) (p : List Row) (row : Row) → Obeys s → IsPrompt s (row ∷ p)
+    → SentThere s (run_state s p) → SentThere s (run_state s (row ∷ p))
 sent_next s p row o prompt h = record { sent = sent; checked = checked }
   where
     k : RunState
@@ -138,32 +170,38 @@ sent_next s p row o prompt h = record { sent = sent; checked = checked }
     dv : AreOfDevices p
     dv = w.stood.standing.devices
 
-    anew : (id : ProcId) (c : CmdDef) → SendsAnew s k d (process id) → command_at s.commands id.command ≡ Some c → HasDevice s c.target
+    anew : (id : ProcId) (c : CmdDef) → SendsAnew s k d (process id) → command_at s.commands id.command ≡ Some c
+        → HasDevice s c.target
     anew id c a at =
         let begins : Begins s k row a.n = beginning s k row a.n a.was a.next a.calm nx.rows_are.1 in
         let made : IsAimedAt s k a.n = begins.selects a.selects in
         let same : made.item ≡ process id = same_Some made.item (process id) (sym made.aim_is ∙ a.aim) in
         let found : process_of s id ≡ Some (process_by s id c) = ap (process_if s id) at in
-        let target : (process_by s id c).target ≡ a.n.target = made.target_is (process_by s id c) (ap (λ (x : Item). process_item s (Some x)) same ∙ found) in
+        let target : (process_by s id c).target ≡ a.n.target = made.target_is
+        (process_by s id c) (ap (λ (x : Item). process_item s (Some x)) same ∙ found) in
         let con : connection (row ∷ p) ≡ Some a.n = sym (run_state_plain s (row ∷ p) (lt, dv)).connection ∙ a.next in
         subst (HasDevice s) (sym target ∙ target_of_process s id c) (is_there s a.n.target (nx.ends a.n con).target)
 
-    sent : (id : ProcId) (c : CmdDef) → has_item j.story.sent.sent (process id) ≡ true → command_at s.commands id.command ≡ Some c → HasDevice s c.target
-    sent id c z at =
-        elim (change_sends s k d row (process id) (ap (λ (x : List Item). has_item x (process id)) (sym (events_grow s b shown).sent) ∙ z)) [
+    sent : (id : ProcId) (c : CmdDef) → has_item j.story.sent.sent (process id) ≡ true
+        → command_at s.commands id.command ≡ Some c → HasDevice s c.target
+    sent id c z at = elim (change_sends s k d row (process id)
+        (ap (λ (x : List Item). has_item x (process id)) (sym (events_grow s b shown).sent) ∙ z)) [
           | inl y ↦ h.sent id c y at
           | inr a ↦ anew id c a at
         ]
 
-    linked : (l : Option Link) → k.story.link ≡ l → (i : Item) → item_of l ≡ Some i → has_item k.story.sent.sent i ≡ true
+    linked : (l : Option Link) → k.story.link ≡ l → (i : Item) → item_of l ≡ Some i
+        → has_item k.story.sent.sent i ≡ true
     linked None f i e = none_some i e
     linked (Some l) f i e = (w.facts.items.items.only.link l f).item i e
 
-    checked : (n : ℕ) → list_any (λ m. m == n) j.story.sent.checks ≡ true → has_item j.story.sent.sent (command_item n) ≡ true
+    checked : (n : ℕ) → list_any (λ m. m == n) j.story.sent.checks ≡ true
+        → has_item j.story.sent.sent (command_item n) ≡ true
     checked n z =
         sent_grows s k row (command_item n)
         (elim (events_check s b (item_of k.story.link) shown n (row_of s k.story d row) z) [
-          | inl y ↦ h.checked n (ap (λ (x : List ℕ). list_any (λ m. m == n) x) (sym (changed s k.story d row).checks) ∙ y)
+          | inl y ↦
+              h.checked n (ap (λ (x : List ℕ). list_any (λ m. m == n) x) (sym (changed s k.story d row).checks) ∙ y)
           | inr y ↦ linked k.story.link refl (command_item n) y
         ])
 
@@ -172,5 +210,7 @@ sent_there s [] o prompt = record { sent = λ id c z at. wrong' z; checked = λ 
 sent_there s (row ∷ p) o prompt = sent_next s p row o prompt (sent_there s p o prompt.0)
 
 -- The target of a command that ended with CHECK CONDITION.
-pub checked_there : (s : ScenarioValue) (p : List Row) (n : ℕ) (c : CmdDef) → Obeys s → IsPrompt s p → list_any (λ m. m == n) (run_state s p).story.sent.checks ≡ true → command_at s.commands n ≡ Some c → HasDevice s c.target
+pub checked_there : (s : ScenarioValue) (p : List Row) (n : ℕ) (c : CmdDef) → Obeys s → IsPrompt s p
+    → list_any (λ m. m == n) (run_state s p).story.sent.checks ≡ true → command_at s.commands n ≡ Some c
+    → HasDevice s c.target
 checked_there s p n c o prompt e at = let h = sent_there s p o prompt in h.sent (command_id n) c (h.checked n e) at

@@ -10,16 +10,19 @@ use proofs.Budget.Start.{starts}
 one_row : (n m before at : ℕ) → n + before ≤ at → suc m ≤ before → suc n + m ≤ at
 one_row n m before at h f = omega arith
 
-pub counted : Falls → (s : ScenarioValue) (rows : List Row) → Obeys s → IsPrompt s rows → length rows + measure s rows ≤ measure s []
+pub counted : Falls → (s : ScenarioValue) (rows : List Row) → Obeys s → IsPrompt s rows
+    → length rows + measure s rows ≤ measure s []
 counted falls s [] o p = omega arith
-counted falls s (row ∷ rows) o p = one_row (length rows) (measure s (row ∷ rows)) (measure s rows) (measure s []) (counted falls s rows o p.0) (falls s rows row o p)
+counted falls s (row ∷ rows) o p = one_row (length rows) (measure s (row ∷ rows)) (measure s rows) (measure s [])
+    (counted falls s rows o p.0) (falls s rows row o p)
 
 below : (n m at most : ℕ) → n + m ≤ at → suc at ≤ most → suc n ≤ most
 below n m at most h f = omega arith
 
 -- It has fewer rows than the eighth part of the budget, which is what a run may make.
 pub within : Falls → (s : ScenarioValue) (rows : List Row) → Obeys s → IsPrompt s rows → length rows < budget s / 8
-within falls s rows o p = below (length rows) (measure s rows) (measure s []) (budget s / 8) (counted falls s rows o p) (starts s o)
+within falls s rows o p =
+    below (length rows) (measure s rows) (measure s []) (budget s / 8) (counted falls s rows o p) (starts s o)
 
 eighth : (n b : ℕ) → suc n ≤ b / 8 → n ≤ b
 eighth n b h = grind arith
@@ -34,19 +37,26 @@ unfolding run_from
 stays s zero r e = e
 stays s (suc fuel) r e = go r.ended e e
   where
-    go : (b : Bool) → b ≡ true → r.ended ≡ true → (if b then r else run_from s fuel (one_more s r (next_by s r.kept))).ended ≡ true
+    go : (b : Bool) → b ≡ true → r.ended ≡ true
+        → (if b then r else run_from s fuel (one_more s r (next_by s r.kept))).ended ≡ true
     go true z w = w
     go false z w = wrong (sym z)
 
-unended : (s : ScenarioValue) (fuel : ℕ) (r : Run) → (run_from s fuel r).ended ≡ false → length (run_from s fuel r).rows ≡ length r.rows + fuel
+unended : (s : ScenarioValue) (fuel : ℕ) (r : Run) → (run_from s fuel r).ended ≡ false
+    → length (run_from s fuel r).rows ≡ length r.rows + fuel
 unfolding run_from
 unended s zero r e = omega arith
 unended s (suc fuel) r e = go (λ z w. unended s fuel z w) r.ended refl (next_by s r.kept) e
   where
-    go : ((z : Run) → (run_from s fuel z).ended ≡ false → length (run_from s fuel z).rows ≡ length z.rows + fuel) → (b : Bool) → r.ended ≡ b → (x : Option Row) → (if b then r else run_from s fuel (one_more s r x)).ended ≡ false → length (if b then r else run_from s fuel (one_more s r x)).rows ≡ length r.rows + suc fuel
+    go : ((z : Run) → (run_from s fuel z).ended ≡ false → length (run_from s fuel z).rows ≡ length z.rows + fuel)
+        → (b : Bool) → r.ended ≡ b
+        → (x : Option Row) → (if b then r else run_from s fuel (one_more s r x)).ended ≡ false
+        → length (if b then r else run_from s fuel (one_more s r x)).rows ≡ length r.rows + suc fuel
     go again true z x w = wrong (sym z ∙ w)
     go again false z None w = wrong (sym (stays s fuel (one_more s r None) refl) ∙ w)
-    go again false z (Some row) w = let same : suc (length r.rows) + fuel ≡ length r.rows + suc fuel = omega arith in again (one_more s r (Some row)) w ∙ same
+    go again false z (Some row) w =
+        let same : suc (length r.rows) + fuel ≡ length r.rows + suc fuel = omega arith in
+        again (one_more s r (Some row)) w ∙ same
 
 too_long : (n b : ℕ) → n ≡ 0 + b → suc n ≤ b / 8 → ⊥
 too_long n b e h = grind arith
@@ -59,15 +69,15 @@ abbrev pub RunsSayTheirEnd : Type 0
 RunsSayTheirEnd = (s : ScenarioValue) (fuel : ℕ) → (run_by_due s fuel).ended ≡ true → IsEnded s (run_by_due s fuel).rows
 
 pub runs_end : Falls → RunsArePrompt → RunsSayTheirEnd → RunsEnd
-runs_end falls prompt ends s o =
-    by_bool (run_by_due s (budget s)).ended
-    (λ e. ends s (budget s) e)
-    (λ e. absurd (too_long (length r.rows) (budget s) (unended s (budget s) _ e) (within falls s r.rows o (prompt s (budget s)))))
+runs_end falls prompt ends s o = by_bool (run_by_due s (budget s)).ended (λ e. ends s (budget s) e) (λ e. absurd
+    (too_long (length r.rows) (budget s) (unended s (budget s) _ e) (within falls s r.rows o (prompt s (budget s)))))
   where
     r : Run
     r = run_by_due s (budget s)
 
 -- ---- and it has few rows for a number of 32 bits
 
-pub few_rows : Falls → (s : ScenarioValue) (rows : List Row) → Obeys s → IsPrompt s rows → measure s [] < 2 ^ 32 - 1 → length rows < 2 ^ 32 - 1
-few_rows falls s rows o p small = below (length rows) (measure s rows) (measure s []) (2 ^ 32 - 1) (counted falls s rows o p) small
+pub few_rows : Falls → (s : ScenarioValue) (rows : List Row) → Obeys s → IsPrompt s rows → measure s [] < 2 ^ 32 - 1
+    → length rows < 2 ^ 32 - 1
+few_rows falls s rows o p small =
+    below (length rows) (measure s rows) (measure s []) (2 ^ 32 - 1) (counted falls s rows o p) small

@@ -1,4 +1,5 @@
--- The measure at the start has 32 bits: the commands of a scenario need at most 1,048,576 bytes in all, and resets and faults are few.
+-- The measure at the start has 32 bits: the commands of a scenario need at most 1,048,576 bytes in all, and resets and
+-- faults are few.
 use Rattle.measure_laws.proofs
 use proofs.Names.{ℕ, zero, suc, ◌≡◌, ◌≤◌, ◌<◌, Bool, true, false, List, [], ◌∷◌, length, refl, subst, arith, Option}
 use proofs.Names.{Some, None, Result, Ok, Err, length-append, max, nat_tests, sum_by-cons, div_below, AllByRecursion}
@@ -50,7 +51,8 @@ some_blocks (Some u) lba n h = go (nat_le (lba + n) u.blocks) h
     go true h = by n u.size h
     go false h = absurd (omega arith)
 
-runs_of_few : (policy : Policy) (c : Command) (u : Option UnitDef) → 1 ≤ moved c u → runs_over policy (range_of c) ≤ 2 * moved c u
+runs_of_few : (policy : Policy) (c : Command) (u : Option UnitDef) → 1 ≤ moved c u
+    → runs_over policy (range_of c) ≤ 2 * moved c u
 runs_of_few policy (commands.Read6 lba count) u h = runs_by_few policy _ _ h (some_blocks u lba _ h)
 runs_of_few policy (commands.Write6 lba count) u h = runs_by_few policy _ _ h (some_blocks u lba _ h)
 runs_of_few policy (commands.Read10 lba count) u h = runs_by_few policy _ _ h (some_blocks u lba count h)
@@ -61,18 +63,23 @@ pub few_runs : (s : ScenarioValue) (c : CmdDef) → data_runs s c ≤ 2 * need_o
 unfolding need_of
 few_runs s c = go (need_of s c == 0) refl
   where
-    by : (t : TargetDef) (r : Result Command CdbFault) → 1 ≤ moved_by r (unit_of s c.target c.unit) → runs_of t.disc r ≤ 2 * moved_by r (unit_of s c.target c.unit)
+    by : (t : TargetDef) (r : Result Command CdbFault) → 1 ≤ moved_by r (unit_of s c.target c.unit)
+        → runs_of t.disc r ≤ 2 * moved_by r (unit_of s c.target c.unit)
     by t (Ok k) h = runs_of_few t.disc k (unit_of s c.target c.unit) h
     by t (Err fault) h = omega arith
 
-    at : (o : Option TargetDef) (q : Bool) → 1 ≤ (if q then moved_by (command_of c.cdb) (unit_of s c.target c.unit) else 0) → runs_at o c ≤ 2 * (if q then moved_by (command_of c.cdb) (unit_of s c.target c.unit) else 0)
+    at : (o : Option TargetDef) (q : Bool)
+        → 1 ≤ (if q then moved_by (command_of c.cdb) (unit_of s c.target c.unit) else 0)
+        → runs_at o c ≤ 2 * (if q then moved_by (command_of c.cdb) (unit_of s c.target c.unit) else 0)
     at None q h = omega arith
     at (Some t) true h = by t (command_of c.cdb) h
     at (Some t) false h = absurd (omega arith)
 
-    go : (q : Bool) → (need_of s c == 0) ≡ q → (if q then 0 else runs_at (find (λ (t : TargetDef). t.dev == c.target) s.targets) c) ≤ 2 * need_of s c
+    go : (q : Bool) → (need_of s c == 0) ≡ q
+        → (if q then 0 else runs_at (find (λ (t : TargetDef). t.dev == c.target) s.targets) c) ≤ 2 * need_of s c
     go true e = omega arith
-    go false e = at (find (λ (t : TargetDef). t.dev == c.target) s.targets) (has_target s c.target) (some_count (need_of s c) e)
+    go false e =
+        at (find (λ (t : TargetDef). t.dev == c.target) s.targets) (has_target s c.target) (some_count (need_of s c) e)
 
 -- ---- resets and faults are few
 
@@ -110,19 +117,38 @@ one_more xs x n lt = let w = length-append xs (x ∷ []) in omega arith
 
 few_added : (d z : Progress) (x : Said) → added d x ≡ Ok z → FewLines d.scenario → FewLines z.scenario
 unfolding added
-few_added d z (scsi_line v) e a = subst (λ (p : Progress). FewLines p.scenario) (ok_is _ z e) (record { resets = a.resets; faults = a.faults })
-few_added d z (initiator_line f) e a = let b = bind_ok (host_def d.scenario f) _ z e in subst (λ (p : Progress). FewLines p.scenario) (ok_is _ z b.2) (record { resets = a.resets; faults = a.faults })
-few_added d z (target_line f) e a = let b = bind_ok (target_def d.scenario f) _ z e in subst (λ (p : Progress). FewLines p.scenario) (ok_is _ z b.2) (record { resets = a.resets; faults = a.faults })
-few_added d z (unit_line f) e a = let b = bind_ok (unit_def d.scenario f) _ z e in subst (λ (p : Progress). FewLines p.scenario) (ok_is _ z b.2) (record { resets = a.resets; faults = a.faults })
-few_added d z (fill_line f) e a = let b = bind_ok (fill_def d.scenario f) _ z e in subst (λ (p : Progress). FewLines p.scenario) (ok_is _ z b.2) (record { resets = a.resets; faults = a.faults })
-few_added d z (cmd_line f) e a = let b = bind_ok (full_cmd_def d.scenario d.needs f) _ z e in subst (λ (p : Progress). FewLines p.scenario) (ok_is _ z b.2) (record { resets = a.resets; faults = a.faults })
-few_added d z (abort_line f) e a = let b = bind_ok (abort_def d.scenario f) _ z e in subst (λ (p : Progress). FewLines p.scenario) (ok_is _ z b.2) (record { resets = a.resets; faults = a.faults })
+few_added d z (scsi_line v) e a =
+    subst (λ (p : Progress). FewLines p.scenario) (ok_is _ z e) (record { resets = a.resets; faults = a.faults })
+few_added d z (initiator_line f) e a =
+    let b = bind_ok (host_def d.scenario f) _ z e in
+    subst (λ (p : Progress). FewLines p.scenario) (ok_is _ z b.2) (record { resets = a.resets; faults = a.faults })
+few_added d z (target_line f) e a =
+    let b = bind_ok (target_def d.scenario f) _ z e in
+    subst (λ (p : Progress). FewLines p.scenario) (ok_is _ z b.2) (record { resets = a.resets; faults = a.faults })
+few_added d z (unit_line f) e a =
+    let b = bind_ok (unit_def d.scenario f) _ z e in
+    subst (λ (p : Progress). FewLines p.scenario) (ok_is _ z b.2) (record { resets = a.resets; faults = a.faults })
+few_added d z (fill_line f) e a =
+    let b = bind_ok (fill_def d.scenario f) _ z e in
+    subst (λ (p : Progress). FewLines p.scenario) (ok_is _ z b.2) (record { resets = a.resets; faults = a.faults })
+few_added d z (cmd_line f) e a =
+    let b = bind_ok (full_cmd_def d.scenario d.needs f) _ z e in
+    subst (λ (p : Progress). FewLines p.scenario) (ok_is _ z b.2) (record { resets = a.resets; faults = a.faults })
+few_added d z (abort_line f) e a =
+    let b = bind_ok (abort_def d.scenario f) _ z e in
+    subst (λ (p : Progress). FewLines p.scenario) (ok_is _ z b.2) (record { resets = a.resets; faults = a.faults })
 few_added d z (reset_line f) e a =
     let b = bind_ok (reset_def d.scenario f) _ z e in
-    subst (λ (p : Progress). FewLines p.scenario) (ok_is _ z b.2) (record { resets = one_more d.scenario.resets b.0 64 (reset_room d.scenario (reset_line f) b.0 b.1); faults = a.faults })
+    subst (λ (p : Progress). FewLines p.scenario) (ok_is _ z b.2) (record {
+      resets = one_more d.scenario.resets b.0 64 (reset_room d.scenario (reset_line f) b.0 b.1);
+      faults = a.faults;
+    })
 few_added d z (fault_line f) e a =
     let b = bind_ok (fault_def d.scenario f) _ z e in
-    subst (λ (p : Progress). FewLines p.scenario) (ok_is _ z b.2) (record { resets = a.resets; faults = one_more d.scenario.faults b.0 64 (fault_room d.scenario (fault_line f) b.0 b.1) })
+    subst (λ (p : Progress). FewLines p.scenario) (ok_is _ z b.2) (record {
+      resets = a.resets;
+      faults = one_more d.scenario.faults b.0 64 (fault_room d.scenario (fault_line f) b.0 b.1);
+    })
 few_added d z end_line e a = subst (λ (p : Progress). FewLines p.scenario) (ok_is d z e) a
 
 few_after : (d z : Progress) (x : Said) → said_after d x ≡ Ok z → FewLines d.scenario → FewLines z.scenario
@@ -141,29 +167,35 @@ few_built d z (x ∷ xs) e a = let b = bind_ok (said_after d x) _ z e in few_bui
 pub obeys_few : (s : ScenarioValue) → Obeys s → FewLines s
 obeys_few s o =
     let b = bind_ok (built nothing (saids s)) _ s o.lawful in
-    subst FewLines (ok_is b.0.scenario s b.2) (few_built nothing b.0 (saids s) b.1 (record { resets = omega arith; faults = omega arith }))
+    subst FewLines (ok_is b.0.scenario s b.2)
+    (few_built nothing b.0 (saids s) b.1 (record { resets = omega arith; faults = omega arith }))
 
 -- ---- the sum
 
-one_command : (retries runs bytes need : ℕ) → retries ≤ 16 → bytes ≤ 2 * need → runs ≤ 2 * need → 64 * (retries + 1 - 0) + (2 * 4096 + 1024 * (runs + 1) + 8 * bytes) ≤ 10304 + 2064 * need
+one_command : (retries runs bytes need : ℕ) → retries ≤ 16 → bytes ≤ 2 * need → runs ≤ 2 * need
+    → 64 * (retries + 1 - 0) + (2 * 4096 + 1024 * (runs + 1) + 8 * bytes) ≤ 10304 + 2064 * need
 one_command retries runs bytes need f b r = grind arith
 
-small_commands : (s : ScenarioValue) (n : ℕ) (commands : List CmdDef) → FitsBus s → commands_left s (first_run_state s) n commands ≤ 10304 * length commands + 2064 * sum_by (need_of s) commands
+small_commands : (s : ScenarioValue) (n : ℕ) (commands : List CmdDef) → FitsBus s
+    → commands_left s (first_run_state s) n commands ≤ 10304 * length commands + 2064 * sum_by (need_of s) commands
 small_commands s n [] f = omega arith
 small_commands s n (c ∷ commands) f =
     let rest = small_commands s (n + 1) commands f in
-    let one = one_command (retries_of s.hosts c.host) (data_runs s c) (bytes_after s c 0) (need_of s c) (few_retries s s.hosts c.host f.hosts) (few_bytes s c) (few_runs s c) in
+    let one = one_command (retries_of s.hosts c.host) (data_runs s c) (bytes_after s c 0)
+    (need_of s c) (few_retries s s.hosts c.host f.hosts) (few_bytes s c) (few_runs s c) in
     let total = sum_by-cons (need_of s) c commands in
     omega arith
 
-small_aborts : (s : ScenarioValue) (n : ℕ) (aborts : List AbortDef) → FitsBus s → aborts_left s (first_run_state s).story.sent n aborts ≤ 5184 * length aborts
+small_aborts : (s : ScenarioValue) (n : ℕ) (aborts : List AbortDef) → FitsBus s
+    → aborts_left s (first_run_state s).story.sent n aborts ≤ 5184 * length aborts
 small_aborts s n [] f = omega arith
 small_aborts s n (a ∷ aborts) f =
     let rest = small_aborts s (n + 1) aborts f in
     let few = few_retries s s.hosts a.host f.hosts in
     grind arith
 
-longest : (s : ScenarioValue) (commands : List CmdDef) → AllByRecursion (λ c. need_of s c ≤ 65536) commands → longest_need s commands ≤ 65536
+longest : (s : ScenarioValue) (commands : List CmdDef) → AllByRecursion (λ c. need_of s c ≤ 65536) commands
+    → longest_need s commands ≤ 65536
 longest s [] h = omega arith
 longest s (c ∷ commands) h = both (need_of s c) (longest_need s commands) h.0 (longest s commands h.1)
   where
@@ -173,7 +205,9 @@ longest s (c ∷ commands) h = both (need_of s c) (longest_need s commands) h.0 
 times_few : (a m b : ℕ) → a ≤ m → a * b ≤ m * b
 times_few a m b h = grind arith
 
-sum_small : (commands n needs aborts an resets rn faults : ℕ) → commands ≤ 10304 * n + 2064 * needs → n ≤ 4096 → needs ≤ 1048576 → aborts ≤ 5184 * an → an ≤ 64 → resets ≤ rn → rn ≤ 64 → faults ≤ 525440 * 64 → commands + aborts + 64 * resets + faults + 40 + 0 < 4294967295
+sum_small : (commands n needs aborts an resets rn faults : ℕ) → commands ≤ 10304 * n + 2064 * needs
+    → n ≤ 4096 → needs ≤ 1048576 → aborts ≤ 5184 * an → an ≤ 64 → resets ≤ rn → rn ≤ 64 → faults ≤ 525440 * 64
+    → commands + aborts + 64 * resets + faults + 40 + 0 < 4294967295
 sum_small commands n needs aborts an resets rn faults a b c d e f g h = omega arith
 
 pub small_start : (s : ScenarioValue) → Obeys s → measure s [] < 4294967295
@@ -184,9 +218,13 @@ small_start s o =
     let fault : for_fault s ≤ 525440 = omega arith in
     let same = all_faults s.faults in
     let count : length (first_run_state s).faults ≤ 64 = let w = few.faults in omega arith in
-    let faults : for_fault s * length (first_run_state s).faults ≤ 525440 * 64 = product (for_fault s) (length (first_run_state s).faults) fault count in
-    sum_small (commands_left s (first_run_state s) 1 s.commands) (length s.commands) (sum_by (need_of s) s.commands) (aborts_left s (first_run_state s).story.sent 1 s.aborts) (length s.aborts) (resets_left (first_run_state s) s.resets) (length s.resets) (for_fault s * length (first_run_state s).faults)
-    (small_commands s 1 s.commands f) f.few_commands (all_needs s o) (small_aborts s 1 s.aborts f) f.few_aborts (start_resets (first_run_state s) s.resets) few.resets faults
+    let faults : for_fault s * length (first_run_state s).faults ≤ 525440 * 64 = product
+    (for_fault s) (length (first_run_state s).faults) fault count in
+    sum_small (commands_left s (first_run_state s) 1 s.commands) (length s.commands)
+    (sum_by (need_of s) s.commands) (aborts_left s (first_run_state s).story.sent 1 s.aborts) (length s.aborts)
+    (resets_left (first_run_state s) s.resets) (length s.resets) (for_fault s * length (first_run_state s).faults)
+    (small_commands s 1 s.commands f) f.few_commands (all_needs s o) (small_aborts s 1 s.aborts f) f.few_aborts
+    (start_resets (first_run_state s) s.resets) few.resets faults
   where
     product : (a b : ℕ) → a ≤ 525440 → b ≤ 64 → a * b ≤ 525440 * 64
     product a b x y = let t = times_few a 525440 b x in omega arith

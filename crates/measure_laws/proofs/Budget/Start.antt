@@ -9,7 +9,8 @@ use proofs.Names.{one_where, resets_left, StartsWithin}
 
 -- ---- few tries
 
-pub few_retries : (s : ScenarioValue) (hosts : List HostDef) (dev : ℕ) → AllByRecursion (λ h. IsHostLine s h) hosts → retries_of hosts dev ≤ 16
+pub few_retries : (s : ScenarioValue) (hosts : List HostDef) (dev : ℕ) → AllByRecursion (λ h. IsHostLine s h) hosts
+    → retries_of hosts dev ≤ 16
 few_retries s [] dev f = omega arith
 few_retries s (h ∷ hosts) dev f = go (few_retries s hosts dev f.1) (h.dev == dev)
   where
@@ -32,19 +33,25 @@ few_bytes s c = over _ _ _ (need_of s c)
 
 -- ---- commands
 
-one_command : (retries runs bytes need : ℕ) → retries ≤ 16 → bytes ≤ 2 * need → 64 * (retries + 1 - 0) + (2 * 4096 + 1024 * (runs + 1) + 8 * bytes) ≤ 128 * (2 * need + 128) + 4096 * (runs + 8) + 1024
+one_command : (retries runs bytes need : ℕ) → retries ≤ 16 → bytes ≤ 2 * need
+    → 64 * (retries + 1 - 0) + (2 * 4096 + 1024 * (runs + 1) + 8 * bytes)
+    ≤ 128 * (2 * need + 128) + 4096 * (runs + 8) + 1024
 one_command retries runs bytes need f b = grind arith
 
-start_commands : (s : ScenarioValue) (n : ℕ) (commands : List CmdDef) → FitsBus s → commands_left s (first_run_state s) n commands ≤ 128 * bytes_of_all s commands + 4096 * runs_of_all s commands + 1024 * length commands
+start_commands : (s : ScenarioValue) (n : ℕ) (commands : List CmdDef) → FitsBus s
+    → commands_left s (first_run_state s) n commands
+    ≤ 128 * bytes_of_all s commands + 4096 * runs_of_all s commands + 1024 * length commands
 start_commands s n [] f = omega arith
 start_commands s n (c ∷ commands) f =
     let rest = start_commands s (n + 1) commands f in
-    let one = one_command (retries_of s.hosts c.host) (data_runs s c) (bytes_after s c 0) (need_of s c) (few_retries s s.hosts c.host f.hosts) (few_bytes s c) in
+    let one = one_command (retries_of s.hosts c.host) (data_runs s c) (bytes_after s c 0)
+    (need_of s c) (few_retries s s.hosts c.host f.hosts) (few_bytes s c) in
     grind arith
 
 -- ---- aborts, resets and faults
 
-start_aborts : (s : ScenarioValue) (n : ℕ) (aborts : List AbortDef) → FitsBus s → aborts_left s (first_run_state s).story.sent n aborts ≤ 8192 * length aborts
+start_aborts : (s : ScenarioValue) (n : ℕ) (aborts : List AbortDef) → FitsBus s
+    → aborts_left s (first_run_state s).story.sent n aborts ≤ 8192 * length aborts
 start_aborts s n [] f = omega arith
 start_aborts s n (a ∷ aborts) f =
     let rest = start_aborts s (n + 1) aborts f in
@@ -66,7 +73,8 @@ one_fault : (f : FaultDef) (faults : List FaultDef) → length (with_fault f fau
 one_fault f [] = refl
 one_fault f (g ∷ faults) = go (one_fault f faults) (nat_lt g.at f.at)
   where
-    go : length (with_fault f faults) ≡ suc (length faults) → (q : Bool) → length (if q then g ∷ with_fault f faults else f ∷ (g ∷ faults)) ≡ suc (suc (length faults))
+    go : length (with_fault f faults) ≡ suc (length faults)
+        → (q : Bool) → length (if q then g ∷ with_fault f faults else f ∷ (g ∷ faults)) ≡ suc (suc (length faults))
     go rest true = ap suc rest
     go rest false = refl
 

@@ -1,4 +1,5 @@
--- The measure falls with the row that begins a connection: of a selection its item pays, and of a reselection the command that is served again.
+-- The measure falls with the row that begins a connection: of a selection its item pays, and of a reselection the
+-- command that is served again.
 use Rattle.measure_laws.proofs
 use proofs.Names.{ℕ, zero, suc, ◌≡◌, ◌≢◌, ◌≤◌, ◌<◌, ◌∙◌, Bool, true, false, ◌&&◌, List, [], ◌∷◌, length, Option, Some}
 use proofs.Names.{None, refl, sym, ap, subst, arith, and_parts, ne_eqb, or_parts, same_Some, ◌+◌, ◌-◌, ◌*◌, not, ◌||◌}
@@ -32,7 +33,8 @@ at_most_one true = omega arith
 at_most_one false = omega arith
 
 -- Where no pulses cross, at most four rows for a byte that is asked for, and one for each line.
-pub few_under_way : (pulsed : Bool) (b : LineSet) (h : Handshakes) (t i : LineSet) (g : Offering) (a : Answering) → pulsed ≡ false → under_way pulsed b h t i g a ≤ 10
+pub few_under_way : (pulsed : Bool) (b : LineSet) (h : Handshakes) (t i : LineSet) (g : Offering) (a : Answering)
+    → pulsed ≡ false → under_way pulsed b h t i g a ≤ 10
 few_under_way pulsed b h t i g a e = subst (λ (q : Bool). under_way q b h t i g a ≤ 10) (sym e)
     (let w1 = at_most_one (is_asked b) in
     let w2 = at_most_one t.req in
@@ -53,28 +55,38 @@ few_sense moves made (Some (process id)) = go (id.sense && not moves && (progres
 
 -- ---- a row of lines leaves the resets where RST is false before it and after it
 
-pub calm_resets : (s : ScenarioValue) (p : List Row) (row : Row) → AreOfDevices p → row.dev < 8 → is_fault row.kind ≡ false → (bus p).rst ≡ false → (bus (row ∷ p)).rst ≡ false → resets_left (run_state s (row ∷ p)) s.resets ≡ resets_left (run_state s p) s.resets
+pub calm_resets : (s : ScenarioValue) (p : List Row) (row : Row) → AreOfDevices p → row.dev < 8
+    → is_fault row.kind ≡ false → (bus p).rst ≡ false → (bus (row ∷ p)).rst ≡ false
+    → resets_left (run_state s (row ∷ p)) s.resets ≡ resets_left (run_state s p) s.resets
 calm_resets s p row dv lt lines off calm = go row.kind refl
   where
     go : (k : Kind) → row.kind ≡ k → resets_left (run_state s (row ∷ p)) s.resets ≡ resets_left (run_state s p) s.resets
     go (Fault bit) e = wrong (sym (ap is_fault e) ∙ lines)
     go (Drives l) e =
         let same : row ≡ row_of_lines row.time row.dev l = row_is row l e in
-        let own : (drives (row_of_lines row.time row.dev l ∷ p) row.dev).rst ≡ false = ap (λ (r : Row). (drives (r ∷ p) row.dev).rst) (sym same) ∙ off_at (row ∷ p) calm row.dev lt in
+        let own : (drives (row_of_lines row.time row.dev l ∷ p) row.dev).rst ≡ false =
+        ap (λ (r : Row). (drives (r ∷ p) row.dev).rst) (sym same) ∙ off_at (row ∷ p) calm row.dev lt in
         ap (λ (r : Row). resets_left (run_state s (r ∷ p)) s.resets) same
-        ∙ resets_stay s p row.time row.dev l s.resets dv lt (off_at p off row.dev lt) (ap (λ (y : LineSet). y.rst) (sym (drives_own p row.time row.dev l)) ∙ own)
+        ∙ resets_stay s p row.time row.dev l s.resets dv lt (off_at p off row.dev lt)
+        (ap (λ (y : LineSet). y.rst) (sym (drives_own p row.time row.dev l)) ∙ own)
 
 -- ---- the row
 
-begins_of : (s : ScenarioValue) (k : RunState) (row : Row) (n : Connection) → k.story.bus_state.connection ≡ None → (row_reading k.story.bus_state row).next ≡ Some n → (row_reading k.story.bus_state row).change.after.rst ≡ false → RowOf s k row → Begins s k row n
+begins_of : (s : ScenarioValue) (k : RunState) (row : Row) (n : Connection) → k.story.bus_state.connection ≡ None
+    → (row_reading k.story.bus_state row).next ≡ Some n → (row_reading k.story.bus_state row).change.after.rst ≡ false
+    → RowOf s k row → Begins s k row n
 begins_of s k row n con next calm (apart e f) = none_some n (sym f ∙ next)
-begins_of s k row n con next calm (begins m b) = subst (λ (x : Connection). Begins s k row x) (same_Some m n (sym b.first.next_is ∙ next)) b
+begins_of s k row n con next calm (begins m b) =
+    subst (λ (x : Connection). Begins s k row x) (same_Some m n (sym b.first.next_is ∙ next)) b
 begins_of s k row n con next calm (goes_on m c g) = none_some m (sym con ∙ g.row_is.connection_is)
 begins_of s k row n con next calm (ends m g) = none_some m (sym con ∙ g.connection_is)
 begins_of s k row n con next calm (under_reset r e) = wrong (sym r ∙ calm)
 
 -- An abort that an initiator calls for is a line of the scenario.
-abort_there : (s : ScenarioValue) (p : List Row) (row : Row) (n : Connection) (m : ℕ) → connection p ≡ None → connection (row ∷ p) ≡ Some n → n.reselected ≡ false → IsCalled s p → aim_of (run_state s p).story.aims n.initiator ≡ Some (abort m) → (a : AbortDef) × (abort_line_at s.aborts m ≡ Some a)
+abort_there : (s : ScenarioValue) (p : List Row) (row : Row) (n : Connection) (m : ℕ)
+    → connection p ≡ None → connection (row ∷ p) ≡ Some n → n.reselected ≡ false
+    → IsCalled s p → aim_of (run_state s p).story.aims n.initiator ≡ Some (abort m)
+    → (a : AbortDef) × (abort_line_at s.aborts m ≡ Some a)
 abort_there s p row n m alone e selects was aim = by_call (call p) refl (made_is p row n alone e).made
   where
     Found : Type 0
@@ -84,7 +96,8 @@ abort_there s p row n m alone e selects was aim = by_call (call p) refl (made_is
     found None f d z = none_some d z
     found (Some a) f d z = (a, f)
 
-    by_calling : (k : Call) → call p ≡ Some k → (o : Option Calling) → k.calling ≡ o → connected_of k.caller o row.time ≡ Some n → Found
+    by_calling : (k : Call) → call p ≡ Some k → (o : Option Calling) → k.calling ≡ o
+        → connected_of k.caller o row.time ≡ Some n → Found
     by_calling k ek None f z = none_some n z
     by_calling k ek (Some x) f z = by_answer x.answered z
       where
@@ -93,10 +106,15 @@ abort_there s p row n m alone e selects was aim = by_call (call p) refl (made_is
         by_answer (Some t) y =
             let same : connected k.caller x row.time ≡ n = same_Some (connected k.caller x row.time) n y in
             let re : x.reselects ≡ false = ap (λ (w : Connection). w.reselected) same ∙ selects in
-            let caller : n.initiator ≡ k.caller = ap (λ (w : Connection). w.initiator) (sym same) ∙ ap (λ (q : Bool). if q then x.called else k.caller) re in
-            let own : aim_of (run_state s p).story.aims k.caller ≡ Some (abort m) = ap (λ (d : ℕ). aim_of (run_state s p).story.aims d) (sym caller) ∙ aim in
+            let caller : n.initiator ≡ k.caller = ap (λ (w : Connection). w.initiator) (sym same)
+            ∙ ap (λ (q : Bool). if q then x.called else k.caller) re in
+            let own : aim_of (run_state s p).story.aims k.caller ≡ Some (abort m) =
+            ap (λ (d : ℕ). aim_of (run_state s p).story.aims d) (sym caller) ∙ aim in
             let host : is_initiator s.hosts k.caller ≡ true = (was k x ek f).host_is ∙ ap not re in
-            let called : abort_target (abort_line_at s.aborts m) ≡ Some x.called = sym (ap (λ (q : Bool). if q then target_of s (aim_of (run_state s p).story.aims k.caller) else initiator_if (ready_of s (run_state s p) k.caller)) host ∙ ap (target_of s) own) ∙ (was k x ek f).callee_is in
+            let called : abort_target (abort_line_at s.aborts m) ≡ Some x.called =
+            sym (ap (λ (q : Bool). if q then target_of s (aim_of (run_state s p).story.aims k.caller)
+            else initiator_if (ready_of s (run_state s p) k.caller)) host ∙ ap (target_of s) own)
+            ∙ (was k x ek f).callee_is in
             found (abort_line_at s.aborts m) refl x.called called
 
     by_call : (o : Option Call) → call p ≡ o → connection_of o row.time ≡ Some n → Found
@@ -118,26 +136,41 @@ pub record Selects (s : ScenarioValue) (j k : RunState) (item : Item) : Type 0 w
   pub resets : resets_left j s.resets ≡ resets_left k s.resets
   pub faults : j.faults ≡ k.faults
 
-left_after : (s : ScenarioValue) (j k : RunState) (item : Item) (n : ℕ) (c : CmdDef) → Selects s j k item → command_left s j n c ≡ left_by s (sent_more k.story.sent item) (open_left s (same_item item (command_item n)) false (progress_in k.progress (command_id n)).runs c) n c
-left_after s j k item n c h = λ i. left_by s (h.sent i) (open_left s (serves_item (h.served i) (command_item n)) (h.still i) (progress_in (h.progress i) (command_id n)).runs c) n c
+left_after : (s : ScenarioValue) (j k : RunState) (item : Item) (n : ℕ) (c : CmdDef) → Selects s j k item
+    → command_left s j n c ≡ left_by s (sent_more k.story.sent item)
+    (open_left s (same_item item (command_item n)) false (progress_in k.progress (command_id n)).runs c) n c
+left_after s j k item n c h = λ i. left_by s (h.sent i) (open_left s (serves_item (h.served i) (command_item n))
+    (h.still i) (progress_in (h.progress i) (command_id n)).runs c) n c
 
-other_command : (s : ScenarioValue) (j k : RunState) (item : Item) (n : ℕ) (c : CmdDef) → Selects s j k item → same_item item (command_item n) ≡ false → command_left s j n c ≤ command_left s k n c
+other_command : (s : ScenarioValue) (j k : RunState) (item : Item) (n : ℕ) (c : CmdDef) → Selects s j k item
+    → same_item item (command_item n) ≡ false → command_left s j n c ≤ command_left s k n c
 other_command s j k item n c h e =
-    let after = left_after s j k item n c h ∙ ap (λ (q : Bool). left_by s (sent_more k.story.sent item) (open_left s q false (progress_in k.progress (command_id n)).runs c) n c) e in
-    let same : open_of s k n c ≡ open_left s false false (progress_in k.progress (command_id n)).runs c = ap (λ (o : Option Item). open_left s (serves_item o (command_item n)) (is_in_data k) (progress_in k.progress (command_id n)).runs c) h.before in
-    let one = other_sent s k.story.sent item (open_left s false false (progress_in k.progress (command_id n)).runs c) (open_of s k n c) n c e (omega arith) in
+    let after = left_after s j k item n c h ∙ ap (λ (q : Bool). left_by s (sent_more k.story.sent item)
+    (open_left s q false (progress_in k.progress (command_id n)).runs c) n c) e in
+    let same : open_of s k n c ≡ open_left s false false (progress_in k.progress (command_id n)).runs c = ap
+    (λ (o : Option Item). open_left s (serves_item o (command_item n))
+    (is_in_data k) (progress_in k.progress (command_id n)).runs c) h.before in
+    let one = other_sent s k.story.sent item
+    (open_left s false false (progress_in k.progress (command_id n)).runs c) (open_of s k n c) n c e (omega arith) in
     subst (λ (x : ℕ). x ≤ command_left s k n c) (sym after) one
 
-select_sum : (c d a b r q f x y : ℕ) → c + x ≤ d → a + y ≤ b → r ≡ q → x + y ≡ 4096 → c + a + 64 * r + f + 4096 ≤ d + b + 64 * q + f
+select_sum : (c d a b r q f x y : ℕ) → c + x ≤ d → a + y ≤ b → r ≡ q → x + y ≡ 4096
+    → c + a + 64 * r + f + 4096 ≤ d + b + 64 * q + f
 select_sum c d a b r q f x y h g e z = omega arith
 
-future_after : (s : ScenarioValue) (j k : RunState) (item : Item) (x y : ℕ) → Selects s j k item → commands_left s j 1 s.commands + x ≤ commands_left s k 1 s.commands → aborts_left s (sent_more k.story.sent item) 1 s.aborts + y ≤ aborts_left s k.story.sent 1 s.aborts → x + y ≡ 4096
+future_after : (s : ScenarioValue) (j k : RunState) (item : Item) (x y : ℕ)
+    → Selects s j k item → commands_left s j 1 s.commands + x ≤ commands_left s k 1 s.commands
+    → aborts_left s (sent_more k.story.sent item) 1 s.aborts + y ≤ aborts_left s k.story.sent 1 s.aborts → x + y ≡ 4096
     → future_left s j + 4096 ≤ future_left s k
 future_after s j k item x y h commands aborts e =
     let same : for_fault s * length j.faults ≡ for_fault s * length k.faults = λ i. for_fault s * length (h.faults i) in
-    subst (λ (w : ℕ). commands_left s j 1 s.commands + aborts_left s j.story.sent 1 s.aborts + for_reset * resets_left j s.resets + w + 4096 ≤ future_left s k) (sym same)
-    (subst (λ (b : Sent). commands_left s j 1 s.commands + aborts_left s b 1 s.aborts + for_reset * resets_left j s.resets + for_fault s * length k.faults + 4096 ≤ future_left s k) (sym h.sent)
-    (select_sum (commands_left s j 1 s.commands) (commands_left s k 1 s.commands) (aborts_left s (sent_more k.story.sent item) 1 s.aborts) (aborts_left s k.story.sent 1 s.aborts) (resets_left j s.resets) (resets_left k s.resets) (for_fault s * length k.faults) x y commands aborts h.resets e))
+    subst (λ (w : ℕ). commands_left s j 1 s.commands + aborts_left s j.story.sent 1 s.aborts
+    + for_reset * resets_left j s.resets + w + 4096 ≤ future_left s k) (sym same)
+    (subst (λ (b : Sent). commands_left s j 1 s.commands + aborts_left s b 1 s.aborts
+    + for_reset * resets_left j s.resets + for_fault s * length k.faults + 4096 ≤ future_left s k)
+    (sym h.sent) (select_sum (commands_left s j 1 s.commands) (commands_left s k 1 s.commands)
+    (aborts_left s (sent_more k.story.sent item) 1 s.aborts) (aborts_left s k.story.sent 1 s.aborts)
+    (resets_left j s.resets) (resets_left k s.resets) (for_fault s * length k.faults) x y commands aborts h.resets e))
 
 none_less : (a b : ℕ) → a ≤ b → a + 0 ≤ b
 none_less a b h = omega arith
@@ -148,45 +181,56 @@ plus a b h = omega arith
 less_zero : (a b : ℕ) → a ≤ b + 0 → a ≤ b
 less_zero a b h = omega arith
 
-pub selection_pays : (s : ScenarioValue) (j k : RunState) (dev : ℕ) (item : Item) → Items s k → IsNext s k.story.sent dev item → ((m : ℕ) → item ≡ abort m → (a : AbortDef) × (abort_line_at s.aborts m ≡ Some a)) → Selects s j k item → future_left s j + 4096 ≤ future_left s k
+pub selection_pays : (s : ScenarioValue) (j k : RunState) (dev : ℕ) (item : Item) → Items s k
+    → IsNext s k.story.sent dev item → ((m : ℕ) → item ≡ abort m → (a : AbortDef) × (abort_line_at s.aborts m ≡ Some a))
+    → Selects s j k item → future_left s j + 4096 ≤ future_left s k
 selection_pays s j k dev _ items (is_abort m undone) there h =
     let a = there m refl in
-    future_after s j k (abort m) 0 4096 h (none_less _ _ (all_commands s j k (λ n c at. other_command s j k (abort m) n c h refl))) (line m a.0 a.1 undone) refl
+    future_after s j k (abort m) 0 4096 h
+    (none_less _ _ (all_commands s j k (λ n c at. other_command s j k (abort m) n c h refl)))
+    (line m a.0 a.1 undone) refl
   where
     one_up : (i : ℕ) → suc i ≡ 1 + i
     one_up i = omega arith
 
-    line : (m : ℕ) (a : AbortDef) → abort_line_at s.aborts m ≡ Some a → is_done k.story.sent (abort m) ≡ false → aborts_left s (sent_more k.story.sent (abort m)) 1 s.aborts + 4096 ≤ aborts_left s k.story.sent 1 s.aborts
+    line : (m : ℕ) (a : AbortDef) → abort_line_at s.aborts m ≡ Some a → is_done k.story.sent (abort m) ≡ false
+        → aborts_left s (sent_more k.story.sent (abort m)) 1 s.aborts + 4096 ≤ aborts_left s k.story.sent 1 s.aborts
     line zero a at u = none_some a (sym (none_at s.aborts) ∙ at)
       where
         none_at : (aborts : List AbortDef) → abort_line_at aborts 0 ≡ None
         none_at [] = refl
         none_at (x ∷ aborts) = refl
-    line (suc i) a at u =
-        subst (λ (x : ℕ). aborts_left s (sent_more k.story.sent (abort x)) 1 s.aborts + 4096 ≤ aborts_left s k.story.sent 1 s.aborts) (sym (one_up i))
-        (abort_sent s k.story.sent 1 i a s.aborts at (ap (λ (x : ℕ). is_done k.story.sent (abort x)) (sym (one_up i)) ∙ u))
-selection_pays s j k dev _ items (is_sense m d at own checked undone) there h =
-    future_after s j k (sense_item m) 4096 0 h
-    (less_zero _ _ (but_one_command s j k 4096 0 m d at (λ n c f ne. other_command s j k (sense_item m) n c h (sense_apart m n))
-    (plus _ _ (subst (λ (x : ℕ). x + 4096 ≤ command_left s k m d) (sym (left_after s j k (sense_item m) m d h))
-    (sense_sent s k.story.sent (open_left s (same_item (sense_item m) (command_item m)) false (progress_in k.progress (command_id m)).runs d) (open_of s k m d) m d (items.checked m checked) checked undone)))))
+    line (suc i) a at u = subst (λ (x : ℕ). aborts_left s (sent_more k.story.sent (abort x)) 1 s.aborts + 4096
+        ≤ aborts_left s k.story.sent 1 s.aborts) (sym (one_up i)) (abort_sent s k.story.sent 1 i a s.aborts at
+        (ap (λ (x : ℕ). is_done k.story.sent (abort x)) (sym (one_up i)) ∙ u))
+selection_pays s j k dev _ items (is_sense m d at own checked undone) there h = future_after s j k
+    (sense_item m) 4096 0 h (less_zero _ _
+    (but_one_command s j k 4096 0 m d at (λ n c f ne. other_command s j k (sense_item m) n c h (sense_apart m n))
+    (plus _ _ (subst (λ (x : ℕ). x + 4096 ≤ command_left s k m d)
+    (sym (left_after s j k (sense_item m) m d h)) (sense_sent s k.story.sent
+    (open_left s (same_item (sense_item m) (command_item m)) false (progress_in k.progress (command_id m)).runs d)
+    (open_of s k m d) m d (items.checked m checked) checked undone)))))
     (none_less _ _ (aborts_sent s k.story.sent (sense_item m) 1 s.aborts)) refl
-selection_pays s j k dev _ items (is_command m time d at own undone may none) there h =
-    future_after s j k (command_item m) 4096 0 h
-    (less_zero _ _ (but_one_command s j k 4096 0 m d at (λ n c f ne. other_command s j k (command_item m) n c h (command_apart m n ne)) (plus _ _ (fewer _ _ paid))))
+selection_pays s j k dev _ items (is_command m time d at own undone may none) there h = future_after s j k
+    (command_item m) 4096 0 h (less_zero _ _ (but_one_command s j k 4096 0 m d at
+    (λ n c f ne. other_command s j k (command_item m) n c h (command_apart m n ne)) (plus _ _ (fewer _ _ paid))))
     (none_less _ _ (aborts_sent s k.story.sent (command_item m) 1 s.aborts)) refl
   where
-    unsent : (has_item k.story.sent.sent (command_item m) ≡ false) × (has_item k.story.sent.over (command_item m) ≡ false)
+    unsent : (has_item k.story.sent.sent (command_item m) ≡ false)
+        × (has_item k.story.sent.over (command_item m) ≡ false)
     unsent = or_parts (has_item k.story.sent.sent (command_item m)) (has_item k.story.sent.over (command_item m)) undone
 
     fresh : (progress_in k.progress (command_id m)).runs ≡ 0
     fresh = ap (λ (x : ProcessProgress). x.runs) (items.progress (command_id m) unsent.0)
 
-    shape_after : command_left s j m d ≡ left_by s (sent_more k.story.sent (command_item m)) (open_left s true false 0 d) m d
-    shape_after = left_after s j k (command_item m) m d h ∙ (λ i. left_by s (sent_more k.story.sent (command_item m)) (open_left s (self_item (command_item m) i) false (fresh i) d) m d)
+    shape_after : command_left s j m d
+        ≡ left_by s (sent_more k.story.sent (command_item m)) (open_left s true false 0 d) m d
+    shape_after = left_after s j k (command_item m) m d h ∙ (λ i. left_by s (sent_more k.story.sent (command_item m))
+        (open_left s (self_item (command_item m) i) false (fresh i) d) m d)
 
     paid : command_left s j m d + 5120 ≤ command_left s k m d
-    paid = subst (λ (x : ℕ). x + 5120 ≤ command_left s k m d) (sym shape_after) (command_sent s k.story.sent (open_of s k m d) m d unsent.1 unsent.0)
+    paid = subst (λ (x : ℕ). x + 5120 ≤ command_left s k m d) (sym shape_after)
+        (command_sent s k.story.sent (open_of s k m d) m d unsent.1 unsent.0)
 
     fewer : (a b : ℕ) → a + 5120 ≤ b → a + 4096 ≤ b
     fewer a b h = omega arith
@@ -202,13 +246,18 @@ pub record Reselects (s : ScenarioValue) (j k : RunState) (m : ℕ) : Type 0 whe
   pub resets : resets_left j s.resets ≡ resets_left k s.resets
   pub faults : j.faults ≡ k.faults
 
-pub reselection_pays : (s : ScenarioValue) (j k : RunState) (m : ℕ) (c : CmdDef) → command_at s.commands m ≡ Some c → has_item k.story.sent.sent (command_item m) ≡ true → has_item k.story.sent.over (command_item m) ≡ false → Reselects s j k m → future_left s j + 1024 ≤ future_left s k
+pub reselection_pays : (s : ScenarioValue) (j k : RunState) (m : ℕ) (c : CmdDef) → command_at s.commands m ≡ Some c
+    → has_item k.story.sent.sent (command_item m) ≡ true → has_item k.story.sent.over (command_item m) ≡ false
+    → Reselects s j k m → future_left s j + 1024 ≤ future_left s k
 reselection_pays s j k m c at sent over h =
     let same : for_fault s * length j.faults ≡ for_fault s * length k.faults = λ i. for_fault s * length (h.faults i) in
     let commands = less_zero _ _ (but_one_command s j k 1024 0 m c at other (plus_more _ _ own)) in
-    subst (λ (w : ℕ). commands_left s j 1 s.commands + aborts_left s j.story.sent 1 s.aborts + for_reset * resets_left j s.resets + w + 1024 ≤ future_left s k) (sym same)
-    (subst (λ (b : Sent). commands_left s j 1 s.commands + aborts_left s b 1 s.aborts + for_reset * resets_left j s.resets + for_fault s * length k.faults + 1024 ≤ future_left s k) (sym h.sent)
-    (sum (commands_left s j 1 s.commands) (commands_left s k 1 s.commands) (aborts_left s k.story.sent 1 s.aborts) (resets_left j s.resets) (resets_left k s.resets) (for_fault s * length k.faults) commands h.resets))
+    subst (λ (w : ℕ). commands_left s j 1 s.commands + aborts_left s j.story.sent 1 s.aborts
+    + for_reset * resets_left j s.resets + w + 1024 ≤ future_left s k) (sym same)
+    (subst (λ (b : Sent). commands_left s j 1 s.commands + aborts_left s b 1 s.aborts
+    + for_reset * resets_left j s.resets + for_fault s * length k.faults + 1024 ≤ future_left s k) (sym h.sent)
+    (sum (commands_left s j 1 s.commands) (commands_left s k 1 s.commands) (aborts_left s k.story.sent 1 s.aborts)
+    (resets_left j s.resets) (resets_left k s.resets) (for_fault s * length k.faults) commands h.resets))
   where
     sum : (c d a r q f : ℕ) → c + 1024 ≤ d → r ≡ q → c + a + 64 * r + f + 1024 ≤ d + a + 64 * q + f
     sum c d a r q f x e = omega arith
@@ -219,23 +268,36 @@ reselection_pays s j k m c at sent over h =
     made : ℕ → ℕ
     made n = (progress_in k.progress (command_id n)).runs
 
-    after : (n : ℕ) (d : CmdDef) → command_left s j n d ≡ left_by s k.story.sent (open_left s (same_item (command_item m) (command_item n)) false (made n) d) n d
-    after n d = λ i. left_by s (h.sent i) (open_left s (serves_item (h.served i) (command_item n)) (h.still i) (progress_in (h.progress i) (command_id n)).runs d) n d
+    after : (n : ℕ) (d : CmdDef) → command_left s j n d
+        ≡ left_by s k.story.sent (open_left s (same_item (command_item m) (command_item n)) false (made n) d) n d
+    after n d = λ i. left_by s (h.sent i) (open_left s (serves_item (h.served i) (command_item n)) (h.still i)
+        (progress_in (h.progress i) (command_id n)).runs d) n d
 
-    before : (n : ℕ) (d : CmdDef) → command_left s k n d ≡ left_by s k.story.sent (open_left s false false (made n) d) n d
-    before n d = ap (λ (o : Option Item). left_by s k.story.sent (open_left s (serves_item o (command_item n)) (is_in_data k) (made n) d) n d) h.before
+    before : (n : ℕ) (d : CmdDef)
+        → command_left s k n d ≡ left_by s k.story.sent (open_left s false false (made n) d) n d
+    before n d = ap (λ (o : Option Item). left_by s k.story.sent
+        (open_left s (serves_item o (command_item n)) (is_in_data k) (made n) d) n d) h.before
 
-    other : (n : ℕ) (d : CmdDef) → command_at s.commands n ≡ Some d → n ≢ m → command_left s j n d ≤ command_left s k n d
+    other : (n : ℕ) (d : CmdDef) → command_at s.commands n ≡ Some d → n ≢ m
+        → command_left s j n d ≤ command_left s k n d
     other n d f ne =
-        let e = after n d ∙ ap (λ (q : Bool). left_by s k.story.sent (open_left s q false (made n) d) n d) (command_apart m n ne) ∙ sym (before n d) in
+        let e = after n d
+        ∙ ap (λ (q : Bool). left_by s k.story.sent (open_left s q false (made n) d) n d) (command_apart m n ne)
+        ∙ sym (before n d) in
         omega arith
 
     own : command_left s j m c + 1024 ≤ command_left s k m c
     own =
-        let e : command_left s j m c ≡ open_left s true false (made m) c = after m c ∙ (λ i. if over i then sense_left k.story.sent m else if sent i then open_left s (self_item (command_item m) i) false (made m) c else unsent_left s k.story.sent m c) in
-        let f : command_left s k m c ≡ open_left s false false (made m) c = before m c ∙ (λ i. if over i then sense_left k.story.sent m else if sent i then open_left s false false (made m) c else unsent_left s k.story.sent m c) in
+        let e : command_left s j m c ≡ open_left s true false (made m) c = after m c
+        ∙ (λ i. if over i then sense_left k.story.sent m
+        else if sent i then open_left s (self_item (command_item m) i) false (made m) c
+        else unsent_left s k.story.sent m c) in
+        let f : command_left s k m c ≡ open_left s false false (made m) c = before m c
+        ∙ (λ i. if over i then sense_left k.story.sent m
+        else if sent i then open_left s false false (made m) c else unsent_left s k.story.sent m c) in
         let w = by (data_runs s c) (made m) (bytes_after s c (made m + 0)) in
-        chain (command_left s j m c) (open_left s true false (made m) c) (open_left s false false (made m) c) (command_left s k m c) e f w
+        chain (command_left s j m c) (open_left s true false (made m) c) (open_left s false false (made m) c)
+        (command_left s k m c) e f w
       where
         by : (r n y : ℕ) → 1024 * (r - n + 0) + 8 * y + 4096 + 1024 ≤ 1024 * (r - n + 1) + 8 * y + 4096
         by r n y = omega arith
@@ -247,16 +309,19 @@ reselection_pays s j k m c at sent over h =
 few_names : (p : Process) → length (bytes_of_messages (naming_messages p)) ≤ 3
 few_names p = go p.tag
   where
-    go : (t : Tag) → length (bytes_of_messages (record { first = Some (MsgIn.Identify p.unit); second = tag_named t })) ≤ 3
+    go : (t : Tag)
+        → length (bytes_of_messages (record { first = Some (MsgIn.Identify p.unit); second = tag_named t })) ≤ 3
     go Tag.Untagged = omega arith
     go _ = omega arith
 
 -- ---- the measure
 
-selected_less : (f g l u w m : ℕ) → f + 4096 ≤ g → l ≡ 2048 → u ≤ 10 → w ≤ 144 → g ≤ m → suc (f + 40 + (l + (0 + u) + w + 0)) ≤ m
+selected_less : (f g l u w m : ℕ) → f + 4096 ≤ g → l ≡ 2048 → u ≤ 10 → w ≤ 144 → g ≤ m
+    → suc (f + 40 + (l + (0 + u) + w + 0)) ≤ m
 selected_less f g l u w m h e x y z = omega arith
 
-reselected_less : (f g l r u w m : ℕ) → f + 1024 ≤ g → l ≡ 512 → r ≤ 3 → u ≤ 10 → w ≤ 144 → g ≤ m → suc (f + 40 + (l + (8 * r + u) + w + 0)) ≤ m
+reselected_less : (f g l r u w m : ℕ) → f + 1024 ≤ g → l ≡ 512 → r ≤ 3 → u ≤ 10 → w ≤ 144 → g ≤ m
+    → suc (f + 40 + (l + (8 * r + u) + w + 0)) ≤ m
 reselected_less f g l r u w m h e x y v z = omega arith
 
 no_pulses_by : (b : Bool) (l : LineSet) (x : Bool) → is_data l ≡ false → (b && is_data l && x) ≡ false
@@ -266,7 +331,8 @@ no_pulses_by b l x e = ap (λ (q : Bool). b && q && x) e ∙ go b
     go true = refl
     go false = refl
 
-pub begin_falls : (s : ScenarioValue) (p : List Row) (row : Row) (n : Connection) → Obeys s → IsPrompt s (row ∷ p) → Whole s p → connection p ≡ None → connection (row ∷ p) ≡ Some n → suc (measure s (row ∷ p)) ≤ measure s p
+pub begin_falls : (s : ScenarioValue) (p : List Row) (row : Row) (n : Connection) → Obeys s → IsPrompt s (row ∷ p)
+    → Whole s p → connection p ≡ None → connection (row ∷ p) ≡ Some n → suc (measure s (row ∷ p)) ≤ measure s p
 begin_falls s p row n o prompt was alone e = by_bool n.reselected (λ re. reselects re) (λ sel. selects sel)
   where
     q : List Row
@@ -303,7 +369,8 @@ begin_falls s p row n o prompt was alone e = by_bool n.reselected (λ re. resele
     next = (λ i. connection_after (was.stood.plain.connection i) (was.stood.plain.call i) (change i) row) ∙ e
 
     g : Begins s k row n
-    g = begins_of s k row n con next (ap (λ (x : Change). x.after.rst) change ∙ calm) (standing_next s p row o prompt was).row_is
+    g = begins_of s k row n con next (ap (λ (x : Change). x.after.rst) change ∙ calm)
+        (standing_next s p row o prompt was).row_is
 
     items : Items s k
     items = was.facts.items.items
@@ -321,7 +388,8 @@ begin_falls s p row n o prompt was alone e = by_bool n.reselected (λ re. resele
     begun = ap (λ (x : Exchange). x.begun) made
 
     progress : j.progress ≡ k.progress
-    progress = ap (λ (c : Option Connection). progress_after s k (row_reading k.story.bus_state row) c (row_reading k.story.bus_state row).next (leaving_of s k k.story.bus_state.connection)) con
+    progress = ap (λ (c : Option Connection). progress_after s k (row_reading k.story.bus_state row) c
+        (row_reading k.story.bus_state row).next (leaving_of s k k.story.bus_state.connection)) con
 
     faults : j.faults ≡ k.faults
     faults = ap (λ (b : Bool). if b then drop 1 k.faults else k.faults) g.first.lines
@@ -330,55 +398,78 @@ begin_falls s p row n o prompt was alone e = by_bool n.reselected (λ re. resele
     resets = calm_resets s p row dv lt g.first.lines off calm
 
     struck : is_struck_phase s q ≡ false
-    struck = ap (λ (c : Option Connection). is_some c && is_some (row_reading k.story.bus_state row).next && not (changes_phase (row_reading k.story.bus_state row).change) && (is_fault row.kind || is_struck_phase s p)) con
+    struck = ap (λ (c : Option Connection). is_some c && is_some (row_reading k.story.bus_state row).next
+        && not (changes_phase (row_reading k.story.bus_state row).change) && (is_fault row.kind || is_struck_phase s p))
+        con
 
-    whole : measure s q ≡ future_left s j + 40 + (phases_left (is_refusing s q) j + phase_left s j n + sense_bytes_left (is_in_data j) j.progress j.served + struck_left s false)
-    whole =
-        shape s j (is_struck_phase s q) (is_refusing s q) n (ap (λ (l : LineSet). l.rst) pj.bus ∙ calm) (pj.connection ∙ e)
-        ∙ ap (λ (x : Bool). future_left s j + 40 + (phases_left (is_refusing s q) j + phase_left s j n + sense_bytes_left (is_in_data j) j.progress j.served + struck_left s x)) struck
+    whole : measure s q ≡ future_left s j + 40 + (phases_left (is_refusing s q) j + phase_left s j n
+        + sense_bytes_left (is_in_data j) j.progress j.served + struck_left s false)
+    whole = shape s j (is_struck_phase s q) (is_refusing s q) n
+        (ap (λ (l : LineSet). l.rst) pj.bus ∙ calm) (pj.connection ∙ e)
+        ∙ ap (λ (x : Bool). future_left s j + 40 + (phases_left (is_refusing s q) j + phase_left s j n
+        + sense_bytes_left (is_in_data j) j.progress j.served + struck_left s x)) struck
 
     most : future_left s k ≤ measure s p
     most = omega arith
 
     around : ℕ
-    around = under_way (pace_of s j n.target).pulsed (bus_of j) j.handshakes (drives_of j n.target) (drives_of j n.initiator) (offering_of s j n.target) (answering_of s j n.initiator)
+    around = under_way (pace_of s j n.target).pulsed (bus_of j) j.handshakes (drives_of j n.target)
+        (drives_of j n.initiator) (offering_of s j n.target) (answering_of s j n.initiator)
 
     selects : n.reselected ≡ false → suc (measure s q) ≤ measure s p
     selects sel =
         let a = g.selects sel in
         let dry : j.exchange.begun ≡ false = begun ∙ sel in
         let h : Selects s j k a.item = record {
-          sent = f.sent ∙ ap (λ (b : Bool). if b then k.story.sent else sent_with k.story.sent (aim_of k.story.aims n.initiator)) sel ∙ ap (sent_with k.story.sent) a.aim_is;
-          served = f.served ∙ ap (λ (b : Bool). if b then item_if (ready_of s k n.target) else aim_of k.story.aims n.initiator) sel ∙ a.aim_is;
+          sent = f.sent ∙ ap
+              (λ (b : Bool). if b then k.story.sent else sent_with k.story.sent (aim_of k.story.aims n.initiator)) sel
+              ∙ ap (sent_with k.story.sent) a.aim_is;
+          served = f.served
+              ∙ ap (λ (b : Bool). if b then item_if (ready_of s k n.target) else aim_of k.story.aims n.initiator) sel
+              ∙ a.aim_is;
           before = none.1;
           still = ap (λ (b : Bool). b && is_data (bus_of j)) dry;
           progress = progress;
           resets = resets;
           faults = faults;
         } in
-        let aimed = aimed_next s p row n alone e sel (was.stood.called alone off) (was.facts.items.aims alone off) a.item a.aim_is in
-        let pay = selection_pays s j k n.initiator a.item items aimed (λ m z. abort_there s p row n m alone e sel (was.stood.called alone off) (a.aim_is ∙ ap (λ (x : Item). Some x) z)) h in
-        let pulsed : (pace_of s j n.target).pulsed ≡ false = ap (λ (b : Bool). is_pulsed_phase b (bus_of j) (agreement_of j)) dry in
-        let ahead : phases_left (is_refusing s q) j ≡ 2048 = ap (λ (b : Bool). if b then phases_in (is_refusing s q) j.exchange.plan (phase_of (bus_of j)) else for_reselection + 8 * for_phase) dry in
-        let here : phase_left s j n ≡ 0 + around = ap (λ (b : Bool). bytes_if_begun b (requests_left s j n.target) + around) dry in
-        let same = whole ∙ ap (λ (x : ℕ). future_left s j + 40 + (phases_left (is_refusing s q) j + x + sense_bytes_left (is_in_data j) j.progress j.served + 0)) here in
-        subst (λ (x : ℕ). suc x ≤ measure s p) (sym same)
-        (selected_less (future_left s j) (future_left s k) (phases_left (is_refusing s q) j) around (sense_bytes_left (is_in_data j) j.progress j.served) (measure s p) pay ahead
-        (few_under_way (pace_of s j n.target).pulsed (bus_of j) j.handshakes (drives_of j n.target) (drives_of j n.initiator) (offering_of s j n.target) (answering_of s j n.initiator) pulsed) (few_sense (is_in_data j) j.progress j.served) most)
+        let aimed = aimed_next s p row n alone e sel (was.stood.called alone off)
+        (was.facts.items.aims alone off) a.item a.aim_is in
+        let pay = selection_pays s j k n.initiator a.item items aimed (λ m z. abort_there s p row n m alone e sel
+        (was.stood.called alone off) (a.aim_is ∙ ap (λ (x : Item). Some x) z)) h in
+        let pulsed : (pace_of s j n.target).pulsed ≡ false = ap
+        (λ (b : Bool). is_pulsed_phase b (bus_of j) (agreement_of j)) dry in
+        let ahead : phases_left (is_refusing s q) j ≡ 2048 = ap
+        (λ (b : Bool). if b then phases_in (is_refusing s q) j.exchange.plan (phase_of (bus_of j))
+        else for_reselection + 8 * for_phase) dry in
+        let here : phase_left s j n ≡ 0 + around = ap
+        (λ (b : Bool). bytes_if_begun b (requests_left s j n.target) + around) dry in
+        let same = whole ∙ ap (λ (x : ℕ). future_left s j + 40
+        + (phases_left (is_refusing s q) j + x + sense_bytes_left (is_in_data j) j.progress j.served + 0)) here in
+        subst (λ (x : ℕ). suc x ≤ measure s p) (sym same) (selected_less (future_left s j) (future_left s k)
+        (phases_left (is_refusing s q) j) around (sense_bytes_left (is_in_data j) j.progress j.served) (measure s p)
+        pay ahead (few_under_way (pace_of s j n.target).pulsed (bus_of j) j.handshakes (drives_of j n.target)
+        (drives_of j n.initiator) (offering_of s j n.target) (answering_of s j n.initiator) pulsed)
+        (few_sense (is_in_data j) j.progress j.served) most)
 
     reselects : n.reselected ≡ true → suc (measure s q) ≤ measure s p
     reselects re =
         let r = g.reselects re in
-        let queued : IsQueued s k.story.sent r.ready.process = items_ready s p n.target r.ready was.facts.items r.ready_is in
+        let queued : IsQueued s k.story.sent r.ready.process = items_ready
+        s p n.target r.ready was.facts.items r.ready_is in
         let id : ProcId = r.ready.process.id in
-        let own : process id ≡ command_item id.command = λ i. process (record { command = id.command; sense = queued.command i }) in
+        let own : process id ≡ command_item id.command = λ i. process
+        (record { command = id.command; sense = queued.command i }) in
         let wet : j.exchange.begun ≡ true = begun ∙ re in
         let message : is_message_in (bus_of j) ≡ true = g.names re in
         let three = lines_in (bus_of j) message in
         let moving : is_data (bus_of j) ≡ false = λ i. not (three.0 i) && not (bus_of j).cd in
         let h : Reselects s j k id.command = record {
-          sent = f.sent ∙ ap (λ (b : Bool). if b then k.story.sent else sent_with k.story.sent (aim_of k.story.aims n.initiator)) re;
-          served = f.served ∙ ap (λ (b : Bool). if b then item_if (ready_of s k n.target) else aim_of k.story.aims n.initiator) re ∙ ap item_if r.ready_is ∙ ap (λ (x : Item). Some x) own;
+          sent = f.sent ∙ ap
+              (λ (b : Bool). if b then k.story.sent else sent_with k.story.sent (aim_of k.story.aims n.initiator)) re;
+          served = f.served
+              ∙ ap (λ (b : Bool). if b then item_if (ready_of s k n.target) else aim_of k.story.aims n.initiator) re
+              ∙ ap item_if r.ready_is ∙ ap (λ (x : Item). Some x) own;
           before = none.1;
           still = ap (λ (b : Bool). j.exchange.begun && b) moving ∙ and_false j.exchange.begun;
           progress = progress;
@@ -386,23 +477,41 @@ begin_falls s p row n o prompt was alone e = by_bool n.reselected (λ re. resele
           faults = faults;
         } in
         let there = command_of_process id r.ready.process queued.is in
-        let pay = reselection_pays s j k id.command there.0 there.1 (ap (has_item k.story.sent.sent) (sym own) ∙ queued.sent) (ap (has_item k.story.sent.over) (sym own) ∙ queued.opens) h in
-        let pulsed : (pace_of s j n.target).pulsed ≡ false = no_pulses_by j.exchange.begun (bus_of j) (nat_lt 0 (agreement_of j).offset) moving in
-        let phase : phase_of (bus_of j) ≡ Phase.MessageIn = λ i. if three.0 i then (if three.1 i then Phase.MessageIn else Phase.MessageOut) else if (bus_of j).cd then (if (bus_of j).io then Phase.Status else Phase.Command) else if (bus_of j).io then Phase.DataIn else Phase.DataOut in
+        let pay = reselection_pays s j k id.command there.0 there.1
+        (ap (has_item k.story.sent.sent) (sym own) ∙ queued.sent)
+        (ap (has_item k.story.sent.over) (sym own) ∙ queued.opens) h in
+        let pulsed : (pace_of s j n.target).pulsed ≡ false = no_pulses_by j.exchange.begun
+        (bus_of j) (nat_lt 0 (agreement_of j).offset) moving in
+        let phase : phase_of (bus_of j) ≡ Phase.MessageIn =
+        λ i. if three.0 i then (if three.1 i then Phase.MessageIn else Phase.MessageOut)
+        else if (bus_of j).cd then (if (bus_of j).io then Phase.Status else Phase.Command)
+        else if (bus_of j).io then Phase.DataIn else Phase.DataOut in
         let ahead : phases_left (is_refusing s q) j ≡ 512 =
         (λ i. if wet i then phases_in (is_refusing s q) j.exchange.plan (phase i) else for_reselection + 8 * for_phase)
-        ∙ ap (λ (x : Exchange). after_next x.plan.messages x.plan.next) made ∙ ap (λ (b : Bool). after_next (first_exchange_plan b).messages (first_exchange_plan b).next) re in
-        let names : j.exchange.plan.messages ≡ naming_messages r.ready.process = ap (λ (x : Exchange). x.plan.messages) made ∙ ap (λ (b : Bool). (first_exchange_plan b).messages) re ∙ ap messages_if r.ready_is in
-        let requests : requests_left s j n.target ≤ 3 =
-        subst (λ (x : ℕ). x ≤ 3) (sym (λ i. requests_by j.exchange.plan.struck (is_asked (bus_of j)) j.handshakes j.exchange.speech (length (bytes_of_messages (names i))) (run_of j) (phase i))) (fewer (length (bytes_of_messages (naming_messages r.ready.process))) j.handshakes.requests (few_names r.ready.process)) in
-        let here : phase_left s j n ≡ 8 * requests_left s j n.target + around = ap (λ (b : Bool). bytes_if_begun b (requests_left s j n.target) + around) wet in
-        let same = whole ∙ ap (λ (x : ℕ). future_left s j + 40 + (phases_left (is_refusing s q) j + x + sense_bytes_left (is_in_data j) j.progress j.served + 0)) here in
+        ∙ ap (λ (x : Exchange). after_next x.plan.messages x.plan.next) made
+        ∙ ap (λ (b : Bool). after_next (first_exchange_plan b).messages (first_exchange_plan b).next) re in
+        let names : j.exchange.plan.messages ≡ naming_messages r.ready.process =
+        ap (λ (x : Exchange). x.plan.messages) made
+        ∙ ap (λ (b : Bool). (first_exchange_plan b).messages) re ∙ ap messages_if r.ready_is in
+        let requests : requests_left s j n.target ≤ 3 = subst (λ (x : ℕ). x ≤ 3)
+        (sym (λ i. requests_by j.exchange.plan.struck (is_asked (bus_of j)) j.handshakes j.exchange.speech
+        (length (bytes_of_messages (names i))) (run_of j) (phase i)))
+        (fewer (length (bytes_of_messages (naming_messages r.ready.process))) j.handshakes.requests
+        (few_names r.ready.process)) in
+        let here : phase_left s j n ≡ 8 * requests_left s j n.target + around = ap
+        (λ (b : Bool). bytes_if_begun b (requests_left s j n.target) + around) wet in
+        let same = whole ∙ ap (λ (x : ℕ). future_left s j + 40
+        + (phases_left (is_refusing s q) j + x + sense_bytes_left (is_in_data j) j.progress j.served + 0)) here in
         subst (λ (x : ℕ). suc x ≤ measure s p) (sym same)
-        (reselected_less (future_left s j) (future_left s k) (phases_left (is_refusing s q) j) (requests_left s j n.target) around (sense_bytes_left (is_in_data j) j.progress j.served) (measure s p) pay ahead requests
-        (few_under_way (pace_of s j n.target).pulsed (bus_of j) j.handshakes (drives_of j n.target) (drives_of j n.initiator) (offering_of s j n.target) (answering_of s j n.initiator) pulsed) (few_sense (is_in_data j) j.progress j.served) most)
+        (reselected_less (future_left s j) (future_left s k) (phases_left (is_refusing s q) j)
+        (requests_left s j n.target) around (sense_bytes_left (is_in_data j) j.progress j.served) (measure s p) pay
+        ahead requests (few_under_way (pace_of s j n.target).pulsed (bus_of j) j.handshakes (drives_of j n.target)
+        (drives_of j n.initiator) (offering_of s j n.target) (answering_of s j n.initiator) pulsed)
+        (few_sense (is_in_data j) j.progress j.served) most)
       where
         first_exchange_plan : Bool → Plan
-        first_exchange_plan b = first_plan b (not b && may_negotiate k n (aim_of k.story.aims n.initiator)) (if b then messages_if (ready_of s k n.target) else no_messages)
+        first_exchange_plan b = first_plan b (not b && may_negotiate k n (aim_of k.story.aims n.initiator))
+            (if b then messages_if (ready_of s k n.target) else no_messages)
 
         run_of : RunState → ℕ
         run_of x = run_length_if (policy_of (target_def_of s n.target)) (task_of s x)
@@ -413,9 +522,11 @@ begin_falls s p row n o prompt was alone e = by_bool n.reselected (λ re. resele
         lines_in : (l : LineSet) → is_message_in l ≡ true → (l.msg ≡ true) × (l.io ≡ true)
         lines_in l z = let a = and_parts (l.msg && l.cd) l.io z in let b = and_parts l.msg l.cd a.0 in (b.0, a.1)
 
-        command_of_process : (id : ProcId) (x : Process) → process_of s id ≡ Some x → (c : CmdDef) × (command_at s.commands id.command ≡ Some c)
+        command_of_process : (id : ProcId) (x : Process) → process_of s id ≡ Some x
+            → (c : CmdDef) × (command_at s.commands id.command ≡ Some c)
         command_of_process id x z = by (command_at s.commands id.command) refl z
           where
-            by : (o : Option CmdDef) → command_at s.commands id.command ≡ o → process_if s id o ≡ Some x → (c : CmdDef) × (command_at s.commands id.command ≡ Some c)
+            by : (o : Option CmdDef) → command_at s.commands id.command ≡ o → process_if s id o ≡ Some x
+                → (c : CmdDef) × (command_at s.commands id.command ≡ Some c)
             by None u v = none_some x v
             by (Some c) u v = (c, u)

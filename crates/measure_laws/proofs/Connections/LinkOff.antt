@@ -15,7 +15,8 @@ lines_off : (v : Serving) (io : Bool) (l : Leaving) (o : Option Phase) → (line
 lines_off v io l None = refl
 lines_off v io l (Some phase) = ap (λ (x : LineSet). x.rst) (lines_are v io l false 0 phase).1
 
-off_link : (s : ScenarioValue) (p : List Row) (n : Connection) (row : Row) → LinkRow s p n row → kind_rst row.kind ≡ false
+off_link : (s : ScenarioValue) (p : List Row) (n : Connection) (row : Row) → LinkRow s p n row
+    → kind_rst row.kind ≡ false
 off_link s p n row (rows.opens _ _ e) = ap (λ (r : Row). kind_rst r.kind) e
 off_link s p n row (rows.strikes _ _ _ _ _ _ e) = ap (λ (r : Row). kind_rst r.kind) e
 off_link s p n row (rows.hands _ _ _ _ _ _ _ _ e) = ap (λ (r : Row). kind_rst r.kind) e
@@ -39,12 +40,15 @@ off_link s p n row (rows.asks_pulse _ _ _ _ _ _ _ _ _ _ _ e) = ap (λ (r : Row).
 off_link s p n row (rows.leaves atn msg cd io x y _ _ _ _ _ _ e) =
     let b : LineSet = connected_bus (ends false false atn x msg cd io false y) in
     let v : Serving = serving_at s (run_state s p) n.target (phase_of b) in
-    ap (λ (r : Row). kind_rst r.kind) e ∙ lines_off v io (phase_leaving v atn (phase_of b)) (phase_leaving v atn (phase_of b)).to
+    ap (λ (r : Row). kind_rst r.kind) e
+    ∙ lines_off v io (phase_leaving v atn (phase_of b)) (phase_leaving v atn (phase_of b)).to
 
-stays_off : (p : List Row) (row : Row) → row.dev < 8 → (bus p).rst ≡ false → kind_rst row.kind ≡ false → (bus (row ∷ p)).rst ≡ false
+stays_off : (p : List Row) (row : Row) → row.dev < 8 → (bus p).rst ≡ false → kind_rst row.kind ≡ false
+    → (bus (row ∷ p)).rst ≡ false
 stays_off p row lt off e =
     bus_off (λ (x : LineSet). x.rst) (λ _ _. refl) refl (row ∷ p) (λ d l. elim (cases_eq d row.dev) [
-      | inl same ↦ ap (λ (k : ℕ). (drives (row ∷ p) k).rst) same ∙ ap (λ (x : LineSet). x.rst) (drives_next p row) ∙ own row.kind e
+      | inl same ↦ ap (λ (k : ℕ). (drives (row ∷ p) k).rst) same ∙ ap (λ (x : LineSet). x.rst) (drives_next p row)
+          ∙ own row.kind e
       | inr ne ↦ ap (λ (x : LineSet). x.rst) (drives-other row p d ne) ∙ off_at p off d l
     ])
   where
@@ -53,10 +57,12 @@ stays_off p row lt off e =
     own (Fault bit) z = off_at p off row.dev lt
 
 -- Any row of a connection; and so one that frees the bus.
-pub link_off : (s : ScenarioValue) (p : List Row) (row : Row) (n : Connection) → CalmRow s p row → connection p ≡ Some n → (bus (row ∷ p)).rst ≡ false
+pub link_off : (s : ScenarioValue) (p : List Row) (row : Row) (n : Connection) → CalmRow s p row → connection p ≡ Some n
+    → (bus (row ∷ p)).rst ≡ false
 link_off s p row n r con =
     let dv = r.was.stood.standing.devices in
-    stays_off p row r.least.inside r.off (off_link s p n row (link_row s p row n dv (stage_of_connection s p n r.was.stood con r.off) r.least))
+    stays_off p row r.least.inside r.off
+    (off_link s p n row (link_row s p row n dv (stage_of_connection s p n r.was.stood con r.off) r.least))
 
 pub frees_calm : FreesCalm
 frees_calm s p row n r con none = link_off s p row n r con

@@ -1,5 +1,5 @@
--- The measure falls with each row, if it falls with those on the way to a connection and with those within one: all that begin a connection,
--- end it, raise RST or stand under it are done.
+-- The measure falls with each row, if it falls with those on the way to a connection and with those within one: all
+-- that begin a connection, end it, raise RST or stand under it are done.
 use Rattle.measure_laws.proofs
 use proofs.Names.{suc, ◌≡◌, ◌≤◌, true, false, ◌∙◌, List, ◌∷◌, Option, Some, None, refl, sym, wrong, connection, bus}
 use proofs.Names.{Row, Connection, ScenarioValue, Obeys, IsLeast, IsPrompt, due, least_is, unreset_due, CalmStanding}
@@ -19,15 +19,18 @@ pub record CalmRow (s : ScenarioValue) (p : List Row) (row : Row) : Type 0 where
 
 -- No connection stands before or after it.
 abbrev pub FallsApart : Type 0
-FallsApart = (s : ScenarioValue) (p : List Row) (row : Row) → CalmRow s p row → connection p ≡ None → connection (row ∷ p) ≡ None → suc (measure s (row ∷ p)) ≤ measure s p
+FallsApart = (s : ScenarioValue) (p : List Row) (row : Row) → CalmRow s p row → connection p ≡ None
+    → connection (row ∷ p) ≡ None → suc (measure s (row ∷ p)) ≤ measure s p
 
 -- One stands before it and after it.
 abbrev pub FallsWithin : Type 0
-FallsWithin = (s : ScenarioValue) (p : List Row) (row : Row) (n m : Connection) → CalmRow s p row → connection p ≡ Some n → connection (row ∷ p) ≡ Some m → suc (measure s (row ∷ p)) ≤ measure s p
+FallsWithin = (s : ScenarioValue) (p : List Row) (row : Row) (n m : Connection) → CalmRow s p row
+    → connection p ≡ Some n → connection (row ∷ p) ≡ Some m → suc (measure s (row ∷ p)) ≤ measure s p
 
 -- One that frees the bus raises no RST.
 abbrev pub FreesCalm : Type 0
-FreesCalm = (s : ScenarioValue) (p : List Row) (row : Row) (n : Connection) → CalmRow s p row → connection p ≡ Some n → connection (row ∷ p) ≡ None → (bus (row ∷ p)).rst ≡ false
+FreesCalm = (s : ScenarioValue) (p : List Row) (row : Row) (n : Connection) → CalmRow s p row → connection p ≡ Some n
+    → connection (row ∷ p) ≡ None → (bus (row ∷ p)).rst ≡ false
 
 pub falls_by_parts : FallsApart → FallsWithin → FreesCalm → Falls
 falls_by_parts ways within calm s p row o prompt =
@@ -48,7 +51,8 @@ falls_by_parts ways within calm s p row o prompt =
     under on (apart h alone) = under_reset_falls s p row was.stood.standing.devices h next.obeys on least
     under on (linked n h) = wrong (sym on ∙ link_calm s p n h)
 
-    by_row : CalmRow s p row → (a : Option Connection) → connection p ≡ a → (b : Option Connection) → connection (row ∷ p) ≡ b → suc (measure s (row ∷ p)) ≤ measure s p
+    by_row : CalmRow s p row → (a : Option Connection) → connection p ≡ a
+        → (b : Option Connection) → connection (row ∷ p) ≡ b → suc (measure s (row ∷ p)) ≤ measure s p
     by_row r None e None f = ways s p row r e f
     by_row r None e (Some n) f = begin_falls s p row n o prompt was e f
     by_row r (Some n) e None f = end_falls s p row n o prompt was e f r.off (calm s p row n r e f)
@@ -56,4 +60,6 @@ falls_by_parts ways within calm s p row o prompt =
 
     by_kind : (bus p).rst ≡ false → FallsOrCalm s p row → suc (measure s (row ∷ p)) ≤ measure s p
     by_kind off (by_reset z) = z
-    by_kind off (by_calm standing first) = by_row (record { obeys = o; prompt = prompt; was = was; next = next; off = off; standing = standing; least = first }) (connection p) refl (connection (row ∷ p)) refl
+    by_kind off (by_calm standing first) = by_row
+        (record { obeys = o; prompt = prompt; was = was; next = next; off = off; standing = standing; least = first })
+        (connection p) refl (connection (row ∷ p)) refl

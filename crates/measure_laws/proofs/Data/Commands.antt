@@ -1,4 +1,5 @@
--- The measure falls with the row that turns to DATA for a command, where the bytes of the run are not left after it any more.
+-- The measure falls with the row that turns to DATA for a command, where the bytes of the run are not left after it any
+-- more.
 use Rattle.measure_laws.proofs
 use proofs.Names.{inl, ℕ, suc, ◌≡◌, ◌≤◌, ◌∙◌, Bool, true, false, ◌&&◌, List, ◌∷◌, Option, Some, sym, ap, arith, ◌+◌}
 use proofs.Names.{◌*◌, drop, if◌then◌else◌, is_some, LineSet, is_data, connection, bus, Row, Change, Connection}
@@ -8,13 +9,18 @@ use proofs.{Names.{measure, sense_bytes_left}, Connections.BeginFalls.{calm_rese
 use proofs.{Data.Turns.{command_pays_run, data_turn_falls, run_of}, Turns.Falls.{TurnRow, turn_in, turn_kind}}
 use proofs.Turns.Falls.{turn_runs}
 
-no_sense : (moves : Bool) (made : List ProcessProgress) (o : Option Item) (m : ℕ) → o ≡ Some (command_item m) → sense_bytes_left moves made o ≡ 0
+no_sense : (moves : Bool) (made : List ProcessProgress) (o : Option Item) (m : ℕ) → o ≡ Some (command_item m)
+    → sense_bytes_left moves made o ≡ 0
 no_sense moves made o m e = ap (λ (x : Option Item). sense_bytes_left moves made x) e
 
-pub command_turn_falls : (s : ScenarioValue) (p : List Row) (row : Row) (n : Connection) (c : Change) (m : ℕ) (d : CmdDef) → Obeys s → IsPrompt s (row ∷ p) → TurnRow s p row n c → connection p ≡ Some n → (run_state s p).exchange.begun ≡ true
-    → is_data (bus_of (run_state s p)) ≡ false → is_data c.after ≡ true
-    → (run_state s p).served ≡ Some (command_item m) → command_at s.commands m ≡ Some d → has_item (run_state s p).story.sent.sent (command_item m) ≡ true → has_item (run_state s p).story.sent.over (command_item m) ≡ false
-    → run_of s (run_state s (row ∷ p)) n + bytes_after s d ((progress_in (run_state s p).progress (command_id m)).runs + 1) ≤ bytes_after s d (progress_in (run_state s p).progress (command_id m)).runs
+pub command_turn_falls :
+    (s : ScenarioValue) (p : List Row) (row : Row) (n : Connection) (c : Change) (m : ℕ) (d : CmdDef) → Obeys s
+    → IsPrompt s (row ∷ p) → TurnRow s p row n c → connection p ≡ Some n → (run_state s p).exchange.begun ≡ true
+    → is_data (bus_of (run_state s p)) ≡ false → is_data c.after ≡ true → (run_state s p).served ≡ Some (command_item m)
+    → command_at s.commands m ≡ Some d → has_item (run_state s p).story.sent.sent (command_item m) ≡ true
+    → has_item (run_state s p).story.sent.over (command_item m) ≡ false → run_of s (run_state s (row ∷ p)) n
+    + bytes_after s d ((progress_in (run_state s p).progress (command_id m)).runs + 1)
+    ≤ bytes_after s d (progress_in (run_state s p).progress (command_id m)).runs
     → suc (measure s (row ∷ p)) ≤ measure s p
 command_turn_falls s p row n c m d o prompt h con begun from to served at sent over fewer =
     let k = run_state s p in
@@ -24,10 +30,12 @@ command_turn_falls s p row n c m d o prompt h con begun from to served at sent o
     let g = h.goes in
     let w = turn_kind row n c g.row_is.kind h.turned in
     let knows : Knows s k n = h.was.stood.books.knows n g.row_is.connection_is g.calm in
-    let off_next : (bus (row ∷ p)).rst ≡ false = ap (λ (l : LineSet). l.rst) (sym (run_state_plain s (row ∷ p) (h.below, dv)).bus ∙ t.bus_is) ∙ g.row_is.calm in
+    let off_next : (bus (row ∷ p)).rst ≡ false =
+    ap (λ (l : LineSet). l.rst) (sym (run_state_plain s (row ∷ p) (h.below, dv)).bus ∙ t.bus_is) ∙ g.row_is.calm in
     let still_before : is_in_data k ≡ false = λ i. begun i && from i in
     let e : EntersData s j k m = record {
-      sent = (over_after s k row n c false knows.link g.row_is (ap (λ (x : Option ℕ). is_some x) w.1) knows.link_is).same (inl h.turned);
+      sent = (over_after s k row n c false knows.link g.row_is
+          (ap (λ (x : Option ℕ). is_some x) w.1) knows.link_is).same (inl h.turned);
       served = t.served_is ∙ served;
       before = served;
       still = still_before;
@@ -37,7 +45,8 @@ command_turn_falls s p row n c m d o prompt h con begun from to served at sent o
       faults = ap (λ (b : Bool). if b then drop 1 k.faults else k.faults) w.0;
     } in
     data_turn_falls s p row n c o prompt h con begun from to
-    (sum _ _ _ _ _ (no_sense (is_in_data j) j.progress j.served m e.served) (command_pays_run s j k m (run_of s j n) d at sent over e fewer))
+    (sum _ _ _ _ _ (no_sense (is_in_data j) j.progress j.served m e.served)
+    (command_pays_run s j k m (run_of s j n) d at sent over e fewer))
   where
     sum : (f g x y r : ℕ) → x ≡ 0 → f + 8 * r ≤ g → f + 8 * r + x ≤ g + y
     sum f g x y r e h = omega arith

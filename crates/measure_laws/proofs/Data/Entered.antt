@@ -1,5 +1,5 @@
--- The measure falls with the row with which a DATA phase begins: what is left of the bytes of its command, or of its automatic REQUEST SENSE,
--- pays for those of the run.
+-- The measure falls with the row with which a DATA phase begins: what is left of the bytes of its command, or of its
+-- automatic REQUEST SENSE, pays for those of the run.
 use Rattle.measure_laws.proofs
 use proofs.Names.{inl, inr, ℕ, ◌≡◌, ◌≤◌, ◌<◌, ◌⊎◌, ◌∙◌, Bool, true, false, ◌&&◌, List, ◌∷◌, length, Option, Some, None}
 use proofs.Names.{Result, Ok, Err, refl, sym, ap, subst, arith, [], ltb-true, same_Some, ◌+◌, ◌*◌, ◌-◌, not, ◌==◌, drop}
@@ -30,22 +30,30 @@ record Enters (v : Serving) : Type 0 where
   task_is : v.task ≡ Some task
   more : nat_lt task.runs (runs_in_all (policy_of v.def) task) ≡ true
 
-enters : (v : Serving) (atn : Bool) (x y : Phase) → (y ≡ Phase.DataIn) ⊎ (y ≡ Phase.DataOut) → (phase_leaving v atn x).to ≡ Some y → Enters v
-enters v atn x y (inl d) to = let w = enters_read v atn x (to ∙ ap (λ (z : Phase). Some z) d) in record { task = w.task; task_is = w.task_is; more = w.more }
-enters v atn x y (inr d) to = let w = enters_run v atn x (to ∙ ap (λ (z : Phase). Some z) d) in record { task = w.task; task_is = w.task_is; more = w.more }
+enters : (v : Serving) (atn : Bool) (x y : Phase) → (y ≡ Phase.DataIn) ⊎ (y ≡ Phase.DataOut)
+    → (phase_leaving v atn x).to ≡ Some y → Enters v
+enters v atn x y (inl d) to =
+    let w = enters_read v atn x (to ∙ ap (λ (z : Phase). Some z) d) in
+    record { task = w.task; task_is = w.task_is; more = w.more }
+enters v atn x y (inr d) to =
+    let w = enters_run v atn x (to ∙ ap (λ (z : Phase). Some z) d) in
+    record { task = w.task; task_is = w.task_is; more = w.more }
 
 data_phase : (l : LineSet) → is_data l ≡ true → (phase_of l ≡ Phase.DataIn) ⊎ (phase_of l ≡ Phase.DataOut)
 data_phase l e = go l.msg l.cd l.io e
   where
     go : (m d i : Bool) → (not m && not d) ≡ true
-        → (let x : Phase = if m then (if i then Phase.MessageIn else Phase.MessageOut) else if d then (if i then Phase.Status else Phase.Command) else if i then Phase.DataIn else Phase.DataOut in (x ≡ Phase.DataIn) ⊎ (x ≡ Phase.DataOut))
+        → (let x : Phase = if m then (if i then Phase.MessageIn else Phase.MessageOut)
+        else if d then (if i then Phase.Status else Phase.Command) else if i then Phase.DataIn else Phase.DataOut in
+        (x ≡ Phase.DataIn) ⊎ (x ≡ Phase.DataOut))
     go true d i z = wrong' z
     go false true i z = wrong' z
     go false false true z = inl refl
     go false false false z = inr refl
 
 -- Not from a MESSAGE IN after which the bus is freed.
-freed_before : {A : Type 0} (v : Serving) (atn : Bool) (y : Phase) → (y ≡ Phase.DataIn) ⊎ (y ≡ Phase.DataOut) → frees_bus v.plan.next ≡ true → (phase_leaving v atn Phase.MessageIn).to ≡ Some y → A
+freed_before : {A : Type 0} (v : Serving) (atn : Bool) (y : Phase) → (y ≡ Phase.DataIn) ⊎ (y ≡ Phase.DataOut)
+    → frees_bus v.plan.next ≡ true → (phase_leaving v atn Phase.MessageIn).to ≡ Some y → A
 freed_before {A = A} v atn y d f to = by v.plan.next f to
   where
     out : (Phase.MessageOut ≡ y) → (y ≡ Phase.DataIn) ⊎ (y ≡ Phase.DataOut) → A
@@ -81,15 +89,17 @@ sent_few s c = go (is_write (command_of c.cdb))
     go true = omega arith
     go false = omega arith
 
-counted_few : (good writes : Bool) (sent given : List ℕ) (most : ℕ) → length sent ≤ most → (writes ≡ false → length given ≤ most) → length (if writes then (if good then sent else []) else given) ≤ most
+counted_few : (good writes : Bool) (sent given : List ℕ) (most : ℕ) → length sent ≤ most
+    → (writes ≡ false → length given ≤ most) → length (if writes then (if good then sent else []) else given) ≤ most
 counted_few true true sent given most h g = h
 counted_few false true sent given most h g = omega arith
 counted_few good false sent given most h g = g refl
 
-moved_few : (s : ScenarioValue) (a : Array) (q : Process) (line : IsByLine s q) → Obeys s → AreOfLines s a → HasWhole a → has_target s q.target ≡ true → moved_count q (reply_now a q) ≤ need_of s line.line
-moved_few s a q line o lines whole there =
-    counted_few ((reply_now a q).status == GOOD) (is_writing q) q.sent (reply_now a q).bytes (need_of s line.line)
-    (chain (length q.sent) (sent_of s line.line) (need_of s line.line) (ap (λ (x : List ℕ). length x) line.sent ∙ fits.sent) (sent_few s line.line))
+moved_few : (s : ScenarioValue) (a : Array) (q : Process) (line : IsByLine s q) → Obeys s → AreOfLines s a → HasWhole a
+    → has_target s q.target ≡ true → moved_count q (reply_now a q) ≤ need_of s line.line
+moved_few s a q line o lines whole there = counted_few ((reply_now a q).status == GOOD) (is_writing q) q.sent
+    (reply_now a q).bytes (need_of s line.line) (chain (length q.sent) (sent_of s line.line)
+    (need_of s line.line) (ap (λ (x : List ℕ). length x) line.sent ∙ fits.sent) (sent_few s line.line))
     (λ reads. subst (λ (x : ℕ). length (reply_now a q).bytes ≤ x) (need reads) (given_few s a q lines whole))
   where
     fits : IsCommandLine s line.line
@@ -113,22 +123,27 @@ sense_cdb s q own sense = go (command_at s.commands q.id.command) own
     go None e = none_some q e
     go (Some c) e =
         let made : process_by s q.id c ≡ q = same_Some (process_by s q.id c) q e in
-        let by : (if q.id.sense then sense_process q.id c else command_process s q.id c) ≡ sense_process q.id c = λ i. if sense i then sense_process q.id c else command_process s q.id c in
+        let by : (if q.id.sense then sense_process q.id c else command_process s q.id c) ≡ sense_process q.id c =
+        λ i. if sense i then sense_process q.id c else command_process s q.id c in
         ap (λ (x : Process). x.cdb) (sym made ∙ by)
 
-sense_few : (s : ScenarioValue) (a : Array) (q : Process) → q.cdb ≡ sense_block → AreOfLines s a → HasWhole a → moved_count q (reply_now a q) ≤ 18
-sense_few s a q e lines whole =
-    counted ((reply_now a q).status == GOOD) (is_writing q) q.sent (reply_now a q).bytes (ap (λ (x : List ℕ). is_write (command_of x)) e)
-    (subst (λ (x : List ℕ). length (reply_now a q).bytes ≤ most_given (command_of x) (unit_of s q.target q.unit)) e (given_few s a q lines whole))
+sense_few : (s : ScenarioValue) (a : Array) (q : Process) → q.cdb ≡ sense_block → AreOfLines s a → HasWhole a
+    → moved_count q (reply_now a q) ≤ 18
+sense_few s a q e lines whole = counted ((reply_now a q).status == GOOD) (is_writing q) q.sent
+    (reply_now a q).bytes (ap (λ (x : List ℕ). is_write (command_of x)) e)
+    (subst (λ (x : List ℕ). length (reply_now a q).bytes ≤ most_given (command_of x) (unit_of s q.target q.unit)) e
+    (given_few s a q lines whole))
   where
-    counted : (good writes : Bool) (sent given : List ℕ) → writes ≡ false → length given ≤ 18 → length (if writes then (if good then sent else []) else given) ≤ 18
+    counted : (good writes : Bool) (sent given : List ℕ) → writes ≡ false → length given ≤ 18
+        → length (if writes then (if good then sent else []) else given) ≤ 18
     counted good true sent given z h = wrong z
     counted good false sent given z h = h
 
 -- ---- the process that is served
 
 -- Its target is that of the connection.
-serves_there : (s : ScenarioValue) (p : List Row) (n : Connection) (q : Process) → Obeys s → IsPrompt s p → Whole s p → connection p ≡ Some n → (bus p).rst ≡ false → process_served s (run_state s p) ≡ Some q → q.target ≡ n.target
+serves_there : (s : ScenarioValue) (p : List Row) (n : Connection) (q : Process) → Obeys s → IsPrompt s p → Whole s p
+    → connection p ≡ Some n → (bus p).rst ≡ false → process_served s (run_state s p) ≡ Some q → q.target ≡ n.target
 serves_there s p n q o prompt was con off e =
     by_bool (is_writing q)
     (λ w. (was.sends.runs.served n q stands calm e w).target_is)
@@ -151,8 +166,10 @@ some_run moved runs total e = go (moved == 0) e
     go false z = ltb-true runs total z
 
 -- While a REQUEST SENSE is served nothing else is left, or is not.
-sense_future : (s : ScenarioValue) (p : List Row) (row : Row) (n : Connection) (c : Change) (q : Process) → TurnRow s p row n c → (run_state s p).exchange.begun ≡ true → is_data (bus_of (run_state s p)) ≡ false → is_data c.after ≡ true
-    → (run_state s p).served ≡ Some (process q.id) → q.id.sense ≡ true → future_left s (run_state s (row ∷ p)) ≤ future_left s (run_state s p)
+sense_future : (s : ScenarioValue) (p : List Row) (row : Row) (n : Connection) (c : Change) (q : Process)
+    → TurnRow s p row n c → (run_state s p).exchange.begun ≡ true → is_data (bus_of (run_state s p)) ≡ false
+    → is_data c.after ≡ true → (run_state s p).served ≡ Some (process q.id) → q.id.sense ≡ true
+    → future_left s (run_state s (row ∷ p)) ≤ future_left s (run_state s p)
 sense_future s p row n c q h begun from into served sense =
     let k = run_state s p in
     let j = run_state s (row ∷ p) in
@@ -161,18 +178,22 @@ sense_future s p row n c q h begun from into served sense =
     let g = h.goes in
     let w = turn_kind row n c g.row_is.kind h.turned in
     let knows : Knows s k n = h.was.stood.books.knows n g.row_is.connection_is g.calm in
-    let off_next : (bus (row ∷ p)).rst ≡ false = ap (λ (l : LineSet). l.rst) (sym (run_state_plain s (row ∷ p) (h.below, dv)).bus ∙ t.bus_is) ∙ g.row_is.calm in
-    let sent = (over_after s k row n c false knows.link g.row_is (ap (λ (x : Option ℕ). is_some x) w.1) knows.link_is).same (inl h.turned) in
-    let runs : (id : ProcId) → (progress_in j.progress id).runs ≡ (progress_in k.progress id).runs = turn_runs s p row n c h (λ i. begun i && from i) in
+    let off_next : (bus (row ∷ p)).rst ≡ false =
+    ap (λ (l : LineSet). l.rst) (sym (run_state_plain s (row ∷ p) (h.below, dv)).bus ∙ t.bus_is) ∙ g.row_is.calm in
+    let sent = (over_after s k row n c false knows.link g.row_is
+    (ap (λ (x : Option ℕ). is_some x) w.1) knows.link_is).same (inl h.turned) in
+    let runs : (id : ProcId) → (progress_in j.progress id).runs ≡ (progress_in k.progress id).runs = turn_runs
+    s p row n c h (λ i. begun i && from i) in
     zero_more (future_left s j) (future_left s k) (future_falls s j k 0 (record {
       sent = lowers_same k.story.sent j.story.sent sent;
-      «open» = λ m d at o.
-          same_less (open_of s j m d) (open_of s k m d)
-          ((λ i. open_left s (serves_item ((t.served_is ∙ served) i) (command_item m)) (is_in_data j) (runs (command_id m) i) d)
+      «open» = λ m d at o. same_less (open_of s j m d) (open_of s k m d) ((λ i. open_left s
+          (serves_item ((t.served_is ∙ served) i) (command_item m)) (is_in_data j) (runs (command_id m) i) d)
           ∙ (λ i. open_left s (other m i) (is_in_data j) (progress_in k.progress (command_id m)).runs d)
-          ∙ sym ((λ i. open_left s (serves_item (served i) (command_item m)) (is_in_data k) (progress_in k.progress (command_id m)).runs d)
+          ∙ sym ((λ i. open_left s (serves_item (served i) (command_item m))
+          (is_in_data k) (progress_in k.progress (command_id m)).runs d)
           ∙ (λ i. open_left s (other m i) (is_in_data k) (progress_in k.progress (command_id m)).runs d)));
-      resets = same_less (resets_left j s.resets + 0) (resets_left k s.resets) (plus_none (resets_left j s.resets) ∙ calm_resets s p row dv h.below w.0 h.off off_next);
+      resets = same_less (resets_left j s.resets + 0) (resets_left k s.resets)
+          (plus_none (resets_left j s.resets) ∙ calm_resets s p row dv h.below w.0 h.off off_next);
       faults = ap (λ (b : Bool). if b then drop 1 k.faults else k.faults) w.0;
     }))
   where
@@ -187,7 +208,8 @@ sense_future s p row n c q h begun from into served sense =
 
 -- ---- the row
 
-falls : (s : ScenarioValue) (p : List Row) (row : Row) (n : Connection) → (r : LeavingRow s p row n) → is_data (bus p) ≡ false → is_data r.turned.change.after ≡ true → FallsWith s p row
+falls : (s : ScenarioValue) (p : List Row) (row : Row) (n : Connection)
+    → (r : LeavingRow s p row n) → is_data (bus p) ≡ false → is_data r.turned.change.after ≡ true → FallsWith s p row
 falls s p row n r from into = go (process_served s k) refl
   where
     o : Obeys s
@@ -224,10 +246,12 @@ falls s p row n r from into = go (process_served s k) refl
     data_is = data_phase c.after into
 
     left : leaving s k n.target ≡ phase_leaving v (bus_of k).atn (phase_of (bus_of k))
-    left = λ i. if begun_is i then phase_leaving v (bus_of k).atn (phase_of (bus_of k)) else phase_entry Phase.MessageOut
+    left =
+        λ i. if begun_is i then phase_leaving v (bus_of k).atn (phase_of (bus_of k)) else phase_entry Phase.MessageOut
 
     to : (phase_leaving v (bus_of k).atn (phase_of (bus_of k))).to ≡ Some (phase_of c.after)
-    to = ap (λ (l : Leaving). l.to) (sym left) ∙ h.lines.whereto (ap changes_phase h.lines_are ∙ h.turned) r.begun_is ∙ ap (λ (x : Change). Some (phase_of x.after)) h.lines_are
+    to = ap (λ (l : Leaving). l.to) (sym left) ∙ h.lines.whereto (ap changes_phase h.lines_are ∙ h.turned) r.begun_is
+        ∙ ap (λ (x : Change). Some (phase_of x.after)) h.lines_are
 
     w : Enters v
     w = enters v (bus_of k).atn (phase_of (bus_of k)) (phase_of c.after) data_is to
@@ -277,7 +301,8 @@ falls s p row n r from into = go (process_served s k) refl
         same = sym (same_Some t w.task (sym (ap (task_if s k) e) ∙ w.task_is))
 
         more : t.runs < runs_in policy t.blocks
-        more = some_run t.moved t.runs (runs_in policy t.blocks) (subst (λ (x : Task). nat_lt x.runs (runs_in_all policy x) ≡ true) same w.more)
+        more = some_run t.moved t.runs (runs_in policy t.blocks)
+            (subst (λ (x : Task). nat_lt x.runs (runs_in_all policy x) ≡ true) same w.more)
 
         still_before : is_in_data k ≡ false
         still_before = λ i. begun_is i && from_is i
@@ -303,7 +328,8 @@ falls s p row n r from into = go (process_served s k) refl
         task_is : task_of s j ≡ Some (task_here s j q)
         task_is = ap (task_if s j) (ap (process_item s) (turn_in s p row n c h).served_is ∙ e)
 
-        run_is : run_of s j n ≡ length_of (run_in policy (blocks_in (range_in (command_of q.cdb))) size moved (progress_in k.progress q.id).runs)
+        run_is : run_of s j n ≡ length_of
+            (run_in policy (blocks_in (range_in (command_of q.cdb))) size moved (progress_in k.progress q.id).runs)
         run_is =
             ap (run_length_if policy) task_is
             ∙ ap (λ (x : ℕ). length_of (run_in policy (blocks_in (range_in (command_of q.cdb))) size moved x)) runs
@@ -318,14 +344,17 @@ falls s p row n r from into = go (process_served s k) refl
             id_is = λ i. record { command = m; sense = plain i }
 
             command : IsByLine s q → FallsWith s p row
-            command line =
-                command_turn_falls s p row n c m line.line o r.linked.calm.prompt h r.linked.stands begun_is from_is into
-                (served ∙ ap (λ (x : ProcId). Some (process x)) id_is) line.is
-                (ap (λ (x : ProcId). has_item k.story.sent.sent (process x)) (sym id_is) ∙ h.was.places.sent q.id served)
+            command line = command_turn_falls s p row n c m line.line o r.linked.calm.prompt h r.linked.stands
+                begun_is from_is into (served ∙ ap (λ (x : ProcId). Some (process x)) id_is) line.is
+                (ap (λ (x : ProcId). has_item k.story.sent.sent (process x)) (sym id_is)
+                ∙ h.was.places.sent q.id served)
                 (opens (command_item m) (served ∙ ap (λ (x : ProcId). Some (process x)) id_is))
-                (replaced (run_of s j n) (length_of (run_in of_line blocks of_unit moved made)) (bytes_after s line.line (made + 1)) (bytes_after s line.line made) run
-                (run_bytes of_line (range_if (command_of line.line.cdb)) of_unit (need_of s line.line) moved made (moved_few s (array_of s j) q line o lines whole there)
-                (subst (λ (x : ℕ). x < runs_in of_line blocks) made_is (subst (λ (x : Policy). (progress_in k.progress q.id).runs < runs_in x blocks) policy_is (subst (λ (x : Option ℕ). (progress_in k.progress q.id).runs < runs_in policy x) blocks_are more)))))
+                (replaced (run_of s j n) (length_of (run_in of_line blocks of_unit moved made))
+                (bytes_after s line.line (made + 1)) (bytes_after s line.line made) run
+                (run_bytes of_line (range_if (command_of line.line.cdb)) of_unit (need_of s line.line) moved made
+                (moved_few s (array_of s j) q line o lines whole there) (subst (λ (x : ℕ). x < runs_in of_line blocks)
+                made_is (subst (λ (x : Policy). (progress_in k.progress q.id).runs < runs_in x blocks) policy_is
+                (subst (λ (x : Option ℕ). (progress_in k.progress q.id).runs < runs_in policy x) blocks_are more)))))
               where
                 made : ℕ
                 made = (progress_in k.progress (command_id m)).runs
@@ -343,13 +372,15 @@ falls s p row n r from into = go (process_served s k) refl
                 blocks = blocks_of (range_if (command_of line.line.cdb))
 
                 blocks_are : blocks_in (range_in (command_of q.cdb)) ≡ blocks
-                blocks_are = ap (λ (x : List ℕ). blocks_in (range_in (command_of x))) line.cdb ∙ blocks_same (command_of line.line.cdb)
+                blocks_are = ap (λ (x : List ℕ). blocks_in (range_in (command_of x))) line.cdb
+                    ∙ blocks_same (command_of line.line.cdb)
 
                 of_unit : ℕ
                 of_unit = size_if (unit_of s line.line.target line.line.unit)
 
                 size_is : size ≡ of_unit
-                size_is = size_same (unit_of s q.target q.unit) (unit_state_at (array_of s j).units q.target q.unit) (lines q.target q.unit) ∙ (λ i. size_if (unit_of s (line.target i) (line.unit i)))
+                size_is = size_same (unit_of s q.target q.unit) (unit_state_at (array_of s j).units q.target q.unit)
+                    (lines q.target q.unit) ∙ (λ i. size_if (unit_of s (line.target i) (line.unit i)))
 
                 run : run_of s j n ≡ length_of (run_in of_line blocks of_unit moved made)
                 run = run_is ∙ (λ i. length_of (run_in (policy_is i) (blocks_are i) (size_is i) moved (made_is i)))
@@ -370,9 +401,9 @@ falls s p row n r from into = go (process_served s k) refl
             few = sense_few s (array_of s j) q cdb lines whole
 
             run : run_of s j n ≤ 18
-            run =
-                chain (run_of s j n) moved
-                (run_is ∙ ap (λ (x : Option ℕ). length_of (run_in policy x size moved (progress_in k.progress q.id).runs)) none ∙ whole_of moved) few
+            run = chain (run_of s j n) moved (run_is
+                ∙ ap (λ (x : Option ℕ). length_of (run_in policy x size moved (progress_in k.progress q.id).runs)) none
+                ∙ whole_of moved) few
               where
                 whole_of : (x : ℕ) → x - 0 ≡ x
                 whole_of x = omega arith
@@ -381,10 +412,12 @@ falls s p row n r from into = go (process_served s k) refl
                 chain a b z g = omega (arith, z, g)
 
             made : (progress_in k.progress q.id).runs ≡ 0
-            made = zero_below (progress_in k.progress q.id).runs (subst (λ (x : Option ℕ). (progress_in k.progress q.id).runs < runs_in policy x) none more)
+            made = zero_below (progress_in k.progress q.id).runs
+                (subst (λ (x : Option ℕ). (progress_in k.progress q.id).runs < runs_in policy x) none more)
 
             moves : is_in_data j ≡ true
-            moves = (λ i. ((turn_in s p row n c h).exchange_is i).begun && is_data ((turn_in s p row n c h).bus_is i)) ∙ into
+            moves = (λ i. ((turn_in s p row n c h).exchange_is i).begun && is_data ((turn_in s p row n c h).bus_is i))
+                ∙ into
 
             after_served : j.served ≡ Some (process q.id)
             after_served = (turn_in s p row n c h).served_is ∙ served

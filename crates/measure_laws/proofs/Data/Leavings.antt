@@ -1,4 +1,5 @@
--- How DATA is left for STATUS or MESSAGE IN: its run is done, or a byte of DATA OUT was struck, and the run is not done.
+-- How DATA is left for STATUS or MESSAGE IN: its run is done, or a byte of DATA OUT was struck, and the run is not
+-- done.
 use Rattle.measure_laws.proofs
 use proofs.Names.{ℕ, ◌≡◌, ◌≤◌, ◌<◌, ◌⊎◌, ◌∙◌, inl, inr, Bool, true, false, Option, Some, None, refl, sym, ap, arith}
 use proofs.Names.{subst, ltb-true, same_Some, ◌+◌, ◌*◌, ◌==◌, if◌then◌else◌, nat_lt, wrong, Policy, policy_of, runs_in}
@@ -11,10 +12,12 @@ abbrev pub has_more : Serving → Task → Bool
 has_more v t = nat_lt (t.runs + 1) (runs_in_all (policy_of v.def) t)
 
 pub data DataLeaving (v : Serving) (l : Leaving) : Type 0 where
-  run_done : (t : Task) → v.task ≡ Some t → l.done ≡ true → left_of l + 128 ≤ 3 * 128 + reselection_if (has_more v t) → DataLeaving v l
+  run_done : (t : Task) → v.task ≡ Some t → l.done ≡ true → left_of l + 128 ≤ 3 * 128 + reselection_if (has_more v t)
+      → DataLeaving v l
   run_struck : v.plan.struck ≡ true → l.done ≡ false → left_of l ≤ 4 * 128 → DataLeaving v l
 
-pub no_data : {A : Type 0} (phase : Phase) → is_data_phase phase ≡ false → (phase ≡ Phase.DataIn) ⊎ (phase ≡ Phase.DataOut) → A
+pub no_data : {A : Type 0} (phase : Phase) → is_data_phase phase ≡ false
+    → (phase ≡ Phase.DataIn) ⊎ (phase ≡ Phase.DataOut) → A
 no_data phase e (inl z) = wrong (sym (ap is_data_phase z) ∙ e)
 no_data phase e (inr z) = wrong (sym (ap is_data_phase z) ∙ e)
 
@@ -38,7 +41,8 @@ leaving next (ways.writes _ _ (ways.planned _ _) _) here to other = no_data Phas
 leaving next (ways.moves_none _ _ (ways.planned _ _) _) here to other = no_data Phase.MessageIn refl here
 leaving next _ here to other = no_data _ refl here
 
-pub data_leaving : (v : Serving) (attention : Bool) (phase next : Phase) → (phase ≡ Phase.DataIn) ⊎ (phase ≡ Phase.DataOut) → (phase_leaving v attention phase).to ≡ Some next
+pub data_leaving : (v : Serving) (attention : Bool) (phase next : Phase)
+    → (phase ≡ Phase.DataIn) ⊎ (phase ≡ Phase.DataOut) → (phase_leaving v attention phase).to ≡ Some next
     → (next ≡ Phase.MessageOut → ⊥) → DataLeaving v (phase_leaving v attention phase)
 data_leaving v attention phase next = leaving next (ways.leaves v attention phase)
 
@@ -73,12 +77,15 @@ pub record HasMore (policy : Policy) (t : Task) : Type 0 where
 pub more_left : (policy : Policy) (t : Task) → nat_lt (t.runs + 1) (runs_in_all policy t) ≡ true → HasMore policy t
 more_left policy t e = go (t.moved == 0) refl t.blocks refl (ltb-true (t.runs + 1) (runs_in_all policy t) e)
   where
-    go : (q : Bool) → (t.moved == 0) ≡ q → (o : Option ℕ) → t.blocks ≡ o → t.runs + 1 < (if t.moved == 0 then 0 else runs_in policy t.blocks) → HasMore policy t
-    go true f o g z = absurd (nothing (t.runs + 1) (if t.moved == 0 then 0 else runs_in policy t.blocks) (λ i. if f i then 0 else runs_in policy t.blocks) z)
+    go : (q : Bool) → (t.moved == 0) ≡ q → (o : Option ℕ) → t.blocks ≡ o
+        → t.runs + 1 < (if t.moved == 0 then 0 else runs_in policy t.blocks) → HasMore policy t
+    go true f o g z = absurd (nothing (t.runs + 1) (if t.moved == 0 then 0 else runs_in policy t.blocks)
+        (λ i. if f i then 0 else runs_in policy t.blocks) z)
       where
         nothing : (a b : ℕ) → b ≡ 0 → a < b → ⊥
         nothing a b h k = omega (arith, h, k)
-    go false f None g z = absurd (one t.runs (if t.moved == 0 then 0 else runs_in policy t.blocks) (λ i. if f i then 0 else runs_in policy (g i)) z)
+    go false f None g z = absurd (one t.runs (if t.moved == 0 then 0 else runs_in policy t.blocks)
+        (λ i. if f i then 0 else runs_in policy (g i)) z)
       where
         one : (a b : ℕ) → b ≡ 1 → a + 1 < b → ⊥
         one a b h k = omega (arith, h, k)
@@ -86,7 +93,8 @@ more_left policy t e = go (t.moved == 0) refl t.blocks refl (ltb-true (t.runs + 
       moves = f;
       blocks = blocks;
       blocks_are = g;
-      few = less (t.runs + 1) (if t.moved == 0 then 0 else runs_in policy t.blocks) (runs_in policy t.blocks) (λ i. if f i then 0 else runs_in policy t.blocks) z;
+      few = less (t.runs + 1) (if t.moved == 0 then 0 else runs_in policy t.blocks) (runs_in policy t.blocks)
+          (λ i. if f i then 0 else runs_in policy t.blocks) z;
     }
       where
         less : (a b c : ℕ) → b ≡ c → a < b → a < c

@@ -1,4 +1,5 @@
--- The measure falls with the row that turns to DATA IN or DATA OUT: the bytes of the run are paid by the command, for which they are not left any more.
+-- The measure falls with the row that turns to DATA IN or DATA OUT: the bytes of the run are paid by the command, for
+-- which they are not left any more.
 use Rattle.measure_laws.proofs
 use proofs.Names.{ℕ, suc, ◌≡◌, ◌≢◌, ◌≤◌, ◌∙◌, Bool, true, false, ◌&&◌, List, ◌∷◌, length, Some, refl, sym, ap, subst}
 use proofs.Names.{arith, ◌+◌, ◌-◌, ◌*◌, not, if◌then◌else◌, wrong, wrong', plus_none, ProcId, LineSet, is_data}
@@ -20,10 +21,13 @@ use proofs.Turns.{Struck.{struck_known}, Table.{left_of}}
 abbrev pub run_of : ScenarioValue → RunState → Connection → ℕ
 run_of s j n = run_length_if (policy_of (target_def_of s n.target)) (task_of s j)
 
-data_requests : (struck asked : Bool) (h : Handshakes) (p : Speech) (bytes run : ℕ) (l : LineSet) → is_data l ≡ true → requests_by struck asked h p bytes run (phase_of l) ≤ run
+data_requests : (struck asked : Bool) (h : Handshakes) (p : Speech) (bytes run : ℕ) (l : LineSet) → is_data l ≡ true
+    → requests_by struck asked h p bytes run (phase_of l) ≤ run
 data_requests struck asked h p bytes run l e = go l.msg l.cd l.io e
   where
-    go : (m d i : Bool) → (not m && not d) ≡ true → requests_by struck asked h p bytes run (if m then (if i then Phase.MessageIn else Phase.MessageOut) else if d then (if i then Phase.Status else Phase.Command) else if i then Phase.DataIn else Phase.DataOut) ≤ run
+    go : (m d i : Bool) → (not m && not d) ≡ true
+        → requests_by struck asked h p bytes run (if m then (if i then Phase.MessageIn else Phase.MessageOut)
+        else if d then (if i then Phase.Status else Phase.Command) else if i then Phase.DataIn else Phase.DataOut) ≤ run
     go true d i z = wrong' z
     go false true i z = wrong' z
     go false false true z = omega arith
@@ -33,24 +37,32 @@ run_sum : (b : Bool) (r u run : ℕ) → r ≤ run → u ≤ 10 → bytes_if_beg
 run_sum true r u run h g = omega arith
 run_sum false r u run h g = omega arith
 
-pub data_left : (s : ScenarioValue) (p : List Row) (row : Row) (n : Connection) (c : Change) → TurnRow s p row n c → is_data c.after ≡ true → phase_left s (run_state s (row ∷ p)) n ≤ 8 * run_of s (run_state s (row ∷ p)) n + 10
+pub data_left : (s : ScenarioValue) (p : List Row) (row : Row) (n : Connection) (c : Change) → TurnRow s p row n c
+    → is_data c.after ≡ true → phase_left s (run_state s (row ∷ p)) n ≤ 8 * run_of s (run_state s (row ∷ p)) n + 10
 data_left s p row n c h to =
     let j = run_state s (row ∷ p) in
     let t = turn_in s p row n c h in
     run_sum j.exchange.begun (requests_left s j n.target)
-    (under_way (pace_of s j n.target).pulsed (bus_of j) j.handshakes (drives_of j n.target) (drives_of j n.initiator) (offering_of s j n.target) (answering_of s j n.initiator)) (run_of s j n)
-    (data_requests j.exchange.plan.struck (is_asked (bus_of j)) j.handshakes j.exchange.speech (length (bytes_of_messages j.exchange.plan.messages)) (run_of s j n) (bus_of j) (ap is_data t.bus_is ∙ to))
-    (fresh_way (pace_of s j n.target).pulsed (bus_of j) j.handshakes (drives_of j n.target) (drives_of j n.initiator) (offering_of s j n.target) (answering_of s j n.initiator) (turn_handshakes s p row n c h))
+    (under_way (pace_of s j n.target).pulsed (bus_of j) j.handshakes (drives_of j n.target)
+    (drives_of j n.initiator) (offering_of s j n.target) (answering_of s j n.initiator)) (run_of s j n)
+    (data_requests j.exchange.plan.struck (is_asked (bus_of j)) j.handshakes j.exchange.speech
+    (length (bytes_of_messages j.exchange.plan.messages)) (run_of s j n) (bus_of j) (ap is_data t.bus_is ∙ to))
+    (fresh_way (pace_of s j n.target).pulsed (bus_of j) j.handshakes (drives_of j n.target) (drives_of j n.initiator)
+    (offering_of s j n.target) (answering_of s j n.initiator) (turn_handshakes s p row n c h))
 
 -- ---- the measure, if what is still to come pays for the run
 
-data_sum : (f g a b x w y z u m v e : ℕ) → v ≡ f + 40 + (a + x + y + 0) → m ≡ g + 40 + (b + w + z + u) → f + 8 * e + y ≤ g + z → a + 128 ≤ b + u → x ≤ 8 * e + 10 → suc v ≤ m
+data_sum : (f g a b x w y z u m v e : ℕ) → v ≡ f + 40 + (a + x + y + 0) → m ≡ g + 40 + (b + w + z + u)
+    → f + 8 * e + y ≤ g + z → a + 128 ≤ b + u → x ≤ 8 * e + 10 → suc v ≤ m
 data_sum f g a b x w y z u m v e d i h j k = omega arith
 
-pub data_turn_falls : (s : ScenarioValue) (p : List Row) (row : Row) (n : Connection) (c : Change) → Obeys s → IsPrompt s (row ∷ p) → TurnRow s p row n c → connection p ≡ Some n → (run_state s p).exchange.begun ≡ true
-    → is_data (bus_of (run_state s p)) ≡ false → is_data c.after ≡ true
-    → future_left s (run_state s (row ∷ p)) + 8 * run_of s (run_state s (row ∷ p)) n + sense_bytes_left (is_in_data (run_state s (row ∷ p))) (run_state s (row ∷ p)).progress (run_state s (row ∷ p)).served
-    ≤ future_left s (run_state s p) + sense_bytes_left (is_in_data (run_state s p)) (run_state s p).progress (run_state s p).served
+pub data_turn_falls : (s : ScenarioValue) (p : List Row) (row : Row) (n : Connection) (c : Change)
+    → Obeys s → IsPrompt s (row ∷ p) → TurnRow s p row n c → connection p ≡ Some n
+    → (run_state s p).exchange.begun ≡ true → is_data (bus_of (run_state s p)) ≡ false → is_data c.after ≡ true
+    → future_left s (run_state s (row ∷ p)) + 8 * run_of s (run_state s (row ∷ p)) n + sense_bytes_left
+    (is_in_data (run_state s (row ∷ p))) (run_state s (row ∷ p)).progress (run_state s (row ∷ p)).served
+    ≤ future_left s (run_state s p)
+    + sense_bytes_left (is_in_data (run_state s p)) (run_state s p).progress (run_state s p).served
     → suc (measure s (row ∷ p)) ≤ measure s p
 data_turn_falls s p row n c o prompt h con begun from to pays =
     let k = run_state s p in
@@ -59,15 +71,26 @@ data_turn_falls s p row n c o prompt h con begun from to pays =
     let t = turn_in s p row n c h in
     let g = h.goes in
     let lines = data_lines c.after to in
-    let left : leaving s k n.target ≡ phase_leaving (serving_of s k n.target) (bus_of k).atn (phase_of (bus_of k)) = λ i. if begun i then phase_leaving (serving_of s k n.target) (bus_of k).atn (phase_of (bus_of k)) else phase_entry Phase.MessageOut in
-    let ahead = turn_phases s p row n c h begun lines.0 (λ z. wrong (sym z ∙ lines.1)) (is_refusing s q) ∙ ap left_of left in
-    let behind : phases_left (is_refusing s p) k ≡ phases_in (is_refusing s p) k.exchange.plan (phase_of (bus_of k)) = λ i. if begun i then phases_in (is_refusing s p) k.exchange.plan (phase_of (bus_of k)) else for_reselection + 8 * for_phase in
-    let less = phase_pays s (serving_of s k n.target) (bus_of k).atn (is_refusing s p) (is_struck_phase s p) (phase_of (bus_of k)) (λ z. (struck_known s p z).0) (out_facts s p row n c o prompt h con begun) (no_data_in (bus_of k) from) (no_data_out (bus_of k) from) in
+    let left : leaving s k n.target ≡ phase_leaving (serving_of s k n.target) (bus_of k).atn (phase_of (bus_of k)) =
+    λ i. if begun i then phase_leaving (serving_of s k n.target) (bus_of k).atn (phase_of (bus_of k))
+    else phase_entry Phase.MessageOut in
+    let ahead = turn_phases s p row n c h begun lines.0 (λ z. wrong (sym z ∙ lines.1)) (is_refusing s q)
+    ∙ ap left_of left in
+    let behind : phases_left (is_refusing s p) k ≡ phases_in (is_refusing s p) k.exchange.plan (phase_of (bus_of k)) =
+    λ i. if begun i then phases_in (is_refusing s p) k.exchange.plan (phase_of (bus_of k))
+    else for_reselection + 8 * for_phase in
+    let less = phase_pays s (serving_of s k n.target) (bus_of k).atn (is_refusing s p)
+    (is_struck_phase s p) (phase_of (bus_of k)) (λ z. (struck_known s p z).0)
+    (out_facts s p row n c o prompt h con begun) (no_data_in (bus_of k) from) (no_data_out (bus_of k) from) in
     let before = shape s k (is_struck_phase s p) (is_refusing s p) n g.calm g.row_is.connection_is in
-    let after = shape s j (is_struck_phase s q) (is_refusing s q) n (ap (λ (l : LineSet). l.rst) t.bus_is ∙ g.row_is.calm) t.connection_is
-    ∙ ap (λ (x : Bool). future_left s j + 40 + (phases_left (is_refusing s q) j + phase_left s j n + sense_bytes_left (is_in_data j) j.progress j.served + struck_left s x)) (turn_struck s p row n c h) in
-    data_sum (future_left s j) (future_left s k) (phases_left (is_refusing s q) j) (phases_left (is_refusing s p) k) (phase_left s j n) (phase_left s k n) (sense_bytes_left (is_in_data j) j.progress j.served) (sense_bytes_left (is_in_data k) k.progress k.served) (struck_left s (is_struck_phase s p)) (measure s p) (measure s q) (run_of s j n)
-    after before pays (replaced _ _ _ _ _ ahead behind less) (data_left s p row n c h to)
+    let after = shape s j (is_struck_phase s q) (is_refusing s q) n
+    (ap (λ (l : LineSet). l.rst) t.bus_is ∙ g.row_is.calm) t.connection_is
+    ∙ ap (λ (x : Bool). future_left s j + 40 + (phases_left (is_refusing s q) j + phase_left s j n
+    + sense_bytes_left (is_in_data j) j.progress j.served + struck_left s x)) (turn_struck s p row n c h) in
+    data_sum (future_left s j) (future_left s k) (phases_left (is_refusing s q) j) (phases_left (is_refusing s p) k)
+    (phase_left s j n) (phase_left s k n) (sense_bytes_left (is_in_data j) j.progress j.served)
+    (sense_bytes_left (is_in_data k) k.progress k.served) (struck_left s (is_struck_phase s p)) (measure s p)
+    (measure s q) (run_of s j n) after before pays (replaced _ _ _ _ _ ahead behind less) (data_left s p row n c h to)
   where
     replaced : (a b x y u : ℕ) → a ≡ x → b ≡ y → x + 128 ≤ y + u → a + 128 ≤ b + u
     replaced a b x y u e f g = omega arith
@@ -95,15 +118,20 @@ pub record EntersData (s : ScenarioValue) (j k : RunState) (m : ℕ) : Type 0 wh
   pub resets : resets_left j s.resets ≡ resets_left k s.resets
   pub faults : j.faults ≡ k.faults
 
-pub command_pays_run : (s : ScenarioValue) (j k : RunState) (m run : ℕ) (c : CmdDef) → command_at s.commands m ≡ Some c → has_item k.story.sent.sent (command_item m) ≡ true → has_item k.story.sent.over (command_item m) ≡ false → EntersData s j k m
-    → run + bytes_after s c ((progress_in k.progress (command_id m)).runs + 1) ≤ bytes_after s c (progress_in k.progress (command_id m)).runs
+pub command_pays_run : (s : ScenarioValue) (j k : RunState) (m run : ℕ) (c : CmdDef) → command_at s.commands m ≡ Some c
+    → has_item k.story.sent.sent (command_item m) ≡ true → has_item k.story.sent.over (command_item m) ≡ false
+    → EntersData s j k m → run + bytes_after s c ((progress_in k.progress (command_id m)).runs + 1)
+    ≤ bytes_after s c (progress_in k.progress (command_id m)).runs
     → future_left s j + 8 * run ≤ future_left s k
 command_pays_run s j k m run c at sent over h fewer =
     let same : for_fault s * length j.faults ≡ for_fault s * length k.faults = λ i. for_fault s * length (h.faults i) in
     let commands = less_zero _ _ (but_one_command s j k (8 * run) 0 m c at other (no_more _ _ _ own)) in
-    subst (λ (w : ℕ). commands_left s j 1 s.commands + aborts_left s j.story.sent 1 s.aborts + for_reset * resets_left j s.resets + w + 8 * run ≤ future_left s k) (sym same)
-    (subst (λ (b : Sent). commands_left s j 1 s.commands + aborts_left s b 1 s.aborts + for_reset * resets_left j s.resets + for_fault s * length k.faults + 8 * run ≤ future_left s k) (sym h.sent)
-    (sum (commands_left s j 1 s.commands) (commands_left s k 1 s.commands) (aborts_left s k.story.sent 1 s.aborts) (resets_left j s.resets) (resets_left k s.resets) (for_fault s * length k.faults) commands h.resets))
+    subst (λ (w : ℕ). commands_left s j 1 s.commands + aborts_left s j.story.sent 1 s.aborts
+    + for_reset * resets_left j s.resets + w + 8 * run ≤ future_left s k) (sym same)
+    (subst (λ (b : Sent). commands_left s j 1 s.commands + aborts_left s b 1 s.aborts
+    + for_reset * resets_left j s.resets + for_fault s * length k.faults + 8 * run ≤ future_left s k) (sym h.sent)
+    (sum (commands_left s j 1 s.commands) (commands_left s k 1 s.commands) (aborts_left s k.story.sent 1 s.aborts)
+    (resets_left j s.resets) (resets_left k s.resets) (for_fault s * length k.faults) commands h.resets))
   where
     sum : (c d a r q f : ℕ) → c + 8 * run ≤ d → r ≡ q → c + a + 64 * r + f + 8 * run ≤ d + a + 64 * q + f
     sum c d a r q f x e = omega arith
@@ -117,26 +145,41 @@ command_pays_run s j k m run c at sent over h fewer =
     made : ℕ → ℕ
     made n = (progress_in k.progress (command_id n)).runs
 
-    after : (n : ℕ) (d : CmdDef) → command_left s j n d ≡ left_by s k.story.sent (open_left s (same_item (command_item m) (command_item n)) true (made n) d) n d
-    after n d = λ i. left_by s (h.sent i) (open_left s (serves_item (h.served i) (command_item n)) (h.moves i) (h.runs (command_id n) i) d) n d
+    after : (n : ℕ) (d : CmdDef) → command_left s j n d
+        ≡ left_by s k.story.sent (open_left s (same_item (command_item m) (command_item n)) true (made n) d) n d
+    after n d = λ i. left_by s (h.sent i)
+        (open_left s (serves_item (h.served i) (command_item n)) (h.moves i) (h.runs (command_id n) i) d) n d
 
-    before : (n : ℕ) (d : CmdDef) → command_left s k n d ≡ left_by s k.story.sent (open_left s (same_item (command_item m) (command_item n)) false (made n) d) n d
-    before n d = λ i. left_by s k.story.sent (open_left s (serves_item (h.before i) (command_item n)) (h.still i) (made n) d) n d
+    before : (n : ℕ) (d : CmdDef) → command_left s k n d
+        ≡ left_by s k.story.sent (open_left s (same_item (command_item m) (command_item n)) false (made n) d) n d
+    before n d =
+        λ i. left_by s k.story.sent (open_left s (serves_item (h.before i) (command_item n)) (h.still i) (made n) d) n d
 
-    other : (n : ℕ) (d : CmdDef) → command_at s.commands n ≡ Some d → n ≢ m → command_left s j n d ≤ command_left s k n d
+    other : (n : ℕ) (d : CmdDef) → command_at s.commands n ≡ Some d → n ≢ m
+        → command_left s j n d ≤ command_left s k n d
     other n d f ne =
-        let e = after n d ∙ ap (λ (q : Bool). left_by s k.story.sent (open_left s q true (made n) d) n d) (command_apart m n ne)
-        ∙ sym (before n d ∙ ap (λ (q : Bool). left_by s k.story.sent (open_left s q false (made n) d) n d) (command_apart m n ne)) in
+        let e = after n d
+        ∙ ap (λ (q : Bool). left_by s k.story.sent (open_left s q true (made n) d) n d) (command_apart m n ne)
+        ∙ sym (before n d
+        ∙ ap (λ (q : Bool). left_by s k.story.sent (open_left s q false (made n) d) n d) (command_apart m n ne)) in
         omega arith
 
     own : command_left s j m c + 8 * run ≤ command_left s k m c
     own =
-        let e : command_left s j m c ≡ open_left s true true (made m) c = after m c ∙ (λ i. if over i then sense_left k.story.sent m else if sent i then open_left s (self_item (command_item m) i) true (made m) c else unsent_left s k.story.sent m c) in
-        let f : command_left s k m c ≡ open_left s true false (made m) c = before m c ∙ (λ i. if over i then sense_left k.story.sent m else if sent i then open_left s (self_item (command_item m) i) false (made m) c else unsent_left s k.story.sent m c) in
-        chain (command_left s j m c) (open_left s true true (made m) c) (open_left s true false (made m) c) (command_left s k m c) e f
-        (by (data_runs s c) (made m) (bytes_after s c (made m + 1)) (bytes_after s c (made m)) (bytes_after s c (made m + 0)) (ap (bytes_after s c) (plus_none (made m))) fewer)
+        let e : command_left s j m c ≡ open_left s true true (made m) c = after m c
+        ∙ (λ i. if over i then sense_left k.story.sent m
+        else if sent i then open_left s (self_item (command_item m) i) true (made m) c
+        else unsent_left s k.story.sent m c) in
+        let f : command_left s k m c ≡ open_left s true false (made m) c = before m c
+        ∙ (λ i. if over i then sense_left k.story.sent m
+        else if sent i then open_left s (self_item (command_item m) i) false (made m) c
+        else unsent_left s k.story.sent m c) in
+        chain (command_left s j m c) (open_left s true true (made m) c) (open_left s true false (made m) c)
+        (command_left s k m c) e f (by (data_runs s c) (made m) (bytes_after s c (made m + 1))
+        (bytes_after s c (made m)) (bytes_after s c (made m + 0)) (ap (bytes_after s c) (plus_none (made m))) fewer)
       where
-        by : (r n x y z : ℕ) → z ≡ y → run + x ≤ y → 1024 * (r - n + 0) + 8 * x + 4096 + 8 * run ≤ 1024 * (r - n + 0) + 8 * z + 4096
+        by : (r n x y z : ℕ) → z ≡ y → run + x ≤ y
+            → 1024 * (r - n + 0) + 8 * x + 4096 + 8 * run ≤ 1024 * (r - n + 0) + 8 * z + 4096
         by r n x y z e h = omega arith
 
         chain : (a x y b : ℕ) → a ≡ x → b ≡ y → x + 8 * run ≤ y → a + 8 * run ≤ b

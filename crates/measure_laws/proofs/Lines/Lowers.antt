@@ -1,4 +1,5 @@
--- What events leave of the scenario's lines: they only end items, so what is still to come of commands and aborts falls with them or stays.
+-- What events leave of the scenario's lines: they only end items, so what is still to come of commands and aborts falls
+-- with them or stays.
 use Rattle.measure_laws.proofs
 use proofs.Names.{inl, inr, ℕ, ◌≡◌, ◌≤◌, ◌⊎◌, ◌∙◌, Bool, true, false, List, [], ◌∷◌, refl, sym, ap, arith, ◌&&◌}
 use proofs.Names.{list_any, ◌+◌, ◌-◌, ◌*◌, ◌==◌, ◌||◌, ◌++◌, not, if◌then◌else◌, ⊤, wrong, wrong', Event, ProcId}
@@ -14,7 +15,8 @@ pub record Lowers (a b : Sent) : Type 0 where
   pub sent : b.sent ≡ a.sent
   pub tries : b.tries ≡ a.tries
   pub over : (i : Item) → has_item a.over i ≡ true → has_item b.over i ≡ true
-  pub checks : (n : ℕ) → list_any (λ k. k == n) b.checks ≡ true → (list_any (λ k. k == n) a.checks ≡ true) ⊎ (has_item a.over (command_item n) ≡ false)
+  pub checks : (n : ℕ) → list_any (λ k. k == n) b.checks ≡ true
+      → (list_any (λ k. k == n) a.checks ≡ true) ⊎ (has_item a.over (command_item n) ≡ false)
 
 pub lowers_same : (a b : Sent) → b ≡ a → Lowers a b
 lowers_same a b e = record {
@@ -31,7 +33,8 @@ lowers_on a b c h g = record {
   over = λ i z. g.over i (h.over i z);
   checks = λ n z. elim (g.checks n z) [
     | inl x ↦ h.checks n x
-    | inr x ↦ inr (not_unless (has_item a.over (command_item n)) (has_item b.over (command_item n)) (h.over (command_item n)) x)
+    | inr x ↦ inr
+        (not_unless (has_item a.over (command_item n)) (has_item b.over (command_item n)) (h.over (command_item n)) x)
   ];
 }
 
@@ -44,7 +47,8 @@ abbrev pub EndsFirst : Story → Event → Type 0
 EndsFirst b (Event.End id status) = id.sense ≡ false → has_item b.sent.over (process id) ≡ false
 EndsFirst b _ = ⊤
 
-end_lowers : (b : Story) (id : ProcId) (status : ℕ) → (id.sense ≡ false → has_item b.sent.over (process id) ≡ false) → Lowers b.sent (with_check (story_with_end b id (by_status status)) id status).sent
+end_lowers : (b : Story) (id : ProcId) (status : ℕ) → (id.sense ≡ false → has_item b.sent.over (process id) ≡ false)
+    → Lowers b.sent (with_check (story_with_end b id (by_status status)) id status).sent
 end_lowers b id status first = go id.sense refl (status == CHECK_CONDITION)
   where
     ended : Story
@@ -53,7 +57,9 @@ end_lowers b id status first = go id.sense refl (status == CHECK_CONDITION)
     plain : Lowers b.sent ended.sent
     plain = over_lowers b.sent (process id)
 
-    go : (q : Bool) → id.sense ≡ q → (r : Bool) → Lowers b.sent (if not q && r then record ended { sent = record ended.sent { checks = ended.sent.checks ++ id.command ∷ [] } } else ended).sent
+    go : (q : Bool) → id.sense ≡ q → (r : Bool) → Lowers b.sent
+        (if not q && r then record ended { sent = record ended.sent { checks = ended.sent.checks ++ id.command ∷ [] } }
+        else ended).sent
     go true z r = plain
     go false z false = plain
     go false z true = record {
@@ -66,24 +72,29 @@ end_lowers b id status first = go id.sense refl (status == CHECK_CONDITION)
       ];
     }
 
-one_end : (q r : Bool) (n : ℕ) (e : Ending) (b : Story) → Lowers b.sent (if q then story_with_end b (record { command = n; sense = false }) e else if r then story_with_over b (sense_item n) else b).sent
+one_end : (q r : Bool) (n : ℕ) (e : Ending) (b : Story)
+    → Lowers b.sent (if q then story_with_end b (record { command = n; sense = false }) e
+    else if r then story_with_over b (sense_item n) else b).sent
 one_end true r n e b = over_lowers b.sent (command_item n)
 one_end false true n e b = over_lowers b.sent (sense_item n)
 one_end false false n e b = lowers_same b.sent b.sent refl
 
-ends_lower : (drops stops : CmdDef → Bool) (e : Ending) (n : ℕ) (commands : List CmdDef) (b : Story) → Lowers b.sent (story_with_ends drops stops e n commands b).sent
+ends_lower : (drops stops : CmdDef → Bool) (e : Ending) (n : ℕ) (commands : List CmdDef) (b : Story)
+    → Lowers b.sent (story_with_ends drops stops e n commands b).sent
 ends_lower drops stops e n [] b = lowers_same b.sent b.sent refl
 ends_lower drops stops e n (c ∷ commands) b =
-    let next : Story =
-    if is_open b.sent n && drops c then story_with_end b (record { command = n; sense = false }) e
-    else if stops c && list_any (λ k. k == n) b.sent.checks then story_with_over b (sense_item n)
-    else b in
-    lowers_on b.sent next.sent (story_with_ends drops stops e (n + 1) commands next).sent (one_end (is_open b.sent n && drops c) (stops c && list_any (λ k. k == n) b.sent.checks) n e b) (ends_lower drops stops e (n + 1) commands next)
+    let next : Story = if is_open b.sent n && drops c then story_with_end b (record { command = n; sense = false }) e
+    else if stops c && list_any (λ k. k == n) b.sent.checks then story_with_over b (sense_item n) else b in
+    lowers_on b.sent next.sent (story_with_ends drops stops e (n + 1) commands next).sent
+    (one_end (is_open b.sent n && drops c) (stops c && list_any (λ k. k == n) b.sent.checks) n e b)
+    (ends_lower drops stops e (n + 1) commands next)
 
-pub event_lowers : (s : ScenarioValue) (b : Story) (event : Event) → EndsFirst b event → Lowers b.sent (story_after_event s b event).sent
+pub event_lowers : (s : ScenarioValue) (b : Story) (event : Event) → EndsFirst b event
+    → Lowers b.sent (story_after_event s b event).sent
 event_lowers s b (Event.End id status) h = end_lowers b id status h
 event_lowers s b (Event.Lost id) h = over_lowers b.sent (process id)
-event_lowers s b (Event.Aborted host target unit what) h = ends_lower (is_aborted host target unit what) (is_sense_stopped host target unit what) by_abort 1 s.commands b
+event_lowers s b (Event.Aborted host target unit what) h =
+    ends_lower (is_aborted host target unit what) (is_sense_stopped host target unit what) by_abort 1 s.commands b
 event_lowers s b (Event.Reset dev) h = ends_lower (λ c. true) (λ c. true) by_reset 1 s.commands b
 event_lowers s b _ h = lowers_same b.sent b.sent refl
 
@@ -92,10 +103,12 @@ abbrev pub EndFirst : ScenarioValue → Story → List Event → Type 0
 EndFirst s b [] = ⊤
 EndFirst s b (event ∷ shown) = EndsFirst (story_after_events s b shown) event × EndFirst s b shown
 
-pub events_lower : (s : ScenarioValue) (b : Story) (shown : List Event) → EndFirst s b shown → Lowers b.sent (story_after_events s b shown).sent
+pub events_lower : (s : ScenarioValue) (b : Story) (shown : List Event) → EndFirst s b shown
+    → Lowers b.sent (story_after_events s b shown).sent
 events_lower s b [] h = lowers_same b.sent b.sent refl
-events_lower s b (event ∷ shown) h =
-    lowers_on b.sent (story_after_events s b shown).sent (story_after_events s b (event ∷ shown)).sent (events_lower s b shown h.1) (event_lowers s (story_after_events s b shown) event h.0)
+events_lower s b (event ∷ shown) h = lowers_on b.sent (story_after_events s b shown).sent
+    (story_after_events s b (event ∷ shown)).sent (events_lower s b shown h.1)
+    (event_lowers s (story_after_events s b shown) event h.0)
 
 -- ---- what is left of a command, by what is sent and what is left of it while it is open
 
@@ -115,9 +128,10 @@ done_more a b i h e =
     go false r t f z = f z
 
 -- The automatic REQUEST SENSE of a command that is over.
-pub sense_lowers : (a b : Sent) (n : ℕ) → Lowers a b → has_item a.over (command_item n) ≡ true → sense_left b n ≤ sense_left a n
-sense_lowers a b n h o =
-    go (list_any (λ m. m == n) a.checks) (list_any (λ m. m == n) b.checks) (is_done a (sense_item n)) (is_done b (sense_item n)) checked (done_more a b (sense_item n) h)
+pub sense_lowers : (a b : Sent) (n : ℕ) → Lowers a b → has_item a.over (command_item n) ≡ true
+    → sense_left b n ≤ sense_left a n
+sense_lowers a b n h o = go (list_any (λ m. m == n) a.checks) (list_any (λ m. m == n) b.checks)
+    (is_done a (sense_item n)) (is_done b (sense_item n)) checked (done_more a b (sense_item n) h)
   where
     checked : list_any (λ m. m == n) b.checks ≡ true → list_any (λ m. m == n) a.checks ≡ true
     checked z = elim (h.checks n z) [
@@ -125,7 +139,8 @@ sense_lowers a b n h o =
       | inr x ↦ wrong (sym o ∙ x)
     ]
 
-    go : (x y u v : Bool) → (y ≡ true → x ≡ true) → (u ≡ true → v ≡ true) → (if y && not v then 4096 else 0) ≤ (if x && not u then 4096 else 0)
+    go : (x y u v : Bool) → (y ≡ true → x ≡ true) → (u ≡ true → v ≡ true)
+        → (if y && not v then 4096 else 0) ≤ (if x && not u then 4096 else 0)
     go x false u v f g = omega arith
     go x true u true f g = omega arith
     go true true true false f g = wrong' (g refl)
@@ -143,8 +158,10 @@ unsent_many : (s : ScenarioValue) (b : Sent) (n : ℕ) (c : CmdDef) → 4096 ≤
 unsent_many s b n c = omega arith
 
 -- A command: what is left of it while it is open, y before and x after.
-pub one_lowers : (s : ScenarioValue) (a b : Sent) (x y n : ℕ) (c : CmdDef) → Lowers a b → 4096 ≤ y → (is_open b n ≡ true → x ≤ y) → left_by s b x n c ≤ left_by s a y n c
-one_lowers s a b x y n c h many less = go (has_item a.over (command_item n)) refl (has_item b.over (command_item n)) refl (has_item a.sent (command_item n)) refl
+pub one_lowers : (s : ScenarioValue) (a b : Sent) (x y n : ℕ) (c : CmdDef) → Lowers a b → 4096 ≤ y
+    → (is_open b n ≡ true → x ≤ y) → left_by s b x n c ≤ left_by s a y n c
+one_lowers s a b x y n c h many less = go (has_item a.over (command_item n)) refl
+    (has_item b.over (command_item n)) refl (has_item a.sent (command_item n)) refl
   where
     same : unsent_left s b n c ≡ unsent_left s a n c
     same = ap (λ (z : List Item). unsent_left s (record b { tries = z }) n c) h.tries
@@ -152,11 +169,13 @@ one_lowers s a b x y n c h many less = go (has_item a.over (command_item n)) ref
     few : sense_left b n ≤ 4096
     few = sense_few b n
 
-    go : (p : Bool) → has_item a.over (command_item n) ≡ p → (q : Bool) → has_item b.over (command_item n) ≡ q → (r : Bool) → has_item a.sent (command_item n) ≡ r
-        → left_by s b x n c ≤ left_by s a y n c
+    go : (p : Bool) → has_item a.over (command_item n) ≡ p → (q : Bool) → has_item b.over (command_item n) ≡ q
+        → (r : Bool) → has_item a.sent (command_item n) ≡ r → left_by s b x n c ≤ left_by s a y n c
     go p ep q eq r er = over (λ i. has_item (h.sent i) (command_item n)) p ep q eq r er
       where
-        over : has_item b.sent (command_item n) ≡ has_item a.sent (command_item n) → (p : Bool) → has_item a.over (command_item n) ≡ p → (q : Bool) → has_item b.over (command_item n) ≡ q → (r : Bool) → has_item a.sent (command_item n) ≡ r → left_by s b x n c ≤ left_by s a y n c
+        over : has_item b.sent (command_item n) ≡ has_item a.sent (command_item n)
+            → (p : Bool) → has_item a.over (command_item n) ≡ p → (q : Bool) → has_item b.over (command_item n) ≡ q
+            → (r : Bool) → has_item a.sent (command_item n) ≡ r → left_by s b x n c ≤ left_by s a y n c
         over es p ep q eq r er =
             subst2 (by p q r (λ z. h.over (command_item n) (ep ∙ z)) ep eq er (es ∙ er))
           where
@@ -166,11 +185,16 @@ one_lowers s a b x y n c h many less = go (has_item a.over (command_item n)) ref
             shape_a : left_by s a y n c ≡ (if p then sense_left a n else if r then y else unsent_left s a n c)
             shape_a = λ i. if ep i then sense_left a n else if er i then y else unsent_left s a n c
 
-            subst2 : (if q then sense_left b n else if r then x else unsent_left s b n c) ≤ (if p then sense_left a n else if r then y else unsent_left s a n c) → left_by s b x n c ≤ left_by s a y n c
+            subst2 : (if q then sense_left b n else if r then x else unsent_left s b n c)
+                ≤ (if p then sense_left a n else if r then y else unsent_left s a n c)
+                → left_by s b x n c ≤ left_by s a y n c
             subst2 z = let u = shape_b in let v = shape_a in omega arith
 
-            by : (p q r : Bool) → (p ≡ true → has_item b.over (command_item n) ≡ true) → has_item a.over (command_item n) ≡ p → has_item b.over (command_item n) ≡ q → has_item a.sent (command_item n) ≡ r → has_item b.sent (command_item n) ≡ r
-                → (if q then sense_left b n else if r then x else unsent_left s b n c) ≤ (if p then sense_left a n else if r then y else unsent_left s a n c)
+            by : (p q r : Bool) → (p ≡ true → has_item b.over (command_item n) ≡ true)
+                → has_item a.over (command_item n) ≡ p → has_item b.over (command_item n) ≡ q
+                → has_item a.sent (command_item n) ≡ r → has_item b.sent (command_item n) ≡ r
+                → (if q then sense_left b n else if r then x else unsent_left s b n c)
+                ≤ (if p then sense_left a n else if r then y else unsent_left s a n c)
             by true true r f u v w t = sense_lowers a b n h u
             by true false r f u v w t = wrong (sym (f refl) ∙ v)
             by false true true f u v w t = let k = few in omega arith
@@ -180,17 +204,21 @@ one_lowers s a b x y n c h many less = go (has_item a.over (command_item n)) ref
 
 -- ---- aborts
 
-pub aborts_lower : (s : ScenarioValue) (a b : Sent) (n : ℕ) (aborts : List AbortDef) → Lowers a b → aborts_left s b n aborts ≤ aborts_left s a n aborts
+pub aborts_lower : (s : ScenarioValue) (a b : Sent) (n : ℕ) (aborts : List AbortDef) → Lowers a b
+    → aborts_left s b n aborts ≤ aborts_left s a n aborts
 aborts_lower s a b n [] h = omega arith
 aborts_lower s a b n (d ∷ aborts) h =
     let rest = aborts_lower s a b (n + 1) aborts h in
     let one = go (is_done a (abort n)) (is_done b (abort n)) (done_more a b (abort n) h) in
     omega arith
   where
-    same : 64 * (retries_of s.hosts d.host + 1 - count_item b.tries (abort n)) + 4096 ≡ 64 * (retries_of s.hosts d.host + 1 - count_item a.tries (abort n)) + 4096
+    same : 64 * (retries_of s.hosts d.host + 1 - count_item b.tries (abort n)) + 4096
+        ≡ 64 * (retries_of s.hosts d.host + 1 - count_item a.tries (abort n)) + 4096
     same = ap (λ (z : List Item). 64 * (retries_of s.hosts d.host + 1 - count_item z (abort n)) + 4096) h.tries
 
-    go : (u v : Bool) → (u ≡ true → v ≡ true) → (if v then 0 else 64 * (retries_of s.hosts d.host + 1 - count_item b.tries (abort n)) + 4096) ≤ (if u then 0 else 64 * (retries_of s.hosts d.host + 1 - count_item a.tries (abort n)) + 4096)
+    go : (u v : Bool) → (u ≡ true → v ≡ true)
+        → (if v then 0 else 64 * (retries_of s.hosts d.host + 1 - count_item b.tries (abort n)) + 4096)
+        ≤ (if u then 0 else 64 * (retries_of s.hosts d.host + 1 - count_item a.tries (abort n)) + 4096)
     go u true f = omega arith
     go true false f = wrong' (f refl)
     go false false f = let k = same in omega arith

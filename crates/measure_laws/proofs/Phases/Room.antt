@@ -51,27 +51,41 @@ messages_there m e =
 -- ---- the first byte
 
 -- DATA IN has a byte.
-pub first_room_in : (s : ScenarioValue) (p : List Row) (n : Connection) (bsy atn msg cd : Bool) (y : ℕ) → Obeys s → AreOfDevices p → Planned s (run_state s p) → Linked p n (ends bsy false atn 0 msg cd true false y) → handshakes p ≡ no_handshakes
-    → (msg ≡ false → cd ≡ false → 1 ≤ run_count s p n)
-    → HasRoomIn msg cd (handshakes p).requests (length (bytes_of_messages (run_state s p).exchange.plan.messages)) (run_count s p n)
+pub first_room_in : (s : ScenarioValue) (p : List Row) (n : Connection) (bsy atn msg cd : Bool) (y : ℕ) → Obeys s
+    → AreOfDevices p → Planned s (run_state s p) → Linked p n (ends bsy false atn 0 msg cd true false y)
+    → handshakes p ≡ no_handshakes → (msg ≡ false → cd ≡ false → 1 ≤ run_count s p n) → HasRoomIn msg cd
+    (handshakes p).requests (length (bytes_of_messages (run_state s p).exchange.plan.messages)) (run_count s p n)
 first_room_in s p n bsy atn true cd y o dv planned h quiet run =
     let k = run_state s p in
     let a = run_state_plain s p dv in
-    let there = messages_there k.exchange.plan.messages (planned.message (ap phase_of (a.bus ∙ h.stands.bus_is))) in
-    (subst (λ (x : Handshakes). x.requests < length (bytes_of_messages k.exchange.plan.messages)) (sym quiet) there, messages_short k.exchange.plan.messages)
+    let there = messages_there k.exchange.plan.messages (planned.message (ap phase_of (a.bus ∙ h.stands.bus_is))) in (
+      subst (λ (x : Handshakes). x.requests < length (bytes_of_messages k.exchange.plan.messages)) (sym quiet) there,
+      messages_short k.exchange.plan.messages,
+    )
 first_room_in s p n bsy atn false true y o dv planned h quiet run = ap (λ (x : Handshakes). x.requests) quiet
-first_room_in s p n bsy atn false false y o dv planned h quiet run =
-    (subst (λ (x : Handshakes). x.requests < run_count s p n) (sym quiet) (run refl refl), runs_are_short s (obeys_fits s o) p n)
+first_room_in s p n bsy atn false false y o dv planned h quiet run = (
+  subst (λ (x : Handshakes). x.requests < run_count s p n) (sym quiet) (run refl refl),
+  runs_are_short s (obeys_fits s o) p n,
+)
 
 -- ---- the next one
 
-pub next_room_in : (s : ScenarioValue) (p : List Row) (n : Connection) (atn msg cd : Bool) (y : ℕ) → Obeys s → Shaking p n msg cd true false false atn 0 y → (offering_with s p n true (ends false false atn 0 msg cd true false y)).follows ≡ true
-    → HasRoomIn msg cd (handshakes p).requests (length (bytes_of_messages (run_state s p).exchange.plan.messages)) (run_count s p n)
+pub next_room_in : (s : ScenarioValue) (p : List Row) (n : Connection) (atn msg cd : Bool) (y : ℕ)
+    → Obeys s → Shaking p n msg cd true false false atn 0 y
+    → (offering_with s p n true (ends false false atn 0 msg cd true false y)).follows ≡ true
+    → HasRoomIn msg cd (handshakes p).requests (length (bytes_of_messages (run_state s p).exchange.plan.messages))
+    (run_count s p n)
 next_room_in s p n atn true cd y o h follows =
-    let m = (run_state s p).exchange.plan.messages in
-    (ltb-true (handshakes p).requests (length (bytes_of_messages m)) (and_second ((handshakes p).requests == 0 || not atn) (nat_lt (handshakes p).requests (length (bytes_of_messages m))) follows), messages_short m)
+    let m = (run_state s p).exchange.plan.messages in (
+      ltb-true (handshakes p).requests (length (bytes_of_messages m))
+          (and_second ((handshakes p).requests == 0 || not atn)
+          (nat_lt (handshakes p).requests (length (bytes_of_messages m))) follows),
+      messages_short m,
+    )
 next_room_in s p n atn false true y o h follows = wrong' (sym h.asked ∙ follows)
 next_room_in s p n atn false false y o h follows =
     let less : nat_lt (handshakes p).requests (run_count s p n) ≡ true =
-    sym (ap (λ (q : Bool). if q then nat_lt (handshakes p).requests (run_count s p n) else follows_in (serving_at s (run_state s p) n.target Phase.DataIn) (handshakes p) atn Phase.DataIn) h.unpulsed) ∙ follows in
+    sym (ap (λ (q : Bool). if q then nat_lt (handshakes p).requests (run_count s p n)
+    else follows_in (serving_at s (run_state s p) n.target Phase.DataIn) (handshakes p) atn Phase.DataIn) h.unpulsed)
+    ∙ follows in
     (ltb-true (handshakes p).requests (run_count s p n) less, runs_are_short s (obeys_fits s o) p n)

@@ -1,4 +1,5 @@
--- What is under way of a phase falls with each row of its two ends, byte by byte: the kinds of rows are those that the laws of links name.
+-- What is under way of a phase falls with each row of its two ends, byte by byte: the kinds of rows are those that the
+-- laws of links name.
 use Rattle.measure_laws.proofs
 use proofs.Names.{ℕ, suc, ◌≡◌, ◌≤◌, Bool, true, false, ap, arith, ◌&&◌, ◌+◌, ◌==◌, not, Handshakes, Answering, Offering}
 use proofs.Names.{EndLines, connected_bus, initiator_side, target_side, ends, one_where, under_way}
@@ -15,7 +16,8 @@ no_first : (q io z : Bool) → q ≡ false → one_where (q && io && z) ≡ 0
 no_first q io z e = ap (λ (r : Bool). one_where (r && io && z)) e
 
 -- The target ends REQ, and drives a byte to the initiator or none.
-pub req_ends : (atn msg cd io : Bool) (x y z : ℕ) (h : Handshakes) (g f : Offering) (a b : Answering) → (h.requests == 0) ≡ false
+pub req_ends :
+    (atn msg cd io : Bool) (x y z : ℕ) (h : Handshakes) (g f : Offering) (a b : Answering) → (h.requests == 0) ≡ false
     → suc (way (ends false true atn x msg cd io false z) h f b) ≤ way (ends false true atn x msg cd io true y) h g a
 req_ends atn msg cd io x y z h g f a b asked =
     let first = no_first (h.requests == 0) io (y == 0) asked in
@@ -23,14 +25,16 @@ req_ends atn msg cd io x y z h g f a b asked =
     omega arith
 
 -- The initiator ends ACK, and releases its byte.
-pub ack_ends : (atn msg cd io : Bool) (x y : ℕ) (h : Handshakes) (g f : Offering) (a b : Answering) → (h.requests == 0) ≡ false
+pub ack_ends :
+    (atn msg cd io : Bool) (x y : ℕ) (h : Handshakes) (g f : Offering) (a b : Answering) → (h.requests == 0) ≡ false
     → suc (way (ends false false atn 0 msg cd io false y) h f b) ≤ way (ends false true atn x msg cd io false y) h g a
 ack_ends atn msg cd io x y h g f a b asked =
     let first = no_first (h.requests == 0) io (y == 0) asked in
     omega arith
 
 -- The initiator answers a byte to it.
-pub answers : (atn to msg cd : Bool) (y : ℕ) (h k : Handshakes) (g f : Offering) (a b : Answering) → (h.requests == 0) ≡ false → (k.requests == 0) ≡ false
+pub answers : (atn to msg cd : Bool) (y : ℕ) (h k : Handshakes) (g f : Offering) (a b : Answering)
+    → (h.requests == 0) ≡ false → (k.requests == 0) ≡ false
     → suc (way (ends false true to 0 msg cd true true y) k f b) ≤ way (ends false false atn 0 msg cd true true y) h g a
 answers atn to msg cd y h k g f a b asked still =
     let first = no_first (h.requests == 0) true (y == 0) asked in
@@ -39,18 +43,24 @@ answers atn to msg cd y h k g f a b asked still =
 
 -- It drives its byte, and raises ACK with it.
 pub gives : (atn to msg cd : Bool) (x : ℕ) (h : Handshakes) (g f : Offering) (a b : Answering) → (x == 0) ≡ false
-    → suc (way (ends false false to x msg cd false true 0) h f b) ≤ way (ends false false atn 0 msg cd false true 0) h g a
+    → suc (way (ends false false to x msg cd false true 0) h f b)
+    ≤ way (ends false false atn 0 msg cd false true 0) h g a
 gives atn to msg cd x h g f a b some =
     let one : one_where (not (x == 0)) ≡ 1 = ap (λ (q : Bool). one_where (not q)) some in
-    let two : one_where (not (x == 0) && true && true) ≡ 1 = ap (λ (q : Bool). one_where (not q && true && true)) some in
+    let two : one_where (not (x == 0) && true && true) ≡ 1 = ap
+    (λ (q : Bool). one_where (not q && true && true)) some in
     omega arith
 
-pub sends : (atn msg cd : Bool) (x : ℕ) (h k : Handshakes) (g f : Offering) (a b : Answering) → (h.requests == 0) ≡ (k.requests == 0) → (x == 0) ≡ false
-    → suc (way (ends false true atn x msg cd false true 0) k f b) ≤ way (ends false false atn x msg cd false true 0) h g a
+pub sends : (atn msg cd : Bool) (x : ℕ) (h k : Handshakes) (g f : Offering) (a b : Answering)
+    → (h.requests == 0) ≡ (k.requests == 0) → (x == 0) ≡ false
+    → suc (way (ends false true atn x msg cd false true 0) k f b)
+    ≤ way (ends false false atn x msg cd false true 0) h g a
 sends atn msg cd x h k g f a b same some =
     let one : one_where (not (x == 0)) ≡ 1 = ap (λ (q : Bool). one_where (not q)) some in
-    let two : one_where (not (x == 0) && true && true) ≡ 1 = ap (λ (q : Bool). one_where (not q && true && true)) some in
-    let first : one_where (h.requests == 0 && false && true) ≡ one_where (k.requests == 0 && false && true) = ap (λ (q : Bool). one_where (q && false && true)) same in
+    let two : one_where (not (x == 0) && true && true) ≡ 1 = ap
+    (λ (q : Bool). one_where (not q && true && true)) some in
+    let first : one_where (h.requests == 0 && false && true) ≡ one_where (k.requests == 0 && false && true) = ap
+    (λ (q : Bool). one_where (q && false && true)) same in
     omega arith
 
 -- The initiator hands BSY over.

@@ -10,7 +10,8 @@ use Rattle.bus_due.specs.bus_dialogue.specs.declared.exchange.Said.{Said}
 
 -- ---- what is heard and struck is no matter to them
 
-heard_words : (b : Bool) (p : Plan) (x : Said) (y : Bool) (c : Cause) → after_words b (record p { said = x; struck = y }) c ≡ after_words b p c
+heard_words : (b : Bool) (p : Plan) (x : Said) (y : Bool) (c : Cause)
+    → after_words b (record p { said = x; struck = y }) c ≡ after_words b p c
 heard_words b p x y Cause.Selected = refl
 heard_words true p x y Cause.InMessage = refl
 heard_words false p x y Cause.InMessage = refl
@@ -19,11 +20,13 @@ heard_words false p x y Cause.InData = refl
 heard_words true p x y Cause.InStatus = refl
 heard_words false p x y Cause.InStatus = refl
 
-heard_phases : (b : Bool) (p : Plan) (x : Said) (y : Bool) (phase : Phase) → phases_in b (record p { said = x; struck = y }) phase ≡ phases_in b p phase
+heard_phases : (b : Bool) (p : Plan) (x : Said) (y : Bool) (phase : Phase)
+    → phases_in b (record p { said = x; struck = y }) phase ≡ phases_in b p phase
 heard_phases b p x y Phase.MessageOut = heard_words b p x y p.cause
 heard_phases b p x y _ = refl
 
-byte_phases : (b : Bool) (p : Plan) (last : Bool) (m : Option MsgOut) (out : Bool) (phase : Phase) → phases_in b (if out then plan_after_message p last m else p) phase ≡ phases_in b p phase
+byte_phases : (b : Bool) (p : Plan) (last : Bool) (m : Option MsgOut) (out : Bool) (phase : Phase)
+    → phases_in b (if out then plan_after_message p last m else p) phase ≡ phases_in b p phase
 byte_phases b p true m true phase = heard_phases b p (said_with_if m nothing_heard) false phase
 byte_phases b p false m true phase = heard_phases b p (said_with_if m p.said) p.struck phase
 byte_phases b p last m false phase = refl
@@ -31,19 +34,27 @@ byte_phases b p last m false phase = refl
 -- ---- a row
 
 -- What is said and planned, by whether a byte crosses.
-pub shift_exchange : (s : ScenarioValue) (p : List Row) (t d : ℕ) (l : LineSet) (n : Connection) (e f : EndLines) (o : LineSet) (u : Bool) → Shifts s p t d l n e f o u → (r : Option ℕ) → receiver_in n (turn e f o l) ≡ r
-    → (run_state s (row_of_lines t d l ∷ p)).exchange ≡ still_talk false (is_some r) false (host_of s n.initiator) (hearing_of (run_state s p) (row_of_lines t d l) (reading_in (run_state s p).story.bus_state n (turn e f o l) (is_some r))) (leaving s (run_state s p) n.target) (run_state s p).exchange
-shift_exchange s p t d l n e f o u h None er =
-    (in_connection s (run_state s p) (row_of_lines t d l) n (turn e f o l) false false false (row_in s p t d l n e f o h.row (still refl h.phase er)) h.phase (ap (λ (x : Option ℕ). is_some x) er) refl).exchange_is
-shift_exchange s p t d l n e f o u h (Some dev) er =
-    (in_connection s (run_state s p) (row_of_lines t d l) n (turn e f o l) false true false (row_in s p t d l n e f o h.row (crosses dev refl h.phase er)) h.phase (ap (λ (x : Option ℕ). is_some x) er) refl).exchange_is
+pub shift_exchange : (s : ScenarioValue) (p : List Row) (t d : ℕ) (l : LineSet) (n : Connection) (e f : EndLines)
+    (o : LineSet) (u : Bool) → Shifts s p t d l n e f o u → (r : Option ℕ) → receiver_in n (turn e f o l) ≡ r
+    → (run_state s (row_of_lines t d l ∷ p)).exchange
+    ≡ still_talk false (is_some r) false (host_of s n.initiator) (hearing_of (run_state s p) (row_of_lines t d l)
+    (reading_in (run_state s p).story.bus_state n (turn e f o l) (is_some r))) (leaving s (run_state s p) n.target)
+    (run_state s p).exchange
+shift_exchange s p t d l n e f o u h None er = (in_connection s (run_state s p) (row_of_lines t d l) n
+    (turn e f o l) false false false (row_in s p t d l n e f o h.row (still refl h.phase er)) h.phase
+    (ap (λ (x : Option ℕ). is_some x) er) refl).exchange_is
+shift_exchange s p t d l n e f o u h (Some dev) er = (in_connection s (run_state s p) (row_of_lines t d l) n
+    (turn e f o l) false true false (row_in s p t d l n e f o h.row (crosses dev refl h.phase er)) h.phase
+    (ap (λ (x : Option ℕ). is_some x) er) refl).exchange_is
 
-talk_phases : (b : Bool) (w : Hearing) (x : Exchange) (now : Bool) (phase : Phase) → phases_in b (if now then plan_with_byte w x.plan else x.plan) phase ≡ phases_in b x.plan phase
+talk_phases : (b : Bool) (w : Hearing) (x : Exchange) (now : Bool) (phase : Phase)
+    → phases_in b (if now then plan_with_byte w x.plan else x.plan) phase ≡ phases_in b x.plan phase
 talk_phases b w x true phase = byte_phases b x.plan w.is_last w.out (is_message_out w.change.before) phase
 talk_phases b w x false phase = refl
 
-pub phases_stay : (s : ScenarioValue) (p : List Row) (t d : ℕ) (l : LineSet) (n : Connection) (e f : EndLines) (o : LineSet) (u : Bool) → Shifts s p t d l n e f o u → (b : Bool)
-    → phases_left b (run_state s (row_of_lines t d l ∷ p)) ≡ phases_left b (run_state s p)
+pub phases_stay : (s : ScenarioValue) (p : List Row) (t d : ℕ) (l : LineSet)
+    (n : Connection) (e f : EndLines) (o : LineSet) (u : Bool) → Shifts s p t d l n e f o u
+    → (b : Bool) → phases_left b (run_state s (row_of_lines t d l ∷ p)) ≡ phases_left b (run_state s p)
 phases_stay s p t d l n e f o u h b =
     let row : Row = row_of_lines t d l in
     let k = run_state s p in
@@ -53,24 +64,30 @@ phases_stay s p t d l n e f o u h b =
     let pk = run_state_plain s p h.row.devices in
     let pj = run_state_plain s (row ∷ p) (h.row.below, h.row.devices) in
     let exchange = shift_exchange s p t d l n e f o u h r refl in
-    let phase : phase_of (bus_of j) ≡ phase_of (bus_of k) = ap phase_of (pj.bus ∙ h.row.moves.linked.stands.bus_is) ∙ h.same_phase ∙ sym (ap phase_of (pk.bus ∙ h.row.was.stands.bus_is)) in
+    let phase : phase_of (bus_of j) ≡ phase_of (bus_of k) = ap phase_of (pj.bus ∙ h.row.moves.linked.stands.bus_is)
+    ∙ h.same_phase ∙ sym (ap phase_of (pk.bus ∙ h.row.was.stands.bus_is)) in
     (λ i. if (exchange i).begun then phases_in b (exchange i).plan (phase i) else for_reselection + 8 * for_phase)
-    ∙ (λ i. if k.exchange.begun then talk_phases b w k.exchange (is_some r) (phase_of (bus_of k)) i else for_reselection + 8 * for_phase)
+    ∙ (λ i. if k.exchange.begun then talk_phases b w k.exchange (is_some r) (phase_of (bus_of k)) i
+    else for_reselection + 8 * for_phase)
 
 -- So do the messages.
-byte_messages : (p : Plan) (last : Bool) (m : Option MsgOut) (out : Bool) → (if out then plan_after_message p last m else p).messages ≡ p.messages
+byte_messages : (p : Plan) (last : Bool) (m : Option MsgOut) (out : Bool)
+    → (if out then plan_after_message p last m else p).messages ≡ p.messages
 byte_messages p true m true = refl
 byte_messages p false m true = refl
 byte_messages p last m false = refl
 
-talk_messages : (w : Hearing) (x : Exchange) (now : Bool) → (if now then plan_with_byte w x.plan else x.plan).messages ≡ x.plan.messages
+talk_messages : (w : Hearing) (x : Exchange) (now : Bool)
+    → (if now then plan_with_byte w x.plan else x.plan).messages ≡ x.plan.messages
 talk_messages w x true = byte_messages x.plan w.is_last w.out (is_message_out w.change.before)
 talk_messages w x false = refl
 
-pub messages_stay : (s : ScenarioValue) (p : List Row) (t d : ℕ) (l : LineSet) (n : Connection) (e f : EndLines) (o : LineSet) (u : Bool) → Shifts s p t d l n e f o u
+pub messages_stay : (s : ScenarioValue) (p : List Row) (t d : ℕ) (l : LineSet)
+    (n : Connection) (e f : EndLines) (o : LineSet) (u : Bool) → Shifts s p t d l n e f o u
     → (run_state s (row_of_lines t d l ∷ p)).exchange.plan.messages ≡ (run_state s p).exchange.plan.messages
 messages_stay s p t d l n e f o u h =
     let k = run_state s p in
     let r = receiver_in n (turn e f o l) in
     ap (λ (x : Exchange). x.plan.messages) (shift_exchange s p t d l n e f o u h r refl)
-    ∙ talk_messages (hearing_of k (row_of_lines t d l) (reading_in k.story.bus_state n (turn e f o l) (is_some r))) k.exchange (is_some r)
+    ∙ talk_messages (hearing_of k (row_of_lines t d l) (reading_in k.story.bus_state n (turn e f o l) (is_some r)))
+    k.exchange (is_some r)

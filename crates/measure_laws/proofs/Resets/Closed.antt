@@ -10,28 +10,34 @@ use proofs.{Names.{none_some, raises_or_stands, more_has, own_has}, Lines.Lowers
 
 -- ---- what an event that names a command leaves of it
 
-ends_more : (s : ScenarioValue) (drops stops : CmdDef → Bool) (e : Ending) (n : ℕ) (commands : List CmdDef) (b : Story) (i : Item) → has_item b.sent.over i ≡ true → has_item (story_with_ends drops stops e n commands b).sent.over i ≡ true
+ends_more : (s : ScenarioValue) (drops stops : CmdDef → Bool)
+    (e : Ending) (n : ℕ) (commands : List CmdDef) (b : Story) (i : Item)
+    → has_item b.sent.over i ≡ true → has_item (story_with_ends drops stops e n commands b).sent.over i ≡ true
 ends_more s drops stops e n [] b i h = h
-ends_more s drops stops e n (c ∷ commands) b i h =
-    ends_more s drops stops e (n + 1) commands _ i (go (is_open b.sent n && drops c) (stops c && list_any (λ m. m == n) b.sent.checks))
+ends_more s drops stops e n (c ∷ commands) b i h = ends_more s drops stops e (n + 1) commands _ i
+    (go (is_open b.sent n && drops c) (stops c && list_any (λ m. m == n) b.sent.checks))
   where
-    go : (q r : Bool) → has_item (if q then story_with_end b (record { command = n; sense = false }) e else if r then story_with_over b (sense_item n) else b).sent.over i ≡ true
+    go : (q r : Bool) → has_item (if q then story_with_end b (record { command = n; sense = false }) e
+        else if r then story_with_over b (sense_item n) else b).sent.over i ≡ true
     go true r = more_has (command_item n) i b.sent.over h
     go false true = more_has (sense_item n) i b.sent.over h
     go false false = h
 
-ends_close : (s : ScenarioValue) (drops stops : CmdDef → Bool) (e : Ending) (j k : ℕ) (commands : List CmdDef) (b : Story) (c : CmdDef) → command_at commands (suc k) ≡ Some c → drops c ≡ true → has_item b.sent.sent (command_item (suc (j + k))) ≡ true
+ends_close : (s : ScenarioValue) (drops stops : CmdDef → Bool) (e : Ending)
+    (j k : ℕ) (commands : List CmdDef) (b : Story) (c : CmdDef)
+    → command_at commands (suc k) ≡ Some c → drops c ≡ true → has_item b.sent.sent (command_item (suc (j + k))) ≡ true
     → has_item (story_with_ends drops stops e (suc j) commands b).sent.over (command_item (suc (j + k))) ≡ true
 ends_close s drops stops e j k [] b c at d sent = none_some c at
 ends_close s drops stops e j zero (x ∷ commands) b c at d sent =
     let same : suc (j + 0) ≡ suc j = omega arith in
-    let there : has_item b.sent.sent (command_item (suc j)) ≡ true = ap (λ (m : ℕ). has_item b.sent.sent (command_item m)) (sym same) ∙ sent in
+    let there : has_item b.sent.sent (command_item (suc j)) ≡ true =
+    ap (λ (m : ℕ). has_item b.sent.sent (command_item m)) (sym same) ∙ sent in
     let next : Story =
     if is_open b.sent (suc j) && drops x then story_with_end b (record { command = suc j; sense = false }) e
-    else if stops x && list_any (λ m. m == suc j) b.sent.checks then story_with_over b (sense_item (suc j))
-    else b in
+    else if stops x && list_any (λ m. m == suc j) b.sent.checks then story_with_over b (sense_item (suc j)) else b in
     ap (λ (m : ℕ). has_item (story_with_ends drops stops e (suc j) (x ∷ commands) b).sent.over (command_item m)) same
-    ∙ ends_more s drops stops e (suc j + 1) commands next (command_item (suc j)) (by there (ap drops (same_Some x c at) ∙ d) (has_item b.sent.over (command_item (suc j))) refl)
+    ∙ ends_more s drops stops e (suc j + 1) commands next (command_item (suc j))
+    (by there (ap drops (same_Some x c at) ∙ d) (has_item b.sent.over (command_item (suc j))) refl)
   where
     after : Bool → Story
     after q =
@@ -39,34 +45,46 @@ ends_close s drops stops e j zero (x ∷ commands) b c at d sent =
         else if stops x && list_any (λ m. m == suc j) b.sent.checks then story_with_over b (sense_item (suc j))
         else b
 
-    still : (q r : Bool) → has_item b.sent.over (command_item (suc j)) ≡ true → has_item (if q then story_with_end b (record { command = suc j; sense = false }) e else if r then story_with_over b (sense_item (suc j)) else b).sent.over (command_item (suc j)) ≡ true
+    still : (q r : Bool) → has_item b.sent.over (command_item (suc j)) ≡ true
+        → has_item (if q then story_with_end b (record { command = suc j; sense = false }) e
+        else if r then story_with_over b (sense_item (suc j)) else b).sent.over (command_item (suc j)) ≡ true
     still true r h = more_has (command_item (suc j)) (command_item (suc j)) b.sent.over h
     still false true h = more_has (sense_item (suc j)) (command_item (suc j)) b.sent.over h
     still false false h = h
 
-    by : has_item b.sent.sent (command_item (suc j)) ≡ true → drops x ≡ true → (o : Bool) → has_item b.sent.over (command_item (suc j)) ≡ o → has_item (after (is_open b.sent (suc j) && drops x)).sent.over (command_item (suc j)) ≡ true
-    by there dx true f = still (is_open b.sent (suc j) && drops x) (stops x && list_any (λ m. m == suc j) b.sent.checks) f
-    by there dx false f = (λ i. has_item (after ((there i && not (f i)) && dx i)).sent.over (command_item (suc j))) ∙ own_has (command_item (suc j)) b.sent.over
+    by : has_item b.sent.sent (command_item (suc j)) ≡ true → drops x ≡ true
+        → (o : Bool) → has_item b.sent.over (command_item (suc j)) ≡ o
+        → has_item (after (is_open b.sent (suc j) && drops x)).sent.over (command_item (suc j)) ≡ true
+    by there dx true f =
+        still (is_open b.sent (suc j) && drops x) (stops x && list_any (λ m. m == suc j) b.sent.checks) f
+    by there dx false f = (λ i. has_item (after ((there i && not (f i)) && dx i)).sent.over (command_item (suc j)))
+        ∙ own_has (command_item (suc j)) b.sent.over
 ends_close s drops stops e j (suc k) (x ∷ commands) b c at d sent =
     let next : Story =
     if is_open b.sent (suc j) && drops x then story_with_end b (record { command = suc j; sense = false }) e
-    else if stops x && list_any (λ m. m == suc j) b.sent.checks then story_with_over b (sense_item (suc j))
-    else b in
+    else if stops x && list_any (λ m. m == suc j) b.sent.checks then story_with_over b (sense_item (suc j)) else b in
     let moved : suc (j + suc k) ≡ suc (suc j + k) = omega arith in
     let one_more : suc (suc j) ≡ suc j + 1 = omega arith in
     (λ i. has_item (story_with_ends drops stops e (sym one_more i) commands next).sent.over (command_item (moved i)))
-    ∙ ends_close s drops stops e (suc j) k commands next c at d (same_sent (is_open b.sent (suc j) && drops x) (stops x && list_any (λ m. m == suc j) b.sent.checks) ∙ ap (λ (m : ℕ). has_item b.sent.sent (command_item m)) (sym moved) ∙ sent)
+    ∙ ends_close s drops stops e (suc j) k commands next c at d
+    (same_sent (is_open b.sent (suc j) && drops x) (stops x && list_any (λ m. m == suc j) b.sent.checks)
+    ∙ ap (λ (m : ℕ). has_item b.sent.sent (command_item m)) (sym moved) ∙ sent)
   where
-    same_sent : (q r : Bool) → has_item (if q then story_with_end b (record { command = suc j; sense = false }) e else if r then story_with_over b (sense_item (suc j)) else b).sent.sent (command_item (suc (suc j + k))) ≡ has_item b.sent.sent (command_item (suc (suc j + k)))
+    same_sent : (q r : Bool) → has_item (if q then story_with_end b (record { command = suc j; sense = false }) e
+        else if r then story_with_over b (sense_item (suc j)) else b).sent.sent (command_item (suc (suc j + k)))
+        ≡ has_item b.sent.sent (command_item (suc (suc j + k)))
     same_sent true r = refl
     same_sent false true = refl
     same_sent false false = refl
 
-reset_over : (s : ScenarioValue) (b : Story) (dev n : ℕ) (c : CmdDef) → command_at s.commands n ≡ Some c → has_item b.sent.sent (command_item n) ≡ true → has_item (story_after_event s b (Event.Reset dev)).sent.over (command_item n) ≡ true
+reset_over : (s : ScenarioValue) (b : Story) (dev n : ℕ) (c : CmdDef)
+    → command_at s.commands n ≡ Some c → has_item b.sent.sent (command_item n) ≡ true
+    → has_item (story_after_event s b (Event.Reset dev)).sent.over (command_item n) ≡ true
 reset_over s b dev zero c at sent = none_some c (sym (none_at s.commands) ∙ at)
 reset_over s b dev (suc n) c at sent =
     ap (λ (j : ℕ). has_item (story_after_event s b (Event.Reset dev)).sent.over (command_item j)) (sym one_less)
-    ∙ ends_close s (λ x. true) (λ x. true) by_reset 0 n s.commands b c at refl (ap (λ (j : ℕ). has_item b.sent.sent (command_item j)) one_less ∙ sent)
+    ∙ ends_close s (λ x. true) (λ x. true) by_reset 0 n s.commands b c at refl
+    (ap (λ (j : ℕ). has_item b.sent.sent (command_item j)) one_less ∙ sent)
   where
     one_less : suc (0 + n) ≡ suc n
     one_less = omega arith
@@ -83,32 +101,46 @@ reset_closes s b dev n c at = go (has_item b.sent.sent (command_item n)) refl
     next = (story_after_event s b (Event.Reset dev)).sent
 
     go : (q : Bool) → has_item b.sent.sent (command_item n) ≡ q → is_open next n ≡ false
-    go true e = (λ i. has_item next.sent (command_item n) && not (reset_over s b dev n c at e i)) ∙ never (has_item next.sent (command_item n))
+    go true e = (λ i. has_item next.sent (command_item n) && not (reset_over s b dev n c at e i))
+        ∙ never (has_item next.sent (command_item n))
       where
         never : (q : Bool) → (q && not true) ≡ false
         never true = refl
         never false = refl
-    go false e = λ i. (ap (λ (x : List Item). has_item x (command_item n)) (event_sent s b (Event.Reset dev)) ∙ e) i && not (has_item next.over (command_item n))
+    go false e = λ i. (ap (λ (x : List Item). has_item x (command_item n)) (event_sent s b (Event.Reset dev)) ∙ e) i
+        && not (has_item next.over (command_item n))
 
 -- ---- a row after which RST is true
 
 abbrev rst_events : Bool → ℕ → List Event
 rst_events q dev = if q then Event.Reset dev ∷ [] else []
 
-rst_sent : (s : ScenarioValue) (k : RunState) (row : Row) (d : RowReading) → d ≡ row_reading k.story.bus_state row → d.change.after.rst ≡ true
-    → (story_after_events s (if d.change.after.rst then record k.story { link = None } else story_on_bus s k.story k.story.bus_state.connection d.next d row) (if d.change.after.rst then rst_events (rises d.change.own.rst d.change.next.rst) row.dev else link_events s k.story k.story.link d)).sent
-    ≡ (story_after_events s (record k.story { link = None }) (rst_events (rises d.change.own.rst d.change.next.rst) row.dev)).sent
-rst_sent s k row d same on = ap (λ (q : Bool). (story_after_events s (if q then record k.story { link = None } else story_on_bus s k.story k.story.bus_state.connection d.next d row) (if q then rst_events (rises d.change.own.rst d.change.next.rst) row.dev else link_events s k.story k.story.link d)).sent) on
+rst_sent : (s : ScenarioValue) (k : RunState) (row : Row) (d : RowReading)
+    → d ≡ row_reading k.story.bus_state row → d.change.after.rst ≡ true
+    → (story_after_events s (if d.change.after.rst then record k.story { link = None }
+    else story_on_bus s k.story k.story.bus_state.connection d.next d row)
+    (if d.change.after.rst then rst_events (rises d.change.own.rst d.change.next.rst) row.dev
+    else link_events s k.story k.story.link d)).sent ≡ (story_after_events s (record k.story { link = None })
+    (rst_events (rises d.change.own.rst d.change.next.rst) row.dev)).sent
+rst_sent s k row d same on = ap (λ (q : Bool). (story_after_events s
+    (if q then record k.story { link = None } else story_on_bus s k.story k.story.bus_state.connection d.next d row)
+    (if q then rst_events (rises d.change.own.rst d.change.next.rst) row.dev
+    else link_events s k.story k.story.link d)).sent) on
 
 pub record UnderReset (s : ScenarioValue) (p : List Row) (row : Row) : Type 0 where
   pub lowers : Lowers (run_state s p).story.sent (run_state s (row ∷ p)).story.sent
-  pub raised : rises (drives p row.dev).rst (driven_after row.kind (drives p row.dev)).rst ≡ true → AreClosed s (run_state s (row ∷ p)).story.sent
-  pub stays : rises (drives p row.dev).rst (driven_after row.kind (drives p row.dev)).rst ≡ false → (run_state s (row ∷ p)).story.sent ≡ (run_state s p).story.sent
+  pub raised : rises (drives p row.dev).rst (driven_after row.kind (drives p row.dev)).rst ≡ true
+      → AreClosed s (run_state s (row ∷ p)).story.sent
+  pub stays : rises (drives p row.dev).rst (driven_after row.kind (drives p row.dev)).rst ≡ false
+      → (run_state s (row ∷ p)).story.sent ≡ (run_state s p).story.sent
 
-pub under_reset_row : (s : ScenarioValue) (p : List Row) (row : Row) → AreOfDevices p → row.dev < 8 → (bus (row ∷ p)).rst ≡ true → UnderReset s p row
+pub under_reset_row : (s : ScenarioValue) (p : List Row) (row : Row) → AreOfDevices p → row.dev < 8
+    → (bus (row ∷ p)).rst ≡ true → UnderReset s p row
 under_reset_row s p row dv lt on = record {
   lowers = subst (λ (x : Sent). Lowers k.story.sent x) (sym is) (lowers_by (rises d.change.own.rst d.change.next.rst));
-  raised = λ e. subst (λ (x : Sent). AreClosed s x) (sym (is ∙ ap (λ (q : Bool). (story_after_events s plain (rst_events q row.dev)).sent) (rise ∙ e))) (reset_closes s plain row.dev);
+  raised = λ e. subst (λ (x : Sent). AreClosed s x)
+      (sym (is ∙ ap (λ (q : Bool). (story_after_events s plain (rst_events q row.dev)).sent) (rise ∙ e)))
+      (reset_closes s plain row.dev);
   stays = λ e. is ∙ ap (λ (q : Bool). (story_after_events s plain (rst_events q row.dev)).sent) (rise ∙ e);
 }
   where
@@ -124,24 +156,30 @@ under_reset_row s p row dv lt on = record {
     c : d.change ≡ change_of p row
     c = change_plain s row p dv lt
 
-    rise : rises d.change.own.rst d.change.next.rst ≡ rises (drives p row.dev).rst (driven_after row.kind (drives p row.dev)).rst
+    rise : rises d.change.own.rst d.change.next.rst
+        ≡ rises (drives p row.dev).rst (driven_after row.kind (drives p row.dev)).rst
     rise = ap (λ (x : Change). rises x.own.rst x.next.rst) c
 
-    is : (run_state s (row ∷ p)).story.sent ≡ (story_after_events s plain (rst_events (rises d.change.own.rst d.change.next.rst) row.dev)).sent
+    is : (run_state s (row ∷ p)).story.sent
+        ≡ (story_after_events s plain (rst_events (rises d.change.own.rst d.change.next.rst) row.dev)).sent
     is = rst_sent s k row d refl (ap (λ (x : Change). x.after.rst) c ∙ on)
 
     lowers_by : (q : Bool) → Lowers k.story.sent (story_after_events s plain (rst_events q row.dev)).sent
     lowers_by true = events_lower s plain (Event.Reset row.dev ∷ []) (tt, tt)
     lowers_by false = lowers_same k.story.sent plain.sent refl
 
-pub closed_under_reset : (s : ScenarioValue) (p : List Row) → AreOfDevices p → (bus p).rst ≡ true → AreClosed s (run_state s p).story.sent
+pub closed_under_reset : (s : ScenarioValue) (p : List Row) → AreOfDevices p → (bus p).rst ≡ true
+    → AreClosed s (run_state s p).story.sent
 closed_under_reset s [] dv on = wrong (sym on ∙ bus_off (λ (l : LineSet). l.rst) (λ _ _. refl) refl [] (λ d lt. refl))
-closed_under_reset s (row ∷ p) dv on = go (λ f. closed_under_reset s p dv.1 f) (rises (drives p row.dev).rst (driven_after row.kind (drives p row.dev)).rst) refl (bus p).rst refl
+closed_under_reset s (row ∷ p) dv on = go (λ f. closed_under_reset s p dv.1 f)
+    (rises (drives p row.dev).rst (driven_after row.kind (drives p row.dev)).rst) refl (bus p).rst refl
   where
     u : UnderReset s p row
     u = under_reset_row s p row dv.1 dv.0 on
 
-    go : ((bus p).rst ≡ true → AreClosed s (run_state s p).story.sent) → (q : Bool) → rises (drives p row.dev).rst (driven_after row.kind (drives p row.dev)).rst ≡ q → (r : Bool) → (bus p).rst ≡ r → AreClosed s (run_state s (row ∷ p)).story.sent
+    go : ((bus p).rst ≡ true → AreClosed s (run_state s p).story.sent) → (q : Bool)
+        → rises (drives p row.dev).rst (driven_after row.kind (drives p row.dev)).rst ≡ q → (r : Bool) → (bus p).rst ≡ r
+        → AreClosed s (run_state s (row ∷ p)).story.sent
     go before true e r f = u.raised e
     go before false e true f = subst (λ (x : Sent). AreClosed s x) (sym (u.stays e)) (before f)
     go before false e false f = wrong' ((λ i. sym f i || sym e i) ∙ raises_or_stands p row dv.0 on)

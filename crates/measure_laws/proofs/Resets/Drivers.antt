@@ -25,13 +25,15 @@ swapped_last : (a b x y : ℕ) → a ≡ b → (a + y) + x ≡ (b + x) + y
 swapped_last a b x y h = omega (arith, h)
 
 -- Where all but that of one device stays.
-pub sum_swap : (n d : ℕ) (f g : ℕ → ℕ) → ((e : ℕ) → e < n → e ≢ d → g e ≡ f e) → d < n → sum_to n g + f d ≡ sum_to n f + g d
+pub sum_swap : (n d : ℕ) (f g : ℕ → ℕ) → ((e : ℕ) → e < n → e ≢ d → g e ≡ f e) → d < n
+    → sum_to n g + f d ≡ sum_to n f + g d
 sum_swap zero d f g h lt = absurd (omega (arith, lt))
 sum_swap (suc n) d f g h lt =
     elim (cases_eq d n) [
       | inl same ↦
           let rest = sum_same n f g (λ e l. h e (omega (arith, l)) (λ z. absurd (omega (arith, l, z, same)))) in
-          (λ i. sum_to n g + g (sym same i) + f d) ∙ swapped_last (sum_to n g) (sum_to n f) (f d) (g d) rest ∙ (λ i. sum_to n f + f (same i) + g d)
+          (λ i. sum_to n g + g (sym same i) + f d) ∙ swapped_last (sum_to n g) (sum_to n f) (f d) (g d) rest
+          ∙ (λ i. sum_to n f + f (same i) + g d)
       | inr ne ↦
           let l : d < n = omega (arith, lt, ne) in
           let rest = sum_swap n d f g (λ e l ne. h e (omega (arith, l)) ne) l in
@@ -61,10 +63,12 @@ as_sum : (f : ℕ → ℕ) → sum_to 8 f ≡ all_of f
 as_sum f = omega arith
 
 abbrev pub busy : (ℕ → LineSet) → ℕ
-busy f = busy_one (f 0) + busy_one (f 1) + busy_one (f 2) + busy_one (f 3) + busy_one (f 4) + busy_one (f 5) + busy_one (f 6) + busy_one (f 7)
+busy f = busy_one (f 0) + busy_one (f 1) + busy_one (f 2) + busy_one (f 3) + busy_one (f 4) + busy_one (f 5)
+    + busy_one (f 6) + busy_one (f 7)
 
 abbrev pub quiet : (ℕ → LineSet) → ℕ
-quiet f = quiet_one (f 0) + quiet_one (f 1) + quiet_one (f 2) + quiet_one (f 3) + quiet_one (f 4) + quiet_one (f 5) + quiet_one (f 6) + quiet_one (f 7)
+quiet f = quiet_one (f 0) + quiet_one (f 1) + quiet_one (f 2) + quiet_one (f 3) + quiet_one (f 4) + quiet_one (f 5)
+    + quiet_one (f 6) + quiet_one (f 7)
 
 one_or : (l : LineSet) → busy_one l + quiet_one l ≡ 1
 one_or l =
@@ -76,14 +80,16 @@ all_devices f =
     ∙ sum_both 8 (λ e. busy_one (f e)) (λ e. quiet_one (f e)) (λ e. one_or (f e))
 
 pub busy_same : (f g : ℕ → LineSet) → ((e : ℕ) → e < 8 → g e ≡ f e) → busy g ≡ busy f
-busy_same f g h =
-    sym (as_sum (λ e. busy_one (g e))) ∙ sum_same 8 (λ e. busy_one (f e)) (λ e. busy_one (g e)) (λ e l. ap busy_one (h e l)) ∙ as_sum (λ e. busy_one (f e))
+busy_same f g h = sym (as_sum (λ e. busy_one (g e)))
+    ∙ sum_same 8 (λ e. busy_one (f e)) (λ e. busy_one (g e)) (λ e l. ap busy_one (h e l)) ∙ as_sum (λ e. busy_one (f e))
 
 pub quiet_same : (f g : ℕ → LineSet) → ((e : ℕ) → e < 8 → g e ≡ f e) → quiet g ≡ quiet f
-quiet_same f g h =
-    sym (as_sum (λ e. quiet_one (g e))) ∙ sum_same 8 (λ e. quiet_one (f e)) (λ e. quiet_one (g e)) (λ e l. ap quiet_one (h e l)) ∙ as_sum (λ e. quiet_one (f e))
+quiet_same f g h = sym (as_sum (λ e. quiet_one (g e)))
+    ∙ sum_same 8 (λ e. quiet_one (f e)) (λ e. quiet_one (g e)) (λ e l. ap quiet_one (h e l))
+    ∙ as_sum (λ e. quiet_one (f e))
 
-pub busy_swap : (f g : ℕ → LineSet) (d : ℕ) → ((e : ℕ) → e < 8 → e ≢ d → g e ≡ f e) → d < 8 → busy g + busy_one (f d) ≡ busy f + busy_one (g d)
+pub busy_swap : (f g : ℕ → LineSet) (d : ℕ) → ((e : ℕ) → e < 8 → e ≢ d → g e ≡ f e) → d < 8
+    → busy g + busy_one (f d) ≡ busy f + busy_one (g d)
 busy_swap f g d h lt =
     (λ i. sym (as_sum (λ e. busy_one (g e))) i + busy_one (f d))
     ∙ sum_swap 8 d (λ e. busy_one (f e)) (λ e. busy_one (g e)) (λ e l ne. ap busy_one (h e l ne)) lt
@@ -98,10 +104,11 @@ few_drivers k = least (busy (drives_of k)) (quiet (drives_of k)) (all_devices (d
     least a b e = omega (arith, e)
 
 -- A device that drives something lets all its lines go.
-pub lets_go : (s : ScenarioValue) (p : List Row) (t d : ℕ) → AreOfDevices p → d < 8 → same_set (drives p d) none ≡ false → suc (drivers (run_state s (row_of_lines t d none ∷ p))) ≡ drivers (run_state s p)
-lets_go s p t d dv lt some =
-    one_less (busy (drives_of j)) (busy (drives_of k)) (busy_one (drives_of k d)) (busy_one (drives_of j d))
-    (busy_swap (drives_of k) (drives_of j) d (λ e le ne. pj.drives e le ∙ drives_other p t d none e ne ∙ sym (pk.drives e le)) lt)
+pub lets_go : (s : ScenarioValue) (p : List Row) (t d : ℕ) → AreOfDevices p → d < 8 → same_set (drives p d) none ≡ false
+    → suc (drivers (run_state s (row_of_lines t d none ∷ p))) ≡ drivers (run_state s p)
+lets_go s p t d dv lt some = one_less (busy (drives_of j)) (busy (drives_of k))
+    (busy_one (drives_of k d)) (busy_one (drives_of j d)) (busy_swap (drives_of k) (drives_of j) d
+    (λ e le ne. pj.drives e le ∙ drives_other p t d none e ne ∙ sym (pk.drives e le)) lt)
     (ap busy_one (pk.drives d lt) ∙ ap (λ (q : Bool). if q then 0 else 1) some)
     (ap busy_one (pj.drives d lt ∙ drives_own p t d none))
   where

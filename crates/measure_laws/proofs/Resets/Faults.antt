@@ -10,11 +10,16 @@ driven_other : (xs : List LineSet) (i j : ℕ) (v : LineSet) → i ≢ j → dri
 driven_other xs i j v h = grind (arith, common_steps, elements)
 
 one_stays : (s : ScenarioValue) (p : List Row) (t d bit : ℕ) → AreOfDevices p → d < 8 → (dev at : ℕ)
-    → awaits_reset (drives_of (run_state s (row_of_fault t d bit ∷ p)) dev).rst (own_at (run_state s (row_of_fault t d bit ∷ p)).owns dev) at ≡ awaits_reset (drives_of (run_state s p) dev).rst (own_at (run_state s p).owns dev) at
+    → awaits_reset (drives_of (run_state s (row_of_fault t d bit ∷ p)) dev).rst
+    (own_at (run_state s (row_of_fault t d bit ∷ p)).owns dev) at
+    ≡ awaits_reset (drives_of (run_state s p) dev).rst (own_at (run_state s p).owns dev) at
 one_stays s p t d bit dv lt dev at =
     elim (cases_eq d dev) [
-      | inl e ↦ subst (λ (x : ℕ). awaits_reset (drives_of j x).rst (own_at j.owns x) at ≡ awaits_reset (drives_of k x).rst (own_at k.owns x) at) e own
-      | inr ne ↦ (λ i. awaits_reset (driven_other k.story.bus_state.driven d dev (row_reading k.story.bus_state row).change.next ne i).rst (own_at k.owns dev) at)
+      | inl e ↦ subst (λ (x : ℕ). awaits_reset (drives_of j x).rst (own_at j.owns x) at
+          ≡ awaits_reset (drives_of k x).rst (own_at k.owns x) at) e own
+      | inr ne ↦ (λ i. awaits_reset
+          (driven_other k.story.bus_state.driven d dev (row_reading k.story.bus_state row).change.next ne i).rst
+          (own_at k.owns dev) at)
     ]
   where
     row : Row
@@ -30,10 +35,12 @@ one_stays s p t d bit dv lt dev at =
     own =
         let pj = run_state_plain s (row ∷ p) (lt, dv) in
         let pk = run_state_plain s p dv in
-        λ i. awaits_reset ((pj.drives d lt ∙ drives-fault row p bit d refl ∙ sym (pk.drives d lt)) i).rst (own_at k.owns d) at
+        λ i. awaits_reset ((pj.drives d lt ∙ drives-fault row p bit d refl ∙ sym (pk.drives d lt)) i).rst
+        (own_at k.owns d) at
 
 -- With a fault row.
-pub resets_fault : (s : ScenarioValue) (p : List Row) (t d bit : ℕ) (resets : List ResetDef) → AreOfDevices p → d < 8 → resets_left (run_state s (row_of_fault t d bit ∷ p)) resets ≡ resets_left (run_state s p) resets
+pub resets_fault : (s : ScenarioValue) (p : List Row) (t d bit : ℕ) (resets : List ResetDef) → AreOfDevices p → d < 8
+    → resets_left (run_state s (row_of_fault t d bit ∷ p)) resets ≡ resets_left (run_state s p) resets
 resets_fault s p t d bit [] dv lt = refl
 resets_fault s p t d bit (r ∷ resets) dv lt =
     let one = one_stays s p t d bit dv lt r.dev r.at in
@@ -41,14 +48,25 @@ resets_fault s p t d bit (r ∷ resets) dv lt =
     λ i. one_where (one i) + rest i
 
 -- With any.
-pub resets_calm : (s : ScenarioValue) (p : List Row) (row : Row) (resets : List ResetDef) → AreOfDevices p → row.dev < 8 → (bus p).rst ≡ false → (bus (row ∷ p)).rst ≡ false → resets_left (run_state s (row ∷ p)) resets ≡ resets_left (run_state s p) resets
+pub resets_calm : (s : ScenarioValue) (p : List Row) (row : Row) (resets : List ResetDef)
+    → AreOfDevices p → row.dev < 8 → (bus p).rst ≡ false → (bus (row ∷ p)).rst ≡ false
+    → resets_left (run_state s (row ∷ p)) resets ≡ resets_left (run_state s p) resets
 resets_calm s p row resets dv lt calm next = by row.kind refl
   where
-    by : (kind : Kind) → row.kind ≡ kind → resets_left (run_state s (row ∷ p)) resets ≡ resets_left (run_state s p) resets
+    by : (kind : Kind) → row.kind ≡ kind
+        → resets_left (run_state s (row ∷ p)) resets ≡ resets_left (run_state s p) resets
     by (Fault bit) e =
-        let same : row ≡ row_of_fault row.time row.dev bit = λ i. record { time = row.time; dev = row.dev; kind = e i } in
-        ap (λ (r : Row). resets_left (run_state s (r ∷ p)) resets) same ∙ resets_fault s p row.time row.dev bit resets dv lt
+        let same : row ≡ row_of_fault row.time row.dev bit = λ i. record {
+          time = row.time;
+          dev = row.dev;
+          kind = e i;
+        } in
+        ap (λ (r : Row). resets_left (run_state s (r ∷ p)) resets) same
+        ∙ resets_fault s p row.time row.dev bit resets dv lt
     by (Drives l) e =
         let same : row ≡ row_of_lines row.time row.dev l = λ i. record { time = row.time; dev = row.dev; kind = e i } in
-        let off : l.rst ≡ false = ap (λ (x : LineSet). x.rst) (sym (ap (λ (r : Row). drives (r ∷ p) row.dev) same ∙ drives_own p row.time row.dev l)) ∙ off_at (row ∷ p) next row.dev lt in
-        ap (λ (r : Row). resets_left (run_state s (r ∷ p)) resets) same ∙ resets_stay s p row.time row.dev l resets dv lt (off_at p calm row.dev lt) off
+        let off : l.rst ≡ false = ap (λ (x : LineSet). x.rst)
+        (sym (ap (λ (r : Row). drives (r ∷ p) row.dev) same ∙ drives_own p row.time row.dev l))
+        ∙ off_at (row ∷ p) next row.dev lt in
+        ap (λ (r : Row). resets_left (run_state s (r ∷ p)) resets) same
+        ∙ resets_stay s p row.time row.dev l resets dv lt (off_at p calm row.dev lt) off

@@ -1,5 +1,5 @@
--- With a row that leaves a phase for another the measure falls, if it falls with those of four kinds: that enter MESSAGE OUT; of the others,
--- that leave data, that enter it, and that do neither.
+-- With a row that leaves a phase for another the measure falls, if it falls with those of four kinds: that enter
+-- MESSAGE OUT; of the others, that leave data, that enter it, and that do neither.
 use Rattle.measure_laws.proofs
 use proofs.Names.{ℕ, ◌≡◌, ◌∙◌, Bool, true, false, ◌&&◌, List, [], ◌∷◌, refl, sym, ap, not, changes_phase, is_data}
 use proofs.Names.{is_message_out, bus, Row, Change, Connection, handshakes, ScenarioValue, begun, Linked, row_of_lines}
@@ -23,31 +23,31 @@ pub record LeavingRow (s : ScenarioValue) (p : List Row) (row : Row) (n : Connec
   pub was : Linked p n (ends false false atn x msg cd io false y)
   pub known_was : (msg && not cd) ≡ false
   pub asked : is_unasked p ≡ false
-  pub rest : (is_pulsed p (ends false false atn x msg cd io false y) ≡ false → x ≡ 0) × (is_pulsed p (ends false false atn x msg cd io false y) ≡ true → (handshakes p).waiting ≡ [])
+  pub rest : (is_pulsed p (ends false false atn x msg cd io false y) ≡ false → x ≡ 0)
+      × (is_pulsed p (ends false false atn x msg cd io false y) ≡ true → (handshakes p).waiting ≡ [])
   pub follows : (offering_with s p n true (ends false false atn x msg cd io false y)).follows ≡ false
-  pub row_is : row ≡ row_of_lines row.time n.target (offering_with s p n true (ends false false atn x msg cd io false y)).to
+  pub row_is : row
+      ≡ row_of_lines row.time n.target (offering_with s p n true (ends false false atn x msg cd io false y)).to
 
 -- ---- the four kinds
 
 abbrev pub FallsWordsEntered : Type 0
-FallsWordsEntered =
-    (s : ScenarioValue) (p : List Row) (row : Row) (n : Connection) → (r : LeavingRow s p row n) → is_message_out r.turned.change.after ≡ true
-    → FallsWith s p row
+FallsWordsEntered = (s : ScenarioValue) (p : List Row) (row : Row) (n : Connection) → (r : LeavingRow s p row n)
+    → is_message_out r.turned.change.after ≡ true → FallsWith s p row
 
 abbrev pub FallsDataLeft : Type 0
-FallsDataLeft =
-    (s : ScenarioValue) (p : List Row) (row : Row) (n : Connection) → (r : LeavingRow s p row n) → is_message_out r.turned.change.after ≡ false
-    → is_data (bus p) ≡ true → FallsWith s p row
+FallsDataLeft = (s : ScenarioValue) (p : List Row) (row : Row) (n : Connection) → (r : LeavingRow s p row n)
+    → is_message_out r.turned.change.after ≡ false → is_data (bus p) ≡ true → FallsWith s p row
 
 abbrev pub FallsDataEntered : Type 0
-FallsDataEntered =
-    (s : ScenarioValue) (p : List Row) (row : Row) (n : Connection) → (r : LeavingRow s p row n) → is_message_out r.turned.change.after ≡ false
-    → is_data (bus p) ≡ false → is_data r.turned.change.after ≡ true → FallsWith s p row
+FallsDataEntered = (s : ScenarioValue) (p : List Row) (row : Row) (n : Connection) → (r : LeavingRow s p row n)
+    → is_message_out r.turned.change.after ≡ false → is_data (bus p) ≡ false → is_data r.turned.change.after ≡ true
+    → FallsWith s p row
 
 abbrev pub FallsTurning : Type 0
-FallsTurning =
-    (s : ScenarioValue) (p : List Row) (row : Row) (n : Connection) → (r : LeavingRow s p row n) → is_message_out r.turned.change.after ≡ false
-    → is_data (bus p) ≡ false → is_data r.turned.change.after ≡ false → FallsWith s p row
+FallsTurning = (s : ScenarioValue) (p : List Row) (row : Row) (n : Connection) → (r : LeavingRow s p row n)
+    → is_message_out r.turned.change.after ≡ false → is_data (bus p) ≡ false → is_data r.turned.change.after ≡ false
+    → FallsWith s p row
 
 pub leaving_by_kinds : FallsWordsEntered → FallsDataLeft → FallsDataEntered → FallsTurning → FallsLeaving
 leaving_by_kinds words left entered turning s p row n r atn msg cd io x y h b known asked rest follows e =
@@ -63,8 +63,10 @@ leaving_by_kinds words left entered turning s p row n r atn msg cd io x y h b kn
     of = record {
       linked = r;
       turned = w;
-      turns = ap changes_phase w.change_is ∙ leaves_turns s p row n atn msg cd io x y r.calm.was.stood.standing.devices h known e r.next;
-      known = λ z. ap (λ (c : Change). c.after.cd) w.change_is ∙ known_after (ap (λ (c : Change). c.after.msg) (sym w.change_is) ∙ z);
+      turns = ap changes_phase w.change_is
+          ∙ leaves_turns s p row n atn msg cd io x y r.calm.was.stood.standing.devices h known e r.next;
+      known = λ z. ap (λ (c : Change). c.after.cd) w.change_is
+          ∙ known_after (ap (λ (c : Change). c.after.msg) (sym w.change_is) ∙ z);
       begun_is = b;
       atn = atn;
       msg = msg;
@@ -80,7 +82,8 @@ leaving_by_kinds words left entered turning s p row n r atn msg cd io x y h b kn
       row_is = e;
     }
 
-    go : (o : Bool) → is_message_out of.turned.change.after ≡ o → (f : Bool) → is_data (bus p) ≡ f → (i : Bool) → is_data of.turned.change.after ≡ i → FallsWith s p row
+    go : (o : Bool) → is_message_out of.turned.change.after ≡ o → (f : Bool) → is_data (bus p) ≡ f
+        → (i : Bool) → is_data of.turned.change.after ≡ i → FallsWith s p row
     go true k f g i z = words s p row n of k
     go false k true g i z = left s p row n of k g
     go false k false g true z = entered s p row n of k g z

@@ -1,4 +1,5 @@
--- With a row that turns from a phase to the initiator to MESSAGE OUT a phase less is left, or the strike of the phase before it pays.
+-- With a row that turns from a phase to the initiator to MESSAGE OUT a phase less is left, or the strike of the phase
+-- before it pays.
 use Rattle.measure_laws.proofs
 use proofs.Names.{ℕ, ◌≡◌, ◌≤◌, ◌∙◌, Bool, true, false, List, ◌∷◌, length, refl, sym, ap, subst, arith, Option, Some}
 use proofs.Names.{None, ◌&&◌, ◌+◌, ◌-◌, ◌*◌, not, ◌||◌, if◌then◌else◌, is_some, nat_lt, wrong, wrong', and_true}
@@ -24,11 +25,13 @@ from_less m n = go (nat_lt n (length (message_bytes m.first)))
     late false true = omega arith
     late false false = omega arith
 
-    go : (q : Bool) → reselection_if (disconnects (if q then m else record { first = m.second; second = None })) ≤ reselection_if (disconnects m)
+    go : (q : Bool) → reselection_if (disconnects (if q then m else record { first = m.second; second = None }))
+        ≤ reselection_if (disconnects m)
     go true = omega arith
     go false = late (is_disconnect m.first) (is_disconnect m.second)
 
-messages_again : (m : Messages) (place : ℕ) (x : ℕ) (next : Next) → 128 + after_next (from_byte m place) next + 128 ≤ after_next m next + (x + 8 * 128)
+messages_again : (m : Messages) (place : ℕ) (x : ℕ) (next : Next)
+    → 128 + after_next (from_byte m place) next + 128 ≤ after_next m next + (x + 8 * 128)
 messages_again m place x Next.FreeBus = let less = from_less m place in omega (arith, less)
 messages_again m place x _ = omega arith
 
@@ -41,9 +44,12 @@ next_some m Next.FreeBus = omega arith
 next_some m _ = omega arith
 
 -- The phase before it by MSG and C/D, I/O being true.
-pays_by : (s : ScenarioValue) (r struck m d : Bool) (p : Plan) (place : ℕ)
-    → after_words struck (record (plan_anew p) { cause = if m && d && true then Cause.InMessage else if d then Cause.InStatus else Cause.InData; messages = if m && d && true then from_byte p.messages place else p.messages })
-    (if m && d && true then Cause.InMessage else if d then Cause.InStatus else Cause.InData) + 128
+pays_by : (s : ScenarioValue) (r struck m d : Bool) (p : Plan) (place : ℕ) → after_words struck (record (plan_anew p) {
+  cause =
+      if m && d && true then Cause.InMessage else if d then Cause.InStatus else Cause.InData;
+  messages =
+      if m && d && true then from_byte p.messages place else p.messages;
+}) (if m && d && true then Cause.InMessage else if d then Cause.InStatus else Cause.InData) + 128
     ≤ phases_in r p (if m then Phase.MessageIn else if d then Phase.Status else Phase.DataIn) + struck_left s struck
 pays_by s r true true true p place = messages_again p.messages place (for_byte * longest_need s s.commands) p.next
 pays_by s r false true true p place = request_answered p.messages p.next
@@ -56,7 +62,8 @@ pays_by s r false false false p place = omega arith
 
 -- ---- the row
 
-pub turn_of : (row : Row) (n : Connection) (c : Change) → RowKind row n c → changes_phase c ≡ true → (is_fault row.kind ≡ false) × (receiver_in n c ≡ None)
+pub turn_of : (row : Row) (n : Connection) (c : Change) → RowKind row n c → changes_phase c ≡ true
+    → (is_fault row.kind ≡ false) × (receiver_in n c ≡ None)
 turn_of row n c (rows.still f e r) t = wrong (sym t ∙ e)
 turn_of row n c (rows.strikes f e r) t = wrong (sym t ∙ e)
 turn_of row n c (rows.crosses d f e r) t = wrong (sym t ∙ e)
@@ -65,15 +72,21 @@ turn_of row n c (rows.turns f e r) t = (f, r)
 out_phase : (l : LineSet) → is_message_out l ≡ true → phase_of l ≡ Phase.MessageOut
 out_phase l e = go l.msg l.cd l.io e
   where
-    go : (m d i : Bool) → (m && d && not i) ≡ true → (if m then (if i then Phase.MessageIn else Phase.MessageOut) else if d then (if i then Phase.Status else Phase.Command) else if i then Phase.DataIn else Phase.DataOut) ≡ Phase.MessageOut
+    go : (m d i : Bool) → (m && d && not i) ≡ true → (if m then (if i then Phase.MessageIn else Phase.MessageOut)
+        else if d then (if i then Phase.Status else Phase.Command) else if i then Phase.DataIn else Phase.DataOut)
+        ≡ Phase.MessageOut
     go true true false z = refl
     go true true true z = absurd cc
     go true false i z = absurd cc
     go false d i z = absurd cc
 
 -- What is left after it.
-pub out_after : (s : ScenarioValue) (p : List Row) (row : Row) (n : Connection) (c : Change) → IsRowIn (run_state s p) row n c → changes_phase c ≡ true → (run_state s p).exchange.begun ≡ true → is_message_out c.after ≡ true → c.before.io ≡ true
-    → phases_left (is_refusing s (row ∷ p)) (run_state s (row ∷ p)) ≡ after_words (is_struck_phase s p) (plan_in_message_out (hearing_of (run_state s p) row (reading_in (run_state s p).story.bus_state n c false)) (run_state s p).exchange.plan) (cause_after c.before)
+pub out_after : (s : ScenarioValue) (p : List Row) (row : Row) (n : Connection) (c : Change)
+    → IsRowIn (run_state s p) row n c → changes_phase c ≡ true
+    → (run_state s p).exchange.begun ≡ true → is_message_out c.after ≡ true → c.before.io ≡ true
+    → phases_left (is_refusing s (row ∷ p)) (run_state s (row ∷ p)) ≡ after_words (is_struck_phase s p)
+    (plan_in_message_out (hearing_of (run_state s p) row (reading_in (run_state s p).story.bus_state n c false))
+    (run_state s p).exchange.plan) (cause_after c.before)
 out_after s p row n c h turned begun out io =
     let k = run_state s p in
     let j = run_state s (row ∷ p) in
@@ -83,25 +96,40 @@ out_after s p row n c h turned begun out io =
     let read = reading_is k row n c false h (ap (λ (x : Option ℕ). is_some x) kind.1) in
     let w = hearing_of k row (reading_in k.story.bus_state n c false) in
     let refusing : is_refusing s (row ∷ p) ≡ struck =
-    (λ i. is_some (h.connection_is i) && is_some (read i).next && (if changes_phase (read i).change then (read i).change.before.io && struck && is_message_out (read i).change.after else is_refusing s p))
-    ∙ (λ i. if turned i then io i && struck && out i else is_refusing s p)
-    ∙ and_true struck in
+    (λ i. is_some (h.connection_is i) && is_some (read i).next && (if changes_phase (read i).change
+    then (read i).change.before.io && struck && is_message_out (read i).change.after else is_refusing s p))
+    ∙ (λ i. if turned i then io i && struck && out i else is_refusing s p) ∙ and_true struck in
     ap (λ (x : Bool). phases_left x j) refusing
-    ∙ (λ i. if (t.exchange_is i).begun then phases_in struck (t.exchange_is i).plan (phase_of (t.bus_is i)) else for_reselection + 8 * for_phase)
-    ∙ (λ i. phases_in struck (if not (out i) then record (plan_anew k.exchange.plan) { messages = (leaving s k n.target).messages; next = (leaving s k n.target).next } else if begun i then plan_in_message_out w k.exchange.plan else plan_anew k.exchange.plan) (out_phase c.after out i))
+    ∙ (λ i. if (t.exchange_is i).begun then phases_in struck (t.exchange_is i).plan (phase_of (t.bus_is i))
+    else for_reselection + 8 * for_phase)
+    ∙ (λ i. phases_in struck (if not (out i) then record (plan_anew k.exchange.plan) {
+      messages = (leaving s k n.target).messages;
+      next = (leaving s k n.target).next;
+    } else if begun i then plan_in_message_out w k.exchange.plan else plan_anew k.exchange.plan)
+    (out_phase c.after out i))
 
-pub out_pays : (s : ScenarioValue) (p : List Row) (row : Row) (n : Connection) (c : Change) → IsRowIn (run_state s p) row n c → changes_phase c ≡ true → (run_state s p).exchange.begun ≡ true → is_message_out c.after ≡ true → c.before.io ≡ true
-    → phases_left (is_refusing s (row ∷ p)) (run_state s (row ∷ p)) + 128 ≤ phases_left (is_refusing s p) (run_state s p) + struck_left s (is_struck_phase s p)
+pub out_pays : (s : ScenarioValue) (p : List Row) (row : Row) (n : Connection) (c : Change)
+    → IsRowIn (run_state s p) row n c → changes_phase c ≡ true
+    → (run_state s p).exchange.begun ≡ true → is_message_out c.after ≡ true → c.before.io ≡ true
+    → phases_left (is_refusing s (row ∷ p)) (run_state s (row ∷ p)) + 128
+    ≤ phases_left (is_refusing s p) (run_state s p) + struck_left s (is_struck_phase s p)
 out_pays s p row n c h turned begun out io =
-    subst (λ x. x + 128 ≤ phases_left (is_refusing s p) k + struck_left s struck) (sym after)
-    (subst (λ x. after_words struck (plan_in_message_out w k.exchange.plan) (cause_after c.before) + 128 ≤ x + struck_left s struck) (sym before)
-    (subst (λ (q : Bool). after_words struck (record (plan_anew k.exchange.plan) {
-      cause = if c.before.msg && c.before.cd && q then Cause.InMessage else if c.before.cd then Cause.InStatus else Cause.InData;
-      messages = if c.before.msg && c.before.cd && q then from_byte k.exchange.plan.messages (k.handshakes.requests - 1) else k.exchange.plan.messages;
+    subst (λ x. x + 128 ≤ phases_left (is_refusing s p) k + struck_left s struck) (sym after) (subst (λ x.
+    after_words struck (plan_in_message_out w k.exchange.plan) (cause_after c.before) + 128 ≤ x + struck_left s struck)
+    (sym before) (subst (λ (q : Bool). after_words struck (record (plan_anew k.exchange.plan) {
+      cause =
+          if c.before.msg && c.before.cd && q then Cause.InMessage
+          else if c.before.cd then Cause.InStatus else Cause.InData;
+      messages =
+          if c.before.msg && c.before.cd && q then from_byte k.exchange.plan.messages (k.handshakes.requests - 1)
+          else k.exchange.plan.messages;
     })
-    (if c.before.msg && c.before.cd && q then Cause.InMessage else if c.before.cd then Cause.InStatus else Cause.InData) + 128
-    ≤ phases_in (is_refusing s p) k.exchange.plan (if c.before.msg then (if q then Phase.MessageIn else Phase.MessageOut) else if c.before.cd then (if q then Phase.Status else Phase.Command) else if q then Phase.DataIn else Phase.DataOut) + struck_left s struck)
-    (sym io) (pays_by s (is_refusing s p) struck c.before.msg c.before.cd k.exchange.plan (k.handshakes.requests - 1))))
+    (if c.before.msg && c.before.cd && q then Cause.InMessage else if c.before.cd then Cause.InStatus else Cause.InData)
+    + 128 ≤ phases_in (is_refusing s p) k.exchange.plan
+    (if c.before.msg then (if q then Phase.MessageIn else Phase.MessageOut)
+    else if c.before.cd then (if q then Phase.Status else Phase.Command) else if q then Phase.DataIn else Phase.DataOut)
+    + struck_left s struck) (sym io)
+    (pays_by s (is_refusing s p) struck c.before.msg c.before.cd k.exchange.plan (k.handshakes.requests - 1))))
   where
     k : RunState
     k = run_state s p
@@ -112,28 +140,35 @@ out_pays s p row n c h turned begun out io =
     w : Hearing
     w = hearing_of k row (reading_in k.story.bus_state n c false)
 
-    after : phases_left (is_refusing s (row ∷ p)) (run_state s (row ∷ p)) ≡ after_words struck (plan_in_message_out w k.exchange.plan) (cause_after c.before)
+    after : phases_left (is_refusing s (row ∷ p)) (run_state s (row ∷ p))
+        ≡ after_words struck (plan_in_message_out w k.exchange.plan) (cause_after c.before)
     after = out_after s p row n c h turned begun out io
 
     before : phases_left (is_refusing s p) k ≡ phases_in (is_refusing s p) k.exchange.plan (phase_of c.before)
-    before = λ i. if begun i then phases_in (is_refusing s p) k.exchange.plan (phase_of (h.bus_is i)) else for_reselection + 8 * for_phase
+    before = λ i. if begun i then phases_in (is_refusing s p) k.exchange.plan (phase_of (h.bus_is i))
+        else for_reselection + 8 * for_phase
 
 -- ---- only a phase to the initiator is left for it
 
 left_in : (l : LineSet) → is_attended (phase_of l) ≡ true → l.io ≡ true
 left_in l e = go l.msg l.cd l.io e
   where
-    go : (m d i : Bool) → is_attended (if m then (if i then Phase.MessageIn else Phase.MessageOut) else if d then (if i then Phase.Status else Phase.Command) else if i then Phase.DataIn else Phase.DataOut) ≡ true → i ≡ true
+    go : (m d i : Bool) → is_attended (if m then (if i then Phase.MessageIn else Phase.MessageOut)
+        else if d then (if i then Phase.Status else Phase.Command) else if i then Phase.DataIn else Phase.DataOut)
+        ≡ true → i ≡ true
     go m d true z = refl
     go true d false z = wrong' z
     go false true false z = wrong' z
     go false false false z = wrong' z
 
-not_out : (b a : LineSet) → not (same_phase b a) ≡ true → is_message_out a ≡ true → (b.msg ≡ true → b.cd ≡ true) → is_out_phase (phase_of b) ≡ false
+not_out : (b a : LineSet) → not (same_phase b a) ≡ true → is_message_out a ≡ true
+    → (b.msg ≡ true → b.cd ≡ true) → is_out_phase (phase_of b) ≡ false
 not_out b a turned out known = go b.msg b.cd b.io a.msg a.cd a.io turned out known
   where
-    go : (m d i m2 d2 i2 : Bool) → not (same m m2 && same d d2 && same i i2) ≡ true → (m2 && d2 && not i2) ≡ true → (m ≡ true → d ≡ true)
-        → is_out_phase (if m then (if i then Phase.MessageIn else Phase.MessageOut) else if d then (if i then Phase.Status else Phase.Command) else if i then Phase.DataIn else Phase.DataOut) ≡ false
+    go : (m d i m2 d2 i2 : Bool) → not (same m m2 && same d d2 && same i i2) ≡ true → (m2 && d2 && not i2) ≡ true
+        → (m ≡ true → d ≡ true) → is_out_phase (if m then (if i then Phase.MessageIn else Phase.MessageOut)
+        else if d then (if i then Phase.Status else Phase.Command) else if i then Phase.DataIn else Phase.DataOut)
+        ≡ false
     go true d true m2 d2 i2 t o k = refl
     go true true false true true false t o k = wrong' t
     go true true false true true true t o k = wrong' o
@@ -145,15 +180,25 @@ not_out b a turned out known = go b.msg b.cd b.io a.msg a.cd a.io turned out kno
     go false false true m2 d2 i2 t o k = refl
     go false false false m2 d2 i2 t o k = refl
 
-pub out_after_in : (s : ScenarioValue) (p : List Row) (row : Row) (n : Connection) (c : Change) → IsRowIn (run_state s p) row n c → HasPhase (run_state s p) → changes_phase c ≡ true → (run_state s p).exchange.begun ≡ true → is_message_out c.after ≡ true
-    → (leaving s (run_state s p) n.target).to ≡ Some (phase_of c.after) → IsAttended (run_state s p) × (c.before.io ≡ true)
+pub out_after_in : (s : ScenarioValue) (p : List Row) (row : Row) (n : Connection) (c : Change)
+    → IsRowIn (run_state s p) row n c → HasPhase (run_state s p) → changes_phase c ≡ true
+    → (run_state s p).exchange.begun ≡ true → is_message_out c.after ≡ true
+    → (leaving s (run_state s p) n.target).to ≡ Some (phase_of c.after)
+    → IsAttended (run_state s p) × (c.before.io ≡ true)
 out_after_in s p row n c h known turned begun out to =
     let k = run_state s p in
     let lines = ap (λ (l : LineSet). l.cd) (sym h.bus_is) in
-    let other = ap (λ (l : LineSet). is_out_phase (phase_of l)) h.bus_is ∙ not_out c.before c.after turned out (λ z. lines ∙ (known (ap (λ (l : LineSet). l.msg) h.bus_is ∙ z)).0) in
-    let a = attended_for s k n.target begun other (ap is_out_next to ∙ ap (λ (x : Phase). is_out_next (Some x)) (out_phase c.after out)) in
+    let other = ap (λ (l : LineSet). is_out_phase (phase_of l)) h.bus_is
+    ∙ not_out c.before c.after turned out (λ z. lines ∙ (known (ap (λ (l : LineSet). l.msg) h.bus_is ∙ z)).0) in
+    let a = attended_for s k n.target begun other
+    (ap is_out_next to ∙ ap (λ (x : Phase). is_out_next (Some x)) (out_phase c.after out)) in
     (a, left_in c.before (ap (λ (l : LineSet). is_attended (phase_of l)) (sym h.bus_is) ∙ a.phase))
 
-pub attended_pays : (s : ScenarioValue) (p : List Row) (row : Row) (n : Connection) (c : Change) → IsRowIn (run_state s p) row n c → HasPhase (run_state s p) → changes_phase c ≡ true → (run_state s p).exchange.begun ≡ true → is_message_out c.after ≡ true
-    → (leaving s (run_state s p) n.target).to ≡ Some (phase_of c.after) → phases_left (is_refusing s (row ∷ p)) (run_state s (row ∷ p)) + 128 ≤ phases_left (is_refusing s p) (run_state s p) + struck_left s (is_struck_phase s p)
-attended_pays s p row n c h known turned begun out to = out_pays s p row n c h turned begun out (out_after_in s p row n c h known turned begun out to).1
+pub attended_pays : (s : ScenarioValue) (p : List Row) (row : Row) (n : Connection) (c : Change)
+    → IsRowIn (run_state s p) row n c → HasPhase (run_state s p) → changes_phase c ≡ true
+    → (run_state s p).exchange.begun ≡ true → is_message_out c.after ≡ true
+    → (leaving s (run_state s p) n.target).to ≡ Some (phase_of c.after)
+    → phases_left (is_refusing s (row ∷ p)) (run_state s (row ∷ p)) + 128
+    ≤ phases_left (is_refusing s p) (run_state s p) + struck_left s (is_struck_phase s p)
+attended_pays s p row n c h known turned begun out to =
+    out_pays s p row n c h turned begun out (out_after_in s p row n c h known turned begun out to).1

@@ -12,11 +12,15 @@ no_data l e = go l.msg l.cd l.io e
     go false d i z = absurd cc
 
 -- To which phase it goes.
-pub turns_to : (s : ScenarioValue) (p : List Row) (row : Row) (n : Connection) (c : Change) → TurnRow s p row n c → (run_state s p).exchange.begun ≡ true → (leaving s (run_state s p) n.target).to ≡ Some (phase_of c.after)
+pub turns_to : (s : ScenarioValue) (p : List Row) (row : Row) (n : Connection) (c : Change) → TurnRow s p row n c
+    → (run_state s p).exchange.begun ≡ true → (leaving s (run_state s p) n.target).to ≡ Some (phase_of c.after)
 turns_to s p row n c h begun =
     let b = h.was.stood.plain.begun in
-    h.lines.whereto (ap changes_phase h.lines_are ∙ h.turned) (sym b ∙ begun) ∙ ap (λ (x : Change). Some (phase_of x.after)) h.lines_are
+    h.lines.whereto (ap changes_phase h.lines_are ∙ h.turned) (sym b ∙ begun)
+    ∙ ap (λ (x : Change). Some (phase_of x.after)) h.lines_are
 
-pub out_turn_falls : (s : ScenarioValue) (p : List Row) (row : Row) (n : Connection) (c : Change) → TurnRow s p row n c → (run_state s p).exchange.begun ≡ true → is_message_out c.after ≡ true → is_in_data (run_state s p) ≡ false → suc (measure s (row ∷ p)) ≤ measure s p
-out_turn_falls s p row n c h begun out from =
-    turn_falls s p row n c h from (no_data c.after out) (attended_pays s p row n c h.goes.row_is h.goes.phase h.turned begun out (turns_to s p row n c h begun))
+pub out_turn_falls : (s : ScenarioValue) (p : List Row) (row : Row) (n : Connection) (c : Change) → TurnRow s p row n c
+    → (run_state s p).exchange.begun ≡ true → is_message_out c.after ≡ true → is_in_data (run_state s p) ≡ false
+    → suc (measure s (row ∷ p)) ≤ measure s p
+out_turn_falls s p row n c h begun out from = turn_falls s p row n c h from (no_data c.after out)
+    (attended_pays s p row n c h.goes.row_is h.goes.phase h.turned begun out (turns_to s p row n c h begun))

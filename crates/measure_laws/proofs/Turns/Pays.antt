@@ -1,5 +1,5 @@
--- The table of phases along a row that turns to another phase, none of data: a phase less is left than was left, with what a struck byte of the
--- phase calls for.
+-- The table of phases along a row that turns to another phase, none of data: a phase less is left than was left, with
+-- what a struck byte of the phase calls for.
 use Rattle.measure_laws.proofs
 use proofs.Names.{inl, inr, ℕ, suc, ◌≡◌, ◌≤◌, ◌∙◌, Bool, true, false, ◌&&◌, List, ◌∷◌, Option, Some, None, refl, sym}
 use proofs.Names.{ap, subst, arith, and_parts, ◌+◌, ◌*◌, not, ◌||◌, if◌then◌else◌, is_none, is_some, wrong, wrong'}
@@ -127,7 +127,9 @@ phase_pays s v atn r q phase = pays s v r q (ways.leaves v atn phase)
 
 -- ---- what is known of MESSAGE OUT as it is left
 
-pub out_facts : (s : ScenarioValue) (p : List Row) (row : Row) (n : Connection) (c : Change) → Obeys s → IsPrompt s (row ∷ p) → TurnRow s p row n c → connection p ≡ Some n → (run_state s p).exchange.begun ≡ true → phase_of (bus_of (run_state s p)) ≡ Phase.MessageOut → OutFacts (is_refusing s p) (run_state s p).exchange.plan
+pub out_facts : (s : ScenarioValue) (p : List Row) (row : Row) (n : Connection) (c : Change) → Obeys s
+    → IsPrompt s (row ∷ p) → TurnRow s p row n c → connection p ≡ Some n → (run_state s p).exchange.begun ≡ true
+    → phase_of (bus_of (run_state s p)) ≡ Phase.MessageOut → OutFacts (is_refusing s p) (run_state s p).exchange.plan
 out_facts s p row n c o prompt h con begun out = record { truly = truly; asked = asked }
   where
     k : RunState
@@ -142,30 +144,40 @@ out_facts s p row n c o prompt h con begun out = record { truly = truly; asked =
     there : is_message_out (bus_of k) ≡ true
     there =
         let stage = stage_of_connection s p n h.was.stood con h.off in
-        out_lines (bus_of k) out (λ z. ap (λ (l : LineSet). l.cd) pk.bus ∙ (link_phase s p n stage (ap (λ (l : LineSet). l.msg) (sym pk.bus) ∙ z)).0)
+        out_lines (bus_of k) out (λ z. ap (λ (l : LineSet). l.cd) pk.bus
+        ∙ (link_phase s p n stage (ap (λ (l : LineSet). l.msg) (sym pk.bus) ∙ z)).0)
 
     truly : is_complaint k.exchange.plan k.exchange.plan.cause ≡ true → is_refusing s p ≡ true
     truly e =
         let all = (whole s (row ∷ p) o prompt).complains in
         let two = and_parts (complains_truly s p) (is_true_complaint k d (is_refusing s p)) all in
         let t = turn_in s p row n c h in
-        let gone : is_left k d ≡ true = (λ i. is_some (h.goes.row_is.connection_is i) && begun i && (if is_some d.next then changes_phase d.change else not d.change.after.rst)) ∙ (λ i. if is_some (t.connection_is i) then changes_phase (h.goes.row_is.change_is i) else not d.change.after.rst) ∙ h.turned in
-        let said : is_complaining k.exchange.plan (phase_of (bus_of k)) ≡ true = ap (λ (x : Phase). is_complaining k.exchange.plan x) out ∙ e in
+        let gone : is_left k d ≡ true = (λ i. is_some (h.goes.row_is.connection_is i) && begun i
+        && (if is_some d.next then changes_phase d.change else not d.change.after.rst))
+        ∙ (λ i. if is_some (t.connection_is i) then changes_phase (h.goes.row_is.change_is i)
+        else not d.change.after.rst) ∙ h.turned in
+        let said : is_complaining k.exchange.plan (phase_of (bus_of k)) ≡ true =
+        ap (λ (x : Phase). is_complaining k.exchange.plan x) out ∙ e in
         sym (λ i. not (gone i && said i) || is_refusing s p) ∙ two.1
 
-    asked : k.exchange.plan.cause ≡ Cause.InMessage → is_some k.exchange.plan.said.offer ≡ true → k.exchange.plan.next ≡ Next.Command
+    asked : k.exchange.plan.cause ≡ Cause.InMessage → is_some k.exchange.plan.said.offer ≡ true
+        → k.exchange.plan.next ≡ Next.Command
     asked e f = elim (refuses_later s p n h.was.facts.offers con h.off begun there e) [
       | inl z ↦ z
-      | inr z ↦ wrong (sym f ∙ ap (λ (x : Option Agreement). is_some x) (refusal_offers_none k.exchange.speech k.exchange.plan k.story.bus_state.dialogue
-          ((h.was.stood.books.speaks n h.goes.row_is.connection_is h.goes.calm).in_message_out begun there).heard (out_over s k n there (h.lines.over (ap changes_phase h.lines_are ∙ h.turned) (sym pk.begun ∙ begun))) z))
+      | inr z ↦ wrong (sym f ∙ ap (λ (x : Option Agreement). is_some x)
+          (refusal_offers_none k.exchange.speech k.exchange.plan k.story.bus_state.dialogue
+          ((h.was.stood.books.speaks n h.goes.row_is.connection_is h.goes.calm).in_message_out begun there).heard
+          (out_over s k n there (h.lines.over (ap changes_phase h.lines_are ∙ h.turned) (sym pk.begun ∙ begun))) z))
     ]
 
 -- ---- the first MESSAGE OUT after a selection
 
-first_words : (r : Bool) (p : Plan) (phase : Phase) → p.cause ≡ Cause.Selected → phase ≡ Phase.MessageOut → phases_in r (plan_anew p) phase ≡ 1024 + 7 * 128
+first_words : (r : Bool) (p : Plan) (phase : Phase) → p.cause ≡ Cause.Selected → phase ≡ Phase.MessageOut
+    → phases_in r (plan_anew p) phase ≡ 1024 + 7 * 128
 first_words r p phase e f = λ i. phases_in r (record (plan_anew p) { cause = e i }) (f i)
 
-pub opening_falls : (s : ScenarioValue) (p : List Row) (row : Row) (n : Connection) (c : Change) → TurnRow s p row n c → (run_state s p).exchange.begun ≡ false → suc (measure s (row ∷ p)) ≤ measure s p
+pub opening_falls : (s : ScenarioValue) (p : List Row) (row : Row) (n : Connection) (c : Change) → TurnRow s p row n c
+    → (run_state s p).exchange.begun ≡ false → suc (measure s (row ∷ p)) ≤ measure s p
 opening_falls s p row n c h begun =
     let k = run_state s p in
     let j = run_state s (row ∷ p) in
@@ -173,14 +185,18 @@ opening_falls s p row n c h begun =
     let l = leaving s k n.target in
     let w = hearing_of k row (reading_in k.story.bus_state n c false) in
     let b = h.was.stood.plain.begun in
-    let out : is_message_out c.after ≡ true = ap (λ (x : Change). is_message_out x.after) (sym h.lines_are) ∙ h.lines.first (ap changes_phase h.lines_are ∙ h.turned) (sym b ∙ begun) in
+    let out : is_message_out c.after ≡ true = ap (λ (x : Change). is_message_out x.after) (sym h.lines_are)
+    ∙ h.lines.first (ap changes_phase h.lines_are ∙ h.turned) (sym b ∙ begun) in
     let about = (h.was.stood.books.speaks n h.goes.row_is.connection_is h.goes.calm).before_all begun in
     let r = is_refusing s (row ∷ p) in
     let after : phases_left r j ≡ 1024 + 7 * 128 =
-    (λ i. if (t.exchange_is i).begun then phases_in r (t.exchange_is i).plan (phase_of (t.bus_is i)) else for_reselection + 8 * for_phase)
-    ∙ (λ i. phases_in r (if not (out i) then record (plan_anew k.exchange.plan) { messages = l.messages; next = l.next } else if begun i then plan_in_message_out w k.exchange.plan else plan_anew k.exchange.plan) (phase_of c.after))
+    (λ i. if (t.exchange_is i).begun then phases_in r (t.exchange_is i).plan (phase_of (t.bus_is i))
+    else for_reselection + 8 * for_phase)
+    ∙ (λ i. phases_in r (if not (out i) then record (plan_anew k.exchange.plan) { messages = l.messages; next = l.next }
+    else if begun i then plan_in_message_out w k.exchange.plan else plan_anew k.exchange.plan) (phase_of c.after))
     ∙ first_words r k.exchange.plan (phase_of c.after) about.cause_is (out_phase c.after out) in
-    let before : phases_left (is_refusing s p) k ≡ 1024 + 8 * 128 = λ i. if begun i then phases_in (is_refusing s p) k.exchange.plan (phase_of (bus_of k)) else for_reselection + 8 * for_phase in
+    let before : phases_left (is_refusing s p) k ≡ 1024 + 8 * 128 = λ i. if begun i
+    then phases_in (is_refusing s p) k.exchange.plan (phase_of (bus_of k)) else for_reselection + 8 * for_phase in
     turn_falls s p row n c h (λ i. begun i && is_data (bus_of k)) (no_data c.after out) (pays _ _ _ after before)
   where
     pays : (a b u : ℕ) → a ≡ 1024 + 7 * 128 → b ≡ 1024 + 8 * 128 → a + 128 ≤ b + u
@@ -196,7 +212,10 @@ opening_falls s p row n c h begun =
     out_phase : (l : LineSet) → is_message_out l ≡ true → phase_of l ≡ Phase.MessageOut
     out_phase l e = go l.msg l.cd l.io e
       where
-        go : (m d i : Bool) → (m && d && not i) ≡ true → (if m then (if i then Phase.MessageIn else Phase.MessageOut) else if d then (if i then Phase.Status else Phase.Command) else if i then Phase.DataIn else Phase.DataOut) ≡ Phase.MessageOut
+        go : (m d i : Bool) → (m && d && not i) ≡ true
+            → (if m then (if i then Phase.MessageIn else Phase.MessageOut)
+            else if d then (if i then Phase.Status else Phase.Command) else if i then Phase.DataIn else Phase.DataOut)
+            ≡ Phase.MessageOut
         go true true false z = refl
         go true true true z = wrong' z
         go true false i z = wrong' z
@@ -204,17 +223,23 @@ opening_falls s p row n c h begun =
 
 -- ---- the row
 
-pub named_turn_falls : (s : ScenarioValue) (p : List Row) (row : Row) (n : Connection) (c : Change) → Obeys s → IsPrompt s (row ∷ p) → TurnRow s p row n c → connection p ≡ Some n → (run_state s p).exchange.begun ≡ true
-    → is_data (bus_of (run_state s p)) ≡ false → is_data c.after ≡ false → is_message_out c.after ≡ false → (c.after.msg ≡ true → c.after.cd ≡ true) → suc (measure s (row ∷ p)) ≤ measure s p
+pub named_turn_falls : (s : ScenarioValue) (p : List Row) (row : Row) (n : Connection) (c : Change) → Obeys s
+    → IsPrompt s (row ∷ p) → TurnRow s p row n c → connection p ≡ Some n → (run_state s p).exchange.begun ≡ true
+    → is_data (bus_of (run_state s p)) ≡ false → is_data c.after ≡ false → is_message_out c.after ≡ false
+    → (c.after.msg ≡ true → c.after.cd ≡ true) → suc (measure s (row ∷ p)) ≤ measure s p
 named_turn_falls s p row n c o prompt h con begun from to other known =
     let k = run_state s p in
-    let left : leaving s k n.target ≡ phase_leaving (serving_of s k n.target) (bus_of k).atn (phase_of (bus_of k)) = λ i. if begun i then phase_leaving (serving_of s k n.target) (bus_of k).atn (phase_of (bus_of k)) else phase_entry Phase.MessageOut in
+    let left : leaving s k n.target ≡ phase_leaving (serving_of s k n.target) (bus_of k).atn (phase_of (bus_of k)) =
+    λ i. if begun i then phase_leaving (serving_of s k n.target) (bus_of k).atn (phase_of (bus_of k))
+    else phase_entry Phase.MessageOut in
     let after = turn_phases s p row n c h begun other known (is_refusing s (row ∷ p)) ∙ ap left_of left in
-    let before : phases_left (is_refusing s p) k ≡ phases_in (is_refusing s p) k.exchange.plan (phase_of (bus_of k)) = λ i. if begun i then phases_in (is_refusing s p) k.exchange.plan (phase_of (bus_of k)) else for_reselection + 8 * for_phase in
+    let before : phases_left (is_refusing s p) k ≡ phases_in (is_refusing s p) k.exchange.plan (phase_of (bus_of k)) =
+    λ i. if begun i then phases_in (is_refusing s p) k.exchange.plan (phase_of (bus_of k))
+    else for_reselection + 8 * for_phase in
     turn_falls s p row n c h (λ i. begun i && from i) to
-    (replaced _ _ _ _ _ after before
-    (phase_pays s (serving_of s k n.target) (bus_of k).atn (is_refusing s p) (is_struck_phase s p) (phase_of (bus_of k)) (λ z. (struck_known s p z).0) (out_facts s p row n c o prompt h con begun)
-    (no_data_in (bus_of k) from) (no_data_out (bus_of k) from)))
+    (replaced _ _ _ _ _ after before (phase_pays s (serving_of s k n.target) (bus_of k).atn
+    (is_refusing s p) (is_struck_phase s p) (phase_of (bus_of k)) (λ z. (struck_known s p z).0)
+    (out_facts s p row n c o prompt h con begun) (no_data_in (bus_of k) from) (no_data_out (bus_of k) from)))
   where
     replaced : (a b x y u : ℕ) → a ≡ x → b ≡ y → x + 128 ≤ y + u → a + 128 ≤ b + u
     replaced a b x y u e f g = omega arith

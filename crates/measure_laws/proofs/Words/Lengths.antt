@@ -26,7 +26,8 @@ offer_few false h = omega arith
 offer_few true None = omega arith
 offer_few true (Some h) = go (h.offers && nat_lt 0 h.period)
   where
-    go : (q : Bool) → length (if q then out_bytes (MsgOut.Sdtr (record { period = h.period; offset = h.offset })) else []) ≤ 5
+    go : (q : Bool)
+        → length (if q then out_bytes (MsgOut.Sdtr (record { period = h.period; offset = h.offset })) else []) ≤ 5
     go true = omega arith
     go false = omega arith
 
@@ -57,17 +58,22 @@ words_few h w a = go (is_message_in w.change.before) w.struck
     go true true = omega arith
     go true false = omega arith
 
-speech_few : (h : Option HostDef) (w : Hearing) (p : Speech) → length p.words ≤ 8 → length (speech_after h w p).words ≤ 8
-speech_few h w p few = go (changes_phase w.change) (is_message_out w.change.after && w.begun) w.crosses (is_message_out w.change.before)
+speech_few : (h : Option HostDef) (w : Hearing) (p : Speech) → length p.words ≤ 8
+    → length (speech_after h w p).words ≤ 8
+speech_few h w p few =
+    go (changes_phase w.change) (is_message_out w.change.after && w.begun) w.crosses (is_message_out w.change.before)
   where
-    go : (a b c d : Bool) → length (if a then (if b then speech_of p (words_after h w p.asked) else record p { place = 0 }) else if c then (if d then speech_after_byte p else speech_after_request p w.into) else p).words ≤ 8
+    go : (a b c d : Bool)
+        → length (if a then (if b then speech_of p (words_after h w p.asked) else record p { place = 0 })
+        else if c then (if d then speech_after_byte p else speech_after_request p w.into) else p).words ≤ 8
     go true true c d = words_few h w p.asked
     go true false c d = few
     go false b true true = few
     go false b true false = few
     go false b false d = few
 
-first_few : (s : ScenarioValue) (k : RunState) (n : Connection) (o : Option Item) → length (first_exchange s k n o).speech.words ≤ 8
+first_few : (s : ScenarioValue) (k : RunState) (n : Connection) (o : Option Item)
+    → length (first_exchange s k n o).speech.words ≤ 8
 first_few s k n o = go n.reselected
   where
     go : (q : Bool) → length (if q then [] else opening s n.initiator (may_negotiate k n o) o) ≤ 8
@@ -87,7 +93,8 @@ few_words s (row ∷ p) = go k.story.bus_state.connection d.next (few_words s p)
     l : Leaving
     l = leaving_of s k k.story.bus_state.connection
 
-    go : (a b : Option Connection) → length k.exchange.speech.words ≤ 8 → length (exchange_after s k row d a b l).speech.words ≤ 8
+    go : (a b : Option Connection) → length k.exchange.speech.words ≤ 8
+        → length (exchange_after s k row d a b l).speech.words ≤ 8
     go None None few = few
     go (Some m) None few = omega arith
     go None (Some n) few = first_few s k n (aim_of k.story.aims n.initiator)
@@ -110,7 +117,8 @@ leaving_few v false b few = omega arith
 rest_few : (m : Messages) (n : ℕ) → FewIn m → FewIn (from_byte m n)
 rest_few m n few = go (nat_lt n (length (message_bytes m.first)))
   where
-    all : length (message_bytes m.first ++ message_bytes m.second) ≡ length (message_bytes m.first) + length (message_bytes m.second)
+    all : length (message_bytes m.first ++ message_bytes m.second)
+        ≡ length (message_bytes m.first) + length (message_bytes m.second)
     all = length-append (message_bytes m.first) (message_bytes m.second)
 
     one : length (message_bytes m.second ++ []) ≡ length (message_bytes m.second) + 0
@@ -120,10 +128,20 @@ rest_few m n few = go (nat_lt n (length (message_bytes m.first)))
     go true = few
     go false = let a = all in let b = one in omega arith
 
-plan_few : (w : Hearing) (l : Leaving) (p : Plan) → FewIn l.messages → FewIn p.messages → FewIn (plan_after w l p).messages
-plan_few w l p left few = go (changes_phase w.change) (is_message_out w.change.after) w.begun (is_message_in w.change.before) w.crosses (is_message_out w.change.before) (w.fault && not w.change.before.io) w.is_last
+plan_few : (w : Hearing) (l : Leaving) (p : Plan) → FewIn l.messages → FewIn p.messages
+    → FewIn (plan_after w l p).messages
+plan_few w l p left few = go (changes_phase w.change) (is_message_out w.change.after) w.begun
+    (is_message_in w.change.before) w.crosses (is_message_out w.change.before)
+    (w.fault && not w.change.before.io) w.is_last
   where
-    go : (a b c d e f g h : Bool) → FewIn (if a then (if not b then record (plan_anew p) { messages = l.messages; next = l.next } else if c then record (plan_anew p) { cause = cause_after w.change.before; messages = if d then from_byte p.messages (w.offered - 1) else p.messages } else plan_anew p) else if e then (if f then plan_after_message p w.is_last w.out else p) else if g then struck_plan p else p).messages
+    go : (a b c d e f g h : Bool)
+        → FewIn (if a then (if not b then record (plan_anew p) { messages = l.messages; next = l.next }
+        else if c then record (plan_anew p) {
+          cause = cause_after w.change.before;
+          messages =
+              if d then from_byte p.messages (w.offered - 1) else p.messages;
+        } else plan_anew p) else if e then (if f then plan_after_message p w.is_last w.out else p)
+        else if g then struck_plan p else p).messages
     go true false c d e f g h = left
     go true true true true e f g h = rest_few p.messages (w.offered - 1) few
     go true true true false e f g h = few
@@ -142,16 +160,20 @@ named_few (Some r) = go r.process.tag
     go Tag.Untagged = omega arith
     go _ = omega arith
 
-begins_few : (s : ScenarioValue) (k : RunState) (n : Connection) (o : Option Item) → FewIn (first_exchange s k n o).plan.messages
+begins_few : (s : ScenarioValue) (k : RunState) (n : Connection) (o : Option Item)
+    → FewIn (first_exchange s k n o).plan.messages
 begins_few s k n o = go n.reselected
   where
-    go : (q : Bool) → FewIn (first_plan q (not q && may_negotiate k n o) (if q then messages_if (ready_of s k n.target) else no_messages)).messages
+    go : (q : Bool) → FewIn (first_plan q (not q && may_negotiate k n o)
+        (if q then messages_if (ready_of s k n.target) else no_messages)).messages
     go true = named_few (ready_of s k n.target)
     go false = omega arith
 
-pub few_messages : (s : ScenarioValue) (p : List Row) → length (bytes_of_messages (run_state s p).exchange.plan.messages) ≤ 5
+pub few_messages : (s : ScenarioValue) (p : List Row)
+    → length (bytes_of_messages (run_state s p).exchange.plan.messages) ≤ 5
 few_messages s [] = omega arith
-few_messages s (row ∷ p) = go k.story.bus_state.connection d.next (left k.story.bus_state.connection (few_messages s p)) (few_messages s p)
+few_messages s (row ∷ p) =
+    go k.story.bus_state.connection d.next (left k.story.bus_state.connection (few_messages s p)) (few_messages s p)
   where
     k : RunState
     k = run_state s p
@@ -166,7 +188,8 @@ few_messages s (row ∷ p) = go k.story.bus_state.connection d.next (left k.stor
     left None few = leaving_few (serving_of s k 0) k.exchange.begun (bus_of k) few
     left (Some n) few = leaving_few (serving_of s k n.target) k.exchange.begun (bus_of k) few
 
-    go : (a b : Option Connection) → FewIn l.messages → FewIn k.exchange.plan.messages → FewIn (exchange_after s k row d a b l).plan.messages
+    go : (a b : Option Connection) → FewIn l.messages → FewIn k.exchange.plan.messages
+        → FewIn (exchange_after s k row d a b l).plan.messages
     go None None more few = few
     go (Some m) None more few = omega arith
     go None (Some n) more few = begins_few s k n (aim_of k.story.aims n.initiator)

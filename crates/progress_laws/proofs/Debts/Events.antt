@@ -1,4 +1,5 @@
--- The events of a row, where each pays well: those to whom a sense is owed stand in the hold after them; and which sense is owed anew.
+-- The events of a row, where each pays well: those to whom a sense is owed stand in the hold after them; and which
+-- sense is owed anew.
 use Rattle.progress_laws.proofs
 use proofs.Names.{inl, inr, ℕ, ◌≡◌, ◌⊎◌, Bool, true, false, not, ◌&&◌, ◌∙◌, List, [], ◌∷◌, ◌++◌, Option, Some, None}
 use proofs.Names.{refl, sym, ap, subst, list_any, if◌then◌else◌, ◌==◌, ⊤, Event, ProcId, CHECK_CONDITION, ScenarioValue}
@@ -21,20 +22,27 @@ pub record Paid (s : ScenarioValue) (b : Story) (o : Option Array) : Type 0 wher
   pub debts : (a : Array) → o ≡ Some a → Debts s b.sent a.holds
   pub fetched : (a : Array) → o ≡ Some a → AreFetched a.replies
 
-pub events_pay : (s : ScenarioValue) (b : Story) (o : Option Array) (shown : List Event) → HasSeats s → AllPay s b shown → Paid s b o
-    → Paid s (story_after_events s b shown) (array_after_events s o shown)
+pub events_pay : (s : ScenarioValue) (b : Story) (o : Option Array) (shown : List Event) → HasSeats s → AllPay s b shown
+    → Paid s b o → Paid s (story_after_events s b shown) (array_after_events s o shown)
 events_pay s b o [] seats well k = k
-events_pay s b o (event ∷ shown) seats well k = go (array_after_events s o shown) (events_pay s b o shown seats well.1 k)
+events_pay s b o (event ∷ shown) seats well k =
+    go (array_after_events s o shown) (events_pay s b o shown seats well.1 k)
   where
     was : Story
     was = story_after_events s b shown
 
     go : (x : Option Array) → Paid s was x → Paid s (story_after_event s was event) (array_step s event x)
-    go None h = record { checked = events_checked s b (event ∷ shown) k.checked; sound = λ a z. none_some a z; debts = λ a z. none_some a z; fetched = λ a z. none_some a z }
+    go None h = record {
+      checked = events_checked s b (event ∷ shown) k.checked;
+      sound = λ a z. none_some a z;
+      debts = λ a z. none_some a z;
+      fetched = λ a z. none_some a z;
+    }
     go (Some a) h = record {
       checked = events_checked s b (event ∷ shown) k.checked;
       sound = λ y z. step_sound s a y event seats (h.sound a refl) z;
-      debts = λ y z. subst (λ (w : Option Array). IfHolds (λ holds. Debts s (story_after_event s was event).sent holds) w) z
+      debts =
+          λ y z. subst (λ (w : Option Array). IfHolds (λ holds. Debts s (story_after_event s was event).sent holds) w) z
           (step_pays s was a event (h.sound a refl) h.checked well.0 (h.debts a refl));
       fetched = λ y z. step_fetches s was.sent a y event (h.sound a refl) well.0 z (h.fetched a refl);
     }
@@ -58,7 +66,8 @@ pub record IsNew (c : Sent) (item : Option Item) (n : ℕ) : Type 0 where
   pub item_is : item ≡ Some (process id)
   pub over : has_item c.over (process id) ≡ true
 
-event_debt : (s : ScenarioValue) (b : Story) (event : Event) (item : Option Item) (n : ℕ) (q : Nexus) → IsOf item event → IsDebt s (story_after_event s b event).sent n q
+event_debt : (s : ScenarioValue) (b : Story) (event : Event) (item : Option Item) (n : ℕ) (q : Nexus)
+    → IsOf item event → IsDebt s (story_after_event s b event).sent n q
     → IsNew (story_after_event s b event).sent item n ⊎ IsDebt s b.sent n q
 event_debt s b (Event.End id status) item n q own d = go (not id.sense && status == CHECK_CONDITION) refl
   where
@@ -72,40 +81,49 @@ event_debt s b (Event.End id status) item n q own d = go (not id.sense && status
     more m z = (events_grow s b (Event.End id status ∷ [])).over (sense_item m) z
 
     checks : (x : Bool) → (not id.sense && status == CHECK_CONDITION) ≡ x
-        → c.checks ≡ (if x then record ends { sent = record ends.sent { checks = ends.sent.checks ++ id.command ∷ [] } } else ends).sent.checks
-    checks x z = λ i. (if z i then record ends { sent = record ends.sent { checks = ends.sent.checks ++ id.command ∷ [] } } else ends).sent.checks
+        → c.checks ≡ (if x then record ends { sent = record ends.sent { checks = ends.sent.checks ++ id.command ∷ [] } }
+        else ends).sent.checks
+    checks x z =
+        λ i. (if z i then record ends { sent = record ends.sent { checks = ends.sent.checks ++ id.command ∷ [] } }
+        else ends).sent.checks
 
     go : (x : Bool) → (not id.sense && status == CHECK_CONDITION) ≡ x → IsNew c item n ⊎ IsDebt s b.sent n q
     go false z = inr (same_debt s b.sent c n q (checks false z) more d)
-    go true z = by (in_append n id.command b.sent.checks (ap (λ (x : List ℕ). list_any (λ k. k == n) x) (sym (checks true z)) ∙ is_checked c n d.owed))
+    go true z = by (in_append n id.command b.sent.checks
+        (ap (λ (x : List ℕ). list_any (λ k. k == n) x) (sym (checks true z)) ∙ is_checked c n d.owed))
       where
         by : (list_any (λ k. k == n) b.sent.checks ≡ true) ⊎ (id.command ≡ n) → IsNew c item n ⊎ IsDebt s b.sent n q
         by (inl old) = inr (debt_before s b.sent c n q more old d)
         by (inr new) = inl (record { id = id; item_is = own id refl; over = ends_over s b id status })
-event_debt s b (Event.Lost id) item n q own d =
-    inr (same_debt s b.sent (story_after_event s b (Event.Lost id)).sent n q refl (λ m z. (events_grow s b (Event.Lost id ∷ [])).over (sense_item m) z) d)
+event_debt s b (Event.Lost id) item n q own d = inr (same_debt s b.sent (story_after_event s b (Event.Lost id)).sent n q
+    refl (λ m z. (events_grow s b (Event.Lost id ∷ [])).over (sense_item m) z) d)
 event_debt s b (Event.Aborted i t m what) item n q own d =
     inr (same_debt s b.sent (story_after_event s b (Event.Aborted i t m what)).sent n q
     (ends_checks (is_aborted i t m what) (is_sense_stopped i t m what) by_abort 1 s.commands b)
     (λ j z. (events_grow s b (Event.Aborted i t m what ∷ [])).over (sense_item j) z) d)
-event_debt s b (Event.Reset dev) item n q own d =
-    inr (same_debt s b.sent (story_after_event s b (Event.Reset dev)).sent n q (ends_checks (λ c. true) (λ c. true) by_reset 1 s.commands b)
+event_debt s b (Event.Reset dev) item n q own d = inr (same_debt s b.sent
+    (story_after_event s b (Event.Reset dev)).sent n q (ends_checks (λ c. true) (λ c. true) by_reset 1 s.commands b)
     (λ j z. (events_grow s b (Event.Reset dev ∷ [])).over (sense_item j) z) d)
 event_debt s b _ item n q own d = inr d
 
-pub new_debt : (s : ScenarioValue) (b : Story) (shown : List Event) (item : Option Item) (n : ℕ) (q : Nexus) → AllOf item shown
-    → IsDebt s (story_after_events s b shown).sent n q → IsNew (story_after_events s b shown).sent item n ⊎ IsDebt s b.sent n q
+pub new_debt : (s : ScenarioValue) (b : Story) (shown : List Event) (item : Option Item) (n : ℕ) (q : Nexus)
+    → AllOf item shown → IsDebt s (story_after_events s b shown).sent n q
+    → IsNew (story_after_events s b shown).sent item n ⊎ IsDebt s b.sent n q
 new_debt s b [] item n q own d = inr d
-new_debt s b (event ∷ shown) item n q own d = go (event_debt s was event item n q own.0 d) (λ x. new_debt s b shown item n q own.1 x)
+new_debt s b (event ∷ shown) item n q own d =
+    go (event_debt s was event item n q own.0 d) (λ x. new_debt s b shown item n q own.1 x)
   where
     was : Story
     was = story_after_events s b shown
 
-    later : IsNew was.sent item n ⊎ IsDebt s b.sent n q → IsNew (story_after_event s was event).sent item n ⊎ IsDebt s b.sent n q
-    later (inl x) = inl (record { id = x.id; item_is = x.item_is; over = (events_grow s was (event ∷ [])).over (process x.id) x.over })
+    later : IsNew was.sent item n ⊎ IsDebt s b.sent n q
+        → IsNew (story_after_event s was event).sent item n ⊎ IsDebt s b.sent n q
+    later (inl x) = inl
+        (record { id = x.id; item_is = x.item_is; over = (events_grow s was (event ∷ [])).over (process x.id) x.over })
     later (inr x) = inr x
 
-    go : IsNew (story_after_event s was event).sent item n ⊎ IsDebt s was.sent n q → (IsDebt s was.sent n q → IsNew was.sent item n ⊎ IsDebt s b.sent n q)
+    go : IsNew (story_after_event s was event).sent item n ⊎ IsDebt s was.sent n q
+        → (IsDebt s was.sent n q → IsNew was.sent item n ⊎ IsDebt s b.sent n q)
         → IsNew (story_after_event s was event).sent item n ⊎ IsDebt s b.sent n q
     go (inl x) before = inl x
     go (inr x) before = later (before x)

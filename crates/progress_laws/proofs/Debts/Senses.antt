@@ -16,19 +16,22 @@ use Rattle.bus_due.specs.disk_array.specs.Steps
 fetches_good : (m : CommandContext) (sent : List ℕ) → (execution m sense_block sent).reply.status ≡ GOOD
 fetches_good m sent = λ i. (sense_fetched m sent i).reply.status
 
-pub sense_cdb : (s : ScenarioValue) (id : ProcId) (p : Process) → id.sense ≡ true → process_of s id ≡ Some p → p.cdb ≡ sense_block
+pub sense_cdb : (s : ScenarioValue) (id : ProcId) (p : Process) → id.sense ≡ true → process_of s id ≡ Some p
+    → p.cdb ≡ sense_block
 sense_cdb s id p e is = go (command_at s.commands id.command) is
   where
     no_process : (let o : Option Process = None in o) ≡ Some p → p.cdb ≡ sense_block
     no_process z = absurd cc
 
-    blocks : (q : Bool) (n : ℕ) (c : CmdDef) → q ≡ true → (process_by s (record { command = n; sense = q }) c).cdb ≡ sense_block
+    blocks : (q : Bool) (n : ℕ) (c : CmdDef) → q ≡ true
+        → (process_by s (record { command = n; sense = q }) c).cdb ≡ sense_block
     blocks true n c z = refl
     blocks false n c z = wrong' z
 
     go : (o : Option CmdDef) → process_if s id o ≡ Some p → p.cdb ≡ sense_block
     go None z = no_process z
-    go (Some c) z = ap (λ (x : Process). x.cdb) (sym (same_Some (process_by s id c) p z)) ∙ blocks id.sense id.command c e
+    go (Some c) z =
+        ap (λ (x : Process). x.cdb) (sym (same_Some (process_by s id c) p z)) ∙ blocks id.sense id.command c e
 
 -- ---- one more reply
 
@@ -39,11 +42,13 @@ is_sense id n e =
       | inr f ↦ rw f (wrong' (rw f at (and_second (id.command == n) (same_bool id.sense true) e)))
     ]
 
-one_more : (replies after : List (ProcId × Reply)) (id : ProcId) (reply : Reply) → after ≡ (id, reply) ∷ replies → (id.sense ≡ true → reply.status ≡ GOOD) → AreFetched replies
-    → AreFetched after
-one_more replies after id reply is good h = subst (λ (x : List (ProcId × Reply)). AreFetched x) (sym is) (λ n r e. go n r (same_id id (sense_id n)) refl e)
+one_more : (replies after : List (ProcId × Reply)) (id : ProcId) (reply : Reply) → after ≡ (id, reply) ∷ replies
+    → (id.sense ≡ true → reply.status ≡ GOOD) → AreFetched replies → AreFetched after
+one_more replies after id reply is good h =
+    subst (λ (x : List (ProcId × Reply)). AreFetched x) (sym is) (λ n r e. go n r (same_id id (sense_id n)) refl e)
   where
-    go : (n : ℕ) (r : Reply) (x : Bool) → same_id id (sense_id n) ≡ x → (if x then Some reply else reply_in replies (sense_id n)) ≡ Some r → r.status ≡ GOOD
+    go : (n : ℕ) (r : Reply) (x : Bool) → same_id id (sense_id n) ≡ x
+        → (if x then Some reply else reply_in replies (sense_id n)) ≡ Some r → r.status ≡ GOOD
     go n r true z e = ap (λ (y : Reply). y.status) (sym (same_Some reply r e)) ∙ good (is_sense id n z)
     go n r false z e = h n r e
 
@@ -52,10 +57,11 @@ no_more replies after is h = subst (λ (x : List (ProcId × Reply)). AreFetched 
 
 -- ---- any event
 
-ran : (s : ScenarioValue) (a c : Array) (id : ProcId) (guest : Bool) (o : Option RunningProcess) → IsSound s a → Steps.running_process a id ≡ o
-    → Steps.run_step a guest o ≡ Some c → AreFetched a.replies → AreFetched c.replies
+ran : (s : ScenarioValue) (a c : Array) (id : ProcId) (guest : Bool) (o : Option RunningProcess) → IsSound s a
+    → Steps.running_process a id ≡ o → Steps.run_step a guest o ≡ Some c → AreFetched a.replies → AreFetched c.replies
 ran s a c id guest None sound f e h = none_some c e
-ran s a c id guest (Some r) sound f e h = go (is_none r.reply && (guest || not (is_held a.holds r.process.target r.process.unit))) e
+ran s a c id guest (Some r) sound f e h =
+    go (is_none r.reply && (guest || not (is_held a.holds r.process.target r.process.unit))) e
   where
     u : Option UnitState
     u = unit_state_at a.units r.process.target r.process.unit
@@ -65,18 +71,20 @@ ran s a c id guest (Some r) sound f e h = go (is_none r.reply && (guest || not (
 
     good : r.process.id.sense ≡ true → (reply_at a r.process u).status ≡ GOOD
     good z =
-        let block : r.process.cdb ≡ sense_block = sense_cdb s id r.process (ap (λ (x : ProcId). x.sense) (sym own) ∙ z) (running_own s a id r sound f) in
-        ap (λ (x : List ℕ). (execution (Steps.context_at a (nexus_of r.process) u) x r.process.sent).reply.status) block ∙ fetches_good
-        (Steps.context_at a (nexus_of r.process) u) r.process.sent
+        let block : r.process.cdb ≡ sense_block = sense_cdb s id r.process
+        (ap (λ (x : ProcId). x.sense) (sym own) ∙ z) (running_own s a id r sound f) in
+        ap (λ (x : List ℕ). (execution (Steps.context_at a (nexus_of r.process) u) x r.process.sent).reply.status) block
+        ∙ fetches_good (Steps.context_at a (nexus_of r.process) u) r.process.sent
 
-    go : (x : Bool) → (if x then Some (Steps.after_execution_at a r.process u) else None) ≡ Some c → AreFetched c.replies
-    go true z =
-        one_more a.replies c.replies r.process.id (reply_at a r.process u) (took (Steps.after_execution_at a r.process u) c _ z (executed a r.process u).replies) good h
+    go : (x : Bool) → (if x then Some (Steps.after_execution_at a r.process u) else None) ≡ Some c
+        → AreFetched c.replies
+    go true z = one_more a.replies c.replies r.process.id (reply_at a r.process u)
+        (took (Steps.after_execution_at a r.process u) c _ z (executed a r.process u).replies) good h
     go false z = none_some c z
 
 -- A REQUEST SENSE is not refused.
-refused : (s : ScenarioValue) (a c : Array) (id : ProcId) (o : Option Process) → process_of s id ≡ o → Steps.refuse_step a o ≡ Some c → AreFetched a.replies
-    → AreFetched c.replies
+refused : (s : ScenarioValue) (a c : Array) (id : ProcId) (o : Option Process) → process_of s id ≡ o
+    → Steps.refuse_step a o ≡ Some c → AreFetched a.replies → AreFetched c.replies
 refused s a c id None f e h = none_some c e
 refused s a c id (Some p) f e h = at (unit_state_at a.units p.target p.unit) e
   where
@@ -84,41 +92,45 @@ refused s a c id (Some p) f e h = at (unit_state_at a.units p.target p.unit) e
     own = id_is s id p f
 
     kind : (q : Bool) → is_request_sense (command_of p.cdb) ≡ q → p.id.sense ≡ true → q ≡ true
-    kind q z sense = sym z ∙ ap (λ (x : List ℕ). is_request_sense (command_of x)) (sense_cdb s id p (ap (λ (x : ProcId). x.sense) (sym own) ∙ sense) f)
+    kind q z sense = sym z ∙ ap (λ (x : List ℕ). is_request_sense (command_of x))
+        (sense_cdb s id p (ap (λ (x : ProcId). x.sense) (sym own) ∙ sense) f)
 
     go : (u : UnitState) (q : Bool) → is_request_sense (command_of p.cdb) ≡ q → (x : Bool)
-        → (if not q && x then Some (Steps.with_listed_reply (Steps.with_guest a p (Some queue_full)) p.id queue_full) else None) ≡ Some c → AreFetched c.replies
+        → (if not q && x then Some (Steps.with_listed_reply (Steps.with_guest a p (Some queue_full)) p.id queue_full)
+        else None) ≡ Some c → AreFetched c.replies
     go u true z x y = none_some c y
     go u false z false y = none_some c y
-    go u false z true y =
-        one_more a.replies c.replies p.id queue_full (took (Steps.with_listed_reply (Steps.with_guest a p (Some queue_full)) p.id queue_full) c _ y refl)
+    go u false z true y = one_more a.replies c.replies p.id queue_full
+        (took (Steps.with_listed_reply (Steps.with_guest a p (Some queue_full)) p.id queue_full) c _ y refl)
         (λ sense. wrong' (kind false z sense)) h
 
     at : (u : Option UnitState) → Steps.refuse_step_at a p u ≡ Some c → AreFetched c.replies
     at None z = none_some c z
     at (Some u) z = go u (is_request_sense (command_of p.cdb)) refl (Steps.process_count u == u.depth) z
 
-pub step_fetches : (s : ScenarioValue) (b : Sent) (a d : Array) (event : Event) → IsSound s a → PaysWell s b event → Steps.step s event a ≡ Some d → AreFetched a.replies
-    → AreFetched d.replies
-step_fetches s b a d (Event.Accept id) sound well e h =
-    settles (Steps.accept_step a (process_of s id)) d (λ (x : Array). AreFetched x.replies) (λ c k. no_more a.replies c.replies (accepted a c (process_of s id) k) h) e
-step_fetches s b a d (Event.Refuse id) sound well e h =
-    settles (Steps.refuse_step a (process_of s id)) d (λ (x : Array). AreFetched x.replies) (λ c k. refused s a c id (process_of s id) refl k h) e
-step_fetches s b a d (Event.Run id) sound well e h =
-    settles (Steps.run_step a (is_some (guest_at a.guests id)) (Steps.running_process a id)) d (λ (x : Array). AreFetched x.replies)
+pub step_fetches : (s : ScenarioValue) (b : Sent) (a d : Array) (event : Event) → IsSound s a → PaysWell s b event
+    → Steps.step s event a ≡ Some d → AreFetched a.replies → AreFetched d.replies
+step_fetches s b a d (Event.Accept id) sound well e h = settles (Steps.accept_step a (process_of s id)) d
+    (λ (x : Array). AreFetched x.replies) (λ c k. no_more a.replies c.replies (accepted a c (process_of s id) k) h) e
+step_fetches s b a d (Event.Refuse id) sound well e h = settles (Steps.refuse_step a (process_of s id)) d
+    (λ (x : Array). AreFetched x.replies) (λ c k. refused s a c id (process_of s id) refl k h) e
+step_fetches s b a d (Event.Run id) sound well e h = settles (Steps.run_step a
+    (is_some (guest_at a.guests id)) (Steps.running_process a id)) d (λ (x : Array). AreFetched x.replies)
     (λ c k. ran s a c id (is_some (guest_at a.guests id)) (Steps.running_process a id) sound refl k h) e
-step_fetches s b a d (Event.Fail id code) sound well e h =
-    settles (Steps.fail_step s a id (check_condition (sense_of ABORTED_COMMAND code 0x00)) (Steps.running_process a id)) d (λ (x : Array). AreFetched x.replies)
+step_fetches s b a d (Event.Fail id code) sound well e h = settles
+    (Steps.fail_step s a id (check_condition (sense_of ABORTED_COMMAND code 0x00)) (Steps.running_process a id)) d
+    (λ (x : Array). AreFetched x.replies)
     (λ c k. one_more a.replies c.replies id (check_condition (sense_of ABORTED_COMMAND code 0x00))
-    (fail_lists s a c id (check_condition (sense_of ABORTED_COMMAND code 0x00)) (Steps.running_process a id) k) (λ z. wrong (sym z ∙ well)) h) e
+    (fail_lists s a c id (check_condition (sense_of ABORTED_COMMAND code 0x00)) (Steps.running_process a id) k)
+    (λ z. wrong (sym z ∙ well)) h) e
 step_fetches s b a d (Event.End id status) sound well e h =
     settles (Steps.end_step a status (Steps.running_process a id)) d (λ (x : Array). AreFetched x.replies)
     (λ c k. no_more a.replies c.replies (end_lists a c status (Steps.running_process a id) k) h) e
-step_fetches s b a d (Event.Lost id) sound well e h =
-    settles (Steps.loss_step a id) d (λ (x : Array). AreFetched x.replies) (λ c k. no_more a.replies c.replies (loss_lists a c id k) h) e
-step_fetches s b a d (Event.Aborted i t n what) sound well e h =
-    settles (Some (Steps.abort_step s a i t n what)) d (λ (x : Array). AreFetched x.replies)
-    (λ c k. no_more a.replies c.replies (took (Steps.abort_step s a i t n what) c a.replies k (abort_lists s a i t n what)) h) e
+step_fetches s b a d (Event.Lost id) sound well e h = settles (Steps.loss_step a id) d
+    (λ (x : Array). AreFetched x.replies) (λ c k. no_more a.replies c.replies (loss_lists a c id k) h) e
+step_fetches s b a d (Event.Aborted i t n what) sound well e h = settles (Some (Steps.abort_step s a i t n what)) d
+    (λ (x : Array). AreFetched x.replies) (λ c k. no_more a.replies c.replies
+    (took (Steps.abort_step s a i t n what) c a.replies k (abort_lists s a i t n what)) h) e
 step_fetches s b a d (Event.Reset dev) sound well e h =
     settles (Some (Steps.reset_step s a)) d (λ (x : Array). AreFetched x.replies)
     (λ c k. no_more a.replies c.replies (took (Steps.reset_step s a) c a.replies k (reset_lists s a)) h) e

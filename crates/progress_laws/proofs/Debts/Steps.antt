@@ -1,5 +1,5 @@
--- Event by event those to whom a sense is owed stand in the hold: a command that ends with CHECK CONDITION puts its initiator there, and what takes one
--- away stops its REQUEST SENSE, or is its end (7.6, 7.8).
+-- Event by event those to whom a sense is owed stand in the hold: a command that ends with CHECK CONDITION puts its
+-- initiator there, and what takes one away stops its REQUEST SENSE, or is its end (7.6, 7.8).
 use Rattle.progress_laws.proofs
 use proofs.Names.{inl, inr, ℕ, ◌≡◌, ◌⊎◌, ◌+◌, Bool, true, false, not, ◌&&◌, ◌||◌, ◌∙◌, List, [], ◌∷◌, ◌++◌, Some, refl}
 use proofs.Names.{sym, ap, subst, eqb-true, not-true, or_cases, same_Some, list_any, if◌then◌else◌, ◌==◌, is_some}
@@ -22,43 +22,60 @@ pub is_checked : (b : Sent) (n : ℕ) → is_owed b n ≡ true → list_any (λ 
 is_checked b n e = and_first (list_any (λ k. k == n) b.checks) (not (has_item b.over (sense_item n))) e
 
 pub is_not_over : (b : Sent) (n : ℕ) → is_owed b n ≡ true → has_item b.over (sense_item n) ≡ false
-is_not_over b n e = not-true (has_item b.over (sense_item n)) (and_second (list_any (λ k. k == n) b.checks) (not (has_item b.over (sense_item n))) e)
+is_not_over b n e = not-true (has_item b.over (sense_item n))
+    (and_second (list_any (λ k. k == n) b.checks) (not (has_item b.over (sense_item n))) e)
 
 abbrev Keeps : Sent → Sent → Type 0
 Keeps b c = (n : ℕ) → has_item b.over (sense_item n) ≡ true → has_item c.over (sense_item n) ≡ true
 
-owed_before : (b c : Sent) (n : ℕ) → Keeps b c → list_any (λ k. k == n) b.checks ≡ true → has_item c.over (sense_item n) ≡ false → is_owed b n ≡ true
-owed_before b c n more there opens = λ i. there i && not_grown (has_item b.over (sense_item n)) (has_item c.over (sense_item n)) (more n) (ap not opens) i
+owed_before : (b c : Sent) (n : ℕ) → Keeps b c → list_any (λ k. k == n) b.checks ≡ true
+    → has_item c.over (sense_item n) ≡ false → is_owed b n ≡ true
+owed_before b c n more there opens = λ i. there i
+    && not_grown (has_item b.over (sense_item n)) (has_item c.over (sense_item n)) (more n) (ap not opens) i
 
-pub debt_before : (s : ScenarioValue) (b c : Sent) (n : ℕ) (q : Nexus) → Keeps b c → list_any (λ k. k == n) b.checks ≡ true → IsDebt s c n q → IsDebt s b n q
-debt_before s b c n q more there d = record { def = d.def; def_is = d.def_is; nexus_is = d.nexus_is; owed = owed_before b c n more there (is_not_over c n d.owed) }
+pub debt_before : (s : ScenarioValue) (b c : Sent) (n : ℕ) (q : Nexus) → Keeps b c
+    → list_any (λ k. k == n) b.checks ≡ true → IsDebt s c n q → IsDebt s b n q
+debt_before s b c n q more there d = record {
+  def = d.def;
+  def_is = d.def_is;
+  nexus_is = d.nexus_is;
+  owed = owed_before b c n more there (is_not_over c n d.owed);
+}
 
-pub same_debt : (s : ScenarioValue) (b c : Sent) (n : ℕ) (q : Nexus) → c.checks ≡ b.checks → Keeps b c → IsDebt s c n q → IsDebt s b n q
-same_debt s b c n q same more d = debt_before s b c n q more (ap (λ (x : List ℕ). list_any (λ k. k == n) x) (sym same) ∙ is_checked c n d.owed) d
+pub same_debt : (s : ScenarioValue) (b c : Sent) (n : ℕ) (q : Nexus) → c.checks ≡ b.checks → Keeps b c → IsDebt s c n q
+    → IsDebt s b n q
+same_debt s b c n q same more d =
+    debt_before s b c n q more (ap (λ (x : List ℕ). list_any (λ k. k == n) x) (sym same) ∙ is_checked c n d.owed) d
 
 -- No command ends with CHECK CONDITION, and a REQUEST SENSE is over of one that did.
 pub fewer_debts : (s : ScenarioValue) (b c : Sent) (holds kept : List Nexus) → c.checks ≡ b.checks → Keeps b c
-    → ((n : ℕ) → has_item c.over (sense_item n) ≡ true → (has_item b.over (sense_item n) ≡ true) ⊎ (list_any (λ k. k == n) b.checks ≡ true))
-    → ((n : ℕ) (q : Nexus) → IsDebt s c n q → IsDebt s b n q → in_hold holds q ≡ true → in_hold kept q ≡ true) → Debts s b holds → Debts s c kept
+    → ((n : ℕ) → has_item c.over (sense_item n) ≡ true
+    → (has_item b.over (sense_item n) ≡ true) ⊎ (list_any (λ k. k == n) b.checks ≡ true))
+    → ((n : ℕ) (q : Nexus) → IsDebt s c n q → IsDebt s b n q → in_hold holds q ≡ true → in_hold kept q ≡ true)
+    → Debts s b holds → Debts s c kept
 fewer_debts s b c holds kept same more back keep h = record {
   held = λ n q d. keep n q d (before n q d) (h.held n q (before n q d));
   alone = λ n m q d e. h.alone n m q (before n q d) (before m q e);
-  checked = λ n o. ap (λ (x : List ℕ). list_any (λ k. k == n) x) same ∙ elim (back n o) [ inl x ↦ h.checked n x | inr x ↦ x ];
+  checked =
+      λ n o. ap (λ (x : List ℕ). list_any (λ k. k == n) x) same ∙ elim (back n o) [ inl x ↦ h.checked n x | inr x ↦ x ];
 }
   where
     before : (n : ℕ) (q : Nexus) → IsDebt s c n q → IsDebt s b n q
     before n q d = same_debt s b c n q same more d
 
-pub same_debts : (s : ScenarioValue) (b c : Sent) (holds : List Nexus) → c.checks ≡ b.checks → ((n : ℕ) → has_item c.over (sense_item n) ≡ has_item b.over (sense_item n))
-    → Debts s b holds → Debts s c holds
-same_debts s b c holds same over h = fewer_debts s b c holds holds same (λ n z. over n ∙ z) (λ n z. inl (sym (over n) ∙ z)) (λ n q d e z. z) h
+pub same_debts : (s : ScenarioValue) (b c : Sent) (holds : List Nexus) → c.checks ≡ b.checks
+    → ((n : ℕ) → has_item c.over (sense_item n) ≡ has_item b.over (sense_item n)) → Debts s b holds → Debts s c holds
+same_debts s b c holds same over h =
+    fewer_debts s b c holds holds same (λ n z. over n ∙ z) (λ n z. inl (sym (over n) ∙ z)) (λ n q d e z. z) h
 
-pub same_no_debt : (s : ScenarioValue) (b c : Sent) (q : Nexus) → c.checks ≡ b.checks → Keeps b c → NoDebt s b q → NoDebt s c q
+pub same_no_debt : (s : ScenarioValue) (b c : Sent) (q : Nexus) → c.checks ≡ b.checks → Keeps b c → NoDebt s b q
+    → NoDebt s c q
 same_no_debt s b c q same more none n d = none n (same_debt s b c n q same more d)
 
 -- ---- one leaves the hold
 
-stays_held : (holds : List Nexus) (p q : Nexus) → (p ≡ q → ⊥) → in_hold holds q ≡ true → in_hold (nexuses_without holds p) q ≡ true
+stays_held : (holds : List Nexus) (p q : Nexus) → (p ≡ q → ⊥) → in_hold holds q ≡ true
+    → in_hold (nexuses_without holds p) q ≡ true
 stays_held holds p q apart e = nexuses_without_at holds p q ∙ go (same_nexus p q) refl
   where
     go : (x : Bool) → same_nexus p q ≡ x → (if x then false else in_hold holds q) ≡ true
@@ -66,11 +83,13 @@ stays_held holds p q apart e = nexuses_without_at holds p q ∙ go (same_nexus p
     go false z = e
 
 -- Others stay where a test drops some.
-kept_held : (drops : Nexus → Bool) (holds : List Nexus) (q : Nexus) → drops q ≡ false → in_hold holds q ≡ true → in_hold (Steps.kept_nexuses drops holds) q ≡ true
+kept_held : (drops : Nexus → Bool) (holds : List Nexus) (q : Nexus) → drops q ≡ false → in_hold holds q ≡ true
+    → in_hold (Steps.kept_nexuses drops holds) q ≡ true
 kept_held drops [] q keep e = e
 kept_held drops (p ∷ holds) q keep e = go (drops p) refl (same_nexus p q) refl e (kept_held drops holds q keep)
   where
-    go : (x : Bool) → drops p ≡ x → (y : Bool) → same_nexus p q ≡ y → (y || in_hold holds q) ≡ true → (in_hold holds q ≡ true → in_hold (Steps.kept_nexuses drops holds) q ≡ true)
+    go : (x : Bool) → drops p ≡ x → (y : Bool) → same_nexus p q ≡ y → (y || in_hold holds q) ≡ true
+        → (in_hold holds q ≡ true → in_hold (Steps.kept_nexuses drops holds) q ≡ true)
         → in_hold (if x then Steps.kept_nexuses drops holds else p ∷ Steps.kept_nexuses drops holds) q ≡ true
     go true f true g z more = wrong (sym f ∙ ap drops (same_nexus_is p q g) ∙ keep)
     go true f false g z more = more z
@@ -82,20 +101,24 @@ kept_held drops (p ∷ holds) q keep e = go (drops p) refl (same_nexus p q) refl
 one_over : (b : Sent) (id : ProcId) → Keeps b (record b { over = process id ∷ b.over })
 one_over b id n z = more_has (process id) (sense_item n) b.over z
 
-over_before : (b : Sent) (id : ProcId) (n : ℕ) → id.sense ≡ false → has_item (process id ∷ b.over) (sense_item n) ≡ true → has_item b.over (sense_item n) ≡ true
-over_before b id n e z = or_second (same_item (process id) (sense_item n)) (has_item b.over (sense_item n)) z (other_over id n e)
+over_before : (b : Sent) (id : ProcId) (n : ℕ) → id.sense ≡ false → has_item (process id ∷ b.over) (sense_item n) ≡ true
+    → has_item b.over (sense_item n) ≡ true
+over_before b id n e z =
+    or_second (same_item (process id) (sense_item n)) (has_item b.over (sense_item n)) z (other_over id n e)
 
-command_over : (s : ScenarioValue) (b : Sent) (holds : List Nexus) (id : ProcId) → id.sense ≡ false → Debts s b holds → Debts s (record b { over = process id ∷ b.over }) holds
-command_over s b holds id e h =
-    fewer_debts s b (record b { over = process id ∷ b.over }) holds holds refl (one_over b id) (λ n z. inl (over_before b id n e z)) (λ n q d f z. z) h
+command_over : (s : ScenarioValue) (b : Sent) (holds : List Nexus) (id : ProcId) → id.sense ≡ false → Debts s b holds
+    → Debts s (record b { over = process id ∷ b.over }) holds
+command_over s b holds id e h = fewer_debts s b (record b { over = process id ∷ b.over }) holds holds refl
+    (one_over b id) (λ n z. inl (over_before b id n e z)) (λ n q d f z. z) h
 
 -- A REQUEST SENSE that was owed.
-sense_over : (s : ScenarioValue) (b : Sent) (holds : List Nexus) (id : ProcId) (p : Nexus) → id.sense ≡ true → IsDebt s b id.command p → Debts s b holds
+sense_over : (s : ScenarioValue) (b : Sent) (holds : List Nexus) (id : ProcId) (p : Nexus)
+    → id.sense ≡ true → IsDebt s b id.command p → Debts s b holds
     → Debts s (record b { over = process id ∷ b.over }) (nexuses_without holds p)
 sense_over s b holds id p e own h =
-    fewer_debts s b c holds (nexuses_without holds p) refl (one_over b id) back
-    (λ n q d f z. stays_held holds p q
-    (λ same. wrong (sym (over n (h.alone id.command n p own (subst (λ (x : Nexus). IsDebt s b n x) (sym same) f))) ∙ is_not_over c n d.owed)) z) h
+    fewer_debts s b c holds (nexuses_without holds p) refl (one_over b id) back (λ n q d f z. stays_held holds p q
+    (λ same. wrong (sym (over n (h.alone id.command n p own (subst (λ (x : Nexus). IsDebt s b n x) (sym same) f)))
+    ∙ is_not_over c n d.owed)) z) h
   where
     c : Sent
     c = record b { over = process id ∷ b.over }
@@ -106,20 +129,25 @@ sense_over s b holds id p e own h =
     over : (n : ℕ) → id.command ≡ n → has_item c.over (sense_item n) ≡ true
     over n same = ap (has_item c.over) (ap sense_item (sym same) ∙ sym own_item) ∙ own_has (process id) b.over
 
-    back : (n : ℕ) → has_item c.over (sense_item n) ≡ true → (has_item b.over (sense_item n) ≡ true) ⊎ (list_any (λ k. k == n) b.checks ≡ true)
+    back : (n : ℕ) → has_item c.over (sense_item n) ≡ true
+        → (has_item b.over (sense_item n) ≡ true) ⊎ (list_any (λ k. k == n) b.checks ≡ true)
     back n z = elim (or_cases (same_item (process id) (sense_item n)) (has_item b.over (sense_item n)) z) [
-      | inl x ↦ inr
-          (ap (λ (m : ℕ). list_any (λ k. k == m) b.checks) (sym (eqb-true id.command n (and_first (id.command == n) (same_bool id.sense true) x)))
+      | inl x ↦ inr (ap (λ (m : ℕ). list_any (λ k. k == m) b.checks)
+          (sym (eqb-true id.command n (and_first (id.command == n) (same_bool id.sense true) x)))
           ∙ is_checked b id.command own.owed)
       | inr x ↦ inl x
     ]
 
 -- A command ends with CHECK CONDITION.
-check_added : (s : ScenarioValue) (b c : Sent) (holds : List Nexus) (id : ProcId) (p : Nexus) → id.sense ≡ false → c.over ≡ process id ∷ b.over
-    → c.checks ≡ b.checks ++ id.command ∷ []
-    → (def : CmdDef) → command_at s.commands id.command ≡ Some def → nexus_of_command def ≡ p → NoDebt s b p → Debts s b holds → Debts s c (p ∷ nexuses_without holds p)
+check_added : (s : ScenarioValue) (b c : Sent) (holds : List Nexus) (id : ProcId) (p : Nexus)
+    → id.sense ≡ false → c.over ≡ process id ∷ b.over → c.checks ≡ b.checks ++ id.command ∷ []
+    → (def : CmdDef) → command_at s.commands id.command ≡ Some def → nexus_of_command def ≡ p → NoDebt s b p
+    → Debts s b holds → Debts s c (p ∷ nexuses_without holds p)
 check_added s b c holds id p e over checks def def_is nexus none h = record {
-  held = λ n q d. nexus_put_at holds p q ∙ elim (newer n q d) [ inl same ↦ placed n q d same (same_nexus p q) refl | inr old ↦ kept (same_nexus p q) q (h.held n q old) ];
+  held = λ n q d. nexus_put_at holds p q ∙ elim (newer n q d) [
+    | inl same ↦ placed n q d same (same_nexus p q) refl
+    | inr old ↦ kept (same_nexus p q) q (h.held n q old)
+  ];
   alone = λ n m q d f. elim (newer n q d) [
     | inl x ↦ elim (newer m q f) [ inl y ↦ sym x ∙ y | inr y ↦ apart n q d x m y ]
     | inr x ↦ elim (newer m q f) [ inl y ↦ apart m q f y n x | inr y ↦ h.alone n m q x y ]
@@ -132,15 +160,19 @@ check_added s b c holds id p e over checks def def_is nexus none h = record {
     more n z = ap (λ (x : List Item). has_item x (sense_item n)) over ∙ one_over b id n z
 
     newer : (n : ℕ) (q : Nexus) → IsDebt s c n q → (id.command ≡ n) ⊎ IsDebt s b n q
-    newer n q d = elim (in_append n id.command b.checks (ap (λ (x : List ℕ). list_any (λ k. k == n) x) (sym checks) ∙ is_checked c n d.owed)) [
-      | inl old ↦ inr (debt_before s b c n q more old d)
-      | inr new ↦ inl new
-    ]
+    newer n q d = elim (in_append n id.command b.checks
+        (ap (λ (x : List ℕ). list_any (λ k. k == n) x) (sym checks) ∙ is_checked c n d.owed)) [
+          | inl old ↦ inr (debt_before s b c n q more old d)
+          | inr new ↦ inl new
+        ]
 
     own_nexus : (n : ℕ) (q : Nexus) → IsDebt s c n q → id.command ≡ n → p ≡ q
-    own_nexus n q d same = sym nexus ∙ ap nexus_of_command (same_Some def d.def (sym def_is ∙ ap (command_at s.commands) same ∙ d.def_is)) ∙ d.nexus_is
+    own_nexus n q d same =
+        sym nexus ∙ ap nexus_of_command (same_Some def d.def (sym def_is ∙ ap (command_at s.commands) same ∙ d.def_is))
+        ∙ d.nexus_is
 
-    placed : (n : ℕ) (q : Nexus) → IsDebt s c n q → id.command ≡ n → (x : Bool) → same_nexus p q ≡ x → (if x then true else in_hold holds q) ≡ true
+    placed : (n : ℕ) (q : Nexus) → IsDebt s c n q → id.command ≡ n → (x : Bool) → same_nexus p q ≡ x
+        → (if x then true else in_hold holds q) ≡ true
     placed n q d same true z = refl
     placed n q d same false z = wrong (sym (ap (same_nexus p) (sym (own_nexus n q d same)) ∙ self_nexus p) ∙ z)
 
@@ -152,14 +184,16 @@ check_added s b c holds id p e over checks def def_is nexus none h = record {
     apart n q d same m old = absurd (none m (subst (λ (x : Nexus). IsDebt s b m x) (sym (own_nexus n q d same)) old))
 
 -- A command ends otherwise, and its initiator leaves the hold.
-command_fetches : (s : ScenarioValue) (b : Sent) (holds : List Nexus) (id : ProcId) (p : Nexus) → id.sense ≡ false → NoDebt s b p → Debts s b holds
-    → Debts s (record b { over = process id ∷ b.over }) (nexuses_without holds p)
-command_fetches s b holds id p e none h =
-    fewer_debts s b (record b { over = process id ∷ b.over }) holds (nexuses_without holds p) refl (one_over b id) (λ n z. inl (over_before b id n e z))
+command_fetches : (s : ScenarioValue) (b : Sent) (holds : List Nexus) (id : ProcId) (p : Nexus) → id.sense ≡ false
+    → NoDebt s b p → Debts s b holds → Debts s (record b { over = process id ∷ b.over }) (nexuses_without holds p)
+command_fetches s b holds id p e none h = fewer_debts s b (record b { over = process id ∷ b.over }) holds
+    (nexuses_without holds p) refl (one_over b id) (λ n z. inl (over_before b id n e z))
     (λ n q d f z. stays_held holds p q (λ same. none n (subst (λ (x : Nexus). IsDebt s b n x) (sym same) f)) z) h
 
-ended : (s : ScenarioValue) (b : Story) (a : Array) (id : ProcId) (status : ℕ) → IsSound s a → PaysWell s b.sent (Event.End id status) → Debts s b.sent a.holds
-    → IfHolds (λ holds. Debts s (story_after_event s b (Event.End id status)).sent holds) (Steps.end_step a status (Steps.running_process a id))
+ended : (s : ScenarioValue) (b : Story) (a : Array) (id : ProcId) (status : ℕ)
+    → IsSound s a → PaysWell s b.sent (Event.End id status) → Debts s b.sent a.holds
+    → IfHolds (λ holds. Debts s (story_after_event s b (Event.End id status)).sent holds)
+    (Steps.end_step a status (Steps.running_process a id))
 ended s b a id status sound well h = ended_so s (λ holds. Debts s c holds) a id status sound after
   where
     c : Sent
@@ -168,23 +202,31 @@ ended s b a id status sound well h = ended_so s (λ holds. Debts s c holds) a id
     ends : Story
     ends = story_with_end b id (by_status status)
 
-    plain : (q : Bool) → (not id.sense && status == CHECK_CONDITION) ≡ q → q ≡ false → c ≡ record b.sent { over = process id ∷ b.sent.over }
-    plain q z f = λ i. (if (z ∙ f) i then record ends { sent = record ends.sent { checks = ends.sent.checks ++ id.command ∷ [] } } else ends).sent
+    plain : (q : Bool) → (not id.sense && status == CHECK_CONDITION) ≡ q → q ≡ false
+        → c ≡ record b.sent { over = process id ∷ b.sent.over }
+    plain q z f =
+        λ i. (if (z ∙ f) i then record ends { sent = record ends.sent { checks = ends.sent.checks ++ id.command ∷ [] } }
+        else ends).sent
 
-    checking : id.sense ≡ false → (status == CHECK_CONDITION) ≡ true → c ≡ record b.sent { over = process id ∷ b.sent.over; checks = b.sent.checks ++ id.command ∷ [] }
-    checking e f = λ i. (if not (e i) && f i then record ends { sent = record ends.sent { checks = ends.sent.checks ++ id.command ∷ [] } } else ends).sent
+    checking : id.sense ≡ false → (status == CHECK_CONDITION) ≡ true
+        → c ≡ record b.sent { over = process id ∷ b.sent.over; checks = b.sent.checks ++ id.command ∷ [] }
+    checking e f = λ i. (if not (e i) && f i
+        then record ends { sent = record ends.sent { checks = ends.sent.checks ++ id.command ∷ [] } } else ends).sent
 
     sense_plain : id.sense ≡ true → c ≡ record b.sent { over = process id ∷ b.sent.over }
     sense_plain e = plain (not id.sense && status == CHECK_CONDITION) refl (λ i. not (e i) && status == CHECK_CONDITION)
 
     command_plain : (status == CHECK_CONDITION) ≡ false → c ≡ record b.sent { over = process id ∷ b.sent.over }
-    command_plain f = plain (not id.sense && status == CHECK_CONDITION) refl ((λ i. not id.sense && f i) ∙ and_false (not id.sense))
+    command_plain f =
+        plain (not id.sense && status == CHECK_CONDITION) refl ((λ i. not id.sense && f i) ∙ and_false (not id.sense))
 
     moved : (holds : List Nexus) (x : Sent) → c ≡ x → Debts s x holds → Debts s c holds
     moved holds x e d = subst (λ (y : Sent). Debts s y holds) (sym e) d
 
-    after : (p : Process) (reply : Reply) → OfCommand s id p → (reply.status == status) ≡ true → Debts s c (Steps.after_status a p reply).holds
-    after p reply of z = by (reply.status == CHECK_CONDITION) refl (reply.status == GOOD && is_request_sense (command_of p.cdb)) refl id.sense refl
+    after : (p : Process) (reply : Reply) → OfCommand s id p → (reply.status == status) ≡ true
+        → Debts s c (Steps.after_status a p reply).holds
+    after p reply of z = by (reply.status == CHECK_CONDITION) refl
+        (reply.status == GOOD && is_request_sense (command_of p.cdb)) refl id.sense refl
       where
         same : reply.status ≡ status
         same = eqb-true reply.status status z
@@ -198,21 +240,29 @@ ended s b a id status sound well h = ended_so s (λ holds. Debts s c holds) a id
         none : id.sense ≡ false → NoDebt s b.sent (nexus_of p)
         none e = subst (λ (x : Nexus). NoDebt s b.sent x) nexus ((well.1 e).1 of.def of.def_is)
 
-        by : (q : Bool) → (reply.status == CHECK_CONDITION) ≡ q → (t : Bool) → (reply.status == GOOD && is_request_sense (command_of p.cdb)) ≡ t → (x : Bool) → id.sense ≡ x
-            → Debts s c (if q then record a { senses = (nexus_of p, reply.sense) ∷ senses_without a.senses (nexus_of p); holds = nexus_of p ∷ nexuses_without a.holds (nexus_of p) }
-            else if t then record a { senses = senses_without a.senses (nexus_of p); holds = nexuses_without a.holds (nexus_of p) }
-            else a).holds
+        by : (q : Bool) → (reply.status == CHECK_CONDITION) ≡ q
+            → (t : Bool) → (reply.status == GOOD && is_request_sense (command_of p.cdb)) ≡ t → (x : Bool) → id.sense ≡ x
+            → Debts s c (if q then record a {
+              senses = (nexus_of p, reply.sense) ∷ senses_without a.senses (nexus_of p);
+              holds = nexus_of p ∷ nexuses_without a.holds (nexus_of p);
+            } else if t then record a {
+              senses = senses_without a.senses (nexus_of p);
+              holds = nexuses_without a.holds (nexus_of p);
+            } else a).holds
         by true f t g true e = no_check status (well.0 e).0 (checks true f)
         by true f t g false e =
             let is = checking e (checks true f) in
-            check_added s b.sent c a.holds id (nexus_of p) e (ap (λ (x : Sent). x.over) is) (ap (λ (x : Sent). x.checks) is) of.def of.def_is nexus (none e) h
+            check_added s b.sent c a.holds id (nexus_of p) e (ap (λ (x : Sent). x.over) is)
+            (ap (λ (x : Sent). x.checks) is) of.def of.def_is nexus (none e) h
         by false f true g true e =
-            moved (nexuses_without a.holds (nexus_of p)) _ (sense_plain e)
-            (sense_over s b.sent a.holds id (nexus_of p) e (record { def = of.def; def_is = of.def_is; nexus_is = nexus; owed = (well.0 e).1 }) h)
-        by false f true g false e =
-            moved (nexuses_without a.holds (nexus_of p)) _ (command_plain (checks false f)) (command_fetches s b.sent a.holds id (nexus_of p) e (none e) h)
-        by false f false g true e = wrong (sym (λ i. (ap (λ (n : ℕ). n == GOOD) same ∙ (well.0 e).0) i && of.fetches e i) ∙ g)
-        by false f false g false e = moved a.holds _ (command_plain (checks false f)) (command_over s b.sent a.holds id e h)
+            moved (nexuses_without a.holds (nexus_of p)) _ (sense_plain e) (sense_over s b.sent a.holds id
+            (nexus_of p) e (record { def = of.def; def_is = of.def_is; nexus_is = nexus; owed = (well.0 e).1 }) h)
+        by false f true g false e = moved (nexuses_without a.holds (nexus_of p)) _ (command_plain (checks false f))
+            (command_fetches s b.sent a.holds id (nexus_of p) e (none e) h)
+        by false f false g true e =
+            wrong (sym (λ i. (ap (λ (n : ℕ). n == GOOD) same ∙ (well.0 e).0) i && of.fetches e i) ∙ g)
+        by false f false g false e =
+            moved a.holds _ (command_plain (checks false f)) (command_over s b.sent a.holds id e h)
 
 -- ---- an abort, or RST
 
@@ -221,8 +271,8 @@ ends_back : (drops stops : CmdDef → Bool) (e : Ending) (j : ℕ) (commands : L
     → has_item (story_with_ends drops stops e j commands b).sent.over (sense_item n) ≡ true
     → (has_item b.sent.over (sense_item n) ≡ true) ⊎ (list_any (λ k. k == n) b.sent.checks ≡ true)
 ends_back drops stops e j [] b n o = inl o
-ends_back drops stops e j (c ∷ commands) b n o =
-    go (is_open b.sent j && drops c) (stops c && list_any (λ k. k == j) b.sent.checks) refl (ends_back drops stops e (j + 1) commands next n o)
+ends_back drops stops e j (c ∷ commands) b n o = go (is_open b.sent j && drops c)
+    (stops c && list_any (λ k. k == j) b.sent.checks) refl (ends_back drops stops e (j + 1) commands next n o)
   where
     next : Story
     next =
@@ -231,51 +281,58 @@ ends_back drops stops e j (c ∷ commands) b n o =
         else b
 
     go : (q r : Bool) → (stops c && list_any (λ k. k == j) b.sent.checks) ≡ r
-        → (has_item (if q then story_with_end b (record { command = j; sense = false }) e else if r then story_with_over b (sense_item j) else b).sent.over (sense_item n) ≡ true)
-        ⊎ (list_any (λ k. k == n)
-        (if q then story_with_end b (record { command = j; sense = false }) e else if r then story_with_over b (sense_item j) else b).sent.checks ≡ true)
+        → (has_item (if q then story_with_end b (record { command = j; sense = false }) e
+        else if r then story_with_over b (sense_item j) else b).sent.over (sense_item n) ≡ true)
+        ⊎ (list_any (λ k. k == n) (if q then story_with_end b (record { command = j; sense = false }) e
+        else if r then story_with_over b (sense_item j) else b).sent.checks ≡ true)
         → (has_item b.sent.over (sense_item n) ≡ true) ⊎ (list_any (λ k. k == n) b.sent.checks ≡ true)
-    go true r z (inl x) = inl (or_second (same_item (command_item j) (sense_item n)) (has_item b.sent.over (sense_item n)) x (command_apart j n))
+    go true r z (inl x) = inl (or_second (same_item (command_item j) (sense_item n))
+        (has_item b.sent.over (sense_item n)) x (command_apart j n))
     go true r z (inr x) = inr x
-    go false true z (inl x) = elim (or_cases (same_item (sense_item j) (sense_item n)) (has_item b.sent.over (sense_item n)) x) [
-      | inl y ↦ inr
-          (ap (λ (m : ℕ). list_any (λ k. k == m) b.sent.checks) (sym (eqb-true j n (and_first (j == n) (same_bool true true) y))) ∙ and_second (stops c)
-          (list_any (λ k. k == j) b.sent.checks) z)
-      | inr y ↦ inl y
-    ]
+    go false true z (inl x) =
+        elim (or_cases (same_item (sense_item j) (sense_item n)) (has_item b.sent.over (sense_item n)) x) [
+          | inl y ↦ inr (ap (λ (m : ℕ). list_any (λ k. k == m) b.sent.checks)
+              (sym (eqb-true j n (and_first (j == n) (same_bool true true) y)))
+              ∙ and_second (stops c) (list_any (λ k. k == j) b.sent.checks) z)
+          | inr y ↦ inl y
+        ]
     go false true z (inr x) = inr x
     go false false z h = h
 
 -- What stands in the hold for a sense that it does not stop has to stay.
-ends_debts : (s : ScenarioValue) (drops stops : CmdDef → Bool) (e : Ending) (b : Story) (holds kept : List Nexus) → AreChecked b.sent
-    → Keeps b.sent (story_with_ends drops stops e 1 s.commands b).sent
-    → ((def : CmdDef) (q : Nexus) → stops def ≡ false → nexus_of_command def ≡ q → in_hold holds q ≡ true → in_hold kept q ≡ true) → Debts s b.sent holds
-    → Debts s (story_with_ends drops stops e 1 s.commands b).sent kept
-ends_debts s drops stops e b holds kept checked more keep h =
-    fewer_debts s b.sent c holds kept (ends_checks drops stops e 1 s.commands b) more (λ n z. ends_back drops stops e 1 s.commands b n z)
+ends_debts : (s : ScenarioValue) (drops stops : CmdDef → Bool) (e : Ending) (b : Story) (holds kept : List Nexus)
+    → AreChecked b.sent → Keeps b.sent (story_with_ends drops stops e 1 s.commands b).sent
+    → ((def : CmdDef) (q : Nexus) → stops def ≡ false → nexus_of_command def ≡ q → in_hold holds q ≡ true
+    → in_hold kept q ≡ true) → Debts s b.sent holds → Debts s (story_with_ends drops stops e 1 s.commands b).sent kept
+ends_debts s drops stops e b holds kept checked more keep h = fewer_debts s b.sent c holds kept
+    (ends_checks drops stops e 1 s.commands b) more (λ n z. ends_back drops stops e 1 s.commands b n z)
     (λ n q d f z. keep d.def q (unstopped n q d f (stops d.def) refl) d.nexus_is z) h
   where
     c : Sent
     c = (story_with_ends drops stops e 1 s.commands b).sent
 
-    unstopped : (n : ℕ) (q : Nexus) (d : IsDebt s c n q) → IsDebt s b.sent n q → (x : Bool) → stops d.def ≡ x → stops d.def ≡ false
+    unstopped : (n : ℕ) (q : Nexus) (d : IsDebt s c n q) → IsDebt s b.sent n q → (x : Bool) → stops d.def ≡ x
+        → stops d.def ≡ false
     unstopped n q d f false z = z
-    unstopped n q d f true z = wrong (sym (ends_senses s drops stops e b n d.def d.def_is z checked (is_checked b.sent n f.owed)) ∙ is_not_over c n d.owed)
+    unstopped n q d f true z =
+        wrong (sym (ends_senses s drops stops e b n d.def d.def_is z checked (is_checked b.sent n f.owed))
+        ∙ is_not_over c n d.owed)
 
-aborted : (s : ScenarioValue) (b : Story) (a : Array) (i t n : ℕ) (what : AbortKind) → AreChecked b.sent → Debts s b.sent a.holds
+aborted : (s : ScenarioValue) (b : Story) (a : Array) (i t n : ℕ) (what : AbortKind)
+    → AreChecked b.sent → Debts s b.sent a.holds
     → Debts s (story_after_event s b (Event.Aborted i t n what)).sent (Steps.abort_step s a i t n what).holds
-aborted s b a i t n what checked h =
-    ends_debts s (is_aborted i t n what) (is_sense_stopped i t n what) by_abort b a.holds (Steps.abort_step s a i t n what).holds checked
+aborted s b a i t n what checked h = ends_debts s (is_aborted i t n what)
+    (is_sense_stopped i t n what) by_abort b a.holds (Steps.abort_step s a i t n what).holds checked
     (λ m z. (events_grow s b (Event.Aborted i t n what ∷ [])).over (sense_item m) z) (stays what) h
   where
-    stays : (what : AbortKind) (def : CmdDef) (q : Nexus) → is_sense_stopped i t n what def ≡ false → nexus_of_command def ≡ q → in_hold a.holds q ≡ true
-        → in_hold (Steps.abort_step s a i t n what).holds q ≡ true
-    stays AbortKind.All def q e is z =
-        stays_held a.holds (nexus_at i t n) q
-        (λ same. wrong (sym (ap (λ (x : Nexus). same_nexus x (nexus_at i t n)) (is ∙ sym same) ∙ self_nexus (nexus_at i t n)) ∙ e)) z
+    stays : (what : AbortKind) (def : CmdDef) (q : Nexus) → is_sense_stopped i t n what def ≡ false
+        → nexus_of_command def ≡ q → in_hold a.holds q ≡ true → in_hold (Steps.abort_step s a i t n what).holds q ≡ true
+    stays AbortKind.All def q e is z = stays_held a.holds (nexus_at i t n) q (λ same. wrong
+        (sym (ap (λ (x : Nexus). same_nexus x (nexus_at i t n)) (is ∙ sym same) ∙ self_nexus (nexus_at i t n)) ∙ e)) z
     stays (AbortKind.Tag tag) def q e is z = z
-    stays AbortKind.WholeQueue def q e is z =
-        ap (λ (x : List Nexus). in_hold x q) (cleared_holds i (Steps.unit_processes (unit_state_at a.units t n)) (Steps.without_dropped a (λ p. Steps.is_of_unit p t n))) ∙ z
+    stays AbortKind.WholeQueue def q e is z = ap (λ (x : List Nexus). in_hold x q) (cleared_holds i
+        (Steps.unit_processes (unit_state_at a.units t n)) (Steps.without_dropped a (λ p. Steps.is_of_unit p t n)))
+        ∙ z
     stays AbortKind.Device def q e is z =
         ap (λ (x : List Nexus). in_hold x q)
         (all_reset_holds s.hosts a.units (λ u. u.target == t)
@@ -288,22 +345,26 @@ aborted s b a i t n what checked h =
 
 -- ---- any event
 
-event_pays : (s : ScenarioValue) (b : Story) (a : Array) (event : Event) → IsSound s a → AreChecked b.sent → PaysWell s b.sent event → Debts s b.sent a.holds
+event_pays : (s : ScenarioValue) (b : Story) (a : Array) (event : Event) → IsSound s a
+    → AreChecked b.sent → PaysWell s b.sent event → Debts s b.sent a.holds
     → IfHolds (λ holds. Debts s (story_after_event s b event).sent holds) (Steps.event_step s a event)
 event_pays s b a (Event.Accept id) sound checked well h = accepted (λ holds. Debts s b.sent holds) a (process_of s id) h
 event_pays s b a (Event.Refuse id) sound checked well h = refused (λ holds. Debts s b.sent holds) a (process_of s id) h
-event_pays s b a (Event.Run id) sound checked well h = run (λ holds. Debts s b.sent holds) a (is_some (guest_at a.guests id)) (Steps.running_process a id) h
-event_pays s b a (Event.Fail id code) sound checked well h =
-    failed (λ holds. Debts s b.sent holds) s a id (check_condition (sense_of ABORTED_COMMAND code 0x00)) (Steps.running_process a id) h
+event_pays s b a (Event.Run id) sound checked well h =
+    run (λ holds. Debts s b.sent holds) a (is_some (guest_at a.guests id)) (Steps.running_process a id) h
+event_pays s b a (Event.Fail id code) sound checked well h = failed (λ holds. Debts s b.sent holds) s a id
+    (check_condition (sense_of ABORTED_COMMAND code 0x00)) (Steps.running_process a id) h
 event_pays s b a (Event.End id status) sound checked well h = ended s b a id status sound well h
-event_pays s b a (Event.Lost id) sound checked well h =
-    if_none (λ holds. Debts s (story_after_event s b (Event.Lost id)).sent holds) (Steps.has_ended a id) _ (command_over s b.sent a.holds id well h)
+event_pays s b a (Event.Lost id) sound checked well h = if_none
+    (λ holds. Debts s (story_after_event s b (Event.Lost id)).sent holds) (Steps.has_ended a id) _
+    (command_over s b.sent a.holds id well h)
 event_pays s b a (Event.Aborted i t n what) sound checked well h = aborted s b a i t n what checked h
-event_pays s b a (Event.Reset dev) sound checked well h =
-    ends_debts s (λ x. true) (λ x. true) by_reset b a.holds (Steps.reset_step s a).holds checked (λ m z. (events_grow s b (Event.Reset dev ∷ [])).over (sense_item m) z)
+event_pays s b a (Event.Reset dev) sound checked well h = ends_debts s (λ x. true) (λ x. true) by_reset b a.holds
+    (Steps.reset_step s a).holds checked (λ m z. (events_grow s b (Event.Reset dev ∷ [])).over (sense_item m) z)
     (λ def q e is z. wrong e) h
 
-pub step_pays : (s : ScenarioValue) (b : Story) (a : Array) (event : Event) → IsSound s a → AreChecked b.sent → PaysWell s b.sent event → Debts s b.sent a.holds
+pub step_pays : (s : ScenarioValue) (b : Story) (a : Array) (event : Event)
+    → IsSound s a → AreChecked b.sent → PaysWell s b.sent event → Debts s b.sent a.holds
     → IfHolds (λ holds. Debts s (story_after_event s b event).sent holds) (Steps.step s event a)
-step_pays s b a event sound checked well h =
-    if_settled (λ holds. Debts s (story_after_event s b event).sent holds) (Steps.event_step s a event) (event_pays s b a event sound checked well h)
+step_pays s b a event sound checked well h = if_settled (λ holds. Debts s (story_after_event s b event).sent holds)
+    (Steps.event_step s a event) (event_pays s b a event sound checked well h)

@@ -1,5 +1,5 @@
--- Where no device wants the bus and none has a connection, each command has its outcome: by what stands in the queues, and by what
--- is owed to those that stand in a hold.
+-- Where no device wants the bus and none has a connection, each command has its outcome: by what stands in the queues,
+-- and by what is owed to those that stand in a hold.
 use Rattle.progress_laws.proofs
 use proofs.Names.{ℕ, zero, suc, ◌≡◌, ◌+◌, ◌<◌, Bool, true, false, not, ◌&&◌, ◌||◌, ◌∙◌, List, [], ◌∷◌, Option, Some}
 use proofs.Names.{None, refl, sym, ap, subst, one-add, inl, inr, eqb-true, and_from, cases_Bool, same_Some, list_all}
@@ -33,12 +33,18 @@ AreUnwanted s k = (dev latency : ℕ) → dev < 8 → latency_of s dev ≡ Some 
 
 -- ---- an initiator that stands in a hold wants the bus
 
-pub sense_left : {A : Type 0} (s : ScenarioValue) (b : Sent) (n : ℕ) (c : CmdDef) (checks : List ℕ) → command_at s.commands n ≡ Some c → is_done b (sense_item n) ≡ false → list_any (λ k. k == n) checks ≡ true → sense_from s b c.host checks ≡ None → A
+pub sense_left : {A : Type 0} (s : ScenarioValue) (b : Sent) (n : ℕ) (c : CmdDef) (checks : List ℕ)
+    → command_at s.commands n ≡ Some c → is_done b (sense_item n) ≡ false → list_any (λ k. k == n) checks ≡ true
+    → sense_from s b c.host checks ≡ None → A
 sense_left s b n c [] at new e none = wrong (sym e)
-sense_left {A = A} s b n c (m ∷ checks) at new e none = go (m == n) refl e (is_of_host (command_at s.commands m) c.host && not (is_done b (sense_item m))) refl none (λ z w. sense_left s b n c checks at new z w)
+sense_left {A = A} s b n c (m ∷ checks) at new e none = go (m == n) refl e
+    (is_of_host (command_at s.commands m) c.host && not (is_done b (sense_item m))) refl none
+    (λ z w. sense_left s b n c checks at new z w)
   where
-    go : (q : Bool) → (m == n) ≡ q → (q || list_any (λ k. k == n) checks) ≡ true → (x : Bool) → (is_of_host (command_at s.commands m) c.host && not (is_done b (sense_item m))) ≡ x
-        → (if x then Some (sense_item m) else sense_from s b c.host checks) ≡ None → (list_any (λ k. k == n) checks ≡ true → sense_from s b c.host checks ≡ None → A) → A
+    go : (q : Bool) → (m == n) ≡ q → (q || list_any (λ k. k == n) checks) ≡ true
+        → (x : Bool) → (is_of_host (command_at s.commands m) c.host && not (is_done b (sense_item m))) ≡ x
+        → (if x then Some (sense_item m) else sense_from s b c.host checks) ≡ None
+        → (list_any (λ k. k == n) checks ≡ true → sense_from s b c.host checks ≡ None → A) → A
     go q z h true f none more = some_none (sense_item m) none
     go true z h false f none more =
         let same : m ≡ n = eqb-true m n z in
@@ -48,7 +54,8 @@ sense_left {A = A} s b n c (m ∷ checks) at new e none = go (m == n) refl e (is
         wrong (sym yes ∙ f)
     go false z h false f none more = more h none
 
-pub is_told : (s : ScenarioValue) (k : RunState) (n : ℕ) → Items s k → k.served ≡ None → has_item k.story.sent.over (sense_item n) ≡ false → has_item k.story.sent.sent (sense_item n) ≡ false
+pub is_told : (s : ScenarioValue) (k : RunState) (n : ℕ) → Items s k → k.served ≡ None
+    → has_item k.story.sent.over (sense_item n) ≡ false → has_item k.story.sent.sent (sense_item n) ≡ false
 is_told s k n items rest opens =
     elim (cases_Bool (has_item k.story.sent.sent (sense_item n))) [
       | inl f ↦ absurd (no_item (sense_item n) (sym rest ∙ (items.senses n (λ i. f i && not (opens i))).0))
@@ -59,18 +66,24 @@ is_told s k n items rest opens =
     no_item i e = absurd cc
 
 -- The automatic REQUEST SENSE of a command that ended with CHECK CONDITION is over.
-pub sense_wanted : {A : Type 0} (s : ScenarioValue) (k : RunState) (n : ℕ) (c : CmdDef) → Obeys s → Items s k → k.served ≡ None → AreUnwanted s k → command_at s.commands n ≡ Some c
+pub sense_wanted : {A : Type 0} (s : ScenarioValue) (k : RunState) (n : ℕ) (c : CmdDef)
+    → Obeys s → Items s k → k.served ≡ None → AreUnwanted s k → command_at s.commands n ≡ Some c
     → list_any (λ m. m == n) k.story.sent.checks ≡ true → has_item k.story.sent.over (sense_item n) ≡ false → A
 sense_wanted s k n c o items rest quiet at checked opens =
     let line : IsCommandLine s c = command_fits s n c (obeys_fits s o) at in
     let d = initiator_there s c.host line.host_is in
     let want = quiet c.host d.latency line.host d.latency_is in
-    let item_is : item_want_time s k.story.sent c.host ≡ None = sym (ap (λ (x : Bool). if x then item_want_time s k.story.sent c.host else ready_time (ready_of s k c.host)) line.host_is) ∙ want in
-    sense_left s k.story.sent n c k.story.sent.checks at (λ i. is_told s k n items rest opens i || opens i) checked (no_sense_wanted s k.story.sent c.host item_is)
+    let item_is : item_want_time s k.story.sent c.host ≡ None = sym (ap
+    (λ (x : Bool). if x then item_want_time s k.story.sent c.host else ready_time (ready_of s k c.host)) line.host_is)
+    ∙ want in
+    sense_left s k.story.sent n c k.story.sent.checks at (λ i. is_told s k n items rest opens i || opens i) checked
+    (no_sense_wanted s k.story.sent c.host item_is)
 
-held_wants : {A : Type 0} (s : ScenarioValue) (k : RunState) (t n : ℕ) (holds : List Nexus) → Obeys s → Items s k → k.served ≡ None → AreUnwanted s k → AreOwed s k.story.sent holds → is_held holds t n ≡ true → A
+held_wants : {A : Type 0} (s : ScenarioValue) (k : RunState) (t n : ℕ) (holds : List Nexus) → Obeys s → Items s k
+    → k.served ≡ None → AreUnwanted s k → AreOwed s k.story.sent holds → is_held holds t n ≡ true → A
 held_wants s k t n [] o items rest quiet owed e = wrong (sym e)
-held_wants {A = A} s k t n (q ∷ holds) o items rest quiet owed e = go (is_at_unit q t n) e (λ z. held_wants s k t n holds o items rest quiet owed.1 z)
+held_wants {A = A} s k t n (q ∷ holds) o items rest quiet owed e =
+    go (is_at_unit q t n) e (λ z. held_wants s k t n holds o items rest quiet owed.1 z)
   where
     own : IsOwed s k.story.sent q → A
     own w = sense_wanted s k w.number w.def o items rest quiet w.def_is w.checked w.opens
@@ -88,23 +101,28 @@ no_time (Some r) e = absurd (let w = e in some_time r.time w)
     some_time : (t : ℕ) → (let a : Option ℕ = Some t in a) ≡ None → ⊥
     some_time t z = absurd cc
 
-unit_there : (s : ScenarioValue) (units : List UnitState) (t n : ℕ) (u : UnitState) → unit_state_at units t n ≡ Some u → AllUnits (λ v. HasDevice s v.target) units → HasDevice s u.target
+unit_there : (s : ScenarioValue) (units : List UnitState) (t n : ℕ) (u : UnitState) → unit_state_at units t n ≡ Some u
+    → AllUnits (λ v. HasDevice s v.target) units → HasDevice s u.target
 unit_there s [] t n u e h = absurd (no_unit e)
   where
     no_unit : (let a : Option UnitState = None in a) ≡ Some u → ⊥
     no_unit z = absurd cc
 unit_there s (v ∷ units) t n u e h = go (v.target == t && v.unit == n) e (λ k. unit_there s units t n u k h.1)
   where
-    go : (x : Bool) → (if x then Some v else unit_state_at units t n) ≡ Some u → (unit_state_at units t n ≡ Some u → HasDevice s u.target) → HasDevice s u.target
+    go : (x : Bool) → (if x then Some v else unit_state_at units t n) ≡ Some u
+        → (unit_state_at units t n ≡ Some u → HasDevice s u.target) → HasDevice s u.target
     go true k rest = subst (λ (w : UnitState). HasDevice s w.target) (same_Some v u k) h.0
     go false k rest = rest k
 
-told_process : (s : ScenarioValue) (n : ℕ) (c : CmdDef) (p : Process) → command_at s.commands n ≡ Some c → process_of s (command_id n) ≡ Some p → (p.target ≡ c.target) × (p.unit ≡ c.unit)
+told_process : (s : ScenarioValue) (n : ℕ) (c : CmdDef) (p : Process) → command_at s.commands n ≡ Some c
+    → process_of s (command_id n) ≡ Some p → (p.target ≡ c.target) × (p.unit ≡ c.unit)
 told_process s n c p at e =
-    let same : process_by s (command_id n) c ≡ p = same_Some (process_by s (command_id n) c) p (sym (ap (process_if s (command_id n)) at) ∙ e) in
+    let same : process_by s (command_id n) c ≡ p = same_Some
+    (process_by s (command_id n) c) p (sym (ap (process_if s (command_id n)) at) ∙ e) in
     (ap (λ (x : Process). x.target) (sym same), ap (λ (x : Process). x.unit) (sym same))
 
-not_open : (s : ScenarioValue) (k : RunState) (n : ℕ) (c : CmdDef) → Obeys s → Resting s k → k.served ≡ None → AreUnwanted s k → command_at s.commands n ≡ Some c → is_open k.story.sent n ≡ false
+not_open : (s : ScenarioValue) (k : RunState) (n : ℕ) (c : CmdDef) → Obeys s → Resting s k → k.served ≡ None
+    → AreUnwanted s k → command_at s.commands n ≡ Some c → is_open k.story.sent n ≡ false
 not_open s k n c o r rest quiet at = go (is_open k.story.sent n) refl
   where
     a : Array
@@ -132,34 +150,46 @@ not_open s k n c o r rest quiet at = go (is_open k.story.sent n) refl
         by_hold true e = held_wants s k h.unit.target h.unit.unit a.holds o r.items rest quiet r.owed e
         by_hold false e =
             let d : HasDevice s h.unit.target = unit_there s a.units h.unit.target h.unit.unit h.unit h.at r.there in
-            let host : is_initiator s.hosts h.unit.target ≡ false = ap (is_initiator s.hosts) (sym target_is) ∙ line.target_is in
+            let host : is_initiator s.hosts h.unit.target ≡ false = ap (is_initiator s.hosts) (sym target_is)
+            ∙ line.target_is in
             let want = quiet h.unit.target d.latency (subst (λ (m : ℕ). m < 8) target_is line.target) d.latency_is in
-            let none : ready_of s k h.unit.target ≡ None = no_time (ready_of s k h.unit.target) (sym (ap (λ (x : Bool). if x then item_want_time s k.story.sent h.unit.target else ready_time (ready_of s k h.unit.target)) host) ∙ want) in
-            absurd (not_ready a k.current_since (seek_of s.targets h.unit.target) h.unit unit_below h.at e (current_there s a h.unit (command_id n) r.sound h.at h.here e) none)
+            let none : ready_of s k h.unit.target ≡ None = no_time (ready_of s k h.unit.target)
+            (sym (ap (λ (x : Bool). if x then item_want_time s k.story.sent h.unit.target
+            else ready_time (ready_of s k h.unit.target)) host) ∙ want) in
+            absurd (not_ready a k.current_since (seek_of s.targets h.unit.target) h.unit unit_below h.at e
+            (current_there s a h.unit (command_id n) r.sound h.at h.here e) none)
 
     go : (q : Bool) → is_open k.story.sent n ≡ q → is_open k.story.sent n ≡ false
     go false e = e
-    go true e = by_unit (queue_found s a (command_id n) r.sound (r.queued n c at e (ap (λ (x : Option Item). is_served_by x (command_id n)) rest)))
+    go true e = by_unit (queue_found s a (command_id n) r.sound
+        (r.queued n c at e (ap (λ (x : Option Item). is_served_by x (command_id n)) rest)))
 
 -- ---- of all commands
 
-none_open : (b : Sent) (n : ℕ) (commands : List CmdDef) → ((m : ℕ) (c : CmdDef) → command_at commands (suc m) ≡ Some c → is_open b (n + m) ≡ false) → NoneOpen b n commands
+none_open : (b : Sent) (n : ℕ) (commands : List CmdDef)
+    → ((m : ℕ) (c : CmdDef) → command_at commands (suc m) ≡ Some c → is_open b (n + m) ≡ false) → NoneOpen b n commands
 none_open b n [] h = tt
-none_open b n (c ∷ commands) h =
-    (ap (is_open b) (sym (plus_none n)) ∙ h 0 c refl, none_open b (n + 1) commands (λ m d e. ap (is_open b) (sym (plus_one n m)) ∙ h (suc m) d e))
+none_open b n (c ∷ commands) h = (
+  ap (is_open b) (sym (plus_none n)) ∙ h 0 c refl,
+  none_open b (n + 1) commands (λ m d e. ap (is_open b) (sym (plus_one n m)) ∙ h (suc m) d e),
+)
 
-done_at : (b : Sent) (dev n m : ℕ) (c : CmdDef) (commands : List CmdDef) → DoneBy b dev n commands → command_at commands (suc m) ≡ Some c → c.host ≡ dev → is_done b (command_item (n + m)) ≡ true
+done_at : (b : Sent) (dev n m : ℕ) (c : CmdDef) (commands : List CmdDef) → DoneBy b dev n commands
+    → command_at commands (suc m) ≡ Some c → c.host ≡ dev → is_done b (command_item (n + m)) ≡ true
 done_at b dev n m c [] h at own = none_some c at
 done_at b dev n zero c (d ∷ commands) h at own =
     let same : d ≡ c = same_Some d c at in
-    ap (λ (j : ℕ). is_done b (command_item j)) (plus_none n) ∙ h.0 (ap (λ (j : ℕ). j == dev) (ap (λ (x : CmdDef). x.host) same ∙ own) ∙ eq_self dev)
-done_at b dev n (suc m) c (d ∷ commands) h at own = ap (λ (j : ℕ). is_done b (command_item j)) (plus_one n m) ∙ done_at b dev (n + 1) m c commands h.1 at own
+    ap (λ (j : ℕ). is_done b (command_item j)) (plus_none n)
+    ∙ h.0 (ap (λ (j : ℕ). j == dev) (ap (λ (x : CmdDef). x.host) same ∙ own) ∙ eq_self dev)
+done_at b dev n (suc m) c (d ∷ commands) h at own =
+    ap (λ (j : ℕ). is_done b (command_item j)) (plus_one n m) ∙ done_at b dev (n + 1) m c commands h.1 at own
 
 some_ending : (ended : List (ℕ × Ending)) (n : ℕ) → is_ended ended n ≡ true → is_some (ending_of ended n) ≡ true
 some_ending [] n e = wrong (sym e)
 some_ending (x ∷ ended) n e = go (x.0 == n) (λ z. some_ending ended n z) e
   where
-    go : (q : Bool) → (is_ended ended n ≡ true → is_some (ending_of ended n) ≡ true) → (q || is_ended ended n) ≡ true → is_some (if q then Some x.1 else ending_of ended n) ≡ true
+    go : (q : Bool) → (is_ended ended n ≡ true → is_some (ending_of ended n) ≡ true) → (q || is_ended ended n) ≡ true
+        → is_some (if q then Some x.1 else ending_of ended n) ≡ true
     go true more z = refl
     go false more z = more z
 
@@ -170,10 +200,13 @@ some_outcome s b n e = go (ending_of b.ended n) (some_ending b.ended n e)
     go None z = wrong (sym z)
     go (Some x) z = refl
 
-each_outcome : (s : ScenarioValue) (b : Story) (n : ℕ) (commands : List CmdDef) → ((m : ℕ) (c : CmdDef) → command_at commands (suc m) ≡ Some c → is_ended b.ended (n + m) ≡ true) → list_all (λ (o : Option Outcome). is_some o) (outcomes_from s b n commands) ≡ true
+each_outcome : (s : ScenarioValue) (b : Story) (n : ℕ) (commands : List CmdDef)
+    → ((m : ℕ) (c : CmdDef) → command_at commands (suc m) ≡ Some c → is_ended b.ended (n + m) ≡ true)
+    → list_all (λ (o : Option Outcome). is_some o) (outcomes_from s b n commands) ≡ true
 each_outcome s b n [] h = refl
 each_outcome s b n (c ∷ commands) h =
-    (λ i. some_outcome s b n (ap (is_ended b.ended) (sym (plus_none n)) ∙ h 0 c refl) i && each_outcome s b (n + 1) commands (λ m d e. ap (is_ended b.ended) (sym (plus_one n m)) ∙ h (suc m) d e) i)
+    (λ i. some_outcome s b n (ap (is_ended b.ended) (sym (plus_none n)) ∙ h 0 c refl) i
+    && each_outcome s b (n + 1) commands (λ m d e. ap (is_ended b.ended) (sym (plus_one n m)) ∙ h (suc m) d e) i)
 
 is_over : (q r : Bool) → (q || r) ≡ true → (q && not r) ≡ false → r ≡ true
 is_over q true e f = refl
@@ -181,7 +214,8 @@ is_over true false e f = wrong f
 is_over false false e f = wrong (sym e)
 
 -- Each command has its outcome.
-pub answered_at_rest : (s : ScenarioValue) (k : RunState) → Obeys s → Resting s k → k.served ≡ None → AreUnwanted s k → list_all (λ (o : Option Outcome). is_some o) (outcomes_from s k.story 1 s.commands) ≡ true
+pub answered_at_rest : (s : ScenarioValue) (k : RunState) → Obeys s → Resting s k → k.served ≡ None → AreUnwanted s k
+    → list_all (λ (o : Option Outcome). is_some o) (outcomes_from s k.story 1 s.commands) ≡ true
 answered_at_rest s k o r rest quiet = each_outcome s k.story 1 s.commands ended
   where
     b : Sent
@@ -194,6 +228,9 @@ answered_at_rest s k o r rest quiet = each_outcome s k.story 1 s.commands ended
     ended m c at =
         let line : IsCommandLine s c = command_fits s (suc m) c (obeys_fits s o) at in
         let d = initiator_there s c.host line.host_is in
-        let item_is : item_want_time s b c.host ≡ None = sym (ap (λ (x : Bool). if x then item_want_time s b c.host else ready_time (ready_of s k c.host)) line.host_is) ∙ quiet c.host d.latency line.host d.latency_is in
+        let item_is : item_want_time s b c.host ≡ None =
+        sym (ap (λ (x : Bool). if x then item_want_time s b c.host else ready_time (ready_of s k c.host)) line.host_is)
+        ∙ quiet c.host d.latency line.host d.latency_is in
         let all = sent_all s b c.host (none_open b 1 s.commands opens) (some_open s c.host o line.host_is) item_is in
-        r.endings (1 + m) (is_over (has_item b.sent (command_item (1 + m))) (has_item b.over (command_item (1 + m))) (done_at b c.host 1 m c s.commands all.commands at refl) (opens m c at))
+        r.endings (1 + m) (is_over (has_item b.sent (command_item (1 + m))) (has_item b.over (command_item (1 + m)))
+        (done_at b c.host 1 m c s.commands all.commands at refl) (opens m c at))

@@ -1,4 +1,5 @@
--- In a prompt trace that has ended each command has its outcome, by what stands in the queues and what is owed to those in a hold.
+-- In a prompt trace that has ended each command has its outcome, by what stands in the queues and what is owed to those
+-- in a hold.
 use Rattle.progress_laws.proofs
 use proofs.Names.{◌≡◌, true, ◌∙◌, List, Option, sym, ap, subst, list_all, is_some, Row, ScenarioValue, Obeys, IsSound}
 use proofs.Names.{Array, Outcome, outcomes, Story, story, run_state_plain, IsEnded, IsPlain, RunState, array_of}
@@ -16,11 +17,14 @@ pub record Known (s : ScenarioValue) (p : List Row) : Type 0 where
   pub places : PlaceFacts s p
 
 -- Each command has its outcome.
-pub answered_when_ended : (s : ScenarioValue) (p : List Row) → Obeys s → Joined s p → IsEnded s p → Known s p → AreQueued s (run_state s p) → AreOwed s (run_state s p).story.sent (array_of s (run_state s p)).holds
+pub answered_when_ended : (s : ScenarioValue) (p : List Row) → Obeys s → Joined s p → IsEnded s p → Known s p
+    → AreQueued s (run_state s p) → AreOwed s (run_state s p).story.sent (array_of s (run_state s p)).holds
     → list_all (λ (o : Option Outcome). is_some o) (outcomes s (story s p)) ≡ true
 answered_when_ended s p o j end known queues owed =
     ap (λ (b : Story). list_all (λ (x : Option Outcome). is_some x) (outcomes s b)) (sym pl.story)
-    ∙ answered_at_rest s k o rest (known.items.items.apart (pl.connection ∙ (free_when_ended s p j end).stands.connection_is)).1 (λ dev latency lt there. unwanted_when_ended s p j end dev latency lt there)
+    ∙ answered_at_rest s k o rest
+    (known.items.items.apart (pl.connection ∙ (free_when_ended s p j end).stands.connection_is)).1
+    (λ dev latency lt there. unwanted_when_ended s p j end dev latency lt there)
   where
     k : RunState
     k = run_state s p

@@ -1,5 +1,5 @@
--- The initiators of a scenario that obeys the rules of its text may have a command open, and are there; and its units are of
--- targets that are there.
+-- The initiators of a scenario that obeys the rules of its text may have a command open, and are there; and its units
+-- are of targets that are there.
 use Rattle.progress_laws.proofs
 use proofs.Names.{ℕ, ◌≡◌, ◌<◌, Bool, true, false, not, ◌∙◌, List, [], ◌∷◌, ◌++◌, Option, Some, None, Ok, refl, sym, ap}
 use proofs.Names.{subst, arith, ◌||◌, AllByRecursion, find, list_any, if◌then◌else◌, ◌==◌, is_some, cond, wrong'}
@@ -34,17 +34,21 @@ host_open s (initiator_line f) h e =
 host_open s _ h e = absurd cc
 
 have_open : (s : ScenarioValue) → Obeys s → HaveOpen s
-have_open s o = (each_line HasOpen Any Any Any (record { host = host_open; target = λ x f d e. tt; command = λ x f d e. tt; abort = λ x f d e. tt }) s o).hosts
+have_open s o = (each_line HasOpen Any Any Any
+    (record { host = host_open; target = λ x f d e. tt; command = λ x f d e. tt; abort = λ x f d e. tt }) s o).hosts
 
-limit_of : (hosts : List HostDef) (dev : ℕ) → AllByRecursion HasOpen hosts → is_initiator hosts dev ≡ true → 0 < open_limit_of hosts dev
+limit_of : (hosts : List HostDef) (dev : ℕ) → AllByRecursion HasOpen hosts → is_initiator hosts dev ≡ true
+    → 0 < open_limit_of hosts dev
 limit_of [] dev a e = wrong' e
 limit_of (h ∷ hosts) dev a e = go (h.dev == dev) (λ z. limit_of hosts dev a.1 z) e
   where
-    go : (q : Bool) → (is_initiator hosts dev ≡ true → 0 < open_limit_of hosts dev) → (q || is_initiator hosts dev) ≡ true → 0 < (if q then h.most else open_limit_of hosts dev)
+    go : (q : Bool) → (is_initiator hosts dev ≡ true → 0 < open_limit_of hosts dev)
+        → (q || is_initiator hosts dev) ≡ true → 0 < (if q then h.most else open_limit_of hosts dev)
     go true more z = a.0
     go false more z = more z
 
-pub some_open : (s : ScenarioValue) (dev : ℕ) → Obeys s → is_initiator s.hosts dev ≡ true → 0 < open_limit_of s.hosts dev
+pub some_open : (s : ScenarioValue) (dev : ℕ) → Obeys s → is_initiator s.hosts dev ≡ true
+    → 0 < open_limit_of s.hosts dev
 some_open s dev o e = limit_of s.hosts dev (have_open s o) e
 
 -- ---- units are of targets
@@ -68,11 +72,13 @@ unit_target s (unit_line f) u e =
     subst (IsOfTarget s.targets) (ok_is _ u b7.2) (guard_ok 6 _ b7.0 b7.1)
 unit_target s _ u e = absurd cc
 
-still_any : (f : TargetDef → Bool) (targets : List TargetDef) (t : TargetDef) → list_any f targets ≡ true → list_any f (targets ++ t ∷ []) ≡ true
+still_any : (f : TargetDef → Bool) (targets : List TargetDef) (t : TargetDef) → list_any f targets ≡ true
+    → list_any f (targets ++ t ∷ []) ≡ true
 still_any f [] t e = wrong' e
 still_any f (x ∷ targets) t e = go (f x) (λ z. still_any f targets t z) e
   where
-    go : (q : Bool) → (list_any f targets ≡ true → list_any f (targets ++ t ∷ []) ≡ true) → (q || list_any f targets) ≡ true → (q || list_any f (targets ++ t ∷ [])) ≡ true
+    go : (q : Bool) → (list_any f targets ≡ true → list_any f (targets ++ t ∷ []) ≡ true)
+        → (q || list_any f targets) ≡ true → (q || list_any f (targets ++ t ∷ [])) ≡ true
     go true more z = refl
     go false more z = more z
 
@@ -82,20 +88,33 @@ AreTargetsIn d = AreOfTargets d.scenario
 targets_added : (d z : Progress) (x : Said) → added d x ≡ Ok z → AreTargetsIn d → AreTargetsIn z
 unfolding added need_of sent_of
 targets_added d z (scsi_line v) e a = subst AreTargetsIn (ok_is _ z e) a
-targets_added d z (initiator_line f) e a = let b = bind_ok (host_def d.scenario f) _ z e in subst AreTargetsIn (ok_is _ z b.2) a
+targets_added d z (initiator_line f) e a =
+    let b = bind_ok (host_def d.scenario f) _ z e in
+    subst AreTargetsIn (ok_is _ z b.2) a
 targets_added d z (target_line f) e a =
     let b = bind_ok (target_def d.scenario f) _ z e in
     let ts : List TargetDef = d.scenario.targets ++ b.0 ∷ [] in
-    subst AreTargetsIn (ok_is _ z b.2)
-    (all_are (IsOfTarget d.scenario.targets) (IsOfTarget ts) d.scenario.units (λ u w. still_any (λ (t : TargetDef). t.dev == u.target) d.scenario.targets b.0 w) a)
+    subst AreTargetsIn (ok_is _ z b.2) (all_are (IsOfTarget d.scenario.targets) (IsOfTarget ts) d.scenario.units
+    (λ u w. still_any (λ (t : TargetDef). t.dev == u.target) d.scenario.targets b.0 w) a)
 targets_added d z (unit_line f) e a =
     let b = bind_ok (unit_def d.scenario f) _ z e in
-    subst AreTargetsIn (ok_is _ z b.2) (all_more (IsOfTarget d.scenario.targets) d.scenario.units b.0 a (unit_target d.scenario (unit_line f) b.0 b.1))
-targets_added d z (fill_line f) e a = let b = bind_ok (fill_def d.scenario f) _ z e in subst AreTargetsIn (ok_is _ z b.2) a
-targets_added d z (cmd_line f) e a = let b = bind_ok (full_cmd_def d.scenario d.needs f) _ z e in subst AreTargetsIn (ok_is _ z b.2) a
-targets_added d z (abort_line f) e a = let b = bind_ok (abort_def d.scenario f) _ z e in subst AreTargetsIn (ok_is _ z b.2) a
-targets_added d z (reset_line f) e a = let b = bind_ok (reset_def d.scenario f) _ z e in subst AreTargetsIn (ok_is _ z b.2) a
-targets_added d z (fault_line f) e a = let b = bind_ok (fault_def d.scenario f) _ z e in subst AreTargetsIn (ok_is _ z b.2) a
+    subst AreTargetsIn (ok_is _ z b.2)
+    (all_more (IsOfTarget d.scenario.targets) d.scenario.units b.0 a (unit_target d.scenario (unit_line f) b.0 b.1))
+targets_added d z (fill_line f) e a =
+    let b = bind_ok (fill_def d.scenario f) _ z e in
+    subst AreTargetsIn (ok_is _ z b.2) a
+targets_added d z (cmd_line f) e a =
+    let b = bind_ok (full_cmd_def d.scenario d.needs f) _ z e in
+    subst AreTargetsIn (ok_is _ z b.2) a
+targets_added d z (abort_line f) e a =
+    let b = bind_ok (abort_def d.scenario f) _ z e in
+    subst AreTargetsIn (ok_is _ z b.2) a
+targets_added d z (reset_line f) e a =
+    let b = bind_ok (reset_def d.scenario f) _ z e in
+    subst AreTargetsIn (ok_is _ z b.2) a
+targets_added d z (fault_line f) e a =
+    let b = bind_ok (fault_def d.scenario f) _ z e in
+    subst AreTargetsIn (ok_is _ z b.2) a
 targets_added d z end_line e a = subst AreTargetsIn (ok_is d z e) a
 
 targets_after : (d z : Progress) (x : Said) → said_after d x ≡ Ok z → AreTargetsIn d → AreTargetsIn z
@@ -109,7 +128,9 @@ targets_after d z x e a =
 
 targets_built : (d z : Progress) (xs : List Said) → built d xs ≡ Ok z → AreTargetsIn d → AreTargetsIn z
 targets_built d z [] e a = subst AreTargetsIn (ok_is d z e) a
-targets_built d z (x ∷ xs) e a = let b = bind_ok (said_after d x) _ z e in targets_built b.0 z xs b.2 (targets_after d b.0 x b.1 a)
+targets_built d z (x ∷ xs) e a =
+    let b = bind_ok (said_after d x) _ z e in
+    targets_built b.0 z xs b.2 (targets_after d b.0 x b.1 a)
 
 pub are_of_targets : (s : ScenarioValue) → Obeys s → AreOfTargets s
 are_of_targets s o =
@@ -118,20 +139,29 @@ are_of_targets s o =
 
 -- ---- devices that are there
 
-found_target : (targets : List TargetDef) (dev : ℕ) → list_any (λ (t : TargetDef). t.dev == dev) targets ≡ true → is_some (find (λ (t : TargetDef). t.dev == dev) targets) ≡ true
+found_target : (targets : List TargetDef) (dev : ℕ) → list_any (λ (t : TargetDef). t.dev == dev) targets ≡ true
+    → is_some (find (λ (t : TargetDef). t.dev == dev) targets) ≡ true
 found_target [] dev e = wrong' e
 found_target (h ∷ hosts) dev e = go (h.dev == dev) (λ z. found_target hosts dev z) e
   where
-    go : (q : Bool) → (list_any (λ (t : TargetDef). t.dev == dev) hosts ≡ true → is_some (find (λ (x : TargetDef). x.dev == dev) hosts) ≡ true) → (q || list_any (λ (t : TargetDef). t.dev == dev) hosts) ≡ true → is_some (cond q (Some h) (find (λ (x : TargetDef). x.dev == dev) hosts)) ≡ true
+    go : (q : Bool) → (list_any (λ (t : TargetDef). t.dev == dev) hosts ≡ true
+        → is_some (find (λ (x : TargetDef). x.dev == dev) hosts) ≡ true)
+        → (q || list_any (λ (t : TargetDef). t.dev == dev) hosts) ≡ true
+        → is_some (cond q (Some h) (find (λ (x : TargetDef). x.dev == dev) hosts)) ≡ true
     go true more z = refl
     go false more z = more z
 
 pub initiator_there : (s : ScenarioValue) (dev : ℕ) → is_initiator s.hosts dev ≡ true → HasDevice s dev
 initiator_there s dev e = host_there s dev (host_found s.hosts dev e)
 
-pub target_there : (s : ScenarioValue) (dev : ℕ) → list_any (λ (t : TargetDef). t.dev == dev) s.targets ≡ true → HasDevice s dev
+pub target_there : (s : ScenarioValue) (dev : ℕ) → list_any (λ (t : TargetDef). t.dev == dev) s.targets ≡ true
+    → HasDevice s dev
 target_there s dev e = go (find (λ (t : TargetDef). t.dev == dev) s.targets) refl (found_target s.targets dev e)
   where
-    go : (o : Option TargetDef) → find (λ (t : TargetDef). t.dev == dev) s.targets ≡ o → is_some (find (λ (t : TargetDef). t.dev == dev) s.targets) ≡ true → HasDevice s dev
-    go (Some t) f z = record { latency = t.latency; latency_is = λ i. target_latency (f i) (host_latency (find (λ (h : HostDef). h.dev == dev) s.hosts)) }
+    go : (o : Option TargetDef) → find (λ (t : TargetDef). t.dev == dev) s.targets ≡ o
+        → is_some (find (λ (t : TargetDef). t.dev == dev) s.targets) ≡ true → HasDevice s dev
+    go (Some t) f z = record {
+      latency = t.latency;
+      latency_is = λ i. target_latency (f i) (host_latency (find (λ (h : HostDef). h.dev == dev) s.hosts));
+    }
     go None f z = wrong' (ap (λ (x : Option TargetDef). is_some x) (sym f) ∙ z)

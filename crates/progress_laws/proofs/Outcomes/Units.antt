@@ -21,11 +21,14 @@ with_unit_same : (units : List UnitState) (new : UnitState) → targets (with_un
 with_unit_same [] new = refl
 with_unit_same (u ∷ units) new = go (u.target == new.target && u.unit == new.unit) refl (with_unit_same units new)
   where
-    go : (q : Bool) → (u.target == new.target && u.unit == new.unit) ≡ q → targets (with_unit units new) ≡ targets units → targets (if q then new ∷ units else u ∷ with_unit units new) ≡ u.target ∷ targets units
-    go true e more = ap (λ (t : ℕ). t ∷ targets units) (sym (eqb-true u.target new.target (and_first (u.target == new.target) (u.unit == new.unit) e)))
+    go : (q : Bool) → (u.target == new.target && u.unit == new.unit) ≡ q → targets (with_unit units new) ≡ targets units
+        → targets (if q then new ∷ units else u ∷ with_unit units new) ≡ u.target ∷ targets units
+    go true e more = ap (λ (t : ℕ). t ∷ targets units)
+        (sym (eqb-true u.target new.target (and_first (u.target == new.target) (u.unit == new.unit) e)))
     go false e more = ap (λ (ts : List ℕ). u.target ∷ ts) more
 
-replied_same : (units : List UnitState) (id : ProcId) (reply : Reply) → targets (Steps.units_with_reply units id reply) ≡ targets units
+replied_same : (units : List UnitState) (id : ProcId) (reply : Reply)
+    → targets (Steps.units_with_reply units id reply) ≡ targets units
 replied_same [] id reply = refl
 replied_same (u ∷ units) id reply = ap (λ (ts : List ℕ). u.target ∷ ts) (replied_same units id reply)
 
@@ -63,9 +66,11 @@ accepted a (Some p) = at (unit_state_at a.units p.target p.unit)
     at None = refl
     at (Some u) = go (is_request_sense (command_of p.cdb))
       where
-        go : (q : Bool) → IfSame (targets a.units) (if q then Some (Steps.with_guest a p None) else Steps.queue_step a p u)
+        go : (q : Bool)
+            → IfSame (targets a.units) (if q then Some (Steps.with_guest a p None) else Steps.queue_step a p u)
         go true = refl
-        go false = if_some (targets a.units) (nat_lt (Steps.process_count u) u.depth) _ (with_unit_same a.units (record u { waiting = u.waiting ++ p ∷ [] }))
+        go false = if_some (targets a.units) (nat_lt (Steps.process_count u) u.depth) _
+            (with_unit_same a.units (record u { waiting = u.waiting ++ p ∷ [] }))
 
 refused : (a : Array) (o : Option Process) → IfSame (targets a.units) (Steps.refuse_step a o)
 refused a None = tt
@@ -73,14 +78,21 @@ refused a (Some p) = at (unit_state_at a.units p.target p.unit)
   where
     at : (u : Option UnitState) → IfSame (targets a.units) (Steps.refuse_step_at a p u)
     at None = tt
-    at (Some u) = if_some (targets a.units) (not (is_request_sense (command_of p.cdb)) && Steps.process_count u == u.depth) _ refl
+    at (Some u) =
+        if_some (targets a.units) (not (is_request_sense (command_of p.cdb)) && Steps.process_count u == u.depth) _ refl
 
-executed : (a : Array) (p : Process) (u : Option UnitState) (done : Execution) → targets (Steps.after_execution a p u done).units ≡ targets a.units
-executed a p u done = replied_same (Steps.with_contents (Steps.without_attention a done.reported (nexus_of p)) u done.contents).units p.id done.reply ∙ filled u ∙ attended done.reported
+executed : (a : Array) (p : Process) (u : Option UnitState) (done : Execution)
+    → targets (Steps.after_execution a p u done).units ≡ targets a.units
+executed a p u done = replied_same
+    (Steps.with_contents (Steps.without_attention a done.reported (nexus_of p)) u done.contents).units p.id done.reply
+    ∙ filled u ∙ attended done.reported
   where
-    filled : (o : Option UnitState) → targets (Steps.with_contents (Steps.without_attention a done.reported (nexus_of p)) o done.contents).units ≡ targets (Steps.without_attention a done.reported (nexus_of p)).units
+    filled : (o : Option UnitState)
+        → targets (Steps.with_contents (Steps.without_attention a done.reported (nexus_of p)) o done.contents).units
+        ≡ targets (Steps.without_attention a done.reported (nexus_of p)).units
     filled None = refl
-    filled (Some v) = with_unit_same (Steps.without_attention a done.reported (nexus_of p)).units (record v { contents = done.contents })
+    filled (Some v) = with_unit_same (Steps.without_attention a done.reported (nexus_of p)).units
+        (record v { contents = done.contents })
 
     attended : (q : Bool) → targets (Steps.without_attention a q (nexus_of p)).units ≡ targets a.units
     attended true = refl
@@ -88,11 +100,14 @@ executed a p u done = replied_same (Steps.with_contents (Steps.without_attention
 
 run : (a : Array) (guest : Bool) (o : Option RunningProcess) → IfSame (targets a.units) (Steps.run_step a guest o)
 run a guest None = tt
-run a guest (Some r) =
-    if_some (targets a.units) (is_none r.reply && (guest || not (is_held a.holds r.process.target r.process.unit))) _
-    (executed a r.process (unit_state_at a.units r.process.target r.process.unit) (execution (Steps.context_at a (nexus_of r.process) (unit_state_at a.units r.process.target r.process.unit)) r.process.cdb r.process.sent))
+run a guest (Some r) = if_some (targets a.units)
+    (is_none r.reply && (guest || not (is_held a.holds r.process.target r.process.unit))) _
+    (executed a r.process (unit_state_at a.units r.process.target r.process.unit)
+    (execution (Steps.context_at a (nexus_of r.process) (unit_state_at a.units r.process.target r.process.unit))
+    r.process.cdb r.process.sent))
 
-failed : (s : ScenarioValue) (a : Array) (id : ProcId) (reply : Reply) (o : Option RunningProcess) → IfSame (targets a.units) (Steps.fail_step s a id reply o)
+failed : (s : ScenarioValue) (a : Array) (id : ProcId) (reply : Reply) (o : Option RunningProcess)
+    → IfSame (targets a.units) (Steps.fail_step s a id reply o)
 failed s a id reply (Some r) = if_some (targets a.units) (is_none r.reply) _ (replied_same a.units id reply)
 failed s a id reply None = new (process_of s id)
   where
@@ -104,38 +119,49 @@ ended : (a : Array) (status : ℕ) (o : Option RunningProcess) → IfSame (targe
 ended a status None = tt
 ended a status (Some r) = by r.reply
   where
-    same : (reply : Reply) (q t : Bool) → (if q then record a { senses = (nexus_of r.process, reply.sense) ∷ senses_without a.senses (nexus_of r.process); holds = nexus_of r.process ∷ nexuses_without a.holds (nexus_of r.process) }
-        else if t then record a { senses = senses_without a.senses (nexus_of r.process); holds = nexuses_without a.holds (nexus_of r.process) }
-        else a).units ≡ a.units
+    same : (reply : Reply) (q t : Bool) → (if q then record a {
+      senses = (nexus_of r.process, reply.sense) ∷ senses_without a.senses (nexus_of r.process);
+      holds = nexus_of r.process ∷ nexuses_without a.holds (nexus_of r.process);
+    } else if t then record a {
+      senses = senses_without a.senses (nexus_of r.process);
+      holds = nexuses_without a.holds (nexus_of r.process);
+    } else a).units ≡ a.units
     same reply true t = refl
     same reply false true = refl
     same reply false false = refl
 
     by : (reply : Option Reply) → IfSame (targets a.units) (Steps.end_step_with a r.process status reply)
     by None = tt
-    by (Some reply) =
-        if_some (targets a.units) (reply.status == status) _
-        (left_same (Steps.after_status a r.process reply).units r.process.id ∙ ap targets (same reply (reply.status == CHECK_CONDITION) (reply.status == GOOD && is_request_sense (command_of r.process.cdb))))
+    by (Some reply) = if_some (targets a.units) (reply.status == status) _
+        (left_same (Steps.after_status a r.process reply).units r.process.id ∙ ap targets (same reply
+        (reply.status == CHECK_CONDITION) (reply.status == GOOD && is_request_sense (command_of r.process.cdb))))
 
-aborted : (s : ScenarioValue) (a : Array) (i t n : ℕ) (what : AbortKind) → targets (Steps.abort_step s a i t n what).units ≡ targets a.units
+aborted : (s : ScenarioValue) (a : Array) (i t n : ℕ) (what : AbortKind)
+    → targets (Steps.abort_step s a i t n what).units ≡ targets a.units
 aborted s a i t n AbortKind.All = kept_same (λ p. p.initiator == i && is_of_unit p t n) a.units
-aborted s a i t n (AbortKind.Tag tag) = kept_same (λ p. p.initiator == i && is_of_unit p t n && has_tag p.tag tag) a.units
-aborted s a i t n AbortKind.WholeQueue =
-    ap targets (cleared_units i (Steps.unit_processes (unit_state_at a.units t n)) (Steps.without_dropped a (λ p. is_of_unit p t n))) ∙ kept_same (λ p. is_of_unit p t n) a.units
-aborted s a i t n AbortKind.Device =
-    ap targets (unit_reset_units s.hosts a.units (λ u. u.target == t) (record (Steps.without_dropped a (λ p. p.target == t)) { senses = Steps.kept_senses (λ r. r.target == t) a.senses; holds = Steps.kept_nexuses (λ r. r.target == t) a.holds }))
-    ∙ kept_same (λ p. p.target == t) a.units
+aborted s a i t n (AbortKind.Tag tag) =
+    kept_same (λ p. p.initiator == i && is_of_unit p t n && has_tag p.tag tag) a.units
+aborted s a i t n AbortKind.WholeQueue = ap targets (cleared_units i
+    (Steps.unit_processes (unit_state_at a.units t n)) (Steps.without_dropped a (λ p. is_of_unit p t n)))
+    ∙ kept_same (λ p. is_of_unit p t n) a.units
+aborted s a i t n AbortKind.Device = ap targets
+    (unit_reset_units s.hosts a.units (λ u. u.target == t) (record (Steps.without_dropped a (λ p. p.target == t)) {
+      senses = Steps.kept_senses (λ r. r.target == t) a.senses;
+      holds = Steps.kept_nexuses (λ r. r.target == t) a.holds;
+    })) ∙ kept_same (λ p. p.target == t) a.units
 
 event_same : (s : ScenarioValue) (a : Array) (event : Event) → IfSame (targets a.units) (Steps.event_step s a event)
 event_same s a (Event.Accept id) = accepted a (process_of s id)
 event_same s a (Event.Refuse id) = refused a (process_of s id)
 event_same s a (Event.Run id) = run a (is_some (guest_at a.guests id)) (Steps.running_process a id)
-event_same s a (Event.Fail id code) = failed s a id (check_condition (sense_of ABORTED_COMMAND code 0x00)) (Steps.running_process a id)
+event_same s a (Event.Fail id code) =
+    failed s a id (check_condition (sense_of ABORTED_COMMAND code 0x00)) (Steps.running_process a id)
 event_same s a (Event.End id status) = ended a status (Steps.running_process a id)
 event_same s a (Event.Lost id) = if_none (targets a.units) (Steps.has_ended a id) _ (left_same a.units id)
 event_same s a (Event.Aborted i t n what) = aborted s a i t n what
-event_same s a (Event.Reset dev) =
-    ap targets (unit_reset_units s.hosts a.units (λ u. true) (record (Steps.without_dropped a (λ p. true)) { senses = []; holds = [] })) ∙ kept_same (λ p. true) a.units
+event_same s a (Event.Reset dev) = ap targets (unit_reset_units s.hosts a.units
+    (λ u. true) (record (Steps.without_dropped a (λ p. true)) { senses = []; holds = [] }))
+    ∙ kept_same (λ p. true) a.units
 
 step_same : (s : ScenarioValue) (a : Array) (event : Event) → IfSame (targets a.units) (Steps.step s event a)
 step_same s a event = go (Steps.event_step s a event) (event_same s a event)
@@ -149,11 +175,13 @@ step_same s a event = go (Steps.event_step s a event) (event_same s a event)
 abbrev pub Keeps : ScenarioValue → Option Array → Type 0
 Keeps s o = targets (or_start s o).units ≡ targets (starting_array s).units
 
-events_keep : (s : ScenarioValue) (o : Option Array) (shown : List Event) → Keeps s o → Keeps s (array_after_events s o shown)
+events_keep : (s : ScenarioValue) (o : Option Array) (shown : List Event) → Keeps s o
+    → Keeps s (array_after_events s o shown)
 events_keep s o [] h = h
 events_keep s o (event ∷ shown) h = go (array_after_events s o shown) (events_keep s o shown h)
   where
-    next : (a : Array) (b : Option Array) → targets a.units ≡ targets (starting_array s).units → IfSame (targets a.units) b → Keeps s b
+    next : (a : Array) (b : Option Array) → targets a.units ≡ targets (starting_array s).units
+        → IfSame (targets a.units) b → Keeps s b
     next a None h k = refl
     next a (Some b) h k = k ∙ h
 
@@ -161,7 +189,8 @@ events_keep s o (event ∷ shown) h = go (array_after_events s o shown) (events_
     go None k = k
     go (Some a) k = next a (Steps.step s event a) k (step_same s a event)
 
-pub targets_kept : (s : ScenarioValue) (p : List Row) → targets (array_of s (run_state s p)).units ≡ targets (starting_array s).units
+pub targets_kept : (s : ScenarioValue) (p : List Row)
+    → targets (array_of s (run_state s p)).units ≡ targets (starting_array s).units
 targets_kept s [] = chosen_same (starting_array s).holds (starting_array s).units
 targets_kept s (row ∷ p) =
     let k : RunState = run_state s p in
@@ -171,14 +200,18 @@ abbrev AllThere : ScenarioValue → List ℕ → Type 0
 AllThere s [] = ⊤
 AllThere s (t ∷ ts) = HasDevice s t × AllThere s ts
 
-start_there : (s : ScenarioValue) (units : List UnitDef) → AllByRecursion (IsOfTarget s.targets) units → AllThere s (targets (starting_units s units))
+start_there : (s : ScenarioValue) (units : List UnitDef) → AllByRecursion (IsOfTarget s.targets) units
+    → AllThere s (targets (starting_units s units))
 start_there s [] h = tt
 start_there s (u ∷ units) h = (target_there s u.target h.0, start_there s units h.1)
 
-each_there : (s : ScenarioValue) (units : List UnitState) → AllThere s (targets units) → AllUnits (λ u. HasDevice s u.target) units
+each_there : (s : ScenarioValue) (units : List UnitState) → AllThere s (targets units)
+    → AllUnits (λ u. HasDevice s u.target) units
 each_there s [] h = tt
 each_there s (u ∷ units) h = (h.0, each_there s units h.1)
 
 -- The target of each unit is there.
-pub targets_there : (s : ScenarioValue) (p : List Row) → Obeys s → AllUnits (λ u. HasDevice s u.target) (array_of s (run_state s p)).units
-targets_there s p o = each_there s (array_of s (run_state s p)).units (subst (AllThere s) (sym (targets_kept s p)) (start_there s s.units (are_of_targets s o)))
+pub targets_there : (s : ScenarioValue) (p : List Row) → Obeys s
+    → AllUnits (λ u. HasDevice s u.target) (array_of s (run_state s p)).units
+targets_there s p o = each_there s (array_of s (run_state s p)).units
+    (subst (AllThere s) (sym (targets_kept s p)) (start_there s s.units (are_of_targets s o)))

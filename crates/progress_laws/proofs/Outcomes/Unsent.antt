@@ -1,5 +1,5 @@
--- An initiator that wants nothing, and of which no command is open, has sent each of its commands or given it up; and each
--- automatic REQUEST SENSE.
+-- An initiator that wants nothing, and of which no command is open, has sent each of its commands or given it up; and
+-- each automatic REQUEST SENSE.
 use Rattle.progress_laws.proofs
 use proofs.Names.{ℕ, ◌≡◌, ◌+◌, ◌<◌, Bool, true, false, not, ◌∙◌, List, [], ◌∷◌, Option, Some, None, refl, sym, ap}
 use proofs.Names.{arith, nat_tests, if◌then◌else◌, ◌==◌, is_some, ⊤, wrong, ScenarioValue, CmdDef, Item, Sent}
@@ -19,7 +19,8 @@ NoneOpen b n (c ∷ commands) = (is_open b n ≡ false) × NoneOpen b (n + 1) co
 -- Those of this device were sent or given up.
 abbrev pub DoneBy : Sent → ℕ → ℕ → List CmdDef → Type 0
 DoneBy b dev n [] = ⊤
-DoneBy b dev n (c ∷ commands) = ((c.host == dev) ≡ true → is_done b (command_item n) ≡ true) × DoneBy b dev (n + 1) commands
+DoneBy b dev n (c ∷ commands) =
+    ((c.host == dev) ≡ true → is_done b (command_item n) ≡ true) × DoneBy b dev (n + 1) commands
 
 -- ---- what is wanted
 
@@ -32,31 +33,42 @@ untimed : (q : Bool) (t : ℕ) → time_if q t ≡ None → q ≡ false
 untimed true t e = time_none t e
 untimed false t e = refl
 
-own_open : (b : Sent) (dev n : ℕ) (commands : List CmdDef) → NoneOpen b n commands → open_in (own_commands b dev n commands) ≡ []
+own_open : (b : Sent) (dev n : ℕ) (commands : List CmdDef) → NoneOpen b n commands
+    → open_in (own_commands b dev n commands) ≡ []
 own_open b dev n [] h = refl
 own_open b dev n (c ∷ commands) h = go (c.host == dev) (own_open b dev (n + 1) commands h.1)
   where
-    go : (q : Bool) → open_in (own_commands b dev (n + 1) commands) ≡ [] → open_in (if q then own_command b n c ∷ own_commands b dev (n + 1) commands else own_commands b dev (n + 1) commands) ≡ []
-    go true more = ap (λ (o : Bool). if o then c ∷ open_in (own_commands b dev (n + 1) commands) else open_in (own_commands b dev (n + 1) commands)) h.0 ∙ more
+    go : (q : Bool) → open_in (own_commands b dev (n + 1) commands) ≡ [] → open_in
+        (if q then own_command b n c ∷ own_commands b dev (n + 1) commands else own_commands b dev (n + 1) commands)
+        ≡ []
+    go true more = ap (λ (o : Bool). if o then c ∷ open_in (own_commands b dev (n + 1) commands)
+        else open_in (own_commands b dev (n + 1) commands)) h.0
+        ∙ more
     go false more = more
 
 -- Beside no open command any may follow whose time has come.
 follows_none : (most : ℕ) (c : CmdDef) → 0 < most → may_follow most c.at [] c ≡ true
 follows_none most c some = grind (arith, nat_tests)
 
-first_done : (q : Bool) (most : ℕ) (c : CmdDef) (rest : Option ℕ) → 0 < most → (if not q then time_if (may_follow most c.at [] c) c.at else rest) ≡ None → (q ≡ true) × (rest ≡ None)
+first_done : (q : Bool) (most : ℕ) (c : CmdDef) (rest : Option ℕ) → 0 < most
+    → (if not q then time_if (may_follow most c.at [] c) c.at else rest) ≡ None → (q ≡ true) × (rest ≡ None)
 first_done true most c rest some e = (refl, e)
-first_done false most c rest some e = wrong (sym (follows_none most c some) ∙ untimed (may_follow most c.at [] c) c.at e)
+first_done false most c rest some e =
+    wrong (sym (follows_none most c some) ∙ untimed (may_follow most c.at [] c) c.at e)
 
-done_by : (b : Sent) (dev most n : ℕ) (commands : List CmdDef) → 0 < most → command_since most [] (own_commands b dev n commands) ≡ None → DoneBy b dev n commands
+done_by : (b : Sent) (dev most n : ℕ) (commands : List CmdDef) → 0 < most
+    → command_since most [] (own_commands b dev n commands) ≡ None → DoneBy b dev n commands
 done_by b dev most n [] some e = tt
 done_by b dev most n (c ∷ commands) some e = go (c.host == dev) (λ z. done_by b dev most (n + 1) commands some z) e
   where
-    go : (q : Bool) → (command_since most [] (own_commands b dev (n + 1) commands) ≡ None → DoneBy b dev (n + 1) commands)
-        → command_since most [] (if q then own_command b n c ∷ own_commands b dev (n + 1) commands else own_commands b dev (n + 1) commands) ≡ None
-        → (q ≡ true → is_done b (command_item n) ≡ true) × DoneBy b dev (n + 1) commands
+    go : (q : Bool)
+        → (command_since most [] (own_commands b dev (n + 1) commands) ≡ None → DoneBy b dev (n + 1) commands)
+        → command_since most []
+        (if q then own_command b n c ∷ own_commands b dev (n + 1) commands else own_commands b dev (n + 1) commands)
+        ≡ None → (q ≡ true → is_done b (command_item n) ≡ true) × DoneBy b dev (n + 1) commands
     go true more z =
-        let w = first_done (is_done b (command_item n)) most c (command_since most [] (own_commands b dev (n + 1) commands)) some z in
+        let w = first_done (is_done b (command_item n)) most c
+        (command_since most [] (own_commands b dev (n + 1) commands)) some z in
         (λ _. w.0, more w.1)
     go false more z = (λ y. wrong (sym y), more z)
 
@@ -71,17 +83,21 @@ no_sense None e = refl
 no_sense (Some i) e = wrong e
 
 -- It has no automatic REQUEST SENSE to send, whatever is open.
-pub no_sense_wanted : (s : ScenarioValue) (b : Sent) (dev : ℕ) → item_want_time s b dev ≡ None → sense_from s b dev b.checks ≡ None
+pub no_sense_wanted : (s : ScenarioValue) (b : Sent) (dev : ℕ) → item_want_time s b dev ≡ None
+    → sense_from s b dev b.checks ≡ None
 no_sense_wanted s b dev e =
     let w = both_none (abort_since (own_aborts b dev 1 s.aborts)) _ e in
     let v = both_none (time_if (is_some (sense_from s b dev b.checks)) 0) _ w.1 in
     no_sense (sense_from s b dev b.checks) (untimed (is_some (sense_from s b dev b.checks)) 0 v.0)
 
-pub sent_all : (s : ScenarioValue) (b : Sent) (dev : ℕ) → NoneOpen b 1 s.commands → 0 < open_limit_of s.hosts dev → item_want_time s b dev ≡ None → HasSentAll s b dev
+pub sent_all : (s : ScenarioValue) (b : Sent) (dev : ℕ) → NoneOpen b 1 s.commands → 0 < open_limit_of s.hosts dev
+    → item_want_time s b dev ≡ None → HasSentAll s b dev
 sent_all s b dev none some e =
     let w = both_none (abort_since (own_aborts b dev 1 s.aborts)) _ e in
     let v = both_none (time_if (is_some (sense_from s b dev b.checks)) 0) _ w.1 in
     record {
-      commands = done_by b dev (open_limit_of s.hosts dev) 1 s.commands some (sym (ap (λ (now : List CmdDef). command_since (open_limit_of s.hosts dev) now (own_commands b dev 1 s.commands)) (own_open b dev 1 s.commands none)) ∙ v.1);
+      commands = done_by b dev (open_limit_of s.hosts dev) 1 s.commands some (sym
+          (ap (λ (now : List CmdDef). command_since (open_limit_of s.hosts dev) now (own_commands b dev 1 s.commands))
+          (own_open b dev 1 s.commands none)) ∙ v.1);
       sense = no_sense_wanted s b dev e;
     }

@@ -1,5 +1,5 @@
--- To each initiator that stands in a hold its automatic REQUEST SENSE is owed, event by event: a command that ends with CHECK CONDITION puts its
--- initiator there, and the REQUEST SENSE that ends GOOD takes it away (7.6).
+-- To each initiator that stands in a hold its automatic REQUEST SENSE is owed, event by event: a command that ends with
+-- CHECK CONDITION puts its initiator there, and the REQUEST SENSE that ends GOOD takes it away (7.6).
 use Rattle.progress_laws.proofs
 use proofs.Names.{ℕ, ◌≡◌, Bool, true, false, not, ◌&&◌, ◌||◌, ◌∙◌, List, [], ◌∷◌, ◌++◌, Option, Some, None, refl, sym}
 use proofs.Names.{ap, subst, inl, inr, eqb-true, or_from, cases_Bool, same_Some, list_any, if◌then◌else◌, ◌==◌, is_none}
@@ -12,9 +12,11 @@ use proofs.Names.{story_after_event, story_with_end, running_own as own_process,
 use proofs.{Names.{IsOwed}, Owed.Steps.{aborts_owe, owed_all, owed_without, reset_owes}}
 use Rattle.bus_due.specs.disk_array.specs.Steps
 
--- An automatic REQUEST SENSE that ends does so with GOOD, and none is lost; and that of a command is not over as the command ends.
+-- An automatic REQUEST SENSE that ends does so with GOOD, and none is lost; and that of a command is not over as the
+-- command ends.
 abbrev pub EndsWell : Story → Event → Type 0
-EndsWell b (Event.End id status) = (id.sense ≡ true → (status == GOOD) ≡ true) × (id.sense ≡ false → has_item b.sent.over (sense_item id.command) ≡ false)
+EndsWell b (Event.End id status) = (id.sense ≡ true → (status == GOOD) ≡ true)
+    × (id.sense ≡ false → has_item b.sent.over (sense_item id.command) ≡ false)
 EndsWell b (Event.Lost id) = id.sense ≡ false
 EndsWell b _ = ⊤
 
@@ -36,7 +38,8 @@ if_none f false a h = h
 
 -- ---- events that change no hold
 
-pub accepted : (f : List Nexus → Type 0) (a : Array) (o : Option Process) → f a.holds → IfHolds f (Steps.accept_step a o)
+pub accepted : (f : List Nexus → Type 0) (a : Array) (o : Option Process) → f a.holds
+    → IfHolds f (Steps.accept_step a o)
 accepted f a None h = tt
 accepted f a (Some p) h = at (unit_state_at a.units p.target p.unit)
   where
@@ -56,13 +59,17 @@ refused f a (Some p) h = at (unit_state_at a.units p.target p.unit)
     at None = tt
     at (Some u) = if_some f (not (is_request_sense (command_of p.cdb)) && Steps.process_count u == u.depth) _ h
 
-pub run : (f : List Nexus → Type 0) (a : Array) (guest : Bool) (o : Option RunningProcess) → f a.holds → IfHolds f (Steps.run_step a guest o)
+pub run : (f : List Nexus → Type 0) (a : Array) (guest : Bool) (o : Option RunningProcess) → f a.holds
+    → IfHolds f (Steps.run_step a guest o)
 run f a guest None h = tt
 run f a guest (Some r) h =
     let u = unit_state_at a.units r.process.target r.process.unit in
-    if_some f (is_none r.reply && (guest || not (is_held a.holds r.process.target r.process.unit))) _ (subst f (sym (executed a r.process u).holds) h)
+    if_some f (is_none r.reply && (guest || not (is_held a.holds r.process.target r.process.unit))) _
+    (subst f (sym (executed a r.process u).holds) h)
 
-pub failed : (f : List Nexus → Type 0) (s : ScenarioValue) (a : Array) (i : ProcId) (reply : Reply) (o : Option RunningProcess) → f a.holds → IfHolds f (Steps.fail_step s a i reply o)
+pub failed :
+    (f : List Nexus → Type 0) (s : ScenarioValue) (a : Array) (i : ProcId) (reply : Reply) (o : Option RunningProcess)
+    → f a.holds → IfHolds f (Steps.fail_step s a i reply o)
 failed f s a i reply (Some r) h = if_some f (is_none r.reply) _ h
 failed f s a i reply None h = new (process_of s i)
   where
@@ -80,7 +87,9 @@ own_last n [] = ap (λ (q : Bool). q || false) (eq_self n)
 own_last n (c ∷ checks) = elim (cases_Bool (c == n)) [ inl e ↦ rw e | inr e ↦ rw e (own_last n checks) ]
 
 -- What is owed for another stays so.
-owed_on : (s : ScenarioValue) (b c : Sent) (id : ProcId) (q : Nexus) (w : IsOwed s b q) → c.over ≡ process id ∷ b.over → ((n : ℕ) → list_any (λ k. k == n) b.checks ≡ true → list_any (λ k. k == n) c.checks ≡ true) → same_item (process id) (sense_item w.number) ≡ false → IsOwed s c q
+owed_on : (s : ScenarioValue) (b c : Sent) (id : ProcId) (q : Nexus) (w : IsOwed s b q) → c.over ≡ process id ∷ b.over
+    → ((n : ℕ) → list_any (λ k. k == n) b.checks ≡ true → list_any (λ k. k == n) c.checks ≡ true)
+    → same_item (process id) (sense_item w.number) ≡ false → IsOwed s c q
 owed_on s b c id q w over more apart = record {
   number = w.number;
   def = w.def;
@@ -89,17 +98,20 @@ owed_on s b c id q w over more apart = record {
   target_is = w.target_is;
   unit_is = w.unit_is;
   checked = more w.number w.checked;
-  opens = ap (λ (x : List Item). has_item x (sense_item w.number)) over ∙ or_from (same_item (process id) (sense_item w.number)) (has_item b.over (sense_item w.number)) apart w.opens;
+  opens = ap (λ (x : List Item). has_item x (sense_item w.number)) over
+      ∙ or_from (same_item (process id) (sense_item w.number)) (has_item b.over (sense_item w.number)) apart w.opens;
 }
 
-lost : (s : ScenarioValue) (b : Story) (a : Array) (id : ProcId) → id.sense ≡ false → AreOwed s b.sent a.holds → IfOwed s (story_after_event s b (Event.Lost id)).sent (Steps.loss_step a id)
-lost s b a id e h =
-    if_none (λ holds. AreOwed s (story_after_event s b (Event.Lost id)).sent holds) (Steps.has_ended a id) _
-    (owed_all s b.sent (story_after_event s b (Event.Lost id)).sent a.holds (λ q w. owed_on s b.sent (story_after_event s b (Event.Lost id)).sent id q w refl (λ n z. z) (other_over id w.number e)) h)
+lost : (s : ScenarioValue) (b : Story) (a : Array) (id : ProcId) → id.sense ≡ false → AreOwed s b.sent a.holds
+    → IfOwed s (story_after_event s b (Event.Lost id)).sent (Steps.loss_step a id)
+lost s b a id e h = if_none (λ holds. AreOwed s (story_after_event s b (Event.Lost id)).sent holds)
+    (Steps.has_ended a id) _ (owed_all s b.sent (story_after_event s b (Event.Lost id)).sent a.holds (λ q w. owed_on s
+    b.sent (story_after_event s b (Event.Lost id)).sent id q w refl (λ n z. z) (other_over id w.number e)) h)
 
 -- ---- the process that runs is of the scenario
 
-pub running_own : (s : ScenarioValue) (a : Array) (i : ProcId) (r : RunningProcess) → IsSound s a → Steps.running_process a i ≡ Some r → process_of s i ≡ Some r.process
+pub running_own : (s : ScenarioValue) (a : Array) (i : ProcId) (r : RunningProcess) → IsSound s a
+    → Steps.running_process a i ≡ Some r → process_of s i ≡ Some r.process
 running_own s a i r sound e = ap (process_of s) (sym (running_id a i r e)) ∙ own_process s a i r sound e
 
 -- Its command, and its nexus.
@@ -129,7 +141,8 @@ of_command s id p e = go (command_at s.commands id.command) refl
     units true n c = refl
     units false n c = refl
 
-    senses : (q : Bool) (n : ℕ) (c : CmdDef) → q ≡ true → is_request_sense (command_of (process_by s (record { command = n; sense = q }) c).cdb) ≡ true
+    senses : (q : Bool) (n : ℕ) (c : CmdDef) → q ≡ true
+        → is_request_sense (command_of (process_by s (record { command = n; sense = q }) c).cdb) ≡ true
     senses true n c z = refl
     senses false n c z = wrong (sym z)
 
@@ -143,7 +156,8 @@ of_command s id p e = go (command_at s.commands id.command) refl
           host_is = hosts id.sense id.command c ∙ ap (λ (x : Process). x.initiator) same;
           target_is = targets id.sense id.command c ∙ ap (λ (x : Process). x.target) same;
           unit_is = units id.sense id.command c ∙ ap (λ (x : Process). x.unit) same;
-          fetches = λ f. ap (λ (x : Process). is_request_sense (command_of x.cdb)) (sym same) ∙ senses id.sense id.command c f;
+          fetches = λ f. ap (λ (x : Process). is_request_sense (command_of x.cdb)) (sym same)
+              ∙ senses id.sense id.command c f;
         }
 
 -- ---- a process ends
@@ -152,10 +166,13 @@ pub no_check : {A : Type 0} (status : ℕ) → (status == GOOD) ≡ true → (st
 no_check status e f = wrong (sym (sym (ap (λ (n : ℕ). n == GOOD) (eqb-true status CHECK_CONDITION f)) ∙ e))
 
 -- The process that ends is of the scenario, and its reply has this status.
-pub ended_so : (s : ScenarioValue) (f : List Nexus → Type 0) (a : Array) (id : ProcId) (status : ℕ) → IsSound s a → ((p : Process) (reply : Reply) → OfCommand s id p → (reply.status == status) ≡ true → f (Steps.after_status a p reply).holds) → IfHolds f (Steps.end_step a status (Steps.running_process a id))
+pub ended_so : (s : ScenarioValue) (f : List Nexus → Type 0) (a : Array) (id : ProcId) (status : ℕ) → IsSound s a
+    → ((p : Process) (reply : Reply) → OfCommand s id p → (reply.status == status) ≡ true
+    → f (Steps.after_status a p reply).holds) → IfHolds f (Steps.end_step a status (Steps.running_process a id))
 ended_so s f a id status sound h = go (Steps.running_process a id) refl
   where
-    reply_by : (r : RunningProcess) → OfCommand s id r.process → (o : Option Reply) → IfHolds f (Steps.end_step_with a r.process status o)
+    reply_by : (r : RunningProcess) → OfCommand s id r.process
+        → (o : Option Reply) → IfHolds f (Steps.end_step_with a r.process status o)
     reply_by r of None = tt
     reply_by r of (Some reply) =
         elim (cases_Bool (reply.status == status)) [ inl e ↦ rw e (h r.process reply of e) | inr e ↦ rw e tt ]
@@ -164,7 +181,9 @@ ended_so s f a id status sound h = go (Steps.running_process a id) refl
     go None z = tt
     go (Some r) z = reply_by r (of_command s id r.process (running_own s a id r sound z)) r.reply
 
-ended : (s : ScenarioValue) (b : Story) (a : Array) (id : ProcId) (status : ℕ) → IsSound s a → EndsWell b (Event.End id status) → AreOwed s b.sent a.holds → IfOwed s (story_after_event s b (Event.End id status)).sent (Steps.end_step a status (Steps.running_process a id))
+ended : (s : ScenarioValue) (b : Story) (a : Array) (id : ProcId) (status : ℕ)
+    → IsSound s a → EndsWell b (Event.End id status) → AreOwed s b.sent a.holds
+    → IfOwed s (story_after_event s b (Event.End id status)).sent (Steps.end_step a status (Steps.running_process a id))
 ended s b a id status sound well h = ended_so s (λ holds. AreOwed s c holds) a id status sound after
   where
     c : Sent
@@ -176,47 +195,63 @@ ended s b a id status sound well h = ended_so s (λ holds. AreOwed s c holds) a 
     over : c.over ≡ process id ∷ b.sent.over
     over = by (not id.sense && status == CHECK_CONDITION)
       where
-        by : (q : Bool) → (if q then record ends { sent = record ends.sent { checks = ends.sent.checks ++ id.command ∷ [] } } else ends).sent.over ≡ process id ∷ b.sent.over
+        by : (q : Bool)
+            → (if q then record ends { sent = record ends.sent { checks = ends.sent.checks ++ id.command ∷ [] } }
+            else ends).sent.over ≡ process id ∷ b.sent.over
         by true = refl
         by false = refl
 
     more : (n : ℕ) → list_any (λ k. k == n) b.sent.checks ≡ true → list_any (λ k. k == n) c.checks ≡ true
     more n z = by (not id.sense && status == CHECK_CONDITION)
       where
-        by : (q : Bool) → list_any (λ k. k == n) (if q then record ends { sent = record ends.sent { checks = ends.sent.checks ++ id.command ∷ [] } } else ends).sent.checks ≡ true
+        by : (q : Bool) → list_any (λ k. k == n)
+            (if q then record ends { sent = record ends.sent { checks = ends.sent.checks ++ id.command ∷ [] } }
+            else ends).sent.checks ≡ true
         by true = later n b.sent.checks (id.command ∷ []) z
         by false = z
 
     checked : id.sense ≡ false → (status == CHECK_CONDITION) ≡ true → list_any (λ k. k == id.command) c.checks ≡ true
-    checked e f =
-        (λ i. list_any (λ k. k == id.command) (if not (e i) && f i then record ends { sent = record ends.sent { checks = ends.sent.checks ++ id.command ∷ [] } } else ends).sent.checks)
-        ∙ own_last id.command b.sent.checks
+    checked e f = (λ i. list_any (λ k. k == id.command) (if not (e i) && f i then record ends {
+      sent = record ends.sent { checks = ends.sent.checks ++ id.command ∷ [] };
+    } else ends).sent.checks) ∙ own_last id.command b.sent.checks
 
     others : id.sense ≡ false → (q : Nexus) → IsOwed s b.sent q → IsOwed s c q
     others e q w = owed_on s b.sent c id q w over more (other_over id w.number e)
 
-    apart : (p : Process) → OfCommand s id p → (q : Nexus) → same_nexus q (nexus_of p) ≡ false → IsOwed s b.sent q → IsOwed s c q
+    apart : (p : Process) → OfCommand s id p → (q : Nexus) → same_nexus q (nexus_of p) ≡ false → IsOwed s b.sent q
+        → IsOwed s c q
     apart p of q ne w = owed_on s b.sent c id q w over more (by (id.command == w.number) refl)
       where
         by : (x : Bool) → (id.command == w.number) ≡ x → same_item (process id) (sense_item w.number) ≡ false
         by false z = ap (λ (x : Bool). x && same_bool id.sense true) z
         by true z =
-            let same : w.def ≡ of.def = same_Some w.def of.def (sym w.def_is ∙ ap (command_at s.commands) (sym (eqb-true id.command w.number z)) ∙ of.def_is) in
-            let host : q.initiator ≡ (nexus_of p).initiator = sym w.host_is ∙ ap (λ (x : CmdDef). x.host) same ∙ of.host_is in
-            let target : q.target ≡ (nexus_of p).target = sym w.target_is ∙ ap (λ (x : CmdDef). x.target) same ∙ of.target_is in
+            let same : w.def ≡ of.def = same_Some w.def of.def
+            (sym w.def_is ∙ ap (command_at s.commands) (sym (eqb-true id.command w.number z)) ∙ of.def_is) in
+            let host : q.initiator ≡ (nexus_of p).initiator = sym w.host_is
+            ∙ ap (λ (x : CmdDef). x.host) same ∙ of.host_is in
+            let target : q.target ≡ (nexus_of p).target = sym w.target_is
+            ∙ ap (λ (x : CmdDef). x.target) same ∙ of.target_is in
             let unit : q.unit ≡ (nexus_of p).unit = sym w.unit_is ∙ ap (λ (x : CmdDef). x.unit) same ∙ of.unit_is in
-            wrong (sym ((λ i. (host i == p.initiator) && ((target i == p.target) && (unit i == p.unit))) ∙ (λ i. eq_self p.initiator i && (eq_self p.target i && eq_self p.unit i))) ∙ ne)
+            wrong (sym ((λ i. (host i == p.initiator) && ((target i == p.target) && (unit i == p.unit)))
+            ∙ (λ i. eq_self p.initiator i && (eq_self p.target i && eq_self p.unit i))) ∙ ne)
 
-    after : (p : Process) (reply : Reply) → OfCommand s id p → (reply.status == status) ≡ true → AreOwed s c (Steps.after_status a p reply).holds
-    after p reply of z = by (reply.status == CHECK_CONDITION) refl (reply.status == GOOD && is_request_sense (command_of p.cdb)) refl id.sense refl
+    after : (p : Process) (reply : Reply) → OfCommand s id p → (reply.status == status) ≡ true
+        → AreOwed s c (Steps.after_status a p reply).holds
+    after p reply of z = by (reply.status == CHECK_CONDITION) refl
+        (reply.status == GOOD && is_request_sense (command_of p.cdb)) refl id.sense refl
       where
         same : reply.status ≡ status
         same = eqb-true reply.status status z
 
-        by : (q : Bool) → (reply.status == CHECK_CONDITION) ≡ q → (t : Bool) → (reply.status == GOOD && is_request_sense (command_of p.cdb)) ≡ t → (x : Bool) → id.sense ≡ x
-            → AreOwed s c (if q then record a { senses = (nexus_of p, reply.sense) ∷ senses_without a.senses (nexus_of p); holds = nexus_of p ∷ nexuses_without a.holds (nexus_of p) }
-            else if t then record a { senses = senses_without a.senses (nexus_of p); holds = nexuses_without a.holds (nexus_of p) }
-            else a).holds
+        by : (q : Bool) → (reply.status == CHECK_CONDITION) ≡ q
+            → (t : Bool) → (reply.status == GOOD && is_request_sense (command_of p.cdb)) ≡ t → (x : Bool) → id.sense ≡ x
+            → AreOwed s c (if q then record a {
+              senses = (nexus_of p, reply.sense) ∷ senses_without a.senses (nexus_of p);
+              holds = nexus_of p ∷ nexuses_without a.holds (nexus_of p);
+            } else if t then record a {
+              senses = senses_without a.senses (nexus_of p);
+              holds = nexuses_without a.holds (nexus_of p);
+            } else a).holds
         by true f t g true e = no_check status (well.0 e) (ap (λ (n : ℕ). n == CHECK_CONDITION) (sym same) ∙ f)
         by true f t g false e = (
           record {
@@ -227,21 +262,27 @@ ended s b a id status sound well h = ended_so s (λ holds. AreOwed s c holds) a 
             target_is = of.target_is;
             unit_is = of.unit_is;
             checked = checked e (ap (λ (n : ℕ). n == CHECK_CONDITION) (sym same) ∙ f);
-            opens = ap (λ (x : List Item). has_item x (sense_item id.command)) over ∙ or_from (same_item (process id) (sense_item id.command)) (has_item b.sent.over (sense_item id.command)) (other_over id id.command e) (well.1 e);
+            opens = ap (λ (x : List Item). has_item x (sense_item id.command)) over
+                ∙ or_from (same_item (process id) (sense_item id.command))
+                (has_item b.sent.over (sense_item id.command)) (other_over id id.command e) (well.1 e);
           },
           owed_without s b.sent c a.holds (nexus_of p) (λ q ne w. apart p of q ne w) h,
         )
         by false f true g x e = owed_without s b.sent c a.holds (nexus_of p) (λ q ne w. apart p of q ne w) h
-        by false f false g true e = wrong (sym (λ i. (ap (λ (n : ℕ). n == GOOD) same ∙ well.0 e) i && of.fetches e i) ∙ g)
+        by false f false g true e =
+            wrong (sym (λ i. (ap (λ (n : ℕ). n == GOOD) same ∙ well.0 e) i && of.fetches e i) ∙ g)
         by false f false g false e = owed_all s b.sent c a.holds (λ q w. others e q w) h
 
 -- ---- any event
 
-event_owes : (s : ScenarioValue) (b : Story) (a : Array) (event : Event) → IsSound s a → EndsWell b event → AreOwed s b.sent a.holds → IfOwed s (story_after_event s b event).sent (Steps.event_step s a event)
+event_owes : (s : ScenarioValue) (b : Story) (a : Array) (event : Event) → IsSound s a → EndsWell b event
+    → AreOwed s b.sent a.holds → IfOwed s (story_after_event s b event).sent (Steps.event_step s a event)
 event_owes s b a (Event.Accept id) sound well h = accepted (λ holds. AreOwed s b.sent holds) a (process_of s id) h
 event_owes s b a (Event.Refuse id) sound well h = refused (λ holds. AreOwed s b.sent holds) a (process_of s id) h
-event_owes s b a (Event.Run id) sound well h = run (λ holds. AreOwed s b.sent holds) a (is_some (guest_at a.guests id)) (Steps.running_process a id) h
-event_owes s b a (Event.Fail id code) sound well h = failed (λ holds. AreOwed s b.sent holds) s a id (check_condition (sense_of ABORTED_COMMAND code 0x00)) (Steps.running_process a id) h
+event_owes s b a (Event.Run id) sound well h =
+    run (λ holds. AreOwed s b.sent holds) a (is_some (guest_at a.guests id)) (Steps.running_process a id) h
+event_owes s b a (Event.Fail id code) sound well h = failed (λ holds. AreOwed s b.sent holds) s a id
+    (check_condition (sense_of ABORTED_COMMAND code 0x00)) (Steps.running_process a id) h
 event_owes s b a (Event.End id status) sound well h = ended s b a id status sound well h
 event_owes s b a (Event.Lost id) sound well h = lost s b a id well h
 event_owes s b a (Event.Aborted i t n what) sound well h = aborts_owe s b a i t n what h
@@ -252,5 +293,7 @@ pub if_settled : (f : List Nexus → Type 0) (o : Option Array) → IfHolds f o 
 if_settled f None k = tt
 if_settled f (Some x) k = k
 
-pub step_owes : (s : ScenarioValue) (b : Story) (a : Array) (event : Event) → IsSound s a → EndsWell b event → AreOwed s b.sent a.holds → IfOwed s (story_after_event s b event).sent (Steps.step s event a)
-step_owes s b a event sound well h = if_settled (λ holds. AreOwed s (story_after_event s b event).sent holds) (Steps.event_step s a event) (event_owes s b a event sound well h)
+pub step_owes : (s : ScenarioValue) (b : Story) (a : Array) (event : Event) → IsSound s a → EndsWell b event
+    → AreOwed s b.sent a.holds → IfOwed s (story_after_event s b event).sent (Steps.step s event a)
+step_owes s b a event sound well h = if_settled (λ holds. AreOwed s (story_after_event s b event).sent holds)
+    (Steps.event_step s a event) (event_owes s b a event sound well h)

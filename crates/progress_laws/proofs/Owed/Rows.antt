@@ -18,20 +18,29 @@ pub record Holds (b c : Sent) : Type 0 where
   pub over : (n : ℕ) → has_item b.over (sense_item n) ≡ false → has_item c.over (sense_item n) ≡ false
 
 same : (b c : Sent) → c ≡ b → Holds b c
-same b c e = record { checks = ap (λ (x : Sent). x.checks) e; over = λ n z. ap (λ (x : Sent). has_item x.over (sense_item n)) e ∙ z }
+same b c e = record {
+  checks = ap (λ (x : Sent). x.checks) e;
+  over = λ n z. ap (λ (x : Sent). has_item x.over (sense_item n)) e ∙ z;
+}
 
-given_up : (b : Story) (tries : List Item) (i : Item) → is_counted i ≡ true → Holds b.sent (story_without_answer (record b { sent = record b.sent { tries = tries } }) i).sent
-given_up b tries (process id) e = record { checks = refl; over = λ n z. or_from _ (has_item b.sent.over (sense_item n)) (other_over id n (not-true id.sense e)) z }
+given_up : (b : Story) (tries : List Item) (i : Item) → is_counted i ≡ true
+    → Holds b.sent (story_without_answer (record b { sent = record b.sent { tries = tries } }) i).sent
+given_up b tries (process id) e = record {
+  checks = refl;
+  over = λ n z. or_from _ (has_item b.sent.over (sense_item n)) (other_over id n (not-true id.sense e)) z;
+}
 given_up b tries (abort k) e = record { checks = refl; over = λ n z. z }
 
 tried : (s : ScenarioValue) (b : Story) (dev : ℕ) (item : Option Item) → Holds b.sent (story_with_try s b dev item).sent
 tried s b dev None = same b.sent b.sent refl
-tried s b dev (Some item) = go (is_counted item) refl (nat_lt (retries_of s.hosts dev) (count_item (item ∷ b.sent.tries) item))
+tried s b dev (Some item) =
+    go (is_counted item) refl (nat_lt (retries_of s.hosts dev) (count_item (item ∷ b.sent.tries) item))
   where
     next : Story
     next = record b { sent = record b.sent { tries = item ∷ b.sent.tries } }
 
-    go : (q : Bool) → is_counted item ≡ q → (r : Bool) → Holds b.sent (if q && r then story_without_answer next item else next).sent
+    go : (q : Bool) → is_counted item ≡ q
+        → (r : Bool) → Holds b.sent (if q && r then story_without_answer next item else next).sent
     go true e true = given_up b (item ∷ b.sent.tries) item e
     go true e false = record { checks = refl; over = λ n z. z }
     go false e r = record { checks = refl; over = λ n z. z }
@@ -51,7 +60,8 @@ called s b (Some k) = by k.calling
 freed : (s : ScenarioValue) (b : Story) (d : RowReading) (row : Row) → Holds b.sent (story_on_free_bus s b d row).sent
 freed s b d row = go (is_arbitration_entry b d) (falls d.change.before.sel d.change.after.sel)
   where
-    go : (q r : Bool) → Holds b.sent (if q then story_with_aim s b row else if r then story_after_calling s b b.bus_state.call else b).sent
+    go : (q r : Bool) → Holds b.sent
+        (if q then story_with_aim s b row else if r then story_after_calling s b b.bus_state.call else b).sent
     go true r = same b.sent b.sent refl
     go false true = called s b b.bus_state.call
     go false false = same b.sent b.sent refl
@@ -59,13 +69,15 @@ freed s b d row = go (is_arbitration_entry b d) (falls d.change.before.sel d.cha
 begun : (b : Story) (n : Connection) → Holds b.sent (story_after_connection b n).sent
 begun b n = go n.reselected (aim_of b.aims n.initiator)
   where
-    go : (q : Bool) (item : Option Item) → Holds b.sent (if q then record b { link = Some (link_of n None) } else story_with_restored (story_with_sent (record b { link = Some (link_of n item) }) item) item).sent
+    go : (q : Bool) (item : Option Item) → Holds b.sent (if q then record b { link = Some (link_of n None) }
+        else story_with_restored (story_with_sent (record b { link = Some (link_of n item) }) item) item).sent
     go true item = same b.sent b.sent refl
     go false None = same b.sent b.sent refl
     go false (Some (process id)) = record { checks = refl; over = λ n z. z }
     go false (Some (abort k)) = record { checks = refl; over = λ n z. z }
 
-pub changed : (s : ScenarioValue) (b : Story) (d : RowReading) (row : Row) → Holds b.sent (story_by_change s b d row).sent
+pub changed : (s : ScenarioValue) (b : Story) (d : RowReading) (row : Row)
+    → Holds b.sent (story_by_change s b d row).sent
 changed s b d row = by_rst d.change.after.rst
   where
     by : (x y : Option Connection) → Holds b.sent (story_on_bus s b x y d row).sent
@@ -74,7 +86,8 @@ changed s b d row = by_rst d.change.after.rst
     by (Some m) None = same b.sent b.sent refl
     by (Some m) (Some n) = same b.sent _ (connection_sent s b b.link d row)
 
-    by_rst : (q : Bool) → Holds b.sent (if q then record b { link = None } else story_on_bus s b b.bus_state.connection d.next d row).sent
+    by_rst : (q : Bool) → Holds b.sent
+        (if q then record b { link = None } else story_on_bus s b b.bus_state.connection d.next d row).sent
     by_rst true = same b.sent b.sent refl
     by_rst false = by b.bus_state.connection d.next
 
@@ -100,9 +113,11 @@ record Keeps (s : ScenarioValue) (c : Sent) (o : Option Array) : Type 0 where
   sound : (a : Array) → o ≡ Some a → IsSound s a
   owed : IfOwed s c o
 
-events_owe : (s : ScenarioValue) (b : Story) (o : Option Array) (shown : List Event) → HasSeats s → AllEndWell s b shown → Keeps s b.sent o → Keeps s (story_after_events s b shown).sent (array_after_events s o shown)
+events_owe : (s : ScenarioValue) (b : Story) (o : Option Array) (shown : List Event) → HasSeats s → AllEndWell s b shown
+    → Keeps s b.sent o → Keeps s (story_after_events s b shown).sent (array_after_events s o shown)
 events_owe s b o [] seats well k = k
-events_owe s b o (event ∷ shown) seats well k = go (array_after_events s o shown) (events_owe s b o shown seats well.1 k)
+events_owe s b o (event ∷ shown) seats well k =
+    go (array_after_events s o shown) (events_owe s b o shown seats well.1 k)
   where
     was : Story
     was = story_after_events s b shown
@@ -116,19 +131,22 @@ events_owe s b o (event ∷ shown) seats well k = go (array_after_events s o sho
 
 -- ---- a row
 
--- An automatic REQUEST SENSE that ends with the row does so with GOOD, and none is lost with it; and that of a command is not over as the command
--- ends.
+-- An automatic REQUEST SENSE that ends with the row does so with GOOD, and none is lost with it; and that of a command
+-- is not over as the command ends.
 abbrev pub IsEndedWell : ScenarioValue → List Row → Row → Type 0
-IsEndedWell s p row =
-    AllEndWell s (story_by_change s (run_state s p).story (row_reading (run_state s p).story.bus_state row) row) (row_events_by s (run_state s p).story (row_reading (run_state s p).story.bus_state row) row)
+IsEndedWell s p row = AllEndWell s
+    (story_by_change s (run_state s p).story (row_reading (run_state s p).story.bus_state row) row)
+    (row_events_by s (run_state s p).story (row_reading (run_state s p).story.bus_state row) row)
 
 pub owed_start : (s : ScenarioValue) → AreOwed s (run_state s []).story.sent (array_of s (run_state s [])).holds
 owed_start s = tt
 
-pub owed_next : (s : ScenarioValue) (p : List Row) (row : Row) → HasSeats s → HasArray s (run_state s p) → HasArray s (run_state s (row ∷ p)) → IsEndedWell s p row → AreOwed s (run_state s p).story.sent (array_of s (run_state s p)).holds
+pub owed_next : (s : ScenarioValue) (p : List Row) (row : Row) → HasSeats s
+    → HasArray s (run_state s p) → HasArray s (run_state s (row ∷ p)) → IsEndedWell s p row
+    → AreOwed s (run_state s p).story.sent (array_of s (run_state s p)).holds
     → AreOwed s (run_state s (row ∷ p)).story.sent (array_of s (run_state s (row ∷ p))).holds
-owed_next s p row seats had has well h =
-    subst (λ (o : Option Array). AreOwed s after.sent (or_start s o).holds) (sym has.array_is) (subst (λ (o : Option Array). IfOwed s after.sent o) has.array_is is.owed)
+owed_next s p row seats had has well h = subst (λ (o : Option Array). AreOwed s after.sent (or_start s o).holds)
+    (sym has.array_is) (subst (λ (o : Option Array). IfOwed s after.sent o) has.array_is is.owed)
   where
     k : RunState
     k = run_state s p
@@ -146,12 +164,14 @@ owed_next s p row seats had has well h =
     after = story_after_events s b shown
 
     moved : AreOwed s b.sent (array_of s k).holds
-    moved = owed_all s k.story.sent b.sent (array_of s k).holds (λ q w. still s k.story.sent b.sent q (changed s k.story d row) w) h
+    moved = owed_all s k.story.sent b.sent (array_of s k).holds
+        (λ q w. still s k.story.sent b.sent q (changed s k.story d row) w) h
 
     was : Keeps s b.sent k.array
     was = record {
       sound = λ a e. subst (λ (x : Array). IsSound s x) (same_Some had.array a (sym had.array_is ∙ e)) had.sound;
-      owed = subst (λ (o : Option Array). IfOwed s b.sent o) (sym had.array_is) (subst (λ (o : Option Array). AreOwed s b.sent (or_start s o).holds) had.array_is moved);
+      owed = subst (λ (o : Option Array). IfOwed s b.sent o) (sym had.array_is)
+          (subst (λ (o : Option Array). AreOwed s b.sent (or_start s o).holds) had.array_is moved);
     }
 
     is : Keeps s after.sent (array_after_events s k.array shown)

@@ -1,5 +1,5 @@
--- To each initiator that stands in a hold its automatic REQUEST SENSE is owed, after every event, where one that ends does so with GOOD
--- and none is lost (7.6).
+-- To each initiator that stands in a hold its automatic REQUEST SENSE is owed, after every event, where one that ends
+-- does so with GOOD and none is lost (7.6).
 use Rattle.progress_laws.proofs
 use proofs.Names.{ℕ, suc, ◌≡◌, ◌+◌, Bool, true, false, ◌&&◌, ◌∙◌, List, [], ◌∷◌, Some, refl, sym, ap, subst, arith, inl}
 use proofs.Names.{inr, eqb-true, or_from, cases_Bool, same_Some, list_any, if◌then◌else◌, ◌==◌, wrong, and_first}
@@ -11,12 +11,15 @@ use Rattle.bus_due.specs.disk_array.specs.Steps
 
 -- ---- what stays owed
 
-pub owed_all : (s : ScenarioValue) (b c : Sent) (holds : List Nexus) → ((q : Nexus) → IsOwed s b q → IsOwed s c q) → AreOwed s b holds → AreOwed s c holds
+pub owed_all : (s : ScenarioValue) (b c : Sent) (holds : List Nexus)
+    → ((q : Nexus) → IsOwed s b q → IsOwed s c q) → AreOwed s b holds → AreOwed s c holds
 owed_all s b c [] f h = tt
 owed_all s b c (q ∷ holds) f h = (f q h.0, owed_all s b c holds f h.1)
 
 -- Of those that are left where this nexus goes.
-pub owed_without : (s : ScenarioValue) (b c : Sent) (holds : List Nexus) (gone : Nexus) → ((q : Nexus) → same_nexus q gone ≡ false → IsOwed s b q → IsOwed s c q) → AreOwed s b holds → AreOwed s c (nexuses_without holds gone)
+pub owed_without : (s : ScenarioValue) (b c : Sent) (holds : List Nexus) (gone : Nexus)
+    → ((q : Nexus) → same_nexus q gone ≡ false → IsOwed s b q → IsOwed s c q) → AreOwed s b holds
+    → AreOwed s c (nexuses_without holds gone)
 owed_without s b c [] gone f h = tt
 owed_without s b c (q ∷ holds) gone f h =
     elim (cases_Bool (same_nexus q gone)) [
@@ -25,7 +28,9 @@ owed_without s b c (q ∷ holds) gone f h =
     ]
 
 -- Of those that are left where this test drops some.
-pub owed_kept : (s : ScenarioValue) (b c : Sent) (drops : Nexus → Bool) (holds : List Nexus) → ((q : Nexus) → drops q ≡ false → IsOwed s b q → IsOwed s c q) → AreOwed s b holds → AreOwed s c (Steps.kept_nexuses drops holds)
+pub owed_kept : (s : ScenarioValue) (b c : Sent) (drops : Nexus → Bool) (holds : List Nexus)
+    → ((q : Nexus) → drops q ≡ false → IsOwed s b q → IsOwed s c q) → AreOwed s b holds
+    → AreOwed s c (Steps.kept_nexuses drops holds)
 owed_kept s b c drops [] f h = tt
 owed_kept s b c drops (q ∷ holds) f h =
     elim (cases_Bool (drops q)) [
@@ -39,16 +44,18 @@ pub command_apart : (n m : ℕ) → same_item (command_item n) (sense_item m) �
 command_apart n m = elim (cases_Bool (n == m)) [ inl e ↦ rw e | inr e ↦ rw e ]
 
 -- The REQUEST SENSE of a command that the test does not stop is not over by it.
-sense_leaves : (drops stops : CmdDef → Bool) (e : Ending) (j : ℕ) (all commands : List CmdDef) (b : Story) (m : ℕ) → ((k : ℕ) → command_at commands (suc k) ≡ command_at all (suc (j + k))) → ((c : CmdDef) → command_at all m ≡ Some c → stops c ≡ false) → has_item b.sent.over (sense_item m) ≡ false
+sense_leaves : (drops stops : CmdDef → Bool) (e : Ending) (j : ℕ) (all commands : List CmdDef) (b : Story) (m : ℕ)
+    → ((k : ℕ) → command_at commands (suc k) ≡ command_at all (suc (j + k)))
+    → ((c : CmdDef) → command_at all m ≡ Some c → stops c ≡ false) → has_item b.sent.over (sense_item m) ≡ false
     → has_item (story_with_ends drops stops e (suc j) commands b).sent.over (sense_item m) ≡ false
 sense_leaves drops stops e j all [] b m h keep o = o
 sense_leaves drops stops e j all (c ∷ commands) b m h keep o =
     let next : Story =
     if is_open b.sent (suc j) && drops c then story_with_end b (record { command = suc j; sense = false }) e
-    else if stops c && list_any (λ k. k == suc j) b.sent.checks then story_with_over b (sense_item (suc j))
-    else b in
+    else if stops c && list_any (λ k. k == suc j) b.sent.checks then story_with_over b (sense_item (suc j)) else b in
     ap (λ (n : ℕ). has_item (story_with_ends drops stops e n commands next).sent.over (sense_item m)) (sym one_more)
-    ∙ sense_leaves drops stops e (suc j) all commands next m (λ k. h (suc k) ∙ ap (λ (n : ℕ). command_at all (suc n)) (moved k)) keep
+    ∙ sense_leaves drops stops e (suc j) all commands next m
+    (λ k. h (suc k) ∙ ap (λ (n : ℕ). command_at all (suc n)) (moved k)) keep
     (go (is_open b.sent (suc j) && drops c) (stops c && list_any (λ k. k == suc j) b.sent.checks) refl)
   where
     one_more : suc (suc j) ≡ suc j + 1
@@ -67,16 +74,23 @@ sense_leaves drops stops e j all (c ∷ commands) b m h keep o =
     apart false z d = z
     apart true z d = wrong (sym d ∙ keep c (ap (command_at all) (sym (eqb-true (suc j) m z)) ∙ here))
 
-    go : (q r : Bool) → (stops c && list_any (λ k. k == suc j) b.sent.checks) ≡ r → has_item (if q then story_with_end b (record { command = suc j; sense = false }) e else if r then story_with_over b (sense_item (suc j)) else b).sent.over (sense_item m) ≡ false
-    go true r z = or_from (same_item (command_item (suc j)) (sense_item m)) (has_item b.sent.over (sense_item m)) (command_apart (suc j) m) o
-    go false true z = or_from (same_item (sense_item (suc j)) (sense_item m)) (has_item b.sent.over (sense_item m)) (and_true (suc j == m) ∙ apart (suc j == m) refl (and_first (stops c) (list_any (λ k. k == suc j) b.sent.checks) z)) o
+    go : (q r : Bool) → (stops c && list_any (λ k. k == suc j) b.sent.checks) ≡ r
+        → has_item (if q then story_with_end b (record { command = suc j; sense = false }) e
+        else if r then story_with_over b (sense_item (suc j)) else b).sent.over (sense_item m) ≡ false
+    go true r z = or_from (same_item (command_item (suc j)) (sense_item m)) (has_item b.sent.over (sense_item m))
+        (command_apart (suc j) m) o
+    go false true z = or_from (same_item (sense_item (suc j)) (sense_item m))
+        (has_item b.sent.over (sense_item m)) (and_true (suc j == m)
+        ∙ apart (suc j == m) refl (and_first (stops c) (list_any (λ k. k == suc j) b.sent.checks) z)) o
     go false false z = o
 
 none_more : (k : ℕ) → k ≡ 0 + k
 none_more k = omega arith
 
 -- What is owed for a command that the test does not stop stays so.
-still_owed : (s : ScenarioValue) (drops stops : CmdDef → Bool) (e : Ending) (b : Story) (q : Nexus) (w : IsOwed s b.sent q) → stops w.def ≡ false → IsOwed s (story_with_ends drops stops e 1 s.commands b).sent q
+still_owed :
+    (s : ScenarioValue) (drops stops : CmdDef → Bool) (e : Ending) (b : Story) (q : Nexus) (w : IsOwed s b.sent q)
+    → stops w.def ≡ false → IsOwed s (story_with_ends drops stops e 1 s.commands b).sent q
 still_owed s drops stops e b q w keep = record {
   number = w.number;
   def = w.def;
@@ -85,7 +99,9 @@ still_owed s drops stops e b q w keep = record {
   target_is = w.target_is;
   unit_is = w.unit_is;
   checked = ap (λ (x : List ℕ). list_any (λ k. k == w.number) x) (ends_checks drops stops e 1 s.commands b) ∙ w.checked;
-  opens = sense_leaves drops stops e 0 s.commands s.commands b w.number (λ k. ap (λ (m : ℕ). command_at s.commands (suc m)) (none_more k)) (λ c at. ap stops (sym (same_Some w.def c (sym w.def_is ∙ at))) ∙ keep) w.opens;
+  opens = sense_leaves drops stops e 0 s.commands s.commands b w.number
+      (λ k. ap (λ (m : ℕ). command_at s.commands (suc m)) (none_more k))
+      (λ c at. ap stops (sym (same_Some w.def c (sym w.def_is ∙ at))) ∙ keep) w.opens;
 }
 
 abbrev pub nexus_at : ℕ → ℕ → ℕ → Nexus
@@ -93,7 +109,9 @@ nexus_at i t n = record { initiator = i; target = t; unit = n }
 
 pub cleared_holds : (i : ℕ) (lost : List Process) (a : Array) → (Steps.cleared_attentions i lost a).holds ≡ a.holds
 cleared_holds i [] a = refl
-cleared_holds i (p ∷ lost) a = cleared_holds i lost (if p.initiator == i then a else Steps.cleared_attention a (nexus_of p)) ∙ go (p.initiator == i)
+cleared_holds i (p ∷ lost) a =
+    cleared_holds i lost (if p.initiator == i then a else Steps.cleared_attention a (nexus_of p))
+    ∙ go (p.initiator == i)
   where
     one : (q : Bool) (x : Array) → x.holds ≡ a.holds → (if q then a else x).holds ≡ a.holds
     one true x e = refl
@@ -105,31 +123,42 @@ cleared_holds i (p ∷ lost) a = cleared_holds i lost (if p.initiator == i then 
 
 reset_holds : (hosts : List HostDef) (t n : ℕ) (a : Array) → (Steps.reset_attentions hosts t n a).holds ≡ a.holds
 reset_holds [] t n a = refl
-reset_holds (h ∷ hosts) t n a = reset_holds hosts t n (Steps.reset_attention a (record { initiator = h.dev; target = t; unit = n }))
+reset_holds (h ∷ hosts) t n a =
+    reset_holds hosts t n (Steps.reset_attention a (record { initiator = h.dev; target = t; unit = n }))
 
-pub all_reset_holds : (hosts : List HostDef) (units : List UnitState) (is_one : UnitState → Bool) (a : Array) → (Steps.unit_reset_attentions hosts units is_one a).holds ≡ a.holds
+pub all_reset_holds : (hosts : List HostDef) (units : List UnitState) (is_one : UnitState → Bool) (a : Array)
+    → (Steps.unit_reset_attentions hosts units is_one a).holds ≡ a.holds
 all_reset_holds hosts [] is_one a = refl
-all_reset_holds hosts (u ∷ units) is_one a = all_reset_holds hosts units is_one (if is_one u then Steps.reset_attentions hosts u.target u.unit a else a) ∙ go (is_one u)
+all_reset_holds hosts (u ∷ units) is_one a =
+    all_reset_holds hosts units is_one (if is_one u then Steps.reset_attentions hosts u.target u.unit a else a)
+    ∙ go (is_one u)
   where
     go : (q : Bool) → (if q then Steps.reset_attentions hosts u.target u.unit a else a).holds ≡ a.holds
     go true = reset_holds hosts u.target u.unit a
     go false = refl
 
-pub aborts_owe : (s : ScenarioValue) (b : Story) (a : Array) (i t n : ℕ) (what : AbortKind) → AreOwed s b.sent a.holds → AreOwed s (story_with_ends (is_aborted i t n what) (is_sense_stopped i t n what) by_abort 1 s.commands b).sent (Steps.abort_step s a i t n what).holds
-aborts_owe s b a i t n AbortKind.All h =
-    owed_without s b.sent _ a.holds (nexus_at i t n)
-    (λ q ne w. still_owed s (is_aborted i t n AbortKind.All) (is_sense_stopped i t n AbortKind.All) by_abort b q w ((λ j. (w.host_is j == i) && ((w.target_is j == t) && (w.unit_is j == n))) ∙ ne)) h
-aborts_owe s b a i t n (AbortKind.Tag tag) h = owed_all s b.sent _ a.holds (λ q w. still_owed s (is_aborted i t n (AbortKind.Tag tag)) (is_sense_stopped i t n (AbortKind.Tag tag)) by_abort b q w refl) h
-aborts_owe s b a i t n AbortKind.WholeQueue h =
-    subst (λ (x : List Nexus). AreOwed s (story_with_ends (is_aborted i t n AbortKind.WholeQueue) (is_sense_stopped i t n AbortKind.WholeQueue) by_abort 1 s.commands b).sent x)
-    (sym (cleared_holds i (Steps.unit_processes (unit_state_at a.units t n)) (Steps.without_dropped a (λ p. Steps.is_of_unit p t n))))
-    (owed_all s b.sent _ a.holds (λ q w. still_owed s (is_aborted i t n AbortKind.WholeQueue) (is_sense_stopped i t n AbortKind.WholeQueue) by_abort b q w refl) h)
-aborts_owe s b a i t n AbortKind.Device h =
-    subst (λ (x : List Nexus). AreOwed s (story_with_ends (is_aborted i t n AbortKind.Device) (is_sense_stopped i t n AbortKind.Device) by_abort 1 s.commands b).sent x)
-    (sym (all_reset_holds s.hosts a.units (λ u. u.target == t) (record (Steps.without_dropped a (λ p. p.target == t)) { senses = Steps.kept_senses (λ r. r.target == t) a.senses; holds = Steps.kept_nexuses (λ r. r.target == t) a.holds })))
-    (owed_kept s b.sent _ (λ q. q.target == t) a.holds
-    (λ q ne w. still_owed s (is_aborted i t n AbortKind.Device) (is_sense_stopped i t n AbortKind.Device) by_abort b q w (ap (λ (x : ℕ). x == t) w.target_is ∙ ne)) h)
+pub aborts_owe : (s : ScenarioValue) (b : Story) (a : Array) (i t n : ℕ) (what : AbortKind) → AreOwed s b.sent a.holds
+    → AreOwed s (story_with_ends (is_aborted i t n what) (is_sense_stopped i t n what) by_abort 1 s.commands b).sent
+    (Steps.abort_step s a i t n what).holds
+aborts_owe s b a i t n AbortKind.All h = owed_without s b.sent _ a.holds (nexus_at i t n)
+    (λ q ne w. still_owed s (is_aborted i t n AbortKind.All) (is_sense_stopped i t n AbortKind.All) by_abort b q w
+    ((λ j. (w.host_is j == i) && ((w.target_is j == t) && (w.unit_is j == n))) ∙ ne)) h
+aborts_owe s b a i t n (AbortKind.Tag tag) h = owed_all s b.sent _ a.holds (λ q w. still_owed s
+    (is_aborted i t n (AbortKind.Tag tag)) (is_sense_stopped i t n (AbortKind.Tag tag)) by_abort b q w refl) h
+aborts_owe s b a i t n AbortKind.WholeQueue h = subst
+    (λ (x : List Nexus). AreOwed s (story_with_ends (is_aborted i t n AbortKind.WholeQueue)
+    (is_sense_stopped i t n AbortKind.WholeQueue) by_abort 1 s.commands b).sent x) (sym (cleared_holds i
+    (Steps.unit_processes (unit_state_at a.units t n)) (Steps.without_dropped a (λ p. Steps.is_of_unit p t n))))
+    (owed_all s b.sent _ a.holds (λ q w. still_owed s (is_aborted i t n AbortKind.WholeQueue)
+    (is_sense_stopped i t n AbortKind.WholeQueue) by_abort b q w refl) h)
+aborts_owe s b a i t n AbortKind.Device h = subst (λ (x : List Nexus). AreOwed s (story_with_ends
+    (is_aborted i t n AbortKind.Device) (is_sense_stopped i t n AbortKind.Device) by_abort 1 s.commands b).sent x)
+    (sym (all_reset_holds s.hosts a.units (λ u. u.target == t) (record (Steps.without_dropped a (λ p. p.target == t)) {
+      senses = Steps.kept_senses (λ r. r.target == t) a.senses;
+      holds = Steps.kept_nexuses (λ r. r.target == t) a.holds;
+    }))) (owed_kept s b.sent _ (λ q. q.target == t) a.holds (λ q ne w. still_owed s (is_aborted i t n AbortKind.Device)
+    (is_sense_stopped i t n AbortKind.Device) by_abort b q w (ap (λ (x : ℕ). x == t) w.target_is ∙ ne)) h)
 
 pub reset_owes : (s : ScenarioValue) (b : Story) (a : Array) → AreOwed s b.sent (Steps.reset_step s a).holds
-reset_owes s b a =
-    subst (λ (x : List Nexus). AreOwed s b.sent x) (sym (all_reset_holds s.hosts a.units (λ u. true) (record (Steps.without_dropped a (λ p. true)) { senses = []; holds = [] }))) tt
+reset_owes s b a = subst (λ (x : List Nexus). AreOwed s b.sent x) (sym (all_reset_holds s.hosts a.units (λ u. true)
+    (record (Steps.without_dropped a (λ p. true)) { senses = []; holds = [] }))) tt

@@ -16,7 +16,8 @@ abbrev pub AllOver : Story → List ProcId → Type 0
 AllOver b [] = ⊤
 AllOver b (id ∷ ids) = (has_item b.sent.over (process id) ≡ true) × AllOver b ids
 
-over_all : (b c : Story) (ids : List ProcId) → ((i : Item) → has_item b.sent.over i ≡ true → has_item c.sent.over i ≡ true) → AllOver b ids → AllOver c ids
+over_all : (b c : Story) (ids : List ProcId)
+    → ((i : Item) → has_item b.sent.over i ≡ true → has_item c.sent.over i ≡ true) → AllOver b ids → AllOver c ids
 over_all b c [] f h = tt
 over_all b c (id ∷ ids) f h = (f (process id) h.0, over_all b c ids f h.1)
 
@@ -52,23 +53,29 @@ refused b a (Some p) h = at (unit_state_at a.units p.target p.unit)
     at None = tt
     at (Some u) = if_some b (not (is_request_sense (command_of p.cdb)) && Steps.process_count u == u.depth) _ h
 
-executed : (a : Array) (p : Process) (u : Option UnitState) (done : Execution) → (Steps.after_execution a p u done).ended ≡ a.ended
+executed : (a : Array) (p : Process) (u : Option UnitState) (done : Execution)
+    → (Steps.after_execution a p u done).ended ≡ a.ended
 executed a p u done = go done.reported u
   where
-    go : (q : Bool) (o : Option UnitState) → (Steps.with_contents (Steps.without_attention a q (nexus_of p)) o done.contents).ended ≡ a.ended
+    go : (q : Bool) (o : Option UnitState)
+        → (Steps.with_contents (Steps.without_attention a q (nexus_of p)) o done.contents).ended ≡ a.ended
     go true None = refl
     go true (Some v) = refl
     go false None = refl
     go false (Some v) = refl
 
-run : (b : Story) (a : Array) (guest : Bool) (o : Option RunningProcess) → AllOver b a.ended → IfOver b (Steps.run_step a guest o)
+run : (b : Story) (a : Array) (guest : Bool) (o : Option RunningProcess) → AllOver b a.ended
+    → IfOver b (Steps.run_step a guest o)
 run b a guest None h = tt
 run b a guest (Some r) h =
     let u = unit_state_at a.units r.process.target r.process.unit in
     if_some b (is_none r.reply && (guest || not (is_held a.holds r.process.target r.process.unit))) _
-    (subst (λ (x : List ProcId). AllOver b x) (sym (executed a r.process u (execution (Steps.context_at a (nexus_of r.process) u) r.process.cdb r.process.sent))) h)
+    (subst (λ (x : List ProcId). AllOver b x)
+    (sym (executed a r.process u (execution (Steps.context_at a (nexus_of r.process) u) r.process.cdb r.process.sent)))
+    h)
 
-failed : (s : ScenarioValue) (b : Story) (a : Array) (i : ProcId) (reply : Reply) (o : Option RunningProcess) → AllOver b a.ended → IfOver b (Steps.fail_step s a i reply o)
+failed : (s : ScenarioValue) (b : Story) (a : Array) (i : ProcId) (reply : Reply) (o : Option RunningProcess)
+    → AllOver b a.ended → IfOver b (Steps.fail_step s a i reply o)
 failed s b a i reply (Some r) h = if_some b (is_none r.reply) _ h
 failed s b a i reply None h = new (process_of s i)
   where
@@ -76,21 +83,29 @@ failed s b a i reply None h = new (process_of s i)
     new None = tt
     new (Some p) = if_none b (Steps.is_waiting a.units i || Steps.has_ended a i) _ h
 
-pub ended : (b : Story) (a : Array) (i : ProcId) (status : ℕ) → has_item b.sent.over (process i) ≡ true → AllOver b a.ended → IfOver b (Steps.end_step a status (Steps.running_process a i))
+pub ended : (b : Story) (a : Array) (i : ProcId) (status : ℕ) → has_item b.sent.over (process i) ≡ true
+    → AllOver b a.ended → IfOver b (Steps.end_step a status (Steps.running_process a i))
 ended b a i status over h = go (Steps.running_process a i) refl
   where
-    same : (r : RunningProcess) (reply : Reply) (q t : Bool) → (if q then record a { senses = (nexus_of r.process, reply.sense) ∷ senses_without a.senses (nexus_of r.process); holds = nexus_of r.process ∷ nexuses_without a.holds (nexus_of r.process) }
-        else if t then record a { senses = senses_without a.senses (nexus_of r.process); holds = nexuses_without a.holds (nexus_of r.process) }
-        else a).ended ≡ a.ended
+    same : (r : RunningProcess) (reply : Reply) (q t : Bool) → (if q then record a {
+      senses = (nexus_of r.process, reply.sense) ∷ senses_without a.senses (nexus_of r.process);
+      holds = nexus_of r.process ∷ nexuses_without a.holds (nexus_of r.process);
+    } else if t then record a {
+      senses = senses_without a.senses (nexus_of r.process);
+      holds = nexuses_without a.holds (nexus_of r.process);
+    } else a).ended ≡ a.ended
     same r reply true t = refl
     same r reply false true = refl
     same r reply false false = refl
 
-    by : (r : RunningProcess) → r.process.id ≡ i → (o : Option Reply) → IfOver b (Steps.end_step_with a r.process status o)
+    by : (r : RunningProcess) → r.process.id ≡ i
+        → (o : Option Reply) → IfOver b (Steps.end_step_with a r.process status o)
     by r f None = tt
-    by r f (Some reply) =
-        if_some b (reply.status == status) _
-        (ap (λ (x : ProcId). has_item b.sent.over (process x)) f ∙ over, subst (λ (x : List ProcId). AllOver b x) (sym (same r reply (reply.status == CHECK_CONDITION) (reply.status == GOOD && is_request_sense (command_of r.process.cdb)))) h)
+    by r f (Some reply) = if_some b (reply.status == status) _ (
+      ap (λ (x : ProcId). has_item b.sent.over (process x)) f ∙ over,
+      subst (λ (x : List ProcId). AllOver b x) (sym (same r reply (reply.status == CHECK_CONDITION)
+          (reply.status == GOOD && is_request_sense (command_of r.process.cdb)))) h,
+    )
 
     go : (o : Option RunningProcess) → Steps.running_process a i ≡ o → IfOver b (Steps.end_step a status o)
     go None z = tt
@@ -100,11 +115,15 @@ ended b a i status over h = go (Steps.running_process a i) refl
 
 reset_same : (hosts : List HostDef) (t n : ℕ) (a : Array) → (Steps.reset_attentions hosts t n a).ended ≡ a.ended
 reset_same [] t n a = refl
-reset_same (h ∷ hosts) t n a = reset_same hosts t n (Steps.reset_attention a (record { initiator = h.dev; target = t; unit = n }))
+reset_same (h ∷ hosts) t n a =
+    reset_same hosts t n (Steps.reset_attention a (record { initiator = h.dev; target = t; unit = n }))
 
-all_reset_same : (hosts : List HostDef) (units : List UnitState) (is_one : UnitState → Bool) (a : Array) → (Steps.unit_reset_attentions hosts units is_one a).ended ≡ a.ended
+all_reset_same : (hosts : List HostDef) (units : List UnitState) (is_one : UnitState → Bool) (a : Array)
+    → (Steps.unit_reset_attentions hosts units is_one a).ended ≡ a.ended
 all_reset_same hosts [] is_one a = refl
-all_reset_same hosts (u ∷ units) is_one a = all_reset_same hosts units is_one (if is_one u then Steps.reset_attentions hosts u.target u.unit a else a) ∙ go (is_one u)
+all_reset_same hosts (u ∷ units) is_one a =
+    all_reset_same hosts units is_one (if is_one u then Steps.reset_attentions hosts u.target u.unit a else a)
+    ∙ go (is_one u)
   where
     go : (q : Bool) → (if q then Steps.reset_attentions hosts u.target u.unit a else a).ended ≡ a.ended
     go true = reset_same hosts u.target u.unit a
@@ -112,7 +131,8 @@ all_reset_same hosts (u ∷ units) is_one a = all_reset_same hosts units is_one 
 
 cleared_same : (i : ℕ) (lost : List Process) (a : Array) → (Steps.cleared_attentions i lost a).ended ≡ a.ended
 cleared_same i [] a = refl
-cleared_same i (p ∷ lost) a = cleared_same i lost (if p.initiator == i then a else Steps.cleared_attention a (nexus_of p)) ∙ go (p.initiator == i)
+cleared_same i (p ∷ lost) a =
+    cleared_same i lost (if p.initiator == i then a else Steps.cleared_attention a (nexus_of p)) ∙ go (p.initiator == i)
   where
     one : (q : Bool) (x : Array) → x.ended ≡ a.ended → (if q then a else x).ended ≡ a.ended
     one true x e = refl
@@ -122,37 +142,54 @@ cleared_same i (p ∷ lost) a = cleared_same i lost (if p.initiator == i then a 
     go true = refl
     go false = one _ _ refl
 
-aborted_same : (s : ScenarioValue) (a : Array) (i t n : ℕ) (what : AbortKind) → (Steps.abort_step s a i t n what).ended ≡ a.ended
+aborted_same : (s : ScenarioValue) (a : Array) (i t n : ℕ) (what : AbortKind)
+    → (Steps.abort_step s a i t n what).ended ≡ a.ended
 aborted_same s a i t n AbortKind.All = refl
 aborted_same s a i t n (AbortKind.Tag tag) = refl
-aborted_same s a i t n AbortKind.WholeQueue = cleared_same i (Steps.unit_processes (unit_state_at a.units t n)) (Steps.without_dropped a (λ p. Steps.is_of_unit p t n))
+aborted_same s a i t n AbortKind.WholeQueue = cleared_same i (Steps.unit_processes (unit_state_at a.units t n))
+    (Steps.without_dropped a (λ p. Steps.is_of_unit p t n))
 aborted_same s a i t n AbortKind.Device =
-    all_reset_same s.hosts a.units (λ u. u.target == t) (record (Steps.without_dropped a (λ p. p.target == t)) { senses = Steps.kept_senses (λ r. r.target == t) a.senses; holds = Steps.kept_nexuses (λ r. r.target == t) a.holds })
+    all_reset_same s.hosts a.units (λ u. u.target == t) (record (Steps.without_dropped a (λ p. p.target == t)) {
+      senses = Steps.kept_senses (λ r. r.target == t) a.senses;
+      holds = Steps.kept_nexuses (λ r. r.target == t) a.holds;
+    })
 
-event_over : (s : ScenarioValue) (b : Story) (a : Array) (event : Event) → AllOver b a.ended → IfOver (story_after_event s b event) (Steps.event_step s a event)
-event_over s b a event h = by event (over_all b (story_after_event s b event) a.ended (events_grow s b (event ∷ [])).over h)
+event_over : (s : ScenarioValue) (b : Story) (a : Array) (event : Event) → AllOver b a.ended
+    → IfOver (story_after_event s b event) (Steps.event_step s a event)
+event_over s b a event h =
+    by event (over_all b (story_after_event s b event) a.ended (events_grow s b (event ∷ [])).over h)
   where
-    by : (e : Event) → AllOver (story_after_event s b e) a.ended → IfOver (story_after_event s b e) (Steps.event_step s a e)
+    by : (e : Event) → AllOver (story_after_event s b e) a.ended
+        → IfOver (story_after_event s b e) (Steps.event_step s a e)
     by (Event.Accept id) k = accepted (story_after_event s b (Event.Accept id)) a (process_of s id) k
     by (Event.Refuse id) k = refused (story_after_event s b (Event.Refuse id)) a (process_of s id) k
-    by (Event.Run id) k = run (story_after_event s b (Event.Run id)) a (is_some (guest_at a.guests id)) (Steps.running_process a id) k
-    by (Event.Fail id code) k = failed s (story_after_event s b (Event.Fail id code)) a id (check_condition (sense_of ABORTED_COMMAND code 0x00)) (Steps.running_process a id) k
-    by (Event.End id status) k = ended (story_after_event s b (Event.End id status)) a id status (ends_over s b id status) k
-    by (Event.Lost id) k = if_none (story_after_event s b (Event.Lost id)) (Steps.has_ended a id) _ (lost_over s b id, k)
-    by (Event.Aborted i t n what) k = subst (λ (x : List ProcId). AllOver (story_after_event s b (Event.Aborted i t n what)) x) (sym (aborted_same s a i t n what)) k
+    by (Event.Run id) k =
+        run (story_after_event s b (Event.Run id)) a (is_some (guest_at a.guests id)) (Steps.running_process a id) k
+    by (Event.Fail id code) k = failed s (story_after_event s b (Event.Fail id code)) a id
+        (check_condition (sense_of ABORTED_COMMAND code 0x00)) (Steps.running_process a id) k
+    by (Event.End id status) k =
+        ended (story_after_event s b (Event.End id status)) a id status (ends_over s b id status) k
+    by (Event.Lost id) k =
+        if_none (story_after_event s b (Event.Lost id)) (Steps.has_ended a id) _ (lost_over s b id, k)
+    by (Event.Aborted i t n what) k = subst (λ (x : List ProcId). AllOver
+        (story_after_event s b (Event.Aborted i t n what)) x) (sym (aborted_same s a i t n what)) k
     by (Event.Reset dev) k =
-        subst (λ (x : List ProcId). AllOver (story_after_event s b (Event.Reset dev)) x) (sym (all_reset_same s.hosts a.units (λ u. true) (record (Steps.without_dropped a (λ p. true)) { senses = []; holds = [] }))) k
+        subst (λ (x : List ProcId). AllOver (story_after_event s b (Event.Reset dev)) x) (sym (all_reset_same s.hosts
+        a.units (λ u. true) (record (Steps.without_dropped a (λ p. true)) { senses = []; holds = [] }))) k
 
-step_over : (s : ScenarioValue) (b : Story) (a : Array) (event : Event) → AllOver b a.ended → IfOver (story_after_event s b event) (Steps.step s event a)
+step_over : (s : ScenarioValue) (b : Story) (a : Array) (event : Event) → AllOver b a.ended
+    → IfOver (story_after_event s b event) (Steps.step s event a)
 step_over s b a event h = go (Steps.event_step s a event) (event_over s b a event h)
   where
-    go : (o : Option Array) → IfOver (story_after_event s b event) o → IfOver (story_after_event s b event) (Steps.settled_array_if o)
+    go : (o : Option Array) → IfOver (story_after_event s b event) o
+        → IfOver (story_after_event s b event) (Steps.settled_array_if o)
     go None k = tt
     go (Some x) k = k
 
 -- ---- over the events of a row, and over rows
 
-events_over : (s : ScenarioValue) (b : Story) (o : Option Array) (shown : List Event) → IfOver b o → IfOver (story_after_events s b shown) (array_after_events s o shown)
+events_over : (s : ScenarioValue) (b : Story) (o : Option Array) (shown : List Event) → IfOver b o
+    → IfOver (story_after_events s b shown) (array_after_events s o shown)
 events_over s b o [] h = h
 events_over s b o (event ∷ shown) h = go (array_after_events s o shown) (events_over s b o shown h)
   where
@@ -163,7 +200,8 @@ events_over s b o (event ∷ shown) h = go (array_after_events s o shown) (event
     go None k = tt
     go (Some a) k = step_over s was a event k
 
-more_over : (b c : Story) (o : Option Array) → ((i : Item) → has_item b.sent.over i ≡ true → has_item c.sent.over i ≡ true) → IfOver b o → IfOver c o
+more_over : (b c : Story) (o : Option Array)
+    → ((i : Item) → has_item b.sent.over i ≡ true → has_item c.sent.over i ≡ true) → IfOver b o → IfOver c o
 more_over b c None f h = tt
 more_over b c (Some a) f h = over_all b c a.ended f h
 
@@ -173,14 +211,17 @@ ended_over s (row ∷ p) =
     let k : RunState = run_state s p in
     let d : RowReading = row_reading k.story.bus_state row in
     let b : Story = story_by_change s k.story d row in
-    events_over s b k.array (row_events_by s k.story d row) (more_over k.story b k.array (λ i. change_over s k.story d row i) (ended_over s p))
+    events_over s b k.array (row_events_by s k.story d row)
+    (more_over k.story b k.array (λ i. change_over s k.story d row i) (ended_over s p))
 
-over_at : (b : Story) (ids : List ProcId) (id : ProcId) → AllOver b ids → list_any (λ (p : ProcId). same_id p id) ids ≡ true → has_item b.sent.over (process id) ≡ true
+over_at : (b : Story) (ids : List ProcId) (id : ProcId) → AllOver b ids
+    → list_any (λ (p : ProcId). same_id p id) ids ≡ true → has_item b.sent.over (process id) ≡ true
 over_at b [] id h e = wrong (sym e)
 over_at b (x ∷ ids) id h e = go (same_id x id) refl e (λ z. over_at b ids id h.1 z)
   where
     go : (q : Bool) → same_id x id ≡ q → (q || list_any (λ (p : ProcId). same_id p id) ids) ≡ true
-        → (list_any (λ (p : ProcId). same_id p id) ids ≡ true → has_item b.sent.over (process id) ≡ true) → has_item b.sent.over (process id) ≡ true
+        → (list_any (λ (p : ProcId). same_id p id) ids ≡ true → has_item b.sent.over (process id) ≡ true)
+        → has_item b.sent.over (process id) ≡ true
     go true z f more = ap (λ (y : ProcId). has_item b.sent.over (process y)) (sym (id_is x id z)) ∙ h.0
     go false z f more = more f
 
@@ -188,5 +229,7 @@ over_at b (x ∷ ids) id h e = go (same_id x id) refl e (λ z. over_at b ids id 
 abbrev pub EndedOver : RunState → Array → Type 0
 EndedOver k a = (id : ProcId) → has_ended a id ≡ true → has_item k.story.sent.over (process id) ≡ true
 
-pub all_over : (s : ScenarioValue) (p : List Row) (a : Array) → (run_state s p).array ≡ Some a → EndedOver (run_state s p) a
-all_over s p a e id h = over_at (run_state s p).story a.ended id (subst (λ (o : Option Array). IfOver (run_state s p).story o) e (ended_over s p)) h
+pub all_over : (s : ScenarioValue) (p : List Row) (a : Array) → (run_state s p).array ≡ Some a
+    → EndedOver (run_state s p) a
+all_over s p a e id h = over_at (run_state s p).story a.ended id
+    (subst (λ (o : Option Array). IfOver (run_state s p).story o) e (ended_over s p)) h

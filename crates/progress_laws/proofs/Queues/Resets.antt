@@ -1,4 +1,5 @@
--- While RST is true no command is open: with the row that raises it every command that was sent is over, and none is sent (6.2.2).
+-- While RST is true no command is open: with the row that raises it every command that was sent is over, and none is
+-- sent (6.2.2).
 use Rattle.progress_laws.proofs
 use proofs.Names.{ℕ, ◌≡◌, ◌<◌, Bool, true, false, not, ◌∙◌, List, [], ◌∷◌, Some, None, refl, sym, ap, inl, inr}
 use proofs.Names.{cases_Bool, if◌then◌else◌, wrong, and_first, Event, change_of, rises, bus, Row, Change, ScenarioValue}
@@ -11,11 +12,13 @@ abbrev pub NoneOpen : ScenarioValue → RunState → Type 0
 NoneOpen s k = (n : ℕ) (c : CmdDef) → command_at s.commands n ≡ Some c → is_open k.story.sent n ≡ false
 
 -- Under RST nothing is sent.
-open_before : (s : ScenarioValue) (k : RunState) (row : Row) (n : ℕ) → (row_reading k.story.bus_state row).change.after.rst ≡ true
+open_before : (s : ScenarioValue) (k : RunState) (row : Row) (n : ℕ)
+    → (row_reading k.story.bus_state row).change.after.rst ≡ true
     → is_open (run_state_after s k row).story.sent n ≡ true → is_open k.story.sent n ≡ true
 open_before s k row n on e =
     let g = events_grow s b shown in
-    ap (λ (q : Bool). is_open (if q then record k.story { link = None } else story_on_bus s k.story k.story.bus_state.connection d.next d row).sent n) (sym on)
+    ap (λ (q : Bool). is_open (if q then record k.story { link = None }
+    else story_on_bus s k.story k.story.bus_state.connection d.next d row).sent n) (sym on)
     ∙ fewer_open b.sent (story_after_events s b shown).sent n g.sent g.over e
   where
     d : RowReading
@@ -27,7 +30,8 @@ open_before s k row n on e =
     shown : List Event
     shown = row_events_by s k.story d row
 
-reset_row : (s : ScenarioValue) (p : List Row) (row : Row) → AreOfDevices p → row.dev < 8 → ((bus p).rst ≡ true → NoneOpen s (run_state s p)) → (bus (row ∷ p)).rst ≡ true
+reset_row : (s : ScenarioValue) (p : List Row) (row : Row) → AreOfDevices p → row.dev < 8
+    → ((bus p).rst ≡ true → NoneOpen s (run_state s p)) → (bus (row ∷ p)).rst ≡ true
     → NoneOpen s (run_state s (row ∷ p))
 reset_row s p row dv lt none on n c at =
     elim (cases_Bool (is_open (run_state_after s k row).story.sent n)) [
@@ -44,15 +48,15 @@ reset_row s p row dv lt none on n c at =
     raised : (row_reading k.story.bus_state row).change.after.rst ≡ true
     raised = ap (λ (x : Change). x.after.rst) change ∙ on
 
-    by : is_open (run_state_after s k row).story.sent n ≡ true → is_open k.story.sent n ≡ true → (q : Bool) → (bus p).rst ≡ q
-        → is_open (run_state_after s k row).story.sent n ≡ false
+    by : is_open (run_state_after s k row).story.sent n ≡ true → is_open k.story.sent n ≡ true
+        → (q : Bool) → (bus p).rst ≡ q → is_open (run_state_after s k row).story.sent n ≡ false
     by e was true z = wrong (sym was ∙ none z n c at)
-    by e was false z =
-        open_over (run_state_after s k row).story.sent n e
+    by e was false z = open_over (run_state_after s k row).story.sent n e
         (command_over s k row (command_id n) (process_by s (command_id n) c) (ap (process_if s (command_id n)) at) refl
-        (and_first (has_item k.story.sent.sent (command_item n)) (not (has_item k.story.sent.over (command_item n))) was) raised
-        (ap (λ (x : Change). rises x.own.rst x.next.rst) change ∙ rst_raised p row lt z on))
+        (and_first (has_item k.story.sent.sent (command_item n)) (not (has_item k.story.sent.over (command_item n)))
+        was) raised (ap (λ (x : Change). rises x.own.rst x.next.rst) change ∙ rst_raised p row lt z on))
 
-pub none_under_rst : (s : ScenarioValue) (p : List Row) → AreOfDevices p → (bus p).rst ≡ true → NoneOpen s (run_state s p)
+pub none_under_rst : (s : ScenarioValue) (p : List Row) → AreOfDevices p → (bus p).rst ≡ true
+    → NoneOpen s (run_state s p)
 none_under_rst s [] dv on = λ n c at. refl
 none_under_rst s (row ∷ p) dv on = reset_row s p row dv.1 dv.0 (λ z. none_under_rst s p dv.1 z) on

@@ -1,4 +1,5 @@
--- Row by row: each command that was sent, is not over and has no connection stands in a queue, where one does as its connection ends.
+-- Row by row: each command that was sent, is not over and has no connection stands in a queue, where one does as its
+-- connection ends.
 use Rattle.progress_laws.proofs
 use proofs.Names.{inl, inr, ℕ, zero, suc, ◌≡◌, ◌+◌, Bool, true, false, not, ◌&&◌, ◌∙◌, List, [], ◌∷◌, Option, Some}
 use proofs.Names.{None, refl, sym, ap, subst, arith, cases_Bool, same_Some, if◌then◌else◌, is_none, wrong, and_first}
@@ -17,94 +18,125 @@ use proofs.Queues.Steps.{IfQueued, IsNotEnded, ends_close, step_stays}
 -- ---- what is open after an event was not ended by it
 
 pub open_over : {A : Type 0} (b : Sent) (n : ℕ) → is_open b n ≡ true → has_item b.over (command_item n) ≡ true → A
-open_over b n e o = wrong (sym (and_second (has_item b.sent (command_item n)) (not (has_item b.over (command_item n))) e) ∙ ap not o)
+open_over b n e o =
+    wrong (sym (and_second (has_item b.sent (command_item n)) (not (has_item b.over (command_item n))) e) ∙ ap not o)
 
-was_sent : (s : ScenarioValue) (b : Story) (event : Event) (n : ℕ) → is_open (story_after_event s b event).sent n ≡ true → has_item b.sent.sent (command_item n) ≡ true
-was_sent s b event n e =
-    ap (λ (x : List Item). has_item x (command_item n)) (sym (event_sent s b event)) ∙ and_first (has_item (story_after_event s b event).sent.sent (command_item n)) (not (has_item (story_after_event s b event).sent.over (command_item n))) e
+was_sent : (s : ScenarioValue) (b : Story) (event : Event) (n : ℕ) → is_open (story_after_event s b event).sent n ≡ true
+    → has_item b.sent.sent (command_item n) ≡ true
+was_sent s b event n e = ap (λ (x : List Item). has_item x (command_item n)) (sym (event_sent s b event))
+    ∙ and_first (has_item (story_after_event s b event).sent.sent (command_item n))
+    (not (has_item (story_after_event s b event).sent.over (command_item n))) e
 
 one_less : (n : ℕ) → suc (0 + n) ≡ suc n
 one_less n = omega arith
 
-aborted_over : (s : ScenarioValue) (b : Story) (i t m : ℕ) (what : AbortKind) (n : ℕ) (c : CmdDef) → command_at s.commands n ≡ Some c → is_aborted i t m what c ≡ true → has_item b.sent.sent (command_item n) ≡ true → has_item (story_after_event s b (Event.Aborted i t m what)).sent.over (command_item n) ≡ true
+aborted_over : (s : ScenarioValue) (b : Story) (i t m : ℕ) (what : AbortKind) (n : ℕ) (c : CmdDef)
+    → command_at s.commands n ≡ Some c → is_aborted i t m what c ≡ true → has_item b.sent.sent (command_item n) ≡ true
+    → has_item (story_after_event s b (Event.Aborted i t m what)).sent.over (command_item n) ≡ true
 aborted_over s b i t m what zero c at d sent = none_some c (sym (none_at s.commands) ∙ at)
 aborted_over s b i t m what (suc n) c at d sent =
-    ap (λ (j : ℕ). has_item (story_after_event s b (Event.Aborted i t m what)).sent.over (command_item j)) (sym (one_less n))
-    ∙ ends_close (is_aborted i t m what) (is_sense_stopped i t m what) by_abort 0 n s.commands b c at d (ap (λ (j : ℕ). has_item b.sent.sent (command_item j)) (one_less n) ∙ sent)
+    ap (λ (j : ℕ). has_item (story_after_event s b (Event.Aborted i t m what)).sent.over (command_item j))
+    (sym (one_less n))
+    ∙ ends_close (is_aborted i t m what) (is_sense_stopped i t m what) by_abort 0 n s.commands b c at d
+    (ap (λ (j : ℕ). has_item b.sent.sent (command_item j)) (one_less n) ∙ sent)
 
-reset_over : (s : ScenarioValue) (b : Story) (dev n : ℕ) (c : CmdDef) → command_at s.commands n ≡ Some c → has_item b.sent.sent (command_item n) ≡ true → has_item (story_after_event s b (Event.Reset dev)).sent.over (command_item n) ≡ true
+reset_over : (s : ScenarioValue) (b : Story) (dev n : ℕ) (c : CmdDef)
+    → command_at s.commands n ≡ Some c → has_item b.sent.sent (command_item n) ≡ true
+    → has_item (story_after_event s b (Event.Reset dev)).sent.over (command_item n) ≡ true
 reset_over s b dev zero c at sent = none_some c (sym (none_at s.commands) ∙ at)
 reset_over s b dev (suc n) c at sent =
     ap (λ (j : ℕ). has_item (story_after_event s b (Event.Reset dev)).sent.over (command_item j)) (sym (one_less n))
-    ∙ ends_close (λ x. true) (λ x. true) by_reset 0 n s.commands b c at refl (ap (λ (j : ℕ). has_item b.sent.sent (command_item j)) (one_less n) ∙ sent)
+    ∙ ends_close (λ x. true) (λ x. true) by_reset 0 n s.commands b c at refl
+    (ap (λ (j : ℕ). has_item b.sent.sent (command_item j)) (one_less n) ∙ sent)
 
-aborts_same : (s : ScenarioValue) (i t m : ℕ) (what : AbortKind) (n : ℕ) (c : CmdDef) → is_dropped i t m what (process_by s (command_id n) c) ≡ is_aborted i t m what c
+aborts_same : (s : ScenarioValue) (i t m : ℕ) (what : AbortKind) (n : ℕ) (c : CmdDef)
+    → is_dropped i t m what (process_by s (command_id n) c) ≡ is_aborted i t m what c
 aborts_same s i t m AbortKind.All n c = refl
 aborts_same s i t m _ n c = refl
 
-pub not_ended : (s : ScenarioValue) (b : Story) (event : Event) (n : ℕ) (c : CmdDef) → command_at s.commands n ≡ Some c → is_open (story_after_event s b event).sent n ≡ true → IsNotEnded s event (command_id n)
+pub not_ended : (s : ScenarioValue) (b : Story) (event : Event) (n : ℕ) (c : CmdDef) → command_at s.commands n ≡ Some c
+    → is_open (story_after_event s b event).sent n ≡ true → IsNotEnded s event (command_id n)
 not_ended s b (Event.End id status) n c at e = go (same_id id (command_id n)) refl
   where
     go : (q : Bool) → same_id id (command_id n) ≡ q → same_id id (command_id n) ≡ false
     go false z = z
-    go true z = open_over (story_after_event s b (Event.End id status)).sent n e (ap (λ (w : ProcId). has_item (story_after_event s b (Event.End id status)).sent.over (process w)) (sym (id_is id (command_id n) z)) ∙ ends_over s b id status)
+    go true z = open_over (story_after_event s b (Event.End id status)).sent n e
+        (ap (λ (w : ProcId). has_item (story_after_event s b (Event.End id status)).sent.over (process w))
+        (sym (id_is id (command_id n) z)) ∙ ends_over s b id status)
 not_ended s b (Event.Lost id) n c at e = go (same_id id (command_id n)) refl
   where
     go : (q : Bool) → same_id id (command_id n) ≡ q → same_id id (command_id n) ≡ false
     go false z = z
-    go true z = open_over (story_after_event s b (Event.Lost id)).sent n e (ap (λ (w : ProcId). has_item (story_after_event s b (Event.Lost id)).sent.over (process w)) (sym (id_is id (command_id n) z)) ∙ lost_over s b id)
+    go true z = open_over (story_after_event s b (Event.Lost id)).sent n e
+        (ap (λ (w : ProcId). has_item (story_after_event s b (Event.Lost id)).sent.over (process w))
+        (sym (id_is id (command_id n) z)) ∙ lost_over s b id)
 not_ended s b (Event.Aborted i t m what) n c at e = λ p own same. go p own same (is_dropped i t m what p) refl
   where
-    go : (p : Process) → process_of s p.id ≡ Some p → same_id p.id (command_id n) ≡ true → (q : Bool) → is_dropped i t m what p ≡ q → is_dropped i t m what p ≡ false
+    go : (p : Process) → process_of s p.id ≡ Some p → same_id p.id (command_id n) ≡ true
+        → (q : Bool) → is_dropped i t m what p ≡ q → is_dropped i t m what p ≡ false
     go p own same false z = z
     go p own same true z =
-        let is : process_by s (command_id n) c ≡ p = same_Some (process_by s (command_id n) c) p (sym (ap (process_of s) (id_is p.id (command_id n) same) ∙ ap (process_if s (command_id n)) at) ∙ own) in
+        let is : process_by s (command_id n) c ≡ p = same_Some (process_by s (command_id n) c) p
+        (sym (ap (process_of s) (id_is p.id (command_id n) same) ∙ ap (process_if s (command_id n)) at) ∙ own) in
         open_over (story_after_event s b (Event.Aborted i t m what)).sent n e
-        (aborted_over s b i t m what n c at (sym (aborts_same s i t m what n c) ∙ ap (is_dropped i t m what) is ∙ z) (was_sent s b (Event.Aborted i t m what) n e))
-not_ended s b (Event.Reset dev) n c at e = open_over (story_after_event s b (Event.Reset dev)).sent n e (reset_over s b dev n c at (was_sent s b (Event.Reset dev) n e))
+        (aborted_over s b i t m what n c at (sym (aborts_same s i t m what n c) ∙ ap (is_dropped i t m what) is ∙ z)
+        (was_sent s b (Event.Aborted i t m what) n e))
+not_ended s b (Event.Reset dev) n c at e = open_over (story_after_event s b (Event.Reset dev)).sent n e
+    (reset_over s b dev n c at (was_sent s b (Event.Reset dev) n e))
 not_ended s b _ n c at e = tt
 
 -- ---- all events of a row
 
-pub fewer_open : (a b : Sent) (n : ℕ) → b.sent ≡ a.sent → ((i : Item) → has_item a.over i ≡ true → has_item b.over i ≡ true) → is_open b n ≡ true → is_open a n ≡ true
+pub fewer_open : (a b : Sent) (n : ℕ) → b.sent ≡ a.sent
+    → ((i : Item) → has_item a.over i ≡ true → has_item b.over i ≡ true) → is_open b n ≡ true → is_open a n ≡ true
 fewer_open a b n same more e =
     let sent = and_first (has_item b.sent (command_item n)) (not (has_item b.over (command_item n))) e in
     let over = and_second (has_item b.sent (command_item n)) (not (has_item b.over (command_item n))) e in
-    λ i. (ap (λ (x : List Item). has_item x (command_item n)) (sym same) ∙ sent) i && not_grown (has_item a.over (command_item n)) (has_item b.over (command_item n)) (more (command_item n)) over i
+    λ i. (ap (λ (x : List Item). has_item x (command_item n)) (sym same) ∙ sent) i
+    && not_grown (has_item a.over (command_item n)) (has_item b.over (command_item n)) (more (command_item n)) over i
 
 pub record Kept (s : ScenarioValue) (id : ProcId) (o : Option Array) : Type 0 where
   pub sound : (a : Array) → o ≡ Some a → IsSound s a
   pub queued : IfQueued id o
 
-pub events_stay : (s : ScenarioValue) (b : Story) (o : Option Array) (shown : List Event) (n : ℕ) (c : CmdDef) → HasSeats s → command_at s.commands n ≡ Some c → is_open (story_after_events s b shown).sent n ≡ true → Kept s (command_id n) o → Kept s (command_id n) (array_after_events s o shown)
+pub events_stay : (s : ScenarioValue) (b : Story) (o : Option Array) (shown : List Event) (n : ℕ) (c : CmdDef)
+    → HasSeats s → command_at s.commands n ≡ Some c → is_open (story_after_events s b shown).sent n ≡ true
+    → Kept s (command_id n) o → Kept s (command_id n) (array_after_events s o shown)
 events_stay s b o [] n c seats at e k = k
-events_stay s b o (event ∷ shown) n c seats at e k = go (array_after_events s o shown) (events_stay s b o shown n c seats at before k)
+events_stay s b o (event ∷ shown) n c seats at e k =
+    go (array_after_events s o shown) (events_stay s b o shown n c seats at before k)
   where
     g : Grows (story_after_events s b shown).sent (story_after_event s (story_after_events s b shown) event).sent
     g = events_grow s (story_after_events s b shown) (event ∷ [])
 
     before : is_open (story_after_events s b shown).sent n ≡ true
-    before = fewer_open (story_after_events s b shown).sent (story_after_event s (story_after_events s b shown) event).sent n g.sent g.over e
+    before = fewer_open (story_after_events s b shown).sent
+        (story_after_event s (story_after_events s b shown) event).sent n g.sent g.over e
 
     go : (x : Option Array) → Kept s (command_id n) x → Kept s (command_id n) (array_step s event x)
     go None h = record { sound = λ a z. none_some a z; queued = tt }
     go (Some a) h = record {
       sound = λ y z. step_sound s a y event seats (h.sound a refl) z;
-      queued = step_stays s a event (command_id n) (h.sound a refl).units (not_ended s (story_after_events s b shown) event n c at e) h.queued;
+      queued = step_stays s a event (command_id n) (h.sound a refl).units
+          (not_ended s (story_after_events s b shown) event n c at e) h.queued;
     }
 
 -- ---- on the free bus
 
-pub tried_over : (s : ScenarioValue) (b : Story) (dev : ℕ) (item : Option Item) (i : Item) → has_item b.sent.over i ≡ true → has_item (story_with_try s b dev item).sent.over i ≡ true
+pub tried_over : (s : ScenarioValue) (b : Story) (dev : ℕ) (item : Option Item) (i : Item)
+    → has_item b.sent.over i ≡ true → has_item (story_with_try s b dev item).sent.over i ≡ true
 tried_over s b dev None i h = h
 tried_over s b dev (Some item) i h = go _ item
   where
-    go : (q : Bool) (j : Item) → has_item (if q then story_without_answer (record b { sent = record b.sent { tries = item ∷ b.sent.tries } }) j else record b { sent = record b.sent { tries = item ∷ b.sent.tries } }).sent.over i ≡ true
+    go : (q : Bool) (j : Item)
+        → has_item (if q then story_without_answer (record b { sent = record b.sent { tries = item ∷ b.sent.tries } }) j
+        else record b { sent = record b.sent { tries = item ∷ b.sent.tries } }).sent.over i ≡ true
     go true (process id) = more_has (process id) i b.sent.over h
     go true (abort k) = more_has (abort k) i b.sent.over h
     go false j = h
 
-pub called_over : (s : ScenarioValue) (b : Story) (call : Option Call) (i : Item) → has_item b.sent.over i ≡ true → has_item (story_after_calling s b call).sent.over i ≡ true
+pub called_over : (s : ScenarioValue) (b : Story) (call : Option Call) (i : Item) → has_item b.sent.over i ≡ true
+    → has_item (story_after_calling s b call).sent.over i ≡ true
 called_over s b None i h = h
 called_over s b (Some k) i h = by k.calling
   where
@@ -116,10 +148,13 @@ called_over s b (Some k) i h = by k.calling
           | inr e ↦ rw e h
         ]
 
-pub free_over : (s : ScenarioValue) (b : Story) (d : RowReading) (row : Row) (i : Item) → has_item b.sent.over i ≡ true → has_item (story_on_free_bus s b d row).sent.over i ≡ true
+pub free_over : (s : ScenarioValue) (b : Story) (d : RowReading) (row : Row) (i : Item) → has_item b.sent.over i ≡ true
+    → has_item (story_on_free_bus s b d row).sent.over i ≡ true
 free_over s b d row i h = go (is_arbitration_entry b d) (falls d.change.before.sel d.change.after.sel)
   where
-    go : (q r : Bool) → has_item (if q then story_with_aim s b row else if r then story_after_calling s b b.bus_state.call else b).sent.over i ≡ true
+    go : (q r : Bool) → has_item
+        (if q then story_with_aim s b row else if r then story_after_calling s b b.bus_state.call else b).sent.over i
+        ≡ true
     go true r = h
     go false true = called_over s b b.bus_state.call i h
     go false false = h
@@ -128,31 +163,41 @@ free_over s b d row i h = go (is_arbitration_entry b d) (falls d.change.before.s
 
 pub data WasOpen (k : RunState) (d : RowReading) (n : ℕ) : Type 0 where
   before : is_open k.story.sent n ≡ true → WasOpen k d n
-  begins : (m : Connection) → k.story.bus_state.connection ≡ None → d.next ≡ Some m → m.reselected ≡ false → aim_of k.story.aims m.initiator ≡ Some (command_item n) → WasOpen k d n
+  begins : (m : Connection) → k.story.bus_state.connection ≡ None → d.next ≡ Some m → m.reselected ≡ false
+      → aim_of k.story.aims m.initiator ≡ Some (command_item n) → WasOpen k d n
 
-pub open_before : (s : ScenarioValue) (k : RunState) (d : RowReading) (row : Row) (n : ℕ) → is_open (story_by_change s k.story d row).sent n ≡ true → WasOpen k d n
+pub open_before : (s : ScenarioValue) (k : RunState) (d : RowReading) (row : Row) (n : ℕ)
+    → is_open (story_by_change s k.story d row).sent n ≡ true → WasOpen k d n
 open_before s k d row n e = by_rst d.change.after.rst e
   where
     b : Story
     b = k.story
 
-    begun : (m : Connection) → k.story.bus_state.connection ≡ None → d.next ≡ Some m → (q : Bool) → m.reselected ≡ q → (o : Option Item) → aim_of b.aims m.initiator ≡ o
-        → is_open (if q then record b { link = Some (link_of m None) } else story_with_restored (story_with_sent (record b { link = Some (link_of m o) }) o) o).sent n ≡ true → WasOpen k d n
+    begun : (m : Connection) → k.story.bus_state.connection ≡ None → d.next ≡ Some m
+        → (q : Bool) → m.reselected ≡ q → (o : Option Item) → aim_of b.aims m.initiator ≡ o
+        → is_open (if q then record b { link = Some (link_of m None) }
+        else story_with_restored (story_with_sent (record b { link = Some (link_of m o) }) o) o).sent n ≡ true
+        → WasOpen k d n
     begun m x y true z o f h = before h
     begun m x y false z None f h = before h
-    begun m x y false z (Some i) f h =
-        elim (opened b.sent i n (ap (λ (t : Sent). is_open t n) (sym (restored_sent (story_with_sent (record b { link = Some (link_of m (Some i)) }) (Some i)) (Some i))) ∙ h)) [
+    begun m x y false z (Some i) f h = elim (opened b.sent i n (ap (λ (t : Sent). is_open t n)
+        (sym (restored_sent (story_with_sent (record b { link = Some (link_of m (Some i)) }) (Some i)) (Some i)))
+        ∙ h)) [
           | inl g ↦ begins m x y z (f ∙ ap (λ (t : Item). Some t) g)
           | inr g ↦ before g
         ]
 
-    by : (x y : Option Connection) → k.story.bus_state.connection ≡ x → d.next ≡ y → is_open (story_on_bus s b x y d row).sent n ≡ true → WasOpen k d n
-    by None None f g h = before (fewer_open b.sent (story_on_free_bus s b d row).sent n (free_keeps s b d row).2 (λ i z. free_over s b d row i z) h)
+    by : (x y : Option Connection) → k.story.bus_state.connection ≡ x → d.next ≡ y
+        → is_open (story_on_bus s b x y d row).sent n ≡ true → WasOpen k d n
+    by None None f g h = before (fewer_open b.sent (story_on_free_bus s b d row).sent n (free_keeps s b d row).2
+        (λ i z. free_over s b d row i z) h)
     by None (Some m) f g h = begun m f g m.reselected refl (aim_of b.aims m.initiator) refl h
     by (Some l) None f g h = before h
     by (Some l) (Some m) f g h = before (ap (λ (x : Sent). is_open x n) (sym (connection_sent s b b.link d row)) ∙ h)
 
-    by_rst : (q : Bool) → is_open (if q then record b { link = None } else story_on_bus s b b.bus_state.connection d.next d row).sent n ≡ true → WasOpen k d n
+    by_rst : (q : Bool)
+        → is_open (if q then record b { link = None } else story_on_bus s b b.bus_state.connection d.next d row).sent n
+        ≡ true → WasOpen k d n
     by_rst true h = before h
     by_rst false h = by b.bus_state.connection d.next refl refl h
 
@@ -160,16 +205,20 @@ open_before s k d row n e = by_rst d.change.after.rst e
 
 -- A command whose connection ends with the row, and which is open after it, stands in a queue.
 abbrev pub IsLeftQueued : ScenarioValue → List Row → Row → Type 0
-IsLeftQueued s p row =
-    (m : Connection) (n : ℕ) (c : CmdDef) → command_at s.commands n ≡ Some c → (run_state s p).story.bus_state.connection ≡ Some m → (row_reading (run_state s p).story.bus_state row).next ≡ None → (run_state s p).served ≡ Some (command_item n)
-    → is_open (run_state s (row ∷ p)).story.sent n ≡ true → is_queued (array_of s (run_state s p)).units (command_id n) ≡ true
+IsLeftQueued s p row = (m : Connection) (n : ℕ) (c : CmdDef)
+    → command_at s.commands n ≡ Some c → (run_state s p).story.bus_state.connection ≡ Some m
+    → (row_reading (run_state s p).story.bus_state row).next ≡ None
+    → (run_state s p).served ≡ Some (command_item n) → is_open (run_state s (row ∷ p)).story.sent n ≡ true
+    → is_queued (array_of s (run_state s p)).units (command_id n) ≡ true
 
 pub record HasArray (s : ScenarioValue) (k : RunState) : Type 0 where
   pub array : Array
   pub array_is : k.array ≡ Some array
   pub sound : IsSound s array
 
-pub queued_next : (s : ScenarioValue) (p : List Row) (row : Row) → HasSeats s → Items s (run_state s p) → HasArray s (run_state s p) → HasArray s (run_state s (row ∷ p)) → IsLeftQueued s p row → AreQueued s (run_state s p) → AreQueued s (run_state s (row ∷ p))
+pub queued_next : (s : ScenarioValue) (p : List Row) (row : Row) → HasSeats s → Items s (run_state s p)
+    → HasArray s (run_state s p) → HasArray s (run_state s (row ∷ p)) → IsLeftQueued s p row
+    → AreQueued s (run_state s p) → AreQueued s (run_state s (row ∷ p))
 queued_next s p row seats items had has left h n c at opens away = elim (open_before s k d row n changed) [
   | before was ↦ unmoved was (is_served_by k.served (command_id n)) refl
   | begins m x y z f ↦ begun m x y z f
@@ -185,29 +234,44 @@ queued_next s p row seats items had has left h n c at opens away = elim (open_be
     shown = row_events_by s k.story d row
 
     changed : is_open (story_by_change s k.story d row).sent n ≡ true
-    changed = let g = events_grow s (story_by_change s k.story d row) shown in fewer_open (story_by_change s k.story d row).sent (story_after_events s (story_by_change s k.story d row) shown).sent n g.sent g.over opens
+    changed =
+        let g = events_grow s (story_by_change s k.story d row) shown in
+        fewer_open (story_by_change s k.story d row).sent
+        (story_after_events s (story_by_change s k.story d row) shown).sent n g.sent g.over opens
 
     array_had : (a : Array) → k.array ≡ Some a → IsSound s a
     array_had a e = subst (λ (x : Array). IsSound s x) (same_Some had.array a (sym had.array_is ∙ e)) had.sound
 
-    stays : is_queued (array_of s k).units (command_id n) ≡ true → is_queued (array_of s (run_state s (row ∷ p))).units (command_id n) ≡ true
+    stays : is_queued (array_of s k).units (command_id n) ≡ true
+        → is_queued (array_of s (run_state s (row ∷ p))).units (command_id n) ≡ true
     stays q =
-        let was : Kept s (command_id n) k.array = record { sound = array_had; queued = subst (IfQueued (command_id n)) (sym had.array_is) (ap (λ (o : Option Array). is_queued (or_start s o).units (command_id n)) (sym had.array_is) ∙ q) } in
+        let was : Kept s (command_id n) k.array = record {
+          sound = array_had;
+          queued = subst (IfQueued (command_id n)) (sym had.array_is)
+              (ap (λ (o : Option Array). is_queued (or_start s o).units (command_id n)) (sym had.array_is) ∙ q);
+        } in
         let is = events_stay s (story_by_change s k.story d row) k.array shown n c seats at opens was in
-        ap (λ (o : Option Array). is_queued (or_start s o).units (command_id n)) has.array_is ∙ subst (IfQueued (command_id n)) has.array_is is.queued
+        ap (λ (o : Option Array). is_queued (or_start s o).units (command_id n)) has.array_is
+        ∙ subst (IfQueued (command_id n)) has.array_is is.queued
 
     away_from : (o : Option Item) → o ≡ Some (command_item n) → is_served_by o (command_id n) ≡ true
     away_from o e = ap (λ (x : Option Item). is_served_by x (command_id n)) e ∙ self_item (command_item n)
 
-    begun : (m : Connection) → k.story.bus_state.connection ≡ None → d.next ≡ Some m → m.reselected ≡ false → aim_of k.story.aims m.initiator ≡ Some (command_item n) → is_queued (array_of s (run_state s (row ∷ p))).units (command_id n) ≡ true
-    begun m x y z f =
-        wrong (sym (away_from (served_after s k k.story.bus_state.connection d.next) ((λ i. served_after s k (x i) (y i)) ∙ ap (λ (q : Bool). if q then item_if (ready_of s k m.target) else aim_of k.story.aims m.initiator) z ∙ f)) ∙ away)
+    begun : (m : Connection) → k.story.bus_state.connection ≡ None → d.next ≡ Some m
+        → m.reselected ≡ false → aim_of k.story.aims m.initiator ≡ Some (command_item n)
+        → is_queued (array_of s (run_state s (row ∷ p))).units (command_id n) ≡ true
+    begun m x y z f = wrong
+        (sym (away_from (served_after s k k.story.bus_state.connection d.next) ((λ i. served_after s k (x i) (y i))
+        ∙ ap (λ (q : Bool). if q then item_if (ready_of s k m.target) else aim_of k.story.aims m.initiator) z ∙ f))
+        ∙ away)
 
-    served_is : (o : Option Item) → k.served ≡ o → is_served_by o (command_id n) ≡ true → k.served ≡ Some (command_item n)
+    served_is : (o : Option Item) → k.served ≡ o → is_served_by o (command_id n) ≡ true
+        → k.served ≡ Some (command_item n)
     served_is None e z = wrong (sym z)
     served_is (Some i) e z = e ∙ ap (λ (x : Item). Some x) (sym (item_is (command_item n) i z))
 
-    unmoved : is_open k.story.sent n ≡ true → (q : Bool) → is_served_by k.served (command_id n) ≡ q → is_queued (array_of s (run_state s (row ∷ p))).units (command_id n) ≡ true
+    unmoved : is_open k.story.sent n ≡ true → (q : Bool) → is_served_by k.served (command_id n) ≡ q
+        → is_queued (array_of s (run_state s (row ∷ p))).units (command_id n) ≡ true
     unmoved was false z = stays (h n c at was z)
     unmoved was true z = by k.story.bus_state.connection d.next refl refl
       where
@@ -217,7 +281,9 @@ queued_next s p row seats items had has left h n c at opens away = elim (open_be
         no_item : {A : Type 0} → (let o : Option Item = None in o) ≡ Some (command_item n) → A
         no_item e = absurd cc
 
-        by : (x y : Option Connection) → k.story.bus_state.connection ≡ x → d.next ≡ y → is_queued (array_of s (run_state s (row ∷ p))).units (command_id n) ≡ true
+        by : (x y : Option Connection) → k.story.bus_state.connection ≡ x → d.next ≡ y
+            → is_queued (array_of s (run_state s (row ∷ p))).units (command_id n) ≡ true
         by None y f g = no_item (sym (items.apart f).1 ∙ mine)
         by (Some m) None f g = stays (left m n c at f g mine opens)
-        by (Some m) (Some l) f g = wrong (sym (away_from (served_after s k k.story.bus_state.connection d.next) ((λ i. served_after s k (f i) (g i)) ∙ mine)) ∙ away)
+        by (Some m) (Some l) f g = wrong (sym (away_from (served_after s k k.story.bus_state.connection d.next)
+            ((λ i. served_after s k (f i) (g i)) ∙ mine)) ∙ away)

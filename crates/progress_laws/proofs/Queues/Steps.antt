@@ -35,10 +35,13 @@ if_none : (id : ProcId) (q : Bool) (b : Array) → is_queued b.units id ≡ true
 if_none id true b e = tt
 if_none id false b e = e
 
-arriving : (u : UnitState) (p : Process) (id : ProcId) → is_in_queue u id ≡ true → is_in_queue (record u { waiting = u.waiting ++ p ∷ [] }) id ≡ true
-arriving u p id e = either_stays (waits_in u.waiting id) (is_some (running_if u.current id)) _ _ (λ z. waits_last u.waiting p id z) (λ z. z) e
+arriving : (u : UnitState) (p : Process) (id : ProcId) → is_in_queue u id ≡ true
+    → is_in_queue (record u { waiting = u.waiting ++ p ∷ [] }) id ≡ true
+arriving u p id e = either_stays (waits_in u.waiting id) (is_some (running_if u.current id)) _ _
+    (λ z. waits_last u.waiting p id z) (λ z. z) e
 
-accepted : (a : Array) (o : Option Process) (id : ProcId) → is_queued a.units id ≡ true → IfQueued id (Steps.accept_step a o)
+accepted : (a : Array) (o : Option Process) (id : ProcId) → is_queued a.units id ≡ true
+    → IfQueued id (Steps.accept_step a o)
 accepted a None id e = tt
 accepted a (Some p) id e = at (unit_state_at a.units p.target p.unit) refl
   where
@@ -48,11 +51,13 @@ accepted a (Some p) id e = at (unit_state_at a.units p.target p.unit) refl
       where
         go : (q : Bool) → IfQueued id (if q then Some (Steps.with_guest a p None) else Steps.queue_step a p u)
         go true = e
-        go false =
-            if_some id (nat_lt (Steps.process_count u) u.depth) (record a { units = with_unit a.units (record u { waiting = u.waiting ++ p ∷ [] }) })
-            (with_unit_all a.units (record u { waiting = u.waiting ++ p ∷ [] }) u id (place_found a.units p.target p.unit u z) (λ y. arriving u p id y) e)
+        go false = if_some id (nat_lt (Steps.process_count u) u.depth) (record a {
+          units = with_unit a.units (record u { waiting = u.waiting ++ p ∷ [] });
+        }) (with_unit_all a.units (record u { waiting = u.waiting ++ p ∷ [] }) u id
+            (place_found a.units p.target p.unit u z) (λ y. arriving u p id y) e)
 
-refused : (a : Array) (o : Option Process) (id : ProcId) → is_queued a.units id ≡ true → IfQueued id (Steps.refuse_step a o)
+refused : (a : Array) (o : Option Process) (id : ProcId) → is_queued a.units id ≡ true
+    → IfQueued id (Steps.refuse_step a o)
 refused a None id e = tt
 refused a (Some p) id e = at (unit_state_at a.units p.target p.unit)
   where
@@ -60,22 +65,32 @@ refused a (Some p) id e = at (unit_state_at a.units p.target p.unit)
     at None = tt
     at (Some u) = if_some id (not (is_request_sense (command_of p.cdb)) && Steps.process_count u == u.depth) _ e
 
-executed : (a : Array) (p : Process) (u : Option UnitState) (done : Execution) (id : ProcId) → unit_state_at a.units p.target p.unit ≡ u → is_queued a.units id ≡ true → is_queued (Steps.after_execution a p u done).units id ≡ true
-executed a p u done id at e = replied_all (Steps.with_contents (Steps.without_attention a done.reported (nexus_of p)) u done.contents).units id p.id done.reply (filled done.reported u at)
+executed : (a : Array) (p : Process) (u : Option UnitState) (done : Execution) (id : ProcId)
+    → unit_state_at a.units p.target p.unit ≡ u → is_queued a.units id ≡ true
+    → is_queued (Steps.after_execution a p u done).units id ≡ true
+executed a p u done id at e = replied_all (Steps.with_contents (Steps.without_attention a done.reported (nexus_of p)) u
+    done.contents).units id p.id done.reply (filled done.reported u at)
   where
-    filled : (q : Bool) (o : Option UnitState) → unit_state_at a.units p.target p.unit ≡ o → is_queued (Steps.with_contents (Steps.without_attention a q (nexus_of p)) o done.contents).units id ≡ true
+    filled : (q : Bool) (o : Option UnitState) → unit_state_at a.units p.target p.unit ≡ o
+        → is_queued (Steps.with_contents (Steps.without_attention a q (nexus_of p)) o done.contents).units id ≡ true
     filled true None z = e
     filled false None z = e
-    filled true (Some v) z = with_unit_all a.units (record v { contents = done.contents }) v id (place_found a.units p.target p.unit v z) (λ y. y) e
-    filled false (Some v) z = with_unit_all a.units (record v { contents = done.contents }) v id (place_found a.units p.target p.unit v z) (λ y. y) e
+    filled true (Some v) z = with_unit_all a.units (record v { contents = done.contents }) v id
+        (place_found a.units p.target p.unit v z) (λ y. y) e
+    filled false (Some v) z = with_unit_all a.units (record v { contents = done.contents }) v id
+        (place_found a.units p.target p.unit v z) (λ y. y) e
 
-run : (a : Array) (guest : Bool) (o : Option RunningProcess) (id : ProcId) → is_queued a.units id ≡ true → IfQueued id (Steps.run_step a guest o)
+run : (a : Array) (guest : Bool) (o : Option RunningProcess) (id : ProcId) → is_queued a.units id ≡ true
+    → IfQueued id (Steps.run_step a guest o)
 run a guest None id e = tt
-run a guest (Some r) id e =
-    if_some id (is_none r.reply && (guest || not (is_held a.holds r.process.target r.process.unit))) _
-    (executed a r.process (unit_state_at a.units r.process.target r.process.unit) (execution (Steps.context_at a (nexus_of r.process) (unit_state_at a.units r.process.target r.process.unit)) r.process.cdb r.process.sent) id refl e)
+run a guest (Some r) id e = if_some id
+    (is_none r.reply && (guest || not (is_held a.holds r.process.target r.process.unit))) _
+    (executed a r.process (unit_state_at a.units r.process.target r.process.unit)
+    (execution (Steps.context_at a (nexus_of r.process) (unit_state_at a.units r.process.target r.process.unit))
+    r.process.cdb r.process.sent) id refl e)
 
-failed : (s : ScenarioValue) (a : Array) (i : ProcId) (reply : Reply) (o : Option RunningProcess) (id : ProcId) → is_queued a.units id ≡ true → IfQueued id (Steps.fail_step s a i reply o)
+failed : (s : ScenarioValue) (a : Array) (i : ProcId) (reply : Reply) (o : Option RunningProcess) (id : ProcId)
+    → is_queued a.units id ≡ true → IfQueued id (Steps.fail_step s a i reply o)
 failed s a i reply (Some r) id e = if_some id (is_none r.reply) _ (replied_all a.units id i reply e)
 failed s a i reply None id e = new (process_of s i)
   where
@@ -83,48 +98,63 @@ failed s a i reply None id e = new (process_of s i)
     new None = tt
     new (Some p) = if_none id (Steps.is_waiting a.units i || Steps.has_ended a i) _ e
 
-ended : (a : Array) (i : ProcId) (status : ℕ) (id : ProcId) → same_id i id ≡ false → is_queued a.units id ≡ true → IfQueued id (Steps.end_step a status (Steps.running_process a i))
+ended : (a : Array) (i : ProcId) (status : ℕ) (id : ProcId) → same_id i id ≡ false → is_queued a.units id ≡ true
+    → IfQueued id (Steps.end_step a status (Steps.running_process a i))
 ended a i status id ne e = go (Steps.running_process a i) refl
   where
-    same : (r : RunningProcess) (reply : Reply) (q t : Bool) → (if q then record a { senses = (nexus_of r.process, reply.sense) ∷ senses_without a.senses (nexus_of r.process); holds = nexus_of r.process ∷ nexuses_without a.holds (nexus_of r.process) }
-        else if t then record a { senses = senses_without a.senses (nexus_of r.process); holds = nexuses_without a.holds (nexus_of r.process) }
-        else a).units ≡ a.units
+    same : (r : RunningProcess) (reply : Reply) (q t : Bool) → (if q then record a {
+      senses = (nexus_of r.process, reply.sense) ∷ senses_without a.senses (nexus_of r.process);
+      holds = nexus_of r.process ∷ nexuses_without a.holds (nexus_of r.process);
+    } else if t then record a {
+      senses = senses_without a.senses (nexus_of r.process);
+      holds = nexuses_without a.holds (nexus_of r.process);
+    } else a).units ≡ a.units
     same r reply true t = refl
     same r reply false true = refl
     same r reply false false = refl
 
-    by : (r : RunningProcess) → r.process.id ≡ i → (reply : Option Reply) → IfQueued id (Steps.end_step_with a r.process status reply)
+    by : (r : RunningProcess) → r.process.id ≡ i
+        → (reply : Option Reply) → IfQueued id (Steps.end_step_with a r.process status reply)
     by r f None = tt
     by r f (Some reply) =
-        if_some id (reply.status == status) _
-        (left_all (Steps.after_status a r.process reply).units id r.process.id (ap (λ (w : ProcId). same_id w id) f ∙ ne)
-        (ap (λ (us : List UnitState). is_queued us id) (same r reply (reply.status == CHECK_CONDITION) (reply.status == GOOD && is_request_sense (command_of r.process.cdb))) ∙ e))
+        if_some id (reply.status == status) _ (left_all (Steps.after_status a r.process reply).units id r.process.id
+        (ap (λ (w : ProcId). same_id w id) f ∙ ne) (ap (λ (us : List UnitState). is_queued us id) (same r reply
+        (reply.status == CHECK_CONDITION) (reply.status == GOOD && is_request_sense (command_of r.process.cdb))) ∙ e))
 
     go : (o : Option RunningProcess) → Steps.running_process a i ≡ o → IfQueued id (Steps.end_step a status o)
     go None z = tt
     go (Some r) z = by r (running_id a i r z) r.reply
 
-aborted : (s : ScenarioValue) (a : Array) (i t n : ℕ) (what : AbortKind) (id : ProcId) → Spares s (λ p. is_dropped i t n what p) id → AllOwnUnits s a.units → is_queued a.units id ≡ true → is_queued (Steps.abort_step s a i t n what).units id ≡ true
-aborted s a i t n AbortKind.All id spares own e = kept_all s (λ p. p.initiator == i && is_of_unit p t n) a.units id spares own e
-aborted s a i t n (AbortKind.Tag tag) id spares own e = kept_all s (λ p. p.initiator == i && is_of_unit p t n && has_tag p.tag tag) a.units id spares own e
-aborted s a i t n AbortKind.WholeQueue id spares own e =
-    ap (λ (us : List UnitState). is_queued us id) (cleared_units i (Steps.unit_processes (unit_state_at a.units t n)) (Steps.without_dropped a (λ p. is_of_unit p t n)))
+aborted : (s : ScenarioValue) (a : Array) (i t n : ℕ) (what : AbortKind) (id : ProcId)
+    → Spares s (λ p. is_dropped i t n what p) id → AllOwnUnits s a.units → is_queued a.units id ≡ true
+    → is_queued (Steps.abort_step s a i t n what).units id ≡ true
+aborted s a i t n AbortKind.All id spares own e =
+    kept_all s (λ p. p.initiator == i && is_of_unit p t n) a.units id spares own e
+aborted s a i t n (AbortKind.Tag tag) id spares own e =
+    kept_all s (λ p. p.initiator == i && is_of_unit p t n && has_tag p.tag tag) a.units id spares own e
+aborted s a i t n AbortKind.WholeQueue id spares own e = ap (λ (us : List UnitState). is_queued us id) (cleared_units i
+    (Steps.unit_processes (unit_state_at a.units t n)) (Steps.without_dropped a (λ p. is_of_unit p t n)))
     ∙ kept_all s (λ p. is_of_unit p t n) a.units id spares own e
-aborted s a i t n AbortKind.Device id spares own e =
-    ap (λ (us : List UnitState). is_queued us id) (unit_reset_units s.hosts a.units (λ u. u.target == t) (record (Steps.without_dropped a (λ p. p.target == t)) { senses = Steps.kept_senses (λ r. r.target == t) a.senses; holds = Steps.kept_nexuses (λ r. r.target == t) a.holds }))
-    ∙ kept_all s (λ p. p.target == t) a.units id spares own e
+aborted s a i t n AbortKind.Device id spares own e = ap (λ (us : List UnitState). is_queued us id)
+    (unit_reset_units s.hosts a.units (λ u. u.target == t) (record (Steps.without_dropped a (λ p. p.target == t)) {
+      senses = Steps.kept_senses (λ r. r.target == t) a.senses;
+      holds = Steps.kept_nexuses (λ r. r.target == t) a.holds;
+    })) ∙ kept_all s (λ p. p.target == t) a.units id spares own e
 
-event_stays : (s : ScenarioValue) (a : Array) (event : Event) (id : ProcId) → AllOwnUnits s a.units → IsNotEnded s event id → is_queued a.units id ≡ true → IfQueued id (Steps.event_step s a event)
+event_stays : (s : ScenarioValue) (a : Array) (event : Event) (id : ProcId) → AllOwnUnits s a.units
+    → IsNotEnded s event id → is_queued a.units id ≡ true → IfQueued id (Steps.event_step s a event)
 event_stays s a (Event.Accept i) id own h e = accepted a (process_of s i) id e
 event_stays s a (Event.Refuse i) id own h e = refused a (process_of s i) id e
 event_stays s a (Event.Run i) id own h e = run a (is_some (guest_at a.guests i)) (Steps.running_process a i) id e
-event_stays s a (Event.Fail i code) id own h e = failed s a i (check_condition (sense_of ABORTED_COMMAND code 0x00)) (Steps.running_process a i) id e
+event_stays s a (Event.Fail i code) id own h e =
+    failed s a i (check_condition (sense_of ABORTED_COMMAND code 0x00)) (Steps.running_process a i) id e
 event_stays s a (Event.End i status) id own h e = ended a i status id h e
 event_stays s a (Event.Lost i) id own h e = if_none id (Steps.has_ended a i) _ (left_all a.units id i h e)
 event_stays s a (Event.Aborted i t n what) id own h e = aborted s a i t n what id h own e
 event_stays s a (Event.Reset dev) id own h e = absurd h
 
-pub step_stays : (s : ScenarioValue) (a : Array) (event : Event) (id : ProcId) → AllOwnUnits s a.units → IsNotEnded s event id → is_queued a.units id ≡ true → IfQueued id (Steps.step s event a)
+pub step_stays : (s : ScenarioValue) (a : Array) (event : Event) (id : ProcId) → AllOwnUnits s a.units
+    → IsNotEnded s event id → is_queued a.units id ≡ true → IfQueued id (Steps.step s event a)
 step_stays s a event id own h e = go (Steps.event_step s a event) (event_stays s a event id own h e)
   where
     go : (o : Option Array) → IfQueued id o → IfQueued id (Steps.settled_array_if o)
@@ -133,18 +163,20 @@ step_stays s a event id own h e = go (Steps.event_step s a event) (event_stays s
 
 -- ---- what is open after an event was not ended by it
 
-pub ends_close : (drops stops : CmdDef → Bool) (e : Ending) (j k : ℕ) (commands : List CmdDef) (b : Story) (c : CmdDef) → command_at commands (suc k) ≡ Some c → drops c ≡ true → has_item b.sent.sent (command_item (suc (j + k))) ≡ true
+pub ends_close : (drops stops : CmdDef → Bool) (e : Ending) (j k : ℕ) (commands : List CmdDef) (b : Story) (c : CmdDef)
+    → command_at commands (suc k) ≡ Some c → drops c ≡ true → has_item b.sent.sent (command_item (suc (j + k))) ≡ true
     → has_item (story_with_ends drops stops e (suc j) commands b).sent.over (command_item (suc (j + k))) ≡ true
 ends_close drops stops e j k [] b c at d sent = none_some c at
 ends_close drops stops e j zero (x ∷ commands) b c at d sent =
     let same : suc (j + 0) ≡ suc j = omega arith in
-    let there : has_item b.sent.sent (command_item (suc j)) ≡ true = ap (λ (m : ℕ). has_item b.sent.sent (command_item m)) (sym same) ∙ sent in
+    let there : has_item b.sent.sent (command_item (suc j)) ≡ true =
+    ap (λ (m : ℕ). has_item b.sent.sent (command_item m)) (sym same) ∙ sent in
     let next : Story =
     if is_open b.sent (suc j) && drops x then story_with_end b (record { command = suc j; sense = false }) e
-    else if stops x && list_any (λ m. m == suc j) b.sent.checks then story_with_over b (sense_item (suc j))
-    else b in
+    else if stops x && list_any (λ m. m == suc j) b.sent.checks then story_with_over b (sense_item (suc j)) else b in
     ap (λ (m : ℕ). has_item (story_with_ends drops stops e (suc j) (x ∷ commands) b).sent.over (command_item m)) same
-    ∙ ends_over drops stops e (suc j + 1) commands next (command_item (suc j)) (by there (ap drops (same_Some x c at) ∙ d) (has_item b.sent.over (command_item (suc j))) refl)
+    ∙ ends_over drops stops e (suc j + 1) commands next (command_item (suc j))
+    (by there (ap drops (same_Some x c at) ∙ d) (has_item b.sent.over (command_item (suc j))) refl)
   where
     after : Bool → Story
     after q =
@@ -152,25 +184,34 @@ ends_close drops stops e j zero (x ∷ commands) b c at d sent =
         else if stops x && list_any (λ m. m == suc j) b.sent.checks then story_with_over b (sense_item (suc j))
         else b
 
-    still : (q r : Bool) → has_item b.sent.over (command_item (suc j)) ≡ true → has_item (if q then story_with_end b (record { command = suc j; sense = false }) e else if r then story_with_over b (sense_item (suc j)) else b).sent.over (command_item (suc j)) ≡ true
+    still : (q r : Bool) → has_item b.sent.over (command_item (suc j)) ≡ true
+        → has_item (if q then story_with_end b (record { command = suc j; sense = false }) e
+        else if r then story_with_over b (sense_item (suc j)) else b).sent.over (command_item (suc j)) ≡ true
     still true r h = more_has (command_item (suc j)) (command_item (suc j)) b.sent.over h
     still false true h = more_has (sense_item (suc j)) (command_item (suc j)) b.sent.over h
     still false false h = h
 
-    by : has_item b.sent.sent (command_item (suc j)) ≡ true → drops x ≡ true → (o : Bool) → has_item b.sent.over (command_item (suc j)) ≡ o → has_item (after (is_open b.sent (suc j) && drops x)).sent.over (command_item (suc j)) ≡ true
-    by there dx true f = still (is_open b.sent (suc j) && drops x) (stops x && list_any (λ m. m == suc j) b.sent.checks) f
-    by there dx false f = (λ i. has_item (after ((there i && not (f i)) && dx i)).sent.over (command_item (suc j))) ∙ own_has (command_item (suc j)) b.sent.over
+    by : has_item b.sent.sent (command_item (suc j)) ≡ true → drops x ≡ true
+        → (o : Bool) → has_item b.sent.over (command_item (suc j)) ≡ o
+        → has_item (after (is_open b.sent (suc j) && drops x)).sent.over (command_item (suc j)) ≡ true
+    by there dx true f =
+        still (is_open b.sent (suc j) && drops x) (stops x && list_any (λ m. m == suc j) b.sent.checks) f
+    by there dx false f = (λ i. has_item (after ((there i && not (f i)) && dx i)).sent.over (command_item (suc j)))
+        ∙ own_has (command_item (suc j)) b.sent.over
 ends_close drops stops e j (suc k) (x ∷ commands) b c at d sent =
     let next : Story =
     if is_open b.sent (suc j) && drops x then story_with_end b (record { command = suc j; sense = false }) e
-    else if stops x && list_any (λ m. m == suc j) b.sent.checks then story_with_over b (sense_item (suc j))
-    else b in
+    else if stops x && list_any (λ m. m == suc j) b.sent.checks then story_with_over b (sense_item (suc j)) else b in
     let moved : suc (j + suc k) ≡ suc (suc j + k) = omega arith in
     let one_more : suc (suc j) ≡ suc j + 1 = omega arith in
     (λ i. has_item (story_with_ends drops stops e (sym one_more i) commands next).sent.over (command_item (moved i)))
-    ∙ ends_close drops stops e (suc j) k commands next c at d (same_sent (is_open b.sent (suc j) && drops x) (stops x && list_any (λ m. m == suc j) b.sent.checks) ∙ ap (λ (m : ℕ). has_item b.sent.sent (command_item m)) (sym moved) ∙ sent)
+    ∙ ends_close drops stops e (suc j) k commands next c at d
+    (same_sent (is_open b.sent (suc j) && drops x) (stops x && list_any (λ m. m == suc j) b.sent.checks)
+    ∙ ap (λ (m : ℕ). has_item b.sent.sent (command_item m)) (sym moved) ∙ sent)
   where
-    same_sent : (q r : Bool) → has_item (if q then story_with_end b (record { command = suc j; sense = false }) e else if r then story_with_over b (sense_item (suc j)) else b).sent.sent (command_item (suc (suc j + k))) ≡ has_item b.sent.sent (command_item (suc (suc j + k)))
+    same_sent : (q r : Bool) → has_item (if q then story_with_end b (record { command = suc j; sense = false }) e
+        else if r then story_with_over b (sense_item (suc j)) else b).sent.sent (command_item (suc (suc j + k)))
+        ≡ has_item b.sent.sent (command_item (suc (suc j + k)))
     same_sent true r = refl
     same_sent false true = refl
     same_sent false false = refl

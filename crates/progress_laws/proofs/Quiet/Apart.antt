@@ -1,5 +1,6 @@
--- Where no connection stands: in an arbitration its contender of the highest ID is due to win, in a calling its caller to go on or to
--- give up, and under RST a device that drives it to release it. So where nothing is due the bus is free (6.1.1 to 6.1.4, 6.2.2).
+-- Where no connection stands: in an arbitration its contender of the highest ID is due to win, in a calling its caller
+-- to go on or to give up, and under RST a device that drives it to release it. So where nothing is due the bus is free
+-- (6.1.1 to 6.1.4, 6.2.2).
 use Rattle.progress_laws.proofs
 use proofs.Names.{inl, inr, ℕ, zero, suc, ◌≡◌, ◌≢◌, ◌⊎◌, ◌<◌, ◌+◌, ◌^◌, ◌%◌, Bool, true, false, not, ◌&&◌, ◌∙◌, List}
 use proofs.Names.{Some, refl, sym, ap, subst, arith, mod-le, cases_eq, true≢false, nat_tests, pow_pos, pow_below}
@@ -30,7 +31,8 @@ reset_ends s p end st on = true≢false (sym on ∙ bus_off (λ x. x.rst) (λ _ 
 -- ---- an arbitration
 
 -- No higher ID is true, where no device above drives anything.
-lower_data : (p : List Row) (n : ℕ) → ((d : ℕ) → d < 8 → (drives p d ≡ none) ⊎ ((d < n) × (drives p d ≡ contender_lines d))) → (bus p).data_bits < 2 ^ n
+lower_data : (p : List Row) (n : ℕ)
+    → ((d : ℕ) → d < 8 → (drives p d ≡ none) ⊎ ((d < n) × (drives p d ≡ contender_lines d))) → (bus p).data_bits < 2 ^ n
 lower_data p n each = bus_data_below p n (λ d lt. go d (each d lt))
   where
     go : (d : ℕ) → (drives p d ≡ none) ⊎ ((d < n) × (drives p d ≡ contender_lines d)) → (drives p d).data_bits < 2 ^ n
@@ -44,15 +46,23 @@ none_above p d lt = let w = mod-le (bus p).data_bits 256 in below (2 ^ (d + 1)) 
     below a b h = grind (arith, nat_tests)
 
 -- A contender below which all others are is due to win.
-contender_wins : (s : ScenarioValue) (p : List Row) (a : Arbitration) (d : ℕ) → IsEnded s p → Standing s p → Arbitrating s p a → d < 8 → IsContender s p a d → (bus p).data_bits < 2 ^ (d + 1) → ⊥
+contender_wins : (s : ScenarioValue) (p : List Row) (a : Arbitration) (d : ℕ) → IsEnded s p → Standing s p
+    → Arbitrating s p a → d < 8 → IsContender s p a d → (bus p).data_bits < 2 ^ (d + 1) → ⊥
 contender_wins s p a d end st h lt k low =
     let was : stage p ≡ InArbitration a = stage_is p _ _ _ _ h.stands in
-    calm_end s p d end st.devices lt (ap (λ (x : LineSet). x.rst) h.stands.bus_is)
-    (moved _ _ (due_in s p d k.lat (contender_lines d) (InArbitration a) st.devices lt k.there h.stands.connection_is was k.drive)
-    (record { row = _; is = ap (λ (q : Bool). due_where (not q) (due_at (own_time p d + ARBITRATION_DELAY + k.lat) (record (contender_lines d) { sel = true }))) (none_above p d low) }))
+    calm_end s p d end st.devices lt (ap (λ (x : LineSet). x.rst) h.stands.bus_is) (moved _ _
+    (due_in s p d k.lat (contender_lines d) (InArbitration a) st.devices lt k.there h.stands.connection_is was k.drive)
+    (record {
+      row = _;
+      is = ap (λ (q : Bool). due_where (not q)
+          (due_at (own_time p d + ARBITRATION_DELAY + k.lat) (record (contender_lines d) { sel = true })))
+          (none_above p d low);
+    }))
 
 -- So none stands below any number.
-no_contender : (s : ScenarioValue) (p : List Row) (a : Arbitration) → IsEnded s p → Standing s p → Arbitrating s p a → (n : ℕ) → ((d : ℕ) → d < 8 → (drives p d ≡ none) ⊎ ((d < n) × IsContender s p a d)) → (d : ℕ) → d < 8 → drives p d ≡ none
+no_contender : (s : ScenarioValue) (p : List Row) (a : Arbitration) → IsEnded s p → Standing s p → Arbitrating s p a
+    → (n : ℕ) → ((d : ℕ) → d < 8 → (drives p d ≡ none) ⊎ ((d < n) × IsContender s p a d)) → (d : ℕ) → d < 8
+    → drives p d ≡ none
 no_contender s p a end st h zero each = λ d lt. elim (each d lt) [
   | inl z ↦ z
   | inr z ↦ let w = z.0 in absurd (omega arith)
@@ -61,7 +71,8 @@ no_contender s p a end st h (suc n) each =
     no_contender s p a end st h n (λ d lt. elim (each d lt) [
       | inl z ↦ inl z
       | inr z ↦ elim (cases_eq d n) [
-        | inl same ↦ absurd (contender_wins s p a d end st h lt z.1 (subst (λ (k : ℕ). (bus p).data_bits < 2 ^ k) (one_more d n same) low))
+        | inl same ↦ absurd (contender_wins s p a d end st h lt z.1
+            (subst (λ (k : ℕ). (bus p).data_bits < 2 ^ k) (one_more d n same) low))
         | inr ne ↦ let w = z.0 in inr (omega arith, z.1)
       ]
     ])
@@ -75,9 +86,10 @@ no_contender s p a end st h (suc n) each =
       | inr z ↦ inr (z.0, z.1.drive)
     ])
 
-pub arbitration_ends : (s : ScenarioValue) (p : List Row) (a : Arbitration) → IsEnded s p → Standing s p → Arbitrating s p a → ⊥
-arbitration_ends s p a end st h =
-    true≢false (sym (ap (λ (x : LineSet). x.bsy) h.stands.bus_is) ∙ ap (λ (x : LineSet). x.bsy) (bus_none p (no_contender s p a end st h 8 (λ d lt. elim (h.each d lt) [
+pub arbitration_ends : (s : ScenarioValue) (p : List Row) (a : Arbitration) → IsEnded s p → Standing s p
+    → Arbitrating s p a → ⊥
+arbitration_ends s p a end st h = true≢false (sym (ap (λ (x : LineSet). x.bsy) h.stands.bus_is)
+    ∙ ap (λ (x : LineSet). x.bsy) (bus_none p (no_contender s p a end st h 8 (λ d lt. elim (h.each d lt) [
       | inl z ↦ inl z
       | inr z ↦ inr (lt, z)
     ]))))
@@ -91,7 +103,8 @@ pub record IsBound (s : ScenarioValue) (p : List Row) (c : ℕ) : Type 0 where
   pub below : other < 8
   pub apart : c ≢ other
 
-starts : (s : ScenarioValue) (p : List Row) (c lat since : ℕ) (own : LineSet) → IsBound s p c → SomeDue (calling_start (not (is_initiator s.hosts c)) (device_with c lat own since) (callee_at s p c))
+starts : (s : ScenarioValue) (p : List Row) (c lat since : ℕ) (own : LineSet) → IsBound s p c
+    → SomeDue (calling_start (not (is_initiator s.hosts c)) (device_with c lat own since) (callee_at s p c))
 starts s p c lat since own b =
     moved _ _ (ap (calling_start (not (is_initiator s.hosts c)) (device_with c lat own since)) b.is)
     (where_some (nat_lt b.other 8 && not (b.other == c)) _ (well b.other c b.below b.apart))
@@ -103,41 +116,70 @@ starts s p c lat since own b =
     well : (k c : ℕ) → k < 8 → c ≢ k → (nat_lt k 8 && not (k == c)) ≡ true
     well k c lt ne = grind (arith, nat_tests)
 
-pub won_ends : (s : ScenarioValue) (p : List Row) (c t : ℕ) → IsEnded s p → Standing s p → ArbitrationWon s p c t → IsBound s p c → ⊥
+pub won_ends : (s : ScenarioValue) (p : List Row) (c t : ℕ) → IsEnded s p → Standing s p → ArbitrationWon s p c t
+    → IsBound s p c → ⊥
 won_ends s p c t end st h b =
     let was : stage p ≡ InCalling (won_call c t) = stage_is p _ _ _ _ h.stands in
-    calm_end s p c end st.devices h.caller_below (ap (λ (x : LineSet). x.rst) h.stands.bus_is)
-    (moved _ _ (calls_due s p c h.lat t (record (contender_lines c) { sel = true }) st.devices h.caller_below h.there h.stands.connection_is was h.caller) (starts s p c h.lat (own_time p c) (record (contender_lines c) { sel = true }) b))
+    calm_end s p c end st.devices h.caller_below
+    (ap (λ (x : LineSet). x.rst) h.stands.bus_is) (moved _ _ (calls_due s p c h.lat t
+    (record (contender_lines c) { sel = true }) st.devices h.caller_below h.there h.stands.connection_is was h.caller)
+    (starts s p c h.lat (own_time p c) (record (contender_lines c) { sel = true }) b))
 
 -- A caller that has called goes on, whatever comes.
-calls_end : (s : ScenarioValue) (p : List Row) (c : ℕ) (b : LineSet) → IsEnded s p → Standing s p → c < 8 → bus p ≡ b → b.rst ≡ false → ((drives p c).sel ≡ true) → ((lat : ℕ) → latency_of s c ≡ Some lat → SomeDue (unreset_due s p c)) → ⊥
+calls_end : (s : ScenarioValue) (p : List Row) (c : ℕ) (b : LineSet) → IsEnded s p → Standing s p → c < 8 → bus p ≡ b
+    → b.rst ≡ false → ((drives p c).sel ≡ true) → ((lat : ℕ) → latency_of s c ≡ Some lat → SomeDue (unreset_due s p c))
+    → ⊥
 calls_end s p c b end st lt on calm sel acts =
     let h = there_by s p c (λ x. x.sel) st lt refl sel in
     calm_end s p c end st.devices lt (ap (λ (x : LineSet). x.rst) on ∙ calm) (acts h.latency h.latency_is)
 
-answered_acts : (m : Bool) (me : Myself) (w : Want) (k t1 t2 t3 : ℕ) → SomeDue (answered_due me w (answered_calling m k t1 t2 t3) t3)
+answered_acts : (m : Bool) (me : Myself) (w : Want) (k t1 t2 t3 : ℕ)
+    → SomeDue (answered_due me w (answered_calling m k t1 t2 t3) t3)
 answered_acts true me w k t1 t2 t3 = record { row = _; is = refl }
 answered_acts false me w k t1 t2 t3 = record { row = _; is = refl }
 
 -- Where nothing is due while no connection stands, the bus is free.
-pub free_at_end : (s : ScenarioValue) (p : List Row) → IsEnded s p → Standing s p → ((c t : ℕ) → ArbitrationWon s p c t → IsBound s p c) → is_connected p ≡ false → BusStage s p → FreeBus s p
+pub free_at_end : (s : ScenarioValue) (p : List Row) → IsEnded s p → Standing s p
+    → ((c t : ℕ) → ArbitrationWon s p c t → IsBound s p c) → is_connected p ≡ false → BusStage s p → FreeBus s p
 free_at_end s p end st bound alone (on_free_bus h) = h
 free_at_end s p end st bound alone (in_arbitration a h) = absurd (arbitration_ends s p a end st h)
 free_at_end s p end st bound alone (after_arbitration c t h) = absurd (won_ends s p c t end st h (bound c t h))
-free_at_end s p end st bound alone (with_both_ids m c k t0 t e h) =
-    absurd (calls_end s p c _ end st h.caller_below h.stands.bus_is refl (ap (λ (x : LineSet). x.sel) h.caller) (λ lat there. record { row = _; is = asks_due s p m c k t0 t lat _ st.devices h.caller_below there h.stands.connection_is (stage_is p _ _ _ _ h.stands) h.caller }))
+free_at_end s p end st bound alone (with_both_ids m c k t0 t e h) = absurd (calls_end s p c _ end st h.caller_below
+    h.stands.bus_is refl (ap (λ (x : LineSet). x.sel) h.caller) (λ lat there. record {
+      row = _;
+      is = asks_due s p m c k t0 t lat _ st.devices h.caller_below there h.stands.connection_is
+          (stage_is p _ _ _ _ h.stands) h.caller;
+    }))
 free_at_end s p end st bound alone (awaiting_answer v m c k t0 t1 t2 x g) =
     let h = g.here in
-    absurd (calls_end s p c _ end st h.caller_below h.stands.bus_is refl (ap (λ (x : LineSet). x.sel) h.caller) (λ lat there. record { row = _; is = waits_due s p v m c k t0 t1 t2 lat _ st.devices h.caller_below there h.stands.connection_is (stage_is p _ _ _ _ h.stands) h.caller }))
-free_at_end s p end st bound alone (after_withdrawal v m c k t0 t1 t2 t3 e h) =
-    absurd (calls_end s p c _ end st h.caller_below h.stands.bus_is refl (ap (λ (x : LineSet). x.sel) h.caller) (λ lat there. record { row = _; is = gives_up_due s p v m c k t0 t1 t2 t3 lat _ st.devices h.caller_below there h.stands.connection_is (stage_is p _ _ _ _ h.stands) h.caller }))
+    absurd (calls_end s p c _ end st h.caller_below h.stands.bus_is refl (ap (λ (x : LineSet). x.sel) h.caller)
+    (λ lat there. record {
+      row = _;
+      is = waits_due s p v m c k t0 t1 t2 lat _ st.devices h.caller_below there h.stands.connection_is
+          (stage_is p _ _ _ _ h.stands) h.caller;
+    }))
+free_at_end s p end st bound alone (after_withdrawal v m c k t0 t1 t2 t3 e h) = absurd (calls_end s p c _ end st
+    h.caller_below h.stands.bus_is refl (ap (λ (x : LineSet). x.sel) h.caller) (λ lat there. record {
+      row = _;
+      is = gives_up_due s p v m c k t0 t1 t2 t3 lat _ st.devices h.caller_below there h.stands.connection_is
+          (stage_is p _ _ _ _ h.stands) h.caller;
+    }))
 free_at_end s p end st bound alone (after_answer m c k t0 t1 t2 t3 x g) =
     let h = g.here in
     let w : Calling = answered_calling m k t1 t2 t3 in
-    absurd (calls_end s p c _ end st h.caller_below h.stands.bus_is refl (ap (λ (x : LineSet). x.sel) h.caller) (λ lat there. moved _ _ (goes_on_due s p w c t0 t3 lat _ st.devices h.caller_below there h.stands.connection_is (stage_is p _ _ _ _ h.stands) h.caller) (answered_acts m (device_with c lat (calling_lines m false x) (own_time p c)) (want_at s p c) k t1 t2 t3)))
+    absurd (calls_end s p c _ end st h.caller_below h.stands.bus_is refl (ap (λ (x : LineSet). x.sel) h.caller)
+    (λ lat there. moved _ _ (goes_on_due s p w c t0 t3 lat _ st.devices h.caller_below there h.stands.connection_is
+    (stage_is p _ _ _ _ h.stands) h.caller)
+    (answered_acts m (device_with c lat (calling_lines m false x) (own_time p c)) (want_at s p c) k t1 t2 t3)))
 free_at_end s p end st bound alone (after_takeover c k t0 t1 t2 t3 t4 x e f g) =
     let h = g.here in
     let w : Calling = resumed_calling k t1 t2 t3 t4 in
-    absurd (calls_end s p c _ end st h.caller_below h.stands.bus_is refl (ap (λ (x : LineSet). x.sel) h.caller) (λ lat there. record { row = _; is = goes_on_due s p w c t0 t3 lat _ st.devices h.caller_below there h.stands.connection_is (stage_is p _ _ _ _ h.stands) h.caller }))
+    absurd (calls_end s p c _ end st h.caller_below h.stands.bus_is refl (ap (λ (x : LineSet). x.sel) h.caller)
+    (λ lat there. record {
+      row = _;
+      is = goes_on_due s p w c t0 t3 lat _ st.devices h.caller_below there h.stands.connection_is
+          (stage_is p _ _ _ _ h.stands) h.caller;
+    }))
 free_at_end s p end st bound alone (in_reset h) = absurd (reset_ends s p end st h.reset)
-free_at_end s p end st bound alone (in_connection n e calm h) = absurd (true≢false (sym (sym alone ∙ (λ i. is_some (e i) && not (calm i)))))
+free_at_end s p end st bound alone (in_connection n e calm h) =
+    absurd (true≢false (sym (sym alone ∙ (λ i. is_some (e i) && not (calm i)))))

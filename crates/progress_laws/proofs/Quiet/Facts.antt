@@ -26,7 +26,12 @@ joined s [] wants o prompt =
 joined s (row ∷ p) wants o prompt =
     let w = whole s (row ∷ p) o prompt in
     let was = joined s p wants o prompt.0 in
-    record { stood = w.stood; ends = w.ends; bound = bound_next s p row (obeys_fits s o) wants prompt was.stood ((row_none p row).1 w.stood.standing.lawful.1) was.bound }
+    record {
+      stood = w.stood;
+      ends = w.ends;
+      bound = bound_next s p row (obeys_fits s o) wants prompt was.stood
+          ((row_none p row).1 w.stood.standing.lawful.1) was.bound;
+    }
 
 -- ---- the bus
 
@@ -37,7 +42,8 @@ free_when_ended s p j end = go j.stood.here
     go (apart h alone) = free_at_end s p end j.stood.standing j.bound.caller alone h
     go (linked n h) =
         let e = sides_are s p n h in
-        absurd (goes_on s p n end j.stood.standing (ends_there s p n e.0 j.stood.standing e.1 (j.ends n (link_connection s p n h))) (link_calm s p n h) h)
+        absurd (goes_on s p n end j.stood.standing
+        (ends_there s p n e.0 j.stood.standing e.1 (j.ends n (link_connection s p n h))) (link_calm s p n h) h)
 
 -- ---- the rules at the end
 
@@ -50,7 +56,9 @@ all_kept kept h [] = tt
 all_kept kept h (n ∷ rules) = (h n, all_kept kept h rules)
 
 -- Any rule at an end at this time, where these hold that set a latest time.
-end_keeps : (v : Seen) (t n : ℕ) → is_in_order v t ≡ true → is_cleared v t ≡ true → is_left v t v.call ≡ true → initiator_released v t ≡ true → target_released v t ≡ true → is_quiet_in_reset v t ≡ true → keeps_at_end n v t ≡ true
+end_keeps : (v : Seen) (t n : ℕ) → is_in_order v t ≡ true → is_cleared v t ≡ true → is_left v t v.call ≡ true
+    → initiator_released v t ≡ true → target_released v t ≡ true → is_quiet_in_reset v t ≡ true
+    → keeps_at_end n v t ≡ true
 end_keeps v t n order cleared left initiator target quiet =
     true_by_test (not (stands_in_reset n) && is_reset v) (end_test n v t)
     (one_of (n == 1) _ _ order
@@ -65,14 +73,12 @@ unfolding seen_with
 end_kept s p h =
     let t : ℕ = last_time p in
     let v : Seen = seen p (end_row t) in
-    all_kept (obeys_at_end p t)
-    (λ n. end_keeps v t n (not_later t)
+    all_kept (obeys_at_end p t) (λ n. end_keeps v t n (not_later t)
     (or_right _ _ (or_right _ _ (ap (λ (l : LineSet). is_within l only_rst) h.stands.bus_is)))
-    (ap (is_left v t) h.stands.call_is)
-    (ap (initiator_released_of v t) h.stands.connection_is)
+    (ap (is_left v t) h.stands.call_is) (ap (initiator_released_of v t) h.stands.connection_is)
     (ap (target_released_of v t) h.stands.connection_is)
-    (ap (λ (q : Bool). implies q (nat_le t (v.times.rst + BUS_CLEAR_DELAY) || is_within v.change.before only_rst)) (ap (λ (l : LineSet). l.rst) h.stands.bus_is)))
-    judged_rules
+    (ap (λ (q : Bool). implies q (nat_le t (v.times.rst + BUS_CLEAR_DELAY) || is_within v.change.before only_rst))
+    (ap (λ (l : LineSet). l.rst) h.stands.bus_is))) judged_rules
 
 pub lawful_when_ended : (s : ScenarioValue) (p : List Row) → Joined s p → IsEnded s p → IsLawful p (last_time p)
 lawful_when_ended s p j end = (j.stood.standing.lawful, end_kept s p (free_when_ended s p j end))
@@ -80,7 +86,8 @@ lawful_when_ended s p j end = (j.stood.standing.lawful, end_kept s p (free_when_
 -- ---- what is left to do
 
 -- No device of the scenario wants the bus.
-pub unwanted_when_ended : (s : ScenarioValue) (p : List Row) → Joined s p → IsEnded s p → (d lat : ℕ) → d < 8 → latency_of s d ≡ Some lat → want_time s (run_state s p) d ≡ None
+pub unwanted_when_ended : (s : ScenarioValue) (p : List Row) → Joined s p → IsEnded s p → (d lat : ℕ) → d < 8
+    → latency_of s d ≡ Some lat → want_time s (run_state s p) d ≡ None
 unwanted_when_ended s p j end d lat lt there = go (want_time s (run_state s p) d) refl
   where
     h : FreeBus s p
@@ -91,6 +98,7 @@ unwanted_when_ended s p j end d lat lt there = go (want_time s (run_state s p) d
 
     go : (o : Option ℕ) → want_time s (run_state s p) d ≡ o → want_time s (run_state s p) d ≡ None
     go None e = e
-    go (Some w) e =
-        absurd (calm_end s p d end j.stood.standing.devices lt (ap (λ (l : LineSet). l.rst) h.stands.bus_is)
-        (moved _ _ (free_due_is s p d lat (free_since p) j.stood.standing.devices lt there h.stands.connection_is here (h.quiet d lt) ∙ ap (free_due (device_with d lat none (own_time p d)) (free_since p)) e) (record { row = _; is = refl })))
+    go (Some w) e = absurd (calm_end s p d end j.stood.standing.devices lt (ap (λ (l : LineSet). l.rst) h.stands.bus_is)
+        (moved _ _ (free_due_is s p d lat (free_since p) j.stood.standing.devices lt there h.stands.connection_is here
+        (h.quiet d lt) ∙ ap (free_due (device_with d lat none (own_time p d)) (free_since p)) e)
+        (record { row = _; is = refl })))

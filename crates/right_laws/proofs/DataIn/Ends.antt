@@ -1,5 +1,5 @@
--- As a process that does not write runs, and ends GOOD, its data pointer stands past the bytes of its reply: the last of its runs is done, or
--- it gives none (6.1.5.1, 6.6.6, 7.3).
+-- As a process that does not write runs, and ends GOOD, its data pointer stands past the bytes of its reply: the last
+-- of its runs is done, or it gives none (6.1.5.1, 6.6.6, 7.3).
 use Rattle.right_laws.proofs
 use proofs.Names.{ℕ, ◌≡◌, ◌⊎◌, inl, inr, ◌+◌, ◌-◌, ◌≤◌, arith, Bool, true, false, ◌==◌, ◌∙◌, List, [], ◌∷◌, length}
 use proofs.Names.{Option, Some, None, refl, sym, ap, subst, and_parts, ltb-false, same_Some, if◌then◌else◌, is_some}
@@ -20,18 +20,26 @@ use proofs.Ran.{Open.{none_is}, Sent.{answer_of}, Shown.{IsAnswer, RunsAs, runs_
 -- ---- the last run
 
 -- DATA IN is left for STATUS: no run follows.
-last_read : (v : Serving) (attention : Bool) (t : Task) → v.task ≡ Some t → is_status_next (phase_leaving v attention Phase.DataIn).to ≡ true → nat_lt (t.runs + 1) (runs_in_all (policy_of v.def) t) ≡ false
+last_read : (v : Serving) (attention : Bool) (t : Task) → v.task ≡ Some t
+    → is_status_next (phase_leaving v attention Phase.DataIn).to ≡ true
+    → nat_lt (t.runs + 1) (runs_in_all (policy_of v.def) t) ≡ false
 last_read v attention t e status = attends attention status
   where
-    ends : (q : Bool) → nat_lt (t.runs + 1) (runs_in_all (policy_of v.def) t) ≡ q → is_status_next (if q then disconnection (disconnect_messages (policy_of v.def)) else phase_entry Phase.Status).to ≡ true → nat_lt (t.runs + 1) (runs_in_all (policy_of v.def) t) ≡ false
+    ends : (q : Bool) → nat_lt (t.runs + 1) (runs_in_all (policy_of v.def) t) ≡ q → is_status_next
+        (if q then disconnection (disconnect_messages (policy_of v.def)) else phase_entry Phase.Status).to ≡ true
+        → nat_lt (t.runs + 1) (runs_in_all (policy_of v.def) t) ≡ false
     ends true f z = wrong' z
     ends false f z = f
 
-    attends : (a : Bool) → is_status_next (unless_attention a (with_task v.task (λ x. after_run (policy_of v.def) x))).to ≡ true → nat_lt (t.runs + 1) (runs_in_all (policy_of v.def) t) ≡ false
+    attends : (a : Bool)
+        → is_status_next (unless_attention a (with_task v.task (λ x. after_run (policy_of v.def) x))).to ≡ true
+        → nat_lt (t.runs + 1) (runs_in_all (policy_of v.def) t) ≡ false
     attends true z = wrong' z
-    attends false z = ends (nat_lt (t.runs + 1) (runs_in_all (policy_of v.def) t)) refl (sym (ap (λ (o : Option Task). is_status_next (with_task o (λ x. after_run (policy_of v.def) x)).to) e) ∙ z)
+    attends false z = ends (nat_lt (t.runs + 1) (runs_in_all (policy_of v.def) t)) refl
+        (sym (ap (λ (o : Option Task). is_status_next (with_task o (λ x. after_run (policy_of v.def) x)).to) e) ∙ z)
 
-last_all : (policy : Policy) (t : Task) → RunsFit policy t → nat_lt (t.runs + 1) (runs_in_all policy t) ≡ false → t.moved ≤ (run_at policy t t.runs).start + run_length policy t
+last_all : (policy : Policy) (t : Task) → RunsFit policy t → nat_lt (t.runs + 1) (runs_in_all policy t) ≡ false
+    → t.moved ≤ (run_at policy t t.runs).start + run_length policy t
 last_all policy t f last = some (t.moved == 0) refl t.blocks refl
   where
     whole : (m : ℕ) → m ≤ 0 + (m - 0)
@@ -40,18 +48,22 @@ last_all policy t f last = some (t.moved == 0) refl t.blocks refl
     none : (m a : ℕ) → m ≡ 0 → m ≤ a
     none m a e = omega (arith, e)
 
-    some : (q : Bool) → (t.moved == 0) ≡ q → (o : Option ℕ) → t.blocks ≡ o → t.moved ≤ (run_at policy t t.runs).start + run_length policy t
+    some : (q : Bool) → (t.moved == 0) ≡ q → (o : Option ℕ) → t.blocks ≡ o
+        → t.moved ≤ (run_at policy t t.runs).start + run_length policy t
     some true z o e = none t.moved ((run_at policy t t.runs).start + run_length policy t) (zero_of t.moved z)
-    some false z None e = subst (λ (b : Option ℕ). t.moved ≤ (run_in policy b t.size t.moved t.runs).start + ((run_in policy b t.size t.moved t.runs).end - (run_in policy b t.size t.moved t.runs).start)) (sym e) (whole t.moved)
-    some false z (Some blocks) e = last_run policy t (record { blocks = blocks; blocks_are = e; moved = f.moved blocks e z; runs = runs_blocks policy f.most }) z last
+    some false z None e = subst (λ (b : Option ℕ). t.moved ≤ (run_in policy b t.size t.moved t.runs).start
+        + ((run_in policy b t.size t.moved t.runs).end - (run_in policy b t.size t.moved t.runs).start)) (sym e)
+        (whole t.moved)
+    some false z (Some blocks) e = last_run policy t
+        (record { blocks = blocks; blocks_are = e; moved = f.moved blocks e z; runs = runs_blocks policy f.most }) z
+        last
 
 -- ---- its runs are not all made
 
 some_total : (policy : Policy) (t : Task) → RunsFit policy t → (t.moved == 0) ≡ false → 1 ≤ runs_in policy t.blocks
-some_total policy t f some =
-    by_option t.blocks
-    (λ e. subst (λ (b : Option ℕ). 1 ≤ runs_in policy b) (sym e) (omega arith))
-    (λ blocks e. subst (λ (b : Option ℕ). 1 ≤ runs_in policy b) (sym e) (some_run policy blocks f.most (zero_blocks blocks t.size t.moved some (f.moved blocks e some))))
+some_total policy t f some = by_option t.blocks (λ e. subst (λ (b : Option ℕ). 1 ≤ runs_in policy b)
+    (sym e) (omega arith)) (λ blocks e. subst (λ (b : Option ℕ). 1 ≤ runs_in policy b) (sym e)
+    (some_run policy blocks f.most (zero_blocks blocks t.size t.moved some (f.moved blocks e some))))
 
 clash : (made whole : ℕ) → 1 ≤ whole → whole ≤ made → HasRunLeft whole made → ⊥
 clash made whole one few (inl z) = absurd omega (arith, one, few, z)
@@ -60,13 +72,16 @@ clash made whole one few (inr z) = absurd omega (arith, few, z)
 none_given : (a b m : ℕ) → m ≡ a → m ≡ 0 → a ≤ b
 none_given a b m e z = omega (arith, e, z)
 
-all_given : (active start requests length_ moved given : ℕ) → active ≡ start + requests → requests ≡ length_ → moved ≤ start + length_ → moved ≡ given → given ≤ active
+all_given : (active start requests length_ moved given : ℕ) → active ≡ start + requests → requests ≡ length_
+    → moved ≤ start + length_ → moved ≡ given → given ≤ active
 all_given active start requests length_ moved given e f h g = omega (arith, e, f, h, g)
 
 -- ---- the row
 
-pub points_at_end : (s : ScenarioValue) (p : List Row) (row : Row) → ReadRow s p row → Whole s p → Whole s (row ∷ p) → RunsLeftOf IsReader s p → PointsAtEnd s (run_state s p) row
-points_at_end s p row w was next left q reply is reading = by (here_goes s k row answer.link q.id (λ e. (was.facts.items.items.apart e).0) next.rows_are.1 answer.here)
+pub points_at_end : (s : ScenarioValue) (p : List Row) (row : Row) → ReadRow s p row → Whole s p → Whole s (row ∷ p)
+    → RunsLeftOf IsReader s p → PointsAtEnd s (run_state s p) row
+points_at_end s p row w was next left q reply is reading =
+    by (here_goes s k row answer.link q.id (λ e. (was.facts.items.items.apart e).0) next.rows_are.1 answer.here)
   where
     k : RunState
     k = run_state s p
@@ -84,10 +99,12 @@ points_at_end s p row w was next left q reply is reading = by (here_goes s k row
     runs_with = row_runs s k row q.id is.runs
 
     now : reply_in next.places.array.replies q.id ≡ Some (reply_now was.places.array q)
-    now = runs_so s was.places.array next.places.array q shown w.obeys was.places.sound is.process_is runs_with (sym (λ i. array_after_events s (was.places.array_is i) shown) ∙ next.places.array_is)
+    now = runs_so s was.places.array next.places.array q shown w.obeys was.places.sound is.process_is runs_with
+        (sym (λ i. array_after_events s (was.places.array_is i) shown) ∙ next.places.array_is)
 
     same : reply_now (array_of s k) q ≡ reply
-    same = (λ i. reply_now (or_start s (was.places.array_is i)) q) ∙ same_Some (reply_now was.places.array q) reply (sym now ∙ (λ i. reply_in (or_start s (sym next.places.array_is i)).replies q.id) ∙ is.reply_is)
+    same = (λ i. reply_now (or_start s (was.places.array_is i)) q) ∙ same_Some (reply_now was.places.array q) reply
+        (sym now ∙ (λ i. reply_in (or_start s (sym next.places.array_is i)).replies q.id) ∙ is.reply_is)
 
     ran : shows_run shown ≡ true
     ran = go runs_with
@@ -103,7 +120,8 @@ points_at_end s p row w was next left q reply is reading = by (here_goes s k row
     t = task_here s k q
 
     moved : t.moved ≡ length reply.bytes
-    moved = (λ i. length (if reading i then (if (reply_now (array_of s k) q).status == GOOD then q.sent else []) else (reply_now (array_of s k) q).bytes)) ∙ ap (λ (r : Reply). length r.bytes) same
+    moved = (λ i. length (if reading i then (if (reply_now (array_of s k) q).status == GOOD then q.sent else [])
+        else (reply_now (array_of s k) q).bytes)) ∙ ap (λ (r : Reply). length r.bytes) same
 
     by : GoesSo s k row → length reply.bytes ≤ (carried_here k q.id).moved.active
     by v = cases (runs_from (serving_of s k n.target) (bus_of k).atn (phase_of (bus_of k)) r.id r.turn)
@@ -112,13 +130,15 @@ points_at_end s p row w was next left q reply is reading = by (here_goes s k row
         n = v.connection
 
         lines : LinesOf s p row n v.change
-        lines = lines_of s p row n v.change was.stood.standing.devices (least_is s p row w.prompt.1).inside v.goes.calm v.goes.row_is
+        lines = lines_of s p row n v.change was.stood.standing.devices
+            (least_is s p row w.prompt.1).inside v.goes.calm v.goes.row_is
 
         con : k.story.bus_state.connection ≡ Some n
         con = v.goes.row_is.connection_is
 
         served : k.served ≡ Some (process q.id)
-        served = known_served s k row n v.change answer.link q.id was.stood.books v.goes answer.here.link_is answer.here.item_is
+        served = known_served s k row n v.change answer.link q.id was.stood.books v.goes answer.here.link_is
+            answer.here.item_is
 
         served_is : process_served s k ≡ Some q
         served_is = ap (process_item s) served ∙ is.process_is
@@ -136,46 +156,67 @@ points_at_end s p row w was next left q reply is reading = by (here_goes s k row
         well = w.pointers.served n q con v.goes.calm served_is reading
 
         f : FitsRuns s k q t
-        f = fits_reads s k q w.obeys (was.stood.plain.array ∙ ap (λ (x : Story). array_after s x.history) (sym was.stood.plain.story)) reading
+        f = fits_reads s k q w.obeys
+            (was.stood.plain.array ∙ ap (λ (x : Story). array_after s x.history) (sym was.stood.plain.story)) reading
 
         policy : policy_of (target_def_of s n.target) ≡ policy_for s q
         policy = ap (λ (x : ℕ). policy_of (target_def_of s x)) (sym well.target_is)
 
         placed : PlacedIn was.places.array q k.exchange.plan k.handshakes (bus_of k).atn (phase_of (bus_of k))
-        placed = subst (λ (b : Bool). PlacedIf b was.places.array q k.exchange.plan k.handshakes (bus_of k).atn (phase_of (bus_of k))) r.begun (was.places.placed n con v.goes.calm q served_is)
+        placed = subst (λ (b : Bool). PlacedIf b was.places.array q k.exchange.plan k.handshakes (bus_of k).atn
+            (phase_of (bus_of k))) r.begun (was.places.placed n con v.goes.calm q served_is)
 
         listed : {A : Type 0} → AnsweredOpen was.places.array q.id → A
-        listed a = wrong' (sym unanswered ∙ ap (λ (x : Option Array). is_some (reply_in (or_start s x).replies q.id)) was.places.array_is ∙ ap (λ (x : Option Reply). is_some x) a.answered.given)
+        listed a = wrong' (sym unanswered
+            ∙ ap (λ (x : Option Array). is_some (reply_in (or_start s x).replies q.id)) was.places.array_is
+            ∙ ap (λ (x : Option Reply). is_some x) a.answered.given)
 
-        before_status : phase_of (bus_of k) ≡ Phase.MessageIn → k.exchange.plan.next ≡ Next.Status → length reply.bytes ≤ (carried_here k q.id).moved.active
-        before_status phase to = go (subst (PlacedIn was.places.array q k.exchange.plan k.handshakes (bus_of k).atn) phase placed)
+        before_status : phase_of (bus_of k) ≡ Phase.MessageIn → k.exchange.plan.next ≡ Next.Status
+            → length reply.bytes ≤ (carried_here k q.id).moved.active
+        before_status phase to =
+            go (subst (PlacedIn was.places.array q k.exchange.plan k.handshakes (bus_of k).atn) phase placed)
           where
-            go : PlacedBefore was.places.array q k.exchange.plan.messages k.exchange.plan.next ⊎ IsTaken was.places.array q k.exchange.plan k.handshakes (bus_of k).atn → length reply.bytes ≤ (carried_here k q.id).moved.active
+            go : PlacedBefore was.places.array q k.exchange.plan.messages k.exchange.plan.next
+                ⊎ IsTaken was.places.array q k.exchange.plan k.handshakes (bus_of k).atn
+                → length reply.bytes ≤ (carried_here k q.id).moved.active
             go (inl z) = listed (subst (PlacedBefore was.places.array q k.exchange.plan.messages) to z)
             go (inr z) = wrong' (sym (ap frees_bus to) ∙ ap frees_bus z.next_is)
 
-        not_all : nat_lt r.turn.task.runs (runs_in_all (policy_of (target_def_of s n.target)) r.turn.task) ≡ false → length reply.bytes ≤ (carried_here k q.id).moved.active
-        not_all e =
-            by_bool (t.moved == 0)
-            (λ z. none_given (length reply.bytes) (carried_here k q.id).moved.active t.moved moved (zero_of t.moved z))
-            (λ z. absurd (clash (progress_in k.progress q.id).runs (run_total s q) (some_total (policy_for s q) t f.fit z) (all z) (left q is.process_is reading (none_is (reply_in (array_of s k).replies q.id) unanswered))))
+        not_all : nat_lt r.turn.task.runs (runs_in_all (policy_of (target_def_of s n.target)) r.turn.task) ≡ false
+            → length reply.bytes ≤ (carried_here k q.id).moved.active
+        not_all e = by_bool (t.moved == 0) (λ z. none_given (length reply.bytes)
+            (carried_here k q.id).moved.active t.moved moved (zero_of t.moved z)) (λ z. absurd
+            (clash (progress_in k.progress q.id).runs (run_total s q) (some_total (policy_for s q) t f.fit z) (all z)
+            (left q is.process_is reading (none_is (reply_in (array_of s k).replies q.id) unanswered))))
           where
             all : (t.moved == 0) ≡ false → run_total s q ≤ (progress_in k.progress q.id).runs
-            all some = subst (λ (x : ℕ). x ≤ t.runs) (λ i. if some i then 0 else runs_in (policy_for s q) t.blocks) (ltb-false t.runs (runs_in_all (policy_for s q) t) (sym (λ i. nat_lt (task i).runs (runs_in_all (policy i) (task i))) ∙ e))
+            all some = subst (λ (x : ℕ). x ≤ t.runs) (λ i. if some i then 0 else runs_in (policy_for s q) t.blocks)
+                (ltb-false t.runs (runs_in_all (policy_for s q) t)
+                (sym (λ i. nat_lt (task i).runs (runs_in_all (policy i) (task i))) ∙ e))
 
         done : phase_of (bus_of k) ≡ Phase.DataIn → length reply.bytes ≤ (carried_here k q.id).moved.active
         done phase =
             let here : Policy = policy_of (target_def_of s n.target) in
             let task_is = ap (task_if s k) served_is in
-            let active = active_is s k q t k.handshakes.requests f served_is task_is phase refl r.begun (λ l x. x.active) well.pointers in
-            let requests = read_done s p row n w lines.con lines.calm lines.off lines.after (sym was.stood.plain.begun ∙ r.begun) (ap changes_phase (sym (change_plain s row p was.stood.standing.devices (least_is s p row w.prompt.1).inside)) ∙ r.left) t task_is phase in
-            let last = last_read (serving_of s k n.target) (bus_of k).atn t task_is (ap (λ (x : Phase). is_status_next (phase_leaving (serving_of s k n.target) (bus_of k).atn x).to) (sym phase) ∙ r.turn.status) in
+            let active = active_is s k q t k.handshakes.requests f served_is task_is phase refl r.begun
+            (λ l x. x.active) well.pointers in
+            let requests = read_done s p row n w lines.con lines.calm lines.off lines.after
+            (sym was.stood.plain.begun ∙ r.begun) (ap changes_phase
+            (sym (change_plain s row p was.stood.standing.devices (least_is s p row w.prompt.1).inside)) ∙ r.left)
+            t task_is phase in
+            let last = last_read (serving_of s k n.target) (bus_of k).atn t task_is
+            (ap (λ (x : Phase). is_status_next (phase_leaving (serving_of s k n.target) (bus_of k).atn x).to)
+            (sym phase) ∙ r.turn.status) in
             let whole = last_all here t (subst (λ (x : Policy). RunsFit x t) (sym policy) f.fit) last in
-            all_given (carried_here k q.id).moved.active (run_at here t t.runs).start k.handshakes.requests (run_length here t) t.moved (length reply.bytes)
-            (subst (λ (x : ℕ). (carried_here k q.id).moved.active ≡ (run_at (policy_of (target_def_of s x)) t t.runs).start + k.handshakes.requests) well.target_is active) requests whole moved
+            all_given (carried_here k q.id).moved.active (run_at here t t.runs).start k.handshakes.requests
+            (run_length here t) t.moved (length reply.bytes) (subst (λ (x : ℕ). (carried_here k q.id).moved.active
+            ≡ (run_at (policy_of (target_def_of s x)) t t.runs).start + k.handshakes.requests) well.target_is active)
+            requests whole moved
 
-        cases : RunsFrom (serving_of s k n.target) r.turn.task (phase_of (bus_of k)) → length reply.bytes ≤ (carried_here k q.id).moved.active
+        cases : RunsFrom (serving_of s k n.target) r.turn.task (phase_of (bus_of k))
+            → length reply.bytes ≤ (carried_here k q.id).moved.active
         cases (answered phase to) = before_status phase to
         cases (moved_all e) = not_all e
         cases (reads phase) = done phase
-        cases (writes phase struck) = wrong (sym (writes_there s k q (was.stood.planned n lines.con lines.calm) r.begun served_is phase) ∙ reading)
+        cases (writes phase struck) = wrong
+            (sym (writes_there s k q (was.stood.planned n lines.con lines.calm) r.begun served_is phase) ∙ reading)

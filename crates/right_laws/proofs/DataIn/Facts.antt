@@ -1,5 +1,5 @@
--- What is known of the reads after any rows of a prompt trace: where their pointers stand as a byte of DATA IN crosses and as they run, and
--- that as COMMAND is left they have carried no data (6.1.5.1, 6.6.6, 6.6.20).
+-- What is known of the reads after any rows of a prompt trace: where their pointers stand as a byte of DATA IN crosses
+-- and as they run, and that as COMMAND is left they have carried no data (6.1.5.1, 6.6.6, 6.6.20).
 use Rattle.right_laws.proofs
 use proofs.Names.{List, [], ◌∷◌, Row, ScenarioValue, Obeys, process, IsPrompt, RunState, run_state, obeys_fits}
 use proofs.Names.{seats_are, writers, least_is, NextStood, data_premises, sent_grows, unshown_ready, left_next}
@@ -22,10 +22,12 @@ pub record ReadBooks (s : ScenarioValue) (p : List Row) : Type 0 where
   pub senseless : SenselessFacts s p
   pub clean : CleanFacts s p
 
-next_of : (s : ScenarioValue) (p : List Row) (row : Row) → Obeys s → IsPrompt s (row ∷ p) → ReadBooks s p → NextStood s p row
+next_of : (s : ScenarioValue) (p : List Row) (row : Row) → Obeys s → IsPrompt s (row ∷ p) → ReadBooks s p
+    → NextStood s p row
 next_of s p row o prompt was = standing_next s p row o prompt was.whole
 
-known_of : (s : ScenarioValue) (p : List Row) (row : Row) → Obeys s → IsPrompt s (row ∷ p) → ReadBooks s p → Known s p row
+known_of : (s : ScenarioValue) (p : List Row) (row : Row) → Obeys s → IsPrompt s (row ∷ p) → ReadBooks s p
+    → Known s p row
 known_of s p row o prompt was = record {
   was = was.whole.stood;
   next = next_of s p row o prompt was;
@@ -36,7 +38,8 @@ known_of s p row o prompt was = record {
   shown = was.whole.shown;
 }
 
-row_of : (s : ScenarioValue) (p : List Row) (row : Row) → Obeys s → IsPrompt s (row ∷ p) → ReadBooks s p → ReadRow s p row
+row_of : (s : ScenarioValue) (p : List Row) (row : Row) → Obeys s → IsPrompt s (row ∷ p) → ReadBooks s p
+    → ReadRow s p row
 row_of s p row o prompt was = record {
   obeys = o;
   prompt = prompt;
@@ -70,7 +73,8 @@ read_books s (row ∷ p) o prompt =
       offers = offer_next s p row o prompt was.whole.stood nx was.offers;
       counts = counts_next s p row w;
       pointers = pointers_next s p row w (record {
-        anew = (data_premises s p row o prompt was.whole.stood was.whole.facts.items (λ n alone after. unshown_ready s p n was.whole.stood.standing.devices was.whole.places was.whole.shown alone)).anew;
+        anew = (data_premises s p row o prompt was.whole.stood was.whole.facts.items (λ n alone after. unshown_ready s p
+            n was.whole.stood.standing.devices was.whole.places was.whole.shown alone)).anew;
         items = then.facts.items;
         sent = λ id served. sent_grows s k row (process id) (was.whole.places.sent id served);
         offers = was.whole.facts.offers;
@@ -78,11 +82,14 @@ read_books s (row ∷ p) o prompt =
       left = left_next IsReader s p row o prompt was.whole.stood nx was.whole.holds was.pointers then.places was.left;
       unmoved = unmoved_next s p row o prompt w.known was.whole.instructed was.unmoved;
       senseless = senseless_next s p row w.known was.senseless;
-      clean = clean_next s p row k.progress (writers s p) w.known (none_at_arrival s p row prompt w.known was.whole.instructed was.whole.commands was.unmoved) was.senseless was.whole.writes.units was.clean;
+      clean = clean_next s p row k.progress (writers s p) w.known
+          (none_at_arrival s p row prompt w.known was.whole.instructed was.whole.commands was.unmoved) was.senseless
+          was.whole.writes.units was.clean;
     }
 
 -- So this holds of each row.
-pub gives_by : (s : ScenarioValue) (p : List Row) (row : Row) → Obeys s → IsPrompt s (row ∷ p) → GivesBy s (run_state s p) row
+pub gives_by : (s : ScenarioValue) (p : List Row) (row : Row) → Obeys s → IsPrompt s (row ∷ p)
+    → GivesBy s (run_state s p) row
 gives_by s p row o prompt =
     let was = read_books s p o prompt.0 in
     let then = read_books s (row ∷ p) o prompt in

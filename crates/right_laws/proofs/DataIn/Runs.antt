@@ -15,12 +15,14 @@ record IsRead (r : Result Command CdbFault) (blocks : ℕ) : Type 0 where
   command : Command
   command_is : r ≡ Ok command
   lba : ℕ
-  gives : (m : CommandContext) (sent : List ℕ) → (command_execution m command sent).reply.bytes ≡ bytes_at m.contents lba blocks
+  gives : (m : CommandContext) (sent : List ℕ)
+      → (command_execution m command sent).reply.bytes ≡ bytes_at m.contents lba blocks
 
 no_blocks : {A : Type 0} (blocks : ℕ) → (let o : Option ℕ = None in o) ≡ Some blocks → A
 no_blocks blocks e = absurd cc
 
-is_read : (r : Result Command CdbFault) (blocks : ℕ) → is_write r ≡ false → blocks_in (range_in r) ≡ Some blocks → IsRead r blocks
+is_read : (r : Result Command CdbFault) (blocks : ℕ) → is_write r ≡ false → blocks_in (range_in r) ≡ Some blocks
+    → IsRead r blocks
 is_read (Err fault) blocks w e = no_blocks blocks e
 is_read (Ok Command.TestUnitReady) blocks w e = no_blocks blocks e
 is_read (Ok (Command.RequestSense room)) blocks w e = no_blocks blocks e
@@ -44,7 +46,8 @@ is_read (Ok (Command.Write10 lba count)) blocks w e = wrong w
 -- ---- what it moves
 
 -- What moves some bytes ends GOOD, at a disk.
-pub moved_good : (a : Array) (q : Process) → (moved_count q (reply_now a q) == 0) ≡ false → (reply_now a q).status ≡ GOOD
+pub moved_good : (a : Array) (q : Process) → (moved_count q (reply_now a q) == 0) ≡ false
+    → (reply_now a q).status ≡ GOOD
 moved_good a q some = go ((reply_now a q).status == GOOD) refl
   where
     either : (b : Bool) → (let bytes : List ℕ = if b then [] else [] in length bytes) ≡ 0
@@ -54,38 +57,51 @@ moved_good a q some = go ((reply_now a q).status == GOOD) refl
     none : ((reply_now a q).status == GOOD) ≡ false → moved_count q (reply_now a q) ≡ 0
     none e =
         let m : CommandContext = context_at a (nexus_of q) (unit_state_at a.units q.target q.unit) in
-        (λ i. length (if is_writing q then (if e i then q.sent else []) else (undone m q.cdb q.sent e).bytes i)) ∙ either (is_writing q)
+        (λ i. length (if is_writing q then (if e i then q.sent else []) else (undone m q.cdb q.sent e).bytes i))
+        ∙ either (is_writing q)
 
     go : (g : Bool) → ((reply_now a q).status == GOOD) ≡ g → (reply_now a q).status ≡ GOOD
     go true e = eqb-true (reply_now a q).status GOOD e
     go false e = wrong (sym (ap (λ (x : ℕ). x == 0) (none e)) ∙ some)
 
-moved_reads : (a : Array) (q : Process) (blocks : ℕ) → HasWhole a → is_writing q ≡ false → blocks_in (range_in (command_of q.cdb)) ≡ Some blocks → (moved_count q (reply_now a q) == 0) ≡ false → moved_count q (reply_now a q) ≡ blocks * size_of (unit_state_at a.units q.target q.unit)
-moved_reads a q blocks whole reads is some = moved ∙ at (unit_state_at a.units q.target q.unit) refl (moved_good a q some)
+moved_reads : (a : Array) (q : Process) (blocks : ℕ) → HasWhole a → is_writing q ≡ false
+    → blocks_in (range_in (command_of q.cdb)) ≡ Some blocks → (moved_count q (reply_now a q) == 0) ≡ false
+    → moved_count q (reply_now a q) ≡ blocks * size_of (unit_state_at a.units q.target q.unit)
+moved_reads a q blocks whole reads is some =
+    moved ∙ at (unit_state_at a.units q.target q.unit) refl (moved_good a q some)
   where
     moved : moved_count q (reply_now a q) ≡ length (reply_now a q).bytes
-    moved = λ i. length (if reads i then (if (reply_now a q).status == GOOD then q.sent else []) else (reply_now a q).bytes)
+    moved =
+        λ i. length (if reads i then (if (reply_now a q).status == GOOD then q.sent else []) else (reply_now a q).bytes)
 
     r : IsRead (command_of q.cdb) blocks
     r = is_read (command_of q.cdb) blocks reads is
 
-    at : (x : Option UnitState) → unit_state_at a.units q.target q.unit ≡ x → (execution (context_at a (nexus_of q) x) q.cdb q.sent).reply.status ≡ GOOD → length (execution (context_at a (nexus_of q) x) q.cdb q.sent).reply.bytes ≡ blocks * size_of x
-    at None e good =
-        ap (λ (b : List ℕ). length b) (read_gives (context_at a (nexus_of q) None) q.cdb q.sent r.command r.lba blocks r.command_is (r.gives (context_at a (nexus_of q) None) q.sent) good)
+    at : (x : Option UnitState) → unit_state_at a.units q.target q.unit ≡ x
+        → (execution (context_at a (nexus_of q) x) q.cdb q.sent).reply.status ≡ GOOD
+        → length (execution (context_at a (nexus_of q) x) q.cdb q.sent).reply.bytes ≡ blocks * size_of x
+    at None e good = ap (λ (b : List ℕ). length b) (read_gives (context_at a (nexus_of q) None) q.cdb
+        q.sent r.command r.lba blocks r.command_is (r.gives (context_at a (nexus_of q) None) q.sent) good)
         ∙ length_bytes (contents_of None) (λ lba. refl) r.lba blocks
-    at (Some u) e good =
-        ap (λ (b : List ℕ). length b) (read_gives (context_at a (nexus_of q) (Some u)) q.cdb q.sent r.command r.lba blocks r.command_is (r.gives (context_at a (nexus_of q) (Some u)) q.sent) good)
-        ∙ length_bytes u.contents (subst (λ (x : Option UnitState). (lba : ℕ) → length (Rattle.bus_due.specs.disk_array.specs.Contents.block_at (contents_of x) lba) ≡ (contents_of x).size) e (whole q.target q.unit)) r.lba blocks
+    at (Some u) e good = ap (λ (b : List ℕ). length b) (read_gives (context_at a (nexus_of q) (Some u)) q.cdb
+        q.sent r.command r.lba blocks r.command_is (r.gives (context_at a (nexus_of q) (Some u)) q.sent) good)
+        ∙ length_bytes u.contents (subst (λ (x : Option UnitState). (lba : ℕ)
+        → length (Rattle.bus_due.specs.disk_array.specs.Contents.block_at (contents_of x) lba) ≡ (contents_of x).size) e
+        (whole q.target q.unit)) r.lba blocks
 
-pub whole_now : (s : ScenarioValue) (history : List Event) (o : Option Array) → Obeys s → array_after s history ≡ o → HasWhole (or_start s o)
+pub whole_now : (s : ScenarioValue) (history : List Event) (o : Option Array) → Obeys s → array_after s history ≡ o
+    → HasWhole (or_start s o)
 whole_now s history None o e = whole_start s o
 whole_now s history (Some a) o e = whole_always s history a o e
 
-pub fits_reads : (s : ScenarioValue) (k : RunState) (q : Process) → Obeys s → k.array ≡ array_after s k.story.history → is_writing q ≡ false → FitsRuns s k q (task_here s k q)
+pub fits_reads : (s : ScenarioValue) (k : RunState) (q : Process) → Obeys s → k.array ≡ array_after s k.story.history
+    → is_writing q ≡ false → FitsRuns s k q (task_here s k q)
 fits_reads s k q o e reads = record {
   fit = record {
-    moved = λ blocks is some. moved_reads (array_of s k) q blocks (whole_now s k.story.history k.array o (sym e)) reads is some;
+    moved = λ blocks is some. moved_reads (array_of s k) q blocks
+        (whole_now s k.story.history k.array o (sym e)) reads is some;
     most = policies_most s q.target o;
   };
-  step = ap (λ (x : ℕ). step_in (policy_for s q) (blocks_in (range_in (command_of q.cdb))) x) (size_is s (array_of s k) q.target q.unit (lines_now s k.story.history k.array (sym e)));
+  step = ap (λ (x : ℕ). step_in (policy_for s q) (blocks_in (range_in (command_of q.cdb))) x)
+      (size_is s (array_of s k) q.target q.unit (lines_now s k.story.history k.array (sym e)));
 }

@@ -1,4 +1,5 @@
--- Before the target of a connection knows the command, the process that it serves has carried no data; so as COMMAND is left (6.1.6, 7.8).
+-- Before the target of a connection knows the command, the process that it serves has carried no data; so as COMMAND is
+-- left (6.1.6, 7.8).
 use Rattle.right_laws.proofs
 use proofs.Names.{◌≡◌, ◌<◌, Bool, true, false, ◌∙◌, List, [], ◌∷◌, Option, Some, refl, sym, ap, subst, same_Some}
 use proofs.Names.{if◌then◌else◌, is_some, wrong, ProcId, is_command, is_data, connection, receiver_in, bus, Row, Change}
@@ -13,15 +14,16 @@ use proofs.{Given.Crossings.{data_phase}, Ran.{Crossings.{here_goes, known_serve
 use Rattle.trace_laws.specs.bus_books.specs.Traces.{ends}
 
 abbrev pub IsUnmovedServed : ScenarioValue → List Row → Type 0
-IsUnmovedServed s rows =
-    (n : Connection) (p : Process) → connection rows ≡ Some n → (bus rows).rst ≡ false → (instructions s rows).known ≡ false → process_served s (run_state s rows) ≡ Some p
+IsUnmovedServed s rows = (n : Connection) (p : Process) → connection rows ≡ Some n → (bus rows).rst ≡ false
+    → (instructions s rows).known ≡ false → process_served s (run_state s rows) ≡ Some p
     → (carried_here (run_state s rows) p.id).moved.bytes ≡ []
 
 pub unmoved_first : (s : ScenarioValue) → IsUnmovedServed s []
 unmoved_first s n p e = none_some n e
 
 -- Where data move the target knows the command.
-known_in_data : (s : ScenarioValue) (k : RunState) (i : Instructions) (n : Connection) → Instructed s k i n → k.exchange.begun ≡ true → is_data (bus_of k) ≡ true → i.known ≡ true
+known_in_data : (s : ScenarioValue) (k : RunState) (i : Instructions) (n : Connection) → Instructed s k i n
+    → k.exchange.begun ≡ true → is_data (bus_of k) ≡ true → i.known ≡ true
 known_in_data s k i n told b on =
     by_bool n.reselected
     (λ e. (told.again e).0)
@@ -34,7 +36,8 @@ known_in_data s k i n told b on =
     at true z = z
     at false z = z
 
-pub unmoved_next : (s : ScenarioValue) (p : List Row) (row : Row) → Obeys s → IsPrompt s (row ∷ p) → Known s p row → InstructedFacts s p → IsUnmovedServed s p → IsUnmovedServed s (row ∷ p)
+pub unmoved_next : (s : ScenarioValue) (p : List Row) (row : Row) → Obeys s → IsPrompt s (row ∷ p) → Known s p row
+    → InstructedFacts s p → IsUnmovedServed s p → IsUnmovedServed s (row ∷ p)
 unmoved_next s p row o prompt h told was n x con off unknown served = go h.next.row_is
   where
     k : RunState
@@ -53,21 +56,22 @@ unmoved_next s p row o prompt h told was n x con off unknown served = go h.next.
     ql = run_state_plain s (row ∷ p) h.next.stood.standing.devices
 
     begin : (m : Connection) → m ≡ n → Begins s k row m → (carried_here j x.id).moved.bytes ≡ []
-    begin m same b =
-        by_bool m.reselected
-        (λ e. wrong (sym (knows ∙ e) ∙ unknown))
-        (λ e.
-        let fresh : IsFresh k m = items_fresh s p row m o prompt h.was h.items (sym h.was.plain.connection ∙ f.connection_is) (con ∙ ap (λ (y : Connection). Some y) (sym same)) e in
-        let item : fresh.item ≡ process x.id =
-        same_Some fresh.item (process x.id) (sym (serves ∙ ap (λ (q : Bool). if q then item_if (ready_of s k m.target) else aim_of k.story.aims m.initiator) e ∙ fresh.aim_is) ∙ (served_id s j.served x served).0) in
+    begin m same b = by_bool m.reselected (λ e. wrong (sym (knows ∙ e) ∙ unknown))
+        (λ e. let fresh : IsFresh k m = items_fresh s p row m o prompt h.was h.items
+        (sym h.was.plain.connection ∙ f.connection_is) (con ∙ ap (λ (y : Connection). Some y) (sym same)) e in
+        let item : fresh.item ≡ process x.id = same_Some fresh.item (process x.id) (sym
+        (serves ∙ ap (λ (q : Bool). if q then item_if (ready_of s k m.target) else aim_of k.story.aims m.initiator) e
+        ∙ fresh.aim_is) ∙ (served_id s j.served x served).0) in
         moved_stays s p row h x.id (λ l z. none_some l (sym (apart_of s p row h f.connection_is) ∙ z))
-        ∙ ap (λ (c : Option CarriedBytes). (carried_or_nothing c x.id).moved.bytes) (h.items.items.only.carried x.id (ap (has_item k.story.sent.sent) (sym item) ∙ fresh.unsent)))
+        ∙ ap (λ (c : Option CarriedBytes). (carried_or_nothing c x.id).moved.bytes)
+        (h.items.items.only.carried x.id (ap (has_item k.story.sent.sent) (sym item) ∙ fresh.unsent)))
       where
         f : IsFirstRow k row m
         f = b.first
 
         knows : (instructions s (row ∷ p)).known ≡ m.reselected
-        knows = λ i. (instructions_after (f.connection_is i) (f.next_is i) (hearing_of k row (row_reading k.story.bus_state row)) k.exchange.plan (instructions s p)).known
+        knows = λ i. (instructions_after (f.connection_is i) (f.next_is i)
+            (hearing_of k row (row_reading k.story.bus_state row)) k.exchange.plan (instructions s p)).known
 
         serves : j.served ≡ (if m.reselected then item_if (ready_of s k m.target) else aim_of k.story.aims m.initiator)
         serves = λ i. served_after s k (f.connection_is i) (f.next_is i)
@@ -79,21 +83,26 @@ unmoved_next s p row o prompt h told was n x con off unknown served = go h.next.
         l = lines_of s p row m c dv lt g.calm g.row_is
 
         before : (instructions s p).known ≡ false
-        before = known_before (hearing_of k row (reading_in k.story.bus_state m c (is_some (receiver_in m c)))) k.exchange.plan (instructions s p) (sym (ap (λ (i : Instructions). i.known) (told_with s p row m c (is_some (receiver_in m c)) g.row_is refl)) ∙ unknown)
+        before = known_before (hearing_of k row (reading_in k.story.bus_state m c (is_some (receiver_in m c))))
+            k.exchange.plan (instructions s p)
+            (sym (ap (λ (i : Instructions). i.known) (told_with s p row m c (is_some (receiver_in m c)) g.row_is refl))
+            ∙ unknown)
 
         next : (row_reading k.story.bus_state row).next ≡ Some n
-        next = (λ i. Rattle.bus_due.specs.bus_trace.specs.Terms.connection_after (h.was.plain.connection i) (h.was.plain.call i) (change_plain s row p dv lt i) row) ∙ con
+        next = (λ i. Rattle.bus_due.specs.bus_trace.specs.Terms.connection_after
+            (h.was.plain.connection i) (h.was.plain.call i) (change_plain s row p dv lt i) row)
+            ∙ con
 
         before_served : process_served s k ≡ Some x
         before_served = ap (process_item s) (sym (λ i. served_after s k (g.row_is.connection_is i) (next i))) ∙ served
 
-        quiet : (w : Link) → k.story.link ≡ Some w → w.item ≡ Some (process x.id) → (row_reading k.story.bus_state row).crosses ≡ true → is_data (row_reading k.story.bus_state row).change.before ≡ false
-        quiet w e item crosses =
-            by_bool (is_data (row_reading k.story.bus_state row).change.before)
-            (λ z.
-            let on : is_data (bus_of k) ≡ true = ap is_data (g.row_is.bus_is ∙ ap (λ (y : Change). y.before) (sym g.row_is.change_is)) ∙ z in
-            wrong (sym (known_in_data s k (instructions s p) m (told m l.con l.calm) (g.begun crosses) on) ∙ before))
-            (λ z. z)
+        quiet : (w : Link) → k.story.link ≡ Some w → w.item ≡ Some (process x.id)
+            → (row_reading k.story.bus_state row).crosses ≡ true
+            → is_data (row_reading k.story.bus_state row).change.before ≡ false
+        quiet w e item crosses = by_bool (is_data (row_reading k.story.bus_state row).change.before)
+            (λ z. let on : is_data (bus_of k) ≡ true =
+            ap is_data (g.row_is.bus_is ∙ ap (λ (y : Change). y.before) (sym g.row_is.change_is)) ∙ z in wrong
+            (sym (known_in_data s k (instructions s p) m (told m l.con l.calm) (g.begun crosses) on) ∙ before)) (λ z. z)
 
     go : RowOf s k row → (carried_here j x.id).moved.bytes ≡ []
     go (apart e f) = none_some n (sym f ∙ ql.connection ∙ con)
@@ -104,21 +113,25 @@ unmoved_next s p row o prompt h told was n x con off unknown served = go h.next.
 
 -- ---- as COMMAND is left
 
-pub none_at_arrival : (s : ScenarioValue) (p : List Row) (row : Row) → IsPrompt s (row ∷ p) → Known s p row → InstructedFacts s p → CommandFacts s p → IsUnmovedServed s p → NoneAtArrival (run_state s p) row
+pub none_at_arrival : (s : ScenarioValue) (p : List Row) (row : Row) → IsPrompt s (row ∷ p) → Known s p row
+    → InstructedFacts s p → CommandFacts s p → IsUnmovedServed s p → NoneAtArrival (run_state s p) row
 none_at_arrival s p row prompt h told commands was l id link item calm stands turns command =
-    ap (λ (x : ProcId). (carried_here k x).moved.bytes) (sym same) ∙ was n own.0 lines.con lines.calm unknown (ap (process_item s) served ∙ own.1)
+    ap (λ (x : ProcId). (carried_here k x).moved.bytes) (sym same)
+    ∙ was n own.0 lines.con lines.calm unknown (ap (process_item s) served ∙ own.1)
   where
     k : RunState
     k = run_state s p
 
     g : Rattle.right_laws.proofs.Ran.Crossings.GoesSo s k row
-    g = here_goes s k row l id (apart_of s p row h) h.next.row_is (record { link_is = link; item_is = item; calm = calm; stands = stands })
+    g = here_goes s k row l id (apart_of s p row h) h.next.row_is
+        (record { link_is = link; item_is = item; calm = calm; stands = stands })
 
     n : Connection
     n = g.connection
 
     lines : LinesOf s p row n g.change
-    lines = lines_of s p row n g.change h.was.standing.devices (least_is s p row prompt.1).inside g.goes.calm g.goes.row_is
+    lines =
+        lines_of s p row n g.change h.was.standing.devices (least_is s p row prompt.1).inside g.goes.calm g.goes.row_is
 
     served : k.served ≡ Some (process id)
     served = known_served s k row n g.change l id h.was.books g.goes link item
@@ -130,14 +143,14 @@ none_at_arrival s p row prompt h told commands was l id link item calm stands tu
     same = Rattle.trace_laws.specs.bus_books.proofs.Carried.Facts.process_id s id own.0 own.1
 
     phase : phase_of (bus_of k) ≡ Phase.Command
-    phase = command_phase (bus_of k) (ap is_command (g.goes.row_is.bus_is ∙ ap (λ (y : Change). y.before) (sym g.goes.row_is.change_is)) ∙ command)
+    phase = command_phase (bus_of k)
+        (ap is_command (g.goes.row_is.bus_is ∙ ap (λ (y : Change). y.before) (sym g.goes.row_is.change_is)) ∙ command)
 
     unknown : (instructions s p).known ≡ false
-    unknown =
-        by_bool k.exchange.begun
-        (λ b.
+    unknown = by_bool k.exchange.begun (λ b.
         let block = subst (λ (x : Phase). StandsIn s k n x) phase ((commands.books n lines.con lines.calm).begun b) in
-        subst (λ (x : Phase). KnownIn (instructions s p).known k.exchange.plan x) phase ((i.selected block.1.selected).stage b))
+        subst (λ (x : Phase). KnownIn (instructions s p).known k.exchange.plan x) phase
+        ((i.selected block.1.selected).stage b))
         (λ b. (i.selected ((commands.books n lines.con lines.calm).unbegun b).selected).unbegun b)
       where
         i : Instructed s k (instructions s p) n

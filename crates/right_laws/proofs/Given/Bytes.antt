@@ -1,5 +1,5 @@
--- What a process has given of its data stays a front of what it would give, with each row; so as it runs it has carried the bytes of its
--- reply (6.1.5, 6.6.20, 7.3).
+-- What a process has given of its data stays a front of what it would give, with each row; so as it runs it has carried
+-- the bytes of its reply (6.1.5, 6.6.20, 7.3).
 use Rattle.right_laws.proofs
 use proofs.Names.{ℕ, ◌≡◌, ◌≤◌, ◌<◌, inl, inr, arith, Bool, true, false, not, ◌&&◌, ◌==◌, ◌%◌, ◌∙◌, List, [], ◌∷◌, ◌++◌}
 use proofs.Names.{length, Option, Some, None, refl, sym, ap, subst, same_Some, if◌then◌else◌, is_some, slice_index_or}
@@ -18,10 +18,12 @@ use Rattle.bus_due.specs.disk_array.specs.Steps
 
 -- ---- a byte comes to a front
 
-front_with : (a : Area) (all : List ℕ) (byte : ℕ) → IsFront a.bytes all → byte ≡ slice_index_or all a.active 0 → a.active ≤ length a.bytes → a.active < length all → IsFront (area_with a byte).bytes all
+front_with : (a : Area) (all : List ℕ) (byte : ℕ) → IsFront a.bytes all → byte ≡ slice_index_or all a.active 0
+    → a.active ≤ length a.bytes → a.active < length all → IsFront (area_with a byte).bytes all
 front_with a all byte f e here within =
     let b : Area = record a { saved = 0 } in
-    let filled : IsFilled b all = record { rest = f.rest; bytes_are = f.all_is; active_in = here; saved_in = omega arith } in
+    let filled : IsFilled b all =
+    record { rest = f.rest; bytes_are = f.all_is; active_in = here; saved_in = omega arith } in
     let w : IsFilled (area_with b byte) all = puts b all byte filled e within in
     record { rest = w.rest; all_is = w.bytes_are }
 
@@ -29,32 +31,49 @@ front_of : (bytes all : List ℕ) → bytes ≡ [] → IsFront bytes all
 front_of bytes all e = record { rest = all; all_is = ap (λ (x : List ℕ). x ++ all) e }
 
 -- As a byte of it crosses.
-given_with : (s : ScenarioValue) (k : RunState) (p : Process) (id : ProcId) (byte : ℕ) → GivesNext s k p id byte → GivenIn (array_of s k) p (carried_here k id).moved.bytes → GivenIn (array_of s k) p (area_with (carried_here k id).moved byte).bytes
-given_with s k p id byte w h = inr (record { good = w.good; front = λ reads. front_with (carried_here k id).moved (reply_now (array_of s k) p).bytes byte (was h reads) (w.byte_is reads) (w.active_in reads) (w.within reads) })
+given_with : (s : ScenarioValue) (k : RunState) (p : Process) (id : ProcId) (byte : ℕ)
+    → GivesNext s k p id byte → GivenIn (array_of s k) p (carried_here k id).moved.bytes
+    → GivenIn (array_of s k) p (area_with (carried_here k id).moved byte).bytes
+given_with s k p id byte w h = inr (record {
+  good = w.good;
+  front = λ reads. front_with (carried_here k id).moved (reply_now (array_of s k) p).bytes byte (was h reads)
+      (w.byte_is reads) (w.active_in reads) (w.within reads);
+})
   where
-    was : GivenIn (array_of s k) p (carried_here k id).moved.bytes → is_writing p ≡ false → IsFront (carried_here k id).moved.bytes (reply_now (array_of s k) p).bytes
+    was : GivenIn (array_of s k) p (carried_here k id).moved.bytes → is_writing p ≡ false
+        → IsFront (carried_here k id).moved.bytes (reply_now (array_of s k) p).bytes
     was (inl e) reads = front_of (carried_here k id).moved.bytes (reply_now (array_of s k) p).bytes e
     was (inr g) reads = g.front reads
 
 -- ---- the bytes that were carried
 
-no_data : (c : CarriedBytes) (b : LineSet) (byte : ℕ) → is_data b ≡ false → (carried_after_byte c b byte).moved.bytes ≡ c.moved.bytes
+no_data : (c : CarriedBytes) (b : LineSet) (byte : ℕ) → is_data b ≡ false
+    → (carried_after_byte c b byte).moved.bytes ≡ c.moved.bytes
 no_data c b byte e = go (is_command b) (is_data b) (is_status_phase b) e
   where
-    go : (q r t : Bool) → r ≡ false → (if q then record c { command = area_with c.command byte; block = c.block ++ byte ∷ [] } else if r then record c { moved = area_with c.moved byte } else if t then record c { status = area_with c.status byte } else c).moved.bytes ≡ c.moved.bytes
+    go : (q r t : Bool) → r ≡ false
+        → (if q then record c { command = area_with c.command byte; block = c.block ++ byte ∷ [] }
+        else if r then record c { moved = area_with c.moved byte }
+        else if t then record c { status = area_with c.status byte } else c).moved.bytes ≡ c.moved.bytes
     go true r t z = refl
     go false true t z = wrong z
     go false false true z = refl
     go false false false z = refl
 
 -- Of one of which no byte of data crosses.
-pub moved_stays : (s : ScenarioValue) (p : List Row) (row : Row) (h : Known s p row) (id : ProcId) → ((l : Link) → (run_state s p).story.link ≡ Some l → l.item ≡ Some (process id) → (row_reading (run_state s p).story.bus_state row).crosses ≡ true → is_data (row_reading (run_state s p).story.bus_state row).change.before ≡ false) → (carried_here (run_state s (row ∷ p)) id).moved.bytes ≡ (carried_here (run_state s p) id).moved.bytes
+pub moved_stays : (s : ScenarioValue) (p : List Row) (row : Row) (h : Known s p row) (id : ProcId)
+    → ((l : Link) → (run_state s p).story.link ≡ Some l → l.item ≡ Some (process id)
+    → (row_reading (run_state s p).story.bus_state row).crosses ≡ true
+    → is_data (row_reading (run_state s p).story.bus_state row).change.before ≡ false)
+    → (carried_here (run_state s (row ∷ p)) id).moved.bytes ≡ (carried_here (run_state s p) id).moved.bytes
 moved_stays s p row h id quiet =
     let k : RunState = run_state s p in
     let d : RowReading = row_reading k.story.bus_state row in
     row_lasts (λ (c : CarriedBytes). (load c).moved) (lasting_by (λ (x : Load). x.moved)) s k row id
-    (λ l e item crosses msg. no_data (carried_here k id) d.change.before (d.change.after.data_bits % 256) (quiet l e item crosses))
-    (λ l m u e out parity undo same. ap (λ (x : Load). x.moved) (undoes_of s p row h l m u e out parity undo) ∙ ap (λ (x : ProcId). (carried_here k x).moved.bytes) same)
+    (λ l e item crosses msg. no_data (carried_here k id) d.change.before
+    (d.change.after.data_bits % 256) (quiet l e item crosses))
+    (λ l m u e out parity undo same. ap (λ (x : Load). x.moved) (undoes_of s p row h l m u e out parity undo)
+    ∙ ap (λ (x : ProcId). (carried_here k x).moved.bytes) same)
 
 data_lines : (b : LineSet) → is_data b ≡ true → (b.msg ≡ false) × (is_command b ≡ false)
 data_lines b e = go b.msg b.cd refl refl e
@@ -69,7 +88,9 @@ is_it id (Some (process x)) = same_id x id
 is_it id (Some (abort n)) = true
 is_it id None = true
 
-given_stays : (s : ScenarioValue) (p : List Row) (row : Row) (h : Known s p row) → GivesAsked s (run_state s p) row → (id : ProcId) → HasGiven s (array_of s (run_state s p)) (run_state s p) id → HasGiven s (array_of s (run_state s p)) (run_state s (row ∷ p)) id
+given_stays : (s : ScenarioValue) (p : List Row) (row : Row) (h : Known s p row)
+    → GivesAsked s (run_state s p) row → (id : ProcId) → HasGiven s (array_of s (run_state s p)) (run_state s p) id
+    → HasGiven s (array_of s (run_state s p)) (run_state s (row ∷ p)) id
 given_stays s p row h asked id was q own =
     by_option k.story.link
     (λ e. still (λ m y w v. none_some m (sym e ∙ y)))
@@ -87,18 +108,20 @@ given_stays s p row h asked id was q own =
     As : List ℕ → Type 0
     As bytes = GivenIn (array_of s k) q bytes
 
-    still : ((l : Link) → k.story.link ≡ Some l → l.item ≡ Some (process id) → d.crosses ≡ true → is_data d.change.before ≡ false) → As (carried_here j id).moved.bytes
+    still : ((l : Link) → k.story.link ≡ Some l → l.item ≡ Some (process id) → d.crosses ≡ true
+        → is_data d.change.before ≡ false) → As (carried_here j id).moved.bytes
     still quiet = subst As (sym (moved_stays s p row h id quiet)) (was q own)
 
-    crossed : (l : Link) → k.story.link ≡ Some l → l.item ≡ Some (process id) → d.crosses ≡ true → is_data d.change.before ≡ true → GoesSo s k row → As (carried_here j id).moved.bytes
+    crossed : (l : Link) → k.story.link ≡ Some l → l.item ≡ Some (process id) → d.crosses ≡ true
+        → is_data d.change.before ≡ true → GoesSo s k row → As (carried_here j id).moved.bytes
     crossed l e item ec ed w =
         let g = w.goes in
         let same : d.change ≡ w.change = g.row_is.change_is in
         let moves : is_data w.change.before ≡ true = ap (λ (c : Change). is_data c.before) (sym same) ∙ ed in
         let lines = data_lines w.change.before moves in
-        let some : is_some (receiver_in w.connection w.change) ≡ true = (λ i. is_some (receiver_of (sym g.row_is.connection_is i) (sym same i))) ∙ ec in
-        subst As
-        (sym (moved_crosses s k row w.connection w.change l id g.row_is some e item lines.0 lines.1 moves
+        let some : is_some (receiver_in w.connection w.change) ≡ true =
+        (λ i. is_some (receiver_of (sym g.row_is.connection_is i) (sym same i))) ∙ ec in
+        subst As (sym (moved_crosses s k row w.connection w.change l id g.row_is some e item lines.0 lines.1 moves
         ∙ ap (λ (c : Change). (area_with (carried_here k id).moved (c.after.data_bits % 256)).bytes) (sym same)))
         (given_with s k q id (d.change.after.data_bits % 256) (asked.crosses l id q e item own ec ed) (was q own))
 
@@ -111,31 +134,39 @@ given_stays s p row h asked id was q own =
         by true ex true ey = crossed l e item ex ey (crossing_goes s k row h.next.row_is ex)
 
     known : (l : Link) → k.story.link ≡ Some l → (o : Option Item) → l.item ≡ o → As (carried_here j id).moved.bytes
-    known l e None z = still (λ m y w v. none_some (process id) (sym z ∙ ap (λ (x : Link). x.item) (same_Some l m (sym e ∙ y)) ∙ w))
-    known l e (Some (abort n)) z = still (λ m y w v. absurd (abort_is n (sym z ∙ ap (λ (x : Link). x.item) (same_Some l m (sym e ∙ y)) ∙ w)))
+    known l e None z =
+        still (λ m y w v. none_some (process id) (sym z ∙ ap (λ (x : Link). x.item) (same_Some l m (sym e ∙ y)) ∙ w))
+    known l e (Some (abort n)) z =
+        still (λ m y w v. absurd (abort_is n (sym z ∙ ap (λ (x : Link). x.item) (same_Some l m (sym e ∙ y)) ∙ w)))
       where
         abort_is : (n : ℕ) → (let o : Option Item = Some (abort n) in o) ≡ Some (process id) → ⊥
         abort_is n v = absurd cc
-    known l e (Some (process x)) z =
-        by_bool (same_id x id)
-        (λ v. at l e (z ∙ ap (λ (y : ProcId). Some (process y)) (id_is x id v)))
-        (λ v. still (λ m y w c. wrong (sym (self_id id) ∙ ap (is_it id) (sym w ∙ ap (λ (t : Link). t.item) (same_Some m l (sym y ∙ e)) ∙ z) ∙ v)))
+    known l e (Some (process x)) z = by_bool (same_id x id)
+        (λ v. at l e (z ∙ ap (λ (y : ProcId). Some (process y)) (id_is x id v))) (λ v. still (λ m y w c. wrong
+        (sym (self_id id) ∙ ap (is_it id) (sym w ∙ ap (λ (t : Link). t.item) (same_Some m l (sym y ∙ e)) ∙ z) ∙ v)))
 
 -- ---- a row
 
 -- What it would give does not change.
-given_still : (s : ScenarioValue) (k j : RunState) (id : ProcId) → HasReplyStill s k j id → HasGiven s (array_of s k) j id → HasGiven s (array_of s j) j id
+given_still : (s : ScenarioValue) (k j : RunState) (id : ProcId) → HasReplyStill s k j id
+    → HasGiven s (array_of s k) j id → HasGiven s (array_of s j) j id
 given_still s k j id same was q own = go (carried_here j id).moved.bytes refl (was q own)
   where
     some : {A : Type 0} (x : ℕ) (xs : List ℕ) → x ∷ xs ≡ [] → A
     some x xs e = absurd cc
 
-    go : (bytes : List ℕ) → (carried_here j id).moved.bytes ≡ bytes → GivenIn (array_of s k) q (carried_here j id).moved.bytes → GivenIn (array_of s j) q (carried_here j id).moved.bytes
+    go : (bytes : List ℕ) → (carried_here j id).moved.bytes ≡ bytes
+        → GivenIn (array_of s k) q (carried_here j id).moved.bytes
+        → GivenIn (array_of s j) q (carried_here j id).moved.bytes
     go [] e w = inl e
     go (x ∷ xs) e (inl z) = inl z
     go (x ∷ xs) e (inr g) =
         let is : reply_now (array_of s j) q ≡ reply_now (array_of s k) q = same q own (λ z. some x xs (sym e ∙ z)) in
-        inr (record { good = λ writes. ap (λ (r : Reply). r.status) is ∙ g.good writes; front = λ reads. subst (λ (r : Reply). IsFront (carried_here j id).moved.bytes r.bytes) (sym is) (g.front reads) })
+        inr (record {
+          good = λ writes. ap (λ (r : Reply). r.status) is ∙ g.good writes;
+          front =
+              λ reads. subst (λ (r : Reply). IsFront (carried_here j id).moved.bytes r.bytes) (sym is) (g.front reads);
+        })
 
 pub no_data_in_command : (b : LineSet) → is_command b ≡ true → is_data b ≡ false
 no_data_in_command b e = go b.msg b.cd b.io e
@@ -145,10 +176,15 @@ no_data_in_command b e = go b.msg b.cd b.io e
     go false true i z = refl
     go false false i z = wrong' z
 
-arrives_with : (s : ScenarioValue) (p : List Row) (row : Row) (h : Known s p row) → GivesAsked s (run_state s p) row → (id : ProcId) → IsArrival (run_state s p) (row_reading (run_state s p).story.bus_state row) id → (carried_here (run_state s p) id).moved.bytes ≡ []
-arrives_with s p row h asked id w = asked.arrives w.link id w.here.link_is w.here.item_is w.here.calm w.here.stands w.turns w.command
+arrives_with : (s : ScenarioValue) (p : List Row) (row : Row) (h : Known s p row) → GivesAsked s (run_state s p) row
+    → (id : ProcId) → IsArrival (run_state s p) (row_reading (run_state s p).story.bus_state row) id
+    → (carried_here (run_state s p) id).moved.bytes ≡ []
+arrives_with s p row h asked id w =
+    asked.arrives w.link id w.here.link_is w.here.item_is w.here.calm w.here.stands w.turns w.command
 
-given_arrive : (s : ScenarioValue) (p : List Row) (row : Row) (h : Known s p row) → GivesAsked s (run_state s p) row → OnEvents (IfAccepts (HasGiven s (array_of s (run_state s p)) (run_state s (row ∷ p)))) (row_events_by s (run_state s p).story (row_reading (run_state s p).story.bus_state row) row)
+given_arrive : (s : ScenarioValue) (p : List Row) (row : Row) (h : Known s p row) → GivesAsked s (run_state s p) row
+    → OnEvents (IfAccepts (HasGiven s (array_of s (run_state s p)) (run_state s (row ∷ p))))
+    (row_events_by s (run_state s p).story (row_reading (run_state s p).story.bus_state row) row)
 given_arrive s p row h asked = each (row_events_by s k.story d row) (row_shown s k row)
   where
     k : RunState
@@ -161,7 +197,9 @@ given_arrive s p row h asked = each (row_events_by s k.story d row) (row_shown s
     As = HasGiven s (array_of s k) (run_state_after s k row)
 
     arrived : (id : ProcId) → IsArrival k d id → As id
-    arrived id w q own = inl (moved_stays s p row h id (λ l e item crosses. no_data_in_command d.change.before w.command) ∙ arrives_with s p row h asked id w)
+    arrived id w q own =
+        inl (moved_stays s p row h id (λ l e item crosses. no_data_in_command d.change.before w.command)
+        ∙ arrives_with s p row h asked id w)
 
     of_event : (e : Event) → ShownAs s k d row e → IfAccepts As e
     of_event e w id is = arrived id (subst (ShownAs s k d row) is w)
@@ -173,8 +211,10 @@ given_arrive s p row h asked = each (row_events_by s k.story d row) (row_shown s
 pub given_start : (s : ScenarioValue) → GivenFacts s []
 given_start s = open_start s (HasGiven s (array_of s (run_state s [])) (run_state s []))
 
-pub given_next : (s : ScenarioValue) (p : List Row) (row : Row) → Known s p row → GivesAsked s (run_state s p) row → GivenFacts s p → GivenFacts s (row ∷ p)
-given_next s p row h asked before = each_both (IfOpen Mid b) (IfOpen (HasReplyStill s k j) b) (IfOpen (HasGiven s b j) b) b (λ r x y none. given_still s k j r.process.id (y none) (x none)) all asked.stays
+pub given_next : (s : ScenarioValue) (p : List Row) (row : Row) → Known s p row → GivesAsked s (run_state s p) row
+    → GivenFacts s p → GivenFacts s (row ∷ p)
+given_next s p row h asked before = each_both (IfOpen Mid b) (IfOpen (HasReplyStill s k j) b)
+    (IfOpen (HasGiven s b j) b) b (λ r x y none. given_still s k j r.process.id (y none) (x none)) all asked.stays
   where
     k : RunState
     k = run_state s p
@@ -192,20 +232,26 @@ given_next s p row h asked before = each_both (IfOpen Mid b) (IfOpen (HasReplySt
     was = subst (OnOpen (HasGiven s (array_of s k) k)) (here_is s p row h) before
 
     rows : OnOpen Mid h.places.array
-    rows = each_map (IfOpen (HasGiven s (array_of s k) k) h.places.array) (IfOpen Mid h.places.array) h.places.array (λ r v none. given_stays s p row h asked r.process.id (v none)) was
+    rows = each_map (IfOpen (HasGiven s (array_of s k) k) h.places.array) (IfOpen Mid h.places.array) h.places.array
+        (λ r v none. given_stays s p row h asked r.process.id (v none)) was
 
     all : OnOpen Mid b
-    all = subst (OnOpen Mid) (sym (then_is s p row h)) (open_events s Mid h.places.array h.later.array (row_events_by s k.story (row_reading k.story.bus_state row) row) (given_arrive s p row h asked) (steps_of s p row h) rows)
+    all = subst (OnOpen Mid) (sym (then_is s p row h)) (open_events s Mid h.places.array h.later.array
+        (row_events_by s k.story (row_reading k.story.bus_state row) row) (given_arrive s p row h asked)
+        (steps_of s p row h) rows)
 
 -- ---- as it runs
 
 -- By the array in which it runs.
-all_given : (a : Array) (p : Process) (reply : Reply) (bytes : List ℕ) → reply ≡ reply_now a p → GivenIn a p bytes → (is_writing p && reply.status == GOOD) ≡ false → (is_writing p ≡ false → length reply.bytes ≤ length bytes) → bytes ≡ moved_bytes p reply
+all_given : (a : Array) (p : Process) (reply : Reply) (bytes : List ℕ) → reply ≡ reply_now a p
+    → GivenIn a p bytes → (is_writing p && reply.status == GOOD) ≡ false
+    → (is_writing p ≡ false → length reply.bytes ≤ length bytes) → bytes ≡ moved_bytes p reply
 all_given a p reply bytes same w not_both whole = go (reply.status == GOOD) refl (is_writing p) refl
   where
     none : is_writing p ≡ true → (reply.status == GOOD) ≡ false → GivenIn a p bytes → bytes ≡ []
     none writes bad (inl e) = e
-    none writes bad (inr g) = wrong (sym (ap (λ (x : ℕ). x == GOOD) (ap (λ (r : Reply). r.status) same ∙ g.good writes)) ∙ bad)
+    none writes bad (inr g) =
+        wrong (sym (ap (λ (x : ℕ). x == GOOD) (ap (λ (r : Reply). r.status) same ∙ g.good writes)) ∙ bad)
 
     front : is_writing p ≡ false → GivenIn a p bytes → IsFront bytes (reply_now a p).bytes
     front reads (inl e) = front_of bytes (reply_now a p).bytes e
@@ -219,10 +265,12 @@ all_given a p reply bytes same w not_both whole = go (reply.status == GOOD) refl
         front_all bytes f.rest reply.bytes (f.all_is ∙ ap (λ (r : Reply). r.bytes) (sym same)) (whole ey)
         ∙ sym (λ i. if ey i then (if reply.status == GOOD then p.sent else []) else reply.bytes)
 
-reply_is : (a : Array) (p : Process) (reply : Reply) (o : Option Reply) → o ≡ Some reply → o ≡ Some (reply_now a p) → reply ≡ reply_now a p
+reply_is : (a : Array) (p : Process) (reply : Reply) (o : Option Reply) → o ≡ Some reply → o ≡ Some (reply_now a p)
+    → reply ≡ reply_now a p
 reply_is a p reply o e f = same_Some reply (reply_now a p) (sym e ∙ f)
 
-pub gives_at_run : (s : ScenarioValue) (p : List Row) (row : Row) → HasSeats s → Known s p row → GivesAsked s (run_state s p) row → GivenFacts s p → GivesAtRun s (run_state s p) row
+pub gives_at_run : (s : ScenarioValue) (p : List Row) (row : Row) → HasSeats s → Known s p row
+    → GivesAsked s (run_state s p) row → GivenFacts s p → GivesAtRun s (run_state s p) row
 gives_at_run s p row seats h asked facts q reply is not_both = by shape
   where
     k : RunState
@@ -251,7 +299,9 @@ gives_at_run s p row seats h asked facts q reply is not_both = by shape
     first (runs_arrived e) = (subst (OnEvents (ShownAs s k d row)) e (row_shown s k row)).0
 
     none : reply_in a.replies q.id ≡ None
-    none = none_is (reply_in a.replies q.id) (ap (λ (x : Array). is_some (reply_in x.replies q.id)) (sym (here_is s p row h)) ∙ h.shown q.id ∙ (first shape).unanswered)
+    none = none_is (reply_in a.replies q.id)
+        (ap (λ (x : Array). is_some (reply_in x.replies q.id)) (sym (here_is s p row h)) ∙ h.shown q.id
+        ∙ (first shape).unanswered)
 
     given : reply_in b.replies q.id ≡ Some reply
     given = ap (λ (x : Array). reply_in x.replies q.id) (sym (then_is s p row h)) ∙ is.reply_is
@@ -263,20 +313,27 @@ gives_at_run s p row seats h asked facts q reply is not_both = by shape
     standing st =
         let f = run_found s a b q.id st in
         let own : f.running.process.id ≡ q.id = running_id a q.id f.running f.running_is in
-        let all : OnOpen (HasGiven s a k) a = subst (λ (x : Array). OnOpen (HasGiven s x k) x) (here_is s p row h) facts in
-        let has : HasGiven s a k q.id = subst (HasGiven s a k) own (running_has (IfOpen (HasGiven s a k) a) a q.id f.running all f.running_is (ap (λ (x : ProcId). reply_in a.replies x) own ∙ none)) in
+        let all : OnOpen (HasGiven s a k) a = subst
+        (λ (x : Array). OnOpen (HasGiven s x k) x) (here_is s p row h) facts in
+        let has : HasGiven s a k q.id = subst (HasGiven s a k) own (running_has (IfOpen (HasGiven s a k) a)
+        a q.id f.running all f.running_is (ap (λ (x : ProcId). reply_in a.replies x) own ∙ none)) in
         has q is.process_is
 
     by : RunsAs q.id shown → bytes ≡ moved_bytes q reply
     by (runs_alone e) =
-        let st : Steps.step s (Event.Run q.id) a ≡ Some b = sym (ap (array_after_events s (Some a)) e) ∙ steps_of s p row h in
-        all_given a q reply bytes (reply_is a q reply (reply_in b.replies q.id) given (run_replies s a b q h.places.sound is.process_is st)) (standing st) not_both whole
-    by (runs_arrived e) = go (array_step s (Event.Accept q.id) (Some a)) refl (sym (ap (array_after_events s (Some a)) e) ∙ steps_of s p row h)
+        let st : Steps.step s (Event.Run q.id) a ≡ Some b = sym (ap (array_after_events s (Some a)) e)
+        ∙ steps_of s p row h in
+        all_given a q reply bytes (reply_is a q reply (reply_in b.replies q.id) given
+        (run_replies s a b q h.places.sound is.process_is st)) (standing st) not_both whole
+    by (runs_arrived e) = go (array_step s (Event.Accept q.id) (Some a)) refl
+        (sym (ap (array_after_events s (Some a)) e) ∙ steps_of s p row h)
       where
         arrival : IsArrival k d q.id
         arrival = (subst (OnEvents (ShownAs s k d row)) e (row_shown s k row)).1.0
 
-        go : (o : Option Array) → array_step s (Event.Accept q.id) (Some a) ≡ o → array_step s (Event.Run q.id) o ≡ Some b → bytes ≡ moved_bytes q reply
+        go : (o : Option Array) → array_step s (Event.Accept q.id) (Some a) ≡ o
+            → array_step s (Event.Run q.id) o ≡ Some b → bytes ≡ moved_bytes q reply
         go None z w = none_some b w
-        go (Some c) z w =
-            all_given c q reply bytes (reply_is c q reply (reply_in b.replies q.id) given (run_replies s c b q (step_sound s a c (Event.Accept q.id) seats h.places.sound z) is.process_is w)) (inl (arrives_with s p row h asked q.id arrival)) not_both whole
+        go (Some c) z w = all_given c q reply bytes (reply_is c q reply (reply_in b.replies q.id) given
+            (run_replies s c b q (step_sound s a c (Event.Accept q.id) seats h.places.sound z) is.process_is w))
+            (inl (arrives_with s p row h asked q.id arrival)) not_both whole

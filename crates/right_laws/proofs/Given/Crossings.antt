@@ -1,5 +1,5 @@
--- As a byte of data crosses, the process that is served would end GOOD; and in DATA IN the byte is that at its data pointer, where this stands
--- as far in the run as bytes were asked for (6.1.5.1, 6.6.20).
+-- As a byte of data crosses, the process that is served would end GOOD; and in DATA IN the byte is that at its data
+-- pointer, where this stands as far in the run as bytes were asked for (6.1.5.1, 6.6.20).
 use Rattle.right_laws.proofs
 use proofs.Names.{ℕ, ◌+◌, ◌≡◌, ◌≤◌, ◌<◌, arith, Bool, true, false, not, ◌&&◌, ◌==◌, ◌%◌, ◌∙◌, List, [], ◌∷◌, length}
 use proofs.Names.{Option, Some, None, refl, sym, ap, subst, nat_tests, if◌then◌else◌, is_some, slice_index_or, wrong}
@@ -45,10 +45,13 @@ reads_in false p e w = wrong' (sym w ∙ e)
 pub data_phase : (b : LineSet) → is_data b ≡ true → phase_of b ≡ (if b.io then Phase.DataIn else Phase.DataOut)
 data_phase b e = go b.msg b.cd refl refl e
   where
-    go : (m d : Bool) → b.msg ≡ m → b.cd ≡ d → (not m && not d) ≡ true → phase_of b ≡ (if b.io then Phase.DataIn else Phase.DataOut)
+    go : (m d : Bool) → b.msg ≡ m → b.cd ≡ d → (not m && not d) ≡ true
+        → phase_of b ≡ (if b.io then Phase.DataIn else Phase.DataOut)
     go true d x y z = wrong' z
     go false true x y z = wrong' z
-    go false false x y z = λ i. if x i then (if b.io then Phase.MessageIn else Phase.MessageOut) else if y i then (if b.io then Phase.Status else Phase.Command) else if b.io then Phase.DataIn else Phase.DataOut
+    go false false x y z = λ i. if x i then (if b.io then Phase.MessageIn else Phase.MessageOut)
+        else if y i then (if b.io then Phase.Status else Phase.Command)
+        else if b.io then Phase.DataIn else Phase.DataOut
 
 data_in_lines : (b : LineSet) → is_data b ≡ true → b.io ≡ true → is_data_in b ≡ true
 data_in_lines b e f = go b.msg b.cd b.io e f
@@ -58,8 +61,11 @@ data_in_lines b e f = go b.msg b.cd b.io e f
     go false true i z w = wrong' z
     go false false i z w = w
 
-pub req_rises : (n : Connection) (c : Change) → c.before.io ≡ true → is_some (receiver_in n c) ≡ true → rises c.before.req c.after.req ≡ true
-req_rises n c io e = go (rises c.before.req c.after.req) (sym (ap (λ (q : Bool). is_some (if q then (if rises c.before.req c.after.req then Some n.initiator else None) else (if rises c.before.ack c.after.ack then Some n.target else None))) io) ∙ e)
+pub req_rises : (n : Connection) (c : Change) → c.before.io ≡ true → is_some (receiver_in n c) ≡ true
+    → rises c.before.req c.after.req ≡ true
+req_rises n c io e = go (rises c.before.req c.after.req)
+    (sym (ap (λ (q : Bool). is_some (if q then (if rises c.before.req c.after.req then Some n.initiator else None)
+    else (if rises c.before.ack c.after.ack then Some n.target else None))) io) ∙ e)
   where
     go : (q : Bool) → is_some (let o : Option ℕ = if q then Some n.initiator else None in o) ≡ true → q ≡ true
     go true z = refl
@@ -67,8 +73,11 @@ req_rises n c io e = go (rises c.before.req c.after.req) (sym (ap (λ (q : Bool)
 
 -- ---- a byte crosses
 
-pub gives_crossing : (s : ScenarioValue) (p : List Row) (row : Row) → Obeys s → IsPrompt s (row ∷ p) → Known s p row → DataOfferFacts s p → CountFacts s p → AllStandIn (run_state s p) → PointsAtCrossing s (run_state s p) row → GivesAtCrossing s (run_state s p) row
-gives_crossing s p row o prompt h offers counted stands points l id q link item own crosses moves = by (crossing_goes s k row h.next.row_is crosses)
+pub gives_crossing : (s : ScenarioValue) (p : List Row) (row : Row) → Obeys s → IsPrompt s (row ∷ p) → Known s p row
+    → DataOfferFacts s p → CountFacts s p → AllStandIn (run_state s p) → PointsAtCrossing s (run_state s p) row
+    → GivesAtCrossing s (run_state s p) row
+gives_crossing s p row o prompt h offers counted stands points l id q link item own crosses moves =
+    by (crossing_goes s k row h.next.row_is crosses)
   where
     k : RunState
     k = run_state s p
@@ -80,7 +89,8 @@ gives_crossing s p row o prompt h offers counted stands points l id q link item 
     now = reply_now (array_of s k) q
 
     t : Task
-    t = task_with (array_of s k) (progress_in k.progress q.id) q (carried_here k q.id) now (reply_in (array_of s k).replies q.id)
+    t = task_with (array_of s k) (progress_in k.progress q.id) q (carried_here k q.id) now
+        (reply_in (array_of s k).replies q.id)
 
     change : (row_reading k.story.bus_state row).change ≡ change_of p row
     change = change_plain s row p h.was.standing.devices lt
@@ -119,20 +129,24 @@ gives_crossing s p row o prompt h offers counted stands points l id q link item 
         calm = ap (λ (c : Change). c.after.rst) whole ∙ g.row_is.calm
 
         after : connection (row ∷ p) ≡ Some n
-        after = (λ i. connection_after (con i) (call p) (whole i) row) ∙ ap (λ (b : Bool). if b then Some n else None) g.row_is.stands
+        after = (λ i. connection_after (con i) (call p) (whole i) row)
+            ∙ ap (λ (b : Bool). if b then Some n else None) g.row_is.stands
 
         directed : is_directed (bus_of k).io (writes_of (Some q)) ≡ true
-        directed = sym (ap (λ (x : Option Process). is_directed (bus_of k).io (writes_of x)) here) ∙ (h.was.planned n con off).serves (g.begun crosses) on
+        directed = sym (ap (λ (x : Option Process). is_directed (bus_of k).io (writes_of x)) here)
+            ∙ (h.was.planned n con off).serves (g.begun crosses) on
 
         some : is_some (receiver_in n (change_of p row)) ≡ true
         some = (λ i. is_some (receiver_of (sym g.row_is.connection_is i) (sym change i))) ∙ crosses
 
-        reading : is_writing q ≡ false → GivesNext s k q id ((row_reading k.story.bus_state row).change.after.data_bits % 256)
+        reading : is_writing q ≡ false
+            → GivesNext s k q id ((row_reading k.story.bus_state row).change.after.data_bits % 256)
         reading reads = record {
           good = λ z. wrong' (sym reads ∙ z);
           byte_is = λ r. byte;
           active_in = λ r. (stands.each id).active_in;
-          within = λ r. less (carried_here k id).moved.active ((run_at policy t t.runs).start + k.handshakes.requests) t.moved (length now.bytes) active inside (few_of q now reads);
+          within = λ r. less (carried_here k id).moved.active ((run_at policy t t.runs).start + k.handshakes.requests)
+              t.moved (length now.bytes) active inside (few_of q now reads);
         }
           where
             io : (bus_of k).io ≡ true
@@ -154,24 +168,30 @@ gives_crossing s p row o prompt h offers counted stands points l id q link item 
             inside = byte_within policy t k.handshakes.requests at.more
 
             small : data_at s p n < 256
-            small = subst (λ (x : ℕ). x < 256) (λ i. phase_byte (serving_of s k n.target) (phase i) k.exchange.plan.messages 0 (h.was.plain.handshakes i).requests) (byte_values s p n o (seats_are s (obeys_fits s o)) h.was.standing.devices).offered
+            small = subst (λ (x : ℕ). x < 256) (λ i. phase_byte (serving_of s k n.target)
+                (phase i) k.exchange.plan.messages 0 (h.was.plain.handshakes i).requests)
+                (byte_values s p n o (seats_are s (obeys_fits s o)) h.was.standing.devices).offered
 
             due : data_at s p n ≡ slice_index_or now.bytes ((run_at policy t t.runs).start + k.handshakes.requests) 0
-            due =
-                (λ i. data_byte policy (task_if s k (here i)) (given_if s k (here i)) 0 (sym h.was.plain.handshakes i).requests)
-                ∙ ap (λ (x : ℕ). slice_index_or now.bytes ((run_at policy t x).start + k.handshakes.requests) 0) (plus_none t.runs)
+            due = (λ i. data_byte policy (task_if s k (here i))
+                (given_if s k (here i)) 0 (sym h.was.plain.handshakes i).requests)
+                ∙ ap (λ (x : ℕ). slice_index_or now.bytes ((run_at policy t x).start + k.handshakes.requests) 0)
+                (plus_none t.runs)
 
-            byte : (row_reading k.story.bus_state row).change.after.data_bits % 256 ≡ slice_index_or now.bytes (carried_here k id).moved.active 0
-            byte =
-                ap (λ (c : Change). c.after.data_bits % 256) change
-                ∙ ap (λ (x : ℕ). x % 256) (data_in_carries s p row n o prompt h.was h.next offers con off after calm (data_in_lines (bus p) (ap is_data (sym h.was.plain.bus) ∙ on) io_p) (req_rises n (change_of p row) io_p some)).byte_is
-                ∙ byte_back (data_at s p n) small
-                ∙ due
-                ∙ ap (λ (x : ℕ). slice_index_or now.bytes x 0) (sym active)
+            byte : (row_reading k.story.bus_state row).change.after.data_bits % 256
+                ≡ slice_index_or now.bytes (carried_here k id).moved.active 0
+            byte = ap (λ (c : Change). c.after.data_bits % 256) change
+                ∙ ap (λ (x : ℕ). x % 256) (data_in_carries s p row n o prompt h.was h.next offers con off after calm
+                (data_in_lines (bus p) (ap is_data (sym h.was.plain.bus) ∙ on) io_p)
+                (req_rises n (change_of p row) io_p some)).byte_is
+                ∙ byte_back (data_at s p n) small ∙ due ∙ ap (λ (x : ℕ). slice_index_or now.bytes x 0) (sym active)
 
-        writing : is_writing q ≡ true → GivesNext s k q id ((row_reading k.story.bus_state row).change.after.data_bits % 256)
+        writing : is_writing q ≡ true
+            → GivesNext s k q id ((row_reading k.story.bus_state row).change.after.data_bits % 256)
         writing writes = record {
-          good = λ z. good_of q now ((run_at policy t t.runs).start + (handshakes p).answers) writes (byte_within policy t (handshakes p).answers (subst (λ (x : ℕ). (handshakes p).answers < x) run (answered (pulses_here p) refl)));
+          good = λ z. good_of q now ((run_at policy t t.runs).start + (handshakes p).answers) writes
+              (byte_within policy t (handshakes p).answers
+              (subst (λ (x : ℕ). (handshakes p).answers < x) run (answered (pulses_here p) refl)));
           byte_is = λ r. wrong (sym writes ∙ r);
           active_in = λ r. wrong (sym writes ∙ r);
           within = λ r. wrong (sym writes ∙ r);
@@ -184,7 +204,8 @@ gives_crossing s p row o prompt h offers counted stands points l id q link item 
             io_p = ap (λ (b : LineSet). b.io) (sym h.was.plain.bus) ∙ io
 
             phase : phase_of (bus p) ≡ Phase.DataOut
-            phase = ap phase_of (sym h.was.plain.bus) ∙ data_phase (bus_of k) on ∙ ap (λ (x : Bool). if x then Phase.DataIn else Phase.DataOut) io
+            phase = ap phase_of (sym h.was.plain.bus) ∙ data_phase (bus_of k) on
+                ∙ ap (λ (x : Bool). if x then Phase.DataIn else Phase.DataOut) io
 
             b : begun p ≡ true
             b = sym h.was.plain.begun ∙ g.begun crosses
@@ -203,4 +224,6 @@ gives_crossing s p row o prompt h offers counted stands points l id q link item 
                 let more = ((out_step s p row n prompt h.was con off calm b phase after).step.answers rose).1 u in
                 let few = counts.pulses u in
                 omega (arith, more, few)
-            answered false u = (counts.waits u (((out_step s p row n prompt h.was con off calm b phase after).step.answers rose).0 u) (risen (bus p).ack (bus (row ∷ p)).ack rose)).0
+            answered false u =
+                (counts.waits u (((out_step s p row n prompt h.was con off calm b phase after).step.answers rose).0 u)
+                (risen (bus p).ack (bus (row ∷ p)).ack rose)).0

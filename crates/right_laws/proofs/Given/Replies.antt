@@ -17,16 +17,18 @@ own_runs s t n (Some r) h = h.is
 
 pub own_units : (s : ScenarioValue) (units : List UnitState) → AllOwnUnits s units → OnUnits (IsOf s) units
 own_units s [] h = tt
-own_units s (u ∷ units) h = ((own_waits s u.target u.unit u.waiting h.0.waiting, own_runs s u.target u.unit u.current h.0.current), own_units s units h.1)
+own_units s (u ∷ units) h = (
+  (own_waits s u.target u.unit u.waiting h.0.waiting, own_runs s u.target u.unit u.current h.0.current),
+  own_units s units h.1,
+)
 
 pub own_guests : (s : ScenarioValue) (guests : List RunningProcess) → AllOwnGuests s guests → OnGuests (IsOf s) guests
 own_guests s [] h = tt
 own_guests s (g ∷ guests) h = (h.0, own_guests s guests h.1)
 
 -- The process that runs is the one of the scenario.
-pub own_running : (s : ScenarioValue) (a : Array) (p : Process) (r : RunningProcess) → IsSound s a → process_of s p.id ≡ Some p → Steps.running_process a p.id ≡ Some r → r.process ≡ p
-own_running s a p r sound own e =
-    same_Some r.process p
-    (sym (running_has (IsOf s) a p.id r (record { units = own_units s a.units sound.units; guests = own_guests s a.guests sound.guests }) e)
-    ∙ ap (process_of s) (running_id a p.id r e)
-    ∙ own)
+pub own_running : (s : ScenarioValue) (a : Array) (p : Process) (r : RunningProcess) → IsSound s a
+    → process_of s p.id ≡ Some p → Steps.running_process a p.id ≡ Some r → r.process ≡ p
+own_running s a p r sound own e = same_Some r.process p (sym (running_has (IsOf s) a p.id r
+    (record { units = own_units s a.units sound.units; guests = own_guests s a.guests sound.guests }) e)
+    ∙ ap (process_of s) (running_id a p.id r e) ∙ own)

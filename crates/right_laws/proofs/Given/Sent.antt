@@ -12,17 +12,23 @@ use proofs.Ran.Shown.{runs_arrived, row_runs}
 
 -- ---- the reply of a process that runs is the one that it would have before the row
 
-pub runs_so : (s : ScenarioValue) (a b : Array) (q : Process) (shown : List Event) → Obeys s → Rattle.bus_due.specs.disk_array.specs.SoundArray.IsSound s a → process_of s q.id ≡ Some q → RunsAs q.id shown → array_after_events s (Some a) shown ≡ Some b → reply_in b.replies q.id ≡ Some (reply_now a q)
-runs_so s a b q shown o sound own (runs_alone e) after = run_replies s a b q sound own (sym (ap (array_after_events s (Some a)) e) ∙ after)
-runs_so s a b q shown o sound own (runs_arrived e) after = go (step s (Event.Accept q.id) a) refl (sym (ap (array_after_events s (Some a)) e) ∙ after)
+pub runs_so : (s : ScenarioValue) (a b : Array) (q : Process) (shown : List Event) → Obeys s
+    → Rattle.bus_due.specs.disk_array.specs.SoundArray.IsSound s a → process_of s q.id ≡ Some q → RunsAs q.id shown
+    → array_after_events s (Some a) shown ≡ Some b → reply_in b.replies q.id ≡ Some (reply_now a q)
+runs_so s a b q shown o sound own (runs_alone e) after =
+    run_replies s a b q sound own (sym (ap (array_after_events s (Some a)) e) ∙ after)
+runs_so s a b q shown o sound own (runs_arrived e) after =
+    go (step s (Event.Accept q.id) a) refl (sym (ap (array_after_events s (Some a)) e) ∙ after)
   where
     seats : Rattle.bus_due.specs.disk_array.specs.SoundArray.HasSeats s
     seats = seats_are s (obeys_fits s o)
 
-    go : (m : Option Array) → step s (Event.Accept q.id) a ≡ m → array_step s (Event.Run q.id) (step s (Event.Accept q.id) a) ≡ Some b → reply_in b.replies q.id ≡ Some (reply_now a q)
+    go : (m : Option Array) → step s (Event.Accept q.id) a ≡ m
+        → array_step s (Event.Run q.id) (step s (Event.Accept q.id) a) ≡ Some b
+        → reply_in b.replies q.id ≡ Some (reply_now a q)
     go None f z = none_some b (sym (ap (array_step s (Event.Run q.id)) f) ∙ z)
-    go (Some m) f z =
-        run_replies s m b q (step_sound s a m (Event.Accept q.id) seats sound f) own (sym (ap (array_step s (Event.Run q.id)) f) ∙ z)
+    go (Some m) f z = run_replies s m b q (step_sound s a m (Event.Accept q.id) seats sound f) own
+        (sym (ap (array_step s (Event.Run q.id)) f) ∙ z)
         ∙ ap (λ (r : Reply). Some r) (accept_same s a m q seats sound own f)
 
 -- ---- the row
@@ -30,8 +36,10 @@ runs_so s a b q shown o sound own (runs_arrived e) after = go (step s (Event.Acc
 none_sent : (a b : ℕ) → a ≡ 0 → a ≤ b
 none_sent a b e = omega (arith, e)
 
-pub sends_at_run : (s : ScenarioValue) (p : List Row) (row : Row) → Obeys s → IsPrompt s (row ∷ p) → SendsAtRun s (run_state s p) row
-sends_at_run s p row o prompt q reply is w good = by (here_goes s k row answer.link q.id (λ e. (was.facts.items.items.apart e).0) next.rows_are.1 answer.here)
+pub sends_at_run : (s : ScenarioValue) (p : List Row) (row : Row) → Obeys s → IsPrompt s (row ∷ p)
+    → SendsAtRun s (run_state s p) row
+sends_at_run s p row o prompt q reply is w good =
+    by (here_goes s k row answer.link q.id (λ e. (was.facts.items.items.apart e).0) next.rows_are.1 answer.here)
   where
     k : RunState
     k = run_state s p
@@ -55,10 +63,12 @@ sends_at_run s p row o prompt q reply is w good = by (here_goes s k row answer.l
     pl = was.stood.plain
 
     now : reply_in next.places.array.replies q.id ≡ Some (reply_now was.places.array q)
-    now = runs_so s was.places.array next.places.array q shown o was.places.sound is.process_is runs_with (sym (λ i. array_after_events s (was.places.array_is i) shown) ∙ next.places.array_is)
+    now = runs_so s was.places.array next.places.array q shown o was.places.sound is.process_is runs_with
+        (sym (λ i. array_after_events s (was.places.array_is i) shown) ∙ next.places.array_is)
 
     same : reply_now was.places.array q ≡ reply
-    same = same_Some (reply_now was.places.array q) reply (sym now ∙ (λ i. reply_in (or_start s (sym next.places.array_is i)).replies q.id) ∙ is.reply_is)
+    same = same_Some (reply_now was.places.array q) reply
+        (sym now ∙ (λ i. reply_in (or_start s (sym next.places.array_is i)).replies q.id) ∙ is.reply_is)
 
     ran : shows_run shown ≡ true
     ran = go runs_with
@@ -68,7 +78,10 @@ sends_at_run s p row o prompt q reply is w good = by (here_goes s k row answer.l
         go (runs_arrived e) = ap shows_run e
 
     by : GoesSo s k row → (length q.sent ≤ bytes_come s k q) × (is_of_size s k q ≡ true)
-    by v = (came ((row_attendance s p row o prompt).whole n q con calm off ran served_is), (write_premises s p row o prompt was.stood was.places was.sends was.resets).sizes q served_is)
+    by v = (
+      came ((row_attendance s p row o prompt).whole n q con calm off ran served_is),
+      (write_premises s p row o prompt was.stood was.places was.sends was.resets).sizes q served_is,
+    )
       where
         n : Connection
         n = v.connection
@@ -80,16 +93,19 @@ sends_at_run s p row o prompt q reply is w good = by (here_goes s k row answer.l
         calm = ap (λ (l : LineSet). l.rst) (sym pl.bus) ∙ v.goes.calm
 
         off : (bus (row ∷ p)).rst ≡ false
-        off = ap (λ (x : Change). x.after.rst) (sym (change_plain s row p was.stood.standing.devices (least_is s p row prompt.1).inside)) ∙ answer.here.calm
+        off = ap (λ (x : Change). x.after.rst)
+            (sym (change_plain s row p was.stood.standing.devices (least_is s p row prompt.1).inside))
+            ∙ answer.here.calm
 
         served : k.served ≡ Some (process q.id)
-        served = known_served s k row n v.change answer.link q.id was.stood.books v.goes answer.here.link_is answer.here.item_is
+        served = known_served s k row n v.change answer.link q.id was.stood.books v.goes answer.here.link_is
+            answer.here.item_is
 
         served_is : process_served s k ≡ Some q
         served_is = ap (process_item s) served ∙ is.process_is
 
         came : IsWhole s k (writers s p) q → length q.sent ≤ bytes_come s k q
-        came (ends_badly e) =
-            wrong (sym (ap (λ (r : Reply). r.status == GOOD) same ∙ good) ∙ (λ i. (reply_now (or_start s (sym was.places.array_is i)) q).status == GOOD) ∙ e)
+        came (ends_badly e) = wrong (sym (ap (λ (r : Reply). r.status == GOOD) same ∙ good)
+            ∙ (λ i. (reply_now (or_start s (sym was.places.array_is i)) q).status == GOOD) ∙ e)
         came (sends_none e) = none_sent (length q.sent) (bytes_come s k q) e
         came (sends_all h) = h.came

@@ -22,7 +22,8 @@ data_few room most bytes = let long = length-take (min room most) bytes in omega
 
 -- ---- a unit that is absent
 
-inquired_few : (r : Result Command CdbFault) (bytes : List ℕ) (sense : Sense) → length (data_or_refusal (inquiry_room r) INQUIRY_LEN bytes sense).bytes ≤ most_given r None
+inquired_few : (r : Result Command CdbFault) (bytes : List ℕ) (sense : Sense)
+    → length (data_or_refusal (inquiry_room r) INQUIRY_LEN bytes sense).bytes ≤ most_given r None
 inquired_few (Ok (Command.Inquiry room)) bytes sense = data_few room INQUIRY_LEN bytes
 inquired_few (Ok Command.TestUnitReady) bytes sense = none_few 0
 inquired_few (Ok (Command.RequestSense room)) bytes sense = none_few (min room SENSE_LEN)
@@ -33,7 +34,8 @@ inquired_few (Ok (Command.Read10 lba count)) bytes sense = none_few 0
 inquired_few (Ok (Command.Write10 lba count)) bytes sense = none_few 0
 inquired_few (Err fault) bytes sense = none_few 0
 
-sensed_few : (r : Result Command CdbFault) (bytes : List ℕ) (sense : Sense) → length (data_or_refusal (sense_room r) SENSE_LEN bytes sense).bytes ≤ most_given r None
+sensed_few : (r : Result Command CdbFault) (bytes : List ℕ) (sense : Sense)
+    → length (data_or_refusal (sense_room r) SENSE_LEN bytes sense).bytes ≤ most_given r None
 sensed_few (Ok (Command.RequestSense room)) bytes sense = data_few room SENSE_LEN bytes
 sensed_few (Ok Command.TestUnitReady) bytes sense = none_few 0
 sensed_few (Ok (Command.Inquiry room)) bytes sense = none_few (min room INQUIRY_LEN)
@@ -44,15 +46,18 @@ sensed_few (Ok (Command.Read10 lba count)) bytes sense = none_few 0
 sensed_few (Ok (Command.Write10 lba count)) bytes sense = none_few 0
 sensed_few (Err fault) bytes sense = none_few 0
 
-absent_few : (stored : Option Sense) (inquires : Bool) (r : Result Command CdbFault) → length (absent_reply_by stored inquires r).bytes ≤ most_given r None
+absent_few : (stored : Option Sense) (inquires : Bool) (r : Result Command CdbFault)
+    → length (absent_reply_by stored inquires r).bytes ≤ most_given r None
 absent_few stored true r = inquired_few r (inquiry_data false) invalid_field
 absent_few stored false r = sensed_few r (sense_data (returned_sense false stored)) unit_not_supported
 
 -- ---- a unit that is there
 
-read_few : (c : Contents) (u : UnitDef) (lba n : ℕ) → c.count ≡ u.blocks → c.size ≡ u.size → AreWhole c → (nat_lt lba c.count && nat_le (lba + n) c.count) ≡ true
+read_few : (c : Contents) (u : UnitDef) (lba n : ℕ) → c.count ≡ u.blocks → c.size ≡ u.size
+    → AreWhole c → (nat_lt lba c.count && nat_le (lba + n) c.count) ≡ true
     → length (bytes_at c lba n) ≤ (if nat_le (lba + n) u.blocks then n * u.size else 0)
-read_few c u lba n count size whole e = subst (λ (q : Bool). length (bytes_at c lba n) ≤ (if q then n * u.size else 0)) (sym inside) (few (length (bytes_at c lba n)) (n * u.size) long)
+read_few c u lba n count size whole e = subst (λ (q : Bool). length (bytes_at c lba n) ≤ (if q then n * u.size else 0))
+    (sym inside) (few (length (bytes_at c lba n)) (n * u.size) long)
   where
     few : (a b : ℕ) → a ≡ b → a ≤ b
     few a b f = omega (arith, f)
@@ -61,7 +66,8 @@ read_few c u lba n count size whole e = subst (λ (q : Bool). length (bytes_at c
     long = length_bytes c whole lba n ∙ ap (λ (x : ℕ). n * x) size
 
     inside : nat_le (lba + n) u.blocks ≡ true
-    inside = ap (λ (x : ℕ). nat_le (lba + n) x) (sym count) ∙ (and_parts (nat_lt lba c.count) (nat_le (lba + n) c.count) e).1
+    inside =
+        ap (λ (x : ℕ). nat_le (lba + n) x) (sym count) ∙ (and_parts (nat_lt lba c.count) (nat_le (lba + n) c.count) e).1
 
 -- The unit is the one of this line, and its blocks are whole.
 record MeetsLine (m : CommandContext) (u : UnitDef) : Type 0 where
@@ -69,26 +75,35 @@ record MeetsLine (m : CommandContext) (u : UnitDef) : Type 0 where
   size : m.contents.size ≡ u.size
   whole : AreWhole m.contents
 
-command_few : (m : CommandContext) (u : UnitDef) (c : Command) (sent : List ℕ) → MeetsLine m u → is_good_range m.contents.count (range_of c) ≡ true → length (command_execution m c sent).reply.bytes ≤ most_given (Ok c) (Some u)
-command_few m u (Command.RequestSense room) sent h e = data_few room SENSE_LEN (sense_data (returned_sense m.present m.stored))
-command_few m u (Command.Read6 lba count) sent h e = read_few m.contents u lba (blocks_moved (Command.Read6 lba count)) h.count h.size h.whole e
+command_few : (m : CommandContext) (u : UnitDef) (c : Command) (sent : List ℕ)
+    → MeetsLine m u → is_good_range m.contents.count (range_of c) ≡ true
+    → length (command_execution m c sent).reply.bytes ≤ most_given (Ok c) (Some u)
+command_few m u (Command.RequestSense room) sent h e =
+    data_few room SENSE_LEN (sense_data (returned_sense m.present m.stored))
+command_few m u (Command.Read6 lba count) sent h e =
+    read_few m.contents u lba (blocks_moved (Command.Read6 lba count)) h.count h.size h.whole e
 command_few m u (Command.Inquiry room) sent h e = data_few room INQUIRY_LEN (inquiry_data m.present)
 command_few m u Command.ReadCapacity sent h e = omega arith
 command_few m u (Command.Read10 lba count) sent h e = read_few m.contents u lba count h.count h.size h.whole e
 command_few m u _ sent h e = none_few 0
 
-execution_few : (m : CommandContext) (u : UnitDef) (cdb sent : List ℕ) → MeetsLine m u → length (execution m cdb sent).reply.bytes ≤ most_given (command_of cdb) (Some u)
-execution_few m u cdb sent h = of_all m cdb sent (λ x. length x.reply.bytes ≤ most_given (command_of cdb) (Some u)) (record {
-  refused_is = λ sense k. none_few (most_given (command_of cdb) (Some u));
-  reported_is = λ sense a. none_few (most_given (command_of cdb) (Some u));
-  disk_is = λ c is g. subst (λ (r : Result Command CdbFault). length (command_execution m c sent).reply.bytes ≤ most_given r (Some u)) (sym is) (command_few m u c sent h g);
-})
+execution_few : (m : CommandContext) (u : UnitDef) (cdb sent : List ℕ) → MeetsLine m u
+    → length (execution m cdb sent).reply.bytes ≤ most_given (command_of cdb) (Some u)
+execution_few m u cdb sent h =
+    of_all m cdb sent (λ x. length x.reply.bytes ≤ most_given (command_of cdb) (Some u)) (record {
+      refused_is = λ sense k. none_few (most_given (command_of cdb) (Some u));
+      reported_is = λ sense a. none_few (most_given (command_of cdb) (Some u));
+      disk_is = λ c is g. subst (λ (r : Result Command CdbFault). length (command_execution m c sent).reply.bytes
+          ≤ most_given r (Some u)) (sym is) (command_few m u c sent h g);
+    })
 
 -- ---- at its unit of the array
 
 pub given_few : (s : ScenarioValue) (a : Array) (p : Process) → AreOfLines s a → HasWhole a
-    → length (execution (context_at a (nexus_of p) (unit_state_at a.units p.target p.unit)) p.cdb p.sent).reply.bytes ≤ most_given (command_of p.cdb) (unit_of s p.target p.unit)
-given_few s a p lines whole = go (unit_of s p.target p.unit) (unit_state_at a.units p.target p.unit) (lines p.target p.unit) (whole p.target p.unit)
+    → length (execution (context_at a (nexus_of p) (unit_state_at a.units p.target p.unit)) p.cdb p.sent).reply.bytes
+    ≤ most_given (command_of p.cdb) (unit_of s p.target p.unit)
+given_few s a p lines whole = go (unit_of s p.target p.unit) (unit_state_at a.units p.target p.unit)
+    (lines p.target p.unit) (whole p.target p.unit)
   where
     stored : Option Sense
     stored = sense_of_nexus a.senses (nexus_of p)
@@ -96,20 +111,25 @@ given_few s a p lines whole = go (unit_of s p.target p.unit) (unit_state_at a.un
     attention : Option Sense
     attention = sense_of_nexus a.attentions (nexus_of p)
 
-    absent : length (execution (record { present = false; contents = no_contents; stored = stored; attention = attention }) p.cdb p.sent).reply.bytes ≤ most_given (command_of p.cdb) None
-    absent =
-        subst (λ (r : Reply). length r.bytes ≤ most_given (command_of p.cdb) None) (sym (replies stored attention no_contents p.cdb p.sent))
+    absent :
+        length (execution (record { present = false; contents = no_contents; stored = stored; attention = attention })
+        p.cdb p.sent).reply.bytes ≤ most_given (command_of p.cdb) None
+    absent = subst (λ (r : Reply). length r.bytes ≤ most_given (command_of p.cdb) None)
+        (sym (replies stored attention no_contents p.cdb p.sent))
         (absent_few stored (is_opcode p.cdb INQUIRY) (command_of p.cdb))
 
-    go : (o : Option UnitDef) (x : Option UnitState) → IsOfLine o x → AreWhole (contents_of x) → length (execution (context_at a (nexus_of p) x) p.cdb p.sent).reply.bytes ≤ most_given (command_of p.cdb) o
+    go : (o : Option UnitDef) (x : Option UnitState) → IsOfLine o x → AreWhole (contents_of x)
+        → length (execution (context_at a (nexus_of p) x) p.cdb p.sent).reply.bytes ≤ most_given (command_of p.cdb) o
     go None None h w = absent
     go None (Some v) h w = absurd h
     go (Some u) None h w = absurd h
-    go (Some u) (Some v) h w = execution_few (context_at a (nexus_of p) (Some v)) u p.cdb p.sent (record { count = h.0; size = h.1; whole = w })
+    go (Some u) (Some v) h w = execution_few (context_at a (nexus_of p) (Some v)) u p.cdb p.sent
+        (record { count = h.0; size = h.1; whole = w })
 
 -- ---- what it needs
 
 -- By the line of its unit, where its target is one of the scenario.
-pub need_is : (s : ScenarioValue) (c : CmdDef) → has_target s c.target ≡ true → need_of s c ≡ moved_by (command_of c.cdb) (unit_of s c.target c.unit)
+pub need_is : (s : ScenarioValue) (c : CmdDef) → has_target s c.target ≡ true
+    → need_of s c ≡ moved_by (command_of c.cdb) (unit_of s c.target c.unit)
 unfolding need_of
 need_is s c t = λ i. if t i then moved_by (command_of c.cdb) (unit_of s c.target c.unit) else 0

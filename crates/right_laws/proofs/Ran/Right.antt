@@ -1,5 +1,5 @@
--- After any rows of a prompt trace each process that ran and ended has carried its command block, the bytes that it moves and its status; so
--- the trace, its history, the outcomes and the blocks belong together.
+-- After any rows of a prompt trace each process that ran and ended has carried its command block, the bytes that it
+-- moves and its status; so the trace, its history, the outcomes and the blocks belong together.
 use Rattle.right_laws.proofs
 use proofs.Names.{◌≡◌, true, ◌∙◌, List, [], ◌∷◌, Option, sym, ap, subst, reverse-reverse, reverse, is_some, Event, Row}
 use proofs.Names.{ScenarioValue, Obeys, array_after, disks_of, Array, outcomes, all_carried, Right, Story, story}
@@ -12,7 +12,8 @@ use proofs.Statuses.Facts.{status_at_end}
 
 -- ---- what is known of each prefix
 
--- Where the processes stand in the plain disk array, what the rows tell of them, and that a reply is there exactly where it was shown.
+-- Where the processes stand in the plain disk array, what the rows tell of them, and that a reply is there exactly
+-- where it was shown.
 pub record Joined (s : ScenarioValue) (p : List Row) : Type 0 where
   pub stood : Stood s p
   pub told : TellFacts s p
@@ -37,24 +38,43 @@ pub record RightBooks (s : ScenarioValue) (p : List Row) : Type 0 where
   pub offers : DataOfferFacts s p
   pub right : RightFacts s p
 
-pub right_books : (s : ScenarioValue) (p : List Row) → Obeys s → IsPrompt s p → AreJoined s p → AllMove s p → RightBooks s p
-right_books s [] o prompt h moves = record { undo = load_start s; blocks = block_start s; status = status_start s; offers = offer_start s; right = right_start s }
+pub right_books : (s : ScenarioValue) (p : List Row) → Obeys s → IsPrompt s p → AreJoined s p → AllMove s p
+    → RightBooks s p
+right_books s [] o prompt h moves = record {
+  undo = load_start s;
+  blocks = block_start s;
+  status = status_start s;
+  offers = offer_start s;
+  right = right_start s;
+}
 right_books s (row ∷ p) o prompt h moves =
     let was = right_books s p o prompt.0 h.0 moves.0 in
     let now = joined_last s p h.0 in
     let then = h.2 in
-    let known : Known s p row = record { was = now.stood; next = h.1; items = now.told.items; undo = was.undo; places = now.places; later = then.places; shown = now.shown } in
+    let known : Known s p row = record {
+      was = now.stood;
+      next = h.1;
+      items = now.told.items;
+      undo = was.undo;
+      places = now.places;
+      later = then.places;
+      shown = now.shown;
+    } in
     record {
       undo = load_next s p row o prompt now.stood h.1 was.undo;
       blocks = block_next s p row now.stood h.1 now.told.items was.undo now.places then.places was.blocks;
-      status = status_next s p row o prompt now.told.last (record { known = known; named = now.told.named; last = then.told.last; facts = was.status });
+      status = status_next s p row o prompt now.told.last
+          (record { known = known; named = now.told.named; last = then.told.last; facts = was.status });
       offers = offer_next s p row o prompt now.stood h.1 was.offers;
-      right = right_next s p row now.stood h.1 now.told.items was.undo now.places then.places now.shown was.blocks (moves_at_run s p row o known now.pointers moves.1 moves.2) (status_at_end s p row now.stood h.1 now.told was.status) was.right;
+      right = right_next s p row now.stood h.1 now.told.items was.undo now.places then.places now.shown was.blocks
+          (moves_at_run s p row o known now.pointers moves.1 moves.2)
+          (status_at_end s p row now.stood h.1 now.told was.status) was.right;
     }
 
 -- ---- so it is right
 
-pub carried_rows : (s : ScenarioValue) (p : List Row) → Obeys s → IsPrompt s p → AreJoined s p → AllMove s p → all_carried s (story s p) (trace_history s p) ≡ true
+pub carried_rows : (s : ScenarioValue) (p : List Row) → Obeys s → IsPrompt s p → AreJoined s p → AllMove s p
+    → all_carried s (story s p) (trace_history s p) ≡ true
 carried_rows s p o prompt h moves =
     let k = run_state s p in
     let now = joined_last s p h in
@@ -65,7 +85,9 @@ carried_rows s p o prompt h moves =
     ((λ i. array_after s (pl.story i).history) ∙ sym pl.array ∙ now.places.array_is)
     (ap (or_start s) now.places.array_is) books.right.ran books.right.ended)
 
-pub right_rows : (s : ScenarioValue) (p : List Row) → Obeys s → IsPrompt s p → AreJoined s p → AllMove s p → Right s (reverse p) (reverse (trace_history s p)) (outcomes s (story s p)) (disks_of (array_after s (trace_history s p)))
+pub right_rows : (s : ScenarioValue) (p : List Row) → Obeys s → IsPrompt s p → AreJoined s p → AllMove s p
+    → Right s (reverse p) (reverse (trace_history s p)) (outcomes s (story s p))
+    (disks_of (array_after s (trace_history s p)))
 right_rows s p o prompt h moves =
     let rows = reverse-reverse p in
     let history = reverse-reverse (trace_history s p) in
@@ -73,7 +95,8 @@ right_rows s p o prompt h moves =
     let pl : IsPlain s p (run_state s p) = now.stood.plain in
     record {
       told = ap (λ (x : List Row). (story s x).history) rows ∙ sym history;
-      permitted = ap (λ (x : List Event). is_some (array_after s x)) history ∙ ap is_some (sym pl.array ∙ now.places.array_is);
+      permitted =
+          ap (λ (x : List Event). is_some (array_after s x)) history ∙ ap is_some (sym pl.array ∙ now.places.array_is);
       blocks = ap (λ (x : List Event). disks_of (array_after s x)) history;
       replies = ap (λ (x : List Row). outcomes s (story s x)) rows;
       carried = (λ i. all_carried s (story s (rows i)) (history i)) ∙ carried_rows s p o prompt h moves;
@@ -86,10 +109,14 @@ joined_of s p w = record { stood = w.stood; told = w.facts; shown = w.shown; pla
 
 pub all_joined : (s : ScenarioValue) (p : List Row) → Obeys s → IsPrompt s p → AreJoined s p
 all_joined s [] o prompt = joined_of s [] (whole s [] o prompt)
-all_joined s (row ∷ p) o prompt =
-    (all_joined s p o prompt.0, standing_next s p row o prompt (whole s p o prompt.0), joined_of s (row ∷ p) (whole s (row ∷ p) o prompt))
+all_joined s (row ∷ p) o prompt = (
+  all_joined s p o prompt.0,
+  standing_next s p row o prompt (whole s p o prompt.0),
+  joined_of s (row ∷ p) (whole s (row ∷ p) o prompt),
+)
 
-pub history_permitted : (s : ScenarioValue) (p : List Row) → Obeys s → IsPrompt s p → is_some (array_after s (trace_history s p)) ≡ true
+pub history_permitted : (s : ScenarioValue) (p : List Row) → Obeys s → IsPrompt s p
+    → is_some (array_after s (trace_history s p)) ≡ true
 history_permitted s p o prompt =
     let w = whole s p o prompt in
     let pl : IsPlain s p (run_state s p) = w.stood.plain in

@@ -35,7 +35,8 @@ pub record IsAnswer (k : RunState) (d : RowReading) (id : ProcId) : Type 0 where
   pub unanswered : is_marked (carried_here k id) ≡ false
 
 -- COMMAND COMPLETE is taken.
-pub record IsEnding (s : ScenarioValue) (k : RunState) (d : RowReading) (row : Row) (id : ProcId) (status : ℕ) : Type 0 where
+pub record IsEnding (s : ScenarioValue) (k : RunState) (d : RowReading) (row : Row) (id : ProcId) (status : ℕ) : Type
+    0 where
   pub link : Link
   pub here : IsHere k d link id
   pub stays : changes_phase d.change ≡ false
@@ -60,8 +61,11 @@ pub data RunsAs (id : ProcId) (shown : List Event) : Type 0 where
 
 -- ---- a phase is left
 
-turn_shown : (s : ScenarioValue) (k : RunState) (d : RowReading) (row : Row) (l : Link) (x : ProcId) → IsHere k d l x → changes_phase d.change ≡ true → OnEvents (ShownAs s k d row) (phase_events s k.story (Some (carried_here k x)) d.change)
-turn_shown s k d row l x here turns = status (is_status_phase d.change.after && not c.shown && not c.refused && not (list_any (λ e. is_refuse e) arrived)) refl
+turn_shown : (s : ScenarioValue) (k : RunState) (d : RowReading) (row : Row) (l : Link) (x : ProcId)
+    → IsHere k d l x → changes_phase d.change ≡ true
+    → OnEvents (ShownAs s k d row) (phase_events s k.story (Some (carried_here k x)) d.change)
+turn_shown s k d row l x here turns = status
+    (is_status_phase d.change.after && not c.shown && not c.refused && not (list_any (λ e. is_refuse e) arrived)) refl
   where
     c : CarriedBytes
     c = carried_here k x
@@ -77,7 +81,8 @@ turn_shown s k d row l x here turns = status (is_status_phase d.change.after && 
         let w = and_parts (is_command d.change.before) (is_whole_block c) e in
         subst (IsArrival k d) (sym own) (record { link = l; here = here; turns = turns; command = w.0; whole = w.1 })
 
-    queued : (q : Bool) → (is_command d.change.before && is_whole_block c) ≡ q → OnEvents (ShownAs s k d row) (if q then queue_event s k.story.history c.id ∷ [] else [])
+    queued : (q : Bool) → (is_command d.change.before && is_whole_block c) ≡ q
+        → OnEvents (ShownAs s k d row) (if q then queue_event s k.story.history c.id ∷ [] else [])
     queued false e = tt
     queued true e = (by (is_some (array_after s (Event.Accept c.id ∷ k.story.history))), tt)
       where
@@ -85,23 +90,36 @@ turn_shown s k d row l x here turns = status (is_status_phase d.change.after && 
         by true = arrives e
         by false = arrives e
 
-    answers : (is_status_phase d.change.after && not c.shown && not c.refused && not (list_any (λ e. is_refuse e) arrived)) ≡ true → (failure : Option ℕ) → ShownAs s k d row (status_event c.id failure)
+    answers :
+        (is_status_phase d.change.after && not c.shown && not c.refused && not (list_any (λ e. is_refuse e) arrived))
+        ≡ true → (failure : Option ℕ) → ShownAs s k d row (status_event c.id failure)
     answers e failure = elim failure as (λ f. ShownAs s k d row (status_event c.id f)) [ None ↦ of | Some code ↦ of ]
       where
         of : IsAnswer k d c.id
         of =
-            let three = and_parts (is_status_phase d.change.after && not c.shown && not c.refused) (not (list_any (λ y. is_refuse y) arrived)) e in
+            let three = and_parts (is_status_phase d.change.after && not c.shown && not c.refused)
+            (not (list_any (λ y. is_refuse y) arrived)) e in
             let two = and_parts (is_status_phase d.change.after && not c.shown) (not c.refused) three.0 in
             let one = and_parts (is_status_phase d.change.after) (not c.shown) two.0 in
-            subst (IsAnswer k d) (sym own) (record { link = l; here = here; turns = turns; status = one.0; unanswered = λ i. not-true c.shown one.1 i || not-true c.refused two.1 i })
+            subst (IsAnswer k d) (sym own) (record {
+              link = l;
+              here = here;
+              turns = turns;
+              status = one.0;
+              unanswered = λ i. not-true c.shown one.1 i || not-true c.refused two.1 i;
+            })
 
-    status : (q : Bool) → (is_status_phase d.change.after && not c.shown && not c.refused && not (list_any (λ e. is_refuse e) arrived)) ≡ q → OnEvents (ShownAs s k d row) (if q then status_event c.id c.failure ∷ arrived else arrived)
+    status : (q : Bool)
+        → (is_status_phase d.change.after && not c.shown && not c.refused && not (list_any (λ e. is_refuse e) arrived))
+        ≡ q → OnEvents (ShownAs s k d row) (if q then status_event c.id c.failure ∷ arrived else arrived)
     status true e = (answers e c.failure, queued (is_command d.change.before && is_whole_block c) refl)
     status false e = queued (is_command d.change.before && is_whole_block c) refl
 
 -- ---- any row
 
-pub row_shown : (s : ScenarioValue) (k : RunState) (row : Row) → OnEvents (ShownAs s k (row_reading k.story.bus_state row) row) (row_events_by s k.story (row_reading k.story.bus_state row) row)
+pub row_shown : (s : ScenarioValue) (k : RunState) (row : Row)
+    → OnEvents (ShownAs s k (row_reading k.story.bus_state row) row)
+    (row_events_by s k.story (row_reading k.story.bus_state row) row)
 row_shown s k row = go d.change.after.rst refl
   where
     d : RowReading
@@ -134,13 +152,16 @@ row_shown s k row = go d.change.after.rst refl
     freed free l disconnect = tt
     freed free l abortive = aborted free l.item
 
-    in_connection : (l : Link) → k.story.link ≡ Some l → d.change.after.rst ≡ false → is_some d.next ≡ true → All (connection_events s k.story l d)
+    in_connection : (l : Link) → k.story.link ≡ Some l → d.change.after.rst ≡ false → is_some d.next ≡ true
+        → All (connection_events s k.story l d)
     in_connection l link calm stands = by (changes_phase d.change) refl l.item refl
       where
         here : (id : ProcId) → l.item ≡ Some (process id) → IsHere k d l id
         here id e = record { link_is = link; item_is = e; calm = calm; stands = stands }
 
-        ends : (id : ProcId) (c : CarriedBytes) → IsHere k d l id → changes_phase d.change ≡ false → is_completion l d.change ≡ true → c ≡ carried_here k id → row_events_by s k.story d row ≡ end_events (Some c) → All (end_events (Some c))
+        ends : (id : ProcId) (c : CarriedBytes) → IsHere k d l id → changes_phase d.change ≡ false
+            → is_completion l d.change ≡ true → c ≡ carried_here k id
+            → row_events_by s k.story d row ≡ end_events (Some c) → All (end_events (Some c))
         ends id c w stays done e shown =
             let own : id ≡ c.id = sym (ap (λ (x : CarriedBytes). x.id) e ∙ carried_id k.story.carried id) in (
               record {
@@ -154,38 +175,48 @@ row_shown s k row = go d.change.after.rst refl
               tt,
             )
 
-        by : (q : Bool) → changes_phase d.change ≡ q → (item : Option Item) → l.item ≡ item → All (if q then phase_events s k.story (carried_if k.story item) d.change else if is_completion l d.change then end_events (carried_if k.story item) else [])
+        by : (q : Bool) → changes_phase d.change ≡ q → (item : Option Item) → l.item ≡ item
+            → All (if q then phase_events s k.story (carried_if k.story item) d.change
+            else if is_completion l d.change then end_events (carried_if k.story item) else [])
         by true e None f = tt
         by true e (Some (abort n)) f = tt
         by true e (Some (process id)) f = turn_shown s k d row l id (here id f) e
         by false e item f = completes (is_completion l d.change) refl item f
           where
-            completes : (r : Bool) → is_completion l d.change ≡ r → (x : Option Item) → l.item ≡ x → All (if r then end_events (carried_if k.story x) else [])
+            completes : (r : Bool) → is_completion l d.change ≡ r → (x : Option Item) → l.item ≡ x
+                → All (if r then end_events (carried_if k.story x) else [])
             completes false done x g = tt
             completes true done None g = tt
             completes true done (Some (abort n)) g = tt
-            completes true done (Some (process id)) g =
-                ends id (carried_here k id) (here id g) e done refl
-                ((λ i. if calm i then (if rises d.change.own.rst d.change.next.rst then Event.Reset row.dev ∷ [] else []) else link_events s k.story (link i) d)
+            completes true done (Some (process id)) g = ends id (carried_here k id) (here id g) e done refl ((λ i.
+                if calm i then (if rises d.change.own.rst d.change.next.rst then Event.Reset row.dev ∷ [] else [])
+                else link_events s k.story (link i) d)
                 ∙ (λ i. if stands i then connection_events s k.story l d else bus_free_events s l l.last)
-                ∙ (λ i. if e i then phase_events s k.story (carried_if k.story l.item) d.change else if done i then end_events (carried_if k.story (g i)) else []))
+                ∙ (λ i. if e i then phase_events s k.story (carried_if k.story l.item) d.change
+                else if done i then end_events (carried_if k.story (g i)) else []))
 
     linked : (o : Option Link) → k.story.link ≡ o → d.change.after.rst ≡ false → All (link_events s k.story o d)
     linked None e calm = tt
     linked (Some l) e calm = by (is_some d.next) refl
       where
-        by : (q : Bool) → is_some d.next ≡ q → All (if q then connection_events s k.story l d else bus_free_events s l l.last)
+        by : (q : Bool) → is_some d.next ≡ q
+            → All (if q then connection_events s k.story l d else bus_free_events s l l.last)
         by true f = in_connection l e calm f
         by false f = freed f l l.last
 
-    go : (q : Bool) → d.change.after.rst ≡ q → All (if q then (if rises d.change.own.rst d.change.next.rst then Event.Reset row.dev ∷ [] else []) else link_events s k.story k.story.link d)
+    go : (q : Bool) → d.change.after.rst ≡ q
+        → All (if q then (if rises d.change.own.rst d.change.next.rst then Event.Reset row.dev ∷ [] else [])
+        else link_events s k.story k.story.link d)
     go true e = reset e (rises d.change.own.rst d.change.next.rst)
     go false e = linked k.story.link refl e
 
 -- ---- where a process runs with it
 
-turn_runs : (s : ScenarioValue) (k : RunState) (d : RowReading) (id : ProcId) (c : CarriedBytes) → has_run (phase_events s k.story (Some c) d.change) id ≡ true → RunsAs id (phase_events s k.story (Some c) d.change)
-turn_runs s k d id c = status (is_command d.change.before && is_whole_block c) (is_some (array_after s (Event.Accept c.id ∷ k.story.history)))
+turn_runs : (s : ScenarioValue) (k : RunState) (d : RowReading) (id : ProcId) (c : CarriedBytes)
+    → has_run (phase_events s k.story (Some c) d.change) id ≡ true
+    → RunsAs id (phase_events s k.story (Some c) d.change)
+turn_runs s k d id c = status (is_command d.change.before && is_whole_block c)
+    (is_some (array_after s (Event.Accept c.id ∷ k.story.history)))
   where
     arrived : (q r : Bool) → List Event
     arrived q r = if q then (if r then Event.Accept c.id else Event.Refuse c.id) ∷ [] else []
@@ -195,7 +226,8 @@ turn_runs s k d id c = status (is_command d.change.before && is_whole_block c) (
     none true false = refl
     none false r = refl
 
-    alone : (failure : Option ℕ) → has_run (status_event c.id failure ∷ []) id ≡ true → RunsAs id (status_event c.id failure ∷ [])
+    alone : (failure : Option ℕ) → has_run (status_event c.id failure ∷ []) id ≡ true
+        → RunsAs id (status_event c.id failure ∷ [])
     alone (Some code) e = wrong' e
     alone None e = runs_alone (ap (λ (x : ProcId). Event.Run x ∷ []) (id_is c.id id (first (same_id c.id id) e)))
       where
@@ -203,9 +235,11 @@ turn_runs s k d id c = status (is_command d.change.before && is_whole_block c) (
         first true z = refl
         first false z = wrong' z
 
-    with_arrival : (failure : Option ℕ) → has_run (status_event c.id failure ∷ Event.Accept c.id ∷ []) id ≡ true → RunsAs id (status_event c.id failure ∷ Event.Accept c.id ∷ [])
+    with_arrival : (failure : Option ℕ) → has_run (status_event c.id failure ∷ Event.Accept c.id ∷ []) id ≡ true
+        → RunsAs id (status_event c.id failure ∷ Event.Accept c.id ∷ [])
     with_arrival (Some code) e = wrong' e
-    with_arrival None e = runs_arrived (ap (λ (x : ProcId). Event.Run x ∷ Event.Accept x ∷ []) (id_is c.id id (first (same_id c.id id) e)))
+    with_arrival None e = runs_arrived
+        (ap (λ (x : ProcId). Event.Run x ∷ Event.Accept x ∷ []) (id_is c.id id (first (same_id c.id id) e)))
       where
         first : (q : Bool) → (q || false) ≡ true → q ≡ true
         first true z = refl
@@ -217,19 +251,32 @@ turn_runs s k d id c = status (is_command d.change.before && is_whole_block c) (
     last_false true false false = refl
     last_false false b e = refl
 
-    by : (t q r : Bool) → (q ≡ true → r ≡ false → t ≡ false) → has_run (if t then status_event c.id c.failure ∷ arrived q r else arrived q r) id ≡ true → RunsAs id (if t then status_event c.id c.failure ∷ arrived q r else arrived q r)
+    by : (t q r : Bool) → (q ≡ true → r ≡ false → t ≡ false)
+        → has_run (if t then status_event c.id c.failure ∷ arrived q r else arrived q r) id ≡ true
+        → RunsAs id (if t then status_event c.id c.failure ∷ arrived q r else arrived q r)
     by false q r f e = wrong' (sym (none q r) ∙ e)
     by true true true f e = with_arrival c.failure e
     by true true false f e = wrong (f refl refl)
     by true false r f e = alone c.failure e
 
-    status : (q r : Bool) → has_run (if is_status_phase d.change.after && not c.shown && not c.refused && not (list_any (λ e. is_refuse e) (arrived q r)) then status_event c.id c.failure ∷ arrived q r else arrived q r) id ≡ true → RunsAs id (if is_status_phase d.change.after && not c.shown && not c.refused && not (list_any (λ e. is_refuse e) (arrived q r)) then status_event c.id c.failure ∷ arrived q r else arrived q r)
-    status q r = by (is_status_phase d.change.after && not c.shown && not c.refused && not (list_any (λ e. is_refuse e) (arrived q r))) q r (λ z w. ap2 z w)
+    status : (q r : Bool) → has_run (if is_status_phase d.change.after && not c.shown && not c.refused
+        && not (list_any (λ e. is_refuse e) (arrived q r)) then status_event c.id c.failure ∷ arrived q r
+        else arrived q r) id ≡ true
+        → RunsAs id (if is_status_phase d.change.after && not c.shown && not c.refused
+        && not (list_any (λ e. is_refuse e) (arrived q r)) then status_event c.id c.failure ∷ arrived q r
+        else arrived q r)
+    status q r = by (is_status_phase d.change.after && not c.shown && not c.refused
+        && not (list_any (λ e. is_refuse e) (arrived q r))) q r (λ z w. ap2 z w)
       where
-        ap2 : q ≡ true → r ≡ false → (is_status_phase d.change.after && not c.shown && not c.refused && not (list_any (λ e. is_refuse e) (arrived q r))) ≡ false
-        ap2 z w = (λ i. is_status_phase d.change.after && not c.shown && not c.refused && not (list_any (λ e. is_refuse e) (arrived (z i) (w i)))) ∙ last_false (is_status_phase d.change.after) c.shown c.refused
+        ap2 : q ≡ true → r ≡ false → (is_status_phase d.change.after && not c.shown && not c.refused
+            && not (list_any (λ e. is_refuse e) (arrived q r))) ≡ false
+        ap2 z w = (λ i. is_status_phase d.change.after && not c.shown && not c.refused
+            && not (list_any (λ e. is_refuse e) (arrived (z i) (w i))))
+            ∙ last_false (is_status_phase d.change.after) c.shown c.refused
 
-pub row_runs : (s : ScenarioValue) (k : RunState) (row : Row) (id : ProcId) → has_run (row_events_by s k.story (row_reading k.story.bus_state row) row) id ≡ true → RunsAs id (row_events_by s k.story (row_reading k.story.bus_state row) row)
+pub row_runs : (s : ScenarioValue) (k : RunState) (row : Row) (id : ProcId)
+    → has_run (row_events_by s k.story (row_reading k.story.bus_state row) row) id ≡ true
+    → RunsAs id (row_events_by s k.story (row_reading k.story.bus_state row) row)
 row_runs s k row id = go d.change.after.rst
   where
     d : RowReading
@@ -273,7 +320,8 @@ row_runs s k row id = go d.change.after.rst
     completed true (Some (abort n)) e = wrong' e
     completed true (Some (process x)) e = wrong' e
 
-    in_connection : (l : Link) (q : Bool) → Has (if q then phase_events s k.story (carried_if k.story l.item) d.change else if is_completion l d.change then end_events (carried_if k.story l.item) else [])
+    in_connection : (l : Link) (q : Bool) → Has (if q then phase_events s k.story (carried_if k.story l.item) d.change
+        else if is_completion l d.change then end_events (carried_if k.story l.item) else [])
     in_connection l true = turned l.item
     in_connection l false = completed (is_completion l d.change) l.item
 
@@ -285,6 +333,7 @@ row_runs s k row id = go d.change.after.rst
         by true = in_connection l (changes_phase d.change)
         by false = freed l l.last
 
-    go : (q : Bool) → Has (if q then (if rises d.change.own.rst d.change.next.rst then Event.Reset row.dev ∷ [] else []) else link_events s k.story k.story.link d)
+    go : (q : Bool) → Has (if q then (if rises d.change.own.rst d.change.next.rst then Event.Reset row.dev ∷ [] else [])
+        else link_events s k.story k.story.link d)
     go true = reset (rises d.change.own.rst d.change.next.rst)
     go false = linked k.story.link

@@ -1,4 +1,5 @@
--- Each block of each unit of the plain disk array has as many bytes as the unit's blocks have, after any history (7.3, 7.5).
+-- Each block of each unit of the plain disk array has as many bytes as the unit's blocks have, after any history (7.3,
+-- 7.5).
 use Rattle.right_laws.proofs
 use proofs.Names.{ℕ, ◌≡◌, ◌⊎◌, inl, inr, cond, ◌+◌, ◌-◌, ◌*◌, Bool, true, false, not, ◌&&◌, ◌||◌, ◌==◌, ◌∙◌, List, []}
 use proofs.Names.{◌∷◌, length, Option, Some, None, refl, sym, ap, subst, eqb-true, and_parts, same_Some, find}
@@ -21,21 +22,27 @@ use Rattle.bus_due.specs.disk_array.specs.Steps
 
 -- ---- contents
 
-filled_whole : (u : UnitDef) (fills : List FillDef) (c : Contents) → AreFilled u fills → c.size ≡ u.size → AreWhole c → AreWhole (filled_contents u fills c)
+filled_whole : (u : UnitDef) (fills : List FillDef) (c : Contents) → AreFilled u fills → c.size ≡ u.size → AreWhole c
+    → AreWhole (filled_contents u fills c)
 filled_whole u [] c a e h = h
-filled_whole u (f ∷ fills) c a e h = go (f.target == u.target && f.unit == u.unit) refl (λ d z w. filled_whole u fills d a.1 z w)
+filled_whole u (f ∷ fills) c a e h =
+    go (f.target == u.target && f.unit == u.unit) refl (λ d z w. filled_whole u fills d a.1 z w)
   where
-    go : (q : Bool) → (f.target == u.target && f.unit == u.unit) ≡ q → ((d : Contents) → d.size ≡ u.size → AreWhole d → AreWhole (filled_contents u fills d)) → AreWhole (filled_contents u fills (if q then with_block c f.lba f.bytes else c))
+    go : (q : Bool) → (f.target == u.target && f.unit == u.unit) ≡ q
+        → ((d : Contents) → d.size ≡ u.size → AreWhole d → AreWhole (filled_contents u fills d))
+        → AreWhole (filled_contents u fills (if q then with_block c f.lba f.bytes else c))
     go true z rest = rest (with_block c f.lba f.bytes) e (block_whole c f.lba f.bytes ((a.0 z).1 ∙ sym e) h)
     go false z rest = rest c e h
 
 -- ---- a command
 
 -- What it writes are whole blocks, where it is carried out.
-execution_whole : (m : CommandContext) (cdb sent : List ℕ) → AreWhole m.contents → (((execution m cdb sent).reply.status ≡ GOOD) → is_write (command_of cdb) ≡ true → length sent ≡ blocks_written m.contents cdb * m.contents.size) → AreWhole (execution m cdb sent).contents
+execution_whole : (m : CommandContext) (cdb sent : List ℕ) → AreWhole m.contents
+    → (((execution m cdb sent).reply.status ≡ GOOD) → is_write (command_of cdb) ≡ true
+    → length sent ≡ blocks_written m.contents cdb * m.contents.size) → AreWhole (execution m cdb sent).contents
 execution_whole m cdb sent h f =
-    whole_kept m cdb sent h
-    (λ c n is w r g good. f good (ap is_write is ∙ w) ∙ ap (λ (x : ℕ). x * m.contents.size) (ap (blocks_written_by m.contents) is ∙ (λ i. if g i then (if w i then r i else 0) else 0)))
+    whole_kept m cdb sent h (λ c n is w r g good. f good (ap is_write is ∙ w) ∙ ap (λ (x : ℕ). x * m.contents.size)
+    (ap (blocks_written_by m.contents) is ∙ (λ i. if g i then (if w i then r i else 0) else 0)))
 
 -- ---- the seats
 
@@ -49,7 +56,8 @@ settled_contents seat = go seat.unit
     go None = refl
     go (Some u) = choice_keeps (Seats.is_any_held seat.hold) u
 
-mapped_contents : (f : UnitState → UnitState) (x : Option UnitState) → ((u : UnitState) → (f u).contents ≡ u.contents) → contents_of (Seats.unit_mapped f x) ≡ contents_of x
+mapped_contents : (f : UnitState → UnitState) (x : Option UnitState)
+    → ((u : UnitState) → (f u).contents ≡ u.contents) → contents_of (Seats.unit_mapped f x) ≡ contents_of x
 mapped_contents f None e = refl
 mapped_contents f (Some u) e = e u
 
@@ -61,33 +69,53 @@ leaves_none : (b : Array) (t n : ℕ) → LeavesSo b t n None
 leaves_none b t n after e = none_some after e
 
 leaves_some : (b : Array) (t n : ℕ) (seat : Seat) → AreWhole (contents_of seat.unit) → LeavesSo b t n (Some seat)
-leaves_some b t n seat h after e = subst AreWhole (sym (settled_contents seat) ∙ ap (λ (x : Seat). contents_of x.unit) (same_Some (settled_seat seat) after e)) h
+leaves_some b t n seat h after e = subst AreWhole
+    (sym (settled_contents seat) ∙ ap (λ (x : Seat). contents_of x.unit) (same_Some (settled_seat seat) after e)) h
 
-kept_whole : (seat : Seat) (drops : Process → Bool) → AreWhole (contents_of seat.unit) → AreWhole (contents_of (Seats.seat_kept drops seat).unit)
+kept_whole : (seat : Seat) (drops : Process → Bool) → AreWhole (contents_of seat.unit)
+    → AreWhole (contents_of (Seats.seat_kept drops seat).unit)
 kept_whole seat drops h = subst AreWhole (sym (mapped_contents (Seats.unit_kept drops) seat.unit (λ u. refl))) h
 
-aborted_whole : (hosts : List HostDef) (i : ℕ) (what : AbortKind) (seat : Seat) → AreWhole (contents_of seat.unit) → AreWhole (contents_of (Seats.seat_after_aborted hosts i what seat).unit)
+aborted_whole : (hosts : List HostDef) (i : ℕ) (what : AbortKind) (seat : Seat) → AreWhole (contents_of seat.unit)
+    → AreWhole (contents_of (Seats.seat_after_aborted hosts i what seat).unit)
 aborted_whole hosts i AbortKind.All seat h = kept_whole seat (λ p. p.initiator == i) h
-aborted_whole hosts i (AbortKind.Tag n) seat h = kept_whole seat (λ p. p.initiator == i && Rattle.bus_due.specs.disk_array.specs.Steps.has_tag p.tag n) h
+aborted_whole hosts i (AbortKind.Tag n) seat h =
+    kept_whole seat (λ p. p.initiator == i && Rattle.bus_due.specs.disk_array.specs.Steps.has_tag p.tag n) h
 aborted_whole hosts i AbortKind.WholeQueue seat h = kept_whole seat (λ p. true) h
 aborted_whole hosts i AbortKind.Device seat h = kept_whole seat (λ p. true) h
 
 -- ---- a process ends
 
-end_whole : (seat : Seat) (id : ProcId) (status : ℕ) (b : Array) (t n : ℕ) → AreWhole (contents_of seat.unit) → LeavesSo b t n (Seats.seat_after_end id status seat)
+end_whole : (seat : Seat) (id : ProcId) (status : ℕ) (b : Array) (t n : ℕ) → AreWhole (contents_of seat.unit)
+    → LeavesSo b t n (Seats.seat_after_end id status seat)
 end_whole seat id status b t n h = go (Seats.running_at seat id)
   where
-    stored : (p : Process) (reply : Reply) (x y : Bool) → AreWhole (contents_of (Seats.seat_without (if x then record seat { senses = Seats.with_sense_of seat.senses p.initiator (Some reply.sense); hold = Seats.with_hold_of seat.hold p.initiator true } else if y then record seat { senses = Seats.with_sense_of seat.senses p.initiator None; hold = Seats.with_hold_of seat.hold p.initiator false } else seat) p.id).unit)
-    stored p reply true y = subst AreWhole (sym (mapped_contents (λ u. Rattle.bus_due.specs.disk_array.specs.Steps.unit_without u p.id) seat.unit (λ u. refl))) h
-    stored p reply false true = subst AreWhole (sym (mapped_contents (λ u. Rattle.bus_due.specs.disk_array.specs.Steps.unit_without u p.id) seat.unit (λ u. refl))) h
-    stored p reply false false = subst AreWhole (sym (mapped_contents (λ u. Rattle.bus_due.specs.disk_array.specs.Steps.unit_without u p.id) seat.unit (λ u. refl))) h
+    stored : (p : Process) (reply : Reply) (x y : Bool)
+        → AreWhole (contents_of (Seats.seat_without (if x then record seat {
+          senses = Seats.with_sense_of seat.senses p.initiator (Some reply.sense);
+          hold = Seats.with_hold_of seat.hold p.initiator true;
+        } else if y then record seat {
+          senses = Seats.with_sense_of seat.senses p.initiator None;
+          hold = Seats.with_hold_of seat.hold p.initiator false;
+        } else seat) p.id).unit)
+    stored p reply true y = subst AreWhole (sym
+        (mapped_contents (λ u. Rattle.bus_due.specs.disk_array.specs.Steps.unit_without u p.id) seat.unit (λ u. refl)))
+        h
+    stored p reply false true = subst AreWhole (sym
+        (mapped_contents (λ u. Rattle.bus_due.specs.disk_array.specs.Steps.unit_without u p.id) seat.unit (λ u. refl)))
+        h
+    stored p reply false false = subst AreWhole (sym
+        (mapped_contents (λ u. Rattle.bus_due.specs.disk_array.specs.Steps.unit_without u p.id) seat.unit (λ u. refl)))
+        h
 
     by : (p : Process) (o : Option Reply) → LeavesSo b t n (Seats.seat_after_end_with seat p status o)
     by p None = leaves_none b t n
     by p (Some reply) = at (reply.status == status)
       where
-        at : (x : Bool) → LeavesSo b t n (if x then Some (Seats.seat_without (Seats.seat_after_status seat p reply) p.id) else None)
-        at true = leaves_some b t n (Seats.seat_without (Seats.seat_after_status seat p reply) p.id) (stored p reply (reply.status == CHECK_CONDITION) (reply.status == GOOD && is_request_sense (command_of p.cdb)))
+        at : (x : Bool)
+            → LeavesSo b t n (if x then Some (Seats.seat_without (Seats.seat_after_status seat p reply) p.id) else None)
+        at true = leaves_some b t n (Seats.seat_without (Seats.seat_after_status seat p reply) p.id) (stored p reply
+            (reply.status == CHECK_CONDITION) (reply.status == GOOD && is_request_sense (command_of p.cdb)))
         at false = leaves_none b t n
 
     go : (o : Option RunningProcess) → LeavesSo b t n (Seats.seat_after_end_of seat status o)
@@ -96,48 +124,67 @@ end_whole seat id status b t n h = go (Seats.running_at seat id)
 
 -- ---- a process runs
 
-current_own : (s : ScenarioValue) (units : List UnitState) (t n : ℕ) (p : Process) (r : RunningProcess) → AllOwnUnits s units → process_of s p.id ≡ Some p → running_if (Seats.current_of (unit_state_at units t n)) p.id ≡ Some r → r.process ≡ p
+current_own : (s : ScenarioValue) (units : List UnitState) (t n : ℕ) (p : Process) (r : RunningProcess)
+    → AllOwnUnits s units → process_of s p.id ≡ Some p
+    → running_if (Seats.current_of (unit_state_at units t n)) p.id ≡ Some r → r.process ≡ p
 current_own s [] t n p r own is e = none_some r e
-current_own s (u ∷ units) t n p r own is e = go (u.target == t && u.unit == n) e (λ z. current_own s units t n p r own.1 is z)
+current_own s (u ∷ units) t n p r own is e =
+    go (u.target == t && u.unit == n) e (λ z. current_own s units t n p r own.1 is z)
   where
-    inner : (o : Option RunningProcess) → (let a : ℕ = u.target in let b : ℕ = u.unit in IsOwnRunning s a b o) → running_if o p.id ≡ Some r → r.process ≡ p
+    inner : (o : Option RunningProcess) → (let a : ℕ = u.target in let b : ℕ = u.unit in IsOwnRunning s a b o)
+        → running_if o p.id ≡ Some r → r.process ≡ p
     inner None h z = none_some r z
     inner (Some x) h z = at (same_id x.process.id p.id) refl z
       where
         at : (y : Bool) → same_id x.process.id p.id ≡ y → (if y then Some x else None) ≡ Some r → r.process ≡ p
-        at true f w = ap (λ (v : RunningProcess). v.process) (sym (same_Some x r w)) ∙ same_Some x.process p (sym h.is ∙ ap (process_of s) (id_is x.process.id p.id f) ∙ is)
+        at true f w = ap (λ (v : RunningProcess). v.process) (sym (same_Some x r w))
+            ∙ same_Some x.process p (sym h.is ∙ ap (process_of s) (id_is x.process.id p.id f) ∙ is)
         at false f w = none_some r w
 
-    go : (x : Bool) → running_if (Seats.current_of (if x then Some u else unit_state_at units t n)) p.id ≡ Some r → (running_if (Seats.current_of (unit_state_at units t n)) p.id ≡ Some r → r.process ≡ p) → r.process ≡ p
+    go : (x : Bool) → running_if (Seats.current_of (if x then Some u else unit_state_at units t n)) p.id ≡ Some r
+        → (running_if (Seats.current_of (unit_state_at units t n)) p.id ≡ Some r → r.process ≡ p) → r.process ≡ p
     go true z rest = inner u.current own.0.current z
     go false z rest = rest z
 
-pub running_own : (s : ScenarioValue) (a : Array) (p : Process) (r : RunningProcess) (t n : ℕ) → IsSound s a → process_of s p.id ≡ Some p → Seats.running_at (seat_of a t n) p.id ≡ Some r → r.process ≡ p
+pub running_own : (s : ScenarioValue) (a : Array) (p : Process) (r : RunningProcess) (t n : ℕ) → IsSound s a
+    → process_of s p.id ≡ Some p → Seats.running_at (seat_of a t n) p.id ≡ Some r → r.process ≡ p
 running_own s a p r t n sound is e = go (guest_at (Seats.guests_at a.guests t n) p.id) refl e
   where
-    go : (o : Option RunningProcess) → guest_at (Seats.guests_at a.guests t n) p.id ≡ o → (if is_some o then o else running_if (Seats.current_of (unit_state_at a.units t n)) p.id) ≡ Some r → r.process ≡ p
+    go : (o : Option RunningProcess) → guest_at (Seats.guests_at a.guests t n) p.id ≡ o
+        → (if is_some o then o else running_if (Seats.current_of (unit_state_at a.units t n)) p.id) ≡ Some r
+        → r.process ≡ p
     go None z w = current_own s a.units t n p r sound.units is w
     go (Some g) z w = guest_there s a.guests t n p r sound.guests is (z ∙ w)
 
-run_whole : (s : ScenarioValue) (a b : Array) (p : Process) → IsSound s a → process_of s p.id ≡ Some p → AreWhole (execution (context_of (seat_of a p.target p.unit) p.initiator) p.cdb p.sent).contents → LeavesSo b p.target p.unit (Seats.seat_after_run p.id (seat_of a p.target p.unit))
+run_whole : (s : ScenarioValue) (a b : Array) (p : Process) → IsSound s a → process_of s p.id ≡ Some p
+    → AreWhole (execution (context_of (seat_of a p.target p.unit) p.initiator) p.cdb p.sent).contents
+    → LeavesSo b p.target p.unit (Seats.seat_after_run p.id (seat_of a p.target p.unit))
 run_whole s a b p sound is h = go (Seats.running_at seat p.id) refl
   where
     seat : Seat
     seat = seat_of a p.target p.unit
 
-    done : (x : Option UnitState) → AreWhole (execution (context_of (record seat { unit = x }) p.initiator) p.cdb p.sent).contents → AreWhole (contents_of (Seats.seat_with_execution (record seat { unit = x }) p (execution (context_of (record seat { unit = x }) p.initiator) p.cdb p.sent)).unit)
+    done : (x : Option UnitState)
+        → AreWhole (execution (context_of (record seat { unit = x }) p.initiator) p.cdb p.sent).contents
+        → AreWhole (contents_of (Seats.seat_with_execution (record seat { unit = x }) p
+        (execution (context_of (record seat { unit = x }) p.initiator) p.cdb p.sent)).unit)
     done None w = λ lba. refl
     done (Some u) w = w
 
-    by : (r : RunningProcess) → r.process ≡ p → (y : Bool) → LeavesSo b p.target p.unit (if y then Some (Seats.seat_with_execution seat r.process (execution (context_of seat r.process.initiator) r.process.cdb r.process.sent)) else None)
+    by : (r : RunningProcess) → r.process ≡ p → (y : Bool)
+        → LeavesSo b p.target p.unit (if y then Some (Seats.seat_with_execution seat r.process
+        (execution (context_of seat r.process.initiator) r.process.cdb r.process.sent)) else None)
     by r same false = leaves_none b p.target p.unit
-    by r same true =
-        subst (λ (q : Process). LeavesSo b p.target p.unit (Some (Seats.seat_with_execution seat q (execution (context_of seat q.initiator) q.cdb q.sent)))) (sym same)
-        (leaves_some b p.target p.unit (Seats.seat_with_execution seat p (execution (context_of seat p.initiator) p.cdb p.sent)) (done seat.unit h))
+    by r same true = subst (λ (q : Process). LeavesSo b p.target p.unit
+        (Some (Seats.seat_with_execution seat q (execution (context_of seat q.initiator) q.cdb q.sent))))
+        (sym same) (leaves_some b p.target p.unit
+        (Seats.seat_with_execution seat p (execution (context_of seat p.initiator) p.cdb p.sent)) (done seat.unit h))
 
-    go : (o : Option RunningProcess) → Seats.running_at seat p.id ≡ o → LeavesSo b p.target p.unit (Seats.seat_after_run_of seat (is_some (guest_at seat.guests p.id)) o)
+    go : (o : Option RunningProcess) → Seats.running_at seat p.id ≡ o
+        → LeavesSo b p.target p.unit (Seats.seat_after_run_of seat (is_some (guest_at seat.guests p.id)) o)
     go None e = leaves_none b p.target p.unit
-    go (Some r) e = by r (running_own s a p r p.target p.unit sound is e) (is_none r.reply && (is_some (guest_at seat.guests p.id) || not (Seats.is_any_held seat.hold)))
+    go (Some r) e = by r (running_own s a p r p.target p.unit sound is e)
+        (is_none r.reply && (is_some (guest_at seat.guests p.id) || not (Seats.is_any_held seat.hold)))
 
 no_unit : {A : Type 0} (u : UnitState) (d : Option UnitDef) → d ≡ None → IsOfLine d (Some u) → A
 no_unit u None e h = absurd h
@@ -147,14 +194,18 @@ no_unit u (Some d) e h = absurd (none_is d e)
     none_is x z = cc
 
 -- What it sends, where it is carried out, are the bytes of the blocks that it writes.
-sent_whole : (s : ScenarioValue) (a : Array) (p : Process) → Obeys s → AreOfLines s a → process_of s p.id ≡ Some p → (execution (context_of (seat_of a p.target p.unit) p.initiator) p.cdb p.sent).reply.status ≡ GOOD → is_write (command_of p.cdb) ≡ true
-    → length p.sent ≡ blocks_written (contents_of (unit_state_at a.units p.target p.unit)) p.cdb * (contents_of (unit_state_at a.units p.target p.unit)).size
+sent_whole : (s : ScenarioValue) (a : Array) (p : Process) → Obeys s → AreOfLines s a → process_of s p.id ≡ Some p
+    → (execution (context_of (seat_of a p.target p.unit) p.initiator) p.cdb p.sent).reply.status ≡ GOOD
+    → is_write (command_of p.cdb) ≡ true
+    → length p.sent ≡ blocks_written (contents_of (unit_state_at a.units p.target p.unit)) p.cdb
+    * (contents_of (unit_state_at a.units p.target p.unit)).size
 sent_whole s a p o lines is good w =
     by_bool (has_target s p.target)
     (λ e. (sends s a p (obeys_fits s o) lines e is (writer_plain s p is w)).bytes good)
     (λ e. none (unit_state_at a.units p.target p.unit) (lines p.target p.unit) e)
   where
-    none : (x : Option UnitState) → IsOfLine (unit_of s p.target p.unit) x → has_target s p.target ≡ false → length p.sent ≡ blocks_written (contents_of x) p.cdb * (contents_of x).size
+    none : (x : Option UnitState) → IsOfLine (unit_of s p.target p.unit) x → has_target s p.target ≡ false
+        → length p.sent ≡ blocks_written (contents_of x) p.cdb * (contents_of x).size
     none None h e = none_sent s p o is w e ∙ sym (zero_times (blocks_written no_contents p.cdb))
     none (Some u) h e =
         by_option (unit_of s p.target p.unit)
@@ -163,180 +214,256 @@ sent_whole s a p o lines is good w =
 
 -- ---- an event
 
-running_known : (s : ScenarioValue) (a : Array) (id : ProcId) (r : RunningProcess) → IsSound s a → Steps.running_process a id ≡ Some r → is_some (process_of s id) ≡ true
+running_known : (s : ScenarioValue) (a : Array) (id : ProcId) (r : RunningProcess) → IsSound s a
+    → Steps.running_process a id ≡ Some r → is_some (process_of s id) ≡ true
 running_known s a id r sound e =
-    let own = running_has (IsOf s) a id r (record { units = own_units s a.units sound.units; guests = own_guests s a.guests sound.guests }) e in
-    ap (λ (x : ProcId). is_some (process_of s x)) (sym (running_id a id r e)) ∙ ap (λ (x : Option Process). is_some x) own
+    let own = running_has (IsOf s) a id r
+    (record { units = own_units s a.units sound.units; guests = own_guests s a.guests sound.guests }) e in
+    ap (λ (x : ProcId). is_some (process_of s x)) (sym (running_id a id r e))
+    ∙ ap (λ (x : Option Process). is_some x) own
 
 -- It is of a process of the scenario, but for a loss.
-known_event : (s : ScenarioValue) (a b : Array) (e : Event) (id : ProcId) → IsSound s a → step s e a ≡ Some b → (e ≡ Event.Accept id) ⊎ (e ≡ Event.Refuse id) ⊎ (e ≡ Event.Run id) ⊎ ((code : ℕ) × (e ≡ Event.Fail id code)) ⊎ ((status : ℕ) × (e ≡ Event.End id status)) → is_some (process_of s id) ≡ true
+known_event : (s : ScenarioValue) (a b : Array) (e : Event) (id : ProcId) → IsSound s a → step s e a ≡ Some b
+    → (e ≡ Event.Accept id) ⊎ (e ≡ Event.Refuse id) ⊎ (e ≡ Event.Run id)
+    ⊎ ((code : ℕ) × (e ≡ Event.Fail id code)) ⊎ ((status : ℕ) × (e ≡ Event.End id status))
+    → is_some (process_of s id) ≡ true
 known_event s a b e id sound st h = go (process_of s id) refl h
   where
     is : (f : Event) → e ≡ f → step s f a ≡ Some b
     is f z = ap (λ (x : Event). step s x a) (sym z) ∙ st
 
-    ran : (f : Array → Option RunningProcess → Option Array) → f a None ≡ None → Steps.settled_array_if (f a (Steps.running_process a id)) ≡ Some b → is_some (process_of s id) ≡ true
+    ran : (f : Array → Option RunningProcess → Option Array) → f a None ≡ None
+        → Steps.settled_array_if (f a (Steps.running_process a id)) ≡ Some b → is_some (process_of s id) ≡ true
     ran f none z = by (Steps.running_process a id) refl z
       where
-        by : (o : Option RunningProcess) → Steps.running_process a id ≡ o → Steps.settled_array_if (f a o) ≡ Some b → is_some (process_of s id) ≡ true
+        by : (o : Option RunningProcess) → Steps.running_process a id ≡ o → Steps.settled_array_if (f a o) ≡ Some b
+            → is_some (process_of s id) ≡ true
         by None w v = none_some b (sym (ap Steps.settled_array_if none) ∙ v)
         by (Some r) w v = running_known s a id r sound w
 
-    failed : (code : ℕ) (x : Option Process) → process_of s id ≡ x → (o : Option RunningProcess) → Steps.running_process a id ≡ o → Steps.settled_array_if (Steps.fail_step s a id (check_condition (Rattle.bus_due.specs.disk_array.specs.Execution.sense_of Rattle.bus_due.specs.cdb_codec.specs.declared.sense.TheConstants.ABORTED_COMMAND code 0x00)) o) ≡ Some b → is_some x ≡ true
+    failed : (code : ℕ) (x : Option Process) → process_of s id ≡ x
+        → (o : Option RunningProcess) → Steps.running_process a id ≡ o → Steps.settled_array_if
+        (Steps.fail_step s a id (check_condition (Rattle.bus_due.specs.disk_array.specs.Execution.sense_of
+        Rattle.bus_due.specs.cdb_codec.specs.declared.sense.TheConstants.ABORTED_COMMAND code 0x00)) o) ≡ Some b
+        → is_some x ≡ true
     failed code x z (Some r) w v = sym (ap (λ (y : Option Process). is_some y) z) ∙ running_known s a id r sound w
     failed code (Some p) z None w v = refl
-    failed code None z None w v = none_some b (sym (ap (λ (y : Option Process). Steps.settled_array_if (Steps.fail_step_of_new a id (check_condition (Rattle.bus_due.specs.disk_array.specs.Execution.sense_of Rattle.bus_due.specs.cdb_codec.specs.declared.sense.TheConstants.ABORTED_COMMAND code 0x00)) y)) z) ∙ v)
+    failed code None z None w v = none_some b (sym (ap (λ (y : Option Process). Steps.settled_array_if
+        (Steps.fail_step_of_new a id (check_condition (Rattle.bus_due.specs.disk_array.specs.Execution.sense_of
+        Rattle.bus_due.specs.cdb_codec.specs.declared.sense.TheConstants.ABORTED_COMMAND code 0x00)) y)) z) ∙ v)
 
-    go : (x : Option Process) → process_of s id ≡ x → (e ≡ Event.Accept id) ⊎ (e ≡ Event.Refuse id) ⊎ (e ≡ Event.Run id) ⊎ ((code : ℕ) × (e ≡ Event.Fail id code)) ⊎ ((status : ℕ) × (e ≡ Event.End id status)) → is_some (process_of s id) ≡ true
+    go : (x : Option Process) → process_of s id ≡ x → (e ≡ Event.Accept id) ⊎ (e ≡ Event.Refuse id)
+        ⊎ (e ≡ Event.Run id) ⊎ ((code : ℕ) × (e ≡ Event.Fail id code)) ⊎ ((status : ℕ) × (e ≡ Event.End id status))
+        → is_some (process_of s id) ≡ true
     go (Some p) z w = ap (λ (y : Option Process). is_some y) z
-    go None z (inl w) = none_some b (sym (ap (λ (y : Option Process). Steps.settled_array_if (Steps.accept_step a y)) z) ∙ is (Event.Accept id) w)
-    go None z (inr (inl w)) = none_some b (sym (ap (λ (y : Option Process). Steps.settled_array_if (Steps.refuse_step a y)) z) ∙ is (Event.Refuse id) w)
-    go None z (inr (inr (inl w))) = ran (λ x o. Steps.run_step x (is_some (guest_at x.guests id)) o) refl (is (Event.Run id) w)
-    go None z (inr (inr (inr (inl w)))) = ap (λ (y : Option Process). is_some y) z ∙ failed w.0 None z (Steps.running_process a id) refl (is (Event.Fail id w.0) w.1)
+    go None z (inl w) = none_some b
+        (sym (ap (λ (y : Option Process). Steps.settled_array_if (Steps.accept_step a y)) z) ∙ is (Event.Accept id) w)
+    go None z (inr (inl w)) = none_some b
+        (sym (ap (λ (y : Option Process). Steps.settled_array_if (Steps.refuse_step a y)) z) ∙ is (Event.Refuse id) w)
+    go None z (inr (inr (inl w))) =
+        ran (λ x o. Steps.run_step x (is_some (guest_at x.guests id)) o) refl (is (Event.Run id) w)
+    go None z (inr (inr (inr (inl w)))) = ap (λ (y : Option Process). is_some y) z
+        ∙ failed w.0 None z (Steps.running_process a id) refl (is (Event.Fail id w.0) w.1)
     go None z (inr (inr (inr (inr w)))) = ran (λ x o. Steps.end_step x w.0 o) refl (is (Event.End id w.0) w.1)
 
-without_contents : (units : List UnitState) (id : ProcId) (t n : ℕ) → contents_of (unit_state_at (Steps.units_without units id) t n) ≡ contents_of (unit_state_at units t n)
+without_contents : (units : List UnitState) (id : ProcId) (t n : ℕ)
+    → contents_of (unit_state_at (Steps.units_without units id) t n) ≡ contents_of (unit_state_at units t n)
 without_contents [] id t n = refl
 without_contents (u ∷ units) id t n = go (u.target == t && u.unit == n) (without_contents units id t n)
   where
-    go : (x : Bool) → contents_of (unit_state_at (Steps.units_without units id) t n) ≡ contents_of (unit_state_at units t n) → contents_of (if x then Some (Steps.unit_without u id) else unit_state_at (Steps.units_without units id) t n) ≡ contents_of (if x then Some u else unit_state_at units t n)
+    go : (x : Bool)
+        → contents_of (unit_state_at (Steps.units_without units id) t n) ≡ contents_of (unit_state_at units t n)
+        → contents_of (if x then Some (Steps.unit_without u id) else unit_state_at (Steps.units_without units id) t n)
+        ≡ contents_of (if x then Some u else unit_state_at units t n)
     go true e = refl
     go false e = e
 
-chosen_contents : (holds : List Nexus) (units : List UnitState) (t n : ℕ) → contents_of (unit_state_at (units_after_choice holds units) t n) ≡ contents_of (unit_state_at units t n)
+chosen_contents : (holds : List Nexus) (units : List UnitState) (t n : ℕ)
+    → contents_of (unit_state_at (units_after_choice holds units) t n) ≡ contents_of (unit_state_at units t n)
 chosen_contents holds [] t n = refl
-chosen_contents holds (u ∷ units) t n = go (has_no_current u.current && not (is_held holds u.target u.unit)) (choice u.pick u.waiting) (chosen_contents holds units t n)
+chosen_contents holds (u ∷ units) t n = go (has_no_current u.current && not (is_held holds u.target u.unit))
+    (choice u.pick u.waiting) (chosen_contents holds units t n)
   where
-    at : (v : UnitState) → v.target ≡ u.target → v.unit ≡ u.unit → v.contents ≡ u.contents → contents_of (unit_state_at (units_after_choice holds units) t n) ≡ contents_of (unit_state_at units t n) → contents_of (if v.target == t && v.unit == n then Some v else unit_state_at (units_after_choice holds units) t n) ≡ contents_of (if u.target == t && u.unit == n then Some u else unit_state_at units t n)
-    at v et en ec rest = (λ i. contents_of (if et i == t && en i == n then Some v else unit_state_at (units_after_choice holds units) t n)) ∙ by (u.target == t && u.unit == n)
+    at : (v : UnitState) → v.target ≡ u.target → v.unit ≡ u.unit → v.contents ≡ u.contents
+        → contents_of (unit_state_at (units_after_choice holds units) t n) ≡ contents_of (unit_state_at units t n)
+        → contents_of
+        (if v.target == t && v.unit == n then Some v else unit_state_at (units_after_choice holds units) t n)
+        ≡ contents_of (if u.target == t && u.unit == n then Some u else unit_state_at units t n)
+    at v et en ec rest = (λ i. contents_of
+        (if et i == t && en i == n then Some v else unit_state_at (units_after_choice holds units) t n))
+        ∙ by (u.target == t && u.unit == n)
       where
-        by : (x : Bool) → contents_of (if x then Some v else unit_state_at (units_after_choice holds units) t n) ≡ contents_of (if x then Some u else unit_state_at units t n)
+        by : (x : Bool) → contents_of (if x then Some v else unit_state_at (units_after_choice holds units) t n)
+            ≡ contents_of (if x then Some u else unit_state_at units t n)
         by true = ec
         by false = rest
 
-    go : (x : Bool) (p : Option Process) → contents_of (unit_state_at (units_after_choice holds units) t n) ≡ contents_of (unit_state_at units t n)
-        → (let v : UnitState = if x then with_current u p else u in contents_of (if v.target == t && v.unit == n then Some v else unit_state_at (units_after_choice holds units) t n)) ≡ contents_of (if u.target == t && u.unit == n then Some u else unit_state_at units t n)
+    go : (x : Bool) (p : Option Process)
+        → contents_of (unit_state_at (units_after_choice holds units) t n) ≡ contents_of (unit_state_at units t n)
+        → (let v : UnitState = if x then with_current u p else u in contents_of
+        (if v.target == t && v.unit == n then Some v else unit_state_at (units_after_choice holds units) t n))
+        ≡ contents_of (if u.target == t && u.unit == n then Some u else unit_state_at units t n)
     go true None rest = at u refl refl refl rest
     go true (Some p) rest = at (with_current u (Some p)) refl refl refl rest
     go false p rest = at u refl refl refl rest
 
-lost_contents : (a b : Array) (id : ProcId) (t n : ℕ) → Steps.settled_array_if (Steps.loss_step a id) ≡ Some b → contents_of (unit_state_at b.units t n) ≡ contents_of (unit_state_at a.units t n)
+lost_contents : (a b : Array) (id : ProcId) (t n : ℕ) → Steps.settled_array_if (Steps.loss_step a id) ≡ Some b
+    → contents_of (unit_state_at b.units t n) ≡ contents_of (unit_state_at a.units t n)
 lost_contents a b id t n e = go (Steps.has_ended a id) e
   where
-    go : (x : Bool) → Steps.settled_array_if (if x then None else Some (Steps.array_without a id)) ≡ Some b → contents_of (unit_state_at b.units t n) ≡ contents_of (unit_state_at a.units t n)
+    go : (x : Bool) → Steps.settled_array_if (if x then None else Some (Steps.array_without a id)) ≡ Some b
+        → contents_of (unit_state_at b.units t n) ≡ contents_of (unit_state_at a.units t n)
     go true z = none_some b z
-    go false z =
-        ap (λ (x : Array). contents_of (unit_state_at x.units t n)) (sym (same_Some (settled_array (Steps.array_without a id)) b z))
+    go false z = ap (λ (x : Array). contents_of (unit_state_at x.units t n))
+        (sym (same_Some (settled_array (Steps.array_without a id)) b z))
         ∙ chosen_contents a.holds (Steps.units_without a.units id) t n ∙ without_contents a.units id t n
 
 -- At the seat of the process, or at another.
-of_seat : (s : ScenarioValue) (a b : Array) (e : Event) (id : ProcId) (t n : ℕ) → HasSeats s → IsSound s a → step s e a ≡ Some b → Seats.is_elsewhere s e t n ≡ Seats.is_of_other_unit (process_of s id) t n → is_some (process_of s id) ≡ true → HasWhole a
-    → ((p : Process) → process_of s id ≡ Some p → AreWhole (contents_of (unit_state_at b.units p.target p.unit))) → AreWhole (contents_of (unit_state_at b.units t n))
-of_seat s a b e id t n seats sound st place some whole here =
-    by_option (process_of s id)
-    (λ z. wrong' (sym (ap (λ (x : Option Process). is_some x) z) ∙ some))
-    (λ p z.
-    by_bool (is_of_unit p t n)
-    (λ x. let w = place_of p t n x in subst (λ (y : ℕ). AreWhole (contents_of (unit_state_at b.units y n))) w.0 (subst (λ (y : ℕ). AreWhole (contents_of (unit_state_at b.units p.target y))) w.1 (here p z)))
-    (λ x.
-    subst AreWhole (sym (ap (λ (y : Seat). contents_of y.unit) (other_law s a b e t n seats sound (place ∙ ap (λ (o : Option Process). Seats.is_of_other_unit o t n) z ∙ ap not x) st))) (whole t n)))
+of_seat : (s : ScenarioValue) (a b : Array) (e : Event) (id : ProcId) (t n : ℕ) → HasSeats s → IsSound s a
+    → step s e a ≡ Some b → Seats.is_elsewhere s e t n ≡ Seats.is_of_other_unit (process_of s id) t n
+    → is_some (process_of s id) ≡ true → HasWhole a
+    → ((p : Process) → process_of s id ≡ Some p → AreWhole (contents_of (unit_state_at b.units p.target p.unit)))
+    → AreWhole (contents_of (unit_state_at b.units t n))
+of_seat s a b e id t n seats sound st place some whole here = by_option (process_of s id)
+    (λ z. wrong' (sym (ap (λ (x : Option Process). is_some x) z) ∙ some)) (λ p z. by_bool (is_of_unit p t n)
+    (λ x. let w = place_of p t n x in subst (λ (y : ℕ). AreWhole (contents_of (unit_state_at b.units y n))) w.0
+    (subst (λ (y : ℕ). AreWhole (contents_of (unit_state_at b.units p.target y))) w.1 (here p z)))
+    (λ x. subst AreWhole (sym (ap (λ (y : Seat). contents_of y.unit) (other_law s a b e t n seats sound
+    (place ∙ ap (λ (o : Option Process). Seats.is_of_other_unit o t n) z ∙ ap not x) st))) (whole t n)))
 
-left_so : (s : ScenarioValue) (a b : Array) (e : Event) (t n : ℕ) (o : Option Seat) → step s e a ≡ Some b → Seats.seat_if (step s e a) t n ≡ settled_seat_if o → LeavesSo b t n o → AreWhole (contents_of (unit_state_at b.units t n))
+left_so : (s : ScenarioValue) (a b : Array) (e : Event) (t n : ℕ) (o : Option Seat)
+    → step s e a ≡ Some b → Seats.seat_if (step s e a) t n ≡ settled_seat_if o → LeavesSo b t n o
+    → AreWhole (contents_of (unit_state_at b.units t n))
 left_so s a b e t n o st law h = h (seat_of b t n) (sym law ∙ ap (λ (x : Option Array). Seats.seat_if x t n) st)
 
-same_whole : (s : ScenarioValue) (a b : Array) (t n : ℕ) → HasWhole a → SameContext a b t n 0 → AreWhole (contents_of (unit_state_at b.units t n))
+same_whole : (s : ScenarioValue) (a b : Array) (t n : ℕ) → HasWhole a → SameContext a b t n 0
+    → AreWhole (contents_of (unit_state_at b.units t n))
 same_whole s a b t n whole e = subst AreWhole (sym (ap (λ (c : CommandContext). c.contents) e)) (whole t n)
 
-abort_whole : (s : ScenarioValue) (a b : Array) (i to un : ℕ) (what : AbortKind) (t n : ℕ) → HasSeats s → IsSound s a → step s (Event.Aborted i to un what) a ≡ Some b → HasWhole a → AreWhole (contents_of (unit_state_at b.units t n))
+abort_whole : (s : ScenarioValue) (a b : Array) (i to un : ℕ) (what : AbortKind) (t n : ℕ) → HasSeats s → IsSound s a
+    → step s (Event.Aborted i to un what) a ≡ Some b → HasWhole a → AreWhole (contents_of (unit_state_at b.units t n))
 abort_whole s a b i to un what t n seats sound st whole = go what st
   where
-    other : (w : AbortKind) → step s (Event.Aborted i to un w) a ≡ Some b → Seats.is_elsewhere s (Event.Aborted i to un w) t n ≡ true → AreWhole (contents_of (unit_state_at b.units t n))
-    other w z away = subst AreWhole (sym (ap (λ (y : Seat). contents_of y.unit) (other_law s a b (Event.Aborted i to un w) t n seats sound away z))) (whole t n)
+    other : (w : AbortKind) → step s (Event.Aborted i to un w) a ≡ Some b
+        → Seats.is_elsewhere s (Event.Aborted i to un w) t n ≡ true → AreWhole (contents_of (unit_state_at b.units t n))
+    other w z away = subst AreWhole
+        (sym (ap (λ (y : Seat). contents_of y.unit) (other_law s a b (Event.Aborted i to un w) t n seats sound away z)))
+        (whole t n)
 
-    here : (w : AbortKind) → step s (Event.Aborted i to un w) a ≡ Some b → (to == t && un == n) ≡ true → AreWhole (contents_of (unit_state_at b.units t n))
+    here : (w : AbortKind) → step s (Event.Aborted i to un w) a ≡ Some b → (to == t && un == n) ≡ true
+        → AreWhole (contents_of (unit_state_at b.units t n))
     here w z place =
         let two = and_parts (to == t) (un == n) place in
         subst (λ (y : ℕ). AreWhole (contents_of (unit_state_at b.units y n))) (eqb-true to t two.0)
-        (subst (λ (y : ℕ). AreWhole (contents_of (unit_state_at b.units to y))) (eqb-true un n two.1)
-        (left_so s a b (Event.Aborted i to un w) to un (Some (Seats.seat_after_aborted s.hosts i w (seat_of a to un))) z (abort_law s a i to un w seats sound)
-        (leaves_some b to un (Seats.seat_after_aborted s.hosts i w (seat_of a to un)) (aborted_whole s.hosts i w (seat_of a to un) (whole to un)))))
+        (subst (λ (y : ℕ). AreWhole (contents_of (unit_state_at b.units to y)))
+        (eqb-true un n two.1) (left_so s a b (Event.Aborted i to un w) to un
+        (Some (Seats.seat_after_aborted s.hosts i w (seat_of a to un))) z (abort_law s a i to un w seats sound)
+        (leaves_some b to un (Seats.seat_after_aborted s.hosts i w (seat_of a to un))
+        (aborted_whole s.hosts i w (seat_of a to un) (whole to un)))))
 
-    placed : (w : AbortKind) → step s (Event.Aborted i to un w) a ≡ Some b → Seats.is_elsewhere s (Event.Aborted i to un w) t n ≡ not (to == t && un == n) → AreWhole (contents_of (unit_state_at b.units t n))
+    placed : (w : AbortKind) → step s (Event.Aborted i to un w) a ≡ Some b
+        → Seats.is_elsewhere s (Event.Aborted i to un w) t n ≡ not (to == t && un == n)
+        → AreWhole (contents_of (unit_state_at b.units t n))
     placed w z is = by_bool (to == t && un == n) (λ e. here w z e) (λ e. other w z (is ∙ ap not e))
 
-    go : (w : AbortKind) → step s (Event.Aborted i to un w) a ≡ Some b → AreWhole (contents_of (unit_state_at b.units t n))
+    go : (w : AbortKind) → step s (Event.Aborted i to un w) a ≡ Some b
+        → AreWhole (contents_of (unit_state_at b.units t n))
     go AbortKind.All z = placed AbortKind.All z refl
     go (AbortKind.Tag x) z = placed (AbortKind.Tag x) z refl
     go AbortKind.WholeQueue z = placed AbortKind.WholeQueue z refl
-    go AbortKind.Device z =
-        by_bool (to == t)
-        (λ e.
-        subst (λ (y : ℕ). AreWhole (contents_of (unit_state_at b.units y n))) (eqb-true to t e)
-        (left_so s a b (Event.Aborted i to un AbortKind.Device) to n (Some (Seats.seat_after_reset s.hosts (seat_of a to n))) z (device_law s a i to un n seats sound)
-        (leaves_some b to n (Seats.seat_after_reset s.hosts (seat_of a to n)) (kept_whole (seat_of a to n) (λ p. true) (whole to n)))))
+    go AbortKind.Device z = by_bool (to == t)
+        (λ e. subst (λ (y : ℕ). AreWhole (contents_of (unit_state_at b.units y n)))
+        (eqb-true to t e) (left_so s a b (Event.Aborted i to un AbortKind.Device) to n
+        (Some (Seats.seat_after_reset s.hosts (seat_of a to n))) z (device_law s a i to un n seats sound) (leaves_some b
+        to n (Seats.seat_after_reset s.hosts (seat_of a to n)) (kept_whole (seat_of a to n) (λ p. true) (whole to n)))))
         (λ e. other AbortKind.Device z (ap not e))
 
-whole_step : (s : ScenarioValue) (a b : Array) (e : Event) → Obeys s → IsSound s a → AreOfLines s a → step s e a ≡ Some b → HasWhole a → HasWhole b
+whole_step : (s : ScenarioValue) (a b : Array) (e : Event) → Obeys s → IsSound s a → AreOfLines s a
+    → step s e a ≡ Some b → HasWhole a → HasWhole b
 whole_step s a b e o sound lines st whole t n = go e st
   where
     seats : HasSeats s
     seats = seats_are s (obeys_fits s o)
 
     go : (f : Event) → step s f a ≡ Some b → AreWhole (contents_of (unit_state_at b.units t n))
-    go (Event.Accept id) z = same_whole s a b t n whole (accept_at s a b id t n 0 seats sound (known_event s a b (Event.Accept id) id sound z (inl refl)) z)
-    go (Event.Refuse id) z = same_whole s a b t n whole (refuse_at s a b id t n 0 seats sound (known_event s a b (Event.Refuse id) id sound z (inr (inl refl))) z)
-    go (Event.Fail id code) z = same_whole s a b t n whole (fail_at s a b id code t n 0 seats sound (known_event s a b (Event.Fail id code) id sound z (inr (inr (inr (inl (code, refl)))))) z)
+    go (Event.Accept id) z = same_whole s a b t n whole
+        (accept_at s a b id t n 0 seats sound (known_event s a b (Event.Accept id) id sound z (inl refl)) z)
+    go (Event.Refuse id) z = same_whole s a b t n whole
+        (refuse_at s a b id t n 0 seats sound (known_event s a b (Event.Refuse id) id sound z (inr (inl refl))) z)
+    go (Event.Fail id code) z = same_whole s a b t n whole (fail_at s a b id code t n 0 seats sound
+        (known_event s a b (Event.Fail id code) id sound z (inr (inr (inr (inl (code, refl)))))) z)
     go (Event.Lost id) z = subst AreWhole (sym (lost_contents a b id t n z)) (whole t n)
-    go (Event.Run id) z =
-        of_seat s a b (Event.Run id) id t n seats sound z refl (known_event s a b (Event.Run id) id sound z (inr (inr (inl refl)))) whole
-        (λ p is.
-        let own : process_of s p.id ≡ Some p = is_own s id p is in
+    go (Event.Run id) z = of_seat s a b (Event.Run id) id t n seats sound z refl
+        (known_event s a b (Event.Run id) id sound z (inr (inr (inl refl)))) whole
+        (λ p is. let own : process_of s p.id ≡ Some p = is_own s id p is in
         let same : id ≡ p.id = sym (process_id s id p is) in
         let runs : step s (Event.Run p.id) a ≡ Some b = ap (λ (x : ProcId). step s (Event.Run x) a) (sym same) ∙ z in
-        left_so s a b (Event.Run p.id) p.target p.unit (Seats.seat_after_run p.id (seat_of a p.target p.unit)) runs (run_law s a p seats sound own)
-        (run_whole s a b p sound own (execution_whole (context_of (seat_of a p.target p.unit) p.initiator) p.cdb p.sent (whole p.target p.unit) (sent_whole s a p o lines own))))
-    go (Event.End id status) z =
-        of_seat s a b (Event.End id status) id t n seats sound z refl (known_event s a b (Event.End id status) id sound z (inr (inr (inr (inr (status, refl)))))) whole
-        (λ p is.
-        let own : process_of s p.id ≡ Some p = is_own s id p is in
-        let same : id ≡ p.id = sym (process_id s id p is) in
-        left_so s a b (Event.End p.id status) p.target p.unit (Seats.seat_after_end p.id status (seat_of a p.target p.unit)) (ap (λ (x : ProcId). step s (Event.End x status) a) (sym same) ∙ z) (end_law s a p status seats sound own)
+        left_so s a b (Event.Run p.id) p.target p.unit
+        (Seats.seat_after_run p.id (seat_of a p.target p.unit)) runs (run_law s a p seats sound own)
+        (run_whole s a b p sound own (execution_whole (context_of (seat_of a p.target p.unit) p.initiator) p.cdb p.sent
+        (whole p.target p.unit) (sent_whole s a p o lines own))))
+    go (Event.End id status) z = of_seat s a b (Event.End id status) id t n seats sound z refl
+        (known_event s a b (Event.End id status) id sound z (inr (inr (inr (inr (status, refl)))))) whole
+        (λ p is. let own : process_of s p.id ≡ Some p = is_own s id p is in
+        let same : id ≡ p.id = sym (process_id s id p is) in left_so s a b
+        (Event.End p.id status) p.target p.unit (Seats.seat_after_end p.id status (seat_of a p.target p.unit))
+        (ap (λ (x : ProcId). step s (Event.End x status) a) (sym same) ∙ z) (end_law s a p status seats sound own)
         (end_whole (seat_of a p.target p.unit) p.id status b p.target p.unit (whole p.target p.unit)))
     go (Event.Aborted i to un what) z = abort_whole s a b i to un what t n seats sound z whole
-    go (Event.Reset dev) z =
-        left_so s a b (Event.Reset dev) t n (Some (Seats.seat_after_reset s.hosts (seat_of a t n))) z (reset_law s a dev t n seats sound)
-        (leaves_some b t n (Seats.seat_after_reset s.hosts (seat_of a t n)) (kept_whole (seat_of a t n) (λ p. true) (whole t n)))
+    go (Event.Reset dev) z = left_so s a b (Event.Reset dev) t n
+        (Some (Seats.seat_after_reset s.hosts (seat_of a t n))) z (reset_law s a dev t n seats sound) (leaves_some b t n
+        (Seats.seat_after_reset s.hosts (seat_of a t n)) (kept_whole (seat_of a t n) (λ p. true) (whole t n)))
 
 -- ---- any history
 
-started_whole : (s : ScenarioValue) (units : List UnitDef) (t n : ℕ) → FitsBus s → ((u : UnitDef) → find (λ (v : UnitDef). v.target == t && v.unit == n) units ≡ Some u → AreFilled u s.fills) → AreWhole (contents_of (unit_state_at (starting_units s units) t n))
+started_whole : (s : ScenarioValue) (units : List UnitDef) (t n : ℕ) → FitsBus s
+    → ((u : UnitDef) → find (λ (v : UnitDef). v.target == t && v.unit == n) units ≡ Some u → AreFilled u s.fills)
+    → AreWhole (contents_of (unit_state_at (starting_units s units) t n))
 started_whole s [] t n fits f = λ lba. refl
 started_whole s (u ∷ units) t n fits f = go (u.target == t && u.unit == n) refl (λ g. started_whole s units t n fits g)
   where
-    go : (x : Bool) → (u.target == t && u.unit == n) ≡ x → (((v : UnitDef) → find (λ (w : UnitDef). w.target == t && w.unit == n) units ≡ Some v → AreFilled v s.fills) → AreWhole (contents_of (unit_state_at (starting_units s units) t n))) → AreWhole (contents_of (if x then Some (starting_unit s u) else unit_state_at (starting_units s units) t n))
-    go true e rest = filled_whole u s.fills (blank_contents u.blocks u.size) (f u (ap (λ (x : Bool). cond x (Some u) (find (λ (v : UnitDef). v.target == t && v.unit == n) units)) e)) refl (blank_whole u.blocks u.size)
-    go false e rest = rest (λ v z. f v (ap (λ (x : Bool). cond x (Some u) (find (λ (w : UnitDef). w.target == t && w.unit == n) units)) e ∙ z))
+    go : (x : Bool) → (u.target == t && u.unit == n) ≡ x
+        → (((v : UnitDef) → find (λ (w : UnitDef). w.target == t && w.unit == n) units ≡ Some v → AreFilled v s.fills)
+        → AreWhole (contents_of (unit_state_at (starting_units s units) t n)))
+        → AreWhole (contents_of (if x then Some (starting_unit s u) else unit_state_at (starting_units s units) t n))
+    go true e rest = filled_whole u s.fills (blank_contents u.blocks u.size)
+        (f u (ap (λ (x : Bool). cond x (Some u) (find (λ (v : UnitDef). v.target == t && v.unit == n) units)) e)) refl
+        (blank_whole u.blocks u.size)
+    go false e rest = rest (λ v z. f v
+        (ap (λ (x : Bool). cond x (Some u) (find (λ (w : UnitDef). w.target == t && w.unit == n) units)) e ∙ z))
 
-found_place : (units : List UnitDef) (t n : ℕ) (u : UnitDef) → find (λ (v : UnitDef). v.target == t && v.unit == n) units ≡ Some u → (u.target ≡ t) × (u.unit ≡ n)
+found_place : (units : List UnitDef) (t n : ℕ) (u : UnitDef)
+    → find (λ (v : UnitDef). v.target == t && v.unit == n) units ≡ Some u → (u.target ≡ t) × (u.unit ≡ n)
 found_place [] t n u e = no_line u e
   where
     no_line : {A : Type 0} (x : UnitDef) → (let o : Option UnitDef = None in o) ≡ Some x → A
     no_line x z = absurd cc
 found_place (v ∷ units) t n u e = go (v.target == t && v.unit == n) refl e (λ z. found_place units t n u z)
   where
-    go : (x : Bool) → (v.target == t && v.unit == n) ≡ x → cond x (Some v) (find (λ (w : UnitDef). w.target == t && w.unit == n) units) ≡ Some u → (find (λ (w : UnitDef). w.target == t && w.unit == n) units ≡ Some u → (u.target ≡ t) × (u.unit ≡ n)) → (u.target ≡ t) × (u.unit ≡ n)
-    go true f z rest = let two = and_parts (v.target == t) (v.unit == n) f in let same = same_Some v u z in (ap (λ (w : UnitDef). w.target) (sym same) ∙ eqb-true v.target t two.0, ap (λ (w : UnitDef). w.unit) (sym same) ∙ eqb-true v.unit n two.1)
+    go : (x : Bool) → (v.target == t && v.unit == n) ≡ x
+        → cond x (Some v) (find (λ (w : UnitDef). w.target == t && w.unit == n) units) ≡ Some u
+        → (find (λ (w : UnitDef). w.target == t && w.unit == n) units ≡ Some u → (u.target ≡ t) × (u.unit ≡ n))
+        → (u.target ≡ t) × (u.unit ≡ n)
+    go true f z rest =
+        let two = and_parts (v.target == t) (v.unit == n) f in
+        let same = same_Some v u z in (
+          ap (λ (w : UnitDef). w.target) (sym same) ∙ eqb-true v.target t two.0,
+          ap (λ (w : UnitDef). w.unit) (sym same) ∙ eqb-true v.unit n two.1,
+        )
     go false f z rest = rest z
 
 pub whole_start : (s : ScenarioValue) → Obeys s → HasWhole (starting_array s)
-whole_start s o t n =
-    started_whole s s.units t n (obeys_fits s o)
-    (λ u e. let w = found_place s.units t n u e in line_filled s u (obeys_fits s o) ((λ i. unit_of s (w.0 i) (w.1 i)) ∙ e))
+whole_start s o t n = started_whole s s.units t n (obeys_fits s o) (λ u e. let w = found_place s.units t n u e in
+    line_filled s u (obeys_fits s o) ((λ i. unit_of s (w.0 i) (w.1 i)) ∙ e))
 
-pub whole_always : (s : ScenarioValue) (history : List Event) (a : Array) → Obeys s → array_after s history ≡ Some a → HasWhole a
-whole_always s [] a o e = subst HasWhole (sym (start_settled s) ∙ same_Some (settled_array (starting_array s)) a e) (whole_start s o)
+pub whole_always : (s : ScenarioValue) (history : List Event) (a : Array) → Obeys s → array_after s history ≡ Some a
+    → HasWhole a
+whole_always s [] a o e =
+    subst HasWhole (sym (start_settled s) ∙ same_Some (settled_array (starting_array s)) a e) (whole_start s o)
 whole_always s (event ∷ history) a o e = go (array_after s history) refl e (λ b f. whole_always s history b o f)
   where
-    go : (x : Option Array) → array_after s history ≡ x → array_step s event x ≡ Some a → ((b : Array) → x ≡ Some b → HasWhole b) → HasWhole a
+    go : (x : Option Array) → array_after s history ≡ x → array_step s event x ≡ Some a
+        → ((b : Array) → x ≡ Some b → HasWhole b) → HasWhole a
     go None z k before = none_some a k
-    go (Some b) z k before = whole_step s b a event o (history_sound s history b (seats_are s (obeys_fits s o)) z) (lines_always s history b z) k (before b refl)
+    go (Some b) z k before = whole_step s b a event o (history_sound s history b (seats_are s (obeys_fits s o)) z)
+        (lines_always s history b z) k (before b refl)

@@ -24,7 +24,9 @@ use Rattle.trace_laws.specs.row_laws.proofs.Events.Queued
 
 -- ---- the process that the initiator knows is one of the scenario
 
-known_process : (s : ScenarioValue) (p : List Row) (row : Row) (h : Known s p row) (l : Link) (id : ProcId) → (row_reading (run_state s p).story.bus_state row).change.after.rst ≡ false → (run_state s p).story.link ≡ Some l → l.item ≡ Some (process id) → is_some (process_of s id) ≡ true
+known_process : (s : ScenarioValue) (p : List Row) (row : Row) (h : Known s p row) (l : Link) (id : ProcId)
+    → (row_reading (run_state s p).story.bus_state row).change.after.rst ≡ false → (run_state s p).story.link ≡ Some l
+    → l.item ≡ Some (process id) → is_some (process_of s id) ≡ true
 known_process s p row h l id calm link item = go h.next.row_is
   where
     k : RunState
@@ -56,12 +58,19 @@ abbrev pub IsHereEnd : ScenarioValue → RunState → Row → ProcId → ℕ →
 IsHereEnd s k row id status = IsEnding s k (row_reading k.story.bus_state row) row id status
 
 pub data Changing (s : ScenarioValue) (k : RunState) (row : Row) (q : Process) : Type 0 where
-  by_run : (x : Process) → process_of s x.id ≡ Some x → is_of_unit x q.target q.unit ≡ true → has_run (row_events_by s k.story (row_reading k.story.bus_state row) row) x.id ≡ true → Changing s k row q
-  by_end : (x : Process) (status : ℕ) → process_of s x.id ≡ Some x → is_of_unit x q.target q.unit ≡ true → IsHereEnd s k row x.id status → Changing s k row q
-  by_abort : (i t n : ℕ) (what : AbortKind) → row_events_by s k.story (row_reading k.story.bus_state row) row ≡ Event.Aborted i t n what ∷ [] → is_some (row_reading k.story.bus_state row).next ≡ false → abort_may_change q i t n what ≡ true → Changing s k row q
+  by_run : (x : Process) → process_of s x.id ≡ Some x → is_of_unit x q.target q.unit ≡ true
+      → has_run (row_events_by s k.story (row_reading k.story.bus_state row) row) x.id ≡ true → Changing s k row q
+  by_end : (x : Process) (status : ℕ) → process_of s x.id ≡ Some x → is_of_unit x q.target q.unit ≡ true
+      → IsHereEnd s k row x.id status → Changing s k row q
+  by_abort : (i t n : ℕ) (what : AbortKind)
+      → row_events_by s k.story (row_reading k.story.bus_state row) row ≡ Event.Aborted i t n what ∷ []
+      → is_some (row_reading k.story.bus_state row).next ≡ false → abort_may_change q i t n what ≡ true
+      → Changing s k row q
 
-not_elsewhere : (s : ScenarioValue) (id : ProcId) (t n : ℕ) (x : Process) → process_of s id ≡ Some x → not (is_of_other_unit (process_of s id) t n) ≡ true → is_of_unit x t n ≡ true
-not_elsewhere s id t n x e f = go (is_of_unit x t n) (ap (λ (o : Option Process). not (is_of_other_unit o t n)) (sym e) ∙ f)
+not_elsewhere : (s : ScenarioValue) (id : ProcId) (t n : ℕ) (x : Process) → process_of s id ≡ Some x
+    → not (is_of_other_unit (process_of s id) t n) ≡ true → is_of_unit x t n ≡ true
+not_elsewhere s id t n x e f =
+    go (is_of_unit x t n) (ap (λ (o : Option Process). not (is_of_other_unit o t n)) (sym e) ∙ f)
   where
     go : (q : Bool) → not (not q) ≡ true → q ≡ true
     go true z = refl
@@ -74,20 +83,32 @@ record IsFound (s : ScenarioValue) (k : RunState) (row : Row) (q : Process) (sho
   changes : may_change s q event ≡ true
   stands : (f : Event → Bool) → f event ≡ true → list_any f shown ≡ true
 
-found : (s : ScenarioValue) (k : RunState) (row : Row) (q : Process) (shown : List Event) → OnEvents (ShownAs s k (row_reading k.story.bus_state row) row) shown → any_may_change s q shown ≡ true → IsFound s k row q shown
+found : (s : ScenarioValue) (k : RunState) (row : Row) (q : Process) (shown : List Event)
+    → OnEvents (ShownAs s k (row_reading k.story.bus_state row) row) shown → any_may_change s q shown ≡ true
+    → IsFound s k row q shown
 found s k row q [] h e = wrong' e
 found s k row q (event ∷ shown) h e = go (may_change s q event) refl e (λ z. found s k row q shown h.1 z)
   where
-    go : (x : Bool) → may_change s q event ≡ x → (x || any_may_change s q shown) ≡ true → (any_may_change s q shown ≡ true → IsFound s k row q shown) → IsFound s k row q (event ∷ shown)
-    go true z w rest = record { event = event; shown_as = h.0; changes = z; stands = λ f y. λ i. y i || list_any f shown }
+    go : (x : Bool) → may_change s q event ≡ x → (x || any_may_change s q shown) ≡ true
+        → (any_may_change s q shown ≡ true → IsFound s k row q shown) → IsFound s k row q (event ∷ shown)
+    go true z w rest =
+        record { event = event; shown_as = h.0; changes = z; stands = λ f y. λ i. y i || list_any f shown }
     go false z w rest =
         let g = rest w in
-        record { event = g.event; shown_as = g.shown_as; changes = g.changes; stands = λ f y. or_right (f event) (list_any f shown) (g.stands f y) }
+        record {
+          event = g.event;
+          shown_as = g.shown_as;
+          changes = g.changes;
+          stands = λ f y. or_right (f event) (list_any f shown) (g.stands f y);
+        }
 
 run_is : (id : ProcId) → is_run_of id (Event.Run id) ≡ true
 run_is id = self_id id
 
-pub changing : (s : ScenarioValue) (p : List Row) (row : Row) (h : Known s p row) (q : Process) → (row_reading (run_state s p).story.bus_state row).change.after.rst ≡ false → any_may_change s q (row_events_by s (run_state s p).story (row_reading (run_state s p).story.bus_state row) row) ≡ true → Changing s (run_state s p) row q
+pub changing : (s : ScenarioValue) (p : List Row) (row : Row) (h : Known s p row) (q : Process)
+    → (row_reading (run_state s p).story.bus_state row).change.after.rst ≡ false
+    → any_may_change s q (row_events_by s (run_state s p).story (row_reading (run_state s p).story.bus_state row) row)
+    ≡ true → Changing s (run_state s p) row q
 changing s p row h q calm may =
     by_bool (is_some d.next)
     (λ e. stands e (found s k row q shown (row_shown s k row) may))
@@ -103,12 +124,14 @@ changing s p row h q calm may =
     shown = row_events_by s k.story d row
 
     shown_is : shown ≡ link_events s k.story k.story.link d
-    shown_is = λ i. if calm i then (if rises d.change.own.rst d.change.next.rst then Event.Reset row.dev ∷ [] else []) else link_events s k.story k.story.link d
+    shown_is = λ i. if calm i then (if rises d.change.own.rst d.change.next.rst then Event.Reset row.dev ∷ [] else [])
+        else link_events s k.story k.story.link d
 
     none_shown : {A : Type 0} → shown ≡ [] → A
     none_shown e = wrong' (sym (ap (any_may_change s q) e) ∙ may)
 
-    known : (id : ProcId) (l : Link) → k.story.link ≡ Some l → l.item ≡ Some (process id) → is_none (process_of s id) ≡ true → Changing s k row q
+    known : (id : ProcId) (l : Link) → k.story.link ≡ Some l → l.item ≡ Some (process id)
+        → is_none (process_of s id) ≡ true → Changing s k row q
     known id l link item none = not_unknown (process_of s id) (known_process s p row h l id calm link item) none
 
     here : (id : ProcId) (l : Link) → IsHere k d l id → is_none (process_of s id) ≡ true → Changing s k row q
@@ -119,12 +142,15 @@ changing s p row h q calm may =
     free next (Some l) e = last l.last refl
       where
         freed : shown ≡ bus_free_events s l l.last
-        freed = shown_is ∙ ap (λ (o : Option Link). link_events s k.story o d) e ∙ (λ i. if next i then Rattle.bus_due.specs.bus_story.specs.HistoryEvents.connection_events s k.story l d else bus_free_events s l l.last)
+        freed = shown_is ∙ ap (λ (o : Option Link). link_events s k.story o d) e
+            ∙ (λ i. if next i then Rattle.bus_due.specs.bus_story.specs.HistoryEvents.connection_events s k.story l d
+            else bus_free_events s l l.last)
 
         lost : (o : Option Item) → l.item ≡ o → shown ≡ item_loss_events l.item → Changing s k row q
         lost None ei z = none_shown (z ∙ ap item_loss_events ei)
         lost (Some (abort n)) ei z = none_shown (z ∙ ap item_loss_events ei)
-        lost (Some (process id)) ei z = known id l e ei (first (is_none (process_of s id)) (sym (ap (any_may_change s q) (z ∙ ap item_loss_events ei)) ∙ may))
+        lost (Some (process id)) ei z = known id l e ei
+            (first (is_none (process_of s id)) (sym (ap (any_may_change s q) (z ∙ ap item_loss_events ei)) ∙ may))
           where
             first : (x : Bool) → (x || false) ≡ true → x ≡ true
             first true w = refl
@@ -132,7 +158,8 @@ changing s p row h q calm may =
 
         line : (o : Option AbortDef) → shown ≡ abort_line_events o → Changing s k row q
         line None z = none_shown z
-        line (Some a) z = by_abort a.host a.target a.unit a.what z next (first (abort_may_change q a.host a.target a.unit a.what) (sym (ap (any_may_change s q) z) ∙ may))
+        line (Some a) z = by_abort a.host a.target a.unit a.what z next
+            (first (abort_may_change q a.host a.target a.unit a.what) (sym (ap (any_may_change s q) z) ∙ may))
           where
             first : (x : Bool) → (x || false) ≡ true → x ≡ true
             first true w = refl
@@ -149,22 +176,29 @@ changing s p row h q calm may =
         last disconnect z = none_shown (freed ∙ ap (bus_free_events s l) z)
         last abortive z = aborted l.item refl (freed ∙ ap (bus_free_events s l) z)
 
-    of_run : (id : ProcId) (l : Link) → IsHere k d l id → not (is_of_other_unit (process_of s id) q.target q.unit) ≡ true → has_run shown id ≡ true → (o : Option Process) → process_of s id ≡ o → Changing s k row q
+    of_run : (id : ProcId) (l : Link) → IsHere k d l id
+        → not (is_of_other_unit (process_of s id) q.target q.unit) ≡ true → has_run shown id ≡ true
+        → (o : Option Process) → process_of s id ≡ o → Changing s k row q
     of_run id l w place ran None e = here id l w (ap (λ (o : Option Process). is_none o) e)
     of_run id l w place ran (Some x) e =
         let same = process_id s id x e in
-        by_run x (ap (process_of s) same ∙ e) (not_elsewhere s id q.target q.unit x e place) (ap (has_run shown) same ∙ ran)
+        by_run x (ap (process_of s) same ∙ e) (not_elsewhere s id q.target q.unit x e place)
+        (ap (has_run shown) same ∙ ran)
 
-    of_end : (id : ProcId) (status : ℕ) → IsEnding s k d row id status → not (is_of_other_unit (process_of s id) q.target q.unit) ≡ true → (o : Option Process) → process_of s id ≡ o → Changing s k row q
+    of_end : (id : ProcId) (status : ℕ) → IsEnding s k d row id status
+        → not (is_of_other_unit (process_of s id) q.target q.unit) ≡ true → (o : Option Process) → process_of s id ≡ o
+        → Changing s k row q
     of_end id status w place None e = here id w.link w.here (ap (λ (o : Option Process). is_none o) e)
     of_end id status w place (Some x) e =
         let same = process_id s id x e in
-        by_end x status (ap (process_of s) same ∙ e) (not_elsewhere s id q.target q.unit x e place) (subst (λ (i : ProcId). IsEnding s k d row i status) (sym same) w)
+        by_end x status (ap (process_of s) same ∙ e) (not_elsewhere s id q.target q.unit x e place)
+        (subst (λ (i : ProcId). IsEnding s k d row i status) (sym same) w)
 
     stands : is_some d.next ≡ true → IsFound s k row q shown → Changing s k row q
     stands next g = by g.event g.shown_as g.changes g.stands
       where
-        by : (e : Event) → ShownAs s k d row e → may_change s q e ≡ true → ((f : Event → Bool) → f e ≡ true → list_any f shown ≡ true) → Changing s k row q
+        by : (e : Event) → ShownAs s k d row e → may_change s q e ≡ true
+            → ((f : Event → Bool) → f e ≡ true → list_any f shown ≡ true) → Changing s k row q
         by (Event.Accept id) w m f = here id w.link w.here m
         by (Event.Refuse id) w m f = here id w.link w.here m
         by (Event.Fail id code) w m f = here id w.link w.here m
@@ -176,18 +210,22 @@ changing s p row h q calm may =
 
 -- ---- an abort drops those whose reply it may change
 
-pub dropped_by : (q : Process) (i t n : ℕ) (what : AbortKind) → abort_may_change q i t n what ≡ true → stays_queued (Event.Aborted i t n what) q ≡ false
+pub dropped_by : (q : Process) (i t n : ℕ) (what : AbortKind) → abort_may_change q i t n what ≡ true
+    → stays_queued (Event.Aborted i t n what) q ≡ false
 dropped_by q i t n AbortKind.All e = of (i == q.initiator) refl (t == q.target) refl (n == q.unit) refl e
   where
-    of : (x : Bool) → (i == q.initiator) ≡ x → (y : Bool) → (t == q.target) ≡ y → (z : Bool) → (n == q.unit) ≡ z → (x && (y && z)) ≡ true → not (q.initiator == i && (q.target == t && q.unit == n)) ≡ false
+    of : (x : Bool) → (i == q.initiator) ≡ x → (y : Bool) → (t == q.target) ≡ y → (z : Bool) → (n == q.unit) ≡ z
+        → (x && (y && z)) ≡ true → not (q.initiator == i && (q.target == t && q.unit == n)) ≡ false
     of false ex y ey z ez w = wrong' w
     of true ex false ey z ez w = wrong' w
     of true ex true ey false ez w = wrong' w
-    of true ex true ey true ez w = λ j. not ((eq_turned q.initiator i ∙ ex) j && ((eq_turned q.target t ∙ ey) j && (eq_turned q.unit n ∙ ez) j))
+    of true ex true ey true ez w =
+        λ j. not ((eq_turned q.initiator i ∙ ex) j && ((eq_turned q.target t ∙ ey) j && (eq_turned q.unit n ∙ ez) j))
 dropped_by q i t n (AbortKind.Tag x) e = wrong' e
 dropped_by q i t n AbortKind.WholeQueue e = of (t == q.target) refl (n == q.unit) refl e
   where
-    of : (y : Bool) → (t == q.target) ≡ y → (z : Bool) → (n == q.unit) ≡ z → (y && z) ≡ true → not (q.target == t && q.unit == n) ≡ false
+    of : (y : Bool) → (t == q.target) ≡ y → (z : Bool) → (n == q.unit) ≡ z → (y && z) ≡ true
+        → not (q.target == t && q.unit == n) ≡ false
     of false ey z ez w = wrong' w
     of true ey false ez w = wrong' w
     of true ey true ez w = λ j. not ((eq_turned q.target t ∙ ey) j && (eq_turned q.unit n ∙ ez) j)
@@ -195,39 +233,53 @@ dropped_by q i t n AbortKind.Device e = λ j. not ((eq_turned q.target t ∙ e) 
 
 -- ---- one that ends is no guest then
 
-end_away : (s : ScenarioValue) (a b : Array) (id : ProcId) (status : ℕ) → step s (Event.End id status) a ≡ Some b → OnGuests (IsAway id) b.guests
+end_away : (s : ScenarioValue) (a b : Array) (id : ProcId) (status : ℕ) → step s (Event.End id status) a ≡ Some b
+    → OnGuests (IsAway id) b.guests
 end_away s a b id status st = go (Steps.running_process a id) refl st
   where
-    ended : (r : RunningProcess) → r.process.id ≡ id → (c : Array) (x : Bool) → Steps.settled_array_if (if x then Some (Steps.array_without c r.process.id) else None) ≡ Some b → OnGuests (IsAway id) b.guests
+    ended : (r : RunningProcess) → r.process.id ≡ id → (c : Array) (x : Bool)
+        → Steps.settled_array_if (if x then Some (Steps.array_without c r.process.id) else None) ≡ Some b
+        → OnGuests (IsAway id) b.guests
     ended r own c false e = none_some b e
-    ended r own c true e =
-        subst (λ (y : Array). OnGuests (IsAway id) y.guests) (same_Some (settled_array (Steps.array_without c r.process.id)) b e)
-        (subst (λ (i : ProcId). OnGuests (IsAway i) (settled_array (Steps.array_without c r.process.id)).guests) own (leaves c r.process.id).rests.guests)
+    ended r own c true e = subst (λ (y : Array). OnGuests (IsAway id) y.guests)
+        (same_Some (settled_array (Steps.array_without c r.process.id)) b e)
+        (subst (λ (i : ProcId). OnGuests (IsAway i) (settled_array (Steps.array_without c r.process.id)).guests) own
+        (leaves c r.process.id).rests.guests)
 
-    with : (r : RunningProcess) → r.process.id ≡ id → (o : Option Reply) → Steps.settled_array_if (Steps.end_step_with a r.process status o) ≡ Some b → OnGuests (IsAway id) b.guests
+    with : (r : RunningProcess) → r.process.id ≡ id → (o : Option Reply)
+        → Steps.settled_array_if (Steps.end_step_with a r.process status o) ≡ Some b → OnGuests (IsAway id) b.guests
     with r own None e = none_some b e
     with r own (Some reply) e = ended r own (Steps.after_status a r.process reply) (reply.status == status) e
 
-    go : (o : Option RunningProcess) → Steps.running_process a id ≡ o → Steps.settled_array_if (Steps.end_step a status o) ≡ Some b → OnGuests (IsAway id) b.guests
+    go : (o : Option RunningProcess) → Steps.running_process a id ≡ o
+        → Steps.settled_array_if (Steps.end_step a status o) ≡ Some b → OnGuests (IsAway id) b.guests
     go None z e = none_some b e
     go (Some r) z e = with r (running_id a id r z) r.reply e
 
 -- ---- each unit is found
 
-found_units : (units : List UnitState) → AreApart units → AllUnits (λ u. unit_state_at units u.target u.unit ≡ Some u) units
+found_units : (units : List UnitState) → AreApart units
+    → AllUnits (λ u. unit_state_at units u.target u.unit ≡ Some u) units
 found_units [] h = tt
-found_units (u ∷ units) h = (ap (λ (q : Bool). if q then Some u else unit_state_at units u.target u.unit) here, map_units (λ v. unit_state_at units v.target v.unit ≡ Some v) (λ v. unit_state_at (u ∷ units) v.target v.unit ≡ Some v) units (λ v e. later v e) (found_units units h.1))
+found_units (u ∷ units) h = (
+  ap (λ (q : Bool). if q then Some u else unit_state_at units u.target u.unit) here,
+  map_units (λ v. unit_state_at units v.target v.unit ≡ Some v)
+      (λ v. unit_state_at (u ∷ units) v.target v.unit ≡ Some v) units (λ v e. later v e) (found_units units h.1),
+)
   where
     here : (u.target == u.target && u.unit == u.unit) ≡ true
     here = (λ i. eq_self u.target i && u.unit == u.unit) ∙ eq_self u.unit
 
-    later : (v : UnitState) → unit_state_at units v.target v.unit ≡ Some v → (if u.target == v.target && u.unit == v.unit then Some u else unit_state_at units v.target v.unit) ≡ Some v
+    later : (v : UnitState) → unit_state_at units v.target v.unit ≡ Some v
+        → (if u.target == v.target && u.unit == v.unit then Some u else unit_state_at units v.target v.unit) ≡ Some v
     later v e = go (u.target == v.target) refl (u.unit == v.unit) refl
       where
-        go : (x : Bool) → (u.target == v.target) ≡ x → (y : Bool) → (u.unit == v.unit) ≡ y → (if x && y then Some u else unit_state_at units v.target v.unit) ≡ Some v
+        go : (x : Bool) → (u.target == v.target) ≡ x → (y : Bool) → (u.unit == v.unit) ≡ y
+            → (if x && y then Some u else unit_state_at units v.target v.unit) ≡ Some v
         go false ex y ey = e
         go true ex false ey = e
-        go true ex true ey = none_some v (sym h.0 ∙ (λ i. unit_state_at units (eqb-true u.target v.target ex i) (eqb-true u.unit v.unit ey i)) ∙ e)
+        go true ex true ey = none_some v
+            (sym h.0 ∙ (λ i. unit_state_at units (eqb-true u.target v.target ex i) (eqb-true u.unit v.unit ey i)) ∙ e)
 
 -- ---- each process
 
@@ -241,9 +293,8 @@ pub record StaysAsked (s : ScenarioValue) (p : List Row) (row : Row) : Type 0 wh
   pub clean : CleanFacts s (row ∷ p)
 
 pub stays_so : (s : ScenarioValue) (p : List Row) (row : Row) → StaysAsked s p row → StaysSo s (run_state s p) row
-stays_so s p row w =
-    by_bool d.change.after.rst
-    (λ e. subst (OnOpen (HasReplyThen s k row)) (sym (then_is s p row h)) (cleared (ap (λ (x : Change). x.after.rst) (sym (change_plain s row p h.was.standing.devices w.inside)) ∙ e)))
+stays_so s p row w = by_bool d.change.after.rst (λ e. subst (OnOpen (HasReplyThen s k row)) (sym (then_is s p row h))
+    (cleared (ap (λ (x : Change). x.after.rst) (sym (change_plain s row p h.was.standing.devices w.inside)) ∙ e)))
     (λ e. subst (OnOpen (HasReplyThen s k row)) (sym (then_is s p row h)) (calm_all e))
   where
     h : Known s p row
@@ -274,7 +325,9 @@ stays_so s p row w =
     cleared : (bus (row ∷ p)).rst ≡ true → OnOpen (HasReplyThen s k row) b
     cleared on = record {
       units = none b.units (subst (λ (x : Array). AllUnits IsEmptyUnit x.units) (then_is s p row h) (w.empty on));
-      guests = none_guests St b.guests (λ id. (h.later.reset (ap (λ (l : LineSet). l.rst) (run_state_plain s (row ∷ p) h.next.stood.standing.devices).bus ∙ on) id).guests);
+      guests = none_guests St b.guests (λ id. (h.later.reset
+          (ap (λ (l : LineSet). l.rst) (run_state_plain s (row ∷ p) h.next.stood.standing.devices).bus ∙ on)
+          id).guests);
     }
       where
         waits : (waiting : List Process) → AllP (λ q. ⊥) waiting → Waits St waiting
@@ -291,22 +344,28 @@ stays_so s p row w =
 
     calm_all : d.change.after.rst ≡ false → OnOpen (HasReplyThen s k row) b
     calm_all calm = record {
-      units = units_by b.units (found_units b.units h.later.sound.apart) (subst (λ (x : Array). AllUnits (IsCleanUnit (moved_of j)) x.units) (then_is s p row h) w.clean) (subst (λ (x : Array). UnitsP IsNoSense x.units) (then_is s p row h) w.senseless_then) h.later.sound.units staying;
-      guests = guests_by b.guests h.later.sound.guests (λ id f. (h.later.rests id f).guests) (λ id status e. end_away s a b id status (one (Event.End id status) e));
+      units = units_by b.units (found_units b.units h.later.sound.apart)
+          (subst (λ (x : Array). AllUnits (IsCleanUnit (moved_of j)) x.units) (then_is s p row h) w.clean) (subst
+          (λ (x : Array). UnitsP IsNoSense x.units) (then_is s p row h) w.senseless_then) h.later.sound.units staying;
+      guests = guests_by b.guests h.later.sound.guests (λ id f. (h.later.rests id f).guests)
+          (λ id status e. end_away s a b id status (one (Event.End id status) e));
     }
       where
         one : (e : Event) → shown ≡ e ∷ [] → step s e a ≡ Some b
         one e z = sym (ap (array_after_events s (Some a)) z) ∙ steps_of s p row h
 
         staying : (e : Event) → shown ≡ e ∷ [] → UnitsP (λ q. stays_queued e q ≡ true) b.units
-        staying e z =
-            Queued.map_units (λ q. IsNoSense q × (stays_queued e q ≡ true)) (λ q. stays_queued e q ≡ true) (λ q x. x.1) b.units
-            (step_units s IsNoSense a b e (λ id q f own none. none) (subst (λ (x : Array). UnitsP IsNoSense x.units) (here_is s p row h) w.senseless) (one e z))
+        staying e z = Queued.map_units (λ q. IsNoSense q × (stays_queued e q ≡ true)) (λ q. stays_queued e q ≡ true)
+            (λ q x. x.1) b.units (step_units s IsNoSense a b e (λ id q f own none. none)
+            (subst (λ (x : Array). UnitsP IsNoSense x.units) (here_is s p row h) w.senseless) (one e z))
 
         arrays : (q : Process) → reply_now b q ≡ reply_now a q → reply_now (array_of s j) q ≡ reply_now (array_of s k) q
-        arrays q e = ap (λ (x : Array). reply_now x q) (then_is s p row h) ∙ e ∙ ap (λ (x : Array). reply_now x q) (sym (here_is s p row h))
+        arrays q e = ap (λ (x : Array). reply_now x q) (then_is s p row h) ∙ e
+            ∙ ap (λ (x : Array). reply_now x q) (sym (here_is s p row h))
 
-        current_by : (u : UnitState) (r : RunningProcess) → unit_state_at b.units u.target u.unit ≡ Some u → u.current ≡ Some r → IsNoSense r.process → IsOwn s u.target u.unit r.process → ((e : Event) → shown ≡ e ∷ [] → stays_queued e r.process ≡ true) → St r
+        current_by : (u : UnitState) (r : RunningProcess) → unit_state_at b.units u.target u.unit ≡ Some u
+            → u.current ≡ Some r → IsNoSense r.process → IsOwn s u.target u.unit r.process
+            → ((e : Event) → shown ≡ e ∷ [] → stays_queued e r.process ≡ true) → St r
         current_by u r found eu calls own stays none q is some may = by (changing s p row h q calm may)
           where
             same : r.process ≡ q
@@ -315,7 +374,8 @@ stays_so s p row w =
             there : IsCurrent b q
             there = record {
               unit = u;
-              unit_is = (λ i. unit_state_at b.units (sym same i).target (sym same i).unit) ∙ (λ i. unit_state_at b.units (own.target_is i) (own.unit_is i)) ∙ found;
+              unit_is = (λ i. unit_state_at b.units (sym same i).target (sym same i).unit)
+                  ∙ (λ i. unit_state_at b.units (own.target_is i) (own.unit_is i)) ∙ found;
               running = r;
               current_is = eu;
               process_is = same;
@@ -324,10 +384,15 @@ stays_so s p row w =
 
             by : Changing s k row q → reply_now (array_of s j) q ≡ reply_now (array_of s k) q
             by (by_run x own_x place ran) = arrays q (run_same s p row h x q w.seats own_x place ran there)
-            by (by_end x status own_x place ending) = arrays q (end_same s a b x q status w.seats h.places.sound own_x place (ap (λ (y : Process). is_request_sense (command_of y.cdb)) (sym same) ∙ calls) (one (Event.End x.id status) ending.alone))
-            by (by_abort i t n what alone next changes) = wrong' (sym (dropped_by q i t n what changes) ∙ ap (stays_queued (Event.Aborted i t n what)) (sym same) ∙ stays (Event.Aborted i t n what) alone)
+            by (by_end x status own_x place ending) = arrays q (end_same s a b x q status w.seats h.places.sound
+                own_x place (ap (λ (y : Process). is_request_sense (command_of y.cdb)) (sym same) ∙ calls)
+                (one (Event.End x.id status) ending.alone))
+            by (by_abort i t n what alone next changes) = wrong' (sym (dropped_by q i t n what changes)
+                ∙ ap (stays_queued (Event.Aborted i t n what)) (sym same) ∙ stays (Event.Aborted i t n what) alone)
 
-        current : (u : UnitState) → unit_state_at b.units u.target u.unit ≡ Some u → (o : Option RunningProcess) → u.current ≡ o → RunsP IsNoSense o → IsOwnRunning s u.target u.unit o → ((e : Event) → shown ≡ e ∷ [] → RunsP (λ q. stays_queued e q ≡ true) o) → Runs St o
+        current : (u : UnitState) → unit_state_at b.units u.target u.unit ≡ Some u
+            → (o : Option RunningProcess) → u.current ≡ o → RunsP IsNoSense o → IsOwnRunning s u.target u.unit o
+            → ((e : Event) → shown ≡ e ∷ [] → RunsP (λ q. stays_queued e q ≡ true) o) → Runs St o
         current u found None eu y own stays = tt
         current u found (Some r) eu y own stays = current_by u r found eu y own stays
 
@@ -335,12 +400,19 @@ stays_so s p row w =
         waits [] z = tt
         waits (q ∷ waiting) z = ((λ none x is some may. absurd (some z.0)), waits waiting z.1)
 
-        units_by : (units : List UnitState) → AllUnits (λ u. unit_state_at b.units u.target u.unit ≡ Some u) units → AllUnits (IsCleanUnit (moved_of j)) units → UnitsP IsNoSense units → AllOwnUnits s units → ((e : Event) → shown ≡ e ∷ [] → UnitsP (λ q. stays_queued e q ≡ true) units) → OnUnits St units
+        units_by : (units : List UnitState) → AllUnits (λ u. unit_state_at b.units u.target u.unit ≡ Some u) units
+            → AllUnits (IsCleanUnit (moved_of j)) units → UnitsP IsNoSense units → AllOwnUnits s units
+            → ((e : Event) → shown ≡ e ∷ [] → UnitsP (λ q. stays_queued e q ≡ true) units) → OnUnits St units
         units_by [] x y z own stays = tt
-        units_by (u ∷ units) x y z own stays = ((waits u.waiting y.0, current u x.0 u.current refl z.0.1 own.0.current (λ e v. (stays e v).0.1)), units_by units x.1 y.1 z.1 own.1 (λ e v. (stays e v).1))
+        units_by (u ∷ units) x y z own stays = (
+          (waits u.waiting y.0, current u x.0 u.current refl z.0.1 own.0.current (λ e v. (stays e v).0.1)),
+          units_by units x.1 y.1 z.1 own.1 (λ e v. (stays e v).1),
+        )
 
         -- one outside the queues that is open is served
-        guest_by : (r : RunningProcess) → process_of s r.process.id ≡ Some r.process → ((id : ProcId) → is_served_by j.served id ≡ false → IsAway id r) → ((id : ProcId) (status : ℕ) → shown ≡ Event.End id status ∷ [] → IsAway id r) → St r
+        guest_by : (r : RunningProcess) → process_of s r.process.id ≡ Some r.process
+            → ((id : ProcId) → is_served_by j.served id ≡ false → IsAway id r)
+            → ((id : ProcId) (status : ℕ) → shown ≡ Event.End id status ∷ [] → IsAway id r) → St r
         guest_by r own rests ended none q is some may = by (changing s p row h q calm may)
           where
             Same : Type 0
@@ -360,20 +432,29 @@ stays_so s p row w =
                 kept (Some m) z = refl
 
                 served : j.served ≡ Some (process x.id)
-                served = (λ i. served_after s k (g.goes.row_is.connection_is i) d.next) ∙ kept d.next here.stands ∙ known_served s k row g.connection g.change l x.id h.was.books g.goes here.link_is here.item_is
+                served = (λ i. served_after s k (g.goes.row_is.connection_is i) d.next) ∙ kept d.next here.stands
+                    ∙ known_served s k row g.connection g.change l x.id h.was.books g.goes here.link_is here.item_is
 
             by : Changing s k row q → Same
             by (by_run x own_x place ran) =
                 let answer : IsAnswer k d x.id = answer_here s k row x.id (row_runs s k row x.id ran) in
                 let same : r.process.id ≡ x.id = id_is r.process.id x.id (it_is x answer.link answer.here) in
-                wrong' (sym (ap (λ (o : Option Reply). is_some o) none) ∙ ap (λ (i : ProcId). is_some (reply_in b.replies i)) same ∙ run_replies s p row h x w.seats own_x ran)
+                wrong' (sym (ap (λ (o : Option Reply). is_some o) none)
+                ∙ ap (λ (i : ProcId). is_some (reply_in b.replies i)) same ∙ run_replies s p row h x w.seats own_x ran)
             by (by_end x status own_x place e) = wrong (sym (it_is x e.link e.here) ∙ ended x.id status e.alone)
-            by (by_abort i t n what alone next changes) = wrong (sym (self_id r.process.id) ∙ rests r.process.id (ap (λ (o : Option Item). is_served_by o r.process.id) (h.later.unserved (none_there d.next next))))
+            by (by_abort i t n what alone next changes) = wrong (sym (self_id r.process.id) ∙ rests r.process.id
+                (ap (λ (o : Option Item). is_served_by o r.process.id) (h.later.unserved (none_there d.next next))))
               where
                 none_there : (o : Option Connection) → is_some o ≡ false → o ≡ None
                 none_there None z = refl
                 none_there (Some n) z = wrong z
 
-        guests_by : (guests : List RunningProcess) → AllOwnGuests s guests → ((id : ProcId) → is_served_by j.served id ≡ false → OnGuests (IsAway id) guests) → ((id : ProcId) (status : ℕ) → shown ≡ Event.End id status ∷ [] → OnGuests (IsAway id) guests) → OnGuests St guests
+        guests_by : (guests : List RunningProcess) → AllOwnGuests s guests
+            → ((id : ProcId) → is_served_by j.served id ≡ false → OnGuests (IsAway id) guests)
+            → ((id : ProcId) (status : ℕ) → shown ≡ Event.End id status ∷ [] → OnGuests (IsAway id) guests)
+            → OnGuests St guests
         guests_by [] own rests ended = tt
-        guests_by (r ∷ guests) own rests ended = (guest_by r own.0 (λ id f. (rests id f).0) (λ id status e. (ended id status e).0), guests_by guests own.1 (λ id f. (rests id f).1) (λ id status e. (ended id status e).1))
+        guests_by (r ∷ guests) own rests ended = (
+          guest_by r own.0 (λ id f. (rests id f).0) (λ id status e. (ended id status e).0),
+          guests_by guests own.1 (λ id f. (rests id f).1) (λ id status e. (ended id status e).1),
+        )

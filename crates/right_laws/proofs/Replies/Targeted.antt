@@ -15,11 +15,14 @@ is_there targets dev = list_any (λ (t : TargetDef). t.dev == dev) targets
 abbrev pub AreTargeted : ScenarioValue → Type 0
 AreTargeted s = AllByRecursion (λ (u : UnitDef). has_target s u.target ≡ true) s.units
 
-there_still : (targets : List TargetDef) (more : TargetDef) (dev : ℕ) → is_there targets dev ≡ true → is_there (targets ++ more ∷ []) dev ≡ true
+there_still : (targets : List TargetDef) (more : TargetDef) (dev : ℕ) → is_there targets dev ≡ true
+    → is_there (targets ++ more ∷ []) dev ≡ true
 there_still [] more dev e = absurd (true≢false (sym e))
 there_still (t ∷ targets) more dev e = go (t.dev == dev) e (λ z. there_still targets more dev z)
   where
-    go : (q : Bool) → (q || is_there targets dev) ≡ true → (is_there targets dev ≡ true → is_there (targets ++ more ∷ []) dev ≡ true) → (q || is_there (targets ++ more ∷ []) dev) ≡ true
+    go : (q : Bool) → (q || is_there targets dev) ≡ true
+        → (is_there targets dev ≡ true → is_there (targets ++ more ∷ []) dev ≡ true)
+        → (q || is_there (targets ++ more ∷ []) dev) ≡ true
     go true z still = refl
     go false z still = still z
 
@@ -34,11 +37,14 @@ targeted_added d z (initiator_line f) e a =
 targeted_added d z (target_line f) e a =
     let b = bind_ok (target_def d.scenario f) _ z e in
     subst (λ (p : Progress). AreTargeted p.scenario) (ok_is _ z b.2)
-    (all_are (λ (u : UnitDef). is_there d.scenario.targets u.target ≡ true) (λ (u : UnitDef). is_there (d.scenario.targets ++ b.0 ∷ []) u.target ≡ true) d.scenario.units (λ u t. there_still d.scenario.targets b.0 u.target t) a)
+    (all_are (λ (u : UnitDef). is_there d.scenario.targets u.target ≡ true)
+    (λ (u : UnitDef). is_there (d.scenario.targets ++ b.0 ∷ []) u.target ≡ true) d.scenario.units
+    (λ u t. there_still d.scenario.targets b.0 u.target t) a)
 targeted_added d z (unit_line f) e a =
     let b = bind_ok (unit_def d.scenario f) _ z e in
     subst (λ (p : Progress). AreTargeted p.scenario) (ok_is _ z b.2)
-    (all_more (λ (u : UnitDef). is_there d.scenario.targets u.target ≡ true) d.scenario.units b.0 a (unit_read d.scenario (unit_line f) b.0 b.1).known)
+    (all_more (λ (u : UnitDef). is_there d.scenario.targets u.target ≡ true) d.scenario.units b.0 a
+    (unit_read d.scenario (unit_line f) b.0 b.1).known)
 targeted_added d z (fill_line f) e a =
     let b = bind_ok (fill_def d.scenario f) _ z e in
     subst (λ (p : Progress). AreTargeted p.scenario) (ok_is _ z b.2) a
@@ -68,7 +74,9 @@ targeted_after d z x e a =
 
 targeted_built : (d z : Progress) (xs : List Said) → built d xs ≡ Ok z → AreTargeted d.scenario → AreTargeted z.scenario
 targeted_built d z [] e a = subst (λ (p : Progress). AreTargeted p.scenario) (ok_is d z e) a
-targeted_built d z (x ∷ xs) e a = let b = bind_ok (said_after d x) _ z e in targeted_built b.0 z xs b.2 (targeted_after d b.0 x b.1 a)
+targeted_built d z (x ∷ xs) e a =
+    let b = bind_ok (said_after d x) _ z e in
+    targeted_built b.0 z xs b.2 (targeted_after d b.0 x b.1 a)
 
 pub are_targeted : (s : ScenarioValue) → Obeys s → AreTargeted s
 are_targeted s o =
@@ -77,13 +85,20 @@ are_targeted s o =
 
 -- ---- of the unit that is found
 
-found_targeted : (s : ScenarioValue) (units : List UnitDef) (t n : ℕ) (u : UnitDef) → AllByRecursion (λ (v : UnitDef). has_target s v.target ≡ true) units → find (λ (v : UnitDef). v.target == t && v.unit == n) units ≡ Some u → has_target s t ≡ true
+found_targeted : (s : ScenarioValue) (units : List UnitDef) (t n : ℕ) (u : UnitDef)
+    → AllByRecursion (λ (v : UnitDef). has_target s v.target ≡ true) units
+    → find (λ (v : UnitDef). v.target == t && v.unit == n) units ≡ Some u → has_target s t ≡ true
 found_targeted s [] t n u a e = none_some u e
-found_targeted s (v ∷ units) t n u a e = go (v.target == t && v.unit == n) refl e (λ z. found_targeted s units t n u a.1 z)
+found_targeted s (v ∷ units) t n u a e =
+    go (v.target == t && v.unit == n) refl e (λ z. found_targeted s units t n u a.1 z)
   where
-    go : (q : Bool) → (v.target == t && v.unit == n) ≡ q → cond q (Some v) (find (λ (w : UnitDef). w.target == t && w.unit == n) units) ≡ Some u → (find (λ (w : UnitDef). w.target == t && w.unit == n) units ≡ Some u → has_target s t ≡ true) → has_target s t ≡ true
+    go : (q : Bool) → (v.target == t && v.unit == n) ≡ q
+        → cond q (Some v) (find (λ (w : UnitDef). w.target == t && w.unit == n) units) ≡ Some u
+        → (find (λ (w : UnitDef). w.target == t && w.unit == n) units ≡ Some u → has_target s t ≡ true)
+        → has_target s t ≡ true
     go true f z rest = ap (has_target s) (sym (eqb-true v.target t (and_first (v.target == t) (v.unit == n) f))) ∙ a.0
     go false f z rest = rest z
 
-pub unit_targeted : (s : ScenarioValue) (t n : ℕ) (u : UnitDef) → Obeys s → unit_of s t n ≡ Some u → has_target s t ≡ true
+pub unit_targeted : (s : ScenarioValue) (t n : ℕ) (u : UnitDef) → Obeys s → unit_of s t n ≡ Some u
+    → has_target s t ≡ true
 unit_targeted s t n u o e = found_targeted s s.units t n u (are_targeted s o) e

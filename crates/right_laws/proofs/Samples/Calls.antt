@@ -38,10 +38,13 @@ called_follows g c row = record {
 self_follows : (g : Calling) → Follows g g
 self_follows g = record { called = refl; answered = λ e. e; withdrawn = λ e. e; struck = λ e. e }
 
-pub calling_follows : (caller : ℕ) (g h : Calling) (c : Change) (row : Row) → calling_after caller (Some g) c row ≡ Some h → Follows g h
+pub calling_follows : (caller : ℕ) (g h : Calling) (c : Change) (row : Row)
+    → calling_after caller (Some g) c row ≡ Some h → Follows g h
 calling_follows caller g h c row e = go (row.dev == caller) (row.dev == g.called) e
   where
-    go : (q r : Bool) → (if q then Some (caller_goes_on g c row.time) else if r then Some (called_goes_on g c row) else Some g) ≡ Some h → Follows g h
+    go : (q r : Bool)
+        → (if q then Some (caller_goes_on g c row.time) else if r then Some (called_goes_on g c row) else Some g)
+        ≡ Some h → Follows g h
     go true r z = subst (λ (x : Calling). Follows g x) (same_Some _ h z) (caller_follows g c row.time)
     go false true z = subst (λ (x : Calling). Follows g x) (same_Some _ h z) (called_follows g c row)
     go false false z = subst (λ (x : Calling). Follows g x) (same_Some _ h z) (self_follows g)
@@ -54,13 +57,17 @@ pub record GoesOn (p : List Row) (row : Row) (k : Call) (h : Calling) : Type 0 w
   pub sel : (bus p).sel ≡ true
   pub goes : calling_after was.caller was.calling (change_of p row) row ≡ Some h
 
-pub call_goes : (p : List Row) (row : Row) (k : Call) (h : Calling) → call (row ∷ p) ≡ Some k → k.calling ≡ Some h → GoesOn p row k h
-call_goes p row k h e f =
-    by_bool (bus p).sel
-    (λ before. by_call before (call p) refl (sym (λ i. if not (on i) then None else if rises (before i) (on i) then Some (record { caller = row.dev; at = row.time; calling = None }) else call_goes_on (call p) (change_of p row) row) ∙ e))
-    (λ before.
-    let new : (record { caller = row.dev; at = row.time; calling = None }) ≡ k = same_Some _ k (sym (λ i. if not (on i) then None else if rises (before i) (on i) then Some (record { caller = row.dev; at = row.time; calling = None }) else call_goes_on (call p) (change_of p row) row) ∙ e) in
-    none_some h (ap (λ (x : Call). x.calling) new ∙ f))
+pub call_goes : (p : List Row) (row : Row) (k : Call) (h : Calling) → call (row ∷ p) ≡ Some k → k.calling ≡ Some h
+    → GoesOn p row k h
+call_goes p row k h e f = by_bool (bus p).sel (λ before. by_call before (call p) refl (sym (λ i. if not (on i) then None
+    else if rises (before i) (on i) then Some (record { caller = row.dev; at = row.time; calling = None })
+    else call_goes_on (call p) (change_of p row) row) ∙ e))
+    (λ before. let new : (record { caller = row.dev; at = row.time; calling = None }) ≡ k = same_Some _ k
+    (sym (λ i. if not (on i) then None else if rises (before i) (on i) then Some (record {
+      caller = row.dev;
+      at = row.time;
+      calling = None;
+    }) else call_goes_on (call p) (change_of p row) row) ∙ e) in none_some h (ap (λ (x : Call). x.calling) new ∙ f))
   where
     q : List Row
     q = row ∷ p
@@ -68,10 +75,12 @@ call_goes p row k h e f =
     on : (bus q).sel ≡ true
     on = sel_of_call q k e
 
-    by_call : (bus p).sel ≡ true → (o : Option Call) → call p ≡ o → call_goes_on o (change_of p row) row ≡ Some k → GoesOn p row k h
+    by_call : (bus p).sel ≡ true → (o : Option Call) → call p ≡ o → call_goes_on o (change_of p row) row ≡ Some k
+        → GoesOn p row k h
     by_call before None none z = none_some k z
     by_call before (Some j) some z =
-        let same : (record j { calling = calling_after j.caller j.calling (change_of p row) row }) ≡ k = same_Some _ k z in
+        let same : (record j { calling = calling_after j.caller j.calling (change_of p row) row }) ≡ k = same_Some
+        _ k z in
         record {
           was = j;
           was_is = some;
@@ -85,39 +94,48 @@ not_some : (o : Option ℕ) → is_some o ≡ true → is_none o ≡ false
 not_some o e = ap not e
 
 pub answered_unasked : (h : Calling) → is_some h.answered ≡ true → is_asked h ≡ false
-answered_unasked h e = and_right (is_some h.released && is_none h.withdrawn && not h.struck) (is_none h.answered) (not_some h.answered e)
+answered_unasked h e =
+    and_right (is_some h.released && is_none h.withdrawn && not h.struck) (is_none h.answered) (not_some h.answered e)
 
 pub withdrawn_unasked : (h : Calling) → is_some h.withdrawn ≡ true → is_asked h ≡ false
-withdrawn_unasked h e = and_left (is_some h.released && is_none h.withdrawn && not h.struck) (is_none h.answered) (and_left (is_some h.released && is_none h.withdrawn) (not h.struck) (and_right (is_some h.released) (is_none h.withdrawn) (not_some h.withdrawn e)))
+withdrawn_unasked h e = and_left (is_some h.released && is_none h.withdrawn && not h.struck)
+    (is_none h.answered) (and_left (is_some h.released && is_none h.withdrawn) (not h.struck)
+    (and_right (is_some h.released) (is_none h.withdrawn) (not_some h.withdrawn e)))
 
 pub struck_unasked : (h : Calling) → h.struck ≡ true → is_asked h ≡ false
-struck_unasked h e = and_left (is_some h.released && is_none h.withdrawn && not h.struck) (is_none h.answered) (and_right (is_some h.released && is_none h.withdrawn) (not h.struck) (ap not e))
+struck_unasked h e = and_left (is_some h.released && is_none h.withdrawn && not h.struck) (is_none h.answered)
+    (and_right (is_some h.released && is_none h.withdrawn) (not h.struck) (ap not e))
 
 pub unreleased_unasked : (h : Calling) → is_some h.released ≡ false → is_asked h ≡ false
-unreleased_unasked h e = and_left (is_some h.released && is_none h.withdrawn && not h.struck) (is_none h.answered) (and_left (is_some h.released && is_none h.withdrawn) (not h.struck) (and_left (is_some h.released) (is_none h.withdrawn) e))
+unreleased_unasked h e =
+    and_left (is_some h.released && is_none h.withdrawn && not h.struck) (is_none h.answered) (and_left
+    (is_some h.released && is_none h.withdrawn) (not h.struck) (and_left (is_some h.released) (is_none h.withdrawn) e))
 
 -- ---- the IDs
 
 -- None are sampled of such a call, now or later.
-pub ids_none : (s : ScenarioValue) (o : Option Call) (bsy : ℕ) → ((k : Call) (h : Calling) → o ≡ Some k → k.calling ≡ Some h → is_asked h ≡ false) → awaited_ids s bsy o ≡ None
+pub ids_none : (s : ScenarioValue) (o : Option Call) (bsy : ℕ)
+    → ((k : Call) (h : Calling) → o ≡ Some k → k.calling ≡ Some h → is_asked h ≡ false) → awaited_ids s bsy o ≡ None
 ids_none s None bsy f = refl
-ids_none s (Some k) bsy f =
-    by_option k.calling
-    (λ e. ap (ids_of s bsy) e)
-    (λ h e. ap (ids_of s bsy) e ∙ ap (λ (q : Bool). if q then ids_at (latency_of s h.called) h.called bsy else None) (f k h refl e))
+ids_none s (Some k) bsy f = by_option k.calling (λ e. ap (ids_of s bsy) e) (λ h e. ap (ids_of s bsy) e
+    ∙ ap (λ (q : Bool). if q then ids_at (latency_of s h.called) h.called bsy else None) (f k h refl e))
 
-pub ids_unsampled : (s : ScenarioValue) (o : Option Call) (time : ℕ) (xs : List Sample) → ((k : Call) (h : Calling) → o ≡ Some k → k.calling ≡ Some h → is_some h.answered ≡ true) → samples_with_ids s o time xs ≡ xs
+pub ids_unsampled : (s : ScenarioValue) (o : Option Call) (time : ℕ) (xs : List Sample)
+    → ((k : Call) (h : Calling) → o ≡ Some k → k.calling ≡ Some h → is_some h.answered ≡ true)
+    → samples_with_ids s o time xs ≡ xs
 ids_unsampled s None time xs f = refl
-ids_unsampled s (Some k) time xs f =
-    by_option k.calling
+ids_unsampled s (Some k) time xs f = by_option k.calling
     (λ e. ap (λ (o : Option Calling). samples_with_ids_of s o time xs) e)
-    (λ h e. ap (λ (o : Option Calling). samples_with_ids_of s o time xs) e ∙ ap (λ (q : Bool). if q then samples_with_ids_after (latency_of s h.called) h.called time xs else xs) (not_some h.answered (f k h refl e)))
+    (λ h e. ap (λ (o : Option Calling). samples_with_ids_of s o time xs) e
+    ∙ ap (λ (q : Bool). if q then samples_with_ids_after (latency_of s h.called) h.called time xs else xs)
+    (not_some h.answered (f k h refl e)))
 
 abbrev pub with_awaited : Option Sample → List Sample → List Sample
 with_awaited None xs = xs
 with_awaited (Some a) xs = with_sample a xs
 
 -- Where the sample of the IDs is put down, it is awaited from then on.
-pub ids_sampled : (s : ScenarioValue) (o : Option ℕ) (dev time : ℕ) (xs : List Sample) → samples_with_ids_after o dev time xs ≡ with_awaited (ids_at o dev time) xs
+pub ids_sampled : (s : ScenarioValue) (o : Option ℕ) (dev time : ℕ) (xs : List Sample)
+    → samples_with_ids_after o dev time xs ≡ with_awaited (ids_at o dev time) xs
 ids_sampled s None dev time xs = refl
 ids_sampled s (Some lat) dev time xs = refl

@@ -81,7 +81,9 @@ strikes_so_far s p k =
 -- ---- the end
 
 -- What is still awaited no fault is to strike.
-unstruck : (s : ScenarioValue) (p : List Row) (done : List Sample) (a : Sample) → IsKnown s p → IsEnded s p → Taken s p done → awaited s p ≡ Some a → (flip : Option ℕ) → flip_of (run_state s p).faults a.time ≡ flip → flip ≡ None
+unstruck : (s : ScenarioValue) (p : List Row) (done : List Sample) (a : Sample) → IsKnown s p → IsEnded s p
+    → Taken s p done → awaited s p ≡ Some a → (flip : Option ℕ) → flip_of (run_state s p).faults a.time ≡ flip
+    → flip ≡ None
 unstruck s p done a k ended w e None f = refl
 unstruck s p done a k ended w e (Some bit) f =
     by_bool (bus p).rst
@@ -92,24 +94,25 @@ unstruck s p done a k ended w e (Some bit) f =
     struck calm =
         let v = whole_of s p k in
         let st = v.stood.standing in
-        let x = awaits_here s p a (obeys_latencies s k.obeys) v.stood.here v.ends w.crossed calm (always_is s p st calm) e in
-        let z = comes_by (reset_due s p a.dev) (unreset_due s p a.dev) (record { time = a.time; kind = Fault bit }) (x.struck bit f) in
-        none_some z.x (sym (least_none (due s p) 8 ended a.dev x.below) ∙ due_calm s p a.dev st.devices x.below (off_at p calm a.dev x.below) ∙ z.is)
+        let x = awaits_here s p a (obeys_latencies s k.obeys) v.stood.here v.ends w.crossed calm
+        (always_is s p st calm) e in
+        let z = comes_by (reset_due s p a.dev) (unreset_due s p a.dev)
+        (record { time = a.time; kind = Fault bit }) (x.struck bit f) in
+        none_some z.x (sym (least_none (due s p) 8 ended a.dev x.below)
+        ∙ due_calm s p a.dev st.devices x.below (off_at p calm a.dev x.below) ∙ z.is)
 
-pub strikes_at_end : (s : ScenarioValue) (p : List Row) → IsKnown s p → IsEnded s p → expected_strikes s p ≡ row_strikes (reverse p)
+pub strikes_at_end : (s : ScenarioValue) (p : List Row) → IsKnown s p → IsEnded s p
+    → expected_strikes s p ≡ row_strikes (reverse p)
 strikes_at_end s p k ended = by (so_far s p k)
   where
     by : SoFar s p → expected_strikes s p ≡ row_strikes (reverse p)
-    by (done, w) =
-        by_option (awaited s p)
-        (λ e.
-        ap (strikes_by (faults_in_order s.faults)) (w.all ∙ ap (λ (x : Option Sample). done ++ listed x) e ∙ append-nil done)
-        ∙ in_turn (faults_in_order s.faults) done (ordered_faults s.faults) w.order
-        ∙ w.strikes)
-        (λ a e.
-        ap (strikes_by (faults_in_order s.faults)) (w.all ∙ ap (λ (x : Option Sample). done ++ listed x) e)
-        ∙ in_turn (faults_in_order s.faults) (done ++ a ∷ []) (ordered_faults s.faults) (in_order_last a done w.order (w.next a e))
-        ∙ strikes_on (faults_in_order s.faults) done a
-        ∙ (λ i. w.strikes i ++ strike_if a (flip_of (w.left i) a.time))
-        ∙ ap (λ (x : Option ℕ). row_strikes (reverse p) ++ strike_if a x) (unstruck s p done a k ended w e (flip_of (run_state s p).faults a.time) refl)
+    by (done, w) = by_option (awaited s p) (λ e. ap (strikes_by (faults_in_order s.faults))
+        (w.all ∙ ap (λ (x : Option Sample). done ++ listed x) e ∙ append-nil done)
+        ∙ in_turn (faults_in_order s.faults) done (ordered_faults s.faults) w.order ∙ w.strikes)
+        (λ a e. ap (strikes_by (faults_in_order s.faults)) (w.all ∙ ap (λ (x : Option Sample). done ++ listed x) e)
+        ∙ in_turn (faults_in_order s.faults) (done ++ a ∷ [])
+        (ordered_faults s.faults) (in_order_last a done w.order (w.next a e))
+        ∙ strikes_on (faults_in_order s.faults) done a ∙ (λ i. w.strikes i ++ strike_if a (flip_of (w.left i) a.time))
+        ∙ ap (λ (x : Option ℕ). row_strikes (reverse p) ++ strike_if a x)
+        (unstruck s p done a k ended w e (flip_of (run_state s p).faults a.time) refl)
         ∙ append-nil (row_strikes (reverse p)))

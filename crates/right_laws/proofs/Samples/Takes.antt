@@ -17,19 +17,25 @@ pub record Takes (s : ScenarioValue) (p : List Row) (row : Row) (a : Sample) : T
 -- The sample comes next; a fault that is to strike it is due.
 pub record Awaits (s : ScenarioValue) (p : List Row) (a : Sample) : Type 0 where
   pub below : a.dev < 8
-  pub struck : (bit : ℕ) → flip_of (run_state s p).faults a.time ≡ Some bit → unreset_due s p a.dev ≡ fault_due a.time bit
+  pub struck : (bit : ℕ) → flip_of (run_state s p).faults a.time ≡ Some bit
+      → unreset_due s p a.dev ≡ fault_due a.time bit
   pub takes : (row : Row) → IsLeast (unreset_due s p) 8 row → Takes s p row a
 
 -- ---- what a fault makes of what is due
 
-pub fault_at : (time bit : ℕ) (plain : Option Due) (x : Due) (flip : Option ℕ) → flip ≡ Some bit → fault_or time flip plain ≡ Some x → (x.time ≡ time) × (x.kind ≡ Fault bit)
+pub fault_at : (time bit : ℕ) (plain : Option Due) (x : Due) (flip : Option ℕ) → flip ≡ Some bit
+    → fault_or time flip plain ≡ Some x → (x.time ≡ time) × (x.kind ≡ Fault bit)
 fault_at time bit plain x flip f e =
-    let same = same_Some (record { time = time; kind = Fault bit }) x (sym (ap (λ (o : Option ℕ). fault_or time o plain) f) ∙ e) in
+    let same = same_Some (record { time = time; kind = Fault bit }) x
+    (sym (ap (λ (o : Option ℕ). fault_or time o plain) f) ∙ e) in
     (sym (ap (λ (y : Due). y.time) same), sym (ap (λ (y : Due). y.kind) same))
 
-pub lines_at : (time : ℕ) (l : LineSet) (x : Due) (flip : Option ℕ) → flip ≡ None → fault_or time flip (due_at time l) ≡ Some x → is_fault x.kind ≡ false
-lines_at time l x flip f e = ap is_fault (is_at time l x (sym (ap (λ (o : Option ℕ). fault_or time o (due_at time l)) f) ∙ e)).kind_is
+pub lines_at : (time : ℕ) (l : LineSet) (x : Due) (flip : Option ℕ) → flip ≡ None
+    → fault_or time flip (due_at time l) ≡ Some x → is_fault x.kind ≡ false
+lines_at time l x flip f e =
+    ap is_fault (is_at time l x (sym (ap (λ (o : Option ℕ). fault_or time o (due_at time l)) f) ∙ e)).kind_is
 
-pub time_at : (time : ℕ) (l : LineSet) (x : Due) (flip : Option ℕ) → fault_or time flip (due_at time l) ≡ Some x → x.time ≡ time
+pub time_at : (time : ℕ) (l : LineSet) (x : Due) (flip : Option ℕ) → fault_or time flip (due_at time l) ≡ Some x
+    → x.time ≡ time
 time_at time l x None e = (is_at time l x e).time_is
 time_at time l x (Some bit) e = (fault_at time bit (due_at time l) x (Some bit) refl e).0

@@ -1,6 +1,6 @@
--- How MESSAGE IN follows another phase, as far as STATUS is concerned: COMMAND COMPLETE follows STATUS; messages that were refused are said
--- again; after INITIATOR DETECTED ERROR the pointers are restored for STATUS; else neither COMMAND COMPLETE is said nor does STATUS follow
--- (6.6.5, 6.6.10, 6.6.13).
+-- How MESSAGE IN follows another phase, as far as STATUS is concerned: COMMAND COMPLETE follows STATUS; messages that
+-- were refused are said again; after INITIATOR DETECTED ERROR the pointers are restored for STATUS; else neither
+-- COMMAND COMPLETE is said nor does STATUS follow (6.6.5, 6.6.10, 6.6.13).
 use Rattle.right_laws.proofs
 use proofs.Names.{◌≡◌, Bool, true, false, ◌∙◌, Option, Some, refl, sym, wrong', MsgIn, is_status_next as is_to_status}
 use proofs.Names.{one_message, Serving, phase_leaving, Cause, Leaving, Messages, Next, Phase, is_to_message_in}
@@ -25,8 +25,10 @@ pub record IsOther (l : Leaving) : Type 0 where
 
 pub data FromIn (v : Serving) (l : Leaving) (phase : Phase) : Type 0 where
   completes : phase ≡ Phase.Status → FromIn v l phase
-  repeats : phase ≡ Phase.MessageOut → v.plan.cause ≡ Cause.InMessage → l.messages ≡ v.plan.messages → l.next ≡ v.plan.next → FromIn v l phase
-  restores : phase ≡ Phase.MessageOut → v.plan.cause ≡ Cause.InStatus → l.messages ≡ one_message MsgIn.RestorePointers → l.next ≡ Next.Status → FromIn v l phase
+  repeats : phase ≡ Phase.MessageOut → v.plan.cause ≡ Cause.InMessage → l.messages ≡ v.plan.messages
+      → l.next ≡ v.plan.next → FromIn v l phase
+  restores : phase ≡ Phase.MessageOut → v.plan.cause ≡ Cause.InStatus → l.messages ≡ one_message MsgIn.RestorePointers
+      → l.next ≡ Next.Status → FromIn v l phase
   others : IsOther l → FromIn v l phase
 
 other : {v : Serving} {l : Leaving} {phase : Phase} → is_ending l.messages ≡ false → is_status_next l.next ≡ false
@@ -49,7 +51,8 @@ by_way (ways.saves _ _ _ _ _) e = other refl refl
 by_way (ways.disconnects _ _ _ _ _) e = other refl refl
 by_way _ e = wrong' e
 
-pub from_in : (v : Serving) (atn : Bool) (phase : Phase) → is_to_message_in (phase_leaving v atn phase).to ≡ true → FromIn v (phase_leaving v atn phase) phase
+pub from_in : (v : Serving) (atn : Bool) (phase : Phase) → is_to_message_in (phase_leaving v atn phase).to ≡ true
+    → FromIn v (phase_leaving v atn phase) phase
 from_in v atn phase e = by_way (ways.leaves v atn phase) e
 
 -- ---- how STATUS follows
@@ -77,5 +80,6 @@ leads (ways.ends_runs _ _ (ways.given _) _) e = after_data_in refl
 leads (ways.ends_runs _ _ (ways.sent _) _) e = after_data_out refl
 leads _ e = wrong' e
 
-pub to_status : (v : Serving) (atn : Bool) (phase : Phase) → (phase ≡ Phase.Status → ⊥) → is_to_status (phase_leaving v atn phase).to ≡ true → ToStatus v atn phase
+pub to_status : (v : Serving) (atn : Bool) (phase : Phase)
+    → (phase ≡ Phase.Status → ⊥) → is_to_status (phase_leaving v atn phase).to ≡ true → ToStatus v atn phase
 to_status v atn phase f e = leads (ways.leaves v atn phase) e

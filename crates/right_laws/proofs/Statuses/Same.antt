@@ -16,19 +16,24 @@ small_as c d e (inr h) = inr (one_as c d e h)
 
 pub ready_as : (c d : CarriedBytes) → d.status ≡ c.status → IsReady c → IsReady d
 ready_as c d e (inl h) = inl (ap (λ (a : Rattle.bus_due.specs.bus_story.specs.CarriedBytes.Area). a.bytes) e ∙ h)
-ready_as c d e (inr h) = inr ((h.0.0, ap (λ (a : Rattle.bus_due.specs.bus_story.specs.CarriedBytes.Area). a.bytes) e ∙ h.0.1), ap (λ (a : Rattle.bus_due.specs.bus_story.specs.CarriedBytes.Area). a.active) e ∙ h.1)
+ready_as c d e (inr h) = inr (
+  (h.0.0, ap (λ (a : Rattle.bus_due.specs.bus_story.specs.CarriedBytes.Area). a.bytes) e ∙ h.0.1),
+  ap (λ (a : Rattle.bus_due.specs.bus_story.specs.CarriedBytes.Area). a.active) e ∙ h.1,
+)
 
 pub ready_small : (c : CarriedBytes) → IsReady c → IsSmall c
 ready_small c (inl h) = inl h
 ready_small c (inr h) = inr h.0
 
-pub says_as : (c d : CarriedBytes) (m n : Messages) (x y : Next) → load d ≡ load c → n ≡ m → y ≡ x → StatusSays c m x → StatusSays d n y
+pub says_as : (c d : CarriedBytes) (m n : Messages) (x y : Next) → load d ≡ load c → n ≡ m → y ≡ x → StatusSays c m x
+    → StatusSays d n y
 says_as c d m n x y e em en h = record {
   completes = λ z. one_as c d e (h.completes (sym em ∙ z));
   again = λ z. let w = h.again (sym en ∙ z) in (em ∙ w.0, small_as c d e w.1);
 }
 
-pub asked_as : (c d : CarriedBytes) (p q : Plan) → load d ≡ load c → KeptPlan p q → StatusAsked c p p.cause → StatusAsked d q q.cause
+pub asked_as : (c d : CarriedBytes) (p q : Plan) → load d ≡ load c → KeptPlan p q → StatusAsked c p p.cause
+    → StatusAsked d q q.cause
 asked_as c d p q e k h = subst (StatusAsked d q) (sym k.cause) (go p.cause h)
   where
     go : (x : Cause) → StatusAsked c p x → StatusAsked d q x
@@ -38,7 +43,9 @@ asked_as c d p q e k h = subst (StatusAsked d q) (sym k.cause) (go p.cause h)
     go Cause.InStatus w = one_as c d e w
 
 -- The row changes nothing of it.
-pub same_by : (c d : CarriedBytes) (p q : Plan) (x y : ℕ) (phase : Phase) → load d ≡ load c → d.status ≡ c.status → KeptPlan p q → ((phase ≡ Phase.Status) ⊎ (phase ≡ Phase.MessageIn) → y ≡ x) → StatusBy c p x phase → StatusBy d q y phase
+pub same_by : (c d : CarriedBytes) (p q : Plan) (x y : ℕ) (phase : Phase) → load d ≡ load c → d.status ≡ c.status
+    → KeptPlan p q → ((phase ≡ Phase.Status) ⊎ (phase ≡ Phase.MessageIn) → y ≡ x) → StatusBy c p x phase
+    → StatusBy d q y phase
 same_by c d p q x y Phase.Status e f k same h = (
   λ z. ready_as c d f (h.0 (ap (λ (n : ℕ). n == 0) (sym (same (inl refl))) ∙ z)),
   λ z. one_as c d e (h.1 (ap (λ (n : ℕ). n == 0) (sym (same (inl refl))) ∙ z)),
@@ -57,7 +64,10 @@ same_by c d p q x y Phase.DataOut e f k same h = tt
 pub status_lines : (b : LineSet) → phase_of b ≡ Phase.Status → (b.msg ≡ false) × (b.cd ≡ true) × (b.io ≡ true)
 status_lines b e = go b.msg b.cd b.io refl refl refl (ap (λ (p : Phase). is_status_next (Some p)) e)
   where
-    go : (m d i : Bool) → b.msg ≡ m → b.cd ≡ d → b.io ≡ i → is_status_next (Some (if m then (if i then Phase.MessageIn else Phase.MessageOut) else if d then (if i then Phase.Status else Phase.Command) else if i then Phase.DataIn else Phase.DataOut)) ≡ true → (b.msg ≡ false) × (b.cd ≡ true) × (b.io ≡ true)
+    go : (m d i : Bool) → b.msg ≡ m → b.cd ≡ d → b.io ≡ i
+        → is_status_next (Some (if m then (if i then Phase.MessageIn else Phase.MessageOut)
+        else if d then (if i then Phase.Status else Phase.Command) else if i then Phase.DataIn else Phase.DataOut))
+        ≡ true → (b.msg ≡ false) × (b.cd ≡ true) × (b.io ≡ true)
     go true d true em ed ei z = wrong' z
     go true d false em ed ei z = wrong' z
     go false true true em ed ei z = (em, ed, ei)
@@ -67,10 +77,16 @@ status_lines b e = go b.msg b.cd b.io refl refl refl (ap (λ (p : Phase). is_sta
 
 -- ---- what is said at its end
 
-pub freeing : (l : Link) (m : Messages) (next : Next) (count : ℕ) → LastGiven l m next count → m ≡ one_message MsgIn.CommandComplete → frees_bus next ≡ true
-freeing l m next count (still_stays f all last) e = absurd (no_end ((subst (λ (x : Messages). Rattle.trace_laws.specs.bus_books.specs.Giving.OnMessages (λ y. Rattle.bus_due.specs.bus_story.specs.Links.last_in y ≡ Rattle.bus_due.specs.bus_story.specs.Links.plain) x) e all).0))
+pub freeing : (l : Link) (m : Messages) (next : Next) (count : ℕ) → LastGiven l m next count
+    → m ≡ one_message MsgIn.CommandComplete → frees_bus next ≡ true
+freeing l m next count (still_stays f all last) e =
+    absurd (no_end ((subst (λ (x : Messages). Rattle.trace_laws.specs.bus_books.specs.Giving.OnMessages
+    (λ y. Rattle.bus_due.specs.bus_story.specs.Links.last_in y ≡ Rattle.bus_due.specs.bus_story.specs.Links.plain) x) e
+    all).0))
   where
-    no_end : (let x : Rattle.bus_due.specs.bus_story.specs.Links.LastMessage = Rattle.bus_due.specs.bus_story.specs.Links.complete in x) ≡ Rattle.bus_due.specs.bus_story.specs.Links.plain → ⊥
+    no_end : (let x : Rattle.bus_due.specs.bus_story.specs.Links.LastMessage =
+        Rattle.bus_due.specs.bus_story.specs.Links.complete in x) ≡ Rattle.bus_due.specs.bus_story.specs.Links.plain
+        → ⊥
     no_end z = true≢false (ap Rattle.bus_due.specs.bus_story.specs.HistoryEvents.is_complete z)
 freeing l m next count (to_close f x one end zero last) e = frees next f
   where

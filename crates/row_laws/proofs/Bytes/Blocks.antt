@@ -1,5 +1,5 @@
--- The command of each process of a scenario that obeys the rules of its text has the length of its group; and it, and what the
--- process sends, are bytes.
+-- The command of each process of a scenario that obeys the rules of its text has the length of its group; and it, and
+-- what the process sends, are bytes.
 use Rattle.row_laws.proofs
 use proofs.Names.{ℕ, zero, suc, ◌≡◌, Bool, true, false, List, [], ◌∷◌, Option, Some, None, Ok, refl, sym, ap, subst}
 use proofs.Names.{◌∙◌, arith, ◌<◌, ◌+◌, same_Some, AllByRecursion, slice_index_or, if◌then◌else◌, ProcId, LineSet}
@@ -31,7 +31,8 @@ block_read s f c e =
     subst IsBlock (ok_is _ c b7.2) (guard_ok 4 _ b6.0 b6.1)
 
 blocks_of : (s : ScenarioValue) → Obeys s → AreBlocks s
-blocks_of s o = (each_line Any Any IsBlock Any (record { host = λ x f d e. tt; target = λ x f d e. tt; command = block_read; abort = λ x f d e. tt }) s o).commands
+blocks_of s o = (each_line Any Any IsBlock Any
+    (record { host = λ x f d e. tt; target = λ x f d e. tt; command = block_read; abort = λ x f d e. tt }) s o).commands
 
 -- ---- a process
 
@@ -39,29 +40,35 @@ group_of : (bytes : List ℕ) → is_block bytes ≡ true → has_group_len byte
 group_of [] e = cc
 group_of (b ∷ bytes) e = e
 
-at_number : (commands : List CmdDef) (n : ℕ) (c : CmdDef) → AllByRecursion IsBlock commands → command_at commands n ≡ Some c → IsBlock c
+at_number : (commands : List CmdDef) (n : ℕ) (c : CmdDef) → AllByRecursion IsBlock commands
+    → command_at commands n ≡ Some c → IsBlock c
 at_number [] n c a e = cc
 at_number (d ∷ commands) zero c a e = cc
 at_number (d ∷ commands) (suc zero) c a e = subst IsBlock (same_Some d c e) a.0
 at_number (d ∷ commands) (suc (suc n)) c a e = at_number commands (suc n) c a.1 e
 
-block_of_process : (s : ScenarioValue) (id : ProcId) (p : Process) → AreBlocks s → process_of s id ≡ Some p → has_group_len p.cdb ≡ true
+block_of_process : (s : ScenarioValue) (id : ProcId) (p : Process) → AreBlocks s → process_of s id ≡ Some p
+    → has_group_len p.cdb ≡ true
 block_of_process s id p a e = go (command_at s.commands id.command) refl e
   where
-    own : (c : CmdDef) (sense : Bool) → IsBlock c → has_group_len (process_by s (record { command = id.command; sense = sense }) c).cdb ≡ true
+    own : (c : CmdDef) (sense : Bool) → IsBlock c
+        → has_group_len (process_by s (record { command = id.command; sense = sense }) c).cdb ≡ true
     own c true b = refl
     own c false b = group_of c.cdb b
 
-    go : (c : Option CmdDef) → command_at s.commands id.command ≡ c → process_if s id c ≡ Some p → has_group_len p.cdb ≡ true
+    go : (c : Option CmdDef) → command_at s.commands id.command ≡ c → process_if s id c ≡ Some p
+        → has_group_len p.cdb ≡ true
     go None f g = cc
-    go (Some c) f g = sym (ap (λ (q : Process). has_group_len q.cdb) (same_Some (process_by s id c) p g)) ∙ own c id.sense (at_number s.commands id.command c a f)
+    go (Some c) f g = sym (ap (λ (q : Process). has_group_len q.cdb) (same_Some (process_by s id c) p g))
+        ∙ own c id.sense (at_number s.commands id.command c a f)
 
 -- ---- its bytes
 
 abbrev IsHexLine : CmdDef → Type 0
 IsHexLine c = IsHex c.cdb × IsHexPayload c.payload
 
-line_at : (commands : List CmdDef) (n : ℕ) (c : CmdDef) → AllByRecursion IsHexLine commands → command_at commands n ≡ Some c → IsHexLine c
+line_at : (commands : List CmdDef) (n : ℕ) (c : CmdDef) → AllByRecursion IsHexLine commands
+    → command_at commands n ≡ Some c → IsHexLine c
 line_at [] n c a e = cc
 line_at (d ∷ commands) zero c a e = cc
 line_at (d ∷ commands) (suc zero) c a e = subst IsHexLine (same_Some d c e) a.0
@@ -96,7 +103,8 @@ bytes_of_process s id p o e = go (command_at s.commands id.command) refl e
 
     go : (c : Option CmdDef) → command_at s.commands id.command ≡ c → process_if s id c ≡ Some p → HasBytes p
     go None f g = cc
-    go (Some c) f g = subst HasBytes (same_Some (process_by s id c) p g) (own c id.sense (line_at s.commands id.command c o.commands f))
+    go (Some c) f g = subst HasBytes (same_Some (process_by s id c) p g)
+        (own c id.sense (line_at s.commands id.command c o.commands f))
 
 -- ---- the process of a connection
 
@@ -119,7 +127,8 @@ commands_are s o = record { group = λ k p. served k.served p; bytes = λ k p. h
     here (Some (abort n)) p f = cc
 
 -- So what the initiator is due to give is a byte, but in MESSAGE OUT.
-pub sends_bytes : (s : ScenarioValue) (k : RunState) (bus : LineSet) (x : Speech) → HasCommands s → (is_message_out bus ≡ true → next_word x < 256) → byte_to_send bus x (sending_of s k) < 256
+pub sends_bytes : (s : ScenarioValue) (k : RunState) (bus : LineSet) (x : Speech) → HasCommands s
+    → (is_message_out bus ≡ true → next_word x < 256) → byte_to_send bus x (sending_of s k) < 256
 sends_bytes s k bus x h words = go (is_message_out bus) (is_command bus) words
   where
     own : (o : Option Process) → process_here s k ≡ o → AreBytes (sending_by k o).cdb × AreBytes (sending_by k o).sent
@@ -129,7 +138,9 @@ sends_bytes s k bus x h words = go (is_message_out bus) (is_command bus) words
     o : Sending
     o = sending_of s k
 
-    go : (a b : Bool) → (a ≡ true → next_word x < 256) → (if a then next_word x else if b then slice_index_or o.cdb o.command 0 else slice_index_or o.sent o.moved 0) < 256
+    go : (a b : Bool) → (a ≡ true → next_word x < 256)
+        → (if a then next_word x else if b then slice_index_or o.cdb o.command 0 else slice_index_or o.sent o.moved 0)
+        < 256
     go true b w = w refl
     go false true w = byte_small o.cdb o.command (own (process_here s k) refl).0
     go false false w = byte_small o.sent o.moved (own (process_here s k) refl).1

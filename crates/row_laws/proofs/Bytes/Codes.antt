@@ -51,11 +51,13 @@ found all id a = go (carried_at all id) (at all id a)
     go None z = tt
     go (Some k) z = z
 
-put : (all : List CarriedBytes) (k : CarriedBytes) → AllByRecursion HasCode all → HasCode k → AllByRecursion HasCode (with_carried all k)
+put : (all : List CarriedBytes) (k : CarriedBytes) → AllByRecursion HasCode all → HasCode k
+    → AllByRecursion HasCode (with_carried all k)
 put [] k a b = (b, tt)
 put (l ∷ all) k a b = go (same_id l.id k.id) (put all k a.1 b)
   where
-    go : (q : Bool) → AllByRecursion HasCode (with_carried all k) → AllByRecursion HasCode (if q then k ∷ all else l ∷ with_carried all k)
+    go : (q : Bool) → AllByRecursion HasCode (with_carried all k)
+        → AllByRecursion HasCode (if q then k ∷ all else l ∷ with_carried all k)
     go true z = (b, a.1)
     go false z = (a.0, z)
 
@@ -66,7 +68,8 @@ of_item b (Some (abort n)) h = tt
 
 -- ---- the events that a row shows
 
-of_queue : (s : ScenarioValue) (b : Story) (o : Option CarriedBytes) (before : LineSet) → AllByRecursion HasByteCode (queue_events s b o before)
+of_queue : (s : ScenarioValue) (b : Story) (o : Option CarriedBytes) (before : LineSet)
+    → AllByRecursion HasByteCode (queue_events s b o before)
 of_queue s b None before = tt
 of_queue s b (Some k) before = go (is_command before && is_whole_block k)
   where
@@ -78,9 +81,11 @@ of_queue s b (Some k) before = go (is_command before && is_whole_block k)
     go true = (one (is_some (array_after s (Event.Accept k.id ∷ b.history))), tt)
     go false = tt
 
-of_status : (o : Option CarriedBytes) (after : LineSet) (arrived : List Event) → HasCodeIf o → AllByRecursion HasByteCode arrived → AllByRecursion HasByteCode (status_events o after arrived)
+of_status : (o : Option CarriedBytes) (after : LineSet) (arrived : List Event) → HasCodeIf o
+    → AllByRecursion HasByteCode arrived → AllByRecursion HasByteCode (status_events o after arrived)
 of_status None after arrived h a = a
-of_status (Some k) after arrived h a = go (is_status_phase after && not k.shown && not k.refused && not (list_any (λ e. is_refuse e) arrived))
+of_status (Some k) after arrived h a =
+    go (is_status_phase after && not k.shown && not k.refused && not (list_any (λ e. is_refuse e) arrived))
   where
     one : (x : Option ℕ) → CodeIf x → HasByteCode (status_event k.id x)
     one None z = tt
@@ -114,30 +119,37 @@ of_free s l complete = tt
 of_free s l disconnect = tt
 of_free s l abortive = of_aborts s l.item
 
-of_link : (s : ScenarioValue) (b : Story) (o : Option Link) (d : RowReading) → HasCodes b → AllByRecursion HasByteCode (link_events s b o d)
+of_link : (s : ScenarioValue) (b : Story) (o : Option Link) (d : RowReading) → HasCodes b
+    → AllByRecursion HasByteCode (link_events s b o d)
 of_link s b None d h = tt
 of_link s b (Some l) d h = go (is_some d.next) (changes_phase d.change) (is_completion l d.change)
   where
     k : Option CarriedBytes
     k = carried_if b l.item
 
-    go : (q r t : Bool) → AllByRecursion HasByteCode (if q then (if r then phase_events s b k d.change else if t then end_events k else []) else bus_free_events s l l.last)
-    go true true t = of_status k d.change.after (queue_events s b k d.change.before) (of_item b l.item h) (of_queue s b k d.change.before)
+    go : (q r t : Bool) → AllByRecursion HasByteCode
+        (if q then (if r then phase_events s b k d.change else if t then end_events k else [])
+        else bus_free_events s l l.last)
+    go true true t = of_status k d.change.after (queue_events s b k d.change.before) (of_item b l.item h)
+        (of_queue s b k d.change.before)
     go true false true = of_end k
     go true false false = tt
     go false r t = of_free s l l.last
 
-pub row_codes : (s : ScenarioValue) (b : Story) (d : RowReading) (row : Row) → HasCodes b → AllByRecursion HasByteCode (row_events_by s b d row)
+pub row_codes : (s : ScenarioValue) (b : Story) (d : RowReading) (row : Row) → HasCodes b
+    → AllByRecursion HasByteCode (row_events_by s b d row)
 row_codes s b d row h = go d.change.after.rst (rises d.change.own.rst d.change.next.rst)
   where
-    go : (q r : Bool) → AllByRecursion HasByteCode (if q then (if r then Event.Reset row.dev ∷ [] else []) else link_events s b b.link d)
+    go : (q r : Bool) → AllByRecursion HasByteCode
+        (if q then (if r then Event.Reset row.dev ∷ [] else []) else link_events s b b.link d)
     go true true = (tt, tt)
     go true false = tt
     go false r = of_link s b b.link d h
 
 -- ---- what an event does
 
-keeps_ends : (drops stops : CmdDef → Bool) (e : Told.Ending) (n : ℕ) (commands : List CmdDef) (b : Story) → HasCodes b → HasCodes (Told.story_with_ends drops stops e n commands b)
+keeps_ends : (drops stops : CmdDef → Bool) (e : Told.Ending) (n : ℕ) (commands : List CmdDef) (b : Story) → HasCodes b
+    → HasCodes (Told.story_with_ends drops stops e n commands b)
 keeps_ends drops stops e n [] b h = h
 keeps_ends drops stops e n (c ∷ commands) b h =
     keeps_ends drops stops e (n + 1) commands
@@ -146,39 +158,54 @@ keeps_ends drops stops e n (c ∷ commands) b h =
     else b)
     (go (is_open b.sent n && drops c) (stops c && list_any (λ k. k == n) b.sent.checks))
   where
-    go : (q r : Bool) → HasCodes (if q then Told.story_with_end b (record { command = n; sense = false }) e else if r then Told.story_with_over b (sense_item n) else b)
+    go : (q r : Bool) → HasCodes (if q then Told.story_with_end b (record { command = n; sense = false }) e
+        else if r then Told.story_with_over b (sense_item n) else b)
     go true r = record { carried = h.carried; undo = h.undo }
     go false true = record { carried = h.carried; undo = h.undo }
     go false false = h
 
 after_event : (s : ScenarioValue) (b : Story) (event : Event) → HasCodes b → HasCodes (Told.story_after_event s b event)
 after_event s b (Event.Accept id) h = h
-after_event s b (Event.Refuse id) h = record { carried = put b.carried (Told.marked_refused (carried_of b.carried id)) h.carried (found b.carried id h.carried); undo = h.undo }
-after_event s b (Event.Run id) h = record { carried = put b.carried (Told.marked_shown (carried_of b.carried id)) h.carried (found b.carried id h.carried); undo = h.undo }
-after_event s b (Event.Fail id code) h = record { carried = put b.carried (Told.marked_shown (carried_of b.carried id)) h.carried (found b.carried id h.carried); undo = h.undo }
+after_event s b (Event.Refuse id) h = record {
+  carried = put b.carried (Told.marked_refused (carried_of b.carried id)) h.carried (found b.carried id h.carried);
+  undo = h.undo;
+}
+after_event s b (Event.Run id) h = record {
+  carried = put b.carried (Told.marked_shown (carried_of b.carried id)) h.carried (found b.carried id h.carried);
+  undo = h.undo;
+}
+after_event s b (Event.Fail id code) h = record {
+  carried = put b.carried (Told.marked_shown (carried_of b.carried id)) h.carried (found b.carried id h.carried);
+  undo = h.undo;
+}
 after_event s b (Event.End id status) h = go (not id.sense && status == CHECK_CONDITION)
   where
     c : Story
     c = Told.story_with_end b id (Told.by_status status)
 
-    go : (q : Bool) → HasCodes (if q then record c { sent = record c.sent { checks = c.sent.checks ++ id.command ∷ [] } } else c)
+    go : (q : Bool)
+        → HasCodes (if q then record c { sent = record c.sent { checks = c.sent.checks ++ id.command ∷ [] } } else c)
     go true = record { carried = h.carried; undo = h.undo }
     go false = record { carried = h.carried; undo = h.undo }
 after_event s b (Event.Lost id) h = record { carried = h.carried; undo = h.undo }
-after_event s b (Event.Aborted i t n what) h = keeps_ends (Told.is_aborted i t n what) (Told.is_sense_stopped i t n what) Told.by_abort 1 s.commands b h
+after_event s b (Event.Aborted i t n what) h =
+    keeps_ends (Told.is_aborted i t n what) (Told.is_sense_stopped i t n what) Told.by_abort 1 s.commands b h
 after_event s b (Event.Reset dev) h = keeps_ends (λ c. true) (λ c. true) Told.by_reset 1 s.commands b h
 
-after_events : (s : ScenarioValue) (b : Story) (shown : List Event) → HasCodes b → HasCodes (Told.story_after_events s b shown)
+after_events : (s : ScenarioValue) (b : Story) (shown : List Event) → HasCodes b
+    → HasCodes (Told.story_after_events s b shown)
 after_events s b [] h = h
 after_events s b (event ∷ shown) h = after_event s (Told.story_after_events s b shown) event (after_events s b shown h)
 
 -- ---- a row: outside a connection
 
-tries : (s : ScenarioValue) (b : Story) (dev : ℕ) (o : Option Item) → HasCodes b → HasCodes (Rows.story_with_try s b dev o)
+tries : (s : ScenarioValue) (b : Story) (dev : ℕ) (o : Option Item) → HasCodes b
+    → HasCodes (Rows.story_with_try s b dev o)
 tries s b dev None h = h
 tries s b dev (Some item) h =
     let next : Story = record b { sent = record b.sent { tries = item ∷ b.sent.tries } } in
-    go next (record { carried = h.carried; undo = h.undo }) (Rows.is_counted item && Rattle.std.specs.Prelude.nat_lt (Rows.retries_of s.hosts dev) (count_item next.sent.tries item)) item
+    go next (record { carried = h.carried; undo = h.undo }) (Rows.is_counted item
+    && Rattle.std.specs.Prelude.nat_lt (Rows.retries_of s.hosts dev) (count_item next.sent.tries item)) item
   where
     over : (c : Story) → HasCodes c → (i : Item) → HasCodes (Rows.story_without_answer c i)
     over c k (process id) = record { carried = k.carried; undo = k.undo }
@@ -188,7 +215,8 @@ tries s b dev (Some item) h =
     go c k true i = over c k i
     go c k false i = k
 
-callings : (s : ScenarioValue) (b : Story) (dev : ℕ) (o : Option Calling) → HasCodes b → HasCodes (Rows.story_after_calling_by s b dev o)
+callings : (s : ScenarioValue) (b : Story) (dev : ℕ) (o : Option Calling) → HasCodes b
+    → HasCodes (Rows.story_after_calling_by s b dev o)
 callings s b dev None h = h
 callings s b dev (Some k) h = go (is_none k.answered && not k.reselects)
   where
@@ -200,10 +228,12 @@ calls : (s : ScenarioValue) (b : Story) (o : Option Call) → HasCodes b → Has
 calls s b None h = h
 calls s b (Some k) h = callings s b k.caller k.calling h
 
-on_free : (s : ScenarioValue) (b : Story) (d : RowReading) (row : Row) → HasCodes b → HasCodes (Rows.story_on_free_bus s b d row)
+on_free : (s : ScenarioValue) (b : Story) (d : RowReading) (row : Row) → HasCodes b
+    → HasCodes (Rows.story_on_free_bus s b d row)
 on_free s b d row h = go (Rows.is_arbitration_entry b d) (falls d.change.before.sel d.change.after.sel)
   where
-    go : (q r : Bool) → HasCodes (if q then Rows.story_with_aim s b row else if r then Rows.story_after_calling s b b.bus_state.call else b)
+    go : (q r : Bool) → HasCodes
+        (if q then Rows.story_with_aim s b row else if r then Rows.story_after_calling s b b.bus_state.call else b)
     go true r = record { carried = h.carried; undo = h.undo }
     go false true = calls s b b.bus_state.call h
     go false false = h
@@ -212,7 +242,10 @@ on_free s b d row h = go (Rows.is_arbitration_entry b d) (falls d.change.before.
 
 restored : (b : Story) (o : Option Item) → HasCodes b → HasCodes (Rows.story_with_restored b o)
 restored b None h = h
-restored b (Some (process id)) h = record { carried = put b.carried (with_restored_pointers (carried_of b.carried id)) h.carried (found b.carried id h.carried); undo = h.undo }
+restored b (Some (process id)) h = record {
+  carried = put b.carried (with_restored_pointers (carried_of b.carried id)) h.carried (found b.carried id h.carried);
+  undo = h.undo;
+}
 restored b (Some (abort n)) h = h
 
 sent_on : (b : Story) (o : Option Item) → HasCodes b → HasCodes (Rows.story_with_sent b o)
@@ -225,9 +258,11 @@ connects b n h = go n.reselected
     i : Option Item
     i = aim_of b.aims n.initiator
 
-    go : (q : Bool) → HasCodes (if q then record b { link = Some (link_of n None) } else Rows.story_with_restored (Rows.story_with_sent (record b { link = Some (link_of n i) }) i) i)
+    go : (q : Bool) → HasCodes (if q then record b { link = Some (link_of n None) }
+        else Rows.story_with_restored (Rows.story_with_sent (record b { link = Some (link_of n i) }) i) i)
     go true = record { carried = h.carried; undo = tt }
-    go false = restored (Rows.story_with_sent (record b { link = Some (link_of n i) }) i) i (sent_on (record b { link = Some (link_of n i) }) i (record { carried = h.carried; undo = tt }))
+    go false = restored (Rows.story_with_sent (record b { link = Some (link_of n i) }) i) i
+        (sent_on (record b { link = Some (link_of n i) }) i (record { carried = h.carried; undo = tt }))
 
 -- ---- in a connection
 
@@ -235,9 +270,12 @@ carries : (b : Story) (o : Option CarriedBytes) → HasCodes b → HasCodeIf o �
 carries b None h k = h
 carries b (Some x) h k = record { carried = put b.carried x h.carried k; undo = h.undo }
 
-by_out : (b : Story) (l : Link) (o : Option MsgOut) → HasCodes b → HasCodeIf l.undo → HasCodes (Rows.story_after_out b l o)
+by_out : (b : Story) (l : Link) (o : Option MsgOut) → HasCodes b → HasCodeIf l.undo
+    → HasCodes (Rows.story_after_out b l o)
 by_out b l None h u = h
-by_out b l (Some m) h u = carries (record b { link = Some (record l { last = last_out m l }) }) (if Rows.is_parity_error m then l.undo else None) (record { carried = h.carried; undo = u }) (go (Rows.is_parity_error m))
+by_out b l (Some m) h u = carries (record b { link = Some (record l { last = last_out m l }) })
+    (if Rows.is_parity_error m then l.undo else None) (record { carried = h.carried; undo = u })
+    (go (Rows.is_parity_error m))
   where
     go : (q : Bool) → HasCodeIf (if q then l.undo else None)
     go true = u
@@ -251,26 +289,34 @@ message_if : (o : Option CarriedBytes) (m : MsgIn) → HasCodeIf o → HasCodeIf
 message_if None m h = tt
 message_if (Some k) m h = message k m h
 
-by_name : (s : ScenarioValue) (b : Story) (l next : Link) (m : MsgIn) → HasCodes b → HasCodes (Rows.story_after_name s b l next m)
+by_name : (s : ScenarioValue) (b : Story) (l next : Link) (m : MsgIn) → HasCodes b
+    → HasCodes (Rows.story_after_name s b l next m)
 by_name s b l next m h =
     let c : Story = if is_none l.item then Rows.story_with_restored b next.item else b in
     let k : HasCodes c = go (is_none l.item) in
     let x : Link = record next { last = last_in m; before = l.last; undo = carried_if b l.item } in
     let u = of_item b l.item h in
-    carries (record c { link = Some x }) (Rows.carried_after_message_if (carried_if c x.item) m) (record { carried = k.carried; undo = u }) (message_if (carried_if c x.item) m (of_item c x.item k))
+    carries (record c { link = Some x }) (Rows.carried_after_message_if (carried_if c x.item) m)
+    (record { carried = k.carried; undo = u }) (message_if (carried_if c x.item) m (of_item c x.item k))
   where
     go : (q : Bool) → HasCodes (if q then Rows.story_with_restored b next.item else b)
     go true = restored b next.item h
     go false = h
 
-by_in : (s : ScenarioValue) (b : Story) (l : Link) (o : Option MsgIn) → HasCodes b → HasCodes (Rows.story_after_in s b l o)
+by_in : (s : ScenarioValue) (b : Story) (l : Link) (o : Option MsgIn) → HasCodes b
+    → HasCodes (Rows.story_after_in s b l o)
 by_in s b l None h = h
 by_in s b l (Some m) h = by_name s b l (link_after_name b.sent s.commands l m) m h
 
 byte : (k : CarriedBytes) (x : LineSet) (n : ℕ) → HasCode k → HasCode (carried_after_byte k x n)
 byte k x n h = go (is_command x) (is_data x) (is_status_phase x)
   where
-    go : (q r t : Bool) → HasCode (if q then record k { command = Rattle.bus_due.specs.bus_story.specs.CarriedBytes.area_with k.command n; block = k.block ++ n ∷ [] } else if r then record k { moved = Rattle.bus_due.specs.bus_story.specs.CarriedBytes.area_with k.moved n } else if t then record k { status = Rattle.bus_due.specs.bus_story.specs.CarriedBytes.area_with k.status n } else k)
+    go : (q r t : Bool) → HasCode (if q then record k {
+      command = Rattle.bus_due.specs.bus_story.specs.CarriedBytes.area_with k.command n;
+      block = k.block ++ n ∷ [];
+    } else if r then record k { moved = Rattle.bus_due.specs.bus_story.specs.CarriedBytes.area_with k.moved n }
+        else if t then record k { status = Rattle.bus_due.specs.bus_story.specs.CarriedBytes.area_with k.status n }
+        else k)
     go true r t = h
     go false true t = h
     go false false true = h
@@ -283,7 +329,8 @@ byte_if (Some k) d h = byte k d.change.before (d.change.after.data_bits % 256) h
 fault : (k : CarriedBytes) (x : LineSet) → HasCode k → HasCode (carried_after_fault k x)
 fault k x h = go (is_command x) (is_data x) x.io
   where
-    go : (q r t : Bool) → HasCode (if q then record k { struck = true; failure = Some PARITY_ERROR } else if r then record k { failure = Some (if t then INITIATOR_DETECTED_ERROR else PARITY_ERROR) } else k)
+    go : (q r t : Bool) → HasCode (if q then record k { struck = true; failure = Some PARITY_ERROR }
+        else if r then record k { failure = Some (if t then INITIATOR_DETECTED_ERROR else PARITY_ERROR) } else k)
     go true r t = omega arith
     go false true true = omega arith
     go false true false = omega arith
@@ -296,18 +343,24 @@ fault_if (Some k) (Some c) h = fault k c.before h
 
 by_fault : (b : Story) (l : Link) (kind : Kind) → HasCodes b → HasCodes (Rows.story_after_fault b l kind)
 by_fault b l (Drives lines) h = h
-by_fault b l (Fault bit) h = carries b (Rows.carried_after_fault_if (carried_if b l.item) b.bus_state.crossed) h (fault_if (carried_if b l.item) b.bus_state.crossed (of_item b l.item h))
+by_fault b l (Fault bit) h = carries b (Rows.carried_after_fault_if (carried_if b l.item) b.bus_state.crossed) h
+    (fault_if (carried_if b l.item) b.bus_state.crossed (of_item b l.item h))
 
-by_crossing : (s : ScenarioValue) (b : Story) (l : Link) (d : RowReading) → HasCodes b → HasCodeIf l.undo → HasCodes (Rows.story_after_crossing s b l d)
+by_crossing : (s : ScenarioValue) (b : Story) (l : Link) (d : RowReading) → HasCodes b → HasCodeIf l.undo
+    → HasCodes (Rows.story_after_crossing s b l d)
 by_crossing s b l d h u = go (is_some d.out) (is_some d.into) d.change.before.msg
   where
-    go : (q r t : Bool) → HasCodes (if q then Rows.story_after_out b l d.out else if r then Rows.story_after_in s b l d.into else if t then b else Rows.story_with_carried b (Rows.carried_after_byte_if (carried_if b l.item) d))
+    go : (q r t : Bool)
+        → HasCodes (if q then Rows.story_after_out b l d.out else if r then Rows.story_after_in s b l d.into
+        else if t then b else Rows.story_with_carried b (Rows.carried_after_byte_if (carried_if b l.item) d))
     go true r t = by_out b l d.out h u
     go false true t = by_in s b l d.into h
     go false false true = h
-    go false false false = carries b (Rows.carried_after_byte_if (carried_if b l.item) d) h (byte_if (carried_if b l.item) d (of_item b l.item h))
+    go false false false = carries b (Rows.carried_after_byte_if (carried_if b l.item) d) h
+        (byte_if (carried_if b l.item) d (of_item b l.item h))
 
-in_link : (s : ScenarioValue) (b : Story) (o : Option Link) (d : RowReading) (row : Row) → HasCodes b → LinkHas o → HasCodes (Rows.story_in_connection s b o d row)
+in_link : (s : ScenarioValue) (b : Story) (o : Option Link) (d : RowReading) (row : Row) → HasCodes b → LinkHas o
+    → HasCodes (Rows.story_in_connection s b o d row)
 in_link s b None d row h u = h
 in_link s b (Some l) d row h u = go d.crosses
   where
@@ -317,7 +370,8 @@ in_link s b (Some l) d row h u = go d.crosses
 
 -- ---- any row
 
-on_bus : (s : ScenarioValue) (b : Story) (before after : Option Connection) (d : RowReading) (row : Row) → HasCodes b → HasCodes (Rows.story_on_bus s b before after d row)
+on_bus : (s : ScenarioValue) (b : Story) (before after : Option Connection) (d : RowReading) (row : Row) → HasCodes b
+    → HasCodes (Rows.story_on_bus s b before after d row)
 on_bus s b None None d row h = on_free s b d row h
 on_bus s b None (Some n) d row h = connects b n h
 on_bus s b (Some m) None d row h = record { carried = h.carried; undo = tt }
@@ -329,7 +383,8 @@ codes_on s b row h =
     let k = after_events s (Rows.story_by_change s b d row) (row_events_by s b d row) (go d.change.after.rst) in
     record { carried = k.carried; undo = k.undo }
   where
-    go : (q : Bool) → HasCodes (if q then record b { link = None } else Rows.story_on_bus s b b.bus_state.connection (row_reading b.bus_state row).next (row_reading b.bus_state row) row)
+    go : (q : Bool) → HasCodes (if q then record b { link = None } else Rows.story_on_bus s b b.bus_state.connection
+        (row_reading b.bus_state row).next (row_reading b.bus_state row) row)
     go true = record { carried = h.carried; undo = tt }
     go false = on_bus s b b.bus_state.connection (row_reading b.bus_state row).next (row_reading b.bus_state row) row h
 

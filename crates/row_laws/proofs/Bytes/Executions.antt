@@ -25,33 +25,44 @@ zeros : (n : ℕ) → AreBytes (replicate n 0)
 zeros zero = tt
 zeros (suc n) = (omega arith, zeros n)
 
-touched_small : (touched : List (ℕ × List ℕ)) (lba : ℕ) (otherwise : List ℕ) → AllByRecursion IsByteBlock touched → AreBytes otherwise → AreBytes (touched_block touched lba otherwise)
+touched_small : (touched : List (ℕ × List ℕ)) (lba : ℕ) (otherwise : List ℕ) → AllByRecursion IsByteBlock touched
+    → AreBytes otherwise → AreBytes (touched_block touched lba otherwise)
 touched_small [] lba otherwise a b = b
 touched_small (entry ∷ touched) lba otherwise a b = go (entry.0 == lba) (touched_small touched lba otherwise a.1 b)
   where
-    go : (q : Bool) → AreBytes (touched_block touched lba otherwise) → AreBytes (if q then entry.1 else touched_block touched lba otherwise)
+    go : (q : Bool) → AreBytes (touched_block touched lba otherwise)
+        → AreBytes (if q then entry.1 else touched_block touched lba otherwise)
     go true k = a.0
     go false k = k
 
 bytes_small : (c : Contents) (lba n : ℕ) → HoldsBytes c → AreBytes (bytes_at c lba n)
 bytes_small c lba zero h = tt
-bytes_small c lba (suc n) h = small_append (block_at c lba) (bytes_at c (lba + 1) n) (touched_small c.touched lba (zero_block c.size) h (zeros c.size)) (bytes_small c (lba + 1) n h)
+bytes_small c lba (suc n) h = small_append (block_at c lba) (bytes_at c (lba + 1) n)
+    (touched_small c.touched lba (zero_block c.size) h (zeros c.size)) (bytes_small c (lba + 1) n h)
 
-with_small : (touched : List (ℕ × List ℕ)) (lba : ℕ) (block : List ℕ) → AllByRecursion IsByteBlock touched → AreBytes block → AllByRecursion IsByteBlock (touched_with touched lba block)
+with_small : (touched : List (ℕ × List ℕ)) (lba : ℕ) (block : List ℕ) → AllByRecursion IsByteBlock touched
+    → AreBytes block → AllByRecursion IsByteBlock (touched_with touched lba block)
 with_small [] lba block a b = (b, tt)
-with_small (entry ∷ touched) lba block a b = go (entry.0 == lba) (nat_lt lba entry.0) (with_small touched lba block a.1 b)
+with_small (entry ∷ touched) lba block a b =
+    go (entry.0 == lba) (nat_lt lba entry.0) (with_small touched lba block a.1 b)
   where
-    go : (q r : Bool) → AllByRecursion IsByteBlock (touched_with touched lba block) → AllByRecursion IsByteBlock (if q then (lba, block) ∷ touched else if r then (lba, block) ∷ (entry ∷ touched) else entry ∷ touched_with touched lba block)
+    go : (q r : Bool) → AllByRecursion IsByteBlock (touched_with touched lba block)
+        → AllByRecursion IsByteBlock (if q then (lba, block) ∷ touched
+        else if r then (lba, block) ∷ (entry ∷ touched) else entry ∷ touched_with touched lba block)
     go true r k = (b, a.1)
     go false true k = (b, a)
     go false false k = (a.0, k)
 
-pub block_small : (c : Contents) (lba : ℕ) (block : List ℕ) → HoldsBytes c → AreBytes block → HoldsBytes (with_block c lba block)
+pub block_small : (c : Contents) (lba : ℕ) (block : List ℕ) → HoldsBytes c → AreBytes block
+    → HoldsBytes (with_block c lba block)
 block_small c lba block h b = with_small c.touched lba block h b
 
-written_small : (c : Contents) (lba n : ℕ) (bytes : List ℕ) → HoldsBytes c → AreBytes bytes → HoldsBytes (with_bytes c lba n bytes)
+written_small : (c : Contents) (lba n : ℕ) (bytes : List ℕ) → HoldsBytes c → AreBytes bytes
+    → HoldsBytes (with_bytes c lba n bytes)
 written_small c lba zero bytes h b = h
-written_small c lba (suc n) bytes h b = written_small (with_block c lba (take c.size bytes)) (lba + 1) n (drop c.size bytes) (block_small c lba (take c.size bytes) h (small_take c.size bytes b)) (small_drop c.size bytes b)
+written_small c lba (suc n) bytes h b = written_small (with_block c lba (take c.size bytes)) (lba + 1) n
+    (drop c.size bytes) (block_small c lba (take c.size bytes) h (small_take c.size bytes b))
+    (small_drop c.size bytes b)
 
 -- ---- replies
 
@@ -76,7 +87,8 @@ tested (x ∷ xs) e = go (nat_lt x 256) refl e (λ z. tested xs z)
     lt_is : (a : ℕ) → nat_lt a 256 ≡ true → a < 256
     lt_is a z = grind (arith, nat_tests)
 
-    go : (q : Bool) → nat_lt x 256 ≡ q → (q && list_all (λ (b : ℕ). nat_lt b 256) xs) ≡ true → (list_all (λ (b : ℕ). nat_lt b 256) xs ≡ true → AreBytes xs) → AreBytes (x ∷ xs)
+    go : (q : Bool) → nat_lt x 256 ≡ q → (q && list_all (λ (b : ℕ). nat_lt b 256) xs) ≡ true
+        → (list_all (λ (b : ℕ). nat_lt b 256) xs ≡ true → AreBytes xs) → AreBytes (x ∷ xs)
     go true f z more = (lt_is x f, more z)
     go false f z more = absurd cc
 
@@ -85,15 +97,19 @@ inquiry_small true = tested (inquiry_data true) refl
 inquiry_small false = tested (inquiry_data false) refl
 
 sense_small : (x : Sense) → IsByteSense x → AreBytes (sense_data x)
-sense_small x h =
-    small_append (0x70 ∷ 0x00 ∷ []) (x.key ∷ 0x00 ∷ 0x00 ∷ 0x00 ∷ 0x00 ∷ 0x0a ∷ 0x00 ∷ 0x00 ∷ 0x00 ∷ 0x00 ∷ x.asc ∷ x.ascq ∷ 0x00 ∷ 0x00 ∷ 0x00 ∷ 0x00 ∷ []) (tested (0x70 ∷ 0x00 ∷ []) refl) (
+sense_small x h = small_append (0x70 ∷ 0x00 ∷ []) (x.key ∷ 0x00 ∷ 0x00 ∷ 0x00 ∷ 0x00 ∷ 0x0a ∷ 0x00 ∷ 0x00 ∷ 0x00 ∷ 0x00
+    ∷ x.asc ∷ x.ascq ∷ 0x00 ∷ 0x00 ∷ 0x00 ∷ 0x00 ∷ []) (tested (0x70 ∷ 0x00 ∷ []) refl) (
       h.0,
-      small_append (0x00 ∷ 0x00 ∷ 0x00 ∷ 0x00 ∷ 0x0a ∷ 0x00 ∷ 0x00 ∷ 0x00 ∷ 0x00 ∷ []) (x.asc ∷ x.ascq ∷ 0x00 ∷ 0x00 ∷ 0x00 ∷ 0x00 ∷ []) (tested (0x00 ∷ 0x00 ∷ 0x00 ∷ 0x00 ∷ 0x0a ∷ 0x00 ∷ 0x00 ∷ 0x00 ∷ 0x00 ∷ []) refl)
+      small_append (0x00 ∷ 0x00 ∷ 0x00 ∷ 0x00 ∷ 0x0a ∷ 0x00 ∷ 0x00 ∷ 0x00 ∷ 0x00 ∷ []) (x.asc ∷ x.ascq ∷ 0x00 ∷ 0x00
+          ∷ 0x00 ∷ 0x00 ∷ []) (tested (0x00 ∷ 0x00 ∷ 0x00 ∷ 0x00 ∷ 0x0a ∷ 0x00 ∷ 0x00 ∷ 0x00 ∷ 0x00 ∷ []) refl)
           (h.1, (h.2, tested (0x00 ∷ 0x00 ∷ 0x00 ∷ 0x00 ∷ []) refl)),
     )
 
 capacity_small : (last size : ℕ) → AreBytes (capacity_data last size)
-capacity_small last size = (omega arith, (omega arith, (omega arith, (omega arith, (omega arith, (omega arith, (omega arith, (omega arith, tt))))))))
+capacity_small last size = (
+  omega arith,
+  (omega arith, (omega arith, (omega arith, (omega arith, (omega arith, (omega arith, (omega arith, tt))))))),
+)
 
 -- ---- a command
 
@@ -109,34 +125,46 @@ pub record GivesBytes (e : Execution) : Type 0 where
 replies : (m : CommandContext) (r : Reply) → HasByteContext m → HasByteReply r → GivesBytes (reply_execution m r)
 replies m r h a = record { contents = h.contents; reply = a }
 
-writes : (m : CommandContext) (lba n : ℕ) (sent : List ℕ) → HasByteContext m → AreBytes sent → GivesBytes (write_execution m lba n sent)
-writes m lba n sent h a = record { contents = written_small m.contents lba n sent h.contents a; reply = good_small [] tt }
+writes : (m : CommandContext) (lba n : ℕ) (sent : List ℕ) → HasByteContext m → AreBytes sent
+    → GivesBytes (write_execution m lba n sent)
+writes m lba n sent h a =
+    record { contents = written_small m.contents lba n sent h.contents a; reply = good_small [] tt }
 
 returned : (q : Bool) (o : Option Sense) → ((x : Sense) → o ≡ Some x → IsByteSense x) → IsByteSense (returned_sense q o)
 returned q (Some x) f = f x refl
 returned true None f = (omega arith, omega arith, omega arith)
 returned false None f = (omega arith, omega arith, omega arith)
 
-gives : (m : CommandContext) (c : Command) (sent : List ℕ) → HasByteContext m → AreBytes sent → GivesBytes (command_execution m c sent)
+gives : (m : CommandContext) (c : Command) (sent : List ℕ) → HasByteContext m → AreBytes sent
+    → GivesBytes (command_execution m c sent)
 gives m Command.TestUnitReady sent h a = replies m (good []) h (good_small [] tt)
 gives m (Command.RequestSense room) sent h a =
     let given = sense_data (returned_sense m.present m.stored) in
     let n = min room SENSE_LEN in
-    replies m (good (take n given)) h (good_small (take n given) (small_take n given (sense_small (returned_sense m.present m.stored) (returned m.present m.stored h.stored))))
-gives m (Command.Read6 lba count) sent h a = let n = blocks_moved (Command.Read6 lba count) in replies m (good (bytes_at m.contents lba n)) h (good_small (bytes_at m.contents lba n) (bytes_small m.contents lba n h.contents))
+    replies m (good (take n given)) h (good_small (take n given)
+    (small_take n given (sense_small (returned_sense m.present m.stored) (returned m.present m.stored h.stored))))
+gives m (Command.Read6 lba count) sent h a =
+    let n = blocks_moved (Command.Read6 lba count) in
+    replies m (good (bytes_at m.contents lba n)) h
+    (good_small (bytes_at m.contents lba n) (bytes_small m.contents lba n h.contents))
 gives m (Command.Write6 lba count) sent h a = writes m lba (blocks_moved (Command.Write6 lba count)) sent h a
 gives m (Command.Inquiry room) sent h a =
     let given = inquiry_data m.present in
     let n = min room INQUIRY_LEN in
     replies m (good (take n given)) h (good_small (take n given) (small_take n given (inquiry_small m.present)))
-gives m Command.ReadCapacity sent h a = let given = capacity_data (m.contents.count - 1) m.contents.size in replies m (good given) h (good_small given (capacity_small (m.contents.count - 1) m.contents.size))
-gives m (Command.Read10 lba count) sent h a = replies m (good (bytes_at m.contents lba count)) h (good_small (bytes_at m.contents lba count) (bytes_small m.contents lba count h.contents))
+gives m Command.ReadCapacity sent h a =
+    let given = capacity_data (m.contents.count - 1) m.contents.size in
+    replies m (good given) h (good_small given (capacity_small (m.contents.count - 1) m.contents.size))
+gives m (Command.Read10 lba count) sent h a = replies m (good (bytes_at m.contents lba count)) h
+    (good_small (bytes_at m.contents lba count) (bytes_small m.contents lba count h.contents))
 gives m (Command.Write10 lba count) sent h a = writes m lba count sent h a
 
-checks : (m : CommandContext) (x : Sense) → HasByteContext m → IsByteSense x → GivesBytes (reply_execution m (check_condition x))
+checks : (m : CommandContext) (x : Sense) → HasByteContext m → IsByteSense x
+    → GivesBytes (reply_execution m (check_condition x))
 checks m x h a = replies m (check_condition x) h (check_small x a)
 
-pub gives_bytes : (m : CommandContext) (cdb sent : List ℕ) → HasByteContext m → AreBytes sent → GivesBytes (execution m cdb sent)
+pub gives_bytes : (m : CommandContext) (cdb sent : List ℕ) → HasByteContext m → AreBytes sent
+    → GivesBytes (execution m cdb sent)
 gives_bytes m cdb sent h a = of_all m cdb sent GivesBytes (record {
   refused_is = λ sense k. checks m sense h (refused_small sense k);
   reported_is = λ sense e. record { contents = h.contents; reply = check_small sense (h.attention sense e) };

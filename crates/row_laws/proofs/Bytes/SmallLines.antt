@@ -54,14 +54,22 @@ period_below u n e =
 tag_below : (t : Tag) → tag_in (said_tag t) ≡ Ok t → IsSmallTag t
 unfolding tag_in
 tag_below Tag.Untagged e = tt
-tag_below (Tag.Simple n) e = let a = bind_ok (within (Some n) 0 TAG_LIMIT) _ (Tag.Simple n) e in subst IsSmallTag (ok_is _ (Tag.Simple n) a.2) (below (Some n) 0 255 a.0 a.1 (omega arith))
-tag_below (Tag.Ordered n) e = let a = bind_ok (within (Some n) 0 TAG_LIMIT) _ (Tag.Ordered n) e in subst IsSmallTag (ok_is _ (Tag.Ordered n) a.2) (below (Some n) 0 255 a.0 a.1 (omega arith))
-tag_below (Tag.Head n) e = let a = bind_ok (within (Some n) 0 TAG_LIMIT) _ (Tag.Head n) e in subst IsSmallTag (ok_is _ (Tag.Head n) a.2) (below (Some n) 0 255 a.0 a.1 (omega arith))
+tag_below (Tag.Simple n) e =
+    let a = bind_ok (within (Some n) 0 TAG_LIMIT) _ (Tag.Simple n) e in
+    subst IsSmallTag (ok_is _ (Tag.Simple n) a.2) (below (Some n) 0 255 a.0 a.1 (omega arith))
+tag_below (Tag.Ordered n) e =
+    let a = bind_ok (within (Some n) 0 TAG_LIMIT) _ (Tag.Ordered n) e in
+    subst IsSmallTag (ok_is _ (Tag.Ordered n) a.2) (below (Some n) 0 255 a.0 a.1 (omega arith))
+tag_below (Tag.Head n) e =
+    let a = bind_ok (within (Some n) 0 TAG_LIMIT) _ (Tag.Head n) e in
+    subst IsSmallTag (ok_is _ (Tag.Head n) a.2) (below (Some n) 0 255 a.0 a.1 (omega arith))
 
 kind_below : (w : AbortKind) → what_in (said_what w) ≡ Ok w → IsSmallKind w
 unfolding what_in
 kind_below AbortKind.All e = tt
-kind_below (AbortKind.Tag n) e = let a = bind_ok (within (Some n) 0 TAG_LIMIT) _ (AbortKind.Tag n) e in subst IsSmallKind (ok_is _ (AbortKind.Tag n) a.2) (below (Some n) 0 255 a.0 a.1 (omega arith))
+kind_below (AbortKind.Tag n) e =
+    let a = bind_ok (within (Some n) 0 TAG_LIMIT) _ (AbortKind.Tag n) e in
+    subst IsSmallKind (ok_is _ (AbortKind.Tag n) a.2) (below (Some n) 0 255 a.0 a.1 (omega arith))
 kind_below AbortKind.WholeQueue e = tt
 kind_below AbortKind.Device e = tt
 
@@ -105,7 +113,8 @@ command_small s f c e =
     let b5 = bind_ok (tag_in f.tag) _ c b4.2 in
     let b6 = bind_ok (guard 4 (is_block f.cdb)) _ c b5.2 in
     let b7 = bind_ok (guard 6 (are_ends s b1.0 b2.0)) _ c b6.2 in
-    subst IsSmallCommand (ok_is _ c b7.2) (in_eight f.unit b3.0 b3.1, tag_below b5.0 (ap tag_in (sym (read_tag f.tag b5.0 b5.1).same) ∙ b5.1))
+    subst IsSmallCommand (ok_is _ c b7.2)
+    (in_eight f.unit b3.0 b3.1, tag_below b5.0 (ap tag_in (sym (read_tag f.tag b5.0 b5.1).same) ∙ b5.1))
 
 abort_small : (s : ScenarioValue) (x : Said) (a : AbortDef) → abort_by s x ≡ Ok a → IsSmallAbort a
 unfolding abort_def
@@ -117,10 +126,12 @@ abort_small s (abort_line f) a e =
     let b5 = bind_ok (what_in f.what) _ a b4.2 in
     let b6 = bind_ok (guard 6 (are_ends s b1.0 b2.0)) _ a b5.2 in
     let b7 = bind_ok (guard 8 (has_abort_room s)) _ a b6.2 in
-    subst IsSmallAbort (ok_is _ a b7.2) (in_eight f.unit b3.0 b3.1, kind_below b5.0 (ap what_in (sym (read_what f.what b5.0 b5.1).same) ∙ b5.1))
+    subst IsSmallAbort (ok_is _ a b7.2)
+    (in_eight f.unit b3.0 b3.1, kind_below b5.0 (ap what_in (sym (read_what f.what b5.0 b5.1).same) ∙ b5.1))
 abort_small s _ a e = absurd cc
 
 -- ---- all lines
 
 pub small_lines : (s : ScenarioValue) → Obeys s → HasSmallLines s
-small_lines s o = each_line IsSmallHost IsSmallTarget IsSmallCommand IsSmallAbort (record { host = host_small; target = target_small; command = command_small; abort = abort_small }) s o
+small_lines s o = each_line IsSmallHost IsSmallTarget IsSmallCommand IsSmallAbort
+    (record { host = host_small; target = target_small; command = command_small; abort = abort_small }) s o

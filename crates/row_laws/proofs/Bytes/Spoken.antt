@@ -1,4 +1,5 @@
--- What is said in a connection are bytes, after any rows: what was heard crossed as a byte, and all else the lines of the scenario say.
+-- What is said in a connection are bytes, after any rows: what was heard crossed as a byte, and all else the lines of
+-- the scenario say.
 use Rattle.row_laws.proofs
 use proofs.Names.{ℕ, zero, suc, ◌≡◌, ◌<◌, ◌+◌, ◌%◌, Bool, true, false, not, ◌&&◌, List, [], ◌∷◌, ◌++◌, take, Option}
 use proofs.Names.{Some, None, refl, subst, arith, ◌==◌, same_Some, AllByRecursion, if◌then◌else◌, is_some, max, min}
@@ -38,19 +39,23 @@ begins_in : (bytes : List ℕ) (m : MsgIn) (n : ℕ) → got_in bytes ≡ Whole 
 unfolding form_in
 begins_in bytes m n e = (whole form_in 0x02 MsgIn.SavePointer (omega arith) refl bytes m n).0 e
 
-out_small : (bytes : List ℕ) (g : Got MsgOut) (m : MsgOut) → AreBytes bytes → got_out bytes ≡ g → whole_out g ≡ Some m → AreBytes (out_bytes m)
+out_small : (bytes : List ℕ) (g : Got MsgOut) (m : MsgOut) → AreBytes bytes → got_out bytes ≡ g → whole_out g ≡ Some m
+    → AreBytes (out_bytes m)
 out_small bytes (Whole k n) m a e z =
     let b = begins_out bytes k n e in
     let o = (out_one (take n bytes) k).0 b.1 in
-    subst (λ (y : MsgOut). AreBytes (out_bytes y)) (same_Some k m z) (subst (λ (x : List ℕ). AreBytes x) o.0 (small_take n bytes a))
+    subst (λ (y : MsgOut). AreBytes (out_bytes y)) (same_Some k m z)
+    (subst (λ (x : List ℕ). AreBytes x) o.0 (small_take n bytes a))
 out_small bytes More m a e z = absurd (none_some m z)
 out_small bytes Unknown m a e z = absurd (none_some m z)
 
-in_small : (bytes : List ℕ) (g : Got MsgIn) (m : MsgIn) → AreBytes bytes → got_in bytes ≡ g → whole_in g ≡ Some m → AreBytes (in_bytes m)
+in_small : (bytes : List ℕ) (g : Got MsgIn) (m : MsgIn) → AreBytes bytes → got_in bytes ≡ g → whole_in g ≡ Some m
+    → AreBytes (in_bytes m)
 in_small bytes (Whole k n) m a e z =
     let b = begins_in bytes k n e in
     let o = (in_one (take n bytes) k).0 b.1 in
-    subst (λ (y : MsgIn). AreBytes (in_bytes y)) (same_Some k m z) (subst (λ (x : List ℕ). AreBytes x) o.0 (small_take n bytes a))
+    subst (λ (y : MsgIn). AreBytes (in_bytes y)) (same_Some k m z)
+    (subst (λ (x : List ℕ). AreBytes x) o.0 (small_take n bytes a))
 in_small bytes More m a e z = absurd (none_some m z)
 in_small bytes Unknown m a e z = absurd (none_some m z)
 
@@ -67,7 +72,8 @@ left_small Unknown xs a = tt
 fresh_small : (d : Dialogue) → HasByteHalves d → AreBytes (fresh_bytes d)
 fresh_small d h = elim d.is_last as (λ q. AreBytes (if q then [] else d.fresh)) [ true ↦ tt | false ↦ h.fresh ]
 
-pub halves_after : (d : Dialogue) (before after : Option Connection) (agreed : ℕ → ℕ → Agreement) (c : Change) → HasByteHalves d → HasByteHalves (dialogue_after d before after agreed c)
+pub halves_after : (d : Dialogue) (before after : Option Connection) (agreed : ℕ → ℕ → Agreement) (c : Change)
+    → HasByteHalves d → HasByteHalves (dialogue_after d before after agreed c)
 halves_after d before None agreed c h = record { half = tt; fresh = tt }
 halves_after d None (Some n) agreed c h = record { half = tt; fresh = tt }
 halves_after d (Some m) (Some n) agreed c h = go (is_some (receiver_of (Some m) c)) (changes_phase c)
@@ -75,24 +81,34 @@ halves_after d (Some m) (Some n) agreed c h = go (is_some (receiver_of (Some m) 
     b : ℕ
     b = c.after.data_bits % 256
 
-    other : (q : Bool) → HasByteHalves (if q then record d { heard = Rattle.bus_due.specs.bus_phases.specs.Dialogue.heard_with_command d.heard b; begun = true } else record d { begun = true })
+    other : (q : Bool) → HasByteHalves (if q then record d {
+      heard = Rattle.bus_due.specs.bus_phases.specs.Dialogue.heard_with_command d.heard b;
+      begun = true;
+    } else record d { begun = true })
     other true = record { half = h.half; fresh = h.fresh }
     other false = record { half = h.half; fresh = h.fresh }
 
-    crossing : (q r : Bool) → HasByteHalves (if q then byte_out d b (not c.after.atn) else if r then byte_in d b else byte_else d c.before b)
+    crossing : (q r : Bool) → HasByteHalves
+        (if q then byte_out d b (not c.after.atn) else if r then byte_in d b else byte_else d c.before b)
     crossing true r = record {
       half = left_small (got_out (d.half ++ b ∷ [])) (d.half ++ b ∷ []) (byte_more d.half c.after.data_bits h.half);
-      fresh = left_small (got_out (fresh_bytes d ++ b ∷ [])) (fresh_bytes d ++ b ∷ []) (byte_more (fresh_bytes d) c.after.data_bits (fresh_small d h));
+      fresh = left_small (got_out (fresh_bytes d ++ b ∷ [])) (fresh_bytes d ++ b ∷ [])
+          (byte_more (fresh_bytes d) c.after.data_bits (fresh_small d h));
     }
-    crossing false true = record { half = left_small (got_in (d.half ++ b ∷ [])) (d.half ++ b ∷ []) (byte_more d.half c.after.data_bits h.half); fresh = h.fresh }
+    crossing false true = record {
+      half = left_small (got_in (d.half ++ b ∷ [])) (d.half ++ b ∷ []) (byte_more d.half c.after.data_bits h.half);
+      fresh = h.fresh;
+    }
     crossing false false = other (is_command c.before)
 
-    go : (q r : Bool) → HasByteHalves (if q then Rattle.bus_due.specs.bus_phases.specs.Dialogue.byte_crosses d c else if r then phase_begins d else d)
+    go : (q r : Bool) → HasByteHalves
+        (if q then Rattle.bus_due.specs.bus_phases.specs.Dialogue.byte_crosses d c else if r then phase_begins d else d)
     go true r = crossing (is_message_out c.before) (is_message_in c.before)
     go false true = record { half = tt; fresh = tt }
     go false false = h
 
-pub told_out : (d : Dialogue) (c : Change) (q : Bool) (m : MsgOut) → HasByteHalves d → message_out d c q ≡ Some m → AreBytes (out_bytes m)
+pub told_out : (d : Dialogue) (c : Change) (q : Bool) (m : MsgOut) → HasByteHalves d → message_out d c q ≡ Some m
+    → AreBytes (out_bytes m)
 told_out d c false m h e = absurd (none_some m e)
 told_out d c true m h e = go (is_message_out c.before) e
   where
@@ -103,7 +119,8 @@ told_out d c true m h e = go (is_message_out c.before) e
     go true z = out_small bytes (got_out bytes) m (byte_more (fresh_bytes d) c.after.data_bits (fresh_small d h)) refl z
     go false z = absurd (none_some m z)
 
-pub told_in : (d : Dialogue) (c : Change) (q : Bool) (m : MsgIn) → HasByteHalves d → message_in d c q ≡ Some m → AreBytes (in_bytes m)
+pub told_in : (d : Dialogue) (c : Change) (q : Bool) (m : MsgIn) → HasByteHalves d → message_in d c q ≡ Some m
+    → AreBytes (in_bytes m)
 told_in d c false m h e = absurd (none_some m e)
 told_in d c true m h e = go (is_message_in c.before) e
   where
@@ -125,18 +142,24 @@ max_small a b x y = grind arith
 min_small : (a b : ℕ) → b < 256 → min a b < 256
 min_small a b y = grind arith
 
-answer_small : (period offset : ℕ) (a : Agreement) → period < 256 → IsSmallAgreement a → IsSmallAgreement (agreement_answer period offset a)
+answer_small : (period offset : ℕ) (a : Agreement) → period < 256 → IsSmallAgreement a
+    → IsSmallAgreement (agreement_answer period offset a)
 answer_small period offset a p h = go (period == 0)
   where
-    go : (q : Bool) → IsSmallAgreement (if q then record { period = a.period; offset = 0 } else record { period = max period a.period; offset = min offset a.offset })
+    go : (q : Bool) → IsSmallAgreement (if q then record { period = a.period; offset = 0 } else record {
+      period = max period a.period;
+      offset = min offset a.offset;
+    })
     go true = (h.0, omega arith)
     go false = (max_small period a.period p h.0, min_small offset a.offset h.1)
 
-host_answer_small : (o : Option HostDef) (a : Agreement) → ((h : HostDef) → o ≡ Some h → IsSmallHost h) → IsSmallAgreement a → IsSmallAgreement (host_answer o a)
+host_answer_small : (o : Option HostDef) (a : Agreement)
+    → ((h : HostDef) → o ≡ Some h → IsSmallHost h) → IsSmallAgreement a → IsSmallAgreement (host_answer o a)
 host_answer_small None a f h = answer_small 0 0 a (omega arith) h
 host_answer_small (Some x) a f h = answer_small x.period x.offset a (f x refl).0 h
 
-pub target_answer_small : (o : Option TargetDef) (a : Agreement) → ((t : TargetDef) → o ≡ Some t → IsSmallTarget t) → IsSmallAgreement a → IsSmallAgreement (target_answer o a)
+pub target_answer_small : (o : Option TargetDef) (a : Agreement)
+    → ((t : TargetDef) → o ≡ Some t → IsSmallTarget t) → IsSmallAgreement a → IsSmallAgreement (target_answer o a)
 target_answer_small None a f h = answer_small 0 0 a (omega arith) h
 target_answer_small (Some x) a f h = answer_small x.period x.offset a (f x refl).0 h
 
@@ -146,7 +169,8 @@ offer_bytes a h = (omega arith, (omega arith, (omega arith, (h.0, (h.1, tt)))))
 pub host_small : (s : ScenarioValue) (dev : ℕ) (h : HostDef) → HasSmallLines s → host_of s dev ≡ Some h → IsSmallHost h
 host_small s dev h l e = found_holds IsSmallHost (λ (x : HostDef). x.dev == dev) s.hosts h l.hosts e
 
-pub target_small : (s : ScenarioValue) (dev : ℕ) (t : TargetDef) → HasSmallLines s → target_def_of s dev ≡ Some t → IsSmallTarget t
+pub target_small : (s : ScenarioValue) (dev : ℕ) (t : TargetDef) → HasSmallLines s → target_def_of s dev ≡ Some t
+    → IsSmallTarget t
 target_small s dev t l e = found_holds IsSmallTarget (λ (x : TargetDef). x.dev == dev) s.targets t l.targets e
 
 -- ---- a process
@@ -154,7 +178,8 @@ target_small s dev t l e = found_holds IsSmallTarget (λ (x : TargetDef). x.dev 
 abbrev pub IsSmallProcess : Process → Type 0
 IsSmallProcess p = (p.unit < 8) × IsSmallTag p.tag
 
-small_at : (commands : List CmdDef) (n : ℕ) (c : CmdDef) → AllByRecursion IsSmallCommand commands → command_at commands n ≡ Some c → IsSmallCommand c
+small_at : (commands : List CmdDef) (n : ℕ) (c : CmdDef) → AllByRecursion IsSmallCommand commands
+    → command_at commands n ≡ Some c → IsSmallCommand c
 small_at [] n c a e = cc
 small_at (d ∷ commands) zero c a e = cc
 small_at (d ∷ commands) (suc zero) c a e = subst IsSmallCommand (some_command d c e) a.0
@@ -163,10 +188,12 @@ small_at (d ∷ commands) (suc zero) c a e = subst IsSmallCommand (some_command 
     some_command x y z = cc
 small_at (d ∷ commands) (suc (suc n)) c a e = small_at commands (suc n) c a.1 e
 
-pub process_small : (s : ScenarioValue) (id : ProcId) (p : Process) → HasSmallLines s → process_of s id ≡ Some p → IsSmallProcess p
+pub process_small : (s : ScenarioValue) (id : ProcId) (p : Process) → HasSmallLines s → process_of s id ≡ Some p
+    → IsSmallProcess p
 process_small s id p l e = go (command_at s.commands id.command) refl e
   where
-    own : (c : CmdDef) (q : Bool) → IsSmallCommand c → IsSmallProcess (process_by s (record { command = id.command; sense = q }) c)
+    own : (c : CmdDef) (q : Bool) → IsSmallCommand c
+        → IsSmallProcess (process_by s (record { command = id.command; sense = q }) c)
     own c true h = (h.0, tt)
     own c false h = h
 
@@ -175,7 +202,8 @@ process_small s id p l e = go (command_at s.commands id.command) refl e
 
     go : (c : Option CmdDef) → command_at s.commands id.command ≡ c → process_if s id c ≡ Some p → IsSmallProcess p
     go None f g = cc
-    go (Some c) f g = subst IsSmallProcess (some_process (process_by s id c) p g) (own c id.sense (small_at s.commands id.command c l.commands f))
+    go (Some c) f g = subst IsSmallProcess (some_process (process_by s id c) p g)
+        (own c id.sense (small_at s.commands id.command c l.commands f))
 
 -- ---- the initiator
 
@@ -200,28 +228,35 @@ name_small : (q : Bool) (n : ℕ) → n < 8 → AreBytes ((if q then 0xc0 + n el
 name_small true n h = (omega arith, tt)
 name_small false n h = (omega arith, tt)
 
-process_words : (o : Option HostDef) (q : Bool) (x : Option Process) → ((h : HostDef) → o ≡ Some h → IsSmallHost h) → ((p : Process) → x ≡ Some p → IsSmallProcess p) → AreBytes (process_opening o q x)
+process_words : (o : Option HostDef) (q : Bool) (x : Option Process) → ((h : HostDef) → o ≡ Some h → IsSmallHost h)
+    → ((p : Process) → x ≡ Some p → IsSmallProcess p) → AreBytes (process_opening o q x)
 process_words o q None f g = tt
 process_words o q (Some p) f g =
     let w = g p refl in
-    small_append ((if not p.id.sense then 0xc0 + p.unit else 0x80 + p.unit) ∷ []) (tag_bytes p.tag ++ offer_if q o) (name_small (not p.id.sense) p.unit w.0) (small_append (tag_bytes p.tag) (offer_if q o) (tag_small p.tag w.1) (offer_small q o f))
+    small_append ((if not p.id.sense then 0xc0 + p.unit else 0x80 + p.unit) ∷ [])
+    (tag_bytes p.tag ++ offer_if q o) (name_small (not p.id.sense) p.unit w.0)
+    (small_append (tag_bytes p.tag) (offer_if q o) (tag_small p.tag w.1) (offer_small q o f))
 
 kind_small : (w : AbortKind) → IsSmallKind w → AreBytes (abort_bytes w)
 kind_small (AbortKind.Tag n) h = (omega arith, (h, (omega arith, tt)))
 kind_small _ h = (omega arith, tt)
 
-abort_words : (aborts : List AbortDef) (n : ℕ) → AllByRecursion IsSmallAbort aborts → AreBytes (abort_opening (abort_line_at aborts n))
+abort_words : (aborts : List AbortDef) (n : ℕ) → AllByRecursion IsSmallAbort aborts
+    → AreBytes (abort_opening (abort_line_at aborts n))
 abort_words [] n a = tt
 abort_words (x ∷ aborts) zero a = tt
 abort_words (x ∷ aborts) (suc zero) a = ((name_small false x.unit (a.0).0).0, kind_small x.what (a.0).1)
 abort_words (x ∷ aborts) (suc (suc n)) a = abort_words aborts (suc n) a.1
 
-pub opening_small : (s : ScenarioValue) (dev : ℕ) (q : Bool) (item : Option Item) → HasSmallLines s → AreBytes (opening s dev q item)
+pub opening_small : (s : ScenarioValue) (dev : ℕ) (q : Bool) (item : Option Item) → HasSmallLines s
+    → AreBytes (opening s dev q item)
 opening_small s dev q None l = tt
-opening_small s dev q (Some (process id)) l = process_words (host_of s dev) q (process_of s id) (λ h e. host_small s dev h l e) (λ p e. process_small s id p l e)
+opening_small s dev q (Some (process id)) l =
+    process_words (host_of s dev) q (process_of s id) (λ h e. host_small s dev h l e) (λ p e. process_small s id p l e)
 opening_small s dev q (Some (abort n)) l = abort_words s.aborts n l.aborts
 
-request_small : (a : Agreement) (m : Option MsgIn) → IsSmallAgreement a → ((x : MsgIn) → m ≡ Some x → AreBytes (in_bytes x)) → IsSmallAgreement (request_after a m)
+request_small : (a : Agreement) (m : Option MsgIn) → IsSmallAgreement a
+    → ((x : MsgIn) → m ≡ Some x → AreBytes (in_bytes x)) → IsSmallAgreement (request_after a m)
 request_small a None h f = h
 request_small a (Some MsgIn.CommandComplete) h f = h
 request_small a (Some MsgIn.SavePointer) h f = h
@@ -232,7 +267,8 @@ request_small a (Some (MsgIn.SimpleTag n)) h f = h
 request_small a (Some (MsgIn.Sdtr x)) h f = let w = f (MsgIn.Sdtr x) refl in (w.1.1.1.0, w.1.1.1.1.0)
 request_small a (Some MsgIn.Reject) h f = h
 
-pub words_on : (o : Option HostDef) (w : Hearing) (p : Speech) → ((h : HostDef) → o ≡ Some h → IsSmallHost h) → ((x : MsgIn) → w.into ≡ Some x → AreBytes (in_bytes x)) → HasByteWords p → HasByteWords (speech_after o w p)
+pub words_on : (o : Option HostDef) (w : Hearing) (p : Speech) → ((h : HostDef) → o ≡ Some h → IsSmallHost h)
+    → ((x : MsgIn) → w.into ≡ Some x → AreBytes (in_bytes x)) → HasByteWords p → HasByteWords (speech_after o w p)
 words_on o w p f g h = go (changes_phase w.change) w.crosses
   where
     said : (q r : Bool) → AreBytes (if q then 0x05 ∷ [] else if r then 0x09 ∷ [] else answer_bytes o p.asked)
@@ -240,15 +276,18 @@ words_on o w p f g h = go (changes_phase w.change) w.crosses
     said false true = (omega arith, tt)
     said false false = offer_bytes (host_answer o p.asked) (host_answer_small o p.asked f h.asked)
 
-    phase : (q : Bool) → HasByteWords (if q then record p { words = words_after o w p.asked; place = 0 } else record p { place = 0 })
+    phase : (q : Bool)
+        → HasByteWords (if q then record p { words = words_after o w p.asked; place = 0 } else record p { place = 0 })
     phase true = record { words = said (not (is_message_in w.change.before)) w.struck; asked = h.asked }
     phase false = record { words = h.words; asked = h.asked }
 
-    byte : (q : Bool) → HasByteWords (if q then speech_after_byte p else record p { asked = request_after p.asked w.into })
+    byte :
+        (q : Bool) → HasByteWords (if q then speech_after_byte p else record p { asked = request_after p.asked w.into })
     byte true = record { words = h.words; asked = h.asked }
     byte false = record { words = h.words; asked = request_small p.asked w.into h.asked g }
 
-    go : (q r : Bool) → HasByteWords (if q then Rattle.bus_due.specs.bus_dialogue.specs.Speaking.speech_in_phase o w p else if r then Rattle.bus_due.specs.bus_dialogue.specs.Speaking.speech_with_byte w p else p)
+    go : (q r : Bool) → HasByteWords (if q then Rattle.bus_due.specs.bus_dialogue.specs.Speaking.speech_in_phase o w p
+        else if r then Rattle.bus_due.specs.bus_dialogue.specs.Speaking.speech_with_byte w p else p)
     go true r = phase (is_message_out w.change.after && w.begun)
     go false true = byte (is_message_out w.change.before)
     go false false = h

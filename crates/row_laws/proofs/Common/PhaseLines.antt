@@ -27,7 +27,10 @@ message_is b e = ap is_message (in_phase b e)
 pub command_phase : (b : LineSet) → is_command b ≡ true → phase_of b ≡ Phase.Command
 command_phase b e = go b.msg b.cd b.io e
   where
-    go : (m d i : Bool) → (not m && d && not i) ≡ true → (if m then (if i then Phase.MessageIn else Phase.MessageOut) else if d then (if i then Phase.Status else Phase.Command) else if i then Phase.DataIn else Phase.DataOut) ≡ Phase.Command
+    go : (m d i : Bool) → (not m && d && not i) ≡ true
+        → (if m then (if i then Phase.MessageIn else Phase.MessageOut)
+        else if d then (if i then Phase.Status else Phase.Command) else if i then Phase.DataIn else Phase.DataOut)
+        ≡ Phase.Command
     go true d i z = wrong' z
     go false true true z = wrong' z
     go false true false z = refl
@@ -38,7 +41,9 @@ command_phase b e = go b.msg b.cd b.io e
 pub data_in_lines : (b : LineSet) → phase_of b ≡ Phase.DataIn → (b.msg ≡ false) × (b.cd ≡ false) × (b.io ≡ true)
 data_in_lines b e = go b.msg b.cd b.io (ap is_data_in e)
   where
-    go : (m d i : Bool) → is_data_in (if m then (if i then Phase.MessageIn else Phase.MessageOut) else if d then (if i then Phase.Status else Phase.Command) else if i then Phase.DataIn else Phase.DataOut) ≡ true → (m ≡ false) × (d ≡ false) × (i ≡ true)
+    go : (m d i : Bool) → is_data_in (if m then (if i then Phase.MessageIn else Phase.MessageOut)
+        else if d then (if i then Phase.Status else Phase.Command) else if i then Phase.DataIn else Phase.DataOut)
+        ≡ true → (m ≡ false) × (d ≡ false) × (i ≡ true)
     go true d true z = wrong' z
     go true d false z = wrong' z
     go false true true z = wrong' z
@@ -89,7 +94,9 @@ out_no_status b e = go b.msg b.cd b.io e
 pub unpulsed : (q : Bool) (b : LineSet) (r : Bool) → is_message (phase_of b) ≡ true → (q && is_data b && r) ≡ false
 unpulsed q b r e = go q b.msg b.cd b.io r e
   where
-    go : (q m d i r : Bool) → is_message (if m then (if i then Phase.MessageIn else Phase.MessageOut) else if d then (if i then Phase.Status else Phase.Command) else if i then Phase.DataIn else Phase.DataOut) ≡ true → (q && (not m && not d) && r) ≡ false
+    go : (q m d i r : Bool) → is_message (if m then (if i then Phase.MessageIn else Phase.MessageOut)
+        else if d then (if i then Phase.Status else Phase.Command) else if i then Phase.DataIn else Phase.DataOut)
+        ≡ true → (q && (not m && not d) && r) ≡ false
     go true true d i r z = refl
     go false true d i r z = refl
     go true false true true r z = wrong' z

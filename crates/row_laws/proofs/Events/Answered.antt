@@ -1,4 +1,5 @@
--- A command runs, fails, ends or is lost in the plain disk array: that it may, and where its process stands then (7.3, 7.5).
+-- A command runs, fails, ends or is lost in the plain disk array: that it may, and where its process stands then (7.3,
+-- 7.5).
 use Rattle.row_laws.proofs
 use proofs.Names.{ℕ, ◌≡◌, Bool, true, false, not, ◌&&◌, ◌||◌, ◌==◌, ◌∙◌, List, [], ◌∷◌, Option, Some, None, refl, sym}
 use proofs.Names.{ap, same_Some, if◌then◌else◌, is_some, Event, ProcId, ScenarioValue, run_law, fail_law, first}
@@ -16,68 +17,98 @@ use Rattle.bus_due.specs.disk_array.specs.Steps
 -- ---- a reply is given at a seat
 
 -- The process of this number is found, and has this reply.
-record HasIt (guests : List RunningProcess) (current : Option RunningProcess) (id : ProcId) (reply : Reply) : Type 0 where
+record HasIt (guests : List RunningProcess) (current : Option RunningProcess) (id : ProcId) (reply : Reply) : Type
+    0 where
   found : RunningProcess
   found_is : first (guest_at guests id) (running_if current id) ≡ Some found
   reply_is : found.reply ≡ Some reply
 
 -- The current process stays, and has the reply.
 abbrev next_current : Bool → ProcId → Reply → Option UnitState → Option RunningProcess
-next_current held id reply o = current_of (unit_mapped (unit_with_choice held) (unit_mapped (unit_with_reply id reply) o))
+next_current held id reply o =
+    current_of (unit_mapped (unit_with_choice held) (unit_mapped (unit_with_reply id reply) o))
 
-unit_replied : (held : Bool) (o : Option UnitState) (id : ProcId) (reply : Reply) (r : RunningProcess) → running_if (current_of o) id ≡ Some r → running_if (next_current held id reply o) id ≡ Some (record r { reply = Some reply })
+unit_replied : (held : Bool) (o : Option UnitState) (id : ProcId) (reply : Reply) (r : RunningProcess)
+    → running_if (current_of o) id ≡ Some r
+    → running_if (next_current held id reply o) id ≡ Some (record r { reply = Some reply })
 unit_replied held None id reply r e = absurd (none_some r e)
 unit_replied held (Some u) id reply r e = go u.current refl e
   where
-    by : (q : RunningProcess) → u.current ≡ Some q → (x : Bool) → same_id q.process.id id ≡ x → (if x then Some q else None) ≡ Some r → running_if (next_current held id reply (Some u)) id ≡ Some (record r { reply = Some reply })
+    by : (q : RunningProcess) → u.current ≡ Some q
+        → (x : Bool) → same_id q.process.id id ≡ x → (if x then Some q else None) ≡ Some r
+        → running_if (next_current held id reply (Some u)) id ≡ Some (record r { reply = Some reply })
     by q z false w k = absurd (none_some r k)
     by q z true w k =
         ap (λ (c : Option RunningProcess). running_if c id) (stay ∙ after)
         ∙ (λ i. if w i then Some (record q { reply = Some reply }) else None)
         ∙ ap (λ (y : RunningProcess). Some (record y { reply = Some reply })) (same_Some q r k)
       where
-        given : (if same_id q.process.id id then Some (record q { reply = Some reply }) else Some q) ≡ Some (record q { reply = Some reply })
+        given : (if same_id q.process.id id then Some (record q { reply = Some reply }) else Some q)
+            ≡ Some (record q { reply = Some reply })
         given = λ i. if w i then Some (record q { reply = Some reply }) else Some q
 
         after : (unit_with_reply id reply u).current ≡ Some (record q { reply = Some reply })
         after = (λ i. Steps.current_with_reply (z i) id reply) ∙ given
 
         chooses : Bool → UnitState
-        chooses x = if x then with_current (unit_with_reply id reply u) (choice u.pick u.waiting) else unit_with_reply id reply u
+        chooses x =
+            if x then with_current (unit_with_reply id reply u) (choice u.pick u.waiting)
+            else unit_with_reply id reply u
 
         stay : (unit_with_choice held (unit_with_reply id reply u)).current ≡ (unit_with_reply id reply u).current
         stay = ap (λ (c : Option RunningProcess). (chooses (has_no_current c && not held)).current) after
 
-    go : (c : Option RunningProcess) → u.current ≡ c → running_if c id ≡ Some r → running_if (next_current held id reply (Some u)) id ≡ Some (record r { reply = Some reply })
+    go : (c : Option RunningProcess) → u.current ≡ c → running_if c id ≡ Some r
+        → running_if (next_current held id reply (Some u)) id ≡ Some (record r { reply = Some reply })
     go None z k = absurd (none_some r k)
     go (Some q) z k = by q z (same_id q.process.id id) refl k
 
-replied_has : (guests : List RunningProcess) (held : Bool) (o : Option UnitState) (id : ProcId) (reply : Reply) (r : RunningProcess) → first (guest_at guests id) (running_if (current_of o) id) ≡ Some r → HasIt (guests_with_reply guests id reply) (next_current held id reply o) id reply
+replied_has : (guests : List RunningProcess) (held : Bool) (o : Option UnitState) (id : ProcId)
+    (reply : Reply) (r : RunningProcess) → first (guest_at guests id) (running_if (current_of o) id) ≡ Some r
+    → HasIt (guests_with_reply guests id reply) (next_current held id reply o) id reply
 replied_has guests held o id reply r e = go (guest_at guests id) refl e
   where
-    go : (x : Option RunningProcess) → guest_at guests id ≡ x → first x (running_if (current_of o) id) ≡ Some r → HasIt (guests_with_reply guests id reply) (next_current held id reply o) id reply
+    go : (x : Option RunningProcess) → guest_at guests id ≡ x → first x (running_if (current_of o) id) ≡ Some r
+        → HasIt (guests_with_reply guests id reply) (next_current held id reply o) id reply
     go (Some g) z k =
         let there = guest_replied guests id reply g z in
-        record { found = record g { reply = Some reply }; found_is = λ i. first (there i) (running_if (next_current held id reply o) id); reply_is = refl }
+        record {
+          found = record g { reply = Some reply };
+          found_is = λ i. first (there i) (running_if (next_current held id reply o) id);
+          reply_is = refl;
+        }
     go None z k =
         let gone = no_guest_replied guests id reply z in
-        record { found = record r { reply = Some reply }; found_is = (λ i. first (gone i) (running_if (next_current held id reply o) id)) ∙ unit_replied held o id reply r k; reply_is = refl }
+        record {
+          found = record r { reply = Some reply };
+          found_is =
+              (λ i. first (gone i) (running_if (next_current held id reply o) id)) ∙ unit_replied held o id reply r k;
+          reply_is = refl;
+        }
 
-same_current : (contents : Contents) (o : Option UnitState) → current_of (unit_mapped (unit_with_contents contents) o) ≡ current_of o
+same_current : (contents : Contents) (o : Option UnitState)
+    → current_of (unit_mapped (unit_with_contents contents) o) ≡ current_of o
 same_current contents None = refl
 same_current contents (Some u) = refl
 
 -- ---- it runs
 
-pub run_is : (s : ScenarioValue) (a : Array) (p : Process) → MayRun a p → Steps.step s (Event.Run p.id) a ≡ Some (settled_array (Steps.after_execution_at a p (unit_state_at a.units p.target p.unit)))
-run_is s a p h =
-    (λ i. Steps.settled_array_if (Steps.run_step a (is_some (guest_at a.guests p.id)) (h.running_is i)))
-    ∙ (λ i. Steps.settled_array_if (if true && h.free i then Some (Steps.after_execution_at a p (unit_state_at a.units p.target p.unit)) else None))
+pub run_is : (s : ScenarioValue) (a : Array) (p : Process) → MayRun a p → Steps.step s (Event.Run p.id) a
+    ≡ Some (settled_array (Steps.after_execution_at a p (unit_state_at a.units p.target p.unit)))
+run_is s a p h = (λ i. Steps.settled_array_if (Steps.run_step a (is_some (guest_at a.guests p.id)) (h.running_is i)))
+    ∙ (λ i. Steps.settled_array_if
+    (if true && h.free i then Some (Steps.after_execution_at a p (unit_state_at a.units p.target p.unit)) else None))
 
-pub context_same : (a : Array) (p : Process) → Steps.context_at a (nexus_of p) (unit_state_at a.units p.target p.unit) ≡ Seats.context_of (seat_of a p.target p.unit) p.initiator
+pub context_same : (a : Array) (p : Process) → Steps.context_at a (nexus_of p) (unit_state_at a.units p.target p.unit)
+    ≡ Seats.context_of (seat_of a p.target p.unit) p.initiator
 context_same a p = go (unit_state_at a.units p.target p.unit)
   where
-    go : (u : Option UnitState) → Steps.context_at a (nexus_of p) u ≡ record { present = is_some u; contents = Seats.contents_of u; stored = (seat_of a p.target p.unit).senses p.initiator; attention = (seat_of a p.target p.unit).attentions p.initiator }
+    go : (u : Option UnitState) → Steps.context_at a (nexus_of p) u ≡ record {
+      present = is_some u;
+      contents = Seats.contents_of u;
+      stored = (seat_of a p.target p.unit).senses p.initiator;
+      attention = (seat_of a p.target p.unit).attentions p.initiator;
+    }
     go None = refl
     go (Some u) = refl
 
@@ -85,7 +116,8 @@ if_seat : (x : Bool) (b c : Seat) → Some b ≡ settled_seat_if (if x then Some
 if_seat true b c e = same_Some b (settled_seat c) e
 if_seat false b c e = absurd (some_none b e)
 
-pub run_answers : (s : ScenarioValue) (a b : Array) (p : Process) → HasSeats s → IsSound s a → process_of s p.id ≡ Some p → MayRun a p → Steps.step s (Event.Run p.id) a ≡ Some b → IsAnswered b p.id
+pub run_answers : (s : ScenarioValue) (a b : Array) (p : Process) → HasSeats s → IsSound s a
+    → process_of s p.id ≡ Some p → MayRun a p → Steps.step s (Event.Run p.id) a ≡ Some b → IsAnswered b p.id
 run_answers s a b p seats sound e h f = answered
   where
     seat : Seat
@@ -101,29 +133,34 @@ run_answers s a b p seats sound e h f = answered
     ran = Seats.seat_with_execution seat p done
 
     after : seat_of b p.target p.unit ≡ settled_seat ran
-    after = if_seat (is_some (guest_at seat.guests p.id) || not (Seats.is_any_held seat.hold)) (seat_of b p.target p.unit) ran
-        (sym (ap (λ (x : Option Array). seat_if x p.target p.unit) f) ∙ run_law s a p seats sound e ∙ ap (λ (x : Option RunningProcess). settled_seat_if (Seats.seat_after_run_of seat (is_some (guest_at seat.guests p.id)) x)) there)
+    after = if_seat (is_some (guest_at seat.guests p.id) || not (Seats.is_any_held seat.hold))
+        (seat_of b p.target p.unit) ran (sym (ap (λ (x : Option Array). seat_if x p.target p.unit) f)
+        ∙ run_law s a p seats sound e ∙ ap (λ (x : Option RunningProcess). settled_seat_if
+        (Seats.seat_after_run_of seat (is_some (guest_at seat.guests p.id)) x)) there)
 
     it : HasIt (settled_seat ran).guests (current_of (settled_seat ran).unit) p.id done.reply
-    it = replied_has seat.guests (Seats.is_any_held ran.hold) (unit_mapped (unit_with_contents done.contents) seat.unit) p.id done.reply (without_reply p)
-        (ap (λ (c : Option RunningProcess). first (guest_at seat.guests p.id) (running_if c p.id)) (same_current done.contents seat.unit) ∙ there)
+    it = replied_has seat.guests (Seats.is_any_held ran.hold)
+        (unit_mapped (unit_with_contents done.contents) seat.unit) p.id done.reply (without_reply p)
+        (ap (λ (c : Option RunningProcess). first (guest_at seat.guests p.id) (running_if c p.id))
+        (same_current done.contents seat.unit) ∙ there)
 
     reply_same : reply_at a p (unit_state_at a.units p.target p.unit) ≡ done.reply
     reply_same = ap (λ (m : CommandContext). (execution m p.cdb p.sent).reply) (context_same a p)
 
     ran_array : b ≡ settled_array (Steps.after_execution_at a p (unit_state_at a.units p.target p.unit))
-    ran_array = sym (same_Some (settled_array (Steps.after_execution_at a p (unit_state_at a.units p.target p.unit))) b (sym (run_is s a p h) ∙ f))
+    ran_array = sym (same_Some (settled_array (Steps.after_execution_at a p (unit_state_at a.units p.target p.unit))) b
+        (sym (run_is s a p h) ∙ f))
 
     given : reply_in b.replies p.id ≡ Some done.reply
-    given =
-        (λ i. reply_in (ran_array i).replies p.id)
-        ∙ ap (λ (x : List (ProcId × Reply)). reply_in x p.id) (executed a p (unit_state_at a.units p.target p.unit)).replies
+    given = (λ i. reply_in (ran_array i).replies p.id) ∙ ap (λ (x : List (ProcId × Reply)). reply_in x p.id)
+        (executed a p (unit_state_at a.units p.target p.unit)).replies
         ∙ (λ i. if self_id p.id i then Some (reply_same i) else reply_in a.replies p.id)
 
     answered : IsAnswered b p.id
     answered = record {
       running = it.found;
-      running_is = running_own s b p.id p (step_sound s a b (Event.Run p.id) seats sound f) e ∙ (λ i. running_at (after i) p.id) ∙ it.found_is;
+      running_is = running_own s b p.id p (step_sound s a b (Event.Run p.id) seats sound f) e
+          ∙ (λ i. running_at (after i) p.id) ∙ it.found_is;
       reply = done.reply;
       reply_is = it.reply_is;
       given = given;
@@ -131,10 +168,12 @@ run_answers s a b p seats sound e h f = answered
 
 -- ---- it fails
 
-pub fail_is : (s : ScenarioValue) (a : Array) (p : Process) (code : ℕ) → MayRun a p → Steps.step s (Event.Fail p.id code) a ≡ Some (settled_array (Steps.with_reply a p.id (aborted_reply code)))
+pub fail_is : (s : ScenarioValue) (a : Array) (p : Process) (code : ℕ) → MayRun a p
+    → Steps.step s (Event.Fail p.id code) a ≡ Some (settled_array (Steps.with_reply a p.id (aborted_reply code)))
 fail_is s a p code h = λ i. Steps.settled_array_if (Steps.fail_step s a p.id (aborted_reply code) (h.running_is i))
 
-pub fail_answers : (s : ScenarioValue) (a b : Array) (p : Process) (code : ℕ) → HasSeats s → IsSound s a → process_of s p.id ≡ Some p → MayRun a p → Steps.step s (Event.Fail p.id code) a ≡ Some b → IsAnswered b p.id
+pub fail_answers : (s : ScenarioValue) (a b : Array) (p : Process) (code : ℕ) → HasSeats s → IsSound s a
+    → process_of s p.id ≡ Some p → MayRun a p → Steps.step s (Event.Fail p.id code) a ≡ Some b → IsAnswered b p.id
 fail_answers s a b p code seats sound e h f = answered
   where
     seat : Seat
@@ -148,21 +187,27 @@ fail_answers s a b p code seats sound e h f = answered
 
     after : seat_of b p.target p.unit ≡ settled_seat failed
     after = same_Some (seat_of b p.target p.unit) (settled_seat failed)
-        (sym (ap (λ (x : Option Array). seat_if x p.target p.unit) f) ∙ fail_law s a p code seats sound e ∙ ap (λ (x : Option RunningProcess). settled_seat_if (Seats.seat_after_failure_of seat (has_ended a p.id) p (aborted_reply code) x)) there)
+        (sym (ap (λ (x : Option Array). seat_if x p.target p.unit) f) ∙ fail_law s a p code seats sound e
+        ∙ ap (λ (x : Option RunningProcess). settled_seat_if
+        (Seats.seat_after_failure_of seat (has_ended a p.id) p (aborted_reply code) x)) there)
 
     it : HasIt (settled_seat failed).guests (current_of (settled_seat failed).unit) p.id (aborted_reply code)
-    it = replied_has seat.guests (Seats.is_any_held seat.hold) seat.unit p.id (aborted_reply code) (without_reply p) there
+    it = replied_has seat.guests (Seats.is_any_held seat.hold) seat.unit p.id (aborted_reply code)
+        (without_reply p) there
 
     failed_array : b ≡ settled_array (Steps.with_reply a p.id (aborted_reply code))
-    failed_array = sym (same_Some (settled_array (Steps.with_reply a p.id (aborted_reply code))) b (sym (fail_is s a p code h) ∙ f))
+    failed_array = sym
+        (same_Some (settled_array (Steps.with_reply a p.id (aborted_reply code))) b (sym (fail_is s a p code h) ∙ f))
 
     answered : IsAnswered b p.id
     answered = record {
       running = it.found;
-      running_is = running_own s b p.id p (step_sound s a b (Event.Fail p.id code) seats sound f) e ∙ (λ i. running_at (after i) p.id) ∙ it.found_is;
+      running_is = running_own s b p.id p (step_sound s a b (Event.Fail p.id code) seats sound f) e
+          ∙ (λ i. running_at (after i) p.id) ∙ it.found_is;
       reply = aborted_reply code;
       reply_is = it.reply_is;
-      given = (λ i. reply_in (failed_array i).replies p.id) ∙ (λ i. if self_id p.id i then Some (aborted_reply code) else reply_in a.replies p.id);
+      given = (λ i. reply_in (failed_array i).replies p.id)
+          ∙ (λ i. if self_id p.id i then Some (aborted_reply code) else reply_in a.replies p.id);
     }
 
 -- ---- it leaves
@@ -171,7 +216,8 @@ waits_away : (waiting : List Process) (id : ProcId) → Waits (IsAway id) (witho
 waits_away [] id = tt
 waits_away (p ∷ waiting) id = go (same_id p.id id) refl (waits_away waiting id)
   where
-    go : (x : Bool) → same_id p.id id ≡ x → Waits (IsAway id) (without_process waiting id) → Waits (IsAway id) (if x then without_process waiting id else p ∷ without_process waiting id)
+    go : (x : Bool) → same_id p.id id ≡ x → Waits (IsAway id) (without_process waiting id)
+        → Waits (IsAway id) (if x then without_process waiting id else p ∷ without_process waiting id)
     go true z k = k
     go false z k = (z, k)
 
@@ -179,7 +225,8 @@ units_away : (units : List UnitState) (id : ProcId) → OnUnits (IsAway id) (Ste
 units_away [] id = tt
 units_away (u ∷ units) id = ((waits_away u.waiting id, go u.current), units_away units id)
   where
-    by : (r : RunningProcess) (x : Bool) → same_id r.process.id id ≡ x → Runs (IsAway id) (if is_some {T = RunningProcess} (if x then Some r else None) then None else Some r)
+    by : (r : RunningProcess) (x : Bool) → same_id r.process.id id ≡ x
+        → Runs (IsAway id) (if is_some {T = RunningProcess} (if x then Some r else None) then None else Some r)
     by r true z = tt
     by r false z = z
 
@@ -191,7 +238,8 @@ guests_away : (guests : List RunningProcess) (id : ProcId) → OnGuests (IsAway 
 guests_away [] id = tt
 guests_away (g ∷ guests) id = go (same_id g.process.id id) refl (guests_away guests id)
   where
-    go : (x : Bool) → same_id g.process.id id ≡ x → OnGuests (IsAway id) (without_guest guests id) → OnGuests (IsAway id) (if x then without_guest guests id else g ∷ without_guest guests id)
+    go : (x : Bool) → same_id g.process.id id ≡ x → OnGuests (IsAway id) (without_guest guests id)
+        → OnGuests (IsAway id) (if x then without_guest guests id else g ∷ without_guest guests id)
     go true z k = k
     go false z k = (z, k)
 
@@ -202,16 +250,22 @@ pub record HasLeft (a : Array) (id : ProcId) : Type 0 where
 
 pub leaves : (a : Array) (id : ProcId) → HasLeft (settled_array (Steps.array_without a id)) id
 leaves a id = record {
-  rests = away_rests (settled_array (Steps.array_without a id)) id (each_settled (IsAway id) (IsAway id) (Steps.array_without a id) (record { units = units_away a.units id; guests = guests_away a.guests id }));
+  rests = away_rests (settled_array (Steps.array_without a id)) id (each_settled (IsAway id) (IsAway id)
+      (Steps.array_without a id) (record { units = units_away a.units id; guests = guests_away a.guests id }));
   ended = λ i. self_id id i || has_ended a id;
 }
 
-pub end_is : (s : ScenarioValue) (a : Array) (id : ProcId) (status : ℕ) (h : IsAnswered a id) → (h.reply.status == status) ≡ true → Steps.step s (Event.End id status) a ≡ Some (settled_array (Steps.array_without (Steps.after_status a h.running.process h.reply) id))
-end_is s a id status h e =
-    (λ i. Steps.settled_array_if (Steps.end_step a status (h.running_is i)))
+pub end_is : (s : ScenarioValue) (a : Array) (id : ProcId) (status : ℕ) (h : IsAnswered a id)
+    → (h.reply.status == status) ≡ true → Steps.step s (Event.End id status) a
+    ≡ Some (settled_array (Steps.array_without (Steps.after_status a h.running.process h.reply) id))
+end_is s a id status h e = (λ i. Steps.settled_array_if (Steps.end_step a status (h.running_is i)))
     ∙ (λ i. Steps.settled_array_if (Steps.end_step_with a h.running.process status (h.reply_is i)))
-    ∙ (λ i. Steps.settled_array_if (if e i then Some (Steps.array_without (Steps.after_status a h.running.process h.reply) h.running.process.id) else None))
-    ∙ (λ i. Some (settled_array (Steps.array_without (Steps.after_status a h.running.process h.reply) (running_id a id h.running h.running_is i))))
+    ∙ (λ i. Steps.settled_array_if
+    (if e i then Some (Steps.array_without (Steps.after_status a h.running.process h.reply) h.running.process.id)
+    else None))
+    ∙ (λ i. Some (settled_array
+    (Steps.array_without (Steps.after_status a h.running.process h.reply) (running_id a id h.running h.running_is i))))
 
-pub lost_is : (s : ScenarioValue) (a : Array) (id : ProcId) → has_ended a id ≡ false → Steps.step s (Event.Lost id) a ≡ Some (settled_array (Steps.array_without a id))
+pub lost_is : (s : ScenarioValue) (a : Array) (id : ProcId) → has_ended a id ≡ false
+    → Steps.step s (Event.Lost id) a ≡ Some (settled_array (Steps.array_without a id))
 lost_is s a id e = λ i. Steps.settled_array_if (if e i then None else Some (Steps.array_without a id))

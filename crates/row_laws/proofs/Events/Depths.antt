@@ -21,26 +21,33 @@ fewer_left : (waiting : List Process) (id : ProcId) → length (without_process 
 fewer_left [] id = omega arith
 fewer_left (p ∷ waiting) id = go (same_id p.id id) (fewer_left waiting id)
   where
-    go : (x : Bool) → length (without_process waiting id) ≤ length waiting → length (if x then without_process waiting id else p ∷ without_process waiting id) ≤ length (p ∷ waiting)
+    go : (x : Bool) → length (without_process waiting id) ≤ length waiting
+        → length (if x then without_process waiting id else p ∷ without_process waiting id) ≤ length (p ∷ waiting)
     go true k = omega arith
     go false k = omega arith
 
-one_fewer : (waiting : List Process) (place : ℕ) (p : Process) → process_at waiting place ≡ Some p → length (without_process waiting p.id) < length waiting
+one_fewer : (waiting : List Process) (place : ℕ) (p : Process) → process_at waiting place ≡ Some p
+    → length (without_process waiting p.id) < length waiting
 one_fewer [] place p e = absurd (none_some p e)
 one_fewer (w ∷ waiting) zero p e =
     let same : w ≡ p = same_Some w p e in
-    subst (λ (x : Bool). length (if x then without_process waiting p.id else w ∷ without_process waiting p.id) < length (w ∷ waiting)) (sym ((λ i. same_id (same i).id p.id) ∙ self_id p.id))
+    subst (λ (x : Bool). length (if x then without_process waiting p.id else w ∷ without_process waiting p.id)
+    < length (w ∷ waiting)) (sym ((λ i. same_id (same i).id p.id) ∙ self_id p.id))
     (let k : length (without_process waiting p.id) ≤ length waiting = fewer_left waiting p.id in omega arith)
 one_fewer (w ∷ waiting) (suc place) p e = go (same_id w.id p.id) (fewer_left waiting p.id) (one_fewer waiting place p e)
   where
-    go : (x : Bool) → length (without_process waiting p.id) ≤ length waiting → length (without_process waiting p.id) < length waiting → length (if x then without_process waiting p.id else w ∷ without_process waiting p.id) < length (w ∷ waiting)
+    go : (x : Bool) → length (without_process waiting p.id) ≤ length waiting
+        → length (without_process waiting p.id) < length waiting
+        → length (if x then without_process waiting p.id else w ∷ without_process waiting p.id) < length (w ∷ waiting)
     go true k m = omega arith
     go false k m = omega arith
 
-chosen_fewer : (u : UnitState) (p : Process) → choice u.pick u.waiting ≡ Some p → length (without_process u.waiting p.id) < length u.waiting
+chosen_fewer : (u : UnitState) (p : Process) → choice u.pick u.waiting ≡ Some p
+    → length (without_process u.waiting p.id) < length u.waiting
 chosen_fewer u p e = go (chosen_place u.pick (entries_of u.waiting)) e
   where
-    go : (x : Option ℕ) → process_at_if u.waiting x ≡ Some p → length (without_process u.waiting p.id) < length u.waiting
+    go : (x : Option ℕ) → process_at_if u.waiting x ≡ Some p
+        → length (without_process u.waiting p.id) < length u.waiting
     go None k = absurd (none_some p k)
     go (Some place) k = one_fewer u.waiting place p k
 
@@ -49,9 +56,11 @@ none_counts None e = refl
 none_counts (Some r) e = absurd (true≢false (sym e))
 
 chosen_within : (holds : List Nexus) (u : UnitState) → IsWithin u → IsWithin (unit_after_choice holds u)
-chosen_within holds u h = go (has_no_current u.current) refl (not (is_held holds u.target u.unit)) (choice u.pick u.waiting) refl
+chosen_within holds u h =
+    go (has_no_current u.current) refl (not (is_held holds u.target u.unit)) (choice u.pick u.waiting) refl
   where
-    go : (x : Bool) → has_no_current u.current ≡ x → (y : Bool) (p : Option Process) → choice u.pick u.waiting ≡ p → IsWithin (if x && y then with_current u p else u)
+    go : (x : Bool) → has_no_current u.current ≡ x → (y : Bool) (p : Option Process) → choice u.pick u.waiting ≡ p
+        → IsWithin (if x && y then with_current u p else u)
     go false f y p z = h
     go true f false p z = h
     go true f true None z = h
@@ -62,13 +71,15 @@ chosen_within holds u h = go (has_no_current u.current) refl (not (is_held holds
         let four : length (without_process u.waiting p.id) + 1 ≤ u.depth = omega arith in
         four
 
-settled_within : (holds : List Nexus) (units : List UnitState) → AreWithin units → AreWithin (units_after_choice holds units)
+settled_within : (holds : List Nexus) (units : List UnitState) → AreWithin units
+    → AreWithin (units_after_choice holds units)
 settled_within holds [] h = tt
 settled_within holds (u ∷ units) h = (chosen_within holds u h.0, settled_within holds units h.1)
 
 -- ---- lists of units
 
-with_within : (units : List UnitState) (new : UnitState) → AreWithin units → IsWithin new → AreWithin (with_unit units new)
+with_within : (units : List UnitState) (new : UnitState) → AreWithin units → IsWithin new
+    → AreWithin (with_unit units new)
 with_within [] new h g = tt
 with_within (u ∷ units) new h g = go (u.target == new.target && u.unit == new.unit) (with_within units new h.1 g)
   where
@@ -76,15 +87,18 @@ with_within (u ∷ units) new h g = go (u.target == new.target && u.unit == new.
     go true k = (g, h.1)
     go false k = (h.0, k)
 
-pub unit_within : (units : List UnitState) (t n : ℕ) (u : UnitState) → unit_state_at units t n ≡ Some u → AreWithin units → process_count u ≤ u.depth
+pub unit_within : (units : List UnitState) (t n : ℕ) (u : UnitState) → unit_state_at units t n ≡ Some u
+    → AreWithin units → process_count u ≤ u.depth
 unit_within [] t n u e h = absurd (none_some u e)
 unit_within (v ∷ units) t n u e h = go (v.target == t && v.unit == n) e (λ k. unit_within units t n u k h.1)
   where
-    go : (x : Bool) → (if x then Some v else unit_state_at units t n) ≡ Some u → (unit_state_at units t n ≡ Some u → IsWithin u) → IsWithin u
+    go : (x : Bool) → (if x then Some v else unit_state_at units t n) ≡ Some u
+        → (unit_state_at units t n ≡ Some u → IsWithin u) → IsWithin u
     go true k rest = subst (λ (w : UnitState). IsWithin w) (same_Some v u k) h.0
     go false k rest = rest k
 
-replied_count : (o : Option RunningProcess) (id : ProcId) (reply : Reply) → running_count (Steps.current_with_reply o id reply) ≡ running_count o
+replied_count : (o : Option RunningProcess) (id : ProcId) (reply : Reply)
+    → running_count (Steps.current_with_reply o id reply) ≡ running_count o
 replied_count None id reply = refl
 replied_count (Some r) id reply = go (same_id r.process.id id)
   where
@@ -92,12 +106,17 @@ replied_count (Some r) id reply = go (same_id r.process.id id)
     go true = refl
     go false = refl
 
-replied_within : (units : List UnitState) (id : ProcId) (reply : Reply) → AreWithin units → AreWithin (Steps.units_with_reply units id reply)
+replied_within : (units : List UnitState) (id : ProcId) (reply : Reply) → AreWithin units
+    → AreWithin (Steps.units_with_reply units id reply)
 replied_within [] id reply h = tt
-replied_within (u ∷ units) id reply h = (subst (λ (n : ℕ). length u.waiting + n ≤ u.depth) (sym (replied_count u.current id reply)) h.0, replied_within units id reply h.1)
+replied_within (u ∷ units) id reply h = (
+  subst (λ (n : ℕ). length u.waiting + n ≤ u.depth) (sym (replied_count u.current id reply)) h.0,
+  replied_within units id reply h.1,
+)
 
 -- Of fewer that wait, and of the same current process or none.
-fewer_within : (u : UnitState) (waiting : List Process) (o : Option RunningProcess) → length waiting ≤ length u.waiting → running_count o ≤ running_count u.current → IsWithin u → IsWithin (record u { waiting = waiting; current = o })
+fewer_within : (u : UnitState) (waiting : List Process) (o : Option RunningProcess) → length waiting ≤ length u.waiting
+    → running_count o ≤ running_count u.current → IsWithin u → IsWithin (record u { waiting = waiting; current = o })
 fewer_within u waiting o e f h =
     let g : length u.waiting + running_count u.current ≤ u.depth = h in
     let k : length waiting + running_count o ≤ u.depth = omega arith in
@@ -110,25 +129,35 @@ fewer_runs false o = omega arith
 left_within : (units : List UnitState) (id : ProcId) → AreWithin units → AreWithin (Steps.units_without units id)
 left_within [] id h = tt
 left_within (u ∷ units) id h = (
-  fewer_within u (without_process u.waiting id) (if is_some (Steps.running_if u.current id) then None else u.current) (fewer_left u.waiting id) (fewer_runs (is_some (Steps.running_if u.current id)) u.current) h.0,
+  fewer_within u (without_process u.waiting id) (if is_some (Steps.running_if u.current id) then None else u.current)
+      (fewer_left u.waiting id) (fewer_runs (is_some (Steps.running_if u.current id)) u.current) h.0,
   left_within units id h.1,
 )
 
-fewer_kept : (drops : Process → Bool) (waiting : List Process) → length (Steps.kept_processes drops waiting) ≤ length waiting
+fewer_kept : (drops : Process → Bool) (waiting : List Process)
+    → length (Steps.kept_processes drops waiting) ≤ length waiting
 fewer_kept drops [] = omega arith
 fewer_kept drops (p ∷ waiting) = go (drops p) (fewer_kept drops waiting)
   where
-    go : (x : Bool) → length (Steps.kept_processes drops waiting) ≤ length waiting → length (if x then Steps.kept_processes drops waiting else p ∷ Steps.kept_processes drops waiting) ≤ length (p ∷ waiting)
+    go : (x : Bool) → length (Steps.kept_processes drops waiting) ≤ length waiting
+        → length (if x then Steps.kept_processes drops waiting else p ∷ Steps.kept_processes drops waiting)
+        ≤ length (p ∷ waiting)
     go true k = omega arith
     go false k = omega arith
 
-runs_kept : (drops : Process → Bool) (o : Option RunningProcess) → running_count (Steps.kept_running drops o) ≤ running_count o
+runs_kept : (drops : Process → Bool) (o : Option RunningProcess)
+    → running_count (Steps.kept_running drops o) ≤ running_count o
 runs_kept drops None = omega arith
 runs_kept drops (Some r) = fewer_runs (drops r.process) (Some r)
 
-dropped_within : (drops : Process → Bool) (units : List UnitState) → AreWithin units → AreWithin (Steps.kept_units drops units)
+dropped_within : (drops : Process → Bool) (units : List UnitState) → AreWithin units
+    → AreWithin (Steps.kept_units drops units)
 dropped_within drops [] h = tt
-dropped_within drops (u ∷ units) h = (fewer_within u (Steps.kept_processes drops u.waiting) (Steps.kept_running drops u.current) (fewer_kept drops u.waiting) (runs_kept drops u.current) h.0, dropped_within drops units h.1)
+dropped_within drops (u ∷ units) h = (
+  fewer_within u (Steps.kept_processes drops u.waiting) (Steps.kept_running drops u.current)
+      (fewer_kept drops u.waiting) (runs_kept drops u.current) h.0,
+  dropped_within drops units h.1,
+)
 
 same_within : (a b : Array) → IsSameIn a b → AreWithin a.units → AreWithin b.units
 same_within a b same h = subst (λ (us : List UnitState). AreWithin us) (sym same.units) h
@@ -143,7 +172,8 @@ within_if : (x : Bool) (a : Array) → (x ≡ true → AreWithin a.units) → If
 within_if true a h = h refl
 within_if false a h = tt
 
-joins : (u : UnitState) (p : Process) → nat_lt (process_count u) u.depth ≡ true → IsWithin (record u { waiting = u.waiting ++ p ∷ [] })
+joins : (u : UnitState) (p : Process) → nat_lt (process_count u) u.depth ≡ true
+    → IsWithin (record u { waiting = u.waiting ++ p ∷ [] })
 joins u p e =
     let one : length (u.waiting ++ p ∷ []) ≡ length u.waiting + 1 = length-append u.waiting (p ∷ []) in
     let two : length u.waiting + running_count u.current < u.depth = grind (arith, nat_tests) in
@@ -160,9 +190,9 @@ accepted a (Some p) h = go (unit_state_at a.units p.target p.unit)
       where
         senses : (x : Bool) → IfWithin (if x then Some (Steps.with_guest a p None) else Steps.queue_step a p u)
         senses true = h
-        senses false =
-            within_if (nat_lt (process_count u) u.depth) (record a { units = with_unit a.units (record u { waiting = u.waiting ++ p ∷ [] }) })
-            (λ e. with_within a.units (record u { waiting = u.waiting ++ p ∷ [] }) h (joins u p e))
+        senses false = within_if (nat_lt (process_count u) u.depth) (record a {
+          units = with_unit a.units (record u { waiting = u.waiting ++ p ∷ [] });
+        }) (λ e. with_within a.units (record u { waiting = u.waiting ++ p ∷ [] }) h (joins u p e))
 
 refused : (a : Array) (o : Option Process) → AreWithin a.units → IfWithin (Steps.refuse_step a o)
 refused a None h = tt
@@ -170,33 +200,47 @@ refused a (Some p) h = go (unit_state_at a.units p.target p.unit)
   where
     go : (u : Option UnitState) → IfWithin (Steps.refuse_step_at a p u)
     go None = tt
-    go (Some u) = within_if (not (is_request_sense (command_of p.cdb)) && process_count u == u.depth) (Steps.with_listed_reply (Steps.with_guest a p (Some queue_full)) p.id queue_full) (λ e. h)
+    go (Some u) = within_if (not (is_request_sense (command_of p.cdb)) && process_count u == u.depth)
+        (Steps.with_listed_reply (Steps.with_guest a p (Some queue_full)) p.id queue_full) (λ e. h)
 
-executed : (a : Array) (p : Process) → AreWithin a.units → AreWithin (Steps.after_execution_at a p (unit_state_at a.units p.target p.unit)).units
+executed : (a : Array) (p : Process) → AreWithin a.units
+    → AreWithin (Steps.after_execution_at a p (unit_state_at a.units p.target p.unit)).units
 executed a p h = go (unit_state_at a.units p.target p.unit) refl
   where
-    inner : (done : Execution) (u : Option UnitState) → unit_state_at a.units p.target p.unit ≡ u → (x : Bool) → AreWithin (Steps.with_contents (Steps.without_attention a x (nexus_of p)) u done.contents).units
+    inner : (done : Execution) (u : Option UnitState) → unit_state_at a.units p.target p.unit ≡ u
+        → (x : Bool) → AreWithin (Steps.with_contents (Steps.without_attention a x (nexus_of p)) u done.contents).units
     inner done None f true = h
     inner done None f false = h
-    inner done (Some u) f true = with_within a.units (record u { contents = done.contents }) h (unit_within a.units p.target p.unit u f h)
-    inner done (Some u) f false = with_within a.units (record u { contents = done.contents }) h (unit_within a.units p.target p.unit u f h)
+    inner done (Some u) f true =
+        with_within a.units (record u { contents = done.contents }) h (unit_within a.units p.target p.unit u f h)
+    inner done (Some u) f false =
+        with_within a.units (record u { contents = done.contents }) h (unit_within a.units p.target p.unit u f h)
 
-    by : (done : Execution) (u : Option UnitState) → unit_state_at a.units p.target p.unit ≡ u → AreWithin (Steps.after_execution a p u done).units
-    by done u f = replied_within (Steps.with_contents (Steps.without_attention a done.reported (nexus_of p)) u done.contents).units p.id done.reply (inner done u f done.reported)
+    by : (done : Execution) (u : Option UnitState) → unit_state_at a.units p.target p.unit ≡ u
+        → AreWithin (Steps.after_execution a p u done).units
+    by done u f = replied_within (Steps.with_contents (Steps.without_attention a done.reported (nexus_of p)) u
+        done.contents).units p.id done.reply (inner done u f done.reported)
 
-    go : (u : Option UnitState) → unit_state_at a.units p.target p.unit ≡ u → AreWithin (Steps.after_execution_at a p u).units
+    go : (u : Option UnitState) → unit_state_at a.units p.target p.unit ≡ u
+        → AreWithin (Steps.after_execution_at a p u).units
     go u f = by (execution (Steps.context_at a (nexus_of p) u) p.cdb p.sent) u f
 
-run_within : (a : Array) (guest : Bool) (o : Option RunningProcess) → AreWithin a.units → IfWithin (Steps.run_step a guest o)
+run_within : (a : Array) (guest : Bool) (o : Option RunningProcess) → AreWithin a.units
+    → IfWithin (Steps.run_step a guest o)
 run_within a guest None h = tt
-run_within a guest (Some r) h =
-    within_if (is_none r.reply && (guest || not (is_held a.holds r.process.target r.process.unit))) (Steps.after_execution_at a r.process (unit_state_at a.units r.process.target r.process.unit)) (λ e. executed a r.process h)
+run_within a guest (Some r) h = within_if
+    (is_none r.reply && (guest || not (is_held a.holds r.process.target r.process.unit)))
+    (Steps.after_execution_at a r.process (unit_state_at a.units r.process.target r.process.unit))
+    (λ e. executed a r.process h)
 
-failed : (s : ScenarioValue) (a : Array) (id : ProcId) (reply : Reply) (o : Option RunningProcess) → AreWithin a.units → IfWithin (Steps.fail_step s a id reply o)
-failed s a id reply (Some r) h = within_if (is_none r.reply) (Steps.with_reply a id reply) (λ e. replied_within a.units id reply h)
+failed : (s : ScenarioValue) (a : Array) (id : ProcId) (reply : Reply) (o : Option RunningProcess) → AreWithin a.units
+    → IfWithin (Steps.fail_step s a id reply o)
+failed s a id reply (Some r) h =
+    within_if (is_none r.reply) (Steps.with_reply a id reply) (λ e. replied_within a.units id reply h)
 failed s a id reply None h = go (process_of s id)
   where
-    by : (p : Process) (x : Bool) → IfWithin (if x then None else Some (Steps.with_listed_reply (Steps.with_guest a p (Some reply)) id reply))
+    by : (p : Process) (x : Bool)
+        → IfWithin (if x then None else Some (Steps.with_listed_reply (Steps.with_guest a p (Some reply)) id reply))
     by p true = tt
     by p false = h
 
@@ -210,9 +254,10 @@ ended a status (Some r) h = by r.reply
   where
     by : (o : Option Reply) → IfWithin (Steps.end_step_with a r.process status o)
     by None = tt
-    by (Some reply) =
-        within_if (reply.status == status) (Steps.array_without (Steps.after_status a r.process reply) r.process.id)
-        (λ e. left_within (Steps.after_status a r.process reply).units r.process.id (same_within a (Steps.after_status a r.process reply) (status_same a r.process reply) h))
+    by (Some reply) = within_if (reply.status == status)
+        (Steps.array_without (Steps.after_status a r.process reply) r.process.id)
+        (λ e. left_within (Steps.after_status a r.process reply).units r.process.id
+        (same_within a (Steps.after_status a r.process reply) (status_same a r.process reply) h))
 
 lost : (a : Array) (id : ProcId) → AreWithin a.units → IfWithin (Steps.loss_step a id)
 lost a id h = go (Steps.has_ended a id)
@@ -221,32 +266,44 @@ lost a id h = go (Steps.has_ended a id)
     go true = tt
     go false = left_within a.units id h
 
-aborted : (s : ScenarioValue) (a : Array) (i t n : ℕ) (what : AbortKind) → AreWithin a.units → AreWithin (Steps.abort_step s a i t n what).units
+aborted : (s : ScenarioValue) (a : Array) (i t n : ℕ) (what : AbortKind) → AreWithin a.units
+    → AreWithin (Steps.abort_step s a i t n what).units
 aborted s a i t n AbortKind.All h = dropped_within (λ p. p.initiator == i && is_of_unit p t n) a.units h
-aborted s a i t n (AbortKind.Tag tag) h = dropped_within (λ p. p.initiator == i && is_of_unit p t n && has_tag p.tag tag) a.units h
+aborted s a i t n (AbortKind.Tag tag) h =
+    dropped_within (λ p. p.initiator == i && is_of_unit p t n && has_tag p.tag tag) a.units h
 aborted s a i t n AbortKind.WholeQueue h =
     let kept : Array = Steps.without_dropped a (λ p. is_of_unit p t n) in
-    same_within kept (Steps.abort_step s a i t n AbortKind.WholeQueue) (cleared_same i (Steps.unit_processes (unit_state_at a.units t n)) kept) (dropped_within (λ p. is_of_unit p t n) a.units h)
+    same_within kept (Steps.abort_step s a i t n AbortKind.WholeQueue)
+    (cleared_same i (Steps.unit_processes (unit_state_at a.units t n)) kept)
+    (dropped_within (λ p. is_of_unit p t n) a.units h)
 aborted s a i t n AbortKind.Device h =
-    let kept : Array = record (Steps.without_dropped a (λ p. p.target == t)) { senses = Steps.kept_senses (λ r. r.target == t) a.senses; holds = Steps.kept_nexuses (λ r. r.target == t) a.holds } in
-    same_within kept (Steps.abort_step s a i t n AbortKind.Device) (attended_same s.hosts a.units (λ u. u.target == t) kept) (dropped_within (λ p. p.target == t) a.units h)
+    let kept : Array = record (Steps.without_dropped a (λ p. p.target == t)) {
+      senses = Steps.kept_senses (λ r. r.target == t) a.senses;
+      holds = Steps.kept_nexuses (λ r. r.target == t) a.holds;
+    } in
+    same_within kept (Steps.abort_step s a i t n AbortKind.Device)
+    (attended_same s.hosts a.units (λ u. u.target == t) kept) (dropped_within (λ p. p.target == t) a.units h)
 
 reset : (s : ScenarioValue) (a : Array) → AreWithin a.units → AreWithin (Steps.reset_step s a).units
 reset s a h =
     let kept : Array = record (Steps.without_dropped a (λ p. true)) { senses = []; holds = [] } in
-    same_within kept (Steps.reset_step s a) (attended_same s.hosts a.units (λ u. true) kept) (dropped_within (λ p. true) a.units h)
+    same_within kept (Steps.reset_step s a) (attended_same s.hosts a.units (λ u. true) kept)
+    (dropped_within (λ p. true) a.units h)
 
-event_within : (s : ScenarioValue) (a : Array) (event : Event) → AreWithin a.units → IfWithin (Steps.event_step s a event)
+event_within : (s : ScenarioValue) (a : Array) (event : Event) → AreWithin a.units
+    → IfWithin (Steps.event_step s a event)
 event_within s a (Event.Accept id) h = accepted a (process_of s id) h
 event_within s a (Event.Refuse id) h = refused a (process_of s id) h
 event_within s a (Event.Run id) h = run_within a (is_some (guest_at a.guests id)) (Steps.running_process a id) h
-event_within s a (Event.Fail id code) h = failed s a id (check_condition (sense_of ABORTED_COMMAND code 0x00)) (Steps.running_process a id) h
+event_within s a (Event.Fail id code) h =
+    failed s a id (check_condition (sense_of ABORTED_COMMAND code 0x00)) (Steps.running_process a id) h
 event_within s a (Event.End id status) h = ended a status (Steps.running_process a id) h
 event_within s a (Event.Lost id) h = lost a id h
 event_within s a (Event.Aborted i t n what) h = aborted s a i t n what h
 event_within s a (Event.Reset dev) h = reset s a h
 
-pub within_after : (s : ScenarioValue) (a b : Array) (event : Event) → AreWithin a.units → Steps.step s event a ≡ Some b → AreWithin b.units
+pub within_after : (s : ScenarioValue) (a b : Array) (event : Event) → AreWithin a.units → Steps.step s event a ≡ Some b
+    → AreWithin b.units
 within_after s a b event h e = go (Steps.event_step s a event) (event_within s a event h) e
   where
     no_array : (x : Array) → (let y : Option Array = None in y) ≡ Some x → ⊥
@@ -254,7 +311,8 @@ within_after s a b event h e = go (Steps.event_step s a event) (event_within s a
 
     go : (o : Option Array) → IfWithin o → Steps.settled_array_if o ≡ Some b → AreWithin b.units
     go None k z = absurd (no_array b z)
-    go (Some c) k z = subst (λ (x : Array). AreWithin x.units) (same_Some (settled_array c) b z) (settled_within c.holds c.units k)
+    go (Some c) k z =
+        subst (λ (x : Array). AreWithin x.units) (same_Some (settled_array c) b z) (settled_within c.holds c.units k)
 
 pub within_at_start : (s : ScenarioValue) → AreWithin (settled_array (starting_array s)).units
 within_at_start s = settled_within [] (starting_units s s.units) (go s.units)

@@ -14,13 +14,15 @@ use Rattle.bus_due.specs.disk_array.specs.Steps
 
 -- ---- the units
 
-pub running_own : (s : ScenarioValue) (a : Array) (id : ProcId) (p : Process) → IsSound s a → process_of s id ≡ Some p → running_process a id ≡ running_at (seat_of a p.target p.unit) id
+pub running_own : (s : ScenarioValue) (a : Array) (id : ProcId) (p : Process) → IsSound s a → process_of s id ≡ Some p
+    → running_process a id ≡ running_at (seat_of a p.target p.unit) id
 running_own s a id p h e =
     let g = guest_own s a.guests id p h.guests e in
     let u = running_unit s a.units id p h.units h.apart e in
     λ i. if is_some (g i) then g i else u i
 
--- ---- An event leaves the processes of which it is not: one that has not arrived has not arrived after it, and one at rest is at rest.
+-- ---- An event leaves the processes of which it is not: one that has not arrived has not arrived after it, and one at
+-- rest is at rest.
 
 -- ---- the process of an event
 
@@ -36,10 +38,12 @@ is_of (Event.Reset dev) other = false
 
 -- ---- what is admitted
 
-away_of : (s : ScenarioValue) (id other : ProcId) (p : Process) → process_of s id ≡ Some p → same_id id other ≡ false → same_id p.id other ≡ false
+away_of : (s : ScenarioValue) (id other : ProcId) (p : Process) → process_of s id ≡ Some p → same_id id other ≡ false
+    → same_id p.id other ≡ false
 away_of s id other p e f = ap (λ (x : ProcId). same_id x other) (id_is s id p e) ∙ f
 
-rest_admits : (s : ScenarioValue) (given : Option Reply) (over : Bool) (id other : ProcId) → same_id id other ≡ false → Admits s (IsUnanswered given over other) (IsAway other) id
+rest_admits : (s : ScenarioValue) (given : Option Reply) (over : Bool) (id other : ProcId) → same_id id other ≡ false
+    → Admits s (IsUnanswered given over other) (IsAway other) id
 rest_admits s given over id other f = record {
   waits = λ p e z. wrong (sym z ∙ away_of s id other p e f);
   comes = λ p reply e. away_of s id other p e f;
@@ -47,7 +51,8 @@ rest_admits s given over id other f = record {
   is_guest = λ r reply e h. h;
 }
 
-away_admits : (s : ScenarioValue) (id other : ProcId) → same_id id other ≡ false → Admits s (IsAway other) (IsAway other) id
+away_admits : (s : ScenarioValue) (id other : ProcId) → same_id id other ≡ false
+    → Admits s (IsAway other) (IsAway other) id
 away_admits s id other f = record {
   waits = λ p e. away_of s id other p e f;
   comes = λ p reply e. away_of s id other p e f;
@@ -55,14 +60,16 @@ away_admits s id other f = record {
   is_guest = λ r reply e h. h;
 }
 
-rest_event : (s : ScenarioValue) (given : Option Reply) (over : Bool) (event : Event) (other : ProcId) → is_of event other ≡ false → AdmitsEvent s (IsUnanswered given over other) (IsAway other) event
+rest_event : (s : ScenarioValue) (given : Option Reply) (over : Bool) (event : Event) (other : ProcId)
+    → is_of event other ≡ false → AdmitsEvent s (IsUnanswered given over other) (IsAway other) event
 rest_event s given over (Event.Accept id) other f = rest_admits s given over id other f
 rest_event s given over (Event.Refuse id) other f = rest_admits s given over id other f
 rest_event s given over (Event.Run id) other f = rest_admits s given over id other f
 rest_event s given over (Event.Fail id code) other f = rest_admits s given over id other f
 rest_event s given over _ other f = tt
 
-away_event : (s : ScenarioValue) (event : Event) (other : ProcId) → is_of event other ≡ false → AdmitsEvent s (IsAway other) (IsAway other) event
+away_event : (s : ScenarioValue) (event : Event) (other : ProcId) → is_of event other ≡ false
+    → AdmitsEvent s (IsAway other) (IsAway other) event
 away_event s (Event.Accept id) other f = away_admits s id other f
 away_event s (Event.Refuse id) other f = away_admits s id other f
 away_event s (Event.Run id) other f = away_admits s id other f
@@ -83,13 +90,16 @@ if_same : (id : ProcId) (a : Array) (x : Bool) (b : Array) → IsSameOf id a b �
 if_same id a true b h = h
 if_same id a false b h = tt
 
-replied : (id other : ProcId) (a b : Array) (reply : Reply) → same_id id other ≡ false → b.replies ≡ (id, reply) ∷ a.replies → b.ended ≡ a.ended → IsSameOf other a b
+replied : (id other : ProcId) (a b : Array) (reply : Reply) → same_id id other ≡ false
+    → b.replies ≡ (id, reply) ∷ a.replies → b.ended ≡ a.ended → IsSameOf other a b
 replied id other a b reply f e g = record {
-  reply = ap (λ (x : List (ProcId × Reply)). reply_in x other) e ∙ ap (λ (x : Bool). if x then Some reply else reply_in a.replies other) f;
+  reply = ap (λ (x : List (ProcId × Reply)). reply_in x other) e
+      ∙ ap (λ (x : Bool). if x then Some reply else reply_in a.replies other) f;
   ended = λ i. has_ended (record a { ended = g i }) other;
 }
 
-ends : (id other : ProcId) (a b : Array) → same_id id other ≡ false → b.replies ≡ a.replies → b.ended ≡ id ∷ a.ended → IsSameOf other a b
+ends : (id other : ProcId) (a b : Array) → same_id id other ≡ false → b.replies ≡ a.replies → b.ended ≡ id ∷ a.ended
+    → IsSameOf other a b
 ends id other a b f e g = record {
   reply = ap (λ (x : List (ProcId × Reply)). reply_in x other) e;
   ended = (λ i. has_ended (record a { ended = g i }) other) ∙ ap (λ (x : Bool). x || has_ended a other) f;
@@ -105,16 +115,20 @@ accepted id a (Some p) = go (unit_state_at a.units p.target p.unit)
       where
         senses : (x : Bool) → IfSame id a (if x then Some (Steps.with_guest a p None) else Steps.queue_step a p u)
         senses true = record { reply = refl; ended = refl }
-        senses false = if_same id a (nat_lt (Steps.process_count u) u.depth) (record a { units = with_unit a.units (record u { waiting = u.waiting ++ p ∷ [] }) }) (record { reply = refl; ended = refl })
+        senses false = if_same id a (nat_lt (Steps.process_count u) u.depth) (record a {
+          units = with_unit a.units (record u { waiting = u.waiting ++ p ∷ [] });
+        }) (record { reply = refl; ended = refl })
 
-refused : (s : ScenarioValue) (id other : ProcId) (a : Array) → same_id id other ≡ false → IfSame other a (Steps.refuse_step a (process_of s id))
+refused : (s : ScenarioValue) (id other : ProcId) (a : Array) → same_id id other ≡ false
+    → IfSame other a (Steps.refuse_step a (process_of s id))
 refused s id other a f = go (process_of s id) refl
   where
-    by : (p : Process) → same_id p.id other ≡ false → (u : Option UnitState) → IfSame other a (Steps.refuse_step_at a p u)
+    by : (p : Process) → same_id p.id other ≡ false
+        → (u : Option UnitState) → IfSame other a (Steps.refuse_step_at a p u)
     by p z None = tt
-    by p z (Some u) =
-        if_same other a (not (is_request_sense (command_of p.cdb)) && Steps.process_count u == u.depth) (Steps.with_listed_reply (Steps.with_guest a p (Some queue_full)) p.id queue_full)
-        (replied p.id other a (Steps.with_listed_reply (Steps.with_guest a p (Some queue_full)) p.id queue_full) queue_full z refl refl)
+    by p z (Some u) = if_same other a (not (is_request_sense (command_of p.cdb)) && Steps.process_count u == u.depth)
+        (Steps.with_listed_reply (Steps.with_guest a p (Some queue_full)) p.id queue_full) (replied p.id other a
+        (Steps.with_listed_reply (Steps.with_guest a p (Some queue_full)) p.id queue_full) queue_full z refl refl)
 
     go : (o : Option Process) → process_of s id ≡ o → IfSame other a (Steps.refuse_step a o)
     go None e = tt
@@ -129,10 +143,12 @@ pub record IsExecuted (a : Array) (p : Process) (reply : Reply) (b : Array) : Ty
   pub ended : b.ended ≡ a.ended
   pub holds : b.holds ≡ a.holds
 
-pub executed : (a : Array) (p : Process) (u : Option UnitState) → IsExecuted a p (reply_at a p u) (Steps.after_execution_at a p u)
+pub executed : (a : Array) (p : Process) (u : Option UnitState)
+    → IsExecuted a p (reply_at a p u) (Steps.after_execution_at a p u)
 executed a p u = by (execution (Steps.context_at a (nexus_of p) u) p.cdb p.sent)
   where
-    inner : (done : Execution) (x : Bool) (v : Option UnitState) → IsExecuted a p done.reply (Steps.with_reply (Steps.with_contents (Steps.without_attention a x (nexus_of p)) v done.contents) p.id done.reply)
+    inner : (done : Execution) (x : Bool) (v : Option UnitState) → IsExecuted a p done.reply (Steps.with_reply
+        (Steps.with_contents (Steps.without_attention a x (nexus_of p)) v done.contents) p.id done.reply)
     inner done true None = record { replies = refl; ended = refl; holds = refl }
     inner done false None = record { replies = refl; ended = refl; holds = refl }
     inner done true (Some w) = record { replies = refl; ended = refl; holds = refl }
@@ -141,7 +157,8 @@ executed a p u = by (execution (Steps.context_at a (nexus_of p) u) p.cdb p.sent)
     by : (done : Execution) → IsExecuted a p done.reply (Steps.after_execution a p u done)
     by done = inner done done.reported u
 
-run_same : (a : Array) (guest : Bool) (id other : ProcId) → same_id id other ≡ false → IfSame other a (Steps.run_step a guest (Steps.running_process a id))
+run_same : (a : Array) (guest : Bool) (id other : ProcId) → same_id id other ≡ false
+    → IfSame other a (Steps.run_step a guest (Steps.running_process a id))
 run_same a guest id other f = go (Steps.running_process a id) refl
   where
     go : (o : Option RunningProcess) → Steps.running_process a id ≡ o → IfSame other a (Steps.run_step a guest o)
@@ -150,30 +167,38 @@ run_same a guest id other f = go (Steps.running_process a id) refl
         let b : Array = Steps.after_execution_at a r.process (unit_state_at a.units r.process.target r.process.unit) in
         let x = executed a r.process (unit_state_at a.units r.process.target r.process.unit) in
         if_same other a (is_none r.reply && (guest || not (is_held a.holds r.process.target r.process.unit))) b
-        (replied r.process.id other a b (reply_at a r.process (unit_state_at a.units r.process.target r.process.unit)) (ap (λ (y : ProcId). same_id y other) (running_id a id r e) ∙ f) x.replies x.ended)
+        (replied r.process.id other a b (reply_at a r.process (unit_state_at a.units r.process.target r.process.unit))
+        (ap (λ (y : ProcId). same_id y other) (running_id a id r e) ∙ f) x.replies x.ended)
 
-failed : (s : ScenarioValue) (a : Array) (id other : ProcId) (reply : Reply) (o : Option RunningProcess) → same_id id other ≡ false → IfSame other a (Steps.fail_step s a id reply o)
-failed s a id other reply (Some r) f = if_same other a (is_none r.reply) (Steps.with_reply a id reply) (replied id other a (Steps.with_reply a id reply) reply f refl refl)
+failed : (s : ScenarioValue) (a : Array) (id other : ProcId) (reply : Reply) (o : Option RunningProcess)
+    → same_id id other ≡ false → IfSame other a (Steps.fail_step s a id reply o)
+failed s a id other reply (Some r) f = if_same other a (is_none r.reply) (Steps.with_reply a id reply)
+    (replied id other a (Steps.with_reply a id reply) reply f refl refl)
 failed s a id other reply None f = go (process_of s id)
   where
-    by : (p : Process) (x : Bool) → IfSame other a (if x then None else Some (Steps.with_listed_reply (Steps.with_guest a p (Some reply)) id reply))
+    by : (p : Process) (x : Bool) → IfSame other a
+        (if x then None else Some (Steps.with_listed_reply (Steps.with_guest a p (Some reply)) id reply))
     by p true = tt
-    by p false = replied id other a (Steps.with_listed_reply (Steps.with_guest a p (Some reply)) id reply) reply f refl refl
+    by p false =
+        replied id other a (Steps.with_listed_reply (Steps.with_guest a p (Some reply)) id reply) reply f refl refl
 
     go : (p : Option Process) → IfSame other a (Steps.fail_step_of_new a id reply p)
     go None = tt
     go (Some p) = by p (Steps.is_waiting a.units id || has_ended a id)
 
-pub ended : (a : Array) (id other : ProcId) (status : ℕ) → same_id id other ≡ false → IfSame other a (Steps.end_step a status (Steps.running_process a id))
+pub ended : (a : Array) (id other : ProcId) (status : ℕ) → same_id id other ≡ false
+    → IfSame other a (Steps.end_step a status (Steps.running_process a id))
 ended a id other status f = go (Steps.running_process a id) refl
   where
-    by : (r : RunningProcess) → r.process.id ≡ id → (o : Option Reply) → IfSame other a (Steps.end_step_with a r.process status o)
+    by : (r : RunningProcess) → r.process.id ≡ id
+        → (o : Option Reply) → IfSame other a (Steps.end_step_with a r.process status o)
     by r e None = tt
     by r e (Some reply) =
         let c : Array = Steps.after_status a r.process reply in
         let same = status_same a r.process reply in
         if_same other a (reply.status == status) (Steps.array_without c r.process.id)
-        (ends r.process.id other a (Steps.array_without c r.process.id) (ap (λ (y : ProcId). same_id y other) e ∙ f) same.replies (ap (λ (x : List ProcId). r.process.id ∷ x) same.ended))
+        (ends r.process.id other a (Steps.array_without c r.process.id) (ap (λ (y : ProcId). same_id y other) e ∙ f)
+        same.replies (ap (λ (x : List ProcId). r.process.id ∷ x) same.ended))
 
     go : (o : Option RunningProcess) → Steps.running_process a id ≡ o → IfSame other a (Steps.end_step a status o)
     go None e = tt
@@ -186,35 +211,51 @@ lost a id other f = go (has_ended a id)
     go true = tt
     go false = ends id other a (Steps.array_without a id) f refl refl
 
-aborted : (s : ScenarioValue) (a : Array) (i t n : ℕ) (what : AbortKind) (id : ProcId) → IsSameOf id a (Steps.abort_step s a i t n what)
+aborted : (s : ScenarioValue) (a : Array) (i t n : ℕ) (what : AbortKind) (id : ProcId)
+    → IsSameOf id a (Steps.abort_step s a i t n what)
 aborted s a i t n AbortKind.All id = record { reply = refl; ended = refl }
 aborted s a i t n (AbortKind.Tag tag) id = record { reply = refl; ended = refl }
 aborted s a i t n AbortKind.WholeQueue id =
     let kept : Array = Steps.without_dropped a (λ p. is_of_unit p t n) in
     let same = cleared_same i (Steps.unit_processes (unit_state_at a.units t n)) kept in
-    record { reply = ap (λ (x : List (ProcId × Reply)). reply_in x id) same.replies; ended = λ j. has_ended (record a { ended = same.ended j }) id }
+    record {
+      reply = ap (λ (x : List (ProcId × Reply)). reply_in x id) same.replies;
+      ended = λ j. has_ended (record a { ended = same.ended j }) id;
+    }
 aborted s a i t n AbortKind.Device id =
-    let kept : Array = record (Steps.without_dropped a (λ p. p.target == t)) { senses = Steps.kept_senses (λ r. r.target == t) a.senses; holds = Steps.kept_nexuses (λ r. r.target == t) a.holds } in
+    let kept : Array = record (Steps.without_dropped a (λ p. p.target == t)) {
+      senses = Steps.kept_senses (λ r. r.target == t) a.senses;
+      holds = Steps.kept_nexuses (λ r. r.target == t) a.holds;
+    } in
     let same = attended_same s.hosts a.units (λ u. u.target == t) kept in
-    record { reply = ap (λ (x : List (ProcId × Reply)). reply_in x id) same.replies; ended = λ j. has_ended (record a { ended = same.ended j }) id }
+    record {
+      reply = ap (λ (x : List (ProcId × Reply)). reply_in x id) same.replies;
+      ended = λ j. has_ended (record a { ended = same.ended j }) id;
+    }
 
 reset : (s : ScenarioValue) (a : Array) (id : ProcId) → IsSameOf id a (Steps.reset_step s a)
 reset s a id =
     let kept : Array = record (Steps.without_dropped a (λ p. true)) { senses = []; holds = [] } in
     let same = attended_same s.hosts a.units (λ u. true) kept in
-    record { reply = ap (λ (x : List (ProcId × Reply)). reply_in x id) same.replies; ended = λ j. has_ended (record a { ended = same.ended j }) id }
+    record {
+      reply = ap (λ (x : List (ProcId × Reply)). reply_in x id) same.replies;
+      ended = λ j. has_ended (record a { ended = same.ended j }) id;
+    }
 
-event_same : (s : ScenarioValue) (a : Array) (event : Event) (other : ProcId) → is_of event other ≡ false → IfSame other a (Steps.event_step s a event)
+event_same : (s : ScenarioValue) (a : Array) (event : Event) (other : ProcId) → is_of event other ≡ false
+    → IfSame other a (Steps.event_step s a event)
 event_same s a (Event.Accept id) other f = accepted other a (process_of s id)
 event_same s a (Event.Refuse id) other f = refused s id other a f
 event_same s a (Event.Run id) other f = run_same a (is_some (guest_at a.guests id)) id other f
-event_same s a (Event.Fail id code) other f = failed s a id other (check_condition (sense_of ABORTED_COMMAND code 0x00)) (Steps.running_process a id) f
+event_same s a (Event.Fail id code) other f =
+    failed s a id other (check_condition (sense_of ABORTED_COMMAND code 0x00)) (Steps.running_process a id) f
 event_same s a (Event.End id status) other f = ended a id other status f
 event_same s a (Event.Lost id) other f = lost a id other f
 event_same s a (Event.Aborted i t n what) other f = aborted s a i t n what other
 event_same s a (Event.Reset dev) other f = reset s a other
 
-pub same_after : (s : ScenarioValue) (a b : Array) (event : Event) (other : ProcId) → is_of event other ≡ false → Steps.step s event a ≡ Some b → IsSameOf other a b
+pub same_after : (s : ScenarioValue) (a b : Array) (event : Event) (other : ProcId) → is_of event other ≡ false
+    → Steps.step s event a ≡ Some b → IsSameOf other a b
 same_after s a b event other f e = go (Steps.event_step s a event) (event_same s a event other f) e
   where
     no_array : (x : Array) → (let y : Option Array = None in y) ≡ Some x → ⊥
@@ -222,9 +263,11 @@ same_after s a b event other f e = go (Steps.event_step s a event) (event_same s
 
     go : (o : Option Array) → IfSame other a o → Steps.settled_array_if o ≡ Some b → IsSameOf other a b
     go None k z = absurd (no_array b z)
-    go (Some c) k z = subst (λ (x : Array). IsSameOf other a x) (same_Some (settled_array c) b z) (record { reply = k.reply; ended = k.ended })
+    go (Some c) k z = subst (λ (x : Array). IsSameOf other a x) (same_Some (settled_array c) b z)
+        (record { reply = k.reply; ended = k.ended })
 
-pub rests_after : (s : ScenarioValue) (a b : Array) (event : Event) (other : ProcId) → is_of event other ≡ false → Steps.step s event a ≡ Some b → IsAtRest a other → IsAtRest b other
+pub rests_after : (s : ScenarioValue) (a b : Array) (event : Event) (other : ProcId) → is_of event other ≡ false
+    → Steps.step s event a ≡ Some b → IsAtRest a other → IsAtRest b other
 rests_after s a b event other f e h =
     let same = same_after s a b event other f e in
     let given : Option Reply = reply_in a.replies other in
@@ -233,7 +276,8 @@ rests_after s a b event other f e h =
     (subst (λ (x : Bool). Each (IsUnanswered given x other) (IsAway other) b) (sym same.ended)
     (each_after s (IsUnanswered given over other) (IsAway other) a b event (rest_event s given over event other f) h e))
 
-pub untouched_after : (s : ScenarioValue) (a b : Array) (event : Event) (other : ProcId) → is_of event other ≡ false → Steps.step s event a ≡ Some b → IsUntouched a other → IsUntouched b other
+pub untouched_after : (s : ScenarioValue) (a b : Array) (event : Event) (other : ProcId) → is_of event other ≡ false
+    → Steps.step s event a ≡ Some b → IsUntouched a other → IsUntouched b other
 untouched_after s a b event other f e h =
     let same = same_after s a b event other f e in
     record {
@@ -245,27 +289,38 @@ untouched_after s a b event other f e h =
 -- ---- the start
 
 pub untouched_at_start : (s : ScenarioValue) (id : ProcId) → IsUntouched (settled_array (starting_array s)) id
-untouched_at_start s id = record { away = each_settled (IsAway id) (IsAway id) (starting_array s) (record { units = go s.units; guests = tt }); reply = refl; open_is = refl }
+untouched_at_start s id = record {
+  away = each_settled (IsAway id) (IsAway id) (starting_array s) (record { units = go s.units; guests = tt });
+  reply = refl;
+  open_is = refl;
+}
   where
     go : (units : List UnitDef) → OnUnits (IsAway id) (starting_units s units)
     go [] = tt
     go (u ∷ units) = ((tt, tt), go units)
 
 -- Who stands nowhere is at rest.
-away_waits : (given : Option Reply) (over : Bool) (id : ProcId) (waiting : List Process) → Waits (IsAway id) waiting → Waits (IsUnanswered given over id) waiting
+away_waits : (given : Option Reply) (over : Bool) (id : ProcId) (waiting : List Process) → Waits (IsAway id) waiting
+    → Waits (IsUnanswered given over id) waiting
 away_waits given over id [] h = tt
 away_waits given over id (p ∷ waiting) h = (λ z. wrong (sym z ∙ h.0), away_waits given over id waiting h.1)
 
-away_runs : (given : Option Reply) (over : Bool) (id : ProcId) (o : Option RunningProcess) → Runs (IsAway id) o → Runs (IsUnanswered given over id) o
+away_runs : (given : Option Reply) (over : Bool) (id : ProcId) (o : Option RunningProcess) → Runs (IsAway id) o
+    → Runs (IsUnanswered given over id) o
 away_runs given over id None h = tt
 away_runs given over id (Some r) h = λ z. wrong (sym z ∙ h)
 
-pub away_units : (given : Option Reply) (over : Bool) (id : ProcId) (units : List UnitState) → OnUnits (IsAway id) units → OnUnits (IsUnanswered given over id) units
+pub away_units : (given : Option Reply) (over : Bool) (id : ProcId) (units : List UnitState) → OnUnits (IsAway id) units
+    → OnUnits (IsUnanswered given over id) units
 away_units given over id [] h = tt
-away_units given over id (u ∷ units) h = ((away_waits given over id u.waiting h.0.0, away_runs given over id u.current h.0.1), away_units given over id units h.1)
+away_units given over id (u ∷ units) h = (
+  (away_waits given over id u.waiting h.0.0, away_runs given over id u.current h.0.1),
+  away_units given over id units h.1,
+)
 
 pub away_rests : (a : Array) (id : ProcId) → Each (IsAway id) (IsAway id) a → IsAtRest a id
-away_rests a id h = record { units = away_units (reply_in a.replies id) (has_ended a id) id a.units h.units; guests = h.guests }
+away_rests a id h =
+    record { units = away_units (reply_in a.replies id) (has_ended a id) id a.units h.units; guests = h.guests }
 
 pub untouched_rests : (a : Array) (id : ProcId) → IsUntouched a id → IsAtRest a id
 untouched_rests a id h = away_rests a id h.away

@@ -15,8 +15,8 @@ use proofs.{Names.{in_reset, CalmStanding}, Common.{Impossible.{none_some}, Test
 use proofs.Common.Tests.{by_option}
 use Rattle.link_laws.specs.bus_laws.specs.Stages.{in_connection}
 
--- A connection is made for the item of its initiator, or the process that its target has ready: the caller called the device that
--- it is due to call.
+-- A connection is made for the item of its initiator, or the process that its target has ready: the caller called the
+-- device that it is due to call.
 pub record IsMadeFor (s : ScenarioValue) (k : RunState) (n : Connection) : Type 0 where
   pub selects : n.reselected ≡ false → IsAimedAt s k n
   pub reselects : n.reselected ≡ true → IsReadyFor s k n
@@ -37,21 +37,27 @@ IsCalled s p = (k : Call) (x : Calling) → call p ≡ Some k → k.calling ≡ 
 -- A call stands while SEL is true.
 pub sel_of_call : (p : List Row) (k : Call) → call p ≡ Some k → (bus p).sel ≡ true
 sel_of_call [] k e = absurd (none_some k e)
-sel_of_call (row ∷ rows) k e =
-    by_bool (bus (row ∷ rows)).sel
-    (λ f. f)
-    (λ f. absurd (none_some k (sym (ap (λ (q : Bool). if not q then None else if rises (bus rows).sel q then Some (record { caller = row.dev; at = row.time; calling = None }) else call_goes_on (call rows) (change_of rows row) row) f) ∙ e)))
+sel_of_call (row ∷ rows) k e = by_bool (bus (row ∷ rows)).sel (λ f. f) (λ f. absurd
+    (none_some k (sym (ap (λ (q : Bool). if not q then None else if rises (bus rows).sel q then Some (record {
+      caller = row.dev;
+      at = row.time;
+      calling = None;
+    }) else call_goes_on (call rows) (change_of rows row) row) f) ∙ e)))
 
 -- As SEL rises no device is called yet.
 pub fresh_call : (s : ScenarioValue) (p : List Row) (row : Row) → (bus p).sel ≡ false → IsCalled s (row ∷ p)
 fresh_call s p row off k x e f =
     let on = sel_of_call (row ∷ p) k e in
-    let new : (record { caller = row.dev; at = row.time; calling = None }) ≡ k = same_Some _ k (sym (λ i. if not (on i) then None else if rises (off i) (on i) then Some (record { caller = row.dev; at = row.time; calling = None }) else call_goes_on (call p) (change_of p row) row) ∙ e) in
+    let new : (record { caller = row.dev; at = row.time; calling = None }) ≡ k = same_Some _ k
+    (sym (λ i. if not (on i) then None
+    else if rises (off i) (on i) then Some (record { caller = row.dev; at = row.time; calling = None })
+    else call_goes_on (call p) (change_of p row) row) ∙ e) in
     absurd (none_some x (ap (λ (c : Call). c.calling) new ∙ f))
 
 -- ---- a row with which SEL stays true changes no one's wish
 
-pub link_none : (s : ScenarioValue) (p : List Row) → BusStage s p → connection p ≡ None → (run_state s p).story.link ≡ None
+pub link_none : (s : ScenarioValue) (p : List Row) → BusStage s p → connection p ≡ None
+    → (run_state s p).story.link ≡ None
 link_none s p (on_free_bus h) e = h.link
 link_none s p (in_arbitration a h) e = h.link
 link_none s p (after_arbitration c t h) e = h.link
@@ -63,7 +69,9 @@ link_none s p (after_takeover c k t0 t1 t2 t3 t4 x z f h) e = h.here.link
 link_none s p (in_reset h) e = h.link
 link_none s p (in_connection n f g h) e = absurd (none_some n (sym e ∙ f))
 
-keeps_all : (s : ScenarioValue) (p : List Row) (row : Row) → AreOfDevices p → row.dev < 8 → BusStage s p → connection p ≡ None → (bus (row ∷ p)).rst ≡ false → (bus p).sel ≡ true → (bus (row ∷ p)).sel ≡ true → KeepsAll s p (row ∷ p)
+keeps_all : (s : ScenarioValue) (p : List Row) (row : Row) → AreOfDevices p → row.dev < 8 → BusStage s p
+    → connection p ≡ None → (bus (row ∷ p)).rst ≡ false → (bus p).sel ≡ true → (bus (row ∷ p)).sel ≡ true
+    → KeepsAll s p (row ∷ p)
 keeps_all s p row dv lt h alone calm before after =
     let g : Change = change_of p row in
     let fal : falls g.before.sel g.after.sel ≡ false = falls_true (bus p).sel (bus (row ∷ p)).sel after in
@@ -80,7 +88,8 @@ keeps_all s p row dv lt h alone calm before after =
     ((λ i. rises g.own.bsy g.next.bsy && not (before i)) ∙ and_false (rises g.own.bsy g.next.bsy)) fal
 
 same_callee : (s : ScenarioValue) (p q : List Row) (c : ℕ) → KeepsAll s p q → callee_at s q c ≡ callee_at s p c
-same_callee s p q c k = λ i. if is_initiator s.hosts c then target_of s (aim_of (k.aims i) c) else initiator_if (k.wishes.ready c i)
+same_callee s p q c k =
+    λ i. if is_initiator s.hosts c then target_of s (aim_of (k.aims i) c) else initiator_if (k.wishes.ready c i)
 
 -- ---- the caller drives both IDs
 
@@ -89,14 +98,22 @@ new_by true true a x e = (same_Some a x e, refl)
 new_by true false a x e = absurd (none_some x e)
 new_by false r a x e = absurd (none_some x e)
 
-first_called : (s : ScenarioValue) (p : List Row) (row : Row) (k : Call) (x : Calling) → BusStage s p → (bus p).rst ≡ false → CalmStanding s p → IsLeast (unreset_due s p) 8 row → call p ≡ Some k → k.calling ≡ None → calling_after k.caller None (change_of p row) row ≡ Some x → IsDueCall s p k.caller x
+first_called : (s : ScenarioValue) (p : List Row) (row : Row) (k : Call) (x : Calling) → BusStage s p
+    → (bus p).rst ≡ false → CalmStanding s p → IsLeast (unreset_due s p) 8 row → call p ≡ Some k → k.calling ≡ None
+    → calling_after k.caller None (change_of p row) row ≡ Some x → IsDueCall s p k.caller x
 first_called s p row k x (on_free_bus h) calm always least e none new = absurd (none_some k (sym h.stands.call_is ∙ e))
-first_called s p row k x (in_arbitration a h) calm always least e none new = absurd (none_some k (sym h.stands.call_is ∙ e))
-first_called s p row k x (with_both_ids m c j t0 t z h) calm always least e none new = absurd (none_some _ (sym none ∙ sym (ap (λ (w : Call). w.calling) (same_Some _ k (sym h.stands.call_is ∙ e)))))
-first_called s p row k x (awaiting_answer v m c j t0 t1 t2 y h) calm always least e none new = absurd (none_some _ (sym none ∙ sym (ap (λ (w : Call). w.calling) (same_Some _ k (sym h.here.stands.call_is ∙ e)))))
-first_called s p row k x (after_withdrawal v m c j t0 t1 t2 t3 z h) calm always least e none new = absurd (none_some _ (sym none ∙ sym (ap (λ (w : Call). w.calling) (same_Some _ k (sym h.stands.call_is ∙ e)))))
-first_called s p row k x (after_answer m c j t0 t1 t2 t3 y h) calm always least e none new = absurd (none_some _ (sym none ∙ sym (ap (λ (w : Call). w.calling) (same_Some _ k (sym h.here.stands.call_is ∙ e)))))
-first_called s p row k x (after_takeover c j t0 t1 t2 t3 t4 y z f h) calm always least e none new = absurd (none_some _ (sym none ∙ sym (ap (λ (w : Call). w.calling) (same_Some _ k (sym h.here.stands.call_is ∙ e)))))
+first_called s p row k x (in_arbitration a h) calm always least e none new =
+    absurd (none_some k (sym h.stands.call_is ∙ e))
+first_called s p row k x (with_both_ids m c j t0 t z h) calm always least e none new =
+    absurd (none_some _ (sym none ∙ sym (ap (λ (w : Call). w.calling) (same_Some _ k (sym h.stands.call_is ∙ e)))))
+first_called s p row k x (awaiting_answer v m c j t0 t1 t2 y h) calm always least e none new =
+    absurd (none_some _ (sym none ∙ sym (ap (λ (w : Call). w.calling) (same_Some _ k (sym h.here.stands.call_is ∙ e)))))
+first_called s p row k x (after_withdrawal v m c j t0 t1 t2 t3 z h) calm always least e none new =
+    absurd (none_some _ (sym none ∙ sym (ap (λ (w : Call). w.calling) (same_Some _ k (sym h.stands.call_is ∙ e)))))
+first_called s p row k x (after_answer m c j t0 t1 t2 t3 y h) calm always least e none new =
+    absurd (none_some _ (sym none ∙ sym (ap (λ (w : Call). w.calling) (same_Some _ k (sym h.here.stands.call_is ∙ e)))))
+first_called s p row k x (after_takeover c j t0 t1 t2 t3 t4 y z f h) calm always least e none new =
+    absurd (none_some _ (sym none ∙ sym (ap (λ (w : Call). w.calling) (same_Some _ k (sym h.here.stands.call_is ∙ e)))))
 first_called s p row k x (in_reset h) calm always least e none new = wrong (sym h.reset ∙ calm)
 first_called s p row k x (in_connection n f g h) calm always least e none new = by_connection h
   where
@@ -106,16 +123,21 @@ first_called s p row k x (in_connection n f g h) calm always least e none new = 
 first_called s p row k x (after_arbitration c t h) calm always least e none new =
     let same : (won_call c t) ≡ k = same_Some _ k (sym h.stands.call_is ∙ e) in
     let caller : c ≡ k.caller = ap (λ (w : Call). w.caller) same in
-    let made = new_by (row.dev == k.caller) (drives_two_ids k.caller (change_of p row).next) (new_calling k.caller (change_of p row).next row.time) x new in
+    let made = new_by (row.dev == k.caller) (drives_two_ids k.caller (change_of p row).next)
+    (new_calling k.caller (change_of p row).next row.time) x new in
     let dev : row.dev ≡ c = eqb-true row.dev k.caller made.1 ∙ sym caller in
     let due : Due = record { time = row.time; kind = row.kind } in
     let w = is_there s p row.dev due least.is_due in
     let at : stage p ≡ InCalling (won_call c t) = stage_is p _ _ _ _ h.stands in
-    let is = is_calling s c w.0 (drives p c) (own_time p c) (callee_at s p c) due (sym (calls_due s p c w.0 t (drives p c) always.devices h.caller_below (ap (latency_of s) (sym dev) ∙ w.1) h.stands.connection_is at refl) ∙ ap (unreset_due s p) (sym dev) ∙ least.is_due) in
+    let is = is_calling s c w.0 (drives p c) (own_time p c) (callee_at s p c) due
+    (sym (calls_due s p c w.0 t (drives p c) always.devices h.caller_below (ap (latency_of s) (sym dev) ∙ w.1)
+    h.stands.connection_is at refl) ∙ ap (unreset_due s p) (sym dev) ∙ least.is_due) in
     let m : Bool = is_initiator s.hosts c in
-    let next : (change_of p row).next ≡ both_ids m c is.k = ap (λ (y : Kind). driven_after y (drives p row.dev)) is.kind_is in
+    let next : (change_of p row).next ≡ both_ids m c is.k = ap
+    (λ (y : Kind). driven_after y (drives p row.dev)) is.kind_is in
     let two = is_call m c is.k h.caller_below is.below is.apart in
-    let called : x.called ≡ is.k = ap (λ (y : Calling). y.called) (sym made.0) ∙ (λ i. other_id (next i) (sym caller i)) ∙ two.other in
+    let called : x.called ≡ is.k = ap (λ (y : Calling). y.called) (sym made.0)
+    ∙ (λ i. other_id (next i) (sym caller i)) ∙ two.other in
     let io : x.reselects ≡ not m = ap (λ (y : Calling). y.reselects) (sym made.0) ∙ ap (λ (l : LineSet). l.io) next in
     record {
       callee_is = ap (callee_at s p) (sym caller) ∙ is.names ∙ ap (λ (y : ℕ). Some y) (sym called);
@@ -124,21 +146,29 @@ first_called s p row k x (after_arbitration c t h) calm always least e none new 
 
 -- ---- any row
 
-due_on : (s : ScenarioValue) (p q : List Row) (c : ℕ) (x y : Calling) → KeepsAll s p q → x.called ≡ y.called → x.reselects ≡ y.reselects → IsDueCall s p c x → IsDueCall s q c y
+due_on : (s : ScenarioValue) (p q : List Row) (c : ℕ) (x y : Calling) → KeepsAll s p q → x.called ≡ y.called
+    → x.reselects ≡ y.reselects → IsDueCall s p c x → IsDueCall s q c y
 due_on s p q c x y k ec er d = record {
   callee_is = same_callee s p q c k ∙ d.callee_is ∙ ap (λ (z : ℕ). Some z) ec;
   host_is = d.host_is ∙ ap not er;
 }
 
-same_calling : (caller : ℕ) (x y : Calling) (c : Change) (row : Row) → calling_after caller (Some x) c row ≡ Some y → (x.called ≡ y.called) × (x.reselects ≡ y.reselects)
+same_calling : (caller : ℕ) (x y : Calling) (c : Change) (row : Row) → calling_after caller (Some x) c row ≡ Some y
+    → (x.called ≡ y.called) × (x.reselects ≡ y.reselects)
 same_calling caller x y c row e = go (row.dev == caller) (row.dev == x.called) e
   where
-    go : (q r : Bool) → (if q then Some (caller_goes_on x c row.time) else if r then Some (called_goes_on x c row) else Some x) ≡ Some y → (x.called ≡ y.called) × (x.reselects ≡ y.reselects)
+    go : (q r : Bool)
+        → (if q then Some (caller_goes_on x c row.time) else if r then Some (called_goes_on x c row) else Some x)
+        ≡ Some y → (x.called ≡ y.called) × (x.reselects ≡ y.reselects)
     go true r z = let w = same_Some _ y z in (ap (λ (v : Calling). v.called) w, ap (λ (v : Calling). v.reselects) w)
     go false true z = let w = same_Some _ y z in (ap (λ (v : Calling). v.called) w, ap (λ (v : Calling). v.reselects) w)
-    go false false z = let w = same_Some _ y z in (ap (λ (v : Calling). v.called) w, ap (λ (v : Calling). v.reselects) w)
+    go false false z =
+        let w = same_Some _ y z in
+        (ap (λ (v : Calling). v.called) w, ap (λ (v : Calling). v.reselects) w)
 
-pub called_on : (s : ScenarioValue) (p : List Row) (row : Row) → BusStage s p → connection p ≡ None → (bus p).rst ≡ false → (bus (row ∷ p)).rst ≡ false → CalmStanding s p → IsLeast (unreset_due s p) 8 row → IsCalled s p → IsCalled s (row ∷ p)
+pub called_on : (s : ScenarioValue) (p : List Row) (row : Row) → BusStage s p → connection p ≡ None
+    → (bus p).rst ≡ false → (bus (row ∷ p)).rst ≡ false → CalmStanding s p → IsLeast (unreset_due s p) 8 row
+    → IsCalled s p → IsCalled s (row ∷ p)
 called_on s p row h alone calm off always least was k x e f =
     by_bool (bus p).sel
     (λ before. by_call before (call p) refl)
@@ -151,36 +181,52 @@ called_on s p row h alone calm off always least was k x e f =
     on = sel_of_call q k e
 
     stands : (bus p).sel ≡ true → call_goes_on (call p) (change_of p row) row ≡ Some k
-    stands before = sym (λ i. if not (on i) then None else if rises (before i) (on i) then Some (record { caller = row.dev; at = row.time; calling = None }) else call_goes_on (call p) (change_of p row) row) ∙ e
+    stands before = sym (λ i. if not (on i) then None
+        else if rises (before i) (on i) then Some (record { caller = row.dev; at = row.time; calling = None })
+        else call_goes_on (call p) (change_of p row) row) ∙ e
 
-    by_calling : (bus p).sel ≡ true → (j : Call) → call p ≡ Some j → (record j { calling = calling_after j.caller j.calling (change_of p row) row }) ≡ k → (o : Option Calling) → j.calling ≡ o → IsDueCall s q k.caller x
+    by_calling : (bus p).sel ≡ true → (j : Call) → call p ≡ Some j
+        → (record j { calling = calling_after j.caller j.calling (change_of p row) row }) ≡ k
+        → (o : Option Calling) → j.calling ≡ o → IsDueCall s q k.caller x
     by_calling before j ej same None none =
-        let new : calling_after j.caller None (change_of p row) row ≡ Some x = sym (ap (λ (o : Option Calling). calling_after j.caller o (change_of p row) row) none) ∙ ap (λ (c : Call). c.calling) same ∙ f in
+        let new : calling_after j.caller None (change_of p row) row ≡ Some x =
+        sym (ap (λ (o : Option Calling). calling_after j.caller o (change_of p row) row) none)
+        ∙ ap (λ (c : Call). c.calling) same ∙ f in
         let all = keeps_all s p row always.devices least.inside h alone off before on in
-        subst (λ (c : ℕ). IsDueCall s q c x) (ap (λ (c : Call). c.caller) same) (due_on s p q j.caller x x all refl refl (first_called s p row j x h calm always least ej none new))
+        subst (λ (c : ℕ). IsDueCall s q c x) (ap (λ (c : Call). c.caller) same)
+        (due_on s p q j.caller x x all refl refl (first_called s p row j x h calm always least ej none new))
     by_calling before j ej same (Some y) some =
-        let goes : calling_after j.caller (Some y) (change_of p row) row ≡ Some x = sym (ap (λ (o : Option Calling). calling_after j.caller o (change_of p row) row) some) ∙ ap (λ (c : Call). c.calling) same ∙ f in
+        let goes : calling_after j.caller (Some y) (change_of p row) row ≡ Some x =
+        sym (ap (λ (o : Option Calling). calling_after j.caller o (change_of p row) row) some)
+        ∙ ap (λ (c : Call). c.calling) same ∙ f in
         let all = keeps_all s p row always.devices least.inside h alone off before on in
         let parts = same_calling j.caller y x (change_of p row) row goes in
-        subst (λ (c : ℕ). IsDueCall s q c x) (ap (λ (c : Call). c.caller) same) (due_on s p q j.caller y x all parts.0 parts.1 (was j y ej some))
+        subst (λ (c : ℕ). IsDueCall s q c x) (ap (λ (c : Call). c.caller) same)
+        (due_on s p q j.caller y x all parts.0 parts.1 (was j y ej some))
 
     by_call : (bus p).sel ≡ true → (o : Option Call) → call p ≡ o → IsDueCall s q k.caller x
-    by_call before None none = absurd (none_some k (sym (ap (λ (o : Option Call). call_goes_on o (change_of p row) row) none) ∙ stands before))
-    by_call before (Some j) some = by_calling before j some (same_Some _ k (sym (ap (λ (o : Option Call). call_goes_on o (change_of p row) row) some) ∙ stands before)) j.calling refl
+    by_call before None none =
+        absurd (none_some k (sym (ap (λ (o : Option Call). call_goes_on o (change_of p row) row) none) ∙ stands before))
+    by_call before (Some j) some = by_calling before j some (same_Some _ k
+        (sym (ap (λ (o : Option Call). call_goes_on o (change_of p row) row) some) ∙ stands before)) j.calling refl
 
 -- ---- a connection begins
 
-pub own_units : (s : ScenarioValue) (p : List Row) → HasSeats s → AreOfDevices p → AllOwnUnits s (array_of s (run_state s p)).units
-own_units s p seats dv =
-    by_option (run_state s p).array
+pub own_units : (s : ScenarioValue) (p : List Row) → HasSeats s → AreOfDevices p
+    → AllOwnUnits s (array_of s (run_state s p)).units
+own_units s p seats dv = by_option (run_state s p).array
     (λ e. subst (λ (o : Option Array). AllOwnUnits s (or_start s o).units) (sym e) (start_units s s.units))
-    (λ a e. subst (λ (o : Option Array). AllOwnUnits s (or_start s o).units) (sym e) (history_sound s (trace_history s p) a seats (sym (run_state_plain s p dv).array ∙ e)).units)
+    (λ a e. subst (λ (o : Option Array). AllOwnUnits s (or_start s o).units) (sym e)
+    (history_sound s (trace_history s p) a seats (sym (run_state_plain s p dv).array ∙ e)).units)
 
-pub by_answer : (c : ℕ) (x : Calling) (o : Option ℕ) (t : ℕ) (n : Connection) → connected_by c x o t ≡ Some n → connected c x t ≡ n
+pub by_answer : (c : ℕ) (x : Calling) (o : Option ℕ) (t : ℕ) (n : Connection) → connected_by c x o t ≡ Some n
+    → connected c x t ≡ n
 by_answer c x None t n e = absurd (none_some n e)
 by_answer c x (Some a) t n e = same_Some _ n e
 
-pub made_of : (s : ScenarioValue) (p : List Row) (c t : ℕ) (x : Calling) (n : Connection) → AreUnits s → AllOwnUnits s (array_of s (run_state s p)).units → IsDueCall s p c x → connected c x t ≡ n → IsMadeFor s (run_state s p) n
+pub made_of : (s : ScenarioValue) (p : List Row) (c t : ℕ) (x : Calling) (n : Connection) → AreUnits s
+    → AllOwnUnits s (array_of s (run_state s p)).units → IsDueCall s p c x → connected c x t ≡ n
+    → IsMadeFor s (run_state s p) n
 made_of s p c t x n u own d same = record { selects = λ z. selecting z; reselects = λ z. reselecting z }
   where
     k : RunState
@@ -189,23 +235,32 @@ made_of s p c t x n u own d same = record { selects = λ z. selecting z; reselec
     selecting : n.reselected ≡ false → IsAimedAt s k n
     selecting z =
         let r : x.reselects ≡ false = ap (λ (w : Connection). w.reselected) same ∙ z in
-        let i : n.initiator ≡ c = ap (λ (w : Connection). w.initiator) (sym same) ∙ ap (λ (q : Bool). if q then x.called else c) r in
-        let g : n.target ≡ x.called = ap (λ (w : Connection). w.target) (sym same) ∙ ap (λ (q : Bool). if q then c else x.called) r in
-        selects_for s k n (ap (is_initiator s.hosts) i ∙ d.host_is ∙ ap not r) (ap (callee_at s p) i ∙ d.callee_is ∙ ap (λ (w : ℕ). Some w) (sym g))
+        let i : n.initiator ≡ c = ap (λ (w : Connection). w.initiator) (sym same)
+        ∙ ap (λ (q : Bool). if q then x.called else c) r in
+        let g : n.target ≡ x.called = ap (λ (w : Connection). w.target) (sym same)
+        ∙ ap (λ (q : Bool). if q then c else x.called) r in
+        selects_for s k n (ap (is_initiator s.hosts) i ∙ d.host_is ∙ ap not r)
+        (ap (callee_at s p) i ∙ d.callee_is ∙ ap (λ (w : ℕ). Some w) (sym g))
 
     reselecting : n.reselected ≡ true → IsReadyFor s k n
     reselecting z =
         let r : x.reselects ≡ true = ap (λ (w : Connection). w.reselected) same ∙ z in
-        let i : n.initiator ≡ x.called = ap (λ (w : Connection). w.initiator) (sym same) ∙ ap (λ (q : Bool). if q then x.called else c) r in
-        let g : n.target ≡ c = ap (λ (w : Connection). w.target) (sym same) ∙ ap (λ (q : Bool). if q then c else x.called) r in
-        reselects_by s k n u own (ap (is_initiator s.hosts) g ∙ d.host_is ∙ ap not r) (ap (callee_at s p) g ∙ d.callee_is ∙ ap (λ (w : ℕ). Some w) (sym i))
+        let i : n.initiator ≡ x.called = ap (λ (w : Connection). w.initiator) (sym same)
+        ∙ ap (λ (q : Bool). if q then x.called else c) r in
+        let g : n.target ≡ c = ap (λ (w : Connection). w.target) (sym same)
+        ∙ ap (λ (q : Bool). if q then c else x.called) r in
+        reselects_by s k n u own (ap (is_initiator s.hosts) g ∙ d.host_is ∙ ap not r)
+        (ap (callee_at s p) g ∙ d.callee_is ∙ ap (λ (w : ℕ). Some w) (sym i))
 
-pub made_for : (s : ScenarioValue) (p : List Row) (t : ℕ) (n : Connection) → AreUnits s → HasSeats s → AreOfDevices p → IsCalled s p → connection_of (call p) t ≡ Some n → IsMadeFor s (run_state s p) n
+pub made_for : (s : ScenarioValue) (p : List Row) (t : ℕ) (n : Connection) → AreUnits s → HasSeats s → AreOfDevices p
+    → IsCalled s p → connection_of (call p) t ≡ Some n → IsMadeFor s (run_state s p) n
 made_for s p t n u seats dv was e = by_call (call p) refl e
   where
-    by_calling : (k : Call) → call p ≡ Some k → (o : Option Calling) → k.calling ≡ o → connected_of k.caller o t ≡ Some n → IsMadeFor s (run_state s p) n
+    by_calling : (k : Call) → call p ≡ Some k → (o : Option Calling) → k.calling ≡ o
+        → connected_of k.caller o t ≡ Some n → IsMadeFor s (run_state s p) n
     by_calling k ek None none z = absurd (none_some n z)
-    by_calling k ek (Some x) some z = made_of s p k.caller t x n u (own_units s p seats dv) (was k x ek some) (by_answer k.caller x x.answered t n z)
+    by_calling k ek (Some x) some z =
+        made_of s p k.caller t x n u (own_units s p seats dv) (was k x ek some) (by_answer k.caller x x.answered t n z)
 
     by_call : (o : Option Call) → call p ≡ o → connection_of o t ≡ Some n → IsMadeFor s (run_state s p) n
     by_call None none z = absurd (none_some n z)

@@ -14,19 +14,32 @@ use proofs.Lines.{Joint.{apart_connection}, Rows.{LinkRow, link_row}, Steps.{Has
 
 -- ---- what stands
 
-pub link_low : (s : ScenarioValue) (p : List Row) (n : Connection) → LinkStage s p n → begun p ≡ true → implies (bus p).atn ((bus p).io || (bus p).msg) ≡ true
+pub link_low : (s : ScenarioValue) (p : List Row) (n : Connection) → LinkStage s p n → begun p ≡ true
+    → implies (bus p).atn ((bus p).io || (bus p).msg) ≡ true
 link_low s p n (when_selected h) b = wrong (sym b ∙ h.begun_is)
-link_low s p n (when_settling bsy atn msg cd io y h) b = (λ i. implies (h.linked.stands.bus_is i).atn ((h.linked.stands.bus_is i).io || (h.linked.stands.bus_is i).msg)) ∙ h.phase.asks
-link_low s p n (when_turning atn x msg cd h) b = (λ i. implies (h.linked.stands.bus_is i).atn ((h.linked.stands.bus_is i).io || (h.linked.stands.bus_is i).msg)) ∙ h.phase.asks
-link_low s p n (when_offering atn msg cd y h) b = (λ i. implies (h.linked.stands.bus_is i).atn ((h.linked.stands.bus_is i).io || (h.linked.stands.bus_is i).msg)) ∙ h.phase.asks
-link_low s p n (when_shaking msg cd io req ack atn x y h) b = (λ i. implies (h.linked.stands.bus_is i).atn ((h.linked.stands.bus_is i).io || (h.linked.stands.bus_is i).msg)) ∙ h.phase.asks
-link_low s p n (when_pulsing io req ack atn x y h a) b = (λ i. implies (h.linked.stands.bus_is i).atn ((h.linked.stands.bus_is i).io || (h.linked.stands.bus_is i).msg)) ∙ h.phase.asks
+link_low s p n (when_settling bsy atn msg cd io y h) b =
+    (λ i. implies (h.linked.stands.bus_is i).atn ((h.linked.stands.bus_is i).io || (h.linked.stands.bus_is i).msg))
+    ∙ h.phase.asks
+link_low s p n (when_turning atn x msg cd h) b =
+    (λ i. implies (h.linked.stands.bus_is i).atn ((h.linked.stands.bus_is i).io || (h.linked.stands.bus_is i).msg))
+    ∙ h.phase.asks
+link_low s p n (when_offering atn msg cd y h) b =
+    (λ i. implies (h.linked.stands.bus_is i).atn ((h.linked.stands.bus_is i).io || (h.linked.stands.bus_is i).msg))
+    ∙ h.phase.asks
+link_low s p n (when_shaking msg cd io req ack atn x y h) b =
+    (λ i. implies (h.linked.stands.bus_is i).atn ((h.linked.stands.bus_is i).io || (h.linked.stands.bus_is i).msg))
+    ∙ h.phase.asks
+link_low s p n (when_pulsing io req ack atn x y h a) b =
+    (λ i. implies (h.linked.stands.bus_is i).atn ((h.linked.stands.bus_is i).io || (h.linked.stands.bus_is i).msg))
+    ∙ h.phase.asks
 
-pub stage_of_connection : (s : ScenarioValue) (p : List Row) (n : Connection) → Stood s p → connection p ≡ Some n → (bus p).rst ≡ false → LinkStage s p n
+pub stage_of_connection : (s : ScenarioValue) (p : List Row) (n : Connection) → Stood s p → connection p ≡ Some n
+    → (bus p).rst ≡ false → LinkStage s p n
 stage_of_connection s p n was con calm = go was.here
   where
     go : AnyStage s p → LinkStage s p n
-    go (linked m h) = subst (λ (x : Connection). LinkStage s p x) (same_Some m n (sym (link_connection s p m h) ∙ con)) h
+    go (linked m h) =
+        subst (λ (x : Connection). LinkStage s p x) (same_Some m n (sym (link_connection s p m h) ∙ con)) h
     go (apart h alone) = wrong (sym (λ i. is_some (con i) && not (calm i)) ∙ alone)
 
 -- ---- a row of the connection
@@ -36,7 +49,8 @@ pub record ConnectionRow (s : ScenarioValue) (p : List Row) (row : Row) (n : Con
   pub link : LinkRow s p n row
   pub facts : RowFacts s p row n
 
-pub connection_row : (s : ScenarioValue) (p : List Row) (row : Row) (n : Connection) → Obeys s → IsPrompt s (row ∷ p) → Stood s p → connection p ≡ Some n → (bus p).rst ≡ false → (bus (row ∷ p)).rst ≡ false → ConnectionRow s p row n
+pub connection_row : (s : ScenarioValue) (p : List Row) (row : Row) (n : Connection) → Obeys s → IsPrompt s (row ∷ p)
+    → Stood s p → connection p ≡ Some n → (bus p).rst ≡ false → (bus (row ∷ p)).rst ≡ false → ConnectionRow s p row n
 connection_row s p row n o prompt was con calm off = elim (reset_or_calm s p row was.standing calm m) [
   | by_reset z ↦ wrong (sym (rst_on z) ∙ off)
   | by_calm always least ↦ rows least
@@ -52,7 +66,9 @@ connection_row s p row n o prompt was con calm off = elim (reset_or_calm s p row
     dv = was.standing.devices
 
     rst_on : row ≡ row_of_lines row.time row.dev only_rst → (bus (row ∷ p)).rst ≡ true
-    rst_on z = bus_on (λ y. y.rst) (λ _ _. refl) (row ∷ p) row.dev m.inside (ap (λ (w : Row). (drives (w ∷ p) row.dev).rst) z ∙ ap (λ (l : LineSet). l.rst) (drives_own p row.time row.dev only_rst))
+    rst_on z =
+        bus_on (λ y. y.rst) (λ _ _. refl) (row ∷ p) row.dev m.inside (ap (λ (w : Row). (drives (w ∷ p) row.dev).rst) z
+        ∙ ap (λ (l : LineSet). l.rst) (drives_own p row.time row.dev only_rst))
 
     values : HasValues s p n
     values = values_of s p n (commands_are s o) dv (byte_values s p n o (seats_are s (obeys_fits s o)) dv)
@@ -74,20 +90,34 @@ pub record IsGoing (s : ScenarioValue) (k : RunState) (row : Row) (n : Connectio
   pub change : Change
   pub goes : GoesOn s k row n change
 
-pub going : (s : ScenarioValue) (k : RunState) (row : Row) (n : Connection) → k.story.bus_state.connection ≡ Some n → (row_reading k.story.bus_state row).next ≡ Some n → (row_reading k.story.bus_state row).change.after.rst ≡ false → RowOf s k row → IsGoing s k row n
+pub going : (s : ScenarioValue) (k : RunState) (row : Row) (n : Connection) → k.story.bus_state.connection ≡ Some n
+    → (row_reading k.story.bus_state row).next ≡ Some n → (row_reading k.story.bus_state row).change.after.rst ≡ false
+    → RowOf s k row → IsGoing s k row n
 going s k row n con next calm (row_apart e f) = absurd (none_some n (sym e ∙ con))
 going s k row n con next calm (begins m b) = absurd (none_some n (sym b.first.connection_is ∙ con))
-going s k row n con next calm (row_goes_on m c g) = record { change = c; goes = subst (λ (x : Connection). GoesOn s k row x c) (same_Some m n (sym g.row_is.connection_is ∙ con)) g }
+going s k row n con next calm (row_goes_on m c g) = record {
+  change = c;
+  goes = subst (λ (x : Connection). GoesOn s k row x c) (same_Some m n (sym g.row_is.connection_is ∙ con)) g;
+}
 going s k row n con next calm (row_ends m g) = absurd (none_some n (sym g.next_is ∙ next))
 going s k row n con next calm (under_reset r e) = wrong (sym r ∙ calm)
 
-pub going_row : (s : ScenarioValue) (p : List Row) (row : Row) (n : Connection) → AreOfDevices p → row.dev < 8 → connection p ≡ Some n → connection (row ∷ p) ≡ Some n → (bus (row ∷ p)).rst ≡ false → RowOf s (run_state s p) row → RowFacts s p row n → GoingRow s p row n
+pub going_row : (s : ScenarioValue) (p : List Row) (row : Row) (n : Connection) → AreOfDevices p → row.dev < 8
+    → connection p ≡ Some n → connection (row ∷ p) ≡ Some n → (bus (row ∷ p)).rst ≡ false → RowOf s (run_state s p) row
+    → RowFacts s p row n → GoingRow s p row n
 going_row s p row n dv lt con after calm of (stays f) =
     let k = run_state s p in
     let pl = run_state_plain s p dv in
     let c = change_plain s row p dv lt in
-    let g = going s k row n (pl.connection ∙ con) ((λ i. connection_after (pl.connection i) (pl.call i) (c i) row) ∙ after) (ap (λ (x : Change). x.after.rst) c ∙ calm) of in
-    record { change = g.change; change_is = sym g.goes.row_is.change_is ∙ c; goes = g.goes; lines = f; lines_are = sym f.row_is.change_is ∙ g.goes.row_is.change_is }
+    let g = going s k row n (pl.connection ∙ con) ((λ i. connection_after (pl.connection i) (pl.call i) (c i) row)
+    ∙ after) (ap (λ (x : Change). x.after.rst) c ∙ calm) of in
+    record {
+      change = g.change;
+      change_is = sym g.goes.row_is.change_is ∙ c;
+      goes = g.goes;
+      lines = f;
+      lines_are = sym f.row_is.change_is ∙ g.goes.row_is.change_is;
+    }
 going_row s p row n dv lt con after calm of (ends_here f) = absurd (none_some n (sym f.stopped ∙ after))
 
 -- ---- the first row of a connection
@@ -97,7 +127,8 @@ pub data RowKindOf (s : ScenarioValue) (p : List Row) (row : Row) (n : Connectio
   goes_now : connection p ≡ Some n → (bus p).rst ≡ false → RowKindOf s p row n
 
 -- After a row a connection stands: it begins with it, or goes on.
-pub row_kind : (s : ScenarioValue) (p : List Row) (row : Row) (n : Connection) → Obeys s → IsPrompt s (row ∷ p) → Stood s p → connection (row ∷ p) ≡ Some n → (bus (row ∷ p)).rst ≡ false → RowKindOf s p row n
+pub row_kind : (s : ScenarioValue) (p : List Row) (row : Row) (n : Connection) → Obeys s → IsPrompt s (row ∷ p)
+    → Stood s p → connection (row ∷ p) ≡ Some n → (bus (row ∷ p)).rst ≡ false → RowKindOf s p row n
 row_kind s p row n o prompt was after calm = go was.here
   where
     m : IsLeast (due s p) 8 row
@@ -110,7 +141,8 @@ row_kind s p row n o prompt was after calm = go was.here
     go : AnyStage s p → RowKindOf s p row n
     go (linked x h) =
         let con = link_connection s p x h in
-        let is = same x (bus (row ∷ p)).bsy (sym (λ i. connection_after (con i) (call p) (change_of p row) row) ∙ after) in
+        let is = same x (bus (row ∷ p)).bsy
+        (sym (λ i. connection_after (con i) (call p) (change_of p row) row) ∙ after) in
         goes_now (con ∙ ap (λ (y : Connection). Some y) is) (link_calm s p x h)
     go (apart h alone) =
         let g = from_stage s p row (obeys_latencies s o) was.standing h alone m in

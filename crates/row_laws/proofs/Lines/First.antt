@@ -21,15 +21,18 @@ pub record Made (p : List Row) (row : Row) (n : Connection) : Type 0 where
   pub made : connection_of (call p) row.time ≡ Some n
   pub sel : falls (bus p).sel (bus (row ∷ p)).sel ≡ true
 
-made_by : (q r s : Bool) (o : Option Connection) (n : Connection) → (if q && r && s then o else None) ≡ Some n → (o ≡ Some n) × (q ≡ true)
+made_by : (q r s : Bool) (o : Option Connection) (n : Connection) → (if q && r && s then o else None) ≡ Some n
+    → (o ≡ Some n) × (q ≡ true)
 made_by true true true o n e = (e, refl)
 made_by true true false o n e = absurd (none_some n e)
 made_by true false s o n e = absurd (none_some n e)
 made_by false r s o n e = absurd (none_some n e)
 
-pub made_is : (p : List Row) (row : Row) (n : Connection) → connection p ≡ None → connection (row ∷ p) ≡ Some n → Made p row n
+pub made_is : (p : List Row) (row : Row) (n : Connection) → connection p ≡ None → connection (row ∷ p) ≡ Some n
+    → Made p row n
 made_is p row n alone e =
-    let w = made_by (falls (bus p).sel (bus (row ∷ p)).sel) (bus (row ∷ p)).bsy (not (bus (row ∷ p)).rst) (connection_of (call p) row.time) n (sym (λ i. connection_after (alone i) (call p) (change_of p row) row) ∙ e) in
+    let w = made_by (falls (bus p).sel (bus (row ∷ p)).sel) (bus (row ∷ p)).bsy (not (bus (row ∷ p)).rst)
+    (connection_of (call p) row.time) n (sym (λ i. connection_after (alone i) (call p) (change_of p row) row) ∙ e) in
     record { made = w.0; sel = w.1 }
 
 -- The row is of lines.
@@ -38,7 +41,8 @@ of_lines p row n m = go row.kind refl
   where
     go : (k : Kind) → row.kind ≡ k → is_fault row.kind ≡ false
     go (Drives l) e = ap is_fault e
-    go (Fault bit) e = wrong' (sym (no_fall (bus p).sel) ∙ (λ i. falls (bus p).sel (sym (bus-fault row p bit e) i).sel) ∙ m.sel)
+    go (Fault bit) e =
+        wrong' (sym (no_fall (bus p).sel) ∙ (λ i. falls (bus p).sel (sym (bus-fault row p bit e) i).sel) ∙ m.sel)
 
 -- ---- REQ has not risen
 
@@ -55,55 +59,78 @@ requests_none (row ∷ rows) e = go (λ z. requests_none rows z) row.kind refl
 
     before : (bit : ℕ) → row.kind ≡ Fault bit → (o : Option Connection) → connection rows ≡ o → connection rows ≡ None
     before bit f None g = g
-    before bit f (Some m) g = bsy_stands rows (ap (λ (l : LineSet). l.bsy) (sym (bus-fault row rows bit f)) ∙ down (bus (row ∷ rows)).bsy refl (sym (λ i. connection_after (g i) (call rows) (change_of rows row) row) ∙ e))
+    before bit f (Some m) g = bsy_stands rows (ap (λ (l : LineSet). l.bsy) (sym (bus-fault row rows bit f))
+        ∙ down (bus (row ∷ rows)).bsy refl (sym (λ i. connection_after (g i) (call rows) (change_of rows row) row) ∙ e))
       where
-        down : (q : Bool) → (bus (row ∷ rows)).bsy ≡ q → (if (bus (row ∷ rows)).bsy then Some m else None) ≡ None → (bus (row ∷ rows)).bsy ≡ false
+        down : (q : Bool) → (bus (row ∷ rows)).bsy ≡ q → (if (bus (row ∷ rows)).bsy then Some m else None) ≡ None
+            → (bus (row ∷ rows)).bsy ≡ false
         down true h z = absurd (none_some m (sym z ∙ ap (λ (r : Bool). if r then Some m else None) h))
         down false h z = h
 
-    go : (connection rows ≡ None → (handshakes rows).requests ≡ 0) → (k : Kind) → row.kind ≡ k → (handshakes (row ∷ rows)).requests ≡ 0
+    go : (connection rows ≡ None → (handshakes rows).requests ≡ 0) → (k : Kind) → row.kind ≡ k
+        → (handshakes (row ∷ rows)).requests ≡ 0
     go less (Drives l) f = lines (ap is_fault f)
-    go less (Fault bit) f = ap (λ (q : Bool). (handshakes_after q (connection (row ∷ rows)) (change_of rows row) row.time (handshakes rows)).requests) (ap is_fault f) ∙ struck (change_of rows row).before.io ∙ less (before bit f (connection rows) refl)
+    go less (Fault bit) f = ap (λ (q : Bool).
+        (handshakes_after q (connection (row ∷ rows)) (change_of rows row) row.time (handshakes rows)).requests)
+        (ap is_fault f) ∙ struck (change_of rows row).before.io ∙ less (before bit f (connection rows) refl)
 
 -- ---- what stands after it
 
-pub begins_now : (s : ScenarioValue) (q : List Row) (n : Connection) → BusStage s q → connection q ≡ Some n → (bus q).rst ≡ false → BeginsConnection q n
+pub begins_now : (s : ScenarioValue) (q : List Row) (n : Connection) → BusStage s q → connection q ≡ Some n
+    → (bus q).rst ≡ false → BeginsConnection q n
 begins_now s q n (on_free_bus h) e calm = absurd (none_some n (sym h.stands.connection_is ∙ e))
 begins_now s q n (in_arbitration a h) e calm = absurd (none_some n (sym h.stands.connection_is ∙ e))
 begins_now s q n (after_arbitration c t h) e calm = absurd (none_some n (sym h.stands.connection_is ∙ e))
 begins_now s q n (with_both_ids m c k t0 t z h) e calm = absurd (none_some n (sym h.stands.connection_is ∙ e))
-begins_now s q n (awaiting_answer v m c k t0 t1 t2 x h) e calm = absurd (none_some n (sym h.here.stands.connection_is ∙ e))
-begins_now s q n (after_withdrawal v m c k t0 t1 t2 t3 z h) e calm = absurd (none_some n (sym h.stands.connection_is ∙ e))
-begins_now s q n (after_answer m c k t0 t1 t2 t3 x h) e calm = absurd (none_some n (sym h.here.stands.connection_is ∙ e))
-begins_now s q n (after_takeover c k t0 t1 t2 t3 t4 x z f h) e calm = absurd (none_some n (sym h.here.stands.connection_is ∙ e))
+begins_now s q n (awaiting_answer v m c k t0 t1 t2 x h) e calm =
+    absurd (none_some n (sym h.here.stands.connection_is ∙ e))
+begins_now s q n (after_withdrawal v m c k t0 t1 t2 t3 z h) e calm =
+    absurd (none_some n (sym h.stands.connection_is ∙ e))
+begins_now s q n (after_answer m c k t0 t1 t2 t3 x h) e calm =
+    absurd (none_some n (sym h.here.stands.connection_is ∙ e))
+begins_now s q n (after_takeover c k t0 t1 t2 t3 t4 x z f h) e calm =
+    absurd (none_some n (sym h.here.stands.connection_is ∙ e))
 begins_now s q n (in_reset h) e calm = wrong (sym h.reset ∙ calm)
-begins_now s q n (in_connection m f g h) e calm = subst (λ (x : Connection). BeginsConnection q x) (same_Some m n (sym f ∙ e)) h
+begins_now s q n (in_connection m f g h) e calm =
+    subst (λ (x : Connection). BeginsConnection q x) (same_Some m n (sym f ∙ e)) h
 
 -- A phase has begun with it in a reselection.
-pub begun_first : (p : List Row) (row : Row) (n : Connection) → connection p ≡ None → connection (row ∷ p) ≡ Some n → begun (row ∷ p) ≡ n.reselected
+pub begun_first : (p : List Row) (row : Row) (n : Connection) → connection p ≡ None → connection (row ∷ p) ≡ Some n
+    → begun (row ∷ p) ≡ n.reselected
 begun_first p row n alone e = λ i. begun_after (begun p) (alone i) (e i) (change_of p row)
 
 -- ---- in a reselection the target drives the first byte of IDENTIFY
 
 abbrev DrivesName : ScenarioValue → List Row → Row → Connection → Type 0
-DrivesName s p row n = (drives (row ∷ p) n.target).data_bits ≡ byte_bits (identify_byte (ready_of s (run_state s p) n.target))
+DrivesName s p row n =
+    (drives (row ∷ p) n.target).data_bits ≡ byte_bits (identify_byte (ready_of s (run_state s p) n.target))
 
 -- The row of the caller.
-caller_row : (s : ScenarioValue) (p : List Row) (g : Calling) (c t0 t3 : ℕ) (own other b : LineSet) (row : Row) → CalmStanding s p → Calls s p (call_with c t0 g) c g.called own other b → stage p ≡ InAnswer (call_with c t0 g) g t3 → IsLeast (unreset_due s p) 8 row → row.dev ≡ c
-    → (lat : ℕ) × (answered_due (device_with c lat own (own_time p c)) (want_at s p c) g t3 ≡ Some (record { time = row.time; kind = row.kind }))
+caller_row : (s : ScenarioValue) (p : List Row) (g : Calling) (c t0 t3 : ℕ) (own other b : LineSet) (row : Row)
+    → CalmStanding s p → Calls s p (call_with c t0 g) c g.called own other b
+    → stage p ≡ InAnswer (call_with c t0 g) g t3 → IsLeast (unreset_due s p) 8 row → row.dev ≡ c
+    → (lat : ℕ) × (answered_due (device_with c lat own (own_time p c)) (want_at s p c) g t3
+    ≡ Some (record { time = row.time; kind = row.kind }))
 caller_row s p g c t0 t3 own other b row always h was least same =
     let x : Due = record { time = row.time; kind = row.kind } in
-    let w = is_there s p row.dev x least.is_due in
-    (w.0, sym (goes_on_due s p g c t0 t3 w.0 own always.devices h.caller_below (ap (latency_of s) (sym same) ∙ w.1) h.stands.connection_is was h.caller) ∙ ap (unreset_due s p) (sym same) ∙ least.is_due)
+    let w = is_there s p row.dev x least.is_due in (
+      w.0,
+      sym (goes_on_due s p g c t0 t3 w.0 own always.devices h.caller_below
+          (ap (latency_of s) (sym same) ∙ w.1) h.stands.connection_is was h.caller)
+          ∙ ap (unreset_due s p) (sym same) ∙ least.is_due,
+    )
 
 lines_at : (p : List Row) (row : Row) (c : ℕ) (l : LineSet) → row.dev ≡ c → row.kind ≡ Drives l → drives (row ∷ p) c ≡ l
 lines_at p row c l same kind =
     let r : row ≡ row_of_lines row.time c l = λ i. record { time = row.time; dev = same i; kind = kind i } in
     ap (λ (w : Row). drives (w ∷ p) c) r ∙ drives_own p row.time c l
 
-after_answered : (s : ScenarioValue) (p : List Row) (m : Bool) (c k t0 t1 t2 t3 x : ℕ) (row : Row) (n : Connection) → CalmStanding s p → IsAnswered s p (answered_calling m k t1 t2 t3) c k t0 m false x → IsLeast (unreset_due s p) 8 row → Made p row n → n.reselected ≡ true → DrivesName s p row n
+after_answered : (s : ScenarioValue) (p : List Row) (m : Bool) (c k t0 t1 t2 t3 x : ℕ) (row : Row) (n : Connection)
+    → CalmStanding s p → IsAnswered s p (answered_calling m k t1 t2 t3) c k t0 m false x
+    → IsLeast (unreset_due s p) 8 row → Made p row n → n.reselected ≡ true → DrivesName s p row n
 after_answered s p true c k t0 t1 t2 t3 x row n always a least made re =
-    let same : connected c (answered_calling true k t1 t2 t3) row.time ≡ n = same_Some _ n (sym (ap (λ (w : Option Call). connection_of w row.time) a.here.stands.call_is) ∙ made.made) in
+    let same : connected c (answered_calling true k t1 t2 t3) row.time ≡ n = same_Some _ n
+    (sym (ap (λ (w : Option Call). connection_of w row.time) a.here.stands.call_is) ∙ made.made) in
     wrong' (ap (λ (w : Connection). w.reselected) same ∙ re)
 after_answered s p false c k t0 t1 t2 t3 x row n always a least made re =
     let h = a.here in
@@ -111,44 +138,64 @@ after_answered s p false c k t0 t1 t2 t3 x row n always a least made re =
     let was : stage p ≡ InAnswer (call_with c t0 g) g t3 = stage_is p _ _ _ _ h.stands in
     elim (cases_eq row.dev c) [
       | inl same ↦
-          let w = caller_row s p g c t0 t3 (calling_lines false false x) answer_lines (calling_lines false true x) row always h was least same in
+          let w = caller_row s p g c t0 t3 (calling_lines false false x) answer_lines
+          (calling_lines false true x) row always h was least same in
           let z = is_at (t3 + w.0) (calling_lines false true x) (record { time = row.time; kind = row.kind }) w.1 in
           let own = lines_at p row c (calling_lines false true x) same z.kind_is in
-          let sel : (bus (row ∷ p)).sel ≡ true = bus_on (λ y. y.sel) (λ _ _. refl) (row ∷ p) c h.caller_below (ap (λ (l : LineSet). l.sel) own) in
+          let sel : (bus (row ∷ p)).sel ≡ true = bus_on (λ y. y.sel) (λ _ _. refl)
+          (row ∷ p) c h.caller_below (ap (λ (l : LineSet). l.sel) own) in
           wrong' (sym (falls_true (bus p).sel (bus (row ∷ p)).sel sel) ∙ made.sel)
-      | inr nc ↦ absurd (only_caller_acts s p g c t0 t3 (calling_lines false false x) answer_lines (calling_lines false true x) row always h was least nc)
+      | inr nc ↦ absurd (only_caller_acts s p g c t0 t3 (calling_lines false false x) answer_lines
+          (calling_lines false true x) row always h was least nc)
     ]
 
-after_resumed : (s : ScenarioValue) (p : List Row) (c k t0 t1 t2 t3 t4 x : ℕ) (row : Row) (n : Connection) → CalmStanding s p → IsAnswered s p (resumed_calling k t1 t2 t3 t4) c k t0 false true x → IsLeast (unreset_due s p) 8 row → Made p row n → DrivesName s p row n
+after_resumed : (s : ScenarioValue) (p : List Row) (c k t0 t1 t2 t3 t4 x : ℕ) (row : Row) (n : Connection)
+    → CalmStanding s p → IsAnswered s p (resumed_calling k t1 t2 t3 t4) c k t0 false true x
+    → IsLeast (unreset_due s p) 8 row → Made p row n → DrivesName s p row n
 after_resumed s p c k t0 t1 t2 t3 t4 x row n always a least made =
     let h = a.here in
     let g : Calling = resumed_calling k t1 t2 t3 t4 in
     let was : stage p ≡ InAnswer (call_with c t0 g) g t3 = stage_is p _ _ _ _ h.stands in
-    let same : connected c g row.time ≡ n = same_Some _ n (sym (ap (λ (w : Option Call). connection_of w row.time) h.stands.call_is) ∙ made.made) in
+    let same : connected c g row.time ≡ n = same_Some _ n
+    (sym (ap (λ (w : Option Call). connection_of w row.time) h.stands.call_is) ∙ made.made) in
     elim (cases_eq row.dev c) [
       | inl here ↦
-          let w = caller_row s p g c t0 t3 (calling_lines false true x) answer_lines (calling_lines false true x) row always h was least here in
+          let w = caller_row s p g c t0 t3 (calling_lines false true x) answer_lines
+          (calling_lines false true x) row always h was least here in
           let first : ℕ = identify_byte (ready_of s (run_state s p) c) in
           let l : LineSet = record (byte_set first) { bsy = true; msg = true; cd = true; io = true } in
           let z = is_at (own_time p c + 90 + w.0) l (record { time = row.time; kind = row.kind }) w.1 in
           let own = lines_at p row c l here z.kind_is in
           subst (λ (m : Connection). DrivesName s p row m) same (ap (λ (y : LineSet). y.data_bits) own)
-      | inr nc ↦ absurd (only_caller_acts s p g c t0 t3 (calling_lines false true x) answer_lines (calling_lines false true x) row always h was least nc)
+      | inr nc ↦ absurd (only_caller_acts s p g c t0 t3 (calling_lines false true x) answer_lines
+          (calling_lines false true x) row always h was least nc)
     ]
 
 -- Without an answer no connection begins.
-unmade : {A : Type 0} (p : List Row) (row : Row) (n : Connection) (o : Option Call) → call p ≡ o → connection_of o row.time ≡ None → Made p row n → A
-unmade p row n o e none made = absurd (none_some n (sym none ∙ ap (λ (w : Option Call). connection_of w row.time) (sym e) ∙ made.made))
+unmade : {A : Type 0} (p : List Row) (row : Row) (n : Connection) (o : Option Call) → call p ≡ o
+    → connection_of o row.time ≡ None → Made p row n → A
+unmade p row n o e none made =
+    absurd (none_some n (sym none ∙ ap (λ (w : Option Call). connection_of w row.time) (sym e) ∙ made.made))
 
-drives_name : (s : ScenarioValue) (p : List Row) (row : Row) (n : Connection) → Standing s p → BusStage s p → connection p ≡ None → CalmStanding s p → IsLeast (unreset_due s p) 8 row → Made p row n → (bus p).rst ≡ false → n.reselected ≡ true → DrivesName s p row n
-drives_name s p row n st (on_free_bus h) alone always least made calm re = unmade p row n None h.stands.call_is refl made
-drives_name s p row n st (in_arbitration a h) alone always least made calm re = unmade p row n None h.stands.call_is refl made
-drives_name s p row n st (after_arbitration c t h) alone always least made calm re = unmade p row n _ h.stands.call_is refl made
-drives_name s p row n st (with_both_ids m c k t0 t z h) alone always least made calm re = unmade p row n _ h.stands.call_is refl made
-drives_name s p row n st (awaiting_answer v m c k t0 t1 t2 x h) alone always least made calm re = unmade p row n _ h.here.stands.call_is refl made
-drives_name s p row n st (after_withdrawal v m c k t0 t1 t2 t3 z h) alone always least made calm re = unmade p row n _ h.stands.call_is refl made
-drives_name s p row n st (after_answer m c k t0 t1 t2 t3 x h) alone always least made calm re = after_answered s p m c k t0 t1 t2 t3 x row n always h least made re
-drives_name s p row n st (after_takeover c k t0 t1 t2 t3 t4 x z f h) alone always least made calm re = after_resumed s p c k t0 t1 t2 t3 t4 x row n always h least made
+drives_name : (s : ScenarioValue) (p : List Row) (row : Row) (n : Connection) → Standing s p → BusStage s p
+    → connection p ≡ None → CalmStanding s p → IsLeast (unreset_due s p) 8 row → Made p row n → (bus p).rst ≡ false
+    → n.reselected ≡ true → DrivesName s p row n
+drives_name s p row n st (on_free_bus h) alone always least made calm re =
+    unmade p row n None h.stands.call_is refl made
+drives_name s p row n st (in_arbitration a h) alone always least made calm re =
+    unmade p row n None h.stands.call_is refl made
+drives_name s p row n st (after_arbitration c t h) alone always least made calm re =
+    unmade p row n _ h.stands.call_is refl made
+drives_name s p row n st (with_both_ids m c k t0 t z h) alone always least made calm re =
+    unmade p row n _ h.stands.call_is refl made
+drives_name s p row n st (awaiting_answer v m c k t0 t1 t2 x h) alone always least made calm re =
+    unmade p row n _ h.here.stands.call_is refl made
+drives_name s p row n st (after_withdrawal v m c k t0 t1 t2 t3 z h) alone always least made calm re =
+    unmade p row n _ h.stands.call_is refl made
+drives_name s p row n st (after_answer m c k t0 t1 t2 t3 x h) alone always least made calm re =
+    after_answered s p m c k t0 t1 t2 t3 x row n always h least made re
+drives_name s p row n st (after_takeover c k t0 t1 t2 t3 t4 x z f h) alone always least made calm re =
+    after_resumed s p c k t0 t1 t2 t3 t4 x row n always h least made
 drives_name s p row n st (in_reset h) alone always least made calm re = wrong (sym h.reset ∙ calm)
 drives_name s p row n st (in_connection m f g h) alone always least made calm re = absurd (none_some m (sym alone ∙ f))
 
@@ -181,7 +228,9 @@ pub record IsFirst (s : ScenarioValue) (p : List Row) (row : Row) (n : Connectio
   pub none_asked : (handshakes p).requests ≡ 0
   pub name : n.reselected ≡ true → DrivesName s p row n
 
-pub is_first : (s : ScenarioValue) (p : List Row) (row : Row) (n : Connection) → Standing s p → BusStage s p → connection p ≡ None → (bus (row ∷ p)).rst ≡ false → connection (row ∷ p) ≡ Some n → IsLeast (due s p) 8 row → NextRow s p row → IsFirst s p row n
+pub is_first : (s : ScenarioValue) (p : List Row) (row : Row) (n : Connection) → Standing s p → BusStage s p
+    → connection p ≡ None → (bus (row ∷ p)).rst ≡ false → connection (row ∷ p) ≡ Some n → IsLeast (due s p) 8 row
+    → NextRow s p row → IsFirst s p row n
 is_first s p row n st here alone calm e m g =
     let made = made_is p row n alone e in
     record {
@@ -200,8 +249,11 @@ is_first s p row n st here alone calm e m g =
         ]
       where
         rst_on : row ≡ row_of_lines row.time row.dev only_rst → (bus (row ∷ p)).rst ≡ true
-        rst_on z = bus_on (λ y. y.rst) (λ _ _. refl) (row ∷ p) row.dev m.inside (ap (λ (w : Row). (drives (w ∷ p) row.dev).rst) z ∙ ap (λ (l : LineSet). l.rst) (drives_own p row.time row.dev only_rst))
+        rst_on z = bus_on (λ y. y.rst) (λ _ _. refl) (row ∷ p) row.dev m.inside
+            (ap (λ (w : Row). (drives (w ∷ p) row.dev).rst) z
+            ∙ ap (λ (l : LineSet). l.rst) (drives_own p row.time row.dev only_rst))
     go true f made re h =
         let u = under_rst s p h f in
-        let off = quiet_sel (bus p) (same_set-eq (union only_rst (bus p)) only_rst (quiet_at_end s p row m.inside g.obeys u calm)) in
+        let off = quiet_sel (bus p)
+        (same_set-eq (union only_rst (bus p)) only_rst (quiet_at_end s p row m.inside g.obeys u calm)) in
         wrong' (sym ((λ i. falls (off i) (bus (row ∷ p)).sel)) ∙ made.sel)

@@ -16,7 +16,8 @@ again (ways.disconnects _ _ m _ _) = elim m [ ]
 again _ = refl
 
 -- MESSAGE IN is not left for MESSAGE IN.
-pub not_again : (v : Serving) (attention : Bool) → is_to_message_in (phase_leaving v attention Phase.MessageIn).to ≡ false
+pub not_again : (v : Serving) (attention : Bool)
+    → is_to_message_in (phase_leaving v attention Phase.MessageIn).to ≡ false
 not_again v attention = again (ways.leaves v attention Phase.MessageIn)
 
 short : {v : Serving} {attention : Bool} {phase : Phase} {l : Leaving} → ways.Leaves v attention phase l
@@ -34,6 +35,8 @@ short (ways.disconnects _ _ _ _ _) h e = refl
 short (ways.completes _) h e = refl
 short _ h e = wrong' e
 
-pub leaves_short : (v : Serving) (attention : Bool) (phase : Phase) → (phase ≡ Phase.MessageOut → is_detected v.plan.cause ≡ true)
-    → is_to_message_in (phase_leaving v attention phase).to ≡ true → is_short (phase_leaving v attention phase).messages.first ≡ true
+pub leaves_short : (v : Serving) (attention : Bool) (phase : Phase)
+    → (phase ≡ Phase.MessageOut → is_detected v.plan.cause ≡ true)
+    → is_to_message_in (phase_leaving v attention phase).to ≡ true
+    → is_short (phase_leaving v attention phase).messages.first ≡ true
 leaves_short v attention phase = short (ways.leaves v attention phase)

@@ -47,16 +47,18 @@ small_block block rest cdb e whole =
     few_bytes : (cdb : List ℕ) → has_group_len cdb ≡ true → length cdb < 11
     few_bytes cdb z = of_len (group_len (slice_index cdb 0)) (length cdb) (λ l f. small_len (slice_index cdb 0) l f) z
 
-takes_on : (s : ScenarioValue) (k j : RunState) (n : Connection) (byte : ℕ) (b : LineSet) (h : TakesBlock s k n) → j.served ≡ k.served → dialogue_of j ≡ byte_else (dialogue_of k) b byte → is_command b ≡ true → (carried_here j h.0.id).block ≡ (carried_here k h.0.id).block ++ byte ∷ [] → length (carried_here k h.0.id).block < 1000 → Waits j h.0.id → TakesBlock s j n
+takes_on : (s : ScenarioValue) (k j : RunState) (n : Connection) (byte : ℕ) (b : LineSet) (h : TakesBlock s k n)
+    → j.served ≡ k.served → dialogue_of j ≡ byte_else (dialogue_of k) b byte → is_command b ≡ true
+    → (carried_here j h.0.id).block ≡ (carried_here k h.0.id).block ++ byte ∷ []
+    → length (carried_here k h.0.id).block < 1000 → Waits j h.0.id → TakesBlock s j n
 takes_on s k j n byte b h es ed ec eb few w = (
   serves_as s k j es h.0,
   record {
     selected = h.1.selected;
-    counts =
-        ap (λ (d : Dialogue). d.heard.now.command) ed
-        ∙ ap (λ (q : Bool). (if q then record (dialogue_of k) { heard = heard_with_command (dialogue_of k).heard byte; begun = true } else record (dialogue_of k) { begun = true }).heard.now.command) ec
-        ∙ ap (λ (x : CommandBytes). command_on x byte) h.1.counts
-        ∙ counts_on (carried_here k h.0.id).block byte few
+    counts = ap (λ (d : Dialogue). d.heard.now.command) ed ∙ ap (λ (q : Bool).
+        (if q then record (dialogue_of k) { heard = heard_with_command (dialogue_of k).heard byte; begun = true }
+        else record (dialogue_of k) { begun = true }).heard.now.command) ec
+        ∙ ap (λ (x : CommandBytes). command_on x byte) h.1.counts ∙ counts_on (carried_here k h.0.id).block byte few
         ∙ sym (ap block_count eb);
     fresh = w.fresh;
     asked = w.asked;
@@ -78,10 +80,15 @@ tests_in Phase.MessageIn = record { out = false; into = true; command = false; m
 tests_in Phase.Command = record { out = false; into = false; command = true; msg = false }
 tests_in _ = record { out = false; into = false; command = false; msg = false }
 
-tests_of : (b : LineSet) → (b.msg ≡ true → b.cd ≡ true) → record { out = is_message_out b; into = is_message_in b; command = is_command b; msg = b.msg } ≡ tests_in (phase_of b)
+tests_of : (b : LineSet) → (b.msg ≡ true → b.cd ≡ true)
+    → record { out = is_message_out b; into = is_message_in b; command = is_command b; msg = b.msg }
+    ≡ tests_in (phase_of b)
 tests_of b known = go b.msg b.cd b.io known
   where
-    go : (m d i : Bool) → (m ≡ true → d ≡ true) → record { out = m && d && not i; into = m && d && i; command = not m && d && not i; msg = m } ≡ tests_in (if m then (if i then Phase.MessageIn else Phase.MessageOut) else if d then (if i then Phase.Status else Phase.Command) else if i then Phase.DataIn else Phase.DataOut)
+    go : (m d i : Bool) → (m ≡ true → d ≡ true)
+        → record { out = m && d && not i; into = m && d && i; command = not m && d && not i; msg = m }
+        ≡ tests_in (if m then (if i then Phase.MessageIn else Phase.MessageOut)
+        else if d then (if i then Phase.Status else Phase.Command) else if i then Phase.DataIn else Phase.DataOut)
     go true true true h = refl
     go true true false h = refl
     go true false i h = wrong' (h refl)
@@ -90,7 +97,10 @@ tests_of b known = go b.msg b.cd b.io known
     go false false true h = refl
     go false false false h = refl
 
-plan_said : (q last : Bool) (m : Option MsgOut) (p : Plan) → ((if q then plan_after_message p last m else p).messages ≡ p.messages) × ((if q then plan_after_message p last m else p).next ≡ p.next) × ((if q then plan_after_message p last m else p).cause ≡ p.cause)
+plan_said : (q last : Bool) (m : Option MsgOut) (p : Plan)
+    → ((if q then plan_after_message p last m else p).messages ≡ p.messages)
+    × ((if q then plan_after_message p last m else p).next ≡ p.next)
+    × ((if q then plan_after_message p last m else p).cause ≡ p.cause)
 plan_said true true m p = (refl, refl, refl)
 plan_said true false m p = (refl, refl, refl)
 plan_said false last m p = (refl, refl, refl)
@@ -106,7 +116,10 @@ pub record Crosses (s : ScenarioValue) (k : RunState) (n : Connection) (c : Chan
   pub knows : Knows s k n
   pub few : (h : TakesBlock s k n) → length (carried_here k h.0.id).block < 1000
 
-pub cross_keeps : (s : ScenarioValue) (k : RunState) (row : Row) (n : Connection) (c : Change) → IsRowIn k row n c → is_fault row.kind ≡ false → changes_phase c ≡ false → is_some (receiver_in n c) ≡ true → Crosses s k n c → WaitsThen s k (run_state_after s k row) n (phase_of (bus_of k)) → CommandBooks s k n → CommandBooks s (run_state_after s k row) n
+pub cross_keeps : (s : ScenarioValue) (k : RunState) (row : Row) (n : Connection) (c : Change)
+    → IsRowIn k row n c → is_fault row.kind ≡ false → changes_phase c ≡ false → is_some (receiver_in n c) ≡ true
+    → Crosses s k n c → WaitsThen s k (run_state_after s k row) n (phase_of (bus_of k)) → CommandBooks s k n
+    → CommandBooks s (run_state_after s k row) n
 cross_keeps s k row n c r ef ep er x w h = record {
   serves = λ z. item_as s k j n i.served_is (h.serves z);
   unbegun = λ z. wrong (sym (begun ∙ x.begun) ∙ z);
@@ -137,16 +150,31 @@ cross_keeps s k row n c r ef ep er x w h = record {
     phase : phase_of (bus_of j) ≡ phase_of (bus_of k)
     phase = ap phase_of i.bus_is ∙ phase_same c.before c.after (same_phase_is c ep) ∙ ap phase_of (sym r.bus_is)
 
-    plan : (j.exchange.plan.messages ≡ k.exchange.plan.messages) × (j.exchange.plan.next ≡ k.exchange.plan.next) × (j.exchange.plan.cause ≡ k.exchange.plan.cause)
+    plan : (j.exchange.plan.messages ≡ k.exchange.plan.messages) × (j.exchange.plan.next ≡ k.exchange.plan.next)
+        × (j.exchange.plan.cause ≡ k.exchange.plan.cause)
     plan =
-        let p = plan_said (is_message_out c.before) d.is_last reading.out k.exchange.plan in
-        (ap (λ (y : Exchange). y.plan.messages) i.exchange_is ∙ p.0, ap (λ (y : Exchange). y.plan.next) i.exchange_is ∙ p.1, ap (λ (y : Exchange). y.plan.cause) i.exchange_is ∙ p.2)
+        let p = plan_said (is_message_out c.before) d.is_last reading.out k.exchange.plan in (
+          ap (λ (y : Exchange). y.plan.messages) i.exchange_is ∙ p.0,
+          ap (λ (y : Exchange). y.plan.next) i.exchange_is ∙ p.1,
+          ap (λ (y : Exchange). y.plan.cause) i.exchange_is ∙ p.2,
+        )
 
     words : j.exchange.speech.words ≡ k.exchange.speech.words
-    words = ap (λ (y : Exchange). y.speech.words) i.exchange_is ∙ speech_said (is_message_out c.before) reading.into k.exchange.speech
+    words = ap (λ (y : Exchange). y.speech.words) i.exchange_is
+        ∙ speech_said (is_message_out c.before) reading.into k.exchange.speech
 
-    tests : (p : Phase) → phase_of (bus_of k) ≡ p → record { out = is_message_out c.before; into = is_message_in c.before; command = is_command c.before; msg = c.before.msg } ≡ tests_in p
-    tests p e = ap (λ (b : LineSet). record { out = is_message_out b; into = is_message_in b; command = is_command b; msg = b.msg }) (sym r.bus_is) ∙ tests_of (bus_of k) (λ z. (x.phase z).0) ∙ ap tests_in e
+    tests : (p : Phase) → phase_of (bus_of k) ≡ p → record {
+      out = is_message_out c.before;
+      into = is_message_in c.before;
+      command = is_command c.before;
+      msg = c.before.msg;
+    } ≡ tests_in p
+    tests p e = ap (λ (b : LineSet). record {
+      out = is_message_out b;
+      into = is_message_in b;
+      command = is_command b;
+      msg = b.msg;
+    }) (sym r.bus_is) ∙ tests_of (bus_of k) (λ z. (x.phase z).0) ∙ ap tests_in e
 
     no_out : is_message_out c.before ≡ false → reading.out ≡ None
     no_out e = ap (λ (q : Bool). if q then whole_out (got_out (fresh_bytes d ++ byte ∷ [])) else None) e
@@ -154,16 +182,20 @@ cross_keeps s k row n c r ef ep er x w h = record {
     no_in : is_message_in c.before ≡ false → reading.into ≡ None
     no_in e = ap (λ (q : Bool). if q then whole_in (got_in (d.half ++ byte ∷ [])) else None) e
 
-    by_byte : (a b : Bool) → is_message_out c.before ≡ a → is_message_in c.before ≡ b → dialogue_of j ≡ (if a then byte_out d byte (not c.after.atn) else if b then byte_in d byte else byte_else d c.before byte)
-    by_byte a b ea eb = i.dialogue_is ∙ (λ y. if ea y then byte_out d byte (not c.after.atn) else if eb y then byte_in d byte else byte_else d c.before byte)
+    by_byte : (a b : Bool) → is_message_out c.before ≡ a → is_message_in c.before ≡ b → dialogue_of j
+        ≡ (if a then byte_out d byte (not c.after.atn) else if b then byte_in d byte else byte_else d c.before byte)
+    by_byte a b ea eb = i.dialogue_is ∙ (λ y. if ea y then byte_out d byte (not c.after.atn)
+        else if eb y then byte_in d byte else byte_else d c.before byte)
 
     -- no message, and no byte of COMMAND
-    else_heard : is_message_out c.before ≡ false → is_message_in c.before ≡ false → is_command c.before ≡ false → (dialogue_of j).heard ≡ d.heard
-    else_heard eo ei ec =
-        ap (λ (y : Dialogue). y.heard) (by_byte false false eo ei)
-        ∙ ap (λ (q : Bool). (if q then record d { heard = heard_with_command d.heard byte; begun = true } else record d { begun = true }).heard) ec
+    else_heard : is_message_out c.before ≡ false → is_message_in c.before ≡ false → is_command c.before ≡ false
+        → (dialogue_of j).heard ≡ d.heard
+    else_heard eo ei ec = ap (λ (y : Dialogue). y.heard) (by_byte false false eo ei)
+        ∙ ap (λ (q : Bool). (if q then record d { heard = heard_with_command d.heard byte; begun = true }
+        else record d { begun = true }).heard) ec
 
-    go : (p : Phase) → phase_of (bus_of k) ≡ p → StandsIn s k n (phase_of (bus_of k)) → StandsIn s j n (phase_of (bus_of k))
+    go : (p : Phase) → phase_of (bus_of k) ≡ p → StandsIn s k n (phase_of (bus_of k))
+        → StandsIn s j n (phase_of (bus_of k))
     go Phase.MessageOut e z =
         let t = tests Phase.MessageOut e in
         let eo = ap (λ (y : PhaseTests). y.out) t in
@@ -173,7 +205,10 @@ cross_keeps s k row n c r ef ep er x w h = record {
         let said : SaidRow s k j n l byte (not c.after.atn) = record {
           served_is = i.served_is;
           link_before = x.knows.link_is;
-          tells = tells s k row n c l _ r er x.knows.link_is (crossed_out s k.story l reading (whole_out (got_out (fresh_bytes d ++ byte ∷ []))) (ap (λ (q : Bool). if q then whole_out (got_out (fresh_bytes d ++ byte ∷ [])) else None) eo) (no_in ei) (ap (λ (y : PhaseTests). y.msg) t));
+          tells = tells s k row n c l _ r er x.knows.link_is
+              (crossed_out s k.story l reading (whole_out (got_out (fresh_bytes d ++ byte ∷ [])))
+              (ap (λ (q : Bool). if q then whole_out (got_out (fresh_bytes d ++ byte ∷ [])) else None) eo) (no_in ei)
+              (ap (λ (y : PhaseTests). y.msg) t));
           dialogue_is = by_byte true false eo ei;
           messages_are = plan.0;
           next_is = plan.1;
@@ -183,8 +218,8 @@ cross_keeps s k row n c r ef ep er x w h = record {
           speaks = speaking.heard;
           words_for = speaking.words_for;
         } in
-        subst (λ (p : Phase). StandsIn s j n p) (sym e)
-        (subst (λ (y : Cause). SaysFor s j n y) (sym plan.2) (said_in s k j n l byte (not c.after.atn) k.exchange.plan.cause refl said (subst (λ (p : Phase). StandsIn s k n p) e z)))
+        subst (λ (p : Phase). StandsIn s j n p) (sym e) (subst (λ (y : Cause). SaysFor s j n y) (sym plan.2) (said_in s
+        k j n l byte (not c.after.atn) k.exchange.plan.cause refl said (subst (λ (p : Phase). StandsIn s k n p) e z)))
     go Phase.MessageIn e z =
         let t = tests Phase.MessageIn e in
         let eo = ap (λ (y : PhaseTests). y.out) t in
@@ -194,7 +229,10 @@ cross_keeps s k row n c r ef ep er x w h = record {
           served_is = i.served_is;
           link_before = x.knows.link_is;
           item_is = λ y. same_item s k n x.knows y;
-          tells = tells s k row n c l _ r er x.knows.link_is (crossed_in s k.story l reading (whole_in (got_in (d.half ++ byte ∷ []))) (no_out eo) (ap (λ (q : Bool). if q then whole_in (got_in (d.half ++ byte ∷ [])) else None) ei) (ap (λ (y : PhaseTests). y.msg) t));
+          tells = tells s k row n c l _ r er x.knows.link_is
+              (crossed_in s k.story l reading (whole_in (got_in (d.half ++ byte ∷ []))) (no_out eo)
+              (ap (λ (q : Bool). if q then whole_in (got_in (d.half ++ byte ∷ [])) else None) ei)
+              (ap (λ (y : PhaseTests). y.msg) t));
           dialogue_is = by_byte false true eo ei;
           messages_are = plan.0;
           next_is = plan.1;
@@ -202,8 +240,8 @@ cross_keeps s k row n c r ef ep er x w h = record {
           within = g.1;
           given = x.gives.in_message_in x.begun (ap is_message_in r.bus_is ∙ ei);
         } in
-        subst (λ (p : Phase). StandsIn s j n p) (sym e)
-        (subst (λ (y : Next). GivesFor s j n y) (sym plan.1) (given_for s k j n l byte k.exchange.plan.next given (subst (λ (p : Phase). StandsIn s k n p) e z)))
+        subst (λ (p : Phase). StandsIn s j n p) (sym e) (subst (λ (y : Next). GivesFor s j n y) (sym plan.1)
+        (given_for s k j n l byte k.exchange.plan.next given (subst (λ (p : Phase). StandsIn s k n p) e z)))
     go Phase.Command e z =
         let t = tests Phase.Command e in
         let eo = ap (λ (y : PhaseTests). y.out) t in
@@ -211,13 +249,20 @@ cross_keeps s k row n c r ef ep er x w h = record {
         let ec = ap (λ (y : PhaseTests). y.command) t in
         let em = ap (λ (y : PhaseTests). y.msg) t in
         let v : TakesBlock s k n = subst (λ (p : Phase). StandsIn s k n p) e z in
-        let told = tells s k row n c l _ r er x.knows.link_is (crossed_else s k.story l reading (no_out eo) (no_in ei)) in
-        let block : (carried_here j v.0.id).block ≡ (carried_here k v.0.id).block ++ byte ∷ [] = told.block_is v.0.id ∙ takes_block k.story l reading v.0.id (same_item s k n x.knows v.1.selected ∙ v.0.served_is) ec em in
-        subst (λ (p : Phase). StandsIn s j n p) (sym e) (takes_on s k j n byte c.before v i.served_is (by_byte false false eo ei) ec block (x.few v) (w e v))
+        let told = tells s k row n c l _ r er x.knows.link_is
+        (crossed_else s k.story l reading (no_out eo) (no_in ei)) in
+        let block : (carried_here j v.0.id).block ≡ (carried_here k v.0.id).block ++ byte ∷ [] = told.block_is v.0.id
+        ∙ takes_block k.story l reading v.0.id (same_item s k n x.knows v.1.selected ∙ v.0.served_is) ec em in
+        subst (λ (p : Phase). StandsIn s j n p) (sym e)
+        (takes_on s k j n byte c.before v i.served_is (by_byte false false eo ei) ec block (x.few v) (w e v))
     go Phase.DataIn e z =
         let t = tests Phase.DataIn e in
-        subst (λ (p : Phase). StandsIn s j n p) (sym e) (subst (λ (y : Heard). IsNoneOrAll y.now.command) (sym (else_heard (ap (λ (y : PhaseTests). y.out) t) (ap (λ (y : PhaseTests). y.into) t) (ap (λ (y : PhaseTests). y.command) t))) (subst (λ (p : Phase). StandsIn s k n p) e z))
+        subst (λ (p : Phase). StandsIn s j n p) (sym e) (subst (λ (y : Heard). IsNoneOrAll y.now.command)
+        (sym (else_heard (ap (λ (y : PhaseTests). y.out) t) (ap (λ (y : PhaseTests). y.into) t)
+        (ap (λ (y : PhaseTests). y.command) t))) (subst (λ (p : Phase). StandsIn s k n p) e z))
     go Phase.DataOut e z =
         let t = tests Phase.DataOut e in
-        subst (λ (p : Phase). StandsIn s j n p) (sym e) (subst (λ (y : Heard). IsNoneOrAll y.now.command) (sym (else_heard (ap (λ (y : PhaseTests). y.out) t) (ap (λ (y : PhaseTests). y.into) t) (ap (λ (y : PhaseTests). y.command) t))) (subst (λ (p : Phase). StandsIn s k n p) e z))
+        subst (λ (p : Phase). StandsIn s j n p) (sym e) (subst (λ (y : Heard). IsNoneOrAll y.now.command)
+        (sym (else_heard (ap (λ (y : PhaseTests). y.out) t) (ap (λ (y : PhaseTests). y.into) t)
+        (ap (λ (y : PhaseTests). y.command) t))) (subst (λ (p : Phase). StandsIn s k n p) e z))
     go Phase.Status e z = subst (λ (p : Phase). StandsIn s j n p) (sym e) tt

@@ -1,4 +1,5 @@
--- How a phase is left, by what counts of COMMAND: to COMMAND where nothing of it is taken, to data where none or all of it counts.
+-- How a phase is left, by what counts of COMMAND: to COMMAND where nothing of it is taken, to data where none or all of
+-- it counts.
 use Rattle.story_laws.proofs
 use proofs.Names.{ℕ, ◌≡◌, Bool, true, false, ◌==◌, ◌∙◌, Option, Some, None, refl, sym, ap, subst, ⊤, is_some, Agreement}
 use proofs.Names.{Connection, has_group_len, MsgIn, CommandBytes, is_none_or_all, ScenarioValue, one_message}
@@ -43,7 +44,8 @@ ready s k n v h =
 -- ---- MESSAGE OUT
 
 -- Refused messages are said again.
-repeats : (s : ScenarioValue) (k : RunState) (n : Connection) (next : Next) → AnswersFor s k n next → LeadsIn s k n k.exchange.plan.messages next
+repeats : (s : ScenarioValue) (k : RunState) (n : Connection) (next : Next) → AnswersFor s k n next
+    → LeadsIn s k n k.exchange.plan.messages next
 repeats s k n Next.Command (v, opens_answered h) = (v, by_opening h)
 repeats s k n Next.Command (v, restores_refused r w) = (v, by_restoring r.selected r.messages_are)
 repeats s k n Next.Command (v, restores_answered r u p h a w) = (v, by_restoring r.selected r.messages_are)
@@ -58,10 +60,13 @@ no_offer o e f = absurd (none (sym (ap (λ (x : Option Agreement). is_some x) f)
     none z = cc
 
 -- After an answer nothing of the command is taken.
-answered : (s : ScenarioValue) (k : RunState) (n : Connection) (next : Next) → (k.exchange.speech.words ≡ parity_error → k.exchange.plan.said.offer ≡ None) → is_some k.exchange.plan.said.offer ≡ true → AnswersFor s k n next → IsReady s k n
+answered : (s : ScenarioValue) (k : RunState) (n : Connection) (next : Next)
+    → (k.exchange.speech.words ≡ parity_error → k.exchange.plan.said.offer ≡ None)
+    → is_some k.exchange.plan.said.offer ≡ true → AnswersFor s k n next → IsReady s k n
 answered s k n Next.Command none e (v, opens_answered h) = ready s k n v h
 answered s k n Next.Command none e (v, restores_refused r w) = no_offer k.exchange.plan.said.offer e (none w)
-answered s k n Next.Command none e (v, restores_answered r u p h a w) = record { serves = v; selected = r.selected; untaken = u }
+answered s k n Next.Command none e (v, restores_answered r u p h a w) =
+    record { serves = v; selected = r.selected; untaken = u }
 answered s k n Next.GoOn none e h = no_offer k.exchange.plan.said.offer e (none h.words_are)
 answered s k n Next.Status none e w = no_offer k.exchange.plan.said.offer e (none w)
 answered s k n Next.FreeBus none e w = no_offer k.exchange.plan.said.offer e (none w)
@@ -76,7 +81,8 @@ pub record HasHeardAll (s : ScenarioValue) (k : RunState) : Type 0 where
 pub record IsLeft (s : ScenarioValue) (k : RunState) (phase : Phase) : Type 0 where
   pub out : phase ≡ Phase.MessageOut → HasHeardAll s k
   pub some : phase ≡ Phase.MessageIn → (k.handshakes.requests == 0) ≡ false
-  pub whole : phase ≡ Phase.Command → (v : Serves s k) → k.exchange.plan.struck ≡ false → has_group_len (carried_here k v.id).block ≡ true
+  pub whole : phase ≡ Phase.Command → (v : Serves s k) → k.exchange.plan.struck ≡ false
+      → has_group_len (carried_here k v.id).block ≡ true
 
 opened : (s : ScenarioValue) (k : RunState) (n : Connection) (dev : ℕ) (at : Phase)
     → ways.IsOpened (serving_at s k dev at) → IsLeft s k Phase.MessageOut → SaysFor s k n k.exchange.plan.cause
@@ -122,5 +128,6 @@ by_way s k n dev at (ways.reads _ _ g _) left h = goes_on s k n dev at g left h
 by_way s k n dev at (ways.writes _ _ g _) left h = goes_on s k n dev at g left h
 by_way s k n dev at _ left h = tt
 
-pub leads : (s : ScenarioValue) (k : RunState) (n : Connection) (dev : ℕ) (atn : Bool) (phase : Phase) → IsLeft s k phase → StandsIn s k n phase → Leads s k n (phase_leaving (serving_at s k dev phase) atn phase)
+pub leads : (s : ScenarioValue) (k : RunState) (n : Connection) (dev : ℕ) (atn : Bool) (phase : Phase)
+    → IsLeft s k phase → StandsIn s k n phase → Leads s k n (phase_leaving (serving_at s k dev phase) atn phase)
 leads s k n dev atn phase = by_way s k n dev phase (ways.leaves (serving_at s k dev phase) atn phase)

@@ -12,25 +12,32 @@ use proofs.Names.{NextStood, Stood, apart_connection, link_phase, ComplaintFacts
 
 -- ---- the answer to a request is heard as one
 
-answer_offers : (h : Option HostDef) (a : Agreement) → (understood nothing_understood (answer_bytes h a)).said.offer ≡ Some (host_answer h a)
+answer_offers : (h : Option HostDef) (a : Agreement)
+    → (understood nothing_understood (answer_bytes h a)).said.offer ≡ Some (host_answer h a)
 unfolding form_out
 answer_offers h a = refl
 
-offered : (v : Speech) (p : Plan) (d : Dialogue) (h : Option HostDef) (a : Agreement) → AreWordsHeard v p d → d.is_last ≡ true → v.words ≡ answer_bytes h a → is_none p.said.offer ≡ false
-offered v p d h a heard last w =
-    ap (λ (u : Understanding). is_none u.said.offer) (heard.last last) ∙ ap (λ (x : List ℕ). is_none (understood nothing_understood x).said.offer) w ∙ ap (λ (o : Option Agreement). is_none o) (answer_offers h a)
+offered : (v : Speech) (p : Plan) (d : Dialogue) (h : Option HostDef) (a : Agreement) → AreWordsHeard v p d
+    → d.is_last ≡ true → v.words ≡ answer_bytes h a → is_none p.said.offer ≡ false
+offered v p d h a heard last w = ap (λ (u : Understanding). is_none u.said.offer) (heard.last last)
+    ∙ ap (λ (x : List ℕ). is_none (understood nothing_understood x).said.offer) w
+    ∙ ap (λ (o : Option Agreement). is_none o) (answer_offers h a)
 
 -- ---- as MESSAGE OUT is left
 
-refused_truly : (s : ScenarioValue) (k : RunState) (n : Connection) (refusing : Bool) → Speaks s k n → k.exchange.begun ≡ true → is_message_out (bus_of k) ≡ true → IsOver s k n → (c : Cause) → Refuses refusing k c → is_complaint k.exchange.plan c ≡ true → refusing ≡ true
+refused_truly : (s : ScenarioValue) (k : RunState) (n : Connection) (refusing : Bool) → Speaks s k n
+    → k.exchange.begun ≡ true → is_message_out (bus_of k) ≡ true → IsOver s k n → (c : Cause) → Refuses refusing k c
+    → is_complaint k.exchange.plan c ≡ true → refusing ≡ true
 refused_truly s k n refusing speaks b out over Cause.Selected h e = wrong' e
 refused_truly s k n refusing speaks b out over Cause.InData h e = h
 refused_truly s k n refusing speaks b out over Cause.InStatus h e = h
 refused_truly s k n refusing speaks b out over Cause.InMessage (inl z) e = z
 refused_truly s k n refusing speaks b out over Cause.InMessage (inr (x, a, w)) e =
-    wrong (sym e ∙ offered k.exchange.speech k.exchange.plan k.story.bus_state.dialogue x a (speaks.in_message_out b out).heard (out_over s k n out over) w)
+    wrong (sym e ∙ offered k.exchange.speech k.exchange.plan k.story.bus_state.dialogue x a
+    (speaks.in_message_out b out).heard (out_over s k n out over) w)
 
-complaining_out : (p : Plan) (x : Phase) → is_complaining p x ≡ true → (x ≡ Phase.MessageOut) × (is_complaint p p.cause ≡ true)
+complaining_out : (p : Plan) (x : Phase) → is_complaining p x ≡ true
+    → (x ≡ Phase.MessageOut) × (is_complaint p p.cause ≡ true)
 complaining_out p Phase.MessageOut e = (refl, e)
 complaining_out p _ e = wrong' e
 
@@ -42,14 +49,19 @@ where_asked true true r f = f refl refl
 not_out : (b : LineSet) → is_message_in b ≡ true → phase_of b ≡ Phase.MessageOut → ⊥
 not_out b e f = go b.msg b.cd b.io e f
   where
-    go : (m d i : Bool) → (m && d && i) ≡ true → (if m then (if i then Phase.MessageIn else Phase.MessageOut) else if d then (if i then Phase.Status else Phase.Command) else if i then Phase.DataIn else Phase.DataOut) ≡ Phase.MessageOut → ⊥
+    go : (m d i : Bool) → (m && d && i) ≡ true → (if m then (if i then Phase.MessageIn else Phase.MessageOut)
+        else if d then (if i then Phase.Status else Phase.Command) else if i then Phase.DataIn else Phase.DataOut)
+        ≡ Phase.MessageOut → ⊥
     go true true true z f = absurd cc
     go true true false z f = wrong' z
     go true false i z f = wrong' z
     go false d i z f = wrong' z
 
-pub complained_row : (s : ScenarioValue) (p : List Row) (row : Row) → Obeys s → IsPrompt s (row ∷ p) → Stood s p → NextStood s p row → IsCalmTurn (row_reading (run_state s p).story.bus_state row) → ComplaintFacts s p → is_true_complaint (run_state s p) (row_reading (run_state s p).story.bus_state row) (is_refusing s p) ≡ true
-complained_row s p row o prompt was nx calm facts = where_asked (is_left k d) (is_complaining k.exchange.plan (phase_of (bus_of k))) (is_refusing s p) (λ l c. go l c (connection p) refl)
+pub complained_row : (s : ScenarioValue) (p : List Row) (row : Row) → Obeys s → IsPrompt s (row ∷ p) → Stood s p
+    → NextStood s p row → IsCalmTurn (row_reading (run_state s p).story.bus_state row) → ComplaintFacts s p
+    → is_true_complaint (run_state s p) (row_reading (run_state s p).story.bus_state row) (is_refusing s p) ≡ true
+complained_row s p row o prompt was nx calm facts = where_asked (is_left k d)
+    (is_complaining k.exchange.plan (phase_of (bus_of k))) (is_refusing s p) (λ l c. go l c (connection p) refl)
   where
     k : RunState
     k = run_state s p
@@ -63,8 +75,10 @@ complained_row s p row o prompt was nx calm facts = where_asked (is_left k d) (i
     change : d.change ≡ change_of p row
     change = change_plain s row p was.standing.devices m.inside
 
-    parts : is_left k d ≡ true → (is_some k.story.bus_state.connection ≡ true) × (k.exchange.begun ≡ true) × ((if is_some d.next then changes_phase d.change else not d.change.after.rst) ≡ true)
-    parts e = three (is_some k.story.bus_state.connection) k.exchange.begun (if is_some d.next then changes_phase d.change else not d.change.after.rst) e
+    parts : is_left k d ≡ true → (is_some k.story.bus_state.connection ≡ true) × (k.exchange.begun ≡ true)
+        × ((if is_some d.next then changes_phase d.change else not d.change.after.rst) ≡ true)
+    parts e = three (is_some k.story.bus_state.connection) k.exchange.begun
+        (if is_some d.next then changes_phase d.change else not d.change.after.rst) e
       where
         three : (a b c : Bool) → (a && b && c) ≡ true → (a ≡ true) × (b ≡ true) × (c ≡ true)
         three true true c z = (refl, refl, z)
@@ -72,27 +86,40 @@ complained_row s p row o prompt was nx calm facts = where_asked (is_left k d) (i
         three false b c z = wrong' z
 
     -- RST is false before and after
-    by_over : (n : Connection) → connection p ≡ Some n → (bus p).rst ≡ false → k.exchange.begun ≡ true → IsOver s k n → is_complaining k.exchange.plan (phase_of (bus_of k)) ≡ true → is_refusing s p ≡ true
+    by_over : (n : Connection) → connection p ≡ Some n → (bus p).rst ≡ false → k.exchange.begun ≡ true → IsOver s k n
+        → is_complaining k.exchange.plan (phase_of (bus_of k)) ≡ true → is_refusing s p ≡ true
     by_over n con quiet b over c =
         let w = complaining_out k.exchange.plan (phase_of (bus_of k)) c in
         let stage = stage_of_connection s p n was con quiet in
-        let out = out_lines (bus_of k) w.0 (λ z. ap (λ (l : LineSet). l.cd) was.plain.bus ∙ (link_phase s p n stage (ap (λ (l : LineSet). l.msg) (sym was.plain.bus) ∙ z)).0) in
-        refused_truly s k n (is_refusing s p) (was.books.speaks n (was.plain.connection ∙ con) (ap (λ (l : LineSet). l.rst) was.plain.bus ∙ quiet)) b out over k.exchange.plan.cause ((facts n con quiet b).refuses w.0) w.1
+        let out = out_lines (bus_of k) w.0 (λ z. ap (λ (l : LineSet). l.cd) was.plain.bus
+        ∙ (link_phase s p n stage (ap (λ (l : LineSet). l.msg) (sym was.plain.bus) ∙ z)).0) in
+        refused_truly s k n (is_refusing s p)
+        (was.books.speaks n (was.plain.connection ∙ con) (ap (λ (l : LineSet). l.rst) was.plain.bus ∙ quiet)) b out over
+        k.exchange.plan.cause ((facts n con quiet b).refuses w.0) w.1
 
-    by_facts : (n : Connection) → connection p ≡ Some n → (bus p).rst ≡ false → RowFacts s p row n → is_left k d ≡ true → is_complaining k.exchange.plan (phase_of (bus_of k)) ≡ true → is_refusing s p ≡ true
+    by_facts : (n : Connection) → connection p ≡ Some n → (bus p).rst ≡ false → RowFacts s p row n → is_left k d ≡ true
+        → is_complaining k.exchange.plan (phase_of (bus_of k)) ≡ true → is_refusing s p ≡ true
     by_facts n con quiet (ends_here g) l c = by_over n con quiet (was.plain.begun ∙ g.begun_is) g.over c
     by_facts n con quiet (stays g) l c =
         let x = parts l in
-        let goes : is_some d.next ≡ true = (λ i. is_some (connection_after (g.row_is.connection_is i) k.story.bus_state.call (g.row_is.change_is i) row)) ∙ ap (λ (q : Bool). is_some (if q then Some n else None)) g.row_is.stands in
-        let ep : changes_phase g.change ≡ true = ap changes_phase (sym g.row_is.change_is) ∙ sym (ap (λ (q : Bool). if q then changes_phase d.change else not d.change.after.rst) goes) ∙ x.2 in
+        let goes : is_some d.next ≡ true =
+        (λ i. is_some (connection_after (g.row_is.connection_is i) k.story.bus_state.call (g.row_is.change_is i) row))
+        ∙ ap (λ (q : Bool). is_some (if q then Some n else None)) g.row_is.stands in
+        let ep : changes_phase g.change ≡ true = ap changes_phase (sym g.row_is.change_is)
+        ∙ sym (ap (λ (q : Bool). if q then changes_phase d.change else not d.change.after.rst) goes) ∙ x.2 in
         by_over n con quiet x.1 (g.over ep (sym was.plain.begun ∙ x.1)) c
 
     -- RST is true before, or after
-    some_next : (n : Connection) → (q : Bool) → is_some d.next ≡ q → is_left k d ≡ true → (d.change.after.rst ≡ true) → (q ≡ true) × (changes_phase d.change ≡ true)
-    some_next n true e l on = (refl, sym (ap (λ (q : Bool). if q then changes_phase d.change else not d.change.after.rst) e) ∙ (parts l).2)
-    some_next n false e l on = wrong' (sym (ap (λ (q : Bool). if q then changes_phase d.change else not d.change.after.rst) e ∙ ap not on) ∙ (parts l).2)
+    some_next : (n : Connection) → (q : Bool) → is_some d.next ≡ q → is_left k d ≡ true
+        → (d.change.after.rst ≡ true) → (q ≡ true) × (changes_phase d.change ≡ true)
+    some_next n true e l on =
+        (refl, sym (ap (λ (q : Bool). if q then changes_phase d.change else not d.change.after.rst) e) ∙ (parts l).2)
+    some_next n false e l on =
+        wrong' (sym (ap (λ (q : Bool). if q then changes_phase d.change else not d.change.after.rst) e ∙ ap not on)
+        ∙ (parts l).2)
 
-    under : (n : Connection) → is_left k d ≡ true → is_complaining k.exchange.plan (phase_of (bus_of k)) ≡ true → (bus (row ∷ p)).rst ≡ true → ⊥
+    under : (n : Connection) → is_left k d ≡ true → is_complaining k.exchange.plan (phase_of (bus_of k)) ≡ true
+        → (bus (row ∷ p)).rst ≡ true → ⊥
     under n l c on =
         let after : d.change.after.rst ≡ true = ap (λ (x : Change). x.after.rst) change ∙ on in
         let w = some_next n (is_some d.next) refl l after in
@@ -101,15 +128,19 @@ complained_row s p row o prompt was nx calm facts = where_asked (is_left k d) (i
           | inr z ↦ not_out (bus_of k) z (complaining_out k.exchange.plan (phase_of (bus_of k)) c).0
         ]
 
-    ended : AnyStage s p → (n : Connection) → connection p ≡ Some n → (bus p).rst ≡ true → (bus (row ∷ p)).rst ≡ false → ⊥
-    ended (apart h alone) n con on off = none_some n (sym (apart_connection s p row m.inside nx.obeys h alone off) ∙ con)
+    ended : AnyStage s p → (n : Connection) → connection p ≡ Some n → (bus p).rst ≡ true → (bus (row ∷ p)).rst ≡ false
+        → ⊥
+    ended (apart h alone) n con on off =
+        none_some n (sym (apart_connection s p row m.inside nx.obeys h alone off) ∙ con)
     ended (linked x h) n con on off = wrong (sym on ∙ link_calm s p x h)
 
-    by_rst : (n : Connection) → connection p ≡ Some n → (q r : Bool) → (bus (row ∷ p)).rst ≡ q → (bus p).rst ≡ r → is_left k d ≡ true → is_complaining k.exchange.plan (phase_of (bus_of k)) ≡ true → is_refusing s p ≡ true
+    by_rst : (n : Connection) → connection p ≡ Some n → (q r : Bool) → (bus (row ∷ p)).rst ≡ q → (bus p).rst ≡ r
+        → is_left k d ≡ true → is_complaining k.exchange.plan (phase_of (bus_of k)) ≡ true → is_refusing s p ≡ true
     by_rst n con true r f g l c = absurd (under n l c f)
     by_rst n con false true f g l c = absurd (ended was.here n con g f)
     by_rst n con false false f g l c = by_facts n con g (connection_row s p row n o prompt was con g f).facts l c
 
-    go : is_left k d ≡ true → is_complaining k.exchange.plan (phase_of (bus_of k)) ≡ true → (x : Option Connection) → connection p ≡ x → is_refusing s p ≡ true
+    go : is_left k d ≡ true → is_complaining k.exchange.plan (phase_of (bus_of k)) ≡ true
+        → (x : Option Connection) → connection p ≡ x → is_refusing s p ≡ true
     go l c None e = wrong' (sym (ap (λ (x : Option Connection). is_some x) (was.plain.connection ∙ e)) ∙ (parts l).0)
     go l c (Some n) e = by_rst n e (bus (row ∷ p)).rst (bus p).rst refl refl l c

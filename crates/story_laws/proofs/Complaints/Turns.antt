@@ -16,7 +16,8 @@ pub record IsAttended (k : RunState) : Type 0 where
   pub attends : (bus_of k).atn ≡ true
   pub phase : is_attended (phase_of (bus_of k)) ≡ true
 
-pub attended_for : (s : ScenarioValue) (k : RunState) (dev : ℕ) → k.exchange.begun ≡ true → is_out_phase (phase_of (bus_of k)) ≡ false → is_out_next (leaving s k dev).to ≡ true → IsAttended k
+pub attended_for : (s : ScenarioValue) (k : RunState) (dev : ℕ) → k.exchange.begun ≡ true
+    → is_out_phase (phase_of (bus_of k)) ≡ false → is_out_next (leaving s k dev).to ≡ true → IsAttended k
 attended_for s k dev b o to =
     let phase : Phase = phase_of (bus_of k) in
     let is = ap (λ (q : Bool). is_out_next (leaving_by (serving_of s k dev) q (bus_of k)).to) b in
@@ -24,8 +25,10 @@ attended_for s k dev b o to =
     record { attends = w.0; phase = w.1 }
 
 -- With ATN true a phase to the initiator is left for MESSAGE OUT.
-pub left_for_out : (s : ScenarioValue) (k : RunState) (dev : ℕ) → k.exchange.begun ≡ true → is_attended (phase_of (bus_of k)) ≡ true → (bus_of k).atn ≡ true → (leaving s k dev).to ≡ Some Phase.MessageOut
-left_for_out s k dev b to atn = ap (λ (q : Bool). (leaving_by v q (bus_of k)).to) b ∙ ap (λ (q : Bool). (phase_leaving v q (phase_of (bus_of k))).to) atn ∙ go (phase_of (bus_of k)) to
+pub left_for_out : (s : ScenarioValue) (k : RunState) (dev : ℕ) → k.exchange.begun ≡ true
+    → is_attended (phase_of (bus_of k)) ≡ true → (bus_of k).atn ≡ true → (leaving s k dev).to ≡ Some Phase.MessageOut
+left_for_out s k dev b to atn = ap (λ (q : Bool). (leaving_by v q (bus_of k)).to) b
+    ∙ ap (λ (q : Bool). (phase_leaving v q (phase_of (bus_of k))).to) atn ∙ go (phase_of (bus_of k)) to
   where
     v : Serving
     v = serving_of s k dev

@@ -48,5 +48,7 @@ by_way known v (ways.reads _ _ g _) h answers = known_on known v g h
 by_way known v (ways.writes _ _ g _) h answers = known_on known v g h
 by_way known v _ h answers = tt
 
-pub fits : (known : Bool) (v : Serving) (atn : Bool) (phase : Phase) → KnownIn known v.plan phase → (phase ≡ Phase.MessageOut → v.plan.cause ≡ Cause.InMessage → is_some v.plan.said.offer ≡ true → v.plan.next ≡ Next.Command) → Fits (known_after known v.plan.struck phase) (phase_leaving v atn phase)
+pub fits : (known : Bool) (v : Serving) (atn : Bool) (phase : Phase) → KnownIn known v.plan phase
+    → (phase ≡ Phase.MessageOut → v.plan.cause ≡ Cause.InMessage → is_some v.plan.said.offer ≡ true
+    → v.plan.next ≡ Next.Command) → Fits (known_after known v.plan.struck phase) (phase_leaving v atn phase)
 fits known v atn phase = by_way known v (ways.leaves v atn phase)

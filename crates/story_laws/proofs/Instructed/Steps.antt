@@ -9,24 +9,41 @@ use proofs.{Names.{reading_in, Serves, KnownFor, KnownIn, KnownNext, Selected, I
 
 -- ---- a row of the connection
 
-pub told_with : (s : ScenarioValue) (p : List Row) (row : Row) (n : Connection) (c : Change) (now : Bool) → IsRowIn (run_state s p) row n c → is_some (receiver_in n c) ≡ now
-    → instructions s (row ∷ p) ≡ instructions_on (hearing_of (run_state s p) row (reading_in (run_state s p).story.bus_state n c now)) (run_state s p).exchange.plan (instructions s p)
+pub told_with : (s : ScenarioValue) (p : List Row) (row : Row) (n : Connection) (c : Change) (now : Bool)
+    → IsRowIn (run_state s p) row n c → is_some (receiver_in n c) ≡ now → instructions s (row ∷ p)
+    ≡ instructions_on (hearing_of (run_state s p) row (reading_in (run_state s p).story.bus_state n c now))
+    (run_state s p).exchange.plan (instructions s p)
 told_with s p row n c now r e =
     let k = run_state s p in
     let d = reading_is k row n c now r e in
     λ i. instructions_after (r.connection_is i) (d i).next (hearing_of k row (d i)) k.exchange.plan (instructions s p)
 
 -- No phase is left, and no byte of COMMAND crosses.
-pub told_none : (w : Hearing) (p : Plan) (i : Instructions) → changes_phase w.change ≡ false → (w.crosses && is_command w.change.before) ≡ false → instructions_on w p i ≡ i
+pub told_none : (w : Hearing) (p : Plan) (i : Instructions) → changes_phase w.change ≡ false
+    → (w.crosses && is_command w.change.before) ≡ false → instructions_on w p i ≡ i
 told_none w p i ec ex = go i.known refl w.begun
   where
-    go : (q : Bool) → i.known ≡ q → (b : Bool) → (if q then i else record { opening = if b && changes_phase w.change && is_message_out w.change.before && is_selected p.cause then Some p.said else i.opening; block = block_after w i.block; known = b && changes_phase w.change && is_command w.change.before && not p.struck }) ≡ i
+    go : (q : Bool) → i.known ≡ q → (b : Bool) → (if q then i else record {
+      opening =
+          if b && changes_phase w.change && is_message_out w.change.before && is_selected p.cause then Some p.said
+          else i.opening;
+      block = block_after w i.block;
+      known = b && changes_phase w.change && is_command w.change.before && not p.struck;
+    }) ≡ i
     go true e b = refl
-    go false e false = (λ j. record { opening = i.opening; block = if ec j then (if is_command w.change.after then [] else i.block) else if ex j then i.block ++ w.change.after.data_bits % 256 ∷ [] else i.block; known = false }) ∙ (λ j. record { opening = i.opening; block = i.block; known = sym e j })
+    go false e false = (λ j. record {
+      opening = i.opening;
+      block =
+          if ec j then (if is_command w.change.after then [] else i.block)
+          else if ex j then i.block ++ w.change.after.data_bits % 256 ∷ [] else i.block;
+      known = false;
+    }) ∙ (λ j. record { opening = i.opening; block = i.block; known = sym e j })
     go false e true =
         (λ j. record {
           opening = if ec j && is_message_out w.change.before && is_selected p.cause then Some p.said else i.opening;
-          block = if ec j then (if is_command w.change.after then [] else i.block) else if ex j then i.block ++ w.change.after.data_bits % 256 ∷ [] else i.block;
+          block =
+              if ec j then (if is_command w.change.after then [] else i.block)
+              else if ex j then i.block ++ w.change.after.data_bits % 256 ∷ [] else i.block;
           known = ec j && is_command w.change.before && not p.struck;
         })
         ∙ (λ j. record { opening = i.opening; block = i.block; known = sym e j })
@@ -35,14 +52,30 @@ told_none w p i ec ex = go i.known refl w.begun
 abbrev pub with_byte : Instructions → ℕ → Instructions
 with_byte i byte = record { opening = i.opening; block = i.block ++ byte ∷ []; known = false }
 
-pub told_byte : (w : Hearing) (p : Plan) (i : Instructions) → changes_phase w.change ≡ false → w.crosses ≡ true → is_command w.change.before ≡ true → i.known ≡ false → instructions_on w p i ≡ with_byte i (w.change.after.data_bits % 256)
+pub told_byte : (w : Hearing) (p : Plan) (i : Instructions) → changes_phase w.change ≡ false
+    → w.crosses ≡ true → is_command w.change.before ≡ true → i.known ≡ false
+    → instructions_on w p i ≡ with_byte i (w.change.after.data_bits % 256)
 told_byte w p i ec ex em e = (λ j. if e j then i else instructions_with w p i) ∙ go w.begun
   where
-    go : (b : Bool) → record { opening = if b && changes_phase w.change && is_message_out w.change.before && is_selected p.cause then Some p.said else i.opening; block = block_after w i.block; known = b && changes_phase w.change && is_command w.change.before && not p.struck } ≡ with_byte i (w.change.after.data_bits % 256)
-    go false = λ j. record { opening = i.opening; block = if ec j then (if is_command w.change.after then [] else i.block) else if ex j && em j then i.block ++ w.change.after.data_bits % 256 ∷ [] else i.block; known = false }
+    go : (b : Bool) → record {
+      opening =
+          if b && changes_phase w.change && is_message_out w.change.before && is_selected p.cause then Some p.said
+          else i.opening;
+      block = block_after w i.block;
+      known = b && changes_phase w.change && is_command w.change.before && not p.struck;
+    } ≡ with_byte i (w.change.after.data_bits % 256)
+    go false = λ j. record {
+      opening = i.opening;
+      block =
+          if ec j then (if is_command w.change.after then [] else i.block)
+          else if ex j && em j then i.block ++ w.change.after.data_bits % 256 ∷ [] else i.block;
+      known = false;
+    }
     go true = λ j. record {
       opening = if ec j && is_message_out w.change.before && is_selected p.cause then Some p.said else i.opening;
-      block = if ec j then (if is_command w.change.after then [] else i.block) else if ex j && em j then i.block ++ w.change.after.data_bits % 256 ∷ [] else i.block;
+      block =
+          if ec j then (if is_command w.change.after then [] else i.block)
+          else if ex j && em j then i.block ++ w.change.after.data_bits % 256 ∷ [] else i.block;
       known = ec j && is_command w.change.before && not p.struck;
     }
 
@@ -58,16 +91,20 @@ pub record SameStage (k j : RunState) : Type 0 where
 opening_same : (k j : RunState) → SameStage k j → is_opening j ≡ is_opening k
 opening_same k j e = λ x. not (e.begun_is x) || is_opening_in (e.phase_is x) (e.cause_is x)
 
-pub known_same : (known : Bool) (p q : Plan) (phase : Phase) → q.next ≡ p.next → q.cause ≡ p.cause → KnownIn known p phase → KnownIn known q phase
+pub known_same : (known : Bool) (p q : Plan) (phase : Phase) → q.next ≡ p.next → q.cause ≡ p.cause
+    → KnownIn known p phase → KnownIn known q phase
 known_same known p q Phase.MessageIn en ec h = subst (λ (x : Next). KnownNext known x) (sym en) h
-known_same known p q Phase.MessageOut en ec h = subst (λ (c : Cause). KnownFor known q.next c) (sym ec) (subst (λ (x : Next). KnownFor known x p.cause) (sym en) h)
+known_same known p q Phase.MessageOut en ec h =
+    subst (λ (c : Cause). KnownFor known q.next c) (sym ec) (subst (λ (x : Next). KnownFor known x p.cause) (sym en) h)
 known_same known p q Phase.Status en ec h = tt
 known_same known p q _ en ec h = h
 
 abbrev serves_before : (s : ScenarioValue) (k j : RunState) → j.served ≡ k.served → Serves s j → Serves s k
 serves_before s k j e v = serves_as s j k (sym e) v
 
-pub same_told : (s : ScenarioValue) (k j : RunState) (i : Instructions) (n : Connection) → SameStage k j → (phase_of (bus_of j) ≡ Phase.Command → (id : ProcId) → (carried_here j id).block ≡ (carried_here k id).block) → Instructed s k i n → Instructed s j i n
+pub same_told : (s : ScenarioValue) (k j : RunState) (i : Instructions) (n : Connection) → SameStage k j
+    → (phase_of (bus_of j) ≡ Phase.Command → (id : ProcId) → (carried_here j id).block ≡ (carried_here k id).block)
+    → Instructed s k i n → Instructed s j i n
 same_told s k j i n e blocks h = record {
   served = λ z. serves_as s k j e.served_is (h.served (sym (opening_same k j e) ∙ z));
   selected = λ z. of (h.selected z);
@@ -77,13 +114,18 @@ same_told s k j i n e blocks h = record {
     of : Selected s k i → Selected s j i
     of w = record {
       unbegun = λ b. w.unbegun (sym e.begun_is ∙ b);
-      stage = λ b. subst (λ (x : Phase). KnownIn i.known j.exchange.plan x) (sym e.phase_is) (known_same i.known k.exchange.plan j.exchange.plan (phase_of (bus_of k)) e.next_is e.cause_is (w.stage (sym e.begun_is ∙ b)));
+      stage = λ b. subst (λ (x : Phase). KnownIn i.known j.exchange.plan x) (sym e.phase_is) (known_same i.known
+          k.exchange.plan j.exchange.plan (phase_of (bus_of k)) e.next_is e.cause_is (w.stage (sym e.begun_is ∙ b)));
       named = λ z v. w.named (sym (opening_same k j e) ∙ z) (serves_before s k j e.served_is v);
-      carried = λ b p v. w.carried (sym e.begun_is ∙ b) (sym e.phase_is ∙ p) (serves_before s k j e.served_is v) ∙ sym (blocks p v.id);
+      carried = λ b p v. w.carried (sym e.begun_is ∙ b) (sym e.phase_is ∙ p) (serves_before s k j e.served_is v)
+          ∙ sym (blocks p v.id);
       block = λ a v. w.block a (serves_before s k j e.served_is v);
     }
 
-pub byte_told : (s : ScenarioValue) (k j : RunState) (i : Instructions) (n : Connection) (byte : ℕ) → SameStage k j → k.exchange.begun ≡ true → phase_of (bus_of k) ≡ Phase.Command → n.reselected ≡ false → ((v : Serves s k) → (carried_here j v.id).block ≡ (carried_here k v.id).block ++ byte ∷ []) → Instructed s k i n → Instructed s j (with_byte i byte) n
+pub byte_told : (s : ScenarioValue) (k j : RunState) (i : Instructions) (n : Connection) (byte : ℕ)
+    → SameStage k j → k.exchange.begun ≡ true → phase_of (bus_of k) ≡ Phase.Command → n.reselected ≡ false
+    → ((v : Serves s k) → (carried_here j v.id).block ≡ (carried_here k v.id).block ++ byte ∷ []) → Instructed s k i n
+    → Instructed s j (with_byte i byte) n
 byte_told s k j i n byte e begun phase selected blocks h = record {
   served = λ z. serves_as s k j e.served_is (h.served (sym (opening_same k j e) ∙ z));
   selected = λ z. of (h.selected z);

@@ -12,7 +12,9 @@ use proofs.Instructed.Known.{FitsPhase, known_after}
 pub out_is : (b : LineSet) → (b.msg ≡ true → b.cd ≡ true) → is_message_out b ≡ is_out_phase (phase_of b)
 out_is b known = go b.msg b.cd b.io known
   where
-    go : (m d i : Bool) → (m ≡ true → d ≡ true) → (m && d && not i) ≡ is_out_phase (if m then (if i then Phase.MessageIn else Phase.MessageOut) else if d then (if i then Phase.Status else Phase.Command) else if i then Phase.DataIn else Phase.DataOut)
+    go : (m d i : Bool) → (m ≡ true → d ≡ true)
+        → (m && d && not i) ≡ is_out_phase (if m then (if i then Phase.MessageIn else Phase.MessageOut)
+        else if d then (if i then Phase.Status else Phase.Command) else if i then Phase.DataIn else Phase.DataOut)
     go true true true h = refl
     go true true false h = refl
     go true false i h = wrong' (h refl)
@@ -34,7 +36,9 @@ known_stays _ struck = refl
 pub told_before : (w : Hearing) (p : Plan) (i : Instructions) → i.known ≡ true → instructions_on w p i ≡ i
 told_before w p i e = λ j. if e j then i else instructions_with w p i
 
-pub known_turned : (w : Hearing) (p : Plan) (i : Instructions) (phase : Phase) → w.begun ≡ true → changes_phase w.change ≡ true → is_command w.change.before ≡ is_command_phase phase → (instructions_on w p i).known ≡ known_after i.known p.struck phase
+pub known_turned : (w : Hearing) (p : Plan) (i : Instructions) (phase : Phase) → w.begun ≡ true
+    → changes_phase w.change ≡ true → is_command w.change.before ≡ is_command_phase phase
+    → (instructions_on w p i).known ≡ known_after i.known p.struck phase
 known_turned w p i phase b ep ec = go i.known refl
   where
     go : (q : Bool) → i.known ≡ q → (if q then i else instructions_with w p i).known ≡ known_after q p.struck phase
@@ -45,31 +49,43 @@ opens_in : (phase : Phase) (cause : Cause) → is_opening_in phase cause ≡ (is
 opens_in Phase.MessageOut cause = refl
 opens_in _ cause = refl
 
-pub opening_turned : (w : Hearing) (p : Plan) (i : Instructions) (phase : Phase) → w.begun ≡ true → changes_phase w.change ≡ true → is_message_out w.change.before ≡ is_out_phase phase → i.known ≡ false → (instructions_on w p i).opening ≡ (if is_opening_in phase p.cause then Some p.said else i.opening)
+pub opening_turned : (w : Hearing) (p : Plan) (i : Instructions) (phase : Phase) → w.begun ≡ true
+    → changes_phase w.change ≡ true → is_message_out w.change.before ≡ is_out_phase phase → i.known ≡ false
+    → (instructions_on w p i).opening ≡ (if is_opening_in phase p.cause then Some p.said else i.opening)
 opening_turned w p i phase b ep eo e =
     (λ j. (if e j then i else instructions_with w p i).opening)
     ∙ (λ j. if b j && ep j && eo j && is_selected p.cause then Some p.said else i.opening)
     ∙ ap (λ (q : Bool). if q then Some p.said else i.opening) (sym (opens_in phase p.cause))
 
-pub block_turned : (w : Hearing) (p : Plan) (i : Instructions) → changes_phase w.change ≡ true → i.known ≡ false → (instructions_on w p i).block ≡ (if is_command w.change.after then [] else i.block)
-block_turned w p i ep e =
-    (λ j. (if e j then i else instructions_with w p i).block)
-    ∙ (λ j. if ep j then (if is_command w.change.after then [] else i.block) else if w.crosses && is_command w.change.before then i.block ++ w.change.after.data_bits % 256 ∷ [] else i.block)
+pub block_turned : (w : Hearing) (p : Plan) (i : Instructions) → changes_phase w.change ≡ true → i.known ≡ false
+    → (instructions_on w p i).block ≡ (if is_command w.change.after then [] else i.block)
+block_turned w p i ep e = (λ j. (if e j then i else instructions_with w p i).block)
+    ∙ (λ j. if ep j then (if is_command w.change.after then [] else i.block)
+    else if w.crosses && is_command w.change.before then i.block ++ w.change.after.data_bits % 256 ∷ [] else i.block)
 
 -- ---- the phase that begins
 
-pub enters_known : (known : Bool) (next : Next) (q : Plan) (phase : Phase) → is_out_phase phase ≡ false → q.next ≡ next → FitsPhase known next (Some phase) → KnownIn known q phase
+pub enters_known : (known : Bool) (next : Next) (q : Plan) (phase : Phase) → is_out_phase phase ≡ false → q.next ≡ next
+    → FitsPhase known next (Some phase) → KnownIn known q phase
 enters_known known next q Phase.MessageOut o en h = wrong o
 enters_known known next q Phase.MessageIn o en h = subst (λ (x : Next). KnownNext known x) (sym en) h
 enters_known known next q Phase.Status o en h = tt
 enters_known known next q _ o en h = h
 
-pub refused_known : (b : LineSet) (known after : Bool) (p q : Plan) → (b.msg ≡ true → b.cd ≡ true) → q.next ≡ p.next → q.cause ≡ cause_after b → after ≡ known_after known p.struck (phase_of b) → KnownIn known p (phase_of b) → KnownFor after q.next q.cause
-refused_known b known after p q lines en ec ea h = subst (λ (c : Cause). KnownFor after q.next c) (sym ec) (go b.msg b.cd b.io lines ea h)
+pub refused_known : (b : LineSet) (known after : Bool) (p q : Plan) → (b.msg ≡ true → b.cd ≡ true) → q.next ≡ p.next
+    → q.cause ≡ cause_after b → after ≡ known_after known p.struck (phase_of b) → KnownIn known p (phase_of b)
+    → KnownFor after q.next q.cause
+refused_known b known after p q lines en ec ea h =
+    subst (λ (c : Cause). KnownFor after q.next c) (sym ec) (go b.msg b.cd b.io lines ea h)
   where
-    go : (m d i : Bool) → (m ≡ true → d ≡ true) → after ≡ known_after known p.struck (if m then (if i then Phase.MessageIn else Phase.MessageOut) else if d then (if i then Phase.Status else Phase.Command) else if i then Phase.DataIn else Phase.DataOut) → KnownIn known p (if m then (if i then Phase.MessageIn else Phase.MessageOut) else if d then (if i then Phase.Status else Phase.Command) else if i then Phase.DataIn else Phase.DataOut)
+    go : (m d i : Bool) → (m ≡ true → d ≡ true)
+        → after ≡ known_after known p.struck (if m then (if i then Phase.MessageIn else Phase.MessageOut)
+        else if d then (if i then Phase.Status else Phase.Command) else if i then Phase.DataIn else Phase.DataOut)
+        → KnownIn known p (if m then (if i then Phase.MessageIn else Phase.MessageOut)
+        else if d then (if i then Phase.Status else Phase.Command) else if i then Phase.DataIn else Phase.DataOut)
         → KnownFor after q.next (if m && d && i then Cause.InMessage else if d then Cause.InStatus else Cause.InData)
-    go true true true z e x = subst (λ (k : Bool). KnownNext k q.next) (sym e) (subst (λ (y : Next). KnownNext known y) (sym en) x)
+    go true true true z e x =
+        subst (λ (k : Bool). KnownNext k q.next) (sym e) (subst (λ (y : Next). KnownNext known y) (sym en) x)
     go true true false z e x = tt
     go true false i z e x = wrong' (z refl)
     go false true true z e x = tt

@@ -36,14 +36,18 @@ items_start s = record {
 }
   where
     start : UnitsP (IsQueued s (run_state s []).story.sent) (array_of s (run_state s [])).units
-    start = settled_units (IsQueued s (run_state s []).story.sent) [] (starting_units s s.units) (start_queued (IsQueued s (run_state s []).story.sent) s s.units)
+    start = settled_units (IsQueued s (run_state s []).story.sent) [] (starting_units s s.units)
+        (start_queued (IsQueued s (run_state s []).story.sent) s s.units)
 
 -- ---- a selection is made for what is next
 
-pub aimed_next : (s : ScenarioValue) (p : List Row) (row : Row) (n : Connection) → connection p ≡ None → connection (row ∷ p) ≡ Some n → n.reselected ≡ false → IsCalled s p → AimsFit s p → IsAimed s (run_state s p) n.initiator
+pub aimed_next : (s : ScenarioValue) (p : List Row) (row : Row) (n : Connection) → connection p ≡ None
+    → connection (row ∷ p) ≡ Some n → n.reselected ≡ false → IsCalled s p → AimsFit s p
+    → IsAimed s (run_state s p) n.initiator
 aimed_next s p row n alone e selects was h = by_call (call p) refl (made_is p row n alone e).made
   where
-    by_calling : (k : Call) → call p ≡ Some k → (o : Option Calling) → k.calling ≡ o → connected_of k.caller o row.time ≡ Some n → IsAimed s (run_state s p) n.initiator
+    by_calling : (k : Call) → call p ≡ Some k → (o : Option Calling) → k.calling ≡ o
+        → connected_of k.caller o row.time ≡ Some n → IsAimed s (run_state s p) n.initiator
     by_calling k ek None f z = none_some n z
     by_calling k ek (Some x) f z = by_answer x.answered z
       where
@@ -52,8 +56,10 @@ aimed_next s p row n alone e selects was h = by_call (call p) refl (made_is p ro
         by_answer (Some t) y =
             let same : connected k.caller x row.time ≡ n = same_Some (connected k.caller x row.time) n y in
             let re : x.reselects ≡ false = ap (λ (w : Connection). w.reselected) same ∙ selects in
-            let caller : n.initiator ≡ k.caller = ap (λ (w : Connection). w.initiator) (sym same) ∙ ap (λ (q : Bool). if q then x.called else k.caller) re in
-            subst (λ (d : ℕ). IsAimed s (run_state s p) d) (sym caller) (h.calls k ek ((was k x ek f).host_is ∙ ap not re))
+            let caller : n.initiator ≡ k.caller = ap (λ (w : Connection). w.initiator) (sym same)
+            ∙ ap (λ (q : Bool). if q then x.called else k.caller) re in
+            subst (λ (d : ℕ). IsAimed s (run_state s p) d) (sym caller)
+            (h.calls k ek ((was k x ek f).host_is ∙ ap not re))
 
     by_call : (o : Option Call) → call p ≡ o → connection_of o row.time ≡ Some n → IsAimed s (run_state s p) n.initiator
     by_call None f z = none_some n z
@@ -61,9 +67,12 @@ aimed_next s p row n alone e selects was h = by_call (call p) refl (made_is p ro
 
 -- ---- the kinds of rows
 
-pub beginning : (s : ScenarioValue) (k : RunState) (row : Row) (n : Connection) → k.story.bus_state.connection ≡ None → (row_reading k.story.bus_state row).next ≡ Some n → (row_reading k.story.bus_state row).change.after.rst ≡ false → RowOf s k row → Begins s k row n
+pub beginning : (s : ScenarioValue) (k : RunState) (row : Row) (n : Connection) → k.story.bus_state.connection ≡ None
+    → (row_reading k.story.bus_state row).next ≡ Some n → (row_reading k.story.bus_state row).change.after.rst ≡ false
+    → RowOf s k row → Begins s k row n
 beginning s k row n con next calm (row_apart e f) = none_some n (sym f ∙ next)
-beginning s k row n con next calm (begins m b) = subst (λ (x : Connection). Begins s k row x) (same_Some m n (sym b.first.next_is ∙ next)) b
+beginning s k row n con next calm (begins m b) =
+    subst (λ (x : Connection). Begins s k row x) (same_Some m n (sym b.first.next_is ∙ next)) b
 beginning s k row n con next calm (goes_on m c g) = none_some m (sym con ∙ g.row_is.connection_is)
 beginning s k row n con next calm (ends m g) = none_some m (sym con ∙ g.connection_is)
 beginning s k row n con next calm (under_reset r e) = wrong (sym r ∙ calm)
@@ -74,16 +83,41 @@ pub record LinkedStands (p : List Row) : Type 0 where
   pub bsy : (bus p).bsy ≡ true
 
 pub link_stands : (s : ScenarioValue) (p : List Row) (n : Connection) → LinkStage s p n → LinkedStands p
-link_stands s p n (when_selected h) = record { arbitration_is = h.linked.stands.arbitration_is; call_is = h.linked.stands.call_is; bsy = ap (λ (l : LineSet). l.bsy) h.linked.stands.bus_is }
-link_stands s p n (when_settling bsy atn msg cd io y h) = record { arbitration_is = h.linked.stands.arbitration_is; call_is = h.linked.stands.call_is; bsy = ap (λ (l : LineSet). l.bsy) h.linked.stands.bus_is }
-link_stands s p n (when_turning atn x msg cd h) = record { arbitration_is = h.linked.stands.arbitration_is; call_is = h.linked.stands.call_is; bsy = ap (λ (l : LineSet). l.bsy) h.linked.stands.bus_is }
-link_stands s p n (when_offering atn msg cd y h) = record { arbitration_is = h.linked.stands.arbitration_is; call_is = h.linked.stands.call_is; bsy = ap (λ (l : LineSet). l.bsy) h.linked.stands.bus_is }
-link_stands s p n (when_shaking msg cd io req ack atn x y h) = record { arbitration_is = h.linked.stands.arbitration_is; call_is = h.linked.stands.call_is; bsy = ap (λ (l : LineSet). l.bsy) h.linked.stands.bus_is }
-link_stands s p n (when_pulsing io req ack atn x y h a) = record { arbitration_is = h.linked.stands.arbitration_is; call_is = h.linked.stands.call_is; bsy = ap (λ (l : LineSet). l.bsy) h.linked.stands.bus_is }
+link_stands s p n (when_selected h) = record {
+  arbitration_is = h.linked.stands.arbitration_is;
+  call_is = h.linked.stands.call_is;
+  bsy = ap (λ (l : LineSet). l.bsy) h.linked.stands.bus_is;
+}
+link_stands s p n (when_settling bsy atn msg cd io y h) = record {
+  arbitration_is = h.linked.stands.arbitration_is;
+  call_is = h.linked.stands.call_is;
+  bsy = ap (λ (l : LineSet). l.bsy) h.linked.stands.bus_is;
+}
+link_stands s p n (when_turning atn x msg cd h) = record {
+  arbitration_is = h.linked.stands.arbitration_is;
+  call_is = h.linked.stands.call_is;
+  bsy = ap (λ (l : LineSet). l.bsy) h.linked.stands.bus_is;
+}
+link_stands s p n (when_offering atn msg cd y h) = record {
+  arbitration_is = h.linked.stands.arbitration_is;
+  call_is = h.linked.stands.call_is;
+  bsy = ap (λ (l : LineSet). l.bsy) h.linked.stands.bus_is;
+}
+link_stands s p n (when_shaking msg cd io req ack atn x y h) = record {
+  arbitration_is = h.linked.stands.arbitration_is;
+  call_is = h.linked.stands.call_is;
+  bsy = ap (λ (l : LineSet). l.bsy) h.linked.stands.bus_is;
+}
+link_stands s p n (when_pulsing io req ack atn x y h a) = record {
+  arbitration_is = h.linked.stands.arbitration_is;
+  call_is = h.linked.stands.call_is;
+  bsy = ap (λ (l : LineSet). l.bsy) h.linked.stands.bus_is;
+}
 
 -- ---- RST rises, and falls
 
-pub rst_raised : (p : List Row) (row : Row) → row.dev < 8 → (bus p).rst ≡ false → (bus (row ∷ p)).rst ≡ true → rises (drives p row.dev).rst (driven_after row.kind (drives p row.dev)).rst ≡ true
+pub rst_raised : (p : List Row) (row : Row) → row.dev < 8 → (bus p).rst ≡ false → (bus (row ∷ p)).rst ≡ true
+    → rises (drives p row.dev).rst (driven_after row.kind (drives p row.dev)).rst ≡ true
 rst_raised p row lt off on =
     by_bool (driven_after row.kind (drives p row.dev)).rst
     (λ e. λ i. not (was row.dev lt i) && e i)
@@ -102,14 +136,20 @@ pub record FallsQuiet (p : List Row) (row : Row) : Type 0 where
   pub no_bsy : (d : ℕ) → d < 8 → (drives (row ∷ p) d).bsy ≡ false
   pub no_sel : (bus (row ∷ p)).sel ≡ false
 
-off_in : (on : LineSet → Bool) → ((a b : LineSet) → on (union a b) ≡ (on a || on b)) → on only_rst ≡ false → (l m : LineSet) → is_within l (union only_rst m) ≡ true → on m ≡ false → on l ≡ false
+off_in : (on : LineSet → Bool) → ((a b : LineSet) → on (union a b) ≡ (on a || on b)) → on only_rst ≡ false
+    → (l m : LineSet) → is_within l (union only_rst m) ≡ true → on m ≡ false → on l ≡ false
 off_in on both zero l m e off =
-    by_bool (on l)
-    (λ z. wrong (sym (ap on (sym (same_set-eq (union (union only_rst m) l) (union only_rst m) e)) ∙ both (union only_rst m) l ∙ (λ i. on (union only_rst m) || z i) ∙ or_true (on (union only_rst m))) ∙ both only_rst m ∙ (λ i. zero i || off i)))
-    (λ z. z)
+    by_bool (on l) (λ z. wrong (sym (ap on (sym (same_set-eq (union (union only_rst m) l) (union only_rst m) e))
+    ∙ both (union only_rst m) l ∙ (λ i. on (union only_rst m) || z i) ∙ or_true (on (union only_rst m)))
+    ∙ both only_rst m ∙ (λ i. zero i || off i))) (λ z. z)
 
-pub falls_quiet : (s : ScenarioValue) (p : List Row) (row : Row) → row.dev < 8 → broken_rule p row ≡ None → BusStage s p → (bus p).rst ≡ true → (bus (row ∷ p)).rst ≡ false → FallsQuiet p row
-falls_quiet s p row lt obeys h on off = record { sel = sel; no_bsy = λ d l. line (λ x. x.bsy) (λ _ _. refl) refl refl (ap (λ (x : LineSet). x.bsy) all) d l; no_sel = bus_off (λ x. x.sel) (λ _ _. refl) refl (row ∷ p) (λ d l. line (λ x. x.sel) (λ _ _. refl) refl refl sel d l) }
+pub falls_quiet : (s : ScenarioValue) (p : List Row) (row : Row) → row.dev < 8 → broken_rule p row ≡ None → BusStage s p
+    → (bus p).rst ≡ true → (bus (row ∷ p)).rst ≡ false → FallsQuiet p row
+falls_quiet s p row lt obeys h on off = record {
+  sel = sel;
+  no_bsy = λ d l. line (λ x. x.bsy) (λ _ _. refl) refl refl (ap (λ (x : LineSet). x.bsy) all) d l;
+  no_sel = bus_off (λ x. x.sel) (λ _ _. refl) refl (row ∷ p) (λ d l. line (λ x. x.sel) (λ _ _. refl) refl refl sel d l);
+}
   where
     all : union only_rst (bus p) ≡ only_rst
     all = same_set-eq (union only_rst (bus p)) only_rst (quiet_at_end s p row lt obeys (under_rst s p h on) off)
@@ -118,11 +158,16 @@ falls_quiet s p row lt obeys h on off = record { sel = sel; no_bsy = λ d l. lin
     sel = quiet_sel (bus p) all
 
     within : is_within (driven_after row.kind (drives p row.dev)) (union only_rst (drives p row.dev)) ≡ true
-    within = sym (λ i. implies (on i || rises (drives p row.dev).rst (driven_after row.kind (drives p row.dev)).rst) (is_within (driven_after row.kind (drives p row.dev)) (union only_rst (drives p row.dev)))) ∙ (reset_rule p row obeys).alone
+    within = sym (λ i. implies (on i || rises (drives p row.dev).rst (driven_after row.kind (drives p row.dev)).rst)
+        (is_within (driven_after row.kind (drives p row.dev)) (union only_rst (drives p row.dev))))
+        ∙ (reset_rule p row obeys).alone
 
-    line : (f : LineSet → Bool) → ((a b : LineSet) → f (union a b) ≡ (f a || f b)) → f none ≡ false → f only_rst ≡ false → f (bus p) ≡ false → (d : ℕ) → d < 8 → f (drives (row ∷ p) d) ≡ false
+    line : (f : LineSet → Bool) → ((a b : LineSet) → f (union a b) ≡ (f a || f b)) → f none ≡ false → f only_rst ≡ false
+        → f (bus p) ≡ false → (d : ℕ) → d < 8 → f (drives (row ∷ p) d) ≡ false
     line f both zero rst e d l = elim (cases_eq d row.dev) [
-      | inl same ↦ ap (λ (n : ℕ). f (drives (row ∷ p) n)) same ∙ ap f (drives_next p row) ∙ off_in f both rst (driven_after row.kind (drives p row.dev)) (drives p row.dev) within (line_off f both p e row.dev lt)
+      | inl same ↦ ap (λ (n : ℕ). f (drives (row ∷ p) n)) same ∙ ap f (drives_next p row)
+          ∙ off_in f both rst (driven_after row.kind (drives p row.dev)) (drives p row.dev) within
+          (line_off f both p e row.dev lt)
       | inr ne ↦ ap f (drives-other row p d ne) ∙ line_off f both p e d l
     ]
 
@@ -133,8 +178,12 @@ plain_is plain e = refl
 plain_is _ e = wrong' e
 
 -- An automatic REQUEST SENSE that is open then has no other last message than one that tells nothing.
-pub ends_plain : (s : ScenarioValue) (p : List Row) (row : Row) (m : Connection) → AreOfDevices p → row.dev < 8 → connection p ≡ Some m → connection (row ∷ p) ≡ None → ConnectionRow s p row m → (l : Link) → TalksBy s (talk_of (run_state s p)) m l → (n : ℕ) → (run_state s p).served ≡ Some (sense_item n) → is_open_sense (run_state s p).story.sent n ≡ true → l.last ≡ plain
-ends_plain s p row m dv lt con gone r l t n sv opens = plain_is l.last (or_first (is_plain l.last) (is_complete l.last) (plain_last true l (sym (ap (λ (x : Option Item). last_well (is_sense_item x) l) sv) ∙ t.last) refl).1 incomplete)
+pub ends_plain : (s : ScenarioValue) (p : List Row) (row : Row) (m : Connection) → AreOfDevices p
+    → row.dev < 8 → connection p ≡ Some m → connection (row ∷ p) ≡ None → ConnectionRow s p row m
+    → (l : Link) → TalksBy s (talk_of (run_state s p)) m l → (n : ℕ) → (run_state s p).served ≡ Some (sense_item n)
+    → is_open_sense (run_state s p).story.sent n ≡ true → l.last ≡ plain
+ends_plain s p row m dv lt con gone r l t n sv opens = plain_is l.last (or_first (is_plain l.last) (is_complete l.last)
+    (plain_last true l (sym (ap (λ (x : Option Item). last_well (is_sense_item x) l) sv) ∙ t.last) refl).1 incomplete)
   where
     k : RunState
     k = run_state s p
@@ -146,15 +195,21 @@ ends_plain s p row m dv lt con gone r l t n sv opens = plain_is l.last (or_first
     selected = t.selected (ap is_sense_item sv)
 
     stays_on : {A : Type 0} → (bus (row ∷ p)).bsy ≡ true → A
-    stays_on e = none_some m (sym gone ∙ (λ i. connection_after (con i) (call p) (change_of p row) row) ∙ ap (λ (q : Bool). if q then Some m else None) e)
+    stays_on e = none_some m (sym gone ∙ (λ i. connection_after (con i) (call p) (change_of p row) row)
+        ∙ ap (λ (q : Bool). if q then Some m else None) e)
 
     by_facts : {A : Type 0} → RowFacts s p row m → is_complete l.last ≡ true → A
-    by_facts (stays g) z = none_some m (sym ((λ i. connection_after (pl.connection i) (pl.call i) (change_plain s row p dv lt i) row) ∙ gone) ∙ (λ i. connection_after (g.row_is.connection_is i) k.story.bus_state.call (g.row_is.change_is i) row) ∙ ap (λ (q : Bool). if q then Some m else None) g.row_is.stands)
+    by_facts (stays g) z = none_some m
+        (sym ((λ i. connection_after (pl.connection i) (pl.call i) (change_plain s row p dv lt i) row) ∙ gone)
+        ∙ (λ i. connection_after (g.row_is.connection_is i) k.story.bus_state.call (g.row_is.change_is i) row)
+        ∙ ap (λ (q : Bool). if q then Some m else None) g.row_is.stands)
     by_facts (ends_here f) z = elim (t.completes z) [
       | inl x ↦ elim (t.closes selected z x.here (record { command = n; sense = true }) sv) [
         | inl y ↦ open_over k.story.sent n opens y
         | inr y ↦ elim y [
-          | inl a ↦ some_none Phase.MessageOut (sym (taken_leaves s k m.target x ∙ ap (λ (q : Bool). if q then Some Phase.MessageOut else None) a) ∙ f.whereto)
+          | inl a ↦ some_none Phase.MessageOut
+              (sym (taken_leaves s k m.target x ∙ ap (λ (q : Bool). if q then Some Phase.MessageOut else None) a)
+              ∙ f.whereto)
           | inr a ↦ elim (in_move s p row m (ap is_message_in (sym pl.bus) ∙ x.here) r.link).stands [
             | inl b ↦ wrong (sym a ∙ ap awaits pl.bus ∙ (λ i. b i && not (bus p).ack))
             | inr b ↦ stays_on b

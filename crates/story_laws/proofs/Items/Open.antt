@@ -29,41 +29,49 @@ no_abort k p e = absurd cc
 
 -- ---- one is sent
 
-pub opened : (b : Sent) (item : Item) (n : ℕ) → is_open (record b { sent = item ∷ b.sent }) n ≡ true → (item ≡ command_item n) ⊎ (is_open b n ≡ true)
-opened b item n e =
-    elim (or_cases (same_item item (command_item n)) (has_item b.sent (command_item n)) (and_first (same_item item (command_item n) || has_item b.sent (command_item n)) (not (has_item b.over (command_item n))) e)) [
+pub opened : (b : Sent) (item : Item) (n : ℕ) → is_open (record b { sent = item ∷ b.sent }) n ≡ true
+    → (item ≡ command_item n) ⊎ (is_open b n ≡ true)
+opened b item n e = elim (or_cases (same_item item (command_item n)) (has_item b.sent (command_item n)) (and_first
+    (same_item item (command_item n) || has_item b.sent (command_item n)) (not (has_item b.over (command_item n))) e)) [
       | inl z ↦ inl (item_is item (command_item n) z)
-      | inr z ↦ inr ((λ i. z i && not (has_item b.over (command_item n))) ∙ and_second (same_item item (command_item n) || has_item b.sent (command_item n)) (not (has_item b.over (command_item n))) e)
+      | inr z ↦ inr ((λ i. z i && not (has_item b.over (command_item n)))
+          ∙ and_second (same_item item (command_item n) || has_item b.sent (command_item n))
+          (not (has_item b.over (command_item n))) e)
     ]
 
 clash_back : (c d : CmdDef) → is_clash c d ≡ true → is_clash d c ≡ true
 clash_back c d e =
-    let w = and_first (c.target == d.target && c.unit == d.unit) (is_tag_clash (tag_number c.tag) (tag_number d.tag)) e in
+    let w = and_first (c.target == d.target && c.unit == d.unit)
+    (is_tag_clash (tag_number c.tag) (tag_number d.tag)) e in
     let t : c.target ≡ d.target = eqb-true c.target d.target (and_first (c.target == d.target) (c.unit == d.unit) w) in
     let u : c.unit ≡ d.unit = eqb-true c.unit d.unit (and_second (c.target == d.target) (c.unit == d.unit) w) in
     (λ i. (d.target == t i && d.unit == u i) && is_tag_clash (tag_number d.tag) (tag_number c.tag))
     ∙ (λ i. (eq_self d.target i && eq_self d.unit i) && is_tag_clash (tag_number d.tag) (tag_number c.tag))
-    ∙ by (tag_number c.tag) (tag_number d.tag) (and_second (c.target == d.target && c.unit == d.unit) (is_tag_clash (tag_number c.tag) (tag_number d.tag)) e)
+    ∙ by (tag_number c.tag) (tag_number d.tag)
+    (and_second (c.target == d.target && c.unit == d.unit) (is_tag_clash (tag_number c.tag) (tag_number d.tag)) e)
   where
     by : (x y : Option ℕ) → is_tag_clash x y ≡ true → is_tag_clash y x ≡ true
     by x None z = refl
     by None (Some a) z = refl
     by (Some a) (Some r) z = ap (λ (k : ℕ). r == k) (eqb-true a r z) ∙ eq_self r
 
-free_of : (c : CmdDef) (b : Sent) (dev j : ℕ) (commands : List CmdDef) → list_any (λ (d : CmdDef). is_clash c d) (open_from b dev (suc j) commands) ≡ false
-    → (m : ℕ) (d : CmdDef) → command_at commands (suc m) ≡ Some d → d.host ≡ dev → is_open b (suc (j + m)) ≡ true → is_clash c d ≡ false
+free_of : (c : CmdDef) (b : Sent) (dev j : ℕ) (commands : List CmdDef)
+    → list_any (λ (d : CmdDef). is_clash c d) (open_from b dev (suc j) commands) ≡ false → (m : ℕ) (d : CmdDef)
+    → command_at commands (suc m) ≡ Some d → d.host ≡ dev → is_open b (suc (j + m)) ≡ true → is_clash c d ≡ false
 free_of c b dev j [] e m d at h o = absurd (none_some d at)
 free_of c b dev j (x ∷ commands) e zero d at h o =
     let same : x ≡ d = same_Some x d at in
     let now : is_open b (suc j) ≡ true = ap (λ (n : ℕ). is_open b (suc n)) (none_more j) ∙ o in
     let own : (x.host == dev) ≡ true = ap (λ (k : ℕ). k == dev) (ap (λ (y : CmdDef). y.host) same ∙ h) ∙ eq_self dev in
-    let all = sym (λ i. list_any (λ (y : CmdDef). is_clash c y) (if own i && now i then x ∷ open_from b dev (suc j + 1) commands else open_from b dev (suc j + 1) commands)) ∙ e in
-    ap (is_clash c) (sym same) ∙ (or_parts (is_clash c x) (list_any (λ (y : CmdDef). is_clash c y) (open_from b dev (suc j + 1) commands)) all).0
+    let all = sym (λ i. list_any (λ (y : CmdDef). is_clash c y)
+    (if own i && now i then x ∷ open_from b dev (suc j + 1) commands else open_from b dev (suc j + 1) commands)) ∙ e in
+    ap (is_clash c) (sym same)
+    ∙ (or_parts (is_clash c x) (list_any (λ (y : CmdDef). is_clash c y) (open_from b dev (suc j + 1) commands)) all).0
   where
     none_more : (n : ℕ) → n ≡ n + 0
     none_more n = omega arith
-free_of c b dev j (x ∷ commands) e (suc m) d at h o =
-    free_of c b dev (suc j) commands (later (x.host == dev && is_open b (suc j)) refl) m d at h (ap (λ (n : ℕ). is_open b (suc n)) (sym (moved j m)) ∙ o)
+free_of c b dev j (x ∷ commands) e (suc m) d at h o = free_of c b dev (suc j) commands
+    (later (x.host == dev && is_open b (suc j)) refl) m d at h (ap (λ (n : ℕ). is_open b (suc n)) (sym (moved j m)) ∙ o)
   where
     moved : (n k : ℕ) → n + suc k ≡ suc n + k
     moved n k = omega arith
@@ -71,15 +79,23 @@ free_of c b dev j (x ∷ commands) e (suc m) d at h o =
     one_more : (n : ℕ) → suc (suc n) ≡ suc n + 1
     one_more n = omega arith
 
-    later : (q : Bool) → (x.host == dev && is_open b (suc j)) ≡ q → list_any (λ (y : CmdDef). is_clash c y) (open_from b dev (suc (suc j)) commands) ≡ false
-    later q z = ap (λ (n : ℕ). list_any (λ (y : CmdDef). is_clash c y) (open_from b dev n commands)) (one_more j) ∙ by q (sym (ap (λ (r : Bool). list_any (λ (y : CmdDef). is_clash c y) (if r then x ∷ open_from b dev (suc j + 1) commands else open_from b dev (suc j + 1) commands)) z) ∙ e)
+    later : (q : Bool) → (x.host == dev && is_open b (suc j)) ≡ q
+        → list_any (λ (y : CmdDef). is_clash c y) (open_from b dev (suc (suc j)) commands) ≡ false
+    later q z = ap (λ (n : ℕ). list_any (λ (y : CmdDef). is_clash c y) (open_from b dev n commands)) (one_more j)
+        ∙ by q (sym (ap (λ (r : Bool). list_any (λ (y : CmdDef). is_clash c y)
+        (if r then x ∷ open_from b dev (suc j + 1) commands else open_from b dev (suc j + 1) commands)) z) ∙ e)
       where
-        by : (r : Bool) → list_any (λ (y : CmdDef). is_clash c y) (if r then x ∷ open_from b dev (suc j + 1) commands else open_from b dev (suc j + 1) commands) ≡ false → list_any (λ (y : CmdDef). is_clash c y) (open_from b dev (suc j + 1) commands) ≡ false
-        by true f = (or_parts (is_clash c x) (list_any (λ (y : CmdDef). is_clash c y) (open_from b dev (suc j + 1) commands)) f).1
+        by : (r : Bool) → list_any (λ (y : CmdDef). is_clash c y)
+            (if r then x ∷ open_from b dev (suc j + 1) commands else open_from b dev (suc j + 1) commands) ≡ false
+            → list_any (λ (y : CmdDef). is_clash c y) (open_from b dev (suc j + 1) commands) ≡ false
+        by true f = (or_parts (is_clash c x)
+            (list_any (λ (y : CmdDef). is_clash c y) (open_from b dev (suc j + 1) commands)) f).1
         by false f = f
 
 -- A command that may be sent clashes with no open one of its initiator.
-may_free : (s : ScenarioValue) (b : Sent) (dev time : ℕ) (c : CmdDef) → may_send s time (open_from b dev 1 s.commands) c ≡ true → (m : ℕ) (d : CmdDef) → command_at s.commands m ≡ Some d → d.host ≡ dev → is_open b m ≡ true → is_clash c d ≡ false
+may_free : (s : ScenarioValue) (b : Sent) (dev time : ℕ) (c : CmdDef)
+    → may_send s time (open_from b dev 1 s.commands) c ≡ true → (m : ℕ) (d : CmdDef) → command_at s.commands m ≡ Some d
+    → d.host ≡ dev → is_open b m ≡ true → is_clash c d ≡ false
 may_free s b dev time c e zero d at h o = absurd (none_some d (sym (none_at s.commands) ∙ at))
   where
     none_at : (commands : List CmdDef) → command_at commands 0 ≡ None
@@ -87,22 +103,28 @@ may_free s b dev time c e zero d at h o = absurd (none_some d (sym (none_at s.co
     none_at (x ∷ commands) = refl
 may_free s b dev time c e (suc m) d at h o =
     let now = open_from b dev 1 s.commands in
-    free_of c b dev 0 s.commands
-    (not-true (list_any (λ (x : CmdDef). is_clash c x) now) (and_second (nat_le c.at time && nat_lt (length now) (open_limit_of s.hosts c.host)) (not (list_any (λ (x : CmdDef). is_clash c x) now)) e))
-    m d at h (ap (λ (n : ℕ). is_open b (suc n)) (none_more m) ∙ o)
+    free_of c b dev 0 s.commands (not-true (list_any (λ (x : CmdDef). is_clash c x) now)
+    (and_second (nat_le c.at time && nat_lt (length now) (open_limit_of s.hosts c.host))
+    (not (list_any (λ (x : CmdDef). is_clash c x) now)) e)) m d at h
+    (ap (λ (n : ℕ). is_open b (suc n)) (none_more m) ∙ o)
   where
     none_more : (n : ℕ) → 0 + n ≡ n
     none_more n = omega arith
 
-pub next_free : (s : ScenarioValue) (b : Sent) (dev : ℕ) (item : Item) → IsNext s b dev item → (n : ℕ) → item ≡ command_item n → (c : CmdDef) → command_at s.commands n ≡ Some c → (m : ℕ) (d : CmdDef) → command_at s.commands m ≡ Some d → c.host ≡ d.host → is_open b m ≡ true → is_clash c d ≡ false
+pub next_free : (s : ScenarioValue) (b : Sent) (dev : ℕ) (item : Item) → IsNext s b dev item
+    → (n : ℕ) → item ≡ command_item n → (c : CmdDef) → command_at s.commands n ≡ Some c → (m : ℕ) (d : CmdDef)
+    → command_at s.commands m ≡ Some d → c.host ≡ d.host → is_open b m ≡ true → is_clash c d ≡ false
 next_free s b dev _ (is_abort k z) n e c at m d ad h o = absurd (no_abort k _ e)
-next_free s b dev _ (is_sense k x ex own there z) n e c at m d ad h o = wrong (ap (λ (p : ProcId). p.sense) (same_process _ _ e))
+next_free s b dev _ (is_sense k x ex own there z) n e c at m d ad h o =
+    wrong (ap (λ (p : ProcId). p.sense) (same_process _ _ e))
 next_free s b dev _ (is_command k time x ex own z may none) n e c at m d ad h o =
     let same : k ≡ n = ap (λ (p : ProcId). p.command) (same_process _ _ e) in
     let it : x ≡ c = same_Some x c (sym ex ∙ ap (command_at s.commands) same ∙ at) in
-    ap (λ (y : CmdDef). is_clash y d) (sym it) ∙ may_free s b dev time x may m d ad (sym h ∙ ap (λ (y : CmdDef). y.host) (sym it) ∙ own) o
+    ap (λ (y : CmdDef). is_clash y d) (sym it)
+    ∙ may_free s b dev time x may m d ad (sym h ∙ ap (λ (y : CmdDef). y.host) (sym it) ∙ own) o
 
-pub sent_clash : (s : ScenarioValue) (b : Sent) (dev : ℕ) (item : Item) → IsNext s b dev item → NoClash s b → NoClash s (record b { sent = item ∷ b.sent })
+pub sent_clash : (s : ScenarioValue) (b : Sent) (dev : ℕ) (item : Item) → IsNext s b dev item → NoClash s b
+    → NoClash s (record b { sent = item ∷ b.sent })
 sent_clash s b dev item next h n m c d at ad own on om z = elim (opened b item n on) [
   | inl e ↦ elim (opened b item m om) [
     | inl f ↦ ap (λ (p : ProcId). p.command) (same_process _ _ (sym e ∙ f))
@@ -115,7 +137,8 @@ sent_clash s b dev item next h n m c d at ad own on om z = elim (opened b item n
 ]
 
 -- One that is over is open no more.
-pub fewer_clash : (s : ScenarioValue) (a b : Sent) → ((n : ℕ) → is_open b n ≡ true → is_open a n ≡ true) → NoClash s a → NoClash s b
+pub fewer_clash : (s : ScenarioValue) (a b : Sent) → ((n : ℕ) → is_open b n ≡ true → is_open a n ≡ true) → NoClash s a
+    → NoClash s b
 fewer_clash s a b fewer h n m c d at ad own on om z = h n m c d at ad own (fewer n on) (fewer m om) z
 
 -- ---- what names find
@@ -130,32 +153,43 @@ pub record IsNamed (s : ScenarioValue) (b : Sent) (i t u : ℕ) (tag : Option �
   pub senseless : (n : ℕ) → is_open_sense b n ≡ false
 
 host_of_nexus : (c : CmdDef) (i t u : ℕ) → is_of_nexus c i t u ≡ true → c.host ≡ i
-host_of_nexus c i t u e = eqb-true c.host i (and_first (c.host == i) (c.target == t) (and_first (c.host == i && c.target == t) (c.unit == u) e))
+host_of_nexus c i t u e = eqb-true c.host i
+    (and_first (c.host == i) (c.target == t) (and_first (c.host == i && c.target == t) (c.unit == u) e))
 
 target_of_nexus : (c : CmdDef) (i t u : ℕ) → is_of_nexus c i t u ≡ true → c.target ≡ t
-target_of_nexus c i t u e = eqb-true c.target t (and_second (c.host == i) (c.target == t) (and_first (c.host == i && c.target == t) (c.unit == u) e))
+target_of_nexus c i t u e = eqb-true c.target t
+    (and_second (c.host == i) (c.target == t) (and_first (c.host == i && c.target == t) (c.unit == u) e))
 
 unit_of_nexus : (c : CmdDef) (i t u : ℕ) → is_of_nexus c i t u ≡ true → c.unit ≡ u
 unit_of_nexus c i t u e = eqb-true c.unit u (and_second (c.host == i && c.target == t) (c.unit == u) e)
 
-hit_is : (s : ScenarioValue) (b : Sent) (i t u : ℕ) (tag : Option ℕ) (n0 n : ℕ) (c : CmdDef) → NoClash s b → (w : IsNamed s b i t u tag n0) → command_at s.commands n ≡ Some c → (is_of_nexus c i t u && is_open b n && same_number (tag_number c.tag) tag) ≡ true → n ≡ n0
+hit_is : (s : ScenarioValue) (b : Sent) (i t u : ℕ) (tag : Option ℕ) (n0 n : ℕ) (c : CmdDef)
+    → NoClash s b → (w : IsNamed s b i t u tag n0) → command_at s.commands n ≡ Some c
+    → (is_of_nexus c i t u && is_open b n && same_number (tag_number c.tag) tag) ≡ true → n ≡ n0
 hit_is s b i t u tag n0 n c h w at e =
     let here = and_first (is_of_nexus c i t u && is_open b n) (same_number (tag_number c.tag) tag) e in
     let nexus = and_first (is_of_nexus c i t u) (is_open b n) here in
     let target : c.target ≡ w.def.target = target_of_nexus c i t u nexus ∙ sym (target_of_nexus w.def i t u w.nexus) in
     let unit : c.unit ≡ w.def.unit = unit_of_nexus c i t u nexus ∙ sym (unit_of_nexus w.def i t u w.nexus) in
-    h n n0 c w.def at w.def_is (host_of_nexus c i t u nexus ∙ sym (host_of_nexus w.def i t u w.nexus)) (and_second (is_of_nexus c i t u) (is_open b n) here) w.opens
+    h n n0 c w.def at w.def_is (host_of_nexus c i t u nexus ∙ sym (host_of_nexus w.def i t u w.nexus))
+    (and_second (is_of_nexus c i t u) (is_open b n) here) w.opens
     ((λ j. (target j == w.def.target && unit j == w.def.unit) && is_tag_clash (tag_number c.tag) (tag_number w.def.tag))
-    ∙ (λ j. (eq_self w.def.target j && eq_self w.def.unit j) && w.tagged (tag_number c.tag) (and_second (is_of_nexus c i t u && is_open b n) (same_number (tag_number c.tag) tag) e) j))
+    ∙ (λ j. (eq_self w.def.target j && eq_self w.def.unit j) && w.tagged (tag_number c.tag)
+    (and_second (is_of_nexus c i t u && is_open b n) (same_number (tag_number c.tag) tag) e) j))
 
-named_from : (s : ScenarioValue) (b : Sent) (i t u : ℕ) (tag : Option ℕ) (n0 : ℕ) → NoClash s b → IsNamed s b i t u tag n0 → (j : ℕ) (commands : List CmdDef) → ((m : ℕ) → command_at commands (suc m) ≡ command_at s.commands (suc (j + m)))
-    → (named_item_from b i t u tag (suc j) commands ≡ Some (command_item n0)) ⊎ (named_item_from b i t u tag (suc j) commands ≡ None)
+named_from : (s : ScenarioValue) (b : Sent) (i t u : ℕ) (tag : Option ℕ) (n0 : ℕ)
+    → NoClash s b → IsNamed s b i t u tag n0 → (j : ℕ) (commands : List CmdDef)
+    → ((m : ℕ) → command_at commands (suc m) ≡ command_at s.commands (suc (j + m)))
+    → (named_item_from b i t u tag (suc j) commands ≡ Some (command_item n0))
+    ⊎ (named_item_from b i t u tag (suc j) commands ≡ None)
 named_from s b i t u tag n0 h w j [] at = inr refl
-named_from s b i t u tag n0 h w j (c ∷ commands) at =
-    go (is_of_nexus c i t u && is_open b (suc j) && same_number (tag_number c.tag) tag) (is_of_nexus c i t u && is_open_sense b (suc j) && same_number None tag) refl
-    ((λ k. is_of_nexus c i t u && w.senseless (suc j) k && same_number None tag) ∙ none_between (is_of_nexus c i t u) (same_number None tag))
-    (subst (λ (n : ℕ). (named_item_from b i t u tag n commands ≡ Some (command_item n0)) ⊎ (named_item_from b i t u tag n commands ≡ None)) (one_more j)
-    (named_from s b i t u tag n0 h w (suc j) commands (λ m. at (suc m) ∙ ap (λ (n : ℕ). command_at s.commands (suc n)) (moved j m))))
+named_from s b i t u tag n0 h w j (c ∷ commands) at = go (is_of_nexus c i t u && is_open b (suc j)
+    && same_number (tag_number c.tag) tag) (is_of_nexus c i t u && is_open_sense b (suc j) && same_number None tag) refl
+    ((λ k. is_of_nexus c i t u && w.senseless (suc j) k && same_number None tag)
+    ∙ none_between (is_of_nexus c i t u) (same_number None tag))
+    (subst (λ (n : ℕ). (named_item_from b i t u tag n commands ≡ Some (command_item n0))
+    ⊎ (named_item_from b i t u tag n commands ≡ None)) (one_more j) (named_from s b i t u tag n0 h w (suc j) commands
+    (λ m. at (suc m) ∙ ap (λ (n : ℕ). command_at s.commands (suc n)) (moved j m))))
   where
     one_more : (n : ℕ) → suc (suc n) ≡ suc n + 1
     one_more n = omega arith
@@ -166,14 +200,22 @@ named_from s b i t u tag n0 h w j (c ∷ commands) at =
     own : command_at s.commands (suc j) ≡ Some c
     own = ap (λ (n : ℕ). command_at s.commands (suc n)) (sym (plus_none j)) ∙ sym (at 0)
 
-    go : (q r : Bool) → (is_of_nexus c i t u && is_open b (suc j) && same_number (tag_number c.tag) tag) ≡ q → r ≡ false → (named_item_from b i t u tag (suc j + 1) commands ≡ Some (command_item n0)) ⊎ (named_item_from b i t u tag (suc j + 1) commands ≡ None)
-        → ((if q then Some (command_item (suc j)) else if r then Some (sense_item (suc j)) else named_item_from b i t u tag (suc j + 1) commands) ≡ Some (command_item n0)) ⊎ ((if q then Some (command_item (suc j)) else if r then Some (sense_item (suc j)) else named_item_from b i t u tag (suc j + 1) commands) ≡ None)
+    go : (q r : Bool) → (is_of_nexus c i t u && is_open b (suc j) && same_number (tag_number c.tag) tag) ≡ q → r ≡ false
+        → (named_item_from b i t u tag (suc j + 1) commands ≡ Some (command_item n0))
+        ⊎ (named_item_from b i t u tag (suc j + 1) commands ≡ None)
+        → ((if q then Some (command_item (suc j)) else if r then Some (sense_item (suc j))
+        else named_item_from b i t u tag (suc j + 1) commands) ≡ Some (command_item n0))
+        ⊎ ((if q then Some (command_item (suc j))
+        else if r then Some (sense_item (suc j)) else named_item_from b i t u tag (suc j + 1) commands) ≡ None)
     go true r z y rest = inl (ap (λ (n : ℕ). Some (command_item n)) (hit_is s b i t u tag n0 (suc j) c h w own z))
     go false true z y rest = wrong y
     go false false z y rest = rest
 
-pub named_is : (s : ScenarioValue) (b : Sent) (i t u : ℕ) (tag : Option ℕ) (n0 : ℕ) → NoClash s b → IsNamed s b i t u tag n0 → (named_item_from b i t u tag 1 s.commands ≡ Some (command_item n0)) ⊎ (named_item_from b i t u tag 1 s.commands ≡ None)
-named_is s b i t u tag n0 h w = named_from s b i t u tag n0 h w 0 s.commands (λ m. ap (λ (n : ℕ). command_at s.commands (suc n)) (none_more m))
+pub named_is : (s : ScenarioValue) (b : Sent) (i t u : ℕ) (tag : Option ℕ) (n0 : ℕ) → NoClash s b
+    → IsNamed s b i t u tag n0 → (named_item_from b i t u tag 1 s.commands ≡ Some (command_item n0))
+    ⊎ (named_item_from b i t u tag 1 s.commands ≡ None)
+named_is s b i t u tag n0 h w =
+    named_from s b i t u tag n0 h w 0 s.commands (λ m. ap (λ (n : ℕ). command_at s.commands (suc n)) (none_more m))
   where
     none_more : (m : ℕ) → m ≡ 0 + m
     none_more m = omega arith

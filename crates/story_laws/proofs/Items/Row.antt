@@ -19,22 +19,32 @@ pub carried_sent : (a : Story) (c : Option CarriedBytes) → (story_with_carried
 carried_sent a None = refl
 carried_sent a (Some c) = refl
 
-pub inside_sent : (s : ScenarioValue) (b : Story) (l : Link) (d : RowReading) (row : Row) → (story_in_connection s b (Some l) d row).sent ≡ b.sent
+pub inside_sent : (s : ScenarioValue) (b : Story) (l : Link) (d : RowReading) (row : Row)
+    → (story_in_connection s b (Some l) d row).sent ≡ b.sent
 inside_sent s b l d row = by d.crosses d.out d.into
   where
     faulted : (kind : Kind) → (story_after_fault b l kind).sent ≡ b.sent
     faulted (Drives lines) = refl
     faulted (Fault bit) = carried_sent b (carried_after_fault_if (carried_if b l.item) b.bus_state.crossed)
 
-    crossed : (q : Bool) → (if q then b else story_with_carried b (carried_after_byte_if (carried_if b l.item) d)).sent ≡ b.sent
+    crossed : (q : Bool)
+        → (if q then b else story_with_carried b (carried_after_byte_if (carried_if b l.item) d)).sent ≡ b.sent
     crossed true = refl
     crossed false = carried_sent b (carried_after_byte_if (carried_if b l.item) d)
 
-    heard : (m : MsgIn) (q : Bool) → (story_after_message s (if q then story_with_restored b (link_after_name b.sent s.commands l m).item else b) (record (link_after_name b.sent s.commands l m) { last = last_in m; before = l.last; undo = carried_if b l.item }) m).sent ≡ b.sent
+    heard : (m : MsgIn) (q : Bool)
+        → (story_after_message s (if q then story_with_restored b (link_after_name b.sent s.commands l m).item else b)
+        (record (link_after_name b.sent s.commands l m) {
+          last = last_in m;
+          before = l.last;
+          undo = carried_if b l.item;
+        }) m).sent ≡ b.sent
     heard m true = carried_sent _ _ ∙ restored_sent b (link_after_name b.sent s.commands l m).item
     heard m false = carried_sent _ _
 
-    by : (q : Bool) (o : Option MsgOut) (t : Option MsgIn) → (if q then (if is_some o then story_after_out b l o else if is_some t then story_after_in s b l t else story_after_byte b l d) else story_after_fault b l row.kind).sent ≡ b.sent
+    by : (q : Bool) (o : Option MsgOut) (t : Option MsgIn)
+        → (if q then (if is_some o then story_after_out b l o else if is_some t then story_after_in s b l t
+        else story_after_byte b l d) else story_after_fault b l row.kind).sent ≡ b.sent
     by true (Some m) t = carried_sent _ (if is_parity_error m then l.undo else None)
     by true None (Some m) = heard m (is_none l.item)
     by true None None = crossed d.change.before.msg
@@ -53,68 +63,86 @@ abbrev pub AllQuiet : List Event → Type 0
 AllQuiet [] = ⊤
 AllQuiet (e ∷ shown) = (is_quiet_event e ≡ true) × AllQuiet shown
 
-pub quiet_event : (s : ScenarioValue) (b : Story) (event : Event) → is_quiet_event event ≡ true → (story_after_event s b event).sent ≡ b.sent
+pub quiet_event : (s : ScenarioValue) (b : Story) (event : Event) → is_quiet_event event ≡ true
+    → (story_after_event s b event).sent ≡ b.sent
 quiet_event s b (Event.End id status) e = wrong' e
 quiet_event s b (Event.Lost id) e = wrong' e
 quiet_event s b (Event.Aborted i t n what) e = wrong' e
 quiet_event s b (Event.Reset dev) e = wrong' e
 quiet_event s b _ e = refl
 
-pub quiet_events : (s : ScenarioValue) (b : Story) (shown : List Event) → AllQuiet shown → (story_after_events s b shown).sent ≡ b.sent
+pub quiet_events : (s : ScenarioValue) (b : Story) (shown : List Event) → AllQuiet shown
+    → (story_after_events s b shown).sent ≡ b.sent
 quiet_events s b [] h = refl
 quiet_events s b (event ∷ shown) h = quiet_event s (story_after_events s b shown) event h.0 ∙ quiet_events s b shown h.1
 
-pub queue_quiet : (s : ScenarioValue) (b : Story) (c : Option CarriedBytes) (before : LineSet) → AllQuiet (queue_events s b c before)
+pub queue_quiet : (s : ScenarioValue) (b : Story) (c : Option CarriedBytes) (before : LineSet)
+    → AllQuiet (queue_events s b c before)
 queue_quiet s b None before = tt
-queue_quiet s b (Some k) before = go (is_command before && is_whole_block k) (is_some (array_after s (Event.Accept k.id ∷ b.history)))
+queue_quiet s b (Some k) before =
+    go (is_command before && is_whole_block k) (is_some (array_after s (Event.Accept k.id ∷ b.history)))
   where
     go : (q r : Bool) → AllQuiet (if q then (if r then Event.Accept k.id else Event.Refuse k.id) ∷ [] else [])
     go true true = (refl, tt)
     go true false = (refl, tt)
     go false r = tt
 
-pub status_quiet : (c : Option CarriedBytes) (after : LineSet) (arrived : List Event) → AllQuiet arrived → AllQuiet (status_events c after arrived)
+pub status_quiet : (c : Option CarriedBytes) (after : LineSet) (arrived : List Event) → AllQuiet arrived
+    → AllQuiet (status_events c after arrived)
 status_quiet None after arrived h = h
-status_quiet (Some k) after arrived h = go (is_status_phase after && not k.shown && not k.refused && not (list_any (λ e. is_refuse e) arrived)) k.failure
+status_quiet (Some k) after arrived h =
+    go (is_status_phase after && not k.shown && not k.refused && not (list_any (λ e. is_refuse e) arrived)) k.failure
   where
     go : (q : Bool) (f : Option ℕ) → AllQuiet (if q then status_event k.id f ∷ arrived else arrived)
     go true None = (refl, h)
     go true (Some code) = (refl, h)
     go false f = h
 
-pub phase_quiet : (s : ScenarioValue) (b : Story) (c : Option CarriedBytes) (g : Change) → AllQuiet (phase_events s b c g)
+pub phase_quiet : (s : ScenarioValue) (b : Story) (c : Option CarriedBytes) (g : Change)
+    → AllQuiet (phase_events s b c g)
 phase_quiet s b c g = status_quiet c g.after (queue_events s b c g.before) (queue_quiet s b c g.before)
 
 -- ---- what is over after the row
 
-pub row_shows : (s : ScenarioValue) (k : RunState) (row : Row) (n : Connection) (c : Change) (now : Bool) (l : Link) → IsRowIn k row n c → is_some (receiver_in n c) ≡ now → k.story.link ≡ Some l → row_events_by s k.story (row_reading k.story.bus_state row) row ≡ connection_events s k.story l (reading_in k.story.bus_state n c now)
+pub row_shows : (s : ScenarioValue) (k : RunState) (row : Row) (n : Connection) (c : Change) (now : Bool) (l : Link)
+    → IsRowIn k row n c → is_some (receiver_in n c) ≡ now → k.story.link ≡ Some l
+    → row_events_by s k.story (row_reading k.story.bus_state row) row
+    ≡ connection_events s k.story l (reading_in k.story.bus_state n c now)
 row_shows s k row n c now l r en el =
     ap (λ (d : RowReading). row_events_by s k.story d row) (reading_is k row n c now r en)
-    ∙ ap (λ (q : Bool). if q then (if rises c.own.rst c.next.rst then Event.Reset row.dev ∷ [] else []) else link_events s k.story k.story.link (reading_in k.story.bus_state n c now)) r.calm
+    ∙ ap (λ (q : Bool). if q then (if rises c.own.rst c.next.rst then Event.Reset row.dev ∷ [] else [])
+    else link_events s k.story k.story.link (reading_in k.story.bus_state n c now)) r.calm
     ∙ ap (λ (x : Option Link). link_events s k.story x (reading_in k.story.bus_state n c now)) el
 
-pub row_sent : (s : ScenarioValue) (k : RunState) (row : Row) (n : Connection) (c : Change) (now : Bool) (l : Link) → IsRowIn k row n c → is_some (receiver_in n c) ≡ now → k.story.link ≡ Some l → (story_by_change s k.story (row_reading k.story.bus_state row) row).sent ≡ k.story.sent
+pub row_sent : (s : ScenarioValue) (k : RunState) (row : Row) (n : Connection) (c : Change) (now : Bool) (l : Link)
+    → IsRowIn k row n c → is_some (receiver_in n c) ≡ now → k.story.link ≡ Some l
+    → (story_by_change s k.story (row_reading k.story.bus_state row) row).sent ≡ k.story.sent
 row_sent s k row n c now l r en el =
     let d = reading_in k.story.bus_state n c now in
     ap (λ (x : RowReading). (story_by_change s k.story x row).sent) (reading_is k row n c now r en)
-    ∙ ap (λ (q : Bool). (if q then record k.story { link = None } else story_on_bus s k.story k.story.bus_state.connection (Some n) d row).sent) r.calm
+    ∙ ap (λ (q : Bool). (if q then record k.story { link = None }
+    else story_on_bus s k.story k.story.bus_state.connection (Some n) d row).sent) r.calm
     ∙ ap (λ (x : Option Connection). (story_on_bus s k.story x (Some n) d row).sent) r.connection_is
-    ∙ ap (λ (x : Option Link). (story_in_connection s k.story x d row).sent) el
-    ∙ inside_sent s k.story l d row
+    ∙ ap (λ (x : Option Link). (story_in_connection s k.story x d row).sent) el ∙ inside_sent s k.story l d row
 
 -- The same where the row ends no command; and the command of the link is over with its completion.
 pub record OverAfter (s : ScenarioValue) (k : RunState) (row : Row) (c : Change) (l : Link) : Type 0 where
-  pub same : (changes_phase c ≡ true) ⊎ (is_completion l c ≡ false) → (run_state_after s k row).story.sent ≡ k.story.sent
-  pub ended : changes_phase c ≡ false → is_completion l c ≡ true → (id : ProcId) → l.item ≡ Some (process id) → has_item (run_state_after s k row).story.sent.over (process id) ≡ true
+  pub same : (changes_phase c ≡ true) ⊎ (is_completion l c ≡ false)
+      → (run_state_after s k row).story.sent ≡ k.story.sent
+  pub ended : changes_phase c ≡ false → is_completion l c ≡ true → (id : ProcId) → l.item ≡ Some (process id)
+      → has_item (run_state_after s k row).story.sent.over (process id) ≡ true
   pub grows : Grows k.story.sent (run_state_after s k row).story.sent
 
-ends_one : (s : ScenarioValue) (b : Story) (x : Story) (item : Option Item) (id : ProcId) → item ≡ Some (process id) → has_item (story_after_events s x (end_events (carried_if b item))).sent.over (process id) ≡ true
+ends_one : (s : ScenarioValue) (b : Story) (x : Story) (item : Option Item) (id : ProcId) → item ≡ Some (process id)
+    → has_item (story_after_events s x (end_events (carried_if b item))).sent.over (process id) ≡ true
 ends_one s b x item id e =
     ap (λ (i : Option Item). has_item (story_after_events s x (end_events (carried_if b i))).sent.over (process id)) e
-    ∙ ap (λ (p : ProcId). has_item (story_after_events s x (end_events (carried_if b (Some (process id))))).sent.over (process p)) (sym (carried_id b.carried id))
+    ∙ ap (λ (p : ProcId). has_item (story_after_events s x (end_events (carried_if b (Some (process id))))).sent.over
+    (process p)) (sym (carried_id b.carried id))
     ∙ ends_over s x (carried_of b.carried id).id (slice_index (carried_of b.carried id).status.bytes 0)
 
-pub over_after : (s : ScenarioValue) (k : RunState) (row : Row) (n : Connection) (c : Change) (now : Bool) (l : Link) → IsRowIn k row n c → is_some (receiver_in n c) ≡ now → k.story.link ≡ Some l → OverAfter s k row c l
+pub over_after : (s : ScenarioValue) (k : RunState) (row : Row) (n : Connection) (c : Change) (now : Bool) (l : Link)
+    → IsRowIn k row n c → is_some (receiver_in n c) ≡ now → k.story.link ≡ Some l → OverAfter s k row c l
 over_after s k row n c now l r en el = record { same = same; ended = ended; grows = grows }
   where
     d : RowReading
@@ -126,59 +154,84 @@ over_after s k row n c now l r en el = record { same = same; ended = ended; grow
     same_sent : changed.sent ≡ k.story.sent
     same_sent = row_sent s k row n c now l r en el
 
-    shown : row_events_by s k.story d row ≡ (if changes_phase c then phase_events s k.story (carried_if k.story l.item) c else if is_completion l c then end_events (carried_if k.story l.item) else [])
+    shown : row_events_by s k.story d row
+        ≡ (if changes_phase c then phase_events s k.story (carried_if k.story l.item) c
+        else if is_completion l c then end_events (carried_if k.story l.item) else [])
     shown = row_shows s k row n c now l r en el
 
     grows : Grows k.story.sent (run_state_after s k row).story.sent
-    grows = grows_on k.story.sent changed.sent (run_state_after s k row).story.sent (grows_same k.story.sent changed.sent same_sent) (events_grow s changed (row_events_by s k.story d row))
+    grows = grows_on k.story.sent changed.sent (run_state_after s k row).story.sent
+        (grows_same k.story.sent changed.sent same_sent) (events_grow s changed (row_events_by s k.story d row))
 
     same : (changes_phase c ≡ true) ⊎ (is_completion l c ≡ false) → (run_state_after s k row).story.sent ≡ k.story.sent
-    same w = ap (λ (x : List Event). (story_after_events s changed x).sent) shown ∙ go (changes_phase c) (is_completion l c) w ∙ same_sent
+    same w = ap (λ (x : List Event). (story_after_events s changed x).sent) shown
+        ∙ go (changes_phase c) (is_completion l c) w ∙ same_sent
       where
-        go : (q t : Bool) → (q ≡ true) ⊎ (t ≡ false) → (story_after_events s changed (if q then phase_events s k.story (carried_if k.story l.item) c else if t then end_events (carried_if k.story l.item) else [])).sent ≡ changed.sent
-        go true t z = quiet_events s changed (phase_events s k.story (carried_if k.story l.item) c) (phase_quiet s k.story (carried_if k.story l.item) c)
+        go : (q t : Bool) → (q ≡ true) ⊎ (t ≡ false)
+            → (story_after_events s changed (if q then phase_events s k.story (carried_if k.story l.item) c
+            else if t then end_events (carried_if k.story l.item) else [])).sent ≡ changed.sent
+        go true t z = quiet_events s changed (phase_events s k.story (carried_if k.story l.item) c)
+            (phase_quiet s k.story (carried_if k.story l.item) c)
         go false true (inl z) = wrong' z
         go false true (inr z) = wrong z
         go false false z = refl
 
-    ended : changes_phase c ≡ false → is_completion l c ≡ true → (id : ProcId) → l.item ≡ Some (process id) → has_item (run_state_after s k row).story.sent.over (process id) ≡ true
-    ended f g id e =
-        ap (λ (x : List Event). has_item (story_after_events s changed x).sent.over (process id)) (shown ∙ (λ i. if f i then phase_events s k.story (carried_if k.story l.item) c else if g i then end_events (carried_if k.story l.item) else []))
+    ended : changes_phase c ≡ false → is_completion l c ≡ true → (id : ProcId) → l.item ≡ Some (process id)
+        → has_item (run_state_after s k row).story.sent.over (process id) ≡ true
+    ended f g id e = ap (λ (x : List Event). has_item (story_after_events s changed x).sent.over (process id))
+        (shown ∙ (λ i. if f i then phase_events s k.story (carried_if k.story l.item) c
+        else if g i then end_events (carried_if k.story l.item) else []))
         ∙ ends_one s k.story changed l.item id e
 
 -- ---- the link after the row
 
 abbrev pub heard_link : ScenarioValue → Story → Link → MsgIn → Link
-heard_link s b l m = record (link_after_name b.sent s.commands l m) { last = last_in m; before = l.last; undo = carried_if b l.item }
+heard_link s b l m =
+    record (link_after_name b.sent s.commands l m) { last = last_in m; before = l.last; undo = carried_if b l.item }
 
-pub data LinkAfter (s : ScenarioValue) (b : Story) (l : Link) (o : Option MsgOut) (t : Option MsgIn) (link : Option Link) : Type 0 where
+pub data LinkAfter (s : ScenarioValue) (b : Story) (l : Link) (o : Option MsgOut) (t : Option MsgIn)
+    (link : Option Link) : Type 0 where
   says : (m : MsgOut) → o ≡ Some m → link ≡ Some (record l { last = last_out m l }) → LinkAfter s b l o t link
   hears : (m : MsgIn) → o ≡ None → t ≡ Some m → link ≡ Some (heard_link s b l m) → LinkAfter s b l o t link
   stays : o ≡ None → t ≡ None → link ≡ Some l → LinkAfter s b l o t link
 
-crossed_link : (s : ScenarioValue) (b : Story) (l : Link) (d : RowReading) (row : Row) → b.link ≡ Some l → d.crosses ≡ true → LinkAfter s b l d.out d.into (story_in_connection s b (Some l) d row).link
+crossed_link : (s : ScenarioValue) (b : Story) (l : Link) (d : RowReading) (row : Row) → b.link ≡ Some l
+    → d.crosses ≡ true → LinkAfter s b l d.out d.into (story_in_connection s b (Some l) d row).link
 crossed_link s b l d row el e = go d.crosses e d.out refl d.into refl
   where
-    byte : (q : Bool) → (if q then b else story_with_carried b (carried_after_byte_if (carried_if b l.item) d)).link ≡ b.link
+    byte : (q : Bool)
+        → (if q then b else story_with_carried b (carried_after_byte_if (carried_if b l.item) d)).link ≡ b.link
     byte true = refl
     byte false = carried_link b (carried_after_byte_if (carried_if b l.item) d)
 
-    go : (q : Bool) → q ≡ true → (o : Option MsgOut) → d.out ≡ o → (t : Option MsgIn) → d.into ≡ t → LinkAfter s b l d.out d.into (if q then (if is_some o then story_after_out b l o else if is_some t then story_after_in s b l t else story_after_byte b l d) else story_after_fault b l row.kind).link
-    go true z (Some m) f t g = says m f (carried_link (record b { link = Some (record l { last = last_out m l }) }) (if is_parity_error m then l.undo else None))
+    go : (q : Bool) → q ≡ true → (o : Option MsgOut) → d.out ≡ o → (t : Option MsgIn) → d.into ≡ t
+        → LinkAfter s b l d.out d.into
+        (if q then (if is_some o then story_after_out b l o else if is_some t then story_after_in s b l t
+        else story_after_byte b l d) else story_after_fault b l row.kind).link
+    go true z (Some m) f t g = says m f (carried_link (record b { link = Some (record l { last = last_out m l }) })
+        (if is_parity_error m then l.undo else None))
     go true z None f (Some m) g = hears m f g (carried_link _ _)
     go true z None f None g = stays f g (byte d.change.before.msg ∙ el)
     go false z o f t g = wrong' z
 
-pub link_crossed : (s : ScenarioValue) (k : RunState) (row : Row) (n : Connection) (c : Change) (l : Link) → IsRowIn k row n c → is_some (receiver_in n c) ≡ true → k.story.link ≡ Some l → LinkAfter s k.story l (message_out k.story.bus_state.dialogue c true) (message_in k.story.bus_state.dialogue c true) (run_state_after s k row).story.link
-link_crossed s k row n c l r en el =
-    subst (λ (x : Option Link). LinkAfter s k.story l (message_out k.story.bus_state.dialogue c true) (message_in k.story.bus_state.dialogue c true) x)
-    (sym (link_after s k row n c true r en ∙ ap (λ (x : Option Link). (story_in_connection s k.story x (reading_in k.story.bus_state n c true) row).link) el))
+pub link_crossed : (s : ScenarioValue) (k : RunState) (row : Row) (n : Connection) (c : Change) (l : Link)
+    → IsRowIn k row n c → is_some (receiver_in n c) ≡ true → k.story.link ≡ Some l
+    → LinkAfter s k.story l (message_out k.story.bus_state.dialogue c true)
+    (message_in k.story.bus_state.dialogue c true) (run_state_after s k row).story.link
+link_crossed s k row n c l r en el = subst
+    (λ (x : Option Link). LinkAfter s k.story l (message_out k.story.bus_state.dialogue c true)
+    (message_in k.story.bus_state.dialogue c true) x) (sym (link_after s k row n c true r en
+    ∙ ap (λ (x : Option Link). (story_in_connection s k.story x (reading_in k.story.bus_state n c true) row).link) el))
     (crossed_link s k.story l (reading_in k.story.bus_state n c true) row el refl)
 
-pub link_still : (s : ScenarioValue) (k : RunState) (row : Row) (n : Connection) (c : Change) (l : Link) → IsRowIn k row n c → is_some (receiver_in n c) ≡ false → k.story.link ≡ Some l → (run_state_after s k row).story.link ≡ Some l
-link_still s k row n c l r en el =
-    link_after s k row n c false r en ∙ ap (λ (x : Option Link). (story_in_connection s k.story x (reading_in k.story.bus_state n c false) row).link) el ∙ faulted row.kind ∙ el
+pub link_still : (s : ScenarioValue) (k : RunState) (row : Row) (n : Connection) (c : Change) (l : Link)
+    → IsRowIn k row n c → is_some (receiver_in n c) ≡ false → k.story.link ≡ Some l
+    → (run_state_after s k row).story.link ≡ Some l
+link_still s k row n c l r en el = link_after s k row n c false r en
+    ∙ ap (λ (x : Option Link). (story_in_connection s k.story x (reading_in k.story.bus_state n c false) row).link) el
+    ∙ faulted row.kind ∙ el
   where
     faulted : (kind : Kind) → (story_after_fault k.story l kind).link ≡ k.story.link
     faulted (Drives lines) = refl
-    faulted (Fault bit) = carried_link k.story (carried_after_fault_if (carried_if k.story l.item) k.story.bus_state.crossed)
+    faulted (Fault bit) =
+        carried_link k.story (carried_after_fault_if (carried_if k.story l.item) k.story.bus_state.crossed)

@@ -18,13 +18,15 @@ use proofs.Items.Steps.{Admits, queued_on, queued_sent, GivesUp, checked_up, pro
 
 -- ---- any row
 
-unsent_before : (s : ScenarioValue) (k : RunState) (row : Row) (i : Item) → has_item (run_state_after s k row).story.sent.sent i ≡ false → has_item k.story.sent.sent i ≡ false
+unsent_before : (s : ScenarioValue) (k : RunState) (row : Row) (i : Item)
+    → has_item (run_state_after s k row).story.sent.sent i ≡ false → has_item k.story.sent.sent i ≡ false
 unsent_before s k row i e =
     by_bool (has_item k.story.sent.sent i)
     (λ z. wrong (sym (sent_grows s k row i z) ∙ e))
     (λ z. z)
 
-pub served_item : (s : ScenarioValue) (o : Option Item) (p : Process) → process_item s o ≡ Some p → o ≡ Some (process p.id)
+pub served_item : (s : ScenarioValue) (o : Option Item) (p : Process) → process_item s o ≡ Some p
+    → o ≡ Some (process p.id)
 served_item s None p e = no_process e
   where
     no_process : {A : Type 0} → (let a : Option Process = None in a) ≡ Some p → A
@@ -35,19 +37,19 @@ served_item s (Some (abort k)) p e = no_process e
     no_process : {A : Type 0} → (let a : Option Process = None in a) ≡ Some p → A
     no_process z = absurd cc
 
-pub progress_on : (s : ScenarioValue) (k : RunState) (row : Row) → Items s k → (id : ProcId) → has_item (run_state_after s k row).story.sent.sent (process id) ≡ false → progress_in (run_state_after s k row).progress id ≡ no_progress id
-progress_on s k row h id e =
-    progress_kept s k (row_reading k.story.bus_state row) k.story.bus_state.connection (row_reading k.story.bus_state row).next (leaving_of s k k.story.bus_state.connection) id other
+pub progress_on : (s : ScenarioValue) (k : RunState) (row : Row) → Items s k
+    → (id : ProcId) → has_item (run_state_after s k row).story.sent.sent (process id) ≡ false
+    → progress_in (run_state_after s k row).progress id ≡ no_progress id
+progress_on s k row h id e = progress_kept s k (row_reading k.story.bus_state row) k.story.bus_state.connection
+    (row_reading k.story.bus_state row).next (leaving_of s k k.story.bus_state.connection) id other
     ∙ h.progress id was
   where
     was : has_item k.story.sent.sent (process id) ≡ false
     was = unsent_before s k row (process id) e
 
     other : (p : Process) → process_served s k ≡ Some p → same_id p.id id ≡ false
-    other p f =
-        by_bool (same_id p.id id)
-        (λ z. wrong (sym (h.served (process p.id) (served_item s k.served p f)) ∙ ap (λ (x : ProcId). has_item k.story.sent.sent (process x)) (id_is p.id id z) ∙ was))
-        (λ z. z)
+    other p f = by_bool (same_id p.id id) (λ z. wrong (sym (h.served (process p.id) (served_item s k.served p f))
+        ∙ ap (λ (x : ProcId). has_item k.story.sent.sent (process x)) (id_is p.id id z) ∙ was)) (λ z. z)
 
 -- What a row that sends nothing leaves.
 pub record Left (s : ScenarioValue) (k j : RunState) : Type 0 where
@@ -56,31 +58,46 @@ pub record Left (s : ScenarioValue) (k j : RunState) : Type 0 where
   pub checked : AreChecked j.story.sent
   pub queued : UnitsP (IsQueued s j.story.sent) (array_of s j).units
   pub served : (i : Item) → j.served ≡ Some i → k.served ≡ Some i
-  pub senses : (n : ℕ) → is_open_sense k.story.sent n ≡ true → is_open_sense j.story.sent n ≡ true → k.served ≡ Some (sense_item n) → (bus_of k).rst ≡ false → (j.served ≡ Some (sense_item n)) × ((bus_of j).rst ≡ false)
+  pub senses : (n : ℕ) → is_open_sense k.story.sent n ≡ true → is_open_sense j.story.sent n ≡ true
+      → k.served ≡ Some (sense_item n) → (bus_of k).rst ≡ false
+      → (j.served ≡ Some (sense_item n)) × ((bus_of j).rst ≡ false)
   pub talks : (n : Connection) → j.story.bus_state.connection ≡ Some n → (bus_of j).rst ≡ false → Talks s j n
 
-pub items_left : (s : ScenarioValue) (k : RunState) (row : Row) → Items s k → Left s k (run_state_after s k row) → Items s (run_state_after s k row)
+pub items_left : (s : ScenarioValue) (k : RunState) (row : Row) → Items s k → Left s k (run_state_after s k row)
+    → Items s (run_state_after s k row)
 items_left s k row h w = record {
   apart = w.apart;
   only = only_on s k row h.only;
   clash = clash_grows s k.story.sent (run_state_after s k row).story.sent w.grows h.clash;
   checked = w.checked;
-  checks = λ n e. let c = h.checks n (ap (λ (x : List Item). has_item x (sense_item n)) (sym w.grows.sent) ∙ e) in record { def = c.def; def_is = c.def_is; checked = w.grows.checks n c.checked };
+  checks = λ n e.
+      let c = h.checks n (ap (λ (x : List Item). has_item x (sense_item n)) (sym w.grows.sent) ∙ e) in
+      record { def = c.def; def_is = c.def_is; checked = w.grows.checks n c.checked };
   queued = w.queued;
   served = λ i e. sent_grows s k row i (h.served i (w.served i e));
-  senses = λ n e. let was = fewer_senses k.story.sent (run_state_after s k row).story.sent w.grows n e in let o = h.senses n was in w.senses n was e o.0 o.1;
+  senses = λ n e.
+      let was = fewer_senses k.story.sent (run_state_after s k row).story.sent w.grows n e in
+      let o = h.senses n was in
+      w.senses n was e o.0 o.1;
   progress = progress_on s k row h;
   talks = w.talks;
 }
 
 -- The story and the array after a row, by its events.
-by_events : (s : ScenarioValue) (k : RunState) (changed : Story) (shown : List Event) → changed.sent ≡ k.story.sent → Admits s changed shown → UnitsP (IsQueued s k.story.sent) (array_of s k).units → UnitsP (IsQueued s (story_after_events s changed shown).sent) (or_start s (array_after_events s k.array shown)).units
-by_events s k changed shown e a h = queued_on s changed k.array shown a (subst (λ (x : Sent). UnitsP (IsQueued s x) (array_of s k).units) (sym e) h)
+by_events : (s : ScenarioValue) (k : RunState) (changed : Story) (shown : List Event)
+    → changed.sent ≡ k.story.sent → Admits s changed shown → UnitsP (IsQueued s k.story.sent) (array_of s k).units
+    → UnitsP (IsQueued s (story_after_events s changed shown).sent)
+    (or_start s (array_after_events s k.array shown)).units
+by_events s k changed shown e a h =
+    queued_on s changed k.array shown a (subst (λ (x : Sent). UnitsP (IsQueued s x) (array_of s k).units) (sym e) h)
 
-grown_by : (s : ScenarioValue) (k : RunState) (changed : Story) (shown : List Event) → changed.sent ≡ k.story.sent → Grows k.story.sent (story_after_events s changed shown).sent
-grown_by s k changed shown e = grows_on k.story.sent changed.sent (story_after_events s changed shown).sent (grows_same k.story.sent changed.sent e) (events_grow s changed shown)
+grown_by : (s : ScenarioValue) (k : RunState) (changed : Story) (shown : List Event) → changed.sent ≡ k.story.sent
+    → Grows k.story.sent (story_after_events s changed shown).sent
+grown_by s k changed shown e = grows_on k.story.sent changed.sent (story_after_events s changed shown).sent
+    (grows_same k.story.sent changed.sent e) (events_grow s changed shown)
 
-checked_by : (s : ScenarioValue) (k : RunState) (changed : Story) (shown : List Event) → changed.sent ≡ k.story.sent → AreChecked k.story.sent → AreChecked (story_after_events s changed shown).sent
+checked_by : (s : ScenarioValue) (k : RunState) (changed : Story) (shown : List Event) → changed.sent ≡ k.story.sent
+    → AreChecked k.story.sent → AreChecked (story_after_events s changed shown).sent
 checked_by s k changed shown e h = events_checked s changed shown (subst (λ (x : Sent). AreChecked x) (sym e) h)
 
 -- ---- under RST
@@ -91,7 +108,11 @@ open_over {A = A} b n e f = go (has_item b.sent (sense_item n)) (λ i. sym e i)
     go : (q : Bool) → true ≡ (has_item b.sent (sense_item n) && not (has_item b.over (sense_item n))) → A
     go q z = wrong (z ∙ (λ i. has_item b.sent (sense_item n) && not (f i)) ∙ and_false (has_item b.sent (sense_item n)))
 
-pub items_reset : (s : ScenarioValue) (k : RunState) (row : Row) → Items s k → (row_reading k.story.bus_state row).change.after.rst ≡ true → (k.story.bus_state.connection ≡ None → (row_reading k.story.bus_state row).next ≡ None) → ((bus_of k).rst ≡ false → rises (row_reading k.story.bus_state row).change.own.rst (row_reading k.story.bus_state row).change.next.rst ≡ true) → Items s (run_state_after s k row)
+pub items_reset : (s : ScenarioValue) (k : RunState) (row : Row) → Items s k
+    → (row_reading k.story.bus_state row).change.after.rst ≡ true
+    → (k.story.bus_state.connection ≡ None → (row_reading k.story.bus_state row).next ≡ None) → ((bus_of k).rst ≡ false
+    → rises (row_reading k.story.bus_state row).change.own.rst (row_reading k.story.bus_state row).change.next.rst
+    ≡ true) → Items s (run_state_after s k row)
 items_reset s k row h on none up = items_left s k row h (record {
   apart = λ e. (link, unserved k.story.bus_state.connection refl e);
   grows = grown_by s k changed shown same;
@@ -115,13 +136,16 @@ items_reset s k row h on none up = items_left s k row h (record {
     shown = row_events_by s k.story d row
 
     is : shown ≡ (if rises d.change.own.rst d.change.next.rst then Event.Reset row.dev ∷ [] else [])
-    is = ap (λ (q : Bool). if q then (if rises d.change.own.rst d.change.next.rst then Event.Reset row.dev ∷ [] else []) else link_events s k.story k.story.link d) on
+    is = ap (λ (q : Bool). if q then (if rises d.change.own.rst d.change.next.rst then Event.Reset row.dev ∷ [] else [])
+        else link_events s k.story k.story.link d) on
 
     same : changed.sent ≡ k.story.sent
-    same = ap (λ (q : Bool). (if q then record k.story { link = None } else story_on_bus s k.story k.story.bus_state.connection d.next d row).sent) on
+    same = ap (λ (q : Bool). (if q then record k.story { link = None }
+        else story_on_bus s k.story k.story.bus_state.connection d.next d row).sent) on
 
     link : j.story.link ≡ None
-    link = events_link s changed shown ∙ ap (λ (q : Bool). (if q then record k.story { link = None } else story_on_bus s k.story k.story.bus_state.connection d.next d row).link) on
+    link = events_link s changed shown ∙ ap (λ (q : Bool). (if q then record k.story { link = None }
+        else story_on_bus s k.story k.story.bus_state.connection d.next d row).link) on
 
     admits : (q : Bool) → Admits s changed shown
     admits q = subst (λ (x : List Event). Admits s changed x) (sym is) (by (rises d.change.own.rst d.change.next.rst))
@@ -130,7 +154,8 @@ items_reset s k row h on none up = items_left s k row h (record {
         by true = (λ id e. absurd cc, tt)
         by false = tt
 
-    kept : (o : Option Connection) → k.story.bus_state.connection ≡ o → (i : Item) → j.served ≡ Some i → k.served ≡ Some i
+    kept : (o : Option Connection) → k.story.bus_state.connection ≡ o → (i : Item) → j.served ≡ Some i
+        → k.served ≡ Some i
     kept None e i f = sym (λ x. served_after s k (e x) (none e x)) ∙ f
     kept (Some m) e i f = by d.next refl (sym (ap (λ (x : Option Connection). served_after s k x d.next) e) ∙ f)
       where
@@ -142,13 +167,16 @@ items_reset s k row h on none up = items_left s k row h (record {
     unserved None e f = (λ x. served_after s k (e x) (f x)) ∙ (h.apart e).1
     unserved (Some m) e f = λ x. served_after s k (e x) (f x)
 
-    closed : {A : Type 0} (n : ℕ) → is_open_sense j.story.sent n ≡ true → is_open_sense k.story.sent n ≡ true → (bus_of k).rst ≡ false → A
+    closed : {A : Type 0} (n : ℕ) → is_open_sense j.story.sent n ≡ true → is_open_sense k.story.sent n ≡ true
+        → (bus_of k).rst ≡ false → A
     closed n e was off =
         let sent = sent_of k.story.sent n was in
         let c = h.checks n sent in
         open_over j.story.sent n e
-        (ap (λ (x : List Event). has_item (story_after_events s changed x).sent.over (sense_item n)) (is ∙ ap (λ (q : Bool). if q then Event.Reset row.dev ∷ [] else []) (up off))
-        ∙ reset_senses s changed row.dev n c.def c.def_is (subst (λ (x : Sent). AreChecked x) (sym same) h.checked) (ap (λ (x : Sent). list_any (λ m. m == n) x.checks) same ∙ c.checked))
+        (ap (λ (x : List Event). has_item (story_after_events s changed x).sent.over (sense_item n))
+        (is ∙ ap (λ (q : Bool). if q then Event.Reset row.dev ∷ [] else []) (up off))
+        ∙ reset_senses s changed row.dev n c.def c.def_is (subst (λ (x : Sent). AreChecked x) (sym same) h.checked)
+        (ap (λ (x : Sent). list_any (λ m. m == n) x.checks) same ∙ c.checked))
       where
         sent_of : (b : Sent) (m : ℕ) → is_open_sense b m ≡ true → has_item b.sent (sense_item m) ≡ true
         sent_of b m z = go (has_item b.sent (sense_item m)) z
@@ -159,14 +187,20 @@ items_reset s k row h on none up = items_left s k row h (record {
 
 -- ---- outside a connection
 
-pub items_apart : (s : ScenarioValue) (k : RunState) (row : Row) → Items s k → (row_reading k.story.bus_state row).change.after.rst ≡ false → k.story.bus_state.connection ≡ None → (row_reading k.story.bus_state row).next ≡ None → GivesUp k.story.sent (story_on_free_bus s k.story (row_reading k.story.bus_state row) row).sent → (story_on_free_bus s k.story (row_reading k.story.bus_state row) row).link ≡ k.story.link → Items s (run_state_after s k row)
+pub items_apart : (s : ScenarioValue) (k : RunState) (row : Row) → Items s k
+    → (row_reading k.story.bus_state row).change.after.rst ≡ false
+    → k.story.bus_state.connection ≡ None → (row_reading k.story.bus_state row).next ≡ None
+    → GivesUp k.story.sent (story_on_free_bus s k.story (row_reading k.story.bus_state row) row).sent
+    → (story_on_free_bus s k.story (row_reading k.story.bus_state row) row).link ≡ k.story.link
+    → Items s (run_state_after s k row)
 items_apart s k row h off con next up keeps = items_left s k row h (record {
   apart = λ e. (link, (λ x. served_after s k (con x) (next x)) ∙ (h.apart con).1);
   grows = subst (λ (x : Sent). Grows k.story.sent x) (sym sent) up.grows;
   checked = subst (λ (x : Sent). AreChecked x) (sym sent) (checked_up k.story.sent free.sent up h.checked);
   queued = subst (λ (x : Sent). UnitsP (IsQueued s x) (array_of s j).units) (sym sent)
-      (subst (λ (x : List Event). UnitsP (IsQueued s free.sent) (or_start s (array_after_events s k.array x)).units) (sym shown)
-      (queued_sent s k.story.sent free.sent (array_of s k).units (λ i e. ap (λ (x : List Item). has_item x i) up.grows.sent ∙ e) (λ i e o. up.over i e o) h.queued));
+      (subst (λ (x : List Event). UnitsP (IsQueued s free.sent) (or_start s (array_after_events s k.array x)).units)
+      (sym shown) (queued_sent s k.story.sent free.sent (array_of s k).units
+      (λ i e. ap (λ (x : List Item). has_item x i) up.grows.sent ∙ e) (λ i e o. up.over i e o) h.queued));
   served = λ i e. sym (λ x. served_after s k (con x) (next x)) ∙ e;
   senses = λ n was e sv rst. none_some (sense_item n) (sym (h.apart con).1 ∙ sv);
   talks = λ n e rst. none_some n (sym next ∙ e);
@@ -183,19 +217,22 @@ items_apart s k row h off con next up keeps = items_left s k row h (record {
 
     shown : row_events_by s k.story d row ≡ []
     shown =
-        ap (λ (q : Bool). if q then (if rises d.change.own.rst d.change.next.rst then Event.Reset row.dev ∷ [] else []) else link_events s k.story k.story.link d) off
+        ap (λ (q : Bool). if q then (if rises d.change.own.rst d.change.next.rst then Event.Reset row.dev ∷ [] else [])
+        else link_events s k.story k.story.link d) off
         ∙ ap (λ (x : Option Link). link_events s k.story x d) (h.apart con).0
 
     changed : story_by_change s k.story d row ≡ free
-    changed =
-        ap (λ (q : Bool). if q then record k.story { link = None } else story_on_bus s k.story k.story.bus_state.connection d.next d row) off
+    changed = ap (λ (q : Bool). if q then record k.story { link = None }
+        else story_on_bus s k.story k.story.bus_state.connection d.next d row) off
         ∙ (λ i. story_on_bus s k.story (con i) (next i) d row)
 
     sent : j.story.sent ≡ free.sent
-    sent = ap (λ (x : List Event). (story_after_events s (story_by_change s k.story d row) x).sent) shown ∙ ap (λ (x : Story). x.sent) changed
+    sent = ap (λ (x : List Event). (story_after_events s (story_by_change s k.story d row) x).sent) shown
+        ∙ ap (λ (x : Story). x.sent) changed
 
     link : j.story.link ≡ None
-    link = events_link s (story_by_change s k.story d row) (row_events_by s k.story d row) ∙ ap (λ (x : Story). x.link) changed ∙ keeps ∙ (h.apart con).0
+    link = events_link s (story_by_change s k.story d row) (row_events_by s k.story d row)
+        ∙ ap (λ (x : Story). x.link) changed ∙ keeps ∙ (h.apart con).0
 
 -- ---- a connection ends
 
@@ -220,12 +257,17 @@ freed_none s b l disconnect = tt
 freed_none s b l abortive = aborted_none s b l.item
 
 -- An automatic REQUEST SENSE is over then.
-pub items_end : (s : ScenarioValue) (k : RunState) (row : Row) (m : Connection) (l : Link) → Items s k → (row_reading k.story.bus_state row).change.after.rst ≡ false → k.story.bus_state.connection ≡ Some m → (row_reading k.story.bus_state row).next ≡ None → k.story.link ≡ Some l → ((n : ℕ) → k.served ≡ Some (sense_item n) → is_open_sense k.story.sent n ≡ true → (l.last ≡ plain) × (l.item ≡ Some (sense_item n))) → Items s (run_state_after s k row)
+pub items_end : (s : ScenarioValue) (k : RunState) (row : Row) (m : Connection) (l : Link) → Items s k
+    → (row_reading k.story.bus_state row).change.after.rst ≡ false → k.story.bus_state.connection ≡ Some m
+    → (row_reading k.story.bus_state row).next ≡ None → k.story.link ≡ Some l
+    → ((n : ℕ) → k.served ≡ Some (sense_item n) → is_open_sense k.story.sent n ≡ true
+    → (l.last ≡ plain) × (l.item ≡ Some (sense_item n))) → Items s (run_state_after s k row)
 items_end s k row m l h off con next el closes = items_left s k row h (record {
   apart = λ e. (link, (λ x. served_after s k (con x) (next x)));
   grows = grown_by s k changed shown same;
   checked = checked_by s k changed shown same h.checked;
-  queued = by_events s k changed shown same (subst (λ (x : List Event). Admits s changed x) (sym is) (freed_none s changed l l.last)) h.queued;
+  queued = by_events s k changed shown same
+      (subst (λ (x : List Event). Admits s changed x) (sym is) (freed_none s changed l l.last)) h.queued;
   served = λ i e. none_some i (sym (λ x. served_after s k (con x) (next x)) ∙ e);
   senses = λ n was e sv rst. let z = closes n sv was in open_over j.story.sent n e (lost n z.0 z.1);
   talks = λ n e rst. none_some n (sym next ∙ e);
@@ -244,14 +286,14 @@ items_end s k row m l h off con next el closes = items_left s k row h (record {
     shown = row_events_by s k.story d row
 
     is : shown ≡ bus_free_events s l l.last
-    is =
-        ap (λ (q : Bool). if q then (if rises d.change.own.rst d.change.next.rst then Event.Reset row.dev ∷ [] else []) else link_events s k.story k.story.link d) off
-        ∙ ap (λ (x : Option Link). link_events s k.story x d) el
-        ∙ ap (λ (x : Option Connection). if is_some x then connection_events s k.story l d else bus_free_events s l l.last) next
+    is = ap (λ (q : Bool). if q then (if rises d.change.own.rst d.change.next.rst then Event.Reset row.dev ∷ [] else [])
+        else link_events s k.story k.story.link d) off ∙ ap (λ (x : Option Link). link_events s k.story x d) el ∙ ap
+        (λ (x : Option Connection). if is_some x then connection_events s k.story l d else bus_free_events s l l.last)
+        next
 
     made : changed ≡ record k.story { link = None }
-    made =
-        ap (λ (q : Bool). if q then record k.story { link = None } else story_on_bus s k.story k.story.bus_state.connection d.next d row) off
+    made = ap (λ (q : Bool). if q then record k.story { link = None }
+        else story_on_bus s k.story k.story.bus_state.connection d.next d row) off
         ∙ (λ i. story_on_bus s k.story (con i) (next i) d row)
 
     same : changed.sent ≡ k.story.sent
@@ -261,33 +303,42 @@ items_end s k row m l h off con next el closes = items_left s k row h (record {
     link = events_link s changed shown ∙ ap (λ (x : Story). x.link) made
 
     lost : (n : ℕ) → l.last ≡ plain → l.item ≡ Some (sense_item n) → has_item j.story.sent.over (sense_item n) ≡ true
-    lost n e f =
-        ap (λ (x : List Event). has_item (story_after_events s changed x).sent.over (sense_item n)) (is ∙ ap (bus_free_events s l) e ∙ ap item_loss_events f)
+    lost n e f = ap (λ (x : List Event). has_item (story_after_events s changed x).sent.over (sense_item n))
+        (is ∙ ap (bus_free_events s l) e ∙ ap item_loss_events f)
         ∙ lost_over s changed (record { command = n; sense = true })
 
 -- ---- a connection goes on
 
 -- A command is accepted as COMMAND is left.
-queue_admits : (s : ScenarioValue) (b x : Story) (c : Option CarriedBytes) (before : LineSet) → (is_command before ≡ true → (y : CarriedBytes) → c ≡ Some y → (has_item x.sent.sent (process y.id) ≡ true) × (has_item x.sent.over (process y.id) ≡ false)) → Admits s x (queue_events s b c before)
+queue_admits : (s : ScenarioValue) (b x : Story) (c : Option CarriedBytes) (before : LineSet)
+    → (is_command before ≡ true → (y : CarriedBytes) → c ≡ Some y
+    → (has_item x.sent.sent (process y.id) ≡ true) × (has_item x.sent.over (process y.id) ≡ false))
+    → Admits s x (queue_events s b c before)
 queue_admits s b x None before h = tt
 queue_admits s b x (Some k) before h = go (is_command before) refl (is_whole_block k)
   where
-    accepts : (q : Bool) → (has_item x.sent.sent (process k.id) ≡ true) × (has_item x.sent.over (process k.id) ≡ false) → (id : ProcId) → (if q then Event.Accept k.id else Event.Refuse k.id) ≡ Event.Accept id → (has_item x.sent.sent (process id) ≡ true) × (has_item x.sent.over (process id) ≡ false)
-    accepts true w id e = subst (λ (y : ProcId). (has_item x.sent.sent (process y) ≡ true) × (has_item x.sent.over (process y) ≡ false)) (ap (accepted k.id) e) w
+    accepts : (q : Bool) → (has_item x.sent.sent (process k.id) ≡ true) × (has_item x.sent.over (process k.id) ≡ false)
+        → (id : ProcId) → (if q then Event.Accept k.id else Event.Refuse k.id) ≡ Event.Accept id
+        → (has_item x.sent.sent (process id) ≡ true) × (has_item x.sent.over (process id) ≡ false)
+    accepts true w id e = subst (λ (y : ProcId). (has_item x.sent.sent (process y) ≡ true)
+        × (has_item x.sent.over (process y) ≡ false)) (ap (accepted k.id) e) w
       where
         accepted : ProcId → Event → ProcId
         accepted y (Event.Accept z) = z
         accepted y _ = y
     accepts false w id e = absurd cc
 
-    go : (q : Bool) → is_command before ≡ q → (r : Bool) → Admits s x (if q && r then queue_event s b.history k.id ∷ [] else [])
+    go : (q : Bool) → is_command before ≡ q
+        → (r : Bool) → Admits s x (if q && r then queue_event s b.history k.id ∷ [] else [])
     go true e true = (accepts (is_some (array_after s (Event.Accept k.id ∷ b.history))) (h e k refl), tt)
     go true e false = tt
     go false e r = tt
 
-status_admits : (s : ScenarioValue) (x : Story) (c : Option CarriedBytes) (after : LineSet) (arrived : List Event) → Admits s x arrived → Admits s x (status_events c after arrived)
+status_admits : (s : ScenarioValue) (x : Story) (c : Option CarriedBytes) (after : LineSet) (arrived : List Event)
+    → Admits s x arrived → Admits s x (status_events c after arrived)
 status_admits s x None after arrived h = h
-status_admits s x (Some k) after arrived h = go (is_status_phase after && not k.shown && not k.refused && not (list_any (λ e. is_refuse e) arrived)) k.failure
+status_admits s x (Some k) after arrived h =
+    go (is_status_phase after && not k.shown && not k.refused && not (list_any (λ e. is_refuse e) arrived)) k.failure
   where
     go : (q : Bool) (f : Option ℕ) → Admits s x (if q then status_event k.id f ∷ arrived else arrived)
     go true None = (λ id e. absurd cc, h)
@@ -299,7 +350,10 @@ end_admits s x None = tt
 end_admits s x (Some k) = (λ id e. absurd cc, tt)
 
 -- The process of the link is not over while COMMAND lasts.
-pub items_on : (s : ScenarioValue) (k : RunState) (row : Row) (n : Connection) (c : Change) (l : Link) → Items s k → IsRowIn k row n c → k.story.link ≡ Some l → (is_command c.before ≡ true → (i : Item) → l.item ≡ Some i → has_item k.story.sent.over i ≡ false) → Talks s (run_state_after s k row) n → Items s (run_state_after s k row)
+pub items_on : (s : ScenarioValue) (k : RunState) (row : Row) (n : Connection) (c : Change) (l : Link)
+    → Items s k → IsRowIn k row n c → k.story.link ≡ Some l
+    → (is_command c.before ≡ true → (i : Item) → l.item ≡ Some i → has_item k.story.sent.over i ≡ false)
+    → Talks s (run_state_after s k row) n → Items s (run_state_after s k row)
 items_on s k row n c l h r el opens talks = go (is_some (receiver_in n c)) refl
   where
     j : RunState
@@ -316,7 +370,8 @@ items_on s k row n c l h r el opens talks = go (is_some (receiver_in n c)) refl
       apart = λ e. none_some n (sym e ∙ stands);
       grows = (over_after s k row n c now l r en el).grows;
       checked = checked_by s k changed shown same h.checked;
-      queued = by_events s k changed shown same (subst (λ (x : List Event). Admits s changed x) (sym (row_shows s k row n c now l r en el)) (admits (changes_phase c) (is_completion l c))) h.queued;
+      queued = by_events s k changed shown same (subst (λ (x : List Event). Admits s changed x)
+          (sym (row_shows s k row n c now l r en el)) (admits (changes_phase c) (is_completion l c))) h.queued;
       served = λ i e. sym kept ∙ e;
       senses = λ m was e sv rst. (kept ∙ sv, calm);
       talks = λ m e rst. subst (λ (x : Connection). Talks s j x) (same_Some n m (sym stands ∙ e)) talks;
@@ -340,12 +395,18 @@ items_on s k row n c l h r el opens talks = go (is_some (receiver_in n c)) refl
         same : changed.sent ≡ k.story.sent
         same = row_sent s k row n c now l r en el
 
-        there : is_command c.before ≡ true → (y : CarriedBytes) → carried_if k.story l.item ≡ Some y → (has_item changed.sent.sent (process y.id) ≡ true) × (has_item changed.sent.over (process y.id) ≡ false)
+        there : is_command c.before ≡ true → (y : CarriedBytes) → carried_if k.story l.item ≡ Some y
+            → (has_item changed.sent.sent (process y.id) ≡ true) × (has_item changed.sent.over (process y.id) ≡ false)
         there z y e =
-            let i = carried_of_item k.story l.item y e in
-            (ap (λ (x : Sent). has_item x.sent (process y.id)) same ∙ (h.only.link l el).item (process y.id) i, ap (λ (x : Sent). has_item x.over (process y.id)) same ∙ opens z (process y.id) i)
+            let i = carried_of_item k.story l.item y e in (
+              ap (λ (x : Sent). has_item x.sent (process y.id)) same ∙ (h.only.link l el).item (process y.id) i,
+              ap (λ (x : Sent). has_item x.over (process y.id)) same ∙ opens z (process y.id) i,
+            )
 
-        admits : (q t : Bool) → Admits s changed (if q then phase_events s k.story (carried_if k.story l.item) c else if t then end_events (carried_if k.story l.item) else [])
-        admits true t = status_admits s changed (carried_if k.story l.item) c.after (queue_events s k.story (carried_if k.story l.item) c.before) (queue_admits s k.story changed (carried_if k.story l.item) c.before there)
+        admits : (q t : Bool) → Admits s changed (if q then phase_events s k.story (carried_if k.story l.item) c
+            else if t then end_events (carried_if k.story l.item) else [])
+        admits true t = status_admits s changed (carried_if k.story l.item) c.after
+            (queue_events s k.story (carried_if k.story l.item) c.before)
+            (queue_admits s k.story changed (carried_if k.story l.item) c.before there)
         admits false true = end_admits s changed (carried_if k.story l.item)
         admits false false = tt

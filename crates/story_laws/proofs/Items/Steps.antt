@@ -17,17 +17,21 @@ use Rattle.bus_due.specs.disk_array.specs.ArrayHistory as Play
 
 -- ---- the process that a target has ready is in a queue
 
-ready_unit : (q : Process → Type 0) (a : Array) (times : List ℕ) (seek t u : ℕ) (r : Ready) → UnitsP q a.units → ready_at a times seek t u ≡ Some r → q r.process
+ready_unit : (q : Process → Type 0) (a : Array) (times : List ℕ) (seek t u : ℕ) (r : Ready) → UnitsP q a.units
+    → ready_at a times seek t u ≡ Some r → q r.process
 ready_unit q a times seek t u r h e = go (unit_state_at a.units t u) refl e
   where
     by : (held : Bool) (c : Option RunningProcess) (time : ℕ) → RunsP q c → ready_in held c time ≡ Some r → q r.process
     by held None time g z = none_some r z
     by true (Some c) time g z = none_some r z
-    by false (Some c) time g z = subst q (ap (λ (x : Ready). x.process) (same_Some (record { time = time; process = c.process }) r z)) g
+    by false (Some c) time g z =
+        subst q (ap (λ (x : Ready). x.process) (same_Some (record { time = time; process = c.process }) r z)) g
 
-    go : (x : Option UnitState) → unit_state_at a.units t u ≡ x → ready_in (is_held a.holds t u) (current_of x) (since_of a.units times t u + seek) ≡ Some r → q r.process
+    go : (x : Option UnitState) → unit_state_at a.units t u ≡ x
+        → ready_in (is_held a.holds t u) (current_of x) (since_of a.units times t u + seek) ≡ Some r → q r.process
     go None f z = none_some r z
-    go (Some x) f z = by (is_held a.holds t u) x.current (since_of a.units times t u + seek) (unit_at q a.units t u x f h).1 z
+    go (Some x) f z =
+        by (is_held a.holds t u) x.current (since_of a.units times t u + seek) (unit_at q a.units t u x f h).1 z
 
 abbrev IfReady : (Process → Type 0) → Option Ready → Type 0
 IfReady q x = (r : Ready) → x ≡ Some r → q r.process
@@ -38,7 +42,8 @@ first_one q (Some a) None h g = h
 first_one q (Some a) (Some b) h g =
     elim (is_ready_before b a) as (λ x. IfReady q (if x then Some b else Some a)) [ true ↦ g | false ↦ h ]
 
-ready_some : (q : Process → Type 0) (a : Array) (times : List ℕ) (seek t : ℕ) → UnitsP q a.units → IfReady q (ready_among a times seek t)
+ready_some : (q : Process → Type 0) (a : Array) (times : List ℕ) (seek t : ℕ) → UnitsP q a.units
+    → IfReady q (ready_among a times seek t)
 ready_some q a times seek t h =
     let at : (n : ℕ) → IfReady q (ready_at a times seek t n) = λ n r e. ready_unit q a times seek t n r h e in
     let none : IfReady q None = λ r e. none_some r e in
@@ -51,7 +56,8 @@ ready_some q a times seek t h =
     (first_one q (ready_at a times seek t 6) _ (at 6)
     (first_one q (ready_at a times seek t 7) None (at 7) none)))))))
 
-pub ready_queued : (s : ScenarioValue) (k : RunState) (q : Process → Type 0) (t : ℕ) (r : Ready) → UnitsP q (array_of s k).units → ready_of s k t ≡ Some r → q r.process
+pub ready_queued : (s : ScenarioValue) (k : RunState) (q : Process → Type 0) (t : ℕ) (r : Ready)
+    → UnitsP q (array_of s k).units → ready_of s k t ≡ Some r → q r.process
 ready_queued s k q t r h e = ready_some q (array_of s k) k.current_since (seek_of s.targets t) t h r e
 
 -- ---- events, in the story and in the array
@@ -63,22 +69,30 @@ start_queued q s (u ∷ units) = ((tt, tt), start_queued q s units)
 -- A command that is accepted is of the scenario, sent and not over.
 abbrev pub Admits : ScenarioValue → Story → List Event → Type 0
 Admits s b [] = ⊤
-Admits s b (event ∷ shown) = ((id : ProcId) → event ≡ Event.Accept id → (has_item (story_after_events s b shown).sent.sent (process id) ≡ true) × (has_item (story_after_events s b shown).sent.over (process id) ≡ false)) × Admits s b shown
+Admits s b (event ∷ shown) =
+    ((id : ProcId) → event ≡ Event.Accept id → (has_item (story_after_events s b shown).sent.sent (process id) ≡ true)
+    × (has_item (story_after_events s b shown).sent.over (process id) ≡ false))
+    × Admits s b shown
 
-sense_command : (s : ScenarioValue) (id : ProcId) (p : Process) → process_of s id ≡ Some p → is_request_sense (command_of p.cdb) ≡ false → id.sense ≡ false
-sense_command s id p e f =
-    by_option (command_at s.commands id.command)
+sense_command : (s : ScenarioValue) (id : ProcId) (p : Process) → process_of s id ≡ Some p
+    → is_request_sense (command_of p.cdb) ≡ false → id.sense ≡ false
+sense_command s id p e f = by_option (command_at s.commands id.command)
     (λ z. no_process (sym (ap (λ (x : Option CmdDef). process_if s id x) z) ∙ e))
-    (λ c z. by id.sense c (ap (λ (x : Process). is_request_sense (command_of x.cdb)) (same_Some (process_by s id c) p (sym (ap (λ (x : Option CmdDef). process_if s id x) z) ∙ e)) ∙ f))
+    (λ c z. by id.sense c (ap (λ (x : Process). is_request_sense (command_of x.cdb))
+    (same_Some (process_by s id c) p (sym (ap (λ (x : Option CmdDef). process_if s id x) z) ∙ e)) ∙ f))
   where
     no_process : {A : Type 0} → (let a : Option Process = None in a) ≡ Some p → A
     no_process z = absurd cc
 
-    by : (q : Bool) (c : CmdDef) → is_request_sense (command_of (process_by s (record { command = id.command; sense = q }) c).cdb) ≡ false → q ≡ false
+    by : (q : Bool) (c : CmdDef)
+        → is_request_sense (command_of (process_by s (record { command = id.command; sense = q }) c).cdb) ≡ false
+        → q ≡ false
     by true c z = wrong z
     by false c z = refl
 
-accepted_queued : (s : ScenarioValue) (b : Sent) (id : ProcId) (p : Process) → process_of s id ≡ Some p → is_request_sense (command_of p.cdb) ≡ false → has_item b.sent (process id) ≡ true → has_item b.over (process id) ≡ false → IsQueued s b p
+accepted_queued : (s : ScenarioValue) (b : Sent) (id : ProcId) (p : Process) → process_of s id ≡ Some p
+    → is_request_sense (command_of p.cdb) ≡ false → has_item b.sent (process id) ≡ true
+    → has_item b.over (process id) ≡ false → IsQueued s b p
 accepted_queued s b id p e f there opens =
     let same : p.id ≡ id = process_id s id p e in
     record {
@@ -88,27 +102,39 @@ accepted_queued s b id p e f there opens =
       opens = ap (λ (x : ProcId). has_item b.over (process x)) same ∙ opens;
     }
 
-pub queued_on : (s : ScenarioValue) (b : Story) (a : Option Array) (shown : List Event) → Admits s b shown → UnitsP (IsQueued s b.sent) (or_start s a).units → UnitsP (IsQueued s (story_after_events s b shown).sent) (or_start s (array_after_events s a shown)).units
+pub queued_on : (s : ScenarioValue) (b : Story) (a : Option Array) (shown : List Event)
+    → Admits s b shown → UnitsP (IsQueued s b.sent) (or_start s a).units
+    → UnitsP (IsQueued s (story_after_events s b shown).sent) (or_start s (array_after_events s a shown)).units
 queued_on s b a [] h q = q
 queued_on s b a (event ∷ shown) h q = go (array_after_events s a shown) refl (queued_on s b a shown h.1 q)
   where
     was : Story
     was = story_after_events s b shown
 
-    next : (x : Array) (y : Option Array) → Steps.step s event x ≡ y → UnitsP (IsQueued s was.sent) x.units → UnitsP (IsQueued s (story_after_event s was event).sent) (or_start s y).units
+    next : (x : Array) (y : Option Array) → Steps.step s event x ≡ y → UnitsP (IsQueued s was.sent) x.units
+        → UnitsP (IsQueued s (story_after_event s was event).sent) (or_start s y).units
     next x None e g = start_queued (IsQueued s (story_after_event s was event).sent) s s.units
-    next x (Some y) e g =
-        map_units (λ p. IsQueued s was.sent p × (stays_queued event p ≡ true)) (IsQueued s (story_after_event s was event).sent) (λ p z. still_queued s was event p z.0 z.1) y.units
-        (step_units s (IsQueued s was.sent) x y event (λ id p z e f. let w = h.0 id z in accepted_queued s was.sent id p e f w.0 w.1) g e)
+    next x (Some y) e g = map_units (λ p. IsQueued s was.sent p × (stays_queued event p ≡ true))
+        (IsQueued s (story_after_event s was event).sent)
+        (λ p z. still_queued s was event p z.0 z.1) y.units (step_units s (IsQueued s was.sent) x y event
+        (λ id p z e f. let w = h.0 id z in accepted_queued s was.sent id p e f w.0 w.1) g e)
 
-    go : (x : Option Array) → array_after_events s a shown ≡ x → UnitsP (IsQueued s was.sent) (or_start s x).units → UnitsP (IsQueued s (story_after_event s was event).sent) (or_start s (Play.array_step s event x)).units
+    go : (x : Option Array) → array_after_events s a shown ≡ x → UnitsP (IsQueued s was.sent) (or_start s x).units
+        → UnitsP (IsQueued s (story_after_event s was event).sent) (or_start s (Play.array_step s event x)).units
     go None e g = start_queued (IsQueued s (story_after_event s was event).sent) s s.units
     go (Some x) e g = next x (Steps.step s event x) refl g
 
 -- Other items may be sent and over meanwhile.
-pub queued_sent : (s : ScenarioValue) (a b : Sent) (units : List UnitState) → ((i : Item) → has_item a.sent i ≡ true → has_item b.sent i ≡ true) → ((i : Item) → has_item a.sent i ≡ true → has_item a.over i ≡ false → has_item b.over i ≡ false) → UnitsP (IsQueued s a) units → UnitsP (IsQueued s b) units
-queued_sent s a b units more none h =
-    map_units (IsQueued s a) (IsQueued s b) (λ p x. record { is = x.is; command = x.command; sent = more (process p.id) x.sent; opens = none (process p.id) x.sent x.opens }) units h
+pub queued_sent : (s : ScenarioValue) (a b : Sent) (units : List UnitState)
+    → ((i : Item) → has_item a.sent i ≡ true → has_item b.sent i ≡ true)
+    → ((i : Item) → has_item a.sent i ≡ true → has_item a.over i ≡ false → has_item b.over i ≡ false)
+    → UnitsP (IsQueued s a) units → UnitsP (IsQueued s b) units
+queued_sent s a b units more none h = map_units (IsQueued s a) (IsQueued s b) (λ p x. record {
+  is = x.is;
+  command = x.command;
+  sent = more (process p.id) x.sent;
+  opens = none (process p.id) x.sent x.opens;
+}) units h
 
 -- ---- on the free bus: an item may be given up, which was not sent
 
@@ -119,29 +145,45 @@ pub record GivesUp (b c : Sent) : Type 0 where
   pub over : (i : Item) → has_item b.sent i ≡ true → has_item b.over i ≡ false → has_item c.over i ≡ false
 
 pub same_gives : (b c : Sent) → c ≡ b → GivesUp b c
-same_gives b c e = record { grows = grows_same b c e; checks = ap (λ (x : Sent). x.checks) e; over = λ i z o. ap (λ (x : Sent). has_item x.over i) e ∙ o }
+same_gives b c e = record {
+  grows = grows_same b c e;
+  checks = ap (λ (x : Sent). x.checks) e;
+  over = λ i z o. ap (λ (x : Sent). has_item x.over i) e ∙ o;
+}
 
-given_up : (b : Sent) (item : Item) (tries : List Item) → has_item b.sent item ≡ false → GivesUp b (record b { over = item ∷ b.over; tries = tries })
-given_up b item tries e = record { grows = record { sent = refl; over = λ i z. more_has item i b.over z; checks = λ n z. z }; checks = refl; over = λ i z o. apart i (same_item item i) refl z o }
+given_up : (b : Sent) (item : Item) (tries : List Item) → has_item b.sent item ≡ false
+    → GivesUp b (record b { over = item ∷ b.over; tries = tries })
+given_up b item tries e = record {
+  grows = record { sent = refl; over = λ i z. more_has item i b.over z; checks = λ n z. z };
+  checks = refl;
+  over = λ i z o. apart i (same_item item i) refl z o;
+}
   where
-    apart : (i : Item) (q : Bool) → same_item item i ≡ q → has_item b.sent i ≡ true → has_item b.over i ≡ false → (same_item item i || has_item b.over i) ≡ false
+    apart : (i : Item) (q : Bool) → same_item item i ≡ q → has_item b.sent i ≡ true → has_item b.over i ≡ false
+        → (same_item item i || has_item b.over i) ≡ false
     apart i true f z o = wrong (sym z ∙ ap (has_item b.sent) (sym (item_is item i f)) ∙ e)
     apart i false f z o = λ j. f j || o j
 
-tried : (s : ScenarioValue) (b : Story) (dev : ℕ) (item : Option Item) → ((i : Item) → item ≡ Some i → has_item b.sent.sent i ≡ false) → GivesUp b.sent (story_with_try s b dev item).sent
+tried : (s : ScenarioValue) (b : Story) (dev : ℕ) (item : Option Item)
+    → ((i : Item) → item ≡ Some i → has_item b.sent.sent i ≡ false) → GivesUp b.sent (story_with_try s b dev item).sent
 tried s b dev None h = same_gives b.sent b.sent refl
 tried s b dev (Some item) h = go _ item (h item refl)
   where
     next : Story
     next = record b { sent = record b.sent { tries = item ∷ b.sent.tries } }
 
-    go : (q : Bool) (i : Item) → has_item b.sent.sent i ≡ false → GivesUp b.sent (if q then story_without_answer next i else next).sent
+    go : (q : Bool) (i : Item) → has_item b.sent.sent i ≡ false
+        → GivesUp b.sent (if q then story_without_answer next i else next).sent
     go true (process id) e = given_up b.sent (process id) (item ∷ b.sent.tries) e
     go true (abort k) e = given_up b.sent (abort k) (item ∷ b.sent.tries) e
-    go false i e = record { grows = record { sent = refl; over = λ j z. z; checks = λ n z. z }; checks = refl; over = λ j z o. o }
+    go false i e =
+        record { grows = record { sent = refl; over = λ j z. z; checks = λ n z. z }; checks = refl; over = λ j z o. o }
 
 -- What the caller calls for was not sent.
-pub free_gives : (s : ScenarioValue) (b : Story) (d : RowReading) (row : Row) → ((k : Call) (x : Calling) → b.bus_state.call ≡ Some k → k.calling ≡ Some x → x.reselects ≡ false → (i : Item) → aim_of b.aims k.caller ≡ Some i → has_item b.sent.sent i ≡ false) → GivesUp b.sent (story_on_free_bus s b d row).sent
+pub free_gives : (s : ScenarioValue) (b : Story) (d : RowReading) (row : Row)
+    → ((k : Call) (x : Calling) → b.bus_state.call ≡ Some k → k.calling ≡ Some x → x.reselects ≡ false
+    → (i : Item) → aim_of b.aims k.caller ≡ Some i → has_item b.sent.sent i ≡ false)
+    → GivesUp b.sent (story_on_free_bus s b d row).sent
 free_gives s b d row h = go (is_arbitration_entry b d) (falls d.change.before.sel d.change.after.sel)
   where
     called : (call : Option Call) → b.bus_state.call ≡ call → GivesUp b.sent (story_after_calling s b call).sent
@@ -152,19 +194,24 @@ free_gives s b d row h = go (is_arbitration_entry b d) (falls d.change.before.se
         by None f = same_gives b.sent b.sent refl
         by (Some x) f = one (is_none x.answered) x.reselects refl
           where
-            one : (q r : Bool) → x.reselects ≡ r → GivesUp b.sent (if q && not r then story_with_try s b k.caller (aim_of b.aims k.caller) else b).sent
+            one : (q r : Bool) → x.reselects ≡ r
+                → GivesUp b.sent (if q && not r then story_with_try s b k.caller (aim_of b.aims k.caller) else b).sent
             one true false z = tried s b k.caller (aim_of b.aims k.caller) (λ i y. h k x e f z i y)
             one true true z = same_gives b.sent b.sent refl
             one false r z = same_gives b.sent b.sent refl
 
-    go : (q r : Bool) → GivesUp b.sent (if q then story_with_aim s b row else if r then story_after_calling s b b.bus_state.call else b).sent
+    go : (q r : Bool) → GivesUp b.sent
+        (if q then story_with_aim s b row else if r then story_after_calling s b b.bus_state.call else b).sent
     go true r = same_gives b.sent b.sent refl
     go false true = called b.bus_state.call refl
     go false false = same_gives b.sent b.sent refl
 
 -- Where SEL does not fall nothing is given up.
-pub free_still : (s : ScenarioValue) (b : Story) (d : RowReading) (row : Row) → falls d.change.before.sel d.change.after.sel ≡ false → (story_on_free_bus s b d row).sent ≡ b.sent
-free_still s b d row e = ap (λ (r : Bool). (if is_arbitration_entry b d then story_with_aim s b row else if r then story_after_calling s b b.bus_state.call else b).sent) e ∙ go (is_arbitration_entry b d)
+pub free_still : (s : ScenarioValue) (b : Story) (d : RowReading) (row : Row)
+    → falls d.change.before.sel d.change.after.sel ≡ false → (story_on_free_bus s b d row).sent ≡ b.sent
+free_still s b d row e = ap (λ (r : Bool). (if is_arbitration_entry b d then story_with_aim s b row
+    else if r then story_after_calling s b b.bus_state.call else b).sent) e
+    ∙ go (is_arbitration_entry b d)
   where
     go : (q : Bool) → (if q then story_with_aim s b row else b).sent ≡ b.sent
     go true = refl
@@ -176,12 +223,16 @@ checked_up b c g h n e = g.grows.over _ (h n (ap (λ (x : List ℕ). list_any (�
 -- ---- how far a process has come
 
 -- Only the process that is served comes on.
-pub progress_kept : (s : ScenarioValue) (k : RunState) (d : RowReading) (before after : Option Connection) (l : Leaving) (id : ProcId) → ((p : Process) → process_served s k ≡ Some p → same_id p.id id ≡ false) → progress_in (progress_after s k d before after l) id ≡ progress_in k.progress id
+pub progress_kept :
+    (s : ScenarioValue) (k : RunState) (d : RowReading) (before after : Option Connection) (l : Leaving) (id : ProcId)
+    → ((p : Process) → process_served s k ≡ Some p → same_id p.id id ≡ false)
+    → progress_in (progress_after s k d before after l) id ≡ progress_in k.progress id
 progress_kept s k d None after l id h = refl
 progress_kept s k d (Some m) None l id h = refl
 progress_kept s k d (Some m) (Some n) l id h = go (changes_phase d.change && k.exchange.begun) (process_served s k) refl
   where
-    go : (q : Bool) (o : Option Process) → process_served s k ≡ o → progress_in (if q then progress_by_leaving k o l else k.progress) id ≡ progress_in k.progress id
+    go : (q : Bool) (o : Option Process) → process_served s k ≡ o
+        → progress_in (if q then progress_by_leaving k o l else k.progress) id ≡ progress_in k.progress id
     go true None e = refl
     go true (Some p) e = other_kept k.progress p.id id l.done l.counts (h p e)
     go false o e = refl

@@ -11,20 +11,27 @@ use proofs.Names.{IsFoundBy}
 
 -- ---- a command that is open is found by its nexus
 
-is_found : (b : Sent) (i t u : ℕ) (tag : Option ℕ) (n j : ℕ) (c : CmdDef) (commands : List CmdDef) → command_at commands (suc j) ≡ Some c → is_of_nexus c i t u ≡ true → is_open b (n + j) ≡ true → same_number (tag_number c.tag) tag ≡ true → is_some (named_item_from b i t u tag n commands) ≡ true
+is_found : (b : Sent) (i t u : ℕ) (tag : Option ℕ) (n j : ℕ) (c : CmdDef) (commands : List CmdDef)
+    → command_at commands (suc j) ≡ Some c → is_of_nexus c i t u ≡ true → is_open b (n + j) ≡ true
+    → same_number (tag_number c.tag) tag ≡ true → is_some (named_item_from b i t u tag n commands) ≡ true
 is_found b i t u tag n j c [] e nexus open_is same = absurd (none_some c e)
 is_found b i t u tag n zero c (d ∷ commands) e nexus open_is same =
     let first : d ≡ c = same_Some d c e in
-    ap (λ (q : Bool). is_some (if q then Some (command_item n) else if is_of_nexus d i t u && is_open_sense b n && same_number None tag then Some (sense_item n) else named_item_from b i t u tag (n + 1) commands))
-    ((λ k. is_of_nexus (first k) i t u && is_open b n && same_number (tag_number (first k).tag) tag) ∙ (λ k. nexus k && (ap (is_open b) (zero_more n) ∙ open_is) k && same k))
+    ap (λ (q : Bool). is_some (if q then Some (command_item n)
+    else if is_of_nexus d i t u && is_open_sense b n && same_number None tag then Some (sense_item n)
+    else named_item_from b i t u tag (n + 1) commands))
+    ((λ k. is_of_nexus (first k) i t u && is_open b n && same_number (tag_number (first k).tag) tag)
+    ∙ (λ k. nexus k && (ap (is_open b) (zero_more n) ∙ open_is) k && same k))
   where
     zero_more : (m : ℕ) → m ≡ m + 0
     zero_more m = omega arith
-is_found b i t u tag n (suc j) c (d ∷ commands) e nexus open_is same =
-    go (is_of_nexus d i t u && is_open b n && same_number (tag_number d.tag) tag) (is_of_nexus d i t u && is_open_sense b n && same_number None tag)
+is_found b i t u tag n (suc j) c (d ∷ commands) e nexus open_is same = go (is_of_nexus d i t u && is_open b n
+    && same_number (tag_number d.tag) tag) (is_of_nexus d i t u && is_open_sense b n && same_number None tag)
     (is_found b i t u tag (n + 1) j c commands e nexus (ap (is_open b) (sym (plus_one n j)) ∙ open_is) same)
   where
-    go : (q r : Bool) → is_some (named_item_from b i t u tag (n + 1) commands) ≡ true → is_some (if q then Some (command_item n) else if r then Some (sense_item n) else named_item_from b i t u tag (n + 1) commands) ≡ true
+    go : (q r : Bool) → is_some (named_item_from b i t u tag (n + 1) commands) ≡ true
+        → is_some (if q then Some (command_item n)
+        else if r then Some (sense_item n) else named_item_from b i t u tag (n + 1) commands) ≡ true
     go true r z = refl
     go false true z = refl
     go false false z = z
@@ -35,41 +42,52 @@ record IsCommand (s : ScenarioValue) (p : Process) : Type 0 where
   is : process_by s p.id line ≡ p
 
 command_of_process : (s : ScenarioValue) (p : Process) → process_of s p.id ≡ Some p → IsCommand s p
-command_of_process s p e =
-    by_option (command_at s.commands p.id.command)
-    (λ f. absurd (none_process (sym (ap (process_if s p.id) f) ∙ e)))
-    (λ c f. record { line = c; line_is = f; is = same_Some (process_by s p.id c) p (sym (ap (process_if s p.id) f) ∙ e) })
+command_of_process s p e = by_option (command_at s.commands p.id.command)
+    (λ f. absurd (none_process (sym (ap (process_if s p.id) f) ∙ e))) (λ c f. record {
+      line = c;
+      line_is = f;
+      is = same_Some (process_by s p.id c) p (sym (ap (process_if s p.id) f) ∙ e);
+    })
   where
     none_process : (let a : Option Process = None in a) ≡ Some p → ⊥
     none_process z = cc
 
 -- What the names of an open command find.
-pub found_by : (s : ScenarioValue) (b : Sent) (n : Connection) (p : Process) → process_of s p.id ≡ Some p → p.id.sense ≡ false → has_item b.sent (process p.id) ≡ true → has_item b.over (process p.id) ≡ false → p.initiator ≡ n.initiator → p.target ≡ n.target → IsFoundBy s n b p
+pub found_by : (s : ScenarioValue) (b : Sent) (n : Connection) (p : Process) → process_of s p.id ≡ Some p
+    → p.id.sense ≡ false → has_item b.sent (process p.id) ≡ true → has_item b.over (process p.id) ≡ false
+    → p.initiator ≡ n.initiator → p.target ≡ n.target → IsFoundBy s n b p
 found_by s b n p e command sent over ei et l li lt lu = by p.id.command refl
   where
     c : IsCommand s p
     c = command_of_process s p e
 
     host : c.line.host ≡ l.initiator
-    host = sym (λ i. (process_by s (record { command = p.id.command; sense = command i }) c.line).initiator) ∙ ap (λ (x : Process). x.initiator) c.is ∙ ei ∙ sym li
+    host = sym (λ i. (process_by s (record { command = p.id.command; sense = command i }) c.line).initiator)
+        ∙ ap (λ (x : Process). x.initiator) c.is ∙ ei ∙ sym li
 
     target : c.line.target ≡ l.target
-    target = sym (λ i. (process_by s (record { command = p.id.command; sense = command i }) c.line).target) ∙ ap (λ (x : Process). x.target) c.is ∙ et ∙ sym lt
+    target = sym (λ i. (process_by s (record { command = p.id.command; sense = command i }) c.line).target)
+        ∙ ap (λ (x : Process). x.target) c.is ∙ et ∙ sym lt
 
     unit : c.line.unit ≡ l.unit
-    unit = sym (λ i. (process_by s (record { command = p.id.command; sense = command i }) c.line).unit) ∙ ap (λ (x : Process). x.unit) c.is ∙ sym lu
+    unit = sym (λ i. (process_by s (record { command = p.id.command; sense = command i }) c.line).unit)
+        ∙ ap (λ (x : Process). x.unit) c.is ∙ sym lu
 
     nexus : is_of_nexus c.line l.initiator l.target l.unit ≡ true
-    nexus = (λ i. host i == l.initiator && target i == l.target && unit i == l.unit) ∙ (λ i. eq_self l.initiator i && eq_self l.target i && eq_self l.unit i)
+    nexus = (λ i. host i == l.initiator && target i == l.target && unit i == l.unit)
+        ∙ (λ i. eq_self l.initiator i && eq_self l.target i && eq_self l.unit i)
 
     tag : same_number (tag_number c.line.tag) (tag_number p.tag) ≡ true
-    tag = ap (λ (t : Tag). same_number (tag_number t) (tag_number p.tag)) (sym (λ i. (process_by s (record { command = p.id.command; sense = command i }) c.line).tag) ∙ ap (λ (x : Process). x.tag) c.is) ∙ number_same (tag_number p.tag)
+    tag = ap (λ (t : Tag). same_number (tag_number t) (tag_number p.tag))
+        (sym (λ i. (process_by s (record { command = p.id.command; sense = command i }) c.line).tag)
+        ∙ ap (λ (x : Process). x.tag) c.is) ∙ number_same (tag_number p.tag)
 
     id_is : p.id ≡ record { command = p.id.command; sense = false }
     id_is = λ i. record { command = p.id.command; sense = command i }
 
     is_open_there : is_open b p.id.command ≡ true
-    is_open_there = (λ i. has_item b.sent (process (sym id_is i)) && not (has_item b.over (process (sym id_is i)))) ∙ (λ i. sent i && not (over i))
+    is_open_there = (λ i. has_item b.sent (process (sym id_is i)) && not (has_item b.over (process (sym id_is i))))
+        ∙ (λ i. sent i && not (over i))
 
     zero_none : (commands : List CmdDef) → command_at commands zero ≡ None
     zero_none [] = refl
@@ -77,29 +95,41 @@ found_by s b n p e command sent over ei et l li lt lu = by p.id.command refl
 
     by : (m : ℕ) → p.id.command ≡ m → is_some (named_item b s.commands l (tag_number p.tag)) ≡ true
     by zero z = absurd (none_some c.line (sym (zero_none s.commands) ∙ ap (command_at s.commands) (sym z) ∙ c.line_is))
-    by (suc j) z = is_found b l.initiator l.target l.unit (tag_number p.tag) 1 j c.line s.commands (ap (command_at s.commands) (sym z) ∙ c.line_is) nexus (ap (is_open b) (one-add j ∙ sym z) ∙ is_open_there) tag
+    by (suc j) z = is_found b l.initiator l.target l.unit (tag_number p.tag) 1 j c.line s.commands
+        (ap (command_at s.commands) (sym z) ∙ c.line_is) nexus (ap (is_open b) (one-add j ∙ sym z) ∙ is_open_there) tag
 
 -- ---- the first row
 
 -- No command is sent with it.
-pub first_sent : (s : ScenarioValue) (k : RunState) (row : Row) (n : Connection) → IsFirstRow k row n → k.story.link ≡ None → n.reselected ≡ true → (run_state_after s k row).story.sent ≡ k.story.sent
+pub first_sent : (s : ScenarioValue) (k : RunState) (row : Row) (n : Connection) → IsFirstRow k row n
+    → k.story.link ≡ None → n.reselected ≡ true → (run_state_after s k row).story.sent ≡ k.story.sent
 first_sent s k row n h none re =
     let d : RowReading = row_reading k.story.bus_state row in
-    (λ i. (story_after_events s (if h.calm i then record k.story { link = None } else story_on_bus s k.story (h.connection_is i) (h.next_is i) d row) (if h.calm i then (if rises d.change.own.rst d.change.next.rst then Event.Reset row.dev ∷ [] else []) else link_events s k.story (none i) d)).sent)
-    ∙ by n.reselected re
+    (λ i. (story_after_events s (if h.calm i then record k.story { link = None }
+    else story_on_bus s k.story (h.connection_is i) (h.next_is i) d row)
+    (if h.calm i then (if rises d.change.own.rst d.change.next.rst then Event.Reset row.dev ∷ [] else [])
+    else link_events s k.story (none i) d)).sent) ∙ by n.reselected re
   where
-    by : (q : Bool) → q ≡ true → (if q then record k.story { link = Some (link_of n None) } else story_with_restored (story_with_sent (record k.story { link = Some (link_of n (aim_of k.story.aims n.initiator)) }) (aim_of k.story.aims n.initiator)) (aim_of k.story.aims n.initiator)).sent ≡ k.story.sent
+    by : (q : Bool) → q ≡ true → (if q then record k.story { link = Some (link_of n None) }
+        else story_with_restored (story_with_sent (record k.story {
+          link = Some (link_of n (aim_of k.story.aims n.initiator));
+        }) (aim_of k.story.aims n.initiator)) (aim_of k.story.aims n.initiator)).sent ≡ k.story.sent
     by true e = refl
     by false e = wrong' e
 
 -- The connection is of no process yet.
-pub first_link : (s : ScenarioValue) (k : RunState) (row : Row) (n : Connection) → IsFirstRow k row n → n.reselected ≡ true → (run_state_after s k row).story.link ≡ Some (link_of n None)
+pub first_link : (s : ScenarioValue) (k : RunState) (row : Row) (n : Connection) → IsFirstRow k row n
+    → n.reselected ≡ true → (run_state_after s k row).story.link ≡ Some (link_of n None)
 first_link s k row n h re =
     let d : RowReading = row_reading k.story.bus_state row in
     events_link s (story_by_change s k.story d row) (row_events_by s k.story d row)
-    ∙ (λ i. (if h.calm i then record k.story { link = None } else story_on_bus s k.story (h.connection_is i) (h.next_is i) d row).link)
+    ∙ (λ i. (if h.calm i then record k.story { link = None }
+    else story_on_bus s k.story (h.connection_is i) (h.next_is i) d row).link)
     ∙ by n.reselected re
   where
-    by : (q : Bool) → q ≡ true → (if q then record k.story { link = Some (link_of n None) } else story_with_restored (story_with_sent (record k.story { link = Some (link_of n (aim_of k.story.aims n.initiator)) }) (aim_of k.story.aims n.initiator)) (aim_of k.story.aims n.initiator)).link ≡ Some (link_of n None)
+    by : (q : Bool) → q ≡ true → (if q then record k.story { link = Some (link_of n None) }
+        else story_with_restored (story_with_sent (record k.story {
+          link = Some (link_of n (aim_of k.story.aims n.initiator));
+        }) (aim_of k.story.aims n.initiator)) (aim_of k.story.aims n.initiator)).link ≡ Some (link_of n None)
     by true e = refl
     by false e = wrong' e

@@ -1,4 +1,5 @@
--- Whose synchronous data transfer request is open after any rows of a prompt trace; and rule 25 of it: none as data cross (6.6.21).
+-- Whose synchronous data transfer request is open after any rows of a prompt trace; and rule 25 of it: none as data
+-- cross (6.6.21).
 use Rattle.story_laws.proofs
 use proofs.Names.{inl, inr, ◌≡◌, ◌⊎◌, ◌<◌, Bool, true, false, not, ◌&&◌, ◌||◌, ◌∙◌, List, [], ◌∷◌, Option, Some, None}
 use proofs.Names.{refl, sym, ap, subst, if◌then◌else◌, is_some, wrong, wrong', change_of, LineSet, changes_phase}
@@ -29,7 +30,8 @@ no_names (Some r) = (refl, tagged r.process.tag)
     tagged Tag.Untagged = tt
     tagged _ = refl
 
-offers_first : (s : ScenarioValue) (p : List Row) (row : Row) (n : Connection) → AreOfDevices p → row.dev < 8 → connection p ≡ None → connection (row ∷ p) ≡ Some n → IsFirst s p row n → Offers (run_state s (row ∷ p))
+offers_first : (s : ScenarioValue) (p : List Row) (row : Row) (n : Connection) → AreOfDevices p → row.dev < 8
+    → connection p ≡ None → connection (row ∷ p) ≡ Some n → IsFirst s p row n → Offers (run_state s (row ∷ p))
 offers_first s p row n dv lt alone e f = go f.begins
   where
     q : List Row
@@ -50,16 +52,19 @@ offers_first s p row n dv lt alone e f = go f.begins
     next : (row_reading k.story.bus_state row).next ≡ Some n
     next = (λ i. connection_after (was.connection i) (was.call i) (change_plain s row p dv lt i) row) ∙ e
 
-    heard : (run_state s q).story.bus_state.dialogue ≡ opened (agreement_in k.story.bus_state.agreed n.initiator n.target)
-    heard = λ i. dialogue_after k.story.bus_state.dialogue (con i) (next i) (λ j u. agreement_in k.story.bus_state.agreed j u) (row_reading k.story.bus_state row).change
+    heard : (run_state s q).story.bus_state.dialogue
+        ≡ opened (agreement_in k.story.bus_state.agreed n.initiator n.target)
+    heard = λ i. dialogue_after k.story.bus_state.dialogue (con i) (next i)
+        (λ j u. agreement_in k.story.bus_state.agreed j u) (row_reading k.story.bus_state row).change
 
     none : offer_now (run_state s q).story.bus_state.dialogue ≡ None
     none = ap offer_now heard
 
     planned : n.reselected ≡ true → (run_state s q).exchange.plan.messages ≡ messages_if (ready_of s k n.target)
-    planned re =
-        (λ i. (exchange_after s k row (row_reading k.story.bus_state row) (con i) (next i) (leaving_of s k k.story.bus_state.connection)).plan.messages)
-        ∙ ap (λ (r : Bool). (first_plan r (not r && may_negotiate k n (aim_of k.story.aims n.initiator)) (if r then messages_if (ready_of s k n.target) else no_messages)).messages) re
+    planned re = (λ i. (exchange_after s k row (row_reading k.story.bus_state row)
+        (con i) (next i) (leaving_of s k k.story.bus_state.connection)).plan.messages)
+        ∙ ap (λ (r : Bool). (first_plan r (not r && may_negotiate k n (aim_of k.story.aims n.initiator))
+        (if r then messages_if (ready_of s k n.target) else no_messages)).messages) re
 
     go : BeginsConnection q n → Offers (run_state s q)
     go (by_selection h) =
@@ -79,7 +84,9 @@ offers_first s p row n dv lt alone e f = go f.begins
           unbegun = λ b. (none, ap (λ (d : Dialogue). d.heard.void) heard);
           settled = λ b m. none;
           out = λ b m. wrong' (sym (ap is_message_out on) ∙ m);
-          into = λ b m. no_request (subst (λ (z : Messages). OnMessages IsNoRequest z) (sym (planned re)) (no_names (ready_of s k n.target))) none (inl (ap (λ (z : Handshakes). z.requests) (pl.handshakes ∙ h.handshakes_are)));
+          into = λ b m. no_request
+              (subst (λ (z : Messages). OnMessages IsNoRequest z) (sym (planned re)) (no_names (ready_of s k n.target)))
+              none (inl (ap (λ (z : Handshakes). z.requests) (pl.handshakes ∙ h.handshakes_are)));
           why = λ b m a. wrong' (sym (ap (λ (l : LineSet). l.atn) on) ∙ a);
           asks = λ b m t. absurd (none_end (sym none ∙ t));
         }
@@ -89,7 +96,8 @@ offers_first s p row n dv lt alone e f = go f.begins
 
 -- ---- any row
 
-pub offers_next : (s : ScenarioValue) (p : List Row) (row : Row) → Obeys s → IsPrompt s (row ∷ p) → Stood s p → NextStood s p row → OfferFacts s p → OfferFacts s (row ∷ p)
+pub offers_next : (s : ScenarioValue) (p : List Row) (row : Row) → Obeys s → IsPrompt s (row ∷ p) → Stood s p
+    → NextStood s p row → OfferFacts s p → OfferFacts s (row ∷ p)
 offers_next s p row o prompt was next h n after calm = go (row_kind s p row n o prompt was after calm)
   where
     lt : row.dev < 8
@@ -109,16 +117,19 @@ offers_next s p row o prompt was next h n after calm = go (row_kind s p row n o 
         let quiet = ap (λ (l : LineSet). l.rst) was.plain.bus ∙ off in
         let is = g.lines_are in
         let att = attention_row s p row n (link_low s p n r.stage) after r.link in
-        let at : Attention k.handshakes k.story.bus_state.dialogue k.exchange.begun n g.change =
-        subst (λ (x : Change). Attention k.handshakes k.story.bus_state.dialogue k.exchange.begun n x) (sym g.change_is)
-        (subst (λ (x : Handshakes). Attention x k.story.bus_state.dialogue k.exchange.begun n (change_of p row)) (sym was.plain.handshakes)
-        (subst (λ (x : Dialogue). Attention (handshakes p) x k.exchange.begun n (change_of p row)) (sym was.plain.dialogue)
-        (subst (λ (x : Bool). Attention (handshakes p) (dialogue p) x n (change_of p row)) (sym was.plain.begun) att))) in
-        offers_on s k row n g.change g.goes (λ z. ap (λ (x : Change). x.after.cd) g.change_is ∙ (link_phase s (row ∷ p) n stage (ap (λ (x : Change). x.after.msg) (sym g.change_is) ∙ z)).0)
+        let at : Attention k.handshakes k.story.bus_state.dialogue k.exchange.begun n g.change = subst
+        (λ (x : Change). Attention k.handshakes k.story.bus_state.dialogue k.exchange.begun n x) (sym g.change_is)
+        (subst (λ (x : Handshakes). Attention x k.story.bus_state.dialogue k.exchange.begun n (change_of p row))
+        (sym was.plain.handshakes)
+        (subst (λ (x : Dialogue). Attention (handshakes p) x k.exchange.begun n (change_of p row))
+        (sym was.plain.dialogue) (subst (λ (x : Bool). Attention (handshakes p) (dialogue p) x n (change_of p row))
+        (sym was.plain.begun) att))) in
+        offers_on s k row n g.change g.goes (λ z. ap (λ (x : Change). x.after.cd) g.change_is
+        ∙ (link_phase s (row ∷ p) n stage (ap (λ (x : Change). x.after.msg) (sym g.change_is) ∙ z)).0)
         (books.speaks n standing quiet) (books.gives n standing quiet) at
         (λ ep b. g.lines.over (ap changes_phase is ∙ ep) (sym was.plain.begun ∙ b))
-        (λ ep b. g.lines.whereto (ap changes_phase is ∙ ep) (sym was.plain.begun ∙ b) ∙ ap (λ (x : Change). Some (phase_of x.after)) is)
-        (h n con off)
+        (λ ep b. g.lines.whereto (ap changes_phase is ∙ ep) (sym was.plain.begun ∙ b)
+        ∙ ap (λ (x : Change). Some (phase_of x.after)) is) (h n con off)
 
 -- ---- rule 25
 
@@ -128,24 +139,31 @@ implied true r false f = refl
 implied false r d f = refl
 
 -- No request is open as data cross.
-pub offers_asks : (s : ScenarioValue) (p : List Row) (row : Row) (n : Connection) → Obeys s → IsPrompt s (row ∷ p) → Stood s p → OfferFacts s p → connection p ≡ Some n → (bus p).rst ≡ false → (bus (row ∷ p)).rst ≡ false → settles_offers (seen p row) ≡ true
+pub offers_asks : (s : ScenarioValue) (p : List Row) (row : Row) (n : Connection) → Obeys s → IsPrompt s (row ∷ p)
+    → Stood s p → OfferFacts s p → connection p ≡ Some n → (bus p).rst ≡ false → (bus (row ∷ p)).rst ≡ false
+    → settles_offers (seen p row) ≡ true
 unfolding seen_with
 offers_asks s p row n o prompt was h con off calm =
-    (λ i. not (is_some (receiver_of (con i) (change_of p row)) && is_data (bus p)) || not (is_some (dialogue p).heard.now.offer))
-    ∙ implied (is_some (receiver_in n (change_of p row))) (not (is_some (dialogue p).heard.now.offer)) (is_data (bus p)) settled
+    (λ i. not (is_some (receiver_of (con i) (change_of p row)) && is_data (bus p))
+    || not (is_some (dialogue p).heard.now.offer))
+    ∙ implied (is_some (receiver_in n (change_of p row))) (not (is_some (dialogue p).heard.now.offer))
+    (is_data (bus p)) settled
   where
     data_lines : (m c : Bool) → (not m && not c) ≡ true → m ≡ false
     data_lines true c e = wrong' e
     data_lines false c e = refl
 
-    settled : is_some (receiver_in n (change_of p row)) ≡ true → is_data (bus p) ≡ true → not (is_some (dialogue p).heard.now.offer) ≡ true
+    settled : is_some (receiver_in n (change_of p row)) ≡ true → is_data (bus p) ≡ true
+        → not (is_some (dialogue p).heard.now.offer) ≡ true
     settled there d =
         let open_to = h n con off in
-        let at = (open_to.settled (was.plain.begun ∙ begun_there there) (ap (λ (l : LineSet). l.msg) was.plain.bus ∙ data_lines (bus p).msg (bus p).cd d)) in
+        let at = (open_to.settled (was.plain.begun ∙ begun_there there)
+        (ap (λ (l : LineSet). l.msg) was.plain.bus ∙ data_lines (bus p).msg (bus p).cd d)) in
         (λ i. not (is_some (sym was.plain.dialogue i).heard.now.offer)) ∙ ap (λ (z : Option End). not (is_some z)) at
       where
         by_facts : RowFacts s p row n → is_some (receiver_in n (change_of p row)) ≡ true → begun p ≡ true
-        by_facts (stays g) z = g.begun_is (ap (λ (x : Change). is_some (receiver_in n x)) (sym g.row_is.change_is ∙ change_plain s row p was.standing.devices (least_is s p row prompt.1).inside) ∙ z)
+        by_facts (stays g) z = g.begun_is (ap (λ (x : Change). is_some (receiver_in n x))
+            (sym g.row_is.change_is ∙ change_plain s row p was.standing.devices (least_is s p row prompt.1).inside) ∙ z)
         by_facts (ends_here f) z = wrong (sym z ∙ f.carries)
 
         begun_there : is_some (receiver_in n (change_of p row)) ≡ true → begun p ≡ true
@@ -154,8 +172,11 @@ offers_asks s p row n o prompt was h con off calm =
 -- ---- for the pointers
 
 -- In MESSAGE IN the initiator raises ATN for a byte that was not struck only where COMMAND follows.
-pub answers_at_command : (s : ScenarioValue) (p : List Row) (n : Connection) → AreOfDevices p → OfferFacts s p → connection p ≡ Some n → (bus p).rst ≡ false → begun p ≡ true → is_message_in (bus p) ≡ true → (bus p).atn ≡ true → (handshakes p).struck ≡ false → (run_state s p).exchange.plan.next ≡ Next.Command
-answers_at_command s p n dv h con off b m a unstruck = go ((h n con off).why (pl.begun ∙ b) here (ap (λ (l : LineSet). l.atn) pl.bus ∙ a)).1
+pub answers_at_command : (s : ScenarioValue) (p : List Row) (n : Connection) → AreOfDevices p → OfferFacts s p
+    → connection p ≡ Some n → (bus p).rst ≡ false → begun p ≡ true → is_message_in (bus p) ≡ true → (bus p).atn ≡ true
+    → (handshakes p).struck ≡ false → (run_state s p).exchange.plan.next ≡ Next.Command
+answers_at_command s p n dv h con off b m a unstruck =
+    go ((h n con off).why (pl.begun ∙ b) here (ap (λ (l : LineSet). l.atn) pl.bus ∙ a)).1
   where
     pl : IsPlain s p (run_state s p)
     pl = run_state_plain s p dv
@@ -163,15 +184,22 @@ answers_at_command s p n dv h con off b m a unstruck = go ((h n con off).why (pl
     here : is_message_in (bus_of (run_state s p)) ≡ true
     here = ap is_message_in pl.bus ∙ m
 
-    go : ((run_state s p).handshakes.struck ≡ true) ⊎ (offer_now (run_state s p).story.bus_state.dialogue ≡ Some End.Target) → (run_state s p).exchange.plan.next ≡ Next.Command
+    go : ((run_state s p).handshakes.struck ≡ true)
+        ⊎ (offer_now (run_state s p).story.bus_state.dialogue ≡ Some End.Target)
+        → (run_state s p).exchange.plan.next ≡ Next.Command
     go (inl z) = wrong (sym z ∙ ap (λ (x : Handshakes). x.struck) pl.handshakes ∙ unstruck)
-    go (inr t) = asked_at_command _ _ (run_state s p).story.bus_state.dialogue (run_state s p).handshakes.requests ((h n con off).into (pl.begun ∙ b) here) t
+    go (inr t) = asked_at_command _ _ (run_state s p).story.bus_state.dialogue (run_state s p).handshakes.requests
+        ((h n con off).into (pl.begun ∙ b) here) t
 
 -- In MESSAGE OUT that follows MESSAGE IN it answers a request only where COMMAND follows.
-pub refuses_later : (s : ScenarioValue) (p : List Row) (n : Connection) → OfferFacts s p → connection p ≡ Some n → (bus p).rst ≡ false → (run_state s p).exchange.begun ≡ true → is_message_out (bus_of (run_state s p)) ≡ true → (run_state s p).exchange.plan.cause ≡ Cause.InMessage → ((run_state s p).exchange.plan.next ≡ Next.Command) ⊎ ((run_state s p).exchange.speech.words ≡ parity_error)
+pub refuses_later : (s : ScenarioValue) (p : List Row) (n : Connection) → OfferFacts s p
+    → connection p ≡ Some n → (bus p).rst ≡ false → (run_state s p).exchange.begun ≡ true
+    → is_message_out (bus_of (run_state s p)) ≡ true → (run_state s p).exchange.plan.cause ≡ Cause.InMessage
+    → ((run_state s p).exchange.plan.next ≡ Next.Command) ⊎ ((run_state s p).exchange.speech.words ≡ parity_error)
 refuses_later s p n h con off b m c = go ((h n con off).out b m)
   where
-    go : IsHeardOut (run_state s p).exchange (run_state s p).story.bus_state.dialogue → ((run_state s p).exchange.plan.next ≡ Next.Command) ⊎ ((run_state s p).exchange.speech.words ≡ parity_error)
+    go : IsHeardOut (run_state s p).exchange (run_state s p).story.bus_state.dialogue
+        → ((run_state s p).exchange.plan.next ≡ Next.Command) ⊎ ((run_state s p).exchange.speech.words ≡ parity_error)
     go (opens e ao av v q) = wrong' (ap is_in_message (sym e ∙ c))
     go (repeats before e one w q) = inr one.words_are
     go (answers_it a e next one q) = inl next

@@ -10,7 +10,8 @@ use proofs.{Names.{detects}, Complaints.Turns.{attended}}
 use Rattle.row_laws.specs.Offers.{answers, refuses, plain}
 use Rattle.row_laws.specs.link_laws.proofs.LeavingWays as ways
 
--- Where a phase is left with this request open: in MESSAGE IN it is as planned, in the others but MESSAGE OUT none is open.
+-- Where a phase is left with this request open: in MESSAGE IN it is as planned, in the others but MESSAGE OUT none is
+-- open.
 abbrev pub HeadsTo : Option End → Option Phase → Messages → Next → Type 0
 HeadsTo o None messages next = ⊤
 HeadsTo o (Some Phase.MessageIn) messages next = Plans o messages next
@@ -51,7 +52,8 @@ asks_none (ways.disconnects _ _ _ _ _) n = (refl, tt)
 asks_none (ways.completes _) n = (refl, tt)
 asks_none _ n = (tt, tt)
 
-pub heads_none : (v : Serving) (o : Option End) (attention : Bool) (phase : Phase) → is_out_phase phase ≡ false → o ≡ None → Heads o (phase_leaving v attention phase)
+pub heads_none : (v : Serving) (o : Option End) (attention : Bool) (phase : Phase) → is_out_phase phase ≡ false
+    → o ≡ None → Heads o (phase_leaving v attention phase)
 heads_none v o attention phase n e =
     heads_plain o (phase_leaving v attention phase) e (asks_none (ways.leaves v attention phase) n)
 
@@ -61,7 +63,8 @@ pub heads_attended : (v : Serving) (o : Option End) → Heads o (phase_leaving v
 heads_attended v o = tt
 
 -- MESSAGE IN is left for MESSAGE OUT with ATN true alone.
-pub attends : (v : Serving) (attention : Bool) → (phase_leaving v attention Phase.MessageIn).to ≡ Some Phase.MessageOut → attention ≡ true
+pub attends : (v : Serving) (attention : Bool) → (phase_leaving v attention Phase.MessageIn).to ≡ Some Phase.MessageOut
+    → attention ≡ true
 attends v attention e = (attended (ways.leaves v attention Phase.MessageIn) (ap is_out_next e)).0
 
 -- ---- MESSAGE OUT
@@ -113,11 +116,13 @@ answer_said : (a : Agreement) → is_some (understood nothing_understood (out_by
 unfolding form_out
 answer_said a = refl
 
-pub all_said : (x : Exchange) (d : Dialogue) (bytes : List ℕ) → AreWordsHeard x.speech x.plan d → d.is_last ≡ true → x.speech.words ≡ bytes → x.plan.said ≡ (understood nothing_understood bytes).said
+pub all_said : (x : Exchange) (d : Dialogue) (bytes : List ℕ) → AreWordsHeard x.speech x.plan d → d.is_last ≡ true
+    → x.speech.words ≡ bytes → x.plan.said ≡ (understood nothing_understood bytes).said
 all_said x d bytes w last e = ap (λ (u : Understanding). u.said) (w.last last ∙ ap (understood nothing_understood) e)
 
 -- It is left after its last byte.
-pub heads_out : (v : Serving) (x : Exchange) (d : Dialogue) → v.plan ≡ x.plan → AreWordsHeard x.speech x.plan d → d.is_last ≡ true → IsHeardOut x d → Heads (offer_now d) (message_out_leaving v v.plan.cause)
+pub heads_out : (v : Serving) (x : Exchange) (d : Dialogue) → v.plan ≡ x.plan → AreWordsHeard x.speech x.plan d
+    → d.is_last ≡ true → IsHeardOut x d → Heads (offer_now d) (message_out_leaving v v.plan.cause)
 heads_out v x d ep w last h =
     heads v (offer_now d) (ways.leaves v false Phase.MessageOut)
     (subst (λ (p : Plan). IsOpenAfter (offer_now d) p p.cause) (sym ep) (by h))

@@ -11,9 +11,11 @@ use Rattle.row_laws.specs.Attention.{answers}
 
 -- ---- what is kept is known otherwise
 
-pub offers_as : (x x' : Exchange) (d d' : Dialogue) (h h' : Handshakes) (b b' : LineSet) → x ≡ x' → d ≡ d' → h ≡ h' → b ≡ b' → OffersBy x' d' h' b' → OffersBy x d h b
+pub offers_as : (x x' : Exchange) (d d' : Dialogue) (h h' : Handshakes) (b b' : LineSet) → x ≡ x' → d ≡ d' → h ≡ h'
+    → b ≡ b' → OffersBy x' d' h' b' → OffersBy x d h b
 offers_as x x' d d' h h' b b' ex ed eh eb o =
-    subst (λ (z : Exchange). OffersBy z d h b) (sym ex) (subst (λ (z : Dialogue). OffersBy x' z h b) (sym ed) (subst (λ (z : Handshakes). OffersBy x' d' z b) (sym eh) (subst (λ (z : LineSet). OffersBy x' d' h' z) (sym eb) o)))
+    subst (λ (z : Exchange). OffersBy z d h b) (sym ex) (subst (λ (z : Dialogue). OffersBy x' z h b) (sym ed)
+    (subst (λ (z : Handshakes). OffersBy x' d' z b) (sym eh) (subst (λ (z : LineSet). OffersBy x' d' h' z) (sym eb) o)))
 
 -- ---- no byte crosses
 
@@ -34,10 +36,15 @@ second_or : (a c : Bool) → ((a || true) || c) ≡ true
 second_or true c = refl
 second_or false c = refl
 
-count_in : (m : Messages) (x : Exchange) (d : Dialogue) (a b : ℕ) → a ≡ b → IsHeardIn x.plan.messages x.plan.next d b → IsHeardIn x.plan.messages x.plan.next d a
+count_in : (m : Messages) (x : Exchange) (d : Dialogue) (a b : ℕ) → a ≡ b → IsHeardIn x.plan.messages x.plan.next d b
+    → IsHeardIn x.plan.messages x.plan.next d a
 count_in m x d a b e h = subst (λ (z : ℕ). IsHeardIn x.plan.messages x.plan.next d z) (sym e) h
 
-pub offers_still : (n : Connection) (c : Change) (x : Exchange) (d : Dialogue) (h h' : Handshakes) → SamePhase c.before c.after → receiver_in n c ≡ None → (is_message_in c.before ≡ true → MessageRow h d n c) → (c.before.io ≡ true → h'.requests ≡ h.requests) → (c.before.io ≡ true → (h.requests == 0) ≡ false → h.struck ≡ true → h'.struck ≡ true) → OffersBy x d h c.before → OffersBy x d h' c.after
+pub offers_still : (n : Connection) (c : Change) (x : Exchange) (d : Dialogue) (h h' : Handshakes)
+    → SamePhase c.before c.after → receiver_in n c ≡ None
+    → (is_message_in c.before ≡ true → MessageRow h d n c) → (c.before.io ≡ true → h'.requests ≡ h.requests)
+    → (c.before.io ≡ true → (h.requests == 0) ≡ false → h.struck ≡ true → h'.struck ≡ true) → OffersBy x d h c.before
+    → OffersBy x d h' c.after
 offers_still n c x d h h' same none row count struck o = record {
   unbegun = o.unbegun;
   settled = λ b m. o.settled b (sym same.msg ∙ m);
@@ -50,24 +57,32 @@ offers_still n c x d h h' same none row count struck o = record {
     was : is_message_in c.after ≡ true → is_message_in c.before ≡ true
     was i = sym (in_same c.before c.after same) ∙ i
 
-    struck_or : is_message_in c.before ≡ true → (h.requests == 0) ≡ false → (h.struck ≡ true) ⊎ (offer_now d ≡ Some End.Target) → ((h'.requests == 0) ≡ false) × ((h'.struck ≡ true) ⊎ (offer_now d ≡ Some End.Target))
-    struck_or i some (inl s) = (ap (λ (z : ℕ). z == 0) (count (in_io c.before i)) ∙ some, inl (struck (in_io c.before i) some s))
+    struck_or : is_message_in c.before ≡ true → (h.requests == 0) ≡ false
+        → (h.struck ≡ true) ⊎ (offer_now d ≡ Some End.Target)
+        → ((h'.requests == 0) ≡ false) × ((h'.struck ≡ true) ⊎ (offer_now d ≡ Some End.Target))
+    struck_or i some (inl s) =
+        (ap (λ (z : ℕ). z == 0) (count (in_io c.before i)) ∙ some, inl (struck (in_io c.before i) some s))
     struck_or i some (inr t) = (ap (λ (z : ℕ). z == 0) (count (in_io c.before i)) ∙ some, inr t)
 
-    why_by : x.begun ≡ true → is_message_in c.before ≡ true → c.after.atn ≡ true → MessageRow h d n c → ((h'.requests == 0) ≡ false) × ((h'.struck ≡ true) ⊎ (offer_now d ≡ Some End.Target))
+    why_by : x.begun ≡ true → is_message_in c.before ≡ true → c.after.atn ≡ true → MessageRow h d n c
+        → ((h'.requests == 0) ≡ false) × ((h'.struck ≡ true) ⊎ (offer_now d ≡ Some End.Target))
     why_by b i a (keeps er e ask) = let w = o.why b i (sym e ∙ a) in struck_or i w.0 w.1
     why_by b i a (asks er e first now) = absurd (none_some (receiver_in n c) none er)
-    why_by b i a (answers er some e) = go (or_three h.struck (is_of_other (offer_now d) End.Initiator) c.before.atn (sym e ∙ a))
+    why_by b i a (answers er some e) =
+        go (or_three h.struck (is_of_other (offer_now d) End.Initiator) c.before.atn (sym e ∙ a))
       where
-        go : (h.struck ≡ true) ⊎ ((is_of_other (offer_now d) End.Initiator ≡ true) ⊎ (c.before.atn ≡ true)) → ((h'.requests == 0) ≡ false) × ((h'.struck ≡ true) ⊎ (offer_now d ≡ Some End.Target))
+        go : (h.struck ≡ true) ⊎ ((is_of_other (offer_now d) End.Initiator ≡ true) ⊎ (c.before.atn ≡ true))
+            → ((h'.requests == 0) ≡ false) × ((h'.struck ≡ true) ⊎ (offer_now d ≡ Some End.Target))
         go (inl s) = struck_or i some (inl s)
         go (inr (inl t)) = struck_or i some (inr (speaks_target (offer_now d) t))
         go (inr (inr q)) = let w = o.why b i q in struck_or i w.0 w.1
 
-    asks_by : x.begun ≡ true → is_message_in c.before ≡ true → offer_now d ≡ Some End.Target → MessageRow h d n c → (c.after.atn ≡ true) ⊎ (awaits c.after ≡ true)
+    asks_by : x.begun ≡ true → is_message_in c.before ≡ true → offer_now d ≡ Some End.Target → MessageRow h d n c
+        → (c.after.atn ≡ true) ⊎ (awaits c.after ≡ true)
     asks_by b i t (keeps er e ask) = elim (o.asks b i t) [ inl q ↦ inl (e ∙ q) | inr q ↦ inr (ask q) ]
     asks_by b i t (asks er e first now) = absurd (none_some (receiver_in n c) none er)
-    asks_by b i t (answers er some e) = inl (e ∙ (λ j. (h.struck || is_of_other (t j) End.Initiator) || c.before.atn) ∙ second_or h.struck c.before.atn)
+    asks_by b i t (answers er some e) =
+        inl (e ∙ (λ j. (h.struck || is_of_other (t j) End.Initiator) || c.before.atn) ∙ second_or h.struck c.before.atn)
 
 out_struck : (x : Exchange) (d : Dialogue) → IsHeardOut x d → IsHeardOut (struck x) d
 out_struck x d (opens c ao av v e) = opens c ao av v e
@@ -75,9 +90,18 @@ out_struck x d (repeats before c one w p) = repeats before c one w p
 out_struck x d (answers_it a c next one e) = answers_it a c next one e
 out_struck x d (detects c one e) = detects c one e
 
-pub offers_struck : (x : Exchange) (d : Dialogue) (h : Handshakes) (b : LineSet) (io : Bool) → OffersBy x d h b → OffersBy (record { begun = x.begun; speech = x.speech; plan = if true && not io then struck_plan x.plan else x.plan }) d h b
+pub offers_struck : (x : Exchange) (d : Dialogue) (h : Handshakes) (b : LineSet) (io : Bool) → OffersBy x d h b
+    → OffersBy
+    (record { begun = x.begun; speech = x.speech; plan = if true && not io then struck_plan x.plan else x.plan }) d h b
 offers_struck x d h b true o = o
-offers_struck x d h b false o = record { unbegun = o.unbegun; settled = o.settled; out = λ f m. out_struck x d (o.out f m); into = o.into; why = o.why; asks = o.asks }
+offers_struck x d h b false o = record {
+  unbegun = o.unbegun;
+  settled = o.settled;
+  out = λ f m. out_struck x d (o.out f m);
+  into = o.into;
+  why = o.why;
+  asks = o.asks;
+}
 
 -- ---- REQ and ACK
 
@@ -85,22 +109,28 @@ answered_struck : (q : Bool) (t : ℕ) (h : Handshakes) → (answered_if q t h).
 answered_struck true t h = refl
 answered_struck false t h = refl
 
-pub struck_stays : (n : Connection) (c : Change) (t : ℕ) (h : Handshakes) → changes_phase c ≡ false → c.before.io ≡ true → receiver_in n c ≡ None → (handshakes_on (Some n) c t h).struck ≡ h.struck
-struck_stays n c t h ep io er =
-    (λ i. (if ep i then no_handshakes else answered_if (rises c.before.ack c.after.ack) t (asked_if (rises_none c.before.io (rises c.before.req c.after.req) n.initiator 0 (if rises c.before.ack c.after.ack then Some n.target else None) io er i) t h)).struck)
+pub struck_stays : (n : Connection) (c : Change) (t : ℕ) (h : Handshakes) → changes_phase c ≡ false → c.before.io ≡ true
+    → receiver_in n c ≡ None → (handshakes_on (Some n) c t h).struck ≡ h.struck
+struck_stays n c t h ep io er = (λ i. (if ep i then no_handshakes
+    else answered_if (rises c.before.ack c.after.ack) t (asked_if (rises_none c.before.io (rises c.before.req
+    c.after.req) n.initiator 0 (if rises c.before.ack c.after.ack then Some n.target else None) io er i) t h)).struck)
     ∙ answered_struck (rises c.before.ack c.after.ack) t h
 
-pub struck_by_fault : (io : Bool) (h : Handshakes) → (h.requests == 0) ≡ false → h.struck ≡ true → (strikes_if io h).struck ≡ true
+pub struck_by_fault : (io : Bool) (h : Handshakes) → (h.requests == 0) ≡ false → h.struck ≡ true
+    → (strikes_if io h).struck ≡ true
 struck_by_fault true h some s = ap not some
 struck_by_fault false h some s = s
 
-pub request_rises : (n : Connection) (c : Change) (t dev : ℕ) (h : Handshakes) → changes_phase c ≡ false → c.before.io ≡ true → receiver_in n c ≡ Some dev → (m : ℕ) → h.requests < m → m < 12 → (handshakes_on (Some n) c t h).requests ≡ h.requests + 1
+pub request_rises : (n : Connection) (c : Change) (t dev : ℕ) (h : Handshakes) → changes_phase c ≡ false
+    → c.before.io ≡ true → receiver_in n c ≡ Some dev → (m : ℕ) → h.requests < m → m < 12
+    → (handshakes_on (Some n) c t h).requests ≡ h.requests + 1
 request_rises n c t dev h ep io er m lt few = requests_rise n c t dev h ep io er ∙ counted h.requests m lt few
 
 -- ---- a byte crosses
 
 -- Of MESSAGE OUT.
-pub offers_said : (c : Change) (x : Exchange) (d : Dialogue) (h : Handshakes) → SamePhase c.before c.after → x.begun ≡ true → is_message_out c.before ≡ true → IsHeardOut x d → OffersBy x d h c.after
+pub offers_said : (c : Change) (x : Exchange) (d : Dialogue) (h : Handshakes) → SamePhase c.before c.after
+    → x.begun ≡ true → is_message_out c.before ≡ true → IsHeardOut x d → OffersBy x d h c.after
 offers_said c x d h same b m w = record {
   unbegun = λ f. wrong (sym b ∙ f);
   settled = λ f z. wrong (sym (out_line c.before m) ∙ sym same.msg ∙ z);
@@ -111,7 +141,10 @@ offers_said c x d h same b m w = record {
 }
 
 -- Of MESSAGE IN: ATN was false.
-pub offers_given : (n : Connection) (c : Change) (x x' : Exchange) (d d' : Dialogue) (h h' : Handshakes) → SamePhase c.before c.after → x.begun ≡ true → x'.begun ≡ true → is_message_in c.before ≡ true → is_some (receiver_in n c) ≡ true → MessageRow h d n c → OffersBy x d h c.before → IsHeardIn x'.plan.messages x'.plan.next d' h'.requests → OffersBy x' d' h' c.after
+pub offers_given : (n : Connection) (c : Change) (x x' : Exchange) (d d' : Dialogue) (h h' : Handshakes)
+    → SamePhase c.before c.after → x.begun ≡ true → x'.begun ≡ true → is_message_in c.before ≡ true
+    → is_some (receiver_in n c) ≡ true → MessageRow h d n c → OffersBy x d h c.before
+    → IsHeardIn x'.plan.messages x'.plan.next d' h'.requests → OffersBy x' d' h' c.after
 offers_given n c x x' d d' h h' same b b' m er row o w = by row
   where
     now : is_message_in c.after ≡ true
@@ -138,7 +171,9 @@ offers_given n c x x' d d' h h' same b b' m er row o w = by row
     }
 
 -- Of another phase.
-pub offers_else : (c : Change) (x x' : Exchange) (d : Dialogue) (h h' : Handshakes) (byte : ℕ) → SamePhase c.before c.after → x.begun ≡ true → x'.begun ≡ true → is_message_out c.before ≡ false → is_message_in c.before ≡ false → OffersBy x d h c.before → OffersBy x' (byte_else d c.before byte) h' c.after
+pub offers_else : (c : Change) (x x' : Exchange) (d : Dialogue) (h h' : Handshakes) (byte : ℕ)
+    → SamePhase c.before c.after → x.begun ≡ true → x'.begun ≡ true → is_message_out c.before ≡ false
+    → is_message_in c.before ≡ false → OffersBy x d h c.before → OffersBy x' (byte_else d c.before byte) h' c.after
 offers_else c x x' d h h' byte same b b' mo mi o = record {
   unbegun = λ f. wrong (sym b' ∙ f);
   settled = λ f z. go (is_command c.before) ∙ o.settled b (sym same.msg ∙ z);
@@ -148,6 +183,8 @@ offers_else c x x' d h h' byte same b b' mo mi o = record {
   asks = λ f i. wrong (sym (sym (in_same c.before c.after same) ∙ i) ∙ mi);
 }
   where
-    go : (q : Bool) → (if q then record d { heard = heard_with_command d.heard byte; begun = true } else record d { begun = true }).heard.now.offer ≡ d.heard.now.offer
+    go : (q : Bool) → (if q then record d { heard = heard_with_command d.heard byte; begun = true } else record d {
+      begun = true;
+    }).heard.now.offer ≡ d.heard.now.offer
     go true = refl
     go false = refl

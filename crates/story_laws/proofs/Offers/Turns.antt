@@ -17,7 +17,10 @@ use Rattle.row_laws.specs.Offers.{answers, refuses, plain}
 pub out_by_phase : (b : LineSet) → (b.msg ≡ true → b.cd ≡ true) → is_out_phase (phase_of b) ≡ is_message_out b
 out_by_phase b h = go b.msg b.cd b.io h
   where
-    go : (m c i : Bool) → (m ≡ true → c ≡ true) → is_out_phase (if m then (if i then Phase.MessageIn else Phase.MessageOut) else if c then (if i then Phase.Status else Phase.Command) else if i then Phase.DataIn else Phase.DataOut) ≡ (m && c && not i)
+    go : (m c i : Bool) → (m ≡ true → c ≡ true)
+        → is_out_phase (if m then (if i then Phase.MessageIn else Phase.MessageOut)
+        else if c then (if i then Phase.Status else Phase.Command) else if i then Phase.DataIn else Phase.DataOut)
+        ≡ (m && c && not i)
     go true true true h = refl
     go true true false h = refl
     go true false i h = wrong' (h refl)
@@ -42,16 +45,23 @@ lines_of b h = go b.msg refl b.io refl
 
 -- ---- in another phase than MESSAGE OUT
 
-settled_in : (b : LineSet) (o : Option End) (messages : Messages) (next : Next) → HeadsTo o (Some (phase_of b)) messages next → b.msg ≡ false → o ≡ None
-settled_in b o messages next h e = by b.cd b.io (subst (λ (m : Bool). HeadsTo o (Some (if m then (if b.io then Phase.MessageIn else Phase.MessageOut) else if b.cd then (if b.io then Phase.Status else Phase.Command) else if b.io then Phase.DataIn else Phase.DataOut)) messages next) e h)
+settled_in : (b : LineSet) (o : Option End) (messages : Messages) (next : Next)
+    → HeadsTo o (Some (phase_of b)) messages next → b.msg ≡ false → o ≡ None
+settled_in b o messages next h e =
+    by b.cd b.io (subst (λ (m : Bool). HeadsTo o (Some (if m then (if b.io then Phase.MessageIn else Phase.MessageOut)
+    else if b.cd then (if b.io then Phase.Status else Phase.Command) else if b.io then Phase.DataIn else Phase.DataOut))
+    messages next) e h)
   where
-    by : (c i : Bool) → HeadsTo o (Some (if c then (if i then Phase.Status else Phase.Command) else if i then Phase.DataIn else Phase.DataOut)) messages next → o ≡ None
+    by : (c i : Bool) → HeadsTo o
+        (Some (if c then (if i then Phase.Status else Phase.Command) else if i then Phase.DataIn else Phase.DataOut))
+        messages next → o ≡ None
     by true true z = z
     by true false z = z
     by false true z = z
     by false false z = z
 
-planned_in : (b : LineSet) (o : Option End) (messages : Messages) (next : Next) → HeadsTo o (Some (phase_of b)) messages next → is_message_in b ≡ true → Plans o messages next
+planned_in : (b : LineSet) (o : Option End) (messages : Messages) (next : Next)
+    → HeadsTo o (Some (phase_of b)) messages next → is_message_in b ≡ true → Plans o messages next
 planned_in b o messages next h e = subst (λ (p : Phase). HeadsTo o (Some p) messages next) (in_phase b e) h
 
 some_bytes : (before after : Option End) (m : MsgIn) → Negotiates before after m → 0 < length (in_bytes m)
@@ -59,9 +69,11 @@ some_bytes before after m (answers a eb ea em) = subst (λ (z : MsgIn). 0 < leng
 some_bytes before after m (refuses eb ea em) = subst (λ (z : MsgIn). 0 < length (in_bytes z)) (sym em) (omega arith)
 some_bytes before after m (requests a eb ea em) = subst (λ (z : MsgIn). 0 < length (in_bytes z)) (sym em) (omega arith)
 
-begins_in : (messages : Messages) (next : Next) (d : Dialogue) → Plans (offer_now d) messages next → IsHeardIn messages next d 0
+begins_in : (messages : Messages) (next : Next) (d : Dialogue) → Plans (offer_now d) messages next
+    → IsHeardIn messages next d 0
 begins_in messages next d (plain e h) = no_request h e (inl refl)
-begins_in messages next d (negotiates after m ng em en) = in_part (offer_now d) after m ng em en refl (inl refl) (some_bytes (offer_now d) after m ng)
+begins_in messages next d (negotiates after m ng em en) =
+    in_part (offer_now d) after m ng em en refl (inl refl) (some_bytes (offer_now d) after m ng)
 
 abbrev is_targets : Option End → Bool
 is_targets None = false
@@ -70,15 +82,21 @@ is_targets (Some End.Target) = true
 
 not_target : (o : Option End) (messages : Messages) (next : Next) → Plans o messages next → o ≡ Some End.Target → ⊥
 not_target o messages next (plain e h) f = wrong' (sym (ap is_targets e) ∙ ap is_targets f)
-not_target o messages next (negotiates after m (answers a eb ea em) ex en) f = wrong' (sym (ap is_targets eb) ∙ ap is_targets f)
-not_target o messages next (negotiates after m (refuses eb ea em) ex en) f = wrong' (sym (ap is_targets eb) ∙ ap is_targets f)
-not_target o messages next (negotiates after m (requests a eb ea em) ex en) f = wrong' (sym (ap is_targets eb) ∙ ap is_targets f)
+not_target o messages next (negotiates after m (answers a eb ea em) ex en) f =
+    wrong' (sym (ap is_targets eb) ∙ ap is_targets f)
+not_target o messages next (negotiates after m (refuses eb ea em) ex en) f =
+    wrong' (sym (ap is_targets eb) ∙ ap is_targets f)
+not_target o messages next (negotiates after m (requests a eb ea em) ex en) f =
+    wrong' (sym (ap is_targets eb) ∙ ap is_targets f)
 
 -- A phase begins, with these messages and this after them.
 abbrev pub entering : Exchange → Speech → Messages → Next → Exchange
-entering x v messages next = record { begun = true; speech = v; plan = record (plan_anew x.plan) { messages = messages; next = next } }
+entering x v messages next =
+    record { begun = true; speech = v; plan = record (plan_anew x.plan) { messages = messages; next = next } }
 
-pub offers_enter : (x : Exchange) (v : Speech) (d : Dialogue) (b : LineSet) (messages : Messages) (next : Next) → is_message_out b ≡ false → b.atn ≡ false → HeadsTo (offer_now d) (Some (phase_of b)) messages next → OffersBy (entering x v messages next) (phase_begins d) no_handshakes b
+pub offers_enter : (x : Exchange) (v : Speech) (d : Dialogue) (b : LineSet) (messages : Messages) (next : Next)
+    → is_message_out b ≡ false → b.atn ≡ false → HeadsTo (offer_now d) (Some (phase_of b)) messages next
+    → OffersBy (entering x v messages next) (phase_begins d) no_handshakes b
 offers_enter x v d b messages next other quiet h = record {
   unbegun = λ f. wrong f;
   settled = λ f e. settled_in b (offer_now d) messages next h e;
@@ -90,7 +108,8 @@ offers_enter x v d b messages next other quiet h = record {
 
 -- ---- in MESSAGE OUT
 
-in_out : (x : Exchange) (d : Dialogue) (h : Handshakes) (b : LineSet) → x.begun ≡ true → is_message_out b ≡ true → IsHeardOut x d → OffersBy x d h b
+in_out : (x : Exchange) (d : Dialogue) (h : Handshakes) (b : LineSet) → x.begun ≡ true → is_message_out b ≡ true
+    → IsHeardOut x d → OffersBy x d h b
 in_out x d h b g m w = record {
   unbegun = λ f. wrong (sym g ∙ f);
   settled = λ f z. wrong (sym (first b.msg b.cd b.io m) ∙ z);
@@ -104,15 +123,19 @@ in_out x d h b g m w = record {
     first true r i e = refl
     first false r i e = wrong' e
 
-pub offers_open : (x : Exchange) (d : Dialogue) (b : LineSet) → is_message_out b ≡ true → x.plan.cause ≡ Cause.Selected → (offer_now d ≡ None) × (d.heard.void ≡ None) → OffersBy (opening_exchange x) (phase_begins d) no_handshakes b
+pub offers_open : (x : Exchange) (d : Dialogue) (b : LineSet) → is_message_out b ≡ true → x.plan.cause ≡ Cause.Selected
+    → (offer_now d ≡ None) × (d.heard.void ≡ None) → OffersBy (opening_exchange x) (phase_begins d) no_handshakes b
 offers_open x d b m c w = in_out (opening_exchange x) (phase_begins d) no_handshakes b refl m (opens c w.0 w.1 w.1 w.0)
 
 one_anew : (m : MsgOut) (v : Speech) (d : Dialogue) → v.words ≡ out_bytes m → SaysOne m v (phase_begins d)
 one_anew m v d e = record { words_are = e; fresh = refl; last = λ f. wrong' f }
 
 -- After data or status.
-pub offers_detect : (x : Exchange) (d : Dialogue) (b : LineSet) (cause : Cause) (messages : Messages) → is_message_out b ≡ true → is_detected cause ≡ true → offer_now d ≡ None → OffersBy (asking x detected_error cause messages) (phase_begins d) no_handshakes b
-offers_detect x d b cause messages m c e = in_out (asking x detected_error cause messages) (phase_begins d) no_handshakes b refl m (detects c (one_anew MsgOut.DetectedError (speech_of x.speech detected_error) d refl) e)
+pub offers_detect : (x : Exchange) (d : Dialogue) (b : LineSet) (cause : Cause) (messages : Messages)
+    → is_message_out b ≡ true → is_detected cause ≡ true → offer_now d ≡ None
+    → OffersBy (asking x detected_error cause messages) (phase_begins d) no_handshakes b
+offers_detect x d b cause messages m c e = in_out (asking x detected_error cause messages) (phase_begins d)
+    no_handshakes b refl m (detects c (one_anew MsgOut.DetectedError (speech_of x.speech detected_error) d refl) e)
 
 -- What is left of the messages of MESSAGE IN.
 from_plain : (m : Messages) (n : ℕ) → OnMessages IsNoRequest m → OnMessages IsNoRequest (from_byte m n)
@@ -125,37 +148,59 @@ from_plain m n h = go (nat_lt n (length (message_bytes m.first)))
 before_last : (n m : ℕ) → (n == 0) ≡ false → n ≤ m → nat_lt (n - 1) m ≡ true
 before_last n m e h = grind (arith, nat_tests)
 
-from_one : (messages : Messages) (m : MsgIn) (n : ℕ) → messages ≡ one_message m → (n == 0) ≡ false → n ≤ length (in_bytes m) → from_byte messages (n - 1) ≡ one_message m
-from_one messages m n e some h = ap (λ (z : Messages). from_byte z (n - 1)) e ∙ ap (λ (q : Bool). if q then one_message m else record { first = None; second = None }) (before_last n (length (in_bytes m)) some h)
+from_one : (messages : Messages) (m : MsgIn) (n : ℕ) → messages ≡ one_message m → (n == 0) ≡ false
+    → n ≤ length (in_bytes m) → from_byte messages (n - 1) ≡ one_message m
+from_one messages m n e some h = ap (λ (z : Messages). from_byte z (n - 1)) e
+    ∙ ap (λ (q : Bool). if q then one_message m else record { first = None; second = None })
+    (before_last n (length (in_bytes m)) some h)
 
 record Left (d : Dialogue) (messages : Messages) (next : Next) : Type 0 where
   before : Option End
   was : WasOpen d.heard before
   plans : Plans before messages next
 
-left_of_messages : (messages : Messages) (next : Next) (d : Dialogue) (count : ℕ) → (count == 0) ≡ false → IsHeardIn messages next d count → Left d (from_byte messages (count - 1)) next
+left_of_messages : (messages : Messages) (next : Next) (d : Dialogue) (count : ℕ) → (count == 0) ≡ false
+    → IsHeardIn messages next d count → Left d (from_byte messages (count - 1)) next
 left_of_messages messages next d count some (no_request q o (inl z)) = absurd (zero_is count z some)
-left_of_messages messages next d count some (no_request q o (inr w)) = record { before = None; was = w; plans = plain refl (from_plain messages (count - 1) q) }
-left_of_messages messages next d count some (in_part before after m ng em en o (inl z) l) = absurd (zero_is count z some)
-left_of_messages messages next d count some (in_part before after m ng em en o (inr w) l) = record { before = before; was = w; plans = negotiates after m ng (from_one messages m count em some (omega arith)) en }
-left_of_messages messages next d count some (whole before after m ng em en o w l) = record { before = before; was = w; plans = negotiates after m ng (from_one messages m count em some (omega arith)) en }
+left_of_messages messages next d count some (no_request q o (inr w)) =
+    record { before = None; was = w; plans = plain refl (from_plain messages (count - 1) q) }
+left_of_messages messages next d count some (in_part before after m ng em en o (inl z) l) =
+    absurd (zero_is count z some)
+left_of_messages messages next d count some (in_part before after m ng em en o (inr w) l) = record {
+  before = before;
+  was = w;
+  plans = negotiates after m ng (from_one messages m count em some (omega arith)) en;
+}
+left_of_messages messages next d count some (whole before after m ng em en o w l) = record {
+  before = before;
+  was = w;
+  plans = negotiates after m ng (from_one messages m count em some (omega arith)) en;
+}
 
 -- The target has requested, so COMMAND follows.
-pub asked_at_command : (messages : Messages) (next : Next) (d : Dialogue) (count : ℕ) → IsHeardIn messages next d count → offer_now d ≡ Some End.Target → next ≡ Next.Command
+pub asked_at_command : (messages : Messages) (next : Next) (d : Dialogue) (count : ℕ) → IsHeardIn messages next d count
+    → offer_now d ≡ Some End.Target → next ≡ Next.Command
 asked_at_command messages next d count (no_request q o w) t = wrong' (sym (ap is_targets o) ∙ ap is_targets t)
 asked_at_command messages next d count (in_part before after m ng em en o w l) t = en
 asked_at_command messages next d count (whole before after m ng em en o w l) t = en
 
 -- After MESSAGE IN with ATN true: a byte was struck, or the target has requested.
-pub offers_answer : (x : Exchange) (d : Dialogue) (h : Handshakes) (b : LineSet) (host : Option HostDef) (struck : Bool) → is_message_out b ≡ true → (h.requests == 0) ≡ false → (struck ≡ true) ⊎ (offer_now d ≡ Some End.Target) → IsHeardIn x.plan.messages x.plan.next d h.requests
-    → OffersBy (asking x (if struck then parity_error else answer_bytes host x.speech.asked) Cause.InMessage (from_byte x.plan.messages (h.requests - 1))) (phase_begins d) no_handshakes b
+pub offers_answer : (x : Exchange) (d : Dialogue) (h : Handshakes) (b : LineSet) (host : Option HostDef) (struck : Bool)
+    → is_message_out b ≡ true → (h.requests == 0) ≡ false
+    → (struck ≡ true) ⊎ (offer_now d ≡ Some End.Target) → IsHeardIn x.plan.messages x.plan.next d h.requests
+    → OffersBy (asking x (if struck then parity_error else answer_bytes host x.speech.asked) Cause.InMessage
+    (from_byte x.plan.messages (h.requests - 1))) (phase_begins d) no_handshakes b
 offers_answer x d h b host true m some w i =
     let l = left_of_messages x.plan.messages x.plan.next d h.requests some i in
-    in_out (asking x parity_error Cause.InMessage (from_byte x.plan.messages (h.requests - 1))) (phase_begins d) no_handshakes b refl m
-    (repeats l.before refl (one_anew MsgOut.ParityError (speech_of x.speech parity_error) d refl) (record { void = l.was.void; void_is = l.was.void_is; offer_is = l.was.offer_is }) l.plans)
-offers_answer x d h b host false m some w i =
-    in_out (asking x (answer_bytes host x.speech.asked) Cause.InMessage (from_byte x.plan.messages (h.requests - 1))) (phase_begins d) no_handshakes b refl m
-    (answers_it (host_answer host x.speech.asked) refl (asked_at_command x.plan.messages x.plan.next d h.requests i (unstruck w)) (one_anew (MsgOut.Sdtr (host_answer host x.speech.asked)) (speech_of x.speech (answer_bytes host x.speech.asked)) d refl) (unstruck w))
+    in_out (asking x parity_error Cause.InMessage (from_byte x.plan.messages (h.requests - 1))) (phase_begins d)
+    no_handshakes b refl m (repeats l.before refl (one_anew MsgOut.ParityError (speech_of x.speech parity_error) d refl)
+    (record { void = l.was.void; void_is = l.was.void_is; offer_is = l.was.offer_is }) l.plans)
+offers_answer x d h b host false m some w i = in_out
+    (asking x (answer_bytes host x.speech.asked) Cause.InMessage (from_byte x.plan.messages (h.requests - 1)))
+    (phase_begins d) no_handshakes b refl m (answers_it (host_answer host x.speech.asked) refl
+    (asked_at_command x.plan.messages x.plan.next d h.requests i (unstruck w)) (one_anew
+    (MsgOut.Sdtr (host_answer host x.speech.asked)) (speech_of x.speech (answer_bytes host x.speech.asked)) d refl)
+    (unstruck w))
   where
     unstruck : (false ≡ true) ⊎ (offer_now d ≡ Some End.Target) → offer_now d ≡ Some End.Target
     unstruck (inl z) = wrong' z
@@ -163,7 +208,8 @@ offers_answer x d h b host false m some w i =
 
 -- ---- MESSAGE IN left with ATN false
 
-pub none_open : (messages : Messages) (next : Next) (d : Dialogue) (count : ℕ) → IsHeardIn messages next d count → count ≡ length (bytes_of_messages messages) → (offer_now d ≡ Some End.Target → ⊥) → offer_now d ≡ None
+pub none_open : (messages : Messages) (next : Next) (d : Dialogue) (count : ℕ) → IsHeardIn messages next d count
+    → count ≡ length (bytes_of_messages messages) → (offer_now d ≡ Some End.Target → ⊥) → offer_now d ≡ None
 none_open messages next d count (no_request q o w) e t = o
 none_open messages next d count (in_part before after m ng em en o w l) e t =
     let bytes = ap (λ (z : Messages). length (bytes_of_messages z)) em in
@@ -179,7 +225,8 @@ abbrev pub goes_out : Option Phase → Bool
 goes_out None = false
 goes_out (Some p) = is_out_phase p
 
-pub unattended : (v : Serving) (attention : Bool) (phase : Phase) (to : Phase) → is_attended phase ≡ true → (phase_leaving v attention phase).to ≡ Some to → is_out_phase to ≡ false → attention ≡ false
+pub unattended : (v : Serving) (attention : Bool) (phase : Phase) (to : Phase) → is_attended phase ≡ true
+    → (phase_leaving v attention phase).to ≡ Some to → is_out_phase to ≡ false → attention ≡ false
 unattended v false phase to g e o = refl
 unattended v true Phase.MessageOut to g e o = wrong' g
 unattended v true Phase.Command to g e o = wrong' g
@@ -189,7 +236,9 @@ unattended v true _ to g e o = wrong (ap goes_out e ∙ o)
 pub in_direction : (b : LineSet) → b.io ≡ true → is_attended (phase_of b) ≡ true
 in_direction b e = go b.msg b.cd b.io e
   where
-    go : (m c i : Bool) → i ≡ true → is_attended (if m then (if i then Phase.MessageIn else Phase.MessageOut) else if c then (if i then Phase.Status else Phase.Command) else if i then Phase.DataIn else Phase.DataOut) ≡ true
+    go : (m c i : Bool) → i ≡ true → is_attended (if m then (if i then Phase.MessageIn else Phase.MessageOut)
+        else if c then (if i then Phase.Status else Phase.Command) else if i then Phase.DataIn else Phase.DataOut)
+        ≡ true
     go true c true z = refl
     go true c false z = wrong' z
     go false true true z = refl

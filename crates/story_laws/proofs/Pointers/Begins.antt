@@ -1,4 +1,5 @@
--- The data pointers of the process that is served as its connection begins; and whose bytes MESSAGE PARITY ERROR would bring back.
+-- The data pointers of the process that is served as its connection begins; and whose bytes MESSAGE PARITY ERROR would
+-- bring back.
 use Rattle.story_laws.proofs
 use proofs.Names.{◌≡◌, ◌⊎◌, inl, inr, ◌*◌, Bool, true, false, not, ◌&&◌, ◌∙◌, List, Option, Some, None, refl, sym, ap}
 use proofs.Names.{subst, same_Some, if◌then◌else◌, is_some, ProcId, is_message_in, receiver_in, Row, Change, Connection}
@@ -16,30 +17,45 @@ use proofs.{Names.{IsServedAnew}, Pointers.{Steps.{in_link}, Stories.{SamePointe
 
 -- ---- the first row
 
-first_story : (s : ScenarioValue) (k : RunState) (row : Row) (n : Connection) → IsFirstRow k row n → story_by_change s k.story (row_reading k.story.bus_state row) row ≡ story_after_connection k.story n
+first_story : (s : ScenarioValue) (k : RunState) (row : Row) (n : Connection) → IsFirstRow k row n
+    → story_by_change s k.story (row_reading k.story.bus_state row) row ≡ story_after_connection k.story n
 first_story s k row n h =
     let d = row_reading k.story.bus_state row in
-    ap (λ (q : Bool). if q then record k.story { link = None } else story_on_bus s k.story k.story.bus_state.connection d.next d row) h.calm
+    ap (λ (q : Bool). if q then record k.story { link = None }
+    else story_on_bus s k.story k.story.bus_state.connection d.next d row) h.calm
     ∙ (λ i. story_on_bus s k.story (h.connection_is i) (h.next_is i) d row)
 
-first_link : (s : ScenarioValue) (k : RunState) (row : Row) (n : Connection) → IsFirstRow k row n → (run_state_after s k row).story.link ≡ Some (link_of n (if n.reselected then None else aim_of k.story.aims n.initiator))
+first_link : (s : ScenarioValue) (k : RunState) (row : Row) (n : Connection) → IsFirstRow k row n
+    → (run_state_after s k row).story.link
+    ≡ Some (link_of n (if n.reselected then None else aim_of k.story.aims n.initiator))
 first_link s k row n h =
     let d = row_reading k.story.bus_state row in
-    events_link s (story_by_change s k.story d row) (row_events_by s k.story d row) ∙ ap (λ (x : Story). x.link) (first_story s k row n h) ∙ begun_link k.story n
+    events_link s (story_by_change s k.story d row) (row_events_by s k.story d row)
+    ∙ ap (λ (x : Story). x.link) (first_story s k row n h) ∙ begun_link k.story n
 
-first_carried : (s : ScenarioValue) (k : RunState) (row : Row) (n : Connection) (id : ProcId) → IsFirstRow k row n → SamePointers (carried_here (run_state_after s k row) id) (carried_of (story_after_connection k.story n).carried id)
+first_carried : (s : ScenarioValue) (k : RunState) (row : Row) (n : Connection) (id : ProcId) → IsFirstRow k row n
+    → SamePointers (carried_here (run_state_after s k row) id)
+    (carried_of (story_after_connection k.story n).carried id)
 first_carried s k row n id h =
     let d = row_reading k.story.bus_state row in
-    subst (λ (x : Story). SamePointers (carried_here (run_state_after s k row) id) (carried_of x.carried id)) (first_story s k row n h) (events_same s (story_by_change s k.story d row) (row_events_by s k.story d row) id)
+    subst (λ (x : Story). SamePointers (carried_here (run_state_after s k row) id) (carried_of x.carried id))
+    (first_story s k row n h) (events_same s (story_by_change s k.story d row) (row_events_by s k.story d row) id)
 
-pub first_made : (s : ScenarioValue) (k : RunState) (row : Row) (n : Connection) → IsFirstRow k row n → (run_state_after s k row).exchange ≡ first_exchange s k n (aim_of k.story.aims n.initiator)
-first_made s k row n h = λ i. exchange_after s k row (row_reading k.story.bus_state row) (h.connection_is i) (h.next_is i) (leaving_of s k k.story.bus_state.connection)
+pub first_made : (s : ScenarioValue) (k : RunState) (row : Row) (n : Connection) → IsFirstRow k row n
+    → (run_state_after s k row).exchange ≡ first_exchange s k n (aim_of k.story.aims n.initiator)
+first_made s k row n h = λ i. exchange_after s k row (row_reading k.story.bus_state row) (h.connection_is i)
+    (h.next_is i) (leaving_of s k k.story.bus_state.connection)
 
-pub first_served : (s : ScenarioValue) (k : RunState) (row : Row) (n : Connection) → IsFirstRow k row n → (run_state_after s k row).served ≡ (if n.reselected then item_if (ready_of s k n.target) else aim_of k.story.aims n.initiator)
+pub first_served : (s : ScenarioValue) (k : RunState) (row : Row) (n : Connection) → IsFirstRow k row n
+    → (run_state_after s k row).served
+    ≡ (if n.reselected then item_if (ready_of s k n.target) else aim_of k.story.aims n.initiator)
 first_served s k row n h = λ i. served_after s k (h.connection_is i) (h.next_is i)
 
-first_start : (s : ScenarioValue) (k : RunState) (row : Row) (n : Connection) (q : Process) → IsFirstRow k row n → run_start s (run_state_after s k row) q ≡ run_start s k q
-first_start s k row n q h = ap (λ (x : List ProcessProgress). (progress_in x q.id).runs * run_step s q) (λ i. progress_after s k (row_reading k.story.bus_state row) (h.connection_is i) (h.next_is i) (leaving_of s k k.story.bus_state.connection))
+first_start : (s : ScenarioValue) (k : RunState) (row : Row) (n : Connection) (q : Process) → IsFirstRow k row n
+    → run_start s (run_state_after s k row) q ≡ run_start s k q
+first_start s k row n q h =
+    ap (λ (x : List ProcessProgress). (progress_in x q.id).runs * run_step s q) (λ i. progress_after s k
+    (row_reading k.story.bus_state row) (h.connection_is i) (h.next_is i) (leaving_of s k k.story.bus_state.connection))
 
 -- The names of a process end no connection.
 plain_names : (p : Process) → OnMessages IsPlainIn (naming_messages p)
@@ -55,7 +71,10 @@ none_item id e = absurd cc
 pub same_process : (a b : ProcId) → (let o : Option Item = Some (process a) in o) ≡ Some (process b) → a ≡ b
 same_process a b e = cc
 
-pub begins_served : (s : ScenarioValue) (k : RunState) (row : Row) (n : Connection) (q : Process) → IsFirstRow k row n → (n.reselected ≡ true → is_message_in (row_reading k.story.bus_state row).change.after ≡ true) → IsServedAnew s k n → (run_state_after s k row).served ≡ Some (process q.id) → IsWaiting s k q → ServedPointers s (run_state_after s k row) q
+pub begins_served : (s : ScenarioValue) (k : RunState) (row : Row) (n : Connection) (q : Process) → IsFirstRow k row n
+    → (n.reselected ≡ true → is_message_in (row_reading k.story.bus_state row).change.after ≡ true) → IsServedAnew s k n
+    → (run_state_after s k row).served ≡ Some (process q.id) → IsWaiting s k q
+    → ServedPointers s (run_state_after s k row) q
 begins_served s k row n q h names anew served waits = go n.reselected refl (sym (first_served s k row n h) ∙ served)
   where
     j : RunState
@@ -71,57 +90,84 @@ begins_served s k row n q h names anew served waits = go n.reselected refl (sym 
     selected e aim =
         let open_is = anew.selects e q.id aim in
         let from : (carried_here k q.id).moved.saved ≡ run_start s k q = waits.saved open_is.0 open_is.1 in
-        let there : carried_of (story_after_connection k.story n).carried q.id ≡ with_restored_pointers (carried_here k q.id) =
-        (λ i. carried_of (if e i then record k.story { link = Some (link_of n None) } else story_with_restored (story_with_sent (record k.story { link = Some (link_of n (aim i)) }) (aim i)) (aim i)).carried q.id)
-        ∙ put_own k.story.carried (with_restored_pointers (carried_here k q.id)) q.id (carried_id k.story.carried q.id) in
-        let moved : (carried_here j q.id).moved ≡ (with_restored_pointers (carried_here k q.id)).moved = (first_carried s k row n q.id h).moved ∙ ap (λ (x : CarriedBytes). x.moved) there in
+        let there : carried_of (story_after_connection k.story n).carried q.id
+        ≡ with_restored_pointers (carried_here k q.id) =
+        (λ i. carried_of (if e i then record k.story { link = Some (link_of n None) } else story_with_restored
+        (story_with_sent (record k.story { link = Some (link_of n (aim i)) }) (aim i)) (aim i)).carried q.id)
+        ∙ put_own k.story.carried (with_restored_pointers (carried_here k q.id)) q.id
+        (carried_id k.story.carried q.id) in
+        let moved : (carried_here j q.id).moved ≡ (with_restored_pointers (carried_here k q.id)).moved =
+        (first_carried s k row n q.id h).moved ∙ ap (λ (x : CarriedBytes). x.moved) there in
         let l : Link = link_of n (aim_of k.story.aims n.initiator) in
-        named l (first_link s k row n h ∙ ap (λ (x : Bool). Some (link_of n (if x then None else aim_of k.story.aims n.initiator))) e) aim
-        (subst (λ (x : Bool). PointersIf x (run_policy s q) l (carried_here j q.id) j.exchange.plan j.handshakes (run_start s j q) (phase_of (bus_of j))) (sym (begun ∙ e))
-        (record {
-          here = record { active = ap (λ (x : Area). x.active) moved ∙ from ∙ sym start; saved = ap (λ (x : Area). x.saved) moved ∙ from ∙ sym start };
+        named l (first_link s k row n h
+        ∙ ap (λ (x : Bool). Some (link_of n (if x then None else aim_of k.story.aims n.initiator))) e) aim
+        (subst (λ (x : Bool). PointersIf x (run_policy s q) l (carried_here j q.id) j.exchange.plan j.handshakes
+        (run_start s j q) (phase_of (bus_of j))) (sym (begun ∙ e)) (record {
+          here = record {
+            active = ap (λ (x : Area). x.active) moved ∙ from ∙ sym start;
+            saved = ap (λ (x : Area). x.saved) moved ∙ from ∙ sym start;
+          };
           undone = tt;
         }))
 
-    again : n.reselected ≡ true → (r : Option Ready) → ready_of s k n.target ≡ r → item_if r ≡ Some (process q.id) → ServedPointers s j q
+    again : n.reselected ≡ true → (r : Option Ready) → ready_of s k n.target ≡ r → item_if r ≡ Some (process q.id)
+        → ServedPointers s j q
     again e None er f = none_item q.id f
     again e (Some r) er f =
         let id : r.process.id ≡ q.id = same_process r.process.id q.id f in
         let open_is = anew.reselects e r er in
-        let from : (carried_here k q.id).moved.saved ≡ run_start s k q =
-        waits.saved (ap (λ (x : ProcId). has_item k.story.sent.over (process x)) (sym id) ∙ open_is.0) (ap (λ (x : ProcId). is_marked (carried_here k x)) (sym id) ∙ open_is.1) in
-        let there : carried_of (story_after_connection k.story n).carried q.id ≡ carried_here k q.id =
-        ap (λ (x : Bool). carried_of (if x then record k.story { link = Some (link_of n None) } else story_with_restored (story_with_sent (record k.story { link = Some (link_of n (aim_of k.story.aims n.initiator)) }) (aim_of k.story.aims n.initiator)) (aim_of k.story.aims n.initiator)).carried q.id) e in
+        let from : (carried_here k q.id).moved.saved ≡ run_start s k q = waits.saved
+        (ap (λ (x : ProcId). has_item k.story.sent.over (process x)) (sym id) ∙ open_is.0)
+        (ap (λ (x : ProcId). is_marked (carried_here k x)) (sym id) ∙ open_is.1) in
+        let there : carried_of (story_after_connection k.story n).carried q.id ≡ carried_here k q.id = ap
+        (λ (x : Bool). carried_of (if x then record k.story { link = Some (link_of n None) }
+        else story_with_restored (story_with_sent (record k.story {
+          link = Some (link_of n (aim_of k.story.aims n.initiator));
+        }) (aim_of k.story.aims n.initiator)) (aim_of k.story.aims n.initiator)).carried q.id) e in
         let made = first_made s k row n h in
-        unnamed (link_of n None) (first_link s k row n h ∙ ap (λ (x : Bool). Some (link_of n (if x then None else aim_of k.story.aims n.initiator))) e) refl
-        (record {
+        unnamed (link_of n None) (first_link s k row n h
+        ∙ ap (λ (x : Bool). Some (link_of n (if x then None else aim_of k.story.aims n.initiator))) e) refl (record {
           begun = begun ∙ e;
           undone = tt;
           undisturbed = inr (refl, refl);
-          next = ap (λ (x : Exchange). x.plan.next) made ∙ ap (λ (x : Bool). (Rattle.bus_due.specs.bus_dialogue.specs.Planning.first_plan x (not n.reselected && Rattle.bus_due.specs.RunSteps.may_negotiate k n (aim_of k.story.aims n.initiator)) (Rattle.bus_due.specs.RunSteps.naming_of s k n)).next) e;
-          plain = subst (λ (x : Messages). OnMessages IsPlainIn x)
-              (sym (ap (λ (x : Exchange). x.plan.messages) made
-              ∙ ap (λ (x : Bool). (Rattle.bus_due.specs.bus_dialogue.specs.Planning.first_plan x (not x && Rattle.bus_due.specs.RunSteps.may_negotiate k n (aim_of k.story.aims n.initiator)) (if x then messages_if (ready_of s k n.target) else Rattle.bus_due.specs.bus_dialogue.specs.Exchange.no_messages)).messages) e
-              ∙ ap messages_if er))
+          next = ap (λ (x : Exchange). x.plan.next) made
+              ∙ ap (λ (x : Bool). (Rattle.bus_due.specs.bus_dialogue.specs.Planning.first_plan x
+              (not n.reselected && Rattle.bus_due.specs.RunSteps.may_negotiate k n (aim_of k.story.aims n.initiator))
+              (Rattle.bus_due.specs.RunSteps.naming_of s k n)).next) e;
+          plain = subst (λ (x : Messages). OnMessages IsPlainIn x) (sym (ap (λ (x : Exchange). x.plan.messages) made
+              ∙ ap (λ (x : Bool). (Rattle.bus_due.specs.bus_dialogue.specs.Planning.first_plan x
+              (not x && Rattle.bus_due.specs.RunSteps.may_negotiate k n (aim_of k.story.aims n.initiator))
+              (if x then messages_if (ready_of s k n.target)
+              else Rattle.bus_due.specs.bus_dialogue.specs.Exchange.no_messages)).messages) e ∙ ap messages_if er))
               (plain_names r.process);
-          saved = ap (λ (x : Area). x.saved) (first_carried s k row n q.id h).moved ∙ ap (λ (x : CarriedBytes). x.moved.saved) there ∙ from ∙ sym start;
+          saved = ap (λ (x : Area). x.saved) (first_carried s k row n q.id h).moved
+              ∙ ap (λ (x : CarriedBytes). x.moved.saved) there ∙ from ∙ sym start;
           phase = inl (in_phase (row_reading k.story.bus_state row).change.after (names e));
         })
 
-    go : (b : Bool) → n.reselected ≡ b → (if n.reselected then item_if (ready_of s k n.target) else aim_of k.story.aims n.initiator) ≡ Some (process q.id) → ServedPointers s j q
-    go false e f = selected e (sym (ap (λ (x : Bool). if x then item_if (ready_of s k n.target) else aim_of k.story.aims n.initiator) e) ∙ f)
-    go true e f = again e (ready_of s k n.target) refl (sym (ap (λ (x : Bool). if x then item_if (ready_of s k n.target) else aim_of k.story.aims n.initiator) e) ∙ f)
+    go : (b : Bool) → n.reselected ≡ b
+        → (if n.reselected then item_if (ready_of s k n.target) else aim_of k.story.aims n.initiator)
+        ≡ Some (process q.id) → ServedPointers s j q
+    go false e f = selected e
+        (sym (ap (λ (x : Bool). if x then item_if (ready_of s k n.target) else aim_of k.story.aims n.initiator) e) ∙ f)
+    go true e f = again e (ready_of s k n.target) refl
+        (sym (ap (λ (x : Bool). if x then item_if (ready_of s k n.target) else aim_of k.story.aims n.initiator) e) ∙ f)
 
 -- ---- what would be brought back
 
-pub begins_undoes : (s : ScenarioValue) (k : RunState) (row : Row) (n : Connection) → IsFirstRow k row n → UndoesServed (run_state_after s k row)
+pub begins_undoes : (s : ScenarioValue) (k : RunState) (row : Row) (n : Connection) → IsFirstRow k row n
+    → UndoesServed (run_state_after s k row)
 begins_undoes s k row n h l u el eu =
-    let is = same_Some (link_of n (if n.reselected then None else aim_of k.story.aims n.initiator)) l (sym (first_link s k row n h) ∙ el) in
+    let is = same_Some (link_of n (if n.reselected then None else aim_of k.story.aims n.initiator)) l
+    (sym (first_link s k row n h) ∙ el) in
     none_some u (ap (λ (x : Link). x.undo) is ∙ eu)
 
-pub goes_undoes : (s : ScenarioValue) (k : RunState) (row : Row) (n : Connection) (c : Change) (now : Bool) → IsRowIn k row n c → is_some (receiver_in n c) ≡ now → Knows s k n → (run_state_after s k row).served ≡ k.served → UndoesServed k → UndoesServed (run_state_after s k row)
-goes_undoes s k row n c now r en knows served h l u el eu =
-    served ∙ go d.crosses d.out d.into (sym (link_after s k row n c now r en ∙ ap (λ (x : Option Link). (story_in_connection s k.story x d row).link) knows.link_is) ∙ el)
+pub goes_undoes : (s : ScenarioValue) (k : RunState) (row : Row) (n : Connection) (c : Change) (now : Bool)
+    → IsRowIn k row n c → is_some (receiver_in n c) ≡ now → Knows s k n → (run_state_after s k row).served ≡ k.served
+    → UndoesServed k → UndoesServed (run_state_after s k row)
+goes_undoes s k row n c now r en knows served h l u el eu = served
+    ∙ go d.crosses d.out d.into (sym (link_after s k row n c now r en
+    ∙ ap (λ (x : Option Link). (story_in_connection s k.story x d row).link) knows.link_is) ∙ el)
   where
     d : RowReading
     d = reading_in k.story.bus_state n c now
@@ -130,21 +176,34 @@ goes_undoes s k row n c now r en knows served h l u el eu =
     same e = h knows.link u knows.link_is (ap (λ (x : Link). x.undo) e ∙ eu)
 
     -- of what the process has carried
-    told : (item : Option Item) → knows.link.item ≡ item → carried_if k.story item ≡ Some u → k.served ≡ Some (process u.id)
+    told : (item : Option Item) → knows.link.item ≡ item → carried_if k.story item ≡ Some u
+        → k.served ≡ Some (process u.id)
     told None e f = none_some u f
     told (Some (abort x)) e f = none_some u f
     told (Some (process x)) e f = by knows.item_is
       where
         id : x ≡ u.id
-        id = sym (carried_id k.story.carried x) ∙ ap (λ (y : CarriedBytes). y.id) (same_Some (carried_of k.story.carried x) u f)
+        id = sym (carried_id k.story.carried x)
+            ∙ ap (λ (y : CarriedBytes). y.id) (same_Some (carried_of k.story.carried x) u f)
 
-        by : (knows.link.item ≡ k.served) ⊎ ((n.reselected ≡ true) × (knows.link.item ≡ None)) → k.served ≡ Some (process u.id)
+        by : (knows.link.item ≡ k.served) ⊎ ((n.reselected ≡ true) × (knows.link.item ≡ None))
+            → k.served ≡ Some (process u.id)
         by (inl z) = sym z ∙ e ∙ ap (λ (y : ProcId). Some (process y)) id
         by (inr z) = none_item x (sym z.1 ∙ e)
 
-    go : (q : Bool) (o : Option MsgOut) (m : Option MsgIn) → (if q then (if is_some o then story_after_out k.story knows.link o else if is_some m then story_after_in s k.story knows.link m else story_after_byte k.story knows.link d) else story_after_fault k.story knows.link row.kind).link ≡ Some l → k.served ≡ Some (process u.id)
+    go : (q : Bool) (o : Option MsgOut) (m : Option MsgIn)
+        → (if q then (if is_some o then story_after_out k.story knows.link o
+        else if is_some m then story_after_in s k.story knows.link m else story_after_byte k.story knows.link d)
+        else story_after_fault k.story knows.link row.kind).link ≡ Some l
+        → k.served ≡ Some (process u.id)
     go false o m e = same (same_Some knows.link l (sym (fault_link k.story knows.link row.kind ∙ knows.link_is) ∙ e))
-    go true (Some o) m e = h knows.link u knows.link_is (ap (λ (x : Link). x.undo) (same_Some (record knows.link { last = Rattle.bus_due.specs.bus_story.specs.Links.last_out o knows.link }) l (sym (out_link k.story knows.link o) ∙ e)) ∙ eu)
+    go true (Some o) m e = h knows.link u knows.link_is (ap (λ (x : Link). x.undo) (same_Some (record knows.link {
+      last = Rattle.bus_due.specs.bus_story.specs.Links.last_out o knows.link;
+    }) l (sym (out_link k.story knows.link o) ∙ e)) ∙ eu)
     go true None None e = same (same_Some knows.link l (sym (byte_link k.story knows.link d ∙ knows.link_is) ∙ e))
-    go true None (Some m) e =
-        told knows.link.item refl (ap (λ (x : Link). x.undo) (same_Some (record (link_after_name k.story.sent s.commands knows.link m) { last = Rattle.bus_due.specs.bus_story.specs.Links.last_in m; before = knows.link.last; undo = carried_if k.story knows.link.item }) l (sym (in_link s k.story knows.link m) ∙ e)) ∙ eu)
+    go true None (Some m) e = told knows.link.item refl
+        (ap (λ (x : Link). x.undo) (same_Some (record (link_after_name k.story.sent s.commands knows.link m) {
+          last = Rattle.bus_due.specs.bus_story.specs.Links.last_in m;
+          before = knows.link.last;
+          undo = carried_if k.story knows.link.item;
+        }) l (sym (in_link s k.story knows.link m) ∙ e)) ∙ eu)

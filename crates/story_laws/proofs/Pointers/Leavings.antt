@@ -16,7 +16,8 @@ use Rattle.row_laws.specs.link_laws.proofs.LeavingWays as ways
 
 -- More runs follow: each begins where that before it ends, or all begin with the first byte.
 pub data MoreRuns (policy : Policy) (made step count : ℕ) : Type 0 where
-  in_bursts : (most : ℕ) → policy ≡ Policy.Burst most → made * step + count ≡ (made + 1) * step → MoreRuns policy made step count
+  in_bursts : (most : ℕ) → policy ≡ Policy.Burst most → made * step + count ≡ (made + 1) * step
+      → MoreRuns policy made step count
   from_start : (most : ℕ) → policy ≡ Policy.NoSave most → step ≡ 0 → MoreRuns policy made step count
 
 -- What is known of a process, whose data are cut into runs by this policy, as a phase is left.
@@ -25,8 +26,10 @@ pub record MovesBy (policy : Policy) (v : Serving) (h : Handshakes) (t : Task) (
   pub at_once : v.arrival ≡ Arrival.AtOnce → is_never policy ≡ true
   pub guest : v.arrival ≡ Arrival.Guest → (is_never policy ≡ true) ⊎ (runs_in_all (policy_of v.def) t ≡ 0)
   pub cut : nat_lt (t.runs + 1) (runs_in_all (policy_of v.def) t) ≡ true → policy ≡ policy_of v.def
-  pub sent : phase ≡ Phase.DataOut → v.plan.struck ≡ false → nat_lt (t.runs + 1) (runs_in_all (policy_of v.def) t) ≡ true → MoreRuns (policy_of v.def) t.runs step h.answers
-  pub given : phase ≡ Phase.DataIn → nat_lt (t.runs + 1) (runs_in_all (policy_of v.def) t) ≡ true → MoreRuns (policy_of v.def) t.runs step h.requests
+  pub sent : phase ≡ Phase.DataOut → v.plan.struck ≡ false
+      → nat_lt (t.runs + 1) (runs_in_all (policy_of v.def) t) ≡ true → MoreRuns (policy_of v.def) t.runs step h.answers
+  pub given : phase ≡ Phase.DataIn → nat_lt (t.runs + 1) (runs_in_all (policy_of v.def) t) ≡ true
+      → MoreRuns (policy_of v.def) t.runs step h.requests
 
 -- STATUS marks the process. MESSAGE OUT is entered where ATN is true after bytes to the initiator.
 abbrev pub Enters : Policy → Link → CarriedBytes → ℕ → Messages → Next → Option Phase → Type 0
@@ -46,10 +49,14 @@ EntersBy policy l c made step x = Enters policy l c ((made + one_if x.done) * st
 more_none : (made step : ℕ) → (made + 0) * step ≡ made * step
 more_none made step = ap (λ (x : ℕ). x * step) (plus_none made)
 
-same_start : (policy : Policy) (l : Link) (c : CarriedBytes) (made step : ℕ) (m : Messages) (next : Next) (to : Option Phase) → Enters policy l c (made * step) m next to → Enters policy l c ((made + 0) * step) m next to
-same_start policy l c made step m next to h = subst (λ (x : ℕ). Enters policy l c x m next to) (sym (more_none made step)) h
+same_start :
+    (policy : Policy) (l : Link) (c : CarriedBytes) (made step : ℕ) (m : Messages) (next : Next) (to : Option Phase)
+    → Enters policy l c (made * step) m next to → Enters policy l c ((made + 0) * step) m next to
+same_start policy l c made step m next to h =
+    subst (λ (x : ℕ). Enters policy l c x m next to) (sym (more_none made step)) h
 
-settled_run : (policy : Policy) (l : Link) (c : CarriedBytes) (start : ℕ) → IsUndisturbed policy l → IsAt c.moved start → IsInRun policy l c 0 start
+settled_run : (policy : Policy) (l : Link) (c : CarriedBytes) (start : ℕ) → IsUndisturbed policy l → IsAt c.moved start
+    → IsInRun policy l c 0 start
 settled_run policy l c start u h = record { plain = u; active = h.active ∙ none start; saved = h.saved }
   where
     none : (n : ℕ) → n ≡ n + 0
@@ -57,7 +64,8 @@ settled_run policy l c start u h = record { plain = u; active = h.active ∙ non
 
 -- ---- by the phase
 
-nameless_calm : (policy : Policy) (l : Link) (c : CarriedBytes) (m : Messages) (next : Next) (start : ℕ) → (next ≡ Next.GoOn → ⊥) → OnMessages IsNoName m → IsSettled l c start → PointersIn policy l c m next 0 start
+nameless_calm : (policy : Policy) (l : Link) (c : CarriedBytes) (m : Messages) (next : Next) (start : ℕ)
+    → (next ≡ Next.GoOn → ⊥) → OnMessages IsNoName m → IsSettled l c start → PointersIn policy l c m next 0 start
 nameless_calm policy l c m next start n o h = calm (record { here = h.here; undone = h.undone; plain = inr (n, o) })
 
 command_on : Next.Command ≡ Next.GoOn → ⊥
@@ -74,7 +82,8 @@ said policy l c made step m next on n h =
     (nameless_calm policy l c (one_message m) next (made * step) on (n, tt) h)
 
 -- Refused messages come again, or COMMAND follows an answer.
-again : (policy : Policy) (l : Link) (c : CarriedBytes) (m : Messages) (next : Next) (start : ℕ) → PointersRefused policy l c m next start → PointersIn policy l c m next 0 start
+again : (policy : Policy) (l : Link) (c : CarriedBytes) (m : Messages) (next : Next) (start : ℕ)
+    → PointersRefused policy l c m next start → PointersIn policy l c m next 0 start
 again policy l c m next start (still_calm h) = calm h
 again policy l c m next start (restores_again em en u e w) = restores em en u e (inl refl)
 again policy l c m next start (saves_again em en u b e w) = saves em en u refl e
@@ -91,7 +100,8 @@ on_command e = absurd cc
 free_command : {A : Type 0} → Next.FreeBus ≡ Next.Command → A
 free_command e = absurd cc
 
-refused_settled : (policy : Policy) (l : Link) (c : CarriedBytes) (m : Messages) (next : Next) (start : ℕ) → next ≡ Next.Command → PointersRefused policy l c m next start → IsSettled l c start
+refused_settled : (policy : Policy) (l : Link) (c : CarriedBytes) (m : Messages) (next : Next) (start : ℕ)
+    → next ≡ Next.Command → PointersRefused policy l c m next start → IsSettled l c start
 refused_settled policy l c m next start n (still_calm h) = record { here = h.here; undone = h.undone }
 refused_settled policy l c m next start n (restores_again em en u e w) = on_command (sym en ∙ n)
 refused_settled policy l c m next start n (saves_again em en u b e w) = free_command (sym en ∙ n)
@@ -99,7 +109,8 @@ refused_settled policy l c m next start n (disconnects_again em en e w) = free_c
 refused_settled policy l c m next start n (closes_again em en e w) = closing_command next en n
 
 -- MESSAGE IN, all of which has crossed.
-in_settled : (policy : Policy) (l : Link) (c : CarriedBytes) (m : Messages) (next : Next) (count start : ℕ) → next ≡ Next.Command → PointersIn policy l c m next count start → IsSettled l c start
+in_settled : (policy : Policy) (l : Link) (c : CarriedBytes) (m : Messages) (next : Next) (count start : ℕ)
+    → next ≡ Next.Command → PointersIn policy l c m next count start → IsSettled l c start
 in_settled policy l c m next count start n (calm h) = record { here = h.here; undone = h.undone }
 in_settled policy l c m next count start n (restores em en u e w) = on_command (sym en ∙ n)
 in_settled policy l c m next count start n (saves em en u z e) = free_command (sym en ∙ n)
@@ -114,12 +125,14 @@ closing_go : {A : Type 0} (next : Next) → IsClosing next → next ≡ Next.GoO
 closing_go next (inl z) e = absurd (let bad : Next.Status ≡ Next.GoOn = sym z ∙ e in cc)
 closing_go next (inr z) e = absurd (let bad : Next.FreeBus ≡ Next.GoOn = sym z ∙ e in cc)
 
-in_run : (policy : Policy) (l : Link) (c : CarriedBytes) (m : Messages) (next : Next) (count start : ℕ) → (count == 0) ≡ false → next ≡ Next.GoOn → PointersIn policy l c m next count start → IsInRun policy l c 0 start
+in_run : (policy : Policy) (l : Link) (c : CarriedBytes) (m : Messages) (next : Next) (count start : ℕ)
+    → (count == 0) ≡ false → next ≡ Next.GoOn → PointersIn policy l c m next count start → IsInRun policy l c 0 start
 in_run policy l c m next count start asked n (calm h) =
     elim h.plain [ inl z ↦ settled_run policy l c start z.1 h.here | inr z ↦ absurd (z.0 n) ]
 in_run policy l c m next count start asked n (restores em en u e w) = go w
   where
-    go : (count ≡ 0) ⊎ ((c.moved.active ≡ start) × OnUndo (λ (u : CarriedBytes). u.moved.saved ≡ start) l.undo) → IsInRun policy l c 0 start
+    go : (count ≡ 0) ⊎ ((c.moved.active ≡ start) × OnUndo (λ (u : CarriedBytes). u.moved.saved ≡ start) l.undo)
+        → IsInRun policy l c 0 start
     go (inl z) = absurd (true≢false (sym (ap (λ (x : ℕ). x == 0) z) ∙ asked))
     go (inr z) = settled_run policy l c start u (record { active = z.0; saved = e })
 in_run policy l c m next count start asked n (saves em en u z e) = free_go (sym en ∙ n)
@@ -213,7 +226,8 @@ is_attended Phase.Status = true
 is_attended _ = false
 
 abbrev pub Leads : Policy → Link → CarriedBytes → (made step : ℕ) → Phase → Leaving → Type 0
-Leads policy l c made step phase x = ((is_attended phase ≡ true) × (x.to ≡ Some Phase.MessageOut) × (x.done ≡ false)) ⊎ EntersBy policy l c made step x
+Leads policy l c made step phase x =
+    ((is_attended phase ≡ true) × (x.to ≡ Some Phase.MessageOut) × (x.done ≡ false)) ⊎ EntersBy policy l c made step x
 
 asked : (policy : Policy) (l : Link) (c : CarriedBytes) (v : Serving) (start : ℕ) (cause : Cause)
     → v.plan.cause ≡ cause → PointersAsked policy l c v.plan start v.plan.cause
@@ -278,8 +292,12 @@ enter policy l c step v h t (ways.disconnects _ u m r d) w some answers k =
 enter policy l c step v h t (ways.completes _) w some answers k = inr (closes (inl refl) (inr refl) k (inl refl))
 enter policy l c step v h t _ w some answers k = inr tt
 
-pub leaves_enter : (policy : Policy) (l : Link) (c : CarriedBytes) (step : ℕ) (v : Serving) (h : Handshakes) (t : Task) (atn : Bool) (phase : Phase) → MovesBy policy v h t step phase → (phase ≡ Phase.MessageIn → (h.requests == 0) ≡ false) → (phase ≡ Phase.MessageOut → v.plan.cause ≡ Cause.InMessage → is_some v.plan.said.offer ≡ true → v.plan.next ≡ Next.Command)
-    → PointersOf policy l c v.plan h (t.runs * step) phase → Leads policy l c t.runs step phase (phase_leaving v atn phase)
+pub leaves_enter : (policy : Policy) (l : Link) (c : CarriedBytes) (step : ℕ)
+    (v : Serving) (h : Handshakes) (t : Task) (atn : Bool) (phase : Phase)
+    → MovesBy policy v h t step phase → (phase ≡ Phase.MessageIn → (h.requests == 0) ≡ false)
+    → (phase ≡ Phase.MessageOut → v.plan.cause ≡ Cause.InMessage → is_some v.plan.said.offer ≡ true
+    → v.plan.next ≡ Next.Command) → PointersOf policy l c v.plan h (t.runs * step) phase
+    → Leads policy l c t.runs step phase (phase_leaving v atn phase)
 leaves_enter policy l c step v h t atn phase = enter policy l c step v h t (ways.leaves v atn phase)
 
 -- ---- refused messages, before the process is named
@@ -290,19 +308,30 @@ pub record IsRepeated (p : Plan) (x : Leaving) (phase : Phase) : Type 0 where
   pub next : x.next ≡ p.next
   pub done : x.done ≡ false
 
-repeated_by : (p : Plan) (phase : Phase) → (message_repetition p).to ≡ Some phase → IsRepeated p (message_repetition p) phase
-repeated_by p phase e = record { phase_is = sym (same_Some Phase.MessageIn phase e); messages = refl; next = refl; done = refl }
+repeated_by : (p : Plan) (phase : Phase) → (message_repetition p).to ≡ Some phase
+    → IsRepeated p (message_repetition p) phase
+repeated_by p phase e =
+    record { phase_is = sym (same_Some Phase.MessageIn phase e); messages = refl; next = refl; done = refl }
 
-pub refusal_leads : (v : Serving) (phase : Phase) → is_some v.plan.said.offer ≡ false → (message_out_leaving v Cause.InMessage).to ≡ Some phase → IsRepeated v.plan (message_out_leaving v Cause.InMessage) phase
+pub refusal_leads : (v : Serving) (phase : Phase) → is_some v.plan.said.offer ≡ false
+    → (message_out_leaving v Cause.InMessage).to ≡ Some phase
+    → IsRepeated v.plan (message_out_leaving v Cause.InMessage) phase
 refusal_leads v phase none e = go (is_some v.plan.said.offer) none (is_naming v.plan.messages.first) v.task e
   where
-    tries : (t : Task) (a b : Bool) → (if a then message_repetition v.plan else if b then record (message_repetition v.plan) { counts = true } else bus_free).to ≡ Some phase → IsRepeated v.plan (if a then message_repetition v.plan else if b then record (message_repetition v.plan) { counts = true } else bus_free) phase
+    tries : (t : Task) (a b : Bool) → (if a then message_repetition v.plan
+        else if b then record (message_repetition v.plan) { counts = true } else bus_free).to ≡ Some phase
+        → IsRepeated v.plan (if a then message_repetition v.plan
+        else if b then record (message_repetition v.plan) { counts = true } else bus_free) phase
     tries t true b z = repeated_by v.plan phase z
-    tries t false true z = record { phase_is = sym (same_Some Phase.MessageIn phase z); messages = refl; next = refl; done = refl }
+    tries t false true z =
+        record { phase_is = sym (same_Some Phase.MessageIn phase z); messages = refl; next = refl; done = refl }
     tries t false false z = none_some phase z
 
-    go : (a : Bool) → a ≡ false → (b : Bool) (o : Option Task) → (if a then phase_entry Phase.Command else if b then message_repetition v.plan else with_task o (λ t. recovery v.def t (message_repetition v.plan) bus_free)).to ≡ Some phase
-        → IsRepeated v.plan (if a then phase_entry Phase.Command else if b then message_repetition v.plan else with_task o (λ t. recovery v.def t (message_repetition v.plan) bus_free)) phase
+    go : (a : Bool) → a ≡ false → (b : Bool) (o : Option Task)
+        → (if a then phase_entry Phase.Command else if b then message_repetition v.plan
+        else with_task o (λ t. recovery v.def t (message_repetition v.plan) bus_free)).to ≡ Some phase
+        → IsRepeated v.plan (if a then phase_entry Phase.Command else if b then message_repetition v.plan
+        else with_task o (λ t. recovery v.def t (message_repetition v.plan) bus_free)) phase
     go true y b o z = absurd (true≢false y)
     go false y true o z = repeated_by v.plan phase z
     go false y false None z = none_some phase z

@@ -35,7 +35,8 @@ in_cause b h e = let z = in_lines b e in λ i. z.msg i && (h z.msg) i && z.io i
 status_cause : (b : LineSet) → is_status (phase_of b) ≡ true → cause_after b ≡ Cause.InStatus
 status_cause b e = go b.msg b.cd b.io e
   where
-    go : (m d i : Bool) → is_status (phase_by m d i) ≡ true → (if m && d && i then Cause.InMessage else if d then Cause.InStatus else Cause.InData) ≡ Cause.InStatus
+    go : (m d i : Bool) → is_status (phase_by m d i) ≡ true
+        → (if m && d && i then Cause.InMessage else if d then Cause.InStatus else Cause.InData) ≡ Cause.InStatus
     go true d true z = wrong' z
     go true d false z = wrong' z
     go false true true z = refl
@@ -46,7 +47,8 @@ status_cause b e = go b.msg b.cd b.io e
 data_cause : (b : LineSet) → is_data_in (phase_of b) ≡ true → cause_after b ≡ Cause.InData
 data_cause b e = go b.msg b.cd b.io e
   where
-    go : (m d i : Bool) → is_data_in (phase_by m d i) ≡ true → (if m && d && i then Cause.InMessage else if d then Cause.InStatus else Cause.InData) ≡ Cause.InData
+    go : (m d i : Bool) → is_data_in (phase_by m d i) ≡ true
+        → (if m && d && i then Cause.InMessage else if d then Cause.InStatus else Cause.InData) ≡ Cause.InData
     go true d true z = wrong' z
     go true d false z = wrong' z
     go false true true z = wrong' z
@@ -60,47 +62,75 @@ data_cause b e = go b.msg b.cd b.io e
 abbrev plan_there : Plan → Leaving → Plan
 plan_there p x = record (plan_anew p) { messages = x.messages; next = x.next }
 
-plan_to : (w : Hearing) (x : Leaving) (p : Plan) → is_message_out w.change.after ≡ false → plan_in_phase w x p ≡ plan_there p x
-plan_to w x p e = ap (λ (q : Bool). if not q then plan_there p x else if w.begun then plan_in_message_out w p else plan_anew p) e
+plan_to : (w : Hearing) (x : Leaving) (p : Plan) → is_message_out w.change.after ≡ false
+    → plan_in_phase w x p ≡ plan_there p x
+plan_to w x p e =
+    ap (λ (q : Bool). if not q then plan_there p x else if w.begun then plan_in_message_out w p else plan_anew p) e
 
-plan_out : (w : Hearing) (x : Leaving) (p : Plan) → is_message_out w.change.after ≡ true → w.begun ≡ true → plan_in_phase w x p ≡ plan_in_message_out w p
+plan_out : (w : Hearing) (x : Leaving) (p : Plan) → is_message_out w.change.after ≡ true → w.begun ≡ true
+    → plan_in_phase w x p ≡ plan_in_message_out w p
 plan_out w x p e b = λ i. if not (e i) then plan_there p x else if b i then plan_in_message_out w p else plan_anew p
 
-plan_first : (w : Hearing) (x : Leaving) (p : Plan) → is_message_out w.change.after ≡ true → w.begun ≡ false → plan_in_phase w x p ≡ plan_anew p
+plan_first : (w : Hearing) (x : Leaving) (p : Plan) → is_message_out w.change.after ≡ true → w.begun ≡ false
+    → plan_in_phase w x p ≡ plan_anew p
 plan_first w x p e b = λ i. if not (e i) then plan_there p x else if b i then plan_in_message_out w p else plan_anew p
 
-finish : (s : ScenarioValue) (k j : RunState) (row : Row) (n : Connection) (c : Change) (q : Process) (l : Link) (p : Plan) (start : ℕ) (phase : Phase) → Turned s k j row n c q l → l.item ≡ Some (process q.id) → j.exchange.plan ≡ p → run_start s j q ≡ start → phase_of c.after ≡ phase → PointersOf (run_policy s q) l (carried_here j q.id) p no_handshakes start phase → ServedPointers s j q
-finish s k j row n c q l p start phase t own ep es ee h =
-    named l t.link own
-    (subst (λ (x : Bool). PointersIf x (run_policy s q) l (carried_here j q.id) j.exchange.plan j.handshakes (run_start s j q) (phase_of (bus_of j))) (sym t.exchange_begun)
-    (subst (λ (x : Phase). PointersOf (run_policy s q) l (carried_here j q.id) j.exchange.plan j.handshakes (run_start s j q) x) (sym (ap phase_of t.bus_is ∙ ee))
-    (subst (λ (x : ℕ). PointersOf (run_policy s q) l (carried_here j q.id) j.exchange.plan j.handshakes x phase) (sym es)
-    (subst (λ (x : Handshakes). PointersOf (run_policy s q) l (carried_here j q.id) j.exchange.plan x start phase) (sym t.handshakes_is)
-    (subst (λ (x : Plan). PointersOf (run_policy s q) l (carried_here j q.id) x no_handshakes start phase) (sym ep) h)))))
+finish : (s : ScenarioValue) (k j : RunState) (row : Row) (n : Connection)
+    (c : Change) (q : Process) (l : Link) (p : Plan) (start : ℕ) (phase : Phase)
+    → Turned s k j row n c q l → l.item ≡ Some (process q.id) → j.exchange.plan ≡ p → run_start s j q ≡ start
+    → phase_of c.after ≡ phase → PointersOf (run_policy s q) l (carried_here j q.id) p no_handshakes start phase
+    → ServedPointers s j q
+finish s k j row n c q l p start phase t own ep es ee h = named l t.link own
+    (subst (λ (x : Bool). PointersIf x (run_policy s q) l (carried_here j q.id) j.exchange.plan j.handshakes
+    (run_start s j q) (phase_of (bus_of j))) (sym t.exchange_begun) (subst (λ (x : Phase). PointersOf (run_policy s q) l
+    (carried_here j q.id) j.exchange.plan j.handshakes (run_start s j q) x) (sym (ap phase_of t.bus_is ∙ ee)) (subst
+    (λ (x : ℕ). PointersOf (run_policy s q) l (carried_here j q.id) j.exchange.plan j.handshakes x phase) (sym es)
+    (subst (λ (x : Handshakes). PointersOf (run_policy s q) l (carried_here j q.id) j.exchange.plan x start phase)
+    (sym t.handshakes_is) (subst
+    (λ (x : Plan). PointersOf (run_policy s q) l (carried_here j q.id) x no_handshakes start phase) (sym ep) h)))))
 
 same_plan : (p : Plan) → SamePlan p p
 same_plan p = record { messages = refl; next = refl; cause = refl }
 
 -- What the process carried is the same.
-carried_on : (s : ScenarioValue) (k j : RunState) (row : Row) (n : Connection) (c : Change) (q : Process) (l : Link) (p : Plan) (start : ℕ) (phase : Phase) → Turned s k j row n c q l → PointersOf (run_policy s q) l (carried_here k q.id) p no_handshakes start phase → PointersOf (run_policy s q) l (carried_here j q.id) p no_handshakes start phase
-carried_on s k j row n c q l p start phase t h = pointers_as (run_policy s q) l (carried_here k q.id) (carried_here j q.id) p p no_handshakes no_handshakes start phase t.carried (same_plan p) (counted_same phase no_handshakes) h
+carried_on : (s : ScenarioValue) (k j : RunState) (row : Row) (n : Connection)
+    (c : Change) (q : Process) (l : Link) (p : Plan) (start : ℕ) (phase : Phase)
+    → Turned s k j row n c q l → PointersOf (run_policy s q) l (carried_here k q.id) p no_handshakes start phase
+    → PointersOf (run_policy s q) l (carried_here j q.id) p no_handshakes start phase
+carried_on s k j row n c q l p start phase t h = pointers_as (run_policy s q) l (carried_here k q.id)
+    (carried_here j q.id) p p no_handshakes no_handshakes start phase t.carried (same_plan p)
+    (counted_same phase no_handshakes) h
 
 -- ---- the process is named
 
-enters_phase : (s : ScenarioValue) (k j : RunState) (row : Row) (n : Connection) (c : Change) (q : Process) (l : Link) (phase : Phase) → Turned s k j row n c q l → k.exchange.begun ≡ true → l.item ≡ Some (process q.id) → (c.after.msg ≡ true → c.after.cd ≡ true) → phase_of c.after ≡ phase
-    → Enters (run_policy s q) l (carried_here k q.id) (start_after s k n q) (leaving s k n.target).messages (leaving s k n.target).next (Some phase) → ServedPointers s j q
+enters_phase : (s : ScenarioValue) (k j : RunState) (row : Row) (n : Connection) (c : Change) (q : Process)
+    (l : Link) (phase : Phase) → Turned s k j row n c q l → k.exchange.begun ≡ true → l.item ≡ Some (process q.id)
+    → (c.after.msg ≡ true → c.after.cd ≡ true) → phase_of c.after ≡ phase → Enters (run_policy s q) l
+    (carried_here k q.id) (start_after s k n q) (leaving s k n.target).messages (leaving s k n.target).next (Some phase)
+    → ServedPointers s j q
 enters_phase s k j row n c q l phase t b own known e h = go phase e h
   where
-    to : (y : Phase) → is_out_phase y ≡ false → phase_of c.after ≡ y → j.exchange.plan ≡ plan_there k.exchange.plan (leaving s k n.target)
-    to y z f = t.plan_is ∙ plan_to (hearing_of k row (reading_in k.story.bus_state n c false)) (leaving s k n.target) k.exchange.plan (out_is c.after known ∙ ap is_out_phase f ∙ z)
+    to : (y : Phase) → is_out_phase y ≡ false → phase_of c.after ≡ y
+        → j.exchange.plan ≡ plan_there k.exchange.plan (leaving s k n.target)
+    to y z f = t.plan_is ∙ plan_to (hearing_of k row (reading_in k.story.bus_state n c false))
+        (leaving s k n.target) k.exchange.plan (out_is c.after known ∙ ap is_out_phase f ∙ z)
 
-    ends : (y : Phase) → is_out_phase y ≡ false → phase_of c.after ≡ y → PointersOf (run_policy s q) l (carried_here j q.id) (plan_there k.exchange.plan (leaving s k n.target)) no_handshakes (start_after s k n q) y → ServedPointers s j q
-    ends y z f p = finish s k j row n c q l (plan_there k.exchange.plan (leaving s k n.target)) (start_after s k n q) y t own (to y z f) (t.start b) f p
+    ends : (y : Phase) → is_out_phase y ≡ false → phase_of c.after ≡ y → PointersOf (run_policy s q) l
+        (carried_here j q.id) (plan_there k.exchange.plan (leaving s k n.target)) no_handshakes (start_after s k n q) y
+        → ServedPointers s j q
+    ends y z f p = finish s k j row n c q l (plan_there k.exchange.plan (leaving s k n.target))
+        (start_after s k n q) y t own (to y z f) (t.start b) f p
 
-    on : (y : Phase) → PointersOf (run_policy s q) l (carried_here k q.id) (plan_there k.exchange.plan (leaving s k n.target)) no_handshakes (start_after s k n q) y → PointersOf (run_policy s q) l (carried_here j q.id) (plan_there k.exchange.plan (leaving s k n.target)) no_handshakes (start_after s k n q) y
-    on y p = carried_on s k j row n c q l (plan_there k.exchange.plan (leaving s k n.target)) (start_after s k n q) y t p
+    on : (y : Phase) → PointersOf (run_policy s q) l (carried_here k q.id)
+        (plan_there k.exchange.plan (leaving s k n.target)) no_handshakes (start_after s k n q) y
+        → PointersOf (run_policy s q) l (carried_here j q.id)
+        (plan_there k.exchange.plan (leaving s k n.target)) no_handshakes (start_after s k n q) y
+    on y p =
+        carried_on s k j row n c q l (plan_there k.exchange.plan (leaving s k n.target)) (start_after s k n q) y t p
 
-    go : (y : Phase) → phase_of c.after ≡ y → Enters (run_policy s q) l (carried_here k q.id) (start_after s k n q) (leaving s k n.target).messages (leaving s k n.target).next (Some y) → ServedPointers s j q
+    go : (y : Phase) → phase_of c.after ≡ y → Enters (run_policy s q) l (carried_here k q.id)
+        (start_after s k n q) (leaving s k n.target).messages (leaving s k n.target).next (Some y)
+        → ServedPointers s j q
     go Phase.Command f p = ends Phase.Command refl f (on Phase.Command p)
     go Phase.DataOut f p = ends Phase.DataOut refl f (on Phase.DataOut p)
     go Phase.DataIn f p = ends Phase.DataIn refl f (on Phase.DataIn p)
@@ -108,12 +138,20 @@ enters_phase s k j row n c q l phase t b own known e h = go phase e h
     go Phase.MessageIn f p = ends Phase.MessageIn refl f (on Phase.MessageIn p)
     go Phase.MessageOut f p = absurd p
 
-start_stays : (s : ScenarioValue) (k j : RunState) (n : Connection) (q : Process) → run_start s j q ≡ start_after s k n q → (leaving s k n.target).done ≡ false → run_start s j q ≡ run_start s k q
-start_stays s k j n q e d = e ∙ ap (λ (b : Bool). ((progress_in k.progress q.id).runs + one_if b) * run_step s q) d ∙ ap (λ (x : ℕ). x * run_step s q) (plus_none (progress_in k.progress q.id).runs)
+start_stays : (s : ScenarioValue) (k j : RunState) (n : Connection) (q : Process)
+    → run_start s j q ≡ start_after s k n q → (leaving s k n.target).done ≡ false → run_start s j q ≡ run_start s k q
+start_stays s k j n q e d = e ∙ ap (λ (b : Bool). ((progress_in k.progress q.id).runs + one_if b) * run_step s q) d
+    ∙ ap (λ (x : ℕ). x * run_step s q) (plus_none (progress_in k.progress q.id).runs)
 
 -- ATN is true after bytes to the initiator.
-attends_phase : (s : ScenarioValue) (k j : RunState) (row : Row) (n : Connection) (c : Change) (q : Process) (l : Link) → Meets s k row n c q → Turned s k j row n c q l → k.exchange.begun ≡ true → l.item ≡ Some (process q.id) → (c.after.msg ≡ true → c.after.cd ≡ true) → phase_of c.after ≡ Phase.MessageOut → (leaving s k n.target).done ≡ false
-    → (phase_of (bus_of k) ≡ Phase.MessageIn → (k.handshakes.requests == 0) ≡ false) → (phase : Phase) → phase_of (bus_of k) ≡ phase → is_attended phase ≡ true → PointersOf (run_policy s q) l (carried_here k q.id) k.exchange.plan k.handshakes (run_start s k q) phase → ServedPointers s j q
+attends_phase : (s : ScenarioValue) (k j : RunState) (row : Row) (n : Connection) (c : Change) (q : Process) (l : Link)
+    → Meets s k row n c q → Turned s k j row n c q l → k.exchange.begun ≡ true → l.item ≡ Some (process q.id)
+    → (c.after.msg ≡ true → c.after.cd ≡ true) → phase_of c.after ≡ Phase.MessageOut
+    → (leaving s k n.target).done ≡ false
+    → (phase_of (bus_of k) ≡ Phase.MessageIn → (k.handshakes.requests == 0) ≡ false)
+    → (phase : Phase) → phase_of (bus_of k) ≡ phase → is_attended phase ≡ true
+    → PointersOf (run_policy s q) l (carried_here k q.id) k.exchange.plan k.handshakes (run_start s k q) phase
+    → ServedPointers s j q
 attends_phase s k j row n c q l meets t b own known to done asked phase e attended h = go phase e attended h
   where
     w : Hearing
@@ -125,27 +163,43 @@ attends_phase s k j row n c q l meets t b own known to done asked phase e attend
     plan : j.exchange.plan ≡ plan_in_message_out w k.exchange.plan
     plan = t.plan_is ∙ plan_out w (leaving s k n.target) k.exchange.plan (out_is c.after known ∙ ap is_out_phase to) b
 
-    asks : PointersAsked (run_policy s q) l (carried_here k q.id) (plan_in_message_out w k.exchange.plan) (run_start s k q) (plan_in_message_out w k.exchange.plan).cause → ServedPointers s j q
-    asks p = finish s k j row n c q l (plan_in_message_out w k.exchange.plan) (run_start s k q) Phase.MessageOut t own plan (start_stays s k j n q (t.start b) done) to (carried_on s k j row n c q l (plan_in_message_out w k.exchange.plan) (run_start s k q) Phase.MessageOut t p)
+    asks : PointersAsked (run_policy s q) l (carried_here k q.id) (plan_in_message_out w k.exchange.plan)
+        (run_start s k q) (plan_in_message_out w k.exchange.plan).cause
+        → ServedPointers s j q
+    asks p = finish s k j row n c q l (plan_in_message_out w k.exchange.plan)
+        (run_start s k q) Phase.MessageOut t own plan (start_stays s k j n q (t.start b) done) to
+        (carried_on s k j row n c q l (plan_in_message_out w k.exchange.plan) (run_start s k q) Phase.MessageOut t p)
 
-    go : (y : Phase) → phase_of (bus_of k) ≡ y → is_attended y ≡ true → PointersOf (run_policy s q) l (carried_here k q.id) k.exchange.plan k.handshakes (run_start s k q) y → ServedPointers s j q
+    go : (y : Phase) → phase_of (bus_of k) ≡ y → is_attended y ≡ true
+        → PointersOf (run_policy s q) l (carried_here k q.id) k.exchange.plan k.handshakes (run_start s k q) y
+        → ServedPointers s j q
     go Phase.MessageIn f z p =
         let now : is_message_in (bus_of k) ≡ true = in_cause (bus_of k) (λ m. (meets.of.phase m).0) f in
         let before : is_message_in c.before ≡ true = ap is_message_in (sym r.bus_is) ∙ now in
         let given = meets.gives.in_message_in b now in
-        asks
-        (subst (λ (x : Bool). PointersAsked (run_policy s q) l (carried_here k q.id) (record (plan_anew k.exchange.plan) { cause = if x then Cause.InMessage else if c.before.cd then Cause.InStatus else Cause.InData; messages = if x then from_byte k.exchange.plan.messages (k.handshakes.requests - 1) else k.exchange.plan.messages }) (run_start s k q) (if x then Cause.InMessage else if c.before.cd then Cause.InStatus else Cause.InData)) (sym before)
-        (refused_from (run_policy s q) l (carried_here k q.id) k.exchange.plan.messages k.exchange.plan.next k.handshakes.requests (run_start s k q) (asked f) (front_length (bytes_of_messages k.exchange.plan.messages) k.story.bus_state.dialogue.half k.handshakes.requests given) p))
-    go Phase.Status f z p =
-        asks
-        (subst (λ (x : Cause). PointersAsked (run_policy s q) l (carried_here k q.id) (plan_in_message_out w k.exchange.plan) (run_start s k q) x) (sym (status_cause c.before (ap is_status (ap phase_of (sym r.bus_is) ∙ f)))) p)
-    go Phase.DataIn f z p =
-        asks
-        (subst (λ (x : Cause). PointersAsked (run_policy s q) l (carried_here k q.id) (plan_in_message_out w k.exchange.plan) (run_start s k q) x) (sym (data_cause c.before (ap is_data_in (ap phase_of (sym r.bus_is) ∙ f)))) (p.plain, p.saved))
+        asks (subst
+        (λ (x : Bool). PointersAsked (run_policy s q) l (carried_here k q.id) (record (plan_anew k.exchange.plan) {
+          cause =
+              if x then Cause.InMessage else if c.before.cd then Cause.InStatus else Cause.InData;
+          messages =
+              if x then from_byte k.exchange.plan.messages (k.handshakes.requests - 1) else k.exchange.plan.messages;
+        }) (run_start s k q) (if x then Cause.InMessage else if c.before.cd then Cause.InStatus else Cause.InData))
+        (sym before) (refused_from (run_policy s q) l (carried_here k q.id) k.exchange.plan.messages
+        k.exchange.plan.next k.handshakes.requests (run_start s k q) (asked f) (front_length
+        (bytes_of_messages k.exchange.plan.messages) k.story.bus_state.dialogue.half k.handshakes.requests given) p))
+    go Phase.Status f z p = asks (subst (λ (x : Cause). PointersAsked (run_policy s q) l
+        (carried_here k q.id) (plan_in_message_out w k.exchange.plan) (run_start s k q) x)
+        (sym (status_cause c.before (ap is_status (ap phase_of (sym r.bus_is) ∙ f)))) p)
+    go Phase.DataIn f z p = asks (subst (λ (x : Cause). PointersAsked (run_policy s q) l
+        (carried_here k q.id) (plan_in_message_out w k.exchange.plan) (run_start s k q) x)
+        (sym (data_cause c.before (ap is_data_in (ap phase_of (sym r.bus_is) ∙ f)))) (p.plain, p.saved))
     go _ f z p = wrong' z
 
 -- What was heard of a refusal names no offer.
-no_offer : (s : ScenarioValue) (k : RunState) (row : Row) (n : Connection) (c : Change) (q : Process) → Meets s k row n c q → k.exchange.begun ≡ true → changes_phase c ≡ true → phase_of (bus_of k) ≡ Phase.MessageOut → k.exchange.plan.cause ≡ Cause.InMessage → (k.exchange.plan.next ≡ Next.Command) ⊎ (is_some k.exchange.plan.said.offer ≡ false)
+no_offer : (s : ScenarioValue) (k : RunState) (row : Row) (n : Connection) (c : Change) (q : Process)
+    → Meets s k row n c q → k.exchange.begun ≡ true → changes_phase c ≡ true
+    → phase_of (bus_of k) ≡ Phase.MessageOut → k.exchange.plan.cause ≡ Cause.InMessage
+    → (k.exchange.plan.next ≡ Next.Command) ⊎ (is_some k.exchange.plan.said.offer ≡ false)
 no_offer s k row n c q meets b ep e cause = go (meets.refuses b e cause)
   where
     out : is_message_out (bus_of k) ≡ true
@@ -154,12 +208,19 @@ no_offer s k row n c q meets b ep e cause = go (meets.refuses b e cause)
     last : k.story.bus_state.dialogue.is_last ≡ true
     last = (meets.of.leaves (ap changes_phase meets.of.row_is.change_is ∙ ep)).out e
 
-    go : (k.exchange.plan.next ≡ Next.Command) ⊎ (k.exchange.speech.words ≡ Rattle.bus_due.specs.bus_dialogue.specs.Words.parity_error) → (k.exchange.plan.next ≡ Next.Command) ⊎ (is_some k.exchange.plan.said.offer ≡ false)
+    go : (k.exchange.plan.next ≡ Next.Command)
+        ⊎ (k.exchange.speech.words ≡ Rattle.bus_due.specs.bus_dialogue.specs.Words.parity_error)
+        → (k.exchange.plan.next ≡ Next.Command) ⊎ (is_some k.exchange.plan.said.offer ≡ false)
     go (inl z) = inl z
-    go (inr z) = inr (refusal_offers k.exchange.speech k.exchange.plan k.story.bus_state.dialogue z (meets.speaks.in_message_out b out).heard last)
+    go (inr z) = inr (refusal_offers k.exchange.speech k.exchange.plan k.story.bus_state.dialogue z
+        (meets.speaks.in_message_out b out).heard last)
 
-named_turns : (s : ScenarioValue) (k : RunState) (row : Row) (n : Connection) (c : Change) (q : Process) (l : Link) → Meets s k row n c q → TurnsBy s k n q → Turned s k (run_state_after s k row) row n c q l → changes_phase c ≡ true → k.exchange.begun ≡ true → l.item ≡ Some (process q.id) → (c.after.msg ≡ true → c.after.cd ≡ true) → (leaving s k n.target).to ≡ Some (phase_of c.after)
-    → PointersOf (run_policy s q) l (carried_here k q.id) k.exchange.plan k.handshakes (run_start s k q) (phase_of (bus_of k)) → ServedPointers s (run_state_after s k row) q
+named_turns : (s : ScenarioValue) (k : RunState) (row : Row) (n : Connection) (c : Change) (q : Process) (l : Link)
+    → Meets s k row n c q → TurnsBy s k n q → Turned s k (run_state_after s k row) row n c q l
+    → changes_phase c ≡ true → k.exchange.begun ≡ true → l.item ≡ Some (process q.id)
+    → (c.after.msg ≡ true → c.after.cd ≡ true) → (leaving s k n.target).to ≡ Some (phase_of c.after) → PointersOf
+    (run_policy s q) l (carried_here k q.id) k.exchange.plan k.handshakes (run_start s k q) (phase_of (bus_of k))
+    → ServedPointers s (run_state_after s k row) q
 named_turns s k row n c q l meets f t ep b own known to h = go leads
   where
     j : RunState
@@ -171,34 +232,49 @@ named_turns s k row n c q l meets f t ep b own known to h = go leads
     asked : phase_of (bus_of k) ≡ Phase.MessageIn → (k.handshakes.requests == 0) ≡ false
     asked e = (meets.of.leaves (ap changes_phase meets.of.row_is.change_is ∙ ep)).some e
 
-    answers : phase_of (bus_of k) ≡ Phase.MessageOut → k.exchange.plan.cause ≡ Cause.InMessage → is_some k.exchange.plan.said.offer ≡ true → k.exchange.plan.next ≡ Next.Command
+    answers : phase_of (bus_of k) ≡ Phase.MessageOut → k.exchange.plan.cause ≡ Cause.InMessage
+        → is_some k.exchange.plan.said.offer ≡ true → k.exchange.plan.next ≡ Next.Command
     answers e cause some =
         elim (no_offer s k row n c q meets b ep e cause) [ inl z ↦ z | inr z ↦ absurd (true≢false (sym some ∙ z)) ]
 
     leaving_is : leaving s k n.target ≡ phase_leaving v (bus_of k).atn (phase_of (bus_of k))
     leaving_is = ap (λ (x : Bool). leaving_by v x (bus_of k)) b
 
-    leads : Leads (run_policy s q) l (carried_here k q.id) (progress_in k.progress q.id).runs (run_step s q) (phase_of (bus_of k)) (leaving s k n.target)
-    leads =
-        subst (λ (x : Leaving). Leads (run_policy s q) l (carried_here k q.id) (progress_in k.progress q.id).runs (run_step s q) (phase_of (bus_of k)) x) (sym leaving_is)
-        (subst (λ (x : ℕ). Leads (run_policy s q) l (carried_here k q.id) x (run_step s q) (phase_of (bus_of k)) (phase_leaving v (bus_of k).atn (phase_of (bus_of k)))) f.runs_are
-        (leaves_enter (run_policy s q) l (carried_here k q.id) (run_step s q) v k.handshakes f.task (bus_of k).atn (phase_of (bus_of k)) f.moves_by asked answers
-        (subst (λ (x : ℕ). PointersOf (run_policy s q) l (carried_here k q.id) k.exchange.plan k.handshakes (x * run_step s q) (phase_of (bus_of k))) (sym f.runs_are) h)))
+    leads : Leads (run_policy s q) l (carried_here k q.id) (progress_in k.progress q.id).runs (run_step s q)
+        (phase_of (bus_of k)) (leaving s k n.target)
+    leads = subst (λ (x : Leaving). Leads (run_policy s q) l (carried_here k q.id)
+        (progress_in k.progress q.id).runs (run_step s q) (phase_of (bus_of k)) x) (sym leaving_is)
+        (subst (λ (x : ℕ). Leads (run_policy s q) l (carried_here k q.id) x (run_step s q) (phase_of (bus_of k))
+        (phase_leaving v (bus_of k).atn (phase_of (bus_of k)))) f.runs_are (leaves_enter (run_policy s q) l
+        (carried_here k q.id) (run_step s q) v k.handshakes f.task (bus_of k).atn (phase_of (bus_of k)) f.moves_by asked
+        answers (subst (λ (x : ℕ). PointersOf (run_policy s q) l (carried_here k q.id) k.exchange.plan k.handshakes
+        (x * run_step s q) (phase_of (bus_of k))) (sym f.runs_are) h)))
 
-    go : Leads (run_policy s q) l (carried_here k q.id) (progress_in k.progress q.id).runs (run_step s q) (phase_of (bus_of k)) (leaving s k n.target) → ServedPointers s j q
-    go (inl z) = attends_phase s k j row n c q l meets t b own known (sym (same_Some Phase.MessageOut (phase_of c.after) (sym z.1 ∙ to))) z.2 asked (phase_of (bus_of k)) refl z.0 h
-    go (inr z) = enters_phase s k j row n c q l (phase_of c.after) t b own known refl (subst (λ (x : Option Phase). Enters (run_policy s q) l (carried_here k q.id) (start_after s k n q) (leaving s k n.target).messages (leaving s k n.target).next x) to z)
+    go : Leads (run_policy s q) l (carried_here k q.id) (progress_in k.progress q.id).runs
+        (run_step s q) (phase_of (bus_of k)) (leaving s k n.target)
+        → ServedPointers s j q
+    go (inl z) = attends_phase s k j row n c q l meets t b own known
+        (sym (same_Some Phase.MessageOut (phase_of c.after) (sym z.1 ∙ to))) z.2 asked (phase_of (bus_of k)) refl z.0 h
+    go (inr z) = enters_phase s k j row n c q l (phase_of c.after) t b own known refl
+        (subst (λ (x : Option Phase). Enters (run_policy s q) l (carried_here k q.id) (start_after s k n q)
+        (leaving s k n.target).messages (leaving s k n.target).next x) to z)
 
 -- The first phase after a selection.
-first_turns : (s : ScenarioValue) (k : RunState) (row : Row) (n : Connection) (c : Change) (q : Process) (l : Link) → Meets s k row n c q → Turned s k (run_state_after s k row) row n c q l → changes_phase c ≡ true → k.exchange.begun ≡ false → l.item ≡ Some (process q.id) → (c.after.msg ≡ true → c.after.cd ≡ true) → IsSettled l (carried_here k q.id) (run_start s k q) → ServedPointers s (run_state_after s k row) q
+first_turns : (s : ScenarioValue) (k : RunState) (row : Row) (n : Connection) (c : Change) (q : Process) (l : Link)
+    → Meets s k row n c q → Turned s k (run_state_after s k row) row n c q l → changes_phase c ≡ true
+    → k.exchange.begun ≡ false → l.item ≡ Some (process q.id) → (c.after.msg ≡ true → c.after.cd ≡ true)
+    → IsSettled l (carried_here k q.id) (run_start s k q) → ServedPointers s (run_state_after s k row) q
 first_turns s k row n c q l meets t ep b own known h =
     let j = run_state_after s k row in
     let w = hearing_of k row (reading_in k.story.bus_state n c false) in
-    let out : is_message_out c.after ≡ true = sym (ap (λ (x : Change). is_message_out x.after) meets.of.row_is.change_is) ∙ meets.of.first (ap changes_phase meets.of.row_is.change_is ∙ ep) b in
+    let out : is_message_out c.after ≡ true =
+    sym (ap (λ (x : Change). is_message_out x.after) meets.of.row_is.change_is)
+    ∙ meets.of.first (ap changes_phase meets.of.row_is.change_is ∙ ep) b in
     let plan = t.plan_is ∙ plan_first w (leaving s k n.target) k.exchange.plan out b in
-    finish s k j row n c q l (plan_anew k.exchange.plan) (run_start s k q) Phase.MessageOut t own plan (t.start_first b) (is_out_phase_of c.after out)
-    (carried_on s k j row n c q l (plan_anew k.exchange.plan) (run_start s k q) Phase.MessageOut t
-    (subst (λ (x : Cause). PointersAsked (run_policy s q) l (carried_here k q.id) (plan_anew k.exchange.plan) (run_start s k q) x) (sym (meets.speaks.before_all b).cause_is) h))
+    finish s k j row n c q l (plan_anew k.exchange.plan) (run_start s k q) Phase.MessageOut t own plan
+    (t.start_first b) (is_out_phase_of c.after out) (carried_on s k j row n c q l (plan_anew k.exchange.plan)
+    (run_start s k q) Phase.MessageOut t (subst (λ (x : Cause). PointersAsked (run_policy s q) l (carried_here k q.id)
+    (plan_anew k.exchange.plan) (run_start s k q) x) (sym (meets.speaks.before_all b).cause_is) h))
   where
     is_out_phase_of : (x : LineSet) → is_message_out x ≡ true → phase_of x ≡ Phase.MessageOut
     is_out_phase_of x e = go x.msg x.cd x.io e
@@ -211,7 +287,12 @@ first_turns s k row n c q l meets t ep b own known h =
 
 -- ---- the process is not named yet
 
-unnamed_turns : (s : ScenarioValue) (k : RunState) (row : Row) (n : Connection) (c : Change) (q : Process) (l : Link) → Meets s k row n c q → Turned s k (run_state_after s k row) row n c q l → changes_phase c ≡ true → k.story.link ≡ Some l → l.item ≡ None → (c.after.msg ≡ true → c.after.cd ≡ true) → (leaving s k n.target).to ≡ Some (phase_of c.after) → IsUnnamed (run_policy s q) l (carried_here k q.id) k.exchange (bus_of k) (run_start s k q) → ServedPointers s (run_state_after s k row) q
+unnamed_turns : (s : ScenarioValue) (k : RunState) (row : Row) (n : Connection) (c : Change) (q : Process) (l : Link)
+    → Meets s k row n c q → Turned s k (run_state_after s k row) row n c q l
+    → changes_phase c ≡ true → k.story.link ≡ Some l → l.item ≡ None
+    → (c.after.msg ≡ true → c.after.cd ≡ true) → (leaving s k n.target).to ≡ Some (phase_of c.after)
+    → IsUnnamed (run_policy s q) l (carried_here k q.id) k.exchange (bus_of k) (run_start s k q)
+    → ServedPointers s (run_state_after s k row) q
 unnamed_turns s k row n c q l meets t ep el none known to h = go h.phase
   where
     j : RunState
@@ -223,10 +304,15 @@ unnamed_turns s k row n c q l meets t ep el none known to h = go h.phase
     b : k.exchange.begun ≡ true
     b = h.begun
 
-    leaving_is : (x : Phase) → phase_of (bus_of k) ≡ x → leaving s k n.target ≡ phase_leaving (serving_of s k n.target) (bus_of k).atn x
-    leaving_is x e = ap (λ (y : Bool). leaving_by (serving_of s k n.target) y (bus_of k)) b ∙ ap (λ (y : Phase). phase_leaving (serving_of s k n.target) (bus_of k).atn y) e
+    leaving_is : (x : Phase) → phase_of (bus_of k) ≡ x
+        → leaving s k n.target ≡ phase_leaving (serving_of s k n.target) (bus_of k).atn x
+    leaving_is x e = ap (λ (y : Bool). leaving_by (serving_of s k n.target) y (bus_of k)) b
+        ∙ ap (λ (y : Phase). phase_leaving (serving_of s k n.target) (bus_of k).atn y) e
 
-    made : (p : Plan) → j.exchange.plan ≡ p → run_start s j q ≡ run_start s k q → p.next ≡ Next.GoOn → OnMessages IsPlainIn p.messages → (phase_of c.after ≡ Phase.MessageIn) ⊎ ((phase_of c.after ≡ Phase.MessageOut) × (p.cause ≡ Cause.InMessage)) → ServedPointers s j q
+    made : (p : Plan) → j.exchange.plan ≡ p → run_start s j q ≡ run_start s k q
+        → p.next ≡ Next.GoOn → OnMessages IsPlainIn p.messages
+        → (phase_of c.after ≡ Phase.MessageIn) ⊎ ((phase_of c.after ≡ Phase.MessageOut) × (p.cause ≡ Cause.InMessage))
+        → ServedPointers s j q
     made p e start next plain phase = unnamed l t.link none (record {
       begun = t.exchange_begun;
       undone = subst (λ (x : ℕ). OnUndo (λ (u : CarriedBytes). u.moved.saved ≡ x) l.undo) (sym start) h.undone;
@@ -237,7 +323,10 @@ unnamed_turns s k row n c q l meets t ep el none known to h = go h.phase
       phase = there phase;
     })
       where
-        there : (phase_of c.after ≡ Phase.MessageIn) ⊎ ((phase_of c.after ≡ Phase.MessageOut) × (p.cause ≡ Cause.InMessage)) → (phase_of (bus_of j) ≡ Phase.MessageIn) ⊎ ((phase_of (bus_of j) ≡ Phase.MessageOut) × (j.exchange.plan.cause ≡ Cause.InMessage))
+        there :
+            (phase_of c.after ≡ Phase.MessageIn) ⊎ ((phase_of c.after ≡ Phase.MessageOut) × (p.cause ≡ Cause.InMessage))
+            → (phase_of (bus_of j) ≡ Phase.MessageIn)
+            ⊎ ((phase_of (bus_of j) ≡ Phase.MessageOut) × (j.exchange.plan.cause ≡ Cause.InMessage))
         there (inl z) = inl (ap phase_of t.bus_is ∙ z)
         there (inr z) = inr (ap phase_of t.bus_is ∙ z.0, ap (λ (x : Plan). x.cause) e ∙ z.1)
 
@@ -253,7 +342,8 @@ unnamed_turns s k row n c q l meets t ep el none known to h = go h.phase
             some_link : (x y : Link) → (let o : Option Link = Some x in o) ≡ Some y → x ≡ y
             some_link x y e = cc
 
-        by : (meets.knows.link.item ≡ k.served) ⊎ ((n.reselected ≡ true) × (meets.knows.link.item ≡ None)) → n.reselected ≡ true
+        by : (meets.knows.link.item ≡ k.served) ⊎ ((n.reselected ≡ true) × (meets.knows.link.item ≡ None))
+            → n.reselected ≡ true
         by (inl z) = none_served (sym none ∙ ap (λ (x : Link). x.item) (sym same) ∙ z ∙ meets.served)
           where
             none_served : (let o : Option Item = None in o) ≡ Some (process q.id) → n.reselected ≡ true
@@ -262,38 +352,55 @@ unnamed_turns s k row n c q l meets t ep el none known to h = go h.phase
 
     -- a name was heard before MESSAGE IN is left with ATN false
     attention : phase_of (bus_of k) ≡ Phase.MessageIn → (bus_of k).atn ≡ true
-    attention e =
-        by_bool (bus_of k).atn
-        (λ f. f)
-        (λ f.
-        let heard = (meets.of.leaves (ap changes_phase meets.of.row_is.change_is ∙ ep)).named again (ap is_out_phase e) ((λ i. is_in_phase (e i) && f i)) in
-        absurd (true≢false (sym heard ∙ is_none)))
+    attention e = by_bool (bus_of k).atn (λ f. f)
+        (λ f. let heard = (meets.of.leaves (ap changes_phase meets.of.row_is.change_is ∙ ep)).named again
+        (ap is_out_phase e) ((λ i. is_in_phase (e i) && f i)) in absurd (true≢false (sym heard ∙ is_none)))
 
-    go : (phase_of (bus_of k) ≡ Phase.MessageIn) ⊎ ((phase_of (bus_of k) ≡ Phase.MessageOut) × (k.exchange.plan.cause ≡ Cause.InMessage)) → ServedPointers s j q
+    go : (phase_of (bus_of k) ≡ Phase.MessageIn)
+        ⊎ ((phase_of (bus_of k) ≡ Phase.MessageOut) × (k.exchange.plan.cause ≡ Cause.InMessage))
+        → ServedPointers s j q
     go (inl e) =
-        let leads : leaving s k n.target ≡ Rattle.bus_due.specs.bus_dialogue.specs.NextPhase.phase_entry Phase.MessageOut = leaving_is Phase.MessageIn e ∙ ap (λ (x : Bool). if x then Rattle.bus_due.specs.bus_dialogue.specs.NextPhase.phase_entry Phase.MessageOut else Rattle.bus_due.specs.bus_dialogue.specs.NextPhase.after_messages (serving_of s k n.target) k.exchange.plan.next) (attention e) in
-        let out : phase_of c.after ≡ Phase.MessageOut = sym (same_Some Phase.MessageOut (phase_of c.after) (sym (ap (λ (x : Leaving). x.to) leads) ∙ to)) in
-        let before : is_message_in c.before ≡ true = ap is_message_in (sym meets.of.row_is.bus_is) ∙ in_cause (bus_of k) (λ m. (meets.of.phase m).0) e in
-        made (plan_in_message_out w k.exchange.plan) (t.plan_is ∙ plan_out w (leaving s k n.target) k.exchange.plan (out_is c.after known ∙ ap is_out_phase out) b)
+        let leads : leaving s k n.target
+        ≡ Rattle.bus_due.specs.bus_dialogue.specs.NextPhase.phase_entry Phase.MessageOut = leaving_is Phase.MessageIn e
+        ∙ ap (λ (x : Bool). if x then Rattle.bus_due.specs.bus_dialogue.specs.NextPhase.phase_entry Phase.MessageOut
+        else Rattle.bus_due.specs.bus_dialogue.specs.NextPhase.after_messages
+        (serving_of s k n.target) k.exchange.plan.next) (attention e) in
+        let out : phase_of c.after ≡ Phase.MessageOut = sym
+        (same_Some Phase.MessageOut (phase_of c.after) (sym (ap (λ (x : Leaving). x.to) leads) ∙ to)) in
+        let before : is_message_in c.before ≡ true = ap is_message_in (sym meets.of.row_is.bus_is)
+        ∙ in_cause (bus_of k) (λ m. (meets.of.phase m).0) e in
+        made (plan_in_message_out w k.exchange.plan)
+        (t.plan_is ∙ plan_out w (leaving s k n.target) k.exchange.plan (out_is c.after known ∙ ap is_out_phase out) b)
         (start_stays s k j n q (t.start b) (ap (λ (x : Leaving). x.done) leads)) h.next
-        (subst (λ (x : Bool). OnMessages IsPlainIn (if x then from_byte k.exchange.plan.messages (k.handshakes.requests - 1) else k.exchange.plan.messages)) (sym before) (from_named IsPlainIn k.exchange.plan.messages (k.handshakes.requests - 1) h.plain))
-        (inr (out, ap (λ (x : Bool). if x then Cause.InMessage else if c.before.cd then Cause.InStatus else Cause.InData) before))
+        (subst (λ (x : Bool). OnMessages IsPlainIn
+        (if x then from_byte k.exchange.plan.messages (k.handshakes.requests - 1) else k.exchange.plan.messages))
+        (sym before) (from_named IsPlainIn k.exchange.plan.messages (k.handshakes.requests - 1) h.plain)) (inr (
+          out,
+          ap (λ (x : Bool). if x then Cause.InMessage else if c.before.cd then Cause.InStatus else Cause.InData) before,
+        ))
     go (inr e) = by (no_offer s k row n c q meets b ep e.0 e.1)
       where
         by : (k.exchange.plan.next ≡ Next.Command) ⊎ (is_some k.exchange.plan.said.offer ≡ false) → ServedPointers s j q
         by (inl z) = let bad : Next.GoOn ≡ Next.Command = sym h.next ∙ z in absurd cc
         by (inr z) =
-            let leads : leaving s k n.target ≡ message_out_leaving (serving_of s k n.target) Cause.InMessage = leaving_is Phase.MessageOut e.0 ∙ ap (λ (x : Cause). message_out_leaving (serving_of s k n.target) x) e.1 in
-            let m = refusal_leads (serving_of s k n.target) (phase_of c.after) z (ap (λ (x : Leaving). x.to) (sym leads) ∙ to) in
-            made (plan_there k.exchange.plan (leaving s k n.target)) (t.plan_is ∙ plan_to w (leaving s k n.target) k.exchange.plan (out_is c.after known ∙ ap is_out_phase m.phase_is))
+            let leads : leaving s k n.target ≡ message_out_leaving (serving_of s k n.target) Cause.InMessage =
+            leaving_is Phase.MessageOut e.0 ∙ ap (λ (x : Cause). message_out_leaving (serving_of s k n.target) x) e.1 in
+            let m = refusal_leads (serving_of s k n.target) (phase_of c.after) z
+            (ap (λ (x : Leaving). x.to) (sym leads) ∙ to) in
+            made (plan_there k.exchange.plan (leaving s k n.target)) (t.plan_is
+            ∙ plan_to w (leaving s k n.target) k.exchange.plan (out_is c.after known ∙ ap is_out_phase m.phase_is))
             (start_stays s k j n q (t.start b) (ap (λ (x : Leaving). x.done) leads ∙ m.done))
-            (ap (λ (x : Leaving). x.next) leads ∙ m.next ∙ h.next)
-            (subst (λ (x : Messages). OnMessages IsPlainIn x) (sym (ap (λ (x : Leaving). x.messages) leads ∙ m.messages)) h.plain)
-            (inl m.phase_is)
+            (ap (λ (x : Leaving). x.next) leads ∙ m.next ∙ h.next) (subst (λ (x : Messages). OnMessages IsPlainIn x)
+            (sym (ap (λ (x : Leaving). x.messages) leads ∙ m.messages)) h.plain) (inl m.phase_is)
 
 -- ---- any row that changes the phase
 
-pub turns_served : (s : ScenarioValue) (k : RunState) (row : Row) (n : Connection) (c : Change) (q : Process) → Meets s k row n c q → process_served s k ≡ Some q → (k.exchange.begun ≡ true → TurnsBy s k n q) → changes_phase c ≡ true → receiver_in n c ≡ None → is_fault row.kind ≡ false → (c.after.msg ≡ true → c.after.cd ≡ true) → (k.exchange.begun ≡ true → (leaving s k n.target).to ≡ Some (phase_of c.after)) → ServedPointers s k q → ServedPointers s (run_state_after s k row) q
+pub turns_served : (s : ScenarioValue) (k : RunState) (row : Row) (n : Connection) (c : Change) (q : Process)
+    → Meets s k row n c q → process_served s k ≡ Some q
+    → (k.exchange.begun ≡ true → TurnsBy s k n q) → changes_phase c ≡ true
+    → receiver_in n c ≡ None → is_fault row.kind ≡ false → (c.after.msg ≡ true → c.after.cd ≡ true)
+    → (k.exchange.begun ≡ true → (leaving s k n.target).to ≡ Some (phase_of c.after)) → ServedPointers s k q
+    → ServedPointers s (run_state_after s k row) q
 turns_served s k row n c q meets served f ep er ef known to h = go h
   where
     turned : (l : Link) → k.story.link ≡ Some l → Turned s k (run_state_after s k row) row n c q l
@@ -303,6 +410,8 @@ turns_served s k row n c q meets served f ep er ef known to h = go h
     go (unnamed l el none p) = unnamed_turns s k row n c q l meets (turned l el) ep el none known (to p.begun) p
     go (named l el own p) = by k.exchange.begun refl p
       where
-        by : (b : Bool) → k.exchange.begun ≡ b → PointersIf b (run_policy s q) l (carried_here k q.id) k.exchange.plan k.handshakes (run_start s k q) (phase_of (bus_of k)) → ServedPointers s (run_state_after s k row) q
+        by : (b : Bool) → k.exchange.begun ≡ b → PointersIf b (run_policy s q) l
+            (carried_here k q.id) k.exchange.plan k.handshakes (run_start s k q) (phase_of (bus_of k))
+            → ServedPointers s (run_state_after s k row) q
         by true b p = named_turns s k row n c q l meets (f b) (turned l el) ep b own known (to b) p
         by false b p = first_turns s k row n c q l meets (turned l el) ep b own known p

@@ -28,16 +28,23 @@ pub saved_same : (a b : CarriedBytes) → SamePointers a b → SameSaved a b
 saved_same a b h = record { saved = ap (λ (x : Area). x.saved) h.moved; marked = h.marked }
 
 pub saved_on : (a b c : CarriedBytes) → SamePointers a b → SameSaved b c → SameSaved a c
-saved_on a b c h g = record { saved = ap (λ (x : Area). x.saved) h.moved ∙ g.saved; marked = λ e. h.marked (g.marked e) }
+saved_on a b c h g =
+    record { saved = ap (λ (x : Area). x.saved) h.moved ∙ g.saved; marked = λ e. h.marked (g.marked e) }
 
-pub wait_on : (s : ScenarioValue) (k j : RunState) (q : Process) → SameSaved (carried_here j q.id) (carried_here k q.id) → (has_item k.story.sent.over (process q.id) ≡ true → has_item j.story.sent.over (process q.id) ≡ true) → run_start s j q ≡ run_start s k q → IsWaiting s k q → IsWaiting s j q
+pub wait_on : (s : ScenarioValue) (k j : RunState) (q : Process) → SameSaved (carried_here j q.id) (carried_here k q.id)
+    → (has_item k.story.sent.over (process q.id) ≡ true → has_item j.story.sent.over (process q.id) ≡ true)
+    → run_start s j q ≡ run_start s k q → IsWaiting s k q → IsWaiting s j q
 wait_on s k j q c over start h = record {
-  saved = λ o m. c.saved ∙ h.saved (not_unless (has_item k.story.sent.over (process q.id)) (has_item j.story.sent.over (process q.id)) over o) (not_unless (is_marked (carried_here k q.id)) (is_marked (carried_here j q.id)) c.marked m) ∙ sym start;
+  saved = λ o m. c.saved ∙ h.saved
+      (not_unless (has_item k.story.sent.over (process q.id)) (has_item j.story.sent.over (process q.id)) over o)
+      (not_unless (is_marked (carried_here k q.id)) (is_marked (carried_here j q.id)) c.marked m)
+      ∙ sym start;
 }
 
 -- ---- what is over
 
-pub connection_sent : (s : ScenarioValue) (b : Story) (link : Option Link) (d : RowReading) (row : Row) → (story_in_connection s b link d row).sent ≡ b.sent
+pub connection_sent : (s : ScenarioValue) (b : Story) (link : Option Link) (d : RowReading) (row : Row)
+    → (story_in_connection s b link d row).sent ≡ b.sent
 connection_sent s b None d row = refl
 connection_sent s b (Some l) d row = inside_sent s b l d row
 
@@ -48,9 +55,13 @@ begun_over b n = go n.reselected (aim_of b.aims n.initiator)
     sent c None = refl
     sent c (Some item) = refl
 
-    go : (q : Bool) (item : Option Item) → (if q then record b { link = Some (link_of n None) } else story_with_restored (story_with_sent (record b { link = Some (link_of n item) }) item) item).sent.over ≡ b.sent.over
+    go : (q : Bool) (item : Option Item) → (if q then record b { link = Some (link_of n None) }
+        else story_with_restored (story_with_sent (record b { link = Some (link_of n item) }) item) item).sent.over
+        ≡ b.sent.over
     go true item = refl
-    go false item = ap (λ x. x.over) (restored_sent (story_with_sent (record b { link = Some (link_of n item) }) item) item) ∙ sent (record b { link = Some (link_of n item) }) item
+    go false item =
+        ap (λ x. x.over) (restored_sent (story_with_sent (record b { link = Some (link_of n item) }) item) item)
+        ∙ sent (record b { link = Some (link_of n item) }) item
 
 -- Outside a connection commands are given up, and nothing is carried.
 record Freed (b c : Story) (x : Item) : Type 0 where
@@ -60,14 +71,18 @@ record Freed (b c : Story) (x : Item) : Type 0 where
 freed_self : (b : Story) (x : Item) → Freed b b x
 freed_self b x = record { over = λ e. e; carried = refl }
 
-free_story : (s : ScenarioValue) (b : Story) (d : RowReading) (row : Row) (x : Item) → Freed b (story_on_free_bus s b d row) x
+free_story : (s : ScenarioValue) (b : Story) (d : RowReading) (row : Row) (x : Item)
+    → Freed b (story_on_free_bus s b d row) x
 free_story s b d row x = go (is_arbitration_entry b d) (falls d.change.before.sel d.change.after.sel)
   where
     tried : (dev : ℕ) (item : Option Item) → Freed b (story_with_try s b dev item) x
     tried dev None = freed_self b x
-    tried dev (Some item) = by (is_counted item && nat_lt (retries_of s.hosts dev) (Rattle.bus_due.specs.bus_story.specs.Items.count_item (item ∷ b.sent.tries) item)) item
+    tried dev (Some item) = by (is_counted item && nat_lt (retries_of s.hosts dev)
+        (Rattle.bus_due.specs.bus_story.specs.Items.count_item (item ∷ b.sent.tries) item)) item
       where
-        by : (q : Bool) (i : Item) → Freed b (if q then story_without_answer (record b { sent = record b.sent { tries = item ∷ b.sent.tries } }) i else record b { sent = record b.sent { tries = item ∷ b.sent.tries } }) x
+        by : (q : Bool) (i : Item) → Freed b
+            (if q then story_without_answer (record b { sent = record b.sent { tries = item ∷ b.sent.tries } }) i
+            else record b { sent = record b.sent { tries = item ∷ b.sent.tries } }) x
         by true (process id) = record { over = λ e. over_more (process id) b.sent.over x e; carried = refl }
         by true (abort k) = record { over = λ e. over_more (abort k) b.sent.over x e; carried = refl }
         by false i = record { over = λ e. e; carried = refl }
@@ -84,26 +99,32 @@ free_story s b d row x = go (is_arbitration_entry b d) (falls d.change.before.se
             one true = tried k.caller (aim_of b.aims k.caller)
             one false = freed_self b x
 
-    go : (q r : Bool) → Freed b (if q then story_with_aim s b row else if r then story_after_calling s b b.bus_state.call else b) x
+    go : (q r : Bool)
+        → Freed b (if q then story_with_aim s b row else if r then story_after_calling s b b.bus_state.call else b) x
     go true r = record { over = λ e. e; carried = refl }
     go false true = called b.bus_state.call
     go false false = freed_self b x
 
-bus_over : (s : ScenarioValue) (b : Story) (m n : Option Connection) (d : RowReading) (row : Row) (x : Item) → has_item b.sent.over x ≡ true → has_item (story_on_bus s b m n d row).sent.over x ≡ true
+bus_over : (s : ScenarioValue) (b : Story) (m n : Option Connection) (d : RowReading) (row : Row) (x : Item)
+    → has_item b.sent.over x ≡ true → has_item (story_on_bus s b m n d row).sent.over x ≡ true
 bus_over s b None None d row x e = (free_story s b d row x).over e
 bus_over s b None (Some n) d row x e = ap (λ (y : List Item). has_item y x) (begun_over b n) ∙ e
 bus_over s b (Some m) None d row x e = e
 bus_over s b (Some m) (Some n) d row x e = ap (λ y. has_item y.over x) (connection_sent s b b.link d row) ∙ e
 
 -- What is over stays so with any change of the bus, and with any row.
-pub change_over : (s : ScenarioValue) (b : Story) (d : RowReading) (row : Row) (x : Item) → has_item b.sent.over x ≡ true → has_item (story_by_change s b d row).sent.over x ≡ true
+pub change_over : (s : ScenarioValue) (b : Story) (d : RowReading) (row : Row) (x : Item)
+    → has_item b.sent.over x ≡ true → has_item (story_by_change s b d row).sent.over x ≡ true
 change_over s b d row x e = go d.change.after.rst
   where
-    go : (q : Bool) → has_item (if q then record b { link = None } else story_on_bus s b b.bus_state.connection d.next d row).sent.over x ≡ true
+    go : (q : Bool) → has_item
+        (if q then record b { link = None } else story_on_bus s b b.bus_state.connection d.next d row).sent.over x
+        ≡ true
     go true = e
     go false = bus_over s b b.bus_state.connection d.next d row x e
 
-pub over_row : (s : ScenarioValue) (k : RunState) (row : Row) (x : Item) → has_item k.story.sent.over x ≡ true → has_item (run_state_after s k row).story.sent.over x ≡ true
+pub over_row : (s : ScenarioValue) (k : RunState) (row : Row) (x : Item) → has_item k.story.sent.over x ≡ true
+    → has_item (run_state_after s k row).story.sent.over x ≡ true
 over_row s k row x e =
     let d = row_reading k.story.bus_state row in
     events_over s (story_by_change s k.story d row) (row_events_by s k.story d row) x (change_over s k.story d row x e)
@@ -111,123 +132,172 @@ over_row s k row x e =
 -- ---- runs
 
 -- Only the process that is served makes runs.
-progress_other : (s : ScenarioValue) (k : RunState) (row : Row) (id : ProcId) → IsNot id k.served → progress_in (run_state_after s k row).progress id ≡ progress_in k.progress id
-progress_other s k row id other = go k.story.bus_state.connection (row_reading k.story.bus_state row).next (leaving_of s k k.story.bus_state.connection)
+progress_other : (s : ScenarioValue) (k : RunState) (row : Row) (id : ProcId) → IsNot id k.served
+    → progress_in (run_state_after s k row).progress id ≡ progress_in k.progress id
+progress_other s k row id other = go k.story.bus_state.connection (row_reading k.story.bus_state row).next
+    (leaving_of s k k.story.bus_state.connection)
   where
     d : RowReading
     d = row_reading k.story.bus_state row
 
-    served : (l : Leaving) (item : Option Item) → IsNot id item → progress_in (progress_by_leaving k (process_item s item) l) id ≡ progress_in k.progress id
+    served : (l : Leaving) (item : Option Item) → IsNot id item
+        → progress_in (progress_by_leaving k (process_item s item) l) id ≡ progress_in k.progress id
     served l None h = refl
     served l (Some (abort n)) h = refl
     served l (Some (process x)) h = by (process_of s x) refl
       where
-        by : (p : Option Process) → process_of s x ≡ p → progress_in (progress_by_leaving k p l) id ≡ progress_in k.progress id
+        by : (p : Option Process) → process_of s x ≡ p
+            → progress_in (progress_by_leaving k p l) id ≡ progress_in k.progress id
         by None e = refl
-        by (Some p) e = other_kept k.progress p.id id l.done l.counts (ap (λ (y : ProcId). same_id y id) (id_is s x p e) ∙ h x refl)
+        by (Some p) e =
+            other_kept k.progress p.id id l.done l.counts (ap (λ (y : ProcId). same_id y id) (id_is s x p e) ∙ h x refl)
 
-    go : (m n : Option Connection) (l : Leaving) → progress_in (progress_after s k d m n l) id ≡ progress_in k.progress id
+    go : (m n : Option Connection) (l : Leaving)
+        → progress_in (progress_after s k d m n l) id ≡ progress_in k.progress id
     go None None l = refl
     go None (Some n) l = refl
     go (Some m) None l = refl
     go (Some m) (Some n) l = by (changes_phase d.change && k.exchange.begun)
       where
-        by : (q : Bool) → progress_in (if q then progress_by_leaving k (process_served s k) l else k.progress) id ≡ progress_in k.progress id
+        by : (q : Bool) → progress_in (if q then progress_by_leaving k (process_served s k) l else k.progress) id
+            ≡ progress_in k.progress id
         by true = served l k.served other
         by false = refl
 
-pub start_other : (s : ScenarioValue) (k : RunState) (row : Row) (q : Process) → IsNot q.id k.served → run_start s (run_state_after s k row) q ≡ run_start s k q
+pub start_other : (s : ScenarioValue) (k : RunState) (row : Row) (q : Process) → IsNot q.id k.served
+    → run_start s (run_state_after s k row) q ≡ run_start s k q
 start_other s k row q other = ap (λ (x : ProcessProgress). x.runs * run_step s q) (progress_other s k row q.id other)
 
 -- ---- what is carried
 
 -- As long as the story before its events has the same of it.
-pub carried_row : (s : ScenarioValue) (k : RunState) (row : Row) (id : ProcId) → SameSaved (carried_of (story_by_change s k.story (row_reading k.story.bus_state row) row).carried id) (carried_here k id) → SameSaved (carried_here (run_state_after s k row) id) (carried_here k id)
+pub carried_row : (s : ScenarioValue) (k : RunState) (row : Row) (id : ProcId) → SameSaved
+    (carried_of (story_by_change s k.story (row_reading k.story.bus_state row) row).carried id) (carried_here k id)
+    → SameSaved (carried_here (run_state_after s k row) id) (carried_here k id)
 carried_row s k row id h =
     let d = row_reading k.story.bus_state row in
-    saved_on (carried_here (run_state_after s k row) id) (carried_of (story_by_change s k.story d row).carried id) (carried_here k id) (events_same s (story_by_change s k.story d row) (row_events_by s k.story d row) id) h
+    saved_on (carried_here (run_state_after s k row) id) (carried_of (story_by_change s k.story d row).carried id)
+    (carried_here k id) (events_same s (story_by_change s k.story d row) (row_events_by s k.story d row) id) h
 
 saved_self : (c : CarriedBytes) → SameSaved c c
 saved_self c = record { saved = refl; marked = λ e. e }
 
 -- Outside a connection, and as RST is true.
-pub apart_same : (s : ScenarioValue) (k : RunState) (row : Row) (id : ProcId) → ((row_reading k.story.bus_state row).change.after.rst ≡ true) ⊎ ((k.story.bus_state.connection ≡ None) × ((row_reading k.story.bus_state row).next ≡ None)) → SameSaved (carried_here (run_state_after s k row) id) (carried_here k id)
+pub apart_same : (s : ScenarioValue) (k : RunState) (row : Row) (id : ProcId)
+    → ((row_reading k.story.bus_state row).change.after.rst ≡ true)
+    ⊎ ((k.story.bus_state.connection ≡ None) × ((row_reading k.story.bus_state row).next ≡ None))
+    → SameSaved (carried_here (run_state_after s k row) id) (carried_here k id)
 apart_same s k row id h = carried_row s k row id (go h)
   where
     d : RowReading
     d = row_reading k.story.bus_state row
 
-    by : (q : Bool) → (m n : Option Connection) → (q ≡ true) ⊎ ((m ≡ None) × (n ≡ None)) → SameSaved (carried_of (if q then record k.story { link = None } else story_on_bus s k.story m n d row).carried id) (carried_here k id)
+    by : (q : Bool) → (m n : Option Connection) → (q ≡ true) ⊎ ((m ≡ None) × (n ≡ None)) → SameSaved
+        (carried_of (if q then record k.story { link = None } else story_on_bus s k.story m n d row).carried id)
+        (carried_here k id)
     by true m n z = saved_self (carried_here k id)
-    by false None None z = subst (λ (x : List CarriedBytes). SameSaved (carried_of x id) (carried_here k id)) (sym (free_story s k.story d row (process id)).carried) (saved_self (carried_here k id))
+    by false None None z = subst (λ (x : List CarriedBytes). SameSaved (carried_of x id) (carried_here k id))
+        (sym (free_story s k.story d row (process id)).carried) (saved_self (carried_here k id))
     by false None (Some n) (inl z) = absurd (true≢false (sym z))
     by false None (Some n) (inr z) = none_some n z.1
       where
-        none_some : (x : Connection) → (let o : Option Connection = Some x in o) ≡ None → SameSaved (carried_of (story_on_bus s k.story None (Some n) d row).carried id) (carried_here k id)
+        none_some : (x : Connection) → (let o : Option Connection = Some x in o) ≡ None
+            → SameSaved (carried_of (story_on_bus s k.story None (Some n) d row).carried id) (carried_here k id)
         none_some x e = absurd cc
     by false (Some m) n (inl z) = absurd (true≢false (sym z))
     by false (Some m) n (inr z) = none_some m z.0
       where
-        none_some : (x : Connection) → (let o : Option Connection = Some x in o) ≡ None → SameSaved (carried_of (story_on_bus s k.story (Some m) n d row).carried id) (carried_here k id)
+        none_some : (x : Connection) → (let o : Option Connection = Some x in o) ≡ None
+            → SameSaved (carried_of (story_on_bus s k.story (Some m) n d row).carried id) (carried_here k id)
         none_some x e = absurd cc
 
-    go : (d.change.after.rst ≡ true) ⊎ ((k.story.bus_state.connection ≡ None) × (d.next ≡ None)) → SameSaved (carried_of (story_by_change s k.story d row).carried id) (carried_here k id)
+    go : (d.change.after.rst ≡ true) ⊎ ((k.story.bus_state.connection ≡ None) × (d.next ≡ None))
+        → SameSaved (carried_of (story_by_change s k.story d row).carried id) (carried_here k id)
     go z = by d.change.after.rst k.story.bus_state.connection d.next z
 
 -- A connection ends.
-pub ends_same : (s : ScenarioValue) (k : RunState) (row : Row) (n : Connection) (id : ProcId) → k.story.bus_state.connection ≡ Some n → (row_reading k.story.bus_state row).next ≡ None → SameSaved (carried_here (run_state_after s k row) id) (carried_here k id)
+pub ends_same : (s : ScenarioValue) (k : RunState) (row : Row) (n : Connection) (id : ProcId)
+    → k.story.bus_state.connection ≡ Some n → (row_reading k.story.bus_state row).next ≡ None
+    → SameSaved (carried_here (run_state_after s k row) id) (carried_here k id)
 ends_same s k row n id con next = carried_row s k row id (go d.change.after.rst)
   where
     d : RowReading
     d = row_reading k.story.bus_state row
 
-    go : (q : Bool) → SameSaved (carried_of (if q then record k.story { link = None } else story_on_bus s k.story k.story.bus_state.connection d.next d row).carried id) (carried_here k id)
+    go : (q : Bool) → SameSaved (carried_of (if q then record k.story { link = None }
+        else story_on_bus s k.story k.story.bus_state.connection d.next d row).carried id) (carried_here k id)
     go true = saved_self (carried_here k id)
-    go false = subst (λ (x : List CarriedBytes). SameSaved (carried_of x id) (carried_here k id)) (sym (λ i. (story_on_bus s k.story (con i) (next i) d row).carried)) (saved_self (carried_here k id))
+    go false = subst (λ (x : List CarriedBytes). SameSaved (carried_of x id) (carried_here k id))
+        (sym (λ i. (story_on_bus s k.story (con i) (next i) d row).carried)) (saved_self (carried_here k id))
 
 -- A connection begins: the active pointers of its process are restored, no saved one changes.
-restored_same : (b : Story) (item : Option Item) (id : ProcId) → SameSaved (carried_of (story_with_restored b item).carried id) (carried_of b.carried id)
+restored_same : (b : Story) (item : Option Item) (id : ProcId)
+    → SameSaved (carried_of (story_with_restored b item).carried id) (carried_of b.carried id)
 restored_same b None id = saved_self (carried_of b.carried id)
 restored_same b (Some (abort n)) id = saved_self (carried_of b.carried id)
-restored_same b (Some (process x)) id =
-    by_bool (same_id x id)
-    (λ e.
-    let is : x ≡ id = Rattle.row_laws.specs.bus_books.proofs.Common.Lookups.id_is x id e in
-    subst (λ (y : CarriedBytes). SameSaved y (carried_of b.carried id)) (sym (Rattle.row_laws.specs.bus_books.proofs.Common.Lookups.put_own b.carried (with_restored_pointers (carried_of b.carried x)) id (carried_id b.carried x ∙ is)))
-    (subst (λ (y : ProcId). SameSaved (with_restored_pointers (carried_of b.carried x)) (carried_of b.carried y)) is (record { saved = refl; marked = λ z. z })))
-    (λ e. subst (λ (y : CarriedBytes). SameSaved y (carried_of b.carried id)) (sym (Rattle.row_laws.specs.bus_books.proofs.Common.Lookups.put_other b.carried (with_restored_pointers (carried_of b.carried x)) x id (carried_id b.carried x) e)) (saved_self (carried_of b.carried id)))
+restored_same b (Some (process x)) id = by_bool (same_id x id)
+    (λ e. let is : x ≡ id = Rattle.row_laws.specs.bus_books.proofs.Common.Lookups.id_is x id e in
+    subst (λ (y : CarriedBytes). SameSaved y (carried_of b.carried id))
+    (sym (Rattle.row_laws.specs.bus_books.proofs.Common.Lookups.put_own b.carried
+    (with_restored_pointers (carried_of b.carried x)) id (carried_id b.carried x ∙ is)))
+    (subst (λ (y : ProcId). SameSaved (with_restored_pointers (carried_of b.carried x)) (carried_of b.carried y)) is
+    (record { saved = refl; marked = λ z. z })))
+    (λ e. subst (λ (y : CarriedBytes). SameSaved y (carried_of b.carried id))
+    (sym (Rattle.row_laws.specs.bus_books.proofs.Common.Lookups.put_other b.carried
+    (with_restored_pointers (carried_of b.carried x)) x id (carried_id b.carried x) e))
+    (saved_self (carried_of b.carried id)))
 
-begins_story : (b : Story) (n : Connection) (id : ProcId) → SameSaved (carried_of (story_after_connection b n).carried id) (carried_of b.carried id)
+begins_story : (b : Story) (n : Connection) (id : ProcId)
+    → SameSaved (carried_of (story_after_connection b n).carried id) (carried_of b.carried id)
 begins_story b n id = go n.reselected (aim_of b.aims n.initiator)
   where
-    go : (q : Bool) (item : Option Item) → SameSaved (carried_of (if q then record b { link = Some (link_of n None) } else story_with_restored (story_with_sent (record b { link = Some (link_of n item) }) item) item).carried id) (carried_of b.carried id)
+    go : (q : Bool) (item : Option Item) → SameSaved (carried_of (if q then record b { link = Some (link_of n None) }
+        else story_with_restored (story_with_sent (record b { link = Some (link_of n item) }) item) item).carried id)
+        (carried_of b.carried id)
     go true item = saved_self (carried_of b.carried id)
-    go false item = subst (λ (x : List CarriedBytes). SameSaved (carried_of (story_with_restored (story_with_sent (record b { link = Some (link_of n item) }) item) item).carried id) (carried_of x id)) (sent_carried (record b { link = Some (link_of n item) }) item) (restored_same (story_with_sent (record b { link = Some (link_of n item) }) item) item id)
+    go false item = subst (λ (x : List CarriedBytes). SameSaved (carried_of
+        (story_with_restored (story_with_sent (record b { link = Some (link_of n item) }) item) item).carried id)
+        (carried_of x id)) (sent_carried (record b { link = Some (link_of n item) }) item)
+        (restored_same (story_with_sent (record b { link = Some (link_of n item) }) item) item id)
 
-pub begins_same : (s : ScenarioValue) (k : RunState) (row : Row) (n : Connection) (id : ProcId) → k.story.bus_state.connection ≡ None → (row_reading k.story.bus_state row).next ≡ Some n → (row_reading k.story.bus_state row).change.after.rst ≡ false → SameSaved (carried_here (run_state_after s k row) id) (carried_here k id)
-begins_same s k row n id con next calm = carried_row s k row id (subst (λ (x : Story). SameSaved (carried_of x.carried id) (carried_here k id)) (sym there) (begins_story k.story n id))
+pub begins_same : (s : ScenarioValue) (k : RunState) (row : Row) (n : Connection) (id : ProcId)
+    → k.story.bus_state.connection ≡ None → (row_reading k.story.bus_state row).next ≡ Some n
+    → (row_reading k.story.bus_state row).change.after.rst ≡ false
+    → SameSaved (carried_here (run_state_after s k row) id) (carried_here k id)
+begins_same s k row n id con next calm = carried_row s k row id (subst
+    (λ (x : Story). SameSaved (carried_of x.carried id) (carried_here k id)) (sym there) (begins_story k.story n id))
   where
     d : RowReading
     d = row_reading k.story.bus_state row
 
     there : story_by_change s k.story d row ≡ story_after_connection k.story n
-    there = ap (λ (q : Bool). if q then record k.story { link = None } else story_on_bus s k.story k.story.bus_state.connection d.next d row) calm ∙ (λ i. story_on_bus s k.story (con i) (next i) d row)
+    there = ap (λ (q : Bool). if q then record k.story { link = None }
+        else story_on_bus s k.story k.story.bus_state.connection d.next d row) calm
+        ∙ (λ i. story_on_bus s k.story (con i) (next i) d row)
 
 -- ---- in a connection, of a process that is not served
 
-pub item_not : (id : ProcId) (k : RunState) (n : Connection) (item : Option Item) → IsNot id k.served → ((item ≡ k.served) ⊎ (item ≡ None)) → IsNot id item
+pub item_not : (id : ProcId) (k : RunState) (n : Connection) (item : Option Item) → IsNot id k.served
+    → ((item ≡ k.served) ⊎ (item ≡ None)) → IsNot id item
 item_not id k n item h (inl e) x f = h x (sym e ∙ f)
 item_not id k n item h (inr e) x f = none_some (sym e ∙ f)
   where
     none_some : (let o : Option Item = None in o) ≡ Some (process x) → same_id x id ≡ false
     none_some z = absurd cc
 
-pub goes_other : (s : ScenarioValue) (k : RunState) (row : Row) (n : Connection) (c : Change) (id : ProcId) (now : Bool) → IsRowIn k row n c → is_some (receiver_in n c) ≡ now → Knows s k n → UndoesServed k → IsNot id k.served → ((l : Link) (m : MsgIn) → k.story.link ≡ Some l → (reading_in k.story.bus_state n c now).into ≡ Some m → ((link_after_name k.story.sent s.commands l m).item ≡ k.served) ⊎ ((link_after_name k.story.sent s.commands l m).item ≡ None))
+pub goes_other : (s : ScenarioValue) (k : RunState) (row : Row) (n : Connection) (c : Change) (id : ProcId) (now : Bool)
+    → IsRowIn k row n c → is_some (receiver_in n c) ≡ now → Knows s k n → UndoesServed k → IsNot id k.served
+    → ((l : Link) (m : MsgIn) → k.story.link ≡ Some l → (reading_in k.story.bus_state n c now).into ≡ Some m
+    → ((link_after_name k.story.sent s.commands l m).item ≡ k.served)
+    ⊎ ((link_after_name k.story.sent s.commands l m).item ≡ None))
     → SameSaved (carried_here (run_state_after s k row) id) (carried_here k id)
-goes_other s k row n c id now r en knows undoes other names =
-    saved_on (carried_here (run_state_after s k row) id) (carried_of (story_in_connection s k.story (Some knows.link) d row).carried id) (carried_here k id)
-    (subst (λ (x : CarriedBytes). SamePointers x (carried_of (story_in_connection s k.story (Some knows.link) d row).carried id)) (sym (ap (λ (x : Story). carried_of x.carried id) (story_row s k row n c now r en ∙ (λ i. story_after_events s (story_in_connection s k.story (knows.link_is i) d row) (link_events s k.story (knows.link_is i) d)))))
-    (events_same s (story_in_connection s k.story (Some knows.link) d row) (link_events s k.story (Some knows.link) d) id))
+goes_other s k row n c id now r en knows undoes other names = saved_on (carried_here (run_state_after s k row) id)
+    (carried_of (story_in_connection s k.story (Some knows.link) d row).carried id)
+    (carried_here k id) (subst (λ (x : CarriedBytes). SamePointers x
+    (carried_of (story_in_connection s k.story (Some knows.link) d row).carried id))
+    (sym (ap (λ (x : Story). carried_of x.carried id) (story_row s k row n c now r en ∙ (λ i. story_after_events s
+    (story_in_connection s k.story (knows.link_is i) d row) (link_events s k.story (knows.link_is i) d))))) (events_same
+    s (story_in_connection s k.story (Some knows.link) d row) (link_events s k.story (Some knows.link) d) id))
     (go d.crosses d.out d.into refl)
   where
     d : RowReading
@@ -236,11 +306,20 @@ goes_other s k row n c id now r en knows undoes other names =
     own : (knows.link.item ≡ k.served) ⊎ (knows.link.item ≡ None)
     own = elim knows.item_is [ inl z ↦ inl z | inr z ↦ inr z.1 ]
 
-    same : (b : Story) → carried_of b.carried id ≡ carried_here k id → SameSaved (carried_of b.carried id) (carried_here k id)
+    same : (b : Story) → carried_of b.carried id ≡ carried_here k id
+        → SameSaved (carried_of b.carried id) (carried_here k id)
     same b e = subst (λ (x : CarriedBytes). SameSaved x (carried_here k id)) (sym e) (saved_self (carried_here k id))
 
-    go : (q : Bool) (o : Option MsgOut) (m : Option MsgIn) → d.into ≡ m → SameSaved (carried_of (if q then (if is_some o then story_after_out k.story knows.link o else if is_some m then story_after_in s k.story knows.link m else story_after_byte k.story knows.link d) else story_after_fault k.story knows.link row.kind).carried id) (carried_here k id)
-    go false o m e = saved_same (carried_of (story_after_fault k.story knows.link row.kind).carried id) (carried_here k id) (fault_story k.story knows.link row.kind id)
-    go true (Some o) m e = same (story_after_out k.story knows.link (Some o)) (out_other k.story knows.link o id (λ u z. other u.id (undoes knows.link u knows.link_is z)))
-    go true None None e = same (story_after_byte k.story knows.link d) (byte_other k.story knows.link d id (item_not id k n knows.link.item other own))
-    go true None (Some m) e = same (story_after_in s k.story knows.link (Some m)) (in_other s k.story knows.link m id (item_not id k n (link_after_name k.story.sent s.commands knows.link m).item other (names knows.link m knows.link_is e)))
+    go : (q : Bool) (o : Option MsgOut) (m : Option MsgIn) → d.into ≡ m
+        → SameSaved (carried_of (if q then (if is_some o then story_after_out k.story knows.link o
+        else if is_some m then story_after_in s k.story knows.link m else story_after_byte k.story knows.link d)
+        else story_after_fault k.story knows.link row.kind).carried id) (carried_here k id)
+    go false o m e = saved_same (carried_of (story_after_fault k.story knows.link row.kind).carried id)
+        (carried_here k id) (fault_story k.story knows.link row.kind id)
+    go true (Some o) m e = same (story_after_out k.story knows.link (Some o))
+        (out_other k.story knows.link o id (λ u z. other u.id (undoes knows.link u knows.link_is z)))
+    go true None None e = same (story_after_byte k.story knows.link d)
+        (byte_other k.story knows.link d id (item_not id k n knows.link.item other own))
+    go true None (Some m) e =
+        same (story_after_in s k.story knows.link (Some m)) (in_other s k.story knows.link m id (item_not id k n
+        (link_after_name k.story.sent s.commands knows.link m).item other (names knows.link m knows.link_is e)))

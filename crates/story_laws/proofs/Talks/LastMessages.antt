@@ -1,5 +1,5 @@
--- COMMAND COMPLETE is the last message of a connection: nothing but BUS FREE is planned after it; and an automatic REQUEST SENSE is
--- never disconnected.
+-- COMMAND COMPLETE is the last message of a connection: nothing but BUS FREE is planned after it; and an automatic
+-- REQUEST SENSE is never disconnected.
 use Rattle.story_laws.proofs
 use proofs.Names.{ℕ, ◌≡◌, ◌+◌, Bool, true, false, not, ◌&&◌, ◌||◌, ◌∙◌, List, length, Option, Some, None, refl, sym, ap}
 use proofs.Names.{arith, ◌==◌, nat_tests, same_Some, if◌then◌else◌, is_none, nat_lt, wrong, wrong', ProcId, LineSet}
@@ -33,19 +33,25 @@ left_well true v (ways.disconnects _ t _ r _) st h = wrong (sym r.more_is ∙ (s
 left_well true v _ st h = refl
 left_well false v _ st h = refl
 
-pub leaves_well : (stays : Bool) (v : Serving) (begun : Bool) (bus : LineSet) → (stays ≡ true → Stays v (phase_of bus)) → plans_well stays v.plan.messages v.plan.next ≡ true → Well stays (leaving_by v begun bus)
+pub leaves_well : (stays : Bool) (v : Serving) (begun : Bool) (bus : LineSet) → (stays ≡ true → Stays v (phase_of bus))
+    → plans_well stays v.plan.messages v.plan.next ≡ true → Well stays (leaving_by v begun bus)
 leaves_well stays v true bus st h = left_well stays v (ways.leaves v bus.atn (phase_of bus)) st h
 leaves_well true v false bus st h = refl
 leaves_well false v false bus st h = refl
 
 -- Those that are left as MESSAGE OUT begins.
-pub from_well : (stays : Bool) (m : Messages) (next : Next) (count : ℕ) → plans_well stays m next ≡ true → plans_well stays (from_byte m count) next ≡ true
+pub from_well : (stays : Bool) (m : Messages) (next : Next) (count : ℕ) → plans_well stays m next ≡ true
+    → plans_well stays (from_byte m count) next ≡ true
 from_well stays m next count h = go (nat_lt count (length (message_bytes m.first)))
   where
-    part : (w a b c d e : Bool) → (not a && (not b || (c && d)) && (not w || (not e && not (is_disconnect_in m.second)))) ≡ true → a ≡ is_complete_in m.second → plans_well w (record { first = m.second; second = None }) next ≡ true
-    part w a b c d e z f = by w (is_complete_in m.second) (is_disconnect_in m.second) b c d e ((λ i. not (sym f i) && (not b || (c && d)) && (not w || (not e && not (is_disconnect_in m.second)))) ∙ z)
+    part : (w a b c d e : Bool)
+        → (not a && (not b || (c && d)) && (not w || (not e && not (is_disconnect_in m.second)))) ≡ true
+        → a ≡ is_complete_in m.second → plans_well w (record { first = m.second; second = None }) next ≡ true
+    part w a b c d e z f = by w (is_complete_in m.second) (is_disconnect_in m.second) b c d e
+        ((λ i. not (sym f i) && (not b || (c && d)) && (not w || (not e && not (is_disconnect_in m.second)))) ∙ z)
       where
-        by : (w a x b c d e : Bool) → (not a && (not b || (c && d)) && (not w || (not e && not x))) ≡ true → (true && (not a || (true && frees_bus next)) && (not w || (not x && true))) ≡ true
+        by : (w a x b c d e : Bool) → (not a && (not b || (c && d)) && (not w || (not e && not x))) ≡ true
+            → (true && (not a || (true && frees_bus next)) && (not w || (not x && true))) ≡ true
         by w true x b c d e y = wrong' y
         by true false true true true true true y = wrong' y
         by true false true true true true false y = wrong' y
@@ -58,23 +64,28 @@ from_well stays m next count h = go (nat_lt count (length (message_bytes m.first
 
     go : (q : Bool) → plans_well stays (if q then m else record { first = m.second; second = None }) next ≡ true
     go true = h
-    go false = part stays (is_complete_in m.second) (is_complete_in m.first) (is_none m.second) (frees_bus next) (is_disconnect_in m.first) h refl
+    go false = part stays (is_complete_in m.second) (is_complete_in m.first) (is_none m.second) (frees_bus next)
+        (is_disconnect_in m.first) h refl
 
 -- ---- an automatic REQUEST SENSE stays
 
 -- Its command descriptor block.
-sense_cdb : (s : ScenarioValue) (id : ProcId) (p : Process) → process_of s id ≡ Some p → id.sense ≡ true → p.cdb ≡ sense_block
-sense_cdb s id p e f =
-    by_option (command_at s.commands id.command)
-    (λ z. absurd (none_some p (sym (ap (λ (x : Option CmdDef). process_if s id x) z) ∙ e)))
-    (λ c z. sym (ap (λ (x : Process). x.cdb) (same_Some (process_by s id c) p (sym (ap (λ (x : Option CmdDef). process_if s id x) z) ∙ e))) ∙ by id.sense c f)
+sense_cdb : (s : ScenarioValue) (id : ProcId) (p : Process) → process_of s id ≡ Some p → id.sense ≡ true
+    → p.cdb ≡ sense_block
+sense_cdb s id p e f = by_option (command_at s.commands id.command) (λ z. absurd
+    (none_some p (sym (ap (λ (x : Option CmdDef). process_if s id x) z) ∙ e))) (λ c z. sym (ap (λ (x : Process). x.cdb)
+    (same_Some (process_by s id c) p (sym (ap (λ (x : Option CmdDef). process_if s id x) z) ∙ e))) ∙ by id.sense c f)
   where
-    by : (q : Bool) (c : CmdDef) → q ≡ true → (process_by s (record { command = id.command; sense = q }) c).cdb ≡ sense_block
+    by : (q : Bool) (c : CmdDef) → q ≡ true
+        → (process_by s (record { command = id.command; sense = q }) c).cdb ≡ sense_block
     by true c z = refl
     by false c z = wrong' z
 
-guest : (a : Array) (policy : Policy) (p : Process) → is_request_sense (command_of p.cdb) ≡ true → is_queued (arrival_if policy a (Some p)) ≡ false
-guest a policy p e = ap (λ (q : Bool). is_queued (arrival_by policy q (room_of a (unit_state_at a.units p.target p.unit)))) e ∙ go (room_of a (unit_state_at a.units p.target p.unit))
+guest : (a : Array) (policy : Policy) (p : Process) → is_request_sense (command_of p.cdb) ≡ true
+    → is_queued (arrival_if policy a (Some p)) ≡ false
+guest a policy p e =
+    ap (λ (q : Bool). is_queued (arrival_by policy q (room_of a (unit_state_at a.units p.target p.unit)))) e
+    ∙ go (room_of a (unit_state_at a.units p.target p.unit))
   where
     go : (r : Option Room) → is_queued (arrival_by policy true r) ≡ false
     go None = refl
@@ -82,14 +93,19 @@ guest a policy p e = ap (λ (q : Bool). is_queued (arrival_by policy q (room_of 
 
 -- Only reads and writes of blocks have more than one run.
 pub one_run : (policy : Policy) (t : Task) → t.blocks ≡ None → nat_lt (t.runs + 1) (runs_in_all policy t) ≡ false
-one_run policy t e = ap (λ (b : Option ℕ). nat_lt (t.runs + 1) (if t.moved == 0 then 0 else runs_in policy b)) e ∙ go (t.moved == 0)
+one_run policy t e =
+    ap (λ (b : Option ℕ). nat_lt (t.runs + 1) (if t.moved == 0 then 0 else runs_in policy b)) e ∙ go (t.moved == 0)
   where
     go : (q : Bool) → nat_lt (t.runs + 1) (if q then 0 else 1) ≡ false
     go true = grind (arith, nat_tests)
     go false = grind (arith, nat_tests)
 
-pub sense_stays : (s : ScenarioValue) (k : RunState) (dev : ℕ) → is_sense_item k.served ≡ true → Stays (serving_of s k dev) (phase_of (bus_of k))
-sense_stays s k dev e = record { arrives = λ z. ap (λ (x : Phase). is_queued (arrival_at s k dev x)) z ∙ arrives (process_served s k) own; runs = λ t f. runs (process_served s k) own t f }
+pub sense_stays : (s : ScenarioValue) (k : RunState) (dev : ℕ) → is_sense_item k.served ≡ true
+    → Stays (serving_of s k dev) (phase_of (bus_of k))
+sense_stays s k dev e = record {
+  arrives = λ z. ap (λ (x : Phase). is_queued (arrival_at s k dev x)) z ∙ arrives (process_served s k) own;
+  runs = λ t f. runs (process_served s k) own t f;
+}
   where
     of : (x : Option Item) → is_sense_item x ≡ true → (p : Process) → process_item s x ≡ Some p → p.cdb ≡ sense_block
     of None y p z = wrong' y
@@ -99,13 +115,18 @@ sense_stays s k dev e = record { arrives = λ z. ap (λ (x : Phase). is_queued (
     own : (p : Process) → process_served s k ≡ Some p → p.cdb ≡ sense_block
     own p z = of k.served e p z
 
-    arrives : (o : Option Process) → ((p : Process) → o ≡ Some p → p.cdb ≡ sense_block) → is_queued (arrival_if (policy_of (target_def_of s dev)) (array_of s k) o) ≡ false
+    arrives : (o : Option Process) → ((p : Process) → o ≡ Some p → p.cdb ≡ sense_block)
+        → is_queued (arrival_if (policy_of (target_def_of s dev)) (array_of s k) o) ≡ false
     arrives None f = refl
-    arrives (Some p) f = guest (array_of s k) (policy_of (target_def_of s dev)) p (ap (λ (c : List ℕ). is_request_sense (command_of c)) (f p refl))
+    arrives (Some p) f = guest (array_of s k) (policy_of (target_def_of s dev)) p
+        (ap (λ (c : List ℕ). is_request_sense (command_of c)) (f p refl))
 
-    runs : (o : Option Process) → ((p : Process) → o ≡ Some p → p.cdb ≡ sense_block) → (t : Task) → task_if s k o ≡ Some t → nat_lt (t.runs + 1) (runs_in_all (policy_of (target_def_of s dev)) t) ≡ false
+    runs : (o : Option Process) → ((p : Process) → o ≡ Some p → p.cdb ≡ sense_block) → (t : Task)
+        → task_if s k o ≡ Some t → nat_lt (t.runs + 1) (runs_in_all (policy_of (target_def_of s dev)) t) ≡ false
     runs None f t z = absurd (none_some t z)
-    runs (Some p) f t z = one_run (policy_of (target_def_of s dev)) t (sym (ap (λ (x : Option Task). (or_task t x).blocks) z) ∙ ap (λ (c : List ℕ). blocks_in (range_in (command_of c))) (f p refl))
+    runs (Some p) f t z =
+        one_run (policy_of (target_def_of s dev)) t (sym (ap (λ (x : Option Task). (or_task t x).blocks) z)
+        ∙ ap (λ (c : List ℕ). blocks_in (range_in (command_of c))) (f p refl))
       where
         or_task : Task → Option Task → Task
         or_task x None = x

@@ -24,7 +24,8 @@ abbrev AbortNone : List ℕ → List ℕ → Type 0
 AbortNone half [] = ⊤
 AbortNone half (b ∷ bytes) = NoAbort (whole_out (got_out (half ++ b ∷ []))) × AbortNone (next_half half b) bytes
 
-one_said : (m : MsgOut) (rest : List ℕ) → FitsOut m → is_abort m ≡ false → AbortNone [] rest → AbortNone [] (out_bytes m ++ rest)
+one_said : (m : MsgOut) (rest : List ℕ) → FitsOut m → is_abort m ≡ false → AbortNone [] rest
+    → AbortNone [] (out_bytes m ++ rest)
 unfolding form_out
 one_said (MsgOut.Identify disc lun) rest fits e h = go disc lun fits
   where
@@ -73,37 +74,55 @@ offer_said false h = tt
 offer_said true None = tt
 offer_said true (Some h) = go (h.offers && nat_lt 0 h.period)
   where
-    go : (q : Bool) → AbortNone [] (if q then out_bytes (MsgOut.Sdtr (record { period = h.period; offset = h.offset })) else [])
+    go : (q : Bool)
+        → AbortNone [] (if q then out_bytes (MsgOut.Sdtr (record { period = h.period; offset = h.offset })) else [])
     go true = alone_said (MsgOut.Sdtr (record { period = h.period; offset = h.offset })) tt refl
     go false = tt
 
-opening_said : (h : Option HostDef) (negotiates : Bool) (p : Process) → p.unit < 8 → AbortNone [] (process_opening h negotiates (Some p))
-opening_said h negotiates p lt = one_said (MsgOut.Identify (not p.id.sense) p.unit) (tag_bytes p.tag ++ offer_if negotiates h) lt refl (tag_said p.tag (offer_if negotiates h) (offer_said negotiates h))
+opening_said : (h : Option HostDef) (negotiates : Bool) (p : Process) → p.unit < 8
+    → AbortNone [] (process_opening h negotiates (Some p))
+opening_said h negotiates p lt = one_said (MsgOut.Identify (not p.id.sense) p.unit) (tag_bytes p.tag
+    ++ offer_if negotiates h) lt refl (tag_said p.tag (offer_if negotiates h) (offer_said negotiates h))
 
-words_said : (s : ScenarioValue) (n : Connection) (id : ProcId) (x : Exchange) (c : Cause) → AreUnits s → AreWordsFor s n (Some (process id)) x c → AbortNone [] x.speech.words
-words_said s n id x _ u (opens e) = subst (λ (w : List ℕ). AbortNone [] w) (sym e) (by_option (process_of s id) (λ f. subst (λ (y : Option Process). AbortNone [] (process_opening (host_of s n.initiator) x.plan.negotiates y)) (sym f) tt) (λ p f. subst (λ (y : Option Process). AbortNone [] (process_opening (host_of s n.initiator) x.plan.negotiates y)) (sym f) (opening_said (host_of s n.initiator) x.plan.negotiates p (process_unit s id p u f))))
-words_said s n id x _ u (refuses e) = subst (λ (w : List ℕ). AbortNone [] w) (sym e) (alone_said MsgOut.ParityError tt refl)
-words_said s n id x _ u (answers e) = subst (λ (w : List ℕ). AbortNone [] w) (sym e) (alone_said (MsgOut.Sdtr (host_answer (host_of s n.initiator) x.speech.asked)) tt refl)
-words_said s n id x _ u (rejects_data e) = subst (λ (w : List ℕ). AbortNone [] w) (sym e) (alone_said MsgOut.DetectedError tt refl)
-words_said s n id x _ u (rejects_status e) = subst (λ (w : List ℕ). AbortNone [] w) (sym e) (alone_said MsgOut.DetectedError tt refl)
+words_said : (s : ScenarioValue) (n : Connection) (id : ProcId) (x : Exchange) (c : Cause) → AreUnits s
+    → AreWordsFor s n (Some (process id)) x c → AbortNone [] x.speech.words
+words_said s n id x _ u (opens e) =
+    subst (λ (w : List ℕ). AbortNone [] w) (sym e) (by_option (process_of s id) (λ f. subst
+    (λ (y : Option Process). AbortNone [] (process_opening (host_of s n.initiator) x.plan.negotiates y)) (sym f) tt)
+    (λ p f. subst (λ (y : Option Process). AbortNone [] (process_opening (host_of s n.initiator) x.plan.negotiates y))
+    (sym f) (opening_said (host_of s n.initiator) x.plan.negotiates p (process_unit s id p u f))))
+words_said s n id x _ u (refuses e) =
+    subst (λ (w : List ℕ). AbortNone [] w) (sym e) (alone_said MsgOut.ParityError tt refl)
+words_said s n id x _ u (answers e) = subst (λ (w : List ℕ). AbortNone [] w) (sym e)
+    (alone_said (MsgOut.Sdtr (host_answer (host_of s n.initiator) x.speech.asked)) tt refl)
+words_said s n id x _ u (rejects_data e) =
+    subst (λ (w : List ℕ). AbortNone [] w) (sym e) (alone_said MsgOut.DetectedError tt refl)
+words_said s n id x _ u (rejects_status e) =
+    subst (λ (w : List ℕ). AbortNone [] w) (sym e) (alone_said MsgOut.DetectedError tt refl)
 
-said_at : (h : Understanding) (xs : List ℕ) (b : ℕ) (ys : List ℕ) → AbortNone h.half (xs ++ b ∷ ys) → NoAbort (whole_out (got_out ((understood h xs).half ++ b ∷ [])))
+said_at : (h : Understanding) (xs : List ℕ) (b : ℕ) (ys : List ℕ) → AbortNone h.half (xs ++ b ∷ ys)
+    → NoAbort (whole_out (got_out ((understood h xs).half ++ b ∷ [])))
 said_at h [] b ys e = e.0
 said_at h (x ∷ xs) b ys e = said_at (understood_byte h x) xs b ys e.1
 
 -- ---- a byte crosses
 
-half_is : (v : Speech) (p : Plan) (d : Dialogue) (h : AreWordsHeard v p d) → fresh_bytes d ≡ (understood nothing_understood h.before).half
+half_is : (v : Speech) (p : Plan) (d : Dialogue) (h : AreWordsHeard v p d)
+    → fresh_bytes d ≡ (understood nothing_understood h.before).half
 half_is v p d h = ap (λ (x : Understanding). x.half) h.anew
 
 -- Of a process it makes no abort.
-pub out_is_no_abort : (s : ScenarioValue) (n : Connection) (id : ProcId) (x : Exchange) (d : Dialogue) (byte : ℕ) → AreUnits s → IsSpeaking s n (Some (process id)) x d → byte ≡ next_word x.speech → NoAbort (whole_out (got_out (fresh_bytes d ++ byte ∷ [])))
+pub out_is_no_abort : (s : ScenarioValue) (n : Connection) (id : ProcId) (x : Exchange) (d : Dialogue) (byte : ℕ)
+    → AreUnits s → IsSpeaking s n (Some (process id)) x d → byte ≡ next_word x.speech
+    → NoAbort (whole_out (got_out (fresh_bytes d ++ byte ∷ [])))
 out_is_no_abort s n id x d byte u w e =
     let h = w.heard in
-    subst (λ (y : List ℕ). NoAbort (whole_out (got_out y))) (λ i. sym (half_is x.speech x.plan d h) i ++ sym (e ∙ says_byte x.speech x.plan d h) i ∷ [])
-    (said_at nothing_understood h.before h.byte h.rest (subst (λ (y : List ℕ). AbortNone [] y) h.words_are (words_said s n id x x.plan.cause u w.words_for)))
+    subst (λ (y : List ℕ). NoAbort (whole_out (got_out y))) (λ i. sym (half_is x.speech x.plan d h) i
+    ++ sym (e ∙ says_byte x.speech x.plan d h) i ∷ []) (said_at nothing_understood h.before h.byte h.rest
+    (subst (λ (y : List ℕ). AbortNone [] y) h.words_are (words_said s n id x x.plan.cause u w.words_for)))
 
-whole_some : (g : Got MsgOut) (bytes : List ℕ) (b : ℕ) → is_unknown (reading_out g) ≡ false → left_of g (bytes ++ b ∷ []) ≡ [] → is_some (whole_out g) ≡ true
+whole_some : (g : Got MsgOut) (bytes : List ℕ) (b : ℕ) → is_unknown (reading_out g) ≡ false
+    → left_of g (bytes ++ b ∷ []) ≡ [] → is_some (whole_out g) ≡ true
 whole_some (Whole m n) bytes b u e = refl
 whole_some More bytes b u e = absurd (some_left bytes e)
   where
@@ -113,7 +132,9 @@ whole_some More bytes b u e = absurd (some_left bytes e)
 whole_some Unknown bytes b u e = wrong u
 
 -- With the last one a message is whole.
-pub last_is_whole : (s : ScenarioValue) (n : Connection) (served : Option Item) (x : Exchange) (d : Dialogue) (byte : ℕ) → IsSpeaking s n served x d → byte ≡ next_word x.speech → attends_with x.speech ≡ false → is_some (whole_out (got_out (fresh_bytes d ++ byte ∷ []))) ≡ true
+pub last_is_whole : (s : ScenarioValue) (n : Connection) (served : Option Item) (x : Exchange) (d : Dialogue) (byte : ℕ)
+    → IsSpeaking s n served x d → byte ≡ next_word x.speech → attends_with x.speech ≡ false
+    → is_some (whole_out (got_out (fresh_bytes d ++ byte ∷ []))) ≡ true
 last_is_whole s n served x d byte w e last = go h.rest h.words_are (says_more x.speech x.plan d h)
   where
     h : AreWordsHeard x.speech x.plan d
@@ -123,17 +144,23 @@ last_is_whole s n served x d byte w e last = go h.rest h.words_are (says_more x.
     flip true z = wrong' z
     flip false z = refl
 
-    go : (rest : List ℕ) → x.speech.words ≡ h.before ++ h.byte ∷ rest → attends_with x.speech ≡ not (is_nil h.rest) → is_some (whole_out (got_out (fresh_bytes d ++ byte ∷ []))) ≡ true
+    go : (rest : List ℕ) → x.speech.words ≡ h.before ++ h.byte ∷ rest → attends_with x.speech ≡ not (is_nil h.rest)
+        → is_some (whole_out (got_out (fresh_bytes d ++ byte ∷ []))) ≡ true
     go rest words more = by h.rest refl
       where
         by : (r : List ℕ) → h.rest ≡ r → is_some (whole_out (got_out (fresh_bytes d ++ byte ∷ []))) ≡ true
         by (c ∷ r) er = wrong (sym (more ∙ ap (λ (y : List ℕ). not (is_nil y)) er) ∙ last)
         by [] er =
-            let all : x.speech.words ≡ h.before ++ h.byte ∷ [] = h.words_are ∙ ap (λ (y : List ℕ). h.before ++ h.byte ∷ y) er in
+            let all : x.speech.words ≡ h.before ++ h.byte ∷ [] = h.words_are
+            ∙ ap (λ (y : List ℕ). h.before ++ h.byte ∷ y) er in
             let half = (understood nothing_understood h.before).half in
-            let same : half ++ h.byte ∷ [] ≡ fresh_bytes d ++ byte ∷ [] = λ i. sym (half_is x.speech x.plan d h) i ++ sym (e ∙ says_byte x.speech x.plan d h) i ∷ [] in
-            let known = flip (is_unknown (reading_out (got_out (half ++ h.byte ∷ [])))) (reads_at nothing_understood h.before h.byte [] (ap (form_messages nothing_understood) (sym all) ∙ w.whole)) in
+            let same : half ++ h.byte ∷ [] ≡ fresh_bytes d ++ byte ∷ [] = λ i. sym (half_is x.speech x.plan d h) i
+            ++ sym (e ∙ says_byte x.speech x.plan d h) i ∷ [] in
+            let known = flip (is_unknown (reading_out (got_out (half ++ h.byte ∷ [])))) (reads_at
+            nothing_understood h.before h.byte [] (ap (form_messages nothing_understood) (sym all) ∙ w.whole)) in
             let left : left_of (got_out (half ++ h.byte ∷ [])) (half ++ h.byte ∷ []) ≡ [] =
             ap (λ (y : Understanding). y.half) (sym (understood_append nothing_understood h.before (h.byte ∷ [])))
-            ∙ reads_end nothing_understood (h.before ++ h.byte ∷ []) (ap (form_messages nothing_understood) (sym all) ∙ w.whole) in
-            ap (λ (y : List ℕ). is_some (whole_out (got_out y))) (sym same) ∙ whole_some (got_out (half ++ h.byte ∷ [])) half h.byte known left
+            ∙ reads_end nothing_understood (h.before ++ h.byte ∷ [])
+            (ap (form_messages nothing_understood) (sym all) ∙ w.whole) in
+            ap (λ (y : List ℕ). is_some (whole_out (got_out y))) (sym same)
+            ∙ whole_some (got_out (half ++ h.byte ∷ [])) half h.byte known left

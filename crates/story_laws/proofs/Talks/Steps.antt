@@ -19,14 +19,16 @@ pub record Alternates (b a : LineSet) : Type 0 where
   pub answers : rises b.ack a.ack ≡ true → b.req ≡ true
   pub ends_answer : falls b.ack a.ack ≡ true → not b.req ≡ true
 
-none_awaits : (r a r' a' : Bool) → (r && not a) ≡ false → rises r r' ≡ false → (falls a a' ≡ true → not r ≡ true) → (r' && not a') ≡ false
+none_awaits : (r a r' a' : Bool) → (r && not a) ≡ false → rises r r' ≡ false
+    → (falls a a' ≡ true → not r ≡ true) → (r' && not a') ≡ false
 none_awaits r a false a' e q f = refl
 none_awaits r a true true e q f = refl
 none_awaits false a true false e q f = wrong q
 none_awaits true false true false e q f = wrong e
 none_awaits true true true false e q f = wrong' (f refl)
 
-still_awaits : (r a r' a' : Bool) → (r && not a) ≡ true → rises a a' ≡ false → (falls r r' ≡ true → a ≡ true) → (r' && not a') ≡ true
+still_awaits : (r a r' a' : Bool) → (r && not a) ≡ true → rises a a' ≡ false
+    → (falls r r' ≡ true → a ≡ true) → (r' && not a') ≡ true
 still_awaits true false true false e q f = refl
 still_awaits true false true true e q f = wrong q
 still_awaits true false false a' e q f = wrong' (f refl)
@@ -42,19 +44,23 @@ pub record Completes (l : Link) (b a : LineSet) : Type 0 where
   pub calm : a.atn ≡ false
   pub answered : a.ack ≡ true
 
-pub record StaysPhase (n : Connection) (l : Link) (t : Talk) (b : LineSet) (requests : ℕ) (over : List Item) : Type 0 where
+pub record StaysPhase (n : Connection) (l : Link) (t : Talk) (b : LineSet) (requests : ℕ) (over : List Item) : Type
+    0 where
   pub in_same : is_message_in b ≡ is_message_in t.bus
   pub out_same : is_message_out b ≡ is_message_out t.bus
   pub requests_are : is_message_in t.bus ≡ true → requests ≡ t.requests
   pub over_by : (i : Item) → has_item over i ≡ true → (has_item t.over i ≡ true) ⊎ Completes l t.bus b
   pub grows : (i : Item) → has_item t.over i ≡ true → has_item over i ≡ true
-  pub ends : n.reselected ≡ false → is_complete l.last ≡ true → is_message_in t.bus ≡ true → rises t.bus.ack b.ack ≡ true → b.atn ≡ false → (id : ProcId) → t.served ≡ Some (process id) → has_item over (process id) ≡ true
+  pub ends : n.reselected ≡ false → is_complete l.last ≡ true → is_message_in t.bus ≡ true
+      → rises t.bus.ack b.ack ≡ true → b.atn ≡ false → (id : ProcId) → t.served ≡ Some (process id)
+      → has_item over (process id) ≡ true
   pub attends : is_message_in t.bus ≡ true → awaits t.bus ≡ false → b.atn ≡ t.bus.atn
   pub alternates : is_message_in t.bus ≡ true → Alternates t.bus b
   pub quiet : is_message_in t.bus ≡ true → rises t.bus.req b.req ≡ false
 
 -- What names a process goes on to do so where the messages and the unit still do.
-named_as : (s : ScenarioValue) (t u : Talk) (n : Connection) (l m : Link) → u.served ≡ t.served → (k : HasNames s t n l) → OnMessages (IsNameOf k.named) u.messages → (m.unit ≡ k.named.unit) ⊎ IsUnnamed u k.named → HasNames s u n m
+named_as : (s : ScenarioValue) (t u : Talk) (n : Connection) (l m : Link) → u.served ≡ t.served → (k : HasNames s t n l)
+    → OnMessages (IsNameOf k.named) u.messages → (m.unit ≡ k.named.unit) ⊎ IsUnnamed u k.named → HasNames s u n m
 named_as s t u n l m same k messages unit = record {
   named = k.named;
   served_is = same ∙ k.served_is;
@@ -66,7 +72,10 @@ named_as s t u n l m same k messages unit = record {
   unit = unit;
 }
 
-pub stays_by : (s : ScenarioValue) (t : Talk) (n : Connection) (l : Link) (b : LineSet) (requests : ℕ) (over : List Item) → StaysPhase n l t b requests over → TalksBy s t n l → TalksBy s (record t { bus = b; requests = requests; over = over }) n l
+pub stays_by :
+    (s : ScenarioValue) (t : Talk) (n : Connection) (l : Link) (b : LineSet) (requests : ℕ) (over : List Item)
+    → StaysPhase n l t b requests over → TalksBy s t n l
+    → TalksBy s (record t { bus = b; requests = requests; over = over }) n l
 stays_by s t n l b requests over w h = record {
   planned = h.planned;
   last = h.last;
@@ -81,13 +90,15 @@ stays_by s t n l b requests over w h = record {
     u = record t { bus = b; requests = requests; over = over }
 
     taken : IsTaken t → IsTaken u
-    taken k = record { here = w.in_same ∙ k.here; begun = k.begun; next_is = k.next_is; all = w.requests_are k.here ∙ k.all }
+    taken k =
+        record { here = w.in_same ∙ k.here; begun = k.begun; next_is = k.next_is; all = w.requests_are k.here ∙ k.all }
 
     ended : HasEnded t → HasEnded u
     ended k = record {
       taken = taken k.taken;
       calm = w.attends k.taken.here k.answered ∙ k.calm;
-      answered = none_awaits t.bus.req t.bus.ack b.req b.ack k.answered (w.quiet k.taken.here) (w.alternates k.taken.here).ends_answer;
+      answered = none_awaits t.bus.req t.bus.ack b.req b.ack k.answered (w.quiet k.taken.here)
+          (w.alternates k.taken.here).ends_answer;
     }
 
     and_not : (q : Bool) → (q && not true) ≡ false
@@ -100,22 +111,36 @@ stays_by s t n l b requests over w h = record {
       | inr k ↦ not_both t.bus z.here k.0
     ]
 
-    closing : n.reselected ≡ false → is_complete l.last ≡ true → is_message_in t.bus ≡ true → (id : ProcId) → t.served ≡ Some (process id) → (has_item over (process id) ≡ true) ⊎ ((b.atn ≡ true) ⊎ (awaits b ≡ true))
+    closing : n.reselected ≡ false → is_complete l.last ≡ true → is_message_in t.bus ≡ true → (id : ProcId)
+        → t.served ≡ Some (process id) → (has_item over (process id) ≡ true) ⊎ ((b.atn ≡ true) ⊎ (awaits b ≡ true))
     closing rs z here id e = go (awaits t.bus) refl (h.closes rs z here id e)
       where
-        answer : (q : Bool) → rises t.bus.ack b.ack ≡ q → (r : Bool) → b.atn ≡ r → awaits t.bus ≡ true → (has_item over (process id) ≡ true) ⊎ ((b.atn ≡ true) ⊎ (awaits b ≡ true))
+        answer : (q : Bool) → rises t.bus.ack b.ack ≡ q → (r : Bool) → b.atn ≡ r → awaits t.bus ≡ true
+            → (has_item over (process id) ≡ true) ⊎ ((b.atn ≡ true) ⊎ (awaits b ≡ true))
         answer true x true y a = inr (inl y)
         answer true x false y a = inl (w.ends rs z here x y id e)
-        answer false x r y a = inr (inr (still_awaits t.bus.req t.bus.ack b.req b.ack a x (w.alternates here).ends_asking))
+        answer false x r y a =
+            inr (inr (still_awaits t.bus.req t.bus.ack b.req b.ack a x (w.alternates here).ends_asking))
 
-        go : (q : Bool) → awaits t.bus ≡ q → (has_item t.over (process id) ≡ true) ⊎ ((t.bus.atn ≡ true) ⊎ (awaits t.bus ≡ true)) → (has_item over (process id) ≡ true) ⊎ ((b.atn ≡ true) ⊎ (awaits b ≡ true))
+        go : (q : Bool) → awaits t.bus ≡ q
+            → (has_item t.over (process id) ≡ true) ⊎ ((t.bus.atn ≡ true) ⊎ (awaits t.bus ≡ true))
+            → (has_item over (process id) ≡ true) ⊎ ((b.atn ≡ true) ⊎ (awaits b ≡ true))
         go q x (inl y) = inl (w.grows (process id) y)
         go true x (inr y) = answer (rises t.bus.ack b.ack) refl b.atn refl x
         go false x (inr (inl y)) = inr (inl (w.attends here x ∙ y))
         go false x (inr (inr y)) = wrong (sym y ∙ x)
 
     naming : HasNames s t n l → HasNames s u n l
-    naming k = named_as s t u n l l refl k k.messages (elim k.unit [ inl e ↦ inl e | inr v ↦ inr (record { here = w.in_same ∙ v.here; begun = v.begun; none_asked = w.requests_are v.here ∙ v.none_asked; first = v.first; small = v.small }) ])
+    naming k = named_as s t u n l l refl k k.messages (elim k.unit [
+      | inl e ↦ inl e
+      | inr v ↦ inr (record {
+        here = w.in_same ∙ v.here;
+        begun = v.begun;
+        none_asked = w.requests_are v.here ∙ v.none_asked;
+        first = v.first;
+        small = v.small;
+      })
+    ])
 
 -- ---- a byte of MESSAGE IN crosses
 
@@ -128,17 +153,22 @@ pub record CrossesIn (t : Talk) (b : LineSet) (requests : ℕ) : Type 0 where
   pub waits : awaits b ≡ true
 
 -- Nothing is complete, or over, while one is to come.
-pub incomplete : (s : ScenarioValue) (t : Talk) (n : Connection) (l : Link) (b : LineSet) (requests : ℕ) → CrossesIn t b requests → TalksBy s t n l → is_complete l.last ≡ false
-incomplete s t n l b requests w h =
-    by_bool (is_complete l.last)
-    (λ e. elim (h.completes e) [ inl k ↦ less_apart t.requests (length (bytes_of_messages t.messages)) w.more k.all | inr k ↦ not_both t.bus w.here k.0 ])
-    (λ e. e)
+pub incomplete : (s : ScenarioValue) (t : Talk) (n : Connection) (l : Link) (b : LineSet) (requests : ℕ)
+    → CrossesIn t b requests → TalksBy s t n l → is_complete l.last ≡ false
+incomplete s t n l b requests w h = by_bool (is_complete l.last) (λ e. elim (h.completes e) [
+  | inl k ↦ less_apart t.requests (length (bytes_of_messages t.messages)) w.more k.all
+  | inr k ↦ not_both t.bus w.here k.0
+]) (λ e. e)
 
-pub unended : {A : Type 0} (s : ScenarioValue) (t : Talk) (n : Connection) (l : Link) (b : LineSet) (requests : ℕ) → CrossesIn t b requests → TalksBy s t n l → (i : Item) → t.served ≡ Some i → has_item t.over i ≡ true → A
-unended s t n l b requests w h i e f = less_apart t.requests (length (bytes_of_messages t.messages)) w.more (h.over i e f).taken.all
+pub unended : {A : Type 0} (s : ScenarioValue) (t : Talk) (n : Connection) (l : Link) (b : LineSet) (requests : ℕ)
+    → CrossesIn t b requests → TalksBy s t n l → (i : Item) → t.served ≡ Some i → has_item t.over i ≡ true → A
+unended s t n l b requests w h i e f =
+    less_apart t.requests (length (bytes_of_messages t.messages)) w.more (h.over i e f).taken.all
 
 -- No message is whole with it.
-pub in_part : (s : ScenarioValue) (t : Talk) (n : Connection) (l : Link) (b : LineSet) (requests : ℕ) → CrossesIn t b requests → ((p : Process) → IsUnnamed t p → ⊥) → TalksBy s t n l → TalksBy s (record t { bus = b; requests = requests }) n l
+pub in_part : (s : ScenarioValue) (t : Talk) (n : Connection) (l : Link) (b : LineSet) (requests : ℕ)
+    → CrossesIn t b requests → ((p : Process) → IsUnnamed t p → ⊥) → TalksBy s t n l
+    → TalksBy s (record t { bus = b; requests = requests }) n l
 in_part s t n l b requests w none h = record {
   planned = h.planned;
   last = h.last;
@@ -150,12 +180,14 @@ in_part s t n l b requests w none h = record {
 }
   where
     naming : HasNames s t n l → HasNames s (record t { bus = b; requests = requests }) n l
-    naming k = named_as s t (record t { bus = b; requests = requests }) n l l refl k k.messages (elim k.unit [ inl e ↦ inl e | inr v ↦ absurd (none k.named v) ])
+    naming k = named_as s t (record t { bus = b; requests = requests }) n l l refl k k.messages
+        (elim k.unit [ inl e ↦ inl e | inr v ↦ absurd (none k.named v) ])
 
 -- A message is whole with it: one of those that are planned.
 pub record HearsWell (t : Talk) (m : MsgIn) : Type 0 where
   pub stays : is_sense_item t.served ≡ true → is_disconnect_in (Some m) ≡ false
-  pub completes : is_complete_in (Some m) ≡ true → (frees_bus t.next ≡ true) × (length (bytes_of_messages t.messages) ≡ 1)
+  pub completes : is_complete_in (Some m) ≡ true
+      → (frees_bus t.next ≡ true) × (length (bytes_of_messages t.messages) ≡ 1)
   pub names : (p : Process) → OnMessages (IsNameOf p) t.messages → IsNameOf p m
   pub first : (p : Process) → IsUnnamed t p → m ≡ MsgIn.Identify p.unit
 
@@ -168,26 +200,43 @@ stays_in MsgIn.Disconnect e = wrong e
 stays_in _ e = refl
 
 -- Of an automatic REQUEST SENSE the last message is plain, where it is not COMMAND COMPLETE.
-pub plain_last : (sense : Bool) (l : Link) → last_well sense l ≡ true → sense ≡ true → (is_plain l.before ≡ true) × ((is_plain l.last || is_complete l.last) ≡ true)
-plain_last true l e f = and_parts (is_plain l.before) (is_plain l.last || is_complete l.last) (and_parts (not (is_complete l.before)) (is_plain l.before && (is_plain l.last || is_complete l.last)) e).1
+pub plain_last : (sense : Bool) (l : Link) → last_well sense l ≡ true → sense ≡ true
+    → (is_plain l.before ≡ true) × ((is_plain l.last || is_complete l.last) ≡ true)
+plain_last true l e f = and_parts (is_plain l.before) (is_plain l.last || is_complete l.last)
+    (and_parts (not (is_complete l.before)) (is_plain l.before && (is_plain l.last || is_complete l.last)) e).1
 plain_last false l e f = wrong' f
 
-make_last : (sense : Bool) (l : Link) → is_complete l.before ≡ false → (sense ≡ true → (is_plain l.before ≡ true) × ((is_plain l.last || is_complete l.last) ≡ true)) → last_well sense l ≡ true
+make_last : (sense : Bool) (l : Link) → is_complete l.before ≡ false
+    → (sense ≡ true → (is_plain l.before ≡ true) × ((is_plain l.last || is_complete l.last) ≡ true))
+    → last_well sense l ≡ true
 make_last true l e f = let w = f refl in λ i. not (e i) && (false || (w.0 i && w.1 i))
 make_last false l e f = (λ i. not (e i) && true)
 
 small_count : (a : ℕ) → a < 1 → counted_on a ≡ 1
 small_count a lt = let e : a ≡ 0 = omega (arith, lt) in ap counted_on e
 
-pub heard_unit : (s : ScenarioValue) (b : Sent) (l : Link) (m : MsgIn) (p : Process) → l.unit ≡ p.unit → IsNameOf p m → (link_after_name b s.commands l m).unit ≡ p.unit
+pub heard_unit : (s : ScenarioValue) (b : Sent) (l : Link) (m : MsgIn) (p : Process) → l.unit ≡ p.unit → IsNameOf p m
+    → (link_after_name b s.commands l m).unit ≡ p.unit
 heard_unit s b l (MsgIn.Identify lun) p e f = f
 heard_unit s b l _ p e f = e
 
-pub in_whole : (s : ScenarioValue) (story : Story) (t : Talk) (n : Connection) (l : Link) (m : MsgIn) (b : LineSet) (requests : ℕ) → CrossesIn t b requests → HearsWell t m → TalksBy s t n l → TalksBy s (record t { bus = b; requests = requests }) n (heard_link s story l m)
+pub in_whole :
+    (s : ScenarioValue) (story : Story) (t : Talk) (n : Connection) (l : Link) (m : MsgIn) (b : LineSet) (requests : ℕ)
+    → CrossesIn t b requests → HearsWell t m → TalksBy s t n l
+    → TalksBy s (record t { bus = b; requests = requests }) n (heard_link s story l m)
 in_whole s story t n l m b requests w hears h = record {
   planned = h.planned;
-  last = make_last (is_sense_item t.served) (heard_link s story l m) before (λ z. let k = plain_last (is_sense_item t.served) l h.last z in (or_first (is_plain l.last) (is_complete l.last) k.1 before, stays_in m (hears.stays z)));
-  completes = λ z. let k = hears.completes (complete_is m z) in inl (record { here = w.in_same; begun = w.begun; next_is = k.0; all = w.requests_are ∙ small_count t.requests (subst (λ (x : ℕ). t.requests < x) k.1 w.more) ∙ sym k.1 });
+  last = make_last (is_sense_item t.served) (heard_link s story l m) before
+      (λ z. let k = plain_last (is_sense_item t.served) l h.last z in
+      (or_first (is_plain l.last) (is_complete l.last) k.1 before, stays_in m (hears.stays z)));
+  completes = λ z.
+      let k = hears.completes (complete_is m z) in
+      inl (record {
+        here = w.in_same;
+        begun = w.begun;
+        next_is = k.0;
+        all = w.requests_are ∙ small_count t.requests (subst (λ (x : ℕ). t.requests < x) k.1 w.more) ∙ sym k.1;
+      });
   over = λ i e f. unended s t n l b requests w h i e f;
   closes = λ rs z here id e. inr (inr w.waits);
   selected = h.selected;
@@ -198,21 +247,29 @@ in_whole s story t n l m b requests w hears h = record {
     before = incomplete s t n l b requests w h
 
     naming : HasNames s t n l → HasNames s (record t { bus = b; requests = requests }) n (heard_link s story l m)
-    naming k = named_as s t (record t { bus = b; requests = requests }) n l (heard_link s story l m) refl k k.messages (inl (elim k.unit [
-      | inl e ↦ heard_unit s story.sent l m k.named e (hears.names k.named k.messages)
-      | inr v ↦ ap (λ (x : MsgIn). (link_after_name story.sent s.commands l x).unit) (hears.first k.named v)
-    ]))
+    naming k = named_as s t (record t { bus = b; requests = requests }) n l (heard_link s story l m) refl k k.messages
+        (inl (elim k.unit [
+          | inl e ↦ heard_unit s story.sent l m k.named e (hears.names k.named k.messages)
+          | inr v ↦ ap (λ (x : MsgIn). (link_after_name story.sent s.commands l x).unit) (hears.first k.named v)
+        ]))
 
 -- ---- a byte of MESSAGE OUT crosses
 
-out_closed : {A : Type 0} (s : ScenarioValue) (t : Talk) (n : Connection) (l : Link) → is_message_out t.bus ≡ true → TalksBy s t n l → (i : Item) → t.served ≡ Some i → has_item t.over i ≡ true → A
+out_closed : {A : Type 0} (s : ScenarioValue) (t : Talk) (n : Connection) (l : Link) → is_message_out t.bus ≡ true
+    → TalksBy s t n l → (i : Item) → t.served ≡ Some i → has_item t.over i ≡ true → A
 out_closed s t n l out h i e f = not_both t.bus (h.over i e f).taken.here out
 
-out_named : (s : ScenarioValue) (t : Talk) (n : Connection) (l m : Link) (b : LineSet) (requests : ℕ) (last : Bool) → is_message_out t.bus ≡ true → m.unit ≡ l.unit → HasNames s t n l → HasNames s (record t { bus = b; requests = requests; is_last = last }) n m
-out_named s t n l m b requests last out same k = named_as s t (record t { bus = b; requests = requests; is_last = last }) n l m refl k k.messages (elim k.unit [ inl e ↦ inl (same ∙ e) | inr v ↦ not_both t.bus v.here out ])
+out_named : (s : ScenarioValue) (t : Talk) (n : Connection) (l m : Link) (b : LineSet) (requests : ℕ) (last : Bool)
+    → is_message_out t.bus ≡ true → m.unit ≡ l.unit → HasNames s t n l
+    → HasNames s (record t { bus = b; requests = requests; is_last = last }) n m
+out_named s t n l m b requests last out same k = named_as s t
+    (record t { bus = b; requests = requests; is_last = last }) n l m refl k k.messages
+    (elim k.unit [ inl e ↦ inl (same ∙ e) | inr v ↦ not_both t.bus v.here out ])
 
 -- No message is whole with it; after the last byte one is.
-pub out_part : (s : ScenarioValue) (t : Talk) (n : Connection) (l : Link) (b : LineSet) (requests : ℕ) (last : Bool) → is_message_out t.bus ≡ true → is_message_out b ≡ true → last ≡ false → TalksBy s t n l → TalksBy s (record t { bus = b; requests = requests; is_last = last }) n l
+pub out_part : (s : ScenarioValue) (t : Talk) (n : Connection) (l : Link) (b : LineSet) (requests : ℕ) (last : Bool)
+    → is_message_out t.bus ≡ true → is_message_out b ≡ true → last ≡ false → TalksBy s t n l
+    → TalksBy s (record t { bus = b; requests = requests; is_last = last }) n l
 out_part s t n l b requests last out out' unfinished h = record {
   planned = h.planned;
   last = h.last;
@@ -223,7 +280,8 @@ out_part s t n l b requests last out out' unfinished h = record {
   names = λ r. out_named s t n l l b requests last out refl (h.names r);
 }
 
-out_plain : (m : MsgOut) (l : Link) → is_plain l.before ≡ true → is_abort m ≡ false → (is_plain (last_out m l) || is_complete (last_out m l)) ≡ true
+out_plain : (m : MsgOut) (l : Link) → is_plain l.before ≡ true → is_abort m ≡ false
+    → (is_plain (last_out m l) || is_complete (last_out m l)) ≡ true
 out_plain MsgOut.Abort l e f = wrong f
 out_plain MsgOut.AbortTag l e f = wrong f
 out_plain MsgOut.ClearQueue l e f = wrong f
@@ -232,12 +290,18 @@ out_plain MsgOut.ParityError l e f = λ i. e i || is_complete l.before
 out_plain _ l e f = refl
 
 pub last_before : (sense : Bool) (l : Link) → last_well sense l ≡ true → is_complete l.before ≡ false
-last_before sense l e = not-true (is_complete l.before) (and_parts (not (is_complete l.before)) (not sense || (is_plain l.before && (is_plain l.last || is_complete l.last))) e).0
+last_before sense l e = not-true (is_complete l.before) (and_parts (not (is_complete l.before))
+    (not sense || (is_plain l.before && (is_plain l.last || is_complete l.last))) e).0
 
-pub out_whole : (s : ScenarioValue) (t : Talk) (n : Connection) (l : Link) (m : MsgOut) (b : LineSet) (requests : ℕ) (last : Bool) → is_message_out t.bus ≡ true → is_message_out b ≡ true → (is_sense_item t.served ≡ true → is_abort m ≡ false) → TalksBy s t n l → TalksBy s (record t { bus = b; requests = requests; is_last = last }) n (record l { last = last_out m l })
+pub out_whole :
+    (s : ScenarioValue) (t : Talk) (n : Connection) (l : Link) (m : MsgOut) (b : LineSet) (requests : ℕ) (last : Bool)
+    → is_message_out t.bus ≡ true → is_message_out b ≡ true
+    → (is_sense_item t.served ≡ true → is_abort m ≡ false) → TalksBy s t n l
+    → TalksBy s (record t { bus = b; requests = requests; is_last = last }) n (record l { last = last_out m l })
 out_whole s t n l m b requests last out out' whole h = record {
   planned = h.planned;
-  last = make_last (is_sense_item t.served) (record l { last = last_out m l }) before (λ z. let k = plain_last (is_sense_item t.served) l h.last z in (k.0, out_plain m l k.0 (whole z)));
+  last = make_last (is_sense_item t.served) (record l { last = last_out m l }) before
+      (λ z. let k = plain_last (is_sense_item t.served) l h.last z in (k.0, out_plain m l k.0 (whole z)));
   completes = λ z. wrong (sym z ∙ out_last m l before);
   over = λ i e f. out_closed s t n l out h i e f;
   closes = λ rs z here id e. not_both b here out';
@@ -250,7 +314,9 @@ out_whole s t n l m b requests last out out' whole h = record {
 
 -- ---- a byte of another phase crosses
 
-pub other_crosses : (s : ScenarioValue) (t : Talk) (n : Connection) (l : Link) (b : LineSet) (requests : ℕ) → is_message_in t.bus ≡ false → is_message_out t.bus ≡ false → is_message_in b ≡ false → TalksBy s t n l → TalksBy s (record t { bus = b; requests = requests }) n l
+pub other_crosses : (s : ScenarioValue) (t : Talk) (n : Connection) (l : Link) (b : LineSet) (requests : ℕ)
+    → is_message_in t.bus ≡ false → is_message_out t.bus ≡ false → is_message_in b ≡ false → TalksBy s t n l
+    → TalksBy s (record t { bus = b; requests = requests }) n l
 other_crosses s t n l b requests ein eout ein' h = record {
   planned = h.planned;
   last = h.last;
@@ -262,7 +328,8 @@ other_crosses s t n l b requests ein eout ein' h = record {
 }
   where
     naming : HasNames s t n l → HasNames s (record t { bus = b; requests = requests }) n l
-    naming k = named_as s t (record t { bus = b; requests = requests }) n l l refl k k.messages (elim k.unit [ inl e ↦ inl e | inr v ↦ wrong (sym v.here ∙ ein) ])
+    naming k = named_as s t (record t { bus = b; requests = requests }) n l l refl k k.messages
+        (elim k.unit [ inl e ↦ inl e | inr v ↦ wrong (sym v.here ∙ ein) ])
 
 -- ---- the phase changes
 
@@ -273,7 +340,9 @@ pub record TurnsTo (t : Talk) (l : Link) (b : LineSet) (messages : Messages) (ne
   pub names : (p : Process) → OnMessages (IsNameOf p) t.messages → OnMessages (IsNameOf p) messages
   pub named : (p : Process) → IsUnnamed t p → ⊥
 
-pub turns_by : (s : ScenarioValue) (t : Talk) (n : Connection) (l : Link) (b : LineSet) (messages : Messages) (next : Next) (requests : ℕ) → TurnsTo t l b messages next → TalksBy s t n l → TalksBy s (record t { messages = messages; next = next; begun = true; bus = b; requests = requests; is_last = false }) n l
+pub turns_by : (s : ScenarioValue) (t : Talk) (n : Connection) (l : Link) (b : LineSet) (messages : Messages)
+    (next : Next) (requests : ℕ) → TurnsTo t l b messages next → TalksBy s t n l → TalksBy s
+    (record t { messages = messages; next = next; begun = true; bus = b; requests = requests; is_last = false }) n l
 turns_by s t n l b messages next requests w h = record {
   planned = w.planned;
   last = h.last;
@@ -287,5 +356,8 @@ turns_by s t n l b messages next requests w h = record {
     out : is_complete l.last ≡ true → is_message_out b ≡ true
     out z = elim (h.completes z) [ inl k ↦ (w.taken k).1 | inr k ↦ wrong (sym (w.said k.0) ∙ k.1) ]
 
-    naming : HasNames s t n l → HasNames s (record t { messages = messages; next = next; begun = true; bus = b; requests = requests; is_last = false }) n l
-    naming k = named_as s t (record t { messages = messages; next = next; begun = true; bus = b; requests = requests; is_last = false }) n l l refl k (w.names k.named k.messages) (elim k.unit [ inl e ↦ inl e | inr v ↦ absurd (w.named k.named v) ])
+    naming : HasNames s t n l → HasNames s
+        (record t { messages = messages; next = next; begun = true; bus = b; requests = requests; is_last = false }) n l
+    naming k = named_as s t
+        (record t { messages = messages; next = next; begun = true; bus = b; requests = requests; is_last = false }) n l
+        l refl k (w.names k.named k.messages) (elim k.unit [ inl e ↦ inl e | inr v ↦ absurd (w.named k.named v) ])

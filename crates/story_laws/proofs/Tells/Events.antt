@@ -38,26 +38,38 @@ some_settled : (x : Option Array) → is_some (settled_array_if x) ≡ is_some x
 some_settled None = refl
 some_settled (Some a) = refl
 
-queued : (id : ProcId) (policy : Policy) (a : Array) (p : Process) (u : UnitState) → (if is_some (queue_step a p u) then Event.Accept id else Event.Refuse id) ≡ arrival_event id (arrival_in policy (record { full = not (nat_lt (process_count u) u.depth); idle = is_idle_unit a u }))
+queued : (id : ProcId) (policy : Policy) (a : Array) (p : Process) (u : UnitState)
+    → (if is_some (queue_step a p u) then Event.Accept id else Event.Refuse id) ≡ arrival_event id
+    (arrival_in policy (record { full = not (nat_lt (process_count u) u.depth); idle = is_idle_unit a u }))
 queued id policy a p u = go (nat_lt (process_count u) u.depth) (is_never policy && is_idle_unit a u)
   where
-    go : (q r : Bool) → (if is_some (if q then Some (record a { units = with_unit a.units (record u { waiting = u.waiting ++ p ∷ [] }) }) else None) then Event.Accept id else Event.Refuse id) ≡ arrival_event id (if not q then Arrival.Refused else if r then Arrival.AtOnce else Arrival.Queued)
+    go : (q r : Bool) → (if is_some (if q then Some (record a {
+      units = with_unit a.units (record u { waiting = u.waiting ++ p ∷ [] });
+    }) else None) then Event.Accept id else Event.Refuse id)
+        ≡ arrival_event id (if not q then Arrival.Refused else if r then Arrival.AtOnce else Arrival.Queued)
     go true true = refl
     go true false = refl
     go false r = refl
 
-accepts : (id : ProcId) (policy : Policy) (a : Array) (p : Process) (x : Option UnitState) → (if is_some (accept_step_at a p x) then Event.Accept id else Event.Refuse id) ≡ arrival_event id (arrival_by policy (is_request_sense (command_of p.cdb)) (room_of a x))
+accepts : (id : ProcId) (policy : Policy) (a : Array) (p : Process) (x : Option UnitState)
+    → (if is_some (accept_step_at a p x) then Event.Accept id else Event.Refuse id)
+    ≡ arrival_event id (arrival_by policy (is_request_sense (command_of p.cdb)) (room_of a x))
 accepts id policy a p None = refl
 accepts id policy a p (Some u) = go (is_request_sense (command_of p.cdb))
   where
-    go : (q : Bool) → (if is_some (if q then Some (with_guest a p None) else queue_step a p u) then Event.Accept id else Event.Refuse id) ≡ arrival_event id (if q then Arrival.Guest else arrival_in policy (record { full = not (nat_lt (process_count u) u.depth); idle = is_idle_unit a u }))
+    go : (q : Bool) → (if is_some (if q then Some (with_guest a p None) else queue_step a p u) then Event.Accept id
+        else Event.Refuse id) ≡ arrival_event id (if q then Arrival.Guest
+        else arrival_in policy (record { full = not (nat_lt (process_count u) u.depth); idle = is_idle_unit a u }))
     go true = refl
     go false = queued id policy a p u
 
-pub arrives : (s : ScenarioValue) (id : ProcId) (policy : Policy) (a : Array) (p : Process) → process_of s id ≡ Some p → (if is_some (array_step s (Event.Accept id) (Some a)) then Event.Accept id else Event.Refuse id) ≡ arrival_event id (arrival_if policy a (Some p))
+pub arrives : (s : ScenarioValue) (id : ProcId) (policy : Policy) (a : Array) (p : Process) → process_of s id ≡ Some p
+    → (if is_some (array_step s (Event.Accept id) (Some a)) then Event.Accept id else Event.Refuse id)
+    ≡ arrival_event id (arrival_if policy a (Some p))
 arrives s id policy a p e =
     (λ i. if is_some (settled_array_if (accept_step a (e i))) then Event.Accept id else Event.Refuse id)
-    ∙ ap (λ (q : Bool). if q then Event.Accept id else Event.Refuse id) (some_settled (accept_step_at a p (unit_state_at a.units p.target p.unit)))
+    ∙ ap (λ (q : Bool). if q then Event.Accept id else Event.Refuse id)
+    (some_settled (accept_step_at a p (unit_state_at a.units p.target p.unit)))
     ∙ accepts id policy a p (unit_state_at a.units p.target p.unit)
 
 -- ---- the first STATUS phase
@@ -65,11 +77,16 @@ arrives s id policy a p e =
 pub is_refusing : List Event → Bool
 is_refusing arrived = list_any (λ e. is_refuse e) arrived
 
-pub with_status : (c : CarriedBytes) (q : Bool) (arrived reply : List Event) → (q ≡ true → is_marked c ≡ false → reply ≡ (if list_any (λ e. is_refuse e) arrived then [] else status_event c.id c.failure ∷ []))
-    → newest_with (if q && not (is_marked c) then reply else []) arrived ≡ (if q && not c.shown && not c.refused && not (list_any (λ e. is_refuse e) arrived) then status_event c.id c.failure ∷ arrived else arrived)
+pub with_status : (c : CarriedBytes) (q : Bool) (arrived reply : List Event) → (q ≡ true → is_marked c ≡ false
+    → reply ≡ (if list_any (λ e. is_refuse e) arrived then [] else status_event c.id c.failure ∷ []))
+    → newest_with (if q && not (is_marked c) then reply else []) arrived
+    ≡ (if q && not c.shown && not c.refused && not (list_any (λ e. is_refuse e) arrived)
+    then status_event c.id c.failure ∷ arrived else arrived)
 with_status c q arrived reply h = go q c.shown c.refused (list_any (λ e. is_refuse e) arrived) h
   where
-    go : (q x y r : Bool) → (q ≡ true → (x || y) ≡ false → reply ≡ (if r then [] else status_event c.id c.failure ∷ [])) → newest_with (if q && not (x || y) then reply else []) arrived ≡ (if q && not x && not y && not r then status_event c.id c.failure ∷ arrived else arrived)
+    go : (q x y r : Bool) → (q ≡ true → (x || y) ≡ false → reply ≡ (if r then [] else status_event c.id c.failure ∷ []))
+        → newest_with (if q && not (x || y) then reply else []) arrived
+        ≡ (if q && not x && not y && not r then status_event c.id c.failure ∷ arrived else arrived)
     go false x y r g = refl
     go true true y r g = refl
     go true false true r g = refl
@@ -79,19 +96,26 @@ with_status c q arrived reply h = go q c.shown c.refused (list_any (λ e. is_ref
 -- ---- COMMAND is left
 
 -- What the target answers with STATUS next.
-pub command_reply : (id : ProcId) (plan : Plan) (arrival : Arrival) (c : CarriedBytes) → c.id ≡ id → c.failure ≡ code_if plan.struck PARITY_ERROR
-    → reply_events id plan arrival Phase.Command ≡ (if list_any (λ e. is_refuse e) (arrival_events id plan arrival Phase.Command) then [] else status_event c.id c.failure ∷ [])
-command_reply id plan arrival c same failure =
-    go plan.struck arrival ∙ (λ i. if list_any (λ e. is_refuse e) (arrival_events id plan arrival Phase.Command) then [] else status_event (sym same i) (sym failure i) ∷ [])
+pub command_reply : (id : ProcId) (plan : Plan) (arrival : Arrival) (c : CarriedBytes) → c.id ≡ id
+    → c.failure ≡ code_if plan.struck PARITY_ERROR → reply_events id plan arrival Phase.Command
+    ≡ (if list_any (λ e. is_refuse e) (arrival_events id plan arrival Phase.Command) then []
+    else status_event c.id c.failure ∷ [])
+command_reply id plan arrival c same failure = go plan.struck arrival
+    ∙ (λ i. if list_any (λ e. is_refuse e) (arrival_events id plan arrival Phase.Command) then []
+    else status_event (sym same i) (sym failure i) ∷ [])
   where
-    go : (q : Bool) (a : Arrival) → (if q then Event.Fail id PARITY_ERROR ∷ [] else arrival_run_events a id) ≡ (if list_any (λ e. is_refuse e) (if q then [] else arrival_event id a ∷ []) then [] else status_event id (code_if q PARITY_ERROR) ∷ [])
+    go : (q : Bool) (a : Arrival) → (if q then Event.Fail id PARITY_ERROR ∷ [] else arrival_run_events a id)
+        ≡ (if list_any (λ e. is_refuse e) (if q then [] else arrival_event id a ∷ []) then []
+        else status_event id (code_if q PARITY_ERROR) ∷ [])
     go true a = refl
     go false Arrival.Refused = refl
     go false _ = refl
 
 -- Of a whole block.
-pub whole_block : (c : CarriedBytes) (struck : Bool) → c.struck ≡ struck → (struck ≡ false → has_group_len c.block ≡ true) → is_whole_block c ≡ not struck
-whole_block c true e h = (λ i. not (length c.block == 0) && has_group_len c.block && not (e i)) ∙ and_false (not (length c.block == 0) && has_group_len c.block)
+pub whole_block : (c : CarriedBytes) (struck : Bool) → c.struck ≡ struck
+    → (struck ≡ false → has_group_len c.block ≡ true) → is_whole_block c ≡ not struck
+whole_block c true e h = (λ i. not (length c.block == 0) && has_group_len c.block && not (e i))
+    ∙ and_false (not (length c.block == 0) && has_group_len c.block)
 whole_block c false e h = (λ i. not (length c.block == 0) && h refl i && not (e i)) ∙ go c.block (h refl)
   where
     go : (block : List ℕ) → has_group_len block ≡ true → (not (length block == 0) && true && true) ≡ true

@@ -19,7 +19,9 @@ use Rattle.row_laws.specs.link_laws.proofs.LeavingWays as ways
 pub status_lines : (b : LineSet) → is_status_next (Some (phase_of b)) ≡ is_status_phase b
 status_lines b = go b.msg b.cd b.io
   where
-    go : (m d i : Bool) → is_status_next (Some (if m then (if i then Phase.MessageIn else Phase.MessageOut) else if d then (if i then Phase.Status else Phase.Command) else if i then Phase.DataIn else Phase.DataOut)) ≡ (not m && d && i)
+    go : (m d i : Bool) → is_status_next (Some (if m then (if i then Phase.MessageIn else Phase.MessageOut)
+        else if d then (if i then Phase.Status else Phase.Command) else if i then Phase.DataIn else Phase.DataOut))
+        ≡ (not m && d && i)
     go true d true = refl
     go true d false = refl
     go false true true = refl
@@ -52,12 +54,17 @@ rejected _ e = wrong' e
 
 -- ---- the event of the first STATUS phase
 
-pub reply_told : (v : Serving) (attention : Bool) (phase : Phase) (id : ProcId) (c : CarriedBytes) → c.id ≡ id → FailsIn v.plan attention c phase → is_status_next (phase_leaving v attention phase).to ≡ true → is_marked c ≡ false
-    → reply_events id v.plan v.arrival phase ≡ (if list_any (λ e. is_refuse e) (arrival_events id v.plan v.arrival phase) then [] else status_event c.id c.failure ∷ [])
+pub reply_told : (v : Serving) (attention : Bool) (phase : Phase) (id : ProcId) (c : CarriedBytes) → c.id ≡ id
+    → FailsIn v.plan attention c phase → is_status_next (phase_leaving v attention phase).to ≡ true
+    → is_marked c ≡ false → reply_events id v.plan v.arrival phase
+    ≡ (if list_any (λ e. is_refuse e) (arrival_events id v.plan v.arrival phase) then []
+    else status_event c.id c.failure ∷ [])
 reply_told v attention Phase.Command id c same fails st new = command_reply id v.plan v.arrival c same fails.1
-reply_told v attention Phase.DataOut id c same fails st new = go v.plan.struck ∙ (λ i. status_event (sym same i) (sym fails i) ∷ [])
+reply_told v attention Phase.DataOut id c same fails st new =
+    go v.plan.struck ∙ (λ i. status_event (sym same i) (sym fails i) ∷ [])
   where
-    go : (q : Bool) → (if q then Event.Fail id PARITY_ERROR ∷ [] else Event.Run id ∷ []) ≡ status_event id (Rattle.row_laws.specs.Tells.code_if q PARITY_ERROR) ∷ []
+    go : (q : Bool) → (if q then Event.Fail id PARITY_ERROR ∷ [] else Event.Run id ∷ [])
+        ≡ status_event id (Rattle.row_laws.specs.Tells.code_if q PARITY_ERROR) ∷ []
     go true = refl
     go false = refl
 reply_told v true Phase.DataIn id c same fails st new = wrong' st
@@ -70,7 +77,9 @@ reply_told v attention Phase.MessageOut id c same fails st new =
 reply_told v true Phase.MessageIn id c same fails st new = wrong' st
 reply_told v false Phase.MessageIn id c same fails st new = go v.plan.next (fails refl) st
   where
-    go : (next : Next) → Rattle.row_laws.specs.Tells.FailsBefore c next → is_status_next (Rattle.bus_due.specs.bus_dialogue.specs.NextPhase.after_messages v next).to ≡ true → Event.Run id ∷ [] ≡ status_event c.id c.failure ∷ []
+    go : (next : Next) → Rattle.row_laws.specs.Tells.FailsBefore c next
+        → is_status_next (Rattle.bus_due.specs.bus_dialogue.specs.NextPhase.after_messages v next).to ≡ true
+        → Event.Run id ∷ [] ≡ status_event c.id c.failure ∷ []
     go Next.Command f z = wrong' z
     go Next.FreeBus f z = wrong' z
     go Next.Status f z = wrong (sym f ∙ new)
@@ -80,17 +89,25 @@ reply_told v false Phase.Status id c same fails st new = wrong' st
 
 -- ---- the command arrives
 
-arrived_told : (s : ScenarioValue) (b : Story) (c : CarriedBytes) (before : LineSet) (id : ProcId) (plan : Plan) (arrival : Arrival) (attention : Bool) (phase : Phase) → phase_of before ≡ phase → FailsIn plan attention c phase
-    → (phase ≡ Phase.Command → (queue_event s b.history c.id ≡ arrival_event id arrival) × (plan.struck ≡ false → has_group_len c.block ≡ true))
+arrived_told : (s : ScenarioValue) (b : Story) (c : CarriedBytes) (before : LineSet)
+    (id : ProcId) (plan : Plan) (arrival : Arrival) (attention : Bool) (phase : Phase)
+    → phase_of before ≡ phase → FailsIn plan attention c phase → (phase ≡ Phase.Command
+    → (queue_event s b.history c.id ≡ arrival_event id arrival) × (plan.struck ≡ false → has_group_len c.block ≡ true))
     → queue_events s b (Some c) before ≡ arrival_events id plan arrival phase
 arrived_told s b c before id plan arrival attention phase e fails h =
-    ap (λ (q : Bool). if q && is_whole_block c then queue_event s b.history c.id ∷ [] else []) (command_is before ∙ ap is_command_phase e) ∙ go phase fails h
+    ap (λ (q : Bool). if q && is_whole_block c then queue_event s b.history c.id ∷ [] else [])
+    (command_is before ∙ ap is_command_phase e) ∙ go phase fails h
   where
-    struck_or : (q : Bool) → (if not q then queue_event s b.history c.id ∷ [] else []) ≡ (if q then [] else queue_event s b.history c.id ∷ [])
+    struck_or : (q : Bool) → (if not q then queue_event s b.history c.id ∷ [] else [])
+        ≡ (if q then [] else queue_event s b.history c.id ∷ [])
     struck_or true = refl
     struck_or false = refl
 
-    go : (f : Phase) → FailsIn plan attention c f → (f ≡ Phase.Command → (queue_event s b.history c.id ≡ arrival_event id arrival) × (plan.struck ≡ false → has_group_len c.block ≡ true)) → (if is_command_phase f && is_whole_block c then queue_event s b.history c.id ∷ [] else []) ≡ arrival_events id plan arrival f
+    go : (f : Phase) → FailsIn plan attention c f
+        → (f ≡ Phase.Command → (queue_event s b.history c.id ≡ arrival_event id arrival)
+        × (plan.struck ≡ false → has_group_len c.block ≡ true))
+        → (if is_command_phase f && is_whole_block c then queue_event s b.history c.id ∷ [] else [])
+        ≡ arrival_events id plan arrival f
     go Phase.Command w g =
         let x = g refl in
         ap (λ (q : Bool). if q then queue_event s b.history c.id ∷ [] else []) (whole_block c plan.struck w.0 x.1)
@@ -98,7 +115,9 @@ arrived_told s b c before id plan arrival attention phase e fails h =
     go _ w g = refl
 
 -- What becomes of it as the plain disk array has room.
-queue_told : (s : ScenarioValue) (k : RunState) (dev : ℕ) (id : ProcId) (p : Process) (a : Array) → process_served s k ≡ Some p → process_of s id ≡ Some p → k.array ≡ Some a → array_after s k.story.history ≡ k.array
+queue_told : (s : ScenarioValue) (k : RunState) (dev : ℕ) (id : ProcId) (p : Process) (a : Array)
+    → process_served s k ≡ Some p → process_of s id ≡ Some p
+    → k.array ≡ Some a → array_after s k.story.history ≡ k.array
     → queue_event s k.story.history id ≡ arrival_event id (arrival_at s k dev Phase.Command)
 queue_told s k dev id p a served of some plays =
     (λ i. if is_some (array_step s (Event.Accept id) ((plays ∙ some) i)) then Event.Accept id else Event.Refuse id)
@@ -107,14 +126,23 @@ queue_told s k dev id p a served of some plays =
 
 -- ---- the phase is left
 
-pub turn_told : (s : ScenarioValue) (k : RunState) (n : Connection) (c : Change) (id : ProcId) (p : Process) (a : Array) → bus_of k ≡ c.before → k.served ≡ Some (process id) → process_of s id ≡ Some p → k.array ≡ Some a → array_after s k.story.history ≡ k.array → AreRepliesShown s k → k.exchange.begun ≡ true
-    → FailsIn k.exchange.plan (bus_of k).atn (carried_here k id) (phase_of (bus_of k)) → (phase_of (bus_of k) ≡ Phase.Command → k.exchange.plan.struck ≡ false → has_group_len (carried_here k id).block ≡ true) → (leaving s k n.target).to ≡ Some (phase_of c.after)
-    → turn_events (serving_of s k n.target) (bus_of k).atn (phase_of (bus_of k)) id ≡ phase_events s k.story (Some (carried_here k id)) c
+pub turn_told : (s : ScenarioValue) (k : RunState) (n : Connection) (c : Change) (id : ProcId) (p : Process) (a : Array)
+    → bus_of k ≡ c.before → k.served ≡ Some (process id) → process_of s id ≡ Some p → k.array ≡ Some a
+    → array_after s k.story.history ≡ k.array → AreRepliesShown s k → k.exchange.begun ≡ true
+    → FailsIn k.exchange.plan (bus_of k).atn (carried_here k id) (phase_of (bus_of k))
+    → (phase_of (bus_of k) ≡ Phase.Command → k.exchange.plan.struck ≡ false
+    → has_group_len (carried_here k id).block ≡ true) → (leaving s k n.target).to ≡ Some (phase_of c.after)
+    → turn_events (serving_of s k n.target) (bus_of k).atn (phase_of (bus_of k)) id
+    ≡ phase_events s k.story (Some (carried_here k id)) c
 turn_told s k n c id p a on served of some plays shown begun fails group to =
-    (λ i. newest_with (if status i && not (replied i) then reply_events id v.plan v.arrival phase else []) (arrival_events id v.plan v.arrival phase))
-    ∙ with_status own (is_status_phase c.after) (arrival_events id v.plan v.arrival phase) (reply_events id v.plan v.arrival phase)
+    (λ i. newest_with (if status i && not (replied i) then reply_events id v.plan v.arrival phase else [])
+    (arrival_events id v.plan v.arrival phase))
+    ∙ with_status own (is_status_phase c.after)
+    (arrival_events id v.plan v.arrival phase) (reply_events id v.plan v.arrival phase)
     (λ q new. reply_told v (bus_of k).atn phase id own same fails (status ∙ q) new)
-    ∙ (λ i. if is_status_phase c.after && not own.shown && not own.refused && not (list_any (λ e. is_refuse e) (sym arrived i)) then status_event own.id own.failure ∷ sym arrived i else sym arrived i)
+    ∙ (λ i.
+    if is_status_phase c.after && not own.shown && not own.refused && not (list_any (λ e. is_refuse e) (sym arrived i))
+    then status_event own.id own.failure ∷ sym arrived i else sym arrived i)
   where
     v : Serving
     v = serving_of s k n.target
@@ -132,12 +160,17 @@ turn_told s k n c id p a on served of some plays shown begun fails group to =
     here = ap (process_item s) served ∙ of
 
     status : is_status_next (phase_leaving v (bus_of k).atn phase).to ≡ is_status_phase c.after
-    status = ap (λ (l : Leaving). is_status_next l.to) (λ i. leaving_by v (sym begun i) (bus_of k)) ∙ ap is_status_next to ∙ status_lines c.after
+    status = ap (λ (l : Leaving). is_status_next l.to) (λ i. leaving_by v (sym begun i) (bus_of k))
+        ∙ ap is_status_next to ∙ status_lines c.after
 
     replied : has_replied (task_of s k) ≡ is_marked own
-    replied = ap (λ (o : Option Process). has_replied (task_if s k o)) here ∙ ap (λ (x : ProcId). is_some (reply_in (array_of s k).replies x)) (process_id s id p of) ∙ shown id
+    replied = ap (λ (o : Option Process). has_replied (task_if s k o)) here
+        ∙ ap (λ (x : ProcId). is_some (reply_in (array_of s k).replies x)) (process_id s id p of) ∙ shown id
 
     arrived : queue_events s k.story (Some own) c.before ≡ arrival_events id v.plan v.arrival phase
-    arrived =
-        arrived_told s k.story own c.before id v.plan v.arrival (bus_of k).atn phase (ap phase_of (sym on)) fails
-        (λ e. (ap (queue_event s k.story.history) same ∙ queue_told s k n.target id p a here of some plays ∙ ap (λ (f : Phase). arrival_event id (arrival_at s k n.target f)) (sym e), group e))
+    arrived = arrived_told s k.story own c.before id v.plan v.arrival (bus_of k).atn phase (ap phase_of (sym on)) fails
+        (λ e. (
+          ap (queue_event s k.story.history) same ∙ queue_told s k n.target id p a here of some plays
+              ∙ ap (λ (f : Phase). arrival_event id (arrival_at s k n.target f)) (sym e),
+          group e,
+        ))

@@ -29,9 +29,13 @@ all_by fits p x Phase.MessageOut h = asked p.cause
 all_by fits p x Phase.MessageIn h = inl h
 all_by fits p x _ h = tt
 
-undo_begins : {A : Type 0} (what : CarriedBytes → A) (s : ScenarioValue) (p : List Row) (row : Row) (n : Connection) → AreOfDevices p → row.dev < 8 → connection p ≡ None
-    → connection (row ∷ p) ≡ Some n → (bus (row ∷ p)).rst ≡ false → UndoBooks what (run_state s (row ∷ p))
-undo_begins what s p row n dv lt alone after calm = record { unbegun = λ b. fits; begun = λ b. all_by (UndoFits what j) j.exchange.plan j.handshakes.requests (phase_of (bus_of j)) fits }
+undo_begins : {A : Type 0} (what : CarriedBytes → A) (s : ScenarioValue) (p : List Row) (row : Row) (n : Connection)
+    → AreOfDevices p → row.dev < 8 → connection p ≡ None → connection (row ∷ p) ≡ Some n → (bus (row ∷ p)).rst ≡ false
+    → UndoBooks what (run_state s (row ∷ p))
+undo_begins what s p row n dv lt alone after calm = record {
+  unbegun = λ b. fits;
+  begun = λ b. all_by (UndoFits what j) j.exchange.plan j.handshakes.requests (phase_of (bus_of j)) fits;
+}
   where
     k : RunState
     k = run_state s p
@@ -55,9 +59,11 @@ undo_begins what s p row n dv lt alone after calm = record { unbegun = λ b. fit
     off = ap (λ (x : Change). x.after.rst) change ∙ calm
 
     none : undo_of j.story.link ≡ None
-    none =
-        ap undo_of (events_link s (story_by_change s k.story (row_reading k.story.bus_state row) row) (row_events_by s k.story (row_reading k.story.bus_state row) row))
-        ∙ ap (λ (q : Bool). undo_of (if q then record k.story { link = None } else story_on_bus s k.story k.story.bus_state.connection (row_reading k.story.bus_state row).next (row_reading k.story.bus_state row) row).link) off
+    none = ap undo_of (events_link s (story_by_change s k.story (row_reading k.story.bus_state row) row)
+        (row_events_by s k.story (row_reading k.story.bus_state row) row))
+        ∙ ap (λ (q : Bool). undo_of
+        (if q then record k.story { link = None } else story_on_bus s k.story k.story.bus_state.connection
+        (row_reading k.story.bus_state row).next (row_reading k.story.bus_state row) row).link) off
         ∙ (λ i. undo_of (story_on_bus s k.story (con i) (next i) (row_reading k.story.bus_state row) row).link)
         ∙ undo_first k.story n
 
@@ -73,9 +79,9 @@ in_of b e known = go b.msg b.cd b.io e known
     is_in Phase.MessageIn = true
     is_in _ = false
 
-    go : (m d i : Bool)
-        → (if m then (if i then Phase.MessageIn else Phase.MessageOut) else if d then (if i then Phase.Status else Phase.Command) else if i then Phase.DataIn else Phase.DataOut) ≡ Phase.MessageIn
-        → (m ≡ true → d ≡ true) → (m && d && i) ≡ true
+    go : (m d i : Bool) → (if m then (if i then Phase.MessageIn else Phase.MessageOut)
+        else if d then (if i then Phase.Status else Phase.Command) else if i then Phase.DataIn else Phase.DataOut)
+        ≡ Phase.MessageIn → (m ≡ true → d ≡ true) → (m && d && i) ≡ true
     go true true true z f = refl
     go true true false z f = wrong' (ap is_in z)
     go true false i z f = wrong' (f refl)
@@ -84,9 +90,11 @@ in_of b e known = go b.msg b.cd b.io e known
     go false false true z f = wrong' (ap is_in z)
     go false false false z f = wrong' (ap is_in z)
 
-goes_keeps : {A : Type 0} (what : CarriedBytes → A) → IsKeptInside what → (s : ScenarioValue) (p : List Row) (row : Row) (n : Connection) → AreOfDevices p → row.dev < 8 → Stood s p
-    → NextStood s p row → ConnectionRow s p row n → GoingRow s p row n → UndoesSame what (run_state s p) row → connection (row ∷ p) ≡ Some n → (bus (row ∷ p)).rst ≡ false
-    → UndoBooks what (run_state s p) → UndoBooks what (run_state s (row ∷ p))
+goes_keeps : {A : Type 0} (what : CarriedBytes → A) → IsKeptInside what
+    → (s : ScenarioValue) (p : List Row) (row : Row) (n : Connection) → AreOfDevices p → row.dev < 8 → Stood s p
+    → NextStood s p row → ConnectionRow s p row n → GoingRow s p row n → UndoesSame what (run_state s p) row
+    → connection (row ∷ p) ≡ Some n → (bus (row ∷ p)).rst ≡ false → UndoBooks what (run_state s p)
+    → UndoBooks what (run_state s (row ∷ p))
 goes_keeps what kept s p row n dv lt was next r g undoes after calm h = go g.goes.row_is.kind
   where
     k : RunState
@@ -114,22 +122,29 @@ goes_keeps what kept s p row n dv lt was next r g undoes after calm h = go g.goe
     go (still ef ep er) =
         let none : is_some (receiver_in n c) ≡ false = ap (λ (z : Option ℕ). is_some z) er in
         let i = in_connection s k row n c false false (is_fault row.kind) of.row_is ep none refl in
-        stays_by what kept s k row n c false knows.link of.row_is ep none knows.link_is undoes (λ z. wrong' z)
-        (λ b e zero short. inr (ap (λ (x : Handshakes). x.requests) i.handshakes_is ∙ ap (λ (q : Bool). (handshakes_after q (Some n) c row.time k.handshakes).requests) ef ∙ requests_stay n c row.time k.handshakes ep (in_io c.before (here e)) er ∙ zero)) h
+        stays_by what kept s k row n c false knows.link of.row_is ep none knows.link_is undoes
+        (λ z. wrong' z) (λ b e zero short. inr (ap (λ (x : Handshakes). x.requests) i.handshakes_is
+        ∙ ap (λ (q : Bool). (handshakes_after q (Some n) c row.time k.handshakes).requests) ef
+        ∙ requests_stay n c row.time k.handshakes ep (in_io c.before (here e)) er ∙ zero)) h
     go (strikes ef ep er) =
         let none : is_some (receiver_in n c) ≡ false = ap (λ (z : Option ℕ). is_some z) er in
         let i = in_connection s k row n c false false (is_fault row.kind) of.row_is ep none refl in
-        stays_by what kept s k row n c false knows.link of.row_is ep none knows.link_is undoes (λ z. wrong' z)
-        (λ b e zero short. inr (ap (λ (x : Handshakes). x.requests) i.handshakes_is ∙ ap (λ (q : Bool). (handshakes_after q (Some n) c row.time k.handshakes).requests) ef ∙ struck_same c.before.io k.handshakes ∙ zero)) h
+        stays_by what kept s k row n c false knows.link of.row_is ep none knows.link_is undoes
+        (λ z. wrong' z) (λ b e zero short. inr (ap (λ (x : Handshakes). x.requests) i.handshakes_is
+        ∙ ap (λ (q : Bool). (handshakes_after q (Some n) c row.time k.handshakes).requests) ef
+        ∙ struck_same c.before.io k.handshakes ∙ zero)) h
     go (crosses dev ef ep er) =
         let there : is_some (receiver_in n c) ≡ true = ap (λ (z : Option ℕ). is_some z) er in
         stays_by what kept s k row n c true knows.link of.row_is ep there knows.link_is undoes
         (λ z. of.begun (ap (λ (d : RowReading). d.crosses) (reading_is k row n c true of.row_is there)))
-        (λ b e zero short.
-        let given = (was.books.gives n of.row_is.connection_is of.calm).in_message_in b (ap is_message_in of.row_is.bus_is ∙ here e) in
+        (λ b e zero short. let given = (was.books.gives n of.row_is.connection_is of.calm).in_message_in b
+        (ap is_message_in of.row_is.bus_is ∙ here e) in
         let m = first_whole k c given zero short (of.gives (here e) there).0 (here e) in
-        let same = kept.stays s k row n c true knows.link of.row_is there knows.link_is undoes (λ z. wrong' (sym ep ∙ z)) (λ z. message_line c.before (here e)) in
-        inl (fits_heard what s k row n c knows.link m.message of.row_is there knows.link_is same (ap (λ (q : Bool). if q then whole_out (got_out (fresh_bytes k.story.bus_state.dialogue ++ c.after.data_bits % 256 ∷ [])) else None) (out_in c.before (here e))) m.is)) h
+        let same = kept.stays s k row n c true knows.link of.row_is there knows.link_is undoes
+        (λ z. wrong' (sym ep ∙ z)) (λ z. message_line c.before (here e)) in
+        inl (fits_heard what s k row n c knows.link m.message of.row_is there knows.link_is same (ap (λ (q : Bool).
+        if q then whole_out (got_out (fresh_bytes k.story.bus_state.dialogue ++ c.after.data_bits % 256 ∷ []))
+        else None) (out_in c.before (here e))) m.is)) h
     go (turns ef ep er) =
         let stage = stage_of_connection s (row ∷ p) n next.stood after calm in
         let is = g.lines_are in
@@ -140,26 +155,31 @@ goes_keeps what kept s p row n dv lt was next r g undoes after calm h = go g.goe
           turns = ep;
           silent = er;
           link_is = knows.link_is;
-          known = λ z. ap (λ (x : Change). x.after.cd) g.change_is ∙ (link_phase s (row ∷ p) n stage (ap (λ (x : Change). x.after.msg) (sym g.change_is) ∙ z)).0;
+          known = λ z. ap (λ (x : Change). x.after.cd) g.change_is
+              ∙ (link_phase s (row ∷ p) n stage (ap (λ (x : Change). x.after.msg) (sym g.change_is) ∙ z)).0;
           idle = λ b. ap is_command pl.bus ∙ unbegun_lines s p n r.stage (sym pl.begun ∙ b);
-          whereto = λ b. g.lines.whereto (ap changes_phase is ∙ ep) (sym pl.begun ∙ b) ∙ ap (λ (x : Change). Some (phase_of x.after)) is;
+          whereto = λ b. g.lines.whereto (ap changes_phase is ∙ ep) (sym pl.begun ∙ b)
+              ∙ ap (λ (x : Change). Some (phase_of x.after)) is;
           speaks = was.books.speaks n of.row_is.connection_is of.calm;
         }) undoes h
 
 -- ---- any row
 
-books_of : {A : Type 0} (what : CarriedBytes → A) (s : ScenarioValue) (p : List Row) → AreOfDevices p → UndoFacts what s p → (n : Connection)
-    → (run_state s p).story.bus_state.connection ≡ Some n → (bus_of (run_state s p)).rst ≡ false → UndoBooks what (run_state s p)
+books_of : {A : Type 0} (what : CarriedBytes → A) (s : ScenarioValue) (p : List Row) → AreOfDevices p
+    → UndoFacts what s p → (n : Connection) → (run_state s p).story.bus_state.connection ≡ Some n
+    → (bus_of (run_state s p)).rst ≡ false → UndoBooks what (run_state s p)
 books_of what s p dv h n con calm =
     let pl = run_state_plain s p dv in
     h n (sym pl.connection ∙ con) (ap (λ (l : LineSet). l.rst) (sym pl.bus) ∙ calm)
 
-pub undo_asks : {A : Type 0} (what : CarriedBytes → A) (s : ScenarioValue) (p : List Row) (row : Row) → Stood s p → NextStood s p row → UndoFacts what s p
-    → UndoesSame what (run_state s p) row
-undo_asks what s p row was next h = row_undoes what s (run_state s p) row was.books (books_of what s p was.standing.devices h) next.row_is
+pub undo_asks : {A : Type 0} (what : CarriedBytes → A) (s : ScenarioValue) (p : List Row) (row : Row) → Stood s p
+    → NextStood s p row → UndoFacts what s p → UndoesSame what (run_state s p) row
+undo_asks what s p row was next h =
+    row_undoes what s (run_state s p) row was.books (books_of what s p was.standing.devices h) next.row_is
 
-pub undo_next : {A : Type 0} (what : CarriedBytes → A) → IsKeptInside what → (s : ScenarioValue) (p : List Row) (row : Row) → Obeys s → IsPrompt s (row ∷ p) → Stood s p
-    → NextStood s p row → UndoFacts what s p → UndoFacts what s (row ∷ p)
+pub undo_next : {A : Type 0} (what : CarriedBytes → A) → IsKeptInside what
+    → (s : ScenarioValue) (p : List Row) (row : Row) → Obeys s → IsPrompt s (row ∷ p) → Stood s p → NextStood s p row
+    → UndoFacts what s p → UndoFacts what s (row ∷ p)
 undo_next what kept s p row o prompt was next h n after calm = go (row_kind s p row n o prompt was after calm)
   where
     dv : AreOfDevices p

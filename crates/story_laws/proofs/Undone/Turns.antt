@@ -21,7 +21,9 @@ not_out b e = by_bool (is_message_out b) (λ f. wrong' (ap is_in (sym (out_phase
     is_in _ = false
 
 pub detecting : (fits : Type 0) (before : LineSet) → is_message_in before ≡ false → UndoAsked fits (cause_after before)
-detecting fits before e = subst (UndoAsked fits) (ap (λ (q : Bool). if q then Cause.InMessage else if before.cd then Cause.InStatus else Cause.InData) (sym e)) (go before.cd)
+detecting fits before e = subst (UndoAsked fits)
+    (ap (λ (q : Bool). if q then Cause.InMessage else if before.cd then Cause.InStatus else Cause.InData) (sym e))
+    (go before.cd)
   where
     go : (q : Bool) → UndoAsked fits (if q then Cause.InStatus else Cause.InData)
     go true = tt
@@ -38,8 +40,9 @@ pub record TurnOf (s : ScenarioValue) (k : RunState) (row : Row) (n : Connection
   pub whereto : k.exchange.begun ≡ true → (leaving s k n.target).to ≡ Some (phase_of c.after)
   pub speaks : Speaks s k n
 
-pub turn_keeps : {A : Type 0} (what : CarriedBytes → A) → IsKeptInside what → (s : ScenarioValue) (k : RunState) (row : Row) (n : Connection) (c : Change) (l : Link)
-    → TurnOf s k row n c l → UndoesSame what k row → UndoBooks what k → UndoBooks what (run_state_after s k row)
+pub turn_keeps : {A : Type 0} (what : CarriedBytes → A) → IsKeptInside what
+    → (s : ScenarioValue) (k : RunState) (row : Row) (n : Connection) (c : Change) (l : Link) → TurnOf s k row n c l
+    → UndoesSame what k row → UndoBooks what k → UndoBooks what (run_state_after s k row)
 turn_keeps what kept s k row n c l t undoes h = record {
   unbegun = λ b. wrong (sym begun ∙ b);
   begun = λ b. go k.exchange.begun refl;
@@ -60,14 +63,18 @@ turn_keeps what kept s k row n c l t undoes h = record {
     v : Serving
     v = serving_of s k n.target
 
-    plan : j.exchange.plan ≡ plan_in_phase (hearing_of k row (reading_in k.story.bus_state n c false)) (leaving s k n.target) k.exchange.plan
+    plan : j.exchange.plan ≡ plan_in_phase (hearing_of k row (reading_in k.story.bus_state n c false))
+        (leaving s k n.target) k.exchange.plan
     plan = ap (λ (x : Exchange). x.plan) i.exchange_is
 
     asked : j.handshakes.requests ≡ 0
-    asked =
-        ap (λ (x : Handshakes). x.requests) i.handshakes_is
+    asked = ap (λ (x : Handshakes). x.requests) i.handshakes_is
         ∙ ap (λ (q : Bool). (handshakes_after q (Some n) c row.time k.handshakes).requests) t.lines
-        ∙ ap (λ (q : Bool). (if q then no_handshakes else Rattle.bus_due.specs.bus_lines.specs.Handshakes.answered_if (Rattle.bus_due.specs.bus_trace.specs.Changes.rises c.before.ack c.after.ack) row.time (Rattle.bus_due.specs.bus_lines.specs.Handshakes.asked_if (Rattle.bus_due.specs.bus_trace.specs.Changes.rises c.before.req c.after.req) row.time k.handshakes)).requests) t.turns
+        ∙ ap (λ (q : Bool). (if q then no_handshakes else Rattle.bus_due.specs.bus_lines.specs.Handshakes.answered_if
+        (Rattle.bus_due.specs.bus_trace.specs.Changes.rises c.before.ack c.after.ack) row.time
+        (Rattle.bus_due.specs.bus_lines.specs.Handshakes.asked_if
+        (Rattle.bus_due.specs.bus_trace.specs.Changes.rises c.before.req c.after.req) row.time k.handshakes)).requests)
+        t.turns
 
     change : changes_phase (row_reading k.story.bus_state row).change ≡ true
     change = ap changes_phase t.goes.row_is.change_is ∙ t.turns
@@ -75,45 +82,65 @@ turn_keeps what kept s k row n c l t undoes h = record {
     leaves : LeavesWhole s k n
     leaves = t.goes.leaves change
 
-    quiet : is_command (bus_of k) ≡ false → is_status_next (Some (phase_of c.after)) ≡ false → UndoFits what k → UndoFits what j
-    quiet e f =
-        fits_on what s k row n c false l t.goes.row_is none t.link_is
-        (kept.stays s k row n c false l t.goes.row_is none t.link_is undoes (λ z. (ap is_command (sym t.goes.row_is.bus_is) ∙ e, sym (status_lines c.after) ∙ f)) (λ z. wrong' z))
+    quiet : is_command (bus_of k) ≡ false → is_status_next (Some (phase_of c.after)) ≡ false → UndoFits what k
+        → UndoFits what j
+    quiet e f = fits_on what s k row n c false l t.goes.row_is none t.link_is
+        (kept.stays s k row n c false l t.goes.row_is none t.link_is undoes
+        (λ z. (ap is_command (sym t.goes.row_is.bus_is) ∙ e, sym (status_lines c.after) ∙ f)) (λ z. wrong' z))
 
-    at : (phase : Phase) → phase_of c.after ≡ phase → UndoBy (UndoFits what j) j.exchange.plan j.handshakes.requests phase
+    at : (phase : Phase) → phase_of c.after ≡ phase
+        → UndoBy (UndoFits what j) j.exchange.plan j.handshakes.requests phase
         → UndoBy (UndoFits what j) j.exchange.plan j.handshakes.requests (phase_of (bus_of j))
-    at phase e w = subst (λ (p : Phase). UndoBy (UndoFits what j) j.exchange.plan j.handshakes.requests p) (sym (ap phase_of i.bus_is ∙ e)) w
+    at phase e w = subst (λ (p : Phase). UndoBy (UndoFits what j) j.exchange.plan j.handshakes.requests p)
+        (sym (ap phase_of i.bus_is ∙ e)) w
 
     -- MESSAGE OUT begins
-    first_out : k.exchange.begun ≡ false → UndoBy (UndoFits what j) j.exchange.plan j.handshakes.requests (phase_of (bus_of j))
+    first_out : k.exchange.begun ≡ false
+        → UndoBy (UndoFits what j) j.exchange.plan j.handshakes.requests (phase_of (bus_of j))
     first_out b =
-        let out : is_message_out c.after ≡ true = sym (ap (λ (x : Change). is_message_out x.after) t.goes.row_is.change_is) ∙ t.goes.first change b in
-        let cause : j.exchange.plan.cause ≡ Cause.Selected =
-        ap (λ (x : Plan). x.cause) plan
-        ∙ (λ z. (if not (out z) then record (plan_anew k.exchange.plan) { messages = (leaving s k n.target).messages; next = (leaving s k n.target).next } else if b z then plan_in_message_out (hearing_of k row (reading_in k.story.bus_state n c false)) k.exchange.plan else plan_anew k.exchange.plan).cause)
-        ∙ (t.speaks.before_all b).cause_is in
-        at Phase.MessageOut (out_phase c.after out) (subst (UndoAsked (UndoFits what j)) (sym cause) (quiet (t.idle b) (ap (λ (p : Phase). is_status_next (Some p)) (out_phase c.after out)) (h.unbegun b)))
+        let out : is_message_out c.after ≡ true =
+        sym (ap (λ (x : Change). is_message_out x.after) t.goes.row_is.change_is) ∙ t.goes.first change b in
+        let cause : j.exchange.plan.cause ≡ Cause.Selected = ap (λ (x : Plan). x.cause) plan
+        ∙ (λ z. (if not (out z) then record (plan_anew k.exchange.plan) {
+          messages = (leaving s k n.target).messages;
+          next = (leaving s k n.target).next;
+        }
+        else if b z then plan_in_message_out (hearing_of k row (reading_in k.story.bus_state n c false)) k.exchange.plan
+        else plan_anew k.exchange.plan).cause) ∙ (t.speaks.before_all b).cause_is in
+        at Phase.MessageOut (out_phase c.after out) (subst (UndoAsked (UndoFits what j)) (sym cause)
+        (quiet (t.idle b) (ap (λ (p : Phase). is_status_next (Some p)) (out_phase c.after out)) (h.unbegun b)))
 
-    refused : k.exchange.begun ≡ true → phase_of c.after ≡ Phase.MessageOut → UndoAsked (UndoFits what j) j.exchange.plan.cause
+    refused : k.exchange.begun ≡ true → phase_of c.after ≡ Phase.MessageOut
+        → UndoAsked (UndoFits what j) j.exchange.plan.cause
     refused b e =
         let out = out_lines c.after e t.known in
-        let cause : j.exchange.plan.cause ≡ cause_after c.before =
-        ap (λ (x : Plan). x.cause) plan
-        ∙ (λ z. (if not (out z) then record (plan_anew k.exchange.plan) { messages = (leaving s k n.target).messages; next = (leaving s k n.target).next } else if b z then plan_in_message_out (hearing_of k row (reading_in k.story.bus_state n c false)) k.exchange.plan else plan_anew k.exchange.plan).cause) in
+        let cause : j.exchange.plan.cause ≡ cause_after c.before = ap (λ (x : Plan). x.cause) plan
+        ∙ (λ z. (if not (out z) then record (plan_anew k.exchange.plan) {
+          messages = (leaving s k n.target).messages;
+          next = (leaving s k n.target).next;
+        }
+        else if b z then plan_in_message_out (hearing_of k row (reading_in k.story.bus_state n c false)) k.exchange.plan
+        else plan_anew k.exchange.plan).cause) in
         subst (UndoAsked (UndoFits what j)) (sym cause) (by (is_message_in c.before) refl)
       where
         by : (q : Bool) → is_message_in c.before ≡ q → UndoAsked (UndoFits what j) (cause_after c.before)
         by false f = detecting (UndoFits what j) c.before f
         by true f =
             let here : phase_of (bus_of k) ≡ Phase.MessageIn = ap phase_of t.goes.row_is.bus_is ∙ in_phase c.before f in
-            subst (UndoAsked (UndoFits what j)) (ap (λ (q : Bool). if q then Cause.InMessage else if c.before.cd then Cause.InStatus else Cause.InData) (sym f))
-            (given here (subst (λ (p : Phase). UndoBy (UndoFits what k) k.exchange.plan k.handshakes.requests p) here (h.begun b)))
+            subst (UndoAsked (UndoFits what j))
+            (ap (λ (q : Bool). if q then Cause.InMessage else if c.before.cd then Cause.InStatus else Cause.InData)
+            (sym f)) (given here
+            (subst (λ (p : Phase). UndoBy (UndoFits what k) k.exchange.plan k.handshakes.requests p) here (h.begun b)))
           where
-            given : phase_of (bus_of k) ≡ Phase.MessageIn → UndoFits what k ⊎ ((k.handshakes.requests ≡ 0) × (is_short k.exchange.plan.messages.first ≡ true)) → UndoFits what j
-            given here (inl w) = quiet (command_is (bus_of k) ∙ ap is_command_phase here) (ap (λ (p : Phase). is_status_next (Some p)) e) w
+            given : phase_of (bus_of k) ≡ Phase.MessageIn
+                → UndoFits what k ⊎ ((k.handshakes.requests ≡ 0) × (is_short k.exchange.plan.messages.first ≡ true))
+                → UndoFits what j
+            given here (inl w) = quiet (command_is (bus_of k) ∙ ap is_command_phase here)
+                (ap (λ (p : Phase). is_status_next (Some p)) e) w
             given here (inr w) = wrong (sym (ap (λ (x : ℕ). x == 0) w.0) ∙ leaves.some here)
 
-    heard : k.exchange.begun ≡ true → phase_of c.after ≡ Phase.MessageIn → UndoFits what j ⊎ ((j.handshakes.requests ≡ 0) × (is_short j.exchange.plan.messages.first ≡ true))
+    heard : k.exchange.begun ≡ true → phase_of c.after ≡ Phase.MessageIn
+        → UndoFits what j ⊎ ((j.handshakes.requests ≡ 0) × (is_short j.exchange.plan.messages.first ≡ true))
     heard b e = by (phase_of (bus_of k)) refl
       where
         leaving_is : leaving s k n.target ≡ phase_leaving v (bus_of k).atn (phase_of (bus_of k))
@@ -121,16 +148,24 @@ turn_keeps what kept s k row n c l t undoes h = record {
 
         messages : j.exchange.plan.messages ≡ (phase_leaving v (bus_of k).atn (phase_of (bus_of k))).messages
         messages =
-            ap (λ (x : Plan). x.messages) plan
-            ∙ ap (λ (q : Bool). (if not q then record (plan_anew k.exchange.plan) { messages = (leaving s k n.target).messages; next = (leaving s k n.target).next } else if k.exchange.begun then plan_in_message_out (hearing_of k row (reading_in k.story.bus_state n c false)) k.exchange.plan else plan_anew k.exchange.plan).messages) (not_out c.after e)
+            ap (λ (x : Plan). x.messages) plan ∙ ap (λ (q : Bool). (if not q then record (plan_anew k.exchange.plan) {
+              messages = (leaving s k n.target).messages;
+              next = (leaving s k n.target).next;
+            } else if k.exchange.begun
+            then plan_in_message_out (hearing_of k row (reading_in k.story.bus_state n c false)) k.exchange.plan
+            else plan_anew k.exchange.plan).messages) (not_out c.after e)
             ∙ ap (λ (x : Leaving). x.messages) leaving_is
 
         to : is_to_message_in (phase_leaving v (bus_of k).atn (phase_of (bus_of k))).to ≡ true
-        to = ap (λ (x : Leaving). is_to_message_in x.to) (sym leaving_is) ∙ ap is_to_message_in (t.whereto b ∙ ap (λ (p : Phase). Some p) e)
+        to = ap (λ (x : Leaving). is_to_message_in x.to) (sym leaving_is)
+            ∙ ap is_to_message_in (t.whereto b ∙ ap (λ (p : Phase). Some p) e)
 
         short : (phase_of (bus_of k) ≡ Phase.MessageOut → is_detected k.exchange.plan.cause ≡ true)
             → UndoFits what j ⊎ ((j.handshakes.requests ≡ 0) × (is_short j.exchange.plan.messages.first ≡ true))
-        short f = inr (asked, ap (λ (m : Messages). is_short m.first) messages ∙ leaves_short v (bus_of k).atn (phase_of (bus_of k)) f to)
+        short f = inr (
+          asked,
+          ap (λ (m : Messages). is_short m.first) messages ∙ leaves_short v (bus_of k).atn (phase_of (bus_of k)) f to,
+        )
 
         is_out : Phase → Bool
         is_out Phase.MessageOut = true
@@ -139,19 +174,22 @@ turn_keeps what kept s k row n c l t undoes h = record {
         said : phase_of (bus_of k) ≡ Phase.MessageOut → (q : Bool) → is_detected k.exchange.plan.cause ≡ q
             → UndoFits what j ⊎ ((j.handshakes.requests ≡ 0) × (is_short j.exchange.plan.messages.first ≡ true))
         said here true f = short (λ z. f)
-        said here false f =
-            inl (quiet (command_is (bus_of k) ∙ ap is_command_phase here) (ap (λ (p : Phase). is_status_next (Some p)) e)
-            (asked_fits (UndoFits what k) k.exchange.plan.cause f (subst (λ (p : Phase). UndoBy (UndoFits what k) k.exchange.plan k.handshakes.requests p) here (h.begun b))))
+        said here false f = inl (quiet (command_is (bus_of k) ∙ ap is_command_phase here)
+            (ap (λ (p : Phase). is_status_next (Some p)) e) (asked_fits (UndoFits what k) k.exchange.plan.cause f
+            (subst (λ (p : Phase). UndoBy (UndoFits what k) k.exchange.plan k.handshakes.requests p) here (h.begun b))))
 
-        by : (p : Phase) → phase_of (bus_of k) ≡ p → UndoFits what j ⊎ ((j.handshakes.requests ≡ 0) × (is_short j.exchange.plan.messages.first ≡ true))
+        by : (p : Phase) → phase_of (bus_of k) ≡ p
+            → UndoFits what j ⊎ ((j.handshakes.requests ≡ 0) × (is_short j.exchange.plan.messages.first ≡ true))
         by Phase.MessageOut z = said z (is_detected k.exchange.plan.cause) refl
         by _ z = short (λ w. wrong' (ap is_out (sym z ∙ w)))
 
-    go : (q : Bool) → k.exchange.begun ≡ q → UndoBy (UndoFits what j) j.exchange.plan j.handshakes.requests (phase_of (bus_of j))
+    go : (q : Bool) → k.exchange.begun ≡ q
+        → UndoBy (UndoFits what j) j.exchange.plan j.handshakes.requests (phase_of (bus_of j))
     go false b = first_out b
     go true b = by (phase_of c.after) refl
       where
-        by : (p : Phase) → phase_of c.after ≡ p → UndoBy (UndoFits what j) j.exchange.plan j.handshakes.requests (phase_of (bus_of j))
+        by : (p : Phase) → phase_of c.after ≡ p
+            → UndoBy (UndoFits what j) j.exchange.plan j.handshakes.requests (phase_of (bus_of j))
         by Phase.MessageOut e = at Phase.MessageOut e (refused b e)
         by Phase.MessageIn e = at Phase.MessageIn e (heard b e)
         by Phase.Command e = at Phase.Command e tt

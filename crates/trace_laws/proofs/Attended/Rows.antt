@@ -28,8 +28,10 @@ initiator_below s p n (when_shaking msg cd io req ack atn x y h) = h.linked.init
 initiator_below s p n (when_pulsing io req ack atn x y h a) = h.linked.initiator_below
 
 -- An abort that is served is of the ends of the connection.
-between : (s : ScenarioValue) (k : RunState) (n : Connection) → AreUnits s → n.initiator < 8 → CommandBooks s k n → (n.reselected ≡ true → Serves s k) → AbortsBetween s k n → AreOfEnds s k n
-between s k n u below books again target m a served line = (host, target m a served line, u.aborts m a line, subst (λ (x : ℕ). x < 8) (sym host) below)
+between : (s : ScenarioValue) (k : RunState) (n : Connection) → AreUnits s → n.initiator < 8 → CommandBooks s k n
+    → (n.reselected ≡ true → Serves s k) → AbortsBetween s k n → AreOfEnds s k n
+between s k n u below books again target m a served line =
+    (host, target m a served line, u.aborts m a line, subst (λ (x : ℕ). x < 8) (sym host) below)
   where
     same_abort : (b : AbortDef) → abort_line_at s.aborts m ≡ Some b → b.host ≡ n.initiator → a.host ≡ n.initiator
     same_abort b e own = ap (λ (x : AbortDef). x.host) (same_Some a b (sym line ∙ e)) ∙ own
@@ -43,7 +45,9 @@ between s k n u below books again target m a served line = (host, target m a ser
 
     go : (q : Bool) → n.reselected ≡ q → a.host ≡ n.initiator
     go true e = let v = again e in no_item v.id m (sym v.served_is ∙ served)
-    go false e = let h = books.serves e in of_item h.item (same_Some h.item (abort m) (sym h.served_is ∙ served)) h.item_is
+    go false e =
+        let h = books.serves e in
+        of_item h.item (same_Some h.item (abort m) (sym h.served_is ∙ served)) h.item_is
 
     host : a.host ≡ n.initiator
     host = go n.reselected refl
@@ -106,17 +110,21 @@ shows_in s p row n h = go r.facts
     of = item_of_link s k n knows
 
     known : (bus_of k).msg ≡ true → (bus_of k).cd ≡ true
-    known z = ap (λ (b : LineSet). b.cd) h.stood.plain.bus ∙ (link_phase s p n r.stage (ap (λ (b : LineSet). b.msg) (sym h.stood.plain.bus) ∙ z)).0
+    known z = ap (λ (b : LineSet). b.cd) h.stood.plain.bus
+        ∙ (link_phase s p n r.stage (ap (λ (b : LineSet). b.msg) (sym h.stood.plain.bus) ∙ z)).0
 
-    shows : events_of_row s p row ≡ (if is_some d.next then connection_events s k.story l d else bus_free_events s l l.last)
+    shows : events_of_row s p row
+        ≡ (if is_some d.next then connection_events s k.story l d else bus_free_events s l l.last)
     shows = row_shows s k.story row d l knows.link_is (ap (λ (x : Change). x.after.rst) c ∙ h.calm_after)
 
     -- it goes on
     goes_next : Goes s p row n → d.next ≡ Some n
-    goes_next g = (λ i. connection_after (g.row_is.connection_is i) k.story.bus_state.call (g.row_is.change_is i) row) ∙ ap (λ (y : Bool). if y then Some n else None) g.row_is.stands
+    goes_next g = (λ i. connection_after (g.row_is.connection_is i) k.story.bus_state.call (g.row_is.change_is i) row)
+        ∙ ap (λ (y : Bool). if y then Some n else None) g.row_is.stands
 
     goes_shows : Goes s p row n → events_of_row s p row ≡ connection_events s k.story l d
-    goes_shows g = shows ∙ (λ i. if is_some (goes_next g i) then connection_events s k.story l d else bus_free_events s l l.last)
+    goes_shows g =
+        shows ∙ (λ i. if is_some (goes_next g i) then connection_events s k.story l d else bus_free_events s l l.last)
 
     -- the status that came, where the command is not known
     good : events_of_row s p row ≡ end_events (carried_if k.story l.item) → EndsKnown k i.known l.item
@@ -148,11 +156,16 @@ shows_in s p row n h = go r.facts
             wrong (sym same ∙ ap (λ (x : ℕ). x == GOOD) (sym w.status_is) ∙ bad)
 
     shown_goes : Goes s p row n → AreShown k n i.known (events_of_row s p row)
-    shown_goes g = subst (λ (x : List Event). AreShown k n i.known x) (sym (goes_shows g)) (by (changes_phase d.change) refl (is_completion l d.change) refl)
+    shown_goes g = subst (λ (x : List Event). AreShown k n i.known x) (sym (goes_shows g))
+        (by (changes_phase d.change) refl (is_completion l d.change) refl)
       where
-        by : (q : Bool) → changes_phase d.change ≡ q → (t : Bool) → is_completion l d.change ≡ t → AreShown k n i.known (if q then phase_events s k.story (carried_if k.story l.item) d.change else if t then end_events (carried_if k.story l.item) else [])
+        by : (q : Bool) → changes_phase d.change ≡ q → (t : Bool) → is_completion l d.change ≡ t
+            → AreShown k n i.known (if q then phase_events s k.story (carried_if k.story l.item) d.change
+            else if t then end_events (carried_if k.story l.item) else [])
         by true e t f = turn_shown s k n i.known l.item d.change of
-        by false e true f = end_shown k n i.known l.item of (good (goes_shows g ∙ (λ j. if e j then phase_events s k.story (carried_if k.story l.item) d.change else if f j then end_events (carried_if k.story l.item) else [])))
+        by false e true f = end_shown k n i.known l.item of
+            (good (goes_shows g ∙ (λ j. if e j then phase_events s k.story (carried_if k.story l.item) d.change
+            else if f j then end_events (carried_if k.story l.item) else [])))
         by false e false f = tt
 
     -- in the opening
@@ -169,22 +182,31 @@ shows_in s p row n h = go r.facts
         after = ap (λ (x : Change). x.after) g.row_is.change_is
 
         unended : is_message_in d.change.before ≡ false → is_completion l d.change ≡ false
-        unended e = (λ j. rises d.change.before.ack d.change.after.ack && e j && is_complete l.last && not d.change.after.atn) ∙ none (rises d.change.before.ack d.change.after.ack)
+        unended e =
+            (λ j. rises d.change.before.ack d.change.after.ack && e j && is_complete l.last && not d.change.after.atn)
+            ∙ none (rises d.change.before.ack d.change.after.ack)
           where
             none : (q : Bool) → (q && false && is_complete l.last && not d.change.after.atn) ≡ false
             none true = refl
             none false = refl
 
-        stays_at : changes_phase d.change ≡ false → is_message_in d.change.before ≡ false → connection_events s k.story l d ≡ []
-        stays_at e f = λ j. if e j then phase_events s k.story (carried_if k.story l.item) d.change else if unended f j then end_events (carried_if k.story l.item) else []
+        stays_at : changes_phase d.change ≡ false → is_message_in d.change.before ≡ false
+            → connection_events s k.story l d ≡ []
+        stays_at e f = λ j. if e j then phase_events s k.story (carried_if k.story l.item) d.change
+            else if unended f j then end_events (carried_if k.story l.item) else []
 
-        turns_at : changes_phase d.change ≡ true → is_command d.change.before ≡ false → is_status_phase d.change.after ≡ false → connection_events s k.story l d ≡ []
-        turns_at e f z = ap (λ (q : Bool). if q then phase_events s k.story (carried_if k.story l.item) d.change else if is_completion l d.change then end_events (carried_if k.story l.item) else []) e ∙ no_events s k.story (carried_if k.story l.item) d.change f z
+        turns_at : changes_phase d.change ≡ true → is_command d.change.before ≡ false
+            → is_status_phase d.change.after ≡ false → connection_events s k.story l d ≡ []
+        turns_at e f z = ap (λ (q : Bool). if q then phase_events s k.story (carried_if k.story l.item) d.change
+            else if is_completion l d.change then end_events (carried_if k.story l.item) else []) e
+            ∙ no_events s k.story (carried_if k.story l.item) d.change f z
 
-        unbegun_in : k.exchange.begun ≡ false → (q : Bool) → is_message_in d.change.before ≡ q → is_message_in d.change.before ≡ false
+        unbegun_in : k.exchange.begun ≡ false → (q : Bool) → is_message_in d.change.before ≡ q
+            → is_message_in d.change.before ≡ false
         unbegun_in b false e = e
         unbegun_in b true e =
-            let msg : (bus p).msg ≡ true = ap (λ (x : LineSet). x.msg) (sym h.stood.plain.bus ∙ before) ∙ first d.change.before.msg d.change.before.cd d.change.before.io e in
+            let msg : (bus p).msg ≡ true = ap (λ (x : LineSet). x.msg) (sym h.stood.plain.bus ∙ before)
+            ∙ first d.change.before.msg d.change.before.cd d.change.before.io e in
             wrong (sym (link_phase s p n r.stage msg).1 ∙ sym h.stood.plain.begun ∙ b)
           where
             first : (x y z : Bool) → (x && y && z) ≡ true → x ≡ true
@@ -195,16 +217,18 @@ shows_in s p row n h = go r.facts
         out b = ap is_message_out (sym before) ∙ out_lines (bus_of k) (opening_begun k opens b).0 known
 
         to : changes_phase d.change ≡ true → k.exchange.begun ≡ true → is_status_phase d.change.after ≡ false
-        to e b =
-            ap is_status_phase after ∙ status_is g.change.after ∙ ap is_status_next (sym (g.whereto (turned e) (sym h.stood.plain.begun ∙ b)))
-            ∙ ap (λ (x : Leaving). is_status_next x.to) (opening_leaving s k n.target opens b) ∙ opening_leads (serving_of s k n.target)
+        to e b = ap is_status_phase after ∙ status_is g.change.after
+            ∙ ap is_status_next (sym (g.whereto (turned e) (sym h.stood.plain.begun ∙ b)))
+            ∙ ap (λ (x : Leaving). is_status_next x.to) (opening_leaving s k n.target opens b)
+            ∙ opening_leads (serving_of s k n.target)
 
-        by : (q : Bool) → changes_phase d.change ≡ q → (b : Bool) → k.exchange.begun ≡ b → connection_events s k.story l d ≡ []
+        by : (q : Bool) → changes_phase d.change ≡ q → (b : Bool) → k.exchange.begun ≡ b
+            → connection_events s k.story l d ≡ []
         by false e true b = stays_at e (out_no_command d.change.before (out b)).1
         by false e false b = stays_at e (unbegun_in b (is_message_in d.change.before) refl)
         by true e true b = turns_at e (out_no_command d.change.before (out b)).0 (to e b)
-        by true e false b =
-            turns_at e (ap is_command (sym before ∙ h.stood.plain.bus) ∙ unbegun_lines s p n r.stage (sym h.stood.plain.begun ∙ b))
+        by true e false b = turns_at e
+            (ap is_command (sym before ∙ h.stood.plain.bus) ∙ unbegun_lines s p n r.stage (sym h.stood.plain.begun ∙ b))
             (ap is_status_phase after ∙ out_no_status g.change.after (g.first (turned e) (sym h.stood.plain.begun ∙ b)))
 
     -- it ends
@@ -212,18 +236,21 @@ shows_in s p row n h = go r.facts
     stops_next g = (λ i. connection_after (h.stood.plain.connection i) (h.stood.plain.call i) (c i) row) ∙ g.stopped
 
     shown_stops : Stops s p row n → AreShown k n i.known (events_of_row s p row)
-    shown_stops g =
-        subst (λ (x : List Event). AreShown k n i.known x) (sym (shows ∙ (λ i. if is_some (stops_next g i) then connection_events s k.story l d else bus_free_events s l l.last)))
-        (stop_shown s k n i.known l of (between s k n u (initiator_below s p n r.stage) (h.commands.books n h.stands h.calm) (λ e. (told.again e).1) (h.facts.aborts n h.stands h.calm)))
+    shown_stops g = subst (λ (x : List Event). AreShown k n i.known x) (sym (shows
+        ∙ (λ i. if is_some (stops_next g i) then connection_events s k.story l d else bus_free_events s l l.last)))
+        (stop_shown s k n i.known l of (between s k n u (initiator_below s p n r.stage)
+        (h.commands.books n h.stands h.calm) (λ e. (told.again e).1) (h.facts.aborts n h.stands h.calm)))
 
     go : RowFacts s p row n → ShowsIn s p row n
     go (stays g) = record {
       shown = shown_goes g;
       silent = λ e opens z. silent g opens;
-      ends_alone = λ e opens z. wrong (sym (ap (λ (o : Option Connection). is_some o) (goes_next g)) ∙ ap (λ (o : Option Connection). is_some o) z);
+      ends_alone = λ e opens z. wrong
+          (sym (ap (λ (o : Option Connection). is_some o) (goes_next g)) ∙ ap (λ (o : Option Connection). is_some o) z);
     }
     go (ends_here g) = record {
       shown = shown_stops g;
       silent = λ e opens z. wrong' (ap (λ (o : Option Connection). is_some o) (sym (stops_next g)) ∙ z);
-      ends_alone = λ e opens z. alone s k n u (h.stood.books.speaks n here quiet) (h.stood.plain.begun ∙ g.begun_is) known g.over opens g.whereto;
+      ends_alone = λ e opens z. alone s k n u (h.stood.books.speaks n here quiet)
+          (h.stood.plain.begun ∙ g.begun_is) known g.over opens g.whereto;
     }

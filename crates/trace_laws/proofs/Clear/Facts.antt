@@ -1,4 +1,5 @@
--- That nothing has struck a process that is open and has no answer, after a row, whatever it is, as long as no connection serves it.
+-- That nothing has struck a process that is open and has no answer, after a row, whatever it is, as long as no
+-- connection serves it.
 use Rattle.trace_laws.proofs
 use proofs.Names.{◌≡◌, ◌⊎◌, inl, inr, Bool, true, false, ◌∙◌, Option, Some, None, refl, sym, ap, subst, true≢false, ◌<◌}
 use proofs.Names.{not, ◌&&◌, List, ◌∷◌, [], ℕ, same_Some, if◌then◌else◌, is_some, Event, ProcId, change_of, rises}
@@ -27,31 +28,43 @@ use Rattle.trace_laws.proofs.Failures.Away as away
 -- ---- of one process
 
 -- What is over stays so, and so does an answer.
-stands_on : (s : ScenarioValue) (k : RunState) (row : Row) (id : ProcId) → SameSaved (carried_here (run_state_after s k row) id) (carried_here k id) → (IsClear (carried_here k id) → IsClear (carried_here (run_state_after s k row) id)) → StandsClear k id → StandsClear (run_state_after s k row) id
+stands_on : (s : ScenarioValue) (k : RunState) (row : Row) (id : ProcId)
+    → SameSaved (carried_here (run_state_after s k row) id) (carried_here k id)
+    → (IsClear (carried_here k id) → IsClear (carried_here (run_state_after s k row) id)) → StandsClear k id
+    → StandsClear (run_state_after s k row) id
 stands_on s k row id same clear h = record {
-  clear = λ open_is none.
-      clear (h.clear (not_unless (has_item k.story.sent.over (process id)) (has_item (run_state_after s k row).story.sent.over (process id)) (λ e. over_row s k row (process id) e) open_is)
-      (not_unless (is_marked (carried_here k id)) (is_marked (carried_here (run_state_after s k row) id)) same.marked none));
+  clear = λ open_is none. clear (h.clear (not_unless (has_item k.story.sent.over (process id))
+      (has_item (run_state_after s k row).story.sent.over (process id)) (λ e. over_row s k row (process id) e) open_is)
+      (not_unless (is_marked (carried_here k id))
+      (is_marked (carried_here (run_state_after s k row) id)) same.marked none));
 }
 
 pub over_stands : (k : RunState) (id : ProcId) → has_item k.story.sent.over (process id) ≡ true → StandsClear k id
 over_stands k id e = record { clear = λ open_is none. absurd (true≢false (sym e ∙ open_is)) }
 
 -- No connection stands before the row, nor after it.
-pub apart_stands : (s : ScenarioValue) (k : RunState) (row : Row) (id : ProcId) → k.story.bus_state.connection ≡ None → (row_reading k.story.bus_state row).next ≡ None → StandsClear k id → StandsClear (run_state_after s k row) id
-apart_stands s k row id con next h = stands_on s k row id (apart_same s k row id (inr (con, next))) (λ c. apart_clear s k row id con c) h
+pub apart_stands : (s : ScenarioValue) (k : RunState) (row : Row) (id : ProcId) → k.story.bus_state.connection ≡ None
+    → (row_reading k.story.bus_state row).next ≡ None → StandsClear k id → StandsClear (run_state_after s k row) id
+apart_stands s k row id con next h =
+    stands_on s k row id (apart_same s k row id (inr (con, next))) (λ c. apart_clear s k row id con c) h
 
 -- One begins.
-pub begins_stands : (s : ScenarioValue) (k : RunState) (row : Row) (n : Connection) (id : ProcId) → IsFirstRow k row n → StandsClear k id → StandsClear (run_state_after s k row) id
-begins_stands s k row n id b h = stands_on s k row id (begins_same s k row n id b.connection_is b.next_is b.calm) (λ c. apart_clear s k row id b.connection_is c) h
+pub begins_stands : (s : ScenarioValue) (k : RunState) (row : Row) (n : Connection) (id : ProcId) → IsFirstRow k row n
+    → StandsClear k id → StandsClear (run_state_after s k row) id
+begins_stands s k row n id b h = stands_on s k row id (begins_same s k row n id b.connection_is b.next_is b.calm)
+    (λ c. apart_clear s k row id b.connection_is c) h
 
 -- One ends.
-pub ends_stands : (s : ScenarioValue) (k : RunState) (row : Row) (n : Connection) (id : ProcId) → k.story.bus_state.connection ≡ Some n → (row_reading k.story.bus_state row).next ≡ None → StandsClear k id → StandsClear (run_state_after s k row) id
-ends_stands s k row n id con next h =
-    stands_on s k row id (ends_same s k row n id con next) (λ c. clear_as (carried_here k id) (carried_here (run_state_after s k row) id) (away.ends_same s k row n id con next) c) h
+pub ends_stands : (s : ScenarioValue) (k : RunState) (row : Row) (n : Connection) (id : ProcId)
+    → k.story.bus_state.connection ≡ Some n → (row_reading k.story.bus_state row).next ≡ None → StandsClear k id
+    → StandsClear (run_state_after s k row) id
+ends_stands s k row n id con next h = stands_on s k row id (ends_same s k row n id con next) (λ c. clear_as
+    (carried_here k id) (carried_here (run_state_after s k row) id) (away.ends_same s k row n id con next) c) h
 
 -- It is clear, or has an answer, as the connection that serves it ends.
-pub freed_stands : (s : ScenarioValue) (k : RunState) (row : Row) (n : Connection) (id : ProcId) → k.story.bus_state.connection ≡ Some n → (row_reading k.story.bus_state row).next ≡ None → (is_marked (carried_here k id) ≡ true) ⊎ IsClear (carried_here k id) → StandsClear (run_state_after s k row) id
+pub freed_stands : (s : ScenarioValue) (k : RunState) (row : Row) (n : Connection) (id : ProcId)
+    → k.story.bus_state.connection ≡ Some n → (row_reading k.story.bus_state row).next ≡ None
+    → (is_marked (carried_here k id) ≡ true) ⊎ IsClear (carried_here k id) → StandsClear (run_state_after s k row) id
 freed_stands s k row n id con next h = ends_stands s k row n id con next (by h)
   where
     by : (is_marked (carried_here k id) ≡ true) ⊎ IsClear (carried_here k id) → StandsClear k id
@@ -59,30 +72,41 @@ freed_stands s k row n id con next h = ends_stands s k row n id con next (by h)
     by (inr c) = record { clear = λ open_is none. c }
 
 -- RST is true after the row.
-pub reset_stands : (s : ScenarioValue) (k : RunState) (row : Row) (id : ProcId) → (row_reading k.story.bus_state row).change.after.rst ≡ true → StandsClear k id → StandsClear (run_state_after s k row) id
-reset_stands s k row id on h = stands_on s k row id (apart_same s k row id (inl on)) (λ c. clear_as (carried_here k id) (carried_here (run_state_after s k row) id) (reset_same s k row id on) c) h
+pub reset_stands : (s : ScenarioValue) (k : RunState) (row : Row) (id : ProcId)
+    → (row_reading k.story.bus_state row).change.after.rst ≡ true → StandsClear k id
+    → StandsClear (run_state_after s k row) id
+reset_stands s k row id on h = stands_on s k row id (apart_same s k row id (inl on))
+    (λ c. clear_as (carried_here k id) (carried_here (run_state_after s k row) id) (reset_same s k row id on) c) h
 
 -- ---- in a connection that does not serve it
 
 -- A fault strikes a byte of the process of the connection alone.
-fault_not : (b : Story) (l : Link) (kind : Kind) (id : ProcId) → IsNot id l.item → carried_of (story_after_fault b l kind).carried id ≡ carried_of b.carried id
+fault_not : (b : Story) (l : Link) (kind : Kind) (id : ProcId) → IsNot id l.item
+    → carried_of (story_after_fault b l kind).carried id ≡ carried_of b.carried id
 fault_not b l (Drives lines) id other = refl
 fault_not b l (Fault bit) id other = go l.item other b.bus_state.crossed
   where
-    go : (item : Option Item) → IsNot id item → (c : Option Change) → carried_of (story_with_carried b (carried_after_fault_if (carried_if b item) c)).carried id ≡ carried_of b.carried id
+    go : (item : Option Item) → IsNot id item → (c : Option Change)
+        → carried_of (story_with_carried b (carried_after_fault_if (carried_if b item) c)).carried id
+        ≡ carried_of b.carried id
     go None f c = refl
     go (Some (abort n)) f c = refl
     go (Some (process x)) f None = put_other b.carried (carried_of b.carried x) x id (carried_id b.carried x) (f x refl)
-    go (Some (process x)) f (Some c) = put_other b.carried (carried_after_fault (carried_of b.carried x) c.before) x id (fault_id (carried_of b.carried x) c.before ∙ carried_id b.carried x) (f x refl)
+    go (Some (process x)) f (Some c) = put_other b.carried (carried_after_fault (carried_of b.carried x) c.before) x id
+        (fault_id (carried_of b.carried x) c.before ∙ carried_id b.carried x) (f x refl)
 
 abbrev NamesOr : ScenarioValue → RunState → Connection → Change → Bool → Type 0
 NamesOr s k n c now =
     (l : Link) (m : MsgIn) → k.story.link ≡ Some l → (reading_in k.story.bus_state n c now).into ≡ Some m
-    → ((link_after_name k.story.sent s.commands l m).item ≡ k.served) ⊎ ((link_after_name k.story.sent s.commands l m).item ≡ None)
+    → ((link_after_name k.story.sent s.commands l m).item ≡ k.served)
+    ⊎ ((link_after_name k.story.sent s.commands l m).item ≡ None)
 
-other_same : (s : ScenarioValue) (k : RunState) (row : Row) (n : Connection) (c : Change) (id : ProcId) (now : Bool) → IsRowIn k row n c → is_some (receiver_in n c) ≡ now → Knows s k n → UndoesServed k → IsNot id k.served → NamesOr s k n c now → SameFail (carried_here k id) (carried_here (run_state_after s k row) id)
-other_same s k row n c id now r en knows undoes other names =
-    subst (λ (x : CarriedBytes). SameFail x (carried_here (run_state_after s k row) id)) (go d.crosses d.out d.into refl) (row_carries s k row n c now knows.link r en knows.link_is id)
+other_same : (s : ScenarioValue) (k : RunState) (row : Row) (n : Connection) (c : Change) (id : ProcId) (now : Bool)
+    → IsRowIn k row n c → is_some (receiver_in n c) ≡ now → Knows s k n → UndoesServed k → IsNot id k.served
+    → NamesOr s k n c now → SameFail (carried_here k id) (carried_here (run_state_after s k row) id)
+other_same s k row n c id now r en knows undoes other names = subst
+    (λ (x : CarriedBytes). SameFail x (carried_here (run_state_after s k row) id)) (go d.crosses d.out d.into refl)
+    (row_carries s k row n c now knows.link r en knows.link_is id)
   where
     d : RowReading
     d = reading_in k.story.bus_state n c now
@@ -90,15 +114,20 @@ other_same s k row n c id now r en knows undoes other names =
     own : (knows.link.item ≡ k.served) ⊎ (knows.link.item ≡ None)
     own = elim knows.item_is [ inl z ↦ inl z | inr z ↦ inr z.1 ]
 
-    go : (q : Bool) (o : Option MsgOut) (m : Option MsgIn) → d.into ≡ m → carried_of (if q then (if is_some o then story_after_out k.story knows.link o else if is_some m then story_after_in s k.story knows.link m else story_after_byte k.story knows.link d) else story_after_fault k.story knows.link row.kind).carried id ≡ carried_here k id
+    go : (q : Bool) (o : Option MsgOut) (m : Option MsgIn) → d.into ≡ m
+        → carried_of (if q then (if is_some o then story_after_out k.story knows.link o
+        else if is_some m then story_after_in s k.story knows.link m else story_after_byte k.story knows.link d)
+        else story_after_fault k.story knows.link row.kind).carried id ≡ carried_here k id
     go false o m e = fault_not k.story knows.link row.kind id (item_not id k n knows.link.item other own)
     go true (Some o) m e = out_other k.story knows.link o id (λ u z. other u.id (undoes knows.link u knows.link_is z))
     go true None None e = byte_other k.story knows.link d id (item_not id k n knows.link.item other own)
-    go true None (Some m) e = in_other s k.story knows.link m id (item_not id k n (link_after_name k.story.sent s.commands knows.link m).item other (names knows.link m knows.link_is e))
+    go true None (Some m) e = in_other s k.story knows.link m id (item_not id k n
+        (link_after_name k.story.sent s.commands knows.link m).item other (names knows.link m knows.link_is e))
 
 -- ---- a connection goes on
 
-pub goes_clear : (s : ScenarioValue) (k : RunState) (row : Row) (n : Connection) (c : Change) → Books s k → GoesOn s k row n c → ClearBooks k → ClearBooks (run_state_after s k row)
+pub goes_clear : (s : ScenarioValue) (k : RunState) (row : Row) (n : Connection) (c : Change) → Books s k
+    → GoesOn s k row n c → ClearBooks k → ClearBooks (run_state_after s k row)
 goes_clear s k row n c was g h = go r.kind
   where
     j : RunState
@@ -116,13 +145,15 @@ goes_clear s k row n c was g h = go r.kind
     undoes : UndoesServed k
     undoes = h.undoes n r.connection_is g.calm
 
-    made : (phase now fault : Bool) → is_some (receiver_in n c) ≡ now → InConnection s k row n c phase now fault → ClearBooks j
+    made : (phase now fault : Bool) → is_some (receiver_in n c) ≡ now → InConnection s k row n c phase now fault
+        → ClearBooks j
     made phase now fault en i = record {
       away = λ id other.
           let apart : IsNot id k.served = λ x e. other x (i.served_is ∙ e) in
           let names : NamesOr s k n c now = λ l m el em. names_or s k row n c now l m r en knows g gives el em in
-          stands_on s k row id (goes_other s k row n c id now r en knows undoes apart names)
-          (λ w. clear_as (carried_here k id) (carried_here j id) (other_same s k row n c id now r en knows undoes apart names) w) (h.away id apart);
+          stands_on s k row id (goes_other s k row n c id now r en knows undoes apart names) (λ w. clear_as
+          (carried_here k id) (carried_here j id) (other_same s k row n c id now r en knows undoes apart names) w)
+          (h.away id apart);
       reset = λ on id. absurd (true≢false (sym on ∙ ap (λ (l : LineSet). l.rst) i.bus_is ∙ r.calm));
       undoes = λ m e off. goes_undoes s k row n c now r en knows i.served_is undoes;
     }
@@ -131,15 +162,21 @@ goes_clear s k row n c was g h = go r.kind
     none_crosses e = ap (λ (z : Option ℕ). is_some z) e
 
     go : RowKind row n c → ClearBooks j
-    go (still ef ep er) = made false false false (none_crosses er) (in_connection s k row n c false false false r ep (none_crosses er) ef)
-    go (strikes ef ep er) = made false false true (none_crosses er) (in_connection s k row n c false false true r ep (none_crosses er) ef)
-    go (crosses dev ef ep er) = made false true false (ap (λ (z : Option ℕ). is_some z) er) (in_connection s k row n c false true false r ep (ap (λ (z : Option ℕ). is_some z) er) ef)
-    go (turns ef ep er) = made true false false (none_crosses er) (in_connection s k row n c true false false r ep (none_crosses er) ef)
+    go (still ef ep er) =
+        made false false false (none_crosses er) (in_connection s k row n c false false false r ep (none_crosses er) ef)
+    go (strikes ef ep er) =
+        made false false true (none_crosses er) (in_connection s k row n c false false true r ep (none_crosses er) ef)
+    go (crosses dev ef ep er) = made false true false (ap (λ (z : Option ℕ). is_some z) er)
+        (in_connection s k row n c false true false r ep (ap (λ (z : Option ℕ). is_some z) er) ef)
+    go (turns ef ep er) =
+        made true false false (none_crosses er) (in_connection s k row n c true false false r ep (none_crosses er) ef)
 
 -- ---- the other rows
 
 -- Before which it holds of all.
-pub all_clear : (k : RunState) → ((id : ProcId) → StandsClear k id) → ((n : Connection) → k.story.bus_state.connection ≡ Some n → (bus_of k).rst ≡ false → UndoesServed k) → ClearBooks k
+pub all_clear : (k : RunState) → ((id : ProcId) → StandsClear k id)
+    → ((n : Connection) → k.story.bus_state.connection ≡ Some n → (bus_of k).rst ≡ false → UndoesServed k)
+    → ClearBooks k
 all_clear k all undoes = record { away = λ id other. all id; reset = λ on id. all id; undoes = undoes }
 
 pub none_served : (k : RunState) (id : ProcId) → ClearBooks k → k.served ≡ None → StandsClear k id
@@ -148,27 +185,40 @@ none_served k id h none = h.away id (λ x e. no_item x (sym none ∙ e))
     no_item : (x : ProcId) → (let o : Option Item = None in o) ≡ Some (process x) → same_id x id ≡ false
     no_item x e = absurd cc
 
-pub apart_books : (s : ScenarioValue) (k : RunState) (row : Row) → k.story.bus_state.connection ≡ None → (row_reading k.story.bus_state row).next ≡ None → k.served ≡ None → ClearBooks k → ClearBooks (run_state_after s k row)
-apart_books s k row con next none h = all_clear (run_state_after s k row) (λ id. apart_stands s k row id con next (none_served k id h none)) (λ n e off. none_some n (sym next ∙ e))
+pub apart_books : (s : ScenarioValue) (k : RunState) (row : Row) → k.story.bus_state.connection ≡ None
+    → (row_reading k.story.bus_state row).next ≡ None → k.served ≡ None → ClearBooks k
+    → ClearBooks (run_state_after s k row)
+apart_books s k row con next none h = all_clear (run_state_after s k row)
+    (λ id. apart_stands s k row id con next (none_served k id h none)) (λ n e off. none_some n (sym next ∙ e))
 
-pub begins_books : (s : ScenarioValue) (k : RunState) (row : Row) (n : Connection) → IsFirstRow k row n → k.served ≡ None → ClearBooks k → ClearBooks (run_state_after s k row)
-begins_books s k row n b none h = all_clear (run_state_after s k row) (λ id. begins_stands s k row n id b (none_served k id h none)) (λ m e off. begins_undoes s k row n b)
+pub begins_books : (s : ScenarioValue) (k : RunState) (row : Row) (n : Connection) → IsFirstRow k row n
+    → k.served ≡ None → ClearBooks k → ClearBooks (run_state_after s k row)
+begins_books s k row n b none h = all_clear (run_state_after s k row)
+    (λ id. begins_stands s k row n id b (none_served k id h none)) (λ m e off. begins_undoes s k row n b)
 
--- ---- As the connection that serves a process ends, it is over, or has an answer, or nothing has struck it (6.1.1, 6.6.5, 6.6.6).
+-- ---- As the connection that serves a process ends, it is over, or has an answer, or nothing has struck it (6.1.1,
+-- 6.6.5, 6.6.6).
 
 -- ---- it is lost
 
-lost_now : (s : ScenarioValue) (k : RunState) (row : Row) (l : Link) (id : ProcId) → k.story.link ≡ Some l → (row_reading k.story.bus_state row).change.after.rst ≡ false → (row_reading k.story.bus_state row).next ≡ None → l.item ≡ Some (process id) → l.last ≡ plain → has_item (run_state_after s k row).story.sent.over (process id) ≡ true
+lost_now : (s : ScenarioValue) (k : RunState) (row : Row) (l : Link) (id : ProcId)
+    → k.story.link ≡ Some l → (row_reading k.story.bus_state row).change.after.rst ≡ false
+    → (row_reading k.story.bus_state row).next ≡ None → l.item ≡ Some (process id) → l.last ≡ plain
+    → has_item (run_state_after s k row).story.sent.over (process id) ≡ true
 lost_now s k row l id link calm next item last =
-    ap (λ (x : List Event). has_item (story_after_events s changed x).sent.over (process id)) (free_shown s k row l link calm next ∙ ap (λ (x : LastMessage). bus_free_events s l x) last ∙ ap item_loss_events item)
-    ∙ lost_over s changed id
+    ap (λ (x : List Event). has_item (story_after_events s changed x).sent.over (process id))
+    (free_shown s k row l link calm next ∙ ap (λ (x : LastMessage). bus_free_events s l x) last
+    ∙ ap item_loss_events item) ∙ lost_over s changed id
   where
     changed : Story
     changed = story_by_change s k.story (row_reading k.story.bus_state row) row
 
 -- ---- a row with which a connection ends, RST being false
 
-ends_calm : (s : ScenarioValue) (p : List Row) (row : Row) (n : Connection) (id : ProcId) → Obeys s → IsPrompt s (row ∷ p) → Stood s p → TellFacts s p → FailFacts s p → PlaceFacts s p → SentAsLeft s p row → Ends s (run_state s p) row n → (row_reading (run_state s p).story.bus_state row).change.after.rst ≡ false → (run_state s p).served ≡ Some (process id) → StandsClear (run_state s (row ∷ p)) id
+ends_calm : (s : ScenarioValue) (p : List Row) (row : Row) (n : Connection) (id : ProcId) → Obeys s
+    → IsPrompt s (row ∷ p) → Stood s p → TellFacts s p → FailFacts s p → PlaceFacts s p → SentAsLeft s p row
+    → Ends s (run_state s p) row n → (row_reading (run_state s p).story.bus_state row).change.after.rst ≡ false
+    → (run_state s p).served ≡ Some (process id) → StandsClear (run_state s (row ∷ p)) id
 ends_calm s p row n id o prompt was facts fails places sent g calm served = go (phase_of (bus_of k)) refl
   where
     k : RunState
@@ -181,7 +231,8 @@ ends_calm s p row n id o prompt was facts fails places sent g calm served = go (
     h = ends_row s p row n o prompt was g calm
 
     told : EndTold k knows.link
-    told = end_told s p row n knows.link o prompt was places (left_tells s p row o prompt was facts (fails_as_left s p row o prompt was sent fails)) g calm knows.link_is
+    told = end_told s p row n knows.link o prompt was places
+        (left_tells s p row o prompt was facts (fails_as_left s p row o prompt was sent fails)) g calm knows.link_is
 
     begun : k.exchange.begun ≡ true
     begun = end_begun s p row n o prompt was g calm
@@ -190,25 +241,25 @@ ends_calm s p row n id o prompt was facts fails places sent g calm served = go (
     leaving = record {
       stands = h.con;
       calm = h.off;
-      calm_after = sym (ap (λ (x : Change). x.after.rst) (change_plain s row p was.standing.devices (least_is s p row prompt.1).inside)) ∙ calm;
+      calm_after = sym (ap (λ (x : Change). x.after.rst)
+          (change_plain s row p was.standing.devices (least_is s p row prompt.1).inside))
+          ∙ calm;
       begun = begun;
       leaves = inr g.next_is;
     }
 
     -- outside MESSAGE IN it is lost
     loses : (phase_of (bus_of k) ≡ Phase.MessageIn → ⊥) → StandsClear (run_state s (row ∷ p)) id
-    loses other =
-        over_stands (run_state s (row ∷ p)) id
-        (lost_now s k row knows.link id knows.link_is calm g.next_is (told.named id served)
-        (lost_by s p n knows.link id was facts.last g knows.link_is served other (λ z. lost_in s p row n knows.link id o prompt was facts.last g calm knows.link_is served z) begun))
+    loses other = over_stands (run_state s (row ∷ p)) id (lost_now s k row knows.link id knows.link_is calm g.next_is
+        (told.named id served) (lost_by s p n knows.link id was facts.last g knows.link_is served other
+        (λ z. lost_in s p row n knows.link id o prompt was facts.last g calm knows.link_is served z) begun))
 
     apart : (x : Phase) → phase_of (bus_of k) ≡ x → is_in_phase x ≡ false → phase_of (bus_of k) ≡ Phase.MessageIn → ⊥
     apart x e f z = absurd (true≢false (ap is_in_phase (sym z ∙ e) ∙ f))
 
     go : (x : Phase) → phase_of (bus_of k) ≡ x → StandsClear (run_state s (row ∷ p)) id
-    go Phase.MessageIn e =
-        freed_stands s k row n id g.connection_is g.next_is
-        (freed_as_left s p row n id o prompt was fails leaving served e (ends_low s p row n o prompt was g calm e) (told.next id served e))
+    go Phase.MessageIn e = freed_stands s k row n id g.connection_is g.next_is (freed_as_left s p row n id o prompt was
+        fails leaving served e (ends_low s p row n o prompt was g calm e) (told.next id served e))
     go Phase.MessageOut e = loses (apart Phase.MessageOut e refl)
     go Phase.Command e = loses (apart Phase.Command e refl)
     go Phase.Status e = loses (apart Phase.Status e refl)
@@ -221,7 +272,10 @@ not_open : (a b : Bool) → a ≡ true → ((a && not b) ≡ true → true ≡ f
 not_open a true e f = refl
 not_open a false e f = absurd (true≢false (f (λ i. e i && true)))
 
-pub reset_over : (s : ScenarioValue) (p : List Row) (row : Row) (id : ProcId) → IsPrompt s (row ∷ p) → Stood s p → PlaceFacts s p → ItemFacts s (row ∷ p) → (bus_of (run_state s p)).rst ≡ false → (row_reading (run_state s p).story.bus_state row).change.after.rst ≡ true → (run_state s p).served ≡ Some (process id) → has_item (run_state s (row ∷ p)).story.sent.over (process id) ≡ true
+pub reset_over : (s : ScenarioValue) (p : List Row) (row : Row) (id : ProcId) → IsPrompt s (row ∷ p)
+    → Stood s p → PlaceFacts s p → ItemFacts s (row ∷ p) → (bus_of (run_state s p)).rst ≡ false
+    → (row_reading (run_state s p).story.bus_state row).change.after.rst ≡ true
+    → (run_state s p).served ≡ Some (process id) → has_item (run_state s (row ∷ p)).story.sent.over (process id) ≡ true
 reset_over s p row id prompt was places after off on served = go id.sense refl
   where
     k : RunState
@@ -236,26 +290,32 @@ reset_over s p row id prompt was places after off on served = go id.sense refl
     change : (row_reading k.story.bus_state row).change ≡ change_of p row
     change = change_plain s row p was.standing.devices lt
 
-    raised : rises (row_reading k.story.bus_state row).change.own.rst (row_reading k.story.bus_state row).change.next.rst ≡ true
-    raised = ap (λ (x : Change). rises x.own.rst x.next.rst) change ∙ rst_raised p row lt (ap (λ (x : LineSet). x.rst) (sym was.plain.bus) ∙ off) (ap (λ (x : Change). x.after.rst) (sym change) ∙ on)
+    raised :
+        rises (row_reading k.story.bus_state row).change.own.rst (row_reading k.story.bus_state row).change.next.rst
+        ≡ true
+    raised = ap (λ (x : Change). rises x.own.rst x.next.rst) change
+        ∙ rst_raised p row lt (ap (λ (x : LineSet). x.rst) (sym was.plain.bus) ∙ off)
+        (ap (λ (x : Change). x.after.rst) (sym change) ∙ on)
 
     sent : has_item k.story.sent.sent (process id) ≡ true
     sent = places.sent id served
 
     go : (q : Bool) → id.sense ≡ q → has_item j.story.sent.over (process id) ≡ true
     go false e = let own = places.of_scenario id served in command_over s k row id own.0 own.1 e sent on raised
-    go true e =
-        ap (has_item j.story.sent.over) sense
-        ∙ not_open (has_item j.story.sent.sent (sense_item id.command)) (has_item j.story.sent.over (sense_item id.command))
-        (ap (λ (x : List Item). has_item x (sense_item id.command)) (sends_none s k row (inr on)) ∙ ap (has_item k.story.sent.sent) (sym sense) ∙ sent)
-        (λ z. sym on ∙ (after.items.senses id.command z).1)
+    go true e = ap (has_item j.story.sent.over) sense ∙ not_open
+        (has_item j.story.sent.sent (sense_item id.command)) (has_item j.story.sent.over (sense_item id.command))
+        (ap (λ (x : List Item). has_item x (sense_item id.command)) (sends_none s k row (inr on))
+        ∙ ap (has_item k.story.sent.sent) (sym sense) ∙ sent) (λ z. sym on ∙ (after.items.senses id.command z).1)
       where
         sense : process id ≡ sense_item id.command
         sense = λ i. process (record { command = id.command; sense = e i })
 
 -- ---- either
 
-pub ends_served : (s : ScenarioValue) (p : List Row) (row : Row) (n : Connection) (id : ProcId) → Obeys s → IsPrompt s (row ∷ p) → Stood s p → TellFacts s p → FailFacts s p → PlaceFacts s p → ItemFacts s (row ∷ p) → SentAsLeft s p row → Ends s (run_state s p) row n → (run_state s p).served ≡ Some (process id) → StandsClear (run_state s (row ∷ p)) id
+pub ends_served : (s : ScenarioValue) (p : List Row) (row : Row) (n : Connection) (id : ProcId) → Obeys s
+    → IsPrompt s (row ∷ p) → Stood s p → TellFacts s p → FailFacts s p → PlaceFacts s p → ItemFacts s (row ∷ p)
+    → SentAsLeft s p row → Ends s (run_state s p) row n → (run_state s p).served ≡ Some (process id)
+    → StandsClear (run_state s (row ∷ p)) id
 ends_served s p row n id o prompt was facts fails places after sent g served =
     by_bool (row_reading (run_state s p).story.bus_state row).change.after.rst
     (λ on. over_stands (run_state s (row ∷ p)) id (reset_over s p row id prompt was places after g.calm on served))
@@ -274,11 +334,17 @@ clear_start s = record { away = λ id other. start id; reset = λ on id. start i
 -- ---- as a connection begins
 
 -- A process that was not sent has carried nothing.
-unsent_clear : (s : ScenarioValue) (p : List Row) (id : ProcId) → ItemFacts s p → has_item (run_state s p).story.sent.sent (process id) ≡ false → IsClear (carried_here (run_state s p) id)
-unsent_clear s p id items e = subst (λ (x : Option CarriedBytes). IsClear (carried_or_nothing x id)) (sym ((items_sent s p items).carried id e)) (record { failure = refl; struck = refl })
+unsent_clear : (s : ScenarioValue) (p : List Row) (id : ProcId) → ItemFacts s p
+    → has_item (run_state s p).story.sent.sent (process id) ≡ false → IsClear (carried_here (run_state s p) id)
+unsent_clear s p id items e = subst (λ (x : Option CarriedBytes). IsClear (carried_or_nothing x id))
+    (sym ((items_sent s p items).carried id e)) (record { failure = refl; struck = refl })
 
-pub clear_asks : (s : ScenarioValue) (p : List Row) (row : Row) → Obeys s → IsPrompt s (row ∷ p) → Stood s p → ItemFacts s p → ((n : Connection) → connection p ≡ None → connection (row ∷ p) ≡ Some n → IsUnshown s (run_state s p) n) → ClearFacts s p → BeginsClear s p row
-clear_asks s p row o prompt was items unshown h n id alone after calm served = apart_clear s k row id con (by_bool n.reselected (λ e. again e (ready_of s k n.target) refl (anew true e)) (λ e. selected e (anew false e)))
+pub clear_asks : (s : ScenarioValue) (p : List Row) (row : Row)
+    → Obeys s → IsPrompt s (row ∷ p) → Stood s p → ItemFacts s p
+    → ((n : Connection) → connection p ≡ None → connection (row ∷ p) ≡ Some n → IsUnshown s (run_state s p) n)
+    → ClearFacts s p → BeginsClear s p row
+clear_asks s p row o prompt was items unshown h n id alone after calm served = apart_clear s k row id con
+    (by_bool n.reselected (λ e. again e (ready_of s k n.target) refl (anew true e)) (λ e. selected e (anew false e)))
   where
     k : RunState
     k = run_state s p
@@ -287,19 +353,24 @@ clear_asks s p row o prompt was items unshown h n id alone after calm served = a
     con = was.plain.connection ∙ alone
 
     next : (row_reading k.story.bus_state row).next ≡ Some n
-    next = (λ i. connection_after (was.plain.connection i) (was.plain.call i) (change_plain s row p was.standing.devices (least_is s p row prompt.1).inside i) row) ∙ after
+    next = (λ i. connection_after (was.plain.connection i) (was.plain.call i)
+        (change_plain s row p was.standing.devices (least_is s p row prompt.1).inside i) row)
+        ∙ after
 
     none : k.served ≡ None
     none = (items.items.apart con).1
 
-    anew : (q : Bool) → n.reselected ≡ q → (if q then item_if (ready_of s k n.target) else aim_of k.story.aims n.initiator) ≡ Some (process id)
-    anew q e = ap (λ (x : Bool). if x then item_if (ready_of s k n.target) else aim_of k.story.aims n.initiator) (sym e) ∙ sym (λ i. served_after s k (con i) (next i)) ∙ served
+    anew : (q : Bool) → n.reselected ≡ q
+        → (if q then item_if (ready_of s k n.target) else aim_of k.story.aims n.initiator) ≡ Some (process id)
+    anew q e = ap (λ (x : Bool). if x then item_if (ready_of s k n.target) else aim_of k.story.aims n.initiator) (sym e)
+        ∙ sym (λ i. served_after s k (con i) (next i)) ∙ served
 
-    again : n.reselected ≡ true → (r : Option Ready) → ready_of s k n.target ≡ r → item_if r ≡ Some (process id) → IsClear (carried_here k id)
+    again : n.reselected ≡ true → (r : Option Ready) → ready_of s k n.target ≡ r → item_if r ≡ Some (process id)
+        → IsClear (carried_here k id)
     again e None er f = none_item id f
-    again e (Some r) er f =
-        subst (λ (x : ProcId). IsClear (carried_here k x)) (same_process r.process.id id f)
-        ((h.away r.process.id (λ x z. none_item x (sym none ∙ z))).clear (items_ready s p n.target r items er).opens (unshown n alone after e r er))
+    again e (Some r) er f = subst (λ (x : ProcId). IsClear (carried_here k x)) (same_process r.process.id id f)
+        ((h.away r.process.id (λ x z. none_item x (sym none ∙ z))).clear (items_ready s p n.target r items er).opens
+        (unshown n alone after e r er))
 
     selected : n.reselected ≡ false → aim_of k.story.aims n.initiator ≡ Some (process id) → IsClear (carried_here k id)
     selected e aim =
@@ -309,7 +380,9 @@ clear_asks s p row o prompt was items unshown h n id alone after calm served = a
 
 -- ---- the next row
 
-pub clear_next : (s : ScenarioValue) (p : List Row) (row : Row) → Obeys s → IsPrompt s (row ∷ p) → Stood s p → NextStood s p row → TellFacts s p → FailFacts s p → PlaceFacts s p → ItemFacts s (row ∷ p) → SentAsLeft s p row → ClearFacts s p → ClearFacts s (row ∷ p)
+pub clear_next : (s : ScenarioValue) (p : List Row) (row : Row) → Obeys s → IsPrompt s (row ∷ p) → Stood s p
+    → NextStood s p row → TellFacts s p → FailFacts s p → PlaceFacts s p → ItemFacts s (row ∷ p) → SentAsLeft s p row
+    → ClearFacts s p → ClearFacts s (row ∷ p)
 clear_next s p row o prompt was nx facts fails places after sent h = go nx.row_is
   where
     k : RunState

@@ -1,5 +1,5 @@
--- As a connection ends in MESSAGE OUT, its last message tells nothing; and in MESSAGE IN COMMAND COMPLETE was taken, where it was said
--- (6.1.1, 6.6.5).
+-- As a connection ends in MESSAGE OUT, its last message tells nothing; and in MESSAGE IN COMMAND COMPLETE was taken,
+-- where it was said (6.1.1, 6.6.5).
 use Rattle.trace_laws.proofs
 use proofs.Names.{ℕ, ◌≡◌, Bool, true, false, not, ◌&&◌, ◌==◌, ◌∙◌, List, ◌∷◌, length, Some, None, refl, sym, ap, subst}
 use proofs.Names.{if◌then◌else◌, ProcId, LineSet, is_message_in, connection, bus, Row, Change, Connection}
@@ -19,8 +19,17 @@ pub record EndsHere (s : ScenarioValue) (p : List Row) (row : Row) (n : Connecti
   pub stops : Stops s p row n
   pub known : (bus_of (run_state s p)).msg ≡ true → (bus_of (run_state s p)).cd ≡ true
 
-pub ends_row : (s : ScenarioValue) (p : List Row) (row : Row) (n : Connection) → Obeys s → IsPrompt s (row ∷ p) → Stood s p → Ends s (run_state s p) row n → (row_reading (run_state s p).story.bus_state row).change.after.rst ≡ false → EndsHere s p row n
-ends_row s p row n o prompt was g calm = record { con = con; off = off; plain_is = was.plain; stops = freed r.facts; known = λ m. ap (λ (l : LineSet). l.cd) was.plain.bus ∙ (link_phase s p n r.stage (ap (λ (l : LineSet). l.msg) (sym was.plain.bus) ∙ m)).0 }
+pub ends_row : (s : ScenarioValue) (p : List Row) (row : Row) (n : Connection)
+    → Obeys s → IsPrompt s (row ∷ p) → Stood s p → Ends s (run_state s p) row n
+    → (row_reading (run_state s p).story.bus_state row).change.after.rst ≡ false → EndsHere s p row n
+ends_row s p row n o prompt was g calm = record {
+  con = con;
+  off = off;
+  plain_is = was.plain;
+  stops = freed r.facts;
+  known = λ m. ap (λ (l : LineSet). l.cd) was.plain.bus
+      ∙ (link_phase s p n r.stage (ap (λ (l : LineSet). l.msg) (sym was.plain.bus) ∙ m)).0;
+}
   where
     k : RunState
     k = run_state s p
@@ -32,7 +41,9 @@ ends_row s p row n o prompt was g calm = record { con = con; off = off; plain_is
     off = sym (ap (λ (x : LineSet). x.rst) was.plain.bus) ∙ g.calm
 
     off_after : (bus (row ∷ p)).rst ≡ false
-    off_after = sym (ap (λ (x : Change). x.after.rst) (change_plain s row p was.standing.devices (least_is s p row prompt.1).inside)) ∙ calm
+    off_after = sym (ap (λ (x : Change). x.after.rst)
+        (change_plain s row p was.standing.devices (least_is s p row prompt.1).inside))
+        ∙ calm
 
     r : ConnectionRow s p row n
     r = connection_row s p row n o prompt was con off off_after
@@ -40,10 +51,14 @@ ends_row s p row n o prompt was g calm = record { con = con; off = off; plain_is
     freed : RowFacts s p row n → Stops s p row n
     freed (ends_here f) = f
     freed (stays f) =
-        let some : (row_reading k.story.bus_state row).next ≡ Some n = ap (λ (x : RowReading). x.next) (reading_is k row n f.change _ f.row_is refl) in
+        let some : (row_reading k.story.bus_state row).next ≡ Some n = ap
+        (λ (x : RowReading). x.next) (reading_is k row n f.change _ f.row_is refl) in
         some_none n (sym some ∙ g.next_is)
 
-pub lost_in : (s : ScenarioValue) (p : List Row) (row : Row) (n : Connection) (l : Link) (id : ProcId) → Obeys s → IsPrompt s (row ∷ p) → Stood s p → LastFacts s p → Ends s (run_state s p) row n → (row_reading (run_state s p).story.bus_state row).change.after.rst ≡ false → (run_state s p).story.link ≡ Some l → (run_state s p).served ≡ Some (process id) → phase_of (bus_of (run_state s p)) ≡ Phase.MessageOut → l.last ≡ plain
+pub lost_in : (s : ScenarioValue) (p : List Row) (row : Row) (n : Connection) (l : Link) (id : ProcId)
+    → Obeys s → IsPrompt s (row ∷ p) → Stood s p → LastFacts s p → Ends s (run_state s p) row n
+    → (row_reading (run_state s p).story.bus_state row).change.after.rst ≡ false → (run_state s p).story.link ≡ Some l
+    → (run_state s p).served ≡ Some (process id) → phase_of (bus_of (run_state s p)) ≡ Phase.MessageOut → l.last ≡ plain
 lost_in s p row n l id o prompt was facts g calm link e out = by.0 heard
   where
     k : RunState
@@ -56,26 +71,33 @@ lost_in s p row n l id o prompt was facts g calm link e out = by.0 heard
     begun = h.plain_is.begun ∙ h.stops.begun_is
 
     heard : k.story.bus_state.dialogue.is_last ≡ true
-    heard = (is_heard s k n (units_are s (obeys_fits s o)) (was.books.speaks n g.connection_is g.calm) begun h.known h.stops.over out).last
+    heard = (is_heard s k n (units_are s (obeys_fits s o))
+        (was.books.speaks n g.connection_is g.calm) begun h.known h.stops.over out).last
 
     talk : LastTalk k l
     talk = (facts n h.con h.off).0 l id link e
 
     by : LastBy l k.exchange.plan k.handshakes.requests k.story.bus_state.dialogue.is_last Phase.MessageOut
-    by = subst (λ (x : Phase). LastBy l k.exchange.plan k.handshakes.requests k.story.bus_state.dialogue.is_last x) out (talk.begun begun)
+    by = subst (λ (x : Phase). LastBy l k.exchange.plan k.handshakes.requests k.story.bus_state.dialogue.is_last x) out
+        (talk.begun begun)
 
 -- Outside the message phases the last message tells nothing.
-pub lost_by : (s : ScenarioValue) (p : List Row) (n : Connection) (l : Link) (id : ProcId) → Stood s p → LastFacts s p → {row : Row} → Ends s (run_state s p) row n → (run_state s p).story.link ≡ Some l → (run_state s p).served ≡ Some (process id) → (phase_of (bus_of (run_state s p)) ≡ Phase.MessageIn → ⊥)
-    → (phase_of (bus_of (run_state s p)) ≡ Phase.MessageOut → l.last ≡ plain) → (run_state s p).exchange.begun ≡ true → l.last ≡ plain
+pub lost_by : (s : ScenarioValue) (p : List Row) (n : Connection) (l : Link) (id : ProcId) → Stood s p
+    → LastFacts s p → {row : Row} → Ends s (run_state s p) row n → (run_state s p).story.link ≡ Some l
+    → (run_state s p).served ≡ Some (process id) → (phase_of (bus_of (run_state s p)) ≡ Phase.MessageIn → ⊥)
+    → (phase_of (bus_of (run_state s p)) ≡ Phase.MessageOut → l.last ≡ plain) → (run_state s p).exchange.begun ≡ true
+    → l.last ≡ plain
 lost_by s p n l id was facts g link e in_none out b = go (phase_of (bus_of k)) refl (talk.begun b)
   where
     k : RunState
     k = run_state s p
 
     talk : LastTalk k l
-    talk = (facts n (sym was.plain.connection ∙ g.connection_is) (sym (ap (λ (x : LineSet). x.rst) was.plain.bus) ∙ g.calm)).0 l id link e
+    talk = (facts n (sym was.plain.connection ∙ g.connection_is)
+        (sym (ap (λ (x : LineSet). x.rst) was.plain.bus) ∙ g.calm)).0 l id link e
 
-    go : (x : Phase) → phase_of (bus_of k) ≡ x → LastBy l k.exchange.plan k.handshakes.requests k.story.bus_state.dialogue.is_last x → l.last ≡ plain
+    go : (x : Phase) → phase_of (bus_of k) ≡ x
+        → LastBy l k.exchange.plan k.handshakes.requests k.story.bus_state.dialogue.is_last x → l.last ≡ plain
     go Phase.MessageIn z h = absurd (in_none z)
     go Phase.MessageOut z h = out z
     go _ z h = h
@@ -88,16 +110,25 @@ not_asked : (a b : Bool) → a ≡ false → (a && not b) ≡ false
 not_asked a b e = λ i. e i && not b
 
 -- In MESSAGE IN with ATN false.
-pub ends_low : (s : ScenarioValue) (p : List Row) (row : Row) (n : Connection) → Obeys s → IsPrompt s (row ∷ p) → Stood s p → Ends s (run_state s p) row n → (row_reading (run_state s p).story.bus_state row).change.after.rst ≡ false → phase_of (bus_of (run_state s p)) ≡ Phase.MessageIn → (bus_of (run_state s p)).atn ≡ false
+pub ends_low : (s : ScenarioValue) (p : List Row) (row : Row) (n : Connection)
+    → Obeys s → IsPrompt s (row ∷ p) → Stood s p → Ends s (run_state s p) row n
+    → (row_reading (run_state s p).story.bus_state row).change.after.rst ≡ false
+    → phase_of (bus_of (run_state s p)) ≡ Phase.MessageIn → (bus_of (run_state s p)).atn ≡ false
 ends_low s p row n o prompt was g calm into =
     let k : RunState = run_state s p in
     let h = ends_row s p row n o prompt was g calm in
     let v : Serving = serving_of s k n.target in
     unattended (bus_of k).atn (after_messages v k.exchange.plan.next)
-    (ap (λ (y : Phase). (phase_leaving v (bus_of k).atn y).to) (sym into) ∙ ap (λ (q : Bool). (leaving_by v q (bus_of k)).to) (sym (h.plain_is.begun ∙ h.stops.begun_is)) ∙ h.stops.whereto)
+    (ap (λ (y : Phase). (phase_leaving v (bus_of k).atn y).to) (sym into)
+    ∙ ap (λ (q : Bool). (leaving_by v q (bus_of k)).to) (sym (h.plain_is.begun ∙ h.stops.begun_is)) ∙ h.stops.whereto)
 
-pub taken_in : (s : ScenarioValue) (p : List Row) (row : Row) (n : Connection) (id : ProcId) → Obeys s → IsPrompt s (row ∷ p) → Stood s p → CloseFacts s p → Ends s (run_state s p) row n → (row_reading (run_state s p).story.bus_state row).change.after.rst ≡ false → (run_state s p).served ≡ Some (process id) → phase_of (bus_of (run_state s p)) ≡ Phase.MessageIn → IsCompleting (run_state s p) → has_ended (array_of s (run_state s p)) id ≡ true
-taken_in s p row n id o prompt was closes g calm e into m = books.ended id e lines m (books.counts.given lines asked none) low
+pub taken_in : (s : ScenarioValue) (p : List Row) (row : Row) (n : Connection) (id : ProcId)
+    → Obeys s → IsPrompt s (row ∷ p) → Stood s p → CloseFacts s p → Ends s (run_state s p) row n
+    → (row_reading (run_state s p).story.bus_state row).change.after.rst ≡ false
+    → (run_state s p).served ≡ Some (process id) → phase_of (bus_of (run_state s p)) ≡ Phase.MessageIn
+    → IsCompleting (run_state s p) → has_ended (array_of s (run_state s p)) id ≡ true
+taken_in s p row n id o prompt was closes g calm e into m =
+    books.ended id e lines m (books.counts.given lines asked none) low
   where
     k : RunState
     k = run_state s p

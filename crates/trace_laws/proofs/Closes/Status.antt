@@ -1,4 +1,5 @@
--- The status that the target offers is that of the reply that was given; and what a process carries of it stays that (6.4, 6.6.19).
+-- The status that the target offers is that of the reply that was given; and what a process carries of it stays that
+-- (6.4, 6.6.19).
 use Rattle.trace_laws.proofs
 use proofs.Names.{ℕ, zero, suc, ◌≡◌, Bool, true, false, ◌==◌, ◌∙◌, List, [], ◌∷◌, ◌++◌, Option, Some, refl, ap}
 use proofs.Names.{true≢false, length, if◌then◌else◌, nat_lt, slice_index, slice_set, eq_self, ScenarioValue, reply_in}
@@ -6,8 +7,12 @@ use proofs.Names.{Reply, Process, Area, area_with, status_byte, Messages, Phase,
 use proofs.Names.{byte_of_phase, reply_now, status_by, task_if, AreAll}
 
 -- The byte of STATUS.
-pub offers_given : (s : ScenarioValue) (k : RunState) (dev : ℕ) (p : Process) (reply : Reply) (m : Messages) (more place : ℕ) → process_served s k ≡ Some p → reply_in (array_of s k).replies p.id ≡ Some reply → byte_of_phase s k dev Phase.Status m more place ≡ reply.status
-offers_given s k dev p reply m more place served given = ap (λ (x : Option Process). status_byte (task_if s k x)) served ∙ ap (λ (x : Option Reply). status_by (reply_now (array_of s k) p) x) given
+pub offers_given :
+    (s : ScenarioValue) (k : RunState) (dev : ℕ) (p : Process) (reply : Reply) (m : Messages) (more place : ℕ)
+    → process_served s k ≡ Some p → reply_in (array_of s k).replies p.id ≡ Some reply
+    → byte_of_phase s k dev Phase.Status m more place ≡ reply.status
+offers_given s k dev p reply m more place served given = ap (λ (x : Option Process). status_byte (task_if s k x)) served
+    ∙ ap (λ (x : Option Reply). status_by (reply_now (array_of s k) p) x) given
 
 set_all : (x : ℕ) (bytes : List ℕ) (at : ℕ) → AreAll x bytes → AreAll x (slice_set bytes at x)
 set_all x [] at h = tt
@@ -27,6 +32,7 @@ area_all x a h = go (nat_lt a.active (length a.bytes))
     go false = more_all x a.bytes h
 
 -- The first of some.
-pub first_all : (x : ℕ) (bytes : List ℕ) → AreAll x bytes → (length bytes == 0) ≡ false → (x == slice_index bytes 0) ≡ true
+pub first_all : (x : ℕ) (bytes : List ℕ) → AreAll x bytes → (length bytes == 0) ≡ false
+    → (x == slice_index bytes 0) ≡ true
 first_all x [] h some = absurd (true≢false some)
 first_all x (b ∷ bytes) h some = ap (λ (y : ℕ). x == y) h.0 ∙ eq_self x

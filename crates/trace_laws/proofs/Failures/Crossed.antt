@@ -12,15 +12,20 @@ pub record CrossedBooks (k : RunState) : Type 0 where
   pub begun : is_some k.story.bus_state.crossed ≡ true → k.exchange.begun ≡ true
 
 abbrev pub CrossedFacts : ScenarioValue → List Row → Type 0
-CrossedFacts s rows = (n : Connection) → connection rows ≡ Some n → (bus rows).rst ≡ false → CrossedBooks (run_state s rows)
+CrossedFacts s rows =
+    (n : Connection) → connection rows ≡ Some n → (bus rows).rst ≡ false → CrossedBooks (run_state s rows)
 
 pub crossed_start : (s : ScenarioValue) → CrossedFacts s []
 crossed_start s n e calm = none_some n e
 
 none_crossed : (k : RunState) → k.story.bus_state.crossed ≡ None → CrossedBooks k
-none_crossed k e = record { here = λ g z. none_some g (sym e ∙ z); begun = λ z. wrong' (ap (λ (o : Option Change). is_some o) (sym e) ∙ z) }
+none_crossed k e = record {
+  here = λ g z. none_some g (sym e ∙ z);
+  begun = λ z. wrong' (ap (λ (o : Option Change). is_some o) (sym e) ∙ z);
+}
 
-pub crossed_next : (s : ScenarioValue) (p : List Row) (row : Row) → Obeys s → IsPrompt s (row ∷ p) → Stood s p → NextStood s p row → CrossedFacts s (row ∷ p)
+pub crossed_next : (s : ScenarioValue) (p : List Row) (row : Row) → Obeys s → IsPrompt s (row ∷ p) → Stood s p
+    → NextStood s p row → CrossedFacts s (row ∷ p)
 crossed_next s p row o prompt was next n after calm = go (row_kind s p row n o prompt was after calm)
   where
     lt : row.dev < 8
@@ -36,7 +41,9 @@ crossed_next s p row o prompt was next n after calm = go (row_kind s p row n o p
     ql = run_state_plain s (row ∷ p) (lt, was.standing.devices)
 
     silent : (o : Option Connection) → connection p ≡ o → receiver_of o (change_of p row) ≡ None → CrossedBooks j
-    silent o e z = none_crossed j (ql.crossed ∙ (λ i. crossed_if (is_some (receiver_of (e i) (change_of p row))) (change_of p row)) ∙ ap (λ (x : Option ℕ). crossed_if (is_some x) (change_of p row)) z)
+    silent o e z =
+        none_crossed j (ql.crossed ∙ (λ i. crossed_if (is_some (receiver_of (e i) (change_of p row))) (change_of p row))
+        ∙ ap (λ (x : Option ℕ). crossed_if (is_some x) (change_of p row)) z)
 
     on : connection p ≡ Some n → (g : GoingRow s p row n) → RowKind row n g.change → CrossedBooks j
     on con g (still ef ep er) = silent (Some n) con (ap (receiver_in n) (sym g.change_is) ∙ er)
@@ -44,12 +51,15 @@ crossed_next s p row o prompt was next n after calm = go (row_kind s p row n o p
     on con g (turns ef ep er) = silent (Some n) con (ap (receiver_in n) (sym g.change_is) ∙ er)
     on con g (crosses dev ef ep er) =
         let there : is_some (receiver_in n g.change) ≡ true = ap (λ (z : Option ℕ). is_some z) er in
-        let some : j.story.bus_state.crossed ≡ Some g.change =
-        ql.crossed ∙ (λ i. crossed_if (is_some (receiver_of (con i) (sym g.change_is i))) (sym g.change_is i)) ∙ ap (λ (x : Option ℕ). crossed_if (is_some x) g.change) er in
+        let some : j.story.bus_state.crossed ≡ Some g.change = ql.crossed
+        ∙ (λ i. crossed_if (is_some (receiver_of (con i) (sym g.change_is i))) (sym g.change_is i))
+        ∙ ap (λ (x : Option ℕ). crossed_if (is_some x) g.change) er in
         let i = in_connection s k row n g.change false true (is_fault row.kind) g.goes.row_is ep there refl in
         record {
-          here = λ h z. ap (λ (x : Change). phase_of x.before) (same_Some h g.change (sym z ∙ some)) ∙ sym (same_phase_of g.change ep) ∙ ap phase_of (sym i.bus_is);
-          begun = λ z. ap (λ (x : Exchange). x.begun) i.exchange_is ∙ g.goes.begun (ap (λ (x : RowReading). x.crosses) (reading_is k row n g.change true g.goes.row_is there));
+          here = λ h z. ap (λ (x : Change). phase_of x.before) (same_Some h g.change (sym z ∙ some))
+              ∙ sym (same_phase_of g.change ep) ∙ ap phase_of (sym i.bus_is);
+          begun = λ z. ap (λ (x : Exchange). x.begun) i.exchange_is ∙ g.goes.begun
+              (ap (λ (x : RowReading). x.crosses) (reading_is k row n g.change true g.goes.row_is there));
         }
 
     go : RowKindOf s p row n → CrossedBooks j

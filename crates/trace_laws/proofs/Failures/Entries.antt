@@ -18,21 +18,25 @@ pub record KeptFail (c d : CarriedBytes) : Type 0 where
   pub same : SameFail c d
   pub answer : is_marked c ≡ true → is_marked d ≡ true
 
-events_answer : (s : ScenarioValue) (b : Story) (shown : List Event) (id : ProcId) → is_marked (carried_of b.carried id) ≡ true → is_marked (carried_of (story_after_events s b shown).carried id) ≡ true
+events_answer : (s : ScenarioValue) (b : Story) (shown : List Event) (id : ProcId)
+    → is_marked (carried_of b.carried id) ≡ true
+    → is_marked (carried_of (story_after_events s b shown).carried id) ≡ true
 events_answer s b [] id h = h
 events_answer s b (e ∷ shown) id h =
     answered_on s (story_after_events s b shown) e id
     ∙ ap (λ (q : Bool). replies_to e id || q) (events_answer s b shown id h)
     ∙ or_true (replies_to e id)
 
-pub answer_kept : (s : ScenarioValue) (k : RunState) (row : Row) (id : ProcId) → UndoesAnswers k row → is_marked (carried_here k id) ≡ true → is_marked (carried_here (run_state_after s k row) id) ≡ true
-answer_kept s k row id undoes h =
-    events_answer s (story_by_change s k.story (row_reading k.story.bus_state row) row) (row_events_by s k.story (row_reading k.story.bus_state row) row) id
+pub answer_kept : (s : ScenarioValue) (k : RunState) (row : Row) (id : ProcId) → UndoesAnswers k row
+    → is_marked (carried_here k id) ≡ true → is_marked (carried_here (run_state_after s k row) id) ≡ true
+answer_kept s k row id undoes h = events_answer s (story_by_change s k.story (row_reading k.story.bus_state row) row)
+    (row_events_by s k.story (row_reading k.story.bus_state row) row) id
     (change_keeps s k.story (row_reading k.story.bus_state row) row undoes id ∙ h)
 
 -- ---- MESSAGE IN
 
-gives_kept : (l : Link) (c d : CarriedBytes) (p q : Plan) (count : ℕ) (next : Next) → KeptFail c d → q.messages ≡ p.messages → GivesFailure l c p count next → GivesFailure l d q count next
+gives_kept : (l : Link) (c d : CarriedBytes) (p q : Plan) (count : ℕ) (next : Next) → KeptFail c d
+    → q.messages ≡ p.messages → GivesFailure l c p count next → GivesFailure l d q count next
 gives_kept l c d p q count next w e h = go next h
   where
     one : ClearIn l c p.messages count → ClearIn l d q.messages count
@@ -45,22 +49,29 @@ gives_kept l c d p q count next w e h = go next h
     go Next.FreeBus (inl z) = inl (w.answer z)
     go Next.FreeBus (inr z) = inr (one z)
 
-pub gives_entered : (l : Link) (c d : CarriedBytes) (p q : Plan) (count other : ℕ) (next : Next) → KeptFail c d → q.messages ≡ p.messages → q.next ≡ next → other ≡ count → GivesFailure l c p count next → GivesFailure l d q other q.next
-gives_entered l c d p q count other next w em en ec h = subst (GivesFailure l d q other) (sym en) (subst (λ (x : ℕ). GivesFailure l d q x next) (sym ec) (gives_kept l c d p q count next w em h))
+pub gives_entered : (l : Link) (c d : CarriedBytes) (p q : Plan) (count other : ℕ) (next : Next)
+    → KeptFail c d → q.messages ≡ p.messages → q.next ≡ next → other ≡ count → GivesFailure l c p count next
+    → GivesFailure l d q other q.next
+gives_entered l c d p q count other next w em en ec h = subst (GivesFailure l d q other) (sym en)
+    (subst (λ (x : ℕ). GivesFailure l d q x next) (sym ec) (gives_kept l c d p q count next w em h))
 
 -- ---- COMMAND, data and STATUS
 
-pub sending_entered : (l : Link) (d : CarriedBytes) (q : Plan) (words : List ℕ) (count : ℕ) (phase : Phase) → is_sending (Some phase) ≡ true → IsClear d → q.struck ≡ false → FailsBy l d q words count phase
-sending_entered l d q words count Phase.Command e h s = (h.struck ∙ sym s, h.failure ∙ ap (λ (x : Bool). code_if x PARITY_ERROR) (sym s))
-sending_entered l d q words count Phase.DataOut e h s = (h.struck, h.failure ∙ ap (λ (x : Bool). code_if x PARITY_ERROR) (sym s))
+pub sending_entered : (l : Link) (d : CarriedBytes) (q : Plan) (words : List ℕ) (count : ℕ) (phase : Phase)
+    → is_sending (Some phase) ≡ true → IsClear d → q.struck ≡ false → FailsBy l d q words count phase
+sending_entered l d q words count Phase.Command e h s =
+    (h.struck ∙ sym s, h.failure ∙ ap (λ (x : Bool). code_if x PARITY_ERROR) (sym s))
+sending_entered l d q words count Phase.DataOut e h s =
+    (h.struck, h.failure ∙ ap (λ (x : Bool). code_if x PARITY_ERROR) (sym s))
 sending_entered l d q words count Phase.DataIn e h s = h.struck
 sending_entered l d q words count _ e h s = wrong' e
 
 -- A process that the initiator does not know yet is not left for STATUS.
-pub not_to_status : (v : Serving) (attention : Bool) (phase : Phase) → ((phase ≡ Phase.MessageOut) × (v.plan.cause ≡ Cause.InMessage)) ⊎ ((phase ≡ Phase.MessageIn) × (attention ≡ true)) → is_status_next (phase_leaving v attention phase).to ≡ false
-not_to_status v attention phase (inl e) =
-    ap (λ (x : Phase). is_status_next (phase_leaving v attention x).to) e.0
-    ∙ ap (λ (x : Cause). is_status_next (Rattle.bus_due.specs.bus_dialogue.specs.NextPhase.message_out_leaving v x).to) e.1
+pub not_to_status : (v : Serving) (attention : Bool) (phase : Phase)
+    → ((phase ≡ Phase.MessageOut) × (v.plan.cause ≡ Cause.InMessage)) ⊎ ((phase ≡ Phase.MessageIn) × (attention ≡ true))
+    → is_status_next (phase_leaving v attention phase).to ≡ false
+not_to_status v attention phase (inl e) = ap (λ (x : Phase). is_status_next (phase_leaving v attention x).to) e.0 ∙ ap
+    (λ (x : Cause). is_status_next (Rattle.bus_due.specs.bus_dialogue.specs.NextPhase.message_out_leaving v x).to) e.1
     ∙ refused v
 not_to_status v attention phase (inr e) =
     ap (λ (x : Phase). is_status_next (phase_leaving v attention x).to) e.0
@@ -68,7 +79,8 @@ not_to_status v attention phase (inr e) =
 
 -- ---- MESSAGE OUT
 
-refuses_when : (l : Link) (c d : CarriedBytes) (p : Plan) (words : List ℕ) (next : Next) → KeptFail c d → RefusesFailure l c p words next → RefusesFailure l d p words next
+refuses_when : (l : Link) (c d : CarriedBytes) (p : Plan) (words : List ℕ) (next : Next) → KeptFail c d
+    → RefusesFailure l c p words next → RefusesFailure l d p words next
 refuses_when l c d p words Next.Command w h = clear_out_as l c d p.messages words w.same h
 refuses_when l c d p words Next.GoOn w h = clear_out_as l c d p.messages words w.same h
 refuses_when l c d p words Next.Status w h = w.answer h
@@ -85,20 +97,31 @@ pub record Attends (l : Link) (c : CarriedBytes) (p q : Plan) (count : ℕ) (b :
   pub code : phase_of b ≡ Phase.DataIn → c.failure ≡ Some INITIATOR_DETECTED_ERROR
   pub given : phase_of b ≡ Phase.MessageIn → ((count == 0) ≡ false) × (count ≤ length (bytes_of_messages p.messages))
 
-pub out_entered : (l : Link) (c d : CarriedBytes) (p q : Plan) (words others : List ℕ) (count : ℕ) (b : LineSet) → KeptFail c d → Attends l c p q count b → FailsBy l c p words count (phase_of b) → SaysFailure l d q others q.cause
-out_entered l c d p q words others count b w a h = subst (SaysFailure l d q others) (sym a.cause) (go b.msg b.cd b.io a.lines a.to_it a.code a.given a.messages h)
+pub out_entered : (l : Link) (c d : CarriedBytes) (p q : Plan) (words others : List ℕ) (count : ℕ) (b : LineSet)
+    → KeptFail c d → Attends l c p q count b → FailsBy l c p words count (phase_of b) → SaysFailure l d q others q.cause
+out_entered l c d p q words others count b w a h =
+    subst (SaysFailure l d q others) (sym a.cause) (go b.msg b.cd b.io a.lines a.to_it a.code a.given a.messages h)
   where
-    go : (m e i : Bool) → (m ≡ true → e ≡ true) → is_attended (if m then (if i then Phase.MessageIn else Phase.MessageOut) else if e then (if i then Phase.Status else Phase.Command) else if i then Phase.DataIn else Phase.DataOut) ≡ true
-        → ((if m then (if i then Phase.MessageIn else Phase.MessageOut) else if e then (if i then Phase.Status else Phase.Command) else if i then Phase.DataIn else Phase.DataOut) ≡ Phase.DataIn → c.failure ≡ Some INITIATOR_DETECTED_ERROR)
-        → ((if m then (if i then Phase.MessageIn else Phase.MessageOut) else if e then (if i then Phase.Status else Phase.Command) else if i then Phase.DataIn else Phase.DataOut) ≡ Phase.MessageIn → ((count == 0) ≡ false) × (count ≤ length (bytes_of_messages p.messages)))
+    go : (m e i : Bool) → (m ≡ true → e ≡ true)
+        → is_attended (if m then (if i then Phase.MessageIn else Phase.MessageOut)
+        else if e then (if i then Phase.Status else Phase.Command) else if i then Phase.DataIn else Phase.DataOut)
+        ≡ true
+        → ((if m then (if i then Phase.MessageIn else Phase.MessageOut)
+        else if e then (if i then Phase.Status else Phase.Command) else if i then Phase.DataIn else Phase.DataOut)
+        ≡ Phase.DataIn → c.failure ≡ Some INITIATOR_DETECTED_ERROR)
+        → ((if m then (if i then Phase.MessageIn else Phase.MessageOut)
+        else if e then (if i then Phase.Status else Phase.Command) else if i then Phase.DataIn else Phase.DataOut)
+        ≡ Phase.MessageIn → ((count == 0) ≡ false) × (count ≤ length (bytes_of_messages p.messages)))
         → q.messages ≡ (if m && e && i then from_byte p.messages (count - 1) else p.messages)
-        → FailsBy l c p words count (if m then (if i then Phase.MessageIn else Phase.MessageOut) else if e then (if i then Phase.Status else Phase.Command) else if i then Phase.DataIn else Phase.DataOut)
+        → FailsBy l c p words count (if m then (if i then Phase.MessageIn else Phase.MessageOut)
+        else if e then (if i then Phase.Status else Phase.Command) else if i then Phase.DataIn else Phase.DataOut)
         → SaysFailure l d q others (if m && e && i then Cause.InMessage else if e then Cause.InStatus else Cause.InData)
     go true true true known to code given em x =
         let g = given refl in
-        subst (RefusesFailure l d q others) (sym a.next)
-        (refuses_kept l d (record p { messages = from_byte p.messages (count - 1) }) q others p.next em
-        (refuses_when l c d (record p { messages = from_byte p.messages (count - 1) }) others p.next w (refuses_left l c p count others p.next g.0 g.1 x)))
+        subst (RefusesFailure l d q others) (sym a.next) (refuses_kept l d (record p {
+          messages = from_byte p.messages (count - 1);
+        }) q others p.next em (refuses_when l c d (record p { messages = from_byte p.messages (count - 1) }) others
+        p.next w (refuses_left l c p count others p.next g.0 g.1 x)))
     go true true false known to code given em x = wrong' to
     go true false i known to code given em x = wrong' (known refl)
     go false true true known to code given em x = w.answer x

@@ -31,8 +31,10 @@ tag_restores Tag.Untagged = tt
 tag_restores _ = refl
 
 names_restore : (p : Process) (l : Link) (m : Messages) (count : ℕ) → Names p l m count → OnMessages RestoresNone m
-names_restore p l m count (all e f) = subst (λ (x : Messages). OnMessages RestoresNone x) (sym e) (refl, tag_restores p.tag)
-names_restore p l m count (tag_alone x e f g) = subst (λ (y : Messages). OnMessages RestoresNone y) (sym f) (subst (OnMessage RestoresNone) e (tag_restores p.tag), tt)
+names_restore p l m count (all e f) =
+    subst (λ (x : Messages). OnMessages RestoresNone x) (sym e) (refl, tag_restores p.tag)
+names_restore p l m count (tag_alone x e f g) = subst (λ (y : Messages). OnMessages RestoresNone y) (sym f)
+    (subst (OnMessage RestoresNone) e (tag_restores p.tag), tt)
 
 -- ---- a row of the connection
 
@@ -47,9 +49,12 @@ record Going (s : ScenarioValue) (p : List Row) (row : Row) (n : Connection) : T
   going : GoingRow s p row n
   undoes : UndoesAnswers (run_state s p) row
   known : going.change.after.msg ≡ true → going.change.after.cd ≡ true
-  code : changes_phase going.change ≡ true → (run_state s p).exchange.begun ≡ true → (id : ProcId) → (run_state s p).served ≡ Some (process id) → phase_of (bus_of (run_state s p)) ≡ Phase.DataIn → (carried_here (run_state s p) id).failure ≡ code_if (bus_of (run_state s p)).atn INITIATOR_DETECTED_ERROR
+  code : changes_phase going.change ≡ true → (run_state s p).exchange.begun ≡ true
+      → (id : ProcId) → (run_state s p).served ≡ Some (process id) → phase_of (bus_of (run_state s p)) ≡ Phase.DataIn
+      → (carried_here (run_state s p) id).failure ≡ code_if (bus_of (run_state s p)).atn INITIATOR_DETECTED_ERROR
 
-goes_fail : (s : ScenarioValue) (p : List Row) (row : Row) (n : Connection) → Going s p row n → FailTalks (run_state s p) → FailTalks (run_state s (row ∷ p))
+goes_fail : (s : ScenarioValue) (p : List Row) (row : Row) (n : Connection) → Going s p row n
+    → FailTalks (run_state s p) → FailTalks (run_state s (row ∷ p))
 goes_fail s p row n w h m id em ej = go of.row_is.kind
   where
     k : RunState
@@ -80,7 +85,9 @@ goes_fail s p row n w h m id em ej = go of.row_is.kind
     l = knows.link
 
     served : k.served ≡ Some (process id)
-    served = sym (in_connection s k row n c (changes_phase c) (is_some (receiver_in n c)) (is_fault row.kind) of.row_is refl refl refl).served_is ∙ ej
+    served = sym (in_connection s k row n c (changes_phase c) (is_some (receiver_in n c))
+        (is_fault row.kind) of.row_is refl refl refl).served_is
+        ∙ ej
 
     before : FailTalk k l (carried_here k id)
     before = h l id knows.link_is served
@@ -91,11 +98,13 @@ goes_fail s p row n w h m id em ej = go of.row_is.kind
     into : phase_of (bus_of k) ≡ Phase.MessageIn → is_message_in c.before ≡ true
     into e = ap is_message_in (sym of.row_is.bus_is) ∙ in_of (bus_of k) e lines
 
-    given : k.exchange.begun ≡ true → phase_of (bus_of k) ≡ Phase.MessageIn → AreGiven (bytes_of_messages k.exchange.plan.messages) d.half k.handshakes.requests
+    given : k.exchange.begun ≡ true → phase_of (bus_of k) ≡ Phase.MessageIn
+        → AreGiven (bytes_of_messages k.exchange.plan.messages) d.half k.handshakes.requests
     given b e = gives.in_message_in b (in_of (bus_of k) e lines)
 
     unknown : {A : Type 0} (x : Link) → k.story.link ≡ Some x → l.item ≡ None → is_some x.item ≡ true → A
-    unknown x e f z = wrong' (sym (ap (λ (o : Option Item). is_some o) f) ∙ ap (λ (y : Link). is_some y.item) (same_Some l x (sym knows.link_is ∙ e)) ∙ z)
+    unknown x e f z = wrong' (sym (ap (λ (o : Option Item). is_some o) f)
+        ∙ ap (λ (y : Link). is_some y.item) (same_Some l x (sym knows.link_is ∙ e)) ∙ z)
 
     -- While the initiator does not know the process its names are said.
     naming : n.reselected ≡ true → Named s k n
@@ -114,34 +123,42 @@ goes_fail s p row n w h m id em ej = go of.row_is.kind
 
     -- ---- a byte of MESSAGE IN
 
-    next_in : is_message_in c.before ≡ true → (there : is_some (receiver_in n c) ≡ true) → k.exchange.begun ≡ true → (dev : ℕ) → is_fault row.kind ≡ false → changes_phase c ≡ false → receiver_in n c ≡ Some dev → is_message_out c.before ≡ false → FailTalk j m (carried_here j id)
-    next_in on there b dev ef ep er out =
-        in_fail s k row n c l m id row_of ep there out here em b
-        (ap (λ (x : Handshakes). x.requests) (in_connection s k row n c false true (is_fault row.kind) of.row_is ep there refl).handshakes_is
+    next_in : is_message_in c.before ≡ true → (there : is_some (receiver_in n c) ≡ true) → k.exchange.begun ≡ true
+        → (dev : ℕ) → is_fault row.kind ≡ false → changes_phase c ≡ false → receiver_in n c ≡ Some dev
+        → is_message_out c.before ≡ false → FailTalk j m (carried_here j id)
+    next_in on there b dev ef ep er out = in_fail s k row n c l m id row_of ep there out here em b
+        (ap (λ (x : Handshakes). x.requests)
+        (in_connection s k row n c false true (is_fault row.kind) of.row_is ep there refl).handshakes_is
         ∙ ap (λ (q : Bool). (handshakes_after q (Some n) c row.time k.handshakes).requests) ef
-        ∙ request_rises n c row.time dev k.handshakes ep (in_io c.before on) er (length (bytes_of_messages k.exchange.plan.messages)) byte.1 (few_messages k.exchange.plan.messages))
-        named
-        (λ zero short. reads ∙ first_is k.exchange.plan.messages d.half k.handshakes.requests (c.after.data_bits % 256) (given b here) zero short byte.0)
-        before
+        ∙ request_rises n c row.time dev k.handshakes ep (in_io c.before on) er
+        (length (bytes_of_messages k.exchange.plan.messages)) byte.1 (few_messages k.exchange.plan.messages)) named
+        (λ zero short. reads ∙ first_is k.exchange.plan.messages d.half k.handshakes.requests (c.after.data_bits % 256)
+        (given b here) zero short byte.0) before
       where
         here : phase_of (bus_of k) ≡ Phase.MessageIn
         here = ap phase_of of.row_is.bus_is ∙ in_phase c.before on
 
-        byte : (c.after.data_bits % 256 ≡ slice_index_or (bytes_of_messages k.exchange.plan.messages) k.handshakes.requests 0) × (k.handshakes.requests < length (bytes_of_messages k.exchange.plan.messages)) × (k.exchange.begun ≡ true)
+        byte : (c.after.data_bits % 256
+            ≡ slice_index_or (bytes_of_messages k.exchange.plan.messages) k.handshakes.requests 0)
+            × (k.handshakes.requests < length (bytes_of_messages k.exchange.plan.messages)) × (k.exchange.begun ≡ true)
         byte = of.gives on there
 
         reads : message_in d c true ≡ whole_in (got_in (d.half ++ c.after.data_bits % 256 ∷ []))
         reads = λ i. if on i then whole_in (got_in (d.half ++ c.after.data_bits % 256 ∷ [])) else None
 
-        no_restore : {A : Type 0} → OnMessages RestoresNone k.exchange.plan.messages → message_in d c true ≡ Some MsgIn.RestorePointers → A
-        no_restore plain e = wrong (subst (OnMessage RestoresNone) (sym reads ∙ e) (heard_next RestoresNone k.exchange.plan.messages d.half k.handshakes.requests (c.after.data_bits % 256) gives.fit plain (given b here) byte.0 byte.1))
+        no_restore : {A : Type 0} → OnMessages RestoresNone k.exchange.plan.messages
+            → message_in d c true ≡ Some MsgIn.RestorePointers → A
+        no_restore plain e =
+            wrong (subst (OnMessage RestoresNone) (sym reads ∙ e) (heard_next RestoresNone k.exchange.plan.messages
+            d.half k.handshakes.requests (c.after.data_bits % 256) gives.fit plain (given b here) byte.0 byte.1))
 
         named : message_in d c true ≡ Some MsgIn.RestorePointers → l.item ≡ Some (process id)
         named e = elim knows.item_is [ inl f ↦ f ∙ served | inr f ↦ at f.1 (naming f.0) ]
           where
             at : l.item ≡ None → Named s k n → l.item ≡ Some (process id)
             at f (known x g z q) = unknown x g f z
-            at f (said q x y z names whole) = no_restore (names_restore q x k.exchange.plan.messages k.handshakes.requests names) e
+            at f (said q x y z names whole) =
+                no_restore (names_restore q x k.exchange.plan.messages k.handshakes.requests names) e
             at f (refused q x y z cause names) = no_restore (names_restore q x k.exchange.plan.messages 0 names) e
 
     -- ---- a phase is left
@@ -161,7 +178,8 @@ goes_fail s p row n w h m id em ej = go of.row_is.kind
         leaves = of.leaves (ap changes_phase of.row_is.change_is ∙ ep)
 
         Left : Type 0
-        Left = ((phase_of (bus_of k) ≡ Phase.MessageOut) × (k.exchange.plan.cause ≡ Cause.InMessage)) ⊎ ((phase_of (bus_of k) ≡ Phase.MessageIn) × ((bus_of k).atn ≡ true))
+        Left = ((phase_of (bus_of k) ≡ Phase.MessageOut) × (k.exchange.plan.cause ≡ Cause.InMessage))
+            ⊎ ((phase_of (bus_of k) ≡ Phase.MessageIn) × ((bus_of k).atn ≡ true))
 
         at : l.item ≡ None → Named s k n → Left
         at f (known x g z q) = unknown x g f z
@@ -174,16 +192,20 @@ goes_fail s p row n w h m id em ej = go of.row_is.kind
             here : phase_of (bus_of k) ≡ Phase.MessageIn
             here = in_phase (bus_of k) on
 
-        answered : phase_of (bus_of k) ≡ Phase.MessageOut → k.exchange.plan.cause ≡ Cause.InMessage → is_some k.exchange.plan.said.offer ≡ true → (k.exchange.plan.next ≡ Next.Command) × (k.exchange.speech.words ≡ parity_error → ⊥)
+        answered : phase_of (bus_of k) ≡ Phase.MessageOut
+            → k.exchange.plan.cause ≡ Cause.InMessage → is_some k.exchange.plan.said.offer ≡ true
+            → (k.exchange.plan.next ≡ Next.Command) × (k.exchange.speech.words ≡ parity_error → ⊥)
         answered e cause offer = (next (refuses_later s p n w.facts.offers w.con w.off b out cause), other)
           where
             out : is_message_out (bus_of k) ≡ true
             out = out_lines (bus_of k) e lines
 
             other : k.exchange.speech.words ≡ parity_error → ⊥
-            other z = wrong' (sym (ap (λ o. is_some o) (refusal_offers_none k.exchange.speech k.exchange.plan d (speaks.in_message_out b out).heard (leaves.out e) z)) ∙ offer)
+            other z = wrong' (sym (ap (λ o. is_some o) (refusal_offers_none k.exchange.speech k.exchange.plan d
+                (speaks.in_message_out b out).heard (leaves.out e) z)) ∙ offer)
 
-            next : (k.exchange.plan.next ≡ Next.Command) ⊎ (k.exchange.speech.words ≡ parity_error) → k.exchange.plan.next ≡ Next.Command
+            next : (k.exchange.plan.next ≡ Next.Command) ⊎ (k.exchange.speech.words ≡ parity_error)
+                → k.exchange.plan.next ≡ Next.Command
             next (inl z) = z
             next (inr z) = absurd (other z)
 
@@ -191,14 +213,17 @@ goes_fail s p row n w h m id em ej = go of.row_is.kind
     go (still ef ep er) =
         let none : is_some (receiver_in n c) ≡ false = ap (λ (z : Option ℕ). is_some z) er in
         let i = in_connection s k row n c false false (is_fault row.kind) of.row_is ep none refl in
-        still_fail s k row n c l m id row_of ef ep none em
-        (λ e. ap (λ (x : Handshakes). x.requests) i.handshakes_is ∙ ap (λ (q : Bool). (handshakes_after q (Some n) c row.time k.handshakes).requests) ef ∙ requests_stay n c row.time k.handshakes ep (in_io c.before (into e)) er) before
+        still_fail s k row n c l m id row_of ef ep none em (λ e. ap (λ (x : Handshakes). x.requests) i.handshakes_is
+        ∙ ap (λ (q : Bool). (handshakes_after q (Some n) c row.time k.handshakes).requests) ef
+        ∙ requests_stay n c row.time k.handshakes ep (in_io c.before (into e)) er) before
     go (strikes ef ep er) =
         let none : is_some (receiver_in n c) ≡ false = ap (λ (z : Option ℕ). is_some z) er in
         let i = in_connection s k row n c false false (is_fault row.kind) of.row_is ep none refl in
         let some = fault_crossed s p row n w.plain ef w.row_is.link in
-        struck_fail s k row n c l m id row_of ef ep none some w.crossed.here em (w.crossed.begun some)
-        (λ e. ap (λ (x : Handshakes). x.requests) i.handshakes_is ∙ ap (λ (q : Bool). (handshakes_after q (Some n) c row.time k.handshakes).requests) ef ∙ struck_same c.before.io k.handshakes) before
+        struck_fail s k row n c l m id row_of ef ep none some w.crossed.here em
+        (w.crossed.begun some) (λ e. ap (λ (x : Handshakes). x.requests) i.handshakes_is
+        ∙ ap (λ (q : Bool). (handshakes_after q (Some n) c row.time k.handshakes).requests) ef
+        ∙ struck_same c.before.io k.handshakes) before
     go (crosses dev ef ep er) = by (is_message_out c.before) refl (is_message_in c.before) refl
       where
         there : is_some (receiver_in n c) ≡ true
@@ -207,10 +232,12 @@ goes_fail s p row n w h m id em ej = go of.row_is.kind
         begun : k.exchange.begun ≡ true
         begun = of.begun (ap (λ (x : RowReading). x.crosses) (reading_is k row n c true of.row_is there))
 
-        by : (q : Bool) → is_message_out c.before ≡ q → (t : Bool) → is_message_in c.before ≡ t → FailTalk j m (carried_here j id)
+        by : (q : Bool) → is_message_out c.before ≡ q → (t : Bool) → is_message_in c.before ≡ t
+            → FailTalk j m (carried_here j id)
         by true e t f = out_fail s k row n c l m id row_of of speaks ep there e em begun before
         by false e true f = next_in f there begun dev ef ep er e
-        by false e false f = else_fail s k row n c l m id row_of ep there e f (λ z. absurd (no_in (sym f ∙ into z))) em begun before
+        by false e false f =
+            else_fail s k row n c l m id row_of ep there e f (λ z. absurd (no_in (sym f ∙ into z))) em begun before
           where
             no_in : false ≡ true → ⊥
             no_in z = cc
@@ -224,7 +251,8 @@ goes_fail s p row n w h m id em ej = go of.row_is.kind
           link_is = knows.link_is;
           known = w.known;
           idle = λ b. ap is_command w.plain.bus ∙ unbegun_lines s p n w.row_is.stage (sym w.plain.begun ∙ b);
-          whereto = λ b. w.going.lines.whereto (ap changes_phase w.going.lines_are ∙ ep) (sym w.plain.begun ∙ b) ∙ ap (λ (x : Change). Some (phase_of x.after)) w.going.lines_are;
+          whereto = λ b. w.going.lines.whereto (ap changes_phase w.going.lines_are ∙ ep) (sym w.plain.begun ∙ b)
+              ∙ ap (λ (x : Change). Some (phase_of x.after)) w.going.lines_are;
           speaks = speaks;
         })
         w.undoes (left ep) em before
@@ -235,7 +263,10 @@ pub fail_start : (s : ScenarioValue) → FailFacts s []
 fail_start s n e calm = none_some n e
 
 -- A connection that goes on.
-pub fail_goes : (s : ScenarioValue) (p : List Row) (row : Row) (n : Connection) → Obeys s → IsPrompt s (row ∷ p) → Stood s p → NextStood s p row → TellFacts s p → CrossedFacts s p → SentAsLeft s p row → connection p ≡ Some n → (bus p).rst ≡ false → connection (row ∷ p) ≡ Some n → (bus (row ∷ p)).rst ≡ false → FailFacts s p → FailTalks (run_state s (row ∷ p))
+pub fail_goes : (s : ScenarioValue) (p : List Row) (row : Row) (n : Connection) → Obeys s → IsPrompt s (row ∷ p)
+    → Stood s p → NextStood s p row → TellFacts s p → CrossedFacts s p → SentAsLeft s p row → connection p ≡ Some n
+    → (bus p).rst ≡ false → connection (row ∷ p) ≡ Some n → (bus (row ∷ p)).rst ≡ false → FailFacts s p
+    → FailTalks (run_state s (row ∷ p))
 fail_goes s p row n o prompt was next facts crossed sent con off after calm h =
     goes_fail s p row n
     (record {
@@ -248,8 +279,16 @@ fail_goes s p row n o prompt was next facts crossed sent con off after calm h =
       row_is = r;
       going = g;
       undoes = undo_asks is_marked s p row was next facts.undo;
-      known = λ z. ap (λ (x : Change). x.after.cd) g.change_is ∙ (link_phase s (row ∷ p) n (stage_of_connection s (row ∷ p) n next.stood after calm) (ap (λ (x : Change). x.after.msg) (sym g.change_is) ∙ z)).0;
-      code = λ ep b id served. sent n id (record { stands = con; calm = off; calm_after = calm; begun = b; leaves = inl (ap changes_phase g.goes.row_is.change_is ∙ ep) }) served;
+      known = λ z. ap (λ (x : Change). x.after.cd) g.change_is
+          ∙ (link_phase s (row ∷ p) n (stage_of_connection s (row ∷ p) n next.stood after calm)
+          (ap (λ (x : Change). x.after.msg) (sym g.change_is) ∙ z)).0;
+      code = λ ep b id served. sent n id (record {
+        stands = con;
+        calm = off;
+        calm_after = calm;
+        begun = b;
+        leaves = inl (ap changes_phase g.goes.row_is.change_is ∙ ep);
+      }) served;
     }) (h n con off)
   where
     r : ConnectionRow s p row n
@@ -259,10 +298,12 @@ fail_goes s p row n o prompt was next facts crossed sent con off after calm h =
     g = going_row s p row n was.standing.devices (least_is s p row prompt.1).inside con after calm next.row_is r.facts
 
 -- The first row of a connection, whose process nothing has struck.
-pub fail_first : (k : RunState) (l : Link) (id : ProcId) → IsClear (carried_here k id) → UndoesClear l.undo → (k.exchange.begun ≡ true → (phase_of (bus_of k) ≡ Phase.MessageIn) × (k.exchange.plan.next ≡ Next.GoOn)) → FailTalk k l (carried_here k id)
+pub fail_first : (k : RunState) (l : Link) (id : ProcId) → IsClear (carried_here k id) → UndoesClear l.undo
+    → (k.exchange.begun ≡ true → (phase_of (bus_of k) ≡ Phase.MessageIn) × (k.exchange.plan.next ≡ Next.GoOn))
+    → FailTalk k l (carried_here k id)
 fail_first k l id h u at = record {
   unbegun = λ b. (h, u);
-  begun = λ b.
-      subst (FailsBy l (carried_here k id) k.exchange.plan k.exchange.speech.words k.handshakes.requests) (sym (at b).0)
-      (subst (GivesFailure l (carried_here k id) k.exchange.plan k.handshakes.requests) (sym (at b).1) (clear h (inl u)));
+  begun = λ b. subst (FailsBy l (carried_here k id) k.exchange.plan k.exchange.speech.words k.handshakes.requests)
+      (sym (at b).0) (subst (GivesFailure l (carried_here k id) k.exchange.plan k.handshakes.requests) (sym (at b).1)
+      (clear h (inl u)));
 }

@@ -34,7 +34,8 @@ ran l c v words count (ways.given a) into h =
     record { failure = into refl ∙ ap (λ (q : Bool). code_if q INITIATOR_DETECTED_ERROR) a; struck = h }
 ran l c v words count (ways.sent e) into h = unstruck c v.plan e h.0 h.1
 
-again : (l : Link) (c : CarriedBytes) (p : Plan) (words : List ℕ) (next : Next) → RefusesFailure l c p words next → GivesFailure l c p 0 next
+again : (l : Link) (c : CarriedBytes) (p : Plan) (words : List ℕ) (next : Next) → RefusesFailure l c p words next
+    → GivesFailure l c p 0 next
 again l c p words next h = go next h
   where
     one : ClearOut l c p.messages words → ClearIn l c p.messages 0
@@ -71,7 +72,11 @@ gives l c v words count (ways.disconnects _ _ m _ _) into h e =
 gives l c v words count (ways.completes _) into h e = inl h
 gives l c v words count _ into h e = wrong' e
 
-pub gives_left : (l : Link) (c : CarriedBytes) (v : Serving) (words : List ℕ) (count : ℕ) (attention : Bool) (phase : Phase) → (phase ≡ Phase.DataIn → c.failure ≡ code_if attention INITIATOR_DETECTED_ERROR) → FailsBy l c v.plan words count phase → is_to_message_in (phase_leaving v attention phase).to ≡ true → GivesWith l c v.plan (phase_leaving v attention phase)
+pub gives_left :
+    (l : Link) (c : CarriedBytes) (v : Serving) (words : List ℕ) (count : ℕ) (attention : Bool) (phase : Phase)
+    → (phase ≡ Phase.DataIn → c.failure ≡ code_if attention INITIATOR_DETECTED_ERROR)
+    → FailsBy l c v.plan words count phase → is_to_message_in (phase_leaving v attention phase).to ≡ true
+    → GivesWith l c v.plan (phase_leaving v attention phase)
 gives_left l c v words count attention phase = gives l c v words count (ways.leaves v attention phase)
 
 -- ---- to COMMAND or data: nothing has struck the process
@@ -85,14 +90,17 @@ is_sending _ = false
 -- What stands as a phase is left.
 pub record LeftSo (v : Serving) (words : List ℕ) (count : ℕ) (attention : Bool) (phase : Phase) : Type 0 where
   pub some : phase ≡ Phase.MessageIn → (count == 0) ≡ false
-  pub answered : phase ≡ Phase.MessageOut → v.plan.cause ≡ Cause.InMessage → is_some v.plan.said.offer ≡ true → (v.plan.next ≡ Next.Command) × (words ≡ parity_error → ⊥)
+  pub answered : phase ≡ Phase.MessageOut → v.plan.cause ≡ Cause.InMessage → is_some v.plan.said.offer ≡ true
+      → (v.plan.next ≡ Next.Command) × (words ≡ parity_error → ⊥)
 
-given_clear : (l : Link) (c : CarriedBytes) (m : Messages) (count : ℕ) → (count == 0) ≡ false → ClearIn l c m count → IsClear c
+given_clear : (l : Link) (c : CarriedBytes) (m : Messages) (count : ℕ) → (count == 0) ≡ false → ClearIn l c m count
+    → IsClear c
 given_clear l c m count some (clear h u) = h
 given_clear l c m count some (restores e (inl z)) = some_zero count some z
 given_clear l c m count some (restores e (inr h)) = h
 
-said_clear : (l : Link) (c : CarriedBytes) (m : Messages) (words : List ℕ) → (words ≡ parity_error → ⊥) → ClearOut l c m words → IsClear c
+said_clear : (l : Link) (c : CarriedBytes) (m : Messages) (words : List ℕ)
+    → (words ≡ parity_error → ⊥) → ClearOut l c m words → IsClear c
 said_clear l c m words other (still_clear h u) = h
 said_clear l c m words other (restores_again e (inl z)) = absurd (other z)
 said_clear l c m words other (restores_again e (inr h)) = h
@@ -119,12 +127,16 @@ sends l c v words count (ways.reads _ _ g _) w h e = goes_on l c v words count g
 sends l c v words count (ways.writes _ _ g _) w h e = goes_on l c v words count g w h
 sends l c v words count _ w h e = wrong' e
 
-pub sends_clear : (l : Link) (c : CarriedBytes) (v : Serving) (words : List ℕ) (count : ℕ) (attention : Bool) (phase : Phase) → LeftSo v words count attention phase → FailsBy l c v.plan words count phase → is_sending (phase_leaving v attention phase).to ≡ true → IsClear c
+pub sends_clear :
+    (l : Link) (c : CarriedBytes) (v : Serving) (words : List ℕ) (count : ℕ) (attention : Bool) (phase : Phase)
+    → LeftSo v words count attention phase → FailsBy l c v.plan words count phase
+    → is_sending (phase_leaving v attention phase).to ≡ true → IsClear c
 sends_clear l c v words count attention phase = sends l c v words count (ways.leaves v attention phase)
 
 -- ---- to MESSAGE OUT
 
-front_one : (m : Messages) (count : ℕ) → m ≡ one_message MsgIn.RestorePointers → (count == 0) ≡ false → count ≤ length (bytes_of_messages m) → from_byte m (count - 1) ≡ m
+front_one : (m : Messages) (count : ℕ) → m ≡ one_message MsgIn.RestorePointers → (count == 0) ≡ false
+    → count ≤ length (bytes_of_messages m) → from_byte m (count - 1) ≡ m
 front_one m count e some few = (λ i. from_byte (e i) (one i - 1)) ∙ sym e
   where
     one : count ≡ 1
@@ -133,14 +145,18 @@ front_one m count e some few = (λ i. from_byte (e i) (one i - 1)) ∙ sym e
         go : length (bytes_of_messages m) ≡ 1 → (count == 0) ≡ false → count ≤ length (bytes_of_messages m) → count ≡ 1
         go a b c = grind (arith, nat_tests)
 
-refused_clear : (l : Link) (c : CarriedBytes) (m : Messages) (count : ℕ) (words : List ℕ) → (count == 0) ≡ false → count ≤ length (bytes_of_messages m) → ClearIn l c m count → ClearOut l c (from_byte m (count - 1)) words
+refused_clear : (l : Link) (c : CarriedBytes) (m : Messages) (count : ℕ) (words : List ℕ) → (count == 0) ≡ false
+    → count ≤ length (bytes_of_messages m) → ClearIn l c m count → ClearOut l c (from_byte m (count - 1)) words
 refused_clear l c m count words some few (clear h (inl u)) = still_clear h u
 refused_clear l c m count words some few (clear h (inr z)) = some_zero count some z.0
 refused_clear l c m count words some few (restores e (inl z)) = some_zero count some z
-refused_clear l c m count words some few (restores e (inr h)) = restores_again (front_one m count e some few ∙ e) (inr h)
+refused_clear l c m count words some few (restores e (inr h)) =
+    restores_again (front_one m count e some few ∙ e) (inr h)
 
 -- Of MESSAGE IN, by what follows it.
-pub refuses_left : (l : Link) (c : CarriedBytes) (p : Plan) (count : ℕ) (words : List ℕ) (next : Next) → (count == 0) ≡ false → count ≤ length (bytes_of_messages p.messages) → GivesFailure l c p count next → RefusesFailure l c (record p { messages = from_byte p.messages (count - 1) }) words next
+pub refuses_left : (l : Link) (c : CarriedBytes) (p : Plan) (count : ℕ) (words : List ℕ) (next : Next)
+    → (count == 0) ≡ false → count ≤ length (bytes_of_messages p.messages) → GivesFailure l c p count next
+    → RefusesFailure l c (record p { messages = from_byte p.messages (count - 1) }) words next
 refuses_left l c p count words Next.Command some few h = refused_clear l c p.messages count words some few h
 refuses_left l c p count words Next.GoOn some few h = refused_clear l c p.messages count words some few h
 refuses_left l c p count words Next.Status some few h = h

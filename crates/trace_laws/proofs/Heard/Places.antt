@@ -16,44 +16,69 @@ use proofs.Places.{First.{rest_first, shown_first}, Ready.{MayBeReady, ready_run
 use Rattle.bus_due.specs.disk_array.proofs.SoundArrays.{id_is}
 
 pub new_heard : (a : Array) (p : Process) → IsUntouched a p.id → is_new a p ≡ true
-new_heard a p h = λ i. not (not_waiting a.units p.id h.away.units i) && is_none (not_running a p.id h.away i) && is_none (h.reply i)
+new_heard a p h =
+    λ i. not (not_waiting a.units p.id h.away.units i) && is_none (not_running a p.id h.away i) && is_none (h.reply i)
 
--- ---- Where a process stands in the plain disk array its target hears: in a connection by the phase, and as a connection begins.
+-- ---- Where a process stands in the plain disk array its target hears: in a connection by the phase, and as a
+-- connection begins.
 
 -- ---- by the phase
 
-runs_unanswered : (a : Array) (p : Process) → RunsOpen a p → (is_unanswered (running_process a p.id) ≡ true) × (is_none (reply_in a.replies p.id) ≡ true)
+runs_unanswered : (a : Array) (p : Process) → RunsOpen a p
+    → (is_unanswered (running_process a p.id) ≡ true) × (is_none (reply_in a.replies p.id) ≡ true)
 runs_unanswered a p h = (ap is_unanswered h.runs.running_is, ap (λ (x : Option Reply). is_none x) h.runs.reply)
 
-given_answered : (a : Array) (p : Process) → AnsweredOpen a p.id → (is_answered (running_process a p.id) ≡ true) × (is_some (reply_in a.replies p.id) ≡ true)
-given_answered a p h = (ap is_answered h.answered.running_is ∙ ap (λ (x : Option Reply). is_some x) h.answered.reply_is, ap (λ (x : Option Reply). is_some x) h.answered.given)
+given_answered : (a : Array) (p : Process) → AnsweredOpen a p.id
+    → (is_answered (running_process a p.id) ≡ true) × (is_some (reply_in a.replies p.id) ≡ true)
+given_answered a p h = (
+  ap is_answered h.answered.running_is ∙ ap (λ (x : Option Reply). is_some x) h.answered.reply_is,
+  ap (λ (x : Option Reply). is_some x) h.answered.given,
+)
 
-before_in : (a : Array) (p : Process) (plan : Plan) (h : Handshakes) (atn : Bool) → PlacedIn a p plan h atn Phase.MessageIn → (frees_bus plan.next ≡ true) ⊎ PlacedBefore a p plan.messages plan.next
+before_in : (a : Array) (p : Process) (plan : Plan) (h : Handshakes) (atn : Bool)
+    → PlacedIn a p plan h atn Phase.MessageIn → (frees_bus plan.next ≡ true) ⊎ PlacedBefore a p plan.messages plan.next
 before_in a p plan h atn (inl w) = inr w
 before_in a p plan h atn (inr w) = inl (ap frees_bus w.next_is)
 
-placed_in : (a : Array) (p : Process) (plan : Plan) (h : Handshakes) (atn : Bool) (phase : Phase) → PlacedIn a p plan h atn phase → IsPlacedIn a p phase plan.next
-placed_in a p plan h atn Phase.MessageOut w = record { new = λ e. wrong' e; unanswered = λ e. wrong' e; answered = λ e. wrong' e }
-placed_in a p plan h atn Phase.Command w = record { new = λ e. new_heard a p w; unanswered = λ e. wrong' e; answered = λ e. wrong' e }
-placed_in a p plan h atn Phase.Status w = record { new = λ e. wrong' e; unanswered = λ e. wrong' e; answered = λ e. given_answered a p w }
-placed_in a p plan h atn Phase.DataIn w = record { new = λ e. wrong' e; unanswered = λ e. runs_unanswered a p w; answered = λ e. wrong' e }
-placed_in a p plan h atn Phase.DataOut w = record { new = λ e. wrong' e; unanswered = λ e. runs_unanswered a p w; answered = λ e. wrong' e }
+placed_in : (a : Array) (p : Process) (plan : Plan) (h : Handshakes) (atn : Bool) (phase : Phase)
+    → PlacedIn a p plan h atn phase → IsPlacedIn a p phase plan.next
+placed_in a p plan h atn Phase.MessageOut w =
+    record { new = λ e. wrong' e; unanswered = λ e. wrong' e; answered = λ e. wrong' e }
+placed_in a p plan h atn Phase.Command w =
+    record { new = λ e. new_heard a p w; unanswered = λ e. wrong' e; answered = λ e. wrong' e }
+placed_in a p plan h atn Phase.Status w =
+    record { new = λ e. wrong' e; unanswered = λ e. wrong' e; answered = λ e. given_answered a p w }
+placed_in a p plan h atn Phase.DataIn w =
+    record { new = λ e. wrong' e; unanswered = λ e. runs_unanswered a p w; answered = λ e. wrong' e }
+placed_in a p plan h atn Phase.DataOut w =
+    record { new = λ e. wrong' e; unanswered = λ e. runs_unanswered a p w; answered = λ e. wrong' e }
 placed_in a p plan h atn Phase.MessageIn w = by plan.next refl (before_in a p plan h atn w)
   where
-    by : (x : Next) → plan.next ≡ x → (frees_bus plan.next ≡ true) ⊎ PlacedBefore a p plan.messages plan.next → IsPlacedIn a p Phase.MessageIn plan.next
+    by : (x : Next) → plan.next ≡ x → (frees_bus plan.next ≡ true) ⊎ PlacedBefore a p plan.messages plan.next
+        → IsPlacedIn a p Phase.MessageIn plan.next
     by Next.GoOn e (inl z) = wrong' (sym (ap frees_bus e) ∙ z)
-    by Next.GoOn e (inr z) = subst (λ (x : Next). IsPlacedIn a p Phase.MessageIn x) (sym e)
-        (record { new = λ f. wrong' f; unanswered = λ f. runs_unanswered a p (subst (λ (x : Next). PlacedBefore a p plan.messages x) e z); answered = λ f. wrong' f })
+    by Next.GoOn e (inr z) = subst (λ (x : Next). IsPlacedIn a p Phase.MessageIn x) (sym e) (record {
+      new = λ f. wrong' f;
+      unanswered = λ f. runs_unanswered a p (subst (λ (x : Next). PlacedBefore a p plan.messages x) e z);
+      answered = λ f. wrong' f;
+    })
     by Next.Status e (inl z) = wrong' (sym (ap frees_bus e) ∙ z)
-    by Next.Status e (inr z) = subst (λ (x : Next). IsPlacedIn a p Phase.MessageIn x) (sym e)
-        (record { new = λ f. wrong' f; unanswered = λ f. wrong' f; answered = λ f. given_answered a p (subst (λ (x : Next). PlacedBefore a p plan.messages x) e z) })
-    by Next.Command e z = subst (λ (x : Next). IsPlacedIn a p Phase.MessageIn x) (sym e) (record { new = λ f. wrong' f; unanswered = λ f. wrong' f; answered = λ f. wrong' f })
-    by Next.FreeBus e z = subst (λ (x : Next). IsPlacedIn a p Phase.MessageIn x) (sym e) (record { new = λ f. wrong' f; unanswered = λ f. wrong' f; answered = λ f. wrong' f })
+    by Next.Status e (inr z) = subst (λ (x : Next). IsPlacedIn a p Phase.MessageIn x) (sym e) (record {
+      new = λ f. wrong' f;
+      unanswered = λ f. wrong' f;
+      answered = λ f. given_answered a p (subst (λ (x : Next). PlacedBefore a p plan.messages x) e z);
+    })
+    by Next.Command e z = subst (λ (x : Next). IsPlacedIn a p Phase.MessageIn x) (sym e)
+        (record { new = λ f. wrong' f; unanswered = λ f. wrong' f; answered = λ f. wrong' f })
+    by Next.FreeBus e z = subst (λ (x : Next). IsPlacedIn a p Phase.MessageIn x) (sym e)
+        (record { new = λ f. wrong' f; unanswered = λ f. wrong' f; answered = λ f. wrong' f })
 
 pub places_heard : (s : ScenarioValue) (p : List Row) → AreOfDevices p → PlaceFacts s p → ArePlaced s p
-places_heard s p dv h n con calm past q served =
-    subst (λ (a : Array). IsPlacedIn a q (phase_of (bus_of k)) k.exchange.plan.next) (ap (or_start s) (sym h.array_is))
-    (placed_in h.array q k.exchange.plan k.handshakes (bus_of k).atn (phase_of (bus_of k)) (subst (λ (b : Bool). PlacedIf b h.array q k.exchange.plan k.handshakes (bus_of k).atn (phase_of (bus_of k))) (begun_of k past) (h.placed n (pl.connection ∙ con) (ap (λ (l : LineSet). l.rst) pl.bus ∙ calm) q served)))
+places_heard s p dv h n con calm past q served = subst
+    (λ (a : Array). IsPlacedIn a q (phase_of (bus_of k)) k.exchange.plan.next) (ap (or_start s) (sym h.array_is))
+    (placed_in h.array q k.exchange.plan k.handshakes (bus_of k).atn (phase_of (bus_of k))
+    (subst (λ (b : Bool). PlacedIf b h.array q k.exchange.plan k.handshakes (bus_of k).atn (phase_of (bus_of k)))
+    (begun_of k past) (h.placed n (pl.connection ∙ con) (ap (λ (l : LineSet). l.rst) pl.bus ∙ calm) q served)))
   where
     k : RunState
     k = run_state s p
@@ -66,12 +91,15 @@ places_heard s p dv h n con calm past q served =
 uncounted : (r : ProcessProgress) (id : ProcId) → r ≡ no_progress id → is_uncounted r ≡ true
 uncounted r id e = ap is_uncounted e
 
-begun_here : (s : ScenarioValue) (p : List Row) (row : Row) (n : Connection) → Obeys s → IsPrompt s (row ∷ p) → Stood s p → NextStood s p row → ItemFacts s p → (h : PlaceFacts s p) → (before : connection p ≡ None) → connection (row ∷ p) ≡ Some n → (b : Begins s (run_state s p) row n) → (q : Process) → process_served s (run_state s (row ∷ p)) ≡ Some q
-    → is_beginning s (run_state s (row ∷ p)) n (Some q) ≡ true
-begun_here s p row n o prompt was nx items h alone after b q served =
-    by_bool n.reselected
-    (λ e. (λ i. if e i then is_none (guest_at (array_of s j).guests q.id) && is_none (reply_in (array_of s j).replies q.id) else is_new (array_of s j) q && is_uncounted (progress_in j.progress q.id)) ∙ again e)
-    (λ e. (λ i. if e i then is_none (guest_at (array_of s j).guests q.id) && is_none (reply_in (array_of s j).replies q.id) else is_new (array_of s j) q && is_uncounted (progress_in j.progress q.id)) ∙ anew e)
+begun_here : (s : ScenarioValue) (p : List Row) (row : Row) (n : Connection) → Obeys s → IsPrompt s (row ∷ p)
+    → Stood s p → NextStood s p row → ItemFacts s p → (h : PlaceFacts s p) → (before : connection p ≡ None)
+    → connection (row ∷ p) ≡ Some n → (b : Begins s (run_state s p) row n) → (q : Process)
+    → process_served s (run_state s (row ∷ p)) ≡ Some q → is_beginning s (run_state s (row ∷ p)) n (Some q) ≡ true
+begun_here s p row n o prompt was nx items h alone after b q served = by_bool n.reselected (λ e.
+    (λ i. if e i then is_none (guest_at (array_of s j).guests q.id) && is_none (reply_in (array_of s j).replies q.id)
+    else is_new (array_of s j) q && is_uncounted (progress_in j.progress q.id)) ∙ again e) (λ e.
+    (λ i. if e i then is_none (guest_at (array_of s j).guests q.id) && is_none (reply_in (array_of s j).replies q.id)
+    else is_new (array_of s j) q && is_uncounted (progress_in j.progress q.id)) ∙ anew e)
   where
     k : RunState
     k = run_state s p
@@ -104,31 +132,52 @@ begun_here s p row n o prompt was nx items h alone after b q served =
         fresh = items_fresh s p row n o prompt was items alone after e
 
         item_is : j.served ≡ Some fresh.item
-        item_is = served_is ∙ ap (λ (r : Bool). if r then item_if (ready_of s k n.target) else aim_of k.story.aims n.initiator) e ∙ fresh.aim_is
+        item_is = served_is
+            ∙ ap (λ (r : Bool). if r then item_if (ready_of s k n.target) else aim_of k.story.aims n.initiator) e
+            ∙ fresh.aim_is
 
-        go : (x : Item) → fresh.item ≡ x → (is_new (array_of s j) q && is_uncounted (progress_in j.progress q.id)) ≡ true
+        go : (x : Item) → fresh.item ≡ x
+            → (is_new (array_of s j) q && is_uncounted (progress_in j.progress q.id)) ≡ true
         go (abort m) z = none_some q (ap (process_item s) (sym (item_is ∙ ap (λ (y : Item). Some y) z)) ∙ served)
         go (process id) z =
-            let of : process_of s id ≡ Some q = ap (process_item s) (sym (item_is ∙ ap (λ (y : Item). Some y) z)) ∙ served in
-            let unsent : has_item k.story.sent.sent (process q.id) ≡ false = ap (λ (y : ProcId). has_item k.story.sent.sent (process y)) (id_is s id q of) ∙ ap (λ (y : Item). has_item k.story.sent.sent y) (sym z) ∙ fresh.unsent in
-            let new : is_new (array_of s j) q ≡ true = ap (λ (a : Array). is_new a q) array_is ∙ new_heard h.array q (h.unsent q.id unsent) in
-            let none : is_uncounted (progress_in j.progress q.id) ≡ true = ap (λ (l : List ProcessProgress). is_uncounted (progress_in l q.id)) progress_is ∙ uncounted (progress_in k.progress q.id) q.id (items.items.progress q.id unsent) in
+            let of : process_of s id ≡ Some q = ap (process_item s) (sym (item_is ∙ ap (λ (y : Item). Some y) z))
+            ∙ served in
+            let unsent : has_item k.story.sent.sent (process q.id) ≡ false =
+            ap (λ (y : ProcId). has_item k.story.sent.sent (process y)) (id_is s id q of)
+            ∙ ap (λ (y : Item). has_item k.story.sent.sent y) (sym z) ∙ fresh.unsent in
+            let new : is_new (array_of s j) q ≡ true = ap (λ (a : Array). is_new a q) array_is
+            ∙ new_heard h.array q (h.unsent q.id unsent) in
+            let none : is_uncounted (progress_in j.progress q.id) ≡ true =
+            ap (λ (l : List ProcessProgress). is_uncounted (progress_in l q.id)) progress_is
+            ∙ uncounted (progress_in k.progress q.id) q.id (items.items.progress q.id unsent) in
             λ i. new i && none i
 
-    again : n.reselected ≡ true → (is_none (guest_at (array_of s j).guests q.id) && is_none (reply_in (array_of s j).replies q.id)) ≡ true
+    again : n.reselected ≡ true
+        → (is_none (guest_at (array_of s j).guests q.id) && is_none (reply_in (array_of s j).replies q.id)) ≡ true
     again e =
         let of : IsReadyFor s k n = b.reselects e in
         let r : Ready = of.ready in
-        let among : ready_among h.array k.current_since (seek_of s.targets n.target) n.target ≡ Some r = (λ i. ready_among (or_start s (sym h.array_is i)) k.current_since (seek_of s.targets n.target) n.target) ∙ of.ready_is in
-        let may : MayBeReady s h.array r = ready_runs s h.array k.current_since (seek_of s.targets n.target) n.target r h.sound (rests r.process.id) among in
-        let item : j.served ≡ Some (process r.process.id) = served_is ∙ ap (λ (x : Bool). if x then item_if (ready_of s k n.target) else aim_of k.story.aims n.initiator) e ∙ ap item_if of.ready_is in
-        let same : r.process ≡ q = same_Some r.process q (sym may.process_is ∙ ap (process_item s) (sym item) ∙ served) in
-        let guest : is_none (guest_at (array_of s j).guests q.id) ≡ true = ap (λ (a : Array). is_none (guest_at a.guests q.id)) array_is ∙ ap (λ (x : Option RunningProcess). is_none x) (no_guest h.array.guests q.id (rests q.id).guests) in
+        let among : ready_among h.array k.current_since (seek_of s.targets n.target) n.target ≡ Some r =
+        (λ i. ready_among (or_start s (sym h.array_is i)) k.current_since (seek_of s.targets n.target) n.target)
+        ∙ of.ready_is in
+        let may : MayBeReady s h.array r = ready_runs s h.array k.current_since
+        (seek_of s.targets n.target) n.target r h.sound (rests r.process.id) among in
+        let item : j.served ≡ Some (process r.process.id) = served_is
+        ∙ ap (λ (x : Bool). if x then item_if (ready_of s k n.target) else aim_of k.story.aims n.initiator) e
+        ∙ ap item_if of.ready_is in
+        let same : r.process ≡ q = same_Some r.process q
+        (sym may.process_is ∙ ap (process_item s) (sym item) ∙ served) in
+        let guest : is_none (guest_at (array_of s j).guests q.id) ≡ true =
+        ap (λ (a : Array). is_none (guest_at a.guests q.id)) array_is
+        ∙ ap (λ (x : Option RunningProcess). is_none x) (no_guest h.array.guests q.id (rests q.id).guests) in
         let reply : is_none (reply_in (array_of s j).replies q.id) ≡ true =
-        ap (λ (a : Array). is_none (reply_in a.replies q.id)) array_is ∙ ap (λ (x : Process). is_none (reply_in h.array.replies x.id)) (sym same) ∙ ap (λ (x : Option Reply). is_none x) may.runs.runs.reply in
+        ap (λ (a : Array). is_none (reply_in a.replies q.id)) array_is
+        ∙ ap (λ (x : Process). is_none (reply_in h.array.replies x.id)) (sym same)
+        ∙ ap (λ (x : Option Reply). is_none x) may.runs.runs.reply in
         λ i. guest i && reply i
 
-pub begins_placed : (s : ScenarioValue) (p : List Row) (row : Row) → Obeys s → IsPrompt s (row ∷ p) → Stood s p → NextStood s p row → ItemFacts s p → PlaceFacts s p → BeginsPlaced s p row
+pub begins_placed : (s : ScenarioValue) (p : List Row) (row : Row) → Obeys s → IsPrompt s (row ∷ p) → Stood s p
+    → NextStood s p row → ItemFacts s p → PlaceFacts s p → BeginsPlaced s p row
 begins_placed s p row o prompt was nx items h n alone after off =
     by_option (process_served s j)
     (λ e. ap (is_beginning s j n) e)

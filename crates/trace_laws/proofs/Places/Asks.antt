@@ -1,5 +1,5 @@
--- A command that stays outside the queue has one run at most: a REQUEST SENSE or an INQUIRY, or one that ends with CHECK CONDITION since
--- its unit is not there (7.5, 8.2).
+-- A command that stays outside the queue has one run at most: a REQUEST SENSE or an INQUIRY, or one that ends with
+-- CHECK CONDITION since its unit is not there (7.5, 8.2).
 use Rattle.trace_laws.proofs
 use proofs.Names.{inl, inr, ℕ, ◌≡◌, ◌⊎◌, ◌+◌, Bool, true, false, not, ◌&&◌, ◌==◌, ◌∙◌, List, [], length, Option, Some}
 use proofs.Names.{None, refl, sym, ap, subst, arith, ◌++◌, length-append, Result, Ok, Err, eqb-true, nat_tests, ◌-◌}
@@ -41,7 +41,9 @@ inquires cdb e =
     zeros true = refl
     zeros false = refl
 
-    go : (q r : Bool) → range_in (if q then Err CdbFault.Length else (if r then where_zero (spare_room cdb) (Command.Inquiry (slice_index cdb 4)) else Err CdbFault.Length)) ≡ None
+    go : (q r : Bool) → range_in (if q then Err CdbFault.Length
+        else (if r then where_zero (spare_room cdb) (Command.Inquiry (slice_index cdb 4)) else Err CdbFault.Length))
+        ≡ None
     go true r = refl
     go false true = zeros (are_zero (spare_room cdb))
     go false false = refl
@@ -56,7 +58,8 @@ none_moved policy t e = ap (λ (m : ℕ). nat_lt (t.runs + 1) (if m == 0 then 0 
     none = grind (arith, nat_tests)
 
 -- Of a unit that is not there.
-pub absent_moves : (a : Array) (p : Process) → unit_state_at a.units p.target p.unit ≡ None → needs_unit p.cdb ≡ true → moved_count p (reply_now a p) ≡ 0
+pub absent_moves : (a : Array) (p : Process) → unit_state_at a.units p.target p.unit ≡ None → needs_unit p.cdb ≡ true
+    → moved_count p (reply_now a p) ≡ 0
 absent_moves a p e f =
     (λ i. moved_count p (execution (context_at a (nexus_of p) (e i)) p.cdb p.sent).reply)
     ∙ (λ i. moved_count p (absent_executed (context_at a (nexus_of p) None) p.cdb p.sent f i).reply)
@@ -71,8 +74,10 @@ either_opcode true y e = inl refl
 either_opcode false true e = inr refl
 either_opcode false false e = wrong e
 
-pub outside_runs : (s : ScenarioValue) (k : RunState) (dev : ℕ) (p : Process) → process_served s k ≡ Some p → IsOutside (array_of s k) p → HasOneRun true (serving_of s k dev)
-outside_runs s k dev p served out = λ z t e. subst (λ (x : Task). nat_lt (x.runs + 1) (runs_in_all policy x) ≡ false) (task_is t e) one
+pub outside_runs : (s : ScenarioValue) (k : RunState) (dev : ℕ) (p : Process) → process_served s k ≡ Some p
+    → IsOutside (array_of s k) p → HasOneRun true (serving_of s k dev)
+outside_runs s k dev p served out =
+    λ z t e. subst (λ (x : Task). nat_lt (x.runs + 1) (runs_in_all policy x) ≡ false) (task_is t e) one
   where
     a : Array
     a = array_of s k
@@ -93,48 +98,61 @@ outside_runs s k dev p served out = λ z t e. subst (λ (x : Task). nat_lt (x.ru
     by_range : range_in (command_of p.cdb) ≡ None → nat_lt (task.runs + 1) (runs_in_all policy task) ≡ false
     by_range e = one_run policy task (ap blocks_in e)
 
-    absent : unit_state_at a.units p.target p.unit ≡ None → (q : Bool) → needs_unit p.cdb ≡ q → nat_lt (task.runs + 1) (runs_in_all policy task) ≡ false
+    absent : unit_state_at a.units p.target p.unit ≡ None → (q : Bool) → needs_unit p.cdb ≡ q
+        → nat_lt (task.runs + 1) (runs_in_all policy task) ≡ false
     absent e true f = none_moved policy task (absent_moves a p e f)
     absent e false f = by (either_opcode (is_opcode p.cdb INQUIRY) (is_request_sense (command_of p.cdb)) f)
       where
-        by : (is_opcode p.cdb INQUIRY ≡ true) ⊎ (is_request_sense (command_of p.cdb) ≡ true) → nat_lt (task.runs + 1) (runs_in_all policy task) ≡ false
+        by : (is_opcode p.cdb INQUIRY ≡ true) ⊎ (is_request_sense (command_of p.cdb) ≡ true)
+            → nat_lt (task.runs + 1) (runs_in_all policy task) ≡ false
         by (inl z) = by_range (inquires p.cdb z)
         by (inr z) = by_range (no_blocks (command_of p.cdb) z)
 
     one : nat_lt (task.runs + 1) (runs_in_all policy task) ≡ false
     one = elim out [ inl e ↦ absent e (needs_unit p.cdb) refl | inr e ↦ by_range (no_blocks (command_of p.cdb) e) ]
 
--- ---- What is asked of a row, that the processes stand where they should after it, from what is owed of items, of what the rows tell and of
--- the last message.
+-- ---- What is asked of a row, that the processes stand where they should after it, from what is owed of items, of what
+-- the rows tell and of the last message.
 
 -- ---- what is owed
 
--- As another phase begins: what the rows tell of the process that is served is what its target knows; until the initiator knows it
--- neither COMMAND is left nor STATUS begins; and a request is answered where COMMAND follows.
+-- As another phase begins: what the rows tell of the process that is served is what its target knows; until the
+-- initiator knows it neither COMMAND is left nor STATUS begins; and a request is answered where COMMAND follows.
 pub record TurnOwed (s : ScenarioValue) (k : RunState) (c : Change) (l : Link) : Type 0 where
   pub tells : k.exchange.begun ≡ true → (id : ProcId) → k.served ≡ Some (process id) → TellsOf s k id
   pub unnamed : l.item ≡ None → (is_status (phase_of c.after) ≡ false) × (is_command_phase (phase_of c.before) ≡ false)
-  pub offers : phase_of (bus_of k) ≡ Phase.MessageOut → k.exchange.plan.cause ≡ Cause.InMessage → is_some k.exchange.plan.said.offer ≡ true → k.exchange.plan.next ≡ Next.Command
+  pub offers : phase_of (bus_of k) ≡ Phase.MessageOut → k.exchange.plan.cause ≡ Cause.InMessage
+      → is_some k.exchange.plan.said.offer ≡ true → k.exchange.plan.next ≡ Next.Command
 
 pub record PlaceOwed (s : ScenarioValue) (k : RunState) (row : Row) (a : Array) : Type 0 where
   pub selects : (n : Connection) → Begins s k row n → n.reselected ≡ false → IsSelectedFor s k n
-  pub sends : (k.story.bus_state.connection ≡ None → (row_reading k.story.bus_state row).next ≡ None) ⊎ ((row_reading k.story.bus_state row).change.after.rst ≡ true) → SendsNone s k row
-  pub turns : (n : Connection) (c : Change) (l : Link) → GoesOn s k row n c → changes_phase c ≡ true → k.story.link ≡ Some l → TurnOwed s k c l
-  pub stays : (n : Connection) (c : Change) (l : Link) → GoesOn s k row n c → changes_phase c ≡ false → k.story.link ≡ Some l → IsStayAsked s k c l
-  pub drives : (n : Connection) (c : Change) (l : Link) → GoesOn s k row n c → is_completion l c ≡ true → is_fault row.kind ≡ false
-  pub ends : (n : Connection) (l : Link) → Ends s k row n → (row_reading k.story.bus_state row).change.after.rst ≡ false → k.story.link ≡ Some l → IsEndAsked k l a
+  pub sends : (k.story.bus_state.connection ≡ None → (row_reading k.story.bus_state row).next ≡ None)
+      ⊎ ((row_reading k.story.bus_state row).change.after.rst ≡ true)
+      → SendsNone s k row
+  pub turns : (n : Connection) (c : Change) (l : Link) → GoesOn s k row n c → changes_phase c ≡ true
+      → k.story.link ≡ Some l → TurnOwed s k c l
+  pub stays : (n : Connection) (c : Change) (l : Link) → GoesOn s k row n c → changes_phase c ≡ false
+      → k.story.link ≡ Some l → IsStayAsked s k c l
+  pub drives : (n : Connection) (c : Change) (l : Link) → GoesOn s k row n c → is_completion l c ≡ true
+      → is_fault row.kind ≡ false
+  pub ends : (n : Connection) (l : Link) → Ends s k row n → (row_reading k.story.bus_state row).change.after.rst ≡ false
+      → k.story.link ≡ Some l → IsEndAsked k l a
   pub reset : (row_reading k.story.bus_state row).change.after.rst ≡ true → IsResetAsked k row
 
 -- ---- what follows
 
 -- COMMAND COMPLETE has one byte.
-one_byte : (before rest bytes : List ℕ) (count : ℕ) → length bytes ≡ 1 → bytes ≡ before ++ rest → count ≡ length before → count - 1 ≡ 0
+one_byte : (before rest bytes : List ℕ) (count : ℕ) → length bytes ≡ 1 → bytes ≡ before ++ rest → count ≡ length before
+    → count - 1 ≡ 0
 one_byte before rest bytes count one e f =
     let all : length bytes ≡ length (before ++ rest) = ap (λ (x : List ℕ). length x) e in
     let two : length (before ++ rest) ≡ length before + length rest = length-append before rest in
     omega arith
 
-in_lines : (m d o : Bool) → (m ≡ true → d ≡ true) → is_in_phase (if m then (if o then Phase.MessageIn else Phase.MessageOut) else if d then (if o then Phase.Status else Phase.Command) else if o then Phase.DataIn else Phase.DataOut) ≡ true → (m ≡ true) × ((m && d && o) ≡ true)
+in_lines : (m d o : Bool) → (m ≡ true → d ≡ true)
+    → is_in_phase (if m then (if o then Phase.MessageIn else Phase.MessageOut)
+    else if d then (if o then Phase.Status else Phase.Command) else if o then Phase.DataIn else Phase.DataOut) ≡ true
+    → (m ≡ true) × ((m && d && o) ≡ true)
 in_lines true true true f e = (refl, refl)
 in_lines true true false f e = wrong' e
 in_lines true false o f e = wrong' (f refl)
@@ -143,11 +161,16 @@ in_lines false true false f e = wrong' e
 in_lines false false true f e = wrong' e
 in_lines false false false f e = wrong' e
 
-turn_asked : (s : ScenarioValue) (p : List Row) (row : Row) (n : Connection) (c : Change) (l : Link) → Stood s p → GoesOn s (run_state s p) row n c → TurnOwed s (run_state s p) c l → IsTurnAsked s (run_state s p) n c l
+turn_asked : (s : ScenarioValue) (p : List Row) (row : Row) (n : Connection) (c : Change) (l : Link) → Stood s p
+    → GoesOn s (run_state s p) row n c → TurnOwed s (run_state s p) c l → IsTurnAsked s (run_state s p) n c l
 turn_asked s p row n c l was g owed = record {
   tells = owed.tells;
   unnamed = owed.unnamed;
-  unbegun = λ b. (ap (λ (x : LineSet). is_command_phase (phase_of x)) (sym g.row_is.bus_is ∙ was.plain.bus ∙ link_unbegun s p n (stage_of_connection s p n was con off) (sym was.plain.begun ∙ b)), ((was.books.speaks n g.row_is.connection_is g.calm).before_all b).cause_is);
+  unbegun = λ b. (
+    ap (λ (x : LineSet). is_command_phase (phase_of x)) (sym g.row_is.bus_is ∙ was.plain.bus
+        ∙ link_unbegun s p n (stage_of_connection s p n was con off) (sym was.plain.begun ∙ b)),
+    ((was.books.speaks n g.row_is.connection_is g.calm).before_all b).cause_is,
+  );
   offers = owed.offers;
   few = λ e m. few (in_lines (bus_of k).msg (bus_of k).cd (bus_of k).io (λ z. (g.phase z).0) (ap is_in_phase e)) m;
   one_run = λ x e out. outside_runs s k n.target x e out;
@@ -163,12 +186,15 @@ turn_asked s p row n c l was g owed = record {
     off : (bus p).rst ≡ false
     off = sym (ap (λ (x : LineSet). x.rst) was.plain.bus) ∙ g.calm
 
-    few : ((bus_of k).msg ≡ true) × (is_message_in (bus_of k) ≡ true) → k.exchange.plan.messages ≡ one_message MsgIn.CommandComplete → k.handshakes.requests - 1 ≡ 0
+    few : ((bus_of k).msg ≡ true) × (is_message_in (bus_of k) ≡ true)
+        → k.exchange.plan.messages ≡ one_message MsgIn.CommandComplete → k.handshakes.requests - 1 ≡ 0
     few e m =
         let given = (was.books.gives n g.row_is.connection_is g.calm).in_message_in (g.phase e.0).1 e.1 in
-        one_byte given.before given.rest (bytes_of_messages k.exchange.plan.messages) k.handshakes.requests (ap (λ (x : Messages). length (bytes_of_messages x)) m) given.bytes_are given.count_is
+        one_byte given.before given.rest (bytes_of_messages k.exchange.plan.messages) k.handshakes.requests
+        (ap (λ (x : Messages). length (bytes_of_messages x)) m) given.bytes_are given.count_is
 
-pub places_asked : (s : ScenarioValue) (p : List Row) (row : Row) (a : Array) → Stood s p → PlaceOwed s (run_state s p) row a → PlaceAsked s (run_state s p) row a
+pub places_asked : (s : ScenarioValue) (p : List Row) (row : Row) (a : Array) → Stood s p
+    → PlaceOwed s (run_state s p) row a → PlaceAsked s (run_state s p) row a
 places_asked s p row a was owed = record {
   selects = owed.selects;
   sends = owed.sends;

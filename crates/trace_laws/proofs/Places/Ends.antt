@@ -1,4 +1,5 @@
--- A row with which a connection ends: its process is disconnected, has ended, or is lost, or an abort drops processes (6.1.1, 6.6).
+-- A row with which a connection ends: its process is disconnected, has ended, or is lost, or an abort drops processes
+-- (6.1.1, 6.6).
 use Rattle.trace_laws.proofs
 use proofs.Names.{inl, inr, ℕ, ◌≡◌, ◌⊎◌, Bool, true, false, ◌∙◌, List, [], ◌∷◌, Option, Some, None, refl, sym, ap}
 use proofs.Names.{subst, true≢false, if◌then◌else◌, is_some, wrong, AbortKind, Event, ProcId, rises, Row, Connection}
@@ -16,13 +17,16 @@ use Rattle.bus_due.specs.disk_array.specs.Steps
 
 -- ---- what is asked of it
 
--- The initiator knows its process; in MESSAGE IN the bus is freed after DISCONNECT, or COMMAND COMPLETE, which was taken; and else the
--- process is lost.
+-- The initiator knows its process; in MESSAGE IN the bus is freed after DISCONNECT, or COMMAND COMPLETE, which was
+-- taken; and else the process is lost.
 pub record IsEndAsked (k : RunState) (l : Link) (a : Array) : Type 0 where
   pub named : (id : ProcId) → k.served ≡ Some (process id) → l.item ≡ Some (process id)
-  pub next : (id : ProcId) → k.served ≡ Some (process id) → phase_of (bus_of k) ≡ Phase.MessageIn → k.exchange.plan.next ≡ Next.FreeBus
-  pub closing : (id : ProcId) → k.served ≡ Some (process id) → phase_of (bus_of k) ≡ Phase.MessageIn → (l.last ≡ complete) ⊎ (l.last ≡ disconnect)
-  pub taken : (id : ProcId) → k.served ≡ Some (process id) → phase_of (bus_of k) ≡ Phase.MessageIn → k.exchange.plan.messages ≡ one_message MsgIn.CommandComplete → has_ended a id ≡ true
+  pub next : (id : ProcId) → k.served ≡ Some (process id) → phase_of (bus_of k) ≡ Phase.MessageIn
+      → k.exchange.plan.next ≡ Next.FreeBus
+  pub closing : (id : ProcId) → k.served ≡ Some (process id) → phase_of (bus_of k) ≡ Phase.MessageIn
+      → (l.last ≡ complete) ⊎ (l.last ≡ disconnect)
+  pub taken : (id : ProcId) → k.served ≡ Some (process id) → phase_of (bus_of k) ≡ Phase.MessageIn
+      → k.exchange.plan.messages ≡ one_message MsgIn.CommandComplete → has_ended a id ≡ true
   pub lost : (id : ProcId) → k.served ≡ Some (process id) → (phase_of (bus_of k) ≡ Phase.MessageIn → ⊥) → l.last ≡ plain
 
 -- ---- what stands then
@@ -30,33 +34,41 @@ pub record IsEndAsked (k : RunState) (l : Link) (a : Array) : Type 0 where
 -- Every process is at rest.
 pub record HasFreed (s : ScenarioValue) (k : RunState) (row : Row) (a : Array) : Type 0 where
   pub next : Array
-  pub next_is : array_after_events s k.array (row_events_by s k.story (row_reading k.story.bus_state row) row) ≡ Some next
+  pub next_is : array_after_events s k.array (row_events_by s k.story (row_reading k.story.bus_state row) row)
+      ≡ Some next
   pub sound : IsSound s next
   pub within : AreWithin next.units
   pub untouched : (id : ProcId) → is_served_by k.served id ≡ false → IsUntouched a id → IsUntouched next id
   pub rests : (id : ProcId) → IsAtRest next id
 
-pub free_shown : (s : ScenarioValue) (k : RunState) (row : Row) (l : Link) → k.story.link ≡ Some l → (row_reading k.story.bus_state row).change.after.rst ≡ false → (row_reading k.story.bus_state row).next ≡ None → row_events_by s k.story (row_reading k.story.bus_state row) row ≡ bus_free_events s l l.last
+pub free_shown : (s : ScenarioValue) (k : RunState) (row : Row) (l : Link) → k.story.link ≡ Some l
+    → (row_reading k.story.bus_state row).change.after.rst ≡ false → (row_reading k.story.bus_state row).next ≡ None
+    → row_events_by s k.story (row_reading k.story.bus_state row) row ≡ bus_free_events s l l.last
 free_shown s k row l link calm none =
     let d : RowReading = row_reading k.story.bus_state row in
-    (λ i. if calm i then (if rises d.change.own.rst d.change.next.rst then Event.Reset row.dev ∷ [] else []) else link_events s k.story (link i) d)
+    (λ i. if calm i then (if rises d.change.own.rst d.change.next.rst then Event.Reset row.dev ∷ [] else [])
+    else link_events s k.story (link i) d)
     ∙ (λ i. if is_some (none i) then connection_events s k.story l d else bus_free_events s l l.last)
 
 -- ---- of a process
 
-open_before : (a : Array) (p : Process) (m : Messages) (next : Next) → PlacedBefore a p m next → has_ended a p.id ≡ false
+open_before : (a : Array) (p : Process) (m : Messages) (next : Next) → PlacedBefore a p m next
+    → has_ended a p.id ≡ false
 open_before a p m Next.Command h = h.open_is
 open_before a p m Next.GoOn h = h.open_is
 open_before a p m Next.Status h = h.open_is
 open_before a p m Next.FreeBus (completes e h) = h.open_is
 open_before a p m Next.FreeBus (disconnects e h o q) = o
 
-open_asked : (a : Array) (p : Process) (plan : Plan) (cause : Cause) → PlacedAsked a p plan cause → has_ended a p.id ≡ false
+open_asked : (a : Array) (p : Process) (plan : Plan) (cause : Cause) → PlacedAsked a p plan cause
+    → has_ended a p.id ≡ false
 open_asked a p plan Cause.InMessage h = open_before a p plan.messages plan.next h
 open_asked a p plan _ h = h.open_is
 
 -- Whether or not it is known, by its number.
-all_rest : (s : ScenarioValue) (a b : Array) (id : ProcId) → Passes s a b id → ((other : ProcId) → same_id id other ≡ false → IsAtRest a other) → IsAtRest b id → (other : ProcId) → IsAtRest b other
+all_rest : (s : ScenarioValue) (a b : Array) (id : ProcId) → Passes s a b id
+    → ((other : ProcId) → same_id id other ≡ false → IsAtRest a other) → IsAtRest b id
+    → (other : ProcId) → IsAtRest b other
 all_rest s a b id passes rests own other =
     by_bool (same_id id other)
     (λ e. subst (λ (x : ProcId). IsAtRest b x) (ids_are id other e) own)
@@ -79,7 +91,10 @@ is_abort _ = false
 
 -- ---- the row
 
-pub end_row : (s : ScenarioValue) (k : RunState) (row : Row) (n : Connection) (l : Link) (h : HasPlaces s k) → HasSeats s → k.story.bus_state.connection ≡ Some n → (bus_of k).rst ≡ false → k.exchange.begun ≡ true → (row_reading k.story.bus_state row).change.after.rst ≡ false → (row_reading k.story.bus_state row).next ≡ None → k.story.link ≡ Some l → (l.item ≡ k.served) ⊎ (l.item ≡ None) → IsEndAsked k l h.array → HasFreed s k row h.array
+pub end_row : (s : ScenarioValue) (k : RunState) (row : Row) (n : Connection) (l : Link) (h : HasPlaces s k)
+    → HasSeats s → k.story.bus_state.connection ≡ Some n → (bus_of k).rst ≡ false → k.exchange.begun ≡ true
+    → (row_reading k.story.bus_state row).change.after.rst ≡ false → (row_reading k.story.bus_state row).next ≡ None
+    → k.story.link ≡ Some l → (l.item ≡ k.served) ⊎ (l.item ≡ None) → IsEndAsked k l h.array → HasFreed s k row h.array
 end_row s k row n l h seats con off begun calm none link item asked = by_served k.served refl
   where
     a : Array
@@ -89,23 +104,29 @@ end_row s k row n l h seats con off begun calm none link item asked = by_served 
     shown = free_shown s k row l link calm none
 
     -- the events of this process
-    made : (p : Process) (b : Array) (xs : List Event) → k.served ≡ Some (process p.id) → row_events_by s k.story (row_reading k.story.bus_state row) row ≡ xs → array_after_events s (Some a) xs ≡ Some b → Passes s a b p.id → IsAtRest b p.id → HasFreed s k row a
+    made : (p : Process) (b : Array) (xs : List Event) → k.served ≡ Some (process p.id)
+        → row_events_by s k.story (row_reading k.story.bus_state row) row ≡ xs
+        → array_after_events s (Some a) xs ≡ Some b → Passes s a b p.id → IsAtRest b p.id → HasFreed s k row a
     made p b xs e f is passes own = record {
       next = b;
       next_is = (λ i. array_after_events s (h.array_is i) (f i)) ∙ is;
       sound = passes.sound;
       within = passes.within;
-      untouched = λ id z x. passes.untouched id (other_id p.id id (ap (λ (y : Option Item). is_served_by y id) (sym e) ∙ z)) x;
-      rests = all_rest s a b p.id passes (λ other z. h.rests other (ap (λ (y : Option Item). is_served_by y other) e ∙ served_other p.id other z)) own;
+      untouched =
+          λ id z x. passes.untouched id (other_id p.id id (ap (λ (y : Option Item). is_served_by y id) (sym e) ∙ z)) x;
+      rests = all_rest s a b p.id passes
+          (λ other z. h.rests other (ap (λ (y : Option Item). is_served_by y other) e ∙ served_other p.id other z)) own;
     }
 
     of_process : (p : Process) → k.served ≡ Some (process p.id) → process_served s k ≡ Some p → HasFreed s k row a
     of_process p e here = by (phase_of (bus_of k)) refl place
       where
         place : PlacedIn a p k.exchange.plan k.handshakes (bus_of k).atn (phase_of (bus_of k))
-        place = subst (λ (x : Bool). PlacedIf x a p k.exchange.plan k.handshakes (bus_of k).atn (phase_of (bus_of k))) begun (h.placed n con off p here)
+        place = subst (λ (x : Bool). PlacedIf x a p k.exchange.plan k.handshakes (bus_of k).atn (phase_of (bus_of k)))
+            begun (h.placed n con off p here)
 
-        quiet : (l.last ≡ complete) ⊎ (l.last ≡ disconnect) → row_events_by s k.story (row_reading k.story.bus_state row) row ≡ []
+        quiet : (l.last ≡ complete) ⊎ (l.last ≡ disconnect)
+            → row_events_by s k.story (row_reading k.story.bus_state row) row ≡ []
         quiet (inl z) = shown ∙ ap (bus_free_events s l) z
         quiet (inr z) = shown ∙ ap (bus_free_events s l) z
 
@@ -120,20 +141,25 @@ end_row s k row n l h seats con off begun calm none link item asked = by_served 
         loses f o =
             let b : Array = settled_array (Steps.array_without a p.id) in
             let is = lost_is s a p.id o in
-            made p b (Event.Lost p.id ∷ []) e (shown ∙ ap (bus_free_events s l) (asked.lost p.id e f) ∙ ap item_loss_events (asked.named p.id e)) is
+            made p b (Event.Lost p.id ∷ []) e
+            (shown ∙ ap (bus_free_events s l) (asked.lost p.id e f) ∙ ap item_loss_events (asked.named p.id e)) is
             (passes_step s a b (Event.Lost p.id) p.id seats h.sound h.within (λ other z. z) is) (leaves a p.id).rests
 
-        by : (x : Phase) → phase_of (bus_of k) ≡ x → PlacedIn a p k.exchange.plan k.handshakes (bus_of k).atn x → HasFreed s k row a
-        by Phase.MessageIn f (inl z) = closes f (subst (λ (y : Next). PlacedBefore a p k.exchange.plan.messages y) (asked.next p.id e f) z)
+        by : (x : Phase) → phase_of (bus_of k) ≡ x → PlacedIn a p k.exchange.plan k.handshakes (bus_of k).atn x
+            → HasFreed s k row a
+        by Phase.MessageIn f (inl z) =
+            closes f (subst (λ (y : Next). PlacedBefore a p k.exchange.plan.messages y) (asked.next p.id e f) z)
         by Phase.MessageIn f (inr z) = stays f z.rests
-        by Phase.MessageOut f z = loses (λ y. wrong (ap is_out_phase (sym f ∙ y))) (open_asked a p k.exchange.plan k.exchange.plan.cause z)
+        by Phase.MessageOut f z =
+            loses (λ y. wrong (ap is_out_phase (sym f ∙ y))) (open_asked a p k.exchange.plan k.exchange.plan.cause z)
         by Phase.Command f z = loses (λ y. wrong (ap is_command_phase (sym f ∙ y))) z.open_is
         by Phase.Status f z = loses (λ y. wrong (ap is_status (sym f ∙ y))) z.open_is
         by Phase.DataIn f z = loses (λ y. wrong (ap is_data_phase (sym f ∙ y))) z.open_is
         by Phase.DataOut f z = loses (λ y. wrong (ap is_data_phase (sym f ∙ y))) z.open_is
 
     -- of no process, or of an abort
-    rests_all : process_served s k ≡ None → ((id : ProcId) → is_served_by k.served id ≡ false) → (xs : List Event) → row_events_by s k.story (row_reading k.story.bus_state row) row ≡ xs → IsQuietOrAbort xs → HasFreed s k row a
+    rests_all : process_served s k ≡ None → ((id : ProcId) → is_served_by k.served id ≡ false) → (xs : List Event)
+        → row_events_by s k.story (row_reading k.story.bus_state row) row ≡ xs → IsQuietOrAbort xs → HasFreed s k row a
     rests_all none_served alone xs f (quiet_end z) = record {
       next = a;
       next_is = λ x. array_after_events s (h.array_is x) ((f ∙ z) x);
@@ -145,7 +171,8 @@ end_row s k row n l h seats con off begun calm none link item asked = by_served 
     rests_all none_served alone xs f (aborts_some i t u what z) =
         let event : Event = Event.Aborted i t u what in
         let b : Array = settled_array (Steps.abort_step s a i t u what) in
-        let passes : (id : ProcId) → Passes s a b id = λ id. passes_step s a b event id seats h.sound h.within (λ other y. refl) refl in
+        let passes : (id : ProcId) → Passes s a b id = λ id. passes_step s a b event id seats h.sound h.within
+        (λ other y. refl) refl in
         record {
           next = b;
           next_is = λ x. array_after_events s (h.array_is x) ((f ∙ z) x);
@@ -155,7 +182,8 @@ end_row s k row n l h seats con off begun calm none link item asked = by_served 
           rests = λ id. rests_after s a b event id refl refl (h.rests id (alone id));
         }
 
-    free_is : (x : Option Item) → ((id : ProcId) → x ≡ Some (process id) → ⊥) → (last : LastMessage) → IsQuietOrAbort (bus_free_events s (record l { item = x }) last)
+    free_is : (x : Option Item) → ((id : ProcId) → x ≡ Some (process id) → ⊥) → (last : LastMessage)
+        → IsQuietOrAbort (bus_free_events s (record l { item = x }) last)
     free_is x f plain = loss x f
       where
         loss : (y : Option Item) → ((id : ProcId) → y ≡ Some (process id) → ⊥) → IsQuietOrAbort (item_loss_events y)
@@ -175,22 +203,25 @@ end_row s k row n l h seats con off begun calm none link item asked = by_served 
         drops (Some (process id)) g = quiet_end refl
         drops (Some (abort m)) g = line (abort_line_at s.aborts m)
 
-    alone_item : (x : Option Item) → k.served ≡ x → ((id : ProcId) → x ≡ Some (process id) → ⊥) → (id : ProcId) → l.item ≡ Some (process id) → ⊥
+    alone_item : (x : Option Item) → k.served ≡ x
+        → ((id : ProcId) → x ≡ Some (process id) → ⊥) → (id : ProcId) → l.item ≡ Some (process id) → ⊥
     alone_item x e f id z = elim item [ inl y ↦ f id (sym e ∙ sym y ∙ z) | inr y ↦ some_none (sym z ∙ y) ]
       where
         some_none : Some (process id) ≡ (let o : Option Item = None in o) → ⊥
         some_none y = cc
 
-    of_none : (x : Option Item) → k.served ≡ x → process_served s k ≡ None → ((id : ProcId) → is_served_by x id ≡ false) → ((id : ProcId) → x ≡ Some (process id) → ⊥) → HasFreed s k row a
-    of_none x e none_here alone f =
-        rests_all none_here (λ id. ap (λ (y : Option Item). is_served_by y id) e ∙ alone id) (bus_free_events s l l.last) shown (free_is l.item (alone_item x e f) l.last)
+    of_none : (x : Option Item) → k.served ≡ x → process_served s k ≡ None
+        → ((id : ProcId) → is_served_by x id ≡ false) → ((id : ProcId) → x ≡ Some (process id) → ⊥) → HasFreed s k row a
+    of_none x e none_here alone f = rests_all none_here (λ id. ap (λ (y : Option Item). is_served_by y id) e ∙ alone id)
+        (bus_free_events s l l.last) shown (free_is l.item (alone_item x e f) l.last)
 
     by_served : (x : Option Item) → k.served ≡ x → HasFreed s k row a
     by_served None e = of_none None e (ap (process_item s) e) (λ id. refl) (λ id z. none_item id z)
       where
         none_item : (id : ProcId) → (let o : Option Item = None in o) ≡ Some (process id) → ⊥
         none_item id z = cc
-    by_served (Some (abort m)) e = of_none (Some (abort m)) e (ap (process_item s) e) (λ id. refl) (λ id z. abort_item id z)
+    by_served (Some (abort m)) e =
+        of_none (Some (abort m)) e (ap (process_item s) e) (λ id. refl) (λ id z. abort_item id z)
       where
         abort_item : (id : ProcId) → Some (abort m) ≡ Some (process id) → ⊥
         abort_item id z = true≢false (ap is_abort z)

@@ -1,5 +1,5 @@
--- The events of a process as its connection turns to another phase: the plain disk array permits them, and where the process stands
--- then (6.1.6, 7.3, 7.8).
+-- The events of a process as its connection turns to another phase: the plain disk array permits them, and where the
+-- process stands then (6.1.6, 7.3, 7.8).
 use Rattle.trace_laws.proofs
 use proofs.Names.{inl, inr, ℕ, suc, ◌≡◌, Bool, true, false, not, ◌&&◌, ◌||◌, ◌∙◌, List, [], ◌∷◌, length, Option, Some}
 use proofs.Names.{None, refl, sym, ap, subst, arith, ◌==◌, eqb-true, list_any, if◌then◌else◌, nat_lt, wrong, and_second}
@@ -24,9 +24,12 @@ pub record Passes (s : ScenarioValue) (a b : Array) (id : ProcId) : Type 0 where
   pub rests : (other : ProcId) → same_id id other ≡ false → IsAtRest a other → IsAtRest b other
 
 pub passes_same : (s : ScenarioValue) (a : Array) (id : ProcId) → IsSound s a → AreWithin a.units → Passes s a a id
-passes_same s a id sound within = record { sound = sound; within = within; untouched = λ other e h. h; rests = λ other e h. h }
+passes_same s a id sound within =
+    record { sound = sound; within = within; untouched = λ other e h. h; rests = λ other e h. h }
 
-pub passes_step : (s : ScenarioValue) (a b : Array) (event : Event) (id : ProcId) → HasSeats s → IsSound s a → AreWithin a.units → ((other : ProcId) → same_id id other ≡ false → is_of event other ≡ false) → Steps.step s event a ≡ Some b → Passes s a b id
+pub passes_step : (s : ScenarioValue) (a b : Array) (event : Event) (id : ProcId) → HasSeats s → IsSound s a
+    → AreWithin a.units → ((other : ProcId) → same_id id other ≡ false → is_of event other ≡ false)
+    → Steps.step s event a ≡ Some b → Passes s a b id
 passes_step s a b event id seats sound within of e = record {
   sound = step_sound s a b event seats sound e;
   within = within_after s a b event within e;
@@ -49,16 +52,21 @@ pub record Turned (s : ScenarioValue) (a : Array) (id : ProcId) (shown : List Ev
   pub passes : Passes s a next id
   pub holds : q next
 
-pub turned_none : (s : ScenarioValue) (a : Array) (id : ProcId) (q : Array → Type 0) → IsSound s a → AreWithin a.units → q a → Turned s a id [] q
-turned_none s a id q sound within h = record { next = a; next_is = refl; passes = passes_same s a id sound within; holds = h }
+pub turned_none : (s : ScenarioValue) (a : Array) (id : ProcId) (q : Array → Type 0) → IsSound s a → AreWithin a.units
+    → q a → Turned s a id [] q
+turned_none s a id q sound within h =
+    record { next = a; next_is = refl; passes = passes_same s a id sound within; holds = h }
 
 -- ---- a process that runs is answered
 
-pub turned_reply : (s : ScenarioValue) (a : Array) (p : Process) (failure : Option ℕ) → HasSeats s → IsSound s a → AreWithin a.units → process_of s p.id ≡ Some p → RunsOpen a p → Turned s a p.id (status_event p.id failure ∷ []) (λ b. AnsweredOpen b p.id)
+pub turned_reply : (s : ScenarioValue) (a : Array) (p : Process) (failure : Option ℕ)
+    → HasSeats s → IsSound s a → AreWithin a.units → process_of s p.id ≡ Some p → RunsOpen a p
+    → Turned s a p.id (status_event p.id failure ∷ []) (λ b. AnsweredOpen b p.id)
 turned_reply s a p None seats sound within e h =
     let b : Array = settled_array (Steps.after_execution_at a p (unit_state_at a.units p.target p.unit)) in
     let is = run_is s a p h.runs in
-    let same : has_ended b p.id ≡ has_ended a p.id = λ i. has_ended (record a { ended = (executed a p (unit_state_at a.units p.target p.unit)).ended i }) p.id in
+    let same : has_ended b p.id ≡ has_ended a p.id = λ i. has_ended
+    (record a { ended = (executed a p (unit_state_at a.units p.target p.unit)).ended i }) p.id in
     record {
       next = b;
       next_is = is;
@@ -76,9 +84,12 @@ turned_reply s a p (Some code) seats sound within e h =
     }
 
 -- One that has not arrived fails.
-pub turned_fails : (s : ScenarioValue) (a : Array) (p : Process) (code : ℕ) → HasSeats s → IsSound s a → AreWithin a.units → process_of s p.id ≡ Some p → IsUntouched a p.id → Turned s a p.id (status_event p.id (Some code) ∷ []) (λ b. AnsweredOpen b p.id)
+pub turned_fails : (s : ScenarioValue) (a : Array) (p : Process) (code : ℕ) → HasSeats s
+    → IsSound s a → AreWithin a.units → process_of s p.id ≡ Some p → IsUntouched a p.id
+    → Turned s a p.id (status_event p.id (Some code) ∷ []) (λ b. AnsweredOpen b p.id)
 turned_fails s a p code seats sound within e h =
-    let b : Array = settled_array (Steps.with_listed_reply (Steps.with_guest a p (Some (aborted_reply code))) p.id (aborted_reply code)) in
+    let b : Array = settled_array
+    (Steps.with_listed_reply (Steps.with_guest a p (Some (aborted_reply code))) p.id (aborted_reply code)) in
     let is = fails_new s a p code e h in
     record {
       next = b;
@@ -97,19 +108,25 @@ ArrivesAs b p Arrival.AtOnce = RunsOpen b p × IsAtRest b p.id
 ArrivesAs b p Arrival.Queued = IsAtRest b p.id × (has_ended b p.id ≡ false) × (is_queued b.units p.id ≡ true)
 
 abbrev pub plan_for : Policy → Array → Process → Arrival
-plan_for policy a p = arrival_by policy (is_request_sense (command_of p.cdb)) (room_of a (unit_state_at a.units p.target p.unit))
+plan_for policy a p =
+    arrival_by policy (is_request_sense (command_of p.cdb)) (room_of a (unit_state_at a.units p.target p.unit))
 
 guest_planned : (policy : Policy) (a : Array) (p : Process) → IsOutside a p → plan_for policy a p ≡ Arrival.Guest
 guest_planned policy a p (inl e) = λ i. arrival_by policy (is_request_sense (command_of p.cdb)) (room_of a (e i))
-guest_planned policy a p (inr e) = (λ i. arrival_by policy (e i) (room_of a (unit_state_at a.units p.target p.unit))) ∙ go (unit_state_at a.units p.target p.unit)
+guest_planned policy a p (inr e) = (λ i. arrival_by policy (e i) (room_of a (unit_state_at a.units p.target p.unit)))
+    ∙ go (unit_state_at a.units p.target p.unit)
   where
     go : (u : Option UnitState) → arrival_by policy true (room_of a u) ≡ Arrival.Guest
     go None = refl
     go (Some u) = refl
 
-in_queue_planned : (policy : Policy) (a : Array) (p : Process) (u : UnitState) (q : Bool) → unit_state_at a.units p.target p.unit ≡ Some u → is_request_sense (command_of p.cdb) ≡ false → nat_lt (process_count u) u.depth ≡ q
-    → plan_for policy a p ≡ (if not q then Arrival.Refused else if is_never policy && is_idle_unit a u then Arrival.AtOnce else Arrival.Queued)
-in_queue_planned policy a p u q e f g = (λ i. arrival_by policy (f i) (room_of a (e i))) ∙ (λ i. if not (g i) then Arrival.Refused else if is_never policy && is_idle_unit a u then Arrival.AtOnce else Arrival.Queued)
+in_queue_planned : (policy : Policy) (a : Array) (p : Process) (u : UnitState) (q : Bool)
+    → unit_state_at a.units p.target p.unit ≡ Some u → is_request_sense (command_of p.cdb) ≡ false
+    → nat_lt (process_count u) u.depth ≡ q → plan_for policy a p ≡ (if not q then Arrival.Refused
+    else if is_never policy && is_idle_unit a u then Arrival.AtOnce else Arrival.Queued)
+in_queue_planned policy a p u q e f g = (λ i. arrival_by policy (f i) (room_of a (e i)))
+    ∙ (λ i. if not (g i) then Arrival.Refused
+    else if is_never policy && is_idle_unit a u then Arrival.AtOnce else Arrival.Queued)
 
 record IsIdle (a : Array) (u : UnitState) : Type 0 where
   none_waits : u.waiting ≡ []
@@ -122,7 +139,8 @@ no_length n e = let z : suc n ≡ 0 = eqb-true (suc n) 0 e in omega arith
 idle_is : (a : Array) (u : UnitState) → is_idle_unit a u ≡ true → IsIdle a u
 idle_is a u e = go (has_no_current u.current) refl (is_held a.holds u.target u.unit) refl u.waiting refl e
   where
-    go : (x : Bool) → has_no_current u.current ≡ x → (y : Bool) → is_held a.holds u.target u.unit ≡ y → (w : List Process) → u.waiting ≡ w → (x && not y && length w == 0) ≡ true → IsIdle a u
+    go : (x : Bool) → has_no_current u.current ≡ x → (y : Bool) → is_held a.holds u.target u.unit ≡ y
+        → (w : List Process) → u.waiting ≡ w → (x && not y && length w == 0) ≡ true → IsIdle a u
     go true f false g [] h k = record { none_waits = h; none_runs = f; free = g }
     go true f false g (p ∷ w) h k = absurd (no_length (length w) k)
     go true f true g w h k = wrong (sym k)
@@ -134,27 +152,32 @@ pub record Accepted (s : ScenarioValue) (a : Array) (p : Process) (policy : Poli
   pub planned : is_refusal (plan_for policy a p) ≡ false
   pub arrived : ArrivesAs b p (plan_for policy a p)
 
-pub accepts : (s : ScenarioValue) (a b : Array) (p : Process) (policy : Policy) → HasSeats s → IsSound s a → AreWithin a.units → process_of s p.id ≡ Some p → IsUntouched a p.id → Steps.step s (Event.Accept p.id) a ≡ Some b → Accepted s a p policy b
+pub accepts : (s : ScenarioValue) (a b : Array) (p : Process) (policy : Policy) → HasSeats s → IsSound s a
+    → AreWithin a.units → process_of s p.id ≡ Some p → IsUntouched a p.id → Steps.step s (Event.Accept p.id) a ≡ Some b
+    → Accepted s a p policy b
 accepts s a b p policy seats sound within e h f = go (arrives s a b p e f)
   where
     passes : Passes s a b p.id
     passes = passes_step s a b (Event.Accept p.id) p.id seats sound within (λ other z. z) f
 
     made : (x : Arrival) → plan_for policy a p ≡ x → is_refusal x ≡ false → ArrivesAs b p x → Accepted s a p policy b
-    made x z w k = record { passes = passes; planned = ap is_refusal z ∙ w; arrived = subst (λ (y : Arrival). ArrivesAs b p y) (sym z) k }
+    made x z w k = record {
+      passes = passes;
+      planned = ap is_refusal z ∙ w;
+      arrived = subst (λ (y : Arrival). ArrivesAs b p y) (sym z) k;
+    }
 
     go : Arrives a p b → Accepted s a p policy b
     go (as_guest out z) =
         made Arrival.Guest (guest_planned policy a p out) refl
         (subst (λ (x : Array). RunsOpen x p) (sym z) (record { runs = guest_may_run a p out h; open_is = h.open_is }))
-    go (in_queue u at senses room z) =
-        by_bool (is_never policy && is_idle_unit a u)
-        (λ w.
-        let i = idle_is a u (and_second (is_never policy) (is_idle_unit a u) w) in
+    go (in_queue u at senses room z) = by_bool (is_never policy && is_idle_unit a u)
+        (λ w. let i = idle_is a u (and_second (is_never policy) (is_idle_unit a u) w) in
         made Arrival.AtOnce (planned ∙ ap (λ (q : Bool). if q then Arrival.AtOnce else Arrival.Queued) w) refl
-        (subst (λ (x : Array). RunsOpen x p × IsAtRest x p.id) (sym z) (record { runs = at_once_may_run a p u at i.none_waits i.none_runs i.free h; open_is = h.open_is }, queued_rests a p u at h)))
-        (λ w.
-        made Arrival.Queued (planned ∙ ap (λ (q : Bool). if q then Arrival.AtOnce else Arrival.Queued) w) refl
+        (subst (λ (x : Array). RunsOpen x p × IsAtRest x p.id) (sym z) (
+          record { runs = at_once_may_run a p u at i.none_waits i.none_runs i.free h; open_is = h.open_is },
+          queued_rests a p u at h,
+        ))) (λ w. made Arrival.Queued (planned ∙ ap (λ (q : Bool). if q then Arrival.AtOnce else Arrival.Queued) w) refl
         (subst (λ (x : Array). IsAtRest x p.id × (has_ended x p.id ≡ false) × (is_queued x.units p.id ≡ true)) (sym z)
         (queued_rests a p u at h, h.open_is, queued_stands a p u at)))
       where
@@ -162,22 +185,31 @@ accepts s a b p policy seats sound within e h f = go (arrives s a b p e f)
         planned = in_queue_planned policy a p u true at senses room
 
 -- It is refused, and planned so.
-pub refusal_planned : (s : ScenarioValue) (a : Array) (p : Process) (policy : Policy) → process_of s p.id ≡ Some p → Steps.step s (Event.Accept p.id) a ≡ None → plan_for policy a p ≡ Arrival.Refused
-refusal_planned s a p policy e f = go (unit_state_at a.units p.target p.unit) refl ((λ i. Steps.settled_array_if (Steps.accept_step a (sym e i))) ∙ f)
+pub refusal_planned : (s : ScenarioValue) (a : Array) (p : Process) (policy : Policy) → process_of s p.id ≡ Some p
+    → Steps.step s (Event.Accept p.id) a ≡ None → plan_for policy a p ≡ Arrival.Refused
+refusal_planned s a p policy e f =
+    go (unit_state_at a.units p.target p.unit) refl ((λ i. Steps.settled_array_if (Steps.accept_step a (sym e i))) ∙ f)
   where
-    go : (u : Option UnitState) → unit_state_at a.units p.target p.unit ≡ u → Steps.settled_array_if (Steps.accept_step_at a p u) ≡ None → plan_for policy a p ≡ Arrival.Refused
+    go : (u : Option UnitState) → unit_state_at a.units p.target p.unit ≡ u
+        → Steps.settled_array_if (Steps.accept_step_at a p u) ≡ None → plan_for policy a p ≡ Arrival.Refused
     go None z k = absurd (some_none (settled_array (Steps.with_guest a p None)) k)
     go (Some u) z k = senses (is_request_sense (command_of p.cdb)) refl k
       where
-        room : (y : Bool) → nat_lt (process_count u) u.depth ≡ y → is_request_sense (command_of p.cdb) ≡ false → Steps.settled_array_if (if y then Some (queued a p u) else None) ≡ None → plan_for policy a p ≡ Arrival.Refused
+        room : (y : Bool) → nat_lt (process_count u) u.depth ≡ y → is_request_sense (command_of p.cdb) ≡ false
+            → Steps.settled_array_if (if y then Some (queued a p u) else None) ≡ None
+            → plan_for policy a p ≡ Arrival.Refused
         room true w x l = absurd (some_none (settled_array (queued a p u)) l)
         room false w x l = in_queue_planned policy a p u false z x w
 
-        senses : (x : Bool) → is_request_sense (command_of p.cdb) ≡ x → Steps.settled_array_if (if x then Some (Steps.with_guest a p None) else Steps.queue_step a p u) ≡ None → plan_for policy a p ≡ Arrival.Refused
+        senses : (x : Bool) → is_request_sense (command_of p.cdb) ≡ x
+            → Steps.settled_array_if (if x then Some (Steps.with_guest a p None) else Steps.queue_step a p u) ≡ None
+            → plan_for policy a p ≡ Arrival.Refused
         senses true x l = absurd (some_none (settled_array (Steps.with_guest a p None)) l)
         senses false x l = room (nat_lt (process_count u) u.depth) refl x l
 
-pub refused_so : (s : ScenarioValue) (a : Array) (p : Process) → HasSeats s → IsSound s a → AreWithin a.units → process_of s p.id ≡ Some p → IsUntouched a p.id → Steps.step s (Event.Accept p.id) a ≡ None → Turned s a p.id (Event.Refuse p.id ∷ []) (λ b. AnsweredOpen b p.id)
+pub refused_so : (s : ScenarioValue) (a : Array) (p : Process) → HasSeats s → IsSound s a → AreWithin a.units
+    → process_of s p.id ≡ Some p → IsUntouched a p.id → Steps.step s (Event.Accept p.id) a ≡ None
+    → Turned s a p.id (Event.Refuse p.id ∷ []) (λ b. AnsweredOpen b p.id)
 refused_so s a p seats sound within e h f =
     let is = refuses s a p within e f in
     record {
@@ -189,7 +221,9 @@ refused_so s a p seats sound within e h f =
 
 -- ---- the events of a turn
 
-status_lines : (m c i : Bool) → (not m && c && i) ≡ is_status (if m then (if i then Phase.MessageIn else Phase.MessageOut) else if c then (if i then Phase.Status else Phase.Command) else if i then Phase.DataIn else Phase.DataOut)
+status_lines : (m c i : Bool)
+    → (not m && c && i) ≡ is_status (if m then (if i then Phase.MessageIn else Phase.MessageOut)
+    else if c then (if i then Phase.Status else Phase.Command) else if i then Phase.DataIn else Phase.DataOut)
 status_lines true c true = refl
 status_lines true c false = refl
 status_lines false true true = refl
@@ -197,7 +231,9 @@ status_lines false true false = refl
 status_lines false false true = refl
 status_lines false false false = refl
 
-command_lines : (m c i : Bool) → (not m && c && not i) ≡ is_command_phase (if m then (if i then Phase.MessageIn else Phase.MessageOut) else if c then (if i then Phase.Status else Phase.Command) else if i then Phase.DataIn else Phase.DataOut)
+command_lines : (m c i : Bool)
+    → (not m && c && not i) ≡ is_command_phase (if m then (if i then Phase.MessageIn else Phase.MessageOut)
+    else if c then (if i then Phase.Status else Phase.Command) else if i then Phase.DataIn else Phase.DataOut)
 command_lines true c true = refl
 command_lines true c false = refl
 command_lines false true true = refl
@@ -206,14 +242,23 @@ command_lines false false true = refl
 command_lines false false false = refl
 
 -- Its reply is shown with STATUS, where none was given.
-pub status_events_are : (c : CarriedBytes) (after : LineSet) (arrived : List Event) → status_events (Some c) after arrived ≡ (if is_status (phase_of after) && not (c.shown || c.refused) && not (list_any (λ e. is_refuse e) arrived) then status_event c.id c.failure ∷ arrived else arrived)
-status_events_are c after arrived = (λ i. if status_lines after.msg after.cd after.io i && not c.shown && not c.refused && not (list_any (λ e. is_refuse e) arrived) then status_event c.id c.failure ∷ arrived else arrived) ∙ go (is_status (phase_of after)) c.shown c.refused (list_any (λ e. is_refuse e) arrived)
+pub status_events_are : (c : CarriedBytes) (after : LineSet) (arrived : List Event)
+    → status_events (Some c) after arrived
+    ≡ (if is_status (phase_of after) && not (c.shown || c.refused) && not (list_any (λ e. is_refuse e) arrived)
+    then status_event c.id c.failure ∷ arrived else arrived)
+status_events_are c after arrived = (λ i. if status_lines after.msg after.cd after.io i && not c.shown && not c.refused
+    && not (list_any (λ e. is_refuse e) arrived) then status_event c.id c.failure ∷ arrived else arrived)
+    ∙ go (is_status (phase_of after)) c.shown c.refused (list_any (λ e. is_refuse e) arrived)
   where
-    go : (x y z w : Bool) → (if x && not y && not z && not w then status_event c.id c.failure ∷ arrived else arrived) ≡ (if x && not (y || z) && not w then status_event c.id c.failure ∷ arrived else arrived)
+    go : (x y z w : Bool) → (if x && not y && not z && not w then status_event c.id c.failure ∷ arrived else arrived)
+        ≡ (if x && not (y || z) && not w then status_event c.id c.failure ∷ arrived else arrived)
     go true true z w = refl
     go true false true w = refl
     go true false false w = refl
     go false y z w = refl
 
-pub queue_events_are : (s : ScenarioValue) (b : Story) (c : CarriedBytes) (before : LineSet) → queue_events s b (Some c) before ≡ (if is_command_phase (phase_of before) && is_whole_block c then queue_event s b.history c.id ∷ [] else [])
-queue_events_are s b c before = λ i. if command_lines before.msg before.cd before.io i && is_whole_block c then queue_event s b.history c.id ∷ [] else []
+pub queue_events_are : (s : ScenarioValue) (b : Story) (c : CarriedBytes) (before : LineSet)
+    → queue_events s b (Some c) before
+    ≡ (if is_command_phase (phase_of before) && is_whole_block c then queue_event s b.history c.id ∷ [] else [])
+queue_events_are s b c before = λ i.
+    if command_lines before.msg before.cd before.io i && is_whole_block c then queue_event s b.history c.id ∷ [] else []

@@ -87,7 +87,8 @@ recovers q def t again over h k g = go t.in_hold (nat_lt t.recoveries (recovery_
 
 -- One outside the queue has one run at most.
 abbrev pub HasOneRun : Bool → Serving → Type 0
-HasOneRun outside v = outside ≡ true → (t : Task) → v.task ≡ Some t → nat_lt (t.runs + 1) (runs_in_all (policy_of v.def) t) ≡ false
+HasOneRun outside v =
+    outside ≡ true → (t : Task) → v.task ≡ Some t → nat_lt (t.runs + 1) (runs_in_all (policy_of v.def) t) ≡ false
 
 inside : (outside : Bool) (v : Serving) (t : Task) → HasOneRun outside v → ways.DoneRun v t true → outside ≡ false
 inside true v t one r = wrong (sym r.more_is ∙ one refl t r.task_is)
@@ -100,7 +101,8 @@ given outside v (ways.saves _ t _ r _) one = (inside outside v t one r, record {
 given outside v (ways.disconnects _ t _ r _) one = (inside outside v t one r, record { first = refl; second = refl })
 given outside v _ one = tt
 
-pub from_data_in : (outside : Bool) (v : Serving) (atn : Bool) → HasOneRun outside v → LeadsRunning outside (phase_leaving v atn Phase.DataIn)
+pub from_data_in : (outside : Bool) (v : Serving) (atn : Bool) → HasOneRun outside v
+    → LeadsRunning outside (phase_leaving v atn Phase.DataIn)
 from_data_in outside v atn = given outside v (ways.leaves v atn Phase.DataIn)
 
 sent : (outside : Bool) (v : Serving) {atn : Bool} {l : Leaving} → ways.Leaves v atn Phase.DataOut l
@@ -110,7 +112,8 @@ sent outside v (ways.saves _ t _ r _) one = (inside outside v t one r, record { 
 sent outside v (ways.disconnects _ t _ r _) one = (inside outside v t one r, record { first = refl; second = refl })
 sent outside v _ one = tt
 
-pub from_data_out : (outside : Bool) (v : Serving) (atn : Bool) → HasOneRun outside v → LeadsRunning outside (phase_leaving v atn Phase.DataOut)
+pub from_data_out : (outside : Bool) (v : Serving) (atn : Bool) → HasOneRun outside v
+    → LeadsRunning outside (phase_leaving v atn Phase.DataOut)
 from_data_out outside v atn = sent outside v (ways.leaves v atn Phase.DataOut)
 
 -- ---- STATUS
@@ -134,17 +137,20 @@ data_next outside policy t = go t.replied (nat_lt t.runs (runs_in_all policy t))
     go false true false = tt
     go false false w = tt
 
-pub from_go_on : (outside : Bool) (v : Serving) (atn : Bool) → LeadsRunning outside (if atn then phase_entry Phase.MessageOut else after_messages v Next.GoOn)
+pub from_go_on : (outside : Bool) (v : Serving) (atn : Bool)
+    → LeadsRunning outside (if atn then phase_entry Phase.MessageOut else after_messages v Next.GoOn)
 from_go_on outside v true = tt
 from_go_on outside v false =
     tasks (LeadsRunning outside) v.task (λ t. phase_entry (next_data_phase (policy_of v.def) t t.runs)) tt
     (λ t. data_next outside (policy_of v.def) t)
 
-pub from_status_next : (v : Serving) (atn : Bool) → LeadsAnswered (if atn then phase_entry Phase.MessageOut else after_messages v Next.Status)
+pub from_status_next : (v : Serving) (atn : Bool)
+    → LeadsAnswered (if atn then phase_entry Phase.MessageOut else after_messages v Next.Status)
 from_status_next v true = tt
 from_status_next v false = tt
 
-pub from_command_next : (v : Serving) (atn : Bool) → LeadsNew (if atn then phase_entry Phase.MessageOut else after_messages v Next.Command)
+pub from_command_next : (v : Serving) (atn : Bool)
+    → LeadsNew (if atn then phase_entry Phase.MessageOut else after_messages v Next.Command)
 from_command_next v true = tt
 from_command_next v false = tt
 
@@ -182,7 +188,9 @@ pub data Repeats (v : Serving) (l : Leaving) : Type 0 where
 pub from_refusal : (v : Serving) → Repeats v (message_out_leaving v Cause.InMessage)
 from_refusal v = go (is_some v.plan.said.offer) refl (is_naming v.plan.messages.first)
   where
-    go : (q : Bool) → is_some v.plan.said.offer ≡ q → (r : Bool) → Repeats v (if q then phase_entry Phase.Command else if r then message_repetition v.plan else with_task v.task (λ t. recovery v.def t (message_repetition v.plan) bus_free))
+    go : (q : Bool) → is_some v.plan.said.offer ≡ q → (r : Bool)
+        → Repeats v (if q then phase_entry Phase.Command else if r then message_repetition v.plan
+        else with_task v.task (λ t. recovery v.def t (message_repetition v.plan) bus_free))
     go true e r = commands e refl
     go false e true = again refl refl refl
     go false e false =
@@ -198,10 +206,13 @@ pub data LeavesStruck (l : Leaving) : Type 0 where
   fails : l.to ≡ Some Phase.Status → LeavesStruck l
   frees : l.to ≡ None → LeavesStruck l
 
-pub from_struck_command : (v : Serving) (atn : Bool) → v.plan.struck ≡ true → LeavesStruck (phase_leaving v atn Phase.Command)
+pub from_struck_command : (v : Serving) (atn : Bool) → v.plan.struck ≡ true
+    → LeavesStruck (phase_leaving v atn Phase.Command)
 from_struck_command v atn e = go v.plan.struck e
   where
-    go : (q : Bool) → q ≡ true → LeavesStruck (with_task v.task (λ t. if q then recovery v.def t (pointer_restoration Next.Command) (phase_entry Phase.Status) else after_arrival v.def t v.arrival))
+    go : (q : Bool) → q ≡ true → LeavesStruck
+        (with_task v.task (λ t. if q then recovery v.def t (pointer_restoration Next.Command) (phase_entry Phase.Status)
+        else after_arrival v.def t v.arrival))
     go true f =
         tasks LeavesStruck v.task
         (λ t. recovery v.def t (pointer_restoration Next.Command) (phase_entry Phase.Status)) (frees refl)
@@ -216,7 +227,8 @@ ArrivedTo Arrival.Guest l = LeadsRunning true l
 ArrivedTo Arrival.AtOnce l = LeadsRunning false l
 ArrivedTo Arrival.Queued l = (l.to ≡ Some Phase.MessageIn) × (l.next ≡ Next.FreeBus) × TellNoEnd l.messages
 
-pub from_command : (v : Serving) (atn : Bool) → v.plan.struck ≡ false → (v.task ≡ None) ⊎ ArrivedTo v.arrival (phase_leaving v atn Phase.Command)
+pub from_command : (v : Serving) (atn : Bool) → v.plan.struck ≡ false
+    → (v.task ≡ None) ⊎ ArrivedTo v.arrival (phase_leaving v atn Phase.Command)
 from_command v atn e = go v.plan.struck e v.task
   where
     arrived : (t : Task) (a : Arrival) → ArrivedTo a (after_arrival v.def t a)
@@ -225,7 +237,9 @@ from_command v atn e = go v.plan.struck e v.task
     arrived t Arrival.AtOnce = data_next false (policy_of v.def) t
     arrived t Arrival.Queued = (refl, refl, record { first = refl; second = refl })
 
-    go : (q : Bool) → q ≡ false → (o : Option Task) → (o ≡ None) ⊎ ArrivedTo v.arrival (with_task o (λ t. if q then recovery v.def t (pointer_restoration Next.Command) (phase_entry Phase.Status) else after_arrival v.def t v.arrival))
+    go : (q : Bool) → q ≡ false → (o : Option Task) → (o ≡ None) ⊎ ArrivedTo v.arrival
+        (with_task o (λ t. if q then recovery v.def t (pointer_restoration Next.Command) (phase_entry Phase.Status)
+        else after_arrival v.def t v.arrival))
     go true f o = wrong f
     go false f None = inl refl
     go false f (Some t) = inr (arrived t v.arrival)

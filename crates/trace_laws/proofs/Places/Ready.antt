@@ -25,16 +25,27 @@ IfCurrent a t x = (r : Ready) → x ≡ Some r → IsCurrent a t r
 ready_current : (a : Array) (times : List ℕ) (seek t n : ℕ) → IfCurrent a t (ready_at a times seek t n)
 ready_current a times seek t n r e = go (unit_state_at a.units t n) refl e
   where
-    by : (u : UnitState) → unit_state_at a.units t n ≡ Some u → (c : Option RunningProcess) → u.current ≡ c → (q : Bool) → is_held a.holds t n ≡ q → ready_in q c (since_of a.units times t n + seek) ≡ Some r → IsCurrent a t r
+    by : (u : UnitState) → unit_state_at a.units t n ≡ Some u → (c : Option RunningProcess) → u.current ≡ c → (q : Bool)
+        → is_held a.holds t n ≡ q → ready_in q c (since_of a.units times t n + seek) ≡ Some r → IsCurrent a t r
     by u f None g q h z = none_some r z
     by u f (Some c) g true h z = none_some r z
-    by u f (Some c) g false h z = record { number = n; unit = u; at = f; current = c; current_is = g; process_is = ap (λ (x : Option Ready). (or_ready r x).process) z; free = h }
+    by u f (Some c) g false h z = record {
+      number = n;
+      unit = u;
+      at = f;
+      current = c;
+      current_is = g;
+      process_is = ap (λ (x : Option Ready). (or_ready r x).process) z;
+      free = h;
+    }
 
-    go : (x : Option UnitState) → unit_state_at a.units t n ≡ x → ready_in (is_held a.holds t n) (current_of x) (since_of a.units times t n + seek) ≡ Some r → IsCurrent a t r
+    go : (x : Option UnitState) → unit_state_at a.units t n ≡ x
+        → ready_in (is_held a.holds t n) (current_of x) (since_of a.units times t n + seek) ≡ Some r → IsCurrent a t r
     go None f z = none_some r z
     go (Some u) f z = by u f u.current refl (is_held a.holds t n) refl z
 
-first_current : (a : Array) (t : ℕ) (x y : Option Ready) → IfCurrent a t x → IfCurrent a t y → IfCurrent a t (first_ready x y)
+first_current : (a : Array) (t : ℕ) (x y : Option Ready) → IfCurrent a t x → IfCurrent a t y
+    → IfCurrent a t (first_ready x y)
 first_current a t None y h g = g
 first_current a t (Some x) None h g = h
 first_current a t (Some x) (Some y) h g =
@@ -59,33 +70,45 @@ record IsFound (units : List UnitState) (id : ProcId) : Type 0 where
   found : RunningProcess
   found_is : running_in units id ≡ Some found
 
-found_current : (units : List UnitState) (t n : ℕ) (u : UnitState) (c : RunningProcess) (id : ProcId) → unit_state_at units t n ≡ Some u → u.current ≡ Some c → same_id c.process.id id ≡ true → IsFound units id
+found_current : (units : List UnitState) (t n : ℕ) (u : UnitState) (c : RunningProcess) (id : ProcId)
+    → unit_state_at units t n ≡ Some u → u.current ≡ Some c → same_id c.process.id id ≡ true → IsFound units id
 found_current [] t n u c id e f g = none_some u e
-found_current (v ∷ units) t n u c id e f g = go (v.target == t && v.unit == n) e (λ k. found_current units t n u c id k f g)
+found_current (v ∷ units) t n u c id e f g =
+    go (v.target == t && v.unit == n) e (λ k. found_current units t n u c id k f g)
   where
     at : v ≡ u → IsFound (v ∷ units) id
     at same =
-        let it : running_if v.current id ≡ Some c = (λ i. running_if (same i).current id) ∙ (λ i. running_if (f i) id) ∙ (λ i. if g i then Some c else None) in
+        let it : running_if v.current id ≡ Some c = (λ i. running_if (same i).current id)
+        ∙ (λ i. running_if (f i) id) ∙ (λ i. if g i then Some c else None) in
         record { found = c; found_is = λ i. if is_some (it i) then it i else running_in units id }
 
-    go : (x : Bool) → (if x then Some v else unit_state_at units t n) ≡ Some u → (unit_state_at units t n ≡ Some u → IsFound units id) → IsFound (v ∷ units) id
+    go : (x : Bool) → (if x then Some v else unit_state_at units t n) ≡ Some u
+        → (unit_state_at units t n ≡ Some u → IsFound units id) → IsFound (v ∷ units) id
     go true k rest = at (same_Some v u k)
     go false k rest = by (running_if v.current id) refl (rest k)
       where
         by : (o : Option RunningProcess) → running_if v.current id ≡ o → IsFound units id → IsFound (v ∷ units) id
-        by None z w = record { found = w.found; found_is = (λ i. if is_some (z i) then z i else running_in units id) ∙ w.found_is }
+        by None z w = record {
+          found = w.found;
+          found_is = (λ i. if is_some (z i) then z i else running_in units id) ∙ w.found_is;
+        }
         by (Some x) z w = record { found = x; found_is = λ i. if is_some (z i) then z i else running_in units id }
 
 -- What holds of each current process holds of it.
-pub on_running : (q : RunningProcess → Type 0) (units : List UnitState) (id : ProcId) (r : RunningProcess) → OnUnits q units → running_in units id ≡ Some r → q r
+pub on_running : (q : RunningProcess → Type 0) (units : List UnitState) (id : ProcId) (r : RunningProcess)
+    → OnUnits q units → running_in units id ≡ Some r → q r
 on_running q [] id r h e = none_some r e
 on_running q (u ∷ units) id r h e = go u.current h.0.1 e (λ z. on_running q units id r h.1 z)
   where
-    by : (c : RunningProcess) → q c → (x : Bool) → (if is_some {T = RunningProcess} (if x then Some c else None) then (if x then Some c else None) else running_in units id) ≡ Some r → (running_in units id ≡ Some r → q r) → q r
+    by : (c : RunningProcess) → q c → (x : Bool)
+        → (if is_some {T = RunningProcess} (if x then Some c else None) then (if x then Some c else None)
+        else running_in units id) ≡ Some r → (running_in units id ≡ Some r → q r) → q r
     by c k true z rest = subst q (same_Some c r z) k
     by c k false z rest = rest z
 
-    go : (o : Option RunningProcess) → Runs q o → (if is_some (running_if o id) then running_if o id else running_in units id) ≡ Some r → (running_in units id ≡ Some r → q r) → q r
+    go : (o : Option RunningProcess) → Runs q o
+        → (if is_some (running_if o id) then running_if o id else running_in units id) ≡ Some r
+        → (running_in units id ≡ Some r → q r) → q r
     go None k z rest = rest z
     go (Some c) k z rest = by c k (same_id c.process.id id) z rest
 
@@ -96,13 +119,20 @@ pub record MayBeReady (s : ScenarioValue) (a : Array) (r : Ready) : Type 0 where
   pub process_is : process_of s r.process.id ≡ Some r.process
   pub free : is_held a.holds r.process.target r.process.unit ≡ false
 
-pub ready_runs : (s : ScenarioValue) (a : Array) (times : List ℕ) (seek t : ℕ) (r : Ready) → IsSound s a → IsAtRest a r.process.id → ready_among a times seek t ≡ Some r → MayBeReady s a r
+pub ready_runs : (s : ScenarioValue) (a : Array) (times : List ℕ) (seek t : ℕ) (r : Ready) → IsSound s a
+    → IsAtRest a r.process.id → ready_among a times seek t ≡ Some r → MayBeReady s a r
 ready_runs s a times seek t r sound rests e = go (among_current a times seek t r e)
   where
     go : IsCurrent a t r → MayBeReady s a r
     go c = record {
       runs = record {
-        runs = record { running_is = (λ i. if is_some (guest i) then guest i else running_in a.units p.id) ∙ found.found_is ∙ ap (λ (y : RunningProcess). Some y) is_fresh; free = λ i. is_some (guest i) || not (held i); reply = none.1; kind = inr rests };
+        runs = record {
+          running_is = (λ i. if is_some (guest i) then guest i else running_in a.units p.id) ∙ found.found_is
+              ∙ ap (λ (y : RunningProcess). Some y) is_fresh;
+          free = λ i. is_some (guest i) || not (held i);
+          reply = none.1;
+          kind = inr rests;
+        };
         open_is = none.2;
       };
       process_is = own_is;
@@ -116,22 +146,27 @@ ready_runs s a times seek t r sound rests e = go (among_current a times seek t r
         own = own_found s a.units t c.number c.unit sound.units c.at
 
         mine : IsOwn s c.unit.target c.unit.unit c.current.process
-        mine = subst (λ (o : Option RunningProcess). IsOwnRunning s c.unit.target c.unit.unit o) c.current_is own.current
+        mine =
+            subst (λ (o : Option RunningProcess). IsOwnRunning s c.unit.target c.unit.unit o) c.current_is own.current
 
         own_is : process_of s p.id ≡ Some p
         own_is = subst (λ (x : Process). process_of s x.id ≡ Some x) c.process_is mine.is
 
         found : IsFound a.units p.id
-        found = found_current a.units t c.number c.unit c.current p.id c.at c.current_is (ap (λ (x : Process). same_id x.id p.id) c.process_is ∙ self_id p.id)
+        found = found_current a.units t c.number c.unit c.current p.id c.at c.current_is
+            (ap (λ (x : Process). same_id x.id p.id) c.process_is ∙ self_id p.id)
 
         there : same_id found.found.process.id p.id ≡ true
         there = running_is a.units p.id found.found found.found_is
 
         none : (found.found.reply ≡ None) × (reply_in a.replies p.id ≡ None) × (has_ended a p.id ≡ false)
-        none = on_running (IsUnanswered (reply_in a.replies p.id) (has_ended a p.id) p.id) a.units p.id found.found rests.units found.found_is there
+        none = on_running (IsUnanswered (reply_in a.replies p.id) (has_ended a p.id) p.id) a.units p.id found.found
+            rests.units found.found_is there
 
         same : found.found.process ≡ p
-        same = same_Some found.found.process p (sym (current_process s a.units p.id found.found sound.units found.found_is) ∙ ap (process_of s) (id_is found.found.process.id p.id there) ∙ own_is)
+        same =
+            same_Some found.found.process p (sym (current_process s a.units p.id found.found sound.units found.found_is)
+            ∙ ap (process_of s) (id_is found.found.process.id p.id there) ∙ own_is)
 
         is_fresh : found.found ≡ without_reply p
         is_fresh = λ i. record { process = same i; reply = none.0 i }
@@ -143,5 +178,7 @@ ready_runs s a times seek t r sound rests e = go (among_current a times seek t r
         at = found_at a.units t c.number c.unit c.at
 
         held : is_held a.holds p.target p.unit ≡ false
-        held =
-            (λ i. is_held a.holds ((ap (λ (x : Process). x.target) (sym c.process_is) ∙ mine.target_is ∙ at.target_is) i) ((ap (λ (x : Process). x.unit) (sym c.process_is) ∙ mine.unit_is ∙ at.unit_is) i)) ∙ c.free
+        held = (λ i. is_held a.holds
+            ((ap (λ (x : Process). x.target) (sym c.process_is) ∙ mine.target_is ∙ at.target_is) i)
+            ((ap (λ (x : Process). x.unit) (sym c.process_is) ∙ mine.unit_is ∙ at.unit_is) i))
+            ∙ c.free

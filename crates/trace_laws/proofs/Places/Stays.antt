@@ -1,5 +1,5 @@
--- A row of a connection with which its phase stays: as the initiator takes COMMAND COMPLETE the process ends, and else nothing is shown
--- (6.6.5).
+-- A row of a connection with which its phase stays: as the initiator takes COMMAND COMPLETE the process ends, and else
+-- nothing is shown (6.6.5).
 use Rattle.trace_laws.proofs
 use proofs.Names.{inl, inr, ℕ, ◌≡◌, ◌⊎◌, Bool, true, false, not, ◌&&◌, ◌==◌, ◌∙◌, [], ◌∷◌, Option, Some, None, refl}
 use proofs.Names.{sym, ap, subst, if◌then◌else◌, is_some, slice_index, wrong, wrong', counted_on, Event, ProcId, rises}
@@ -20,22 +20,29 @@ use Rattle.bus_due.specs.disk_array.specs.Steps
 
 -- ---- what it shows
 
-pub stay_shown : (s : ScenarioValue) (k : RunState) (row : Row) (n : Connection) (c : Change) (l : Link) (now : Bool) → IsRowIn k row n c → changes_phase c ≡ false → is_some (receiver_in n c) ≡ now → k.story.link ≡ Some l → row_events_by s k.story (row_reading k.story.bus_state row) row ≡ (if is_completion l c then end_events (carried_if k.story l.item) else [])
-stay_shown s k row n c l now r ep en link =
-    (λ i. row_events_by s k.story (reading_is k row n c now r en i) row)
-    ∙ (λ i. if r.calm i then (if rises c.own.rst c.next.rst then Event.Reset row.dev ∷ [] else []) else link_events s k.story (link i) (reading_in k.story.bus_state n c now))
-    ∙ ap (λ (q : Bool). if q then phase_events s k.story (carried_if k.story l.item) c else (if is_completion l c then end_events (carried_if k.story l.item) else [])) ep
+pub stay_shown : (s : ScenarioValue) (k : RunState) (row : Row) (n : Connection) (c : Change) (l : Link) (now : Bool)
+    → IsRowIn k row n c → changes_phase c ≡ false → is_some (receiver_in n c) ≡ now → k.story.link ≡ Some l
+    → row_events_by s k.story (row_reading k.story.bus_state row) row
+    ≡ (if is_completion l c then end_events (carried_if k.story l.item) else [])
+stay_shown s k row n c l now r ep en link = (λ i. row_events_by s k.story (reading_is k row n c now r en i) row)
+    ∙ (λ i. if r.calm i then (if rises c.own.rst c.next.rst then Event.Reset row.dev ∷ [] else [])
+    else link_events s k.story (link i) (reading_in k.story.bus_state n c now))
+    ∙ ap (λ (q : Bool). if q then phase_events s k.story (carried_if k.story l.item) c
+    else (if is_completion l c then end_events (carried_if k.story l.item) else [])) ep
 
 -- ---- what is asked of it
 
--- COMMAND COMPLETE is the only message that is planned where the initiator takes it, once, with the status of the reply; and with ATN
--- false it stays false.
+-- COMMAND COMPLETE is the only message that is planned where the initiator takes it, once, with the status of the
+-- reply; and with ATN false it stays false.
 pub record IsStayAsked (s : ScenarioValue) (k : RunState) (c : Change) (l : Link) : Type 0 where
   pub messages : is_completion l c ≡ true → k.exchange.plan.messages ≡ one_message MsgIn.CommandComplete
   pub next : is_completion l c ≡ true → k.exchange.plan.next ≡ Next.FreeBus
   pub once : is_completion l c ≡ true → (k.handshakes.answers == 0) ≡ true
-  pub status : is_completion l c ≡ true → (id : ProcId) (reply : Reply) → k.served ≡ Some (process id) → reply_in (array_of s k).replies id ≡ Some reply → (reply.status == slice_index (carried_here k id).status.bytes 0) ≡ true
-  pub attends : is_message_in c.before ≡ true → k.exchange.plan.messages ≡ one_message MsgIn.CommandComplete → (k.handshakes.answers == 0) ≡ false → c.before.atn ≡ false → c.after.atn ≡ false
+  pub status : is_completion l c ≡ true → (id : ProcId) (reply : Reply)
+      → k.served ≡ Some (process id) → reply_in (array_of s k).replies id ≡ Some reply
+      → (reply.status == slice_index (carried_here k id).status.bytes 0) ≡ true
+  pub attends : is_message_in c.before ≡ true → k.exchange.plan.messages ≡ one_message MsgIn.CommandComplete
+      → (k.handshakes.answers == 0) ≡ false → c.before.atn ≡ false → c.after.atn ≡ false
 
 -- ---- the plan and the handshakes after it
 
@@ -44,10 +51,12 @@ record SamePlan (a b : Plan) : Type 0 where
   next : b.next ≡ a.next
   cause : b.cause ≡ a.cause
 
-same_plan : (w : Hearing) (l : Leaving) (p : Plan) (now fault : Bool) → SamePlan p (if now then plan_with_byte w p else if fault && not w.change.before.io then struck_plan p else p)
+same_plan : (w : Hearing) (l : Leaving) (p : Plan) (now fault : Bool)
+    → SamePlan p (if now then plan_with_byte w p else if fault && not w.change.before.io then struck_plan p else p)
 same_plan w l p true fault = go (is_message_out w.change.before)
   where
-    by : (q : Bool) → SamePlan p (record (if q then plan_anew p else p) { said = (plan_after_message p w.is_last w.out).said })
+    by : (q : Bool)
+        → SamePlan p (record (if q then plan_anew p else p) { said = (plan_after_message p w.is_last w.out).said })
     by true = record { messages = refl; next = refl; cause = refl }
     by false = record { messages = refl; next = refl; cause = refl }
 
@@ -61,10 +70,14 @@ same_plan w l p false fault = go (fault && not w.change.before.io)
     go false = record { messages = refl; next = refl; cause = refl }
 
 -- How often ACK rose.
-answers_after : (fault : Bool) (n : Connection) (c : Change) (t : ℕ) (h : Handshakes) → changes_phase c ≡ false → (handshakes_after fault (Some n) c t h).answers ≡ (if not fault && rises c.before.ack c.after.ack then counted_on h.answers else h.answers)
+answers_after : (fault : Bool) (n : Connection) (c : Change) (t : ℕ) (h : Handshakes) → changes_phase c ≡ false
+    → (handshakes_after fault (Some n) c t h).answers
+    ≡ (if not fault && rises c.before.ack c.after.ack then counted_on h.answers else h.answers)
 answers_after true n c t h e =
     elim c.before.io as (λ q. (strikes_if q h).answers ≡ h.answers) [ true ↦ refl | false ↦ refl ]
-answers_after false n c t h e = (λ i. (if e i then no_handshakes else answered_if (rises c.before.ack c.after.ack) t (asked_if (rises c.before.req c.after.req) t h)).answers) ∙ go (rises c.before.ack c.after.ack) (rises c.before.req c.after.req)
+answers_after false n c t h e = (λ i. (if e i then no_handshakes
+    else answered_if (rises c.before.ack c.after.ack) t (asked_if (rises c.before.req c.after.req) t h)).answers)
+    ∙ go (rises c.before.ack c.after.ack) (rises c.before.req c.after.req)
   where
     go : (q r : Bool) → (answered_if q t (asked_if r t h)).answers ≡ (if q then counted_on h.answers else h.answers)
     go true true = refl
@@ -78,17 +91,30 @@ still_answered false n m e f = ap (λ (x : ℕ). x == 0) e ∙ f
 
 -- ---- the place stays
 
-before_same : (a : Array) (p : Process) (x y : Plan) → SamePlan x y → PlacedBefore a p x.messages x.next → PlacedBefore a p y.messages y.next
-before_same a p x y e h = subst (λ (m : Messages). PlacedBefore a p m y.next) (sym e.messages) (subst (λ (m : Next). PlacedBefore a p x.messages m) (sym e.next) h)
+before_same : (a : Array) (p : Process) (x y : Plan) → SamePlan x y → PlacedBefore a p x.messages x.next
+    → PlacedBefore a p y.messages y.next
+before_same a p x y e h = subst (λ (m : Messages). PlacedBefore a p m y.next) (sym e.messages)
+    (subst (λ (m : Next). PlacedBefore a p x.messages m) (sym e.next) h)
 
-asked_same : (a : Array) (p : Process) (x y : Plan) (cause : Cause) → SamePlan x y → PlacedAsked a p x cause → PlacedAsked a p y cause
+asked_same : (a : Array) (p : Process) (x y : Plan) (cause : Cause) → SamePlan x y → PlacedAsked a p x cause
+    → PlacedAsked a p y cause
 asked_same a p x y Cause.InMessage e h = before_same a p x y e h
 asked_same a p x y _ e h = h
 
-in_same : (a : Array) (p : Process) (x y : Plan) (h g : Handshakes) (atn atn' : Bool) (phase : Phase) → SamePlan x y → ((h.answers == 0) ≡ false → (g.answers == 0) ≡ false) → (phase ≡ Phase.MessageIn → x.messages ≡ one_message MsgIn.CommandComplete → (h.answers == 0) ≡ false → atn ≡ false → atn' ≡ false) → PlacedIn a p x h atn phase → PlacedIn a p y g atn' phase
-in_same a p x y h g atn atn' Phase.MessageOut e f t z = subst (λ (c : Cause). PlacedAsked a p y c) (sym e.cause) (asked_same a p x y x.cause e z)
+in_same : (a : Array) (p : Process) (x y : Plan) (h g : Handshakes) (atn atn' : Bool) (phase : Phase)
+    → SamePlan x y → ((h.answers == 0) ≡ false → (g.answers == 0) ≡ false) → (phase ≡ Phase.MessageIn
+    → x.messages ≡ one_message MsgIn.CommandComplete → (h.answers == 0) ≡ false → atn ≡ false → atn' ≡ false)
+    → PlacedIn a p x h atn phase → PlacedIn a p y g atn' phase
+in_same a p x y h g atn atn' Phase.MessageOut e f t z =
+    subst (λ (c : Cause). PlacedAsked a p y c) (sym e.cause) (asked_same a p x y x.cause e z)
 in_same a p x y h g atn atn' Phase.MessageIn e f t (inl z) = inl (before_same a p x y e z)
-in_same a p x y h g atn atn' Phase.MessageIn e f t (inr z) = inr (record { next_is = e.next ∙ z.next_is; messages_are = e.messages ∙ z.messages_are; answered = f z.answered; attends = t refl z.messages_are z.answered z.attends; rests = z.rests })
+in_same a p x y h g atn atn' Phase.MessageIn e f t (inr z) = inr (record {
+  next_is = e.next ∙ z.next_is;
+  messages_are = e.messages ∙ z.messages_are;
+  answered = f z.answered;
+  attends = t refl z.messages_are z.answered z.attends;
+  rests = z.rests;
+})
 in_same a p x y h g atn atn' Phase.Command e f t z = z
 in_same a p x y h g atn atn' Phase.Status e f t z = z
 in_same a p x y h g atn atn' Phase.DataIn e f t z = z
@@ -96,7 +122,11 @@ in_same a p x y h g atn atn' Phase.DataOut e f t z = z
 
 -- ---- the row
 
-pub stay_row : (s : ScenarioValue) (k : RunState) (row : Row) (n : Connection) (c : Change) (l : Link) (now fault : Bool) (h : HasPlaces s k) → HasSeats s → GoesOn s k row n c → changes_phase c ≡ false → is_some (receiver_in n c) ≡ now → is_fault row.kind ≡ fault → (is_completion l c ≡ true → fault ≡ false) → k.story.link ≡ Some l → (l.item ≡ k.served) ⊎ (l.item ≡ None) → IsStayAsked s k c l → RowPlaced s k row h.array
+pub stay_row : (s : ScenarioValue) (k : RunState) (row : Row) (n : Connection)
+    (c : Change) (l : Link) (now fault : Bool) (h : HasPlaces s k)
+    → HasSeats s → GoesOn s k row n c → changes_phase c ≡ false → is_some (receiver_in n c) ≡ now
+    → is_fault row.kind ≡ fault → (is_completion l c ≡ true → fault ≡ false) → k.story.link ≡ Some l
+    → (l.item ≡ k.served) ⊎ (l.item ≡ None) → IsStayAsked s k c l → RowPlaced s k row h.array
 stay_row s k row n c l now fault h seats g ep en ef drives link item asked = by_served k.served refl
   where
     a : Array
@@ -115,29 +145,40 @@ stay_row s k row n c l now fault h seats g ep en ef drives link item asked = by_
     w = hearing_of k row (reading_in k.story.bus_state n c now)
 
     plan : Plan
-    plan = if now then plan_with_byte w k.exchange.plan else if fault && not w.change.before.io then struck_plan k.exchange.plan else k.exchange.plan
+    plan =
+        if now then plan_with_byte w k.exchange.plan
+        else if fault && not w.change.before.io then struck_plan k.exchange.plan else k.exchange.plan
 
     same_phase : phase_of c.after ≡ phase_of (bus_of k)
     same_phase = phase_same c.before c.after (same_phase_is c ep) ∙ ap phase_of (sym r.bus_is)
 
-    answers : j.handshakes.answers ≡ (if not fault && rises c.before.ack c.after.ack then counted_on k.handshakes.answers else k.handshakes.answers)
-    answers = ap (λ (x : Handshakes). x.answers) (i.handshakes_is ∙ ap (λ (q : Bool). handshakes_after q (Some n) c row.time k.handshakes) ef) ∙ answers_after fault n c row.time k.handshakes ep
+    answers : j.handshakes.answers
+        ≡ (if not fault && rises c.before.ack c.after.ack then counted_on k.handshakes.answers
+        else k.handshakes.answers)
+    answers = ap (λ (x : Handshakes). x.answers)
+        (i.handshakes_is ∙ ap (λ (q : Bool). handshakes_after q (Some n) c row.time k.handshakes) ef)
+        ∙ answers_after fault n c row.time k.handshakes ep
 
-    shown : row_events_by s k.story (row_reading k.story.bus_state row) row ≡ (if is_completion l c then end_events (carried_if k.story l.item) else [])
+    shown : row_events_by s k.story (row_reading k.story.bus_state row) row
+        ≡ (if is_completion l c then end_events (carried_if k.story l.item) else [])
     shown = stay_shown s k row n c l now r ep en link
 
     -- where it stands after the row
-    after : (b : Array) (p : Process) → PlacedIf k.exchange.begun b p plan j.handshakes c.after.atn (phase_of (bus_of k))
+    after :
+        (b : Array) (p : Process) → PlacedIf k.exchange.begun b p plan j.handshakes c.after.atn (phase_of (bus_of k))
         → PlacedIf j.exchange.begun b p j.exchange.plan j.handshakes (bus_of j).atn (phase_of (bus_of j))
-    after b p z =
-        subst (λ (x : Exchange). PlacedIf x.begun b p x.plan j.handshakes (bus_of j).atn (phase_of (bus_of j))) (sym i.exchange_is)
+    after b p z = subst (λ (x : Exchange). PlacedIf x.begun b p x.plan j.handshakes
+        (bus_of j).atn (phase_of (bus_of j))) (sym i.exchange_is)
         (subst (λ (y : LineSet). PlacedIf k.exchange.begun b p plan j.handshakes y.atn (phase_of y)) (sym i.bus_is)
         (subst (λ (y : Phase). PlacedIf k.exchange.begun b p plan j.handshakes c.after.atn y) (sym same_phase) z))
 
     in_lines : phase_of (bus_of k) ≡ Phase.MessageIn → is_message_in c.before ≡ true
-    in_lines e = ap is_message_in (sym r.bus_is) ∙ lines (bus_of k).msg (bus_of k).cd (bus_of k).io (λ m. (g.phase m).0) e
+    in_lines e =
+        ap is_message_in (sym r.bus_is) ∙ lines (bus_of k).msg (bus_of k).cd (bus_of k).io (λ m. (g.phase m).0) e
       where
-        lines : (m d o : Bool) → (m ≡ true → d ≡ true) → (if m then (if o then Phase.MessageIn else Phase.MessageOut) else if d then (if o then Phase.Status else Phase.Command) else if o then Phase.DataIn else Phase.DataOut) ≡ Phase.MessageIn → (m && d && o) ≡ true
+        lines : (m d o : Bool) → (m ≡ true → d ≡ true) → (if m then (if o then Phase.MessageIn else Phase.MessageOut)
+            else if d then (if o then Phase.Status else Phase.Command) else if o then Phase.DataIn else Phase.DataOut)
+            ≡ Phase.MessageIn → (m && d && o) ≡ true
         lines true true true f z = refl
         lines true true false f z = wrong' (ap is_in_phase z)
         lines true false o f z = wrong' (f refl)
@@ -146,21 +187,25 @@ stay_row s k row n c l now fault h seats g ep en ef drives link item asked = by_
         lines false false true f z = wrong' (ap is_in_phase z)
         lines false false false f z = wrong' (ap is_in_phase z)
 
-    stays : (b : Array) (p : Process) → (y : Bool) → k.exchange.begun ≡ y → PlacedIf y b p k.exchange.plan k.handshakes (bus_of k).atn (phase_of (bus_of k)) → PlacedIf y b p plan j.handshakes c.after.atn (phase_of (bus_of k))
+    stays : (b : Array) (p : Process) → (y : Bool) → k.exchange.begun ≡ y
+        → PlacedIf y b p k.exchange.plan k.handshakes (bus_of k).atn (phase_of (bus_of k))
+        → PlacedIf y b p plan j.handshakes c.after.atn (phase_of (bus_of k))
     stays b p false e z = z
-    stays b p true e z =
-        in_same b p k.exchange.plan plan k.handshakes j.handshakes (bus_of k).atn c.after.atn (phase_of (bus_of k)) (same_plan w (leaving s k n.target) k.exchange.plan now fault)
+    stays b p true e z = in_same b p k.exchange.plan plan k.handshakes j.handshakes (bus_of k).atn c.after.atn
+        (phase_of (bus_of k)) (same_plan w (leaving s k n.target) k.exchange.plan now fault)
         (still_answered (not fault && rises c.before.ack c.after.ack) k.handshakes.answers j.handshakes.answers answers)
         (λ o m x t. asked.attends (in_lines o) m x (ap (λ (b : LineSet). b.atn) (sym r.bus_is) ∙ t)) z
 
-    quiet : (p : Process) → k.served ≡ Some (process p.id) → process_served s k ≡ Some p → row_events_by s k.story (row_reading k.story.bus_state row) row ≡ [] → RowPlaced s k row a
-    quiet p e here none =
-        row_turned s k row a p [] (λ b. PlacedIf k.exchange.begun b p k.exchange.plan k.handshakes (bus_of k).atn (phase_of (bus_of k))) h.array_is e here none
-        (turned_none s a p.id (λ b. PlacedIf k.exchange.begun b p k.exchange.plan k.handshakes (bus_of k).atn (phase_of (bus_of k))) h.sound h.within (h.placed n r.connection_is g.calm p here))
-        (λ b z. after b p (stays b p k.exchange.begun refl z))
+    quiet : (p : Process) → k.served ≡ Some (process p.id) → process_served s k ≡ Some p
+        → row_events_by s k.story (row_reading k.story.bus_state row) row ≡ [] → RowPlaced s k row a
+    quiet p e here none = row_turned s k row a p [] (λ b. PlacedIf k.exchange.begun b p k.exchange.plan k.handshakes
+        (bus_of k).atn (phase_of (bus_of k))) h.array_is e here none (turned_none s a p.id
+        (λ b. PlacedIf k.exchange.begun b p k.exchange.plan k.handshakes (bus_of k).atn (phase_of (bus_of k))) h.sound
+        h.within (h.placed n r.connection_is g.calm p here)) (λ b z. after b p (stays b p k.exchange.begun refl z))
 
     -- the initiator takes COMMAND COMPLETE
-    ends : (p : Process) → k.served ≡ Some (process p.id) → process_served s k ≡ Some p → is_completion l c ≡ true → l.item ≡ k.served → RowPlaced s k row a
+    ends : (p : Process) → k.served ≡ Some (process p.id) → process_served s k ≡ Some p → is_completion l c ≡ true
+        → l.item ≡ k.served → RowPlaced s k row a
     ends p e here done it = close place
       where
         parts : (x y z t : Bool) → (x && y && z && not t) ≡ true → (x ≡ true) × (y ≡ true) × (t ≡ false)
@@ -177,16 +222,18 @@ stay_row s k row n c l now fault h seats g ep en ef drives link item asked = by_
         here_in = in_phase (bus_of k) (ap is_message_in r.bus_is ∙ how.1)
 
         began : k.exchange.begun ≡ true
-        began = (g.phase (message_line (bus_of k).msg (bus_of k).cd (bus_of k).io (ap is_message_in r.bus_is ∙ how.1))).1
+        began =
+            (g.phase (message_line (bus_of k).msg (bus_of k).cd (bus_of k).io (ap is_message_in r.bus_is ∙ how.1))).1
           where
             message_line : (m d o : Bool) → (m && d && o) ≡ true → m ≡ true
             message_line true d o q = refl
             message_line false d o q = wrong' q
 
-        place : PlacedBefore a p k.exchange.plan.messages k.exchange.plan.next ⊎ IsTaken a p k.exchange.plan k.handshakes (bus_of k).atn
-        place =
-            subst (λ (x : Phase). PlacedIn a p k.exchange.plan k.handshakes (bus_of k).atn x) here_in
-            (subst (λ (x : Bool). PlacedIf x a p k.exchange.plan k.handshakes (bus_of k).atn (phase_of (bus_of k))) began (h.placed n r.connection_is g.calm p here))
+        place : PlacedBefore a p k.exchange.plan.messages k.exchange.plan.next
+            ⊎ IsTaken a p k.exchange.plan k.handshakes (bus_of k).atn
+        place = subst (λ (x : Phase). PlacedIn a p k.exchange.plan k.handshakes (bus_of k).atn x) here_in
+            (subst (λ (x : Bool). PlacedIf x a p k.exchange.plan k.handshakes (bus_of k).atn (phase_of (bus_of k)))
+            began (h.placed n r.connection_is g.calm p here))
 
         status : ℕ
         status = slice_index (carried_here k p.id).status.bytes 0
@@ -199,27 +246,48 @@ stay_row s k row n c l now fault h seats g ep en ef drives link item asked = by_
 
         answered : AnsweredOpen a p.id → RowPlaced s k row a
         answered o =
-            let right : (o.answered.reply.status == status) ≡ true = asked.status done p.id o.answered.reply e (ap (λ (x : Array). reply_in x.replies p.id) (ap (or_start s) h.array_is) ∙ o.answered.given) in
-            let gone : Array = Steps.array_without (Steps.after_status a o.answered.running.process o.answered.reply) p.id in
+            let right : (o.answered.reply.status == status) ≡ true = asked.status done p.id o.answered.reply e
+            (ap (λ (x : Array). reply_in x.replies p.id) (ap (or_start s) h.array_is) ∙ o.answered.given) in
+            let gone : Array = Steps.array_without
+            (Steps.after_status a o.answered.running.process o.answered.reply) p.id in
             let is = end_is s a p.id status o.answered right in
             let has = leaves (Steps.after_status a o.answered.running.process o.answered.reply) p.id in
             let f = drives done in
-            let rose : (j.handshakes.answers == 0) ≡ false = ap (λ (x : ℕ). x == 0) (answers ∙ (λ x. if not (f x) && how.0 x then counted_on k.handshakes.answers else k.handshakes.answers)) ∙ counted_some k.handshakes.answers in
+            let rose : (j.handshakes.answers == 0) ≡ false = ap (λ (x : ℕ). x == 0)
+            (answers ∙ (λ x. if not (f x) && how.0 x then counted_on k.handshakes.answers else k.handshakes.answers))
+            ∙ counted_some k.handshakes.answers in
             let same = same_plan w (leaving s k n.target) k.exchange.plan now fault in
-            let taken : IsTaken (settled_array gone) p plan j.handshakes c.after.atn = record { next_is = same.next ∙ asked.next done; messages_are = same.messages ∙ asked.messages done; answered = rose; attends = how.2; rests = has.rests } in
-            row_turned s k row a p (Event.End p.id status ∷ []) (λ b. IsTaken b p plan j.handshakes c.after.atn) h.array_is e here event_is
-            (record { next = settled_array gone; next_is = is; passes = passes_step s a (settled_array gone) (Event.End p.id status) p.id seats h.sound h.within (λ other q. q) is; holds = taken })
-            (λ b z. after b p (subst (λ (x : Bool). PlacedIf x b p plan j.handshakes c.after.atn (phase_of (bus_of k))) (sym began) (subst (λ (x : Phase). PlacedIn b p plan j.handshakes c.after.atn x) (sym here_in) (inr z))))
+            let taken : IsTaken (settled_array gone) p plan j.handshakes c.after.atn = record {
+              next_is = same.next ∙ asked.next done;
+              messages_are = same.messages ∙ asked.messages done;
+              answered = rose;
+              attends = how.2;
+              rests = has.rests;
+            } in
+            row_turned s k row a p (Event.End p.id status ∷ [])
+            (λ b. IsTaken b p plan j.handshakes c.after.atn) h.array_is e here event_is (record {
+              next = settled_array gone;
+              next_is = is;
+              passes = passes_step s a (settled_array gone) (Event.End p.id status) p.id seats h.sound h.within
+                  (λ other q. q) is;
+              holds = taken;
+            })
+            (λ b z. after b p (subst (λ (x : Bool). PlacedIf x b p plan j.handshakes c.after.atn (phase_of (bus_of k)))
+            (sym began) (subst (λ (x : Phase). PlacedIn b p plan j.handshakes c.after.atn x) (sym here_in) (inr z))))
 
         closes : Closes a p k.exchange.plan.messages → RowPlaced s k row a
         closes (completes z o) = answered o
-        closes (disconnects z x y q) = wrong (ap (λ (m : Messages). is_complete_in m.first) (sym (asked.messages done)) ∙ z.first)
+        closes (disconnects z x y q) =
+            wrong (ap (λ (m : Messages). is_complete_in m.first) (sym (asked.messages done)) ∙ z.first)
 
-        close : PlacedBefore a p k.exchange.plan.messages k.exchange.plan.next ⊎ IsTaken a p k.exchange.plan k.handshakes (bus_of k).atn → RowPlaced s k row a
+        close : PlacedBefore a p k.exchange.plan.messages k.exchange.plan.next
+            ⊎ IsTaken a p k.exchange.plan k.handshakes (bus_of k).atn
+            → RowPlaced s k row a
         close (inl z) = closes (subst (λ (x : Next). PlacedBefore a p k.exchange.plan.messages x) (asked.next done) z)
         close (inr z) = wrong (sym (asked.once done) ∙ z.answered)
 
-    if_none : (q : Bool) (x : Option Item) → l.item ≡ x → carried_if k.story x ≡ None → (if q then end_events (carried_if k.story l.item) else []) ≡ []
+    if_none : (q : Bool) (x : Option Item) → l.item ≡ x → carried_if k.story x ≡ None
+        → (if q then end_events (carried_if k.story l.item) else []) ≡ []
     if_none true x e f = ap (λ (y : Option Item). end_events (carried_if k.story y)) e ∙ ap end_events f
     if_none false x e f = refl
 
@@ -228,13 +296,16 @@ stay_row s k row n c l now fault h seats g ep en ef drives link item asked = by_
       where
         by : (l.item ≡ k.served) ⊎ (l.item ≡ None) → (q : Bool) → is_completion l c ≡ q → RowPlaced s k row a
         by (inl z) true f = ends p e here f z
-        by (inl z) false f = quiet p e here (shown ∙ ap (λ (x : Bool). if x then end_events (carried_if k.story l.item) else []) f)
+        by (inl z) false f =
+            quiet p e here (shown ∙ ap (λ (x : Bool). if x then end_events (carried_if k.story l.item) else []) f)
         by (inr z) q f = quiet p e here (shown ∙ if_none (is_completion l c) None z refl)
 
-    no_carried : (x : Option Item) → k.served ≡ x → carried_if k.story x ≡ None → row_events_by s k.story (row_reading k.story.bus_state row) row ≡ []
+    no_carried : (x : Option Item) → k.served ≡ x → carried_if k.story x ≡ None
+        → row_events_by s k.story (row_reading k.story.bus_state row) row ≡ []
     no_carried x e f = shown ∙ by item
       where
-        by : (l.item ≡ k.served) ⊎ (l.item ≡ None) → (if is_completion l c then end_events (carried_if k.story l.item) else []) ≡ []
+        by : (l.item ≡ k.served) ⊎ (l.item ≡ None)
+            → (if is_completion l c then end_events (carried_if k.story l.item) else []) ≡ []
         by (inl z) = if_none (is_completion l c) x (z ∙ e) f
         by (inr z) = if_none (is_completion l c) None z refl
 

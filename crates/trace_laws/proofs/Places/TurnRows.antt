@@ -1,5 +1,5 @@
--- A row with which another phase begins: the plain disk array permits what it shows, and the process that is served stands where the
--- phase says.
+-- A row with which another phase begins: the plain disk array permits what it shows, and the process that is served
+-- stands where the phase says.
 use Rattle.trace_laws.proofs
 use proofs.Names.{inl, ℕ, ◌≡◌, Bool, true, false, not, ◌&&◌, ◌||◌, ◌∙◌, List, [], ◌∷◌, Option, Some, None, refl, sym}
 use proofs.Names.{ap, subst, true≢false, list_any, ◌-◌, if◌then◌else◌, is_some, wrong', Event, ProcId, rises}
@@ -20,14 +20,21 @@ use Rattle.bus_due.specs.disk_array.proofs.SoundArrays.{id_is}
 
 -- ---- what a row shows where another phase begins
 
-pub shown_is : (s : ScenarioValue) (k : RunState) (row : Row) (n : Connection) (c : Change) (l : Link) → IsRowIn k row n c → changes_phase c ≡ true → is_some (receiver_in n c) ≡ false → k.story.link ≡ Some l → row_events_by s k.story (row_reading k.story.bus_state row) row ≡ phase_events s k.story (carried_if k.story l.item) c
-shown_is s k row n c l r ep none link =
-    (λ i. row_events_by s k.story (reading_is k row n c false r none i) row)
-    ∙ (λ i. if r.calm i then (if rises c.own.rst c.next.rst then Rattle.bus_due.specs.bus_base.specs.declared.Event.TheVariants.Reset row.dev ∷ [] else []) else link_events s k.story (link i) (reading_in k.story.bus_state n c false))
-    ∙ ap (λ (q : Bool). if q then phase_events s k.story (carried_if k.story l.item) c else (if Rattle.bus_due.specs.bus_story.specs.HistoryEvents.is_completion l c then Rattle.bus_due.specs.bus_story.specs.HistoryEvents.end_events (carried_if k.story l.item) else [])) ep
+pub shown_is : (s : ScenarioValue) (k : RunState) (row : Row) (n : Connection) (c : Change) (l : Link)
+    → IsRowIn k row n c → changes_phase c ≡ true → is_some (receiver_in n c) ≡ false → k.story.link ≡ Some l
+    → row_events_by s k.story (row_reading k.story.bus_state row) row
+    ≡ phase_events s k.story (carried_if k.story l.item) c
+shown_is s k row n c l r ep none link = (λ i. row_events_by s k.story (reading_is k row n c false r none i) row)
+    ∙ (λ i. if r.calm i then (if rises c.own.rst c.next.rst
+    then Rattle.bus_due.specs.bus_base.specs.declared.Event.TheVariants.Reset row.dev ∷ [] else [])
+    else link_events s k.story (link i) (reading_in k.story.bus_state n c false))
+    ∙ ap (λ (q : Bool). if q then phase_events s k.story (carried_if k.story l.item) c
+    else (if Rattle.bus_due.specs.bus_story.specs.HistoryEvents.is_completion l c
+    then Rattle.bus_due.specs.bus_story.specs.HistoryEvents.end_events (carried_if k.story l.item) else [])) ep
 
 -- Of a process.
-marks_gone : (x m : Bool) (y : Bool) (a b : List Event) → m ≡ false → (if x && not m && y then a else b) ≡ (if x && y then a else b)
+marks_gone : (x m : Bool) (y : Bool) (a b : List Event) → m ≡ false
+    → (if x && not m && y then a else b) ≡ (if x && y then a else b)
 marks_gone x m y a b e = ap (λ (z : Bool). if x && not z && y then a else b) e ∙ go x y
   where
     go : (u w : Bool) → (if u && not false && w then a else b) ≡ (if u && w then a else b)
@@ -35,54 +42,75 @@ marks_gone x m y a b e = ap (λ (z : Bool). if x && not z && y then a else b) e 
     go true false = refl
     go false w = refl
 
-none_refused : (x m : Bool) (a b : List Event) → (if x && not m && not (list_any (λ e. is_refuse e) []) then a else b) ≡ (if x && not m then a else b)
+none_refused : (x m : Bool) (a b : List Event)
+    → (if x && not m && not (list_any (λ e. is_refuse e) []) then a else b) ≡ (if x && not m then a else b)
 none_refused true true a b = refl
 none_refused true false a b = refl
 none_refused false m a b = refl
 
 -- Where another phase than COMMAND is left, and where COMMAND is.
-pub other_shown : (s : ScenarioValue) (k : RunState) (c : Change) (id : ProcId) → is_command_phase (phase_of c.before) ≡ false → phase_events s k.story (Some (carried_here k id)) c ≡ reply_shown id (carried_here k id).failure ((carried_here k id).shown || (carried_here k id).refused) (phase_of c.after)
+pub other_shown : (s : ScenarioValue) (k : RunState) (c : Change) (id : ProcId)
+    → is_command_phase (phase_of c.before) ≡ false
+    → phase_events s k.story (Some (carried_here k id)) c ≡ reply_shown id (carried_here k id).failure
+    ((carried_here k id).shown || (carried_here k id).refused) (phase_of c.after)
 other_shown s k c id e =
     let cb : CarriedBytes = carried_here k id in
-    (λ i. status_events (Some cb) c.after ((queue_events_are s k.story cb c.before ∙ ap (λ (q : Bool). if q && is_whole_block cb then queue_event s k.story.history cb.id ∷ [] else []) e) i))
+    (λ i. status_events (Some cb) c.after ((queue_events_are s k.story cb c.before
+    ∙ ap (λ (q : Bool). if q && is_whole_block cb then queue_event s k.story.history cb.id ∷ [] else []) e) i))
     ∙ status_events_are cb c.after []
     ∙ none_refused (is_status (phase_of c.after)) (cb.shown || cb.refused) (status_event cb.id cb.failure ∷ []) []
     ∙ (λ i. reply_shown (carried_id k.story.carried id i) cb.failure (cb.shown || cb.refused) (phase_of c.after))
 
-command_is_shown : (s : ScenarioValue) (k : RunState) (c : Change) (id : ProcId) → is_command_phase (phase_of c.before) ≡ true → ((carried_here k id).shown || (carried_here k id).refused) ≡ false → phase_events s k.story (Some (carried_here k id)) c ≡ command_shown s k.story.history id (carried_here k id).failure (is_whole_block (carried_here k id)) (phase_of c.after)
+command_is_shown : (s : ScenarioValue) (k : RunState) (c : Change) (id : ProcId)
+    → is_command_phase (phase_of c.before) ≡ true → ((carried_here k id).shown || (carried_here k id).refused) ≡ false
+    → phase_events s k.story (Some (carried_here k id)) c ≡ command_shown s k.story.history id
+    (carried_here k id).failure (is_whole_block (carried_here k id)) (phase_of c.after)
 command_is_shown s k c id e f =
     let cb : CarriedBytes = carried_here k id in
     let arrived : List Event = if is_whole_block cb then queue_event s k.story.history cb.id ∷ [] else [] in
-    (λ i. status_events (Some cb) c.after ((queue_events_are s k.story cb c.before ∙ ap (λ (q : Bool). if q && is_whole_block cb then queue_event s k.story.history cb.id ∷ [] else []) e) i))
-    ∙ status_events_are cb c.after arrived
-    ∙ marks_gone (is_status (phase_of c.after)) (cb.shown || cb.refused) (not (list_any (λ x. is_refuse x) arrived)) (status_event cb.id cb.failure ∷ arrived) arrived f
-    ∙ (λ i. command_shown s k.story.history (carried_id k.story.carried id i) cb.failure (is_whole_block cb) (phase_of c.after))
+    (λ i. status_events (Some cb) c.after ((queue_events_are s k.story cb c.before
+    ∙ ap (λ (q : Bool). if q && is_whole_block cb then queue_event s k.story.history cb.id ∷ [] else []) e) i))
+    ∙ status_events_are cb c.after arrived ∙ marks_gone (is_status (phase_of c.after)) (cb.shown || cb.refused)
+    (not (list_any (λ x. is_refuse x) arrived)) (status_event cb.id cb.failure ∷ arrived) arrived f
+    ∙ (λ i. command_shown s k.story.history (carried_id k.story.carried id i) cb.failure (is_whole_block cb)
+    (phase_of c.after))
 
 -- ---- what is asked of it
 
--- What the rows tell of the process that is served is what its target knows: whether it was answered, and whether a byte of COMMAND
--- was struck.
+-- What the rows tell of the process that is served is what its target knows: whether it was answered, and whether a
+-- byte of COMMAND was struck.
 pub record TellsOf (s : ScenarioValue) (k : RunState) (id : ProcId) : Type 0 where
-  pub replies : is_some (reply_in (array_of s k).replies id) ≡ ((carried_here k id).shown || (carried_here k id).refused)
+  pub replies : is_some (reply_in (array_of s k).replies id)
+      ≡ ((carried_here k id).shown || (carried_here k id).refused)
   pub whole : phase_of (bus_of k) ≡ Phase.Command → is_whole_block (carried_here k id) ≡ not k.exchange.plan.struck
-  pub code : phase_of (bus_of k) ≡ Phase.Command → k.exchange.plan.struck ≡ true → is_some (carried_here k id).failure ≡ true
+  pub code : phase_of (bus_of k) ≡ Phase.Command → k.exchange.plan.struck ≡ true
+      → is_some (carried_here k id).failure ≡ true
 
 pub record IsTurnAsked (s : ScenarioValue) (k : RunState) (n : Connection) (c : Change) (l : Link) : Type 0 where
   pub tells : k.exchange.begun ≡ true → (id : ProcId) → k.served ≡ Some (process id) → TellsOf s k id
   pub unnamed : l.item ≡ None → (is_status (phase_of c.after) ≡ false) × (is_command_phase (phase_of c.before) ≡ false)
-  pub unbegun : k.exchange.begun ≡ false → (is_command_phase (phase_of c.before) ≡ false) × (k.exchange.plan.cause ≡ Cause.Selected)
-  pub offers : phase_of (bus_of k) ≡ Phase.MessageOut → k.exchange.plan.cause ≡ Cause.InMessage → is_some k.exchange.plan.said.offer ≡ true → k.exchange.plan.next ≡ Next.Command
-  pub few : phase_of (bus_of k) ≡ Phase.MessageIn → k.exchange.plan.messages ≡ one_message MsgIn.CommandComplete → k.handshakes.requests - 1 ≡ 0
-  pub one_run : (p : Process) → process_served s k ≡ Some p → IsOutside (array_of s k) p → HasOneRun true (serving_of s k n.target)
+  pub unbegun : k.exchange.begun ≡ false
+      → (is_command_phase (phase_of c.before) ≡ false) × (k.exchange.plan.cause ≡ Cause.Selected)
+  pub offers : phase_of (bus_of k) ≡ Phase.MessageOut → k.exchange.plan.cause ≡ Cause.InMessage
+      → is_some k.exchange.plan.said.offer ≡ true → k.exchange.plan.next ≡ Next.Command
+  pub few : phase_of (bus_of k) ≡ Phase.MessageIn → k.exchange.plan.messages ≡ one_message MsgIn.CommandComplete
+      → k.handshakes.requests - 1 ≡ 0
+  pub one_run : (p : Process) → process_served s k ≡ Some p → IsOutside (array_of s k) p
+      → HasOneRun true (serving_of s k n.target)
   pub history_is : array_after s k.story.history ≡ k.array
 
 -- ---- where the process stands after it
 
 -- MESSAGE OUT follows a phase that has begun.
 pub asked_by : (b : Array) (p : Process) (plan : Plan) (count : ℕ) (m d i : Bool) → (m ≡ true → d ≡ true)
-    → OutOf b p plan count (if m then (if i then Phase.MessageIn else Phase.MessageOut) else if d then (if i then Phase.Status else Phase.Command) else if i then Phase.DataIn else Phase.DataOut)
-    → PlacedAsked b p (record (plan_anew plan) { cause = if m && d && i then Cause.InMessage else if d then Cause.InStatus else Cause.InData; messages = if m && d && i then from_byte plan.messages (count - 1) else plan.messages })
-    (if m && d && i then Cause.InMessage else if d then Cause.InStatus else Cause.InData)
+    → OutOf b p plan count (if m then (if i then Phase.MessageIn else Phase.MessageOut)
+    else if d then (if i then Phase.Status else Phase.Command) else if i then Phase.DataIn else Phase.DataOut)
+    → PlacedAsked b p (record (plan_anew plan) {
+      cause =
+          if m && d && i then Cause.InMessage else if d then Cause.InStatus else Cause.InData;
+      messages =
+          if m && d && i then from_byte plan.messages (count - 1) else plan.messages;
+    }) (if m && d && i then Cause.InMessage else if d then Cause.InStatus else Cause.InData)
 asked_by b p plan count true true true f h = h
 asked_by b p plan count true false true f h = wrong' (f refl)
 asked_by b p plan count true d false f h = absurd h
@@ -91,23 +119,33 @@ asked_by b p plan count false true false f h = absurd h
 asked_by b p plan count false false true f h = h
 asked_by b p plan count false false false f h = h
 
-pub enters : (b : Array) (p : Process) (w : Hearing) (l : Leaving) (plan : Plan) (h : Handshakes) (atn : Bool) (x : Phase) → is_message_out w.change.after ≡ is_out_phase x → (x ≡ Phase.MessageOut → PlacedAsked b p (plan_in_phase w l plan) (plan_in_phase w l plan).cause) → (out : Type 0) → PlacedNext b p l out x → PlacedIn b p (plan_in_phase w l plan) h atn x
+pub enters :
+    (b : Array) (p : Process) (w : Hearing) (l : Leaving) (plan : Plan) (h : Handshakes) (atn : Bool) (x : Phase)
+    → is_message_out w.change.after ≡ is_out_phase x
+    → (x ≡ Phase.MessageOut → PlacedAsked b p (plan_in_phase w l plan) (plan_in_phase w l plan).cause) → (out : Type 0)
+    → PlacedNext b p l out x → PlacedIn b p (plan_in_phase w l plan) h atn x
 enters b p w l plan h atn Phase.MessageOut m asked out g = asked refl
-enters b p w l plan h atn Phase.MessageIn m asked out g =
-    inl (subst (λ (q : Bool). PlacedBefore b p (if not q then record (plan_anew plan) { messages = l.messages; next = l.next } else if w.begun then plan_in_message_out w plan else plan_anew plan).messages (if not q then record (plan_anew plan) { messages = l.messages; next = l.next } else if w.begun then plan_in_message_out w plan else plan_anew plan).next) (sym m) g)
+enters b p w l plan h atn Phase.MessageIn m asked out g = inl (subst
+    (λ (q : Bool). PlacedBefore b p (if not q then record (plan_anew plan) { messages = l.messages; next = l.next }
+    else if w.begun then plan_in_message_out w plan else plan_anew plan).messages
+    (if not q then record (plan_anew plan) { messages = l.messages; next = l.next }
+    else if w.begun then plan_in_message_out w plan else plan_anew plan).next) (sym m) g)
 enters b p w l plan h atn _ m asked out g = g
 
 -- ---- the row
 
 pub record RowPlaced (s : ScenarioValue) (k : RunState) (row : Row) (a : Array) : Type 0 where
   pub next : Array
-  pub next_is : array_after_events s k.array (row_events_by s k.story (row_reading k.story.bus_state row) row) ≡ Some next
+  pub next_is : array_after_events s k.array (row_events_by s k.story (row_reading k.story.bus_state row) row)
+      ≡ Some next
   pub sound : IsSound s next
   pub within : AreWithin next.units
   pub untouched : (id : ProcId) → is_served_by k.served id ≡ false → IsUntouched a id → IsUntouched next id
   pub rests : (id : ProcId) → is_served_by k.served id ≡ false → IsAtRest a id → IsAtRest next id
   pub placed : (p : Process) → process_served s k ≡ Some p
-      → PlacedIf (run_state_after s k row).exchange.begun next p (run_state_after s k row).exchange.plan (run_state_after s k row).handshakes (bus_of (run_state_after s k row)).atn (phase_of (bus_of (run_state_after s k row)))
+      → PlacedIf (run_state_after s k row).exchange.begun next p (run_state_after s k row).exchange.plan
+      (run_state_after s k row).handshakes (bus_of (run_state_after s k row)).atn
+      (phase_of (bus_of (run_state_after s k row)))
 
 pub no_task : (s : ScenarioValue) (k : RunState) (p : Process) → process_served s k ≡ Some p → task_of s k ≡ None → ⊥
 no_task s k p e f = some_none _ (sym (ap (λ (o : Option Process). task_if s k o) e) ∙ f)
@@ -116,18 +154,27 @@ no_task s k p e f = some_none _ (sym (ap (λ (o : Option Process). task_if s k o
     some_none t z = cc
 
 -- It is the process that is served.
-pub served_id : (s : ScenarioValue) (k : RunState) (p : Process) → process_served s k ≡ Some p → (k.served ≡ Some (process p.id)) × (process_of s p.id ≡ Some p)
+pub served_id : (s : ScenarioValue) (k : RunState) (p : Process) → process_served s k ≡ Some p
+    → (k.served ≡ Some (process p.id)) × (process_of s p.id ≡ Some p)
 served_id s k p e = go k.served refl e
   where
-    go : (x : Option Item) → k.served ≡ x → process_item s x ≡ Some p → (k.served ≡ Some (process p.id)) × (process_of s p.id ≡ Some p)
+    go : (x : Option Item) → k.served ≡ x → process_item s x ≡ Some p
+        → (k.served ≡ Some (process p.id)) × (process_of s p.id ≡ Some p)
     go None z h = none_some p h
-    go (Some (process id)) z h = (z ∙ ap (λ (y : ProcId). Some (process y)) (sym (id_is s id p h)), ap (process_of s) (id_is s id p h) ∙ h)
+    go (Some (process id)) z h =
+        (z ∙ ap (λ (y : ProcId). Some (process y)) (sym (id_is s id p h)), ap (process_of s) (id_is s id p h) ∙ h)
     go (Some (abort m)) z h = none_some p h
 
 -- Of a process that is served, where a phase has begun.
-pub process_turn : (s : ScenarioValue) (k : RunState) (n : Connection) (c : Change) (l : Link) (a : Array) (p : Process) → HasSeats s → HasPlaces s k → k.array ≡ Some a → IsSound s a → AreWithin a.units → PlacedIn a p k.exchange.plan k.handshakes (bus_of k).atn (phase_of (bus_of k)) → process_served s k ≡ Some p → bus_of k ≡ c.before → k.exchange.begun ≡ true → (leaving s k n.target).to ≡ Some (phase_of c.after) → IsTurnAsked s k n c l
-    → Turned s a p.id (phase_events s k.story (Some (carried_here k p.id)) c) (λ b. PlacedNext b p (leaving s k n.target) (OutOf b p k.exchange.plan k.handshakes.requests (phase_of (bus_of k))) (phase_of c.after))
-process_turn s k n c l a p seats was is sound within place served on begun whereto asked = by_phase (phase_of (bus_of k)) refl
+pub process_turn : (s : ScenarioValue) (k : RunState) (n : Connection) (c : Change) (l : Link) (a : Array) (p : Process)
+    → HasSeats s → HasPlaces s k → k.array ≡ Some a → IsSound s a → AreWithin a.units
+    → PlacedIn a p k.exchange.plan k.handshakes (bus_of k).atn (phase_of (bus_of k))
+    → process_served s k ≡ Some p → bus_of k ≡ c.before → k.exchange.begun ≡ true
+    → (leaving s k n.target).to ≡ Some (phase_of c.after) → IsTurnAsked s k n c l
+    → Turned s a p.id (phase_events s k.story (Some (carried_here k p.id)) c) (λ b. PlacedNext b p
+    (leaving s k n.target) (OutOf b p k.exchange.plan k.handshakes.requests (phase_of (bus_of k))) (phase_of c.after))
+process_turn s k n c l a p seats was is sound within place served on begun whereto asked =
+    by_phase (phase_of (bus_of k)) refl
   where
     v : Serving
     v = serving_of s k n.target
@@ -160,43 +207,63 @@ process_turn s k n c l a p seats was is sound within place served on begun where
     to = ap (λ (x : Leaving). x.to) (sym leaves) ∙ whereto
 
     left : IsLeft a p v k.handshakes.requests (phase_of (bus_of k))
-    left = record { one_run = λ o. asked.one_run p served (subst (λ (x : Array). IsOutside x p) (sym array_here) o); few = asked.few; offers = asked.offers }
+    left = record {
+      one_run = λ o. asked.one_run p served (subst (λ (x : Array). IsOutside x p) (sym array_here) o);
+      few = asked.few;
+      offers = asked.offers;
+    }
 
-    result : (x : Phase) → phase_of (bus_of k) ≡ x → Turned s a p.id (phase_events s k.story (Some (carried_here k p.id)) c) (λ b. PlacedNext b p (phase_leaving v atn x) (OutOf b p k.exchange.plan k.handshakes.requests x) (phase_of c.after))
-        → Turned s a p.id (phase_events s k.story (Some (carried_here k p.id)) c) (λ b. PlacedNext b p (leaving s k n.target) (OutOf b p k.exchange.plan k.handshakes.requests (phase_of (bus_of k))) (phase_of c.after))
-    result x e t =
-        subst (λ (y : Leaving). Turned s a p.id (phase_events s k.story (Some (carried_here k p.id)) c) (λ b. PlacedNext b p y (OutOf b p k.exchange.plan k.handshakes.requests (phase_of (bus_of k))) (phase_of c.after))) (sym leaves)
-        (subst (λ (y : Phase). Turned s a p.id (phase_events s k.story (Some (carried_here k p.id)) c) (λ b. PlacedNext b p (phase_leaving v atn y) (OutOf b p k.exchange.plan k.handshakes.requests y) (phase_of c.after))) (sym e) t)
+    result : (x : Phase) → phase_of (bus_of k) ≡ x
+        → Turned s a p.id (phase_events s k.story (Some (carried_here k p.id)) c) (λ b. PlacedNext b p
+        (phase_leaving v atn x) (OutOf b p k.exchange.plan k.handshakes.requests x) (phase_of c.after))
+        → Turned s a p.id (phase_events s k.story (Some (carried_here k p.id)) c)
+        (λ b. PlacedNext b p (leaving s k n.target)
+        (OutOf b p k.exchange.plan k.handshakes.requests (phase_of (bus_of k))) (phase_of c.after))
+    result x e t = subst
+        (λ (y : Leaving). Turned s a p.id (phase_events s k.story (Some (carried_here k p.id)) c) (λ b. PlacedNext b p y
+        (OutOf b p k.exchange.plan k.handshakes.requests (phase_of (bus_of k))) (phase_of c.after))) (sym leaves)
+        (subst (λ (y : Phase). Turned s a p.id (phase_events s k.story (Some (carried_here k p.id)) c) (λ b. PlacedNext
+        b p (phase_leaving v atn y) (OutOf b p k.exchange.plan k.handshakes.requests y) (phase_of c.after))) (sym e) t)
 
     before : (x : Phase) → phase_of (bus_of k) ≡ x → phase_of c.before ≡ x
     before x e = ap phase_of (sym on) ∙ e
 
-    other : (x : Phase) → phase_of (bus_of k) ≡ x → is_command_phase x ≡ false → Turned s a p.id (phase_events s k.story (Some (carried_here k p.id)) c) (λ b. PlacedNext b p (leaving s k n.target) (OutOf b p k.exchange.plan k.handshakes.requests (phase_of (bus_of k))) (phase_of c.after))
-    other x e f =
-        result x e
-        (subst (λ (y : List Event). Turned s a p.id y (λ b. PlacedNext b p (phase_leaving v atn x) (OutOf b p k.exchange.plan k.handshakes.requests x) (phase_of c.after))) (sym (other_shown s k c p.id (ap is_command_phase (before x e) ∙ f)))
-        (turns s a p v atn k.handshakes (carried_here k p.id).failure marked x (phase_of c.after) st replies
-        (subst (λ (y : Phase). IsLeft a p v k.handshakes.requests y) e left) (λ z. true≢false (sym (ap is_command_phase z) ∙ f))
-        (subst (λ (y : Phase). PlacedIn a p k.exchange.plan k.handshakes atn y) e place) (ap (λ (y : Phase). (phase_leaving v atn y).to) (sym e) ∙ to)))
+    other : (x : Phase) → phase_of (bus_of k) ≡ x → is_command_phase x ≡ false → Turned s a p.id
+        (phase_events s k.story (Some (carried_here k p.id)) c) (λ b. PlacedNext b p (leaving s k n.target)
+        (OutOf b p k.exchange.plan k.handshakes.requests (phase_of (bus_of k))) (phase_of c.after))
+    other x e f = result x e (subst (λ (y : List Event). Turned s a p.id y (λ b. PlacedNext b p
+        (phase_leaving v atn x) (OutOf b p k.exchange.plan k.handshakes.requests x) (phase_of c.after)))
+        (sym (other_shown s k c p.id (ap is_command_phase (before x e) ∙ f)))
+        (turns s a p v atn k.handshakes (carried_here k p.id).failure marked x
+        (phase_of c.after) st replies (subst (λ (y : Phase). IsLeft a p v k.handshakes.requests y) e left)
+        (λ z. true≢false (sym (ap is_command_phase z) ∙ f))
+        (subst (λ (y : Phase). PlacedIn a p k.exchange.plan k.handshakes atn y) e place)
+        (ap (λ (y : Phase). (phase_leaving v atn y).to) (sym e) ∙ to)))
 
-    in_command : phase_of (bus_of k) ≡ Phase.Command → Turned s a p.id (phase_events s k.story (Some (carried_here k p.id)) c) (λ b. PlacedNext b p (leaving s k n.target) (OutOf b p k.exchange.plan k.handshakes.requests (phase_of (bus_of k))) (phase_of c.after))
+    in_command : phase_of (bus_of k) ≡ Phase.Command → Turned s a p.id
+        (phase_events s k.story (Some (carried_here k p.id)) c) (λ b. PlacedNext b p (leaving s k n.target)
+        (OutOf b p k.exchange.plan k.handshakes.requests (phase_of (bus_of k))) (phase_of c.after))
     in_command e =
         let new : IsUntouched a p.id = subst (λ (y : Phase). PlacedIn a p k.exchange.plan k.handshakes atn y) e place in
         let unmarked : marked ≡ false = sym replies ∙ ap (λ (x : Option Reply). is_some x) new.reply in
-        result Phase.Command e
-        (subst (λ (y : List Event). Turned s a p.id y (λ b. PlacedNext b p (phase_leaving v atn Phase.Command) ⊥ (phase_of c.after))) (sym (command_is_shown s k c p.id (ap is_command_phase (before Phase.Command e)) unmarked))
-        (command_turns s a p v atn k.story.history (carried_here k p.id).failure (is_whole_block (carried_here k p.id)) (phase_of c.after) st new
-        (record {
+        result Phase.Command e (subst (λ (y : List Event). Turned s a p.id y
+        (λ b. PlacedNext b p (phase_leaving v atn Phase.Command) ⊥ (phase_of c.after)))
+        (sym (command_is_shown s k c p.id (ap is_command_phase (before Phase.Command e)) unmarked))
+        (command_turns s a p v atn k.story.history (carried_here k p.id).failure (is_whole_block (carried_here k p.id))
+        (phase_of c.after) st new (record {
           policy = policy_of (target_def_of s n.target);
-          planned = ap (λ (y : Phase). arrival_at s k n.target y) e ∙ (λ i. arrival_if (policy_of (target_def_of s n.target)) (array_here i) (served i));
+          planned = ap (λ (y : Phase). arrival_at s k n.target y) e
+              ∙ (λ i. arrival_if (policy_of (target_def_of s n.target)) (array_here i) (served i));
           task = no_task s k p served;
           history_is = asked.history_is ∙ is;
           whole_is = tells.whole e;
           code = tells.code e;
-        })
-        (ap (λ (y : Phase). (phase_leaving v atn y).to) (sym e) ∙ to) (λ z. command_not_out v atn (ap (λ (y : Phase). (phase_leaving v atn y).to) (sym e) ∙ to ∙ ap (λ (y : Phase). Some y) z))))
+        }) (ap (λ (y : Phase). (phase_leaving v atn y).to) (sym e) ∙ to) (λ z. command_not_out v atn
+        (ap (λ (y : Phase). (phase_leaving v atn y).to) (sym e) ∙ to ∙ ap (λ (y : Phase). Some y) z))))
 
-    by_phase : (x : Phase) → phase_of (bus_of k) ≡ x → Turned s a p.id (phase_events s k.story (Some (carried_here k p.id)) c) (λ b. PlacedNext b p (leaving s k n.target) (OutOf b p k.exchange.plan k.handshakes.requests (phase_of (bus_of k))) (phase_of c.after))
+    by_phase : (x : Phase) → phase_of (bus_of k) ≡ x → Turned s a p.id
+        (phase_events s k.story (Some (carried_here k p.id)) c) (λ b. PlacedNext b p (leaving s k n.target)
+        (OutOf b p k.exchange.plan k.handshakes.requests (phase_of (bus_of k))) (phase_of c.after))
     by_phase Phase.Command e = in_command e
     by_phase Phase.MessageOut e = other Phase.MessageOut e refl
     by_phase Phase.MessageIn e = other Phase.MessageIn e refl

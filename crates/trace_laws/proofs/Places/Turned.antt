@@ -21,20 +21,32 @@ other_id x id e =
     (λ z. z)
 
 -- What a turn leaves, as what a row leaves.
-pub row_turned : (s : ScenarioValue) (k : RunState) (row : Row) (a : Array) (p : Process) (shown : List Event) (q : Array → Type 0) → k.array ≡ Some a → k.served ≡ Some (process p.id) → process_served s k ≡ Some p → row_events_by s k.story (row_reading k.story.bus_state row) row ≡ shown → Turned s a p.id shown q
-    → ((b : Array) → q b → PlacedIf (run_state_after s k row).exchange.begun b p (run_state_after s k row).exchange.plan (run_state_after s k row).handshakes (bus_of (run_state_after s k row)).atn (phase_of (bus_of (run_state_after s k row)))) → RowPlaced s k row a
+pub row_turned :
+    (s : ScenarioValue) (k : RunState) (row : Row) (a : Array) (p : Process) (shown : List Event) (q : Array → Type 0)
+    → k.array ≡ Some a → k.served ≡ Some (process p.id) → process_served s k ≡ Some p
+    → row_events_by s k.story (row_reading k.story.bus_state row) row ≡ shown → Turned s a p.id shown q
+    → ((b : Array) → q b → PlacedIf (run_state_after s k row).exchange.begun b p
+    (run_state_after s k row).exchange.plan (run_state_after s k row).handshakes (bus_of (run_state_after s k row)).atn
+    (phase_of (bus_of (run_state_after s k row)))) → RowPlaced s k row a
 row_turned s k row a p shown q is served here e t f = record {
   next = t.next;
   next_is = (λ i. array_after_events s (is i) (e i)) ∙ t.next_is;
   sound = t.passes.sound;
   within = t.passes.within;
-  untouched = λ id z h. t.passes.untouched id (other_id p.id id (ap (λ (x : Option Item). is_served_by x id) (sym served) ∙ z)) h;
-  rests = λ id z h. t.passes.rests id (other_id p.id id (ap (λ (x : Option Item). is_served_by x id) (sym served) ∙ z)) h;
-  placed = λ y z. subst (λ (x : Process). PlacedIf (run_state_after s k row).exchange.begun t.next x (run_state_after s k row).exchange.plan (run_state_after s k row).handshakes (bus_of (run_state_after s k row)).atn (phase_of (bus_of (run_state_after s k row)))) (same_Some p y (sym here ∙ z)) (f t.next t.holds);
+  untouched = λ id z h. t.passes.untouched id
+      (other_id p.id id (ap (λ (x : Option Item). is_served_by x id) (sym served) ∙ z)) h;
+  rests =
+      λ id z h. t.passes.rests id (other_id p.id id (ap (λ (x : Option Item). is_served_by x id) (sym served) ∙ z)) h;
+  placed = λ y z. subst (λ (x : Process). PlacedIf (run_state_after s k row).exchange.begun t.next x
+      (run_state_after s k row).exchange.plan (run_state_after s k row).handshakes
+      (bus_of (run_state_after s k row)).atn (phase_of (bus_of (run_state_after s k row))))
+      (same_Some p y (sym here ∙ z)) (f t.next t.holds);
 }
 
 -- Nothing is shown, and no process is served.
-pub row_none : (s : ScenarioValue) (k : RunState) (row : Row) (h : HasPlaces s k) → row_events_by s k.story (row_reading k.story.bus_state row) row ≡ [] → process_served s k ≡ None → RowPlaced s k row h.array
+pub row_none : (s : ScenarioValue) (k : RunState) (row : Row) (h : HasPlaces s k)
+    → row_events_by s k.story (row_reading k.story.bus_state row) row ≡ [] → process_served s k ≡ None
+    → RowPlaced s k row h.array
 row_none s k row h e none = record {
   next = h.array;
   next_is = (λ i. array_after_events s (h.array_is i) (e i));
@@ -48,24 +60,42 @@ row_none s k row h e none = record {
 -- ---- the exchange after a turn
 
 -- MESSAGE OUT begins.
-out_asked : (b : Array) (p : Process) (k : RunState) (row : Row) (n : Connection) (c : Change) (l : Leaving) → (c.before.msg ≡ true → c.before.cd ≡ true) → is_message_out c.after ≡ true → k.exchange.begun ≡ true → OutOf b p k.exchange.plan k.handshakes.requests (phase_of c.before)
-    → PlacedAsked b p (plan_in_phase (hearing_of k row (reading_in k.story.bus_state n c false)) l k.exchange.plan) (plan_in_phase (hearing_of k row (reading_in k.story.bus_state n c false)) l k.exchange.plan).cause
+out_asked : (b : Array) (p : Process) (k : RunState) (row : Row) (n : Connection) (c : Change) (l : Leaving)
+    → (c.before.msg ≡ true → c.before.cd ≡ true) → is_message_out c.after ≡ true
+    → k.exchange.begun ≡ true → OutOf b p k.exchange.plan k.handshakes.requests (phase_of c.before)
+    → PlacedAsked b p (plan_in_phase (hearing_of k row (reading_in k.story.bus_state n c false)) l k.exchange.plan)
+    (plan_in_phase (hearing_of k row (reading_in k.story.bus_state n c false)) l k.exchange.plan).cause
 out_asked b p k row n c l f m g h =
     let w : Hearing = hearing_of k row (reading_in k.story.bus_state n c false) in
     let x : Plan = plan_in_message_out w k.exchange.plan in
-    let is : plan_in_phase w l k.exchange.plan ≡ x = λ i. if not (m i) then record (plan_anew k.exchange.plan) { messages = l.messages; next = l.next } else if g i then x else plan_anew k.exchange.plan in
-    subst (λ (y : Plan). PlacedAsked b p y y.cause) (sym is) (asked_by b p k.exchange.plan k.handshakes.requests c.before.msg c.before.cd c.before.io f h)
+    let is : plan_in_phase w l k.exchange.plan ≡ x =
+    λ i. if not (m i) then record (plan_anew k.exchange.plan) { messages = l.messages; next = l.next }
+    else if g i then x else plan_anew k.exchange.plan in
+    subst (λ (y : Plan). PlacedAsked b p y y.cause) (sym is)
+    (asked_by b p k.exchange.plan k.handshakes.requests c.before.msg c.before.cd c.before.io f h)
 
-first_asked : (a : Array) (p : Process) (k : RunState) (row : Row) (n : Connection) (c : Change) (l : Leaving) → is_message_out c.after ≡ true → k.exchange.begun ≡ false → k.exchange.plan.cause ≡ Cause.Selected → IsUntouched a p.id
-    → PlacedAsked a p (plan_in_phase (hearing_of k row (reading_in k.story.bus_state n c false)) l k.exchange.plan) (plan_in_phase (hearing_of k row (reading_in k.story.bus_state n c false)) l k.exchange.plan).cause
+first_asked : (a : Array) (p : Process) (k : RunState) (row : Row) (n : Connection) (c : Change) (l : Leaving)
+    → is_message_out c.after ≡ true → k.exchange.begun ≡ false
+    → k.exchange.plan.cause ≡ Cause.Selected → IsUntouched a p.id
+    → PlacedAsked a p (plan_in_phase (hearing_of k row (reading_in k.story.bus_state n c false)) l k.exchange.plan)
+    (plan_in_phase (hearing_of k row (reading_in k.story.bus_state n c false)) l k.exchange.plan).cause
 first_asked a p k row n c l m g cause h =
     let w : Hearing = hearing_of k row (reading_in k.story.bus_state n c false) in
-    let is : plan_in_phase w l k.exchange.plan ≡ plan_anew k.exchange.plan = λ i. if not (m i) then record (plan_anew k.exchange.plan) { messages = l.messages; next = l.next } else if g i then plan_in_message_out w k.exchange.plan else plan_anew k.exchange.plan in
-    subst (λ (y : Plan). PlacedAsked a p y y.cause) (sym is) (subst (λ (y : Cause). PlacedAsked a p (plan_anew k.exchange.plan) y) (sym cause) h)
+    let is : plan_in_phase w l k.exchange.plan ≡ plan_anew k.exchange.plan =
+    λ i. if not (m i) then record (plan_anew k.exchange.plan) { messages = l.messages; next = l.next }
+    else if g i then plan_in_message_out w k.exchange.plan else plan_anew k.exchange.plan in
+    subst (λ (y : Plan). PlacedAsked a p y y.cause) (sym is)
+    (subst (λ (y : Cause). PlacedAsked a p (plan_anew k.exchange.plan) y) (sym cause) h)
 
 -- ---- the row
 
-pub turn_row : (s : ScenarioValue) (k : RunState) (row : Row) (n : Connection) (c : Change) (l : Link) (h : HasPlaces s k) → HasSeats s → GoesOn s k row n c → changes_phase c ≡ true → is_some (receiver_in n c) ≡ false → is_fault row.kind ≡ false → k.story.link ≡ Some l → (l.item ≡ k.served) ⊎ (l.item ≡ None) → (c.after.msg ≡ true → c.after.cd ≡ true) → (k.exchange.begun ≡ true → (leaving s k n.target).to ≡ Some (phase_of c.after)) → IsTurnAsked s k n c l → RowPlaced s k row h.array
+pub turn_row :
+    (s : ScenarioValue) (k : RunState) (row : Row) (n : Connection) (c : Change) (l : Link) (h : HasPlaces s k)
+    → HasSeats s → GoesOn s k row n c → changes_phase c ≡ true
+    → is_some (receiver_in n c) ≡ false → is_fault row.kind ≡ false → k.story.link ≡ Some l
+    → (l.item ≡ k.served) ⊎ (l.item ≡ None) → (c.after.msg ≡ true → c.after.cd ≡ true)
+    → (k.exchange.begun ≡ true → (leaving s k n.target).to ≡ Some (phase_of c.after)) → IsTurnAsked s k n c l
+    → RowPlaced s k row h.array
 turn_row s k row n c l h seats g ep none ef link item there whereto asked = by_served k.served refl
   where
     a : Array
@@ -83,13 +113,16 @@ turn_row s k row n c l h seats g ep none ef link item there whereto asked = by_s
     lv : Leaving
     lv = leaving s k n.target
 
-    shown : row_events_by s k.story (row_reading k.story.bus_state row) row ≡ phase_events s k.story (carried_if k.story l.item) c
+    shown : row_events_by s k.story (row_reading k.story.bus_state row) row
+        ≡ phase_events s k.story (carried_if k.story l.item) c
     shown = shown_is s k row n c l r ep none link
 
     out_is : is_message_out c.after ≡ is_out_phase (phase_of c.after)
     out_is = lines c.after.msg c.after.cd c.after.io there
       where
-        lines : (m d o : Bool) → (m ≡ true → d ≡ true) → (m && d && not o) ≡ is_out_phase (if m then (if o then Phase.MessageIn else Phase.MessageOut) else if d then (if o then Phase.Status else Phase.Command) else if o then Phase.DataIn else Phase.DataOut)
+        lines : (m d o : Bool) → (m ≡ true → d ≡ true)
+            → (m && d && not o) ≡ is_out_phase (if m then (if o then Phase.MessageIn else Phase.MessageOut)
+            else if d then (if o then Phase.Status else Phase.Command) else if o then Phase.DataIn else Phase.DataOut)
         lines true true true f = refl
         lines true true false f = refl
         lines true false o f = wrong' (f refl)
@@ -99,11 +132,15 @@ turn_row s k row n c l h seats g ep none ef link item there whereto asked = by_s
         lines false false false f = refl
 
     -- where it stands after the row
-    after : (b : Array) (p : Process) → PlacedIn b p (plan_in_phase w lv k.exchange.plan) (run_state_after s k row).handshakes c.after.atn (phase_of c.after)
-        → PlacedIf (run_state_after s k row).exchange.begun b p (run_state_after s k row).exchange.plan (run_state_after s k row).handshakes (bus_of (run_state_after s k row)).atn (phase_of (bus_of (run_state_after s k row)))
-    after b p z =
-        subst (λ (x : Exchange). PlacedIf x.begun b p x.plan (run_state_after s k row).handshakes (bus_of (run_state_after s k row)).atn (phase_of (bus_of (run_state_after s k row)))) (sym i.exchange_is)
-        (subst (λ (y : LineSet). PlacedIn b p (plan_in_phase w lv k.exchange.plan) (run_state_after s k row).handshakes y.atn (phase_of y)) (sym i.bus_is) z)
+    after : (b : Array) (p : Process) → PlacedIn b p (plan_in_phase w lv k.exchange.plan)
+        (run_state_after s k row).handshakes c.after.atn (phase_of c.after)
+        → PlacedIf (run_state_after s k row).exchange.begun b p (run_state_after s k row).exchange.plan
+        (run_state_after s k row).handshakes (bus_of (run_state_after s k row)).atn
+        (phase_of (bus_of (run_state_after s k row)))
+    after b p z = subst (λ (x : Exchange). PlacedIf x.begun b p x.plan (run_state_after s k row).handshakes
+        (bus_of (run_state_after s k row)).atn (phase_of (bus_of (run_state_after s k row))))
+        (sym i.exchange_is) (subst (λ (y : LineSet). PlacedIn b p (plan_in_phase w lv k.exchange.plan)
+        (run_state_after s k row).handshakes y.atn (phase_of y)) (sym i.bus_is) z)
 
     before_lines : c.before.msg ≡ true → c.before.cd ≡ true
     before_lines e = ap (λ (b : LineSet). b.cd) (sym r.bus_is) ∙ (g.phase (ap (λ (b : LineSet). b.msg) r.bus_is ∙ e)).0
@@ -112,41 +149,64 @@ turn_row s k row n c l h seats g ep none ef link item there whereto asked = by_s
     goes_out e = out_is ∙ ap is_out_phase e
 
     -- the events of a process, or none where its initiator does not know it yet
-    with_item : (p : Process) → k.served ≡ Some (process p.id) → process_served s k ≡ Some p → (q : Array → Type 0) → Turned s a p.id (phase_events s k.story (Some (carried_here k p.id)) c) q
-        → ((b : Array) → q b → PlacedIf (run_state_after s k row).exchange.begun b p (run_state_after s k row).exchange.plan (run_state_after s k row).handshakes (bus_of (run_state_after s k row)).atn (phase_of (bus_of (run_state_after s k row)))) → RowPlaced s k row a
+    with_item : (p : Process) → k.served ≡ Some (process p.id) → process_served s k ≡ Some p
+        → (q : Array → Type 0) → Turned s a p.id (phase_events s k.story (Some (carried_here k p.id)) c) q
+        → ((b : Array) → q b → PlacedIf (run_state_after s k row).exchange.begun b p
+        (run_state_after s k row).exchange.plan (run_state_after s k row).handshakes
+        (bus_of (run_state_after s k row)).atn (phase_of (bus_of (run_state_after s k row)))) → RowPlaced s k row a
     with_item p e here q t f = by item
       where
         by : (l.item ≡ k.served) ⊎ (l.item ≡ None) → RowPlaced s k row a
-        by (inl z) = row_turned s k row a p (phase_events s k.story (Some (carried_here k p.id)) c) q h.array_is e here (shown ∙ ap (λ (x : Option Item). phase_events s k.story (carried_if k.story x) c) (z ∙ e)) t f
+        by (inl z) = row_turned s k row a p (phase_events s k.story (Some (carried_here k p.id)) c) q h.array_is e here
+            (shown ∙ ap (λ (x : Option Item). phase_events s k.story (carried_if k.story x) c) (z ∙ e)) t f
         by (inr z) =
             let u = asked.unnamed z in
-            let quiet : phase_events s k.story (Some (carried_here k p.id)) c ≡ [] =
-            other_shown s k c p.id u.1 ∙ ap (λ (x : Bool). if x && not ((carried_here k p.id).shown || (carried_here k p.id).refused) then Rattle.bus_due.specs.bus_story.specs.HistoryEvents.status_event p.id (carried_here k p.id).failure ∷ [] else []) u.0 in
-            row_turned s k row a p [] q h.array_is e here (shown ∙ ap (λ (x : Option Item). phase_events s k.story (carried_if k.story x) c) z) (subst (λ (x : List Event). Turned s a p.id x q) quiet t) f
+            let quiet : phase_events s k.story (Some (carried_here k p.id)) c ≡ [] = other_shown s k c p.id u.1
+            ∙ ap (λ (x : Bool). if x && not ((carried_here k p.id).shown || (carried_here k p.id).refused)
+            then Rattle.bus_due.specs.bus_story.specs.HistoryEvents.status_event p.id (carried_here k p.id).failure ∷ []
+            else []) u.0 in
+            row_turned s k row a p [] q h.array_is e here
+            (shown ∙ ap (λ (x : Option Item). phase_events s k.story (carried_if k.story x) c) z)
+            (subst (λ (x : List Event). Turned s a p.id x q) quiet t) f
 
-    of_process : (p : Process) → k.served ≡ Some (process p.id) → process_served s k ≡ Some p → (y : Bool) → k.exchange.begun ≡ y → RowPlaced s k row a
+    of_process : (p : Process) → k.served ≡ Some (process p.id) → process_served s k ≡ Some p
+        → (y : Bool) → k.exchange.begun ≡ y → RowPlaced s k row a
     of_process p e here true b =
-        let place : PlacedIn a p k.exchange.plan k.handshakes (bus_of k).atn (phase_of (bus_of k)) = subst (λ (x : Bool). PlacedIf x a p k.exchange.plan k.handshakes (bus_of k).atn (phase_of (bus_of k))) b (h.placed n r.connection_is g.calm p here) in
-        with_item p e here (λ x. PlacedNext x p lv (OutOf x p k.exchange.plan k.handshakes.requests (phase_of (bus_of k))) (phase_of c.after))
+        let place : PlacedIn a p k.exchange.plan k.handshakes (bus_of k).atn (phase_of (bus_of k)) = subst
+        (λ (x : Bool). PlacedIf x a p k.exchange.plan k.handshakes (bus_of k).atn (phase_of (bus_of k))) b
+        (h.placed n r.connection_is g.calm p here) in
+        with_item p e here (λ x. PlacedNext x p lv
+        (OutOf x p k.exchange.plan k.handshakes.requests (phase_of (bus_of k))) (phase_of c.after))
         (process_turn s k n c l a p seats h h.array_is h.sound h.within place here r.bus_is b (whereto b) asked)
-        (λ x z. after x p (enters x p w lv k.exchange.plan (run_state_after s k row).handshakes c.after.atn (phase_of c.after) out_is
-        (λ o. out_asked x p k row n c lv before_lines (goes_out o) b (subst (λ (y : LineSet). OutOf x p k.exchange.plan k.handshakes.requests (phase_of y)) r.bus_is (subst (λ (y : Phase). PlacedNext x p lv (OutOf x p k.exchange.plan k.handshakes.requests (phase_of (bus_of k))) y) o z)))
-        (OutOf x p k.exchange.plan k.handshakes.requests (phase_of (bus_of k))) z))
+        (λ x z. after x p (enters x p w lv k.exchange.plan (run_state_after s k row).handshakes c.after.atn
+        (phase_of c.after) out_is (λ o. out_asked x p k row n c lv before_lines (goes_out o) b
+        (subst (λ (y : LineSet). OutOf x p k.exchange.plan k.handshakes.requests (phase_of y)) r.bus_is (subst
+        (λ (y : Phase). PlacedNext x p lv (OutOf x p k.exchange.plan k.handshakes.requests (phase_of (bus_of k))) y) o
+        z))) (OutOf x p k.exchange.plan k.handshakes.requests (phase_of (bus_of k))) z))
     of_process p e here false b =
-        let place : IsUntouched a p.id = subst (λ (x : Bool). PlacedIf x a p k.exchange.plan k.handshakes (bus_of k).atn (phase_of (bus_of k))) b (h.placed n r.connection_is g.calm p here) in
+        let place : IsUntouched a p.id = subst (λ (x : Bool). PlacedIf x a p k.exchange.plan k.handshakes
+        (bus_of k).atn (phase_of (bus_of k))) b (h.placed n r.connection_is g.calm p here) in
         let u = asked.unbegun b in
-        let m : is_message_out c.after ≡ true = ap (λ (x : Change). is_message_out x.after) (sym r.change_is) ∙ g.first (ap changes_phase r.change_is ∙ ep) b in
+        let m : is_message_out c.after ≡ true = ap (λ (x : Change). is_message_out x.after) (sym r.change_is)
+        ∙ g.first (ap changes_phase r.change_is ∙ ep) b in
         let to : phase_of c.after ≡ Phase.MessageOut = out_phase c.after m in
-        let quiet : phase_events s k.story (Some (carried_here k p.id)) c ≡ [] =
-        other_shown s k c p.id u.0 ∙ ap (λ (x : Phase). reply_shown p.id (carried_here k p.id).failure ((carried_here k p.id).shown || (carried_here k p.id).refused) x) to in
-        with_item p e here (λ x. IsUntouched x p.id) (subst (λ (x : List Event). Turned s a p.id x (λ y. IsUntouched y p.id)) (sym quiet) (turned_none s a p.id (λ y. IsUntouched y p.id) h.sound h.within place))
-        (λ x z. after x p (subst (λ (y : Phase). PlacedIn x p (plan_in_phase w lv k.exchange.plan) (run_state_after s k row).handshakes c.after.atn y) (sym to) (first_asked x p k row n c lv m b u.1 z)))
+        let quiet : phase_events s k.story (Some (carried_here k p.id)) c ≡ [] = other_shown s k c p.id u.0
+        ∙ ap (λ (x : Phase). reply_shown p.id (carried_here k p.id).failure
+        ((carried_here k p.id).shown || (carried_here k p.id).refused) x) to in
+        with_item p e here (λ x. IsUntouched x p.id)
+        (subst (λ (x : List Event). Turned s a p.id x (λ y. IsUntouched y p.id))
+        (sym quiet) (turned_none s a p.id (λ y. IsUntouched y p.id) h.sound h.within place))
+        (λ x z. after x p (subst (λ (y : Phase). PlacedIn x p (plan_in_phase w lv k.exchange.plan)
+        (run_state_after s k row).handshakes c.after.atn y) (sym to) (first_asked x p k row n c lv m b u.1 z)))
 
-    none_shown : (x : Option Item) → k.served ≡ x → carried_if k.story x ≡ None → row_events_by s k.story (row_reading k.story.bus_state row) row ≡ []
+    none_shown : (x : Option Item) → k.served ≡ x → carried_if k.story x ≡ None
+        → row_events_by s k.story (row_reading k.story.bus_state row) row ≡ []
     none_shown x e f = shown ∙ by item
       where
         by : (l.item ≡ k.served) ⊎ (l.item ≡ None) → phase_events s k.story (carried_if k.story l.item) c ≡ []
-        by (inl z) = ap (λ (y : Option Item). phase_events s k.story (carried_if k.story y) c) (z ∙ e) ∙ ap (λ (y : Option Rattle.bus_due.specs.bus_story.specs.CarriedBytes.CarriedBytes). phase_events s k.story y c) f
+        by (inl z) = ap (λ (y : Option Item). phase_events s k.story (carried_if k.story y) c) (z ∙ e) ∙ ap
+            (λ (y : Option Rattle.bus_due.specs.bus_story.specs.CarriedBytes.CarriedBytes). phase_events s k.story y c)
+            f
         by (inr z) = ap (λ (y : Option Item). phase_events s k.story (carried_if k.story y) c) z
 
     by_served : (x : Option Item) → k.served ≡ x → RowPlaced s k row a
@@ -155,4 +215,5 @@ turn_row s k row n c l h seats g ep none ef link item there whereto asked = by_s
     by_served (Some (process id)) e =
         let p = h.of_scenario id e in
         let own : p.0.id ≡ id = id_is s id p.0 p.1 in
-        of_process p.0 (e ∙ ap (λ (y : ProcId). Some (process y)) (sym own)) (ap (process_item s) e ∙ p.1) k.exchange.begun refl
+        of_process p.0 (e ∙ ap (λ (y : ProcId). Some (process y)) (sym own))
+        (ap (process_item s) e ∙ p.1) k.exchange.begun refl

@@ -23,12 +23,13 @@ record Lasts (s : ScenarioValue) (p : List Row) (row : Row) (n : Connection) : T
   row_is : IsReleasing row
   lines : OfTarget p n
 
-stood_before : (p : List Row) (row : Row) (n : Connection) → (bus (row ∷ p)).rst ≡ true → connection (row ∷ p) ≡ Some n → connection p ≡ Some n
+stood_before : (p : List Row) (row : Row) (n : Connection) → (bus (row ∷ p)).rst ≡ true → connection (row ∷ p) ≡ Some n
+    → connection p ≡ Some n
 stood_before p row n on e =
-    by_option (connection p)
-    (λ f.
-    none_some n (sym ((λ i. connection_after (f i) (call p) (change_of p row) row) ∙ (λ i. if falls (bus p).sel (bus (row ∷ p)).sel && (bus (row ∷ p)).bsy && not (on i) then connection_of (call p) row.time else None) ∙ off (falls (bus p).sel (bus (row ∷ p)).sel) (bus (row ∷ p)).bsy) ∙ e))
-    (λ m f. f ∙ kept m (bus (row ∷ p)).bsy (sym (λ i. connection_after (f i) (call p) (change_of p row) row) ∙ e))
+    by_option (connection p) (λ f. none_some n (sym ((λ i. connection_after (f i) (call p) (change_of p row) row)
+    ∙ (λ i. if falls (bus p).sel (bus (row ∷ p)).sel && (bus (row ∷ p)).bsy && not (on i)
+    then connection_of (call p) row.time else None) ∙ off (falls (bus p).sel (bus (row ∷ p)).sel) (bus (row ∷ p)).bsy)
+    ∙ e)) (λ m f. f ∙ kept m (bus (row ∷ p)).bsy (sym (λ i. connection_after (f i) (call p) (change_of p row) row) ∙ e))
   where
     off : (a b : Bool) → (if a && b && false then connection_of (call p) row.time else None) ≡ None
     off true true = refl
@@ -39,7 +40,8 @@ stood_before p row n on e =
     kept m true z = z
     kept m false z = none_some n z
 
-lasts : (s : ScenarioValue) (p : List Row) (row : Row) (n : Connection) → Obeys s → IsPrompt s (row ∷ p) → Stood s p → ResetFacts s p → connection (row ∷ p) ≡ Some n → (bus (row ∷ p)).rst ≡ true → Lasts s p row n
+lasts : (s : ScenarioValue) (p : List Row) (row : Row) (n : Connection) → Obeys s → IsPrompt s (row ∷ p) → Stood s p
+    → ResetFacts s p → connection (row ∷ p) ≡ Some n → (bus (row ∷ p)).rst ≡ true → Lasts s p row n
 lasts s p row n o prompt was h after on = by_bool (bus p).rst (λ e. under e was.here) (λ e. calm e)
   where
     m : IsLeast (due s p) 8 row
@@ -50,7 +52,8 @@ lasts s p row n o prompt was h after on = by_bool (bus p).rst (λ e. under e was
 
     under : (bus p).rst ≡ true → AnyStage s p → Lasts s p row n
     under e (linked x k) = wrong (sym e ∙ link_calm s p x k)
-    under e (apart k alone) = record { before = con; row_is = releasing s p row was.standing (under_rst s p k e) m; lines = h.lines n con e }
+    under e (apart k alone) =
+        record { before = con; row_is = releasing s p row was.standing (under_rst s p k e) m; lines = h.lines n con e }
 
     calm : (bus p).rst ≡ false → Lasts s p row n
     calm e = elim (reset_or_calm s p row was.standing e m) [
@@ -62,11 +65,14 @@ lasts s p row n o prompt was h after on = by_bool (bus p).rst (λ e. under e was
         stage = stage_of_connection s p n was con e
 
         facts : LinkRow s p n row → RowFacts s p row n
-        facts link = row_facts s p row n was.standing.devices (values_of s p n (commands_are s o) was.standing.devices (byte_values s p n o (seats_are s (obeys_fits s o)) was.standing.devices)) (was.driven n con e) link
+        facts link = row_facts s p row n was.standing.devices (values_of s p n (commands_are s o) was.standing.devices
+            (byte_values s p n o (seats_are s (obeys_fits s o)) was.standing.devices)) (was.driven n con e) link
 
         goes : RowFacts s p row n → Lasts s p row n
         goes (ends_here f) = none_some n (sym f.stopped ∙ after)
-        goes (stays f) = wrong (sym on ∙ ap (λ (c : Change). c.after.rst) (sym (change_plain s row p was.standing.devices m.inside)) ∙ ap (λ (c : Change). c.after.rst) f.row_is.change_is ∙ f.row_is.calm)
+        goes (stays f) =
+            wrong (sym on ∙ ap (λ (c : Change). c.after.rst) (sym (change_plain s row p was.standing.devices m.inside))
+            ∙ ap (λ (c : Change). c.after.rst) f.row_is.change_is ∙ f.row_is.calm)
 
 -- ---- whose data come
 
@@ -75,7 +81,8 @@ same_of b a e =
     (λ i. same a.msg (e.msg i) && same a.cd (e.cd i) && same a.io (e.io i))
     ∙ (λ i. same_self a.msg i && same_self a.cd i && same_self a.io i)
 
-reads_next : (s : ScenarioValue) (p : List Row) (row : Row) → Obeys s → IsPrompt s (row ∷ p) → Stood s p → NextStood s p row → ResetFacts s p → ReadsUnderRst s (row ∷ p)
+reads_next : (s : ScenarioValue) (p : List Row) (row : Row) → Obeys s → IsPrompt s (row ∷ p) → Stood s p
+    → NextStood s p row → ResetFacts s p → ReadsUnderRst s (row ∷ p)
 reads_next s p row o prompt was nx h n x after on begun phase served = go (bus p).rst refl
   where
     k : RunState
@@ -100,9 +107,10 @@ reads_next s p row o prompt was nx h n x after on begun phase served = go (bus p
     same_lines = data_kept p row n w.row_is w.lines io
 
     before : phase_of (bus_of k) ≡ Phase.DataIn
-    before =
-        ap phase_of was.plain.bus
-        ∙ (λ i. if sym same_lines.msg i then (if sym same_lines.io i then Phase.MessageIn else Phase.MessageOut) else if sym same_lines.cd i then (if sym same_lines.io i then Phase.Status else Phase.Command) else if sym same_lines.io i then Phase.DataIn else Phase.DataOut)
+    before = ap phase_of was.plain.bus
+        ∙ (λ i. if sym same_lines.msg i then (if sym same_lines.io i then Phase.MessageIn else Phase.MessageOut)
+        else if sym same_lines.cd i then (if sym same_lines.io i then Phase.Status else Phase.Command)
+        else if sym same_lines.io i then Phase.DataIn else Phase.DataOut)
         ∙ ap phase_of (sym ql.bus) ∙ phase
 
     here : k.story.bus_state.connection ≡ Some n
@@ -112,28 +120,30 @@ reads_next s p row o prompt was nx h n x after on begun phase served = go (bus p
     next = ql.connection ∙ after
 
     still : changes_phase d.change ≡ false
-    still = ap changes_phase (change_plain s row p was.standing.devices (least_is s p row prompt.1).inside) ∙ ap not (same_of (bus (row ∷ p)) (bus p) same_lines)
+    still = ap changes_phase (change_plain s row p was.standing.devices (least_is s p row prompt.1).inside)
+        ∙ ap not (same_of (bus (row ∷ p)) (bus p) same_lines)
 
     begun_before : k.exchange.begun ≡ true
     begun_before =
-        sym ((λ i. (exchange_after s k row d (here i) (next i) (leaving_of s k k.story.bus_state.connection)).begun) ∙ (λ i. still i || k.exchange.begun)) ∙ begun
+        sym ((λ i. (exchange_after s k row d (here i) (next i) (leaving_of s k k.story.bus_state.connection)).begun)
+        ∙ (λ i. still i || k.exchange.begun)) ∙ begun
 
     served_before : process_served s k ≡ Some x
     served_before = sym (ap (process_item s) (λ i. served_after s k (here i) (next i))) ∙ served
 
     go : (q : Bool) → (bus p).rst ≡ q → is_writing x ≡ false
     go true e = h.reads n x w.before e begun_before before served_before
-    go false e =
-        by_bool (is_writing x)
-        (λ f. wrong' (sym (λ i. not (f i)) ∙ sym (λ i. is_directed (lines.1 i) (writes_of (served_before i))) ∙ (was.planned n w.before e).serves begun_before lines.0))
-        (λ f. f)
+    go false e = by_bool (is_writing x)
+        (λ f. wrong' (sym (λ i. not (f i)) ∙ sym (λ i. is_directed (lines.1 i) (writes_of (served_before i)))
+        ∙ (was.planned n w.before e).serves begun_before lines.0)) (λ f. f)
       where
         lines : (is_data (bus_of k) ≡ true) × ((bus_of k).io ≡ true)
         lines = in_lines (bus_of k) (ap is_data_in before)
 
 -- ---- any row
 
-pub resets_next : (s : ScenarioValue) (p : List Row) (row : Row) → Obeys s → IsPrompt s (row ∷ p) → Stood s p → NextStood s p row → ResetFacts s p → ResetFacts s (row ∷ p)
+pub resets_next : (s : ScenarioValue) (p : List Row) (row : Row) → Obeys s → IsPrompt s (row ∷ p) → Stood s p
+    → NextStood s p row → ResetFacts s p → ResetFacts s (row ∷ p)
 resets_next s p row o prompt was nx h = record {
   lines = λ n e on. let w = lasts s p row n o prompt was h e on in of_target_next p row n w.row_is w.lines;
   reads = reads_next s p row o prompt was nx h;

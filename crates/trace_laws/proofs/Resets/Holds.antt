@@ -1,5 +1,6 @@
--- RST as a connection stands: each device lets all its lines go at once. Only in the first stage after a reselection does the initiator
--- drive BSY, so that the connection stands while the target lets the lines of MESSAGE IN go (6.1.4, 6.2.2).
+-- RST as a connection stands: each device lets all its lines go at once. Only in the first stage after a reselection
+-- does the initiator drive BSY, so that the connection stands while the target lets the lines of MESSAGE IN go (6.1.4,
+-- 6.2.2).
 use Rattle.trace_laws.proofs
 use proofs.Names.{ℕ, ◌≡◌, ◌≢◌, ◌<◌, ◌⊎◌, inl, inr, ◌+◌, Bool, true, false, not, ◌&&◌, ◌||◌, ◌∙◌, List, [], ◌∷◌, Option}
 use proofs.Names.{Some, None, refl, sym, ap, cases_eq, same_Some, if◌then◌else◌, wrong, wrong', bus_on, bus_off}
@@ -26,26 +27,28 @@ pub data LetsGo (row : Row) : Type 0 where
   all_lines : row ≡ row_of_lines row.time row.dev none → LetsGo row
   for_rst : row ≡ row_of_lines row.time row.dev only_rst → LetsGo row
 
-clear_kind : (d lat time : ℕ) (own : LineSet) (last : ℕ) (x : Due) → bus_clear (device_with d lat own last) time ≡ Some x → x.kind ≡ Drives none
+clear_kind : (d lat time : ℕ) (own : LineSet) (last : ℕ) (x : Due)
+    → bus_clear (device_with d lat own last) time ≡ Some x → x.kind ≡ Drives none
 clear_kind d lat time own last x e = go (same_set own none) e
   where
     go : (q : Bool) → (if q then None else due_at (time + lat) none) ≡ Some x → x.kind ≡ Drives none
     go true z = absurd (none_some x z)
     go false z = (is_at (time + lat) none x z).kind_is
 
-in_reset : (s : ScenarioValue) (p : List Row) (row : Row) → AreOfDevices p → UnderRst s p → IsLeast (due s p) 8 row → LetsGo row
-in_reset s p row dv rs m =
-    by_bool (drives p row.dev).rst
-    (λ on.
-    let l = due_there s p row.dev x m.is_due in
-    let z = is_at ((own_of p row.dev).rst + 25000 + l.latency) none x (sym (due_holding s p row.dev l.latency dv m.inside l.latency_is on) ∙ m.is_due) in
-    all_lines (row_is row none z.kind_is))
-    (λ off.
-    let l = due_there s p row.dev x m.is_due in
-    let calm = due_calm s p row.dev dv m.inside off ∙ ap (earlier_due (reset_due s p row.dev)) (due_in_reset s p row.dev l.latency (drives p row.dev) dv m.inside l.latency_is rs.reset refl) in
-    elim (one_of (reset_due s p row.dev) (bus_clear (device_with row.dev l.latency (drives p row.dev) (own_time p row.dev)) (line_times p).rst) x (sym calm ∙ m.is_due)) [
+in_reset : (s : ScenarioValue) (p : List Row) (row : Row) → AreOfDevices p → UnderRst s p → IsLeast (due s p) 8 row
+    → LetsGo row
+in_reset s p row dv rs m = by_bool (drives p row.dev).rst
+    (λ on. let l = due_there s p row.dev x m.is_due in let z = is_at ((own_of p row.dev).rst + 25000 + l.latency) none x
+    (sym (due_holding s p row.dev l.latency dv m.inside l.latency_is on) ∙ m.is_due) in
+    all_lines (row_is row none z.kind_is)) (λ off. let l = due_there s p row.dev x m.is_due in
+    let calm = due_calm s p row.dev dv m.inside off ∙ ap (earlier_due (reset_due s p row.dev))
+    (due_in_reset s p row.dev l.latency (drives p row.dev) dv m.inside l.latency_is rs.reset refl) in
+    elim (one_of (reset_due s p row.dev)
+    (bus_clear (device_with row.dev l.latency (drives p row.dev) (own_time p row.dev)) (line_times p).rst) x
+    (sym calm ∙ m.is_due)) [
       | inl r ↦ for_rst (row_is row only_rst (own_reset_is s p row.dev x r).kind_is)
-      | inr c ↦ all_lines (row_is row none (clear_kind row.dev l.latency (line_times p).rst (drives p row.dev) (own_time p row.dev) x c))
+      | inr c ↦ all_lines (row_is row none
+          (clear_kind row.dev l.latency (line_times p).rst (drives p row.dev) (own_time p row.dev) x c))
     ])
   where
     x : Due
@@ -54,7 +57,8 @@ in_reset s p row dv rs m =
 abbrev IsCut : List Row → Row → Type 0
 IsCut p row = ((bus p).rst ≡ true) ⊎ ((bus (row ∷ p)).rst ≡ true)
 
-pub lets_go : (s : ScenarioValue) (p : List Row) (row : Row) (n : Connection) → Obeys s → IsPrompt s (row ∷ p) → Stood s p → connection p ≡ Some n → connection (row ∷ p) ≡ Some n → IsCut p row → LetsGo row
+pub lets_go : (s : ScenarioValue) (p : List Row) (row : Row) (n : Connection) → Obeys s → IsPrompt s (row ∷ p)
+    → Stood s p → connection p ≡ Some n → connection (row ∷ p) ≡ Some n → IsCut p row → LetsGo row
 lets_go s p row n o prompt was con after cut = go (bus p).rst refl
   where
     m : IsLeast (due s p) 8 row
@@ -69,7 +73,9 @@ lets_go s p row n o prompt was con after cut = go (bus p).rst refl
 
     -- A row that is due without RST raises none.
     no_rst : (bus (row ∷ p)).rst ≡ true → RowFacts s p row n → ⊥
-    no_rst on (stays g) = wrong (sym on ∙ ap (λ (x : Change). x.after.rst) (sym (sym g.row_is.change_is ∙ change_plain s row p dv m.inside)) ∙ g.row_is.calm)
+    no_rst on (stays g) = wrong
+        (sym on ∙ ap (λ (x : Change). x.after.rst) (sym (sym g.row_is.change_is ∙ change_plain s row p dv m.inside))
+        ∙ g.row_is.calm)
     no_rst on (ends_here g) = none_some n (sym g.stopped ∙ after)
 
     raised : (bus p).rst ≡ false → (bus (row ∷ p)).rst ≡ true → LetsGo row
@@ -77,7 +83,8 @@ lets_go s p row n o prompt was con after cut = go (bus p).rst refl
       | by_reset z ↦ for_rst z
       | by_calm always least ↦
           let values = values_of s p n (commands_are s o) dv (byte_values s p n o (seats_are s (obeys_fits s o)) dv) in
-          absurd (no_rst on (row_facts s p row n dv values (was.driven n con calm) (link_row s p row n dv (stage_of_connection s p n was con calm) least)))
+          absurd (no_rst on (row_facts s p row n dv values (was.driven n con calm)
+          (link_row s p row n dv (stage_of_connection s p n was con calm) least)))
     ]
 
     go : (q : Bool) → (bus p).rst ≡ q → LetsGo row
@@ -89,7 +96,9 @@ lets_go s p row n o prompt was con after cut = go (bus p).rst refl
 
 -- ---- the lines that one device drives
 
-pub one_drives : (on : LineSet → Bool) → ((a b : LineSet) → on (union a b) ≡ (on a || on b)) → on none ≡ false → (p : List Row) (t : ℕ) → t < 8 → ((d : ℕ) → d < 8 → d ≢ t → on (drives p d) ≡ false) → on (bus p) ≡ on (drives p t)
+pub one_drives : (on : LineSet → Bool) → ((a b : LineSet) → on (union a b) ≡ (on a || on b)) → on none ≡ false
+    → (p : List Row) (t : ℕ) → t < 8 → ((d : ℕ) → d < 8 → d ≢ t → on (drives p d) ≡ false)
+    → on (bus p) ≡ on (drives p t)
 one_drives on both zero p t lt others = go (on (drives p t)) refl
   where
     go : (q : Bool) → on (drives p t) ≡ q → on (bus p) ≡ on (drives p t)
@@ -99,13 +108,14 @@ one_drives on both zero p t lt others = go (on (drives p t)) refl
       | inr ne ↦ others d below ne
     ]) ∙ sym e
 
--- While a connection stands: the target alone drives the phase lines, it and the initiator BSY; and the initiator does only while the
--- first phase after a reselection stands, MESSAGE IN, or under RST.
+-- While a connection stands: the target alone drives the phase lines, it and the initiator BSY; and the initiator does
+-- only while the first phase after a reselection stands, MESSAGE IN, or under RST.
 pub record EndsHold (p : List Row) (n : Connection) : Type 0 where
   pub target_below : n.target < 8
   pub lines : (d : ℕ) → d < 8 → d ≢ n.target → HasNoPhase (drives p d)
   pub bsy : (d : ℕ) → d < 8 → d ≢ n.initiator → d ≢ n.target → (drives p d).bsy ≡ false
-  pub held : (drives p n.initiator).bsy ≡ true → (is_message_in (drives p n.target) ≡ true) ⊎ (((bus p).rst ≡ true) × HasNoPhase (drives p n.target))
+  pub held : (drives p n.initiator).bsy ≡ true
+      → (is_message_in (drives p n.target) ≡ true) ⊎ (((bus p).rst ≡ true) × HasNoPhase (drives p n.target))
 
 abbrev pub HoldFacts : List Row → Type 0
 HoldFacts p = (n : Connection) → connection p ≡ Some n → EndsHold p n
@@ -125,12 +135,25 @@ ends_of s p n (when_offering atn msg cd y h) = record { e = _; linked_is = h.lin
 ends_of s p n (when_shaking msg cd io req ack atn x y h) = record { e = _; linked_is = h.linked }
 ends_of s p n (when_pulsing io req ack atn x y h a) = record { e = _; linked_is = h.linked }
 
-linked_holds : (p : List Row) (n : Connection) → StageEnds p n → ((drives p n.initiator).bsy ≡ true → is_message_in (drives p n.target) ≡ true) → EndsHold p n
+linked_holds : (p : List Row) (n : Connection) → StageEnds p n
+    → ((drives p n.initiator).bsy ≡ true → is_message_in (drives p n.target) ≡ true) → EndsHold p n
 linked_holds p n w held = record {
   target_below = h.target_below;
   lines = λ d lt ne. elim (cases_eq d n.initiator) [
-    | inl is ↦ let l = ap (drives p) is ∙ h.initiator in record { msg = ap (λ (x : LineSet). x.msg) l; cd = ap (λ (x : LineSet). x.cd) l; io = ap (λ (x : LineSet). x.io) l }
-    | inr other ↦ let l = h.rest d lt other ne in record { msg = ap (λ (x : LineSet). x.msg) l; cd = ap (λ (x : LineSet). x.cd) l; io = ap (λ (x : LineSet). x.io) l }
+    | inl is ↦
+        let l = ap (drives p) is ∙ h.initiator in
+        record {
+          msg = ap (λ (x : LineSet). x.msg) l;
+          cd = ap (λ (x : LineSet). x.cd) l;
+          io = ap (λ (x : LineSet). x.io) l;
+        }
+    | inr other ↦
+        let l = h.rest d lt other ne in
+        record {
+          msg = ap (λ (x : LineSet). x.msg) l;
+          cd = ap (λ (x : LineSet). x.cd) l;
+          io = ap (λ (x : LineSet). x.io) l;
+        }
   ];
   bsy = λ d lt other ne. ap (λ (x : LineSet). x.bsy) (h.rest d lt other ne);
   held = λ z. inl (held z);
@@ -146,23 +169,30 @@ record StillHeld (p : List Row) (row : Row) (n : Connection) : Type 0 where
   phase : changes_phase (change_of p row) ≡ false
 
 -- A row of the initiator drives no BSY.
-own_row : {A : Type 0} (p : List Row) (row : Row) (t : ℕ) (n : Connection) (l : LineSet) → l.bsy ≡ false → row ≡ row_of_lines t n.initiator l → (drives (row ∷ p) n.initiator).bsy ≡ true → A
-own_row p row t n l off e on = wrong' (sym off ∙ ap (λ (x : LineSet). x.bsy) (sym (drives_own p t n.initiator l)) ∙ sym (ap (λ (w : Row). (drives (w ∷ p) n.initiator).bsy) e) ∙ on)
+own_row : {A : Type 0} (p : List Row) (row : Row) (t : ℕ) (n : Connection) (l : LineSet) → l.bsy ≡ false
+    → row ≡ row_of_lines t n.initiator l → (drives (row ∷ p) n.initiator).bsy ≡ true → A
+own_row p row t n l off e on = wrong' (sym off ∙ ap (λ (x : LineSet). x.bsy) (sym (drives_own p t n.initiator l))
+    ∙ sym (ap (λ (w : Row). (drives (w ∷ p) n.initiator).bsy) e) ∙ on)
 
 -- One of the target leaves it.
-other_bsy : (p : List Row) (row : Row) (t : ℕ) (n : Connection) (e : EndLines) (l : LineSet) → Linked p n e → row ≡ row_of_lines t n.target l → (drives (row ∷ p) n.initiator).bsy ≡ true → (drives p n.initiator).bsy ≡ true
-other_bsy p row t n e l h is on = ap (λ (x : LineSet). x.bsy) (sym (drives_other p t n.target l n.initiator h.apart)) ∙ sym (ap (λ (w : Row). (drives (w ∷ p) n.initiator).bsy) is) ∙ on
+other_bsy : (p : List Row) (row : Row) (t : ℕ) (n : Connection) (e : EndLines) (l : LineSet) → Linked p n e
+    → row ≡ row_of_lines t n.target l → (drives (row ∷ p) n.initiator).bsy ≡ true → (drives p n.initiator).bsy ≡ true
+other_bsy p row t n e l h is on = ap (λ (x : LineSet). x.bsy) (sym (drives_other p t n.target l n.initiator h.apart))
+    ∙ sym (ap (λ (w : Row). (drives (w ∷ p) n.initiator).bsy) is) ∙ on
 
-target_off : {A : Type 0} (p : List Row) (row : Row) (t : ℕ) (n : Connection) (e : EndLines) (l : LineSet) → Linked p n e → e.bsy ≡ false → row ≡ row_of_lines t n.target l → (drives (row ∷ p) n.initiator).bsy ≡ true → A
-target_off p row t n e l h off is on = wrong' (sym off ∙ ap (λ (x : LineSet). x.bsy) (sym h.initiator) ∙ other_bsy p row t n e l h is on)
+target_off : {A : Type 0} (p : List Row) (row : Row) (t : ℕ) (n : Connection) (e : EndLines) (l : LineSet)
+    → Linked p n e → e.bsy ≡ false → row ≡ row_of_lines t n.target l → (drives (row ∷ p) n.initiator).bsy ≡ true → A
+target_off p row t n e l h off is on =
+    wrong' (sym off ∙ ap (λ (x : LineSet). x.bsy) (sym h.initiator) ∙ other_bsy p row t n e l h is on)
 
-still_held : (s : ScenarioValue) (p : List Row) (row : Row) (n : Connection) → LinkRow s p n row → (drives (row ∷ p) n.initiator).bsy ≡ true → StillHeld p row n
+still_held : (s : ScenarioValue) (p : List Row) (row : Row) (n : Connection) → LinkRow s p n row
+    → (drives (row ∷ p) n.initiator).bsy ≡ true → StillHeld p row n
 still_held s p row n (rows.opens h b e) on = target_off p row row.time n _ _ h refl e on
 still_held s p row n (rows.strikes f bit h b got who e) on = record {
-  bsy = ap (λ (x : LineSet). x.bsy) (sym (drives-fault (row_of_fault (last_time p) row.dev bit) p bit n.initiator refl)) ∙ sym (ap (λ (w : Row). (drives (w ∷ p) n.initiator).bsy) e) ∙ on;
-  phase =
-      ap (λ (w : Row). changes_phase (change_of p w)) e
-      ∙ ap changes_phase (fault_change p (last_time p) row.dev bit (connected_bus f) (drives p row.dev) h.stands.bus_is refl)
+  bsy = ap (λ (x : LineSet). x.bsy) (sym (drives-fault (row_of_fault (last_time p) row.dev bit) p bit n.initiator refl))
+      ∙ sym (ap (λ (w : Row). (drives (w ∷ p) n.initiator).bsy) e) ∙ on;
+  phase = ap (λ (w : Row). changes_phase (change_of p w)) e ∙ ap changes_phase
+      (fault_change p (last_time p) row.dev bit (connected_bus f) (drives p row.dev) h.stands.bus_is refl)
       ∙ (λ i. not (same_self f.msg i && same_self f.cd i && same_self f.io i));
 }
 still_held s p row n (rows.hands atn msg cd io y h b un e) on = own_row p row row.time n _ refl e on
@@ -181,17 +211,20 @@ still_held s p row n (rows.asks_first bsy atn msg cd io y h b un first e) on =
     let was : EndLines = ends bsy false atn 0 msg cd io false y in
     record {
       bsy = other_bsy p row row.time n was _ h e on;
-      phase =
-          ap (λ (w : Row). changes_phase (change_of p w)) e
+      phase = ap (λ (w : Row). changes_phase (change_of p w)) e
           ∙ ap changes_phase (target_moves p n was msg cd io true y row.time h).change
-          ∙ phase_same was bsy false atn 0 true y (target_side was) (target_side (ends bsy false atn 0 msg cd io true y));
+          ∙ phase_same was bsy false atn 0 true y (target_side was)
+          (target_side (ends bsy false atn 0 msg cd io true y));
     }
 still_held s p row n (rows.ends_req atn msg cd io x y h b un z e) on = target_off p row row.time n _ _ h refl e on
-still_held s p row n (rows.asks_next atn msg cd io y h b un z follows e) on = target_off p row row.time n _ _ h refl e on
-still_held s p row n (rows.leaves atn msg cd io x y h b known un zero follows e) on = target_off p row row.time n _ _ h refl e on
+still_held s p row n (rows.asks_next atn msg cd io y h b un z follows e) on =
+    target_off p row row.time n _ _ h refl e on
+still_held s p row n (rows.leaves atn msg cd io x y h b known un zero follows e) on =
+    target_off p row row.time n _ _ h refl e on
 still_held s p row n (rows.ends_req_pulse io ack atn x y h b un z e) on = target_off p row row.time n _ _ h refl e on
 still_held s p row n (rows.changes_pulsed ack atn y z h b un pulsed e) on = target_off p row row.time n _ _ h refl e on
-still_held s p row n (rows.asks_pulse io ack atn x y h b un z zero byte e) on = target_off p row row.time n _ _ h refl e on
+still_held s p row n (rows.asks_pulse io ack atn x y h b un z zero byte e) on =
+    target_off p row row.time n _ _ h refl e on
 
 -- ---- phase lines
 
@@ -200,8 +233,10 @@ record SameLines (a b : LineSet) : Type 0 where
   cd : a.cd ≡ b.cd
   io : a.io ≡ b.io
 
-stays_by : (c : Change) → c.before.msg ≡ c.after.msg → c.before.cd ≡ c.after.cd → c.before.io ≡ c.after.io → changes_phase c ≡ false
-stays_by c em ed ei = (λ i. not (same (em i) c.after.msg && same (ed i) c.after.cd && same (ei i) c.after.io)) ∙ (λ i. not (self c.after.msg i && self c.after.cd i && self c.after.io i))
+stays_by : (c : Change) → c.before.msg ≡ c.after.msg → c.before.cd ≡ c.after.cd → c.before.io ≡ c.after.io
+    → changes_phase c ≡ false
+stays_by c em ed ei = (λ i. not (same (em i) c.after.msg && same (ed i) c.after.cd && same (ei i) c.after.io))
+    ∙ (λ i. not (self c.after.msg i && self c.after.cd i && self c.after.io i))
   where
     self : (q : Bool) → same q q ≡ true
     self true = refl
@@ -217,8 +252,10 @@ record Gone (p : List Row) (row : Row) : Type 0 where
   row_is : row ≡ row_of_lines row.time row.dev lines
 
 gone_by : (p : List Row) (row : Row) → LetsGo row → Gone p row
-gone_by p row (all_lines e) = record { lines = none; bsy = refl; phase = record { msg = refl; cd = refl; io = refl }; row_is = e }
-gone_by p row (for_rst e) = record { lines = only_rst; bsy = refl; phase = record { msg = refl; cd = refl; io = refl }; row_is = e }
+gone_by p row (all_lines e) =
+    record { lines = none; bsy = refl; phase = record { msg = refl; cd = refl; io = refl }; row_is = e }
+gone_by p row (for_rst e) =
+    record { lines = only_rst; bsy = refl; phase = record { msg = refl; cd = refl; io = refl }; row_is = e }
 
 own_after : (p : List Row) (row : Row) (g : Gone p row) → drives (row ∷ p) row.dev ≡ g.lines
 own_after p row g = ap (λ (w : Row). drives (w ∷ p) row.dev) g.row_is ∙ drives_own p row.time row.dev g.lines
@@ -227,10 +264,15 @@ other_after : (p : List Row) (row : Row) (d : ℕ) → Gone p row → d ≢ row.
 other_after p row d g ne = ap (λ (w : Row). drives (w ∷ p) d) g.row_is ∙ drives_other p row.time row.dev g.lines d ne
 
 no_phase : (a b : LineSet) → b ≡ a → HasNoPhase a → HasNoPhase b
-no_phase a b e h = record { msg = ap (λ (l : LineSet). l.msg) e ∙ h.msg; cd = ap (λ (l : LineSet). l.cd) e ∙ h.cd; io = ap (λ (l : LineSet). l.io) e ∙ h.io }
+no_phase a b e h = record {
+  msg = ap (λ (l : LineSet). l.msg) e ∙ h.msg;
+  cd = ap (λ (l : LineSet). l.cd) e ∙ h.cd;
+  io = ap (λ (l : LineSet). l.io) e ∙ h.io;
+}
 
 -- RST is true after it.
-cut_holds : (p : List Row) (row : Row) (n : Connection) → Gone p row → (bus (row ∷ p)).rst ≡ true → EndsHold p n → EndsHold (row ∷ p) n
+cut_holds : (p : List Row) (row : Row) (n : Connection) → Gone p row → (bus (row ∷ p)).rst ≡ true → EndsHold p n
+    → EndsHold (row ∷ p) n
 cut_holds p row n g on h = record { target_below = h.target_below; lines = lines; bsy = bsy; held = held }
   where
     lines : (d : ℕ) → d < 8 → d ≢ n.target → HasNoPhase (drives (row ∷ p) d)
@@ -245,24 +287,34 @@ cut_holds p row n g on h = record { target_below = h.target_below; lines = lines
       | inr other ↦ ap (λ (l : LineSet). l.bsy) (other_after p row d g other) ∙ h.bsy d lt ni nt
     ]
 
-    target : (is_message_in (drives p n.target) ≡ true) ⊎ (((bus p).rst ≡ true) × HasNoPhase (drives p n.target)) → (is_message_in (drives (row ∷ p) n.target) ≡ true) ⊎ (((bus (row ∷ p)).rst ≡ true) × HasNoPhase (drives (row ∷ p) n.target))
+    target : (is_message_in (drives p n.target) ≡ true) ⊎ (((bus p).rst ≡ true) × HasNoPhase (drives p n.target))
+        → (is_message_in (drives (row ∷ p) n.target) ≡ true)
+        ⊎ (((bus (row ∷ p)).rst ≡ true) × HasNoPhase (drives (row ∷ p) n.target))
     target was = elim (cases_eq n.target row.dev) [
-      | inl is ↦ inr (on, no_phase g.lines (drives (row ∷ p) n.target) (ap (drives (row ∷ p)) is ∙ own_after p row g) g.phase)
+      | inl is ↦
+          inr (on, no_phase g.lines (drives (row ∷ p) n.target) (ap (drives (row ∷ p)) is ∙ own_after p row g) g.phase)
       | inr other ↦ by was (other_after p row n.target g other)
     ]
       where
-        by : (is_message_in (drives p n.target) ≡ true) ⊎ (((bus p).rst ≡ true) × HasNoPhase (drives p n.target)) → drives (row ∷ p) n.target ≡ drives p n.target → (is_message_in (drives (row ∷ p) n.target) ≡ true) ⊎ (((bus (row ∷ p)).rst ≡ true) × HasNoPhase (drives (row ∷ p) n.target))
+        by : (is_message_in (drives p n.target) ≡ true) ⊎ (((bus p).rst ≡ true) × HasNoPhase (drives p n.target))
+            → drives (row ∷ p) n.target ≡ drives p n.target
+            → (is_message_in (drives (row ∷ p) n.target) ≡ true)
+            ⊎ (((bus (row ∷ p)).rst ≡ true) × HasNoPhase (drives (row ∷ p) n.target))
         by (inl z) e = inl (ap is_message_in e ∙ z)
         by (inr z) e = inr (on, no_phase (drives p n.target) (drives (row ∷ p) n.target) e z.1)
 
-    held : (drives (row ∷ p) n.initiator).bsy ≡ true → (is_message_in (drives (row ∷ p) n.target) ≡ true) ⊎ (((bus (row ∷ p)).rst ≡ true) × HasNoPhase (drives (row ∷ p) n.target))
+    held : (drives (row ∷ p) n.initiator).bsy ≡ true → (is_message_in (drives (row ∷ p) n.target) ≡ true)
+        ⊎ (((bus (row ∷ p)).rst ≡ true) × HasNoPhase (drives (row ∷ p) n.target))
     held z = elim (cases_eq n.initiator row.dev) [
       | inl is ↦ wrong' (sym (ap (λ (l : LineSet). l.bsy) (ap (drives (row ∷ p)) is ∙ own_after p row g) ∙ g.bsy) ∙ z)
       | inr other ↦ target (h.held (ap (λ (l : LineSet). l.bsy) (sym (other_after p row n.initiator g other)) ∙ z))
     ]
 
-no_beginning : (p : List Row) (row : Row) → (bus (row ∷ p)).rst ≡ true → connection p ≡ None → connection (row ∷ p) ≡ None
-no_beginning p row on alone = (λ i. connection_after (alone i) (call p) (change_of p row) row) ∙ (λ i. if falls (bus p).sel (bus (row ∷ p)).sel && (bus (row ∷ p)).bsy && not (on i) then connection_of (call p) row.time else None) ∙ off (falls (bus p).sel (bus (row ∷ p)).sel) (bus (row ∷ p)).bsy
+no_beginning : (p : List Row) (row : Row) → (bus (row ∷ p)).rst ≡ true → connection p ≡ None
+    → connection (row ∷ p) ≡ None
+no_beginning p row on alone = (λ i. connection_after (alone i) (call p) (change_of p row) row)
+    ∙ (λ i. if falls (bus p).sel (bus (row ∷ p)).sel && (bus (row ∷ p)).bsy && not (on i)
+    then connection_of (call p) row.time else None) ∙ off (falls (bus p).sel (bus (row ∷ p)).sel) (bus (row ∷ p)).bsy
   where
     off : (a b : Bool) → (if a && b && false then connection_of (call p) row.time else None) ≡ None
     off true true = refl
@@ -272,7 +324,8 @@ no_beginning p row on alone = (λ i. connection_after (alone i) (call p) (change
 same_lines : (c : Change) → changes_phase c ≡ false → is_message_in c.before ≡ true → is_message_in c.after ≡ true
 same_lines c e m = go c.before.msg c.before.cd c.before.io c.after.msg c.after.cd c.after.io e m
   where
-    go : (m d i x y z : Bool) → not (same m x && same d y && same i z) ≡ false → (m && d && i) ≡ true → (x && y && z) ≡ true
+    go : (m d i x y z : Bool) → not (same m x && same d y && same i z) ≡ false → (m && d && i) ≡ true
+        → (x && y && z) ≡ true
     go true true true true true true f g = refl
     go true true true true true false f g = wrong f
     go true true true true false z f g = wrong f
@@ -284,7 +337,8 @@ same_lines c e m = go c.before.msg c.before.cd c.before.io c.after.msg c.after.c
 pub holds_start : HoldFacts []
 holds_start n e = none_some n e
 
-pub holds_next : (s : ScenarioValue) (p : List Row) (row : Row) → Obeys s → IsPrompt s (row ∷ p) → Stood s p → NextStood s p row → HoldFacts p → HoldFacts (row ∷ p)
+pub holds_next : (s : ScenarioValue) (p : List Row) (row : Row) → Obeys s → IsPrompt s (row ∷ p) → Stood s p
+    → NextStood s p row → HoldFacts p → HoldFacts (row ∷ p)
 holds_next s p row o prompt was nx facts n after =
     by_bool (bus (row ∷ p)).rst
     (λ on. cut on (connection p) refl)
@@ -297,7 +351,8 @@ holds_next s p row o prompt was nx facts n after =
     cut : (bus q).rst ≡ true → (x : Option Connection) → connection p ≡ x → EndsHold q n
     cut on None e = none_some n (sym (no_beginning p row on e) ∙ after)
     cut on (Some m) e =
-        let same : m ≡ n = same_if m (bus q).bsy (sym (λ i. connection_after (e i) (call p) (change_of p row) row) ∙ after) in
+        let same : m ≡ n = same_if m (bus q).bsy
+        (sym (λ i. connection_after (e i) (call p) (change_of p row) row) ∙ after) in
         let con = e ∙ ap (λ (y : Connection). Some y) same in
         cut_holds p row n (gone_by p row (lets_go s p row n o prompt was con after (inr on))) on (facts n con)
       where
@@ -335,7 +390,9 @@ holds_next s p row o prompt was nx facts n after =
 
 -- ---- a phase is left under RST
 
-pub cut_phase : (s : ScenarioValue) (p : List Row) (row : Row) (n : Connection) → Obeys s → IsPrompt s (row ∷ p) → Stood s p → HoldFacts p → connection p ≡ Some n → connection (row ∷ p) ≡ Some n → IsCut p row → changes_phase (change_of p row) ≡ true → is_message_in (bus p) ≡ true
+pub cut_phase : (s : ScenarioValue) (p : List Row) (row : Row) (n : Connection) → Obeys s → IsPrompt s (row ∷ p)
+    → Stood s p → HoldFacts p → connection p ≡ Some n → connection (row ∷ p) ≡ Some n → IsCut p row
+    → changes_phase (change_of p row) ≡ true → is_message_in (bus p) ≡ true
 cut_phase s p row n o prompt was facts con after cut ep = elim (cases_eq n.target row.dev) [
   | inl is ↦ by_target is
   | inr other ↦ wrong (sym ep ∙ unchanged (sym (other_after p row n.target g other)))
@@ -372,12 +429,15 @@ cut_phase s p row n o prompt was facts con after cut ep = elim (cases_eq n.targe
     }
 
     unchanged : drives p n.target ≡ drives q n.target → changes_phase (change_of p row) ≡ false
-    unchanged e = stays_by (change_of p row) (before.msg ∙ ap (λ (l : LineSet). l.msg) e ∙ sym later.msg) (before.cd ∙ ap (λ (l : LineSet). l.cd) e ∙ sym later.cd) (before.io ∙ ap (λ (l : LineSet). l.io) e ∙ sym later.io)
+    unchanged e = stays_by (change_of p row) (before.msg ∙ ap (λ (l : LineSet). l.msg) e ∙ sym later.msg)
+        (before.cd ∙ ap (λ (l : LineSet). l.cd) e ∙ sym later.cd)
+        (before.io ∙ ap (λ (l : LineSet). l.io) e ∙ sym later.io)
 
     by_target : n.target ≡ row.dev → is_message_in (bus p) ≡ true
     by_target is = elim (h.held (still (drives p n.initiator).bsy refl)) [
       | inl m ↦ (λ i. before.msg i && before.cd i && before.io i) ∙ m
-      | inr m ↦ wrong (sym ep ∙ stays_by (change_of p row) (before.msg ∙ m.1.msg ∙ sym (later.msg ∙ gone.msg)) (before.cd ∙ m.1.cd ∙ sym (later.cd ∙ gone.cd)) (before.io ∙ m.1.io ∙ sym (later.io ∙ gone.io)))
+      | inr m ↦ wrong (sym ep ∙ stays_by (change_of p row) (before.msg ∙ m.1.msg ∙ sym (later.msg ∙ gone.msg))
+          (before.cd ∙ m.1.cd ∙ sym (later.cd ∙ gone.cd)) (before.io ∙ m.1.io ∙ sym (later.io ∙ gone.io)))
     ]
       where
         target_is : drives q n.target ≡ g.lines

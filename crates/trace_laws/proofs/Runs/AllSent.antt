@@ -35,10 +35,8 @@ some_run Policy.Command blocks m h = omega arith
 some_run (Policy.Burst most) blocks m h = least ((blocks + (most - 1)) / most) most blocks m h (lt-div-mul-add m)
   where
     least : (q d b : ℕ) → 1 ≤ d → 1 ≤ b → b + (d - 1) < q * d + d → 1 ≤ q
-    least q d b k l e =
-        by_bool (q == 0)
-        (λ f. let zero : q * d ≡ 0 = ap (λ (x : ℕ). x * d) (zero_of q f) ∙ none d in absurd omega (arith, zero, k, l, e))
-        (λ f. some_count q f)
+    least q d b k l e = by_bool (q == 0) (λ f. let zero : q * d ≡ 0 = ap (λ (x : ℕ). x * d) (zero_of q f) ∙ none d in
+        absurd omega (arith, zero, k, l, e)) (λ f. some_count q f)
       where
         none : (n : ℕ) → 0 * n ≡ 0
         none n = omega arith
@@ -84,7 +82,8 @@ record WholeRow (s : ScenarioValue) (p : List Row) (row : Row) (n : Connection) 
   good : ((reply_now (array_of s (run_state s p)) q).status == GOOD) ≡ true
   some : (length q.sent == 0) ≡ false
 
-sent_all : (s : ScenarioValue) (p : List Row) (row : Row) (n : Connection) (q : Process) → WholeRow s p row n q → HasSentAll s (run_state s p) (writers s p) q
+sent_all : (s : ScenarioValue) (p : List Row) (row : Row) (n : Connection) (q : Process) → WholeRow s p row n q
+    → HasSentAll s (run_state s p) (writers s p) q
 sent_all s p row n q h = by (runs_from (serving_of s k n.target) (bus_of k).atn (phase_of (bus_of k)) r.id r.turn)
   where
     k : RunState
@@ -125,7 +124,8 @@ sent_all s p row n q h = by (runs_from (serving_of s k n.target) (bus_of k).atn 
     target = (h.pointers.served n q con quiet h.served h.writes).target_is
 
     fits : FitsRuns s k q t
-    fits = fits_runs s k q h.obeys (h.was.plain.array ∙ ap (λ (x : Story). array_after s x.history) (sym h.was.plain.story)) own h.writes
+    fits = fits_runs s k q h.obeys
+        (h.was.plain.array ∙ ap (λ (x : Story). array_after s x.history) (sym h.was.plain.story)) own h.writes
 
     moved : t.moved ≡ length q.sent
     moved = (λ i. length (if h.writes i then (if h.good i then q.sent else []) else (reply_now (array_of s k) q).bytes))
@@ -144,15 +144,22 @@ sent_all s p row n q h = by (runs_from (serving_of s k n.target) (bus_of k).atn 
 
     -- where it stands
     placed : PlacedIn h.places.array q k.exchange.plan k.handshakes (bus_of k).atn (phase_of (bus_of k))
-    placed = subst (λ (b : Bool). PlacedIf b h.places.array q k.exchange.plan k.handshakes (bus_of k).atn (phase_of (bus_of k))) r.begun (h.places.placed n con quiet q h.served)
+    placed = subst (λ (b : Bool). PlacedIf b h.places.array q k.exchange.plan k.handshakes (bus_of k).atn
+        (phase_of (bus_of k))) r.begun (h.places.placed n con quiet q h.served)
 
     listed : {A : Type 0} → AnsweredOpen h.places.array q.id → A
-    listed a = wrong' (sym unanswered ∙ ap (λ (x : Option Array). is_some (reply_in (or_start s x).replies q.id)) h.places.array_is ∙ ap (λ (x : Option Reply). is_some x) a.answered.given)
+    listed a = wrong'
+        (sym unanswered ∙ ap (λ (x : Option Array). is_some (reply_in (or_start s x).replies q.id)) h.places.array_is
+        ∙ ap (λ (x : Option Reply). is_some x) a.answered.given)
 
-    before_status : phase_of (bus_of k) ≡ Phase.MessageIn → k.exchange.plan.next ≡ Next.Status → HasSentAll s k (writers s p) q
-    before_status phase next = go (subst (PlacedIn h.places.array q k.exchange.plan k.handshakes (bus_of k).atn) phase placed)
+    before_status : phase_of (bus_of k) ≡ Phase.MessageIn → k.exchange.plan.next ≡ Next.Status
+        → HasSentAll s k (writers s p) q
+    before_status phase next =
+        go (subst (PlacedIn h.places.array q k.exchange.plan k.handshakes (bus_of k).atn) phase placed)
       where
-        go : PlacedBefore h.places.array q k.exchange.plan.messages k.exchange.plan.next ⊎ IsTaken h.places.array q k.exchange.plan k.handshakes (bus_of k).atn → HasSentAll s k (writers s p) q
+        go : PlacedBefore h.places.array q k.exchange.plan.messages k.exchange.plan.next
+            ⊎ IsTaken h.places.array q k.exchange.plan k.handshakes (bus_of k).atn
+            → HasSentAll s k (writers s p) q
         go (inl z) = listed (subst (PlacedBefore h.places.array q k.exchange.plan.messages) next z)
         go (inr z) = wrong' (sym (ap frees_bus next) ∙ ap frees_bus z.next_is)
 
@@ -164,13 +171,17 @@ sent_all s p row n q h = by (runs_from (serving_of s k n.target) (bus_of k).atn 
     total = λ i. if moves i then 0 else runs_in (policy_for s q) t.blocks
 
     some_total : 1 ≤ run_total s q
-    some_total = subst (λ (b : Option ℕ). 1 ≤ runs_in (policy_for s q) b) (sym named) (some_run (policy_for s q) count fits.fit.most (zero_blocks count t.size t.moved moves blocks))
+    some_total = subst (λ (b : Option ℕ). 1 ≤ runs_in (policy_for s q) b) (sym named)
+        (some_run (policy_for s q) count fits.fit.most (zero_blocks count t.size t.moved moves blocks))
 
-    not_all : nat_lt r.turn.task.runs (runs_in_all (policy_of (target_def_of s n.target)) r.turn.task) ≡ false → HasSentAll s k (writers s p) q
-    not_all e = absurd (clash (progress_in k.progress q.id).runs (run_total s q) some_total all (h.left q own h.writes (none_is (reply_in (array_of s k).replies q.id) unanswered)))
+    not_all : nat_lt r.turn.task.runs (runs_in_all (policy_of (target_def_of s n.target)) r.turn.task) ≡ false
+        → HasSentAll s k (writers s p) q
+    not_all e = absurd (clash (progress_in k.progress q.id).runs (run_total s q) some_total all
+        (h.left q own h.writes (none_is (reply_in (array_of s k).replies q.id) unanswered)))
       where
         all : run_total s q ≤ (progress_in k.progress q.id).runs
-        all = subst (λ (x : ℕ). x ≤ t.runs) total (ltb-false t.runs (runs_in_all (policy_for s q) t) (sym (λ i. nat_lt (task i).runs (runs_in_all (policy i) (task i))) ∙ e))
+        all = subst (λ (x : ℕ). x ≤ t.runs) total (ltb-false t.runs (runs_in_all (policy_for s q) t)
+            (sym (λ i. nat_lt (task i).runs (runs_in_all (policy i) (task i))) ∙ e))
 
         clash : (made whole : ℕ) → 1 ≤ whole → whole ≤ made → HasRunLeft whole made → ⊥
         clash made whole one few (inl z) = absurd omega (arith, one, few, z)
@@ -180,21 +191,30 @@ sent_all s p row n q h = by (runs_from (serving_of s k n.target) (bus_of k).atn 
     none_read : phase_of (bus_of k) ≡ Phase.DataIn → HasSentAll s k (writers s p) q
     none_read phase =
         let lines : (is_data (bus_of k) ≡ true) × ((bus_of k).io ≡ true) = in_lines (bus_of k) (ap is_data_in phase) in
-        wrong' (sym (λ i. not (h.writes i)) ∙ sym (λ i. is_directed (lines.1 i) (writes_of (h.served i))) ∙ (h.was.planned n h.stands h.calm).serves r.begun lines.0)
+        wrong' (sym (λ i. not (h.writes i)) ∙ sym (λ i. is_directed (lines.1 i) (writes_of (h.served i)))
+        ∙ (h.was.planned n h.stands h.calm).serves r.begun lines.0)
 
     -- the last run is done
     done : phase_of (bus_of k) ≡ Phase.DataOut → k.exchange.plan.struck ≡ false → HasSentAll s k (writers s p) q
-    done phase struck =
-        whole_run s p row n g.change q (write_row s p row h.obeys h.prompt h.was h.nx h.commands h.told h.asked h.facts) g.goes (ap changes_phase (sym g.goes.row_is.change_is) ∙ r.left) r.begun phase struck
-        (ap (λ (l : Leaving). l.to) (left_by s k n r.begun) ∙ status_is (phase_leaving (serving_of s k n.target) (bus_of k).atn (phase_of (bus_of k))).to r.turn.status)
-        h.served target (record { blocks = count; blocks_are = named; moved = blocks; runs = runs_blocks (policy_for s q) fits.fit.most })
+    done phase struck = whole_run s p row n g.change q
+        (write_row s p row h.obeys h.prompt h.was h.nx h.commands h.told h.asked h.facts) g.goes
+        (ap changes_phase (sym g.goes.row_is.change_is) ∙ r.left) r.begun phase struck
+        (ap (λ (l : Leaving). l.to) (left_by s k n r.begun)
+        ∙ status_is (phase_leaving (serving_of s k n.target) (bus_of k).atn (phase_of (bus_of k))).to r.turn.status)
+        h.served target (record {
+          blocks = count;
+          blocks_are = named;
+          moved = blocks;
+          runs = runs_blocks (policy_for s q) fits.fit.most;
+        })
       where
         next : d.next ≡ connection (row ∷ p)
         next = λ i. connection_after (h.was.plain.connection i) (h.was.plain.call i) (change i) row
 
         goes : (o : Option Connection) → connection (row ∷ p) ≡ o → d.next ≡ Some n
         goes None e = wrong' (sym (ap (λ (x : Option Connection). is_some x) (next ∙ e)) ∙ r.stands)
-        goes (Some x) e = next ∙ e ∙ ap (λ (y : Connection). Some y) (same_if x (bus (row ∷ p)).bsy (sym (λ i. connection_after (h.stands i) (call p) (change_of p row) row) ∙ e))
+        goes (Some x) e = next ∙ e ∙ ap (λ (y : Connection). Some y) (same_if x (bus (row ∷ p)).bsy
+            (sym (λ i. connection_after (h.stands i) (call p) (change_of p row) row) ∙ e))
           where
             none_some : {A : Type 0} (y : Connection) → (let o : Option Connection = None in o) ≡ Some y → A
             none_some y z = absurd cc
@@ -214,7 +234,10 @@ sent_all s p row n q h = by (runs_from (serving_of s k n.target) (bus_of k).atn 
 
 -- ---- any row
 
-pub runs_whole : (s : ScenarioValue) (p : List Row) (row : Row) → Obeys s → IsPrompt s (row ∷ p) → Stood s p → NextStood s p row → CommandFacts s p → InstructedFacts s p → WritesAsked s p row → WriteFacts s p → RunFacts s p → PlaceFacts s p → RunsLeft s p → is_true_telling s (run_state s p) row (row_reading (run_state s p).story.bus_state row) ≡ true → RunsWhole s p row
+pub runs_whole : (s : ScenarioValue) (p : List Row) (row : Row) → Obeys s → IsPrompt s (row ∷ p)
+    → Stood s p → NextStood s p row → CommandFacts s p → InstructedFacts s p
+    → WritesAsked s p row → WriteFacts s p → RunFacts s p → PlaceFacts s p → RunsLeft s p
+    → is_true_telling s (run_state s p) row (row_reading (run_state s p).story.bus_state row) ≡ true → RunsWhole s p row
 runs_whole s p row o prompt was nx commands told asked facts pointers places left telling n q con calm off runs served =
     by_bool (is_writing q)
     (λ w. by w ((reply_now (array_of s k) q).status == GOOD) refl (length q.sent == 0) refl)
@@ -223,7 +246,8 @@ runs_whole s p row o prompt was nx commands told asked facts pointers places lef
     k : RunState
     k = run_state s p
 
-    all : is_writing q ≡ true → ((reply_now (array_of s k) q).status == GOOD) ≡ true → (length q.sent == 0) ≡ false → HasSentAll s k (writers s p) q
+    all : is_writing q ≡ true → ((reply_now (array_of s k) q).status == GOOD) ≡ true → (length q.sent == 0) ≡ false
+        → HasSentAll s k (writers s p) q
     all w good some =
         sent_all s p row n q (record {
           obeys = o;
@@ -248,13 +272,17 @@ runs_whole s p row o prompt was nx commands told asked facts pointers places lef
           some = some;
         })
 
-    by : is_writing q ≡ true → (x : Bool) → ((reply_now (array_of s k) q).status == GOOD) ≡ x → (y : Bool) → (length q.sent == 0) ≡ y → IsWhole s k (writers s p) q
+    by : is_writing q ≡ true → (x : Bool) → ((reply_now (array_of s k) q).status == GOOD) ≡ x
+        → (y : Bool) → (length q.sent == 0) ≡ y → IsWhole s k (writers s p) q
     by w false e y f = ends_badly e
     by w true e true f = sends_none (zero_of (length q.sent) f)
     by w true e false f = sends_all (all w e f)
 
 -- By what the rows tell.
-pub whole_as_left : (s : ScenarioValue) (p : List Row) (row : Row) → Obeys s → IsPrompt s (row ∷ p) → Stood s p → NextStood s p row → TellFacts s p → CommandFacts s p → InstructedFacts s p → WritesAsked s p row → WriteFacts s p → RunFacts s p → PlaceFacts s p → RunsLeft s p → AreRepliesShown s (run_state s p) → FailsAsLeft s p row → RunsWhole s p row
+pub whole_as_left : (s : ScenarioValue) (p : List Row) (row : Row) → Obeys s → IsPrompt s (row ∷ p) → Stood s p
+    → NextStood s p row → TellFacts s p → CommandFacts s p → InstructedFacts s p → WritesAsked s p row → WriteFacts s p
+    → RunFacts s p → PlaceFacts s p → RunsLeft s p → AreRepliesShown s (run_state s p) → FailsAsLeft s p row
+    → RunsWhole s p row
 whole_as_left s p row o prompt was nx tells commands told asked facts pointers places left shown fails =
-    runs_whole s p row o prompt was nx commands told asked facts pointers places left
-    (tells_row s p row o prompt was shown (ap (λ (x : Option Array). is_some x) places.array_is) (left_tells s p row o prompt was tells fails))
+    runs_whole s p row o prompt was nx commands told asked facts pointers places left (tells_row s p row o prompt was
+    shown (ap (λ (x : Option Array). is_some x) places.array_is) (left_tells s p row o prompt was tells fails))

@@ -30,7 +30,9 @@ no_command b e = go b.msg b.cd b.io e
 -- ---- the array after the row
 
 -- What the row tells at most.
-told : (s : ScenarioValue) (k : RunState) (q : Process) (l : Link) (before : LineSet) → l.item ≡ Some (process q.id) → (queue_events s k.story (carried_if k.story l.item) before ≡ []) ⊎ (queue_events s k.story (carried_if k.story l.item) before ≡ queue_event s k.story.history q.id ∷ [])
+told : (s : ScenarioValue) (k : RunState) (q : Process) (l : Link) (before : LineSet) → l.item ≡ Some (process q.id)
+    → (queue_events s k.story (carried_if k.story l.item) before ≡ [])
+    ⊎ (queue_events s k.story (carried_if k.story l.item) before ≡ queue_event s k.story.history q.id ∷ [])
 told s k q l before e =
     by_bool (is_command before && is_whole_block c)
     (λ f. inr (is ∙ (λ i. if f i then queue_event s k.story.history (carried_id k.story.carried q.id i) ∷ [] else [])))
@@ -39,14 +41,21 @@ told s k q l before e =
     c : CarriedBytes
     c = carried_of k.story.carried q.id
 
-    is : queue_events s k.story (carried_if k.story l.item) before ≡ (if is_command before && is_whole_block c then queue_event s k.story.history c.id ∷ [] else [])
+    is : queue_events s k.story (carried_if k.story l.item) before
+        ≡ (if is_command before && is_whole_block c then queue_event s k.story.history c.id ∷ [] else [])
     is = ap (λ (x : Option Item). queue_events s k.story (carried_if k.story x) before) e
 
-kept_array : (s : ScenarioValue) (k : RunState) (q : Process) (all : List Event) → all ≡ [] → SameRun (array_of s k) (or_start s (array_after_events s k.array all)) q
-kept_array s k q all e = subst (λ (x : List Event). SameRun (array_of s k) (or_start s (array_after_events s k.array x)) q) (sym e) (record { size = refl; moved = refl })
+kept_array : (s : ScenarioValue) (k : RunState) (q : Process) (all : List Event) → all ≡ []
+    → SameRun (array_of s k) (or_start s (array_after_events s k.array all)) q
+kept_array s k q all e = subst (λ (x : List Event). SameRun (array_of s k)
+    (or_start s (array_after_events s k.array x)) q) (sym e) (record { size = refl; moved = refl })
 
-entry_array : (s : ScenarioValue) (k : RunState) (n : Connection) (q : Process) → Knows s k n → process_served s k ≡ Some q → is_writing q ≡ true → k.array ≡ array_after s k.story.history → RunsFit (policy_of (target_def_of s n.target)) (task_here s k q) → nat_lt (task_here s k q).runs (runs_in_all (policy_of (target_def_of s n.target)) (task_here s k q)) ≡ true
-    → IsRunEntry (serving_of s k n.target) (phase_of (bus_of k)) → (before : LineSet) → before ≡ bus_of k → SameRun (array_of s k) (or_start s (array_after_events s k.array (queued s k.story k.story.link before))) q
+entry_array : (s : ScenarioValue) (k : RunState) (n : Connection) (q : Process) → Knows s k n
+    → process_served s k ≡ Some q → is_writing q ≡ true → k.array ≡ array_after s k.story.history
+    → RunsFit (policy_of (target_def_of s n.target)) (task_here s k q)
+    → nat_lt (task_here s k q).runs (runs_in_all (policy_of (target_def_of s n.target)) (task_here s k q)) ≡ true
+    → IsRunEntry (serving_of s k n.target) (phase_of (bus_of k)) → (before : LineSet) → before ≡ bus_of k
+    → SameRun (array_of s k) (or_start s (array_after_events s k.array (queued s k.story k.story.link before))) q
 entry_array s k n q w served writes is fit more entry before same = by entry
   where
     policy : Policy
@@ -58,28 +67,47 @@ entry_array s k n q w served writes is fit more entry before same = by entry
     linked : queued s k.story k.story.link before ≡ queue_events s k.story (carried_if k.story w.link.item) before
     linked = ap (λ (x : Option Link). queued s k.story x before) w.link_is
 
-    at : (arrival_of s k policy ≡ Arrival.Guest) ⊎ (arrival_of s k policy ≡ Arrival.AtOnce) → (arrival_if policy (array_of s k) (Some q) ≡ Arrival.Guest) ⊎ (arrival_if policy (array_of s k) (Some q) ≡ Arrival.AtOnce)
-    at h = subst (λ (x : Option Process). (arrival_if policy (array_of s k) x ≡ Arrival.Guest) ⊎ (arrival_if policy (array_of s k) x ≡ Arrival.AtOnce)) served h
+    at : (arrival_of s k policy ≡ Arrival.Guest) ⊎ (arrival_of s k policy ≡ Arrival.AtOnce)
+        → (arrival_if policy (array_of s k) (Some q) ≡ Arrival.Guest)
+        ⊎ (arrival_if policy (array_of s k) (Some q) ≡ Arrival.AtOnce)
+    at h = subst (λ (x : Option Process). (arrival_if policy (array_of s k) x ≡ Arrival.Guest)
+        ⊎ (arrival_if policy (array_of s k) x ≡ Arrival.AtOnce)) served h
 
-    command : phase_of (bus_of k) ≡ Phase.Command → (arrival_of s k policy ≡ Arrival.Guest) ⊎ (arrival_of s k policy ≡ Arrival.AtOnce) → (w.link.item ≡ k.served) ⊎ ((n.reselected ≡ true) × (w.link.item ≡ None)) → SameRun (array_of s k) (or_start s (array_after_events s k.array (queued s k.story k.story.link before))) q
-    command z h (inr u) = kept_array s k q (queued s k.story k.story.link before) (linked ∙ ap (λ (x : Option Item). queue_events s k.story (carried_if k.story x) before) u.1)
+    command : phase_of (bus_of k) ≡ Phase.Command
+        → (arrival_of s k policy ≡ Arrival.Guest) ⊎ (arrival_of s k policy ≡ Arrival.AtOnce)
+        → (w.link.item ≡ k.served) ⊎ ((n.reselected ≡ true) × (w.link.item ≡ None))
+        → SameRun (array_of s k) (or_start s (array_after_events s k.array (queued s k.story k.story.link before))) q
+    command z h (inr u) = kept_array s k q (queued s k.story k.story.link before)
+        (linked ∙ ap (λ (x : Option Item). queue_events s k.story (carried_if k.story x) before) u.1)
     command z h (inl u) = tells (told s k q w.link before (u ∙ own.0))
       where
-        tells : (queue_events s k.story (carried_if k.story w.link.item) before ≡ []) ⊎ (queue_events s k.story (carried_if k.story w.link.item) before ≡ queue_event s k.story.history q.id ∷ []) → SameRun (array_of s k) (or_start s (array_after_events s k.array (queued s k.story k.story.link before))) q
+        tells : (queue_events s k.story (carried_if k.story w.link.item) before ≡ [])
+            ⊎ (queue_events s k.story (carried_if k.story w.link.item) before ≡ queue_event s k.story.history q.id ∷ [])
+            → SameRun (array_of s k) (or_start s (array_after_events s k.array (queued s k.story k.story.link before)))
+            q
         tells (inl e) = kept_array s k q (queued s k.story k.story.link before) (linked ∙ e)
-        tells (inr e) = subst (λ (x : List Event). SameRun (array_of s k) (or_start s (array_after_events s k.array x)) q) (sym (linked ∙ e)) (arrives s k q policy own.1 writes is fit more (at h))
+        tells (inr e) = subst
+            (λ (x : List Event). SameRun (array_of s k) (or_start s (array_after_events s k.array x)) q)
+            (sym (linked ∙ e)) (arrives s k q policy own.1 writes is fit more (at h))
 
-    by : IsRunEntry (serving_of s k n.target) (phase_of (bus_of k)) → SameRun (array_of s k) (or_start s (array_after_events s k.array (queued s k.story k.story.link before))) q
-    by (inl z) = kept_array s k q (queued s k.story k.story.link before) (none_queued s k.story k.story.link before (ap is_command same ∙ no_command (bus_of k) z))
-    by (inr z) = command z.0 (subst (λ (x : Phase). (arrival_at s k n.target x ≡ Arrival.Guest) ⊎ (arrival_at s k n.target x ≡ Arrival.AtOnce)) z.0 z.1) w.item_is
+    by : IsRunEntry (serving_of s k n.target) (phase_of (bus_of k))
+        → SameRun (array_of s k) (or_start s (array_after_events s k.array (queued s k.story k.story.link before))) q
+    by (inl z) = kept_array s k q (queued s k.story k.story.link before)
+        (none_queued s k.story k.story.link before (ap is_command same ∙ no_command (bus_of k) z))
+    by (inr z) = command z.0 (subst (λ (x : Phase). (arrival_at s k n.target x ≡ Arrival.Guest)
+        ⊎ (arrival_at s k n.target x ≡ Arrival.AtOnce)) z.0 z.1) w.item_is
 
 -- ---- the run
 
 pub no_more : (m : ℕ) (b : Bool) → b ≡ false → m + one_if b ≡ m
 no_more m b e = ap (λ (x : Bool). m + one_if x) e ∙ plus_none m
 
-pub run_begun : (s : ScenarioValue) (p : List Row) (row : Row) (n : Connection) → Obeys s → IsPrompt s (row ∷ p) → Stood s p → NextStood s p row → RunFacts s p → connection p ≡ Some n → (bus p).rst ≡ false → (bus (row ∷ p)).rst ≡ false → connection (row ∷ p) ≡ Some n → changes_phase (change_of p row) ≡ true → phase_of (bus (row ∷ p)) ≡ Phase.DataOut → 1 ≤ run_count s (row ∷ p) n
-run_begun s p row n o prompt was nx facts con calm off after ep phase = by (connection_row s p row n o prompt was con calm off).facts
+pub run_begun : (s : ScenarioValue) (p : List Row) (row : Row) (n : Connection) → Obeys s → IsPrompt s (row ∷ p)
+    → Stood s p → NextStood s p row → RunFacts s p → connection p ≡ Some n → (bus p).rst ≡ false
+    → (bus (row ∷ p)).rst ≡ false → connection (row ∷ p) ≡ Some n → changes_phase (change_of p row) ≡ true
+    → phase_of (bus (row ∷ p)) ≡ Phase.DataOut → 1 ≤ run_count s (row ∷ p) n
+run_begun s p row n o prompt was nx facts con calm off after ep phase =
+    by (connection_row s p row n o prompt was con calm off).facts
   where
     k : RunState
     k = run_state s p
@@ -106,7 +134,8 @@ run_begun s p row n o prompt was nx facts con calm off after ep phase = by (conn
     next = (λ i. connection_after (was.plain.connection i) (was.plain.call i) (change i) row) ∙ after
 
     run : (r : BeginsRun s k n) → k.exchange.begun ≡ true → 1 ≤ run_count s (row ∷ p) n
-    run r b = subst (λ (x : ℕ). 1 ≤ x) (sym (count ∙ run_kept s k j policy q array runs)) (has_byte policy (task_here s k q) fit r.more)
+    run r b = subst (λ (x : ℕ). 1 ≤ x) (sym (count ∙ run_kept s k j policy q array runs))
+        (has_byte policy (task_here s k q) fit r.more)
       where
         q : Process
         q = r.process
@@ -124,29 +153,35 @@ run_begun s p row n o prompt was nx facts con calm off after ep phase = by (conn
         fit = subst (λ (x : ℕ). RunsFit (policy_of (target_def_of s x)) (task_here s k q)) well.target_is f.fit
 
         events : row_events_by s k.story d row ≡ queued s k.story k.story.link d.change.before
-        events = row_queues s k.story row d n next (ap (λ (x : Change). x.after.rst) change ∙ off) (ap changes_phase change ∙ ep) (status_none d.change.after (ap (λ (x : Change). phase_of x.after) change ∙ phase))
+        events = row_queues s k.story row d n next
+            (ap (λ (x : Change). x.after.rst) change ∙ off) (ap changes_phase change ∙ ep)
+            (status_none d.change.after (ap (λ (x : Change). phase_of x.after) change ∙ phase))
 
         array : SameRun (array_of s k) (array_of s j) q
-        array = subst (λ (x : List Event). SameRun (array_of s k) (or_start s (array_after_events s k.array x)) q) (sym events)
-            (entry_array s k n q (was.books.knows n con_k calm_k) r.served_is r.writes is fit r.more r.from d.change.before (ap (λ (x : Change). x.before) change ∙ sym was.plain.bus))
+        array = subst (λ (x : List Event). SameRun (array_of s k) (or_start s (array_after_events s k.array x)) q)
+            (sym events) (entry_array s k n q (was.books.knows n con_k calm_k) r.served_is r.writes is fit r.more r.from
+            d.change.before (ap (λ (x : Change). x.before) change ∙ sym was.plain.bus))
 
         progress : j.progress ≡ progress_by_leaving k (Some q) (leaving s k n.target)
-        progress =
-            (λ i. progress_after s k d (con_k i) (next i) (leaving_of s k (con_k i)))
-            ∙ (λ i. if (ap changes_phase change ∙ ep) i && b i then progress_by_leaving k (r.served_is i) (leaving s k n.target) else k.progress)
+        progress = (λ i. progress_after s k d (con_k i) (next i) (leaving_of s k (con_k i)))
+            ∙ (λ i. if (ap changes_phase change ∙ ep) i && b i
+            then progress_by_leaving k (r.served_is i) (leaving s k n.target) else k.progress)
 
         runs : (progress_in j.progress q.id).runs ≡ (progress_in k.progress q.id).runs
-        runs = ap (λ (x : List ProcessProgress). (progress_in x q.id).runs) progress ∙ runs_more k.progress q.id (leaving s k n.target).done (leaving s k n.target).counts ∙ no_more (progress_in k.progress q.id).runs (leaving s k n.target).done r.done
+        runs = ap (λ (x : List ProcessProgress). (progress_in x q.id).runs) progress
+            ∙ runs_more k.progress q.id (leaving s k n.target).done (leaving s k n.target).counts
+            ∙ no_more (progress_in k.progress q.id).runs (leaving s k n.target).done r.done
 
         count : run_count s (row ∷ p) n ≡ run_length policy (task_here s j q)
-        count = ap (λ (x : Option Item). run_length_if policy (task_if s j (process_item s x))) (λ i. served_after s k (con_k i) (next i)) ∙ ap (λ (x : Option Process). run_length_if policy (task_if s j x)) r.served_is
+        count = ap (λ (x : Option Item). run_length_if policy (task_if s j (process_item s x)))
+            (λ i. served_after s k (con_k i) (next i))
+            ∙ ap (λ (x : Option Process). run_length_if policy (task_if s j x)) r.served_is
 
     by : RowFacts s p row n → 1 ≤ run_count s (row ∷ p) n
     by (ends_here g) = none_some n (sym g.stopped ∙ after)
-    by (stays g) =
-        by_bool (begun p)
-        (λ e. run (begins_run s k n (was.plain.begun ∙ e) (g.whereto turns e ∙ ap (λ (x : Phase). Some x) to)) (was.plain.begun ∙ e))
-        (λ e. wrong' (sym none_out ∙ g.first turns e))
+    by (stays g) = by_bool (begun p)
+        (λ e. run (begins_run s k n (was.plain.begun ∙ e) (g.whereto turns e ∙ ap (λ (x : Phase). Some x) to))
+        (was.plain.begun ∙ e)) (λ e. wrong' (sym none_out ∙ g.first turns e))
       where
         same : g.change ≡ change_of p row
         same = sym g.row_is.change_is ∙ change

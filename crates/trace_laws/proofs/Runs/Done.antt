@@ -5,22 +5,36 @@ use proofs.Names.{is_some, plus_none, wrong', ProcId, same_id, Serving, phase_le
 use proofs.Names.{Leaving, Phase, Task, ProcessProgress, progress_in, progress_with, id_is}
 use Rattle.story_laws.specs.link_laws.proofs.LeavingWays as ways
 
-pub counted_runs : (made : List ProcessProgress) (id : ProcId) (runs recovers : Bool) (other : ProcId) → (other ≡ id → ⊥) → (progress_in (progress_with made id runs recovers) other).runs ≡ (progress_in made other).runs
+pub counted_runs : (made : List ProcessProgress) (id : ProcId) (runs recovers : Bool) (other : ProcId)
+    → (other ≡ id → ⊥) → (progress_in (progress_with made id runs recovers) other).runs ≡ (progress_in made other).runs
 counted_runs made id runs recovers other ne = by (runs || recovers)
   where
-    by : (q : Bool) → (progress_in (if q then record { id = id; runs = (progress_in made id).runs + one_if runs; recoveries = (progress_in made id).recoveries + one_if recovers } ∷ made else made) other).runs ≡ (progress_in made other).runs
+    by : (q : Bool) → (progress_in (if q then record {
+      id = id;
+      runs = (progress_in made id).runs + one_if runs;
+      recoveries = (progress_in made id).recoveries + one_if recovers;
+    } ∷ made else made) other).runs ≡ (progress_in made other).runs
     by false = refl
     by true = at (same_id id other) refl
       where
-        at : (q : Bool) → same_id id other ≡ q → (if q then record { id = id; runs = (progress_in made id).runs + one_if runs; recoveries = (progress_in made id).recoveries + one_if recovers } else progress_in made other).runs ≡ (progress_in made other).runs
+        at : (q : Bool) → same_id id other ≡ q → (if q then record {
+          id = id;
+          runs = (progress_in made id).runs + one_if runs;
+          recoveries = (progress_in made id).recoveries + one_if recovers;
+        } else progress_in made other).runs ≡ (progress_in made other).runs
         at false e = refl
         at true e = absurd (ne (sym (id_is id other e)))
 
-pub same_runs : (made : List ProcessProgress) (id : ProcId) (recovers : Bool) (other : ProcId) → (progress_in (progress_with made id false recovers) other).runs ≡ (progress_in made other).runs
+pub same_runs : (made : List ProcessProgress) (id : ProcId) (recovers : Bool) (other : ProcId)
+    → (progress_in (progress_with made id false recovers) other).runs ≡ (progress_in made other).runs
 same_runs made id false other = refl
 same_runs made id true other = at (same_id id other) refl
   where
-    at : (q : Bool) → same_id id other ≡ q → (if q then record { id = id; runs = (progress_in made id).runs + 0; recoveries = (progress_in made id).recoveries + 1 } else progress_in made other).runs ≡ (progress_in made other).runs
+    at : (q : Bool) → same_id id other ≡ q → (if q then record {
+      id = id;
+      runs = (progress_in made id).runs + 0;
+      recoveries = (progress_in made id).recoveries + 1;
+    } else progress_in made other).runs ≡ (progress_in made other).runs
     at false e = refl
     at true e = plus_none (progress_in made id).runs ∙ ap (λ (x : ProcId). (progress_in made x).runs) (id_is id other e)
 

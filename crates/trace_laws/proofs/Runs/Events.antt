@@ -17,15 +17,19 @@ none_to_send : (s : ScenarioValue) (c : CmdDef) → is_write (command_of c.cdb) 
 unfolding sent_of
 none_to_send s c e = λ i. if e i then need_of s c else 0
 
-pub reads_send_none : (s : ScenarioValue) (p : Process) → Obeys s → process_of s p.id ≡ Some p → is_writing p ≡ false → length p.sent ≡ 0
+pub reads_send_none : (s : ScenarioValue) (p : Process) → Obeys s → process_of s p.id ≡ Some p → is_writing p ≡ false
+    → length p.sent ≡ 0
 reads_send_none s p o own reads = go (command_at s.commands p.id.command) refl own
   where
-    at : (c : CmdDef) → command_at s.commands p.id.command ≡ Some c → process_by s p.id c ≡ p → (q : Bool) → p.id.sense ≡ q → length p.sent ≡ 0
+    at : (c : CmdDef) → command_at s.commands p.id.command ≡ Some c → process_by s p.id c ≡ p
+        → (q : Bool) → p.id.sense ≡ q → length p.sent ≡ 0
     at c f made true g =
-        let by : process_by s (record { command = p.id.command; sense = true }) c ≡ p = (λ i. process_by s (record { command = p.id.command; sense = sym g i }) c) ∙ made in
+        let by : process_by s (record { command = p.id.command; sense = true }) c ≡ p =
+        (λ i. process_by s (record { command = p.id.command; sense = sym g i }) c) ∙ made in
         λ i. length (sym by i).sent
     at c f made false g =
-        let by : process_by s (record { command = p.id.command; sense = false }) c ≡ p = (λ i. process_by s (record { command = p.id.command; sense = sym g i }) c) ∙ made in
+        let by : process_by s (record { command = p.id.command; sense = false }) c ≡ p =
+        (λ i. process_by s (record { command = p.id.command; sense = sym g i }) c) ∙ made in
         let line : IsCommandLine s c = command_fits s p.id.command c (obeys_fits s o) f in
         (λ i. length (sym by i).sent) ∙ line.sent ∙ none_to_send s c ((λ i. is_write (command_of (by i).cdb)) ∙ reads)
 
@@ -33,8 +37,8 @@ reads_send_none s p o own reads = go (command_at s.commands p.id.command) refl o
     go None f k = none_some p k
     go (Some c) f k = at c f (same_Some (process_by s p.id c) p k) p.id.sense refl
 
--- ---- A process runs as its target leaves a phase for STATUS: it has no reply, no byte that the phase moved to the target was struck, and the
--- last of its data runs is made, or the phase moves one (6.1.6, 6.6.5, 6.6.6).
+-- ---- A process runs as its target leaves a phase for STATUS: it has no reply, no byte that the phase moved to the
+-- target was struck, and the last of its data runs is made, or the phase moves one (6.1.6, 6.6.5, 6.6.6).
 
 -- ---- the rows show what the ends show
 
@@ -46,7 +50,8 @@ same_run e (Event.Run b) s r = go e s
     go _ z = wrong' z
 same_run e _ s r = wrong' r
 
-same_runs : (shown others : List Event) → same_events shown others ≡ true → shows_run others ≡ true → shows_run shown ≡ true
+same_runs : (shown others : List Event) → same_events shown others ≡ true → shows_run others ≡ true
+    → shows_run shown ≡ true
 same_runs [] [] s r = r
 same_runs [] (f ∷ others) s r = wrong' s
 same_runs (e ∷ shown) [] s r = wrong' r
@@ -54,13 +59,16 @@ same_runs (e ∷ shown) (f ∷ others) s r =
     let both = and_parts (same_event e f) (same_events shown others) s in
     go (λ z. same_runs shown others both.1 z) (is_run f) refl r
   where
-    go : (shows_run others ≡ true → shows_run shown ≡ true) → (q : Bool) → is_run f ≡ q → (q || shows_run others) ≡ true → (is_run e || shows_run shown) ≡ true
-    go rest true g z = λ i. same_run e f (and_parts (same_event e f) (same_events shown others) s).0 g i || shows_run shown
+    go : (shows_run others ≡ true → shows_run shown ≡ true) → (q : Bool) → is_run f ≡ q → (q || shows_run others) ≡ true
+        → (is_run e || shows_run shown) ≡ true
+    go rest true g z =
+        λ i. same_run e f (and_parts (same_event e f) (same_events shown others) s).0 g i || shows_run shown
     go rest false g z = or_right (is_run e) (shows_run shown) (rest z)
 
 -- ---- as a phase is left for another
 
-no_arrival_run : (id : ProcId) (plan : Plan) (arrival : Arrival) (phase : Phase) → shows_run (arrival_events id plan arrival phase) ≡ false
+no_arrival_run : (id : ProcId) (plan : Plan) (arrival : Arrival) (phase : Phase)
+    → shows_run (arrival_events id plan arrival phase) ≡ false
 no_arrival_run id plan arrival Phase.Command = go plan.struck arrival
   where
     go : (q : Bool) (a : Arrival) → shows_run (if q then [] else arrival_event id a ∷ []) ≡ false
@@ -69,7 +77,8 @@ no_arrival_run id plan arrival Phase.Command = go plan.struck arrival
     go false _ = refl
 no_arrival_run id plan arrival _ = refl
 
-newest_run : (after before : List Event) → shows_run before ≡ false → shows_run (newest_with after before) ≡ true → shows_run after ≡ true
+newest_run : (after before : List Event) → shows_run before ≡ false → shows_run (newest_with after before) ≡ true
+    → shows_run after ≡ true
 newest_run [] before none r = wrong' (sym none ∙ r)
 newest_run (e ∷ after) before none r = go (is_run e) refl r
   where
@@ -85,20 +94,26 @@ pub record RunsInTurn (v : Serving) (attention : Bool) (phase : Phase) (id : Pro
   pub open_is : task.replied ≡ false
   pub run : shows_run (reply_events id v.plan v.arrival phase) ≡ true
 
-turn_run : (v : Serving) (attention : Bool) (phase : Phase) (id : ProcId) → shows_run (turn_events v attention phase id) ≡ true → RunsInTurn v attention phase id
-turn_run v attention phase id r =
-    go (is_status_next (phase_leaving v attention phase).to && not (has_replied v.task)) refl
-    (newest_run (if is_status_next (phase_leaving v attention phase).to && not (has_replied v.task) then reply_events id v.plan v.arrival phase else []) (arrival_events id v.plan v.arrival phase) (no_arrival_run id v.plan v.arrival phase) r)
+turn_run : (v : Serving) (attention : Bool) (phase : Phase) (id : ProcId)
+    → shows_run (turn_events v attention phase id) ≡ true → RunsInTurn v attention phase id
+turn_run v attention phase id r = go (is_status_next (phase_leaving v attention phase).to && not (has_replied v.task))
+    refl (newest_run (if is_status_next (phase_leaving v attention phase).to && not (has_replied v.task)
+    then reply_events id v.plan v.arrival phase else []) (arrival_events id v.plan v.arrival phase)
+    (no_arrival_run id v.plan v.arrival phase) r)
   where
-    by : is_status_next (phase_leaving v attention phase).to ≡ true → shows_run (reply_events id v.plan v.arrival phase) ≡ true → (o : Option Task) → v.task ≡ o → not (has_replied o) ≡ true → RunsInTurn v attention phase id
+    by : is_status_next (phase_leaving v attention phase).to ≡ true
+        → shows_run (reply_events id v.plan v.arrival phase) ≡ true → (o : Option Task) → v.task ≡ o
+        → not (has_replied o) ≡ true → RunsInTurn v attention phase id
     by status run None e f = wrong' f
-    by status run (Some t) e f = record { status = status; task = t; task_is = e; open_is = unmarked t.replied f; run = run }
+    by status run (Some t) e f =
+        record { status = status; task = t; task_is = e; open_is = unmarked t.replied f; run = run }
       where
         unmarked : (q : Bool) → not q ≡ true → q ≡ false
         unmarked true z = wrong' z
         unmarked false z = refl
 
-    go : (q : Bool) → (is_status_next (phase_leaving v attention phase).to && not (has_replied v.task)) ≡ q → shows_run (if q then reply_events id v.plan v.arrival phase else []) ≡ true → RunsInTurn v attention phase id
+    go : (q : Bool) → (is_status_next (phase_leaving v attention phase).to && not (has_replied v.task)) ≡ q
+        → shows_run (if q then reply_events id v.plan v.arrival phase else []) ≡ true → RunsInTurn v attention phase id
     go false e z = wrong' z
     go true e z =
         let both = and_parts (is_status_next (phase_leaving v attention phase).to) (not (has_replied v.task)) e in
@@ -117,7 +132,8 @@ no_loss_run : (id : Option ProcId) → shows_run (loss_events id) ≡ false
 no_loss_run None = refl
 no_loss_run (Some id) = refl
 
-no_end_run : (n : Connection) (plan : Plan) (phase : Phase) (id : Option ProcId) → shows_run (connection_end_events n plan phase id) ≡ false
+no_end_run : (n : Connection) (plan : Plan) (phase : Phase) (id : Option ProcId)
+    → shows_run (connection_end_events n plan phase id) ≡ false
 no_end_run n plan Phase.MessageOut id = go plan.said.aborts
   where
     go : (o : Option AbortKind) → shows_run (after_opening_events n plan.said o id) ≡ false
@@ -135,7 +151,9 @@ no_initiator_run k (Some l) d = go (is_completion l d.change) (carried_if k.stor
     go true None = refl
     go true (Some c) = refl
 
-pub run_turn : (s : ScenarioValue) (k : RunState) (row : Row) (d : RowReading) (n : Connection) → k.story.bus_state.connection ≡ Some n → d.change.after.rst ≡ false → is_true_telling s k row d ≡ true → shows_run (row_events_by s k.story d row) ≡ true → RunsInPhase s k n d
+pub run_turn : (s : ScenarioValue) (k : RunState) (row : Row) (d : RowReading) (n : Connection)
+    → k.story.bus_state.connection ≡ Some n → d.change.after.rst ≡ false → is_true_telling s k row d ≡ true
+    → shows_run (row_events_by s k.story d row) ≡ true → RunsInPhase s k n d
 run_turn s k row d n con off telling r = go (changes_phase d.change || not (is_some d.next)) refl told
   where
     v : Serving
@@ -145,25 +163,34 @@ run_turn s k row d n con off telling r = go (changes_phase d.change || not (is_s
     phase = phase_of (bus_of k)
 
     told : shows_run (events_of_ends_in s k (Some n) d) ≡ true
-    told =
-        sym (λ i. shows_run (if off i then (if rises d.change.own.rst d.change.next.rst then Event.Reset row.dev ∷ [] else []) else events_of_ends_in s k (con i) d))
+    told = sym (λ i. shows_run
+        (if off i then (if rises d.change.own.rst d.change.next.rst then Event.Reset row.dev ∷ [] else [])
+        else events_of_ends_in s k (con i) d))
         ∙ same_runs (events_of_ends s k row d) (row_events_by s k.story d row) telling r
 
-    turn : is_some d.next ≡ true → changes_phase d.change ≡ true → k.exchange.begun ≡ true → (o : Option ProcId) → shows_run (turn_events_if v (bus_of k).atn phase o) ≡ true → RunsInPhase s k n d
+    turn : is_some d.next ≡ true → changes_phase d.change ≡ true → k.exchange.begun ≡ true
+        → (o : Option ProcId) → shows_run (turn_events_if v (bus_of k).atn phase o) ≡ true → RunsInPhase s k n d
     turn stands left b None z = wrong' z
-    turn stands left b (Some id) z = record { stands = stands; left = left; begun = b; id = id; turn = turn_run v (bus_of k).atn phase id z }
+    turn stands left b (Some id) z =
+        record { stands = stands; left = left; begun = b; id = id; turn = turn_run v (bus_of k).atn phase id z }
 
     unless : (a b : Bool) → b ≡ true → (a || not b) ≡ true → a ≡ true
     unless true b e f = refl
     unless false true e f = wrong' f
     unless false false e f = wrong' e
 
-    leaves : (changes_phase d.change || not (is_some d.next)) ≡ true → (b : Bool) → k.exchange.begun ≡ b → (t : Bool) → is_some d.next ≡ t → shows_run (if not b then [] else if t then turn_events_if v (bus_of k).atn phase (id_of k.served) else connection_end_events n k.exchange.plan phase (id_of k.served)) ≡ true → RunsInPhase s k n d
+    leaves : (changes_phase d.change || not (is_some d.next)) ≡ true
+        → (b : Bool) → k.exchange.begun ≡ b → (t : Bool) → is_some d.next ≡ t
+        → shows_run (if not b then [] else if t then turn_events_if v (bus_of k).atn phase (id_of k.served)
+        else connection_end_events n k.exchange.plan phase (id_of k.served)) ≡ true
+        → RunsInPhase s k n d
     leaves e false f t g z = wrong' z
     leaves e true f true g z = turn g (unless (changes_phase d.change) (is_some d.next) g e) f (id_of k.served) z
     leaves e true f false g z = wrong' (sym (no_end_run n k.exchange.plan phase (id_of k.served)) ∙ z)
 
-    go : (q : Bool) → (changes_phase d.change || not (is_some d.next)) ≡ q → shows_run (if q then target_events s k n (is_some d.next) else initiator_events k k.story.link d) ≡ true → RunsInPhase s k n d
+    go : (q : Bool) → (changes_phase d.change || not (is_some d.next)) ≡ q
+        → shows_run (if q then target_events s k n (is_some d.next) else initiator_events k k.story.link d) ≡ true
+        → RunsInPhase s k n d
     go true e z = leaves e k.exchange.begun refl (is_some d.next) refl z
     go false e z = wrong' (sym (no_initiator_run k k.story.link d) ∙ z)
 
@@ -200,6 +227,7 @@ follows v id t (ways.ends_runs _ _ (ways.given _) _) is open_is status run = rea
 follows v id t (ways.ends_runs _ _ (ways.sent s) _) is open_is status run = writes refl s
 follows v id t _ is open_is status run = wrong' status
 
-pub runs_from : (v : Serving) (attention : Bool) (phase : Phase) (id : ProcId) (r : RunsInTurn v attention phase id) → RunsFrom v r.task phase
+pub runs_from : (v : Serving) (attention : Bool) (phase : Phase) (id : ProcId) (r : RunsInTurn v attention phase id)
+    → RunsFrom v r.task phase
 runs_from v attention phase id r =
     follows v id r.task (ways.leaves v attention phase) r.task_is r.open_is r.status r.run

@@ -21,8 +21,12 @@ policy_most : (p : Policy) → policy_in (said_policy p) ≡ Ok p → HasMost p
 unfolding policy_in
 policy_most Policy.Never e = tt
 policy_most Policy.Command e = tt
-policy_most (Policy.Burst n) e = let a = bind_ok (within (Some n) 1 BURST_LIMIT) _ (Policy.Burst n) e in subst HasMost (ok_is _ (Policy.Burst n) a.2) (within_ok (Some n) 1 BURST_LIMIT a.0 a.1).1
-policy_most (Policy.NoSave n) e = let a = bind_ok (within (Some n) 1 BURST_LIMIT) _ (Policy.NoSave n) e in subst HasMost (ok_is _ (Policy.NoSave n) a.2) (within_ok (Some n) 1 BURST_LIMIT a.0 a.1).1
+policy_most (Policy.Burst n) e =
+    let a = bind_ok (within (Some n) 1 BURST_LIMIT) _ (Policy.Burst n) e in
+    subst HasMost (ok_is _ (Policy.Burst n) a.2) (within_ok (Some n) 1 BURST_LIMIT a.0 a.1).1
+policy_most (Policy.NoSave n) e =
+    let a = bind_ok (within (Some n) 1 BURST_LIMIT) _ (Policy.NoSave n) e in
+    subst HasMost (ok_is _ (Policy.NoSave n) a.2) (within_ok (Some n) 1 BURST_LIMIT a.0 a.1).1
 
 target_most : (s : ScenarioValue) (x : Said) (t : TargetDef) → target_by s x ≡ Ok t → HasMostIn t
 unfolding target_def
@@ -39,13 +43,16 @@ target_most s (target_line f) t e =
 target_most s _ t e = absurd cc
 
 most_lines : (s : ScenarioValue) → Obeys s → AllByRecursion HasMostIn s.targets
-most_lines s o = (each_line Any HasMostIn Any Any (record { host = λ x f d e. tt; target = target_most; command = λ x f d e. tt; abort = λ x f d e. tt }) s o).targets
+most_lines s o = (each_line Any HasMostIn Any Any
+    (record { host = λ x f d e. tt; target = target_most; command = λ x f d e. tt; abort = λ x f d e. tt }) s o).targets
 
-found_most : (dev : ℕ) (ts : List TargetDef) → AllByRecursion HasMostIn ts → HasMost (policy_of (find (λ (t : TargetDef). t.dev == dev) ts))
+found_most : (dev : ℕ) (ts : List TargetDef) → AllByRecursion HasMostIn ts
+    → HasMost (policy_of (find (λ (t : TargetDef). t.dev == dev) ts))
 found_most dev [] a = tt
 found_most dev (t ∷ ts) a = go (t.dev == dev) (found_most dev ts a.1)
   where
-    go : (q : Bool) → HasMost (policy_of (find (λ (x : TargetDef). x.dev == dev) ts)) → HasMost (policy_of (cond q (Some t) (find (λ (x : TargetDef). x.dev == dev) ts)))
+    go : (q : Bool) → HasMost (policy_of (find (λ (x : TargetDef). x.dev == dev) ts))
+        → HasMost (policy_of (cond q (Some t) (find (λ (x : TargetDef). x.dev == dev) ts)))
     go true k = a.0
     go false k = k
 
@@ -59,7 +66,8 @@ policies_most s dev o = found_most dev s.targets (most_lines s o)
 lines_first : (s : ScenarioValue) → AreOfLines s (starting_array s)
 lines_first s = subst (λ (a : Array). AreOfLines s a) (start_settled s) (lines_start s)
 
-pub lines_now : (s : ScenarioValue) (history : List Event) (o : Option Array) → array_after s history ≡ o → AreOfLines s (or_start s o)
+pub lines_now : (s : ScenarioValue) (history : List Event) (o : Option Array) → array_after s history ≡ o
+    → AreOfLines s (or_start s o)
 lines_now s history None e = lines_first s
 lines_now s history (Some a) e = lines_always s history a e
 
@@ -71,13 +79,16 @@ same_size (Some d) None y h k = absurd h
 same_size (Some d) (Some u) None h k = absurd k
 same_size (Some d) (Some u) (Some v) h k = h.1 ∙ sym k.1
 
-pub size_is : (s : ScenarioValue) (a : Array) (t n : ℕ) → AreOfLines s a → size_of (unit_state_at a.units t n) ≡ size_of (unit_state_at (starting_array s).units t n)
-size_is s a t n h = same_size (unit_of s t n) (unit_state_at a.units t n) (unit_state_at (starting_array s).units t n) (h t n) (lines_first s t n)
+pub size_is : (s : ScenarioValue) (a : Array) (t n : ℕ) → AreOfLines s a
+    → size_of (unit_state_at a.units t n) ≡ size_of (unit_state_at (starting_array s).units t n)
+size_is s a t n h = same_size (unit_of s t n) (unit_state_at a.units t n) (unit_state_at (starting_array s).units t n)
+    (h t n) (lines_first s t n)
 
 -- ---- a write
 
 -- It names so many blocks.
-pub blocks_named : (r : Result Command CdbFault) → is_write r ≡ true → blocks_in (range_in r) ≡ Some (count_in (range_in r))
+pub blocks_named : (r : Result Command CdbFault) → is_write r ≡ true
+    → blocks_in (range_in r) ≡ Some (count_in (range_in r))
 blocks_named (Err fault) e = absurd (true≢false (sym e))
 blocks_named (Ok Command.TestUnitReady) e = absurd (true≢false (sym e))
 blocks_named (Ok (Command.RequestSense room)) e = absurd (true≢false (sym e))
@@ -88,13 +99,15 @@ blocks_named (Ok Command.ReadCapacity) e = absurd (true≢false (sym e))
 blocks_named (Ok (Command.Read10 lba count)) e = absurd (true≢false (sym e))
 blocks_named (Ok (Command.Write10 lba count)) e = refl
 
-pub none_sent : (s : ScenarioValue) (q : Process) → Obeys s → process_of s q.id ≡ Some q → is_writing q ≡ true → has_target s q.target ≡ false → length q.sent ≡ 0
+pub none_sent : (s : ScenarioValue) (q : Process) → Obeys s → process_of s q.id ≡ Some q → is_writing q ≡ true
+    → has_target s q.target ≡ false → length q.sent ≡ 0
 unfolding need_of sent_of
 none_sent s q o own w e =
     let by = by_line s q own (writer_plain s q own w) in
     let line : IsCommandLine s by.line = command_fits s q.id.command by.line (obeys_fits s o) by.is in
     ap (λ (x : List ℕ). length x) by.sent ∙ line.sent
-    ∙ (λ i. if is_write (command_of by.line.cdb) then (if (ap (has_target s) (sym by.target) ∙ e) i then moved_by (command_of by.line.cdb) (unit_of s by.line.target by.line.unit) else 0) else 0)
+    ∙ (λ i. if is_write (command_of by.line.cdb) then (if (ap (has_target s) (sym by.target) ∙ e) i
+    then moved_by (command_of by.line.cdb) (unit_of s by.line.target by.line.unit) else 0) else 0)
     ∙ nothing (is_write (command_of by.line.cdb))
   where
     nothing : (b : Bool) → (let n : ℕ = if b then 0 else 0 in n) ≡ 0
@@ -102,7 +115,9 @@ none_sent s q o own w e =
     nothing false = refl
 
 -- The bytes that it moves, where it would be carried out now.
-moved_all : (s : ScenarioValue) (a : Array) (q : Process) → Obeys s → AreOfLines s a → process_of s q.id ≡ Some q → is_writing q ≡ true → (moved_count q (reply_now a q) == 0) ≡ false → moved_count q (reply_now a q) ≡ count_in (range_in (command_of q.cdb)) * size_of (unit_state_at a.units q.target q.unit)
+moved_all : (s : ScenarioValue) (a : Array) (q : Process) → Obeys s → AreOfLines s a → process_of s q.id ≡ Some q
+    → is_writing q ≡ true → (moved_count q (reply_now a q) == 0) ≡ false → moved_count q (reply_now a q)
+    ≡ count_in (range_in (command_of q.cdb)) * size_of (unit_state_at a.units q.target q.unit)
 moved_all s a q o lines own w some =
     by_bool ((reply_now a q).status == GOOD)
     (λ e.
@@ -111,21 +126,23 @@ moved_all s a q o lines own w some =
     (λ there. zero_moved (moved true e ∙ none_sent s q o own w there)))
     (λ e. zero_moved (moved false e))
   where
-    moved : (g : Bool) → ((reply_now a q).status == GOOD) ≡ g → moved_count q (reply_now a q) ≡ length (if g then q.sent else [])
+    moved : (g : Bool) → ((reply_now a q).status == GOOD) ≡ g
+        → moved_count q (reply_now a q) ≡ length (if g then q.sent else [])
     moved g e = (λ i. length (if w i then (if e i then q.sent else []) else (reply_now a q).bytes))
 
     zero_moved : {A : Type 0} → moved_count q (reply_now a q) ≡ 0 → A
     zero_moved e = absurd (true≢false (sym (ap (λ (x : ℕ). x == 0) e) ∙ some))
 
-    carried : (reply_now a q).status ≡ GOOD → has_target s q.target ≡ true → length q.sent ≡ count_in (range_in (command_of q.cdb)) * size_of (unit_state_at a.units q.target q.unit)
-    carried good there =
-        by_option (unit_state_at a.units q.target q.unit)
-        (λ e.
-        let none : length q.sent ≡ 0 = all ∙ ap (λ (y : Option UnitState). blocks_written (contents_of y) q.cdb * (contents_of y).size) e ∙ zero_times (blocks_written (contents_of None) q.cdb) in
-        none ∙ sym (zero_times (count_in (range_in (command_of q.cdb)))) ∙ ap (λ (y : Option UnitState). count_in (range_in (command_of q.cdb)) * size_of y) (sym e))
-        (λ u e.
-        let written : blocks_written u.contents q.cdb ≡ count_in (range_in (command_of q.cdb)) =
-        written_named u.contents (command_of q.cdb) w (λ x f. good_range (context_at a (nexus_of q) (Some u)) q.cdb q.sent x f ((λ i. (execution (context_at a (nexus_of q) (sym e i)) q.cdb q.sent).reply.status) ∙ good)) in
+    carried : (reply_now a q).status ≡ GOOD → has_target s q.target ≡ true
+        → length q.sent ≡ count_in (range_in (command_of q.cdb)) * size_of (unit_state_at a.units q.target q.unit)
+    carried good there = by_option (unit_state_at a.units q.target q.unit) (λ e. let none : length q.sent ≡ 0 = all
+        ∙ ap (λ (y : Option UnitState). blocks_written (contents_of y) q.cdb * (contents_of y).size) e
+        ∙ zero_times (blocks_written (contents_of None) q.cdb) in
+        none ∙ sym (zero_times (count_in (range_in (command_of q.cdb))))
+        ∙ ap (λ (y : Option UnitState). count_in (range_in (command_of q.cdb)) * size_of y) (sym e))
+        (λ u e. let written : blocks_written u.contents q.cdb ≡ count_in (range_in (command_of q.cdb)) = written_named
+        u.contents (command_of q.cdb) w (λ x f. good_range (context_at a (nexus_of q) (Some u)) q.cdb q.sent x f
+        ((λ i. (execution (context_at a (nexus_of q) (sym e i)) q.cdb q.sent).reply.status) ∙ good)) in
         all ∙ ap (λ (y : Option UnitState). blocks_written (contents_of y) q.cdb * (contents_of y).size) e
         ∙ ap (λ (y : ℕ). y * u.contents.size) written
         ∙ ap (λ (y : Option UnitState). count_in (range_in (command_of q.cdb)) * size_of y) (sym e))
@@ -133,7 +150,8 @@ moved_all s a q o lines own w some =
         status : (execution (context_of (seat_of a q.target q.unit) q.initiator) q.cdb q.sent).reply.status ≡ GOOD
         status = (λ i. (execution (sym (context_same a q) i) q.cdb q.sent).reply.status) ∙ good
 
-        all : length q.sent ≡ blocks_written (contents_of (unit_state_at a.units q.target q.unit)) q.cdb * (contents_of (unit_state_at a.units q.target q.unit)).size
+        all : length q.sent ≡ blocks_written (contents_of (unit_state_at a.units q.target q.unit)) q.cdb
+            * (contents_of (unit_state_at a.units q.target q.unit)).size
         all = (sends s a q (obeys_fits s o) lines there own (writer_plain s q own w)).bytes status
 
 -- Its runs fit what it moves, and step by the blocks of its unit.
@@ -141,13 +159,19 @@ pub record FitsRuns (s : ScenarioValue) (k : RunState) (q : Process) (t : Task) 
   pub fit : RunsFit (policy_for s q) t
   pub step : step_in (policy_for s q) t.blocks t.size ≡ run_step s q
 
-pub fits_runs : (s : ScenarioValue) (k : RunState) (q : Process) → Obeys s → k.array ≡ array_after s k.story.history → process_of s q.id ≡ Some q → is_writing q ≡ true → FitsRuns s k q (task_with (array_of s k) (progress_in k.progress q.id) q (carried_here k q.id) (reply_now (array_of s k) q) (reply_in (array_of s k).replies q.id))
+pub fits_runs : (s : ScenarioValue) (k : RunState) (q : Process) → Obeys s
+    → k.array ≡ array_after s k.story.history → process_of s q.id ≡ Some q → is_writing q ≡ true
+    → FitsRuns s k q (task_with (array_of s k) (progress_in k.progress q.id) q (carried_here k q.id)
+    (reply_now (array_of s k) q) (reply_in (array_of s k).replies q.id))
 fits_runs s k q o e own w =
     let lines = lines_now s k.story.history k.array (sym e) in
     record {
       fit = record {
-        moved = λ blocks e some. moved_all s (array_of s k) q o lines own w some ∙ ap (λ (x : ℕ). x * size_of (unit_state_at (array_of s k).units q.target q.unit)) (same_Some (count_in (range_in (command_of q.cdb))) blocks (sym (blocks_named (command_of q.cdb) w) ∙ e));
+        moved = λ blocks e some. moved_all s (array_of s k) q o lines own w some
+            ∙ ap (λ (x : ℕ). x * size_of (unit_state_at (array_of s k).units q.target q.unit))
+            (same_Some (count_in (range_in (command_of q.cdb))) blocks (sym (blocks_named (command_of q.cdb) w) ∙ e));
         most = policies_most s q.target o;
       };
-      step = ap (λ (x : ℕ). step_in (policy_for s q) (blocks_in (range_in (command_of q.cdb))) x) (size_is s (array_of s k) q.target q.unit lines);
+      step = ap (λ (x : ℕ). step_in (policy_for s q) (blocks_in (range_in (command_of q.cdb))) x)
+          (size_is s (array_of s k) q.target q.unit lines);
     }

@@ -1,5 +1,5 @@
--- The data runs of a process: each has a byte at least, lies in what is moved, and begins where that before it ends, or with
--- the first byte (6.6.6, 6.6.20).
+-- The data runs of a process: each has a byte at least, lies in what is moved, and begins where that before it ends, or
+-- with the first byte (6.6.6, 6.6.20).
 use Rattle.trace_laws.proofs
 use proofs.Names.{ℕ, zero, suc, ◌≡◌, ◌+◌, ◌*◌, ◌<◌, ◌≤◌, Bool, true, false, ◌∙◌, Option, Some, None, refl, sym, ap}
 use proofs.Names.{subst, arith, ◌==◌, ◌&&◌, ◌/◌, div-mul-le_self, ltb-true, if◌then◌else◌, nat_lt, ◌-◌, min, ⊤}
@@ -27,7 +27,8 @@ not_below n m z e = let l = ltb-true n m e in absurd omega (arith, l, z)
 blocks_left : (n blocks most : ℕ) → 1 ≤ most → n < (blocks + (most - 1)) / most → n * most < blocks
 blocks_left n blocks most h l =
     let all : (blocks + (most - 1)) / most * most ≤ blocks + (most - 1) = div-mul-le_self (blocks + (most - 1)) most in
-    let more : (n + 1) * most ≤ (blocks + (most - 1)) / most * most = times (n + 1) ((blocks + (most - 1)) / most) most (omega (arith, l)) in
+    let more : (n + 1) * most ≤ (blocks + (most - 1)) / most * most = times
+    (n + 1) ((blocks + (most - 1)) / most) most (omega (arith, l)) in
     let split : (n + 1) * most ≡ n * most + most = next n most in
     omega (arith, all, more, split, h)
   where
@@ -44,7 +45,9 @@ size_some : (blocks size moved : ℕ) → 1 ≤ moved → moved ≡ blocks * siz
 size_some blocks size moved h e = go size refl
   where
     go : (z : ℕ) → size ≡ z → 1 ≤ size
-    go zero f = let none : moved ≡ 0 = e ∙ ap (λ (x : ℕ). blocks * x) f ∙ sym (times_none blocks) in absurd omega (arith, none, h)
+    go zero f =
+        let none : moved ≡ 0 = e ∙ ap (λ (x : ℕ). blocks * x) f ∙ sym (times_none blocks) in
+        absurd omega (arith, none, h)
     go (suc z) f = omega (arith, f)
 
 step_some : (a b : ℕ) → 1 ≤ a → 1 ≤ b → 1 ≤ a * b
@@ -52,7 +55,8 @@ step_some a b h k = grind arith
 
 -- ---- where a run begins
 
-pub start_is : (policy : Policy) (blocks : Option ℕ) (size moved n : ℕ) → (run_in policy blocks size moved n).start ≡ n * step_in policy blocks size
+pub start_is : (policy : Policy) (blocks : Option ℕ) (size moved n : ℕ)
+    → (run_in policy blocks size moved n).start ≡ n * step_in policy blocks size
 start_is policy None size moved n = times_none n
 start_is (Policy.Burst most) (Some blocks) size moved n = refl
 start_is _ (Some blocks) size moved n = times_none n
@@ -80,16 +84,21 @@ min_within b c = grind arith
 min_first : (b c : ℕ) → b ≤ c → min b c ≡ b
 min_first b c h = grind arith
 
-run_some : (policy : Policy) (blocks size moved n : ℕ) → HasMost policy → 1 ≤ moved → moved ≡ blocks * size → n < runs_in policy (Some blocks) → (run_in policy (Some blocks) size moved n).start < (run_in policy (Some blocks) size moved n).end
+run_some : (policy : Policy) (blocks size moved n : ℕ) → HasMost policy
+    → 1 ≤ moved → moved ≡ blocks * size → n < runs_in policy (Some blocks)
+    → (run_in policy (Some blocks) size moved n).start < (run_in policy (Some blocks) size moved n).end
 run_some Policy.Never blocks size moved n m h e l = h
 run_some Policy.Command blocks size moved n m h e l = h
 run_some (Policy.Burst most) blocks size moved n m h e l =
     let some = step_some most size m (size_some blocks size moved h e) in
     let left : n * most < blocks = blocks_left n blocks most m l in
-    let less : n * most * size < blocks * size = times_less (n * most) blocks size left (size_some blocks size moved h e) in
+    let less : n * most * size < blocks * size = times_less
+    (n * most) blocks size left (size_some blocks size moved h e) in
     let start = mul_assoc n most size in
-    min_less (n * (most * size)) (n * (most * size) + most * size) moved (omega (arith, some)) (omega (arith, less, start, e))
-run_some (Policy.NoSave most) blocks size moved n m h e l = part_end (most * size) moved n (step_some most size m (size_some blocks size moved h e)) h
+    min_less (n * (most * size)) (n * (most * size) + most * size) moved (omega (arith, some))
+    (omega (arith, less, start, e))
+run_some (Policy.NoSave most) blocks size moved n m h e l =
+    part_end (most * size) moved n (step_some most size m (size_some blocks size moved h e)) h
 
 run_within : (policy : Policy) (blocks : Option ℕ) (size moved n : ℕ) → (run_in policy blocks size moved n).end ≤ moved
 run_within policy None size moved n = omega arith
@@ -100,45 +109,58 @@ run_within (Policy.NoSave most) (Some blocks) size moved n = part_within (most *
 
 -- ---- of a task
 
-in_all : (policy : Policy) (t : Task) (n : ℕ) → nat_lt n (runs_in_all policy t) ≡ true → ((t.moved == 0) ≡ false) × (n < runs_in policy t.blocks)
+in_all : (policy : Policy) (t : Task) (n : ℕ) → nat_lt n (runs_in_all policy t) ≡ true
+    → ((t.moved == 0) ≡ false) × (n < runs_in policy t.blocks)
 in_all policy t n e = go (t.moved == 0) refl e
   where
-    go : (q : Bool) → (t.moved == 0) ≡ q → nat_lt n (if q then 0 else runs_in policy t.blocks) ≡ true → ((t.moved == 0) ≡ false) × (n < runs_in policy t.blocks)
+    go : (q : Bool) → (t.moved == 0) ≡ q → nat_lt n (if q then 0 else runs_in policy t.blocks) ≡ true
+        → ((t.moved == 0) ≡ false) × (n < runs_in policy t.blocks)
     go true f z = absurd (not_below n 0 refl z)
     go false f z = (f, ltb-true n (runs_in policy t.blocks) z)
 
-pub has_byte : (policy : Policy) (t : Task) → RunsFit policy t → nat_lt t.runs (runs_in_all policy t) ≡ true → 1 ≤ run_length policy t
+pub has_byte : (policy : Policy) (t : Task) → RunsFit policy t → nat_lt t.runs (runs_in_all policy t) ≡ true
+    → 1 ≤ run_length policy t
 has_byte policy t f e =
     let a = in_all policy t t.runs e in
     less (run_at policy t t.runs).start (run_at policy t t.runs).end (go t.blocks refl a.0 a.1)
   where
-    go : (o : Option ℕ) → t.blocks ≡ o → (t.moved == 0) ≡ false → t.runs < runs_in policy t.blocks → (run_in policy t.blocks t.size t.moved t.runs).start < (run_in policy t.blocks t.size t.moved t.runs).end
-    go None z some l = subst (λ (b : Option ℕ). (run_in policy b t.size t.moved t.runs).start < (run_in policy b t.size t.moved t.runs).end) (sym z) (some_count t.moved some)
-    go (Some blocks) z some l =
-        subst (λ (b : Option ℕ). (run_in policy b t.size t.moved t.runs).start < (run_in policy b t.size t.moved t.runs).end) (sym z)
-        (run_some policy blocks t.size t.moved t.runs f.most (some_count t.moved some) (f.moved blocks z some) (subst (λ (b : Option ℕ). t.runs < runs_in policy b) z l))
+    go : (o : Option ℕ) → t.blocks ≡ o → (t.moved == 0) ≡ false → t.runs < runs_in policy t.blocks
+        → (run_in policy t.blocks t.size t.moved t.runs).start < (run_in policy t.blocks t.size t.moved t.runs).end
+    go None z some l = subst (λ (b : Option ℕ). (run_in policy b t.size t.moved t.runs).start
+        < (run_in policy b t.size t.moved t.runs).end) (sym z) (some_count t.moved some)
+    go (Some blocks) z some l = subst (λ (b : Option ℕ). (run_in policy b t.size t.moved t.runs).start
+        < (run_in policy b t.size t.moved t.runs).end) (sym z) (run_some policy blocks t.size t.moved t.runs f.most
+        (some_count t.moved some) (f.moved blocks z some) (subst (λ (b : Option ℕ). t.runs < runs_in policy b) z l))
 
     less : (a b : ℕ) → a < b → 1 ≤ b - a
     less a b h = omega (arith, h)
 
 -- A byte of the run is a byte of what is moved.
-pub byte_within : (policy : Policy) (t : Task) (place : ℕ) → place < run_length policy t → (run_at policy t t.runs).start + place < t.moved
-byte_within policy t place h = let w = run_within policy t.blocks t.size t.moved t.runs in less (run_at policy t t.runs).start (run_at policy t t.runs).end place t.moved h w
+pub byte_within : (policy : Policy) (t : Task) (place : ℕ) → place < run_length policy t
+    → (run_at policy t t.runs).start + place < t.moved
+byte_within policy t place h =
+    let w = run_within policy t.blocks t.size t.moved t.runs in
+    less (run_at policy t t.runs).start (run_at policy t t.runs).end place t.moved h w
   where
     less : (a b p m : ℕ) → p < b - a → b ≤ m → a + p < m
     less a b p m h k = omega (arith, h, k)
 
 -- More runs follow it.
-more_by : (policy : Policy) (blocks size moved n : ℕ) → HasMost policy → 1 ≤ moved → moved ≡ blocks * size → n + 1 < runs_in policy (Some blocks) → MoreRuns policy n (step_in policy (Some blocks) size) ((run_in policy (Some blocks) size moved n).end - (run_in policy (Some blocks) size moved n).start)
+more_by : (policy : Policy) (blocks size moved n : ℕ) → HasMost policy → 1 ≤ moved → moved ≡ blocks * size
+    → n + 1 < runs_in policy (Some blocks) → MoreRuns policy n (step_in policy (Some blocks) size)
+    ((run_in policy (Some blocks) size moved n).end - (run_in policy (Some blocks) size moved n).start)
 more_by Policy.Never blocks size moved n m h e l = absurd omega (arith, l)
 more_by Policy.Command blocks size moved n m h e l = absurd omega (arith, l)
 more_by (Policy.Burst most) blocks size moved n m h e l =
     let left : (n + 1) * most < blocks = blocks_left (n + 1) blocks most m l in
-    let less : (n + 1) * most * size < blocks * size = times_less ((n + 1) * most) blocks size left (size_some blocks size moved h e) in
+    let less : (n + 1) * most * size < blocks * size = times_less
+    ((n + 1) * most) blocks size left (size_some blocks size moved h e) in
     let start = mul_assoc (n + 1) most size in
     let next : (n + 1) * (most * size) ≡ n * (most * size) + most * size = split n (most * size) in
-    let whole : min (n * (most * size) + most * size) moved ≡ n * (most * size) + most * size = min_first (n * (most * size) + most * size) moved (omega (arith, less, start, next, e)) in
-    in_bursts most refl (ap (λ (x : ℕ). n * (most * size) + (x - n * (most * size))) whole ∙ back (n * (most * size)) (most * size) ∙ sym next)
+    let whole : min (n * (most * size) + most * size) moved ≡ n * (most * size) + most * size = min_first
+    (n * (most * size) + most * size) moved (omega (arith, less, start, next, e)) in
+    in_bursts most refl (ap (λ (x : ℕ). n * (most * size) + (x - n * (most * size))) whole
+    ∙ back (n * (most * size)) (most * size) ∙ sym next)
   where
     split : (a c : ℕ) → (a + 1) * c ≡ a * c + c
     split a c = omega arith
@@ -147,18 +169,24 @@ more_by (Policy.Burst most) blocks size moved n m h e l =
     back a c = omega arith
 more_by (Policy.NoSave most) blocks size moved n m h e l = from_start most refl refl
 
-pub more_runs : (policy : Policy) (t : Task) → RunsFit policy t → nat_lt (t.runs + 1) (runs_in_all policy t) ≡ true → MoreRuns policy t.runs (step_in policy t.blocks t.size) (run_length policy t)
+pub more_runs : (policy : Policy) (t : Task) → RunsFit policy t → nat_lt (t.runs + 1) (runs_in_all policy t) ≡ true
+    → MoreRuns policy t.runs (step_in policy t.blocks t.size) (run_length policy t)
 more_runs policy t f e =
     let a = in_all policy t (t.runs + 1) e in go t.blocks refl a.0 a.1
   where
-    go : (o : Option ℕ) → t.blocks ≡ o → (t.moved == 0) ≡ false → t.runs + 1 < runs_in policy t.blocks → MoreRuns policy t.runs (step_in policy t.blocks t.size) (run_length policy t)
-    go None z some l = let one = subst (λ (b : Option ℕ). t.runs + 1 < runs_in policy b) z l in absurd omega (arith, one)
-    go (Some blocks) z some l =
-        subst (λ (b : Option ℕ). MoreRuns policy t.runs (step_in policy b t.size) ((run_in policy b t.size t.moved t.runs).end - (run_in policy b t.size t.moved t.runs).start)) (sym z)
-        (more_by policy blocks t.size t.moved t.runs f.most (some_count t.moved some) (f.moved blocks z some) (subst (λ (b : Option ℕ). t.runs + 1 < runs_in policy b) z l))
+    go : (o : Option ℕ) → t.blocks ≡ o → (t.moved == 0) ≡ false → t.runs + 1 < runs_in policy t.blocks
+        → MoreRuns policy t.runs (step_in policy t.blocks t.size) (run_length policy t)
+    go None z some l =
+        let one = subst (λ (b : Option ℕ). t.runs + 1 < runs_in policy b) z l in
+        absurd omega (arith, one)
+    go (Some blocks) z some l = subst (λ (b : Option ℕ). MoreRuns policy t.runs (step_in policy b t.size)
+        ((run_in policy b t.size t.moved t.runs).end - (run_in policy b t.size t.moved t.runs).start)) (sym z)
+        (more_by policy blocks t.size t.moved t.runs f.most (some_count t.moved some) (f.moved blocks z some)
+        (subst (λ (b : Option ℕ). t.runs + 1 < runs_in policy b) z l))
 
 -- Where more runs follow the data are cut.
-pub more_cut : (policy : Policy) (t : Task) → nat_lt (t.runs + 1) (runs_in_all policy t) ≡ true → policy_by policy t.blocks ≡ policy
+pub more_cut : (policy : Policy) (t : Task) → nat_lt (t.runs + 1) (runs_in_all policy t) ≡ true
+    → policy_by policy t.blocks ≡ policy
 more_cut policy t e = go t.blocks refl (in_all policy t (t.runs + 1) e).1
   where
     go : (o : Option ℕ) → t.blocks ≡ o → t.runs + 1 < runs_in policy t.blocks → policy_by policy t.blocks ≡ policy

@@ -17,7 +17,8 @@ use proofs.{Runs.Facts.{task_here}, Writes.{Rows.{WriteRow, Around, around}, Wri
 with_rest : (a b : ℕ) → b ≤ a + (b - a)
 with_rest a b = omega arith
 
-all_taken : (blocks most q n : ℕ) → 1 ≤ most → blocks + (most - 1) < q * most + most → q ≤ n + 1 → blocks ≤ (n + 1) * most
+all_taken : (blocks most q n : ℕ) → 1 ≤ most → blocks + (most - 1) < q * most + most → q ≤ n + 1
+    → blocks ≤ (n + 1) * most
 all_taken blocks most q n h l k =
     let grows : q * most ≤ (n + 1) * most = times q (n + 1) most k in
     omega (arith, l, grows, h)
@@ -36,10 +37,12 @@ min_all b c h = grind arith
 
 -- ---- the run that ends with all
 
-part_all : (most blocks size moved n : ℕ) → moved ≡ blocks * size → (if nat_le blocks most then 1 else 2) ≤ n + 1 → (if n == 0 && nat_lt (most * size) moved then most * size else moved) ≡ moved
+part_all : (most blocks size moved n : ℕ) → moved ≡ blocks * size → (if nat_le blocks most then 1 else 2) ≤ n + 1
+    → (if n == 0 && nat_lt (most * size) moved then most * size else moved) ≡ moved
 part_all most blocks size moved n e l = go (n == 0) refl (nat_lt (most * size) moved) refl
   where
-    go : (p : Bool) → (n == 0) ≡ p → (q : Bool) → nat_lt (most * size) moved ≡ q → (if p && q then most * size else moved) ≡ moved
+    go : (p : Bool) → (n == 0) ≡ p → (q : Bool) → nat_lt (most * size) moved ≡ q
+        → (if p && q then most * size else moved) ≡ moved
     go false ep q eq = refl
     go true ep false eq = refl
     go true ep true eq =
@@ -53,11 +56,13 @@ part_all most blocks size moved n e l = go (n == 0) refl (nat_lt (most * size) m
         let none = zero_of n ep in
         absurd omega (arith, two, none))
 
-ends_all : (policy : Policy) (blocks size moved n : ℕ) → RunsBlocks policy → moved ≡ blocks * size → runs_in policy (Some blocks) ≤ n + 1 → (run_in policy (Some blocks) size moved n).end ≡ moved
+ends_all : (policy : Policy) (blocks size moved n : ℕ) → RunsBlocks policy → moved ≡ blocks * size
+    → runs_in policy (Some blocks) ≤ n + 1 → (run_in policy (Some blocks) size moved n).end ≡ moved
 ends_all Policy.Never blocks size moved n h e l = refl
 ends_all Policy.Command blocks size moved n h e l = refl
 ends_all (Policy.Burst most) blocks size moved n h e l =
-    let taken : blocks ≤ (n + 1) * most = all_taken blocks most ((blocks + (most - 1)) / most) n h (lt-div-mul-add h) l in
+    let taken : blocks ≤ (n + 1) * most = all_taken blocks most
+    ((blocks + (most - 1)) / most) n h (lt-div-mul-add h) l in
     let up : blocks * size ≤ (n + 1) * most * size = times_up blocks ((n + 1) * most) size taken in
     let back = mul_assoc (n + 1) most size in
     let next = one_more n (most * size) in
@@ -65,15 +70,22 @@ ends_all (Policy.Burst most) blocks size moved n h e l =
 ends_all (Policy.NoSave most) blocks size moved n h e l = part_all most blocks size moved n e l
 
 -- No run follows it.
-pub last_run : (policy : Policy) (t : Task) → MovesBlocks policy t → (t.moved == 0) ≡ false → nat_lt (t.runs + 1) (runs_in_all policy t) ≡ false → t.moved ≤ (run_at policy t t.runs).start + run_length policy t
+pub last_run : (policy : Policy) (t : Task) → MovesBlocks policy t
+    → (t.moved == 0) ≡ false → nat_lt (t.runs + 1) (runs_in_all policy t) ≡ false
+    → t.moved ≤ (run_at policy t t.runs).start + run_length policy t
 last_run policy t f some e =
-    let all : runs_in policy (Some f.blocks) ≤ t.runs + 1 = subst (λ (b : Option ℕ). runs_in policy b ≤ t.runs + 1) f.blocks_are (ltb-false (t.runs + 1) (runs_in policy t.blocks) ((λ i. nat_lt (t.runs + 1) (if sym some i then 0 else runs_in policy t.blocks)) ∙ e)) in
-    let end : (run_at policy t t.runs).end ≡ t.moved = ap (λ (b : Option ℕ). (run_in policy b t.size t.moved t.runs).end) f.blocks_are ∙ ends_all policy f.blocks t.size t.moved t.runs f.runs f.moved all in
+    let all : runs_in policy (Some f.blocks) ≤ t.runs + 1 = subst
+    (λ (b : Option ℕ). runs_in policy b ≤ t.runs + 1) f.blocks_are (ltb-false (t.runs + 1) (runs_in policy t.blocks)
+    ((λ i. nat_lt (t.runs + 1) (if sym some i then 0 else runs_in policy t.blocks)) ∙ e)) in
+    let end : (run_at policy t t.runs).end ≡ t.moved =
+    ap (λ (b : Option ℕ). (run_in policy b t.size t.moved t.runs).end) f.blocks_are
+    ∙ ends_all policy f.blocks t.size t.moved t.runs f.runs f.moved all in
     let rest = with_rest (run_at policy t t.runs).start (run_at policy t t.runs).end in
     subst (λ (x : ℕ). x ≤ (run_at policy t t.runs).start + run_length policy t) end rest
 
 -- Where a run begins does not hang on how much is moved.
-pub start_same : (policy : Policy) (blocks : Option ℕ) (size moved other n : ℕ) → (run_in policy blocks size moved n).start ≡ (run_in policy blocks size other n).start
+pub start_same : (policy : Policy) (blocks : Option ℕ) (size moved other n : ℕ)
+    → (run_in policy blocks size moved n).start ≡ (run_in policy blocks size other n).start
 start_same policy None size moved other n = refl
 start_same Policy.Never (Some blocks) size moved other n = refl
 start_same _ (Some blocks) size moved other n = refl
@@ -81,14 +93,23 @@ start_same _ (Some blocks) size moved other n = refl
 -- ---- As DATA OUT is left for STATUS with no byte struck, the process that is served has sent all that it sends.
 
 -- STATUS follows the last run alone.
-pub last_to : (policy : Policy) (t : Task) → (after_run policy t).to ≡ Some Phase.Status → nat_lt (t.runs + 1) (runs_in_all policy t) ≡ false
+pub last_to : (policy : Policy) (t : Task) → (after_run policy t).to ≡ Some Phase.Status
+    → nat_lt (t.runs + 1) (runs_in_all policy t) ≡ false
 last_to policy t e = go (nat_lt (t.runs + 1) (runs_in_all policy t)) refl (ap is_status_next e)
   where
-    go : (q : Bool) → nat_lt (t.runs + 1) (runs_in_all policy t) ≡ q → is_status_next (if q then disconnection (disconnect_messages policy) else phase_entry Phase.Status).to ≡ true → nat_lt (t.runs + 1) (runs_in_all policy t) ≡ false
+    go : (q : Bool) → nat_lt (t.runs + 1) (runs_in_all policy t) ≡ q
+        → is_status_next (if q then disconnection (disconnect_messages policy) else phase_entry Phase.Status).to ≡ true
+        → nat_lt (t.runs + 1) (runs_in_all policy t) ≡ false
     go true f z = wrong' z
     go false f z = f
 
-pub whole_run : (s : ScenarioValue) (p : List Row) (row : Row) (n : Connection) (c : Change) (q : Process) → WriteRow s p row → GoesOn s (run_state s p) row n c → changes_phase c ≡ true → (run_state s p).exchange.begun ≡ true → phase_of (bus_of (run_state s p)) ≡ Phase.DataOut → (run_state s p).exchange.plan.struck ≡ false → (leaving s (run_state s p) n.target).to ≡ Some Phase.Status → process_served s (run_state s p) ≡ Some q → q.target ≡ n.target → MovesBlocks (policy_of (target_def_of s q.target)) (task_here s (run_state s p) q) → HasSentAll s (run_state s p) (writers s p) q
+pub whole_run : (s : ScenarioValue) (p : List Row) (row : Row) (n : Connection) (c : Change) (q : Process)
+    → WriteRow s p row → GoesOn s (run_state s p) row n c → changes_phase c ≡ true
+    → (run_state s p).exchange.begun ≡ true → phase_of (bus_of (run_state s p)) ≡ Phase.DataOut
+    → (run_state s p).exchange.plan.struck ≡ false → (leaving s (run_state s p) n.target).to ≡ Some Phase.Status
+    → process_served s (run_state s p) ≡ Some q → q.target ≡ n.target
+    → MovesBlocks (policy_of (target_def_of s q.target)) (task_here s (run_state s p) q)
+    → HasSentAll s (run_state s p) (writers s p) q
 whole_run s p row n c q w g ep b phase unstruck to served target blocks = record {
   writes = writes;
   writer = w.present n q ar.before ar.calm b phase served answered.some;
@@ -114,12 +135,14 @@ whole_run s p row n c q w g ep b phase unstruck to served target blocks = record
     writes = writes_there s k q (w.was.planned n ar.before ar.calm) b served phase
 
     answered : IsAnsweredWhole s k q t
-    answered = w.asked.answered n q t ar.before ar.calm ar.off ar.after (sym w.was.plain.begun ∙ b) (ar.turned ∙ ep) phase unstruck served task
+    answered = w.asked.answered n q t ar.before ar.calm ar.off ar.after (sym w.was.plain.begun ∙ b)
+        (ar.turned ∙ ep) phase unstruck served task
 
     left : leaving s k n.target ≡ after_run policy t
-    left =
-        left_by s k n b ∙ ap (phase_leaving (serving_of s k n.target) (bus_of k).atn) phase
-        ∙ (λ i. with_task (task i) (λ x. if unstruck i then recovery (target_def_of s n.target) x (pointer_restoration Next.GoOn) (phase_entry Phase.Status) else after_run (policy_of (target_def_of s n.target)) x))
+    left = left_by s k n b ∙ ap (phase_leaving (serving_of s k n.target) (bus_of k).atn) phase
+        ∙ (λ i. with_task (task i) (λ x. if unstruck i
+        then recovery (target_def_of s n.target) x (pointer_restoration Next.GoOn) (phase_entry Phase.Status)
+        else after_run (policy_of (target_def_of s n.target)) x))
         ∙ ap (λ (x : ℕ). after_run (policy_of (target_def_of s x)) t) (sym target)
 
     last : nat_lt (t.runs + 1) (runs_in_all policy t) ≡ false
@@ -129,25 +152,32 @@ whole_run s p row n c q w g ep b phase unstruck to served target blocks = record
     all = moved_all q (reply_now (array_of s k) q) writes answered.moves
 
     start : (run_at policy t t.runs).start ≡ start_of_run s q (progress_in k.progress q.id).runs
-    start =
-        ap (λ (size : ℕ). (run_in policy (blocks_in (range_in (command_of q.cdb))) size t.moved t.runs).start) (eqb-true (size_of (unit_state_at (array_of s k).units q.target q.unit)) (block_size (unit_of s q.target q.unit)) (w.asked.sizes q served))
-        ∙ start_same policy (blocks_in (range_in (command_of q.cdb))) (block_size (unit_of s q.target q.unit)) t.moved 0 t.runs
+    start = ap (λ (size : ℕ). (run_in policy (blocks_in (range_in (command_of q.cdb))) size t.moved t.runs).start)
+        (eqb-true (size_of (unit_state_at (array_of s k).units q.target q.unit))
+        (block_size (unit_of s q.target q.unit)) (w.asked.sizes q served))
+        ∙ start_same policy (blocks_in (range_in (command_of q.cdb)))
+        (block_size (unit_of s q.target q.unit)) t.moved 0 t.runs
 
     come : bytes_come s k q ≡ start_of_run s q (progress_in k.progress q.id).runs + k.handshakes.answers
-    come = λ i. start_of_run s q (progress_in k.progress q.id).runs + (if is_data_out (phase i) then k.handshakes.answers else 0)
+    come = λ i. start_of_run s q (progress_in k.progress q.id).runs
+        + (if is_data_out (phase i) then k.handshakes.answers else 0)
 
     joined : (a x m r sent whole : ℕ) → m ≤ a + r → r ≤ x → m ≡ sent → whole ≡ a + x → sent ≤ whole
     joined a x m r sent whole h l e f = omega (arith, h, l, e, f)
 
     came : length q.sent ≤ bytes_come s k q
-    came =
-        joined (start_of_run s q (progress_in k.progress q.id).runs) k.handshakes.answers t.moved (run_length policy t) (length q.sent) (bytes_come s k q)
+    came = joined (start_of_run s q (progress_in k.progress q.id).runs) k.handshakes.answers t.moved
+        (run_length policy t) (length q.sent) (bytes_come s k q)
         (subst (λ (x : ℕ). t.moved ≤ x + run_length policy t) start (last_run policy t blocks answered.moves last))
         (leb-true (run_length policy t) k.handshakes.answers answered.whole) all come
 
 -- As a test.
-pub sent_all : (s : ScenarioValue) (k : RunState) (all : List Writer) (q : Process) → HasSentAll s k all q → (is_writing q && (is_writer (writer_of all q.target q.unit) q.id && nat_le (length q.sent) (bytes_come s k q))) ≡ true
-sent_all s k all q h = (λ i. h.writes i && (is_writer (h.writer i) q.id && nat_le (length q.sent) (bytes_come s k q))) ∙ (λ i. self_id q.id i && nat_le (length q.sent) (bytes_come s k q)) ∙ le_holds (length q.sent) (bytes_come s k q) h.came
+pub sent_all : (s : ScenarioValue) (k : RunState) (all : List Writer) (q : Process) → HasSentAll s k all q
+    → (is_writing q && (is_writer (writer_of all q.target q.unit) q.id && nat_le (length q.sent) (bytes_come s k q)))
+    ≡ true
+sent_all s k all q h = (λ i. h.writes i && (is_writer (h.writer i) q.id && nat_le (length q.sent) (bytes_come s k q)))
+    ∙ (λ i. self_id q.id i && nat_le (length q.sent) (bytes_come s k q))
+    ∙ le_holds (length q.sent) (bytes_come s k q) h.came
   where
     le_holds : (a b : ℕ) → a ≤ b → nat_le a b ≡ true
     le_holds a b e = grind (arith, nat_tests)

@@ -22,44 +22,56 @@ OnAreas q all = (id : ProcId) → q id (carried_of all id).status.bytes
 abbrev pub OnUndo : (ProcId → List ℕ → Type 0) → Option Link → Type 0
 OnUndo q link = (l : Link) (u : CarriedBytes) → link ≡ Some l → l.undo ≡ Some u → q u.id u.status.bytes
 
-puts : (q : ProcId → List ℕ → Type 0) (all : List CarriedBytes) (c : CarriedBytes) → OnAreas q all → q c.id c.status.bytes → OnAreas q (with_carried all c)
-puts q all c h w id = subst (λ (x : CarriedBytes). q id x.status.bytes) (sym (carried_with all c id)) (go (same_id c.id id) refl)
+puts : (q : ProcId → List ℕ → Type 0) (all : List CarriedBytes) (c : CarriedBytes) → OnAreas q all
+    → q c.id c.status.bytes → OnAreas q (with_carried all c)
+puts q all c h w id =
+    subst (λ (x : CarriedBytes). q id x.status.bytes) (sym (carried_with all c id)) (go (same_id c.id id) refl)
   where
     go : (r : Bool) → same_id c.id id ≡ r → q id (if r then c else carried_of all id).status.bytes
     go true e = subst (λ (x : ProcId). q x c.status.bytes) (id_is c.id id e) w
     go false e = h id
 
 -- What is carried of a process takes the place of what was.
-own : (q : ProcId → List ℕ → Type 0) (all : List CarriedBytes) (p : ProcId) (c : CarriedBytes) → c.id ≡ (carried_of all p).id → OnAreas q all → q p c.status.bytes → OnAreas q (with_carried all c)
+own : (q : ProcId → List ℕ → Type 0) (all : List CarriedBytes) (p : ProcId) (c : CarriedBytes)
+    → c.id ≡ (carried_of all p).id → OnAreas q all → q p c.status.bytes → OnAreas q (with_carried all c)
 own q all p c same h w = puts q all c h (subst (λ (x : ProcId). q x c.status.bytes) (sym (same ∙ carried_id all p)) w)
 
-as_before : (q : ProcId → List ℕ → Type 0) (before after : List CarriedBytes) → after ≡ before → OnAreas q before → OnAreas q after
+as_before : (q : ProcId → List ℕ → Type 0) (before after : List CarriedBytes) → after ≡ before → OnAreas q before
+    → OnAreas q after
 as_before q before after e h id = subst (λ (x : List CarriedBytes). q id (carried_of x id).status.bytes) (sym e) (h id)
 
 -- ---- events
 
-event_on : (q : ProcId → List ℕ → Type 0) (s : ScenarioValue) (b : Story) (e : Event) → OnAreas q b.carried → OnAreas q (story_after_event s b e).carried
+event_on : (q : ProcId → List ℕ → Type 0) (s : ScenarioValue) (b : Story) (e : Event) → OnAreas q b.carried
+    → OnAreas q (story_after_event s b e).carried
 event_on q s b (Event.Accept p) h = h
 event_on q s b (Event.Refuse p) h = own q b.carried p (marked_refused (carried_of b.carried p)) refl h (h p)
 event_on q s b (Event.Run p) h = own q b.carried p (marked_shown (carried_of b.carried p)) refl h (h p)
 event_on q s b (Event.Fail p code) h = own q b.carried p (marked_shown (carried_of b.carried p)) refl h (h p)
-event_on q s b (Event.End p status) h = as_before q b.carried (story_after_event s b (Event.End p status)).carried (check_carried _ p status) h
+event_on q s b (Event.End p status) h =
+    as_before q b.carried (story_after_event s b (Event.End p status)).carried (check_carried _ p status) h
 event_on q s b (Event.Lost p) h = h
-event_on q s b (Event.Aborted i t u what) h = as_before q b.carried (story_after_event s b (Event.Aborted i t u what)).carried (ends_carried (is_aborted i t u what) (is_sense_stopped i t u what) by_abort 1 s.commands b) h
-event_on q s b (Event.Reset dev) h = as_before q b.carried (story_after_event s b (Event.Reset dev)).carried (ends_carried (λ c. true) (λ c. true) by_reset 1 s.commands b) h
+event_on q s b (Event.Aborted i t u what) h = as_before q b.carried
+    (story_after_event s b (Event.Aborted i t u what)).carried
+    (ends_carried (is_aborted i t u what) (is_sense_stopped i t u what) by_abort 1 s.commands b) h
+event_on q s b (Event.Reset dev) h = as_before q b.carried (story_after_event s b (Event.Reset dev)).carried
+    (ends_carried (λ c. true) (λ c. true) by_reset 1 s.commands b) h
 
-pub events_on : (q : ProcId → List ℕ → Type 0) (s : ScenarioValue) (b : Story) (shown : List Event) → OnAreas q b.carried → OnAreas q (story_after_events s b shown).carried
+pub events_on : (q : ProcId → List ℕ → Type 0) (s : ScenarioValue) (b : Story) (shown : List Event)
+    → OnAreas q b.carried → OnAreas q (story_after_events s b shown).carried
 events_on q s b [] h = h
 events_on q s b (e ∷ shown) h = event_on q s (story_after_events s b shown) e (events_on q s b shown h)
 
 -- ---- a connection begins
 
-restored : (q : ProcId → List ℕ → Type 0) (b : Story) (item : Option Item) → OnAreas q b.carried → OnAreas q (story_with_restored b item).carried
+restored : (q : ProcId → List ℕ → Type 0) (b : Story) (item : Option Item) → OnAreas q b.carried
+    → OnAreas q (story_with_restored b item).carried
 restored q b None h = h
 restored q b (Some (process p)) h = own q b.carried p (with_restored_pointers (carried_of b.carried p)) refl h (h p)
 restored q b (Some (abort k)) h = h
 
-begun_on : (q : ProcId → List ℕ → Type 0) (b : Story) (n : Connection) → OnAreas q b.carried → OnAreas q (story_after_connection b n).carried
+begun_on : (q : ProcId → List ℕ → Type 0) (b : Story) (n : Connection) → OnAreas q b.carried
+    → OnAreas q (story_after_connection b n).carried
 begun_on q b n h = go n.reselected (aim_of b.aims n.initiator)
   where
     linked : Story
@@ -69,25 +81,33 @@ begun_on q b n h = go n.reselected (aim_of b.aims n.initiator)
     sent None = refl
     sent (Some item) = refl
 
-    go : (r : Bool) (item : Option Item) → OnAreas q (if r then record b { link = Some (link_of n None) } else story_with_restored (story_with_sent linked item) item).carried
+    go : (r : Bool) (item : Option Item) → OnAreas q (if r then record b { link = Some (link_of n None) }
+        else story_with_restored (story_with_sent linked item) item).carried
     go true item = h
-    go false item = restored q (story_with_sent linked item) item (as_before q b.carried (story_with_sent linked item).carried (sent item) h)
+    go false item = restored q (story_with_sent linked item) item
+        (as_before q b.carried (story_with_sent linked item).carried (sent item) h)
 
 -- ---- in a connection
 
-message_on : (q : ProcId → List ℕ → Type 0) (s : ScenarioValue) (b : Story) (l : Link) (m : MsgIn) → OnAreas q b.carried → OnAreas q (story_after_message s b l m).carried
+message_on : (q : ProcId → List ℕ → Type 0) (s : ScenarioValue) (b : Story) (l : Link) (m : MsgIn) → OnAreas q b.carried
+    → OnAreas q (story_after_message s b l m).carried
 message_on q s b l m h = go l.item
   where
-    same : (c : CarriedBytes) (p : ProcId) → q p c.status.bytes → (x : MsgIn) → ((carried_after_message c x).id ≡ c.id) × q p (carried_after_message c x).status.bytes
+    same : (c : CarriedBytes) (p : ProcId) → q p c.status.bytes
+        → (x : MsgIn) → ((carried_after_message c x).id ≡ c.id) × q p (carried_after_message c x).status.bytes
     same c p w MsgIn.SavePointer = (refl, w)
     same c p w _ = (refl, w)
 
-    go : (item : Option Item) → OnAreas q (story_with_carried (record b { link = Some l }) (carried_after_message_if (carried_if b item) m)).carried
+    go : (item : Option Item) → OnAreas q
+        (story_with_carried (record b { link = Some l }) (carried_after_message_if (carried_if b item) m)).carried
     go None = h
     go (Some (abort k)) = h
-    go (Some (process p)) = let w = same (carried_of b.carried p) p (h p) m in own q b.carried p (carried_after_message (carried_of b.carried p) m) w.0 h w.1
+    go (Some (process p)) =
+        let w = same (carried_of b.carried p) p (h p) m in
+        own q b.carried p (carried_after_message (carried_of b.carried p) m) w.0 h w.1
 
-heard_on : (q : ProcId → List ℕ → Type 0) (s : ScenarioValue) (b : Story) (l : Link) (m : MsgIn) → OnAreas q b.carried → OnAreas q (story_after_in s b l (Some m)).carried
+heard_on : (q : ProcId → List ℕ → Type 0) (s : ScenarioValue) (b : Story) (l : Link) (m : MsgIn) → OnAreas q b.carried
+    → OnAreas q (story_after_in s b l (Some m)).carried
 heard_on q s b l m h = go (is_none l.item)
   where
     after : Link
@@ -96,88 +116,124 @@ heard_on q s b l m h = go (is_none l.item)
     next : Link
     next = record after { last = last_in m; before = l.last; undo = carried_if b l.item }
 
-    go : (r : Bool) → OnAreas q (story_after_message s (if r then story_with_restored b after.item else b) next m).carried
+    go : (r : Bool)
+        → OnAreas q (story_after_message s (if r then story_with_restored b after.item else b) next m).carried
     go true = message_on q s (story_with_restored b after.item) next m (restored q b after.item h)
     go false = message_on q s b next m h
 
 byte_on : (q : ProcId → List ℕ → Type 0) (b : Story) (l : Link) (d : RowReading) → OnAreas q b.carried
-    → ((p : ProcId) → l.item ≡ Some (process p) → is_status_phase d.change.before ≡ true → q p (area_with (carried_of b.carried p).status (d.change.after.data_bits % 256)).bytes) → OnAreas q (story_after_byte b l d).carried
+    → ((p : ProcId) → l.item ≡ Some (process p) → is_status_phase d.change.before ≡ true
+    → q p (area_with (carried_of b.carried p).status (d.change.after.data_bits % 256)).bytes)
+    → OnAreas q (story_after_byte b l d).carried
 byte_on q b l d h takes = go d.change.before.msg l.item refl
   where
     byte : ℕ
     byte = d.change.after.data_bits % 256
 
-    of : (p : ProcId) (c : CarriedBytes) → q p c.status.bytes → (is_status_phase d.change.before ≡ true → q p (area_with c.status byte).bytes) → ((carried_after_byte c d.change.before byte).id ≡ c.id) × q p (carried_after_byte c d.change.before byte).status.bytes
+    of : (p : ProcId) (c : CarriedBytes) → q p c.status.bytes
+        → (is_status_phase d.change.before ≡ true → q p (area_with c.status byte).bytes)
+        → ((carried_after_byte c d.change.before byte).id ≡ c.id)
+        × q p (carried_after_byte c d.change.before byte).status.bytes
     of p c w f = by (is_command d.change.before) (is_data d.change.before) (is_status_phase d.change.before) refl
       where
         by : (x y z : Bool) → is_status_phase d.change.before ≡ z
-            → ((if x then record c { command = area_with c.command byte; block = c.block ++ byte ∷ [] } else if y then record c { moved = area_with c.moved byte } else if z then record c { status = area_with c.status byte } else c).id ≡ c.id)
-            × q p (if x then record c { command = area_with c.command byte; block = c.block ++ byte ∷ [] } else if y then record c { moved = area_with c.moved byte } else if z then record c { status = area_with c.status byte } else c).status.bytes
+            → ((if x then record c { command = area_with c.command byte; block = c.block ++ byte ∷ [] }
+            else if y then record c { moved = area_with c.moved byte }
+            else if z then record c { status = area_with c.status byte } else c).id ≡ c.id)
+            × q p (if x then record c { command = area_with c.command byte; block = c.block ++ byte ∷ [] }
+            else if y then record c { moved = area_with c.moved byte }
+            else if z then record c { status = area_with c.status byte } else c).status.bytes
         by true y z e = (refl, w)
         by false true z e = (refl, w)
         by false false true e = (refl, f e)
         by false false false e = (refl, w)
 
-    go : (r : Bool) (item : Option Item) → l.item ≡ item → OnAreas q (if r then b else story_with_carried b (carried_after_byte_if (carried_if b item) d)).carried
+    go : (r : Bool) (item : Option Item) → l.item ≡ item
+        → OnAreas q (if r then b else story_with_carried b (carried_after_byte_if (carried_if b item) d)).carried
     go true item e = h
     go false None e = h
     go false (Some (abort k)) e = h
-    go false (Some (process p)) e = let w = of p (carried_of b.carried p) (h p) (takes p e) in own q b.carried p (carried_after_byte (carried_of b.carried p) d.change.before byte) w.0 h w.1
+    go false (Some (process p)) e =
+        let w = of p (carried_of b.carried p) (h p) (takes p e) in
+        own q b.carried p (carried_after_byte (carried_of b.carried p) d.change.before byte) w.0 h w.1
 
-fault_on : (q : ProcId → List ℕ → Type 0) (b : Story) (l : Link) (kind : Kind) → OnAreas q b.carried → OnAreas q (story_after_fault b l kind).carried
+fault_on : (q : ProcId → List ℕ → Type 0) (b : Story) (l : Link) (kind : Kind) → OnAreas q b.carried
+    → OnAreas q (story_after_fault b l kind).carried
 fault_on q b l (Drives lines) h = h
 fault_on q b l (Fault bit) h = go l.item b.bus_state.crossed
   where
-    of : (p : ProcId) (c : CarriedBytes) (x : LineSet) → q p c.status.bytes → ((carried_after_fault c x).id ≡ c.id) × q p (carried_after_fault c x).status.bytes
+    of : (p : ProcId) (c : CarriedBytes) (x : LineSet) → q p c.status.bytes
+        → ((carried_after_fault c x).id ≡ c.id) × q p (carried_after_fault c x).status.bytes
     of p c x w = by (is_command x) (is_data x)
       where
         code : Option ℕ
         code = Some (if x.io then INITIATOR_DETECTED_ERROR else PARITY_ERROR)
 
-        by : (y z : Bool) → ((if y then record c { struck = true; failure = Some PARITY_ERROR } else if z then record c { failure = code } else c).id ≡ c.id)
-            × q p (if y then record c { struck = true; failure = Some PARITY_ERROR } else if z then record c { failure = code } else c).status.bytes
+        by : (y z : Bool) → ((if y then record c { struck = true; failure = Some PARITY_ERROR }
+            else if z then record c { failure = code } else c).id ≡ c.id)
+            × q p (if y then record c { struck = true; failure = Some PARITY_ERROR }
+            else if z then record c { failure = code } else c).status.bytes
         by true z = (refl, w)
         by false true = (refl, w)
         by false false = (refl, w)
 
-    go : (item : Option Item) (c : Option Change) → OnAreas q (story_with_carried b (carried_after_fault_if (carried_if b item) c)).carried
+    go : (item : Option Item) (c : Option Change)
+        → OnAreas q (story_with_carried b (carried_after_fault_if (carried_if b item) c)).carried
     go None c = h
     go (Some (abort k)) c = h
     go (Some (process p)) None = own q b.carried p (carried_of b.carried p) refl h (h p)
-    go (Some (process p)) (Some c) = let w = of p (carried_of b.carried p) c.before (h p) in own q b.carried p (carried_after_fault (carried_of b.carried p) c.before) w.0 h w.1
+    go (Some (process p)) (Some c) =
+        let w = of p (carried_of b.carried p) c.before (h p) in
+        own q b.carried p (carried_after_fault (carried_of b.carried p) c.before) w.0 h w.1
 
-out_on : (q : ProcId → List ℕ → Type 0) (b : Story) (l : Link) (m : MsgOut) → OnAreas q b.carried → (is_parity_error m ≡ true → (u : CarriedBytes) → l.undo ≡ Some u → q u.id u.status.bytes) → OnAreas q (story_after_out b l (Some m)).carried
+out_on : (q : ProcId → List ℕ → Type 0) (b : Story) (l : Link) (m : MsgOut) → OnAreas q b.carried
+    → (is_parity_error m ≡ true → (u : CarriedBytes) → l.undo ≡ Some u → q u.id u.status.bytes)
+    → OnAreas q (story_after_out b l (Some m)).carried
 out_on q b l m h f = go (is_parity_error m) refl l.undo refl
   where
-    go : (r : Bool) → is_parity_error m ≡ r → (o : Option CarriedBytes) → l.undo ≡ o → OnAreas q (story_with_carried (record b { link = Some (record l { last = last_out m l }) }) (if r then o else None)).carried
+    go : (r : Bool) → is_parity_error m ≡ r → (o : Option CarriedBytes) → l.undo ≡ o
+        → OnAreas q (story_with_carried (record b { link = Some (record l { last = last_out m l }) })
+        (if r then o else None)).carried
     go false z o e = h
     go true z None e = h
     go true z (Some u) e = puts q b.carried u h (f z u e)
 
 -- ---- a row, but for its events
 
--- What is asked of a row of a connection that stands: of a byte of STATUS, and of what MESSAGE PARITY ERROR brings back.
+-- What is asked of a row of a connection that stands: of a byte of STATUS, and of what MESSAGE PARITY ERROR brings
+-- back.
 pub record Takes (q : ProcId → List ℕ → Type 0) (b : Story) (d : RowReading) (l : Link) : Type 0 where
-  pub status : (p : ProcId) → l.item ≡ Some (process p) → d.crosses ≡ true → is_status_phase d.change.before ≡ true → q p (area_with (carried_of b.carried p).status (d.change.after.data_bits % 256)).bytes
-  pub undoes : (m : MsgOut) (u : CarriedBytes) → d.out ≡ Some m → is_parity_error m ≡ true → l.undo ≡ Some u → q u.id u.status.bytes
+  pub status : (p : ProcId) → l.item ≡ Some (process p) → d.crosses ≡ true → is_status_phase d.change.before ≡ true
+      → q p (area_with (carried_of b.carried p).status (d.change.after.data_bits % 256)).bytes
+  pub undoes : (m : MsgOut) (u : CarriedBytes) → d.out ≡ Some m → is_parity_error m ≡ true → l.undo ≡ Some u
+      → q u.id u.status.bytes
 
-crossing_on : (q : ProcId → List ℕ → Type 0) (s : ScenarioValue) (b : Story) (l : Link) (d : RowReading) (row : Row) → OnAreas q b.carried → Takes q b d l → OnAreas q (story_in_connection s b (Some l) d row).carried
+crossing_on : (q : ProcId → List ℕ → Type 0) (s : ScenarioValue) (b : Story) (l : Link) (d : RowReading) (row : Row)
+    → OnAreas q b.carried → Takes q b d l → OnAreas q (story_in_connection s b (Some l) d row).carried
 crossing_on q s b l d row h t = go d.crosses refl d.out refl d.into
   where
-    go : (r : Bool) → d.crosses ≡ r → (o : Option MsgOut) → d.out ≡ o → (x : Option MsgIn) → OnAreas q (if r then (if is_some o then story_after_out b l o else if is_some x then story_after_in s b l x else story_after_byte b l d) else story_after_fault b l row.kind).carried
+    go : (r : Bool) → d.crosses ≡ r → (o : Option MsgOut) → d.out ≡ o → (x : Option MsgIn)
+        → OnAreas q (if r then (if is_some o then story_after_out b l o else if is_some x then story_after_in s b l x
+        else story_after_byte b l d) else story_after_fault b l row.kind).carried
     go true z (Some m) e x = out_on q b l m h (λ f u g. t.undoes m u e f g)
     go true z None e (Some m) = heard_on q s b l m h
     go true z None e None = byte_on q b l d h (λ p f g. t.status p f z g)
     go false z o e x = fault_on q b l row.kind h
 
-pub change_on : (q : ProcId → List ℕ → Type 0) (s : ScenarioValue) (b : Story) (d : RowReading) (row : Row) → OnAreas q b.carried → ((m n : Connection) (l : Link) → d.change.after.rst ≡ false → b.bus_state.connection ≡ Some m → d.next ≡ Some n → b.link ≡ Some l → Takes q b d l) → OnAreas q (story_by_change s b d row).carried
+pub change_on : (q : ProcId → List ℕ → Type 0) (s : ScenarioValue) (b : Story) (d : RowReading) (row : Row)
+    → OnAreas q b.carried → ((m n : Connection) (l : Link) → d.change.after.rst ≡ false
+    → b.bus_state.connection ≡ Some m → d.next ≡ Some n → b.link ≡ Some l → Takes q b d l)
+    → OnAreas q (story_by_change s b d row).carried
 change_on q s b d row h t = go d.change.after.rst refl b.bus_state.connection refl d.next refl
   where
-    inside : (o : Option Link) → ((l : Link) → o ≡ Some l → Takes q b d l) → OnAreas q (story_in_connection s b o d row).carried
+    inside : (o : Option Link) → ((l : Link) → o ≡ Some l → Takes q b d l)
+        → OnAreas q (story_in_connection s b o d row).carried
     inside None f = h
     inside (Some l) f = crossing_on q s b l d row h (f l refl)
 
-    go : (r : Bool) → d.change.after.rst ≡ r → (x : Option Connection) → b.bus_state.connection ≡ x → (y : Option Connection) → d.next ≡ y → OnAreas q (if r then record b { link = None } else story_on_bus s b x y d row).carried
+    go : (r : Bool) → d.change.after.rst ≡ r → (x : Option Connection) → b.bus_state.connection ≡ x
+        → (y : Option Connection) → d.next ≡ y
+        → OnAreas q (if r then record b { link = None } else story_on_bus s b x y d row).carried
     go true e x ex y ey = h
     go false e None ex None ey = as_before q b.carried (story_on_free_bus s b d row).carried (free_carried s b d row) h
     go false e None ex (Some n) ey = begun_on q b n h
@@ -186,23 +242,28 @@ change_on q s b d row h t = go d.change.after.rst refl b.bus_state.connection re
 
 -- ---- what would be brought back
 
-same_undo : (q : ProcId → List ℕ → Type 0) (before after : Option Link) → after ≡ before → OnUndo q before → OnUndo q after
+same_undo : (q : ProcId → List ℕ → Type 0) (before after : Option Link) → after ≡ before → OnUndo q before
+    → OnUndo q after
 same_undo q before after e h l u f g = h l u (sym e ∙ f) g
 
-one_undo : (q : ProcId → List ℕ → Type 0) (link : Option Link) (x : Link) → link ≡ Some x → ((u : CarriedBytes) → x.undo ≡ Some u → q u.id u.status.bytes) → OnUndo q link
+one_undo : (q : ProcId → List ℕ → Type 0) (link : Option Link) (x : Link) → link ≡ Some x
+    → ((u : CarriedBytes) → x.undo ≡ Some u → q u.id u.status.bytes) → OnUndo q link
 one_undo q link x e h l u f g = h u (ap (λ (y : Link). y.undo) (same_Some x l (sym e ∙ f)) ∙ g)
 
-pub own_undo : (q : ProcId → List ℕ → Type 0) (b : Story) (item : Option Item) → OnAreas q b.carried → (u : CarriedBytes) → carried_if b item ≡ Some u → q u.id u.status.bytes
+pub own_undo : (q : ProcId → List ℕ → Type 0) (b : Story) (item : Option Item) → OnAreas q b.carried
+    → (u : CarriedBytes) → carried_if b item ≡ Some u → q u.id u.status.bytes
 own_undo q b None h u e = none_some u e
 own_undo q b (Some (abort k)) h u e = none_some u e
 own_undo q b (Some (process p)) h u e =
     subst (λ (x : CarriedBytes). q x.id x.status.bytes) (same_Some (carried_of b.carried p) u e)
     (subst (λ (x : ProcId). q x (carried_of b.carried p).status.bytes) (sym (carried_id b.carried p)) (h p))
 
-inside_undo : (q : ProcId → List ℕ → Type 0) (s : ScenarioValue) (b : Story) (l : Link) (d : RowReading) (row : Row) → b.link ≡ Some l → OnAreas q b.carried → OnUndo q b.link → OnUndo q (story_in_connection s b (Some l) d row).link
+inside_undo : (q : ProcId → List ℕ → Type 0) (s : ScenarioValue) (b : Story) (l : Link) (d : RowReading) (row : Row)
+    → b.link ≡ Some l → OnAreas q b.carried → OnUndo q b.link → OnUndo q (story_in_connection s b (Some l) d row).link
 inside_undo q s b l d row el h u = go d.crosses d.out d.into
   where
-    byte : (r : Bool) → (if r then b else story_with_carried b (carried_after_byte_if (carried_if b l.item) d)).link ≡ b.link
+    byte : (r : Bool)
+        → (if r then b else story_with_carried b (carried_after_byte_if (carried_if b l.item) d)).link ≡ b.link
     byte true = refl
     byte false = carried_link b (carried_after_byte_if (carried_if b l.item) d)
 
@@ -210,9 +271,17 @@ inside_undo q s b l d row el h u = go d.crosses d.out d.into
     faulted (Drives lines) = refl
     faulted (Fault bit) = carried_link b (carried_after_fault_if (carried_if b l.item) b.bus_state.crossed)
 
-    go : (r : Bool) (o : Option MsgOut) (x : Option MsgIn) → OnUndo q (if r then (if is_some o then story_after_out b l o else if is_some x then story_after_in s b l x else story_after_byte b l d) else story_after_fault b l row.kind).link
-    go true (Some m) x = one_undo q _ (record l { last = last_out m l }) (carried_link (record b { link = Some (record l { last = last_out m l }) }) (if is_parity_error m then l.undo else None)) (λ c e. u l c el e)
-    go true None (Some m) = one_undo q _ (record (link_after_name b.sent s.commands l m) { last = last_in m; before = l.last; undo = carried_if b l.item }) (carried_link _ _) (λ c e. own_undo q b l.item h c e)
+    go : (r : Bool) (o : Option MsgOut) (x : Option MsgIn)
+        → OnUndo q (if r then (if is_some o then story_after_out b l o else if is_some x then story_after_in s b l x
+        else story_after_byte b l d) else story_after_fault b l row.kind).link
+    go true (Some m) x = one_undo q _ (record l { last = last_out m l }) (carried_link (record b {
+      link = Some (record l { last = last_out m l });
+    }) (if is_parity_error m then l.undo else None)) (λ c e. u l c el e)
+    go true None (Some m) = one_undo q _ (record (link_after_name b.sent s.commands l m) {
+      last = last_in m;
+      before = l.last;
+      undo = carried_if b l.item;
+    }) (carried_link _ _) (λ c e. own_undo q b l.item h c e)
     go true None None = same_undo q b.link _ (byte d.change.before.msg) u
     go false o x = same_undo q b.link _ (faulted row.kind) u
 
@@ -231,19 +300,26 @@ begun_link q b n = go n.reselected (aim_of b.aims n.initiator)
     kept x (Some (process p)) = refl
     kept x (Some (abort k)) = refl
 
-    go : (r : Bool) (item : Option Item) → OnUndo q (if r then record b { link = Some (link_of n None) } else story_with_restored (story_with_sent linked item) item).link
+    go : (r : Bool) (item : Option Item) → OnUndo q (if r then record b { link = Some (link_of n None) }
+        else story_with_restored (story_with_sent linked item) item).link
     go true item = one_undo q _ (link_of n None) refl (λ u e. none_some u e)
-    go false item = one_undo q _ (link_of n (aim_of b.aims n.initiator)) (kept (story_with_sent linked item) item ∙ sent item) (λ u e. none_some u e)
+    go false item = one_undo q _ (link_of n (aim_of b.aims n.initiator))
+        (kept (story_with_sent linked item) item ∙ sent item) (λ u e. none_some u e)
 
 -- Where a connection stands after the row.
-pub change_undo : (q : ProcId → List ℕ → Type 0) (s : ScenarioValue) (b : Story) (d : RowReading) (row : Row) (n : Connection) → d.next ≡ Some n → OnAreas q b.carried → OnUndo q b.link → OnUndo q (story_by_change s b d row).link
-change_undo q s b d row n e h u = subst (λ (y : Option Connection). OnUndo q (if d.change.after.rst then record b { link = None } else story_on_bus s b b.bus_state.connection y d row).link) (sym e) (go d.change.after.rst b.bus_state.connection)
+pub change_undo :
+    (q : ProcId → List ℕ → Type 0) (s : ScenarioValue) (b : Story) (d : RowReading) (row : Row) (n : Connection)
+    → d.next ≡ Some n → OnAreas q b.carried → OnUndo q b.link → OnUndo q (story_by_change s b d row).link
+change_undo q s b d row n e h u = subst (λ (y : Option Connection). OnUndo q
+    (if d.change.after.rst then record b { link = None } else story_on_bus s b b.bus_state.connection y d row).link)
+    (sym e) (go d.change.after.rst b.bus_state.connection)
   where
     inside : (o : Option Link) → b.link ≡ o → OnUndo q (story_in_connection s b o d row).link
     inside None f = u
     inside (Some l) f = inside_undo q s b l d row f h u
 
-    go : (r : Bool) (x : Option Connection) → OnUndo q (if r then record b { link = None } else story_on_bus s b x (Some n) d row).link
+    go : (r : Bool) (x : Option Connection)
+        → OnUndo q (if r then record b { link = None } else story_on_bus s b x (Some n) d row).link
     go true x = λ l c f g. none_some l f
     go false None = begun_link q b n
     go false (Some m) = inside b.link refl
@@ -251,16 +327,21 @@ change_undo q s b d row n e h u = subst (λ (y : Option Connection). OnUndo q (i
 -- ---- a row
 
 abbrev pub IsAsked : (ProcId → List ℕ → Type 0) → RunState → Row → Type 0
-IsAsked q k row =
-    (m n : Connection) (l : Link) → (row_reading k.story.bus_state row).change.after.rst ≡ false → k.story.bus_state.connection ≡ Some m → (row_reading k.story.bus_state row).next ≡ Some n → k.story.link ≡ Some l
+IsAsked q k row = (m n : Connection) (l : Link) → (row_reading k.story.bus_state row).change.after.rst ≡ false
+    → k.story.bus_state.connection ≡ Some m → (row_reading k.story.bus_state row).next ≡ Some n → k.story.link ≡ Some l
     → Takes q k.story (row_reading k.story.bus_state row) l
 
-pub areas_next : (q : ProcId → List ℕ → Type 0) (s : ScenarioValue) (k : RunState) (row : Row) → IsAsked q k row → OnAreas q k.story.carried → OnAreas q (run_state_after s k row).story.carried
+pub areas_next : (q : ProcId → List ℕ → Type 0) (s : ScenarioValue) (k : RunState) (row : Row) → IsAsked q k row
+    → OnAreas q k.story.carried → OnAreas q (run_state_after s k row).story.carried
 areas_next q s k row t h =
     let d : RowReading = row_reading k.story.bus_state row in
     events_on q s (story_by_change s k.story d row) (row_events_by s k.story d row) (change_on q s k.story d row h t)
 
-pub undo_next : (q : ProcId → List ℕ → Type 0) (s : ScenarioValue) (k : RunState) (row : Row) (n : Connection) → (row_reading k.story.bus_state row).next ≡ Some n → OnAreas q k.story.carried → OnUndo q k.story.link → OnUndo q (run_state_after s k row).story.link
+pub undo_next : (q : ProcId → List ℕ → Type 0) (s : ScenarioValue) (k : RunState) (row : Row) (n : Connection)
+    → (row_reading k.story.bus_state row).next ≡ Some n → OnAreas q k.story.carried → OnUndo q k.story.link
+    → OnUndo q (run_state_after s k row).story.link
 undo_next q s k row n e h u =
     let d : RowReading = row_reading k.story.bus_state row in
-    same_undo q (story_by_change s k.story d row).link (run_state_after s k row).story.link (events_link s (story_by_change s k.story d row) (row_events_by s k.story d row)) (change_undo q s k.story d row n e h u)
+    same_undo q (story_by_change s k.story d row).link (run_state_after s k row).story.link
+    (events_link s (story_by_change s k.story d row) (row_events_by s k.story d row))
+    (change_undo q s k.story d row n e h u)

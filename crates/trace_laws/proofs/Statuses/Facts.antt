@@ -1,5 +1,5 @@
--- As the initiator takes COMMAND COMPLETE, the status that was carried is that of the reply that the plain disk array has given, after any
--- rows of a prompt trace (6.4, 6.6.5, 7.3).
+-- As the initiator takes COMMAND COMPLETE, the status that was carried is that of the reply that the plain disk array
+-- has given, after any rows of a prompt trace (6.4, 6.6.5, 7.3).
 use Rattle.trace_laws.proofs
 use proofs.Names.{inl, inr, ℕ, ◌≡◌, ◌<◌, Bool, true, false, not, ◌&&◌, ◌%◌, ◌∙◌, List, [], ◌∷◌, ◌++◌, Option, Some}
 use proofs.Names.{None, refl, sym, ap, subst, same_Some, if◌then◌else◌, is_some, wrong, wrong', ProcId, byte_back}
@@ -46,9 +46,11 @@ status_start s = record {
 
 -- ---- as the initiator takes COMMAND COMPLETE
 
-pub status_asks : (s : ScenarioValue) (p : List Row) (row : Row) → Obeys s → IsPrompt s (row ∷ p) → Stood s p → NextStood s p row → TellFacts s p → StatusFacts s p → CompletesAsGiven s (run_state s p) row
-status_asks s p row o prompt was next facts h n c l g ep link done id reply served given =
-    first_all reply.status (carried_here k id).status.bytes (subst (λ (x : Option Reply). IsStatusOf x (carried_here k id).status.bytes) given (h.areas.areas id)) (talk t.0).0
+pub status_asks : (s : ScenarioValue) (p : List Row) (row : Row) → Obeys s → IsPrompt s (row ∷ p) → Stood s p
+    → NextStood s p row → TellFacts s p → StatusFacts s p → CompletesAsGiven s (run_state s p) row
+status_asks s p row o prompt was next facts h n c l g ep link done id reply served given = first_all reply.status
+    (carried_here k id).status.bytes
+    (subst (λ (x : Option Reply). IsStatusOf x (carried_here k id).status.bytes) given (h.areas.areas id)) (talk t.0).0
   where
     k : RunState
     k = run_state s p
@@ -67,16 +69,18 @@ status_asks s p row o prompt was next facts h n c l g ep link done id reply serv
         message_line false d i e = wrong' e
 
     talk : CarriesBy l (carried_here k id).status.bytes k.exchange.plan k.handshakes.requests Phase.MessageIn
-    talk =
-        subst (CarriesBy l (carried_here k id).status.bytes k.exchange.plan k.handshakes.requests) (in_phase (bus_of k) lines)
-        (h.talks n (sym was.plain.connection ∙ g.row_is.connection_is) (sym (ap (λ (x : LineSet). x.rst) was.plain.bus) ∙ g.calm) l id link served begun_is)
+    talk = subst (CarriesBy l (carried_here k id).status.bytes k.exchange.plan k.handshakes.requests)
+        (in_phase (bus_of k) lines) (h.talks n (sym was.plain.connection ∙ g.row_is.connection_is)
+        (sym (ap (λ (x : LineSet). x.rst) was.plain.bus) ∙ g.calm) l id link served begun_is)
 
 -- ---- the lines of STATUS
 
 status_phase : (b : LineSet) → is_status_phase b ≡ true → phase_of b ≡ Phase.Status
 status_phase b e = go b.msg b.cd b.io e
   where
-    go : (m d i : Bool) → (not m && d && i) ≡ true → (if m then (if i then Phase.MessageIn else Phase.MessageOut) else if d then (if i then Phase.Status else Phase.Command) else if i then Phase.DataIn else Phase.DataOut) ≡ Phase.Status
+    go : (m d i : Bool) → (not m && d && i) ≡ true → (if m then (if i then Phase.MessageIn else Phase.MessageOut)
+        else if d then (if i then Phase.Status else Phase.Command) else if i then Phase.DataIn else Phase.DataOut)
+        ≡ Phase.Status
     go true d i z = wrong' z
     go false true true z = refl
     go false true false z = wrong' z
@@ -124,7 +128,9 @@ plain_of s p row w = w.was.plain
 below : (s : ScenarioValue) (p : List Row) (row : Row) → Here s p row → row.dev < 8
 below s p row w = (least_is s p row w.prompt.1).inside
 
-kept : (s : ScenarioValue) (p : List Row) (row : Row) → Here s p row → (id : ProcId) (reply : Reply) → reply_in (array_of s (run_state s p)).replies id ≡ Some reply → reply_in (array_of s (run_state s (row ∷ p))).replies id ≡ Some reply
+kept : (s : ScenarioValue) (p : List Row) (row : Row) → Here s p row
+    → (id : ProcId) (reply : Reply) → reply_in (array_of s (run_state s p)).replies id ≡ Some reply
+    → reply_in (array_of s (run_state s (row ∷ p))).replies id ≡ Some reply
 kept s p row w id reply e = reply_kept s p row w.was w.next.row_is w.statuses.shown w.before w.after id reply e
 
 -- In STATUS the process that is served has its reply.
@@ -132,25 +138,34 @@ record Given (s : ScenarioValue) (k : RunState) (id : ProcId) : Type 0 where
   reply : Reply
   is : reply_in (array_of s k).replies id ≡ Some reply
 
-given_in : (s : ScenarioValue) (p : List Row) (n : Connection) (id : ProcId) → PlaceFacts s p → (run_state s p).story.bus_state.connection ≡ Some n → (bus_of (run_state s p)).rst ≡ false → (run_state s p).served ≡ Some (process id) → (run_state s p).exchange.begun ≡ true → phase_of (bus_of (run_state s p)) ≡ Phase.Status → Given s (run_state s p) id
+given_in : (s : ScenarioValue) (p : List Row) (n : Connection) (id : ProcId) → PlaceFacts s p
+    → (run_state s p).story.bus_state.connection ≡ Some n → (bus_of (run_state s p)).rst ≡ false
+    → (run_state s p).served ≡ Some (process id) → (run_state s p).exchange.begun ≡ true
+    → phase_of (bus_of (run_state s p)) ≡ Phase.Status → Given s (run_state s p) id
 given_in s p n id places con calm served b here =
     let k : RunState = run_state s p in
     let pr = places.of_scenario id served in
     let own : pr.0.id ≡ id = id_is s id pr.0 pr.1 in
     let at : process_served s k ≡ Some pr.0 = ap (process_item s) served ∙ pr.1 in
-    let place : AnsweredOpen places.array pr.0.id = subst (λ (x : Phase). PlacedIn places.array pr.0 k.exchange.plan k.handshakes (bus_of k).atn x) here (subst (λ (x : Bool). PlacedIf x places.array pr.0 k.exchange.plan k.handshakes (bus_of k).atn (phase_of (bus_of k))) b (places.placed n con calm pr.0 at)) in
+    let place : AnsweredOpen places.array pr.0.id = subst
+    (λ (x : Phase). PlacedIn places.array pr.0 k.exchange.plan k.handshakes (bus_of k).atn x) here (subst
+    (λ (x : Bool). PlacedIf x places.array pr.0 k.exchange.plan k.handshakes (bus_of k).atn (phase_of (bus_of k))) b
+    (places.placed n con calm pr.0 at)) in
     record {
       reply = place.answered.reply;
-      is = ap (λ (x : Array). reply_in x.replies id) (ap (or_start s) places.array_is) ∙ ap (λ (x : ProcId). reply_in places.array.replies x) (sym own) ∙ place.answered.given;
+      is = ap (λ (x : Array). reply_in x.replies id) (ap (or_start s) places.array_is)
+          ∙ ap (λ (x : ProcId). reply_in places.array.replies x) (sym own) ∙ place.answered.given;
     }
 
 -- The status that is due is that of the reply.
-due_given : (s : ScenarioValue) (p : List Row) (n : Connection) (id : ProcId) (reply : Reply) → PlaceFacts s p → IsGiven s p id reply → status_byte (task_of s (run_state s p)) ≡ reply.status
+due_given : (s : ScenarioValue) (p : List Row) (n : Connection) (id : ProcId) (reply : Reply) → PlaceFacts s p
+    → IsGiven s p id reply → status_byte (task_of s (run_state s p)) ≡ reply.status
 due_given s p n id reply places given =
     let k : RunState = run_state s p in
     let pr = places.of_scenario id given.0 in
     let own : pr.0.id ≡ id = id_is s id pr.0 pr.1 in
-    offers_given s k n.target pr.0 reply no_messages 0 0 (ap (process_item s) given.0 ∙ pr.1) (ap (λ (x : ProcId). reply_in (array_of s k).replies x) own ∙ given.1)
+    offers_given s k n.target pr.0 reply no_messages 0 0 (ap (process_item s) given.0 ∙ pr.1)
+    (ap (λ (x : ProcId). reply_in (array_of s k).replies x) own ∙ given.1)
 
 -- ---- a row of the connection
 
@@ -161,7 +176,8 @@ record RowHere (s : ScenarioValue) (p : List Row) (row : Row) (n : Connection) :
   going : GoingRow s p row n
   ends : HasEnds s (row ∷ p) n
 
-going_on : (s : ScenarioValue) (p : List Row) (row : Row) (n : Connection) → Here s p row → connection p ≡ Some n → (bus p).rst ≡ false → connection (row ∷ p) ≡ Some n → (bus (row ∷ p)).rst ≡ false → RowHere s p row n
+going_on : (s : ScenarioValue) (p : List Row) (row : Row) (n : Connection) → Here s p row → connection p ≡ Some n
+    → (bus p).rst ≡ false → connection (row ∷ p) ≡ Some n → (bus (row ∷ p)).rst ≡ false → RowHere s p row n
 going_on s p row n w con off after calm =
     let r = connection_row s p row n w.obeys w.prompt w.was con off calm in
     record {
@@ -173,10 +189,12 @@ going_on s p row n w con off after calm =
     }
 
 -- The byte of STATUS that crosses.
-taken_byte : (s : ScenarioValue) (p : List Row) (row : Row) (n : Connection) (id : ProcId) (reply : Reply) (w : Here s p row) (g : RowHere s p row n) → IsGiven s p id reply → is_some (receiver_in n g.going.change) ≡ true → is_status_phase g.going.change.before ≡ true → g.going.change.after.data_bits % 256 ≡ reply.status
-taken_byte s p row n id reply w g given cr st =
-    ap (λ (x : Change). x.after.data_bits % 256) g.going.change_is
-    ∙ ap (λ (x : ℕ). x % 256) (status_crosses s p row n g.ends.lines id reply (w.statuses.offered n g.con g.off) g.row_is.link g.ends.linked crossing)
+taken_byte : (s : ScenarioValue) (p : List Row) (row : Row) (n : Connection) (id : ProcId) (reply : Reply)
+    (w : Here s p row) (g : RowHere s p row n) → IsGiven s p id reply → is_some (receiver_in n g.going.change) ≡ true
+    → is_status_phase g.going.change.before ≡ true → g.going.change.after.data_bits % 256 ≡ reply.status
+taken_byte s p row n id reply w g given cr st = ap (λ (x : Change). x.after.data_bits % 256) g.going.change_is
+    ∙ ap (λ (x : ℕ). x % 256) (status_crosses s p row n g.ends.lines id reply
+    (w.statuses.offered n g.con g.off) g.row_is.link g.ends.linked crossing)
     ∙ byte_back reply.status small
   where
     k : RunState
@@ -189,16 +207,17 @@ taken_byte s p row n id reply w g given cr st =
     on = ap (λ (x : Change). x.before) g.going.change_is
 
     rose : rises c.before.req c.after.req ≡ true
-    rose =
-        by_bool (rises c.before.req c.after.req)
-        (λ e. e)
-        (λ e. wrong' ((λ i. is_some (if sym (status_io c.before st) i then (if sym e i then Some n.initiator else None) else (if rises c.before.ack c.after.ack then Some n.target else None))) ∙ cr))
+    rose = by_bool (rises c.before.req c.after.req) (λ e. e)
+        (λ e. wrong' ((λ i. is_some (if sym (status_io c.before st) i then (if sym e i then Some n.initiator else None)
+        else (if rises c.before.ack c.after.ack then Some n.target else None))) ∙ cr))
 
     crossing : Crossing s p row n id reply
     crossing = record {
       status = ap is_status_phase (sym on) ∙ st;
       rose = ap (λ (x : Change). rises x.before.req x.after.req) (sym g.going.change_is) ∙ rose;
-      odd = ap (λ (x : Change). has_odd_parity x.after) (sym g.going.change_is) ∙ ap (λ (x : Change). has_odd_parity x.after) (sym g.going.lines_are) ∙ g.going.lines.odd (ap (λ (x : Change). is_some (receiver_in n x)) g.going.lines_are ∙ cr);
+      odd = ap (λ (x : Change). has_odd_parity x.after) (sym g.going.change_is)
+          ∙ ap (λ (x : Change). has_odd_parity x.after) (sym g.going.lines_are)
+          ∙ g.going.lines.odd (ap (λ (x : Change). is_some (receiver_in n x)) g.going.lines_are ∙ cr);
       given = given;
     }
 
@@ -206,13 +225,14 @@ taken_byte s p row n id reply w g given cr st =
     here = status_phase (bus_of k) (ap is_status_phase g.going.goes.row_is.bus_is ∙ st)
 
     small : reply.status < 256
-    small =
-        subst (λ (x : ℕ). x < 256)
-        (ap (λ (x : Phase). phase_byte (serving_of s k n.target) x k.exchange.plan.messages 0 k.handshakes.requests) here ∙ due_given s p n id reply w.before given)
+    small = subst (λ (x : ℕ). x < 256) (ap
+        (λ (x : Phase). phase_byte (serving_of s k n.target) x k.exchange.plan.messages 0 k.handshakes.requests) here
+        ∙ due_given s p n id reply w.before given)
         (byte_values s p n w.obeys (seats_are s (obeys_fits s w.obeys)) w.was.standing.devices).offered
 
 -- What is asked of a row for the areas of all processes.
-row_asked : (s : ScenarioValue) (p : List Row) (row : Row) → Here s p row → IsAsked (λ id bytes. IsStatusIn s (run_state s p) id bytes) (run_state s p) row
+row_asked : (s : ScenarioValue) (p : List Row) (row : Row) → Here s p row
+    → IsAsked (λ id bytes. IsStatusIn s (run_state s p) id bytes) (run_state s p) row
 row_asked s p row w m n l er em en el = go w.next.row_is
   where
     k : RunState
@@ -241,7 +261,8 @@ row_asked s p row w m n l er em en el = go w.next.row_is
         ch = change_plain s row p w.was.standing.devices (below s p row w)
 
         after : connection (row ∷ p) ≡ Some x
-        after = sym (run_state_plain s (row ∷ p) w.next.stood.standing.devices).connection ∙ ap (λ (y : RowReading). y.next) (reading_is k row x c (is_some (receiver_in x c)) g.row_is refl)
+        after = sym (run_state_plain s (row ∷ p) w.next.stood.standing.devices).connection
+            ∙ ap (λ (y : RowReading). y.next) (reading_is k row x c (is_some (receiver_in x c)) g.row_is refl)
 
         calm : (bus (row ∷ p)).rst ≡ false
         calm = sym (ap (λ (y : Change). y.after.rst) ch) ∙ er
@@ -261,24 +282,40 @@ row_asked s p row w m n l er em en el = go w.next.row_is
             item : knows.link.item ≡ Some (process id)
             item = ap (λ (y : Link). y.item) (same_Some knows.link l (sym knows.link_is ∙ el)) ∙ e
 
-        status : (id : ProcId) → l.item ≡ Some (process id) → d.crosses ≡ true → is_status_phase d.change.before ≡ true → IsStatusIn s k id (area_with (carried_here k id).status (d.change.after.data_bits % 256)).bytes
+        status : (id : ProcId) → l.item ≡ Some (process id) → d.crosses ≡ true → is_status_phase d.change.before ≡ true
+            → IsStatusIn s k id (area_with (carried_here k id).status (d.change.after.data_bits % 256)).bytes
         status id e cr st =
-            let here : phase_of (bus_of k) ≡ Phase.Status = status_phase (bus_of k) (ap is_status_phase (g.row_is.bus_is ∙ ap (λ (y : Change). y.before) (sym g.row_is.change_is)) ∙ st) in
+            let here : phase_of (bus_of k) ≡ Phase.Status = status_phase (bus_of k)
+            (ap is_status_phase (g.row_is.bus_is ∙ ap (λ (y : Change). y.before) (sym g.row_is.change_is)) ∙ st) in
             let v = given_in s p x id w.before g.row_is.connection_is g.calm (served id e) (g.begun cr) here in
-            let crossed : is_some (receiver_in x on.going.change) ≡ true = ap (λ (y : Change). is_some (receiver_in x y)) (same ∙ g.row_is.change_is) ∙ sym (ap (λ (y : RowReading). y.crosses) (reading_is k row x c (is_some (receiver_in x c)) g.row_is refl)) ∙ cr in
-            let byte : d.change.after.data_bits % 256 ≡ v.reply.status = ap (λ (y : Change). y.after.data_bits % 256) (sym same) ∙ taken_byte s p row x id v.reply w on (served id e, v.is) crossed (ap (λ (y : Change). is_status_phase y.before) same ∙ st) in
-            subst (λ (y : Option Reply). IsStatusOf y (area_with (carried_here k id).status (d.change.after.data_bits % 256)).bytes) (sym v.is)
-            (subst (λ (y : ℕ). AreAll v.reply.status (area_with (carried_here k id).status y).bytes) (sym byte)
-            (area_all v.reply.status (carried_here k id).status (subst (λ (y : Option Reply). IsStatusOf y (carried_here k id).status.bytes) v.is (w.statuses.areas.areas id))))
+            let crossed : is_some (receiver_in x on.going.change) ≡ true =
+            ap (λ (y : Change). is_some (receiver_in x y)) (same ∙ g.row_is.change_is)
+            ∙ sym (ap (λ (y : RowReading). y.crosses) (reading_is k row x c (is_some (receiver_in x c)) g.row_is refl))
+            ∙ cr in
+            let byte : d.change.after.data_bits % 256 ≡ v.reply.status =
+            ap (λ (y : Change). y.after.data_bits % 256) (sym same) ∙ taken_byte s p row x id v.reply w on (
+              served id e,
+              v.is,
+            ) crossed (ap (λ (y : Change). is_status_phase y.before) same ∙ st) in
+            subst (λ (y : Option Reply). IsStatusOf y
+            (area_with (carried_here k id).status (d.change.after.data_bits % 256)).bytes) (sym v.is)
+            (subst (λ (y : ℕ). AreAll v.reply.status (area_with (carried_here k id).status y).bytes)
+            (sym byte) (area_all v.reply.status (carried_here k id).status (subst
+            (λ (y : Option Reply). IsStatusOf y (carried_here k id).status.bytes) v.is (w.statuses.areas.areas id))))
 
 -- A reply that is given with the row is of a process that has carried none.
-moved : (a b : Option Reply) (bytes : List ℕ) → ((reply : Reply) → a ≡ Some reply → b ≡ Some reply) → IsStatusOf a bytes → IsStatusOf b bytes
+moved : (a b : Option Reply) (bytes : List ℕ) → ((reply : Reply) → a ≡ Some reply → b ≡ Some reply) → IsStatusOf a bytes
+    → IsStatusOf b bytes
 moved (Some x) b bytes f h = subst (λ (y : Option Reply). IsStatusOf y bytes) (sym (f x refl)) h
 moved None None bytes f h = h
 moved None (Some x) bytes f h = subst (AreAll x.status) (sym h) tt
 
 areas_on : (s : ScenarioValue) (p : List Row) (row : Row) → Here s p row → StatusAreas s (run_state s (row ∷ p))
-areas_on s p row w = record { areas = λ id. on id (carried_here j id).status.bytes (areas_next q s k row (row_asked s p row w) w.statuses.areas.areas id); undone = undone }
+areas_on s p row w = record {
+  areas = λ id. on id (carried_here j id).status.bytes
+      (areas_next q s k row (row_asked s p row w) w.statuses.areas.areas id);
+  undone = undone;
+}
   where
     k : RunState
     k = run_state s p
@@ -290,18 +327,21 @@ areas_on s p row w = record { areas = λ id. on id (carried_here j id).status.by
     q = λ id bytes. IsStatusIn s k id bytes
 
     on : (id : ProcId) (bytes : List ℕ) → IsStatusIn s k id bytes → IsStatusIn s j id bytes
-    on id bytes h = moved (reply_in (array_of s k).replies id) (reply_in (array_of s j).replies id) bytes (λ reply e. kept s p row w id reply e) h
+    on id bytes h = moved (reply_in (array_of s k).replies id) (reply_in (array_of s j).replies id) bytes
+        (λ reply e. kept s p row w id reply e) h
 
-    undone : (l : Link) (u : CarriedBytes) → j.story.link ≡ Some l → l.undo ≡ Some u → IsStatusIn s j u.id u.status.bytes
-    undone l u el eu =
-        by_option (row_reading k.story.bus_state row).next
-        (λ e. none_some l (sym (no_link s (row ∷ p) w.next.stood e) ∙ el))
-        (λ n e. on u.id u.status.bytes (undo_next q s k row n e w.statuses.areas.areas w.statuses.areas.undone l u el eu))
+    undone : (l : Link) (u : CarriedBytes) → j.story.link ≡ Some l → l.undo ≡ Some u
+        → IsStatusIn s j u.id u.status.bytes
+    undone l u el eu = by_option (row_reading k.story.bus_state row).next
+        (λ e. none_some l (sym (no_link s (row ∷ p) w.next.stood e) ∙ el)) (λ n e. on u.id u.status.bytes
+        (undo_next q s k row n e w.statuses.areas.areas w.statuses.areas.undone l u el eu))
 
 -- ---- what the target drives
 
-offers_row : (s : ScenarioValue) (p : List Row) (row : Row) (n : Connection) (w : Here s p row) → RowHere s p row n → connection (row ∷ p) ≡ Some n → (bus (row ∷ p)).rst ≡ false → OfferRow s p row
-offers_row s p row n w g after calm = record { kept = had; due = λ id reply given. due_given s p n id reply w.before given; turned = turned }
+offers_row : (s : ScenarioValue) (p : List Row) (row : Row) (n : Connection) (w : Here s p row) → RowHere s p row n
+    → connection (row ∷ p) ≡ Some n → (bus (row ∷ p)).rst ≡ false → OfferRow s p row
+offers_row s p row n w g after calm =
+    record { kept = had; due = λ id reply given. due_given s p n id reply w.before given; turned = turned }
   where
     k : RunState
     k = run_state s p
@@ -319,17 +359,25 @@ offers_row s p row n w g after calm = record { kept = had; due = λ id reply giv
     of = g.going.goes
 
     served : (id : ProcId) → j.served ≡ Some (process id) → k.served ≡ Some (process id)
-    served id e = sym (in_connection s k row n c (changes_phase c) (is_some (receiver_in n c)) (is_fault row.kind) of.row_is refl refl refl).served_is ∙ e
+    served id e = sym (in_connection s k row n c (changes_phase c)
+        (is_some (receiver_in n c)) (is_fault row.kind) of.row_is refl refl refl).served_is
+        ∙ e
 
-    had : is_status_phase (bus p) ≡ true → begun p ≡ true → (id : ProcId) (reply : Reply) → IsGiven s (row ∷ p) id reply → IsGiven s p id reply
+    had : is_status_phase (bus p) ≡ true → begun p ≡ true → (id : ProcId) (reply : Reply) → IsGiven s (row ∷ p) id reply
+        → IsGiven s p id reply
     had st b id reply given =
         let mine = served id given.0 in
-        let v = given_in s p n id w.before of.row_is.connection_is of.calm mine (pl.begun ∙ b) (status_phase (bus_of k) (ap is_status_phase pl.bus ∙ st)) in
-        (mine, v.is ∙ ap (λ (x : Reply). Some x) (same_Some v.reply reply (sym (kept s p row w id v.reply v.is) ∙ given.1)))
+        let v = given_in s p n id w.before of.row_is.connection_is of.calm mine (pl.begun ∙ b)
+        (status_phase (bus_of k) (ap is_status_phase pl.bus ∙ st)) in (
+          mine,
+          v.is ∙ ap (λ (x : Reply). Some x) (same_Some v.reply reply (sym (kept s p row w id v.reply v.is) ∙ given.1)),
+        )
 
-    changes : is_status_phase (bus p) ≡ false → is_status_phase (bus (row ∷ p)) ≡ true → (q : Bool) → changes_phase c ≡ q → changes_phase c ≡ true
+    changes : is_status_phase (bus p) ≡ false → is_status_phase (bus (row ∷ p)) ≡ true
+        → (q : Bool) → changes_phase c ≡ q → changes_phase c ≡ true
     changes f t true e = e
-    changes f t false e = wrong (sym t ∙ ap (λ (x : Change). is_status_phase x.after) (sym g.going.change_is) ∙ status_same c e ∙ ap (λ (x : Change). is_status_phase x.before) g.going.change_is ∙ f)
+    changes f t false e = wrong (sym t ∙ ap (λ (x : Change). is_status_phase x.after) (sym g.going.change_is)
+        ∙ status_same c e ∙ ap (λ (x : Change). is_status_phase x.before) g.going.change_is ∙ f)
 
     silent : changes_phase c ≡ true → RowKind row n c → is_some (receiver_in n c) ≡ false
     silent e (still ef ep er) = wrong (sym e ∙ ep)
@@ -337,7 +385,8 @@ offers_row s p row n w g after calm = record { kept = had; due = λ id reply giv
     silent e (crosses dev ef ep er) = wrong (sym e ∙ ep)
     silent e (turns ef ep er) = ap (λ (x : Option ℕ). is_some x) er
 
-    turned : (bus p).io ≡ true → is_status_phase (bus p) ≡ false → is_status_phase (bus (row ∷ p)) ≡ true → (id : ProcId) (reply : Reply) → IsGiven s (row ∷ p) id reply → status_byte (task_of s k) ≡ reply.status
+    turned : (bus p).io ≡ true → is_status_phase (bus p) ≡ false → is_status_phase (bus (row ∷ p)) ≡ true
+        → (id : ProcId) (reply : Reply) → IsGiven s (row ∷ p) id reply → status_byte (task_of s k) ≡ reply.status
     turned io f t id reply given =
         turned_status s p row n c knows.link pr reply
         (record {
@@ -380,13 +429,13 @@ offers_row s p row n w g after calm = record { kept = had; due = λ id reply giv
         after_status = status_phase c.after (ap (λ (x : Change). is_status_phase x.after) g.going.change_is ∙ t)
 
         begun_is : k.exchange.begun ≡ true
-        begun_is =
-            by_bool k.exchange.begun
-            (λ e. e)
-            (λ e. wrong (sym (sym (ap (λ (x : Change). is_message_out x.after) of.row_is.change_is) ∙ of.first (ap changes_phase of.row_is.change_is ∙ ep) e) ∙ out_none))
+        begun_is = by_bool k.exchange.begun (λ e. e)
+            (λ e. wrong (sym (sym (ap (λ (x : Change). is_message_out x.after) of.row_is.change_is)
+            ∙ of.first (ap changes_phase of.row_is.change_is ∙ ep) e) ∙ out_none))
           where
             out_none : is_message_out c.after ≡ false
-            out_none = lines c.after.msg c.after.cd c.after.io (ap (λ (x : Change). is_status_phase x.after) g.going.change_is ∙ t)
+            out_none = lines c.after.msg c.after.cd c.after.io
+                (ap (λ (x : Change). is_status_phase x.after) g.going.change_is ∙ t)
               where
                 lines : (x d i : Bool) → (not x && d && i) ≡ true → (x && d && not i) ≡ false
                 lines true d i z = wrong' z
@@ -396,26 +445,36 @@ offers_row s p row n w g after calm = record { kept = had; due = λ id reply giv
         v = serving_of s k n.target
 
         to : is_status_next (phase_leaving v (bus_of k).atn (phase_of (bus_of k))).to ≡ true
-        to =
-            ap (λ (q : Bool). is_status_next (leaving_by v q (bus_of k)).to) (sym begun_is)
-            ∙ ap is_status_next (g.going.lines.whereto (ap changes_phase g.going.lines_are ∙ ep) (sym pl.begun ∙ begun_is) ∙ ap (λ (x : Change). Some (phase_of x.after)) g.going.lines_are ∙ ap (λ (x : Phase). Some x) after_status)
+        to = ap (λ (q : Bool). is_status_next (leaving_by v q (bus_of k)).to) (sym begun_is) ∙ ap is_status_next
+            (g.going.lines.whereto (ap changes_phase g.going.lines_are ∙ ep) (sym pl.begun ∙ begun_is)
+            ∙ ap (λ (x : Change). Some (phase_of x.after)) g.going.lines_are ∙ ap (λ (x : Phase). Some x) after_status)
 
         placed : PlacedIn w.before.array pr k.exchange.plan k.handshakes (bus_of k).atn (phase_of (bus_of k))
-        placed = subst (λ (x : Bool). PlacedIf x w.before.array pr k.exchange.plan k.handshakes (bus_of k).atn (phase_of (bus_of k))) begun_is (w.before.placed n of.row_is.connection_is of.calm pr at)
+        placed = subst (λ (x : Bool). PlacedIf x w.before.array pr k.exchange.plan k.handshakes (bus_of k).atn
+            (phase_of (bus_of k))) begun_is (w.before.placed n of.row_is.connection_is of.calm pr at)
 
-        well : knows.link.item ≡ Some (process pr.id) → is_marked (carried_here k pr.id) ≡ false → RunsWell w.before.array pr (carried_here k pr.id)
-        well named open_is =
-            runs_well w.before.array pr (carried_here k pr.id) v k.handshakes (bus_of k).atn (bus_of k) (ap (λ (b : LineSet). b.io) pl.bus ∙ io) open_is to
-            (w.fails n pr.id (record { stands = g.con; calm = g.off; calm_after = calm; begun = begun_is; leaves = inl (ap changes_phase of.row_is.change_is ∙ ep) }) (ap item_of knows.link_is ∙ named)) placed
+        well : knows.link.item ≡ Some (process pr.id) → is_marked (carried_here k pr.id) ≡ false
+            → RunsWell w.before.array pr (carried_here k pr.id)
+        well named open_is = runs_well w.before.array pr (carried_here k pr.id) v k.handshakes (bus_of k).atn (bus_of k)
+            (ap (λ (b : LineSet). b.io) pl.bus ∙ io) open_is to (w.fails n pr.id (record {
+              stands = g.con;
+              calm = g.off;
+              calm_after = calm;
+              begun = begun_is;
+              leaves = inl (ap changes_phase of.row_is.change_is ∙ ep);
+            }) (ap item_of knows.link_is ∙ named)) placed
 
-offered_first : (s : ScenarioValue) (p : List Row) (row : Row) (n : Connection) → IsFirst s p row n → IsStatusOffered s (row ∷ p) n
+offered_first : (s : ScenarioValue) (p : List Row) (row : Row) (n : Connection) → IsFirst s p row n
+    → IsStatusOffered s (row ∷ p) n
 offered_first s p row n f = go f.begins
   where
     go : BeginsConnection (row ∷ p) n → IsStatusOffered s (row ∷ p) n
     go (by_selection h) = λ e k b. wrong (sym b ∙ h.begun_is)
-    go (by_reselection y h) = offered_by s (row ∷ p) n (ends_reselected y) h.linked (λ a z u some id reply given. wrong' a)
+    go (by_reselection y h) =
+        offered_by s (row ∷ p) n (ends_reselected y) h.linked (λ a z u some id reply given. wrong' a)
 
-offered_on : (s : ScenarioValue) (p : List Row) (row : Row) → Here s p row → (n : Connection) → connection (row ∷ p) ≡ Some n → (bus (row ∷ p)).rst ≡ false → IsStatusOffered s (row ∷ p) n
+offered_on : (s : ScenarioValue) (p : List Row) (row : Row) → Here s p row
+    → (n : Connection) → connection (row ∷ p) ≡ Some n → (bus (row ∷ p)).rst ≡ false → IsStatusOffered s (row ∷ p) n
 offered_on s p row w n after calm = go (row_kind s p row n w.obeys w.prompt w.was after calm)
   where
     go : RowKindOf s p row n → IsStatusOffered s (row ∷ p) n
@@ -435,9 +494,12 @@ named_other p l m count (tag_alone x e f g) = ap (λ (y : Messages). is_complete
     tagged _ z = ap is_complete_in (sym z)
 
 -- After the first row of a connection it is not said.
-first_other : (s : ScenarioValue) (p : List Row) (row : Row) (n : Connection) → AreOfDevices p → row.dev < 8 → connection p ≡ None → connection (row ∷ p) ≡ Some n → is_complete_in (run_state s (row ∷ p)).exchange.plan.messages.first ≡ false
+first_other : (s : ScenarioValue) (p : List Row) (row : Row) (n : Connection)
+    → AreOfDevices p → row.dev < 8 → connection p ≡ None → connection (row ∷ p) ≡ Some n
+    → is_complete_in (run_state s (row ∷ p)).exchange.plan.messages.first ≡ false
 first_other s p row n dv lt alone after =
-    (λ i. is_complete_in (exchange_after s k row (row_reading k.story.bus_state row) (con i) (next i) (leaving_of s k k.story.bus_state.connection)).plan.messages.first)
+    (λ i. is_complete_in (exchange_after s k row (row_reading k.story.bus_state row)
+    (con i) (next i) (leaving_of s k k.story.bus_state.connection)).plan.messages.first)
     ∙ by n.reselected (ready_of s k n.target)
   where
     k : RunState
@@ -452,12 +514,15 @@ first_other s p row n dv lt alone after =
     next : (row_reading k.story.bus_state row).next ≡ Some n
     next = (λ i. connection_after (pl.connection i) (pl.call i) (change_plain s row p dv lt i) row) ∙ after
 
-    by : (r : Bool) (x : Option Ready) → is_complete_in (first_plan r (not r && may_negotiate k n (aim_of k.story.aims n.initiator)) (if r then messages_if x else no_messages)).messages.first ≡ false
+    by : (r : Bool) (x : Option Ready)
+        → is_complete_in (first_plan r (not r && may_negotiate k n (aim_of k.story.aims n.initiator))
+        (if r then messages_if x else no_messages)).messages.first ≡ false
     by false x = refl
     by true None = refl
     by true (Some x) = refl
 
-talks_going : (s : ScenarioValue) (p : List Row) (row : Row) (n : Connection) → Here s p row → RowHere s p row n → connection (row ∷ p) ≡ Some n → (bus (row ∷ p)).rst ≡ false → StatusTalks (run_state s (row ∷ p))
+talks_going : (s : ScenarioValue) (p : List Row) (row : Row) (n : Connection) → Here s p row → RowHere s p row n
+    → connection (row ∷ p) ≡ Some n → (bus (row ∷ p)).rst ≡ false → StatusTalks (run_state s (row ∷ p))
 talks_going s p row n w g after calm m id em ej bj = go of.row_is.kind
   where
     k : RunState
@@ -485,7 +550,9 @@ talks_going s p row n w g after calm m id em ej bj = go of.row_is.kind
     l = knows.link
 
     served : k.served ≡ Some (process id)
-    served = sym (in_connection s k row n c (changes_phase c) (is_some (receiver_in n c)) (is_fault row.kind) of.row_is refl refl refl).served_is ∙ ej
+    served = sym (in_connection s k row n c (changes_phase c) (is_some (receiver_in n c))
+        (is_fault row.kind) of.row_is refl refl refl).served_is
+        ∙ ej
 
     before : k.exchange.begun ≡ true → TalksOf k l id
     before b = w.statuses.talks n g.con g.off l id knows.link_is served b
@@ -496,20 +563,25 @@ talks_going s p row n w g after calm m id em ej bj = go of.row_is.kind
     to_initiator_line : (b : LineSet) → is_attended (phase_of b) ≡ true → b.io ≡ true
     to_initiator_line b e = by b.msg b.cd b.io e
       where
-        by : (x y i : Bool) → is_attended (if x then (if i then Phase.MessageIn else Phase.MessageOut) else if y then (if i then Phase.Status else Phase.Command) else if i then Phase.DataIn else Phase.DataOut) ≡ true → i ≡ true
+        by : (x y i : Bool) → is_attended (if x then (if i then Phase.MessageIn else Phase.MessageOut)
+            else if y then (if i then Phase.Status else Phase.Command) else if i then Phase.DataIn else Phase.DataOut)
+            ≡ true → i ≡ true
         by x y true z = refl
         by true y false z = wrong' z
         by false true false z = wrong' z
         by false false false z = wrong' z
 
     unknown : {A : Type 0} (x : Link) → k.story.link ≡ Some x → l.item ≡ None → is_some x.item ≡ true → A
-    unknown x e f z = wrong' (sym (ap (λ (o : Option Item). is_some o) f) ∙ ap (λ (y : Link). is_some y.item) (same_Some l x (sym knows.link_is ∙ e)) ∙ z)
+    unknown x e f z = wrong' (sym (ap (λ (o : Option Item). is_some o) f)
+        ∙ ap (λ (y : Link). is_some y.item) (same_Some l x (sym knows.link_is ∙ e)) ∙ z)
 
     -- where COMMAND COMPLETE is said the initiator knows the process; and in STATUS
-    item_is : (n.reselected ≡ true → l.item ≡ None → Named s k n → l.item ≡ Some (process id)) → l.item ≡ Some (process id)
+    item_is : (n.reselected ≡ true → l.item ≡ None → Named s k n → l.item ≡ Some (process id))
+        → l.item ≡ Some (process id)
     item_is other = elim knows.item_is [ inl e ↦ e ∙ served | inr e ↦ other e.0 e.1 (w.facts.named n g.con g.off e.0) ]
 
-    says : {A : Type 0} → k.exchange.plan.messages ≡ one_message MsgIn.CommandComplete → is_complete_in k.exchange.plan.messages.first ≡ false → A
+    says : {A : Type 0} → k.exchange.plan.messages ≡ one_message MsgIn.CommandComplete
+        → is_complete_in k.exchange.plan.messages.first ≡ false → A
     says e f = wrong (sym (ap (λ (x : Messages). is_complete_in x.first) e) ∙ f)
 
     completes : k.exchange.plan.messages ≡ one_message MsgIn.CommandComplete → l.item ≡ Some (process id)
@@ -517,16 +589,21 @@ talks_going s p row n w g after calm m id em ej bj = go of.row_is.kind
       where
         other : n.reselected ≡ true → l.item ≡ None → Named s k n → l.item ≡ Some (process id)
         other re f (known x z named no_names) = unknown x z f named
-        other re f (said q x naming into names whole) = says e (named_other q x k.exchange.plan.messages k.handshakes.requests names)
+        other re f (said q x naming into names whole) =
+            says e (named_other q x k.exchange.plan.messages k.handshakes.requests names)
         other re f (refused q x naming out cause names) = says e (named_other q x k.exchange.plan.messages 0 names)
 
     in_status : phase_of (bus_of k) ≡ Phase.Status → l.item ≡ Some (process id)
     in_status e = item_is other
       where
-        message_in_line : (b : LineSet) → phase_of b ≡ Phase.Status → (is_message_in b ≡ false) × (is_message_out b ≡ false)
+        message_in_line : (b : LineSet) → phase_of b ≡ Phase.Status
+            → (is_message_in b ≡ false) × (is_message_out b ≡ false)
         message_in_line b z = by b.msg b.cd b.io (ap is_status z)
           where
-            by : (x y i : Bool) → is_status (if x then (if i then Phase.MessageIn else Phase.MessageOut) else if y then (if i then Phase.Status else Phase.Command) else if i then Phase.DataIn else Phase.DataOut) ≡ true → ((x && y && i) ≡ false) × ((x && y && not i) ≡ false)
+            by : (x y i : Bool) → is_status (if x then (if i then Phase.MessageIn else Phase.MessageOut)
+                else if y then (if i then Phase.Status else Phase.Command)
+                else if i then Phase.DataIn else Phase.DataOut) ≡ true
+                → ((x && y && i) ≡ false) × ((x && y && not i) ≡ false)
             by true y true u = wrong' u
             by true y false u = wrong' u
             by false y i u = (refl, refl)
@@ -540,61 +617,75 @@ talks_going s p row n w g after calm m id em ej bj = go of.row_is.kind
     begun_before ep now en = sym (stays_as s k row n c now of.row_is ep en).begun ∙ bj
 
     -- a byte of MESSAGE IN
-    next_in : changes_phase c ≡ false → is_message_in c.before ≡ true → is_some (receiver_in n c) ≡ true → TalksOf j m id
-    next_in ep into there = in_talk s k row n c l m id of.row_is ep there into knows.link_is em completes first (before b)
+    next_in : changes_phase c ≡ false → is_message_in c.before ≡ true → is_some (receiver_in n c) ≡ true
+        → TalksOf j m id
+    next_in ep into there =
+        in_talk s k row n c l m id of.row_is ep there into knows.link_is em completes first (before b)
       where
         b : k.exchange.begun ≡ true
         b = begun_before ep true there
 
         given : AreGiven (bytes_of_messages k.exchange.plan.messages) d.half k.handshakes.requests
-        given = (w.was.books.gives n of.row_is.connection_is of.calm).in_message_in b (ap is_message_in of.row_is.bus_is ∙ into)
+        given = (w.was.books.gives n of.row_is.connection_is of.calm).in_message_in b
+            (ap is_message_in of.row_is.bus_is ∙ into)
 
         reads : message_in d c true ≡ whole_in (got_in (d.half ++ c.after.data_bits % 256 ∷ []))
         reads = λ i. if into i then whole_in (got_in (d.half ++ c.after.data_bits % 256 ∷ [])) else None
 
-        first : k.exchange.plan.messages ≡ one_message MsgIn.CommandComplete → k.handshakes.requests ≡ 0 → message_in d c true ≡ Some MsgIn.CommandComplete
-        first e zero = reads ∙ first_is k.exchange.plan.messages d.half k.handshakes.requests (c.after.data_bits % 256) given zero (ap (λ (x : Messages). is_short x.first) e) (of.gives into there).0 ∙ ap (λ (x : Messages). x.first) e
+        first : k.exchange.plan.messages ≡ one_message MsgIn.CommandComplete → k.handshakes.requests ≡ 0
+            → message_in d c true ≡ Some MsgIn.CommandComplete
+        first e zero = reads ∙ first_is k.exchange.plan.messages d.half k.handshakes.requests
+            (c.after.data_bits % 256) given zero (ap (λ (x : Messages). is_short x.first) e) (of.gives into there).0
+            ∙ ap (λ (x : Messages). x.first) e
 
     go : RowKind row n c → TalksOf j m id
     go (still ef ep er) =
         let none : is_some (receiver_in n c) ≡ false = ap (λ (z : Option ℕ). is_some z) er in
         let i = in_connection s k row n c false false (is_fault row.kind) of.row_is ep none refl in
         still_talk s k row n c l m id of.row_is ep none knows.link_is em
-        (λ e. ap (λ (x : Handshakes). x.requests) i.handshakes_is ∙ ap (λ (q : Bool). (handshakes_after q (Some n) c row.time k.handshakes).requests) ef ∙ requests_stay n c row.time k.handshakes ep (ap (λ (b : LineSet). b.io) (sym of.row_is.bus_is) ∙ to_initiator_line (bus_of k) e) er)
+        (λ e. ap (λ (x : Handshakes). x.requests) i.handshakes_is
+        ∙ ap (λ (q : Bool). (handshakes_after q (Some n) c row.time k.handshakes).requests) ef
+        ∙ requests_stay n c row.time k.handshakes ep
+        (ap (λ (b : LineSet). b.io) (sym of.row_is.bus_is) ∙ to_initiator_line (bus_of k) e) er)
         (before (begun_before ep false none))
     go (strikes ef ep er) =
         let none : is_some (receiver_in n c) ≡ false = ap (λ (z : Option ℕ). is_some z) er in
         let i = in_connection s k row n c false false (is_fault row.kind) of.row_is ep none refl in
         still_talk s k row n c l m id of.row_is ep none knows.link_is em
-        (λ e. ap (λ (x : Handshakes). x.requests) i.handshakes_is ∙ ap (λ (q : Bool). (handshakes_after q (Some n) c row.time k.handshakes).requests) ef ∙ struck_same c.before.io k.handshakes)
-        (before (begun_before ep false none))
+        (λ e. ap (λ (x : Handshakes). x.requests) i.handshakes_is
+        ∙ ap (λ (q : Bool). (handshakes_after q (Some n) c row.time k.handshakes).requests) ef
+        ∙ struck_same c.before.io k.handshakes) (before (begun_before ep false none))
     go (crosses dev ef ep er) = by (is_message_out c.before) refl (is_message_in c.before) refl
       where
         there : is_some (receiver_in n c) ≡ true
         there = ap (λ (z : Option ℕ). is_some z) er
 
         by : (q : Bool) → is_message_out c.before ≡ q → (t : Bool) → is_message_in c.before ≡ t → TalksOf j m id
-        by true e t f = out_talk s k row n c l m id of.row_is ep there e knows.link_is em (before (begun_before ep true there))
+        by true e t f =
+            out_talk s k row n c l m id of.row_is ep there e knows.link_is em (before (begun_before ep true there))
         by false e true f = next_in ep f there
-        by false e false f = else_talk s k row n c l m id of.row_is ep there e f (λ z. ap (λ (b : LineSet). b.cd) (sym of.row_is.bus_is) ∙ lines (ap (λ (b : LineSet). b.msg) of.row_is.bus_is ∙ z)) knows.link_is in_status
-    go (turns ef ep er) =
-        turn_talk s k row n c l m id
-        (record {
-          goes = of;
-          lines = ef;
-          turns = ep;
-          silent = er;
-          link_is = knows.link_is;
-          known = λ z. ap (λ (x : Change). x.after.cd) g.going.change_is ∙ (link_phase s (row ∷ p) n (stage_of_connection s (row ∷ p) n w.next.stood after calm) (ap (λ (x : Change). x.after.msg) (sym g.going.change_is) ∙ z)).0;
-          idle = λ b. ap is_command pl.bus ∙ unbegun_lines s p n g.row_is.stage (sym pl.begun ∙ b);
-          whereto = λ b. g.going.lines.whereto (ap changes_phase g.going.lines_are ∙ ep) (sym pl.begun ∙ b) ∙ ap (λ (x : Change). Some (phase_of x.after)) g.going.lines_are;
-          speaks = w.was.books.speaks n of.row_is.connection_is of.calm;
-        })
-        (λ b. g.going.lines.over (ap changes_phase g.going.lines_are ∙ ep) (sym pl.begun ∙ b))
-        (λ b e. subst (LastBy l k.exchange.plan k.handshakes.requests k.story.bus_state.dialogue.is_last) e (((w.facts.last n g.con g.off).0 l id knows.link_is served).begun b))
-        em before
+        by false e false f =
+            else_talk s k row n c l m id of.row_is ep there e f (λ z. ap (λ (b : LineSet). b.cd) (sym of.row_is.bus_is)
+            ∙ lines (ap (λ (b : LineSet). b.msg) of.row_is.bus_is ∙ z)) knows.link_is in_status
+    go (turns ef ep er) = turn_talk s k row n c l m id (record {
+      goes = of;
+      lines = ef;
+      turns = ep;
+      silent = er;
+      link_is = knows.link_is;
+      known = λ z. ap (λ (x : Change). x.after.cd) g.going.change_is
+          ∙ (link_phase s (row ∷ p) n (stage_of_connection s (row ∷ p) n w.next.stood after calm)
+          (ap (λ (x : Change). x.after.msg) (sym g.going.change_is) ∙ z)).0;
+      idle = λ b. ap is_command pl.bus ∙ unbegun_lines s p n g.row_is.stage (sym pl.begun ∙ b);
+      whereto = λ b. g.going.lines.whereto (ap changes_phase g.going.lines_are ∙ ep) (sym pl.begun ∙ b)
+          ∙ ap (λ (x : Change). Some (phase_of x.after)) g.going.lines_are;
+      speaks = w.was.books.speaks n of.row_is.connection_is of.calm;
+    }) (λ b. g.going.lines.over (ap changes_phase g.going.lines_are ∙ ep) (sym pl.begun ∙ b))
+        (λ b e. subst (LastBy l k.exchange.plan k.handshakes.requests k.story.bus_state.dialogue.is_last) e
+        (((w.facts.last n g.con g.off).0 l id knows.link_is served).begun b)) em before
 
-talks_on : (s : ScenarioValue) (p : List Row) (row : Row) → Here s p row → (n : Connection) → connection (row ∷ p) ≡ Some n → (bus (row ∷ p)).rst ≡ false → StatusTalks (run_state s (row ∷ p))
+talks_on : (s : ScenarioValue) (p : List Row) (row : Row) → Here s p row → (n : Connection)
+    → connection (row ∷ p) ≡ Some n → (bus (row ∷ p)).rst ≡ false → StatusTalks (run_state s (row ∷ p))
 talks_on s p row w n after calm = go (row_kind s p row n w.obeys w.prompt w.was after calm)
   where
     j : RunState
@@ -610,10 +701,11 @@ talks_on s p row w n after calm = go (row_kind s p row n w.obeys w.prompt w.was 
         other : is_complete_in j.exchange.plan.messages.first ≡ false
         other = first_other s p row n w.was.standing.devices (below s p row w) alone after
 
-        at : (l : Link) (bytes : List ℕ) → BeginsConnection (row ∷ p) n → j.exchange.begun ≡ true → CarriesBy l bytes j.exchange.plan j.handshakes.requests (phase_of (bus_of j))
+        at : (l : Link) (bytes : List ℕ) → BeginsConnection (row ∷ p) n → j.exchange.begun ≡ true
+            → CarriesBy l bytes j.exchange.plan j.handshakes.requests (phase_of (bus_of j))
         at l bytes (by_selection h) b = wrong (sym b ∙ ql.begun ∙ h.begun_is)
-        at l bytes (by_reselection y h) b =
-            subst (CarriesBy l bytes j.exchange.plan j.handshakes.requests) (sym (ap phase_of (ql.bus ∙ h.linked.stands.bus_is)))
+        at l bytes (by_reselection y h) b = subst (CarriesBy l bytes j.exchange.plan j.handshakes.requests)
+            (sym (ap phase_of (ql.bus ∙ h.linked.stands.bus_is)))
             (λ e. wrong (sym (ap (λ (x : Messages). is_complete_in x.first) e) ∙ other))
 
 -- ---- any row
@@ -622,11 +714,24 @@ some_array : (s : ScenarioValue) (p : List Row) → PlaceFacts s p → is_some (
 some_array s p places = ap (λ (o : Option Array). is_some o) places.array_is
 
 -- As a phase is left the code of a failure is as the target knows it.
-pub status_next : (s : ScenarioValue) (p : List Row) (row : Row) → Obeys s → IsPrompt s (row ∷ p) → Stood s p → NextStood s p row → TellFacts s p → PlaceFacts s p → PlaceFacts s (row ∷ p) → FailsAsLeft s p row → StatusFacts s p → StatusFacts s (row ∷ p)
+pub status_next : (s : ScenarioValue) (p : List Row) (row : Row) → Obeys s → IsPrompt s (row ∷ p) → Stood s p
+    → NextStood s p row → TellFacts s p → PlaceFacts s p → PlaceFacts s (row ∷ p) → FailsAsLeft s p row
+    → StatusFacts s p → StatusFacts s (row ∷ p)
 status_next s p row o prompt was next facts before after fails h =
-    let w : Here s p row = record { obeys = o; prompt = prompt; was = was; next = next; facts = facts; before = before; after = after; fails = fails; statuses = h } in
+    let w : Here s p row = record {
+      obeys = o;
+      prompt = prompt;
+      was = was;
+      next = next;
+      facts = facts;
+      before = before;
+      after = after;
+      fails = fails;
+      statuses = h;
+    } in
     record {
-      shown = replies_next s (run_state s p) row (some_array s (row ∷ p) after) (undo_asks is_marked s p row was next facts.undo) h.shown;
+      shown = replies_next s (run_state s p) row (some_array s (row ∷ p) after)
+          (undo_asks is_marked s p row was next facts.undo) h.shown;
       areas = areas_on s p row w;
       offered = λ n e calm. offered_on s p row w n e calm;
       talks = λ n e calm. talks_on s p row w n e calm;

@@ -9,7 +9,8 @@ use Rattle.story_laws.specs.link_laws.proofs.LeavingWays as ways
 
 pub data Completes (v : Serving) (phase : Phase) : Type 0 where
   in_status : phase ≡ Phase.Status → Completes v phase
-  refused : phase ≡ Phase.MessageOut → v.plan.cause ≡ Cause.InMessage → v.plan.messages ≡ one_message MsgIn.CommandComplete → Completes v phase
+  refused : phase ≡ Phase.MessageOut → v.plan.cause ≡ Cause.InMessage
+      → v.plan.messages ≡ one_message MsgIn.CommandComplete → Completes v phase
 
 by_way : {v : Serving} {attention : Bool} {phase : Phase} {l : Leaving} → ways.Leaves v attention phase l
     → l.messages ≡ one_message MsgIn.CommandComplete → Completes v phase
@@ -17,7 +18,9 @@ by_way (ways.completes _) e = in_status refl
 by_way (ways.repeats _ r) e = refused refl r.cause e
 by_way _ e = wrong' (ap (λ (m : Messages). is_complete_in m.first) e)
 
-pub completes_from : (v : Serving) (attention : Bool) (phase : Phase) → (phase_leaving v attention phase).to ≡ Some Phase.MessageIn → (phase_leaving v attention phase).messages ≡ one_message MsgIn.CommandComplete → Completes v phase
+pub completes_from : (v : Serving) (attention : Bool) (phase : Phase)
+    → (phase_leaving v attention phase).to ≡ Some Phase.MessageIn
+    → (phase_leaving v attention phase).messages ≡ one_message MsgIn.CommandComplete → Completes v phase
 completes_from v attention phase to e = by_way (ways.leaves v attention phase) e
 
 -- ---- of the messages that are left it is the only one
@@ -30,10 +33,12 @@ second_other (Some m) h = go m (ap is_complete h)
     go MsgIn.CommandComplete e = wrong e
     go _ e = refl
 
-alone : (m : Messages) (n : ℕ) → is_complete_in m.second ≡ false → from_byte m n ≡ one_message MsgIn.CommandComplete → m ≡ one_message MsgIn.CommandComplete
+alone : (m : Messages) (n : ℕ) → is_complete_in m.second ≡ false → from_byte m n ≡ one_message MsgIn.CommandComplete
+    → m ≡ one_message MsgIn.CommandComplete
 alone m n other = go (nat_lt n (length (message_bytes m.first)))
   where
-    go : (q : Bool) → (if q then m else record { first = m.second; second = None }) ≡ one_message MsgIn.CommandComplete → m ≡ one_message MsgIn.CommandComplete
+    go : (q : Bool) → (if q then m else record { first = m.second; second = None }) ≡ one_message MsgIn.CommandComplete
+        → m ≡ one_message MsgIn.CommandComplete
     go true e = e
     go false e = wrong' (sym other ∙ ap (λ (x : Messages). is_complete_in x.first) e)
 
@@ -42,8 +47,10 @@ ends_alone m next (stays f all) = second_other m.second all.1
 ends_alone m next (closes f x one end) = ap (λ (y : Messages). is_complete_in y.second) one
 ends_alone m next (saves f both) = ap (λ (y : Messages). is_complete_in y.second) both
 
-pub left_alone : (l : Link) (m : Messages) (next : Next) (count n : ℕ) → LastGiven l m next count → from_byte m n ≡ one_message MsgIn.CommandComplete → m ≡ one_message MsgIn.CommandComplete
+pub left_alone : (l : Link) (m : Messages) (next : Next) (count n : ℕ) → LastGiven l m next count
+    → from_byte m n ≡ one_message MsgIn.CommandComplete → m ≡ one_message MsgIn.CommandComplete
 left_alone l m next count n (still_stays f all last) = alone m n (second_other m.second all.1)
-left_alone l m next count n (to_close f x one end zero last) = alone m n (ap (λ (y : Messages). is_complete_in y.second) one)
+left_alone l m next count n (to_close f x one end zero last) =
+    alone m n (ap (λ (y : Messages). is_complete_in y.second) one)
 left_alone l m next count n (to_save f both at last) = alone m n (ap (λ (y : Messages). is_complete_in y.second) both)
 left_alone l m next count n (closed f ends full last told) = alone m n (ends_alone m next ends)

@@ -31,7 +31,8 @@ set_some (b ∷ bytes) (suc at) byte e = suc_some (length (slice_set bytes at by
 pub taken_some : (a : Area) (byte : ℕ) → HasStatus (area_with a byte).bytes
 taken_some a byte = go (nat_lt a.active (length a.bytes)) refl
   where
-    go : (q : Bool) → nat_lt a.active (length a.bytes) ≡ q → HasStatus (if q then slice_set a.bytes a.active byte else a.bytes ++ byte ∷ [])
+    go : (q : Bool) → nat_lt a.active (length a.bytes) ≡ q
+        → HasStatus (if q then slice_set a.bytes a.active byte else a.bytes ++ byte ∷ [])
     go true e = set_some a.bytes a.active byte e
     go false e = more_some a.bytes byte
 
@@ -40,65 +41,90 @@ Own id x bytes = same_id x id ≡ true → HasStatus bytes
 
 -- What MESSAGE PARITY ERROR brings back with the row has one, too.
 abbrev UndoesIn : RunState → Row → Link → Type 0
-UndoesIn k row l = (m : MsgOut) (u : CarriedBytes) → (row_reading k.story.bus_state row).out ≡ Some m → is_parity_error m ≡ true → l.undo ≡ Some u → HasStatus u.status.bytes
+UndoesIn k row l = (m : MsgOut) (u : CarriedBytes) → (row_reading k.story.bus_state row).out ≡ Some m
+    → is_parity_error m ≡ true → l.undo ≡ Some u → HasStatus u.status.bytes
 
-pub status_kept : (s : ScenarioValue) (k : RunState) (row : Row) (l : Link) (id : ProcId) → k.story.link ≡ Some l → UndoesIn k row l → HasStatus (carried_here k id).status.bytes → HasStatus (carried_here (run_state_after s k row) id).status.bytes
+pub status_kept : (s : ScenarioValue) (k : RunState) (row : Row) (l : Link) (id : ProcId)
+    → k.story.link ≡ Some l → UndoesIn k row l → HasStatus (carried_here k id).status.bytes
+    → HasStatus (carried_here (run_state_after s k row) id).status.bytes
 status_kept s k row l id el undoes h =
     areas_next (Own id) s k row
     (λ m n x er em en ex.
     record {
       status = λ p e cr st f. taken_some (carried_of k.story.carried p).status _;
-      undoes = λ o u eo parity eu f. undoes o u eo parity (ap (λ (y : Link). y.undo) (same_Some l x (sym el ∙ ex)) ∙ eu);
+      undoes =
+          λ o u eo parity eu f. undoes o u eo parity (ap (λ (y : Link). y.undo) (same_Some l x (sym el ∙ ex)) ∙ eu);
     })
     (λ x e. subst (λ (y : ProcId). HasStatus (carried_here k y).status.bytes) (sym (id_is x id e)) h)
     id (self_id id)
 
 -- ---- no byte of MESSAGE OUT crosses
 
-out_none : (k : RunState) (row : Row) (n : Connection) (c : Change) (now : Bool) → IsRowIn k row n c → is_some (receiver_in n c) ≡ now → (now ≡ false) ⊎ (is_message_out c.before ≡ false) → (row_reading k.story.bus_state row).out ≡ None
+out_none : (k : RunState) (row : Row) (n : Connection) (c : Change) (now : Bool) → IsRowIn k row n c
+    → is_some (receiver_in n c) ≡ now → (now ≡ false) ⊎ (is_message_out c.before ≡ false)
+    → (row_reading k.story.bus_state row).out ≡ None
 out_none k row n c now r en other = ap (λ (d : RowReading). d.out) (reading_is k row n c now r en) ∙ go now other
   where
-    go : (q : Bool) → (q ≡ false) ⊎ (is_message_out c.before ≡ false) → message_out k.story.bus_state.dialogue c q ≡ None
+    go : (q : Bool) → (q ≡ false) ⊎ (is_message_out c.before ≡ false)
+        → message_out k.story.bus_state.dialogue c q ≡ None
     go false x = refl
     go true (inl x) = wrong x
-    go true (inr x) = ap (λ (q : Bool). if q then whole_out (got_out (fresh_bytes k.story.bus_state.dialogue ++ c.after.data_bits % 256 ∷ [])) else None) x
+    go true (inr x) = ap (λ (q : Bool). if q
+        then whole_out (got_out (fresh_bytes k.story.bus_state.dialogue ++ c.after.data_bits % 256 ∷ [])) else None) x
 
-pub quiet : (k : RunState) (row : Row) (n : Connection) (c : Change) (now : Bool) (l : Link) → IsRowIn k row n c → is_some (receiver_in n c) ≡ now → (now ≡ false) ⊎ (is_message_out c.before ≡ false) → UndoesIn k row l
+pub quiet : (k : RunState) (row : Row) (n : Connection) (c : Change) (now : Bool) (l : Link) → IsRowIn k row n c
+    → is_some (receiver_in n c) ≡ now → (now ≡ false) ⊎ (is_message_out c.before ≡ false) → UndoesIn k row l
 quiet k row n c now l r en other m u e = none_some m (sym (out_none k row n c now r en other) ∙ e)
 
 -- ---- the phase stays
 
-stays_by : (l : Link) (bytes others : List ℕ) (p q : Plan) (count other : ℕ) (phase : Phase) → (HasStatus bytes → HasStatus others) → KeptPlan p q → (is_attended phase ≡ true → other ≡ count) → CarriesBy l bytes p count phase → CarriesBy l others q other phase
-stays_by l bytes others p q count other Phase.Status f k e h = λ some. f (h (ap (λ (x : ℕ). x == 0) (sym (e refl)) ∙ some))
-stays_by l bytes others p q count other Phase.MessageIn f k e h = λ m. let w = h (sym k.messages ∙ m) in (f w.0, counts w.1)
+stays_by : (l : Link) (bytes others : List ℕ) (p q : Plan) (count other : ℕ) (phase : Phase)
+    → (HasStatus bytes → HasStatus others) → KeptPlan p q
+    → (is_attended phase ≡ true → other ≡ count) → CarriesBy l bytes p count phase → CarriesBy l others q other phase
+stays_by l bytes others p q count other Phase.Status f k e h =
+    λ some. f (h (ap (λ (x : ℕ). x == 0) (sym (e refl)) ∙ some))
+stays_by l bytes others p q count other Phase.MessageIn f k e h = λ m.
+    let w = h (sym k.messages ∙ m) in
+    (f w.0, counts w.1)
   where
     counts : (count ≡ 0) ⊎ UndoesStatus l.undo → (other ≡ 0) ⊎ UndoesStatus l.undo
     counts (inl z) = inl (e refl ∙ z)
     counts (inr z) = inr z
-stays_by l bytes others p q count other Phase.MessageOut f k e h = λ ec m. let w = h (sym k.cause ∙ ec) (sym k.messages ∙ m) in (f w.0, w.1)
+stays_by l bytes others p q count other Phase.MessageOut f k e h = λ ec m.
+    let w = h (sym k.cause ∙ ec) (sym k.messages ∙ m) in
+    (f w.0, w.1)
 stays_by l bytes others p q count other _ f k e h = tt
 
 -- What is said of the process that is served, with this link.
 abbrev pub TalksOf : RunState → Link → ProcId → Type 0
-TalksOf k l id = CarriesBy l (carried_here k id).status.bytes k.exchange.plan k.handshakes.requests (phase_of (bus_of k))
+TalksOf k l id =
+    CarriesBy l (carried_here k id).status.bytes k.exchange.plan k.handshakes.requests (phase_of (bus_of k))
 
 -- No byte crosses.
-pub still_talk : (s : ScenarioValue) (k : RunState) (row : Row) (n : Connection) (c : Change) (l m : Link) (id : ProcId) → IsRowIn k row n c → changes_phase c ≡ false → is_some (receiver_in n c) ≡ false → k.story.link ≡ Some l → (run_state_after s k row).story.link ≡ Some m
-    → (is_attended (phase_of (bus_of k)) ≡ true → (run_state_after s k row).handshakes.requests ≡ k.handshakes.requests) → TalksOf k l id → TalksOf (run_state_after s k row) m id
+pub still_talk : (s : ScenarioValue) (k : RunState) (row : Row) (n : Connection) (c : Change) (l m : Link) (id : ProcId)
+    → IsRowIn k row n c → changes_phase c ≡ false → is_some (receiver_in n c) ≡ false
+    → k.story.link ≡ Some l → (run_state_after s k row).story.link ≡ Some m
+    → (is_attended (phase_of (bus_of k)) ≡ true → (run_state_after s k row).handshakes.requests ≡ k.handshakes.requests)
+    → TalksOf k l id → TalksOf (run_state_after s k row) m id
 still_talk s k row n c l m id r ep en el em asked h =
     let j : RunState = run_state_after s k row in
     let t = stays_as s k row n c false r ep en in
     subst (λ (x : Link). TalksOf j x id) (same_Some l m (sym (link_still s k row n c l r en el) ∙ em))
-    (subst (CarriesBy l (carried_here j id).status.bytes j.exchange.plan j.handshakes.requests) (sym t.phase)
-    (stays_by l (carried_here k id).status.bytes (carried_here j id).status.bytes k.exchange.plan j.exchange.plan k.handshakes.requests j.handshakes.requests (phase_of (bus_of k)) (status_kept s k row l id el (quiet k row n c false l r en (inl refl))) t.plan asked h))
+    (subst (CarriesBy l (carried_here j id).status.bytes j.exchange.plan j.handshakes.requests)
+    (sym t.phase) (stays_by l (carried_here k id).status.bytes
+    (carried_here j id).status.bytes k.exchange.plan j.exchange.plan k.handshakes.requests j.handshakes.requests
+    (phase_of (bus_of k)) (status_kept s k row l id el (quiet k row n c false l r en (inl refl))) t.plan asked h))
 
 -- ---- a byte of MESSAGE OUT
 
-pub out_talk : (s : ScenarioValue) (k : RunState) (row : Row) (n : Connection) (c : Change) (l m : Link) (id : ProcId) → IsRowIn k row n c → changes_phase c ≡ false → is_some (receiver_in n c) ≡ true → is_message_out c.before ≡ true → k.story.link ≡ Some l → (run_state_after s k row).story.link ≡ Some m
-    → TalksOf k l id → TalksOf (run_state_after s k row) m id
-out_talk s k row n c l m id r ep en out el em h =
-    subst (CarriesBy m (carried_here j id).status.bytes j.exchange.plan j.handshakes.requests) (sym (t.phase ∙ here))
-    (λ ec e. let w = was (sym t.plan.cause ∙ ec) (sym t.plan.messages ∙ e) in (status_kept s k row l id el (brings w.1) w.0, subst UndoesStatus (sym same) w.1))
+pub out_talk : (s : ScenarioValue) (k : RunState) (row : Row) (n : Connection) (c : Change) (l m : Link) (id : ProcId)
+    → IsRowIn k row n c → changes_phase c ≡ false → is_some (receiver_in n c) ≡ true → is_message_out c.before ≡ true
+    → k.story.link ≡ Some l → (run_state_after s k row).story.link ≡ Some m → TalksOf k l id
+    → TalksOf (run_state_after s k row) m id
+out_talk s k row n c l m id r ep en out el em h = subst
+    (CarriesBy m (carried_here j id).status.bytes j.exchange.plan j.handshakes.requests)
+    (sym (t.phase ∙ here)) (λ ec e. let w = was (sym t.plan.cause ∙ ec) (sym t.plan.messages ∙ e) in
+    (status_kept s k row l id el (brings w.1) w.0, subst UndoesStatus (sym same) w.1))
   where
     j : RunState
     j = run_state_after s k row
@@ -125,24 +151,34 @@ out_talk s k row n c l m id r ep en out el em h =
         go false d i z = wrong' z
 
     none : message_in k.story.bus_state.dialogue c true ≡ None
-    none = ap (λ (q : Bool). if q then whole_in (got_in (k.story.bus_state.dialogue.half ++ c.after.data_bits % 256 ∷ [])) else None) in_none
+    none = ap (λ (q : Bool).
+        if q then whole_in (got_in (k.story.bus_state.dialogue.half ++ c.after.data_bits % 256 ∷ [])) else None) in_none
 
     same : m.undo ≡ l.undo
     same = by (link_crossed s k row n c l r en el)
       where
-        by : LinkAfter s k.story l (message_out k.story.bus_state.dialogue c true) (message_in k.story.bus_state.dialogue c true) j.story.link → m.undo ≡ l.undo
+        by : LinkAfter s k.story l (message_out k.story.bus_state.dialogue c true)
+            (message_in k.story.bus_state.dialogue c true) j.story.link
+            → m.undo ≡ l.undo
         by (says x e z) = ap (λ (y : Link). y.undo) (same_Some m (record l { last = last_out x l }) (sym em ∙ z))
         by (stays e f z) = ap (λ (y : Link). y.undo) (same_Some m l (sym em ∙ z))
         by (hears x e f z) = none_some x (sym none ∙ f)
 
 -- ---- a byte of MESSAGE IN
 
-pub in_talk : (s : ScenarioValue) (k : RunState) (row : Row) (n : Connection) (c : Change) (l m : Link) (id : ProcId) → IsRowIn k row n c → changes_phase c ≡ false → is_some (receiver_in n c) ≡ true → is_message_in c.before ≡ true → k.story.link ≡ Some l → (run_state_after s k row).story.link ≡ Some m
-    → (k.exchange.plan.messages ≡ one_message MsgIn.CommandComplete → l.item ≡ Some (process id)) → (k.exchange.plan.messages ≡ one_message MsgIn.CommandComplete → k.handshakes.requests ≡ 0 → message_in k.story.bus_state.dialogue c true ≡ Some MsgIn.CommandComplete)
+pub in_talk : (s : ScenarioValue) (k : RunState) (row : Row) (n : Connection) (c : Change) (l m : Link) (id : ProcId)
+    → IsRowIn k row n c → changes_phase c ≡ false → is_some (receiver_in n c) ≡ true
+    → is_message_in c.before ≡ true → k.story.link ≡ Some l → (run_state_after s k row).story.link ≡ Some m
+    → (k.exchange.plan.messages ≡ one_message MsgIn.CommandComplete → l.item ≡ Some (process id))
+    → (k.exchange.plan.messages ≡ one_message MsgIn.CommandComplete → k.handshakes.requests ≡ 0
+    → message_in k.story.bus_state.dialogue c true ≡ Some MsgIn.CommandComplete)
     → TalksOf k l id → TalksOf (run_state_after s k row) m id
-in_talk s k row n c l m id r ep en into el em named first h =
-    subst (CarriesBy m (carried_here j id).status.bytes j.exchange.plan j.handshakes.requests) (sym (t.phase ∙ here))
-    (λ e. let f = sym t.plan.messages ∙ e in let w = was f in (status_kept s k row l id el (quiet k row n c true l r en (inr (out_in c.before into))) w.0, inr (undone f w.0 w.1)))
+in_talk s k row n c l m id r ep en into el em named first h = subst
+    (CarriesBy m (carried_here j id).status.bytes j.exchange.plan j.handshakes.requests) (sym (t.phase ∙ here))
+    (λ e. let f = sym t.plan.messages ∙ e in let w = was f in (
+      status_kept s k row l id el (quiet k row n c true l r en (inr (out_in c.before into))) w.0,
+      inr (undone f w.0 w.1),
+    ))
   where
     j : RunState
     j = run_state_after s k row
@@ -157,17 +193,24 @@ in_talk s k row n c l m id r ep en into el em named first h =
     was = subst (CarriesBy l (carried_here k id).status.bytes k.exchange.plan k.handshakes.requests) here h
 
     out : message_out k.story.bus_state.dialogue c true ≡ None
-    out = ap (λ (q : Bool). if q then whole_out (got_out (fresh_bytes k.story.bus_state.dialogue ++ c.after.data_bits % 256 ∷ [])) else None) (out_in c.before into)
+    out = ap (λ (q : Bool).
+        if q then whole_out (got_out (fresh_bytes k.story.bus_state.dialogue ++ c.after.data_bits % 256 ∷ []))
+        else None) (out_in c.before into)
 
-    own : k.exchange.plan.messages ≡ one_message MsgIn.CommandComplete → HasStatus (carried_here k id).status.bytes → UndoesStatus (carried_if k.story l.item)
+    own : k.exchange.plan.messages ≡ one_message MsgIn.CommandComplete → HasStatus (carried_here k id).status.bytes
+        → UndoesStatus (carried_if k.story l.item)
     own e w = subst (λ (o : Option Item). UndoesStatus (carried_if k.story o)) (sym (named e)) w
 
-    undone : k.exchange.plan.messages ≡ one_message MsgIn.CommandComplete → HasStatus (carried_here k id).status.bytes → (k.handshakes.requests ≡ 0) ⊎ UndoesStatus l.undo → UndoesStatus m.undo
+    undone : k.exchange.plan.messages ≡ one_message MsgIn.CommandComplete → HasStatus (carried_here k id).status.bytes
+        → (k.handshakes.requests ≡ 0) ⊎ UndoesStatus l.undo → UndoesStatus m.undo
     undone e w u = by (link_crossed s k row n c l r en el)
       where
-        by : LinkAfter s k.story l (message_out k.story.bus_state.dialogue c true) (message_in k.story.bus_state.dialogue c true) j.story.link → UndoesStatus m.undo
+        by : LinkAfter s k.story l (message_out k.story.bus_state.dialogue c true)
+            (message_in k.story.bus_state.dialogue c true) j.story.link
+            → UndoesStatus m.undo
         by (says x f z) = none_some x (sym out ∙ f)
-        by (hears x f g z) = subst UndoesStatus (sym (ap (λ (y : Link). y.undo) (same_Some m (heard_link s k.story l x) (sym em ∙ z)))) (own e w)
+        by (hears x f g z) = subst UndoesStatus
+            (sym (ap (λ (y : Link). y.undo) (same_Some m (heard_link s k.story l x) (sym em ∙ z)))) (own e w)
         by (stays f g z) = subst UndoesStatus (sym (ap (λ (y : Link). y.undo) (same_Some m l (sym em ∙ z)))) (at u)
           where
             at : (k.handshakes.requests ≡ 0) ⊎ UndoesStatus l.undo → UndoesStatus l.undo
@@ -176,15 +219,21 @@ in_talk s k row n c l m id r ep en into el em named first h =
 
 -- ---- a byte of STATUS, and one of COMMAND and data
 
-status_taken : (c : CarriedBytes) (b : LineSet) (byte : ℕ) → phase_of b ≡ Phase.Status → HasStatus (carried_after_byte c b byte).status.bytes
+status_taken : (c : CarriedBytes) (b : LineSet) (byte : ℕ) → phase_of b ≡ Phase.Status
+    → HasStatus (carried_after_byte c b byte).status.bytes
 status_taken c b byte e = go b.msg b.cd b.io e
   where
     is_status : Phase → Bool
     is_status Phase.Status = true
     is_status _ = false
 
-    go : (x d i : Bool) → (if x then (if i then Phase.MessageIn else Phase.MessageOut) else if d then (if i then Phase.Status else Phase.Command) else if i then Phase.DataIn else Phase.DataOut) ≡ Phase.Status
-        → HasStatus (if not x && d && not i then record c { command = area_with c.command byte; block = c.block ++ byte ∷ [] } else if not x && not d then record c { moved = area_with c.moved byte } else if not x && d && i then record c { status = area_with c.status byte } else c).status.bytes
+    go : (x d i : Bool) → (if x then (if i then Phase.MessageIn else Phase.MessageOut)
+        else if d then (if i then Phase.Status else Phase.Command) else if i then Phase.DataIn else Phase.DataOut)
+        ≡ Phase.Status
+        → HasStatus
+        (if not x && d && not i then record c { command = area_with c.command byte; block = c.block ++ byte ∷ [] }
+        else if not x && not d then record c { moved = area_with c.moved byte }
+        else if not x && d && i then record c { status = area_with c.status byte } else c).status.bytes
     go true d true z = wrong' (ap is_status z)
     go true d false z = wrong' (ap is_status z)
     go false true true z = taken_some c.status byte
@@ -199,15 +248,22 @@ status_line b e = go b.msg b.cd b.io e
     is_status Phase.Status = true
     is_status _ = false
 
-    go : (x d i : Bool) → (if x then (if i then Phase.MessageIn else Phase.MessageOut) else if d then (if i then Phase.Status else Phase.Command) else if i then Phase.DataIn else Phase.DataOut) ≡ Phase.Status → x ≡ false
+    go : (x d i : Bool) → (if x then (if i then Phase.MessageIn else Phase.MessageOut)
+        else if d then (if i then Phase.Status else Phase.Command) else if i then Phase.DataIn else Phase.DataOut)
+        ≡ Phase.Status → x ≡ false
     go true d true z = wrong' (ap is_status z)
     go true d false z = wrong' (ap is_status z)
     go false d i z = refl
 
 -- The process that the initiator knows takes the byte.
-takes_status : (s : ScenarioValue) (k : RunState) (row : Row) (n : Connection) (c : Change) (l : Link) (id : ProcId) → IsRowIn k row n c → is_some (receiver_in n c) ≡ true → k.story.link ≡ Some l → l.item ≡ Some (process id) → phase_of c.before ≡ Phase.Status → is_message_out c.before ≡ false → is_message_in c.before ≡ false → HasStatus (carried_here (run_state_after s k row) id).status.bytes
-takes_status s k row n c l id r en el item here out into =
-    events_on (Own id) s changed (row_events_by s k.story d row) (λ x e. subst (λ (y : ProcId). HasStatus (carried_of changed.carried y).status.bytes) (sym (id_is x id e)) (subst (λ (y : CarriedBytes). HasStatus y.status.bytes) (sym path) (status_taken own c.before byte here))) id (self_id id)
+takes_status : (s : ScenarioValue) (k : RunState) (row : Row) (n : Connection) (c : Change) (l : Link) (id : ProcId)
+    → IsRowIn k row n c → is_some (receiver_in n c) ≡ true → k.story.link ≡ Some l → l.item ≡ Some (process id)
+    → phase_of c.before ≡ Phase.Status → is_message_out c.before ≡ false → is_message_in c.before ≡ false
+    → HasStatus (carried_here (run_state_after s k row) id).status.bytes
+takes_status s k row n c l id r en el item here out into = events_on (Own id) s changed (row_events_by s k.story d row)
+    (λ x e. subst (λ (y : ProcId). HasStatus (carried_of changed.carried y).status.bytes) (sym (id_is x id e))
+    (subst (λ (y : CarriedBytes). HasStatus y.status.bytes) (sym path) (status_taken own c.before byte here))) id
+    (self_id id)
   where
     d : RowReading
     d = row_reading k.story.bus_state row
@@ -225,29 +281,40 @@ takes_status s k row n c l id r en el item here out into =
     byte = c.after.data_bits % 256
 
     no_message_out : message_out k.story.bus_state.dialogue c true ≡ None
-    no_message_out = ap (λ (q : Bool). if q then whole_out (got_out (fresh_bytes k.story.bus_state.dialogue ++ byte ∷ [])) else None) out
+    no_message_out =
+        ap (λ (q : Bool). if q then whole_out (got_out (fresh_bytes k.story.bus_state.dialogue ++ byte ∷ [])) else None)
+        out
 
     no_message_in : message_in k.story.bus_state.dialogue c true ≡ None
-    no_message_in = ap (λ (q : Bool). if q then whole_in (got_in (k.story.bus_state.dialogue.half ++ byte ∷ [])) else None) into
+    no_message_in =
+        ap (λ (q : Bool). if q then whole_in (got_in (k.story.bus_state.dialogue.half ++ byte ∷ [])) else None) into
 
     is : changed ≡ story_after_byte k.story l e
-    is =
-        ap (λ (x : RowReading). story_by_change s k.story x row) (reading_is k row n c true r en)
-        ∙ ap (λ (q : Bool). if q then record k.story { link = None } else story_on_bus s k.story k.story.bus_state.connection (Some n) e row) r.calm
+    is = ap (λ (x : RowReading). story_by_change s k.story x row) (reading_is k row n c true r en)
+        ∙ ap (λ (q : Bool). if q then record k.story { link = None }
+        else story_on_bus s k.story k.story.bus_state.connection (Some n) e row) r.calm
         ∙ ap (λ (x : Option Connection). story_on_bus s k.story x (Some n) e row) r.connection_is
         ∙ ap (λ (x : Option Link). story_in_connection s k.story x e row) el
-        ∙ (λ i. if is_some (no_message_out i) then story_after_out k.story l (no_message_out i) else if is_some (no_message_in i) then story_after_in s k.story l (no_message_in i) else story_after_byte k.story l e)
+        ∙ (λ i. if is_some (no_message_out i) then story_after_out k.story l (no_message_out i)
+        else if is_some (no_message_in i) then story_after_in s k.story l (no_message_in i)
+        else story_after_byte k.story l e)
 
     path : carried_of changed.carried id ≡ carried_after_byte own c.before byte
-    path =
-        ap (λ (x : Story). carried_of x.carried id) is
-        ∙ ap (λ (q : Bool). carried_of (if q then k.story else story_with_carried k.story (carried_after_byte_if (carried_if k.story l.item) e)).carried id) (status_line c.before here)
-        ∙ ap (λ (o : Option Item). carried_of (story_with_carried k.story (carried_after_byte_if (carried_if k.story o) e)).carried id) item
-        ∙ put_own k.story.carried (carried_after_byte own c.before byte) id (byte_id own c.before byte ∙ carried_id k.story.carried id)
+    path = ap (λ (x : Story). carried_of x.carried id) is ∙ ap (λ (q : Bool). carried_of (if q then k.story
+        else story_with_carried k.story (carried_after_byte_if (carried_if k.story l.item) e)).carried id)
+        (status_line c.before here)
+        ∙ ap (λ (o : Option Item). carried_of
+        (story_with_carried k.story (carried_after_byte_if (carried_if k.story o) e)).carried id) item
+        ∙ put_own k.story.carried (carried_after_byte own c.before byte) id
+        (byte_id own c.before byte ∙ carried_id k.story.carried id)
 
-pub else_talk : (s : ScenarioValue) (k : RunState) (row : Row) (n : Connection) (c : Change) (l m : Link) (id : ProcId) → IsRowIn k row n c → changes_phase c ≡ false → is_some (receiver_in n c) ≡ true → is_message_out c.before ≡ false → is_message_in c.before ≡ false → (c.before.msg ≡ true → c.before.cd ≡ true) → k.story.link ≡ Some l
+pub else_talk : (s : ScenarioValue) (k : RunState) (row : Row) (n : Connection) (c : Change) (l m : Link) (id : ProcId)
+    → IsRowIn k row n c → changes_phase c ≡ false → is_some (receiver_in n c) ≡ true → is_message_out c.before ≡ false
+    → is_message_in c.before ≡ false → (c.before.msg ≡ true → c.before.cd ≡ true) → k.story.link ≡ Some l
     → (phase_of (bus_of k) ≡ Phase.Status → l.item ≡ Some (process id)) → TalksOf (run_state_after s k row) m id
-else_talk s k row n c l m id r ep en out into lines el item = subst (CarriesBy m (carried_here j id).status.bytes j.exchange.plan j.handshakes.requests) (sym (t.phase ∙ ap phase_of r.bus_is)) (go (phase_of c.before) refl)
+else_talk s k row n c l m id r ep en out into lines el item = subst
+    (CarriesBy m (carried_here j id).status.bytes j.exchange.plan j.handshakes.requests)
+    (sym (t.phase ∙ ap phase_of r.bus_is)) (go (phase_of c.before) refl)
   where
     j : RunState
     j = run_state_after s k row
@@ -263,7 +330,10 @@ else_talk s k row n c l m id r ep en out into lines el item = subst (CarriesBy m
     no_message : is_message (phase_of c.before) ≡ false
     no_message = by c.before.msg c.before.cd c.before.io out into lines
       where
-        by : (x d i : Bool) → (x && d && not i) ≡ false → (x && d && i) ≡ false → (x ≡ true → d ≡ true) → is_message (if x then (if i then Phase.MessageIn else Phase.MessageOut) else if d then (if i then Phase.Status else Phase.Command) else if i then Phase.DataIn else Phase.DataOut) ≡ false
+        by : (x d i : Bool) → (x && d && not i) ≡ false → (x && d && i) ≡ false → (x ≡ true → d ≡ true)
+            → is_message (if x then (if i then Phase.MessageIn else Phase.MessageOut)
+            else if d then (if i then Phase.Status else Phase.Command) else if i then Phase.DataIn else Phase.DataOut)
+            ≡ false
         by true true true a b f = wrong b
         by true true false a b f = wrong a
         by true false i a b f = wrong' (f refl)
@@ -272,7 +342,8 @@ else_talk s k row n c l m id r ep en out into lines el item = subst (CarriesBy m
         by false false true a b f = refl
         by false false false a b f = refl
 
-    go : (x : Phase) → phase_of c.before ≡ x → CarriesBy m (carried_here j id).status.bytes j.exchange.plan j.handshakes.requests x
+    go : (x : Phase) → phase_of c.before ≡ x
+        → CarriesBy m (carried_here j id).status.bytes j.exchange.plan j.handshakes.requests x
     go Phase.MessageOut e = wrong' (sym no_message ∙ ap is_message e)
     go Phase.MessageIn e = wrong' (sym no_message ∙ ap is_message e)
     go Phase.Status e = λ some. takes_status s k row n c l id r en el (item (ap phase_of r.bus_is ∙ e)) e out into

@@ -1,5 +1,5 @@
--- What the bytes of writes ask of a row follows from where the processes stand in the plain disk array, and from how many bytes of a run
--- were answered.
+-- What the bytes of writes ask of a row follows from where the processes stand in the plain disk array, and from how
+-- many bytes of a run were answered.
 use Rattle.trace_laws.proofs
 use proofs.Names.{inl, inr, ℕ, ◌≡◌, ◌⊎◌, ◌≤◌, ◌+◌, ◌*◌, Bool, true, false, not, ◌&&◌, ◌==◌, ◌∙◌, List, ◌∷◌, Option}
 use proofs.Names.{Some, None, refl, sym, ap, subst, arith, nat_tests, ◌-◌, if◌then◌else◌, min, nat_le, nat_lt, wrong}
@@ -46,12 +46,9 @@ none_left a b e h = absurd omega (arith, e, h)
 
 -- A run with a byte moves some.
 pub moves_some : (policy : Policy) (t : Task) → 1 ≤ run_length policy t → (t.moved == 0) ≡ false
-moves_some policy t h =
-    by_bool (t.moved == 0)
-    (λ e.
-    let none : (run_at policy t t.runs).end ≡ 0 = (λ i. (run_in policy t.blocks t.size (zero_of t.moved e i) t.runs).end) ∙ end_none policy t.blocks t.size t.runs in
-    absurd (none_left (run_at policy t t.runs).end (run_at policy t t.runs).start none h))
-    (λ e. e)
+moves_some policy t h = by_bool (t.moved == 0) (λ e. let none : (run_at policy t t.runs).end ≡ 0 =
+    (λ i. (run_in policy t.blocks t.size (zero_of t.moved e i) t.runs).end) ∙ end_none policy t.blocks t.size t.runs in
+    absurd (none_left (run_at policy t t.runs).end (run_at policy t t.runs).start none h)) (λ e. e)
 
 -- ---- a process that writes
 
@@ -66,13 +63,17 @@ some_there n h = grind (arith, nat_tests, h)
 
 -- ---- all of it
 
-pub write_premises : (s : ScenarioValue) (p : List Row) (row : Row) → Obeys s → IsPrompt s (row ∷ p) → Stood s p → PlaceFacts s p → DataFacts s p → ResetFacts s p → WritesAsked s p row
+pub write_premises : (s : ScenarioValue) (p : List Row) (row : Row) → Obeys s → IsPrompt s (row ∷ p) → Stood s p
+    → PlaceFacts s p → DataFacts s p → ResetFacts s p → WritesAsked s p row
 write_premises s p row o prompt was h facts resets = record {
   placed = places_heard s p was.standing.devices h;
   guests = λ n q con calm b phase served. no_guest_here n q con calm b phase served;
   resets = resets.reads;
-  sizes = λ q served. ap (λ (x : ℕ). x == block_size (unit_of s q.target q.unit)) (size_line (unit_of s q.target q.unit) (unit_state_at (array_of s k).units q.target q.unit) (lines q.target q.unit)) ∙ eq_self (block_size (unit_of s q.target q.unit));
-  answered = λ n q t con calm off after b ep phase struck served task. whole n q t con calm off after b ep phase served task;
+  sizes = λ q served. ap (λ (x : ℕ). x == block_size (unit_of s q.target q.unit)) (size_line
+      (unit_of s q.target q.unit) (unit_state_at (array_of s k).units q.target q.unit) (lines q.target q.unit))
+      ∙ eq_self (block_size (unit_of s q.target q.unit));
+  answered =
+      λ n q t con calm off after b ep phase struck served task. whole n q t con calm off after b ep phase served task;
 }
   where
     k : RunState
@@ -90,7 +91,9 @@ write_premises s p row o prompt was h facts resets = record {
         no_out : {A : Type 0} (x : Phase) → is_data_out x ≡ false → x ≡ Phase.DataOut → A
         no_out x f z = wrong (sym (ap is_data_out z) ∙ f)
 
-        of : (m c i : Bool) → (if m then (if i then Phase.MessageIn else Phase.MessageOut) else if c then (if i then Phase.Status else Phase.Command) else if i then Phase.DataIn else Phase.DataOut) ≡ Phase.DataOut → ((not m && not c) ≡ true) × (i ≡ false)
+        of : (m c i : Bool) → (if m then (if i then Phase.MessageIn else Phase.MessageOut)
+            else if c then (if i then Phase.Status else Phase.Command) else if i then Phase.DataIn else Phase.DataOut)
+            ≡ Phase.DataOut → ((not m && not c) ≡ true) × (i ≡ false)
         of false false false e = (refl, refl)
         of true c true e = no_out Phase.MessageIn refl e
         of true c false e = no_out Phase.MessageOut refl e
@@ -98,31 +101,42 @@ write_premises s p row o prompt was h facts resets = record {
         of false true false e = no_out Phase.Command refl e
         of false false true e = no_out Phase.DataIn refl e
 
-    writes : (n : Connection) (q : Process) → connection p ≡ Some n → (bus p).rst ≡ false → k.exchange.begun ≡ true → phase_of (bus_of k) ≡ Phase.DataOut → process_served s k ≡ Some q → is_writing q ≡ true
+    writes : (n : Connection) (q : Process) → connection p ≡ Some n → (bus p).rst ≡ false → k.exchange.begun ≡ true
+        → phase_of (bus_of k) ≡ Phase.DataOut → process_served s k ≡ Some q → is_writing q ≡ true
     writes n q con calm b phase served =
         let at = out_lines (bus_of k) phase in
         sym (λ i. is_directed (at.1 i) (writes_of (served i))) ∙ (was.planned n con calm).serves b at.0
 
-    task_is : (q : Process) → process_served s k ≡ Some q → task_of s k ≡ Some (task_with (array_of s k) (progress_in k.progress q.id) q (carried_here k q.id) (reply_now (array_of s k) q) (Rattle.bus_due.specs.disk_array.specs.ArrayHistory.reply_in (array_of s k).replies q.id))
+    task_is : (q : Process) → process_served s k ≡ Some q → task_of s k ≡ Some
+        (task_with (array_of s k) (progress_in k.progress q.id) q (carried_here k q.id) (reply_now (array_of s k) q)
+        (Rattle.bus_due.specs.disk_array.specs.ArrayHistory.reply_in (array_of s k).replies q.id))
     task_is q served = ap (task_if s k) served
 
-    counted : (n : Connection) (t : Task) → connection p ≡ Some n → (bus p).rst ≡ false → k.exchange.begun ≡ true → phase_of (bus_of k) ≡ Phase.DataOut → task_of s k ≡ Some t → 1 ≤ run_length (policy_of (target_def_of s n.target)) t
-    counted n t con calm b phase task =
-        subst (λ (x : ℕ). 1 ≤ x) (ap (run_length_if (policy_of (target_def_of s n.target))) task) (facts.counts.counts n con calm (sym was.plain.begun ∙ b) (ap phase_of (sym was.plain.bus) ∙ phase)).some
+    counted : (n : Connection) (t : Task) → connection p ≡ Some n → (bus p).rst ≡ false
+        → k.exchange.begun ≡ true → phase_of (bus_of k) ≡ Phase.DataOut → task_of s k ≡ Some t
+        → 1 ≤ run_length (policy_of (target_def_of s n.target)) t
+    counted n t con calm b phase task = subst (λ (x : ℕ). 1 ≤ x)
+        (ap (run_length_if (policy_of (target_def_of s n.target))) task)
+        (facts.counts.counts n con calm (sym was.plain.begun ∙ b) (ap phase_of (sym was.plain.bus) ∙ phase)).some
 
-    no_guest_here : (n : Connection) (q : Process) → connection p ≡ Some n → (bus p).rst ≡ false → k.exchange.begun ≡ true → phase_of (bus_of k) ≡ Phase.DataOut → process_served s k ≡ Some q → guest_at (array_of s k).guests q.id ≡ None
-    no_guest_here n q con calm b phase served = (λ i. guest_at (or_start s (h.array_is i)).guests q.id) ∙ go runs.runs.kind
+    no_guest_here : (n : Connection) (q : Process) → connection p ≡ Some n → (bus p).rst ≡ false
+        → k.exchange.begun ≡ true → phase_of (bus_of k) ≡ Phase.DataOut → process_served s k ≡ Some q
+        → guest_at (array_of s k).guests q.id ≡ None
+    no_guest_here n q con calm b phase served =
+        (λ i. guest_at (or_start s (h.array_is i)).guests q.id) ∙ go runs.runs.kind
       where
         placed : PlacedIf true h.array q k.exchange.plan k.handshakes (bus_of k).atn Phase.DataOut
         placed =
-            subst (λ (x : Phase). PlacedIf true h.array q k.exchange.plan k.handshakes (bus_of k).atn x) phase
-            (subst (λ (x : Bool). PlacedIf x h.array q k.exchange.plan k.handshakes (bus_of k).atn (phase_of (bus_of k))) b (h.placed n (was.plain.connection ∙ con) (ap (λ (l : LineSet). l.rst) was.plain.bus ∙ calm) q served))
+            subst (λ (x : Phase). PlacedIf true h.array q k.exchange.plan k.handshakes (bus_of k).atn x) phase (subst
+            (λ (x : Bool). PlacedIf x h.array q k.exchange.plan k.handshakes (bus_of k).atn (phase_of (bus_of k))) b
+            (h.placed n (was.plain.connection ∙ con) (ap (λ (l : LineSet). l.rst) was.plain.bus ∙ calm) q served))
 
         runs : RunsOpen h.array q
         runs = placed
 
         t : Task
-        t = task_with (array_of s k) (progress_in k.progress q.id) q (carried_here k q.id) (reply_now (array_of s k) q) (Rattle.bus_due.specs.disk_array.specs.ArrayHistory.reply_in (array_of s k).replies q.id)
+        t = task_with (array_of s k) (progress_in k.progress q.id) q (carried_here k q.id) (reply_now (array_of s k) q)
+            (Rattle.bus_due.specs.disk_array.specs.ArrayHistory.reply_in (array_of s k).replies q.id)
 
         w : is_writing q ≡ true
         w = writes n q con calm b phase served
@@ -135,8 +149,10 @@ write_premises s p row o prompt was h facts resets = record {
 
         by_outside : IsOutside h.array q → guest_at h.array.guests q.id ≡ None
         by_outside (inl none) =
-            let size : t.size ≡ 0 = (λ i. size_of (unit_state_at (or_start s (h.array_is i)).units q.target q.unit)) ∙ ap size_of none in
-            let zero : t.moved ≡ 0 = zero_size (count_in (range_in (command_of q.cdb))) t.moved t.size size (fits.fit.moved (count_in (range_in (command_of q.cdb))) (blocks_named (command_of q.cdb) w) some) in
+            let size : t.size ≡ 0 = (λ i. size_of (unit_state_at (or_start s (h.array_is i)).units q.target q.unit))
+            ∙ ap size_of none in
+            let zero : t.moved ≡ 0 = zero_size (count_in (range_in (command_of q.cdb))) t.moved t.size size
+            (fits.fit.moved (count_in (range_in (command_of q.cdb))) (blocks_named (command_of q.cdb) w) some) in
             wrong (sym (ap (λ (x : ℕ). x == 0) zero) ∙ some)
         by_outside (inr sense) = wrong' (sym (write_no_sense (command_of q.cdb) w) ∙ sense)
 
@@ -144,15 +160,21 @@ write_premises s p row o prompt was h facts resets = record {
         go (inr rests) = no_guest h.array.guests q.id rests.guests
         go (inl outside) = by_outside outside
 
-    whole : (n : Connection) (q : Process) (t : Task) → connection p ≡ Some n → (bus p).rst ≡ false → (bus (row ∷ p)).rst ≡ false → connection (row ∷ p) ≡ Some n → begun p ≡ true → changes_phase (change_of p row) ≡ true → phase_of (bus_of k) ≡ Phase.DataOut → process_served s k ≡ Some q → task_of s k ≡ Some t → IsAnsweredWhole s k q t
+    whole : (n : Connection) (q : Process) (t : Task) → connection p ≡ Some n → (bus p).rst ≡ false
+        → (bus (row ∷ p)).rst ≡ false → connection (row ∷ p) ≡ Some n → begun p ≡ true
+        → changes_phase (change_of p row) ≡ true → phase_of (bus_of k) ≡ Phase.DataOut → process_served s k ≡ Some q
+        → task_of s k ≡ Some t → IsAnsweredWhole s k q t
     whole n q t con calm off after b ep phase served task =
         let kb : k.exchange.begun ≡ true = was.plain.begun ∙ b in
         let w : is_writing q ≡ true = writes n q con calm kb phase served in
         let some : 1 ≤ run_length (policy_of (target_def_of s n.target)) t = counted n t con calm kb phase task in
-        let all : k.handshakes.answers ≡ run_length (policy_of (target_def_of s n.target)) t = answers_all s p row n o prompt was facts.counts con calm off after b ep q t served task phase in
-        let target : q.target ≡ n.target = (facts.runs.served n q (was.plain.connection ∙ con) (ap (λ (l : LineSet). l.rst) was.plain.bus ∙ calm) served w).target_is in
+        let all : k.handshakes.answers ≡ run_length (policy_of (target_def_of s n.target)) t = answers_all
+        s p row n o prompt was facts.counts con calm off after b ep q t served task phase in
+        let target : q.target ≡ n.target = (facts.runs.served n q (was.plain.connection ∙ con)
+        (ap (λ (l : LineSet). l.rst) was.plain.bus ∙ calm) served w).target_is in
         record {
-          whole = at_least k.handshakes.answers (run_length (policy_of (target_def_of s q.target)) t) (all ∙ ap (λ (x : ℕ). run_length (policy_of (target_def_of s x)) t) (sym target));
+          whole = at_least k.handshakes.answers (run_length (policy_of (target_def_of s q.target)) t)
+              (all ∙ ap (λ (x : ℕ). run_length (policy_of (target_def_of s x)) t) (sym target));
           some = some_there k.handshakes.answers (subst (λ (x : ℕ). 1 ≤ x) (sym all) some);
           moves = moves_some (policy_of (target_def_of s n.target)) t some;
         }

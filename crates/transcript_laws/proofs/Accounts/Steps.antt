@@ -56,27 +56,45 @@ broken_step a = self_same a a refl
 zero_is : (n : ℕ) → n ≡ 0 → (n == 0) ≡ true
 zero_is n e = λ i. e i == 0
 
-restored_step : (a : AccountValue) (c : CarriedBytes) → IsAccountOf a c → IsAccountOf (restored a) (with_restored_pointers c)
+restored_step : (a : AccountValue) (c : CarriedBytes) → IsAccountOf a c
+    → IsAccountOf (restored a) (with_restored_pointers c)
 restored_step a c h = record {
   block = refl;
   struck = refl;
   first = sym (zero_is c.status.saved h.saved);
   saved = h.saved;
   status = h.status;
-  begun = ap (λ (q : Bool). is_nil c.status.bytes && not q) (zero_is c.status.saved h.saved) ∙ and_false (is_nil c.status.bytes);
+  begun = ap (λ (q : Bool). is_nil c.status.bytes && not q) (zero_is c.status.saved h.saved)
+      ∙ and_false (is_nil c.status.bytes);
   shown = h.shown;
 }
 
 in_item : (a : AccountValue) (m : MsgIn) (c : CarriedBytes) → IsAccountOf a c → IsAccountOf (with_item a (Item.In m)) c
 in_item a m c h = same_account a (with_item a (Item.In m)) c (item_same a (Item.In m)) h
 
-pub in_step : (a : AccountValue) (m : MsgIn) (c : CarriedBytes) → IsAccountOf a c → IsAccountOf (account_after a (Part.In m)) (carried_after_message c m)
+pub in_step : (a : AccountValue) (m : MsgIn) (c : CarriedBytes) → IsAccountOf a c
+    → IsAccountOf (account_after a (Part.In m)) (carried_after_message c m)
 in_step a MsgIn.CommandComplete c h = in_item a MsgIn.CommandComplete c h
-in_step a MsgIn.SavePointer c h =
-    record { block = h.block; struck = h.struck; first = h.first; saved = h.saved; status = h.status; begun = h.begun; shown = h.shown }
+in_step a MsgIn.SavePointer c h = record {
+  block = h.block;
+  struck = h.struck;
+  first = h.first;
+  saved = h.saved;
+  status = h.status;
+  begun = h.begun;
+  shown = h.shown;
+}
 in_step a MsgIn.RestorePointers c h =
     let g = restored_step (with_item a (Item.In MsgIn.RestorePointers)) c (in_item a MsgIn.RestorePointers c h) in
-    record { block = g.block; struck = g.struck; first = g.first; saved = g.saved; status = g.status; begun = g.begun; shown = g.shown }
+    record {
+      block = g.block;
+      struck = g.struck;
+      first = g.first;
+      saved = g.saved;
+      status = g.status;
+      begun = g.begun;
+      shown = g.shown;
+    }
 in_step a MsgIn.Disconnect c h = in_item a MsgIn.Disconnect c h
 in_step a (MsgIn.Identify lun) c h = in_item a (MsgIn.Identify lun) c h
 in_step a (MsgIn.SimpleTag tag) c h = in_item a (MsgIn.SimpleTag tag) c h
@@ -98,10 +116,13 @@ same_on a b c x y = record {
   shown = y.shown ∙ x.shown;
 }
 
-pub command_step : (a : AccountValue) (bytes : List ℕ) (struck left : Bool) → IsSame (with_block a bytes struck) (account_after a (Part.Command bytes struck left))
+pub command_step : (a : AccountValue) (bytes : List ℕ) (struck left : Bool)
+    → IsSame (with_block a bytes struck) (account_after a (Part.Command bytes struck left))
 command_step a bytes struck left =
     let c : AccountValue = with_cdb (with_block a bytes struck) bytes in
-    same_on (with_block a bytes struck) c (arrived c left) (cdb_same (with_block a bytes struck) bytes) (same_if (left && is_whole c.block c.struck) c (with_item c (Item.Arrive c.process.name)) c (item_same c (Item.Arrive c.process.name)) (self_same c c refl))
+    same_on (with_block a bytes struck) c (arrived c left) (cdb_same (with_block a bytes struck) bytes)
+    (same_if (left && is_whole c.block c.struck) c (with_item c (Item.Arrive c.process.name)) c
+    (item_same c (Item.Arrive c.process.name)) (self_same c c refl))
 
 pub data_step : (a : AccountValue) (out : Bool) (bytes : List ℕ) → IsSame a (account_after a (Part.Data out bytes))
 data_step a out bytes = record { block = refl; struck = refl; first = refl; status = refl; shown = refl }
@@ -118,7 +139,8 @@ record StaysBut (a b : AccountValue) : Type 0 where
   status : b.process.status ≡ a.process.status
 
 abbrev shown_by : AccountValue → Bool → AccountValue
-shown_by a q = if q then a else record (with_item a (Item.Ready a.process.name)) { process = record a.process { shown = true } }
+shown_by a q =
+    if q then a else record (with_item a (Item.Ready a.process.name)) { process = record a.process { shown = true } }
 
 shows : (a : AccountValue) (q : Bool) → a.process.shown ≡ q → (shown_by a q).process.shown ≡ true
 shows a true e = e
@@ -129,7 +151,8 @@ stays a true = record { block = refl; struck = refl; first = refl; status = refl
 stays a false = record { block = refl; struck = refl; first = refl; status = refl }
 
 -- Its first STATUS phase has come.
-pub shown_step : (a : AccountValue) (c : CarriedBytes) → IsAccountOf a c → IsAccountOf (account_after a Part.StatusPhase) (marked_shown c)
+pub shown_step : (a : AccountValue) (c : CarriedBytes) → IsAccountOf a c
+    → IsAccountOf (account_after a Part.StatusPhase) (marked_shown c)
 shown_step a c h =
     let g = stays a a.process.shown in
     record {
@@ -143,7 +166,8 @@ shown_step a c h =
     }
 
 -- Or it was refused, or it has come before.
-pub told_step : (a : AccountValue) (c : CarriedBytes) → (c.refused ≡ false → c.shown ≡ true) → IsAccountOf a c → IsAccountOf (account_after a Part.StatusPhase) c
+pub told_step : (a : AccountValue) (c : CarriedBytes) → (c.refused ≡ false → c.shown ≡ true) → IsAccountOf a c
+    → IsAccountOf (account_after a Part.StatusPhase) c
 told_step a c e h =
     let g = stays a a.process.shown in
     record {
@@ -157,8 +181,15 @@ told_step a c e h =
     }
 
 pub refused_step : (a : AccountValue) (c : CarriedBytes) → IsAccountOf a c → IsAccountOf a (marked_refused c)
-refused_step a c h =
-    record { block = h.block; struck = h.struck; first = h.first; saved = h.saved; status = h.status; begun = h.begun; shown = λ e. wrong e }
+refused_step a c h = record {
+  block = h.block;
+  struck = h.struck;
+  first = h.first;
+  saved = h.saved;
+  status = h.status;
+  begun = h.begun;
+  shown = λ e. wrong e;
+}
 
 -- ---- a byte of STATUS
 
@@ -168,7 +199,8 @@ new_bytes n byte = ap (λ (q : Bool). if q then slice_set [] n byte else byte �
 set_first : (x byte : ℕ) (xs : List ℕ) → first_byte (bytes_with (x ∷ xs) 0 byte) ≡ Some byte
 set_first x byte xs = here (nat_lt 0 (length (x ∷ xs))) (grind (arith, nat_tests))
   where
-    here : (q : Bool) → q ≡ true → first_byte (if q then slice_set (x ∷ xs) 0 byte else (x ∷ xs) ++ byte ∷ []) ≡ Some byte
+    here : (q : Bool) → q ≡ true
+        → first_byte (if q then slice_set (x ∷ xs) 0 byte else (x ∷ xs) ++ byte ∷ []) ≡ Some byte
     here true f = refl
     here false f = wrong' f
 
@@ -196,8 +228,9 @@ some_bytes : (bytes : List ℕ) (n byte : ℕ) → is_nil (bytes_with bytes n by
 some_bytes [] n byte = ap is_nil (new_bytes n byte)
 some_bytes (x ∷ xs) n byte = filled x byte xs n
 
-status_by : (p : Process) (q : Bool) (active byte : ℕ) (bytes : List ℕ) → q ≡ (active == 0) → p.status ≡ first_byte bytes
-    → (is_nil bytes && not (active == 0)) ≡ false → (if q then record p { status = Some byte } else p).status ≡ first_byte (bytes_with bytes active byte)
+status_by : (p : Process) (q : Bool) (active byte : ℕ) (bytes : List ℕ) → q ≡ (active == 0)
+    → p.status ≡ first_byte bytes → (is_nil bytes && not (active == 0)) ≡ false
+    → (if q then record p { status = Some byte } else p).status ≡ first_byte (bytes_with bytes active byte)
 status_by p true active byte [] e z b = ap first_byte (sym (new_bytes active byte))
 status_by p true active byte (x ∷ xs) e z b =
     sym (ap (λ (n : ℕ). first_byte (bytes_with (x ∷ xs) n byte)) (eqb-true active 0 (sym e)) ∙ set_first x byte xs)

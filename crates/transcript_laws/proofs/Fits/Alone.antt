@@ -21,13 +21,20 @@ record OfOne (c d : CmdDef) : Type 0 where
   host : c.host ≡ d.host
   clash : is_clash c d ≡ true
 
-of_one : (s : ScenarioValue) (n m : ℕ) (c d : CmdDef) → same_nexus (nexus_of (process_by s (command_id n) c)) (nexus_of (process_by s (command_id m) d)) ≡ true → OfOne c d
+of_one : (s : ScenarioValue) (n m : ℕ) (c d : CmdDef)
+    → same_nexus (nexus_of (process_by s (command_id n) c)) (nexus_of (process_by s (command_id m) d)) ≡ true
+    → OfOne c d
 of_one s n m c d e =
-    let ends = and_first (c.host == d.host && c.target == d.target) (c.unit == d.unit && same_number (tag_number c.tag) (tag_number d.tag)) e in
-    let rest = and_second (c.host == d.host && c.target == d.target) (c.unit == d.unit && same_number (tag_number c.tag) (tag_number d.tag)) e in
+    let ends = and_first (c.host == d.host && c.target == d.target)
+    (c.unit == d.unit && same_number (tag_number c.tag) (tag_number d.tag)) e in
+    let rest = and_second (c.host == d.host && c.target == d.target)
+    (c.unit == d.unit && same_number (tag_number c.tag) (tag_number d.tag)) e in
     record {
       host = eqb-true c.host d.host (and_first (c.host == d.host) (c.target == d.target) ends);
-      clash = λ i. (and_second (c.host == d.host) (c.target == d.target) ends i && and_first (c.unit == d.unit) (same_number (tag_number c.tag) (tag_number d.tag)) rest i) && same_clash (tag_number c.tag) (tag_number d.tag) (and_second (c.unit == d.unit) (same_number (tag_number c.tag) (tag_number d.tag)) rest) i;
+      clash = λ i. (and_second (c.host == d.host) (c.target == d.target) ends i
+          && and_first (c.unit == d.unit) (same_number (tag_number c.tag) (tag_number d.tag)) rest i)
+          && same_clash (tag_number c.tag) (tag_number d.tag)
+          (and_second (c.unit == d.unit) (same_number (tag_number c.tag) (tag_number d.tag)) rest) i;
     }
 
 -- ---- no other is open
@@ -38,25 +45,33 @@ none_is true false f = refl
 none_is false r f = refl
 
 -- Of a command of the scenario.
-command_alone : (s : ScenarioValue) (b : Sent) (dev n : ℕ) (c : CmdDef) → IsNext s b dev (command_item n) → command_at s.commands n ≡ Some c
-    → ((m : ℕ) → is_open_sense b m ≡ true → ⊥) → (i : Item) → shares_nexus s b (process_of s (command_id n)) i ≡ false
-command_alone s b dev n c next at senses i = ap (λ (o : Option CmdDef). shares_nexus s b (process_if s (command_id n) o) i) at ∙ go i
+command_alone : (s : ScenarioValue) (b : Sent) (dev n : ℕ) (c : CmdDef) → IsNext s b dev (command_item n)
+    → command_at s.commands n ≡ Some c → ((m : ℕ) → is_open_sense b m ≡ true → ⊥) → (i : Item)
+    → shares_nexus s b (process_of s (command_id n)) i ≡ false
+command_alone s b dev n c next at senses i =
+    ap (λ (o : Option CmdDef). shares_nexus s b (process_if s (command_id n) o) i) at ∙ go i
   where
     p : Process
     p = process_by s (command_id n) c
 
-    by_def : (m : ℕ) (o : Option CmdDef) → command_at s.commands m ≡ o → is_open_in b (command_id m) ≡ true → is_of (nexus_of p) (process_if s (command_id m) o) ≡ true → ⊥
+    by_def : (m : ℕ) (o : Option CmdDef) → command_at s.commands m ≡ o → is_open_in b (command_id m) ≡ true
+        → is_of (nexus_of p) (process_if s (command_id m) o) ≡ true → ⊥
     by_def m None e o f = wrong' f
     by_def m (Some d) e o f =
         let w = of_one s n m c d f in
         wrong (sym w.clash ∙ next_free s b dev (command_item n) next n refl c at m d e w.host o)
 
-    by_sense : (id : ProcId) (q : Bool) → id.sense ≡ q → is_open_in b id ≡ true → is_of (nexus_of p) (process_of s id) ≡ true → ⊥
-    by_sense id true e o f = senses id.command (sym (λ t. is_open_in b (record { command = id.command; sense = e t })) ∙ o)
-    by_sense id false e o f = by_def id.command (command_at s.commands id.command) refl (sym (λ t. is_open_in b (record { command = id.command; sense = e t })) ∙ o) (sym (λ t. is_of (nexus_of p) (process_of s (record { command = id.command; sense = e t }))) ∙ f)
+    by_sense : (id : ProcId) (q : Bool) → id.sense ≡ q → is_open_in b id ≡ true
+        → is_of (nexus_of p) (process_of s id) ≡ true → ⊥
+    by_sense id true e o f =
+        senses id.command (sym (λ t. is_open_in b (record { command = id.command; sense = e t })) ∙ o)
+    by_sense id false e o f = by_def id.command (command_at s.commands id.command) refl
+        (sym (λ t. is_open_in b (record { command = id.command; sense = e t })) ∙ o)
+        (sym (λ t. is_of (nexus_of p) (process_of s (record { command = id.command; sense = e t }))) ∙ f)
 
     go : (x : Item) → shares_nexus s b (Some p) x ≡ false
-    go (process id) = none_is (is_open_in b id) (is_of (nexus_of p) (process_of s id)) (λ o f. by_sense id id.sense refl o f)
+    go (process id) =
+        none_is (is_open_in b id) (is_of (nexus_of p) (process_of s id)) (λ o f. by_sense id id.sense refl o f)
     go (abort j) = refl
 
 no_tag : (x : Option ℕ) → same_number None x ≡ true → x ≡ None
@@ -64,56 +79,74 @@ no_tag None e = refl
 no_tag (Some a) e = wrong' e
 
 -- An automatic REQUEST SENSE is untagged: it clashes with all commands of its unit.
-sense_clash : (s : ScenarioValue) (n m : ℕ) (c d : CmdDef) → same_nexus (nexus_of (process_by s (sense_id n) c)) (nexus_of (process_by s (command_id m) d)) ≡ true → OfOne d c
+sense_clash : (s : ScenarioValue) (n m : ℕ) (c d : CmdDef)
+    → same_nexus (nexus_of (process_by s (sense_id n) c)) (nexus_of (process_by s (command_id m) d)) ≡ true → OfOne d c
 sense_clash s n m c d e =
-    let ends = and_first (c.host == d.host && c.target == d.target) (c.unit == d.unit && same_number None (tag_number d.tag)) e in
-    let rest = and_second (c.host == d.host && c.target == d.target) (c.unit == d.unit && same_number None (tag_number d.tag)) e in
-    let target : c.target ≡ d.target = eqb-true c.target d.target (and_second (c.host == d.host) (c.target == d.target) ends) in
-    let unit : c.unit ≡ d.unit = eqb-true c.unit d.unit (and_first (c.unit == d.unit) (same_number None (tag_number d.tag)) rest) in
-    let untagged : tag_number d.tag ≡ None = no_tag (tag_number d.tag) (and_second (c.unit == d.unit) (same_number None (tag_number d.tag)) rest) in
+    let ends = and_first (c.host == d.host && c.target == d.target)
+    (c.unit == d.unit && same_number None (tag_number d.tag)) e in
+    let rest = and_second (c.host == d.host && c.target == d.target)
+    (c.unit == d.unit && same_number None (tag_number d.tag)) e in
+    let target : c.target ≡ d.target = eqb-true c.target d.target
+    (and_second (c.host == d.host) (c.target == d.target) ends) in
+    let unit : c.unit ≡ d.unit = eqb-true c.unit d.unit
+    (and_first (c.unit == d.unit) (same_number None (tag_number d.tag)) rest) in
+    let untagged : tag_number d.tag ≡ None = no_tag (tag_number d.tag)
+    (and_second (c.unit == d.unit) (same_number None (tag_number d.tag)) rest) in
     record {
       host = sym (eqb-true c.host d.host (and_first (c.host == d.host) (c.target == d.target) ends));
-      clash = (λ i. (d.target == target i && d.unit == unit i) && is_tag_clash (untagged i) (tag_number c.tag)) ∙ (λ i. (eq_self d.target i && eq_self d.unit i) && true);
+      clash = (λ i. (d.target == target i && d.unit == unit i) && is_tag_clash (untagged i) (tag_number c.tag))
+          ∙ (λ i. (eq_self d.target i && eq_self d.unit i) && true);
     }
 
-sense_alone : (s : ScenarioValue) (b : Sent) (n : ℕ) (c : CmdDef) → SensesAlone s b → command_at s.commands n ≡ Some c → list_any (λ k. k == n) b.checks ≡ true
-    → is_done b (sense_item n) ≡ false → ((m : ℕ) → is_open_sense b m ≡ true → ⊥)
-    → (i : Item) → shares_nexus s b (process_of s (sense_id n)) i ≡ false
-sense_alone s b n c apart at there due senses i = ap (λ (o : Option CmdDef). shares_nexus s b (process_if s (sense_id n) o) i) at ∙ go i
+sense_alone : (s : ScenarioValue) (b : Sent) (n : ℕ) (c : CmdDef) → SensesAlone s b
+    → command_at s.commands n ≡ Some c → list_any (λ k. k == n) b.checks ≡ true → is_done b (sense_item n) ≡ false
+    → ((m : ℕ) → is_open_sense b m ≡ true → ⊥) → (i : Item) → shares_nexus s b (process_of s (sense_id n)) i ≡ false
+sense_alone s b n c apart at there due senses i =
+    ap (λ (o : Option CmdDef). shares_nexus s b (process_if s (sense_id n) o) i) at ∙ go i
   where
     p : Process
     p = process_by s (sense_id n) c
 
-    by_def : (m : ℕ) (o : Option CmdDef) → command_at s.commands m ≡ o → is_open_in b (command_id m) ≡ true → is_of (nexus_of p) (process_if s (command_id m) o) ≡ true → ⊥
+    by_def : (m : ℕ) (o : Option CmdDef) → command_at s.commands m ≡ o → is_open_in b (command_id m) ≡ true
+        → is_of (nexus_of p) (process_if s (command_id m) o) ≡ true → ⊥
     by_def m None e o f = wrong' f
     by_def m (Some d) e o f = let w = sense_clash s n m c d f in apart n m c d at e (sym w.host) w.clash there due o
 
-    by_sense : (id : ProcId) (q : Bool) → id.sense ≡ q → is_open_in b id ≡ true → is_of (nexus_of p) (process_of s id) ≡ true → ⊥
-    by_sense id true e o f = senses id.command (sym (λ t. is_open_in b (record { command = id.command; sense = e t })) ∙ o)
-    by_sense id false e o f = by_def id.command (command_at s.commands id.command) refl (sym (λ t. is_open_in b (record { command = id.command; sense = e t })) ∙ o) (sym (λ t. is_of (nexus_of p) (process_of s (record { command = id.command; sense = e t }))) ∙ f)
+    by_sense : (id : ProcId) (q : Bool) → id.sense ≡ q → is_open_in b id ≡ true
+        → is_of (nexus_of p) (process_of s id) ≡ true → ⊥
+    by_sense id true e o f =
+        senses id.command (sym (λ t. is_open_in b (record { command = id.command; sense = e t })) ∙ o)
+    by_sense id false e o f = by_def id.command (command_at s.commands id.command) refl
+        (sym (λ t. is_open_in b (record { command = id.command; sense = e t })) ∙ o)
+        (sym (λ t. is_of (nexus_of p) (process_of s (record { command = id.command; sense = e t }))) ∙ f)
 
     go : (x : Item) → shares_nexus s b (Some p) x ≡ false
-    go (process id) = none_is (is_open_in b id) (is_of (nexus_of p) (process_of s id)) (λ o f. by_sense id id.sense refl o f)
+    go (process id) =
+        none_is (is_open_in b id) (is_of (nexus_of p) (process_of s id)) (λ o f. by_sense id id.sense refl o f)
     go (abort j) = refl
 
-item_alone : (s : ScenarioValue) (b : Story) (dev : ℕ) (item : Item) → IsNext s b.sent dev item → ((m : ℕ) → is_open_sense b.sent m ≡ true → ⊥)
-    → SensesAlone s b.sent → is_alone s b (Some item) ≡ true
+item_alone : (s : ScenarioValue) (b : Story) (dev : ℕ) (item : Item) → IsNext s b.sent dev item
+    → ((m : ℕ) → is_open_sense b.sent m ≡ true → ⊥) → SensesAlone s b.sent → is_alone s b (Some item) ≡ true
 item_alone s b dev _ (is_abort n z) senses apart = refl
 item_alone s b dev _ (is_sense n c at own there z) senses apart =
-    ap not (none_any (λ item. shares_nexus s b.sent (process_of s (sense_id n)) item) b.sent.sent (λ i has. sense_alone s b.sent n c apart at there z senses i))
+    ap not (none_any (λ item. shares_nexus s b.sent (process_of s (sense_id n)) item) b.sent.sent
+    (λ i has. sense_alone s b.sent n c apart at there z senses i))
 item_alone s b dev _ (is_command n time c at own z may none) senses apart =
-    ap not (none_any (λ item. shares_nexus s b.sent (process_of s (command_id n)) item) b.sent.sent (λ i has. command_alone s b.sent dev n c (is_command n time c at own z may none) at senses i))
+    ap not (none_any (λ item. shares_nexus s b.sent (process_of s (command_id n)) item) b.sent.sent
+    (λ i has. command_alone s b.sent dev n c (is_command n time c at own z may none) at senses i))
 
-pub begins_alone : (s : ScenarioValue) (p : List Row) (row : Row) (n : Connection) → Obeys s → IsPrompt s (row ∷ p) → Whole s p → connection p ≡ None
-    → connection (row ∷ p) ≡ Some n → n.reselected ≡ false → is_alone s (run_state s p).story (aim_of (run_state s p).story.aims n.initiator) ≡ true
+pub begins_alone : (s : ScenarioValue) (p : List Row) (row : Row) (n : Connection) → Obeys s
+    → IsPrompt s (row ∷ p) → Whole s p → connection p ≡ None → connection (row ∷ p) ≡ Some n → n.reselected ≡ false
+    → is_alone s (run_state s p).story (aim_of (run_state s p).story.aims n.initiator) ≡ true
 begins_alone s p row n o prompt was alone after selects =
     let k : RunState = run_state s p in
     let off = calm_before s p row n o prompt was.stood alone after in
     let f = items_fresh s p row n o prompt was.stood was.facts.items alone after selects in
-    let next = aimed_next s p row n alone after selects (was.stood.called alone off) (was.facts.items.aims alone off) f.item f.aim_is in
+    let next = aimed_next s p row n alone after selects
+    (was.stood.called alone off) (was.facts.items.aims alone off) f.item f.aim_is in
     let none = (was.facts.items.items.apart (was.stood.plain.connection ∙ alone)).1 in
-    ap (λ (x : Option Item). is_alone s k.story x) f.aim_is
-    ∙ item_alone s k.story n.initiator f.item next (λ m e. none_served (sense_item m) (sym none ∙ (was.facts.items.items.senses m e).0)) (senses_alone s p o prompt.0)
+    ap (λ (x : Option Item). is_alone s k.story x) f.aim_is ∙ item_alone s k.story n.initiator f.item next
+    (λ m e. none_served (sense_item m) (sym none ∙ (was.facts.items.items.senses m e).0)) (senses_alone s p o prompt.0)
   where
     none_served : (i : Item) → (let x : Option Item = None in x) ≡ Some i → ⊥
     none_served i e = cc

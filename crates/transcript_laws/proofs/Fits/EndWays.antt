@@ -1,5 +1,5 @@
--- As the target of a process' connection goes to BUS FREE: after messages that end the connection, or it gives up after MESSAGE OUT that was no
--- opening (6.1.1, 6.6.10, 6.6.13).
+-- As the target of a process' connection goes to BUS FREE: after messages that end the connection, or it gives up after
+-- MESSAGE OUT that was no opening (6.1.1, 6.6.10, 6.6.13).
 use Rattle.transcript_laws.proofs
 use proofs.Names.{◌≡◌, ◌∙◌, Bool, false, Option, Some, None, refl, sym, ap, is_some, wrong, wrong', AbortKind, Serving}
 use proofs.Names.{phase_leaving, Leaving, Next, Phase, Task, is_selected, none_some, goes_on}
@@ -19,6 +19,7 @@ ends t (ways.loses_status c) e none to = by_giving_up refl (ap is_selected c)
 ends t (ways.frees a f) e none to = by_messages refl a f
 ends t _ e none to = wrong to
 
-pub ends_by : (v : Serving) (t : Task) (attention : Bool) (phase : Phase) → v.task ≡ Some t → (phase ≡ Phase.MessageOut → v.plan.said.aborts ≡ None)
-    → goes_on (phase_leaving v attention phase) ≡ false → EndsBy v attention phase
+pub ends_by : (v : Serving) (t : Task) (attention : Bool) (phase : Phase) → v.task ≡ Some t
+    → (phase ≡ Phase.MessageOut → v.plan.said.aborts ≡ None) → goes_on (phase_leaving v attention phase) ≡ false
+    → EndsBy v attention phase
 ends_by v t attention phase = ends t (ways.leaves v attention phase)

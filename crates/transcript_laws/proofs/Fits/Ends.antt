@@ -1,5 +1,5 @@
--- As a connection of a prompt trace ends with BUS FREE its parts tell what the story has of it: COMMAND COMPLETE or DISCONNECT, an abort, or
--- none of these; and they name its process (6.1.1, 6.6).
+-- As a connection of a prompt trace ends with BUS FREE its parts tell what the story has of it: COMMAND COMPLETE or
+-- DISCONNECT, an abort, or none of these; and they name its process (6.1.1, 6.6).
 use Rattle.transcript_laws.proofs
 use proofs.Names.{ℕ, ◌≡◌, ◌∙◌, ◌⊎◌, inl, inr, ◌==◌, Bool, true, false, not, ◌&&◌, List, [], ◌∷◌, ◌++◌, Option, Some}
 use proofs.Names.{None, refl, sym, ap, subst, ◌||◌, append-nil, same_Some, is_some, is_none, wrong, wrong', eq_self}
@@ -55,7 +55,8 @@ ends_hold s = record {
 
 -- ---- the row
 
-record Ending (s : ScenarioValue) (p : List Row) (row : Row) (n : Connection) (o : OpenedValue) (l : Link) : Type 0 where
+record Ending (s : ScenarioValue) (p : List Row) (row : Row) (n : Connection) (o : OpenedValue) (l : Link) : Type
+    0 where
   obeys : Obeys s
   prompt : IsPrompt s p
   stands : connection p ≡ Some n
@@ -68,10 +69,14 @@ record Ending (s : ScenarioValue) (p : List Row) (row : Row) (n : Connection) (o
   tells : Tells s (run_state s p) n
   begun : (run_state s p).exchange.begun ≡ true
   phase : (bus_of (run_state s p)).msg ≡ true → (bus_of (run_state s p)).cd ≡ true
-  left : goes_on (phase_leaving (serving_of s (run_state s p) n.target) (bus_of (run_state s p)).atn (phase_of (bus_of (run_state s p)))) ≡ false
+  left : goes_on (phase_leaving (serving_of s (run_state s p) n.target)
+      (bus_of (run_state s p)).atn (phase_of (bus_of (run_state s p))))
+      ≡ false
 
-ending : (s : ScenarioValue) (p : List Row) (row : Row) (n : Connection) (k : OpenedValue) (l : Link) → Obeys s → IsPrompt s (row ∷ p) → connection p ≡ Some n → (bus p).rst ≡ false
-    → (bus (row ∷ p)).rst ≡ false → connection (row ∷ p) ≡ None → (transcribed p).opened ≡ Some k → (run_state s p).story.link ≡ Some l → Ending s p row n k l
+ending : (s : ScenarioValue) (p : List Row) (row : Row) (n : Connection) (k : OpenedValue) (l : Link) → Obeys s
+    → IsPrompt s (row ∷ p) → connection p ≡ Some n → (bus p).rst ≡ false → (bus (row ∷ p)).rst ≡ false
+    → connection (row ∷ p) ≡ None → (transcribed p).opened ≡ Some k → (run_state s p).story.link ≡ Some l
+    → Ending s p row n k l
 ending s p row n k l o prompt con calm off after there el = by r.facts
   where
     st : Standing s p n k
@@ -96,7 +101,8 @@ ending s p row n k l o prompt con calm off after there el = by r.facts
     next = (λ i. connection_after (pl.connection i) (pl.call i) (change i) row) ∙ after
 
     by : RowFacts s p row n → Ending s p row n k l
-    by (stays g) = none_some n (sym next ∙ ap (λ (d : RowReading). d.next) (reading_is j row n g.change (is_some (receiver_in n g.change)) g.row_is refl))
+    by (stays g) = none_some n (sym next ∙ ap (λ (d : RowReading). d.next)
+        (reading_is j row n g.change (is_some (receiver_in n g.change)) g.row_is refl))
     by (ends_here g) =
         let b : j.exchange.begun ≡ true = pl.begun ∙ g.begun_is in
         record {
@@ -109,16 +115,19 @@ ending s p row n k l o prompt con calm off after there el = by r.facts
           here = st;
           all = always s (EndsAll s) o (ends_hold s) p prompt.0 n con calm k there;
           stops = g;
-          tells = left_tells s p row o prompt was.stood was.facts (fails_as_left s p row o prompt was.stood (sent_asks s p row o prompt was.stood was.facts was.sent) was.fails) n
+          tells = left_tells s p row o prompt was.stood was.facts (fails_as_left s p row o prompt was.stood
+              (sent_asks s p row o prompt was.stood was.facts was.sent) was.fails) n
               (record { stands = con; calm = calm; calm_after = off; begun = b; leaves = inr next });
           begun = b;
-          phase = λ m. ap (λ (x : LineSet). x.cd) pl.bus ∙ (link_phase s p n r.stage (ap (λ (x : LineSet). x.msg) (sym pl.bus) ∙ m)).0;
-          left = ap goes_on (λ i. leaving_by (serving_of s j n.target) (sym b i) (bus_of j)) ∙ ap (λ (x : Option Phase). is_some x) g.whereto;
+          phase = λ m. ap (λ (x : LineSet). x.cd) pl.bus
+              ∙ (link_phase s p n r.stage (ap (λ (x : LineSet). x.msg) (sym pl.bus) ∙ m)).0;
+          left = ap goes_on (λ i. leaving_by (serving_of s j n.target) (sym b i) (bus_of j))
+              ∙ ap (λ (x : Option Phase). is_some x) g.whereto;
         }
 
 -- As MESSAGE OUT is left by it all was heard.
-heard_of : (s : ScenarioValue) (p : List Row) (row : Row) (n : Connection) (o : OpenedValue) (l : Link) → Ending s p row n o l
-    → phase_of (bus_of (run_state s p)) ≡ Phase.MessageOut → IsHeard s (run_state s p)
+heard_of : (s : ScenarioValue) (p : List Row) (row : Row) (n : Connection) (o : OpenedValue) (l : Link)
+    → Ending s p row n o l → phase_of (bus_of (run_state s p)) ≡ Phase.MessageOut → IsHeard s (run_state s p)
 heard_of s p row n o l h e = is_heard s (run_state s p) n h.here.speaking.units speaks h.begun h.phase h.stops.over e
   where
     pl : IsPlain s p (run_state s p)
@@ -128,7 +137,8 @@ heard_of s p row n o l h e = is_heard s (run_state s p) n h.here.speaking.units 
     speaks = h.here.was.stood.books.speaks n (pl.connection ∙ h.stands) (ap (λ (x : LineSet). x.rst) pl.bus ∙ h.calm)
 
 -- A message phase carries bytes of neither COMMAND nor data.
-message_moves : (b : LineSet) → (is_message_in b ≡ true) ⊎ (is_message_out b ≡ true) → (is_command b || is_data b) ≡ false
+message_moves : (b : LineSet) → (is_message_in b ≡ true) ⊎ (is_message_out b ≡ true)
+    → (is_command b || is_data b) ≡ false
 message_moves b (inl e) = go b.msg b.cd b.io e
   where
     go : (m d i : Bool) → (m && d && i) ≡ true → ((not m && d && not i) || (not m && not d)) ≡ false
@@ -148,25 +158,31 @@ record TellsAbort (unit : ℕ) (what : AbortKind) (sum : Summary) : Type 0 where
   unit_is : sum.unit ≡ Some unit
   kind : same_kind (kind_of message sum.tag) what ≡ true
 
-abort_tells : (unit : ℕ) (what : AbortKind) → TellsAbort unit what (name_steps no_summary (MsgOut.Identify false unit ∷ abort_messages what))
+abort_tells : (unit : ℕ) (what : AbortKind)
+    → TellsAbort unit what (name_steps no_summary (MsgOut.Identify false unit ∷ abort_messages what))
 abort_tells unit AbortKind.All = record { message = MsgOut.Abort; abort_is = refl; unit_is = refl; kind = refl }
-abort_tells unit (AbortKind.Tag m) = record { message = MsgOut.AbortTag; abort_is = refl; unit_is = refl; kind = eq_self m }
-abort_tells unit AbortKind.WholeQueue = record { message = MsgOut.ClearQueue; abort_is = refl; unit_is = refl; kind = refl }
-abort_tells unit AbortKind.Device = record { message = MsgOut.DeviceReset; abort_is = refl; unit_is = refl; kind = refl }
+abort_tells unit (AbortKind.Tag m) =
+    record { message = MsgOut.AbortTag; abort_is = refl; unit_is = refl; kind = eq_self m }
+abort_tells unit AbortKind.WholeQueue =
+    record { message = MsgOut.ClearQueue; abort_is = refl; unit_is = refl; kind = refl }
+abort_tells unit AbortKind.Device =
+    record { message = MsgOut.DeviceReset; abort_is = refl; unit_is = refl; kind = refl }
 
 abort_departs : (again : Bool) (a : Summary) (unit : ℕ) (what : AbortKind)
     → (summary_of again a (out_parts (MsgOut.Identify false unit ∷ abort_messages what))).departure ≡ Abortion
 abort_departs again a unit AbortKind.All = refl
 abort_departs again a unit _ = refl
 
-line_is : (n : Connection) (a : AbortDef) (sum : Summary) → a.host ≡ n.initiator → a.target ≡ n.target → TellsAbort a.unit a.what sum → is_line n sum sum.abort (Some a) ≡ true
+line_is : (n : Connection) (a : AbortDef) (sum : Summary) → a.host ≡ n.initiator → a.target ≡ n.target
+    → TellsAbort a.unit a.what sum → is_line n sum sum.abort (Some a) ≡ true
 line_is n a sum host target h =
     ap (λ (o : Option MsgOut). is_line n sum o (Some a)) h.abort_is
     ∙ (λ i. n.initiator == host i && n.target == target i && same_number (h.unit_is i) (Some a.unit) && h.kind i)
     ∙ (λ i. eq_self n.initiator i && eq_self n.target i && eq_self a.unit i && true)
 
-abort_ends : (s : ScenarioValue) (p : List Row) (row : Row) (n : Connection) (o : OpenedValue) (l : Link) (m : ℕ) → Ending s p row n o l → l.item ≡ Some (abort m)
-    → fits_end s (run_state s p).story o l (closing_parts o (bus_of (run_state s p)) (run_state s p).story.bus_state.dialogue.half) (Some (abort m)) ≡ true
+abort_ends : (s : ScenarioValue) (p : List Row) (row : Row) (n : Connection) (o : OpenedValue) (l : Link) (m : ℕ)
+    → Ending s p row n o l → l.item ≡ Some (abort m) → fits_end s (run_state s p).story o l
+    (closing_parts o (bus_of (run_state s p)) (run_state s p).story.bus_state.dialogue.half) (Some (abort m)) ≡ true
 abort_ends s p row n o l m h e = by h.here.served
   where
     k : RunState
@@ -185,11 +201,14 @@ abort_ends s p row n o l m h e = by h.here.served
         number (abort y) = y
         number (process id) = m
 
-    by : IsServed s k n → fits_end s k.story o l (closing_parts o (bus_of k) k.story.bus_state.dialogue.half) (Some (abort m)) ≡ true
+    by : IsServed s k n
+        → fits_end s k.story o l (closing_parts o (bus_of k) k.story.bus_state.dialogue.half) (Some (abort m)) ≡ true
     by (of_process id pr f x) = not_process id (sym f ∙ served)
     by (of_abort x a f line host target sel alone) =
         ap (λ (parts : List Part). fits_end s k.story o l parts (Some (abort m))) closing
-        ∙ ap (λ (c : Connection). is_abortion (summary_by c (parts_now o)).departure l.last && is_line c (summary_by c (parts_now o)) (summary_by c (parts_now o)).abort (abort_line_at s.aborts m) && are_talk (parts_now o)) h.here.names.all.bytes.connection_is
+        ∙ ap (λ (c : Connection). is_abortion (summary_by c (parts_now o)).departure l.last
+        && is_line c (summary_by c (parts_now o)) (summary_by c (parts_now o)).abort (abort_line_at s.aborts m)
+        && are_talk (parts_now o)) h.here.names.all.bytes.connection_is
         ∙ (λ i. is_abortion (departs i) (last i) && is_line n sum sum.abort (at i) && talk i)
         ∙ ap (λ (q : Bool). q && true) (line_is n a sum host target line_told)
       where
@@ -209,22 +228,24 @@ abort_ends s p row n o l m h e = by h.here.served
         at = ap (abort_line_at s.aborts) (sym (same_abort x (sym f ∙ served))) ∙ line
 
         saying : k.exchange.speech.words ≡ abort_opening (Some a)
-        saying =
-            opening_words s n k.served k.exchange k.exchange.plan.cause (h.here.speaking.speaks h.begun heard.out).words_for (alone h.begun).1
-            ∙ ap (opening s n.initiator k.exchange.plan.negotiates) served
-            ∙ ap abort_opening at
+        saying = opening_words s n k.served k.exchange k.exchange.plan.cause
+            (h.here.speaking.speaks h.begun heard.out).words_for (alone h.begun).1
+            ∙ ap (opening s n.initiator k.exchange.plan.negotiates) served ∙ ap abort_opening at
 
         said_is : o.said ≡ MsgOut.Identify false a.unit ∷ abort_messages a.what
-        said_is = h.here.speaking.words.whole heard.out heard.last ∙ ap (λ (w : List ℕ). said_of [] w) saying ∙ abort_said a (h.here.speaking.units.aborts m a at)
+        said_is = h.here.speaking.words.whole heard.out heard.last ∙ ap (λ (w : List ℕ). said_of [] w) saying
+            ∙ abort_said a (h.here.speaking.units.aborts m a at)
 
         closing : closing_parts o (bus_of k) k.story.bus_state.dialogue.half ≡ parts_now o
-        closing = closing_now o (bus_of k) k.story.bus_state.dialogue.half (message_moves (bus_of k) (inr heard.out)) (λ i. in_out (bus_of k) heard.out i && not (is_nil k.story.bus_state.dialogue.half))
+        closing = closing_now o (bus_of k) k.story.bus_state.dialogue.half (message_moves (bus_of k) (inr heard.out))
+            (λ i. in_out (bus_of k) heard.out i && not (is_nil k.story.bus_state.dialogue.half))
 
         outs : outs_of (parts_now o) ≡ MsgOut.Identify false a.unit ∷ abort_messages a.what
         outs = outs_now o ∙ (λ i. (h.all.unopened m served).outs i ++ said_is i)
 
         named : names sum ≡ name_steps no_summary (MsgOut.Identify false a.unit ∷ abort_messages a.what)
-        named = ap (λ (q : Bool). names (summary_of q no_summary (parts_now o))) sel ∙ names_same (parts_now o) no_summary ∙ ap (name_steps no_summary) outs
+        named = ap (λ (q : Bool). names (summary_of q no_summary (parts_now o))) sel
+            ∙ names_same (parts_now o) no_summary ∙ ap (name_steps no_summary) outs
 
         line_told : TellsAbort a.unit a.what sum
         line_told =
@@ -234,11 +255,13 @@ abort_ends s p row n o l m h e = by h.here.served
         departs : sum.departure ≡ Abortion
         departs =
             ap (λ (x : Summary). x.departure) (summary_more n.reselected (base_parts o) (out_parts o.said) no_summary)
-            ∙ ap (λ (w : List MsgOut). (summary_of n.reselected (summary_of n.reselected no_summary (base_parts o)) (out_parts w)).departure) said_is
-            ∙ abort_departs n.reselected (summary_of n.reselected no_summary (base_parts o)) a.unit a.what
+            ∙ ap (λ (w : List MsgOut).
+            (summary_of n.reselected (summary_of n.reselected no_summary (base_parts o)) (out_parts w)).departure)
+            said_is ∙ abort_departs n.reselected (summary_of n.reselected no_summary (base_parts o)) a.unit a.what
 
         talk : are_talk (parts_now o) ≡ true
-        talk = talk_more (base_parts o) (out_parts o.said) ∙ (λ i. (h.all.unopened m served).talk i && outs_talk o.said i)
+        talk =
+            talk_more (base_parts o) (out_parts o.said) ∙ (λ i. (h.all.unopened m served).talk i && outs_talk o.said i)
 
 -- ---- a process
 
@@ -258,8 +281,10 @@ closing_told last (inl e) = ap ends_told e
 closing_told last (inr e) = ap ends_told e
 
 -- After COMMAND COMPLETE or DISCONNECT.
-after_messages : (s : ScenarioValue) (p : List Row) (row : Row) (n : Connection) (o : OpenedValue) (l : Link) (id : ProcId) → Ending s p row n o l
-    → (run_state s p).served ≡ Some (process id) → phase_of (bus_of (run_state s p)) ≡ Phase.MessageIn → (bus_of (run_state s p)).atn ≡ false
+after_messages :
+    (s : ScenarioValue) (p : List Row) (row : Row) (n : Connection) (o : OpenedValue) (l : Link) (id : ProcId)
+    → Ending s p row n o l → (run_state s p).served ≡ Some (process id)
+    → phase_of (bus_of (run_state s p)) ≡ Phase.MessageIn → (bus_of (run_state s p)).atn ≡ false
     → (run_state s p).exchange.plan.next ≡ Next.FreeBus → IsAtEnd s p n o l
 after_messages s p row n o l id h served phase quiet free = record {
   closing = closing_now o (bus_of k) half (message_moves (bus_of k) (inl here)) (half_none (is_message_in (bus_of k)));
@@ -287,7 +312,8 @@ after_messages s p row n o l id h served phase quiet free = record {
     gives = h.here.was.stood.books.gives n (pl.connection ∙ h.stands) (ap (λ (x : LineSet). x.rst) pl.bus ∙ h.calm)
 
     none : half ≡ []
-    none = in_is_whole k gives h.begun here (all_given s k n phase quiet h.stops.over (gives.in_message_in h.begun here))
+    none =
+        in_is_whole k gives h.begun here (all_given s k n phase quiet h.stops.over (gives.in_message_in h.begun here))
 
     half_none : (q : Bool) → (q && not (is_nil half)) ≡ false
     half_none true = ap (λ (x : List ℕ). not (is_nil x)) none
@@ -310,11 +336,14 @@ after_messages s p row n o l id h served phase quiet free = record {
     said_none = h.here.speaking.bytes no_out
 
     departs : (summary_by n (parts_now o)).departure ≡ Leave
-    departs =
-        ap (λ (parts : List Part). (summary_by n parts).departure) ((λ i. base_held o said_none i ++ out_parts (said_none i)) ∙ append-nil (o.parts ++ (held_part o.held ++ o.since)))
+    departs = ap (λ (parts : List Part). (summary_by n parts).departure)
+        ((λ i. base_held o said_none i ++ out_parts (said_none i))
+        ∙ append-nil (o.parts ++ (held_part o.held ++ o.since)))
         ∙ leave_departure n o.parts o.since o.held held silent
 
-    by_naming : n.reselected ≡ true → (is_naming k.exchange.plan.messages.first ≡ true) ⊎ (are_talk (base_parts o) ≡ false) → are_talk (base_parts o) ≡ false
+    by_naming :
+        n.reselected ≡ true → (is_naming k.exchange.plan.messages.first ≡ true) ⊎ (are_talk (base_parts o) ≡ false)
+        → are_talk (base_parts o) ≡ false
     by_naming re (inr z) = z
     by_naming re (inl z) = go (h.here.was.facts.named n h.stands h.calm re)
       where
@@ -328,11 +357,13 @@ after_messages s p row n o l id h served phase quiet free = record {
         go (refused pr m naming out cause names) = not_both (bus_of k) here out
 
 -- After MESSAGE OUT that was no opening.
-gives_up : (s : ScenarioValue) (p : List Row) (row : Row) (n : Connection) (o : OpenedValue) (l : Link) (id : ProcId) → Ending s p row n o l
-    → (run_state s p).served ≡ Some (process id) → phase_of (bus_of (run_state s p)) ≡ Phase.MessageOut → is_selected (run_state s p).exchange.plan.cause ≡ false
+gives_up : (s : ScenarioValue) (p : List Row) (row : Row) (n : Connection) (o : OpenedValue) (l : Link) (id : ProcId)
+    → Ending s p row n o l → (run_state s p).served ≡ Some (process id)
+    → phase_of (bus_of (run_state s p)) ≡ Phase.MessageOut → is_selected (run_state s p).exchange.plan.cause ≡ false
     → IsAtEnd s p n o l
 gives_up s p row n o l id h served phase cause = record {
-  closing = closing_now o (bus_of k) half (message_moves (bus_of k) (inr heard.out)) (λ i. in_out (bus_of k) heard.out i && not (is_nil half));
+  closing = closing_now o (bus_of k) half (message_moves (bus_of k) (inr heard.out))
+      (λ i. in_out (bus_of k) heard.out i && not (is_nil half));
   departs = λ i. is_departure (departs i) (last i);
   opened = opened;
   more = λ re. by_naming (h.all.again.out re heard.out);
@@ -351,20 +382,27 @@ gives_up s p row n o l id h served phase cause = record {
     opened = record { begun = h.begun; cause = λ z. cause }
 
     last : l.last ≡ plain
-    last = (subst (λ (x : Phase). LastBy l k.exchange.plan k.handshakes.requests k.story.bus_state.dialogue.is_last x) phase (((h.here.was.facts.last n h.stands h.calm).0 l id h.link_is served).begun h.begun)).0 heard.last
+    last = (subst (λ (x : Phase). LastBy l k.exchange.plan k.handshakes.requests k.story.bus_state.dialogue.is_last x)
+        phase (((h.here.was.facts.last n h.stands h.calm).0 l id h.link_is served).begun h.begun)).0 heard.last
 
     departs : (summary_by n (parts_now o)).departure ≡ Loss
-    departs = loss_departure n (base_parts o) o.said (mild_tame o.said (mild_said s k n o h.here.speaking opened)) (some_said s n k o (h.here.speaking.speaks h.begun heard.out) h.here.speaking.words heard.out heard.last)
+    departs = loss_departure n (base_parts o) o.said (mild_tame o.said (mild_said s k n o h.here.speaking opened))
+        (some_said s n k o (h.here.speaking.speaks h.begun heard.out) h.here.speaking.words heard.out heard.last)
 
-    by_naming : ((k.exchange.plan.cause ≡ Cause.InMessage) × (is_naming k.exchange.plan.messages.first ≡ true)) ⊎ (are_talk (base_parts o) ≡ false)
+    by_naming : ((k.exchange.plan.cause ≡ Cause.InMessage) × (is_naming k.exchange.plan.messages.first ≡ true))
+        ⊎ (are_talk (base_parts o) ≡ false)
         → are_talk (base_parts o) ≡ false
     by_naming (inr z) = z
     by_naming (inl z) =
-        wrong (sym (ap (λ (f : Phase). goes_on (phase_leaving (serving_of s k n.target) (bus_of k).atn f)) phase ∙ ap (λ (x : Cause). goes_on (message_out_leaving (serving_of s k n.target) x)) z.0 ∙ naming_goes_on (serving_of s k n.target) z.1) ∙ h.left)
+        wrong (sym (ap (λ (f : Phase). goes_on (phase_leaving (serving_of s k n.target) (bus_of k).atn f)) phase
+        ∙ ap (λ (x : Cause). goes_on (message_out_leaving (serving_of s k n.target) x)) z.0
+        ∙ naming_goes_on (serving_of s k n.target) z.1) ∙ h.left)
 
-at_end : (s : ScenarioValue) (p : List Row) (row : Row) (n : Connection) (o : OpenedValue) (l : Link) (id : ProcId) (q : Process) → Ending s p row n o l
-    → (run_state s p).served ≡ Some (process id) → process_of s id ≡ Some q → IsAtEnd s p n o l
-at_end s p row n o l id q h served of = by (ends_by (serving_of s k n.target) (task_here s k q) (bus_of k).atn (phase_of (bus_of k)) (ap (task_if s k) (ap (process_item s) served ∙ of)) none h.left)
+at_end : (s : ScenarioValue) (p : List Row) (row : Row) (n : Connection)
+    (o : OpenedValue) (l : Link) (id : ProcId) (q : Process)
+    → Ending s p row n o l → (run_state s p).served ≡ Some (process id) → process_of s id ≡ Some q → IsAtEnd s p n o l
+at_end s p row n o l id q h served of = by (ends_by (serving_of s k n.target) (task_here s k q) (bus_of k).atn
+    (phase_of (bus_of k)) (ap (task_if s k) (ap (process_item s) served ∙ of)) none h.left)
   where
     k : RunState
     k = run_state s p
@@ -375,7 +413,8 @@ at_end s p row n o l id q h served of = by (ends_by (serving_of s k n.target) (t
     none : phase_of (bus_of k) ≡ Phase.MessageOut → k.exchange.plan.said.aborts ≡ None
     none e =
         let heard = heard_of s p row n o l h e in
-        none_heard s k n id q (h.here.was.stood.books.speaks n (pl.connection ∙ h.stands) (ap (λ (x : LineSet). x.rst) pl.bus ∙ h.calm)) served of h.begun heard.out heard.last heard.named
+        none_heard s k n id q (h.here.was.stood.books.speaks n (pl.connection ∙ h.stands)
+        (ap (λ (x : LineSet). x.rst) pl.bus ∙ h.calm)) served of h.begun heard.out heard.last heard.named
 
     by : EndsBy (serving_of s k n.target) (bus_of k).atn (phase_of (bus_of k)) → IsAtEnd s p n o l
     by (by_messages phase quiet free) = after_messages s p row n o l id h served phase quiet free
@@ -386,11 +425,16 @@ record EndNames (s : ScenarioValue) (n : Connection) (o : OpenedValue) (id : Pro
   naming : name_process s n (parts_now o) id ≡ true
   knowing : (not n.reselected || not (are_talk (base_parts o))) ≡ true
 
-process_ends : (s : ScenarioValue) (p : List Row) (row : Row) (n : Connection) (o : OpenedValue) (l : Link) (id : ProcId) → Ending s p row n o l → l.item ≡ Some (process id)
-    → fits_end s (run_state s p).story o l (closing_parts o (bus_of (run_state s p)) (run_state s p).story.bus_state.dialogue.half) (Some (process id)) ≡ true
+process_ends :
+    (s : ScenarioValue) (p : List Row) (row : Row) (n : Connection) (o : OpenedValue) (l : Link) (id : ProcId)
+    → Ending s p row n o l → l.item ≡ Some (process id) → fits_end s (run_state s p).story o l
+    (closing_parts o (bus_of (run_state s p)) (run_state s p).story.bus_state.dialogue.half) (Some (process id)) ≡ true
 process_ends s p row n o l id h e =
     ap (λ (parts : List Part). fits_end s k.story o l parts (Some (process id))) end.closing
-    ∙ ap (λ (c : Connection). is_none (summary_by c (parts_now o)).abort && name_process s c (parts_now o) id && is_departure (summary_by c (parts_now o)).departure l.last && (not c.reselected || not (are_talk (base_parts o)) || is_command (bus_of k))) h.here.names.all.bytes.connection_is
+    ∙ ap (λ (c : Connection). is_none (summary_by c (parts_now o)).abort
+    && name_process s c (parts_now o) id && is_departure (summary_by c (parts_now o)).departure l.last
+    && (not c.reselected || not (are_talk (base_parts o)) || is_command (bus_of k)))
+    h.here.names.all.bytes.connection_is
     ∙ (λ i. w.unaborted i && w.naming i && end.departs i && (w.knowing i || is_command (bus_of k)))
   where
     k : RunState
@@ -407,10 +451,13 @@ process_ends s p row n o l id h e =
 
     selected : n.reselected ≡ false → OutNames own.own k o → EndNames s n o id
     selected sel (told a b) =
-        let all : IsOpening own.own (outs_of (parts_now o)) = subst (λ (x : List MsgOut). IsOpening own.own x) (sym (outs_now o)) (opening_more own.own (outs_of (base_parts o)) o.said a (mild_said s k n o h.here.speaking b)) in
+        let all : IsOpening own.own (outs_of (parts_now o)) = subst
+        (λ (x : List MsgOut). IsOpening own.own x) (sym (outs_now o))
+        (opening_more own.own (outs_of (base_parts o)) o.said a (mild_said s k n o h.here.speaking b)) in
         let ends = h.here.names.ends id own.own served own.own_is in
         record {
-          unaborted = ap (λ (x : Option MsgOut). is_none x) (no_abort n (parts_now o) sel (opening_tame own.own (outs_of (parts_now o)) all));
+          unaborted = ap (λ (x : Option MsgOut). is_none x)
+              (no_abort n (parts_now o) sel (opening_tame own.own (outs_of (parts_now o)) all));
           naming = opening_names s n (parts_now o) id own.own sel own.own_is ends.0 ends.1 all;
           knowing = ap (λ (q : Bool). not q || not (are_talk (base_parts o))) sel;
         }
@@ -423,12 +470,17 @@ process_ends s p row n o l id h e =
     reselected : n.reselected ≡ true → EndNames s n o id
     reselected re =
         let more = end.more re in
-        let named : is_named s o (Some (process id)) ≡ true = ap (is_named s o) (sym e) ∙ named_again s p n o l h.obeys h.prompt h.stands h.calm h.there h.link_is re in
-        let two = both (is_none (summary_by n (parts_now o)).abort) (are_talk (parts_now o) || name_process s n (parts_now o) id)
-        (sym (ap (λ (c : Connection). is_none (summary_by c (parts_now o)).abort && (are_talk (parts_now o) || name_process s c (parts_now o) id)) h.here.names.all.bytes.connection_is) ∙ named) in
+        let named : is_named s o (Some (process id)) ≡ true = ap (is_named s o) (sym e)
+        ∙ named_again s p n o l h.obeys h.prompt h.stands h.calm h.there h.link_is re in
+        let two = both (is_none (summary_by n (parts_now o)).abort)
+        (are_talk (parts_now o) || name_process s n (parts_now o) id)
+        (sym (ap (λ (c : Connection). is_none (summary_by c (parts_now o)).abort
+        && (are_talk (parts_now o) || name_process s c (parts_now o) id)) h.here.names.all.bytes.connection_is)
+        ∙ named) in
         record {
           unaborted = two.0;
-          naming = or_second (are_talk (parts_now o)) (name_process s n (parts_now o) id) two.1 (talk_more (base_parts o) (out_parts o.said) ∙ ap (λ (q : Bool). q && are_talk (out_parts o.said)) more);
+          naming = or_second (are_talk (parts_now o)) (name_process s n (parts_now o) id) two.1
+              (talk_more (base_parts o) (out_parts o.said) ∙ ap (λ (q : Bool). q && are_talk (out_parts o.said)) more);
           knowing = λ i. not (re i) || not (more i);
         }
 
@@ -440,9 +492,11 @@ process_ends s p row n o l id h e =
 
 -- ---- any of them
 
-pub ends_fit : (s : ScenarioValue) (p : List Row) (row : Row) (n : Connection) (k : OpenedValue) (l : Link) → Obeys s → IsPrompt s (row ∷ p) → connection p ≡ Some n
-    → (bus p).rst ≡ false → (bus (row ∷ p)).rst ≡ false → connection (row ∷ p) ≡ None → (transcribed p).opened ≡ Some k → (run_state s p).story.link ≡ Some l
-    → fits_end s (run_state s p).story k l (closing_parts k (row_reading (run_state s p).story.bus_state row).change.before (run_state s p).story.bus_state.dialogue.half) l.item ≡ true
+pub ends_fit : (s : ScenarioValue) (p : List Row) (row : Row) (n : Connection) (k : OpenedValue) (l : Link)
+    → Obeys s → IsPrompt s (row ∷ p) → connection p ≡ Some n → (bus p).rst ≡ false → (bus (row ∷ p)).rst ≡ false
+    → connection (row ∷ p) ≡ None → (transcribed p).opened ≡ Some k → (run_state s p).story.link ≡ Some l → fits_end s
+    (run_state s p).story k l (closing_parts k (row_reading (run_state s p).story.bus_state row).change.before
+    (run_state s p).story.bus_state.dialogue.half) l.item ≡ true
 ends_fit s p row n k l o prompt con calm off after there el =
     (λ i. fits_end s j.story k l (closing_parts k (before i) j.story.bus_state.dialogue.half) l.item) ∙ go l.item refl
   where
@@ -456,9 +510,14 @@ ends_fit s p row n k l o prompt con calm off after there el =
     pl = h.here.was.stood.plain
 
     before : (row_reading j.story.bus_state row).change.before ≡ bus_of j
-    before = ap (λ (c : Change). c.before) (change_plain s row p h.here.was.stood.standing.devices (least_is s p row prompt.1).inside) ∙ sym pl.bus
+    before = ap (λ (c : Change). c.before)
+        (change_plain s row p h.here.was.stood.standing.devices (least_is s p row prompt.1).inside)
+        ∙ sym pl.bus
 
-    go : (x : Option Item) → l.item ≡ x → fits_end s j.story k l (closing_parts k (bus_of j) j.story.bus_state.dialogue.half) x ≡ true
-    go None e = wrong (sym (never_ends (serving_of s j n.target) (bus_of j).atn (phase_of (bus_of j)) (h.tells.naming (ap item_of el ∙ e))) ∙ h.left)
+    go : (x : Option Item) → l.item ≡ x
+        → fits_end s j.story k l (closing_parts k (bus_of j) j.story.bus_state.dialogue.half) x ≡ true
+    go None e = wrong (sym
+        (never_ends (serving_of s j n.target) (bus_of j).atn (phase_of (bus_of j)) (h.tells.naming (ap item_of el ∙ e)))
+        ∙ h.left)
     go (Some (process id)) e = process_ends s p row n k l id h e
     go (Some (abort m)) e = abort_ends s p row n k l m h e

@@ -18,10 +18,13 @@ use Rattle.bus_due.specs.bus_story.specs.HistoryEvents as story_of
 
 -- ---- a byte crosses
 
-pub crossing_fits : (s : ScenarioValue) (p : List Row) (row : Row) (n : Connection) (g : Going s p row n) (o : OpenedValue) (l : Link) (dev : ℕ)
-    → OpenedAll (run_state s p) n o → (run_state s p).story.link ≡ Some l → changes_phase g.going.change ≡ false → receiver_in n g.going.change ≡ Some dev
-    → fits_crossing s (run_state s p).story o l (reading_in (run_state s p).story.bus_state n g.going.change true) ≡ true
-crossing_fits s p row n g o l dev h el ep er = λ i. not (ep i) && not (completes_none s p row n g l dev el er i) && by (is_message_out c.before) refl (is_message_in c.before) refl i
+pub crossing_fits : (s : ScenarioValue) (p : List Row) (row : Row) (n : Connection) (g : Going s p row n)
+    (o : OpenedValue) (l : Link) (dev : ℕ) → OpenedAll (run_state s p) n o → (run_state s p).story.link ≡ Some l
+    → changes_phase g.going.change ≡ false → receiver_in n g.going.change ≡ Some dev
+    → fits_crossing s (run_state s p).story o l (reading_in (run_state s p).story.bus_state n g.going.change true)
+    ≡ true
+crossing_fits s p row n g o l dev h el ep er = λ i. not (ep i) && not (completes_none s p row n g l dev el er i)
+    && by (is_message_out c.before) refl (is_message_in c.before) refl i
   where
     k : RunState
     k = run_state s p
@@ -30,18 +33,21 @@ crossing_fits s p row n g o l dev h el ep er = λ i. not (ep i) && not (complete
     c = g.going.change
 
     out : Bool
-    out = fits_out o (not (is_known o (bus_of k)) || is_some l.undo || is_broken o.held) (message_out k.story.bus_state.dialogue c true) k.story.bus_state.dialogue.is_last
+    out = fits_out o (not (is_known o (bus_of k)) || is_some l.undo || is_broken o.held)
+        (message_out k.story.bus_state.dialogue c true) k.story.bus_state.dialogue.is_last
 
     into : Bool
     into = fits_in s k.story o l (message_in k.story.bus_state.dialogue c true)
 
     phase : c.before.msg ≡ true → c.before.cd ≡ true
-    phase z = ap (λ (x : LineSet). x.cd) (sym g.going.goes.row_is.bus_is) ∙ (g.going.goes.phase (ap (λ (x : LineSet). x.msg) g.going.goes.row_is.bus_is ∙ z)).0
+    phase z = ap (λ (x : LineSet). x.cd) (sym g.going.goes.row_is.bus_is)
+        ∙ (g.going.goes.phase (ap (λ (x : LineSet). x.msg) g.going.goes.row_is.bus_is ∙ z)).0
 
     by : (q : Bool) → is_message_out c.before ≡ q → (r : Bool) → is_message_in c.before ≡ r
-        → (if is_message_out c.before then out else if is_message_in c.before then into else not c.before.msg && is_no_abort l.item) ≡ true
-    by true x r y =
-        ap (λ (q : Bool). if q then out else if is_message_in c.before then into else not c.before.msg && is_no_abort l.item) x
+        → (if is_message_out c.before then out
+        else if is_message_in c.before then into else not c.before.msg && is_no_abort l.item) ≡ true
+    by true x r y = ap (λ (q : Bool). if q then out
+        else if is_message_in c.before then into else not c.before.msg && is_no_abort l.item) x
         ∙ out_fits s p row n g o l dev h.words h.since el er x
     by false x true y =
         (λ i. if x i then out else if y i then into else not c.before.msg && is_no_abort l.item)
@@ -52,11 +58,14 @@ crossing_fits s p row n g o l dev h el ep er = λ i. not (ep i) && not (complete
 
 -- ---- a phase is left
 
-pub turn_fits : (s : ScenarioValue) (p : List Row) (row : Row) (n : Connection) (g : Going s p row n) (o : OpenedValue) (l : Link)
-    → OpenedAll (run_state s p) n o → (run_state s p).story.link ≡ Some l → changes_phase g.going.change ≡ true → is_some (receiver_in n g.going.change) ≡ false
-    → (is_message_in g.going.change.before ≡ true → is_nil (run_state s p).story.bus_state.dialogue.half ≡ false → undoes_nothing (run_state s p).story l l.undo ≡ true)
-    → fits_turn (run_state s p).story o l g.going.change ≡ true
-turn_fits s p row n g o l h el ep er undoes = λ i. undone i && arrived i && talk_leaves s p row n g o l h.bytes el ep i && open_known i
+pub turn_fits :
+    (s : ScenarioValue) (p : List Row) (row : Row) (n : Connection) (g : Going s p row n) (o : OpenedValue) (l : Link)
+    → OpenedAll (run_state s p) n o → (run_state s p).story.link ≡ Some l
+    → changes_phase g.going.change ≡ true → is_some (receiver_in n g.going.change) ≡ false
+    → (is_message_in g.going.change.before ≡ true → is_nil (run_state s p).story.bus_state.dialogue.half ≡ false
+    → undoes_nothing (run_state s p).story l l.undo ≡ true) → fits_turn (run_state s p).story o l g.going.change ≡ true
+turn_fits s p row n g o l h el ep er undoes =
+    λ i. undone i && arrived i && talk_leaves s p row n g o l h.bytes el ep i && open_known i
   where
     k : RunState
     k = run_state s p
@@ -70,7 +79,8 @@ turn_fits s p row n g o l h el ep er undoes = λ i. undone i && arrived i && tal
     undone : (not (is_message_in c.before && not (is_nil half)) || undoes_nothing k.story l l.undo) ≡ true
     undone = go (is_message_in c.before) refl (is_nil half) refl
       where
-        go : (q : Bool) → is_message_in c.before ≡ q → (r : Bool) → is_nil half ≡ r → (not (is_message_in c.before && not (is_nil half)) || undoes_nothing k.story l l.undo) ≡ true
+        go : (q : Bool) → is_message_in c.before ≡ q → (r : Bool) → is_nil half ≡ r
+            → (not (is_message_in c.before && not (is_nil half)) || undoes_nothing k.story l l.undo) ≡ true
         go false x r y = ap (λ (q : Bool). not (q && not (is_nil half)) || undoes_nothing k.story l l.undo) x
         go true x true y = λ i. not (x i && not (y i)) || undoes_nothing k.story l l.undo
         go true x false y = (λ i. not (x i && not (y i)) || undoes_nothing k.story l l.undo) ∙ undoes x y
@@ -79,13 +89,11 @@ turn_fits s p row n g o l h el ep er undoes = λ i. undone i && arrived i && tal
     arrived = implication (is_command c.before) (arrives_first k.story l.item) (λ z. arrives s p row n g l el z)
 
     open_known : (is_known o (bus_of k) || not (gets_known o c) || is_open_item k.story l.item) ≡ true
-    open_known =
-        by_bool n.reselected
-        (λ re. either (is_known o (bus_of k)) (gets_known o c) (is_open_item k.story l.item) (λ z. known_open s p row n g o l h.bytes el ep er re z))
-        (λ sel.
-        ap (λ (q : Bool). q || not (gets_known o c) || is_open_item k.story l.item)
-        (ap (λ (x : Connection). not x.reselected || not (are_talk (base_parts o)) || is_command (bus_of k)) h.bytes.connection_is
-        ∙ ap (λ (q : Bool). not q || not (are_talk (base_parts o)) || is_command (bus_of k)) sel))
+    open_known = by_bool n.reselected (λ re. either (is_known o (bus_of k)) (gets_known o c)
+        (is_open_item k.story l.item) (λ z. known_open s p row n g o l h.bytes el ep er re z))
+        (λ sel. ap (λ (q : Bool). q || not (gets_known o c) || is_open_item k.story l.item)
+        (ap (λ (x : Connection). not x.reselected || not (are_talk (base_parts o)) || is_command (bus_of k))
+        h.bytes.connection_is ∙ ap (λ (q : Bool). not q || not (are_talk (base_parts o)) || is_command (bus_of k)) sel))
       where
         either : (a b x : Bool) → (b ≡ true → x ≡ true) → (a || not b || x) ≡ true
         either true b x f = refl
@@ -95,9 +103,11 @@ turn_fits s p row n g o l h el ep er undoes = λ i. undone i && arrived i && tal
 -- ---- another row
 
 -- As the initiator answers a byte of MESSAGE IN, COMMAND COMPLETE is told where it is held.
-pub still_same : (s : ScenarioValue) (p : List Row) (row : Row) (n : Connection) (g : Going s p row n) (o : OpenedValue) (l : Link) → HeldLast (run_state s p) o
-    → (run_state s p).story.link ≡ Some l → is_message_in g.going.change.before ≡ true
-    → same_bool (story_of.is_complete l.last) (is_complete o.held && is_nil (run_state s p).story.bus_state.dialogue.half) ≡ true
+pub still_same :
+    (s : ScenarioValue) (p : List Row) (row : Row) (n : Connection) (g : Going s p row n) (o : OpenedValue) (l : Link)
+    → HeldLast (run_state s p) o → (run_state s p).story.link ≡ Some l → is_message_in g.going.change.before ≡ true
+    → same_bool (story_of.is_complete l.last)
+    (is_complete o.held && is_nil (run_state s p).story.bus_state.dialogue.half) ≡ true
 still_same s p row n g o l h el here =
     by_bool (story_of.is_complete l.last)
     (λ e. λ i. same_bool (e i) ((sym same ∙ e) i && whole (t.completes e) i))
@@ -115,8 +125,10 @@ still_same s p row n g o l h el here =
     same : story_of.is_complete l.last ≡ is_complete o.held
     same = h.same (out_in (bus_of k) on) l el
 
-    whole : IsTaken (talk_of k) ⊎ ((is_message_out (bus_of k) ≡ true) × (k.story.bus_state.dialogue.is_last ≡ false)) → is_nil k.story.bus_state.dialogue.half ≡ true
-    whole (inl z) = ap is_nil (in_is_whole k (g.was.stood.books.gives n g.going.goes.row_is.connection_is g.going.goes.calm) z.begun z.here z.all)
+    whole : IsTaken (talk_of k) ⊎ ((is_message_out (bus_of k) ≡ true) × (k.story.bus_state.dialogue.is_last ≡ false))
+        → is_nil k.story.bus_state.dialogue.half ≡ true
+    whole (inl z) = ap is_nil (in_is_whole k
+        (g.was.stood.books.gives n g.going.goes.row_is.connection_is g.going.goes.calm) z.begun z.here z.all)
     whole (inr z) = not_both (bus_of k) on z.0
 
 not_plain : {A : Type 0} (last : LastMessage) → last ≡ plain → story_of.is_complete last ≡ true → A
@@ -132,8 +144,9 @@ record Completing (s : ScenarioValue) (p : List Row) (n : Connection) : Type 0 w
   id : ProcId
   served : (run_state s p).served ≡ Some (process id)
 
-completing : (s : ScenarioValue) (p : List Row) (row : Row) (n : Connection) (g : Going s p row n) (l : Link) → (run_state s p).story.link ≡ Some l
-    → is_message_in g.going.change.before ≡ true → story_of.is_complete l.last ≡ true → Completing s p n
+completing : (s : ScenarioValue) (p : List Row) (row : Row) (n : Connection) (g : Going s p row n) (l : Link)
+    → (run_state s p).story.link ≡ Some l → is_message_in g.going.change.before ≡ true
+    → story_of.is_complete l.last ≡ true → Completing s p n
 completing s p row n g l el here last = go (g.was.facts.served n g.stands g.calm)
   where
     k : RunState
@@ -145,14 +158,16 @@ completing s p row n g l el here last = go (g.was.facts.served n g.stands g.calm
     t : TalksBy s (talk_of k) n l
     t = g.was.facts.items.items.talks n g.going.goes.row_is.connection_is g.going.goes.calm l el
 
-    begun_if : IsTaken (talk_of k) ⊎ ((is_message_out (bus_of k) ≡ true) × (k.story.bus_state.dialogue.is_last ≡ false)) → k.exchange.begun ≡ true
+    begun_if : IsTaken (talk_of k) ⊎ ((is_message_out (bus_of k) ≡ true) × (k.story.bus_state.dialogue.is_last ≡ false))
+        → k.exchange.begun ≡ true
     begun_if (inl z) = z.begun
     begun_if (inr z) = not_both (bus_of k) on z.0
 
     begun : k.exchange.begun ≡ true
     begun = begun_if (t.completes last)
 
-    alone : LastGiven l k.exchange.plan.messages k.exchange.plan.next k.handshakes.requests → k.exchange.plan.messages ≡ one_message MsgIn.CommandComplete
+    alone : LastGiven l k.exchange.plan.messages k.exchange.plan.next k.handshakes.requests
+        → k.exchange.plan.messages ≡ one_message MsgIn.CommandComplete
     alone (still_stays f m e) = not_plain l.last e last
     alone (to_close f x m y z e) = not_plain l.last e last
     alone (to_save f m y e) = not_plain l.last e last
@@ -161,14 +176,19 @@ completing s p row n g l el here last = go (g.was.facts.served n g.stands g.calm
     go : IsServed s k n → Completing s p n
     go (of_process id pr is x) = record {
       begun = begun;
-      messages = alone (subst (λ (x : Phase). LastBy l k.exchange.plan k.handshakes.requests k.story.bus_state.dialogue.is_last x) (in_phase (bus_of k) on) (((g.was.facts.last n g.stands g.calm).0 l id el is).begun begun));
+      messages = alone
+          (subst (λ (x : Phase). LastBy l k.exchange.plan k.handshakes.requests k.story.bus_state.dialogue.is_last x)
+          (in_phase (bus_of k) on) (((g.was.facts.last n g.stands g.calm).0 l id el is).begun begun));
       id = id;
       served = is;
     }
-    go (of_abort m a f x y z re phase) = not_both (bus_of k) on (out_lines (bus_of k) (phase begun).0 (λ q. (g.going.goes.phase q).0))
+    go (of_abort m a f x y z re phase) =
+        not_both (bus_of k) on (out_lines (bus_of k) (phase begun).0 (λ q. (g.going.goes.phase q).0))
 
-completion_fits : (s : ScenarioValue) (p : List Row) (row : Row) (n : Connection) (g : Going s p row n) (o : OpenedValue) (l : Link)
-    → OpenedAll (run_state s p) n o → (run_state s p).story.link ≡ Some l → is_message_in g.going.change.before ≡ true → story_of.is_complete l.last ≡ true
+completion_fits :
+    (s : ScenarioValue) (p : List Row) (row : Row) (n : Connection) (g : Going s p row n) (o : OpenedValue) (l : Link)
+    → OpenedAll (run_state s p) n o → (run_state s p).story.link ≡ Some l
+    → is_message_in g.going.change.before ≡ true → story_of.is_complete l.last ≡ true
     → (is_known o (bus_of (run_state s p)) && has_status (run_state s p).story l.item) ≡ true
 completion_fits s p row n g o l h el here last = go n.reselected refl
   where
@@ -184,8 +204,11 @@ completion_fits s p row n g o l h el here last = go n.reselected refl
     more : are_talk (base_parts o) ≡ false
     more = h.status.closes w.begun w.messages (inl on)
 
-    carries : CarriesBy l (carried_of k.story.carried w.id).status.bytes k.exchange.plan k.handshakes.requests Phase.MessageIn
-    carries = subst (λ (x : Phase). CarriesBy l (carried_of k.story.carried w.id).status.bytes k.exchange.plan k.handshakes.requests x) (in_phase (bus_of k) on) (g.was.statuses.talks n g.stands g.calm l w.id el w.served w.begun)
+    carries : CarriesBy l (carried_of k.story.carried w.id).status.bytes k.exchange.plan k.handshakes.requests
+        Phase.MessageIn
+    carries = subst (λ (x : Phase). CarriesBy l
+        (carried_of k.story.carried w.id).status.bytes k.exchange.plan k.handshakes.requests x) (in_phase (bus_of k) on)
+        (g.was.statuses.talks n g.stands g.calm l w.id el w.served w.begun)
 
     given : not (is_nil (carried_of k.story.carried w.id).status.bytes) ≡ true
     given = status_some (carried_of k.story.carried w.id).status.bytes (carries w.messages).0
@@ -198,7 +221,8 @@ completion_fits s p row n g o l h el here last = go n.reselected refl
 
         by : (v.link.item ≡ k.served) ⊎ ((n.reselected ≡ true) × (v.link.item ≡ None)) → l.item ≡ k.served
         by (inl z) = ap (λ (x : Link). x.item) (sym is) ∙ z
-        by (inr z) = wrong' (sym (ap (λ (x : Option Item). is_some x) z.1) ∙ ap (λ (x : Link). is_some x.item) is ∙ h.named.named z.0 more l el)
+        by (inr z) = wrong' (sym (ap (λ (x : Option Item). is_some x) z.1) ∙ ap (λ (x : Link). is_some x.item) is
+            ∙ h.named.named z.0 more l el)
 
     status : has_status k.story l.item ≡ true
     status = ap (has_status k.story) (same (knows_before s p row n g) ∙ w.served) ∙ given
@@ -214,11 +238,17 @@ completion_fits s p row n g o l h el here last = go n.reselected refl
             told true b = refl
             told false b = refl
     go false sel =
-        λ i. (ap (λ (x : Connection). not x.reselected || not (are_talk (base_parts o)) || is_command (bus_of k)) h.bytes.connection_is ∙ ap (λ (q : Bool). not q || not (are_talk (base_parts o)) || is_command (bus_of k)) sel) i && status i
+        λ i. (ap (λ (x : Connection). not x.reselected || not (are_talk (base_parts o)) || is_command (bus_of k))
+        h.bytes.connection_is ∙ ap (λ (q : Bool). not q || not (are_talk (base_parts o)) || is_command (bus_of k)) sel)
+        i && status i
 
-pub still_fits : (s : ScenarioValue) (p : List Row) (row : Row) (n : Connection) (g : Going s p row n) (o : OpenedValue) (l : Link)
-    → OpenedAll (run_state s p) n o → (run_state s p).story.link ≡ Some l → fits_still (run_state s p).story o l g.going.change ≡ true
-still_fits s p row n g o l h el = λ i. implication (up && is_message_in c.before && not c.after.atn) (same_bool (story_of.is_complete l.last) (is_complete o.held && is_nil k.story.bus_state.dialogue.half)) told i && implication (story_of.is_completion l c) (is_known o (bus_of k) && has_status k.story l.item) ended i
+pub still_fits :
+    (s : ScenarioValue) (p : List Row) (row : Row) (n : Connection) (g : Going s p row n) (o : OpenedValue) (l : Link)
+    → OpenedAll (run_state s p) n o → (run_state s p).story.link ≡ Some l
+    → fits_still (run_state s p).story o l g.going.change ≡ true
+still_fits s p row n g o l h el = λ i. implication (up && is_message_in c.before && not c.after.atn)
+    (same_bool (story_of.is_complete l.last) (is_complete o.held && is_nil k.story.bus_state.dialogue.half)) told i
+    && implication (story_of.is_completion l c) (is_known o (bus_of k) && has_status k.story l.item) ended i
   where
     k : RunState
     k = run_state s p
@@ -229,7 +259,8 @@ still_fits s p row n g o l h el = λ i. implication (up && is_message_in c.befor
     up : Bool
     up = rises c.before.ack c.after.ack
 
-    told : (up && is_message_in c.before && not c.after.atn) ≡ true → same_bool (story_of.is_complete l.last) (is_complete o.held && is_nil k.story.bus_state.dialogue.half) ≡ true
+    told : (up && is_message_in c.before && not c.after.atn) ≡ true
+        → same_bool (story_of.is_complete l.last) (is_complete o.held && is_nil k.story.bus_state.dialogue.half) ≡ true
     told z = still_same s p row n g o l h.last el (middle up (is_message_in c.before) (not c.after.atn) z)
 
     both : (a b x y : Bool) → (a && b && x && y) ≡ true → (b ≡ true) × (x ≡ true)
@@ -239,11 +270,14 @@ still_fits s p row n g o l h el = λ i. implication (up && is_message_in c.befor
     both false b x y z = wrong' z
 
     ended : story_of.is_completion l c ≡ true → (is_known o (bus_of k) && has_status k.story l.item) ≡ true
-    ended z = let w = both up (is_message_in c.before) (story_of.is_complete l.last) (not c.after.atn) z in completion_fits s p row n g o l h el w.0 w.1
+    ended z =
+        let w = both up (is_message_in c.before) (story_of.is_complete l.last) (not c.after.atn) z in
+        completion_fits s p row n g o l h el w.0 w.1
 
 -- ---- any of them
 
-pub going_fits : (s : ScenarioValue) (p : List Row) (row : Row) (n : Connection) (g : Going s p row n) (o : OpenedValue) (l : Link)
+pub going_fits :
+    (s : ScenarioValue) (p : List Row) (row : Row) (n : Connection) (g : Going s p row n) (o : OpenedValue) (l : Link)
     → OpenedAll (run_state s p) n o → (run_state s p).story.link ≡ Some l → UndoesNothing s p
     → fits_on s (run_state s p).story o l (row_reading (run_state s p).story.bus_state row) ≡ true
 going_fits s p row n g o l h el undoes = go g.going.goes.row_is.kind
@@ -254,17 +288,23 @@ going_fits s p row n g o l h el undoes = go g.going.goes.row_is.kind
     c : Change
     c = g.going.change
 
-    read : (q : Bool) → is_some (receiver_in n c) ≡ q → fits_on s k.story o l (row_reading k.story.bus_state row) ≡ fits_on s k.story o l (reading_in k.story.bus_state n c q)
+    read : (q : Bool) → is_some (receiver_in n c) ≡ q → fits_on s k.story o l (row_reading k.story.bus_state row)
+        ≡ fits_on s k.story o l (reading_in k.story.bus_state n c q)
     read q e = ap (λ (d : RowReading). fits_on s k.story o l d) (crosses_is s p row n g q e)
 
-    quiet : changes_phase c ≡ false → receiver_in n c ≡ None → fits_on s k.story o l (row_reading k.story.bus_state row) ≡ true
-    quiet ep er =
-        read false (ap (λ (x : Option ℕ). is_some x) er) ∙ ap (λ (q : Bool). if q then fits_turn k.story o l c else fits_still k.story o l c) ep ∙ still_fits s p row n g o l h el
+    quiet : changes_phase c ≡ false → receiver_in n c ≡ None
+        → fits_on s k.story o l (row_reading k.story.bus_state row) ≡ true
+    quiet ep er = read false (ap (λ (x : Option ℕ). is_some x) er)
+        ∙ ap (λ (q : Bool). if q then fits_turn k.story o l c else fits_still k.story o l c) ep
+        ∙ still_fits s p row n g o l h el
 
     go : RowKind row n c → fits_on s k.story o l (row_reading k.story.bus_state row) ≡ true
     go (still ef ep er) = quiet ep er
     go (strikes ef ep er) = quiet ep er
-    go (crosses dev ef ep er) = read true (ap (λ (x : Option ℕ). is_some x) er) ∙ crossing_fits s p row n g o l dev h el ep er
+    go (crosses dev ef ep er) =
+        read true (ap (λ (x : Option ℕ). is_some x) er) ∙ crossing_fits s p row n g o l dev h el ep er
     go (turns ef ep er) =
         let none = ap (λ (x : Option ℕ). is_some x) er in
-        read false none ∙ ap (λ (q : Bool). if q then fits_turn k.story o l c else fits_still k.story o l c) ep ∙ turn_fits s p row n g o l h el ep none (λ x y. undoes l el (ap is_message_in g.going.goes.row_is.bus_is ∙ x) y)
+        read false none ∙ ap (λ (q : Bool). if q then fits_turn k.story o l c else fits_still k.story o l c) ep
+        ∙ turn_fits s p row n g o l h el ep none
+        (λ x y. undoes l el (ap is_message_in g.going.goes.row_is.bus_is ∙ x) y)

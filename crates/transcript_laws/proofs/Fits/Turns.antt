@@ -1,5 +1,5 @@
--- As a phase is left: an abort has carried nothing but messages, a command that arrives has shown nothing, and with COMMAND, STATUS and
--- the end of data the process of a connection is known, and open.
+-- As a phase is left: an abort has carried nothing but messages, a command that arrives has shown nothing, and with
+-- COMMAND, STATUS and the end of data the process of a connection is known, and open.
 use Rattle.transcript_laws.proofs
 use proofs.Names.{ℕ, ◌≡◌, ◌∙◌, ◌⊎◌, inl, inr, Bool, true, false, not, ◌&&◌, List, [], ◌∷◌, Option, Some, None, refl}
 use proofs.Names.{sym, ap, subst, ◌||◌, same_Some, is_some, if◌then◌else◌, wrong, wrong', or_true, or_none_first}
@@ -20,7 +20,8 @@ pub not_both : {A : Type 0} (id : ProcId) (j : ℕ) → (let o : Option Item = S
 not_both id j e = absurd cc
 
 -- The item that the initiator knows is the one that is served.
-pub item_served : (s : ScenarioValue) (k : RunState) (n : Connection) (l : Link) (i : Item) → Knows s k n → k.story.link ≡ Some l → l.item ≡ Some i → k.served ≡ Some i
+pub item_served : (s : ScenarioValue) (k : RunState) (n : Connection) (l : Link) (i : Item) → Knows s k n
+    → k.story.link ≡ Some l → l.item ≡ Some i → k.served ≡ Some i
 item_served s k n l i w el e = go w.item_is
   where
     same : w.link ≡ l
@@ -44,9 +45,9 @@ out_only b e = go b.msg b.cd b.io refl refl refl e
     is_out Phase.MessageOut = true
     is_out _ = false
 
-    go : (m d i : Bool) → b.msg ≡ m → b.cd ≡ d → b.io ≡ i
-        → (if m then (if i then Phase.MessageIn else Phase.MessageOut) else if d then (if i then Phase.Status else Phase.Command) else if i then Phase.DataIn else Phase.DataOut) ≡ Phase.MessageOut
-        → IsOutLines b
+    go : (m d i : Bool) → b.msg ≡ m → b.cd ≡ d → b.io ≡ i → (if m then (if i then Phase.MessageIn else Phase.MessageOut)
+        else if d then (if i then Phase.Status else Phase.Command) else if i then Phase.DataIn else Phase.DataOut)
+        ≡ Phase.MessageOut → IsOutLines b
     go true d true x y z f = wrong' (ap is_out f)
     go true d false x y z f = record {
       command = λ i. not (x i) && b.cd && not b.io;
@@ -64,8 +65,9 @@ pub record AbortStands (s : ScenarioValue) (p : List Row) (n : Connection) (o : 
   pub command : is_command (bus_of (run_state s p)) ≡ false
   pub bytes : o.bytes ≡ []
 
-abort_stands : (s : ScenarioValue) (p : List Row) (row : Row) (n : Connection) (g : Going s p row n) (o : OpenedValue) (j : ℕ) → OpenedBytes (run_state s p) n o
-    → (run_state s p).served ≡ Some (abort j) → AbortStands s p n o
+abort_stands :
+    (s : ScenarioValue) (p : List Row) (row : Row) (n : Connection) (g : Going s p row n) (o : OpenedValue) (j : ℕ)
+    → OpenedBytes (run_state s p) n o → (run_state s p).served ≡ Some (abort j) → AbortStands s p n o
 abort_stands s p row n g o j h served = go (g.was.facts.served n g.stands g.calm)
   where
     k : RunState
@@ -76,13 +78,17 @@ abort_stands s p row n g o j h served = go (g.was.facts.served n g.stands g.calm
 
     go : IsServed s k n → AbortStands s p n o
     go (of_process id pr e f) = not_both id j (sym e ∙ served)
-    go (of_abort m a e f x y re phase) =
-        by_bool k.exchange.begun
-        (λ b. let lines = out_only (bus_of k) (phase b).0 in record { selected = re; command = lines.command; bytes = h.bytes lines.moves })
-        (λ b. record { selected = re; command = ap is_command pl.bus ∙ unbegun_lines s p n g.link.stage (sym pl.begun ∙ b); bytes = h.unbegun b })
+    go (of_abort m a e f x y re phase) = by_bool k.exchange.begun (λ b. let lines = out_only (bus_of k) (phase b).0 in
+        record { selected = re; command = lines.command; bytes = h.bytes lines.moves }) (λ b. record {
+          selected = re;
+          command = ap is_command pl.bus ∙ unbegun_lines s p n g.link.stage (sym pl.begun ∙ b);
+          bytes = h.unbegun b;
+        })
 
-pub talk_leaves : (s : ScenarioValue) (p : List Row) (row : Row) (n : Connection) (g : Going s p row n) (o : OpenedValue) (l : Link)
-    → OpenedBytes (run_state s p) n o → (run_state s p).story.link ≡ Some l → changes_phase g.going.change ≡ true → leaves_talk o g.going.change l.item ≡ true
+pub talk_leaves :
+    (s : ScenarioValue) (p : List Row) (row : Row) (n : Connection) (g : Going s p row n) (o : OpenedValue) (l : Link)
+    → OpenedBytes (run_state s p) n o → (run_state s p).story.link ≡ Some l → changes_phase g.going.change ≡ true
+    → leaves_talk o g.going.change l.item ≡ true
 talk_leaves s p row n g o l h el ep = go l.item refl
   where
     k : RunState
@@ -95,11 +101,13 @@ talk_leaves s p row n g o l h el ep = go l.item refl
     after j served = by (g.now.facts.served n g.after g.calm_after)
       where
         i : InConnection s k row n c true (is_some (receiver_in n c)) (is_fault row.kind)
-        i = in_connection s k row n c true (is_some (receiver_in n c)) (is_fault row.kind) g.going.goes.row_is ep refl refl
+        i = in_connection s k row n c true (is_some (receiver_in n c))
+            (is_fault row.kind) g.going.goes.row_is ep refl refl
 
         by : IsServed s (run_state s (row ∷ p)) n → is_status_phase c.after ≡ false
         by (of_process id pr e f) = not_both id j (sym e ∙ i.served_is ∙ served)
-        by (of_abort m a e f x y re phase) = ap is_status_phase (sym i.bus_is) ∙ (out_only (bus_of (run_state s (row ∷ p))) (phase (begun_turned s p row n g ep)).0).status
+        by (of_abort m a e f x y re phase) = ap is_status_phase (sym i.bus_is)
+            ∙ (out_only (bus_of (run_state s (row ∷ p))) (phase (begun_turned s p row n g ep)).0).status
 
     go : (x : Option Item) → l.item ≡ x → leaves_talk o c x ≡ true
     go None e = refl
@@ -113,10 +121,12 @@ talk_leaves s p row n g o l h el ep = go l.item refl
 -- ---- a command that arrives
 
 new_shows : (c : CarriedBytes) → is_marked c ≡ false → (not (is_whole_block c) || not c.shown) ≡ true
-new_shows c e = ap (λ (q : Bool). not (is_whole_block c) || not q) (or_none_first c.shown c.refused e) ∙ or_true (not (is_whole_block c))
+new_shows c e = ap (λ (q : Bool). not (is_whole_block c) || not q) (or_none_first c.shown c.refused e)
+    ∙ or_true (not (is_whole_block c))
 
-pub arrives : (s : ScenarioValue) (p : List Row) (row : Row) (n : Connection) (g : Going s p row n) (l : Link) → (run_state s p).story.link ≡ Some l
-    → is_command g.going.change.before ≡ true → arrives_first (run_state s p).story l.item ≡ true
+pub arrives : (s : ScenarioValue) (p : List Row) (row : Row) (n : Connection) (g : Going s p row n) (l : Link)
+    → (run_state s p).story.link ≡ Some l → is_command g.going.change.before ≡ true
+    → arrives_first (run_state s p).story l.item ≡ true
 arrives s p row n g l el command = go l.item refl
   where
     k : RunState
@@ -128,11 +138,14 @@ arrives s p row n g l el command = go l.item refl
     here : is_command (bus_of k) ≡ true
     here = ap is_command g.going.goes.row_is.bus_is ∙ command
 
-    untouched : (id : ProcId) (pr : Process) → k.served ≡ Some (process id) → process_of s id ≡ Some pr → IsUntouched g.was.places.array pr.id
-    untouched id pr served own =
-        subst (λ (f : Phase). PlacedIn g.was.places.array pr k.exchange.plan k.handshakes (bus_of k).atn f) (command_phase (bus_of k) here)
-        (subst (λ (q : Bool). PlacedIf q g.was.places.array pr k.exchange.plan k.handshakes (bus_of k).atn (phase_of (bus_of k))) (by_bool k.exchange.begun (λ b. b) (λ b. wrong' (sym (ap is_command pl.bus ∙ unbegun_lines s p n g.link.stage (sym pl.begun ∙ b)) ∙ here)))
-        (g.was.places.placed n g.going.goes.row_is.connection_is g.going.goes.calm pr (ap (process_item s) served ∙ own)))
+    untouched : (id : ProcId) (pr : Process) → k.served ≡ Some (process id) → process_of s id ≡ Some pr
+        → IsUntouched g.was.places.array pr.id
+    untouched id pr served own = subst (λ (f : Phase). PlacedIn g.was.places.array pr k.exchange.plan k.handshakes
+        (bus_of k).atn f) (command_phase (bus_of k) here) (subst (λ (q : Bool). PlacedIf q g.was.places.array
+        pr k.exchange.plan k.handshakes (bus_of k).atn (phase_of (bus_of k))) (by_bool k.exchange.begun (λ b. b)
+        (λ b. wrong' (sym (ap is_command pl.bus ∙ unbegun_lines s p n g.link.stage (sym pl.begun ∙ b)) ∙ here)))
+        (g.was.places.placed n g.going.goes.row_is.connection_is g.going.goes.calm pr
+        (ap (process_item s) served ∙ own)))
 
     go : (x : Option Item) → l.item ≡ x → arrives_first k.story x ≡ true
     go None e = refl
@@ -140,15 +153,19 @@ arrives s p row n g l el command = go l.item refl
     go (Some (process id)) e =
         let served = item_served s k n l (process id) (knows_before s p row n g) el e in
         let pr = g.was.places.of_scenario id served in
-        let none : reply_in g.was.places.array.replies id ≡ None = ap (λ (x : ProcId). reply_in g.was.places.array.replies x) (sym (process_id s id pr.0 pr.1)) ∙ (untouched id pr.0 served pr.1).reply in
+        let none : reply_in g.was.places.array.replies id ≡ None =
+        ap (λ (x : ProcId). reply_in g.was.places.array.replies x) (sym (process_id s id pr.0 pr.1))
+        ∙ (untouched id pr.0 served pr.1).reply in
         new_shows (carried_of k.story.carried id)
-        (sym (g.was.shown id) ∙ (λ i. is_some (reply_in (or_start s (g.was.places.array_is i)).replies id)) ∙ ap (λ (x : Option Reply). is_some x) none)
+        (sym (g.was.shown id) ∙ (λ i. is_some (reply_in (or_start s (g.was.places.array_is i)).replies id))
+        ∙ ap (λ (x : Option Reply). is_some x) none)
 
 -- ---- the process is known, and open
 
-open_by : (s : ScenarioValue) (k : RunState) (n : Connection) (l : Link) → Knows s k n → k.story.link ≡ Some l → IsServed s k n → n.reselected ≡ true
-    → ((i : Item) → k.served ≡ Some i → has_item k.story.sent.sent i ≡ true) → ((i : Item) → k.served ≡ Some i → has_item k.story.sent.over i ≡ false)
-    → is_some l.item ≡ true → is_open_item k.story l.item ≡ true
+open_by : (s : ScenarioValue) (k : RunState) (n : Connection) (l : Link) → Knows s k n → k.story.link ≡ Some l
+    → IsServed s k n → n.reselected ≡ true → ((i : Item) → k.served ≡ Some i → has_item k.story.sent.sent i ≡ true)
+    → ((i : Item) → k.served ≡ Some i → has_item k.story.sent.over i ≡ false) → is_some l.item ≡ true
+    → is_open_item k.story l.item ≡ true
 open_by s k n l w el served re sent open_is = go l.item refl
   where
     abortive : (j : ℕ) → k.served ≡ Some (abort j) → IsServed s k n → is_open_item k.story (Some (abort j)) ≡ true
@@ -163,9 +180,10 @@ open_by s k n l w el served re sent open_is = go l.item refl
     go (Some (abort j)) e z = abortive j (item_served s k n l (abort j) w el e) served
 
 -- Outside the message phases a process that was reselected is known.
-pub named_known : (s : ScenarioValue) (k : RunState) (n : Connection) (l : Link) → Named s k n → k.story.link ≡ Some l → is_message_in (bus_of k) ≡ false
-    → is_message_out (bus_of k) ≡ false → is_some l.item ≡ true
-named_known s k n l (known m e some none) el no_in no_out = ap (λ (x : Link). is_some x.item) (same_Some l m (sym el ∙ e)) ∙ some
+pub named_known : (s : ScenarioValue) (k : RunState) (n : Connection) (l : Link) → Named s k n → k.story.link ≡ Some l
+    → is_message_in (bus_of k) ≡ false → is_message_out (bus_of k) ≡ false → is_some l.item ≡ true
+named_known s k n l (known m e some none) el no_in no_out =
+    ap (λ (x : Link). is_some x.item) (same_Some l m (sym el ∙ e)) ∙ some
 named_known s k n l (said p m naming here names all) el no_in no_out = wrong (sym here ∙ no_in)
 named_known s k n l (refused p m naming here cause names) el no_in no_out = wrong (sym here ∙ no_out)
 
@@ -195,11 +213,13 @@ either true b c e = inl refl
 either false true c e = inl refl
 either false false c e = inr e
 
-pub known_open : (s : ScenarioValue) (p : List Row) (row : Row) (n : Connection) (g : Going s p row n) (o : OpenedValue) (l : Link)
+pub known_open :
+    (s : ScenarioValue) (p : List Row) (row : Row) (n : Connection) (g : Going s p row n) (o : OpenedValue) (l : Link)
     → OpenedBytes (run_state s p) n o → (run_state s p).story.link ≡ Some l → changes_phase g.going.change ≡ true
     → is_some (receiver_in n g.going.change) ≡ false → n.reselected ≡ true → gets_known o g.going.change ≡ true
     → is_open_item (run_state s p).story l.item ≡ true
-known_open s p row n g o l h el ep er re gets = go (either (is_command c.after) (is_status_phase c.after) (not (is_nil o.bytes)) gets)
+known_open s p row n g o l h el ep er re gets =
+    go (either (is_command c.after) (is_status_phase c.after) (not (is_nil o.bytes)) gets)
   where
     k : RunState
     k = run_state s p
@@ -219,26 +239,34 @@ known_open s p row n g o l h el ep er re gets = go (either (is_command c.after) 
     calm_next : (bus_of j).rst ≡ false
     calm_next = ap (λ (x : LineSet). x.rst) i.bus_is ∙ g.going.goes.row_is.calm
 
-    of_link : is_some l.item ≡ true → ((x : Item) → k.served ≡ Some x → has_item k.story.sent.over x ≡ false) → is_open_item k.story l.item ≡ true
-    of_link some open_is = open_by s k n l (knows_before s p row n g) el (g.was.facts.served n g.stands g.calm) re (λ x e. g.was.facts.items.items.served x e) open_is some
+    of_link : is_some l.item ≡ true → ((x : Item) → k.served ≡ Some x → has_item k.story.sent.over x ≡ false)
+        → is_open_item k.story l.item ≡ true
+    of_link some open_is = open_by s k n l (knows_before s p row n g) el (g.was.facts.served n g.stands g.calm) re
+        (λ x e. g.was.facts.items.items.served x e) open_is some
 
-    open_before : NoMessage (bus_of k) → (x : Item) → k.served ≡ Some x → (q : Bool) → has_item k.story.sent.over x ≡ q → has_item k.story.sent.over x ≡ false
+    open_before : NoMessage (bus_of k) → (x : Item) → k.served ≡ Some x → (q : Bool) → has_item k.story.sent.over x ≡ q
+        → has_item k.story.sent.over x ≡ false
     open_before none x e false f = f
-    open_before none x e true f = wrong (sym ((g.was.facts.items.items.talks n g.going.goes.row_is.connection_is g.going.goes.calm l el).over x e f).taken.here ∙ none.into)
+    open_before none x e true f =
+        wrong (sym ((g.was.facts.items.items.talks n g.going.goes.row_is.connection_is g.going.goes.calm l el).over x e
+        f).taken.here ∙ none.into)
 
-    open_after : NoMessage (bus_of j) → (x : Item) → k.served ≡ Some x → (q : Bool) → has_item k.story.sent.over x ≡ q → has_item k.story.sent.over x ≡ false
+    open_after : NoMessage (bus_of j) → (x : Item) → k.served ≡ Some x → (q : Bool) → has_item k.story.sent.over x ≡ q
+        → has_item k.story.sent.over x ≡ false
     open_after none x e false f = f
     open_after none x e true f =
         let grown = (over_after s k row n c false l g.going.goes.row_is er el).grows.over x f in
-        wrong (sym ((g.now.facts.items.items.talks n i.connection_is calm_next l link_after).over x (i.served_is ∙ e) grown).taken.here ∙ none.into)
+        wrong (sym ((g.now.facts.items.items.talks n i.connection_is calm_next l link_after).over x
+        (i.served_is ∙ e) grown).taken.here ∙ none.into)
 
-    go : ((is_command c.after || is_status_phase c.after) ≡ true) ⊎ (not (is_nil o.bytes) ≡ true) → is_open_item k.story l.item ≡ true
+    go : ((is_command c.after || is_status_phase c.after) ≡ true) ⊎ (not (is_nil o.bytes) ≡ true)
+        → is_open_item k.story l.item ≡ true
     go (inl z) =
         let none = no_message (bus_of j) (ap (λ (x : LineSet). x.msg) i.bus_is ∙ command_lines c.after z) in
-        of_link (named_known s j n l (g.now.facts.named n g.after g.calm_after re) link_after none.into none.out) (λ x e. open_after none x e (has_item k.story.sent.over x) refl)
-    go (inr z) =
-        by_bool (is_command (bus_of k) || is_data (bus_of k))
-        (λ f.
-        let none = no_message (bus_of k) (moving_lines (bus_of k) f) in
-        of_link (named_known s k n l (g.was.facts.named n g.stands g.calm re) el none.into none.out) (λ x e. open_before none x e (has_item k.story.sent.over x) refl))
+        of_link (named_known s j n l (g.now.facts.named n g.after g.calm_after re) link_after none.into none.out)
+        (λ x e. open_after none x e (has_item k.story.sent.over x) refl)
+    go (inr z) = by_bool (is_command (bus_of k) || is_data (bus_of k))
+        (λ f. let none = no_message (bus_of k) (moving_lines (bus_of k) f) in
+        of_link (named_known s k n l (g.was.facts.named n g.stands g.calm re) el none.into none.out)
+        (λ x e. open_before none x e (has_item k.story.sent.over x) refl))
         (λ f. wrong' (sym (ap (λ (x : List ℕ). not (is_nil x)) (h.bytes f)) ∙ z))

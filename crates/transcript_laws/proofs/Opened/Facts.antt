@@ -27,21 +27,22 @@ completes (Some l) = story_of.is_complete l.last
 first_last : (b : Story) (n : Connection) → completes (story_after_connection b n).link ≡ false
 first_last b n = go n.reselected (aim_of b.aims n.initiator)
   where
-    go : (q : Bool) (item : Option Item)
-        → completes (if q then record b { link = Some (link_of n None) } else story_with_restored (story_with_sent (record b { link = Some (link_of n item) }) item) item).link ≡ false
+    go : (q : Bool) (item : Option Item) → completes (if q then record b { link = Some (link_of n None) }
+        else story_with_restored (story_with_sent (record b { link = Some (link_of n item) }) item) item).link ≡ false
     go true item = refl
     go false None = refl
     go false (Some (process id)) = refl
     go false (Some (abort j)) = refl
 
-starts_last : (s : ScenarioValue) (p : List Row) (row : Row) (n : Connection) → Starts s p row n → completes (run_state s (row ∷ p)).story.link ≡ false
+starts_last : (s : ScenarioValue) (p : List Row) (row : Row) (n : Connection) → Starts s p row n
+    → completes (run_state s (row ∷ p)).story.link ≡ false
 starts_last s p row n h =
     let k : RunState = run_state s p in
     let d : RowReading = row_reading k.story.bus_state row in
     ap completes (events_link s (story_by_change s k.story d row) (row_events_by s k.story d row))
-    ∙ ap (λ (q : Bool). completes (if q then record k.story { link = None } else story_on_bus s k.story k.story.bus_state.connection d.next d row).link) h.off
-    ∙ (λ i. completes (story_on_bus s k.story (h.alone i) (h.next i) d row).link)
-    ∙ first_last k.story n
+    ∙ ap (λ (q : Bool). completes (if q then record k.story { link = None }
+    else story_on_bus s k.story k.story.bus_state.connection d.next d row).link) h.off
+    ∙ (λ i. completes (story_on_bus s k.story (h.alone i) (h.next i) d row).link) ∙ first_last k.story n
 
 pub all_hold : (s : ScenarioValue) → Holds s OpenedAll
 all_hold s = record {
@@ -73,6 +74,7 @@ all_hold s = record {
   };
 }
 
-pub opened_all : (s : ScenarioValue) → Obeys s → (p : List Row) → IsPrompt s p → (n : Connection) → connection p ≡ Some n → (bus p).rst ≡ false → (o : OpenedValue)
-    → (transcribed p).opened ≡ Some o → OpenedAll (run_state s p) n o
+pub opened_all : (s : ScenarioValue) → Obeys s → (p : List Row) → IsPrompt s p → (n : Connection)
+    → connection p ≡ Some n → (bus p).rst ≡ false → (o : OpenedValue) → (transcribed p).opened ≡ Some o
+    → OpenedAll (run_state s p) n o
 opened_all s o p prompt n con calm k there = always s OpenedAll o (all_hold s) p prompt n con calm k there

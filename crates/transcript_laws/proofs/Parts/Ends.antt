@@ -30,15 +30,18 @@ are_silent (part ∷ parts) = not (is_talk part) && are_silent parts
 
 pub silent_more : (xs ys : List Part) → are_silent xs ≡ true → are_silent ys ≡ true → are_silent (xs ++ ys) ≡ true
 silent_more [] ys e f = f
-silent_more (x ∷ xs) ys e f = λ i. and_first (not (is_talk x)) (are_silent xs) e i && silent_more xs ys (and_second (not (is_talk x)) (are_silent xs) e) f i
+silent_more (x ∷ xs) ys e f = λ i. and_first (not (is_talk x)) (are_silent xs) e i
+    && silent_more xs ys (and_second (not (is_talk x)) (are_silent xs) e) f i
 
 -- ---- the last message
 
-pub summary_more : (again : Bool) (xs ys : List Part) (a : Summary) → summary_of again a (xs ++ ys) ≡ summary_of again (summary_of again a xs) ys
+pub summary_more : (again : Bool) (xs ys : List Part) (a : Summary)
+    → summary_of again a (xs ++ ys) ≡ summary_of again (summary_of again a xs) ys
 summary_more again [] ys a = refl
 summary_more again (x ∷ xs) ys a = summary_more again xs ys (summary_after again a x)
 
-silent_departure : (again : Bool) (parts : List Part) (a : Summary) → are_silent parts ≡ true → (summary_of again a parts).departure ≡ a.departure
+silent_departure : (again : Bool) (parts : List Part) (a : Summary) → are_silent parts ≡ true
+    → (summary_of again a parts).departure ≡ a.departure
 silent_departure again [] a e = refl
 silent_departure again (Part.Out m ∷ parts) a e = wrong' e
 silent_departure again (Part.In m ∷ parts) a e = wrong' e
@@ -50,18 +53,22 @@ silent_departure again (Part.Status byte ∷ parts) a e = silent_departure again
 silent_departure again (Part.Completion ∷ parts) a e = silent_departure again parts a e
 
 held_departure : (again : Bool) (parts since : List Part) (m : MsgIn) → are_silent since ≡ true
-    → (summary_of again no_summary (parts ++ (Part.In m ∷ since))).departure ≡ (summary_in again (summary_of again no_summary parts) m).departure
+    → (summary_of again no_summary (parts ++ (Part.In m ∷ since))).departure
+    ≡ (summary_in again (summary_of again no_summary parts) m).departure
 held_departure again parts since m e =
     ap (λ (s : Summary). s.departure) (summary_more again parts (Part.In m ∷ since) no_summary)
     ∙ silent_departure again since (summary_in again (summary_of again no_summary parts) m) e
 
 -- COMMAND COMPLETE and DISCONNECT, where no message came after it.
-pub leave_departure : (n : Connection) (parts since : List Part) (held : Option Incoming) → ends_told (last_held held) ≡ true → are_silent since ≡ true
+pub leave_departure : (n : Connection) (parts since : List Part) (held : Option Incoming)
+    → ends_told (last_held held) ≡ true → are_silent since ≡ true
     → (summary_by n (parts ++ (held_part held ++ since))).departure ≡ Leave
 leave_departure n parts since None e f = wrong' e
 leave_departure n parts since (Some Broken) e f = wrong' e
-leave_departure n parts since (Some (Whole MsgIn.CommandComplete)) e f = held_departure n.reselected parts since MsgIn.CommandComplete f
-leave_departure n parts since (Some (Whole MsgIn.Disconnect)) e f = held_departure n.reselected parts since MsgIn.Disconnect f
+leave_departure n parts since (Some (Whole MsgIn.CommandComplete)) e f =
+    held_departure n.reselected parts since MsgIn.CommandComplete f
+leave_departure n parts since (Some (Whole MsgIn.Disconnect)) e f =
+    held_departure n.reselected parts since MsgIn.Disconnect f
 leave_departure n parts since (Some (Whole MsgIn.SavePointer)) e f = wrong' e
 leave_departure n parts since (Some (Whole MsgIn.RestorePointers)) e f = wrong' e
 leave_departure n parts since (Some (Whole (MsgIn.Identify lun))) e f = wrong' e
@@ -77,15 +84,19 @@ tame_loss again a m e = go (is_abort m) e
     go true z = wrong' z
     go false z = refl
 
-loss_stays : (again : Bool) (said : List MsgOut) (a : Summary) → are_tame said ≡ true → a.departure ≡ Loss → (summary_of again a (out_parts said)).departure ≡ Loss
+loss_stays : (again : Bool) (said : List MsgOut) (a : Summary) → are_tame said ≡ true → a.departure ≡ Loss
+    → (summary_of again a (out_parts said)).departure ≡ Loss
 loss_stays again [] a e f = f
-loss_stays again (m ∷ said) a e f = loss_stays again said (summary_out again a m) (and_second (is_tame m) (are_tame said) e) (tame_loss again a m (and_first (is_tame m) (are_tame said) e))
+loss_stays again (m ∷ said) a e f = loss_stays again said (summary_out again a m)
+    (and_second (is_tame m) (are_tame said) e) (tame_loss again a m (and_first (is_tame m) (are_tame said) e))
 
-pub loss_departure : (n : Connection) (parts : List Part) (said : List MsgOut) → are_tame said ≡ true → (said ≡ [] → ⊥) → (summary_by n (parts ++ out_parts said)).departure ≡ Loss
+pub loss_departure : (n : Connection) (parts : List Part) (said : List MsgOut) → are_tame said ≡ true
+    → (said ≡ [] → ⊥) → (summary_by n (parts ++ out_parts said)).departure ≡ Loss
 loss_departure n parts [] e some = absurd (some refl)
 loss_departure n parts (m ∷ said) e some =
     ap (λ (s : Summary). s.departure) (summary_more n.reselected parts (out_parts (m ∷ said)) no_summary)
-    ∙ loss_stays n.reselected said (summary_out n.reselected (summary_of n.reselected no_summary parts) m) (and_second (is_tame m) (are_tame said) e)
+    ∙ loss_stays n.reselected said (summary_out n.reselected (summary_of n.reselected no_summary parts) m)
+    (and_second (is_tame m) (are_tame said) e)
     (tame_loss n.reselected (summary_of n.reselected no_summary parts) m (and_first (is_tame m) (are_tame said) e))
 
 -- ---- a connection that ends in a message phase, with no message half heard
@@ -93,13 +104,14 @@ loss_departure n parts (m ∷ said) e some =
 no_phase : (o : OpenedValue) (b : LineSet) → (is_command b || is_data b) ≡ false → phase_parts o b false ≡ []
 no_phase o b z = by (is_command b) (is_data b) z
   where
-    by : (x y : Bool) → (x || y) ≡ false → (if x then Part.Command o.bytes o.struck false ∷ [] else if y then data_parts (not b.io) o.bytes else []) ≡ []
+    by : (x y : Bool) → (x || y) ≡ false
+        → (if x then Part.Command o.bytes o.struck false ∷ [] else if y then data_parts (not b.io) o.bytes else []) ≡ []
     by true y w = wrong w
     by false true w = wrong w
     by false false w = refl
 
-pub closing_now : (o : OpenedValue) (b : LineSet) (half : List ℕ) → (is_command b || is_data b) ≡ false → (is_message_in b && not (is_nil half)) ≡ false
-    → closing_parts o b half ≡ parts_now o
+pub closing_now : (o : OpenedValue) (b : LineSet) (half : List ℕ) → (is_command b || is_data b) ≡ false
+    → (is_message_in b && not (is_nil half)) ≡ false → closing_parts o b half ≡ parts_now o
 closing_now o b half x y =
     over_parts o b half false
     ∙ (λ i. (parts_now o ++ (if y i then Part.BrokenOff ∷ [] else [])) ++ no_phase o b x i)

@@ -11,8 +11,8 @@ if_none : (q : Bool) → (if q then [] else held_part None) ≡ []
 if_none true = refl
 if_none false = refl
 
-all_said : (k : OpenedValue) (said : List MsgOut)
-    → (settled (with_all_out k said) false).parts ≡ (k.parts ++ ((if is_void said then [] else held_part k.held) ++ k.since)) ++ out_parts said
+all_said : (k : OpenedValue) (said : List MsgOut) → (settled (with_all_out k said) false).parts
+    ≡ (k.parts ++ ((if is_void said then [] else held_part k.held) ++ k.since)) ++ out_parts said
 all_said k [] = sym (append-nil (k.parts ++ (held_part k.held ++ k.since)))
 all_said k (m ∷ said) =
     let l : OpenedValue = with_out k m in
@@ -53,8 +53,8 @@ pub record Holds (k l : OpenedValue) : Type 0 where
   pub held : l.held ≡ k.held
   pub since : l.since ≡ k.since
 
-spoken_by : (k : OpenedValue) (said : List MsgOut) → k.said ≡ said → (m : Incoming) → (with_all_out (record k { said = [] }) said).held ≡ Some m
-    → Holds k (with_all_out (record k { said = [] }) said)
+spoken_by : (k : OpenedValue) (said : List MsgOut) → k.said ≡ said → (m : Incoming)
+    → (with_all_out (record k { said = [] }) said).held ≡ Some m → Holds k (with_all_out (record k { said = [] }) said)
 spoken_by k [] e m held = record { said = e; parts = refl; held = refl; since = refl }
 spoken_by k (x ∷ said) e m held = none_some m (sym (none_held (with_out (record k { said = [] }) x) said refl) ∙ held)
 
@@ -70,7 +70,8 @@ broken_parts s half = if is_message_in s && not (is_nil half) then Part.BrokenOf
 abbrev left_parts : OpenedValue → List Part
 left_parts k = k.parts ++ (held_part k.held ++ k.since)
 
-broken_left : (k : OpenedValue) (q : Bool) → left_parts (if q then with_in k Broken else k) ≡ left_parts k ++ (if q then Part.BrokenOff ∷ [] else [])
+broken_left : (k : OpenedValue) (q : Bool)
+    → left_parts (if q then with_in k Broken else k) ≡ left_parts k ++ (if q then Part.BrokenOff ∷ [] else [])
 broken_left k true = ap (λ (xs : List Part). left_parts k ++ xs) refl
 broken_left k false = sym (append-nil (left_parts k))
 
@@ -78,12 +79,14 @@ broken_same : (k : OpenedValue) (q : Bool) → Spoken k (if q then with_in k Bro
 broken_same k true = record { connection = refl; bytes = refl; struck = refl; said = refl }
 broken_same k false = record { connection = refl; bytes = refl; struck = refl; said = refl }
 
-phase_left : (k : OpenedValue) (s : LineSet) (left : Bool) → left_parts (with_phase k s left) ≡ left_parts k ++ phase_parts k s left
+phase_left : (k : OpenedValue) (s : LineSet) (left : Bool)
+    → left_parts (with_phase k s left) ≡ left_parts k ++ phase_parts k s left
 phase_left k s left =
     ap (λ (xs : List Part). k.parts ++ xs) (sym (append_assoc (held_part k.held) k.since (phase_parts k s left)))
     ∙ sym (append_assoc k.parts (held_part k.held ++ k.since) (phase_parts k s left))
 
-same_phase_parts : (k l : OpenedValue) (s : LineSet) (left : Bool) → l.bytes ≡ k.bytes → l.struck ≡ k.struck → phase_parts l s left ≡ phase_parts k s left
+same_phase_parts : (k l : OpenedValue) (s : LineSet) (left : Bool) → l.bytes ≡ k.bytes → l.struck ≡ k.struck
+    → phase_parts l s left ≡ phase_parts k s left
 same_phase_parts k l s left bytes struck = λ i. phase_parts (record k { bytes = bytes i; struck = struck i }) s left
 
 pub over_parts : (k : OpenedValue) (s : LineSet) (half : List ℕ) (left : Bool)
@@ -92,8 +95,8 @@ over_parts k s half left =
     let l : OpenedValue = broken_off (spoken k) s half in
     let g = spoken_keeps k in
     let h = broken_same (spoken k) (is_message_in s && not (is_nil half)) in
-    phase_left l s left
-    ∙ (λ i. broken_left (spoken k) (is_message_in s && not (is_nil half)) i ++ same_phase_parts k l s left (h.bytes ∙ g.bytes) (h.struck ∙ g.struck) i)
+    phase_left l s left ∙ (λ i. broken_left (spoken k) (is_message_in s && not (is_nil half)) i
+    ++ same_phase_parts k l s left (h.bytes ∙ g.bytes) (h.struck ∙ g.struck) i)
     ∙ (λ i. (spoken_parts k i ++ broken_parts s half) ++ phase_parts k s left)
 
 pub record IsOver (k l : OpenedValue) : Type 0 where

@@ -16,25 +16,40 @@ pub use Rattle.transcript_laws.proofs.Serving.Steps.{account_by}
 -- ---- what is carried no longer counts
 
 closing_account : (k : OpenedValue) (s : LineSet) (half : List ℕ) (p : Process)
-    → account_by p (closing_parts k s half) ≡ account_after_all (account_after_all (account_after_all (account_base k p) (out_parts k.said)) (broken_parts s half)) (phase_parts k s false)
+    → account_by p (closing_parts k s half) ≡ account_after_all
+    (account_after_all (account_after_all (account_base k p) (out_parts k.said)) (broken_parts s half))
+    (phase_parts k s false)
 closing_account k s half p =
     let a : AccountValue = account_of p [] in
     ap (λ (parts : List Part). account_after_all a parts) (over_parts k s half false)
     ∙ all_after a (parts_now k ++ broken_parts s half) (phase_parts k s false)
-    ∙ ap (λ (x : AccountValue). account_after_all x (phase_parts k s false)) (all_after a (parts_now k) (broken_parts s half) ∙ ap (λ (x : AccountValue). account_after_all x (broken_parts s half)) (all_after a (base_parts k) (out_parts k.said)))
+    ∙ ap (λ (x : AccountValue). account_after_all x (phase_parts k s false))
+    (all_after a (parts_now k) (broken_parts s half) ∙ ap
+    (λ (x : AccountValue). account_after_all x (broken_parts s half)) (all_after a (base_parts k) (out_parts k.said)))
 
 -- The account is still what the process has carried.
-pub closing_is : (k : OpenedValue) (s : LineSet) (half : List ℕ) (id : ProcId) (now back : CarriedBytes) (conn history : List Event) (was : Bool) (st : Option ℕ) (p : Process)
-    → IsServing k (is_command s) id now back conn history was st → IsAsBegun p was st → IsAccountOf (account_by p (closing_parts k s half)) now
+pub closing_is : (k : OpenedValue) (s : LineSet) (half : List ℕ) (id : ProcId)
+    (now back : CarriedBytes) (conn history : List Event) (was : Bool) (st : Option ℕ) (p : Process)
+    → IsServing k (is_command s) id now back conn history was st → IsAsBegun p was st
+    → IsAccountOf (account_by p (closing_parts k s half)) now
 closing_is k s half id now back conn history was st p h b =
-    let c : AccountValue = account_after_all (account_after_all (account_base k p) (out_parts k.said)) (broken_parts s half) in
-    subst (λ (a : AccountValue). IsAccountOf a now) (sym (closing_account k s half p)) (phase_account c now (is_command s) (is_data s) (not s.io) k.bytes k.struck false (same_account (with_block (account_base k p) (if is_command s then k.bytes else []) (is_command s && k.struck)) (with_block c (if is_command s then k.bytes else []) (is_command s && k.struck)) now (same_block (account_base k p) c (if is_command s then k.bytes else []) (is_command s && k.struck) (spoken_same k s half p)) (h.account p b)))
+    let c : AccountValue = account_after_all
+    (account_after_all (account_base k p) (out_parts k.said)) (broken_parts s half) in
+    subst (λ (a : AccountValue). IsAccountOf a now) (sym (closing_account k s half p))
+    (phase_account c now (is_command s) (is_data s) (not s.io) k.bytes k.struck false
+    (same_account (with_block (account_base k p) (if is_command s then k.bytes else []) (is_command s && k.struck))
+    (with_block c (if is_command s then k.bytes else []) (is_command s && k.struck)) now (same_block (account_base k p)
+    c (if is_command s then k.bytes else []) (is_command s && k.struck) (spoken_same k s half p)) (h.account p b)))
 
 -- And no event is shown with it.
 left_shown : (refused : List Name) (a : AccountValue) (q r out : Bool) (bytes : List ℕ) (struck : Bool)
-    → shown_items refused (account_after_all a (if q then Part.Command bytes struck false ∷ [] else if r then data_parts out bytes else [])).items ≡ shown_items refused a.items
-left_shown refused a true r out bytes struck = (part_more refused a (Part.Command bytes struck false)).shown ∙ append-nil (shown_items refused a.items)
-left_shown refused a false true out bytes struck = data_shown refused a out bytes ∙ append-nil (shown_items refused a.items)
+    → shown_items refused (account_after_all a
+    (if q then Part.Command bytes struck false ∷ [] else if r then data_parts out bytes else [])).items
+    ≡ shown_items refused a.items
+left_shown refused a true r out bytes struck =
+    (part_more refused a (Part.Command bytes struck false)).shown ∙ append-nil (shown_items refused a.items)
+left_shown refused a false true out bytes struck =
+    data_shown refused a out bytes ∙ append-nil (shown_items refused a.items)
 left_shown refused a false false out bytes struck = refl
 
 pub closing_shown : (refused : List Name) (k : OpenedValue) (s : LineSet) (half : List ℕ) (p : Process)
@@ -50,9 +65,10 @@ closing_shown refused k s half p =
     ∙ append-nil (shown_items refused (account_base k p).items)
 
 -- Nor where the connection still stands.
-pub standing_shown : (refused : List Name) (k : OpenedValue) (p : Process) → shown_items refused (account_by p (parts_now k)).items ≡ shown_items refused (account_base k p).items
-standing_shown refused k p =
-    ap (λ (x : AccountValue). shown_items refused x.items) (all_after (account_of p []) (base_parts k) (out_parts k.said))
+pub standing_shown : (refused : List Name) (k : OpenedValue) (p : Process)
+    → shown_items refused (account_by p (parts_now k)).items ≡ shown_items refused (account_base k p).items
+standing_shown refused k p = ap (λ (x : AccountValue). shown_items refused x.items)
+    (all_after (account_of p []) (base_parts k) (out_parts k.said))
     ∙ (talk_more refused (account_base k p) (out_parts k.said) (outs_talk k.said)).shown
     ∙ append-nil (shown_items refused (account_base k p).items)
 
@@ -74,7 +90,8 @@ leaving_items free name s = if free then departure_items name s.departure s.abor
 abbrev pub process_for : TranscriberValue → Connection → Summary → Process
 process_for t n s = process_after n.reselected (is_some s.abort) (process_of t.processes (name_of n s)) (name_of n s)
 
-departed_items : (a : AccountValue) (d : Departure) (abort : Option MsgOut) → (departed a d abort).items ≡ a.items ++ departure_items a.process.name d abort
+departed_items : (a : AccountValue) (d : Departure) (abort : Option MsgOut)
+    → (departed a d abort).items ≡ a.items ++ departure_items a.process.name d abort
 departed_items a Loss abort = refl
 departed_items a Leave abort = sym (append-nil a.items)
 departed_items a Abortion None = sym (append-nil a.items)
@@ -86,7 +103,8 @@ departed_process a Leave abort = refl
 departed_process a Abortion None = refl
 departed_process a Abortion (Some m) = refl
 
-free_items : (free : Bool) (a : AccountValue) (s : Summary) → (departed_if free a s).items ≡ a.items ++ leaving_items free a.process.name s
+free_items : (free : Bool) (a : AccountValue) (s : Summary)
+    → (departed_if free a s).items ≡ a.items ++ leaving_items free a.process.name s
 free_items true a s = departed_items a s.departure s.abort
 free_items false a s = sym (append-nil a.items)
 
@@ -96,7 +114,8 @@ free_process false a s = refl
 
 -- The items that the connection adds.
 abbrev pub connection_items : Connection → Process → List Part → Bool → Summary → List Item
-connection_items n p parts free s = Item.Connect n.began p.name n.reselected ∷ ((account_by p parts).items ++ leaving_items free p.name s)
+connection_items n p parts free s =
+    Item.Connect n.began p.name n.reselected ∷ ((account_by p parts).items ++ leaving_items free p.name s)
 
 all_items : (n : Connection) (p : Process) (parts : List Part) (list : List Item) (free : Bool) (s : Summary)
     → (departed_if free (account_parts n p parts list) s).items ≡ list ++ connection_items n p parts free s
@@ -104,7 +123,8 @@ all_items n p parts list free s =
     let c : Item = Item.Connect n.began p.name n.reselected in
     ap (λ (a : AccountValue). (departed_if free a s).items) (account_is n p parts list)
     ∙ free_items free (behind (list ++ c ∷ []) (account_by p parts)) s
-    ∙ ap (λ (name : Name). ((list ++ c ∷ []) ++ (account_by p parts).items) ++ leaving_items free name s) (parts_name (account_of p []) parts)
+    ∙ ap (λ (name : Name). ((list ++ c ∷ []) ++ (account_by p parts).items) ++ leaving_items free name s)
+    (parts_name (account_of p []) parts)
     ∙ append_assoc (list ++ c ∷ []) (account_by p parts).items (leaving_items free p.name s)
     ∙ append_assoc list (c ∷ []) ((account_by p parts).items ++ leaving_items free p.name s)
 
@@ -114,7 +134,9 @@ unfolding closed_by
 closed_items t n parts free s = all_items n (process_for t n s) parts t.items free s
 
 pub closed_processes : (t : TranscriberValue) (n : Connection) (parts : List Part) (free : Bool) (s : Summary)
-    → (closed_by t n parts free s).processes ≡ with_process n.reselected (is_some s.abort) t.processes (account_by (process_for t n s) parts).process
+    → (closed_by t n parts free s).processes
+    ≡ with_process n.reselected (is_some s.abort) t.processes (account_by (process_for t n s) parts).process
 unfolding closed_by
-closed_processes t n parts free s =
-    ap (λ (p : Process). with_process n.reselected (is_some s.abort) t.processes p) (free_process free (account_parts n (process_for t n s) parts t.items) s ∙ ap (λ (a : AccountValue). a.process) (account_is n (process_for t n s) parts t.items))
+closed_processes t n parts free s = ap (λ (p : Process). with_process n.reselected (is_some s.abort) t.processes p)
+    (free_process free (account_parts n (process_for t n s) parts t.items) s
+    ∙ ap (λ (a : AccountValue). a.process) (account_is n (process_for t n s) parts t.items))

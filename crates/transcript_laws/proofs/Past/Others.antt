@@ -1,4 +1,5 @@
--- What shows no event of a process: a connection whose process is not known yet, that of an abort, RST, and items that are no events.
+-- What shows no event of a process: a connection whose process is not known yet, that of an abort, RST, and items that
+-- are no events.
 use Rattle.transcript_laws.proofs
 use proofs.Names.{ℕ, ◌≡◌, ◌∙◌, Bool, true, false, List, [], ◌∷◌, ◌++◌, length, reverse, None, refl, sym, ap, subst}
 use proofs.Names.{append-nil, if◌then◌else◌, Event, ProcId, Connection, none_some, names_begun, name_sent, named_events}
@@ -17,7 +18,8 @@ abort_named j (n ∷ names) id = refl
 -- Items and events with no process's name.
 pub record IsOpenly (new : List Item) (conn : List Event) : Type 0 where
   pub names : names_begun new ≡ []
-  pub shown : (refused : List Name) (sent : List told.Item) (names : List Name) → shown_items refused new ≡ named_events sent names (reverse conn)
+  pub shown : (refused : List Name) (sent : List told.Item) (names : List Name)
+      → shown_items refused new ≡ named_events sent names (reverse conn)
 
 -- The reset of a device, and what is no event.
 pub reset_openly : (dev : ℕ) → IsOpenly (Item.Reset dev ∷ []) (Event.Reset dev ∷ [])
@@ -29,10 +31,10 @@ free_openly time = record { names = refl; shown = λ refused sent names. refl }
 pub unanswered_openly : (time caller called : ℕ) → IsOpenly (Item.Unanswered time caller called ∷ []) []
 unanswered_openly time caller called = record { names = refl; shown = λ refused sent names. refl }
 
-pub openly_past : (list new : List Item) (sent : List told.Item) (conn history : List Event) → IsOpenly new conn → AreEventsSent sent conn
-    → IsPast list sent history → IsPast (list ++ new) sent (conn ++ history)
-openly_past list new sent conn history h known past =
-    subst (λ (xs : List told.Item). IsPast (list ++ new) xs (conn ++ history)) (append-nil sent) (past_more list new sent [] conn history past (record {
+pub openly_past : (list new : List Item) (sent : List told.Item) (conn history : List Event) → IsOpenly new conn
+    → AreEventsSent sent conn → IsPast list sent history → IsPast (list ++ new) sent (conn ++ history)
+openly_past list new sent conn history h known past = subst (λ (xs : List told.Item). IsPast (list ++ new) xs
+    (conn ++ history)) (append-nil sent) (past_more list new sent [] conn history past (record {
       count = ap length h.names;
       known = subst (λ (xs : List told.Item). AreEventsSent xs conn) (sym (append-nil sent)) known;
       numbers = λ id name e. none_some name e;
@@ -45,12 +47,14 @@ plain_shown : (refused : List Name) (n : Connection) (p : Process) (parts : List
     → shown_items refused (account_by p parts).items ≡ []
     → shown_items refused (connection_items n p parts free s) ≡ shown_items refused (leaving_items free p.name s)
 plain_shown refused n p parts free s none =
-    shown_append refused (account_by p parts).items (leaving_items free p.name s) ∙ ap (λ (xs : List Item). xs ++ shown_items refused (leaving_items free p.name s)) none
+    shown_append refused (account_by p parts).items (leaving_items free p.name s)
+    ∙ ap (λ (xs : List Item). xs ++ shown_items refused (leaving_items free p.name s)) none
 
 -- It is cut, or stands, before its process is known.
-pub quiet_past : (n : Connection) (p : Process) (parts : List Part) (s : Summary) (list : List Item) (sent : List told.Item) (history : List Event)
-    → n.reselected ≡ true → ((refused : List Name) (q : Process) → shown_items refused (account_by q parts).items ≡ []) → IsPast list sent history
-    → IsPast (list ++ connection_items n p parts false s) sent history
+pub quiet_past : (n : Connection) (p : Process) (parts : List Part) (s : Summary)
+    (list : List Item) (sent : List told.Item) (history : List Event)
+    → n.reselected ≡ true → ((refused : List Name) (q : Process) → shown_items refused (account_by q parts).items ≡ [])
+    → IsPast list sent history → IsPast (list ++ connection_items n p parts false s) sent history
 quiet_past n p parts s list sent history again none past =
     openly_past list (connection_items n p parts false s) sent [] history (record {
       names = connection_names n p parts false s ∙ ap (λ (q : Bool). if q then [] else p.name ∷ []) again;
@@ -58,15 +62,20 @@ quiet_past n p parts s list sent history again none past =
     }) tt past
 
 -- That of an abort line, with its event as BUS FREE comes.
-pub abort_past : (n : Connection) (p : Process) (parts : List Part) (free : Bool) (s : Summary) (j : ℕ) (conn : List Event) (list : List Item) (sent : List told.Item) (history : List Event)
+pub abort_past : (n : Connection) (p : Process) (parts : List Part) (free : Bool) (s : Summary)
+    (j : ℕ) (conn : List Event) (list : List Item) (sent : List told.Item) (history : List Event)
     → n.reselected ≡ false → ((refused : List Name) (q : Process) → shown_items refused (account_by q parts).items ≡ [])
     → AreEventsSent (sent ++ told.abort j ∷ []) conn
-    → ((refused : List Name) (sent : List told.Item) (names : List Name) → shown_items refused (leaving_items free p.name s) ≡ named_events sent names (reverse conn))
-    → IsPast list sent history → IsPast (list ++ connection_items n p parts free s) (sent ++ told.abort j ∷ []) (conn ++ history)
+    → ((refused : List Name) (sent : List told.Item) (names : List Name)
+    → shown_items refused (leaving_items free p.name s) ≡ named_events sent names (reverse conn))
+    → IsPast list sent history
+    → IsPast (list ++ connection_items n p parts free s) (sent ++ told.abort j ∷ []) (conn ++ history)
 abort_past n p parts free s j conn list sent history began none known shown past =
     past_more list (connection_items n p parts free s) sent (told.abort j ∷ []) conn history past (record {
       count = ap length (connection_names n p parts free s ∙ ap (λ (q : Bool). if q then [] else p.name ∷ []) began);
       known = known;
-      numbers = λ id name e. none_some name (sym (abort_named j (names_begun (connection_items n p parts free s)) id) ∙ e);
-      shown = λ refused r. plain_shown refused n p parts free s (none refused p) ∙ shown refused (sent ++ told.abort j ∷ []) (names_begun list ++ names_begun (connection_items n p parts free s));
+      numbers =
+          λ id name e. none_some name (sym (abort_named j (names_begun (connection_items n p parts free s)) id) ∙ e);
+      shown = λ refused r. plain_shown refused n p parts free s (none refused p) ∙ shown refused
+          (sent ++ told.abort j ∷ []) (names_begun list ++ names_begun (connection_items n p parts free s));
     })

@@ -25,28 +25,34 @@ less_by_one : (i : Item) (items : List Item) → has_item items i ≡ true → l
 less_by_one i [] e = wrong' e
 less_by_one i (x ∷ items) e = go (same_item x i) e (λ z. less_by_one i items z)
   where
-    go : (q : Bool) → (q || has_item items i) ≡ true → (has_item items i ≡ true → length (without i items) + 1 ≡ length items)
+    go : (q : Bool) → (q || has_item items i) ≡ true
+        → (has_item items i ≡ true → length (without i items) + 1 ≡ length items)
         → length (if q then items else x ∷ without i items) + 1 ≡ length (x ∷ items)
     go true z rest = omega arith
     go false z rest = let r = rest z in omega (arith, r)
 
-others_stay : (i j : Item) (items : List Item) → same_item i j ≡ false → has_item items j ≡ true → has_item (without i items) j ≡ true
+others_stay : (i j : Item) (items : List Item) → same_item i j ≡ false → has_item items j ≡ true
+    → has_item (without i items) j ≡ true
 others_stay i j [] ne e = wrong' e
 others_stay i j (x ∷ items) ne e = go (same_item x i) refl (same_item x j) refl e (λ z. others_stay i j items ne z)
   where
     go : (q : Bool) → same_item x i ≡ q → (r : Bool) → same_item x j ≡ r → (same_item x j || has_item items j) ≡ true
-        → (has_item items j ≡ true → has_item (without i items) j ≡ true) → has_item (if q then items else x ∷ without i items) j ≡ true
+        → (has_item items j ≡ true → has_item (without i items) j ≡ true)
+        → has_item (if q then items else x ∷ without i items) j ≡ true
     go true f true g z rest = wrong (sym (ap (λ (y : Item). same_item y j) (sym (item_is x i f)) ∙ g) ∙ ne)
     go true f false g z rest = sym (ap (λ (q : Bool). q || has_item items j) g) ∙ z
     go false f true g z rest = ap (λ (q : Bool). q || has_item (without i items) j) g
-    go false f false g z rest = ap (λ (q : Bool). q || has_item (without i items) j) g ∙ rest (sym (ap (λ (q : Bool). q || has_item items j) g) ∙ z)
+    go false f false g z rest = ap (λ (q : Bool). q || has_item (without i items) j) g
+        ∙ rest (sym (ap (λ (q : Bool). q || has_item items j) g) ∙ z)
 
-pub few_of : (xs ys : List Item) → AreOnce xs → ((i : Item) → has_item xs i ≡ true → has_item ys i ≡ true) → length xs ≤ length ys
+pub few_of : (xs ys : List Item) → AreOnce xs → ((i : Item) → has_item xs i ≡ true → has_item ys i ≡ true)
+    → length xs ≤ length ys
 few_of [] ys once within = omega arith
 few_of (x ∷ xs) ys once within =
     let there = within x (own_has x xs) in
     let one = less_by_one x ys there in
-    let rest = few_of xs (without x ys) once.1 (λ i h. others_stay x i ys (other i h (same_item x i) refl) (within i (more_has x i xs h))) in
+    let rest = few_of xs (without x ys) once.1
+    (λ i h. others_stay x i ys (other i h (same_item x i) refl) (within i (more_has x i xs h))) in
     omega (arith, one, rest)
   where
     other : (i : Item) → has_item xs i ≡ true → (q : Bool) → same_item x i ≡ q → same_item x i ≡ false
@@ -75,54 +81,70 @@ aborts_count n [] = refl
 aborts_count n (a ∷ aborts) = let r = aborts_count (n + 1) aborts in omega (arith, r)
 
 pub all_count : (s : ScenarioValue) → length (all_items s) ≡ length s.commands + length s.commands + length s.aborts
-all_count s = length-append (items_from 1 s.commands) (aborts_from 1 s.aborts) ∙ (λ i. items_count 1 s.commands i + aborts_count 1 s.aborts i)
+all_count s = length-append (items_from 1 s.commands) (aborts_from 1 s.aborts)
+    ∙ (λ i. items_count 1 s.commands i + aborts_count 1 s.aborts i)
 
 -- ---- what is sent is among them
 
 command_there : (commands : List CmdDef) (n i m : ℕ) (c : CmdDef) → m ≡ n + i → command_at commands (suc i) ≡ Some c
-    → (has_item (items_from n commands) (command_item m) ≡ true) × (has_item (items_from n commands) (sense_item m) ≡ true)
+    → (has_item (items_from n commands) (command_item m) ≡ true)
+    × (has_item (items_from n commands) (sense_item m) ≡ true)
 command_there [] n i m c e f = none_some c f
 command_there (d ∷ commands) n zero m c e f =
     let is : m ≡ n = e ∙ plus_none n in (
-      ap (λ (x : ℕ). has_item (items_from n (d ∷ commands)) (command_item x)) is ∙ own_has (command_item n) (sense_item n ∷ items_from (n + 1) commands),
-      ap (λ (x : ℕ). has_item (items_from n (d ∷ commands)) (sense_item x)) is ∙ more_has (command_item n) (sense_item n) (sense_item n ∷ items_from (n + 1) commands) (own_has (sense_item n) (items_from (n + 1) commands)),
+      ap (λ (x : ℕ). has_item (items_from n (d ∷ commands)) (command_item x)) is
+          ∙ own_has (command_item n) (sense_item n ∷ items_from (n + 1) commands),
+      ap (λ (x : ℕ). has_item (items_from n (d ∷ commands)) (sense_item x)) is
+          ∙ more_has (command_item n) (sense_item n) (sense_item n ∷ items_from (n + 1) commands)
+          (own_has (sense_item n) (items_from (n + 1) commands)),
     )
 command_there (d ∷ commands) n (suc i) m c e f =
     let r = command_there commands (n + 1) i m c (e ∙ plus_one n i) f in (
-      more_has (command_item n) (command_item m) (sense_item n ∷ items_from (n + 1) commands) (more_has (sense_item n) (command_item m) (items_from (n + 1) commands) r.0),
-      more_has (command_item n) (sense_item m) (sense_item n ∷ items_from (n + 1) commands) (more_has (sense_item n) (sense_item m) (items_from (n + 1) commands) r.1),
+      more_has (command_item n) (command_item m) (sense_item n ∷ items_from (n + 1) commands)
+          (more_has (sense_item n) (command_item m) (items_from (n + 1) commands) r.0),
+      more_has (command_item n) (sense_item m) (sense_item n ∷ items_from (n + 1) commands)
+          (more_has (sense_item n) (sense_item m) (items_from (n + 1) commands) r.1),
     )
 
-abort_there : (aborts : List AbortDef) (n i m : ℕ) (a : AbortDef) → m ≡ n + i → abort_line_at aborts (suc i) ≡ Some a → has_item (aborts_from n aborts) (abort m) ≡ true
+abort_there : (aborts : List AbortDef) (n i m : ℕ) (a : AbortDef) → m ≡ n + i → abort_line_at aborts (suc i) ≡ Some a
+    → has_item (aborts_from n aborts) (abort m) ≡ true
 abort_there [] n i m a e f = none_some a f
-abort_there (d ∷ aborts) n zero m a e f = ap (λ (x : ℕ). has_item (aborts_from n (d ∷ aborts)) (abort x)) (e ∙ plus_none n) ∙ own_has (abort n) (aborts_from (n + 1) aborts)
-abort_there (d ∷ aborts) n (suc i) m a e f = more_has (abort n) (abort m) (aborts_from (n + 1) aborts) (abort_there aborts (n + 1) i m a (e ∙ plus_one n i) f)
+abort_there (d ∷ aborts) n zero m a e f =
+    ap (λ (x : ℕ). has_item (aborts_from n (d ∷ aborts)) (abort x)) (e ∙ plus_none n)
+    ∙ own_has (abort n) (aborts_from (n + 1) aborts)
+abort_there (d ∷ aborts) n (suc i) m a e f =
+    more_has (abort n) (abort m) (aborts_from (n + 1) aborts) (abort_there aborts (n + 1) i m a (e ∙ plus_one n i) f)
 
 suc_is : (i : ℕ) → suc i ≡ 1 + i
 suc_is i = omega arith
 
-process_there : (s : ScenarioValue) (id : ProcId) (p : Process) → process_of s id ≡ Some p → has_item (all_items s) (process id) ≡ true
-process_there s id p e =
-    has_append (items_from 1 s.commands) (aborts_from 1 s.aborts) (process id)
-    ∙ or_left _ (has_item (aborts_from 1 s.aborts) (process id)) (go id.command refl (command_at s.commands id.command) refl id.sense refl e)
+process_there : (s : ScenarioValue) (id : ProcId) (p : Process) → process_of s id ≡ Some p
+    → has_item (all_items s) (process id) ≡ true
+process_there s id p e = has_append (items_from 1 s.commands) (aborts_from 1 s.aborts) (process id)
+    ∙ or_left _ (has_item (aborts_from 1 s.aborts) (process id))
+    (go id.command refl (command_at s.commands id.command) refl id.sense refl e)
   where
-    go : (m : ℕ) → id.command ≡ m → (o : Option CmdDef) → command_at s.commands id.command ≡ o → (q : Bool) → id.sense ≡ q → process_if s id o ≡ Some p
-        → has_item (items_from 1 s.commands) (process id) ≡ true
+    go : (m : ℕ) → id.command ≡ m → (o : Option CmdDef) → command_at s.commands id.command ≡ o → (q : Bool)
+        → id.sense ≡ q → process_if s id o ≡ Some p → has_item (items_from 1 s.commands) (process id) ≡ true
     go m em None eo q es f = none_some p f
     go zero em (Some c) eo q es f = none_some c (sym (none_at s.commands) ∙ ap (command_at s.commands) (sym em) ∙ eo)
     go (suc i) em (Some c) eo false es f =
-        (λ t. has_item (items_from 1 s.commands) (process (record { command = id.command; sense = es t }))) ∙ (command_there s.commands 1 i id.command c (em ∙ suc_is i) (ap (command_at s.commands) (sym em) ∙ eo)).0
+        (λ t. has_item (items_from 1 s.commands) (process (record { command = id.command; sense = es t })))
+        ∙ (command_there s.commands 1 i id.command c (em ∙ suc_is i) (ap (command_at s.commands) (sym em) ∙ eo)).0
     go (suc i) em (Some c) eo true es f =
-        (λ t. has_item (items_from 1 s.commands) (process (record { command = id.command; sense = es t }))) ∙ (command_there s.commands 1 i id.command c (em ∙ suc_is i) (ap (command_at s.commands) (sym em) ∙ eo)).1
+        (λ t. has_item (items_from 1 s.commands) (process (record { command = id.command; sense = es t })))
+        ∙ (command_there s.commands 1 i id.command c (em ∙ suc_is i) (ap (command_at s.commands) (sym em) ∙ eo)).1
 
-abort_there_all : (s : ScenarioValue) (m : ℕ) (a : AbortDef) → abort_line_at s.aborts m ≡ Some a → has_item (all_items s) (abort m) ≡ true
+abort_there_all : (s : ScenarioValue) (m : ℕ) (a : AbortDef) → abort_line_at s.aborts m ≡ Some a
+    → has_item (all_items s) (abort m) ≡ true
 abort_there_all s zero a e = none_some a (sym (none_line s.aborts) ∙ e)
   where
     none_line : (aborts : List AbortDef) → abort_line_at aborts zero ≡ None
     none_line [] = refl
     none_line (d ∷ aborts) = refl
-abort_there_all s (suc i) a e =
-    has_append (items_from 1 s.commands) (aborts_from 1 s.aborts) (abort (suc i)) ∙ ap (λ (q : Bool). has_item (items_from 1 s.commands) (abort (suc i)) || q) (abort_there s.aborts 1 i (suc i) a (suc_is i) e) ∙ or_true (has_item (items_from 1 s.commands) (abort (suc i)))
+abort_there_all s (suc i) a e = has_append (items_from 1 s.commands) (aborts_from 1 s.aborts) (abort (suc i))
+    ∙ ap (λ (q : Bool). has_item (items_from 1 s.commands) (abort (suc i)) || q)
+    (abort_there s.aborts 1 i (suc i) a (suc_is i) e) ∙ or_true (has_item (items_from 1 s.commands) (abort (suc i)))
 
 item_there : (s : ScenarioValue) (dev : ℕ) (item : Item) → IsItem s dev item → has_item (all_items s) item ≡ true
 item_there s dev item (is_process id p e i) = process_there s id p e
@@ -134,10 +156,12 @@ pub record SentOnce (s : ScenarioValue) (sent : List Item) : Type 0 where
   pub once : AreOnce sent
   pub within : (i : Item) → has_item sent i ≡ true → has_item (all_items s) i ≡ true
 
-sent_on : (s : ScenarioValue) (item : Item) (sent : List Item) → has_item sent item ≡ false → has_item (all_items s) item ≡ true → SentOnce s sent → SentOnce s (item ∷ sent)
+sent_on : (s : ScenarioValue) (item : Item) (sent : List Item) → has_item sent item ≡ false
+    → has_item (all_items s) item ≡ true → SentOnce s sent → SentOnce s (item ∷ sent)
 sent_on s item sent new there h = record { once = (new, h.once); within = λ i e. go i (same_item item i) refl e }
   where
-    go : (i : Item) (q : Bool) → same_item item i ≡ q → (same_item item i || has_item sent i) ≡ true → has_item (all_items s) i ≡ true
+    go : (i : Item) (q : Bool) → same_item item i ≡ q → (same_item item i || has_item sent i) ≡ true
+        → has_item (all_items s) i ≡ true
     go i true f e = ap (has_item (all_items s)) (sym (item_is item i f)) ∙ there
     go i false f e = h.within i (sym (ap (λ (q : Bool). q || has_item sent i) f) ∙ e)
 
@@ -154,18 +178,23 @@ sent_once s (row ∷ p) o prompt = go (sent_once s p o prompt.0) (row_sends s (r
     pl : IsPlain s p k
     pl = was.stood.plain
 
-    go : SentOnce s k.story.sent.sent → SentAfter k.story (row_reading k.story.bus_state row) (run_state s (row ∷ p)).story.sent.sent
+    go : SentOnce s k.story.sent.sent
+        → SentAfter k.story (row_reading k.story.bus_state row) (run_state s (row ∷ p)).story.sent.sent
         → SentOnce s (run_state s (row ∷ p)).story.sent.sent
     go h (as_before e) = subst (λ (x : List Item). SentOnce s x) (sym e) h
     go h (one_more n item alone next sel aim e) =
         let c = change_plain s row p was.stood.standing.devices (least_is s p row prompt.1).inside in
-        let after : connection (row ∷ p) ≡ Some n = sym (λ i. connection_after (pl.connection i) (pl.call i) (c i) row) ∙ next in
+        let after : connection (row ∷ p) ≡ Some n = sym (λ i. connection_after (pl.connection i) (pl.call i) (c i) row)
+        ∙ next in
         let f = items_fresh s p row n o prompt was.stood was.facts.items (sym pl.connection ∙ alone) after sel in
-        let new : has_item k.story.sent.sent item ≡ false = ap (has_item k.story.sent.sent) (same_Some item f.item (sym aim ∙ f.aim_is)) ∙ f.unsent in
-        subst (λ (x : List Item). SentOnce s x) (sym e) (sent_on s item k.story.sent.sent new (item_there s n.initiator item (aims_are s p n.initiator item aim)) h)
+        let new : has_item k.story.sent.sent item ≡ false =
+        ap (has_item k.story.sent.sent) (same_Some item f.item (sym aim ∙ f.aim_is)) ∙ f.unsent in
+        subst (λ (x : List Item). SentOnce s x) (sym e)
+        (sent_on s item k.story.sent.sent new (item_there s n.initiator item (aims_are s p n.initiator item aim)) h)
 
 -- At most 8,256 connections: of 4096 commands, their automatic REQUEST SENSE, and 64 aborts.
-pub few_sent : (s : ScenarioValue) (p : List Row) → Obeys s → IsPrompt s p → length (run_state s p).story.sent.sent ≤ 8256
+pub few_sent : (s : ScenarioValue) (p : List Row) → Obeys s → IsPrompt s p
+    → length (run_state s p).story.sent.sent ≤ 8256
 few_sent s p o prompt =
     let h = sent_once s p o prompt in
     let few = few_of (run_state s p).story.sent.sent (all_items s) h.once h.within in

@@ -19,10 +19,14 @@ name_at k = record { initiator = (k.0).0; target = (k.0).1; unit = (k.1).0; tag 
 
 pub nexus_is : (a b : Name) → same_nexus a b ≡ true → key_of a ≡ key_of b
 nexus_is a b e =
-    let both = and_parts (a.initiator == b.initiator && a.target == b.target) (same_number a.unit b.unit && same_number a.tag b.tag) e in
+    let both = and_parts (a.initiator == b.initiator && a.target == b.target)
+    (same_number a.unit b.unit && same_number a.tag b.tag) e in
     let ends = and_parts (a.initiator == b.initiator) (a.target == b.target) both.0 in
     let rest = and_parts (same_number a.unit b.unit) (same_number a.tag b.tag) both.1 in
-    λ i. ((eqb-true a.initiator b.initiator ends.0 i, eqb-true a.target b.target ends.1 i), (optional_is a.unit b.unit rest.0 i, optional_is a.tag b.tag rest.1 i))
+    λ i. (
+      (eqb-true a.initiator b.initiator ends.0 i, eqb-true a.target b.target ends.1 i),
+      (optional_is a.unit b.unit rest.0 i, optional_is a.tag b.tag rest.1 i),
+    )
 
 -- A test that finds one key.
 abbrev finds : Key → Key → Bool
@@ -33,15 +37,17 @@ found_is k e f = nexus_is (name_at k) (name_at e) (sym (by_key (name_at k) (name
 
 -- ---- an entry more
 
-at_equal : (t : Key → Bool) (e k : Key) (p q : Process) (es : List (Key × Process)) → k ≡ e → lookup t ((e, p) ∷ es) ≡ (if t k then Some p else lookup t ((e, q) ∷ es))
+at_equal : (t : Key → Bool) (e k : Key) (p q : Process) (es : List (Key × Process)) → k ≡ e
+    → lookup t ((e, p) ∷ es) ≡ (if t k then Some p else lookup t ((e, q) ∷ es))
 at_equal t e k p q es same = ap (λ (r : Bool). if r then Some p else lookup t es) (ap t (sym same)) ∙ go (t k) refl
   where
     go : (r : Bool) → t k ≡ r → (if r then Some p else lookup t es) ≡ (if r then Some p else lookup t ((e, q) ∷ es))
     go true f = refl
     go false f = sym (ap (λ (x : Bool). if x then Some q else lookup t es) (ap t (sym same) ∙ f))
 
-later : (t : Key → Bool) (e k : Key) (p q : Process) (es put : List (Key × Process)) → (t e ≡ true → t k ≡ true → ⊥)
-    → lookup t put ≡ (if t k then Some p else lookup t es) → lookup t ((e, q) ∷ put) ≡ (if t k then Some p else lookup t ((e, q) ∷ es))
+later : (t : Key → Bool) (e k : Key) (p q : Process) (es put : List (Key × Process))
+    → (t e ≡ true → t k ≡ true → ⊥) → lookup t put ≡ (if t k then Some p else lookup t es)
+    → lookup t ((e, q) ∷ put) ≡ (if t k then Some p else lookup t ((e, q) ∷ es))
 later t e k p q es put other rest = go (t e) (t k) refl refl rest
   where
     go : (r u : Bool) → t e ≡ r → t k ≡ u → lookup t put ≡ (if u then Some p else lookup t es)
@@ -52,13 +58,16 @@ later t e k p q es put other rest = go (t e) (t k) refl refl rest
 
 -- The key is found by a name.
 put_last : (name : Name) (es : List (Key × Process)) (k : Key) (p : Process)
-    → lookup (finds (key_of name)) (insert_entry key_cmp es k p) ≡ (if finds (key_of name) k then Some p else lookup (finds (key_of name)) es)
+    → lookup (finds (key_of name)) (insert_entry key_cmp es k p)
+    ≡ (if finds (key_of name) k then Some p else lookup (finds (key_of name)) es)
 put_last name [] k p = refl
 put_last name (e ∷ es) k p = go (key_cmp k e.0) refl (put_last name es k p)
   where
-    go : (o : Ordering) → key_cmp k e.0 ≡ o
-        → lookup (finds (key_of name)) (insert_entry key_cmp es k p) ≡ (if finds (key_of name) k then Some p else lookup (finds (key_of name)) es)
-        → lookup (finds (key_of name)) (match_ordering o ((k, p) ∷ e ∷ es) ((e.0, p) ∷ es) (e ∷ insert_entry key_cmp es k p)) ≡ (if finds (key_of name) k then Some p else lookup (finds (key_of name)) (e ∷ es))
+    go : (o : Ordering) → key_cmp k e.0 ≡ o → lookup (finds (key_of name)) (insert_entry key_cmp es k p)
+        ≡ (if finds (key_of name) k then Some p else lookup (finds (key_of name)) es)
+        → lookup (finds (key_of name))
+        (match_ordering o ((k, p) ∷ e ∷ es) ((e.0, p) ∷ es) (e ∷ insert_entry key_cmp es k p))
+        ≡ (if finds (key_of name) k then Some p else lookup (finds (key_of name)) (e ∷ es))
     go Less f rest = refl
     go Equal f rest = at_equal (finds (key_of name)) e.0 k p e.1 es (found_is k e.0 (ap is_eq f))
     go Greater f rest =
@@ -72,8 +81,9 @@ numbers_turned None (Some y) = refl
 numbers_turned (Some x) None = refl
 
 pub nexus_turned : (a b : Name) → same_nexus a b ≡ same_nexus b a
-nexus_turned a b =
-    λ i. (eq_turned a.initiator b.initiator i && eq_turned a.target b.target i) && (numbers_turned a.unit b.unit i && numbers_turned a.tag b.tag i)
+nexus_turned a b = λ i. (eq_turned a.initiator b.initiator i && eq_turned a.target b.target i)
+    && (numbers_turned a.unit b.unit i && numbers_turned a.tag b.tag i)
 
 pub is_last : (last : List (Key × Process)) (p : Process) → IsLast last (with_last last p) p
-is_last last p = λ name. put_last name last (key_of p.name) p ∙ ap (λ (q : Bool). if q then Some p else process_of last name) (by_key name p.name ∙ nexus_turned name p.name)
+is_last last p = λ name. put_last name last (key_of p.name) p
+    ∙ ap (λ (q : Bool). if q then Some p else process_of last name) (by_key name p.name ∙ nexus_turned name p.name)

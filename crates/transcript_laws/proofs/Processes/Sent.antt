@@ -5,25 +5,28 @@ use proofs.Names.{reverse-append, if◌then◌else◌, wrong, wrong', or_later, 
 use proofs.Names.{self_id, name_sent, Name}
 
 -- What was sent keeps its name.
-pub name_before : (sent more : List Item) (names later : List Name) (id : ProcId) → length names ≡ length sent → has_item sent (process id) ≡ true
-    → name_sent (sent ++ more) (names ++ later) id ≡ name_sent sent names id
+pub name_before : (sent more : List Item) (names later : List Name) (id : ProcId) → length names ≡ length sent
+    → has_item sent (process id) ≡ true → name_sent (sent ++ more) (names ++ later) id ≡ name_sent sent names id
 name_before [] more names later id count has = wrong' has
 name_before (item ∷ sent) more [] later id count has = absurd (omega (arith, count))
-name_before (item ∷ sent) more (name ∷ names) later id count has = go (same_item item (process id)) has (λ e. name_before sent more names later id (omega (arith, count)) e)
+name_before (item ∷ sent) more (name ∷ names) later id count has =
+    go (same_item item (process id)) has (λ e. name_before sent more names later id (omega (arith, count)) e)
   where
     go : (q : Bool) → (q || has_item sent (process id)) ≡ true
         → (has_item sent (process id) ≡ true → name_sent (sent ++ more) (names ++ later) id ≡ name_sent sent names id)
-        → (if q then Some name else name_sent (sent ++ more) (names ++ later) id) ≡ (if q then Some name else name_sent sent names id)
+        → (if q then Some name else name_sent (sent ++ more) (names ++ later) id)
+        ≡ (if q then Some name else name_sent sent names id)
     go true e rest = refl
     go false e rest = rest e
 
 -- What was not sent has a name among the later ones.
-pub name_later : (sent more : List Item) (names later : List Name) (id : ProcId) → length names ≡ length sent → has_item sent (process id) ≡ false
-    → name_sent (sent ++ more) (names ++ later) id ≡ name_sent more later id
+pub name_later : (sent more : List Item) (names later : List Name) (id : ProcId) → length names ≡ length sent
+    → has_item sent (process id) ≡ false → name_sent (sent ++ more) (names ++ later) id ≡ name_sent more later id
 name_later [] more [] later id count fresh = refl
 name_later [] more (n ∷ names) later id count fresh = absurd (omega (arith, count))
 name_later (item ∷ sent) more [] later id count fresh = absurd (omega (arith, count))
-name_later (item ∷ sent) more (name ∷ names) later id count fresh = go (same_item item (process id)) fresh (λ e. name_later sent more names later id (omega (arith, count)) e)
+name_later (item ∷ sent) more (name ∷ names) later id count fresh =
+    go (same_item item (process id)) fresh (λ e. name_later sent more names later id (omega (arith, count)) e)
   where
     go : (q : Bool) → (q || has_item sent (process id)) ≡ false
         → (has_item sent (process id) ≡ false → name_sent (sent ++ more) (names ++ later) id ≡ name_sent more later id)
@@ -32,12 +35,13 @@ name_later (item ∷ sent) more (name ∷ names) later id count fresh = go (same
     go false e rest = rest e
 
 -- And what is sent anew has that of its connection.
-pub name_own : (sent : List Item) (names : List Name) (name : Name) (id : ProcId) → length names ≡ length sent → has_item sent (process id) ≡ false
-    → name_sent (sent ++ process id ∷ []) (names ++ name ∷ []) id ≡ Some name
+pub name_own : (sent : List Item) (names : List Name) (name : Name) (id : ProcId) → length names ≡ length sent
+    → has_item sent (process id) ≡ false → name_sent (sent ++ process id ∷ []) (names ++ name ∷ []) id ≡ Some name
 name_own [] [] name id count fresh = ap (λ (q : Bool). if q then Some name else None) (self_id id)
 name_own [] (n ∷ names) name id count fresh = absurd (omega (arith, count))
 name_own (item ∷ sent) [] name id count fresh = absurd (omega (arith, count))
-name_own (item ∷ sent) (n ∷ names) name id count fresh = go (same_item item (process id)) fresh (λ e. name_own sent names name id (omega (arith, count)) e)
+name_own (item ∷ sent) (n ∷ names) name id count fresh =
+    go (same_item item (process id)) fresh (λ e. name_own sent names name id (omega (arith, count)) e)
   where
     go : (q : Bool) → (q || has_item sent (process id)) ≡ false
         → (has_item sent (process id) ≡ false → name_sent (sent ++ process id ∷ []) (names ++ name ∷ []) id ≡ Some name)
@@ -49,7 +53,8 @@ name_own (item ∷ sent) (n ∷ names) name id count fresh = go (same_item item 
 
 pub has_append : (xs ys : List Item) (item : Item) → has_item (xs ++ ys) item ≡ (has_item xs item || has_item ys item)
 has_append [] ys item = refl
-has_append (x ∷ xs) ys item = ap (λ (q : Bool). same_item x item || q) (has_append xs ys item) ∙ or_later (same_item x item) (has_item xs item) (has_item ys item)
+has_append (x ∷ xs) ys item = ap (λ (q : Bool). same_item x item || q) (has_append xs ys item)
+    ∙ or_later (same_item x item) (has_item xs item) (has_item ys item)
 
 pub or_turned : (a b : Bool) → (a || (b || false)) ≡ (b || a)
 or_turned true true = refl

@@ -15,7 +15,8 @@ pub said_message : (m : MsgOut) → FitsOut m → (rest : List ℕ) → said_of 
 unfolding form_out
 said_message (MsgOut.Identify disc lun) fits rest = go disc lun fits
   where
-    go : (disc : Bool) (lun : ℕ) → lun < 8 → said_of [] (out_bytes (MsgOut.Identify disc lun) ++ rest) ≡ MsgOut.Identify disc lun ∷ said_of [] rest
+    go : (disc : Bool) (lun : ℕ) → lun < 8
+        → said_of [] (out_bytes (MsgOut.Identify disc lun) ++ rest) ≡ MsgOut.Identify disc lun ∷ said_of [] rest
     go true zero lt = refl
     go true (suc zero) lt = refl
     go true (suc (suc zero)) lt = refl
@@ -65,7 +66,8 @@ tag_said (Tag.Head n) rest = said_message (MsgOut.HeadTag n) tt rest
 
 abbrev pub offer_messages : Option HostDef → List MsgOut
 offer_messages None = []
-offer_messages (Some h) = if h.offers && nat_lt 0 h.period then MsgOut.Sdtr (record { period = h.period; offset = h.offset }) ∷ [] else []
+offer_messages (Some h) =
+    if h.offers && nat_lt 0 h.period then MsgOut.Sdtr (record { period = h.period; offset = h.offset }) ∷ [] else []
 
 abbrev pub offers_if : Bool → Option HostDef → List MsgOut
 offers_if true h = offer_messages h
@@ -77,15 +79,18 @@ offer_said true None = refl
 offer_said true (Some h) = go (h.offers && nat_lt 0 h.period)
   where
     go : (q : Bool)
-        → said_of [] (if q then out_bytes (MsgOut.Sdtr (record { period = h.period; offset = h.offset })) else []) ≡ (if q then MsgOut.Sdtr (record { period = h.period; offset = h.offset }) ∷ [] else [])
+        → said_of [] (if q then out_bytes (MsgOut.Sdtr (record { period = h.period; offset = h.offset })) else [])
+        ≡ (if q then MsgOut.Sdtr (record { period = h.period; offset = h.offset }) ∷ [] else [])
     go true = said_one (MsgOut.Sdtr (record { period = h.period; offset = h.offset })) tt
     go false = refl
 
 pub process_said : (h : Option HostDef) (negotiates : Bool) (p : Process) → p.unit < 8
-    → said_of [] (process_opening h negotiates (Some p)) ≡ MsgOut.Identify (not p.id.sense) p.unit ∷ tag_messages p.tag (offers_if negotiates h)
+    → said_of [] (process_opening h negotiates (Some p))
+    ≡ MsgOut.Identify (not p.id.sense) p.unit ∷ tag_messages p.tag (offers_if negotiates h)
 process_said h negotiates p lt =
     said_message (MsgOut.Identify (not p.id.sense) p.unit) lt (tag_bytes p.tag ++ offer_if negotiates h)
-    ∙ ap (λ (x : List MsgOut). MsgOut.Identify (not p.id.sense) p.unit ∷ x) (tag_said p.tag (offer_if negotiates h) ∙ ap (tag_messages p.tag) (offer_said negotiates h))
+    ∙ ap (λ (x : List MsgOut). MsgOut.Identify (not p.id.sense) p.unit ∷ x)
+    (tag_said p.tag (offer_if negotiates h) ∙ ap (tag_messages p.tag) (offer_said negotiates h))
 
 abbrev pub abort_messages : AbortKind → List MsgOut
 abort_messages AbortKind.All = MsgOut.Abort ∷ []
@@ -95,13 +100,15 @@ abort_messages AbortKind.Device = MsgOut.DeviceReset ∷ []
 
 what_said : (what : AbortKind) → said_of [] (abort_bytes what) ≡ abort_messages what
 what_said AbortKind.All = said_one MsgOut.Abort tt
-what_said (AbortKind.Tag n) =
-    said_message (MsgOut.SimpleTag n) tt (out_bytes MsgOut.AbortTag) ∙ ap (λ (x : List MsgOut). MsgOut.SimpleTag n ∷ x) (said_one MsgOut.AbortTag tt)
+what_said (AbortKind.Tag n) = said_message (MsgOut.SimpleTag n) tt (out_bytes MsgOut.AbortTag)
+    ∙ ap (λ (x : List MsgOut). MsgOut.SimpleTag n ∷ x) (said_one MsgOut.AbortTag tt)
 what_said AbortKind.WholeQueue = said_one MsgOut.ClearQueue tt
 what_said AbortKind.Device = said_one MsgOut.DeviceReset tt
 
-pub abort_said : (a : AbortDef) → a.unit < 8 → said_of [] (abort_opening (Some a)) ≡ MsgOut.Identify false a.unit ∷ abort_messages a.what
-abort_said a lt = said_message (MsgOut.Identify false a.unit) lt (abort_bytes a.what) ∙ ap (λ (x : List MsgOut). MsgOut.Identify false a.unit ∷ x) (what_said a.what)
+pub abort_said : (a : AbortDef) → a.unit < 8
+    → said_of [] (abort_opening (Some a)) ≡ MsgOut.Identify false a.unit ∷ abort_messages a.what
+abort_said a lt = said_message (MsgOut.Identify false a.unit) lt (abort_bytes a.what)
+    ∙ ap (λ (x : List MsgOut). MsgOut.Identify false a.unit ∷ x) (what_said a.what)
 
 -- ---- MESSAGE PARITY ERROR
 
@@ -114,7 +121,8 @@ plain_offer false h = refl
 plain_offer true None = refl
 plain_offer true (Some h) = go (h.offers && nat_lt 0 h.period)
   where
-    go : (q : Bool) → is_plain_said (if q then MsgOut.Sdtr (record { period = h.period; offset = h.offset }) ∷ [] else []) ≡ true
+    go : (q : Bool)
+        → is_plain_said (if q then MsgOut.Sdtr (record { period = h.period; offset = h.offset }) ∷ [] else []) ≡ true
     go true = refl
     go false = refl
 
@@ -126,11 +134,13 @@ plain_abort : (what : AbortKind) → is_plain_said (abort_messages what) ≡ tru
 plain_abort AbortKind.All = refl
 plain_abort _ = refl
 
-pub opening_plain : (s : ScenarioValue) (dev : ℕ) (negotiates : Bool) (served : Option Item) → AreUnits s → is_plain_said (said_of [] (opening s dev negotiates served)) ≡ true
+pub opening_plain : (s : ScenarioValue) (dev : ℕ) (negotiates : Bool) (served : Option Item) → AreUnits s
+    → is_plain_said (said_of [] (opening s dev negotiates served)) ≡ true
 opening_plain s dev negotiates None u = refl
 opening_plain s dev negotiates (Some (process id)) u = go (process_of s id) refl
   where
-    go : (o : Option Process) → process_of s id ≡ o → is_plain_said (said_of [] (process_opening (host_of s dev) negotiates o)) ≡ true
+    go : (o : Option Process) → process_of s id ≡ o
+        → is_plain_said (said_of [] (process_opening (host_of s dev) negotiates o)) ≡ true
     go None e = refl
     go (Some p) e =
         ap is_plain_said (process_said (host_of s dev) negotiates p (unit_small s id p u e))
@@ -146,11 +156,14 @@ pub data SaysParity (words : List ℕ) (cause : Cause) : Type 0 where
   refusing : cause ≡ Cause.InMessage → words ≡ parity_error → SaysParity words cause
   plain_words : is_plain_said (said_of [] words) ≡ true → SaysParity words cause
 
-pub says_parity : (s : ScenarioValue) (n : Connection) (served : Option Item) (x : Exchange) (cause : Cause) → AreUnits s → AreWordsFor s n served x cause
-    → SaysParity x.speech.words cause
-says_parity s n served x _ u (opens e) = plain_words (ap (λ (w : List ℕ). is_plain_said (said_of [] w)) e ∙ opening_plain s n.initiator x.plan.negotiates served u)
+pub says_parity : (s : ScenarioValue) (n : Connection) (served : Option Item) (x : Exchange) (cause : Cause)
+    → AreUnits s → AreWordsFor s n served x cause → SaysParity x.speech.words cause
+says_parity s n served x _ u (opens e) = plain_words
+    (ap (λ (w : List ℕ). is_plain_said (said_of [] w)) e ∙ opening_plain s n.initiator x.plan.negotiates served u)
 says_parity s n served x _ u (refuses e) = refusing refl e
-says_parity s n served x _ u (answers e) =
-    plain_words (ap (λ (w : List ℕ). is_plain_said (said_of [] w)) e ∙ ap is_plain_said (said_one (MsgOut.Sdtr (host_answer (host_of s n.initiator) x.speech.asked)) tt))
-says_parity s n served x _ u (rejects_data e) = plain_words (ap (λ (w : List ℕ). is_plain_said (said_of [] w)) e ∙ ap is_plain_said (said_one MsgOut.DetectedError tt))
-says_parity s n served x _ u (rejects_status e) = plain_words (ap (λ (w : List ℕ). is_plain_said (said_of [] w)) e ∙ ap is_plain_said (said_one MsgOut.DetectedError tt))
+says_parity s n served x _ u (answers e) = plain_words (ap (λ (w : List ℕ). is_plain_said (said_of [] w)) e
+    ∙ ap is_plain_said (said_one (MsgOut.Sdtr (host_answer (host_of s n.initiator) x.speech.asked)) tt))
+says_parity s n served x _ u (rejects_data e) = plain_words
+    (ap (λ (w : List ℕ). is_plain_said (said_of [] w)) e ∙ ap is_plain_said (said_one MsgOut.DetectedError tt))
+says_parity s n served x _ u (rejects_status e) = plain_words
+    (ap (λ (w : List ℕ). is_plain_said (said_of [] w)) e ∙ ap is_plain_said (said_one MsgOut.DetectedError tt))

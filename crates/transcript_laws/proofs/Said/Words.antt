@@ -20,14 +20,16 @@ left_half half (b ∷ bytes) = left_half (left_of (got_out (half ++ b ∷ [])) (
 
 abbrev pub said_of : List ℕ → List ℕ → List MsgOut
 said_of half [] = []
-said_of half (b ∷ bytes) = messages_of (whole_out (got_out (half ++ b ∷ []))) ++ said_of (left_of (got_out (half ++ b ∷ [])) (half ++ b ∷ [])) bytes
+said_of half (b ∷ bytes) = messages_of (whole_out (got_out (half ++ b ∷ [])))
+    ++ said_of (left_of (got_out (half ++ b ∷ [])) (half ++ b ∷ [])) bytes
 
 pub said_append : (half xs ys : List ℕ) → said_of half (xs ++ ys) ≡ said_of half xs ++ said_of (left_half half xs) ys
 said_append half [] ys = refl
 said_append half (b ∷ xs) ys =
     let m : List MsgOut = messages_of (whole_out (got_out (half ++ b ∷ []))) in
     let next : List ℕ = left_of (got_out (half ++ b ∷ [])) (half ++ b ∷ []) in
-    ap (λ (x : List MsgOut). m ++ x) (said_append next xs ys) ∙ sym (append_assoc m (said_of next xs) (said_of (left_half next xs) ys))
+    ap (λ (x : List MsgOut). m ++ x) (said_append next xs ys)
+    ∙ sym (append_assoc m (said_of next xs) (said_of (left_half next xs) ys))
 
 pub half_heard : (u : Understanding) (xs : List ℕ) → (understood u xs).half ≡ left_half u.half xs
 half_heard u [] = refl
@@ -39,15 +41,18 @@ split_same xs ys us vs e n = sym (take_front xs ys) ∙ (λ i. take (n i) (e i))
 -- ---- what is kept
 
 pub record SaidWords (k : RunState) (n : Connection) (o : OpenedValue) : Type 0 where
-  pub upto : is_message_out (bus_of k) ≡ true → k.story.bus_state.dialogue.is_last ≡ false → (before rest : List ℕ) → k.exchange.speech.words ≡ before ++ rest
-      → k.exchange.speech.place ≡ length before → o.said ≡ said_of [] before
+  pub upto : is_message_out (bus_of k) ≡ true → k.story.bus_state.dialogue.is_last ≡ false → (before rest : List ℕ)
+      → k.exchange.speech.words ≡ before ++ rest → k.exchange.speech.place ≡ length before → o.said ≡ said_of [] before
   pub place : is_message_out (bus_of k) ≡ true → k.story.bus_state.dialogue.is_last ≡ true → k.exchange.speech.place ≡ 0
-  pub whole : is_message_out (bus_of k) ≡ true → k.story.bus_state.dialogue.is_last ≡ true → o.said ≡ said_of [] k.exchange.speech.words
+  pub whole : is_message_out (bus_of k) ≡ true → k.story.bus_state.dialogue.is_last ≡ true
+      → o.said ≡ said_of [] k.exchange.speech.words
 
 -- ---- a byte of it
 
-old_said : (k : RunState) (n : Connection) (o : OpenedValue) (before rest : List ℕ) → SaidWords k n o → is_message_out (bus_of k) ≡ true → k.exchange.speech.words ≡ before ++ rest
-    → k.exchange.speech.place ≡ length before → (if k.story.bus_state.dialogue.is_last then [] else o.said) ≡ said_of [] before
+old_said : (k : RunState) (n : Connection) (o : OpenedValue) (before rest : List ℕ)
+    → SaidWords k n o → is_message_out (bus_of k) ≡ true
+    → k.exchange.speech.words ≡ before ++ rest → k.exchange.speech.place ≡ length before
+    → (if k.story.bus_state.dialogue.is_last then [] else o.said) ≡ said_of [] before
 old_said k n o before rest h here words place = go k.story.bus_state.dialogue.is_last refl
   where
     go : (q : Bool) → k.story.bus_state.dialogue.is_last ≡ q → (if q then [] else o.said) ≡ said_of [] before
@@ -55,11 +60,13 @@ old_said k n o before rest h here words place = go k.story.bus_state.dialogue.is
     go false e = h.upto here e before rest words place
 
 -- The messages that are said then.
-now_said : (d : Dialogue) (old : List MsgOut) (before : List ℕ) (byte : ℕ) (out : Option MsgOut) → old ≡ said_of [] before → fresh_bytes d ≡ left_half [] before
+now_said : (d : Dialogue) (old : List MsgOut) (before : List ℕ) (byte : ℕ) (out : Option MsgOut)
+    → old ≡ said_of [] before → fresh_bytes d ≡ left_half [] before
     → out ≡ whole_out (got_out (fresh_bytes d ++ byte ∷ [])) → old ++ messages_of out ≡ said_of [] (before ++ byte ∷ [])
 now_said d old before byte out e f g =
     (λ i. e i ++ messages_of ((g ∙ ap (λ (x : List ℕ). whole_out (got_out (x ++ byte ∷ []))) f) i))
-    ∙ ap (λ (x : List MsgOut). said_of [] before ++ x) (sym (append-nil (messages_of (whole_out (got_out (left_half [] before ++ byte ∷ []))))))
+    ∙ ap (λ (x : List MsgOut). said_of [] before ++ x)
+    (sym (append-nil (messages_of (whole_out (got_out (left_half [] before ++ byte ∷ []))))))
     ∙ sym (said_append [] before (byte ∷ []))
 
 record SpeechOn (v w : Speech) (rest : List ℕ) (last : Bool) : Type 0 where
@@ -68,7 +75,8 @@ record SpeechOn (v w : Speech) (rest : List ℕ) (last : Bool) : Type 0 where
   begins : last ≡ true → w.place ≡ 0
   ends : last ≡ true → rest ≡ []
 
-speech_on : (v : Speech) (rest : List ℕ) (last : Bool) → attends_with v ≡ not (is_nil rest) → last ≡ not (attends_with v) → SpeechOn v (speech_after_byte v) rest last
+speech_on : (v : Speech) (rest : List ℕ) (last : Bool) → attends_with v ≡ not (is_nil rest)
+    → last ≡ not (attends_with v) → SpeechOn v (speech_after_byte v) rest last
 speech_on v rest last more is = record {
   words = refl;
   goes = λ e. ap (λ (q : Bool). if q then v.place + 1 else 0) (turned_true (attends_with v) (sym is ∙ e));
@@ -90,21 +98,26 @@ speech_on v rest last more is = record {
 
 -- ---- row by row
 
-on_row : (s : ScenarioValue) (p : List Row) (row : Row) (n : Connection) (g : Going s p row n) (o after : OpenedValue) → RowMade (run_state s p) row n g.going.change o after
-    → SaidWords (run_state s p) n o → SaidWords (run_state s (row ∷ p)) n after
+on_row : (s : ScenarioValue) (p : List Row) (row : Row) (n : Connection) (g : Going s p row n) (o after : OpenedValue)
+    → RowMade (run_state s p) row n g.going.change o after → SaidWords (run_state s p) n o
+    → SaidWords (run_state s (row ∷ p)) n after
 on_row s p row n g o after (made_still ep none e) h =
     let k : RunState = run_state s p in
     let j : RunState = run_state s (row ∷ p) in
     let c : Change = g.going.change in
     let i = in_connection s k row n c false false (is_fault row.kind) g.going.goes.row_is ep none refl in
-    let said : after.said ≡ o.said = ap (λ (x : OpenedValue). x.said) e ∙ (still_keeps o k.story.bus_state c row).said in
+    let said : after.said ≡ o.said = ap (λ (x : OpenedValue). x.said) e
+    ∙ (still_keeps o k.story.bus_state c row).said in
     let speech : j.exchange.speech ≡ k.exchange.speech = ap (λ (x : Exchange). x.speech) i.exchange_is in
-    let last : j.story.bus_state.dialogue.is_last ≡ k.story.bus_state.dialogue.is_last = ap (λ (x : Dialogue). x.is_last) i.dialogue_is in
+    let last : j.story.bus_state.dialogue.is_last ≡ k.story.bus_state.dialogue.is_last = ap
+    (λ (x : Dialogue). x.is_last) i.dialogue_is in
     let lines = out_same (bus_of k) (bus_of j) (lines_same s p row n g ep) in
     record {
-      upto = λ here z before rest words place. said ∙ h.upto (sym lines ∙ here) (sym last ∙ z) before rest (ap (λ (x : Speech). x.words) (sym speech) ∙ words) (ap (λ (x : Speech). x.place) (sym speech) ∙ place);
+      upto = λ here z before rest words place. said ∙ h.upto (sym lines ∙ here) (sym last ∙ z) before rest
+          (ap (λ (x : Speech). x.words) (sym speech) ∙ words) (ap (λ (x : Speech). x.place) (sym speech) ∙ place);
       place = λ here z. ap (λ (x : Speech). x.place) speech ∙ h.place (sym lines ∙ here) (sym last ∙ z);
-      whole = λ here z. said ∙ h.whole (sym lines ∙ here) (sym last ∙ z) ∙ ap (λ (x : Speech). said_of [] x.words) (sym speech);
+      whole = λ here z. said ∙ h.whole (sym lines ∙ here) (sym last ∙ z)
+          ∙ ap (λ (x : Speech). said_of [] x.words) (sym speech);
     }
 on_row s p row n g o after (made_crossing dev ep er e) h = go (crossing_made o after k.story.bus_state n c e)
   where
@@ -135,7 +148,11 @@ on_row s p row n g o after (made_crossing dev ep er e) h = go (crossing_made o a
     other : is_message_out c.before ≡ false → SaidWords j n after
     other x =
         let no : is_message_out (bus_of j) ≡ false = lines ∙ ap is_message_out on ∙ x in
-        record { upto = λ here z before rest words place. wrong (sym here ∙ no); place = λ here z. wrong (sym here ∙ no); whole = λ here z. wrong (sym here ∙ no) }
+        record {
+          upto = λ here z before rest words place. wrong (sym here ∙ no);
+          place = λ here z. wrong (sym here ∙ no);
+          whole = λ here z. wrong (sym here ∙ no);
+        }
 
     go : CrossingMade o after d.is_last c.before byte (message_out d c true) (message_in d c true) → SaidWords j n after
     go (crossed_in x y f) = other x
@@ -143,25 +160,35 @@ on_row s p row n g o after (made_crossing dev ep er e) h = go (crossing_made o a
     go (crossed_else x y z f) = other x
     go (crossed_out x f) =
         let i = in_connection s k row n c false true (is_fault row.kind) g.going.goes.row_is ep there refl in
-        let speaks : IsSpeaking s n k.served k.exchange d = (g.was.stood.books.speaks n g.going.goes.row_is.connection_is g.going.goes.calm).in_message_out (begun_crossing s p row n g dev er) (ap is_message_out on ∙ x) in
+        let speaks : IsSpeaking s n k.served k.exchange d =
+        (g.was.stood.books.speaks n g.going.goes.row_is.connection_is g.going.goes.calm).in_message_out
+        (begun_crossing s p row n g dev er) (ap is_message_out on ∙ x) in
         let a : AreWordsHeard k.exchange.speech k.exchange.plan d = speaks.heard in
         let says = g.going.goes.says x there in
         let b : byte ≡ a.byte = says.0 ∙ says_byte k.exchange.speech k.exchange.plan d a in
-        let speech : j.exchange.speech ≡ speech_after_byte k.exchange.speech = ap (λ (y : Exchange). y.speech) i.exchange_is ∙ ap (λ (q : Bool). if q then speech_after_byte k.exchange.speech else speech_after_request k.exchange.speech (message_in d c true)) x in
-        let last : j.story.bus_state.dialogue.is_last ≡ not (attends_with k.exchange.speech) = ap (λ (y : Dialogue). y.is_last) i.dialogue_is ∙ ap (λ (q : Bool). (if q then byte_out d byte (not c.after.atn) else if is_message_in c.before then byte_in d byte else byte_else d c.before byte).is_last) x ∙ ap not says.1 in
-        let said : after.said ≡ said_of [] (a.before ++ byte ∷ []) =
-        ap (λ (y : OpenedValue). y.said) f
-        ∙ now_said d (if d.is_last then [] else o.said) a.before byte (message_out d c true) (old_said k n o a.before (a.byte ∷ a.rest) h (ap is_message_out on ∙ x) a.words_are a.place_is) (ap (λ (u : Understanding). u.half) a.anew ∙ half_heard nothing_understood a.before) (ap (λ (q : Bool). if q then whole_out (got_out (fresh_bytes d ++ byte ∷ [])) else None) x) in
-        let v = speech_on k.exchange.speech a.rest j.story.bus_state.dialogue.is_last (says_more k.exchange.speech k.exchange.plan d a) last in
-        let words : j.exchange.speech.words ≡ (a.before ++ byte ∷ []) ++ a.rest = ap (λ (y : Speech). y.words) speech ∙ a.words_are ∙ (λ i. a.before ++ sym b i ∷ a.rest) ∙ sym (append_assoc a.before (byte ∷ []) a.rest) in
+        let speech : j.exchange.speech ≡ speech_after_byte k.exchange.speech =
+        ap (λ (y : Exchange). y.speech) i.exchange_is ∙ ap (λ (q : Bool). if q then speech_after_byte k.exchange.speech
+        else speech_after_request k.exchange.speech (message_in d c true)) x in
+        let last : j.story.bus_state.dialogue.is_last ≡ not (attends_with k.exchange.speech) =
+        ap (λ (y : Dialogue). y.is_last) i.dialogue_is ∙ ap (λ (q : Bool). (if q then byte_out d byte (not c.after.atn)
+        else if is_message_in c.before then byte_in d byte else byte_else d c.before byte).is_last) x ∙ ap not says.1 in
+        let said : after.said ≡ said_of [] (a.before ++ byte ∷ []) = ap (λ (y : OpenedValue). y.said) f
+        ∙ now_said d (if d.is_last then [] else o.said) a.before byte (message_out d c true)
+        (old_said k n o a.before (a.byte ∷ a.rest) h (ap is_message_out on ∙ x) a.words_are a.place_is)
+        (ap (λ (u : Understanding). u.half) a.anew ∙ half_heard nothing_understood a.before)
+        (ap (λ (q : Bool). if q then whole_out (got_out (fresh_bytes d ++ byte ∷ [])) else None) x) in
+        let v = speech_on k.exchange.speech a.rest j.story.bus_state.dialogue.is_last
+        (says_more k.exchange.speech k.exchange.plan d a) last in
+        let words : j.exchange.speech.words ≡ (a.before ++ byte ∷ []) ++ a.rest = ap (λ (y : Speech). y.words) speech
+        ∙ a.words_are ∙ (λ i. a.before ++ sym b i ∷ a.rest) ∙ sym (append_assoc a.before (byte ∷ []) a.rest) in
         record {
-          upto = λ here z before rest words' place.
-              said
-              ∙ ap (λ (y : List ℕ). said_of [] y)
-              (split_same (a.before ++ byte ∷ []) a.rest before rest (sym words ∙ words')
-              (length_more a.before byte ∙ ap (λ (m : ℕ). m + 1) (sym a.place_is) ∙ sym (v.goes z) ∙ ap (λ (y : Speech). y.place) (sym speech) ∙ place));
+          upto = λ here z before rest words' place. said
+              ∙ ap (λ (y : List ℕ). said_of [] y) (split_same (a.before ++ byte ∷ []) a.rest before rest
+              (sym words ∙ words') (length_more a.before byte ∙ ap (λ (m : ℕ). m + 1) (sym a.place_is) ∙ sym (v.goes z)
+              ∙ ap (λ (y : Speech). y.place) (sym speech) ∙ place));
           place = λ here z. ap (λ (y : Speech). y.place) speech ∙ v.begins z;
-          whole = λ here z. said ∙ ap (λ (y : List ℕ). said_of [] y) (sym (append-nil (a.before ++ byte ∷ [])) ∙ ap (λ (y : List ℕ). (a.before ++ byte ∷ []) ++ y) (sym (v.ends z)) ∙ sym words);
+          whole = λ here z. said ∙ ap (λ (y : List ℕ). said_of [] y) (sym (append-nil (a.before ++ byte ∷ []))
+              ∙ ap (λ (y : List ℕ). (a.before ++ byte ∷ []) ++ y) (sym (v.ends z)) ∙ sym words);
         }
 on_row s p row n g o after (made_turn ep none ef e) h =
     let k : RunState = run_state s p in
@@ -169,11 +196,14 @@ on_row s p row n g o after (made_turn ep none ef e) h =
     let c : Change = g.going.change in
     let i = in_connection s k row n c true false (is_fault row.kind) g.going.goes.row_is ep none refl in
     let m : OpenedValue = phase_over o c.before k.story.bus_state.dialogue.half true in
-    let said : after.said ≡ [] = ap (λ (x : OpenedValue). x.said) e ∙ (turned m c.after).said ∙ (over_keeps o c.before k.story.bus_state.dialogue.half true).said in
+    let said : after.said ≡ [] = ap (λ (x : OpenedValue). x.said) e ∙ (turned m c.after).said
+    ∙ (over_keeps o c.before k.story.bus_state.dialogue.half true).said in
     let last : j.story.bus_state.dialogue.is_last ≡ false = ap (λ (x : Dialogue). x.is_last) i.dialogue_is in
-    let place : j.exchange.speech.place ≡ 0 = ap (λ (x : Exchange). x.speech.place) i.exchange_is ∙ anew (host_of s n.initiator) (hearing_of k row (reading_in k.story.bus_state n c false)) k.exchange.speech in
+    let place : j.exchange.speech.place ≡ 0 = ap (λ (x : Exchange). x.speech.place) i.exchange_is
+    ∙ anew (host_of s n.initiator) (hearing_of k row (reading_in k.story.bus_state n c false)) k.exchange.speech in
     record {
-      upto = λ here z before rest words at. said ∙ ap (λ (y : List ℕ). said_of [] y) (sym (nil_of before (sym at ∙ place)));
+      upto = λ here z before rest words at. said
+          ∙ ap (λ (y : List ℕ). said_of [] y) (sym (nil_of before (sym at ∙ place)));
       place = λ here z. place;
       whole = λ here z. wrong' (sym last ∙ z);
     }
@@ -187,6 +217,10 @@ on_row s p row n g o after (made_turn ep none ef e) h =
 
 pub words_hold : (s : ScenarioValue) → Holds s SaidWords
 words_hold s = record {
-  begins = λ p row n starts now con calm b out fresh. record { upto = λ here z before rest words place. wrong (sym here ∙ out); place = λ here z. wrong (sym here ∙ out); whole = λ here z. wrong (sym here ∙ out) };
+  begins = λ p row n starts now con calm b out fresh. record {
+    upto = λ here z before rest words place. wrong (sym here ∙ out);
+    place = λ here z. wrong (sym here ∙ out);
+    whole = λ here z. wrong (sym here ∙ out);
+  };
   goes_on = λ p row n g o after made h. on_row s p row n g o after made h;
 }

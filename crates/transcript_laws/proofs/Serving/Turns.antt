@@ -24,11 +24,13 @@ data_none : (out : Bool) (bytes : List ℕ) → data_parts out bytes ≡ [] → 
 data_none out [] e = refl
 data_none out (b ∷ bytes) e = absurd cc
 
-pub conn_append : (name : Name) (xs ys : List Event) → conn_items name (xs ++ ys) ≡ conn_items name ys ++ conn_items name xs
-conn_append name xs ys =
-    ap (λ (list : List Event). flat_map (λ e. items_named name e) list) (reverse-append xs ys) ∙ flat_map-append (λ e. items_named name e) (reverse ys) (reverse xs)
+pub conn_append : (name : Name) (xs ys : List Event)
+    → conn_items name (xs ++ ys) ≡ conn_items name ys ++ conn_items name xs
+conn_append name xs ys = ap (λ (list : List Event). flat_map (λ e. items_named name e) list) (reverse-append xs ys)
+    ∙ flat_map-append (λ e. items_named name e) (reverse ys) (reverse xs)
 
-pub refused_less : (refused : List Name) (name : Name) (id : ProcId) (shown history : List Event) → IsRefused refused name id (shown ++ history) → IsRefused refused name id history
+pub refused_less : (refused : List Name) (name : Name) (id : ProcId) (shown history : List Event)
+    → IsRefused refused name id (shown ++ history) → IsRefused refused name id history
 refused_less refused name id shown history r = record {
   refusal = λ e. r.refusal (any_later (λ x. is_refusal id x) shown history e);
   answer = λ e. r.answer (any_later (λ x. is_answer id x) shown history e);
@@ -45,8 +47,10 @@ entered_new : (k : OpenedValue) (q : Bool) → IsNew k → IsNew (if q then with
 entered_new k true h = record { bytes = h.bytes; struck = h.struck }
 entered_new k false h = h
 
-turned_new : (k : OpenedValue) (s after : LineSet) (half : List ℕ) → IsNew (phase_entered (phase_over k s half true) after)
-turned_new k s after half = entered_new (phase_over k s half true) (is_status_phase after) (record { bytes = refl; struck = refl })
+turned_new : (k : OpenedValue) (s after : LineSet) (half : List ℕ)
+    → IsNew (phase_entered (phase_over k s half true) after)
+turned_new k s after half =
+    entered_new (phase_over k s half true) (is_status_phase after) (record { bytes = refl; struck = refl })
 
 none_if : (q : Bool) (bytes : List ℕ) → bytes ≡ [] → (if q then bytes else []) ≡ []
 none_if true bytes e = e
@@ -56,7 +60,8 @@ or_none : (q r : Bool) → r ≡ false → (q || r) ≡ q
 or_none true r e = refl
 or_none false r e = e
 
-new_account : (a : AccountValue) (c : CarriedBytes) (bytes : List ℕ) (struck : Bool) → bytes ≡ [] → struck ≡ false → IsAccountOf a c → IsAccountOf (with_block a bytes struck) c
+new_account : (a : AccountValue) (c : CarriedBytes) (bytes : List ℕ) (struck : Bool) → bytes ≡ [] → struck ≡ false
+    → IsAccountOf a c → IsAccountOf (with_block a bytes struck) c
 new_account a c bytes struck e f h = record {
   block = ap (λ (xs : List ℕ). a.block ++ xs) e ∙ append-nil a.block ∙ h.block;
   struck = or_none a.struck struck f ∙ h.struck;
@@ -75,60 +80,83 @@ in_no_command s e =
     (λ f. ap (λ (q : Bool). not q && s.cd && not s.io) f)
     (λ f. wrong' (sym (ap (λ (q : Bool). q && s.cd && s.io) f) ∙ e))
 
-no_phase_parts : (k : OpenedValue) (s : LineSet) → (is_command s ≡ false → is_data s ≡ false → k.bytes ≡ []) → phase_parts k s true ≡ [] → k.bytes ≡ []
+no_phase_parts : (k : OpenedValue) (s : LineSet)
+    → (is_command s ≡ false → is_data s ≡ false → k.bytes ≡ []) → phase_parts k s true ≡ [] → k.bytes ≡ []
 no_phase_parts k s empty e = go (is_command s) (is_data s) refl refl e
   where
     go : (q r : Bool) → is_command s ≡ q → is_data s ≡ r
-        → (if q then Part.Command k.bytes k.struck true ∷ [] else if r then data_parts (not s.io) k.bytes else []) ≡ [] → k.bytes ≡ []
+        → (if q then Part.Command k.bytes k.struck true ∷ [] else if r then data_parts (not s.io) k.bytes else []) ≡ []
+        → k.bytes ≡ []
     go true r f g z = absurd cc
     go false true f g z = data_none (not s.io) k.bytes z
     go false false f g z = empty f g
 
-now_account : (k : OpenedValue) (id : ProcId) (now back : CarriedBytes) (conn history : List Event) (was : Bool) (st : Option ℕ) (q : Bool) (p : Process)
-    → q ≡ false → IsServing k q id now back conn history was st → IsAsBegun p was st → IsAccountOf (account_by p (parts_now k)) now
-now_account k id now back conn history was st q p off h b =
-    subst (λ (a : AccountValue). IsAccountOf a now) (sym (all_after (account_of p []) (base_parts k) (out_parts k.said))) (same_account (account_base k p) (account_after_all (account_base k p) (out_parts k.said)) now (outs_same (account_base k p) k.said) (of_block (account_base k p) now (subst (λ (r : Bool). IsAccountOf (with_block (account_base k p) (if r then k.bytes else []) (r && k.struck)) now) off (h.account p b))))
+now_account : (k : OpenedValue) (id : ProcId) (now back : CarriedBytes)
+    (conn history : List Event) (was : Bool) (st : Option ℕ) (q : Bool) (p : Process)
+    → q ≡ false → IsServing k q id now back conn history was st → IsAsBegun p was st
+    → IsAccountOf (account_by p (parts_now k)) now
+now_account k id now back conn history was st q p off h b = subst (λ (a : AccountValue). IsAccountOf a now)
+    (sym (all_after (account_of p []) (base_parts k) (out_parts k.said)))
+    (same_account (account_base k p) (account_after_all (account_base k p) (out_parts k.said)) now
+    (outs_same (account_base k p) k.said) (of_block (account_base k p) now
+    (subst (λ (r : Bool). IsAccountOf (with_block (account_base k p) (if r then k.bytes else []) (r && k.struck)) now)
+    off (h.account p b))))
 
-pub void_over : (k : OpenedValue) (s : LineSet) (half : List ℕ) (id : ProcId) (now back : CarriedBytes) (conn history : List Event) (was : Bool) (st : Option ℕ) (broken : Bool)
+pub void_over : (k : OpenedValue) (s : LineSet) (half : List ℕ) (id : ProcId)
+    (now back : CarriedBytes) (conn history : List Event) (was : Bool) (st : Option ℕ) (broken : Bool)
     → (is_message_in s && not (is_nil half)) ≡ broken → (is_command s ≡ false → is_data s ≡ false → k.bytes ≡ [])
-    → (broken ≡ true → (a : AccountValue) → IsAccountOf a now → IsAccountOf a back) → IsServing k (is_command s) id now back conn history was st
-    → (m : Incoming) (p : Process) → (if broken then with_in (spoken k) Broken else spoken k).held ≡ Some m
-    → ((if broken then with_in (spoken k) Broken else spoken k).since ++ phase_parts (if broken then with_in (spoken k) Broken else spoken k) s true) ≡ [] → IsAsBegun p was st
+    → (broken ≡ true → (a : AccountValue) → IsAccountOf a now → IsAccountOf a back)
+    → IsServing k (is_command s) id now back conn history was st → (m : Incoming) (p : Process)
+    → (if broken then with_in (spoken k) Broken else spoken k).held ≡ Some m
+    → ((if broken then with_in (spoken k) Broken else spoken k).since
+    ++ phase_parts (if broken then with_in (spoken k) Broken else spoken k) s true) ≡ [] → IsAsBegun p was st
     → IsAccountOf (account_by p (if broken then with_in (spoken k) Broken else spoken k).parts) back
-void_over k s half id now back conn history was st true e empty same h m p held none b =
-    same refl (account_by p (settled (spoken k) false).parts) (subst (λ (parts : List Part). IsAccountOf (account_by p parts) now) (sym (spoken_parts k)) (now_account k id now back conn history was st (is_command s) p (in_no_command s (and_first (is_message_in s) (not (is_nil half)) e)) h b))
+void_over k s half id now back conn history was st true e empty same h m p held none b = same refl
+    (account_by p (settled (spoken k) false).parts) (subst (λ (parts : List Part). IsAccountOf (account_by p parts) now)
+    (sym (spoken_parts k)) (now_account k id now back conn history was st (is_command s) p
+    (in_no_command s (and_first (is_message_in s) (not (is_nil half)) e)) h b))
 void_over k s half id now back conn history was st false e empty same h m p held none b =
     let g = spoken_holds k m held in
     let g' = spoken_keeps k in
     let parts = both_none (spoken k).since (phase_parts (spoken k) s true) none in
     let bytes : k.bytes ≡ [] = sym g'.bytes ∙ no_phase_parts (spoken k) s (λ x y. g'.bytes ∙ empty x y) parts.1 in
-    subst (λ (list : List Part). IsAccountOf (account_by p list) back) (sym g.parts) (h.void m p (sym g.held ∙ held) (sym g.since ∙ parts.0) bytes b)
+    subst (λ (list : List Part). IsAccountOf (account_by p list) back) (sym g.parts)
+    (h.void m p (sym g.held ∙ held) (sym g.since ∙ parts.0) bytes b)
 
-pub void_turned : (k : OpenedValue) (s : LineSet) (half : List ℕ) (begins : Bool) (id : ProcId) (now back : CarriedBytes) (conn history : List Event) (was : Bool) (st : Option ℕ)
+pub void_turned : (k : OpenedValue) (s : LineSet) (half : List ℕ) (begins : Bool) (id : ProcId)
+    (now back : CarriedBytes) (conn history : List Event) (was : Bool) (st : Option ℕ)
     → (is_command s ≡ false → is_data s ≡ false → k.bytes ≡ [])
     → ((is_message_in s && not (is_nil half)) ≡ true → (a : AccountValue) → IsAccountOf a now → IsAccountOf a back)
-    → IsServing k (is_command s) id now back conn history was st
-    → (m : Incoming) (p : Process) → (if begins then with_part (phase_over k s half true) Part.StatusPhase else phase_over k s half true).held ≡ Some m
-    → (if begins then with_part (phase_over k s half true) Part.StatusPhase else phase_over k s half true).since ≡ [] → IsAsBegun p was st
-    → IsAccountOf (account_by p (if begins then with_part (phase_over k s half true) Part.StatusPhase else phase_over k s half true).parts) back
-void_turned k s half true id now back conn history was st empty same h m p held none b = filled (phase_over k s half true).since Part.StatusPhase none
-void_turned k s half false id now back conn history was st empty same h m p held none b =
-    void_over k s half id now back conn history was st (is_message_in s && not (is_nil half)) refl empty same h m p held none b
+    → IsServing k (is_command s) id now back conn history was st → (m : Incoming) (p : Process)
+    → (if begins then with_part (phase_over k s half true) Part.StatusPhase else phase_over k s half true).held ≡ Some m
+    → (if begins then with_part (phase_over k s half true) Part.StatusPhase else phase_over k s half true).since ≡ []
+    → IsAsBegun p was st → IsAccountOf (account_by p
+    (if begins then with_part (phase_over k s half true) Part.StatusPhase else phase_over k s half true).parts) back
+void_turned k s half true id now back conn history was st empty same h m p held none b =
+    filled (phase_over k s half true).since Part.StatusPhase none
+void_turned k s half false id now back conn history was st empty same h m p held none b = void_over k s half id now back
+    conn history was st (is_message_in s && not (is_nil half)) refl empty same h m p held none b
 
 -- A message that is broken off brings back what holds.
-cut_over : (k : OpenedValue) (s : LineSet) (half : List ℕ) (id : ProcId) (now back : CarriedBytes) (conn history : List Event) (was : Bool) (st : Option ℕ) (broken : Bool)
-    → (is_message_in s && not (is_nil half)) ≡ broken → broken ≡ true → IsServing k (is_command s) id now back conn history was st → (p : Process)
-    → IsAsBegun p was st → IsAccountOf (account_by p (if broken then with_in (spoken k) Broken else spoken k).parts) now
+cut_over : (k : OpenedValue) (s : LineSet) (half : List ℕ) (id : ProcId) (now back : CarriedBytes)
+    (conn history : List Event) (was : Bool) (st : Option ℕ) (broken : Bool)
+    → (is_message_in s && not (is_nil half)) ≡ broken → broken ≡ true
+    → IsServing k (is_command s) id now back conn history was st → (p : Process) → IsAsBegun p was st
+    → IsAccountOf (account_by p (if broken then with_in (spoken k) Broken else spoken k).parts) now
 cut_over k s half id now back conn history was st true e cut h p b =
-    subst (λ (parts : List Part). IsAccountOf (account_by p parts) now) (sym (spoken_parts k)) (now_account k id now back conn history was st (is_command s) p (in_no_command s (and_first (is_message_in s) (not (is_nil half)) e)) h b)
+    subst (λ (parts : List Part). IsAccountOf (account_by p parts) now) (sym (spoken_parts k)) (now_account k id now
+    back conn history was st (is_command s) p (in_no_command s (and_first (is_message_in s) (not (is_nil half)) e)) h b)
 cut_over k s half id now back conn history was st false e cut h p b = wrong' cut
 
-pub cut_turned : (k : OpenedValue) (s : LineSet) (half : List ℕ) (begins : Bool) (id : ProcId) (now back : CarriedBytes) (conn history : List Event) (was : Bool) (st : Option ℕ)
-    → (is_message_in s && not (is_nil half)) ≡ true → IsServing k (is_command s) id now back conn history was st
-    → (m : Incoming) (p : Process) → (if begins then with_part (phase_over k s half true) Part.StatusPhase else phase_over k s half true).held ≡ Some m
-    → (if begins then with_part (phase_over k s half true) Part.StatusPhase else phase_over k s half true).since ≡ [] → IsAsBegun p was st
-    → IsAccountOf (account_by p (if begins then with_part (phase_over k s half true) Part.StatusPhase else phase_over k s half true).parts) now
-cut_turned k s half true id now back conn history was st cut h m p held none b = filled (phase_over k s half true).since Part.StatusPhase none
+pub cut_turned : (k : OpenedValue) (s : LineSet) (half : List ℕ) (begins : Bool) (id : ProcId) (now back : CarriedBytes)
+    (conn history : List Event) (was : Bool) (st : Option ℕ) → (is_message_in s && not (is_nil half)) ≡ true
+    → IsServing k (is_command s) id now back conn history was st → (m : Incoming) (p : Process)
+    → (if begins then with_part (phase_over k s half true) Part.StatusPhase else phase_over k s half true).held ≡ Some m
+    → (if begins then with_part (phase_over k s half true) Part.StatusPhase else phase_over k s half true).since ≡ []
+    → IsAsBegun p was st → IsAccountOf (account_by p
+    (if begins then with_part (phase_over k s half true) Part.StatusPhase else phase_over k s half true).parts) now
+cut_turned k s half true id now back conn history was st cut h m p held none b =
+    filled (phase_over k s half true).since Part.StatusPhase none
 cut_turned k s half false id now back conn history was st cut h m p held none b =
     cut_over k s half id now back conn history was st (is_message_in s && not (is_nil half)) refl cut h p b
 
@@ -136,23 +164,36 @@ cut_turned k s half false id now back conn history was st cut h m p held none b 
 
 -- What MESSAGE PARITY ERROR would bring back after it.
 abbrev pub IsVoid : OpenedValue → CarriedBytes → Bool → Option ℕ → Type 0
-IsVoid k back was st = (m : Incoming) (p : Process) → k.held ≡ Some m → k.since ≡ [] → IsAsBegun p was st → IsAccountOf (account_by p k.parts) back
+IsVoid k back was st = (m : Incoming) (p : Process) → k.held ≡ Some m → k.since ≡ [] → IsAsBegun p was st
+    → IsAccountOf (account_by p k.parts) back
 
-pub turn_serves : (k : OpenedValue) (s after : LineSet) (half : List ℕ) (id : ProcId) (now before back : CarriedBytes) (conn history : List Event) (was : Bool) (st : Option ℕ) (room : Bool)
-    → now.id ≡ id → now.refused ≡ has_refusal history id → IsVoid (phase_entered (phase_over k s half true) after) back was st
+pub turn_serves : (k : OpenedValue) (s after : LineSet) (half : List ℕ) (id : ProcId) (now before back : CarriedBytes)
+    (conn history : List Event) (was : Bool) (st : Option ℕ) (room : Bool) → now.id ≡ id
+    → now.refused ≡ has_refusal history id → IsVoid (phase_entered (phase_over k s half true) after) back was st
     → IsServing k (is_command s) id now before conn history was st
-    → IsServing (phase_entered (phase_over k s half true) after) (is_command after) id (marked_with now (turn_events (is_status_phase after) now (arrivals (is_command s && is_whole_block now) room now.id))) back (turn_events (is_status_phase after) now (arrivals (is_command s && is_whole_block now) room now.id) ++ conn) (turn_events (is_status_phase after) now (arrivals (is_command s && is_whole_block now) room now.id) ++ history) was st
+    → IsServing (phase_entered (phase_over k s half true) after) (is_command after) id (marked_with now
+    (turn_events (is_status_phase after) now (arrivals (is_command s && is_whole_block now) room now.id))) back
+    (turn_events (is_status_phase after) now (arrivals (is_command s && is_whole_block now) room now.id) ++ conn)
+    (turn_events (is_status_phase after) now (arrivals (is_command s && is_whole_block now) room now.id) ++ history) was
+    st
 turn_serves k s after half id now before back conn history was st room own marked brings h = record {
-  account = λ p b. new_account (account_base (phase_entered (phase_over k s half true) after) p) (marked_with now shown) _ _ (none_if (is_command after) _ (turned_new k s after half).bytes) (and_right (is_command after) _ (turned_new k s after half).struck) (subst (λ (a : AccountValue). IsAccountOf a (marked_with now shown)) (sym (turned_account k s after half p)) (turn_account (over_account k s half p) now (is_command s && is_whole_block now) room (is_status_phase after) now.id (over_is k s half p now (h.account p b))));
+  account = λ p b. new_account (account_base (phase_entered (phase_over k s half true) after) p)
+      (marked_with now shown) _ _ (none_if (is_command after) _ (turned_new k s after half).bytes)
+      (and_right (is_command after) _ (turned_new k s after half).struck)
+      (subst (λ (a : AccountValue). IsAccountOf a (marked_with now shown)) (sym (turned_account k s after half p))
+      (turn_account (over_account k s half p) now (is_command s && is_whole_block now) room
+      (is_status_phase after) now.id (over_is k s half p now (h.account p b))));
   void = λ m p held none bytes b. brings m p held none b;
   told = λ refused p b r.
       let a : AccountValue = over_account k s half p in
       let list : List Item = if is_status_phase after then ready refused a.process.shown a.process.name else [] in
       ap (λ (x : AccountValue). shown_items refused x.items) (turned_account k s after half p)
       ∙ status_shown refused a (is_status_phase after)
-      ∙ ap (λ (xs : List Item). xs ++ list) (over_shown k s half p now refused (h.account p b))
-      ∙ append_assoc (shown_items refused (account_base k p).items) (arrival (is_command s && is_whole_block now) p.name) list
-      ∙ (λ i. h.told refused p b (refused_less refused p.name id shown history r) i ++ turn_shown refused a now p.name id (is_command s && is_whole_block now) room (is_status_phase after) history own marked (over_name k s half p) (over_is k s half p now (h.account p b)) r i)
+      ∙ ap (λ (xs : List Item). xs ++ list) (over_shown k s half p now refused (h.account p b)) ∙ append_assoc
+      (shown_items refused (account_base k p).items) (arrival (is_command s && is_whole_block now) p.name) list
+      ∙ (λ i. h.told refused p b (refused_less refused p.name id shown history r) i
+      ++ turn_shown refused a now p.name id (is_command s && is_whole_block now) room
+      (is_status_phase after) history own marked (over_name k s half p) (over_is k s half p now (h.account p b)) r i)
       ∙ sym (conn_append p.name shown conn);
 }
   where

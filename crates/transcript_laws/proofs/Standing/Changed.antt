@@ -20,30 +20,33 @@ changed f all (Some (abort j)) = all
 abbrev pub KeepsId : (CarriedBytes → CarriedBytes) → Type 0
 KeepsId f = (c : CarriedBytes) → (f c).id ≡ c.id
 
-pub changed_own : (f : CarriedBytes → CarriedBytes) (all : List CarriedBytes) (o : Option Item) (id : ProcId) → KeepsId f → o ≡ Some (process id)
-    → carried_of (changed f all o) id ≡ f (carried_of all id)
-changed_own f all o id same e =
-    ap (λ (x : Option Item). carried_of (changed f all x) id) e ∙ put_own all (f (carried_of all id)) id (same (carried_of all id) ∙ carried_id all id)
+pub changed_own : (f : CarriedBytes → CarriedBytes) (all : List CarriedBytes) (o : Option Item) (id : ProcId)
+    → KeepsId f → o ≡ Some (process id) → carried_of (changed f all o) id ≡ f (carried_of all id)
+changed_own f all o id same e = ap (λ (x : Option Item). carried_of (changed f all x) id) e
+    ∙ put_own all (f (carried_of all id)) id (same (carried_of all id) ∙ carried_id all id)
 
-pub changed_other : (f : CarriedBytes → CarriedBytes) (all : List CarriedBytes) (o : Option Item) (id x : ProcId) → KeepsId f → o ≡ Some (process id)
-    → same_id x id ≡ false → carried_of (changed f all o) x ≡ carried_of all x
-changed_other f all o id x same e but =
-    ap (λ (y : Option Item). carried_of (changed f all y) x) e ∙ put_other all (f (carried_of all id)) id x (same (carried_of all id) ∙ carried_id all id) (id_turned x id but)
+pub changed_other : (f : CarriedBytes → CarriedBytes) (all : List CarriedBytes) (o : Option Item) (id x : ProcId)
+    → KeepsId f → o ≡ Some (process id) → same_id x id ≡ false → carried_of (changed f all o) x ≡ carried_of all x
+changed_other f all o id x same e but = ap (λ (y : Option Item). carried_of (changed f all y) x) e
+    ∙ put_other all (f (carried_of all id)) id x (same (carried_of all id) ∙ carried_id all id) (id_turned x id but)
 
 -- What holds of all still holds.
-pub changed_each : (P : CarriedBytes → Type 0) (f : CarriedBytes → CarriedBytes) (all : List CarriedBytes) (o : Option Item) (x : ProcId) → KeepsId f
-    → ((c : CarriedBytes) → P c → P (f c)) → P (carried_of all x) → P (carried_of (changed f all o) x)
+pub changed_each : (P : CarriedBytes → Type 0) (f : CarriedBytes → CarriedBytes)
+    (all : List CarriedBytes) (o : Option Item) (x : ProcId)
+    → KeepsId f → ((c : CarriedBytes) → P c → P (f c)) → P (carried_of all x) → P (carried_of (changed f all o) x)
 changed_each P f all None x same g h = h
 changed_each P f all (Some (abort j)) x same g h = h
 changed_each P f all (Some (process id)) x same g h =
-    put_each P all (f (carried_of all id)) x (λ p. g (carried_of all id) (subst (λ (y : ProcId). P (carried_of all y)) (same (carried_of all id) ∙ carried_id all id) p)) h
+    put_each P all (f (carried_of all id)) x (λ p. g (carried_of all id)
+    (subst (λ (y : ProcId). P (carried_of all y)) (same (carried_of all id) ∙ carried_id all id) p)) h
 
-pub changed_alike : (f : CarriedBytes → CarriedBytes) (all : List CarriedBytes) (o : Option Item) (x : ProcId) → KeepsId f
-    → ((c : CarriedBytes) → AreAlike c (f c)) → AreAlike (carried_of all x) (carried_of (changed f all o) x)
+pub changed_alike : (f : CarriedBytes → CarriedBytes) (all : List CarriedBytes) (o : Option Item) (x : ProcId)
+    → KeepsId f → ((c : CarriedBytes) → AreAlike c (f c)) → AreAlike (carried_of all x) (carried_of (changed f all o) x)
 changed_alike f all None x same g = alike_self _ _ refl
 changed_alike f all (Some (abort j)) x same g = alike_self _ _ refl
 changed_alike f all (Some (process id)) x same g =
-    alike_put all (f (carried_of all id)) (subst (λ (y : ProcId). AreAlike (carried_of all y) (f (carried_of all id))) (sym (same (carried_of all id) ∙ carried_id all id)) (g (carried_of all id))) x
+    alike_put all (f (carried_of all id)) (subst (λ (y : ProcId). AreAlike (carried_of all y) (f (carried_of all id)))
+    (sym (same (carried_of all id) ∙ carried_id all id)) (g (carried_of all id))) x
 
 -- ---- what leaves the marks and the saved status pointer as they are
 
@@ -91,46 +94,57 @@ after_byte lines byte c = carried_after_byte c lines byte
 -- By its phase.
 pub command_byte : (lines : LineSet) (byte : ℕ) (c : CarriedBytes) → is_command lines ≡ true
     → after_byte lines byte c ≡ record c { command = area_with c.command byte; block = c.block ++ byte ∷ [] }
-command_byte lines byte c e =
-    λ i. if e i then with_command_byte c byte else if is_data lines then record c { moved = area_with c.moved byte } else if is_status_phase lines then record c { status = area_with c.status byte } else c
+command_byte lines byte c e = λ i. if e i then with_command_byte c byte
+    else if is_data lines then record c { moved = area_with c.moved byte }
+    else if is_status_phase lines then record c { status = area_with c.status byte } else c
 
 pub data_byte : (lines : LineSet) (byte : ℕ) (c : CarriedBytes) → is_command lines ≡ false → is_data lines ≡ true
     → after_byte lines byte c ≡ record c { moved = area_with c.moved byte }
-data_byte lines byte c e f =
-    λ i. if e i then with_command_byte c byte else if f i then record c { moved = area_with c.moved byte } else if is_status_phase lines then record c { status = area_with c.status byte } else c
+data_byte lines byte c e f = λ i. if e i then with_command_byte c byte
+    else if f i then record c { moved = area_with c.moved byte }
+    else if is_status_phase lines then record c { status = area_with c.status byte } else c
 
-pub status_byte : (lines : LineSet) (byte : ℕ) (c : CarriedBytes) → is_command lines ≡ false → is_data lines ≡ false → is_status_phase lines ≡ true
-    → after_byte lines byte c ≡ record c { status = area_with c.status byte }
-status_byte lines byte c e f g =
-    λ i. if e i then with_command_byte c byte else if f i then record c { moved = area_with c.moved byte } else if g i then record c { status = area_with c.status byte } else c
+pub status_byte : (lines : LineSet) (byte : ℕ) (c : CarriedBytes) → is_command lines ≡ false → is_data lines ≡ false
+    → is_status_phase lines ≡ true → after_byte lines byte c ≡ record c { status = area_with c.status byte }
+status_byte lines byte c e f g = λ i. if e i then with_command_byte c byte
+    else if f i then record c { moved = area_with c.moved byte }
+    else if g i then record c { status = area_with c.status byte } else c
 
 pub byte_marks : (lines : LineSet) (byte : ℕ) (c : CarriedBytes) → KeepsMarks c (after_byte lines byte c)
 byte_marks lines byte c = go (is_command lines) (is_data lines) (is_status_phase lines)
   where
     go : (q r v : Bool)
-        → KeepsMarks c (if q then record c { command = area_with c.command byte; block = c.block ++ byte ∷ [] } else if r then record c { moved = area_with c.moved byte } else if v then record c { status = area_with c.status byte } else c)
+        → KeepsMarks c (if q then record c { command = area_with c.command byte; block = c.block ++ byte ∷ [] }
+        else if r then record c { moved = area_with c.moved byte }
+        else if v then record c { status = area_with c.status byte } else c)
     go true r v = record { id = refl; refused = refl; shown = refl; saved = refl }
     go false true v = record { id = refl; refused = refl; shown = refl; saved = refl }
     go false false true = record { id = refl; refused = refl; shown = refl; saved = refl }
     go false false false = record { id = refl; refused = refl; shown = refl; saved = refl }
 
 -- Outside STATUS.
-pub byte_alike : (lines : LineSet) (byte : ℕ) (c : CarriedBytes) → is_status_phase lines ≡ false → AreAlike c (after_byte lines byte c)
+pub byte_alike : (lines : LineSet) (byte : ℕ) (c : CarriedBytes) → is_status_phase lines ≡ false
+    → AreAlike c (after_byte lines byte c)
 byte_alike lines byte c e = go (is_command lines) (is_data lines) (is_status_phase lines) e
   where
     go : (q r v : Bool) → v ≡ false
-        → AreAlike c (if q then record c { command = area_with c.command byte; block = c.block ++ byte ∷ [] } else if r then record c { moved = area_with c.moved byte } else if v then record c { status = area_with c.status byte } else c)
+        → AreAlike c (if q then record c { command = area_with c.command byte; block = c.block ++ byte ∷ [] }
+        else if r then record c { moved = area_with c.moved byte }
+        else if v then record c { status = area_with c.status byte } else c)
     go true r v z = record { status = refl; refused = refl; shown = refl }
     go false true v z = record { status = refl; refused = refl; shown = refl }
     go false false true z = wrong' (sym z)
     go false false false z = record { status = refl; refused = refl; shown = refl }
 
 -- Outside COMMAND and STATUS.
-pub byte_blank : (lines : LineSet) (byte : ℕ) (c : CarriedBytes) → is_command lines ≡ false → is_status_phase lines ≡ false → IsBlank c → IsBlank (after_byte lines byte c)
+pub byte_blank : (lines : LineSet) (byte : ℕ) (c : CarriedBytes) → is_command lines ≡ false
+    → is_status_phase lines ≡ false → IsBlank c → IsBlank (after_byte lines byte c)
 byte_blank lines byte c f e h = go (is_command lines) (is_data lines) (is_status_phase lines) f e
   where
     go : (q r v : Bool) → q ≡ false → v ≡ false
-        → IsBlank (if q then record c { command = area_with c.command byte; block = c.block ++ byte ∷ [] } else if r then record c { moved = area_with c.moved byte } else if v then record c { status = area_with c.status byte } else c)
+        → IsBlank (if q then record c { command = area_with c.command byte; block = c.block ++ byte ∷ [] }
+        else if r then record c { moved = area_with c.moved byte }
+        else if v then record c { status = area_with c.status byte } else c)
     go true r v y z = wrong' (sym y)
     go false true v y z = record { block = h.block; struck = h.struck; active = h.active; saved = h.saved }
     go false false true y z = wrong' (sym z)
@@ -142,8 +156,8 @@ after_fault lines c = carried_after_fault c lines
 pub fault_marks : (lines : LineSet) (c : CarriedBytes) → KeepsMarks c (after_fault lines c)
 fault_marks lines c = go (is_command lines) (is_data lines)
   where
-    go : (q r : Bool)
-        → KeepsMarks c (if q then record c { struck = true; failure = Some PARITY_ERROR } else if r then record c { failure = Some (if lines.io then INITIATOR_DETECTED_ERROR else PARITY_ERROR) } else c)
+    go : (q r : Bool) → KeepsMarks c (if q then record c { struck = true; failure = Some PARITY_ERROR }
+        else if r then record c { failure = Some (if lines.io then INITIATOR_DETECTED_ERROR else PARITY_ERROR) } else c)
     go true r = record { id = refl; refused = refl; shown = refl; saved = refl }
     go false true = record { id = refl; refused = refl; shown = refl; saved = refl }
     go false false = record { id = refl; refused = refl; shown = refl; saved = refl }
@@ -151,17 +165,18 @@ fault_marks lines c = go (is_command lines) (is_data lines)
 pub fault_alike : (lines : LineSet) (c : CarriedBytes) → AreAlike c (after_fault lines c)
 fault_alike lines c = go (is_command lines) (is_data lines)
   where
-    go : (q r : Bool)
-        → AreAlike c (if q then record c { struck = true; failure = Some PARITY_ERROR } else if r then record c { failure = Some (if lines.io then INITIATOR_DETECTED_ERROR else PARITY_ERROR) } else c)
+    go : (q r : Bool) → AreAlike c (if q then record c { struck = true; failure = Some PARITY_ERROR }
+        else if r then record c { failure = Some (if lines.io then INITIATOR_DETECTED_ERROR else PARITY_ERROR) } else c)
     go true r = record { status = refl; refused = refl; shown = refl }
     go false true = record { status = refl; refused = refl; shown = refl }
     go false false = record { status = refl; refused = refl; shown = refl }
 
-pub fault_blank : (lines : LineSet) (c : CarriedBytes) → is_command lines ≡ false → IsBlank c → IsBlank (after_fault lines c)
+pub fault_blank : (lines : LineSet) (c : CarriedBytes) → is_command lines ≡ false → IsBlank c
+    → IsBlank (after_fault lines c)
 fault_blank lines c e h = go (is_command lines) (is_data lines) e
   where
-    go : (q r : Bool) → q ≡ false
-        → IsBlank (if q then record c { struck = true; failure = Some PARITY_ERROR } else if r then record c { failure = Some (if lines.io then INITIATOR_DETECTED_ERROR else PARITY_ERROR) } else c)
+    go : (q r : Bool) → q ≡ false → IsBlank (if q then record c { struck = true; failure = Some PARITY_ERROR }
+        else if r then record c { failure = Some (if lines.io then INITIATOR_DETECTED_ERROR else PARITY_ERROR) } else c)
     go true r z = wrong' (sym z)
     go false true z = record { block = h.block; struck = h.struck; active = h.active; saved = h.saved }
     go false false z = h
@@ -175,12 +190,14 @@ pub record ChangesBy (f : CarriedBytes → CarriedBytes) (b c : Story) (o : Opti
   pub link : c.link ≡ b.link
 
 pub by_byte : (b : Story) (d : RowReading) (o : Option Item)
-    → ChangesBy (after_byte d.change.before (d.change.after.data_bits % 256)) b (story_with_carried b (carried_after_byte_if (carried_if b o) d)) o
+    → ChangesBy (after_byte d.change.before (d.change.after.data_bits % 256)) b
+    (story_with_carried b (carried_after_byte_if (carried_if b o) d)) o
 by_byte b d None = record { carried = refl; sent = refl; link = refl }
 by_byte b d (Some (process id)) = record { carried = refl; sent = refl; link = refl }
 by_byte b d (Some (abort j)) = record { carried = refl; sent = refl; link = refl }
 
-pub by_fault : (b : Story) (c : Change) (o : Option Item) → ChangesBy (after_fault c.before) b (story_with_carried b (carried_after_fault_if (carried_if b o) (Some c))) o
+pub by_fault : (b : Story) (c : Change) (o : Option Item)
+    → ChangesBy (after_fault c.before) b (story_with_carried b (carried_after_fault_if (carried_if b o) (Some c))) o
 by_fault b c None = record { carried = refl; sent = refl; link = refl }
 by_fault b c (Some (process id)) = record { carried = refl; sent = refl; link = refl }
 by_fault b c (Some (abort j)) = record { carried = refl; sent = refl; link = refl }
@@ -188,12 +205,14 @@ by_fault b c (Some (abort j)) = record { carried = refl; sent = refl; link = ref
 abbrev pub unchanged : CarriedBytes → CarriedBytes
 unchanged c = c
 
-pub by_none : (b : Story) (o : Option Item) → ChangesBy unchanged b (story_with_carried b (carried_after_fault_if (carried_if b o) None)) o
+pub by_none : (b : Story) (o : Option Item)
+    → ChangesBy unchanged b (story_with_carried b (carried_after_fault_if (carried_if b o) None)) o
 by_none b None = record { carried = refl; sent = refl; link = refl }
 by_none b (Some (process id)) = record { carried = refl; sent = refl; link = refl }
 by_none b (Some (abort j)) = record { carried = refl; sent = refl; link = refl }
 
-pub by_message : (b : Story) (m : MsgIn) (o : Option Item) → ChangesBy (after_message m) b (story_with_carried b (carried_after_message_if (carried_if b o) m)) o
+pub by_message : (b : Story) (m : MsgIn) (o : Option Item)
+    → ChangesBy (after_message m) b (story_with_carried b (carried_after_message_if (carried_if b o) m)) o
 by_message b m None = record { carried = refl; sent = refl; link = refl }
 by_message b m (Some (process id)) = record { carried = refl; sent = refl; link = refl }
 by_message b m (Some (abort j)) = record { carried = refl; sent = refl; link = refl }

@@ -27,11 +27,13 @@ record SameNames (a b : Summary) : Type 0 where
   tag : b.tag ≡ a.tag
   abort : b.abort ≡ a.abort
 
-summary_append : (again : Bool) (sum : Summary) (xs ys : List Part) → summary_of again sum (xs ++ ys) ≡ summary_of again (summary_of again sum xs) ys
+summary_append : (again : Bool) (sum : Summary) (xs ys : List Part)
+    → summary_of again sum (xs ++ ys) ≡ summary_of again (summary_of again sum xs) ys
 summary_append again sum [] ys = refl
 summary_append again sum (part ∷ xs) ys = summary_append again (summary_after again sum part) xs ys
 
-broken_names : (again q : Bool) (sum : Summary) → SameNames sum (summary_of again sum (if q then Part.BrokenOff ∷ [] else []))
+broken_names : (again q : Bool) (sum : Summary)
+    → SameNames sum (summary_of again sum (if q then Part.BrokenOff ∷ [] else []))
 broken_names again true sum = record { unit = refl; tag = refl; abort = refl }
 broken_names again false sum = record { unit = refl; tag = refl; abort = refl }
 
@@ -40,12 +42,14 @@ data_summary again out sum [] = refl
 data_summary again out sum (b ∷ bytes) = refl
 
 phase_summary : (again q r out struck left : Bool) (sum : Summary) (bytes : List ℕ)
-    → summary_of again sum (if q then Part.Command bytes struck left ∷ [] else if r then data_parts out bytes else []) ≡ sum
+    → summary_of again sum (if q then Part.Command bytes struck left ∷ [] else if r then data_parts out bytes else [])
+    ≡ sum
 phase_summary again true r out struck left sum bytes = refl
 phase_summary again false true out struck left sum bytes = data_summary again out sum bytes
 phase_summary again false false out struck left sum bytes = refl
 
-closing_names : (k : OpenedValue) (lines : LineSet) (half : List ℕ) → SameNames (summary_by k.connection (parts_now k)) (summary_by k.connection (closing_parts k lines half))
+closing_names : (k : OpenedValue) (lines : LineSet) (half : List ℕ)
+    → SameNames (summary_by k.connection (parts_now k)) (summary_by k.connection (closing_parts k lines half))
 closing_names k lines half =
     let again : Bool = k.connection.reselected in
     let sum : Summary = summary_by k.connection (parts_now k) in
@@ -53,33 +57,49 @@ closing_names k lines half =
     let e : summary_by k.connection (closing_parts k lines half) ≡ summary_of again sum (broken_parts lines half) =
     ap (λ (parts : List Part). summary_of again no_summary parts) (over_parts k lines half false)
     ∙ summary_append again no_summary (parts_now k ++ broken_parts lines half) (phase_parts k lines false)
-    ∙ phase_summary again (is_command lines) (is_data lines) (not lines.io) k.struck false (summary_of again no_summary (parts_now k ++ broken_parts lines half)) k.bytes
+    ∙ phase_summary again (is_command lines) (is_data lines) (not lines.io) k.struck false
+    (summary_of again no_summary (parts_now k ++ broken_parts lines half)) k.bytes
     ∙ summary_append again no_summary (parts_now k) (broken_parts lines half) in
-    record { unit = ap (λ (x : Summary). x.unit) e ∙ g.unit; tag = ap (λ (x : Summary). x.tag) e ∙ g.tag; abort = ap (λ (x : Summary). x.abort) e ∙ g.abort }
+    record {
+      unit = ap (λ (x : Summary). x.unit) e ∙ g.unit;
+      tag = ap (λ (x : Summary). x.tag) e ∙ g.tag;
+      abort = ap (λ (x : Summary). x.abort) e ∙ g.abort;
+    }
 
 -- So it is cut where the connection so far is named.
-cut_left : (s : ScenarioValue) (k : OpenedValue) (item : Option Item) (lines : LineSet) (half : List ℕ) → is_named s k item ≡ true → IsCut s k item (closing_parts k lines half)
+cut_left : (s : ScenarioValue) (k : OpenedValue) (item : Option Item) (lines : LineSet) (half : List ℕ)
+    → is_named s k item ≡ true → IsCut s k item (closing_parts k lines half)
 cut_left s k item lines half named =
     let g = stands_cut s k item named in
     let e = closing_names k lines half in
     record {
       shown = λ refused p. closing_shown refused k lines half p;
       plain = λ id is. ap is_none e.abort ∙ g.plain id is;
-      named = λ id is talk. (λ i. is_of (record { initiator = k.connection.initiator; target = k.connection.target; unit = e.unit i; tag = e.tag i; number = 0 }) (array_of.process_of s id)) ∙ g.named id is talk;
+      named = λ id is talk. (λ i. is_of (record {
+        initiator = k.connection.initiator;
+        target = k.connection.target;
+        unit = e.unit i;
+        tag = e.tag i;
+        number = 0;
+      }) (array_of.process_of s id)) ∙ g.named id is talk;
     }
 
 -- ---- the row
 
-pub record CutRow (s : ScenarioValue) (rows : List Row) (row : Row) (h : StandsLinked s (transcribed rows) (story s rows)) : Type 0 where
+pub record CutRow (s : ScenarioValue) (rows : List Row) (row : Row)
+    (h : StandsLinked s (transcribed rows) (story s rows)) : Type 0 where
   pub on : (row_reading (story s rows).bus_state row).change.after.rst ≡ true
-  pub rst : rises (row_reading (story s rows).bus_state row).change.own.rst (row_reading (story s rows).bus_state row).change.next.rst ≡ true
+  pub rst : rises (row_reading (story s rows).bus_state row).change.own.rst
+      (row_reading (story s rows).bus_state row).change.next.rst
+      ≡ true
   pub over : ends_all s (story s rows) ≡ true
   pub named : is_named s h.opened h.link.item ≡ true
   pub less : length (names_begun (transcribed rows).items) < 4294967290
   pub numbered : AreNumbered (transcribed rows).processes (names_begun (transcribed rows).items)
   pub marked : (x : ProcId) → IsMarked (story s rows).history (carried_of (story s rows).carried x)
 
-pub reset_change : (t : TranscriberValue) (d : RowReading) (row : Row) → d.change.after.rst ≡ true → by_change t d row ≡ under_reset t d row
+pub reset_change : (t : TranscriberValue) (d : RowReading) (row : Row) → d.change.after.rst ≡ true
+    → by_change t d row ≡ under_reset t d row
 unfolding by_change
 reset_change t d row on = λ i. if on i then under_reset t d row else on_bus t t.bus_state.connection d.next d row
 
@@ -87,10 +107,13 @@ abbrev pub resets_of : RowReading → Row → List Event
 resets_of d row = if rises d.change.own.rst d.change.next.rst then Event.Reset row.dev ∷ [] else []
 
 pub reset_story : (s : ScenarioValue) (b : Story) (row : Row) (d : RowReading) → d.change.after.rst ≡ true
-    → story_by s b row d ≡ story_with_history (story_after_events s (record b { link = None }) (resets_of d row)) (bus_state_after b.bus_state row d) (resets_of d row) b.history
-reset_story s b row d on =
-    ap (λ (shown : List Event). story_with s b row d shown) (λ i. if on i then resets_of d row else link_events s b b.link d)
-    ∙ (λ i. story_with_history (story_after_events s (if on i then record b { link = None } else story_on_bus s b b.bus_state.connection d.next d row) (resets_of d row)) (bus_state_after b.bus_state row d) (resets_of d row) b.history)
+    → story_by s b row d ≡ story_with_history (story_after_events s (record b { link = None }) (resets_of d row))
+    (bus_state_after b.bus_state row d) (resets_of d row) b.history
+reset_story s b row d on = ap (λ (shown : List Event). story_with s b row d shown)
+    (λ i. if on i then resets_of d row else link_events s b b.link d)
+    ∙ (λ i. story_with_history (story_after_events s
+    (if on i then record b { link = None } else story_on_bus s b b.bus_state.connection d.next d row) (resets_of d row))
+    (bus_state_after b.bus_state row d) (resets_of d row) b.history)
 
 pub frees_openly : (before after : Option Connection) (time : ℕ) → IsOpenly (free_items before after time) []
 frees_openly None after time = record { names = refl; shown = λ refused sent names. refl }
@@ -98,7 +121,8 @@ frees_openly (Some n) None time = free_openly time
 frees_openly (Some n) (Some m) time = record { names = refl; shown = λ refused sent names. refl }
 
 -- A test that nothing in a list passes fails of what is in it.
-pub unlisted : (f : Item → Bool) (list : List Item) (x : ProcId) → not (list_any f list) ≡ true → has_item list (process x) ≡ true → f (process x) ≡ false
+pub unlisted : (f : Item → Bool) (list : List Item) (x : ProcId) → not (list_any f list) ≡ true
+    → has_item list (process x) ≡ true → f (process x) ≡ false
 unlisted f [] x none has = wrong' has
 unlisted f (item ∷ list) x none has = go (same_item item (process x)) refl has none (λ z w. unlisted f list x z w)
   where
@@ -110,8 +134,10 @@ unlisted f (item ∷ list) x none has = go (same_item item (process x)) refl has
     second true q z = wrong' z
     second false q z = z
 
-    go : (q : Bool) → same_item item (process x) ≡ q → (q || has_item list (process x)) ≡ true → not (f item || list_any f list) ≡ true
-        → (not (list_any f list) ≡ true → has_item list (process x) ≡ true → f (process x) ≡ false) → f (process x) ≡ false
+    go : (q : Bool) → same_item item (process x) ≡ q
+        → (q || has_item list (process x)) ≡ true → not (f item || list_any f list) ≡ true
+        → (not (list_any f list) ≡ true → has_item list (process x) ≡ true → f (process x) ≡ false)
+        → f (process x) ≡ false
     go true e h n rest = ap f (sym (item_is item (process x) e)) ∙ fails (f item) (list_any f list) n
     go false e h n rest = rest (second (f item) (list_any f list) n) h
 
@@ -119,7 +145,9 @@ unlisted f (item ∷ list) x none has = go (same_item item (process x)) refl has
 ends_same : (drops stops : CmdDef → Bool) (e : Ending) (n : ℕ) (commands : List CmdDef) (b c : Story) → b.sent ≡ c.sent
     → (story_with_ends drops stops e n commands b).sent ≡ (story_with_ends drops stops e n commands c).sent
 ends_same drops stops e n [] b c h = h
-ends_same drops stops e n (x ∷ commands) b c h = ends_same drops stops e (n + 1) commands (after b) (after c) ((λ i. (after (record b { sent = h i })).sent) ∙ go (is_open c.sent n && drops x) (stops x && list_any (λ k. k == n) c.sent.checks))
+ends_same drops stops e n (x ∷ commands) b c h =
+    ends_same drops stops e (n + 1) commands (after b) (after c) ((λ i. (after (record b { sent = h i })).sent)
+    ∙ go (is_open c.sent n && drops x) (stops x && list_any (λ k. k == n) c.sent.checks))
   where
     after : Story → Story
     after a =
@@ -127,30 +155,48 @@ ends_same drops stops e n (x ∷ commands) b c h = ends_same drops stops e (n + 
         else if stops x && list_any (λ k. k == n) a.sent.checks then story_with_over a (sense_item n)
         else a
 
-    go : (q r : Bool)
-        → (if q then story_with_end (record b { sent = c.sent }) (record { command = n; sense = false }) e else if r then story_with_over (record b { sent = c.sent }) (sense_item n) else record b { sent = c.sent }).sent ≡ (if q then story_with_end c (record { command = n; sense = false }) e else if r then story_with_over c (sense_item n) else c).sent
+    go : (q r : Bool) → (if q then story_with_end (record b { sent = c.sent }) (record { command = n; sense = false }) e
+        else if r then story_with_over (record b { sent = c.sent }) (sense_item n) else record b { sent = c.sent }).sent
+        ≡ (if q then story_with_end c (record { command = n; sense = false }) e
+        else if r then story_with_over c (sense_item n) else c).sent
     go true r = refl
     go false true = refl
     go false false = refl
 
 -- ---- what stands
 
-pub cut_next : (s : ScenarioValue) (rows : List Row) (row : Row) (h : StandsLinked s (transcribed rows) (story s rows)) → CutRow s rows row h → Standing s (row ∷ rows)
-cut_next s rows row h r = over_next s rows row u (free_items (transcribed rows).bus_state.connection (row_reading (transcribed rows).bus_state row).next row.time) c shown (record {
-  transcript_is =
-      reset_change (transcribed rows) dt row (ap (λ (d : RowReading). d.change.after.rst) same ∙ r.on)
-      ∙ (λ i. with_items (with_items (left_closed s rows row h false i) (if rst_path i then items.Reset row.dev ∷ [] else [])) (free_items (transcribed rows).bus_state.connection dt.next row.time));
-  story_is =
-      reset_story s (story s rows) row (row_reading (story s rows).bus_state row) r.on
-      ∙ (λ i. story_on s rows row (story_after_events s (record (story s rows) { link = None }) (if r.rst i then Event.Reset row.dev ∷ [] else [])) (if r.rst i then Event.Reset row.dev ∷ [] else []));
-  opened = closed_opened (transcribed rows) n parts false sum;
-  link = keeps.1;
-  numbered = subst (λ (names : List Name). AreNumbered closed.processes names) (sym (names_append closed.items (items.Reset row.dev ∷ []) ∙ append-nil (names_begun closed.items))) (closed_numbered (transcribed rows) n parts false sum r.less r.numbered);
-  openly = frees_openly (transcribed rows).bus_state.connection dt.next row.time;
-  past = subst (λ (sent : List Item). IsPast (closed.items ++ items.Reset row.dev ∷ []) sent (Event.Reset row.dev ∷ (story s rows).history)) (sym order) (openly_past closed.items (items.Reset row.dev ∷ []) (sent_order (story s rows)) (Event.Reset row.dev ∷ []) (story s rows).history (reset_openly row.dev) (tt, tt) (subst (λ (list : List item_of.Item). IsPast list (sent_order (story s rows)) (story s rows).history) (sym (closed_items (transcribed rows) n parts false sum)) (cut_past s (transcribed rows) (story s rows) h parts (cut_left s h.opened h.link.item (story s rows).bus_state.bus (story s rows).bus_state.dialogue.half r.named))));
-  marked = λ x. let m = subst (λ (all : List CarriedBytes). IsMarked (story s rows).history (carried_of all x)) (sym keeps.0) (r.marked x) in record { refused = m.refused; shown = m.shown; apart = m.apart; saved = m.saved };
-  kept = λ x o no. wrong (sym o ∙ unlisted (λ item. is_open_process c.sent item) c.sent.sent x none_open (and_first (has_item c.sent.sent (process x)) (not (has_item c.sent.over (process x))) o));
-})
+pub cut_next : (s : ScenarioValue) (rows : List Row) (row : Row) (h : StandsLinked s (transcribed rows) (story s rows))
+    → CutRow s rows row h → Standing s (row ∷ rows)
+cut_next s rows row h r = over_next s rows row u (free_items (transcribed rows).bus_state.connection
+    (row_reading (transcribed rows).bus_state row).next row.time) c shown (record {
+      transcript_is = reset_change (transcribed rows) dt row (ap (λ (d : RowReading). d.change.after.rst) same ∙ r.on)
+          ∙ (λ i. with_items
+          (with_items (left_closed s rows row h false i) (if rst_path i then items.Reset row.dev ∷ [] else []))
+          (free_items (transcribed rows).bus_state.connection dt.next row.time));
+      story_is = reset_story s (story s rows) row (row_reading (story s rows).bus_state row) r.on
+          ∙ (λ i. story_on s rows row (story_after_events s (record (story s rows) { link = None })
+          (if r.rst i then Event.Reset row.dev ∷ [] else [])) (if r.rst i then Event.Reset row.dev ∷ [] else []));
+      opened = closed_opened (transcribed rows) n parts false sum;
+      link = keeps.1;
+      numbered = subst (λ (names : List Name). AreNumbered closed.processes names)
+          (sym (names_append closed.items (items.Reset row.dev ∷ []) ∙ append-nil (names_begun closed.items)))
+          (closed_numbered (transcribed rows) n parts false sum r.less r.numbered);
+      openly = frees_openly (transcribed rows).bus_state.connection dt.next row.time;
+      past = subst (λ (sent : List Item). IsPast (closed.items ++ items.Reset row.dev ∷ []) sent
+          (Event.Reset row.dev ∷ (story s rows).history)) (sym order)
+          (openly_past closed.items (items.Reset row.dev ∷ []) (sent_order (story s rows))
+          (Event.Reset row.dev ∷ []) (story s rows).history (reset_openly row.dev) (tt, tt)
+          (subst (λ (list : List item_of.Item). IsPast list (sent_order (story s rows)) (story s rows).history)
+          (sym (closed_items (transcribed rows) n parts false sum))
+          (cut_past s (transcribed rows) (story s rows) h parts (cut_left s h.opened h.link.item
+          (story s rows).bus_state.bus (story s rows).bus_state.dialogue.half r.named))));
+      marked = λ x.
+          let m = subst (λ (all : List CarriedBytes). IsMarked (story s rows).history (carried_of all x))
+          (sym keeps.0) (r.marked x) in
+          record { refused = m.refused; shown = m.shown; apart = m.apart; saved = m.saved };
+      kept = λ x o no. wrong (sym o ∙ unlisted (λ item. is_open_process c.sent item) c.sent.sent x none_open
+          (and_first (has_item c.sent.sent (process x)) (not (has_item c.sent.over (process x))) o));
+    })
   where
     n : Connection
     n = h.opened.connection
@@ -179,15 +225,20 @@ cut_next s rows row h r = over_next s rows row u (free_items (transcribed rows).
     same : row_reading (transcribed rows).bus_state row ≡ row_reading (story s rows).bus_state row
     same = reading_same (transcribed rows).bus_state (story s rows).bus_state row (buses_alike s rows)
 
-    rst_path : rises (row_reading (transcribed rows).bus_state row).change.own.rst (row_reading (transcribed rows).bus_state row).change.next.rst ≡ true
+    rst_path : rises (row_reading (transcribed rows).bus_state row).change.own.rst
+        (row_reading (transcribed rows).bus_state row).change.next.rst
+        ≡ true
     rst_path = ap (λ (d : RowReading). rises d.change.own.rst d.change.next.rst) same ∙ r.rst
 
-    keeps : ((story_after_events s (record (story s rows) { link = None }) (Event.Reset row.dev ∷ [])).carried ≡ (story s rows).carried) × ((story_after_events s (record (story s rows) { link = None }) (Event.Reset row.dev ∷ [])).link ≡ None)
+    keeps : ((story_after_events s (record (story s rows) { link = None }) (Event.Reset row.dev ∷ [])).carried
+        ≡ (story s rows).carried)
+        × ((story_after_events s (record (story s rows) { link = None }) (Event.Reset row.dev ∷ [])).link ≡ None)
     keeps = ends_keep (λ x. true) (λ x. true) by_reset 1 s.commands (record (story s rows) { link = None })
 
     order : sent_order c ≡ sent_order (story s rows)
     order = ap (λ (list : List Item). reverse list) (events_sent s (record (story s rows) { link = None }) shown)
 
     none_open : not (list_any (λ item. is_open_process c.sent item) c.sent.sent) ≡ true
-    none_open =
-        ap (λ (sent : Sent). not (list_any (λ item. is_open_process sent item) sent.sent)) (ends_same (λ x. true) (λ x. true) by_reset 1 s.commands (record (story s rows) { link = None }) (story s rows) refl) ∙ r.over
+    none_open = ap (λ (sent : Sent). not (list_any (λ item. is_open_process sent item) sent.sent)) (ends_same
+        (λ x. true) (λ x. true) by_reset 1 s.commands (record (story s rows) { link = None }) (story s rows) refl)
+        ∙ r.over

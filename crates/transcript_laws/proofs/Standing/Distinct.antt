@@ -15,39 +15,49 @@ pub zero_number : (o : Option Process) (name : Name) → (process_after false tr
 zero_number None name = refl
 zero_number (Some p) name = refl
 
-one_more : (t : TranscriberValue) (n : Connection) (sum : Summary) → n.reselected ≡ false → length (names_begun t.items) < 4294967290
-    → AreNumbered t.processes (names_begun t.items) → AreDistinct (names_begun t.items ++ (process_for t n sum).name ∷ [])
+one_more : (t : TranscriberValue) (n : Connection) (sum : Summary) → n.reselected ≡ false
+    → length (names_begun t.items) < 4294967290 → AreNumbered t.processes (names_begun t.items)
+    → AreDistinct (names_begun t.items ++ (process_for t n sum).name ∷ [])
 one_more t n sum began less h =
-    by_bool (is_some sum.abort)
-    (λ e. (abort_numbered t.processes (names_begun t.items) (process_for t n sum).name (ap (λ (x : Name). x.number) (is true e) ∙ zero_number (process_of t.processes (name_of n sum)) (name_of n sum)) h).distinct)
-    (λ e. (first_numbered t.processes (names_begun t.items) (name_of n sum) (process_for t n sum) less (is false e) h).distinct)
+    by_bool (is_some sum.abort) (λ e. (abort_numbered t.processes (names_begun t.items) (process_for t n sum).name
+    (ap (λ (x : Name). x.number) (is true e) ∙ zero_number (process_of t.processes (name_of n sum)) (name_of n sum))
+    h).distinct) (λ e. (first_numbered t.processes (names_begun t.items) (name_of n sum) (process_for t n sum) less
+    (is false e) h).distinct)
   where
-    is : (q : Bool) → is_some sum.abort ≡ q → (process_for t n sum).name ≡ (process_after false q (process_of t.processes (name_of n sum)) (name_of n sum)).name
+    is : (q : Bool) → is_some sum.abort ≡ q → (process_for t n sum).name
+        ≡ (process_after false q (process_of t.processes (name_of n sum)) (name_of n sum)).name
     is q e = λ i. (process_after (began i) (e i) (process_of t.processes (name_of n sum)) (name_of n sum)).name
 
 -- ---- all names
 
-pub distinct_names : (s : ScenarioValue) (rows : List Row) → length (names_begun (transcribed rows).items) < 4294967290 → Standing s rows
-    → AreDistinct (names_begun (transcript_of rows))
+pub distinct_names : (s : ScenarioValue) (rows : List Row) → length (names_begun (transcribed rows).items) < 4294967290
+    → Standing s rows → AreDistinct (names_begun (transcript_of rows))
 distinct_names s rows less h = go h.stands
   where
     t : TranscriberValue
     t = transcribed rows
 
     by_kind : (k : OpenedValue) (q : Bool) → k.connection.reselected ≡ q
-        → AreDistinct (names_begun (transcribed rows).items ++ (if q then [] else (process_for (transcribed rows) k.connection (summary_by k.connection (parts_now k))).name ∷ []))
+        → AreDistinct (names_begun (transcribed rows).items ++ (if q then []
+        else (process_for (transcribed rows) k.connection (summary_by k.connection (parts_now k))).name ∷ []))
     by_kind k true e = subst AreDistinct (sym (append-nil (names_begun (transcribed rows).items))) h.numbered.distinct
-    by_kind k false e = one_more (transcribed rows) k.connection (summary_by k.connection (parts_now k)) e less h.numbered
+    by_kind k false e =
+        one_more (transcribed rows) k.connection (summary_by k.connection (parts_now k)) e less h.numbered
 
-    names : (k : OpenedValue)
-        → names_begun (finished_if (transcribed rows) (Some k)).items ≡ names_begun (transcribed rows).items ++ (if k.connection.reselected then [] else (process_for (transcribed rows) k.connection (summary_by k.connection (parts_now k))).name ∷ [])
+    names : (k : OpenedValue) → names_begun (finished_if (transcribed rows) (Some k)).items
+        ≡ names_begun (transcribed rows).items ++ (if k.connection.reselected then []
+        else (process_for (transcribed rows) k.connection (summary_by k.connection (parts_now k))).name ∷ [])
     names k =
         let sum : Summary = summary_by k.connection (parts_now k) in
         let p : Process = process_for t k.connection sum in
         ap (λ (list : List item_of.Item). names_begun list) (standing_items t k)
         ∙ names_append t.items (connection_items k.connection p (parts_now k) false sum)
-        ∙ ap (λ (list : List Name). names_begun t.items ++ list) (connection_names k.connection p (parts_now k) false sum)
+        ∙ ap (λ (list : List Name). names_begun t.items ++ list)
+        (connection_names k.connection p (parts_now k) false sum)
 
     go : StandsBy s (transcribed rows) (story s rows) → AreDistinct (names_begun (transcript_of rows))
-    go (apart x) = subst (λ (o : Option OpenedValue). AreDistinct (names_begun (finished_if t o).items)) (sym x.opened_is) h.numbered.distinct
-    go (linked x) = subst (λ (o : Option OpenedValue). AreDistinct (names_begun (finished_if t o).items)) (sym x.opened_is) (subst AreDistinct (sym (names x.opened)) (by_kind x.opened x.opened.connection.reselected refl))
+    go (apart x) = subst (λ (o : Option OpenedValue). AreDistinct (names_begun (finished_if t o).items))
+        (sym x.opened_is) h.numbered.distinct
+    go (linked x) =
+        subst (λ (o : Option OpenedValue). AreDistinct (names_begun (finished_if t o).items)) (sym x.opened_is)
+        (subst AreDistinct (sym (names x.opened)) (by_kind x.opened x.opened.connection.reselected refl))

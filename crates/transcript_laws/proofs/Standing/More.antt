@@ -21,7 +21,8 @@ same_more t u e = record { more = []; items_are = e ∙ sym (append-nil t.items)
 -- These begin no name.
 then_more : (t u : TranscriberValue) (xs : List Item) → names_begun xs ≡ [] → HasMore t u → HasMore t (with_items u xs)
 then_more t u xs none h =
-    let same : length (names_begun (h.more ++ xs)) ≡ length (names_begun h.more) = ap length (names_append h.more xs ∙ ap (λ (list : List Name). names_begun h.more ++ list) none ∙ append-nil (names_begun h.more)) in
+    let same : length (names_begun (h.more ++ xs)) ≡ length (names_begun h.more) = ap length (names_append h.more xs
+    ∙ ap (λ (list : List Name). names_begun h.more ++ list) none ∙ append-nil (names_begun h.more)) in
     let few = h.one in
     record {
       more = h.more ++ xs;
@@ -58,56 +59,74 @@ one_name : (q : Bool) (name : Name) → length (if q then [] else name ∷ []) �
 one_name true name = omega arith
 one_name false name = omega arith
 
-closing_more : (t : TranscriberValue) (n : Connection) (parts : List Part) (free : Bool) (sum : Summary) → HasMore t (closed_by t n parts free sum)
+closing_more : (t : TranscriberValue) (n : Connection) (parts : List Part) (free : Bool) (sum : Summary)
+    → HasMore t (closed_by t n parts free sum)
 closing_more t n parts free sum =
     let p = process_for t n sum in
-    let same : length (names_begun (connection_items n p parts free sum)) ≡ length (if n.reselected then [] else p.name ∷ []) = ap length (connection_names n p parts free sum) in
+    let same : length (names_begun (connection_items n p parts free sum))
+    ≡ length (if n.reselected then [] else p.name ∷ []) = ap length (connection_names n p parts free sum) in
     let few = one_name n.reselected p.name in
-    record { more = connection_items n p parts free sum; items_are = closed_items t n parts free sum; one = omega (arith, same, few) }
+    record {
+      more = connection_items n p parts free sum;
+      items_are = closed_items t n parts free sum;
+      one = omega (arith, same, few);
+    }
 
-closed_more : (t : TranscriberValue) (o : Option OpenedValue) (d : RowReading) (free : Bool) → HasMore t (closed_if t o d free)
+closed_more : (t : TranscriberValue) (o : Option OpenedValue) (d : RowReading) (free : Bool)
+    → HasMore t (closed_if t o d free)
 closed_more t None d free = same_more t t refl
 closed_more t (Some k) d free =
     let l : OpenedValue = settled (phase_over k d.change.before t.bus_state.dialogue.half false) false in
     closing_more t l.connection l.parts free (summary_of l.connection.reselected no_summary l.parts)
 
-free_more : (t : TranscriberValue) (q : Bool) (time : ℕ) → HasMore t (if q then with_items t (unanswered_items t.bus_state.call time) else t)
-free_more t true time = then_more t t (unanswered_items t.bus_state.call time) (unanswered_unnamed t.bus_state.call time) (same_more t t refl)
+free_more : (t : TranscriberValue) (q : Bool) (time : ℕ)
+    → HasMore t (if q then with_items t (unanswered_items t.bus_state.call time) else t)
+free_more t true time = then_more t t (unanswered_items t.bus_state.call time)
+    (unanswered_unnamed t.bus_state.call time) (same_more t t refl)
 free_more t false time = same_more t t refl
 
-in_more : (t : TranscriberValue) (o : Option OpenedValue) (d : RowReading) (row : Row) → HasMore t (in_connection t o d row.kind)
+in_more : (t : TranscriberValue) (o : Option OpenedValue) (d : RowReading) (row : Row)
+    → HasMore t (in_connection t o d row.kind)
 in_more t None d row = same_more t t refl
 in_more t (Some k) d row = same_more t _ refl
 
-bus_more : (t : TranscriberValue) (m n : Option Connection) (d : RowReading) (row : Row) → HasMore t (on_bus t m n d row)
+bus_more : (t : TranscriberValue) (m n : Option Connection) (d : RowReading) (row : Row)
+    → HasMore t (on_bus t m n d row)
 bus_more t None None d row = free_more t (falls d.change.before.sel d.change.after.sel) row.time
 bus_more t None (Some n) d row = same_more t (record t { opened = Some (opened_connection n) }) refl
-bus_more t (Some m) None d row = then_more t (closed_if t t.opened d true) (Item.Free row.time ∷ []) refl (closed_more t t.opened d true)
+bus_more t (Some m) None d row =
+    then_more t (closed_if t t.opened d true) (Item.Free row.time ∷ []) refl (closed_more t t.opened d true)
 bus_more t (Some m) (Some n) d row = in_more t t.opened d row
 
-row_more : (q : Bool) (t : TranscriberValue) (d : RowReading) (row : Row) → HasMore t (if q then under_reset t d row else on_bus t t.bus_state.connection d.next d row)
-row_more true t d row =
-    then_more t (with_items (closed_if t t.opened d false) (reset_items d.change row.dev)) (free_items t.bus_state.connection d.next row.time) (free_unnamed t.bus_state.connection d.next row.time)
-    (then_more t (closed_if t t.opened d false) (reset_items d.change row.dev) (reset_unnamed d.change row.dev) (closed_more t t.opened d false))
+row_more : (q : Bool) (t : TranscriberValue) (d : RowReading) (row : Row)
+    → HasMore t (if q then under_reset t d row else on_bus t t.bus_state.connection d.next d row)
+row_more true t d row = then_more t (with_items (closed_if t t.opened d false) (reset_items d.change row.dev))
+    (free_items t.bus_state.connection d.next row.time) (free_unnamed t.bus_state.connection d.next row.time)
+    (then_more t (closed_if t t.opened d false) (reset_items d.change row.dev) (reset_unnamed d.change row.dev)
+    (closed_more t t.opened d false))
 row_more false t d row = bus_more t t.bus_state.connection d.next d row
 
 change_more : (t : TranscriberValue) (d : RowReading) (row : Row) → HasMore t (by_change t d row)
 unfolding by_change
 change_more t d row = row_more d.change.after.rst t d row
 
-names_with : (xs ys more : List Item) → ys ≡ xs ++ more → length (names_begun ys) ≡ length (names_begun xs) + length (names_begun more)
-names_with xs ys more e = ap (λ (list : List Item). length (names_begun list)) e ∙ ap length (names_append xs more) ∙ length-append (names_begun xs) (names_begun more)
+names_with : (xs ys more : List Item) → ys ≡ xs ++ more
+    → length (names_begun ys) ≡ length (names_begun xs) + length (names_begun more)
+names_with xs ys more e = ap (λ (list : List Item). length (names_begun list)) e ∙ ap length (names_append xs more)
+    ∙ length-append (names_begun xs) (names_begun more)
 
 names_more : (xs ys more : List Item) → ys ≡ xs ++ more → length (names_begun xs) ≤ length (names_begun ys)
 names_more xs ys more e = let same = names_with xs ys more e in omega (arith, same)
 
 -- The names with it.
-pub names_grow : (rows : List Row) (row : Row) → length (names_begun (transcribed rows).items) ≤ length (names_begun (transcribed (row ∷ rows)).items)
+pub names_grow : (rows : List Row) (row : Row)
+    → length (names_begun (transcribed rows).items) ≤ length (names_begun (transcribed (row ∷ rows)).items)
 names_grow rows row =
     let h = change_more (transcribed rows) (row_reading (transcribed rows).bus_state row) row in
     names_more (transcribed rows).items (transcribed (row ∷ rows)).items h.more h.items_are
 
-pub names_one : (rows : List Row) (row : Row) → length (names_begun (transcribed (row ∷ rows)).items) ≤ length (names_begun (transcribed rows).items) + 1
+pub names_one : (rows : List Row) (row : Row)
+    → length (names_begun (transcribed (row ∷ rows)).items) ≤ length (names_begun (transcribed rows).items) + 1
 names_one rows row =
     let h = change_more (transcribed rows) (row_reading (transcribed rows).bus_state row) row in
     let same = names_with (transcribed rows).items (transcribed (row ∷ rows)).items h.more h.items_are in
@@ -115,11 +134,15 @@ names_one rows row =
     omega (arith, same, few)
 
 -- And with the connection that still stands.
-pub names_end : (rows : List Row) → length (names_begun (transcribed rows).items) ≤ length (names_begun (transcript_of rows))
+pub names_end :
+    (rows : List Row) → length (names_begun (transcribed rows).items) ≤ length (names_begun (transcript_of rows))
 names_end rows = go (transcribed rows).opened
   where
-    go : (o : Option OpenedValue) → length (names_begun (transcribed rows).items) ≤ length (names_begun (finished_if (transcribed rows) o).items)
-    go None = names_more (transcribed rows).items (transcribed rows).items [] (sym (append-nil (transcribed rows).items))
+    go : (o : Option OpenedValue)
+        → length (names_begun (transcribed rows).items) ≤ length (names_begun (finished_if (transcribed rows) o).items)
+    go None =
+        names_more (transcribed rows).items (transcribed rows).items [] (sym (append-nil (transcribed rows).items))
     go (Some k) =
         let l : OpenedValue = settled (spoken k) false in
-        names_more (transcribed rows).items (finished_if (transcribed rows) (Some k)).items _ (closed_items (transcribed rows) l.connection l.parts false (summary_of l.connection.reselected no_summary l.parts))
+        names_more (transcribed rows).items (finished_if (transcribed rows) (Some k)).items _ (closed_items
+        (transcribed rows) l.connection l.parts false (summary_of l.connection.reselected no_summary l.parts))

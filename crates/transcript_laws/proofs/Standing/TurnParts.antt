@@ -1,4 +1,5 @@
--- The parts of a connection as its next phase begins: what they say of the phase that was left, and of what MESSAGE PARITY ERROR would bring back.
+-- The parts of a connection as its next phase begins: what they say of the phase that was left, and of what MESSAGE
+-- PARITY ERROR would bring back.
 use Rattle.transcript_laws.proofs
 use proofs.Names.{ℕ, ◌≡◌, ◌∙◌, ◌==◌, Bool, true, false, not, ◌&&◌, ◌||◌, List, [], ◌∷◌, ◌++◌, refl, sym, ap, eqb-true}
 use proofs.Names.{if◌then◌else◌, wrong, wrong', and_first, and_second, Event, ProcId, LineSet, is_command, is_data}
@@ -27,7 +28,8 @@ entered k l false h = h
 pub is_turned : (k : OpenedValue) (s after : LineSet) (half : List ℕ) → IsTurned k (turned k s after half)
 is_turned k s after half =
     let h = over_keeps k s half true in
-    entered k (phase_over k s half true) (is_status_phase after) (record { connection = h.connection; bytes = h.bytes; said = h.said })
+    entered k (phase_over k s half true) (is_status_phase after)
+    (record { connection = h.connection; bytes = h.bytes; said = h.said })
 
 -- ---- where all parts are messages
 
@@ -43,34 +45,40 @@ no_status_part true e = wrong' e
 no_status_part false e = refl
 
 no_command_part : (q r out : Bool) (bytes : List ℕ) (struck : Bool)
-    → are_talk (if q then Part.Command bytes struck true ∷ [] else if r then data_parts out bytes else []) ≡ true → q ≡ false
+    → are_talk (if q then Part.Command bytes struck true ∷ [] else if r then data_parts out bytes else []) ≡ true
+    → q ≡ false
 no_command_part true r out bytes struck e = wrong' e
 no_command_part false r out bytes struck e = refl
 
 no_data_part : (q r out : Bool) (bytes : List ℕ) (struck : Bool)
-    → are_talk (if q then Part.Command bytes struck true ∷ [] else if r then data_parts out bytes else []) ≡ true → r ≡ true → bytes ≡ []
+    → are_talk (if q then Part.Command bytes struck true ∷ [] else if r then data_parts out bytes else []) ≡ true
+    → r ≡ true → bytes ≡ []
 no_data_part true r out bytes struck e f = wrong' e
 no_data_part false true out [] struck e f = refl
 no_data_part false true out (b ∷ bytes) struck e f = wrong' e
 no_data_part false false out bytes struck e f = wrong' f
 
-pub talk_parts : (k : OpenedValue) (s after : LineSet) (half : List ℕ) → are_talk (base_parts (turned k s after half)) ≡ true → IsTalk k s after
+pub talk_parts : (k : OpenedValue) (s after : LineSet) (half : List ℕ)
+    → are_talk (base_parts (turned k s after half)) ≡ true → IsTalk k s after
 talk_parts k s after half talk =
     let all = sym (ap are_talk (base_turned k s after half)) ∙ talk in
     let last = if is_status_phase after then Part.StatusPhase ∷ [] else [] in
     let two = talk_first ((parts_now k ++ broken_parts s half) ++ phase_parts k s true) last all in
     let phase = talk_second (parts_now k ++ broken_parts s half) (phase_parts k s true) two in
-    let one = talk_first (parts_now k) (broken_parts s half) (talk_first (parts_now k ++ broken_parts s half) (phase_parts k s true) two) in
+    let one = talk_first (parts_now k) (broken_parts s half)
+    (talk_first (parts_now k ++ broken_parts s half) (phase_parts k s true) two) in
     record {
       base = talk_first (base_parts k) (out_parts k.said) one;
       command = no_command_part (is_command s) (is_data s) (not s.io) k.bytes k.struck phase;
-      status = no_status_part (is_status_phase after) (talk_second ((parts_now k ++ broken_parts s half) ++ phase_parts k s true) last all);
+      status = no_status_part (is_status_phase after)
+          (talk_second ((parts_now k ++ broken_parts s half) ++ phase_parts k s true) last all);
       bytes = λ e. no_data_part (is_command s) (is_data s) (not s.io) k.bytes k.struck phase e;
     }
 
 -- ---- its process is known
 
-turned_by : (re t t' q a : Bool) → (t' ≡ true → (t ≡ true) × (q ≡ false)) → (not re || not t || q) ≡ true → (not re || not t' || a) ≡ true
+turned_by : (re t t' q a : Bool) → (t' ≡ true → (t ≡ true) × (q ≡ false)) → (not re || not t || q) ≡ true
+    → (not re || not t' || a) ≡ true
 turned_by false t t' q a f e = refl
 turned_by true t false q a f e = refl
 turned_by true true true true a f e = wrong (f refl).1
@@ -78,12 +86,16 @@ turned_by true true true false a f e = wrong' e
 turned_by true false true q a f e = wrong' (f refl).0
 
 -- It was known before.
-pub known_stays : (k : OpenedValue) (s after : LineSet) (half : List ℕ) → is_known k s ≡ true → is_known (turned k s after half) after ≡ true
+pub known_stays : (k : OpenedValue) (s after : LineSet) (half : List ℕ) → is_known k s ≡ true
+    → is_known (turned k s after half) after ≡ true
 known_stays k s after half e =
-    ap (λ (n : Connection). not n.reselected || not (are_talk (base_parts (turned k s after half))) || is_command after) (is_turned k s after half).connection
-    ∙ turned_by k.connection.reselected (are_talk (base_parts k)) (are_talk (base_parts (turned k s after half))) (is_command s) (is_command after) (λ talk. let g = talk_parts k s after half talk in (g.base, g.command)) e
+    ap (λ (n : Connection). not n.reselected || not (are_talk (base_parts (turned k s after half))) || is_command after)
+    (is_turned k s after half).connection
+    ∙ turned_by k.connection.reselected (are_talk (base_parts k)) (are_talk (base_parts (turned k s after half)))
+    (is_command s) (is_command after) (λ talk. let g = talk_parts k s after half talk in (g.base, g.command)) e
 
-gets_by : (re t' a v z : Bool) → (t' ≡ true → (v ≡ false) × (z ≡ true)) → (a || v || not z) ≡ true → (not re || not t' || a) ≡ true
+gets_by : (re t' a v z : Bool) → (t' ≡ true → (v ≡ false) × (z ≡ true)) → (a || v || not z) ≡ true
+    → (not re || not t' || a) ≡ true
 gets_by false t' a v z f e = refl
 gets_by true false a v z f e = refl
 gets_by true true true v z f e = refl
@@ -92,11 +104,15 @@ gets_by true true false false true f e = wrong' e
 gets_by true true false false false f e = wrong' (f refl).1
 
 -- It becomes known with COMMAND, STATUS, or bytes of data.
-pub known_then : (k : OpenedValue) (s after : LineSet) (half : List ℕ) → (is_data s ≡ false → k.bytes ≡ [])
-    → (is_command after || is_status_phase after || not (is_nil k.bytes)) ≡ true → is_known (turned k s after half) after ≡ true
+pub known_then : (k : OpenedValue) (s after : LineSet) (half : List ℕ)
+    → (is_data s ≡ false → k.bytes ≡ []) → (is_command after || is_status_phase after || not (is_nil k.bytes)) ≡ true
+    → is_known (turned k s after half) after ≡ true
 known_then k s after half empty e =
-    ap (λ (n : Connection). not n.reselected || not (are_talk (base_parts (turned k s after half))) || is_command after) (is_turned k s after half).connection
-    ∙ gets_by k.connection.reselected (are_talk (base_parts (turned k s after half))) (is_command after) (is_status_phase after) (is_nil k.bytes) (λ talk. let g = talk_parts k s after half talk in (g.status, ap is_nil (by_data g (is_data s) refl))) e
+    ap (λ (n : Connection). not n.reselected || not (are_talk (base_parts (turned k s after half))) || is_command after)
+    (is_turned k s after half).connection
+    ∙ gets_by k.connection.reselected (are_talk (base_parts (turned k s after half)))
+    (is_command after) (is_status_phase after) (is_nil k.bytes)
+    (λ talk. let g = talk_parts k s after half talk in (g.status, ap is_nil (by_data g (is_data s) refl))) e
   where
     by_data : IsTalk k s after → (q : Bool) → is_data s ≡ q → k.bytes ≡ []
     by_data g true f = g.bytes f
@@ -104,7 +120,8 @@ known_then k s after half empty e =
 
 -- ---- no part came after the last message
 
-entered_since : (k : OpenedValue) (q : Bool) → (if q then with_part k Part.StatusPhase else k).since ≡ [] → (q ≡ false) × (k.since ≡ [])
+entered_since : (k : OpenedValue) (q : Bool) → (if q then with_part k Part.StatusPhase else k).since ≡ []
+    → (q ≡ false) × (k.since ≡ [])
 entered_since k true e = absurd (filled_since k.since e)
   where
     filled_since : (xs : List Part) → (xs ++ Part.StatusPhase ∷ []) ≡ [] → ⊥
@@ -113,7 +130,8 @@ entered_since k true e = absurd (filled_since k.since e)
 entered_since k false e = (refl, e)
 
 -- Something is said.
-all_since : {A : Type 0} (k : OpenedValue) (m : MsgOut) (said : List MsgOut) → (with_all_out k (m ∷ said)).since ≡ [] → A
+all_since : {A : Type 0} (k : OpenedValue) (m : MsgOut) (said : List MsgOut) → (with_all_out k (m ∷ said)).since ≡ []
+    → A
 all_since k m [] e = absurd cc
 all_since k m (x ∷ said) e = all_since (with_out k m) x said e
 
@@ -124,7 +142,8 @@ spoken_since k e = go k.said refl e
     go [] f z = z
     go (m ∷ said) f z = all_since (record k { said = [] }) m said z
 
-no_phase_command : (k : OpenedValue) (q r out left : Bool) → (if q then Part.Command k.bytes k.struck left ∷ [] else if r then data_parts out k.bytes else []) ≡ [] → q ≡ false
+no_phase_command : (k : OpenedValue) (q r out left : Bool)
+    → (if q then Part.Command k.bytes k.struck left ∷ [] else if r then data_parts out k.bytes else []) ≡ [] → q ≡ false
 no_phase_command k true r out left e = absurd cc
 no_phase_command k false r out left e = refl
 
@@ -137,7 +156,8 @@ pub record IsQuiet (k : OpenedValue) (s after : LineSet) (half : List ℕ) : Typ
   pub status : is_status_phase after ≡ false
   pub since : (is_message_in s && not (is_nil half)) ≡ false → k.since ≡ []
 
-pub quiet_since : (k : OpenedValue) (s after : LineSet) (half : List ℕ) → (turned k s after half).since ≡ [] → IsQuiet k s after half
+pub quiet_since : (k : OpenedValue) (s after : LineSet) (half : List ℕ) → (turned k s after half).since ≡ []
+    → IsQuiet k s after half
 quiet_since k s after half e =
     let one = entered_since (phase_over k s half true) (is_status_phase after) e in
     let cut : OpenedValue = if is_message_in s && not (is_nil half) then with_in (spoken k) Broken else spoken k in
@@ -161,19 +181,38 @@ pub record IsSameCarried (u c : CarriedBytes) : Type 0 where
 
 pub alike_is : (u c : CarriedBytes) → is_alike u c ≡ true → IsSameCarried u c
 alike_is u c e =
-    let six = and_first (same_bytes u.block c.block && same_bool u.struck c.struck && same_bytes u.status.bytes c.status.bytes && u.status.active == c.status.active && u.status.saved == c.status.saved && same_bool u.shown c.shown) (same_bool u.refused c.refused) e in
-    let five = and_first (same_bytes u.block c.block && same_bool u.struck c.struck && same_bytes u.status.bytes c.status.bytes && u.status.active == c.status.active && u.status.saved == c.status.saved) (same_bool u.shown c.shown) six in
-    let four = and_first (same_bytes u.block c.block && same_bool u.struck c.struck && same_bytes u.status.bytes c.status.bytes && u.status.active == c.status.active) (u.status.saved == c.status.saved) five in
-    let three = and_first (same_bytes u.block c.block && same_bool u.struck c.struck && same_bytes u.status.bytes c.status.bytes) (u.status.active == c.status.active) four in
-    let two = and_first (same_bytes u.block c.block && same_bool u.struck c.struck) (same_bytes u.status.bytes c.status.bytes) three in
+    let six = and_first (same_bytes u.block c.block && same_bool u.struck c.struck
+    && same_bytes u.status.bytes c.status.bytes && u.status.active == c.status.active
+    && u.status.saved == c.status.saved && same_bool u.shown c.shown) (same_bool u.refused c.refused) e in
+    let five = and_first
+    (same_bytes u.block c.block && same_bool u.struck c.struck && same_bytes u.status.bytes c.status.bytes
+    && u.status.active == c.status.active && u.status.saved == c.status.saved) (same_bool u.shown c.shown) six in
+    let four = and_first (same_bytes u.block c.block && same_bool u.struck c.struck
+    && same_bytes u.status.bytes c.status.bytes && u.status.active == c.status.active)
+    (u.status.saved == c.status.saved) five in
+    let three = and_first (same_bytes u.block c.block && same_bool u.struck c.struck
+    && same_bytes u.status.bytes c.status.bytes) (u.status.active == c.status.active) four in
+    let two = and_first (same_bytes u.block c.block && same_bool u.struck c.struck)
+    (same_bytes u.status.bytes c.status.bytes) three in
     record {
       block = bytes_are u.block c.block (and_first (same_bytes u.block c.block) (same_bool u.struck c.struck) two);
-      struck = same_bool_is u.struck c.struck (and_second (same_bytes u.block c.block) (same_bool u.struck c.struck) two);
-      bytes = bytes_are u.status.bytes c.status.bytes (and_second (same_bytes u.block c.block && same_bool u.struck c.struck) (same_bytes u.status.bytes c.status.bytes) three);
-      active = eqb-true u.status.active c.status.active (and_second (same_bytes u.block c.block && same_bool u.struck c.struck && same_bytes u.status.bytes c.status.bytes) (u.status.active == c.status.active) four);
-      saved = eqb-true u.status.saved c.status.saved (and_second (same_bytes u.block c.block && same_bool u.struck c.struck && same_bytes u.status.bytes c.status.bytes && u.status.active == c.status.active) (u.status.saved == c.status.saved) five);
-      shown = same_bool_is u.shown c.shown (and_second (same_bytes u.block c.block && same_bool u.struck c.struck && same_bytes u.status.bytes c.status.bytes && u.status.active == c.status.active && u.status.saved == c.status.saved) (same_bool u.shown c.shown) six);
-      refused = same_bool_is u.refused c.refused (and_second (same_bytes u.block c.block && same_bool u.struck c.struck && same_bytes u.status.bytes c.status.bytes && u.status.active == c.status.active && u.status.saved == c.status.saved && same_bool u.shown c.shown) (same_bool u.refused c.refused) e);
+      struck =
+          same_bool_is u.struck c.struck (and_second (same_bytes u.block c.block) (same_bool u.struck c.struck) two);
+      bytes = bytes_are u.status.bytes c.status.bytes (and_second
+          (same_bytes u.block c.block && same_bool u.struck c.struck) (same_bytes u.status.bytes c.status.bytes) three);
+      active = eqb-true u.status.active c.status.active (and_second
+          (same_bytes u.block c.block && same_bool u.struck c.struck && same_bytes u.status.bytes c.status.bytes)
+          (u.status.active == c.status.active) four);
+      saved = eqb-true u.status.saved c.status.saved (and_second
+          (same_bytes u.block c.block && same_bool u.struck c.struck && same_bytes u.status.bytes c.status.bytes
+          && u.status.active == c.status.active) (u.status.saved == c.status.saved) five);
+      shown = same_bool_is u.shown c.shown (and_second
+          (same_bytes u.block c.block && same_bool u.struck c.struck && same_bytes u.status.bytes c.status.bytes
+          && u.status.active == c.status.active && u.status.saved == c.status.saved) (same_bool u.shown c.shown) six);
+      refused = same_bool_is u.refused c.refused (and_second
+          (same_bytes u.block c.block && same_bool u.struck c.struck && same_bytes u.status.bytes c.status.bytes
+          && u.status.active == c.status.active && u.status.saved == c.status.saved && same_bool u.shown c.shown)
+          (same_bool u.refused c.refused) e);
     }
 
 -- The account of one is that of the other.
@@ -188,7 +227,8 @@ alike_account u c a h g = record {
   shown = λ e. g.shown (sym h.refused ∙ e) ∙ sym h.shown;
 }
 
-pub alike_marked : (history : List Event) (u c : CarriedBytes) → u.id ≡ c.id → IsSameCarried u c → IsMarked history c → IsMarked history u
+pub alike_marked : (history : List Event) (u c : CarriedBytes) → u.id ≡ c.id → IsSameCarried u c → IsMarked history c
+    → IsMarked history u
 alike_marked history u c same h m = record {
   refused = h.refused ∙ m.refused ∙ ap (λ (x : ProcId). has_refusal history x) (sym same);
   shown = h.shown ∙ m.shown ∙ ap (λ (x : ProcId). has_answer history x) (sym same);

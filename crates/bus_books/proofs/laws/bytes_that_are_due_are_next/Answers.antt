@@ -23,4 +23,5 @@ returns-clause-command c = λ s k n p command over served struck. command_over s
 
 -- src/laws.rt
 pub returns-clause-leaves : goal.returns-clause-leaves
-returns-clause-leaves c = λ s k n gives phase over message named group. leaves_by s k n gives phase over message named group
+returns-clause-leaves c =
+    λ s k n gives phase over message named group. leaves_by s k n gives phase over message named group

@@ -8,4 +8,5 @@ returns-clause-first c = λ s rows row n begins. knows_first s (run_state s rows
 
 -- src/laws.rt
 pub returns-clause-next : goal.returns-clause-next
-returns-clause-next c = λ s rows row n change h given gives names k. knows_on s (run_state s rows) row n change h given gives names k
+returns-clause-next c =
+    λ s rows row n change h given gives names k. knows_on s (run_state s rows) row n change h given gives names k

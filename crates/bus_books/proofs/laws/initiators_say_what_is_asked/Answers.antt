@@ -4,7 +4,8 @@ use Rattle.bus_books.proofs.laws.initiators_say_what_is_asked.Goals as goal
 
 -- src/laws.rt
 pub returns-clause-first : goal.returns-clause-first
-returns-clause-first c = λ s rows row n units begins aimed. speaks_first s (run_state s rows) row n units (aims_are s rows) begins aimed
+returns-clause-first c =
+    λ s rows row n units begins aimed. speaks_first s (run_state s rows) row n units (aims_are s rows) begins aimed
 
 -- src/laws.rt
 pub returns-clause-next : goal.returns-clause-next

@@ -7,4 +7,5 @@ returns-clause-whole c = λ k h begun into all. in_is_whole k h begun into all
 
 -- src/laws.rt
 pub returns-clause-known : goal.returns-clause-known
-returns-clause-known c = λ k n change h begun before into out gives. in_is_known k n change h begun before into out gives
+returns-clause-known c =
+    λ k n change h begun before into out gives. in_is_known k n change h begun before into out gives

@@ -7,10 +7,14 @@ pub returns-in-Ok-clause-form : goal.returns-in-Ok-clause-form
 returns-in-Ok-clause-form g c = told_of c.dump.result c.args.bytes.now _ _ c.in-Ok.ensures.exact c.dump.ensures.form
 
 pub returns-in-Ok-clause-said : goal.returns-in-Ok-clause-said
-returns-in-Ok-clause-said g c = said_of c.dump.result c.args.bytes.now _ _ _ _ _ _ c.in-Ok.ensures.exact c.dump.ensures.form c.dump.ensures.said
+returns-in-Ok-clause-said g c =
+    said_of c.dump.result c.args.bytes.now _ _ _ _ _ _ c.in-Ok.ensures.exact c.dump.ensures.form c.dump.ensures.said
 
 pub returns-in-Err-At-clause-form : goal.returns-in-Err-At-clause-form
-returns-in-Err-At-clause-form g c = told_bad c.args.bytes.now _ (bad_at _ _ _ c.in-Err-At.field-0-is c.in-Err-At.ensures.exact)
+returns-in-Err-At-clause-form g c =
+    told_bad c.args.bytes.now _ (bad_at _ _ _ c.in-Err-At.field-0-is c.in-Err-At.ensures.exact)
 
 pub returns-in-Err-At-clause-said : goal.returns-in-Err-At-clause-said
-returns-in-Err-At-clause-said g c = said_bad c.args.bytes.now _ _ _ _ _ _ (bad_at _ _ _ c.in-Err-At.field-0-is c.in-Err-At.ensures.exact) (c.as_bytes.ensures.value ∙ c.as_str.ensures.value ∙ c.trace_line.ensures ∙ ap trace_line c.in-Err-At.line-is) c.say.ensures.said
+returns-in-Err-At-clause-said g c = said_bad c.args.bytes.now _ _ _ _ _ _
+    (bad_at _ _ _ c.in-Err-At.field-0-is c.in-Err-At.ensures.exact) (c.as_bytes.ensures.value ∙ c.as_str.ensures.value
+    ∙ c.trace_line.ensures ∙ ap trace_line c.in-Err-At.line-is) c.say.ensures.said

@@ -9,7 +9,8 @@ abbrev pub invariant-loop-count : goal.invariant-loop-count
 invariant-loop-count g l = record {
   within : l.heard ≤ TRACE_LIMIT;
   never_falls : g.S.Source.faults l.initial.input ≤ g.S.Source.faults l.input;
-  heard : (bytes : List ℕ) × HasRead (g.S.Source.left l.initial.input) (g.S.Source.left l.input) bytes × (length bytes ≡ l.heard) × IsHearingOf (reverse bytes) l.hearing;
+  heard : (bytes : List ℕ) × HasRead (g.S.Source.left l.initial.input) (g.S.Source.left l.input) bytes
+      × (length bytes ≡ l.heard) × IsHearingOf (reverse bytes) l.hearing;
 }
 
 abbrev pub decreases-loop-count : goal.decreases-loop-count

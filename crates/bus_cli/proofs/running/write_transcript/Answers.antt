@@ -3,4 +3,7 @@ use Rattle.bus_cli.proofs.Written.{says_transcript}
 use Rattle.bus_cli.proofs.running.write_transcript.Goals as goal
 
 pub returns-clause-said : goal.returns-clause-said
-returns-clause-said g c = says_transcript c.status_written.result c.print_transcript.result (g.K.Sink.written c.args.out.now) (g.K.Sink.written c.print_transcript.new.out) c.in-Ok.transcript.items.items c.args.run.now.rows (g.K.Sink.faults c.args.out.now) (g.K.Sink.faults c.print_transcript.new.out) c.status_written.ensures c.in-Ok.ensures.exact c.print_transcript.ensures.whole
+returns-clause-said g c = says_transcript c.status_written.result c.print_transcript.result
+    (g.K.Sink.written c.args.out.now) (g.K.Sink.written c.print_transcript.new.out) c.in-Ok.transcript.items.items
+    c.args.run.now.rows (g.K.Sink.faults c.args.out.now) (g.K.Sink.faults c.print_transcript.new.out)
+    c.status_written.ensures c.in-Ok.ensures.exact c.print_transcript.ensures.whole

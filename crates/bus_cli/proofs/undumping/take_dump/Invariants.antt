@@ -10,7 +10,8 @@ abbrev pub invariant-loop-reader : goal.invariant-loop-reader
 invariant-loop-reader g l = record {
   within : l.count ≤ DUMP_LIMIT;
   never_falls : g.S.Source.faults l.initial.input ≤ g.S.Source.faults l.input;
-  read : (bytes : List ℕ) × HasRead (g.S.Source.left l.initial.input) (g.S.Source.left l.input) bytes × (length bytes ≡ l.count) × ReadsAs l.reader (taken no_bytes bytes);
+  read : (bytes : List ℕ) × HasRead (g.S.Source.left l.initial.input) (g.S.Source.left l.input) bytes
+      × (length bytes ≡ l.count) × ReadsAs l.reader (taken no_bytes bytes);
 }
 
 abbrev pub decreases-loop-reader : goal.decreases-loop-reader

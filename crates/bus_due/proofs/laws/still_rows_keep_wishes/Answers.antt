@@ -17,4 +17,5 @@ pub returns-clause-leaving : goal.returns-clause-leaving
 returns-clause-leaving c = λ s rows row h e dev phase. keeps_leaving s rows row h e dev phase
 
 pub returns-clause-bytes : goal.returns-clause-bytes
-returns-clause-bytes c = λ s rows row h dev phase messages more place. keeps_bytes s rows row h dev phase messages more place
+returns-clause-bytes c =
+    λ s rows row h dev phase messages more place. keeps_bytes s rows row h dev phase messages more place

@@ -13,7 +13,8 @@ loop-index-preserved c =
     record {
       count = omega (arith, c.in_ok-push.ensures.len, i.count);
       lines = all_drop IsWithin units (c.loop-index.index + 1) c.requires.lines;
-      held = λ contents apart held.
-          stored_next c.loop-index.of_target c.blocks_at.new.of_target (drop n units) (drop (c.loop-index.index + 1) units) _ c.loop-index.disks.items c.push.new.self.items c.in_ok-blocks_at.field-0 contents
-          (dropped n units _ c.loop-index-test.true) c.in_ok-push.ensures.items i.lines c.in_ok-blocks_at.ensures.held c.blocks_at.ensures.others (i.held contents apart held);
+      held = λ contents apart held. stored_next c.loop-index.of_target c.blocks_at.new.of_target
+          (drop n units) (drop (c.loop-index.index + 1) units) _ c.loop-index.disks.items c.push.new.self.items
+          c.in_ok-blocks_at.field-0 contents (dropped n units _ c.loop-index-test.true) c.in_ok-push.ensures.items
+          i.lines c.in_ok-blocks_at.ensures.held c.blocks_at.ensures.others (i.held contents apart held);
     }

@@ -10,5 +10,6 @@ abbrev pub invariant-loop-index : goal.invariant-loop-index
 invariant-loop-index l = record {
   count : length l.disks.items ≡ l.index;
   lines : AllByRecursion IsWithin (drop l.index l.units);
-  held : (contents : List Contents) → AreLinesApart l.units → AreHeld l.initial.of_target l.units contents → AreStored l.of_target (drop l.index l.units) (map held_by l.disks.items) contents;
+  held : (contents : List Contents) → AreLinesApart l.units → AreHeld l.initial.of_target l.units contents
+      → AreStored l.of_target (drop l.index l.units) (map held_by l.disks.items) contents;
 }

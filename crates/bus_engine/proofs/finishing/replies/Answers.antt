@@ -28,14 +28,21 @@ loop-index-preserved c =
       hosts = hosts.1;
       over = λ s rows h. c.outcome_at-outcome.ensures.over s rows (i.over s rows h);
       told = λ s rows f e h a.
-          let lines = subst (λ (l : List CmdDef). AllByRecursion (λ (d : CmdDef). IsCommandLine s d) l) next (all_drop (λ (d : CmdDef). IsCommandLine s d) commands n (subst (λ (l : List CmdDef). AllByRecursion (λ (d : CmdDef). IsCommandLine s d) l) (sym e) f.commands)) in
-          let is : command_at s.commands (c.loop-index.index + 1) ≡ Some c.index-commands-index.result = ap (λ (l : List CmdDef). command_at l (c.loop-index.index + 1)) (sym e) ∙ command_is commands n x rest next in
-          let undone = and_parts (undoes_no_byte s rows) (are_answered_from s (run_state s rows).story 1 s.commands) a in
-          asked_next s (run_state s rows).story n c.loop-index.replies.items c.push.new.self.items (drop n commands) rest x c.outcome_at-outcome.result next c.in_ok-push.ensures.items (i.told s rows f e h a)
+          let lines = subst (λ (l : List CmdDef). AllByRecursion (λ (d : CmdDef). IsCommandLine s d) l) next
+          (all_drop (λ (d : CmdDef). IsCommandLine s d) commands n
+          (subst (λ (l : List CmdDef). AllByRecursion (λ (d : CmdDef). IsCommandLine s d) l) (sym e) f.commands)) in
+          let is : command_at s.commands (c.loop-index.index + 1) ≡ Some c.index-commands-index.result =
+          ap (λ (l : List CmdDef). command_at l (c.loop-index.index + 1)) (sym e) ∙ command_is commands n x rest next in
+          let undone = and_parts (undoes_no_byte s rows)
+          (are_answered_from s (run_state s rows).story 1 s.commands) a in
+          asked_next s (run_state s rows).story n c.loop-index.replies.items c.push.new.self.items
+          (drop n commands) rest x c.outcome_at-outcome.result next c.in_ok-push.ensures.items (i.told s rows f e h a)
           (λ answers. c.outcome_at-outcome.ensures.told s rows (i.over s rows h) is lines.0.host_is undone.0 answers);
     }
 
 pub returns-clause-over : goal.returns-clause-over
 returns-clause-over c = λ s rows h dev lt.
-    let all : c.loop-index.index ≡ length c.args.commands.now = omega (arith, c.loop-index-test.false, c.loop-index.auto.index-end) in
-    subst (λ (n : ℕ). IsPlaceOver s rows dev (n + 1) (slice_index_or c.loop-index.places dev None)) all (c.loop-index.invariant.over s rows h dev lt)
+    let all : c.loop-index.index ≡ length c.args.commands.now = omega
+    (arith, c.loop-index-test.false, c.loop-index.auto.index-end) in
+    subst (λ (n : ℕ). IsPlaceOver s rows dev (n + 1) (slice_index_or c.loop-index.places dev None)) all
+    (c.loop-index.invariant.over s rows h dev lt)

@@ -14,6 +14,9 @@ abbrev pub invariant-loop-index : goal.invariant-loop-index
 invariant-loop-index l = record {
   count : length l.replies.items ≡ l.index;
   hosts : AllByRecursion (λ (c : CmdDef). c.host < 8) (drop l.index l.commands);
-  over : (s : ScenarioValue) (rows : List Row) → AreOver s rows 1 l.initial.places → AreOver s rows (l.index + 1) l.places;
-  told : (s : ScenarioValue) (rows : List Row) → FitsBus s → l.commands ≡ s.commands → AreOver s rows 1 l.initial.places → are_answered s rows ≡ true → AreAsked s (run_state s rows).story l.index l.replies.items (drop l.index l.commands);
+  over : (s : ScenarioValue) (rows : List Row) → AreOver s rows 1 l.initial.places
+      → AreOver s rows (l.index + 1) l.places;
+  told : (s : ScenarioValue) (rows : List Row) → FitsBus s → l.commands ≡ s.commands
+      → AreOver s rows 1 l.initial.places → are_answered s rows ≡ true
+      → AreAsked s (run_state s rows).story l.index l.replies.items (drop l.index l.commands);
 }

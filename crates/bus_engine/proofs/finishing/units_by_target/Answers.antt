@@ -11,13 +11,17 @@ loop-dev-preserved c =
     let i = c.loop-dev.invariant in
     let n = c.loop-dev.dev in
     let xs = c.loop-dev.places in
-    let inside : c.loop-dev.dev < length c.loop-dev.places = omega (arith, c.requires.eight, c.loop-dev.auto.places, c.loop-dev-test.true) in
+    let inside : c.loop-dev.dev < length c.loop-dev.places = omega
+    (arith, c.requires.eight, c.loop-dev.auto.places, c.loop-dev-test.true) in
     record {
       count = omega (arith, c.in_ok-push.ensures.len, i.count);
-      others = λ d le. other_at c.loop-dev.places n d c.units_in.new.place (λ (e : n ≡ d). omega (arith, e, le)) ∙ i.others d (omega (arith, le));
+      others = λ d le. other_at c.loop-dev.places n d c.units_in.new.place (λ (e : n ≡ d). omega (arith, e, le))
+          ∙ i.others d (omega (arith, le));
       units = λ s rows first h.
-          let here = subst (λ (p : Option Member). IsPlaceOver s rows c.loop-dev.dev first p) (sym (i.others n (omega arith))) (h n c.loop-dev-test.true) in
-          each_and_one (λ d units. AreUnitsIf s rows d units) c.loop-dev.units.items c.push.new.self.items c.units_in.result n c.in_ok-push.ensures.items i.count (i.units s rows first h)
+          let here = subst (λ (p : Option Member). IsPlaceOver s rows c.loop-dev.dev first p)
+          (sym (i.others n (omega arith))) (h n c.loop-dev-test.true) in
+          each_and_one (λ d units. AreUnitsIf s rows d units) c.loop-dev.units.items c.push.new.self.items
+          c.units_in.result n c.in_ok-push.ensures.items i.count (i.units s rows first h)
           (c.units_in.ensures s rows n first (place_at s rows n first xs c.index-places-dev.result inside here));
     }
 

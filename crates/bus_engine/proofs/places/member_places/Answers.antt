@@ -10,7 +10,6 @@ loop-dev-preserved c =
     let i = c.loop-dev.invariant in
     record {
       count = omega (arith, c.in_ok-push.ensures.len, i.count);
-      devices =
-          each_and_one (λ d place. IsIn IsMember s [] d place) c.loop-dev.places.items c.push.new.self.items c.in_ok-place_of.field-0 c.loop-dev.dev
-          c.in_ok-push.ensures.items i.count i.devices c.in_ok-place_of.ensures;
+      devices = each_and_one (λ d place. IsIn IsMember s [] d place) c.loop-dev.places.items c.push.new.self.items
+          c.in_ok-place_of.field-0 c.loop-dev.dev c.in_ok-push.ensures.items i.count i.devices c.in_ok-place_of.ensures;
     }

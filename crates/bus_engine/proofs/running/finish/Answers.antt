@@ -13,18 +13,25 @@ pub disks_in-requires-clause-lines : goal.disks_in-requires-clause-lines
 disks_in-requires-clause-lines c =
     let s = c.args.scenario.now in
     let lines = c.as_slice-2.ensures.value ∙ ap (λ (v : ScenarioValue). v.units) c.scenario.view_is in
-    subst (λ (l : List UnitDef). AllByRecursion IsWithin l) (sym lines) (all_within s (c.scenarios_fit_the_bus.ensures.lines s c.requires.lawful))
+    subst (λ (l : List UnitDef). AllByRecursion IsWithin l) (sym lines)
+    (all_within s (c.scenarios_fit_the_bus.ensures.lines s c.requires.lawful))
 
 pub returns-clause-replies : goal.returns-clause-replies
 returns-clause-replies c = λ rows p a.
     let s = c.args.scenario.now in
     let commands = c.as_slice.ensures.value ∙ ap (λ (v : ScenarioValue). v.commands) c.scenario.view_is in
     c.in_ok-replies.ensures.told s rows (c.scenarios_fit_the_bus.ensures.lines s c.requires.lawful) commands
-    (λ dev lt. later s rows dev 0 1 (slice_index_or c.args.places.now dev None) (omega arith) (c.runs_end.ensures s rows dev (slice_index_or c.args.places.now dev None) (p dev lt))) a
+    (λ dev lt. later s rows dev 0 1 (slice_index_or c.args.places.now dev None) (omega arith)
+    (c.runs_end.ensures s rows dev (slice_index_or c.args.places.now dev None) (p dev lt))) a
 
 pub returns-clause-disks : goal.returns-clause-disks
 returns-clause-disks c = λ rows plain allows p.
     let s = c.args.scenario.now in
     let lines = c.as_slice-2.ensures.value ∙ ap (λ (v : ScenarioValue). v.units) c.scenario.view_is in
-    let over = c.in_ok-replies.ensures.over s rows (λ dev lt. later s rows dev 0 1 (slice_index_or c.args.places.now dev None) (omega arith) (c.runs_end.ensures s rows dev (slice_index_or c.args.places.now dev None) (p dev lt))) in
-    c.in_ok-disks.ensures.held s rows (length c.as_slice.result.now + 1) (c.scenarios_fit_the_bus.ensures.lines s c.requires.lawful) lines (c.scenarios_fit_the_bus.ensures.seats s (c.scenarios_fit_the_bus.ensures.lines s c.requires.lawful)) plain allows (lawful_have_targets s c.requires.lawful) over
+    let over = c.in_ok-replies.ensures.over s rows
+    (λ dev lt. later s rows dev 0 1 (slice_index_or c.args.places.now dev None) (omega arith)
+    (c.runs_end.ensures s rows dev (slice_index_or c.args.places.now dev None) (p dev lt))) in
+    c.in_ok-disks.ensures.held s rows (length c.as_slice.result.now + 1)
+    (c.scenarios_fit_the_bus.ensures.lines s c.requires.lawful) lines
+    (c.scenarios_fit_the_bus.ensures.seats s (c.scenarios_fit_the_bus.ensures.lines s c.requires.lawful)) plain allows
+    (lawful_have_targets s c.requires.lawful) over

@@ -6,7 +6,8 @@ pub returns-clause-lawful : goal.returns-clause-lawful
 returns-clause-lawful c = λ s rows o prompt apart. (stood s (obeys_latencies s o) rows prompt apart).standing.lawful
 
 pub returns-clause-ahead : goal.returns-clause-ahead
-returns-clause-ahead c = λ s rows o prompt apart dev lt x e. (stood s (obeys_latencies s o) rows prompt apart).standing.ahead dev lt x e
+returns-clause-ahead c =
+    λ s rows o prompt apart dev lt x e. (stood s (obeys_latencies s o) rows prompt apart).standing.ahead dev lt x e
 
 pub returns-clause-next : goal.returns-clause-next
 returns-clause-next c = λ s rows row o prompt apart e.

@@ -5,8 +5,8 @@ use Rattle.bus_lines.proofs.Lasts.{strikes_end, strikes_nothing}
 use Rattle.bus_lines.proofs.handshakes.strikes_last.Goals as goal
 
 pub returns-in-Some : goal.returns-in-Some
-returns-in-Some c =
-    c.push.ensures.items ∙ sym (strikes_end c.pop.new.self.items c.in-Some.request) ∙ ap (λ (x : List Request). strikes_last x) (sym c.in-Some.ensures.items)
+returns-in-Some c = c.push.ensures.items ∙ sym (strikes_end c.pop.new.self.items c.in-Some.request)
+    ∙ ap (λ (x : List Request). strikes_last x) (sym c.in-Some.ensures.items)
 
 pub returns-then-count-eq0 : goal.returns-then-count-eq0
 returns-then-count-eq0 c =

@@ -9,4 +9,5 @@ returns c = λ rows v.
     let row = c.args.row.now in
     let own = c.drives-own.ensures.trace rows v in
     let next = c.driven_after-next.ensures ∙ ap (λ (x : LineSet). driven_after row.kind x) own in
-    changes rows row _ _ _ _ (c.bus.ensures.trace rows v) (c.bus_with.ensures rows row v refl next) own c.driven_after-next.ensures
+    changes rows row _ _ _ _ (c.bus.ensures.trace rows v)
+    (c.bus_with.ensures rows row v refl next) own c.driven_after-next.ensures

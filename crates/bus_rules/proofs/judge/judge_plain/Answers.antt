@@ -23,18 +23,18 @@ loop-i-preserved c =
     let kept = c.judge.ensures.kept past c.loop-i.invariant.terms in
     let broken = sym (c.judge.ensures.broken past c.loop-i.invariant.terms) ∙ c.in_default.is in
     record {
-      terms = subst (λ (ps : List Row). IsTermsOf ps c.judge.new.self) (sym (rows_so_far xs c.loop-i.i row c.loop-i-test.true c.index-rows-i.is)) kept;
+      terms = subst (λ (ps : List Row). IsTermsOf ps c.judge.new.self)
+          (sym (rows_so_far xs c.loop-i.i row c.loop-i-test.true c.index-rows-i.is)) kept;
       lawful = judged_next xs c.loop-i.i row c.loop-i-test.true c.index-rows-i.is _ broken c.loop-i.invariant.lawful;
     }
 
 pub returns-in-Some-lowest_at_end : goal.returns-in-Some-lowest_at_end
-returns-in-Some-lowest_at_end c =
-    judged_past c.args.rows.now c.loop-i.i c.args.end c.loop-i.terms c.step-seen.result c.end_row.result c.lowest_at_end.result _
-    (let past = c.loop-i-test.false in omega arith) c.loop-i.invariant.lawful c.loop-i.invariant.terms c.step-seen.ensures.seen
-    c.end_row.ensures c.lowest_at_end.ensures c.in-Some-lowest_at_end.is
+returns-in-Some-lowest_at_end c = judged_past c.args.rows.now c.loop-i.i c.args.end
+    c.loop-i.terms c.step-seen.result c.end_row.result c.lowest_at_end.result _
+    (let past = c.loop-i-test.false in omega arith) c.loop-i.invariant.lawful c.loop-i.invariant.terms
+    c.step-seen.ensures.seen c.end_row.ensures c.lowest_at_end.ensures c.in-Some-lowest_at_end.is
 
 pub returns-in-None : goal.returns-in-None
-returns-in-None c =
-    judged_past c.args.rows.now c.loop-i.i c.args.end c.loop-i.terms c.step-seen.result c.end_row.result c.lowest_at_end.result _
-    (let past = c.loop-i-test.false in omega arith) c.loop-i.invariant.lawful c.loop-i.invariant.terms c.step-seen.ensures.seen
-    c.end_row.ensures c.lowest_at_end.ensures c.in-None.is
+returns-in-None c = judged_past c.args.rows.now c.loop-i.i c.args.end c.loop-i.terms c.step-seen.result
+    c.end_row.result c.lowest_at_end.result _ (let past = c.loop-i-test.false in omega arith) c.loop-i.invariant.lawful
+    c.loop-i.invariant.terms c.step-seen.ensures.seen c.end_row.ensures c.lowest_at_end.ensures c.in-None.is

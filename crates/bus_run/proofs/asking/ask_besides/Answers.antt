@@ -8,7 +8,8 @@ pub returns-then-not-is_end_if-clause-exact : goal.returns-then-not-is_end_if-cl
 returns-then-not-is_end_if-clause-exact g c = λ s rows a p f.
     let dev = c.args.dev in
     let apart : is_end_if c.args.connection.now dev ≡ false = sym c.is_end_if.ensures ∙ c.if-not-is_end_if.true in
-    c.ask_in.ensures.exact s rows a p f ∙ (λ i. sooner_row (if sym apart i then None else due s rows dev) dev c.args.first.now)
+    c.ask_in.ensures.exact s rows a p f
+    ∙ (λ i. sooner_row (if sym apart i then None else due s rows dev) dev c.args.first.now)
 
 pub returns-else-not-is_end_if-clause-exact : goal.returns-else-not-is_end_if-clause-exact
 returns-else-not-is_end_if-clause-exact g c = λ s rows a p f.

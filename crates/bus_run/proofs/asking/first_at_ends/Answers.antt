@@ -19,7 +19,9 @@ returns-clause-exact g c = λ s rows a p f h.
     let t_within : t < length xs = omega (arith, c.requires.eight, c.get-target.ensures.small) in
     let i_below : n.initiator < 8 = omega (arith, i_is, c.get-initiator.ensures.small) in
     let t_below : n.target < 8 = omega (arith, t_is, c.get-target.ensures.small) in
-    c.ask_in-2.ensures.exact s rows a (in_at g.D.Device.IsOf s rows xs t y (read_at xs t y t_within c.index-places-target.is) (p t c.get-target.ensures.small)) f
-    ∙ (λ j. sooner_row (due s rows t) t (c.ask_in.ensures.exact s rows a (in_at g.D.Device.IsOf s rows xs i x (read_at xs i x i_within c.index-places-initiator.is) (p i c.get-initiator.ensures.small)) f j))
+    c.ask_in-2.ensures.exact s rows a (in_at g.D.Device.IsOf s rows xs t y
+    (read_at xs t y t_within c.index-places-target.is) (p t c.get-target.ensures.small)) f
+    ∙ (λ j. sooner_row (due s rows t) t (c.ask_in.ensures.exact s rows a (in_at g.D.Device.IsOf s rows xs i x
+    (read_at xs i x i_within c.index-places-initiator.is) (p i c.get-initiator.ensures.small)) f j))
     ∙ (λ j. sooner_row (due s rows (t_is j)) (t_is j) (sooner_row (due s rows (i_is j)) (i_is j) (h.first j)))
     ∙ ends_first (due s rows) n i_below t_below

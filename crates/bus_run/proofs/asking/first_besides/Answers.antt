@@ -7,7 +7,8 @@ use Rattle.bus_run.proofs.Sooner.{asked_more}
 use Rattle.bus_run.proofs.asking.first_besides.Goals as goal
 
 pub loop-dev-init : goal.loop-dev-init
-loop-dev-init g c = record { first = λ s rows a p f. sym (least_none (due_besides c.args.connection.now (due s rows))); device = tt }
+loop-dev-init g c =
+    record { first = λ s rows a p f. sym (least_none (due_besides c.args.connection.now (due s rows))); device = tt }
 
 pub loop-dev-preserved : goal.loop-dev-preserved
 loop-dev-preserved g c =

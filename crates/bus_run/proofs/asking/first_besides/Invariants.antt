@@ -12,6 +12,7 @@ use Rattle.bus_run.proofs.asking.first_besides.Given as goal
 
 abbrev pub invariant-loop-dev : goal.invariant-loop-dev
 invariant-loop-dev g l = record {
-  first : (s : ScenarioValue) (rows : List Row) → AreSeen s rows l.observer → AreIn g.D.Device.IsOf s rows l.places → l.fault ≡ first_fault (run_state s rows).faults → l.first ≡ least (due_besides l.connection (due s rows)) l.dev;
+  first : (s : ScenarioValue) (rows : List Row) → AreSeen s rows l.observer → AreIn g.D.Device.IsOf s rows l.places
+      → l.fault ≡ first_fault (run_state s rows).faults → l.first ≡ least (due_besides l.connection (due s rows)) l.dev;
   device : IfSome l.first (λ row. row.dev < 8);
 }

@@ -7,5 +7,6 @@ use Rattle.bus_run.proofs.asking.linked.Goals as goal
 pub returns-else-rst : goal.returns-else-rst
 returns-else-rst c = λ rows o.
     let view = c.view-view.ensures.trace rows o in
-    let rst : (bus rows).rst ≡ false = sym (ap (λ (b : LineSet). b.rst) (c.bus.ensures.trace rows view)) ∙ sym c.rst.ensures ∙ c.if-rst.false in
+    let rst : (bus rows).rst ≡ false = sym (ap (λ (b : LineSet). b.rst) (c.bus.ensures.trace rows view))
+    ∙ sym c.rst.ensures ∙ c.if-rst.false in
     linked_if rows c.connection.result (c.connection.ensures.trace rows view) rst

@@ -1,4 +1,5 @@
-use Rattle.std.proofs.Common.{subst, ℕ, ◌≡◌, ◌<◌, ◌≤◌, ◌+◌, ◌-◌, ◌^◌, ◌∷◌, ◌∙◌, List, Option, Some, length, reverse, sym, ap, arith}
+use Rattle.std.proofs.Common.{subst, ℕ, ◌≡◌, ◌<◌, ◌≤◌, ◌+◌, ◌-◌, ◌^◌, ◌∷◌, ◌∙◌, List, Option, Some, length, reverse}
+use Rattle.std.proofs.Common.{sym, ap, arith}
 use Rattle.std.specs.Prelude.{IfSome}
 use Rattle.std.proofs.lemmas.List.{length-reverse}
 use Rattle.bus_trace.specs.declared.Row.{Row}
@@ -20,14 +21,16 @@ returns-in_default-clause-ended g c = λ h p fewer.
     let i = c.loop.invariant in
     let going = i.going h p in
     let few : length rows < 2 ^ 32 = omega (arith, length-reverse c.loop.trace.rows.items, i.count, c.loop-test.true) in
-    sym (c.next.ensures.exact s rows (seen s rows c.loop.observer (c.scenarios_fit_the_bus.ensures.lines s c.requires.lawful) h going.prompt i.observed i.devices few i.early) going.devices (c.first.ensures ∙ ap (λ (xs : List FaultDef). first_fault xs) going.pending) going.known)
+    sym (c.next.ensures.exact s rows (seen s rows c.loop.observer
+    (c.scenarios_fit_the_bus.ensures.lines s c.requires.lawful) h going.prompt i.observed i.devices few i.early)
+    going.devices (c.first.ensures ∙ ap (λ (xs : List FaultDef). first_fault xs) going.pending) going.known)
     ∙ c.in_default.is
 
 pub returns-in_default-clause-history : goal.returns-in_default-clause-history
 returns-in_default-clause-history g c = λ h p.
     let rows : List Row = reverse c.loop.trace.rows.items in
-    (c.loop.invariant.going h p).told
-    ∙ ap (λ (b : Story). b.history) (c.kept_is_plain.ensures.rows c.args.scenario.now rows c.loop.invariant.devices).story
+    (c.loop.invariant.going h p).told ∙ ap (λ (b : Story). b.history)
+    (c.kept_is_plain.ensures.rows c.args.scenario.now rows c.loop.invariant.devices).story
 
 pub returns-in_default-clause-places : goal.returns-in_default-clause-places
 returns-in_default-clause-places g c = λ h p. (c.loop.invariant.going h p).devices
@@ -48,16 +51,19 @@ returns-then-row-ge-END-clause-ended g c = λ h p fewer.
     let row : Row = c.in-Some.row in
     let few : length rows < 2 ^ 32 = omega (arith, length-reverse c.loop.trace.rows.items, i.count, c.loop-test.true) in
     let few_with : length (row ∷ rows) ≤ 2 ^ 32 = omega (arith, few) in
-    absurd (too_late s rows row
-    (c.rows_come_in_time.ensures.far s (row ∷ rows) c.requires.lawful
-    (going.prompt, sym (c.next.ensures.exact s rows (seen s rows c.loop.observer (c.scenarios_fit_the_bus.ensures.lines s c.requires.lawful) h going.prompt i.observed i.devices few i.early) going.devices (c.first.ensures ∙ ap (λ (xs : List FaultDef). first_fault xs) going.pending) going.known) ∙ c.in-Some.is) few_with)
-    c.if-row-ge-END.true)
+    absurd (too_late s rows row (c.rows_come_in_time.ensures.far s (row ∷ rows) c.requires.lawful (
+      going.prompt,
+      sym (c.next.ensures.exact s rows (seen s rows c.loop.observer
+          (c.scenarios_fit_the_bus.ensures.lines s c.requires.lawful) h going.prompt i.observed i.devices few i.early)
+          going.devices (c.first.ensures ∙ ap (λ (xs : List FaultDef). first_fault xs) going.pending) going.known)
+          ∙ c.in-Some.is,
+    ) few_with) c.if-row-ge-END.true)
 
 pub returns-then-row-ge-END-clause-history : goal.returns-then-row-ge-END-clause-history
 returns-then-row-ge-END-clause-history g c = λ h p.
     let rows : List Row = reverse c.loop.trace.rows.items in
-    (c.loop.invariant.going h p).told
-    ∙ ap (λ (b : Story). b.history) (c.kept_is_plain.ensures.rows c.args.scenario.now rows c.loop.invariant.devices).story
+    (c.loop.invariant.going h p).told ∙ ap (λ (b : Story). b.history)
+    (c.kept_is_plain.ensures.rows c.args.scenario.now rows c.loop.invariant.devices).story
 
 pub returns-then-row-ge-END-clause-places : goal.returns-then-row-ge-END-clause-places
 returns-then-row-ge-END-clause-places g c = λ h p. (c.loop.invariant.going h p).devices
@@ -77,10 +83,12 @@ loop-preserved g c =
     let i = c.loop.invariant in
     let new : reverse c.add.new.self.rows.items ≡ row ∷ rows = c.in_ok-add.ensures.rows in
     let early : row.time < 2 ^ 62 = c.if-row-ge-END.false in
-    let device : row.dev < 8 = subst (λ (o : Option Row). IfSome o (λ (r : Row). r.dev < 8)) c.in-Some.is c.next.ensures.device in
+    let device : row.dev < 8 = subst
+    (λ (o : Option Row). IfSome o (λ (r : Row). r.dev < 8)) c.in-Some.is c.next.ensures.device in
     let observed = c.tell-shown.ensures.observer rows i.observed in
     let few : length rows < 2 ^ 32 = omega (arith, length-reverse c.loop.trace.rows.items, i.count, c.loop-test.true) in
-    let few_with : length (row ∷ rows) < 2 ^ 32 = omega (arith, length-reverse c.loop.trace.rows.items, i.count, c.loop-test.true) in
+    let few_with : length (row ∷ rows) < 2 ^ 32 = omega
+    (arith, length-reverse c.loop.trace.rows.items, i.count, c.loop-test.true) in
     record {
       observed = observed_on rows _ row _ new observed;
       devices = devices_on rows _ row new device i.devices;
@@ -92,11 +100,15 @@ loop-preserved g c =
           let fits = c.scenarios_fit_the_bus.ensures.lines s c.requires.lawful in
           let now = seen s rows c.loop.observer fits h going.prompt i.observed i.devices few i.early in
           let fault = c.first.ensures ∙ ap (λ (xs : List FaultDef). first_fault xs) going.pending in
-          let is : next s rows ≡ Some row = sym (c.next.ensures.exact s rows now going.devices fault going.known) ∙ c.in-Some.is in
-          let all = seen s (row ∷ rows) c.tell-shown.new.observer fits h (going.prompt, is) observed (device, i.devices) few_with (early, i.early) in
+          let is : next s rows ≡ Some row = sym (c.next.ensures.exact s rows now going.devices fault going.known)
+          ∙ c.in-Some.is in
+          let all = seen s (row ∷ rows) c.tell-shown.new.observer fits h
+          (going.prompt, is) observed (device, i.devices) few_with (early, i.early) in
           let known = c.next.ensures.away s rows now going.devices fault going.known in
-          goes_on g.D.Device.IsOf s rows _ row c.loop.places c.loop.faults (reverse c.loop.trace.history.items) c.tell-shown.new.places c.see.new.self _ (reverse c.add.new.self.history.items) c.loop.away c.tell-shown.new.away
-          new going is (c.tell-shown.ensures.places s rows all going.devices) c.see.ensures (c.tell-shown.ensures.shown s rows all going.devices) c.in_ok-add.ensures.history
+          goes_on g.D.Device.IsOf s rows _ row c.loop.places c.loop.faults (reverse c.loop.trace.history.items)
+          c.tell-shown.new.places c.see.new.self _ (reverse c.add.new.self.history.items) c.loop.away
+          c.tell-shown.new.away new going is (c.tell-shown.ensures.places s rows all going.devices) c.see.ensures
+          (c.tell-shown.ensures.shown s rows all going.devices) c.in_ok-add.ensures.history
           (c.tell-shown.ensures.away s rows all known);
     }
 
@@ -115,8 +127,8 @@ returns-clause-ended g c = λ h p fewer.
 pub returns-clause-history : goal.returns-clause-history
 returns-clause-history g c = λ h p.
     let rows : List Row = reverse c.loop.trace.rows.items in
-    (c.loop.invariant.going h p).told
-    ∙ ap (λ (b : Story). b.history) (c.kept_is_plain.ensures.rows c.args.scenario.now rows c.loop.invariant.devices).story
+    (c.loop.invariant.going h p).told ∙ ap (λ (b : Story). b.history)
+    (c.kept_is_plain.ensures.rows c.args.scenario.now rows c.loop.invariant.devices).story
 
 pub returns-clause-places : goal.returns-clause-places
 returns-clause-places g c = λ h p. (c.loop.invariant.going h p).devices

@@ -14,5 +14,7 @@ invariant-loop g l = record {
   early : AreEarly (reverse l.trace.rows.items);
   count : length l.trace.rows.items ≡ l.counter;
   steps : l.steps ≡ l.initial.steps + 8 * l.counter;
-  going : SeamsHold l.scenario → AreIn g.D.Device.IsOf l.scenario [] l.initial.places → IsGoing g.D.Device.IsOf l.scenario (reverse l.trace.rows.items) l.places l.faults (reverse l.trace.history.items) l.away;
+  going : SeamsHold l.scenario → AreIn g.D.Device.IsOf l.scenario [] l.initial.places
+      → IsGoing g.D.Device.IsOf l.scenario (reverse l.trace.rows.items) l.places l.faults
+      (reverse l.trace.history.items) l.away;
 }

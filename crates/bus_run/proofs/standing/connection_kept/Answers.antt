@@ -8,5 +8,7 @@ use Rattle.bus_run.proofs.standing.connection_kept.Goals as goal
 
 pub returns : goal.returns
 returns c = λ rows row o e.
-    let seen : c.effect.result.now ≡ effect (row ∷ rows) = c.effect.ensures.trace (row ∷ rows) (c.view.ensures.trace (row ∷ rows) o) in
-    subst (λ (x : Option Connection). IfSome x (λ n. IsKept rows row n)) (sym (c.kept_by.ensures ∙ (λ i. kept_by (seen i) (e i)))) (kept_is rows row)
+    let seen : c.effect.result.now ≡ effect (row ∷ rows) = c.effect.ensures.trace
+    (row ∷ rows) (c.view.ensures.trace (row ∷ rows) o) in
+    subst (λ (x : Option Connection). IfSome x (λ n. IsKept rows row n))
+    (sym (c.kept_by.ensures ∙ (λ i. kept_by (seen i) (e i)))) (kept_is rows row)

@@ -12,9 +12,10 @@ returns-clause-told g c = λ s rows a e stands p.
     let one = c.get-first.result in
     let ys = c.see_in.new.places in
     let first : one ≡ n.initiator = c.get-first.ensures.number in
-    let here = c.see_in.ensures.seen s rows a e (λ none m k other. absurd (other (initiator_is (connection (row ∷ rows)) n m one stands k first))) (p one c.get-first.ensures.small) in
-    subst (λ (z : ℕ). AreKnownBut g.D.Device.IsOf s rows row 0 (Some z) ys) first
-    (one_told g.D.Device.IsOf s rows row one c.args.places.now ys c.get-first.ensures.small (λ q. here) c.see_in.ensures.others p)
+    let here = c.see_in.ensures.seen s rows a e (λ none m k other. absurd
+    (other (initiator_is (connection (row ∷ rows)) n m one stands k first))) (p one c.get-first.ensures.small) in
+    subst (λ (z : ℕ). AreKnownBut g.D.Device.IsOf s rows row 0 (Some z) ys) first (one_told g.D.Device.IsOf s rows row
+    one c.args.places.now ys c.get-first.ensures.small (λ q. here) c.see_in.ensures.others p)
 
 pub returns-clause-process : goal.returns-clause-process
 returns-clause-process g c = λ s rows a e stands p.
@@ -25,6 +26,7 @@ returns-clause-process g c = λ s rows a e stands p.
     let x = c.index-places-first.result in
     let first : one ≡ n.initiator = c.get-first.ensures.number in
     let inside : one < length ys = omega (arith, c.see_in.auto.places, c.requires.eight, c.get-first.ensures.small) in
-    let here = c.see_in.ensures.seen s rows a e (λ none m k other. absurd (other (initiator_is (connection (row ∷ rows)) n m one stands k first))) (p one c.get-first.ensures.small) in
-    c.process_in.ensures s (row ∷ rows) n a.tied
-    (in_named g.D.Device.IsOf s (row ∷ rows) ys one n (get_or ys one x) first (sym c.index-places-first.is ∙ read_at ys one x inside c.index-places-first.is) here) stands
+    let here = c.see_in.ensures.seen s rows a e (λ none m k other. absurd
+    (other (initiator_is (connection (row ∷ rows)) n m one stands k first))) (p one c.get-first.ensures.small) in
+    c.process_in.ensures s (row ∷ rows) n a.tied (in_named g.D.Device.IsOf s (row ∷ rows) ys one n
+    (get_or ys one x) first (sym c.index-places-first.is ∙ read_at ys one x inside c.index-places-first.is) here) stands

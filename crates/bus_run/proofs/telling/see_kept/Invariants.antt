@@ -9,4 +9,6 @@ use Rattle.bus_run.proofs.telling.see_kept.Given as goal
 
 abbrev pub invariant-loop-dev : goal.invariant-loop-dev
 invariant-loop-dev g l =
-    (s : ScenarioValue) (rows : List Row) → AreSeen s (l.row ∷ rows) l.observer → events_shown s rows l.row ≡ [] → IsKept rows l.row l.ends → AreKnownBut g.D.Device.IsOf s rows l.row 0 None l.initial.places → AreKnownBut g.D.Device.IsOf s rows l.row l.dev None l.places
+    (s : ScenarioValue) (rows : List Row) → AreSeen s (l.row ∷ rows) l.observer → events_shown s rows l.row ≡ []
+    → IsKept rows l.row l.ends → AreKnownBut g.D.Device.IsOf s rows l.row 0 None l.initial.places
+    → AreKnownBut g.D.Device.IsOf s rows l.row l.dev None l.places

@@ -6,4 +6,5 @@ use Rattle.bus_tests.proofs.hosts.observer_of.Given as goal
 
 -- The observer is that of some rows, all before the limit.
 abbrev pub invariant-loop-row : goal.invariant-loop-row
-invariant-loop-row l = (past : List Row) × IsObserverOf past l.observer × AllByRecursion (λ (row : Row). row.time < 2 ^ 63) past
+invariant-loop-row l =
+    (past : List Row) × IsObserverOf past l.observer × AllByRecursion (λ (row : Row). row.time < 2 ^ 63) past

@@ -1,4 +1,5 @@
-use Rattle.bus_trace.proofs.Ids.{has_id-union, has_id-id_set, has_id-ids_set, ids_in-ids_set, ids_odd, above_on, above_off}
+use Rattle.bus_trace.proofs.Ids.{has_id-union, has_id-id_set, has_id-ids_set, ids_in-ids_set, ids_odd, above_on}
+use Rattle.bus_trace.proofs.Ids.{above_off}
 use Rattle.bus_trace.proofs.laws.ids_read_back.Goals as goal
 
 pub returns-clause-either : goal.returns-clause-either

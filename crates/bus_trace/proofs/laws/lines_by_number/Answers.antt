@@ -1,5 +1,6 @@
 use Rattle.bus_trace.proofs.Bits.{line_low}
-use Rattle.bus_trace.proofs.Ages.{line_bsy, line_sel, line_cd, line_io, line_msg, line_req, line_ack, line_atn, line_rst}
+use Rattle.bus_trace.proofs.Ages.{line_bsy, line_sel, line_cd, line_io, line_msg, line_req, line_ack, line_atn}
+use Rattle.bus_trace.proofs.Ages.{line_rst}
 use Rattle.bus_trace.proofs.laws.lines_by_number.Goals as goal
 
 pub returns-clause-data_lines : goal.returns-clause-data_lines

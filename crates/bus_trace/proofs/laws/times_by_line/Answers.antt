@@ -1,4 +1,5 @@
-use Rattle.bus_trace.proofs.Ages.{since_line_of, line_bsy, line_sel, line_cd, line_io, line_msg, line_req, line_ack, line_atn, line_rst}
+use Rattle.bus_trace.proofs.Ages.{since_line_of, line_bsy, line_sel, line_cd, line_io, line_msg, line_req, line_ack}
+use Rattle.bus_trace.proofs.Ages.{line_atn, line_rst}
 use Rattle.bus_trace.proofs.laws.times_by_line.Goals as goal
 
 pub returns-clause-bsy : goal.returns-clause-bsy

@@ -5,5 +5,5 @@ use Rattle.text_pages.proofs.Putting.{and_then, put_as}
 use Rattle.bus_transcript.proofs.printing.put_in.Goals as goal
 
 pub returns : goal.returns
-returns g c =
-    and_then c.put.ensures (put_as _ c.put_hex.ensures (ap hex_text (c.as_slice.ensures.value ∙ c.encode_in.ensures.bytes ∙ ap in_bytes c.fitted_in.ensures.exact)))
+returns g c = and_then c.put.ensures (put_as _ c.put_hex.ensures
+    (ap hex_text (c.as_slice.ensures.value ∙ c.encode_in.ensures.bytes ∙ ap in_bytes c.fitted_in.ensures.exact)))

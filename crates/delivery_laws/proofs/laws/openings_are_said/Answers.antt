@@ -12,4 +12,5 @@ returns-clause-replied c = λ s rows o prompt later before row n offer split w e
     offer_answered s before row n offer o (prompt_at s rows later (row ∷ before) prompt split) w e selected none offers
 
 pub returns-clause-answered : goal.returns-clause-answered
-returns-clause-answered c = λ s rows o prompt later before n split con off b low. offers_settled s before n o (prompt_at s rows later before prompt split) con off b low
+returns-clause-answered c = λ s rows o prompt later before n split con off b low. offers_settled s before n o
+    (prompt_at s rows later before prompt split) con off b low

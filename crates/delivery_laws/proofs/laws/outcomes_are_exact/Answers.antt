@@ -20,7 +20,8 @@ returns c = λ s rows o prompt end.
       unanswered = λ n k at. unanswered_told s rows n k causes o prompt at;
       full = λ n k at. full_told s rows n k ((c.outcomes_have_causes.ensures s rows o prompt).full n) o prompt at;
       status = λ n status k at e. reply_told s rows n status k causes o prompt at e;
-      given = λ id reply e. c.replies_are_given.ensures s (trace_history s rows) (array_of s (run_state s rows)) id reply o plays (ap (λ (x : Option Array). reply_of x id) (sym plays) ∙ e);
+      given = λ id reply e. c.replies_are_given.ensures s (trace_history s rows)
+          (array_of s (run_state s rows)) id reply o plays (ap (λ (x : Option Array). reply_of x id) (sym plays) ∙ e);
       ran = λ id reply w. c.replies_last.ensures.ran s rows id reply o prompt w;
       failed = λ id code has. c.replies_last.ensures.failed s rows id code o prompt has;
       refused = λ id has. c.replies_last.ensures.refused s rows id o prompt has;

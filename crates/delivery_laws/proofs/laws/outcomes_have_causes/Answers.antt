@@ -16,10 +16,12 @@ returns c = λ s rows o prompt.
     let same = ap (λ (b : Story). b.history) (prompt_plain s rows prompt).story in
     record {
       lost = λ n k at e. lost_above s rows n k causes c.limits_are_kept.ensures.losses o prompt at e;
-      failed = λ n code k at e.
-          failed_above s rows n code k c.limits_are_kept.ensures.failures o prompt at (subst (λ (h : List Event). has_event h (Event.Fail (command_id n) code) ≡ true) (sym same) e);
+      failed = λ n code k at e. failed_above s rows n code k c.limits_are_kept.ensures.failures o prompt at
+          (subst (λ (h : List Event). has_event h (Event.Fail (command_id n) code) ≡ true) (sym same) e);
       unanswered = λ n k at e. unanswered_above s rows n k causes o prompt at e;
-      full = λ n e. subst (λ (h : List Event). was_refused s h (command_id n) ≡ true) same (full_refused s rows n causes c.replies_have_causes.ensures.trace o prompt e);
+      full = λ n e. subst (λ (h : List Event). was_refused s h (command_id n) ≡ true) same
+          (full_refused s rows n causes c.replies_have_causes.ensures.trace o prompt e);
       reset = λ n e. subst (λ (h : List Event). has_bus_reset h ≡ true) same (reset_came s rows n causes prompt e);
-      aborted = λ n k at e. subst (λ (h : List Event). has_command_abort h k ≡ true) same (abort_came s rows n k causes prompt at e);
+      aborted = λ n k at e. subst (λ (h : List Event). has_command_abort h k ≡ true) same
+          (abort_came s rows n k causes prompt at e);
     }

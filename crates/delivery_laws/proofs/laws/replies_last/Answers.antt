@@ -8,20 +8,26 @@ use Rattle.delivery_laws.proofs.laws.replies_last.Goals as goal
 pub returns-clause-ran : goal.returns-clause-ran
 returns-clause-ran c = λ s rows id r o prompt w.
     let same = ap (λ (b : Story). b.history) (prompt_plain s rows prompt).story in
-    ap (λ (h : List Event). reply_of (array_after s h) id) (sym same) ∙ ap (λ (x : Option Array). reply_of x id) (own_plays s rows o prompt)
-    ∙ ran_lasts s rows (array_of s (run_state s rows)) id r o prompt (own_plays s rows o prompt) (subst (λ (h : List Event). HasRun s h id r) (sym same) w)
+    ap (λ (h : List Event). reply_of (array_after s h) id) (sym same)
+    ∙ ap (λ (x : Option Array). reply_of x id) (own_plays s rows o prompt)
+    ∙ ran_lasts s rows (array_of s (run_state s rows)) id r o prompt (own_plays s rows o prompt)
+    (subst (λ (h : List Event). HasRun s h id r) (sym same) w)
 
 pub returns-clause-failed : goal.returns-clause-failed
 returns-clause-failed c = λ s rows id code o prompt has.
     let same = ap (λ (b : Story). b.history) (prompt_plain s rows prompt).story in
-    ap (λ (h : List Event). reply_of (array_after s h) id) (sym same) ∙ ap (λ (x : Option Array). reply_of x id) (own_plays s rows o prompt)
-    ∙ failed_lasts s rows (array_of s (run_state s rows)) id code o prompt (own_plays s rows o prompt) (ap (λ (h : List Event). has_event h (Event.Fail id code)) same ∙ has)
+    ap (λ (h : List Event). reply_of (array_after s h) id) (sym same)
+    ∙ ap (λ (x : Option Array). reply_of x id) (own_plays s rows o prompt)
+    ∙ failed_lasts s rows (array_of s (run_state s rows)) id code o prompt (own_plays s rows o prompt)
+    (ap (λ (h : List Event). has_event h (Event.Fail id code)) same ∙ has)
 
 pub returns-clause-refused : goal.returns-clause-refused
 returns-clause-refused c = λ s rows id o prompt has.
     let same = ap (λ (b : Story). b.history) (prompt_plain s rows prompt).story in
-    ap (λ (h : List Event). reply_of (array_after s h) id) (sym same) ∙ ap (λ (x : Option Array). reply_of x id) (own_plays s rows o prompt)
-    ∙ refused_lasts s rows (array_of s (run_state s rows)) id o prompt (own_plays s rows o prompt) (ap (λ (h : List Event). has_event h (Event.Refuse id)) same ∙ has)
+    ap (λ (h : List Event). reply_of (array_after s h) id) (sym same)
+    ∙ ap (λ (x : Option Array). reply_of x id) (own_plays s rows o prompt)
+    ∙ refused_lasts s rows (array_of s (run_state s rows)) id o prompt (own_plays s rows o prompt)
+    (ap (λ (h : List Event). has_event h (Event.Refuse id)) same ∙ has)
 
 pub returns-clause-checked : goal.returns-clause-checked
 returns-clause-checked c = λ s rows o prompt n status r w check e.
@@ -33,5 +39,5 @@ returns-clause-checked c = λ s rows o prompt n status r w check e.
       tried = c.endings_have_causes.ensures.unanswered;
     } in
     let same = (prompt_plain s rows prompt).story in
-    ran_outcome s rows n status r causes o prompt (subst (λ (h : List Event). HasRun s h (command_id n) r) (sym (ap (λ (b : Story). b.history) same)) w) check
-    (ap (λ (b : Story). ending_of b.ended n) same ∙ e)
+    ran_outcome s rows n status r causes o prompt (subst (λ (h : List Event). HasRun s h (command_id n) r)
+    (sym (ap (λ (b : Story). b.history) same)) w) check (ap (λ (b : Story). ending_of b.ended n) same ∙ e)

@@ -12,5 +12,6 @@ returns c = λ s rows o prompt end n k at e.
       abort = c.endings_have_causes.ensures.abort;
       tried = c.endings_have_causes.ensures.unanswered;
     } in
-    subst (λ (h : List Event). has_sense_stop h n k ≡ true) (ap (λ (b : Story). b.history) (prompt_plain s rows prompt).story)
-    (sense_stopped s rows n k c.wants_are_items.ensures.wants causes c.endings_have_causes.ensures.stopped o prompt end at e)
+    subst (λ (h : List Event). has_sense_stop h n k ≡ true)
+    (ap (λ (b : Story). b.history) (prompt_plain s rows prompt).story) (sense_stopped s rows n k
+    c.wants_are_items.ensures.wants causes c.endings_have_causes.ensures.stopped o prompt end at e)

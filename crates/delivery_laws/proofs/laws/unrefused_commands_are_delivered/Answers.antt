@@ -15,4 +15,5 @@ returns c = λ s rows n k o resets aborts prompt end at valid bears unrefused.
       calm = c.calm_scenarios_have_calm_histories.ensures;
       struck = c.unanswered_commands_were_struck.ensures;
     } in
-    delivered s rows n k laws causes c.limits_are_kept.ensures.failures c.limits_are_kept.ensures.losses c.ended_traces_have_outcomes.ensures.answered o resets aborts prompt end at valid bears unrefused
+    delivered s rows n k laws causes c.limits_are_kept.ensures.failures c.limits_are_kept.ensures.losses
+    c.ended_traces_have_outcomes.ensures.answered o resets aborts prompt end at valid bears unrefused

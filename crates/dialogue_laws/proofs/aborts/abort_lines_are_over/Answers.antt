@@ -10,5 +10,5 @@ returns-clause-ended c = λ s rows n a o prompt end at.
     aborts_ended s rows n a o prompt (c.ended_traces_are_quiet.ensures.unwanted s rows o prompt end) at
 
 pub returns-clause-told : goal.returns-clause-told
-returns-clause-told c = λ s rows n a o prompt end at sent.
-    aborts_told s rows n a o prompt (free_when_ended s rows (joined s rows c.wants_are_items.ensures.wants o prompt) end).stands.connection_is at sent
+returns-clause-told c = λ s rows n a o prompt end at sent. aborts_told s rows n a o prompt
+    (free_when_ended s rows (joined s rows c.wants_are_items.ensures.wants o prompt) end).stands.connection_is at sent

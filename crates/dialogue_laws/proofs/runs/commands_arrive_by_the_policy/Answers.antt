@@ -9,7 +9,9 @@ pub returns-clause-refused : goal.returns-clause-refused
 returns-clause-refused c = λ s rows row n p o prompt w e. refuses s rows row n p (left_of s rows row n p o prompt w) e
 
 pub returns-clause-data : goal.returns-clause-data
-returns-clause-data c = λ s rows row n p o prompt w e more. starts_data s rows row n p (left_of s rows row n p o prompt w) e more
+returns-clause-data c =
+    λ s rows row n p o prompt w e more. starts_data s rows row n p (left_of s rows row n p o prompt w) e more
 
 pub returns-clause-status : goal.returns-clause-status
-returns-clause-status c = λ s rows row n p o prompt w e none. starts_status s rows row n p (left_of s rows row n p o prompt w) e none
+returns-clause-status c =
+    λ s rows row n p o prompt w e none. starts_status s rows row n p (left_of s rows row n p o prompt w) e none

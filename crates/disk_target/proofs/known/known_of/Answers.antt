@@ -19,18 +19,23 @@ returns-clause-known c = record {
   told = λ s rows n fits able h replies ends own calm from. record {
     state = λ p is id name.
         let e = ends p is in
-        let line = line_of_process s p.id p (λ m d x. c.scenarios_fit_the_bus.ensures.commands s m d fits x) (served_of s rows p is) in
-        c.state_of-state.ensures.state s rows c.args.def.now p h able.few ((λ i. process_of s (id i)) ∙ served_of s rows p is) id
-        (e.target ∙ eqb-true n.target c.args.def.now.dev own.own) (sym (c.unit_named-unit.ensures.named (name_of p) name line.unit)) (e.initiator ∙ from)
+        let line = line_of_process s p.id p
+        (λ m d x. c.scenarios_fit_the_bus.ensures.commands s m d fits x) (served_of s rows p is) in
+        c.state_of-state.ensures.state s rows c.args.def.now p h able.few ((λ i. process_of s (id i))
+        ∙ served_of s rows p is) id (e.target ∙ eqb-true n.target c.args.def.now.dev own.own)
+        (sym (c.unit_named-unit.ensures.named (name_of p) name line.unit)) (e.initiator ∙ from)
         (replies n p own calm is);
     outlook = λ p is id name block.
         let e = ends p is in
-        let line = line_of_process s p.id p (λ m d x. c.scenarios_fit_the_bus.ensures.commands s m d fits x) (served_of s rows p is) in
-        c.state_of-state.ensures.outlook s rows c.args.def.now p h ((λ i. is_initiator s.hosts (sym (e.initiator ∙ from) i)) ∙ line.host)
-        (e.target ∙ eqb-true n.target c.args.def.now.dev own.own) (sym (c.unit_named-unit.ensures.named (name_of p) name line.unit)) (e.initiator ∙ from)
-        (sym block)
+        let line = line_of_process s p.id p
+        (λ m d x. c.scenarios_fit_the_bus.ensures.commands s m d fits x) (served_of s rows p is) in
+        c.state_of-state.ensures.outlook s rows c.args.def.now p h
+        ((λ i. is_initiator s.hosts (sym (e.initiator ∙ from) i)) ∙ line.host)
+        (e.target ∙ eqb-true n.target c.args.def.now.dev own.own)
+        (sym (c.unit_named-unit.ensures.named (name_of p) name line.unit)) (e.initiator ∙ from) (sym block)
         (λ writes good. sends_as_named s (array_of s (run_state s rows)) p h.units_are.room.fits h.units_are.room.lines
-        ((λ i. has_target s ((e.target ∙ eqb-true n.target c.args.def.now.dev own.own ∙ sym h.units_dev) i)) ∙ h.units_are.room.target) (served_of s rows p is) writes good);
+        ((λ i. has_target s ((e.target ∙ eqb-true n.target c.args.def.now.dev own.own ∙ sym h.units_dev) i))
+        ∙ h.units_are.room.target) (served_of s rows p is) writes good);
   };
   count = c.state_of-state.ensures.count;
   taken = c.state_of-state.ensures.taken;

@@ -4,5 +4,5 @@ use Rattle.disk_target.specs.declared.known.Known.{Known}
 use Rattle.disk_target.proofs.known.see_known.Goals as goal
 
 pub returns-then-still : goal.returns-then-still
-returns-then-still c =
-    subst (λ (k : Option Known). IsKnownIf c.args.def.now c.args.units.now c.args.progress.now c.args.reply c.args.course.now k) (sym c.refresh.ensures) (c.requires.still c.if-still.true)
+returns-then-still c = subst (λ (k : Option Known). IsKnownIf c.args.def.now c.args.units.now c.args.progress.now
+    c.args.reply c.args.course.now k) (sym c.refresh.ensures) (c.requires.still c.if-still.true)

@@ -17,7 +17,8 @@ returns-clause-state c = λ s rows d p h few is id target unit from reply.
     let k = run_state s rows in
     let a = array_of s k in
     let units = target ∙ sym h.units_dev in
-    let counts = c.counts-counts.ensures.exact s rows p h.progress_is ((λ i. process_of s (c.id.ensures i)) ∙ is) (target ∙ sym h.progress_dev) few in
+    let counts = c.counts-counts.ensures.exact s rows p h.progress_is
+    ((λ i. process_of s (c.id.ensures i)) ∙ is) (target ∙ sym h.progress_dev) few in
     record {
       in_hold = c.holds.ensures s a k.current_since h.units_are
           ∙ (λ i. in_hold a.holds (nexus_at (sym units i) (sym unit i) (sym from i)));
@@ -37,9 +38,15 @@ returns-clause-outlook c = λ s rows d p h host target unit from cdb sends.
     let units = target ∙ sym h.units_dev in
     let size = c.block_size-size.ensures s a k.current_since h.units_are
     ∙ (λ i. size_of (unit_state_at a.units (sym units i) (sym unit i))) in
-    let plan = c.plan-plan.ensures.array s a k.current_since p h.units_are host units unit from (cdb ∙ sym c.block.ensures.value) in
+    let plan = c.plan-plan.ensures.array s a k.current_since p h.units_are host units unit from
+    (cdb ∙ sym c.block.ensures.value) in
     record {
-      plan = λ i. record { status = (plan i).status; sense = (plan i).sense; in_len = (plan i).in_len; out_len = c.taken_by.result };
+      plan = λ i. record {
+        status = (plan i).status;
+        sense = (plan i).sense;
+        in_len = (plan i).in_len;
+        out_len = c.taken_by.result;
+      };
       sent = λ writes good. c.taken_by.ensures
           ∙ (λ i. taken_by (sym (cdb ∙ sym c.block-2.ensures.value) i) (size i))
           ∙ sends writes ((λ i. (sym plan i).status == GOOD) ∙ good);

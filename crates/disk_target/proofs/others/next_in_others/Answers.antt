@@ -15,7 +15,8 @@ returns c = λ s rows n i o line devices away others own reset r.
     let raised : c.rst.result ≡ c.args.itself.now.own.rst = c.rst.ensures.value ∙ (λ i. (c.own.ensures i).rst) in
     c.due_with_reset.ensures
     ∙ (λ j. with_reset (c.myself-me.ensures.exact rows v j) (raised j) (c.reset.ensures j) None)
-    ∙ (λ j. with_reset (record { dev = d.dev; latency = d.latency; own = t.lines; since = (sym own j).row }) (sym own j).rst (sym reset j) None)
+    ∙ (λ j. with_reset (record { dev = d.dev; latency = d.latency; own = t.lines; since = (sym own j).row })
+    (sym own j).rst (sym reset j) None)
     ∙ (λ j. with_reset (myself_by d t i) i.own.rst i.reset (if sym others.away j then hand_by d t f i else None))
     ∙ (λ j. with_reset (myself_by d t i) i.own.rst i.reset (calm_by d t f i (sym others.calm j) (sym others.stands j)))
     ∙ sym (c.dues_are_of_targets.ensures s rows d i f line devices away r refl)

@@ -7,4 +7,5 @@ returns c = λ rows o.
     let v = c.view-view.ensures.trace rows o in
     let req = c.req.ensures ∙ (λ i. (c.drives.ensures.trace rows v i).req) in
     let ack = c.ack.ensures ∙ (λ i. (c.bus.ensures.trace rows v i).ack) in
-    c.waits.ensures ∙ (λ j. waits (req j) (ack j) (c.begun.ensures rows o j) (c.is_pulsed.ensures rows c.args.dev None o j))
+    c.waits.ensures
+    ∙ (λ j. waits (req j) (ack j) (c.begun.ensures rows o j) (c.is_pulsed.ensures rows c.args.dev None o j))

@@ -14,4 +14,5 @@ pub returns-in-Some-clause-trace : goal.returns-in-Some-clause-trace
 returns-in-Some-clause-trace c = λ s rows row d m devices tied line hears own calm turn old.
     let it = subst (λ (x : Option CourseState). IsTurnIf s rows row d x c.args.turn.now) c.in-Some.is turn in
     let t = it m own calm in
-    c.see.ensures.trace s rows row m d t.state devices hears own line.target_is tied.heard_are t.told t.leaving_is (subst (λ (x : Option CourseState). IsCourseIf s rows d.dev x) c.in-Some.is old)
+    c.see.ensures.trace s rows row m d t.state devices hears own line.target_is tied.heard_are t.told t.leaving_is
+    (subst (λ (x : Option CourseState). IsCourseIf s rows d.dev x) c.in-Some.is old)

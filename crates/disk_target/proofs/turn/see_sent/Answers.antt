@@ -11,9 +11,10 @@ returns-in-None-clause-trace c = λ s rows row fits devices tied hears before se
     let none = subst (λ (x : Option Sent). IsSentIf s rows row c.args.gathered.now.dev x) c.in-None.is sent in
     record {
       gathered = g;
-      all = gathered_stay s rows row c.args.gathered.now (λ i x e. c.scenarios_fit_the_bus.ensures.commands s i x fits e) (c.kept_is_plain.ensures.rows s)
-          (c.hearings_are_plain.ensures.hearing s rows row devices.1 devices.0) (λ code e. c.rows_change_one_device.ensures.fault_bus row rows code e)
-          devices tied (λ n own. none) g all;
+      all = gathered_stay s rows row c.args.gathered.now
+          (λ i x e. c.scenarios_fit_the_bus.ensures.commands s i x fits e) (c.kept_is_plain.ensures.rows s)
+          (c.hearings_are_plain.ensures.hearing s rows row devices.1 devices.0)
+          (λ code e. c.rows_change_one_device.ensures.fault_bus row rows code e) devices tied (λ n own. none) g all;
     }
 
 pub returns-in-Some-clause-trace : goal.returns-in-Some-clause-trace
@@ -25,5 +26,6 @@ returns-in-Some-clause-trace c = λ s rows row fits devices tied hears before se
     let unit = subst (λ (w : Hearing). IsAtUnit s rows dev w x.unit) (sym hears) it.at_unit in
     record {
       gathered = c.see.ensures.trace s rows row devices hears before tied.faithful_are sends g;
-      all = c.see.ensures.whole s rows row fits devices hears before tied.faithful_are tied.written_are sends unit g all;
+      all =
+          c.see.ensures.whole s rows row fits devices hears before tied.faithful_are tied.written_are sends unit g all;
     }

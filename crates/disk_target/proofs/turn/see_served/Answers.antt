@@ -25,10 +25,12 @@ returns-in-None-clause-trace c = λ s rows row d n h own calm reset none opening
     let q = c.kept_is_plain.ensures.rows s (row ∷ rows) h.devices in
     let course = h.course n own calm in
     let turn = h.turn.course n own calm in
-    elim (row_serves s rows row d.dev n c.args.course.now f q h.tied (λ m x e. c.scenarios_fit_the_bus.ensures.commands s m x h.fits e) own calm course
+    elim (row_serves s rows row d.dev n c.args.course.now f q h.tied
+    (λ m x e. c.scenarios_fit_the_bus.ensures.commands s m x h.fits e) own calm course
     (unopened s rows row n c.args.course.now c.args.turn.now.opening f course turn.opening_is opening)
     ((λ i. is_reset (sym h.shown_is i)) ∙ reset) ((λ i. abort_of (sym h.shown_is i)) ∙ none)) [
-      | inl e ↦ empty_on s rows row d.dev c.args.processes.now f q (c.scenarios_fit_the_bus.ensures.seats s h.fits) h.tied e att
+      | inl e ↦ empty_on s rows row d.dev c.args.processes.now f q
+          (c.scenarios_fit_the_bus.ensures.seats s h.fits) h.tied e att
       | inr v ↦ let bad : None ≡ Some (name_of v.0) = sym c.in-None.is ∙ c.name.ensures ∙ v.1.knows.named in absurd cc
     ]
 
@@ -43,7 +45,8 @@ returns-in-Some-clause-trace c = λ s rows row d n h own calm reset none opening
     let new = c.see.new.self in
     let x = c.served-served.result in
     let a = array_of s (run_state s rows) in
-    elim (row_serves s rows row d.dev n c.args.course.now f q h.tied (λ m y e. c.scenarios_fit_the_bus.ensures.commands s m y h.fits e) own calm course
+    elim (row_serves s rows row d.dev n c.args.course.now f q h.tied
+    (λ m y e. c.scenarios_fit_the_bus.ensures.commands s m y h.fits e) own calm course
     (unopened s rows row n c.args.course.now c.args.turn.now.opening f course turn.opening_is opening)
     ((λ i. is_reset (sym h.shown_is i)) ∙ reset) ((λ i. abort_of (sym h.shown_is i)) ∙ none)) [
       | inl e ↦
@@ -56,7 +59,8 @@ returns-in-Some-clause-trace c = λ s rows row d n h own calm reset none opening
           let name : c.in-Some.name ≡ name_of p = cc in
           let unit : x.unit ≡ p.unit = c.served-served.ensures.unit ∙ turn.unit_is p v.knows.is v.knows.named in
           let target : p.target ≡ old.units.dev = v.target ∙ sym att.dev_is in
-          let block : c.args.course.now.block ≡ p.cdb → HasBlock p x = λ e. sym (c.served-served.ensures.cdb ∙ (λ i. take 10 (e i)) ∙ take_all 10 p.cdb v.few) in
+          let block : c.args.course.now.block ≡ p.cdb → HasBlock p x = λ e. sym
+          (c.served-served.ensures.cdb ∙ (λ i. take 10 (e i)) ∙ take_all 10 p.cdb v.few) in
           let served : IsServed s old.units.dev p x = record {
             own = record { is = v.there; target_is = target; unit_is = sym unit };
             id_is = sym (c.served-served.ensures.id ∙ v.knows.id);
@@ -66,17 +70,23 @@ returns-in-Some-clause-trace c = λ s rows row d n h own calm reset none opening
             host = v.line.host;
           } in
           let small : p.unit < 8 = v.line.unit in
-          let standing : IsStanding (seat_of a old.units.dev x.unit) p old.standing =
-          subst (λ (z : ℕ). IsStanding (seat_of a z x.unit) p old.standing) (sym att.dev_is) (subst (λ (z : ℕ). IsStanding (seat_of a d.dev z) p old.standing) (sym unit) (att.standing n p own calm v.knows.is)) in
+          let standing : IsStanding (seat_of a old.units.dev x.unit) p old.standing = subst
+          (λ (z : ℕ). IsStanding (seat_of a z x.unit) p old.standing) (sym att.dev_is)
+          (subst (λ (z : ℕ). IsStanding (seat_of a d.dev z) p old.standing)
+          (sym unit) (att.standing n p own calm v.knows.is)) in
           let room = att.kept.units.room in
-          let events : AreOwnEvents s a old.units.dev x.unit p x old.standing (events_of_row s rows row) =
-          own_events s rows row n c.args.course.now p x old.standing old.units.dev x.unit seats att.kept.sound v.front v.attended v.shows v.may v.knows v.there target (sym unit) block
-          (λ runs begins blocks good. c.served-served.ensures.sent
-          ∙ all_sent s rows c.args.gathered.now p n c.args.course.now c.args.turn.now c.args.turn.now.unit room.fits room.lines ((λ i. has_target s (target i)) ∙ room.target) h.gathered h.all (subst (λ (z : ℕ). IsOwnConnection rows z n) (sym h.dev_is) own) calm begins v.knows.is v.there
-          (v.target ∙ sym h.dev_is) (omega (arith, small)) (turn.unit_is p v.knows.is v.knows.named) v.knows.id blocks (turn.taken p v.knows.is v.knows.named)
+          let events : AreOwnEvents s a old.units.dev x.unit p x old.standing (events_of_row s rows row) = own_events
+          s rows row n c.args.course.now p x old.standing old.units.dev x.unit seats att.kept.sound v.front v.attended
+          v.shows v.may v.knows v.there target (sym unit) block (λ runs begins blocks good. c.served-served.ensures.sent
+          ∙ all_sent s rows c.args.gathered.now p n c.args.course.now c.args.turn.now c.args.turn.now.unit
+          room.fits room.lines ((λ i. has_target s (target i)) ∙ room.target) h.gathered h.all
+          (subst (λ (z : ℕ). IsOwnConnection rows z n) (sym h.dev_is) own) calm begins v.knows.is v.there
+          (v.target ∙ sym h.dev_is) (omega (arith, small))
+          (turn.unit_is p v.knows.is v.knows.named) v.knows.id blocks (turn.taken p v.knows.is v.knows.named)
           ((λ i. is_whole_run s (run_state s rows) (writers s rows) (sym v.knows.is i)) ∙ v.attended.whole runs) good)
           standing ((λ i. abort_of (sym h.shown_is i)) ∙ none) in
-          let r : AreProcessesOf s (row ∷ rows) p x.unit new = c.see.ensures.trace s rows row p seats h.tied.allowed_are h.shown_is h.now_is served
+          let r : AreProcessesOf s (row ∷ rows) p x.unit new = c.see.ensures.trace
+          s rows row p seats h.tied.allowed_are h.shown_is h.now_is served
           (subst (λ (l : List Event). AreOwnEvents s a old.units.dev x.unit p x old.standing l) (sym h.shown_is) events)
           (record { sound = att.kept.sound; at = record { units = att.kept.units; standing = standing } }) in
           let dev : new.units.dev ≡ d.dev = c.see.ensures.dev ∙ att.dev_is in
@@ -85,10 +95,14 @@ returns-in-Some-clause-trace c = λ s rows row d n h own calm reset none opening
             kept = record { sound = r.sound; units = r.at.units };
             standing = λ m at z y own_after calm_after is.
                 let stands : connection rows ≡ Some n = own.stands in
-                let both : Some p ≡ Some y = sym v.knows.is ∙ sym (same_served s rows row n z f q stands own_after.stands) ∙ is in
+                let both : Some p ≡ Some y = sym v.knows.is
+                ∙ sym (same_served s rows row n z f q stands own_after.stands) ∙ is in
                 let one : p ≡ y = cc in
-                subst (λ (o : Process). IsStanding (seat_of (array_of s (run_state s (row ∷ rows))) d.dev o.unit) o new.standing) one
-                (subst (λ (o : ℕ). IsStanding (seat_of (array_of s (run_state s (row ∷ rows))) o p.unit) p new.standing) dev
-                (subst (λ (o : ℕ). IsStanding (seat_of (array_of s (run_state s (row ∷ rows))) new.units.dev o) p new.standing) unit r.at.standing));
+                subst (λ (o : Process). IsStanding
+                (seat_of (array_of s (run_state s (row ∷ rows))) d.dev o.unit) o new.standing) one
+                (subst (λ (o : ℕ). IsStanding (seat_of (array_of s (run_state s (row ∷ rows))) o p.unit) p new.standing)
+                dev (subst
+                (λ (o : ℕ). IsStanding (seat_of (array_of s (run_state s (row ∷ rows))) new.units.dev o) p new.standing)
+                unit r.at.standing));
           }
     ]

@@ -1,4 +1,6 @@
-use Rattle.disk_unit.proofs.AtSeats.{started, accepted, refused, guest, chosen, ran, run_at, run, failed, failure_step, ended, end_step, lost, guest_ended, guest_lost, aborted, tag_aborted, cleared, reset}
+use Rattle.disk_unit.proofs.AtSeats.{started, accepted, refused, guest, chosen, ran, run_at, run, failed, failure_step}
+use Rattle.disk_unit.proofs.AtSeats.{ended, end_step, lost, guest_ended, guest_lost, aborted, tag_aborted, cleared}
+use Rattle.disk_unit.proofs.AtSeats.{reset}
 use Rattle.std.proofs.Common.{refl}
 use Rattle.disk_unit.proofs.laws.units_are_seats.Goals as goal
 
@@ -24,19 +26,23 @@ pub returns-clause-execution : goal.returns-clause-execution
 returns-clause-execution c = ran
 
 pub returns-clause-run : goal.returns-clause-run
-returns-clause-run c = λ hosts l con u seat b key p h k lt now none free. (run_at hosts seat u p h.there now none free, run hosts l con u seat b key p h k lt)
+returns-clause-run c = λ hosts l con u seat b key p h k lt now none free.
+    (run_at hosts seat u p h.there now none free, run hosts l con u seat b key p h k lt)
 
 pub returns-clause-failure : goal.returns-clause-failure
-returns-clause-failure c = λ hosts l con u seat b over p reply h r. (failure_step seat over p reply r, failed hosts l con u seat b p.id reply h)
+returns-clause-failure c = λ hosts l con u seat b over p reply h r.
+    (failure_step seat over p reply r, failed hosts l con u seat b p.id reply h)
 
 pub returns-clause-end : goal.returns-clause-end
-returns-clause-end c = λ hosts l con u seat b key p reply h lt k f r. (end_step seat p reply r, ended hosts l con u seat b key p reply h lt k f)
+returns-clause-end c = λ hosts l con u seat b key p reply h lt k f r.
+    (end_step seat p reply r, ended hosts l con u seat b key p reply h lt k f)
 
 pub returns-clause-loss : goal.returns-clause-loss
 returns-clause-loss c = λ hosts l con u seat b key p h k. (refl, lost hosts l con u seat b key p h k)
 
 pub returns-clause-guest_end : goal.returns-clause-guest_end
-returns-clause-guest_end c = λ hosts l con u seat b p reply h lt f r. (end_step seat p reply r, guest_ended hosts l con u seat b p reply h lt f)
+returns-clause-guest_end c =
+    λ hosts l con u seat b p reply h lt f r. (end_step seat p reply r, guest_ended hosts l con u seat b p reply h lt f)
 
 pub returns-clause-guest_loss : goal.returns-clause-guest_loss
 returns-clause-guest_loss c = λ hosts l con u seat b id h f. (refl, guest_lost hosts l con u seat b id h f)

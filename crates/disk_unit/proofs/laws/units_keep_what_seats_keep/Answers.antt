@@ -1,4 +1,5 @@
-use Rattle.disk_unit.proofs.Keeping.{started, arrived, guest, chosen, run, replied, after_status, left, aborted, tag_aborted, cleared, reset, held}
+use Rattle.disk_unit.proofs.Keeping.{started, arrived, guest, chosen, run, replied, after_status, left, aborted}
+use Rattle.disk_unit.proofs.Keeping.{tag_aborted, cleared, reset, held}
 use Rattle.disk_unit.proofs.laws.units_keep_what_seats_keep.Goals as goal
 
 pub returns-clause-start : goal.returns-clause-start

@@ -10,7 +10,8 @@ loop-preserved c =
     let h = c.loop.invariant in
     let fits : length c.in-Ok.block.items ≡ c.args.size = grind (arith, common_steps, c.in-Ok.ensures.items) in (
       grind (arith, common_steps),
-      subst (λ (xs : List (Vec ℕ)). HaveSize c.args.size xs) (sym c.push_reserved.ensures.items) (sized_push c.args.size c.loop.pool.items c.in-Ok.block h.1 fits),
+      subst (λ (xs : List (Vec ℕ)). HaveSize c.args.size xs) (sym c.push_reserved.ensures.items)
+          (sized_push c.args.size c.loop.pool.items c.in-Ok.block h.1 fits),
       grind (arith, common_steps),
       grind (arith, common_steps),
     )

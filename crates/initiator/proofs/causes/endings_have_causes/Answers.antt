@@ -1,4 +1,5 @@
-use Rattle.initiator.proofs.CausesOfRows.{status_cause, loss_cause, reset_cause, abort_cause, unanswered_cause, sense_cause}
+use Rattle.initiator.proofs.CausesOfRows.{status_cause, loss_cause, reset_cause, abort_cause, unanswered_cause}
+use Rattle.initiator.proofs.CausesOfRows.{sense_cause}
 use Rattle.initiator.proofs.causes.endings_have_causes.Goals as goal
 
 pub returns-clause-status : goal.returns-clause-status

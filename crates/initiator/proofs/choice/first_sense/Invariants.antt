@@ -3,4 +3,5 @@ use Rattle.initiator.specs.Books.{my_sense}
 use Rattle.initiator.proofs.choice.first_sense.Given as goal
 
 abbrev pub invariant-loop-number : goal.invariant-loop-number
-invariant-loop-number l = my_sense l.commands.mines (drop l.number-index l.numbers) ≡ my_sense l.commands.mines l.numbers
+invariant-loop-number l =
+    my_sense l.commands.mines (drop l.number-index l.numbers) ≡ my_sense l.commands.mines l.numbers

@@ -13,8 +13,8 @@ use Rattle.initiator.proofs.Unasked.{any_byte, any_stage}
 use Rattle.initiator.proofs.due.acting_due.Goals as goal
 
 pub initiator_due-requires-clause-seen : goal.initiator_due-requires-clause-seen
-initiator_due-requires-clause-seen c =
-    c.lines_seen.ensures.timely (2 ^ 63) (subst (λ (v : BusViewValue). IsTimely (2 ^ 63) v) (sym c.view-view.ensures.value) c.requires.timely)
+initiator_due-requires-clause-seen c = c.lines_seen.ensures.timely (2 ^ 63)
+    (subst (λ (v : BusViewValue). IsTimely (2 ^ 63) v) (sym c.view-view.ensures.value) c.requires.timely)
 
 pub returns : goal.returns
 returns c = λ rows o mine.
@@ -24,8 +24,10 @@ returns c = λ rows o mine.
     let i : InitiatorState = state_known c.args.known.now in
     let a = answering_of_host t i in
     let pace = c.pace-pace.ensures.exact rows h.dev (Some h) o refl in
-    let given = c.answering.ensures.exact rows h.dev o ∙ (λ j. with_byte_if (drives_byte (mine j).own (bus rows) (pace j).pulsed) a) in
-    c.initiator_due.ensures
-    ∙ (λ j. hand.initiator_due (c.begun.ensures rows o j) (c.lines_seen.ensures.trace rows v j) (c.handshakes.ensures.trace rows v j) (mine j) (pace j) (given j))
-    ∙ any_stage (begun rows) (sight rows) (handshakes rows) (myself_by h t i) (pace_of t (Some h)) (with_byte_if (drives_byte t.lines (bus rows) (pace_of t (Some h)).pulsed) a)
+    let given = c.answering.ensures.exact rows h.dev o
+    ∙ (λ j. with_byte_if (drives_byte (mine j).own (bus rows) (pace j).pulsed) a) in
+    c.initiator_due.ensures ∙ (λ j. hand.initiator_due (c.begun.ensures rows o j)
+    (c.lines_seen.ensures.trace rows v j) (c.handshakes.ensures.trace rows v j) (mine j) (pace j) (given j))
+    ∙ any_stage (begun rows) (sight rows) (handshakes rows) (myself_by h t i) (pace_of t (Some h))
+    (with_byte_if (drives_byte t.lines (bus rows) (pace_of t (Some h)).pulsed) a)
     ∙ any_byte (begun rows) (sight rows) (handshakes rows) (myself_by h t i) (pace_of t (Some h)) a

@@ -9,5 +9,6 @@ pub returns-then-waits : goal.returns-then-waits
 returns-then-waits c = λ rows o mine.
     let h = c.args.host.now in
     let v = c.view-view.ensures.trace rows o in
-    let now = c.waits.ensures ∙ (λ j. waits (mine j).own (c.bus.ensures.trace rows v j) (c.begun.ensures rows o j) (c.is_pulsed.ensures rows h.dev (Some h) o j)) in
+    let now = c.waits.ensures ∙ (λ j. waits (mine j).own (c.bus.ensures.trace rows v j)
+    (c.begun.ensures rows o j) (c.is_pulsed.ensures rows h.dev (Some h) o j)) in
     sym (plain_is h (told rows h.dev) (state_known c.args.known.now) (sym now ∙ c.if-waits.true))

@@ -4,5 +4,6 @@ use Rattle.initiator.specs.Books.{abort_tried_at}
 use Rattle.initiator.proofs.marks.all_aborts_tried.Given as goal
 
 abbrev pub invariant-loop-abort : goal.invariant-loop-abort
-invariant-loop-abort l =
-    l.aborts ≡ map (λ (m : MyAbort). abort_tried_at l.number m) (take l.abort-index l.initial.aborts) ++ drop l.abort-index l.initial.aborts
+invariant-loop-abort l = l.aborts
+    ≡ map (λ (m : MyAbort). abort_tried_at l.number m) (take l.abort-index l.initial.aborts)
+    ++ drop l.abort-index l.initial.aborts

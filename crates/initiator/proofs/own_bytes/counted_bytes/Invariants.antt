@@ -4,4 +4,5 @@ use Rattle.initiator.proofs.own_bytes.counted_bytes.Given as goal
 
 abbrev pub invariant-loop : goal.invariant-loop
 invariant-loop l =
-    (l.bytes.items ++ bytes_from (l.first + l.counter) (l.count - l.counter) ≡ bytes_from l.first l.count) × (l.byte ≡ (l.first + l.counter) % 256)
+    (l.bytes.items ++ bytes_from (l.first + l.counter) (l.count - l.counter) ≡ bytes_from l.first l.count)
+    × (l.byte ≡ (l.first + l.counter) % 256)

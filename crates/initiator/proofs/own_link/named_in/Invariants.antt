@@ -3,4 +3,5 @@ use Rattle.initiator.specs.OwnLinks.{named_in}
 use Rattle.initiator.proofs.own_link.named_in.Given as goal
 
 abbrev pub invariant-loop-mine : goal.invariant-loop-mine
-invariant-loop-mine l = named_in (drop l.mine-index l.mines) l.target l.unit l.tag ≡ named_in l.mines l.target l.unit l.tag
+invariant-loop-mine l =
+    named_in (drop l.mine-index l.mines) l.target l.unit l.tag ≡ named_in l.mines l.target l.unit l.tag

@@ -8,5 +8,6 @@ returns c = record {
   answered = λ s rows o prompt end.
       let h : Indebted s rows = indebted s rows o prompt in
       let j = joined s rows c.wants_are_items.ensures.wants o prompt in
-      answered_when_ended s rows o j end (record { items = h.whole.facts.items; places = h.whole.places }) (all_queued s rows o prompt) h.owed;
+      answered_when_ended s rows o j end (record { items = h.whole.facts.items; places = h.whole.places })
+      (all_queued s rows o prompt) h.owed;
 }

@@ -5,7 +5,8 @@ use Rattle.scenario.specs.Index.{IsIndexOf}
 use Rattle.scenario.proofs.reading.read_lines.Given as goal
 
 abbrev pub invariant-loop-rest : goal.invariant-loop-rest
-invariant-loop-rest l = IsReading l.bytes (seen l.draft) l.count l.rest × IsIndexOf l.draft.blocks l.draft.scenario.fills
+invariant-loop-rest l =
+    IsReading l.bytes (seen l.draft) l.count l.rest × IsIndexOf l.draft.blocks l.draft.scenario.fills
 
 abbrev pub decreases-loop-rest : goal.decreases-loop-rest
 decreases-loop-rest l = length l.rest

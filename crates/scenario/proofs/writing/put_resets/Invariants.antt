@@ -4,4 +4,5 @@ use Rattle.scenario.specs.Writing.{said_line, said_reset}
 use Rattle.scenario.proofs.writing.put_resets.Given as goal
 
 abbrev pub invariant-loop-def : goal.invariant-loop-def
-invariant-loop-def l = l.out.items ≡ l.initial.out.items ++ flat_map said_line (map said_reset (take l.def-index l.defs))
+invariant-loop-def l =
+    l.out.items ≡ l.initial.out.items ++ flat_map said_line (map said_reset (take l.def-index l.defs))

@@ -4,4 +4,5 @@ use Rattle.scenario.specs.Writing.{said_line, said_target}
 use Rattle.scenario.proofs.writing.put_targets.Given as goal
 
 abbrev pub invariant-loop-def : goal.invariant-loop-def
-invariant-loop-def l = l.out.items ≡ l.initial.out.items ++ flat_map said_line (map (said_target l.version) (take l.def-index l.defs))
+invariant-loop-def l =
+    l.out.items ≡ l.initial.out.items ++ flat_map said_line (map (said_target l.version) (take l.def-index l.defs))

@@ -1,6 +1,7 @@
 use Rattle.std.proofs.Common.{◌^◌, arith}
 use Rattle.bus_due.specs.RunSteps.{run_state}
-use Rattle.scsi_device.proofs.FitLines.{obeys_fits, seats_are, units_are, command_fits, abort_fits, host_fits, target_fits, unit_fits}
+use Rattle.scsi_device.proofs.FitLines.{obeys_fits, seats_are, units_are, command_fits, abort_fits, host_fits}
+use Rattle.scsi_device.proofs.FitLines.{target_fits, unit_fits}
 use Rattle.scsi_device.proofs.WantTimes.{wants_before, next_reset_before}
 use Rattle.scsi_device.proofs.laws.scenarios_fit_the_bus.Goals as goal
 
@@ -29,4 +30,7 @@ pub returns-clause-found_units : goal.returns-clause-found_units
 returns-clause-found_units c = λ s target unit u f e. unit_fits s target unit u f e
 
 pub returns-clause-times : goal.returns-clause-times
-returns-clause-times c = λ s rows dev released f. (wants_before (2 ^ 63) s (run_state s rows).story.sent dev (omega arith) f, next_reset_before (2 ^ 63) s dev released (omega arith) f)
+returns-clause-times c = λ s rows dev released f. (
+  wants_before (2 ^ 63) s (run_state s rows).story.sent dev (omega arith) f,
+  next_reset_before (2 ^ 63) s dev released (omega arith) f,
+)

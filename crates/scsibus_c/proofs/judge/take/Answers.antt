@@ -7,8 +7,8 @@ use Rattle.scsibus_c.proofs.Past.{one_more, as_many_so_far, all_of_device}
 use Rattle.scsibus_c.proofs.judge.take.Goals as goal
 
 pub feed-requires : goal.feed-requires
-feed-requires c =
-    subst (λ (r : Row). r.dev < 8) (sym c.row_of.ensures) (all_of_device c.args.rows.now c.loop-row.row-index _ c.requires c.loop-row-test.true)
+feed-requires c = subst (λ (r : Row). r.dev < 8) (sym c.row_of.ensures)
+    (all_of_device c.args.rows.now c.loop-row.row-index _ c.requires c.loop-row-test.true)
 
 pub loop-row-preserved : goal.loop-row-preserved
 loop-row-preserved c = λ past is few.
@@ -18,4 +18,5 @@ loop-row-preserved c = λ past is few.
     let inside : i < length xs = c.loop-row-test.true in
     let many : length seen ≡ i + length past = as_many_so_far past xs i (omega arith) in
     let kept = c.feed.ensures.kept seen (c.loop-row.invariant past is few) (omega arith) in
-    subst (λ (ps : List Row). IsJudgeOf ps c.feed.new.self) (sym (one_more past xs i _ inside ∙ ap (λ (r : Row). r ∷ seen) (sym c.row_of.ensures))) kept
+    subst (λ (ps : List Row). IsJudgeOf ps c.feed.new.self)
+    (sym (one_more past xs i _ inside ∙ ap (λ (r : Row). r ∷ seen) (sym c.row_of.ensures))) kept

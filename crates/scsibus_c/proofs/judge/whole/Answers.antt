@@ -10,4 +10,5 @@ returns c =
     let seen : List Row = rows_after [] c.args.rows.now in
     let many = as_many [] c.args.rows.now in
     let few = c.requires.few in
-    c.told.ensures ∙ ap (λ (v : Verdict). told v) (c.finish.ensures seen (c.take.ensures [] c.new-judge.ensures (omega arith)) (omega arith))
+    c.told.ensures ∙ ap (λ (v : Verdict). told v)
+    (c.finish.ensures seen (c.take.ensures [] c.new-judge.ensures (omega arith)) (omega arith))

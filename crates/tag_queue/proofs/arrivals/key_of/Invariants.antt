@@ -5,7 +5,7 @@ use Rattle.tag_queue.specs.Stored.{queued_at, AreKept}
 use Rattle.tag_queue.proofs.arrivals.key_of.Given as goal
 
 abbrev pub invariant-loop-arrival : goal.invariant-loop-arrival
-invariant-loop-arrival l =
-    (current : Option ℕ) × (before : List Entry)
+invariant-loop-arrival l = (current : Option ℕ) × (before : List Entry)
     × AreKept l.entries None current before (drop l.arrival-index l.arrivals)
-    × (key_of (queued_at l.entries (drop l.arrival-index l.arrivals)) l.from l.tag ≡ key_of (queued_at l.entries l.arrivals) l.from l.tag)
+    × (key_of (queued_at l.entries (drop l.arrival-index l.arrivals)) l.from l.tag
+    ≡ key_of (queued_at l.entries l.arrivals) l.from l.tag)

@@ -16,16 +16,22 @@ loop-arrival-preserved c =
     let within : i < length xs = omega arith in
     let left = drop_more xs i (record { key = 0; earlier = 0 }) within in
     let kept = subst (λ (ys : List Arrival). AreKept c.args.entries.now None h.0 h.1 ys) left h.2 in
-    let before : List Entry = before_with (is_out None h.0 (get_or xs i (record { key = 0; earlier = 0 })).key) h.1 kept.0 in
+    let before : List Entry = before_with
+    (is_out None h.0 (get_or xs i (record { key = 0; earlier = 0 })).key) h.1 kept.0 in
     let further : i < i + 1 = omega arith in
-    let lower : c.if-passed.lowered_arrival ≡ (c.loop-arrival.passed && holds_back c.live_entry-leaving.result c.live_entry-entry.result) =
-    elim c.if-passed.branch [
-      | then-passed w ↦ w.lowered_arrival-is ∙ w.holds_back.ensures ∙ sym (ap (λ (b : Bool). b && holds_back c.live_entry-leaving.result c.live_entry-entry.result) w.if-passed.true)
-      | else-passed w ↦ w.lowered_arrival-is ∙ w.if-passed.false ∙ sym (ap (λ (b : Bool). b && holds_back c.live_entry-leaving.result c.live_entry-entry.result) w.if-passed.false)
+    let lower : c.if-passed.lowered_arrival
+    ≡ (c.loop-arrival.passed && holds_back c.live_entry-leaving.result c.live_entry-entry.result) = elim
+    c.if-passed.branch [
+      | then-passed w ↦ w.lowered_arrival-is ∙ w.holds_back.ensures ∙ sym
+          (ap (λ (b : Bool). b && holds_back c.live_entry-leaving.result c.live_entry-entry.result) w.if-passed.true)
+      | else-passed w ↦ w.lowered_arrival-is ∙ w.if-passed.false ∙ sym
+          (ap (λ (b : Bool). b && holds_back c.live_entry-leaving.result c.live_entry-entry.result) w.if-passed.false)
     ] in (
       h.0,
       before,
-      subst (λ (ys : List Arrival). AreKept c.args.entries.now None h.0 before ys) (sym (drop-set-lt (i + 1) xs i c.lowered_arrival.result further)) kept.3,
-      lowered_step c.args.entries.now c.live_entry-leaving.result c.args.key c.loop-arrival.passed c.if-passed.lowered_arrival xs i (record { key = 0; earlier = 0 }) c.lowered_arrival.result
+      subst (λ (ys : List Arrival). AreKept c.args.entries.now None h.0 before ys)
+          (sym (drop-set-lt (i + 1) xs i c.lowered_arrival.result further)) kept.3,
+      lowered_step c.args.entries.now c.live_entry-leaving.result c.args.key c.loop-arrival.passed
+          c.if-passed.lowered_arrival xs i (record { key = 0; earlier = 0 }) c.lowered_arrival.result
           c.live_entry-entry.result within c.live_entry-entry.ensures lower c.lowered_arrival.ensures _ h.3,
     )

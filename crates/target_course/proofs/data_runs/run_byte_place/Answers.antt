@@ -17,7 +17,8 @@ returns c = λ given h.
     let t : Task = c.args.task.now in
     let run : ℕ = t.runs + one_if c.args.done in
     let number = c.saturating_add-run.ensures ∙ (λ j. min (t.runs + c.one_if.ensures j) (2 ^ 64 - 1)) in
-    let start = c.run_start.ensures ∙ (λ j. min (run_at policy t (number j)).start (2 ^ 64 - 1)) ∙ start_held policy t run (2 ^ 64 - 1) (omega arith) in
+    let start = c.run_start.ensures ∙ (λ j. min (run_at policy t (number j)).start (2 ^ 64 - 1))
+    ∙ start_held policy t run (2 ^ 64 - 1) (omega arith) in
     (λ j. slice_index_or given (c.saturating_add.ensures j) 0)
     ∙ (λ j. slice_index_or given (min (start j + c.args.place) (2 ^ 64 - 1)) 0)
     ∙ (λ j. slice_index_or given (held_sum (run_at policy t run).start c.args.place (2 ^ 64 - 1) j) 0)

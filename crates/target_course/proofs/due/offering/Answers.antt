@@ -13,8 +13,10 @@ returns-clause-exact c = λ rows given o b e.
     let asked = c.handshakes.ensures.trace rows v in
     let begins = c.begun.ensures rows o in
     let lines = c.bus.ensures.trace rows v in
-    let bytes : AreBytesOf sv (next_phase.leaving_by sv c.begun.result c.bus.result) c.handshakes.result.now.requests c.args.known.now.bytes = record {
+    let bytes : AreBytesOf sv (next_phase.leaving_by sv c.begun.result c.bus.result) c.handshakes.result.now.requests
+    c.args.known.now.bytes = record {
       next_is = b.next_is ∙ (λ j. data_byte (policy_of sv.def) sv.task sv.given 0 (sym asked j).requests);
-      first_is = b.first_is ∙ (λ j. data_byte (policy_of sv.def) sv.task sv.given (one_if (next_phase.leaving_by sv (sym begins j) (sym lines j)).done) 0);
+      first_is = b.first_is ∙ (λ j. data_byte (policy_of sv.def) sv.task sv.given
+          (one_if (next_phase.leaving_by sv (sym begins j) (sym lines j)).done) 0);
     } in
     c.offering_by.ensures.exact given bytes ∙ (λ j. ends.offering_by sv (begins j) (e j) (lines j) (asked j))

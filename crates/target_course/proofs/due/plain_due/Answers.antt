@@ -10,4 +10,5 @@ returns c = λ rows given o b.
     let d : TargetDef = c.args.known.now.serving.def in
     let paced = c.pace-pace.ensures.exact rows d.dev None o refl in
     c.due_of_offering.ensures rows (state_of c.args.known.now given) o refl
-    ∙ (λ j. due_of_offering d (told rows d.dev) (state_of c.args.known.now given) (paced j) (c.offering-offering.ensures.exact rows given o b (λ i. (paced i).pulsed) j))
+    ∙ (λ j. due_of_offering d (told rows d.dev) (state_of c.args.known.now given) (paced j)
+    (c.offering-offering.ensures.exact rows given o b (λ i. (paced i).pulsed) j))

@@ -12,7 +12,8 @@ returns-clause-exact c = λ given b.
     let next = b.next_is ∙ (λ j. data_byte (policy_of v.def) v.task v.given 0 (sym c.requests.ensures j)) in
     let first = b.first_is ∙ (λ j. data_byte (policy_of v.def) v.task v.given (one_if (sym left j).done) 0) in
     λ j. record {
-      byte = (c.phase_byte.ensures given 0 next ∙ (λ i. phase_byte v (c.phase_of.ensures i) v.plan.messages 0 (c.requests.ensures i))) j;
+      byte = (c.phase_byte.ensures given 0 next
+          ∙ (λ i. phase_byte v (c.phase_of.ensures i) v.plan.messages 0 (c.requests.ensures i))) j;
       follows = c.follows_by.ensures given j;
       to = (c.lines_by.ensures given first ∙ (λ i. lines_by v (c.io.ensures i) (left i) (left i).to)) j;
       wait = c.seek_before.ensures.exact given j;

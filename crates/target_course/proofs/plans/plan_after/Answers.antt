@@ -5,5 +5,5 @@ use Rattle.target_course.proofs.Fits.{plan_fits}
 use Rattle.target_course.proofs.plans.plan_after.Goals as goal
 
 pub returns-clause-fits : goal.returns-clause-fits
-returns-clause-fits c = λ x y.
-    subst (λ (p : Plan). AreFit p.messages) (sym c.plan_by.ensures) (plan_fits c.args.hearing.now c.args.leaving.now c.args.plan.now x y)
+returns-clause-fits c = λ x y. subst (λ (p : Plan). AreFit p.messages) (sym c.plan_by.ensures)
+    (plan_fits c.args.hearing.now c.args.leaving.now c.args.plan.now x y)

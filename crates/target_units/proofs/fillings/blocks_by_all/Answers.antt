@@ -5,5 +5,7 @@ use Rattle.target_units.proofs.fillings.blocks_by_all.Goals as goal
 
 pub returns : goal.returns
 returns c =
-    let none : blocks_by_all c.args.def.now (drop c.loop-command.command-index c.args.commands.now) ≡ 0 = at_drop_all (λ commands. blocks_by_all c.args.def.now commands) c.args.commands.now c.loop-command.command-index c.loop-command-test.false in
+    let none : blocks_by_all c.args.def.now (drop c.loop-command.command-index c.args.commands.now) ≡ 0 = at_drop_all
+    (λ commands. blocks_by_all c.args.def.now commands) c.args.commands.now
+    c.loop-command.command-index c.loop-command-test.false in
     omega (arith, none, c.loop-command.invariant.sum, c.loop-command.invariant.bound)

@@ -10,6 +10,8 @@ invariant-loop-one l = record {
   size : l.blocks.contents.size ≡ l.def.size;
   within : l.one-index ≤ length l.fills;
   room : fill_count l.def (drop l.one-index l.fills) ≤ l.blocks.spare;
-  spare : l.initial.blocks.spare + fill_count l.def (drop l.one-index l.fills) ≤ l.blocks.spare + fill_count l.def l.fills;
-  contents : filled_contents l.def (drop l.one-index l.fills) l.blocks.contents ≡ filled_contents l.def l.fills l.initial.blocks.contents;
+  spare : l.initial.blocks.spare + fill_count l.def (drop l.one-index l.fills)
+      ≤ l.blocks.spare + fill_count l.def l.fills;
+  contents : filled_contents l.def (drop l.one-index l.fills) l.blocks.contents
+      ≡ filled_contents l.def l.fills l.initial.blocks.contents;
 }

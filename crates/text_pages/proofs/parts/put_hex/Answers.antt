@@ -5,4 +5,5 @@ use Rattle.text_pages.proofs.parts.put_hex.Goals as goal
 use Rattle.bus_base.proofs.Tests.{dropped}
 
 pub loop-byte-preserved : goal.loop-byte-preserved
-loop-byte-preserved g c = goes_on _ c.loop-byte.invariant c.put_byte.ensures (ap hex_text (dropped _ _ _ c.loop-byte-test.true))
+loop-byte-preserved g c =
+    goes_on _ c.loop-byte.invariant c.put_byte.ensures (ap hex_text (dropped _ _ _ c.loop-byte-test.true))

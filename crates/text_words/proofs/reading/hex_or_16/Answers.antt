@@ -15,5 +15,5 @@ either true false x y = let h = mod-lt y {m = 16} (omega arith) in omega arith
 either false r x y = omega arith
 
 pub returns-clause-small : goal.returns-clause-small
-returns-clause-small c =
-    rw (value_at HEX_VALUES hex_or_16 256 c.args.byte tt (omega arith)) (either (is_hex c.args.byte) (nat_lt c.args.byte 97) (c.args.byte - 48) (c.args.byte - 87))
+returns-clause-small c = rw (value_at HEX_VALUES hex_or_16 256 c.args.byte tt (omega arith))
+    (either (is_hex c.args.byte) (nat_lt c.args.byte 97) (c.args.byte - 48) (c.args.byte - 87))

@@ -6,5 +6,6 @@ use Rattle.text_words.proofs.writing.byte_text.Goals as goal
 
 pub returns : goal.returns
 returns c =
-    let at = pair_at PAIRS (λ (n : ℕ). hex_digit (n / 16)) (λ (n : ℕ). hex_digit (n % 16)) 256 c.args.byte tt (omega arith) in
+    let at = pair_at PAIRS (λ (n : ℕ). hex_digit (n / 16))
+    (λ (n : ℕ). hex_digit (n % 16)) 256 c.args.byte tt (omega arith) in
     λ i. at.0 i ∷ at.1 i ∷ []

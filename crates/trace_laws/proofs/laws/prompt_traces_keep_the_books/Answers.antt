@@ -9,7 +9,8 @@ pub returns-clause-books : goal.returns-clause-books
 returns-clause-books c = λ s rows o prompt. (whole s rows o prompt).stood.books
 
 pub returns-clause-faithful : goal.returns-clause-faithful
-returns-clause-faithful c = λ s rows o prompt. trace_faithful s rows (units_are s (obeys_fits s o)) (whole s rows o prompt).rows_are
+returns-clause-faithful c =
+    λ s rows o prompt. trace_faithful s rows (units_are s (obeys_fits s o)) (whole s rows o prompt).rows_are
 
 pub returns-clause-bytes : goal.returns-clause-bytes
 returns-clause-bytes c = λ s rows n o dv. byte_values s rows n o (seats_are s (obeys_fits s o)) dv

@@ -8,4 +8,6 @@ use Rattle.text_pages.proofs.Putting.{IsOn}
 use Rattle.trace_text.proofs.blocks_part.put_disks.Given as goal
 
 abbrev pub invariant-loop-index : goal.invariant-loop-index
-invariant-loop-index g l = IsOn (place (g.K.Sink.written l.initial.out) (g.K.Sink.faults l.initial.out) l.initial.page) (place (g.K.Sink.written l.out) (g.K.Sink.faults l.out) l.page) (disks_text (map disk_name l.units) (map held_by l.disks)) (disks_text (map disk_name (drop l.index l.units)) (map held_by (drop l.index l.disks)))
+invariant-loop-index g l = IsOn (place (g.K.Sink.written l.initial.out) (g.K.Sink.faults l.initial.out) l.initial.page)
+    (place (g.K.Sink.written l.out) (g.K.Sink.faults l.out) l.page) (disks_text (map disk_name l.units)
+    (map held_by l.disks)) (disks_text (map disk_name (drop l.index l.units)) (map held_by (drop l.index l.disks)))

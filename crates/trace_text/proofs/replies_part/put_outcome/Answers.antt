@@ -10,4 +10,5 @@ returns-in-Good g c =
     put_as _ (and_then c.put.ensures c.put_bytes.ensures) (text ∙ (λ j. outcome_text (sym c.in-Good.is j)))
 
 pub returns-in-Check : goal.returns-in-Check
-returns-in-Check g c = put_as _ (and_then c.put-in-Check.ensures c.put_sense.ensures) (λ j. outcome_text (sym c.in-Check.is j))
+returns-in-Check g c =
+    put_as _ (and_then c.put-in-Check.ensures c.put_sense.ensures) (λ j. outcome_text (sym c.in-Check.is j))

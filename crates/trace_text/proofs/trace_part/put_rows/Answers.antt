@@ -9,4 +9,5 @@ pub loop-row-init : goal.loop-row-init
 loop-row-init g c = begins _ _ _ refl
 
 pub loop-row-preserved : goal.loop-row-preserved
-loop-row-preserved g c = goes_on _ c.loop-row.invariant c.put_row.ensures (ap (λ rows. flat_map row_text rows) (item_next _ _ _ c.loop-row-test.true c.row-item.is))
+loop-row-preserved g c = goes_on _ c.loop-row.invariant c.put_row.ensures
+    (ap (λ rows. flat_map row_text rows) (item_next _ _ _ c.loop-row-test.true c.row-item.is))

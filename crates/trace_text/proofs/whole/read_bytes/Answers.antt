@@ -16,8 +16,12 @@ loop-at-preserved c =
     let few = rest_fits text c.loop-at.at c.loop-at.invariant.within c.requires in
     let onto = next text c.loop-at.at c.take-told.result.1 in
     record {
-      within = let some = c.loop-at-test.true in let more = c.take-told.ensures.within in omega (arith, left-len text c.loop-at.at);
-      reader = subst (λ (l : List ℕ). IsReaderOf l c.take-told.new.self) onto (c.take-told.ensures.kept read c.loop-at.invariant.reader few);
+      within =
+          let some = c.loop-at-test.true in
+          let more = c.take-told.ensures.within in
+          omega (arith, left-len text c.loop-at.at);
+      reader = subst (λ (l : List ℕ). IsReaderOf l c.take-told.new.self) onto
+          (c.take-told.ensures.kept read c.loop-at.invariant.reader few);
       rows =
           where_kept c.keep.result (sym c.is_err.ensures.value ∙ c.if-is_err.false) c.keep.ensures
           ∙ ap (λ (l : List Row). rows_next c.take-told.result.0 l) c.loop-at.invariant.rows

@@ -7,9 +7,11 @@ use Rattle.vcd_text.proofs.writing.put_change.Goals as goal
 pub returns-then-last-time-clause-text : goal.returns-then-last-time-clause-text
 returns-then-last-time-clause-text g c =
     let line = value_text c.args.dev c.args.lines in
-    put_as _ c.put.ensures (c.value_line.ensures ∙ ap (λ (text : List ℕ). text ++ line) (time_hidden c.args.last c.args.time (omega (arith, c.if-last-time.true))))
+    put_as _ c.put.ensures (c.value_line.ensures
+    ∙ ap (λ (text : List ℕ). text ++ line) (time_hidden c.args.last c.args.time (omega (arith, c.if-last-time.true))))
 
 pub returns-clause-text : goal.returns-clause-text
 returns-clause-text g c =
     let line = value_text c.args.dev c.args.lines in
-    put_as _ c.put_later.ensures (ap (λ (text : List ℕ). text ++ line) (time_shown c.args.last c.args.time (omega (arith, c.if-last-time.false))))
+    put_as _ c.put_later.ensures
+    (ap (λ (text : List ℕ). text ++ line) (time_shown c.args.last c.args.time (omega (arith, c.if-last-time.false))))

@@ -14,4 +14,6 @@ returns c =
     let q = c.nibble-q.ensures ∙ third n in
     let r = c.nibble-r.ensures ∙ second n in
     let s = c.nibble-s.ensures ∙ first n in
-    λ i. 98 ∷ c.bit.ensures i ∷ c.bit-2.ensures i ∷ at 0 p i ∷ at 1 p i ∷ at 2 p i ∷ at 3 p i ∷ at 0 q i ∷ at 1 q i ∷ at 2 q i ∷ at 3 q i ∷ at 0 r i ∷ at 1 r i ∷ at 2 r i ∷ at 3 r i ∷ at 0 s i ∷ at 1 s i ∷ at 2 s i ∷ at 3 s i ∷ 32 ∷ (97 + c.args.dev) ∷ 10 ∷ []
+    λ i. 98 ∷ c.bit.ensures i ∷ c.bit-2.ensures i ∷ at 0 p i ∷ at 1 p i ∷ at 2 p i ∷ at 3 p i ∷ at 0 q i ∷ at 1 q i
+    ∷ at 2 q i ∷ at 3 q i ∷ at 0 r i ∷ at 1 r i ∷ at 2 r i ∷ at 3 r i ∷ at 0 s i ∷ at 1 s i ∷ at 2 s i ∷ at 3 s i ∷ 32
+    ∷ (97 + c.args.dev) ∷ 10 ∷ []

@@ -10,4 +10,5 @@ returns-then-is_failed-clause-whole g c =
 pub returns-else-is_failed-clause-whole : goal.returns-else-is_failed-clause-whole
 returns-else-is_failed-clause-whole g c =
     let put = put_as _ (and_then c.put_dump.ensures c.flush.ensures.put) (append-nil _) in
-    whole_ok _ _ _ put c.new_page-page.ensures.fresh (sym c.if-is_failed.ensures) c.new_page-page.ensures.empty c.flush.ensures.clear
+    whole_ok _ _ _ put c.new_page-page.ensures.fresh
+    (sym c.if-is_failed.ensures) c.new_page-page.ensures.empty c.flush.ensures.clear

@@ -7,7 +7,8 @@ use Rattle.bus_cli.proofs.hearing.Hearing.take_all.Given as goal
 abbrev pub invariant-loop-at : goal.invariant-loop-at
 invariant-loop-at l = record {
   within : l.at ≤ length l.piece;
-  heard : (bytes : List ℕ) → IsHearingOf bytes l.initial.self → length bytes + length l.piece ≤ TRACE_LIMIT → IsHearingOf (reverse (take l.at l.piece) ++ bytes) l.self;
+  heard : (bytes : List ℕ) → IsHearingOf bytes l.initial.self → length bytes + length l.piece ≤ TRACE_LIMIT
+      → IsHearingOf (reverse (take l.at l.piece) ++ bytes) l.self;
 }
 
 abbrev pub decreases-loop-at : goal.decreases-loop-at

@@ -8,5 +8,7 @@ returns-in-RowRead-clause-kept c = λ bytes h few.
     let short = rows_short bytes in
     record {
       reader = c.take-told.ensures.kept bytes h.reader few;
-      judge = hears_row (rows_of bytes) _ c.take-told.result.0 c.in-RowRead.row _ (c.take-told.ensures.rows bytes h.reader few) c.in-RowRead.is (c.take.ensures (rows_of bytes) h.judge (omega arith));
+      judge = hears_row (rows_of bytes) _ c.take-told.result.0 c.in-RowRead.row _
+          (c.take-told.ensures.rows bytes h.reader few) c.in-RowRead.is
+          (c.take.ensures (rows_of bytes) h.judge (omega arith));
     }

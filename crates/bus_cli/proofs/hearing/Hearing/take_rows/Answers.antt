@@ -18,6 +18,9 @@ loop-row-preserved c =
           let so_far = c.loop-row.invariant.heard bytes h few in
           let fits = room piece bytes at c.loop-row.invariant.within few in
           let short = rows_short read in
-          subst (λ (l : List ℕ). IsHearingOf l (hearing (reader_of c.take.new.self) c.take-in-Some-take.new.self)) (onward piece bytes at len)
-          (hears_more read (reverse (take len (left piece at)) ++ read) row (reader_of c.take.new.self) c.take-in-Some-take.new.self (c.in-Some-take.ensures.rows read so_far.reader fits) (c.in-Some-take.ensures.kept read so_far.reader fits) (c.take-in-Some-take.ensures (rows_of read) so_far.judge (omega arith)));
+          subst (λ (l : List ℕ). IsHearingOf l (hearing (reader_of c.take.new.self) c.take-in-Some-take.new.self))
+          (onward piece bytes at len) (hears_more read (reverse (take len (left piece at)) ++ read) row
+          (reader_of c.take.new.self) c.take-in-Some-take.new.self
+          (c.in-Some-take.ensures.rows read so_far.reader fits) (c.in-Some-take.ensures.kept read so_far.reader fits)
+          (c.take-in-Some-take.ensures (rows_of read) so_far.judge (omega arith)));
     }

@@ -14,6 +14,8 @@ returns c = λ rows h.
     let view = c.step.ensures.trace rows o.view_is in
     let effect = c.effect-effect.ensures.trace (row ∷ rows) view in
     goes_on rows row _ _ _ _ _ _ _ _ o view (c.handshakes-handshakes.ensures.trace rows o.view_is) effect
-    (c.hear.ensures ∙ (λ i. hearing_by c.self.inside.dialogue c.self.inside.begun (c.requests-offered.ensures i) (c.is_struck-struck.ensures i) c.effect-effect.result.now))
-    c.see_messages.ensures.begun (c.see_messages.ensures.agreed (agreed rows) o.agreed_are)
-    (c.see_messages.ensures.dialogue (subst (λ (x : RowEffect). x.receiver ≡ receiver_of x.before x.change) (sym effect) refl) (agreed rows) o.agreed_are)
+    (c.hear.ensures ∙ (λ i. hearing_by c.self.inside.dialogue c.self.inside.begun (c.requests-offered.ensures i)
+    (c.is_struck-struck.ensures i) c.effect-effect.result.now)) c.see_messages.ensures.begun
+    (c.see_messages.ensures.agreed (agreed rows) o.agreed_are) (c.see_messages.ensures.dialogue
+    (subst (λ (x : RowEffect). x.receiver ≡ receiver_of x.before x.change) (sym effect) refl)
+    (agreed rows) o.agreed_are)

@@ -8,4 +8,5 @@ returns-in-Initiator c = λ s rows dev first h.
 pub returns : goal.returns
 returns c = λ s rows dev first h.
     let target = target_over s rows dev first c.args.self c.in-Target.target c.in-Target.is h in
-    units_at s rows dev c.in-Target.target _ target c.into_units.ensures.value (c.into_units.ensures.array s rows target.after)
+    units_at s rows dev c.in-Target.target _ target c.into_units.ensures.value
+    (c.into_units.ensures.array s rows target.after)

@@ -6,6 +6,5 @@ use Rattle.bus_lines.proofs.view.BusView.stage.Goals as goal
 
 pub returns-in-Some-call-clause-timely : goal.returns-in-Some-call-clause-timely
 returns-in-Some-call-clause-timely c =
-    λ end h.
-    c.call_stage.ensures.timely end
-    (subst (λ (x : Option Call). IsCallBefore end x) (sym (ap (λ (v : BusViewValue). v.call) c.self.view_is) ∙ c.in-Some-call.is) h.call)
+    λ end h. c.call_stage.ensures.timely end (subst (λ (x : Option Call). IsCallBefore end x)
+    (sym (ap (λ (v : BusViewValue). v.call) c.self.view_is) ∙ c.in-Some-call.is) h.call)

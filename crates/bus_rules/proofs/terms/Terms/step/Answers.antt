@@ -9,10 +9,12 @@ returns-clause-kept c = λ rows h.
     let t = subst (λ (x : Running). IsTermsOf rows x) (sym c.self.view_is) h in
     let view = c.step.ensures.trace rows t.view in
     let met = c.met-seen.ensures rows t.view t.course in
-    let change = change_is rows row _ _ _ _ (c.bus-before.ensures.trace rows t.view) (c.bus.ensures.trace (row ∷ rows) view) (c.drives-own.ensures.trace rows t.view) c.driven_after-next.ensures in
+    let change = change_is rows row _ _ _ _ (c.bus-before.ensures.trace rows t.view)
+    (c.bus.ensures.trace (row ∷ rows) view) (c.drives-own.ensures.trace rows t.view) c.driven_after-next.ensures in
     record {
       view = view;
-      course = c.step-seen.ensures.kept rows t.course (c.free.ensures.value ∙ free_of rows row.dev _ _ _ met) change (held_of rows row _ _ _ _ _ met change c.is_attention_held-held.ensures);
+      course = c.step-seen.ensures.kept rows t.course (c.free.ensures.value ∙ free_of rows row.dev _ _ _ met) change
+          (held_of rows row _ _ _ _ _ met change c.is_attention_held-held.ensures);
     }
 
 pub returns-clause-seen : goal.returns-clause-seen
@@ -21,5 +23,6 @@ returns-clause-seen c = λ rows h.
     let t = subst (λ (x : Running). IsTermsOf rows x) (sym c.self.view_is) h in
     let view = c.step.ensures.trace rows t.view in
     let met = c.met-seen.ensures rows t.view t.course in
-    let change = change_is rows row _ _ _ _ (c.bus-before.ensures.trace rows t.view) (c.bus.ensures.trace (row ∷ rows) view) (c.drives-own.ensures.trace rows t.view) c.driven_after-next.ensures in
+    let change = change_is rows row _ _ _ _ (c.bus-before.ensures.trace rows t.view)
+    (c.bus.ensures.trace (row ∷ rows) view) (c.drives-own.ensures.trace rows t.view) c.driven_after-next.ensures in
     seen_is rows row _ _ _ _ _ _ t.course met change c.step-seen.ensures.reading

@@ -10,8 +10,9 @@ pub returns : goal.returns
 returns c = λ rows row v at e.
     let all = drives (row ∷ rows) in
     let w = subst (λ (x : View). IsViewOf rows x) (sym c.self.view_is) v in
-    let read : (d : ℕ) → d < 8 → (x : LineSet) → get_or (slice_set c.self.inside.driven c.args.dev c.args.lines) d x ≡ all d
-    = driven_with rows row _ w c.args.dev c.requires at c.args.lines e in
+    let read : (d : ℕ) → d < 8 → (x : LineSet)
+    → get_or (slice_set c.self.inside.driven c.args.dev c.args.lines) d x ≡ all d = driven_with
+    rows row _ w c.args.dev c.requires at c.args.lines e in
     let a = first-below all _ (read 0 (omega arith) _) in
     let b = next-below all 1 _ _ _ c.with.ensures a (read 1 (omega arith) _) in
     let d = next-below all 2 _ _ _ c.with-2.ensures b (read 2 (omega arith) _) in

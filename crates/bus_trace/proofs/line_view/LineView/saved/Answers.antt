@@ -13,5 +13,7 @@ returns c =
       times = c.self.inside.times;
       last = c.self.inside.last;
     } in
-    let driven = is_of_eight now.driven c.self.told _ _ _ _ _ _ _ _ _ _ _ _ _ _ _ _ c.lines_word.ensures c.lines_word-2.ensures c.lines_word-3.ensures c.lines_word-4.ensures c.lines_word-5.ensures c.lines_word-6.ensures c.lines_word-7.ensures c.lines_word-8.ensures in
+    let driven = is_of_eight now.driven c.self.told _ _ _ _ _ _ _ _ _ _ _ _ _ _ _ _
+    c.lines_word.ensures c.lines_word-2.ensures c.lines_word-3.ensures c.lines_word-4.ensures
+    c.lines_word-5.ensures c.lines_word-6.ensures c.lines_word-7.ensures c.lines_word-8.ensures in
     view_with now _ _ driven c.lines_word-9.ensures ∙ c.self.view_is

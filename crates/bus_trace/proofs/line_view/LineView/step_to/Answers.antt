@@ -11,13 +11,15 @@ returns-clause-trace c = λ rows v now.
     let v' = subst (λ (x : View). IsViewOf rows x) (sym c.self.view_is) v in
     let before = c.drives.ensures.value ∙ ap (λ (x : View). driven_at x.driven row.dev) (sym c.self.view_is) in
     let lines = c.driven_after-driven.ensures ∙ ap (λ (x : LineSet). driven_after row.kind x) before in
-    IsViewOf-step row rows _ v' c.requires _ lines _ now _ c.renew.ensures _ c.renewed-self-inside.ensures _ c.step.ensures.exact
+    IsViewOf-step row rows _ v' c.requires _ lines _ now _ c.renew.ensures _ c.renewed-self-inside.ensures _
+    c.step.ensures.exact
 
 pub returns-clause-up_to : goal.returns-clause-up_to
 returns-clause-up_to c = λ u.
     let time = c.args.row.now.time in
     let u' = subst (λ (x : View). IsUpTo time x) (sym c.self.view_is) u in
-    AreBefore-step (suc time) time _ u' (omega arith) _ _ _ c.renew.ensures _ c.renewed-self-inside.ensures _ (c.step.ensures.timely (suc time) u'.times (omega arith))
+    AreBefore-step (suc time) time _ u' (omega arith) _ _ _ c.renew.ensures _ c.renewed-self-inside.ensures _
+    (c.step.ensures.timely (suc time) u'.times (omega arith))
 
 pub returns-clause-lines : goal.returns-clause-lines
 returns-clause-lines c = λ line lt h.

@@ -4,4 +4,5 @@ use Rattle.bus_transcript.specs.Opened.{with_all_out}
 use Rattle.bus_transcript.proofs.opened.Opened.with_all_out.Given as goal
 
 abbrev pub invariant-loop-message : goal.invariant-loop-message
-invariant-loop-message l = with_all_out l.self (drop l.message-index l.messages) ≡ with_all_out l.initial.self l.messages
+invariant-loop-message l =
+    with_all_out l.self (drop l.message-index l.messages) ≡ with_all_out l.initial.self l.messages

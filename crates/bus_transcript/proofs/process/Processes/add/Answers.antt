@@ -7,7 +7,6 @@ use Rattle.bus_transcript.proofs.Nexuses.{by_key}
 use Rattle.bus_transcript.proofs.process.Processes.add.Goals as goal
 
 pub returns-clause-last : goal.returns-clause-last
-returns-clause-last c = λ name.
-    c.in_ok-insert.ensures.updates.0 (key_of name)
-    ∙ (λ i. if is_at (key_cmp (c.key.ensures i)) (key_of name) then Some c.args.process else process_of (c.self.view_is i) name)
+returns-clause-last c = λ name. c.in_ok-insert.ensures.updates.0 (key_of name) ∙ (λ i.
+    if is_at (key_cmp (c.key.ensures i)) (key_of name) then Some c.args.process else process_of (c.self.view_is i) name)
     ∙ (λ i. if by_key c.args.process.name name i then Some c.args.process else process_of c.args.self.now name)

@@ -15,8 +15,8 @@ returns-then-is_still c =
       items = c.self.inside.items.items;
     } in
     let is : is_still t.bus_state (change_by t.bus_state row) row.kind ≡ true =
-    (λ i. is_still t.bus_state (sym c.change-change.ensures i) row.kind) ∙ sym c.is_still.ensures ∙ c.if-is_still.true in
+    (λ i. is_still t.bus_state (sym c.change-change.ensures i) row.kind)
+    ∙ sym c.is_still.ensures ∙ c.if-is_still.true in
     (λ i. record t { bus_state = c.step_still.ensures i })
-    ∙ (λ i. record t { bus_state = still_bus t.bus_state row (c.change-change.ensures i) })
-    ∙ still_row t row is
+    ∙ (λ i. record t { bus_state = still_bus t.bus_state row (c.change-change.ensures i) }) ∙ still_row t row is
     ∙ (λ i. after_row (c.self.view_is i) row)

@@ -9,7 +9,9 @@ use Rattle.disk_target.proofs.processes.Processes.abort.Goals as goal
 pub returns-clause-trace : goal.returns-clause-trace
 returns-clause-trace c = λ s rows row seats permitted time is h.
     let k = run_state s rows in
-    by_row s rows row c.args.now (events.Aborted c.args.by c.args.self.now.units.dev c.args.unit c.args.kind ∷ []) c.cut.new.self.units time is
-    (by_one s k.array k.current_since c.args.now c.args.self.now.units c.cut.new.self.units (events.Aborted c.args.by c.args.self.now.units.dev c.args.unit c.args.kind) seats h (some_after s rows row (events.Aborted c.args.by c.args.self.now.units.dev c.args.unit c.args.kind ∷ []) permitted is)
-    (λ b st. subst (λ (d : ℕ). AreUnitsAfter s (or_start s k.array) b k.current_since c.args.now d c.cut.new.self.units.units) (sym c.cut.ensures.dev)
-    (c.cut.ensures.array s (or_start s k.array) b k.current_since h.units st)))
+    by_row s rows row c.args.now (events.Aborted c.args.by c.args.self.now.units.dev c.args.unit c.args.kind ∷ [])
+    c.cut.new.self.units time is (by_one s k.array k.current_since c.args.now c.args.self.now.units c.cut.new.self.units
+    (events.Aborted c.args.by c.args.self.now.units.dev c.args.unit c.args.kind) seats h (some_after s rows row
+    (events.Aborted c.args.by c.args.self.now.units.dev c.args.unit c.args.kind ∷ []) permitted is) (λ b st. subst
+    (λ (d : ℕ). AreUnitsAfter s (or_start s k.array) b k.current_since c.args.now d c.cut.new.self.units.units)
+    (sym c.cut.ensures.dev) (c.cut.ensures.array s (or_start s k.array) b k.current_since h.units st)))

@@ -15,8 +15,12 @@ returns-clause-array c = λ s a b times p status served h stood known st.
     let dev : ℕ = c.self.inside.units.dev in
     let g = subst (λ (v : ProcessesState). AreProcessesAt s a times p n v) (sym c.self.view_is) h in
     let k = subst (λ (v : ProcessesState). IsServed s v.units.dev p c.args.served.now) (sym c.self.view_is) served in
-    let at = subst (λ (v : Standing). IsStanding (seat_of a dev n) p v) (subst (λ (v : ProcessesState). v.standing ≡ standings.Guest (Some c.args.reply.now)) (sym c.self.view_is) stood) g.standing in
+    let at = subst (λ (v : Standing). IsStanding (seat_of a dev n) p v)
+    (subst (λ (v : ProcessesState). v.standing ≡ standings.Guest (Some c.args.reply.now)) (sym c.self.view_is) stood)
+    g.standing in
     let r = ProcessEvents.replied (seat_of a dev n) p c.args.reply.now at in
     ProcessEvents.made s a b times c.args.now p n dev _ c.end_guest.ensures.dev
-    (c.end_guest.ensures.array s a b times p r.given status g.units k.own r.at k.from_is r.told (λ good. (λ i. is_request_sense (command_of (known (ProcessEvents.good_end s a b p status dev n r.given st k.own r.at good) i))) ∙ sym c.is_request_sense-senses.ensures) st)
+    (c.end_guest.ensures.array s a b times p r.given status g.units k.own r.at k.from_is r.told (λ good. (λ i.
+    is_request_sense (command_of (known (ProcessEvents.good_end s a b p status dev n r.given st k.own r.at good) i)))
+    ∙ sym c.is_request_sense-senses.ensures) st)
     (ProcessEvents.guest_ended s a b p status dev n c.args.reply.now st k.own at)

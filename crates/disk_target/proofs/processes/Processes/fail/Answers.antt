@@ -13,7 +13,10 @@ returns-clause-array c = λ s a b times p served h st.
     let dev : ℕ = c.self.inside.units.dev in
     let g = subst (λ (v : ProcessesState). AreProcessesAt s a times p n v) (sym c.self.view_is) h in
     let k = subst (λ (v : ProcessesState). IsServed s v.units.dev p c.args.served.now) (sym c.self.view_is) served in
-    let step : IsStep s (events.Fail c.args.served.now.id c.args.code) a b = subst (λ (x : ProcId). IsStep s (events.Fail x c.args.code) a b) k.id_is st in
+    let step : IsStep s (events.Fail c.args.served.now.id c.args.code) a b = subst
+    (λ (x : ProcId). IsStep s (events.Fail x c.args.code) a b) k.id_is st in
     ProcessEvents.made s a b times c.args.now p n dev _ c.fail.ensures.dev
     (c.fail.ensures.array s a b times p g.units k.own k.id_is step)
-    (ProcessEvents.failed_standing s a b p c.args.code dev n c.self.inside.standing c.standing_on_failure-self-inside.result st k.own g.standing (c.standing_on_failure-self-inside.ensures ∙ (λ i. standing_on_failure c.self.inside.standing (c.aborted_reply.ensures i))))
+    (ProcessEvents.failed_standing s a b p c.args.code dev n c.self.inside.standing
+    c.standing_on_failure-self-inside.result st k.own g.standing (c.standing_on_failure-self-inside.ensures
+    ∙ (λ i. standing_on_failure c.self.inside.standing (c.aborted_reply.ensures i))))

@@ -16,8 +16,11 @@ returns-clause-array c = λ s a b times p served h stood block st.
     let dev : ℕ = c.self.inside.units.dev in
     let g = subst (λ (v : ProcessesState). AreProcessesAt s a times p n v) (sym c.self.view_is) h in
     let k = subst (λ (v : ProcessesState). IsServed s v.units.dev p c.args.served.now) (sym c.self.view_is) served in
-    let step : IsStep s (events.Refuse c.args.served.now.id) a b = subst (λ (x : ProcId). IsStep s (events.Refuse x) a b) k.id_is st in
-    let at = subst (λ (v : Standing). IsStanding (seat_of a dev n) p v) (subst (λ (v : ProcessesState). v.standing ≡ standings.Nowhere) (sym c.self.view_is) stood) g.standing in
+    let step : IsStep s (events.Refuse c.args.served.now.id) a b = subst
+    (λ (x : ProcId). IsStep s (events.Refuse x) a b) k.id_is st in
+    let at = subst (λ (v : Standing). IsStanding (seat_of a dev n) p v)
+    (subst (λ (v : ProcessesState). v.standing ≡ standings.Nowhere) (sym c.self.view_is) stood) g.standing in
     ProcessEvents.made s a b times c.args.now p n dev _ c.accept.ensures.dev
-    (c.accept.ensures.refuses s a b times p g.units k.own (words_of s dev p c.args.served.now k block) (ProcessEvents.new_of s.hosts (seat_of a dev n) p k.host at) step)
+    (c.accept.ensures.refuses s a b times p g.units k.own (words_of s dev p c.args.served.now k block)
+    (ProcessEvents.new_of s.hosts (seat_of a dev n) p k.host at) step)
     (ProcessEvents.refused_standing s a b p dev n c.refusal.result st k.own at c.refusal.ensures)

@@ -15,5 +15,6 @@ returns-else-begun c = λ s rows row fits devices tied time h x own calm label.
     let g = subst (λ (v : TargetValue). KnowsRows s rows v) (sym c.self.view_is) h in
     let target = eqb-true c.args.begun.now.target c.args.self.now.def.dev own.own in
     let dev = g.negotiated_dev ∙ (λ i. (c.self.view_is i).def.dev) ∙ sym target in
-    c.selected.ensures.trace s rows row c.args.begun.now c.args.self.now.def.dev devices x own.stands c.if-begun.false tied.faithful_are tied.heard_are label
-    (λ i. not ((c.includes-negotiates.ensures.free s rows g.negotiated_are x ∙ (λ j. has_negotiated (run_state s rows).negotiated c.args.begun.now.initiator (dev j))) i))
+    c.selected.ensures.trace s rows row c.args.begun.now c.args.self.now.def.dev devices x own.stands c.if-begun.false
+    tied.faithful_are tied.heard_are label (λ i. not ((c.includes-negotiates.ensures.free s rows g.negotiated_are x
+    ∙ (λ j. has_negotiated (run_state s rows).negotiated c.args.begun.now.initiator (dev j))) i))

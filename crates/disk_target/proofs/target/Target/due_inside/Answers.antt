@@ -31,19 +31,20 @@ returns c = λ s rows n f o d away e able h at calm from fault.
       ready = ready_unit (ready_of s (run_state s rows) t.dev);
       serving = serving_of s (run_state s rows) dev;
     } in
-    c.next_in_own.ensures s rows n x o
-    (record { below = g.line.below; target_is = g.line.target_is; no_host = g.line.no_host; is_none = g.line.is_none }) d
-    (subst (λ (z : TargetDef). IsNoInitiator rows z.dev) (sym same) away)
-    (subst (λ (z : TargetDef). IsOwnConnection rows z.dev n) (sym same) at) calm refl refl
-    (record {
+    c.next_in_own.ensures s rows n x o (record {
+      below = g.line.below;
+      target_is = g.line.target_is;
+      no_host = g.line.no_host;
+      is_none = g.line.is_none;
+    }) d (subst (λ (z : TargetDef). IsNoInitiator rows z.dev) (sym same) away)
+    (subst (λ (z : TargetDef). IsOwnConnection rows z.dev n) (sym same) at) calm refl refl (record {
       own_is = own;
       reset_is = g.itself_is.reset_is ∙ (λ i. reset_from (g.itself_dev i) (own i).released (g.itself_is.resets_are i));
       ready_is = refl;
-      serving_is = λ m own rst.
-          subst (λ (z : TargetDef). AreAlikeIn rows z.dev (offering_in rows x.serving) (offering_in rows (serving_of s (run_state s rows) z.dev))) (sym same)
-          (alike_itself (begun rows) (pace_of (told rows 0) None).pulsed (drives rows dev).req (bus rows).io (handshakes rows).requests (offering_in rows x.serving));
-    })
-    fault
-    (does x (λ i. let v : TargetValue = c.self.view_is i in v.itself.own) refl
+      serving_is = λ m own rst. subst (λ (z : TargetDef). AreAlikeIn rows z.dev (offering_in rows x.serving)
+          (offering_in rows (serving_of s (run_state s rows) z.dev))) (sym same)
+          (alike_itself (begun rows) (pace_of (told rows 0) None).pulsed (drives rows dev).req (bus rows).io
+          (handshakes rows).requests (offering_in rows x.serving));
+    }) fault (does x (λ i. let v : TargetValue = c.self.view_is i in v.itself.own) refl
     ∙ (λ i. plain_by (sym same i) (told rows (sym same i).dev) x))
     ∙ (λ i. due s rows (same i).dev)

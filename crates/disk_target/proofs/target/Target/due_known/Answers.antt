@@ -20,15 +20,22 @@ returns-in-Some c = λ s rows f o d away e able h fault.
     let g = subst (λ (v : TargetValue). KnowsRows s rows v) (sym c.self.view_is) h in
     let same : t ≡ c.args.self.now.def = λ i. (c.self.view_is i).def in
     let n = c.in-Some.field-0 in
-    let others = subst (λ (x : Option Connection). IsOthersIf rows t.dev x) c.in-Some.is (c.other_connection.ensures rows (c.view.ensures.trace rows o)) in
+    let others = subst (λ (x : Option Connection). IsOthersIf rows t.dev x) c.in-Some.is
+    (c.other_connection.ensures rows (c.view.ensures.trace rows o)) in
     let own = g.itself_is.own_is ∙ (λ i. own_of rows (g.itself_dev i)) in
-    c.next_in_others.ensures s rows n (record { own = c.self.inside.itself.own; reset = c.self.inside.itself.reset; ready = ready_unit (ready_of s (run_state s rows) t.dev); serving = serving_of s (run_state s rows) t.dev }) o
-    (record { below = g.line.below; target_is = g.line.target_is; no_host = g.line.no_host; is_none = g.line.is_none }) d
-    (subst (λ (x : TargetDef). IsNoInitiator rows x.dev) (sym same) away) others refl refl
-    (record {
+    c.next_in_others.ensures s rows n (record {
+      own = c.self.inside.itself.own;
+      reset = c.self.inside.itself.reset;
+      ready = ready_unit (ready_of s (run_state s rows) t.dev);
+      serving = serving_of s (run_state s rows) t.dev;
+    }) o (record {
+      below = g.line.below;
+      target_is = g.line.target_is;
+      no_host = g.line.no_host;
+      is_none = g.line.is_none;
+    }) d (subst (λ (x : TargetDef). IsNoInitiator rows x.dev) (sym same) away) others refl refl (record {
       own_is = own;
       reset_is = g.itself_is.reset_is ∙ (λ i. reset_from (g.itself_dev i) (own i).released (g.itself_is.resets_are i));
       ready_is = refl;
       serving_is = λ x at calm. absurd (never_own rows t.dev n x others at);
-    })
-    ∙ (λ i. due s rows (same i).dev)
+    }) ∙ (λ i. due s rows (same i).dev)

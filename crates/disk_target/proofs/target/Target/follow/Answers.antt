@@ -14,7 +14,9 @@ returns-then-stands_in_own-clause-trace c = λ s rows fits o devices tied time l
     let course = c.self.inside.course in
     let view = c.view.ensures.trace (row ∷ rows) o in
     c.follow_quiet.ensures.trace s rows fits o devices tied time
-    (subst (λ (x : TargetValue). StandsInOwn rows row x.def.dev) c.self.view_is (c.stands_in_own.ensures rows row view c.if-stands_in_own.true))
+    (subst (λ (x : TargetValue). StandsInOwn rows row x.def.dev) c.self.view_is
+    (c.stands_in_own.ensures rows row view c.if-stands_in_own.true))
     (subst (λ (x : TargetValue). IsQuiet (hearing rows row) x.course (events_of_row s rows row)) c.self.view_is
     (subst (λ (l : List Event). IsQuiet (hearing rows row) course l) shown_is
-    (subst (λ (w : Hearing). IsQuiet w course c.args.shown.now) (c.hearing.ensures (row ∷ rows) o) (c.is_quiet.ensures c.if-is_quiet.true)))) h
+    (subst (λ (w : Hearing). IsQuiet w course c.args.shown.now) (c.hearing.ensures (row ∷ rows) o)
+    (c.is_quiet.ensures c.if-is_quiet.true)))) h

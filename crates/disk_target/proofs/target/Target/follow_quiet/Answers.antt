@@ -30,16 +30,22 @@ returns-clause-trace c = λ s rows fits o devices tied time stands quiet h.
     let g : KnowsRows s rows u = subst (λ (x : TargetValue). KnowsRows s rows x) (sym c.self.view_is) h in
     let view = c.view-view.ensures.trace (row ∷ rows) o in
     let here = subst (λ (x : TargetValue). StandsInOwn rows row x.def.dev) (sym c.self.view_is) stands in
-    let calm = subst (λ (x : TargetValue). IsQuiet (hearing rows row) x.course (events_of_row s rows row)) (sym c.self.view_is) quiet in
-    let r = serves s rows row u (c.kept_is_plain.ensures.rows s) (c.hearings_are_plain.ensures.hearing s rows row devices.1 devices.0)
-    (c.lines_on_the_bus.ensures.on (λ (z : LineSet). z.rst) (λ x y. refl) rows) (c.lines_on_the_bus.ensures.off (λ (z : LineSet). z.rst) (λ x y. refl) refl (row ∷ rows))
+    let calm = subst (λ (x : TargetValue). IsQuiet (hearing rows row) x.course (events_of_row s rows row))
+    (sym c.self.view_is) quiet in
+    let r = serves s rows row u (c.kept_is_plain.ensures.rows s)
+    (c.hearings_are_plain.ensures.hearing s rows row devices.1 devices.0)
+    (c.lines_on_the_bus.ensures.on (λ (z : LineSet). z.rst) (λ x y. refl) rows)
+    (c.lines_on_the_bus.ensures.off (λ (z : LineSet). z.rst) (λ x y. refl) refl (row ∷ rows))
     (c.scenarios_fit_the_bus.ensures.seats s fits) devices tied here calm g in
     let hears = c.hearing-hearing.ensures (row ∷ rows) o in
-    let was : c.connection_before.result ≡ Some stands.before = c.connection_before.ensures.trace rows row view ∙ stands.own.stands in
+    let was : c.connection_before.result ≡ Some stands.before = c.connection_before.ensures.trace rows row view
+    ∙ stands.own.stands in
     let sent = c.sent-sent.ensures s rows row fits devices tied time h hears
-    (subst (λ (x : Option Connection). IsOwnIf rows c.args.self.now.def.dev x) (sym was) (stands.own, stands.calm)) (λ i. is_some (was i)) (λ crosses. quiet.knows ((λ i. (sym hears i).crosses) ∙ crosses)) in
-    let came = c.see_sent.ensures.trace s rows row fits devices tied hears (c.connection_before-2.ensures.trace rows row view)
-    (subst (λ (m : ℕ). IsSentIf s rows row m c.sent-sent.result) ((λ i. (sym c.self.view_is i).def.dev) ∙ sym g.gathered_dev) sent) g.gathered_are g.all_gathered in
+    (subst (λ (x : Option Connection). IsOwnIf rows c.args.self.now.def.dev x) (sym was) (stands.own, stands.calm))
+    (λ i. is_some (was i)) (λ crosses. quiet.knows ((λ i. (sym hears i).crosses) ∙ crosses)) in
+    let came = c.see_sent.ensures.trace s rows row fits devices tied hears
+    (c.connection_before-2.ensures.trace rows row view) (subst (λ (m : ℕ). IsSentIf s rows row m c.sent-sent.result)
+    ((λ i. (sym c.self.view_is i).def.dev) ∙ sym g.gathered_dev) sent) g.gathered_are g.all_gathered in
     record {
       line = g.line;
       itself_dev = c.see.ensures.dev ∙ g.itself_dev;

@@ -19,7 +19,8 @@ returns-clause-trace c = λ s rows n fits o d e able h course own calm from.
       leaves = λ j. record {
         byte = 0;
         follows = false;
-        to = (c.lines_by.ensures g.given first ∙ (λ i. lines_by v ((c.io.ensures ∙ (λ l. (lines l).io)) i) (leaves i) (leaves i).to)) j;
+        to = (c.lines_by.ensures g.given first
+            ∙ (λ i. lines_by v ((c.io.ensures ∙ (λ l. (lines l).io)) i) (leaves i) (leaves i).to)) j;
         wait = (c.seek_before.ensures.exact g.given ∙ (λ i. seek_before v (lines i))) j;
       };
       alike = g.alike;

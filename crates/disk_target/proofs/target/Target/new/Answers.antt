@@ -31,9 +31,9 @@ returns-clause-named c =
     (c.scenarios_fit_the_bus.ensures.lines c.args.scenario.now c.requires.lawful)
     ((λ i. target_def_of (sym c.scenario.view_is i) c.args.dev)
     ∙ (λ i. find (λ (t : TargetDef). t.dev == c.args.dev) (sym c.as_slice.ensures.value i))
-    ∙ sym c.target_line.ensures
-    ∙ c.in-Some.is) in
-    IfOk-weaker c.of_line.result (λ (made : TargetValue). made.def ≡ c.in-Some.def) (λ (made : TargetValue). made.def.dev ≡ c.args.dev)
+    ∙ sym c.target_line.ensures ∙ c.in-Some.is) in
+    IfOk-weaker c.of_line.result (λ (made : TargetValue). made.def ≡ c.in-Some.def)
+    (λ (made : TargetValue). made.def.dev ≡ c.args.dev)
     (λ made e. ap (λ (t : TargetDef). t.dev) e ∙ l.1) c.of_line.ensures.named
 
 pub returns-clause-trace : goal.returns-clause-trace

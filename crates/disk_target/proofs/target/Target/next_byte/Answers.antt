@@ -15,8 +15,8 @@ returns-then-driven c = λ s rows n fits o d e able h course own calm from.
     let place = c.requests-place.ensures ∙ (λ i. (c.handshakes.ensures.trace rows v i).requests) in
     record {
       given = g.given;
-      byte_is = λ z. c.phase_byte.ensures g.given 0 g.byte_is
-          ∙ (λ i. phase_byte (serving_with k g.given) ((c.phase_of.ensures ∙ (λ j. phase_of (c.bus.ensures.trace rows v j))) i) k.plan.messages 0 (place i));
+      byte_is = λ z. c.phase_byte.ensures g.given 0 g.byte_is ∙ (λ i. phase_byte (serving_with k g.given)
+          ((c.phase_of.ensures ∙ (λ j. phase_of (c.bus.ensures.trace rows v j))) i) k.plan.messages 0 (place i));
       alike = g.alike;
     }
 
@@ -24,5 +24,6 @@ pub returns-else-driven : goal.returns-else-driven
 returns-else-driven c = λ s rows n fits o d e able h course own calm from. record {
   given = given_of s (run_state s rows);
   byte_is = λ z. let never : false ≡ true = sym c.if-driven.false ∙ z in absurd cc;
-  alike = alike_known s rows n c.args.self.now c.args.course.now c.args.known.now c.requires.known (c.kept_is_plain.ensures.rows s rows d) fits e able h course own calm from;
+  alike = alike_known s rows n c.args.self.now c.args.course.now c.args.known.now c.requires.known
+      (c.kept_is_plain.ensures.rows s rows d) fits e able h course own calm from;
 }

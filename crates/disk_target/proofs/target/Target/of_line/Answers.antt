@@ -17,11 +17,11 @@ returns-clause-trace c = λ fits line. record {
     negotiated_dev = λ i. (c.new-5.ensures.exact i).dev;
     gathered_dev = λ i. (c.in_ok-gathered.ensures.exact i).dev;
     itself_is = c.in_ok-itself.ensures.trace;
-    units_are =
-        subst
-        (λ (dev : ℕ). AreUnitsOf c.args.scenario.now (settled_array (starting_array c.args.scenario.now)) (replicate (length c.args.scenario.now.units) 0) dev c.in_ok-processes.processes.units.units)
+    units_are = subst (λ (dev : ℕ). AreUnitsOf c.args.scenario.now (settled_array (starting_array c.args.scenario.now))
+        (replicate (length c.args.scenario.now.units) 0) dev c.in_ok-processes.processes.units.units)
         (sym c.in_ok-processes.ensures.dev) c.in_ok-processes.ensures.start;
-    sound = c.arrays_are_sound.ensures.always c.args.scenario.now [] (settled_array (starting_array c.args.scenario.now)) (c.scenarios_fit_the_bus.ensures.seats c.args.scenario.now fits) refl;
+    sound = c.arrays_are_sound.ensures.always c.args.scenario.now [] (settled_array
+        (starting_array c.args.scenario.now)) (c.scenarios_fit_the_bus.ensures.seats c.args.scenario.now fits) refl;
     progress_is = c.in_ok-progress.ensures.trace;
     negotiated_are = c.new-5.ensures.trace c.args.scenario.now (λ i. (c.scenario.view_is i).version);
     gathered_are = c.in_ok-gathered.ensures.trace;

@@ -23,18 +23,23 @@ returns-then-goes_on_in-clause-trace c = λ s rows n fits o d e able h course ow
     let v = c.view-view.ensures.trace rows o in
     let lines = c.bus-bus.ensures.trace rows v in
     let shakes = c.handshakes-handshakes.ensures.trace rows v in
-    let asks = c.req-asks.ensures ∙ (λ i. (c.drives.ensures.trace rows v i).req) ∙ (λ i. (drives rows (c.self.view_is i).def.dev).req) in
-    let bare : (c.requests-bare.result == 0) ≡ ((handshakes rows).requests == 0) = λ i. (c.requests-bare.ensures ∙ (λ j. (shakes j).requests)) i == 0 in
+    let asks = c.req-asks.ensures ∙ (λ i. (c.drives.ensures.trace rows v i).req)
+    ∙ (λ i. (drives rows (c.self.view_is i).def.dev).req) in
+    let bare : (c.requests-bare.result == 0) ≡ ((handshakes rows).requests == 0) =
+    λ i. (c.requests-bare.ensures ∙ (λ j. (shakes j).requests)) i == 0 in
     let b = c.next_byte.ensures s rows n fits o d e able h course own calm from in
     let w : next_phase.Serving = serving_with c.args.known.now.serving b.given in
     let pulsed : Bool = (pace_of (told rows 0) None).pulsed in
     let follows = c.follows_by-follows.ensures b.given ∙ (λ i. follows_by w (paced i) (lines i) (shakes i)) in
-    let driven = c.is_driven-driven.ensures ∙ (λ i. (c.io.ensures ∙ (λ j. (lines j).io)) i && is_driven (bare i) c.follows_by-follows.result (asks i) (paced i)) in
-    let goes = sym (c.goes_on_in.ensures ∙ (λ i. goes_on_in (asks i) c.follows_by-follows.result (bare i))) ∙ c.if-goes_on_in.true in
-    alike_on (begun rows) pulsed (drives rows dev).req (bus rows).io (handshakes rows).requests _ (offering_in rows w) (offering_in rows (serving_of s (run_state s rows) dev))
+    let driven = c.is_driven-driven.ensures ∙ (λ i. (c.io.ensures ∙ (λ j. (lines j).io)) i
+    && is_driven (bare i) c.follows_by-follows.result (asks i) (paced i)) in
+    let goes = sym (c.goes_on_in.ensures ∙ (λ i. goes_on_in (asks i) c.follows_by-follows.result (bare i)))
+    ∙ c.if-goes_on_in.true in
+    alike_on (begun rows) pulsed (drives rows dev).req (bus rows).io (handshakes rows).requests _
+    (offering_in rows w) (offering_in rows (serving_of s (run_state s rows) dev))
     (subst (λ (g : Offering). AreAlikeIn rows dev g (offering_in rows w)) (sym c.going_on.ensures)
-    (goes_on_alike w (begun rows) pulsed (drives rows dev).req c.follows_by-follows.result (bus rows) (handshakes rows) c.next_byte.result follows goes (λ z. b.byte_is (driven ∙ z))))
-    b.alike
+    (goes_on_alike w (begun rows) pulsed (drives rows dev).req c.follows_by-follows.result (bus rows)
+    (handshakes rows) c.next_byte.result follows goes (λ z. b.byte_is (driven ∙ z)))) b.alike
 
 pub returns-else-goes_on_in-clause-trace : goal.returns-else-goes_on_in-clause-trace
 returns-else-goes_on_in-clause-trace c = λ s rows n fits o d e able h course own calm from paced.
@@ -42,14 +47,16 @@ returns-else-goes_on_in-clause-trace c = λ s rows n fits o d e able h course ow
     let v = c.view-view.ensures.trace rows o in
     let lines = c.bus-bus.ensures.trace rows v in
     let shakes = c.handshakes-handshakes.ensures.trace rows v in
-    let asks = c.req-asks.ensures ∙ (λ i. (c.drives.ensures.trace rows v i).req) ∙ (λ i. (drives rows (c.self.view_is i).def.dev).req) in
-    let bare : (c.requests-bare.result == 0) ≡ ((handshakes rows).requests == 0) = λ i. (c.requests-bare.ensures ∙ (λ j. (shakes j).requests)) i == 0 in
+    let asks = c.req-asks.ensures ∙ (λ i. (c.drives.ensures.trace rows v i).req)
+    ∙ (λ i. (drives rows (c.self.view_is i).def.dev).req) in
+    let bare : (c.requests-bare.result == 0) ≡ ((handshakes rows).requests == 0) =
+    λ i. (c.requests-bare.ensures ∙ (λ j. (shakes j).requests)) i == 0 in
     let l = c.leaving.ensures.trace s rows n fits o d e able h course own calm from in
     let w : next_phase.Serving = serving_with c.args.known.now.serving l.given in
     let pulsed : Bool = (pace_of (told rows 0) None).pulsed in
     let follows = c.follows_by-follows.ensures l.given ∙ (λ i. follows_by w (paced i) (lines i) (shakes i)) in
     let goes = sym (c.goes_on_in.ensures ∙ (λ i. goes_on_in (asks i) (follows i) (bare i))) ∙ c.if-goes_on_in.false in
-    alike_on (begun rows) pulsed (drives rows dev).req (bus rows).io (handshakes rows).requests _ (offering_in rows w) (offering_in rows (serving_of s (run_state s rows) dev))
+    alike_on (begun rows) pulsed (drives rows dev).req (bus rows).io (handshakes rows).requests _
+    (offering_in rows w) (offering_in rows (serving_of s (run_state s rows) dev))
     (subst (λ (g : Offering). AreAlikeIn rows dev g (offering_in rows w)) (sym l.leaves)
-    (leaves_alike w (begun rows) pulsed (drives rows dev).req (bus rows) (handshakes rows) goes))
-    l.alike
+    (leaves_alike w (begun rows) pulsed (drives rows dev).req (bus rows) (handshakes rows) goes)) l.alike

@@ -11,7 +11,8 @@ pub returns-then-is_waiting : goal.returns-then-is_waiting
 returns-then-is_waiting c = λ s rows n fits o d e able h own calm from i times serves.
     let t : TargetDef = c.args.self.now.def in
     let same : c.self.inside.def ≡ t = λ j. (c.self.view_is j).def in
-    sym (waiting_is t (told rows t.dev) i ((λ j. is_waiting (told rows (sym same j).dev)) ∙ sym (c.is_waiting.ensures rows o) ∙ c.if-is_waiting.true))
+    sym (waiting_is t (told rows t.dev) i
+    ((λ j. is_waiting (told rows (sym same j).dev)) ∙ sym (c.is_waiting.ensures rows o) ∙ c.if-is_waiting.true))
 
 pub returns-then-is_in_pulse : goal.returns-then-is_in_pulse
 returns-then-is_in_pulse c = λ s rows n fits o d e able h own calm from i times serves.

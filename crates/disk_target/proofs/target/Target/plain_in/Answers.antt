@@ -5,7 +5,6 @@ use Rattle.disk_target.proofs.Knowing.{kept}
 use Rattle.disk_target.proofs.target.Target.plain_in.Goals as goal
 
 pub plain_by-requires-clause-known : goal.plain_by-requires-clause-known
-plain_by-requires-clause-known c =
-    kept c.args.self.now c.self.inside.known c.args.course.now c.in-Some.known
-    (subst (λ (v : TargetValue). IsKnownIf v.def v.units v.progress v.reply v.course c.self.inside.known) c.self.view_is c.self.invariant.2)
-    c.requires.course c.in-Some.is
+plain_by-requires-clause-known c = kept c.args.self.now c.self.inside.known c.args.course.now c.in-Some.known
+    (subst (λ (v : TargetValue). IsKnownIf v.def v.units v.progress v.reply v.course c.self.inside.known) c.self.view_is
+    c.self.invariant.2) c.requires.course c.in-Some.is

@@ -10,6 +10,7 @@ returns-clause-trace c = λ s rows fits o devices tied time away labels shown_is
     record {
       knows = knows;
       heard_are = tied.heard_are;
-      no_initiator = subst (λ (t : TargetDef). IsNoInitiator (c.args.row.now ∷ rows) t.dev) (sym c.follow.ensures.def) away;
+      no_initiator =
+          subst (λ (t : TargetDef). IsNoInitiator (c.args.row.now ∷ rows) t.dev) (sym c.follow.ensures.def) away;
       servable = servable s (c.args.row.now ∷ rows) _ time knows.line;
     }

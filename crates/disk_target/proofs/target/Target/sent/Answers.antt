@@ -18,7 +18,9 @@ returns-in-Some-Some c = λ s rows row fits devices tied time h hears was stood 
 
 pub returns-in_default : goal.returns-in_default
 returns-in_default c = λ s rows row fits devices tied time h hears was stood knows.
-    let never : true ≡ false = sym (knows (crosses_by c.args.hearing.now (sym c.brings_byte.ensures ∙ c.if-not-brings_byte.false))) ∙ (λ i. knows_command (sym c.self.view_is i).course) ∙ (λ i. knows_command (c.in_default.is-1 i)) in
+    let never : true ≡ false =
+    sym (knows (crosses_by c.args.hearing.now (sym c.brings_byte.ensures ∙ c.if-not-brings_byte.false)))
+    ∙ (λ i. knows_command (sym c.self.view_is i).course) ∙ (λ i. knows_command (c.in_default.is-1 i)) in
     absurd cc
 
 pub returns-in_default-2 : goal.returns-in_default-2

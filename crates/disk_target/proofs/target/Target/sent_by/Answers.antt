@@ -26,15 +26,23 @@ returns-clause-trace c = λ s rows row n fits devices tied time h own calm cours
     let w = c.hearings_are_plain.ensures.hearing s rows row devices.1 devices.0 in
     let f = c.args.known.now.state in
     let able = servable s rows d (in_time_before rows row time) h.line in
-    let course : IsCourseOf s rows d.dev x = subst (λ (y : Option CourseState). IsCourseIf s rows d.dev y) course_is h.course_is in
+    let course : IsCourseOf s rows d.dev x = subst
+    (λ (y : Option CourseState). IsCourseIf s rows d.dev y) course_is h.course_is in
     let here : IsCourse s rows n x = course n own calm in
-    let told : AreToldOf s rows x f = y.told s rows n fits able (sources s rows c.args.self.now h) h.reply_is here.ends_are own calm from in
+    let told : AreToldOf s rows x f = y.told s rows n fits able
+    (sources s rows c.args.self.now h) h.reply_is here.ends_are own calm from in
     let serving = y.serving (given_of s (run_state s rows)) in
-    let place = c.place_in_run.ensures ∙ (λ i. place_in_run (same i).disc (serving i).task (c.self.view_is i).answers) in
+    let place = c.place_in_run.ensures
+    ∙ (λ i. place_in_run (same i).disc (serving i).task (c.self.view_is i).answers) in
     let process = c.process_known.ensures ∙ process_so s rows row n x p tied own.stands calm here in
-    let front : IsFront s (run_state s rows) n (instructions s rows) = front_heard s rows n p (heard_before s rows row tied.heard_are) own.stands calm in
+    let front : IsFront s (run_state s rows) n (instructions s rows) = front_heard s rows n p
+    (heard_before s rows row tied.heard_are) own.stands calm in
     record {
-      sends = λ m own' brings. (process, place ∙ place_so s rows row n d x f c.args.self.now.answers p w tied own h.line.target_is calm brings here told h.answers_is);
+      sends = λ m own' brings. (
+        process,
+        place ∙ place_so s rows row n d x f c.args.self.now.answers p w tied own h.line.target_is calm brings here told
+            h.answers_is,
+      );
       at_unit = λ m r own' brings is.
           let begins = byte_begins s rows row n p w tied.written_are own.stands brings in
           let closed = byte_closed s (run_state s rows) (byte_phase s rows row p brings) begins in

@@ -7,6 +7,6 @@ use Rattle.disk_target.proofs.target.Target.shown_in.Goals as goal
 pub shown_by-requires : goal.shown_by-requires
 shown_by-requires c = record {
   known = kept c.args.self.now c.self.inside.known c.args.course.now c.in-Some.known
-      (subst (λ (v : TargetValue). IsKnownIf v.def v.units v.progress v.reply v.course c.self.inside.known) c.self.view_is c.self.invariant.2)
-      c.requires.course c.in-Some.is;
+      (subst (λ (v : TargetValue). IsKnownIf v.def v.units v.progress v.reply v.course c.self.inside.known)
+      c.self.view_is c.self.invariant.2) c.requires.course c.in-Some.is;
 }

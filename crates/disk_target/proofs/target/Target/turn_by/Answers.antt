@@ -37,17 +37,20 @@ returns-clause-trace c = λ s rows row fits o devices tied time h own calm cours
     let w = c.hearings_are_plain.ensures.hearing s rows row devices.1 devices.0 in
     let f = c.args.known.now.state in
     let able = servable s rows d (in_time_before rows row time) h.line in
-    let course : IsCourseOf s rows d.dev x = subst (λ (y : Option CourseState). IsCourseIf s rows d.dev y) course_is h.course_is in
+    let course : IsCourseOf s rows d.dev x = subst
+    (λ (y : Option CourseState). IsCourseIf s rows d.dev y) course_is h.course_is in
     let here : IsCourse s rows n x = course n own calm in
-    let told : AreToldOf s rows x f = y.told s rows n fits able (sources s rows c.args.self.now h) h.reply_is here.ends_are own calm from in
+    let told : AreToldOf s rows x f = y.told s rows n fits able
+    (sources s rows c.args.self.now h) h.reply_is here.ends_are own calm from in
     let given = given_of s (run_state s rows) in
     let serving = y.serving given in
-    let leaving = c.leaving_by.ensures.exact given ∙ (λ i. leaving_by (serving i) (hears i).begun (hears i).change.before) in
+    let leaving = c.leaving_by.ensures.exact given
+    ∙ (λ i. leaving_by (serving i) (hears i).begun (hears i).change.before) in
     let process = c.sent_by-sent.ensures.process ∙ process_so s rows row n x p tied own.stands calm here in
     let sent = c.sent_by-sent.ensures.trace s rows row n fits devices tied time h own calm course_is from in
     let unit = λ (r : Process) (is : process_served s (run_state s rows) ≡ Some r) (named : x.named ≡ Some (name_of r)).
-    let line = line_of_process s r.id r (λ m y e. c.scenarios_fit_the_bus.ensures.commands s m y fits e) (served_of s rows r is) in
-    c.sent_by-sent.ensures.unit ∙ y.named (name_of r) named line.unit in
+    let line = line_of_process s r.id r (λ m y e. c.scenarios_fit_the_bus.ensures.commands s m y fits e)
+    (served_of s rows r is) in c.sent_by-sent.ensures.unit ∙ y.named (name_of r) named line.unit in
     let it : Turn = record {
       process = c.sent_by-sent.result.process;
       unit = c.sent_by-sent.result.unit;
@@ -66,21 +69,28 @@ returns-clause-trace c = λ s rows row fits o devices tied time h own calm cours
       opening_is = c.is_opening.ensures ∙ (λ i. is_opening_by n (hears i) x);
       from_is = sym from;
       unit_is = unit;
-      taken = λ r is named. y.taken ∙ (λ i. taken_by x.block ((told.state r is (id_is s rows n x r here is) named).size i));
+      taken =
+          λ r is named. y.taken ∙ (λ i. taken_by x.block ((told.state r is (id_is s rows n x r here is) named).size i));
     } in
     record {
-      course = subst (λ (y : Option CourseState). IsTurnIf s rows row d y it) (sym course_is) (λ m own' calm'. subst (λ (y : Connection). IsTurnIn s rows row d y x it) (one rows m n own'.stands own.stands) turn);
-      left = λ m l own' stands left. left_with s rows d.dev c.sent_by-sent.result.process c.leaving_by.result _ process leaving (left_so s rows row n l d x f _ p q w tied own h.line.target_is calm stands left here told refl);
-      hears = λ m own' calm'. c.is_some.ensures ∙ (λ i. is_some (c.plan.ensures i).said.aborts) ∙ (λ i. is_some (here.plan_is i).said.aborts);
+      course = subst (λ (y : Option CourseState). IsTurnIf s rows row d y it) (sym course_is) (λ m own' calm'. subst
+          (λ (y : Connection). IsTurnIn s rows row d y x it) (one rows m n own'.stands own.stands) turn);
+      left = λ m l own' stands left. left_with s rows d.dev c.sent_by-sent.result.process c.leaving_by.result _ process
+          leaving (left_so s rows row n l d x f _ p q w tied own h.line.target_is calm stands left here told refl);
+      hears = λ m own' calm'. c.is_some.ensures ∙ (λ i. is_some (c.plan.ensures i).said.aborts)
+          ∙ (λ i. is_some (here.plan_is i).said.aborts);
       sends = sent.sends;
       at_unit = sent.at_unit;
       shows = λ m own' calm' after'.
-          let shows = c.shown.ensures.trace s rows row d f devices hears after own h.line.target_is tied.heard_are calm after' told (y.serving given) course in
+          let shows = c.shown.ensures.trace s rows row d f devices hears after own
+          h.line.target_is tied.heard_are calm after' told (y.serving given) course in
           record {
             shows = shows ∙ (λ i. events_of_target s rows row (one rows m n own'.stands own.stands i));
             outlook = λ r is runs.
-                let shown = target_shows s rows row n p q w tied own.stands after' (sym (λ i. shows_run (shows i)) ∙ runs) in
-                let k = run_known s rows row n x r p q tied (λ m y e. c.scenarios_fit_the_bus.ensures.commands s m y fits e) own.stands calm after' here is shown in
+                let shown = target_shows s rows row n p q w tied own.stands after'
+                (sym (λ i. shows_run (shows i)) ∙ runs) in
+                let k = run_known s rows row n x r p q tied
+                (λ m y e. c.scenarios_fit_the_bus.ensures.commands s m y fits e) own.stands calm after' here is shown in
                 (told.outlook r is k.0.id k.0.named k.1).plan;
           };
     }

@@ -7,6 +7,6 @@ use Rattle.disk_target.proofs.target.Target.turn_in.Goals as goal
 pub turn_by-requires : goal.turn_by-requires
 turn_by-requires c = record {
   known = kept c.args.self.now c.self.inside.known c.args.course.now c.in-Some.known
-      (subst (λ (v : TargetValue). IsKnownIf v.def v.units v.progress v.reply v.course c.self.inside.known) c.self.view_is c.self.invariant.2)
-      c.requires.course c.in-Some.is;
+      (subst (λ (v : TargetValue). IsKnownIf v.def v.units v.progress v.reply v.course c.self.inside.known)
+      c.self.view_is c.self.invariant.2) c.requires.course c.in-Some.is;
 }

@@ -7,11 +7,11 @@ use Rattle.disk_unit.proofs.dense.DenseBlocksBlocks.read_part.Goals as goal
 pub returns : goal.returns
 returns c =
     let s = c.self.inside in
-    let within : c.args.lba < s.count = subst (λ (k : Contents). c.args.lba < k.count) (sym c.self.view_is) c.requires.within in
+    let within : c.args.lba < s.count = subst
+    (λ (k : Contents). c.args.lba < k.count) (sym c.self.view_is) c.requires.within in
     let size : c.args.lba * s.size + s.size - c.args.lba * s.size ≡ s.size = omega arith in
     let first : 0 + c.args.lba ≡ c.args.lba = omega arith in
-    c.copy_from.ensures
-    ∙ ap (λ (l : List ℕ). take (length c.args.into.now) (drop c.args.offset l))
+    c.copy_from.ensures ∙ ap (λ (l : List ℕ). take (length c.args.into.now) (drop c.args.offset l))
     ((λ i. take (size i) (drop (c.args.lba * s.size) (c.deref.ensures.value i)))
     ∙ sym (read_dense s.size 0 s.count s.bytes.items c.args.lba (zero_block s.size) within)
     ∙ ap (λ (k : ℕ). touched_block (blocks_in s.size 0 s.count s.bytes.items) k (zero_block s.size)) first

@@ -1,4 +1,5 @@
-use Rattle.std.proofs.Common.{◌≡◌, ◌<◌, ◌≤◌, ◌+◌, ◌-◌, ℕ, List, true, false, length, replicate, take, drop, get_or, sym, ap, ◌∙◌, arith}
+use Rattle.std.proofs.Common.{◌≡◌, ◌<◌, ◌≤◌, ◌+◌, ◌-◌, ℕ, List, true, false, length, replicate, take, drop, get_or, sym}
+use Rattle.std.proofs.Common.{ap, ◌∙◌, arith}
 use Rattle.std.specs.Global.{Vec}
 use Rattle.std.proofs.lemmas.Grind.{common_steps}
 use Rattle.std.proofs.lemmas.List.{take-replicate, drop-replicate}
@@ -11,8 +12,10 @@ pub index-requires : goal.index-requires
 index-requires c =
     let s = c.self.inside in
     let at : is_at s.numbers.items c.place_of-place.result c.args.lba ≡ true =
-    sym (ap (λ (numbers : List ℕ). is_at numbers c.place_of-place.result c.args.lba) c.as_slice-2.ensures.value) ∙ sym c.is_at.ensures ∙ c.if-is_at.true in
-    let within : c.place_of-place.result < length s.numbers.items = at_within s.numbers.items c.place_of-place.result c.args.lba at in
+    sym (ap (λ (numbers : List ℕ). is_at numbers c.place_of-place.result c.args.lba) c.as_slice-2.ensures.value)
+    ∙ sym c.is_at.ensures ∙ c.if-is_at.true in
+    let within : c.place_of-place.result < length s.numbers.items = at_within
+    s.numbers.items c.place_of-place.result c.args.lba at in
     let paired = c.self.invariant.paired in
     grind (arith, common_steps)
 
@@ -20,12 +23,13 @@ pub copy_from-requires : goal.copy_from-requires
 copy_from-requires c =
     let s = c.self.inside in
     let at : is_at s.numbers.items c.place_of-place.result c.args.lba ≡ true =
-    sym (ap (λ (numbers : List ℕ). is_at numbers c.place_of-place.result c.args.lba) c.as_slice-2.ensures.value) ∙ sym c.is_at.ensures ∙ c.if-is_at.true in
-    let found : c.place_of-place.result < length s.numbers.items = at_within s.numbers.items c.place_of-place.result c.args.lba at in
+    sym (ap (λ (numbers : List ℕ). is_at numbers c.place_of-place.result c.args.lba) c.as_slice-2.ensures.value)
+    ∙ sym c.is_at.ensures ∙ c.if-is_at.true in
+    let found : c.place_of-place.result < length s.numbers.items = at_within
+    s.numbers.items c.place_of-place.result c.args.lba at in
     let paired = c.self.invariant.paired in
     let within : c.place_of-place.result < length s.blocks.items = omega arith in
-    let whole : length c.as_slice-then-is_at.result.now ≡ s.size =
-    ap length c.as_slice-then-is_at.ensures.value
+    let whole : length c.as_slice-then-is_at.result.now ≡ s.size = ap length c.as_slice-then-is_at.ensures.value
     ∙ ap (λ (b : Vec ℕ). length b.items) c.index.ensures
     ∙ size_at s.size s.blocks.items c.place_of-place.result c.index.result.now c.self.invariant.sized within in
     let size : s.size ≡ c.args.self.now.contents.size = ap (λ (t : Store). t.contents.size) c.self.view_is in
@@ -35,30 +39,28 @@ copy_from-requires c =
 pub returns-then-is_at : goal.returns-then-is_at
 returns-then-is_at c =
     let s = c.self.inside in
-    let place : c.place_of-place.result ≡ place_in s.numbers.items c.args.lba = c.place_of-place.ensures.exact ∙ (λ i. place_in (c.as_slice.ensures.value i) (c.from.ensures i)) in
+    let place : c.place_of-place.result ≡ place_in s.numbers.items c.args.lba = c.place_of-place.ensures.exact
+    ∙ (λ i. place_in (c.as_slice.ensures.value i) (c.from.ensures i)) in
     let at : is_at s.numbers.items (place_in s.numbers.items c.args.lba) c.args.lba ≡ true =
     sym (λ i. is_at (c.as_slice-2.ensures.value i) (place i) c.args.lba) ∙ sym c.is_at.ensures ∙ c.if-is_at.true in
-    c.copy_from.ensures
-    ∙ ap (λ (l : List ℕ). take (length c.args.into.now) (drop c.args.offset l))
-    (c.as_slice-then-is_at.ensures.value
-    ∙ ap (λ (b : Vec ℕ). b.items) c.index.ensures
-    ∙ ap (λ (k : ℕ). (get_or s.blocks.items k c.index.result.now).items) place
-    ∙ sym (read_found s.numbers.items s.blocks.items c.args.lba (zero_block s.size) c.index.result.now c.self.invariant.paired at)
+    c.copy_from.ensures ∙ ap (λ (l : List ℕ). take (length c.args.into.now) (drop c.args.offset l))
+    (c.as_slice-then-is_at.ensures.value ∙ ap (λ (b : Vec ℕ). b.items) c.index.ensures
+    ∙ ap (λ (k : ℕ). (get_or s.blocks.items k c.index.result.now).items) place ∙ sym (read_found
+    s.numbers.items s.blocks.items c.args.lba (zero_block s.size) c.index.result.now c.self.invariant.paired at)
     ∙ ap (λ (t : Store). block_at t.contents c.args.lba) c.self.view_is)
 
 pub returns-else-is_at : goal.returns-else-is_at
 returns-else-is_at c =
     let s = c.self.inside in
     let n : ℕ = length c.args.into.now in
-    let place : c.place_of-place.result ≡ place_in s.numbers.items c.args.lba = c.place_of-place.ensures.exact ∙ (λ i. place_in (c.as_slice.ensures.value i) (c.from.ensures i)) in
+    let place : c.place_of-place.result ≡ place_in s.numbers.items c.args.lba = c.place_of-place.ensures.exact
+    ∙ (λ i. place_in (c.as_slice.ensures.value i) (c.from.ensures i)) in
     let at : is_at s.numbers.items (place_in s.numbers.items c.args.lba) c.args.lba ≡ false =
     sym (λ i. is_at (c.as_slice-2.ensures.value i) (place i) c.args.lba) ∙ sym c.is_at.ensures ∙ c.if-is_at.false in
     let size : s.size ≡ c.args.self.now.contents.size = ap (λ (t : Store). t.contents.size) c.self.view_is in
     let part = c.requires.part in
     let fits : n ≤ s.size - c.args.offset = omega arith in
-    c.blank.ensures
-    ∙ sym (take-replicate n (s.size - c.args.offset) 0 fits)
-    ∙ ap (take n) (sym (drop-replicate c.args.offset s.size 0))
-    ∙ ap (λ (l : List ℕ). take n (drop c.args.offset l))
+    c.blank.ensures ∙ sym (take-replicate n (s.size - c.args.offset) 0 fits)
+    ∙ ap (take n) (sym (drop-replicate c.args.offset s.size 0)) ∙ ap (λ (l : List ℕ). take n (drop c.args.offset l))
     (sym (read_absent 0 s.numbers.items s.blocks.items c.args.lba (zero_block s.size) c.self.invariant.rising at)
     ∙ ap (λ (t : Store). block_at t.contents c.args.lba) c.self.view_is)

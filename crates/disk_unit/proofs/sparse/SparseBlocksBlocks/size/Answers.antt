@@ -5,5 +5,5 @@ use Rattle.disk_unit.proofs.Touched.{touched_whole}
 use Rattle.disk_unit.proofs.sparse.SparseBlocksBlocks.size.Goals as goal
 
 pub returns-clause-whole : goal.returns-clause-whole
-returns-clause-whole c =
-    λ lba. subst (λ (x : Store). length (block_at x.contents lba) ≡ x.contents.size) c.self.view_is (touched_whole c.self.inside.size c.self.inside.numbers.items c.self.inside.blocks.items lba c.self.invariant.sized)
+returns-clause-whole c = λ lba. subst (λ (x : Store). length (block_at x.contents lba) ≡ x.contents.size) c.self.view_is
+    (touched_whole c.self.inside.size c.self.inside.numbers.items c.self.inside.blocks.items lba c.self.invariant.sized)

@@ -5,9 +5,8 @@ use Rattle.initiator.proofs.OwnCommands.{number_told, is_there}
 use Rattle.initiator.proofs.book.Book.add_check.Goals as goal
 
 pub returns-in-None : goal.returns-in-None
-returns-in-None c =
-    sym c.self.view_is
-    ∙ no_check_put _ c.args.number (number_told c.self.inside.commands.mines c.args.number ∙ (λ i. is_there (sym c.in-None.ensures.value i)))
+returns-in-None c = sym c.self.view_is ∙ no_check_put _ c.args.number
+    (number_told c.self.inside.commands.mines c.args.number ∙ (λ i. is_there (sym c.in-None.ensures.value i)))
     ∙ ap (λ (v : BookValue). record v { queue = queue_with v.mines v.room v.queue c.args.number }) c.self.view_is
 
 pub returns-in-Some : goal.returns-in-Some
@@ -21,7 +20,8 @@ returns-in-Some c =
     } in
     (λ i. record v { queue = (c.add.ensures i).queue; room = (c.add.ensures i).room })
     ∙ (λ i. record v {
-      queue = check_put v.mines c.self.inside.checks c.args.number (number_told v.mines c.args.number ∙ (λ j. is_there (sym c.in-Some.ensures.value j))) i;
+      queue = check_put v.mines c.self.inside.checks c.args.number
+          (number_told v.mines c.args.number ∙ (λ j. is_there (sym c.in-Some.ensures.value j))) i;
       room = room_with c.self.inside.checks c.args.number i;
     })
     ∙ ap (λ (z : BookValue). record z { queue = queue_with z.mines z.room z.queue c.args.number }) c.self.view_is

@@ -10,26 +10,33 @@ use Rattle.initiator.proofs.commands.Commands.end_many.Goals as goal
 use Rattle.initiator.proofs.commands.Commands.end_many.Goals.{After-past_from-self-inside}
 
 -- All of them after the event.
-whole : (c : After-past_from-self-inside) → (with_items c.self.inside.mines c.see_between.new.mines).items ≡ map (λ (m : Mine). mine_after_event c.args.event.now m) c.self.inside.mines.items
+whole : (c : After-past_from-self-inside) → (with_items c.self.inside.mines c.see_between.new.mines).items
+    ≡ map (λ (m : Mine). mine_after_event c.args.event.now m) c.self.inside.mines.items
 whole c =
     let old = c.as_mut_slice.ensures.value in
-    with_items_is c.self.inside.mines c.see_between.new.mines (c.see_between.auto.mines ∙ ap (λ (m : List Mine). length m) old ∙ omega (arith, c.self.inside.mines.ok.0))
+    with_items_is c.self.inside.mines c.see_between.new.mines
+    (c.see_between.auto.mines ∙ ap (λ (m : List Mine). length m) old ∙ omega (arith, c.self.inside.mines.ok.0))
     ∙ c.see_between.ensures
-    ∙ (λ i. take c.self.inside.past (old i) ++ (map (λ (m : Mine). mine_after_event c.args.event.now m) (slice_range (old i) c.self.inside.past c.self.inside.reached) ++ drop c.self.inside.reached (old i)))
-    ∙ middle_is_all c.args.event.now c.self.inside.mines.items c.self.inside.places.items c.self.inside.past c.self.inside.reached c.requires c.self.invariant
+    ∙ (λ i. take c.self.inside.past (old i) ++ (map (λ (m : Mine). mine_after_event c.args.event.now m)
+    (slice_range (old i) c.self.inside.past c.self.inside.reached) ++ drop c.self.inside.reached (old i)))
+    ∙ middle_is_all c.args.event.now c.self.inside.mines.items c.self.inside.places.items c.self.inside.past
+    c.self.inside.reached c.requires c.self.invariant
 
 pub invariant_of-self : goal.invariant_of-self
 invariant_of-self c =
     let z = whole (goal.at.invariant_of-self c).After-past_from-self-inside in
-    subst (λ (m : List Mine). AreKept m c.self.inside.places.items c.past_from-self-inside.result c.self.inside.reached) (sym z)
-    (kept_after c.args.event.now c.self.inside.mines.items c.self.inside.places.items c.self.inside.past c.self.inside.reached c.past_from-self-inside.result c.requires c.self.invariant
-    ((λ i. all_past (take c.past_from-self-inside.result (sym (c.as_slice.ensures.value ∙ z) i))) ∙ c.past_from-self-inside.ensures.past)
-    c.past_from-self-inside.ensures.ordered)
+    subst (λ (m : List Mine). AreKept m c.self.inside.places.items c.past_from-self-inside.result c.self.inside.reached)
+    (sym z) (kept_after c.args.event.now c.self.inside.mines.items c.self.inside.places.items
+    c.self.inside.past c.self.inside.reached c.past_from-self-inside.result c.requires c.self.invariant
+    ((λ i. all_past (take c.past_from-self-inside.result (sym (c.as_slice.ensures.value ∙ z) i)))
+    ∙ c.past_from-self-inside.ensures.past) c.past_from-self-inside.ensures.ordered)
 
 pub returns : goal.returns
 returns c =
     let z = whole (goal.at.returns c).After-past_from-self-inside in
     λ i. record {
-      mines = (z ∙ ap (λ (v : CommandsValue). map (λ (m : Mine). mine_after_event c.args.event.now m) v.mines) c.self.view_is) i;
+      mines = (z
+          ∙ ap (λ (v : CommandsValue). map (λ (m : Mine). mine_after_event c.args.event.now m) v.mines) c.self.view_is)
+          i;
       limit = ap (λ (v : CommandsValue). v.limit) c.self.view_is i;
     }

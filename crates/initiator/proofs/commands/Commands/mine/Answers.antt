@@ -13,13 +13,17 @@ returns-in-None-clause-value c =
 
 pub returns-in-Some-clause-value : goal.returns-in-Some-clause-value
 returns-in-Some-clause-value c =
-    let at : IsPlaceOf c.self.inside.mines.items c.in-Some.place c.args.number = subst (λ (z : List Mine). IsPlaceOf z c.in-Some.place c.args.number) c.as_slice.ensures.value c.in-Some.ensures.found in
+    let at : IsPlaceOf c.self.inside.mines.items c.in-Some.place c.args.number = subst
+    (λ (z : List Mine). IsPlaceOf z c.in-Some.place c.args.number) c.as_slice.ensures.value c.in-Some.ensures.found in
     (λ i. Some (c.index.ensures i))
-    ∙ sym (mine_there c.self.inside.places.items 0 c.self.inside.mines.items c.in-Some.place c.args.number c.index.result.now c.self.invariant.placed at.within (at.number_is c.index.result.now))
+    ∙ sym (mine_there c.self.inside.places.items 0 c.self.inside.mines.items c.in-Some.place
+    c.args.number c.index.result.now c.self.invariant.placed at.within (at.number_is c.index.result.now))
     ∙ ap (λ (v : CommandsValue). mine_at v.mines c.args.number) c.self.view_is
 
 pub returns-in-Some-clause-below : goal.returns-in-Some-clause-below
 returns-in-Some-clause-below c =
-    let at : IsPlaceOf c.self.inside.mines.items c.in-Some.place c.args.number = subst (λ (z : List Mine). IsPlaceOf z c.in-Some.place c.args.number) c.as_slice.ensures.value c.in-Some.ensures.found in
+    let at : IsPlaceOf c.self.inside.mines.items c.in-Some.place c.args.number = subst
+    (λ (z : List Mine). IsPlaceOf z c.in-Some.place c.args.number) c.as_slice.ensures.value c.in-Some.ensures.found in
     rw (← at.number_is c.index.result.now, ← ap (λ (v : CommandsValue). v.limit) c.self.view_is)
-    (number_below c.self.inside.places.items 0 c.self.inside.mines.items c.in-Some.place c.index.result.now c.self.invariant.placed at.within)
+    (number_below c.self.inside.places.items 0 c.self.inside.mines.items c.in-Some.place c.index.result.now
+    c.self.invariant.placed at.within)

@@ -7,13 +7,12 @@ use Rattle.initiator.proofs.KeptCommands.{open_window, named_window}
 use Rattle.initiator.proofs.commands.Commands.open.Goals as goal
 
 pub returns-clause-open : goal.returns-clause-open
-returns-clause-open c =
-    (λ i. open_mines (take (c.self.inside.reached - c.self.inside.past) (drop c.self.inside.past (c.deref.ensures.value i))))
-    ∙ open_window _ _ _ _ c.self.invariant
-    ∙ ap (λ (v : CommandsValue). open_mines v.mines) c.self.view_is
+returns-clause-open c = (λ i. open_mines
+    (take (c.self.inside.reached - c.self.inside.past) (drop c.self.inside.past (c.deref.ensures.value i))))
+    ∙ open_window _ _ _ _ c.self.invariant ∙ ap (λ (v : CommandsValue). open_mines v.mines) c.self.view_is
 
 pub returns-clause-named : goal.returns-clause-named
-returns-clause-named c = λ target unit tag.
-    (λ i. named_in (take (c.self.inside.reached - c.self.inside.past) (drop c.self.inside.past (c.deref.ensures.value i))) target unit tag)
-    ∙ named_window _ _ _ _ target unit tag c.self.invariant
+returns-clause-named c = λ target unit tag. (λ i. named_in
+    (take (c.self.inside.reached - c.self.inside.past) (drop c.self.inside.past (c.deref.ensures.value i)))
+    target unit tag) ∙ named_window _ _ _ _ target unit tag c.self.invariant
     ∙ ap (λ (v : CommandsValue). named_in v.mines target unit tag) c.self.view_is

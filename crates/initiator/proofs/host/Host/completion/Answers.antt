@@ -9,12 +9,14 @@ use Rattle.initiator.specs.States.{IsOwnConnection}
 use Rattle.initiator.proofs.host.Host.completion.Goals as goal
 
 pub returns-clause-rows : goal.returns-clause-rows
-returns-clause-rows c = λ s rows row o d h.
-    c.completion.ensures.rows s rows row d (c.hearing.ensures (row ∷ rows) o) (subst (λ (v : HostValue). IsHostAfter s rows v) (sym c.self.view_is) h).transfers_are
+returns-clause-rows c = λ s rows row o d h. c.completion.ensures.rows s rows row d (c.hearing.ensures (row ∷ rows) o)
+    (subst (λ (v : HostValue). IsHostAfter s rows v) (sym c.self.view_is) h).transfers_are
     ∙ (λ i. initiator_events (run_state s rows)
-    (own_link ((subst (λ (v : HostValue). IsHostAfter s rows v) (sym c.self.view_is) h).transfers_dev i) (connection rows) (run_state s rows).story.link)
+    (own_link ((subst (λ (v : HostValue). IsHostAfter s rows v) (sym c.self.view_is) h).transfers_dev i)
+    (connection rows) (run_state s rows).story.link) (row_reading (run_state s rows).story.bus_state row))
+    ∙ (λ i. let v : HostValue = c.self.view_is i in
+    initiator_events (run_state s rows) (own_link v.def.dev (connection rows) (run_state s rows).story.link)
     (row_reading (run_state s rows).story.bus_state row))
-    ∙ (λ i. let v : HostValue = c.self.view_is i in initiator_events (run_state s rows) (own_link v.def.dev (connection rows) (run_state s rows).story.link) (row_reading (run_state s rows).story.bus_state row))
 
 pub returns-clause-trace : goal.returns-clause-trace
 returns-clause-trace c = λ s rows row n o d h own.

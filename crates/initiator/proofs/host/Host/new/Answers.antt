@@ -44,10 +44,9 @@ returns-clause-named c =
     (c.scenarios_fit_the_bus.ensures.lines c.args.scenario.now c.requires.lawful)
     ((λ i. host_of (sym c.scenario.view_is i) c.args.dev)
     ∙ (λ i. find (λ (h : HostDef). h.dev == c.args.dev) (sym c.as_slice.ensures.value i))
-    ∙ sym c.host_line.ensures
-    ∙ c.in-Some.is) in
-    IfOk-weaker c.of_line.result (λ (made : HostValue). made.def ≡ c.in-Some.def) (λ (made : HostValue). made.def.dev ≡ c.args.dev)
-    (λ made e. ap (λ (h : HostDef). h.dev) e ∙ l.1) c.of_line.ensures.named
+    ∙ sym c.host_line.ensures ∙ c.in-Some.is) in
+    IfOk-weaker c.of_line.result (λ (made : HostValue). made.def ≡ c.in-Some.def) (λ (made : HostValue). made.def.dev
+    ≡ c.args.dev) (λ made e. ap (λ (h : HostDef). h.dev) e ∙ l.1) c.of_line.ensures.named
 
 pub returns-clause-trace : goal.returns-clause-trace
 returns-clause-trace c =

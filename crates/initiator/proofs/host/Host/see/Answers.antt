@@ -10,4 +10,5 @@ returns-then-is_linked-clause-trace c = λ s rows f o d shown h.
     let row = c.args.row.now in
     let e = c.effect.ensures.trace (row ∷ rows) (c.view.ensures.trace (row ∷ rows) o) in
     let both = and_parts _ (is_empty c.args.shown.now) (sym c.is_linked.ensures ∙ c.if-is_linked.true) in
-    c.see_linked.ensures.trace s rows f o d shown ((λ j. is_some (sym e j).before) ∙ both.0) (sym shown ∙ empty_is c.args.shown.now both.1) h
+    c.see_linked.ensures.trace s rows f o d shown ((λ j. is_some (sym e j).before) ∙ both.0)
+    (sym shown ∙ empty_is c.args.shown.now both.1) h

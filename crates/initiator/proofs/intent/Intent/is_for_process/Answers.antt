@@ -13,4 +13,7 @@ same (Some (own.Sense n)) = refl
 same (Some (own.Abort n)) = refl
 
 pub returns-clause-trace : goal.returns-clause-trace
-returns-clause-trace c = λ s rows h. c.is_process.ensures ∙ ap (λ (a : Option OwnItem). is_for_own_process a) c.aim.ensures ∙ ap (λ (v : IntentValue). is_for_own_process v.wish.aim) c.self.view_is ∙ same c.args.self.now.wish.aim ∙ (λ i. is_for_process (h.wish_is.aim_is i))
+returns-clause-trace c =
+    λ s rows h. c.is_process.ensures ∙ ap (λ (a : Option OwnItem). is_for_own_process a) c.aim.ensures
+    ∙ ap (λ (v : IntentValue). is_for_own_process v.wish.aim) c.self.view_is ∙ same c.args.self.now.wish.aim
+    ∙ (λ i. is_for_process (h.wish_is.aim_is i))

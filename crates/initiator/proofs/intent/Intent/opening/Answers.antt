@@ -13,8 +13,9 @@ pub returns-clause-trace : goal.returns-clause-trace
 returns-clause-trace c = λ s rows d lt u host h.
     let v : IntentValue = c.args.self.now in
     c.item_opening.ensures
-    ∙ (λ i. opening_by (Some c.args.host.now) c.args.negotiates (c.book.ensures i) (c.aim.ensures i))
-    ∙ ap (λ (z : IntentValue). opening_by (Some c.args.host.now) c.args.negotiates z.wish.book z.wish.aim) c.self.view_is
+    ∙ (λ i. opening_by (Some c.args.host.now) c.args.negotiates (c.book.ensures i) (c.aim.ensures i)) ∙ ap
+    (λ (z : IntentValue). opening_by (Some c.args.host.now) c.args.negotiates z.wish.book z.wish.aim) c.self.view_is
     ∙ (λ i. opening_by (sym host i) c.args.negotiates (h.wish_is.book_is i) v.wish.aim)
-    ∙ opening_is s (run_state s rows).story.sent v.dev c.args.negotiates v.wish.aim u (subst (λ (x : Option Item). IsItemIf s v.dev x) (sym h.wish_is.aim_is) ((aims_are s rows d).own_items v.dev lt))
+    ∙ opening_is s (run_state s rows).story.sent v.dev c.args.negotiates v.wish.aim u
+    (subst (λ (x : Option Item). IsItemIf s v.dev x) (sym h.wish_is.aim_is) ((aims_are s rows d).own_items v.dev lt))
     ∙ (λ i. opening s v.dev c.args.negotiates (h.wish_is.aim_is i))

@@ -4,4 +4,5 @@ use Rattle.initiator.proofs.Intents.{wants_since}
 use Rattle.initiator.proofs.intent.Intent.since.Goals as goal
 
 pub returns-clause-trace : goal.returns-clause-trace
-returns-clause-trace c = λ s rows h. ap (λ (v : IntentValue). v.since) c.self.view_is ∙ wants_since s rows c.args.self.now h
+returns-clause-trace c =
+    λ s rows h. ap (λ (v : IntentValue). v.since) c.self.view_is ∙ wants_since s rows c.args.self.now h

@@ -14,5 +14,5 @@ returns-clause-rows c = λ s rows d h.
     ∙ pointers_are s rows c.args.self.now (c.kept_is_plain.ensures.rows s rows d) d h
 
 pub returns-clause-trace : goal.returns-clause-trace
-returns-clause-trace c = λ s rows n d h own.
-    returns-clause-rows c s rows d h ∙ (λ i. active_of (run_state s rows) (id_of (item_of (own_is rows c.args.self.now.dev n (run_state s rows).story.link own i))))
+returns-clause-trace c = λ s rows n d h own. returns-clause-rows c s rows d h ∙ (λ i. active_of (run_state s rows)
+    (id_of (item_of (own_is rows c.args.self.now.dev n (run_state s rows).story.link own i))))

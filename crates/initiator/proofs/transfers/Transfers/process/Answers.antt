@@ -7,7 +7,9 @@ use Rattle.initiator.proofs.TransferRows.{process_is, own_is}
 use Rattle.initiator.proofs.transfers.Transfers.process.Goals as goal
 
 pub returns-clause-rows : goal.returns-clause-rows
-returns-clause-rows c = λ s rows h. c.process_of_link.ensures ∙ ap (λ (v : TransfersValue). process_of_link v.link) c.self.view_is ∙ process_is s rows c.args.self.now h
+returns-clause-rows c = λ s rows h. c.process_of_link.ensures
+    ∙ ap (λ (v : TransfersValue). process_of_link v.link) c.self.view_is ∙ process_is s rows c.args.self.now h
 
 pub returns-clause-trace : goal.returns-clause-trace
-returns-clause-trace c = λ s rows n h own. returns-clause-rows c s rows h ∙ (λ i. id_of (item_of (own_is rows c.args.self.now.dev n (run_state s rows).story.link own i)))
+returns-clause-trace c = λ s rows n h own. returns-clause-rows c s rows h
+    ∙ (λ i. id_of (item_of (own_is rows c.args.self.now.dev n (run_state s rows).story.link own i)))

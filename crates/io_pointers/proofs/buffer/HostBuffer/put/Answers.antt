@@ -6,4 +6,6 @@ use Rattle.io_pointers.proofs.Held.{put_held}
 use Rattle.io_pointers.proofs.buffer.HostBuffer.put.Goals as goal
 
 pub returns-clause-held : goal.returns-clause-held
-returns-clause-held c = λ a e h. subst (λ (buffer : List ℕ). IsHeld (area_with a c.args.byte) (slice_set buffer c.args.at c.args.byte)) (sym c.self.view_is) (put_held a c.args.self.now c.args.at c.args.byte e c.requires h)
+returns-clause-held c = λ a e h. subst
+    (λ (buffer : List ℕ). IsHeld (area_with a c.args.byte) (slice_set buffer c.args.at c.args.byte))
+    (sym c.self.view_is) (put_held a c.args.self.now c.args.at c.args.byte e c.requires h)

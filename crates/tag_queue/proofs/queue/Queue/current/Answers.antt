@@ -11,6 +11,8 @@ returns-clause-live c =
     subst (λ (q : QueueState). IfSome s.current (λ key. has_key q.arrived key ≡ true)) c.self.view_is
     (go s.current c.self.invariant.current_is_live)
   where
-    go : (current : Option ℕ) → IsAmong c.self.inside.arrivals.items current → IfSome current (λ key. has_key (queued_at c.self.inside.entries c.self.inside.arrivals.items) key ≡ true)
+    go : (current : Option ℕ) → IsAmong c.self.inside.arrivals.items current
+        → IfSome current (λ key. has_key (queued_at c.self.inside.entries c.self.inside.arrivals.items) key ≡ true)
     go None h = tt
-    go (Some key) h = has_key_queued c.self.inside.entries key None c.self.inside.current c.self.inside.arrivals.items [] c.self.invariant.kept ∙ h
+    go (Some key) h = has_key_queued c.self.inside.entries key None c.self.inside.current c.self.inside.arrivals.items
+        [] c.self.invariant.kept ∙ h

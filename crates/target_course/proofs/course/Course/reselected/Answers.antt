@@ -4,6 +4,7 @@ use Rattle.target_course.proofs.CourseRows.{course_reselected_heard}
 use Rattle.target_course.proofs.course.Course.reselected.Goals as goal
 
 pub returns-clause-trace : goal.returns-clause-trace
-returns-clause-trace c = λ s rows row n dev d x y r f e ready.
-    subst (λ (u : CourseState). IsCourseOf s (row ∷ rows) dev u) (sym c.of_reselection.ensures)
-    (course_reselected_heard s rows row n dev c.args.id c.args.name c.args.cdb.now (c.kept_is_plain.ensures.rows s rows d.1) (c.kept_is_plain.ensures.rows s (row ∷ rows) d) x y r f e ready)
+returns-clause-trace c = λ s rows row n dev d x y r f e ready. subst
+    (λ (u : CourseState). IsCourseOf s (row ∷ rows) dev u) (sym c.of_reselection.ensures)
+    (course_reselected_heard s rows row n dev c.args.id c.args.name c.args.cdb.now
+    (c.kept_is_plain.ensures.rows s rows d.1) (c.kept_is_plain.ensures.rows s (row ∷ rows) d) x y r f e ready)

@@ -8,8 +8,8 @@ use Rattle.target_course.proofs.ProgressRows.{named_so}
 use Rattle.target_course.proofs.gathered.Gathered.bytes.Goals as goal
 
 pub returns-clause-sent : goal.returns-clause-sent
-returns-clause-sent c = λ s p g e.
-    bytes_sent s (gathering_at c.args.self.now.units c.args.unit) c.args.id c.args.count p c.held.result.now (g.each c.args.unit c.requires.unit) e c.held.ensures
+returns-clause-sent c = λ s p g e. bytes_sent s (gathering_at c.args.self.now.units c.args.unit) c.args.id c.args.count
+    p c.held.result.now (g.each c.args.unit c.requires.unit) e c.held.ensures
 
 pub returns-clause-whole : goal.returns-clause-whole
 returns-clause-whole c = λ s rows p n g h r t unit id count l all.

@@ -6,4 +6,5 @@ pub returns-clause-trace : goal.returns-clause-trace
 returns-clause-trace c = λ s rows p h e t. c.at.ensures ∙ h.counts c.args.id p e t
 
 pub returns-clause-exact : goal.returns-clause-exact
-returns-clause-exact c = λ s rows p h e t l. are_exact s rows c.args.id c.at.result (c.at.ensures ∙ h.counts c.args.id p e t) l
+returns-clause-exact c =
+    λ s rows p h e t l. are_exact s rows c.args.id c.at.result (c.at.ensures ∙ h.counts c.args.id p e t) l

@@ -4,8 +4,8 @@ use Rattle.target_units.specs.Units.{IsUnitOf, spare_of}
 use Rattle.target_units.proofs.logical.LogicalUnit.fail.Goals as goal
 
 pub returns-in-There-clause-seat : goal.returns-in-There-clause-seat
-returns-in-There-clause-seat c = λ hosts seat after time over p h same e.
-    c.fail.ensures.seat hosts seat after time over p (subst (λ (u : LogicalUnit). IsUnitOf hosts seat time u) c.in-There.is h) same e
+returns-in-There-clause-seat c = λ hosts seat after time over p h same e. c.fail.ensures.seat hosts seat after time over
+    p (subst (λ (u : LogicalUnit). IsUnitOf hosts seat time u) c.in-There.is h) same e
 
 pub returns-in-There-clause-spare : goal.returns-in-There-clause-spare
 returns-in-There-clause-spare c = (λ i. (c.fail.ensures.exact i).spare) ∙ (λ i. spare_of (sym c.in-There.is i))

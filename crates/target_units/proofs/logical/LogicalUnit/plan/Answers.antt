@@ -4,5 +4,5 @@ use Rattle.target_units.specs.Units.{IsUnitOf}
 use Rattle.target_units.proofs.logical.LogicalUnit.plan.Goals as goal
 
 pub returns-in-There-clause-seat : goal.returns-in-There-clause-seat
-returns-in-There-clause-seat c = λ hosts seat time sent h host.
-    c.plan.ensures.seat hosts seat time sent (subst (λ (u : LogicalUnit). IsUnitOf hosts seat time u) c.in-There.is h) host
+returns-in-There-clause-seat c = λ hosts seat time sent h host. c.plan.ensures.seat hosts seat time sent
+    (subst (λ (u : LogicalUnit). IsUnitOf hosts seat time u) c.in-There.is h) host

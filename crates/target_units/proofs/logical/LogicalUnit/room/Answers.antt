@@ -7,5 +7,7 @@ use Rattle.target_units.proofs.logical.LogicalUnit.room.Goals as goal
 
 pub returns-in-There : goal.returns-in-There
 returns-in-There c = λ hosts seat time h.
-    let k : IsAtSeat hosts seat time c.in-There.seated = subst (λ (u : LogicalUnit). IsUnitOf hosts seat time u) c.in-There.is h in
-    (λ i. Some (c.room.ensures.seat hosts seat time k.1 k k.2.kept.there i)) ∙ (λ i. room_if (is_any_held seat.hold) (sym k.2.kept.there i))
+    let k : IsAtSeat hosts seat time c.in-There.seated = subst
+    (λ (u : LogicalUnit). IsUnitOf hosts seat time u) c.in-There.is h in
+    (λ i. Some (c.room.ensures.seat hosts seat time k.1 k k.2.kept.there i))
+    ∙ (λ i. room_if (is_any_held seat.hold) (sym k.2.kept.there i))

@@ -11,8 +11,23 @@ pub returns : goal.returns
 returns c =
     let s = c.self.inside in
     let next = c.accept.new.self in
-    let w : SeatedState = record { books = next.books; contents = next.medium.blocks.contents; spare = next.medium.blocks.spare; pick = s.pick; reply = s.reply; since = s.since } in
-    arrived_by c.args.self.now w (entry_with c.args.id c.args.from c.args.tag c.args.class (disk_extent c.args.cdb.now)) c.args.cdb.now c.accept.result
-    ((λ i. record { books = next.books; contents = (c.accept.ensures.medium i).blocks.contents; spare = (c.accept.ensures.medium i).blocks.spare; pick = s.pick; reply = s.reply; since = s.since })
-    ∙ (λ i. with_books (c.self.view_is i) next.books))
-    (subst (λ (v : SeatedState). IsAccepted (is_request_sense (command_of c.args.cdb.now)) v.books (entry_with c.args.id c.args.from c.args.tag c.args.class (disk_extent c.args.cdb.now)) c.args.cdb.now next.books c.accept.result) c.self.view_is c.accept.ensures.books)
+    let w : SeatedState = record {
+      books = next.books;
+      contents = next.medium.blocks.contents;
+      spare = next.medium.blocks.spare;
+      pick = s.pick;
+      reply = s.reply;
+      since = s.since;
+    } in
+    arrived_by c.args.self.now w (entry_with c.args.id c.args.from c.args.tag c.args.class (disk_extent c.args.cdb.now))
+    c.args.cdb.now c.accept.result ((λ i. record {
+      books = next.books;
+      contents = (c.accept.ensures.medium i).blocks.contents;
+      spare = (c.accept.ensures.medium i).blocks.spare;
+      pick = s.pick;
+      reply = s.reply;
+      since = s.since;
+    }) ∙ (λ i. with_books (c.self.view_is i) next.books))
+    (subst (λ (v : SeatedState). IsAccepted (is_request_sense (command_of c.args.cdb.now)) v.books
+    (entry_with c.args.id c.args.from c.args.tag c.args.class (disk_extent c.args.cdb.now)) c.args.cdb.now next.books
+    c.accept.result) c.self.view_is c.accept.ensures.books)

@@ -6,8 +6,8 @@ use Rattle.target_units.proofs.Starts.{fresh_at, if_ok}
 use Rattle.target_units.proofs.seated.SeatedUnit.new.Goals as goal
 
 pub returns-clause-seat : goal.returns-clause-seat
-returns-clause-seat c = λ s same picks there.
-    if_ok (λ (made : SeatedState). IsFresh c.args.def.now c.args.pick c.args.fills.now (blocks_by_all c.args.def.now c.args.commands.now) made)
-    (λ (made : SeatedState). IsAtSeat s.hosts (seat_of (starting_array s) c.args.def.now.target c.args.def.now.unit) 0 made)
-    (λ made h. fresh_at s c.args.def.now c.args.pick c.args.fills.now (blocks_by_all c.args.def.now c.args.commands.now) made h same picks there)
-    c.fresh.result c.fresh.ensures
+returns-clause-seat c = λ s same picks there. if_ok (λ (made : SeatedState). IsFresh c.args.def.now c.args.pick
+    c.args.fills.now (blocks_by_all c.args.def.now c.args.commands.now) made) (λ (made : SeatedState). IsAtSeat s.hosts
+    (seat_of (starting_array s) c.args.def.now.target c.args.def.now.unit) 0 made)
+    (λ made h. fresh_at s c.args.def.now c.args.pick c.args.fills.now
+    (blocks_by_all c.args.def.now c.args.commands.now) made h same picks there) c.fresh.result c.fresh.ensures

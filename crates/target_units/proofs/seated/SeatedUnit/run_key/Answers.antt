@@ -10,16 +10,33 @@ returns-clause-exact c =
     let s = c.self.inside in
     let next = c.run-reply.new.self in
     let e = c.run-reply.ensures in
-    let the_state : SeatedState = record { books = s.unit.books; contents = s.unit.medium.blocks.contents; spare = s.unit.medium.blocks.spare; pick = s.pick; reply = s.reply; since = s.since } in
-    let w : SeatedState = record { books = next.books; contents = next.medium.blocks.contents; spare = next.medium.blocks.spare; pick = s.pick; reply = Some c.run-reply.result; since = s.since } in
+    let the_state : SeatedState = record {
+      books = s.unit.books;
+      contents = s.unit.medium.blocks.contents;
+      spare = s.unit.medium.blocks.spare;
+      pick = s.pick;
+      reply = s.reply;
+      since = s.since;
+    } in
+    let w : SeatedState = record {
+      books = next.books;
+      contents = next.medium.blocks.contents;
+      spare = next.medium.blocks.spare;
+      pick = s.pick;
+      reply = Some c.run-reply.result;
+      since = s.since;
+    } in
     let ran : IsRun the_state c.args.key (take c.plan-taken.result.out_len c.args.sent.now) w = record {
       books = e.books;
-      contents = contents_after s.unit.medium.blocks.contents next.medium.blocks.contents (block_at s.unit.books c.args.key) (take c.plan-taken.result.out_len c.args.sent.now) (is_reported_at s.unit.books c.args.key)
-          (λ h i. (e.reported h i).blocks.contents) (λ h i. (e.unchanged h i).blocks.contents) e.changed;
+      contents = contents_after s.unit.medium.blocks.contents next.medium.blocks.contents
+          (block_at s.unit.books c.args.key) (take c.plan-taken.result.out_len c.args.sent.now)
+          (is_reported_at s.unit.books c.args.key) (λ h i. (e.reported h i).blocks.contents)
+          (λ h i. (e.unchanged h i).blocks.contents) e.changed;
       pick = refl;
       reply = (λ i. Some (e.reply i));
       since = refl;
       spare = e.lowered;
     } in
     subst (λ (v : SeatedState). IsRun v c.args.key (take (taken_at v c.args.key) c.args.sent.now) w) c.self.view_is
-    (subst (λ (n : ℕ). IsRun the_state c.args.key (take n c.args.sent.now) w) (λ i. (c.plan-taken.ensures i).out_len) ran)
+    (subst (λ (n : ℕ). IsRun the_state c.args.key (take n c.args.sent.now) w)
+    (λ i. (c.plan-taken.ensures i).out_len) ran)

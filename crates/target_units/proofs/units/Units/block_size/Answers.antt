@@ -10,5 +10,7 @@ pub returns : goal.returns
 returns c = λ s a times h.
     let dev : ℕ = c.args.self.now.dev in
     let n : ℕ = c.args.unit in
-    let seen = unit_seen s a times dev n c.args.self.now.units c.self.inside.units c.index-self-unit.result c.requires.unit h (λ i. (c.self.view_is i).units) in
-    c.block_size.ensures s.hosts (seat_of a dev n) (since_of a.units times dev n) seen ∙ size_same (unit_state_at a.units dev n)
+    let seen = unit_seen s a times dev n c.args.self.now.units c.self.inside.units
+    c.index-self-unit.result c.requires.unit h (λ i. (c.self.view_is i).units) in
+    c.block_size.ensures s.hosts (seat_of a dev n) (since_of a.units times dev n) seen
+    ∙ size_same (unit_state_at a.units dev n)

@@ -9,6 +9,8 @@ pub returns : goal.returns
 returns c = λ s a times p h host target unit from cdb.
     let dev : ℕ = c.args.self.now.dev in
     let n : ℕ = c.args.unit in
-    let seen = unit_seen s a times dev n c.args.self.now.units c.self.inside.units c.index-self-unit.result c.requires.unit h (λ i. (c.self.view_is i).units) in
+    let seen = unit_seen s a times dev n c.args.self.now.units c.self.inside.units
+    c.index-self-unit.result c.requires.unit h (λ i. (c.self.view_is i).units) in
     c.fetch.ensures s.hosts (seat_of a dev n) (since_of a.units times dev n) p.sent seen host
-    ∙ (λ i. take (length c.args.into.now) (drop c.args.at (reply_same a dev n c.args.from c.args.cdb.now p target unit from cdb i).bytes))
+    ∙ (λ i. take (length c.args.into.now)
+    (drop c.args.at (reply_same a dev n c.args.from c.args.cdb.now p target unit from cdb i).bytes))

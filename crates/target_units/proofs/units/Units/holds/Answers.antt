@@ -8,5 +8,6 @@ pub returns : goal.returns
 returns c = λ s a times h.
     let dev : ℕ = c.args.self.now.dev in
     let n : ℕ = c.args.unit in
-    let seen = unit_seen s a times dev n c.args.self.now.units c.self.inside.units c.index-self-unit.result c.requires.unit h (λ i. (c.self.view_is i).units) in
+    let seen = unit_seen s a times dev n c.args.self.now.units c.self.inside.units
+    c.index-self-unit.result c.requires.unit h (λ i. (c.self.view_is i).units) in
     c.holds.ensures s.hosts (seat_of a dev n) (since_of a.units times dev n) seen

@@ -16,18 +16,25 @@ pub returns-clause-start : goal.returns-clause-start
 returns-clause-start c =
     let s : ScenarioValue = c.args.scenario.now in
     let dev : ℕ = c.args.def.now.dev in
-    c.new.ensures.start s (obeys_fits s c.requires.lawful) (found_any (λ (t : TargetDef). t.dev == dev) s.targets c.args.def.now c.requires.target)
-    (eight_units (λ n u. IsUnitOf s.hosts (seat_of (starting_array s) dev n) 0 u)
-    c.in_ok-of.field-0 c.in_ok-of-2.field-0 c.in_ok-of-3.field-0 c.in_ok-of-4.field-0 c.in_ok-of-5.field-0 c.in_ok-of-6.field-0 c.in_ok-of-7.field-0 c.in_ok-of-8.field-0
-    c.in_ok-of.ensures.start c.in_ok-of-2.ensures.start c.in_ok-of-3.ensures.start c.in_ok-of-4.ensures.start c.in_ok-of-5.ensures.start c.in_ok-of-6.ensures.start c.in_ok-of-7.ensures.start c.in_ok-of-8.ensures.start)
-    (eight_units (λ k u. blocks_at (unit_of s dev k) s.commands ≤ spare_of u)
-    c.in_ok-of.field-0 c.in_ok-of-2.field-0 c.in_ok-of-3.field-0 c.in_ok-of-4.field-0 c.in_ok-of-5.field-0 c.in_ok-of-6.field-0 c.in_ok-of-7.field-0 c.in_ok-of-8.field-0
-    c.in_ok-of.ensures.spare c.in_ok-of-2.ensures.spare c.in_ok-of-3.ensures.spare c.in_ok-of-4.ensures.spare c.in_ok-of-5.ensures.spare c.in_ok-of-6.ensures.spare c.in_ok-of-7.ensures.spare c.in_ok-of-8.ensures.spare)
+    c.new.ensures.start s (obeys_fits s c.requires.lawful)
+    (found_any (λ (t : TargetDef). t.dev == dev) s.targets c.args.def.now c.requires.target)
+    (eight_units (λ n u. IsUnitOf s.hosts (seat_of (starting_array s) dev n) 0 u) c.in_ok-of.field-0
+    c.in_ok-of-2.field-0 c.in_ok-of-3.field-0 c.in_ok-of-4.field-0 c.in_ok-of-5.field-0 c.in_ok-of-6.field-0
+    c.in_ok-of-7.field-0 c.in_ok-of-8.field-0 c.in_ok-of.ensures.start c.in_ok-of-2.ensures.start
+    c.in_ok-of-3.ensures.start c.in_ok-of-4.ensures.start c.in_ok-of-5.ensures.start
+    c.in_ok-of-6.ensures.start c.in_ok-of-7.ensures.start c.in_ok-of-8.ensures.start)
+    (eight_units (λ k u. blocks_at (unit_of s dev k) s.commands ≤ spare_of u) c.in_ok-of.field-0 c.in_ok-of-2.field-0
+    c.in_ok-of-3.field-0 c.in_ok-of-4.field-0 c.in_ok-of-5.field-0 c.in_ok-of-6.field-0 c.in_ok-of-7.field-0
+    c.in_ok-of-8.field-0 c.in_ok-of.ensures.spare c.in_ok-of-2.ensures.spare c.in_ok-of-3.ensures.spare
+    c.in_ok-of-4.ensures.spare c.in_ok-of-5.ensures.spare c.in_ok-of-6.ensures.spare c.in_ok-of-7.ensures.spare
+    c.in_ok-of-8.ensures.spare)
 
 pub returns-clause-spare : goal.returns-clause-spare
 returns-clause-spare c = λ n lt.
     let s : ScenarioValue = c.args.scenario.now in
-    subst (λ (x : UnitsState). blocks_at (unit_of s c.args.def.now.dev n) s.commands ≤ spare_of (unit_in x.units n)) (sym c.new.ensures.exact)
-    (eight_units (λ k u. blocks_at (unit_of s c.args.def.now.dev k) s.commands ≤ spare_of u)
-    c.in_ok-of.field-0 c.in_ok-of-2.field-0 c.in_ok-of-3.field-0 c.in_ok-of-4.field-0 c.in_ok-of-5.field-0 c.in_ok-of-6.field-0 c.in_ok-of-7.field-0 c.in_ok-of-8.field-0
-    c.in_ok-of.ensures.spare c.in_ok-of-2.ensures.spare c.in_ok-of-3.ensures.spare c.in_ok-of-4.ensures.spare c.in_ok-of-5.ensures.spare c.in_ok-of-6.ensures.spare c.in_ok-of-7.ensures.spare c.in_ok-of-8.ensures.spare n lt)
+    subst (λ (x : UnitsState). blocks_at (unit_of s c.args.def.now.dev n) s.commands ≤ spare_of (unit_in x.units n))
+    (sym c.new.ensures.exact) (eight_units (λ k u. blocks_at (unit_of s c.args.def.now.dev k) s.commands ≤ spare_of u)
+    c.in_ok-of.field-0 c.in_ok-of-2.field-0 c.in_ok-of-3.field-0 c.in_ok-of-4.field-0 c.in_ok-of-5.field-0
+    c.in_ok-of-6.field-0 c.in_ok-of-7.field-0 c.in_ok-of-8.field-0 c.in_ok-of.ensures.spare c.in_ok-of-2.ensures.spare
+    c.in_ok-of-3.ensures.spare c.in_ok-of-4.ensures.spare c.in_ok-of-5.ensures.spare c.in_ok-of-6.ensures.spare
+    c.in_ok-of-7.ensures.spare c.in_ok-of-8.ensures.spare n lt)

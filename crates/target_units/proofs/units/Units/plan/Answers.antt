@@ -10,6 +10,7 @@ pub returns-clause-array : goal.returns-clause-array
 returns-clause-array c = λ s a times p h host target unit from cdb.
     let dev : ℕ = c.args.self.now.dev in
     let n : ℕ = c.args.unit in
-    let seen = unit_seen s a times dev n c.args.self.now.units c.self.inside.units c.index-self-unit.result c.requires.unit h (λ i. (c.self.view_is i).units) in
+    let seen = unit_seen s a times dev n c.args.self.now.units c.self.inside.units
+    c.index-self-unit.result c.requires.unit h (λ i. (c.self.view_is i).units) in
     c.plan.ensures.seat s.hosts (seat_of a dev n) (since_of a.units times dev n) p.sent seen host
     ∙ (λ i. plan_of (reply_same a dev n c.args.from c.args.cdb.now p target unit from cdb i) c.plan.result.out_len)

@@ -13,9 +13,12 @@ pub returns : goal.returns
 returns c = λ s a times sound h early.
     let dev : ℕ = c.args.self.now.dev in
     let n : ℕ = c.args.unit in
-    let seen = unit_seen s a times dev n c.args.self.now.units c.self.inside.units c.index-self-unit.result c.requires.unit h (λ i. (c.self.view_is i).units) in
+    let seen = unit_seen s a times dev n c.args.self.now.units c.self.inside.units
+    c.index-self-unit.result c.requires.unit h (λ i. (c.self.view_is i).units) in
     let seek_is : c.self.inside.seek ≡ c.args.self.now.seek = λ i. (c.self.view_is i).seek in
-    let sooner : (m : ℕ) → m < 8 → since_of a.units times dev m + c.self.inside.seek < 2 ^ 64 = λ m lt. subst (λ (k : ℕ). since_of a.units times dev m + k < 2 ^ 64) (sym seek_is) (early m lt) in
-    c.ready.ensures s.hosts (seat_of a dev n) (since_of a.units times dev n) seen (sooner n c.requires.unit) (own_number s a dev n sound)
-    ∙ (λ i. ready_unit (ready_in (is_any_held (seat_of a dev n).hold) (current_of (seat_of a dev n).unit) (since_of a.units times dev n + seek_is i)))
-    ∙ ready_is s a times dev c.args.self.now.seek n sound
+    let sooner : (m : ℕ) → m < 8 → since_of a.units times dev m + c.self.inside.seek < 2 ^ 64 = λ m lt. subst
+    (λ (k : ℕ). since_of a.units times dev m + k < 2 ^ 64) (sym seek_is) (early m lt) in
+    c.ready.ensures s.hosts (seat_of a dev n) (since_of a.units times dev n) seen
+    (sooner n c.requires.unit) (own_number s a dev n sound)
+    ∙ (λ i. ready_unit (ready_in (is_any_held (seat_of a dev n).hold) (current_of (seat_of a dev n).unit)
+    (since_of a.units times dev n + seek_is i))) ∙ ready_is s a times dev c.args.self.now.seek n sound

@@ -20,16 +20,25 @@ returns-clause-array c = λ s a b times p h own same none sending unanswered st.
     let old : LogicalUnit = get_or c.self.inside.units n c.index-self-unit.result in
     let same_units : c.self.inside.units ≡ c.args.self.now.units = λ i. (c.self.view_is i).units in
     let step : IsStep s (events.Run p.id) a b = subst (λ (k : ProcId). IsStep s (events.Run k) a b) (sym same) st in
-    let seen = unit_seen s a times dev n c.args.self.now.units c.self.inside.units c.index-self-unit.result c.requires.unit h same_units in
+    let seen = unit_seen s a times dev n c.args.self.now.units
+    c.self.inside.units c.index-self-unit.result c.requires.unit h same_units in
     let left = run_left s a b p dev n step own in
-    let plain : guest_at (seat_of a dev n).guests p.id ≡ None = (λ i. guest_at (seat_of a dev n).guests (same i)) ∙ none in
+    let plain : guest_at (seat_of a dev n).guests p.id ≡ None = (λ i. guest_at (seat_of a dev n).guests (same i))
+    ∙ none in
     let running = running_own s a dev n p left.seat st.sound own plain left.is in
-    let first = runs_first s a dev n (since_of a.units times dev n) old p own seen plain running ((λ i. reply_in a.replies (same i)) ∙ unanswered) in
-    let room = room_for s a dev n c.args.self.now.units old p h.room own first (room_seen s a times dev n c.args.self.now.units c.self.inside.units c.index-self-unit.result c.requires.unit h same_units) in
-    let lowered = (c.run.ensures.seat s.hosts (seat_of a dev n) left.seat (since_of a.units times dev n) p seen same none ((λ i. running_at (seat_of a dev n) (sym same i)) ∙ running) sending room ((λ i. seat_after_run (sym same i) (seat_of a dev n)) ∙ left.is)).2 in
-    one_set s (events.Run p.id) a b times c.args.now dev n c.args.self.now.units c.self.inside.units (set c.self.inside.units n c.run.new.self) c.index-self-unit.result old c.run.new.self _ c.requires.unit step h
+    let first = runs_first s a dev n (since_of a.units times dev n) old p own seen plain running
+    ((λ i. reply_in a.replies (same i)) ∙ unanswered) in
+    let room = room_for s a dev n c.args.self.now.units old p h.room own first (room_seen s a times dev
+    n c.args.self.now.units c.self.inside.units c.index-self-unit.result c.requires.unit h same_units) in
+    let lowered = (c.run.ensures.seat s.hosts (seat_of a dev n) left.seat (since_of a.units times dev n)
+    p seen same none ((λ i. running_at (seat_of a dev n) (sym same i)) ∙ running) sending room
+    ((λ i. seat_after_run (sym same i) (seat_of a dev n)) ∙ left.is)).2 in
+    one_set s (events.Run p.id) a b times c.args.now dev n c.args.self.now.units c.self.inside.units
+    (set c.self.inside.units n c.run.new.self) c.index-self-unit.result old c.run.new.self _ c.requires.unit step h
     (λ m e. other_place s p dev n m own e) same_units refl refl left
-    (λ after e k. (c.run.ensures.seat s.hosts (seat_of a dev n) after (since_of a.units times dev n) p k same none ((λ i. running_at (seat_of a dev n) (sym same i)) ∙ running) sending room ((λ i. seat_after_run (sym same i) (seat_of a dev n)) ∙ e)).0)
+    (λ after e k. (c.run.ensures.seat s.hosts (seat_of a dev n) after (since_of a.units times dev n) p k same none
+    ((λ i. running_at (seat_of a dev n) (sym same i)) ∙ running) sending room
+    ((λ i. seat_after_run (sym same i) (seat_of a dev n)) ∙ e)).0)
     (room_after s a b dev n c.args.self.now.units old c.run.new.self p step h.room own first lowered)
 
 pub returns-clause-reply : goal.returns-clause-reply
@@ -39,13 +48,19 @@ returns-clause-reply c = λ s a b times p h own same none sending unanswered st.
     let old : LogicalUnit = get_or c.self.inside.units n c.index-self-unit.result in
     let same_units : c.self.inside.units ≡ c.args.self.now.units = λ i. (c.self.view_is i).units in
     let step : IsStep s (events.Run p.id) a b = subst (λ (k : ProcId). IsStep s (events.Run k) a b) (sym same) st in
-    let seen = unit_seen s a times dev n c.args.self.now.units c.self.inside.units c.index-self-unit.result c.requires.unit h same_units in
+    let seen = unit_seen s a times dev n c.args.self.now.units
+    c.self.inside.units c.index-self-unit.result c.requires.unit h same_units in
     let left = run_left s a b p dev n step own in
-    let plain : guest_at (seat_of a dev n).guests p.id ≡ None = (λ i. guest_at (seat_of a dev n).guests (same i)) ∙ none in
+    let plain : guest_at (seat_of a dev n).guests p.id ≡ None = (λ i. guest_at (seat_of a dev n).guests (same i))
+    ∙ none in
     let running = running_own s a dev n p left.seat st.sound own plain left.is in
-    let first = runs_first s a dev n (since_of a.units times dev n) old p own seen plain running ((λ i. reply_in a.replies (same i)) ∙ unanswered) in
-    let room = room_for s a dev n c.args.self.now.units old p h.room own first (room_seen s a times dev n c.args.self.now.units c.self.inside.units c.index-self-unit.result c.requires.unit h same_units) in
-    (c.run.ensures.seat s.hosts (seat_of a dev n) left.seat (since_of a.units times dev n) p seen same none ((λ i. running_at (seat_of a dev n) (sym same i)) ∙ running) sending room ((λ i. seat_after_run (sym same i) (seat_of a dev n)) ∙ left.is)).1
+    let first = runs_first s a dev n (since_of a.units times dev n) old p own seen plain running
+    ((λ i. reply_in a.replies (same i)) ∙ unanswered) in
+    let room = room_for s a dev n c.args.self.now.units old p h.room own first (room_seen s a times dev
+    n c.args.self.now.units c.self.inside.units c.index-self-unit.result c.requires.unit h same_units) in
+    (c.run.ensures.seat s.hosts (seat_of a dev n) left.seat (since_of a.units times dev n) p seen same none
+    ((λ i. running_at (seat_of a dev n) (sym same i)) ∙ running) sending room
+    ((λ i. seat_after_run (sym same i) (seat_of a dev n)) ∙ left.is)).1
     ∙ (λ i. Some (told_of (reply_same a dev n p.initiator p.cdb p own.target_is own.unit_is refl refl i)))
 
 pub returns-clause-guest : goal.returns-clause-guest
@@ -55,10 +70,14 @@ returns-clause-guest c = λ s a b times p r h own same g sense st.
     let old : LogicalUnit = get_or c.self.inside.units n c.index-self-unit.result in
     let same_units : c.self.inside.units ≡ c.args.self.now.units = λ i. (c.self.view_is i).units in
     let step : IsStep s (events.Run p.id) a b = subst (λ (k : ProcId). IsStep s (events.Run k) a b) (sym same) st in
-    let seen = unit_seen s a times dev n c.args.self.now.units c.self.inside.units c.index-self-unit.result c.requires.unit h same_units in
+    let seen = unit_seen s a times dev n c.args.self.now.units
+    c.self.inside.units c.index-self-unit.result c.requires.unit h same_units in
     let left = run_left s a b p dev n step own in
-    let kept = (c.run.ensures.guest s.hosts (seat_of a dev n) left.seat (since_of a.units times dev n) r seen g sense ((λ i. seat_after_run (sym same i) (seat_of a dev n)) ∙ left.is)).1 in
-    one_set s (events.Run p.id) a b times c.args.now dev n c.args.self.now.units c.self.inside.units (set c.self.inside.units n c.run.new.self) c.index-self-unit.result old c.run.new.self _ c.requires.unit step h
+    let kept = (c.run.ensures.guest s.hosts (seat_of a dev n) left.seat (since_of a.units times dev n) r seen g sense
+    ((λ i. seat_after_run (sym same i) (seat_of a dev n)) ∙ left.is)).1 in
+    one_set s (events.Run p.id) a b times c.args.now dev n c.args.self.now.units c.self.inside.units
+    (set c.self.inside.units n c.run.new.self) c.index-self-unit.result old c.run.new.self _ c.requires.unit step h
     (λ m e. other_place s p dev n m own e) same_units refl refl left
-    (λ after e k. (c.run.ensures.guest s.hosts (seat_of a dev n) after (since_of a.units times dev n) r k g sense ((λ i. seat_after_run (sym same i) (seat_of a dev n)) ∙ e)).0)
+    (λ after e k. (c.run.ensures.guest s.hosts (seat_of a dev n) after
+    (since_of a.units times dev n) r k g sense ((λ i. seat_after_run (sym same i) (seat_of a dev n)) ∙ e)).0)
     (spare_stays s (events.Run p.id) a b dev n old c.run.new.self step kept)

@@ -7,7 +7,8 @@ pub invariant_of-result : goal.invariant_of-result
 invariant_of-result c =
     let time = c.args.time in
     let upper = c.as_bytes-upper.ensures.value ∙ c.format.ensures.text in
-    let few = length-decimal-le 16 (time / 10000) (omega arith) (omega (arith, c.ranges.time.fits)) (omega (arith, c.ranges.time.fits)) in
+    let few = length-decimal-le 16 (time / 10000) (omega arith)
+    (omega (arith, c.ranges.time.fits)) (omega (arith, c.ranges.time.fits)) in
     let same : time / 10000 ≡ (time - time % 10000) / 10000 = omega arith in
     let copied = c.copy_from_slice.ensures.after in
     record {

@@ -5,5 +5,6 @@ use Rattle.trace_checker.proofs.saved.SavedJudge.feed_by_rules.Goals as goal
 
 pub returns : goal.returns
 returns c = λ rows is few.
-    let fed = c.feed_by_rules.ensures rows (subst (λ (j : Judge). IsJudgeOf rows j) (sym c.restored-judge.ensures) is) few in
+    let fed = c.feed_by_rules.ensures rows
+    (subst (λ (j : Judge). IsJudgeOf rows j) (sym c.restored-judge.ensures) is) few in
     subst (λ (j : Judge). IsJudgeOf (c.args.row.now ∷ rows) j) (sym c.saved.ensures) fed
