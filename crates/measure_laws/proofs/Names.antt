@@ -26,7 +26,8 @@ pub use bus_trace.Terms.{connection_after, connection_of, drives_two_ids, free_s
 pub use bus_trace.{Terms.{receiver, receiver_in, when}, Trace.{bus, driven_after, drives, free_time, last_time}}
 pub use bus_trace.{Trace.{line_times, since_line}, View.{driven_at}, declared.Kind.{Kind, TheVariants.{Drives, Fault}}}
 pub use bus_trace.declared.{Row.{Row}, agreements.Agreement.{Agreement}, arbitration.Arbitration.{Arbitration}}
-pub use bus_trace.declared.{changes.Change.{Change}, connection.Connection.{Connection}, selection.Call.{Call}}
+pub use bus_trace.declared.{changes.Change.{Change}, connection.Connection.{Connection}}
+pub use bus_trace.declared.{delays.TheConstants.{BUS_SETTLE_DELAY, QUIET_TIME}, selection.Call.{Call}}
 pub use bus_trace.declared.selection.Calling.{Calling}
 use Rattle.bus_due.specs.bus_lines.proofs as bus_lines_proofs
 pub use bus_lines_proofs.Early.{struck_length}

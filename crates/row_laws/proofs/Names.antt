@@ -26,7 +26,8 @@ pub use bus_trace.Terms.{connection_after, connection_of, drives_two_ids, is_fau
 pub use bus_trace.{Terms.{receiver, receiver_in, receiver_of}, Trace.{bus, driven_after, drives, last_time, line_times}}
 pub use bus_trace.{Trace.{phase_time}, declared.{Kind.{Kind, TheVariants.{Drives, Fault}}, Row.{Row}}}
 pub use bus_trace.declared.{agreements.Agreement.{Agreement}, changes.Change.{Change}}
-pub use bus_trace.declared.{connection.Connection.{Connection}, selection.{Call.{Call}, Calling.{Calling}}}
+pub use bus_trace.declared.{connection.Connection.{Connection}, delays.TheConstants.{BUS_CLEAR_DELAY, BUS_SETTLE_DELAY}}
+pub use bus_trace.declared.{delays.TheConstants.{TURN_DELAY}, selection.{Call.{Call}, Calling.{Calling}}}
 use Rattle.bus_due.specs.bus_lines.specs as bus_lines
 pub use bus_lines.Handshakes.{Handshakes, answered_if, asked_if, first_of, handshakes, handshakes_after, is_struck}
 pub use bus_lines.{Handshakes.{no_handshakes, strikes_if}, Stage.{stage}, declared.handshakes.Request.{Request}}

@@ -27,7 +27,8 @@ pub use bus_trace.Terms.{connection, connection_after, connection_of, free_since
 pub use bus_trace.{Terms.{receiver_in, receiver_of}, Trace.{bus, driven_after, drives, last_time}, declared.Kind.{Kind}}
 pub use bus_trace.declared.{Kind.TheVariants.{Drives, Fault}, Row.{Row}, agreements.Agreement.{Agreement}}
 pub use bus_trace.declared.{arbitration.Arbitration.{Arbitration}, changes.Change.{Change}}
-pub use bus_trace.declared.{connection.Connection.{Connection}, selection.{Call.{Call}, Calling.{Calling}}}
+pub use bus_trace.declared.{connection.Connection.{Connection}, delays.TheConstants.{ARBITRATION_DELAY}}
+pub use bus_trace.declared.selection.{Call.{Call}, Calling.{Calling}}
 use Rattle.bus_due.specs.bus_lines.proofs as bus_lines_proofs
 pub use bus_lines_proofs.Early.{struck_same}
 use Rattle.bus_due.specs.bus_lines.specs as bus_lines

@@ -27,8 +27,8 @@ pub use bus_trace.{Phases.{is_message_out}, Terms.{call, connected, connected_by
 pub use bus_trace.{Terms.{connection_after, connection_of, is_fault, receiver, receiver_in, receiver_of}, Trace.{bus}}
 pub use bus_trace.{Trace.{driven_after, drives, last_time, line_times, phase_time}, declared.Kind.{Kind}}
 pub use bus_trace.declared.{Kind.TheVariants.{Drives, Fault}, Row.{Row}, agreements.Agreement.{Agreement}}
-pub use bus_trace.declared.{changes.Change.{Change}, connection.Connection.{Connection}, selection.Call.{Call}}
-pub use bus_trace.declared.selection.Calling.{Calling}
+pub use bus_trace.declared.{changes.Change.{Change}, connection.Connection.{Connection}}
+pub use bus_trace.declared.{delays.TheConstants.{BUS_SETTLE_DELAY}, selection.{Call.{Call}, Calling.{Calling}}}
 use Rattle.bus_due.specs.bus_lines.proofs as bus_lines_proofs
 pub use bus_lines_proofs.Early.{struck_same}
 use Rattle.bus_due.specs.bus_lines.specs as bus_lines

@@ -6,22 +6,22 @@ use proofs.Names.{None, refl, sym, ap, subst, arith, cases_eq, ne_eqb, none-some
 use proofs.Names.{◌==◌, ◌+◌, if◌then◌else◌, eq_self, wrong, bus_one, bus_two, drives-fault, same_set-eq, change_of}
 use proofs.Names.{falls, LineSet, byte_set, none, same_set, union, call, connection, drives_two_ids, free_since}
 use proofs.Names.{is_fault, new_calling, when, bus, drives, line_times, since_line, Drives, Fault, Row, Arbitration}
-use proofs.Names.{Change, Calling, stage, Stage, OnFreeBus, InArbitration, InCalling, InAnswer, InReset, ScenarioValue}
-use proofs.Names.{is_initiator, latency_of, aim_of, answered_due, contender_lines, due_at, fault_or, Due}
-use proofs.Names.{run_state_plain, IsLeast, AreOfDevices, RunState, drives_of, run_state, flip_of, callee, want_time}
-use proofs.Names.{entries_is, winner_is, IsCall, is_call, reselected_lines, selected, won_lines, drives_other}
-use proofs.Names.{drives_own, fault_change, stage_is, stands_after, stands_by, only_caller_acts, after_withdrawal_due}
-use proofs.Names.{answers_due, aside_due, asks_due, before_due, calls_due, flip_at, gives_up_due, goes_on_due}
-use proofs.Names.{is_calling, loser_due, quiet_due, struck_due, waits_due, want_at, ids_not_zero, only_caller}
-use proofs.Names.{free_due_is, idle_due, is_at, is_entry, is_entry_in, is_there, win_due, row_is, answer_lines}
-use proofs.Names.{answered_calling, arbitration_bus, awaiting_call, begun_call, both_ids, call_with, calling_lines}
-use proofs.Names.{new_calling_at, resumed_calling, withdrawn_call, won_bus, won_call, device_with, own_time}
-use proofs.Names.{unreset_due, Stands, change_to, row_of_fault, row_of_lines, ArbitrationWon, Arbitrating, AwaitsAnswer}
-use proofs.Names.{BusStage, CalmStanding, Calls, FreeBus, HasShortLatencies, IsAnswered, IsContender, IsLoser}
-use proofs.Names.{on_free_bus, in_arbitration, after_arbitration, with_both_ids, awaiting_answer, after_withdrawal}
-use proofs.Names.{after_answer, after_takeover, in_reset, none_some, falls_true, again_if, answer_left, calling_left}
-use proofs.{Names.{stage_left, way_left, for_free_bus}, Resets.Drivers.{all_devices, busy, busy_one, busy_same}}
-use proofs.Resets.Drivers.{busy_swap, quiet, quiet_same}
+use proofs.Names.{Change, BUS_SETTLE_DELAY, QUIET_TIME, Calling, stage, Stage, OnFreeBus, InArbitration, InCalling}
+use proofs.Names.{InAnswer, InReset, ScenarioValue, is_initiator, latency_of, aim_of, answered_due, contender_lines}
+use proofs.Names.{due_at, fault_or, Due, run_state_plain, IsLeast, AreOfDevices, RunState, drives_of, run_state}
+use proofs.Names.{flip_of, callee, want_time, entries_is, winner_is, IsCall, is_call, reselected_lines, selected}
+use proofs.Names.{won_lines, drives_other, drives_own, fault_change, stage_is, stands_after, stands_by}
+use proofs.Names.{only_caller_acts, after_withdrawal_due, answers_due, aside_due, asks_due, before_due, calls_due}
+use proofs.Names.{flip_at, gives_up_due, goes_on_due, is_calling, loser_due, quiet_due, struck_due, waits_due, want_at}
+use proofs.Names.{ids_not_zero, only_caller, free_due_is, idle_due, is_at, is_entry, is_entry_in, is_there, win_due}
+use proofs.Names.{row_is, answer_lines, answered_calling, arbitration_bus, awaiting_call, begun_call, both_ids}
+use proofs.Names.{call_with, calling_lines, new_calling_at, resumed_calling, withdrawn_call, won_bus, won_call}
+use proofs.Names.{device_with, own_time, unreset_due, Stands, change_to, row_of_fault, row_of_lines, ArbitrationWon}
+use proofs.Names.{Arbitrating, AwaitsAnswer, BusStage, CalmStanding, Calls, FreeBus, HasShortLatencies, IsAnswered}
+use proofs.Names.{IsContender, IsLoser, on_free_bus, in_arbitration, after_arbitration, with_both_ids, awaiting_answer}
+use proofs.Names.{after_withdrawal, after_answer, after_takeover, in_reset, none_some, falls_true, again_if}
+use proofs.{Names.{answer_left, calling_left, stage_left, way_left, for_free_bus}, Resets.Drivers.{all_devices, busy}}
+use proofs.Resets.Drivers.{busy_one, busy_same, busy_swap, quiet, quiet_same}
 use Rattle.bus_due.specs.bus_lines.specs.declared.stage.Stage.TheVariants.{InConnection}
 use Rattle.progress_laws.specs.bus_laws.specs.Stages.{in_connection}
 
@@ -277,8 +277,8 @@ same_less : (b c x y u v : ℕ) → b + x ≡ c + y → x ≡ 1 → y ≡ 1 → 
 same_less b c x y u v h ex ey l = omega (arith, h, ex, ey, l)
 
 makes_call : (s : ScenarioValue) (p : List Row) (m : Bool) (c k t0 t : ℕ) → HasShortLatencies s → CalmStanding s p
-    → ArbitrationWon s p c t0 → IsLeast (unreset_due s p) 8 (row_of_lines t c (both_ids m c k)) → t0 + 1200 ≤ t → k < 8
-    → k ≢ c → ApartRow s p (row_of_lines t c (both_ids m c k))
+    → ArbitrationWon s p c t0 → IsLeast (unreset_due s p) 8 (row_of_lines t c (both_ids m c k)) → t0 + QUIET_TIME ≤ t
+    → k < 8 → k ≢ c → ApartRow s p (row_of_lines t c (both_ids m c k))
 makes_call s p m c k t0 t fits always h least wait lk ne_k =
     let l : LineSet = both_ids m c k in
     let q : List Row = row_of_lines t c l ∷ p in
@@ -339,7 +339,7 @@ won_row s p c t0 row fits always h m =
           h.stands.connection_is was h.caller) ∙ ap (unreset_due s p) (sym same) ∙ m.is_due) in
           let e : row ≡ row_of_lines row.time c (both_ids (is_initiator s.hosts c) c z.k) =
           λ i. record { time = row.time; dev = same i; kind = z.kind_is i } in
-          let wait : t0 + 1200 ≤ row.time = let w = z.time_is in let u = h.caller_time in omega arith in
+          let wait : t0 + QUIET_TIME ≤ row.time = let w = z.time_is in let u = h.caller_time in omega arith in
           subst (λ (r : Row). ApartRow s p r) (sym e) (makes_call s p (is_initiator s.hosts c) c z.k t0 row.time fits
           always h (subst (λ (r : Row). IsLeast (unreset_due s p) 8 r) e m) wait z.below (λ q. z.apart (sym q)))
       | inr ne ↦ elim (h.each row.dev m.inside ne) [
@@ -539,12 +539,12 @@ makes_withdrawal s p v m c k t0 t1 t2 n t dv a =
 
 makes_answer_or_fault : (s : ScenarioValue) (p : List Row) (m : Bool) (c k t0 t1 t2 n lat : ℕ) (row : Row)
     → AreOfDevices p → AwaitsAnswer s p false m c k t0 t1 t2 n → row.dev ≡ k → (o : Option ℕ) → flip_at s p lat ≡ o
-    → (let x : Due = record { time = row.time; kind = row.kind } in
-    fault_or ((line_times p).bsy + 400 + lat) o (due_at ((line_times p).bsy + 400 + lat) answer_lines) ≡ Some x)
-    → ApartRow s p row
+    → (let x : Due = record { time = row.time; kind = row.kind } in fault_or
+    ((line_times p).bsy + BUS_SETTLE_DELAY + lat) o (due_at ((line_times p).bsy + BUS_SETTLE_DELAY + lat) answer_lines)
+    ≡ Some x) → ApartRow s p row
 makes_answer_or_fault s p m c k t0 t1 t2 n lat row dv a same None flips f =
     let x : Due = record { time = row.time; kind = row.kind } in
-    let z = is_at ((line_times p).bsy + 400 + lat) answer_lines x f in
+    let z = is_at ((line_times p).bsy + BUS_SETTLE_DELAY + lat) answer_lines x f in
     let e : row ≡ row_of_lines row.time k answer_lines = λ i. record {
       time = row.time;
       dev = same i;
@@ -553,11 +553,11 @@ makes_answer_or_fault s p m c k t0 t1 t2 n lat row dv a same None flips f =
     subst (λ (r : Row). ApartRow s p r) (sym e) (makes_answer s p m c k t0 t1 t2 n row.time dv a)
 makes_answer_or_fault s p m c k t0 t1 t2 n lat row dv a same (Some bit) flips f =
     let x : Due = record { time = row.time; kind = row.kind } in
-    let y : Due = record { time = (line_times p).bsy + 400 + lat; kind = Fault bit } in
+    let y : Due = record { time = (line_times p).bsy + BUS_SETTLE_DELAY + lat; kind = Fault bit } in
     let kind : row.kind ≡ Fault bit = ap (λ (w : Due). w.kind) (sym (same_Some y x f)) in
     let e : row ≡ row_of_fault row.time k bit = λ i. record { time = row.time; dev = same i; kind = kind i } in
     subst (λ (r : Row). ApartRow s p r) (sym e)
-    (makes_fault s p m c k t0 t1 t2 n row.time bit ((line_times p).bsy + 400 + lat) dv a flips)
+    (makes_fault s p m c k t0 t1 t2 n row.time bit ((line_times p).bsy + BUS_SETTLE_DELAY + lat) dv a flips)
 
 asking_row : (s : ScenarioValue) (p : List Row) (v m : Bool) (c k t0 t1 t2 n : ℕ) (row : Row) → AreOfDevices p
     → AwaitsAnswer s p v m c k t0 t1 t2 n → IsLeast (unreset_due s p) 8 row → ApartRow s p row

@@ -4,9 +4,9 @@ use proofs.Names.{ℕ, ◌≡◌, ◌≢◌, inl, inr, ◌<◌, ◌+◌, ◌^◌
 use proofs.Names.{Some, None, refl, sym, ap, subst, arith, cases_eq, ne_eqb, same_Some, if◌then◌else◌, is_some, wrong}
 use proofs.Names.{wrong', eq_self, bus_one, change_of, rises, falls, LineSet, none, call, calling_after, caller_goes_on}
 use proofs.Names.{called_goes_on, connection, drives_two_ids, new_calling, when, is_fault, bus, drives, driven_after}
-use proofs.Names.{since_line, Row, Change, Connection, Call, Calling, stage, InCalling, ScenarioValue, Sample}
-use proofs.Names.{latency_of, samples_with_ids, due_at, fault_or, IsLeast, drives_own, drives_other, since_is, stage_is}
-use proofs.Names.{stands_after, asks_due, before_due, waits_due, answers_due, aside_due, flip_at, only_caller}
+use proofs.Names.{since_line, Row, Change, Connection, BUS_SETTLE_DELAY, Call, Calling, stage, InCalling, ScenarioValue}
+use proofs.Names.{Sample, latency_of, samples_with_ids, due_at, fault_or, IsLeast, drives_own, drives_other, since_is}
+use proofs.Names.{stage_is, stands_after, asks_due, before_due, waits_due, answers_due, aside_due, flip_at, only_caller}
 use proofs.Names.{ids_not_zero, answer_exists, is_there, is_at, answer_lines, awaiting_call, begun_call, both_ids}
 use proofs.Names.{calling_lines, new_calling_at, own_time, unreset_due, row_of_lines, HasShortLatencies, CalmStanding}
 use proofs.Names.{BusStage, on_free_bus, in_arbitration, after_arbitration, with_both_ids, awaiting_answer}
@@ -21,7 +21,7 @@ use Rattle.trace_laws.specs.bus_laws.specs.Stages.{in_connection}
 
 pub ids_await : (s : ScenarioValue) (p : List Row) (m : Bool) (c k t0 t1 t2 x lat : ℕ) → HasShortLatencies s
     → CalmStanding s p → AwaitsAnswer s p false m c k t0 t1 t2 x → latency_of s k ≡ Some lat
-    → Awaits s p (record { time = since_line (λ z. z.bsy) p + 400 + lat; dev = k })
+    → Awaits s p (record { time = since_line (λ z. z.bsy) p + BUS_SETTLE_DELAY + lat; dev = k })
 ids_await s p m c k t0 t1 t2 n lat fits always a there =
     record {
       below = h.called_below;
@@ -33,13 +33,13 @@ ids_await s p m c k t0 t1 t2 n lat fits always a there =
     h = a.here
 
     time : ℕ
-    time = since_line (λ z. z.bsy) p + 400 + lat
+    time = since_line (λ z. z.bsy) p + BUS_SETTLE_DELAY + lat
 
     was : stage p ≡ InCalling (awaiting_call false m c k t0 t1 t2)
     was = stage_is p _ _ _ _ h.stands
 
-    due : unreset_due s p k ≡ fault_or (since_line (λ z. z.bsy) p + 400 + lat) (flip_at s p lat)
-        (due_at (since_line (λ z. z.bsy) p + 400 + lat) answer_lines)
+    due : unreset_due s p k ≡ fault_or (since_line (λ z. z.bsy) p + BUS_SETTLE_DELAY + lat) (flip_at s p lat)
+        (due_at (since_line (λ z. z.bsy) p + BUS_SETTLE_DELAY + lat) answer_lines)
     due = answers_due s p m c k t0 t1 t2 lat always.devices h.called_below there h.stands.connection_is h.apart was
         h.other
 
@@ -307,13 +307,13 @@ ids_taken s p m c k t0 t1 t2 n lat row fits always a there least = ids_on_by s p
     g = record (new_calling_at m k t1) { released = Some t2 }
 
     time : ℕ
-    time = since_line (λ z. z.bsy) p + 400 + lat
+    time = since_line (λ z. z.bsy) p + BUS_SETTLE_DELAY + lat
 
     was : stage p ≡ InCalling (awaiting_call false m c k t0 t1 t2)
     was = stage_is p _ _ _ _ a.here.stands
 
-    due : unreset_due s p k ≡ fault_or (since_line (λ z. z.bsy) p + 400 + lat) (flip_at s p lat)
-        (due_at (since_line (λ z. z.bsy) p + 400 + lat) answer_lines)
+    due : unreset_due s p k ≡ fault_or (since_line (λ z. z.bsy) p + BUS_SETTLE_DELAY + lat) (flip_at s p lat)
+        (due_at (since_line (λ z. z.bsy) p + BUS_SETTLE_DELAY + lat) answer_lines)
     due = answers_due s p m c k t0 t1 t2 lat always.devices a.here.called_below there a.here.stands.connection_is
         a.here.apart was a.here.other
 

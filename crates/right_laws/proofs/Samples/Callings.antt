@@ -5,15 +5,15 @@ use proofs.Names.{ℕ, ◌≡◌, ◌<◌, ◌≤◌, ◌+◌, ◌^◌, Bool, tr
 use proofs.Names.{refl, sym, ap, arith, ◌==◌, eqb-true, same_Some, if◌then◌else◌, is_some, wrong, wrong', and_false}
 use proofs.Names.{bus_on, same_set-eq, change_of, LineSet, none, union, call, calling_after, caller_goes_on}
 use proofs.Names.{called_goes_on, connection, drives_two_ids, new_calling, when, bus, drives, driven_after, line_times}
-use proofs.Names.{Kind, Drives, Row, Change, Connection, Call, Calling, stage, InCalling, row_none, only_rst}
-use proofs.Names.{broken_rule, ScenarioValue, Obeys, latency_of, Due, IsLeast, due, IsPrompt, drives_own, stage_is}
-use proofs.Names.{asks_due, answers_due, waits_due, flip_at, answer_exists, ids_not_zero, is_there, is_at, least_is}
-use proofs.Names.{reset_or_calm, by_calm, obeys_latencies, answer_lines, begun_call, calling_lines, awaiting_call}
-use proofs.Names.{both_ids, won_call, own_time, unreset_due, row_of_lines, HasShortLatencies, CalmStanding, BusStage}
-use proofs.Names.{on_free_bus, in_arbitration, after_arbitration, with_both_ids, awaiting_answer, after_withdrawal}
-use proofs.Names.{after_answer, after_takeover, in_reset, AwaitsAnswer, Calls, sides_are, none_some, by_bool, by_option}
-use proofs.{Names.{quiet_sel, under_rst, Stood, quiet_at_end, whole}, Samples.Calls.{Follows, calling_follows, GoesOn}}
-use proofs.Samples.{Calls.{call_goes}, Moments.{apart_of, linked_of, reset_of}}
+use proofs.Names.{Kind, Drives, Row, Change, Connection, BUS_SETTLE_DELAY, Call, Calling, stage, InCalling, row_none}
+use proofs.Names.{only_rst, broken_rule, ScenarioValue, Obeys, latency_of, Due, IsLeast, due, IsPrompt, drives_own}
+use proofs.Names.{stage_is, asks_due, answers_due, waits_due, flip_at, answer_exists, ids_not_zero, is_there, is_at}
+use proofs.Names.{least_is, reset_or_calm, by_calm, obeys_latencies, answer_lines, begun_call, calling_lines}
+use proofs.Names.{awaiting_call, both_ids, won_call, own_time, unreset_due, row_of_lines, HasShortLatencies}
+use proofs.Names.{CalmStanding, BusStage, on_free_bus, in_arbitration, after_arbitration, with_both_ids}
+use proofs.Names.{awaiting_answer, after_withdrawal, after_answer, after_takeover, in_reset, AwaitsAnswer, Calls}
+use proofs.Names.{sides_are, none_some, by_bool, by_option, quiet_sel, under_rst, Stood, quiet_at_end, whole}
+use proofs.Samples.{Calls.{Follows, calling_follows, GoesOn, call_goes}, Moments.{apart_of, linked_of, reset_of}}
 use Rattle.trace_laws.specs.bus_laws.proofs.Stages.Next.{by_reset}
 use Rattle.trace_laws.specs.bus_laws.specs.Stages.{in_connection}
 
@@ -55,7 +55,7 @@ answers_first : {A : Type 0} (s : ScenarioValue) (p : List Row) (m : Bool) (c k 
 answers_first s p m c k t0 t1 t2 n lat row fits always a least there late =
     let h = a.here in
     let was : stage p ≡ InCalling (awaiting_call false m c k t0 t1 t2) = stage_is p _ _ _ _ h.stands in
-    let y = answer_exists ((line_times p).bsy + 400 + lat) (flip_at s p lat) answer_lines in
+    let y = answer_exists ((line_times p).bsy + BUS_SETTLE_DELAY + lat) (flip_at s p lat) answer_lines in
     let first = least.first k h.called_below y.0
     (answers_due s p m c k t0 t1 t2 lat always.devices h.called_below there h.stands.connection_is h.apart was h.other
     ∙ y.1.0) in

@@ -2,15 +2,16 @@
 use Rattle.right_laws.proofs
 use proofs.Names.{ℕ, ◌≡◌, ◌⊎◌, inl, inr, ◌≤◌, ◌+◌, true, false, not, ◌&&◌, ◌∙◌, List, ◌∷◌, Option, Some, None, refl}
 use proofs.Names.{sym, ap, subst, arith, same_Some, is_some, wrong, wrong', none_number, LineSet, call, connection}
-use proofs.Names.{receiver, is_fault, bus, last_time, line_times, phase_time, since_line, Row, Connection, broken_rule}
-use proofs.Names.{ScenarioValue, HostDef, TargetDef, Sample, host_latency, latency_of, target_latency, begun, host_of}
-use proofs.Names.{target_def_of, IsLeast, due, from_stage, unreset_due, HasShortLatencies, BusStage, CalmStanding}
-use proofs.Names.{Standing, NextRow, sides_are, link_calm, LinkStage, when_selected, when_settling, when_turning}
-use proofs.Names.{when_offering, when_shaking, when_pulsing, AnyStage, linked, none_some, some_none, by_option}
-use proofs.Names.{under_rst, link_connection, ends_apart, HasEnds, AreEnds, awaited, awaited_by, awaited_ids, byte_at}
-use proofs.Samples.{Bytes.{Crossed, into_initiator, into_target, byte_awaits, byte_none}, Called.{apart_awaits}}
-use proofs.Samples.{Directions.{IsDirected, directed_on, sampler}, InTurn.{Precedes, same_precedes, sooner_precedes}}
-use proofs.Samples.{NoFaults.{no_fault}, Resets.{kept_new, kept_on}, Taken.{IsPast}, Takes.{Awaits, IsNoLater}}
+use proofs.Names.{receiver, is_fault, bus, last_time, line_times, phase_time, since_line, Row, Connection}
+use proofs.Names.{BUS_SETTLE_DELAY, broken_rule, ScenarioValue, HostDef, TargetDef, Sample, host_latency, latency_of}
+use proofs.Names.{target_latency, begun, host_of, target_def_of, IsLeast, due, from_stage, unreset_due}
+use proofs.Names.{HasShortLatencies, BusStage, CalmStanding, Standing, NextRow, sides_are, link_calm, LinkStage}
+use proofs.Names.{when_selected, when_settling, when_turning, when_offering, when_shaking, when_pulsing, AnyStage}
+use proofs.Names.{linked, none_some, some_none, by_option, under_rst, link_connection, ends_apart, HasEnds, AreEnds}
+use proofs.{Names.{awaited, awaited_by, awaited_ids, byte_at}, Samples.Bytes.{Crossed, into_initiator, into_target}}
+use proofs.Samples.{Bytes.{byte_awaits, byte_none}, Called.{apart_awaits}, Directions.{IsDirected, directed_on}}
+use proofs.Samples.{Directions.{sampler}, InTurn.{Precedes, same_precedes, sooner_precedes}, NoFaults.{no_fault}}
+use proofs.Samples.{Resets.{kept_new, kept_on}, Taken.{IsPast}, Takes.{Awaits, IsNoLater}}
 use Rattle.trace_laws.specs.link_laws.specs.LinkStages.{apart}
 use Rattle.trace_laws.specs.row_laws.proofs.Lines.First.{begins_now}
 
@@ -136,7 +137,7 @@ none_here s p row here calm always e least = by_option (connection p) (λ en. no
 
 -- As a byte crosses a bus settle delay has gone since the phase lines (6.1.10).
 settled : (s : ScenarioValue) (q : List Row) (n : Connection) (d : ℕ) → LinkStage s q n → receiver q ≡ Some d
-    → phase_time (line_times q) + 400 ≤ last_time q
+    → phase_time (line_times q) + BUS_SETTLE_DELAY ≤ last_time q
 settled s q n d (when_selected h) e = absurd (none_number d (sym h.receiver_is ∙ e))
 settled s q n d (when_settling bsy atn msg cd io y h) e = absurd (none_number d (sym h.receiver_is ∙ e))
 settled s q n d (when_turning atn x msg cd h) e = absurd (none_number d (sym h.receiver_is ∙ e))

@@ -3,14 +3,14 @@ use Rattle.right_laws.proofs
 use proofs.Names.{ℕ, ◌≡◌, ◌<◌, ◌+◌, Bool, true, false, not, ◌&&◌, ◌==◌, ◌∙◌, List, Option, Some, None, refl, sym, ap}
 use proofs.Names.{subst, max, and_from, eqb-true, same_Some, ⊤, nat_le, nat_lt, if◌then◌else◌, is_none, wrong', LineSet}
 use proofs.Names.{none, same_set, ids_set, has_id_above, arbitration, call, connection, free_since, is_fault, bus}
-use proofs.Names.{drives, line_times, since_line, Row, Arbitration, ENTRY_DELAY, BUS_SET_DELAY, ARBITRATION_DELAY}
-use proofs.Names.{QUIET_TIME, Call, Calling, stage, stage_by, call_stage, answer_stage, Stage, OnFreeBus, InArbitration}
-use proofs.Names.{InCalling, InAnswer, InReset, ScenarioValue, latency_of, answer, answer_due, answered_due}
-use proofs.Names.{bsy_takeover, called_due, caller_due, calling_abort, calling_start, is_called, loser_release}
-use proofs.Names.{reselection_end, selection_end, unanswered_due, with_calling_mark, withdrawal, free_due}
-use proofs.Names.{arbitration_due, entry, later_entry_if, win, bus_clear, link_due_by, due_at, due_where, Due, Myself}
-use proofs.Names.{Want, AreOfDevices, run_state, want_of, flip_of, due_in, is_there, own_time, device_with, unreset_due}
-use proofs.Names.{none_some, by_bool, by_option, is_asked, ids_at, ids_of, awaited_ids}
+use proofs.Names.{drives, line_times, since_line, Row, Arbitration, BUS_SETTLE_DELAY, ENTRY_DELAY, BUS_SET_DELAY}
+use proofs.Names.{ARBITRATION_DELAY, QUIET_TIME, Call, Calling, stage, stage_by, call_stage, answer_stage, Stage}
+use proofs.Names.{OnFreeBus, InArbitration, InCalling, InAnswer, InReset, ScenarioValue, latency_of, answer, answer_due}
+use proofs.Names.{answered_due, bsy_takeover, called_due, caller_due, calling_abort, calling_start, is_called}
+use proofs.Names.{loser_release, reselection_end, selection_end, unanswered_due, with_calling_mark, withdrawal}
+use proofs.Names.{free_due, arbitration_due, entry, later_entry_if, win, bus_clear, link_due_by, due_at, due_where, Due}
+use proofs.Names.{Myself, Want, AreOfDevices, run_state, want_of, flip_of, due_in, is_there, own_time, device_with}
+use proofs.Names.{unreset_due, none_some, by_bool, by_option, is_asked, ids_at, ids_of, awaited_ids}
 use Rattle.bus_due.specs.bus_lines.specs.declared.stage.Stage.TheVariants.{InConnection}
 
 -- ---- rows of lines
@@ -169,7 +169,7 @@ no_fault s p d x dv lt calm alone none e = by_bool (is_fault x.kind) (λ f. absu
         let w = is_there s p d x e in
         let me : Myself = device_with d w.0 (drives p d) (own_time p d) in
         let z = fault_linking (bus p) (line_times p).bsy (line_times p).sel me (want_of s (run_state s p) d)
-        (flip_of (run_state s p).faults ((line_times p).bsy + 400 + w.0)) (stage p) x
+        (flip_of (run_state s p).faults ((line_times p).bsy + BUS_SETTLE_DELAY + w.0)) (stage p) x
         (sym (due_in s p d w.0 (drives p d) (stage p) dv lt w.1 alone refl refl) ∙ e) f in
         let y = call_of_stage p z.c calm alone z.stage_is in
         let at : latency_of s z.k.called ≡ Some w.0 = ap (latency_of s) (eqb-true z.k.called d z.called) ∙ w.1 in

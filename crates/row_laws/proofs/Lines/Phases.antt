@@ -4,21 +4,22 @@ use Rattle.row_laws.proofs
 use proofs.Names.{ℕ, ◌≡◌, Bool, true, false, not, ◌&&◌, ◌||◌, ◌==◌, ◌∙◌, List, [], ◌∷◌, Some, None, refl, sym, ap}
 use proofs.Names.{subst, arith, ◌+◌, length, eqb-true, none-some, if◌then◌else◌, max, nat_lt, wrong, zero_of}
 use proofs.Names.{implication_parts, times_of, LineSet, receiver, last_time, line_times, phase_time, Row, Connection}
-use proofs.Names.{handshakes, first_of, is_struck, Request, dialogue, is_of_device, ScenarioValue, attends_by, due_at}
-use proofs.Names.{byte_bits, bits_if, is_pulsed_phase, begun, follows_in, Phase, IsLeast, own_of, AreOfDevices}
-use proofs.Names.{run_state, serving_at, is_at, EndLines, initiator_side, target_side, connected_bus, Linked}
-use proofs.Names.{BeginsSelected, ends_selected, own_time, unreset_due, row_of_lines, row_of_fault, due_of, Mover}
-use proofs.Names.{by_fault, by_initiator, by_target, mover_is, target_plain, initiator_plain, offering_with}
-use proofs.Names.{answering_with, never, selected_target, selected_initiator, settling_target, settling_initiator}
-use proofs.Names.{handing_initiator, turning_target, turned_initiator, owing_initiator, offering_target}
-use proofs.Names.{offering_initiator, answered_target, answered_initiator_in, answered_initiator_out, asking_target}
-use proofs.Names.{asking_initiator_in, asking_initiator_out, giving_initiator_out, ending_target, ending_initiator_in}
-use proofs.Names.{ending_initiator_out, ack_end_time, between_target, between_initiator_in, between_initiator_out}
-use proofs.Names.{target_row, initiator_row, none_device, pulsed_target_in, pulsed_target_out, pulsed_initiator_in}
-use proofs.Names.{pulsed_initiator_out, hold_end_time, pulse_time, leaving_time, ack_pulse_end_time, answer_time}
-use proofs.Names.{release_time, byte_driven_time, given_bits, LinkStage, when_selected, when_settling, when_turning}
-use proofs.Names.{when_offering, when_shaking, when_pulsing, ends, Settling, Turning, Offering, Shaking, Pulsing}
-use proofs.{Names.{times_here, offset_here, run_count, next_bits}, Common.Tests.{by_bool}}
+use proofs.Names.{BUS_SETTLE_DELAY, TURN_DELAY, handshakes, first_of, is_struck, Request, dialogue, is_of_device}
+use proofs.Names.{ScenarioValue, attends_by, due_at, byte_bits, bits_if, is_pulsed_phase, begun, follows_in, Phase}
+use proofs.Names.{IsLeast, own_of, AreOfDevices, run_state, serving_at, is_at, EndLines, initiator_side, target_side}
+use proofs.Names.{connected_bus, Linked, BeginsSelected, ends_selected, own_time, unreset_due, row_of_lines}
+use proofs.Names.{row_of_fault, due_of, Mover, by_fault, by_initiator, by_target, mover_is, target_plain}
+use proofs.Names.{initiator_plain, offering_with, answering_with, never, selected_target, selected_initiator}
+use proofs.Names.{settling_target, settling_initiator, handing_initiator, turning_target, turned_initiator}
+use proofs.Names.{owing_initiator, offering_target, offering_initiator, answered_target, answered_initiator_in}
+use proofs.Names.{answered_initiator_out, asking_target, asking_initiator_in, asking_initiator_out}
+use proofs.Names.{giving_initiator_out, ending_target, ending_initiator_in, ending_initiator_out, ack_end_time}
+use proofs.Names.{between_target, between_initiator_in, between_initiator_out, target_row, initiator_row, none_device}
+use proofs.Names.{pulsed_target_in, pulsed_target_out, pulsed_initiator_in, pulsed_initiator_out, hold_end_time}
+use proofs.Names.{pulse_time, leaving_time, ack_pulse_end_time, answer_time, release_time, byte_driven_time, given_bits}
+use proofs.Names.{LinkStage, when_selected, when_settling, when_turning, when_offering, when_shaking, when_pulsing}
+use proofs.Names.{ends, Settling, Turning, Offering, Shaking, Pulsing, times_here, offset_here, run_count, next_bits}
+use proofs.Common.Tests.{by_bool}
 
 -- The phase is one of data by pulses.
 abbrev pub is_pulsed : List Row → EndLines → Bool
@@ -140,9 +141,10 @@ of_settling s p row n true atn msg cd io y h (by_initiator lat there same e) = h
     (sym (handing_initiator s p n atn msg cd io y lat) ∙ e))
 of_settling s p row n false atn msg cd io y h (by_initiator lat there same e) =
     absurd (never _ (due_of row) (settling_initiator s p n atn msg cd io y lat h) e)
-of_settling s p row n bsy atn msg cd io y h (by_target lat there same e) = asks_settled bsy atn msg cd io y h
-    (row_at row n.target (phase_time (line_times p) + 400 + lat) (target_side (ends bsy false atn 0 msg cd io true y))
-    same (sym (settling_target s p n bsy atn msg cd io y lat h) ∙ e))
+of_settling s p row n bsy atn msg cd io y h (by_target lat there same e) =
+    asks_settled bsy atn msg cd io y h (row_at row n.target (phase_time (line_times p) + BUS_SETTLE_DELAY + lat)
+    (target_side (ends bsy false atn 0 msg cd io true y)) same
+    (sym (settling_target s p n bsy atn msg cd io y lat h) ∙ e))
 
 of_turning : (s : ScenarioValue) (p : List Row) (row : Row) (n : Connection) (atn : Bool) (x : ℕ) (msg cd : Bool)
     → Turning s p n atn x msg cd → Mover s p n true (ends false false atn x msg cd true false 0) row
@@ -157,8 +159,8 @@ of_turning s p row n atn x msg cd h (by_initiator lat there same e) = by_bool (x
     (initiator_side (ends false false atn 0 msg cd true false 0)) same
     (sym (owing_initiator s p n atn x msg cd lat h some) ∙ e)))
 of_turning s p row n atn x msg cd h (by_target lat there same e) = offers atn x msg cd h
-    (row_at row n.target (phase_time (line_times p) + 800 + lat) (target_side (ends false false atn x msg cd true false
-    (byte_bits (offering_with s p n true (ends false false atn x msg cd true false 0)).byte))) same
+    (row_at row n.target (phase_time (line_times p) + TURN_DELAY + lat) (target_side (ends false false atn x msg
+    cd true false (byte_bits (offering_with s p n true (ends false false atn x msg cd true false 0)).byte))) same
     (sym (turning_target s p n atn x msg cd lat h) ∙ e))
 
 of_offering : (s : ScenarioValue) (p : List Row) (row : Row) (n : Connection) (atn msg cd : Bool) (y : ℕ)

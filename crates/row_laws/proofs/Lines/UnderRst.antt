@@ -5,8 +5,8 @@ use proofs.Names.{refl, sym, ap, arith, cases_eq, and_parts, leb-true, if◌then
 use proofs.Names.{bus_on, bus_off, drives-other, drives-own, drives-fault, same_set-eq, change_of, rises, falls}
 use proofs.Names.{implies, is_within, LineSet, none, union, call, connection, connection_of, connection_after, raised}
 use proofs.Names.{receiver_in, bus, drives, driven_after, line_times, Kind, Drives, Fault, Row, Change, Connection}
-use proofs.Names.{all_kept, only_rst, judged_rules, broken_rule, seen, seen_with, Seen, ScenarioValue, off_at, UnderRst}
-use proofs.{Names.{IsUnderRst, quiet, holds, lingers}, Common.Tests.{none_both, by_bool, by_option}}
+use proofs.Names.{BUS_CLEAR_DELAY, all_kept, only_rst, judged_rules, broken_rule, seen, seen_with, Seen, ScenarioValue}
+use proofs.{Names.{off_at, UnderRst, IsUnderRst, quiet, holds, lingers}, Common.Tests.{none_both, by_bool, by_option}}
 use Rattle.bus_due.specs.bus_rules.specs.Rules.{keeps}
 
 -- ---- the rule of the reset condition
@@ -15,7 +15,8 @@ pub record ResetRule (p : List Row) (row : Row) : Type 0 where
   pub alone : implies ((bus p).rst || rises (drives p row.dev).rst (driven_after row.kind (drives p row.dev)).rst)
       (is_within (driven_after row.kind (drives p row.dev)) (union only_rst (drives p row.dev)))
       ≡ true
-  pub quiet_is : implies (bus p).rst (nat_le row.time ((line_times p).rst + 800) || is_within (bus p) only_rst) ≡ true
+  pub quiet_is :
+      implies (bus p).rst (nat_le row.time ((line_times p).rst + BUS_CLEAR_DELAY) || is_within (bus p) only_rst) ≡ true
   pub holds_is : implies (falls (drives p row.dev).rst (driven_after row.kind (drives p row.dev)).rst)
       (nat_le (raised (λ x. x.rst) p row.dev + 25000) row.time)
       ≡ true
@@ -29,7 +30,8 @@ reset_rule p row e =
     let two = and_parts
     (implies ((bus p).rst || rises (drives p row.dev).rst (driven_after row.kind (drives p row.dev)).rst)
     (is_within (driven_after row.kind (drives p row.dev)) (union only_rst (drives p row.dev)))
-    && implies (bus p).rst (nat_le row.time ((line_times p).rst + 800) || is_within (bus p) only_rst)) _ last in
+    && implies (bus p).rst (nat_le row.time ((line_times p).rst + BUS_CLEAR_DELAY) || is_within (bus p) only_rst))
+    _ last in
     let one = and_parts
     (implies ((bus p).rst || rises (drives p row.dev).rst (driven_after row.kind (drives p row.dev)).rst)
     (is_within (driven_after row.kind (drives p row.dev)) (union only_rst (drives p row.dev)))) _ two.0 in
@@ -141,7 +143,7 @@ or_second false b e f = e
 -- No line but RST was true.
 pub quiet_at_end : (s : ScenarioValue) (p : List Row) (row : Row) → row.dev < 8 → broken_rule p row ≡ None
     → UnderRst s p → (bus (row ∷ p)).rst ≡ false → is_within (bus p) only_rst ≡ true
-quiet_at_end s p row lt obeys u off = or_second (nat_le row.time ((line_times p).rst + 800))
+quiet_at_end s p row lt obeys u off = or_second (nat_le row.time ((line_times p).rst + BUS_CLEAR_DELAY))
     (is_within (bus p) only_rst) (implied (bus p).rst _ r.quiet_is u.reset)
     (λ z. late (leb-true _ _ z) (u.each row.dev lt))
   where
@@ -165,7 +167,7 @@ quiet_at_end s p row lt obeys u off = or_second (nat_le row.time ((line_times p)
     wait = leb-true _ _ (implied (falls (drives p row.dev).rst (driven_after row.kind (drives p row.dev)).rst) _
         r.holds_is (λ i. falls (held i) (let_go i)))
 
-    late : row.time ≤ (line_times p).rst + 800 → IsUnderRst p row.dev → ⊥
+    late : row.time ≤ (line_times p).rst + BUS_CLEAR_DELAY → IsUnderRst p row.dev → ⊥
     late soon (quiet e) = wrong (sym held ∙ ap (λ (l : LineSet). l.rst) e)
     late soon (lingers e) = wrong (sym held ∙ e)
     late soon (holds h) = let a = h.raised_at in let b = h.not_before in let c = wait in absurd (omega arith)

@@ -5,13 +5,13 @@ use proofs.Names.{inl, inr, ℕ, ◌≡◌, ◌⊎◌, Bool, true, false, not, �
 use proofs.Names.{sym, ap, subst, ◌==◌, ◌+◌, and_parts, cases_eq, if◌then◌else◌, is_some, nat_le, wrong, wrong'}
 use proofs.Names.{implied, bus_on, bus_off, bus-fault, drives-own, drives-other, change_of, rises, falls, implies}
 use proofs.Names.{LineSet, byte_set, is_data, is_message_in, arbitration, connection, raised, bus, drives, driven_after}
-use proofs.Names.{last_time, Row, Change, Connection, all_kept, judged_rules, broken_rule, seen, seen_with, Seen}
-use proofs.Names.{ScenarioValue, Serving, phase_of, phase_lines, leaving_by, lines_by, phase_byte, one_if, Leaving}
-use proofs.Names.{Phase, run_state, serving_at, EndLines, connected_bus, Linked, ends_selected, row_of_lines}
-use proofs.Names.{row_of_fault, offering_with, initiator_moves, target_moves, ends, by_bool, LinkRow, hands, releases}
-use proofs.Names.{ends_ack_in, gives, sends, ends_ack_out, answers_pulse, ends_ack_pulse, drives_pulsed, sends_pulse}
-use proofs.Names.{offers, asks_first, ends_req, asks_next, leaves, ends_req_pulse, changes_pulsed, asks_pulse, line_off}
-use proofs.{Names.{awaits}, Items.Aims.{RisesWell}, Talks.Steps.{Alternates}}
+use proofs.Names.{last_time, Row, Change, Connection, ARBITRATION_DELAY, all_kept, judged_rules, broken_rule, seen}
+use proofs.Names.{seen_with, Seen, ScenarioValue, Serving, phase_of, phase_lines, leaving_by, lines_by, phase_byte}
+use proofs.Names.{one_if, Leaving, Phase, run_state, serving_at, EndLines, connected_bus, Linked, ends_selected}
+use proofs.Names.{row_of_lines, row_of_fault, offering_with, initiator_moves, target_moves, ends, by_bool, LinkRow}
+use proofs.Names.{hands, releases, ends_ack_in, gives, sends, ends_ack_out, answers_pulse, ends_ack_pulse}
+use proofs.Names.{drives_pulsed, sends_pulse, offers, asks_first, ends_req, asks_next, leaves, ends_req_pulse}
+use proofs.{Names.{changes_pulsed, asks_pulse, line_off, awaits}, Items.Aims.{RisesWell}, Talks.Steps.{Alternates}}
 use Rattle.bus_due.specs.bus_rules.specs.Rules.{keeps}
 use Rattle.row_laws.proofs.Lines.Rows.{opens, strikes, answers}
 
@@ -192,7 +192,7 @@ rises_well p row e off off' =
     let last : keeps 5 v row ≡ true = a.1.1.1.1.0 in
     let up : Bool = rises (drives p row.dev).sel (driven_after row.kind (drives p row.dev)).sel in
     let contends : Bool = is_some (arbitration p) && (drives p row.dev).bsy in
-    let waited : Bool = nat_le (raised (λ l. l.bsy) p row.dev + 2400) row.time in
+    let waited : Bool = nat_le (raised (λ l. l.bsy) p row.dev + ARBITRATION_DELAY) row.time in
     let test : Bool = implies up (contends && waited) in
     let on : test ≡ true = sym (λ i. if off i || off' i then true else test) ∙ last in
     record {

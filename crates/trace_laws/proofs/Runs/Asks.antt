@@ -5,23 +5,23 @@ use proofs.Names.{ℕ, ◌≡◌, inl, inr, ◌+◌, ◌≤◌, ◌<◌, Bool, t
 use proofs.Names.{Option, Some, None, refl, sym, ap, subst, arith, true≢false, ◌==◌, le_antisymm, ltb-true, ltb-false}
 use proofs.Names.{nat_tests, none-some, max, if◌then◌else◌, nat_lt, is_some, wrong', implication_parts, wrong, bus_on}
 use proofs.Names.{same_self, change_of, rises, LineSet, changes_phase, is_data, connection, receiver, receiver_in}
-use proofs.Names.{receiver_of, drives, last_time, line_times, phase_time, bus, Row, Change, Connection, Handshakes}
-use proofs.Names.{handshakes, GOOD, dialogue, is_of_device, only_rst, ScenarioValue, Obeys, Reply, Process, row_reading}
-use proofs.Names.{due_at, policy_of, run_at, run_length, is_pulsed_phase, begun, phase_of, run_length_if, follows_in}
-use proofs.Names.{Phase, Task, target_def_of, IsLeast, due, IsPrompt, AreOfDevices, RunState, bus_of, process_here}
-use proofs.Names.{process_served, carried_here, run_state, serving_of, offering_of, is_writing, task_if, moved_count}
-use proofs.Names.{reply_now, IsOver, change_plain, fault_change, drives_own, least_is, by_calm, reset_or_calm, by_reset}
-use proofs.Names.{EndLines, initiator_side, target_side, connected_bus, Linked, unreset_due, row_of_lines, row_of_fault}
-use proofs.Names.{due_of, Mover, by_fault, by_initiator, by_target, target_plain, initiator_plain, offering_with}
-use proofs.Names.{mover_is, never, settling_target, settling_initiator, handing_initiator, initiator_moves}
-use proofs.Names.{target_moves, phase_same, no_rise, pulsed_target_out, pulsed_initiator_out, pulse_time, leaving_time}
-use proofs.Names.{ack_pulse_end_time, answer_time, release_time, byte_driven_time, given_bits, LinkStage, when_selected}
-use proofs.Names.{when_settling, when_turning, when_offering, when_shaking, when_pulsing, Settling, Pulsing, times_here}
-use proofs.Names.{offset_here, run_count, risen, connection_row, stage_of_connection, RowFacts, stays, ends_here, Stood}
-use proofs.Names.{here_served, turn, is_directed, writes_of, writes_out, row_at, link_row, phase_by, pulses_here}
-use proofs.{Names.{AreCounted, CountFacts, RunFacts}, Runs.Facts.{AnswersAll, run_active, crossing_begun}}
-use proofs.Runs.{Parts.{byte_within}, Steps.{OutStep, by_initiator_row, by_target_row, struck_row, left_row, link_step}}
-use proofs.Runs.Steps.{pulsed_as, no_in}
+use proofs.Names.{receiver_of, drives, last_time, line_times, phase_time, bus, Row, Change, Connection}
+use proofs.Names.{BUS_SETTLE_DELAY, Handshakes, handshakes, GOOD, dialogue, is_of_device, only_rst, ScenarioValue}
+use proofs.Names.{Obeys, Reply, Process, row_reading, due_at, policy_of, run_at, run_length, is_pulsed_phase, begun}
+use proofs.Names.{phase_of, run_length_if, follows_in, Phase, Task, target_def_of, IsLeast, due, IsPrompt, AreOfDevices}
+use proofs.Names.{RunState, bus_of, process_here, process_served, carried_here, run_state, serving_of, offering_of}
+use proofs.Names.{is_writing, task_if, moved_count, reply_now, IsOver, change_plain, fault_change, drives_own, least_is}
+use proofs.Names.{by_calm, reset_or_calm, by_reset, EndLines, initiator_side, target_side, connected_bus, Linked}
+use proofs.Names.{unreset_due, row_of_lines, row_of_fault, due_of, Mover, by_fault, by_initiator, by_target}
+use proofs.Names.{target_plain, initiator_plain, offering_with, mover_is, never, settling_target, settling_initiator}
+use proofs.Names.{handing_initiator, initiator_moves, target_moves, phase_same, no_rise, pulsed_target_out}
+use proofs.Names.{pulsed_initiator_out, pulse_time, leaving_time, ack_pulse_end_time, answer_time, release_time}
+use proofs.Names.{byte_driven_time, given_bits, LinkStage, when_selected, when_settling, when_turning, when_offering}
+use proofs.Names.{when_shaking, when_pulsing, Settling, Pulsing, times_here, offset_here, run_count, risen}
+use proofs.Names.{connection_row, stage_of_connection, RowFacts, stays, ends_here, Stood, here_served, turn}
+use proofs.Names.{is_directed, writes_of, writes_out, row_at, link_row, phase_by, pulses_here, AreCounted, CountFacts}
+use proofs.{Names.{RunFacts}, Runs.{Facts.{AnswersAll, run_active, crossing_begun}, Parts.{byte_within}}}
+use proofs.Runs.Steps.{OutStep, by_initiator_row, by_target_row, struck_row, left_row, link_step, pulsed_as, no_in}
 use Rattle.story_laws.specs.link_laws.specs.Phases.{ends}
 
 -- With it by pulses all requests are answered as the phase is left.
@@ -83,9 +83,9 @@ settle_step s p row n true atn msg cd io y h (by_initiator lat there same e) = s
 settle_step s p row n false atn msg cd io y h (by_initiator lat there same e) =
     absurd (never _ (due_of row) (settling_initiator s p n atn msg cd io y lat h) e)
 settle_step s p row n bsy atn msg cd io y h (by_target lat there same e) = subst
-    (λ (w : Row). PulseStep s p n (change_of p w)) (sym
-    (row_at row n.target (phase_time (line_times p) + 400 + lat) (target_side (ends bsy false atn 0 msg cd io true y))
-    same (sym (settling_target s p n bsy atn msg cd io y lat h) ∙ e)))
+    (λ (w : Row). PulseStep s p n (change_of p w)) (sym (row_at row n.target
+    (phase_time (line_times p) + BUS_SETTLE_DELAY + lat) (target_side (ends bsy false atn 0 msg cd io true y)) same
+    (sym (settling_target s p n bsy atn msg cd io y lat h) ∙ e)))
     (target_row s p row.time n (ends bsy false atn 0 msg cd io false y) true y h.linked (record {
       answers = λ z. wrong' z;
       asks = λ z. (refl, inl (ap (λ (b : Handshakes). b.requests == 0) h.quiet));
