@@ -32,8 +32,8 @@ CASES = [
     ("bus_cases", "GuardCases"), ("bus_cases", "ArrayCases"), ("bus_cases", "RightCases"), ("bus_cases", "DialogueCases"), ("bus_cases", "StoryCases"),
     ("bus_cases", "DueCases"),
     ("sync_nego", "Cases"), ("mixed_bus", "MixedTraces"), ("bus_due", "SeamCases"), ("bus_cases", "SeamCases"),
-    ("bus_laws", "Cases"), ("bus_laws", "HeardCases"), ("bus_laws", "WrittenCases"), ("bus_books", "Cases"), ("bus_books", "StoryCases"),
-    ("bus_books", "CauseRunCases"), ("disk_target", "AttendedCases"), ("right_laws", "Cases"), ("right_laws", "GivenCases"), ("progress_laws", "DebtCases"),
+    ("bus_laws", "Cases"), ("bus_laws", "HeardCases"), ("bus_laws", "WrittenCases"), ("book_laws", "Cases"), ("book_laws", "StoryCases"),
+    ("book_laws", "CauseRunCases"), ("disk_target", "AttendedCases"), ("right_laws", "Cases"), ("right_laws", "GivenCases"), ("progress_laws", "DebtCases"),
 ]
 # So many of these are of the definitions themselves, the others of the laws above them.
 NEAR = 20

@@ -2,8 +2,8 @@
 """Writes, of runs that tools/makers/due_case.py has written, the lemmas that each of their rows is as it is due to be, and that the books hold
 after it.
 
-    tools/makers/books_case.py tools/due_cases/*.scn > crates/bus_books/proofs/Cases.antt
-    tools/makers/books_case.py --whole tools/cases/*.scn > crates/bus_books/proofs/StoryCases.antt
+    tools/makers/books_case.py tools/due_cases/*.scn > crates/book_laws/proofs/Cases.antt
+    tools/makers/books_case.py --whole tools/cases/*.scn > crates/book_laws/proofs/StoryCases.antt
     tools/makers/books_case.py --reads tools/due_cases/one_read.scn .. > crates/right_laws/proofs/Cases.antt
     tools/makers/books_case.py --given tools/due_cases/one_read.scn .. > crates/right_laws/proofs/GivenCases.antt
     tools/makers/books_case.py --debts tools/due_cases/hold_of_a_unit.scn .. > crates/progress_laws/proofs/DebtCases.antt
@@ -12,7 +12,7 @@ after it.
 With `--reads` and `--given` the lemmas say instead what processes have carried of their data, and what is asked of each row of it (`ReadTests` and
 `GivenTests` of crates/right_laws/specs). With `--debts` they say which senses are owed (`DebtTests` of crates/progress_laws/specs), with `--measure` that the measure of what is still to come
 falls (`MeasureTests` of crates/measure_laws/specs). With `--whole` it writes the scenarios and their rows, too, those of the report NAME.out beside each NAME.scn, which comes from outside
-this repository. The books are stated as tests in `Tests` of crates/bus_books/specs, what is asked of a row in `RowTests`.
+this repository. The books are stated as tests in `Tests` of crates/book_laws/specs, what is asked of a row in `RowTests`.
 """
 import sys
 
@@ -29,7 +29,7 @@ use Rattle.bus_due.specs.RunSteps.{first_run_state}
 use %s"""
 
 # What the lemmas say of a run: in words, by which test, and where that stands.
-BOOKS = ("-- Each row of some runs is as it is due to be, and the books hold after it.", "keep_books", "Rattle.bus_books.specs.RowTests.{keep_books}")
+BOOKS = ("-- Each row of some runs is as it is due to be, and the books hold after it.", "keep_books", "Rattle.book_laws.specs.RowTests.{keep_books}")
 READS = ("-- In some runs what processes have carried of their data is a front of what they send or give, and the pointers stand as they should.",
          "keep_reads", "Rattle.right_laws.specs.ReadTests.{keep_reads}")
 GIVEN = ("-- In some runs what is asked of each row of what processes give of their replies holds.", "give_well", "Rattle.right_laws.specs.GivenTests.{give_well}")

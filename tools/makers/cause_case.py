@@ -1,10 +1,10 @@
 #!/usr/bin/env python3
 """Writes, of runs that tools/makers/due_case.py has written, the lemmas that what the causes of endings rest on holds.
 
-    tools/makers/cause_case.py Cases tools/due_cases/*.scn > crates/bus_books/proofs/CauseRunCases.antt
+    tools/makers/cause_case.py Cases tools/due_cases/*.scn > crates/book_laws/proofs/CauseRunCases.antt
 
 The first word is the module of crates/bus_due/proofs in which the runs of these scenarios stand. What is computed is stated in
-crates/bus_books/specs/WrongParity.antt, and crates/bus_books/proofs/Forward.antt says what such a lemma means.
+crates/book_laws/specs/WrongParity.antt, and crates/book_laws/proofs/Forward.antt says what such a lemma means.
 """
 import run_lemmas
 
@@ -12,6 +12,6 @@ COMMENT = """-- In some runs the target goes to BUS FREE only where it is due to
 -- struck. Written by tools/makers/cause_case.py."""
 
 USES = """use Rattle.bus_due.proofs.Seams.{onto}
-use Rattle.bus_books.proofs.Forward.{Hold, all_hold}"""
+use Rattle.book_laws.proofs.Forward.{Hold, all_hold}"""
 
 run_lemmas.write(COMMENT, "[], refl", USES, "holds", "all_hold", "Hold R RS")

@@ -29,7 +29,7 @@ use Rattle.delivery_laws.specs.scsi_device.specs.Writes.{Writer, is_writer, writ
 use Rattle.disk_target.specs.Attended.{are_in, are_known_ends, attended, came, ends_good, is_abort_in, is_attended}
 use Rattle.disk_target.specs.Attended.{is_attended_if, is_attended_in, is_calm_turn, is_known_end, is_of_item, is_quiet}
 use Rattle.disk_target.specs.Attended.{is_unseen, is_whole_of, is_whole_run}
-use Rattle.delivery_laws.specs.bus_books.proofs.Common.Lookups.{self_id}
+use Rattle.delivery_laws.specs.book_laws.proofs.Common.Lookups.{self_id}
 use Rattle.delivery_laws.specs.bus_laws.proofs.Lines.Apart.{change_plain}
 use Rattle.delivery_laws.specs.bus_laws.proofs.Stages.Facts.{least_is}
 use Rattle.delivery_laws.specs.row_laws.specs.Attendance.{AreShown, IsShown, ShowsIn, accepts, refuses, runs, fails}

@@ -24,7 +24,7 @@ use Rattle.bus_engine.specs.Over.{AreUnitsIf}
 use Rattle.bus_engine.specs.Disks.{AreUnitsByTarget, held_if, AreHeld, IsWithin, have_targets}
 use Rattle.bus_engine.proofs.Disks.{held_all}
 use Rattle.bus_engine.proofs.Names.{history_names}
-use Rattle.delivery_laws.specs.bus_books.proofs.Replies.Refusals.{allowed_array}
+use Rattle.delivery_laws.specs.book_laws.proofs.Replies.Refusals.{allowed_array}
 
 -- ---- the array after the rows
 

@@ -25,7 +25,7 @@ use Rattle.disk_array.specs.SoundArray.{IsSound}
 use Rattle.disk_array.proofs.SoundArrays.{history_sound}
 use Rattle.disk_array.proofs.ArrayReplies.{abort_lists, fail_lists, loss_lists, reset_lists, took, end_lists}
 use Rattle.bus_due.specs.bus_story.specs.Right.{has_run, is_run_of}
-use Rattle.delivery_laws.specs.bus_books.proofs.Common.Lookups.{id_is}
+use Rattle.delivery_laws.specs.book_laws.proofs.Common.Lookups.{id_is}
 use Rattle.delivery_laws.specs.row_laws.proofs.Events.Replies.{accepted, refused, settles, running_id}
 use Rattle.delivery_laws.specs.row_laws.proofs.Events.Others.{executed, reply_at}
 use Rattle.delivery_laws.specs.row_laws.proofs.Common.Impossible.{none_some}

@@ -24,7 +24,7 @@ use Rattle.bus_due.specs.bus_story.specs.Right.{all_carried, carried_by, has_run
 use Rattle.bus_due.specs.bus_story.specs.Story.{Ending, Story, by_abort, by_loss, by_reset, by_status, unanswered}
 use Rattle.bus_due.specs.bus_story.specs.Items.{sense_id, command_id}
 use Rattle.bus_due.specs.RunState.{RunState, array_of}
-use Rattle.delivery_laws.specs.bus_books.proofs.Common.Lookups.{id_is}
+use Rattle.delivery_laws.specs.book_laws.proofs.Common.Lookups.{id_is}
 use Rattle.bus_due.specs.bus_story.proofs.SameBytes.{bytes_are}
 use Rattle.delivery_laws.specs.right_laws.proofs.Ran.Carried.{same_is}
 use Rattle.initiator.specs.Causes.{has_status, is_status_of}

@@ -26,7 +26,7 @@ use Rattle.delivery_laws.specs.Endings.{AreExact, arrive_by_room}
 use Rattle.delivery_laws.specs.Openings.{AreAnsweredOffers, AreOfferReplies, AreOpenings}
 use Rattle.delivery_laws.specs.Recoveries.{AreRecoveries}
 use Rattle.delivery_laws.specs.Resets.{AreResets}
-use Rattle.delivery_laws.specs.bus_books.specs.WrongParity.{complains_truly}
+use Rattle.delivery_laws.specs.book_laws.specs.WrongParity.{complains_truly}
 
 abbrev pub told_reply : Outcome → Option told.Outcome
 told_reply outcome = Some (told_outcome outcome)

@@ -133,16 +133,16 @@ use Rattle.progress_laws.specs.target_units.specs as target_units
 pub use target_units.Rooms.{AreOfLines, IsOfLine}
 use Rattle.target_course.proofs as target_course_proofs
 pub use target_course_proofs.ServedEnds.{ends_are}
-use Rattle.progress_laws.specs.bus_books.proofs as bus_books_proofs
-pub use bus_books_proofs.{Carried.Facts.{process_id}, Common.{InConnection.{reading_is}, Lookups.{id_is, self_id}}}
-pub use bus_books_proofs.{Items.Facts.{connected_aims}, Replies.Senses.{self_nexus}, Traces.{trace_faithful}}
-use Rattle.progress_laws.specs.bus_books.specs as bus_books
-pub use bus_books.FullQueues.{finds_full_queue, finds_full_queue_if, has_cause, has_event, was_refused}
-pub use bus_books.{Hearing.{LeavesWhole, is_in_phase}, Listening.{nothing_understood, understanding, understood}}
-pub use bus_books.{Rows.{IsRowIn, RowKind, crosses, still, strikes, turns}, Speaking.{AreWordsFor, IsSpeaking, opens}}
-pub use bus_books.{Traces.{RowOf, apart, begins, ends, goes_on, under_reset}, WrongParity.{fault_rows, gives_up}}
-pub use bus_books.WrongParity.{has_more_faults, is_complaint, is_failure, is_fault_of, is_left_as_due, is_left_by}
-pub use bus_books.WrongParity.{is_loss, is_struck_phase, is_wrong_phase, left_as_due, serves}
+use Rattle.progress_laws.specs.book_laws.proofs as book_laws_proofs
+pub use book_laws_proofs.{Carried.Facts.{process_id}, Common.{InConnection.{reading_is}, Lookups.{id_is, self_id}}}
+pub use book_laws_proofs.{Items.Facts.{connected_aims}, Replies.Senses.{self_nexus}, Traces.{trace_faithful}}
+use Rattle.progress_laws.specs.book_laws.specs as book_laws
+pub use book_laws.FullQueues.{finds_full_queue, finds_full_queue_if, has_cause, has_event, was_refused}
+pub use book_laws.{Hearing.{LeavesWhole, is_in_phase}, Listening.{nothing_understood, understanding, understood}}
+pub use book_laws.{Rows.{IsRowIn, RowKind, crosses, still, strikes, turns}, Speaking.{AreWordsFor, IsSpeaking, opens}}
+pub use book_laws.{Traces.{RowOf, apart, begins, ends, goes_on, under_reset}, WrongParity.{fault_rows, gives_up}}
+pub use book_laws.WrongParity.{has_more_faults, is_complaint, is_failure, is_fault_of, is_left_as_due, is_left_by}
+pub use book_laws.WrongParity.{is_loss, is_struck_phase, is_wrong_phase, left_as_due, serves}
 use Rattle.progress_laws.specs.bus_laws.proofs as bus_laws_proofs
 pub use bus_laws_proofs.{Lines.{Apart.{change_plain}, Rows.{drives_own}}, Resets.Dues.{due_calm, due_holding}}
 pub use bus_laws_proofs.{Resets.{Dues.{due_there, own_reset_is}, Rows.{off_at}}, Stages.Answer.{from_answered}}

@@ -37,9 +37,9 @@ use Rattle.bus_due.specs.Goals.{is_good}
 use Rattle.bus_due.specs.Next.{IsPrompt, IsEnded}
 use Rattle.bus_due.specs.RunState.{RunState}
 use Rattle.bus_due.specs.RunSteps.{run_state}
-use Rattle.progress_laws.specs.bus_books.specs.FullQueues.{has_event, was_refused}
-use Rattle.progress_laws.specs.bus_books.specs.Strikes.{has_strike}
-use Rattle.progress_laws.specs.bus_books.specs.WrongParity.{fault_rows}
+use Rattle.progress_laws.specs.book_laws.specs.FullQueues.{has_event, was_refused}
+use Rattle.progress_laws.specs.book_laws.specs.Strikes.{has_strike}
+use Rattle.progress_laws.specs.book_laws.specs.WrongParity.{fault_rows}
 use Rattle.initiator.specs.Causes.{has_bus_reset, has_command_abort, has_sense_stop}
 use Rattle.bus_due.specs.scenario.specs.Lookups.{has_target, unit_of}
 

@@ -25,7 +25,7 @@ use Rattle.bus_due.specs.bus_story.specs.Outcomes.{reply_bytes}
 use Rattle.bus_due.specs.bus_story.specs.Story.{Ending, Story, by_abort, by_loss, by_reset, by_status, is_aborted}
 use Rattle.bus_due.specs.bus_story.specs.Story.{unanswered}
 use Rattle.bus_due.specs.bus_story.specs.TraceHistory.{aim_of, retries_of, row_events, story, trace_history}
-use Rattle.progress_laws.specs.bus_books.specs.FullQueues.{finds_full_queue_if, has_event, was_refused}
+use Rattle.progress_laws.specs.book_laws.specs.FullQueues.{finds_full_queue_if, has_event, was_refused}
 use Rattle.initiator.specs.Causes.{has_status, is_bus_reset, is_sense_abort}
 use Rattle.delivery_laws.specs.Delivery.{HasRun, IsGiven, is_for_item}
 

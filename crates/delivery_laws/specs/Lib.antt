@@ -8,7 +8,7 @@ pub use Rattle.progress_laws
 pub use Rattle.right_laws
 pub use Rattle.progress_laws.specs.scsi_device
 pub use Rattle.progress_laws.specs.target_units
-pub use Rattle.progress_laws.specs.bus_books
+pub use Rattle.progress_laws.specs.book_laws
 pub use Rattle.progress_laws.specs.bus_laws
 pub use Rattle.progress_laws.specs.link_laws
 pub use Rattle.progress_laws.specs.row_laws

@@ -20,7 +20,7 @@ use Rattle.bus_due.specs.bus_dialogue.specs.Hearing.{begun}
 use Rattle.bus_due.specs.bus_phases.specs.Dialogue.{dialogue}
 use Rattle.bus_due.specs.bus_story.specs.TraceHistory.{aim_of, story}
 use Rattle.bus_due.specs.RunSteps.{opening_of, run_state}
-use Rattle.progress_laws.specs.bus_books.specs.Listening.{nothing_understood, understanding, understood}
+use Rattle.progress_laws.specs.book_laws.specs.Listening.{nothing_understood, understanding, understood}
 use Rattle.delivery_laws.specs.Recoveries.{IsLeaving, phase_after}
 
 -- Of the connection that stands after these rows, by what stood as it began: IDENTIFY, the tag of the command, and an

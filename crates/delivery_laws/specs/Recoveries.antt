@@ -29,9 +29,9 @@ use Rattle.bus_due.specs.LastingState.{progress_in}
 use Rattle.bus_due.specs.RunState.{array_of, process_served}
 use Rattle.bus_due.specs.RunSteps.{run_state}
 use Rattle.bus_due.specs.Tasks.{arrival_of, task_of}
-use Rattle.progress_laws.specs.bus_books.specs.FullQueues.{has_event, is_refusal, lacks_room}
-use Rattle.progress_laws.specs.bus_books.specs.WrongParity.{gives_up, is_failure, is_loss, is_struck_phase}
-use Rattle.progress_laws.specs.bus_books.specs.WrongParity.{is_wrong_phase, wrong_phases}
+use Rattle.progress_laws.specs.book_laws.specs.FullQueues.{has_event, is_refusal, lacks_room}
+use Rattle.progress_laws.specs.book_laws.specs.WrongParity.{gives_up, is_failure, is_loss, is_struck_phase}
+use Rattle.progress_laws.specs.book_laws.specs.WrongParity.{is_wrong_phase, wrong_phases}
 
 -- ---- a phase is left
 

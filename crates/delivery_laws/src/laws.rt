@@ -5,7 +5,7 @@ ghost use Rattle.bus_due.specs.bus_trace.specs.declared.Row.{Row};
 ghost use Rattle.bus_due.specs.bus_base.specs.declared.Event.TheVariants as events;
 ghost use Rattle.bus_due.specs.Goals.{EndsRight, is_good};
 ghost use Rattle.bus_due.specs.Next.{IsPrompt, IsEnded};
-ghost use Rattle.progress_laws.specs.bus_books.specs.FullQueues.{has_event};
+ghost use Rattle.progress_laws.specs.book_laws.specs.FullQueues.{has_event};
 ghost use Rattle.bus_due.specs.RunSteps.{run_state};
 ghost use Rattle.std.specs.List.{list_any};
 ghost use Rattle.bus_due.specs.bus_base.specs.declared.Event.{Event};

@@ -95,16 +95,16 @@ use Rattle.progress_laws.specs.scsi_device.proofs as scsi_device_proofs
 pub use scsi_device_proofs.FitLines.{abort_fits, obeys_fits, units_are}
 use Rattle.progress_laws.specs.scsi_device.specs as scsi_device
 pub use scsi_device.Lines.{IsAbortLine}
-use Rattle.progress_laws.specs.bus_books.proofs as bus_books_proofs
-pub use bus_books_proofs.Common.InConnection.{InConnection, SamePhase, in_connection, reading_is, same_phase_is}
-pub use bus_books_proofs.Failures.{Counts.{struck_is}, GiveUps.{failure_is, loss_by, lost_calm}}
-pub use bus_books_proofs.Items.Facts.{aims_are}
-use Rattle.progress_laws.specs.bus_books.specs as bus_books
-pub use bus_books.{FullQueues.{has_event}, Hearing.{is_out_phase}, Items.{IsItem, is_abort, is_process}}
-pub use bus_books.{Knowing.{Knows}, Reactions.{IsOver}, Rows.{IsRowIn, RowKind, crosses, reading_in, still, strikes}}
-pub use bus_books.{Rows.{turns}, Traces.{AreRowsOf, Books, RowOf, apart, begins, ends, goes_on, under_reset}}
-pub use bus_books.WrongParity.{gives_up, is_complaint, is_failure, is_left_as_due, is_left_by, is_loss}
-pub use bus_books.WrongParity.{is_refusal_after, is_refusing, is_struck_after, is_struck_phase, left_as_due}
+use Rattle.progress_laws.specs.book_laws.proofs as book_laws_proofs
+pub use book_laws_proofs.Common.InConnection.{InConnection, SamePhase, in_connection, reading_is, same_phase_is}
+pub use book_laws_proofs.Failures.{Counts.{struck_is}, GiveUps.{failure_is, loss_by, lost_calm}}
+pub use book_laws_proofs.Items.Facts.{aims_are}
+use Rattle.progress_laws.specs.book_laws.specs as book_laws
+pub use book_laws.{FullQueues.{has_event}, Hearing.{is_out_phase}, Items.{IsItem, is_abort, is_process}}
+pub use book_laws.{Knowing.{Knows}, Reactions.{IsOver}, Rows.{IsRowIn, RowKind, crosses, reading_in, still, strikes}}
+pub use book_laws.{Rows.{turns}, Traces.{AreRowsOf, Books, RowOf, apart, begins, ends, goes_on, under_reset}}
+pub use book_laws.WrongParity.{gives_up, is_complaint, is_failure, is_left_as_due, is_left_by, is_loss}
+pub use book_laws.WrongParity.{is_refusal_after, is_refusing, is_struck_after, is_struck_phase, left_as_due}
 use Rattle.progress_laws.specs.bus_laws.proofs as bus_laws_proofs
 pub use bus_laws_proofs.{Lines.{Apart.{change_plain}, Rows.{fault_change}}, Stages.Facts.{least_is}}
 use Rattle.progress_laws.specs.bus_laws.specs as bus_laws

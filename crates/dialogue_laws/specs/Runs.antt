@@ -24,7 +24,7 @@ use Rattle.bus_due.specs.bus_dialogue.specs.declared.exchange.Task.{Task}
 use Rattle.bus_due.specs.LastingState.{progress_in}
 use Rattle.bus_due.specs.RunState.{RunState, array_of, carried_here}
 use Rattle.bus_due.specs.RunSteps.{events_of_row, run_state}
-use Rattle.progress_laws.specs.bus_books.specs.WrongParity.{is_struck_phase}
+use Rattle.progress_laws.specs.book_laws.specs.WrongParity.{is_struck_phase}
 use Rattle.dialogue_laws.specs.Recoveries.{present_phase}
 
 -- A data phase is left without a complaint of the initiator, and no byte to the target was struck: the run is done.

@@ -10,7 +10,7 @@ ghost use Rattle.bus_due.specs.bus_story.specs.HistoryEvents.{abort_line_at};
 ghost use Rattle.bus_due.specs.bus_story.specs.Items.{abort, has_item};
 ghost use Rattle.bus_due.specs.Next.{IsEnded, IsPrompt};
 ghost use Rattle.bus_due.specs.RunSteps.{run_state};
-ghost use Rattle.progress_laws.specs.bus_books.specs.FullQueues.{has_event};
+ghost use Rattle.progress_laws.specs.book_laws.specs.FullQueues.{has_event};
 ghost use Rattle.dialogue_laws.specs.AbortLines.{AbortEnd, IsToSend, is_cut};
 
 use bus_due::wants_are_items;

@@ -22,9 +22,9 @@ ghost use Rattle.bus_due.specs.bus_dialogue.specs.declared.exchange.Phase.TheVar
 ghost use Rattle.bus_due.specs.Next.{IsPrompt};
 ghost use Rattle.bus_due.specs.RunState.{bus_of, carried_here};
 ghost use Rattle.bus_due.specs.RunSteps.{events_of_row, run_state};
-ghost use Rattle.progress_laws.specs.bus_books.specs.FullQueues.{has_event};
-ghost use Rattle.progress_laws.specs.bus_books.specs.Hearing.{is_out_phase};
-ghost use Rattle.progress_laws.specs.bus_books.specs.WrongParity.{gives_up, is_complaint, is_failure, is_loss, is_refusing, is_struck_phase};
+ghost use Rattle.progress_laws.specs.book_laws.specs.FullQueues.{has_event};
+ghost use Rattle.progress_laws.specs.book_laws.specs.Hearing.{is_out_phase};
+ghost use Rattle.progress_laws.specs.book_laws.specs.WrongParity.{gives_up, is_complaint, is_failure, is_loss, is_refusing, is_struck_phase};
 ghost use Rattle.progress_laws.specs.row_laws.specs.Tells.{IsLeaving, code_if};
 ghost use Rattle.dialogue_laws.specs.Recoveries.{Complains, FailsWith, HasTakenAll, IsAsked, IsLost, IsWithin, LeavesPhase, Recovers, RecoversUnless, Repeats, is_spent};
 

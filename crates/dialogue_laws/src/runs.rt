@@ -19,7 +19,7 @@ ghost use Rattle.bus_due.specs.bus_dialogue.specs.declared.exchange.Phase.{Phase
 ghost use Rattle.bus_due.specs.bus_dialogue.specs.declared.exchange.Phase.TheVariants as phases;
 ghost use Rattle.bus_due.specs.Next.{IsPrompt};
 ghost use Rattle.bus_due.specs.RunSteps.{run_state};
-ghost use Rattle.progress_laws.specs.bus_books.specs.WrongParity.{is_struck_phase};
+ghost use Rattle.progress_laws.specs.book_laws.specs.WrongParity.{is_struck_phase};
 ghost use Rattle.dialogue_laws.specs.Recoveries.{LeavesPhase, present_phase};
 ghost use Rattle.dialogue_laws.specs.Runs.{Arrives, Disconnects, EndsRun, Follows, GoesOnAtOnce, HasSaid, all_runs, data_phase, has_data_left, policy_at, runs_of, task_at};
 

@@ -123,15 +123,15 @@ use Rattle.progress_laws.specs.target_units.proofs as target_units_proofs
 pub use target_units_proofs.Rooms.{IsByLine, by_line}
 use Rattle.progress_laws.specs.target_units.specs as target_units
 pub use target_units.Rooms.{AreOfLines, IsOfLine}
-use Rattle.progress_laws.specs.bus_books.proofs as bus_books_proofs
-pub use bus_books_proofs.{Carried.Blocks.{follows_block}, Common.InConnection.{InConnection, in_connection, reading_is}}
-pub use bus_books_proofs.{Common.InConnection.{same_phase_is}, Items.Facts.{aims_are}, Reactions.{out_over}}
-use Rattle.progress_laws.specs.bus_books.specs as bus_books
-pub use bus_books.{Hearing.{HasPhase, is_in_phase, is_out_phase}, Items.{IsItem, is_process}, Knowing.{Knows}}
-pub use bus_books.{Rows.{IsRowIn, RowKind, crosses, reading_in, still, strikes, turns}, Traces.{Begins, Ends, GoesOn}}
-pub use bus_books.Traces.{IsAimedAt, RowOf, apart, begins, ends as row_ends, goes_on, under_reset}
-pub use bus_books.WrongParity.{complains_truly, is_complaining, is_complaint, is_left, is_refusing, is_struck_phase}
-pub use bus_books.WrongParity.{is_true_complaint}
+use Rattle.progress_laws.specs.book_laws.proofs as book_laws_proofs
+pub use book_laws_proofs.{Carried.Blocks.{follows_block}, Common.InConnection.{InConnection, in_connection, reading_is}}
+pub use book_laws_proofs.{Common.InConnection.{same_phase_is}, Items.Facts.{aims_are}, Reactions.{out_over}}
+use Rattle.progress_laws.specs.book_laws.specs as book_laws
+pub use book_laws.{Hearing.{HasPhase, is_in_phase, is_out_phase}, Items.{IsItem, is_process}, Knowing.{Knows}}
+pub use book_laws.{Rows.{IsRowIn, RowKind, crosses, reading_in, still, strikes, turns}, Traces.{Begins, Ends, GoesOn}}
+pub use book_laws.Traces.{IsAimedAt, RowOf, apart, begins, ends as row_ends, goes_on, under_reset}
+pub use book_laws.WrongParity.{complains_truly, is_complaining, is_complaint, is_left, is_refusing, is_struck_phase}
+pub use book_laws.WrongParity.{is_true_complaint}
 use Rattle.progress_laws.specs.bus_laws.proofs as bus_laws_proofs
 pub use bus_laws_proofs.Lines.{Apart.{change_plain, free_by, nothing_shown, on_free}, Held.{entries_is, winner_is}}
 pub use bus_laws_proofs.Lines.{Ids.{IsCall, is_call}, Obeys.{reselected_lines, selected, won_lines}}

@@ -9,7 +9,7 @@ use Rattle.bus_due.specs.bus_story.specs.Budget.{budget}
 use Rattle.bus_due.specs.Next.{IsPrompt}
 use Rattle.bus_due.specs.RunState.{RunState, bus_of}
 use Rattle.bus_due.specs.RunSteps.{run_state}
-use Rattle.progress_laws.specs.bus_books.specs.WrongParity.{is_refusing, is_struck_phase}
+use Rattle.progress_laws.specs.book_laws.specs.WrongParity.{is_refusing, is_struck_phase}
 use Rattle.measure_laws.specs.Future.{future_left}
 use Rattle.measure_laws.specs.Turns.{connection_left}
 use Rattle.measure_laws.specs.Ways.{way_left}

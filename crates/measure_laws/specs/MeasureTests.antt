@@ -6,7 +6,7 @@ use Rattle.bus_due.specs.bus_story.specs.BusState.{row_reading}
 use Rattle.bus_due.specs.bus_story.specs.Budget.{budget}
 use Rattle.bus_due.specs.RunState.{RunState}
 use Rattle.bus_due.specs.RunSteps.{first_run_state, run_state_after}
-use Rattle.progress_laws.specs.bus_books.specs.WrongParity.{is_refusal_after, is_struck_after}
+use Rattle.progress_laws.specs.book_laws.specs.WrongParity.{is_refusal_after, is_struck_after}
 use Rattle.measure_laws.specs.Measure.{measure_by}
 
 -- What it is computed from, row by row.

@@ -5,7 +5,7 @@
 //! connection that stands (`Turns`), each by weights that pay for what may follow (`Weights`).
 //!
 //! It stands on `progress_laws` and `right_laws`, and through them on the laws below: which row may be next at each
-//! stage of the bus (`bus_laws`, `link_laws`), what is said, given and kept in a connection (`bus_books`,
+//! stage of the bus (`bus_laws`, `link_laws`), what is said, given and kept in a connection (`book_laws`,
 //! `trace_laws`), and how many bytes a reply has (`right_laws`). No code stands in it.
 //!
 //! Its one contract, [`runs_stay_within_budget`]: at its start the measure of a scenario that obeys the rules of

@@ -121,15 +121,15 @@ use Rattle.trace_laws.specs.scsi_device.specs as scsi_device
 pub use scsi_device.Lines.{FitsBus, IsCommandLine}
 use Rattle.trace_laws.specs.target_units.proofs as target_units_proofs
 pub use target_units_proofs.UnitTimes.{place_found}
-use Rattle.trace_laws.specs.bus_books.proofs as bus_books_proofs
-pub use bus_books_proofs.{Common.{InConnection.{reading_is}, Lookups.{id_is, self_id}}, Failures.GiveUps.{failure_is}}
-pub use bus_books_proofs.{Failures.GiveUps.{loss_by, lost_calm}, Items.Facts.{aims_are, connected_aims}}
-pub use bus_books_proofs.{Items.Ready.{reselects_by}, Replies.Senses.{running_own, self_nexus}}
-use Rattle.trace_laws.specs.bus_books.specs as bus_books
-pub use bus_books.{Accounts.{is_served_by}, FullQueues.{has_event}, Hearing.{is_in_phase}, Items.{IsItem, is_process}}
-pub use bus_books.{Knowing.{Knows}, Traces.{Begins, Ends, IsReadyFor, RowOf, begins, ends, goes_on, under_reset}}
-pub use bus_books.WrongParity.{gives_up, is_failure, is_left, is_left_as_due, is_left_by, is_loss, is_past_limit}
-pub use bus_books.WrongParity.{is_struck_phase, is_wrong_phase, leaves_wrong_phase, left_as_due, serves, wrong_phases}
+use Rattle.trace_laws.specs.book_laws.proofs as book_laws_proofs
+pub use book_laws_proofs.{Common.{InConnection.{reading_is}, Lookups.{id_is, self_id}}, Failures.GiveUps.{failure_is}}
+pub use book_laws_proofs.{Failures.GiveUps.{loss_by, lost_calm}, Items.Facts.{aims_are, connected_aims}}
+pub use book_laws_proofs.{Items.Ready.{reselects_by}, Replies.Senses.{running_own, self_nexus}}
+use Rattle.trace_laws.specs.book_laws.specs as book_laws
+pub use book_laws.{Accounts.{is_served_by}, FullQueues.{has_event}, Hearing.{is_in_phase}, Items.{IsItem, is_process}}
+pub use book_laws.{Knowing.{Knows}, Traces.{Begins, Ends, IsReadyFor, RowOf, begins, ends, goes_on, under_reset}}
+pub use book_laws.WrongParity.{gives_up, is_failure, is_left, is_left_as_due, is_left_by, is_loss, is_past_limit}
+pub use book_laws.WrongParity.{is_struck_phase, is_wrong_phase, leaves_wrong_phase, left_as_due, serves, wrong_phases}
 use Rattle.trace_laws.specs.bus_laws.proofs as bus_laws_proofs
 pub use bus_laws_proofs.Lines.{Apart.{GoesApart, KeepsAll, change_plain, entry_keeps, still_keeps}, Rows.{drives_own}}
 pub use bus_laws_proofs.{Lines.Rows.{stage_is}, Resets.{Dues.{comes_by, due_calm, due_holding}, Rows.{off_at}}}

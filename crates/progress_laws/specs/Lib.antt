@@ -4,7 +4,7 @@ pub mod DebtTests
 -- Handed on to the crates above that list this one and not these.
 pub use Rattle.trace_laws.specs.scsi_device
 pub use Rattle.trace_laws.specs.target_units
-pub use Rattle.trace_laws.specs.bus_books
+pub use Rattle.trace_laws.specs.book_laws
 pub use Rattle.trace_laws.specs.bus_laws
 pub use Rattle.trace_laws.specs.link_laws
 pub use Rattle.trace_laws.specs.row_laws

@@ -8,7 +8,7 @@ use Rattle.bus_due.specs.disk_array.specs.Processes.{command_at}
 use Rattle.bus_due.specs.disk_array.specs.Units.{Nexus}
 use Rattle.bus_due.specs.bus_story.specs.Items.{Sent, has_item, is_open, sense_item, command_id}
 use Rattle.bus_due.specs.RunState.{RunState, array_of}
-use Rattle.trace_laws.specs.bus_books.specs.Accounts.{is_served_by}
+use Rattle.trace_laws.specs.book_laws.specs.Accounts.{is_served_by}
 use Rattle.trace_laws.specs.row_laws.specs.Places.{is_queued}
 
 -- Each command that was sent, is not over and has no connection stands in a queue.

@@ -162,16 +162,16 @@ pub use target_units_proofs.{Rooms.{sends}, Starts.{line_filled, start_settled},
 use Rattle.trace_laws.specs.target_units.specs as target_units
 pub use target_units.{Absent.{absent_reply_by, data_or_refusal, inquiry_room, sense_room}, Fillings.{AreFilled}}
 pub use target_units.Rooms.{AreOfLines, IsOfLine}
-use Rattle.trace_laws.specs.bus_books.proofs as bus_books_proofs
-pub use bus_books_proofs.Carried.{Areas.{puts}, Blocks.{block_is_all}, Commands.{own_of}, Facts.{process_id}}
-pub use bus_books_proofs.{Carried.Steps.{IsKept, no_link, row_carried}, Common.InConnection.{InConnection, dialogue_by}}
-pub use bus_books_proofs.Common.{InConnection.{in_connection, reading_is, same_phase_is}, Lookups.{id_is, self_id}}
-pub use bus_books_proofs.Given.Rows.{requests_rise, requests_stay}
-use Rattle.trace_laws.specs.bus_books.specs as bus_books
-pub use bus_books.{Accounts.{is_served_by, policy_for}, Carrying.{IsFilled, TakesBlock}, Giving.{AreGiven, OnMessage}}
-pub use bus_books.{Hearing.{LeavesWhole, is_in_phase}, Knowing.{Knows}, Reactions.{IsOver}, Rows.{IsFirstRow, IsRowIn}}
-pub use bus_books.{Rows.{RowKind, crosses, reading_in, still, strikes, turns}, Traces.{Begins, Books, GoesOn, RowOf}}
-pub use bus_books.Traces.{apart, begins, goes_on, under_reset, RowOf.{apart as row_apart}}
+use Rattle.trace_laws.specs.book_laws.proofs as book_laws_proofs
+pub use book_laws_proofs.Carried.{Areas.{puts}, Blocks.{block_is_all}, Commands.{own_of}, Facts.{process_id}}
+pub use book_laws_proofs.{Carried.Steps.{IsKept, no_link, row_carried}, Common.InConnection.{InConnection, dialogue_by}}
+pub use book_laws_proofs.Common.{InConnection.{in_connection, reading_is, same_phase_is}, Lookups.{id_is, self_id}}
+pub use book_laws_proofs.Given.Rows.{requests_rise, requests_stay}
+use Rattle.trace_laws.specs.book_laws.specs as book_laws
+pub use book_laws.{Accounts.{is_served_by, policy_for}, Carrying.{IsFilled, TakesBlock}, Giving.{AreGiven, OnMessage}}
+pub use book_laws.{Hearing.{LeavesWhole, is_in_phase}, Knowing.{Knows}, Reactions.{IsOver}, Rows.{IsFirstRow, IsRowIn}}
+pub use book_laws.{Rows.{RowKind, crosses, reading_in, still, strikes, turns}, Traces.{Begins, Books, GoesOn, RowOf}}
+pub use book_laws.Traces.{apart, begins, goes_on, under_reset, RowOf.{apart as row_apart}}
 use Rattle.trace_laws.specs.bus_laws.proofs as bus_laws_proofs
 pub use bus_laws_proofs.Lines.{Apart.{change_plain}, Rows.{drives_other, drives_own, fault_change, since_is, stage_is}}
 pub use bus_laws_proofs.{Lines.Rows.{stands_after}, Resets.Dues.{comes_by, comes_by_first, due_calm, due_holding}}

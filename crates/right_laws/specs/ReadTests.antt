@@ -14,8 +14,8 @@ use Rattle.bus_due.specs.bus_dialogue.specs.NextPhase.{phase_of}
 use Rattle.bus_due.specs.RunState.{RunState, array_of, bus_of, carried_here, process_served}
 use Rattle.bus_due.specs.RunSteps.{run_state_after}
 use Rattle.bus_due.specs.Tasks.{is_writing, reply_now}
-use Rattle.trace_laws.specs.bus_books.specs.Accounts.{is_served_by}
-use Rattle.trace_laws.specs.bus_books.specs.Tests.{is_front}
+use Rattle.trace_laws.specs.book_laws.specs.Accounts.{is_served_by}
+use Rattle.trace_laws.specs.book_laws.specs.Tests.{is_front}
 use Rattle.trace_laws.specs.row_laws.specs.DataPointers.{is_marked, run_start}
 use Rattle.right_laws.specs.Reads.{content_now}
 use Rattle.trace_laws.specs.scsi_device.specs.Writes.{is_data_in}

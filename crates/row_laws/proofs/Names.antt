@@ -151,16 +151,16 @@ pub use scsi_device_proofs.{FitLines.{seats_are, units_are}, LineReads.{abort_by
 use Rattle.scsi_device.specs as scsi_device
 pub use scsi_device.{Heard.{is_command_phase, is_message}, Lines.{AreUnits, FitsBus}, Writes.{Writer, is_data_in}}
 pub use scsi_device.Writes.{is_data_out, writer_of}
-use Rattle.bus_books.proofs as bus_books_proofs
-pub use bus_books_proofs.{Carried.Facts.{process_id}, Common.InConnection.{InConnection, in_connection, same_phase_is}}
-pub use bus_books_proofs.{Common.Lookups.{id_is, self_id}, Items.{Facts.{aims_are}, Ready.{reselects_by, selects_for}}}
-pub use bus_books_proofs.{Messages.Rules.{end_keeps, row_keeps}, Reactions.{answers_next, answers_own, leaves_by}}
-pub use bus_books_proofs.{Reactions.{messages_some}, Traces.{books_are, books_on}}
-use Rattle.bus_books.specs as bus_books
-pub use bus_books.{Carrying.{SendsOwn}, Giving.{Gives}, Hearing.{HasPhase, LeavesWhole, is_in_phase, is_out_phase}}
-pub use bus_books.{Knowing.{Knows}, Reactions.{IsOver}, Rows.{IsRowIn, RowKind, crosses, reading_in, still, strikes}}
-pub use bus_books.{Rows.{turns}, Traces.{Books, Ends, GoesOn, IsAimedAt, IsReadyFor, RowOf, apart as row_apart, begins}}
-pub use bus_books.{Traces.{ends as row_ends, goes_on, under_reset}, WrongParity.{is_left_as_due, is_left_by}}
+use Rattle.book_laws.proofs as book_laws_proofs
+pub use book_laws_proofs.{Carried.Facts.{process_id}, Common.InConnection.{InConnection, in_connection, same_phase_is}}
+pub use book_laws_proofs.{Common.Lookups.{id_is, self_id}, Items.{Facts.{aims_are}, Ready.{reselects_by, selects_for}}}
+pub use book_laws_proofs.{Messages.Rules.{end_keeps, row_keeps}, Reactions.{answers_next, answers_own, leaves_by}}
+pub use book_laws_proofs.{Reactions.{messages_some}, Traces.{books_are, books_on}}
+use Rattle.book_laws.specs as book_laws
+pub use book_laws.{Carrying.{SendsOwn}, Giving.{Gives}, Hearing.{HasPhase, LeavesWhole, is_in_phase, is_out_phase}}
+pub use book_laws.{Knowing.{Knows}, Reactions.{IsOver}, Rows.{IsRowIn, RowKind, crosses, reading_in, still, strikes}}
+pub use book_laws.{Rows.{turns}, Traces.{Books, Ends, GoesOn, IsAimedAt, IsReadyFor, RowOf, apart as row_apart, begins}}
+pub use book_laws.{Traces.{ends as row_ends, goes_on, under_reset}, WrongParity.{is_left_as_due, is_left_by}}
 use Rattle.link_laws.specs.bus_laws.proofs as bus_laws_proofs
 pub use bus_laws_proofs.Lines.{Apart.{KeepsAll, change_plain, still_keeps}, Ids.{is_call}, Rows.{drives_other}}
 pub use bus_laws_proofs.{Lines.Rows.{drives_own, fault_change, stage_is}, Resets.Rows.{off_at}}

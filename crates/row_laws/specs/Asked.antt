@@ -19,8 +19,8 @@ use Rattle.bus_due.specs.Defs.{target_def_of}
 use Rattle.bus_due.specs.bus_dialogue.specs.declared.exchange.Task.{Task}
 use Rattle.bus_due.specs.bus_dialogue.specs.Arrivals.{policy_of}
 use Rattle.bus_due.specs.bus_dialogue.specs.DataRuns.{run_at}
-use Rattle.bus_books.specs.Hearing.{is_in_phase, is_out_phase}
-use Rattle.bus_books.specs.Knowing.{NamesServed}
+use Rattle.book_laws.specs.Hearing.{is_in_phase, is_out_phase}
+use Rattle.book_laws.specs.Knowing.{NamesServed}
 use Rattle.link_laws.specs.Books.{has_whole_command}
 use Rattle.bus_due.specs.bus_dialogue.specs.declared.exchange.Phase.TheVariants as phases
 

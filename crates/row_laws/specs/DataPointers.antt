@@ -31,9 +31,9 @@ use Rattle.bus_due.specs.Wants.{ready_of}
 use Rattle.bus_due.specs.LastingState.{progress_in}
 use Rattle.bus_due.specs.RunState.{RunState, bus_of, carried_here}
 use Rattle.bus_due.specs.Tasks.{size_of, blocks_in}
-use Rattle.bus_books.specs.Giving.{OnMessages}
-use Rattle.bus_books.specs.Knowing.{IsNoName}
-use Rattle.bus_books.specs.Accounts.{policy_for}
+use Rattle.book_laws.specs.Giving.{OnMessages}
+use Rattle.book_laws.specs.Knowing.{IsNoName}
+use Rattle.book_laws.specs.Accounts.{policy_for}
 use Rattle.bus_due.specs.msg_grammar.specs.declared.message.MsgIn.TheVariants as to_initiator
 use Rattle.bus_due.specs.scenario.specs.declared.value.Policy.TheVariants as policies
 use Rattle.bus_due.specs.bus_dialogue.specs.declared.exchange.Cause.TheVariants as causes

@@ -3,7 +3,7 @@
 use Rattle.std.specs.Prelude.{Bool, List, None, Option, Some, false, is_none, length, not, true, ℕ, ⊤, ◌&&◌, ◌<◌, ◌||◌}
 use Rattle.std.specs.Prelude.{◌≡◌, ◌⊎◌}
 use Rattle.bus_due.specs.bus_base.specs.declared.ProcId.{ProcId}
-use Rattle.bus_books.specs.Giving.{OnMessages}
+use Rattle.book_laws.specs.Giving.{OnMessages}
 use Rattle.bus_due.specs.bus_dialogue.specs.Exchange.{bytes_of_messages}
 use Rattle.bus_due.specs.bus_dialogue.specs.declared.exchange.Messages.{Messages}
 use Rattle.bus_due.specs.bus_dialogue.specs.declared.exchange.Next.{Next}

@@ -12,7 +12,7 @@ pub mod HeardPlaces
 pub mod Attendance
 pub mod WriteFacts
 -- Handed on to the crates above that list this one and not these.
-pub use Rattle.bus_books
+pub use Rattle.book_laws
 pub use Rattle.link_laws.specs.bus_laws
 pub use Rattle.link_laws
 pub use Rattle.scsi_device

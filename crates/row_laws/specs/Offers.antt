@@ -26,7 +26,7 @@ use Rattle.bus_due.specs.bus_dialogue.specs.declared.exchange.Said.{Said}
 use Rattle.bus_due.specs.bus_dialogue.specs.Exchange.{Speech, Exchange, one_message}
 use Rattle.bus_due.specs.RunState.{RunState, bus_of}
 use Rattle.bus_due.specs.RunSteps.{run_state}
-use Rattle.bus_books.specs.Giving.{OnMessages}
+use Rattle.book_laws.specs.Giving.{OnMessages}
 use Rattle.row_laws.specs.ItemTalks.{awaits}
 use Rattle.bus_due.specs.msg_grammar.specs.declared.message.MsgIn.TheVariants as to_initiator
 use Rattle.bus_due.specs.msg_grammar.specs.declared.message.MsgOut.TheVariants as to_target

@@ -26,7 +26,7 @@ use Rattle.bus_due.specs.scenario.specs.Value.{ScenarioValue}
 use Rattle.bus_due.specs.bus_story.specs.Items.{process, has_item}
 use Rattle.bus_due.specs.RunState.{RunState, bus_of, process_served}
 use Rattle.bus_due.specs.RunSteps.{run_state}
-use Rattle.bus_books.specs.Accounts.{is_served_by}
+use Rattle.book_laws.specs.Accounts.{is_served_by}
 use Rattle.row_laws.specs.ItemTalks.{is_complete_in}
 use Rattle.bus_due.specs.msg_grammar.specs.declared.message.MsgIn.TheVariants as to_initiator
 use Rattle.bus_due.specs.bus_dialogue.specs.declared.exchange.Cause.TheVariants as causes

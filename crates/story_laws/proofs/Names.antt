@@ -141,28 +141,28 @@ use Rattle.row_laws.specs.scsi_device.specs as scsi_device
 pub use scsi_device.Heard.{Instructions, block_after, instructions, instructions_after, instructions_on}
 pub use scsi_device.Heard.{instructions_with, is_command_phase, is_message, is_opening, is_opening_in, is_selected}
 pub use scsi_device.{Heard.{no_instructions}, Lines.{AreUnits}, Writes.{is_data_in, is_data_out}}
-use Rattle.row_laws.specs.bus_books.proofs as bus_books_proofs
-pub use bus_books_proofs.Carried.{Areas.{split_at, takes_byte}, Blocks.{counts_on, may_follow, none_or_all}}
-pub use bus_books_proofs.Carried.{Commands.{block_follows, block_own, own_of}, Facts.{process_id}}
-pub use bus_books_proofs.Common.InConnection.{InConnection, SamePhase, dialogue_by, in_connection, reading_is}
-pub use bus_books_proofs.Common.{InConnection.{same_phase_is}, Lists.{understood_append}, Lookups.{id_is, put_other}}
-pub use bus_books_proofs.{Common.Lookups.{put_own, self_id}, Given.{Heard.{heard_next}, Leavings.{IsOfOthers}}}
-pub use bus_books_proofs.Given.{Leavings.{left_messages}, Messages.{first_requests}, Rows.{answered_same}}
-pub use bus_books_proofs.Given.Rows.{byte_messages, counted, few_messages, in_io, in_same, not_both, requests_rise}
-pub use bus_books_proofs.{Given.Rows.{requests_stay}, Items.Facts.{aims_are}, Known.Rows.{from_nameless, link_after}}
-pub use bus_books_proofs.{Known.Rows.{nameless_item, others_nameless}, Reactions.{answers_own, command_over}}
-pub use bus_books_proofs.{Reactions.{messages_some, out_over}, Said.Crossings.{says_byte, says_more}}
-pub use bus_books_proofs.Said.{First.{process_unit}, Leavings.{opening_named}, Messages.{reads_at, reads_end}}
-pub use bus_books_proofs.Said.Rows.{asking, heard_byte, opening_exchange, out_same, struck}
-use Rattle.row_laws.specs.bus_books.specs as bus_books
-pub use bus_books.{Carrying.{CarriesOwn}, Giving.{AreGiven, Gives, GivesNext, OnMessage, OnMessages}}
-pub use bus_books.{Hearing.{HasPhase, LeavesWhole, is_in_phase, is_out_phase}, Items.{AimsAreItems, IsItem, is_process}}
-pub use bus_books.{Knowing.{IsNoName, Knows, NamesServed}, Listening.{Understanding, form_messages, half_after}}
-pub use bus_books.{Listening.{nothing_understood, understood, understood_byte}, Reactions.{IsOver}, Rows.{IsFirstRow}}
-pub use bus_books.{Rows.{IsRowIn, RowKind, crosses, reading_in, still, strikes, turns}, Speaking.{AreWordsFor}}
-pub use bus_books.Speaking.{AreWordsHeard, IsSpeaking, SaysNext, Speaks, answers, refuses, rejects_data, rejects_status}
-pub use bus_books.Traces.{Begins, Books, GoesOn, RowOf, apart as row_apart, begins, goes_on, under_reset}
-pub use bus_books.WrongParity.{is_complaining, is_complaint, is_left, is_refusing, is_struck_phase, is_true_complaint}
+use Rattle.row_laws.specs.book_laws.proofs as book_laws_proofs
+pub use book_laws_proofs.Carried.{Areas.{split_at, takes_byte}, Blocks.{counts_on, may_follow, none_or_all}}
+pub use book_laws_proofs.Carried.{Commands.{block_follows, block_own, own_of}, Facts.{process_id}}
+pub use book_laws_proofs.Common.InConnection.{InConnection, SamePhase, dialogue_by, in_connection, reading_is}
+pub use book_laws_proofs.Common.{InConnection.{same_phase_is}, Lists.{understood_append}, Lookups.{id_is, put_other}}
+pub use book_laws_proofs.{Common.Lookups.{put_own, self_id}, Given.{Heard.{heard_next}, Leavings.{IsOfOthers}}}
+pub use book_laws_proofs.Given.{Leavings.{left_messages}, Messages.{first_requests}, Rows.{answered_same}}
+pub use book_laws_proofs.Given.Rows.{byte_messages, counted, few_messages, in_io, in_same, not_both, requests_rise}
+pub use book_laws_proofs.{Given.Rows.{requests_stay}, Items.Facts.{aims_are}, Known.Rows.{from_nameless, link_after}}
+pub use book_laws_proofs.{Known.Rows.{nameless_item, others_nameless}, Reactions.{answers_own, command_over}}
+pub use book_laws_proofs.{Reactions.{messages_some, out_over}, Said.Crossings.{says_byte, says_more}}
+pub use book_laws_proofs.Said.{First.{process_unit}, Leavings.{opening_named}, Messages.{reads_at, reads_end}}
+pub use book_laws_proofs.Said.Rows.{asking, heard_byte, opening_exchange, out_same, struck}
+use Rattle.row_laws.specs.book_laws.specs as book_laws
+pub use book_laws.{Carrying.{CarriesOwn}, Giving.{AreGiven, Gives, GivesNext, OnMessage, OnMessages}}
+pub use book_laws.{Hearing.{HasPhase, LeavesWhole, is_in_phase, is_out_phase}, Items.{AimsAreItems, IsItem, is_process}}
+pub use book_laws.{Knowing.{IsNoName, Knows, NamesServed}, Listening.{Understanding, form_messages, half_after}}
+pub use book_laws.{Listening.{nothing_understood, understood, understood_byte}, Reactions.{IsOver}, Rows.{IsFirstRow}}
+pub use book_laws.{Rows.{IsRowIn, RowKind, crosses, reading_in, still, strikes, turns}, Speaking.{AreWordsFor}}
+pub use book_laws.Speaking.{AreWordsHeard, IsSpeaking, SaysNext, Speaks, answers, refuses, rejects_data, rejects_status}
+pub use book_laws.Traces.{Begins, Books, GoesOn, RowOf, apart as row_apart, begins, goes_on, under_reset}
+pub use book_laws.WrongParity.{is_complaining, is_complaint, is_left, is_refusing, is_struck_phase, is_true_complaint}
 use Rattle.row_laws.specs.bus_laws.proofs as bus_laws_proofs
 pub use bus_laws_proofs.Lines.{Apart.{change_plain, free_by, nothing_shown, on_free}, Rows.{drives_other, drives_own}}
 pub use bus_laws_proofs.{Lines.Rows.{fault_change}, Stages.{Facts.{least_is}, Next.{from_stage}}}

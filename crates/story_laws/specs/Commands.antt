@@ -30,7 +30,7 @@ use Rattle.bus_due.specs.bus_dialogue.specs.NextPhase.{phase_of}
 use Rattle.bus_due.specs.bus_dialogue.specs.Words.{parity_error, answer_bytes}
 use Rattle.bus_due.specs.RunState.{RunState, bus_of, process_here, carried_here}
 use Rattle.bus_due.specs.RunSteps.{run_state}
-use Rattle.row_laws.specs.bus_books.specs.Items.{IsItem}
+use Rattle.row_laws.specs.book_laws.specs.Items.{IsItem}
 use Rattle.row_laws.specs.link_laws.specs.Books.{has_whole_command}
 use Rattle.bus_due.specs.msg_grammar.specs.declared.message.MsgIn.TheVariants as to_initiator
 use Rattle.bus_due.specs.bus_dialogue.specs.declared.exchange.Cause.TheVariants as causes

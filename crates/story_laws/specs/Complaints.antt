@@ -14,7 +14,7 @@ use Rattle.bus_due.specs.bus_dialogue.specs.NextPhase.{phase_of}
 use Rattle.bus_due.specs.bus_dialogue.specs.Words.{answer_bytes}
 use Rattle.bus_due.specs.RunState.{RunState, bus_of}
 use Rattle.bus_due.specs.RunSteps.{run_state}
-use Rattle.row_laws.specs.bus_books.specs.WrongParity.{is_refusing, is_struck_phase}
+use Rattle.row_laws.specs.book_laws.specs.WrongParity.{is_refusing, is_struck_phase}
 use Rattle.bus_due.specs.bus_dialogue.specs.declared.exchange.Cause.TheVariants as causes
 use Rattle.bus_due.specs.bus_dialogue.specs.declared.exchange.Phase.TheVariants as phases
 

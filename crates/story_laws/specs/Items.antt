@@ -9,7 +9,7 @@ use Rattle.bus_due.specs.bus_story.specs.TraceHistory.{aim_of}
 use Rattle.bus_due.specs.bus_dialogue.specs.NextPhase.{phase_of}
 use Rattle.bus_due.specs.LastingState.{ProcessProgress, progress_in}
 use Rattle.bus_due.specs.RunState.{RunState, bus_of, item_of}
-use Rattle.row_laws.specs.bus_books.specs.Hearing.{is_in_phase}
+use Rattle.row_laws.specs.book_laws.specs.Hearing.{is_in_phase}
 
 -- A selection begins a connection for an item of its initiator that was neither sent nor given up.
 pub record IsFresh (k : RunState) (n : Connection) : Type 0 where

@@ -19,7 +19,7 @@ use Rattle.bus_due.specs.bus_dialogue.specs.Exchange.{one_message, two_messages,
 use Rattle.bus_due.specs.bus_dialogue.specs.NextPhase.{phase_of}
 use Rattle.bus_due.specs.RunState.{RunState, bus_of}
 use Rattle.bus_due.specs.RunSteps.{run_state}
-use Rattle.row_laws.specs.bus_books.specs.Giving.{OnMessages}
+use Rattle.row_laws.specs.book_laws.specs.Giving.{OnMessages}
 use Rattle.row_laws.specs.Tells.{IsClosing}
 use Rattle.row_laws.specs.ItemTalks.{frees_bus}
 use Rattle.row_laws.specs.DataPointers.{IsPlainIn}

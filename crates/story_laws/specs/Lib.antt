@@ -13,7 +13,7 @@ pub mod RowAttendance
 pub mod RunsWhole
 -- Handed on to the crates above that list this one and not these.
 pub use Rattle.row_laws.specs.scsi_device
-pub use Rattle.row_laws.specs.bus_books
+pub use Rattle.row_laws.specs.book_laws
 pub use Rattle.row_laws.specs.bus_laws
 pub use Rattle.row_laws.specs.link_laws
 pub use Rattle.row_laws

@@ -22,8 +22,8 @@ use Rattle.bus_due.specs.bus_dialogue.specs.Words.{naming_messages, tag_named}
 use Rattle.bus_due.specs.RunState.{RunState, bus_of}
 use Rattle.bus_due.specs.RunSteps.{run_state}
 use Rattle.bus_due.specs.Wants.{ready_of}
-use Rattle.row_laws.specs.bus_books.specs.Giving.{OnMessages}
-use Rattle.row_laws.specs.bus_books.specs.Knowing.{IsNoName}
+use Rattle.row_laws.specs.book_laws.specs.Giving.{OnMessages}
+use Rattle.row_laws.specs.book_laws.specs.Knowing.{IsNoName}
 use Rattle.bus_due.specs.bus_dialogue.specs.declared.exchange.Cause.TheVariants as causes
 use Rattle.bus_due.specs.bus_dialogue.specs.declared.exchange.Next.TheVariants as nexts
 

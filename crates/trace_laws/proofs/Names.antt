@@ -148,20 +148,20 @@ pub use target_units_proofs.{Rooms.{by_line, lines_always, lines_start, sends}, 
 pub use target_units_proofs.{Starts.{start_settled}, UnitTimes.{running_is}}
 use Rattle.target_units.specs as target_units
 pub use target_units.Rooms.{AreOfLines, IsOfLine}
-use Rattle.story_laws.specs.bus_books.proofs as bus_books_proofs
-pub use bus_books_proofs.Carried.{Commands.{block_own, process_own}, Facts.{process_id}}
-pub use bus_books_proofs.Common.InConnection.{InConnection, SamePhase, dialogue_by, in_connection, reading_is}
-pub use bus_books_proofs.Common.{InConnection.{same_phase_is}, Lookups.{id_is, put_other, put_own, self_id}}
-pub use bus_books_proofs.{Faith.{same_self as process_same}, Given.{Heard.{heard_next}, Rows.{few_messages, in_io}}}
-pub use bus_books_proofs.{Given.Rows.{in_same, requests_stay}, Items.{Facts.{aims_are}, Ready.{or_ready}}}
-pub use bus_books_proofs.{Reactions.{command_over, out_over}, Said.Leavings.{opening_named}, Traces.{trace_faithful}}
-use Rattle.story_laws.specs.bus_books.specs as bus_books
-pub use bus_books.{Accounts.{is_served_by, policy_for}, FullQueues.{is_refusal}, Giving.{AreGiven, Gives, OnMessage}}
-pub use bus_books.{Giving.{OnMessages}, Hearing.{HasPhase, LeavesWhole, is_in_phase, is_out_phase}, Items.{IsItem}}
-pub use bus_books.{Items.{is_abort, is_process}, Knowing.{Knows}, Reactions.{IsOver}, Rows.{IsFirstRow, IsRowIn}}
-pub use bus_books.{Rows.{RowKind, crosses, reading_in, still, strikes, turns}, Speaking.{AreWordsFor, Speaks, answers}}
-pub use bus_books.Traces.{AreRowsOf, Begins, Books, Ends, GoesOn, IsReadyFor, RowOf, apart, begins, ends, goes_on}
-pub use bus_books.{Traces.{under_reset}, WrongParity.{complains_truly, is_struck_phase, left_as_due}}
+use Rattle.story_laws.specs.book_laws.proofs as book_laws_proofs
+pub use book_laws_proofs.Carried.{Commands.{block_own, process_own}, Facts.{process_id}}
+pub use book_laws_proofs.Common.InConnection.{InConnection, SamePhase, dialogue_by, in_connection, reading_is}
+pub use book_laws_proofs.Common.{InConnection.{same_phase_is}, Lookups.{id_is, put_other, put_own, self_id}}
+pub use book_laws_proofs.{Faith.{same_self as process_same}, Given.{Heard.{heard_next}, Rows.{few_messages, in_io}}}
+pub use book_laws_proofs.{Given.Rows.{in_same, requests_stay}, Items.{Facts.{aims_are}, Ready.{or_ready}}}
+pub use book_laws_proofs.{Reactions.{command_over, out_over}, Said.Leavings.{opening_named}, Traces.{trace_faithful}}
+use Rattle.story_laws.specs.book_laws.specs as book_laws
+pub use book_laws.{Accounts.{is_served_by, policy_for}, FullQueues.{is_refusal}, Giving.{AreGiven, Gives, OnMessage}}
+pub use book_laws.{Giving.{OnMessages}, Hearing.{HasPhase, LeavesWhole, is_in_phase, is_out_phase}, Items.{IsItem}}
+pub use book_laws.{Items.{is_abort, is_process}, Knowing.{Knows}, Reactions.{IsOver}, Rows.{IsFirstRow, IsRowIn}}
+pub use book_laws.{Rows.{RowKind, crosses, reading_in, still, strikes, turns}, Speaking.{AreWordsFor, Speaks, answers}}
+pub use book_laws.Traces.{AreRowsOf, Begins, Books, Ends, GoesOn, IsReadyFor, RowOf, apart, begins, ends, goes_on}
+pub use book_laws.{Traces.{under_reset}, WrongParity.{complains_truly, is_struck_phase, left_as_due}}
 use Rattle.story_laws.specs.bus_laws.proofs as bus_laws_proofs
 pub use bus_laws_proofs.Lines.{Apart.{change_plain}, Rows.{drives_other, drives_own, fault_change}}
 pub use bus_laws_proofs.Resets.{Dues.{due_calm, due_holding, due_there, one_of, own_reset_is}, Rows.{off_at}}

@@ -9,7 +9,7 @@ pub mod RunsLeft
 -- Handed on to the crates above that list this one and not these.
 pub use Rattle.target_units
 pub use Rattle.story_laws.specs.scsi_device
-pub use Rattle.story_laws.specs.bus_books
+pub use Rattle.story_laws.specs.book_laws
 pub use Rattle.story_laws.specs.bus_laws
 pub use Rattle.story_laws.specs.link_laws
 pub use Rattle.story_laws.specs.row_laws

@@ -11,7 +11,7 @@ use Rattle.bus_due.specs.LastingState.{progress_in}
 use Rattle.bus_due.specs.RunState.{array_of}
 use Rattle.bus_due.specs.RunSteps.{run_state}
 use Rattle.bus_due.specs.Tasks.{blocks_in}
-use Rattle.story_laws.specs.bus_books.specs.Accounts.{policy_for}
+use Rattle.story_laws.specs.book_laws.specs.Accounts.{policy_for}
 use Rattle.story_laws.specs.RunFacts.{IsWriter}
 
 -- In how many runs its data are moved, if any are.

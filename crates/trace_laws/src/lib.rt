@@ -1,7 +1,7 @@
 //! Laws of prompt traces: what the two ends of a connection drive is what they are due to drive, until the byte
 //! crosses; and so what crosses is what was to be said.
 //!
-//! `bus_books` asks of each row what the lines hold, and `link_laws` what the bytes say; here both are proved together,
+//! `book_laws` asks of each row what the lines hold, and `link_laws` what the bytes say; here both are proved together,
 //! row by row, of the traces in which each row is the first that is due, and with them what devices know and rows tell.
 //! There is no code here but for laws: each is the contract of a function that does nothing.
 #![tactic(auto)]

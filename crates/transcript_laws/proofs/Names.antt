@@ -97,22 +97,22 @@ use Rattle.progress_laws.specs.scsi_device.proofs as scsi_device_proofs
 pub use scsi_device_proofs.{FitLines.{obeys_fits, units_are}, PhaseLines.{command_is}}
 use Rattle.progress_laws.specs.scsi_device.specs as scsi_device
 pub use scsi_device.{Heard.{is_command_phase}, Lines.{AreUnits}}
-use Rattle.progress_laws.specs.bus_books.proofs as bus_books_proofs
-pub use bus_books_proofs.Carried.{Areas.{with_command_byte}, Blocks.{same_self}, Facts.{process_id}}
-pub use bus_books_proofs.Common.InConnection.{InConnection, SamePhase, in_connection, reading_is, same_phase_is}
-pub use bus_books_proofs.{Common.Lookups.{id_is, put_other, put_own, self_id}, Given.Heard.{heard_next}}
-pub use bus_books_proofs.Given.{Leavings.{left_messages}, Messages.{in_is_known, in_is_whole}, Rows.{byte_messages}}
-pub use bus_books_proofs.{Given.Rows.{counted, few_messages, in_io, not_both}, Items.Facts.{aims_are}}
-pub use bus_books_proofs.{Known.Rows.{from_nameless, link_after, nameless_item, others_nameless}, RowTies.{item_if_is}}
-pub use bus_books_proofs.Said.{Crossings.{says_byte, says_more}, Messages.{nil_is}}
-use Rattle.progress_laws.specs.bus_books.specs as bus_books
-pub use bus_books.{Accounts.{is_open_in}, Giving.{AreGiven, Gives, OnMessage, OnMessages}, Hearing.{LeavesWhole}}
-pub use bus_books.{Hearing.{is_in_phase, is_out_phase}, Items.{IsItem, is_process}, Knowing.{IsNoName, Knows}}
-pub use bus_books.Listening.{Understanding, form_messages, half_after, nothing_understood, understood, understood_byte}
-pub use bus_books.{RowTests.{same_item_if}, Rows.{IsRowIn, RowKind, crosses, reading_in, still, strikes, turns}}
-pub use bus_books.Speaking.{AreWordsFor, AreWordsHeard, IsAboutToSpeak, IsSpeaking, Speaks, answers, opens, refuses}
-pub use bus_books.{Speaking.{rejects_data, rejects_status}, Tests.{is_selected}, Traces.{Begins, IsReadyFor, RowOf}}
-pub use bus_books.Traces.{begins}
+use Rattle.progress_laws.specs.book_laws.proofs as book_laws_proofs
+pub use book_laws_proofs.Carried.{Areas.{with_command_byte}, Blocks.{same_self}, Facts.{process_id}}
+pub use book_laws_proofs.Common.InConnection.{InConnection, SamePhase, in_connection, reading_is, same_phase_is}
+pub use book_laws_proofs.{Common.Lookups.{id_is, put_other, put_own, self_id}, Given.Heard.{heard_next}}
+pub use book_laws_proofs.Given.{Leavings.{left_messages}, Messages.{in_is_known, in_is_whole}, Rows.{byte_messages}}
+pub use book_laws_proofs.{Given.Rows.{counted, few_messages, in_io, not_both}, Items.Facts.{aims_are}}
+pub use book_laws_proofs.{Known.Rows.{from_nameless, link_after, nameless_item, others_nameless}, RowTies.{item_if_is}}
+pub use book_laws_proofs.Said.{Crossings.{says_byte, says_more}, Messages.{nil_is}}
+use Rattle.progress_laws.specs.book_laws.specs as book_laws
+pub use book_laws.{Accounts.{is_open_in}, Giving.{AreGiven, Gives, OnMessage, OnMessages}, Hearing.{LeavesWhole}}
+pub use book_laws.{Hearing.{is_in_phase, is_out_phase}, Items.{IsItem, is_process}, Knowing.{IsNoName, Knows}}
+pub use book_laws.Listening.{Understanding, form_messages, half_after, nothing_understood, understood, understood_byte}
+pub use book_laws.{RowTests.{same_item_if}, Rows.{IsRowIn, RowKind, crosses, reading_in, still, strikes, turns}}
+pub use book_laws.Speaking.{AreWordsFor, AreWordsHeard, IsAboutToSpeak, IsSpeaking, Speaks, answers, opens, refuses}
+pub use book_laws.{Speaking.{rejects_data, rejects_status}, Tests.{is_selected}, Traces.{Begins, IsReadyFor, RowOf}}
+pub use book_laws.Traces.{begins}
 use Rattle.progress_laws.specs.bus_laws.proofs as bus_laws_proofs
 pub use bus_laws_proofs.{Lines.{Apart.{change_plain}, Rows.{fault_change}}, Stages.Facts.{least_is}}
 use Rattle.progress_laws.specs.bus_laws.specs as bus_laws

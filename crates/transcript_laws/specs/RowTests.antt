@@ -27,8 +27,8 @@ use Rattle.bus_due.specs.bus_story.specs.Right.{same_bytes}
 use Rattle.bus_due.specs.bus_story.specs.Story.{Story, by_reset, story_with_ends}
 use Rattle.bus_due.specs.bus_story.specs.TraceHistory.{aim_of, story, story_after, is_parity_error}
 use Rattle.bus_due.specs.Telling.{same_kind}
-use Rattle.progress_laws.specs.bus_books.specs.Accounts.{is_open_in}
-use Rattle.progress_laws.specs.bus_books.specs.RowTests.{same_item_if}
+use Rattle.progress_laws.specs.book_laws.specs.Accounts.{is_open_in}
+use Rattle.progress_laws.specs.book_laws.specs.RowTests.{same_item_if}
 use Rattle.bus_transcript.specs.declared.part.Incoming.{Incoming}
 use Rattle.bus_transcript.specs.declared.part.Incoming.TheVariants.{Broken}
 use Rattle.bus_transcript.specs.declared.part.Part.{Part}

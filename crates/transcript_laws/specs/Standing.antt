@@ -13,7 +13,7 @@ use Rattle.bus_due.specs.bus_story.specs.Items.{Item, process, abort, has_item}
 use Rattle.bus_due.specs.bus_story.specs.Links.{Link}
 use Rattle.bus_due.specs.bus_story.specs.Story.{Story}
 use Rattle.bus_due.specs.bus_story.specs.TraceHistory.{story}
-use Rattle.progress_laws.specs.bus_books.specs.Accounts.{is_open_in}
+use Rattle.progress_laws.specs.book_laws.specs.Accounts.{is_open_in}
 use Rattle.bus_transcript.specs.Events.{names_begun}
 use Rattle.bus_transcript.specs.Opened.{OpenedValue}
 use Rattle.bus_transcript.specs.Processes.{same_nexus}

@@ -7,7 +7,7 @@ use proofs.Names.{Event, ProcId, command_of, ScenarioValue, array_after, array_s
 use proofs.Names.{process_of, accept_step, accept_step_at, event_step, process_count, queue_step, settled_array_if}
 use proofs.Names.{with_guest, Array, UnitState, unit_state_at, with_unit, finds_full_queue, finds_full_queue_if}
 use proofs.Names.{none_some, arrive_by_room, arrives_by_room}
-use Rattle.progress_laws.specs.bus_books.specs.FullQueues.{is_full}
+use Rattle.progress_laws.specs.book_laws.specs.FullQueues.{is_full}
 
 -- What the array refuses (refusals_have_causes of the books).
 abbrev pub AreRefusals : Type 0

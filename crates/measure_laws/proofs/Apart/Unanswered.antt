@@ -16,7 +16,7 @@ use proofs.{Names.{is_in_data, resets_left, measure, again_if, way_left, for_fau
 use proofs.Apart.{Future.{ApartParts, commands_by, future_by, future_is, future_was}, Senses.{checked_there}}
 use proofs.Apart.Tries.{aborts_le, aborts_pay, commands_le, commands_pay, gives_up_at, sent_if, try_sent}
 use proofs.Resets.Faults.{resets_calm}
-use Rattle.progress_laws.specs.bus_books.specs.Items.{is_abort}
+use Rattle.progress_laws.specs.book_laws.specs.Items.{is_abort}
 
 -- ---- who is there
 

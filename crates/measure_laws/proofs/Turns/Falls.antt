@@ -18,7 +18,7 @@ use proofs.Names.{struck_left, under_way, has_next_byte, for_byte, for_phase, fo
 use proofs.{Connections.BeginFalls.{calm_resets, few_under_way}, Lines.Futures.{future_falls, open_of}}
 use proofs.{Lines.Lowers.{lowers_same}, Phases.Still.{shape}, Turns.Table.{left_in, left_of, left_to}}
 use proofs.Words.Lengths.{few_messages, few_words}
-use Rattle.progress_laws.specs.bus_books.specs.Rows as rows
+use Rattle.progress_laws.specs.book_laws.specs.Rows as rows
 
 -- A row of a connection that turns to another phase, RST being false before it.
 pub record TurnRow (s : ScenarioValue) (p : List Row) (row : Row) (n : Connection) (c : Change) : Type 0 where

@@ -11,7 +11,7 @@ use proofs.Names.{is_struck_phase, is_out_next, IsAttended, attended_for, is_att
 use proofs.Names.{disconnects, is_disconnect, phases_in, phases_left, reselection_if, struck_left, for_phase}
 use proofs.Names.{for_reselection, for_byte}
 use Rattle.measure_laws.specs.Turns.{after_answer}
-use Rattle.progress_laws.specs.bus_books.specs.Rows as rows
+use Rattle.progress_laws.specs.book_laws.specs.Rows as rows
 
 -- ---- the table
 

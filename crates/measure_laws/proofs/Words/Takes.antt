@@ -8,7 +8,7 @@ use proofs.Names.{ScenarioValue, Obeys, Process, process_of, phase_of, has_whole
 use proofs.Names.{run_state, task_if, task_of, follows_block, EndLines, offering_with, Shaking, ends, commands_are}
 use proofs.{Names.{same_process, served_process, StandsIn, TakesBlock, pulsed_as, whole}, Balances.Facts.{all_answered}}
 use proofs.Words.Commands.{taken}
-use Rattle.progress_laws.specs.bus_books.proofs.Carried.Commands.{own_of}
+use Rattle.progress_laws.specs.book_laws.proofs.Carried.Commands.{own_of}
 
 -- A block that is as long as its group says has at most ten bytes.
 abbrev group_of : Bool → Bool → Option ℕ

@@ -7,7 +7,7 @@ use proofs.Names.{Process, command_at, process_by, process_if, process_of, sense
 use proofs.Names.{Item, aim_of, Ready, AreOfDevices, run_state, abort_target, initiator_if, ready_of, target_if}
 use proofs.Names.{target_of, abort_fits, command_fits, seats_are, units_are, FitsBus, aims_are, reselects_by, IsItem}
 use proofs.{Names.{is_process, IsReadyFor, callee_at, own_units}, Quiet.Apart.{IsBound}}
-use Rattle.trace_laws.specs.bus_books.specs.Items.{is_abort}
+use Rattle.trace_laws.specs.book_laws.specs.Items.{is_abort}
 
 -- ---- the two ends of a process
 

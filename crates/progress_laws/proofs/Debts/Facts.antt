@@ -17,7 +17,7 @@ use proofs.Debts.{Events.{AllPay, IsNew, Paid, events_pay, new_debt, paid_ends},
 use proofs.Debts.{Next.{senses_same}, Rows.{quiet_row, reset_row}, Steps.{is_checked, is_not_over, same_debt}}
 use proofs.{Debts.Steps.{same_debts}, Outcomes.{Answered.{is_told, sense_left}, Facts.{place_array}}}
 use proofs.Owed.{Events.{OfCommand, of_command}, Rows.{changed, owed_next, owed_start}}
-use Rattle.trace_laws.specs.bus_books.specs.Traces.{apart}
+use Rattle.trace_laws.specs.book_laws.specs.Traces.{apart}
 
 -- ---- as a connection begins no sense is owed to the initiator of its command at its unit
 

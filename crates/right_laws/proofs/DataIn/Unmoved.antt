@@ -11,7 +11,7 @@ use proofs.Names.{RowOf, apart, begins, goes_on, under_reset, change_plain, leas
 use proofs.Names.{told_with, items_fresh, CommandFacts, StandsIn, Instructed, InstructedFacts, KnownIn, IsFresh}
 use proofs.{Names.{LinesOf, lines_of, served_id, known_before, NoneAtArrival}, Given.Bytes.{moved_stays}}
 use proofs.{Given.Crossings.{data_phase}, Ran.{Crossings.{here_goes, known_served}, Facts.{Known, apart_of}}}
-use Rattle.trace_laws.specs.bus_books.specs.Traces.{ends}
+use Rattle.trace_laws.specs.book_laws.specs.Traces.{ends}
 
 abbrev pub IsUnmovedServed : ScenarioValue → List Row → Type 0
 IsUnmovedServed s rows = (n : Connection) (p : Process) → connection rows ≡ Some n → (bus rows).rst ≡ false
@@ -140,7 +140,7 @@ none_at_arrival s p row prompt h told commands was l id link item calm stands tu
     own = h.places.of_scenario id served
 
     same : own.0.id ≡ id
-    same = Rattle.trace_laws.specs.bus_books.proofs.Carried.Facts.process_id s id own.0 own.1
+    same = Rattle.trace_laws.specs.book_laws.proofs.Carried.Facts.process_id s id own.0 own.1
 
     phase : phase_of (bus_of k) ≡ Phase.Command
     phase = command_phase (bus_of k)

@@ -47,7 +47,7 @@ turns_to c e f =
     by_bool (changes_phase c)
     (λ z. z)
     (λ z.
-    let s = Rattle.trace_laws.specs.bus_books.proofs.Common.InConnection.same_phase_is c z in
+    let s = Rattle.trace_laws.specs.book_laws.proofs.Common.InConnection.same_phase_is c z in
     wrong (sym f ∙ (λ i. not (s.msg i) && not (s.cd i) && s.io i) ∙ e))
 
 -- It is entered from MESSAGE IN, which counts nothing.

@@ -4,7 +4,7 @@ use proofs.Names.{ℕ, ◌≡◌, Bool, true, not, ◌&&◌, ◌||◌, ◌∙◌
 use proofs.Names.{all_three, Event, ProcId, ScenarioValue, array_after, reply_in, reply_of, Reply, process_of, Array}
 use proofs.Names.{CarriedBytes, carried_of, same_bytes, has_run, moved_bytes, carried_by, is_carried, all_carried}
 use proofs.Names.{RunState, array_of, by_bool, by_option, OnEvents, HasRun, RanBooks, HasEnded, IsEnded}
-use Rattle.trace_laws.specs.bus_books.proofs.Carried.Blocks.{same_self}
+use Rattle.trace_laws.specs.book_laws.proofs.Carried.Blocks.{same_self}
 
 pub same_is : (xs ys : List ℕ) → xs ≡ ys → same_bytes xs ys ≡ true
 same_is xs ys e = ap (λ (z : List ℕ). same_bytes z ys) e ∙ same_self ys

@@ -8,7 +8,7 @@ use proofs.Names.{Row, Change, Connection, ScenarioValue, Process, process_of, A
 use proofs.Names.{process, Link, phase_of, Phase, RunState, bus_of, process_item, process_served, process_id, Knows}
 use proofs.Names.{GoesOn, RowOf, apart as row_apart, begins, goes_on, under_reset, Books, none_some, no_byte}
 use proofs.{Names.{IsUntouched, HasPlaces, PlacedIf, PlacedIn}, Ran.Shown.{IsHere}}
-use Rattle.trace_laws.specs.bus_books.specs.Traces.{ends}
+use Rattle.trace_laws.specs.book_laws.specs.Traces.{ends}
 
 -- ---- a row of a connection
 

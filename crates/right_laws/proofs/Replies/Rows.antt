@@ -17,7 +17,7 @@ use proofs.{Names.{OnOpen}, Ran.{Crossings.{GoesSo, here_goes, known_served}, Fa
 use proofs.Ran.{Facts.{steps_of, then_is}, Open.{none_guests}, Shown.{IsAnswer, IsEnding, IsHere, ShownAs, row_runs}}
 use proofs.{Ran.Shown.{row_shown}, Replies.{Facts.{IsCurrent, answer_here, run_replies, run_same}, Queues.{CleanFacts}}}
 use proofs.Replies.{Queues.{IsCleanUnit, IsNoSense, SenselessFacts, moved_of}, Stays.{end_same}}
-use Rattle.trace_laws.specs.bus_books.specs.Traces.{ends}
+use Rattle.trace_laws.specs.book_laws.specs.Traces.{ends}
 use Rattle.right_laws.specs.GivenPointers.{StaysSo}
 use Rattle.bus_due.specs.disk_array.specs.Steps
 use Rattle.trace_laws.specs.row_laws.proofs.Events.Queued

@@ -70,7 +70,7 @@ run_seat seat after id from senses e = go (guest_at seat.guests id) refl e
 
         replied : new.current ≡ Some (record r { reply = Some done.reply })
         replied = (λ i. Steps.current_with_reply (er i) r.process.id done.reply)
-            ∙ (λ i. if Rattle.trace_laws.specs.bus_books.proofs.Common.Lookups.self_id r.process.id i
+            ∙ (λ i. if Rattle.trace_laws.specs.book_laws.proofs.Common.Lookups.self_id r.process.id i
             then Some (record r { reply = Some done.reply }) else Some r)
 
         there : current_of (settled_seat (Seats.seat_with_execution seat r.process done)).unit

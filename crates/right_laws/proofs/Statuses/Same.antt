@@ -80,7 +80,7 @@ status_lines b e = go b.msg b.cd b.io refl refl refl (ap (λ (p : Phase). is_sta
 pub freeing : (l : Link) (m : Messages) (next : Next) (count : ℕ) → LastGiven l m next count
     → m ≡ one_message MsgIn.CommandComplete → frees_bus next ≡ true
 freeing l m next count (still_stays f all last) e =
-    absurd (no_end ((subst (λ (x : Messages). Rattle.trace_laws.specs.bus_books.specs.Giving.OnMessages
+    absurd (no_end ((subst (λ (x : Messages). Rattle.trace_laws.specs.book_laws.specs.Giving.OnMessages
     (λ y. Rattle.bus_due.specs.bus_story.specs.Links.last_in y ≡ Rattle.bus_due.specs.bus_story.specs.Links.plain) x) e
     all).0))
   where

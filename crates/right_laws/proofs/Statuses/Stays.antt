@@ -246,7 +246,7 @@ talk_crosses s p row n id dev h ef ep er talk =
             given = (h.given.known.was.books.gives n r.connection_is g.calm).in_message_in gives.2 bus_here
 
             half : k.story.bus_state.dialogue.half ≡ []
-            half = given.half_is ∙ ap (Rattle.trace_laws.specs.bus_books.specs.Listening.half_after [])
+            half = given.half_is ∙ ap (Rattle.trace_laws.specs.book_laws.specs.Listening.half_after [])
                 (empty_front given.before (sym zero ∙ given.count_is))
 
             byte : c.after.data_bits % 256 ≡ slice_index_or (bytes_of_messages (one_message MsgIn.RestorePointers)) 0 0

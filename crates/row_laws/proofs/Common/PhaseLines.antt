@@ -3,7 +3,7 @@ use Rattle.row_laws.proofs
 use proofs.Names.{◌≡◌, Bool, true, false, not, ◌&&◌, Option, Some, refl, ap, if◌then◌else◌, and_first, wrong', LineSet}
 use proofs.Names.{is_command, is_data, is_message_in, is_message_out, is_status_phase, phase_of, Phase, is_message}
 use proofs.Names.{is_data_in}
-pub use Rattle.bus_books.proofs.Faith.{out_lines}
+pub use Rattle.book_laws.proofs.Faith.{out_lines}
 pub use Rattle.scsi_device.proofs.PhaseLines.{in_phase, out_phase}
 
 abbrev pub is_status : Phase → Bool

@@ -16,7 +16,7 @@ use proofs.{Common.Tests.{none_both}, Lines.Driven.{message_at, message_follows,
 use proofs.Lines.{InPhase.{offered_in, follows_in_message}, Kept.{EndRow, turn, row_in, initiator_end, target_end}}
 use proofs.Lines.{Rows.{LinkRow, is_pulsed, is_unasked}, Steps.{IsDriven, HasValues}, Turns.{freed_bus}}
 use proofs.Lines.Turns.{freed_connection}
-use Rattle.bus_books.specs.Reactions.{IsAnswered}
+use Rattle.book_laws.specs.Reactions.{IsAnswered}
 use Rattle.bus_due.specs.bus_reactions.specs.declared.ends.Offering.{Offering}
 use Rattle.row_laws.proofs.Lines.Rows as rows
 

@@ -27,7 +27,7 @@ use proofs.Lines.{Driven.{AfterDriven, goes_on, frees, odd_byte, driven_in}, Fir
 use proofs.Lines.{First.{made_is, quiet_sel}, Plans.{is_in_message, Planned, planned_on, data_goes_on, writes_of}}
 use proofs.Lines.{Plans.{is_directed, writes_out, writes_there}, Rows.{is_unasked, link_row}, Steps.{IsDriven}}
 use proofs.Lines.{Steps.{HasValues, driven_by, after_row}, UnderRst.{carries_none, ends_apart, quiet_at_end}}
-use Rattle.bus_books.specs.Traces.{Begins}
+use Rattle.book_laws.specs.Traces.{Begins}
 
 pub record Stood (s : ScenarioValue) (p : List Row) : Type 0 where
   pub standing : Standing s p

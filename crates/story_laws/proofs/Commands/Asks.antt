@@ -10,7 +10,7 @@ use proofs.Names.{none_some, ConnectionRow, connection_row, stage_of_connection,
 use proofs.Names.{Stood, NextStood, link_phase, OfferFacts, CommandBooks, CommandFacts, AnswersAtCommand, CommandAsked}
 use proofs.Commands.{Facts.{pointer_in, command_kept}, First.{first_keeps}, Next.{goes_keeps}}
 use proofs.Offers.Facts.{answers_at_command}
-use Rattle.row_laws.specs.bus_books.specs.Traces.{ends}
+use Rattle.row_laws.specs.book_laws.specs.Traces.{ends}
 
 pub command_start : (s : ScenarioValue) → CommandFacts s []
 command_start s = record { books = λ n e calm. none_some n e }

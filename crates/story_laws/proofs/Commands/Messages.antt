@@ -14,7 +14,7 @@ use proofs.Names.{AnswersBefore, opens_answered, restores_refused, restores_answ
 use proofs.Commands.Blocks.{block_in, undo_of, block_after, out_block, said_block, out_undo, in_block, restores_block}
 use proofs.Commands.{Blocks.{in_undo}, Counts.{byte_out_counts, byte_out_now, byte_in_counts, byte_in_first}}
 use proofs.Commands.{Counts.{byte_in_now, byte_in_restores, answer_said, error_said}, Turns.{serves_as}}
-use Rattle.row_laws.specs.bus_books.specs.Speaking.{opens}
+use Rattle.row_laws.specs.book_laws.specs.Speaking.{opens}
 
 -- ---- what the story tells of the byte
 

@@ -15,7 +15,7 @@ use proofs.Commands.{Crossings.{small_block, Crosses, cross_keeps}, Facts.{serve
 use proofs.Commands.{Leavings.{HasHeardAll, IsLeft}, Stays.{WaitsThen, stay_keeps}, Turns.{same_blocks, Turns}}
 use proofs.Commands.{Turns.{turn_keeps}, Waits.{WaitsBy, FollowsBy, unwhole, waits_on}}
 use proofs.Complaints.Turns.{attended_for}
-use Rattle.row_laws.specs.bus_books.specs.Items.{is_abort}
+use Rattle.row_laws.specs.book_laws.specs.Items.{is_abort}
 
 -- ---- MESSAGE OUT is left
 

@@ -19,7 +19,7 @@ use proofs.Commands.{Blocks.{takes_block}, Facts.{same_process, served_process},
 use proofs.Commands.{Messages.{tells}, Next.{out_unstruck, turns_as}, Stays.{phase_same}, Turns.{same_blocks}}
 use proofs.Instructed.{Leavings.{LeavesTold, leaves_told}, Steps.{SameStage, byte_told, same_told, told_byte}}
 use proofs.Instructed.Steps.{told_none, told_with, with_byte}
-use Rattle.row_laws.specs.bus_books.specs.Traces.{ends}
+use Rattle.row_laws.specs.book_laws.specs.Traces.{ends}
 
 -- ---- the first row
 

@@ -14,7 +14,7 @@ use proofs.Names.{quiet_sel, under_rst, reset_rule, line_off, quiet_at_end, driv
 use proofs.Names.{IsQueued, ItemFacts, is_sense_item, awaits, is_plain, talk_of, TalksBy, last_well}
 use proofs.{Items.{Rows.{open_over}, Sent.{only_are}, Steps.{start_queued}}, Talks.InMoves.{in_move}}
 use proofs.Talks.{Steps.{plain_last}, Turns.{taken_leaves}}
-use Rattle.row_laws.specs.bus_books.specs.Traces.{ends}
+use Rattle.row_laws.specs.book_laws.specs.Traces.{ends}
 
 -- ---- the start
 

@@ -16,7 +16,7 @@ use proofs.Names.{callee_at, by_answer, ConnectionRow, GoingRow, connection_row,
 use proofs.Names.{goes_now, row_kind, made_is, under_rst, quiet_sel, Stood, NextStood, link_connection, link_phase}
 use proofs.{Names.{quiet_at_end, IsServed, of_process, of_abort, ServedFacts}, Items.Facts.{beginning}}
 use proofs.{Tells.Rows.{is_heard}, Undone.Answers.{plan_stays, same_phase_of}}
-use Rattle.row_laws.specs.bus_books.specs.Items.{is_abort}
+use Rattle.row_laws.specs.book_laws.specs.Items.{is_abort}
 
 -- ---- whom an initiator has called
 

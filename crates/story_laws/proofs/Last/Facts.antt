@@ -21,7 +21,7 @@ use proofs.Names.{link_phase, IsPlainIn, frees_bus, IsServed, of_process, of_abo
 use proofs.{Names.{LastTalk, LastTalks, AbortTalks, LastFacts}, Items.Row.{LinkAfter, says, hears, link_crossed}}
 use proofs.{Items.Row.{link_still}, Last.{Bytes.{first_given}, Rows.{LastRow, still_last, cross_out, cross_in}}}
 use proofs.{Last.{Rows.{cross_else}, Turns.{turn_last}}, Talks.OutMessages.{next_half}, Undone.Facts.{in_of}}
-use Rattle.row_laws.specs.bus_books.specs.Speaking.{opens}
+use Rattle.row_laws.specs.book_laws.specs.Speaking.{opens}
 use Rattle.story_laws.specs.LastTalks.{stays}
 use Rattle.story_laws.proofs.Items.Row as rows
 

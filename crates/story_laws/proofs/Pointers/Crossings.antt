@@ -18,7 +18,7 @@ use proofs.Pointers.{Messages.{data_rejects, status_rejects}, Rows.{Meets, Goes,
 use proofs.Pointers.Rows.{into_of, out_of, byte_of, told_served, block_crosses, run_crosses, read_crosses, quiet_row}
 use proofs.Pointers.{Rows.{in_lines, io_out_false, io_in_false, is_block_phase}, Steps.{message_byte, out_story}}
 use proofs.Pointers.{Steps.{in_known, in_unknown, in_none, in_found, in_link}, Stories.{SamePointers}}
-use Rattle.row_laws.specs.bus_books.proofs.Reactions.{out_lines}
+use Rattle.row_laws.specs.book_laws.proofs.Reactions.{out_lines}
 
 -- ---- what is heard
 

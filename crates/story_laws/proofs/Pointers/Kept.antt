@@ -124,7 +124,7 @@ unnamed_as policy l c d x y b w start s e eb ep h = record {
   undone = h.undone;
   undisturbed = h.undisturbed;
   next = e.next ∙ h.next;
-  plain = subst (λ (m : Messages). Rattle.row_laws.specs.bus_books.specs.Giving.OnMessages
+  plain = subst (λ (m : Messages). Rattle.row_laws.specs.book_laws.specs.Giving.OnMessages
       Rattle.row_laws.specs.DataPointers.IsPlainIn m) (sym e.messages) h.plain;
   saved = saved_as d.moved c.moved start s.moved h.saved;
   phase = go h.phase;

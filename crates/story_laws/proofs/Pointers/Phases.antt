@@ -14,7 +14,7 @@ use proofs.{Instructed.Turns.{out_is}, Pointers.{Kept.{SamePlan, counted_same, p
 use proofs.Pointers.{Leavings.{is_attended, leaves_enter, refusal_leads}, Messages.{refusal_offers}, Rows.{Meets}}
 use proofs.Pointers.{Rows.{in_lines, phase_by}, Turns.{refused_from, TurnsBy, start_after, Turned, turned_is}}
 use proofs.{Talks.Turns.{from_named}, Tells.Facts.{front_length}}
-use Rattle.row_laws.specs.bus_books.proofs.Reactions.{out_lines}
+use Rattle.row_laws.specs.book_laws.proofs.Reactions.{out_lines}
 
 -- ---- lines
 

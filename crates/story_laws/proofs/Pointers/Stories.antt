@@ -41,7 +41,7 @@ put_same all c id x e h = by_bool (same_id x id)
     (same_self (carried_of all id)))
   where
     id_is : (a b : ProcId) → same_id a b ≡ true → a ≡ b
-    id_is = Rattle.row_laws.specs.bus_books.proofs.Common.Lookups.id_is
+    id_is = Rattle.row_laws.specs.book_laws.proofs.Common.Lookups.id_is
 
 -- ---- events
 

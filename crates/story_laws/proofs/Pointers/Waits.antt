@@ -236,14 +236,14 @@ restored_same : (b : Story) (item : Option Item) (id : ProcId)
 restored_same b None id = saved_self (carried_of b.carried id)
 restored_same b (Some (abort n)) id = saved_self (carried_of b.carried id)
 restored_same b (Some (process x)) id = by_bool (same_id x id)
-    (λ e. let is : x ≡ id = Rattle.row_laws.specs.bus_books.proofs.Common.Lookups.id_is x id e in
+    (λ e. let is : x ≡ id = Rattle.row_laws.specs.book_laws.proofs.Common.Lookups.id_is x id e in
     subst (λ (y : CarriedBytes). SameSaved y (carried_of b.carried id))
-    (sym (Rattle.row_laws.specs.bus_books.proofs.Common.Lookups.put_own b.carried
+    (sym (Rattle.row_laws.specs.book_laws.proofs.Common.Lookups.put_own b.carried
     (with_restored_pointers (carried_of b.carried x)) id (carried_id b.carried x ∙ is)))
     (subst (λ (y : ProcId). SameSaved (with_restored_pointers (carried_of b.carried x)) (carried_of b.carried y)) is
     (record { saved = refl; marked = λ z. z })))
     (λ e. subst (λ (y : CarriedBytes). SameSaved y (carried_of b.carried id))
-    (sym (Rattle.row_laws.specs.bus_books.proofs.Common.Lookups.put_other b.carried
+    (sym (Rattle.row_laws.specs.book_laws.proofs.Common.Lookups.put_other b.carried
     (with_restored_pointers (carried_of b.carried x)) x id (carried_id b.carried x) e))
     (saved_self (carried_of b.carried id)))
 

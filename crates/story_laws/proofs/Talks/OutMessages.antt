@@ -9,7 +9,7 @@ use proofs.Names.{process_opening, host_answer, Cause, Plan, host_of, AreUnits, 
 use proofs.Names.{process_unit, reads_at, reads_end, Understanding, nothing_understood, understood, understood_byte}
 use proofs.Names.{form_messages, AreWordsHeard, AreWordsFor, refuses, answers, rejects_data, rejects_status, IsSpeaking}
 use proofs.Names.{by_option}
-use Rattle.row_laws.specs.bus_books.specs.Speaking.{opens}
+use Rattle.row_laws.specs.book_laws.specs.Speaking.{opens}
 
 abbrev pub NoAbort : Option MsgOut → Type 0
 NoAbort None = ⊤

@@ -10,7 +10,7 @@ use proofs.Names.{is_naming, parity_error, detected_error, answer_bytes, Cause, 
 use proofs.Names.{is_unit, is_kind, is_process_named, is_abort_named, is_item_named, RunState, bus_of, same_events}
 use proofs.Names.{same_kind, Understanding, nothing_understood, understood, AreWordsFor, refuses, answers, rejects_data}
 use proofs.Names.{rejects_status, Speaks, none_some, by_option, IsClosing, LastAsked, LastIn}
-use Rattle.row_laws.specs.bus_books.specs.Speaking.{opens}
+use Rattle.row_laws.specs.book_laws.specs.Speaking.{opens}
 use Rattle.row_laws.specs.link_laws.proofs.LeavingWays as ways
 
 -- ---- a target that serves a process goes on but after the messages that end a connection
@@ -99,14 +99,14 @@ none_heard s k n id p speaks served of b out last named =
     go k.exchange.plan.cause refl w.words_for (w.heard.last last)
   where
     heard : (x : List ℕ) → k.exchange.speech.words ≡ x → (understood nothing_understood x).said.aborts ≡ None
-        → Rattle.row_laws.specs.bus_books.specs.Listening.understanding k.exchange.plan k.story.bus_state.dialogue
+        → Rattle.row_laws.specs.book_laws.specs.Listening.understanding k.exchange.plan k.story.bus_state.dialogue
         ≡ understood nothing_understood k.exchange.speech.words
         → k.exchange.plan.said.aborts ≡ None
     heard x e f g = ap (λ (u : Understanding). u.said.aborts) g
         ∙ ap (λ (y : List ℕ). (understood nothing_understood y).said.aborts) e ∙ f
 
     go : (cause : Cause) → k.exchange.plan.cause ≡ cause → AreWordsFor s n k.served k.exchange cause
-        → Rattle.row_laws.specs.bus_books.specs.Listening.understanding k.exchange.plan k.story.bus_state.dialogue
+        → Rattle.row_laws.specs.book_laws.specs.Listening.understanding k.exchange.plan k.story.bus_state.dialogue
         ≡ understood nothing_understood k.exchange.speech.words
         → k.exchange.plan.said.aborts ≡ None
     go _ c (opens e) g =

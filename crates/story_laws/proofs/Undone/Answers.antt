@@ -11,7 +11,7 @@ use proofs.Names.{same_phase_is, reading_is, IsRowIn, AreWordsFor, rejects_data,
 use proofs.Names.{row_apart, begins, goes_on, under_reset, Books, none_some, out_phase, by_bool, is_detected}
 use proofs.{Names.{UndoesSame, UndoFits, UndoAsked, UndoBy, UndoBooks, is_short}, Commands.Counts.{is_refusal}}
 use proofs.{Commands.Counts.{error_said}, Undone.Rows.{IsKeptInside, fits_on}}
-use Rattle.row_laws.specs.bus_books.specs.Traces.{ends}
+use Rattle.row_laws.specs.book_laws.specs.Traces.{ends}
 
 -- ---- in which phases MESSAGE PARITY ERROR may come
 

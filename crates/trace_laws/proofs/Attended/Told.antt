@@ -69,7 +69,7 @@ linked_told s p row n h = go h.facts
     change : (row_reading k.story.bus_state row).change ≡ change_of p row
     change = change_plain s row p h.devices h.below
 
-    here : Rattle.story_laws.specs.bus_books.specs.Reactions.IsOver s k n → begun p ≡ true
+    here : Rattle.story_laws.specs.book_laws.specs.Reactions.IsOver s k n → begun p ≡ true
         → (changes_phase (row_reading k.story.bus_state row).change ≡ true)
         ⊎ ((row_reading k.story.bus_state row).next ≡ None)
         → Here s k n knows.link

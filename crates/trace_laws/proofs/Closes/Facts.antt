@@ -31,7 +31,7 @@ pub last_one : (l : Link) (m : Messages) (next : Next) (count : ℕ) → LastGiv
     → m ≡ one_message MsgIn.CommandComplete → (count == 0) ≡ false → l.last ≡ complete
 unfolding has_second
 last_one l m next count (still_stays f all last) e some = no_end ((subst
-    (λ (x : Messages). Rattle.story_laws.specs.bus_books.specs.Giving.OnMessages (λ y. last_in y ≡ plain) x) e all).0)
+    (λ (x : Messages). Rattle.story_laws.specs.book_laws.specs.Giving.OnMessages (λ y. last_in y ≡ plain) x) e all).0)
 last_one l m next count (to_close f x one end zero last) e some = some_zero count some zero
 last_one l m next count (to_save f both at last) e some = wrong (ap has_second (sym both ∙ e))
 last_one l m next count (closed f ends full last told) e some = told.1 e

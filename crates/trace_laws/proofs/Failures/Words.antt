@@ -11,7 +11,7 @@ use proofs.Names.{is_detected, answer_said, LinkAfter, says, hears, link_crossed
 use proofs.{Names.{answers_stay, ClearOut, RefusesFailure, SaysFailure, FailsBy, FailTalk}, Failures.Bytes.{SameFail}}
 use proofs.Failures.{Bytes.{clear_as, row_carries, out_fails, out_clear}, Crossings.{quiet_same, same_words}}
 use proofs.Failures.{Rows.{SaysOf, says_on}, Steps.{FailRow}}
-use Rattle.story_laws.specs.bus_books.specs.Speaking.{refuses}
+use Rattle.story_laws.specs.book_laws.specs.Speaking.{refuses}
 use Rattle.story_laws.proofs.Commands.Counts.{is_refusal}
 use Rattle.story_laws.proofs.Undone.Answers.{detects}
 use Rattle.story_laws.proofs.Items.Row as rows

@@ -20,7 +20,7 @@ use proofs.Names.{Serves, StandsIn, TakesBlock, Instructed, InstructedFacts, Kno
 use proofs.{Names.{known, refused, said}, Heard.Turns.{heard_goes}}
 use Rattle.bus_due.specs.Faithful.{same_process}
 use Rattle.story_laws.specs.link_laws.specs.Phases.{ends}
-use Rattle.story_laws.specs.bus_books.proofs.Carried.Blocks.{same_self}
+use Rattle.story_laws.specs.book_laws.proofs.Carried.Blocks.{same_self}
 
 -- ---- the lines
 

@@ -18,7 +18,7 @@ use proofs.Names.{is_directed, writes_of, writes_there, policy_by, run_policy, r
 use proofs.Names.{PointersOf, ServedPointers, unnamed, named, IsServedAnew, OfferFacts, refuses_later, rst_over}
 use proofs.{Names.{MoreRuns, TurnsBy, IsWriter, RunsBy, RunFacts}, Runs.{Fits.{FitsRuns, fits_runs}, Parts.{RunsFit}}}
 use proofs.Runs.{Parts.{start_is, more_cut, more_runs}, Rows.{runs_first, runs_row, served_id}}
-use Rattle.story_laws.specs.bus_books.proofs.Reactions.{out_lines}
+use Rattle.story_laws.specs.book_laws.proofs.Reactions.{out_lines}
 
 -- ---- before any row
 

@@ -45,7 +45,7 @@ serves (Some (abort n)) id = another (λ x e. never x e)
     never : (x : ProcId) → (let o : Option Item = Some (abort n) in o) ≡ Some (process x) → same_id x id ≡ false
     never x e = absurd cc
 serves (Some (process y)) id = by_bool (same_id y id) (λ e. it
-    (ap (λ (z : ProcId). Some (process z)) (Rattle.story_laws.specs.bus_books.proofs.Common.Lookups.id_is y id e)))
+    (ap (λ (z : ProcId). Some (process z)) (Rattle.story_laws.specs.book_laws.proofs.Common.Lookups.id_is y id e)))
     (λ e. another (λ x f. ap (λ (z : ProcId). same_id z id) (sym (same x f)) ∙ e))
   where
     same : (x : ProcId) → (let o : Option Item = Some (process y) in o) ≡ Some (process x) → y ≡ x

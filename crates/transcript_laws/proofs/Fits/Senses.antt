@@ -14,7 +14,7 @@ use proofs.Names.{calm_before, next_free, opened, same_process, events_grow, in_
 use proofs.Names.{change_over, Whole, standing_next, whole, ends_open, known_served, NoEnds, Shown, completes, no_ends}
 use proofs.{Names.{row_shown, sense_left, changed}, Fits.Sent.{SentAfter, as_before, one_more, row_sends}}
 use Rattle.bus_due.specs.bus_trace.specs.declared.Row.{Row}
-use Rattle.progress_laws.specs.bus_books.specs.Traces.{apart, ends, goes_on, under_reset}
+use Rattle.progress_laws.specs.book_laws.specs.Traces.{apart, ends, goes_on, under_reset}
 
 abbrev is_checked : Sent → ℕ → Bool
 is_checked b n = list_any (λ k. k == n) b.checks

@@ -10,7 +10,7 @@ use proofs.Names.{RunState, run_state, run_state_after, id_is, aims_are, IsItem,
 use proofs.Names.{IsChecked, reset_senses, inside_sent, own_has, more_has, free_keeps, restored_sent, reset_over}
 use proofs.Names.{is_open_process, ends_all}
 use Rattle.bus_due.specs.disk_array.specs.Processes.{process_of}
-use Rattle.progress_laws.specs.bus_books.specs.Items.{is_abort}
+use Rattle.progress_laws.specs.book_laws.specs.Items.{is_abort}
 
 -- ---- what a row sends
 

@@ -9,8 +9,8 @@ use proofs.Names.{RunState, bus_of, run_state, reading_is, in_connection, SamePh
 use proofs.Names.{OpenedValue, with_part, with_in_if, with_said, with_crossing, with_fault, is_completion}
 use proofs.{Names.{with_still_row, phase_entered, phase_over, Completion, StatusPhase, Status}, Opened.Rows.{Going}}
 use proofs.{Opened.Rows.{RowMade, made_still, made_crossing, made_turn, Holds}, Parts.Lists.{over_keeps}}
-pub use Rattle.progress_laws.specs.bus_books.proofs.Given.Rows.{in_same}
-pub use Rattle.progress_laws.specs.bus_books.proofs.Said.Rows.{out_same}
+pub use Rattle.progress_laws.specs.book_laws.proofs.Given.Rows.{in_same}
+pub use Rattle.progress_laws.specs.book_laws.proofs.Said.Rows.{out_same}
 
 pub record OpenedBytes (k : RunState) (n : Connection) (o : OpenedValue) : Type 0 where
   pub connection_is : o.connection ≡ n

@@ -9,7 +9,7 @@ use proofs.Names.{IsItem, is_process, change_plain, least_is, none_some, plus_on
 use proofs.{Names.{more_has, Whole, whole}, Fits.Sent.{SentAfter, as_before, one_more, row_sends}}
 use proofs.Processes.Sent.{has_append}
 use Rattle.bus_due.specs.disk_array.specs.Processes.{Process, process_of}
-use Rattle.progress_laws.specs.bus_books.specs.Items.{is_abort}
+use Rattle.progress_laws.specs.book_laws.specs.Items.{is_abort}
 
 -- ---- lists without repetition
 

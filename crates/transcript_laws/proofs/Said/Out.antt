@@ -7,7 +7,7 @@ use proofs.Names.{is_parity_error, Exchange, offer_if, tag_bytes, abort_bytes, p
 use proofs.Names.{parity_error, host_answer, Cause, host_of, opening, AreUnits, AreWordsFor, opens, refuses, answers}
 use proofs.{Names.{rejects_data, rejects_status}, Said.Words.{said_of}}
 use Rattle.bus_due.specs.disk_array.specs.Processes.{Process, process_of}
-pub use Rattle.progress_laws.specs.bus_books.proofs.Said.First.{process_unit as unit_small}
+pub use Rattle.progress_laws.specs.book_laws.proofs.Said.First.{process_unit as unit_small}
 
 -- ---- one message after another
 

@@ -28,7 +28,7 @@ use Rattle.delivery_laws.specs.Endings.{AreExact, arrive_by_room}
 use Rattle.delivery_laws.specs.Openings.{AreAnsweredOffers, AreOfferReplies, AreOpenings}
 use Rattle.delivery_laws.specs.Recoveries.{AreRecoveries}
 use Rattle.delivery_laws.specs.Resets.{AreResets}
-use Rattle.delivery_laws.specs.bus_books.specs.WrongParity.{complains_truly}
+use Rattle.delivery_laws.specs.book_laws.specs.WrongParity.{complains_truly}
 use Rattle.bus_engine.proofs.Answered.{all_answered}
 use Rattle.bus_engine.proofs.Items.{all_reversed}
 use Rattle.bus_engine.proofs.running.run_in.Goals as goal

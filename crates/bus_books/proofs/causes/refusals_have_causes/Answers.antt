@@ -1,8 +1,0 @@
-use Rattle.bus_books.proofs.Replies.Refusals.{refused_exactly, refused_by_plan}
-use Rattle.bus_books.proofs.causes.refusals_have_causes.Goals as goal
-
-pub returns-clause-array : goal.returns-clause-array
-returns-clause-array c = λ s a id. refused_exactly s a id
-
-pub returns-clause-planned : goal.returns-clause-planned
-returns-clause-planned c = λ s k policy p e. refused_by_plan s k policy p e

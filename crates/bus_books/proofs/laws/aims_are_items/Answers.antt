@@ -1,6 +1,0 @@
-use Rattle.bus_books.proofs.Items.Facts.{aims_are}
-use Rattle.bus_books.proofs.laws.aims_are_items.Goals as goal
-
--- src/laws.rt
-pub returns : goal.returns
-returns c = λ s rows. aims_are s rows

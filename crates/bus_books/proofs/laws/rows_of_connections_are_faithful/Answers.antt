@@ -1,8 +1,0 @@
-use Rattle.bus_due.specs.RunSteps.{run_state}
-use Rattle.bus_books.proofs.Faith.{row_is_faithful}
-use Rattle.bus_books.proofs.laws.rows_of_connections_are_faithful.Goals as goal
-
--- src/laws.rt
-pub returns : goal.returns
-returns c = λ s rows row n units speaks knows carry lines stands sends runs leaves. row_is_faithful s
-    (run_state s rows) row n units speaks knows carry lines stands sends runs leaves
