@@ -160,12 +160,13 @@ pub use link_laws_proofs.Traces.{link_calm}
 use Rattle.progress_laws.specs.link_laws.specs as link_laws
 pub use link_laws.{Books.{KeepsBooksIn}, LinkStages.{AnyStage, linked}}
 use Rattle.progress_laws.specs.row_laws.proofs as row_laws_proofs
-pub use row_laws_proofs.Common.{Impossible.{none_some}, PhaseLines.{command_phase}, Tests.{plus_one}}
-pub use row_laws_proofs.Events.{Arriving.{no_guest, not_running}, Others.{executed, reply_at}, Replies.{accepted}}
-pub use row_laws_proofs.Events.{Replies.{refused, running_id, settles}, Units.{MayWait, StaysSo, each_settled}}
-pub use row_laws_proofs.Events.{Units.{events_all, unit_has}, Writers.{append_all, kept_all, without_all}}
-pub use row_laws_proofs.Lines.{Called.{IsDueCall, sel_of_call}, Connections.{connection_row}, Crossings.{RowFacts}}
-pub use row_laws_proofs.Lines.{Crossings.{ends_here, stays}, Joint.{NextStood, Stood}}
+pub use row_laws_proofs.Common.{Impossible.{none_some}, PhaseLines.{command_phase}, PlanWays.{plan_left}}
+pub use row_laws_proofs.{Common.Tests.{plus_one}, Events.{Arriving.{no_guest, not_running}, Others.{executed}}}
+pub use row_laws_proofs.Events.{Others.{reply_at}, Replies.{accepted, refused, running_id, settles}, Units.{MayWait}}
+pub use row_laws_proofs.Events.{Units.{StaysSo, each_settled, events_all, unit_has}, Writers.{append_all, kept_all}}
+pub use row_laws_proofs.{Events.Writers.{without_all}, Lines.Called.{IsDueCall, sel_of_call}}
+pub use row_laws_proofs.Lines.{Connections.{connection_row}, Crossings.{RowFacts, ends_here, stays}, Joint.{NextStood}}
+pub use row_laws_proofs.Lines.Joint.{Stood}
 use Rattle.progress_laws.specs.row_laws.specs as row_laws
 pub use row_laws.{DataPointers.{is_marked}, ItemFacts.{AllP, AreChecked, IsChecked, IsNext, IsQueued, Items, RunsP}}
 pub use row_laws.{ItemFacts.{UnitsP, is_abort, is_sense}, Places.{AnsweredOpen, Closes, IsAtRest, IsAway, IsTaken}}

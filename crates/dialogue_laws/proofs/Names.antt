@@ -118,11 +118,11 @@ pub use link_laws.LinkStages.{AnyStage, LinkStage, linked, when_offering, when_p
 pub use link_laws.{LinkStages.{when_shaking, when_turning}, Pulses.{run_count}}
 use Rattle.progress_laws.specs.row_laws.proofs as row_laws_proofs
 pub use row_laws_proofs.Common.{Impossible.{none_some}, PhaseLines.{data_in_lines, in_phase, not_message_in}}
-pub use row_laws_proofs.{Common.PhaseLines.{not_message_out, out_phase}, Lines.Attention.{lines_are}}
-pub use row_laws_proofs.Lines.Connections.{ConnectionRow, GoingRow, RowKindOf, begins_now, connection_row, goes_now}
-pub use row_laws_proofs.Lines.{Connections.{going_row, row_kind, stage_of_connection}, Crossings.{RowFacts, ends_here}}
-pub use row_laws_proofs.Lines.{Crossings.{stays}, Joint.{NextStood, link_connection, link_phase}, Kept.{turn}}
-pub use row_laws_proofs.Lines.{Rows.{LinkRow, is_unasked}, Turns.{freed_connection}}
+pub use row_laws_proofs.Common.{PhaseLines.{not_message_out, out_phase}, PlanWays.{plan_out}}
+pub use row_laws_proofs.Lines.{Attention.{lines_are}, Connections.{ConnectionRow, GoingRow, RowKindOf, begins_now}}
+pub use row_laws_proofs.Lines.Connections.{connection_row, goes_now, going_row, row_kind, stage_of_connection}
+pub use row_laws_proofs.Lines.{Crossings.{RowFacts, ends_here, stays}, Joint.{NextStood, link_connection, link_phase}}
+pub use row_laws_proofs.Lines.{Kept.{turn}, Rows.{LinkRow, is_unasked}, Turns.{freed_connection}}
 use Rattle.progress_laws.specs.row_laws.specs as row_laws
 pub use row_laws.{DataPointers.{is_marked}, ItemTalks.{awaits}, Places.{PlacedAsked, PlacedIf, PlacedIn}}
 pub use row_laws.Tells.{IsLeaving, IsServed, code_if, of_abort, of_process}

@@ -4,3 +4,4 @@ pub mod Impossible
 pub mod Tests
 pub mod PhaseLines
 pub mod EachLine
+pub mod PlanWays

@@ -3,12 +3,12 @@ use Rattle.delivery_laws.proofs
 use proofs.Names.{◌≡◌, Bool, true, false, not, ◌&&◌, ◌∙◌, List, ◌∷◌, ◌⊎◌, Option, Some, None, inl, inr, refl, sym, ap}
 use proofs.Names.{if◌then◌else◌, is_some, wrong, wrong', change_of, LineSet, changes_phase, is_message_out, connection}
 use proofs.Names.{connection_after, bus, Row, Agreement, Change, Connection, ScenarioValue, Obeys, TargetDef}
-use proofs.Names.{RowReading, row_reading, one_message, plan_anew, struck_plan, message_out_leaving, after_offer}
-use proofs.Names.{bus_free, leaving_by, message_in_entry, phase_leaving, phase_of, plan_after, plan_in_message_out}
-use proofs.Names.{plan_in_phase, plan_with_byte, reply_to, Cause, Hearing, Leaving, Next, Phase, Plan, run_state_plain}
-use proofs.Names.{target_def_of, IsPrompt, IsPlain, RunState, exchange_after, leaving_of, run_state, hearing_of}
-use proofs.Names.{leaving, serving_at, change_plain, least_is, none_some, not_out, whole, plan_at, IsLeaving}
-use proofs.{Names.{phase_after}, Recoveries.Rows.{leaves_as_due}}
+use proofs.Names.{RowReading, row_reading, one_message, struck_plan, message_out_leaving, after_offer, bus_free}
+use proofs.Names.{leaving_by, message_in_entry, phase_leaving, phase_of, plan_after, plan_in_phase, plan_with_byte}
+use proofs.Names.{reply_to, Cause, Hearing, Leaving, Next, Phase, Plan, run_state_plain, target_def_of, IsPrompt}
+use proofs.Names.{IsPlain, RunState, exchange_after, leaving_of, run_state, hearing_of, leaving, serving_at}
+use proofs.Names.{change_plain, least_is, none_some, plan_left, not_out, whole, plan_at, IsLeaving, phase_after}
+use proofs.Recoveries.Rows.{leaves_as_due}
 
 -- ---- where it goes, by the phase
 
@@ -36,8 +36,7 @@ planned_in : (w : Hearing) (l : Leaving) (p : Plan) → changes_phase w.change �
     → is_message_out w.change.after ≡ false → (plan_after w l p).messages ≡ l.messages
 planned_in w l p turns other = (λ i. (if turns i then plan_in_phase w l p else if w.crosses then plan_with_byte w p
     else if w.fault && not w.change.before.io then struck_plan p else p).messages)
-    ∙ (λ i. (if not (other i) then record (plan_anew p) { messages = l.messages; next = l.next }
-    else if w.begun then plan_in_message_out w p else plan_anew p).messages)
+    ∙ ap (λ (x : Plan). x.messages) (plan_left w l p other)
 
 pub planned_for : (s : ScenarioValue) (p : List Row) (row : Row) (n : Connection) → Obeys s
     → IsPrompt s (row ∷ p) → IsLeaving p row n → phase_after p row ≡ Some Phase.MessageIn

@@ -7,11 +7,11 @@ use proofs.Names.{LineSet, changes_phase, is_message_in, is_message_out, connect
 use proofs.Names.{receiver_in, bus, Row, Agreement, Change, Connection, ScenarioValue, Obeys, HostDef, RowReading}
 use proofs.Names.{row_reading, Exchange, plan_anew, speech_of, leaving_by, phase_leaving, phase_of, cause_after}
 use proofs.Names.{plan_in_message_out, words_after, answer_bytes, detected_error, parity_error, Hearing, Leaving, Phase}
-use proofs.Names.{run_state_plain, host_of, IsPrompt, IsPlain, RunState, bus_of, process_served, events_of_row}
+use proofs.Names.{Plan, run_state_plain, host_of, IsPrompt, IsPlain, RunState, bus_of, process_served, events_of_row}
 use proofs.Names.{leaving_of, progress_after, progress_by_leaving, run_state, hearing_of, leaving, serving_of}
 use proofs.Names.{events_of_ends, events_of_ends_in, initiator_events, is_true_telling, same_events, target_events}
 use proofs.Names.{InConnection, in_connection, reading_is, is_out_phase, IsOver, RowKind, crosses, reading_in, still}
-use proofs.Names.{strikes, turns, change_plain, least_is, none_some, out_phase, ConnectionRow, connection_row}
+use proofs.Names.{strikes, turns, change_plain, least_is, none_some, out_phase, plan_out, ConnectionRow, connection_row}
 use proofs.Names.{stage_of_connection, RowFacts, ends_here, stays, link_phase, IsLeaving, out_is, Whole, whole}
 use proofs.Names.{phase_if, present_phase}
 
@@ -212,8 +212,7 @@ phase_end s p row n o prompt w = by r.facts
             ≡ words_by (host_of s n.initiator) (bus_of k) k.handshakes.struck k.exchange.speech.asked)
         says e = (
           ap (λ (x : Exchange). x.plan.cause) i.exchange_is
-              ∙ (λ j. (if not (out j) then record (plan_anew k.exchange.plan) { messages = l.messages; next = l.next }
-              else if w.begun j then plan_in_message_out hearing k.exchange.plan else plan_anew k.exchange.plan).cause)
+              ∙ ap (λ (x : Plan). x.cause) (plan_out hearing l k.exchange.plan out w.begun)
               ∙ ap cause_after (sym g.row_is.bus_is),
           ap (λ (x : Exchange). x.speech.words) i.exchange_is ∙ (λ j. (if out j && w.begun j
               then speech_of k.exchange.speech (words_after (host_of s n.initiator) hearing k.exchange.speech.asked)

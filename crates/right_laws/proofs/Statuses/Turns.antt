@@ -11,10 +11,10 @@ use proofs.Names.{from_byte, message_bytes, Serving, phase_of, phase_leaving, le
 use proofs.Names.{plan_in_message_out, plan_in_phase, Cause, Leaving, Messages, Next, Phase, Plan, IsPlain, RunState}
 use proofs.Names.{bus_of, carried_here, run_state, run_state_after, serving_of, leaving, hearing_of, InConnection}
 use proofs.Names.{in_connection, OnMessage, LeavesWhole, Knows, IsOver, IsRowIn, reading_in, GoesOn, in_phase}
-use proofs.Names.{out_phase, out_lines, by_bool, stage_of_connection, link_phase, is_to_message_in, IsPlainIn}
-use proofs.Names.{frees_bus, PlacedIn, PlacedBefore, PlacedAsked, from_ends, stays_out, front_length, not_out}
-use proofs.Names.{LastFacts, LastGiven, still_stays, to_close, to_save, closed, LastBy, EndsWell, stays, closes, saves}
-use proofs.Names.{command_not_out, Load, load, HasOne, IsReady, StatusSays, StatusAsked, StatusBy}
+use proofs.Names.{out_phase, out_lines, plan_left, plan_out, by_bool, stage_of_connection, link_phase, is_to_message_in}
+use proofs.Names.{IsPlainIn, frees_bus, PlacedIn, PlacedBefore, PlacedAsked, from_ends, stays_out, front_length}
+use proofs.Names.{not_out, LastFacts, LastGiven, still_stays, to_close, to_save, closed, LastBy, EndsWell, stays}
+use proofs.Names.{closes, saves, command_not_out, Load, load, HasOne, IsReady, StatusSays, StatusAsked, StatusBy}
 use proofs.Ran.{Crossings.{IsPlaced, placed_here}, Facts.{undoes_of, here_is}, Undone.{loads_stay_in}}
 use proofs.Statuses.{Areas.{area_stays}, First.{status_follows}, Leavings.{is_ending, is_status_next, FromIn}}
 use proofs.Statuses.Leavings.{completes, repeats, restores, others, from_in, ToStatus, again, goes_on, gives_up}
@@ -256,15 +256,9 @@ talk_turns s p row n id h ef ep er lasts talk =
 
     in_out : phase_of c.after ≡ Phase.MessageOut → StatusBy d j.exchange.plan j.handshakes.requests Phase.MessageOut
     in_out e = by_bool k.exchange.begun (λ q. subst (λ (x : Plan). StatusAsked d x x.cause)
-        (sym (plan ∙ (λ z. if not (out z) then record (plan_anew k.exchange.plan) {
-          messages = (leaving s k n.target).messages;
-          next = (leaving s k n.target).next;
-        } else if q z then plan_in_message_out w k.exchange.plan else plan_anew k.exchange.plan))) (asked_of q out))
+        (sym (plan ∙ plan_out w (leaving s k n.target) k.exchange.plan out q)) (asked_of q out))
         (λ q. subst (λ (x : Plan). StatusAsked d x x.cause)
-        (sym (plan ∙ (λ z. if not (out z) then record (plan_anew k.exchange.plan) {
-          messages = (leaving s k n.target).messages;
-          next = (leaving s k n.target).next;
-        } else if q z then plan_in_message_out w k.exchange.plan else plan_anew k.exchange.plan)))
+        (sym (plan ∙ plan_out w (leaving s k n.target) k.exchange.plan out q))
         (subst (StatusAsked d (plan_anew k.exchange.plan))
         (sym ((h.given.known.was.books.speaks n r.connection_is g.calm).before_all q).cause_is) tt))
       where
@@ -284,11 +278,7 @@ talk_turns s p row n id h ef ep er lasts talk =
             let is : j.exchange.plan ≡ record (plan_anew k.exchange.plan) {
               messages = (leaving s k n.target).messages;
               next = (leaving s k n.target).next;
-            } = plan ∙ ap (λ (x : Bool). if not x then record (plan_anew k.exchange.plan) {
-              messages = (leaving s k n.target).messages;
-              next = (leaving s k n.target).next;
-            } else if k.exchange.begun then plan_in_message_out w k.exchange.plan else plan_anew k.exchange.plan)
-            (not_out c.after e) in (
+            } = plan ∙ plan_left w (leaving s k n.target) k.exchange.plan (not_out c.after e) in (
               ap (λ (x : Plan). x.messages) is ∙ ap (λ (x : Leaving). x.messages) (leaving_is q),
               ap (λ (x : Plan). x.next) is ∙ ap (λ (x : Leaving). x.next) (leaving_is q),
             )

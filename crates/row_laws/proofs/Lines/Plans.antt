@@ -10,7 +10,8 @@ use proofs.Names.{plan_with_byte, Cause, Hearing, Leaving, Messages, Phase, Plan
 use proofs.Names.{bus_of, process_item, process_served, run_state_after, serving_of, hearing_of, leaving, is_writing}
 use proofs.Names.{task_if, task_of, is_data_out, InConnection, in_connection, same_phase_is, Gives, is_in_phase}
 use proofs.Names.{HasPhase, LeavesWhole, is_out_phase, RowKind, still, strikes, crosses, turns, IsRowIn, reading_in}
-use proofs.{Common.{PhaseLines.{in_phase, is_data_phase}, Tests.{some_count}}, Lines.UndoneLeavings.{is_to_message_in}}
+use proofs.Common.{PhaseLines.{in_phase, is_data_phase}, PlanWays.{plan_by}, Tests.{some_count}}
+use proofs.Lines.UndoneLeavings.{is_to_message_in}
 use Rattle.link_laws.proofs.LeavingWays as ways
 
 abbrev pub is_in_message : Cause → Bool
@@ -271,10 +272,7 @@ planned_on s k row n c r phase gives selected leaves first whereto h = go r.kind
               next = (leaving s k n.target).next;
             } else if k.exchange.begun then plan_in_message_out w k.exchange.plan else plan_anew k.exchange.plan)
         says q e = ap (λ (x : Exchange). x.plan) i.exchange_is
-            ∙ ap (λ (z : Bool). if not z then record (plan_anew k.exchange.plan) {
-              messages = (leaving s k n.target).messages;
-              next = (leaving s k n.target).next;
-            } else if k.exchange.begun then plan_in_message_out w k.exchange.plan else plan_anew k.exchange.plan) e
+            ∙ plan_by w (leaving s k n.target) k.exchange.plan e refl
 
         out : k.exchange.begun ≡ true → is_in_message (plan_in_message_out w k.exchange.plan).cause ≡ true
             → is_some (plan_in_message_out w k.exchange.plan).messages.first ≡ true

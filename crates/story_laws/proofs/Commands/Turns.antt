@@ -9,8 +9,8 @@ use proofs.Names.{bytes_of_messages, from_byte, phase_of, leaving_by, cause_afte
 use proofs.Names.{words_after, parity_error, detected_error, answer_bytes, Cause, Hearing, Leaving, Messages, Next}
 use proofs.Names.{Phase, Plan, host_of, RunState, bus_of, carried_here, run_state_after, hearing_of, leaving}
 use proofs.Names.{serving_of, InConnection, in_connection, link_after, Gives, HasPhase, is_out_phase, IsRowIn}
-use proofs.Names.{reading_in, out_lines, in_phase, out_phase, IsNone, IsNoneOrAll, dialogue_of, block_count, Counts}
-use proofs.Names.{HasNoBlock, UndoesToNone, Serves, IsUntaken, IsBeforeCommand, GivesBefore, opens_given}
+use proofs.Names.{reading_in, out_lines, in_phase, out_phase, plan_by, IsNone, IsNoneOrAll, dialogue_of, block_count}
+use proofs.Names.{Counts, HasNoBlock, UndoesToNone, Serves, IsUntaken, IsBeforeCommand, GivesBefore, opens_given}
 use proofs.Names.{restores_given, AnswersBefore, opens_answered, restores_refused, restores_answered, TakesBlock}
 use proofs.Names.{RejectsOn, GivesFor, AnswersFor, SaysFor, StandsIn, ItemServed, CommandBooks}
 use proofs.Commands.{Blocks.{block_after, quiet_block, quiet_link}, Leavings.{IsReady, by_opening, by_restoring}}
@@ -302,8 +302,7 @@ turn_keeps s k row n c r phase gives ef ep er t h = record {
         → j.exchange.plan ≡ (if not q then record (plan_anew k.exchange.plan) { messages = l.messages; next = l.next }
         else if b then plan_in_message_out w k.exchange.plan else plan_anew k.exchange.plan)
     by_plan q e b f = plan
-        ∙ (λ z. if not (e z) then record (plan_anew k.exchange.plan) { messages = l.messages; next = l.next }
-        else if f z then plan_in_message_out w k.exchange.plan else plan_anew k.exchange.plan)
+        ∙ plan_by w l k.exchange.plan e f
 
     lead : k.exchange.begun ≡ true → LeadsTo s k n l.next l.messages (Some (phase_of c.after))
     lead b =

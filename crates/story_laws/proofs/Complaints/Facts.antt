@@ -6,19 +6,18 @@ use proofs.Names.{None, refl, sym, ap, subst, or_right, drop, if◌then◌else�
 use proofs.Names.{change_of, implies, rises, LineSet, same, changes_phase, is_message_out, connection, connection_after}
 use proofs.Names.{is_fault, receiver_in, bus, Row, Change, Connection, Handshakes, answered_if, asked_if, first_of}
 use proofs.Names.{handshakes, handshakes_after, is_struck, no_handshakes, Request, MsgIn, MsgOut, dialogue, is_of_other}
-use proofs.Names.{End, ScenarioValue, Obeys, row_reading, Exchange, Speech, plan_after_message, plan_anew}
-use proofs.Names.{speech_after_byte, speech_after_request, speech_of, struck_plan, begun, phase_of, cause_after}
-use proofs.Names.{plan_in_message_out, words_after, answer_bytes, detected_error, parity_error, Cause, Hearing, Phase}
-use proofs.Names.{Plan, host_of, IsLeast, due, IsPrompt, IsPlain, RunState, bus_of, run_state, run_state_after}
-use proofs.Names.{hearing_of, leaving, InConnection, SamePhase, in_connection, same_phase_is, HasPhase, is_out_phase}
-use proofs.Names.{IsRowIn, RowKind, reading_in, still, strikes, crosses, turns, GoesOn, is_refusing, is_struck_phase}
-use proofs.Names.{change_plain, least_is, BeginsConnection, by_selection, by_reselection, none_some, is_out_next}
-use proofs.Names.{by_bool, attention_row, ConnectionRow, GoingRow, RowKindOf, begins_now, connection_row, goes_now}
-use proofs.Names.{going_row, link_low, row_kind, stage_of_connection, IsFirst, NextStood, Stood, link_phase, Attention}
-use proofs.Names.{OfferFacts, offer_now, ComplaintFacts, ComplaintsBy, Refuses, any_struck}
-use proofs.{Commands.Stays.{phase_same}, Complaints.Rows.{On, Raised, newest, oldest, raised_row, requested}}
-use proofs.Complaints.{Rows.{was as before}, Turns.{IsAttended, attended_for, left_for_out}}
-use proofs.{Instructed.Turns.{out_is}, Pointers.Leavings.{is_attended}}
+use proofs.Names.{End, ScenarioValue, Obeys, row_reading, Exchange, Speech, plan_after_message, speech_after_byte}
+use proofs.Names.{speech_after_request, speech_of, struck_plan, begun, phase_of, cause_after, words_after, answer_bytes}
+use proofs.Names.{detected_error, parity_error, Cause, Hearing, Phase, Plan, host_of, IsLeast, due, IsPrompt, IsPlain}
+use proofs.Names.{RunState, bus_of, run_state, run_state_after, hearing_of, leaving, InConnection, SamePhase}
+use proofs.Names.{in_connection, same_phase_is, HasPhase, is_out_phase, IsRowIn, RowKind, reading_in, still, strikes}
+use proofs.Names.{crosses, turns, GoesOn, is_refusing, is_struck_phase, change_plain, least_is, BeginsConnection}
+use proofs.Names.{by_selection, by_reselection, none_some, is_out_next, plan_out, by_bool, attention_row, ConnectionRow}
+use proofs.Names.{GoingRow, RowKindOf, begins_now, connection_row, goes_now, going_row, link_low, row_kind}
+use proofs.Names.{stage_of_connection, IsFirst, NextStood, Stood, link_phase, Attention, OfferFacts, offer_now}
+use proofs.{Names.{ComplaintFacts, ComplaintsBy, Refuses, any_struck}, Commands.Stays.{phase_same}}
+use proofs.Complaints.{Rows.{On, Raised, newest, oldest, raised_row, requested, was as before}, Turns.{IsAttended}}
+use proofs.{Complaints.Turns.{attended_for, left_for_out}, Instructed.Turns.{out_is}, Pointers.Leavings.{is_attended}}
 
 -- ---- the newest request, and those that wait
 
@@ -322,11 +321,7 @@ turned s p row n c w ep er = record {
 
         cause : j.exchange.plan.cause ≡ cause_after c.before
         cause = ap (λ (x : Exchange). x.plan.cause) at.exchange_is
-            ∙ (λ z. (if not (out z) then record (plan_anew k.exchange.plan) {
-              messages = (leaving s k n.target).messages;
-              next = (leaving s k n.target).next;
-            } else if w.here.started z then plan_in_message_out here k.exchange.plan
-            else plan_anew k.exchange.plan).cause)
+            ∙ ap (λ (x : Plan). x.cause) (plan_out here (leaving s k n.target) k.exchange.plan out w.here.started)
 
         words : j.exchange.speech.words ≡ words_after (host_of s n.initiator) here k.exchange.speech.asked
         words = ap (λ (x : Exchange). x.speech.words) at.exchange_is ∙ (λ z. (if out z && w.here.started z
@@ -503,12 +498,8 @@ complaints_next s p row o prompt was nx offers facts x e calm b = by_kind (row_k
 
             cause : j.exchange.plan.cause ≡ Cause.Selected
             cause = ap (λ (y : Exchange). y.plan.cause) at.exchange_is
-                ∙ (λ z. (if not (out z) then record (plan_anew k.exchange.plan) {
-                  messages = (leaving s k x.target).messages;
-                  next = (leaving s k x.target).next;
-                } else if unbegun z
-                then plan_in_message_out (hearing_of k row (reading_in k.story.bus_state x c false)) k.exchange.plan
-                else plan_anew k.exchange.plan).cause)
+                ∙ ap (λ (x : Plan). x.cause) (plan_out (hearing_of k row (reading_in k.story.bus_state x c false))
+                (leaving s k x.target) k.exchange.plan out unbegun)
                 ∙ ((was.books.speaks x (was.plain.connection ∙ con)
                 (ap (λ (l : LineSet). l.rst) was.plain.bus ∙ quiet)).before_all unbegun).cause_is
 

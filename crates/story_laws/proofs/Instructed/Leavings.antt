@@ -8,11 +8,11 @@ use proofs.Names.{plan_in_message_out, parity_error, Cause, Hearing, Leaving, Ne
 use proofs.Names.{is_process_named, RunState, bus_of, carried_here, run_state, hearing_of, leaving, serving_of}
 use proofs.Names.{command_is, Instructions, instructions, instructions_on, instructions_with, is_command_phase}
 use proofs.Names.{is_opening, is_opening_in, InConnection, in_connection, HasPhase, is_out_phase, IsRowIn, reading_in}
-use proofs.Names.{out_phase, by_bool, AnswersFor, CommandBooks, SaysFor, Serves, StandsIn, KnownFor, KnownIn, Selected}
-use proofs.{Names.{Instructed}, Commands.{Leavings.{Leads, LeadsTo, leads}, Turns.{SameBlocks, Turns, same_blocks}}}
-use proofs.{Commands.Turns.{serves_as}, Instructed.{Known.{Fits, FitsPhase, fits, known_after}, Opening.{opens_at}}}
-use proofs.Instructed.{Steps.{told_with}, Turns.{block_turned, enters_known, known_turned, opening_turned, out_is}}
-use proofs.Instructed.Turns.{refused_known, told_before}
+use proofs.Names.{out_phase, plan_by, by_bool, AnswersFor, CommandBooks, SaysFor, Serves, StandsIn, KnownFor, KnownIn}
+use proofs.{Names.{Selected, Instructed}, Commands.{Leavings.{Leads, LeadsTo, leads}, Turns.{SameBlocks, Turns}}}
+use proofs.{Commands.Turns.{same_blocks, serves_as}, Instructed.Known.{Fits, FitsPhase, fits, known_after}}
+use proofs.Instructed.{Opening.{opens_at}, Steps.{told_with}, Turns.{block_turned, enters_known, known_turned}}
+use proofs.Instructed.Turns.{opening_turned, out_is, refused_known, told_before}
 use Rattle.row_laws.specs.scsi_device.specs.Heard.{is_name}
 
 -- ---- lines
@@ -101,8 +101,7 @@ leaves_told s p row n c r phase ef ep er t books h =
         → j.exchange.plan ≡ (if not q then record (plan_anew plan) { messages = l.messages; next = l.next }
         else if b then plan_in_message_out here plan else plan_anew plan)
     by_plan q e b f = ap (λ (x : Exchange). x.plan) at.exchange_is
-        ∙ (λ z. if not (e z) then record (plan_anew plan) { messages = l.messages; next = l.next }
-        else if f z then plan_in_message_out here plan else plan_anew plan)
+        ∙ plan_by here l plan e f
 
     before : is_command c.before ≡ is_command_phase (phase_of (bus_of k))
     before = ap is_command (sym r.bus_is) ∙ command_is (bus_of k)

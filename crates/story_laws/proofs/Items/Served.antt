@@ -5,17 +5,17 @@ use proofs.Names.{and_parts, same_Some, if◌then◌else◌, is_some, wrong, wro
 use proofs.Names.{LineSet, union, changes_phase, is_message_out, is_fault, call, connected, connected_of, connection}
 use proofs.Names.{connection_of, connection_after, receiver_in, bus, Row, Change, Connection, Call, Calling, only_rst}
 use proofs.Names.{ScenarioValue, Obeys, AbortDef, is_initiator, row_reading, message_out, abort_line_at, Item, abort}
-use proofs.Names.{aim_of, Exchange, plan_anew, Serving, phase_of, phase_leaving, leaving_by, bus_free, after_offer}
-use proofs.Names.{plan_in_message_out, Cause, Leaving, Phase, run_state_plain, is_unit, is_kind, is_item_named}
-use proofs.Names.{is_abort_named, IsPrompt, IsPlain, AreOfDevices, RunState, bus_of, run_state, run_state_after}
-use proofs.Names.{item_if, served_after, serving_of, leaving, hearing_of, ready_of, initiator_if, target_of}
-use proofs.Names.{abort_target, obeys_fits, units_are, AreUnits, InConnection, in_connection, aims_are, IsItem}
-use proofs.Names.{is_process, RowKind, still, strikes, crosses, turns, reading_in, Speaks, GoesOn, Begins, change_plain}
-use proofs.Names.{least_is, BusStage, AnyStage, apart, linked, none_some, out_phase, by_bool, IsDueCall, IsCalled}
-use proofs.Names.{callee_at, by_answer, ConnectionRow, GoingRow, connection_row, going_row, RowKindOf, begins_now}
-use proofs.Names.{goes_now, row_kind, made_is, under_rst, quiet_sel, Stood, NextStood, link_connection, link_phase}
-use proofs.{Names.{quiet_at_end, IsServed, of_process, of_abort, ServedFacts}, Items.Facts.{beginning}}
-use proofs.{Tells.Rows.{is_heard}, Undone.Answers.{plan_stays, same_phase_of}}
+use proofs.Names.{aim_of, Exchange, Serving, phase_of, phase_leaving, leaving_by, bus_free, after_offer, Cause, Leaving}
+use proofs.Names.{Phase, Plan, run_state_plain, is_unit, is_kind, is_item_named, is_abort_named, IsPrompt, IsPlain}
+use proofs.Names.{AreOfDevices, RunState, bus_of, run_state, run_state_after, item_if, served_after, serving_of}
+use proofs.Names.{leaving, hearing_of, ready_of, initiator_if, target_of, abort_target, obeys_fits, units_are, AreUnits}
+use proofs.Names.{InConnection, in_connection, aims_are, IsItem, is_process, RowKind, still, strikes, crosses, turns}
+use proofs.Names.{reading_in, Speaks, GoesOn, Begins, change_plain, least_is, BusStage, AnyStage, apart, linked}
+use proofs.Names.{none_some, out_phase, plan_out, by_bool, IsDueCall, IsCalled, callee_at, by_answer, ConnectionRow}
+use proofs.Names.{GoingRow, connection_row, going_row, RowKindOf, begins_now, goes_now, row_kind, made_is, under_rst}
+use proofs.Names.{quiet_sel, Stood, NextStood, link_connection, link_phase, quiet_at_end, IsServed, of_process}
+use proofs.{Names.{of_abort, ServedFacts}, Items.Facts.{beginning}, Tells.Rows.{is_heard}, Undone.Answers.{plan_stays}}
+use proofs.Undone.Answers.{same_phase_of}
 use Rattle.row_laws.specs.book_laws.specs.Items.{is_abort}
 
 -- ---- whom an initiator has called
@@ -184,13 +184,9 @@ served_goes s p row n u dv was r g h = go h
         let out : is_message_out c.after ≡ true = sym (ap (λ (x : Change). is_message_out x.after) of.row_is.change_is)
         ∙ of.first (ap changes_phase of.row_is.change_is ∙ ep) b in (
           ap phase_of w.bus_is ∙ out_phase c.after out,
-          ap (λ (x : Exchange). x.plan.cause) w.exchange_is
-              ∙ (λ z. (if not (out z) then record (plan_anew k.exchange.plan) {
-                messages = (leaving s k n.target).messages;
-                next = (leaving s k n.target).next;
-              } else if b z
-              then plan_in_message_out (hearing_of k row (reading_in k.story.bus_state n c false)) k.exchange.plan
-              else plan_anew k.exchange.plan).cause) ∙ (speaks.before_all b).cause_is,
+          ap (λ (x : Exchange). x.plan.cause) w.exchange_is ∙ ap (λ (x : Plan). x.cause) (plan_out
+              (hearing_of k row (reading_in k.story.bus_state n c false)) (leaving s k n.target) k.exchange.plan out b)
+              ∙ (speaks.before_all b).cause_is,
         ))
       where
         speaks : Speaks s k n

@@ -1,14 +1,14 @@
 -- The messages with which a target leaves a phase for MESSAGE IN end well.
 use Rattle.story_laws.proofs
-use proofs.Names.{inl, inr, ◌≡◌, Bool, true, refl, subst, ℕ, ◌<◌, false, not, ◌==◌, ◌∙◌, length, Option, Some, None}
-use proofs.Names.{sym, ap, arith, same_Some, if◌then◌else◌, ◌-◌, is_some, nat_lt, wrong', wrong, ProcId, rises}
-use proofs.Names.{changes_phase, is_message_out, is_message_in, receiver_in, Row, Change, Connection, Handshakes}
-use proofs.Names.{no_handshakes, handshakes_after, asked_if, answered_if, in_bytes, MsgIn, Dialogue, ScenarioValue}
-use proofs.Names.{row_reading, Link, plain, Exchange, from_byte, plan_anew, one_message, message_bytes}
-use proofs.Names.{bytes_of_messages, Serving, phase_leaving, phase_of, leaving_by, after_messages, plan_in_message_out}
-use proofs.Names.{plan_in_phase, Cause, Leaving, Messages, Next, Phase, Plan, RunState, bus_of, run_state_after}
-use proofs.Names.{serving_of, leaving, hearing_of, InConnection, in_connection, OnMessages, LeavesWhole, reading_in}
-use proofs.Names.{out_phase, in_phase, out_lines, is_out_next, some_zero, is_to_message_in, IsPlainIn, frees_bus}
+use proofs.Names.{inl, inr, ◌≡◌, Bool, true, refl, subst, ℕ, ◌<◌, false, ◌==◌, ◌∙◌, length, Option, Some, None, sym, ap}
+use proofs.Names.{arith, same_Some, if◌then◌else◌, ◌-◌, is_some, nat_lt, wrong', wrong, ProcId, rises, changes_phase}
+use proofs.Names.{is_message_out, is_message_in, receiver_in, Row, Change, Connection, Handshakes, no_handshakes}
+use proofs.Names.{handshakes_after, asked_if, answered_if, in_bytes, MsgIn, Dialogue, ScenarioValue, row_reading, Link}
+use proofs.Names.{plain, Exchange, from_byte, plan_anew, one_message, message_bytes, bytes_of_messages, Serving}
+use proofs.Names.{phase_leaving, phase_of, leaving_by, after_messages, plan_in_message_out, plan_in_phase, Cause}
+use proofs.Names.{Leaving, Messages, Next, Phase, Plan, RunState, bus_of, run_state_after, serving_of, leaving}
+use proofs.Names.{hearing_of, InConnection, in_connection, OnMessages, LeavesWhole, reading_in, out_phase, in_phase}
+use proofs.Names.{out_lines, is_out_next, plan_left, plan_out, some_zero, is_to_message_in, IsPlainIn, frees_bus}
 use proofs.Names.{IsClosing, EndsWell, EndsWellIf, SaysEnd, LastGiven, still_stays, to_close, to_save, closed, LastBy}
 use proofs.{Names.{LastTalk}, Items.Row.{link_still}, Last.{Bytes.{first_given, end_length}, Rows.{LastRow}}}
 use proofs.Undone.Turns.{not_out}
@@ -166,11 +166,8 @@ turn_last s k row n c l m id t em h = subst (λ (x : Link). LastTalk j x)
     out_plan : is_message_out c.after ≡ true → (q : Bool) → k.exchange.begun ≡ q → j.exchange.plan
         ≡ (if q then plan_in_message_out (hearing_of k row (reading_in k.story.bus_state n c false)) k.exchange.plan
         else plan_anew k.exchange.plan)
-    out_plan out q b = plan ∙ (λ z. if not (out z) then record (plan_anew k.exchange.plan) {
-      messages = (leaving s k n.target).messages;
-      next = (leaving s k n.target).next;
-    } else if b z then plan_in_message_out (hearing_of k row (reading_in k.story.bus_state n c false)) k.exchange.plan
-        else plan_anew k.exchange.plan)
+    out_plan out q b = plan ∙ plan_out (hearing_of k row (reading_in k.story.bus_state n c false))
+        (leaving s k n.target) k.exchange.plan out b
 
     first_out : k.exchange.begun ≡ false
         → LastBy l j.exchange.plan j.handshakes.requests j.story.bus_state.dialogue.is_last (phase_of (bus_of j))
@@ -223,12 +220,8 @@ turn_last s k row n c l m id t em h = subst (λ (x : Link). LastTalk j x)
     into b e =
         let x : Leaving = phase_leaving v (bus_of k).atn (phase_of (bus_of k)) in
         let is : j.exchange.plan ≡ record (plan_anew k.exchange.plan) { messages = x.messages; next = x.next } = plan
-        ∙ ap (λ (q : Bool). if not q then record (plan_anew k.exchange.plan) {
-          messages = (leaving s k n.target).messages;
-          next = (leaving s k n.target).next;
-        } else if k.exchange.begun
-        then plan_in_message_out (hearing_of k row (reading_in k.story.bus_state n c false)) k.exchange.plan
-        else plan_anew k.exchange.plan) (not_out c.after e) ∙ ap
+        ∙ plan_left (hearing_of k row (reading_in k.story.bus_state n c false))
+        (leaving s k n.target) k.exchange.plan (not_out c.after e) ∙ ap
         (λ (y : Leaving). record (plan_anew k.exchange.plan) { messages = y.messages; next = y.next }) (leaving_is b) in
         let to : is_to_message_in x.to ≡ true = ap (λ (y : Leaving). is_to_message_in y.to) (sym (leaving_is b))
         ∙ ap is_to_message_in (t.whereto b ∙ ap (λ (p : Phase). Some p) e) in

@@ -1,14 +1,14 @@
 -- What MESSAGE PARITY ERROR brings back agrees with what the process has: a phase is left for another (6.6.13).
 use Rattle.story_laws.proofs
-use proofs.Names.{inl, inr, ℕ, ◌≡◌, ◌⊎◌, Bool, true, false, not, ◌==◌, ◌∙◌, Option, Some, None, refl, sym, ap, subst}
+use proofs.Names.{inl, inr, ℕ, ◌≡◌, ◌⊎◌, Bool, true, false, ◌==◌, ◌∙◌, Option, Some, None, refl, sym, ap, subst}
 use proofs.Names.{if◌then◌else◌, is_some, wrong, wrong', LineSet, changes_phase, is_command, is_message_out}
 use proofs.Names.{is_message_in, is_fault, receiver_in, Row, Change, Connection, Handshakes, no_handshakes}
-use proofs.Names.{handshakes_after, ScenarioValue, row_reading, CarriedBytes, Link, is_status_next, Exchange, plan_anew}
-use proofs.Names.{Serving, phase_of, phase_leaving, leaving_by, cause_after, plan_in_message_out, plan_in_phase, Cause}
-use proofs.Names.{Leaving, Messages, Phase, Plan, RunState, bus_of, run_state_after, serving_of, leaving, hearing_of}
-use proofs.Names.{command_is, is_command_phase, InConnection, in_connection, LeavesWhole, reading_in, Speaks, GoesOn}
-use proofs.Names.{out_lines, out_phase, in_phase, by_bool, is_to_message_in, leaves_short, is_detected, UndoesSame}
-use proofs.{Names.{UndoFits, UndoAsked, UndoBy, UndoBooks, is_short}, Tells.Turns.{status_lines}}
+use proofs.Names.{handshakes_after, ScenarioValue, row_reading, CarriedBytes, Link, is_status_next, Exchange, Serving}
+use proofs.Names.{phase_of, phase_leaving, leaving_by, cause_after, plan_in_phase, Cause, Leaving, Messages, Phase}
+use proofs.Names.{Plan, RunState, bus_of, run_state_after, serving_of, leaving, hearing_of, command_is}
+use proofs.Names.{is_command_phase, InConnection, in_connection, LeavesWhole, reading_in, Speaks, GoesOn, out_lines}
+use proofs.Names.{out_phase, in_phase, plan_left, plan_out, by_bool, is_to_message_in, leaves_short, is_detected}
+use proofs.{Names.{UndoesSame, UndoFits, UndoAsked, UndoBy, UndoBooks, is_short}, Tells.Turns.{status_lines}}
 use proofs.Undone.{Answers.{asked_fits}, Rows.{IsKeptInside, fits_on}}
 
 -- ---- a phase is left for another
@@ -101,12 +101,8 @@ turn_keeps what kept s k row n c l t undoes h = record {
         let out : is_message_out c.after ≡ true =
         sym (ap (λ (x : Change). is_message_out x.after) t.goes.row_is.change_is) ∙ t.goes.first change b in
         let cause : j.exchange.plan.cause ≡ Cause.Selected = ap (λ (x : Plan). x.cause) plan
-        ∙ (λ z. (if not (out z) then record (plan_anew k.exchange.plan) {
-          messages = (leaving s k n.target).messages;
-          next = (leaving s k n.target).next;
-        }
-        else if b z then plan_in_message_out (hearing_of k row (reading_in k.story.bus_state n c false)) k.exchange.plan
-        else plan_anew k.exchange.plan).cause) ∙ (t.speaks.before_all b).cause_is in
+        ∙ ap (λ (x : Plan). x.cause) (plan_out (hearing_of k row (reading_in k.story.bus_state n c false))
+        (leaving s k n.target) k.exchange.plan out b) ∙ (t.speaks.before_all b).cause_is in
         at Phase.MessageOut (out_phase c.after out) (subst (UndoAsked (UndoFits what j)) (sym cause)
         (quiet (t.idle b) (ap (λ (p : Phase). is_status_next (Some p)) (out_phase c.after out)) (h.unbegun b)))
 
@@ -115,12 +111,8 @@ turn_keeps what kept s k row n c l t undoes h = record {
     refused b e =
         let out = out_lines c.after e t.known in
         let cause : j.exchange.plan.cause ≡ cause_after c.before = ap (λ (x : Plan). x.cause) plan
-        ∙ (λ z. (if not (out z) then record (plan_anew k.exchange.plan) {
-          messages = (leaving s k n.target).messages;
-          next = (leaving s k n.target).next;
-        }
-        else if b z then plan_in_message_out (hearing_of k row (reading_in k.story.bus_state n c false)) k.exchange.plan
-        else plan_anew k.exchange.plan).cause) in
+        ∙ ap (λ (x : Plan). x.cause) (plan_out (hearing_of k row (reading_in k.story.bus_state n c false))
+        (leaving s k n.target) k.exchange.plan out b) in
         subst (UndoAsked (UndoFits what j)) (sym cause) (by (is_message_in c.before) refl)
       where
         by : (q : Bool) → is_message_in c.before ≡ q → UndoAsked (UndoFits what j) (cause_after c.before)
@@ -147,13 +139,9 @@ turn_keeps what kept s k row n c l t undoes h = record {
         leaving_is = λ z. leaving_by v (b z) (bus_of k)
 
         messages : j.exchange.plan.messages ≡ (phase_leaving v (bus_of k).atn (phase_of (bus_of k))).messages
-        messages =
-            ap (λ (x : Plan). x.messages) plan ∙ ap (λ (q : Bool). (if not q then record (plan_anew k.exchange.plan) {
-              messages = (leaving s k n.target).messages;
-              next = (leaving s k n.target).next;
-            } else if k.exchange.begun
-            then plan_in_message_out (hearing_of k row (reading_in k.story.bus_state n c false)) k.exchange.plan
-            else plan_anew k.exchange.plan).messages) (not_out c.after e)
+        messages = ap (λ (x : Plan). x.messages) plan
+            ∙ ap (λ (x : Plan). x.messages) (plan_left (hearing_of k row (reading_in k.story.bus_state n c false))
+            (leaving s k n.target) k.exchange.plan (not_out c.after e))
             ∙ ap (λ (x : Leaving). x.messages) leaving_is
 
         to : is_to_message_in (phase_leaving v (bus_of k).atn (phase_of (bus_of k))).to ≡ true

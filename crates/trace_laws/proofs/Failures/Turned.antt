@@ -11,11 +11,12 @@ use proofs.Names.{story_after_events, story_by_change, is_status_next, Exchange,
 use proofs.Names.{bytes_of_messages, Serving, phase_of, phase_leaving, leaving_by, cause_after, plan_in_message_out}
 use proofs.Names.{plan_in_phase, parity_error, Cause, Leaving, Next, Phase, Plan, RunState, carried_here, bus_of}
 use proofs.Names.{run_state_after, serving_of, leaving, hearing_of, InConnection, in_connection, self_id, LeavesWhole}
-use proofs.Names.{is_out_phase, IsRowIn, reading_in, out_phase, out_lines, is_out_next, by_bool, replies_to}
-use proofs.Names.{is_to_message_in, answered_on, change_keeps, is_marked, UndoesAnswers, code_if, attended_for}
-use proofs.Names.{row_shows, link_still, stays_out, status_lines, TurnOf, not_out, SaysFailure, FailsBy, FailTalk}
-use proofs.Failures.{Bytes.{clear_as, still_fails}, Entries.{KeptFail, answer_kept, gives_entered, sending_entered}}
-use proofs.Failures.{Entries.{not_to_status, out_entered}, Turns.{LeftSo, gives_left, sends_clear, is_sending}}
+use proofs.Names.{is_out_phase, IsRowIn, reading_in, out_phase, out_lines, is_out_next, plan_left, plan_out, by_bool}
+use proofs.Names.{replies_to, is_to_message_in, answered_on, change_keeps, is_marked, UndoesAnswers, code_if}
+use proofs.Names.{attended_for, row_shows, link_still, stays_out, status_lines, TurnOf, not_out, SaysFailure, FailsBy}
+use proofs.{Names.{FailTalk}, Failures.{Bytes.{clear_as, still_fails}, Entries.{KeptFail, answer_kept, gives_entered}}}
+use proofs.Failures.{Entries.{sending_entered, not_to_status, out_entered}, Turns.{LeftSo, gives_left, sends_clear}}
+use proofs.Failures.Turns.{is_sending}
 use Rattle.story_laws.proofs.Complaints.Turns.{IsAttended}
 
 -- An event that answers it, or an answer that it had, stays.
@@ -173,22 +174,15 @@ turn_fail s k row n c l m id t undoes left em h = subst (λ (x : Link). FailTalk
     out_plan : is_message_out c.after ≡ true → (q : Bool) → k.exchange.begun ≡ q → j.exchange.plan
         ≡ (if q then plan_in_message_out (hearing_of k row (reading_in k.story.bus_state n c false)) k.exchange.plan
         else plan_anew k.exchange.plan)
-    out_plan out q b = plan ∙ (λ z. if not (out z) then record (plan_anew k.exchange.plan) {
-      messages = (leaving s k n.target).messages;
-      next = (leaving s k n.target).next;
-    } else if b z then plan_in_message_out (hearing_of k row (reading_in k.story.bus_state n c false)) k.exchange.plan
-        else plan_anew k.exchange.plan)
+    out_plan out q b = plan ∙ plan_out (hearing_of k row (reading_in k.story.bus_state n c false))
+        (leaving s k n.target) k.exchange.plan out b
 
     else_plan : is_message_out c.after ≡ false → j.exchange.plan ≡ record (plan_anew k.exchange.plan) {
       messages = (leaving s k n.target).messages;
       next = (leaving s k n.target).next;
     }
-    else_plan out = plan ∙ ap (λ (q : Bool). if not q then record (plan_anew k.exchange.plan) {
-      messages = (leaving s k n.target).messages;
-      next = (leaving s k n.target).next;
-    } else if k.exchange.begun
-        then plan_in_message_out (hearing_of k row (reading_in k.story.bus_state n c false)) k.exchange.plan
-        else plan_anew k.exchange.plan) out
+    else_plan out = plan ∙ plan_left (hearing_of k row (reading_in k.story.bus_state n c false))
+        (leaving s k n.target) k.exchange.plan out
 
     first_out : k.exchange.begun ≡ false
         → FailsBy l d j.exchange.plan j.exchange.speech.words j.handshakes.requests (phase_of (bus_of j))

@@ -7,8 +7,8 @@ use proofs.Names.{same_id, HasSeats, Array, row_reading, carried_if, phase_event
 use proofs.Names.{Link, Exchange, plan_anew, phase_of, plan_in_phase, plan_in_message_out, Cause, Hearing, Leaving}
 use proofs.Names.{Phase, Plan, RunState, bus_of, process_item, process_served, carried_here, run_state_after}
 use proofs.Names.{array_after_events, hearing_of, leaving, InConnection, in_connection, self_id, id_is as ids_are}
-use proofs.Names.{is_served_by, is_out_phase, IsRowIn, reading_in, GoesOn, none_some, out_phase, by_bool, IsUntouched}
-use proofs.{Names.{PlacedAsked, PlacedIn, PlacedIf, HasPlaces}, Places.Events.{Turned, turned_none}}
+use proofs.Names.{is_served_by, is_out_phase, IsRowIn, reading_in, GoesOn, none_some, out_phase, plan_out, by_bool}
+use proofs.{Names.{IsUntouched, PlacedAsked, PlacedIn, PlacedIf, HasPlaces}, Places.Events.{Turned, turned_none}}
 use proofs.Places.TurnRows.{IsTurnAsked, RowPlaced, asked_by, enters, process_turn, other_shown, shown_is}
 use proofs.Places.Turns.{OutOf, PlacedNext, reply_shown}
 use Rattle.bus_due.specs.disk_array.proofs.SoundArrays.{id_is}
@@ -82,8 +82,7 @@ first_asked : (a : Array) (p : Process) (k : RunState) (row : Row) (n : Connecti
 first_asked a p k row n c l m g cause h =
     let w : Hearing = hearing_of k row (reading_in k.story.bus_state n c false) in
     let is : plan_in_phase w l k.exchange.plan ≡ plan_anew k.exchange.plan =
-    λ i. if not (m i) then record (plan_anew k.exchange.plan) { messages = l.messages; next = l.next }
-    else if g i then plan_in_message_out w k.exchange.plan else plan_anew k.exchange.plan in
+    plan_out w l k.exchange.plan m g in
     subst (λ (y : Plan). PlacedAsked a p y y.cause) (sym is)
     (subst (λ (y : Cause). PlacedAsked a p (plan_anew k.exchange.plan) y) (sym cause) h)
 

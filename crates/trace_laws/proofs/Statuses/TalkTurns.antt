@@ -7,9 +7,10 @@ use proofs.Names.{no_handshakes, handshakes_after, asked_if, answered_if, MsgIn,
 use proofs.Names.{follows_by, Exchange, one_message, from_byte, plan_anew, Serving, phase_of, phase_leaving, leaving_by}
 use proofs.Names.{follows_in, cause_after, plan_in_message_out, plan_in_phase, Cause, Leaving, Phase, Plan, RunState}
 use proofs.Names.{bus_of, carried_here, run_state_after, serving_of, leaving, hearing_of, InConnection, in_connection}
-use proofs.Names.{LeavesWhole, IsOver, reading_in, in_phase, out_lines, some_zero, is_in_message, link_still, TurnOf}
-use proofs.{Names.{not_out, LastGiven, HasStatus, UndoesStatus, CarriesBy}, Statuses.Leavings.{Completes, in_status}}
-use proofs.Statuses.{Leavings.{refused, completes_from, left_alone}, Talks.{TalksOf, status_kept, quiet}}
+use proofs.Names.{LeavesWhole, IsOver, reading_in, in_phase, out_lines, plan_left, plan_out, some_zero, is_in_message}
+use proofs.Names.{link_still, TurnOf, not_out, LastGiven, HasStatus, UndoesStatus, CarriesBy}
+use proofs.Statuses.{Leavings.{Completes, in_status, refused, completes_from, left_alone}, Talks.{TalksOf, status_kept}}
+use proofs.Statuses.Talks.{quiet}
 
 -- MESSAGE OUT answers a message where MESSAGE IN was left.
 from_in : (b : LineSet) → cause_after b ≡ Cause.InMessage → is_message_in b ≡ true
@@ -92,22 +93,15 @@ turn_talk s k row n c l m id t over last em h = subst (λ (x : Link). TalksOf j 
     out_plan : is_message_out c.after ≡ true → (q : Bool) → k.exchange.begun ≡ q → j.exchange.plan
         ≡ (if q then plan_in_message_out (hearing_of k row (reading_in k.story.bus_state n c false)) k.exchange.plan
         else plan_anew k.exchange.plan)
-    out_plan out q b = plan ∙ (λ z. if not (out z) then record (plan_anew k.exchange.plan) {
-      messages = (leaving s k n.target).messages;
-      next = (leaving s k n.target).next;
-    } else if b z then plan_in_message_out (hearing_of k row (reading_in k.story.bus_state n c false)) k.exchange.plan
-        else plan_anew k.exchange.plan)
+    out_plan out q b = plan ∙ plan_out (hearing_of k row (reading_in k.story.bus_state n c false))
+        (leaving s k n.target) k.exchange.plan out b
 
     else_plan : is_message_out c.after ≡ false → j.exchange.plan ≡ record (plan_anew k.exchange.plan) {
       messages = (leaving s k n.target).messages;
       next = (leaving s k n.target).next;
     }
-    else_plan out = plan ∙ ap (λ (q : Bool). if not q then record (plan_anew k.exchange.plan) {
-      messages = (leaving s k n.target).messages;
-      next = (leaving s k n.target).next;
-    } else if k.exchange.begun
-        then plan_in_message_out (hearing_of k row (reading_in k.story.bus_state n c false)) k.exchange.plan
-        else plan_anew k.exchange.plan) out
+    else_plan out = plan ∙ plan_left (hearing_of k row (reading_in k.story.bus_state n c false))
+        (leaving s k n.target) k.exchange.plan out
 
     leaving_is : k.exchange.begun ≡ true → leaving s k n.target ≡ phase_leaving v (bus_of k).atn (phase_of (bus_of k))
     leaving_is b = λ z. leaving_by v (b z) (bus_of k)

@@ -8,11 +8,11 @@ use proofs.Names.{is_message_out, is_fault, receiver_in, Change, Connection, Row
 use proofs.Names.{MsgIn, MsgOut, fresh_bytes, byte_out, byte_in, byte_else, left_of, is_nil, reading_out, Dialogue}
 use proofs.Names.{Reading, is_unknown, ScenarioValue, whole_in, whole_out, message_in, message_out, is_status_phase}
 use proofs.Names.{carried_if, Item, process, abort, has_item, Link, last_out, Exchange, plan_anew, plan_after_message}
-use proofs.Names.{struck_plan, plan_in_message_out, Cause, RunState, bus_of, run_state, hearing_of, leaving}
+use proofs.Names.{struck_plan, plan_in_message_out, Cause, Plan, RunState, bus_of, run_state, hearing_of, leaving}
 use proofs.Names.{InConnection, in_connection, SamePhase, in_is_known, in_io, not_both, Knows}
 use proofs.Names.{reading_in as row_reading_in, IsAboutToSpeak, is_selected, in_phase, message_line, out_in, in_out}
-use proofs.Names.{out_line, out_lines, out_no_status, by_bool, IsServed, Grows, heard_link, LinkAfter, says, hears}
-use proofs.Names.{stays, link_crossed, over_after, link_still, Named, known, said, refused, counted_row}
+use proofs.Names.{out_line, out_lines, out_no_status, plan_out, by_bool, IsServed, Grows, heard_link, LinkAfter, says}
+use proofs.Names.{hears, stays, link_crossed, over_after, link_still, Named, known, said, refused, counted_row}
 use proofs.Names.{turn_handshakes, OpenedValue, is_complete, is_completion, with_all_out, with_in, with_in_if}
 use proofs.Names.{with_part, with_fault, with_still_row, spoken, broken_off, data_parts, phase_entered, phase_over}
 use proofs.Names.{Incoming, Broken, Part, Command, Completion, StatusPhase, are_talk, base_parts, is_known, is_broken}
@@ -588,12 +588,8 @@ follows_in s p row n g ep none answering = cause_is answering k.exchange.begun r
         made : (x : Bool) → k.exchange.begun ≡ x
             → j.exchange.plan.cause ≡ (if c.before.cd then Cause.InStatus else Cause.InData)
         made x y = ap (λ (w : Exchange). w.plan.cause) i.exchange_is
-            ∙ (λ t. (if not (out_after z t) then record (plan_anew k.exchange.plan) {
-              messages = (leaving s k n.target).messages;
-              next = (leaving s k n.target).next;
-            } else if b t
-            then plan_in_message_out (hearing_of k row (row_reading_in k.story.bus_state n c false)) k.exchange.plan
-            else plan_anew k.exchange.plan).cause)
+            ∙ ap (λ (x : Plan). x.cause) (plan_out (hearing_of k row (row_reading_in k.story.bus_state n c false))
+            (leaving s k n.target) k.exchange.plan (out_after z) b)
             ∙ ap (λ (w : Bool). if w then Cause.InMessage else if c.before.cd then Cause.InStatus else Cause.InData) q
 
         not_message : (d : Bool) → (if d then Cause.InStatus else Cause.InData) ≡ Cause.InMessage → false ≡ true
@@ -620,12 +616,8 @@ follows_in s p row n g ep none answering = cause_is answering k.exchange.begun r
             then plan_in_message_out (hearing_of k row (row_reading_in k.story.bus_state n c false)) k.exchange.plan
             else plan_anew k.exchange.plan).cause
             ≡ k.exchange.plan.cause
-        made = λ t. (if not (out_after z t) then record (plan_anew k.exchange.plan) {
-          messages = (leaving s k n.target).messages;
-          next = (leaving s k n.target).next;
-        } else if b t
-            then plan_in_message_out (hearing_of k row (row_reading_in k.story.bus_state n c false)) k.exchange.plan
-            else plan_anew k.exchange.plan).cause
+        made = ap (λ (x : Plan). x.cause) (plan_out (hearing_of k row (row_reading_in k.story.bus_state n c false))
+            (leaving s k n.target) k.exchange.plan (out_after z) b)
 
         selected : Cause.Selected ≡ Cause.InMessage → false ≡ true
         selected w = sym (ap is_selected w)

@@ -6,13 +6,13 @@ use proofs.Names.{◌-◌, ◌==◌, is_some, if◌then◌else◌, wrong, wrong'
 use proofs.Names.{is_message_out, is_fault, receiver_in, Change, Connection, Row, Handshakes, out_bytes, MsgIn, MsgOut}
 use proofs.Names.{is_nil, Dialogue, ScenarioValue, policy_of, Exchange, from_byte, plan_anew, Serving, phase_of}
 use proofs.Names.{phase_entry, phase_leaving, message_repetition, message_out_leaving, after_messages, next_data_phase}
-use proofs.Names.{with_task, plan_in_message_out, Cause, Leaving, Messages, Next, Phase, Plan, Said, Task, RunState}
-use proofs.Names.{bus_of, run_state, serving_of, hearing_of, leaving, InConnection, in_connection, OnMessages}
-use proofs.Names.{LeavesWhole, is_out_phase, is_in_phase, IsNoName, reading_in, in_phase, out_phase, in_out, out_in}
-use proofs.Names.{by_bool, stage_of_connection, link_phase, is_in_message, IsHeardOut, repeats, answers_it, detects}
-use proofs.Names.{is_detected, is_command_next, in_lines, refusal_is, all_said, parity_said, left_is, out_by_phase}
-use proofs.Names.{turn_handshakes, no_summary, OpenedValue, phase_entered, phase_over, is_void, base_parts}
-use proofs.{Held.Since.{IsHeardIn, IsAnswering, follows_in}, Named.Heard.{ins_of, heard_names, AreNames, Says, Repeats}}
+use proofs.Names.{with_task, Cause, Leaving, Messages, Next, Phase, Plan, Said, Task, RunState, bus_of, run_state}
+use proofs.Names.{serving_of, hearing_of, leaving, InConnection, in_connection, OnMessages, LeavesWhole, is_out_phase}
+use proofs.Names.{is_in_phase, IsNoName, reading_in, in_phase, out_phase, in_out, out_in, plan_left, by_bool}
+use proofs.Names.{stage_of_connection, link_phase, is_in_message, IsHeardOut, repeats, answers_it, detects, is_detected}
+use proofs.Names.{is_command_next, in_lines, refusal_is, all_said, parity_said, left_is, out_by_phase, turn_handshakes}
+use proofs.{Names.{no_summary, OpenedValue, phase_entered, phase_over, is_void, base_parts}, Held.Since.{IsHeardIn}}
+use proofs.{Held.Since.{IsAnswering, follows_in}, Named.Heard.{ins_of, heard_names, AreNames, Says, Repeats}}
 use proofs.Named.{Heard.{says_again, names_said, repeats_from, repeats_name, settled_half}, Parts.{ins_held}}
 use proofs.Named.{Parts.{base_names, turned_names, in_turned, void_turned}, Rows.{AreTold, AgainNames, saying, refused}}
 use proofs.{Named.Rows.{known, told_now}, Opened.{Facts.{OpenedAll}, Rows.{Going, plain_before}}, Said.Facts.{Speaking}}
@@ -101,10 +101,7 @@ again_turn s p row n g o after q ep none ef e all sp op since since' was = by wa
     entered : is_message_out c.after ≡ false
         → j.exchange.plan ≡ record (plan_anew k.exchange.plan) { messages = l.messages; next = l.next }
     entered x = ap (λ (y : Exchange). y.plan) i.exchange_is
-        ∙ (λ t. if not (x t) then record (plan_anew k.exchange.plan) { messages = l.messages; next = l.next }
-        else if k.exchange.begun
-        then plan_in_message_out (hearing_of k row (reading_in k.story.bus_state n c false)) k.exchange.plan
-        else plan_anew k.exchange.plan)
+        ∙ plan_left (hearing_of k row (reading_in k.story.bus_state n c false)) l k.exchange.plan x
 
     asked : is_message_out c.after ≡ true → is_message_in c.before ≡ true
         → j.exchange.plan ≡ record (plan_anew k.exchange.plan) {

@@ -7,21 +7,21 @@ use proofs.Names.{LineSet, changes_phase, is_command, is_data, is_message_in, is
 use proofs.Names.{receiver_in, Change, Connection, Row, MsgIn, MsgOut, is_nil, ScenarioValue, CmdDef, command_at}
 use proofs.Names.{process_by, process_if, message_in, message_out, is_status_phase, Item, Sent, process, abort, aim_of}
 use proofs.Names.{Exchange, plan_anew, plan_after_message, struck_plan, cause_after, plan_in_message_out, host_answer}
-use proofs.Names.{process_opening, Cause, host_of, opening, RunState, bus_of, process_item, run_state, served_after}
-use proofs.Names.{item_if, hearing_of, leaving, ready_of, obeys_fits, units_are, AreUnits, InConnection, in_connection}
-use proofs.Names.{reading_in, AreWordsFor, AreWordsHeard, IsSpeaking, opens, refuses, answers, rejects_data}
-use proofs.Names.{rejects_status, is_selected, Begins, connected_bus, ends_selected, in_out, out_no_status, out_phase}
-use proofs.Names.{by_bool, link_unbegun, IsNext, is_abort, is_sense, is_next_command, aimed_next, beginning}
-use proofs.Names.{calm_before, Whole, OpenedValue, held_part, is_complete, is_completion, with_part, with_fault}
-use proofs.Names.{with_in_if, phase_entered, phase_over, phase_parts, data_parts, Part, are_talk, base_parts, out_parts}
-use proofs.{Names.{parts_now}, Opened.Bytes.{CrossingMade, crossed_out, crossed_in, crossed_status, crossed_else}}
-use proofs.Opened.Bytes.{crossing_made, lines_same, out_same, begun_same, begun_turned, begun_crossing}
-use proofs.Opened.{Facts.{OpenedAll, all_hold}, Rows.{Going, Starts, Holds, RowMade, made_still, made_crossing}}
-use proofs.{Opened.Rows.{made_turn, plain_before}, Parts.{Base.{base_more, base_turned}, Lists.{broken_parts}}}
-use proofs.Said.Naming.{outs_of, outs_append, outs_base, outs_now, are_mild, mild_more, mild_front, offers_mild}
-use proofs.Said.{Naming.{IsOpening, opening_more}, Out.{process_said, said_one, offers_if, unit_small}}
-use proofs.{Said.Words.{SaidWords, said_of, said_append, left_half}, Serving.TurnSteps.{outs_talk}}
-use proofs.Talks.Named.{base_talk, talk_more}
+use proofs.Names.{process_opening, Cause, Plan, host_of, opening, RunState, bus_of, process_item, run_state}
+use proofs.Names.{served_after, item_if, hearing_of, leaving, ready_of, obeys_fits, units_are, AreUnits, InConnection}
+use proofs.Names.{in_connection, reading_in, AreWordsFor, AreWordsHeard, IsSpeaking, opens, refuses, answers}
+use proofs.Names.{rejects_data, rejects_status, is_selected, Begins, connected_bus, ends_selected, in_out}
+use proofs.Names.{out_no_status, out_phase, plan_out, by_bool, link_unbegun, IsNext, is_abort, is_sense}
+use proofs.Names.{is_next_command, aimed_next, beginning, calm_before, Whole, OpenedValue, held_part, is_complete}
+use proofs.Names.{is_completion, with_part, with_fault, with_in_if, phase_entered, phase_over, phase_parts, data_parts}
+use proofs.{Names.{Part, are_talk, base_parts, out_parts, parts_now}, Opened.Bytes.{CrossingMade, crossed_out}}
+use proofs.Opened.Bytes.{crossed_in, crossed_status, crossed_else, crossing_made, lines_same, out_same, begun_same}
+use proofs.Opened.{Bytes.{begun_turned, begun_crossing}, Facts.{OpenedAll, all_hold}, Rows.{Going, Starts, Holds}}
+use proofs.{Opened.Rows.{RowMade, made_still, made_crossing, made_turn, plain_before}, Parts.Base.{base_more}}
+use proofs.{Parts.{Base.{base_turned}, Lists.{broken_parts}}, Said.Naming.{outs_of, outs_append, outs_base, outs_now}}
+use proofs.Said.{Naming.{are_mild, mild_more, mild_front, offers_mild, IsOpening, opening_more}, Out.{process_said}}
+use proofs.Said.{Out.{said_one, offers_if, unit_small}, Words.{SaidWords, said_of, said_append, left_half}}
+use proofs.{Serving.TurnSteps.{outs_talk}, Talks.Named.{base_talk, talk_more}}
 use Rattle.bus_due.specs.disk_array.specs.Processes.{Process, process_of}
 
 -- ---- what is kept
@@ -299,11 +299,8 @@ first_out s p row n g ep none b = (
         then plan_in_message_out (hearing_of k row (reading_in k.story.bus_state n c false)) k.exchange.plan
         else plan_anew k.exchange.plan).cause
         ≡ k.exchange.plan.cause
-    by = λ t. (if not (out t) then record (plan_anew k.exchange.plan) {
-      messages = (leaving s k n.target).messages;
-      next = (leaving s k n.target).next;
-    } else if b t then plan_in_message_out (hearing_of k row (reading_in k.story.bus_state n c false)) k.exchange.plan
-        else plan_anew k.exchange.plan).cause
+    by = ap (λ (x : Plan). x.cause) (plan_out (hearing_of k row (reading_in k.story.bus_state n c false))
+        (leaving s k n.target) k.exchange.plan out b)
 
 -- ---- row by row
 

@@ -6,12 +6,12 @@ use proofs.Names.{◌++◌, Option, Some, None, refl, sym, ap, subst, is_some, i
 use proofs.Names.{zero_of, counted_on, change_of, rises, LineSet, changes_phase, is_command, is_data, is_message_in}
 use proofs.Names.{is_message_out, is_fault, receiver_in, Change, Connection, Row, Handshakes, MsgIn, is_nil}
 use proofs.Names.{ScenarioValue, message_in, message_out, is_status_phase, Link, policy_of, run_length, Exchange}
-use proofs.Names.{bytes_of_messages, from_byte, plan_anew, Serving, phase_of, phase_entry, with_task, recovery}
-use proofs.Names.{bus_free, message_repetition, after_refusal, message_out_leaving, phase_leaving, leaving_by}
-use proofs.Names.{run_length_if, plan_in_message_out, is_naming, Cause, Leaving, Messages, Phase, Task, target_def_of}
-use proofs.Names.{IsPlain, RunState, bus_of, item_of, process_item, process_served, run_state, hearing_of, leaving}
-use proofs.Names.{serving_of, task_if, task_of, InConnection, in_connection, SamePhase, not_both, AreGiven, OnMessage}
-use proofs.Names.{OnMessages, IsNoName, reading_in, run_count, in_phase, out_in, out_phase, by_bool, IsServed}
+use proofs.Names.{bytes_of_messages, from_byte, Serving, phase_of, phase_entry, with_task, recovery, bus_free}
+use proofs.Names.{message_repetition, after_refusal, message_out_leaving, phase_leaving, leaving_by, run_length_if}
+use proofs.Names.{is_naming, Cause, Leaving, Messages, Phase, Plan, Task, target_def_of, IsPlain, RunState, bus_of}
+use proofs.Names.{item_of, process_item, process_served, run_state, hearing_of, leaving, serving_of, task_if, task_of}
+use proofs.Names.{InConnection, in_connection, SamePhase, not_both, AreGiven, OnMessage, OnMessages, IsNoName}
+use proofs.Names.{reading_in, run_count, in_phase, out_in, out_phase, plan_left, plan_out, by_bool, IsServed}
 use proofs.Names.{names_first, names_left, front_length, Named, known, said, refused, counted_row, turn_handshakes}
 use proofs.Names.{answers_all, data_out_phase, task_here, OpenedValue, data_parts, phase_parts, phase_over}
 use proofs.{Names.{phase_entered, Part, are_talk, base_parts, parts_now}, Fits.Leavings.{left_asked}}
@@ -402,12 +402,8 @@ again_row s p row n g o after made all begun_is h = by made
 
             messages : j.exchange.plan.messages ≡ (phase_leaving v (bus_of k).atn (phase_of (bus_of k))).messages
             messages = ap (λ (y : Exchange). y.plan.messages) i.exchange_is
-                ∙ ap (λ (q : Bool). (if not q then record (plan_anew k.exchange.plan) {
-                  messages = (leaving s k n.target).messages;
-                  next = (leaving s k n.target).next;
-                } else if k.exchange.begun
-                then plan_in_message_out (hearing_of k row (reading_in k.story.bus_state n c false)) k.exchange.plan
-                else plan_anew k.exchange.plan).messages) (out_in c.after in_after)
+                ∙ ap (λ (x : Plan). x.messages) (plan_left (hearing_of k row (reading_in k.story.bus_state n c false))
+                (leaving s k n.target) k.exchange.plan (out_in c.after in_after))
                 ∙ ap (λ (y : Leaving). y.messages) left
 
             again : is_message_out (bus_of k) ≡ true → k.exchange.plan.cause ≡ Cause.InMessage
@@ -445,23 +441,15 @@ again_row s p row n g o after made all begun_is h = by made
               where
                 cause : j.exchange.plan.cause ≡ Cause.InMessage
                 cause = ap (λ (y : Exchange). y.plan.cause) i.exchange_is
-                    ∙ (λ t. (if not (out_after t) then record (plan_anew k.exchange.plan) {
-                      messages = (leaving s k n.target).messages;
-                      next = (leaving s k n.target).next;
-                    } else if b t
-                    then plan_in_message_out (hearing_of k row (reading_in k.story.bus_state n c false)) k.exchange.plan
-                    else plan_anew k.exchange.plan).cause)
+                    ∙ ap (λ (x : Plan). x.cause) (plan_out (hearing_of k row (reading_in k.story.bus_state n c false))
+                    (leaving s k n.target) k.exchange.plan out_after b)
                     ∙ ap (λ (q : Bool). if q then Cause.InMessage
                     else if c.before.cd then Cause.InStatus else Cause.InData) z
 
                 messages : j.exchange.plan.messages ≡ from_byte k.exchange.plan.messages (k.handshakes.requests - 1)
-                messages = ap (λ (y : Exchange). y.plan.messages) i.exchange_is
-                    ∙ (λ t. (if not (out_after t) then record (plan_anew k.exchange.plan) {
-                      messages = (leaving s k n.target).messages;
-                      next = (leaving s k n.target).next;
-                    } else if b t
-                    then plan_in_message_out (hearing_of k row (reading_in k.story.bus_state n c false)) k.exchange.plan
-                    else plan_anew k.exchange.plan).messages)
+                messages = ap (λ (y : Exchange). y.plan.messages) i.exchange_is ∙ ap (λ (x : Plan). x.messages)
+                    (plan_out (hearing_of k row (reading_in k.story.bus_state n c false))
+                    (leaving s k n.target) k.exchange.plan out_after b)
                     ∙ ap (λ (q : Bool). if q then from_byte k.exchange.plan.messages (k.handshakes.requests - 1)
                     else k.exchange.plan.messages) z
 

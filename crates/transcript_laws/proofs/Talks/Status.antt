@@ -5,10 +5,10 @@ use proofs.Names.{None, refl, sym, ap, subst, is_some, if◌then◌else◌, wron
 use proofs.Names.{is_message_in, is_message_out, is_fault, receiver_in, Change, Connection, Row, MsgIn, ScenarioValue}
 use proofs.Names.{events_link, RowReading, row_reading, message_in, message_out, is_status_phase, row_events_by, Link}
 use proofs.Names.{link_of, Story, aim_of, story_on_bus, story_by_change, story_after_connection, story_with_restored}
-use proofs.Names.{story_with_sent, Exchange, from_byte, one_message, plan_anew, plan_after_message, struck_plan}
-use proofs.Names.{phase_of, phase_leaving, leaving_by, plan_in_message_out, is_naming, Cause, Leaving, Messages, Phase}
-use proofs.Names.{RunState, bus_of, item_of, run_state, hearing_of, leaving, serving_of, InConnection, in_connection}
-use proofs.Names.{byte_messages, not_both, reading_in, in_phase, out_in, out_lines, IsServed, names_first, LastBy}
+use proofs.Names.{story_with_sent, Exchange, from_byte, one_message, plan_after_message, struck_plan, phase_of}
+use proofs.Names.{phase_leaving, leaving_by, is_naming, Cause, Leaving, Messages, Phase, Plan, RunState, bus_of}
+use proofs.Names.{item_of, run_state, hearing_of, leaving, serving_of, InConnection, in_connection, byte_messages}
+use proofs.Names.{not_both, reading_in, in_phase, out_in, out_lines, plan_left, plan_out, IsServed, names_first, LastBy}
 use proofs.Names.{LastGiven, Named, known, said, refused, Completes, in_status, refused_again, completes_from}
 use proofs.Names.{left_alone, OpenedValue, is_completion, with_part, with_fault, phase_entered, phase_over, phase_parts}
 use proofs.{Names.{Part, are_talk, base_parts, out_parts, parts_now}, Held.Since.{follows_in}}
@@ -294,11 +294,8 @@ status_row s p row n g o after made h = by made
                 ≡ one_message MsgIn.CommandComplete
             messages = ap (λ (y : Leaving). y.messages) (sym left)
                 ∙ sym (ap (λ (y : Exchange). y.plan.messages) i.exchange_is
-                ∙ ap (λ (q : Bool). (if not q then record (plan_anew k.exchange.plan) {
-                  messages = (leaving s k n.target).messages;
-                  next = (leaving s k n.target).next;
-                } else if k.exchange.begun then plan_in_message_out (hearing_of k row (reading_in k.story.bus_state
-                n c false)) k.exchange.plan else plan_anew k.exchange.plan).messages) (out_in c.after in_after))
+                ∙ ap (λ (x : Plan). x.messages) (plan_left (hearing_of k row (reading_in k.story.bus_state n c false))
+                (leaving s k n.target) k.exchange.plan (out_in c.after in_after)))
                 ∙ m
 
             from : Completes (serving_of s k n.target) (phase_of (bus_of k)) → are_talk (base_parts o) ≡ false
@@ -325,11 +322,8 @@ status_row s p row n g o after made h = by made
 
             left : from_byte k.exchange.plan.messages (k.handshakes.requests - 1) ≡ one_message MsgIn.CommandComplete
             left = sym (ap (λ (y : Exchange). y.plan.messages) i.exchange_is
-                ∙ (λ t. (if not (out_after t) then record (plan_anew k.exchange.plan) {
-                  messages = (leaving s k n.target).messages;
-                  next = (leaving s k n.target).next;
-                } else if f.0 t then plan_in_message_out (hearing_of k row (reading_in k.story.bus_state n c false))
-                k.exchange.plan else plan_anew k.exchange.plan).messages)
+                ∙ ap (λ (x : Plan). x.messages) (plan_out (hearing_of k row (reading_in k.story.bus_state n c false))
+                (leaving s k n.target) k.exchange.plan out_after f.0)
                 ∙ ap (λ (q : Bool). if q then from_byte k.exchange.plan.messages (k.handshakes.requests - 1)
                 else k.exchange.plan.messages) f.1) ∙ m
 

@@ -12,13 +12,14 @@ use proofs.Names.{story_on_bus, story_by_change, Exchange, from_byte, bytes_of_m
 use proofs.Names.{phase_of, phase_leaving, leaving_by, plan_in_message_out, tag_named, Cause, Leaving, Messages, Phase}
 use proofs.Names.{Plan, IsPrompt, IsPlain, RunState, bus_of, run_state, hearing_of, leaving, serving_of, command_is}
 use proofs.Names.{is_command_phase, InConnection, in_connection, not_both, nil_is, AreGiven, OnMessage, OnMessages}
-use proofs.Names.{half_after, reading_in, is_selected, in_out, message_line, out_in, out_line, out_lines, by_bool}
-use proofs.Names.{unbegun_lines, SamePlan, plan_stays, Named, Names, known, said, refused, all, tag_alone, RestoresNone}
-use proofs.{Names.{Whole, whole, OpenedValue, transcribed, undoes_nothing}, Fits.Crossings.{whole_on}}
-use proofs.{Held.Since.{follows_in, message_no_command}, Opened.Bytes.{lines_same, out_same, in_same, begun_same}}
-use proofs.Opened.{Bytes.{begun_crossing, begun_turned}, Rows.{Going, Starts, Holds, RowMade, made_still}}
-use proofs.{Opened.Rows.{made_crossing, made_turn, always, plain_before, knows_before}, Undone.Bytes.{UndoesSo}}
-use proofs.Undone.{Bytes.{row_undoes}, Leavings.{is_brief, are_brief, Leads, briefly, answers, again, leads_from}}
+use proofs.Names.{half_after, reading_in, is_selected, in_out, message_line, out_in, out_line, out_lines, plan_left}
+use proofs.Names.{plan_out, by_bool, unbegun_lines, SamePlan, plan_stays, Named, Names, known, said, refused, all}
+use proofs.Names.{tag_alone, RestoresNone, Whole, whole, OpenedValue, transcribed, undoes_nothing}
+use proofs.{Fits.Crossings.{whole_on}, Held.Since.{follows_in, message_no_command}, Opened.Bytes.{lines_same, out_same}}
+use proofs.Opened.{Bytes.{in_same, begun_same, begun_crossing, begun_turned}, Rows.{Going, Starts, Holds, RowMade}}
+use proofs.Opened.Rows.{made_still, made_crossing, made_turn, always, plain_before, knows_before}
+use proofs.Undone.{Bytes.{UndoesSo, row_undoes}, Leavings.{is_brief, are_brief, Leads, briefly, answers, again}}
+use proofs.Undone.Leavings.{leads_from}
 use Rattle.bus_due.specs.disk_array.specs.Processes.{Process}
 
 -- Each of the messages that the target gives is one byte; or none of them restores pointers, and nothing is to be
@@ -268,12 +269,8 @@ undone_row s p row n g o after made h = by made
             ≡ (if b then plan_in_message_out (hearing_of k row (reading_in k.story.bus_state n c false)) k.exchange.plan
             else plan_anew k.exchange.plan)
         out_plan b e out = ap (λ (x : Exchange). x.plan) i.exchange_is
-            ∙ (λ t. if not (out_after out t) then record (plan_anew k.exchange.plan) {
-              messages = (leaving s k n.target).messages;
-              next = (leaving s k n.target).next;
-            } else if e t
-            then plan_in_message_out (hearing_of k row (reading_in k.story.bus_state n c false)) k.exchange.plan
-            else plan_anew k.exchange.plan)
+            ∙ plan_out (hearing_of k row (reading_in k.story.bus_state n c false))
+            (leaving s k n.target) k.exchange.plan (out_after out) e
 
         -- MESSAGE OUT follows
         opens : (b : Bool) → k.exchange.begun ≡ b → is_message_out (bus_of j) ≡ true
@@ -327,12 +324,8 @@ undone_row s p row n g o after made h = by made
 
             messages : j.exchange.plan.messages ≡ left.messages
             messages = ap (λ (y : Exchange). y.plan.messages) i.exchange_is
-                ∙ ap (λ (q : Bool). (if not q then record (plan_anew k.exchange.plan) {
-                  messages = (leaving s k n.target).messages;
-                  next = (leaving s k n.target).next;
-                } else if k.exchange.begun
-                then plan_in_message_out (hearing_of k row (reading_in k.story.bus_state n c false)) k.exchange.plan
-                else plan_anew k.exchange.plan).messages) no_out
+                ∙ ap (λ (x : Plan). x.messages) (plan_left (hearing_of k row (reading_in k.story.bus_state n c false))
+                (leaving s k n.target) k.exchange.plan no_out)
                 ∙ (λ t. (leaving_by (serving_of s k n.target) (b t) (bus_of k)).messages)
 
             after_out : phase_of (bus_of k) ≡ Phase.MessageOut → UndoesSo k.story → UndoesSo j.story
