@@ -204,11 +204,12 @@ pub use link_laws.{LinkStages.{when_shaking, when_turning}, Phases.{ends}, Pulse
 use Rattle.trace_laws.specs.row_laws.proofs as row_laws_proofs
 pub use row_laws_proofs.{Bytes.{Arrays.{IsOf}, Facts.{byte_values}}, Common.Impossible.{none_some, some_none}}
 pub use row_laws_proofs.Common.PhaseLines.{command_phase, in_phase, message_line, out_in, out_line, out_lines}
-pub use row_laws_proofs.Common.{PhaseLines.{out_no_status, out_phase}, PlanWays.{plan_left, plan_out}, Tests.{by_bool}}
-pub use row_laws_proofs.Common.Tests.{by_option, none_both, not_unless, risen, zero_below, zero_times}
-pub use row_laws_proofs.Events.{Answered.{leaves}, Arriving.{Arrives, arrives, as_guest, in_queue, not_running}}
-pub use row_laws_proofs.Events.{Arriving.{queued_rests}, Kept.{no_array}, Others.{same_after, untouched_at_start}}
-pub use row_laws_proofs.Events.{Processes.{Admits, AdmitsEvent, each_after}, Queued.{stays_queued, step_units}}
+pub use row_laws_proofs.Common.{PhaseLines.{out_no_status, out_phase}, PlanWays.{plan_left, plan_out}}
+pub use row_laws_proofs.Common.{StoryWays.{StoryWay, carries, hears, says, story_way}, Tests.{by_bool, by_option}}
+pub use row_laws_proofs.{Common.Tests.{none_both, not_unless, risen, zero_below, zero_times}, Events.Answered.{leaves}}
+pub use row_laws_proofs.Events.Arriving.{Arrives, arrives, as_guest, in_queue, not_running, queued_rests}
+pub use row_laws_proofs.Events.{Kept.{no_array}, Others.{same_after, untouched_at_start}, Processes.{Admits}}
+pub use row_laws_proofs.Events.{Processes.{AdmitsEvent, each_after}, Queued.{stays_queued, step_units}}
 pub use row_laws_proofs.Events.{Replies.{accepted, listed_on, replies_to, running_id}, Units.{MayWait, StaysSo}}
 pub use row_laws_proofs.Events.{Units.{each_settled, events_all}, Writers.{HoldsIt, IsElsewhere, Stands, append_all}}
 pub use row_laws_proofs.Events.Writers.{empty_stays, kept_all, map_all, map_units, none_at, stands_each, start_empty}

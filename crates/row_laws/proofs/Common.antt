@@ -5,3 +5,4 @@ pub mod Tests
 pub mod PhaseLines
 pub mod EachLine
 pub mod PlanWays
+pub mod StoryWays

@@ -72,8 +72,9 @@ pub use disk_array.{Steps.{settled_array_if, step, with_guest}, Units.{Array, Ne
 pub use disk_array.Units.{guest_at, has_no_current, is_held, nexus_of, settled_array, starting_array, unit_after_choice}
 pub use disk_array.Units.{unit_state_at, units_after_choice, with_current, with_unit, without_reply}
 use Rattle.bus_due.specs.bus_story.proofs as bus_story_proofs
-pub use bus_story_proofs.{CarriedLists.{carried_id, carried_with}, StorySteps.{carried_link, check_carried}}
-pub use bus_story_proofs.StorySteps.{ends_carried, events_link, events_sent, free_carried, message_id}
+pub use bus_story_proofs.{CarriedLists.{carried_id, carried_with}, StorySteps.{byte_link, carried_link, check_carried}}
+pub use bus_story_proofs.StorySteps.{ends_carried, events_link, events_sent, fault_link, free_carried, message_id}
+pub use bus_story_proofs.StorySteps.{out_link}
 use Rattle.bus_due.specs.bus_story.specs as bus_story
 pub use bus_story.BusState.{RowReading, message_in, message_out, row_reading, whole_in, whole_out}
 pub use bus_story.CarriedBytes.{Area, CarriedBytes, area_with, carried_after_byte, carried_after_fault}
@@ -190,20 +191,21 @@ pub use row_laws_proofs.{Bytes.{Blocks.{HasCommands, commands_are}, Facts.{byte_
 pub use row_laws_proofs.Common.{EachLine.{each_line}, Impossible.{none_some, some_none}, PhaseLines.{command_phase}}
 pub use row_laws_proofs.Common.PhaseLines.{data_in_lines, in_out, in_phase, is_data_phase, is_out_next, is_status}
 pub use row_laws_proofs.Common.PhaseLines.{message_is, message_line, not_message_in, not_message_out, out_in, out_lines}
-pub use row_laws_proofs.Common.{PhaseLines.{out_no_status, out_phase}, PlanWays.{plan_left, plan_out}, Tests.{all_four}}
-pub use row_laws_proofs.Common.Tests.{by_bool, by_option, mul_assoc, not_unless, risen, some_count, some_zero}
-pub use row_laws_proofs.{Common.Tests.{zero_times}, Ends.Facts.{ends_on, left_row}, Events.Answered.{context_same}}
-pub use row_laws_proofs.Events.Answered.{end_is, fail_answers, fail_is, leaves, lost_is, run_answers, run_is}
-pub use row_laws_proofs.Events.Arriving.{IsFoundAt, arrives, as_guest, at_once_may_run, fails_new, found_at}
-pub use row_laws_proofs.Events.Arriving.{guest_answered, guest_may_run, in_queue, no_guest, not_running, not_waiting}
-pub use row_laws_proofs.Events.{Arriving.{queued, queued_rests, refused_array}, BadReplies.{GiveNoGood, gives_no_good}}
-pub use row_laws_proofs.Events.{Depths.{within_after, within_at_start}, Kept.{NoReplyTo, events_keep}}
-pub use row_laws_proofs.Events.Others.{away_rests, executed, is_of, reply_at, rests_after, untouched_after}
-pub use row_laws_proofs.Events.{Others.{untouched_at_start, untouched_rests}, Processes.{attended_same, each_same}}
-pub use row_laws_proofs.Events.{Queues.{queued_stands, rests_in_queue}, Replies.{listed_on, replies_to, running_id}}
-pub use row_laws_proofs.Events.Units.{Arrives, ArrivesFirst, IfAll, MayWait, each_settled, events_all, reset_all}
-pub use row_laws_proofs.Events.Writers.{Moves, Stands, dropped_empty, empty_stays, empty_written, last_writer, may_wait}
-pub use row_laws_proofs.Events.Writers.{moved_units, same_units, stands_each, start_empty, written_stays}
+pub use row_laws_proofs.Common.{PhaseLines.{out_no_status, out_phase}, PlanWays.{plan_left, plan_out}}
+pub use row_laws_proofs.Common.{StoryWays.{StoryWay, story_way}, Tests.{all_four, by_bool, by_option, mul_assoc}}
+pub use row_laws_proofs.{Common.Tests.{not_unless, risen, some_count, some_zero, zero_times}, Ends.Facts.{ends_on}}
+pub use row_laws_proofs.{Ends.Facts.{left_row}, Events.Answered.{context_same, end_is, fail_answers, fail_is, leaves}}
+pub use row_laws_proofs.Events.{Answered.{lost_is, run_answers, run_is}, Arriving.{IsFoundAt, arrives, as_guest}}
+pub use row_laws_proofs.Events.Arriving.{at_once_may_run, fails_new, found_at, guest_answered, guest_may_run, in_queue}
+pub use row_laws_proofs.Events.Arriving.{no_guest, not_running, not_waiting, queued, queued_rests, refused_array}
+pub use row_laws_proofs.Events.{BadReplies.{GiveNoGood, gives_no_good}, Depths.{within_after, within_at_start}}
+pub use row_laws_proofs.Events.{Kept.{NoReplyTo, events_keep}, Others.{away_rests, executed, is_of, reply_at}}
+pub use row_laws_proofs.Events.Others.{rests_after, untouched_after, untouched_at_start, untouched_rests}
+pub use row_laws_proofs.Events.{Processes.{attended_same, each_same}, Queues.{queued_stands, rests_in_queue}}
+pub use row_laws_proofs.Events.{Replies.{listed_on, replies_to, running_id}, Units.{Arrives, ArrivesFirst, IfAll}}
+pub use row_laws_proofs.Events.{Units.{MayWait, each_settled, events_all, reset_all}, Writers.{Moves, Stands}}
+pub use row_laws_proofs.Events.Writers.{dropped_empty, empty_stays, empty_written, last_writer, may_wait, moved_units}
+pub use row_laws_proofs.Events.Writers.{same_units, stands_each, start_empty, written_stays}
 pub use row_laws_proofs.Lines.{Attention.{attention_row, lines_are}, Called.{IsCalled, IsDueCall, link_none, own_units}}
 pub use row_laws_proofs.Lines.Connections.{ConnectionRow, GoingRow, IsGoing, RowKindOf, begins_now, connection_row}
 pub use row_laws_proofs.Lines.Connections.{goes_now, going, going_row, link_low, row_kind, stage_of_connection}

@@ -125,11 +125,12 @@ pub use link_laws.{Phases.{ends}, Pulses.{run_count}}
 use Rattle.progress_laws.specs.row_laws.proofs as row_laws_proofs
 pub use row_laws_proofs.Common.{Impossible.{none_some}, PhaseLines.{command_phase, in_out, in_phase, message_line}}
 pub use row_laws_proofs.Common.PhaseLines.{out_in, out_line, out_lines, out_no_status, out_phase}
-pub use row_laws_proofs.Common.{PlanWays.{plan_left, plan_out}, Tests.{by_bool, by_option, plus_one}}
-pub use row_laws_proofs.Lines.Connections.{ConnectionRow, GoingRow, RowKindOf, begins_now, connection_row, goes_now}
-pub use row_laws_proofs.Lines.{Connections.{going_row, row_kind, stage_of_connection}, Crossings.{RowFacts, Stops}}
-pub use row_laws_proofs.Lines.{Crossings.{ends_here}, Joint.{NextStood, link_phase, link_unbegun}}
-pub use row_laws_proofs.Lines.{Plans.{is_in_message}, Rows.{LinkRow, is_unasked}, UnderRst.{raises_or_stands}}
+pub use row_laws_proofs.Common.{PlanWays.{plan_left, plan_out}, StoryWays.{StoryWay, story_way}, Tests.{by_bool}}
+pub use row_laws_proofs.{Common.Tests.{by_option, plus_one}, Lines.Connections.{ConnectionRow, GoingRow, RowKindOf}}
+pub use row_laws_proofs.Lines.Connections.{begins_now, connection_row, goes_now, going_row, row_kind}
+pub use row_laws_proofs.Lines.{Connections.{stage_of_connection}, Crossings.{RowFacts, Stops, ends_here}}
+pub use row_laws_proofs.Lines.{Joint.{NextStood, link_phase, link_unbegun}, Plans.{is_in_message}, Rows.{LinkRow}}
+pub use row_laws_proofs.Lines.{Rows.{is_unasked}, UnderRst.{raises_or_stands}}
 use Rattle.progress_laws.specs.row_laws.specs as row_laws
 pub use row_laws.{DataPointers.{is_marked}, ItemFacts.{AreChecked, IsChecked, IsNext, NoClash, is_abort}}
 pub use row_laws.{ItemFacts.{is_command as is_next_command, is_sense}, ItemTalks.{IsTaken, TalksBy, talk_of}}

@@ -2,7 +2,7 @@
 -- MESSAGE PARITY ERROR brings back another (6.4, 6.6.13, 6.6.19).
 use Rattle.right_laws.proofs
 use proofs.Names.{◌≡◌, Bool, true, false, ◌%◌, ◌∙◌, List, [], ◌∷◌, Option, Some, None, refl, sym, ap, if◌then◌else◌}
-use proofs.Names.{is_some, is_none, Event, ProcId, LineSet, Kind, Drives, Fault, Row, Change, Connection, MsgIn, MsgOut}
+use proofs.Names.{is_none, Event, ProcId, LineSet, Kind, Drives, Fault, Row, Change, Connection, MsgIn, MsgOut}
 use proofs.Names.{ScenarioValue, same_id, carried_id, carried_with, free_carried, message_id, ends_carried}
 use proofs.Names.{check_carried, RowReading, row_reading, CarriedBytes, carried_of, with_carried}
 use proofs.Names.{with_restored_pointers, carried_after_message, carried_after_byte, carried_after_fault, carried_if}
@@ -12,7 +12,9 @@ use proofs.Names.{story_after_event, story_after_events, aim_of, story_with_rest
 use proofs.Names.{story_after_connection, story_with_carried, is_parity_error, story_after_out}
 use proofs.Names.{carried_after_message_if, story_after_message, story_after_in, carried_after_byte_if}
 use proofs.Names.{story_after_byte, carried_after_fault_if, story_after_fault, story_in_connection, story_on_bus}
-use proofs.Names.{story_by_change, RunState, carried_here, run_state_after, id_is, byte_id, fault_id}
+use proofs.Names.{story_by_change, RunState, carried_here, run_state_after, id_is, StoryWay, says, hears, carries}
+use proofs.Names.{story_way, byte_id, fault_id}
+use Rattle.trace_laws.specs.row_laws.proofs.Common.StoryWays.{stays}
 
 -- Neither pointers, marks nor faults change it.
 pub record IsLasting {A : Type 0} (f : CarriedBytes → A) : Type 0 where
@@ -187,15 +189,13 @@ pub change_lasts : {A : Type 0} (f : CarriedBytes → A) → IsLasting f
 change_lasts f h s b d row id byte undo = go d.change.after.rst b.bus_state.connection d.next
   where
     crossing : (l : Link) → b.link ≡ Some l → Lasts f id b.carried (story_in_connection s b (Some l) d row).carried
-    crossing l e = by d.crosses refl d.out refl d.into
+    crossing l e = by (story_way s b l d row)
       where
-        by : (q : Bool) → d.crosses ≡ q → (o : Option MsgOut) → d.out ≡ o → (t : Option MsgIn) → Lasts f id b.carried
-            (if q then (if is_some o then story_after_out b l o else if is_some t then story_after_in s b l t
-            else story_after_byte b l d) else story_after_fault b l row.kind).carried
-        by true w (Some m) z t = out_lasts f b l m id (λ p u x y. undo l m u e z p x y)
-        by true w None z (Some m) = heard_lasts f h s b l m id
-        by true w None z None = byte_lasts f b l d id (λ x y. byte l e x w y)
-        by false w o z t = fault_lasts f h b l row.kind id
+        by : {after : Story} → StoryWay s b l d row after → Lasts f id b.carried after.carried
+        by (says m w z) = out_lasts f b l m id (λ p u x y. undo l m u e z p x y)
+        by (hears m _ _ _) = heard_lasts f h s b l m id
+        by (carries w _ _) = byte_lasts f b l d id (λ x y. byte l e x w y)
+        by (stays _) = fault_lasts f h b l row.kind id
 
     inside : (o : Option Link) → b.link ≡ o → Lasts f id b.carried (story_in_connection s b o d row).carried
     inside None e = refl

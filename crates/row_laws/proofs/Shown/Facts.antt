@@ -12,7 +12,8 @@ use proofs.Names.{story_with_restored, story_with_sent, story_after_connection, 
 use proofs.Names.{story_after_out, carried_after_message_if, story_after_message, story_after_in, carried_after_byte_if}
 use proofs.Names.{story_after_byte, carried_after_fault_if, story_after_fault, story_in_connection, story_on_bus}
 use proofs.Names.{story_by_change, RunState, or_start, array_after_events, run_state_after, id_is, is_marked}
-use proofs.{Names.{AreRepliesShown, UndoesAnswers}, Events.Replies.{replies_to, listed_on}}
+use proofs.{Names.{AreRepliesShown, UndoesAnswers}, Common.StoryWays.{StoryWay, says, hears, carries, stays, story_way}}
+use proofs.Events.Replies.{replies_to, listed_on}
 use Rattle.bus_due.specs.bus_story.specs.Story.{by_reset}
 
 -- Whether it has an answer, of all processes.
@@ -236,15 +237,13 @@ out_keeps b l m h = go (is_parity_error m) h l.undo refl
 crossing_keeps : (s : ScenarioValue) (b : Story) (l : Link) (d : RowReading) (row : Row)
     → ((m : MsgOut) (u : CarriedBytes) → d.out ≡ Some m → is_parity_error m ≡ true → l.undo ≡ Some u
     → is_marked u ≡ is_marked (carried_of b.carried u.id)) → Keeps b (story_in_connection s b (Some l) d row)
-crossing_keeps s b l d row h = go d.crosses d.out refl d.into
+crossing_keeps s b l d row h = go (story_way s b l d row)
   where
-    go : (q : Bool) (o : Option MsgOut) → d.out ≡ o → (t : Option MsgIn)
-        → Keeps b (if q then (if is_some o then story_after_out b l o
-        else if is_some t then story_after_in s b l t else story_after_byte b l d) else story_after_fault b l row.kind)
-    go true (Some m) e t = out_keeps b l m (λ p u f. h m u e p f)
-    go true None e (Some m) = heard_keeps s b l m
-    go true None e None = byte_keeps b l d
-    go false o e t = fault_keeps b l row.kind
+    go : {after : Story} → StoryWay s b l d row after → Keeps b after
+    go (says m _ e) = out_keeps b l m (λ p u f. h m u e p f)
+    go (hears m _ _ _) = heard_keeps s b l m
+    go (carries _ _ _) = byte_keeps b l d
+    go (stays _) = fault_keeps b l row.kind
 
 pub change_keeps : (s : ScenarioValue) (b : Story) (d : RowReading) (row : Row)
     → ((l : Link) (m : MsgOut) (u : CarriedBytes) → b.link ≡ Some l → d.out ≡ Some m → is_parity_error m ≡ true

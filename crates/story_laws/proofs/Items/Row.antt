@@ -3,15 +3,16 @@ use Rattle.story_laws.proofs
 use proofs.Names.{inl, inr, ℕ, ◌≡◌, ◌⊎◌, Bool, true, false, not, ◌&&◌, ◌∙◌, List, [], ◌∷◌, Option, Some, None, refl}
 use proofs.Names.{sym, ap, subst, list_any, if◌then◌else◌, is_some, is_none, slice_index, ⊤, wrong, wrong', Event}
 use proofs.Names.{ProcId, rises, LineSet, changes_phase, is_command, receiver_in, Kind, Drives, Fault, Row, Change}
-use proofs.Names.{Connection, MsgIn, MsgOut, ScenarioValue, array_after, carried_id, restored_sent, carried_link}
-use proofs.Names.{RowReading, row_reading, message_out, message_in, CarriedBytes, carried_of, is_whole_block}
-use proofs.Names.{is_status_phase, carried_if, queue_events, is_refuse, status_event, status_events, phase_events}
-use proofs.Names.{is_completion, end_events, connection_events, link_events, row_events_by, Item, process, has_item}
-use proofs.Names.{Link, last_out, last_in, link_after_name, Story, story_after_event, story_after_events}
-use proofs.Names.{story_with_restored, story_with_carried, is_parity_error, story_after_out, story_after_message}
-use proofs.Names.{story_after_in, carried_after_byte_if, story_after_byte, carried_after_fault_if, story_after_fault}
-use proofs.Names.{story_in_connection, story_on_bus, story_by_change, RunState, run_state_after, reading_is, link_after}
-use proofs.{Names.{IsRowIn, reading_in}, Items.Over.{Grows, grows_same, grows_on, events_grow, ends_over}}
+use proofs.Names.{Connection, MsgIn, MsgOut, ScenarioValue, array_after, carried_id, byte_link, fault_link, out_link}
+use proofs.Names.{restored_sent, carried_link, RowReading, row_reading, message_out, message_in, CarriedBytes}
+use proofs.Names.{carried_of, is_whole_block, is_status_phase, carried_if, queue_events, is_refuse, status_event}
+use proofs.Names.{status_events, phase_events, is_completion, end_events, connection_events, link_events, row_events_by}
+use proofs.Names.{Item, process, has_item, Link, last_out, last_in, link_after_name, Story, story_after_event}
+use proofs.Names.{story_after_events, story_with_restored, story_with_carried, is_parity_error, story_after_message}
+use proofs.Names.{carried_after_byte_if, carried_after_fault_if, story_after_fault, story_in_connection, story_on_bus}
+use proofs.Names.{story_by_change, RunState, run_state_after, reading_is, link_after, IsRowIn, reading_in, StoryWay}
+use proofs.{Names.{story_way}, Items.Over.{Grows, grows_same, grows_on, events_grow, ends_over}}
+use Rattle.row_laws.proofs.Common.StoryWays as ways
 
 -- ---- a row of a connection leaves what is sent and over, but for its events
 
@@ -21,7 +22,7 @@ carried_sent a (Some c) = refl
 
 pub inside_sent : (s : ScenarioValue) (b : Story) (l : Link) (d : RowReading) (row : Row)
     → (story_in_connection s b (Some l) d row).sent ≡ b.sent
-inside_sent s b l d row = by d.crosses d.out d.into
+inside_sent s b l d row = by (story_way s b l d row)
   where
     faulted : (kind : Kind) → (story_after_fault b l kind).sent ≡ b.sent
     faulted (Drives lines) = refl
@@ -42,13 +43,11 @@ inside_sent s b l d row = by d.crosses d.out d.into
     heard m true = carried_sent _ _ ∙ restored_sent b (link_after_name b.sent s.commands l m).item
     heard m false = carried_sent _ _
 
-    by : (q : Bool) (o : Option MsgOut) (t : Option MsgIn)
-        → (if q then (if is_some o then story_after_out b l o else if is_some t then story_after_in s b l t
-        else story_after_byte b l d) else story_after_fault b l row.kind).sent ≡ b.sent
-    by true (Some m) t = carried_sent _ (if is_parity_error m then l.undo else None)
-    by true None (Some m) = heard m (is_none l.item)
-    by true None None = crossed d.change.before.msg
-    by false o t = faulted row.kind
+    by : {after : Story} → StoryWay s b l d row after → after.sent ≡ b.sent
+    by (ways.says m _ _) = carried_sent _ (if is_parity_error m then l.undo else None)
+    by (ways.hears m _ _ _) = heard m (is_none l.item)
+    by (ways.carries _ _ _) = crossed d.change.before.msg
+    by (ways.stays _) = faulted row.kind
 
 -- ---- events that end nothing
 
@@ -197,22 +196,13 @@ pub data LinkAfter (s : ScenarioValue) (b : Story) (l : Link) (o : Option MsgOut
 
 crossed_link : (s : ScenarioValue) (b : Story) (l : Link) (d : RowReading) (row : Row) → b.link ≡ Some l
     → d.crosses ≡ true → LinkAfter s b l d.out d.into (story_in_connection s b (Some l) d row).link
-crossed_link s b l d row el e = go d.crosses e d.out refl d.into refl
+crossed_link s b l d row el e = go (story_way s b l d row)
   where
-    byte : (q : Bool)
-        → (if q then b else story_with_carried b (carried_after_byte_if (carried_if b l.item) d)).link ≡ b.link
-    byte true = refl
-    byte false = carried_link b (carried_after_byte_if (carried_if b l.item) d)
-
-    go : (q : Bool) → q ≡ true → (o : Option MsgOut) → d.out ≡ o → (t : Option MsgIn) → d.into ≡ t
-        → LinkAfter s b l d.out d.into
-        (if q then (if is_some o then story_after_out b l o else if is_some t then story_after_in s b l t
-        else story_after_byte b l d) else story_after_fault b l row.kind).link
-    go true z (Some m) f t g = says m f (carried_link (record b { link = Some (record l { last = last_out m l }) })
-        (if is_parity_error m then l.undo else None))
-    go true z None f (Some m) g = hears m f g (carried_link _ _)
-    go true z None f None g = stays f g (byte d.change.before.msg ∙ el)
-    go false z o f t g = wrong' z
+    go : {after : Story} → StoryWay s b l d row after → LinkAfter s b l d.out d.into after.link
+    go (ways.says m _ f) = says m f (out_link b l m)
+    go (ways.hears m _ f g) = hears m f g (carried_link _ _)
+    go (ways.carries _ f g) = stays f g (byte_link b l d ∙ el)
+    go (ways.stays z) = wrong (sym e ∙ z)
 
 pub link_crossed : (s : ScenarioValue) (k : RunState) (row : Row) (n : Connection) (c : Change) (l : Link)
     → IsRowIn k row n c → is_some (receiver_in n c) ≡ true → k.story.link ≡ Some l
@@ -229,9 +219,4 @@ pub link_still : (s : ScenarioValue) (k : RunState) (row : Row) (n : Connection)
     → (run_state_after s k row).story.link ≡ Some l
 link_still s k row n c l r en el = link_after s k row n c false r en
     ∙ ap (λ (x : Option Link). (story_in_connection s k.story x (reading_in k.story.bus_state n c false) row).link) el
-    ∙ faulted row.kind ∙ el
-  where
-    faulted : (kind : Kind) → (story_after_fault k.story l kind).link ≡ k.story.link
-    faulted (Drives lines) = refl
-    faulted (Fault bit) =
-        carried_link k.story (carried_after_fault_if (carried_if k.story l.item) k.story.bus_state.crossed)
+    ∙ fault_link k.story l row.kind ∙ el

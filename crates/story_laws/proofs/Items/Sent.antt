@@ -19,7 +19,7 @@ use proofs.Names.{story_after_connection, story_with_carried, is_parity_error, s
 use proofs.Names.{carried_after_message_if, story_after_message, story_after_in, carried_after_byte_if}
 use proofs.Names.{story_after_byte, carried_after_fault_if, story_after_fault, story_in_connection, story_on_bus}
 use proofs.Names.{story_by_change, item_of, RunState, run_state, run_state_after, self_id, id_is, LinkSent, LinksSent}
-use proofs.{Names.{SentOnly}, Pointers.Steps.{fault_id}}
+use proofs.{Names.{SentOnly}, Items.Row.{inside_sent}, Pointers.Steps.{fault_id}}
 
 -- The process of an event.
 abbrev pub process_in : Event → Option ProcId
@@ -560,35 +560,7 @@ grown s b d row i e = go d.change.after.rst
 
     inside : (l : Option Link) → (story_in_connection s b l d row).sent.sent ≡ b.sent.sent
     inside None = refl
-    inside (Some l) = by d.crosses d.out d.into
-      where
-        faulted : (kind : Kind) → (story_after_fault b l kind).sent.sent ≡ b.sent.sent
-        faulted (Drives lines) = refl
-        faulted (Fault bit) = carried_sent b (carried_after_fault_if (carried_if b l.item) b.bus_state.crossed)
-
-        crossed : (q : Bool)
-            → (if q then b else story_with_carried b (carried_after_byte_if (carried_if b l.item) d)).sent.sent
-            ≡ b.sent.sent
-        crossed true = refl
-        crossed false = carried_sent b (carried_after_byte_if (carried_if b l.item) d)
-
-        heard : (m : MsgIn) (q : Bool) → (story_after_message s
-            (if q then story_with_restored b (link_after_name b.sent s.commands l m).item else b)
-            (record (link_after_name b.sent s.commands l m) {
-              last = last_in m;
-              before = l.last;
-              undo = carried_if b l.item;
-            }) m).sent.sent ≡ b.sent.sent
-        heard m true = carried_sent _ _ ∙ restored_sent b (link_after_name b.sent s.commands l m).item
-        heard m false = carried_sent _ _
-
-        by : (q : Bool) (o : Option MsgOut) (t : Option MsgIn)
-            → (if q then (if is_some o then story_after_out b l o else if is_some t then story_after_in s b l t
-            else story_after_byte b l d) else story_after_fault b l row.kind).sent.sent ≡ b.sent.sent
-        by true (Some m) t = carried_sent _ (if is_parity_error m then l.undo else None)
-        by true None (Some m) = heard m (is_none l.item)
-        by true None None = crossed d.change.before.msg
-        by false o t = faulted row.kind
+    inside (Some l) = ap (λ (x : Sent). x.sent) (inside_sent s b l d row)
 
     on : (m n : Option Connection) → has_item (story_on_bus s b m n d row).sent.sent i ≡ true
     on None None = ap (λ (x : List Item). has_item x i) (free_keeps s b d row).2 ∙ e

@@ -3,17 +3,17 @@
 use Rattle.story_laws.proofs
 use proofs.Names.{◌≡◌, ◌⊎◌, inl, inr, ◌*◌, Bool, true, false, not, ◌&&◌, ◌∙◌, List, Option, Some, None, refl, sym, ap}
 use proofs.Names.{subst, same_Some, if◌then◌else◌, is_some, ProcId, is_message_in, receiver_in, Row, Change, Connection}
-use proofs.Names.{MsgIn, MsgOut, ScenarioValue, Tag, Process, carried_id, byte_link, out_link, events_link}
-use proofs.Names.{first_link as begun_link, fault_link, RowReading, row_reading, Area, CarriedBytes, carried_of}
-use proofs.Names.{with_restored_pointers, carried_if, row_events_by, Item, process, abort, has_item, Link, link_of}
-use proofs.Names.{link_after_name, Story, aim_of, story_with_restored, story_with_sent, story_after_connection}
-use proofs.Names.{story_after_out, story_after_in, story_after_byte, story_after_fault, story_in_connection}
+use proofs.Names.{ScenarioValue, Tag, Process, carried_id, byte_link, out_link, events_link, first_link as begun_link}
+use proofs.Names.{fault_link, RowReading, row_reading, Area, CarriedBytes, carried_of, with_restored_pointers}
+use proofs.Names.{carried_if, row_events_by, Item, process, abort, has_item, Link, link_of, link_after_name, Story}
+use proofs.Names.{aim_of, story_with_restored, story_with_sent, story_after_connection, story_in_connection}
 use proofs.Names.{story_on_bus, story_by_change, Exchange, phase_of, Ready, naming_messages, Messages, ProcessProgress}
 use proofs.Names.{progress_in, RunState, bus_of, carried_here, run_state_after, progress_after, leaving_of}
 use proofs.Names.{exchange_after, first_exchange, served_after, item_if, messages_if, ready_of, put_own, link_after}
-use proofs.Names.{OnMessages, Knows, IsFirstRow, IsRowIn, reading_in, none_some, in_phase, is_marked, run_policy}
-use proofs.Names.{run_start, run_step, IsPlainIn, PointersIf, IsWaiting, ServedPointers, unnamed, named, UndoesServed}
-use proofs.{Names.{IsServedAnew}, Pointers.{Steps.{in_link}, Stories.{SamePointers, events_same}}}
+use proofs.Names.{OnMessages, Knows, IsFirstRow, IsRowIn, reading_in, none_some, in_phase, StoryWay, story_way}
+use proofs.Names.{is_marked, run_policy, run_start, run_step, IsPlainIn, PointersIf, IsWaiting, ServedPointers, unnamed}
+use proofs.{Names.{named, UndoesServed, IsServedAnew}, Pointers.{Steps.{in_link}, Stories.{SamePointers, events_same}}}
+use Rattle.row_laws.proofs.Common.StoryWays as ways
 
 -- ---- the first row
 
@@ -166,7 +166,7 @@ pub goes_undoes : (s : ScenarioValue) (k : RunState) (row : Row) (n : Connection
     → IsRowIn k row n c → is_some (receiver_in n c) ≡ now → Knows s k n → (run_state_after s k row).served ≡ k.served
     → UndoesServed k → UndoesServed (run_state_after s k row)
 goes_undoes s k row n c now r en knows served h l u el eu = served
-    ∙ go d.crosses d.out d.into (sym (link_after s k row n c now r en
+    ∙ go (story_way s k.story knows.link d row) (sym (link_after s k row n c now r en
     ∙ ap (λ (x : Option Link). (story_in_connection s k.story x d row).link) knows.link_is) ∙ el)
   where
     d : RowReading
@@ -191,17 +191,15 @@ goes_undoes s k row n c now r en knows served h l u el eu = served
         by (inl z) = sym z ∙ e ∙ ap (λ (y : ProcId). Some (process y)) id
         by (inr z) = none_item x (sym z.1 ∙ e)
 
-    go : (q : Bool) (o : Option MsgOut) (m : Option MsgIn)
-        → (if q then (if is_some o then story_after_out k.story knows.link o
-        else if is_some m then story_after_in s k.story knows.link m else story_after_byte k.story knows.link d)
-        else story_after_fault k.story knows.link row.kind).link ≡ Some l
+    go : {after : Story} → StoryWay s k.story knows.link d row after → after.link ≡ Some l
         → k.served ≡ Some (process u.id)
-    go false o m e = same (same_Some knows.link l (sym (fault_link k.story knows.link row.kind ∙ knows.link_is) ∙ e))
-    go true (Some o) m e = h knows.link u knows.link_is (ap (λ (x : Link). x.undo) (same_Some (record knows.link {
+    go (ways.stays _) e =
+        same (same_Some knows.link l (sym (fault_link k.story knows.link row.kind ∙ knows.link_is) ∙ e))
+    go (ways.says o _ _) e = h knows.link u knows.link_is (ap (λ (x : Link). x.undo) (same_Some (record knows.link {
       last = Rattle.bus_due.specs.bus_story.specs.Links.last_out o knows.link;
     }) l (sym (out_link k.story knows.link o) ∙ e)) ∙ eu)
-    go true None None e = same (same_Some knows.link l (sym (byte_link k.story knows.link d ∙ knows.link_is) ∙ e))
-    go true None (Some m) e = told knows.link.item refl
+    go (ways.carries _ _ _) e = same (same_Some knows.link l (sym (byte_link k.story knows.link d ∙ knows.link_is) ∙ e))
+    go (ways.hears m _ _ _) e = told knows.link.item refl
         (ap (λ (x : Link). x.undo) (same_Some (record (link_after_name k.story.sent s.commands knows.link m) {
           last = Rattle.bus_due.specs.bus_story.specs.Links.last_in m;
           before = knows.link.last;

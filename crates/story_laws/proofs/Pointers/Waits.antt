@@ -2,20 +2,21 @@
 use Rattle.story_laws.proofs
 use proofs.Names.{ℕ, ◌≡◌, ◌⊎◌, inl, inr, ◌*◌, Bool, true, false, not, ◌&&◌, ◌∙◌, List, ◌∷◌, Option, Some, None, refl}
 use proofs.Names.{sym, ap, subst, true≢false, if◌then◌else◌, is_some, is_none, nat_lt, ProcId, falls, changes_phase}
-use proofs.Names.{receiver_in, Row, Change, Connection, Call, Calling, MsgIn, MsgOut, ScenarioValue, Process}
-use proofs.Names.{process_of, same_id, carried_id, restored_sent, sent_carried, RowReading, row_reading, Area}
-use proofs.Names.{CarriedBytes, carried_of, with_restored_pointers, row_events_by, link_events, Item, process, abort}
-use proofs.Names.{has_item, Link, link_of, link_after_name, Story, story_after_events, aim_of, is_arbitration_entry}
-use proofs.Names.{story_with_aim, story_without_answer, is_counted, retries_of, story_with_try, story_after_calling_by}
+use proofs.Names.{receiver_in, Row, Change, Connection, Call, Calling, MsgIn, ScenarioValue, Process, process_of}
+use proofs.Names.{same_id, carried_id, restored_sent, sent_carried, RowReading, row_reading, Area, CarriedBytes}
+use proofs.Names.{carried_of, with_restored_pointers, row_events_by, link_events, Item, process, abort, has_item, Link}
+use proofs.Names.{link_of, link_after_name, Story, story_after_events, aim_of, is_arbitration_entry, story_with_aim}
+use proofs.Names.{story_without_answer, is_counted, retries_of, story_with_try, story_after_calling_by}
 use proofs.Names.{story_after_calling, story_on_free_bus, story_with_restored, story_with_sent, story_after_connection}
 use proofs.Names.{story_after_out, story_after_in, story_after_byte, story_after_fault, story_in_connection}
 use proofs.Names.{story_on_bus, story_by_change, Leaving, other_kept, ProcessProgress, progress_in, RunState}
 use proofs.Names.{carried_here, process_item, process_served, run_state_after, progress_after, progress_by_leaving}
-use proofs.Names.{leaving_of, Knows, IsRowIn, reading_in, not_unless, by_bool, is_marked, run_start, run_step}
-use proofs.{Names.{IsWaiting, UndoesServed}, Items.Row.{inside_sent}, Pointers.Steps.{IsNot, fault_story, byte_other}}
-use proofs.Pointers.{Steps.{out_other, in_other}, Stories.{SamePointers, events_same, events_over, over_more}}
-use proofs.Pointers.Stories.{story_row}
+use proofs.Names.{leaving_of, Knows, IsRowIn, reading_in, StoryWay, story_way, not_unless, by_bool, is_marked}
+use proofs.{Names.{run_start, run_step, IsWaiting, UndoesServed}, Items.Row.{inside_sent}, Pointers.Steps.{IsNot}}
+use proofs.Pointers.{Steps.{fault_story, byte_other, out_other, in_other}, Stories.{SamePointers, events_same}}
+use proofs.Pointers.Stories.{events_over, over_more, story_row}
 use Rattle.bus_due.specs.disk_array.proofs.SoundArrays.{id_is}
+use Rattle.row_laws.proofs.Common.StoryWays as ways
 
 -- ---- what is asked of one that waits
 
@@ -298,7 +299,7 @@ goes_other s k row n c id now r en knows undoes other names = saved_on (carried_
     (sym (ap (λ (x : Story). carried_of x.carried id) (story_row s k row n c now r en ∙ (λ i. story_after_events s
     (story_in_connection s k.story (knows.link_is i) d row) (link_events s k.story (knows.link_is i) d))))) (events_same
     s (story_in_connection s k.story (Some knows.link) d row) (link_events s k.story (Some knows.link) d) id))
-    (go d.crosses d.out d.into refl)
+    (go (story_way s k.story knows.link d row))
   where
     d : RowReading
     d = reading_in k.story.bus_state n c now
@@ -310,16 +311,14 @@ goes_other s k row n c id now r en knows undoes other names = saved_on (carried_
         → SameSaved (carried_of b.carried id) (carried_here k id)
     same b e = subst (λ (x : CarriedBytes). SameSaved x (carried_here k id)) (sym e) (saved_self (carried_here k id))
 
-    go : (q : Bool) (o : Option MsgOut) (m : Option MsgIn) → d.into ≡ m
-        → SameSaved (carried_of (if q then (if is_some o then story_after_out k.story knows.link o
-        else if is_some m then story_after_in s k.story knows.link m else story_after_byte k.story knows.link d)
-        else story_after_fault k.story knows.link row.kind).carried id) (carried_here k id)
-    go false o m e = saved_same (carried_of (story_after_fault k.story knows.link row.kind).carried id)
+    go : {after : Story} → StoryWay s k.story knows.link d row after
+        → SameSaved (carried_of after.carried id) (carried_here k id)
+    go (ways.stays _) = saved_same (carried_of (story_after_fault k.story knows.link row.kind).carried id)
         (carried_here k id) (fault_story k.story knows.link row.kind id)
-    go true (Some o) m e = same (story_after_out k.story knows.link (Some o))
+    go (ways.says o _ _) = same (story_after_out k.story knows.link (Some o))
         (out_other k.story knows.link o id (λ u z. other u.id (undoes knows.link u knows.link_is z)))
-    go true None None e = same (story_after_byte k.story knows.link d)
+    go (ways.carries _ _ _) = same (story_after_byte k.story knows.link d)
         (byte_other k.story knows.link d id (item_not id k n knows.link.item other own))
-    go true None (Some m) e =
+    go (ways.hears m _ _ e) =
         same (story_after_in s k.story knows.link (Some m)) (in_other s k.story knows.link m id (item_not id k n
         (link_after_name k.story.sent s.commands knows.link m).item other (names knows.link m knows.link_is e)))

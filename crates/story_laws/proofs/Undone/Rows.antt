@@ -3,16 +3,16 @@
 use Rattle.story_laws.proofs
 use proofs.Names.{inl, inr, ℕ, ◌≡◌, ◌⊎◌, Bool, true, false, ◌||◌, ◌%◌, ◌∙◌, List, [], ◌∷◌, ◌++◌, length, Option, Some}
 use proofs.Names.{None, refl, sym, ap, subst, same_Some, if◌then◌else◌, is_some, slice_index_or, ⊤, wrong', Event}
-use proofs.Names.{ProcId, changes_phase, is_command, is_message_in, receiver_in, Kind, Drives, Fault, Row, Change}
-use proofs.Names.{Connection, form_in, got_in, MsgIn, MsgOut, ScenarioValue, carried_id, carried_link, RowReading}
+use proofs.Names.{ProcId, changes_phase, is_command, is_message_in, receiver_in, Row, Change, Connection, form_in}
+use proofs.Names.{got_in, MsgIn, ScenarioValue, carried_id, byte_link, fault_link, out_link, carried_link, RowReading}
 use proofs.Names.{row_reading, whole_in, message_in, message_out, CarriedBytes, carried_of, is_status_phase, carried_if}
 use proofs.Names.{phase_events, is_completion, end_events, row_events_by, Item, process, abort, Link, last_out, last_in}
-use proofs.Names.{link_after_name, Story, story_after_events, story_with_carried, is_parity_error, story_after_out}
-use proofs.Names.{story_after_in, carried_after_byte_if, story_after_byte, carried_after_fault_if, story_after_fault}
-use proofs.Names.{story_in_connection, story_by_change, bytes_of_messages, message_bytes, RunState, carried_here}
-use proofs.Names.{run_state_after, reading_is, link_after, AreGiven, half_after, IsRowIn, reading_in, none_some}
-use proofs.Names.{replies_to, answered_on, change_keeps, is_marked, UndoesAnswers, UndoesSame, UndoFits, is_short}
-use proofs.Tells.Rows.{no_events, row_shows}
+use proofs.Names.{link_after_name, Story, story_after_events, story_after_out, story_after_in, story_after_byte}
+use proofs.Names.{story_after_fault, story_in_connection, story_by_change, bytes_of_messages, message_bytes, RunState}
+use proofs.Names.{carried_here, run_state_after, reading_is, link_after, AreGiven, half_after, IsRowIn, reading_in}
+use proofs.Names.{none_some, StoryWay, story_way, replies_to, answered_on, change_keeps, is_marked, UndoesAnswers}
+use proofs.{Names.{UndoesSame, UndoFits, is_short}, Tells.Rows.{no_events, row_shows}}
+use Rattle.row_laws.proofs.Common.StoryWays as ways
 
 -- ---- the answers after a row
 
@@ -84,37 +84,22 @@ pub record UndoAfter (b : Story) (l : Link) (link : Option Link) : Type 0 where
 
 pub undo_after : (s : ScenarioValue) (b : Story) (l : Link) (d : RowReading) (row : Row) → b.link ≡ Some l
     → UndoAfter b l (story_in_connection s b (Some l) d row).link
-undo_after s b l d row el = go d.crosses d.out d.into
+undo_after s b l d row el = go (story_way s b l d row)
   where
     stays : (link : Option Link) → link ≡ b.link → UndoAfter b l link
     stays link e = record { after = l; is = e ∙ el; undo = inl refl }
 
-    faulted : (kind : Kind) → (story_after_fault b l kind).link ≡ b.link
-    faulted (Drives lines) = refl
-    faulted (Fault bit) = carried_link b (carried_after_fault_if (carried_if b l.item) b.bus_state.crossed)
-
-    byte : (q : Bool)
-        → (if q then b else story_with_carried b (carried_after_byte_if (carried_if b l.item) d)).link ≡ b.link
-    byte true = refl
-    byte false = carried_link b (carried_after_byte_if (carried_if b l.item) d)
-
-    go : (q : Bool) (o : Option MsgOut) (t : Option MsgIn) → UndoAfter b l
-        (if q then (if is_some o then story_after_out b l o else if is_some t then story_after_in s b l t
-        else story_after_byte b l d) else story_after_fault b l row.kind).link
-    go true (Some m) t = record {
-      after = record l { last = last_out m l };
-      is = carried_link (record b { link = Some (record l { last = last_out m l }) })
-          (if is_parity_error m then l.undo else None);
-      undo = inl refl;
-    }
-    go true None (Some m) = record {
+    go : {after : Story} → StoryWay s b l d row after → UndoAfter b l after.link
+    go (ways.says m _ _) =
+        record { after = record l { last = last_out m l }; is = out_link b l m; undo = inl refl }
+    go (ways.hears m _ _ _) = record {
       after = record
           (link_after_name b.sent s.commands l m) { last = last_in m; before = l.last; undo = carried_if b l.item };
       is = carried_link _ _;
       undo = inr refl;
     }
-    go true None None = stays _ (byte d.change.before.msg)
-    go false o t = stays _ (faulted row.kind)
+    go (ways.carries _ _ _) = stays _ (byte_link b l d)
+    go (ways.stays _) = stays _ (fault_link b l row.kind)
 
 pub heard_after : (s : ScenarioValue) (b : Story) (l : Link) (d : RowReading) (row : Row) (m : MsgIn)
     → d.crosses ≡ true → d.out ≡ None → d.into ≡ Some m → (story_in_connection s b (Some l) d row).link ≡ Some

@@ -4,25 +4,26 @@ use Rattle.trace_laws.proofs
 use proofs.Names.{◌≡◌, ◌⊎◌, inl, inr, Bool, true, false, ◌∙◌, Option, Some, None, refl, sym, ap, subst, true≢false, ◌<◌}
 use proofs.Names.{not, ◌&&◌, List, ◌∷◌, [], ℕ, same_Some, if◌then◌else◌, is_some, Event, ProcId, change_of, rises}
 use proofs.Names.{LineSet, receiver_in, connection, connection_after, Kind, Drives, Fault, Row, Change, Connection}
-use proofs.Names.{MsgIn, MsgOut, ScenarioValue, Obeys, same_id, carried_id, RowReading, row_reading, CarriedBytes}
-use proofs.Names.{carried_of, carried_after_fault, carried_or_nothing, carried_if, item_loss_events, bus_free_events}
-use proofs.Names.{Item, process, abort, has_item, sense_item, Link, link_after_name, LastMessage, plain, Story}
-use proofs.Names.{story_after_events, story_with_carried, story_after_out, story_after_in, story_after_byte}
-use proofs.Names.{carried_after_fault_if, story_after_fault, story_by_change, aim_of, phase_of, Ready, Phase, IsPrompt}
-use proofs.Names.{RunState, bus_of, carried_here, run_state_after, run_state, served_after, item_if, ready_of}
-use proofs.Names.{InConnection, in_connection, put_other, Gives, is_in_phase, Knows, RowKind, still, strikes, crosses}
-use proofs.Names.{turns, IsRowIn, IsFirstRow, reading_in, GoesOn, Books, Ends, RowOf, apart, begins, goes_on, ends}
-use proofs.Names.{under_reset, change_plain, least_is, none_some, not_unless, by_bool, Stood, NextStood, UndoesServed}
-use proofs.Names.{is_marked, ItemFacts, PlaceFacts, IsLeaving, rst_raised, IsUnshown, items_fresh, items_ready}
-use proofs.Names.{items_sent, begins_undoes, goes_undoes, none_item, names_or, IsNot, fault_id, byte_other, out_other}
-use proofs.Names.{in_other, lost_over, SameSaved, over_row, apart_same, ends_same, begins_same, item_not, goes_other}
-use proofs.Names.{left_tells, IsFresh, TellFacts, StandsClear, ClearBooks, ClearFacts, IsClear, FailFacts, SentAsLeft}
-use proofs.{Closes.Ends.{EndsHere, ends_row, ends_low, lost_by, lost_in}, Failures.Away.{reset_same, apart_clear}}
-use proofs.Failures.{Bytes.{SameFail, clear_as, row_carries}, First.{BeginsClear}, Left.{fails_as_left, freed_as_left}}
-use proofs.{Places.{EndTells.{EndTold, end_told, end_begun}, Ends.{free_shown}, Joins.{sends_none}}, Runs.Rows.{Serves}}
-use proofs.Runs.Rows.{it, another, serves}
+use proofs.Names.{MsgIn, ScenarioValue, Obeys, same_id, carried_id, RowReading, row_reading, CarriedBytes, carried_of}
+use proofs.Names.{carried_after_fault, carried_or_nothing, carried_if, item_loss_events, bus_free_events, Item, process}
+use proofs.Names.{abort, has_item, sense_item, Link, link_after_name, LastMessage, plain, Story, story_after_events}
+use proofs.Names.{story_with_carried, carried_after_fault_if, story_after_fault, story_by_change, aim_of, phase_of}
+use proofs.Names.{Ready, Phase, IsPrompt, RunState, bus_of, carried_here, run_state_after, run_state, served_after}
+use proofs.Names.{item_if, ready_of, InConnection, in_connection, put_other, Gives, is_in_phase, Knows, RowKind, still}
+use proofs.Names.{strikes, crosses, turns, IsRowIn, IsFirstRow, reading_in, GoesOn, Books, Ends, RowOf, apart, begins}
+use proofs.Names.{goes_on, ends, under_reset, change_plain, least_is, none_some, StoryWay, story_way, not_unless}
+use proofs.Names.{by_bool, Stood, NextStood, UndoesServed, is_marked, ItemFacts, PlaceFacts, IsLeaving, rst_raised}
+use proofs.Names.{IsUnshown, items_fresh, items_ready, items_sent, begins_undoes, goes_undoes, none_item, names_or}
+use proofs.Names.{IsNot, fault_id, byte_other, out_other, in_other, lost_over, SameSaved, over_row, apart_same}
+use proofs.Names.{ends_same, begins_same, item_not, goes_other, left_tells, IsFresh, TellFacts, StandsClear, ClearBooks}
+use proofs.{Names.{ClearFacts, IsClear, FailFacts, SentAsLeft}, Closes.Ends.{EndsHere, ends_row, ends_low, lost_by}}
+use proofs.{Closes.Ends.{lost_in}, Failures.{Away.{reset_same, apart_clear}, Bytes.{SameFail, clear_as, row_carries}}}
+use proofs.{Failures.{First.{BeginsClear}, Left.{fails_as_left, freed_as_left}}, Places.EndTells.{EndTold, end_told}}
+use proofs.{Places.{EndTells.{end_begun}, Ends.{free_shown}, Joins.{sends_none}}, Runs.Rows.{Serves, it, another}}
+use proofs.Runs.Rows.{serves}
 use Rattle.story_laws.proofs.Pointers.Begins.{same_process}
 use Rattle.story_laws.proofs.Pointers.Ends.{command_over}
+use Rattle.story_laws.specs.row_laws.proofs.Common.StoryWays as ways
 use Rattle.trace_laws.proofs.Failures.Away as away
 
 -- ---- of one process
@@ -105,7 +106,8 @@ other_same : (s : ScenarioValue) (k : RunState) (row : Row) (n : Connection) (c 
     → IsRowIn k row n c → is_some (receiver_in n c) ≡ now → Knows s k n → UndoesServed k → IsNot id k.served
     → NamesOr s k n c now → SameFail (carried_here k id) (carried_here (run_state_after s k row) id)
 other_same s k row n c id now r en knows undoes other names = subst
-    (λ (x : CarriedBytes). SameFail x (carried_here (run_state_after s k row) id)) (go d.crosses d.out d.into refl)
+    (λ (x : CarriedBytes). SameFail x (carried_here (run_state_after s k row) id))
+    (go (story_way s k.story knows.link d row))
     (row_carries s k row n c now knows.link r en knows.link_is id)
   where
     d : RowReading
@@ -114,14 +116,12 @@ other_same s k row n c id now r en knows undoes other names = subst
     own : (knows.link.item ≡ k.served) ⊎ (knows.link.item ≡ None)
     own = elim knows.item_is [ inl z ↦ inl z | inr z ↦ inr z.1 ]
 
-    go : (q : Bool) (o : Option MsgOut) (m : Option MsgIn) → d.into ≡ m
-        → carried_of (if q then (if is_some o then story_after_out k.story knows.link o
-        else if is_some m then story_after_in s k.story knows.link m else story_after_byte k.story knows.link d)
-        else story_after_fault k.story knows.link row.kind).carried id ≡ carried_here k id
-    go false o m e = fault_not k.story knows.link row.kind id (item_not id k n knows.link.item other own)
-    go true (Some o) m e = out_other k.story knows.link o id (λ u z. other u.id (undoes knows.link u knows.link_is z))
-    go true None None e = byte_other k.story knows.link d id (item_not id k n knows.link.item other own)
-    go true None (Some m) e = in_other s k.story knows.link m id (item_not id k n
+    go : {after : Story} → StoryWay s k.story knows.link d row after
+        → carried_of after.carried id ≡ carried_here k id
+    go (ways.stays _) = fault_not k.story knows.link row.kind id (item_not id k n knows.link.item other own)
+    go (ways.says o _ _) = out_other k.story knows.link o id (λ u z. other u.id (undoes knows.link u knows.link_is z))
+    go (ways.carries _ _ _) = byte_other k.story knows.link d id (item_not id k n knows.link.item other own)
+    go (ways.hears m _ _ e) = in_other s k.story knows.link m id (item_not id k n
         (link_after_name k.story.sent s.commands knows.link m).item other (names knows.link m knows.link_is e))
 
 -- ---- a connection goes on

@@ -1,19 +1,20 @@
 -- What a row makes of the status areas of all processes, and of what MESSAGE PARITY ERROR would bring back of one.
 use Rattle.trace_laws.proofs
 use proofs.Names.{◌≡◌, Bool, true, false, ◌%◌, ◌∙◌, ℕ, List, [], ◌∷◌, ◌++◌, Option, Some, None, refl, sym, ap, subst}
-use proofs.Names.{same_Some, if◌then◌else◌, is_some, is_none, Event, ProcId, LineSet, is_command, is_data, Kind, Drives}
-use proofs.Names.{Fault, Row, Change, Connection, PARITY_ERROR, INITIATOR_DETECTED_ERROR, MsgIn, MsgOut, ScenarioValue}
-use proofs.Names.{same_id, carried_id, carried_with, carried_link, events_link, free_carried, ends_carried}
-use proofs.Names.{check_carried, RowReading, row_reading, area_with, CarriedBytes, carried_of, with_carried}
-use proofs.Names.{with_restored_pointers, carried_after_message, carried_after_byte, carried_after_fault}
-use proofs.Names.{is_status_phase, carried_if, row_events_by, Item, process, abort, Link, link_of, last_out, last_in}
-use proofs.Names.{link_after_name, Story, by_abort, is_aborted, is_sense_stopped, marked_refused, marked_shown}
-use proofs.Names.{story_after_event, story_after_events, aim_of, story_on_free_bus, story_with_restored}
+use proofs.Names.{same_Some, if◌then◌else◌, is_none, Event, ProcId, LineSet, is_command, is_data, Kind, Drives, Fault}
+use proofs.Names.{Row, Change, Connection, PARITY_ERROR, INITIATOR_DETECTED_ERROR, MsgIn, MsgOut, ScenarioValue}
+use proofs.Names.{same_id, carried_id, carried_with, byte_link, fault_link, out_link, carried_link, events_link}
+use proofs.Names.{free_carried, ends_carried, check_carried, RowReading, row_reading, area_with, CarriedBytes}
+use proofs.Names.{carried_of, with_carried, with_restored_pointers, carried_after_message, carried_after_byte}
+use proofs.Names.{carried_after_fault, is_status_phase, carried_if, row_events_by, Item, process, abort, Link, link_of}
+use proofs.Names.{last_out, last_in, link_after_name, Story, by_abort, is_aborted, is_sense_stopped, marked_refused}
+use proofs.Names.{marked_shown, story_after_event, story_after_events, aim_of, story_on_free_bus, story_with_restored}
 use proofs.Names.{story_with_sent, story_after_connection, story_with_carried, is_parity_error, story_after_out}
 use proofs.Names.{carried_after_message_if, story_after_message, story_after_in, carried_after_byte_if}
 use proofs.Names.{story_after_byte, carried_after_fault_if, story_after_fault, story_in_connection, story_on_bus}
-use proofs.Names.{story_by_change, RunState, run_state_after, id_is, none_some}
+use proofs.Names.{story_by_change, RunState, run_state_after, id_is, none_some, StoryWay, story_way}
 use Rattle.bus_due.specs.bus_story.specs.Story.{by_reset}
+use Rattle.story_laws.specs.row_laws.proofs.Common.StoryWays as ways
 
 -- It holds of the status area of each process; and of that which would be brought back.
 abbrev pub OnAreas : (ProcId → List ℕ → Type 0) → List CarriedBytes → Type 0
@@ -210,15 +211,13 @@ pub record Takes (q : ProcId → List ℕ → Type 0) (b : Story) (d : RowReadin
 
 crossing_on : (q : ProcId → List ℕ → Type 0) (s : ScenarioValue) (b : Story) (l : Link) (d : RowReading) (row : Row)
     → OnAreas q b.carried → Takes q b d l → OnAreas q (story_in_connection s b (Some l) d row).carried
-crossing_on q s b l d row h t = go d.crosses refl d.out refl d.into
+crossing_on q s b l d row h t = go (story_way s b l d row)
   where
-    go : (r : Bool) → d.crosses ≡ r → (o : Option MsgOut) → d.out ≡ o → (x : Option MsgIn)
-        → OnAreas q (if r then (if is_some o then story_after_out b l o else if is_some x then story_after_in s b l x
-        else story_after_byte b l d) else story_after_fault b l row.kind).carried
-    go true z (Some m) e x = out_on q b l m h (λ f u g. t.undoes m u e f g)
-    go true z None e (Some m) = heard_on q s b l m h
-    go true z None e None = byte_on q b l d h (λ p f g. t.status p f z g)
-    go false z o e x = fault_on q b l row.kind h
+    go : {after : Story} → StoryWay s b l d row after → OnAreas q after.carried
+    go (ways.says m _ e) = out_on q b l m h (λ f u g. t.undoes m u e f g)
+    go (ways.hears m _ _ _) = heard_on q s b l m h
+    go (ways.carries z _ _) = byte_on q b l d h (λ p f g. t.status p f z g)
+    go (ways.stays _) = fault_on q b l row.kind h
 
 pub change_on : (q : ProcId → List ℕ → Type 0) (s : ScenarioValue) (b : Story) (d : RowReading) (row : Row)
     → OnAreas q b.carried → ((m n : Connection) (l : Link) → d.change.after.rst ≡ false
@@ -260,30 +259,18 @@ own_undo q b (Some (process p)) h u e =
 
 inside_undo : (q : ProcId → List ℕ → Type 0) (s : ScenarioValue) (b : Story) (l : Link) (d : RowReading) (row : Row)
     → b.link ≡ Some l → OnAreas q b.carried → OnUndo q b.link → OnUndo q (story_in_connection s b (Some l) d row).link
-inside_undo q s b l d row el h u = go d.crosses d.out d.into
+inside_undo q s b l d row el h u = go (story_way s b l d row)
   where
-    byte : (r : Bool)
-        → (if r then b else story_with_carried b (carried_after_byte_if (carried_if b l.item) d)).link ≡ b.link
-    byte true = refl
-    byte false = carried_link b (carried_after_byte_if (carried_if b l.item) d)
-
-    faulted : (kind : Kind) → (story_after_fault b l kind).link ≡ b.link
-    faulted (Drives lines) = refl
-    faulted (Fault bit) = carried_link b (carried_after_fault_if (carried_if b l.item) b.bus_state.crossed)
-
-    go : (r : Bool) (o : Option MsgOut) (x : Option MsgIn)
-        → OnUndo q (if r then (if is_some o then story_after_out b l o else if is_some x then story_after_in s b l x
-        else story_after_byte b l d) else story_after_fault b l row.kind).link
-    go true (Some m) x = one_undo q _ (record l { last = last_out m l }) (carried_link (record b {
-      link = Some (record l { last = last_out m l });
-    }) (if is_parity_error m then l.undo else None)) (λ c e. u l c el e)
-    go true None (Some m) = one_undo q _ (record (link_after_name b.sent s.commands l m) {
+    go : {after : Story} → StoryWay s b l d row after → OnUndo q after.link
+    go (ways.says m _ _) =
+        one_undo q _ (record l { last = last_out m l }) (out_link b l m) (λ c e. u l c el e)
+    go (ways.hears m _ _ _) = one_undo q _ (record (link_after_name b.sent s.commands l m) {
       last = last_in m;
       before = l.last;
       undo = carried_if b l.item;
     }) (carried_link _ _) (λ c e. own_undo q b l.item h c e)
-    go true None None = same_undo q b.link _ (byte d.change.before.msg) u
-    go false o x = same_undo q b.link _ (faulted row.kind) u
+    go (ways.carries _ _ _) = same_undo q b.link _ (byte_link b l d) u
+    go (ways.stays _) = same_undo q b.link _ (fault_link b l row.kind) u
 
 begun_link : (q : ProcId → List ℕ → Type 0) (b : Story) (n : Connection) → OnUndo q (story_after_connection b n).link
 begun_link q b n = go n.reselected (aim_of b.aims n.initiator)

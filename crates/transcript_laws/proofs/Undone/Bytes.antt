@@ -10,11 +10,13 @@ use proofs.Names.{Link, last_out, last_in, link_after_name, Story, by_status, st
 use proofs.Names.{story_with_carried, story_with_restored, is_parity_error, story_after_out, carried_after_message_if}
 use proofs.Names.{story_after_message, story_after_in, story_after_byte, carried_after_fault_if, story_after_fault}
 use proofs.Names.{story_in_connection, RunState, run_state_after, same_self, put_own, link_after, IsRowIn, reading_in}
-use proofs.Names.{fault_id, message_byte, in_link, story_row, no_events, is_restore, is_alike, undoes_nothing}
-use proofs.Standing.Changed.{KeepsId, changed_each, after_message, after_fault, ChangesBy, by_fault, unchanged, by_none}
+use proofs.Names.{StoryWay, story_way, fault_id, message_byte, in_link, story_row, no_events, is_restore, is_alike}
+use proofs.{Names.{undoes_nothing}, Standing.Changed.{KeepsId, changed_each, after_message, after_fault, ChangesBy}}
+use proofs.Standing.Changed.{by_fault, unchanged, by_none}
 use Rattle.bus_due.specs.bus_trace.specs.declared.Kind.{Kind}
 use Rattle.bus_due.specs.bus_trace.specs.declared.Kind.TheVariants.{Drives, Fault}
 use Rattle.bus_due.specs.bus_story.specs.HistoryEvents.{is_completion}
+use Rattle.progress_laws.specs.row_laws.proofs.Common.StoryWays as ways
 
 -- ---- one process
 
@@ -133,7 +135,7 @@ heard_undoes s b l m plain = λ x ex.
 
 inside_undoes : (s : ScenarioValue) (b : Story) (l : Link) (d : RowReading) (row : Row) → b.link ≡ Some l → IsTalk b d
     → undoes_nothing b l l.undo ≡ true → UndoesSo (story_in_connection s b (Some l) d row)
-inside_undoes s b l d row el t h = go d.crosses refl d.out d.into refl
+inside_undoes s b l d row el t h = go (story_way s b l d row)
   where
     stays : UndoesSo b
     stays m em = ap (λ (x : Link). undoes_nothing b x x.undo) (same_Some m l (sym em ∙ el)) ∙ h
@@ -153,13 +155,11 @@ inside_undoes s b l d row el t h = go d.crosses refl d.out d.into refl
     faulted (Drives lines) = stays
     faulted (Fault bit) = struck bit b.bus_state.crossed refl
 
-    go : (q : Bool) → d.crosses ≡ q → (o : Option MsgOut) (i : Option MsgIn) → d.into ≡ i
-        → UndoesSo (if q then (if is_some o then story_after_out b l o
-        else if is_some i then story_after_in s b l i else story_after_byte b l d) else story_after_fault b l row.kind)
-    go true e (Some m) i z = said_undoes b l m h
-    go true e None (Some m) z = heard_undoes s b l m (t.plain m z)
-    go true e None None z = byte (t.line e)
-    go false e o i z = faulted row.kind
+    go : {after : Story} → StoryWay s b l d row after → UndoesSo after
+    go (ways.says m _ _) = said_undoes b l m h
+    go (ways.hears m _ _ z) = heard_undoes s b l m (t.plain m z)
+    go (ways.carries e _ _) = byte (t.line e)
+    go (ways.stays _) = faulted row.kind
 
 -- ---- the row, with its events
 
