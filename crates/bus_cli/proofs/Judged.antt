@@ -1,11 +1,10 @@
 -- What the word `judge` says of the bytes that were read.
-use Rattle.std.proofs.Common.{ℕ, ◌≡◌, ◌+◌, ◌<◌, ◌≤◌, Bool, true, false, cond, List, [], ◌∷◌, ◌++◌, Option, Some, None}
-use Rattle.std.proofs.Common.{Result, Ok, Err, length, take, drop, reverse, refl, sym, ap, subst, ◌∙◌, arith}
-use Rattle.std.specs.Prelude.{IfSome, nat_lt}
+use Rattle.std.proofs.Common.{ℕ, ◌≡◌, ◌+◌, ◌<◌, ◌≤◌, List, [], ◌∷◌, ◌++◌, Option, Some, None, Result, Ok, Err, length}
+use Rattle.std.proofs.Common.{take, reverse, refl, sym, ap, subst, ◌∙◌, arith}
+use Rattle.std.specs.Prelude.{IfSome}
 use Rattle.std.specs.Result.{IsErr, IsErrAnd}
 use Rattle.std.proofs.lemmas.Bool.{lt-ltb}
-use Rattle.std.proofs.lemmas.Bool.Decides.{nat_tests}
-use Rattle.std.proofs.lemmas.List.{append-nil, reverse-append, length-reverse, length-take-le, length-append}
+use Rattle.std.proofs.lemmas.List.{reverse-append, length-reverse, length-take-le, length-append}
 use Rattle.trace_text.specs.declared.limit.TheConstants.{LIMIT as TRACE_LIMIT}
 use Rattle.bus_base.specs.Taken.{TakesFront}
 use Rattle.bus_trace.specs.declared.Row.{Row}
@@ -23,9 +22,10 @@ use Rattle.bus_base.specs.declared.reading.Cut.TheVariants.{TooLong, Fault}
 use Rattle.bus_cli.specs.declared.status.Status.{Status}
 use Rattle.bus_cli.specs.declared.status.Status.TheVariants.{Done, Words, Refused, Read, Write, Memory, Broken}
 use Rattle.bus_cli.specs.declared.status.Status.TheVariants.{BadTrace, BadDump}
-use Rattle.bus_base.proofs.ReadSoFar.{HasRead, told, read_more, beyond}
+use Rattle.bus_base.proofs.ReadSoFar.{HasRead, read_more, beyond}
+use Rattle.trace_text.proofs.KeptRows.{short_is}
 use Rattle.bus_cli.proofs.TooLong.{map_some, first_of}
-use Rattle.bus_cli.proofs.Undumped.{not_first}
+use Rattle.bus_cli.proofs.AllRead.{all_read}
 
 -- ---- the verdict on bytes that were heard, the newest first
 
@@ -41,12 +41,8 @@ of_end bytes (Ok end) =
 of_end bytes (Err line) = refl
 
 pub heard_is : (bytes : List ℕ) → length bytes ≤ TRACE_LIMIT → heard_verdict (reverse bytes) ≡ verdict_on bytes
-heard_is bytes few =
-    let short : nat_lt TRACE_LIMIT (length bytes) ≡ false = grind (arith, nat_tests) in
-    let read : trace_of bytes ≡ with_rows (reverse (rows_of (reverse bytes))) (end_of (reverse bytes)) = not_first
-    (nat_lt TRACE_LIMIT (length bytes)) (Err 0)
-    (with_rows (reverse (rows_of (reverse bytes))) (end_of (reverse bytes))) short in
-    sym (ap (λ (r : Result (List Row × ℕ) ℕ). verdict_of r) read ∙ of_end (reverse bytes) (end_of (reverse bytes)))
+heard_is bytes few = sym (ap (λ (r : Result (List Row × ℕ) ℕ). verdict_of r) (short_is bytes few)
+    ∙ of_end (reverse bytes) (end_of (reverse bytes)))
 
 -- ---- the end of the input
 
@@ -55,15 +51,10 @@ pub hears_all : (old now next : Option (List ℕ)) (bytes into : List ℕ) (n : 
     → HasRead old now bytes → IfSome now (λ ys. TakesFront ys next into n) → n ≡ 0
     → 0 < length into → length bytes ≤ TRACE_LIMIT → v ≡ heard_verdict (reverse bytes)
     → IfSome old (λ xs. (verdict_on xs ≡ v) × (next ≡ Some []))
-hears_all None now next bytes into n v so_far took none room few is = tt
-hears_all (Some xs) now next bytes into n v (rest, whole, left) took none room few is =
-    let t = told now next rest into n left took in
-    let over : rest ≡ [] = t.ends none room in
-    let all : xs ≡ bytes = whole ∙ ap (λ (ys : List ℕ). bytes ++ ys) over ∙ append-nil bytes in (
-      ap (λ (ys : List ℕ). verdict_on ys) all ∙ sym (heard_is bytes few) ∙ sym is,
-      t.rest ∙ ap (λ (ys : List ℕ). let o : Option (List ℕ) = Some (drop n ys) in o) over
-          ∙ ap (λ k. let o : Option (List ℕ) = Some (drop k []) in o) none,
-    )
+hears_all old now next bytes into n v so_far took none room few is = map_some old
+    (λ xs. (xs ≡ bytes) × (next ≡ Some [])) (λ xs. (verdict_on xs ≡ v) × (next ≡ Some []))
+    (λ xs h. (ap (λ (ys : List ℕ). verdict_on ys) h.0 ∙ sym (heard_is bytes few) ∙ sym is, h.1))
+    (all_read old now next bytes into n so_far took none room)
 
 -- no more bytes come
 pub hears_cut :

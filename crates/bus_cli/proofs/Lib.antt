@@ -6,4 +6,6 @@ pub mod Judged
 pub mod Dumped
 pub mod Transcribed
 pub mod Undumped
+pub mod KeptRead
+mod AllRead
 mod LawfulDumps

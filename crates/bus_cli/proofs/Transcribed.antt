@@ -1,11 +1,7 @@
 -- What the word `transcript` says of the bytes that were read.
 use Rattle.std.proofs.Common.{ℕ, ◌≡◌, List, [], Option, Some, None, Result, Ok, Err, reverse, refl, sym, ap, subst, ◌∙◌}
-use Rattle.std.specs.Prelude.{IfSome, Vec}
-use Rattle.std.specs.declared.alloc.Global.{Global}
+use Rattle.std.specs.Prelude.{IfSome}
 use Rattle.trace_text.specs.declared.limit.TheConstants.{LIMIT as TRACE_LIMIT}
-use Rattle.bus_base.specs.Whole.{ReadsAll}
-use Rattle.bus_base.specs.declared.reading.ReadEnd.{ReadEnd}
-use Rattle.bus_base.specs.declared.reading.ReadEnd.TheVariants.{TooLong}
 use Rattle.bus_trace.specs.declared.rows.Row.{Row}
 use Rattle.bus_rules.specs.declared.verdict.Verdict.{Verdict}
 use Rattle.bus_rules.specs.declared.verdict.Verdict.TheVariants.{Lawful}
@@ -15,13 +11,13 @@ use Rattle.bus_cli.specs.Lines.{Writing, writing, SaysLine, trace_line}
 use Rattle.bus_cli.specs.Judging.{verdict_of}
 use Rattle.bus_cli.specs.Vcd.{VcdTells}
 use Rattle.bus_cli.specs.Texts.{SaysText, TellsText}
-use Rattle.bus_cli.specs.Transcripts.{text_of_rows, IsTranscriptOf, SaysTranscript, TranscriptSays, TellsTrace}
+use Rattle.bus_cli.specs.Transcripts.{text_of_rows, SaysTranscript, TranscriptSays, TellsTrace}
 use Rattle.bus_cli.specs.declared.status.Status.{Status}
 use Rattle.bus_cli.specs.declared.status.Status.TheVariants.{Done, Words, Refused, Read, Write, Memory, Broken}
 use Rattle.bus_cli.specs.declared.status.Status.TheVariants.{BadTrace, BadDump}
-use Rattle.bus_cli.proofs.TooLong.{map_some, IsLong, is_long}
+use Rattle.bus_cli.proofs.TooLong.{map_some, IsLong}
 use Rattle.bus_cli.proofs.Judged.{too_long}
-use Rattle.bus_cli.proofs.Dumped.{verdict_is, told_of, all_of}
+use Rattle.bus_cli.proofs.Dumped.{verdict_is, told_of}
 
 -- ---- a lawful trace
 
@@ -90,53 +86,50 @@ says_of Read bytes rows end w is tells says = elim says [ ]
 says_of BadTrace bytes rows end w is tells says = elim says [ ]
 says_of BadDump bytes rows end w is tells says = elim says [ ]
 
-pub said_of : (status : Status) (bytes : List ℕ) (rows : List Row) (end : ℕ) (old written : Option (List ℕ)) (f g : ℕ)
-    → trace_of bytes ≡ Ok (rows, end) → TellsTrace status (Ok (judged_whole (reverse rows) end))
+-- of any trace, where nothing is told of the bytes
+says_any : (status : Status) (rows : List Row) (end : ℕ) (w : Writing) → SaysTranscript status rows end w
+    → TranscriptSays status None w
+says_any Done rows end w says = (text_of_rows rows, (rows, refl), says)
+says_any Write rows end w says = (text_of_rows rows, (rows, refl), says)
+says_any Broken rows end w says = (says.0, says.1, tt, says.3)
+says_any Memory rows end w says = says
+says_any Words rows end w says = elim says [ ]
+says_any Refused rows end w says = elim says [ ]
+says_any Read rows end w says = elim says [ ]
+says_any BadTrace rows end w says = elim says [ ]
+says_any BadDump rows end w says = elim says [ ]
+
+says_input : (status : Status) (input : Option (List ℕ)) (rows : List Row) (end : ℕ) (w : Writing)
+    → IfSome input (λ bytes. trace_of bytes ≡ Ok (rows, end)) → TellsTrace status (Ok (judged_whole (reverse rows) end))
+    → SaysTranscript status rows end w → TranscriptSays status input w
+says_input status None rows end w is tells says = says_any status rows end w says
+says_input status (Some bytes) rows end w is tells says = says_of status bytes rows end w is tells says
+
+pub said_of :
+    (status : Status) (input : Option (List ℕ)) (rows : List Row) (end : ℕ) (old written : Option (List ℕ)) (f g : ℕ)
+    → IfSome input (λ bytes. trace_of bytes ≡ Ok (rows, end)) → TellsTrace status (Ok (judged_whole (reverse rows) end))
     → IfSome old (λ before. SaysTranscript status rows end (writing before written f g))
-    → IfSome old (λ before. TranscriptSays status (Some bytes) (writing before written f g))
-said_of status bytes rows end old written f g is tells says = map_some old (λ before. SaysTranscript status rows end
-    (writing before written f g)) (λ before. TranscriptSays status (Some bytes) (writing before written f g))
-    (λ before. says_of status bytes rows end (writing before written f g) is tells) says
+    → IfSome old (λ before. TranscriptSays status input (writing before written f g))
+said_of status input rows end old written f g is tells says = map_some old (λ before. SaysTranscript status rows end
+    (writing before written f g)) (λ before. TranscriptSays status input (writing before written f g))
+    (λ before. says_input status input rows end (writing before written f g) is tells) says
 
 -- ---- a line that breaks the form
 
-says_bad : (bytes text : List ℕ) (line : ℕ) (w : Writing) → trace_of bytes ≡ Err line → text ≡ trace_line line
-    → SaysLine text w → TranscriptSays BadTrace (Some bytes) w
-says_bad bytes text line w is same says = (line, ap verdict_of is, subst (λ (x : List ℕ). SaysLine x w) same says)
+says_bad : (input : Option (List ℕ)) (text : List ℕ) (line : ℕ) (w : Writing)
+    → IfSome input (λ bytes. trace_of bytes ≡ Err line) → text ≡ trace_line line → SaysLine text w
+    → TranscriptSays BadTrace input w
+says_bad None text line w is same says = (line, tt, subst (λ (x : List ℕ). SaysLine x w) same says)
+says_bad (Some bytes) text line w is same says =
+    (line, ap verdict_of is, subst (λ (x : List ℕ). SaysLine x w) same says)
 
-pub said_bad : (bytes text : List ℕ) (line : ℕ) (old written : Option (List ℕ)) (f g : ℕ) → trace_of bytes ≡ Err line
-    → text ≡ trace_line line → IfSome old (λ before. SaysLine text (writing before written f g))
-    → IfSome old (λ before. TranscriptSays BadTrace (Some bytes) (writing before written f g))
-said_bad bytes text line old written f g is same says =
-    map_some old (λ before. SaysLine text (writing before written f g)) (λ before. TranscriptSays BadTrace (Some bytes)
-    (writing before written f g)) (λ before. says_bad bytes text line (writing before written f g) is same) says
-
--- ---- what is said of bytes is said of the input that they are
-
-transcript_of_any : (bytes text : List ℕ) → IsTranscriptOf (Some bytes) text → IsTranscriptOf None text
-transcript_of_any bytes text h = (h.0, h.3)
-
-of_input : (status : Status) (input : Option (List ℕ)) (bytes : List ℕ) (w : Writing) → IfSome input (λ xs. bytes ≡ xs)
-    → TranscriptSays status (Some bytes) w → TranscriptSays status input w
-of_input status (Some xs) bytes w same says = subst (λ (b : List ℕ). TranscriptSays status (Some b) w) same says
-of_input Done None bytes w same says = (says.0, transcript_of_any bytes says.0 says.1, says.2)
-of_input Write None bytes w same says = (says.0, transcript_of_any bytes says.0 says.1, says.2)
-of_input Broken None bytes w same says = (says.0, says.1, tt, says.3)
-of_input BadTrace None bytes w same says = (says.0, tt, says.2)
-of_input Words None bytes w same says = says
-of_input Read None bytes w same says = says
-of_input Memory None bytes w same says = says
-of_input Refused None bytes w same says = elim says [ ]
-of_input BadDump None bytes w same says = elim says [ ]
-
-pub said_of_all :
-    (status : Status) (input left old written : Option (List ℕ)) (v : Vec ℕ Global) (bytes : List ℕ) (f g : ℕ)
-    → bytes ≡ v.items → ReadsAll input left TRACE_LIMIT (Ok v)
-    → IfSome old (λ before. TranscriptSays status (Some bytes) (writing before written f g))
-    → IfSome old (λ before. TranscriptSays status input (writing before written f g))
-said_of_all status input left old written v bytes f g same h says = map_some old (λ before. TranscriptSays status
-    (Some bytes) (writing before written f g)) (λ before. TranscriptSays status input (writing before written f g))
-    (λ before. of_input status input bytes (writing before written f g) (all_of input left v bytes same h)) says
+pub said_bad : (input : Option (List ℕ)) (text : List ℕ) (line : ℕ) (old written : Option (List ℕ)) (f g : ℕ)
+    → IfSome input (λ bytes. trace_of bytes ≡ Err line) → text ≡ trace_line line
+    → IfSome old (λ before. SaysLine text (writing before written f g))
+    → IfSome old (λ before. TranscriptSays BadTrace input (writing before written f g))
+said_bad input text line old written f g is same says =
+    map_some old (λ before. SaysLine text (writing before written f g)) (λ before. TranscriptSays BadTrace input
+    (writing before written f g)) (λ before. says_bad input text line (writing before written f g) is same) says
 
 -- ---- more bytes than the limit
 
@@ -145,10 +138,9 @@ said_beyond : (input : Option (List ℕ)) (text : List ℕ) (w : Writing) → Is
 said_beyond None text w long same says = (0, tt, subst (λ (x : List ℕ). SaysLine x w) same says)
 said_beyond (Some xs) text w long same says = (0, too_long xs long, subst (λ (x : List ℕ). SaysLine x w) same says)
 
-pub said_long : (input left : Option (List ℕ)) (end : ReadEnd) (text : List ℕ) (old written : Option (List ℕ)) (f g : ℕ)
-    → end ≡ TooLong → ReadsAll input left TRACE_LIMIT (Err end) → text ≡ trace_line 0
-    → IfSome old (λ before. SaysLine text (writing before written f g))
+pub said_long : (input : Option (List ℕ)) (text : List ℕ) (old written : Option (List ℕ)) (f g : ℕ)
+    → IsLong TRACE_LIMIT input → text ≡ trace_line 0 → IfSome old (λ before. SaysLine text (writing before written f g))
     → IfSome old (λ before. TranscriptSays BadTrace input (writing before written f g))
-said_long input left end text old written f g e h same says = map_some old (λ before. SaysLine text
-    (writing before written f g)) (λ before. TranscriptSays BadTrace input (writing before written f g))
-    (λ before. said_beyond input text (writing before written f g) (is_long TRACE_LIMIT input left end e h) same) says
+said_long input text old written f g long same says =
+    map_some old (λ before. SaysLine text (writing before written f g)) (λ before. TranscriptSays BadTrace input
+    (writing before written f g)) (λ before. said_beyond input text (writing before written f g) long same) says

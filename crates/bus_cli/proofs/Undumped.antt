@@ -1,18 +1,18 @@
 -- What the word `unvcd` says of the bytes that were taken.
 use Rattle.std.proofs.Common.{ℕ, ◌≡◌, ◌+◌, ◌<◌, ◌≤◌, Bool, true, false, cond, List, [], ◌++◌, Option, Some, None}
-use Rattle.std.proofs.Common.{Result, Ok, Err, length, take, drop, refl, sym, ap, subst, ◌∙◌, arith}
+use Rattle.std.proofs.Common.{Result, Ok, Err, length, take, refl, sym, ap, subst, ◌∙◌, arith}
 use Rattle.std.specs.Prelude.{IfSome, nat_lt}
 use Rattle.std.specs.Result.{IsErr, IsErrAnd}
 use Rattle.std.proofs.lemmas.Bool.{lt-ltb}
 use Rattle.std.proofs.lemmas.Bool.Decides.{nat_tests}
-use Rattle.std.proofs.lemmas.List.{append-nil, length-take-le, length-append}
+use Rattle.std.proofs.lemmas.List.{length-take-le, length-append}
 use Rattle.bus_base.specs.Taken.{TakesFront}
 use Rattle.bus_base.specs.Pieces.{ReadsPiece, end_of}
 use Rattle.bus_base.specs.declared.reading.Cut.{Cut}
 use Rattle.bus_base.specs.declared.reading.Cut.TheVariants as cuts
 use Rattle.bus_base.specs.declared.reading.ReadEnd.{ReadEnd}
 use Rattle.bus_base.specs.declared.reading.ReadEnd.TheVariants as ends
-use Rattle.bus_base.proofs.ReadSoFar.{HasRead, told, read_more, beyond}
+use Rattle.bus_base.proofs.ReadSoFar.{HasRead, read_more, beyond}
 use Rattle.bus_trace.specs.declared.rows.Row.{Row}
 use Rattle.vcd_text.specs.declared.limit.TheConstants.{LIMIT as DUMP_LIMIT}
 use Rattle.vcd_text.specs.declared.reader.VcdReader.{VcdReader}
@@ -27,6 +27,7 @@ use Rattle.bus_cli.specs.declared.status.Status.{Status}
 use Rattle.bus_cli.specs.declared.status.Status.TheVariants.{Done, Words, Refused, Read, Write, Memory, Broken}
 use Rattle.bus_cli.specs.declared.status.Status.TheVariants.{BadTrace, BadDump}
 use Rattle.bus_cli.proofs.TooLong.{map_some, first_of}
+use Rattle.bus_cli.proofs.AllRead.{all_read}
 
 -- ---- a piece more
 
@@ -48,15 +49,9 @@ pub takes_all : (old now next : Option (List ℕ)) (bytes into : List ℕ) (n : 
     → IfSome now (λ ys. TakesFront ys next into n) → n ≡ 0 → 0 < length into → length bytes ≤ DUMP_LIMIT
     → ReadsAs r (taken no_bytes bytes) → TakesDump old next (Ok r)
 takes_all None now next bytes into n r so_far took none room few is = tt
-takes_all (Some xs) now next bytes into n r (rest, whole, left) took none room few is =
-    let t = told now next rest into n left took in
-    let over : rest ≡ [] = t.ends none room in
-    let all : xs ≡ bytes = whole ∙ ap (λ (ys : List ℕ). bytes ++ ys) over ∙ append-nil bytes in (
-      is [] ∙ ap vcd_of (sym all),
-      omega (arith, few, ap (λ (ys : List ℕ). length ys) all),
-      t.rest ∙ ap (λ (ys : List ℕ). let o : Option (List ℕ) = Some (drop n ys) in o) over
-          ∙ ap (λ k. let o : Option (List ℕ) = Some (drop k []) in o) none,
-    )
+takes_all (Some xs) now next bytes into n r so_far took none room few is =
+    let (all, left) = all_read (Some xs) now next bytes into n so_far took none room in
+    (is [] ∙ ap vcd_of (sym all), omega (arith, few, ap (λ (ys : List ℕ). length ys) all), left)
 
 -- no more bytes come
 pub takes_cut :
@@ -72,7 +67,7 @@ takes_cut old now next bytes into spare cut (Ok v) so_far piece sum (any, same) 
 
 -- ---- what was read is what the input is
 
-pub not_first : {A : Type 0} (q : Bool) (x y : A) → q ≡ false → cond q x y ≡ y
+not_first : {A : Type 0} (q : Bool) (x y : A) → q ≡ false → cond q x y ≡ y
 not_first true x y e = absurd cc
 not_first false x y e = refl
 

@@ -9,3 +9,4 @@ pub mod Transcripts
 pub mod Unvcd
 pub mod Ends
 pub mod Hearing
+pub mod Kept

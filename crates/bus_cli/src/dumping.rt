@@ -1,9 +1,10 @@
 //! The word `vcd`.
-ghost use Rattle.std.specs.Prelude.{◌≡◌, ◌+◌, ◌≤◌, reverse, Some, Ok, IfSome};
+ghost use Rattle.std.specs.Prelude.{ℕ, ◌≡◌, ◌+◌, ◌≤◌, List, reverse, Option, Ok, IfOk, IfSome};
 ghost use Rattle.std.specs.List.{AllByRecursion};
 ghost use Rattle.bus_base.specs.Faults.{HasRisen};
 ghost use Rattle.bus_base.specs.Whole.{TakesAtMost};
 ghost use Rattle.bus_trace.specs.OfTrace.{IsRow};
+ghost use Rattle.trace_text.specs.Whole.{trace_of, trace_told};
 ghost use Rattle.bus_rules.specs.Rules.{judged_whole};
 ghost use Rattle.bus_cli.specs.Words.{limit_of};
 ghost use Rattle.bus_cli.specs.Lines.{IfTold};
@@ -13,25 +14,27 @@ ghost use Rattle.bus_cli.specs.Ends.{Reads};
 ghost use Rattle.bus_cli.specs.declared.words.Word.TheVariants as words;
 
 use crate::answers::{broken_line, trace_line};
+use crate::kept::read_kept;
 use crate::saying::say;
 use crate::status::Status;
-use bus_base::{ReadEnd, Sink, Source, read_all};
-use bus_rules::{Verdict, judge_plain};
+use crate::verdict::judged;
+use bus_base::{ReadEnd, Sink, Source};
+use bus_rules::Verdict;
 use std::alloc::Global;
-use trace_text::{LIMIT, Trace, TraceBad, read_trace};
+use trace_text::Trace;
 use vcd_text::write_vcd;
 
 // Writes the dump of a lawful trace, or the rule that a trace breaks.
 fn dump<K: Sink>(trace: &Trace, out: &mut K) -> Status
-    requires { AllByRecursion IsRow trace.now.rows.items }
+    requires { AllByRecursion IsRow trace.now.rows }
     ensures words { result ≡ Status.Words → ⊥ }
     ensures read { result ≡ Status.Read → ⊥ }
     ensures write { result ≡ Status.Write → HasRisen (K.faults out.old) (K.faults out.new) }
-    ensures form { TellsVerdict result (Ok (judged_whole (reverse trace.now.rows.items) trace.now.end)) }
-    ensures said { IfTold K.written K.faults out.old out.new (SaysTrace result trace.now.rows.items trace.now.end) }
+    ensures form { TellsVerdict result (Ok (judged_whole (reverse trace.now.rows) trace.now.end)) }
+    ensures said { IfTold K.written K.faults out.old out.new (SaysTrace result trace.now.rows trace.now.end) }
     ensures never_falls { K.faults out.old ≤ K.faults out.new }
 {
-    match judge_plain(&trace.rows, trace.end) {
+    match judged(&trace.rows, trace.end) {
         Verdict::Lawful => match write_vcd(&trace.rows, trace.end, out) {
             Ok(()) => Status::Done,
             Err(_) => Status::Write,
@@ -43,24 +46,22 @@ fn dump<K: Sink>(trace: &Trace, out: &mut K) -> Status
     }
 }
 
-// Judges the trace that these bytes say, and writes its dump.
-fn dump_bytes<K: Sink>(alloc: Global, bytes: &[u8], out: &mut K) -> Status
+// Judges the trace that was read, and writes its dump; or the first line that breaks the form.
+fn dump_read<K: Sink>(read: Result<Trace, u32>, out: &mut K) -> Status
+    requires { IfOk read (λ trace. AllByRecursion IsRow trace.rows) }
     ensures words { result ≡ Status.Words → ⊥ }
     ensures read { result ≡ Status.Read → ⊥ }
     ensures write { result ≡ Status.Write → HasRisen (K.faults out.old) (K.faults out.new) }
-    ensures form { VcdTells result bytes.now }
-    ensures said { IfTold K.written K.faults out.old out.new (VcdSays result (Some bytes.now)) }
+    ensures form { (bytes : List ℕ) → trace_of bytes ≡ trace_told read → VcdTells result bytes }
+    ensures said { (input : Option (List ℕ)) → IfSome input (λ bytes. trace_of bytes ≡ trace_told read)
+        → IfTold K.written K.faults out.old out.new (VcdSays result input) }
     ensures never_falls { K.faults out.old ≤ K.faults out.new }
 {
-    match read_trace(alloc, bytes) {
+    match read {
         Ok(trace) => dump(&trace, out),
-        Err(TraceBad::At { line }) => {
+        Err(line) => {
             say(out, trace_line(line).as_str().as_bytes());
             Status::BadTrace
-        }
-        Err(TraceBad::NoMemory) => {
-            say(out, b"no memory\n");
-            Status::Memory
         }
     }
 }
@@ -77,8 +78,8 @@ pub fn vcd<S: Source, K: Sink>(alloc: Global, input: &mut S, out: &mut K) -> Sta
     ensures source_falls { S.faults input.old ≤ S.faults input.new }
     ensures sink_falls { K.faults out.old ≤ K.faults out.new }
 {
-    match read_all(alloc, input, LIMIT) {
-        Ok(bytes) => dump_bytes(alloc, &bytes, out),
+    match read_kept(alloc, input) {
+        Ok(read) => dump_read(read, out),
         Err(ReadEnd::TooLong) => {
             say(out, trace_line(0).as_str().as_bytes());
             Status::BadTrace

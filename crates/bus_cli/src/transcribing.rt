@@ -1,9 +1,10 @@
 //! The word `transcript`.
-ghost use Rattle.std.specs.Prelude.{◌≡◌, ◌+◌, ◌≤◌, reverse, Some, Ok, IfSome};
+ghost use Rattle.std.specs.Prelude.{ℕ, ◌≡◌, ◌+◌, ◌≤◌, List, reverse, Option, Ok, IfOk, IfSome};
 ghost use Rattle.std.specs.List.{AllByRecursion};
 ghost use Rattle.bus_base.specs.Faults.{HasRisen};
 ghost use Rattle.bus_base.specs.Whole.{TakesAtMost};
 ghost use Rattle.bus_trace.specs.OfTrace.{IsRow};
+ghost use Rattle.trace_text.specs.Whole.{trace_of, trace_told};
 ghost use Rattle.bus_rules.specs.Rules.{judged_whole};
 ghost use Rattle.bus_cli.specs.Words.{limit_of};
 ghost use Rattle.bus_cli.specs.Lines.{IfTold};
@@ -14,17 +15,19 @@ ghost use Rattle.bus_cli.specs.Ends.{Reads};
 ghost use Rattle.bus_cli.specs.declared.words.Word.TheVariants as words;
 
 use crate::answers::{broken_line, trace_line};
+use crate::kept::read_kept;
 use crate::saying::{say, status_written};
 use crate::status::Status;
-use bus_base::{Ns, ReadEnd, Sink, Source, read_all};
-use bus_rules::{Verdict, judge_plain};
-use bus_trace::Row;
+use crate::verdict::judged;
+use bus_base::{Ns, ReadEnd, Sink, Source};
+use bus_rules::Verdict;
 use bus_transcript::{print_transcript, transcribe};
+use row_store::RowStore;
 use std::alloc::Global;
-use trace_text::{LIMIT, Trace, TraceBad, read_trace};
+use trace_text::Trace;
 
 // Writes the transcript of these rows and this end, in ns.
-fn write_transcript<K: Sink>(alloc: Global, rows: &[Row], end: Ns, out: &mut K) -> Status
+fn write_transcript<K: Sink>(alloc: Global, rows: &RowStore, end: Ns, out: &mut K) -> Status
     requires { AllByRecursion IsRow rows.now }
     ensures write { result ≡ Status.Write → HasRisen (K.faults out.old) (K.faults out.new) }
     ensures form { TellsText result }
@@ -40,16 +43,16 @@ fn write_transcript<K: Sink>(alloc: Global, rows: &[Row], end: Ns, out: &mut K) 
 
 // Writes the transcript of a lawful trace, or the rule that a trace breaks.
 fn transcribe_trace<K: Sink>(alloc: Global, trace: &Trace, out: &mut K) -> Status
-    requires { AllByRecursion IsRow trace.now.rows.items }
+    requires { AllByRecursion IsRow trace.now.rows }
     ensures words { result ≡ Status.Words → ⊥ }
     ensures read { result ≡ Status.Read → ⊥ }
     ensures write { result ≡ Status.Write → HasRisen (K.faults out.old) (K.faults out.new) }
-    ensures form { TellsTrace result (Ok (judged_whole (reverse trace.now.rows.items) trace.now.end)) }
+    ensures form { TellsTrace result (Ok (judged_whole (reverse trace.now.rows) trace.now.end)) }
     ensures said { IfTold K.written K.faults out.old out.new
-        (SaysTranscript result trace.now.rows.items trace.now.end) }
+        (SaysTranscript result trace.now.rows trace.now.end) }
     ensures never_falls { K.faults out.old ≤ K.faults out.new }
 {
-    match judge_plain(&trace.rows, trace.end) {
+    match judged(&trace.rows, trace.end) {
         Verdict::Lawful => write_transcript(alloc, &trace.rows, trace.end, out),
         Verdict::Broken { row, rule } => {
             say(out, broken_line(row, rule).as_str().as_bytes());
@@ -58,24 +61,22 @@ fn transcribe_trace<K: Sink>(alloc: Global, trace: &Trace, out: &mut K) -> Statu
     }
 }
 
-// Judges the trace that these bytes say, and writes its transcript.
-fn transcribe_bytes<K: Sink>(alloc: Global, bytes: &[u8], out: &mut K) -> Status
+// Judges the trace that was read, and writes its transcript; or the first line that breaks the form.
+fn transcribe_read<K: Sink>(alloc: Global, read: Result<Trace, u32>, out: &mut K) -> Status
+    requires { IfOk read (λ trace. AllByRecursion IsRow trace.rows) }
     ensures words { result ≡ Status.Words → ⊥ }
     ensures read { result ≡ Status.Read → ⊥ }
     ensures write { result ≡ Status.Write → HasRisen (K.faults out.old) (K.faults out.new) }
-    ensures form { VcdTells result bytes.now }
-    ensures said { IfTold K.written K.faults out.old out.new (TranscriptSays result (Some bytes.now)) }
+    ensures form { (bytes : List ℕ) → trace_of bytes ≡ trace_told read → VcdTells result bytes }
+    ensures said { (input : Option (List ℕ)) → IfSome input (λ bytes. trace_of bytes ≡ trace_told read)
+        → IfTold K.written K.faults out.old out.new (TranscriptSays result input) }
     ensures never_falls { K.faults out.old ≤ K.faults out.new }
 {
-    match read_trace(alloc, bytes) {
+    match read {
         Ok(trace) => transcribe_trace(alloc, &trace, out),
-        Err(TraceBad::At { line }) => {
+        Err(line) => {
             say(out, trace_line(line).as_str().as_bytes());
             Status::BadTrace
-        }
-        Err(TraceBad::NoMemory) => {
-            say(out, b"no memory\n");
-            Status::Memory
         }
     }
 }
@@ -93,8 +94,8 @@ pub fn transcript<S: Source, K: Sink>(alloc: Global, input: &mut S, out: &mut K)
     ensures source_falls { S.faults input.old ≤ S.faults input.new }
     ensures sink_falls { K.faults out.old ≤ K.faults out.new }
 {
-    match read_all(alloc, input, LIMIT) {
-        Ok(bytes) => transcribe_bytes(alloc, &bytes, out),
+    match read_kept(alloc, input) {
+        Ok(read) => transcribe_read(alloc, read, out),
         Err(ReadEnd::TooLong) => {
             say(out, trace_line(0).as_str().as_bytes());
             Status::BadTrace

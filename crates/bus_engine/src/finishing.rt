@@ -1,8 +1,7 @@
 //! What a run leaves: how its commands ended, and what its disks hold.
-ghost use Rattle.std.specs.Prelude.{ℕ, ◌≡◌, ◌≤◌, ◌<◌, ◌+◌, ◌==◌, ◌&&◌, List, Some, true, false, is_some, IfOk, IfSome, map, length, reverse};
+ghost use Rattle.std.specs.Prelude.{ℕ, ◌≡◌, ◌≤◌, ◌<◌, ◌+◌, ◌==◌, ◌&&◌, List, Some, true, false, is_some, IfOk, IfSome, map, length};
 ghost use Rattle.std.specs.List.{AllByRecursion};
 ghost use Rattle.bus_trace.specs.declared.Row.{Row as TraceRow};
-ghost use Rattle.bus_trace.specs.Trace.{last_time};
 ghost use Rattle.scenario.specs.declared.value.CmdDef.{CmdDef as CmdLine};
 ghost use Rattle.scenario.specs.Value.{ScenarioValue};
 ghost use Rattle.disk_array.specs.Contents.{Contents};
@@ -20,23 +19,12 @@ ghost use Rattle.bus_engine.specs.Disks.{AreUnitsByTarget, held_if, held_at, Are
 ghost use Rattle.bus_engine.specs.Runs.{told_reply};
 
 use crate::member::Member;
-use bus_base::{NoMemory, Ns};
-use bus_trace::Row;
+use bus_base::NoMemory;
 use disk_target::the_target_units::Units;
 use disk_unit::SparseBlocks;
 use run_record::Outcome;
 use scenario::{CmdDef, UnitDef};
 use std::alloc::Global;
-
-/// The time of the last row, in ns, or 0.
-pub fn end_of(rows: &[Row]) -> Ns
-    ensures { result ≡ last_time (reverse rows.now) }
-{
-    match rows.last() {
-        None => 0,
-        Some(row) => row.time,
-    }
-}
 
 // ---- how the commands ended
 

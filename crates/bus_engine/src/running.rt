@@ -22,7 +22,7 @@ ghost use Rattle.bus_engine.specs.Over.{AreOver};
 ghost use Rattle.bus_engine.specs.Disks.{IsWithin, have_targets};
 ghost use Rattle.bus_engine.specs.Runs.{told_reply, IsRunOf};
 
-use crate::finishing::{disks, end_of, replies, units_by_target};
+use crate::finishing::{disks, replies, units_by_target};
 use crate::laws::prompt_traces_tie_devices;
 use crate::member::{Member, runs_end};
 use crate::places::member_places;
@@ -79,9 +79,9 @@ fn finish(
 ) -> Result<Run, NoMemory>
     requires lawful { Obeys scenario.now }
     requires eight { length places.old ≡ 8 }
-    ensures rows { IfOk result (λ run. run.rows ≡ trace.rows.items) }
+    ensures rows { IfOk result (λ run. run.rows ≡ trace.rows) }
     ensures history { IfOk result (λ run. run.history ≡ trace.history.items) }
-    ensures end { IfOk result (λ run. run.end ≡ last_time (reverse trace.rows.items)) }
+    ensures end { IfOk result (λ run. run.end ≡ last_time (reverse trace.rows)) }
     ensures answered { IfOk result (λ run. length run.replies ≡ length scenario.now.commands) }
     ensures stored { IfOk result (λ run. length run.disks ≡ length scenario.now.units) }
     ensures replies { (rows : List TraceRow) → AreIn IsMember scenario.now rows places.old
@@ -97,7 +97,7 @@ fn finish(
     runs_end();
     let replies = replies(alloc, scenario.commands.as_slice(), places)?;
     let disks = disks_in(alloc, scenario.units.as_slice(), places)?;
-    let end = end_of(trace.rows.as_slice());
+    let end = trace.rows.last_time();
     Ok(Run {
         rows: trace.rows,
         end,

@@ -90,23 +90,23 @@ pub fn run<D: Device, L: Ledger>(
     requires eight { length places.old ≡ 8 }
     // It is the prompt trace of the scenario, whole unless it was cut at that many rows,
     ensures prompt { SeamsHold scenario.now → AreIn D.IsOf scenario.now [] places.old
-        → IfOk result (λ trace. IsPrompt scenario.now (reverse trace.rows.items)) }
+        → IfOk result (λ trace. IsPrompt scenario.now (reverse trace.rows)) }
     ensures ended { SeamsHold scenario.now → AreIn D.IsOf scenario.now [] places.old
-        → IfOk result (λ trace. length trace.rows.items < 2 ^ 32 - 1
-        → IsEnded scenario.now (reverse trace.rows.items)) }
+        → IfOk result (λ trace. length trace.rows < 2 ^ 32 - 1
+        → IsEnded scenario.now (reverse trace.rows)) }
     // with what it tells,
     ensures history { SeamsHold scenario.now → AreIn D.IsOf scenario.now [] places.old
         → IfOk result (λ trace. reverse trace.history.items
-        ≡ trace_history scenario.now (reverse trace.rows.items)) }
+        ≡ trace_history scenario.now (reverse trace.rows)) }
     // of which every device was told.
     ensures places { SeamsHold scenario.now → AreIn D.IsOf scenario.now [] places.old
-        → IfOk result (λ trace. AreIn D.IsOf scenario.now (reverse trace.rows.items) places.new) }
+        → IfOk result (λ trace. AreIn D.IsOf scenario.now (reverse trace.rows) places.new) }
     // Where every prompt trace has fewer rows than this, so many rows are all that are asked for.
     ensures within { (most : ℕ) → SeamsHold scenario.now → AreIn D.IsOf scenario.now [] places.old
         → AreFewer scenario.now most → steps.new ≤ steps.old + 8 * most }
     // Whatever the devices are:
-    ensures devices { IfOk result (λ trace. AreOfDevices (reverse trace.rows.items)) }
-    ensures early { IfOk result (λ trace. AreEarly (reverse trace.rows.items)) }
+    ensures devices { IfOk result (λ trace. AreOfDevices (reverse trace.rows)) }
+    ensures early { IfOk result (λ trace. AreEarly (reverse trace.rows)) }
     ensures steps { steps.new ≤ steps.old + 8 * (2 ^ 32 - 1) }
 {
     scenarios_fit_the_bus();

@@ -135,8 +135,11 @@ fn reads(rt: &impl Abort, alloc: Global, whole: Whole, blocks: &[[u8; 16]]) {
     let Ok(trace) = read_trace(alloc, whole.1.as_bytes()) else {
         panic!(rt; "no trace");
     };
+    let Ok(rows) = trace.rows.iter().collect::<Vec<Row>>(alloc) else {
+        panic!(rt; "no memory");
+    };
     assert!(rt; host.take_outcome(alloc, 1).is_none());
-    follows(rt, &mut host, trace.rows.as_slice(), blocks.len());
+    follows(rt, &mut host, rows.as_slice(), blocks.len());
     let mut number = 1u16;
     for block in blocks {
         let outcome = host.take_outcome(alloc, number);

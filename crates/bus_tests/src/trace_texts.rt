@@ -7,7 +7,7 @@ use bitflags::Flags;
 use bus_base::{AbortKind, Event, Failed, MemSink, NoMemory, Octets, ProcId};
 use bus_trace::{Kind, Lines, Row};
 use disk_unit::{Blocks, SparseBlocks};
-use run_record::{Outcome, Run};
+use run_record::{Outcome, RowStore, Run};
 use scenario::read;
 use std::alloc::Global;
 use std::test::Fail;
@@ -145,7 +145,9 @@ fn sample_run(alloc: Global) -> Result<Run, NoMemory>
         dev: 0,
         kind: Kind::Fault(8),
     };
-    let rows = vec![in alloc; driven, fault]?;
+    let mut rows = RowStore::new(alloc);
+    rows.push(&driven)?;
+    rows.push(&fault)?;
     let process = ProcId {
         command: 1,
         sense: true,

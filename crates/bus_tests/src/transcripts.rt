@@ -3,6 +3,7 @@
 //! them, and sinks that fail at every call. The transcripts are those of an independent simulator.
 use bus_base::{MemSink, NoMemory};
 use bus_transcript::{Transcriber, Transcript, print_transcript, transcribe};
+use run_record::RowStore;
 use std::alloc::Global;
 use trace_text::read_trace;
 
@@ -70,7 +71,7 @@ fn is_written(
 fn transcript_of(alloc: Global, text: &str) -> Result<Transcript, NoMemory> {
     match read_trace(alloc, text.as_bytes()) {
         Ok(trace) => transcribe(alloc, &trace.rows, trace.end),
-        Err(_) => transcribe(alloc, &[], 0),
+        Err(_) => transcribe(alloc, &RowStore::new(alloc), 0),
     }
 }
 

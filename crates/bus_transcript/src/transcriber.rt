@@ -17,6 +17,7 @@ use crate::summary::{Departure, Summary, kind_of, summary_of};
 use bus_base::{NoMemory, Ns};
 use bus_trace::{Call, Calling, Change, Connection, Kind, Row, ScsiId, falls, rises};
 use msg_grammar::MsgOut;
+use row_store::RowStore;
 use run_record::Run;
 use scenario::Scenario;
 use std::alloc::{AllocError, Global};
@@ -398,13 +399,13 @@ impl Transcriber {
 }
 
 // The transcript of these rows of the eight devices, the oldest first.
-fn transcript(alloc: Global, rows: &[Row]) -> Result<Transcript, NoMemory>
+fn transcript(alloc: Global, rows: &RowStore) -> Result<Transcript, NoMemory>
     requires { AllByRecursion IsOfDevice rows.now }
     ensures { IfOk result (λ transcript. transcript.items.items ≡ transcript_of (reverse rows.now)) }
 {
     let mut transcriber = Transcriber::new(alloc);
-    for row in rows {
-        transcriber.see(row)?;
+    for row in rows.iter() {
+        transcriber.see(&row)?;
     }
     transcriber.finish()
 }
@@ -414,7 +415,7 @@ fn transcript(alloc: Global, rows: &[Row]) -> Result<Transcript, NoMemory>
 /// # Errors
 ///
 /// `NoMemory` where there was no memory left.
-pub fn transcribe(alloc: Global, rows: &[Row], end: Ns) -> Result<Transcript, NoMemory>
+pub fn transcribe(alloc: Global, rows: &RowStore, end: Ns) -> Result<Transcript, NoMemory>
     requires { AllByRecursion IsOfDevice rows.now }
     ensures { IfOk result (λ transcript. transcript.items.items ≡ transcript_of (reverse rows.now)) }
 {

@@ -1,13 +1,13 @@
 //! Tests of `vcd_text` and `text_pages`: each public function once, pieces of every length, and sinks that fail at
 //! every call.
-ghost use Rattle.std.specs.Prelude.{◌<◌};
+ghost use Rattle.std.specs.Prelude.{◌<◌, IfOk};
 ghost use Rattle.std.specs.List.{AllByRecursion};
 ghost use Rattle.bus_trace.specs.OfTrace.{IsRow};
 
 use crate::driven_rows::drive;
 use bus_base::MemSink;
-use bus_trace::{Kind, Lines, Row};
-use std::alloc::Global;
+use row_store::RowStore;
+use std::alloc::{AllocError, Global};
 use std::test::Fail;
 use text_pages::{SHORT, flush, is_failed, new_page, put, put_number, put_short};
 use vcd_text::{VcdBad, VcdReader, VcdRows, read_vcd, write_vcd};
@@ -118,15 +118,18 @@ fn reads_long_tokens(rt: HostRuntime) -> Result<(), Fail> {
     Ok(())
 }
 
-fn two_rows() -> [Row; 2]
-    ensures { AllByRecursion IsRow result }
+fn two_rows(alloc: Global) -> Result<RowStore, AllocError>
+    ensures { IfOk result (λ rows. AllByRecursion IsRow rows) }
 {
-    [drive(1200, 7, 0x280), drive(1200, 7, 0x680)]
+    let mut rows = RowStore::new(alloc);
+    rows.push(&drive(1200, 7, 0x280))?;
+    rows.push(&drive(1200, 7, 0x680))?;
+    Ok(rows)
 }
 
 #[test]
 fn writes_dumps(rt: HostRuntime) -> Result<(), Fail> {
-    let rows = two_rows();
+    let rows = two_rows(rt.alloc())?;
     let mut out = MemSink::new(rt.alloc(), 8192, 100, &[])?;
     assert!(rt; write_vcd(&rows, 1300, &mut out).is_ok());
     let end = b"#1200\nb000000001010000000 h\nb000000011010000000 h\n#1300\n";
@@ -138,7 +141,7 @@ fn writes_dumps(rt: HostRuntime) -> Result<(), Fail> {
 
 #[test]
 fn fails_with_the_sink(rt: HostRuntime) -> Result<(), Fail> {
-    let rows = two_rows();
+    let rows = two_rows(rt.alloc())?;
     for bad in 1..6 {
         let mut out = MemSink::new(rt.alloc(), 8192, 100, &[bad])?;
         assert!(rt; write_vcd(&rows, 1200, &mut out).is_err(), "{bad}");

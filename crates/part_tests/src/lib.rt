@@ -40,6 +40,8 @@ mod observers;
 #[cfg(test)]
 mod queues;
 #[cfg(test)]
+mod row_stores;
+#[cfg(test)]
 mod scenario_texts;
 #[cfg(test)]
 mod targets;

@@ -1,15 +1,15 @@
 //! What a run made.
 use crate::outcome::Outcome;
 use bus_base::{Event, Ns};
-use bus_trace::Row;
 use disk_unit::SparseBlocks;
+use row_store::RowStore;
 use std::marker::Model;
 
 /// What a run made. Contracts see it as a record of lists.
 #[derive(Drop)]
 pub struct Run {
     /// The rows of the trace, the oldest first.
-    pub rows: Vec<Row>,
+    pub rows: RowStore,
     /// The time of the last row, in ns, or 0.
     pub end: Ns,
     /// What the rows show, in their order.
@@ -27,7 +27,7 @@ impl Model for Run {
     ghost Value = { RunValue };
 
     ghost view = { λ a. record {
-      rows = a.rows.items;
+      rows = a.rows;
       end = a.end;
       history = a.history.items;
       replies = a.replies.items;

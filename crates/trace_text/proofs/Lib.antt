@@ -13,3 +13,4 @@ pub mod Taken
 mod TouchedBlocks
 pub mod PiecesLeft
 pub mod Devices
+pub mod KeptRows

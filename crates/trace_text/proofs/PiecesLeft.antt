@@ -1,6 +1,6 @@
 -- A text that is read from a place of a piece on, line by line.
-use Rattle.std.proofs.Common.{ℕ, ◌≡◌, ◌+◌, ◌-◌, ◌≤◌, List, ◌++◌, length, take, drop, reverse, append_assoc, take_all}
-use Rattle.std.proofs.Common.{sym, ap, ◌∙◌, arith}
+use Rattle.std.proofs.Common.{ℕ, ◌≡◌, ◌+◌, ◌-◌, ◌≤◌, List, [], ◌∷◌, ◌++◌, length, take, drop, reverse, append_assoc}
+use Rattle.std.proofs.Common.{take_all, refl, sym, ap, ◌∙◌, arith}
 use Rattle.std.proofs.Math.Seq.{take-add}
 use Rattle.std.proofs.lemmas.List.{length-append, length-drop, length-reverse, length-take, reverse-append}
 use Rattle.trace_text.specs.declared.limit.TheConstants.{LIMIT as TRACE_LIMIT}
@@ -16,7 +16,7 @@ pub left-len : (piece : List ℕ) (at : ℕ) → length (left piece at) ≡ leng
 left-len piece at = ap length (left-is piece at) ∙ length-drop at piece
 
 -- n bytes more
-pub next : (piece : List ℕ) (at n : ℕ)
+next : (piece : List ℕ) (at n : ℕ)
     → reverse (take n (left piece at)) ++ reverse (take at piece) ≡ reverse (take (at + n) piece)
 next piece at n =
     ap (λ (l : List ℕ). reverse (take n l) ++ reverse (take at piece)) (left-is piece at)
@@ -39,6 +39,10 @@ room piece bytes at within few = omega (
   left-len piece at,
 )
 
-pub rest_fits : (piece : List ℕ) (at : ℕ) → at ≤ length piece → length piece ≤ TRACE_LIMIT
-    → length (reverse (take at piece)) + length (left piece at) ≤ TRACE_LIMIT
-rest_fits piece at within few = omega (arith, length-reverse (take at piece), length-take at piece, left-len piece at)
+none_of : (piece bytes : List ℕ) → reverse (take 0 piece) ++ bytes ≡ bytes
+none_of [] bytes = refl
+none_of (b ∷ piece) bytes = refl
+
+-- no byte more
+pub none_taken : (piece bytes : List ℕ) (n : ℕ) → n ≡ 0 → reverse (take n piece) ++ bytes ≡ bytes
+none_taken piece bytes n is = ap (λ (k : ℕ). reverse (take k piece) ++ bytes) is ∙ none_of piece bytes

@@ -1,9 +1,10 @@
 -- What is read as a trace is rows that the bus can have, and an end below 2 ^ 63.
 use Rattle.std.proofs.Common.{◌≡◌, ℕ, ◌+◌, ◌-◌, ◌^◌, ◌<◌, ◌≤◌, Bool, true, false, cond, ◌&&◌, List, [], ◌∷◌, length}
-use Rattle.std.proofs.Common.{reverse, Option, Some, None, Result, Ok, Err, refl, subst, arith}
+use Rattle.std.proofs.Common.{reverse, Option, Some, None, Result, Ok, Err, refl, sym, subst, arith}
 use Rattle.std.specs.Prelude.{◌==◌, nat_le, nat_lt, codes, IfOk}
 use Rattle.std.specs.List.{AllByRecursion}
 use Rattle.std.proofs.lemmas.Bool.Decides.{nat_tests}
+use Rattle.std.proofs.lemmas.List.{reverse-reverse}
 use Rattle.text_words.specs.Words.{after, number_at, digit_at, is_hex, is_whole}
 use Rattle.text_words.proofs.Only.{bind_some, cond_some, digit_only}
 use Rattle.trace_text.specs.declared.limit.TheConstants.{LIMIT as TRACE_LIMIT}
@@ -188,7 +189,14 @@ named_rows : (rows : List Row) → AllByRecursion IsTraceRow rows → AllByRecur
 named_rows [] h = tt
 named_rows (row ∷ rows) h = (h.0.named, named_rows rows h.1)
 
+-- the rows that were kept
+pub kept_named : (rows : List Row) (bytes : List ℕ) → reverse rows ≡ rows_of bytes → AllByRecursion IsRow rows
+kept_named rows bytes is =
+    let all : AllByRecursion IsTraceRow (reverse rows) = subst (AllByRecursion IsTraceRow) (sym is) (rows_fit bytes) in
+    named_rows rows
+    (subst (AllByRecursion IsTraceRow) (reverse-reverse rows) (all_reverse IsTraceRow (reverse rows) all))
+
 pub rows_named : (read : Result Trace TraceBad) (bytes : List ℕ) → Answers read (trace_of bytes)
-    → IfOk read (λ t. AllByRecursion IsRow t.rows.items)
-rows_named (Ok t) bytes e = named_rows t.rows.items (trace_only bytes t.rows.items t.end e).0
+    → IfOk read (λ t. AllByRecursion IsRow t.rows)
+rows_named (Ok t) bytes e = named_rows t.rows (trace_only bytes t.rows t.end e).0
 rows_named (Err bad) bytes e = tt

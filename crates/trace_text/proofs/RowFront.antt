@@ -15,8 +15,7 @@ use Rattle.bus_trace.specs.declared.Kind.{Kind}
 use Rattle.bus_trace.specs.declared.Kind.TheVariants.{Drives}
 use Rattle.bus_trace.specs.declared.Row.{Row}
 use Rattle.trace_text.specs.Lines.{below, value_of, kind_at, row_at}
-use Rattle.trace_text.specs.Pieces.{is_inner, text_of, StartsWithRow, is_row_end, lines_of_row, with_kind, row_end}
-use Rattle.trace_text.specs.Pieces.{front_row}
+use Rattle.trace_text.specs.Pieces.{is_inner, text_of, StartsWithRow, is_row_end, lines_of_row, row_end, front_row}
 use Rattle.trace_text.proofs.Short.{below_is}
 use Rattle.trace_text.proofs.RowAgain.{decimal_inner, digit_inner}
 use Rattle.trace_text.proofs.Pieces.{line_len_fed}

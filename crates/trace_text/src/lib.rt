@@ -4,18 +4,19 @@
 //! then the history, the replies and the blocks of a run. `specs/` defines these texts over plain
 //! lists; whoever prints or reads one cites these definitions.
 //!
-//! It stands on `text_words`, `text_pages`, `bus_base`, `bus_trace`, `cdb_codec`, `scenario` and `run_record`. Its
-//! contract: [`report`] writes the report of a run to any sink, or a front of it where the sink fails, and
-//! [`short_report`] the short one, and [`write_trace`] the text of a trace alone;
-//! [`print_row`] is the line of a row; [`TraceReader`], which takes a trace text byte by byte or in pieces and
-//! keeps no row, tells each row and the first line that breaks the form, however the text is cut, and where rows
-//! follow one another it is a [`RowsReader`]; and [`read_trace`] is all rows and the end, or that line. What is
-//! printed is read again ([`traces_read_back`], [`reports_read_back`]), and only such rows and ends are read
-//! ([`reads_only`]).
+//! It stands on `text_words`, `text_pages`, `bus_base`, `bus_trace`, `row_store`, `cdb_codec`, `scenario` and
+//! `run_record`. Its contract: [`report`] writes the report of a run to any sink, or a front of it where the sink
+//! fails, and [`short_report`] the short one, and [`write_trace`] the text of a trace alone; [`print_row`] is the line
+//! of a row; [`TraceReader`], which takes a trace text byte by byte or in pieces and keeps no row, tells each row and
+//! the first line that breaks the form, however the text is cut, and where rows follow one another it is a
+//! [`RowsReader`]; [`KeptTrace`] keeps the rows of a text that comes in pieces, and [`read_trace`] is all rows and the
+//! end, or that line. What is printed is read again ([`traces_read_back`], [`reports_read_back`]), and only such rows
+//! and ends are read ([`reads_only`]).
 #![tactic(auto)]
 
 mod blocks_part;
 mod history_part;
+mod kept_trace;
 mod laws;
 mod limit;
 mod line_front;
@@ -33,6 +34,7 @@ mod whole_trace;
 
 pub use bus_base::Ns;
 pub use bus_trace::{Kind, Lines, Row};
+pub use kept_trace::KeptTrace;
 pub use laws::{reads_only, reports_read_back, traces_read_back};
 pub use limit::LIMIT;
 pub use reader::TraceReader;

@@ -10,6 +10,7 @@ use crate::row_line::line_end;
 use bitflags::Flags;
 use bus_base::{Dev, Ns, Sink};
 use bus_trace::{Kind, Row};
+use row_store::RowStore;
 use text_pages::{Page, SPAN, UpperDigits, put, put_number, put_short};
 
 // The line of a fault row.
@@ -59,17 +60,17 @@ fn put_row<K: Sink>(out: &mut K, page: &mut Page, upper: &mut UpperDigits, row: 
     }
 }
 
-fn put_rows<K: Sink>(out: &mut K, page: &mut Page, rows: &[Row])
+fn put_rows<K: Sink>(out: &mut K, page: &mut Page, rows: &RowStore)
     requires { AllByRecursion IsOfDevice rows.now }
     ensures { Prints K.written K.faults out.old out.new page.old page.new (flat_map row_text rows.now) }
 {
     let mut upper = UpperDigits::begun(0);
-    for row in rows {
-        put_row(out, page, &mut upper, row);
+    for row in rows.iter() {
+        put_row(out, page, &mut upper, &row);
     }
 }
 
-pub(crate) fn put_trace<K: Sink>(out: &mut K, page: &mut Page, rows: &[Row], end: Ns)
+pub(crate) fn put_trace<K: Sink>(out: &mut K, page: &mut Page, rows: &RowStore, end: Ns)
     requires { AllByRecursion IsOfDevice rows.now }
     ensures { Prints K.written K.faults out.old out.new page.old page.new (trace_text rows.now end) }
 {

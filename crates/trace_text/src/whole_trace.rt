@@ -8,7 +8,7 @@ ghost use Rattle.bus_trace.specs.OfTrace.{IsRow};
 
 use crate::trace_part::put_trace;
 use bus_base::{Failed, Ns, Sink};
-use bus_trace::Row;
+use row_store::RowStore;
 use text_pages::{flush, is_failed, new_page};
 
 /// Writes the text of a trace. It takes no memory, and the sink gets it in pieces of up to some KiB.
@@ -16,7 +16,7 @@ use text_pages::{flush, is_failed, new_page};
 /// # Errors
 ///
 /// `Failed` where the sink failed, whose count of faults then rose; a front of the text was written.
-pub fn write_trace<K: Sink>(rows: &[Row], end: Ns, out: &mut K) -> Result<(), Failed>
+pub fn write_trace<K: Sink>(rows: &RowStore, end: Ns, out: &mut K) -> Result<(), Failed>
     requires { AllByRecursion IsRow rows.now }
     ensures whole { WritesAll (K.written out.old) (K.written out.new) (trace_text rows.now end) result }
     ensures failed { OnErr result (HasRisen (K.faults out.old) (K.faults out.new)) }

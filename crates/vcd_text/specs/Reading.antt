@@ -73,6 +73,6 @@ vcd_of bytes = read_of (taken no_bytes bytes)
 
 -- What was read is this; want of memory is free.
 abbrev pub Answers : Result VcdRows VcdBad → Result (List Row × ℕ) ℕ → Type 0
-Answers (Ok t) read = read ≡ Ok (t.rows.items, t.end)
+Answers (Ok t) read = read ≡ Ok (t.rows, t.end)
 Answers (Err (bads.At line)) read = read ≡ Err line
 Answers (Err bads.NoMemory) read = Unit {0}

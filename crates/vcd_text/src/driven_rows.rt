@@ -1,19 +1,19 @@
 //! The rows of a dump.
-ghost use Rattle.std.specs.Prelude.{ℕ, ◌≡◌, ◌<◌, [], ◌∷◌, ◌++◌, reverse, OnOk, OnErr};
-ghost use Rattle.bus_trace.specs.declared.rows.Kind.TheVariants.{Drives};
+ghost use Rattle.std.specs.Prelude.{◌≡◌, ◌<◌, [], reverse, OnOk};
 ghost use Rattle.std.specs.List.{AllByRecursion};
 ghost use Rattle.bus_trace.specs.OfTrace.{IsRow};
 ghost use Rattle.vcd_text.specs.Steps.{with_change};
 
 use bus_base::{Dev, Ns};
 use bus_trace::{Kind, Lines, Row};
+use row_store::RowStore;
 use std::alloc::{AllocError, Global};
 use std::marker::Model;
 
 /// Rows of lines, and what each device drives after them. In the clauses the newest row stands first.
 #[derive(Drop)]
 pub(crate) struct DrivenRows {
-    rows: Vec<Row>,
+    rows: RowStore,
     driven: [Lines; 8],
 }
 
@@ -27,24 +27,10 @@ impl Model for DrivenRows {
 
     ghost Value = { List Row };
 
-    ghost view = { λ a. reverse a.rows.items };
+    ghost view = { λ a. reverse a.rows };
 
-    ghost invariant = { λ a. ((dev : ℕ) → dev < 8 → driven_at a.driven dev ≡ drives (reverse a.rows.items) dev)
-        × AllByRecursion IsRow a.rows.items };
-}
-
-// One row more.
-fn add(rows: &mut Vec<Row>, time: Ns, dev: Dev, lines: Lines) -> Result<(), AllocError>
-    ensures kept { OnErr result (rows.new.items ≡ rows.old.items) }
-    ensures added { OnOk result (rows.new.items
-        ≡ rows.old.items ++ record { time = time; dev = dev; kind = Drives lines } ∷ []) }
-{
-    rows.push(Row {
-        time,
-        dev,
-        kind: Kind::Drives(lines),
-    })?;
-    Ok(())
+    ghost invariant = { λ a. ((dev : ℕ) → dev < 8 → driven_at a.driven dev ≡ drives (reverse a.rows) dev)
+        × AllByRecursion IsRow a.rows };
 }
 
 impl DrivenRows {
@@ -52,7 +38,7 @@ impl DrivenRows {
         ensures { result ≡ [] }
     {
         DrivenRows {
-            rows: Vec::new(alloc),
+            rows: RowStore::new(alloc),
             driven: [Lines::none(); 8],
         }
     }
@@ -65,15 +51,19 @@ impl DrivenRows {
         if self.driven[dev as usize].same(lines) {
             return Ok(());
         }
-        add(&mut self.rows, time, dev, lines)?;
+        self.rows.push(&Row {
+            time,
+            dev,
+            kind: Kind::Drives(lines),
+        })?;
         self.driven[dev as usize] = lines;
         Ok(())
     }
 
     /// The rows, the oldest first.
-    pub(crate) fn into_rows(self) -> Vec<Row>
-        ensures rows { result.items ≡ reverse self }
-        ensures named { AllByRecursion IsRow result.items }
+    pub(crate) fn into_rows(self) -> RowStore
+        ensures rows { result ≡ reverse self }
+        ensures named { AllByRecursion IsRow result }
     {
         self.rows
     }

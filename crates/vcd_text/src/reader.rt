@@ -65,8 +65,8 @@ fn is_whole(awaits: Awaits) -> bool
 }
 
 fn rows_of(dump: Dump) -> VcdRows
-    ensures rows { result.rows.items ≡ reverse dump.rows }
-    ensures named { AllByRecursion IsRow result.rows.items }
+    ensures rows { result.rows ≡ reverse dump.rows }
+    ensures named { AllByRecursion IsRow result.rows }
     ensures end { result.end ≡ dump.time }
 {
     let Dump { rows, time, .. } = dump;
@@ -196,7 +196,7 @@ impl VcdReader {
     pub fn finish(self, alloc: Global) -> Result<VcdRows, VcdBad>
         ensures exact { Answers result (read_of self) }
         // Each row is of one of the eight devices.
-        ensures rows { IfOk result (λ dump. AllByRecursion IsRow dump.rows.items) }
+        ensures rows { IfOk result (λ dump. AllByRecursion IsRow dump.rows) }
     {
         let mut reader = self;
         if !reader.is_bad() {
@@ -208,7 +208,7 @@ impl VcdReader {
     // The last token has ended.
     fn into_rows(self) -> Result<VcdRows, VcdBad>
         ensures exact { Answers result (read_by self.bad self) }
-        ensures rows { IfOk result (λ dump. AllByRecursion IsRow dump.rows.items) }
+        ensures rows { IfOk result (λ dump. AllByRecursion IsRow dump.rows) }
     {
         let VcdReader {
             dump,

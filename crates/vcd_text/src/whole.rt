@@ -7,14 +7,14 @@ ghost use Rattle.vcd_text.specs.declared.whole.VcdBad.TheVariants.{NoMemory};
 
 use crate::reader::VcdReader;
 use bus_base::Ns;
-use bus_trace::Row;
+use row_store::RowStore;
 use std::alloc::{AllocError, Global};
 
 /// What a dump says.
 #[derive(Drop)]
 pub struct VcdRows {
     /// The rows, the oldest first.
-    pub rows: Vec<Row>,
+    pub rows: RowStore,
     /// The time of the end, in ns.
     pub end: Ns,
 }
@@ -42,7 +42,7 @@ impl From<AllocError> for VcdBad {
 pub fn read_vcd(alloc: Global, bytes: &[u8]) -> Result<VcdRows, VcdBad>
     ensures exact { Answers result (vcd_of bytes.now) }
     // Each row is of one of the eight devices.
-    ensures rows { IfOk result (λ dump. AllByRecursion IsRow dump.rows.items) }
+    ensures rows { IfOk result (λ dump. AllByRecursion IsRow dump.rows) }
 {
     let mut reader = VcdReader::new(alloc);
     reader.take_all(alloc, bytes)?;

@@ -10,6 +10,7 @@ ghost use Rattle.vcd_text.specs.DumpText.{head_text, bit_text, nibble_text, valu
 use bitflags::Flags;
 use bus_base::{Dev, Failed, Ns, Sink};
 use bus_trace::{Kind, Row};
+use row_store::RowStore;
 use text_pages::{
     Page, SPAN, UpperDigits, flush, is_failed, new_page, put, put_marked, put_number, two_digits,
 };
@@ -212,20 +213,20 @@ fn put_row<K: Sink>(
     }
 }
 
-fn put_rows<K: Sink>(out: &mut K, page: &mut Page, rows: &[Row]) -> Ns
+fn put_rows<K: Sink>(out: &mut K, page: &mut Page, rows: &RowStore) -> Ns
     requires { AllByRecursion IsRow rows.now }
     ensures text { Prints K.written K.faults out.old out.new page.old page.new (rows_text 0 rows.now) }
     ensures last { result ≡ time_written 0 rows.now }
 {
     let mut last = 0;
     let mut upper = UpperDigits::begun(0);
-    for row in rows {
-        last = put_row(out, page, &mut upper, last, row);
+    for row in rows.iter() {
+        last = put_row(out, page, &mut upper, last, &row);
     }
     last
 }
 
-fn put_dump<K: Sink>(out: &mut K, page: &mut Page, rows: &[Row], end: Ns)
+fn put_dump<K: Sink>(out: &mut K, page: &mut Page, rows: &RowStore, end: Ns)
     requires { AllByRecursion IsRow rows.now }
     ensures { Prints K.written K.faults out.old out.new page.old page.new (dump_text rows.now end) }
 {
@@ -240,7 +241,7 @@ fn put_dump<K: Sink>(out: &mut K, page: &mut Page, rows: &[Row], end: Ns)
 /// # Errors
 ///
 /// `Failed` where the sink failed, whose count of faults then rose; a front of the dump was written.
-pub fn write_vcd<K: Sink>(rows: &[Row], end: Ns, out: &mut K) -> Result<(), Failed>
+pub fn write_vcd<K: Sink>(rows: &RowStore, end: Ns, out: &mut K) -> Result<(), Failed>
     requires { AllByRecursion IsRow rows.now }
     ensures whole { WritesAll (K.written out.old) (K.written out.new) (dump_text rows.now end) result }
     ensures failed { OnErr result (HasRisen (K.faults out.old) (K.faults out.new)) }

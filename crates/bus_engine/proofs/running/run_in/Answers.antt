@@ -44,8 +44,8 @@ lawful_at rows all end time r e h =
 pub returns-clause-exact : goal.returns-clause-exact
 returns-clause-exact g c = λ at.
     let s = c.args.scenario.now in
-    let items = c.in_ok-trace.trace.rows.items in
-    let all : List Row = reverse c.in_ok-trace.trace.rows.items in
+    let items = c.in_ok-trace.trace.rows in
+    let all : List Row = reverse c.in_ok-trace.trace.rows in
     let r = c.in_ok-finish.ensures.rows in
     let plain = c.kept_is_plain.ensures.rows s all c.in_ok-trace.ensures.devices in
     let h = c.prompt_traces_tie_devices.ensures s c.requires.lawful in

@@ -12,15 +12,15 @@ use Rattle.bus_run.proofs.running.run.Goals as goal
 
 pub next-requires-clause-timely : goal.next-requires-clause-timely
 next-requires-clause-timely g c =
-    c.observers_are_timely.ensures (reverse c.loop.trace.rows.items) c.loop.invariant.observed c.loop.invariant.early
+    c.observers_are_timely.ensures (reverse c.loop.trace.rows) c.loop.invariant.observed c.loop.invariant.early
 
 pub returns-in_default-clause-ended : goal.returns-in_default-clause-ended
 returns-in_default-clause-ended g c = λ h p fewer.
     let s = c.args.scenario.now in
-    let rows : List Row = reverse c.loop.trace.rows.items in
+    let rows : List Row = reverse c.loop.trace.rows in
     let i = c.loop.invariant in
     let going = i.going h p in
-    let few : length rows < 2 ^ 32 = omega (arith, length-reverse c.loop.trace.rows.items, i.count, c.loop-test.true) in
+    let few : length rows < 2 ^ 32 = omega (arith, length-reverse c.loop.trace.rows, i.count, c.loop-test.true) in
     sym (c.next.ensures.exact s rows (seen s rows c.loop.observer
     (c.scenarios_fit_the_bus.ensures.lines s c.requires.lawful) h going.prompt i.observed i.devices few i.early)
     going.devices (c.first.ensures ∙ ap (λ (xs : List FaultDef). first_fault xs) going.pending) going.known)
@@ -28,7 +28,7 @@ returns-in_default-clause-ended g c = λ h p fewer.
 
 pub returns-in_default-clause-history : goal.returns-in_default-clause-history
 returns-in_default-clause-history g c = λ h p.
-    let rows : List Row = reverse c.loop.trace.rows.items in
+    let rows : List Row = reverse c.loop.trace.rows in
     (c.loop.invariant.going h p).told ∙ ap (λ (b : Story). b.history)
     (c.kept_is_plain.ensures.rows c.args.scenario.now rows c.loop.invariant.devices).story
 
@@ -37,7 +37,7 @@ returns-in_default-clause-places g c = λ h p. (c.loop.invariant.going h p).devi
 
 pub returns-in_default-clause-within : goal.returns-in_default-clause-within
 returns-in_default-clause-within g c = λ most h p less.
-    let items = c.loop.trace.rows.items in
+    let items = c.loop.trace.rows in
     let i = c.loop.invariant in
     let fewer : length (reverse items) < most = less (reverse items) (i.going h p).prompt in
     omega (arith, fewer, length-reverse items, i.count, i.steps, c.next.ensures.steps)
@@ -45,11 +45,11 @@ returns-in_default-clause-within g c = λ most h p less.
 pub returns-then-row-ge-END-clause-ended : goal.returns-then-row-ge-END-clause-ended
 returns-then-row-ge-END-clause-ended g c = λ h p fewer.
     let s = c.args.scenario.now in
-    let rows : List Row = reverse c.loop.trace.rows.items in
+    let rows : List Row = reverse c.loop.trace.rows in
     let i = c.loop.invariant in
     let going = i.going h p in
     let row : Row = c.in-Some.row in
-    let few : length rows < 2 ^ 32 = omega (arith, length-reverse c.loop.trace.rows.items, i.count, c.loop-test.true) in
+    let few : length rows < 2 ^ 32 = omega (arith, length-reverse c.loop.trace.rows, i.count, c.loop-test.true) in
     let few_with : length (row ∷ rows) ≤ 2 ^ 32 = omega (arith, few) in
     absurd (too_late s rows row (c.rows_come_in_time.ensures.far s (row ∷ rows) c.requires.lawful (
       going.prompt,
@@ -61,7 +61,7 @@ returns-then-row-ge-END-clause-ended g c = λ h p fewer.
 
 pub returns-then-row-ge-END-clause-history : goal.returns-then-row-ge-END-clause-history
 returns-then-row-ge-END-clause-history g c = λ h p.
-    let rows : List Row = reverse c.loop.trace.rows.items in
+    let rows : List Row = reverse c.loop.trace.rows in
     (c.loop.invariant.going h p).told ∙ ap (λ (b : Story). b.history)
     (c.kept_is_plain.ensures.rows c.args.scenario.now rows c.loop.invariant.devices).story
 
@@ -70,7 +70,7 @@ returns-then-row-ge-END-clause-places g c = λ h p. (c.loop.invariant.going h p)
 
 pub returns-then-row-ge-END-clause-within : goal.returns-then-row-ge-END-clause-within
 returns-then-row-ge-END-clause-within g c = λ most h p less.
-    let items = c.loop.trace.rows.items in
+    let items = c.loop.trace.rows in
     let i = c.loop.invariant in
     let fewer : length (reverse items) < most = less (reverse items) (i.going h p).prompt in
     omega (arith, fewer, length-reverse items, i.count, i.steps, c.next.ensures.steps)
@@ -78,17 +78,17 @@ returns-then-row-ge-END-clause-within g c = λ most h p less.
 pub loop-preserved : goal.loop-preserved
 loop-preserved g c =
     let s = c.args.scenario.now in
-    let rows : List Row = reverse c.loop.trace.rows.items in
+    let rows : List Row = reverse c.loop.trace.rows in
     let row : Row = c.in-Some.row in
     let i = c.loop.invariant in
-    let new : reverse c.add.new.self.rows.items ≡ row ∷ rows = c.in_ok-add.ensures.rows in
+    let new : reverse c.add.new.self.rows ≡ row ∷ rows = c.in_ok-add.ensures.rows in
     let early : row.time < 2 ^ 62 = c.if-row-ge-END.false in
     let device : row.dev < 8 = subst
     (λ (o : Option Row). IfSome o (λ (r : Row). r.dev < 8)) c.in-Some.is c.next.ensures.device in
     let observed = c.tell-shown.ensures.observer rows i.observed in
-    let few : length rows < 2 ^ 32 = omega (arith, length-reverse c.loop.trace.rows.items, i.count, c.loop-test.true) in
+    let few : length rows < 2 ^ 32 = omega (arith, length-reverse c.loop.trace.rows, i.count, c.loop-test.true) in
     let few_with : length (row ∷ rows) < 2 ^ 32 = omega
-    (arith, length-reverse c.loop.trace.rows.items, i.count, c.loop-test.true) in
+    (arith, length-reverse c.loop.trace.rows, i.count, c.loop-test.true) in
     record {
       observed = observed_on rows _ row _ new observed;
       devices = devices_on rows _ row new device i.devices;
@@ -114,19 +114,19 @@ loop-preserved g c =
 
 pub returns-in_err-add-clause-within : goal.returns-in_err-add-clause-within
 returns-in_err-add-clause-within g c = λ most h p less.
-    let items = c.loop.trace.rows.items in
+    let items = c.loop.trace.rows in
     let i = c.loop.invariant in
     let fewer : length (reverse items) < most = less (reverse items) (i.going h p).prompt in
     omega (arith, fewer, length-reverse items, i.count, i.steps, c.next.ensures.steps)
 
 pub returns-clause-ended : goal.returns-clause-ended
 returns-clause-ended g c = λ h p fewer.
-    let all : length c.loop.trace.rows.items < 2 ^ 32 - 1 = fewer in
+    let all : length c.loop.trace.rows < 2 ^ 32 - 1 = fewer in
     absurd (omega (arith, all, c.loop.invariant.count, c.loop-test.false))
 
 pub returns-clause-history : goal.returns-clause-history
 returns-clause-history g c = λ h p.
-    let rows : List Row = reverse c.loop.trace.rows.items in
+    let rows : List Row = reverse c.loop.trace.rows in
     (c.loop.invariant.going h p).told ∙ ap (λ (b : Story). b.history)
     (c.kept_is_plain.ensures.rows c.args.scenario.now rows c.loop.invariant.devices).story
 
@@ -135,7 +135,7 @@ returns-clause-places g c = λ h p. (c.loop.invariant.going h p).devices
 
 pub returns-clause-within : goal.returns-clause-within
 returns-clause-within g c = λ most h p less.
-    let items = c.loop.trace.rows.items in
+    let items = c.loop.trace.rows in
     let i = c.loop.invariant in
     let fewer : length (reverse items) < most = less (reverse items) (i.going h p).prompt in
     omega (arith, fewer, length-reverse items, i.count, i.steps)

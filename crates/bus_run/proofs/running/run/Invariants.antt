@@ -9,12 +9,12 @@ use Rattle.bus_run.proofs.running.run.Given as goal
 
 abbrev pub invariant-loop : goal.invariant-loop
 invariant-loop g l = record {
-  observed : IsObserverOf (reverse l.trace.rows.items) l.observer;
-  devices : AreOfDevices (reverse l.trace.rows.items);
-  early : AreEarly (reverse l.trace.rows.items);
-  count : length l.trace.rows.items ≡ l.counter;
+  observed : IsObserverOf (reverse l.trace.rows) l.observer;
+  devices : AreOfDevices (reverse l.trace.rows);
+  early : AreEarly (reverse l.trace.rows);
+  count : length l.trace.rows ≡ l.counter;
   steps : l.steps ≡ l.initial.steps + 8 * l.counter;
   going : SeamsHold l.scenario → AreIn g.D.Device.IsOf l.scenario [] l.initial.places
-      → IsGoing g.D.Device.IsOf l.scenario (reverse l.trace.rows.items) l.places l.faults
+      → IsGoing g.D.Device.IsOf l.scenario (reverse l.trace.rows) l.places l.faults
       (reverse l.trace.history.items) l.away;
 }

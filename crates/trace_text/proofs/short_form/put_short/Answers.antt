@@ -10,9 +10,9 @@ pub returns : goal.returns
 returns g c =
     let parts = and_then c.put.ensures
     (and_then c.put_count.ensures (and_then c.put_count-2.ensures c.put_endings.ensures)) in
-    let rows : c.len.result ≡ length c.run.inside.rows.items = grind (arith, common_steps) in
+    let rows : c.len.result ≡ length c.run.inside.rows = grind (arith, common_steps) in
     let view : RunValue = record {
-      rows = c.run.inside.rows.items;
+      rows = c.run.inside.rows;
       end = c.run.inside.end;
       history = c.run.inside.history.items;
       replies = c.run.inside.replies.items;

@@ -10,10 +10,10 @@ returns g c =
     let parts = and_then c.put_trace.ensures
     (and_then c.put.ensures (and_then c.put_history.ensures (and_then c.put-2.ensures
     (and_then c.put_replies.ensures (and_then c.put-3.ensures (and_then c.put_disks.ensures c.put-4.ensures)))))) in
-    let disks : map disk_name c.deref-4.result.now ≡ map disk_name c.s.inside.units.items = ap
-    (λ units. map disk_name units) c.deref-4.ensures.value in
+    let disks : map disk_name c.deref-3.result.now ≡ map disk_name c.s.inside.units.items = ap
+    (λ units. map disk_name units) c.deref-3.ensures.value in
     let view : RunValue = record {
-      rows = c.run.inside.rows.items;
+      rows = c.run.inside.rows;
       end = c.run.inside.end;
       history = c.run.inside.history.items;
       replies = c.run.inside.replies.items;
@@ -21,9 +21,9 @@ returns g c =
     } in
     put_as _
     (put_as (report_text (map disk_name c.s.inside.units.items) view) parts (λ j. report_text (disks j) (record {
-      rows = c.deref.ensures.value j;
+      rows = c.run.inside.rows;
       end = c.run.inside.end;
-      history = c.deref-2.ensures.value j;
-      replies = c.deref-3.ensures.value j;
-      disks = map held_by (c.deref-5.ensures.value j);
+      history = c.deref.ensures.value j;
+      replies = c.deref-2.ensures.value j;
+      disks = map held_by (c.deref-4.ensures.value j);
     }))) (λ j. report_of (c.s.view_is j) (c.run.view_is j))
