@@ -183,21 +183,22 @@ pub use row_laws_proofs.{Bytes.Blocks.{HasCommands, commands_are}, Common.Imposs
 pub use row_laws_proofs.Common.PhaseLines.{data_in_lines, in_out, in_phase, is_out_next, is_status, message_line}
 pub use row_laws_proofs.Common.PhaseLines.{not_message_in, not_message_out, out_in, out_line, out_lines, out_phase}
 pub use row_laws_proofs.Common.{PhaseLines.{unpulsed}, PlanWays.{plan_by, plan_left, plan_out}, StoryWays.{StoryWay}}
-pub use row_laws_proofs.Common.{StoryWays.{story_way}, Tests.{all_four, by_bool, by_option, falls_true, less_apart}}
-pub use row_laws_proofs.Common.Tests.{not_unless, or_first, plus_one, some_count, some_zero, zero_below}
-pub use row_laws_proofs.Events.Queued.{is_dropped, map_units, settled_units, stays_queued, step_units, unit_at}
-pub use row_laws_proofs.{Events.Replies.{replies_to}, Lines.{Attention.{attention_row, lines_are}, Called.{IsCalled}}}
-pub use row_laws_proofs.Lines.Called.{IsDueCall, by_answer, callee_at, link_none, made_for, sel_of_call}
-pub use row_laws_proofs.Lines.Connections.{ConnectionRow, GoingRow, RowKindOf, begins_now, connection_row, goes_now}
-pub use row_laws_proofs.Lines.{Connections.{going_row, link_low, row_kind, stage_of_connection}, Crossings.{Goes}}
-pub use row_laws_proofs.Lines.{Crossings.{RowFacts, ends_here, stays}, Driven.{same_ends}, First.{IsFirst, made_is}}
-pub use row_laws_proofs.Lines.{First.{quiet_sel, under_rst}, Joint.{NextStood, Stood, apart_connection}}
-pub use row_laws_proofs.Lines.{Joint.{link_connection, link_phase}, Kept.{turn}, Plans.{Planned, is_in_message}}
-pub use row_laws_proofs.Lines.Rows.{LinkRow, answers_pulse, asks_first, asks_next, asks_pulse, changes_pulsed}
-pub use row_laws_proofs.Lines.Rows.{drives_pulsed, ends_ack_in, ends_ack_out, ends_ack_pulse, ends_req, ends_req_pulse}
-pub use row_laws_proofs.Lines.Rows.{gives, hands, is_unasked, leaves, offers, releases, sends, sends_pulse}
-pub use row_laws_proofs.Lines.{Turns.{freed_connection}, UnderRst.{drives_next, line_off, quiet_at_end, reset_rule}}
-pub use row_laws_proofs.{Lines.UndoneLeavings.{is_to_message_in, leaves_short}, Shown.Facts.{answered_on, change_keeps}}
+pub use row_laws_proofs.Common.{StoryWays.{carries, hears, says, story_way}, Tests.{all_four, by_bool, by_option}}
+pub use row_laws_proofs.Common.Tests.{falls_true, less_apart, not_unless, or_first, plus_one, some_count, some_zero}
+pub use row_laws_proofs.{Common.Tests.{zero_below}, Events.Queued.{is_dropped, map_units, settled_units, stays_queued}}
+pub use row_laws_proofs.{Events.{Queued.{step_units, unit_at}, Replies.{replies_to}}, Lines.Attention.{attention_row}}
+pub use row_laws_proofs.Lines.{Attention.{lines_are}, Called.{IsCalled, IsDueCall, by_answer, callee_at, link_none}}
+pub use row_laws_proofs.Lines.{Called.{made_for, sel_of_call}, Connections.{ConnectionRow, GoingRow, RowKindOf}}
+pub use row_laws_proofs.Lines.Connections.{begins_now, connection_row, goes_now, going_row, link_low, row_kind}
+pub use row_laws_proofs.Lines.{Connections.{stage_of_connection}, Crossings.{Goes, RowFacts, ends_here, stays}}
+pub use row_laws_proofs.Lines.{Driven.{same_ends}, First.{IsFirst, made_is, quiet_sel, under_rst}, Joint.{NextStood}}
+pub use row_laws_proofs.Lines.{Joint.{Stood, apart_connection, link_connection, link_phase}, Kept.{turn}}
+pub use row_laws_proofs.Lines.{Plans.{Planned, is_in_message}, Rows.{LinkRow, answers_pulse, asks_first, asks_next}}
+pub use row_laws_proofs.Lines.Rows.{asks_pulse, changes_pulsed, drives_pulsed, ends_ack_in, ends_ack_out}
+pub use row_laws_proofs.Lines.Rows.{ends_ack_pulse, ends_req, ends_req_pulse, gives, hands, is_unasked, leaves, offers}
+pub use row_laws_proofs.Lines.{Rows.{releases, sends, sends_pulse}, Turns.{freed_connection}, UnderRst.{drives_next}}
+pub use row_laws_proofs.Lines.{UnderRst.{line_off, quiet_at_end, reset_rule}, UndoneLeavings.{is_to_message_in}}
+pub use row_laws_proofs.{Lines.UndoneLeavings.{leaves_short}, Shown.Facts.{answered_on, change_keeps}}
 use Rattle.row_laws.specs as row_laws
 pub use row_laws.{Attention.{Attention, MessageRow, asks, keeps}, DataPointers.{IsAt, IsCalm, IsInRun, IsOfStatus}}
 pub use row_laws.DataPointers.{IsPlainIn, IsServedAnew, IsSettled, IsUndisturbed, IsUnnamed, IsWaiting, OnUndo}

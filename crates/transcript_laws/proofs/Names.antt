@@ -141,17 +141,18 @@ pub use story_laws_proofs.{Commands.{Messages.{crossed_else}, Turns.{is_command_
 pub use story_laws_proofs.Items.{Facts.{beginning}, Fresh.{calm_after, calm_before, items_found, items_fresh}}
 pub use story_laws_proofs.Items.{Fresh.{items_sent}, Open.{item_is, next_free, opened, same_process}, Over.{Grows}}
 pub use story_laws_proofs.Items.{Over.{events_grow, grows_same, in_append, not_grown, reset_senses}, Row.{LinkAfter}}
-pub use story_laws_proofs.Items.Row.{heard_link, hears, inside_sent, link_crossed, link_still, over_after, says, stays}
+pub use story_laws_proofs.Items.Row.{heard_link, hears, link_crossed, link_still, over_after, says, stays}
 pub use story_laws_proofs.Items.Sent.{carried_of_item, free_keeps, more_has, own_has, restored_sent}
-pub use story_laws_proofs.{Last.Facts.{last_or}, Named.Bytes.{Tagged, all_bytes, bare, identify_got, names_first}}
-pub use story_laws_proofs.Named.{Bytes.{names_left, numbered, tagged_is}, Rows.{in_lines}, Steps.{out_last}}
-pub use story_laws_proofs.{Named.Turns.{refusal_is}, Offers.{Bytes.{take_front}, Leavings.{all_said, parity_said}}}
-pub use story_laws_proofs.{Offers.{Steps.{left_is}, Turns.{out_by_phase}}, Pointers.Ends.{reset_over}}
-pub use story_laws_proofs.Pointers.{Steps.{fault_id, in_link, message_byte, named_story}, Stories.{story_row}}
-pub use story_laws_proofs.{Pointers.Waits.{change_over}, Talks.{Bytes.{on_message}, Steps.{last_before}}}
-pub use story_laws_proofs.Tells.{Ends.{goes_on, naming_goes_on, none_heard}, Facts.{all_given, front_length}}
-pub use story_laws_proofs.Tells.{Facts.{left_tells}, Rows.{IsHeard, is_heard, never_ends, no_events, unbegun_lines}}
-pub use story_laws_proofs.Undone.{Answers.{SamePlan, plan_stays}, Facts.{in_of}}
+pub use story_laws_proofs.{Items.Stays.{inside_sent}, Last.Facts.{last_or}, Named.Bytes.{Tagged, all_bytes, bare}}
+pub use story_laws_proofs.Named.{Bytes.{identify_got, names_first, names_left, numbered, tagged_is}, Rows.{in_lines}}
+pub use story_laws_proofs.{Named.{Steps.{out_last}, Turns.{refusal_is}}, Offers.Bytes.{take_front}}
+pub use story_laws_proofs.Offers.{Leavings.{all_said, parity_said}, Steps.{left_is}, Turns.{out_by_phase}}
+pub use story_laws_proofs.Pointers.{Ends.{reset_over}, Steps.{fault_id, in_link, message_byte, named_story}}
+pub use story_laws_proofs.{Pointers.{Stories.{story_row}, Waits.{change_over}}, Talks.Bytes.{on_message}}
+pub use story_laws_proofs.{Talks.Steps.{last_before}, Tells.Ends.{goes_on, naming_goes_on, none_heard}}
+pub use story_laws_proofs.Tells.{Facts.{all_given, front_length, left_tells}, Rows.{IsHeard, is_heard, never_ends}}
+pub use story_laws_proofs.{Tells.Rows.{no_events, unbegun_lines}, Undone.Answers.{SamePlan, plan_stays}}
+pub use story_laws_proofs.Undone.Facts.{in_of}
 use Rattle.progress_laws.specs.story_laws.specs as story_laws
 pub use story_laws.{LastTalks.{LastBy, LastGiven, closed, still_stays, to_close, to_save}, Named.{Named, Names, all}}
 pub use story_laws.Named.{known, refused, said, tag_alone}

@@ -1,53 +1,17 @@
 -- What a row of a connection makes of what is sent and over, and of its link.
 use Rattle.story_laws.proofs
 use proofs.Names.{inl, inr, ℕ, ◌≡◌, ◌⊎◌, Bool, true, false, not, ◌&&◌, ◌∙◌, List, [], ◌∷◌, Option, Some, None, refl}
-use proofs.Names.{sym, ap, subst, list_any, if◌then◌else◌, is_some, is_none, slice_index, ⊤, wrong, wrong', Event}
-use proofs.Names.{ProcId, rises, LineSet, changes_phase, is_command, receiver_in, Kind, Drives, Fault, Row, Change}
-use proofs.Names.{Connection, MsgIn, MsgOut, ScenarioValue, array_after, carried_id, byte_link, fault_link, out_link}
-use proofs.Names.{restored_sent, carried_link, RowReading, row_reading, message_out, message_in, CarriedBytes}
-use proofs.Names.{carried_of, is_whole_block, is_status_phase, carried_if, queue_events, is_refuse, status_event}
-use proofs.Names.{status_events, phase_events, is_completion, end_events, connection_events, link_events, row_events_by}
-use proofs.Names.{Item, process, has_item, Link, last_out, last_in, link_after_name, Story, story_after_event}
-use proofs.Names.{story_after_events, story_with_restored, story_with_carried, is_parity_error, story_after_message}
-use proofs.Names.{carried_after_byte_if, carried_after_fault_if, story_after_fault, story_in_connection, story_on_bus}
-use proofs.Names.{story_by_change, RunState, run_state_after, reading_is, link_after, IsRowIn, reading_in, StoryWay}
-use proofs.{Names.{story_way}, Items.Over.{Grows, grows_same, grows_on, events_grow, ends_over}}
+use proofs.Names.{sym, ap, subst, list_any, if◌then◌else◌, is_some, slice_index, ⊤, wrong, wrong', Event, ProcId, rises}
+use proofs.Names.{LineSet, changes_phase, is_command, receiver_in, Row, Change, Connection, MsgIn, MsgOut}
+use proofs.Names.{ScenarioValue, array_after, carried_id, byte_link, fault_link, out_link, carried_link, RowReading}
+use proofs.Names.{row_reading, message_out, message_in, CarriedBytes, carried_of, is_whole_block, is_status_phase}
+use proofs.Names.{carried_if, queue_events, is_refuse, status_event, status_events, phase_events, is_completion}
+use proofs.Names.{end_events, connection_events, link_events, row_events_by, Item, process, has_item, Link, last_out}
+use proofs.Names.{last_in, link_after_name, Story, story_after_event, story_after_events, story_in_connection}
+use proofs.Names.{story_on_bus, story_by_change, RunState, run_state_after, reading_is, link_after, IsRowIn, reading_in}
+use proofs.{Names.{StoryWay, story_way}, Items.Over.{Grows, grows_same, grows_on, events_grow, ends_over}}
+use proofs.Items.Stays.{inside_sent}
 use Rattle.row_laws.proofs.Common.StoryWays as ways
-
--- ---- a row of a connection leaves what is sent and over, but for its events
-
-pub carried_sent : (a : Story) (c : Option CarriedBytes) → (story_with_carried a c).sent ≡ a.sent
-carried_sent a None = refl
-carried_sent a (Some c) = refl
-
-pub inside_sent : (s : ScenarioValue) (b : Story) (l : Link) (d : RowReading) (row : Row)
-    → (story_in_connection s b (Some l) d row).sent ≡ b.sent
-inside_sent s b l d row = by (story_way s b l d row)
-  where
-    faulted : (kind : Kind) → (story_after_fault b l kind).sent ≡ b.sent
-    faulted (Drives lines) = refl
-    faulted (Fault bit) = carried_sent b (carried_after_fault_if (carried_if b l.item) b.bus_state.crossed)
-
-    crossed : (q : Bool)
-        → (if q then b else story_with_carried b (carried_after_byte_if (carried_if b l.item) d)).sent ≡ b.sent
-    crossed true = refl
-    crossed false = carried_sent b (carried_after_byte_if (carried_if b l.item) d)
-
-    heard : (m : MsgIn) (q : Bool)
-        → (story_after_message s (if q then story_with_restored b (link_after_name b.sent s.commands l m).item else b)
-        (record (link_after_name b.sent s.commands l m) {
-          last = last_in m;
-          before = l.last;
-          undo = carried_if b l.item;
-        }) m).sent ≡ b.sent
-    heard m true = carried_sent _ _ ∙ restored_sent b (link_after_name b.sent s.commands l m).item
-    heard m false = carried_sent _ _
-
-    by : {after : Story} → StoryWay s b l d row after → after.sent ≡ b.sent
-    by (ways.says m _ _) = carried_sent _ (if is_parity_error m then l.undo else None)
-    by (ways.hears m _ _ _) = heard m (is_none l.item)
-    by (ways.carries _ _ _) = crossed d.change.before.msg
-    by (ways.stays _) = faulted row.kind
 
 -- ---- events that end nothing
 

@@ -19,7 +19,7 @@ use proofs.Names.{story_after_connection, story_with_carried, is_parity_error, s
 use proofs.Names.{carried_after_message_if, story_after_message, story_after_in, carried_after_byte_if}
 use proofs.Names.{story_after_byte, carried_after_fault_if, story_after_fault, story_in_connection, story_on_bus}
 use proofs.Names.{story_by_change, item_of, RunState, run_state, run_state_after, self_id, id_is, LinkSent, LinksSent}
-use proofs.{Names.{SentOnly}, Items.Row.{inside_sent}, Pointers.Steps.{fault_id}}
+use proofs.{Names.{SentOnly}, Items.Stays.{inside_sent}, Pointers.Steps.{fault_id}}
 
 -- The process of an event.
 abbrev pub process_in : Event → Option ProcId

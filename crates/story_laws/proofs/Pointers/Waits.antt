@@ -12,7 +12,7 @@ use proofs.Names.{story_after_out, story_after_in, story_after_byte, story_after
 use proofs.Names.{story_on_bus, story_by_change, Leaving, other_kept, ProcessProgress, progress_in, RunState}
 use proofs.Names.{carried_here, process_item, process_served, run_state_after, progress_after, progress_by_leaving}
 use proofs.Names.{leaving_of, Knows, IsRowIn, reading_in, StoryWay, story_way, not_unless, by_bool, is_marked}
-use proofs.{Names.{run_start, run_step, IsWaiting, UndoesServed}, Items.Row.{inside_sent}, Pointers.Steps.{IsNot}}
+use proofs.{Names.{run_start, run_step, IsWaiting, UndoesServed}, Items.Stays.{inside_sent}, Pointers.Steps.{IsNot}}
 use proofs.Pointers.{Steps.{fault_story, byte_other, out_other, in_other}, Stories.{SamePointers, events_same}}
 use proofs.Pointers.Stories.{events_over, over_more, story_row}
 use Rattle.bus_due.specs.disk_array.proofs.SoundArrays.{id_is}

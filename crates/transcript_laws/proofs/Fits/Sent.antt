@@ -7,7 +7,7 @@ use proofs.Names.{RowReading, row_reading, row_events_by, Item, Sent, process, a
 use proofs.Names.{Link, link_of, Story, by_reset, story_with_ends, story_after_event, aim_of, story_with_sent}
 use proofs.Names.{story_with_restored, story_after_connection, story_in_connection, story_on_bus, story_by_change}
 use proofs.Names.{RunState, run_state, run_state_after, id_is, aims_are, IsItem, is_process, none_some, AreChecked}
-use proofs.Names.{IsChecked, reset_senses, inside_sent, own_has, more_has, free_keeps, restored_sent, reset_over}
+use proofs.Names.{IsChecked, reset_senses, own_has, more_has, free_keeps, restored_sent, inside_sent, reset_over}
 use proofs.Names.{is_open_process, ends_all}
 use Rattle.bus_due.specs.disk_array.specs.Processes.{process_of}
 use Rattle.progress_laws.specs.book_laws.specs.Items.{is_abort}
