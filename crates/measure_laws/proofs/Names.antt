@@ -191,11 +191,11 @@ pub use story_laws_proofs.Commands.{Counts.{refusal_offers_none}, Facts.{same_pr
 pub use story_laws_proofs.{Complaints.Turns.{IsAttended, attended_for}, Items.Facts.{FallsQuiet, aimed_next, beginning}}
 pub use story_laws_proofs.Items.{Facts.{falls_quiet}, First.{next_unended, next_unsent}, Fresh.{calm_after}}
 pub use story_laws_proofs.Items.{Fresh.{calm_before, items_open, items_ready}, Open.{item_is}, Over.{events_grow}}
-pub use story_laws_proofs.Items.{Over.{in_append, lost_over, sense_apart}, Row.{inside_sent, over_after}, Sent.{AllOf}}
+pub use story_laws_proofs.Items.{Over.{in_append, lost_over, sense_apart}, Row.{over_after}, Sent.{AllOf}}
 pub use story_laws_proofs.Items.Sent.{carried_of_item, free_keeps, more_has, own_has, process_in, restored_sent, row_of}
-pub use story_laws_proofs.{Items.{Sent.{self_item, sent_grows}, Steps.{free_still}}, Offers.Facts.{refuses_later}}
-pub use story_laws_proofs.Pointers.{Begins.{first_made}, Leavings.{is_attended}, Waits.{connection_sent}}
-pub use story_laws_proofs.Talks.First.{FirstSent, first_sent, sent_with}
+pub use story_laws_proofs.Items.{Sent.{self_item, sent_grows}, Stays.{inside_sent}, Steps.{free_still}}
+pub use story_laws_proofs.{Offers.Facts.{refuses_later}, Pointers.{Begins.{first_made}, Leavings.{is_attended}}}
+pub use story_laws_proofs.{Pointers.Waits.{connection_sent}, Talks.First.{FirstSent, first_sent, sent_with}}
 use Rattle.progress_laws.specs.story_laws.specs as story_laws
 pub use story_laws.{Commands.{StandsIn, TakesBlock}, Complaints.{ComplaintsBy, Refuses}, Items.{IsServedOpen}}
 pub use story_laws.LastTalks.{EndsWell, LastBy, LastGiven, closed, closes, saves, still_stays, to_close, to_save}

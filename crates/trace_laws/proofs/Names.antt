@@ -242,20 +242,20 @@ pub use story_laws_proofs.Instructed.{Facts.{instructed_next, instructed_start},
 pub use story_laws_proofs.Instructed.Opening.{opening_begun, opening_leads, opening_leaving, out_no_command, status_is}
 pub use story_laws_proofs.{Instructed.{Steps.{told_with}, Turns.{known_turned}}, Items.Facts.{rst_raised}}
 pub use story_laws_proofs.Items.Fresh.{IsUnshown, calm_after, calm_before, data_premises, items_fresh, items_ready}
-pub use story_laws_proofs.Items.{Fresh.{items_sent}, Next.{items_asks}, Row.{LinkAfter, heard_link, hears, inside_sent}}
+pub use story_laws_proofs.Items.{Fresh.{items_sent}, Next.{items_asks}, Row.{LinkAfter, heard_link, hears}}
 pub use story_laws_proofs.Items.{Row.{link_crossed, link_still, row_shows, says}, Sent.{carried_of_item, free_keeps}}
-pub use story_laws_proofs.{Items.Sent.{less_has}, Last.{Bytes.{first_is}, Rows.{KeptPlan, Stays, stays_as}}}
-pub use story_laws_proofs.{Named.{Facts.{named_asks, named_at_run}, First.{first_sent}}, Offers.Facts.{offers_asks}}
-pub use story_laws_proofs.Offers.{Facts.{refuses_later}, Leavings.{all_said, parity_said}, Rows.{request_rises}}
-pub use story_laws_proofs.Offers.Statuses.{Crossing, IsGiven, IsStatusOffered, OfferRow, offered_by, offered_next}
-pub use story_laws_proofs.{Offers.{Statuses.{status_crosses}, Steps.{stays_out}}, Pointers.Begins.{begins_served}}
-pub use story_laws_proofs.Pointers.Begins.{begins_undoes, first_made, first_served, goes_undoes, none_item}
-pub use story_laws_proofs.Pointers.{Crossings.{names_or, phase_served}, Ends.{ends_wait, rst_over, writer_plain}}
-pub use story_laws_proofs.Pointers.{Leavings.{MoreRuns, from_start, in_bursts, is_attended}, Phases.{turns_served}}
-pub use story_laws_proofs.Pointers.{Rows.{Meets, phase_by, run_lines, struck_answers}, Steps.{IsNot, byte_id}}
-pub use story_laws_proofs.Pointers.{Steps.{byte_other, fault_id, in_other, out_other}, Stories.{lost_over}}
-pub use story_laws_proofs.Pointers.{Turns.{TurnsBy, runs_more}, Waits.{SameSaved, apart_same, begins_same, ends_same}}
-pub use story_laws_proofs.Pointers.Waits.{goes_other, item_not, over_row, start_other, wait_on}
+pub use story_laws_proofs.{Items.{Sent.{less_has}, Stays.{inside_sent}}, Last.{Bytes.{first_is}, Rows.{KeptPlan}}}
+pub use story_laws_proofs.{Last.Rows.{Stays, stays_as}, Named.{Facts.{named_asks, named_at_run}, First.{first_sent}}}
+pub use story_laws_proofs.Offers.{Facts.{offers_asks, refuses_later}, Leavings.{all_said, parity_said}}
+pub use story_laws_proofs.Offers.{Rows.{request_rises}, Statuses.{Crossing, IsGiven, IsStatusOffered, OfferRow}}
+pub use story_laws_proofs.Offers.{Statuses.{offered_by, offered_next, status_crosses}, Steps.{stays_out}}
+pub use story_laws_proofs.Pointers.Begins.{begins_served, begins_undoes, first_made, first_served, goes_undoes}
+pub use story_laws_proofs.Pointers.{Begins.{none_item}, Crossings.{names_or, phase_served}, Ends.{ends_wait, rst_over}}
+pub use story_laws_proofs.Pointers.{Ends.{writer_plain}, Leavings.{MoreRuns, from_start, in_bursts, is_attended}}
+pub use story_laws_proofs.Pointers.{Phases.{turns_served}, Rows.{Meets, phase_by, run_lines, struck_answers}}
+pub use story_laws_proofs.Pointers.Steps.{IsNot, byte_id, byte_other, fault_id, in_other, out_other}
+pub use story_laws_proofs.Pointers.{Stories.{lost_over}, Turns.{TurnsBy, runs_more}, Waits.{SameSaved, apart_same}}
+pub use story_laws_proofs.Pointers.Waits.{begins_same, ends_same, goes_other, item_not, over_row, start_other, wait_on}
 pub use story_laws_proofs.Talks.{InMoves.{alternating, in_move}, LastMessages.{one_run}, Steps.{Alternates}}
 pub use story_laws_proofs.{Talks.Turns.{frees}, Tells.{Ends.{naming_goes_on}, Events.{self_events, whole_block}}}
 pub use story_laws_proofs.Tells.{Facts.{all_given, front_length, left_tells, tell_next, tell_start}, Rows.{Here, ended}}

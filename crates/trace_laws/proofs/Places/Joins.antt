@@ -8,7 +8,7 @@ use proofs.Names.{row_events_by, Sent, process, Link, Story, story_in_connection
 use proofs.Names.{phase_of, Cause, Next, Phase, IsPrompt, RunState, bus_of, run_state, is_command_phase, aims_are}
 use proofs.Names.{is_out_phase, Speaks, GoesOn, Begins, Ends, change_plain, least_is, some_none, is_status, Stood}
 use proofs.Names.{is_in_message, ItemFacts, OfferFacts, Offers, IsHeardOut, opens, repeats, answers_it, detects}
-use proofs.Names.{is_detected, rst_raised, items_fresh, inside_sent, free_keeps, parity_said, all_said}
+use proofs.Names.{is_detected, rst_raised, items_fresh, free_keeps, inside_sent, parity_said, all_said}
 use proofs.Places.{Asks.{PlaceOwed}, Ends.{IsEndAsked}, First.{IsSelectedFor}, Next.{SendsNone, IsResetAsked}}
 use proofs.Places.{Stays.{IsStayAsked}, TurnRows.{TellsOf}}
 use Rattle.bus_due.specs.bus_dialogue.specs.declared.exchange.Said.{Said}
