@@ -9,8 +9,8 @@ use bus_trace::Row;
 use std::alloc::{AllocError, Global};
 use std::marker::Model;
 
-/// Rows, the oldest first, in eight bytes each; one whose time is 2^36 ns or more after that of the row before, or before
-/// it, takes sixteen. Contracts see it as the list of the rows.
+/// Rows, the oldest first, in eight bytes each; one whose time is 2^36 ns or more after that of the row before, or
+/// before it, takes sixteen. Contracts see it as the list of the rows.
 #[derive(Drop)]
 pub struct RowStore {
     words: Vec<u64>,
