@@ -323,12 +323,14 @@ moves_kept n s c time e = go (is_data c.before && not (s.agreement.offset == 0))
 
 -- A DATA phase, or another one in which nothing is told.
 abbrev pub Calm : Change → Type 0
-Calm c = (is_data c.before ≡ true) ⊎ ((c.before.cd ≡ true) × (c.before.atn ≡ false) × (crosses_in c ≡ false))
+Calm c = (is_data c.before ≡ true)
+    ⊎ ((c.before.cd ≡ true) × ((c.before.atn && falls c.before.ack c.after.ack) ≡ false) × (crosses_in c ≡ false))
 
 calm_is : (c : Change) → is_calm c ≡ true → Calm c
 calm_is c e = go (is_data c.before) refl e
   where
-    go : (d : Bool) → is_data c.before ≡ d → (d || (c.before.cd && not c.before.atn && not (crosses_in c))) ≡ true
+    go : (d : Bool) → is_data c.before ≡ d
+        → (d || (c.before.cd && not (c.before.atn && falls c.before.ack c.after.ack) && not (crosses_in c))) ≡ true
         → Calm c
     go true ed h = inl ed
     go false ed h =
@@ -944,6 +946,12 @@ dialogue_moves d n f c q = go q.calm
         (λ i. if h.2 i then record d { begun = true } else d)
         ∙ (λ i. if none i then byte_crosses d c else if sym phase i then phase_begins d else d)
 
+-- where ACK does not fall while ATN is true, the target learns nothing of ATN
+not_heeded : (acked atn after held : Bool) → (atn && acked) ≡ false → (acked && (atn && after && held)) ≡ false
+not_heeded false atn after held e = refl
+not_heeded true false after held e = refl
+not_heeded true true after held e = absurd cc
+
 duty_moves : (u : Duty) (n : Connection) (c : Change) (since time : ℕ) (held : Bool) → IsQuiet c
     → held ≡ is_attention_held c since time → duty_in_data u c held ≡ duty_after u (Some n) c held
 duty_moves u n c since time held q eh = go q.calm
@@ -964,8 +972,8 @@ duty_moves u n c since time held q eh = go q.calm
         then (if inward i then duties.Owed else if out i then u else duties.Asked)
         else if phase i then duty_left u else u
     go (inr h) =
-        let not_held : held ≡ false = eh ∙ (λ i. h.1 i && c.after.atn && nat_le (since + TWO_DESKEW) time) in
-        let off : (falls c.before.ack c.after.ack && held) ≡ false = and_right _ _ not_held in
+        let off : (falls c.before.ack c.after.ack && held) ≡ false = (λ i. falls c.before.ack c.after.ack && eh i)
+        ∙ not_heeded (falls c.before.ack c.after.ack) c.before.atn c.after.atn _ h.1 in
         (λ i. if rises c.before.req c.after.req then duties.Nothing else if off i then duties.Asked else u)
         ∙ (λ i. if kept i || rises c.before.req c.after.req then duties.Nothing
         else if sym off i then duty_if_held u c.before else if phase i then duty_left u else u)

@@ -3,3 +3,4 @@ pub mod Running
 pub mod DataRows
 pub mod Past
 pub mod First
+mod Words

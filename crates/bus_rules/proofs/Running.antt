@@ -7,8 +7,13 @@ use Rattle.bus_trace.specs.Trace.{last_time, since, since_line, line_times, free
 use Rattle.bus_trace.specs.declared.Row.{Row}
 use Rattle.bus_trace.specs.declared.changes.Change.{Change}
 use Rattle.bus_trace.specs.declared.connection.Connection.{Connection}
+use Rattle.bus_trace.specs.declared.agreements.Agreement.{Agreement}
+use Rattle.bus_trace.specs.declared.arbitration.Arbitration.{Arbitration}
 use Rattle.bus_rules.specs.declared.course.Course.{Course}
+use Rattle.bus_phases.specs.declared.attention.Duty.{Duty}
 use Rattle.bus_phases.specs.declared.dialogue.Dialogue.{Dialogue}
+use Rattle.bus_phases.specs.declared.pulses.Pulses.{Pulses}
+use Rattle.bus_phases.specs.declared.spoken.CommandBytes.{CommandBytes}
 use Rattle.bus_phases.specs.declared.reading.Reading.{Reading}
 use Rattle.bus_rules.specs.declared.seen.Seen.{Seen}
 use Rattle.bus_trace.specs.declared.selection.Call.{Call}
@@ -24,12 +29,16 @@ use Rattle.bus_rules.specs.Judging.{IsCourseOf}
 
 -- what a row meets, by the terms
 pub met_is : (rows : List Row) (dev : ℕ) (c : Change) (reading : Reading) (k : Course) → IsCourseOf rows k
-    → (last : ℕ) (times : LineTimes) (id b r lines : ℕ) (others initiator i_data t_data empty unsettled : Bool)
-    → last ≡ last_time rows → times ≡ line_times rows → id ≡ id_since rows k.call → b ≡ raised (λ s. s.bsy) rows dev
-    → r ≡ raised (λ s. s.rst) rows dev → lines ≡ since data_of rows → others ≡ others_in_call (drives rows) k.call
-    → initiator ≡ drives_bsy (drives rows) (initiator_of k.call k.connection)
+    → (last : ℕ) (times : LineTimes) (id b r lines : ℕ) (others initiator i_data t_data : Bool)
+    (l m o : Option Call) (v : Option ℕ) (a : Option Arbitration) (n : Option Connection)
+    → (p : Pulses) (turned : Bool) (u : Duty) (g : Agreement) (unsettled : Bool) (bytes : CommandBytes)
+    (half begun : Bool) → last ≡ last_time rows → times ≡ line_times rows → l ≡ k.call → id ≡ id_since rows l
+    → b ≡ raised (λ s. s.bsy) rows dev → r ≡ raised (λ s. s.rst) rows dev → lines ≡ since data_of rows → m ≡ k.call
+    → others ≡ others_in_call (drives rows) m → initiator ≡ drives_bsy (drives rows) (initiator_of k.call k.connection)
     → i_data ≡ initiator_data (drives rows) k.connection → t_data ≡ target_data (drives rows) k.connection
-    → empty ≡ is_nil k.dialogue.half → unsettled ≡ is_some k.dialogue.heard.now.offer → record {
+    → v ≡ k.receiver → a ≡ k.arbitration → o ≡ k.call → n ≡ k.connection → p ≡ k.pulses → turned ≡ k.turned
+    → u ≡ k.duty → g ≡ k.dialogue.heard.now.agreement → unsettled ≡ is_some k.dialogue.heard.now.offer
+    → bytes ≡ k.dialogue.heard.now.command → half ≡ not (is_nil k.dialogue.half) → begun ≡ k.dialogue.begun → record {
       change = c;
       last = last;
       times = times;
@@ -40,47 +49,48 @@ pub met_is : (rows : List Row) (dev : ℕ) (c : Change) (reading : Reading) (k :
       initiator_bsy = initiator;
       initiator_data = i_data;
       target_data = t_data;
-      receiver = k.receiver;
-      arbitration = k.arbitration;
-      call = k.call;
-      connection = k.connection;
+      receiver = v;
+      arbitration = a;
+      call = o;
+      connection = n;
       data_since = lines;
-      pulses = k.pulses;
-      turned = k.turned;
-      duty = k.duty;
-      agreement = k.dialogue.heard.now.agreement;
+      pulses = p;
+      turned = turned;
+      duty = u;
+      agreement = g;
       is_open = unsettled;
-      command = k.dialogue.heard.now.command;
-      is_half = not empty;
-      begun = k.dialogue.begun;
+      command = bytes;
+      is_half = half;
+      begun = begun;
       reading = reading;
     } ≡ seen_with rows dev c reading
 unfolding seen_with
-met_is rows dev c reading k h last times id b r lines others initiator i_data t_data empty unsettled el et ei ebr err
-    eda eo en eid etd ee eu = λ i. record {
+met_is rows dev c reading k h last times id b r lines others initiator i_data t_data l m o v a n p turned u g unsettled
+    bytes half begun e_last e_times e_l e_id e_b e_r e_lines e_m e_others e_initiator e_i e_t e_v e_a e_o e_n e_p
+    e_turned e_u e_g e_open e_bytes e_half e_begun = λ i. record {
       change = c;
-      last = el i;
-      times = et i;
-      id_since = (ei ∙ ap (λ (x : Option Call). id_since rows x) h.call) i;
-      bsy_raised = ebr i;
-      rst_raised = err i;
-      others_drive = (eo ∙ ap (λ (x : Option Call). others_in_call (drives rows) x) h.call) i;
-      initiator_bsy = (en ∙ (λ j. drives_bsy (drives rows) (initiator_of (h.call j) (h.connection j)))) i;
-      initiator_data = (eid ∙ ap (λ (x : Option Connection). initiator_data (drives rows) x) h.connection) i;
-      target_data = (etd ∙ ap (λ (x : Option Connection). target_data (drives rows) x) h.connection) i;
-      receiver = h.receiver i;
-      arbitration = h.arbitration i;
-      call = h.call i;
-      connection = h.connection i;
-      data_since = eda i;
-      pulses = h.pulses i;
-      turned = h.turned i;
-      duty = h.duty i;
-      agreement = (h.dialogue i).heard.now.agreement;
-      is_open = (eu ∙ ap (λ (d : Dialogue). is_some d.heard.now.offer) h.dialogue) i;
-      command = (h.dialogue i).heard.now.command;
-      is_half = not ((ee ∙ ap (λ (d : Dialogue). is_nil d.half) h.dialogue) i);
-      begun = (h.dialogue i).begun;
+      last = e_last i;
+      times = e_times i;
+      id_since = (e_id ∙ ap (λ (x : Option Call). id_since rows x) (e_l ∙ h.call)) i;
+      bsy_raised = e_b i;
+      rst_raised = e_r i;
+      others_drive = (e_others ∙ ap (λ (x : Option Call). others_in_call (drives rows) x) (e_m ∙ h.call)) i;
+      initiator_bsy = (e_initiator ∙ (λ j. drives_bsy (drives rows) (initiator_of (h.call j) (h.connection j)))) i;
+      initiator_data = (e_i ∙ ap (λ (x : Option Connection). initiator_data (drives rows) x) h.connection) i;
+      target_data = (e_t ∙ ap (λ (x : Option Connection). target_data (drives rows) x) h.connection) i;
+      receiver = (e_v ∙ h.receiver) i;
+      arbitration = (e_a ∙ h.arbitration) i;
+      call = (e_o ∙ h.call) i;
+      connection = (e_n ∙ h.connection) i;
+      data_since = e_lines i;
+      pulses = (e_p ∙ h.pulses) i;
+      turned = (e_turned ∙ h.turned) i;
+      duty = (e_u ∙ h.duty) i;
+      agreement = (e_g ∙ ap (λ (d : Dialogue). d.heard.now.agreement) h.dialogue) i;
+      is_open = (e_open ∙ ap (λ (d : Dialogue). is_some d.heard.now.offer) h.dialogue) i;
+      command = (e_bytes ∙ ap (λ (d : Dialogue). d.heard.now.command) h.dialogue) i;
+      is_half = (e_half ∙ ap (λ (d : Dialogue). not (is_nil d.half)) h.dialogue) i;
+      begun = (e_begun ∙ ap (λ (d : Dialogue). d.begun) h.dialogue) i;
       reading = reading;
     }
 
@@ -102,6 +112,17 @@ seen_is rows row met q c none reading k h em ec er =
     let read : reading ≡ reading_of (dialogue rows).half (connection rows) (change_of rows row) = er
     ∙ (λ i. reading_of (h.dialogue i).half (h.connection i) (ec i)) in
     λ i. record (em i) { change = ec i; reading = read i }
+
+-- the same of what was met with the change of the row
+pub seen_by : (rows : List Row) (row : Row) (met : Seen) (c : Change) (none reading : Reading) (k : Course)
+    → IsCourseOf rows k → met ≡ seen_with rows row.dev c none → c ≡ change_of rows row
+    → reading ≡ reading_of k.dialogue.half k.connection c → record met { reading = reading } ≡ seen rows row
+unfolding seen_with
+seen_by rows row met c none reading k h em ec er =
+    let read : reading ≡ reading_of (dialogue rows).half (connection rows) (change_of rows row) = er
+    ∙ (λ i. reading_of (h.dialogue i).half (h.connection i) (ec i)) in
+    let now : met ≡ seen_with rows row.dev (change_of rows row) none = em ∙ (λ i. seen_with rows row.dev (ec i) none) in
+    λ i. record (now i) { reading = read i }
 
 -- two of its parts
 pub free_of : (rows : List Row) (dev : ℕ) (met : Seen) (q : Change) (none : Reading) → met ≡ seen_with rows dev q none

@@ -20,6 +20,7 @@ use Rattle.bus_trace.specs.declared.connection.Connection.{Connection}
 use Rattle.bus_phases.specs.declared.pulses.Pulses.{Pulses}
 use Rattle.bus_phases.specs.declared.spoken.CommandBytes.{CommandBytes}
 use Rattle.bus_rules.specs.declared.course.Course.{Course}
+use Rattle.bus_rules.specs.Judging.{Running}
 use Rattle.bus_trace.specs.Changes.{rises, falls, implies, drives_data, same_stage}
 use Rattle.bus_rules.specs.Connected.{has_no_initiator_line, has_no_target_line, raises_data}
 use Rattle.bus_rules.specs.Messages.{is_owed, is_none_or_all}
@@ -101,16 +102,21 @@ standing_at f v k = record {
   begun = k.dialogue.begun;
 }
 
+-- The same by all of them.
+abbrev pub standing_by : List Row → Running → Standing
+standing_by rows t = standing_at (drives rows) t.view t.course
+
 -- ---- the test
 
 -- A byte crosses.
 abbrev pub crosses_in : Change → Bool
 crosses_in c = if c.before.io then rises c.before.req c.after.req else rises c.before.ack c.after.ack
 
--- A DATA phase stands; or COMMAND, STATUS or a MESSAGE phase, in which the row tells nothing: ATN is false, and no
--- byte crosses.
+-- A DATA phase stands; or COMMAND, STATUS or a MESSAGE phase, in which the row tells nothing: no byte crosses, and ACK
+-- does not fall while ATN is true.
 abbrev pub is_calm : Change → Bool
-is_calm c = is_data c.before || (c.before.cd && not c.before.atn && not (crosses_in c))
+is_calm c =
+    is_data c.before || (c.before.cd && not (c.before.atn && falls c.before.ack c.after.ack) && not (crosses_in c))
 
 -- In such a phase, where BSY is true and SEL and RST are false, data lines, REQ and ACK alone change.
 abbrev pub is_quiet_bus : LineSet → Bool

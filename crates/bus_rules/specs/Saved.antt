@@ -4,7 +4,7 @@ use Rattle.bus_phases.specs.Saved.{pulses_in, duty_in, dialogue_in}
 use Rattle.bus_rules.specs.declared.course.Course.{Course}
 use Rattle.bus_rules.specs.Judging.{Running}
 use Rattle.bus_rules.specs.declared.saved.SavedCourse.{SavedCourse}
-use Rattle.bus_rules.specs.declared.saved.SavedTerms.{SavedTerms}
+use Rattle.bus_rules.specs.declared.saved_terms.SavedTerms.{SavedTerms}
 
 abbrev pub course_in : SavedCourse → Course
 course_in s = record {

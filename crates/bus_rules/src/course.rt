@@ -47,7 +47,8 @@ pub struct Course {
     pub dialogue: Dialogue,
 }
 
-fn initiator_in(connection: &Option<Connection>) -> Option<ScsiId>
+/// The initiator of a connection.
+pub fn initiator_in(connection: &Option<Connection>) -> Option<ScsiId>
     ensures { result ≡ initiator_in connection.now }
 {
     match connection {
@@ -56,7 +57,8 @@ fn initiator_in(connection: &Option<Connection>) -> Option<ScsiId>
     }
 }
 
-fn target_in(connection: &Option<Connection>) -> Option<ScsiId>
+/// Its target.
+pub fn target_in(connection: &Option<Connection>) -> Option<ScsiId>
     ensures { result ≡ target_in connection.now }
 {
     match connection {

@@ -3,24 +3,23 @@
 //!
 //! Few rules ask anything of such a row. A short test tells that it breaks none, and then few terms change; a row
 //! that does not pass it is judged rule by rule.
-ghost use Rattle.std.specs.Prelude.{◌≡◌, ◌<◌, ◌&&◌, List, is_none};
+ghost use Rattle.std.specs.Prelude.{◌≡◌, ◌<◌, ◌&&◌, List};
 ghost use Rattle.bus_trace.specs.declared.Row.{Row};
-ghost use Rattle.bus_trace.specs.Trace.{IsViewOf, drives};
+ghost use Rattle.bus_trace.specs.Trace.{IsViewOf};
 ghost use Rattle.bus_trace.specs.Changes.{same_stage};
 ghost use Rattle.bus_trace.specs.Agreements.{AreTimes};
-ghost use Rattle.bus_rules.specs.DataRows.{crosses_in, is_calm, is_quiet_bus, is_calm_row, has_settled, is_in_turn, has_turned, stand_since, may_ask, last_pulse, is_apart, standing_at, may_cross, crosses_well, asks_in_turn, answers_in_turn, target_shakes_well, initiator_shakes_well, asks_by_pulse, answers_by_pulse, target_pulses_well, initiator_pulses_well, target_moves_well, initiator_moves_well, turns_well, target_passes, initiator_passes, passes_in, passes_of, is_move, passes, duty_in_data};
+ghost use Rattle.bus_rules.specs.DataRows.{crosses_in, is_calm, is_quiet_bus, is_calm_row, has_settled, is_in_turn, has_turned, stand_since, may_ask, last_pulse, is_apart, standing_by, may_cross, crosses_well, asks_in_turn, answers_in_turn, target_shakes_well, initiator_shakes_well, asks_by_pulse, answers_by_pulse, target_pulses_well, initiator_pulses_well, target_moves_well, initiator_moves_well, turns_well, target_passes, initiator_passes, passes_in, passes_of, is_move, passes, duty_in_data};
 
 use crate::connected::{has_no_initiator_line, has_no_target_line, raises_data};
-use crate::course::Course;
 use crate::message_rules::{is_none_or_all, is_owed};
-use crate::terms::{initiator_bsy, initiator_data, target_data};
+use crate::standing::{Standing, initiator_bsy, initiator_data, target_data};
 use crate::transfer::{changes_data, holds_still, is_after};
-use bus_base::{Dev, Ns};
+use bus_base::Ns;
 use bus_phases::{Duty, Pulses};
 use bus_trace::{
-    BUS_SETTLE_DELAY, Change, Connection, DATA_RELEASE_DELAY, DESKEW_DELAY, LineView, Lines, Row,
+    BUS_SETTLE_DELAY, Change, Connection, DATA_RELEASE_DELAY, DESKEW_DELAY, Lines, Row,
     SET_UP_TIME, TURN_DELAY, TransferTimes, UNLIMITED_OFFSET, drives_data, falls, is_data,
-    is_fault, rises, same_hold, same_phase, same_stage, times_of,
+    is_fault, rises, same_stage, times_of,
 };
 
 fn is_quiet_bus(lines: Lines) -> bool
@@ -29,12 +28,16 @@ fn is_quiet_bus(lines: Lines) -> bool
     lines.bsy() && !lines.sel() && !lines.rst()
 }
 
-// Whether the phase is a DATA phase, or another one but the reserved ones, in which ATN is false and no byte crosses.
+// Whether the phase is a DATA phase, or another one but the reserved ones, in which no byte crosses, and ACK does not
+// fall while ATN is true.
 fn is_calm(change: &Change) -> bool
     ensures { result ≡ is_calm change.now }
 {
-    let before = change.before;
-    is_data(before) || (before.cd() && !before.atn() && !crosses_in(change))
+    let (before, after) = (change.before, change.after);
+    is_data(before)
+        || (before.cd()
+            && !(before.atn() && falls(before.ack(), after.ack()))
+            && !crosses_in(change))
 }
 
 // Whether in such a phase, where BSY is true and SEL and RST are false, data lines, REQ and ACK alone change.
@@ -62,14 +65,14 @@ pub fn crosses_in(change: &Change) -> bool
 
 // Whether REQ may rise: the phase has settled, no MESSAGE OUT is owed, and the initiator drives no BSY.
 #[inline(always)]
-fn has_settled(connection: &Connection, view: &LineView, course: &Course, time: Ns) -> bool
-    ensures { (rows : List Row) → IsViewOf rows view.now
-        → result ≡ has_settled connection.now (standing_at (drives rows) view.now course.now) time }
+fn has_settled<S: Standing>(connection: &Connection, stands: &S, time: Ns) -> bool
+    ensures { (rows : List Row) → IsViewOf rows (S.terms stands.now).view
+        → result ≡ has_settled connection.now (standing_by rows (S.terms stands.now)) time }
 {
-    let since = view.phase_since().max(connection.began);
+    let since = stands.times().phase().max(connection.began);
     time.saturating_sub(since) >= BUS_SETTLE_DELAY
-        && !is_owed(course.duty)
-        && !initiator_bsy(view, course.call, course.connection)
+        && !is_owed(stands.duty())
+        && !initiator_bsy(stands)
 }
 
 fn is_in_turn(is_target: bool, change: &Change) -> bool
@@ -80,27 +83,25 @@ fn is_in_turn(is_target: bool, change: &Change) -> bool
 
 // Whether the end whose turn it is drives data lines alone, and waited for the other.
 #[inline(always)]
-fn has_turned(view: &LineView, course: &Course, is_target: bool, change: &Change, time: Ns) -> bool
-    ensures { (rows : List Row) → IsViewOf rows view.now
-        → result ≡ has_turned (standing_at (drives rows) view.now course.now) is_target change.now time }
+fn has_turned<S: Standing>(stands: &S, is_target: bool, change: &Change, time: Ns) -> bool
+    ensures { (rows : List Row) → IsViewOf rows (S.terms stands.now).view
+        → result ≡ has_turned (standing_by rows (S.terms stands.now)) is_target change.now time }
 {
     if change.before.io() {
-        (!initiator_data(view, course.connection)
-            || time.saturating_sub(view.times().io) <= DATA_RELEASE_DELAY)
-            && (!(course.turned && is_target && drives_data(change.next))
-                || time.saturating_sub(view.times().io) >= TURN_DELAY)
+        (!initiator_data(stands) || time.saturating_sub(stands.times().io) <= DATA_RELEASE_DELAY)
+            && (!(stands.turned() && is_target && drives_data(change.next))
+                || time.saturating_sub(stands.times().io) >= TURN_DELAY)
     } else {
-        !target_data(view, course.connection)
-            || time.saturating_sub(view.times().io) <= DESKEW_DELAY
+        !target_data(stands) || time.saturating_sub(stands.times().io) <= DESKEW_DELAY
     }
 }
 
 #[inline(always)]
-fn turns_well(view: &LineView, course: &Course, is_target: bool, change: &Change, time: Ns) -> bool
-    ensures { (rows : List Row) → IsViewOf rows view.now
-        → result ≡ turns_well (standing_at (drives rows) view.now course.now) is_target change.now time }
+fn turns_well<S: Standing>(stands: &S, is_target: bool, change: &Change, time: Ns) -> bool
+    ensures { (rows : List Row) → IsViewOf rows (S.terms stands.now).view
+        → result ≡ turns_well (standing_by rows (S.terms stands.now)) is_target change.now time }
 {
-    is_in_turn(is_target, change) && has_turned(view, course, is_target, change, time)
+    is_in_turn(is_target, change) && has_turned(stands, is_target, change, time)
 }
 
 // Since when the data lines stand as they do after the row.
@@ -138,247 +139,228 @@ fn is_apart(times: TransferTimes, since: Ns, last: Option<Ns>, time: Ns) -> bool
 }
 
 #[inline(always)]
-fn may_cross(view: &LineView, course: &Course, change: &Change) -> bool
-    ensures { (rows : List Row) → IsViewOf rows view.now
-        → result ≡ may_cross (standing_at (drives rows) view.now course.now) change.now }
+fn may_cross<S: Standing>(stands: &S, change: &Change) -> bool
+    ensures { (rows : List Row) → IsViewOf rows (S.terms stands.now).view
+        → result ≡ may_cross (standing_by rows (S.terms stands.now)) change.now }
 {
-    let spoken = &course.dialogue.heard.now;
     change.after.odd_parity()
-        && course.dialogue.begun
-        && !spoken.offer.is_some()
-        && is_none_or_all(spoken.command)
+        && stands.begun()
+        && !stands.is_open()
+        && is_none_or_all(stands.command())
 }
 
 // Whether a byte may cross in the row, in which the data lines have stood for this time.
 #[inline(always)]
-fn crosses_well(view: &LineView, course: &Course, change: &Change, set_up: Ns, time: Ns) -> bool
+fn crosses_well<S: Standing>(stands: &S, change: &Change, set_up: Ns, time: Ns) -> bool
     requires { 0 < set_up }
-    ensures { (rows : List Row) → IsViewOf rows view.now
-        → result ≡ crosses_well (standing_at (drives rows) view.now course.now) change.now set_up time }
+    ensures { (rows : List Row) → IsViewOf rows (S.terms stands.now).view
+        → result ≡ crosses_well (standing_by rows (S.terms stands.now)) change.now set_up time }
 {
-    let since = stand_since(change, view.data_since(), time);
-    may_cross(view, course, change) && time.saturating_sub(since) >= set_up
+    let since = stand_since(change, stands.data_since(), time);
+    may_cross(stands, change) && time.saturating_sub(since) >= set_up
 }
 
 // Whether REQ rises in its turn, where bytes cross asynchronously.
 #[inline(always)]
-fn asks_in_turn(
-    connection: &Connection,
-    view: &LineView,
-    course: &Course,
-    change: &Change,
-    time: Ns,
-) -> bool
-    ensures { (rows : List Row) → IsViewOf rows view.now
-        → result ≡ asks_in_turn connection.now (standing_at (drives rows) view.now course.now) change.now time }
+fn asks_in_turn<S: Standing>(connection: &Connection, stands: &S, change: &Change, time: Ns) -> bool
+    ensures { (rows : List Row) → IsViewOf rows (S.terms stands.now).view
+        → result ≡ asks_in_turn connection.now (standing_by rows (S.terms stands.now)) change.now time }
 {
-    has_settled(connection, view, course, time)
+    has_settled(connection, stands, time)
         && !change.before.ack()
-        && (!change.before.io() || crosses_well(view, course, change, SET_UP_TIME, time))
+        && (!change.before.io() || crosses_well(stands, change, SET_UP_TIME, time))
 }
 
 // Whether ACK does.
 #[inline(always)]
-fn answers_in_turn(view: &LineView, course: &Course, change: &Change, time: Ns) -> bool
-    ensures { (rows : List Row) → IsViewOf rows view.now
-        → result ≡ answers_in_turn (standing_at (drives rows) view.now course.now) change.now time }
+fn answers_in_turn<S: Standing>(stands: &S, change: &Change, time: Ns) -> bool
+    ensures { (rows : List Row) → IsViewOf rows (S.terms stands.now).view
+        → result ≡ answers_in_turn (standing_by rows (S.terms stands.now)) change.now time }
 {
-    change.before.req()
-        && (change.before.io() || crosses_well(view, course, change, SET_UP_TIME, time))
+    change.before.req() && (change.before.io() || crosses_well(stands, change, SET_UP_TIME, time))
 }
 
 // Whether what the target moves does so in its turn, where bytes cross asynchronously: REQ and data lines.
 #[inline(always)]
-fn target_shakes_well(
+fn target_shakes_well<S: Standing>(
     connection: &Connection,
-    view: &LineView,
-    course: &Course,
+    stands: &S,
     change: &Change,
     time: Ns,
 ) -> bool
-    ensures { (rows : List Row) → IsViewOf rows view.now
-        → result ≡ target_shakes_well connection.now (standing_at (drives rows) view.now course.now) change.now time }
+    ensures { (rows : List Row) → IsViewOf rows (S.terms stands.now).view
+        → result ≡ target_shakes_well connection.now (standing_by rows (S.terms stands.now)) change.now time }
 {
     let (req, next_req) = (change.before.req(), change.after.req());
-    (!rises(req, next_req) || asks_in_turn(connection, view, course, change, time))
+    (!rises(req, next_req) || asks_in_turn(connection, stands, change, time))
         && (!falls(req, next_req) || change.before.ack())
         && (!changes_data(change) || !holds_still(change.before))
 }
 
 // Whether what the initiator moves does: ACK and data lines.
 #[inline(always)]
-fn initiator_shakes_well(view: &LineView, course: &Course, change: &Change, time: Ns) -> bool
-    ensures { (rows : List Row) → IsViewOf rows view.now
-        → result ≡ initiator_shakes_well (standing_at (drives rows) view.now course.now) change.now time }
+fn initiator_shakes_well<S: Standing>(stands: &S, change: &Change, time: Ns) -> bool
+    ensures { (rows : List Row) → IsViewOf rows (S.terms stands.now).view
+        → result ≡ initiator_shakes_well (standing_by rows (S.terms stands.now)) change.now time }
 {
     let (ack, next_ack) = (change.before.ack(), change.after.ack());
-    (!rises(ack, next_ack) || answers_in_turn(view, course, change, time))
+    (!rises(ack, next_ack) || answers_in_turn(stands, change, time))
         && (!falls(ack, next_ack) || !change.before.req())
         && (!changes_data(change) || !holds_still(change.before))
 }
 
 // Whether a pulse of REQ begins in its turn.
 #[inline(always)]
-fn asks_by_pulse(
+fn asks_by_pulse<S: Standing>(
     connection: &Connection,
-    view: &LineView,
-    course: &Course,
+    stands: &S,
     change: &Change,
     times: TransferTimes,
     time: Ns,
 ) -> bool
     requires times { AreTimes times }
-    requires pulsed { 0 < course.now.dialogue.heard.now.agreement.offset }
-    ensures { (rows : List Row) → IsViewOf rows view.now
-        → result ≡ asks_by_pulse connection.now (standing_at (drives rows) view.now course.now) change.now times time }
+    requires pulsed { 0 < (S.terms stands.now).course.dialogue.heard.now.agreement.offset }
+    ensures { (rows : List Row) → IsViewOf rows (S.terms stands.now).view
+        → result ≡ asks_by_pulse connection.now (standing_by rows (S.terms stands.now)) change.now times time }
 {
-    let pulses = &course.pulses;
-    has_settled(connection, view, course, time)
-        && (may_ask(course.dialogue.heard.now.agreement.offset, pulses)
-            && is_apart(times, view.times().req, pulses.last_req, time))
-        && (!change.before.io() || crosses_well(view, course, change, times.set_up, time))
+    let pulses = stands.pulses();
+    has_settled(connection, stands, time)
+        && (may_ask(stands.agreement().offset, &pulses)
+            && is_apart(times, stands.times().req, pulses.last_req, time))
+        && (!change.before.io() || crosses_well(stands, change, times.set_up, time))
 }
 
 // Whether a pulse of ACK does.
 #[inline(always)]
-fn answers_by_pulse(
-    view: &LineView,
-    course: &Course,
+fn answers_by_pulse<S: Standing>(
+    stands: &S,
     change: &Change,
     times: TransferTimes,
     time: Ns,
 ) -> bool
     requires { AreTimes times }
-    ensures { (rows : List Row) → IsViewOf rows view.now
-        → result ≡ answers_by_pulse (standing_at (drives rows) view.now course.now) change.now times time }
+    ensures { (rows : List Row) → IsViewOf rows (S.terms stands.now).view
+        → result ≡ answers_by_pulse (standing_by rows (S.terms stands.now)) change.now times time }
 {
-    let pulses = &course.pulses;
-    (pulses.ack < pulses.req && is_apart(times, view.times().ack, pulses.last_ack, time))
-        && (change.before.io() || crosses_well(view, course, change, times.set_up, time))
+    let pulses = stands.pulses();
+    (pulses.ack < pulses.req && is_apart(times, stands.times().ack, pulses.last_ack, time))
+        && (change.before.io() || crosses_well(stands, change, times.set_up, time))
 }
 
 // Whether what the target moves does so in its turn, where bytes cross by pulses of these times.
 #[inline(always)]
-fn target_pulses_well(
+fn target_pulses_well<S: Standing>(
     connection: &Connection,
-    view: &LineView,
-    course: &Course,
+    stands: &S,
     change: &Change,
     times: TransferTimes,
     time: Ns,
 ) -> bool
     requires times { AreTimes times }
-    requires pulsed { 0 < course.now.dialogue.heard.now.agreement.offset }
-    ensures { (rows : List Row) → IsViewOf rows view.now
-        → result ≡ target_pulses_well connection.now (standing_at (drives rows) view.now course.now) change.now times
+    requires pulsed { 0 < (S.terms stands.now).course.dialogue.heard.now.agreement.offset }
+    ensures { (rows : List Row) → IsViewOf rows (S.terms stands.now).view
+        → result ≡ target_pulses_well connection.now (standing_by rows (S.terms stands.now)) change.now times
         time }
 {
     let (req, next_req) = (change.before.req(), change.after.req());
-    (!rises(req, next_req) || asks_by_pulse(connection, view, course, change, times, time))
-        && (!falls(req, next_req) || time.saturating_sub(view.times().req) >= times.assertion)
-        && (!changes_data(change) || is_after(last_pulse(&course.pulses, change), times.hold, time))
+    (!rises(req, next_req) || asks_by_pulse(connection, stands, change, times, time))
+        && (!falls(req, next_req) || time.saturating_sub(stands.times().req) >= times.assertion)
+        && (!changes_data(change)
+            || is_after(last_pulse(&stands.pulses(), change), times.hold, time))
 }
 
 // Whether what the initiator moves does.
 #[inline(always)]
-fn initiator_pulses_well(
-    view: &LineView,
-    course: &Course,
+fn initiator_pulses_well<S: Standing>(
+    stands: &S,
     change: &Change,
     times: TransferTimes,
     time: Ns,
 ) -> bool
     requires { AreTimes times }
-    ensures { (rows : List Row) → IsViewOf rows view.now
-        → result ≡ initiator_pulses_well (standing_at (drives rows) view.now course.now) change.now times time }
+    ensures { (rows : List Row) → IsViewOf rows (S.terms stands.now).view
+        → result ≡ initiator_pulses_well (standing_by rows (S.terms stands.now)) change.now times time }
 {
     let (ack, next_ack) = (change.before.ack(), change.after.ack());
-    (!rises(ack, next_ack) || answers_by_pulse(view, course, change, times, time))
-        && (!falls(ack, next_ack) || time.saturating_sub(view.times().ack) >= times.assertion)
-        && (!changes_data(change) || is_after(last_pulse(&course.pulses, change), times.hold, time))
+    (!rises(ack, next_ack) || answers_by_pulse(stands, change, times, time))
+        && (!falls(ack, next_ack) || time.saturating_sub(stands.times().ack) >= times.assertion)
+        && (!changes_data(change)
+            || is_after(last_pulse(&stands.pulses(), change), times.hold, time))
 }
 
 // Whether what the target moves does so in its turn.
 #[inline(always)]
-fn target_moves_well(
+fn target_moves_well<S: Standing>(
     connection: &Connection,
-    view: &LineView,
-    course: &Course,
+    stands: &S,
     change: &Change,
     time: Ns,
 ) -> bool
-    ensures { (rows : List Row) → IsViewOf rows view.now
-        → result ≡ target_moves_well connection.now (standing_at (drives rows) view.now course.now) change.now time }
+    ensures { (rows : List Row) → IsViewOf rows (S.terms stands.now).view
+        → result ≡ target_moves_well connection.now (standing_by rows (S.terms stands.now)) change.now time }
 {
-    let agreement = course.dialogue.heard.now.agreement;
+    let agreement = stands.agreement();
     if is_data(change.before) && agreement.offset != 0 {
         let times = times_of(agreement.period);
-        target_pulses_well(connection, view, course, change, times, time)
+        target_pulses_well(connection, stands, change, times, time)
     } else {
-        target_shakes_well(connection, view, course, change, time)
+        target_shakes_well(connection, stands, change, time)
     }
 }
 
 // Whether what the initiator moves does.
 #[inline(always)]
-fn initiator_moves_well(view: &LineView, course: &Course, change: &Change, time: Ns) -> bool
-    ensures { (rows : List Row) → IsViewOf rows view.now
-        → result ≡ initiator_moves_well (standing_at (drives rows) view.now course.now) change.now time }
+fn initiator_moves_well<S: Standing>(stands: &S, change: &Change, time: Ns) -> bool
+    ensures { (rows : List Row) → IsViewOf rows (S.terms stands.now).view
+        → result ≡ initiator_moves_well (standing_by rows (S.terms stands.now)) change.now time }
 {
-    let agreement = course.dialogue.heard.now.agreement;
+    let agreement = stands.agreement();
     if is_data(change.before) && agreement.offset != 0 {
         let times = times_of(agreement.period);
-        initiator_pulses_well(view, course, change, times, time)
+        initiator_pulses_well(stands, change, times, time)
     } else {
-        initiator_shakes_well(view, course, change, time)
+        initiator_shakes_well(stands, change, time)
     }
 }
 
 // Whether a row of the target passes: ACK stays as it is.
 #[inline(always)]
-fn target_passes(
+fn target_passes<S: Standing>(
     connection: &Connection,
-    view: &LineView,
-    course: &Course,
+    stands: &S,
     change: &Change,
     time: Ns,
 ) -> bool
-    ensures { (rows : List Row) → IsViewOf rows view.now
-        → result ≡ target_passes connection.now (standing_at (drives rows) view.now course.now) change.now time }
+    ensures { (rows : List Row) → IsViewOf rows (S.terms stands.now).view
+        → result ≡ target_passes connection.now (standing_by rows (S.terms stands.now)) change.now time }
 {
     change.before.ack() == change.after.ack()
         && has_no_initiator_line(change.next)
-        && turns_well(view, course, true, change, time)
-        && target_moves_well(connection, view, course, change, time)
+        && turns_well(stands, true, change, time)
+        && target_moves_well(connection, stands, change, time)
 }
 
 // Whether a row of the initiator passes: REQ stays as it is.
 #[inline(always)]
-fn initiator_passes(view: &LineView, course: &Course, change: &Change, time: Ns) -> bool
-    ensures { (rows : List Row) → IsViewOf rows view.now
-        → result ≡ initiator_passes (standing_at (drives rows) view.now course.now) change.now time }
+fn initiator_passes<S: Standing>(stands: &S, change: &Change, time: Ns) -> bool
+    ensures { (rows : List Row) → IsViewOf rows (S.terms stands.now).view
+        → result ≡ initiator_passes (standing_by rows (S.terms stands.now)) change.now time }
 {
     change.before.req() == change.after.req()
         && has_no_target_line(change.next)
-        && turns_well(view, course, false, change, time)
-        && initiator_moves_well(view, course, change, time)
+        && turns_well(stands, false, change, time)
+        && initiator_moves_well(stands, change, time)
 }
 
 #[inline(always)]
-fn passes_in(
-    connection: &Connection,
-    view: &LineView,
-    course: &Course,
-    change: &Change,
-    row: &Row,
-) -> bool
-    ensures { (rows : List Row) → IsViewOf rows view.now
-        → result ≡ passes_in connection.now (standing_at (drives rows) view.now course.now) change.now row.now }
+fn passes_in<S: Standing>(connection: &Connection, stands: &S, change: &Change, row: &Row) -> bool
+    ensures { (rows : List Row) → IsViewOf rows (S.terms stands.now).view
+        → result ≡ passes_in connection.now (standing_by rows (S.terms stands.now)) change.now row.now }
 {
     if row.dev == connection.target.get() {
-        target_passes(connection, view, course, change, row.time)
+        target_passes(connection, stands, change, row.time)
     } else {
-        row.dev == connection.initiator.get() && initiator_passes(view, course, change, row.time)
+        row.dev == connection.initiator.get() && initiator_passes(stands, change, row.time)
     }
 }
 
@@ -389,35 +371,28 @@ fn is_move(change: &Change, row: &Row) -> bool
 }
 
 #[inline(always)]
-fn passes_of(view: &LineView, course: &Course, change: &Change, row: &Row) -> bool
-    ensures { (rows : List Row) → IsViewOf rows view.now
-        → result ≡ passes_of (standing_at (drives rows) view.now course.now) change.now row.now course.now.connection }
+fn passes_of<S: Standing>(stands: &S, change: &Change, row: &Row) -> bool
+    ensures { (rows : List Row) → IsViewOf rows (S.terms stands.now).view
+        → result ≡ passes_of (standing_by rows (S.terms stands.now)) change.now row.now
+        (S.terms stands.now).course.connection }
 {
-    match &course.connection {
+    match &stands.connection() {
         None => false,
-        Some(connection) => passes_in(connection, view, course, change, row),
+        Some(connection) => passes_in(connection, stands, change, row),
     }
-}
-
-// Whether neither a call nor an arbitration stands.
-#[inline(always)]
-fn is_alone(course: &Course) -> bool
-    ensures { result ≡ is_none course.now.call && is_none course.now.arbitration }
-{
-    course.call.is_none() && course.arbitration.is_none()
 }
 
 /// Whether a row that changes this passes the short test: it breaks no rule.
 #[inline(always)]
-pub fn passes(view: &LineView, course: &Course, change: &Change, row: &Row) -> bool
-    ensures { (rows : List Row) → IsViewOf rows view.now
-        → result ≡ passes (standing_at (drives rows) view.now course.now) change.now row.now }
+pub fn passes<S: Standing>(stands: &S, change: &Change, row: &Row) -> bool
+    ensures { (rows : List Row) → IsViewOf rows (S.terms stands.now).view
+        → result ≡ passes (standing_by rows (S.terms stands.now)) change.now row.now }
 {
-    view.last_time() <= row.time
+    stands.last_time() <= row.time
         && is_move(change, row)
         && is_calm_row(change)
-        && is_alone(course)
-        && passes_of(view, course, change, row)
+        && stands.is_alone()
+        && passes_of(stands, change, row)
 }
 
 /// What ATN asks of the target after such a row, over which ATN is held or not.

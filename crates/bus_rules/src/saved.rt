@@ -1,17 +1,12 @@
-//! The terms of the rules as plain words, which can be copied, written to a file and read back.
+//! What stands on the bus as plain words, which can be copied, written to a file and read back.
 //!
-//! Any words say some terms: what is out of range is cut to its range. What is saved and read back is the same.
-ghost use Rattle.std.specs.Prelude.{ℕ, ◌≡◌};
-ghost use Rattle.bus_trace.specs.LineSet.{LineSet};
-ghost use Rattle.bus_trace.specs.View.{View};
-ghost use Rattle.bus_rules.specs.Saved.{course_in};
-ghost use Rattle.bus_rules.specs.DataRows.{standing_at};
+//! Any words say something: what is out of range is cut to its range. What is saved and read back is the same.
+ghost use Rattle.std.specs.Prelude.{◌≡◌};
 
 use crate::course::Course;
 use bus_phases::{Agreements, Raises, SavedDialogue, SavedPulses, duty_in, duty_word};
 use bus_trace::{
-    SavedArbitration, SavedCall, SavedConnection, SavedView, id_or_none_in, id_or_none_word,
-    is_yes, word_of,
+    SavedArbitration, SavedCall, SavedConnection, id_or_none_in, id_or_none_word, is_yes, word_of,
 };
 
 /// What stands on the bus after some rows.
@@ -82,31 +77,4 @@ impl SavedCourse {
             dialogue: self.dialogue.get(),
         }
     }
-
-    /// What was saved of what the short test asks for, and for the rest what stands before any row.
-    #[inline(always)]
-    pub fn asked(&self) -> Course
-        ensures { (f : ℕ → LineSet) (v : View) → standing_at f v result ≡ standing_at f v (course_in self.now) }
-    {
-        let mut course = Course::new();
-        course.arbitration = self.arbitration.get();
-        course.call = self.call.get();
-        course.connection = self.connection.get();
-        course.pulses = self.pulses.get();
-        course.turned = is_yes(self.turned);
-        course.duty = duty_in(self.duty);
-        course.dialogue.heard.now = self.dialogue.heard.said.get();
-        course.dialogue.begun = is_yes(self.dialogue.begun);
-        course
-    }
-}
-
-/// The terms of the rules after some rows.
-#[repr(C)]
-#[derive(Clone, Copy)]
-pub struct SavedTerms {
-    /// The view of the lines.
-    pub view: SavedView,
-    /// What stands on the bus.
-    pub course: SavedCourse,
 }

@@ -1,6 +1,6 @@
 -- The rows so far, as the judge sees them.
-use Rattle.std.proofs.Common.{ap, ◌≡◌, ◌<◌, ◌≤◌, ◌+◌, ◌∙◌, ℕ, false, List, [], ◌∷◌, ◌++◌, None, length, get_or, take}
-use Rattle.std.proofs.Common.{reverse, map, arith}
+use Rattle.std.proofs.Common.{ap, refl, ◌≡◌, ◌<◌, ◌≤◌, ◌+◌, ◌∙◌, ℕ, false, List, [], ◌∷◌, ◌++◌, None, length, get_or}
+use Rattle.std.proofs.Common.{take, reverse, map, arith}
 use Rattle.std.specs.List.{position, position_or_len}
 use Rattle.std.proofs.lemmas.List.Sums.{fails_before_first}
 use Rattle.std.proofs.lemmas.Grind.{take_at_read, common_steps}
@@ -26,6 +26,14 @@ as_many past xs = length-append (map row_of (reverse xs)) past
 pub as_many_so_far : (past : List Row) (xs : List ScsibusRow) (i : ℕ) → i ≤ length xs
     → length (rows_after past (take i xs)) ≡ i + length past
 as_many_so_far past xs i h = as_many past (take i xs) ∙ ap (λ (n : ℕ). n + length past) (length-take-le i xs h)
+
+-- one row alone
+pub alone
+    : (past : List Row) (xs : List ScsibusRow) (d : ScsibusRow) → 1 ≤ length xs → length xs < 2
+    → rows_after past xs ≡ row_of (get_or xs 0 d) ∷ past
+alone past [] d least below = absurd (omega arith)
+alone past (x ∷ []) d least below = refl
+alone past (x ∷ y ∷ xs) d least below = absurd (omega arith)
 
 -- each of them is in range
 none_off : (xs : List ScsibusRow) (i : ℕ) (d : ScsibusRow) → position is_off xs ≡ None → i < length xs

@@ -31,7 +31,7 @@ const SIZE: usize = size_of::<ScsibusJudge>();
 
 // So many rows of a call at most are taken in the words of the judge. For more it is worth to read the words into its
 // own form and to write them back.
-const FEW: usize = 6;
+const FEW: usize = 64;
 
 /// The version of what C sees of this library.
 const VERSION: u64 = 1;
@@ -66,6 +66,7 @@ fn take(judge: &mut Judge, rows: &[ScsibusRow])
 }
 
 // A judge in words takes these rows there.
+#[inline(never)]
 fn take_few(judge: &mut SavedJudge, rows: &[ScsibusRow])
     requires { position is_off rows.now ≡ None }
     ensures { (past : List Row) → IsJudgeOf past (judge_in judge.old) → length past + length rows.now < 2 ^ 63
@@ -94,7 +95,9 @@ fn take_in_words(judge: &mut SavedJudge, rows: &[ScsibusRow])
     ensures { (past : List Row) → IsJudgeOf past (judge_in judge.old) → length past + length rows.now < 2 ^ 63
         → IsJudgeOf (rows_after past rows.now) (judge_in judge.new) }
 {
-    if rows.len() <= FEW {
+    if let [row] = rows {
+        judge.feed(&row_of(row));
+    } else if rows.len() <= FEW {
         take_few(judge, rows);
     } else {
         take_many(judge, rows);

@@ -50,6 +50,10 @@ pub fn first_off(rows: &[ScsibusRow]) -> Option<usize>
     ensures within { IfSome result (λ at. at < length rows.now) }
     ensures few { length rows.now < 2 ^ 63 }
 {
+    // One row a call is the usual.
+    if let [row] = rows {
+        return if is_row(row) { None } else { Some(0) };
+    }
     rows.iter().position(|row| !is_row(row))
 }
 

@@ -107,17 +107,6 @@ impl Judge {
         self.verdict
     }
 
-    // Takes one row more, rule by rule.
-    fn feed_by_rules(&mut self, row: &Row)
-        requires { row.now.dev < 8 }
-        ensures { (rows : List Row) → IsJudgeOf rows self.old → length rows < 2 ^ 63
-            → IsJudgeOf (row.now ∷ rows) self.new }
-    {
-        let broken = self.terms.judge_by_rules(row);
-        self.count = self.count.saturating_add(1);
-        self.verdict = joined(self.verdict, broken, self.count);
-    }
-
     /// The verdict on the whole trace with its end, in ns, which counts as one row more.
     pub fn finish(self, end: Ns) -> Verdict
         ensures { (rows : List Row) → IsJudgeOf rows self → length rows < 2 ^ 63 → result ≡ judged_whole rows end }

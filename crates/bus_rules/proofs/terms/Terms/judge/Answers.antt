@@ -16,7 +16,7 @@ returns-then-passes-clause-broken c = λ rows h.
     let change = change_is rows c.args.row.now _ _ _ _ (c.bus.ensures.trace rows t.view)
     (c.bus_with.ensures rows c.args.row.now t.view refl next) own c.driven_after-next.ensures in
     sym (breaks_none rows c.args.row.now
-    (passing rows c.args.row.now _ t _ _ _ _ _ change (c.passes.ensures rows t.view) c.if-passes.true))
+    (passing rows c.args.row.now _ h _ _ _ _ _ change (c.passes.ensures rows h.view) c.if-passes.true))
 
 pub returns-then-passes-clause-kept : goal.returns-then-passes-clause-kept
 returns-then-passes-clause-kept c = λ rows h.
@@ -25,6 +25,6 @@ returns-then-passes-clause-kept c = λ rows h.
     let next = c.driven_after-next.ensures ∙ ap (λ (x : LineSet). driven_after c.args.row.now.kind x) own in
     let change = change_is rows c.args.row.now _ _ _ _ (c.bus.ensures.trace rows t.view)
     (c.bus_with.ensures rows c.args.row.now t.view refl next) own c.driven_after-next.ensures in
-    let passed = passing rows c.args.row.now _ t _ _ _ _ _ change (c.passes.ensures rows t.view) c.if-passes.true in
+    let passed = passing rows c.args.row.now _ h _ _ _ _ _ change (c.passes.ensures rows h.view) c.if-passes.true in
     c.transfer.ensures.kept rows h change
     (subst (λ (x : Change). passes (standing_after rows) x c.args.row.now ≡ true) (sym change) passed)

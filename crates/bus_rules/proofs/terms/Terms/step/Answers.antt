@@ -8,7 +8,7 @@ returns-clause-kept c = λ rows h.
     let row = c.args.row.now in
     let t = subst (λ (x : Running). IsTermsOf rows x) (sym c.self.view_is) h in
     let view = c.step.ensures.trace rows t.view in
-    let met = c.met-seen.ensures rows t.view t.course in
+    let met = c.met-seen.ensures rows h in
     let change = change_is rows row _ _ _ _ (c.bus-before.ensures.trace rows t.view)
     (c.bus.ensures.trace (row ∷ rows) view) (c.drives-own.ensures.trace rows t.view) c.driven_after-next.ensures in
     record {
@@ -22,7 +22,7 @@ returns-clause-seen c = λ rows h.
     let row = c.args.row.now in
     let t = subst (λ (x : Running). IsTermsOf rows x) (sym c.self.view_is) h in
     let view = c.step.ensures.trace rows t.view in
-    let met = c.met-seen.ensures rows t.view t.course in
+    let met = c.met-seen.ensures rows h in
     let change = change_is rows row _ _ _ _ (c.bus-before.ensures.trace rows t.view)
     (c.bus.ensures.trace (row ∷ rows) view) (c.drives-own.ensures.trace rows t.view) c.driven_after-next.ensures in
     seen_is rows row _ _ _ _ _ _ t.course met change c.step-seen.ensures.reading

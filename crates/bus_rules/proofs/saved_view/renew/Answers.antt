@@ -1,7 +1,7 @@
 use Rattle.std.proofs.Common.{sym, ◌∙◌}
 use Rattle.std.specs.Prelude.{slice_index}
 use Rattle.bus_trace.proofs.Ages.{data_stay}
-use Rattle.trace_checker.proofs.saved.renew.Goals as goal
+use Rattle.bus_rules.proofs.saved_view.renew.Goals as goal
 
 pub returns-else-data_bits-clause-lines : goal.returns-else-data_bits-clause-lines
 returns-else-data_bits-clause-lines c = λ line lt.

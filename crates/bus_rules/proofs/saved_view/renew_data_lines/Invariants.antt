@@ -1,7 +1,7 @@
 use Rattle.std.proofs.Common.{◌≡◌, ℕ, ◌<◌, ◌≤◌, get_or}
 use Rattle.bus_trace.specs.LineSet.{line_of}
 use Rattle.bus_trace.specs.Trace.{newer}
-use Rattle.trace_checker.proofs.saved.renew_data_lines.Given as goal
+use Rattle.bus_rules.proofs.saved_view.renew_data_lines.Given as goal
 
 abbrev pub invariant-loop-k : goal.invariant-loop-k
 invariant-loop-k l = record {

@@ -1,7 +1,7 @@
 use Rattle.std.proofs.Common.{arith}
 use Rattle.std.proofs.lemmas.Grind.{common_steps}
 use Rattle.bus_trace.proofs.Ages.{newest_is}
-use Rattle.trace_checker.proofs.saved.renew_data_lines.Goals as goal
+use Rattle.bus_rules.proofs.saved_view.renew_data_lines.Goals as goal
 
 pub loop-k-preserved : goal.loop-k-preserved
 loop-k-preserved c =
