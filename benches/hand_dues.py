@@ -15,7 +15,7 @@ from driver import build, least_time
 
 ROUNDS = 9
 NAME = "hand_bench"
-DEPS = "bus_base bus_trace bus_lines bus_reactions handshake arrayvec bitflags"
+DEPS = "bus_base bus_trace bus_lines reaction_model handshake arrayvec bitflags"
 KINDS = ["none", "DATA IN", "DATA OUT", "DATA IN by pulses", "DATA OUT by pulses", "DATA IN by pulses, 254 unanswered"]
 DUES = 1_000_000
 
@@ -33,7 +33,7 @@ use bus_base::{Dev, Ns};
 use bus_lines::{
     BusView, Kind, Lines, Row, TransferTimes, transfer_times, views_are_timely,
 };
-use bus_reactions::{Answering, Due, Hand, Myself, Offering, Pace};
+use reaction_model::{Answering, Due, Hand, Myself, Offering, Pace};
 use handshake::hand_due;
 use std::{env, io};
 
@@ -269,7 +269,7 @@ fn main(rt: HostRuntime) -> io::Result<()> {
     "specs/Lib.antt": "pub mod Scene\n",
     "specs/Scene.antt": r'''-- The two ends of the phase, and the view that they have.
 use Rattle.std.specs.Prelude.{◌<◌, ◌^◌}
-use Rattle.bus_reactions.specs.declared.due.Myself.{Myself}
+use Rattle.reaction_model.specs.declared.due.Myself.{Myself}
 use Rattle.handshake.specs.Bounds.{IsReady}
 use Rattle.handshake.specs.Early.{IsEarly}
 use Rattle.hand_bench.specs.declared.Scene.{Scene}

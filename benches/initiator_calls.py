@@ -20,8 +20,8 @@ from driver import build, least_time
 ROUNDS = 7
 NAME = "initiator_bench"
 DEPS = (
-    "bus_base bus_trace bus_lines msg_grammar bus_phases bus_rules cdb_codec scenario disk_array bus_story io_pointers bus_reactions "
-    "connect handshake bus_dialogue sync_nego bus_due scsi_device initiator text_words arrayvec bitflags"
+    "bus_base bus_trace bus_lines msg_grammar bus_phases bus_rules cdb_codec scenario array_model story_model io_pointers reaction_model "
+    "connect handshake dialogue_model sync_nego due_model scsi_device initiator text_words arrayvec bitflags"
 )
 COMMANDS = [16, 256, 4096]
 KINDS = ["none", "a row", "a row with an end", "an answer"]
@@ -38,7 +38,7 @@ ghost use Rattle.bus_lines.specs.Timely.{IsTimely};
 
 use bitflags::Flags;
 use bus_base::{Dev, Event, ProcId};
-use bus_dialogue::Observer;
+use dialogue_model::Observer;
 use bus_lines::views_are_timely;
 use bus_trace::{Kind, Lines, Row};
 use initiator::Host;
@@ -210,7 +210,7 @@ invariant-loop-def l =
     "proofs/dues/Invariants.antt": r'''use Rattle.std.proofs.Common.{◌<◌, ◌^◌, List}
 use Rattle.std.specs.List.{AllByRecursion}
 use Rattle.bus_trace.specs.declared.Row.{Row}
-use Rattle.bus_dialogue.specs.Observer.{IsObserverOf}
+use Rattle.dialogue_model.specs.Observer.{IsObserverOf}
 use Rattle.initiator_bench.proofs.dues.Given as goal
 
 -- The observer is that of some rows, all before the limit.

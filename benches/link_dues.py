@@ -15,7 +15,7 @@ from driver import build, least_time
 ROUNDS = 9
 DEVICES = 8
 NAME = "link_bench"
-DEPS = "bus_base bus_trace bus_lines bus_reactions connect arrayvec bitflags"
+DEPS = "bus_base bus_trace bus_lines reaction_model connect arrayvec bitflags"
 
 DRIVER = {
     "src/main.rt": r'''//! A bench: over and over through one arbitration and selection, after each row, what each of the eight devices is due to do
@@ -29,7 +29,7 @@ ghost use Rattle.connect.specs.Ready.{time_limit};
 use bitflags::Flags;
 use bus_lines::{BusView, views_are_timely};
 use bus_trace::{Kind, Lines, Row};
-use bus_reactions::{Myself, Want};
+use reaction_model::{Myself, Want};
 use connect::link_due;
 use std::io;
 

@@ -20,7 +20,7 @@ RUNS = DUES + [
     str(ROOT / "tools" / "cases" / (name + ".scn"))
     for name in ("called_again_for_sense", "failures", "negotiation", "read_whole_after_a_part", "two_aborts")
 ]
-# Those that are computed again with each edit of the definitions of bus_due; the others stand where nothing is edited.
+# Those that are computed again with each edit of the definitions of due_model; the others stand where nothing is edited.
 NEAR = [
     str(ROOT / "tools" / "due_cases" / (name + ".scn"))
     for name in ("late_entry", "one_read", "pulses_out", "ready_units", "resets_dropped", "tag_aborted", "unanswered")
@@ -73,11 +73,11 @@ OUTCOMES = (
 # Of each generated file its maker's words, and the file that the maker reads from standard input, where there is one.
 MADE = {
     "crates/bus_cases/proofs/RuleCases.antt": (["tools/makers/rule_cases.py"], "tools/rule_cases.txt"),
-    "crates/disk_array/proofs/Stories.antt": (["tools/makers/array_case.py"] + CASES, None),
-    "crates/bus_story/proofs/Cases.antt": (["tools/makers/story_case.py"] + CASES, None),
-    "crates/bus_due/proofs/Cases.antt": (["tools/makers/due_case.py"] + RUNS, None),
-    "crates/bus_due/proofs/RunCases.antt": (["tools/makers/shown_case.py"] + NEAR, None),
-    "crates/bus_due/proofs/SeamCases.antt": (["tools/makers/seam_case.py", "Cases"] + NEAR, None),
+    "crates/array_model/proofs/Stories.antt": (["tools/makers/array_case.py"] + CASES, None),
+    "crates/story_model/proofs/Cases.antt": (["tools/makers/story_case.py"] + CASES, None),
+    "crates/due_model/proofs/Cases.antt": (["tools/makers/due_case.py"] + RUNS, None),
+    "crates/due_model/proofs/RunCases.antt": (["tools/makers/shown_case.py"] + NEAR, None),
+    "crates/due_model/proofs/SeamCases.antt": (["tools/makers/seam_case.py", "Cases"] + NEAR, None),
     "crates/bus_cases/proofs/GuardCases.antt": (["tools/makers/guard_case.py"] + GUARDS, None),
     "crates/bus_cases/proofs/RunCases.antt": (["tools/makers/shown_case.py"] + FAR, None),
     "crates/bus_cases/proofs/SeamCases.antt": (["tools/makers/seam_case.py", "Cases"] + FAR, None),

@@ -13,7 +13,7 @@ ROOT = pathlib.Path(__file__).resolve().parent.parent.parent
 PAGE = ROOT / "docs" / "traceability.md"
 RULES = range(1, 29)
 # The crates in which reactions are defined, and the file of each heading of docs/behaviour.md in them.
-REACTING = ["bus_reactions", "bus_dialogue", "bus_due"]
+REACTING = ["reaction_model", "dialogue_model", "due_model"]
 # The crates in which reactions are code, one function of the same name for each.
 CODED = ["connect", "handshake"]
 

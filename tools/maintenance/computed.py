@@ -27,11 +27,11 @@ TOKEN = re.compile(
 )
 # The files of cases that compute, those of transcripts apart.
 CASES = [
-    ("bus_reactions", "Cases"), ("bus_dialogue", "Cases"), ("bus_dialogue", "HearingCases"), ("bus_dialogue", "WantCases"), ("bus_story", "Small"),
-    ("disk_array", "Stories"), ("bus_story", "Cases"), ("bus_cases", "RuleCases"), ("bus_due", "RunCases"), ("bus_cases", "RunCases"),
+    ("reaction_model", "Cases"), ("dialogue_model", "Cases"), ("dialogue_model", "HearingCases"), ("dialogue_model", "WantCases"), ("story_model", "Small"),
+    ("array_model", "Stories"), ("story_model", "Cases"), ("bus_cases", "RuleCases"), ("due_model", "RunCases"), ("bus_cases", "RunCases"),
     ("bus_cases", "GuardCases"), ("bus_cases", "ArrayCases"), ("bus_cases", "RightCases"), ("bus_cases", "DialogueCases"), ("bus_cases", "StoryCases"),
     ("bus_cases", "DueCases"),
-    ("sync_nego", "Cases"), ("mixed_bus", "MixedTraces"), ("bus_due", "SeamCases"), ("bus_cases", "SeamCases"),
+    ("sync_nego", "Cases"), ("mixed_model", "MixedTraces"), ("due_model", "SeamCases"), ("bus_cases", "SeamCases"),
     ("bus_laws", "Cases"), ("bus_laws", "HeardCases"), ("bus_laws", "WrittenCases"), ("book_laws", "Cases"), ("book_laws", "StoryCases"),
     ("book_laws", "CauseRunCases"), ("disk_target", "AttendedCases"), ("right_laws", "Cases"), ("right_laws", "GivenCases"), ("progress_laws", "DebtCases"),
 ]

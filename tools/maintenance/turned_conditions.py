@@ -4,8 +4,8 @@
     tools/maintenance/turned_conditions.py [--jobs N] [--near] [--cases NAME] [--results FILE] [CRATE ..]
 
 A condition is a test of an `if`, what stands beside `&&`, `||` or in `not`, a comparison, or what a test answers as a whole. Each is forced true and
-forced false, but not where that is the same as a turn of what stands round it: `a && b` false is a false. The crates are disk_array, bus_rules,
-bus_story, bus_reactions, bus_dialogue and bus_due where none is named. The cases are those of tools/maintenance/computed.py, the cheapest
+forced false, but not where that is the same as a turn of what stands round it: `a && b` false is a false. The crates are array_model, bus_rules,
+story_model, reaction_model, dialogue_model and due_model where none is named. The cases are those of tools/maintenance/computed.py, the cheapest
 first, and of those only the ones that come by the condition with the other answer; the first that no longer holds ends a try.
 
 FILE (crates/bus_cases/out/turned_conditions, or what is named) has a line a try: crate, file, line, what was forced to what, and the case that refuses it,
@@ -26,7 +26,7 @@ import tempfile
 import computed
 
 ROOT = pathlib.Path(__file__).resolve().parent.parent.parent
-CRATES = ("disk_array", "bus_rules", "bus_story", "bus_reactions", "bus_dialogue", "bus_due")
+CRATES = ("array_model", "bus_rules", "story_model", "reaction_model", "dialogue_model", "due_model")
 
 # What each case comes by: 1 for false, 2 for true, by the number of the condition.
 COVER = """

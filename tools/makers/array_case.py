@@ -1,7 +1,7 @@
 #!/usr/bin/env python3
 """Turns scenarios and their reports into lemmas that play each history on the plain disk array.
 
-    tools/makers/array_case.py tools/cases/*.scn > crates/disk_array/proofs/Stories.antt
+    tools/makers/array_case.py tools/cases/*.scn > crates/array_model/proofs/Stories.antt
 
 Beside each NAME.scn stands its report NAME.out, which comes from outside this repository. The lemmas say that the
 history of the report, played from the scenario, is allowed and leaves the blocks of the report; that the replies are
@@ -27,9 +27,9 @@ use Rattle.scenario.specs.declared.value.Tag.TheVariants as tags
 use Rattle.scenario.specs.declared.value.Payload.TheVariants as payloads
 use Rattle.scenario.specs.Value.{ScenarioValue}
 use Rattle.scenario.specs.Needs.{need_of, sent_of}
-use Rattle.disk_array.specs.Contents.{Contents, starting_contents, printed_blocks}
-use Rattle.disk_array.specs.Execution.{Reply, good, check_condition, queue_full, sense_of}
-use Rattle.disk_array.specs.ArrayHistory.{array_after, disks_of, reply_of}
+use Rattle.array_model.specs.Contents.{Contents, starting_contents, printed_blocks}
+use Rattle.array_model.specs.Execution.{Reply, good, check_condition, queue_full, sense_of}
+use Rattle.array_model.specs.ArrayHistory.{array_after, disks_of, reply_of}
 
 abbrev command : ℕ → ProcId
 command n = record { command = n; sense = false }

@@ -3,14 +3,14 @@
 
     tools/makers/attended_case.py Cases tools/due_cases/*.scn > crates/disk_target/proofs/AttendedCases.antt
 
-The first word is the module of crates/bus_due/proofs in which the runs of these scenarios stand. What is computed is stated in
+The first word is the module of crates/due_model/proofs in which the runs of these scenarios stand. What is computed is stated in
 crates/disk_target/specs/Attended.antt, and crates/disk_target/proofs/AttendedRuns.antt says what such a lemma means.
 """
 import run_lemmas
 
 COMMENT = """-- What targets rest on beside what they hear holds after each row of some runs. Written by tools/makers/attended_case.py."""
 
-USES = """use Rattle.bus_due.proofs.Seams.{onto}
+USES = """use Rattle.due_model.proofs.Seams.{onto}
 use Rattle.disk_target.specs.Attended.{attended}
 use Rattle.disk_target.proofs.AttendedRuns.{all_attended}"""
 

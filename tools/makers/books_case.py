@@ -25,7 +25,7 @@ use Rattle.bus_trace.specs.LineSet.{line_of}
 use Rattle.bus_trace.specs.View.{union_below}
 use Rattle.msg_grammar.specs.Messages.{form_out, form_in}
 use Rattle.scenario.specs.Needs.{need_of, sent_of}
-use Rattle.bus_due.specs.RunSteps.{first_run_state}
+use Rattle.due_model.specs.RunSteps.{first_run_state}
 use %s"""
 
 # What the lemmas say of a run: in words, by which test, and where that stands.
@@ -80,7 +80,7 @@ def main():
         return print_whole(head, test, paths)
     names = [array_case.name_of(scn, "_due") for scn in paths]
     print(head)
-    print("use Rattle.bus_due.proofs.Cases.{%s}" % ", ".join("%s, %s_rows" % (name, name) for name in names))
+    print("use Rattle.due_model.proofs.Cases.{%s}" % ", ".join("%s, %s_rows" % (name, name) for name in names))
     for name in names:
         print_lemma(name, test)
 

@@ -1,7 +1,7 @@
 #!/usr/bin/env python3
 """Turns scenarios and their reports into definitions on which lemmas stand that compute whole runs by what is due.
 
-    tools/makers/due_case.py tools/due_cases/*.scn > crates/bus_due/proofs/Cases.antt
+    tools/makers/due_case.py tools/due_cases/*.scn > crates/due_model/proofs/Cases.antt
 
 Beside each NAME.scn stands its report NAME.out, which comes from outside this repository. Of each the scenario is written, the rows of
 the report, and what it shows of the run. The lemmas are of tools/makers/shown_case.py, and of others that are given the same scenarios.
@@ -15,7 +15,7 @@ HEAD = """-- Whole runs: their scenarios, and the rows and histories of their re
 use Rattle.bus_trace.specs.LineSet.{set_of}
 use Rattle.bus_trace.specs.declared.Row.{Row}
 use Rattle.bus_trace.specs.declared.Kind.TheVariants.{Drives, Fault}
-use Rattle.bus_due.specs.Run.{Run, history_of}
+use Rattle.due_model.specs.Run.{Run, history_of}
 """
 
 DEFINITIONS = """

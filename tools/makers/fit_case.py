@@ -29,7 +29,7 @@ use Rattle.bus_trace.specs.View.{union_below}
 use Rattle.bus_trace.specs.declared.Row.{Row}
 use Rattle.bus_trace.specs.declared.Kind.TheVariants.{Drives, Fault}
 use Rattle.msg_grammar.specs.Messages.{form_out, form_in}
-use Rattle.bus_story.specs.Story.{empty_story}
+use Rattle.story_model.specs.Story.{empty_story}
 use Rattle.bus_transcript.specs.Rows.{by_change, closed_by, nothing_seen}
 use Rattle.transcript_laws.specs.RowTests.{keep_fit}
 

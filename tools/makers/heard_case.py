@@ -3,14 +3,14 @@
 
     tools/makers/heard_case.py Cases tools/due_cases/*.scn > crates/bus_laws/proofs/HeardCases.antt
 
-The first word is the module of crates/bus_due/proofs in which the runs of these scenarios stand. What is computed is stated in
+The first word is the module of crates/due_model/proofs in which the runs of these scenarios stand. What is computed is stated in
 crates/scsi_device/specs/Heard.antt, and crates/bus_laws/proofs/HeardRuns.antt says what such a lemma means.
 """
 import run_lemmas
 
 COMMENT = """-- What targets hear is of the processes that they serve, after each row of some runs. Written by tools/makers/heard_case.py."""
 
-USES = """use Rattle.bus_due.proofs.Seams.{onto}
+USES = """use Rattle.due_model.proofs.Seams.{onto}
 use Rattle.scsi_device.specs.Heard.{heard}
 use Rattle.bus_laws.proofs.HeardRuns.{all_heard}"""
 

@@ -23,9 +23,9 @@ use Rattle.bus_rules.specs.declared.verdict.Verdict.{Verdict}
 use Rattle.bus_rules.specs.declared.verdict.Verdict.TheVariants.{Lawful}
 use Rattle.bus_rules.specs.Seen.{seen_with}
 use Rattle.bus_rules.specs.Rules.{judged}
-use Rattle.bus_due.specs.Next.{least}
-use Rattle.bus_due.specs.Run.{run_from, run_by_due}
-use Rattle.bus_due.specs.Sound.{sound}
+use Rattle.due_model.specs.Next.{least}
+use Rattle.due_model.specs.Run.{run_from, run_by_due}
+use Rattle.due_model.specs.Sound.{sound}
 """
 
 DEFINITIONS = """

@@ -3,7 +3,7 @@
 
     tools/makers/limit_case.py tools/due_cases/NAME.scn .. tools/limit_cases/*.scn > crates/delivery_laws/proofs/LimitCases.antt
 
-Runs of tools/due_cases stand in crates/bus_due/proofs/Cases.antt; of the others scenario and rows are written. Beside each NAME.scn stands its
+Runs of tools/due_cases stand in crates/due_model/proofs/Cases.antt; of the others scenario and rows are written. Beside each NAME.scn stands its
 report NAME.out, which comes from outside this repository. Expected are: as many faults as the report has fault rows, which are all of one
 command, or one of each; the smaller retry limit of initiator and target; and GOOD where the report shows it. Each run has room, no reset and no
 abort, and its commands are valid, but for those whose target is absent, of which nothing is said here.
@@ -17,7 +17,7 @@ import run_lemmas
 COMMENT = """-- In some runs: how many faults struck a command, how many it bears, and whether it ended GOOD, on both sides of the limit, computed. What valid
 -- commands are owed (IsDelivered) is computed of each. Written by tools/makers/limit_case.py."""
 
-USES = """use Rattle.bus_due.proofs.Seams.{onto}
+USES = """use Rattle.due_model.proofs.Seams.{onto}
 use Rattle.bus_trace.specs.LineSet.{set_of}
 use Rattle.bus_trace.specs.declared.Row.{Row}
 use Rattle.bus_trace.specs.declared.Kind.TheVariants.{Drives, Fault}
@@ -69,7 +69,7 @@ def main():
     names = [array_case.name_of(scn, "_due") for scn in near]
     print(COMMENT)
     print("\n".join(uses))
-    print("use Rattle.bus_due.proofs.Cases.{%s}" % ", ".join("%s, %s_rows" % (name, name) for name in names))
+    print("use Rattle.due_model.proofs.Cases.{%s}" % ", ".join("%s, %s_rows" % (name, name) for name in names))
     print(DEFINITIONS)
     for scn in scenarios:
         name = array_case.name_of(scn, "_due" if scn in near else "_limit")

@@ -4,7 +4,7 @@
     tools/makers/outcome_case.py tools/due_cases/NAME.scn .. tools/limit_cases/NAME.scn .. tools/outcome_cases/*.scn \
         > crates/delivery_laws/proofs/OutcomeCases.antt
 
-Runs of tools/due_cases and tools/cases stand in crates/bus_due/proofs/Cases.antt, those of tools/limit_cases in proofs/LimitCases.antt; of the others
+Runs of tools/due_cases and tools/cases stand in crates/due_model/proofs/Cases.antt, those of tools/limit_cases in proofs/LimitCases.antt; of the others
 scenario and rows are written. Beside each NAME.scn stands its report NAME.out, which comes from outside this repository; the outcomes are those that it shows. The lemmas are computed: of what the
 story of the rows tells (`outcome_of`), and of the first row that ends the command (`first_outcome`).
 """
@@ -15,11 +15,11 @@ import run_lemmas
 
 COMMENT = """-- In some runs: how each command ended, and by which row, computed; each outcome is met. Written by tools/makers/outcome_case.py."""
 
-USES = """use Rattle.bus_due.proofs.Seams.{onto}
+USES = """use Rattle.due_model.proofs.Seams.{onto}
 use Rattle.bus_trace.specs.LineSet.{set_of}
 use Rattle.bus_trace.specs.declared.Row.{Row}
 use Rattle.bus_trace.specs.declared.Kind.TheVariants.{Drives, Fault}
-use Rattle.bus_due.specs.bus_story.specs.Outcomes.{ended_aborted, ended_check, ended_full, ended_good, ended_lost, ended_reset, ended_unanswered}
+use Rattle.due_model.specs.story_model.specs.Outcomes.{ended_aborted, ended_check, ended_full, ended_good, ended_lost, ended_reset, ended_unanswered}
 use Rattle.delivery_laws.proofs.Limits.{outcome_told}"""
 
 
@@ -52,7 +52,7 @@ def main():
     lines = (run_lemmas.SHARED + "\n" + USES + "\n" + array_case.HEAD).splitlines()
     print(COMMENT)
     print("\n".join(sorted({line for line in lines if line.startswith("use ")}, key=lines.index)))
-    for module, kind, scenarios in (("Rattle.bus_due.proofs.Cases", "_due", dues), ("Rattle.delivery_laws.proofs.LimitCases", "_limit", limits)):
+    for module, kind, scenarios in (("Rattle.due_model.proofs.Cases", "_due", dues), ("Rattle.delivery_laws.proofs.LimitCases", "_limit", limits)):
         names = [array_case.name_of(scn, kind) for scn in scenarios]
         print("use %s.{%s}" % (module, ", ".join("%s, %s_rows" % (name, name) for name in names)))
     print(DEFINITIONS)

@@ -14,13 +14,13 @@ UNFOLDING = "unfolding need_of sent_of ones union_below line_of form_out form_in
 
 def write(comment, common, uses, lemma, law, statement):
     """One lemma for each scenario of the words: by this law, that this statement holds of its run. The first word is the module of
-    crates/bus_due/proofs in which the runs stand; in the statement R is a run, of the rows RS."""
+    crates/due_model/proofs in which the runs stand; in the statement R is a run, of the rows RS."""
     names = [array_case.name_of(scn, "_due") for scn in sys.argv[2:]]
     print(comment)
     print("use Rattle.std.proofs.Common.{%s}" % common)
     print(SHARED)
     print(uses)
-    print("use Rattle.bus_due.proofs.%s.{%s}" % (sys.argv[1], ", ".join("%s, %s_rows" % (name, name) for name in names)))
+    print("use Rattle.due_model.proofs.%s.{%s}" % (sys.argv[1], ", ".join("%s, %s_rows" % (name, name) for name in names)))
     for name in names:
         said = statement.replace("RS", "(onto %s_rows [])" % name).replace("R ", name + " ")
         print("\n%s_%s : %s" % (name, lemma, said))

@@ -1,7 +1,7 @@
 #!/usr/bin/env python3
 """Writes, of runs that tools/makers/due_case.py has written, the lemmas that what is due makes them.
 
-    tools/makers/shown_case.py tools/due_cases/one_read.scn .. > crates/bus_due/proofs/RunCases.antt
+    tools/makers/shown_case.py tools/due_cases/one_read.scn .. > crates/due_model/proofs/RunCases.antt
 
 They say that the rows, one after the other each the least that is due after those before it, are those of the report, to the last
 nanosecond; that they show its history; and that nothing is due after them.
@@ -13,8 +13,8 @@ import run_lemmas
 
 COMMENT = """-- Whole runs, computed from their scenarios by what is due, are those of the reports. Written by tools/makers/shown_case.py."""
 
-USES = """use Rattle.bus_due.specs.Next.{least}
-use Rattle.bus_due.specs.Run.{run_from, run_by_due}"""
+USES = """use Rattle.due_model.specs.Next.{least}
+use Rattle.due_model.specs.Run.{run_from, run_by_due}"""
 
 
 def print_lemma(name, scn):
@@ -30,7 +30,7 @@ def main():
     print("use Rattle.std.proofs.Common.{◌≡◌, refl}")
     print(run_lemmas.SHARED)
     print(USES)
-    print("use Rattle.bus_due.proofs.Cases.{shows, %s}" % ", ".join("%s, %s_shown" % (name, name) for name in names))
+    print("use Rattle.due_model.proofs.Cases.{shows, %s}" % ", ".join("%s, %s_shown" % (name, name) for name in names))
     for name, scn in zip(names, sys.argv[1:]):
         print()
         print_lemma(name, scn)

@@ -1,7 +1,7 @@
 #!/usr/bin/env python3
 """Turns scenarios and their reports into lemmas that read each history off the rows of its trace.
 
-    tools/makers/story_case.py tools/cases/*.scn > crates/bus_story/proofs/Cases.antt
+    tools/makers/story_case.py tools/cases/*.scn > crates/story_model/proofs/Cases.antt
 
 Beside each NAME.scn stands its report NAME.out, which comes from outside this repository. The lemmas say that the
 history which the rows tell is that of the report, and so are the outcomes and the bytes that were carried; and that the
@@ -21,11 +21,11 @@ use Rattle.bus_trace.specs.View.{union_below}
 use Rattle.bus_trace.specs.declared.Row.{Row}
 use Rattle.bus_trace.specs.declared.Kind.TheVariants.{Drives, Fault}
 use Rattle.msg_grammar.specs.Messages.{form_out, form_in}
-use Rattle.bus_story.specs.Story.{Story}
-use Rattle.bus_story.specs.TraceHistory.{story}
-use Rattle.bus_story.specs.Outcomes.{Outcome, outcomes, ended_good, ended_check, ended_full, ended_unanswered, ended_lost, ended_reset, ended_aborted}
-use Rattle.bus_story.specs.Right.{all_carried}
-use Rattle.bus_story.specs.Samples.{expected_strikes, row_strikes}
+use Rattle.story_model.specs.Story.{Story}
+use Rattle.story_model.specs.TraceHistory.{story}
+use Rattle.story_model.specs.Outcomes.{Outcome, outcomes, ended_good, ended_check, ended_full, ended_unanswered, ended_lost, ended_reset, ended_aborted}
+use Rattle.story_model.specs.Right.{all_carried}
+use Rattle.story_model.specs.Samples.{expected_strikes, row_strikes}
 """
 
 DEFINITIONS = """

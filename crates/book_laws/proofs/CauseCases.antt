@@ -1,4 +1,4 @@
--- The causes in some runs of `bus_due`: a command that is refused; and processes that a target of limit 0 gives up in
+-- The causes in some runs of `due_model`: a command that is refused; and processes that a target of limit 0 gives up in
 -- DATA OUT, DATA IN and STATUS, and one of limit 1 in STATUS.
 use Rattle.book_laws.proofs
 use proofs.Names.{ℕ, ◌≡◌, true, false, [], refl, sym, ◌∙◌, ProcId, line_of, union_below, form_out, form_in, need_of}

@@ -4,16 +4,16 @@ use proofs.Names.{ℕ, ◌≡◌, ◌+◌, ◌⊎◌, inl, inr, Bool, true, fals
 use proofs.Names.{sym, ap, true≢false, not-true, eqb-true, ltb-true, cases_Bool, if◌then◌else◌, is_some, is_none, ◌==◌}
 use proofs.Names.{◌%◌, nat_lt, slice_index_or, and_first, and_second, or_second, implied, ProcId, rises, changes_phase}
 use proofs.Names.{is_command, is_data, is_message_out, is_message_in, is_fault, receiver_in, receiver_of, Row, Change}
-use proofs.Names.{Connection, has_group_len, MsgIn, ScenarioValue, same_bool_is, Process, process_of, same_bool}
-use proofs.Names.{row_reading, message_in, Item, process, abort, link_after_name, aim_of, policy_of, run_at, next_word}
-use proofs.Names.{attends_with, bytes_of_messages, phase_of, Ready, is_name, Phase, Task, target_def_of, RunState}
-use proofs.Names.{bus_of, item_of, process_here, process_served, carried_here, is_writing, task_of, ready_of, SendsOwn}
-use proofs.Names.{is_in_phase, is_out_phase, HasPhase, LeavesWhole, IsAtRun, is_of_target, is_aimed_at, is_between}
-use proofs.Names.{is_ready_for, is_made_for, is_first_row, is_block_whole, is_phase_whole, leaves_whole, has_phase}
-use proofs.Names.{says_next, gives_next, sends_next, is_at_run, same_item_if, names_served, crosses_well, is_of_kind}
-use proofs.Names.{is_row_in, is_last_row, is_row_by, is_row_of, RowKind, still, strikes, crosses, turns, IsReadyFor}
-use proofs.Names.{IsAimedAt, Begins, GoesOn, Ends, RowOf, apart, begins, goes_on, ends, under_reset}
-use proofs.Common.Lookups.{id_is}
+use proofs.Names.{Connection, has_group_len, MsgIn, ScenarioValue, same_bool_is, Process, process_of, row_reading}
+use proofs.Names.{message_in, Item, process, abort, link_after_name, aim_of, policy_of, run_at, next_word, attends_with}
+use proofs.Names.{bytes_of_messages, phase_of, Ready, is_name, Phase, Task, target_def_of, RunState, bus_of, item_of}
+use proofs.Names.{process_here, process_served, carried_here, is_writing, task_of, ready_of, SendsOwn, is_in_phase}
+use proofs.Names.{is_out_phase, HasPhase, LeavesWhole, IsAtRun, is_of_target, is_aimed_at, is_between, is_ready_for}
+use proofs.Names.{is_made_for, is_first_row, is_block_whole, is_phase_whole, leaves_whole, has_phase, says_next}
+use proofs.Names.{gives_next, sends_next, is_at_run, same_item_if, names_served, crosses_well, is_of_kind, is_row_in}
+use proofs.Names.{is_last_row, is_row_by, is_row_of, RowKind, still, strikes, crosses, turns, IsReadyFor, IsAimedAt}
+use proofs.{Names.{Begins, GoesOn, Ends, RowOf, apart, begins, goes_on, ends, under_reset}, Common.Lookups.{id_is}}
+use Rattle.due_model.specs.array_model.specs.Processes.{same_bool}
 
 -- ---- small facts
 

@@ -1,32 +1,32 @@
 -- What the books of one process ask of all that is kept.
 use Rattle.std.specs.Prelude.{ℕ, Bool, true, false, not, ◌&&◌, ◌||◌, List, [], ◌∷◌, length, Option, Some, None, is_some}
 use Rattle.std.specs.Prelude.{nat_lt, if◌then◌else◌}
-use Rattle.bus_due.specs.bus_base.specs.declared.ProcId.{ProcId}
-use Rattle.bus_due.specs.msg_grammar.specs.declared.message.MsgIn.{MsgIn}
-use Rattle.bus_due.specs.msg_grammar.specs.Messages.{in_bytes}
-use Rattle.bus_due.specs.scenario.specs.declared.value.Policy.{Policy}
-use Rattle.bus_due.specs.scenario.specs.Value.{ScenarioValue}
-use Rattle.bus_due.specs.disk_array.specs.Processes.{Process}
-use Rattle.bus_due.specs.disk_array.specs.Units.{Array}
-use Rattle.bus_due.specs.disk_array.specs.Steps.{is_waiting, running_process}
-use Rattle.bus_due.specs.disk_array.specs.ArrayHistory.{reply_in}
-use Rattle.bus_due.specs.bus_story.specs.Items.{Item, process, Sent, has_item}
-use Rattle.bus_due.specs.bus_story.specs.CarriedBytes.{CarriedBytes, with_restored_pointers, carried_after_message}
-use Rattle.bus_due.specs.bus_dialogue.specs.declared.exchange.Cause.{Cause}
-use Rattle.bus_due.specs.bus_dialogue.specs.declared.exchange.Cause.TheVariants as causes
-use Rattle.bus_due.specs.bus_dialogue.specs.declared.exchange.Messages.{Messages}
-use Rattle.bus_due.specs.bus_dialogue.specs.declared.exchange.Phase.{Phase}
-use Rattle.bus_due.specs.bus_dialogue.specs.declared.exchange.Phase.TheVariants as phases
-use Rattle.bus_due.specs.bus_dialogue.specs.declared.exchange.Task.{Task}
-use Rattle.bus_due.specs.bus_dialogue.specs.Exchange.{bytes_of_messages}
-use Rattle.bus_due.specs.bus_dialogue.specs.Arrivals.{policy_of}
-use Rattle.bus_due.specs.bus_dialogue.specs.DataRuns.{run_at}
-use Rattle.bus_due.specs.bus_dialogue.specs.NextPhase.{phase_of}
-use Rattle.bus_due.specs.LastingState.{ProcessProgress, progress_in}
-use Rattle.bus_due.specs.RunState.{RunState, bus_of, array_of, item_of, carried_here}
-use Rattle.bus_due.specs.Defs.{target_def_of}
-use Rattle.bus_due.specs.Tasks.{task_with, reply_now}
-use Rattle.bus_due.specs.Faithful.{same_process}
+use Rattle.due_model.specs.bus_base.specs.declared.ProcId.{ProcId}
+use Rattle.due_model.specs.msg_grammar.specs.declared.message.MsgIn.{MsgIn}
+use Rattle.due_model.specs.msg_grammar.specs.Messages.{in_bytes}
+use Rattle.due_model.specs.scenario.specs.declared.value.Policy.{Policy}
+use Rattle.due_model.specs.scenario.specs.Value.{ScenarioValue}
+use Rattle.due_model.specs.array_model.specs.Processes.{Process}
+use Rattle.due_model.specs.array_model.specs.Units.{Array}
+use Rattle.due_model.specs.array_model.specs.Steps.{is_waiting, running_process}
+use Rattle.due_model.specs.array_model.specs.ArrayHistory.{reply_in}
+use Rattle.due_model.specs.story_model.specs.Items.{Item, process, Sent, has_item}
+use Rattle.due_model.specs.story_model.specs.CarriedBytes.{CarriedBytes, with_restored_pointers, carried_after_message}
+use Rattle.due_model.specs.dialogue_model.specs.declared.exchange.Cause.{Cause}
+use Rattle.due_model.specs.dialogue_model.specs.declared.exchange.Cause.TheVariants as causes
+use Rattle.due_model.specs.dialogue_model.specs.declared.exchange.Messages.{Messages}
+use Rattle.due_model.specs.dialogue_model.specs.declared.exchange.Phase.{Phase}
+use Rattle.due_model.specs.dialogue_model.specs.declared.exchange.Phase.TheVariants as phases
+use Rattle.due_model.specs.dialogue_model.specs.declared.exchange.Task.{Task}
+use Rattle.due_model.specs.dialogue_model.specs.Exchange.{bytes_of_messages}
+use Rattle.due_model.specs.dialogue_model.specs.Arrivals.{policy_of}
+use Rattle.due_model.specs.dialogue_model.specs.DataRuns.{run_at}
+use Rattle.due_model.specs.dialogue_model.specs.NextPhase.{phase_of}
+use Rattle.due_model.specs.LastingState.{ProcessProgress, progress_in}
+use Rattle.due_model.specs.RunState.{RunState, bus_of, array_of, item_of, carried_here}
+use Rattle.due_model.specs.Defs.{target_def_of}
+use Rattle.due_model.specs.Tasks.{task_with, reply_now}
+use Rattle.due_model.specs.Faithful.{same_process}
 
 -- ---- the messages of the target that are on their way: those that are not whole after so many bytes
 

@@ -1,17 +1,17 @@
 -- What a process has carried are its own bytes: its command descriptor block and, where it writes, the data that it
 -- sends; the pointers stand in them (6.4, 6.6.19, 6.6.20).
 use Rattle.std.specs.Prelude.{ℕ, ◌%◌, ◌≡◌, ◌≤◌, ◌<◌, true, List, [], ◌∷◌, ⊤, ◌++◌, length, slice_index_or, Some}
-use Rattle.bus_due.specs.bus_base.specs.declared.ProcId.{ProcId}
-use Rattle.bus_due.specs.bus_trace.specs.declared.Row.{Row}
-use Rattle.bus_due.specs.bus_trace.specs.Phases.{is_command, is_data}
-use Rattle.bus_due.specs.scenario.specs.Value.{ScenarioValue}
-use Rattle.bus_due.specs.disk_array.specs.Processes.{Process, process_of}
-use Rattle.bus_due.specs.bus_story.specs.BusState.{RowReading, row_reading}
-use Rattle.bus_due.specs.bus_story.specs.CarriedBytes.{Area, CarriedBytes}
-use Rattle.bus_due.specs.bus_story.specs.Links.{Link}
-use Rattle.bus_due.specs.RunState.{RunState, process_here, carried_here}
-use Rattle.bus_due.specs.RunSteps.{run_state}
-use Rattle.bus_due.specs.Tasks.{is_writing}
+use Rattle.due_model.specs.bus_base.specs.declared.ProcId.{ProcId}
+use Rattle.due_model.specs.bus_trace.specs.declared.Row.{Row}
+use Rattle.due_model.specs.bus_trace.specs.Phases.{is_command, is_data}
+use Rattle.due_model.specs.scenario.specs.Value.{ScenarioValue}
+use Rattle.due_model.specs.array_model.specs.Processes.{Process, process_of}
+use Rattle.due_model.specs.story_model.specs.BusState.{RowReading, row_reading}
+use Rattle.due_model.specs.story_model.specs.CarriedBytes.{Area, CarriedBytes}
+use Rattle.due_model.specs.story_model.specs.Links.{Link}
+use Rattle.due_model.specs.RunState.{RunState, process_here, carried_here}
+use Rattle.due_model.specs.RunSteps.{run_state}
+use Rattle.due_model.specs.Tasks.{is_writing}
 
 -- The bytes of an area are a front of these, and its pointers stand in them or at their end.
 pub record IsFilled (a : Area) (content : List ℕ) : Type 0 where

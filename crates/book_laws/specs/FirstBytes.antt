@@ -1,17 +1,17 @@
 -- Until a byte has crossed in a connection, the next one begins an IDENTIFY: the opening of the initiator after a
 -- selection, the names of the target after a reselection (6.1.3, 6.1.4, 6.6.7).
 use Rattle.std.specs.Prelude.{ℕ, ◌≡◌, ◌<◌, true, false, List, [], ◌∷◌, Some}
-use Rattle.bus_due.specs.bus_trace.specs.LineSet.{LineSet}
-use Rattle.bus_due.specs.bus_trace.specs.declared.connection.Connection.{Connection}
-use Rattle.bus_due.specs.bus_trace.specs.Phases.{is_message_out, is_message_in}
-use Rattle.bus_due.specs.bus_lines.specs.Handshakes.{Handshakes}
-use Rattle.bus_due.specs.bus_phases.specs.declared.dialogue.Dialogue.{Dialogue}
-use Rattle.bus_due.specs.bus_phases.specs.Reading.{reading_out}
-use Rattle.bus_due.specs.bus_rules.specs.Messages.{is_opening}
-use Rattle.bus_due.specs.msg_grammar.specs.declared.message.MsgIn.TheVariants as to_initiator
-use Rattle.bus_due.specs.msg_grammar.specs.Messages.{got_out}
-use Rattle.bus_due.specs.bus_dialogue.specs.Exchange.{Exchange}
-use Rattle.bus_due.specs.RunState.{RunState, bus_of}
+use Rattle.due_model.specs.bus_trace.specs.LineSet.{LineSet}
+use Rattle.due_model.specs.bus_trace.specs.declared.connection.Connection.{Connection}
+use Rattle.due_model.specs.bus_trace.specs.Phases.{is_message_out, is_message_in}
+use Rattle.due_model.specs.bus_lines.specs.Handshakes.{Handshakes}
+use Rattle.due_model.specs.bus_phases.specs.declared.dialogue.Dialogue.{Dialogue}
+use Rattle.due_model.specs.bus_phases.specs.Reading.{reading_out}
+use Rattle.due_model.specs.bus_rules.specs.Messages.{is_opening}
+use Rattle.due_model.specs.msg_grammar.specs.declared.message.MsgIn.TheVariants as to_initiator
+use Rattle.due_model.specs.msg_grammar.specs.Messages.{got_out}
+use Rattle.due_model.specs.dialogue_model.specs.Exchange.{Exchange}
+use Rattle.due_model.specs.RunState.{RunState, bus_of}
 
 -- The words begin with a message that may open a connection.
 pub record OpensConnection (words : List ℕ) : Type 0 where

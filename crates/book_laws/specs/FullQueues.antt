@@ -2,21 +2,21 @@
 -- 8.2.14).
 use Rattle.std.specs.Prelude.{ℕ, Bool, true, false, not, ◌&&◌, ◌||◌, ◌==◌, List, [], ◌∷◌, Option, Some, None, nat_lt}
 use Rattle.std.specs.List.{list_any}
-use Rattle.bus_due.specs.bus_base.specs.declared.ProcId.{ProcId}
-use Rattle.bus_due.specs.bus_base.specs.declared.Event.{Event}
-use Rattle.bus_due.specs.bus_base.specs.declared.Event.TheVariants as events
-use Rattle.bus_due.specs.cdb_codec.specs.declared.sense.TheConstants.{ABORTED_COMMAND}
-use Rattle.bus_due.specs.cdb_codec.specs.declared.status.TheConstants.{QUEUE_FULL}
-use Rattle.bus_due.specs.cdb_codec.specs.Cdb.{command_of}
-use Rattle.bus_due.specs.scenario.specs.Value.{ScenarioValue}
-use Rattle.bus_due.specs.disk_array.specs.Processes.{Process, process_of}
-use Rattle.bus_due.specs.disk_array.specs.Execution.{Reply, is_request_sense}
-use Rattle.bus_due.specs.disk_array.specs.Units.{UnitState, Nexus, Array, same_nexus, nexus_of, unit_state_at}
-use Rattle.bus_due.specs.disk_array.specs.Steps.{process_count}
-use Rattle.bus_due.specs.disk_array.specs.ArrayHistory.{array_after}
-use Rattle.bus_due.specs.bus_dialogue.specs.declared.exchange.Arrival.{Arrival}
-use Rattle.bus_due.specs.bus_dialogue.specs.declared.exchange.Arrival.TheVariants as arrivals
-use Rattle.bus_due.specs.Telling.{same_event}
+use Rattle.due_model.specs.bus_base.specs.declared.ProcId.{ProcId}
+use Rattle.due_model.specs.bus_base.specs.declared.Event.{Event}
+use Rattle.due_model.specs.bus_base.specs.declared.Event.TheVariants as events
+use Rattle.due_model.specs.cdb_codec.specs.declared.sense.TheConstants.{ABORTED_COMMAND}
+use Rattle.due_model.specs.cdb_codec.specs.declared.status.TheConstants.{QUEUE_FULL}
+use Rattle.due_model.specs.cdb_codec.specs.Cdb.{command_of}
+use Rattle.due_model.specs.scenario.specs.Value.{ScenarioValue}
+use Rattle.due_model.specs.array_model.specs.Processes.{Process, process_of}
+use Rattle.due_model.specs.array_model.specs.Execution.{Reply, is_request_sense}
+use Rattle.due_model.specs.array_model.specs.Units.{UnitState, Nexus, Array, same_nexus, nexus_of, unit_state_at}
+use Rattle.due_model.specs.array_model.specs.Steps.{process_count}
+use Rattle.due_model.specs.array_model.specs.ArrayHistory.{array_after}
+use Rattle.due_model.specs.dialogue_model.specs.declared.exchange.Arrival.{Arrival}
+use Rattle.due_model.specs.dialogue_model.specs.declared.exchange.Arrival.TheVariants as arrivals
+use Rattle.due_model.specs.Telling.{same_event}
 
 -- The history has this event.
 abbrev pub has_event : List Event → Event → Bool

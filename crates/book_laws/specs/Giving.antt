@@ -2,18 +2,18 @@
 -- those that crossed (6.6).
 use Rattle.std.specs.Prelude.{false, ℕ, ◌%◌, ◌≡◌, ◌<◌, is_some, true, List, [], ◌++◌, length, slice_index_or, Option}
 use Rattle.std.specs.Prelude.{Some, None, ⊤}
-use Rattle.bus_due.specs.bus_trace.specs.LineSet.{LineSet}
-use Rattle.bus_due.specs.bus_trace.specs.declared.changes.Change.{Change}
-use Rattle.bus_due.specs.bus_trace.specs.declared.connection.Connection.{Connection}
-use Rattle.bus_due.specs.bus_trace.specs.Terms.{receiver_in}
-use Rattle.bus_due.specs.bus_trace.specs.Phases.{is_message_out, is_message_in}
-use Rattle.bus_due.specs.bus_lines.specs.Handshakes.{Handshakes}
-use Rattle.bus_due.specs.bus_phases.specs.declared.dialogue.Dialogue.{Dialogue}
-use Rattle.bus_due.specs.msg_grammar.specs.declared.message.MsgIn.{MsgIn}
-use Rattle.bus_due.specs.msg_grammar.specs.Messages.{FitsIn}
-use Rattle.bus_due.specs.bus_dialogue.specs.declared.exchange.Messages.{Messages}
-use Rattle.bus_due.specs.bus_dialogue.specs.Exchange.{Exchange, bytes_of_messages}
-use Rattle.bus_due.specs.RunState.{RunState, bus_of}
+use Rattle.due_model.specs.bus_trace.specs.LineSet.{LineSet}
+use Rattle.due_model.specs.bus_trace.specs.declared.changes.Change.{Change}
+use Rattle.due_model.specs.bus_trace.specs.declared.connection.Connection.{Connection}
+use Rattle.due_model.specs.bus_trace.specs.Terms.{receiver_in}
+use Rattle.due_model.specs.bus_trace.specs.Phases.{is_message_out, is_message_in}
+use Rattle.due_model.specs.bus_lines.specs.Handshakes.{Handshakes}
+use Rattle.due_model.specs.bus_phases.specs.declared.dialogue.Dialogue.{Dialogue}
+use Rattle.due_model.specs.msg_grammar.specs.declared.message.MsgIn.{MsgIn}
+use Rattle.due_model.specs.msg_grammar.specs.Messages.{FitsIn}
+use Rattle.due_model.specs.dialogue_model.specs.declared.exchange.Messages.{Messages}
+use Rattle.due_model.specs.dialogue_model.specs.Exchange.{Exchange, bytes_of_messages}
+use Rattle.due_model.specs.RunState.{RunState, bus_of}
 use Rattle.book_laws.specs.Listening.{half_after}
 
 -- So many bytes have crossed, and this much of a message is heard half.

@@ -1,14 +1,14 @@
 -- The initiator of a connection knows the process that the target serves: by its own item after a selection, by its
 -- names after a reselection (6.1.4, 6.6.7, 6.6.17).
 use Rattle.std.specs.Prelude.{◌≡◌, ◌⊎◌, true, false, Some, None}
-use Rattle.bus_due.specs.bus_trace.specs.declared.Row.{Row}
-use Rattle.bus_due.specs.bus_trace.specs.declared.connection.Connection.{Connection}
-use Rattle.bus_due.specs.msg_grammar.specs.declared.message.MsgIn.{MsgIn}
-use Rattle.bus_due.specs.scenario.specs.Value.{ScenarioValue}
-use Rattle.bus_due.specs.bus_story.specs.BusState.{row_reading}
-use Rattle.bus_due.specs.bus_story.specs.Links.{Link, link_after_name}
-use Rattle.bus_due.specs.bus_dialogue.specs.Words.{is_name}
-use Rattle.bus_due.specs.RunState.{RunState}
+use Rattle.due_model.specs.bus_trace.specs.declared.Row.{Row}
+use Rattle.due_model.specs.bus_trace.specs.declared.connection.Connection.{Connection}
+use Rattle.due_model.specs.msg_grammar.specs.declared.message.MsgIn.{MsgIn}
+use Rattle.due_model.specs.scenario.specs.Value.{ScenarioValue}
+use Rattle.due_model.specs.story_model.specs.BusState.{row_reading}
+use Rattle.due_model.specs.story_model.specs.Links.{Link, link_after_name}
+use Rattle.due_model.specs.dialogue_model.specs.Words.{is_name}
+use Rattle.due_model.specs.RunState.{RunState}
 use Rattle.book_laws.specs.Giving.{OnMessages}
 
 abbrev pub IsNoName : MsgIn → Type 0

@@ -1,15 +1,15 @@
 -- What a listener makes of the bytes of messages, one after the other (6.6).
 use Rattle.std.specs.Prelude.{ℕ, Bool, not, ◌&&◌, List, [], ◌∷◌, ◌++◌}
-use Rattle.bus_due.specs.msg_grammar.specs.Messages.{got_out, got_in}
-use Rattle.bus_due.specs.bus_phases.specs.Half.{left_of, is_nil}
-use Rattle.bus_due.specs.bus_phases.specs.Reading.{reading_out, reading_in}
-use Rattle.bus_due.specs.bus_rules.specs.Messages.{is_unknown}
-use Rattle.bus_due.specs.bus_phases.specs.declared.dialogue.Dialogue.{Dialogue}
-use Rattle.bus_due.specs.bus_phases.specs.Dialogue.{fresh_bytes}
-use Rattle.bus_due.specs.bus_story.specs.BusState.{whole_out}
-use Rattle.bus_due.specs.bus_dialogue.specs.declared.exchange.Said.{Said}
-use Rattle.bus_due.specs.bus_dialogue.specs.declared.exchange.Plan.{Plan}
-use Rattle.bus_due.specs.bus_dialogue.specs.Exchange.{nothing_heard, said_with_if, plan_anew_if}
+use Rattle.due_model.specs.msg_grammar.specs.Messages.{got_out, got_in}
+use Rattle.due_model.specs.bus_phases.specs.Half.{left_of, is_nil}
+use Rattle.due_model.specs.bus_phases.specs.Reading.{reading_out, reading_in}
+use Rattle.due_model.specs.bus_rules.specs.Messages.{is_unknown}
+use Rattle.due_model.specs.bus_phases.specs.declared.dialogue.Dialogue.{Dialogue}
+use Rattle.due_model.specs.bus_phases.specs.Dialogue.{fresh_bytes}
+use Rattle.due_model.specs.story_model.specs.BusState.{whole_out}
+use Rattle.due_model.specs.dialogue_model.specs.declared.exchange.Said.{Said}
+use Rattle.due_model.specs.dialogue_model.specs.declared.exchange.Plan.{Plan}
+use Rattle.due_model.specs.dialogue_model.specs.Exchange.{nothing_heard, said_with_if, plan_anew_if}
 
 -- ---- the target: the messages that it heard whole, and the bytes of one that it has heard half
 

@@ -1,15 +1,15 @@
 -- What the two ends of a connection are due to drive and to do, as facts of a row: by these reactions the bytes that
 -- cross are the next ones, and a phase is left whole.
 use Rattle.std.specs.Prelude.{◌%◌, ◌≡◌, true, false, not, is_some}
-use Rattle.bus_due.specs.bus_trace.specs.declared.changes.Change.{Change}
-use Rattle.bus_due.specs.bus_trace.specs.declared.connection.Connection.{Connection}
-use Rattle.bus_due.specs.bus_trace.specs.Terms.{receiver_in}
-use Rattle.bus_due.specs.bus_trace.specs.Phases.{is_message_out, is_message_in}
-use Rattle.bus_due.specs.scenario.specs.Value.{ScenarioValue}
-use Rattle.bus_due.specs.bus_dialogue.specs.declared.exchange.Phase.TheVariants as phases
-use Rattle.bus_due.specs.bus_dialogue.specs.NextPhase.{phase_of}
-use Rattle.bus_due.specs.RunState.{RunState, bus_of}
-use Rattle.bus_due.specs.Sights.{offering_of, answering_of}
+use Rattle.due_model.specs.bus_trace.specs.declared.changes.Change.{Change}
+use Rattle.due_model.specs.bus_trace.specs.declared.connection.Connection.{Connection}
+use Rattle.due_model.specs.bus_trace.specs.Terms.{receiver_in}
+use Rattle.due_model.specs.bus_trace.specs.Phases.{is_message_out, is_message_in}
+use Rattle.due_model.specs.scenario.specs.Value.{ScenarioValue}
+use Rattle.due_model.specs.dialogue_model.specs.declared.exchange.Phase.TheVariants as phases
+use Rattle.due_model.specs.dialogue_model.specs.NextPhase.{phase_of}
+use Rattle.due_model.specs.RunState.{RunState, bus_of}
+use Rattle.due_model.specs.Sights.{offering_of, answering_of}
 
 -- A byte to the target that crosses in the row is that which the initiator is due to drive before it, in MESSAGE OUT
 -- with ATN as it is due with this byte.

@@ -1,34 +1,35 @@
 -- The rows of a trace as tests on what is kept: each is of one of the kinds of `Traces.antt`, with all that this asks.
 use Rattle.std.specs.Prelude.{ℕ, ◌+◌, ◌%◌, Bool, true, false, not, ◌&&◌, ◌||◌, ◌==◌, List, [], ◌∷◌, length}
 use Rattle.std.specs.Prelude.{slice_index_or, Option, Some, None, is_some, is_none, nat_lt, if◌then◌else◌}
-use Rattle.bus_due.specs.bus_trace.specs.declared.Row.{Row}
-use Rattle.bus_due.specs.bus_trace.specs.declared.changes.Change.{Change}
-use Rattle.bus_due.specs.bus_trace.specs.declared.connection.Connection.{Connection}
-use Rattle.bus_due.specs.bus_trace.specs.Changes.{rises}
-use Rattle.bus_due.specs.bus_trace.specs.Terms.{is_fault, receiver_in}
-use Rattle.bus_due.specs.bus_trace.specs.Phases.{changes_phase, is_command, is_data, is_message_out, is_message_in}
-use Rattle.bus_due.specs.cdb_codec.specs.Cdb.{has_group_len}
-use Rattle.bus_due.specs.msg_grammar.specs.declared.message.MsgIn.{MsgIn}
-use Rattle.bus_due.specs.scenario.specs.Value.{ScenarioValue}
-use Rattle.bus_due.specs.disk_array.specs.Processes.{Process, process_of, same_bool, same_id}
-use Rattle.bus_due.specs.bus_story.specs.BusState.{RowReading, row_reading}
-use Rattle.bus_due.specs.bus_story.specs.Items.{Item, process, abort}
-use Rattle.bus_due.specs.bus_story.specs.Links.{Link, link_after_name}
-use Rattle.bus_due.specs.bus_story.specs.TraceHistory.{aim_of}
-use Rattle.bus_due.specs.bus_dialogue.specs.declared.exchange.Phase.{Phase}
-use Rattle.bus_due.specs.bus_dialogue.specs.declared.exchange.Phase.TheVariants as phases
-use Rattle.bus_due.specs.bus_dialogue.specs.declared.exchange.Task.{Task}
-use Rattle.bus_due.specs.bus_dialogue.specs.Arrivals.{policy_of}
-use Rattle.bus_due.specs.bus_dialogue.specs.DataRuns.{run_at}
-use Rattle.bus_due.specs.bus_dialogue.specs.Exchange.{next_word, attends_with, bytes_of_messages}
-use Rattle.bus_due.specs.bus_dialogue.specs.NextPhase.{phase_of}
-use Rattle.bus_due.specs.bus_dialogue.specs.Wants.{Ready}
-use Rattle.bus_due.specs.bus_dialogue.specs.Words.{is_name}
-use Rattle.bus_due.specs.Defs.{target_def_of}
-use Rattle.bus_due.specs.RunState.{RunState, bus_of, item_of, process_item, process_here, process_served, carried_here}
-use Rattle.bus_due.specs.RunSteps.{run_state_after}
-use Rattle.bus_due.specs.Tasks.{is_writing, task_of}
-use Rattle.bus_due.specs.Wants.{ready_of}
+use Rattle.due_model.specs.bus_trace.specs.declared.Row.{Row}
+use Rattle.due_model.specs.bus_trace.specs.declared.changes.Change.{Change}
+use Rattle.due_model.specs.bus_trace.specs.declared.connection.Connection.{Connection}
+use Rattle.due_model.specs.bus_trace.specs.Changes.{rises}
+use Rattle.due_model.specs.bus_trace.specs.Terms.{is_fault, receiver_in}
+use Rattle.due_model.specs.bus_trace.specs.Phases.{changes_phase, is_command, is_data, is_message_out, is_message_in}
+use Rattle.due_model.specs.cdb_codec.specs.Cdb.{has_group_len}
+use Rattle.due_model.specs.msg_grammar.specs.declared.message.MsgIn.{MsgIn}
+use Rattle.due_model.specs.scenario.specs.Value.{ScenarioValue}
+use Rattle.due_model.specs.array_model.specs.Processes.{Process, process_of, same_bool, same_id}
+use Rattle.due_model.specs.story_model.specs.BusState.{RowReading, row_reading}
+use Rattle.due_model.specs.story_model.specs.Items.{Item, process, abort}
+use Rattle.due_model.specs.story_model.specs.Links.{Link, link_after_name}
+use Rattle.due_model.specs.story_model.specs.TraceHistory.{aim_of}
+use Rattle.due_model.specs.dialogue_model.specs.declared.exchange.Phase.{Phase}
+use Rattle.due_model.specs.dialogue_model.specs.declared.exchange.Phase.TheVariants as phases
+use Rattle.due_model.specs.dialogue_model.specs.declared.exchange.Task.{Task}
+use Rattle.due_model.specs.dialogue_model.specs.Arrivals.{policy_of}
+use Rattle.due_model.specs.dialogue_model.specs.DataRuns.{run_at}
+use Rattle.due_model.specs.dialogue_model.specs.Exchange.{next_word, attends_with, bytes_of_messages}
+use Rattle.due_model.specs.dialogue_model.specs.NextPhase.{phase_of}
+use Rattle.due_model.specs.dialogue_model.specs.Wants.{Ready}
+use Rattle.due_model.specs.dialogue_model.specs.Words.{is_name}
+use Rattle.due_model.specs.Defs.{target_def_of}
+use Rattle.due_model.specs.RunState.{RunState, bus_of, item_of, process_item, process_here, process_served}
+use Rattle.due_model.specs.RunState.{carried_here}
+use Rattle.due_model.specs.RunSteps.{run_state_after}
+use Rattle.due_model.specs.Tasks.{is_writing, task_of}
+use Rattle.due_model.specs.Wants.{ready_of}
 use Rattle.book_laws.specs.Hearing.{is_in_phase, is_out_phase}
 use Rattle.book_laws.specs.Tests.{are_books}
 

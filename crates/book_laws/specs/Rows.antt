@@ -1,14 +1,14 @@
 -- What a row does in a connection that stands before and after it, where RST is false: facts of the lines alone.
 use Rattle.std.specs.Prelude.{ℕ, ◌≡◌, Bool, true, false, Some, None}
-use Rattle.bus_due.specs.bus_trace.specs.declared.Row.{Row}
-use Rattle.bus_due.specs.bus_trace.specs.declared.changes.Change.{Change}
-use Rattle.bus_due.specs.bus_trace.specs.declared.connection.Connection.{Connection}
-use Rattle.bus_due.specs.bus_trace.specs.Changes.{rises}
-use Rattle.bus_due.specs.bus_trace.specs.Terms.{is_fault, receiver_in}
-use Rattle.bus_due.specs.bus_trace.specs.Phases.{changes_phase, is_message_out}
-use Rattle.bus_due.specs.bus_story.specs.BusState.{BusState, RowReading, row_reading, change_by, message_out}
-use Rattle.bus_due.specs.bus_story.specs.BusState.{message_in}
-use Rattle.bus_due.specs.RunState.{RunState}
+use Rattle.due_model.specs.bus_trace.specs.declared.Row.{Row}
+use Rattle.due_model.specs.bus_trace.specs.declared.changes.Change.{Change}
+use Rattle.due_model.specs.bus_trace.specs.declared.connection.Connection.{Connection}
+use Rattle.due_model.specs.bus_trace.specs.Changes.{rises}
+use Rattle.due_model.specs.bus_trace.specs.Terms.{is_fault, receiver_in}
+use Rattle.due_model.specs.bus_trace.specs.Phases.{changes_phase, is_message_out}
+use Rattle.due_model.specs.story_model.specs.BusState.{BusState, RowReading, row_reading, change_by, message_out}
+use Rattle.due_model.specs.story_model.specs.BusState.{message_in}
+use Rattle.due_model.specs.RunState.{RunState}
 
 -- It changes lines, strikes a byte, lets a byte cross, or turns to another phase; never two of these (6.1.5, 6.1.10).
 pub data RowKind (row : Row) (n : Connection) (c : Change) : Type 0 where

@@ -3,41 +3,41 @@
 use Rattle.std.specs.Prelude.{ℕ, ◌+◌, Bool, true, false, not, ◌&&◌, ◌||◌, ◌==◌, List, [], ◌∷◌, take, length}
 use Rattle.std.specs.Prelude.{slice_index_or, Option, Some, None, is_some, is_none, nat_le, nat_lt, if◌then◌else◌}
 use Rattle.std.specs.List.{list_all}
-use Rattle.bus_due.specs.bus_base.specs.declared.ProcId.{ProcId}
-use Rattle.bus_due.specs.bus_base.specs.declared.AbortKind.{AbortKind}
-use Rattle.bus_due.specs.bus_trace.specs.declared.agreements.Agreement.{Agreement}
-use Rattle.bus_due.specs.bus_trace.specs.declared.connection.Connection.{Connection}
-use Rattle.bus_due.specs.bus_phases.specs.declared.dialogue.Dialogue.{Dialogue}
-use Rattle.bus_due.specs.bus_phases.specs.Dialogue.{fresh_bytes}
-use Rattle.bus_due.specs.cdb_codec.specs.declared.sense.TheConstants.{PARITY_ERROR, INITIATOR_DETECTED_ERROR}
-use Rattle.bus_due.specs.scenario.specs.declared.value.CmdDef.{CmdDef}
-use Rattle.bus_due.specs.scenario.specs.Value.{ScenarioValue}
-use Rattle.bus_due.specs.disk_array.specs.Processes.{Process, process_of, same_bool}
-use Rattle.bus_due.specs.disk_array.specs.Execution.{Reply}
-use Rattle.bus_due.specs.disk_array.specs.Units.{RunningProcess, UnitState}
-use Rattle.bus_due.specs.disk_array.specs.Steps.{has_ended}
-use Rattle.bus_due.specs.disk_array.specs.ArrayHistory.{reply_in}
-use Rattle.bus_due.specs.disk_array.specs.Order.{same_number, tag_number}
-use Rattle.bus_due.specs.bus_story.specs.Right.{same_bytes, has_run, moved_bytes}
-use Rattle.bus_due.specs.bus_story.specs.Items.{Item, process, abort, Sent, has_item, is_open, is_clash}
-use Rattle.bus_due.specs.bus_story.specs.Links.{Link, named_item_from}
-use Rattle.bus_due.specs.bus_story.specs.HistoryEvents.{abort_line_at}
-use Rattle.bus_due.specs.bus_story.specs.CarriedBytes.{Area, CarriedBytes}
-use Rattle.bus_due.specs.bus_dialogue.specs.declared.exchange.Cause.{Cause}
-use Rattle.bus_due.specs.bus_dialogue.specs.declared.exchange.Cause.TheVariants as causes
-use Rattle.bus_due.specs.bus_dialogue.specs.declared.exchange.Next.{Next}
-use Rattle.bus_due.specs.bus_dialogue.specs.declared.exchange.Next.TheVariants as nexts
-use Rattle.bus_due.specs.bus_dialogue.specs.declared.exchange.Phase.{Phase}
-use Rattle.bus_due.specs.bus_dialogue.specs.declared.exchange.Phase.TheVariants as phases
-use Rattle.bus_due.specs.bus_dialogue.specs.declared.exchange.Plan.{Plan}
-use Rattle.bus_due.specs.bus_dialogue.specs.declared.exchange.Said.{Said}
-use Rattle.bus_due.specs.bus_dialogue.specs.Exchange.{Speech, bytes_of_messages}
-use Rattle.bus_due.specs.bus_dialogue.specs.Words.{parity_error, detected_error, answer_bytes, is_naming}
-use Rattle.bus_due.specs.bus_dialogue.specs.DataRuns.{run_length, runs_in_all}
-use Rattle.bus_due.specs.bus_dialogue.specs.NextPhase.{phase_of}
-use Rattle.bus_due.specs.RunState.{RunState, bus_of, array_of, process_served}
-use Rattle.bus_due.specs.Defs.{host_of, opening}
-use Rattle.bus_due.specs.Faithful.{same_tag, is_kind, same_process}
+use Rattle.due_model.specs.bus_base.specs.declared.ProcId.{ProcId}
+use Rattle.due_model.specs.bus_base.specs.declared.AbortKind.{AbortKind}
+use Rattle.due_model.specs.bus_trace.specs.declared.agreements.Agreement.{Agreement}
+use Rattle.due_model.specs.bus_trace.specs.declared.connection.Connection.{Connection}
+use Rattle.due_model.specs.bus_phases.specs.declared.dialogue.Dialogue.{Dialogue}
+use Rattle.due_model.specs.bus_phases.specs.Dialogue.{fresh_bytes}
+use Rattle.due_model.specs.cdb_codec.specs.declared.sense.TheConstants.{PARITY_ERROR, INITIATOR_DETECTED_ERROR}
+use Rattle.due_model.specs.scenario.specs.declared.value.CmdDef.{CmdDef}
+use Rattle.due_model.specs.scenario.specs.Value.{ScenarioValue}
+use Rattle.due_model.specs.array_model.specs.Processes.{Process, process_of, same_bool}
+use Rattle.due_model.specs.array_model.specs.Execution.{Reply}
+use Rattle.due_model.specs.array_model.specs.Units.{RunningProcess, UnitState}
+use Rattle.due_model.specs.array_model.specs.Steps.{has_ended}
+use Rattle.due_model.specs.array_model.specs.ArrayHistory.{reply_in}
+use Rattle.due_model.specs.array_model.specs.Order.{same_number, tag_number}
+use Rattle.due_model.specs.story_model.specs.Right.{same_bytes, has_run, moved_bytes}
+use Rattle.due_model.specs.story_model.specs.Items.{Item, process, abort, Sent, has_item, is_open, is_clash}
+use Rattle.due_model.specs.story_model.specs.Links.{Link, named_item_from}
+use Rattle.due_model.specs.story_model.specs.HistoryEvents.{abort_line_at}
+use Rattle.due_model.specs.story_model.specs.CarriedBytes.{Area, CarriedBytes}
+use Rattle.due_model.specs.dialogue_model.specs.declared.exchange.Cause.{Cause}
+use Rattle.due_model.specs.dialogue_model.specs.declared.exchange.Cause.TheVariants as causes
+use Rattle.due_model.specs.dialogue_model.specs.declared.exchange.Next.{Next}
+use Rattle.due_model.specs.dialogue_model.specs.declared.exchange.Next.TheVariants as nexts
+use Rattle.due_model.specs.dialogue_model.specs.declared.exchange.Phase.{Phase}
+use Rattle.due_model.specs.dialogue_model.specs.declared.exchange.Phase.TheVariants as phases
+use Rattle.due_model.specs.dialogue_model.specs.declared.exchange.Plan.{Plan}
+use Rattle.due_model.specs.dialogue_model.specs.declared.exchange.Said.{Said}
+use Rattle.due_model.specs.dialogue_model.specs.Exchange.{Speech, bytes_of_messages}
+use Rattle.due_model.specs.dialogue_model.specs.Words.{parity_error, detected_error, answer_bytes, is_naming}
+use Rattle.due_model.specs.dialogue_model.specs.DataRuns.{run_length, runs_in_all}
+use Rattle.due_model.specs.dialogue_model.specs.NextPhase.{phase_of}
+use Rattle.due_model.specs.RunState.{RunState, bus_of, array_of, process_served}
+use Rattle.due_model.specs.Defs.{host_of, opening}
+use Rattle.due_model.specs.Faithful.{same_tag, is_kind, same_process}
 use Rattle.book_laws.specs.Listening.{Understanding, nothing_understood, understood, form_messages, understanding}
 use Rattle.book_laws.specs.Listening.{understanding_anew, half_after, form_messages_in}
 use Rattle.book_laws.specs.Accounts.{is_open_in, is_served_by, is_in_array, Account, account_of, policy_for, task_in}

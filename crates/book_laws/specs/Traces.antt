@@ -1,19 +1,19 @@
 -- The rows of a trace, by what they do with a connection: what the lines show, and what devices are due to do. With
 -- these the books hold after all of them.
 use Rattle.std.specs.Prelude.{◌≡◌, ◌<◌, true, false, List, [], ◌∷◌, Some, None, ⊤}
-use Rattle.bus_due.specs.bus_trace.specs.declared.Row.{Row}
-use Rattle.bus_due.specs.bus_trace.specs.declared.changes.Change.{Change}
-use Rattle.bus_due.specs.bus_trace.specs.declared.connection.Connection.{Connection}
-use Rattle.bus_due.specs.bus_trace.specs.Phases.{changes_phase, is_message_out, is_message_in}
-use Rattle.bus_due.specs.scenario.specs.Value.{ScenarioValue}
-use Rattle.bus_due.specs.disk_array.specs.Processes.{Process, process_of}
-use Rattle.bus_due.specs.bus_story.specs.BusState.{row_reading}
-use Rattle.bus_due.specs.bus_story.specs.Items.{Item}
-use Rattle.bus_due.specs.bus_story.specs.TraceHistory.{aim_of}
-use Rattle.bus_due.specs.bus_dialogue.specs.Wants.{Ready}
-use Rattle.bus_due.specs.RunState.{RunState, bus_of, process_item}
-use Rattle.bus_due.specs.RunSteps.{run_state}
-use Rattle.bus_due.specs.Wants.{ready_of}
+use Rattle.due_model.specs.bus_trace.specs.declared.Row.{Row}
+use Rattle.due_model.specs.bus_trace.specs.declared.changes.Change.{Change}
+use Rattle.due_model.specs.bus_trace.specs.declared.connection.Connection.{Connection}
+use Rattle.due_model.specs.bus_trace.specs.Phases.{changes_phase, is_message_out, is_message_in}
+use Rattle.due_model.specs.scenario.specs.Value.{ScenarioValue}
+use Rattle.due_model.specs.array_model.specs.Processes.{Process, process_of}
+use Rattle.due_model.specs.story_model.specs.BusState.{row_reading}
+use Rattle.due_model.specs.story_model.specs.Items.{Item}
+use Rattle.due_model.specs.story_model.specs.TraceHistory.{aim_of}
+use Rattle.due_model.specs.dialogue_model.specs.Wants.{Ready}
+use Rattle.due_model.specs.RunState.{RunState, bus_of, process_item}
+use Rattle.due_model.specs.RunSteps.{run_state}
+use Rattle.due_model.specs.Wants.{ready_of}
 use Rattle.book_laws.specs.Carrying.{AllCarryOwn, SendsOwn}
 use Rattle.book_laws.specs.FirstBytes.{Opens}
 use Rattle.book_laws.specs.Giving.{Gives, GivesNext, IsQuiet}

@@ -6,7 +6,7 @@
 //! a listener makes of bytes. `Rows.antt`, `Hearing.antt`, `Reactions.antt` and `Traces.antt` say of a row what the
 //! lines show and what is due, and of a trace that its rows are such; `RowTests.antt` the same as a test.
 //! `Tests.antt`, with `Accounts.antt`, has the books in full as tests, the data runs and the place of each process in
-//! the plain disk array included, of which the laws prove a part; they hold after every row of the runs of `bus_due`.
+//! the plain disk array included, of which the laws prove a part; they hold after every row of the runs of `due_model`.
 //!
 //! Beside them stands why a command ends badly at its target: QUEUE FULL, CHECK CONDITION with the sense of ABORTED
 //! COMMAND, or lost. `FullQueues.antt` says when a queue is full as a command arrives, and what a reply rests on in a

@@ -1,28 +1,28 @@
 -- Small histories on the plain disk array, and queues of a few commands, computed. Each decides a condition of
--- `disk_array` that no history of a whole run does: what is not allowed, two guests at a time, what an abort leaves,
+-- `array_model` that no history of a whole run does: what is not allowed, two guests at a time, what an abort leaves,
 -- and which of several commands may run.
 use Rattle.std.proofs.Common.{ℕ, ◌≡◌, Bool, true, false, List, [], ◌∷◌, reverse, is_some, refl}
 use Rattle.std.specs.Prelude.{Option, Some, None}
 use lib.Count.{ones}
-use Rattle.bus_due.specs.bus_base.specs.declared.ProcId.{ProcId}
-use Rattle.bus_due.specs.bus_base.specs.declared.AbortKind.TheVariants as aborts
-use Rattle.bus_due.specs.bus_base.specs.declared.Event.{Event}
-use Rattle.bus_due.specs.bus_base.specs.declared.Event.TheVariants as events
-use Rattle.bus_due.specs.bus_base.specs.declared.events.Pick.TheVariants as picks
-use Rattle.bus_due.specs.bus_base.specs.declared.events.Class.{Class}
-use Rattle.bus_due.specs.bus_base.specs.declared.events.Class.TheVariants as classes
-use Rattle.bus_due.specs.scenario.specs.declared.value.CmdDef.{CmdDef}
-use Rattle.bus_due.specs.scenario.specs.declared.value.Policy.TheVariants as policies
-use Rattle.bus_due.specs.scenario.specs.declared.value.Tag.{Tag}
-use Rattle.bus_due.specs.scenario.specs.declared.value.Tag.TheVariants as tags
-use Rattle.bus_due.specs.scenario.specs.declared.value.Payload.TheVariants as payloads
-use Rattle.bus_due.specs.scenario.specs.Value.{ScenarioValue}
-use Rattle.bus_due.specs.scenario.specs.Needs.{need_of, sent_of}
-use Rattle.bus_due.specs.disk_array.specs.declared.entries.Entry.{Entry}
-use Rattle.bus_due.specs.disk_array.specs.Contents.{Contents, printed_blocks}
-use Rattle.bus_due.specs.disk_array.specs.Execution.{Reply, good, queue_full}
-use Rattle.bus_due.specs.disk_array.specs.Order.{same_number, may_run, chosen_place}
-use Rattle.bus_due.specs.disk_array.specs.ArrayHistory.{array_after, disks_of, reply_of, shows_run}
+use Rattle.due_model.specs.bus_base.specs.declared.ProcId.{ProcId}
+use Rattle.due_model.specs.bus_base.specs.declared.AbortKind.TheVariants as aborts
+use Rattle.due_model.specs.bus_base.specs.declared.Event.{Event}
+use Rattle.due_model.specs.bus_base.specs.declared.Event.TheVariants as events
+use Rattle.due_model.specs.bus_base.specs.declared.events.Pick.TheVariants as picks
+use Rattle.due_model.specs.bus_base.specs.declared.events.Class.{Class}
+use Rattle.due_model.specs.bus_base.specs.declared.events.Class.TheVariants as classes
+use Rattle.due_model.specs.scenario.specs.declared.value.CmdDef.{CmdDef}
+use Rattle.due_model.specs.scenario.specs.declared.value.Policy.TheVariants as policies
+use Rattle.due_model.specs.scenario.specs.declared.value.Tag.{Tag}
+use Rattle.due_model.specs.scenario.specs.declared.value.Tag.TheVariants as tags
+use Rattle.due_model.specs.scenario.specs.declared.value.Payload.TheVariants as payloads
+use Rattle.due_model.specs.scenario.specs.Value.{ScenarioValue}
+use Rattle.due_model.specs.scenario.specs.Needs.{need_of, sent_of}
+use Rattle.due_model.specs.array_model.specs.declared.entries.Entry.{Entry}
+use Rattle.due_model.specs.array_model.specs.Contents.{Contents, printed_blocks}
+use Rattle.due_model.specs.array_model.specs.Execution.{Reply, good, queue_full}
+use Rattle.due_model.specs.array_model.specs.Order.{same_number, may_run, chosen_place}
+use Rattle.due_model.specs.array_model.specs.ArrayHistory.{array_after, disks_of, reply_of, shows_run}
 
 abbrev pub command : ℕ → ProcId
 command n = record { command = n; sense = false }

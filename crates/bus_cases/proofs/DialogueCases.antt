@@ -1,42 +1,42 @@
--- The two ends of a connection on small records, computed. Each decides a condition of `bus_dialogue`, or one of
--- `bus_reactions` or `bus_rules`, that no whole run decides: what is told before anything stands, what devices of
+-- The two ends of a connection on small records, computed. Each decides a condition of `dialogue_model`, or one of
+-- `reaction_model` or `bus_rules`, that no whole run decides: what is told before anything stands, what devices of
 -- another kind alone do, and which of two comes first.
 use Rattle.std.proofs.Common.{ℕ, ◌≡◌, Bool, true, false, List, [], ◌∷◌, refl}
 use Rattle.std.specs.Prelude.{Option, Some, None}
 use lib.Count.{ones}
-use Rattle.bus_due.specs.bus_base.specs.declared.ProcId.{ProcId}
-use Rattle.bus_due.specs.bus_base.specs.declared.Event.TheVariants as events
-use Rattle.bus_due.specs.bus_trace.specs.LineSet.{set_of}
-use Rattle.bus_due.specs.bus_trace.specs.View.{union_below}
-use Rattle.bus_due.specs.bus_trace.specs.declared.Row.{Row}
-use Rattle.bus_due.specs.bus_trace.specs.declared.Kind.TheVariants.{Drives}
-use Rattle.bus_due.specs.bus_trace.specs.declared.agreements.Agreement.{Agreement}
-use Rattle.bus_due.specs.bus_trace.specs.declared.connection.Connection.{Connection}
-use Rattle.bus_due.specs.bus_trace.specs.Trace.{no_times}
-use Rattle.bus_due.specs.msg_grammar.specs.declared.message.MsgOut.{MsgOut}
-use Rattle.bus_due.specs.msg_grammar.specs.declared.message.MsgIn.{MsgIn}
-use Rattle.bus_due.specs.msg_grammar.specs.Messages.{form_out, form_in}
-use Rattle.bus_due.specs.bus_lines.specs.declared.effect.RowEffect.{RowEffect}
-use Rattle.bus_due.specs.bus_lines.specs.declared.stage.Stage.TheVariants.{InConnection}
-use Rattle.bus_due.specs.bus_lines.specs.Handshakes.{no_handshakes}
-use Rattle.bus_due.specs.bus_phases.specs.Dialogue.{nothing_spoken}
-use Rattle.bus_due.specs.bus_phases.specs.Phases.{no_pulses}
-use Rattle.bus_due.specs.bus_rules.specs.Seen.{seen}
-use Rattle.bus_due.specs.bus_rules.specs.Transfer.{keeps_offset}
-use Rattle.bus_due.specs.scenario.specs.declared.value.Tag.TheVariants as tags
-use Rattle.bus_due.specs.scenario.specs.declared.value.Policy.TheVariants as policies
-use Rattle.bus_due.specs.bus_reactions.specs.declared.ends.Hand.TheVariants.{Initiator}
-use Rattle.bus_due.specs.bus_reactions.specs.Ends.{hand_due}
-use Rattle.bus_due.specs.bus_dialogue.specs.declared.exchange.Arrival.TheVariants as arrivals
-use Rattle.bus_due.specs.bus_dialogue.specs.declared.exchange.Hearing.{Hearing}
-use Rattle.bus_due.specs.bus_dialogue.specs.declared.exchange.Next.TheVariants as nexts
-use Rattle.bus_due.specs.bus_dialogue.specs.declared.exchange.Phase.TheVariants as phases
-use Rattle.bus_due.specs.bus_dialogue.specs.Exchange.{no_plan, no_exchange}
-use Rattle.bus_due.specs.bus_dialogue.specs.NextPhase.{Serving}
-use Rattle.bus_due.specs.bus_dialogue.specs.DataRuns.{run_at}
-use Rattle.bus_due.specs.bus_dialogue.specs.Hearing.{begun, last_hearing, agreed_after, is_within_phase}
-use Rattle.bus_due.specs.bus_dialogue.specs.Wants.{Ready, ready_in, ready_by, is_reached}
-use Rattle.bus_due.specs.bus_dialogue.specs.Events.{is_empty, leaving_events}
+use Rattle.due_model.specs.bus_base.specs.declared.ProcId.{ProcId}
+use Rattle.due_model.specs.bus_base.specs.declared.Event.TheVariants as events
+use Rattle.due_model.specs.bus_trace.specs.LineSet.{set_of}
+use Rattle.due_model.specs.bus_trace.specs.View.{union_below}
+use Rattle.due_model.specs.bus_trace.specs.declared.Row.{Row}
+use Rattle.due_model.specs.bus_trace.specs.declared.Kind.TheVariants.{Drives}
+use Rattle.due_model.specs.bus_trace.specs.declared.agreements.Agreement.{Agreement}
+use Rattle.due_model.specs.bus_trace.specs.declared.connection.Connection.{Connection}
+use Rattle.due_model.specs.bus_trace.specs.Trace.{no_times}
+use Rattle.due_model.specs.msg_grammar.specs.declared.message.MsgOut.{MsgOut}
+use Rattle.due_model.specs.msg_grammar.specs.declared.message.MsgIn.{MsgIn}
+use Rattle.due_model.specs.msg_grammar.specs.Messages.{form_out, form_in}
+use Rattle.due_model.specs.bus_lines.specs.declared.effect.RowEffect.{RowEffect}
+use Rattle.due_model.specs.bus_lines.specs.declared.stage.Stage.TheVariants.{InConnection}
+use Rattle.due_model.specs.bus_lines.specs.Handshakes.{no_handshakes}
+use Rattle.due_model.specs.bus_phases.specs.Dialogue.{nothing_spoken}
+use Rattle.due_model.specs.bus_phases.specs.Phases.{no_pulses}
+use Rattle.due_model.specs.bus_rules.specs.Seen.{seen}
+use Rattle.due_model.specs.bus_rules.specs.Transfer.{keeps_offset}
+use Rattle.due_model.specs.scenario.specs.declared.value.Tag.TheVariants as tags
+use Rattle.due_model.specs.scenario.specs.declared.value.Policy.TheVariants as policies
+use Rattle.due_model.specs.reaction_model.specs.declared.ends.Hand.TheVariants.{Initiator}
+use Rattle.due_model.specs.reaction_model.specs.Ends.{hand_due}
+use Rattle.due_model.specs.dialogue_model.specs.declared.exchange.Arrival.TheVariants as arrivals
+use Rattle.due_model.specs.dialogue_model.specs.declared.exchange.Hearing.{Hearing}
+use Rattle.due_model.specs.dialogue_model.specs.declared.exchange.Next.TheVariants as nexts
+use Rattle.due_model.specs.dialogue_model.specs.declared.exchange.Phase.TheVariants as phases
+use Rattle.due_model.specs.dialogue_model.specs.Exchange.{no_plan, no_exchange}
+use Rattle.due_model.specs.dialogue_model.specs.NextPhase.{Serving}
+use Rattle.due_model.specs.dialogue_model.specs.DataRuns.{run_at}
+use Rattle.due_model.specs.dialogue_model.specs.Hearing.{begun, last_hearing, agreed_after, is_within_phase}
+use Rattle.due_model.specs.dialogue_model.specs.Wants.{Ready, ready_in, ready_by, is_reached}
+use Rattle.due_model.specs.dialogue_model.specs.Events.{is_empty, leaving_events}
 
 abbrev pair : ℕ → ℕ → Agreement
 pair period offset = record { period = period; offset = offset }

@@ -1,57 +1,59 @@
 -- What is kept from row to row, and the tests that tie devices to rows, computed on small states: each case decides a
--- condition of `bus_due` that no kept run does, by what docs/behaviour.md says of it.
+-- condition of `due_model` that no kept run does, by what docs/behaviour.md says of it.
 use Rattle.std.proofs.Common.{ℕ, ◌≡◌, Bool, true, false, not, List, [], ◌∷◌, refl}
 use Rattle.std.specs.Prelude.{◌==◌, Option, Some, None, replicate, slice_set}
 use lib.Count.{ones}
-use Rattle.bus_due.specs.bus_base.specs.declared.AbortKind.TheVariants as aborts
-use Rattle.bus_due.specs.bus_base.specs.declared.Event.{Event}
-use Rattle.bus_due.specs.bus_base.specs.declared.Event.TheVariants as events
-use Rattle.bus_due.specs.bus_trace.specs.LineSet.{none, set_of, line_of}
-use Rattle.bus_due.specs.bus_trace.specs.View.{union_below}
-use Rattle.bus_due.specs.bus_trace.specs.declared.Row.{Row}
-use Rattle.bus_due.specs.bus_trace.specs.declared.Kind.TheVariants.{Drives, Fault}
-use Rattle.bus_due.specs.bus_trace.specs.declared.changes.Change.{Change}
-use Rattle.bus_due.specs.bus_trace.specs.declared.selection.Call.{Call}
-use Rattle.bus_due.specs.bus_trace.specs.declared.selection.Calling.{Calling}
-use Rattle.bus_due.specs.bus_trace.specs.declared.connection.Connection.{Connection}
-use Rattle.bus_due.specs.bus_lines.specs.declared.stage.Stage.TheVariants.{OnFreeBus, InArbitration, InCalling}
-use Rattle.bus_due.specs.bus_lines.specs.declared.stage.Stage.TheVariants.{InAnswer, InConnection, InReset}
-use Rattle.bus_due.specs.msg_grammar.specs.Messages.{form_out, form_in}
-use Rattle.bus_due.specs.scenario.specs.declared.value.Tag.TheVariants as tags
-use Rattle.bus_due.specs.scenario.specs.declared.value.ResetDef.{ResetDef}
-use Rattle.bus_due.specs.scenario.specs.Needs.{need_of, sent_of}
-use Rattle.bus_due.specs.disk_array.specs.Processes.{Process}
-use Rattle.bus_due.specs.disk_array.specs.Units.{UnitState, Array, starting_array}
-use Rattle.bus_due.specs.bus_story.specs.BusState.{RowReading, quiet_bus, row_reading}
-use Rattle.bus_due.specs.bus_story.specs.Items.{Item, process, abort, command_item}
-use Rattle.bus_due.specs.bus_story.specs.Links.{link_of}
-use Rattle.bus_due.specs.bus_story.specs.Outcomes.{ended_good, ended_check, ended_full, ended_unanswered, ended_lost}
-use Rattle.bus_due.specs.bus_story.specs.Outcomes.{ended_reset, ended_aborted}
-use Rattle.bus_due.specs.bus_story.specs.Story.{empty_story}
-use Rattle.bus_due.specs.bus_dialogue.specs.Exchange.{Exchange, no_exchange, no_messages, nothing_heard, no_plan}
-use Rattle.bus_due.specs.bus_dialogue.specs.declared.exchange.Cause.TheVariants as causes
-use Rattle.bus_due.specs.bus_dialogue.specs.declared.exchange.Phase.TheVariants as phases
-use Rattle.bus_due.specs.bus_dialogue.specs.declared.exchange.Said.{Said}
-use Rattle.bus_due.specs.bus_dialogue.specs.declared.exchange.Task.{Task}
-use Rattle.bus_due.specs.disk_array.specs.ArrayHistory.{array_after}
-use Rattle.bus_due.specs.Allowed.{allowed}
-use Rattle.bus_due.specs.Due.{reset_from}
-use Rattle.bus_due.specs.Faithful.{is_unit, same_tag, is_process_named, is_kind, is_abort_named, is_item_named}
-use Rattle.bus_due.specs.Faithful.{is_opening_named, is_block_of_process, is_true_leaving, is_sent_at, is_true_crossing}
-use Rattle.bus_due.specs.Faithful.{has_ends, same_process, is_known_process, is_true_hearing, is_faithful, faithful}
-use Rattle.bus_due.specs.Goals.{is_good}
-use Rattle.bus_due.specs.LastingState.{Negotiated, none_negotiated, has_negotiated, negotiated_after}
-use Rattle.bus_due.specs.Own.{idle_device, own_at, own_after, owns_after, own_of}
-use Rattle.bus_due.specs.Plain.{crossed}
-use Rattle.bus_due.specs.RunState.{RunState, or_start}
-use Rattle.bus_due.specs.RunSteps.{first_run_state, may_negotiate, opening_of, naming_of, exchange_on}
-use Rattle.bus_due.specs.RunSteps.{negotiated_by_connection, leaving_of}
-use Rattle.bus_due.specs.Sights.{hearing_of}
-use Rattle.bus_due.specs.Sound.{each_device, is_quiet, contends_or_not, call_sides, initiator_side, target_side}
-use Rattle.bus_due.specs.Sound.{link_sides, sides_by, are_sides_kept, is_ahead, looks_ahead, is_sound, sound}
-use Rattle.bus_due.specs.Tasks.{room_of}
-use Rattle.bus_due.specs.Telling.{id_or_none, same_kind, same_event, same_events, events_of_ends_in, telling}
-use Rattle.bus_due.specs.Wishes.{is_entry_row}
+use Rattle.due_model.specs.bus_base.specs.declared.AbortKind.TheVariants as aborts
+use Rattle.due_model.specs.bus_base.specs.declared.Event.{Event}
+use Rattle.due_model.specs.bus_base.specs.declared.Event.TheVariants as events
+use Rattle.due_model.specs.bus_trace.specs.LineSet.{none, set_of, line_of}
+use Rattle.due_model.specs.bus_trace.specs.View.{union_below}
+use Rattle.due_model.specs.bus_trace.specs.declared.Row.{Row}
+use Rattle.due_model.specs.bus_trace.specs.declared.Kind.TheVariants.{Drives, Fault}
+use Rattle.due_model.specs.bus_trace.specs.declared.changes.Change.{Change}
+use Rattle.due_model.specs.bus_trace.specs.declared.selection.Call.{Call}
+use Rattle.due_model.specs.bus_trace.specs.declared.selection.Calling.{Calling}
+use Rattle.due_model.specs.bus_trace.specs.declared.connection.Connection.{Connection}
+use Rattle.due_model.specs.bus_lines.specs.declared.stage.Stage.TheVariants.{OnFreeBus, InArbitration, InCalling}
+use Rattle.due_model.specs.bus_lines.specs.declared.stage.Stage.TheVariants.{InAnswer, InConnection, InReset}
+use Rattle.due_model.specs.msg_grammar.specs.Messages.{form_out, form_in}
+use Rattle.due_model.specs.scenario.specs.declared.value.Tag.TheVariants as tags
+use Rattle.due_model.specs.scenario.specs.declared.value.ResetDef.{ResetDef}
+use Rattle.due_model.specs.scenario.specs.Needs.{need_of, sent_of}
+use Rattle.due_model.specs.array_model.specs.Processes.{Process}
+use Rattle.due_model.specs.array_model.specs.Units.{UnitState, Array, starting_array}
+use Rattle.due_model.specs.story_model.specs.BusState.{RowReading, quiet_bus, row_reading}
+use Rattle.due_model.specs.story_model.specs.Items.{Item, process, abort, command_item}
+use Rattle.due_model.specs.story_model.specs.Links.{link_of}
+use Rattle.due_model.specs.story_model.specs.Outcomes.{ended_good, ended_check, ended_full, ended_unanswered}
+use Rattle.due_model.specs.story_model.specs.Outcomes.{ended_lost}
+use Rattle.due_model.specs.story_model.specs.Outcomes.{ended_reset, ended_aborted}
+use Rattle.due_model.specs.story_model.specs.Story.{empty_story}
+use Rattle.due_model.specs.dialogue_model.specs.Exchange.{Exchange, no_exchange, no_messages, nothing_heard, no_plan}
+use Rattle.due_model.specs.dialogue_model.specs.declared.exchange.Cause.TheVariants as causes
+use Rattle.due_model.specs.dialogue_model.specs.declared.exchange.Phase.TheVariants as phases
+use Rattle.due_model.specs.dialogue_model.specs.declared.exchange.Said.{Said}
+use Rattle.due_model.specs.dialogue_model.specs.declared.exchange.Task.{Task}
+use Rattle.due_model.specs.array_model.specs.ArrayHistory.{array_after}
+use Rattle.due_model.specs.Allowed.{allowed}
+use Rattle.due_model.specs.Due.{reset_from}
+use Rattle.due_model.specs.Faithful.{is_unit, same_tag, is_process_named, is_kind, is_abort_named, is_item_named}
+use Rattle.due_model.specs.Faithful.{is_opening_named, is_block_of_process, is_true_leaving, is_sent_at}
+use Rattle.due_model.specs.Faithful.{is_true_crossing}
+use Rattle.due_model.specs.Faithful.{has_ends, same_process, is_known_process, is_true_hearing, is_faithful, faithful}
+use Rattle.due_model.specs.Goals.{is_good}
+use Rattle.due_model.specs.LastingState.{Negotiated, none_negotiated, has_negotiated, negotiated_after}
+use Rattle.due_model.specs.Own.{idle_device, own_at, own_after, owns_after, own_of}
+use Rattle.due_model.specs.Plain.{crossed}
+use Rattle.due_model.specs.RunState.{RunState, or_start}
+use Rattle.due_model.specs.RunSteps.{first_run_state, may_negotiate, opening_of, naming_of, exchange_on}
+use Rattle.due_model.specs.RunSteps.{negotiated_by_connection, leaving_of}
+use Rattle.due_model.specs.Sights.{hearing_of}
+use Rattle.due_model.specs.Sound.{each_device, is_quiet, contends_or_not, call_sides, initiator_side, target_side}
+use Rattle.due_model.specs.Sound.{link_sides, sides_by, are_sides_kept, is_ahead, looks_ahead, is_sound, sound}
+use Rattle.due_model.specs.Tasks.{room_of}
+use Rattle.due_model.specs.Telling.{id_or_none, same_kind, same_event, same_events, events_of_ends_in, telling}
+use Rattle.due_model.specs.Wishes.{is_entry_row}
 use Rattle.bus_cases.proofs.ArrayCases.{command, test_unit_ready, disks}
 
 abbrev drive : ℕ → ℕ → ℕ → Row

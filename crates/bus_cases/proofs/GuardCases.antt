@@ -1,32 +1,32 @@
 -- Whole runs, computed from their scenarios by what is due, are those of their reports, which an independent simulator printed. Each
 -- decides a condition of the definitions that no other run does. Written by tools/makers/guard_case.py.
-use Rattle.bus_due.specs.bus_trace.specs.LineSet.{set_of}
-use Rattle.bus_due.specs.bus_trace.specs.declared.Row.{Row}
-use Rattle.bus_due.specs.bus_trace.specs.declared.Kind.TheVariants.{Drives, Fault}
+use Rattle.due_model.specs.bus_trace.specs.LineSet.{set_of}
+use Rattle.due_model.specs.bus_trace.specs.declared.Row.{Row}
+use Rattle.due_model.specs.bus_trace.specs.declared.Kind.TheVariants.{Drives, Fault}
 use Rattle.std.proofs.Common.{ℕ, ◌≡◌, Bool, true, false, List, [], ◌∷◌, reverse, refl}
 use Rattle.std.specs.Prelude.{Option, Some, None}
 use lib.Count.{ones}
-use Rattle.bus_due.specs.bus_base.specs.declared.ProcId.{ProcId}
-use Rattle.bus_due.specs.bus_base.specs.declared.AbortKind.TheVariants as aborts
-use Rattle.bus_due.specs.bus_base.specs.declared.Event.{Event}
-use Rattle.bus_due.specs.bus_base.specs.declared.Event.TheVariants as events
-use Rattle.bus_due.specs.bus_base.specs.declared.events.Pick.TheVariants as picks
-use Rattle.bus_due.specs.scenario.specs.declared.value.FillDef.{FillDef}
-use Rattle.bus_due.specs.scenario.specs.declared.value.UnitDef.{UnitDef}
-use Rattle.bus_due.specs.scenario.specs.declared.value.Policy.TheVariants as policies
-use Rattle.bus_due.specs.scenario.specs.declared.value.Tag.TheVariants as tags
-use Rattle.bus_due.specs.scenario.specs.declared.value.Payload.TheVariants as payloads
-use Rattle.bus_due.specs.scenario.specs.Value.{ScenarioValue}
-use Rattle.bus_due.specs.scenario.specs.Needs.{need_of, sent_of}
-use Rattle.bus_due.specs.disk_array.specs.Contents.{Contents, starting_contents, printed_blocks}
-use Rattle.bus_due.specs.disk_array.specs.Execution.{Reply, good, check_condition, queue_full, sense_of}
-use Rattle.bus_due.specs.disk_array.specs.ArrayHistory.{array_after, disks_of, reply_of}
-use Rattle.bus_due.specs.bus_trace.specs.LineSet.{line_of}
-use Rattle.bus_due.specs.bus_trace.specs.View.{union_below}
-use Rattle.bus_due.specs.msg_grammar.specs.Messages.{form_out, form_in}
-use Rattle.bus_due.specs.Next.{least}
-use Rattle.bus_due.specs.Run.{run_from, run_by_due}
-use Rattle.bus_due.proofs.Cases.{Shows, shows}
+use Rattle.due_model.specs.bus_base.specs.declared.ProcId.{ProcId}
+use Rattle.due_model.specs.bus_base.specs.declared.AbortKind.TheVariants as aborts
+use Rattle.due_model.specs.bus_base.specs.declared.Event.{Event}
+use Rattle.due_model.specs.bus_base.specs.declared.Event.TheVariants as events
+use Rattle.due_model.specs.bus_base.specs.declared.events.Pick.TheVariants as picks
+use Rattle.due_model.specs.scenario.specs.declared.value.FillDef.{FillDef}
+use Rattle.due_model.specs.scenario.specs.declared.value.UnitDef.{UnitDef}
+use Rattle.due_model.specs.scenario.specs.declared.value.Policy.TheVariants as policies
+use Rattle.due_model.specs.scenario.specs.declared.value.Tag.TheVariants as tags
+use Rattle.due_model.specs.scenario.specs.declared.value.Payload.TheVariants as payloads
+use Rattle.due_model.specs.scenario.specs.Value.{ScenarioValue}
+use Rattle.due_model.specs.scenario.specs.Needs.{need_of, sent_of}
+use Rattle.due_model.specs.array_model.specs.Contents.{Contents, starting_contents, printed_blocks}
+use Rattle.due_model.specs.array_model.specs.Execution.{Reply, good, check_condition, queue_full, sense_of}
+use Rattle.due_model.specs.array_model.specs.ArrayHistory.{array_after, disks_of, reply_of}
+use Rattle.due_model.specs.bus_trace.specs.LineSet.{line_of}
+use Rattle.due_model.specs.bus_trace.specs.View.{union_below}
+use Rattle.due_model.specs.msg_grammar.specs.Messages.{form_out, form_in}
+use Rattle.due_model.specs.Next.{least}
+use Rattle.due_model.specs.Run.{run_from, run_by_due}
+use Rattle.due_model.proofs.Cases.{Shows, shows}
 
 abbrev drive : ℕ → ℕ → ℕ → Row
 drive time dev lines = record { time = time; dev = dev; kind = Drives (set_of lines) }

@@ -1,18 +1,18 @@
 -- What is right of the bytes that were carried, and which commands are valid, computed: each case decides a condition
--- of `bus_story` by what is not so.
+-- of `story_model` by what is not so.
 use Rattle.std.proofs.Common.{ℕ, ◌≡◌, Bool, true, false, List, [], ◌∷◌, refl}
 use Rattle.std.specs.Prelude.{Some, None}
 use lib.Count.{ones}
-use Rattle.bus_due.specs.bus_base.specs.declared.Event.{Event}
-use Rattle.bus_due.specs.bus_base.specs.declared.Event.TheVariants as events
-use Rattle.bus_due.specs.scenario.specs.declared.value.Tag.TheVariants as tags
-use Rattle.bus_due.specs.scenario.specs.Needs.{need_of, sent_of}
-use Rattle.bus_due.specs.disk_array.specs.Processes.{process_of}
-use Rattle.bus_due.specs.disk_array.specs.Execution.{good}
-use Rattle.bus_due.specs.bus_story.specs.CarriedBytes.{Area, CarriedBytes, nothing_carried}
-use Rattle.bus_due.specs.bus_story.specs.Story.{Story, empty_story}
-use Rattle.bus_due.specs.bus_story.specs.Right.{same_bytes, carried_by, is_carried, all_carried}
-use Rattle.bus_due.specs.bus_story.specs.Outcomes.{is_valid}
+use Rattle.due_model.specs.bus_base.specs.declared.Event.{Event}
+use Rattle.due_model.specs.bus_base.specs.declared.Event.TheVariants as events
+use Rattle.due_model.specs.scenario.specs.declared.value.Tag.TheVariants as tags
+use Rattle.due_model.specs.scenario.specs.Needs.{need_of, sent_of}
+use Rattle.due_model.specs.array_model.specs.Processes.{process_of}
+use Rattle.due_model.specs.array_model.specs.Execution.{good}
+use Rattle.due_model.specs.story_model.specs.CarriedBytes.{Area, CarriedBytes, nothing_carried}
+use Rattle.due_model.specs.story_model.specs.Story.{Story, empty_story}
+use Rattle.due_model.specs.story_model.specs.Right.{same_bytes, carried_by, is_carried, all_carried}
+use Rattle.due_model.specs.story_model.specs.Outcomes.{is_valid}
 use Rattle.bus_cases.proofs.ArrayCases.{command, line, test_unit_ready, disks}
 
 no_bytes_and_one : same_bytes [] (1 ∷ []) ≡ false

@@ -3,14 +3,14 @@
 -- tools/rule_cases.txt, whose verdicts come from an independent judge.
 use Rattle.std.proofs.Common.{ℕ, ◌≡◌, [], ◌∷◌, reverse, refl}
 use lib.Count.{ones}
-use Rattle.bus_due.specs.bus_trace.specs.LineSet.{set_of, line_of}
-use Rattle.bus_due.specs.bus_trace.specs.View.{union_below}
-use Rattle.bus_due.specs.bus_trace.specs.declared.Row.{Row}
-use Rattle.bus_due.specs.bus_trace.specs.declared.Kind.TheVariants.{Drives, Fault}
-use Rattle.bus_due.specs.msg_grammar.specs.Messages.{form_out, form_in}
-use Rattle.bus_due.specs.bus_rules.specs.Seen.{seen_with}
-use Rattle.bus_due.specs.bus_rules.specs.Rules.{judged_whole}
-use Rattle.bus_due.specs.bus_rules.specs.declared.verdict.Verdict.TheVariants.{Lawful, Broken}
+use Rattle.due_model.specs.bus_trace.specs.LineSet.{set_of, line_of}
+use Rattle.due_model.specs.bus_trace.specs.View.{union_below}
+use Rattle.due_model.specs.bus_trace.specs.declared.Row.{Row}
+use Rattle.due_model.specs.bus_trace.specs.declared.Kind.TheVariants.{Drives, Fault}
+use Rattle.due_model.specs.msg_grammar.specs.Messages.{form_out, form_in}
+use Rattle.due_model.specs.bus_rules.specs.Seen.{seen_with}
+use Rattle.due_model.specs.bus_rules.specs.Rules.{judged_whole}
+use Rattle.due_model.specs.bus_rules.specs.declared.verdict.Verdict.TheVariants.{Lawful, Broken}
 
 abbrev drive : ℕ → ℕ → ℕ → Row
 drive time dev lines = record { time = time; dev = dev; kind = Drives (set_of lines) }

@@ -1,13 +1,13 @@
 -- Whole runs, computed from their scenarios by what is due, are those of the reports. Written by tools/makers/shown_case.py.
 use Rattle.std.proofs.Common.{◌≡◌, refl}
 use lib.Count.{ones}
-use Rattle.bus_due.specs.bus_trace.specs.LineSet.{line_of}
-use Rattle.bus_due.specs.bus_trace.specs.View.{union_below}
-use Rattle.bus_due.specs.msg_grammar.specs.Messages.{form_out, form_in}
-use Rattle.bus_due.specs.scenario.specs.Needs.{need_of, sent_of}
-use Rattle.bus_due.specs.Next.{least}
-use Rattle.bus_due.specs.Run.{run_from, run_by_due}
-use Rattle.bus_due.proofs.Cases.{shows, absent_unit_due, absent_unit_due_shown, burst_without_tags_due, burst_without_tags_due_shown, command_given_up_due, command_given_up_due_shown, command_struck_twice_due, command_struck_twice_due_shown, complete_struck_due, complete_struck_due_shown, counted_due, counted_due_shown, data_in_given_up_due, data_in_given_up_due_shown, data_out_given_up_due, data_out_given_up_due_shown, delayed_ack_due, delayed_ack_due_shown, device_reset_by_message_due, device_reset_by_message_due_shown, equal_bytes_due, equal_bytes_due_shown, fast_pulses_out_due, fast_pulses_out_due_shown, field_in_a_command_due, field_in_a_command_due_shown, full_queue_due, full_queue_due_shown, given_up_due, given_up_due_shown, held_reselection_due, held_reselection_due_shown, hold_of_a_unit_due, hold_of_a_unit_due_shown, lost_due, lost_due_shown, many_pulses_due, many_pulses_due_shown, offset_255_due, offset_255_due_shown, one_pulse_at_a_time_due, one_pulse_at_a_time_due_shown, opening_given_up_due, opening_given_up_due_shown, ordered_process_due, ordered_process_due_shown, overlapping_resets_due, overlapping_resets_due_shown, own_processes_aborted_due, own_processes_aborted_due_shown, pulsed_read_struck_due, pulsed_read_struck_due_shown, pulsed_write_struck_due, pulsed_write_struck_due_shown, queue_cleared_due, queue_cleared_due_shown, queue_orders_due, queue_orders_due_shown, request_of_a_target_struck_due, request_of_a_target_struck_due_shown, requests_of_a_target_due, requests_of_a_target_due_shown, reselected_id_struck_due, reselected_id_struck_due_shown, reset_in_a_data_phase_due, reset_in_a_data_phase_due_shown, reset_in_a_reselection_due, reset_in_a_reselection_due_shown, reset_in_a_selection_due, reset_in_a_selection_due_shown, selected_id_struck_due, selected_id_struck_due_shown, status_given_up_due, status_given_up_due_shown, status_struck_due, status_struck_due_shown, struck_names_due, struck_names_due_shown, tagged_opening_struck_due, tagged_opening_struck_due_shown, text_two_due, text_two_due_shown, three_contenders_due, three_contenders_due_shown, two_acks_in_one_latency_due, two_acks_in_one_latency_due_shown, wide_offset_with_lag_due, wide_offset_with_lag_due_shown, called_again_for_sense_due, called_again_for_sense_due_shown, failures_due, failures_due_shown, negotiation_due, negotiation_due_shown, read_whole_after_a_part_due, read_whole_after_a_part_due_shown, two_aborts_due, two_aborts_due_shown}
+use Rattle.due_model.specs.bus_trace.specs.LineSet.{line_of}
+use Rattle.due_model.specs.bus_trace.specs.View.{union_below}
+use Rattle.due_model.specs.msg_grammar.specs.Messages.{form_out, form_in}
+use Rattle.due_model.specs.scenario.specs.Needs.{need_of, sent_of}
+use Rattle.due_model.specs.Next.{least}
+use Rattle.due_model.specs.Run.{run_from, run_by_due}
+use Rattle.due_model.proofs.Cases.{shows, absent_unit_due, absent_unit_due_shown, burst_without_tags_due, burst_without_tags_due_shown, command_given_up_due, command_given_up_due_shown, command_struck_twice_due, command_struck_twice_due_shown, complete_struck_due, complete_struck_due_shown, counted_due, counted_due_shown, data_in_given_up_due, data_in_given_up_due_shown, data_out_given_up_due, data_out_given_up_due_shown, delayed_ack_due, delayed_ack_due_shown, device_reset_by_message_due, device_reset_by_message_due_shown, equal_bytes_due, equal_bytes_due_shown, fast_pulses_out_due, fast_pulses_out_due_shown, field_in_a_command_due, field_in_a_command_due_shown, full_queue_due, full_queue_due_shown, given_up_due, given_up_due_shown, held_reselection_due, held_reselection_due_shown, hold_of_a_unit_due, hold_of_a_unit_due_shown, lost_due, lost_due_shown, many_pulses_due, many_pulses_due_shown, offset_255_due, offset_255_due_shown, one_pulse_at_a_time_due, one_pulse_at_a_time_due_shown, opening_given_up_due, opening_given_up_due_shown, ordered_process_due, ordered_process_due_shown, overlapping_resets_due, overlapping_resets_due_shown, own_processes_aborted_due, own_processes_aborted_due_shown, pulsed_read_struck_due, pulsed_read_struck_due_shown, pulsed_write_struck_due, pulsed_write_struck_due_shown, queue_cleared_due, queue_cleared_due_shown, queue_orders_due, queue_orders_due_shown, request_of_a_target_struck_due, request_of_a_target_struck_due_shown, requests_of_a_target_due, requests_of_a_target_due_shown, reselected_id_struck_due, reselected_id_struck_due_shown, reset_in_a_data_phase_due, reset_in_a_data_phase_due_shown, reset_in_a_reselection_due, reset_in_a_reselection_due_shown, reset_in_a_selection_due, reset_in_a_selection_due_shown, selected_id_struck_due, selected_id_struck_due_shown, status_given_up_due, status_given_up_due_shown, status_struck_due, status_struck_due_shown, struck_names_due, struck_names_due_shown, tagged_opening_struck_due, tagged_opening_struck_due_shown, text_two_due, text_two_due_shown, three_contenders_due, three_contenders_due_shown, two_acks_in_one_latency_due, two_acks_in_one_latency_due_shown, wide_offset_with_lag_due, wide_offset_with_lag_due_shown, called_again_for_sense_due, called_again_for_sense_due_shown, failures_due, failures_due_shown, negotiation_due, negotiation_due_shown, read_whole_after_a_part_due, read_whole_after_a_part_due_shown, two_aborts_due, two_aborts_due_shown}
 
 absent_unit_due_run : shows (run_by_due absent_unit_due 139) ≡ absent_unit_due_shown
 unfolding need_of sent_of ones union_below line_of form_out form_in least run_from

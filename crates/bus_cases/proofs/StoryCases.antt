@@ -1,44 +1,46 @@
--- What a trace tells, computed on small stories: each case decides a condition of `bus_story` that no kept run does, by
--- what docs/story.md says of it.
+-- What a trace tells, computed on small stories: each case decides a condition of `story_model` that no kept run does,
+-- by what docs/story.md says of it.
 use Rattle.std.proofs.Common.{ℕ, ◌≡◌, Bool, true, false, List, [], ◌∷◌, reverse, refl}
 use Rattle.std.specs.Prelude.{Option, Some, None, replicate, slice_set, take}
 use lib.Count.{ones}
-use Rattle.bus_due.specs.bus_base.specs.declared.ProcId.{ProcId}
-use Rattle.bus_due.specs.bus_base.specs.declared.AbortKind.TheVariants as aborts
-use Rattle.bus_due.specs.bus_base.specs.declared.events.Pick.TheVariants as picks
-use Rattle.bus_due.specs.bus_phases.specs.declared.spoken.Spoken.{Spoken}
-use Rattle.bus_due.specs.bus_trace.specs.LineSet.{none, set_of, line_of}
-use Rattle.bus_due.specs.bus_trace.specs.View.{union_below}
-use Rattle.bus_due.specs.bus_trace.specs.declared.Row.{Row}
-use Rattle.bus_due.specs.bus_trace.specs.declared.Kind.TheVariants.{Drives}
-use Rattle.bus_due.specs.bus_trace.specs.declared.connection.Connection.{Connection}
-use Rattle.bus_due.specs.bus_trace.specs.declared.selection.Calling.{Calling}
-use Rattle.bus_due.specs.msg_grammar.specs.Messages.{form_out, form_in}
-use Rattle.bus_due.specs.msg_grammar.specs.declared.message.MsgIn.TheVariants as to_initiator
-use Rattle.bus_due.specs.msg_grammar.specs.declared.message.MsgOut.TheVariants as to_target
-use Rattle.bus_due.specs.scenario.specs.declared.value.CmdDef.{CmdDef}
-use Rattle.bus_due.specs.scenario.specs.declared.value.TargetDef.{TargetDef}
-use Rattle.bus_due.specs.scenario.specs.declared.value.Policy.{Policy}
-use Rattle.bus_due.specs.scenario.specs.declared.value.Policy.TheVariants as policies
-use Rattle.bus_due.specs.scenario.specs.declared.value.Tag.{Tag}
-use Rattle.bus_due.specs.scenario.specs.declared.value.Tag.TheVariants as tags
-use Rattle.bus_due.specs.scenario.specs.Value.{ScenarioValue}
-use Rattle.bus_due.specs.scenario.specs.Needs.{need_of}
-use Rattle.bus_due.specs.bus_story.specs.PairAgreements.{agreements_at_end}
-use Rattle.bus_due.specs.bus_story.specs.BusState.{RowReading, quiet_bus, row_reading, bus_state_after}
-use Rattle.bus_due.specs.bus_story.specs.Items.{Item, Sent, command_item, sense_item, item_at, sense_from}
-use Rattle.bus_due.specs.bus_story.specs.CarriedBytes.{CarriedBytes, nothing_carried, carried_of, carried_after_byte}
-use Rattle.bus_due.specs.bus_story.specs.CarriedBytes.{is_whole_block}
-use Rattle.bus_due.specs.bus_story.specs.Links.{Link, plain, abortive, named_item}
-use Rattle.bus_due.specs.bus_story.specs.Story.{Story, by_loss, by_reset, empty_story, is_aborted, with_check}
-use Rattle.bus_due.specs.bus_story.specs.Story.{with_ending}
-use Rattle.bus_due.specs.bus_story.specs.HistoryEvents.{is_completion}
-use Rattle.bus_due.specs.bus_story.specs.TraceHistory.{is_arbitration_entry, story_after_calling_by}
-use Rattle.bus_due.specs.bus_story.specs.TraceHistory.{story_after_connection, story_after_in, story_after_out}
-use Rattle.bus_due.specs.bus_story.specs.CurrentAgreement.{current_agreement}
-use Rattle.bus_due.specs.bus_story.specs.Samples.{Sample, Strike, with_sample, with_strike, kept_samples, samples_on}
-use Rattle.bus_due.specs.bus_story.specs.Samples.{samples_with_ids_of}
-use Rattle.bus_due.specs.bus_story.specs.Budget.{budget}
+use Rattle.due_model.specs.bus_base.specs.declared.ProcId.{ProcId}
+use Rattle.due_model.specs.bus_base.specs.declared.AbortKind.TheVariants as aborts
+use Rattle.due_model.specs.bus_base.specs.declared.events.Pick.TheVariants as picks
+use Rattle.due_model.specs.bus_phases.specs.declared.spoken.Spoken.{Spoken}
+use Rattle.due_model.specs.bus_trace.specs.LineSet.{none, set_of, line_of}
+use Rattle.due_model.specs.bus_trace.specs.View.{union_below}
+use Rattle.due_model.specs.bus_trace.specs.declared.Row.{Row}
+use Rattle.due_model.specs.bus_trace.specs.declared.Kind.TheVariants.{Drives}
+use Rattle.due_model.specs.bus_trace.specs.declared.connection.Connection.{Connection}
+use Rattle.due_model.specs.bus_trace.specs.declared.selection.Calling.{Calling}
+use Rattle.due_model.specs.msg_grammar.specs.Messages.{form_out, form_in}
+use Rattle.due_model.specs.msg_grammar.specs.declared.message.MsgIn.TheVariants as to_initiator
+use Rattle.due_model.specs.msg_grammar.specs.declared.message.MsgOut.TheVariants as to_target
+use Rattle.due_model.specs.scenario.specs.declared.value.CmdDef.{CmdDef}
+use Rattle.due_model.specs.scenario.specs.declared.value.TargetDef.{TargetDef}
+use Rattle.due_model.specs.scenario.specs.declared.value.Policy.{Policy}
+use Rattle.due_model.specs.scenario.specs.declared.value.Policy.TheVariants as policies
+use Rattle.due_model.specs.scenario.specs.declared.value.Tag.{Tag}
+use Rattle.due_model.specs.scenario.specs.declared.value.Tag.TheVariants as tags
+use Rattle.due_model.specs.scenario.specs.Value.{ScenarioValue}
+use Rattle.due_model.specs.scenario.specs.Needs.{need_of}
+use Rattle.due_model.specs.story_model.specs.PairAgreements.{agreements_at_end}
+use Rattle.due_model.specs.story_model.specs.BusState.{RowReading, quiet_bus, row_reading, bus_state_after}
+use Rattle.due_model.specs.story_model.specs.Items.{Item, Sent, command_item, sense_item, item_at, sense_from}
+use Rattle.due_model.specs.story_model.specs.CarriedBytes.{CarriedBytes, nothing_carried, carried_of}
+use Rattle.due_model.specs.story_model.specs.CarriedBytes.{carried_after_byte}
+use Rattle.due_model.specs.story_model.specs.CarriedBytes.{is_whole_block}
+use Rattle.due_model.specs.story_model.specs.Links.{Link, plain, abortive, named_item}
+use Rattle.due_model.specs.story_model.specs.Story.{Story, by_loss, by_reset, empty_story, is_aborted, with_check}
+use Rattle.due_model.specs.story_model.specs.Story.{with_ending}
+use Rattle.due_model.specs.story_model.specs.HistoryEvents.{is_completion}
+use Rattle.due_model.specs.story_model.specs.TraceHistory.{is_arbitration_entry, story_after_calling_by}
+use Rattle.due_model.specs.story_model.specs.TraceHistory.{story_after_connection, story_after_in, story_after_out}
+use Rattle.due_model.specs.story_model.specs.CurrentAgreement.{current_agreement}
+use Rattle.due_model.specs.story_model.specs.Samples.{Sample, Strike, with_sample, with_strike, kept_samples}
+use Rattle.due_model.specs.story_model.specs.Samples.{samples_on}
+use Rattle.due_model.specs.story_model.specs.Samples.{samples_with_ids_of}
+use Rattle.due_model.specs.story_model.specs.Budget.{budget}
 use Rattle.bus_cases.proofs.ArrayCases.{command, line, test_unit_ready, disks}
 use Rattle.bus_cases.proofs.GuardCases.{abort_leaves_the_offer_guard_rows}
 

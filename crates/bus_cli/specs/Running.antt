@@ -2,7 +2,7 @@
 use Rattle.std.specs.Prelude.{ℕ, ◌≡◌, ◌≤◌, ◌+◌, List, Option, Some, None, Result, Ok, Err}
 use Rattle.scenario.specs.Value.{ScenarioValue}
 use Rattle.scenario.specs.Reading.{scenario_of}
-use Rattle.bus_story.specs.Budget.{budget}
+use Rattle.story_model.specs.Budget.{budget}
 use Rattle.run_record.specs.Value.{RunValue}
 use Rattle.bus_engine.specs.Runs.{IsRunOf}
 use Rattle.trace_text.specs.ReportText.{report_of}

@@ -11,20 +11,20 @@ use Rattle.cdb_codec.specs.declared.status.TheConstants.{CHECK_CONDITION}
 use Rattle.scenario.specs.declared.value.CmdDef.{CmdDef}
 use Rattle.scenario.specs.Value.{ScenarioValue}
 use Rattle.scenario.specs.Writing.{Obeys}
-use Rattle.disk_array.specs.ArrayHistory.{array_after}
-use Rattle.disk_array.specs.Processes.{command_at, process_by, process_if}
-use Rattle.disk_array.specs.Units.{Array}
-use Rattle.bus_due.specs.bus_story.specs.Outcomes.{Outcome, ending_of, has_end, outcome_if, outcome_of, outcomes}
-use Rattle.bus_due.specs.bus_story.specs.Outcomes.{outcomes_from}
-use Rattle.bus_due.specs.bus_story.specs.Story.{Ending, Story, by_abort, by_loss, by_reset, by_status, unanswered}
-use Rattle.bus_due.specs.bus_story.specs.Right.{all_carried}
-use Rattle.bus_due.specs.bus_story.specs.TraceHistory.{story, trace_history}
-use Rattle.bus_due.specs.bus_story.specs.Items.{sense_id, command_id}
-use Rattle.bus_due.specs.Next.{IsEnded, IsPrompt}
-use Rattle.bus_due.specs.Plain.{IsPlain}
-use Rattle.bus_due.specs.RunState.{RunState, array_of, or_start}
-use Rattle.bus_due.specs.RunSteps.{run_state}
-use Rattle.bus_due.proofs.Plains.{run_state_plain}
+use Rattle.array_model.specs.ArrayHistory.{array_after}
+use Rattle.array_model.specs.Processes.{command_at, process_by, process_if}
+use Rattle.array_model.specs.Units.{Array}
+use Rattle.due_model.specs.story_model.specs.Outcomes.{Outcome, ending_of, has_end, outcome_if, outcome_of, outcomes}
+use Rattle.due_model.specs.story_model.specs.Outcomes.{outcomes_from}
+use Rattle.due_model.specs.story_model.specs.Story.{Ending, Story, by_abort, by_loss, by_reset, by_status, unanswered}
+use Rattle.due_model.specs.story_model.specs.Right.{all_carried}
+use Rattle.due_model.specs.story_model.specs.TraceHistory.{story, trace_history}
+use Rattle.due_model.specs.story_model.specs.Items.{sense_id, command_id}
+use Rattle.due_model.specs.Next.{IsEnded, IsPrompt}
+use Rattle.due_model.specs.Plain.{IsPlain}
+use Rattle.due_model.specs.RunState.{RunState, array_of, or_start}
+use Rattle.due_model.specs.RunSteps.{run_state}
+use Rattle.due_model.proofs.Plains.{run_state_plain}
 use Rattle.delivery_laws.specs.progress_laws.proofs.Outcomes.Facts.{answered_when_ended}
 use Rattle.delivery_laws.specs.progress_laws.proofs.Debts.Facts.{Indebted, indebted}
 use Rattle.delivery_laws.specs.progress_laws.proofs.Quiet.Facts.{Joined, free_when_ended, unwanted_when_ended}

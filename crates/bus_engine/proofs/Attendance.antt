@@ -14,19 +14,20 @@ use Rattle.bus_trace.specs.Terms.{connection}
 use Rattle.bus_trace.specs.Trace.{bus}
 use Rattle.cdb_codec.specs.declared.status.TheConstants.{GOOD}
 use Rattle.scenario.specs.Value.{ScenarioValue}
-use Rattle.disk_array.specs.Processes.{Process}
-use Rattle.disk_array.specs.ArrayHistory.{shows_run}
-use Rattle.bus_due.specs.bus_story.specs.BusState.{RowReading, row_reading}
-use Rattle.bus_due.specs.bus_story.specs.Items.{Item, process}
-use Rattle.bus_due.specs.Next.{IsPrompt}
-use Rattle.bus_due.specs.Plain.{AreOfDevices, IsPlain}
-use Rattle.bus_due.specs.RunState.{RunState, array_of, process_served}
-use Rattle.bus_due.specs.RunSteps.{run_state, events_of_row}
-use Rattle.bus_due.specs.Tasks.{is_writing}
-use Rattle.bus_due.proofs.Plains.{run_state_plain, of_devices}
+use Rattle.array_model.specs.Processes.{Process}
+use Rattle.array_model.specs.ArrayHistory.{shows_run}
+use Rattle.due_model.specs.story_model.specs.BusState.{RowReading, row_reading}
+use Rattle.due_model.specs.story_model.specs.Items.{Item, process}
+use Rattle.due_model.specs.Next.{IsPrompt}
+use Rattle.due_model.specs.Plain.{AreOfDevices, IsPlain}
+use Rattle.due_model.specs.RunState.{RunState, array_of, process_served}
+use Rattle.due_model.specs.RunSteps.{run_state, events_of_row}
+use Rattle.due_model.specs.Tasks.{is_writing}
+use Rattle.due_model.proofs.Plains.{run_state_plain, of_devices}
 use Rattle.delivery_laws.specs.scsi_device.specs.Heard.{Instructions, instructions, is_opening}
 use Rattle.delivery_laws.specs.scsi_device.specs.Writes.{Writer, is_writer, writer_of, writers}
-use Rattle.disk_target.specs.Attended.{are_in, are_known_ends, attended, came, ends_good, is_abort_in, is_attended}
+use Rattle.disk_target.specs.Attended.{are_in, are_known_ends, attended, received_count, ends_good, is_abort_in}
+use Rattle.disk_target.specs.Attended.{is_attended}
 use Rattle.disk_target.specs.Attended.{is_attended_if, is_attended_in, is_calm_turn, is_known_end, is_of_item, is_quiet}
 use Rattle.disk_target.specs.Attended.{is_unseen, is_whole_of, is_whole_run}
 use Rattle.delivery_laws.specs.book_laws.proofs.Common.Lookups.{self_id}
@@ -39,7 +40,7 @@ use Rattle.delivery_laws.specs.story_laws.specs.RowAttendance.{IsAttended, IsCal
 use Rattle.delivery_laws.specs.trace_laws.proofs.Runs.Whole.{sent_all}
 use Rattle.std.proofs.lemmas.Bool.{or_right, and_from, lt-ltb, eq-eqb}
 use Rattle.bus_base.proofs.Tests.{wrong, or_true, implication, unless, or_middle}
-use Rattle.bus_due.specs.bus_dialogue.specs.Events.{is_empty}
+use Rattle.due_model.specs.dialogue_model.specs.Events.{is_empty}
 
 -- ---- its events
 
@@ -117,8 +118,9 @@ quiet s rows row n h = go n.reselected refl (is_opening k) refl next refl
 whole_is : (s : ScenarioValue) (k : RunState) (all : List Writer) (p : Process) → IsWhole s k all p
     → is_whole_run s k all (Some p) ≡ true
 whole_is s k all p (ends_badly e) = λ i. not (e i) || is_whole_of s k all p
-whole_is s k all p (sends_none e) = or_right (not (ends_good (array_of s k) p)) (is_whole_of s k all p) (λ i. e i == 0
-    || (is_writing p && (is_writer (writer_of all p.target p.unit) p.id && nat_le (length p.sent) (came s k p))))
+whole_is s k all p (sends_none e) =
+    or_right (not (ends_good (array_of s k) p)) (is_whole_of s k all p) (λ i. e i == 0 || (is_writing p
+    && (is_writer (writer_of all p.target p.unit) p.id && nat_le (length p.sent) (received_count s k p))))
 whole_is s k all p (sends_all h) = or_right (not (ends_good (array_of s k) p)) (is_whole_of s k all p)
     (or_right (length p.sent == 0) _ (sent_all s k all p h))
 

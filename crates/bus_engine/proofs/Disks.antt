@@ -7,10 +7,10 @@ use Rattle.std.proofs.lemmas.Bool.{and_parts, true≢false, eqb-true}
 use Rattle.std.proofs.lemmas.List.{map-append}
 use Rattle.scenario.specs.declared.value.UnitDef.{UnitDef}
 use Rattle.scenario.specs.Value.{ScenarioValue}
-use Rattle.disk_array.specs.ArrayHistory.{unit_contents}
-use Rattle.disk_array.specs.Contents.{Contents}
-use Rattle.disk_array.specs.SoundArray.{AreApart}
-use Rattle.disk_array.specs.Units.{UnitState, unit_state_at, starting_unit, starting_units}
+use Rattle.array_model.specs.ArrayHistory.{unit_contents}
+use Rattle.array_model.specs.Contents.{Contents}
+use Rattle.array_model.specs.SoundArray.{AreApart}
+use Rattle.array_model.specs.Units.{UnitState, unit_state_at, starting_unit, starting_units}
 use Rattle.disk_unit.specs.Sparse.{Store}
 use Rattle.delivery_laws.specs.target_units.specs.Units.{UnitsState, state_contents}
 use Rattle.run_record.specs.Value.{held_by}

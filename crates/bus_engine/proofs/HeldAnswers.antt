@@ -4,16 +4,16 @@ use Rattle.std.specs.Prelude.{◌&&◌, ◌||◌, not, if◌then◌else◌}
 use Rattle.std.proofs.lemmas.Bool.{and_parts}
 use Rattle.scenario.specs.declared.value.CmdDef.{CmdDef}
 use Rattle.scenario.specs.Value.{ScenarioValue}
-use Rattle.bus_due.specs.bus_story.specs.Outcomes.{ending_of, has_end, outcome_of}
-use Rattle.bus_due.specs.bus_story.specs.Story.{Story}
-use Rattle.bus_due.specs.bus_story.specs.Items.{sense_id, command_id}
+use Rattle.due_model.specs.story_model.specs.Outcomes.{ending_of, has_end, outcome_of}
+use Rattle.due_model.specs.story_model.specs.Story.{Story}
+use Rattle.due_model.specs.story_model.specs.Items.{sense_id, command_id}
 use Rattle.initiator.specs.declared.endings.CommandEnd.{CommandEnd}
 use Rattle.initiator.specs.declared.endings.Ending.{Ending}
 use Rattle.initiator.specs.declared.endings.Ending.TheVariants.{Status, Loss, Reset, Abort, Unanswered}
 use Rattle.initiator.specs.Endings.{IsEndOf, told_ending_if}
 use Rattle.initiator.specs.Outcomes as own
 use Rattle.initiator.specs.Outcomes.{are_replies, is_reply_of, settled_outcome}
-use Rattle.bus_engine.specs.Answers.{is_settled, is_good, is_reply, is_answered, sense_is_over, came}
+use Rattle.bus_engine.specs.Answers.{is_settled, is_good, is_reply, is_answered, sense_is_over, received_bytes}
 
 settled_same : (e : Option Ending) (sensed over : Bool)
     → own.is_settled_if e sensed over ≡ is_settled (told_ending_if e) sensed over
@@ -39,8 +39,8 @@ pub record IsAnswered (s : ScenarioValue) (b : Story) (n : ℕ) (x : CommandEnd)
 
 pub answered :
     (s : ScenarioValue) (b : Story) (n : ℕ) (c : CmdDef) (x : CommandEnd) (over : Bool) (bytes sense : List ℕ)
-    → IsEndOf b n x → over ≡ sense_is_over s b n c → bytes ≡ came s b c (command_id n) → sense ≡ came s b c (sense_id n)
-    → is_answered s b n c ≡ true → IsAnswered s b n x over bytes sense
+    → IsEndOf b n x → over ≡ sense_is_over s b n c → bytes ≡ received_bytes s b c (command_id n)
+    → sense ≡ received_bytes s b c (sense_id n) → is_answered s b n c ≡ true → IsAnswered s b n x over bytes sense
 answered s b n c x over bytes sense e o brought more h =
     let one = and_parts (is_settled (ending_of b.ended n) (has_end b.history (sense_id n)) (sense_is_over s b n c))
     ((not (is_good (ending_of b.ended n)) || is_reply s b c (command_id n))

@@ -4,10 +4,10 @@ use Rattle.std.specs.Prelude.{◌==◌}
 use Rattle.bus_base.specs.declared.ProcId.{ProcId}
 use Rattle.bus_trace.specs.declared.Row.{Row}
 use Rattle.scenario.specs.Value.{ScenarioValue}
-use Rattle.bus_due.specs.bus_story.specs.Items.{Item}
-use Rattle.bus_due.specs.RunState.{item_of}
-use Rattle.bus_due.specs.RunSteps.{run_state}
-use Rattle.bus_due.specs.Telling.{id_of, id_or_none}
+use Rattle.due_model.specs.story_model.specs.Items.{Item}
+use Rattle.due_model.specs.RunState.{item_of}
+use Rattle.due_model.specs.RunSteps.{run_state}
+use Rattle.due_model.specs.Telling.{id_of, id_or_none}
 use Rattle.disk_target.specs.target_course.specs.Courses.{IsLabelOf}
 use Rattle.bus_run.specs.Label.{process_known}
 

@@ -8,15 +8,15 @@ use Rattle.bus_trace.specs.declared.Row.{Row}
 use Rattle.scenario.specs.declared.value.TargetDef.{TargetDef}
 use Rattle.scenario.specs.declared.value.UnitDef.{UnitDef}
 use Rattle.scenario.specs.Value.{ScenarioValue}
-use Rattle.disk_array.specs.ArrayHistory.{array_after, disks_of, unit_contents}
-use Rattle.disk_array.specs.SoundArray.{IsSound}
-use Rattle.disk_array.specs.Units.{Array, unit_state_at}
-use Rattle.bus_due.specs.Allowed.{allowed}
-use Rattle.bus_due.specs.Defs.{target_def_of}
-use Rattle.bus_due.specs.Plain.{IsPlain}
-use Rattle.bus_due.specs.RunState.{or_start, array_of}
-use Rattle.bus_due.specs.RunSteps.{run_state}
-use Rattle.bus_due.specs.bus_story.specs.TraceHistory.{trace_history}
+use Rattle.array_model.specs.ArrayHistory.{array_after, disks_of, unit_contents}
+use Rattle.array_model.specs.SoundArray.{IsSound}
+use Rattle.array_model.specs.Units.{Array, unit_state_at}
+use Rattle.due_model.specs.Allowed.{allowed}
+use Rattle.due_model.specs.Defs.{target_def_of}
+use Rattle.due_model.specs.Plain.{IsPlain}
+use Rattle.due_model.specs.RunState.{or_start, array_of}
+use Rattle.due_model.specs.RunSteps.{run_state}
+use Rattle.due_model.specs.story_model.specs.TraceHistory.{trace_history}
 use Rattle.delivery_laws.specs.scsi_device.specs.Lines.{IsUnitLine, FitsBus}
 use Rattle.delivery_laws.specs.target_units.specs.Units.{UnitsState, AreUnitsOf, unit_in, contents_in, state_contents}
 use Rattle.delivery_laws.specs.target_units.specs.declared.logical.LogicalUnit.{LogicalUnit}

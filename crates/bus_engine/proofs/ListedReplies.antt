@@ -17,14 +17,14 @@ use Rattle.scenario.specs.Lookups.{has_target, unit_of}
 use Rattle.scenario.specs.Value.{ScenarioValue}
 use Rattle.scenario.specs.Writing.{Obeys}
 use Rattle.scenario.specs.declared.value.CmdDef.{CmdDef}
-use Rattle.disk_array.specs.ArrayHistory.{array_after, array_step, reply_in}
-use Rattle.disk_array.specs.Execution.{CommandContext, Reply, check_condition, execution, queue_full, sense_of}
-use Rattle.disk_array.specs.Processes.{Process, command_at, process_of, same_id, sense_block}
-use Rattle.disk_array.specs.Units.{Array, RunningProcess, UnitState, guest_at, is_held, nexus_of, unit_state_at}
-use Rattle.disk_array.specs.SoundArray.{IsSound}
-use Rattle.disk_array.proofs.SoundArrays.{history_sound}
-use Rattle.disk_array.proofs.ArrayReplies.{abort_lists, fail_lists, loss_lists, reset_lists, took, end_lists}
-use Rattle.bus_due.specs.bus_story.specs.Right.{has_run, is_run_of}
+use Rattle.array_model.specs.ArrayHistory.{array_after, array_step, reply_in}
+use Rattle.array_model.specs.Execution.{CommandContext, Reply, check_condition, execution, queue_full, sense_of}
+use Rattle.array_model.specs.Processes.{Process, command_at, process_of, same_id, sense_block}
+use Rattle.array_model.specs.Units.{Array, RunningProcess, UnitState, guest_at, is_held, nexus_of, unit_state_at}
+use Rattle.array_model.specs.SoundArray.{IsSound}
+use Rattle.array_model.proofs.SoundArrays.{history_sound}
+use Rattle.array_model.proofs.ArrayReplies.{abort_lists, fail_lists, loss_lists, reset_lists, took, end_lists}
+use Rattle.due_model.specs.story_model.specs.Right.{has_run, is_run_of}
 use Rattle.delivery_laws.specs.book_laws.proofs.Common.Lookups.{id_is}
 use Rattle.delivery_laws.specs.row_laws.proofs.Events.Replies.{accepted, refused, settles, running_id}
 use Rattle.delivery_laws.specs.row_laws.proofs.Events.Others.{executed, reply_at}
@@ -39,9 +39,9 @@ use Rattle.initiator.specs.Received.{data_room}
 use Rattle.delivery_laws.specs.right_laws.proofs.Ran.Lengths.{given_few, most_given, none_few}
 use Rattle.bus_engine.proofs.ReplyRooms.{room_there}
 use Rattle.delivery_laws.proofs.Replies.Senses.{execution_known, is_known}
-use Rattle.disk_array.proofs.ExecutionFacts.{sense_fetched}
+use Rattle.array_model.proofs.ExecutionFacts.{sense_fetched}
 use Rattle.bus_base.specs.declared.Event.TheVariants as events
-use Rattle.disk_array.specs.Steps
+use Rattle.array_model.specs.Steps
 
 -- ---- what a command answers as it runs
 

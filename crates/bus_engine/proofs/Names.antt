@@ -13,23 +13,24 @@ use Rattle.cdb_codec.specs.declared.status.TheConstants.{GOOD, CHECK_CONDITION}
 use Rattle.cdb_codec.specs.declared.sense.TheConstants.{ABORTED_COMMAND}
 use Rattle.scenario.specs.declared.value.UnitDef.{UnitDef}
 use Rattle.scenario.specs.Value.{ScenarioValue}
-use Rattle.disk_array.specs.Contents.{Contents}
-use Rattle.disk_array.specs.Execution.{Reply, Execution, execution, is_request_sense, queue_full, check_condition}
-use Rattle.disk_array.specs.Execution.{sense_of}
-use Rattle.disk_array.specs.Order.{choice}
-use Rattle.disk_array.specs.Processes.{Process, process_of}
-use Rattle.disk_array.specs.Steps.{process_count, with_guest, with_listed_reply, queue_step, accept_step_at}
-use Rattle.disk_array.specs.Steps.{accept_step, refuse_step_at, refuse_step, context_at, with_contents}
-use Rattle.disk_array.specs.Steps.{without_attention, units_with_reply, with_reply, running_process, after_execution}
-use Rattle.disk_array.specs.Steps.{run_step, is_waiting, has_ended, fail_step_of_new, fail_step, units_without}
-use Rattle.disk_array.specs.Steps.{array_without, after_status, end_step_with, end_step, loss_step, kept_units}
-use Rattle.disk_array.specs.Steps.{without_dropped, is_of_unit, has_tag, unit_processes, kept_nexuses, kept_senses}
-use Rattle.disk_array.specs.Steps.{abort_step, reset_step, event_step, settled_array_if, step}
-use Rattle.disk_array.specs.Units.{RunningProcess, UnitState, Nexus, Array, senses_without, nexuses_without}
-use Rattle.disk_array.specs.Units.{unit_state_at, with_unit, guest_at, nexus_of, is_held, has_no_current, with_current}
-use Rattle.disk_array.specs.Units.{unit_after_choice, units_after_choice, settled_array, starting_units, starting_array}
-use Rattle.disk_array.specs.ArrayHistory.{array_step, array_after}
-use Rattle.disk_array.proofs.ArrayUnits.{cleared_units, unit_reset_units}
+use Rattle.array_model.specs.Contents.{Contents}
+use Rattle.array_model.specs.Execution.{Reply, Execution, execution, is_request_sense, queue_full, check_condition}
+use Rattle.array_model.specs.Execution.{sense_of}
+use Rattle.array_model.specs.Order.{choice}
+use Rattle.array_model.specs.Processes.{Process, process_of}
+use Rattle.array_model.specs.Steps.{process_count, with_guest, with_listed_reply, queue_step, accept_step_at}
+use Rattle.array_model.specs.Steps.{accept_step, refuse_step_at, refuse_step, context_at, with_contents}
+use Rattle.array_model.specs.Steps.{without_attention, units_with_reply, with_reply, running_process, after_execution}
+use Rattle.array_model.specs.Steps.{run_step, is_waiting, has_ended, fail_step_of_new, fail_step, units_without}
+use Rattle.array_model.specs.Steps.{array_without, after_status, end_step_with, end_step, loss_step, kept_units}
+use Rattle.array_model.specs.Steps.{without_dropped, is_of_unit, has_tag, unit_processes, kept_nexuses, kept_senses}
+use Rattle.array_model.specs.Steps.{abort_step, reset_step, event_step, settled_array_if, step}
+use Rattle.array_model.specs.Units.{RunningProcess, UnitState, Nexus, Array, senses_without, nexuses_without}
+use Rattle.array_model.specs.Units.{unit_state_at, with_unit, guest_at, nexus_of, is_held, has_no_current, with_current}
+use Rattle.array_model.specs.Units.{unit_after_choice, units_after_choice, settled_array, starting_units}
+use Rattle.array_model.specs.Units.{starting_array}
+use Rattle.array_model.specs.ArrayHistory.{array_step, array_after}
+use Rattle.array_model.proofs.ArrayUnits.{cleared_units, unit_reset_units}
 
 abbrev pub names : List UnitState → List (ℕ × ℕ)
 names [] = []

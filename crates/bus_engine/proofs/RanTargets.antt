@@ -8,15 +8,15 @@ use Rattle.bus_trace.specs.Terms.{connection}
 use Rattle.scenario.specs.Lookups.{has_target}
 use Rattle.scenario.specs.Value.{ScenarioValue}
 use Rattle.scenario.specs.Writing.{Obeys}
-use Rattle.disk_array.specs.Processes.{Process, process_of}
-use Rattle.bus_due.specs.bus_story.specs.BusState.{row_reading}
-use Rattle.bus_due.specs.bus_story.specs.HistoryEvents.{row_events_by}
-use Rattle.bus_due.specs.bus_story.specs.Right.{has_run}
-use Rattle.bus_due.specs.Next.{IsPrompt}
-use Rattle.bus_due.specs.Plain.{IsPlain}
-use Rattle.bus_due.specs.RunState.{RunState}
-use Rattle.bus_due.specs.RunSteps.{run_state}
-use Rattle.bus_due.proofs.Plains.{run_state_plain}
+use Rattle.array_model.specs.Processes.{Process, process_of}
+use Rattle.due_model.specs.story_model.specs.BusState.{row_reading}
+use Rattle.due_model.specs.story_model.specs.HistoryEvents.{row_events_by}
+use Rattle.due_model.specs.story_model.specs.Right.{has_run}
+use Rattle.due_model.specs.Next.{IsPrompt}
+use Rattle.due_model.specs.Plain.{IsPlain}
+use Rattle.due_model.specs.RunState.{RunState}
+use Rattle.due_model.specs.RunSteps.{run_state}
+use Rattle.due_model.proofs.Plains.{run_state_plain}
 use Rattle.delivery_laws.specs.trace_laws.proofs.Whole.{Whole, whole}
 use Rattle.delivery_laws.specs.right_laws.proofs.Ran.Crossings.{GoesSo, here_goes, known_served}
 use Rattle.delivery_laws.specs.right_laws.proofs.Ran.Sent.{answer_of}

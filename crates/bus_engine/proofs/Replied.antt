@@ -15,17 +15,18 @@ use Rattle.scenario.specs.declared.value.CmdDef.{CmdDef}
 use Rattle.scenario.specs.Lookups.{has_target}
 use Rattle.scenario.specs.Needs.{is_write, need_of}
 use Rattle.scenario.specs.Value.{ScenarioValue}
-use Rattle.disk_array.specs.ArrayHistory.{array_after, reply_in, reply_of}
-use Rattle.disk_array.specs.Execution.{Reply}
-use Rattle.disk_array.specs.Processes.{Process, command_at, process_by, process_if, process_of, same_id}
-use Rattle.bus_due.specs.bus_story.specs.CarriedBytes.{CarriedBytes, carried_of}
-use Rattle.bus_due.specs.bus_story.specs.Outcomes.{ending_of, has_end, reply_bytes_if}
-use Rattle.bus_due.specs.bus_story.specs.Right.{all_carried, carried_by, has_run, is_carried, moved_bytes, same_bytes}
-use Rattle.bus_due.specs.bus_story.specs.Story.{Ending, Story, by_abort, by_loss, by_reset, by_status, unanswered}
-use Rattle.bus_due.specs.bus_story.specs.Items.{sense_id, command_id}
-use Rattle.bus_due.specs.RunState.{RunState, array_of}
+use Rattle.array_model.specs.ArrayHistory.{array_after, reply_in, reply_of}
+use Rattle.array_model.specs.Execution.{Reply}
+use Rattle.array_model.specs.Processes.{Process, command_at, process_by, process_if, process_of, same_id}
+use Rattle.due_model.specs.story_model.specs.CarriedBytes.{CarriedBytes, carried_of}
+use Rattle.due_model.specs.story_model.specs.Outcomes.{ending_of, has_end, reply_bytes_if}
+use Rattle.due_model.specs.story_model.specs.Right.{all_carried, carried_by, has_run, is_carried, moved_bytes}
+use Rattle.due_model.specs.story_model.specs.Right.{same_bytes}
+use Rattle.due_model.specs.story_model.specs.Story.{Ending, Story, by_abort, by_loss, by_reset, by_status, unanswered}
+use Rattle.due_model.specs.story_model.specs.Items.{sense_id, command_id}
+use Rattle.due_model.specs.RunState.{RunState, array_of}
 use Rattle.delivery_laws.specs.book_laws.proofs.Common.Lookups.{id_is}
-use Rattle.bus_due.specs.bus_story.proofs.SameBytes.{bytes_are}
+use Rattle.due_model.specs.story_model.proofs.SameBytes.{bytes_are}
 use Rattle.delivery_laws.specs.right_laws.proofs.Ran.Carried.{same_is}
 use Rattle.initiator.specs.Causes.{has_status, is_status_of}
 use Rattle.initiator.specs.Received.{room_of}

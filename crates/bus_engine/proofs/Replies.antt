@@ -5,9 +5,9 @@ use Rattle.std.proofs.lemmas.Bool.{and_parts}
 use Rattle.std.proofs.lemmas.List.{map-append}
 use Rattle.scenario.specs.declared.value.CmdDef.{CmdDef}
 use Rattle.scenario.specs.Value.{ScenarioValue}
-use Rattle.disk_array.specs.Processes.{command_at}
-use Rattle.bus_due.specs.bus_story.specs.Outcomes.{outcome_of, outcomes_from, outcomes}
-use Rattle.bus_due.specs.bus_story.specs.Story.{Story}
+use Rattle.array_model.specs.Processes.{command_at}
+use Rattle.due_model.specs.story_model.specs.Outcomes.{outcome_of, outcomes_from, outcomes}
+use Rattle.due_model.specs.story_model.specs.Story.{Story}
 use Rattle.run_record.specs.declared.outcome.Outcome.{Outcome}
 use Rattle.bus_engine.specs.Answers.{is_answered, are_answered_from}
 use Rattle.bus_engine.specs.Runs.{told_reply}

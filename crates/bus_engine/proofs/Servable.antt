@@ -3,7 +3,7 @@ use Rattle.std.proofs.Common.{◌≡◌, true, List, arith}
 use Rattle.bus_trace.specs.declared.Row.{Row}
 use Rattle.scenario.specs.Value.{ScenarioValue}
 use Rattle.disk_target.specs.Targets.{AreTied, AreInTime}
-use Rattle.bus_due.specs.bus_dialogue.specs.Observer.{ObserverValue}
+use Rattle.due_model.specs.dialogue_model.specs.Observer.{ObserverValue}
 use Rattle.bus_run.specs.Seen.{AreSeen}
 use Rattle.bus_run.specs.Seams.{seams}
 use Rattle.bus_run.proofs.Seams as run

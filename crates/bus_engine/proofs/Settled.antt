@@ -12,11 +12,11 @@ use Rattle.cdb_codec.specs.declared.status.TheConstants.{CHECK_CONDITION, GOOD, 
 use Rattle.scenario.specs.declared.value.CmdDef.{CmdDef}
 use Rattle.scenario.specs.Value.{ScenarioValue}
 use Rattle.scenario.specs.Writing.{Obeys}
-use Rattle.disk_array.specs.Processes.{command_at}
-use Rattle.bus_due.specs.bus_story.specs.Items.{Sent, has_item, sense_item}
-use Rattle.bus_due.specs.RunState.{RunState}
-use Rattle.bus_due.specs.bus_dialogue.specs.Wants.{OwnCommand}
-use Rattle.bus_due.specs.Wants.{own_command, own_commands}
+use Rattle.array_model.specs.Processes.{command_at}
+use Rattle.due_model.specs.story_model.specs.Items.{Sent, has_item, sense_item}
+use Rattle.due_model.specs.RunState.{RunState}
+use Rattle.due_model.specs.dialogue_model.specs.Wants.{OwnCommand}
+use Rattle.due_model.specs.Wants.{own_command, own_commands}
 use Rattle.delivery_laws.specs.row_laws.specs.ItemFacts.{Items}
 use Rattle.delivery_laws.specs.row_laws.proofs.Common.Impossible.{none_some}
 use Rattle.delivery_laws.specs.row_laws.proofs.Common.Tests.{plus_one}

@@ -8,7 +8,7 @@ use Rattle.scenario.specs.declared.value.UnitDef.{UnitDef}
 use Rattle.scenario.specs.Value.{ScenarioValue}
 use Rattle.scenario.specs.Lookups.{has_target}
 use Rattle.scenario.specs.Writing.{Obeys}
-use Rattle.bus_due.specs.Defs.{target_def_of}
+use Rattle.due_model.specs.Defs.{target_def_of}
 use Rattle.delivery_laws.specs.right_laws.proofs.Replies.Targeted.{is_there, are_targeted}
 use Rattle.bus_engine.specs.Disks.{have_targets}
 

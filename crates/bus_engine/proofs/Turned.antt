@@ -5,8 +5,8 @@ use Rattle.bus_trace.specs.declared.Row.{Row}
 use Rattle.bus_trace.specs.declared.connection.Connection.{Connection}
 use Rattle.bus_trace.specs.Phases.{changes_phase}
 use Rattle.scenario.specs.Value.{ScenarioValue}
-use Rattle.bus_due.specs.RunSteps.{run_state}
-use Rattle.bus_due.specs.Telling.{target_events}
+use Rattle.due_model.specs.RunSteps.{run_state}
+use Rattle.due_model.specs.Telling.{target_events}
 use Rattle.disk_target.specs.target_course.specs.Courses.{events_of_target}
 use Rattle.bus_run.specs.Shown.{reading, is_left}
 use Rattle.bus_run.proofs.Rows.{IsRead}

@@ -4,16 +4,16 @@ use Rattle.std.proofs.Common.{◌≡◌, Bool, true, false, List, [], ◌∷◌,
 use Rattle.std.specs.Prelude.{if◌then◌else◌}
 use Rattle.std.proofs.lemmas.Bool.{and_from}
 use Rattle.bus_trace.specs.declared.Row.{Row}
-use Rattle.bus_due.specs.msg_grammar.specs.declared.message.MsgOut.{MsgOut}
+use Rattle.due_model.specs.msg_grammar.specs.declared.message.MsgOut.{MsgOut}
 use Rattle.scenario.specs.Value.{ScenarioValue}
 use Rattle.scenario.specs.Writing.{Obeys}
-use Rattle.bus_due.specs.bus_story.specs.BusState.{row_reading}
-use Rattle.bus_due.specs.bus_story.specs.CarriedBytes.{CarriedBytes}
-use Rattle.bus_due.specs.bus_story.specs.Links.{Link}
-use Rattle.bus_due.specs.bus_story.specs.TraceHistory.{is_parity_error}
-use Rattle.bus_due.specs.Next.{IsPrompt}
-use Rattle.bus_due.specs.RunState.{RunState}
-use Rattle.bus_due.specs.RunSteps.{run_state}
+use Rattle.due_model.specs.story_model.specs.BusState.{row_reading}
+use Rattle.due_model.specs.story_model.specs.CarriedBytes.{CarriedBytes}
+use Rattle.due_model.specs.story_model.specs.Links.{Link}
+use Rattle.due_model.specs.story_model.specs.TraceHistory.{is_parity_error}
+use Rattle.due_model.specs.Next.{IsPrompt}
+use Rattle.due_model.specs.RunState.{RunState}
+use Rattle.due_model.specs.RunSteps.{run_state}
 use Rattle.delivery_laws.specs.trace_laws.proofs.Whole.{Whole, standing_next, whole}
 use Rattle.delivery_laws.specs.right_laws.specs.Loads.{Load, UndoesLoads}
 use Rattle.delivery_laws.specs.right_laws.proofs.Ran.Carried.{same_is}

@@ -5,10 +5,10 @@ use Rattle.bus_trace.specs.declared.Row.{Row}
 use Rattle.cdb_codec.specs.declared.status.TheConstants.{GOOD, QUEUE_FULL}
 use Rattle.scenario.specs.declared.value.CmdDef.{CmdDef}
 use Rattle.scenario.specs.Value.{ScenarioValue}
-use Rattle.bus_due.specs.bus_story.specs.Outcomes.{ending_of, has_end}
-use Rattle.bus_due.specs.bus_story.specs.Story.{Ending, by_status, by_loss, by_reset, by_abort, unanswered, Story}
-use Rattle.bus_due.specs.bus_story.specs.Items.{sense_id, command_id}
-use Rattle.bus_due.specs.RunSteps.{run_state}
+use Rattle.due_model.specs.story_model.specs.Outcomes.{ending_of, has_end}
+use Rattle.due_model.specs.story_model.specs.Story.{Ending, by_status, by_loss, by_reset, by_abort, unanswered, Story}
+use Rattle.due_model.specs.story_model.specs.Items.{sense_id, command_id}
+use Rattle.due_model.specs.RunSteps.{run_state}
 use Rattle.initiator.specs.Books.{my_book}
 use Rattle.initiator.specs.Openings.{mine_at}
 use Rattle.initiator.specs.Outcomes.{is_reply_of, is_sense_over}
@@ -41,11 +41,11 @@ is_good (Some (by_status status)) = status == GOOD
 is_good (Some _) = false
 
 -- The bytes that came, as far as the initiator has room for them.
-abbrev pub came : ScenarioValue → Story → CmdDef → ProcId → List ℕ
-came s b c id = take (room_of s c id.sense) (moved_of b id).bytes
+abbrev pub received_bytes : ScenarioValue → Story → CmdDef → ProcId → List ℕ
+received_bytes s b c id = take (room_of s c id.sense) (moved_of b id).bytes
 
 abbrev pub is_reply : ScenarioValue → Story → CmdDef → ProcId → Bool
-is_reply s b c id = is_reply_of s b.history id (came s b c id)
+is_reply s b c id = is_reply_of s b.history id (received_bytes s b c id)
 
 abbrev pub is_replied : ScenarioValue → Story → ℕ → CmdDef → Bool
 is_replied s b n c =

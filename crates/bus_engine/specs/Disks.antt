@@ -5,8 +5,8 @@ use Rattle.std.specs.List.{AllByRecursion, list_all}
 use Rattle.bus_trace.specs.declared.Row.{Row}
 use Rattle.scenario.specs.declared.value.UnitDef.{UnitDef}
 use Rattle.scenario.specs.Value.{ScenarioValue}
-use Rattle.disk_array.specs.Contents.{Contents}
-use Rattle.bus_due.specs.Defs.{target_def_of}
+use Rattle.array_model.specs.Contents.{Contents}
+use Rattle.due_model.specs.Defs.{target_def_of}
 use Rattle.delivery_laws.specs.target_units.specs.Units.{UnitsState, unit_in, contents_in}
 use Rattle.bus_engine.specs.Over.{AreUnitsIf}
 

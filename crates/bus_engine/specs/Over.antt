@@ -3,12 +3,12 @@ use Rattle.std.specs.Prelude.{ℕ, ◌≡◌, ◌≤◌, ◌<◌, ◌==◌, true
 use Rattle.bus_trace.specs.declared.Row.{Row}
 use Rattle.scenario.specs.declared.value.CmdDef.{CmdDef}
 use Rattle.scenario.specs.Value.{ScenarioValue}
-use Rattle.disk_array.specs.Processes.{command_at}
-use Rattle.disk_array.specs.Seats.{is_initiator}
-use Rattle.bus_due.specs.bus_story.specs.Items.{sense_id, command_id}
-use Rattle.bus_due.specs.Defs.{target_def_of}
-use Rattle.bus_due.specs.RunState.{array_of}
-use Rattle.bus_due.specs.RunSteps.{run_state}
+use Rattle.array_model.specs.Processes.{command_at}
+use Rattle.array_model.specs.Seats.{is_initiator}
+use Rattle.due_model.specs.story_model.specs.Items.{sense_id, command_id}
+use Rattle.due_model.specs.Defs.{target_def_of}
+use Rattle.due_model.specs.RunState.{array_of}
+use Rattle.due_model.specs.RunSteps.{run_state}
 use Rattle.initiator.specs.Books.{my_book}
 use Rattle.initiator.specs.Endings.{AreEndingsOf}
 use Rattle.initiator.specs.Hosts.{HostValue}

@@ -4,17 +4,17 @@ use Rattle.std.specs.List.{list_all}
 use Rattle.bus_trace.specs.declared.Row.{Row}
 use Rattle.bus_trace.specs.LineSet.{none}
 use Rattle.bus_trace.specs.Trace.{bus, last_time}
-use Rattle.bus_due.specs.bus_rules.specs.Lawful.{IsLawful}
+use Rattle.due_model.specs.bus_rules.specs.Lawful.{IsLawful}
 use Rattle.scenario.specs.Value.{ScenarioValue}
-use Rattle.disk_array.specs.ArrayHistory.{array_after, disks_of}
-use Rattle.bus_due.specs.bus_story.specs.Budget.{budget}
-use Rattle.bus_due.specs.bus_story.specs.Outcomes as told
-use Rattle.bus_due.specs.bus_story.specs.Outcomes.{outcomes}
-use Rattle.bus_due.specs.bus_story.specs.Right.{all_carried}
-use Rattle.bus_due.specs.bus_story.specs.Samples.{expected_strikes, row_strikes}
-use Rattle.bus_due.specs.bus_story.specs.TraceHistory.{story, trace_history}
-use Rattle.bus_due.specs.Next.{IsPrompt, IsEnded}
-use Rattle.bus_due.specs.Plain.{AreOfDevices}
+use Rattle.array_model.specs.ArrayHistory.{array_after, disks_of}
+use Rattle.due_model.specs.story_model.specs.Budget.{budget}
+use Rattle.due_model.specs.story_model.specs.Outcomes as told
+use Rattle.due_model.specs.story_model.specs.Outcomes.{outcomes}
+use Rattle.due_model.specs.story_model.specs.Right.{all_carried}
+use Rattle.due_model.specs.story_model.specs.Samples.{expected_strikes, row_strikes}
+use Rattle.due_model.specs.story_model.specs.TraceHistory.{story, trace_history}
+use Rattle.due_model.specs.Next.{IsPrompt, IsEnded}
+use Rattle.due_model.specs.Plain.{AreOfDevices}
 use Rattle.run_record.specs.declared.outcome.Outcome.{Outcome}
 use Rattle.initiator.specs.Outcomes.{told_outcome}
 use Rattle.bus_run.specs.Runs.{AreEarly}

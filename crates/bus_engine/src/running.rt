@@ -5,14 +5,14 @@ ghost use Rattle.bus_trace.specs.declared.Row.{Row as TraceRow};
 ghost use Rattle.bus_trace.specs.Trace.{last_time};
 ghost use Rattle.scenario.specs.Value.{ScenarioValue};
 ghost use Rattle.scenario.specs.Writing.{Obeys};
-ghost use Rattle.disk_array.specs.ArrayHistory.{array_after, disks_of};
-ghost use Rattle.disk_array.specs.SoundArray.{HasSeats};
-ghost use Rattle.bus_due.specs.bus_story.specs.Budget.{budget};
-ghost use Rattle.bus_due.specs.bus_story.specs.Outcomes.{outcomes};
-ghost use Rattle.bus_due.specs.bus_story.specs.TraceHistory.{trace_history};
-ghost use Rattle.bus_due.specs.Allowed.{allowed};
-ghost use Rattle.bus_due.specs.Plain.{IsPlain};
-ghost use Rattle.bus_due.specs.RunSteps.{run_state};
+ghost use Rattle.array_model.specs.ArrayHistory.{array_after, disks_of};
+ghost use Rattle.array_model.specs.SoundArray.{HasSeats};
+ghost use Rattle.due_model.specs.story_model.specs.Budget.{budget};
+ghost use Rattle.due_model.specs.story_model.specs.Outcomes.{outcomes};
+ghost use Rattle.due_model.specs.story_model.specs.TraceHistory.{trace_history};
+ghost use Rattle.due_model.specs.Allowed.{allowed};
+ghost use Rattle.due_model.specs.Plain.{IsPlain};
+ghost use Rattle.due_model.specs.RunSteps.{run_state};
 ghost use Rattle.delivery_laws.specs.scsi_device.specs.Lines.{FitsBus};
 ghost use Rattle.run_record.specs.Value.{held_by};
 ghost use Rattle.bus_run.specs.Places.{AreIn};
@@ -26,10 +26,10 @@ use crate::finishing::{disks, replies, units_by_target};
 use crate::laws::prompt_traces_tie_devices;
 use crate::member::{Member, runs_end};
 use crate::places::member_places;
+use array_model::arrays_are_sound;
 use bus_base::{NoMemory, Steps};
-use bus_due::{kept_is_plain, wants_are_items};
 use bus_run::{Trace, rows_tie_devices};
-use delivery_laws::the_bus_books::failures_have_strikes;
+use delivery_laws::the_book_laws::failures_have_strikes;
 use delivery_laws::the_right_laws::prompt_traces_are_right;
 use delivery_laws::the_trace_laws::limits_are_kept;
 use delivery_laws::{
@@ -38,10 +38,10 @@ use delivery_laws::{
     resets_are_by_lines, senseless_checks_were_stopped, senses_are_their_own,
     valid_commands_are_delivered,
 };
-use disk_array::arrays_are_sound;
 use disk_target::the_scsi_device::scenarios_fit_the_bus;
 use disk_target::the_target_units::units_hold_their_blocks;
 use disk_unit::SparseBlocks;
+use due_model::{kept_is_plain, wants_are_items};
 use initiator::endings_have_causes;
 use measure_laws::runs_stay_within_budget;
 use run_record::Run;

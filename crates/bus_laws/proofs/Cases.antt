@@ -1,24 +1,24 @@
 -- Runs with few connections: their rows are prompt, lawful and sound, computed. Written by tools/makers/law_case.py.
-use Rattle.bus_due.specs.bus_trace.specs.LineSet.{set_of, line_of}
-use Rattle.bus_due.specs.bus_trace.specs.View.{union_below}
-use Rattle.bus_due.specs.bus_trace.specs.declared.Row.{Row}
-use Rattle.bus_due.specs.bus_trace.specs.declared.Kind.TheVariants.{Drives, Fault}
-use Rattle.bus_due.specs.msg_grammar.specs.Messages.{form_out, form_in}
-use Rattle.bus_due.specs.bus_rules.specs.declared.verdict.Verdict.{Verdict}
-use Rattle.bus_due.specs.bus_rules.specs.declared.verdict.Verdict.TheVariants.{Lawful}
-use Rattle.bus_due.specs.bus_rules.specs.Seen.{seen_with}
-use Rattle.bus_due.specs.bus_rules.specs.Rules.{judged}
-use Rattle.bus_due.specs.Next.{least}
-use Rattle.bus_due.specs.Run.{run_from, run_by_due}
-use Rattle.bus_due.specs.Sound.{sound}
+use Rattle.due_model.specs.bus_trace.specs.LineSet.{set_of, line_of}
+use Rattle.due_model.specs.bus_trace.specs.View.{union_below}
+use Rattle.due_model.specs.bus_trace.specs.declared.Row.{Row}
+use Rattle.due_model.specs.bus_trace.specs.declared.Kind.TheVariants.{Drives, Fault}
+use Rattle.due_model.specs.msg_grammar.specs.Messages.{form_out, form_in}
+use Rattle.due_model.specs.bus_rules.specs.declared.verdict.Verdict.{Verdict}
+use Rattle.due_model.specs.bus_rules.specs.declared.verdict.Verdict.TheVariants.{Lawful}
+use Rattle.due_model.specs.bus_rules.specs.Seen.{seen_with}
+use Rattle.due_model.specs.bus_rules.specs.Rules.{judged}
+use Rattle.due_model.specs.Next.{least}
+use Rattle.due_model.specs.Run.{run_from, run_by_due}
+use Rattle.due_model.specs.Sound.{sound}
 use Rattle.std.proofs.Common.{ℕ, ◌≡◌, Bool, true, false, List, [], ◌∷◌, reverse, refl}
 use lib.Count.{ones}
-use Rattle.bus_due.specs.bus_base.specs.declared.events.Pick.TheVariants as picks
-use Rattle.bus_due.specs.scenario.specs.declared.value.Policy.TheVariants as policies
-use Rattle.bus_due.specs.scenario.specs.declared.value.Tag.TheVariants as tags
-use Rattle.bus_due.specs.scenario.specs.declared.value.Payload.TheVariants as payloads
-use Rattle.bus_due.specs.scenario.specs.Value.{ScenarioValue}
-use Rattle.bus_due.specs.scenario.specs.Needs.{need_of, sent_of}
+use Rattle.due_model.specs.bus_base.specs.declared.events.Pick.TheVariants as picks
+use Rattle.due_model.specs.scenario.specs.declared.value.Policy.TheVariants as policies
+use Rattle.due_model.specs.scenario.specs.declared.value.Tag.TheVariants as tags
+use Rattle.due_model.specs.scenario.specs.declared.value.Payload.TheVariants as payloads
+use Rattle.due_model.specs.scenario.specs.Value.{ScenarioValue}
+use Rattle.due_model.specs.scenario.specs.Needs.{need_of, sent_of}
 
 abbrev drive : ℕ → ℕ → ℕ → Row
 drive time dev lines = record { time = time; dev = dev; kind = Drives (set_of lines) }

@@ -10,16 +10,16 @@ use Rattle.std.specs as std
 pub use std.{Int.{bit_at, Bits.{or_self, or_zero_r}, RustNames.{bit_or}}, List.{AllByRecursion, find}}
 pub use std.Prelude.{if◌then◌else◌, is_none, is_some, max, min, nat_le, nat_lt, slice_index, ◌==◌}
 unfoldable pub use std.Int.RustNames.{count_ones}
-use Rattle.bus_due.specs.bus_base.proofs as bus_base_proofs
+use Rattle.due_model.specs.bus_base.proofs as bus_base_proofs
 pub use bus_base_proofs.Tests.{all_three, and_false, and_more, eq_self, if_less, none_number, or_false, or_second}
 pub use bus_base_proofs.Tests.{or_true}
-use Rattle.bus_due.specs.bus_base.specs as bus_base
+use Rattle.due_model.specs.bus_base.specs as bus_base
 pub use bus_base.declared.Event.{Event}
-use Rattle.bus_due.specs.bus_trace.proofs as bus_trace_proofs
+use Rattle.due_model.specs.bus_trace.proofs as bus_trace_proofs
 pub use bus_trace_proofs.{Ages.{since_le, since_line_le}, Buses.{bus_none, bus_off, bus_on, bus_one, bus_two}}
 pub use bus_trace_proofs.{Buses.{union-none}, Ids.{has_id-ids_set}, OneRow.{bus-fault, drives-fault, drives-other}}
 pub use bus_trace_proofs.Sets.{same_set-eq, same_set-self}
-use Rattle.bus_due.specs.bus_trace.specs as bus_trace
+use Rattle.due_model.specs.bus_trace.specs as bus_trace
 pub use bus_trace.{Agreements.{fast_times, slow_times, times_of, times_or_slow}, Changes.{change_of, falls, implies}}
 pub use bus_trace.{Changes.{is_within, raises_none, rises}, LineSet.{LineSet, byte_set, data_of, has_id_above, ids_set}}
 pub use bus_trace.{LineSet.{line_of, none, same, same_set, union}, Phases.{changes_phase, is_command, is_message_in}}
@@ -34,21 +34,21 @@ pub use bus_trace.declared.delays.TheConstants.{ARBITRATION_DELAY, BUS_CLEAR_DEL
 pub use bus_trace.declared.{delays.TheConstants.{ENTRY_DELAY, QUIET_TIME}, line_times.LineTimes.{LineTimes}}
 pub use bus_trace.declared.selection.{Call.{Call}, Calling.{Calling}}
 unfoldable pub use bus_trace.View.{union_below}
-use Rattle.bus_due.specs.bus_lines.proofs as bus_lines_proofs
+use Rattle.due_model.specs.bus_lines.proofs as bus_lines_proofs
 pub use bus_lines_proofs.Times.{ComeBefore, last_before, timely}
-use Rattle.bus_due.specs.bus_lines.specs as bus_lines
+use Rattle.due_model.specs.bus_lines.specs as bus_lines
 pub use bus_lines.{BusView.{BusViewValue, IsBusViewOf}, Effect.{effect}, Handshakes.{Handshakes, handshakes}}
 pub use bus_lines.{Handshakes.{handshakes_after, or_zero, room_by}, Stage.{answer_stage, call_stage, stage, stage_by}}
 pub use bus_lines.Timely.{AreHandshakesBefore, IsArbitrationBefore, IsBefore, IsCallBefore, IsCallingBefore}
 pub use bus_lines.{Timely.{IsConnectionBefore, IsStageBefore, IsTimely}, declared.stage.Stage.{Stage}}
 pub use bus_lines.declared.stage.Stage.TheVariants.{InAnswer, InArbitration, InCalling, InConnection, InReset}
 pub use bus_lines.declared.stage.Stage.TheVariants.{OnFreeBus}
-use Rattle.bus_due.specs.msg_grammar.specs as msg_grammar
+use Rattle.due_model.specs.msg_grammar.specs as msg_grammar
 pub use msg_grammar.Grammar.{Form, alone, as_got, extended, got_after, got_by, got_code, got_fields, got_offer, got_tag}
 pub use msg_grammar.{Grammar.{reserved, tagged}, Messages.{got_in, got_out, is_of_eight}, declared.message.Got.{Got}}
 pub use msg_grammar.declared.message.{Got.TheVariants.{More, Unknown, Whole}, MsgIn.{MsgIn}, MsgOut.{MsgOut}}
 unfoldable pub use msg_grammar.Messages.{form_in, form_out}
-use Rattle.bus_due.specs.bus_phases.specs as bus_phases
+use Rattle.due_model.specs.bus_phases.specs as bus_phases
 pub use bus_phases.Dialogue.{agreed, asynchronous, byte_crosses, byte_in, byte_out, closed_agreement_by, dialogue}
 pub use bus_phases.Dialogue.{dialogue_after, dialogue_on, fresh_bytes, fresh_heard, heard_if_begun, heard_in, heard_out}
 pub use bus_phases.Dialogue.{heard_with_command, heard_with_out, is_of_other, no_command, opened, phase_begins}
@@ -57,52 +57,53 @@ pub use bus_phases.Phases.{duty, duty_after, duty_left, is_attention_held, no_pu
 pub use bus_phases.{Phases.{turned_after}, Reading.{reading_of}, declared.attention.Duty.{Duty}}
 pub use bus_phases.declared.{dialogue.Dialogue.{Dialogue}, reading.Reading.{Reading}, spoken.Heard.{Heard}}
 pub use bus_phases.declared.{spoken.Spoken.{Spoken}, words.{End.{End}, Word.{Word}}}
-use Rattle.bus_due.specs.bus_rules.proofs as bus_rules_proofs
+use Rattle.due_model.specs.bus_rules.proofs as bus_rules_proofs
 pub use bus_rules_proofs.First.{none_broken, row_none}
-use Rattle.bus_due.specs.bus_rules.specs as bus_rules
+use Rattle.due_model.specs.bus_rules.specs as bus_rules
 pub use bus_rules.{Order.{is_in_order, is_news}, Reset.{holds_reset, is_quiet_in_reset, is_reset, keeps_reset}}
 pub use bus_rules.{Reset.{only_rst, raises_rst_alone}, Rules.{broken_rule, judged_rules, keeps, lowest_broken}}
 pub use bus_rules.{Rules.{stands_in_reset, test}, Seen.{drives_bsy, id_since, initiator_data, initiator_of}}
 pub use bus_rules.{Seen.{others_drive, others_in_call, seen, target_data}, Selection.{calls_exactly}}
 pub use bus_rules.declared.seen.Seen.{Seen}
 unfoldable pub use bus_rules.Seen.{seen_with}
-use Rattle.bus_due.specs.scenario.specs as scenario
+use Rattle.due_model.specs.scenario.specs as scenario
 pub use scenario.{Value.{ScenarioValue}, Writing.{Obeys}, declared.value.{HostDef.{HostDef}, ResetDef.{ResetDef}}}
 pub use scenario.declared.value.TargetDef.{TargetDef}
-use Rattle.bus_due.specs.disk_array.specs as disk_array
-pub use disk_array.{Seats.{current_of, is_initiator}, Units.{Array, RunningProcess, UnitState, is_held, unit_state_at}}
-use Rattle.bus_due.specs.bus_story.proofs as bus_story_proofs
-pub use bus_story_proofs.StorySteps.{calling_link, ends_link, free_link}
-use Rattle.bus_due.specs.bus_story.specs as bus_story
-pub use bus_story.{BusState.{RowReading, change_by, row_reading}, HistoryEvents.{link_events, row_events_by}}
-pub use bus_story.{Links.{Link}, Samples.{host_latency, latency_of, target_latency}, Story.{Story, by_reset}}
-pub use bus_story.{Story.{story_after_events}, TraceHistory.{aim_of, is_arbitration_entry, story_after_calling}}
-pub use bus_story.TraceHistory.{story_by_change, story_on_bus, story_on_free_bus, story_with_aim}
-use Rattle.bus_due.specs.bus_reactions.specs as bus_reactions
-pub use bus_reactions.Calling.{answer, answer_due, answered_due, called_due, caller_due, calling_due, calling_start}
-pub use bus_reactions.{Calling.{is_called, loser_release, unanswered_due, with_calling_mark}, Ends.{initiator_due}}
-pub use bus_reactions.{Ends.{owes_release, sample_due, target_due}, FreeBus.{arbitration_due, contender_lines, entry}}
-pub use bus_reactions.{FreeBus.{free_due, later_entry_if}, Initiator.{ack_pulse_time, byte_hold_end, byte_time}}
-pub use bus_reactions.{Initiator.{next_ack_time, oldest_req_time, rose_with_ack}, Linking.{bus_clear, link_due}}
-pub use bus_reactions.{Linking.{link_due_by, sample_time}, Reactions.{due_at, due_where, earlier_due, fault_due}}
-pub use bus_reactions.{Reactions.{fault_or, sooner_time, time_if}, Reset.{rst_assertion, rst_release, with_reset}}
-pub use bus_reactions.Target.{bits_if, byte_bits, first_req, has_io_turned, hold_end, last_hold_end, set_up_end}
-pub use bus_reactions.declared.{due.{Due.{Due}, Myself.{Myself}, Want.{Want}}, ends.Answering.{Answering}}
-pub use bus_reactions.declared.{ends.{Offering.{Offering}, Pace.{Pace}}, sight.Sight.{Sight}}
-use Rattle.bus_due.specs.bus_dialogue.specs as bus_dialogue
-pub use bus_dialogue.{Ends.{lag_by, seek_by}, Hearing.{begun, begun_after}, Wants.{Ready, first_ready, is_ready_before}}
-pub use bus_dialogue.Wants.{ready_in}
-use Rattle.bus_due.proofs as bus_due_proofs
-pub use bus_due_proofs.{Leasts.{least_some, some_eq}, Plains.{bus_state_is, change_same, run_state_plain}, Seams.{onto}}
-use Rattle.bus_due.specs as bus_due
-pub use bus_due.{Connected.{connected_due, end_due, is_receiver}, Defs.{target_def_of}, Due.{calm_due, device_due}}
-pub use bus_due.{Due.{due_if, is_reset_past, link_due_of, reset_from, self_of, stage_due}, Least.{IsLeast}}
-pub use bus_due.{Next.{IsPrompt, due, next}, Own.{Own, own_after, own_at, own_next, own_of}, Plain.{AreOfDevices}}
-pub use bus_due.{RunState.{RunState, agreement_of, array_of, bus_of, or_start}, RunSteps.{array_after_events}}
-pub use bus_due.RunSteps.{current_times_after, current_times_if, first_run_state, is_same_running, run_state}
-pub use bus_due.{RunSteps.{run_state_after, run_state_with_events}, Sights.{answering_of, flip_of, hearing_of}}
-pub use bus_due.{Sights.{offering_of, pace_of, sight_of, stage_of, want_of}, Wants.{callee, item_want_time}}
-pub use bus_due.Wants.{ready_among, ready_at, ready_of, ready_time, seek_of, since_of, want_time}
+use Rattle.due_model.specs.array_model.specs as array_model
+pub use array_model.{Seats.{current_of, is_initiator}, Units.{Array, RunningProcess, UnitState, is_held, unit_state_at}}
+use Rattle.due_model.specs.story_model.proofs as story_model_proofs
+pub use story_model_proofs.StorySteps.{calling_link, ends_link, free_link}
+use Rattle.due_model.specs.story_model.specs as story_model
+pub use story_model.{BusState.{RowReading, change_by, row_reading}, HistoryEvents.{link_events, row_events_by}}
+pub use story_model.{Links.{Link}, Samples.{host_latency, latency_of, target_latency}, Story.{Story, by_reset}}
+pub use story_model.{Story.{story_after_events}, TraceHistory.{aim_of, is_arbitration_entry, story_after_calling}}
+pub use story_model.TraceHistory.{story_by_change, story_on_bus, story_on_free_bus, story_with_aim}
+use Rattle.due_model.specs.reaction_model.specs as reaction_model
+pub use reaction_model.Calling.{answer, answer_due, answered_due, called_due, caller_due, calling_due, calling_start}
+pub use reaction_model.{Calling.{is_called, loser_release, unanswered_due, with_calling_mark}, Ends.{initiator_due}}
+pub use reaction_model.{Ends.{owes_release, sample_due, target_due}, FreeBus.{arbitration_due, contender_lines, entry}}
+pub use reaction_model.{FreeBus.{free_due, later_entry_if}, Initiator.{ack_pulse_time, byte_hold_end, byte_time}}
+pub use reaction_model.{Initiator.{next_ack_time, oldest_req_time, rose_with_ack}, Linking.{bus_clear, link_due}}
+pub use reaction_model.{Linking.{link_due_by, sample_time}, Reactions.{due_at, due_where, earlier_due, fault_due}}
+pub use reaction_model.{Reactions.{fault_or, sooner_time, time_if}, Reset.{rst_assertion, rst_release, with_reset}}
+pub use reaction_model.Target.{bits_if, byte_bits, first_req, has_io_turned, hold_end, last_hold_end, set_up_end}
+pub use reaction_model.declared.{due.{Due.{Due}, Myself.{Myself}, Want.{Want}}, ends.Answering.{Answering}}
+pub use reaction_model.declared.{ends.{Offering.{Offering}, Pace.{Pace}}, sight.Sight.{Sight}}
+use Rattle.due_model.specs.dialogue_model.specs as dialogue_model
+pub use dialogue_model.{Ends.{lag_by, seek_by}, Hearing.{begun, begun_after}, Wants.{Ready, first_ready}}
+pub use dialogue_model.Wants.{is_ready_before, ready_in}
+use Rattle.due_model.proofs as due_model_proofs
+pub use due_model_proofs.{Leasts.{least_some, some_eq}, Plains.{bus_state_is, change_same, run_state_plain}}
+pub use due_model_proofs.Seams.{onto}
+use Rattle.due_model.specs as due_model
+pub use due_model.{Connected.{connected_due, end_due, is_receiver}, Defs.{target_def_of}, Due.{calm_due, device_due}}
+pub use due_model.{Due.{due_if, is_reset_past, link_due_of, reset_from, self_of, stage_due}, Least.{IsLeast}}
+pub use due_model.{Next.{IsPrompt, due, next}, Own.{Own, own_after, own_at, own_next, own_of}, Plain.{AreOfDevices}}
+pub use due_model.{RunState.{RunState, agreement_of, array_of, bus_of, or_start}, RunSteps.{array_after_events}}
+pub use due_model.RunSteps.{current_times_after, current_times_if, first_run_state, is_same_running, run_state}
+pub use due_model.{RunSteps.{run_state_after, run_state_with_events}, Sights.{answering_of, flip_of, hearing_of}}
+pub use due_model.{Sights.{offering_of, pace_of, sight_of, stage_of, want_of}, Wants.{callee, item_want_time}}
+pub use due_model.Wants.{ready_among, ready_at, ready_of, ready_time, seek_of, since_of, want_time}
 use Rattle.scsi_device.proofs as scsi_device_proofs
 pub use scsi_device_proofs.{FitLines.{obeys_fits}, WantTimes.{next_reset_before, wants_before}}
 use Rattle.scsi_device.specs as scsi_device

@@ -1,8 +1,8 @@
 -- The bus in arbitration and in a calling, and the callings (6.1.2 to 6.1.4).
 use Rattle.std.specs.Prelude.{ℕ, ◌+◌, ◌^◌, Bool, true, false, not, Some, None}
-use Rattle.bus_due.specs.bus_trace.specs.LineSet.{LineSet, none}
-use Rattle.bus_due.specs.bus_trace.specs.declared.selection.Call.{Call}
-use Rattle.bus_due.specs.bus_trace.specs.declared.selection.Calling.{Calling}
+use Rattle.due_model.specs.bus_trace.specs.LineSet.{LineSet, none}
+use Rattle.due_model.specs.bus_trace.specs.declared.selection.Call.{Call}
+use Rattle.due_model.specs.bus_trace.specs.declared.selection.Calling.{Calling}
 
 -- The bus of an arbitration, and of one that is won.
 abbrev pub arbitration_bus : ℕ → LineSet

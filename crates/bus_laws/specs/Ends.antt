@@ -1,15 +1,15 @@
 -- What the two ends of a connection drive, and the first row of a connection (6.1.3 to 6.1.5).
 use Rattle.std.specs.Prelude.{ℕ, ◌≡◌, ◌≢◌, ◌<◌, Bool, true, false, List, Some, None}
 use Rattle.std.specs.Int.RustNames.{bit_or}
-use Rattle.bus_due.specs.bus_trace.specs.LineSet.{LineSet, none}
-use Rattle.bus_due.specs.bus_trace.specs.declared.Row.{Row}
-use Rattle.bus_due.specs.bus_trace.specs.declared.connection.Connection.{Connection}
-use Rattle.bus_due.specs.bus_trace.specs.Trace.{drives, last_time, line_times}
-use Rattle.bus_due.specs.bus_trace.specs.Terms.{receiver}
-use Rattle.bus_due.specs.bus_phases.specs.declared.attention.Duty.TheVariants as duties
-use Rattle.bus_due.specs.bus_phases.specs.Phases.{pulses, no_pulses, duty, turned}
-use Rattle.bus_due.specs.bus_lines.specs.Handshakes.{handshakes, no_handshakes}
-use Rattle.bus_due.specs.bus_dialogue.specs.Hearing.{begun}
+use Rattle.due_model.specs.bus_trace.specs.LineSet.{LineSet, none}
+use Rattle.due_model.specs.bus_trace.specs.declared.Row.{Row}
+use Rattle.due_model.specs.bus_trace.specs.declared.connection.Connection.{Connection}
+use Rattle.due_model.specs.bus_trace.specs.Trace.{drives, last_time, line_times}
+use Rattle.due_model.specs.bus_trace.specs.Terms.{receiver}
+use Rattle.due_model.specs.bus_phases.specs.declared.attention.Duty.TheVariants as duties
+use Rattle.due_model.specs.bus_phases.specs.Phases.{pulses, no_pulses, duty, turned}
+use Rattle.due_model.specs.bus_lines.specs.Handshakes.{handshakes, no_handshakes}
+use Rattle.due_model.specs.dialogue_model.specs.Hearing.{begun}
 use Rattle.bus_laws.specs.Rows.{Stands}
 
 -- The initiator drives BSY until it has handed it over, ACK, ATN and a byte; the target BSY, the phase lines, REQ and a

@@ -1,16 +1,16 @@
 -- What a device does but for RST, and when it made its last row of lines.
 use Rattle.std.specs.Prelude.{ℕ, List, Option, Some, None}
-use Rattle.bus_due.specs.bus_trace.specs.LineSet.{LineSet}
-use Rattle.bus_due.specs.bus_trace.specs.declared.Row.{Row}
-use Rattle.bus_due.specs.scenario.specs.Value.{ScenarioValue}
-use Rattle.bus_due.specs.bus_story.specs.Samples.{latency_of}
-use Rattle.bus_due.specs.bus_reactions.specs.declared.due.Due.{Due}
-use Rattle.bus_due.specs.bus_reactions.specs.declared.due.Myself.{Myself}
-use Rattle.bus_due.specs.Own.{own_of}
-use Rattle.bus_due.specs.RunState.{RunState}
-use Rattle.bus_due.specs.bus_reactions.specs.Reset.{rst_assertion}
-use Rattle.bus_due.specs.Due.{self_of, calm_due, reset_from}
-use Rattle.bus_due.specs.RunSteps.{run_state}
+use Rattle.due_model.specs.bus_trace.specs.LineSet.{LineSet}
+use Rattle.due_model.specs.bus_trace.specs.declared.Row.{Row}
+use Rattle.due_model.specs.scenario.specs.Value.{ScenarioValue}
+use Rattle.due_model.specs.story_model.specs.Samples.{latency_of}
+use Rattle.due_model.specs.reaction_model.specs.declared.due.Due.{Due}
+use Rattle.due_model.specs.reaction_model.specs.declared.due.Myself.{Myself}
+use Rattle.due_model.specs.Own.{own_of}
+use Rattle.due_model.specs.RunState.{RunState}
+use Rattle.due_model.specs.reaction_model.specs.Reset.{rst_assertion}
+use Rattle.due_model.specs.Due.{self_of, calm_due, reset_from}
+use Rattle.due_model.specs.RunSteps.{run_state}
 
 -- A device that drives these lines, its last row having been at this time.
 abbrev pub device_with : ℕ → ℕ → LineSet → ℕ → Myself

@@ -1,14 +1,14 @@
 -- Rows of lines and fault rows, and what stands on the bus after some rows.
 use Rattle.std.specs.Prelude.{ℕ, ◌≡◌, List, Option}
-use Rattle.bus_due.specs.bus_trace.specs.LineSet.{LineSet}
-use Rattle.bus_due.specs.bus_trace.specs.declared.Row.{Row}
-use Rattle.bus_due.specs.bus_trace.specs.declared.Kind.TheVariants.{Drives, Fault}
-use Rattle.bus_due.specs.bus_trace.specs.Trace.{bus}
-use Rattle.bus_due.specs.bus_trace.specs.declared.changes.Change.{Change}
-use Rattle.bus_due.specs.bus_trace.specs.declared.arbitration.Arbitration.{Arbitration}
-use Rattle.bus_due.specs.bus_trace.specs.declared.selection.Call.{Call}
-use Rattle.bus_due.specs.bus_trace.specs.declared.connection.Connection.{Connection}
-use Rattle.bus_due.specs.bus_trace.specs.Terms.{arbitration, call, connection}
+use Rattle.due_model.specs.bus_trace.specs.LineSet.{LineSet}
+use Rattle.due_model.specs.bus_trace.specs.declared.Row.{Row}
+use Rattle.due_model.specs.bus_trace.specs.declared.Kind.TheVariants.{Drives, Fault}
+use Rattle.due_model.specs.bus_trace.specs.Trace.{bus}
+use Rattle.due_model.specs.bus_trace.specs.declared.changes.Change.{Change}
+use Rattle.due_model.specs.bus_trace.specs.declared.arbitration.Arbitration.{Arbitration}
+use Rattle.due_model.specs.bus_trace.specs.declared.selection.Call.{Call}
+use Rattle.due_model.specs.bus_trace.specs.declared.connection.Connection.{Connection}
+use Rattle.due_model.specs.bus_trace.specs.Terms.{arbitration, call, connection}
 
 abbrev pub row_of_lines : ℕ → ℕ → LineSet → Row
 row_of_lines t d l = record { time = t; dev = d; kind = Drives l }

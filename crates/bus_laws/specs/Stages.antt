@@ -2,27 +2,27 @@
 use Rattle.std.specs.Prelude.{⊤, [], is_some, not, ◌&&◌, ℕ, ◌≡◌, ◌≢◌, ◌<◌, ◌≤◌, ◌+◌, ◌==◌, ◌⊎◌, Bool, true, false, List}
 use Rattle.std.specs.Prelude.{◌∷◌, Some, None}
 use Rattle.std.specs.Int.{bit_at}
-use Rattle.bus_due.specs.bus_trace.specs.LineSet.{LineSet, none, line_of}
-use Rattle.bus_due.specs.bus_trace.specs.declared.Row.{Row}
-use Rattle.bus_due.specs.bus_trace.specs.Trace.{drives, bus, last_time, since, since_line}
-use Rattle.bus_due.specs.bus_trace.specs.declared.arbitration.Arbitration.{Arbitration}
-use Rattle.bus_due.specs.bus_trace.specs.declared.selection.Call.{Call}
-use Rattle.bus_due.specs.bus_trace.specs.declared.selection.Calling.{Calling}
-use Rattle.bus_due.specs.bus_trace.specs.declared.connection.Connection.{Connection}
-use Rattle.bus_due.specs.bus_trace.specs.Terms.{raised, connection}
-use Rattle.bus_due.specs.bus_rules.specs.Lawful.{AreLawful}
-use Rattle.bus_due.specs.bus_rules.specs.Rules.{broken_rule}
-use Rattle.bus_due.specs.scenario.specs.Value.{ScenarioValue}
-use Rattle.bus_due.specs.bus_story.specs.Samples.{latency_of}
-use Rattle.bus_due.specs.bus_reactions.specs.declared.due.Due.{Due}
-use Rattle.bus_due.specs.bus_reactions.specs.FreeBus.{contender_lines}
-use Rattle.bus_due.specs.RunSteps.{run_state}
-use Rattle.bus_due.specs.Plain.{AreOfDevices}
+use Rattle.due_model.specs.bus_trace.specs.LineSet.{LineSet, none, line_of}
+use Rattle.due_model.specs.bus_trace.specs.declared.Row.{Row}
+use Rattle.due_model.specs.bus_trace.specs.Trace.{drives, bus, last_time, since, since_line}
+use Rattle.due_model.specs.bus_trace.specs.declared.arbitration.Arbitration.{Arbitration}
+use Rattle.due_model.specs.bus_trace.specs.declared.selection.Call.{Call}
+use Rattle.due_model.specs.bus_trace.specs.declared.selection.Calling.{Calling}
+use Rattle.due_model.specs.bus_trace.specs.declared.connection.Connection.{Connection}
+use Rattle.due_model.specs.bus_trace.specs.Terms.{raised, connection}
+use Rattle.due_model.specs.bus_rules.specs.Lawful.{AreLawful}
+use Rattle.due_model.specs.bus_rules.specs.Rules.{broken_rule}
+use Rattle.due_model.specs.scenario.specs.Value.{ScenarioValue}
+use Rattle.due_model.specs.story_model.specs.Samples.{latency_of}
+use Rattle.due_model.specs.reaction_model.specs.declared.due.Due.{Due}
+use Rattle.due_model.specs.reaction_model.specs.FreeBus.{contender_lines}
+use Rattle.due_model.specs.RunSteps.{run_state}
+use Rattle.due_model.specs.Plain.{AreOfDevices}
 use Rattle.bus_laws.specs.Reactions.{own_time}
 use Rattle.bus_laws.specs.Reactions.{unreset_due}
-use Rattle.bus_due.specs.bus_rules.specs.Reset.{only_rst}
-use Rattle.bus_due.specs.Own.{own_of}
-use Rattle.bus_due.specs.Next.{due}
+use Rattle.due_model.specs.bus_rules.specs.Reset.{only_rst}
+use Rattle.due_model.specs.Own.{own_of}
+use Rattle.due_model.specs.Next.{due}
 use Rattle.bus_laws.specs.Rows.{Stands}
 use Rattle.bus_laws.specs.Ends.{BeginsConnection}
 use Rattle.bus_laws.specs.Callings.{arbitration_bus, won_bus, both_ids, begun_call, calling_lines, answer_lines}

@@ -2,16 +2,16 @@
 
 ghost use Rattle.std.specs.Prelude.{ℕ, ◌≡◌, ◌<◌, ◌≤◌, ◌+◌, ◌*◌, ◌^◌, false, List, [], ◌∷◌, length, Some, None};
 ghost use Rattle.std.specs.List.{AllByRecursion};
-ghost use Rattle.bus_due.specs.bus_trace.specs.declared.Row.{Row};
-ghost use Rattle.bus_due.specs.bus_trace.specs.Trace.{bus, last_time};
-ghost use Rattle.bus_due.specs.bus_trace.specs.declared.Kind.TheVariants.{Drives};
-ghost use Rattle.bus_due.specs.bus_rules.specs.Reset.{only_rst};
-ghost use Rattle.bus_due.specs.bus_rules.specs.Lawful.{AreLawful};
-ghost use Rattle.bus_due.specs.bus_rules.specs.Rules.{broken_rule};
-ghost use Rattle.bus_due.specs.scenario.specs.Value.{ScenarioValue};
-ghost use Rattle.bus_due.specs.scenario.specs.Writing.{Obeys};
-ghost use Rattle.bus_due.specs.bus_reactions.specs.declared.due.Due.{Due};
-ghost use Rattle.bus_due.specs.Next.{due, next, IsPrompt};
+ghost use Rattle.due_model.specs.bus_trace.specs.declared.Row.{Row};
+ghost use Rattle.due_model.specs.bus_trace.specs.Trace.{bus, last_time};
+ghost use Rattle.due_model.specs.bus_trace.specs.declared.Kind.TheVariants.{Drives};
+ghost use Rattle.due_model.specs.bus_rules.specs.Reset.{only_rst};
+ghost use Rattle.due_model.specs.bus_rules.specs.Lawful.{AreLawful};
+ghost use Rattle.due_model.specs.bus_rules.specs.Rules.{broken_rule};
+ghost use Rattle.due_model.specs.scenario.specs.Value.{ScenarioValue};
+ghost use Rattle.due_model.specs.scenario.specs.Writing.{Obeys};
+ghost use Rattle.due_model.specs.reaction_model.specs.declared.due.Due.{Due};
+ghost use Rattle.due_model.specs.Next.{due, next, IsPrompt};
 ghost use Rattle.bus_laws.specs.Stages.{BusStage, Standing, NextRow, is_connected, HaveNoConnection};
 
 /// What stands on the bus goes on from stage to stage: the free bus, arbitration, the rise of SEL, selection and

@@ -13,7 +13,8 @@ use Rattle.bus_trace.specs.Phases.{changes_phase}
 use Rattle.bus_trace.specs.Terms.{connection, is_fault}
 use Rattle.bus_lines.specs.declared.handshakes.Request.{Request}
 use Rattle.bus_lines.specs.Handshakes.{Handshakes, no_handshakes, handshakes, handshakes_after, handshakes_on, asked_if}
-use Rattle.bus_lines.specs.Handshakes.{answered_if, strikes_if, strikes_last, opened, or_now, or_zero, first_of}
+use Rattle.bus_lines.specs.Handshakes.{answered_if, newest_struck_if, with_last_struck, opened, or_now, or_zero}
+use Rattle.bus_lines.specs.Handshakes.{first_of}
 use Rattle.bus_lines.specs.Handshakes.{time_of}
 use Rattle.bus_lines.specs.Timely.{AreHandshakesBefore}
 
@@ -43,7 +44,7 @@ rest_early : (end : ℕ) (waiting : List Request) → AreEarly end waiting → A
 rest_early end [] h = tt
 rest_early end (b ∷ waiting) h = h.1
 
-struck_early : (end : ℕ) (waiting : List Request) → AreEarly end waiting → AreEarly end (strikes_last waiting)
+struck_early : (end : ℕ) (waiting : List Request) → AreEarly end waiting → AreEarly end (with_last_struck waiting)
 struck_early end [] h = tt
 struck_early end (b ∷ []) h = h
 struck_early end (b ∷ (c ∷ waiting)) h = (h.0, struck_early end (c ∷ waiting) h.1)
@@ -90,7 +91,7 @@ on_early end time (Some n) c b z t h = go (changes_phase c)
     go false = answered_early (rises c.before.ack c.after.ack) end time (asked_if
         (rises c.before.req c.after.req) time b) t (asked_early (rises c.before.req c.after.req) end time b z t h)
 
-strikes_early : (q : Bool) (end : ℕ) (b : Handshakes) → Early end b → Early end (strikes_if q b)
+strikes_early : (q : Bool) (end : ℕ) (b : Handshakes) → Early end b → Early end (newest_struck_if q b)
 strikes_early true end b h = record {
   last_req = h.last_req;
   last_ack = h.last_ack;
@@ -139,7 +140,7 @@ rest_few : (waiting : List Request) → length waiting ≤ 255 → length (drop 
 rest_few [] h = h
 rest_few (b ∷ waiting) h = omega (arith, h)
 
-pub struck_length : (waiting : List Request) → length (strikes_last waiting) ≡ length waiting
+pub struck_length : (waiting : List Request) → length (with_last_struck waiting) ≡ length waiting
 struck_length [] = refl
 struck_length (b ∷ []) = refl
 struck_length (b ∷ (c ∷ waiting)) = let e = struck_length (c ∷ waiting) in omega (arith, e)
@@ -162,7 +163,7 @@ after_few : (q : Bool) (time : ℕ) (n : Option Connection) (c : Change) (b : Ha
     → IsFew (handshakes_after q n c time b)
 after_few true time n c b h = go c.before.io
   where
-    go : (q : Bool) → IsFew (strikes_if q b)
+    go : (q : Bool) → IsFew (newest_struck_if q b)
     go true = subst (λ (m : ℕ). m ≤ 255) (sym (struck_length b.waiting)) h
     go false = h
 after_few false time None c b h = none_few
@@ -179,6 +180,6 @@ few [] = none_few
 few (row ∷ rows) =
     after_few (is_fault row.kind) row.time (connection (row ∷ rows)) (change_of rows row) (handshakes rows) (few rows)
 
-pub struck_same : (q : Bool) (h : Handshakes) → (strikes_if q h).requests ≡ h.requests
+pub struck_same : (q : Bool) (h : Handshakes) → (newest_struck_if q h).requests ≡ h.requests
 struck_same true h = refl
 struck_same false h = refl

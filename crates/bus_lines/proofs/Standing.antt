@@ -238,7 +238,7 @@ asked_at time struck = record { time = time; struck = struck }
 
 -- Three requests, the last of which is struck, and two answers: the first of these made room.
 answered_in_turn : pulses.answered 950
-    (pulses.answered 900 (pulses.strikes (pulses.asked 800 (pulses.asked 700 (pulses.asked 600 no_handshakes)))))
+    (pulses.answered 900 (pulses.newest_struck (pulses.asked 800 (pulses.asked 700 (pulses.asked 600 no_handshakes)))))
     ≡ record {
       requests = 3;
       answers = 2;
@@ -251,7 +251,7 @@ answered_in_turn : pulses.answered 950
     }
 answered_in_turn = refl
 
-asked_again : pulses.asked 990 (pulses.answered 950 (pulses.strikes (pulses.asked 600 no_handshakes))) ≡ record {
+asked_again : pulses.asked 990 (pulses.answered 950 (pulses.newest_struck (pulses.asked 600 no_handshakes))) ≡ record {
   requests = 2;
   answers = 1;
   last_req = 990;
@@ -263,7 +263,7 @@ asked_again : pulses.asked 990 (pulses.answered 950 (pulses.strikes (pulses.aske
 }
 asked_again = refl
 
-struck_before_any : pulses.strikes no_handshakes ≡ no_handshakes
+struck_before_any : pulses.newest_struck no_handshakes ≡ no_handshakes
 struck_before_any = refl
 
 -- No more than 255 are remembered.

@@ -81,17 +81,17 @@ answered_if false time h = h
 
 -- ---- a fault strikes the byte of the newest request
 
-abbrev pub strikes_last : List Request → List Request
-strikes_last [] = []
-strikes_last (r ∷ []) = record { time = r.time; struck = true } ∷ []
-strikes_last (r ∷ (q ∷ waiting)) = r ∷ strikes_last (q ∷ waiting)
+abbrev pub with_last_struck : List Request → List Request
+with_last_struck [] = []
+with_last_struck (r ∷ []) = record { time = r.time; struck = true } ∷ []
+with_last_struck (r ∷ (q ∷ waiting)) = r ∷ with_last_struck (q ∷ waiting)
 
-abbrev pub strikes : Handshakes → Handshakes
-strikes h = record h { struck = not (h.requests == 0); waiting = strikes_last h.waiting }
+abbrev pub newest_struck : Handshakes → Handshakes
+newest_struck h = record h { struck = not (h.requests == 0); waiting = with_last_struck h.waiting }
 
-abbrev pub strikes_if : Bool → Handshakes → Handshakes
-strikes_if true h = strikes h
-strikes_if false h = h
+abbrev pub newest_struck_if : Bool → Handshakes → Handshakes
+newest_struck_if true h = newest_struck h
+newest_struck_if false h = h
 
 -- ---- a row
 
@@ -104,7 +104,7 @@ handshakes_on (Some n) c time h =
 
 -- Only a byte to the initiator crosses with REQ, so that a fault may strike it (6.1.5.1).
 abbrev pub handshakes_after : Bool → Option Connection → Change → ℕ → Handshakes → Handshakes
-handshakes_after true n c time h = strikes_if c.before.io h
+handshakes_after true n c time h = newest_struck_if c.before.io h
 handshakes_after false n c time h = handshakes_on n c time h
 
 abbrev pub handshakes : List Row → Handshakes

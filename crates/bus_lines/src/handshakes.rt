@@ -3,7 +3,7 @@ ghost use Rattle.std.specs.Prelude.{ℕ, ◌≡◌, ◌∷◌, [], List, length,
 ghost use Rattle.bus_trace.specs.declared.Row.{Row};
 ghost use Rattle.bus_trace.specs.Changes.{change_of};
 ghost use Rattle.bus_trace.specs.Terms.{connection, is_fault};
-ghost use Rattle.bus_lines.specs.Handshakes.{handshakes, handshakes_after, no_handshakes, asked, answered, strikes, strikes_last, first_of, room_by};
+ghost use Rattle.bus_lines.specs.Handshakes.{handshakes, handshakes_after, no_handshakes, asked, answered, newest_struck, with_last_struck, first_of, room_by};
 
 use arrayvec::ArrayVec;
 use bus_trace::the_bus_base::Ns;
@@ -99,11 +99,11 @@ impl Handshakes {
     }
 
     // A fault strikes the byte of the newest request.
-    fn strikes(&mut self)
-        ensures { self.new ≡ strikes self.old }
+    fn strike(&mut self)
+        ensures { self.new ≡ newest_struck self.old }
     {
         self.struck = self.requests != 0;
-        strikes_last(&mut self.waiting);
+        strike_last(&mut self.waiting);
     }
 
     // A phase ends.
@@ -128,7 +128,7 @@ impl Handshakes {
     {
         if let Kind::Fault(_) = row.kind {
             if change.before.io() {
-                self.strikes();
+                self.strike();
             }
             return;
         }
@@ -235,8 +235,8 @@ fn forget_oldest(waiting: &mut ArrayVec<Request, 255>)
 }
 
 // A fault strikes the last of those that wait.
-fn strikes_last(waiting: &mut ArrayVec<Request, 255>)
-    ensures { waiting.new.items ≡ strikes_last waiting.old.items }
+fn strike_last(waiting: &mut ArrayVec<Request, 255>)
+    ensures { waiting.new.items ≡ with_last_struck waiting.old.items }
 {
     let count = waiting.len();
     if count == 0 {

@@ -7,8 +7,8 @@ use Rattle.bus_trace.specs.Terms.{connection}
 use Rattle.scenario.specs.declared.value.HostDef.{HostDef}
 use Rattle.scenario.specs.declared.value.TargetDef.{TargetDef}
 use Rattle.scenario.specs.Value.{ScenarioValue}
-use Rattle.bus_due.specs.bus_story.specs.Samples.{host_latency, target_latency, latency_of}
-use Rattle.bus_due.specs.Defs.{host_of, target_def_of}
+use Rattle.due_model.specs.story_model.specs.Samples.{host_latency, target_latency, latency_of}
+use Rattle.due_model.specs.Defs.{host_of, target_def_of}
 use Rattle.bus_run.specs.Places.{IsIn}
 use Rattle.bus_run.specs.Seams.{seams}
 use Rattle.bus_run.proofs.Seams.{ends_are}

@@ -1,7 +1,7 @@
 -- The first of what is due, device by device.
 use Rattle.std.proofs.Common.{ℕ, suc, ◌≡◌, ◌+◌, Option, None, refl, ap, arith}
-use Rattle.bus_reactions.specs.declared.due.Due.{Due}
-use Rattle.bus_due.specs.Next.{least, first_row}
+use Rattle.reaction_model.specs.declared.due.Due.{Due}
+use Rattle.due_model.specs.Next.{least, first_row}
 
 pub least_none : (f : ℕ → Option Due) → least f 0 ≡ None
 unfolding least

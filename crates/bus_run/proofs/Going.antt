@@ -7,10 +7,10 @@ use Rattle.bus_trace.specs.declared.Row.{Row}
 use Rattle.bus_trace.specs.Terms.{is_fault}
 use Rattle.scenario.specs.declared.value.FaultDef.{FaultDef}
 use Rattle.scenario.specs.Value.{ScenarioValue}
-use Rattle.bus_due.specs.bus_dialogue.specs.Observer.{ObserverValue, IsObserverOf}
-use Rattle.bus_due.specs.Next.{next, IsPrompt}
-use Rattle.bus_due.specs.Plain.{AreOfDevices}
-use Rattle.bus_due.specs.RunSteps.{run_state}
+use Rattle.due_model.specs.dialogue_model.specs.Observer.{ObserverValue, IsObserverOf}
+use Rattle.due_model.specs.Next.{next, IsPrompt}
+use Rattle.due_model.specs.Plain.{AreOfDevices}
+use Rattle.due_model.specs.RunSteps.{run_state}
 use Rattle.bus_laws.specs.scsi_device.specs.Lines.{FitsBus}
 use Rattle.bus_run.specs.Away.{IsAwayIf}
 use Rattle.bus_run.specs.Places.{AreIn}

@@ -11,18 +11,18 @@ use Rattle.bus_trace.specs.Changes.{change_of}
 use Rattle.bus_trace.specs.Trace.{bus, drives, driven_after}
 use Rattle.bus_trace.specs.Terms.{connection}
 use Rattle.scenario.specs.Value.{ScenarioValue}
-use Rattle.bus_due.specs.bus_story.specs.Samples.{latency_of}
-use Rattle.bus_reactions.specs.declared.due.Due.{Due}
-use Rattle.bus_reactions.specs.declared.due.Myself.{Myself}
-use Rattle.bus_reactions.specs.Reset.{with_reset}
-use Rattle.bus_due.specs.Due.{self_of, reset_from, stage_due, due_if, AreOthersStill}
-use Rattle.bus_due.specs.Next.{due}
-use Rattle.bus_due.specs.Own.{Own, own_at, own_next, own_of}
-use Rattle.bus_due.specs.Plain.{AreOfDevices, IsPlain}
-use Rattle.bus_due.specs.PlainDue.{IsLinked}
-use Rattle.bus_due.specs.RunState.{RunState, bus_of}
-use Rattle.bus_due.specs.RunSteps.{run_state}
-use Rattle.bus_due.proofs.Plains.{run_state_plain}
+use Rattle.due_model.specs.story_model.specs.Samples.{latency_of}
+use Rattle.reaction_model.specs.declared.due.Due.{Due}
+use Rattle.reaction_model.specs.declared.due.Myself.{Myself}
+use Rattle.reaction_model.specs.Reset.{with_reset}
+use Rattle.due_model.specs.Due.{self_of, reset_from, stage_due, due_if, AreOthersStill}
+use Rattle.due_model.specs.Next.{due}
+use Rattle.due_model.specs.Own.{Own, own_at, own_next, own_of}
+use Rattle.due_model.specs.Plain.{AreOfDevices, IsPlain}
+use Rattle.due_model.specs.PlainDue.{IsLinked}
+use Rattle.due_model.specs.RunState.{RunState, bus_of}
+use Rattle.due_model.specs.RunSteps.{run_state}
+use Rattle.due_model.proofs.Plains.{run_state_plain}
 use Rattle.bus_run.specs.Away.{due_besides, IsAway, IsAwayIf}
 use Rattle.bus_run.specs.Standing.{is_end, IsKept}
 use Rattle.bus_run.specs.declared.away.Away.{Away}

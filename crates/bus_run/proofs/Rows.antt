@@ -9,15 +9,15 @@ use Rattle.bus_trace.specs.declared.connection.Connection.{Connection}
 use Rattle.bus_trace.specs.Changes.{change_of}
 use Rattle.bus_trace.specs.Terms.{connection}
 use Rattle.scenario.specs.Value.{ScenarioValue}
-use Rattle.bus_due.specs.bus_dialogue.specs.declared.exchange.Hearing.{Hearing}
-use Rattle.bus_due.specs.bus_dialogue.specs.Hearing.{hearing}
-use Rattle.bus_due.specs.bus_dialogue.specs.Observer.{ObserverValue}
-use Rattle.bus_due.specs.bus_dialogue.specs.Events.{is_empty}
-use Rattle.bus_due.specs.Plain.{IsPlain}
-use Rattle.bus_due.specs.RunSteps.{run_state}
-use Rattle.bus_due.specs.Sights.{hearing_of}
-use Rattle.bus_due.specs.Telling.{telling, is_true_telling, events_of_ends, events_of_ends_in, target_events}
-use Rattle.bus_due.specs.Telling.{initiator_events}
+use Rattle.due_model.specs.dialogue_model.specs.declared.exchange.Hearing.{Hearing}
+use Rattle.due_model.specs.dialogue_model.specs.Hearing.{hearing}
+use Rattle.due_model.specs.dialogue_model.specs.Observer.{ObserverValue}
+use Rattle.due_model.specs.dialogue_model.specs.Events.{is_empty}
+use Rattle.due_model.specs.Plain.{IsPlain}
+use Rattle.due_model.specs.RunSteps.{run_state}
+use Rattle.due_model.specs.Sights.{hearing_of}
+use Rattle.due_model.specs.Telling.{telling, is_true_telling, events_of_ends, events_of_ends_in, target_events}
+use Rattle.due_model.specs.Telling.{initiator_events}
 use Rattle.bus_laws.specs.scsi_device.specs.Heard.{instructions}
 use Rattle.bus_laws.specs.scsi_device.specs.Writes.{writers}
 use Rattle.disk_target.specs.Attended.{attended, is_attended, is_attended_if, is_attended_row, is_attended_in}
@@ -27,8 +27,8 @@ use Rattle.bus_run.specs.Seams.{seams}
 use Rattle.bus_run.specs.Seen.{AreSeen}
 use Rattle.bus_run.specs.Shown.{reading, events_shown, is_left, teller, reset_events}
 use Rattle.bus_run.proofs.Seams.{tied, is_attended_after}
-use Rattle.bus_due.proofs.SameEvents.{events_are}
-use Rattle.bus_due.specs.bus_dialogue.proofs.Leavings.{empty_is}
+use Rattle.due_model.proofs.SameEvents.{events_are}
+use Rattle.due_model.specs.dialogue_model.proofs.Leavings.{empty_is}
 
 -- What the rows say of a row is what is kept of it.
 pub record IsRead (s : ScenarioValue) (rows : List Row) (row : Row) : Type 0 where

@@ -8,11 +8,11 @@ use Rattle.bus_trace.specs.Terms.{connection}
 use Rattle.scenario.specs.declared.value.HostDef.{HostDef}
 use Rattle.scenario.specs.declared.value.TargetDef.{TargetDef}
 use Rattle.scenario.specs.Value.{ScenarioValue}
-use Rattle.bus_due.specs.Allowed.{allowed, is_allowed}
-use Rattle.bus_due.specs.Defs.{host_of, target_def_of}
-use Rattle.bus_due.specs.Faithful.{faithful, is_faithful}
-use Rattle.bus_due.specs.RunSteps.{run_state}
-use Rattle.bus_due.specs.Telling.{telling, is_true_telling}
+use Rattle.due_model.specs.Allowed.{allowed, is_allowed}
+use Rattle.due_model.specs.Defs.{host_of, target_def_of}
+use Rattle.due_model.specs.Faithful.{faithful, is_faithful}
+use Rattle.due_model.specs.RunSteps.{run_state}
+use Rattle.due_model.specs.Telling.{telling, is_true_telling}
 use Rattle.bus_laws.specs.scsi_device.specs.Heard.{heard, is_heard_after, instructions}
 use Rattle.bus_laws.specs.scsi_device.specs.Lines.{IsHostLine, IsTargetLine}
 use Rattle.bus_laws.specs.scsi_device.specs.Writes.{written, is_written, writers}

@@ -6,9 +6,9 @@ use Rattle.std.proofs.lemmas.Bool.{cases_eq, eqb-true, eq-eqb, ne_eqb}
 use Rattle.std.proofs.lemmas.Bool.Decides.{nat_tests}
 use Rattle.bus_trace.specs.declared.Row.{Row}
 use Rattle.bus_trace.specs.declared.connection.Connection.{Connection}
-use Rattle.bus_reactions.specs.declared.due.Due.{Due}
-use Rattle.bus_due.specs.Next.{least, first_row, row_of}
-use Rattle.bus_due.proofs.Leasts.{least_some}
+use Rattle.reaction_model.specs.declared.due.Due.{Due}
+use Rattle.due_model.specs.Next.{least, first_row, row_of}
+use Rattle.due_model.proofs.Leasts.{least_some}
 use Rattle.bus_run.specs.Away.{comes_first, sooner_row, due_besides}
 use Rattle.bus_run.proofs.Firsts.{least_more}
 

@@ -10,7 +10,7 @@ use Rattle.bus_trace.specs.declared.connection.Connection.{Connection}
 use Rattle.scenario.specs.Value.{ScenarioValue}
 use Rattle.bus_run.specs.Places.{IsIn, AreIn, rows_told, AreKnownBut}
 use Rattle.bus_base.proofs.Tests.{or_true, eq_self, nothing_below}
-use Rattle.bus_due.specs.bus_rules.specs.Order.{is_of_device}
+use Rattle.due_model.specs.bus_rules.specs.Order.{is_of_device}
 
 below_more : (d dev : ℕ) → d ≢ dev → nat_lt d (dev + 1) ≡ nat_lt d dev
 below_more d dev ne = grind (arith, nat_tests)

@@ -3,9 +3,9 @@ use Rattle.std.specs.Prelude.{ℕ, ◌≡◌, ◌==◌, ◌&&◌, ◌||◌, nat_
 use Rattle.bus_trace.specs.declared.Row.{Row}
 use Rattle.bus_trace.specs.declared.connection.Connection.{Connection}
 use Rattle.scenario.specs.Value.{ScenarioValue}
-use Rattle.bus_reactions.specs.declared.due.Due.{Due}
-use Rattle.bus_due.specs.Next.{due, least, row_of}
-use Rattle.bus_due.specs.PlainDue.{IsLinked}
+use Rattle.reaction_model.specs.declared.due.Due.{Due}
+use Rattle.due_model.specs.Next.{due, least, row_of}
+use Rattle.due_model.specs.PlainDue.{IsLinked}
 use Rattle.bus_run.specs.Standing.{is_end}
 use Rattle.bus_run.specs.declared.away.Away.{Away}
 

@@ -2,8 +2,8 @@
 use Rattle.std.specs.Prelude.{ℕ, ◌≡◌, ◌<◌, ◌||◌, nat_lt, List, ◌∷◌, Option, Some, None, slice_index_or, if◌then◌else◌}
 use Rattle.bus_trace.specs.declared.Row.{Row}
 use Rattle.scenario.specs.Value.{ScenarioValue}
-use Rattle.bus_due.specs.bus_story.specs.Samples.{latency_of}
-use Rattle.bus_due.specs.bus_rules.specs.Order.{is_of_device}
+use Rattle.due_model.specs.story_model.specs.Samples.{latency_of}
+use Rattle.due_model.specs.bus_rules.specs.Order.{is_of_device}
 
 -- A place without a device is that of a device which the scenario does not have.
 abbrev pub IsIn : {D : Type 0} → (ScenarioValue → List Row → ℕ → D → Type 0) → ScenarioValue → List Row → ℕ → Option D

@@ -3,8 +3,8 @@ use Rattle.std.specs.Prelude.{ℕ, ◌<◌, ◌^◌, List, length}
 use Rattle.std.specs.List.{AllByRecursion}
 use Rattle.bus_trace.specs.declared.Row.{Row}
 use Rattle.scenario.specs.Value.{ScenarioValue}
-use Rattle.bus_due.specs.bus_dialogue.specs.Observer.{ObserverValue, IsObserverOf}
-use Rattle.bus_due.specs.Next.{IsPrompt}
+use Rattle.due_model.specs.dialogue_model.specs.Observer.{ObserverValue, IsObserverOf}
+use Rattle.due_model.specs.Next.{IsPrompt}
 
 -- All rows come before this time, in ns.
 abbrev pub AreEarly : List Row → Type 0

@@ -5,11 +5,11 @@ use Rattle.bus_trace.specs.declared.Row.{Row}
 use Rattle.bus_trace.specs.declared.connection.Connection.{Connection}
 use Rattle.bus_trace.specs.Terms.{connection}
 use Rattle.scenario.specs.Value.{ScenarioValue}
-use Rattle.bus_due.specs.Defs.{host_of, target_def_of}
-use Rattle.bus_due.specs.Faithful.{faithful}
-use Rattle.bus_due.specs.Telling.{telling}
-use Rattle.bus_due.specs.Allowed.{allowed}
-use Rattle.bus_due.specs.Next.{IsPrompt}
+use Rattle.due_model.specs.Defs.{host_of, target_def_of}
+use Rattle.due_model.specs.Faithful.{faithful}
+use Rattle.due_model.specs.Telling.{telling}
+use Rattle.due_model.specs.Allowed.{allowed}
+use Rattle.due_model.specs.Next.{IsPrompt}
 use Rattle.bus_laws.specs.scsi_device.specs.Heard.{heard}
 use Rattle.bus_laws.specs.scsi_device.specs.Writes.{written}
 use Rattle.disk_target.specs.Attended.{attended}

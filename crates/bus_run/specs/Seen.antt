@@ -2,8 +2,8 @@
 use Rattle.std.specs.Prelude.{◌≡◌, ◌<◌, ◌^◌, true, List, length}
 use Rattle.bus_trace.specs.declared.Row.{Row}
 use Rattle.scenario.specs.Value.{ScenarioValue}
-use Rattle.bus_due.specs.bus_dialogue.specs.Observer.{ObserverValue, IsObserverOf}
-use Rattle.bus_due.specs.Plain.{AreOfDevices}
+use Rattle.due_model.specs.dialogue_model.specs.Observer.{ObserverValue, IsObserverOf}
+use Rattle.due_model.specs.Plain.{AreOfDevices}
 use Rattle.bus_laws.specs.scsi_device.specs.Lines.{FitsBus}
 use Rattle.bus_run.specs.Runs.{AreEarly}
 use Rattle.bus_run.specs.Seams.{seams}

@@ -8,9 +8,9 @@ use Rattle.bus_trace.specs.declared.connection.Connection.{Connection}
 use Rattle.bus_trace.specs.Changes.{rises}
 use Rattle.bus_trace.specs.Phases.{changes_phase}
 use Rattle.scenario.specs.Value.{ScenarioValue}
-use Rattle.bus_due.specs.bus_story.specs.BusState.{RowReading, row_reading}
-use Rattle.bus_due.specs.bus_story.specs.HistoryEvents.{row_events_by}
-use Rattle.bus_due.specs.RunSteps.{run_state}
+use Rattle.due_model.specs.story_model.specs.BusState.{RowReading, row_reading}
+use Rattle.due_model.specs.story_model.specs.HistoryEvents.{row_events_by}
+use Rattle.due_model.specs.RunSteps.{run_state}
 use Rattle.bus_run.specs.declared.shown.Shown.{Shown}
 use Rattle.bus_run.specs.declared.shown.Shown.TheVariants.{Nothing, One, Two}
 

@@ -4,7 +4,7 @@ use Rattle.std.specs.Prelude.{if◌then◌else◌}
 use Rattle.bus_trace.specs.declared.Row.{Row}
 use Rattle.bus_trace.specs.declared.connection.Connection.{Connection}
 use Rattle.bus_lines.specs.declared.effect.RowEffect.{RowEffect}
-use Rattle.bus_due.specs.PlainDue.{IsLinked}
+use Rattle.due_model.specs.PlainDue.{IsLinked}
 
 -- The initiator or the target of a connection.
 abbrev pub is_end : Connection → ℕ → Bool

@@ -5,9 +5,9 @@ ghost use Rattle.bus_trace.specs.declared.connection.Connection.{Connection};
 ghost use Rattle.bus_trace.specs.Terms.{connection};
 ghost use Rattle.bus_lines.specs.Timely.{IsTimely};
 ghost use Rattle.scenario.specs.Value.{ScenarioValue};
-ghost use Rattle.bus_due.specs.Next.{due};
-ghost use Rattle.bus_due.specs.RunSteps.{run_state};
-ghost use Rattle.bus_due.specs.Telling.{target_events, initiator_events};
+ghost use Rattle.due_model.specs.Next.{due};
+ghost use Rattle.due_model.specs.RunSteps.{run_state};
+ghost use Rattle.due_model.specs.Telling.{target_events, initiator_events};
 ghost use Rattle.bus_laws.specs.scsi_device.specs.Told.{first_fault};
 ghost use Rattle.bus_run.specs.Label.{process_known};
 ghost use Rattle.bus_run.specs.Seams.{seams};
@@ -17,9 +17,9 @@ ghost use Rattle.bus_run.specs.Standing.{IsKept, is_end};
 
 use crate::shown::Shown;
 use bus_base::{Event, ProcId};
-use bus_due::the_bus_dialogue::Observer;
-use bus_reactions::Due;
 use bus_trace::Row;
+use due_model::the_dialogue_model::Observer;
+use reaction_model::Due;
 use scenario::FaultDef;
 
 /// A device of the bus. `IsOf s rows dev device` says that it is the device `dev` of the scenario `s`, which was told

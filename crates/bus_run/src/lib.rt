@@ -6,7 +6,7 @@
 //! as long as only they make rows: what is due of the others stays the same (`specs/Away.antt`). Nothing else decides:
 //! there are no rounds, no clock and no moments that were set. What a device knows is its own affair, and stands here
 //! as a relation between the device and the rows that it was told of (`IsOf`); `specs/Seams.antt` says what it may rest
-//! on beside. Stands on `scsi_device`, `bus_dialogue`, `bus_due` and `bus_laws`.
+//! on beside. Stands on `scsi_device`, `dialogue_model`, `due_model` and `bus_laws`.
 //!
 //! Public contract: what [`run`] returns is the prompt trace of the scenario, after which nothing is due where it has
 //! fewer than 2^32 - 1 rows, with the history that its rows tell, where every prompt trace of the scenario ties what

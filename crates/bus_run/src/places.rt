@@ -5,8 +5,8 @@ ghost use Rattle.bus_trace.specs.declared.connection.Connection.{Connection};
 ghost use Rattle.bus_trace.specs.Terms.{connection};
 ghost use Rattle.bus_lines.specs.Timely.{IsTimely};
 ghost use Rattle.scenario.specs.Value.{ScenarioValue};
-ghost use Rattle.bus_due.specs.RunSteps.{run_state};
-ghost use Rattle.bus_due.specs.Telling.{target_events, initiator_events, id_or_none};
+ghost use Rattle.due_model.specs.RunSteps.{run_state};
+ghost use Rattle.due_model.specs.Telling.{target_events, initiator_events, id_or_none};
 ghost use Rattle.bus_run.specs.Label.{process_known};
 ghost use Rattle.bus_run.specs.Places.{IsIn};
 ghost use Rattle.bus_run.specs.Seams.{seams};
@@ -19,8 +19,8 @@ use crate::laws::rows_tie_devices;
 use crate::shown::Shown;
 use crate::standing::is_end;
 use bus_base::{Dev, Event, ProcId};
-use bus_due::the_bus_dialogue::Observer;
 use bus_trace::{Connection, Row};
+use due_model::the_dialogue_model::Observer;
 
 /// What the device in this place shows with the last row, which the observer has seen and it has not. No device shows
 /// nothing.

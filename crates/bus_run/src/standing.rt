@@ -1,13 +1,13 @@
 //! Rows that leave a connection and RST as they are.
 ghost use Rattle.std.specs.Prelude.{◌≡◌, ◌∷◌, List, IfSome};
 ghost use Rattle.bus_trace.specs.declared.Row.{Row};
-ghost use Rattle.bus_due.specs.bus_dialogue.specs.Observer.{IsObserverOf};
+ghost use Rattle.due_model.specs.dialogue_model.specs.Observer.{IsObserverOf};
 ghost use Rattle.bus_run.specs.Standing.{is_end, IsKept, is_calm, kept_by};
 
 use bus_base::Dev;
-use bus_due::the_bus_dialogue::Observer;
 use bus_lines::RowEffect;
 use bus_trace::Connection;
+use due_model::the_dialogue_model::Observer;
 
 /// Whether the device of this ID is the initiator or the target of a connection.
 pub fn is_end(connection: &Connection, dev: Dev) -> bool

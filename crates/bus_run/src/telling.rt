@@ -10,16 +10,16 @@ ghost use Rattle.bus_run.specs.Places.{AreIn, AreKnownBut};
 ghost use Rattle.bus_run.specs.Seen.{AreSeen};
 ghost use Rattle.bus_run.specs.Shown.{shown_events, reading, events_shown, is_left, teller, reset_events};
 ghost use Rattle.bus_run.specs.Standing.{IsKept};
-ghost use Rattle.bus_due.specs.bus_rules.specs.Order.{is_of_device};
+ghost use Rattle.due_model.specs.bus_rules.specs.Order.{is_of_device};
 
 use crate::device::Device;
 use crate::laws::rows_tie_devices;
 use crate::places::{no_process, process_in, see_in, see_kept_in, shown_in};
 use crate::shown::Shown;
 use bus_base::{Dev, Event, ProcId};
-use bus_due::the_bus_dialogue::Observer;
-use bus_due::{hearings_are_plain, kept_is_plain};
 use bus_trace::{Change, Connection, Row, changes_phase, rises};
+use due_model::the_dialogue_model::Observer;
+use due_model::{hearings_are_plain, kept_is_plain};
 
 // Whether a phase is left, or the bus; this connection stands after the row.
 fn is_left(change: &Change, after: &Option<Connection>) -> bool

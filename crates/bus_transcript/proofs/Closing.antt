@@ -2,7 +2,7 @@
 use Rattle.std.proofs.Common.{◌≡◌, List, refl}
 use Rattle.std.specs.Prelude.{Bool, false, Option}
 use Rattle.bus_trace.specs.declared.connection.Connection.{Connection}
-use Rattle.bus_story.specs.BusState.{RowReading}
+use Rattle.story_model.specs.BusState.{RowReading}
 use Rattle.bus_transcript.specs.declared.part.Part.{Part}
 use Rattle.bus_transcript.specs.declared.summary.Summary.{Summary}
 use Rattle.bus_transcript.specs.Opened.{OpenedValue, settled, phase_over}

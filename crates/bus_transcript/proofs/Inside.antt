@@ -11,7 +11,7 @@ use Rattle.bus_trace.specs.declared.connection.Connection.{Connection}
 use Rattle.msg_grammar.specs.declared.message.MsgIn.{MsgIn}
 use Rattle.msg_grammar.specs.declared.message.MsgIn.TheVariants as to_initiator
 use Rattle.msg_grammar.specs.declared.message.MsgOut.{MsgOut}
-use Rattle.bus_story.specs.BusState.{RowReading, row_reading}
+use Rattle.story_model.specs.BusState.{RowReading, row_reading}
 use Rattle.bus_transcript.specs.declared.item.Name.{Name}
 use Rattle.bus_transcript.specs.declared.item.Item.{Item}
 use Rattle.bus_transcript.specs.declared.item.Item.TheVariants as items
@@ -29,7 +29,7 @@ use Rattle.bus_transcript.specs.Rows.{TranscriberValue, with_items, abort_item, 
 use Rattle.bus_transcript.specs.Rows.{departed_if, closed_by, closed_if, reset_items, free_items, under_reset}
 use Rattle.bus_transcript.specs.Rows.{unanswered_by, unanswered_items, in_connection, on_bus, by_change, transcribed}
 use Rattle.bus_transcript.specs.Rows.{finished_if, transcript_of}
-use Rattle.disk_array.proofs.SeatLookups.{number_same}
+use Rattle.array_model.proofs.SeatLookups.{number_same}
 
 -- ---- names
 

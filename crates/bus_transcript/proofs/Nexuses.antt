@@ -10,7 +10,7 @@ use Rattle.std.specs.BTreeMap.{is_at}
 use Rattle.bus_transcript.specs.declared.item.Name.{Name}
 use Rattle.bus_transcript.specs.Keys.{key_of, key_cmp}
 use Rattle.bus_transcript.specs.Processes.{same_nexus}
-use Rattle.disk_array.specs.Order.{same_number}
+use Rattle.array_model.specs.Order.{same_number}
 
 both : (a b : Ordering) → is_eq (ordering_then a b) ≡ (is_eq a && is_eq b)
 both Less b = refl

@@ -24,16 +24,18 @@ use Rattle.msg_grammar.specs.declared.message.MsgIn.TheVariants as to_initiator
 use Rattle.msg_grammar.specs.declared.message.MsgOut.{MsgOut}
 use Rattle.scenario.specs.declared.value.AbortDef.{AbortDef}
 use Rattle.scenario.specs.Value.{ScenarioValue}
-use Rattle.bus_story.specs.BusState.{BusState, RowReading, change_by, row_reading}
-use Rattle.bus_story.specs.CarriedBytes.{CarriedBytes, is_whole_block, is_status_phase}
-use Rattle.bus_story.specs.Items as told
-use Rattle.bus_story.specs.Links.{Link, LastMessage, plain, complete, disconnect, abortive}
-use Rattle.bus_story.specs.Story.{Story}
-use Rattle.bus_story.specs.HistoryEvents.{carried_if, queue_event, queue_events, is_refuse, status_event, status_events}
-use Rattle.bus_story.specs.HistoryEvents.{is_completion, end_events, item_loss_events, abort_line_at, abort_line_events}
-use Rattle.bus_story.specs.HistoryEvents.{item_abort_events, bus_free_events, connection_events, link_events}
-use Rattle.bus_story.specs.HistoryEvents.{row_events_by}
-use Rattle.bus_story.specs.TraceHistory.{story, row_events, trace_history}
+use Rattle.story_model.specs.BusState.{BusState, RowReading, change_by, row_reading}
+use Rattle.story_model.specs.CarriedBytes.{CarriedBytes, is_whole_block, is_status_phase}
+use Rattle.story_model.specs.Items as told
+use Rattle.story_model.specs.Links.{Link, LastMessage, plain, complete, disconnect, abortive}
+use Rattle.story_model.specs.Story.{Story}
+use Rattle.story_model.specs.HistoryEvents.{carried_if, queue_event, queue_events, is_refuse, status_event}
+use Rattle.story_model.specs.HistoryEvents.{status_events}
+use Rattle.story_model.specs.HistoryEvents.{is_completion, end_events, item_loss_events, abort_line_at}
+use Rattle.story_model.specs.HistoryEvents.{abort_line_events}
+use Rattle.story_model.specs.HistoryEvents.{item_abort_events, bus_free_events, connection_events, link_events}
+use Rattle.story_model.specs.HistoryEvents.{row_events_by}
+use Rattle.story_model.specs.TraceHistory.{story, row_events, trace_history}
 use Rattle.bus_transcript.specs.declared.item.Item.{Item}
 use Rattle.bus_transcript.specs.declared.item.Item.TheVariants as items
 use Rattle.bus_transcript.specs.declared.part.Part.{Part}

@@ -6,7 +6,7 @@ use Rattle.bus_base.specs.declared.failures.NoMemory.{NoMemory}
 use Rattle.bus_base.specs.declared.Event.{Event}
 use Rattle.bus_trace.specs.declared.rows.Row.{Row}
 use Rattle.scenario.specs.Value.{ScenarioValue}
-use Rattle.bus_story.specs.TraceHistory.{trace_history}
+use Rattle.story_model.specs.TraceHistory.{trace_history}
 use Rattle.bus_transcript.specs.declared.item.Transcript.{Transcript}
 use Rattle.bus_transcript.specs.Events.{resets_shown, resets_told}
 use Rattle.bus_transcript.specs.Rows.{transcript_of}

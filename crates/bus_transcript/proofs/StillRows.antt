@@ -10,8 +10,8 @@ use Rattle.bus_trace.specs.Changes.{rises}
 use Rattle.bus_trace.specs.Phases.{changes_phase, is_message_in}
 use Rattle.bus_trace.specs.Terms.{call_after, connection_after, is_fault, receiver_of}
 use Rattle.bus_phases.specs.Half.{is_nil}
-use Rattle.bus_story.specs.BusState.{BusState, RowReading, change_by, row_reading}
-use Rattle.bus_story.specs.PairAgreements.{agreement_in}
+use Rattle.story_model.specs.BusState.{BusState, RowReading, change_by, row_reading}
+use Rattle.story_model.specs.PairAgreements.{agreement_in}
 use Rattle.bus_transcript.specs.declared.part.Part.TheVariants.{Completion}
 use Rattle.bus_transcript.specs.Opened.{OpenedValue, is_complete, is_completion, with_fault, with_part, with_row}
 use Rattle.bus_transcript.specs.Opened.{with_still_row, with_crossing, phase_entered, phase_over}

@@ -7,15 +7,15 @@ use Rattle.bus_base.specs.declared.Event.{Event}
 use Rattle.bus_base.specs.declared.Event.TheVariants as events
 use Rattle.bus_trace.specs.declared.rows.Row.{Row}
 use Rattle.scenario.specs.Value.{ScenarioValue}
-use Rattle.bus_story.specs.Items as told
-use Rattle.bus_story.specs.Items.{process, same_item}
-use Rattle.bus_story.specs.TraceHistory.{story, trace_history}
+use Rattle.story_model.specs.Items as told
+use Rattle.story_model.specs.Items.{process, same_item}
+use Rattle.story_model.specs.TraceHistory.{story, trace_history}
 use Rattle.bus_transcript.specs.declared.item.Name.{Name}
 use Rattle.bus_transcript.specs.declared.item.Item.{Item}
 use Rattle.bus_transcript.specs.declared.item.Item.TheVariants as items
 use Rattle.bus_transcript.specs.Processes.{same_nexus}
 use Rattle.bus_transcript.specs.Rows.{transcript_of}
-use Rattle.disk_array.specs.Order.{same_number}
+use Rattle.array_model.specs.Order.{same_number}
 
 -- ---- resets
 

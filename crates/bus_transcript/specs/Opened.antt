@@ -14,14 +14,14 @@ use Rattle.msg_grammar.specs.declared.message.MsgOut.{MsgOut}
 use Rattle.msg_grammar.specs.declared.message.MsgIn.{MsgIn}
 use Rattle.msg_grammar.specs.declared.message.MsgIn.TheVariants as to_initiator
 use Rattle.bus_phases.specs.Half.{is_nil}
-use Rattle.bus_story.specs.BusState.{BusState, RowReading}
-use Rattle.bus_story.specs.CarriedBytes.{is_status_phase}
+use Rattle.story_model.specs.BusState.{BusState, RowReading}
+use Rattle.story_model.specs.CarriedBytes.{is_status_phase}
 use Rattle.bus_transcript.specs.declared.part.Incoming.{Incoming}
 use Rattle.bus_transcript.specs.declared.part.Incoming.TheVariants.{Whole, Broken}
 use Rattle.bus_transcript.specs.declared.part.Part.{Part}
 use Rattle.bus_transcript.specs.declared.part.Part.TheVariants.{Out, In, BrokenOff, Command, Data, StatusPhase, Status}
 use Rattle.bus_transcript.specs.declared.part.Part.TheVariants.{Completion}
-use Rattle.bus_story.specs.TraceHistory.{is_parity_error}
+use Rattle.story_model.specs.TraceHistory.{is_parity_error}
 
 pub record OpenedValue : Type 0 where
   pub connection : Connection

@@ -6,7 +6,7 @@ use Rattle.bus_transcript.specs.declared.item.Name.{Name}
 use Rattle.bus_transcript.specs.declared.process.Process.{Process}
 use Rattle.bus_transcript.specs.Keys.{Key, key_of, key_cmp}
 use Rattle.bus_transcript.specs.Numbers.{next_number}
-use Rattle.disk_array.specs.Order.{same_number}
+use Rattle.array_model.specs.Order.{same_number}
 
 -- What is kept is the last process of each nexus, in the order of the keys: the one of this nexus.
 abbrev pub process_of : List (Key × Process) → Name → Option Process

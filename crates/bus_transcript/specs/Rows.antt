@@ -14,8 +14,8 @@ use Rattle.bus_trace.specs.Phases.{changes_phase}
 use Rattle.bus_trace.specs.Terms.{receiver_of}
 use Rattle.bus_phases.specs.declared.dialogue.Dialogue.{Dialogue}
 use Rattle.bus_phases.specs.Dialogue.{dialogue_after}
-use Rattle.bus_story.specs.PairAgreements.{agreement_in}
-use Rattle.bus_story.specs.BusState.{BusState, RowReading, quiet_bus, row_reading, bus_state_after}
+use Rattle.story_model.specs.PairAgreements.{agreement_in}
+use Rattle.story_model.specs.BusState.{BusState, RowReading, quiet_bus, row_reading, bus_state_after}
 use Rattle.bus_transcript.specs.declared.item.Name.{Name}
 use Rattle.bus_transcript.specs.declared.item.Item.{Item}
 use Rattle.bus_transcript.specs.declared.item.Item.TheVariants.{Connect, Unanswered, Lost, Abort, Reset, Free}

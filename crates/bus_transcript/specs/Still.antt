@@ -5,7 +5,7 @@ use Rattle.bus_trace.specs.declared.rows.Row.{Row}
 use Rattle.bus_trace.specs.declared.changes.Change.{Change}
 use Rattle.bus_trace.specs.Phases.{changes_phase, is_message_in}
 use Rattle.bus_trace.specs.Terms.{call_after, is_fault, receiver_of}
-use Rattle.bus_story.specs.BusState.{BusState}
+use Rattle.story_model.specs.BusState.{BusState}
 
 -- BSY stands after the row, and RST does not.
 abbrev pub stands_on : Change → Bool

@@ -1,7 +1,7 @@
 //! The bus after some rows, and what a row does on it.
 ghost use Rattle.std.specs.Prelude.{◌≡◌, ◌<◌, not, ◌&&◌, is_some, is_none, slice_set};
 ghost use Rattle.bus_trace.specs.View.{driven_at, union_all};
-ghost use Rattle.bus_story.specs.BusState.{quiet_bus, change_by, row_reading_of};
+ghost use Rattle.story_model.specs.BusState.{quiet_bus, change_by, row_reading_of};
 ghost use Rattle.bus_trace.specs.Phases.{changes_phase};
 ghost use Rattle.bus_trace.specs.Terms.{call_after, connection_after, receiver_of};
 ghost use Rattle.bus_transcript.specs.Rows.{dialogue_seen, is_silent, bus_seen};
@@ -9,13 +9,13 @@ ghost use Rattle.bus_transcript.specs.Still.{stands_on, is_still, still_bus};
 
 use bus_base::Dev;
 use bus_phases::{Agreements, Dialogue, asynchronous};
-use bus_story::{message_in, message_out};
 use bus_trace::{
     Call, Change, Connection, Kind, Lines, Row, call_after, changes_phase, connection_after,
     is_fault, is_message_in, receiver_of,
 };
 use msg_grammar::{MsgIn, MsgOut};
 use std::marker::Model;
+use story_model::{message_in, message_out};
 
 /// What a row does: what it changes, the connection after it, whether a byte crosses, and the message that it makes
 /// whole.
@@ -29,7 +29,7 @@ pub(crate) struct Reading {
 }
 
 impl Model for Reading {
-    ghost use Rattle.bus_story.specs.BusState.{RowReading};
+    ghost use Rattle.story_model.specs.BusState.{RowReading};
 
     ghost Value = { RowReading };
 
@@ -55,7 +55,7 @@ pub(crate) struct Bus {
 
 impl Model for Bus {
     ghost use Rattle.std.specs.Prelude.{[]};
-    ghost use Rattle.bus_story.specs.BusState.{BusState};
+    ghost use Rattle.story_model.specs.BusState.{BusState};
 
     ghost Value = { BusState };
 

@@ -2,7 +2,7 @@
 ghost use Rattle.std.specs.Prelude.{◌≡◌, List, [], ◌∷◌, reverse, Bool, true, false, Option, Some, None};
 ghost use Rattle.bus_trace.specs.declared.Row.{Row};
 ghost use Rattle.scenario.specs.Value.{ScenarioValue};
-ghost use Rattle.bus_story.specs.TraceHistory.{trace_history};
+ghost use Rattle.story_model.specs.TraceHistory.{trace_history};
 ghost use Rattle.msg_grammar.specs.declared.message.MsgOut.{MsgOut};
 ghost use Rattle.msg_grammar.specs.declared.message.MsgOut.TheVariants as to_target;
 ghost use Rattle.bus_transcript.specs.declared.item.Name.{Name};

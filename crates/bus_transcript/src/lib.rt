@@ -5,7 +5,7 @@
 //! that stands has carried so far, part by part, without void messages and bytes that were begun anew,
 //! `specs/Nexus.antt` what its messages say of it, `specs/Processes.antt` to which process it belongs,
 //! `specs/Accounts.antt` what its parts make of that process, by the pointers, and `specs/Text.antt` the text of a
-//! transcript. It stands on `bus_story` for the bus and the messages on it, on `bus_trace`, `bus_phases`,
+//! transcript. It stands on `story_model` for the bus and the messages on it, on `bus_trace`, `bus_phases`,
 //! `msg_grammar` and `cdb_codec` for their words, on `row_store` for rows that are kept, and on `text_pages`.
 //!
 //! Its contract: a [`Transcriber`] that sees any rows one by one is exactly what `transcribed` says of them, and

@@ -1,15 +1,14 @@
 //! What the connection that stands has carried so far.
 ghost use Rattle.std.specs.Prelude.{◌≡◌, [], ◌∷◌, ◌++◌, List, OnOk, true};
 ghost use Rattle.bus_phases.specs.Half.{is_nil};
-ghost use Rattle.bus_story.specs.CarriedBytes.{is_status_phase};
-ghost use Rattle.bus_story.specs.TraceHistory.{is_parity_error};
+ghost use Rattle.story_model.specs.CarriedBytes.{is_status_phase};
+ghost use Rattle.story_model.specs.TraceHistory.{is_parity_error};
 ghost use Rattle.bus_transcript.specs.Opened.{opened_connection, with_part, incoming_part, held_part, settled, with_out, with_all_out, with_in, spoken, broken_off, data_parts, phase_parts, with_phase, phase_over, phase_entered, messages_of, with_said, with_in_if, with_crossing, is_complete, is_completion, with_fault, with_still_row, with_row};
 
 use crate::bus::{Bus, Reading};
 use crate::part::{Incoming, Part};
 use bus_base::Octets;
 use bus_phases::Half;
-use bus_story::{is_parity_error, is_status_phase};
 use bus_trace::{
     Change, Connection, Kind, Lines, changes_phase, is_command, is_data, is_fault, is_message_in,
     is_message_out, rises,
@@ -18,6 +17,7 @@ use msg_grammar::{MsgIn, MsgOut};
 use std::alloc::{AllocError, Global};
 use std::collections::VecDeque;
 use std::marker::Model;
+use story_model::{is_parity_error, is_status_phase};
 
 /// The connection that stands.
 #[derive(Drop)]

@@ -1,7 +1,7 @@
 //! The transcript of a trace, row by row.
 ghost use Rattle.std.specs.Prelude.{◌≡◌, ◌<◌, [], ◌∷◌, Some, true, false, reverse, OnOk, IfOk, option_to_list};
 ghost use Rattle.std.specs.List.{AllByRecursion};
-ghost use Rattle.bus_story.specs.TraceHistory.{trace_history};
+ghost use Rattle.story_model.specs.TraceHistory.{trace_history};
 ghost use Rattle.bus_transcript.specs.Events.{resets_shown, resets_told};
 ghost use Rattle.bus_transcript.specs.Opened.{opened_connection, settled, spoken};
 ghost use Rattle.bus_transcript.specs.Rows.{nothing_seen, with_items, name_of, account_from, account_parts, abort_item, departed, departed_if, with_account, closed_by, closed_parts, closed_with, closed_phase, closed_if, reset_items, free_items, under_reset, unanswered_by, unanswered_items, on_free_bus, in_connection, on_bus, by_change, with_bus, after_reading, after_row, finished_if, finished, transcript_of};

@@ -6,12 +6,12 @@ use Rattle.bus_trace.specs.LineSet.{LineSet}
 use Rattle.bus_lines.specs.declared.Stage.{Stage}
 use Rattle.bus_lines.specs.declared.Stage.TheVariants.{OnFreeBus, InArbitration, InCalling, InAnswer, InConnection}
 use Rattle.bus_lines.specs.declared.Stage.TheVariants.{InReset}
-use Rattle.bus_reactions.specs.declared.due.Due.{Due}
-use Rattle.bus_reactions.specs.declared.due.Myself.{Myself}
-use Rattle.bus_reactions.specs.declared.due.Want.{Want}
-use Rattle.bus_reactions.specs.Reactions.{earlier_due, due_where}
-use Rattle.bus_reactions.specs.Calling.{reselection_end}
-use Rattle.bus_reactions.specs.Linking.{link_due_by}
+use Rattle.reaction_model.specs.declared.due.Due.{Due}
+use Rattle.reaction_model.specs.declared.due.Myself.{Myself}
+use Rattle.reaction_model.specs.declared.due.Want.{Want}
+use Rattle.reaction_model.specs.Reactions.{earlier_due, due_where}
+use Rattle.reaction_model.specs.Calling.{reselection_end}
+use Rattle.reaction_model.specs.Linking.{link_due_by}
 use Rattle.connect.specs.Steps.{still_drives_bsy, ends_reselection, lines_now, time_later}
 
 abbrev answered : Bool → Bool → Option ℕ → Option Due → Option Due → Option Due → Myself → ℕ → Option Due

@@ -3,8 +3,8 @@ use Rattle.std.proofs.Common.{ℕ, List, Option, refl}
 use Rattle.bus_trace.specs.declared.Row.{Row}
 use Rattle.bus_lines.specs.Stage.{stage}
 use Rattle.bus_trace.specs.Trace.{bus}
-use Rattle.bus_reactions.specs.Ends.{bsy_release}
-use Rattle.bus_reactions.specs.Sight.{sight}
+use Rattle.reaction_model.specs.Ends.{bsy_release}
+use Rattle.reaction_model.specs.Sight.{sight}
 use Rattle.connect.specs.declared.states.Link.{Link}
 use Rattle.connect.specs.Links.{want_of}
 use Rattle.connect.specs.Steps.{link_in, me_in, step_from, IsStepOf}

@@ -1,6 +1,6 @@
 -- A device on its way to a connection.
-use Rattle.bus_reactions.specs.declared.due.Myself.{Myself}
-use Rattle.bus_reactions.specs.declared.due.Want.{Want}
+use Rattle.reaction_model.specs.declared.due.Myself.{Myself}
+use Rattle.reaction_model.specs.declared.due.Want.{Want}
 
 pub record DeviceValue : Type 0 where
   -- what it knows of itself

@@ -1,8 +1,8 @@
 -- What changes of a device.
 use Rattle.std.specs.Prelude.{ℕ, Bool, false, Some, None}
 use Rattle.bus_trace.specs.LineSet.{LineSet, none}
-use Rattle.bus_reactions.specs.declared.due.Myself.{Myself}
-use Rattle.bus_reactions.specs.declared.due.Want.{Want}
+use Rattle.reaction_model.specs.declared.due.Myself.{Myself}
+use Rattle.reaction_model.specs.declared.due.Want.{Want}
 use Rattle.connect.specs.DeviceValue.{DeviceValue}
 
 -- It wants nothing of the bus.

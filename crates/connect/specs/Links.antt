@@ -6,8 +6,8 @@ use Rattle.bus_trace.specs.declared.Connection.{Connection}
 use Rattle.bus_lines.specs.declared.Stage.{Stage}
 use Rattle.bus_lines.specs.declared.Stage.TheVariants.{OnFreeBus, InArbitration, InCalling, InAnswer, InConnection}
 use Rattle.bus_lines.specs.declared.Stage.TheVariants.{InReset}
-use Rattle.bus_reactions.specs.declared.due.Myself.{Myself}
-use Rattle.bus_reactions.specs.declared.due.Want.{Want}
+use Rattle.reaction_model.specs.declared.due.Myself.{Myself}
+use Rattle.reaction_model.specs.declared.due.Want.{Want}
 use Rattle.connect.specs.DeviceValue.{DeviceValue}
 use Rattle.connect.specs.Devices.{no_want, device_driving, device_at}
 use Rattle.connect.specs.declared.states.Link.{Link}

@@ -1,6 +1,6 @@
 -- The devices that react: of the bus, with a latency of at most 100 ns, at times below 2^63.
 use Rattle.std.specs.Prelude.{ℕ, ◌<◌, ◌≤◌, ◌^◌}
-use Rattle.bus_reactions.specs.declared.due.Myself.{Myself}
+use Rattle.reaction_model.specs.declared.due.Myself.{Myself}
 
 -- The most ns that a device adds to the least delay of a reaction.
 abbrev pub latency_limit : ℕ

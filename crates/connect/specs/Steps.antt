@@ -10,15 +10,15 @@ use Rattle.bus_lines.specs.declared.Stage.TheVariants.{InCalling, InAnswer, InCo
 use Rattle.bus_trace.specs.LineSet.{LineSet}
 use Rattle.bus_trace.specs.Trace.{drives}
 use Rattle.bus_lines.specs.Stage.{stage}
-use Rattle.bus_reactions.specs.declared.due.Due.{Due}
-use Rattle.bus_reactions.specs.declared.due.Myself.{Myself}
-use Rattle.bus_reactions.specs.declared.due.Want.{Want}
-use Rattle.bus_reactions.specs.declared.sight.Sight.{Sight}
-use Rattle.bus_reactions.specs.Reactions.{earlier_due, due_where, time_if}
-use Rattle.bus_reactions.specs.Calling.{is_called}
-use Rattle.bus_reactions.specs.Linking.{link_due, sample_time}
-use Rattle.bus_reactions.specs.Ends.{bsy_release}
-use Rattle.bus_reactions.specs.Sight.{sight}
+use Rattle.reaction_model.specs.declared.due.Due.{Due}
+use Rattle.reaction_model.specs.declared.due.Myself.{Myself}
+use Rattle.reaction_model.specs.declared.due.Want.{Want}
+use Rattle.reaction_model.specs.declared.sight.Sight.{Sight}
+use Rattle.reaction_model.specs.Reactions.{earlier_due, due_where, time_if}
+use Rattle.reaction_model.specs.Calling.{is_called}
+use Rattle.reaction_model.specs.Linking.{link_due, sample_time}
+use Rattle.reaction_model.specs.Ends.{bsy_release}
+use Rattle.reaction_model.specs.Sight.{sight}
 use Rattle.connect.specs.Links.{myself, want_of, present_link, next_link}
 use Rattle.connect.specs.declared.states.Link.{Link}
 use Rattle.connect.specs.declared.states.Step.{Step}

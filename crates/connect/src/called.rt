@@ -1,12 +1,12 @@
 // The devices that see another one call: the called device, and those that have lost (6.1.2 to 6.1.4).
 ghost use Rattle.std.specs.Prelude.{◌≡◌, ◌<◌};
-ghost use Rattle.bus_reactions.specs.Calling.{answer_at, answer, is_called, called_due};
-ghost use Rattle.bus_reactions.specs.Reactions.{release_after};
+ghost use Rattle.reaction_model.specs.Calling.{answer_at, answer, is_called, called_due};
+ghost use Rattle.reaction_model.specs.Reactions.{release_after};
 ghost use Rattle.connect.specs.Ready.{IsReady, time_limit};
 
 use bus_base::Ns;
-use bus_reactions::{Due, Myself, due_at};
 use bus_trace::{BUS_SETTLE_DELAY, Calling, Kind, Lines};
+use reaction_model::{Due, Myself, due_at};
 
 /// The release of all lines, the latency of the device after this time: of one that has lost an arbitration, after SEL,
 /// and of each under RST.

@@ -1,15 +1,15 @@
 // The caller: the device that won, from its SEL to its release (6.1.2 to 6.1.4).
 ghost use Rattle.std.specs.Prelude.{◌≡◌, ◌<◌};
 ghost use Rattle.bus_lines.specs.Timely.{IsBefore, IsCallingBefore};
-ghost use Rattle.bus_reactions.specs.Calling.{with_calling_mark, calling_start, calling_bsy_release, withdrawal, calling_abort, unanswered_due, caller_due, selection_end, bsy_takeover, reselection_end, answered_due};
+ghost use Rattle.reaction_model.specs.Calling.{with_calling_mark, calling_start, calling_bsy_release, withdrawal, calling_abort, unanswered_due, caller_due, selection_end, bsy_takeover, reselection_end, answered_due};
 ghost use Rattle.connect.specs.Ready.{IsReady, time_limit};
 
 use bus_base::Ns;
-use bus_reactions::{Due, Myself, Want, due_at};
 use bus_trace::{
     Calling, Lines, QUIET_TIME, SELECTION_ABORT_TIME, SELECTION_TIMEOUT_DELAY, TWO_DESKEW,
     byte_lines,
 };
+use reaction_model::{Due, Myself, Want, due_at};
 
 fn with_calling_mark(reselects: bool, lines: Lines) -> Lines
     ensures { result ≡ with_calling_mark reselects lines }

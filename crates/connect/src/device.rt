@@ -5,8 +5,8 @@ ghost use Rattle.connect.specs.Ready.{IsReady, latency_limit, time_limit};
 ghost use Rattle.connect.specs.Devices.{no_want, new_device, device_wanting, device_calling, device_without_want, device_driving, device_at};
 
 use bus_base::{Dev, Ns};
-use bus_reactions::{Myself, Want};
 use bus_trace::Lines;
+use reaction_model::{Myself, Want};
 use std::marker::Model;
 
 /// What a device knows of itself, and what it wants of the bus.

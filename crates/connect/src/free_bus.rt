@@ -1,13 +1,13 @@
 // The free bus and arbitration (6.1.1, 6.1.2).
 ghost use Rattle.std.specs.Prelude.{◌≡◌, ◌<◌, None};
 ghost use Rattle.bus_lines.specs.Timely.{IsBefore};
-ghost use Rattle.bus_reactions.specs.Reactions.{due_at};
-ghost use Rattle.bus_reactions.specs.FreeBus.{entry, later_entry, free_due, win, arbitration_due};
+ghost use Rattle.reaction_model.specs.Reactions.{due_at};
+ghost use Rattle.reaction_model.specs.FreeBus.{entry, later_entry, free_due, win, arbitration_due};
 ghost use Rattle.connect.specs.Ready.{IsReady, time_limit};
 
 use bus_base::Ns;
-use bus_reactions::{Due, Myself, due_at};
 use bus_trace::{ARBITRATION_DELAY, Arbitration, BUS_SET_DELAY, ENTRY_DELAY, Kind, Lines};
+use reaction_model::{Due, Myself, due_at};
 
 fn entry(me: &Myself, free: Ns, since: Ns) -> Option<Due>
     requires ready { IsReady me.now }

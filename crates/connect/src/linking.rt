@@ -3,9 +3,9 @@ ghost use Rattle.std.specs.Prelude.{◌≡◌, ◌<◌, List};
 ghost use Rattle.bus_trace.specs.declared.Row.{Row};
 ghost use Rattle.bus_lines.specs.BusView.{IsBusViewOf};
 ghost use Rattle.bus_lines.specs.Timely.{IsTimely, IsBefore, IsCallingBefore, IsStageBefore};
-ghost use Rattle.bus_reactions.specs.Calling.{calling_due, answer_due};
-ghost use Rattle.bus_reactions.specs.Linking.{link_due_by, link_due, sample_time};
-ghost use Rattle.bus_reactions.specs.Sight.{sight};
+ghost use Rattle.reaction_model.specs.Calling.{calling_due, answer_due};
+ghost use Rattle.reaction_model.specs.Linking.{link_due_by, link_due, sample_time};
+ghost use Rattle.reaction_model.specs.Sight.{sight};
 ghost use Rattle.connect.specs.Ready.{IsReady, time_limit};
 
 use crate::called::{called_due, release};
@@ -13,8 +13,8 @@ use crate::caller::{answered_due, caller_due};
 use crate::free_bus::{arbitration_due, free_due};
 use bus_base::Ns;
 use bus_lines::{BusView, Stage};
-use bus_reactions::{Due, Myself, Want, due_at};
 use bus_trace::{BUS_SETTLE_DELAY, Call, Calling, Lines};
+use reaction_model::{Due, Myself, Want, due_at};
 
 fn calling_due(
     me: &Myself,

@@ -1,12 +1,12 @@
 // RST, before everything else (6.2.2).
 ghost use Rattle.std.specs.Prelude.{◌≡◌, ◌<◌};
-ghost use Rattle.bus_reactions.specs.Reactions.{not_later, earlier_due};
-ghost use Rattle.bus_reactions.specs.Reset.{rst_assertion, rst_release, with_reset};
+ghost use Rattle.reaction_model.specs.Reactions.{not_later, earlier_due};
+ghost use Rattle.reaction_model.specs.Reset.{rst_assertion, rst_release, with_reset};
 ghost use Rattle.connect.specs.Ready.{IsReady, time_limit};
 
 use bus_base::Ns;
-use bus_reactions::{Due, Myself, due_at};
 use bus_trace::{Lines, RESET_HOLD_TIME};
+use reaction_model::{Due, Myself, due_at};
 
 fn not_later(first: Due, other: Due) -> Due
     ensures { result ≡ not_later first other }

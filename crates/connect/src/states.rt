@@ -8,8 +8,8 @@ ghost use Rattle.connect.specs.declared.states.Link.TheVariants as in_state;
 
 use crate::device::Device;
 use bus_base::{Dev, Ns};
-use bus_reactions::{Myself, Want};
 use bus_trace::{Lines, ScsiId};
+use reaction_model::{Myself, Want};
 
 /// It wants nothing, and has no part in a call or a connection. It drives nothing, but what it has still to release
 /// where RST cut its connection.

@@ -3,8 +3,8 @@ ghost use Rattle.std.specs.Prelude.{◌≡◌, ◌+◌, ◌<◌, Option, List, S
 ghost use Rattle.bus_trace.specs.declared.Row.{Row};
 ghost use Rattle.bus_lines.specs.BusView.{IsBusViewOf};
 ghost use Rattle.bus_lines.specs.Timely.{IsTimely, IsBefore};
-ghost use Rattle.bus_reactions.specs.Reactions.{due_at, due_where};
-ghost use Rattle.bus_reactions.specs.Sight.{sight};
+ghost use Rattle.reaction_model.specs.Reactions.{due_at, due_where};
+ghost use Rattle.reaction_model.specs.Sight.{sight};
 ghost use Rattle.connect.specs.Ready.{IsReady, time_limit};
 ghost use Rattle.connect.specs.Links.{myself, want_of};
 ghost use Rattle.connect.specs.Steps.{still_drives_bsy, step_due, ends_reselection, lines_without_byte, lines_of, lines_now, time_later, is_called_by, is_asked, is_sampling, step_by, step_from, IsStepOf};
@@ -17,8 +17,8 @@ use crate::states::{self, Answering, Contending, Idle, Link, Linked, Step, Waiti
 use crate::transitions::{next_link, present_link};
 use bus_base::Ns;
 use bus_lines::{BusView, Stage};
-use bus_reactions::{Due, Myself, Want, due_at};
 use bus_trace::{Calling, Kind, Lines};
+use reaction_model::{Due, Myself, Want, due_at};
 
 // ---- what is due
 

@@ -1,22 +1,22 @@
 -- In some runs: how many faults struck a command, how many it bears, and whether it ended GOOD, on both sides of the limit, computed. What valid
 -- commands are owed (IsDelivered) is computed of each. Written by tools/makers/limit_case.py.
 use lib.Count.{ones}
-use Rattle.bus_due.specs.bus_trace.specs.LineSet.{line_of}
-use Rattle.bus_due.specs.bus_trace.specs.View.{union_below}
-use Rattle.bus_due.specs.msg_grammar.specs.Messages.{form_out, form_in}
-use Rattle.bus_due.specs.scenario.specs.Needs.{need_of, sent_of}
-use Rattle.bus_due.proofs.Seams.{onto}
-use Rattle.bus_due.specs.bus_trace.specs.LineSet.{set_of}
-use Rattle.bus_due.specs.bus_trace.specs.declared.Row.{Row}
-use Rattle.bus_due.specs.bus_trace.specs.declared.Kind.TheVariants.{Drives, Fault}
+use Rattle.due_model.specs.bus_trace.specs.LineSet.{line_of}
+use Rattle.due_model.specs.bus_trace.specs.View.{union_below}
+use Rattle.due_model.specs.msg_grammar.specs.Messages.{form_out, form_in}
+use Rattle.due_model.specs.scenario.specs.Needs.{need_of, sent_of}
+use Rattle.due_model.proofs.Seams.{onto}
+use Rattle.due_model.specs.bus_trace.specs.LineSet.{set_of}
+use Rattle.due_model.specs.bus_trace.specs.declared.Row.{Row}
+use Rattle.due_model.specs.bus_trace.specs.declared.Kind.TheVariants.{Drives, Fault}
 use Rattle.delivery_laws.proofs.Limits.{delivers, limit_told}
 use Rattle.std.proofs.Common.{ℕ, ◌≡◌, true, false, List, [], ◌∷◌, refl}
-use Rattle.bus_due.specs.bus_base.specs.declared.events.Pick.TheVariants as picks
-use Rattle.bus_due.specs.scenario.specs.declared.value.Policy.TheVariants as policies
-use Rattle.bus_due.specs.scenario.specs.declared.value.Tag.TheVariants as tags
-use Rattle.bus_due.specs.scenario.specs.declared.value.Payload.TheVariants as payloads
-use Rattle.bus_due.specs.scenario.specs.Value.{ScenarioValue}
-use Rattle.bus_due.proofs.Cases.{command_struck_twice_due, command_struck_twice_due_rows, request_of_a_target_struck_due, request_of_a_target_struck_due_rows, pulsed_read_struck_due, pulsed_read_struck_due_rows, pulsed_write_struck_due, pulsed_write_struck_due_rows, selected_id_struck_due, selected_id_struck_due_rows, tagged_opening_struck_due, tagged_opening_struck_due_rows, command_given_up_due, command_given_up_due_rows, data_in_given_up_due, data_in_given_up_due_rows, lost_due, lost_due_rows, status_given_up_due, status_given_up_due_rows, given_up_due, given_up_due_rows, status_struck_due, status_struck_due_rows, opening_given_up_due, opening_given_up_due_rows, complete_struck_due, complete_struck_due_rows}
+use Rattle.due_model.specs.bus_base.specs.declared.events.Pick.TheVariants as picks
+use Rattle.due_model.specs.scenario.specs.declared.value.Policy.TheVariants as policies
+use Rattle.due_model.specs.scenario.specs.declared.value.Tag.TheVariants as tags
+use Rattle.due_model.specs.scenario.specs.declared.value.Payload.TheVariants as payloads
+use Rattle.due_model.specs.scenario.specs.Value.{ScenarioValue}
+use Rattle.due_model.proofs.Cases.{command_struck_twice_due, command_struck_twice_due_rows, request_of_a_target_struck_due, request_of_a_target_struck_due_rows, pulsed_read_struck_due, pulsed_read_struck_due_rows, pulsed_write_struck_due, pulsed_write_struck_due_rows, selected_id_struck_due, selected_id_struck_due_rows, tagged_opening_struck_due, tagged_opening_struck_due_rows, command_given_up_due, command_given_up_due_rows, data_in_given_up_due, data_in_given_up_due_rows, lost_due, lost_due_rows, status_given_up_due, status_given_up_due_rows, given_up_due, given_up_due_rows, status_struck_due, status_struck_due_rows, opening_given_up_due, opening_given_up_due_rows, complete_struck_due, complete_struck_due_rows}
 
 abbrev drive : ℕ → ℕ → ℕ → Row
 drive time dev lines = record { time = time; dev = dev; kind = Drives (set_of lines) }

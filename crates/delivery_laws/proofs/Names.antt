@@ -9,14 +9,14 @@ pub use std_proofs.lemmas.{Bool.{not-true, or_left, or_parts, or_right, Decides.
 use Rattle.std.specs as std
 pub use std.{List.{AllByRecursion, find, list_all, list_any}, Prelude.{if◌then◌else◌, is_none, is_some, nat_le, nat_lt}}
 pub use std.Prelude.{slice_index, ⊤, ◌==◌}
-use Rattle.bus_due.specs.bus_base.proofs as bus_base_proofs
+use Rattle.due_model.specs.bus_base.proofs as bus_base_proofs
 pub use bus_base_proofs.Tests.{and_false, and_first, and_second, and_true, either_stays, eq_self, none_between}
 pub use bus_base_proofs.Tests.{or_none_second, plus_none, wrong, wrong'}
-use Rattle.bus_due.specs.bus_base.specs as bus_base
+use Rattle.due_model.specs.bus_base.specs as bus_base
 pub use bus_base.declared.{AbortKind.{AbortKind}, Event.{Event}, ProcId.{ProcId}}
-use Rattle.bus_due.specs.bus_trace.proofs as bus_trace_proofs
+use Rattle.due_model.specs.bus_trace.proofs as bus_trace_proofs
 pub use bus_trace_proofs.{Buses.{bus_on}, OneRow.{drives-other}}
-use Rattle.bus_due.specs.bus_trace.specs as bus_trace
+use Rattle.due_model.specs.bus_trace.specs as bus_trace
 pub use bus_trace.{Changes.{change_of, falls, rises}, LineSet.{LineSet, none}, Phases.{changes_phase, is_command}}
 pub use bus_trace.{Phases.{is_message_out}, Terms.{call, called_goes_on, caller_goes_on, calling_after, connection}}
 pub use bus_trace.{Terms.{connection_after, drives_two_ids, is_fault, new_calling, receiver_in, when}, Trace.{bus}}
@@ -24,25 +24,25 @@ pub use bus_trace.{Trace.{driven_after, drives}, declared.{Kind.{Kind, TheVarian
 pub use bus_trace.declared.{agreements.Agreement.{Agreement}, changes.Change.{Change}}
 pub use bus_trace.declared.{connection.Connection.{Connection}, selection.{Call.{Call}, Calling.{Calling}}}
 unfoldable pub use bus_trace.{LineSet.{line_of}, View.{union_below}}
-use Rattle.bus_due.specs.bus_lines.specs as bus_lines
+use Rattle.due_model.specs.bus_lines.specs as bus_lines
 pub use bus_lines.Handshakes.{Handshakes}
-use Rattle.bus_due.specs.cdb_codec.specs as cdb_codec
+use Rattle.due_model.specs.cdb_codec.specs as cdb_codec
 pub use cdb_codec.{Cdb.{are_zero, command_of, has_group_len, sized_of, spare_room}, Operations.{operation_of}}
 pub use cdb_codec.declared.{Sense.{Sense}, command.{CdbFault.{CdbFault}, Command.{Command}}}
 pub use cdb_codec.declared.operation.{Operation.{Operation}, TheConstants.{INQUIRY, REQUEST_SENSE}}
 pub use cdb_codec.declared.sense.TheConstants.{ABORTED_COMMAND, INITIATOR_DETECTED_ERROR}
 pub use cdb_codec.declared.status.TheConstants.{CHECK_CONDITION, GOOD, QUEUE_FULL}
-use Rattle.bus_due.specs.msg_grammar.specs as msg_grammar
+use Rattle.due_model.specs.msg_grammar.specs as msg_grammar
 unfoldable pub use msg_grammar.Messages.{form_in, form_out}
-use Rattle.bus_due.specs.bus_phases.specs as bus_phases
+use Rattle.due_model.specs.bus_phases.specs as bus_phases
 pub use bus_phases.{Dialogue.{dialogue}, declared.dialogue.Dialogue.{Dialogue}}
-use Rattle.bus_due.specs.bus_rules.proofs as bus_rules_proofs
+use Rattle.due_model.specs.bus_rules.proofs as bus_rules_proofs
 pub use bus_rules_proofs.First.{row_none}
-use Rattle.bus_due.specs.bus_rules.specs as bus_rules
+use Rattle.due_model.specs.bus_rules.specs as bus_rules
 pub use bus_rules.Reset.{only_rst}
-use Rattle.bus_due.specs.scenario.proofs as scenario_proofs
+use Rattle.due_model.specs.scenario.proofs as scenario_proofs
 pub use scenario_proofs.Steps.{bind_ok, guard_ok, ok_is}
-use Rattle.bus_due.specs.scenario.specs as scenario
+use Rattle.due_model.specs.scenario.specs as scenario
 pub use scenario.Forms.{Said, abort_line, cmd_line, end_line, fault_line, fill_line, initiator_line, reset_line}
 pub use scenario.{Forms.{scsi_line, target_line, unit_line}, Lookups.{has_device, has_host, has_target, unit_of}}
 pub use scenario.Reading.{Progress, abort_def, fault_def, fill_def, fits_version, full_cmd_def, guard, has_abort_room}
@@ -51,77 +51,78 @@ pub use scenario.{Value.{ScenarioValue}, Writing.{Obeys, built, saids}, declared
 pub use scenario.declared.value.{CmdDef.{CmdDef}, HostDef.{HostDef}, ResetDef.{ResetDef}, TargetDef.{TargetDef}}
 pub use scenario.declared.value.UnitDef.{UnitDef}
 unfoldable pub use scenario.{Needs.{need_of, sent_of}, Reading.{added, reset_def, said_after}}
-use Rattle.bus_due.specs.disk_array.proofs as disk_array_proofs
-pub use disk_array_proofs.ArrayReplies.{abort_lists, end_lists, fail_lists, loss_lists, reset_lists, took}
-pub use disk_array_proofs.Executed.{Passes, absent_executed, carried_executed, faulty_executed, outside_executed}
-pub use disk_array_proofs.{Executed.{sense_of_fault}, ExecutionFacts.{command_good, sense_fetched, status_known}}
-pub use disk_array_proofs.OperationCodes.{inquiry_command, is_inquiry_or_faulty, sense_opcode}
-pub use disk_array_proofs.{SeatLookups.{same_nexus_is, sense_put_at, senses_without_at}, SeatReplies.{id_turned}}
-pub use disk_array_proofs.SoundArrays.{history_sound}
-use Rattle.bus_due.specs.disk_array.specs as disk_array
-pub use disk_array.{ArrayHistory.{array_after, array_step, reply_in, reply_of}, Execution.{CommandContext, Execution}}
-pub use disk_array.Execution.{Reply, aborted_reply, check_condition, commands_cleared, execution, is_good_range}
-pub use disk_array.Execution.{is_opcode, is_request_sense, needs_unit, queue_full, range_of, returned_sense, sense_of}
-pub use disk_array.{Execution.{unit_not_supported}, Order.{choice, without_process}, Processes.{Process, command_at}}
-pub use disk_array.Processes.{process_by, process_if, process_of, same_bool, same_id, sense_block}
-pub use disk_array.{Seats.{is_initiator}, SoundArray.{HasSeats, IsSound}, Steps.{accept_step, accept_step_at}}
-pub use disk_array.Steps.{event_step, process_count, queue_step, running_process, settled_array_if, with_guest}
-pub use disk_array.Units.{Array, Nexus, RunningProcess, UnitState, guest_at, has_no_current, is_held, nexus_of}
-pub use disk_array.Units.{nexuses_without, same_nexus, sense_of_nexus, senses_without, settled_array, starting_array}
-pub use disk_array.Units.{starting_units, unit_after_choice, unit_state_at, with_current, with_unit, without_reply}
-use Rattle.bus_due.specs.bus_story.proofs as bus_story_proofs
-pub use bus_story_proofs.{CarriedLists.{carried_id}, StorySteps.{ends_checks, events_aims, restored_aims, sent_aims}}
-use Rattle.bus_due.specs.bus_story.specs as bus_story
-pub use bus_story.{BusState.{RowReading, row_reading}, CarriedBytes.{CarriedBytes, is_status_phase, is_whole_block}}
-pub use bus_story.HistoryEvents.{abort_line_at, abort_line_events, bus_free_events, carried_if, end_events}
-pub use bus_story.HistoryEvents.{is_completion, is_refuse, item_abort_events, item_loss_events, link_events}
-pub use bus_story.{HistoryEvents.{phase_events, queue_events, row_events_by, status_event, status_events}, Items.{Item}}
-pub use bus_story.Items.{Sent, abort, command_id, command_item, count_item, has_item, is_clash, is_open, may_send}
-pub use bus_story.{Items.{open_from, open_limit_of, process, same_item, sense_id, sense_item}, Links.{LastMessage}}
-pub use bus_story.{Links.{Link, abortive, complete, disconnect, link_of, plain}, Outcomes.{Outcome, ended_aborted}}
-pub use bus_story.Outcomes.{ended_check, ended_full, ended_good, ended_lost, ended_reset, ended_unanswered, ending_of}
-pub use bus_story.Outcomes.{fits_unit, has_end, is_end_of, is_roomy, is_sound_command, is_valid, most_open}
-pub use bus_story.Outcomes.{outcome_by_status, outcome_if, outcome_of, outcomes, outcomes_from, reply_bytes}
-pub use bus_story.{Outcomes.{reply_bytes_if, sense_in, sense_of_end}, Samples.{host_latency, latency_of}}
-pub use bus_story.{Samples.{target_latency}, Story.{Ending, Story, by_abort, by_loss, by_reset, by_status, is_aborted}}
-pub use bus_story.Story.{is_sense_stopped, story_after_event, story_after_events, story_with_end, story_with_end_if}
-pub use bus_story.{Story.{story_with_ends, story_with_over, unanswered, with_check}, TraceHistory.{aim_of}}
-pub use bus_story.TraceHistory.{is_arbitration_entry, retries_of, row_events, story, story_after_calling}
-pub use bus_story.TraceHistory.{story_after_calling_by, story_after_connection, story_by_change, story_on_bus}
-pub use bus_story.TraceHistory.{story_on_free_bus, story_with_aim, story_with_restored, story_with_sent, story_with_try}
-pub use bus_story.TraceHistory.{story_without_answer, trace_history}
-use Rattle.bus_due.specs.bus_reactions.specs as bus_reactions
-pub use bus_reactions.{Reactions.{earlier_due, sooner_time, time_if}, Reset.{rst_assertion}, declared.due.Due.{Due}}
-use Rattle.bus_due.specs.bus_dialogue.specs as bus_dialogue
-pub use bus_dialogue.{Arrivals.{policy_of}, Exchange.{Exchange, bytes_of_messages, one_message, plan_after_message}}
-pub use bus_dialogue.{Exchange.{plan_anew, plan_anew_if, struck_plan}, Hearing.{begun}, NextPhase.{Serving}}
-pub use bus_dialogue.NextPhase.{after_arrival, after_offer, after_run, bus_free, leaving_by, message_in_entry}
-pub use bus_dialogue.NextPhase.{message_out_leaving, message_repetition, phase_entry, phase_leaving, phase_of}
-pub use bus_dialogue.{NextPhase.{pointer_restoration, recovery, recovery_limit, with_task}, PhaseBytes.{one_if}}
-pub use bus_dialogue.Planning.{first_plan, plan_after, plan_in_message_out, plan_in_phase, plan_with_byte}
-pub use bus_dialogue.{Words.{is_naming, reply_to}, declared.exchange.{Cause.{Cause}, Hearing.{Hearing}}}
-pub use bus_dialogue.declared.exchange.{Leaving.{Leaving}, Messages.{Messages}, Next.{Next}, Phase.{Phase}, Plan.{Plan}}
-pub use bus_dialogue.declared.exchange.Task.{Task}
-use Rattle.bus_due.proofs as bus_due_proofs
-pub use bus_due_proofs.Cases.{command_given_up_due, command_given_up_due_rows, command_struck_twice_due}
-pub use bus_due_proofs.Cases.{command_struck_twice_due_rows, data_in_given_up_due, data_in_given_up_due_rows}
-pub use bus_due_proofs.Cases.{data_out_given_up_due, data_out_given_up_due_rows, device_reset_by_message_due}
-pub use bus_due_proofs.Cases.{device_reset_by_message_due_rows, field_in_a_command_due, field_in_a_command_due_rows}
-pub use bus_due_proofs.Cases.{full_queue_due, full_queue_due_rows, hold_of_a_unit_due, hold_of_a_unit_due_rows}
-pub use bus_due_proofs.Cases.{lost_due, lost_due_rows, offset_255_due, offset_255_due_rows, pulsed_read_struck_due}
-pub use bus_due_proofs.Cases.{pulsed_read_struck_due_rows, pulsed_write_struck_due, pulsed_write_struck_due_rows}
-pub use bus_due_proofs.Cases.{reselected_id_struck_due, reselected_id_struck_due_rows, selected_id_struck_due}
-pub use bus_due_proofs.Cases.{selected_id_struck_due_rows, status_struck_due, status_struck_due_rows, struck_names_due}
-pub use bus_due_proofs.{Cases.{struck_names_due_rows, tag_aborted_due, tag_aborted_due_rows}, Leasts.{least_none}}
-pub use bus_due_proofs.{Plains.{prompt_plain, run_state_plain}, Seams.{onto}}
-use Rattle.bus_due.specs as bus_due
-pub use bus_due.{Allowed.{allowed}, Defs.{opening, target_def_of}, Due.{is_reset_past, reset_from}, Faithful.{faithful}}
-pub use bus_due.{Faithful.{has_ends}, Goals.{is_good}, Least.{IsLeast}, Next.{IsEnded, IsPrompt, due}, Own.{Own}}
-pub use bus_due.{Own.{own_after, own_of}, Plain.{AreOfDevices, IsPlain}, RunState.{RunState, array_of, bus_of}}
-pub use bus_due.RunState.{carried_here, item_of, or_start, process_item, process_served}
-pub use bus_due.RunSteps.{array_after_events, exchange_after, item_if, leaving_of, may_negotiate, naming_of, opening_of}
-pub use bus_due.{RunSteps.{run_state, served_after}, Sights.{hearing_of, leaving, serving_at}, Tasks.{task_of}}
-pub use bus_due.{Telling.{is_true_telling, same_event, telling}, Wants.{initiator_if, ready_of, target_if, target_of}}
+use Rattle.due_model.specs.array_model.proofs as array_model_proofs
+pub use array_model_proofs.ArrayReplies.{abort_lists, end_lists, fail_lists, loss_lists, reset_lists, took}
+pub use array_model_proofs.Executed.{Passes, absent_executed, carried_executed, faulty_executed, outside_executed}
+pub use array_model_proofs.{Executed.{sense_of_fault}, ExecutionFacts.{command_good, sense_fetched, status_known}}
+pub use array_model_proofs.OperationCodes.{inquiry_command, is_inquiry_or_faulty, sense_opcode}
+pub use array_model_proofs.{SeatLookups.{same_nexus_is, sense_put_at, senses_without_at}, SeatReplies.{id_turned}}
+pub use array_model_proofs.SoundArrays.{history_sound}
+use Rattle.due_model.specs.array_model.specs as array_model
+pub use array_model.{ArrayHistory.{array_after, array_step, reply_in, reply_of}, Execution.{CommandContext, Execution}}
+pub use array_model.Execution.{Reply, aborted_reply, check_condition, commands_cleared, execution, is_good_range}
+pub use array_model.Execution.{is_opcode, is_request_sense, needs_unit, queue_full, range_of, returned_sense, sense_of}
+pub use array_model.{Execution.{unit_not_supported}, Order.{choice, without_process}, Processes.{Process, command_at}}
+pub use array_model.Processes.{process_by, process_if, process_of, same_bool, same_id, sense_block}
+pub use array_model.{Seats.{is_initiator}, SoundArray.{HasSeats, IsSound}, Steps.{accept_step, accept_step_at}}
+pub use array_model.Steps.{event_step, process_count, queue_step, running_process, settled_array_if, with_guest}
+pub use array_model.Units.{Array, Nexus, RunningProcess, UnitState, guest_at, has_no_current, is_held, nexus_of}
+pub use array_model.Units.{nexuses_without, same_nexus, sense_of_nexus, senses_without, settled_array, starting_array}
+pub use array_model.Units.{starting_units, unit_after_choice, unit_state_at, with_current, with_unit, without_reply}
+use Rattle.due_model.specs.story_model.proofs as story_model_proofs
+pub use story_model_proofs.{CarriedLists.{carried_id}, StorySteps.{ends_checks, events_aims, restored_aims, sent_aims}}
+use Rattle.due_model.specs.story_model.specs as story_model
+pub use story_model.{BusState.{RowReading, row_reading}, CarriedBytes.{CarriedBytes, is_status_phase, is_whole_block}}
+pub use story_model.HistoryEvents.{abort_line_at, abort_line_events, bus_free_events, carried_if, end_events}
+pub use story_model.HistoryEvents.{is_completion, is_refuse, item_abort_events, item_loss_events, link_events}
+pub use story_model.HistoryEvents.{phase_events, queue_events, row_events_by, status_event, status_events}
+pub use story_model.Items.{Item, Sent, abort, command_id, command_item, count_item, has_item, is_clash, is_open}
+pub use story_model.Items.{may_send, open_from, open_limit_of, process, same_item, sense_id, sense_item}
+pub use story_model.{Links.{LastMessage, Link, abortive, complete, disconnect, link_of, plain}, Outcomes.{Outcome}}
+pub use story_model.Outcomes.{ended_aborted, ended_check, ended_full, ended_good, ended_lost, ended_reset}
+pub use story_model.Outcomes.{ended_unanswered, ending_of, fits_unit, has_end, is_end_of, is_roomy, is_sound_command}
+pub use story_model.Outcomes.{is_valid, most_open, outcome_by_status, outcome_if, outcome_of, outcomes, outcomes_from}
+pub use story_model.{Outcomes.{reply_bytes, reply_bytes_if, sense_in, sense_of_end}, Samples.{host_latency, latency_of}}
+pub use story_model.{Samples.{target_latency}, Story.{Ending, Story, by_abort, by_loss, by_reset, by_status}}
+pub use story_model.Story.{is_aborted, is_sense_stopped, story_after_event, story_after_events, story_with_end}
+pub use story_model.Story.{story_with_end_if, story_with_ends, story_with_over, unanswered, with_check}
+pub use story_model.TraceHistory.{aim_of, is_arbitration_entry, retries_of, row_events, story, story_after_calling}
+pub use story_model.TraceHistory.{story_after_calling_by, story_after_connection, story_by_change, story_on_bus}
+pub use story_model.TraceHistory.{story_on_free_bus, story_with_aim, story_with_restored, story_with_sent}
+pub use story_model.TraceHistory.{story_with_try, story_without_answer, trace_history}
+use Rattle.due_model.specs.reaction_model.specs as reaction_model
+pub use reaction_model.{Reactions.{earlier_due, sooner_time, time_if}, Reset.{rst_assertion}, declared.due.Due.{Due}}
+use Rattle.due_model.specs.dialogue_model.specs as dialogue_model
+pub use dialogue_model.{Arrivals.{policy_of}, Exchange.{Exchange, bytes_of_messages, one_message, plan_after_message}}
+pub use dialogue_model.{Exchange.{plan_anew, plan_anew_if, struck_plan}, Hearing.{begun}, NextPhase.{Serving}}
+pub use dialogue_model.NextPhase.{after_arrival, after_offer, after_run, bus_free, leaving_by, message_in_entry}
+pub use dialogue_model.NextPhase.{message_out_leaving, message_repetition, phase_entry, phase_leaving, phase_of}
+pub use dialogue_model.{NextPhase.{pointer_restoration, recovery, recovery_limit, with_task}, PhaseBytes.{one_if}}
+pub use dialogue_model.Planning.{first_plan, plan_after, plan_in_message_out, plan_in_phase, plan_with_byte}
+pub use dialogue_model.{Words.{is_naming, reply_to}, declared.exchange.{Cause.{Cause}, Hearing.{Hearing}}}
+pub use dialogue_model.declared.exchange.{Leaving.{Leaving}, Messages.{Messages}, Next.{Next}, Phase.{Phase}}
+pub use dialogue_model.declared.exchange.{Plan.{Plan}, Task.{Task}}
+use Rattle.due_model.proofs as due_model_proofs
+pub use due_model_proofs.Cases.{command_given_up_due, command_given_up_due_rows, command_struck_twice_due}
+pub use due_model_proofs.Cases.{command_struck_twice_due_rows, data_in_given_up_due, data_in_given_up_due_rows}
+pub use due_model_proofs.Cases.{data_out_given_up_due, data_out_given_up_due_rows, device_reset_by_message_due}
+pub use due_model_proofs.Cases.{device_reset_by_message_due_rows, field_in_a_command_due, field_in_a_command_due_rows}
+pub use due_model_proofs.Cases.{full_queue_due, full_queue_due_rows, hold_of_a_unit_due, hold_of_a_unit_due_rows}
+pub use due_model_proofs.Cases.{lost_due, lost_due_rows, offset_255_due, offset_255_due_rows, pulsed_read_struck_due}
+pub use due_model_proofs.Cases.{pulsed_read_struck_due_rows, pulsed_write_struck_due, pulsed_write_struck_due_rows}
+pub use due_model_proofs.Cases.{reselected_id_struck_due, reselected_id_struck_due_rows, selected_id_struck_due}
+pub use due_model_proofs.Cases.{selected_id_struck_due_rows, status_struck_due, status_struck_due_rows}
+pub use due_model_proofs.Cases.{struck_names_due, struck_names_due_rows, tag_aborted_due, tag_aborted_due_rows}
+pub use due_model_proofs.{Leasts.{least_none}, Plains.{prompt_plain, run_state_plain}, Seams.{onto}}
+use Rattle.due_model.specs as due_model
+pub use due_model.{Allowed.{allowed}, Defs.{opening, target_def_of}, Due.{is_reset_past, reset_from}}
+pub use due_model.{Faithful.{faithful, has_ends}, Goals.{is_good}, Least.{IsLeast}, Next.{IsEnded, IsPrompt, due}}
+pub use due_model.{Own.{Own, own_after, own_of}, Plain.{AreOfDevices, IsPlain}, RunState.{RunState, array_of, bus_of}}
+pub use due_model.RunState.{carried_here, item_of, or_start, process_item, process_served}
+pub use due_model.RunSteps.{array_after_events, exchange_after, item_if, leaving_of, may_negotiate, naming_of}
+pub use due_model.{RunSteps.{opening_of, run_state, served_after}, Sights.{hearing_of, leaving, serving_at}}
+pub use due_model.{Tasks.{task_of}, Telling.{is_true_telling, same_event, telling}, Wants.{initiator_if, ready_of}}
+pub use due_model.Wants.{target_if, target_of}
 use Rattle.progress_laws.specs.scsi_device.proofs as scsi_device_proofs
 pub use scsi_device_proofs.{Finds.{all_more}, FitLines.{command_fits, obeys_fits, seats_are, units_are}}
 pub use scsi_device_proofs.LineReads.{reset_by}

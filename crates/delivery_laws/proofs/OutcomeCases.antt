@@ -1,23 +1,23 @@
 -- In some runs: how each command ended, and by which row, computed; each outcome is met. Written by tools/makers/outcome_case.py.
 use lib.Count.{ones}
-use Rattle.bus_due.specs.bus_trace.specs.LineSet.{line_of}
-use Rattle.bus_due.specs.bus_trace.specs.View.{union_below}
-use Rattle.bus_due.specs.msg_grammar.specs.Messages.{form_out, form_in}
-use Rattle.bus_due.specs.scenario.specs.Needs.{need_of, sent_of}
-use Rattle.bus_due.proofs.Seams.{onto}
-use Rattle.bus_due.specs.bus_trace.specs.LineSet.{set_of}
-use Rattle.bus_due.specs.bus_trace.specs.declared.Row.{Row}
-use Rattle.bus_due.specs.bus_trace.specs.declared.Kind.TheVariants.{Drives, Fault}
-use Rattle.bus_due.specs.bus_story.specs.Outcomes.{ended_aborted, ended_check, ended_full, ended_good, ended_lost, ended_reset, ended_unanswered}
+use Rattle.due_model.specs.bus_trace.specs.LineSet.{line_of}
+use Rattle.due_model.specs.bus_trace.specs.View.{union_below}
+use Rattle.due_model.specs.msg_grammar.specs.Messages.{form_out, form_in}
+use Rattle.due_model.specs.scenario.specs.Needs.{need_of, sent_of}
+use Rattle.due_model.proofs.Seams.{onto}
+use Rattle.due_model.specs.bus_trace.specs.LineSet.{set_of}
+use Rattle.due_model.specs.bus_trace.specs.declared.Row.{Row}
+use Rattle.due_model.specs.bus_trace.specs.declared.Kind.TheVariants.{Drives, Fault}
+use Rattle.due_model.specs.story_model.specs.Outcomes.{ended_aborted, ended_check, ended_full, ended_good, ended_lost, ended_reset, ended_unanswered}
 use Rattle.delivery_laws.proofs.Limits.{outcome_told}
 use Rattle.std.proofs.Common.{ℕ, ◌≡◌, true, false, List, [], ◌∷◌, refl}
 use Rattle.std.specs.Prelude.{Some, None}
-use Rattle.bus_due.specs.bus_base.specs.declared.events.Pick.TheVariants as picks
-use Rattle.bus_due.specs.scenario.specs.declared.value.Policy.TheVariants as policies
-use Rattle.bus_due.specs.scenario.specs.declared.value.Tag.TheVariants as tags
-use Rattle.bus_due.specs.scenario.specs.declared.value.Payload.TheVariants as payloads
-use Rattle.bus_due.specs.scenario.specs.Value.{ScenarioValue}
-use Rattle.bus_due.proofs.Cases.{full_queue_due, full_queue_due_rows, lost_due, lost_due_rows, command_given_up_due, command_given_up_due_rows, data_in_given_up_due, data_in_given_up_due_rows, data_out_given_up_due, data_out_given_up_due_rows, held_reselection_due, held_reselection_due_rows, hold_of_a_unit_due, hold_of_a_unit_due_rows, own_processes_aborted_due, own_processes_aborted_due_rows, tag_aborted_due, tag_aborted_due_rows, queue_cleared_due, queue_cleared_due_rows, device_reset_by_message_due, device_reset_by_message_due_rows, overlapping_resets_due, overlapping_resets_due_rows, reset_in_a_selection_due, reset_in_a_selection_due_rows, unanswered_due, unanswered_due_rows, absent_unit_due, absent_unit_due_rows, failures_due, failures_due_rows, two_aborts_due, two_aborts_due_rows}
+use Rattle.due_model.specs.bus_base.specs.declared.events.Pick.TheVariants as picks
+use Rattle.due_model.specs.scenario.specs.declared.value.Policy.TheVariants as policies
+use Rattle.due_model.specs.scenario.specs.declared.value.Tag.TheVariants as tags
+use Rattle.due_model.specs.scenario.specs.declared.value.Payload.TheVariants as payloads
+use Rattle.due_model.specs.scenario.specs.Value.{ScenarioValue}
+use Rattle.due_model.proofs.Cases.{full_queue_due, full_queue_due_rows, lost_due, lost_due_rows, command_given_up_due, command_given_up_due_rows, data_in_given_up_due, data_in_given_up_due_rows, data_out_given_up_due, data_out_given_up_due_rows, held_reselection_due, held_reselection_due_rows, hold_of_a_unit_due, hold_of_a_unit_due_rows, own_processes_aborted_due, own_processes_aborted_due_rows, tag_aborted_due, tag_aborted_due_rows, queue_cleared_due, queue_cleared_due_rows, device_reset_by_message_due, device_reset_by_message_due_rows, overlapping_resets_due, overlapping_resets_due_rows, reset_in_a_selection_due, reset_in_a_selection_due_rows, unanswered_due, unanswered_due_rows, absent_unit_due, absent_unit_due_rows, failures_due, failures_due_rows, two_aborts_due, two_aborts_due_rows}
 use Rattle.delivery_laws.proofs.LimitCases.{absent_target_limit, absent_target_limit_rows, ids_twice_limit, ids_twice_limit_rows}
 
 abbrev drive : ℕ → ℕ → ℕ → Row

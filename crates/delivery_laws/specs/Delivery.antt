@@ -2,46 +2,47 @@
 -- that ends GOOD (6.1.3, 6.1.3.1, 6.6.10, 7.8).
 use Rattle.std.specs.Prelude.{ℕ, ◌≡◌, ◌⊎◌, ◌==◌, ◌++◌, ◌+◌, Bool, true, false, not, ◌&&◌, min, nat_le, nat_lt, List, []}
 use Rattle.std.specs.Prelude.{◌∷◌, Option, Some, None, Result, Ok, Err, is_some, if◌then◌else◌}
-use Rattle.bus_due.specs.bus_base.specs.declared.ProcId.{ProcId}
-use Rattle.bus_due.specs.bus_base.specs.declared.Event.{Event}
-use Rattle.bus_due.specs.bus_base.specs.declared.Event.TheVariants as events
-use Rattle.bus_due.specs.bus_trace.specs.declared.Row.{Row}
-use Rattle.bus_due.specs.bus_trace.specs.declared.selection.Call.{Call}
-use Rattle.bus_due.specs.bus_trace.specs.declared.selection.Calling.{Calling}
-use Rattle.bus_due.specs.bus_trace.specs.Terms.{is_fault}
-use Rattle.bus_due.specs.scenario.specs.declared.value.CmdDef.{CmdDef}
-use Rattle.bus_due.specs.scenario.specs.declared.value.TargetDef.{TargetDef}
-use Rattle.bus_due.specs.scenario.specs.Value.{ScenarioValue}
-use Rattle.bus_due.specs.scenario.specs.Writing.{Obeys}
-use Rattle.bus_due.specs.disk_array.specs.ArrayHistory.{array_after, reply_of}
-use Rattle.bus_due.specs.disk_array.specs.Execution.{Reply, aborted_reply, block_out_of_range, execution, invalid_field}
-use Rattle.bus_due.specs.disk_array.specs.Execution.{invalid_opcode, needs_unit, queue_full, unit_not_supported}
-use Rattle.bus_due.specs.disk_array.specs.Processes.{Process, command_at, process_of, same_id}
-use Rattle.bus_due.specs.disk_array.specs.Steps.{context_at}
-use Rattle.bus_due.specs.disk_array.specs.Units.{Array, nexus_of, unit_state_at}
-use Rattle.bus_due.specs.cdb_codec.specs.Cdb.{command_of}
-use Rattle.bus_due.specs.cdb_codec.specs.declared.command.CdbFault.{CdbFault}
-use Rattle.bus_due.specs.cdb_codec.specs.declared.command.CdbFault.TheVariants as faults
-use Rattle.bus_due.specs.cdb_codec.specs.declared.command.Command.{Command}
-use Rattle.bus_due.specs.cdb_codec.specs.declared.Sense.{Sense}
-use Rattle.bus_due.specs.cdb_codec.specs.declared.sense.TheConstants.{ABORTED_COMMAND}
-use Rattle.bus_due.specs.cdb_codec.specs.declared.status.TheConstants.{CHECK_CONDITION}
-use Rattle.bus_due.specs.bus_story.specs.Items.{Item, same_item, command_id, command_item}
-use Rattle.bus_due.specs.bus_story.specs.Outcomes.{ending_of, ended_aborted, ended_check, ended_full, ended_lost}
-use Rattle.bus_due.specs.bus_story.specs.Outcomes.{ended_reset, ended_unanswered, is_valid, is_roomy, outcome_of}
-use Rattle.bus_due.specs.bus_story.specs.Story.{by_status}
-use Rattle.bus_due.specs.bus_story.specs.TraceHistory.{aim_of, retries_of, story, trace_history}
-use Rattle.bus_due.specs.bus_dialogue.specs.PhaseBytes.{one_if}
-use Rattle.bus_due.specs.Defs.{target_def_of}
-use Rattle.bus_due.specs.Goals.{is_good}
-use Rattle.bus_due.specs.Next.{IsPrompt, IsEnded}
-use Rattle.bus_due.specs.RunState.{RunState}
-use Rattle.bus_due.specs.RunSteps.{run_state}
+use Rattle.due_model.specs.bus_base.specs.declared.ProcId.{ProcId}
+use Rattle.due_model.specs.bus_base.specs.declared.Event.{Event}
+use Rattle.due_model.specs.bus_base.specs.declared.Event.TheVariants as events
+use Rattle.due_model.specs.bus_trace.specs.declared.Row.{Row}
+use Rattle.due_model.specs.bus_trace.specs.declared.selection.Call.{Call}
+use Rattle.due_model.specs.bus_trace.specs.declared.selection.Calling.{Calling}
+use Rattle.due_model.specs.bus_trace.specs.Terms.{is_fault}
+use Rattle.due_model.specs.scenario.specs.declared.value.CmdDef.{CmdDef}
+use Rattle.due_model.specs.scenario.specs.declared.value.TargetDef.{TargetDef}
+use Rattle.due_model.specs.scenario.specs.Value.{ScenarioValue}
+use Rattle.due_model.specs.scenario.specs.Writing.{Obeys}
+use Rattle.due_model.specs.array_model.specs.ArrayHistory.{array_after, reply_of}
+use Rattle.due_model.specs.array_model.specs.Execution.{Reply, aborted_reply, block_out_of_range, execution}
+use Rattle.due_model.specs.array_model.specs.Execution.{invalid_field}
+use Rattle.due_model.specs.array_model.specs.Execution.{invalid_opcode, needs_unit, queue_full, unit_not_supported}
+use Rattle.due_model.specs.array_model.specs.Processes.{Process, command_at, process_of, same_id}
+use Rattle.due_model.specs.array_model.specs.Steps.{context_at}
+use Rattle.due_model.specs.array_model.specs.Units.{Array, nexus_of, unit_state_at}
+use Rattle.due_model.specs.cdb_codec.specs.Cdb.{command_of}
+use Rattle.due_model.specs.cdb_codec.specs.declared.command.CdbFault.{CdbFault}
+use Rattle.due_model.specs.cdb_codec.specs.declared.command.CdbFault.TheVariants as faults
+use Rattle.due_model.specs.cdb_codec.specs.declared.command.Command.{Command}
+use Rattle.due_model.specs.cdb_codec.specs.declared.Sense.{Sense}
+use Rattle.due_model.specs.cdb_codec.specs.declared.sense.TheConstants.{ABORTED_COMMAND}
+use Rattle.due_model.specs.cdb_codec.specs.declared.status.TheConstants.{CHECK_CONDITION}
+use Rattle.due_model.specs.story_model.specs.Items.{Item, same_item, command_id, command_item}
+use Rattle.due_model.specs.story_model.specs.Outcomes.{ending_of, ended_aborted, ended_check, ended_full, ended_lost}
+use Rattle.due_model.specs.story_model.specs.Outcomes.{ended_reset, ended_unanswered, is_valid, is_roomy, outcome_of}
+use Rattle.due_model.specs.story_model.specs.Story.{by_status}
+use Rattle.due_model.specs.story_model.specs.TraceHistory.{aim_of, retries_of, story, trace_history}
+use Rattle.due_model.specs.dialogue_model.specs.PhaseBytes.{one_if}
+use Rattle.due_model.specs.Defs.{target_def_of}
+use Rattle.due_model.specs.Goals.{is_good}
+use Rattle.due_model.specs.Next.{IsPrompt, IsEnded}
+use Rattle.due_model.specs.RunState.{RunState}
+use Rattle.due_model.specs.RunSteps.{run_state}
 use Rattle.progress_laws.specs.book_laws.specs.FullQueues.{has_event, was_refused}
 use Rattle.progress_laws.specs.book_laws.specs.Strikes.{has_strike}
 use Rattle.progress_laws.specs.book_laws.specs.WrongParity.{fault_rows}
 use Rattle.initiator.specs.Causes.{has_bus_reset, has_command_abort, has_sense_stop}
-use Rattle.bus_due.specs.scenario.specs.Lookups.{has_target, unit_of}
+use Rattle.due_model.specs.scenario.specs.Lookups.{has_target, unit_of}
 
 -- ---- the faults of a command
 

@@ -2,29 +2,29 @@
 -- 7.3, 7.6, 7.8, 8.2.14).
 use Rattle.std.specs.Prelude.{ℕ, ◌≡◌, ◌+◌, ◌==◌, ◌&&◌, ◌||◌, Bool, true, false, not, nat_lt, is_none, List, [], ◌∷◌}
 use Rattle.std.specs.Prelude.{Option, Some, None, if◌then◌else◌}
-use Rattle.bus_due.specs.bus_base.specs.declared.ProcId.{ProcId}
-use Rattle.bus_due.specs.bus_base.specs.declared.Event.{Event}
-use Rattle.bus_due.specs.bus_base.specs.declared.Event.TheVariants as events
-use Rattle.bus_due.specs.bus_trace.specs.declared.Row.{Row}
-use Rattle.bus_due.specs.bus_trace.specs.declared.selection.Call.{Call}
-use Rattle.bus_due.specs.bus_trace.specs.declared.selection.Calling.{Calling}
-use Rattle.bus_due.specs.bus_trace.specs.Changes.{falls}
-use Rattle.bus_due.specs.cdb_codec.specs.declared.Sense.{Sense}
-use Rattle.bus_due.specs.cdb_codec.specs.declared.status.TheConstants.{CHECK_CONDITION, GOOD, QUEUE_FULL}
-use Rattle.bus_due.specs.scenario.specs.declared.value.CmdDef.{CmdDef}
-use Rattle.bus_due.specs.scenario.specs.Value.{ScenarioValue}
-use Rattle.bus_due.specs.disk_array.specs.ArrayHistory.{array_after, reply_of}
-use Rattle.bus_due.specs.disk_array.specs.Execution.{Reply, aborted_reply, queue_full}
-use Rattle.bus_due.specs.disk_array.specs.Processes.{command_at, process_of, same_id}
-use Rattle.bus_due.specs.bus_dialogue.specs.PhaseBytes.{one_if}
-use Rattle.bus_due.specs.bus_story.specs.BusState.{RowReading, row_reading}
-use Rattle.bus_due.specs.bus_story.specs.Items.{Item, command_id, command_item, has_item, sense_id}
-use Rattle.bus_due.specs.bus_story.specs.Outcomes.{Outcome, ended_aborted, ended_check, ended_full, ended_good}
-use Rattle.bus_due.specs.bus_story.specs.Outcomes.{ended_lost, ended_reset, ended_unanswered, has_end, outcome_of}
-use Rattle.bus_due.specs.bus_story.specs.Outcomes.{reply_bytes}
-use Rattle.bus_due.specs.bus_story.specs.Story.{Ending, Story, by_abort, by_loss, by_reset, by_status, is_aborted}
-use Rattle.bus_due.specs.bus_story.specs.Story.{unanswered}
-use Rattle.bus_due.specs.bus_story.specs.TraceHistory.{aim_of, retries_of, row_events, story, trace_history}
+use Rattle.due_model.specs.bus_base.specs.declared.ProcId.{ProcId}
+use Rattle.due_model.specs.bus_base.specs.declared.Event.{Event}
+use Rattle.due_model.specs.bus_base.specs.declared.Event.TheVariants as events
+use Rattle.due_model.specs.bus_trace.specs.declared.Row.{Row}
+use Rattle.due_model.specs.bus_trace.specs.declared.selection.Call.{Call}
+use Rattle.due_model.specs.bus_trace.specs.declared.selection.Calling.{Calling}
+use Rattle.due_model.specs.bus_trace.specs.Changes.{falls}
+use Rattle.due_model.specs.cdb_codec.specs.declared.Sense.{Sense}
+use Rattle.due_model.specs.cdb_codec.specs.declared.status.TheConstants.{CHECK_CONDITION, GOOD, QUEUE_FULL}
+use Rattle.due_model.specs.scenario.specs.declared.value.CmdDef.{CmdDef}
+use Rattle.due_model.specs.scenario.specs.Value.{ScenarioValue}
+use Rattle.due_model.specs.array_model.specs.ArrayHistory.{array_after, reply_of}
+use Rattle.due_model.specs.array_model.specs.Execution.{Reply, aborted_reply, queue_full}
+use Rattle.due_model.specs.array_model.specs.Processes.{command_at, process_of, same_id}
+use Rattle.due_model.specs.dialogue_model.specs.PhaseBytes.{one_if}
+use Rattle.due_model.specs.story_model.specs.BusState.{RowReading, row_reading}
+use Rattle.due_model.specs.story_model.specs.Items.{Item, command_id, command_item, has_item, sense_id}
+use Rattle.due_model.specs.story_model.specs.Outcomes.{Outcome, ended_aborted, ended_check, ended_full, ended_good}
+use Rattle.due_model.specs.story_model.specs.Outcomes.{ended_lost, ended_reset, ended_unanswered, has_end, outcome_of}
+use Rattle.due_model.specs.story_model.specs.Outcomes.{reply_bytes}
+use Rattle.due_model.specs.story_model.specs.Story.{Ending, Story, by_abort, by_loss, by_reset, by_status, is_aborted}
+use Rattle.due_model.specs.story_model.specs.Story.{unanswered}
+use Rattle.due_model.specs.story_model.specs.TraceHistory.{aim_of, retries_of, row_events, story, trace_history}
 use Rattle.progress_laws.specs.book_laws.specs.FullQueues.{finds_full_queue_if, has_event, was_refused}
 use Rattle.initiator.specs.Causes.{has_status, is_bus_reset, is_sense_abort}
 use Rattle.delivery_laws.specs.Delivery.{HasRun, IsGiven, is_for_item}

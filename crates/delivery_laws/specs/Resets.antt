@@ -2,14 +2,14 @@
 use Rattle.std.specs.Prelude.{ℕ, ◌≡◌, ◌+◌, ◌==◌, Bool, true, false, not, ◌&&◌, ◌||◌, List, [], ◌∷◌, Option, Some, None}
 use Rattle.std.specs.Prelude.{nat_le, nat_lt}
 use Rattle.std.specs.List.{list_all, list_any}
-use Rattle.bus_due.specs.bus_trace.specs.declared.Row.{Row}
-use Rattle.bus_due.specs.bus_trace.specs.declared.delays.TheConstants.{RESET_HOLD_TIME}
-use Rattle.bus_due.specs.bus_trace.specs.Changes.{rises, falls}
-use Rattle.bus_due.specs.bus_trace.specs.Trace.{drives}
-use Rattle.bus_due.specs.scenario.specs.declared.value.ResetDef.{ResetDef}
-use Rattle.bus_due.specs.scenario.specs.Value.{ScenarioValue}
-use Rattle.bus_due.specs.bus_story.specs.Samples.{latency_of}
-use Rattle.bus_due.specs.Own.{own_of}
+use Rattle.due_model.specs.bus_trace.specs.declared.Row.{Row}
+use Rattle.due_model.specs.bus_trace.specs.declared.delays.TheConstants.{RESET_HOLD_TIME}
+use Rattle.due_model.specs.bus_trace.specs.Changes.{rises, falls}
+use Rattle.due_model.specs.bus_trace.specs.Trace.{drives}
+use Rattle.due_model.specs.scenario.specs.declared.value.ResetDef.{ResetDef}
+use Rattle.due_model.specs.scenario.specs.Value.{ScenarioValue}
+use Rattle.due_model.specs.story_model.specs.Samples.{latency_of}
+use Rattle.due_model.specs.Own.{own_of}
 
 -- ---- of a row after these rows: its device begins to drive RST with it, or releases it
 

@@ -1,40 +1,40 @@
 // Laws of prompt traces, each named by the contract of a function that does nothing.
 
 ghost use Rattle.std.specs.Prelude.{ℕ, ◌≡◌, ◌≤◌, ◌⊎◌, length, nat_le, nat_lt, true, false, List, [], Some};
-ghost use Rattle.bus_due.specs.bus_trace.specs.declared.Row.{Row};
-ghost use Rattle.bus_due.specs.bus_base.specs.declared.Event.TheVariants as events;
-ghost use Rattle.bus_due.specs.Goals.{EndsRight, is_good};
-ghost use Rattle.bus_due.specs.Next.{IsPrompt, IsEnded};
+ghost use Rattle.due_model.specs.bus_trace.specs.declared.Row.{Row};
+ghost use Rattle.due_model.specs.bus_base.specs.declared.Event.TheVariants as events;
+ghost use Rattle.due_model.specs.Goals.{EndsRight, is_good};
+ghost use Rattle.due_model.specs.Next.{IsPrompt, IsEnded};
 ghost use Rattle.progress_laws.specs.book_laws.specs.FullQueues.{has_event};
-ghost use Rattle.bus_due.specs.RunSteps.{run_state};
+ghost use Rattle.due_model.specs.RunSteps.{run_state};
 ghost use Rattle.std.specs.List.{list_any};
-ghost use Rattle.bus_due.specs.bus_base.specs.declared.Event.{Event};
-ghost use Rattle.bus_due.specs.bus_base.specs.declared.ProcId.{ProcId};
-ghost use Rattle.bus_due.specs.scenario.specs.declared.value.CmdDef.{CmdDef};
-ghost use Rattle.bus_due.specs.scenario.specs.Value.{ScenarioValue};
-ghost use Rattle.bus_due.specs.scenario.specs.Writing.{Obeys};
-ghost use Rattle.bus_due.specs.disk_array.specs.ArrayHistory.{array_after, reply_in, reply_of};
-ghost use Rattle.bus_due.specs.disk_array.specs.Execution.{Reply, aborted_reply, queue_full};
-ghost use Rattle.bus_due.specs.disk_array.specs.Processes.{command_at};
-ghost use Rattle.bus_due.specs.disk_array.specs.Units.{Array};
-ghost use Rattle.bus_due.specs.cdb_codec.specs.declared.status.TheConstants.{GOOD};
-ghost use Rattle.bus_due.specs.bus_story.specs.Items.{command_id, command_item, open_from, open_limit_of};
-ghost use Rattle.bus_due.specs.bus_story.specs.Outcomes.{ending_of, is_roomy, is_valid, outcome_of};
-ghost use Rattle.bus_due.specs.bus_story.specs.Story.{unanswered};
-ghost use Rattle.bus_due.specs.bus_story.specs.TraceHistory.{retries_of, story, trace_history};
-ghost use Rattle.bus_due.specs.scenario.specs.Lookups.{has_target};
+ghost use Rattle.due_model.specs.bus_base.specs.declared.Event.{Event};
+ghost use Rattle.due_model.specs.bus_base.specs.declared.ProcId.{ProcId};
+ghost use Rattle.due_model.specs.scenario.specs.declared.value.CmdDef.{CmdDef};
+ghost use Rattle.due_model.specs.scenario.specs.Value.{ScenarioValue};
+ghost use Rattle.due_model.specs.scenario.specs.Writing.{Obeys};
+ghost use Rattle.due_model.specs.array_model.specs.ArrayHistory.{array_after, reply_in, reply_of};
+ghost use Rattle.due_model.specs.array_model.specs.Execution.{Reply, aborted_reply, queue_full};
+ghost use Rattle.due_model.specs.array_model.specs.Processes.{command_at};
+ghost use Rattle.due_model.specs.array_model.specs.Units.{Array};
+ghost use Rattle.due_model.specs.cdb_codec.specs.declared.status.TheConstants.{GOOD};
+ghost use Rattle.due_model.specs.story_model.specs.Items.{command_id, command_item, open_from, open_limit_of};
+ghost use Rattle.due_model.specs.story_model.specs.Outcomes.{ending_of, is_roomy, is_valid, outcome_of};
+ghost use Rattle.due_model.specs.story_model.specs.Story.{unanswered};
+ghost use Rattle.due_model.specs.story_model.specs.TraceHistory.{retries_of, story, trace_history};
+ghost use Rattle.due_model.specs.scenario.specs.Lookups.{has_target};
 ghost use Rattle.delivery_laws.specs.Endings.{AreExact, arrive_by_room};
 ghost use Rattle.delivery_laws.specs.Openings.{AreAnsweredOffers, AreOfferReplies, AreOpenings};
 ghost use Rattle.delivery_laws.specs.Recoveries.{AreRecoveries};
 ghost use Rattle.delivery_laws.specs.Delivery.{AreAnswered, AreCaused, AreChecked, AreOwnSenses, AreStoppedSenses, Delivers, HasRun, IsGiven};
 ghost use Rattle.delivery_laws.specs.Delivery.{calling_faults, command_faults, fault_limit, is_calm_event, is_given_up_by};
 ghost use Rattle.delivery_laws.specs.Resets.{are_lines, are_releases, has_line};
-ghost use Rattle.bus_due.specs.scenario.specs.declared.value.ResetDef.{ResetDef};
+ghost use Rattle.due_model.specs.scenario.specs.declared.value.ResetDef.{ResetDef};
 ghost use Rattle.std.specs.List.{list_all};
 
-use bus_due::wants_are_items;
+use due_model::wants_are_items;
 use initiator::endings_have_causes;
-use progress_laws::the_bus_books::{
+use progress_laws::the_book_laws::{
     give_ups_have_causes, refusals_have_causes, replies_have_causes,
 };
 use progress_laws::the_trace_laws::{

@@ -17,5 +17,5 @@ pub use laws::{
 
 // Handed on to the crates above that list this one and not these.
 pub use progress_laws as the_progress_laws;
-pub use progress_laws::{the_bus_books, the_trace_laws};
+pub use progress_laws::{the_book_laws, the_trace_laws};
 pub use right_laws as the_right_laws;

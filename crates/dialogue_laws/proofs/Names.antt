@@ -7,13 +7,13 @@ pub use std_proofs.lemmas.Bool.{and_parts, cases_Bool, eqb-true, leb-true, ltb-f
 pub use std_proofs.lemmas.Option.{same_Some}
 use Rattle.std.specs as std
 pub use std.{List.{list_any}, Prelude.{if◌then◌else◌, is_none, is_some, nat_lt, ◌==◌}}
-use Rattle.bus_due.specs.bus_base.proofs as bus_base_proofs
+use Rattle.due_model.specs.bus_base.proofs as bus_base_proofs
 pub use bus_base_proofs.Tests.{eq_self, or_false, or_true, wrong, wrong'}
-use Rattle.bus_due.specs.bus_base.specs as bus_base
+use Rattle.due_model.specs.bus_base.specs as bus_base
 pub use bus_base.declared.{AbortKind.{AbortKind}, Event.{Event}, ProcId.{ProcId}}
-use Rattle.bus_due.specs.bus_trace.proofs as bus_trace_proofs
+use Rattle.due_model.specs.bus_trace.proofs as bus_trace_proofs
 pub use bus_trace_proofs.{OneRow.{bus-fault}, Sets.{same_self}}
-use Rattle.bus_due.specs.bus_trace.specs as bus_trace
+use Rattle.due_model.specs.bus_trace.specs as bus_trace
 pub use bus_trace.{Changes.{change_of, falls, rises}, LineSet.{LineSet}, Phases.{changes_phase, is_data, is_message_in}}
 pub use bus_trace.{Phases.{is_message_out}, Terms.{call, connection, connection_after, is_fault, receiver, receiver_in}}
 pub use bus_trace.{Terms.{receiver_of}, Trace.{bus, drives, last_time}, declared.Kind.{Kind, TheVariants.{Drives}}}
@@ -21,76 +21,79 @@ pub use bus_trace.declared.{Kind.TheVariants.{Fault}, Row.{Row}, agreements.Agre
 pub use bus_trace.declared.{changes.Change.{Change}, connection.Connection.{Connection}, selection.Call.{Call}}
 pub use bus_trace.declared.selection.Calling.{Calling}
 unfoldable pub use bus_trace.{LineSet.{line_of}, View.{union_below}}
-use Rattle.bus_due.specs.bus_lines.specs as bus_lines
+use Rattle.due_model.specs.bus_lines.specs as bus_lines
 pub use bus_lines.Handshakes.{Handshakes, answered_if, asked_if, first_of, handshakes, handshakes_after, handshakes_on}
-pub use bus_lines.{Handshakes.{no_handshakes, strikes_if, strikes_last}, declared.handshakes.Request.{Request}}
-use Rattle.bus_due.specs.cdb_codec.specs as cdb_codec
+pub use bus_lines.Handshakes.{newest_struck_if, no_handshakes, with_last_struck}
+pub use bus_lines.declared.handshakes.Request.{Request}
+use Rattle.due_model.specs.cdb_codec.specs as cdb_codec
 pub use cdb_codec.declared.sense.TheConstants.{INITIATOR_DETECTED_ERROR, PARITY_ERROR}
 pub use cdb_codec.declared.status.TheConstants.{CHECK_CONDITION}
-use Rattle.bus_due.specs.msg_grammar.specs as msg_grammar
+use Rattle.due_model.specs.msg_grammar.specs as msg_grammar
 pub use msg_grammar.declared.message.{MsgIn.{MsgIn}, MsgOut.{MsgOut}}
 unfoldable pub use msg_grammar.Messages.{form_in, form_out}
-use Rattle.bus_due.specs.scenario.specs as scenario
+use Rattle.due_model.specs.scenario.specs as scenario
 pub use scenario.{Value.{ScenarioValue}, Writing.{Obeys}, declared.value.{AbortDef.{AbortDef}, CmdDef.{CmdDef}}}
 pub use scenario.declared.value.{HostDef.{HostDef}, Policy.{Policy}, TargetDef.{TargetDef}}
 unfoldable pub use scenario.Needs.{need_of, sent_of}
-use Rattle.bus_due.specs.disk_array.proofs as disk_array_proofs
-pub use disk_array_proofs.{SeatLookups.{same_id_is}, SeatReplies.{id_self}}
-use Rattle.bus_due.specs.disk_array.specs as disk_array
-pub use disk_array.{ArrayHistory.{reply_in}, Processes.{Process, process_of, same_id}}
-use Rattle.bus_due.specs.bus_story.proofs as bus_story_proofs
-pub use bus_story_proofs.StorySteps.{events_sent}
-use Rattle.bus_due.specs.bus_story.specs as bus_story
-pub use bus_story.{BusState.{RowReading, row_reading}, HistoryEvents.{abort_line_at, abort_line_events}}
-pub use bus_story.HistoryEvents.{bus_free_events, connection_events, item_abort_events, link_events, row_events_by}
-pub use bus_story.Items.{Item, Sent, abort, count_item, has_item, is_done, is_open, process, same_item, sense_item}
-pub use bus_story.{Links.{Link, abortive}, Story.{Ending, Story, by_abort, by_reset, by_status, is_aborted}}
-pub use bus_story.Story.{is_sense_stopped, story_after_event, story_after_events, story_with_end, story_with_end_if}
-pub use bus_story.{Story.{story_with_ends, story_with_over}, TraceHistory.{aim_of, is_arbitration_entry, is_counted}}
-pub use bus_story.TraceHistory.{retries_of, story_after_calling, story_after_calling_by, story_by_change, story_on_bus}
-pub use bus_story.TraceHistory.{story_on_free_bus, story_with_aim, story_with_try, story_without_answer}
-use Rattle.bus_due.specs.bus_reactions.specs as bus_reactions
-pub use bus_reactions.Reactions.{sooner_time, time_if}
-use Rattle.bus_due.specs.bus_dialogue.specs as bus_dialogue
-pub use bus_dialogue.{Arrivals.{policy_of}, DataRuns.{run_length, runs_in_all}, Ends.{follows_by}}
-pub use bus_dialogue.Events.{after_opening_events, arrival_event, arrival_events, arrival_run_events}
-pub use bus_dialogue.Events.{connection_end_events, detected_events, has_replied, is_status_next, newest_with}
-pub use bus_dialogue.{Events.{reply_events, turn_events, turn_events_if}, Exchange.{Exchange, Speech}}
-pub use bus_dialogue.Exchange.{bytes_of_messages, one_message, plan_after_message, plan_anew, speech_after_byte}
-pub use bus_dialogue.{Exchange.{speech_after_request, speech_of, struck_plan}, Hearing.{begun, begun_after}}
-pub use bus_dialogue.NextPhase.{Serving, after_arrival, after_messages, after_run, bus_free, command_leaving}
-pub use bus_dialogue.NextPhase.{data_out_leaving, disconnect_messages, disconnection, leaving_by, message_in_entry}
-pub use bus_dialogue.NextPhase.{message_out_leaving, message_repetition, next_data_phase, phase_entry, phase_leaving}
-pub use bus_dialogue.NextPhase.{phase_lines, phase_of, pointer_restoration, recovery, recovery_limit, unless_attention}
-pub use bus_dialogue.{NextPhase.{with_task}, PhaseBytes.{follows_in, lines_by, one_if, run_length_if}}
-pub use bus_dialogue.Planning.{cause_after, plan_after, plan_in_message_out, plan_in_phase, plan_with_byte}
-pub use bus_dialogue.{Speaking.{words_after}, Wants.{abort_since}, Words.{answer_bytes, detected_error, is_naming}}
-pub use bus_dialogue.{Words.{parity_error}, declared.exchange.{Arrival.{Arrival}, Cause.{Cause}, Hearing.{Hearing}}}
-pub use bus_dialogue.declared.exchange.{Leaving.{Leaving}, Messages.{Messages}, Next.{Next}, Phase.{Phase}, Plan.{Plan}}
-pub use bus_dialogue.declared.exchange.{Said.{Said}, Task.{Task}}
-use Rattle.bus_due.proofs as bus_due_proofs
-pub use bus_due_proofs.Cases.{absent_unit_due, absent_unit_due_rows, burst_without_tags_due}
-pub use bus_due_proofs.Cases.{burst_without_tags_due_rows, command_given_up_due, command_given_up_due_rows}
-pub use bus_due_proofs.Cases.{command_struck_twice_due, command_struck_twice_due_rows, complete_struck_due}
-pub use bus_due_proofs.Cases.{complete_struck_due_rows, data_in_given_up_due, data_in_given_up_due_rows}
-pub use bus_due_proofs.Cases.{data_out_given_up_due, data_out_given_up_due_rows, full_queue_due, full_queue_due_rows}
-pub use bus_due_proofs.Cases.{lost_due, lost_due_rows, own_processes_aborted_due, own_processes_aborted_due_rows}
-pub use bus_due_proofs.Cases.{pulsed_read_struck_due, pulsed_read_struck_due_rows, pulsed_write_struck_due}
-pub use bus_due_proofs.Cases.{pulsed_write_struck_due_rows, pulses_out_due, pulses_out_due_rows, queue_orders_due}
-pub use bus_due_proofs.Cases.{queue_orders_due_rows, read_whole_after_a_part_due, read_whole_after_a_part_due_rows}
-pub use bus_due_proofs.Cases.{request_of_a_target_struck_due, request_of_a_target_struck_due_rows, status_given_up_due}
-pub use bus_due_proofs.Cases.{status_given_up_due_rows, status_struck_due, status_struck_due_rows, struck_names_due}
-pub use bus_due_proofs.Cases.{struck_names_due_rows, tagged_opening_struck_due, tagged_opening_struck_due_rows}
-pub use bus_due_proofs.{Cases.{unanswered_due, unanswered_due_rows}, Plains.{run_state_plain}, Seams.{onto}}
-use Rattle.bus_due.specs as bus_due
-pub use bus_due.{Defs.{host_of, target_def_of}, LastingState.{ProcessProgress, progress_in, progress_with}}
-pub use bus_due.{Next.{IsPrompt}, Plain.{IsPlain}, RunState.{RunState, bus_of, carried_here, or_start, process_item}}
-pub use bus_due.{RunState.{process_served}, RunSteps.{events_of_row, exchange_after, first_run_state, item_if}}
-pub use bus_due.RunSteps.{leaving_of, progress_after, progress_by_leaving, run_state, run_state_after, served_after}
-pub use bus_due.{Sights.{arrival_at, hearing_of, leaving, pace_of, serving_at, serving_of}, Tasks.{arrival_of}}
-pub use bus_due.{Tasks.{is_writing, task_if, task_of}, Telling.{events_of_ends, events_of_ends_in, id_of}}
-pub use bus_due.Telling.{initiator_events, is_true_telling, same_event, same_events, same_kind, target_events, telling}
-pub use bus_due.Wants.{item_want_time, own_abort, own_aborts, ready_of, ready_time, want_time}
+use Rattle.due_model.specs.array_model.proofs as array_model_proofs
+pub use array_model_proofs.{SeatLookups.{same_id_is}, SeatReplies.{id_self}}
+use Rattle.due_model.specs.array_model.specs as array_model
+pub use array_model.{ArrayHistory.{reply_in}, Processes.{Process, process_of, same_id}}
+use Rattle.due_model.specs.story_model.proofs as story_model_proofs
+pub use story_model_proofs.StorySteps.{events_sent}
+use Rattle.due_model.specs.story_model.specs as story_model
+pub use story_model.{BusState.{RowReading, row_reading}, HistoryEvents.{abort_line_at, abort_line_events}}
+pub use story_model.HistoryEvents.{bus_free_events, connection_events, item_abort_events, link_events, row_events_by}
+pub use story_model.Items.{Item, Sent, abort, count_item, has_item, is_done, is_open, process, same_item, sense_item}
+pub use story_model.{Links.{Link, abortive}, Story.{Ending, Story, by_abort, by_reset, by_status, is_aborted}}
+pub use story_model.Story.{is_sense_stopped, story_after_event, story_after_events, story_with_end, story_with_end_if}
+pub use story_model.{Story.{story_with_ends, story_with_over}, TraceHistory.{aim_of, is_arbitration_entry, is_counted}}
+pub use story_model.TraceHistory.{retries_of, story_after_calling, story_after_calling_by, story_by_change}
+pub use story_model.TraceHistory.{story_on_bus, story_on_free_bus, story_with_aim, story_with_try, story_without_answer}
+use Rattle.due_model.specs.reaction_model.specs as reaction_model
+pub use reaction_model.Reactions.{sooner_time, time_if}
+use Rattle.due_model.specs.dialogue_model.specs as dialogue_model
+pub use dialogue_model.{Arrivals.{policy_of}, DataRuns.{run_length, runs_in_all}, Ends.{follows_by}}
+pub use dialogue_model.Events.{after_opening_events, arrival_event, arrival_events, arrival_run_events}
+pub use dialogue_model.Events.{connection_end_events, detected_events, has_replied, is_status_next, newest_with}
+pub use dialogue_model.{Events.{reply_events, turn_events, turn_events_if}, Exchange.{Exchange, Speech}}
+pub use dialogue_model.Exchange.{bytes_of_messages, one_message, plan_after_message, plan_anew, speech_after_byte}
+pub use dialogue_model.{Exchange.{speech_after_request, speech_of, struck_plan}, Hearing.{begun, begun_after}}
+pub use dialogue_model.NextPhase.{Serving, after_arrival, after_messages, after_run, bus_free, command_leaving}
+pub use dialogue_model.NextPhase.{data_out_leaving, disconnect_messages, disconnection, leaving_by, message_in_entry}
+pub use dialogue_model.NextPhase.{message_out_leaving, message_repetition, next_data_phase, phase_entry, phase_leaving}
+pub use dialogue_model.NextPhase.{phase_lines, phase_of, pointer_restoration, recovery, recovery_limit}
+pub use dialogue_model.{NextPhase.{unless_attention, with_task}, PhaseBytes.{follows_in, lines_by, one_if}}
+pub use dialogue_model.{PhaseBytes.{run_length_if}, Planning.{cause_after, plan_after, plan_in_message_out}}
+pub use dialogue_model.{Planning.{plan_in_phase, plan_with_byte}, Speaking.{words_after}, Wants.{abort_since}}
+pub use dialogue_model.Words.{answer_bytes, detected_error, is_naming, parity_error}
+pub use dialogue_model.declared.exchange.{Arrival.{Arrival}, Cause.{Cause}, Hearing.{Hearing}, Leaving.{Leaving}}
+pub use dialogue_model.declared.exchange.{Messages.{Messages}, Next.{Next}, Phase.{Phase}, Plan.{Plan}, Said.{Said}}
+pub use dialogue_model.declared.exchange.Task.{Task}
+use Rattle.due_model.proofs as due_model_proofs
+pub use due_model_proofs.Cases.{absent_unit_due, absent_unit_due_rows, burst_without_tags_due}
+pub use due_model_proofs.Cases.{burst_without_tags_due_rows, command_given_up_due, command_given_up_due_rows}
+pub use due_model_proofs.Cases.{command_struck_twice_due, command_struck_twice_due_rows, complete_struck_due}
+pub use due_model_proofs.Cases.{complete_struck_due_rows, data_in_given_up_due, data_in_given_up_due_rows}
+pub use due_model_proofs.Cases.{data_out_given_up_due, data_out_given_up_due_rows, full_queue_due, full_queue_due_rows}
+pub use due_model_proofs.Cases.{lost_due, lost_due_rows, own_processes_aborted_due, own_processes_aborted_due_rows}
+pub use due_model_proofs.Cases.{pulsed_read_struck_due, pulsed_read_struck_due_rows, pulsed_write_struck_due}
+pub use due_model_proofs.Cases.{pulsed_write_struck_due_rows, pulses_out_due, pulses_out_due_rows, queue_orders_due}
+pub use due_model_proofs.Cases.{queue_orders_due_rows, read_whole_after_a_part_due, read_whole_after_a_part_due_rows}
+pub use due_model_proofs.Cases.{request_of_a_target_struck_due, request_of_a_target_struck_due_rows}
+pub use due_model_proofs.Cases.{status_given_up_due, status_given_up_due_rows, status_struck_due}
+pub use due_model_proofs.Cases.{status_struck_due_rows, struck_names_due, struck_names_due_rows}
+pub use due_model_proofs.Cases.{tagged_opening_struck_due, tagged_opening_struck_due_rows, unanswered_due}
+pub use due_model_proofs.{Cases.{unanswered_due_rows}, Plains.{run_state_plain}, Seams.{onto}}
+use Rattle.due_model.specs as due_model
+pub use due_model.{Defs.{host_of, target_def_of}, LastingState.{ProcessProgress, progress_in, progress_with}}
+pub use due_model.{Next.{IsPrompt}, Plain.{IsPlain}, RunState.{RunState, bus_of, carried_here, or_start, process_item}}
+pub use due_model.{RunState.{process_served}, RunSteps.{events_of_row, exchange_after, first_run_state, item_if}}
+pub use due_model.RunSteps.{leaving_of, progress_after, progress_by_leaving, run_state, run_state_after, served_after}
+pub use due_model.{Sights.{arrival_at, hearing_of, leaving, pace_of, serving_at, serving_of}, Tasks.{arrival_of}}
+pub use due_model.{Tasks.{is_writing, task_if, task_of}, Telling.{events_of_ends, events_of_ends_in, id_of}}
+pub use due_model.Telling.{initiator_events, is_true_telling, same_event, same_events, same_kind, target_events}
+pub use due_model.{Telling.{telling}, Wants.{item_want_time, own_abort, own_aborts, ready_of, ready_time, want_time}}
 use Rattle.progress_laws.specs.scsi_device.proofs as scsi_device_proofs
 pub use scsi_device_proofs.FitLines.{abort_fits, obeys_fits, units_are}
 use Rattle.progress_laws.specs.scsi_device.specs as scsi_device

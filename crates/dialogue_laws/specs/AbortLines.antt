@@ -1,13 +1,13 @@
 -- What becomes of an abort line: ABORT, ABORT TAG, CLEAR QUEUE or BUS DEVICE RESET (6.6.1 to 6.6.4).
 use Rattle.std.specs.Prelude.{ℕ, ◌+◌, ◌≡◌, ◌≤◌, Bool, true, false, ◌&&◌, ◌||◌, List, [], ◌∷◌, Option, Some, None}
-use Rattle.bus_due.specs.bus_trace.specs.Changes.{rises}
-use Rattle.bus_due.specs.bus_trace.specs.Trace.{bus}
-use Rattle.bus_due.specs.bus_trace.specs.declared.Row.{Row}
-use Rattle.bus_due.specs.scenario.specs.declared.value.AbortDef.{AbortDef}
-use Rattle.bus_due.specs.scenario.specs.Value.{ScenarioValue}
-use Rattle.bus_due.specs.bus_story.specs.Items.{Item, Sent, abort, count_item, has_item, same_item}
-use Rattle.bus_due.specs.bus_story.specs.TraceHistory.{retries_of}
-use Rattle.bus_due.specs.RunSteps.{run_state}
+use Rattle.due_model.specs.bus_trace.specs.Changes.{rises}
+use Rattle.due_model.specs.bus_trace.specs.Trace.{bus}
+use Rattle.due_model.specs.bus_trace.specs.declared.Row.{Row}
+use Rattle.due_model.specs.scenario.specs.declared.value.AbortDef.{AbortDef}
+use Rattle.due_model.specs.scenario.specs.Value.{ScenarioValue}
+use Rattle.due_model.specs.story_model.specs.Items.{Item, Sent, abort, count_item, has_item, same_item}
+use Rattle.due_model.specs.story_model.specs.TraceHistory.{retries_of}
+use Rattle.due_model.specs.RunSteps.{run_state}
 
 -- A connection began for it, as its initiator had called for it in vain no more often than it calls again; or it was
 -- dropped with the first calling in vain beyond that, and no connection began for it.

@@ -1,19 +1,19 @@
 // The law of the abort lines, named by the contract of a function that does nothing.
 
 ghost use Rattle.std.specs.Prelude.{ℕ, ◌≡◌, ◌⊎◌, true, List, Some};
-ghost use Rattle.bus_due.specs.bus_base.specs.declared.Event.TheVariants as events;
-ghost use Rattle.bus_due.specs.bus_trace.specs.declared.Row.{Row};
-ghost use Rattle.bus_due.specs.scenario.specs.Value.{ScenarioValue};
-ghost use Rattle.bus_due.specs.scenario.specs.Writing.{Obeys};
-ghost use Rattle.bus_due.specs.scenario.specs.declared.value.AbortDef.{AbortDef};
-ghost use Rattle.bus_due.specs.bus_story.specs.HistoryEvents.{abort_line_at};
-ghost use Rattle.bus_due.specs.bus_story.specs.Items.{abort, has_item};
-ghost use Rattle.bus_due.specs.Next.{IsEnded, IsPrompt};
-ghost use Rattle.bus_due.specs.RunSteps.{run_state};
+ghost use Rattle.due_model.specs.bus_base.specs.declared.Event.TheVariants as events;
+ghost use Rattle.due_model.specs.bus_trace.specs.declared.Row.{Row};
+ghost use Rattle.due_model.specs.scenario.specs.Value.{ScenarioValue};
+ghost use Rattle.due_model.specs.scenario.specs.Writing.{Obeys};
+ghost use Rattle.due_model.specs.scenario.specs.declared.value.AbortDef.{AbortDef};
+ghost use Rattle.due_model.specs.story_model.specs.HistoryEvents.{abort_line_at};
+ghost use Rattle.due_model.specs.story_model.specs.Items.{abort, has_item};
+ghost use Rattle.due_model.specs.Next.{IsEnded, IsPrompt};
+ghost use Rattle.due_model.specs.RunSteps.{run_state};
 ghost use Rattle.progress_laws.specs.book_laws.specs.FullQueues.{has_event};
 ghost use Rattle.dialogue_laws.specs.AbortLines.{AbortEnd, IsToSend, is_cut};
 
-use bus_due::wants_are_items;
+use due_model::wants_are_items;
 use progress_laws::ended_traces_are_quiet;
 
 /// After any rows of a prompt trace each abort line is sent, dropped or still to be sent (`so_far`), and once the trace

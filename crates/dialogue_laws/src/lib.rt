@@ -1,6 +1,6 @@
 //! Laws of prompt traces: what a run does in a connection, in plain laws of its rows.
 //!
-//! Recoveries, data runs, disconnections and aborts are stated by definitions in `bus_dialogue` and `bus_due`; what
+//! Recoveries, data runs, disconnections and aborts are stated by definitions in `dialogue_model` and `due_model`; what
 //! they come to is said here for readers of the standard. Each abort line is sent or dropped
 //! (`abort_lines_are_over`). Where the initiator complains MESSAGE OUT follows (`complaints_follow`); as the target
 //! leaves a phase in which parity was wrong it recovers, or gives up the process where its limit is spent

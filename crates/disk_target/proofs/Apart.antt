@@ -9,7 +9,7 @@ use Rattle.bus_trace.specs.Terms.{connection}
 use Rattle.bus_trace.specs.Trace.{bus}
 use Rattle.scenario.specs.declared.value.FaultDef.{FaultDef}
 use Rattle.scenario.specs.declared.value.TargetDef.{TargetDef}
-use Rattle.bus_reactions.specs.Reset.{with_reset}
+use Rattle.reaction_model.specs.Reset.{with_reset}
 use Rattle.target_course.specs.scsi_device.proofs.Finds.{some_is}
 use Rattle.target_course.specs.scsi_device.specs.Told.{told}
 use Rattle.target_course.specs.Dues.{calm_by, myself_by, target_next}

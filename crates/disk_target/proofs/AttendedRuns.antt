@@ -4,11 +4,11 @@ use Rattle.std.specs.Prelude.{◌&&◌}
 use Rattle.std.proofs.lemmas.Bool.{and_from, and_parts}
 use Rattle.bus_trace.specs.declared.Row.{Row}
 use Rattle.scenario.specs.Value.{ScenarioValue}
-use Rattle.bus_due.specs.bus_story.specs.BusState.{RowReading, row_reading}
-use Rattle.bus_due.specs.RunState.{RunState}
-use Rattle.bus_due.specs.RunSteps.{first_run_state, run_state, run_state_after}
-use Rattle.bus_due.specs.Sights.{hearing_of}
-use Rattle.bus_due.proofs.Seams.{onto}
+use Rattle.due_model.specs.story_model.specs.BusState.{RowReading, row_reading}
+use Rattle.due_model.specs.RunState.{RunState}
+use Rattle.due_model.specs.RunSteps.{first_run_state, run_state, run_state_after}
+use Rattle.due_model.specs.Sights.{hearing_of}
+use Rattle.due_model.proofs.Seams.{onto}
 use Rattle.target_course.specs.scsi_device.specs.Heard.{Instructions, no_instructions, instructions, instructions_by}
 use Rattle.target_course.specs.scsi_device.specs.Writes.{Writer, writers, writers_after}
 use Rattle.disk_target.specs.Attended.{is_attended, attended}

@@ -2,11 +2,11 @@
 use Rattle.std.proofs.Common.{ℕ, ◌≡◌, Bool, true, false, List, [], ◌∷◌, ◌∙◌, refl, Option, Some, None}
 use Rattle.std.specs.Prelude.{if◌then◌else◌, ◌&&◌, ◌||◌, ◌==◌, is_some}
 use Rattle.bus_base.specs.declared.ProcId.{ProcId}
-use Rattle.disk_array.specs.Processes.{Process, same_id}
-use Rattle.disk_array.specs.Seats.{seat_of, guests_at, current_of, waits_in}
-use Rattle.disk_array.specs.Steps.{running_if, running_in, running_process, is_waiting, is_of_unit}
-use Rattle.disk_array.specs.Units.{RunningProcess, UnitState, Array, unit_state_at, guest_at}
-use Rattle.disk_array.proofs.SeatReplies.{id_self}
+use Rattle.array_model.specs.Processes.{Process, same_id}
+use Rattle.array_model.specs.Seats.{seat_of, guests_at, current_of, waits_in}
+use Rattle.array_model.specs.Steps.{running_if, running_in, running_process, is_waiting, is_of_unit}
+use Rattle.array_model.specs.Units.{RunningProcess, UnitState, Array, unit_state_at, guest_at}
+use Rattle.array_model.proofs.SeatReplies.{id_self}
 use Rattle.target_course.specs.scsi_device.specs.Heard.{is_new}
 use Rattle.disk_target.specs.Standings.{is_inside, IsNoGuest}
 use Rattle.std.proofs.lemmas.Bool.{not-true}

@@ -8,27 +8,27 @@ use Rattle.bus_trace.specs.declared.Row.{Row}
 use Rattle.bus_trace.specs.declared.connection.Connection.{Connection}
 use Rattle.cdb_codec.specs.Cdb.{has_group_len}
 use Rattle.scenario.specs.Value.{ScenarioValue}
-use Rattle.disk_array.proofs.SoundArrays
-use Rattle.disk_array.specs.Processes.{Process, process_of}
-use Rattle.bus_due.specs.bus_story.specs.Items.{Item, process, abort}
-use Rattle.bus_due.specs.bus_story.specs.Right.{same_bytes}
-use Rattle.bus_due.specs.bus_dialogue.specs.declared.exchange.Cause.{Cause}
-use Rattle.bus_due.specs.bus_dialogue.specs.declared.exchange.Next.{Next}
-use Rattle.bus_due.specs.bus_dialogue.specs.declared.exchange.Phase.{Phase}
-use Rattle.bus_due.specs.bus_dialogue.specs.declared.exchange.Phase.TheVariants as phases
-use Rattle.bus_due.specs.bus_dialogue.specs.NextPhase.{phase_of}
-use Rattle.bus_due.specs.RunState.{RunState, array_of, bus_of, process_item, process_served}
-use Rattle.bus_due.specs.RunSteps.{run_state}
+use Rattle.array_model.proofs.SoundArrays
+use Rattle.array_model.specs.Processes.{Process, process_of}
+use Rattle.due_model.specs.story_model.specs.Items.{Item, process, abort}
+use Rattle.due_model.specs.story_model.specs.Right.{same_bytes}
+use Rattle.due_model.specs.dialogue_model.specs.declared.exchange.Cause.{Cause}
+use Rattle.due_model.specs.dialogue_model.specs.declared.exchange.Next.{Next}
+use Rattle.due_model.specs.dialogue_model.specs.declared.exchange.Phase.{Phase}
+use Rattle.due_model.specs.dialogue_model.specs.declared.exchange.Phase.TheVariants as phases
+use Rattle.due_model.specs.dialogue_model.specs.NextPhase.{phase_of}
+use Rattle.due_model.specs.RunState.{RunState, array_of, bus_of, process_item, process_served}
+use Rattle.due_model.specs.RunSteps.{run_state}
 use Rattle.target_course.specs.scsi_device.specs.Heard.{Instructions, instructions, is_block, is_carried}
 use Rattle.target_course.specs.scsi_device.specs.Heard.{is_command_phase, gives_status, is_heard_process, is_instructed}
 use Rattle.target_course.specs.scsi_device.specs.Heard.{is_name, is_new, is_answered, is_unanswered, is_opening}
 use Rattle.target_course.specs.scsi_device.specs.Heard.{is_opening_in, is_placed, moves_data}
-use Rattle.disk_array.specs.ArrayHistory.{reply_in}
-use Rattle.disk_array.specs.Steps.{running_process}
-use Rattle.disk_array.specs.Units.{Array}
+use Rattle.array_model.specs.ArrayHistory.{reply_in}
+use Rattle.array_model.specs.Steps.{running_process}
+use Rattle.array_model.specs.Units.{Array}
 use Rattle.target_course.specs.Courses.{CourseState, name_of, name_if, MOST_KEPT, IsTold, IsOfProcess, IsCourse}
 use Rattle.target_course.proofs.CourseAgrees.{IsFront, name_is, group_short}
-use Rattle.bus_due.specs.bus_story.proofs.SameBytes.{bytes_are}
+use Rattle.due_model.specs.story_model.proofs.SameBytes.{bytes_are}
 use Rattle.disk_target.specs.Bytes.{gives_data}
 use Rattle.bus_base.proofs.Tests.{implied}
 

@@ -9,16 +9,16 @@ use Rattle.bus_trace.specs.Trace.{bus}
 use Rattle.scenario.specs.declared.value.TargetDef.{TargetDef}
 use Rattle.scenario.specs.Value.{ScenarioValue}
 use Rattle.disk_unit.specs.declared.unit.Reply.{Reply}
-use Rattle.bus_due.specs.bus_dialogue.specs.declared.exchange.Hearing.{Hearing}
-use Rattle.bus_due.specs.bus_dialogue.specs.declared.exchange.Leaving.{Leaving}
-use Rattle.bus_due.specs.bus_dialogue.specs.declared.exchange.Plan.{Plan}
-use Rattle.bus_due.specs.bus_dialogue.specs.NextPhase as next_phase
-use Rattle.bus_due.specs.bus_dialogue.specs.Planning.{plan_after}
-use Rattle.bus_due.specs.Defs.{target_def_of}
-use Rattle.bus_due.specs.Plain.{IsPlain}
-use Rattle.bus_due.specs.RunSteps.{run_state}
-use Rattle.bus_due.specs.Sights.{serving_of}
-use Rattle.bus_due.specs.Tasks.{given_of}
+use Rattle.due_model.specs.dialogue_model.specs.declared.exchange.Hearing.{Hearing}
+use Rattle.due_model.specs.dialogue_model.specs.declared.exchange.Leaving.{Leaving}
+use Rattle.due_model.specs.dialogue_model.specs.declared.exchange.Plan.{Plan}
+use Rattle.due_model.specs.dialogue_model.specs.NextPhase as next_phase
+use Rattle.due_model.specs.dialogue_model.specs.Planning.{plan_after}
+use Rattle.due_model.specs.Defs.{target_def_of}
+use Rattle.due_model.specs.Plain.{IsPlain}
+use Rattle.due_model.specs.RunSteps.{run_state}
+use Rattle.due_model.specs.Sights.{serving_of}
+use Rattle.due_model.specs.Tasks.{given_of}
 use Rattle.target_course.specs.scsi_device.proofs.Finds.{some_is}
 use Rattle.target_course.specs.scsi_device.specs.Heard.{heard}
 use Rattle.target_course.specs.scsi_device.specs.Lines.{FitsBus}

@@ -9,11 +9,11 @@ use Rattle.scenario.specs.declared.value.TargetDef.{TargetDef}
 use Rattle.scenario.specs.Value.{ScenarioValue}
 use Rattle.scenario.specs.declared.value.Tag.TheVariants as tags
 use Rattle.scenario.specs.Needs.{sent_of}
-use Rattle.disk_array.specs.Processes.{Process, payload_bytes, sense_block, command_at, process_by, process_if}
-use Rattle.disk_array.specs.Processes.{process_of}
-use Rattle.disk_array.specs.Seats.{is_initiator}
-use Rattle.bus_due.specs.Defs.{target_def_of}
-use Rattle.bus_due.specs.Wants.{seek_of}
+use Rattle.array_model.specs.Processes.{Process, payload_bytes, sense_block, command_at, process_by, process_if}
+use Rattle.array_model.specs.Processes.{process_of}
+use Rattle.array_model.specs.Seats.{is_initiator}
+use Rattle.due_model.specs.Defs.{target_def_of}
+use Rattle.due_model.specs.Wants.{seek_of}
 use Rattle.target_course.specs.scsi_device.proofs.Finds.{none_some, some_is}
 use Rattle.target_course.specs.scsi_device.specs.Lines.{IsCommandLine}
 

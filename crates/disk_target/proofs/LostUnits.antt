@@ -6,17 +6,17 @@ use Rattle.bus_base.specs.declared.Event.TheVariants as events
 use Rattle.bus_base.specs.declared.ProcId.{ProcId}
 use Rattle.bus_trace.specs.declared.Row.{Row}
 use Rattle.scenario.specs.Value.{ScenarioValue}
-use Rattle.disk_array.specs.Order.{without_process}
-use Rattle.disk_array.specs.Processes.{Process, same_id}
-use Rattle.disk_array.specs.Seats
-use Rattle.disk_array.specs.Seats.{Seat, seat_of, settled_seat, waits_in}
-use Rattle.disk_array.specs.SoundArray.{HasSeats, IsOwn}
-use Rattle.disk_array.specs.Steps.{has_ended, running_if, unit_without}
-use Rattle.disk_array.specs.Units.{Array, RunningProcess, UnitState, guest_at, without_guest}
-use Rattle.bus_due.specs.Allowed.{allowed}
-use Rattle.bus_due.specs.RunState.{RunState, array_of, or_start}
-use Rattle.bus_due.specs.RunSteps.{run_state, events_of_row}
-use Rattle.bus_due.specs.Wants.{since_of}
+use Rattle.array_model.specs.Order.{without_process}
+use Rattle.array_model.specs.Processes.{Process, same_id}
+use Rattle.array_model.specs.Seats
+use Rattle.array_model.specs.Seats.{Seat, seat_of, settled_seat, waits_in}
+use Rattle.array_model.specs.SoundArray.{HasSeats, IsOwn}
+use Rattle.array_model.specs.Steps.{has_ended, running_if, unit_without}
+use Rattle.array_model.specs.Units.{Array, RunningProcess, UnitState, guest_at, without_guest}
+use Rattle.due_model.specs.Allowed.{allowed}
+use Rattle.due_model.specs.RunState.{RunState, array_of, or_start}
+use Rattle.due_model.specs.RunSteps.{run_state, events_of_row}
+use Rattle.due_model.specs.Wants.{since_of}
 use Rattle.target_course.specs.scsi_device.specs.Heard.{is_new}
 use Rattle.target_course.specs.target_units.specs.Absent.{nothing_kept}
 use Rattle.target_course.specs.target_units.specs.Seated.{seat_time}

@@ -3,9 +3,9 @@ use Rattle.std.proofs.Common.{ℕ, ◌≡◌, ◌==◌, ◌∙◌, Bool, true, f
 use Rattle.std.specs.Prelude.{◌&&◌}
 use Rattle.bus_trace.specs.LineSet.{LineSet}
 use Rattle.bus_lines.specs.Handshakes.{Handshakes}
-use Rattle.bus_due.specs.bus_dialogue.specs.Ends.{follows_by, offering_by}
-use Rattle.bus_due.specs.bus_dialogue.specs.NextPhase.{Serving, phase_of}
-use Rattle.bus_due.specs.bus_dialogue.specs.PhaseBytes.{phase_byte}
+use Rattle.due_model.specs.dialogue_model.specs.Ends.{follows_by, offering_by}
+use Rattle.due_model.specs.dialogue_model.specs.NextPhase.{Serving, phase_of}
+use Rattle.due_model.specs.dialogue_model.specs.PhaseBytes.{phase_byte}
 use Rattle.target_course.specs.Alike.{AreAlike, is_driven}
 use Rattle.disk_target.specs.Needs.{goes_on_in, going_on, leaving_offering}
 

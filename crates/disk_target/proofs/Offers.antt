@@ -5,22 +5,22 @@ use Rattle.std.specs.Prelude.{if◌then◌else◌, nat_lt}
 use Rattle.bus_trace.specs.LineSet.{LineSet}
 use Rattle.bus_lines.specs.Handshakes.{Handshakes}
 use Rattle.scenario.specs.declared.value.TargetDef.{TargetDef}
-use Rattle.bus_reactions.specs.declared.ends.Offering.{Offering}
-use Rattle.bus_due.specs.bus_dialogue.specs.declared.exchange.Arrival.{Arrival}
-use Rattle.bus_due.specs.bus_dialogue.specs.declared.exchange.Cause.{Cause}
-use Rattle.bus_due.specs.bus_dialogue.specs.declared.exchange.Cause.TheVariants as causes
-use Rattle.bus_due.specs.bus_dialogue.specs.declared.exchange.Leaving.{Leaving}
-use Rattle.bus_due.specs.bus_dialogue.specs.declared.exchange.Next.{Next}
-use Rattle.bus_due.specs.bus_dialogue.specs.declared.exchange.Next.TheVariants as nexts
-use Rattle.bus_due.specs.bus_dialogue.specs.declared.exchange.Phase.{Phase}
-use Rattle.bus_due.specs.bus_dialogue.specs.declared.exchange.Phase.TheVariants as phases
-use Rattle.bus_due.specs.bus_dialogue.specs.declared.exchange.Plan.{Plan}
-use Rattle.bus_due.specs.bus_dialogue.specs.declared.exchange.Task.{Task}
-use Rattle.bus_due.specs.bus_dialogue.specs.Arrivals.{policy_of}
-use Rattle.bus_due.specs.bus_dialogue.specs.Ends.{offering_by, seek_before}
-use Rattle.bus_due.specs.bus_dialogue.specs.NextPhase.{Serving, phase_of, phase_leaving, message_out_leaving}
-use Rattle.bus_due.specs.bus_dialogue.specs.NextPhase.{after_messages, unless_attention}
-use Rattle.bus_due.specs.bus_dialogue.specs.PhaseBytes.{phase_byte, run_length_if, follows_in, lines_by}
+use Rattle.reaction_model.specs.declared.ends.Offering.{Offering}
+use Rattle.due_model.specs.dialogue_model.specs.declared.exchange.Arrival.{Arrival}
+use Rattle.due_model.specs.dialogue_model.specs.declared.exchange.Cause.{Cause}
+use Rattle.due_model.specs.dialogue_model.specs.declared.exchange.Cause.TheVariants as causes
+use Rattle.due_model.specs.dialogue_model.specs.declared.exchange.Leaving.{Leaving}
+use Rattle.due_model.specs.dialogue_model.specs.declared.exchange.Next.{Next}
+use Rattle.due_model.specs.dialogue_model.specs.declared.exchange.Next.TheVariants as nexts
+use Rattle.due_model.specs.dialogue_model.specs.declared.exchange.Phase.{Phase}
+use Rattle.due_model.specs.dialogue_model.specs.declared.exchange.Phase.TheVariants as phases
+use Rattle.due_model.specs.dialogue_model.specs.declared.exchange.Plan.{Plan}
+use Rattle.due_model.specs.dialogue_model.specs.declared.exchange.Task.{Task}
+use Rattle.due_model.specs.dialogue_model.specs.Arrivals.{policy_of}
+use Rattle.due_model.specs.dialogue_model.specs.Ends.{offering_by, seek_before}
+use Rattle.due_model.specs.dialogue_model.specs.NextPhase.{Serving, phase_of, phase_leaving, message_out_leaving}
+use Rattle.due_model.specs.dialogue_model.specs.NextPhase.{after_messages, unless_attention}
+use Rattle.due_model.specs.dialogue_model.specs.PhaseBytes.{phase_byte, run_length_if, follows_in, lines_by}
 use Rattle.target_course.specs.Alike.{AreAlike}
 use Rattle.target_course.proofs.Agreeing.{serves}
 use Rattle.disk_target.specs.Bytes.{gives_data}

@@ -5,25 +5,25 @@ use Rattle.std.proofs.lemmas.Bool.{eqb-true}
 use Rattle.bus_base.specs.declared.AbortKind.{AbortKind}
 use Rattle.bus_base.specs.declared.AbortKind.TheVariants as aborts
 use Rattle.bus_base.specs.declared.Event.TheVariants as events
-use Rattle.bus_due.specs.bus_dialogue.specs.declared.exchange.Room.{Room}
+use Rattle.due_model.specs.dialogue_model.specs.declared.exchange.Room.{Room}
 use Rattle.cdb_codec.specs.Cdb.{command_of}
 use Rattle.cdb_codec.specs.declared.status.TheConstants.{GOOD}
 use Rattle.scenario.specs.declared.value.HostDef.{HostDef}
 use Rattle.scenario.specs.Value.{ScenarioValue}
-use Rattle.disk_array.specs.Execution.{Reply, execution, is_request_sense, queue_full, aborted_reply}
-use Rattle.disk_array.specs.Processes.{Process}
-use Rattle.disk_array.specs.Seats
-use Rattle.disk_array.specs.Seats.{Seat, seat_of, is_initiator}
-use Rattle.disk_array.specs.SoundArray.{IsOwn}
-use Rattle.disk_array.specs.Steps.{has_ended, running_if}
-use Rattle.disk_array.specs.Processes.{same_id}
-use Rattle.disk_array.specs.Units.{RunningProcess, UnitState, Array, unit_state_at, guest_at}
-use Rattle.disk_array.proofs.SeatLookups.{same_id_is}
+use Rattle.array_model.specs.Execution.{Reply, execution, is_request_sense, queue_full, aborted_reply}
+use Rattle.array_model.specs.Processes.{Process}
+use Rattle.array_model.specs.Seats
+use Rattle.array_model.specs.Seats.{Seat, seat_of, is_initiator}
+use Rattle.array_model.specs.SoundArray.{IsOwn}
+use Rattle.array_model.specs.Steps.{has_ended, running_if}
+use Rattle.array_model.specs.Processes.{same_id}
+use Rattle.array_model.specs.Units.{RunningProcess, UnitState, Array, unit_state_at, guest_at}
+use Rattle.array_model.proofs.SeatLookups.{same_id_is}
 use Rattle.disk_unit.specs.declared.media.Plan.{Plan}
 use Rattle.disk_unit.specs.declared.unit.Reply as unit
 use Rattle.disk_unit.specs.Plans.{plan_of}
 use Rattle.disk_unit.specs.Units.{told_of, planned_reply}
-use Rattle.bus_due.specs.Tasks.{room_of, reply_now}
+use Rattle.due_model.specs.Tasks.{room_of, reply_now}
 use Rattle.target_course.specs.target_units.specs.Seated.{IsNew, reply_told}
 use Rattle.target_course.specs.target_units.specs.Units.{IsStep, AreUnitsAfter, is_of_one}
 use Rattle.target_course.specs.target_units.proofs.UnitSteps.{accept_left, refuse_left, run_left, fail_left, end_left}

@@ -12,23 +12,23 @@ use Rattle.bus_trace.specs.declared.connection.Connection.{Connection}
 use Rattle.bus_trace.specs.declared.rows.Kind.TheVariants.{Fault}
 use Rattle.scenario.specs.Value.{ScenarioValue}
 use Rattle.scenario.specs.declared.value.CmdDef.{CmdDef}
-use Rattle.disk_array.specs.Processes.{command_at}
-use Rattle.disk_array.specs.SoundArray.{HasSeats}
+use Rattle.array_model.specs.Processes.{command_at}
+use Rattle.array_model.specs.SoundArray.{HasSeats}
 use Rattle.disk_unit.specs.declared.media.Plan.{Plan as UnitPlan}
 use Rattle.disk_unit.specs.declared.unit.Reply.{Reply}
-use Rattle.bus_due.specs.bus_story.specs.BusState.{row_reading}
-use Rattle.bus_due.specs.bus_dialogue.specs.Hearing.{hearing}
-use Rattle.bus_due.specs.bus_dialogue.specs.NextPhase.{phase_of}
-use Rattle.bus_due.specs.bus_dialogue.specs.Planning.{plan_in_phase, plan_with_byte}
-use Rattle.bus_due.specs.bus_dialogue.specs.Exchange.{plan_after_message, struck_plan}
-use Rattle.bus_due.specs.bus_dialogue.specs.declared.exchange.Hearing.{Hearing}
-use Rattle.bus_due.specs.bus_dialogue.specs.declared.exchange.Leaving.{Leaving}
-use Rattle.bus_due.specs.bus_dialogue.specs.declared.exchange.Plan.{Plan}
-use Rattle.bus_due.specs.Faithful.{faithful, is_faithful}
-use Rattle.bus_due.specs.Sights.{hearing_of}
-use Rattle.bus_due.specs.Telling.{target_events}
-use Rattle.bus_due.specs.Plain.{IsPlain, AreOfDevices}
-use Rattle.bus_due.specs.RunSteps.{run_state}
+use Rattle.due_model.specs.story_model.specs.BusState.{row_reading}
+use Rattle.due_model.specs.dialogue_model.specs.Hearing.{hearing}
+use Rattle.due_model.specs.dialogue_model.specs.NextPhase.{phase_of}
+use Rattle.due_model.specs.dialogue_model.specs.Planning.{plan_in_phase, plan_with_byte}
+use Rattle.due_model.specs.dialogue_model.specs.Exchange.{plan_after_message, struck_plan}
+use Rattle.due_model.specs.dialogue_model.specs.declared.exchange.Hearing.{Hearing}
+use Rattle.due_model.specs.dialogue_model.specs.declared.exchange.Leaving.{Leaving}
+use Rattle.due_model.specs.dialogue_model.specs.declared.exchange.Plan.{Plan}
+use Rattle.due_model.specs.Faithful.{faithful, is_faithful}
+use Rattle.due_model.specs.Sights.{hearing_of}
+use Rattle.due_model.specs.Telling.{target_events}
+use Rattle.due_model.specs.Plain.{IsPlain, AreOfDevices}
+use Rattle.due_model.specs.RunSteps.{run_state}
 use Rattle.target_course.specs.scsi_device.specs.Lines.{IsCommandLine}
 use Rattle.target_course.specs.scsi_device.specs.Heard.{is_selected}
 use Rattle.target_course.specs.scsi_device.specs.Writes.{brings_byte, is_data_out}
@@ -48,7 +48,7 @@ use Rattle.target_course.proofs.ProgressRows.{progress_goes_on}
 use Rattle.target_course.proofs.ReplyRows.{reply_goes_on}
 use Rattle.disk_target.specs.Bytes.{IsOthers, StandsInOwn}
 use Rattle.disk_target.specs.Knowns.{IsQuiet, hears_message, knows_command}
-use Rattle.bus_due.specs.RunSteps.{events_of_row}
+use Rattle.due_model.specs.RunSteps.{events_of_row}
 use Rattle.disk_target.specs.Targets.{AreTied, IsCourseIf, KnowsRows, TargetValue}
 use Rattle.disk_target.specs.Turns.{AreAttendedOf}
 use Rattle.disk_target.proofs.Apart.{never_own}

@@ -2,13 +2,13 @@
 use Rattle.std.proofs.Common.{arith, ℕ, ◌≡◌, ◌<◌, ◌+◌, ◌^◌, ◌∙◌, Bool, true, false, List, refl, sym, subst, Option}
 use Rattle.std.proofs.Common.{Some, None}
 use Rattle.std.specs.Prelude.{if◌then◌else◌}
-use Rattle.disk_array.specs.Seats as Seats
-use Rattle.disk_array.specs.Seats.{seat_of}
-use Rattle.disk_array.specs.SoundArray.{IsSound}
-use Rattle.disk_array.specs.Units.{RunningProcess, UnitState, Array, unit_state_at, is_held}
+use Rattle.array_model.specs.Seats as Seats
+use Rattle.array_model.specs.Seats.{seat_of}
+use Rattle.array_model.specs.SoundArray.{IsSound}
+use Rattle.array_model.specs.Units.{RunningProcess, UnitState, Array, unit_state_at, is_held}
 use Rattle.scenario.specs.Value.{ScenarioValue}
-use Rattle.bus_due.specs.bus_dialogue.specs.Wants as wants
-use Rattle.bus_due.specs.Wants as due
+use Rattle.due_model.specs.dialogue_model.specs.Wants as wants
+use Rattle.due_model.specs.Wants as due
 use Rattle.target_course.specs.States.{IsReadyWithin}
 use Rattle.target_course.specs.target_units.specs.Readies.{ready_unit}
 use Rattle.target_course.specs.target_units.proofs.UnitTellings.{own_number}

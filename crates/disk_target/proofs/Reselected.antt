@@ -3,14 +3,14 @@ use Rattle.std.proofs.Common.{ℕ, ◌≡◌, ◌≤◌, ◌∙◌, List, length
 use Rattle.std.proofs.lemmas.List.{take_all}
 use Rattle.scenario.specs.declared.value.CmdDef.{CmdDef}
 use Rattle.scenario.specs.Value.{ScenarioValue}
-use Rattle.disk_array.specs.declared.entries.Entry.{Entry}
-use Rattle.disk_array.specs.Order.{entry_of}
-use Rattle.disk_array.specs.Processes.{command_at}
-use Rattle.disk_array.specs.Seats
-use Rattle.disk_array.specs.SoundArray.{IsSound}
-use Rattle.disk_array.specs.Units.{Array, unit_state_at}
-use Rattle.bus_due.specs.bus_dialogue.specs.Wants as wants
-use Rattle.bus_due.specs.Wants as due
+use Rattle.array_model.specs.declared.entries.Entry.{Entry}
+use Rattle.array_model.specs.Order.{entry_of}
+use Rattle.array_model.specs.Processes.{command_at}
+use Rattle.array_model.specs.Seats
+use Rattle.array_model.specs.SoundArray.{IsSound}
+use Rattle.array_model.specs.Units.{Array, unit_state_at}
+use Rattle.due_model.specs.dialogue_model.specs.Wants as wants
+use Rattle.due_model.specs.Wants as due
 use Rattle.target_course.specs.scsi_device.specs.Lines.{IsCommandLine}
 use Rattle.target_course.specs.target_units.specs.Readies.{ready_unit}
 use Rattle.target_course.specs.target_units.specs.Seated.{running_block, running_entry}

@@ -8,23 +8,23 @@ use Rattle.bus_trace.specs.declared.connection.Connection.{Connection}
 use Rattle.bus_trace.specs.Terms.{connection}
 use Rattle.bus_trace.specs.Trace.{bus}
 use Rattle.scenario.specs.Value.{ScenarioValue}
-use Rattle.disk_array.specs.Processes.{Process}
-use Rattle.disk_array.specs.Seats
-use Rattle.disk_array.specs.Seats.{seat_of}
-use Rattle.disk_array.specs.SoundArray.{IsOwn, IsOwnRunning, IsSound}
-use Rattle.disk_array.specs.Units.{Array, RunningProcess, UnitState, guest_at, is_held, unit_state_at}
-use Rattle.bus_due.specs.bus_story.specs.BusState.{RowReading, row_reading}
-use Rattle.bus_due.specs.bus_story.specs.TraceHistory.{aim_of}
-use Rattle.bus_due.specs.bus_dialogue.specs.Wants as wants
-use Rattle.bus_due.specs.LastingState.{progress_in}
-use Rattle.bus_due.specs.Plain.{IsPlain}
-use Rattle.bus_due.specs.RunState.{RunState, array_of, process_item, process_served}
-use Rattle.bus_due.specs.RunSteps.{item_if, run_state, served_after}
-use Rattle.bus_due.specs.Wants as due
-use Rattle.bus_due.specs.Wants.{ready_of}
-use Rattle.disk_array.specs.ArrayHistory.{reply_in}
-use Rattle.disk_array.proofs.SeatLookups.{found_target, found_unit}
-use Rattle.disk_array.proofs.SeatOwn.{own_found}
+use Rattle.array_model.specs.Processes.{Process}
+use Rattle.array_model.specs.Seats
+use Rattle.array_model.specs.Seats.{seat_of}
+use Rattle.array_model.specs.SoundArray.{IsOwn, IsOwnRunning, IsSound}
+use Rattle.array_model.specs.Units.{Array, RunningProcess, UnitState, guest_at, is_held, unit_state_at}
+use Rattle.due_model.specs.story_model.specs.BusState.{RowReading, row_reading}
+use Rattle.due_model.specs.story_model.specs.TraceHistory.{aim_of}
+use Rattle.due_model.specs.dialogue_model.specs.Wants as wants
+use Rattle.due_model.specs.LastingState.{progress_in}
+use Rattle.due_model.specs.Plain.{IsPlain}
+use Rattle.due_model.specs.RunState.{RunState, array_of, process_item, process_served}
+use Rattle.due_model.specs.RunSteps.{item_if, run_state, served_after}
+use Rattle.due_model.specs.Wants as due
+use Rattle.due_model.specs.Wants.{ready_of}
+use Rattle.array_model.specs.ArrayHistory.{reply_in}
+use Rattle.array_model.proofs.SeatLookups.{found_target, found_unit}
+use Rattle.array_model.proofs.SeatOwn.{own_found}
 use Rattle.target_course.specs.scsi_device.specs.Heard.{Instructions, heard, instructions, is_beginning, is_heard}
 use Rattle.target_course.specs.scsi_device.specs.Heard.{is_heard_after, is_heard_on, is_heard_row, is_new}
 use Rattle.target_course.specs.scsi_device.specs.Heard.{is_of_scenario, is_uncounted}

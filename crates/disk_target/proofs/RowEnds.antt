@@ -13,19 +13,19 @@ use Rattle.bus_trace.specs.declared.connection.Connection.{Connection}
 use Rattle.bus_trace.specs.Terms.{connection}
 use Rattle.bus_trace.specs.Trace.{bus}
 use Rattle.scenario.specs.Value.{ScenarioValue}
-use Rattle.disk_array.specs.Processes.{Process, process_of}
-use Rattle.disk_array.specs.SoundArray.{HasSeats}
+use Rattle.array_model.specs.Processes.{Process, process_of}
+use Rattle.array_model.specs.SoundArray.{HasSeats}
 use Rattle.scenario.specs.declared.value.CmdDef.{CmdDef}
-use Rattle.disk_array.specs.Processes.{command_at}
+use Rattle.array_model.specs.Processes.{command_at}
 use Rattle.target_course.specs.scsi_device.specs.Lines.{IsCommandLine}
-use Rattle.bus_due.specs.bus_story.specs.BusState.{RowReading, row_reading}
-use Rattle.bus_due.specs.bus_story.specs.Items.{Item, process, abort}
-use Rattle.bus_due.specs.bus_dialogue.specs.Hearing.{hearing}
-use Rattle.bus_due.specs.bus_dialogue.specs.Events.{is_empty}
-use Rattle.bus_due.specs.Plain.{IsPlain}
-use Rattle.bus_due.specs.RunState.{RunState, array_of, process_item, process_served}
-use Rattle.bus_due.specs.RunSteps.{run_state, events_of_row}
-use Rattle.bus_due.specs.Telling.{id_of}
+use Rattle.due_model.specs.story_model.specs.BusState.{RowReading, row_reading}
+use Rattle.due_model.specs.story_model.specs.Items.{Item, process, abort}
+use Rattle.due_model.specs.dialogue_model.specs.Hearing.{hearing}
+use Rattle.due_model.specs.dialogue_model.specs.Events.{is_empty}
+use Rattle.due_model.specs.Plain.{IsPlain}
+use Rattle.due_model.specs.RunState.{RunState, array_of, process_item, process_served}
+use Rattle.due_model.specs.RunSteps.{run_state, events_of_row}
+use Rattle.due_model.specs.Telling.{id_of}
 use Rattle.target_course.specs.scsi_device.specs.Heard.{instructions, is_new, is_of_scenario, is_opening}
 use Rattle.target_course.specs.Courses.{CourseState, IsCourse}
 use Rattle.target_course.specs.States.{IsOwnConnection}
@@ -45,7 +45,7 @@ use Rattle.disk_target.proofs.RowOutside.{attended_in}
 use Rattle.disk_target.proofs.RowServed.{empty_on, opening_same, reset_empty}
 use Rattle.disk_target.proofs.RowShapes.{ShowsIn, nothing, turned, lost, aborted, ended, row_shows}
 use Rattle.bus_base.proofs.Tests.{or_second}
-use Rattle.bus_due.specs.bus_dialogue.proofs.Leavings.{empty_is}
+use Rattle.due_model.specs.dialogue_model.proofs.Leavings.{empty_is}
 
 -- ---- the connection ends with the row
 

@@ -4,14 +4,14 @@ use Rattle.std.specs.Prelude.{is_some}
 use Rattle.bus_base.specs.declared.Event.{Event}
 use Rattle.bus_base.specs.declared.Event.TheVariants as events
 use Rattle.scenario.specs.Value.{ScenarioValue}
-use Rattle.disk_array.specs.ArrayHistory.{array_step}
-use Rattle.disk_array.specs.Processes.{Process}
-use Rattle.disk_array.specs.SoundArray.{HasSeats, IsSound}
-use Rattle.disk_array.specs.Steps.{step}
-use Rattle.disk_array.specs.Units.{Array}
-use Rattle.disk_array.proofs.SoundArrays.{step_sound}
-use Rattle.bus_due.specs.RunState.{or_start}
-use Rattle.bus_due.specs.RunSteps.{array_after_events}
+use Rattle.array_model.specs.ArrayHistory.{array_step}
+use Rattle.array_model.specs.Processes.{Process}
+use Rattle.array_model.specs.SoundArray.{HasSeats, IsSound}
+use Rattle.array_model.specs.Steps.{step}
+use Rattle.array_model.specs.Units.{Array}
+use Rattle.array_model.proofs.SoundArrays.{step_sound}
+use Rattle.due_model.specs.RunState.{or_start}
+use Rattle.due_model.specs.RunSteps.{array_after_events}
 use Rattle.target_course.specs.target_units.specs.Units.{IsStep}
 use Rattle.disk_target.specs.declared.standing.Standing.{Standing}
 use Rattle.disk_target.specs.declared.standing.Standing.TheVariants as standings

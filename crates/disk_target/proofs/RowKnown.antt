@@ -11,43 +11,46 @@ use Rattle.bus_trace.specs.declared.Row.{Row}
 use Rattle.bus_trace.specs.declared.agreements.Agreement.{Agreement}
 use Rattle.bus_trace.specs.declared.connection.Connection.{Connection}
 use Rattle.cdb_codec.specs.declared.sense.TheConstants.{PARITY_ERROR}
-use Rattle.bus_due.specs.msg_grammar.specs.declared.message.MsgIn.{MsgIn}
+use Rattle.due_model.specs.msg_grammar.specs.declared.message.MsgIn.{MsgIn}
 use Rattle.scenario.specs.declared.value.TargetDef.{TargetDef}
 use Rattle.scenario.specs.Value.{ScenarioValue}
-use Rattle.disk_array.specs.ArrayHistory.{reply_in}
-use Rattle.disk_array.specs.Processes.{Process}
-use Rattle.disk_array.specs.Steps.{running_process}
-use Rattle.disk_array.specs.Units.{Array}
-use Rattle.bus_due.specs.bus_story.specs.Right.{same_bytes}
-use Rattle.bus_due.specs.bus_dialogue.specs.declared.exchange.Arrival.{Arrival}
-use Rattle.bus_due.specs.bus_dialogue.specs.declared.exchange.Cause.{Cause}
-use Rattle.bus_due.specs.bus_dialogue.specs.declared.exchange.Cause.TheVariants as causes
-use Rattle.bus_due.specs.bus_dialogue.specs.declared.exchange.Next.{Next}
-use Rattle.bus_due.specs.bus_dialogue.specs.declared.exchange.Next.TheVariants as nexts
-use Rattle.bus_due.specs.bus_dialogue.specs.declared.exchange.Phase.{Phase}
-use Rattle.bus_due.specs.bus_dialogue.specs.declared.exchange.Phase.TheVariants as phases
-use Rattle.bus_due.specs.bus_dialogue.specs.declared.exchange.Plan.{Plan}
-use Rattle.bus_due.specs.bus_dialogue.specs.Events.{arrival_event, arrival_events, arrival_run_events, detected_events}
-use Rattle.bus_due.specs.bus_dialogue.specs.Events.{has_replied, is_status_next, newest_with, reply_events, turn_events}
-use Rattle.bus_due.specs.bus_dialogue.specs.NextPhase.{Serving, after_messages, after_offer, after_opening}
-use Rattle.bus_due.specs.bus_dialogue.specs.NextPhase.{after_refusal, bus_free, message_out_leaving, message_repetition}
-use Rattle.bus_due.specs.bus_dialogue.specs.NextPhase.{phase_entry, phase_leaving, phase_of, pointer_restoration}
-use Rattle.bus_due.specs.bus_dialogue.specs.NextPhase.{recovery, request_or_command, unless_attention, with_task}
-use Rattle.bus_due.specs.bus_dialogue.specs.Words.{is_naming, request_by as request_of}
-use Rattle.bus_due.specs.Faithful.{is_block_of_process, is_true_leaving}
-use Rattle.bus_due.specs.RunState.{RunState, bus_of, carried_here, process_served}
-use Rattle.bus_due.specs.RunSteps.{run_state}
-use Rattle.bus_due.specs.Sights.{serving_of}
-use Rattle.bus_due.specs.Tasks.{task_if, task_of}
+use Rattle.array_model.specs.ArrayHistory.{reply_in}
+use Rattle.array_model.specs.Processes.{Process}
+use Rattle.array_model.specs.Steps.{running_process}
+use Rattle.array_model.specs.Units.{Array}
+use Rattle.due_model.specs.story_model.specs.Right.{same_bytes}
+use Rattle.due_model.specs.dialogue_model.specs.declared.exchange.Arrival.{Arrival}
+use Rattle.due_model.specs.dialogue_model.specs.declared.exchange.Cause.{Cause}
+use Rattle.due_model.specs.dialogue_model.specs.declared.exchange.Cause.TheVariants as causes
+use Rattle.due_model.specs.dialogue_model.specs.declared.exchange.Next.{Next}
+use Rattle.due_model.specs.dialogue_model.specs.declared.exchange.Next.TheVariants as nexts
+use Rattle.due_model.specs.dialogue_model.specs.declared.exchange.Phase.{Phase}
+use Rattle.due_model.specs.dialogue_model.specs.declared.exchange.Phase.TheVariants as phases
+use Rattle.due_model.specs.dialogue_model.specs.declared.exchange.Plan.{Plan}
+use Rattle.due_model.specs.dialogue_model.specs.Events.{arrival_event, arrival_events, arrival_run_events}
+use Rattle.due_model.specs.dialogue_model.specs.Events.{detected_events}
+use Rattle.due_model.specs.dialogue_model.specs.Events.{has_replied, is_status_next, newest_with, reply_events}
+use Rattle.due_model.specs.dialogue_model.specs.Events.{turn_events}
+use Rattle.due_model.specs.dialogue_model.specs.NextPhase.{Serving, after_messages, after_offer, after_opening}
+use Rattle.due_model.specs.dialogue_model.specs.NextPhase.{after_refusal, bus_free, message_out_leaving}
+use Rattle.due_model.specs.dialogue_model.specs.NextPhase.{message_repetition}
+use Rattle.due_model.specs.dialogue_model.specs.NextPhase.{phase_entry, phase_leaving, phase_of, pointer_restoration}
+use Rattle.due_model.specs.dialogue_model.specs.NextPhase.{recovery, request_or_command, unless_attention, with_task}
+use Rattle.due_model.specs.dialogue_model.specs.Words.{is_naming, request_by as request_of}
+use Rattle.due_model.specs.Faithful.{is_block_of_process, is_true_leaving}
+use Rattle.due_model.specs.RunState.{RunState, bus_of, carried_here, process_served}
+use Rattle.due_model.specs.RunSteps.{run_state}
+use Rattle.due_model.specs.Sights.{serving_of}
+use Rattle.due_model.specs.Tasks.{task_if, task_of}
 use Rattle.target_course.specs.scsi_device.specs.Heard.{gives_status, instructions, is_answered, is_command_phase}
 use Rattle.target_course.specs.scsi_device.specs.Heard.{is_new, is_placed, is_unanswered, may_leave, moves_data}
 use Rattle.target_course.specs.Courses.{CourseState, MOST_KEPT}
 use Rattle.target_course.proofs.CourseAgrees.{IsFront, IsServed}
-use Rattle.bus_due.specs.bus_story.proofs.SameBytes.{bytes_are}
+use Rattle.due_model.specs.story_model.proofs.SameBytes.{bytes_are}
 use Rattle.target_course.proofs.ReplyRows.{Shape, shown_of}
 use Rattle.target_course.proofs.ReplyRows as shapes
 use Rattle.bus_base.proofs.Tests.{or_second}
-use Rattle.bus_due.specs.bus_dialogue.proofs.Leavings.{task_not, recovery_not}
+use Rattle.due_model.specs.dialogue_model.proofs.Leavings.{task_not, recovery_not}
 
 -- ---- which of the shapes need the command
 

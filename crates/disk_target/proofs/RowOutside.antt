@@ -15,14 +15,14 @@ use Rattle.bus_trace.specs.Phases.{changes_phase, is_message_in}
 use Rattle.bus_trace.specs.Terms.{connection}
 use Rattle.bus_trace.specs.Trace.{bus}
 use Rattle.scenario.specs.Value.{ScenarioValue}
-use Rattle.disk_array.specs.Processes.{Process, process_of, same_id}
-use Rattle.disk_array.specs.Seats.{is_abort_of_other_unit, is_of_other_unit}
-use Rattle.bus_due.specs.bus_story.specs.BusState.{RowReading, row_reading}
-use Rattle.bus_due.specs.bus_story.specs.Items.{Item, process, abort}
-use Rattle.bus_due.specs.Faithful.{faithful, has_ends, is_faithful}
-use Rattle.bus_due.specs.Plain.{AreOfDevices, IsPlain}
-use Rattle.bus_due.specs.RunState.{RunState, process_item, process_served}
-use Rattle.bus_due.specs.RunSteps.{run_state, events_of_row}
+use Rattle.array_model.specs.Processes.{Process, process_of, same_id}
+use Rattle.array_model.specs.Seats.{is_abort_of_other_unit, is_of_other_unit}
+use Rattle.due_model.specs.story_model.specs.BusState.{RowReading, row_reading}
+use Rattle.due_model.specs.story_model.specs.Items.{Item, process, abort}
+use Rattle.due_model.specs.Faithful.{faithful, has_ends, is_faithful}
+use Rattle.due_model.specs.Plain.{AreOfDevices, IsPlain}
+use Rattle.due_model.specs.RunState.{RunState, process_item, process_served}
+use Rattle.due_model.specs.RunSteps.{run_state, events_of_row}
 use Rattle.target_course.specs.scsi_device.specs.Heard.{Instructions, instructions, is_of_scenario}
 use Rattle.target_course.specs.scsi_device.specs.Writes.{Writer, writers}
 use Rattle.target_course.specs.States.{IsOwnConnection}
@@ -40,9 +40,9 @@ use Rattle.disk_target.specs.Turns.{is_reset}
 use Rattle.disk_target.proofs.RowShapes.{ShowsIn, nothing, turned, lost, aborted, ended, none_shown, reset_is}
 use Rattle.disk_target.proofs.RowShapes.{row_shows}
 use Rattle.bus_base.proofs.Tests.{or_second, implied}
-use Rattle.disk_array.proofs.SeatLookups.{same_id_is}
-use Rattle.disk_array.specs.ArrayHistory.{shows_run}
-use Rattle.bus_due.specs.bus_dialogue.specs.Events.{is_empty}
+use Rattle.array_model.proofs.SeatLookups.{same_id_is}
+use Rattle.array_model.specs.ArrayHistory.{shows_run}
+use Rattle.due_model.specs.dialogue_model.specs.Events.{is_empty}
 
 -- ---- what is attended in this row
 

@@ -11,25 +11,25 @@ use Rattle.bus_trace.specs.declared.connection.Connection.{Connection}
 use Rattle.bus_trace.specs.Phases.{changes_phase}
 use Rattle.cdb_codec.specs.declared.status.TheConstants.{GOOD}
 use Rattle.scenario.specs.Value.{ScenarioValue}
-use Rattle.disk_array.specs.Processes.{Process, process_of, same_id}
-use Rattle.disk_array.specs.Seats.{Seat, seat_of}
-use Rattle.disk_array.specs.SoundArray.{HasSeats, IsSound}
-use Rattle.disk_array.specs.ArrayHistory.{reply_in, shows_run}
-use Rattle.disk_array.specs.Steps.{is_waiting, running_process}
-use Rattle.disk_array.specs.Units.{Array}
-use Rattle.bus_due.specs.bus_story.specs.BusState.{RowReading, row_reading}
-use Rattle.bus_due.specs.bus_story.specs.Items.{Item, process, abort}
-use Rattle.bus_due.specs.bus_dialogue.specs.declared.exchange.Phase.{Phase}
-use Rattle.bus_due.specs.bus_dialogue.specs.declared.exchange.Phase.TheVariants as phases
-use Rattle.bus_due.specs.bus_dialogue.specs.declared.exchange.Cause.{Cause}
-use Rattle.bus_due.specs.bus_dialogue.specs.declared.exchange.Next.{Next}
-use Rattle.bus_due.specs.bus_dialogue.specs.Events.{has_replied}
-use Rattle.bus_due.specs.bus_dialogue.specs.NextPhase.{phase_of}
-use Rattle.bus_due.specs.RunState.{RunState, array_of, bus_of, process_served}
-use Rattle.bus_due.specs.RunSteps.{run_state, events_of_row}
-use Rattle.bus_due.specs.Sights.{serving_of}
-use Rattle.bus_due.specs.Tasks.{reply_now, task_if}
-use Rattle.bus_due.specs.Telling.{id_of}
+use Rattle.array_model.specs.Processes.{Process, process_of, same_id}
+use Rattle.array_model.specs.Seats.{Seat, seat_of}
+use Rattle.array_model.specs.SoundArray.{HasSeats, IsSound}
+use Rattle.array_model.specs.ArrayHistory.{reply_in, shows_run}
+use Rattle.array_model.specs.Steps.{is_waiting, running_process}
+use Rattle.array_model.specs.Units.{Array}
+use Rattle.due_model.specs.story_model.specs.BusState.{RowReading, row_reading}
+use Rattle.due_model.specs.story_model.specs.Items.{Item, process, abort}
+use Rattle.due_model.specs.dialogue_model.specs.declared.exchange.Phase.{Phase}
+use Rattle.due_model.specs.dialogue_model.specs.declared.exchange.Phase.TheVariants as phases
+use Rattle.due_model.specs.dialogue_model.specs.declared.exchange.Cause.{Cause}
+use Rattle.due_model.specs.dialogue_model.specs.declared.exchange.Next.{Next}
+use Rattle.due_model.specs.dialogue_model.specs.Events.{has_replied}
+use Rattle.due_model.specs.dialogue_model.specs.NextPhase.{phase_of}
+use Rattle.due_model.specs.RunState.{RunState, array_of, bus_of, process_served}
+use Rattle.due_model.specs.RunSteps.{run_state, events_of_row}
+use Rattle.due_model.specs.Sights.{serving_of}
+use Rattle.due_model.specs.Tasks.{reply_now, task_if}
+use Rattle.due_model.specs.Telling.{id_of}
 use Rattle.target_course.specs.scsi_device.specs.Heard.{Instructions, instructions, is_heard_process, is_instructed}
 use Rattle.target_course.specs.scsi_device.specs.Heard.{is_new, is_command_phase, is_opening, is_opening_in, is_placed}
 use Rattle.target_course.specs.scsi_device.specs.Heard.{is_unanswered, is_answered, gives_status, may_leave, moves_data}
@@ -56,7 +56,7 @@ use Rattle.disk_target.proofs.RowKnown.{is_known, needs_command, placed_new}
 use Rattle.disk_target.proofs.RowOutside.{IsAttended}
 use Rattle.disk_target.proofs.RowShapes.{ShowsIn, nothing, turned, lost, aborted, ended}
 use Rattle.bus_base.proofs.Tests.{is_nothing}
-use Rattle.disk_array.proofs.SeatLookups.{same_id_is}
+use Rattle.array_model.proofs.SeatLookups.{same_id_is}
 use Rattle.target_course.specs.scsi_device.proofs.Finds.{none_is}
 
 -- ---- which process: one that is served, where any event is shown but an abort

@@ -12,19 +12,19 @@ use Rattle.cdb_codec.specs.Cdb.{command_of}
 use Rattle.cdb_codec.specs.declared.status.TheConstants.{GOOD}
 use Rattle.scenario.specs.Needs.{is_write}
 use Rattle.scenario.specs.Value.{ScenarioValue}
-use Rattle.disk_array.specs.Processes.{Process, process_of}
-use Rattle.disk_array.specs.Units.{Array, unit_state_at}
-use Rattle.bus_due.specs.bus_dialogue.specs.NextPhase.{phase_of}
-use Rattle.bus_due.specs.LastingState.{progress_in}
-use Rattle.bus_due.specs.RunState.{RunState, array_of, bus_of, process_served}
-use Rattle.bus_due.specs.RunSteps.{run_state}
-use Rattle.bus_due.specs.Tasks.{is_writing, reply_now, size_of}
+use Rattle.array_model.specs.Processes.{Process, process_of}
+use Rattle.array_model.specs.Units.{Array, unit_state_at}
+use Rattle.due_model.specs.dialogue_model.specs.NextPhase.{phase_of}
+use Rattle.due_model.specs.LastingState.{progress_in}
+use Rattle.due_model.specs.RunState.{RunState, array_of, bus_of, process_served}
+use Rattle.due_model.specs.RunSteps.{run_state}
+use Rattle.due_model.specs.Tasks.{is_writing, reply_now, size_of}
 use Rattle.target_course.specs.scsi_device.specs.Writes.{is_data_out, is_writer, writer_of, writers, start_of_run}
 use Rattle.target_course.specs.scsi_device.specs.Lines.{FitsBus}
 use Rattle.scenario.specs.Lookups.{has_target}
-use Rattle.disk_array.specs.Order.{count_in, range_in}
-use Rattle.disk_array.proofs.SeatReplies.{id_self}
-use Rattle.bus_due.specs.Tasks.{blocks_in}
+use Rattle.array_model.specs.Order.{count_in, range_in}
+use Rattle.array_model.proofs.SeatReplies.{id_self}
+use Rattle.due_model.specs.Tasks.{blocks_in}
 use Rattle.target_course.specs.target_units.specs.Rooms.{AreOfLines}
 use Rattle.target_course.specs.target_units.specs.Seated.{is_same_process}
 use Rattle.target_course.specs.scsi_device.proofs.SentBytes.{process_few}
@@ -34,7 +34,7 @@ use Rattle.target_course.specs.Courses.{CourseState}
 use Rattle.target_course.specs.States.{IsOwnConnection}
 use Rattle.target_course.proofs.CourseAgrees.{either}
 use Rattle.target_course.proofs.GatheredRows.{bytes_sent}
-use Rattle.disk_target.specs.Attended.{came, ends_good, is_whole_of, is_whole_run}
+use Rattle.disk_target.specs.Attended.{received_count, ends_good, is_whole_of, is_whole_run}
 use Rattle.disk_target.specs.Bytes.{count_if, taken_by}
 use Rattle.disk_target.specs.Turns.{count_sent}
 use Rattle.disk_target.specs.declared.turn.Turn.{Turn}
@@ -80,7 +80,7 @@ all_come : (s : ScenarioValue) (rows : List Row) (v : GatheredValue) (p : Proces
     → AreAllGathered s rows v → IsOwnConnection rows v.dev n → (bus rows).rst ≡ false
     → (run_state s rows).exchange.begun ≡ true → process_served s (run_state s rows) ≡ Some p
     → process_of s p.id ≡ Some p → p.target ≡ v.dev → writer_of (writers s rows) p.target p.unit ≡ Some p.id
-    → length p.sent ≤ came s (run_state s rows) p → length p.sent ≤ length (gathering_at v.units p.unit).bytes
+    → length p.sent ≤ received_count s (run_state s rows) p → length p.sent ≤ length (gathering_at v.units p.unit).bytes
 all_come s rows v p n all own calm begins is process at w most = go (is_data_out (phase_of (bus_of k))) refl most
   where
     k : RunState
@@ -133,7 +133,8 @@ pub all_sent : (s : ScenarioValue) (rows : List Row) (v : GatheredValue) (p : Pr
 all_sent s rows v p n c t unit fits lines target g all own calm begins is process at small unit_is
     id block taken whole status = (λ i. bytes_of (gathering_at v.units unit) (id i) (count_sent t c))
     ∙ go (either (length p.sent == 0) (is_writing p
-    && (is_writer (writer_of (writers s rows) p.target p.unit) p.id && nat_le (length p.sent) (came s k p))) ran)
+    && (is_writer (writer_of (writers s rows) p.target p.unit) p.id && nat_le (length p.sent) (received_count s k p)))
+    ran)
   where
     k : RunState
     k = run_state s rows
@@ -158,20 +159,20 @@ all_sent s rows v p n c t unit fits lines target g all own calm begins is proces
     zero_count true w e = count w ∙ e
     zero_count false w e = λ i. if (writes ∙ w) i then t.plan.out_len else 0
 
-    go : ((length p.sent == 0) ≡ true) ⊎ ((is_writing p
-        && (is_writer (writer_of (writers s rows) p.target p.unit) p.id && nat_le (length p.sent) (came s k p))) ≡ true)
+    go : ((length p.sent == 0) ≡ true) ⊎ ((is_writing p && (is_writer (writer_of (writers s rows) p.target p.unit) p.id
+        && nat_le (length p.sent) (received_count s k p))) ≡ true)
         → bytes_of (gathering_at v.units unit) p.id (count_sent t c) ≡ p.sent
     go (inl e) =
         let none : length p.sent ≡ 0 = eqb-true (length p.sent) 0 e in
         no_bytes (gathering_at v.units unit) p.id (count_sent t c) (zero_count (is_writing p) refl none)
         ∙ sym (nil_of p.sent none)
     go (inr e) =
-        let one = and_parts (is_writing p)
-        (is_writer (writer_of (writers s rows) p.target p.unit) p.id && nat_le (length p.sent) (came s k p)) e in
+        let one = and_parts (is_writing p) (is_writer (writer_of (writers s rows) p.target p.unit) p.id
+        && nat_le (length p.sent) (received_count s k p)) e in
         let two = and_parts (is_writer (writer_of (writers s rows) p.target p.unit) p.id)
-        (nat_le (length p.sent) (came s k p)) one.1 in
+        (nat_le (length p.sent) (received_count s k p)) one.1 in
         let w : writer_of (writers s rows) p.target p.unit ≡ Some p.id = is_writer_is
         (writer_of (writers s rows) p.target p.unit) p.id two.0 in
         (λ i. bytes_of (gathering_at v.units unit) p.id (count one.0 i))
-        ∙ whole_taken s v p unit g unit_is (all.owned p.id p process at w) process small
-        (all_come s rows v p n all own calm begins is process at w (leb-true (length p.sent) (came s k p) two.1))
+        ∙ whole_taken s v p unit g unit_is (all.owned p.id p process at w) process small (all_come s rows v p n all own
+        calm begins is process at w (leb-true (length p.sent) (received_count s k p) two.1))

@@ -16,18 +16,18 @@ use Rattle.bus_trace.specs.Phases.{changes_phase}
 use Rattle.scenario.specs.declared.value.CmdDef.{CmdDef}
 use Rattle.scenario.specs.declared.value.Tag.TheVariants as tags
 use Rattle.scenario.specs.Needs.{sent_of}
-use Rattle.disk_array.specs.Processes.{Process, command_at, payload_bytes, process_by, process_if, process_of}
-use Rattle.disk_array.specs.Processes.{sense_block}
-use Rattle.disk_array.specs.Seats.{seat_of}
-use Rattle.disk_array.specs.SoundArray.{HasSeats}
-use Rattle.bus_due.specs.bus_story.specs.BusState.{RowReading, row_reading}
-use Rattle.bus_due.specs.bus_story.specs.Items.{process}
-use Rattle.bus_due.specs.bus_dialogue.specs.Hearing.{hearing}
-use Rattle.bus_due.specs.bus_dialogue.specs.NextPhase.{phase_of}
-use Rattle.bus_due.specs.Sights.{leaving}
-use Rattle.bus_due.specs.Plain.{IsPlain}
-use Rattle.bus_due.specs.RunState.{RunState, array_of, or_start, process_item, process_served}
-use Rattle.bus_due.specs.RunSteps.{run_state, array_after_events, served_after, events_of_row}
+use Rattle.array_model.specs.Processes.{Process, command_at, payload_bytes, process_by, process_if, process_of}
+use Rattle.array_model.specs.Processes.{sense_block}
+use Rattle.array_model.specs.Seats.{seat_of}
+use Rattle.array_model.specs.SoundArray.{HasSeats}
+use Rattle.due_model.specs.story_model.specs.BusState.{RowReading, row_reading}
+use Rattle.due_model.specs.story_model.specs.Items.{process}
+use Rattle.due_model.specs.dialogue_model.specs.Hearing.{hearing}
+use Rattle.due_model.specs.dialogue_model.specs.NextPhase.{phase_of}
+use Rattle.due_model.specs.Sights.{leaving}
+use Rattle.due_model.specs.Plain.{IsPlain}
+use Rattle.due_model.specs.RunState.{RunState, array_of, or_start, process_item, process_served}
+use Rattle.due_model.specs.RunSteps.{run_state, array_after_events, served_after, events_of_row}
 use Rattle.target_course.specs.scsi_device.specs.Heard.{heard, instructions, is_of_scenario, is_opening, is_opening_in}
 use Rattle.target_course.specs.scsi_device.specs.Heard.{is_to, may_leave}
 use Rattle.target_course.specs.scsi_device.specs.Lines.{IsCommandLine}

@@ -11,22 +11,22 @@ use Rattle.bus_trace.specs.declared.connection.Connection.{Connection}
 use Rattle.bus_trace.specs.Changes.{rises}
 use Rattle.bus_trace.specs.Phases.{changes_phase}
 use Rattle.scenario.specs.Value.{ScenarioValue}
-use Rattle.bus_due.specs.bus_story.specs.BusState.{RowReading, row_reading}
-use Rattle.bus_due.specs.bus_story.specs.CarriedBytes.{CarriedBytes}
-use Rattle.bus_due.specs.bus_story.specs.HistoryEvents.{carried_if, end_events, is_completion, link_events}
-use Rattle.bus_due.specs.bus_story.specs.Links.{Link}
-use Rattle.bus_due.specs.bus_dialogue.specs.declared.exchange.Phase.{Phase}
-use Rattle.bus_due.specs.bus_dialogue.specs.declared.exchange.Phase.TheVariants as phases
-use Rattle.bus_due.specs.bus_dialogue.specs.declared.exchange.Plan.{Plan}
-use Rattle.bus_due.specs.bus_dialogue.specs.Events.{after_opening_events, connection_end_events, leaving_events}
-use Rattle.bus_due.specs.bus_dialogue.specs.Events.{loss_events, turn_events, unit_or_0}
-use Rattle.bus_due.specs.bus_dialogue.specs.NextPhase.{phase_of}
-use Rattle.bus_due.specs.RunState.{RunState, bus_of}
-use Rattle.bus_due.specs.RunSteps.{run_state, events_of_row}
-use Rattle.bus_due.specs.Sights.{serving_of}
-use Rattle.bus_due.specs.Telling.{events_of_ends, events_of_ends_in, id_of, initiator_events, is_true_telling}
-use Rattle.bus_due.specs.Telling.{target_events, telling}
-use Rattle.bus_due.proofs.SameEvents.{events_are}
+use Rattle.due_model.specs.story_model.specs.BusState.{RowReading, row_reading}
+use Rattle.due_model.specs.story_model.specs.CarriedBytes.{CarriedBytes}
+use Rattle.due_model.specs.story_model.specs.HistoryEvents.{carried_if, end_events, is_completion, link_events}
+use Rattle.due_model.specs.story_model.specs.Links.{Link}
+use Rattle.due_model.specs.dialogue_model.specs.declared.exchange.Phase.{Phase}
+use Rattle.due_model.specs.dialogue_model.specs.declared.exchange.Phase.TheVariants as phases
+use Rattle.due_model.specs.dialogue_model.specs.declared.exchange.Plan.{Plan}
+use Rattle.due_model.specs.dialogue_model.specs.Events.{after_opening_events, connection_end_events, leaving_events}
+use Rattle.due_model.specs.dialogue_model.specs.Events.{loss_events, turn_events, unit_or_0}
+use Rattle.due_model.specs.dialogue_model.specs.NextPhase.{phase_of}
+use Rattle.due_model.specs.RunState.{RunState, bus_of}
+use Rattle.due_model.specs.RunSteps.{run_state, events_of_row}
+use Rattle.due_model.specs.Sights.{serving_of}
+use Rattle.due_model.specs.Telling.{events_of_ends, events_of_ends_in, id_of, initiator_events, is_true_telling}
+use Rattle.due_model.specs.Telling.{target_events, telling}
+use Rattle.due_model.proofs.SameEvents.{events_are}
 use Rattle.target_course.proofs.ReplyRows.{Shape, HasShape, served_shape, shown_of}
 
 -- What a row shows in this connection, of which this process is served.

@@ -7,11 +7,11 @@ use Rattle.bus_base.specs.declared.Event.{Event}
 use Rattle.bus_trace.specs.declared.Row.{Row}
 use Rattle.scenario.specs.declared.value.TargetDef.{TargetDef}
 use Rattle.scenario.specs.Value.{ScenarioValue}
-use Rattle.disk_array.specs.Units.{Array, UnitState}
-use Rattle.bus_due.specs.RunState.{RunState, array_of, or_start}
-use Rattle.bus_due.specs.RunSteps.{array_after_events, current_times_after, current_times_if, is_same_running}
-use Rattle.bus_due.specs.RunSteps.{run_state, events_of_row}
-use Rattle.bus_due.specs.Wants.{since_of}
+use Rattle.array_model.specs.Units.{Array, UnitState}
+use Rattle.due_model.specs.RunState.{RunState, array_of, or_start}
+use Rattle.due_model.specs.RunSteps.{array_after_events, current_times_after, current_times_if, is_same_running}
+use Rattle.due_model.specs.RunSteps.{run_state, events_of_row}
+use Rattle.due_model.specs.Wants.{since_of}
 use Rattle.target_course.specs.scsi_device.specs.Lines.{IsTargetLine}
 use Rattle.disk_target.specs.Targets.{AreInTime, IsServable}
 

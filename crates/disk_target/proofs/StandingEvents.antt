@@ -2,13 +2,13 @@
 use Rattle.std.proofs.Common.{ℕ, ◌≡◌, Bool, true, false, [], ◌∷◌, ◌++◌, ◌∙◌, refl, sym, subst, Option, Some, None}
 use Rattle.std.specs.Prelude.{if◌then◌else◌, not, ◌&&◌, ◌||◌, ◌==◌, is_some, is_none, nat_lt}
 use Rattle.cdb_codec.specs.Cdb.{command_of}
-use Rattle.disk_array.specs.Execution.{Reply, execution, is_request_sense, queue_full}
-use Rattle.disk_array.specs.Processes.{Process}
-use Rattle.disk_array.specs.Units.{RunningProcess, UnitState, guest_at}
-use Rattle.disk_array.specs.Steps.{process_count, running_if}
-use Rattle.disk_array.specs.Seats
-use Rattle.disk_array.specs.Seats.{Seat, settled_seat, unit_mapped}
-use Rattle.disk_array.proofs.SeatReplies.{id_self, no_guest_replied, guest_replied}
+use Rattle.array_model.specs.Execution.{Reply, execution, is_request_sense, queue_full}
+use Rattle.array_model.specs.Processes.{Process}
+use Rattle.array_model.specs.Units.{RunningProcess, UnitState, guest_at}
+use Rattle.array_model.specs.Steps.{process_count, running_if}
+use Rattle.array_model.specs.Seats
+use Rattle.array_model.specs.Seats.{Seat, settled_seat, unit_mapped}
+use Rattle.array_model.proofs.SeatReplies.{id_self, no_guest_replied, guest_replied}
 use Rattle.disk_unit.specs.Units.{told_of}
 use Rattle.disk_unit.specs.declared.unit.Reply as unit
 use Rattle.target_course.specs.target_units.specs.Seated.{reply_told}

@@ -2,16 +2,16 @@
 use Rattle.std.proofs.Common.{◌≡◌, Bool, true, false, List, [], ◌∷◌, ◌++◌, ◌∙◌, refl, sym, Option, Some, None}
 use Rattle.std.specs.Prelude.{if◌then◌else◌, not, ◌&&◌, ◌||◌, is_some}
 use Rattle.bus_base.specs.declared.ProcId.{ProcId}
-use Rattle.disk_array.specs.Contents.{Contents}
-use Rattle.disk_array.specs.Execution.{Reply}
-use Rattle.disk_array.specs.Processes.{Process, same_id}
-use Rattle.disk_array.specs.Order.{choice, chosen_place, entries_of, without_process}
-use Rattle.disk_array.specs.Units.{RunningProcess, UnitState, guest_at, without_guest, with_current, has_no_current}
-use Rattle.disk_array.specs.Units.{without_reply}
-use Rattle.disk_array.specs.Steps.{running_if, current_with_reply, unit_without}
-use Rattle.disk_array.specs.Seats.{unit_mapped, unit_with_choice, unit_with_reply, unit_with_contents, waits_in}
-use Rattle.disk_array.proofs.SeatReplies.{last_waits, choice_waits}
-use Rattle.disk_array.proofs.SeatLookups.{same_id_is}
+use Rattle.array_model.specs.Contents.{Contents}
+use Rattle.array_model.specs.Execution.{Reply}
+use Rattle.array_model.specs.Processes.{Process, same_id}
+use Rattle.array_model.specs.Order.{choice, chosen_place, entries_of, without_process}
+use Rattle.array_model.specs.Units.{RunningProcess, UnitState, guest_at, without_guest, with_current, has_no_current}
+use Rattle.array_model.specs.Units.{without_reply}
+use Rattle.array_model.specs.Steps.{running_if, current_with_reply, unit_without}
+use Rattle.array_model.specs.Seats.{unit_mapped, unit_with_choice, unit_with_reply, unit_with_contents, waits_in}
+use Rattle.array_model.proofs.SeatReplies.{last_waits, choice_waits}
+use Rattle.array_model.proofs.SeatLookups.{same_id_is}
 use Rattle.disk_target.specs.Standings.{is_inside}
 use Rattle.bus_base.proofs.Tests.{or_true}
 

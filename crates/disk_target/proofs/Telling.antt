@@ -3,10 +3,10 @@ use Rattle.std.proofs.Common.{arith, ℕ, ◌≡◌, ◌<◌, ◌+◌, ◌^◌, 
 use Rattle.std.specs.Prelude.{slice_index_or}
 use Rattle.std.proofs.lemmas.List.{get_or-drop, get_or_past}
 use Rattle.scenario.specs.declared.value.Policy.{Policy}
-use Rattle.disk_array.specs.Execution.{Reply}
-use Rattle.bus_due.specs.bus_dialogue.specs.declared.exchange.Task.{Task}
-use Rattle.bus_due.specs.bus_dialogue.specs.DataRuns.{run_at}
-use Rattle.bus_due.specs.bus_dialogue.specs.PhaseBytes.{data_byte}
+use Rattle.array_model.specs.Execution.{Reply}
+use Rattle.due_model.specs.dialogue_model.specs.declared.exchange.Task.{Task}
+use Rattle.due_model.specs.dialogue_model.specs.DataRuns.{run_at}
+use Rattle.due_model.specs.dialogue_model.specs.PhaseBytes.{data_byte}
 use Rattle.target_course.specs.Courses.{status_if}
 use Rattle.target_course.specs.target_units.specs.Seated.{reply_told}
 use Rattle.disk_target.specs.Bytes.{status_in}

@@ -5,16 +5,16 @@ use Rattle.bus_base.specs.declared.Event.TheVariants as events
 use Rattle.bus_base.specs.declared.ProcId.{ProcId}
 use Rattle.cdb_codec.specs.Cdb.{command_of}
 use Rattle.scenario.specs.Value.{ScenarioValue}
-use Rattle.disk_array.specs.Execution.{is_request_sense}
-use Rattle.disk_array.specs.Order.{choice}
-use Rattle.disk_array.specs.Processes.{Process, process_of, same_id}
-use Rattle.disk_array.specs.Steps.{step, settled_array_if, accept_step, accept_step_at, queue_step, with_guest}
-use Rattle.disk_array.specs.Steps.{process_count}
-use Rattle.disk_array.specs.Units.{RunningProcess, UnitState, Nexus, Array, is_held, unit_state_at, with_unit}
-use Rattle.disk_array.specs.Units.{with_current, has_no_current, unit_after_choice, units_after_choice, settled_array}
-use Rattle.bus_due.specs.RunSteps.{is_same_running, current_times_after}
-use Rattle.disk_array.proofs.SeatLookups.{found_target, found_unit, same_id_is}
-use Rattle.disk_array.proofs.SeatReplies.{id_self}
+use Rattle.array_model.specs.Execution.{is_request_sense}
+use Rattle.array_model.specs.Order.{choice}
+use Rattle.array_model.specs.Processes.{Process, process_of, same_id}
+use Rattle.array_model.specs.Steps.{step, settled_array_if, accept_step, accept_step_at, queue_step, with_guest}
+use Rattle.array_model.specs.Steps.{process_count}
+use Rattle.array_model.specs.Units.{RunningProcess, UnitState, Nexus, Array, is_held, unit_state_at, with_unit}
+use Rattle.array_model.specs.Units.{with_current, has_no_current, unit_after_choice, units_after_choice, settled_array}
+use Rattle.due_model.specs.RunSteps.{is_same_running, current_times_after}
+use Rattle.array_model.proofs.SeatLookups.{found_target, found_unit, same_id_is}
+use Rattle.array_model.proofs.SeatReplies.{id_self}
 
 -- ---- each current process stays
 

@@ -16,30 +16,30 @@ use Rattle.scenario.specs.declared.value.CmdDef.{CmdDef}
 use Rattle.scenario.specs.declared.value.Policy.{Policy}
 use Rattle.scenario.specs.declared.value.TargetDef.{TargetDef}
 use Rattle.scenario.specs.Value.{ScenarioValue}
-use Rattle.disk_array.specs.Processes.{Process, command_at}
-use Rattle.disk_array.specs.ArrayHistory.{shows_run}
-use Rattle.bus_due.specs.bus_story.specs.BusState.{RowReading, row_reading}
-use Rattle.bus_due.specs.bus_dialogue.specs.declared.exchange.Hearing.{Hearing}
-use Rattle.bus_due.specs.bus_dialogue.specs.declared.exchange.Leaving.{Leaving}
-use Rattle.bus_due.specs.bus_dialogue.specs.declared.exchange.Phase.{Phase}
-use Rattle.bus_due.specs.bus_dialogue.specs.declared.exchange.Phase.TheVariants as phases
-use Rattle.bus_due.specs.bus_dialogue.specs.declared.exchange.Plan.{Plan}
-use Rattle.bus_due.specs.bus_dialogue.specs.declared.exchange.Task.{Task}
-use Rattle.bus_due.specs.bus_dialogue.specs.Arrivals.{policy_of}
-use Rattle.bus_due.specs.bus_dialogue.specs.declared.exchange.Next.{Next}
-use Rattle.bus_due.specs.bus_dialogue.specs.declared.exchange.Next.TheVariants as nexts
-use Rattle.bus_due.specs.bus_dialogue.specs.DataRuns.{run_in}
-use Rattle.bus_due.specs.bus_dialogue.specs.Hearing.{begun, hearing}
-use Rattle.bus_due.specs.bus_dialogue.specs.NextPhase.{Serving, after_messages, leaving_by, next_data_phase}
-use Rattle.bus_due.specs.bus_dialogue.specs.NextPhase.{phase_entry, phase_leaving, phase_of, with_task}
-use Rattle.bus_due.specs.bus_dialogue.specs.Events.{is_empty}
-use Rattle.bus_due.specs.Defs.{target_def_of}
-use Rattle.bus_due.specs.Plain.{IsPlain}
-use Rattle.bus_due.specs.RunState.{RunState, array_of, bus_of, process_served}
-use Rattle.bus_due.specs.RunSteps.{leaving_of, run_state, events_of_row}
-use Rattle.bus_due.specs.Sights.{hearing_of, leaving, serving_of}
-use Rattle.bus_due.specs.Tasks.{given_of, task_of}
-use Rattle.bus_due.specs.Telling.{id_of, initiator_events, target_events}
+use Rattle.array_model.specs.Processes.{Process, command_at}
+use Rattle.array_model.specs.ArrayHistory.{shows_run}
+use Rattle.due_model.specs.story_model.specs.BusState.{RowReading, row_reading}
+use Rattle.due_model.specs.dialogue_model.specs.declared.exchange.Hearing.{Hearing}
+use Rattle.due_model.specs.dialogue_model.specs.declared.exchange.Leaving.{Leaving}
+use Rattle.due_model.specs.dialogue_model.specs.declared.exchange.Phase.{Phase}
+use Rattle.due_model.specs.dialogue_model.specs.declared.exchange.Phase.TheVariants as phases
+use Rattle.due_model.specs.dialogue_model.specs.declared.exchange.Plan.{Plan}
+use Rattle.due_model.specs.dialogue_model.specs.declared.exchange.Task.{Task}
+use Rattle.due_model.specs.dialogue_model.specs.Arrivals.{policy_of}
+use Rattle.due_model.specs.dialogue_model.specs.declared.exchange.Next.{Next}
+use Rattle.due_model.specs.dialogue_model.specs.declared.exchange.Next.TheVariants as nexts
+use Rattle.due_model.specs.dialogue_model.specs.DataRuns.{run_in}
+use Rattle.due_model.specs.dialogue_model.specs.Hearing.{begun, hearing}
+use Rattle.due_model.specs.dialogue_model.specs.NextPhase.{Serving, after_messages, leaving_by, next_data_phase}
+use Rattle.due_model.specs.dialogue_model.specs.NextPhase.{phase_entry, phase_leaving, phase_of, with_task}
+use Rattle.due_model.specs.dialogue_model.specs.Events.{is_empty}
+use Rattle.due_model.specs.Defs.{target_def_of}
+use Rattle.due_model.specs.Plain.{IsPlain}
+use Rattle.due_model.specs.RunState.{RunState, array_of, bus_of, process_served}
+use Rattle.due_model.specs.RunSteps.{leaving_of, run_state, events_of_row}
+use Rattle.due_model.specs.Sights.{hearing_of, leaving, serving_of}
+use Rattle.due_model.specs.Tasks.{given_of, task_of}
+use Rattle.due_model.specs.Telling.{id_of, initiator_events, target_events}
 use Rattle.target_course.specs.scsi_device.specs.Heard.{instructions, is_opening, is_opening_in, may_leave}
 use Rattle.target_course.specs.scsi_device.specs.Lines.{IsCommandLine}
 use Rattle.target_course.specs.scsi_device.specs.Writes.{Writer, brings_byte, is_data_out, is_next_byte, is_of_size}

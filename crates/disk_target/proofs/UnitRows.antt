@@ -4,12 +4,12 @@ use Rattle.std.specs.Prelude.{is_some}
 use Rattle.bus_base.specs.declared.Event.{Event}
 use Rattle.bus_trace.specs.declared.Row.{Row}
 use Rattle.scenario.specs.Value.{ScenarioValue}
-use Rattle.disk_array.specs.ArrayHistory.{array_step}
-use Rattle.disk_array.specs.SoundArray.{HasSeats}
-use Rattle.disk_array.specs.Units.{Array}
-use Rattle.bus_due.specs.Allowed.{allowed}
-use Rattle.bus_due.specs.RunState.{or_start}
-use Rattle.bus_due.specs.RunSteps.{current_times_after, run_state, array_after_events, events_of_row}
+use Rattle.array_model.specs.ArrayHistory.{array_step}
+use Rattle.array_model.specs.SoundArray.{HasSeats}
+use Rattle.array_model.specs.Units.{Array}
+use Rattle.due_model.specs.Allowed.{allowed}
+use Rattle.due_model.specs.RunState.{or_start}
+use Rattle.due_model.specs.RunSteps.{current_times_after, run_state, array_after_events, events_of_row}
 use Rattle.target_course.specs.target_units.specs.Units.{UnitsState, AreUnitsOf, AreUnitsAfter, IsStep}
 use Rattle.target_course.specs.target_units.proofs.UnitSteps.{all_stay}
 use Rattle.disk_target.specs.Processes.{AreKeptAt, AreKeptOf, AreOutside, times_of_events}

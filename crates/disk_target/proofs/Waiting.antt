@@ -1,12 +1,12 @@
 -- The target of a connection that waits does nothing, whatever it has to do in the phase.
 use Rattle.std.proofs.Common.{◌≡◌, Bool, true, false, refl, None}
 use Rattle.std.specs.Prelude.{not, ◌&&◌, ◌==◌, if◌then◌else◌}
-use Rattle.bus_reactions.specs.declared.due.Myself.{Myself}
-use Rattle.bus_reactions.specs.declared.ends.Offering.{Offering}
-use Rattle.bus_reactions.specs.declared.ends.Pace.{Pace}
-use Rattle.bus_reactions.specs.Ends.{message_out_start, target_due}
-use Rattle.bus_reactions.specs.Target.{bits_if, byte_change, first_req, pulse_turn, req_negation, req_pulse_end}
-use Rattle.bus_reactions.specs.Target.{target_pulse, target_turn}
+use Rattle.reaction_model.specs.declared.due.Myself.{Myself}
+use Rattle.reaction_model.specs.declared.ends.Offering.{Offering}
+use Rattle.reaction_model.specs.declared.ends.Pace.{Pace}
+use Rattle.reaction_model.specs.Ends.{message_out_start, target_due}
+use Rattle.reaction_model.specs.Target.{bits_if, byte_change, first_req, pulse_turn, req_negation, req_pulse_end}
+use Rattle.reaction_model.specs.Target.{target_pulse, target_turn}
 use Rattle.scenario.specs.declared.value.TargetDef.{TargetDef}
 use Rattle.target_course.specs.scsi_device.specs.Told.{Told, pace_of}
 use Rattle.target_course.specs.Dues.{myself_by, offering_of_target, plain_by}

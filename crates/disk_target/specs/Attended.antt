@@ -10,18 +10,18 @@ use Rattle.bus_trace.specs.declared.connection.Connection.{Connection}
 use Rattle.bus_trace.specs.Phases.{changes_phase, is_message_in}
 use Rattle.cdb_codec.specs.declared.status.TheConstants.{GOOD}
 use Rattle.scenario.specs.Value.{ScenarioValue}
-use Rattle.disk_array.specs.Processes.{Process, same_id}
-use Rattle.disk_array.specs.Units.{Array}
-use Rattle.disk_array.specs.ArrayHistory.{shows_run}
-use Rattle.bus_due.specs.bus_story.specs.BusState.{RowReading, row_reading}
-use Rattle.bus_due.specs.bus_story.specs.HistoryEvents.{row_events_by}
-use Rattle.bus_due.specs.bus_story.specs.Items.{Item, process, abort}
-use Rattle.bus_due.specs.bus_dialogue.specs.NextPhase.{phase_of}
-use Rattle.bus_due.specs.bus_dialogue.specs.Events.{is_empty}
-use Rattle.bus_due.specs.LastingState.{progress_in}
-use Rattle.bus_due.specs.RunState.{RunState, array_of, bus_of, process_served}
-use Rattle.bus_due.specs.RunSteps.{run_state}
-use Rattle.bus_due.specs.Tasks.{reply_now, is_writing}
+use Rattle.array_model.specs.Processes.{Process, same_id}
+use Rattle.array_model.specs.Units.{Array}
+use Rattle.array_model.specs.ArrayHistory.{shows_run}
+use Rattle.due_model.specs.story_model.specs.BusState.{RowReading, row_reading}
+use Rattle.due_model.specs.story_model.specs.HistoryEvents.{row_events_by}
+use Rattle.due_model.specs.story_model.specs.Items.{Item, process, abort}
+use Rattle.due_model.specs.dialogue_model.specs.NextPhase.{phase_of}
+use Rattle.due_model.specs.dialogue_model.specs.Events.{is_empty}
+use Rattle.due_model.specs.LastingState.{progress_in}
+use Rattle.due_model.specs.RunState.{RunState, array_of, bus_of, process_served}
+use Rattle.due_model.specs.RunSteps.{run_state}
+use Rattle.due_model.specs.Tasks.{reply_now, is_writing}
 use Rattle.target_course.specs.scsi_device.specs.Heard.{Instructions, instructions, is_new, is_opening}
 use Rattle.target_course.specs.scsi_device.specs.Writes.{Writer, writer_of, writers, is_writer, is_data_out}
 use Rattle.target_course.specs.scsi_device.specs.Writes.{start_of_run}
@@ -77,13 +77,13 @@ are_known_ends known (e ∷ shown) = is_known_end known e && are_known_ends know
 -- ---- a process that runs, and would end GOOD, has sent all that it sends: with the runs that it has made, and with
 -- the present one in DATA OUT
 
-abbrev pub came : ScenarioValue → RunState → Process → ℕ
-came s k p = start_of_run s p (progress_in k.progress p.id).runs
+abbrev pub received_count : ScenarioValue → RunState → Process → ℕ
+received_count s k p = start_of_run s p (progress_in k.progress p.id).runs
     + (if is_data_out (phase_of (bus_of k)) then k.handshakes.answers else 0)
 
 abbrev pub is_whole_of : ScenarioValue → RunState → List Writer → Process → Bool
-is_whole_of s k all p = length p.sent == 0
-    || (is_writing p && (is_writer (writer_of all p.target p.unit) p.id && nat_le (length p.sent) (came s k p)))
+is_whole_of s k all p = length p.sent == 0 || (is_writing p
+    && (is_writer (writer_of all p.target p.unit) p.id && nat_le (length p.sent) (received_count s k p)))
 
 abbrev pub ends_good : Array → Process → Bool
 ends_good a p = (reply_now a p).status == GOOD

@@ -10,16 +10,16 @@ use Rattle.bus_lines.specs.Handshakes.{handshakes}
 use Rattle.cdb_codec.specs.Cdb.{command_of}
 use Rattle.scenario.specs.declared.value.TargetDef.{TargetDef}
 use Rattle.scenario.specs.Value.{ScenarioValue}
-use Rattle.disk_array.specs.Order.{range_in}
+use Rattle.array_model.specs.Order.{range_in}
 use Rattle.disk_unit.specs.declared.unit.Reply.{Reply}
-use Rattle.bus_due.specs.bus_dialogue.specs.declared.exchange.Next.{Next}
-use Rattle.bus_due.specs.bus_dialogue.specs.declared.exchange.Phase.{Phase}
-use Rattle.bus_due.specs.bus_dialogue.specs.declared.exchange.Phase.TheVariants as phases
-use Rattle.bus_due.specs.bus_dialogue.specs.Hearing.{begun}
-use Rattle.bus_due.specs.bus_dialogue.specs.NextPhase.{leaving_by}
-use Rattle.bus_due.specs.RunSteps.{run_state}
-use Rattle.bus_due.specs.Sights.{serving_of}
-use Rattle.bus_due.specs.Tasks.{blocks_in}
+use Rattle.due_model.specs.dialogue_model.specs.declared.exchange.Next.{Next}
+use Rattle.due_model.specs.dialogue_model.specs.declared.exchange.Phase.{Phase}
+use Rattle.due_model.specs.dialogue_model.specs.declared.exchange.Phase.TheVariants as phases
+use Rattle.due_model.specs.dialogue_model.specs.Hearing.{begun}
+use Rattle.due_model.specs.dialogue_model.specs.NextPhase.{leaving_by}
+use Rattle.due_model.specs.RunSteps.{run_state}
+use Rattle.due_model.specs.Sights.{serving_of}
+use Rattle.due_model.specs.Tasks.{blocks_in}
 use Rattle.target_course.specs.scsi_device.specs.Heard.{goes_on}
 use Rattle.target_course.specs.Servings.{serving_with, AreBytesOf}
 use Rattle.target_course.specs.States.{AreAlikeIn, IsOwnConnection, offering_in}

@@ -8,12 +8,12 @@ use Rattle.bus_trace.specs.Phases.{changes_phase, is_message_out}
 use Rattle.bus_trace.specs.Trace.{bus}
 use Rattle.scenario.specs.declared.value.TargetDef.{TargetDef}
 use Rattle.scenario.specs.Value.{ScenarioValue}
-use Rattle.disk_array.specs.Processes.{Process}
-use Rattle.disk_array.specs.SoundArray.{IsSound}
+use Rattle.array_model.specs.Processes.{Process}
+use Rattle.array_model.specs.SoundArray.{IsSound}
 use Rattle.disk_unit.specs.declared.unit.Reply.{Reply}
-use Rattle.bus_due.specs.bus_dialogue.specs.declared.exchange.Hearing.{Hearing}
-use Rattle.bus_due.specs.RunState.{array_of, process_served}
-use Rattle.bus_due.specs.RunSteps.{run_state}
+use Rattle.due_model.specs.dialogue_model.specs.declared.exchange.Hearing.{Hearing}
+use Rattle.due_model.specs.RunState.{array_of, process_served}
+use Rattle.due_model.specs.RunSteps.{run_state}
 use Rattle.target_course.specs.scsi_device.specs.Lines.{FitsBus}
 use Rattle.target_course.specs.Courses.{CourseState, HasEnds, AreToldOf, serving_by}
 use Rattle.target_course.specs.Fits.{AreFit}

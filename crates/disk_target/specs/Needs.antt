@@ -4,13 +4,13 @@ use Rattle.bus_trace.specs.LineSet.{LineSet, none}
 use Rattle.bus_trace.specs.Trace.{bus}
 use Rattle.bus_trace.specs.declared.Row.{Row}
 use Rattle.bus_lines.specs.Handshakes.{handshakes}
-use Rattle.bus_reactions.specs.declared.ends.Offering.{Offering}
-use Rattle.bus_due.specs.bus_dialogue.specs.Ends.{leaving_lines, seek_before}
-use Rattle.bus_due.specs.bus_dialogue.specs.Hearing.{begun}
-use Rattle.bus_due.specs.bus_dialogue.specs.NextPhase as next_phase
-use Rattle.bus_due.specs.bus_dialogue.specs.PhaseBytes.{data_byte, one_if, phase_byte}
-use Rattle.bus_due.specs.RunSteps.{run_state}
-use Rattle.bus_due.specs.Sights.{serving_of}
+use Rattle.reaction_model.specs.declared.ends.Offering.{Offering}
+use Rattle.due_model.specs.dialogue_model.specs.Ends.{leaving_lines, seek_before}
+use Rattle.due_model.specs.dialogue_model.specs.Hearing.{begun}
+use Rattle.due_model.specs.dialogue_model.specs.NextPhase as next_phase
+use Rattle.due_model.specs.dialogue_model.specs.PhaseBytes.{data_byte, one_if, phase_byte}
+use Rattle.due_model.specs.RunSteps.{run_state}
+use Rattle.due_model.specs.Sights.{serving_of}
 use Rattle.scenario.specs.Value.{ScenarioValue}
 use Rattle.target_course.specs.Servings.{serving_with}
 use Rattle.target_course.specs.States.{AreAlikeIn, offering_in}

@@ -5,14 +5,14 @@ use Rattle.bus_base.specs.declared.Event.TheVariants as events
 use Rattle.bus_base.specs.declared.ProcId.{ProcId}
 use Rattle.cdb_codec.specs.declared.status.TheConstants.{GOOD}
 use Rattle.scenario.specs.Value.{ScenarioValue}
-use Rattle.disk_array.specs.Processes.{Process}
-use Rattle.disk_array.specs.ArrayHistory.{reply_in}
-use Rattle.disk_array.specs.Seats.{seat_of, is_elsewhere}
-use Rattle.disk_array.specs.Units.{Array}
+use Rattle.array_model.specs.Processes.{Process}
+use Rattle.array_model.specs.ArrayHistory.{reply_in}
+use Rattle.array_model.specs.Seats.{seat_of, is_elsewhere}
+use Rattle.array_model.specs.Units.{Array}
 use Rattle.bus_trace.specs.declared.Row.{Row}
-use Rattle.bus_due.specs.RunState.{or_start, array_of}
-use Rattle.bus_due.specs.RunSteps.{current_times_after, run_state}
-use Rattle.disk_array.specs.SoundArray.{IsSound}
+use Rattle.due_model.specs.RunState.{or_start, array_of}
+use Rattle.due_model.specs.RunSteps.{current_times_after, run_state}
+use Rattle.array_model.specs.SoundArray.{IsSound}
 use Rattle.target_course.specs.target_units.specs.Seated.{HasSent}
 use Rattle.target_course.specs.target_units.specs.Units.{UnitsState, AreUnitsOf, IsStep}
 use Rattle.disk_target.specs.declared.standing.Standing.{Standing}

@@ -3,13 +3,13 @@ use Rattle.std.specs.Prelude.{◌≡◌, ℕ, Bool, true, false, ◌||◌, Optio
 use Rattle.bus_base.specs.declared.ProcId.{ProcId}
 use Rattle.cdb_codec.specs.Cdb.{command_of}
 use Rattle.scenario.specs.Value.{ScenarioValue}
-use Rattle.disk_array.specs.Execution.{is_request_sense}
-use Rattle.disk_array.specs.Order.{class_of, tag_number}
-use Rattle.disk_array.specs.Processes.{Process}
-use Rattle.disk_array.specs.Seats.{Seat, is_initiator, waits_in}
-use Rattle.disk_array.specs.SoundArray.{IsOwn}
-use Rattle.disk_array.specs.Steps.{running_if}
-use Rattle.disk_array.specs.Units.{RunningProcess, UnitState, guest_at}
+use Rattle.array_model.specs.Execution.{is_request_sense}
+use Rattle.array_model.specs.Order.{class_of, tag_number}
+use Rattle.array_model.specs.Processes.{Process}
+use Rattle.array_model.specs.Seats.{Seat, is_initiator, waits_in}
+use Rattle.array_model.specs.SoundArray.{IsOwn}
+use Rattle.array_model.specs.Steps.{running_if}
+use Rattle.array_model.specs.Units.{RunningProcess, UnitState, guest_at}
 use Rattle.disk_unit.specs.declared.unit.Reply.{Reply}
 use Rattle.target_course.specs.target_units.specs.Seated.{IsProcess, reply_told}
 use Rattle.disk_target.specs.declared.standing.Served.{Served}

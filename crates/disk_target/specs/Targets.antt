@@ -7,16 +7,16 @@ use Rattle.bus_trace.specs.Trace.{bus}
 use Rattle.bus_lines.specs.Handshakes.{handshakes}
 use Rattle.scenario.specs.declared.value.TargetDef.{TargetDef}
 use Rattle.scenario.specs.Value.{ScenarioValue}
-use Rattle.disk_array.specs.Processes.{Process}
-use Rattle.disk_array.specs.Seats.{seat_of}
-use Rattle.disk_array.specs.SoundArray.{IsSound}
+use Rattle.array_model.specs.Processes.{Process}
+use Rattle.array_model.specs.Seats.{seat_of}
+use Rattle.array_model.specs.SoundArray.{IsSound}
 use Rattle.disk_unit.specs.declared.unit.Reply.{Reply}
-use Rattle.bus_due.specs.Allowed.{allowed}
-use Rattle.bus_due.specs.Faithful.{faithful}
-use Rattle.bus_due.specs.Telling.{telling}
-use Rattle.bus_due.specs.RunState.{array_of, process_served}
-use Rattle.bus_due.specs.RunSteps.{run_state}
-use Rattle.bus_due.specs.Wants.{since_of}
+use Rattle.due_model.specs.Allowed.{allowed}
+use Rattle.due_model.specs.Faithful.{faithful}
+use Rattle.due_model.specs.Telling.{telling}
+use Rattle.due_model.specs.RunState.{array_of, process_served}
+use Rattle.due_model.specs.RunSteps.{run_state}
+use Rattle.due_model.specs.Wants.{since_of}
 use Rattle.target_course.specs.scsi_device.specs.Heard.{heard}
 use Rattle.target_course.specs.scsi_device.specs.Writes.{written}
 use Rattle.target_course.specs.scsi_device.specs.Itself.{ItselfValue, IsItselfOf}

@@ -11,15 +11,15 @@ use Rattle.cdb_codec.specs.Cdb.{command_of}
 use Rattle.scenario.specs.declared.value.TargetDef.{TargetDef}
 use Rattle.scenario.specs.Needs.{is_write}
 use Rattle.scenario.specs.Value.{ScenarioValue}
-use Rattle.disk_array.specs.Processes.{Process}
-use Rattle.disk_array.specs.Units.{unit_state_at}
-use Rattle.bus_due.specs.bus_dialogue.specs.declared.exchange.Hearing.{Hearing}
-use Rattle.bus_due.specs.bus_dialogue.specs.Hearing.{begun, hearing}
-use Rattle.bus_due.specs.bus_dialogue.specs.NextPhase.{leaving_by, phase_of}
-use Rattle.bus_due.specs.Plain.{AreOfDevices}
-use Rattle.bus_due.specs.RunState.{array_of, process_served}
-use Rattle.bus_due.specs.RunSteps.{run_state, events_of_row}
-use Rattle.bus_due.specs.Tasks.{given_of, size_of}
+use Rattle.array_model.specs.Processes.{Process}
+use Rattle.array_model.specs.Units.{unit_state_at}
+use Rattle.due_model.specs.dialogue_model.specs.declared.exchange.Hearing.{Hearing}
+use Rattle.due_model.specs.dialogue_model.specs.Hearing.{begun, hearing}
+use Rattle.due_model.specs.dialogue_model.specs.NextPhase.{leaving_by, phase_of}
+use Rattle.due_model.specs.Plain.{AreOfDevices}
+use Rattle.due_model.specs.RunState.{array_of, process_served}
+use Rattle.due_model.specs.RunSteps.{run_state, events_of_row}
+use Rattle.due_model.specs.Tasks.{given_of, size_of}
 use Rattle.target_course.specs.scsi_device.specs.Heard.{is_opening_in}
 use Rattle.target_course.specs.Courses.{CourseState, events_of_target, name_of, serving_by, AreToldOf}
 use Rattle.target_course.specs.scsi_device.specs.Lines.{FitsBus, IsTargetLine}

@@ -1,10 +1,10 @@
 -- The target of a connection waits for ACK to follow REQ; what it does by REQ and ACK.
 use Rattle.std.specs.Prelude.{◌≡◌, Bool, true, false, not, ◌&&◌, List, Option, None}
 use Rattle.bus_trace.specs.declared.Row.{Row}
-use Rattle.bus_reactions.specs.declared.due.Due.{Due}
-use Rattle.bus_due.specs.Own.{Own}
-use Rattle.bus_due.specs.RunSteps.{run_state}
-use Rattle.bus_due.specs.Sights.{serving_of}
+use Rattle.reaction_model.specs.declared.due.Due.{Due}
+use Rattle.due_model.specs.Own.{Own}
+use Rattle.due_model.specs.RunSteps.{run_state}
+use Rattle.due_model.specs.Sights.{serving_of}
 use Rattle.scenario.specs.declared.value.TargetDef.{TargetDef}
 use Rattle.scenario.specs.Value.{ScenarioValue}
 use Rattle.target_course.specs.scsi_device.specs.Told.{Told, told, pace_of}

@@ -4,20 +4,20 @@ ghost use Rattle.bus_trace.specs.declared.Row.{Row};
 ghost use Rattle.bus_trace.specs.Terms.{connection};
 ghost use Rattle.bus_trace.specs.Trace.{bus};
 ghost use Rattle.bus_lines.specs.BusView.{IsBusViewOf};
-ghost use Rattle.bus_due.specs.bus_dialogue.specs.Hearing.{begun};
-ghost use Rattle.bus_due.specs.bus_dialogue.specs.NextPhase.{phase_of};
-ghost use Rattle.bus_due.specs.bus_dialogue.specs.Observer.{IsObserverOf};
+ghost use Rattle.due_model.specs.dialogue_model.specs.Hearing.{begun};
+ghost use Rattle.due_model.specs.dialogue_model.specs.NextPhase.{phase_of};
+ghost use Rattle.due_model.specs.dialogue_model.specs.Observer.{IsObserverOf};
 ghost use Rattle.target_course.specs.Courses.{name_of};
 ghost use Rattle.target_course.specs.States.{IsReadyWithin};
 ghost use Rattle.target_course.specs.declared.course.Name.{Name as NameValue};
 ghost use Rattle.disk_target.specs.Bytes.{status_in, blocks_of, taken_by, gives_data, own_in, are_own, IsOwnIf, IsOthersIf, StandsInOwn};
 
 use bus_base::Dev;
-use bus_due::the_bus_dialogue::{Next, Observer, Phase};
 use bus_lines::BusView;
 use bus_trace::{Change, Connection};
 use cdb_codec::{Command, blocks_moved, from_cdb};
 use disk_unit::Reply;
+use due_model::the_dialogue_model::{Next, Observer, Phase};
 use target_course::the_target_units::Ready;
 use target_course::{Course, DataBytes, Serving, phase_of};
 

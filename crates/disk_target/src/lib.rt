@@ -8,7 +8,7 @@
 //! connection of its own it keeps (`specs/Knowns.antt`), and makes it anew only with a row that changes more of it than
 //! the plan. [`Processes`] keeps the units with the [`Standing`] of the process of the connection: whether that stands
 //! in the queue of its unit, or outside it with a reply of its own. Stands on `target_course`, `target_units`,
-//! `disk_unit`, `scsi_device` and the definitions of `disk_array` and `bus_due`.
+//! `disk_unit`, `scsi_device` and the definitions of `array_model` and `due_model`.
 //!
 //! A run asks what is due of it (`Target::due`). `Target::step`, what it does by a clock, serves a caller with devices
 //! of his own, and nothing here calls it.

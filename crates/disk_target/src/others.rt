@@ -1,18 +1,18 @@
 // What a target does next in a connection of others.
 ghost use Rattle.std.specs.Prelude.{◌≡◌, ◌<◌, ◌≤◌, List};
 ghost use Rattle.bus_trace.specs.declared.Row.{Row};
-ghost use Rattle.bus_due.specs.bus_dialogue.specs.Observer.{IsObserverOf};
-ghost use Rattle.bus_due.specs.Next.{due};
-ghost use Rattle.bus_due.specs.Plain.{AreOfDevices};
-ghost use Rattle.bus_due.specs.RunSteps.{run_state};
+ghost use Rattle.due_model.specs.dialogue_model.specs.Observer.{IsObserverOf};
+ghost use Rattle.due_model.specs.Next.{due};
+ghost use Rattle.due_model.specs.Plain.{AreOfDevices};
+ghost use Rattle.due_model.specs.RunSteps.{run_state};
 ghost use Rattle.scenario.specs.Value.{ScenarioValue};
 ghost use Rattle.target_course.specs.States.{TargetState, IsNoInitiator, IsTargetLine, IsTargetOf};
 ghost use Rattle.bus_trace.specs.declared.connection.Connection.{Connection};
 ghost use Rattle.disk_target.specs.Bytes.{IsOthers};
 
-use bus_due::the_bus_dialogue::Observer;
-use bus_reactions::Due;
 use connect::due_with_reset;
+use due_model::the_dialogue_model::Observer;
+use reaction_model::Due;
 use scenario::TargetDef;
 use target_course::the_scsi_device::Itself;
 use target_course::{dues_are_of_targets, myself};

@@ -7,7 +7,7 @@ use Rattle.std.proofs.lemmas.List.{take-replicate, drop-take, take-append-le, dr
 use Rattle.std.proofs.Math.Seq.{take-append_seam, drop-append_seam}
 use Rattle.std.proofs.lemmas.Grind.{common_steps}
 use borrow.Rule.Slice.PartMut.{put_mid}
-use Rattle.disk_array.specs.Contents.{touched_block, touched_with}
+use Rattle.array_model.specs.Contents.{touched_block, touched_with}
 use Rattle.disk_unit.specs.Dense.{blocks_in}
 use Rattle.std.proofs.lemmas.Bool.{ne_eqb, le-ltb}
 

@@ -6,18 +6,18 @@ use Rattle.bus_base.specs.declared.ProcId.{ProcId}
 use Rattle.cdb_codec.specs.declared.Sense.{Sense}
 use Rattle.cdb_codec.specs.declared.status.TheConstants.{GOOD, CHECK_CONDITION}
 use Rattle.cdb_codec.specs.Cdb.{command_of}
-use Rattle.disk_array.specs.scenario.specs.declared.value.HostDef.{HostDef}
-use Rattle.disk_array.specs.scenario.specs.declared.value.UnitDef.{UnitDef}
-use Rattle.disk_array.specs.scenario.specs.Value.{ScenarioValue}
-use Rattle.disk_array.specs.Contents.{Contents, starting_contents}
-use Rattle.disk_array.specs.Execution.{Reply, Execution, execution, is_request_sense, queue_full}
-use Rattle.disk_array.specs.Order.{entry_of, choice, without_process}
-use Rattle.disk_array.specs.Processes.{Process, same_id}
-use Rattle.disk_array.specs.Units.{UnitState, RunningProcess, with_current, has_no_current, guest_at, starting_unit}
-use Rattle.disk_array.specs.Units.{starting_array}
-use Rattle.disk_array.specs.Steps.{process_count, unit_without, running_if, unit_processes, has_tag}
-use Rattle.disk_array.specs.Seats
-use Rattle.disk_array.specs.Seats.{Seat, seat_of, unit_with_choice, unit_with_reply, unit_with_contents, unit_kept}
+use Rattle.array_model.specs.scenario.specs.declared.value.HostDef.{HostDef}
+use Rattle.array_model.specs.scenario.specs.declared.value.UnitDef.{UnitDef}
+use Rattle.array_model.specs.scenario.specs.Value.{ScenarioValue}
+use Rattle.array_model.specs.Contents.{Contents, starting_contents}
+use Rattle.array_model.specs.Execution.{Reply, Execution, execution, is_request_sense, queue_full}
+use Rattle.array_model.specs.Order.{entry_of, choice, without_process}
+use Rattle.array_model.specs.Processes.{Process, same_id}
+use Rattle.array_model.specs.Units.{UnitState, RunningProcess, with_current, has_no_current, guest_at, starting_unit}
+use Rattle.array_model.specs.Units.{starting_array}
+use Rattle.array_model.specs.Steps.{process_count, unit_without, running_if, unit_processes, has_tag}
+use Rattle.array_model.specs.Seats
+use Rattle.array_model.specs.Seats.{Seat, seat_of, unit_with_choice, unit_with_reply, unit_with_contents, unit_kept}
 use Rattle.tag_queue.specs.Queue.{QueueState, has_key, entry_at, is_held, queue_cleared_of}
 use Rattle.tag_queue.specs.declared.those.Those.TheVariants as those
 use Rattle.disk_unit.specs.Books
@@ -30,8 +30,8 @@ use Rattle.disk_unit.specs.LiveCommands.{LiveCommand, HasLive, IsCurrentOf, proc
 use Rattle.disk_unit.specs.LiveCommands.{has_this_key, is_one_of}
 use Rattle.disk_unit.specs.AtSeats.{IsUnitAt}
 use Rattle.bus_base.proofs.Tests.{eq_self}
-use Rattle.disk_array.proofs.SeatLookups.{same_id_is}
-use Rattle.disk_array.proofs.SeatReplies.{id_self}
+use Rattle.array_model.proofs.SeatLookups.{same_id_is}
+use Rattle.array_model.proofs.SeatReplies.{id_self}
 use Rattle.disk_unit.proofs.LiveCommands as live
 use Rattle.disk_unit.proofs.Keeping as keeping
 use Rattle.disk_unit.proofs.Executions.{executed}

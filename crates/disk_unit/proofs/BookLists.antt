@@ -3,7 +3,7 @@ use Rattle.std.proofs.Common.{ℕ, zero, suc, ◌≡◌, ◌<◌, Bool, true, fa
 use Rattle.std.proofs.Common.{arith, length, get_or, set, Option, Some, None}
 use Rattle.std.specs.Prelude.{if◌then◌else◌, ◌==◌}
 use Rattle.std.proofs.lemmas.Bool.{eqb-true}
-use Rattle.disk_array.specs.declared.entries.Entry.{Entry}
+use Rattle.array_model.specs.declared.entries.Entry.{Entry}
 use Rattle.tag_queue.specs.Queue.{Queued, queued, is_current, waiting_in, has_key, entry_at, without_key, key_at}
 use Rattle.tag_queue.specs.Queue.{key_at_if, is_of, without_those_of}
 use Rattle.tag_queue.specs.declared.those.Those.{Those}

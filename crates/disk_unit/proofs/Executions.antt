@@ -3,12 +3,12 @@ use Rattle.std.proofs.Common.{ℕ, ◌≡◌, Bool, true, false, List, [], refl,
 use Rattle.std.specs.Prelude.{if◌then◌else◌}
 use Rattle.cdb_codec.specs.declared.Sense.{Sense}
 use Rattle.cdb_codec.specs.Cdb.{command_of}
-use Rattle.disk_array.specs.Contents.{Contents}
-use Rattle.disk_array.specs.Execution.{CommandContext, execution, check_condition, is_request_sense, heeds_attention}
+use Rattle.array_model.specs.Contents.{Contents}
+use Rattle.array_model.specs.Execution.{CommandContext, execution, check_condition, is_request_sense, heeds_attention}
 use Rattle.disk_unit.specs.Disk.{disk_context, disk_execution, disk_reply}
 use Rattle.disk_unit.specs.Units.{is_reported, reply_with}
-use Rattle.disk_array.proofs.Executed.{reported_executed}
-use Rattle.disk_array.proofs.ExecutionFacts.{stored_apart, sent_apart, attention_apart, unreported}
+use Rattle.array_model.proofs.Executed.{reported_executed}
+use Rattle.array_model.proofs.ExecutionFacts.{stored_apart, sent_apart, attention_apart, unreported}
 
 abbrev pub unit_context : Contents → Option Sense → Option Sense → CommandContext
 unit_context c stored attention = record { present = true; contents = c; stored = stored; attention = attention }

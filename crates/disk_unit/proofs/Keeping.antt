@@ -10,15 +10,15 @@ use Rattle.bus_base.specs.declared.events.Pick.{Pick}
 use Rattle.cdb_codec.specs.declared.Sense.{Sense}
 use Rattle.cdb_codec.specs.declared.status.TheConstants.{GOOD, CHECK_CONDITION}
 use Rattle.cdb_codec.specs.Cdb.{command_of}
-use Rattle.disk_array.specs.scenario.specs.declared.value.HostDef.{HostDef}
-use Rattle.disk_array.specs.scenario.specs.Value.{ScenarioValue}
-use Rattle.disk_array.specs.declared.entries.Entry.{Entry}
-use Rattle.disk_array.specs.Processes.{Process}
-use Rattle.disk_array.specs.Execution.{Reply, Execution, is_request_sense, reset_occurred}
-use Rattle.disk_array.specs.Units.{UnitState, starting_array}
-use Rattle.disk_array.specs.Steps.{unit_processes}
-use Rattle.disk_array.specs.Seats
-use Rattle.disk_array.specs.Seats.{Seat}
+use Rattle.array_model.specs.scenario.specs.declared.value.HostDef.{HostDef}
+use Rattle.array_model.specs.scenario.specs.Value.{ScenarioValue}
+use Rattle.array_model.specs.declared.entries.Entry.{Entry}
+use Rattle.array_model.specs.Processes.{Process}
+use Rattle.array_model.specs.Execution.{Reply, Execution, is_request_sense, reset_occurred}
+use Rattle.array_model.specs.Units.{UnitState, starting_array}
+use Rattle.array_model.specs.Steps.{unit_processes}
+use Rattle.array_model.specs.Seats
+use Rattle.array_model.specs.Seats.{Seat}
 use Rattle.tag_queue.specs.Queue.{is_held}
 use Rattle.disk_unit.specs.Books
 use Rattle.disk_unit.specs.Books.{UnitBooks, IsCleared}

@@ -8,17 +8,17 @@ use Rattle.std.proofs.Math.Seq.{lt-length-set}
 use Rattle.std.proofs.lemmas.List.{get_or-set_same, get_or-set_other}
 use Rattle.bus_base.specs.declared.ProcId.{ProcId}
 use Rattle.bus_base.proofs.Tests.{eq_self}
-use Rattle.disk_array.specs.declared.entries.Entry.{Entry}
-use Rattle.disk_array.specs.Processes.{Process, same_id}
-use Rattle.disk_array.specs.Order.{entry_of, tag_number, entries_of, chosen_place, process_at, process_at_if}
-use Rattle.disk_array.specs.Order.{without_process, same_number}
-use Rattle.disk_array.specs.Units.{RunningProcess, UnitState, with_current}
-use Rattle.disk_array.specs.scenario.specs.declared.value.Tag.{Tag}
-use Rattle.disk_array.specs.scenario.specs.declared.value.Tag.TheVariants as tags
-use Rattle.disk_array.specs.Execution.{Reply}
-use Rattle.disk_array.specs.Steps.{running_if, running_count, process_count, current_with_reply, unit_without}
-use Rattle.disk_array.specs.Steps.{kept_processes, kept_running, processes_of, unit_processes, has_tag}
-use Rattle.disk_array.specs.Seats.{unit_with_choice, unit_with_reply, unit_kept, is_told as is_told_at}
+use Rattle.array_model.specs.declared.entries.Entry.{Entry}
+use Rattle.array_model.specs.Processes.{Process, same_id}
+use Rattle.array_model.specs.Order.{entry_of, tag_number, entries_of, chosen_place, process_at, process_at_if}
+use Rattle.array_model.specs.Order.{without_process, same_number}
+use Rattle.array_model.specs.Units.{RunningProcess, UnitState, with_current}
+use Rattle.array_model.specs.scenario.specs.declared.value.Tag.{Tag}
+use Rattle.array_model.specs.scenario.specs.declared.value.Tag.TheVariants as tags
+use Rattle.array_model.specs.Execution.{Reply}
+use Rattle.array_model.specs.Steps.{running_if, running_count, process_count, current_with_reply, unit_without}
+use Rattle.array_model.specs.Steps.{kept_processes, kept_running, processes_of, unit_processes, has_tag}
+use Rattle.array_model.specs.Seats.{unit_with_choice, unit_with_reply, unit_kept, is_told as is_told_at}
 use Rattle.tag_queue.specs.Queue.{Queued, queued, is_current, waiting_in, entries_in, has_key, entry_at, without_key}
 use Rattle.tag_queue.specs.Queue.{key_at, key_at_if, current_without, is_held, is_of, without_those_of, current_among}
 use Rattle.tag_queue.specs.Queue.{has_any}
@@ -28,8 +28,8 @@ use Rattle.disk_unit.specs.Books.{UnitBooks, is_told, books_with, books_with_cur
 use Rattle.disk_unit.specs.Books.{books_without_those}
 use Rattle.disk_unit.specs.LiveCommands.{LiveCommand, queued_of, waiting_processes, process_under, has_process}
 use Rattle.disk_unit.specs.LiveCommands.{AreApart, HaveBlocks, IsCurrentOf, HasLive, live_but, has_this_key, is_one_of}
-use Rattle.disk_array.proofs.SeatLookups.{same_id_is}
-use Rattle.disk_array.proofs.SeatReplies.{id_self}
+use Rattle.array_model.proofs.SeatLookups.{same_id_is}
+use Rattle.array_model.proofs.SeatReplies.{id_self}
 
 -- ---- tests
 

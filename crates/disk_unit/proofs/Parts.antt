@@ -7,7 +7,7 @@ use Rattle.std.proofs.lemmas.List.{drop-drop}
 use Rattle.std.proofs.Math.Nat.{suc-mul, div-add-mod', div-lt_iff_lt-mul}
 use Rattle.std.proofs.Math.Seq.{drop-append-add, take-append-add, take-add}
 use borrow.Rule.Slice.PartMut.{put_mid}
-use Rattle.disk_array.specs.Contents.{Contents, block_at, bytes_at, with_block, with_bytes}
+use Rattle.array_model.specs.Contents.{Contents, block_at, bytes_at, with_block, with_bytes}
 
 pub length_bytes : (c : Contents) → ((k : ℕ) → length (block_at c k) ≡ c.size) → (lba n : ℕ)
     → length (bytes_at c lba n) ≡ n * c.size

@@ -8,12 +8,12 @@ use Rattle.cdb_codec.specs.declared.command.Command.{Command}
 use Rattle.cdb_codec.specs.declared.replies.TheConstants.{SENSE_LEN, INQUIRY_LEN}
 use Rattle.cdb_codec.specs.Blocks.{blocks_moved}
 use Rattle.cdb_codec.specs.Replies.{sense_data, inquiry_data}
-use Rattle.disk_array.specs.Contents.{Contents, block_at}
-use Rattle.disk_array.specs.Execution.{no_sense, range_execution, command_execution, reply_execution, check_condition}
-use Rattle.disk_array.specs.Execution.{block_out_of_range, is_good_range, range_of}
+use Rattle.array_model.specs.Contents.{Contents, block_at}
+use Rattle.array_model.specs.Execution.{no_sense, range_execution, command_execution, reply_execution, check_condition}
+use Rattle.array_model.specs.Execution.{block_out_of_range, is_good_range, range_of}
 use Rattle.disk_unit.specs.Disk.{command_reply, bytes_in, disk_context}
 use Rattle.disk_unit.proofs.Parts.{length_bytes}
-use Rattle.disk_array.proofs.ExecutionFacts.{command_good}
+use Rattle.array_model.proofs.ExecutionFacts.{command_good}
 use Rattle.cdb_codec.specs.declared.command.Command.TheVariants as commands
 
 pub take_part : (n at m : ℕ) (bytes : List ℕ) → at + n ≤ m → take n (drop at (take m bytes)) ≡ take n (drop at bytes)
@@ -30,7 +30,7 @@ clipped m n bytes e =
     omega arith
 
 moved : (c : Contents) → ((k : ℕ) → length (block_at c k) ≡ c.size) → (lba n r : ℕ) → r ≡ c.size
-    → n * r ≡ length (Rattle.disk_array.specs.Contents.bytes_at c lba n)
+    → n * r ≡ length (Rattle.array_model.specs.Contents.bytes_at c lba n)
 moved c w lba n r e = ap (λ (x : ℕ). n * x) e ∙ sym (length_bytes c w lba n)
 
 pub reply_length : (c : Contents) → ((k : ℕ) → length (block_at c k) ≡ c.size) → (command : Command) (r : ℕ)

@@ -7,7 +7,7 @@ use Rattle.std.specs.Global.{Vec}
 use Rattle.std.proofs.lemmas.Bool.{eqb-false, eqb-true, lt-ltb, ltb-true, ne_eqb, ltb-false, le-ltb, true≢false}
 use Rattle.std.proofs.lemmas.List.{length-replicate}
 use Rattle.std.proofs.lemmas.Grind.{common_steps}
-use Rattle.disk_array.specs.Contents.{touched_block, touched_with}
+use Rattle.array_model.specs.Contents.{touched_block, touched_with}
 use Rattle.disk_unit.specs.Sparse.{touched_of, AreRising, HaveSize, place_in, is_at, touched_from, IsSparse}
 
 -- ---- a place

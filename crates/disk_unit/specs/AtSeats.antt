@@ -1,9 +1,9 @@
 -- A unit at its seat of the plain disk array.
 use Rattle.std.specs.Prelude.{◌≡◌, List, Some}
-use Rattle.disk_array.specs.scenario.specs.declared.value.HostDef.{HostDef}
-use Rattle.disk_array.specs.Contents.{Contents}
-use Rattle.disk_array.specs.Seats.{Seat}
-use Rattle.disk_array.specs.Units.{UnitState}
+use Rattle.array_model.specs.scenario.specs.declared.value.HostDef.{HostDef}
+use Rattle.array_model.specs.Contents.{Contents}
+use Rattle.array_model.specs.Seats.{Seat}
+use Rattle.array_model.specs.Units.{UnitState}
 use Rattle.disk_unit.specs.Books.{UnitBooks}
 use Rattle.disk_unit.specs.Keeping.{IsKeptAt}
 use Rattle.disk_unit.specs.LiveCommands.{LiveCommand, HasLive}

@@ -3,9 +3,9 @@ use Rattle.std.specs.Prelude.{◌≡◌, ℕ, ◌<◌, ◌==◌, Bool, true, fal
 use Rattle.std.specs.Prelude.{is_some, replicate, length, slice_set, slice_index_or, take, if◌then◌else◌}
 use Rattle.bus_base.specs.declared.events.Pick.{Pick}
 use Rattle.cdb_codec.specs.declared.Sense.{Sense}
-use Rattle.disk_array.specs.declared.entries.Entry.{Entry}
-use Rattle.disk_array.specs.Execution.{no_sense, reset_occurred}
-use Rattle.disk_array.specs.Seats.{attention_if_told}
+use Rattle.array_model.specs.declared.entries.Entry.{Entry}
+use Rattle.array_model.specs.Execution.{no_sense, reset_occurred}
+use Rattle.array_model.specs.Seats.{attention_if_told}
 use Rattle.tag_queue.specs.Queue.{Queued, QueueState, empty_queue, queue_with, queue_started, queue_without}
 use Rattle.tag_queue.specs.Queue.{queue_cleared_of, with_held, with_none_held, entry_at, chosen_key, has_any}
 use Rattle.tag_queue.specs.declared.those.Those.{Those}

@@ -7,11 +7,11 @@ use Rattle.cdb_codec.specs.declared.replies.TheConstants.{SENSE_LEN, INQUIRY_LEN
 use Rattle.cdb_codec.specs.Blocks.{blocks_moved}
 use Rattle.cdb_codec.specs.declared.command.CdbFault.{CdbFault}
 use Rattle.cdb_codec.specs.Cdb.{command_of}
-use Rattle.disk_array.specs.scenario.specs.Needs.{is_write}
-use Rattle.disk_array.specs.Contents.{Contents}
-use Rattle.disk_array.specs.Execution.{Reply, CommandContext, Execution, cdb_execution, command_execution, range_of}
-use Rattle.disk_array.specs.Execution.{is_good_range}
-use Rattle.disk_array.specs.Order.{range_in, first_in, count_in}
+use Rattle.array_model.specs.scenario.specs.Needs.{is_write}
+use Rattle.array_model.specs.Contents.{Contents}
+use Rattle.array_model.specs.Execution.{Reply, CommandContext, Execution, cdb_execution, command_execution, range_of}
+use Rattle.array_model.specs.Execution.{is_good_range}
+use Rattle.array_model.specs.Order.{range_in, first_in, count_in}
 use Rattle.disk_unit.specs.declared.media.Extent.{Extent}
 
 -- A unit that is there, where nothing is stored or pending for the initiator.

@@ -2,10 +2,10 @@
 use Rattle.std.specs.Prelude.{ℕ, ◌≡◌, ◌<◌, ◌==◌, ◌&&◌, true, false, List, length, None, slice_index_or, if◌then◌else◌}
 use Rattle.cdb_codec.specs.declared.status.TheConstants.{GOOD, CHECK_CONDITION}
 use Rattle.cdb_codec.specs.Cdb.{command_of}
-use Rattle.disk_array.specs.scenario.specs.declared.value.HostDef.{HostDef}
-use Rattle.disk_array.specs.Processes.{Process}
-use Rattle.disk_array.specs.Execution.{Reply, is_request_sense}
-use Rattle.disk_array.specs.Seats.{Seat, is_initiator}
+use Rattle.array_model.specs.scenario.specs.declared.value.HostDef.{HostDef}
+use Rattle.array_model.specs.Processes.{Process}
+use Rattle.array_model.specs.Execution.{Reply, is_request_sense}
+use Rattle.array_model.specs.Seats.{Seat, is_initiator}
 use Rattle.disk_unit.specs.Books.{UnitBooks, books_with_sense, books_without_sense}
 
 -- The books have the senses, the attentions and the hold of the seat. A unit has a place for each of eight initiators,

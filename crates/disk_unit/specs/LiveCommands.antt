@@ -2,9 +2,9 @@
 use Rattle.std.specs.Prelude.{ℕ, ◌≡◌, ◌<◌, Bool, true, false, ◌==◌, List, [], ◌∷◌, length, Option, Some, None, ⊤}
 use Rattle.std.specs.Prelude.{slice_index_or, if◌then◌else◌}
 use Rattle.bus_base.specs.declared.ProcId.{ProcId}
-use Rattle.disk_array.specs.Order.{entry_of}
-use Rattle.disk_array.specs.Processes.{Process, same_id}
-use Rattle.disk_array.specs.Units.{RunningProcess, UnitState}
+use Rattle.array_model.specs.Order.{entry_of}
+use Rattle.array_model.specs.Processes.{Process, same_id}
+use Rattle.array_model.specs.Units.{RunningProcess, UnitState}
 use Rattle.tag_queue.specs.Queue.{Queued, queued, is_current, has_key, is_of}
 use Rattle.tag_queue.specs.declared.those.Those.{Those}
 use Rattle.disk_unit.specs.Books.{UnitBooks}

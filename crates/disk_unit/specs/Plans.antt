@@ -2,7 +2,7 @@
 use Rattle.std.specs.Prelude.{ℕ, ◌==◌, length, Option, Some, None, if◌then◌else◌}
 use Rattle.cdb_codec.specs.declared.Sense.{Sense}
 use Rattle.cdb_codec.specs.declared.status.TheConstants.{CHECK_CONDITION}
-use Rattle.disk_array.specs.Execution.{Reply}
+use Rattle.array_model.specs.Execution.{Reply}
 use Rattle.disk_unit.specs.declared.media.Plan.{Plan}
 
 abbrev pub sense_if : Reply → Option Sense

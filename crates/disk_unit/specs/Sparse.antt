@@ -2,7 +2,7 @@
 use Rattle.std.specs.Prelude.{◌≡◌, ℕ, zero, suc, ◌+◌, ◌≤◌, Bool, false, ◌==◌, List, [], ◌∷◌, length, Option, Some, None}
 use Rattle.std.specs.Prelude.{nat_lt, if◌then◌else◌}
 use Rattle.std.specs.Global.{Vec}
-use Rattle.disk_array.specs.Contents.{Contents}
+use Rattle.array_model.specs.Contents.{Contents}
 
 -- What a user sees: the contents, and how many blocks may be written for the first time.
 pub record Store : Type 0 where

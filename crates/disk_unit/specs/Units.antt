@@ -5,8 +5,8 @@ use Rattle.bus_base.specs.declared.AbortKind.TheVariants as aborts
 use Rattle.bus_base.specs.declared.ProcId.{ProcId}
 use Rattle.bus_base.specs.declared.events.Class.{Class}
 use Rattle.cdb_codec.specs.declared.Sense.{Sense}
-use Rattle.disk_array.specs.declared.entries.Entry.{Entry}
-use Rattle.disk_array.specs.Execution.{Reply, check_condition, heeds_attention}
+use Rattle.array_model.specs.declared.entries.Entry.{Entry}
+use Rattle.array_model.specs.Execution.{Reply, check_condition, heeds_attention}
 use Rattle.disk_unit.specs.declared.media.Extent.{Extent}
 use Rattle.disk_unit.specs.declared.unit.Reply.{Reply as UnitReply}
 use Rattle.disk_unit.specs.declared.unit.Accepted.{Accepted}

@@ -1,6 +1,6 @@
 //! What keeps the blocks of a disk.
 ghost use Rattle.std.specs.Prelude.{◌≡◌, ℕ, ◌+◌, ◌<◌, ◌≤◌, length, take, drop, OnOk, OnErr};
-ghost use Rattle.disk_array.specs.Contents.{Contents, block_at, with_block};
+ghost use Rattle.array_model.specs.Contents.{Contents, block_at, with_block};
 
 use bus_base::NoMemory;
 

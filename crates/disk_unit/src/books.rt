@@ -2,8 +2,8 @@
 ghost use Rattle.std.specs.Prelude.{◌≡◌, ℕ, ◌⊎◌, ◌+◌, ◌==◌, not, nat_lt, ◌<◌, ◌≤◌, Bool, true, false, [], length, Some, None, IfOk, IfSome, IfNone, OnOk, OnErr, slice_index_or, slice_set, replicate, is_some};
 ghost use Rattle.tag_queue.specs.Queue.{has_key, entry_at, is_held, key_of, key_of_process as first_of_process, waiting_of};
 ghost use Rattle.disk_unit.specs.Books.{empty_books, block_at, books_with, choice_of, books_after_choice, books_without, books_with_sense, books_without_sense, sense_or_none, books_with_status, books_after_end, books_without_attention, books_after_abort, books_after_abort_tag, books_after_reset, books_without_those, initiator_at, IsCleared, is_told};
-ghost use Rattle.disk_array.specs.Steps.{is_reset_pending as reset_pending};
-ghost use Rattle.disk_array.specs.Seats.{attention_if_told};
+ghost use Rattle.array_model.specs.Steps.{is_reset_pending as reset_pending};
+ghost use Rattle.array_model.specs.Seats.{attention_if_told};
 
 use super::command_block::CommandBlock;
 use bus_base::NoMemory;

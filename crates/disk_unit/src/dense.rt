@@ -1,6 +1,6 @@
 //! Blocks that all take memory.
 ghost use Rattle.std.specs.Prelude.{◌≡◌, ℕ, ◌*◌, ◌<◌, ◌≤◌, IfOk};
-ghost use Rattle.disk_array.specs.Contents.{Contents, block_at, zero_block};
+ghost use Rattle.array_model.specs.Contents.{Contents, block_at, zero_block};
 
 use super::blocks::{Blocks, copy_from};
 use bus_base::NoMemory;
@@ -17,7 +17,7 @@ pub struct DenseBlocks {
 
 impl Model for DenseBlocks {
     ghost use Rattle.std.specs.Prelude.{◌≡◌, ◌*◌, ◌≤◌, length};
-    ghost use Rattle.disk_array.specs.Contents.{Contents};
+    ghost use Rattle.array_model.specs.Contents.{Contents};
 
     ghost Value = { Contents };
 

@@ -3,11 +3,11 @@ ghost use Rattle.std.specs.Prelude.{◌≡◌, ℕ, min, Ok, ◌+◌, ◌-◌, �
 ghost use Rattle.cdb_codec.specs.Cdb.{command_of};
 ghost use Rattle.cdb_codec.specs.declared.status.TheConstants.{GOOD as GOOD_STATUS};
 ghost use Rattle.cdb_codec.specs.Blocks.{blocks_moved as blocks_of};
-ghost use Rattle.disk_array.specs.scenario.specs.Needs.{is_write as writes_by};
-ghost use Rattle.disk_array.specs.Contents.{bytes_at, with_bytes};
+ghost use Rattle.array_model.specs.scenario.specs.Needs.{is_write as writes_by};
+ghost use Rattle.array_model.specs.Contents.{bytes_at, with_bytes};
 ghost use Rattle.cdb_codec.specs.Replies.{capacity_data};
-ghost use Rattle.disk_array.specs.Execution.{Reply, is_good_range, range_of, command_execution, cdb_execution, range_execution, check_condition, good};
-ghost use Rattle.disk_array.specs.Order.{range_in, first_in, count_in};
+ghost use Rattle.array_model.specs.Execution.{Reply, is_good_range, range_of, command_execution, cdb_execution, range_execution, check_condition, good};
+ghost use Rattle.array_model.specs.Order.{range_in, first_in, count_in};
 ghost use Rattle.disk_unit.specs.Plans.{plan_of};
 ghost use Rattle.disk_unit.specs.Disk.{disk_context, disk_execution, disk_reply, is_carried_out, blocks_written, disk_extent, written_of, bytes_in, command_reply, written_if};
 

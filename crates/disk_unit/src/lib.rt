@@ -3,7 +3,7 @@
 //! [`Blocks`] is what a disk keeps its blocks in: [`DenseBlocks`] keeps the bytes of all of them, [`SparseBlocks`]
 //! those that were written alone, so that a disk of 4,294,967,296 blocks takes memory for these only. A run takes
 //! `SparseBlocks`; `DenseBlocks` serves a caller whose disks are small, and here only tests call it. What the
-//! blocks of a disk are is said by `disk_array` (`specs/Contents.antt`): a count, a size, and a look-up by number.
+//! blocks of a disk are is said by `array_model` (`specs/Contents.antt`): a count, a size, and a look-up by number.
 //!
 //! [`Medium`] is what a unit stands over, and [`DiskMedium`] a disk of any blocks as one. A [`Unit`] keeps the queue,
 //! the hold, and for each initiator a sense and an attention.

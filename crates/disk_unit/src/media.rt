@@ -1,6 +1,6 @@
 //! What a logical unit stands over.
 ghost use Rattle.std.specs.Prelude.{◌≡◌, ℕ, ◌+◌, ◌≤◌, Bool, List, length, take, drop};
-ghost use Rattle.disk_array.specs.Execution.{Reply};
+ghost use Rattle.array_model.specs.Execution.{Reply};
 ghost use Rattle.disk_unit.specs.Plans.{plan_of};
 
 use cdb_codec::Sense;

@@ -2,7 +2,7 @@
 ghost use Rattle.std.specs.Prelude.{◌≡◌, ℕ, ◌+◌, ◌<◌, ◌≤◌, ◌&&◌, [], List, Option, None, IfOk, OnOk, OnErr, length, replicate, vec_len, vec_capacity, slice_index_or, slice_set};
 ghost use Rattle.std.specs.Global.{Vec as Bytes};
 ghost use Rattle.std.specs.List.{insert};
-ghost use Rattle.disk_array.specs.Contents.{blank_contents};
+ghost use Rattle.array_model.specs.Contents.{blank_contents};
 ghost use Rattle.disk_unit.specs.Sparse.{Store, place_in, is_at as is_number_at, AreRising, HaveSize, touched_from};
 
 use super::blocks::{Blocks, copy_from};

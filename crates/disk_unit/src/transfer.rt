@@ -1,6 +1,6 @@
 //! The bytes of several blocks, read and written.
 ghost use Rattle.std.specs.Prelude.{◌≡◌, ℕ, ◌+◌, ◌-◌, ◌*◌, ◌<◌, ◌≤◌, List, ◌++◌, length, take, drop};
-ghost use Rattle.disk_array.specs.Contents.{block_at, bytes_at, with_bytes};
+ghost use Rattle.array_model.specs.Contents.{block_at, bytes_at, with_bytes};
 
 use super::blocks::Blocks;
 

@@ -1,8 +1,8 @@
 //! A logical unit: its medium, its queue, and what it keeps for each initiator.
 ghost use Rattle.std.specs.Prelude.{◌≡◌, ℕ, ◌+◌, ◌*◌, ◌<◌, ◌≤◌, ◌==◌, not, nat_lt, Bool, true, false, List, [], length, take, drop, Option, Some, None, IfOk, IfSome, is_some, slice_index_or, if◌then◌else◌};
 ghost use Rattle.cdb_codec.specs.Cdb.{command_of};
-ghost use Rattle.disk_array.specs.declared.entries.Entry.{Entry};
-ghost use Rattle.disk_array.specs.Execution.{Reply as ArrayReply, aborted_reply, check_condition, queue_full, is_request_sense as requests_sense, heeds_attention as heeds};
+ghost use Rattle.array_model.specs.declared.entries.Entry.{Entry};
+ghost use Rattle.array_model.specs.Execution.{Reply as ArrayReply, aborted_reply, check_condition, queue_full, is_request_sense as requests_sense, heeds_attention as heeds};
 ghost use Rattle.tag_queue.specs.Queue.{has_key, entry_at, is_held, key_of_process};
 ghost use Rattle.disk_unit.specs.Plans.{plan_of};
 ghost use Rattle.disk_unit.specs.Books.{UnitBooks, empty_books, block_at, books_with, choice_of, books_after_choice, books_without, books_with_sense, books_without_sense, sense_or_none, books_after_end, books_without_attention, books_after_abort, books_after_reset, initiator_at, attention_at};

@@ -3,15 +3,15 @@ use Rattle.std.proofs.Common.{ℕ, ◌≡◌, Bool, true, false, Option, Some, N
 use Rattle.std.specs.Prelude.{not, ◌&&◌, ◌||◌, ◌==◌, length, if◌then◌else◌}
 use Rattle.bus_trace.specs.LineSet.{LineSet, none}
 use Rattle.bus_lines.specs.Handshakes.{Handshakes}
-use Rattle.bus_reactions.specs.declared.due.Due.{Due}
-use Rattle.bus_reactions.specs.declared.due.Myself.{Myself}
-use Rattle.bus_reactions.specs.declared.sight.Sight.{Sight}
-use Rattle.bus_reactions.specs.declared.ends.Pace.{Pace}
-use Rattle.bus_reactions.specs.declared.ends.Offering.{Offering}
-use Rattle.bus_reactions.specs.declared.ends.Answering.{Answering}
-use Rattle.bus_reactions.specs.Target.{target_handshake, target_pulse}
-use Rattle.bus_reactions.specs.Initiator.{initiator_turn, initiator_handshake}
-use Rattle.bus_reactions.specs.Ends.{owes_release}
+use Rattle.reaction_model.specs.declared.due.Due.{Due}
+use Rattle.reaction_model.specs.declared.due.Myself.{Myself}
+use Rattle.reaction_model.specs.declared.sight.Sight.{Sight}
+use Rattle.reaction_model.specs.declared.ends.Pace.{Pace}
+use Rattle.reaction_model.specs.declared.ends.Offering.{Offering}
+use Rattle.reaction_model.specs.declared.ends.Answering.{Answering}
+use Rattle.reaction_model.specs.Target.{target_handshake, target_pulse}
+use Rattle.reaction_model.specs.Initiator.{initiator_turn, initiator_handshake}
+use Rattle.reaction_model.specs.Ends.{owes_release}
 use Rattle.handshake.specs.Steps.{answering_by}
 use Rattle.handshake.specs.Telling.{without_atn, AttentionIsApart, LeavingIsApart}
 

@@ -7,8 +7,8 @@ use Rattle.bus_trace.specs.declared.rows.Kind.{Kind}
 use Rattle.bus_trace.specs.declared.rows.Kind.TheVariants.{Drives, Fault}
 use Rattle.bus_trace.specs.Trace.{bus}
 use Rattle.bus_lines.specs.Handshakes.{handshakes}
-use Rattle.bus_reactions.specs.declared.due.Due.{Due}
-use Rattle.bus_reactions.specs.Sight.{sight}
+use Rattle.reaction_model.specs.declared.due.Due.{Due}
+use Rattle.reaction_model.specs.Sight.{sight}
 use Rattle.handshake.specs.declared.end_state.EndState.{EndState}
 use Rattle.handshake.specs.declared.hand.Crossed.{Crossed}
 use Rattle.handshake.specs.declared.hand.Hand.{Hand}

@@ -5,18 +5,18 @@ use Rattle.bus_trace.specs.declared.rows.Row.{Row}
 use Rattle.bus_trace.specs.declared.connection.Connection.{Connection}
 use Rattle.bus_trace.specs.Terms.{connection}
 use Rattle.bus_lines.specs.Handshakes.{Handshakes, handshakes}
-use Rattle.bus_reactions.specs.declared.due.Due.{Due}
-use Rattle.bus_reactions.specs.declared.due.Myself.{Myself}
-use Rattle.bus_reactions.specs.declared.sight.Sight.{Sight}
-use Rattle.bus_reactions.specs.declared.ends.Pace.{Pace}
-use Rattle.bus_reactions.specs.declared.ends.Offering.{Offering}
-use Rattle.bus_reactions.specs.declared.ends.Answering.{Answering}
-use Rattle.bus_reactions.specs.Reactions.{due_where}
-use Rattle.bus_reactions.specs.Sight.{sight}
-use Rattle.bus_reactions.specs.Target.{bits_if, byte_bits, has_io_turned, target_turn, target_handshake, first_req}
-use Rattle.bus_reactions.specs.Target.{pulse_turn, target_pulse}
-use Rattle.bus_reactions.specs.Initiator.{initiator_turn, initiator_handshake, ack_pulse, initiator_pulse}
-use Rattle.bus_reactions.specs.Ends.{target_due, initiator_due, owes_release}
+use Rattle.reaction_model.specs.declared.due.Due.{Due}
+use Rattle.reaction_model.specs.declared.due.Myself.{Myself}
+use Rattle.reaction_model.specs.declared.sight.Sight.{Sight}
+use Rattle.reaction_model.specs.declared.ends.Pace.{Pace}
+use Rattle.reaction_model.specs.declared.ends.Offering.{Offering}
+use Rattle.reaction_model.specs.declared.ends.Answering.{Answering}
+use Rattle.reaction_model.specs.Reactions.{due_where}
+use Rattle.reaction_model.specs.Sight.{sight}
+use Rattle.reaction_model.specs.Target.{bits_if, byte_bits, has_io_turned, target_turn, target_handshake, first_req}
+use Rattle.reaction_model.specs.Target.{pulse_turn, target_pulse}
+use Rattle.reaction_model.specs.Initiator.{initiator_turn, initiator_handshake, ack_pulse, initiator_pulse}
+use Rattle.reaction_model.specs.Ends.{target_due, initiator_due, owes_release}
 use Rattle.handshake.specs.declared.end_state.EndState.{EndState}
 use Rattle.handshake.specs.Steps.{has_more, self_of, initiator_next, target_next, initiator_hand, target_hand}
 use Rattle.handshake.specs.Steps.{answering_by, offering_by}

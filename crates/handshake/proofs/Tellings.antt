@@ -13,7 +13,7 @@ use Rattle.bus_trace.specs.Changes.{rises, change_of}
 use Rattle.bus_trace.specs.Terms.{connection, receiver_of, is_fault}
 use Rattle.bus_lines.specs.Effect.{effect}
 use Rattle.bus_lines.specs.Handshakes.{Handshakes, handshakes, handshakes_after, no_handshakes, answered_if, asked_if}
-use Rattle.bus_reactions.specs.declared.due.Due.{Due}
+use Rattle.reaction_model.specs.declared.due.Due.{Due}
 use Rattle.handshake.specs.declared.end_state.EndState.{EndState}
 use Rattle.handshake.specs.declared.hand.Crossed.{Crossed}
 use Rattle.handshake.specs.Crossings.{is_crossing, crossings, crossed_byte, untold_crossing}

@@ -4,11 +4,11 @@ use Rattle.std.specs.Prelude.{◌<◌, ◌≤◌, ◌^◌}
 use Rattle.bus_lines.specs.Handshakes.{Handshakes}
 use Rattle.bus_lines.specs.Timely.{AreHandshakesBefore}
 use Rattle.bus_trace.specs.View.{AreTimesBefore}
-use Rattle.bus_reactions.specs.declared.due.Myself.{Myself}
-use Rattle.bus_reactions.specs.declared.sight.Sight.{Sight}
-use Rattle.bus_reactions.specs.declared.ends.Pace.{Pace}
-use Rattle.bus_reactions.specs.declared.ends.Hand.{Hand}
-use Rattle.bus_reactions.specs.declared.ends.Hand.TheVariants.{Initiator, Target}
+use Rattle.reaction_model.specs.declared.due.Myself.{Myself}
+use Rattle.reaction_model.specs.declared.sight.Sight.{Sight}
+use Rattle.reaction_model.specs.declared.ends.Pace.{Pace}
+use Rattle.reaction_model.specs.declared.ends.Hand.{Hand}
+use Rattle.reaction_model.specs.declared.ends.Hand.TheVariants.{Initiator, Target}
 
 abbrev pub IsSeen : Sight → Type 0
 IsSeen v = AreTimesBefore (2 ^ 63) v.ages

@@ -1,8 +1,8 @@
 -- What an end of a connection goes by.
 use Rattle.bus_lines.specs.Handshakes.{Handshakes}
-use Rattle.bus_reactions.specs.declared.due.Myself.{Myself}
-use Rattle.bus_reactions.specs.declared.sight.Sight.{Sight}
-use Rattle.bus_reactions.specs.declared.ends.Pace.{Pace}
+use Rattle.reaction_model.specs.declared.due.Myself.{Myself}
+use Rattle.reaction_model.specs.declared.sight.Sight.{Sight}
+use Rattle.reaction_model.specs.declared.ends.Pace.{Pace}
 
 pub record SituationValue : Type 0 where
   pub view : Sight

@@ -13,16 +13,16 @@ use Rattle.bus_trace.specs.Changes.{rises}
 use Rattle.bus_trace.specs.Trace.{bus, drives}
 use Rattle.bus_trace.specs.Terms.{connection}
 use Rattle.bus_lines.specs.Handshakes.{Handshakes, handshakes}
-use Rattle.bus_reactions.specs.declared.due.Due.{Due}
-use Rattle.bus_reactions.specs.declared.due.Myself.{Myself}
-use Rattle.bus_reactions.specs.declared.sight.Sight.{Sight}
-use Rattle.bus_reactions.specs.declared.ends.Pace.{Pace}
-use Rattle.bus_reactions.specs.declared.ends.Offering.{Offering}
-use Rattle.bus_reactions.specs.declared.ends.Answering.{Answering}
-use Rattle.bus_reactions.specs.Reactions.{due_where}
-use Rattle.bus_reactions.specs.Sight.{sight}
-use Rattle.bus_reactions.specs.Target.{last_hold_end}
-use Rattle.bus_reactions.specs.Ends.{target_due, initiator_due}
+use Rattle.reaction_model.specs.declared.due.Due.{Due}
+use Rattle.reaction_model.specs.declared.due.Myself.{Myself}
+use Rattle.reaction_model.specs.declared.sight.Sight.{Sight}
+use Rattle.reaction_model.specs.declared.ends.Pace.{Pace}
+use Rattle.reaction_model.specs.declared.ends.Offering.{Offering}
+use Rattle.reaction_model.specs.declared.ends.Answering.{Answering}
+use Rattle.reaction_model.specs.Reactions.{due_where}
+use Rattle.reaction_model.specs.Sight.{sight}
+use Rattle.reaction_model.specs.Target.{last_hold_end}
+use Rattle.reaction_model.specs.Ends.{target_due, initiator_due}
 use Rattle.handshake.specs.Bounds.{IsSteady}
 use Rattle.handshake.specs.Crossings.{crossings, untold_crossing}
 use Rattle.handshake.specs.declared.end_state.EndState.{EndState}

@@ -12,13 +12,13 @@ use Rattle.bus_trace.specs.Phases.{changes_phase}
 use Rattle.bus_trace.specs.Terms.{connection}
 use Rattle.bus_lines.specs.Effect.{effect}
 use Rattle.bus_lines.specs.Handshakes.{Handshakes, handshakes}
-use Rattle.bus_reactions.specs.declared.due.Due.{Due}
-use Rattle.bus_reactions.specs.declared.due.Myself.{Myself}
-use Rattle.bus_reactions.specs.declared.sight.Sight.{Sight}
-use Rattle.bus_reactions.specs.declared.ends.Pace.{Pace}
-use Rattle.bus_reactions.specs.declared.ends.Offering.{Offering}
-use Rattle.bus_reactions.specs.declared.ends.Answering.{Answering}
-use Rattle.bus_reactions.specs.Ends.{target_due, initiator_due}
+use Rattle.reaction_model.specs.declared.due.Due.{Due}
+use Rattle.reaction_model.specs.declared.due.Myself.{Myself}
+use Rattle.reaction_model.specs.declared.sight.Sight.{Sight}
+use Rattle.reaction_model.specs.declared.ends.Pace.{Pace}
+use Rattle.reaction_model.specs.declared.ends.Offering.{Offering}
+use Rattle.reaction_model.specs.declared.ends.Answering.{Answering}
+use Rattle.reaction_model.specs.Ends.{target_due, initiator_due}
 use Rattle.handshake.specs.declared.end_state.EndState.{EndState}
 use Rattle.handshake.specs.declared.hand.Hand.{Hand}
 use Rattle.handshake.specs.Crossings.{is_crossing, crossings, crossed_byte, untold_crossing}

@@ -5,16 +5,16 @@ ghost use Rattle.bus_trace.specs.Trace.{last_time};
 ghost use Rattle.bus_lines.specs.Handshakes.{handshakes};
 ghost use Rattle.bus_lines.specs.BusView.{IsBusViewOf};
 ghost use Rattle.bus_lines.specs.Timely.{IsTimely};
-ghost use Rattle.bus_reactions.specs.Sight.{sight};
-ghost use Rattle.bus_reactions.specs.Ends.{plain_due, hand_due};
+ghost use Rattle.reaction_model.specs.Sight.{sight};
+ghost use Rattle.reaction_model.specs.Ends.{plain_due, hand_due};
 ghost use Rattle.handshake.specs.Bounds.{IsReady, IsSteady, IsHandBefore};
 
 use crate::initiator::initiator_due_at;
 use crate::situation::Situation;
 use crate::target::target_due_at;
 use bus_lines::BusView;
-use bus_reactions::{Due, Hand, Myself, Pace, sight_of};
 use bus_trace::Kind;
+use reaction_model::{Due, Hand, Myself, Pace, sight_of};
 
 fn plain_due(begun: bool, at: &Situation<'_>, hand: &Hand) -> Option<Due>
     requires { IsHandBefore hand.now }

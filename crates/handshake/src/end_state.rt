@@ -8,11 +8,11 @@ ghost use Rattle.handshake.specs.Steps.{times_or, pace_of, new_state, IsBounded,
 
 use bus_base::{Dev, Ns};
 use bus_lines::BusView;
-use bus_reactions::{Answering, Myself, Offering, Pace};
 use bus_trace::{
     ASSERTION_PERIOD, Agreement, DATA_HOLD, Lines, NEGATION_PERIOD, SET_UP_TIME, TransferTimes,
     transfer_times,
 };
+use reaction_model::{Answering, Myself, Offering, Pace};
 
 /// What an end of a connection keeps from step to step in a phase.
 #[derive(Clone, Copy)]

@@ -1,16 +1,16 @@
 // What the initiator of a connection does next by REQ and ACK, each reaction exactly as defined.
 ghost use Rattle.std.specs.Prelude.{◌≡◌, ◌<◌, ◌^◌, ◌+◌};
 ghost use Rattle.bus_lines.specs.Handshakes.{first_of, is_struck};
-ghost use Rattle.bus_reactions.specs.Initiator.{ack_lines, received_byte_ack, rose_with_ack, ack_negation, attends_by, out_lines, initiator_byte, sent_byte_ack, initiator_turn, initiator_handshake, ack_pulse_end, oldest_req_time, next_ack_time, ack_pulse_time, received_byte_pulse, byte_hold_end, byte_time, pulsed_byte, sent_byte_pulse, byte_release, ack_pulse, initiator_pulse};
-ghost use Rattle.bus_reactions.specs.Ends.{bsy_release, owes_release, initiator_due};
+ghost use Rattle.reaction_model.specs.Initiator.{ack_lines, received_byte_ack, rose_with_ack, ack_negation, attends_by, out_lines, initiator_byte, sent_byte_ack, initiator_turn, initiator_handshake, ack_pulse_end, oldest_req_time, next_ack_time, ack_pulse_time, received_byte_pulse, byte_hold_end, byte_time, pulsed_byte, sent_byte_pulse, byte_release, ack_pulse, initiator_pulse};
+ghost use Rattle.reaction_model.specs.Ends.{bsy_release, owes_release, initiator_due};
 ghost use Rattle.handshake.specs.Bounds.{IsSeen, IsTimed, IsReady, IsSteady};
 
 use crate::situation::Situation;
 use crate::target::has_byte_if;
 use bus_base::Ns;
 use bus_lines::Handshakes;
-use bus_reactions::{Answering, Due, Myself, Pace, Sight, due_at};
 use bus_trace::{Lines, SET_UP_TIME, TWO_DESKEW, byte_lines, is_message_out};
+use reaction_model::{Answering, Due, Myself, Pace, Sight, due_at};
 
 // ---- it takes a byte (6.1.5.1)
 

@@ -1,6 +1,6 @@
 // What an end of a connection goes by.
 use bus_lines::Handshakes;
-use bus_reactions::{Myself, Pace, Sight};
+use reaction_model::{Myself, Pace, Sight};
 use std::marker::Model;
 
 /// What an end of a connection goes by in a phase: the lines, the account of REQ and ACK, itself, and how bytes cross.

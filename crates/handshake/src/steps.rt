@@ -5,7 +5,7 @@ ghost use Rattle.bus_trace.specs.declared.rows.Row.{Row};
 ghost use Rattle.bus_lines.specs.BusView.{IsBusViewOf};
 ghost use Rattle.bus_lines.specs.Timely.{IsTimely};
 ghost use Rattle.bus_trace.specs.Terms.{connection};
-ghost use Rattle.bus_reactions.specs.Sight.{sight};
+ghost use Rattle.reaction_model.specs.Sight.{sight};
 ghost use Rattle.handshake.specs.Bounds.{IsSeen, IsTimed, IsSteady};
 ghost use Rattle.handshake.specs.Steps as steps;
 
@@ -18,8 +18,8 @@ use crate::target::{last_hold_end, target_due_at};
 use bitflags::Flags;
 use bus_base::Ns;
 use bus_lines::{BusView, Handshakes};
-use bus_reactions::{Due, Pace, Sight, sight_of};
 use bus_trace::{Kind, Lines, rises};
+use reaction_model::{Due, Pace, Sight, sight_of};
 
 // ---- the next reaction
 

@@ -1,16 +1,16 @@
 // What the target of a connection does next by REQ and ACK, each reaction exactly as defined.
 ghost use Rattle.std.specs.Prelude.{◌≡◌, ◌<◌, ◌^◌, ◌+◌, ◌==◌};
-ghost use Rattle.bus_reactions.specs.Reactions.{due_at};
-ghost use Rattle.bus_reactions.specs.Target.{bits_if, has_io_turned, req_assertion, first_byte, first_req, req_negation, next_req, phase_end, target_turn, target_handshake, req_pulse_end, hold_end, byte_change, set_up_end, req_pulse, last_hold_end, pulsed_phase_end, pulse_turn, target_pulse};
-ghost use Rattle.bus_reactions.specs.Ends.{message_out_start, target_due};
+ghost use Rattle.reaction_model.specs.Reactions.{due_at};
+ghost use Rattle.reaction_model.specs.Target.{bits_if, has_io_turned, req_assertion, first_byte, first_req, req_negation, next_req, phase_end, target_turn, target_handshake, req_pulse_end, hold_end, byte_change, set_up_end, req_pulse, last_hold_end, pulsed_phase_end, pulse_turn, target_pulse};
+ghost use Rattle.reaction_model.specs.Ends.{message_out_start, target_due};
 ghost use Rattle.bus_trace.specs.Trace.{phase_time};
 ghost use Rattle.handshake.specs.Bounds.{IsSeen, IsTimed, IsReady, IsSteady};
 
 use crate::situation::Situation;
 use bus_base::Ns;
 use bus_lines::Handshakes;
-use bus_reactions::{Due, Myself, Offering, Pace, Sight, due_at};
 use bus_trace::{BUS_SETTLE_DELAY, Kind, Lines, SET_UP_TIME, TURN_DELAY, byte_lines};
+use reaction_model::{Due, Myself, Offering, Pace, Sight, due_at};
 
 // These lines with this byte in place of their data lines where one follows, else without data lines.
 fn with_byte_if(lines: Lines, follows: bool, byte: u8) -> Lines

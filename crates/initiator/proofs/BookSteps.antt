@@ -8,12 +8,12 @@ use Rattle.bus_base.specs.declared.Event.TheVariants as events
 use Rattle.scenario.specs.declared.value.CmdDef.{CmdDef}
 use Rattle.scenario.specs.declared.value.AbortDef.{AbortDef}
 use Rattle.scenario.specs.Value.{ScenarioValue}
-use Rattle.bus_story.specs.Items.{Sent, process, abort, command_item, sense_item, has_item, count_item, is_done}
-use Rattle.bus_story.specs.Items.{is_open, open_limit_of}
-use Rattle.bus_story.specs.Story.{Story, Ending, by_status, by_abort, by_reset, story_with_over, story_with_end}
-use Rattle.bus_story.specs.Story.{story_with_ends, is_aborted, is_sense_stopped, story_after_event}
-use Rattle.bus_story.proofs.StorySteps.{ends_checks}
-use Rattle.bus_due.specs.Wants.{own_command}
+use Rattle.story_model.specs.Items.{Sent, process, abort, command_item, sense_item, has_item, count_item, is_done}
+use Rattle.story_model.specs.Items.{is_open, open_limit_of}
+use Rattle.story_model.specs.Story.{Story, Ending, by_status, by_abort, by_reset, story_with_over, story_with_end}
+use Rattle.story_model.specs.Story.{story_with_ends, is_aborted, is_sense_stopped, story_after_event}
+use Rattle.story_model.proofs.StorySteps.{ends_checks}
+use Rattle.due_model.specs.Wants.{own_command}
 use Rattle.initiator.specs.declared.mine.Mine.{Mine}
 use Rattle.initiator.specs.declared.mine.MyAbort.{MyAbort}
 use Rattle.initiator.specs.Mines.{mine_of, mines_of, capped, my_abort, my_aborts, with_sent, with_over, with_one_try}

@@ -7,13 +7,13 @@ use Rattle.std.specs.List.{list_any}
 use Rattle.scenario.specs.declared.value.CmdDef.{CmdDef}
 use Rattle.scenario.specs.declared.value.AbortDef.{AbortDef}
 use Rattle.scenario.specs.Value.{ScenarioValue}
-use Rattle.disk_array.specs.Processes.{command_at}
-use Rattle.bus_story.specs.Items.{Item, abort, command_item, sense_item, Sent, is_done, is_of_host, is_clash}
-use Rattle.bus_story.specs.Items.{sense_from, or_else, open_limit_of}
-use Rattle.bus_reactions.specs.Reactions.{sooner_time, time_if}
-use Rattle.bus_due.specs.bus_dialogue.specs.Wants.{OwnCommand, open_in, may_follow, abort_by, command_by, item_by}
-use Rattle.bus_due.specs.bus_dialogue.specs.Wants.{abort_since, command_since}
-use Rattle.bus_due.specs.Wants.{own_command, own_commands, own_abort, own_aborts, book_of, item_want_time}
+use Rattle.array_model.specs.Processes.{command_at}
+use Rattle.story_model.specs.Items.{Item, abort, command_item, sense_item, Sent, is_done, is_of_host, is_clash}
+use Rattle.story_model.specs.Items.{sense_from, or_else, open_limit_of}
+use Rattle.reaction_model.specs.Reactions.{sooner_time, time_if}
+use Rattle.due_model.specs.dialogue_model.specs.Wants.{OwnCommand, open_in, may_follow, abort_by, command_by, item_by}
+use Rattle.due_model.specs.dialogue_model.specs.Wants.{abort_since, command_since}
+use Rattle.due_model.specs.Wants.{own_command, own_commands, own_abort, own_aborts, book_of, item_want_time}
 use Rattle.initiator.specs.declared.mine.Mine.{Mine}
 use Rattle.initiator.specs.declared.mine.OwnItem.{OwnItem}
 use Rattle.initiator.specs.Mines.{mine_of, mines_of, my_abort, my_aborts, open_mines, is_clash_of, may_follow_mines}

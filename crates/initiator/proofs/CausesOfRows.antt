@@ -15,20 +15,20 @@ use Rattle.bus_trace.specs.Changes.{rises, falls}
 use Rattle.scenario.specs.declared.value.CmdDef.{CmdDef}
 use Rattle.scenario.specs.declared.value.HostDef.{HostDef}
 use Rattle.scenario.specs.Value.{ScenarioValue}
-use Rattle.disk_array.specs.Processes.{command_at, same_bool}
-use Rattle.bus_story.specs.BusState.{RowReading, row_reading}
-use Rattle.bus_story.specs.Items.{Item, process, abort, command_item, sense_item, has_item, count_item, is_of_host}
-use Rattle.bus_story.specs.Items.{sense_id, command_id}
-use Rattle.bus_story.specs.Links.{link_of}
-use Rattle.bus_story.specs.Outcomes.{ending_of, has_end}
-use Rattle.bus_story.specs.Story.{Story, Ending, by_status, by_loss, by_abort, by_reset, unanswered, with_ending}
-use Rattle.bus_story.specs.Story.{is_aborted, story_after_events}
-use Rattle.bus_story.specs.TraceHistory.{aim_of, retries_of, story_with_aim, story_without_answer, story_with_try}
-use Rattle.bus_story.specs.TraceHistory.{story_after_calling, story_after_calling_by, story_on_free_bus}
-use Rattle.bus_story.specs.TraceHistory.{story_with_restored, story_with_sent, story_after_connection, story_on_bus}
-use Rattle.bus_story.specs.TraceHistory.{story_by_change}
-use Rattle.bus_due.specs.Plain.{AreOfDevices}
-use Rattle.bus_due.specs.RunSteps.{run_state, events_of_row}
+use Rattle.array_model.specs.Processes.{command_at, same_bool}
+use Rattle.story_model.specs.BusState.{RowReading, row_reading}
+use Rattle.story_model.specs.Items.{Item, process, abort, command_item, sense_item, has_item, count_item, is_of_host}
+use Rattle.story_model.specs.Items.{sense_id, command_id}
+use Rattle.story_model.specs.Links.{link_of}
+use Rattle.story_model.specs.Outcomes.{ending_of, has_end}
+use Rattle.story_model.specs.Story.{Story, Ending, by_status, by_loss, by_abort, by_reset, unanswered, with_ending}
+use Rattle.story_model.specs.Story.{is_aborted, story_after_events}
+use Rattle.story_model.specs.TraceHistory.{aim_of, retries_of, story_with_aim, story_without_answer, story_with_try}
+use Rattle.story_model.specs.TraceHistory.{story_after_calling, story_after_calling_by, story_on_free_bus}
+use Rattle.story_model.specs.TraceHistory.{story_with_restored, story_with_sent, story_after_connection, story_on_bus}
+use Rattle.story_model.specs.TraceHistory.{story_by_change}
+use Rattle.due_model.specs.Plain.{AreOfDevices}
+use Rattle.due_model.specs.RunSteps.{run_state, events_of_row}
 use Rattle.initiator.specs.Causes.{has_status, has_loss, has_bus_reset, has_command_abort, has_sense_stop}
 use Rattle.initiator.specs.Wishes.{IsItemIf, AreAims}
 use Rattle.initiator.proofs.CausesOfEvents.{has_cause_if, has_sense_cause, shown_causes, shown_stops, events_tries}

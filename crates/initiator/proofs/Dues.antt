@@ -6,34 +6,34 @@ use Rattle.bus_trace.specs.declared.connection.Connection.{Connection}
 use Rattle.bus_trace.specs.Trace.{bus, last_time}
 use Rattle.bus_trace.specs.Terms.{connection, receiver}
 use Rattle.bus_lines.specs.Handshakes.{handshakes}
-use Rattle.bus_reactions.specs.Sight.{sight}
-use Rattle.bus_due.specs.bus_dialogue.specs.Hearing.{begun}
+use Rattle.reaction_model.specs.Sight.{sight}
+use Rattle.due_model.specs.dialogue_model.specs.Hearing.{begun}
 use Rattle.scenario.specs.declared.value.FaultDef.{FaultDef}
 use Rattle.scenario.specs.declared.value.HostDef.{HostDef}
 use Rattle.scenario.specs.Value.{ScenarioValue}
-use Rattle.bus_story.specs.Samples.{latency_of, host_latency, target_latency}
-use Rattle.bus_reactions.specs.declared.due.Due.{Due}
-use Rattle.bus_reactions.specs.declared.due.Myself.{Myself}
-use Rattle.bus_reactions.specs.Linking.{link_due, sample_time}
-use Rattle.bus_reactions.specs.Reset.{with_reset}
-use Rattle.bus_reactions.specs.Ends as hand
-use Rattle.bus_due.specs.bus_dialogue.specs.Ends.{pace_by, answering_by}
-use Rattle.bus_due.specs.RunState.{RunState}
-use Rattle.bus_due.specs.RunSteps.{run_state}
-use Rattle.bus_due.specs.Sights.{identify_byte, want_of}
-use Rattle.bus_due.specs.Wants.{ready_time, initiator_if, ready_of, target_of, item_want_time}
-use Rattle.bus_story.specs.TraceHistory.{aim_of}
-use Rattle.bus_due.specs.Due.{self_of, due_if, stage_due, link_due_of, reset_from, AreOthersStill}
-use Rattle.bus_due.specs.Next.{due}
-use Rattle.bus_due.specs.Plain.{IsPlain, AreOfDevices}
-use Rattle.bus_due.specs.PlainDue.{IsThere, IsLinked, under_reset, initiator_reaction}
-use Rattle.bus_reactions.specs.declared.ends.Answering.{Answering}
-use Rattle.bus_reactions.specs.declared.ends.Pace.{Pace}
-use Rattle.bus_due.specs.Sights.{sending_of}
+use Rattle.story_model.specs.Samples.{latency_of, host_latency, target_latency}
+use Rattle.reaction_model.specs.declared.due.Due.{Due}
+use Rattle.reaction_model.specs.declared.due.Myself.{Myself}
+use Rattle.reaction_model.specs.Linking.{link_due, sample_time}
+use Rattle.reaction_model.specs.Reset.{with_reset}
+use Rattle.reaction_model.specs.Ends as hand
+use Rattle.due_model.specs.dialogue_model.specs.Ends.{pace_by, answering_by}
+use Rattle.due_model.specs.RunState.{RunState}
+use Rattle.due_model.specs.RunSteps.{run_state}
+use Rattle.due_model.specs.Sights.{identify_byte, want_of}
+use Rattle.due_model.specs.Wants.{ready_time, initiator_if, ready_of, target_of, item_want_time}
+use Rattle.story_model.specs.TraceHistory.{aim_of}
+use Rattle.due_model.specs.Due.{self_of, due_if, stage_due, link_due_of, reset_from, AreOthersStill}
+use Rattle.due_model.specs.Next.{due}
+use Rattle.due_model.specs.Plain.{IsPlain, AreOfDevices}
+use Rattle.due_model.specs.PlainDue.{IsThere, IsLinked, under_reset, initiator_reaction}
+use Rattle.reaction_model.specs.declared.ends.Answering.{Answering}
+use Rattle.reaction_model.specs.declared.ends.Pace.{Pace}
+use Rattle.due_model.specs.Sights.{sending_of}
 use Rattle.scsi_device.specs.Told.{told, pace_of, first_fault, flip_by, AreFlips}
 use Rattle.initiator.specs.States.{InitiatorState, IsOwnConnection, IsInitiatorOf, IsHostOf, IsNoTarget}
 use Rattle.initiator.specs.Dues.{answering_of_host, myself_by, want_by, link_by, hand_by, calm_by, initiator_next}
-use Rattle.bus_due.specs.bus_rules.specs.Order.{is_of_device}
+use Rattle.due_model.specs.bus_rules.specs.Order.{is_of_device}
 
 -- ---- the scenario
 

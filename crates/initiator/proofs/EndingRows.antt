@@ -14,18 +14,18 @@ use Rattle.bus_trace.specs.declared.selection.Call.{Call}
 use Rattle.bus_trace.specs.Terms.{connection}
 use Rattle.scenario.specs.declared.value.CmdDef.{CmdDef}
 use Rattle.scenario.specs.Value.{ScenarioValue}
-use Rattle.disk_array.specs.Processes.{command_at, same_bool}
-use Rattle.bus_story.specs.BusState.{RowReading, row_reading}
-use Rattle.bus_story.specs.Items.{Item, process, command_item, has_item, Sent, is_of_host, sense_id}
-use Rattle.bus_story.specs.Outcomes.{ending_of, has_end, is_end_of}
-use Rattle.bus_story.specs.Story as told
-use Rattle.bus_story.specs.Story.{Story, by_status, by_loss, by_abort, by_reset, unanswered, is_aborted}
-use Rattle.bus_story.specs.Story.{story_after_event, story_after_events}
-use Rattle.bus_story.specs.TraceHistory.{aim_of, story_by_change}
-use Rattle.bus_story.proofs.StorySteps.{events_sent}
-use Rattle.bus_due.specs.Plain.{IsPlain, AreOfDevices}
-use Rattle.bus_due.specs.RunSteps.{run_state, events_of_row}
-use Rattle.bus_due.specs.Wants.{own_command, own_commands}
+use Rattle.array_model.specs.Processes.{command_at, same_bool}
+use Rattle.story_model.specs.BusState.{RowReading, row_reading}
+use Rattle.story_model.specs.Items.{Item, process, command_item, has_item, Sent, is_of_host, sense_id}
+use Rattle.story_model.specs.Outcomes.{ending_of, has_end, is_end_of}
+use Rattle.story_model.specs.Story as told
+use Rattle.story_model.specs.Story.{Story, by_status, by_loss, by_abort, by_reset, unanswered, is_aborted}
+use Rattle.story_model.specs.Story.{story_after_event, story_after_events}
+use Rattle.story_model.specs.TraceHistory.{aim_of, story_by_change}
+use Rattle.story_model.proofs.StorySteps.{events_sent}
+use Rattle.due_model.specs.Plain.{IsPlain, AreOfDevices}
+use Rattle.due_model.specs.RunSteps.{run_state, events_of_row}
+use Rattle.due_model.specs.Wants.{own_command, own_commands}
 use Rattle.initiator.specs.declared.endings.CommandEnd.{CommandEnd}
 use Rattle.initiator.specs.declared.endings.Ending.{Ending}
 use Rattle.initiator.specs.declared.endings.Ending.TheVariants as ends
@@ -47,7 +47,7 @@ use Rattle.initiator.proofs.Wishes.{IsCaller}
 use Rattle.initiator.proofs.WishRows.{aims_are, callers_are}
 use Rattle.initiator.proofs.HeldSteps.{in_range}
 use Rattle.initiator.proofs.Mines.{mines_from}
-use Rattle.bus_due.specs.bus_dialogue.specs.Events.{is_empty}
+use Rattle.due_model.specs.dialogue_model.specs.Events.{is_empty}
 
 -- ---- look-ups
 

@@ -11,7 +11,7 @@ use Rattle.bus_trace.specs.Changes.{rises, falls, change_of}
 use Rattle.bus_trace.specs.Terms.{other_id, is_other_id, drives_two_ids, new_calling, caller_goes_on, called_goes_on}
 use Rattle.bus_trace.specs.Terms.{calling_after, call, call_goes_on, connected_by, connected_of, connection_of}
 use Rattle.bus_trace.specs.Terms.{connection_after, connection}
-use Rattle.bus_due.specs.Plain.{AreOfDevices}
+use Rattle.due_model.specs.Plain.{AreOfDevices}
 use Rattle.initiator.proofs.Wishes.{IsCaller, HasInitiator}
 use Rattle.initiator.proofs.WishRows.{callers_are}
 

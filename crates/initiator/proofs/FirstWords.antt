@@ -9,12 +9,12 @@ use Rattle.scenario.specs.declared.value.CmdDef.{CmdDef}
 use Rattle.scenario.specs.declared.value.AbortDef.{AbortDef}
 use Rattle.scenario.specs.declared.value.HostDef.{HostDef}
 use Rattle.scenario.specs.Value.{ScenarioValue}
-use Rattle.disk_array.specs.Processes.{command_at, process_if}
-use Rattle.bus_story.specs.HistoryEvents.{abort_line_at}
-use Rattle.bus_story.specs.Items.{Sent, is_of_host}
-use Rattle.bus_due.specs.bus_dialogue.specs.Words.{process_opening, abort_opening, abort_bytes}
-use Rattle.bus_due.specs.Defs.{opening, host_of}
-use Rattle.bus_due.specs.Wants.{own_command, own_commands}
+use Rattle.array_model.specs.Processes.{command_at, process_if}
+use Rattle.story_model.specs.HistoryEvents.{abort_line_at}
+use Rattle.story_model.specs.Items.{Sent, is_of_host}
+use Rattle.due_model.specs.dialogue_model.specs.Words.{process_opening, abort_opening, abort_bytes}
+use Rattle.due_model.specs.Defs.{opening, host_of}
+use Rattle.due_model.specs.Wants.{own_command, own_commands}
 use Rattle.scsi_device.specs.Lines.{AreUnits}
 use Rattle.initiator.specs.declared.mine.OwnItem.{OwnItem}
 use Rattle.initiator.specs.declared.mine.OwnItem.TheVariants as own

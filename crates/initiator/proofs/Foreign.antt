@@ -7,11 +7,12 @@ use Rattle.std.proofs.lemmas.Bool.Decides.{nat_tests}
 use Rattle.scenario.specs.declared.value.CmdDef.{CmdDef}
 use Rattle.scenario.specs.declared.value.AbortDef.{AbortDef}
 use Rattle.scenario.specs.Value.{ScenarioValue}
-use Rattle.disk_array.specs.Processes.{command_at, process_if}
-use Rattle.bus_story.specs.HistoryEvents.{abort_line_at}
-use Rattle.bus_story.specs.Items.{Item, process, abort, command_item, sense_item, Sent, is_done, is_of_host, abort_from}
-use Rattle.bus_story.specs.Items.{sense_from, command_from, open_from, may_send, or_else, item_at, count_item}
-use Rattle.bus_due.specs.Wants.{own_command, own_commands, target_if, abort_target, target_of}
+use Rattle.array_model.specs.Processes.{command_at, process_if}
+use Rattle.story_model.specs.HistoryEvents.{abort_line_at}
+use Rattle.story_model.specs.Items.{Item, process, abort, command_item, sense_item, Sent, is_done, is_of_host}
+use Rattle.story_model.specs.Items.{abort_from}
+use Rattle.story_model.specs.Items.{sense_from, command_from, open_from, may_send, or_else, item_at, count_item}
+use Rattle.due_model.specs.Wants.{own_command, own_commands, target_if, abort_target, target_of}
 use Rattle.initiator.specs.declared.mine.Mine.{Mine}
 use Rattle.initiator.specs.declared.mine.MyAbort.{MyAbort}
 use Rattle.initiator.specs.Mines.{capped, mine_of, mines_of, my_abort, my_aborts, with_sent, with_over, with_one_try}

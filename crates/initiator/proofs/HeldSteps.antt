@@ -12,11 +12,11 @@ use Rattle.msg_grammar.specs.declared.message.MsgIn.{MsgIn}
 use Rattle.msg_grammar.specs.declared.message.MsgIn.TheVariants as to_initiator
 use Rattle.cdb_codec.specs.declared.sense.TheConstants.{PARITY_ERROR, INITIATOR_DETECTED_ERROR}
 use Rattle.scenario.specs.Value.{ScenarioValue}
-use Rattle.disk_array.specs.Processes.{command_at, same_bool, same_id}
-use Rattle.bus_story.specs.Items.{is_of_host}
-use Rattle.bus_story.specs.CarriedBytes.{CarriedBytes, nothing_carried, bytes_with, area_with, with_restored_pointers}
-use Rattle.bus_story.specs.CarriedBytes.{carried_after_message, carried_after_byte, carried_after_fault}
-use Rattle.bus_story.specs.CarriedBytes.{is_status_phase, with_carried, carried_of}
+use Rattle.array_model.specs.Processes.{command_at, same_bool, same_id}
+use Rattle.story_model.specs.Items.{is_of_host}
+use Rattle.story_model.specs.CarriedBytes.{CarriedBytes, nothing_carried, bytes_with, area_with, with_restored_pointers}
+use Rattle.story_model.specs.CarriedBytes.{carried_after_message, carried_after_byte, carried_after_fault}
+use Rattle.story_model.specs.CarriedBytes.{is_status_phase, with_carried, carried_of}
 use Rattle.io_pointers.specs.declared.pointers.Area.TheVariants as areas
 use Rattle.io_pointers.specs.declared.pointers.Place.{Place}
 use Rattle.io_pointers.specs.declared.pointers.Pointers.{Pointers}
@@ -26,8 +26,8 @@ use Rattle.initiator.specs.declared.held.HeldPair.{HeldPair}
 use Rattle.initiator.specs.HeldPointers.{capped_place, IsHeldOf, nothing_held, held_restored, held_after_message}
 use Rattle.initiator.specs.HeldPointers.{advanced_within, status_after, held_after_byte, no_pair, half_of, with_half}
 use Rattle.initiator.specs.HeldPointers.{held_at, with_held, AreHeldOf}
-use Rattle.bus_story.proofs.CarriedLists.{carried_with}
-use Rattle.disk_array.proofs.SeatLookups.{same_id_is}
+use Rattle.story_model.proofs.CarriedLists.{carried_with}
+use Rattle.array_model.proofs.SeatLookups.{same_id_is}
 use Rattle.scenario.specs.declared.value.CmdDef.{CmdDef}
 
 -- ---- a pointer goes on by one byte

@@ -8,22 +8,22 @@ use Rattle.bus_trace.specs.declared.Row.{Row}
 use Rattle.bus_trace.specs.declared.connection.Connection.{Connection}
 use Rattle.bus_trace.specs.Terms.{connection}
 use Rattle.scenario.specs.Value.{ScenarioValue}
-use Rattle.bus_story.specs.Links.{Link}
-use Rattle.bus_story.specs.TraceHistory.{aim_of, retries_of}
+use Rattle.story_model.specs.Links.{Link}
+use Rattle.story_model.specs.TraceHistory.{aim_of, retries_of}
 use Rattle.scenario.specs.declared.value.HostDef.{HostDef}
 use Rattle.scsi_device.specs.Lines.{IsHostLine}
 use Rattle.initiator.specs.Intents.{IntentValue, IsInitiator, IsIntentOf}
-use Rattle.bus_due.specs.Defs.{opening}
-use Rattle.bus_due.specs.LastingState.{has_negotiated}
-use Rattle.bus_due.specs.RunState.{RunState, item_of}
-use Rattle.bus_due.specs.RunSteps.{run_state, is_for_process, may_negotiate}
-use Rattle.bus_due.specs.Sights.{sending_of}
-use Rattle.bus_due.specs.Telling.{id_of}
+use Rattle.due_model.specs.Defs.{opening}
+use Rattle.due_model.specs.LastingState.{has_negotiated}
+use Rattle.due_model.specs.RunState.{RunState, item_of}
+use Rattle.due_model.specs.RunSteps.{run_state, is_for_process, may_negotiate}
+use Rattle.due_model.specs.Sights.{sending_of}
+use Rattle.due_model.specs.Telling.{id_of}
 use Rattle.scenario.specs.declared.value.CmdDef.{CmdDef}
-use Rattle.disk_array.specs.Processes.{command_at}
-use Rattle.disk_array.specs.Seats.{is_initiator as is_host}
-use Rattle.bus_due.specs.bus_dialogue.specs.Sending.{byte_to_send}
-use Rattle.bus_due.specs.Plain.{AreOfDevices, IsPlain}
+use Rattle.array_model.specs.Processes.{command_at}
+use Rattle.array_model.specs.Seats.{is_initiator as is_host}
+use Rattle.due_model.specs.dialogue_model.specs.Sending.{byte_to_send}
+use Rattle.due_model.specs.Plain.{AreOfDevices, IsPlain}
 use Rattle.scsi_device.specs.Lines.{IsCommandLine}
 use Rattle.initiator.specs.Hosts.{HostValue, IsHostAfter, HasHeard}
 use Rattle.scsi_device.specs.Itself.{ItselfValue, IsItselfOf}

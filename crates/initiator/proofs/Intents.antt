@@ -12,14 +12,14 @@ use Rattle.bus_trace.specs.Terms.{call, call_after, connection}
 use Rattle.bus_lines.specs.declared.effect.RowEffect.{RowEffect}
 use Rattle.bus_lines.specs.Effect.{effect}
 use Rattle.scenario.specs.Value.{ScenarioValue}
-use Rattle.bus_story.specs.BusState.{row_reading}
-use Rattle.bus_story.specs.TraceHistory.{aim_of, retries_of}
-use Rattle.bus_due.specs.bus_dialogue.specs.Hearing.{hearing}
-use Rattle.bus_due.specs.RunSteps.{run_state, events_of_row}
-use Rattle.bus_due.specs.Sights.{hearing_of}
-use Rattle.bus_due.specs.Plain.{IsPlain, AreOfDevices}
-use Rattle.bus_due.specs.Wants.{item_want_time, target_of}
-use Rattle.bus_story.specs.Items.{Item}
+use Rattle.story_model.specs.BusState.{row_reading}
+use Rattle.story_model.specs.TraceHistory.{aim_of, retries_of}
+use Rattle.due_model.specs.dialogue_model.specs.Hearing.{hearing}
+use Rattle.due_model.specs.RunSteps.{run_state, events_of_row}
+use Rattle.due_model.specs.Sights.{hearing_of}
+use Rattle.due_model.specs.Plain.{IsPlain, AreOfDevices}
+use Rattle.due_model.specs.Wants.{item_want_time, target_of}
+use Rattle.story_model.specs.Items.{Item}
 use Rattle.initiator.specs.Books.{BookValue, my_book, my_since}
 use Rattle.initiator.specs.Wishes.{Wish, IsWishOf, is_entry, is_call_in_vain, book_after_try, wish_with_entry}
 use Rattle.initiator.specs.Wishes.{wish_on_bus, wish_after, IsItemIf, target_by}

@@ -10,7 +10,7 @@ use Rattle.std.proofs.lemmas.List.{take-append-drop, get_or-set_same, get_or-set
 use Rattle.std.proofs.lemmas.List.Edits.{split_between}
 use Rattle.bus_base.specs.declared.Event.{Event}
 use Rattle.scenario.specs.declared.value.CmdDef.{CmdDef}
-use Rattle.bus_due.specs.Wants.{own_command, own_commands}
+use Rattle.due_model.specs.Wants.{own_command, own_commands}
 use Rattle.initiator.specs.declared.mine.Mine.{Mine}
 use Rattle.initiator.specs.Commands.{is_past, is_fresh, all_past, all_fresh, are_placed, are_rising, concerns_many}
 use Rattle.initiator.specs.Commands.{IsPlaceOf, AreKept}

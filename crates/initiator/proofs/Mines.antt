@@ -10,10 +10,10 @@ use Rattle.bus_base.specs.declared.Event.{Event}
 use Rattle.bus_base.specs.declared.Event.TheVariants as events
 use Rattle.scenario.specs.declared.value.CmdDef.{CmdDef}
 use Rattle.scenario.specs.Value.{ScenarioValue}
-use Rattle.bus_story.specs.Items.{Sent, process, command_item, sense_item, has_item, count_item, is_open}
-use Rattle.bus_story.specs.Story.{Story, Ending, by_status, by_abort, by_reset, story_with_over, story_with_end}
-use Rattle.bus_story.specs.Story.{story_with_ends, is_aborted, is_sense_stopped, story_after_event, story_with_end_if}
-use Rattle.bus_due.specs.Wants.{own_command, own_commands}
+use Rattle.story_model.specs.Items.{Sent, process, command_item, sense_item, has_item, count_item, is_open}
+use Rattle.story_model.specs.Story.{Story, Ending, by_status, by_abort, by_reset, story_with_over, story_with_end}
+use Rattle.story_model.specs.Story.{story_with_ends, is_aborted, is_sense_stopped, story_after_event, story_with_end_if}
+use Rattle.due_model.specs.Wants.{own_command, own_commands}
 use Rattle.initiator.specs.declared.mine.Mine.{Mine}
 use Rattle.initiator.specs.Mines.{capped, mine_of, mines_of, with_sent, with_over, with_one_try, with_checked}
 use Rattle.initiator.specs.Mines.{with_status, is_check, sent_at, over_at, tried_at, mine_with_end, is_mine_aborted}

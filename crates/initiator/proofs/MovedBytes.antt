@@ -20,34 +20,34 @@ use Rattle.msg_grammar.specs.declared.message.MsgOut.{MsgOut}
 use Rattle.msg_grammar.specs.declared.message.MsgIn.{MsgIn}
 use Rattle.msg_grammar.specs.declared.message.MsgIn.TheVariants as to_initiator
 use Rattle.scenario.specs.Value.{ScenarioValue}
-use Rattle.disk_array.specs.Processes.{same_id}
+use Rattle.array_model.specs.Processes.{same_id}
 use Rattle.bus_phases.specs.declared.dialogue.Dialogue.{Dialogue}
-use Rattle.bus_story.specs.BusState.{RowReading, row_reading, change_by, message_out, message_in, whole_out, whole_in}
+use Rattle.story_model.specs.BusState.{RowReading, row_reading, change_by, message_out, message_in, whole_out, whole_in}
 use Rattle.msg_grammar.specs.Messages.{got_out, got_in}
 use Rattle.bus_phases.specs.Dialogue.{fresh_bytes}
-use Rattle.bus_story.specs.CarriedBytes.{Area, CarriedBytes, bytes_with, area_with, carried_of, with_carried}
-use Rattle.bus_story.specs.CarriedBytes.{with_restored_pointers, carried_after_message, carried_after_fault}
-use Rattle.bus_story.specs.HistoryEvents.{carried_if}
-use Rattle.bus_story.specs.Items.{Item, process, abort}
-use Rattle.bus_story.specs.Links.{Link, link_of, last_out, last_in, link_after_name}
-use Rattle.bus_story.specs.Story.{Story, by_status, by_abort, by_reset, story_with_end, is_aborted, is_sense_stopped}
-use Rattle.bus_story.specs.Story.{marked_refused, marked_shown, story_after_event, story_after_events}
-use Rattle.bus_story.specs.TraceHistory.{aim_of, story_with_restored, story_with_sent, story_after_connection}
-use Rattle.bus_story.specs.TraceHistory.{story_with_carried, story_after_out, story_after_message, story_after_name}
-use Rattle.bus_story.specs.TraceHistory.{story_after_in, story_after_byte, story_after_crossing, story_after_fault}
-use Rattle.bus_story.specs.TraceHistory.{story_in_connection, story_on_bus, story_by_change, is_parity_error}
-use Rattle.bus_story.specs.TraceHistory.{carried_after_message_if, carried_after_byte_if, carried_after_fault_if}
-use Rattle.bus_due.specs.RunState.{item_of}
-use Rattle.bus_due.specs.RunSteps.{run_state, events_of_row}
-use Rattle.bus_due.specs.Telling.{id_of}
+use Rattle.story_model.specs.CarriedBytes.{Area, CarriedBytes, bytes_with, area_with, carried_of, with_carried}
+use Rattle.story_model.specs.CarriedBytes.{with_restored_pointers, carried_after_message, carried_after_fault}
+use Rattle.story_model.specs.HistoryEvents.{carried_if}
+use Rattle.story_model.specs.Items.{Item, process, abort}
+use Rattle.story_model.specs.Links.{Link, link_of, last_out, last_in, link_after_name}
+use Rattle.story_model.specs.Story.{Story, by_status, by_abort, by_reset, story_with_end, is_aborted, is_sense_stopped}
+use Rattle.story_model.specs.Story.{marked_refused, marked_shown, story_after_event, story_after_events}
+use Rattle.story_model.specs.TraceHistory.{aim_of, story_with_restored, story_with_sent, story_after_connection}
+use Rattle.story_model.specs.TraceHistory.{story_with_carried, story_after_out, story_after_message, story_after_name}
+use Rattle.story_model.specs.TraceHistory.{story_after_in, story_after_byte, story_after_crossing, story_after_fault}
+use Rattle.story_model.specs.TraceHistory.{story_in_connection, story_on_bus, story_by_change, is_parity_error}
+use Rattle.story_model.specs.TraceHistory.{carried_after_message_if, carried_after_byte_if, carried_after_fault_if}
+use Rattle.due_model.specs.RunState.{item_of}
+use Rattle.due_model.specs.RunSteps.{run_state, events_of_row}
+use Rattle.due_model.specs.Telling.{id_of}
 use Rattle.initiator.specs.Received.{undone_by, has_bytes_of}
-use Rattle.bus_story.proofs.CarriedLists.{carried_id, carried_with}
+use Rattle.story_model.proofs.CarriedLists.{carried_id, carried_with}
 use Rattle.initiator.proofs.OwnedLinks.{begun_link, name_link}
 use Rattle.bus_base.proofs.Tests.{length_more}
-use Rattle.bus_story.proofs.StorySteps.{byte_link, out_link, events_link, sent_carried, free_carried, message_id}
-use Rattle.bus_story.proofs.StorySteps.{free_link, fault_link, ends_carried}
-use Rattle.bus_story.proofs.SameBytes.{bytes_are}
-use Rattle.disk_array.proofs.SeatLookups.{same_id_is}
+use Rattle.story_model.proofs.StorySteps.{byte_link, out_link, events_link, sent_carried, free_carried, message_id}
+use Rattle.story_model.proofs.StorySteps.{free_link, fault_link, ends_carried}
+use Rattle.story_model.proofs.SameBytes.{bytes_are}
+use Rattle.array_model.proofs.SeatLookups.{same_id_is}
 
 -- ---- no pointer stands past the bytes
 

@@ -13,18 +13,18 @@ use Rattle.bus_trace.specs.declared.Row.{Row}
 use Rattle.bus_trace.specs.declared.connection.Connection.{Connection}
 use Rattle.scenario.specs.Value.{ScenarioValue}
 use Rattle.bus_trace.specs.Terms.{connection}
-use Rattle.bus_story.specs.BusState.{RowReading, row_reading}
-use Rattle.bus_story.specs.TraceHistory.{aim_of}
-use Rattle.bus_due.specs.Plain.{IsPlain}
-use Rattle.bus_due.specs.RunState.{RunState}
-use Rattle.bus_due.specs.RunSteps.{run_state, is_for_process, negotiated_by_connection, events_of_row}
-use Rattle.bus_due.specs.LastingState.{Negotiated, none_negotiated, has_negotiated, with_negotiated, pairs_without}
-use Rattle.bus_due.specs.LastingState.{negotiated_after_event, negotiated_after}
+use Rattle.story_model.specs.BusState.{RowReading, row_reading}
+use Rattle.story_model.specs.TraceHistory.{aim_of}
+use Rattle.due_model.specs.Plain.{IsPlain}
+use Rattle.due_model.specs.RunState.{RunState}
+use Rattle.due_model.specs.RunSteps.{run_state, is_for_process, negotiated_by_connection, events_of_row}
+use Rattle.due_model.specs.LastingState.{Negotiated, none_negotiated, has_negotiated, with_negotiated, pairs_without}
+use Rattle.due_model.specs.LastingState.{negotiated_after_event, negotiated_after}
 use Rattle.initiator.specs.Negotiations.{NegotiationsValue, no_negotiations, had_in, had_by_connection, had_after_abort}
 use Rattle.initiator.specs.Negotiations.{had_after_event, had_after_events, negotiations_after, HasHad}
 use Rattle.initiator.specs.Negotiations.{IsNegotiationsOf, aims_at_process}
 use Rattle.bus_base.proofs.Tests.{put_at}
-use Rattle.bus_due.proofs.NegotiatedPairs.{with_pair, pairs_gone}
+use Rattle.due_model.proofs.NegotiatedPairs.{with_pair, pairs_gone}
 
 -- ---- what is kept of all pairs, and what this initiator keeps
 

@@ -3,12 +3,12 @@ use Rattle.std.proofs.Common.{ℕ, ◌≡◌, Bool, true, false, List, ◌∙◌
 use Rattle.std.specs.Prelude.{if◌then◌else◌, not, ◌||◌, ◌==◌}
 use Rattle.cdb_codec.specs.declared.status.TheConstants.{GOOD, QUEUE_FULL}
 use Rattle.scenario.specs.Value.{ScenarioValue}
-use Rattle.bus_story.specs.Outcomes as told
-use Rattle.bus_story.specs.Outcomes.{ended_good, ended_check, ended_full, sense_in, has_end, reply_bytes, outcome_if}
-use Rattle.bus_story.specs.Outcomes.{ending_of}
-use Rattle.bus_story.specs.Story.{Story}
-use Rattle.bus_story.specs.Items.{sense_id, command_id}
-use Rattle.bus_story.proofs.SameBytes.{bytes_are}
+use Rattle.story_model.specs.Outcomes as told
+use Rattle.story_model.specs.Outcomes.{ended_good, ended_check, ended_full, sense_in, has_end, reply_bytes, outcome_if}
+use Rattle.story_model.specs.Outcomes.{ending_of}
+use Rattle.story_model.specs.Story.{Story}
+use Rattle.story_model.specs.Items.{sense_id, command_id}
+use Rattle.story_model.proofs.SameBytes.{bytes_are}
 use Rattle.initiator.specs.declared.endings.CommandEnd.{CommandEnd}
 use Rattle.initiator.specs.declared.endings.Ending.{Ending}
 use Rattle.initiator.specs.declared.endings.Ending.TheVariants as ends

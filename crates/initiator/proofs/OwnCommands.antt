@@ -7,7 +7,7 @@ use Rattle.std.proofs.lemmas.Bool.{and_parts, ltb-true, eqb-true, eqb-false, eq-
 use Rattle.bus_base.specs.declared.Event.{Event}
 use Rattle.bus_base.specs.declared.Event.TheVariants as events
 use Rattle.bus_base.specs.declared.ProcId.{ProcId}
-use Rattle.bus_reactions.specs.Reactions.{time_if}
+use Rattle.reaction_model.specs.Reactions.{time_if}
 use Rattle.initiator.specs.declared.mine.Mine.{Mine}
 use Rattle.initiator.specs.declared.mine.OwnItem.TheVariants as own
 use Rattle.initiator.specs.Books.{has_number, is_sense_due}
@@ -20,7 +20,7 @@ use Rattle.initiator.specs.Openings.{mine_at}
 use Rattle.initiator.specs.OwnLinks.{is_open_sense_of, named_in}
 use Rattle.initiator.specs.Wishes.{tries_in, target_in}
 use Rattle.bus_base.proofs.Tests.{and_false, none_between}
-use Rattle.disk_array.specs.Order.{same_number, tag_number}
+use Rattle.array_model.specs.Order.{same_number, tag_number}
 
 -- ---- where each stands
 

@@ -18,28 +18,29 @@ use Rattle.msg_grammar.specs.declared.message.MsgIn.TheVariants as to_initiator
 use Rattle.cdb_codec.specs.declared.status.TheConstants.{CHECK_CONDITION}
 use Rattle.scenario.specs.declared.value.CmdDef.{CmdDef}
 use Rattle.scenario.specs.Value.{ScenarioValue}
-use Rattle.disk_array.specs.Processes.{command_at}
-use Rattle.disk_array.specs.Order.{same_number, tag_number}
-use Rattle.bus_story.specs.BusState.{RowReading, row_reading}
-use Rattle.bus_story.specs.Items.{Item, process, abort, Sent, command_item, sense_item, is_open, is_of_host}
-use Rattle.bus_story.specs.Links.{Link, link_of, last_out, last_in, is_open_sense, named_item_from, link_after_name}
-use Rattle.bus_story.specs.CarriedBytes.{CarriedBytes}
-use Rattle.bus_story.specs.Story.{Story, Ending, by_abort, by_reset, by_status, story_with_end, story_with_over}
-use Rattle.bus_story.specs.Story.{story_with_ends, is_aborted, is_sense_stopped, story_after_event, story_after_events}
-use Rattle.bus_story.specs.HistoryEvents.{carried_if}
-use Rattle.bus_story.specs.TraceHistory.{aim_of, is_parity_error, carried_after_message_if, carried_after_byte_if}
-use Rattle.bus_story.specs.TraceHistory.{story_with_restored, story_with_sent, story_after_connection}
-use Rattle.bus_story.specs.TraceHistory.{story_with_carried, story_after_out, story_after_message, story_after_name}
-use Rattle.bus_story.specs.TraceHistory.{story_after_in, story_after_byte, story_after_fault, story_after_crossing}
-use Rattle.bus_story.specs.TraceHistory.{story_in_connection, story_on_bus, story_by_change}
-use Rattle.bus_due.specs.RunSteps.{run_state, events_of_row}
-use Rattle.bus_due.specs.Plain.{AreOfDevices}
+use Rattle.array_model.specs.Processes.{command_at}
+use Rattle.array_model.specs.Order.{same_number, tag_number}
+use Rattle.story_model.specs.BusState.{RowReading, row_reading}
+use Rattle.story_model.specs.Items.{Item, process, abort, Sent, command_item, sense_item, is_open, is_of_host}
+use Rattle.story_model.specs.Links.{Link, link_of, last_out, last_in, is_open_sense, named_item_from, link_after_name}
+use Rattle.story_model.specs.CarriedBytes.{CarriedBytes}
+use Rattle.story_model.specs.Story.{Story, Ending, by_abort, by_reset, by_status, story_with_end, story_with_over}
+use Rattle.story_model.specs.Story.{story_with_ends, is_aborted, is_sense_stopped, story_after_event}
+use Rattle.story_model.specs.Story.{story_after_events}
+use Rattle.story_model.specs.HistoryEvents.{carried_if}
+use Rattle.story_model.specs.TraceHistory.{aim_of, is_parity_error, carried_after_message_if, carried_after_byte_if}
+use Rattle.story_model.specs.TraceHistory.{story_with_restored, story_with_sent, story_after_connection}
+use Rattle.story_model.specs.TraceHistory.{story_with_carried, story_after_out, story_after_message, story_after_name}
+use Rattle.story_model.specs.TraceHistory.{story_after_in, story_after_byte, story_after_fault, story_after_crossing}
+use Rattle.story_model.specs.TraceHistory.{story_in_connection, story_on_bus, story_by_change}
+use Rattle.due_model.specs.RunSteps.{run_state, events_of_row}
+use Rattle.due_model.specs.Plain.{AreOfDevices}
 use Rattle.initiator.specs.Wishes.{IsItemIf, AreAims}
-use Rattle.bus_story.proofs.CarriedLists.{carried_id}
+use Rattle.story_model.proofs.CarriedLists.{carried_id}
 use Rattle.initiator.proofs.WishRows.{aims_are}
 use Rattle.initiator.proofs.Mines.{step}
-use Rattle.bus_story.proofs.StorySteps.{restored_link, sent_link, byte_link, out_link, events_link, carried_link}
-use Rattle.bus_story.proofs.StorySteps.{event_link, fault_link}
+use Rattle.story_model.proofs.StorySteps.{restored_link, sent_link, byte_link, out_link, events_link, carried_link}
+use Rattle.story_model.proofs.StorySteps.{event_link, fault_link}
 
 -- ---- what each device last entered arbitration for, whatever its number
 

@@ -4,15 +4,15 @@ use Rattle.bus_trace.specs.declared.Row.{Row}
 use Rattle.bus_trace.specs.declared.connection.Connection.{Connection}
 use Rattle.scenario.specs.declared.value.HostDef.{HostDef}
 use Rattle.scenario.specs.Value.{ScenarioValue}
-use Rattle.bus_story.specs.TraceHistory.{aim_of}
-use Rattle.bus_due.specs.bus_dialogue.specs.Exchange.{Speech}
-use Rattle.bus_due.specs.bus_dialogue.specs.Sending.{Sending}
-use Rattle.bus_due.specs.Own.{own_of}
-use Rattle.bus_due.specs.Due.{reset_from}
-use Rattle.bus_due.specs.Wants.{item_want_time, target_of}
-use Rattle.bus_due.specs.Sights.{sending_of}
-use Rattle.bus_due.specs.RunSteps.{run_state}
-use Rattle.bus_due.specs.Plain.{AreOfDevices}
+use Rattle.story_model.specs.TraceHistory.{aim_of}
+use Rattle.due_model.specs.dialogue_model.specs.Exchange.{Speech}
+use Rattle.due_model.specs.dialogue_model.specs.Sending.{Sending}
+use Rattle.due_model.specs.Own.{own_of}
+use Rattle.due_model.specs.Due.{reset_from}
+use Rattle.due_model.specs.Wants.{item_want_time, target_of}
+use Rattle.due_model.specs.Sights.{sending_of}
+use Rattle.due_model.specs.RunSteps.{run_state}
+use Rattle.due_model.specs.Plain.{AreOfDevices}
 use Rattle.initiator.specs.States.{AreSameBytes, IsOwnConnection, IsInitiatorOf, state_by}
 use Rattle.scsi_device.specs.Itself.{ItselfValue, IsItselfOf}
 use Rattle.initiator.specs.Intents.{IntentValue, IsIntentOf}

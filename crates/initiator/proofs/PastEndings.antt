@@ -9,10 +9,10 @@ use Rattle.bus_base.specs.declared.Event.TheVariants as events
 use Rattle.bus_trace.specs.declared.Row.{Row}
 use Rattle.scenario.specs.declared.value.CmdDef.{CmdDef}
 use Rattle.scenario.specs.Value.{ScenarioValue}
-use Rattle.disk_array.specs.Processes.{command_at}
-use Rattle.bus_story.specs.Items.{command_item, has_item, Sent}
-use Rattle.bus_due.specs.RunSteps.{run_state}
-use Rattle.bus_due.specs.Wants.{own_command, own_commands}
+use Rattle.array_model.specs.Processes.{command_at}
+use Rattle.story_model.specs.Items.{command_item, has_item, Sent}
+use Rattle.due_model.specs.RunSteps.{run_state}
+use Rattle.due_model.specs.Wants.{own_command, own_commands}
 use Rattle.initiator.specs.declared.endings.CommandEnd.{CommandEnd}
 use Rattle.initiator.specs.declared.endings.Ending.{Ending}
 use Rattle.initiator.specs.declared.endings.Ending.TheVariants as ends

@@ -7,13 +7,13 @@ use Rattle.std.proofs.lemmas.Bool.Decides.{nat_tests}
 use Rattle.std.proofs.lemmas.List.Folds.{list_any-append}
 use Rattle.std.specs.List.{list_any}
 use Rattle.scenario.specs.declared.value.CmdDef.{CmdDef}
-use Rattle.bus_story.specs.Items.{Sent}
-use Rattle.bus_due.specs.Wants.{own_command, own_commands}
+use Rattle.story_model.specs.Items.{Sent}
+use Rattle.due_model.specs.Wants.{own_command, own_commands}
 use Rattle.initiator.specs.declared.mine.Mine.{Mine}
 use Rattle.initiator.specs.Mines.{mine_of, mines_of}
 use Rattle.initiator.specs.Books.{is_sense_due, my_sense, has_number, queue_with, queue_from}
 use Rattle.bus_base.proofs.Tests.{or_false, length_more}
-use Rattle.bus_due.specs.bus_dialogue.specs.PhaseBytes.{one_if}
+use Rattle.due_model.specs.dialogue_model.specs.PhaseBytes.{one_if}
 
 -- ---- which sense comes first
 

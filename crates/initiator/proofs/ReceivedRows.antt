@@ -17,18 +17,18 @@ use Rattle.cdb_codec.specs.declared.replies.TheConstants.{SENSE_LEN}
 use Rattle.scenario.specs.Needs.{need_of, is_write}
 use Rattle.scenario.specs.declared.value.CmdDef.{CmdDef}
 use Rattle.scenario.specs.Value.{ScenarioValue}
-use Rattle.disk_array.specs.Processes.{command_at, same_bool, same_id}
-use Rattle.bus_story.specs.BusState.{row_reading}
-use Rattle.bus_story.specs.CarriedBytes.{Area, CarriedBytes, bytes_with, carried_of}
-use Rattle.bus_story.specs.Items.{Item, process, abort, is_of_host}
-use Rattle.bus_story.specs.Links.{Link}
-use Rattle.bus_due.specs.bus_dialogue.specs.Hearing.{hearing}
-use Rattle.bus_due.specs.bus_dialogue.specs.declared.exchange.Hearing.{Hearing}
-use Rattle.bus_due.specs.Plain.{IsPlain, AreOfDevices}
-use Rattle.bus_due.specs.RunState.{item_of}
-use Rattle.bus_due.specs.RunSteps.{run_state}
-use Rattle.bus_due.specs.Sights.{hearing_of}
-use Rattle.bus_due.specs.Telling.{id_of}
+use Rattle.array_model.specs.Processes.{command_at, same_bool, same_id}
+use Rattle.story_model.specs.BusState.{row_reading}
+use Rattle.story_model.specs.CarriedBytes.{Area, CarriedBytes, bytes_with, carried_of}
+use Rattle.story_model.specs.Items.{Item, process, abort, is_of_host}
+use Rattle.story_model.specs.Links.{Link}
+use Rattle.due_model.specs.dialogue_model.specs.Hearing.{hearing}
+use Rattle.due_model.specs.dialogue_model.specs.declared.exchange.Hearing.{Hearing}
+use Rattle.due_model.specs.Plain.{IsPlain, AreOfDevices}
+use Rattle.due_model.specs.RunState.{item_of}
+use Rattle.due_model.specs.RunSteps.{run_state}
+use Rattle.due_model.specs.Sights.{hearing_of}
+use Rattle.due_model.specs.Telling.{id_of}
 use Rattle.initiator.specs.OwnLinks.{own_link}
 use Rattle.initiator.specs.Received.{BufferValue, empty_buffer, buffer_with, BufferPairValue, no_buffers, half_of}
 use Rattle.initiator.specs.Received.{pair_with, pair_at, buffer_at, received_with, data_room, room_of, buffers_if_own}
@@ -41,7 +41,7 @@ use Rattle.initiator.proofs.OwnedLinks.{IsOwnedIf, IsOwnedOn, links_are}
 use Rattle.bus_base.proofs.Tests.{and_first, length_more}
 use Rattle.initiator.proofs.EndingRows.{one_host}
 use Rattle.initiator.proofs.StoryEnds.{no_first}
-use Rattle.disk_array.proofs.SeatLookups.{same_id_is}
+use Rattle.array_model.proofs.SeatLookups.{same_id_is}
 use Rattle.initiator.proofs.HeldSteps.{in_range}
 
 -- ---- a buffer

@@ -10,14 +10,14 @@ use Rattle.scenario.specs.declared.value.CmdDef.{CmdDef}
 use Rattle.scenario.specs.Needs.{sent_of, sent_count}
 use Rattle.scenario.specs.declared.value.Tag.TheVariants as tags
 use Rattle.scenario.specs.Value.{ScenarioValue}
-use Rattle.disk_array.specs.Processes.{payload_bytes, command_at, sense_block, process_by, process_if}
-use Rattle.disk_array.proofs.SeatLookups.{never_first}
-use Rattle.bus_story.specs.Items.{Item, process, abort, is_of_host}
-use Rattle.bus_due.specs.bus_dialogue.specs.Exchange.{Speech, next_word}
-use Rattle.bus_due.specs.bus_dialogue.specs.Sending.{byte_to_send}
-use Rattle.bus_due.specs.RunState.{RunState, process_item, carried_here}
-use Rattle.bus_due.specs.Sights.{sending_by}
-use Rattle.bus_due.specs.Telling.{id_of}
+use Rattle.array_model.specs.Processes.{payload_bytes, command_at, sense_block, process_by, process_if}
+use Rattle.array_model.proofs.SeatLookups.{never_first}
+use Rattle.story_model.specs.Items.{Item, process, abort, is_of_host}
+use Rattle.due_model.specs.dialogue_model.specs.Exchange.{Speech, next_word}
+use Rattle.due_model.specs.dialogue_model.specs.Sending.{byte_to_send}
+use Rattle.due_model.specs.RunState.{RunState, process_item, carried_here}
+use Rattle.due_model.specs.Sights.{sending_by}
+use Rattle.due_model.specs.Telling.{id_of}
 use Rattle.scsi_device.specs.Lines.{IsCommandLine}
 use Rattle.scsi_device.proofs.Places.{held_place}
 use Rattle.scsi_device.proofs.SentBytes.{sent_few}

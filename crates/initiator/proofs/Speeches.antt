@@ -3,22 +3,22 @@ use Rattle.std.proofs.Common.{ℕ, ◌≡◌, ◌∙◌, refl, sym, Bool, true, 
 use Rattle.std.specs.Prelude.{if◌then◌else◌, ◌==◌}
 use Rattle.std.proofs.lemmas.Bool.{eqb-true}
 use Rattle.scenario.specs.declared.value.HostDef.{HostDef}
-use Rattle.bus_story.specs.TraceHistory.{aim_of}
-use Rattle.bus_due.specs.Defs
+use Rattle.story_model.specs.TraceHistory.{aim_of}
+use Rattle.due_model.specs.Defs
 use Rattle.bus_trace.specs.declared.Row.{Row}
 use Rattle.bus_trace.specs.declared.connection.Connection.{Connection}
 use Rattle.bus_trace.specs.Terms.{connection}
 use Rattle.bus_trace.proofs.Connections.{connection_stays}
 use Rattle.scenario.specs.Value.{ScenarioValue}
-use Rattle.bus_story.specs.BusState.{RowReading, row_reading}
-use Rattle.bus_due.specs.bus_dialogue.specs.Exchange.{Speech, no_speech, speech_of}
-use Rattle.bus_due.specs.bus_dialogue.specs.Speaking.{speech_after}
-use Rattle.bus_due.specs.bus_dialogue.specs.Hearing.{hearing}
-use Rattle.bus_due.specs.Defs.{host_of}
-use Rattle.bus_due.specs.RunState.{RunState}
-use Rattle.bus_due.specs.RunSteps.{run_state, exchange_after, leaving_of, may_negotiate}
-use Rattle.bus_due.specs.Sights.{hearing_of}
-use Rattle.bus_due.specs.Plain.{IsPlain}
+use Rattle.story_model.specs.BusState.{RowReading, row_reading}
+use Rattle.due_model.specs.dialogue_model.specs.Exchange.{Speech, no_speech, speech_of}
+use Rattle.due_model.specs.dialogue_model.specs.Speaking.{speech_after}
+use Rattle.due_model.specs.dialogue_model.specs.Hearing.{hearing}
+use Rattle.due_model.specs.Defs.{host_of}
+use Rattle.due_model.specs.RunState.{RunState}
+use Rattle.due_model.specs.RunSteps.{run_state, exchange_after, leaving_of, may_negotiate}
+use Rattle.due_model.specs.Sights.{hearing_of}
+use Rattle.due_model.specs.Plain.{IsPlain}
 use Rattle.initiator.specs.Speeches.{first_words, speech_at, speech_by, IsSpeechOf, IsOpeningOf}
 
 -- A connection stands before the row and after it.

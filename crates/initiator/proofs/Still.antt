@@ -8,19 +8,19 @@ use Rattle.bus_trace.specs.Phases.{changes_phase, is_data}
 use Rattle.bus_trace.specs.Terms.{connection}
 use Rattle.scenario.specs.declared.value.HostDef.{HostDef}
 use Rattle.scenario.specs.Value.{ScenarioValue}
-use Rattle.bus_story.specs.BusState.{row_reading}
-use Rattle.bus_story.specs.Links.{Link}
-use Rattle.bus_story.specs.TraceHistory.{aim_of}
-use Rattle.bus_due.specs.bus_dialogue.specs.declared.exchange.Hearing.{Hearing}
-use Rattle.bus_due.specs.bus_dialogue.specs.Exchange.{Speech}
-use Rattle.bus_due.specs.bus_dialogue.specs.Hearing.{hearing}
-use Rattle.bus_due.specs.bus_dialogue.specs.Speaking.{speech_in_phase, speech_with_byte, speech_after}
-use Rattle.bus_due.specs.bus_dialogue.specs.Events.{is_empty}
-use Rattle.bus_due.specs.Plain.{IsPlain, AreOfDevices}
-use Rattle.bus_due.specs.RunState.{item_of}
-use Rattle.bus_due.specs.RunSteps.{run_state, events_of_row}
-use Rattle.bus_due.specs.Sights.{hearing_of}
-use Rattle.bus_due.specs.Telling.{id_of}
+use Rattle.story_model.specs.BusState.{row_reading}
+use Rattle.story_model.specs.Links.{Link}
+use Rattle.story_model.specs.TraceHistory.{aim_of}
+use Rattle.due_model.specs.dialogue_model.specs.declared.exchange.Hearing.{Hearing}
+use Rattle.due_model.specs.dialogue_model.specs.Exchange.{Speech}
+use Rattle.due_model.specs.dialogue_model.specs.Hearing.{hearing}
+use Rattle.due_model.specs.dialogue_model.specs.Speaking.{speech_in_phase, speech_with_byte, speech_after}
+use Rattle.due_model.specs.dialogue_model.specs.Events.{is_empty}
+use Rattle.due_model.specs.Plain.{IsPlain, AreOfDevices}
+use Rattle.due_model.specs.RunState.{item_of}
+use Rattle.due_model.specs.RunSteps.{run_state, events_of_row}
+use Rattle.due_model.specs.Sights.{hearing_of}
+use Rattle.due_model.specs.Telling.{id_of}
 use Rattle.initiator.specs.declared.endings.CommandEnd.{CommandEnd}
 use Rattle.initiator.specs.declared.mine.Mine.{Mine}
 use Rattle.initiator.specs.declared.mine.OwnItem.{OwnItem}

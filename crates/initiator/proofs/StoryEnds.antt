@@ -19,28 +19,29 @@ use Rattle.msg_grammar.specs.declared.message.MsgOut.{MsgOut}
 use Rattle.msg_grammar.specs.declared.message.MsgIn.{MsgIn}
 use Rattle.scenario.specs.declared.value.CmdDef.{CmdDef}
 use Rattle.scenario.specs.Value.{ScenarioValue}
-use Rattle.disk_array.specs.Processes.{command_at, same_bool}
-use Rattle.bus_story.specs.BusState.{RowReading, row_reading}
-use Rattle.bus_story.specs.CarriedBytes.{CarriedBytes}
-use Rattle.bus_story.specs.HistoryEvents.{carried_if, row_events_by, link_events}
-use Rattle.bus_story.specs.Items.{Item, process, abort, command_item, sense_item, has_item, is_open, count_item}
-use Rattle.bus_story.specs.Links.{Link, link_of, last_out, last_in, link_after_name}
-use Rattle.bus_story.specs.Outcomes.{ending_of}
-use Rattle.bus_story.specs.Story.{Story, Ending, by_status, by_loss, by_abort, by_reset, unanswered, is_ended}
-use Rattle.bus_story.specs.Story.{with_ending, story_with_over, story_with_end, story_with_ends, is_aborted}
-use Rattle.bus_story.specs.Story.{is_sense_stopped, story_after_event, story_after_events}
-use Rattle.bus_story.specs.TraceHistory.{aim_of, retries_of, is_counted, story_with_aim, story_without_answer}
-use Rattle.bus_story.specs.TraceHistory.{story_with_try, story_after_calling, story_after_calling_by, story_on_free_bus}
-use Rattle.bus_story.specs.TraceHistory.{story_with_restored, story_with_sent, story_after_connection}
-use Rattle.bus_story.specs.TraceHistory.{story_with_carried, story_after_out, story_after_message, story_after_name}
-use Rattle.bus_story.specs.TraceHistory.{story_after_in, story_after_byte, story_after_crossing, story_after_fault}
-use Rattle.bus_story.specs.TraceHistory.{story_in_connection, story_on_bus, story_by_change, is_parity_error}
-use Rattle.bus_story.specs.TraceHistory.{carried_after_message_if, carried_after_byte_if, carried_after_fault_if}
-use Rattle.bus_due.specs.RunSteps.{run_state, events_of_row}
+use Rattle.array_model.specs.Processes.{command_at, same_bool}
+use Rattle.story_model.specs.BusState.{RowReading, row_reading}
+use Rattle.story_model.specs.CarriedBytes.{CarriedBytes}
+use Rattle.story_model.specs.HistoryEvents.{carried_if, row_events_by, link_events}
+use Rattle.story_model.specs.Items.{Item, process, abort, command_item, sense_item, has_item, is_open, count_item}
+use Rattle.story_model.specs.Links.{Link, link_of, last_out, last_in, link_after_name}
+use Rattle.story_model.specs.Outcomes.{ending_of}
+use Rattle.story_model.specs.Story.{Story, Ending, by_status, by_loss, by_abort, by_reset, unanswered, is_ended}
+use Rattle.story_model.specs.Story.{with_ending, story_with_over, story_with_end, story_with_ends, is_aborted}
+use Rattle.story_model.specs.Story.{is_sense_stopped, story_after_event, story_after_events}
+use Rattle.story_model.specs.TraceHistory.{aim_of, retries_of, is_counted, story_with_aim, story_without_answer}
+use Rattle.story_model.specs.TraceHistory.{story_with_try, story_after_calling, story_after_calling_by}
+use Rattle.story_model.specs.TraceHistory.{story_on_free_bus}
+use Rattle.story_model.specs.TraceHistory.{story_with_restored, story_with_sent, story_after_connection}
+use Rattle.story_model.specs.TraceHistory.{story_with_carried, story_after_out, story_after_message, story_after_name}
+use Rattle.story_model.specs.TraceHistory.{story_after_in, story_after_byte, story_after_crossing, story_after_fault}
+use Rattle.story_model.specs.TraceHistory.{story_in_connection, story_on_bus, story_by_change, is_parity_error}
+use Rattle.story_model.specs.TraceHistory.{carried_after_message_if, carried_after_byte_if, carried_after_fault_if}
+use Rattle.due_model.specs.RunSteps.{run_state, events_of_row}
 use Rattle.initiator.proofs.Wishes.{IsCaller}
 use Rattle.initiator.proofs.Mines.{step}
-use Rattle.bus_story.proofs.StorySteps.{events_link, free_link}
-use Rattle.bus_due.specs.bus_dialogue.specs.Events.{is_empty}
+use Rattle.story_model.proofs.StorySteps.{events_link, free_link}
+use Rattle.due_model.specs.dialogue_model.specs.Events.{is_empty}
 
 -- ---- the first ending stays
 

@@ -18,28 +18,30 @@ use Rattle.msg_grammar.specs.declared.message.MsgOut.{MsgOut}
 use Rattle.msg_grammar.specs.declared.message.MsgIn.{MsgIn}
 use Rattle.cdb_codec.specs.declared.status.TheConstants.{CHECK_CONDITION}
 use Rattle.scenario.specs.Value.{ScenarioValue}
-use Rattle.disk_array.specs.Processes.{command_at}
-use Rattle.bus_story.specs.BusState.{RowReading, row_reading}
-use Rattle.bus_story.specs.Items.{Item, process, abort, is_of_host}
-use Rattle.bus_story.specs.Links.{Link, link_of, last_out, last_in, link_after_name}
-use Rattle.bus_story.specs.CarriedBytes.{CarriedBytes, carried_of, with_restored_pointers}
-use Rattle.bus_story.specs.Story.{Story, by_abort, by_reset, is_aborted, is_sense_stopped, marked_refused, marked_shown}
-use Rattle.bus_story.specs.Story.{story_after_event, story_after_events}
-use Rattle.bus_story.specs.HistoryEvents.{carried_if, is_complete, is_completion, end_events}
-use Rattle.bus_story.specs.TraceHistory.{aim_of, is_parity_error, carried_after_message_if, carried_after_byte_if}
-use Rattle.bus_story.specs.TraceHistory.{story_with_aim, story_after_calling_by, story_after_calling, story_on_free_bus}
-use Rattle.bus_story.specs.TraceHistory.{story_with_restored, story_with_sent, story_after_connection}
-use Rattle.bus_story.specs.TraceHistory.{story_with_carried, story_after_out, story_after_message, story_after_name}
-use Rattle.bus_story.specs.TraceHistory.{story_after_in, story_after_byte, story_after_fault, story_after_crossing}
-use Rattle.bus_story.specs.TraceHistory.{story_in_connection, story_on_bus, story_by_change}
-use Rattle.bus_due.specs.bus_dialogue.specs.declared.exchange.Hearing.{Hearing}
-use Rattle.bus_due.specs.bus_dialogue.specs.Hearing.{hearing}
-use Rattle.bus_due.specs.bus_dialogue.specs.Events.{event_if}
-use Rattle.bus_due.specs.RunState.{RunState, item_of}
-use Rattle.bus_due.specs.RunSteps.{run_state, events_of_row}
-use Rattle.bus_due.specs.Sights.{hearing_of}
-use Rattle.bus_due.specs.Plain.{IsPlain, AreOfDevices}
-use Rattle.bus_due.specs.Telling.{id_of, initiator_events}
+use Rattle.array_model.specs.Processes.{command_at}
+use Rattle.story_model.specs.BusState.{RowReading, row_reading}
+use Rattle.story_model.specs.Items.{Item, process, abort, is_of_host}
+use Rattle.story_model.specs.Links.{Link, link_of, last_out, last_in, link_after_name}
+use Rattle.story_model.specs.CarriedBytes.{CarriedBytes, carried_of, with_restored_pointers}
+use Rattle.story_model.specs.Story.{Story, by_abort, by_reset, is_aborted, is_sense_stopped, marked_refused}
+use Rattle.story_model.specs.Story.{marked_shown}
+use Rattle.story_model.specs.Story.{story_after_event, story_after_events}
+use Rattle.story_model.specs.HistoryEvents.{carried_if, is_complete, is_completion, end_events}
+use Rattle.story_model.specs.TraceHistory.{aim_of, is_parity_error, carried_after_message_if, carried_after_byte_if}
+use Rattle.story_model.specs.TraceHistory.{story_with_aim, story_after_calling_by, story_after_calling}
+use Rattle.story_model.specs.TraceHistory.{story_on_free_bus}
+use Rattle.story_model.specs.TraceHistory.{story_with_restored, story_with_sent, story_after_connection}
+use Rattle.story_model.specs.TraceHistory.{story_with_carried, story_after_out, story_after_message, story_after_name}
+use Rattle.story_model.specs.TraceHistory.{story_after_in, story_after_byte, story_after_fault, story_after_crossing}
+use Rattle.story_model.specs.TraceHistory.{story_in_connection, story_on_bus, story_by_change}
+use Rattle.due_model.specs.dialogue_model.specs.declared.exchange.Hearing.{Hearing}
+use Rattle.due_model.specs.dialogue_model.specs.Hearing.{hearing}
+use Rattle.due_model.specs.dialogue_model.specs.Events.{event_if}
+use Rattle.due_model.specs.RunState.{RunState, item_of}
+use Rattle.due_model.specs.RunSteps.{run_state, events_of_row}
+use Rattle.due_model.specs.Sights.{hearing_of}
+use Rattle.due_model.specs.Plain.{IsPlain, AreOfDevices}
+use Rattle.due_model.specs.Telling.{id_of, initiator_events}
 use Rattle.initiator.specs.declared.mine.Mine.{Mine}
 use Rattle.initiator.specs.declared.mine.OwnItem.{OwnItem}
 use Rattle.initiator.specs.declared.mine.OwnItem.TheVariants as own
@@ -57,13 +59,13 @@ use Rattle.initiator.specs.Transfers.{TransfersValue, transfers_begun, transfers
 use Rattle.initiator.specs.Transfers.{transfers_on_bus, transfers_after, process_of_link, active_at, is_last_complete}
 use Rattle.initiator.specs.Transfers.{takes_complete, end_of, completion_in, IsTransfersOf, no_transfers, active_of}
 use Rattle.initiator.proofs.Foreign.{not_both}
-use Rattle.bus_story.proofs.CarriedLists.{carried_id}
+use Rattle.story_model.proofs.CarriedLists.{carried_id}
 use Rattle.initiator.proofs.HeldSteps.{held_apart, held_stays, held_starts}
 use Rattle.initiator.proofs.OwnedLinks.{IsCarriedOf, IsOwned, IsOwnedIf, IsOwnedOn, carried_own, named, begun_link}
 use Rattle.initiator.proofs.OwnedLinks.{aim_own, same_connection, ends_left, end_left, links_are}
 use Rattle.initiator.proofs.TransferSteps.{IsGoneOn, restored_held, byte_id, fault_held, linked, connected_goes_on}
 use Rattle.initiator.proofs.WishRows.{aims_are}
-use Rattle.bus_story.proofs.StorySteps.{events_link, sent_carried, calling_carried, free_carried, message_id}
+use Rattle.story_model.proofs.StorySteps.{events_link, sent_carried, calling_carried, free_carried, message_id}
 
 -- ---- a connection of its own begins
 

@@ -13,19 +13,20 @@ use Rattle.msg_grammar.specs.declared.message.MsgIn.{MsgIn}
 use Rattle.msg_grammar.specs.declared.message.MsgIn.TheVariants as to_initiator
 use Rattle.scenario.specs.declared.value.CmdDef.{CmdDef}
 use Rattle.scenario.specs.Value.{ScenarioValue}
-use Rattle.disk_array.specs.Processes.{command_at}
-use Rattle.disk_array.specs.Order.{same_number, tag_number}
-use Rattle.bus_story.specs.BusState.{RowReading}
-use Rattle.bus_story.specs.Items.{Item, process, abort, Sent, command_item, sense_item, is_open, is_of_host}
-use Rattle.bus_story.specs.Links.{Link, last_out, last_in, is_open_sense, named_item_from, link_after_name}
-use Rattle.bus_story.specs.CarriedBytes.{CarriedBytes, carried_of, carried_after_byte, carried_after_fault}
-use Rattle.bus_story.specs.Story.{Story}
-use Rattle.bus_story.specs.HistoryEvents.{carried_if}
-use Rattle.bus_story.specs.TraceHistory.{is_parity_error, carried_after_message_if, carried_after_byte_if}
-use Rattle.bus_story.specs.TraceHistory.{carried_after_fault_if, story_with_restored, story_with_carried}
-use Rattle.bus_story.specs.TraceHistory.{story_after_out, story_after_message, story_after_name, story_after_in}
-use Rattle.bus_story.specs.TraceHistory.{story_after_byte, story_after_fault, story_after_crossing, story_in_connection}
-use Rattle.bus_due.specs.Wants.{own_command, own_commands}
+use Rattle.array_model.specs.Processes.{command_at}
+use Rattle.array_model.specs.Order.{same_number, tag_number}
+use Rattle.story_model.specs.BusState.{RowReading}
+use Rattle.story_model.specs.Items.{Item, process, abort, Sent, command_item, sense_item, is_open, is_of_host}
+use Rattle.story_model.specs.Links.{Link, last_out, last_in, is_open_sense, named_item_from, link_after_name}
+use Rattle.story_model.specs.CarriedBytes.{CarriedBytes, carried_of, carried_after_byte, carried_after_fault}
+use Rattle.story_model.specs.Story.{Story}
+use Rattle.story_model.specs.HistoryEvents.{carried_if}
+use Rattle.story_model.specs.TraceHistory.{is_parity_error, carried_after_message_if, carried_after_byte_if}
+use Rattle.story_model.specs.TraceHistory.{carried_after_fault_if, story_with_restored, story_with_carried}
+use Rattle.story_model.specs.TraceHistory.{story_after_out, story_after_message, story_after_name, story_after_in}
+use Rattle.story_model.specs.TraceHistory.{story_after_byte, story_after_fault, story_after_crossing}
+use Rattle.story_model.specs.TraceHistory.{story_in_connection}
+use Rattle.due_model.specs.Wants.{own_command, own_commands}
 use Rattle.initiator.specs.declared.mine.Mine.{Mine}
 use Rattle.initiator.specs.declared.mine.OwnItem.{OwnItem}
 use Rattle.initiator.specs.declared.mine.OwnItem.TheVariants as own
@@ -40,12 +41,12 @@ use Rattle.initiator.specs.OwnLinks.{process_in, named_in, link_with_name, last_
 use Rattle.initiator.specs.OwnLinks.{undone, last_of, IsUndoIf, IsLinkOf, IsLinkIf}
 use Rattle.initiator.specs.Transfers.{TransfersValue, transfers_after_out, transfers_after_name, transfers_after_byte}
 use Rattle.initiator.specs.Transfers.{transfers_after_crossing, transfers_in_link}
-use Rattle.bus_due.specs.bus_dialogue.specs.declared.exchange.Hearing.{Hearing}
-use Rattle.bus_story.proofs.CarriedLists.{carried_id}
+use Rattle.due_model.specs.dialogue_model.specs.declared.exchange.Hearing.{Hearing}
+use Rattle.story_model.proofs.CarriedLists.{carried_id}
 use Rattle.initiator.proofs.HeldSteps.{held_restore, held_message, held_byte, held_fault, held_on, held_stays}
 use Rattle.initiator.proofs.OwnedLinks.{IsCarriedOf, IsOwned, IsOwnedIf, IsNamed, named, name_link}
 use Rattle.initiator.proofs.Mines.{mines_from}
-use Rattle.bus_story.proofs.StorySteps.{out_link, message_id, fault_link}
+use Rattle.story_model.proofs.StorySteps.{out_link, message_id, fault_link}
 
 -- ---- the process that a target names
 

@@ -3,15 +3,15 @@ use Rattle.std.proofs.Common.{ℕ, ◌≡◌, ◌==◌, Bool, true, false, refl,
 use Rattle.std.specs.Prelude.{if◌then◌else◌, not, ◌&&◌, ◌||◌}
 use Rattle.bus_lines.specs.Handshakes.{Handshakes}
 use Rattle.bus_trace.specs.declared.connection.Connection.{Connection}
-use Rattle.bus_reactions.specs.declared.due.Due.{Due}
-use Rattle.bus_reactions.specs.declared.due.Myself.{Myself}
-use Rattle.bus_reactions.specs.declared.sight.Sight.{Sight}
-use Rattle.bus_reactions.specs.declared.ends.Answering.{Answering}
-use Rattle.bus_reactions.specs.declared.ends.Pace.{Pace}
-use Rattle.bus_reactions.specs.Ends.{bsy_release, initiator_due}
-use Rattle.bus_reactions.specs.Initiator.{ack_negation, ack_pulse_end, byte_release, initiator_byte, pulsed_byte}
-use Rattle.bus_reactions.specs.Initiator.{received_byte_ack, received_byte_pulse, sent_byte_ack, sent_byte_pulse}
-use Rattle.bus_reactions.specs.Target.{byte_bits}
+use Rattle.reaction_model.specs.declared.due.Due.{Due}
+use Rattle.reaction_model.specs.declared.due.Myself.{Myself}
+use Rattle.reaction_model.specs.declared.sight.Sight.{Sight}
+use Rattle.reaction_model.specs.declared.ends.Answering.{Answering}
+use Rattle.reaction_model.specs.declared.ends.Pace.{Pace}
+use Rattle.reaction_model.specs.Ends.{bsy_release, initiator_due}
+use Rattle.reaction_model.specs.Initiator.{ack_negation, ack_pulse_end, byte_release, initiator_byte, pulsed_byte}
+use Rattle.reaction_model.specs.Initiator.{received_byte_ack, received_byte_pulse, sent_byte_ack, sent_byte_pulse}
+use Rattle.reaction_model.specs.Target.{byte_bits}
 use Rattle.scenario.specs.declared.value.FaultDef.{FaultDef}
 use Rattle.scenario.specs.declared.value.HostDef.{HostDef}
 use Rattle.scsi_device.specs.Told.{Told, at_no_stage}

@@ -1,12 +1,12 @@
 -- An initiator that waits does nothing by REQ and ACK, whatever it has to say.
 use Rattle.std.proofs.Common.{◌≡◌, ◌==◌, Bool, true, false, refl, Some, None}
 use Rattle.std.specs.Prelude.{not, ◌&&◌, if◌then◌else◌}
-use Rattle.bus_reactions.specs.declared.due.Myself.{Myself}
-use Rattle.bus_reactions.specs.declared.ends.Answering.{Answering}
-use Rattle.bus_reactions.specs.declared.ends.Pace.{Pace}
-use Rattle.bus_reactions.specs.Ends.{bsy_release}
-use Rattle.bus_reactions.specs.Initiator.{ack_negation, byte_release, initiator_byte, initiator_pulse}
-use Rattle.bus_reactions.specs.Initiator.{received_byte_ack, sent_byte_ack}
+use Rattle.reaction_model.specs.declared.due.Myself.{Myself}
+use Rattle.reaction_model.specs.declared.ends.Answering.{Answering}
+use Rattle.reaction_model.specs.declared.ends.Pace.{Pace}
+use Rattle.reaction_model.specs.Ends.{bsy_release}
+use Rattle.reaction_model.specs.Initiator.{ack_negation, byte_release, initiator_byte, initiator_pulse}
+use Rattle.reaction_model.specs.Initiator.{received_byte_ack, sent_byte_ack}
 use Rattle.scenario.specs.declared.value.HostDef.{HostDef}
 use Rattle.scsi_device.specs.Told.{Told, pace_of}
 use Rattle.initiator.specs.Dues.{answering_of_host, myself_by, plain_by}

@@ -9,22 +9,22 @@ use Rattle.bus_trace.specs.declared.selection.Call.{Call}
 use Rattle.bus_trace.specs.Changes.{rises, falls, change_of}
 use Rattle.bus_trace.specs.Terms.{call, call_goes_on, connection}
 use Rattle.scenario.specs.Value.{ScenarioValue}
-use Rattle.bus_story.specs.BusState.{RowReading, row_reading}
-use Rattle.bus_story.specs.Items.{Item}
-use Rattle.bus_story.specs.Story.{Story, story_after_events}
-use Rattle.bus_story.specs.TraceHistory.{aim_of, retries_of, story_with_aim, story_after_calling, story_on_free_bus}
-use Rattle.bus_story.specs.TraceHistory.{story_on_bus, story_by_change}
-use Rattle.bus_story.proofs.StorySteps.{events_aims, calling_aims, begun_aims}
-use Rattle.bus_due.specs.bus_dialogue.specs.Hearing.{hearing}
-use Rattle.bus_due.specs.RunSteps.{run_state, events_of_row}
-use Rattle.bus_due.specs.Sights.{hearing_of}
-use Rattle.bus_due.specs.Plain.{IsPlain, AreOfDevices}
+use Rattle.story_model.specs.BusState.{RowReading, row_reading}
+use Rattle.story_model.specs.Items.{Item}
+use Rattle.story_model.specs.Story.{Story, story_after_events}
+use Rattle.story_model.specs.TraceHistory.{aim_of, retries_of, story_with_aim, story_after_calling, story_on_free_bus}
+use Rattle.story_model.specs.TraceHistory.{story_on_bus, story_by_change}
+use Rattle.story_model.proofs.StorySteps.{events_aims, calling_aims, begun_aims}
+use Rattle.due_model.specs.dialogue_model.specs.Hearing.{hearing}
+use Rattle.due_model.specs.RunSteps.{run_state, events_of_row}
+use Rattle.due_model.specs.Sights.{hearing_of}
+use Rattle.due_model.specs.Plain.{IsPlain, AreOfDevices}
 use Rattle.initiator.specs.Books.{my_book, book_after_event}
 use Rattle.initiator.specs.Wishes.{IsItemIf, Wish, IsWishBy, IsWishOf, AreAims, wish_by_change, book_after_events}
 use Rattle.initiator.specs.Wishes.{wish_after}
 use Rattle.initiator.proofs.BookSteps.{book_after}
 use Rattle.initiator.proofs.Wishes.{IsItemLaw, IsCaller, HasInitiator, entered, kept_connected, change_wish}
-use Rattle.disk_array.specs.Seats.{is_initiator}
+use Rattle.array_model.specs.Seats.{is_initiator}
 
 -- ---- events
 

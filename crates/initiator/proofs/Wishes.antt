@@ -11,23 +11,23 @@ use Rattle.bus_trace.specs.declared.selection.Call.{Call}
 use Rattle.bus_trace.specs.declared.selection.Calling.{Calling}
 use Rattle.bus_trace.specs.Changes.{rises, falls}
 use Rattle.scenario.specs.Value.{ScenarioValue}
-use Rattle.bus_story.specs.BusState.{RowReading}
-use Rattle.bus_story.specs.Items.{Item, process, abort, command_item, Sent, count_item, item_at}
-use Rattle.bus_story.specs.Story.{Story}
-use Rattle.bus_story.specs.TraceHistory.{aim_of, retries_of, is_counted, story_without_answer, story_with_try}
-use Rattle.bus_story.specs.TraceHistory.{story_after_calling, story_after_calling_by, story_with_restored}
-use Rattle.bus_story.specs.TraceHistory.{story_with_sent, story_after_connection, story_with_carried, story_after_out}
-use Rattle.bus_story.specs.TraceHistory.{story_after_message, story_after_name, story_after_in, story_after_byte}
-use Rattle.bus_story.specs.TraceHistory.{story_after_crossing, story_after_fault, story_in_connection, story_with_aim}
-use Rattle.bus_story.specs.TraceHistory.{story_on_free_bus, story_on_bus, story_by_change, is_parity_error}
-use Rattle.bus_story.specs.TraceHistory.{carried_after_message_if, carried_after_byte_if, carried_after_fault_if}
-use Rattle.bus_story.specs.HistoryEvents.{carried_if}
-use Rattle.bus_story.specs.CarriedBytes.{CarriedBytes}
+use Rattle.story_model.specs.BusState.{RowReading}
+use Rattle.story_model.specs.Items.{Item, process, abort, command_item, Sent, count_item, item_at}
+use Rattle.story_model.specs.Story.{Story}
+use Rattle.story_model.specs.TraceHistory.{aim_of, retries_of, is_counted, story_without_answer, story_with_try}
+use Rattle.story_model.specs.TraceHistory.{story_after_calling, story_after_calling_by, story_with_restored}
+use Rattle.story_model.specs.TraceHistory.{story_with_sent, story_after_connection, story_with_carried, story_after_out}
+use Rattle.story_model.specs.TraceHistory.{story_after_message, story_after_name, story_after_in, story_after_byte}
+use Rattle.story_model.specs.TraceHistory.{story_after_crossing, story_after_fault, story_in_connection, story_with_aim}
+use Rattle.story_model.specs.TraceHistory.{story_on_free_bus, story_on_bus, story_by_change, is_parity_error}
+use Rattle.story_model.specs.TraceHistory.{carried_after_message_if, carried_after_byte_if, carried_after_fault_if}
+use Rattle.story_model.specs.HistoryEvents.{carried_if}
+use Rattle.story_model.specs.CarriedBytes.{CarriedBytes}
 use Rattle.msg_grammar.specs.declared.message.MsgOut.{MsgOut}
 use Rattle.msg_grammar.specs.declared.message.MsgIn.{MsgIn}
 use Rattle.bus_trace.specs.declared.Kind.{Kind}
 use Rattle.bus_trace.specs.declared.Kind.TheVariants.{Drives, Fault}
-use Rattle.bus_story.specs.Links.{Link, link_of, last_out, last_in, link_after_name}
+use Rattle.story_model.specs.Links.{Link, link_of, last_out, last_in, link_after_name}
 use Rattle.initiator.specs.declared.mine.OwnItem.{OwnItem}
 use Rattle.initiator.specs.declared.mine.OwnItem.TheVariants as own
 use Rattle.initiator.specs.Mines.{capped}
@@ -36,14 +36,14 @@ use Rattle.initiator.specs.Wishes.{IsItemOf, IsItemIf, tries_in, abort_tries_in,
 use Rattle.initiator.specs.Wishes.{abort_tried, book_after_try, book_after_send, is_unanswered, is_call_in_vain}
 use Rattle.initiator.specs.Wishes.{wish_after_connection, wish_with_entry, wish_on_free_bus, wish_on_bus}
 use Rattle.initiator.specs.Wishes.{wish_by_change}
-use Rattle.bus_due.specs.bus_dialogue.specs.Wants.{item_by}
-use Rattle.bus_due.specs.Wants.{book_of}
+use Rattle.due_model.specs.dialogue_model.specs.Wants.{item_by}
+use Rattle.due_model.specs.Wants.{book_of}
 use Rattle.initiator.proofs.Books.{item_is}
 use Rattle.initiator.proofs.BookSteps.{book_sent, book_over, book_try, book_abort_sent, book_abort_over, book_abort_try}
 use Rattle.initiator.proofs.BookSteps.{book_sense_try}
 use Rattle.initiator.proofs.Foreign.{others_sent, others_over, others_try, own_item, tries_are, abort_tries_are}
-use Rattle.bus_story.proofs.StorySteps.{restored_aims, sent_aims, restored_sent, calling_aims}
-use Rattle.disk_array.specs.Seats.{is_initiator}
+use Rattle.story_model.proofs.StorySteps.{restored_aims, sent_aims, restored_sent, calling_aims}
+use Rattle.array_model.specs.Seats.{is_initiator}
 
 -- ---- what each device last entered arbitration for
 

@@ -6,8 +6,8 @@ use Rattle.bus_base.specs.declared.ProcId.{ProcId}
 use Rattle.bus_base.specs.declared.Event.{Event}
 use Rattle.bus_base.specs.declared.Event.TheVariants as events
 use Rattle.scenario.specs.Value.{ScenarioValue}
-use Rattle.bus_story.specs.Items.{Item, abort, command_item, sense_item, Sent, open_limit_of}
-use Rattle.bus_reactions.specs.Reactions.{sooner_time, time_if}
+use Rattle.story_model.specs.Items.{Item, abort, command_item, sense_item, Sent, open_limit_of}
+use Rattle.reaction_model.specs.Reactions.{sooner_time, time_if}
 use Rattle.initiator.specs.declared.mine.Mine.{Mine}
 use Rattle.initiator.specs.declared.mine.MyAbort.{MyAbort}
 use Rattle.initiator.specs.declared.mine.OwnItem.{OwnItem}

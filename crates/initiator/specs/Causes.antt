@@ -5,9 +5,9 @@ use Rattle.bus_base.specs.declared.ProcId.{ProcId}
 use Rattle.bus_base.specs.declared.Event.{Event}
 use Rattle.bus_base.specs.declared.Event.TheVariants as events
 use Rattle.scenario.specs.declared.value.CmdDef.{CmdDef}
-use Rattle.disk_array.specs.Processes.{same_id}
-use Rattle.bus_story.specs.Story.{is_aborted, is_sense_stopped}
-use Rattle.bus_story.specs.Items.{sense_id}
+use Rattle.array_model.specs.Processes.{same_id}
+use Rattle.story_model.specs.Story.{is_aborted, is_sense_stopped}
+use Rattle.story_model.specs.Items.{sense_id}
 
 -- ---- an event
 

@@ -4,17 +4,17 @@ use Rattle.bus_trace.specs.LineSet.{LineSet}
 use Rattle.bus_trace.specs.declared.connection.Connection.{Connection}
 use Rattle.scenario.specs.declared.value.FaultDef.{FaultDef}
 use Rattle.scenario.specs.declared.value.HostDef.{HostDef}
-use Rattle.bus_reactions.specs.declared.due.Due.{Due}
-use Rattle.bus_reactions.specs.declared.due.Myself.{Myself}
-use Rattle.bus_reactions.specs.declared.due.Want.{Want}
-use Rattle.bus_reactions.specs.declared.ends.Answering.{Answering}
-use Rattle.bus_reactions.specs.Linking.{link_due, sample_time}
-use Rattle.bus_reactions.specs.Ends as hand
-use Rattle.bus_reactions.specs.Reset.{with_reset}
-use Rattle.bus_due.specs.bus_dialogue.specs.Ends.{answering_by}
+use Rattle.reaction_model.specs.declared.due.Due.{Due}
+use Rattle.reaction_model.specs.declared.due.Myself.{Myself}
+use Rattle.reaction_model.specs.declared.due.Want.{Want}
+use Rattle.reaction_model.specs.declared.ends.Answering.{Answering}
+use Rattle.reaction_model.specs.Linking.{link_due, sample_time}
+use Rattle.reaction_model.specs.Ends as hand
+use Rattle.reaction_model.specs.Reset.{with_reset}
+use Rattle.due_model.specs.dialogue_model.specs.Ends.{answering_by}
 use Rattle.scsi_device.specs.Told.{Told, pace_of, flip_by}
 use Rattle.initiator.specs.States.{InitiatorState}
-use Rattle.bus_due.specs.bus_rules.specs.Order.{is_of_device}
+use Rattle.due_model.specs.bus_rules.specs.Order.{is_of_device}
 
 abbrev pub myself_by : HostDef → Told → InitiatorState → Myself
 myself_by h t i = record { dev = h.dev; latency = h.latency; own = t.lines; since = i.own.row }

@@ -7,12 +7,12 @@ use Rattle.bus_base.specs.declared.Event.TheVariants as events
 use Rattle.bus_trace.specs.declared.Row.{Row}
 use Rattle.scenario.specs.declared.value.CmdDef.{CmdDef}
 use Rattle.scenario.specs.Value.{ScenarioValue}
-use Rattle.disk_array.specs.Processes.{command_at}
-use Rattle.bus_story.specs.Story as told
-use Rattle.bus_story.specs.Story.{Story, by_status, by_loss, by_reset, by_abort, unanswered}
-use Rattle.bus_story.specs.Outcomes.{ending_of, has_end}
-use Rattle.bus_story.specs.Items.{sense_id}
-use Rattle.bus_due.specs.RunSteps.{run_state}
+use Rattle.array_model.specs.Processes.{command_at}
+use Rattle.story_model.specs.Story as told
+use Rattle.story_model.specs.Story.{Story, by_status, by_loss, by_reset, by_abort, unanswered}
+use Rattle.story_model.specs.Outcomes.{ending_of, has_end}
+use Rattle.story_model.specs.Items.{sense_id}
+use Rattle.due_model.specs.RunSteps.{run_state}
 use Rattle.initiator.specs.declared.endings.CommandEnd.{CommandEnd}
 use Rattle.initiator.specs.declared.endings.Ending.{Ending}
 use Rattle.initiator.specs.declared.endings.Ending.TheVariants as ends
@@ -22,7 +22,7 @@ use Rattle.initiator.specs.declared.mine.OwnItem.TheVariants as own
 use Rattle.initiator.specs.Mines.{is_mine_aborted}
 use Rattle.initiator.specs.Books.{BookValue}
 use Rattle.initiator.specs.Openings.{mine_at}
-use Rattle.bus_due.specs.bus_dialogue.specs.Events.{is_empty}
+use Rattle.due_model.specs.dialogue_model.specs.Events.{is_empty}
 
 -- ---- one command
 

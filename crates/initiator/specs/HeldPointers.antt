@@ -7,9 +7,9 @@ use Rattle.bus_trace.specs.Phases.{is_data, is_command}
 use Rattle.msg_grammar.specs.declared.message.MsgIn.{MsgIn}
 use Rattle.msg_grammar.specs.declared.message.MsgIn.TheVariants as to_initiator
 use Rattle.scenario.specs.Value.{ScenarioValue}
-use Rattle.disk_array.specs.Processes.{command_at}
-use Rattle.bus_story.specs.Items.{is_of_host}
-use Rattle.bus_story.specs.CarriedBytes.{CarriedBytes, is_status_phase, carried_of}
+use Rattle.array_model.specs.Processes.{command_at}
+use Rattle.story_model.specs.Items.{is_of_host}
+use Rattle.story_model.specs.CarriedBytes.{CarriedBytes, is_status_phase, carried_of}
 use Rattle.io_pointers.specs.declared.pointers.Area.{Area}
 use Rattle.io_pointers.specs.declared.pointers.Area.TheVariants as areas
 use Rattle.io_pointers.specs.declared.pointers.Place.{Place}

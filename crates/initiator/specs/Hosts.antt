@@ -1,17 +1,17 @@
 -- An initiator of a scenario: its line, and what it knows after some rows.
 use Rattle.std.specs.Prelude.{ℕ, ◌≡◌, ◌==◌, ◌&&◌, ◌||◌, not, Bool, true, false, List, ◌∷◌, Option, Some, None}
 use Rattle.std.specs.List.{list_all}
-use Rattle.bus_due.specs.RunSteps.{run_state}
+use Rattle.due_model.specs.RunSteps.{run_state}
 use Rattle.initiator.specs.declared.mine.MyAbort.{MyAbort}
 use Rattle.initiator.specs.Mines.{my_aborts}
 use Rattle.bus_trace.specs.declared.Row.{Row}
 use Rattle.bus_trace.specs.declared.connection.Connection.{Connection}
 use Rattle.bus_trace.specs.Phases.{changes_phase}
 use Rattle.bus_trace.specs.Terms.{connection}
-use Rattle.bus_due.specs.bus_dialogue.specs.declared.exchange.Hearing.{Hearing}
+use Rattle.due_model.specs.dialogue_model.specs.declared.exchange.Hearing.{Hearing}
 use Rattle.scenario.specs.declared.value.HostDef.{HostDef}
 use Rattle.scenario.specs.Value.{ScenarioValue}
-use Rattle.bus_due.specs.bus_dialogue.specs.Exchange as exchange
+use Rattle.due_model.specs.dialogue_model.specs.Exchange as exchange
 use Rattle.scsi_device.specs.Itself.{ItselfValue, IsItselfOf}
 use Rattle.scsi_device.specs.Lines.{IsHostLine}
 use Rattle.initiator.specs.declared.endings.CommandEnd.{CommandEnd}

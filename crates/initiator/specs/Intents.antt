@@ -10,13 +10,13 @@ use Rattle.bus_trace.specs.Changes.{falls}
 use Rattle.bus_trace.specs.Terms.{call}
 use Rattle.bus_lines.specs.declared.effect.RowEffect.{RowEffect}
 use Rattle.scenario.specs.Value.{ScenarioValue}
-use Rattle.bus_story.specs.TraceHistory.{retries_of}
+use Rattle.story_model.specs.TraceHistory.{retries_of}
 use Rattle.initiator.specs.declared.mine.OwnItem.{OwnItem}
 use Rattle.initiator.specs.declared.mine.OwnItem.TheVariants as own
 use Rattle.initiator.specs.Books.{my_since}
 use Rattle.initiator.specs.Wishes.{Wish, IsWishOf, is_entry, target_by, wish_after}
-use Rattle.bus_due.specs.bus_dialogue.specs.Events.{is_empty}
-use Rattle.disk_array.specs.Seats.{is_initiator}
+use Rattle.due_model.specs.dialogue_model.specs.Events.{is_empty}
+use Rattle.array_model.specs.Seats.{is_initiator}
 
 pub record IntentValue : Type 0 where
   pub dev : ℕ

@@ -10,12 +10,12 @@ use Rattle.bus_base.specs.declared.Event.TheVariants as events
 use Rattle.cdb_codec.specs.declared.status.TheConstants.{CHECK_CONDITION}
 use Rattle.scenario.specs.declared.value.CmdDef.{CmdDef}
 use Rattle.scenario.specs.declared.value.AbortDef.{AbortDef}
-use Rattle.disk_array.specs.Steps.{has_tag}
-use Rattle.disk_array.specs.Order.{tag_number}
-use Rattle.bus_story.specs.Items.{abort, is_tag_clash, Sent, is_done, count_item}
-use Rattle.bus_reactions.specs.Reactions.{sooner_time, time_if}
-use Rattle.bus_due.specs.bus_dialogue.specs.Wants.{OwnCommand}
-use Rattle.bus_due.specs.Wants.{own_commands}
+use Rattle.array_model.specs.Steps.{has_tag}
+use Rattle.array_model.specs.Order.{tag_number}
+use Rattle.story_model.specs.Items.{abort, is_tag_clash, Sent, is_done, count_item}
+use Rattle.reaction_model.specs.Reactions.{sooner_time, time_if}
+use Rattle.due_model.specs.dialogue_model.specs.Wants.{OwnCommand}
+use Rattle.due_model.specs.Wants.{own_commands}
 use Rattle.initiator.specs.declared.mine.Mine.{Mine}
 use Rattle.initiator.specs.declared.mine.MyAbort.{MyAbort}
 

@@ -8,9 +8,9 @@ use Rattle.bus_base.specs.declared.Event.TheVariants as events
 use Rattle.bus_trace.specs.declared.Row.{Row}
 use Rattle.bus_trace.specs.declared.connection.Connection.{Connection}
 use Rattle.scenario.specs.Value.{ScenarioValue}
-use Rattle.bus_story.specs.TraceHistory.{aim_of}
-use Rattle.bus_due.specs.LastingState.{Negotiated, has_negotiated}
-use Rattle.bus_due.specs.RunSteps.{run_state, is_for_process}
+use Rattle.story_model.specs.TraceHistory.{aim_of}
+use Rattle.due_model.specs.LastingState.{Negotiated, has_negotiated}
+use Rattle.due_model.specs.RunSteps.{run_state, is_for_process}
 
 pub record NegotiationsValue : Type 0 where
   pub dev : ℕ

@@ -6,7 +6,7 @@ use Rattle.msg_grammar.specs.Messages.{out_bytes}
 use Rattle.scenario.specs.declared.value.HostDef.{HostDef}
 use Rattle.scenario.specs.declared.value.Tag.{Tag}
 use Rattle.scenario.specs.declared.value.Tag.TheVariants as tags
-use Rattle.bus_due.specs.bus_dialogue.specs.Words.{tag_bytes, offer_if, abort_bytes}
+use Rattle.due_model.specs.dialogue_model.specs.Words.{tag_bytes, offer_if, abort_bytes}
 use Rattle.initiator.specs.declared.mine.Mine.{Mine}
 use Rattle.initiator.specs.declared.mine.MyAbort.{MyAbort}
 use Rattle.initiator.specs.declared.mine.OwnItem.{OwnItem}

@@ -4,12 +4,12 @@ use Rattle.bus_base.specs.declared.Event.{Event}
 use Rattle.bus_base.specs.declared.ProcId.{ProcId}
 use Rattle.cdb_codec.specs.declared.status.TheConstants.{GOOD, QUEUE_FULL}
 use Rattle.scenario.specs.Value.{ScenarioValue}
-use Rattle.bus_story.specs.Outcomes as told
-use Rattle.bus_story.specs.Outcomes.{ended_good, ended_check, ended_full, ended_unanswered, ended_lost, ended_reset}
-use Rattle.bus_story.specs.Outcomes.{ended_aborted, sense_in, reply_bytes, outcome_of}
-use Rattle.bus_story.specs.Right.{same_bytes}
-use Rattle.bus_story.specs.Story.{Story}
-use Rattle.bus_story.specs.Items.{sense_id, command_id}
+use Rattle.story_model.specs.Outcomes as told
+use Rattle.story_model.specs.Outcomes.{ended_good, ended_check, ended_full, ended_unanswered, ended_lost, ended_reset}
+use Rattle.story_model.specs.Outcomes.{ended_aborted, sense_in, reply_bytes, outcome_of}
+use Rattle.story_model.specs.Right.{same_bytes}
+use Rattle.story_model.specs.Story.{Story}
+use Rattle.story_model.specs.Items.{sense_id, command_id}
 use Rattle.initiator.specs.declared.mine.Mine.{Mine}
 use Rattle.initiator.specs.declared.endings.CommandEnd.{CommandEnd}
 use Rattle.initiator.specs.declared.endings.Ending.{Ending}

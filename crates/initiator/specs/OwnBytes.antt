@@ -4,9 +4,9 @@ use Rattle.bus_base.specs.declared.ProcId.{ProcId}
 use Rattle.scenario.specs.declared.value.CmdDef.{CmdDef}
 use Rattle.scenario.specs.Needs.{sent_count}
 use Rattle.scenario.specs.Value.{ScenarioValue}
-use Rattle.disk_array.specs.Processes.{payload_bytes, sense_block}
+use Rattle.array_model.specs.Processes.{payload_bytes, sense_block}
 use Rattle.io_pointers.specs.declared.pointers.Place.{Place}
-use Rattle.bus_due.specs.bus_dialogue.specs.Sending.{Sending}
+use Rattle.due_model.specs.dialogue_model.specs.Sending.{Sending}
 
 pub record CommandBytesValue : Type 0 where
   pub cdb : List ℕ

@@ -7,9 +7,9 @@ use Rattle.msg_grammar.specs.declared.message.MsgOut.{MsgOut}
 use Rattle.msg_grammar.specs.declared.message.MsgOut.TheVariants as to_target
 use Rattle.msg_grammar.specs.declared.message.MsgIn.{MsgIn}
 use Rattle.msg_grammar.specs.declared.message.MsgIn.TheVariants as to_initiator
-use Rattle.bus_story.specs.Links as links
-use Rattle.bus_story.specs.Links.{Link}
-use Rattle.bus_story.specs.CarriedBytes.{CarriedBytes}
+use Rattle.story_model.specs.Links as links
+use Rattle.story_model.specs.Links.{Link}
+use Rattle.story_model.specs.CarriedBytes.{CarriedBytes}
 use Rattle.initiator.specs.declared.mine.Mine.{Mine}
 use Rattle.initiator.specs.declared.mine.OwnItem.{OwnItem}
 use Rattle.initiator.specs.declared.mine.OwnItem.TheVariants as own
@@ -21,7 +21,7 @@ use Rattle.initiator.specs.declared.own_link.OwnLink.{OwnLink}
 use Rattle.initiator.specs.Books.{item_if}
 use Rattle.initiator.specs.Mines.{is_open_mine, is_at_unit_of}
 use Rattle.initiator.specs.HeldPointers.{held_at, with_held, IsHeldOf}
-use Rattle.disk_array.specs.Order.{same_number, tag_number}
+use Rattle.array_model.specs.Order.{same_number, tag_number}
 
 -- A command or an automatic REQUEST SENSE; an abort is none.
 abbrev pub process_in : Option OwnItem → Option ProcId

@@ -12,15 +12,15 @@ use Rattle.msg_grammar.specs.declared.message.MsgOut.{MsgOut}
 use Rattle.scenario.specs.declared.value.CmdDef.{CmdDef}
 use Rattle.scenario.specs.Needs.{need_of, is_write}
 use Rattle.scenario.specs.Value.{ScenarioValue}
-use Rattle.disk_array.specs.Processes.{command_at}
-use Rattle.bus_story.specs.BusState.{row_reading}
-use Rattle.bus_story.specs.CarriedBytes.{Area, CarriedBytes, carried_of}
-use Rattle.bus_story.specs.Links.{Link}
-use Rattle.bus_story.specs.Right.{same_bytes}
-use Rattle.bus_story.specs.Story.{Story}
-use Rattle.bus_story.specs.TraceHistory.{is_parity_error}
-use Rattle.bus_due.specs.bus_dialogue.specs.declared.exchange.Hearing.{Hearing}
-use Rattle.bus_due.specs.RunSteps.{run_state}
+use Rattle.array_model.specs.Processes.{command_at}
+use Rattle.story_model.specs.BusState.{row_reading}
+use Rattle.story_model.specs.CarriedBytes.{Area, CarriedBytes, carried_of}
+use Rattle.story_model.specs.Links.{Link}
+use Rattle.story_model.specs.Right.{same_bytes}
+use Rattle.story_model.specs.Story.{Story}
+use Rattle.story_model.specs.TraceHistory.{is_parity_error}
+use Rattle.due_model.specs.dialogue_model.specs.declared.exchange.Hearing.{Hearing}
+use Rattle.due_model.specs.RunSteps.{run_state}
 
 -- ---- a buffer: what came, from the first byte on, as far as there is room
 

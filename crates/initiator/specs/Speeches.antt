@@ -3,14 +3,14 @@ use Rattle.std.specs.Prelude.{ℕ, ◌≡◌, ◌==◌, true, false, List, [], �
 use Rattle.bus_trace.specs.declared.Row.{Row}
 use Rattle.bus_trace.specs.declared.connection.Connection.{Connection}
 use Rattle.scenario.specs.Value.{ScenarioValue}
-use Rattle.bus_story.specs.TraceHistory.{aim_of}
+use Rattle.story_model.specs.TraceHistory.{aim_of}
 use Rattle.bus_trace.specs.Terms.{connection}
 use Rattle.scenario.specs.declared.value.HostDef.{HostDef}
-use Rattle.bus_due.specs.bus_dialogue.specs.declared.exchange.Hearing.{Hearing}
-use Rattle.bus_due.specs.bus_dialogue.specs.Speaking.{speech_after}
-use Rattle.bus_due.specs.bus_dialogue.specs.Exchange.{Speech, no_speech, speech_of}
+use Rattle.due_model.specs.dialogue_model.specs.declared.exchange.Hearing.{Hearing}
+use Rattle.due_model.specs.dialogue_model.specs.Speaking.{speech_after}
+use Rattle.due_model.specs.dialogue_model.specs.Exchange.{Speech, no_speech, speech_of}
 use Rattle.initiator.specs.States.{IsOwnConnection}
-use Rattle.bus_due.specs.RunSteps.{run_state, opening_of}
+use Rattle.due_model.specs.RunSteps.{run_state, opening_of}
 
 -- What it says first in the connection that a row begins.
 abbrev pub first_words : ScenarioValue → List Row → Connection → List ℕ

@@ -6,21 +6,21 @@ use Rattle.bus_trace.specs.declared.Row.{Row}
 use Rattle.bus_trace.specs.declared.connection.Connection.{Connection}
 use Rattle.scenario.specs.declared.value.HostDef.{HostDef}
 use Rattle.scenario.specs.Value.{ScenarioValue}
-use Rattle.bus_story.specs.TraceHistory.{aim_of}
-use Rattle.bus_due.specs.bus_dialogue.specs.Exchange.{Speech}
-use Rattle.bus_due.specs.bus_dialogue.specs.Sending.{Sending, byte_to_send}
-use Rattle.bus_due.specs.Own.{Own, own_of}
-use Rattle.bus_due.specs.Defs.{host_of, target_def_of}
-use Rattle.bus_due.specs.Wants.{ready_of, item_want_time, target_of}
-use Rattle.bus_due.specs.Sights.{sending_of}
-use Rattle.bus_due.specs.RunSteps.{run_state}
-use Rattle.bus_due.specs.Due.{reset_from}
+use Rattle.story_model.specs.TraceHistory.{aim_of}
+use Rattle.due_model.specs.dialogue_model.specs.Exchange.{Speech}
+use Rattle.due_model.specs.dialogue_model.specs.Sending.{Sending, byte_to_send}
+use Rattle.due_model.specs.Own.{Own, own_of}
+use Rattle.due_model.specs.Defs.{host_of, target_def_of}
+use Rattle.due_model.specs.Wants.{ready_of, item_want_time, target_of}
+use Rattle.due_model.specs.Sights.{sending_of}
+use Rattle.due_model.specs.RunSteps.{run_state}
+use Rattle.due_model.specs.Due.{reset_from}
 use Rattle.initiator.specs.declared.due.Knowledge.{Knowledge}
 use Rattle.scsi_device.specs.Itself.{ItselfValue}
 use Rattle.initiator.specs.Intents.{IntentValue}
 use Rattle.initiator.specs.OwnBytes.{CommandBytesValue, sending_from}
 use Rattle.initiator.specs.Transfers.{TransfersValue, process_of_link, active_at}
-use Rattle.disk_array.specs.Seats.{is_initiator}
+use Rattle.array_model.specs.Seats.{is_initiator}
 
 -- ---- what it knows itself
 

@@ -13,12 +13,12 @@ use Rattle.bus_trace.specs.Terms.{connection}
 use Rattle.msg_grammar.specs.declared.message.MsgOut.{MsgOut}
 use Rattle.msg_grammar.specs.declared.message.MsgIn.{MsgIn}
 use Rattle.scenario.specs.Value.{ScenarioValue}
-use Rattle.bus_story.specs.TraceHistory.{is_parity_error}
+use Rattle.story_model.specs.TraceHistory.{is_parity_error}
 use Rattle.io_pointers.specs.declared.pointers.Place.{Place}
 use Rattle.io_pointers.specs.Pointers.{pointers_of, at_start}
-use Rattle.bus_due.specs.bus_dialogue.specs.declared.exchange.Hearing.{Hearing}
-use Rattle.bus_due.specs.RunState.{RunState, carried_here}
-use Rattle.bus_due.specs.RunSteps.{run_state}
+use Rattle.due_model.specs.dialogue_model.specs.declared.exchange.Hearing.{Hearing}
+use Rattle.due_model.specs.RunState.{RunState, carried_here}
+use Rattle.due_model.specs.RunSteps.{run_state}
 use Rattle.initiator.specs.declared.mine.Mine.{Mine}
 use Rattle.initiator.specs.declared.mine.OwnItem.{OwnItem}
 use Rattle.initiator.specs.declared.held.HeldPair.{HeldPair}

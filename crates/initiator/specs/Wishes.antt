@@ -11,12 +11,12 @@ use Rattle.bus_trace.specs.declared.Row.{Row}
 use Rattle.bus_trace.specs.Changes.{rises, falls}
 use Rattle.scenario.specs.declared.value.AbortDef.{AbortDef}
 use Rattle.scenario.specs.Value.{ScenarioValue}
-use Rattle.disk_array.specs.Processes.{command_at}
-use Rattle.bus_story.specs.HistoryEvents.{abort_line_at}
-use Rattle.bus_story.specs.Items.{Item, process, abort, is_of_host}
-use Rattle.bus_story.specs.Story.{Story}
-use Rattle.bus_story.specs.TraceHistory.{aim_of}
-use Rattle.bus_due.specs.RunSteps.{run_state}
+use Rattle.array_model.specs.Processes.{command_at}
+use Rattle.story_model.specs.HistoryEvents.{abort_line_at}
+use Rattle.story_model.specs.Items.{Item, process, abort, is_of_host}
+use Rattle.story_model.specs.Story.{Story}
+use Rattle.story_model.specs.TraceHistory.{aim_of}
+use Rattle.due_model.specs.RunSteps.{run_state}
 use Rattle.initiator.specs.declared.mine.Mine.{Mine}
 use Rattle.initiator.specs.declared.mine.MyAbort.{MyAbort}
 use Rattle.initiator.specs.declared.mine.OwnItem.{OwnItem}

@@ -2,7 +2,7 @@
 ghost use Rattle.std.specs.Prelude.{ℕ, ◌≡◌, ◌<◌, true, List, drop, length, take, IfOk};
 ghost use Rattle.std.specs.List.{list_all};
 ghost use Rattle.initiator.specs.declared.mine.MyAbort.{MyAbort};
-ghost use Rattle.bus_story.specs.Items.{open_limit_of};
+ghost use Rattle.story_model.specs.Items.{open_limit_of};
 ghost use Rattle.bus_base.specs.declared.Event.{Event};
 ghost use Rattle.initiator.specs.Commands.{all_past};
 ghost use Rattle.initiator.specs.Endings.{ends_after_events};

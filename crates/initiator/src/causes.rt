@@ -3,13 +3,13 @@ ghost use Rattle.std.specs.Prelude.{ℕ, ◌≡◌, true, false, nat_lt, List, O
 ghost use Rattle.bus_trace.specs.declared.Row.{Row};
 ghost use Rattle.scenario.specs.declared.value.CmdDef.{CmdDef};
 ghost use Rattle.scenario.specs.Value.{ScenarioValue};
-ghost use Rattle.disk_array.specs.Processes.{command_at};
-ghost use Rattle.bus_story.specs.Items.{command_item, sense_item, has_item, count_item, sense_id, command_id};
-ghost use Rattle.bus_story.specs.Outcomes.{ending_of, has_end};
-ghost use Rattle.bus_story.specs.Story.{by_status, by_loss, by_reset, by_abort, unanswered};
-ghost use Rattle.bus_story.specs.TraceHistory.{retries_of};
-ghost use Rattle.bus_due.specs.Plain.{AreOfDevices};
-ghost use Rattle.bus_due.specs.RunSteps.{run_state};
+ghost use Rattle.array_model.specs.Processes.{command_at};
+ghost use Rattle.story_model.specs.Items.{command_item, sense_item, has_item, count_item, sense_id, command_id};
+ghost use Rattle.story_model.specs.Outcomes.{ending_of, has_end};
+ghost use Rattle.story_model.specs.Story.{by_status, by_loss, by_reset, by_abort, unanswered};
+ghost use Rattle.story_model.specs.TraceHistory.{retries_of};
+ghost use Rattle.due_model.specs.Plain.{AreOfDevices};
+ghost use Rattle.due_model.specs.RunSteps.{run_state};
 ghost use Rattle.initiator.specs.Causes.{has_status, has_loss, has_bus_reset, has_command_abort, has_sense_stop};
 /// How a command ended has its cause in what the rows tell, lawful or not: the history has its end with that status
 /// (`status`), its loss (`loss`), a reset (`reset`) or an abort that concerns it (`abort`), or its initiator called for

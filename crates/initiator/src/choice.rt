@@ -1,18 +1,18 @@
 // What an initiator sends next, and since when it wants to, by its own commands and aborts.
 ghost use Rattle.std.specs.Prelude.{◌≡◌, ◌≤◌, true, length, take};
 ghost use Rattle.std.specs.List.{list_any};
-ghost use Rattle.bus_story.specs.Items.{is_tag_clash};
-ghost use Rattle.bus_reactions.specs.Reactions.{time_if};
+ghost use Rattle.story_model.specs.Items.{is_tag_clash};
+ghost use Rattle.reaction_model.specs.Reactions.{time_if};
 ghost use Rattle.initiator.specs.Mines.{open_mines, is_open_mine, is_done_mine, is_clash_of, may_follow_mines, mines_since, mine_by, my_aborts_since, my_abort_by};
 ghost use Rattle.initiator.specs.Books.{my_sense};
 ghost use Rattle.initiator.specs.Checks.{none_due};
-ghost use Rattle.disk_array.specs.Order.{tag_number};
+ghost use Rattle.array_model.specs.Order.{tag_number};
 
 use crate::commands::Commands;
 use crate::marks::is_open_mine;
 use crate::mine::{Mine, MyAbort};
+use array_model::tag_number;
 use bus_base::Ns;
-use disk_array::tag_number;
 use scenario::Tag;
 use scsi_device::sooner_time;
 

@@ -1,6 +1,6 @@
 // An initiator's own commands: each is found by its number, and those that are past are walked over no more.
 ghost use Rattle.std.specs.Prelude.{ℕ, ◌≡◌, ◌+◌, ◌≤◌, ◌<◌, ◌||◌, ◌++◌, not, true, false, [], List, Option, map, take, drop, length, slice_set, slice_range, IfOk, IfSome, IfNone};
-ghost use Rattle.bus_due.specs.Wants.{own_command};
+ghost use Rattle.due_model.specs.Wants.{own_command};
 ghost use Rattle.initiator.specs.declared.mine.Mine.{Mine};
 ghost use Rattle.initiator.specs.declared.endings.CommandEnd.{CommandEnd};
 ghost use Rattle.bus_base.specs.declared.Event.{Event};

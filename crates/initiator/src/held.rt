@@ -1,14 +1,14 @@
 //! What an initiator holds of its processes: of each its pointers and its status (ANSI X3.131-1994, 6.4).
 ghost use Rattle.std.specs.Prelude.{◌≡◌, slice_index_or};
-ghost use Rattle.bus_story.specs.CarriedBytes.{is_status_phase};
+ghost use Rattle.story_model.specs.CarriedBytes.{is_status_phase};
 ghost use Rattle.io_pointers.specs.Pointers.{place_in, with_restored, with_saved_data};
 ghost use Rattle.initiator.specs.HeldPointers.{nothing_held, held_restored, held_after_message, advanced_within, status_after, held_after_byte, no_pair, half_of, with_half, held_at, with_held, restored_if, message_if, byte_if};
 
 use bus_base::ProcId;
-use bus_story::is_status_phase;
 use bus_trace::{Lines, is_command, is_data};
 use io_pointers::{Area, Pointers};
 use msg_grammar::MsgIn;
+use story_model::is_status_phase;
 
 /// What is held of a process.
 #[derive(Clone, Copy)]

@@ -4,13 +4,13 @@ ghost use Rattle.bus_trace.specs.declared.Row.{Row};
 ghost use Rattle.scenario.specs.declared.value.FaultDef.{FaultDef};
 ghost use Rattle.scenario.specs.declared.value.HostDef.{HostDef};
 ghost use Rattle.scenario.specs.Value.{ScenarioValue};
-ghost use Rattle.bus_due.specs.Next.{due};
-ghost use Rattle.bus_due.specs.Plain.{AreOfDevices};
-ghost use Rattle.bus_due.specs.RunSteps.{run_state};
-ghost use Rattle.bus_due.specs.Wants.{ready_of};
-ghost use Rattle.bus_due.specs.bus_dialogue.specs.Exchange.{Speech};
-ghost use Rattle.bus_due.specs.bus_dialogue.specs.Sending.{Sending};
-ghost use Rattle.bus_due.specs.Sights.{sending_of};
+ghost use Rattle.due_model.specs.Next.{due};
+ghost use Rattle.due_model.specs.Plain.{AreOfDevices};
+ghost use Rattle.due_model.specs.RunSteps.{run_state};
+ghost use Rattle.due_model.specs.Wants.{ready_of};
+ghost use Rattle.due_model.specs.dialogue_model.specs.Exchange.{Speech};
+ghost use Rattle.due_model.specs.dialogue_model.specs.Sending.{Sending};
+ghost use Rattle.due_model.specs.Sights.{sending_of};
 ghost use Rattle.scsi_device.specs.Itself.{ItselfValue, IsItselfOf};
 ghost use Rattle.initiator.specs.Intents.{IntentValue, IsIntentOf};
 ghost use Rattle.scsi_device.specs.Told.{told, first_fault};
@@ -20,12 +20,12 @@ ghost use Rattle.initiator.specs.Dues.{initiator_next};
 ghost use Rattle.initiator.specs.Speeches.{first_words, speech_at};
 ghost use Rattle.bus_trace.specs.declared.connection.Connection.{Connection};
 ghost use Rattle.bus_trace.specs.Terms.{connection};
-ghost use Rattle.bus_due.specs.bus_dialogue.specs.Exchange.{no_speech, speech_of};
-ghost use Rattle.bus_due.specs.bus_dialogue.specs.Speaking.{speech_after};
-ghost use Rattle.bus_due.specs.bus_dialogue.specs.Hearing.{hearing};
-ghost use Rattle.bus_due.specs.Defs.{host_of};
+ghost use Rattle.due_model.specs.dialogue_model.specs.Exchange.{no_speech, speech_of};
+ghost use Rattle.due_model.specs.dialogue_model.specs.Speaking.{speech_after};
+ghost use Rattle.due_model.specs.dialogue_model.specs.Hearing.{hearing};
+ghost use Rattle.due_model.specs.Defs.{host_of};
 
-use bus_due::{end_reactions_are_due, hearings_are_plain, kept_is_plain};
+use due_model::{end_reactions_are_due, hearings_are_plain, kept_is_plain};
 use scsi_device::devices_know_enough;
 
 /// What is due of an initiator is what it does next by what all devices are told, by what it knows itself, and by the

@@ -11,8 +11,8 @@
 //! negotiate; [`Speech`], what it says in MESSAGE OUT; [`Transfers`], the pointers and the status of its own processes,
 //! and to which of them its connection belongs; [`Endings`] and [`Received`], how each of its commands ended, and the
 //! data that came. `specs/Hosts.antt` puts the parts together, and each has a file of its own there;
-//! `specs/States.antt` and `Dues.antt` say what it does next by what it knows. Stands on `scsi_device`, `bus_due`,
-//! `bus_dialogue`, `io_pointers`, `connect` and `handshake`.
+//! `specs/States.antt` and `Dues.antt` say what it does next by what it knows. Stands on `scsi_device`, `due_model`,
+//! `dialogue_model`, `io_pointers`, `connect` and `handshake`.
 //!
 //! Public contract: after any rows of the eight devices, lawful or not, a `Host` that was told of each of them knows
 //! what these make known (`IsHostAfter`), and what it does next is exactly what is due of it (`Host::due`). No call but

@@ -1,6 +1,6 @@
 // What is done to the commands and aborts of an initiator.
 ghost use Rattle.std.specs.Prelude.{◌≡◌, map};
-ghost use Rattle.disk_array.specs.Steps.{has_tag};
+ghost use Rattle.array_model.specs.Steps.{has_tag};
 ghost use Rattle.initiator.specs.Mines.{is_open_mine, with_sent, with_over, with_one_try, with_checked, with_status, is_check, sent_at, over_at, tried_at, mine_with_end, is_at_unit_of, is_mine_aborted, is_my_sense_stopped, mine_after_end, mine_after_event};
 ghost use Rattle.bus_base.specs.declared.Event.TheVariants.{End};
 ghost use Rattle.initiator.specs.Books.{done_at, abort_tried_at};

@@ -3,14 +3,14 @@ ghost use Rattle.std.specs.Prelude.{◌≡◌, ◌<◌, ◌≤◌, [], ◌∷◌
 ghost use Rattle.bus_trace.specs.declared.Row.{Row};
 ghost use Rattle.bus_trace.specs.Terms.{connection};
 ghost use Rattle.scenario.specs.Value.{ScenarioValue};
-ghost use Rattle.bus_due.specs.LastingState.{has_negotiated};
-ghost use Rattle.bus_due.specs.Plain.{AreOfDevices};
-ghost use Rattle.bus_due.specs.RunSteps.{run_state, events_of_row};
+ghost use Rattle.due_model.specs.LastingState.{has_negotiated};
+ghost use Rattle.due_model.specs.Plain.{AreOfDevices};
+ghost use Rattle.due_model.specs.RunSteps.{run_state, events_of_row};
 ghost use Rattle.initiator.specs.Negotiations.{no_negotiations, had_by_connection, had_after_event, had_after_events, negotiations_after, IsNegotiationsOf, aims_at_process};
 
 use bus_base::{AbortKind, Dev, Event};
-use bus_due::kept_is_plain;
 use bus_trace::{Connection, ScsiId};
+use due_model::kept_is_plain;
 use std::marker::Model;
 
 /// With which targets this initiator has had the connection in which the two may negotiate: the first one for a

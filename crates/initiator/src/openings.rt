@@ -1,10 +1,10 @@
 // What an initiator says first in a connection that it began (6.6.7, 6.6.17, 6.6.21).
 ghost use Rattle.std.specs.Prelude.{◌≡◌, ◌<◌, ◌≤◌, ◌+◌, ◌++◌, length, not, false, Some};
 ghost use Rattle.msg_grammar.specs.Messages.{FitsOut, out_bytes};
-ghost use Rattle.disk_array.specs.Processes.{Process};
+ghost use Rattle.array_model.specs.Processes.{Process};
 ghost use Rattle.msg_grammar.specs.declared.MsgOut.TheVariants as to_target;
 ghost use Rattle.initiator.specs.Openings.{mine_opening, my_abort_opening, opening_by};
-ghost use Rattle.bus_due.specs.bus_dialogue.specs.Words.{offer_if, tag_bytes, abort_bytes, process_opening, abort_opening};
+ghost use Rattle.due_model.specs.dialogue_model.specs.Words.{offer_if, tag_bytes, abort_bytes, process_opening, abort_opening};
 
 use crate::book::Book;
 use crate::mine::{Mine, MyAbort, OwnItem};

@@ -1,8 +1,8 @@
 //! The outcome of a command of an initiator's own (ANSI X3.131-1994, 7.3 and 8.2.14).
 ghost use Rattle.std.specs.Prelude.{ℕ, ◌≡◌, List, true, slice_index};
 ghost use Rattle.scenario.specs.Value.{ScenarioValue};
-ghost use Rattle.bus_story.specs.Outcomes.{sense_in};
-ghost use Rattle.bus_story.specs.Story.{Story};
+ghost use Rattle.story_model.specs.Outcomes.{sense_in};
+ghost use Rattle.story_model.specs.Story.{Story};
 ghost use Rattle.initiator.specs.Endings.{IsEndOf};
 ghost use Rattle.initiator.specs.Outcomes.{is_settled_by, is_settled, outcome_by_status, outcome_by, outcome_after, told_outcome_if, are_replies, settled_outcome};
 

@@ -2,14 +2,14 @@
 ghost use Rattle.std.specs.Prelude.{◌≡◌, Some, None};
 ghost use Rattle.initiator.specs.OwnLinks.{process_in, is_open_sense_of, named_in, link_with_name, last_after_out, last_after_in, new_link, undo_of, undone};
 ghost use Rattle.initiator.specs.Mines.{is_open_mine};
-ghost use Rattle.disk_array.specs.Order.{same_number, tag_number};
+ghost use Rattle.array_model.specs.Order.{same_number, tag_number};
 
 use crate::book::Book;
 use crate::held::{Held, HeldPair, held_at, set_held};
 use crate::marks::{is_at_unit, is_open_mine};
 use crate::mine::{Mine, OwnItem};
+use array_model::tag_number;
 use bus_base::{Dev, ProcId};
-use disk_array::tag_number;
 use msg_grammar::{MsgIn, MsgOut};
 use scenario::Tag;
 

@@ -3,19 +3,19 @@ ghost use Rattle.std.specs.Prelude.{◌≡◌, ◌≤◌, ◌∷◌, length, Lis
 ghost use Rattle.bus_trace.specs.declared.Row.{Row};
 ghost use Rattle.bus_trace.specs.Terms.{connection};
 ghost use Rattle.scenario.specs.Value.{ScenarioValue};
-ghost use Rattle.bus_due.specs.bus_dialogue.specs.Hearing.{hearing as hearing_in};
-ghost use Rattle.bus_due.specs.Defs.{host_of};
-ghost use Rattle.bus_due.specs.Plain.{AreOfDevices};
+ghost use Rattle.due_model.specs.dialogue_model.specs.Hearing.{hearing as hearing_in};
+ghost use Rattle.due_model.specs.Defs.{host_of};
+ghost use Rattle.due_model.specs.Plain.{AreOfDevices};
 ghost use Rattle.initiator.specs.Speeches.{speech_in, speech_by, IsSpeechOf, IsOpeningOf};
-ghost use Rattle.bus_due.specs.bus_dialogue.specs.Exchange.{no_speech, next_word, attends_with, speech_after_byte, speech_of, speech_after_request};
-ghost use Rattle.bus_due.specs.bus_dialogue.specs.Words.{host_answer};
-ghost use Rattle.bus_due.specs.bus_dialogue.specs.Speaking.{words_after, speech_in_phase, speech_with_byte, speech_after};
+ghost use Rattle.due_model.specs.dialogue_model.specs.Exchange.{no_speech, next_word, attends_with, speech_after_byte, speech_of, speech_after_request};
+ghost use Rattle.due_model.specs.dialogue_model.specs.Words.{host_answer};
+ghost use Rattle.due_model.specs.dialogue_model.specs.Speaking.{words_after, speech_in_phase, speech_with_byte, speech_after};
 
 use crate::openings::Words;
 use arrayvec::ArrayVec;
-use bus_due::the_bus_dialogue::Hearing;
-use bus_due::{hearings_are_plain, kept_is_plain};
 use bus_trace::{Agreement, Connection, changes_phase, is_message_in, is_message_out};
+use due_model::the_dialogue_model::Hearing;
+use due_model::{hearings_are_plain, kept_is_plain};
 use msg_grammar::{MsgIn, MsgOut, encode_out};
 use scenario::HostDef;
 use scsi_device::agreement_answer;
@@ -32,7 +32,7 @@ pub struct Speech {
 
 impl Model for Speech {
     ghost use Rattle.std.specs.Prelude.{◌≤◌, length};
-    ghost use Rattle.bus_due.specs.bus_dialogue.specs.Exchange as exchange;
+    ghost use Rattle.due_model.specs.dialogue_model.specs.Exchange as exchange;
 
     ghost Value = { exchange.Speech };
 

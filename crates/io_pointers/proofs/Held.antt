@@ -5,7 +5,7 @@ use Rattle.std.specs.Prelude.{nat_lt, slice_set, if◌then◌else◌}
 use Rattle.std.proofs.lemmas.Bool.Decides.{nat_tests}
 use Rattle.std.proofs.lemmas.List.{take_more_set, length-set, length-append}
 use Rattle.std.proofs.Math.Seq.{take-set-lt}
-use Rattle.bus_story.specs.CarriedBytes.{Area, area_with, restored_area}
+use Rattle.story_model.specs.CarriedBytes.{Area, area_with, restored_area}
 use Rattle.io_pointers.specs.HostBuffer.{IsHeld}
 use Rattle.bus_base.proofs.Tests.{length_more}
 

@@ -3,7 +3,7 @@
 use Rattle.std.specs.Prelude.{ℕ, ◌+◌, Bool}
 use Rattle.bus_trace.specs.LineSet.{LineSet}
 use Rattle.bus_trace.specs.Phases.{is_data, is_command}
-use Rattle.bus_story.specs.CarriedBytes.{CarriedBytes, is_status_phase}
+use Rattle.story_model.specs.CarriedBytes.{CarriedBytes, is_status_phase}
 use Rattle.io_pointers.specs.declared.pointers.Area.{Area}
 use Rattle.io_pointers.specs.declared.pointers.Area.TheVariants as areas
 use Rattle.io_pointers.specs.declared.pointers.Place.{Place}

@@ -20,7 +20,7 @@ impl Model for HostBuffer {
 }
 
 impl HostBuffer {
-    ghost use Rattle.bus_story.specs.CarriedBytes.{Area, empty_area, area_with};
+    ghost use Rattle.story_model.specs.CarriedBytes.{Area, empty_area, area_with};
     ghost use Rattle.io_pointers.specs.HostBuffer.{IsHeld};
 
     /// An area of `len` bytes, all 00.

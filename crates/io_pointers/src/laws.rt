@@ -1,6 +1,6 @@
 //! A law of buffers, named by the contract of a function that does nothing.
 ghost use Rattle.std.specs.Prelude.{ℕ, List};
-ghost use Rattle.bus_story.specs.CarriedBytes.{Area, restored_area};
+ghost use Rattle.story_model.specs.CarriedBytes.{Area, restored_area};
 ghost use Rattle.io_pointers.specs.HostBuffer.{IsHeld};
 
 /// A buffer that holds what a process carried holds it still after SAVE DATA POINTER (6.6.20), RESTORE POINTERS

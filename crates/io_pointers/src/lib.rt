@@ -5,7 +5,7 @@
 //! active data pointer (6.6.20), and RESTORE POINTERS (6.6.19) and every connection set the active pointers to
 //! the saved ones. [`HostBuffer`] is the area of the initiator's memory that one of them points into; it serves a
 //! caller with an initiator of his own, since an initiator of a run keeps its areas itself, and here only tests call
-//! it. What a process carried, by its pointers, is said by `bus_story` (`specs/CarriedBytes.antt`);
+//! it. What a process carried, by its pointers, is said by `story_model` (`specs/CarriedBytes.antt`);
 //! `specs/Pointers.antt` and `specs/HostBuffer.antt` say where it stands here.
 //!
 //! Public contract: where the pointers are those of what a process carried, they are so after every message,

@@ -2,8 +2,8 @@
 ghost use Rattle.std.specs.Prelude.{ℕ, ◌≡◌, ◌<◌, ◌≤◌, true};
 ghost use Rattle.bus_base.specs.declared.ProcId.{ProcId};
 ghost use Rattle.bus_trace.specs.LineSet.{LineSet};
-ghost use Rattle.bus_story.specs.msg_grammar.specs.declared.message.MsgIn.TheVariants.{SavePointer, RestorePointers};
-ghost use Rattle.bus_story.specs.CarriedBytes.{CarriedBytes, nothing_carried, with_restored_pointers, carried_after_message, carried_after_byte};
+ghost use Rattle.story_model.specs.msg_grammar.specs.declared.message.MsgIn.TheVariants.{SavePointer, RestorePointers};
+ghost use Rattle.story_model.specs.CarriedBytes.{CarriedBytes, nothing_carried, with_restored_pointers, carried_after_message, carried_after_byte};
 ghost use Rattle.io_pointers.specs.Pointers.{pointers_of, is_in, at_start, place_in, with_saved_data, with_restored, advanced};
 
 /// A place in each area of a process: how many of its bytes stand before it.

@@ -10,14 +10,14 @@ pub use std_proofs.lemmas.Option.{none-some, same_Some}
 use Rattle.std.specs as std
 pub use std.{Int.{Bits.{or_self, or_zero_r}, RustNames.{bit_or}}, List.{AllByRecursion}, Prelude.{if◌then◌else◌}}
 pub use std.Prelude.{is_none, is_some, max, min, nat_le, nat_lt, slice_index_or}
-use Rattle.bus_due.specs.bus_base.proofs as bus_base_proofs
+use Rattle.due_model.specs.bus_base.proofs as bus_base_proofs
 pub use bus_base_proofs.Tests.{and_false, eq_self, implication_parts, implied, next_some, none_number, or_false}
 pub use bus_base_proofs.Tests.{or_true, wrong', zero_of}
-use Rattle.bus_due.specs.bus_base.specs as bus_base
+use Rattle.due_model.specs.bus_base.specs as bus_base
 pub use bus_base.{Faults.{counted_on}, declared.{AbortKind.{AbortKind}, Event.{Event}, ProcId.{ProcId}}}
-use Rattle.bus_due.specs.bus_trace.proofs as bus_trace_proofs
+use Rattle.due_model.specs.bus_trace.proofs as bus_trace_proofs
 pub use bus_trace_proofs.{Ages.{since_le}, Buses.{bus_none, bus_two}, OneRow.{drives-fault}, Sets.{same_self}}
-use Rattle.bus_due.specs.bus_trace.specs as bus_trace
+use Rattle.due_model.specs.bus_trace.specs as bus_trace
 pub use bus_trace.{Agreements.{fast_times, slow_times, times_of, times_or_slow}, Changes.{change_of, drives_data}}
 pub use bus_trace.{Changes.{falls, implies, rises}, LineSet.{LineSet, bit_value, data_of, none, parity_of, same, union}}
 pub use bus_trace.{Phases.{changes_phase, is_data, is_message_out}, Terms.{call, connection, connection_after}}
@@ -28,85 +28,87 @@ pub use bus_trace.declared.agreements.{TheConstants.{UNLIMITED_OFFSET}, Transfer
 pub use bus_trace.declared.{changes.Change.{Change}, connection.Connection.{Connection}}
 pub use bus_trace.declared.delays.TheConstants.{BUS_SETTLE_DELAY, DATA_RELEASE_DELAY, TURN_DELAY}
 pub use bus_trace.declared.{line_times.LineTimes.{LineTimes}, selection.Call.{Call}}
-use Rattle.bus_due.specs.bus_lines.proofs as bus_lines_proofs
+use Rattle.due_model.specs.bus_lines.proofs as bus_lines_proofs
 pub use bus_lines_proofs.Early.{push_length, struck_length, struck_same}
-use Rattle.bus_due.specs.bus_lines.specs as bus_lines
+use Rattle.due_model.specs.bus_lines.specs as bus_lines
 pub use bus_lines.Handshakes.{Handshakes, answered, answered_if, asked, asked_if, first_of, handshakes}
-pub use bus_lines.Handshakes.{handshakes_after, is_struck, no_handshakes, opened, or_now, or_zero, room_by, strikes}
-pub use bus_lines.{Handshakes.{strikes_if, strikes_last, time_of}, Stage.{stage}, declared.handshakes.Request.{Request}}
-pub use bus_lines.declared.stage.Stage.TheVariants.{InConnection, OnFreeBus}
-use Rattle.bus_due.specs.cdb_codec.specs as cdb_codec
+pub use bus_lines.Handshakes.{handshakes_after, is_struck, newest_struck_if, no_handshakes, opened, or_now, or_zero}
+pub use bus_lines.{Handshakes.{room_by, strikes, time_of, with_last_struck}, Stage.{stage}}
+pub use bus_lines.declared.{handshakes.Request.{Request}, stage.Stage.TheVariants.{InConnection, OnFreeBus}}
+use Rattle.due_model.specs.cdb_codec.specs as cdb_codec
 pub use cdb_codec.{Blocks.{blocks_moved}, Cdb.{command_of}, Replies.{capacity_data, inquiry_data, sense_data}}
 pub use cdb_codec.declared.{Sense.{Sense}, command.Command.{Command}, replies.TheConstants.{INQUIRY_LEN, SENSE_LEN}}
 pub use cdb_codec.declared.{sense.TheConstants.{ABORTED_COMMAND}, status.TheConstants.{CHECK_CONDITION, GOOD}}
-use Rattle.bus_due.specs.msg_grammar.specs as msg_grammar
+use Rattle.due_model.specs.msg_grammar.specs as msg_grammar
 pub use msg_grammar.declared.message.MsgIn.{MsgIn}
-use Rattle.bus_due.specs.bus_phases.specs as bus_phases
+use Rattle.due_model.specs.bus_phases.specs as bus_phases
 pub use bus_phases.Dialogue.{agreed, byte_crosses, byte_in, byte_out, dialogue, dialogue_after, dialogue_on}
 pub use bus_phases.{Dialogue.{heard_with_command, phase_begins}, Half.{is_nil}, Phases.{count_after, duty, duty_after}}
 pub use bus_phases.Phases.{duty_if_held, duty_left, is_attention_held, no_pulses, pulses, pulses_after, pulses_on}
 pub use bus_phases.{Phases.{turned, turned_after}, Reading.{reading_of}, declared.attention.Duty.{Duty}}
 pub use bus_phases.declared.{dialogue.Dialogue.{Dialogue}, pulses.Pulses.{Pulses}, reading.Reading.{Reading}}
 pub use bus_phases.declared.spoken.CommandBytes.{CommandBytes}
-use Rattle.bus_due.specs.bus_rules.proofs as bus_rules_proofs
+use Rattle.due_model.specs.bus_rules.proofs as bus_rules_proofs
 pub use bus_rules_proofs.First.{all_kept, none_broken}
-use Rattle.bus_due.specs.bus_rules.specs as bus_rules
+use Rattle.due_model.specs.bus_rules.specs as bus_rules
 pub use bus_rules.{Messages.{is_owed, keeps_command, keeps_messages}, Order.{is_of_device}, Rules.{broken_rule}}
 pub use bus_rules.{Rules.{first_broken, judged_rules, keeps, lowest_broken}, Seen.{drives_bsy, id_since}}
 pub use bus_rules.{Seen.{initiator_data, initiator_of, others_in_call, seen, target_data}, Transfer.{has_parity}}
 pub use bus_rules.{Transfer.{is_after}, declared.seen.Seen.{Seen}}
 unfoldable pub use bus_rules.Seen.{seen_with}
-use Rattle.bus_due.specs.scenario.specs as scenario
+use Rattle.due_model.specs.scenario.specs as scenario
 pub use scenario.{Lookups.{unit_of}, Reasons.{is_block_in}, Value.{ScenarioValue}, declared.value.FillDef.{FillDef}}
 pub use scenario.declared.value.{HostDef.{HostDef}, Policy.{Policy}, TargetDef.{TargetDef}, UnitDef.{UnitDef}}
-use Rattle.bus_due.specs.disk_array.proofs as disk_array_proofs
-pub use disk_array_proofs.Executed.{of_all}
-use Rattle.bus_due.specs.disk_array.specs as disk_array
-pub use disk_array.Contents.{Contents, blank_contents, block_at, bytes_at, filled_contents, no_contents, touched_block}
-pub use disk_array.{Contents.{touched_with, with_block, with_bytes, zero_block}, Execution.{CommandContext, Execution}}
-pub use disk_array.Execution.{Reply, check_condition, command_execution, commands_cleared, execution, good}
-pub use disk_array.Execution.{is_good_range, is_request_sense, queue_full, range_of, reply_execution, returned_sense}
-pub use disk_array.{Execution.{sense_of, write_execution}, Order.{choice}, Processes.{Process, process_of}}
-pub use disk_array.Units.{Array, Nexus, RunningProcess, UnitState, guest_at, has_no_current, is_held, nexus_of}
-pub use disk_array.Units.{nexuses_without, sense_of_nexus, senses_without, settled_array, starting_array}
-pub use disk_array.Units.{starting_units, unit_state_at, units_after_choice, with_current, with_unit}
-use Rattle.bus_due.specs.bus_story.proofs as bus_story_proofs
-pub use bus_story_proofs.StorySteps.{events_link}
-use Rattle.bus_due.specs.bus_story.specs as bus_story
-pub use bus_story.{BusState.{RowReading, row_reading}, CarriedBytes.{carried_of}, HistoryEvents.{bus_free_events}}
-pub use bus_story.HistoryEvents.{carried_if, connection_events, end_events, is_complete, is_completion, link_events}
-pub use bus_story.{HistoryEvents.{phase_events, row_events_by}, Items.{Item, abort, process}, Links.{Link}}
-pub use bus_story.{Samples.{latency_of}, Story.{Story}, TraceHistory.{story_on_bus}}
-use Rattle.bus_due.specs.bus_reactions.specs as bus_reactions
-pub use bus_reactions.{Ends.{initiator_due, owes_release, sample_due, target_due}, Initiator.{ack_negation}}
-pub use bus_reactions.Initiator.{ack_pulse_end, attends_by, byte_release, initiator_byte, initiator_handshake}
-pub use bus_reactions.{Initiator.{initiator_pulse, received_byte_ack, sent_byte_ack}, Reactions.{due_at}}
-pub use bus_reactions.Target.{bits_if, byte_bits, byte_change, first_byte, first_req, next_req, phase_end, pulse_turn}
-pub use bus_reactions.Target.{req_assertion, req_negation, req_pulse_end, target_handshake, target_pulse}
-pub use bus_reactions.declared.{due.{Due.{Due}, Myself.{Myself}}, ends.{Answering.{Answering}, Offering.{Offering}}}
-pub use bus_reactions.declared.{ends.Pace.{Pace}, sight.Sight.{Sight}}
-use Rattle.bus_due.specs.bus_dialogue.specs as bus_dialogue
-pub use bus_dialogue.{Arrivals.{policy_of}, DataRuns.{run_by, run_byte, run_in, run_length, runs_in_all}}
-pub use bus_dialogue.{Ends.{answering_by, is_pulsed_phase, lag_by, offering_by, pace_by}, Exchange.{bytes_of_messages}}
-pub use bus_dialogue.{Exchange.{one_message, two_messages}, Hearing.{begun, begun_after}, NextPhase.{Serving}}
-pub use bus_dialogue.NextPhase.{after_arrival, after_messages, after_offer, after_run, bus_free, command_leaving}
-pub use bus_dialogue.NextPhase.{data_in_leaving, data_out_leaving, disconnect_messages, disconnection, message_in_entry}
-pub use bus_dialogue.NextPhase.{message_out_leaving, message_repetition, next_data_phase, phase_entry, phase_leaving}
-pub use bus_dialogue.NextPhase.{phase_lines, phase_of, pointer_restoration, recovery, recovery_limit}
-pub use bus_dialogue.{NextPhase.{request_or_command, unless_attention, with_task}, PhaseBytes.{data_byte, follows_in}}
-pub use bus_dialogue.{PhaseBytes.{lines_by, run_length_if}, Sending.{Sending, byte_to_send}, Words.{is_naming}}
-pub use bus_dialogue.{Words.{request_by, target_answer}, declared.exchange.{Arrival.{Arrival}, Cause.{Cause}}}
-pub use bus_dialogue.declared.exchange.{Leaving.{Leaving}, Next.{Next}, Phase.{Phase}, Task.{Task}}
-use Rattle.bus_due.proofs as bus_due_proofs
-pub use bus_due_proofs.{Leasts.{some_eq}, Plains.{run_state_plain}, Stills.{keeps_wishes}}
-use Rattle.bus_due.specs as bus_due
-pub use bus_due.{Connected.{end_due, initiator_end_due, is_receiver, target_end_due}, Defs.{host_of, target_def_of}}
-pub use bus_due.{Due.{self_of, stage_due}, LastingState.{progress_in}, Least.{IsLeast}, Next.{IsPrompt, due}, Own.{Own}}
-pub use bus_due.{Own.{own_after, own_of}, Plain.{AreOfDevices, crossed, crossed_if}, RunState.{RunState, array_of}}
-pub use bus_due.RunState.{bus_of, carried_here, item_of, or_start, process_here, process_item, process_served}
-pub use bus_due.RunSteps.{array_after_events, leaving_of, progress_after, progress_by_leaving, run_state, served_after}
-pub use bus_due.{Sights.{flip_of, sending_by, sending_of, serving_at, sight_of}, Tasks.{given_if, is_writing}}
-pub use bus_due.{Tasks.{moved_count, reply_now, task_if, task_with}, Wants.{want_time}, Wishes.{IsStill, Wishes}}
+use Rattle.due_model.specs.array_model.proofs as array_model_proofs
+pub use array_model_proofs.Executed.{of_all}
+use Rattle.due_model.specs.array_model.specs as array_model
+pub use array_model.Contents.{Contents, blank_contents, block_at, bytes_at, filled_contents, no_contents, touched_block}
+pub use array_model.{Contents.{touched_with, with_block, with_bytes, zero_block}, Execution.{CommandContext, Execution}}
+pub use array_model.Execution.{Reply, check_condition, command_execution, commands_cleared, execution, good}
+pub use array_model.Execution.{is_good_range, is_request_sense, queue_full, range_of, reply_execution, returned_sense}
+pub use array_model.{Execution.{sense_of, write_execution}, Order.{choice}, Processes.{Process, process_of}}
+pub use array_model.Units.{Array, Nexus, RunningProcess, UnitState, guest_at, has_no_current, is_held, nexus_of}
+pub use array_model.Units.{nexuses_without, sense_of_nexus, senses_without, settled_array, starting_array}
+pub use array_model.Units.{starting_units, unit_state_at, units_after_choice, with_current, with_unit}
+use Rattle.due_model.specs.story_model.proofs as story_model_proofs
+pub use story_model_proofs.StorySteps.{events_link}
+use Rattle.due_model.specs.story_model.specs as story_model
+pub use story_model.{BusState.{RowReading, row_reading}, CarriedBytes.{carried_of}, HistoryEvents.{bus_free_events}}
+pub use story_model.HistoryEvents.{carried_if, connection_events, end_events, is_complete, is_completion, link_events}
+pub use story_model.{HistoryEvents.{phase_events, row_events_by}, Items.{Item, abort, process}, Links.{Link}}
+pub use story_model.{Samples.{latency_of}, Story.{Story}, TraceHistory.{story_on_bus}}
+use Rattle.due_model.specs.reaction_model.specs as reaction_model
+pub use reaction_model.{Ends.{initiator_due, owes_release, sample_due, target_due}, Initiator.{ack_negation}}
+pub use reaction_model.Initiator.{ack_pulse_end, attends_by, byte_release, initiator_byte, initiator_handshake}
+pub use reaction_model.{Initiator.{initiator_pulse, received_byte_ack, sent_byte_ack}, Reactions.{due_at}}
+pub use reaction_model.Target.{bits_if, byte_bits, byte_change, first_byte, first_req, next_req, phase_end, pulse_turn}
+pub use reaction_model.Target.{req_assertion, req_negation, req_pulse_end, target_handshake, target_pulse}
+pub use reaction_model.declared.{due.{Due.{Due}, Myself.{Myself}}, ends.{Answering.{Answering}, Offering.{Offering}}}
+pub use reaction_model.declared.{ends.Pace.{Pace}, sight.Sight.{Sight}}
+use Rattle.due_model.specs.dialogue_model.specs as dialogue_model
+pub use dialogue_model.{Arrivals.{policy_of}, DataRuns.{run_by, run_byte, run_in, run_length, runs_in_all}}
+pub use dialogue_model.Ends.{answering_by, is_pulsed_phase, lag_by, offering_by, pace_by}
+pub use dialogue_model.{Exchange.{bytes_of_messages, one_message, two_messages}, Hearing.{begun, begun_after}}
+pub use dialogue_model.NextPhase.{Serving, after_arrival, after_messages, after_offer, after_run, bus_free}
+pub use dialogue_model.NextPhase.{command_leaving, data_in_leaving, data_out_leaving, disconnect_messages}
+pub use dialogue_model.NextPhase.{disconnection, message_in_entry, message_out_leaving, message_repetition}
+pub use dialogue_model.NextPhase.{next_data_phase, phase_entry, phase_leaving, phase_lines, phase_of}
+pub use dialogue_model.NextPhase.{pointer_restoration, recovery, recovery_limit, request_or_command, unless_attention}
+pub use dialogue_model.{NextPhase.{with_task}, PhaseBytes.{data_byte, follows_in, lines_by, run_length_if}}
+pub use dialogue_model.{Sending.{Sending, byte_to_send}, Words.{is_naming, request_by, target_answer}}
+pub use dialogue_model.declared.exchange.{Arrival.{Arrival}, Cause.{Cause}, Leaving.{Leaving}, Next.{Next}}
+pub use dialogue_model.declared.exchange.{Phase.{Phase}, Task.{Task}}
+use Rattle.due_model.proofs as due_model_proofs
+pub use due_model_proofs.{Leasts.{some_eq}, Plains.{run_state_plain}, Stills.{keeps_wishes}}
+use Rattle.due_model.specs as due_model
+pub use due_model.{Connected.{end_due, initiator_end_due, is_receiver, target_end_due}, Defs.{host_of, target_def_of}}
+pub use due_model.{Due.{self_of, stage_due}, LastingState.{progress_in}, Least.{IsLeast}, Next.{IsPrompt, due}}
+pub use due_model.{Own.{Own, own_after, own_of}, Plain.{AreOfDevices, crossed, crossed_if}, RunState.{RunState}}
+pub use due_model.RunState.{array_of, bus_of, carried_here, item_of, or_start, process_here, process_item}
+pub use due_model.{RunState.{process_served}, RunSteps.{array_after_events, leaving_of, progress_after}}
+pub use due_model.{RunSteps.{progress_by_leaving, run_state, served_after}, Sights.{flip_of, sending_by, sending_of}}
+pub use due_model.{Sights.{serving_at, sight_of}, Tasks.{given_if, is_writing, moved_count, reply_now, task_if}}
+pub use due_model.{Tasks.{task_with}, Wants.{want_time}, Wishes.{IsStill, Wishes}}
 use Rattle.bus_laws.specs.scsi_device.proofs as scsi_device_proofs
 pub use scsi_device_proofs.{FitLines.{obeys_fits, unit_fits}, SentBytes.{process_few}}
 use Rattle.bus_laws.specs.scsi_device.specs as scsi_device

@@ -2,13 +2,13 @@
 -- each.
 use Rattle.std.specs.Prelude.{◌≡◌, Bool, true, not, ◌&&◌, List, [], ◌∷◌}
 use Rattle.bus_laws.specs.Stages.{is_connected}
-use Rattle.bus_due.specs.bus_trace.specs.declared.Row.{Row}
-use Rattle.bus_due.specs.bus_trace.specs.Changes.{falls, implies}
-use Rattle.bus_due.specs.bus_trace.specs.Phases.{is_data}
-use Rattle.bus_due.specs.bus_rules.specs.Seen.{seen}
-use Rattle.bus_due.specs.bus_rules.specs.Transfer.{has_parity}
-use Rattle.bus_due.specs.bus_trace.specs.Trace.{bus}
-use Rattle.bus_due.specs.bus_rules.specs.Messages.{keeps_messages, keeps_command}
+use Rattle.due_model.specs.bus_trace.specs.declared.Row.{Row}
+use Rattle.due_model.specs.bus_trace.specs.Changes.{falls, implies}
+use Rattle.due_model.specs.bus_trace.specs.Phases.{is_data}
+use Rattle.due_model.specs.bus_rules.specs.Seen.{seen}
+use Rattle.due_model.specs.bus_rules.specs.Transfer.{has_parity}
+use Rattle.due_model.specs.bus_trace.specs.Trace.{bus}
+use Rattle.due_model.specs.bus_rules.specs.Messages.{keeps_messages, keeps_command}
 
 -- A byte that crosses in this row has odd parity (6.1.5): each end gives a byte, and drives it where it offers one.
 abbrev pub has_odd_byte : List Row → Row → Bool

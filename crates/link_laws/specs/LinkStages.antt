@@ -1,9 +1,9 @@
 -- The stages of a connection (6.1.5 to 6.1.10).
 use Rattle.std.specs.Prelude.{ℕ, ◌≡◌, Bool, false, List, ◌∷◌, None}
-use Rattle.bus_due.specs.bus_trace.specs.declared.Row.{Row}
-use Rattle.bus_due.specs.bus_trace.specs.declared.connection.Connection.{Connection}
-use Rattle.bus_due.specs.scenario.specs.Value.{ScenarioValue}
-use Rattle.bus_due.specs.bus_rules.specs.Rules.{broken_rule}
+use Rattle.due_model.specs.bus_trace.specs.declared.Row.{Row}
+use Rattle.due_model.specs.bus_trace.specs.declared.connection.Connection.{Connection}
+use Rattle.due_model.specs.scenario.specs.Value.{ScenarioValue}
+use Rattle.due_model.specs.bus_rules.specs.Rules.{broken_rule}
 use Rattle.bus_laws.specs.Ends.{BeginsSelected}
 use Rattle.bus_laws.specs.Stages.{BusStage, Standing, is_connected}
 use Rattle.link_laws.specs.Phases.{Settling, Turning, Offering, Shaking}

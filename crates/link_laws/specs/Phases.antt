@@ -1,25 +1,25 @@
 -- The stages of a connection (6.1.5 to 6.1.10): what the two ends drive in each, and since when.
 use Rattle.std.specs.Prelude.{⊤, ℕ, ◌≡◌, ◌≤◌, ◌+◌, ◌==◌, Bool, true, false, not, ◌&&◌, ◌||◌, List, Some, None}
 use Rattle.std.specs.Prelude.{if◌then◌else◌}
-use Rattle.bus_due.specs.bus_trace.specs.declared.Row.{Row}
-use Rattle.bus_due.specs.bus_trace.specs.declared.connection.Connection.{Connection}
-use Rattle.bus_due.specs.bus_trace.specs.LineSet.{data_of}
-use Rattle.bus_due.specs.bus_trace.specs.declared.line_times.LineTimes.{LineTimes}
-use Rattle.bus_due.specs.bus_trace.specs.Trace.{last_time, since, line_times, phase_time}
-use Rattle.bus_due.specs.bus_trace.specs.Changes.{implies}
-use Rattle.bus_due.specs.bus_trace.specs.Agreements.{times_of}
-use Rattle.bus_due.specs.bus_phases.specs.declared.attention.Duty.{Duty}
-use Rattle.bus_due.specs.bus_phases.specs.declared.attention.Duty.TheVariants as duties
-use Rattle.bus_due.specs.bus_phases.specs.Phases.{pulses, no_pulses, duty, turned}
-use Rattle.bus_due.specs.bus_trace.specs.Terms.{receiver}
-use Rattle.bus_due.specs.bus_rules.specs.Order.{is_of_device}
-use Rattle.bus_due.specs.bus_phases.specs.Dialogue.{dialogue}
-use Rattle.bus_due.specs.bus_lines.specs.Handshakes.{handshakes, no_handshakes}
-use Rattle.bus_due.specs.scenario.specs.Value.{ScenarioValue}
-use Rattle.bus_due.specs.bus_story.specs.Samples.{latency_of}
-use Rattle.bus_due.specs.bus_dialogue.specs.Hearing.{begun}
-use Rattle.bus_due.specs.bus_dialogue.specs.Ends.{is_pulsed_phase}
-use Rattle.bus_due.specs.Own.{own_of}
+use Rattle.due_model.specs.bus_trace.specs.declared.Row.{Row}
+use Rattle.due_model.specs.bus_trace.specs.declared.connection.Connection.{Connection}
+use Rattle.due_model.specs.bus_trace.specs.LineSet.{data_of}
+use Rattle.due_model.specs.bus_trace.specs.declared.line_times.LineTimes.{LineTimes}
+use Rattle.due_model.specs.bus_trace.specs.Trace.{last_time, since, line_times, phase_time}
+use Rattle.due_model.specs.bus_trace.specs.Changes.{implies}
+use Rattle.due_model.specs.bus_trace.specs.Agreements.{times_of}
+use Rattle.due_model.specs.bus_phases.specs.declared.attention.Duty.{Duty}
+use Rattle.due_model.specs.bus_phases.specs.declared.attention.Duty.TheVariants as duties
+use Rattle.due_model.specs.bus_phases.specs.Phases.{pulses, no_pulses, duty, turned}
+use Rattle.due_model.specs.bus_trace.specs.Terms.{receiver}
+use Rattle.due_model.specs.bus_rules.specs.Order.{is_of_device}
+use Rattle.due_model.specs.bus_phases.specs.Dialogue.{dialogue}
+use Rattle.due_model.specs.bus_lines.specs.Handshakes.{handshakes, no_handshakes}
+use Rattle.due_model.specs.scenario.specs.Value.{ScenarioValue}
+use Rattle.due_model.specs.story_model.specs.Samples.{latency_of}
+use Rattle.due_model.specs.dialogue_model.specs.Hearing.{begun}
+use Rattle.due_model.specs.dialogue_model.specs.Ends.{is_pulsed_phase}
+use Rattle.due_model.specs.Own.{own_of}
 use Rattle.bus_laws.specs.Reactions.{own_time}
 use Rattle.bus_laws.specs.Ends.{EndLines, connected_bus, Linked}
 

@@ -2,30 +2,30 @@
 -- stand.
 use Rattle.std.specs.Prelude.{ℕ, ◌≡◌, ◌<◌, ◌≤◌, ◌+◌, ◌^◌, ◌==◌, max, Bool, true, false, not, ◌&&◌, ◌||◌, List, Option}
 use Rattle.std.specs.Prelude.{Some, None, length, nat_lt, is_some, if◌then◌else◌}
-use Rattle.bus_due.specs.bus_trace.specs.declared.Row.{Row}
-use Rattle.bus_due.specs.bus_trace.specs.declared.agreements.TransferTimes.{TransferTimes}
-use Rattle.bus_due.specs.bus_trace.specs.declared.connection.Connection.{Connection}
-use Rattle.bus_due.specs.bus_trace.specs.LineSet.{data_of}
-use Rattle.bus_due.specs.bus_trace.specs.Agreements.{times_of}
-use Rattle.bus_due.specs.bus_trace.specs.Terms.{receiver}
-use Rattle.bus_due.specs.bus_trace.specs.Trace.{bus, last_time, since, line_times, phase_time}
-use Rattle.bus_due.specs.bus_phases.specs.declared.pulses.Pulses.{Pulses}
-use Rattle.bus_due.specs.bus_phases.specs.Phases.{pulses}
-use Rattle.bus_due.specs.bus_phases.specs.Dialogue.{dialogue}
-use Rattle.bus_due.specs.bus_rules.specs.Order.{is_of_device}
-use Rattle.bus_due.specs.bus_lines.specs.Handshakes.{Handshakes, handshakes, first_of, time_of, room_by}
-use Rattle.bus_due.specs.scenario.specs.Value.{ScenarioValue}
-use Rattle.bus_due.specs.bus_story.specs.Samples.{latency_of}
-use Rattle.bus_due.specs.bus_reactions.specs.Target.{byte_bits, bits_if}
-use Rattle.bus_due.specs.bus_dialogue.specs.Arrivals.{policy_of}
-use Rattle.bus_due.specs.bus_dialogue.specs.Ends.{lag_by}
-use Rattle.bus_due.specs.bus_dialogue.specs.PhaseBytes.{run_length_if, data_byte}
-use Rattle.bus_due.specs.bus_dialogue.specs.Sending.{byte_to_send}
-use Rattle.bus_due.specs.Defs.{host_of, target_def_of}
-use Rattle.bus_due.specs.RunSteps.{run_state}
-use Rattle.bus_due.specs.Sights.{sending_of}
-use Rattle.bus_due.specs.Tasks.{task_of, given_of}
-use Rattle.bus_due.specs.Own.{own_of}
+use Rattle.due_model.specs.bus_trace.specs.declared.Row.{Row}
+use Rattle.due_model.specs.bus_trace.specs.declared.agreements.TransferTimes.{TransferTimes}
+use Rattle.due_model.specs.bus_trace.specs.declared.connection.Connection.{Connection}
+use Rattle.due_model.specs.bus_trace.specs.LineSet.{data_of}
+use Rattle.due_model.specs.bus_trace.specs.Agreements.{times_of}
+use Rattle.due_model.specs.bus_trace.specs.Terms.{receiver}
+use Rattle.due_model.specs.bus_trace.specs.Trace.{bus, last_time, since, line_times, phase_time}
+use Rattle.due_model.specs.bus_phases.specs.declared.pulses.Pulses.{Pulses}
+use Rattle.due_model.specs.bus_phases.specs.Phases.{pulses}
+use Rattle.due_model.specs.bus_phases.specs.Dialogue.{dialogue}
+use Rattle.due_model.specs.bus_rules.specs.Order.{is_of_device}
+use Rattle.due_model.specs.bus_lines.specs.Handshakes.{Handshakes, handshakes, first_of, time_of, room_by}
+use Rattle.due_model.specs.scenario.specs.Value.{ScenarioValue}
+use Rattle.due_model.specs.story_model.specs.Samples.{latency_of}
+use Rattle.due_model.specs.reaction_model.specs.Target.{byte_bits, bits_if}
+use Rattle.due_model.specs.dialogue_model.specs.Arrivals.{policy_of}
+use Rattle.due_model.specs.dialogue_model.specs.Ends.{lag_by}
+use Rattle.due_model.specs.dialogue_model.specs.PhaseBytes.{run_length_if, data_byte}
+use Rattle.due_model.specs.dialogue_model.specs.Sending.{byte_to_send}
+use Rattle.due_model.specs.Defs.{host_of, target_def_of}
+use Rattle.due_model.specs.RunSteps.{run_state}
+use Rattle.due_model.specs.Sights.{sending_of}
+use Rattle.due_model.specs.Tasks.{task_of, given_of}
+use Rattle.due_model.specs.Own.{own_of}
 use Rattle.bus_laws.specs.Ends.{Linked}
 use Rattle.link_laws.specs.Phases.{ends, InPhase, OneSide, HasTurned}
 

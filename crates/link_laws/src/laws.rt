@@ -1,14 +1,14 @@
 // Laws of connections, each named by the contract of a function that does nothing.
 
 ghost use Rattle.std.specs.Prelude.{ℕ, ◌≡◌, ◌<◌, ◌≤◌, List, [], Some, true};
-ghost use Rattle.bus_due.specs.bus_trace.specs.declared.Row.{Row};
-ghost use Rattle.bus_due.specs.bus_trace.specs.declared.connection.Connection.{Connection};
-ghost use Rattle.bus_due.specs.bus_trace.specs.Trace.{last_time};
-ghost use Rattle.bus_due.specs.bus_rules.specs.Lawful.{AreLawful};
-ghost use Rattle.bus_due.specs.scenario.specs.Value.{ScenarioValue};
-ghost use Rattle.bus_due.specs.scenario.specs.Writing.{Obeys};
-ghost use Rattle.bus_due.specs.bus_reactions.specs.declared.due.Due.{Due};
-ghost use Rattle.bus_due.specs.Next.{due, next, IsPrompt};
+ghost use Rattle.due_model.specs.bus_trace.specs.declared.Row.{Row};
+ghost use Rattle.due_model.specs.bus_trace.specs.declared.connection.Connection.{Connection};
+ghost use Rattle.due_model.specs.bus_trace.specs.Trace.{last_time};
+ghost use Rattle.due_model.specs.bus_rules.specs.Lawful.{AreLawful};
+ghost use Rattle.due_model.specs.scenario.specs.Value.{ScenarioValue};
+ghost use Rattle.due_model.specs.scenario.specs.Writing.{Obeys};
+ghost use Rattle.due_model.specs.reaction_model.specs.declared.due.Due.{Due};
+ghost use Rattle.due_model.specs.Next.{due, next, IsPrompt};
 ghost use Rattle.bus_laws.specs.Ends.{EndLines, Linked};
 ghost use Rattle.bus_laws.specs.Stages.{Standing};
 ghost use Rattle.link_laws.specs.Books.{

@@ -10,15 +10,15 @@ use Rattle.std.specs as std
 pub use std.{Int.Bits.{or_zero_r}, List.{AllByRecursion, find, list_any, sum_by}, Prelude.{drop, if◌then◌else◌}}
 pub use std.Prelude.{is_none, is_some, min, nat_le, nat_lt, not, slice_index, slice_index_or, slice_set, ⊤, ◌%◌, ◌*◌}
 pub use std.Prelude.{◌++◌, ◌+◌, ◌-◌, ◌/◌, ◌==◌, ◌^◌, ◌||◌}
-use Rattle.bus_due.specs.bus_base.proofs as bus_base_proofs
+use Rattle.due_model.specs.bus_base.proofs as bus_base_proofs
 pub use bus_base_proofs.Tests.{and_false, and_first, and_second, and_true, eq_self, next_some, none_between}
 pub use bus_base_proofs.Tests.{none_number, not_first, plus_none, wrong, wrong'}
-use Rattle.bus_due.specs.bus_base.specs as bus_base
+use Rattle.due_model.specs.bus_base.specs as bus_base
 pub use bus_base.{Faults.{counted_on}, declared.{AbortKind.{AbortKind}, Event.{Event}, ProcId.{ProcId}}}
-use Rattle.bus_due.specs.bus_trace.proofs as bus_trace_proofs
+use Rattle.due_model.specs.bus_trace.proofs as bus_trace_proofs
 pub use bus_trace_proofs.{Buses.{bus_off, bus_on, bus_one, bus_two}, OneRow.{bus-fault, drives-fault, drives-other}}
 pub use bus_trace_proofs.Sets.{same_self, same_set-eq}
-use Rattle.bus_due.specs.bus_trace.specs as bus_trace
+use Rattle.due_model.specs.bus_trace.specs as bus_trace
 pub use bus_trace.{Changes.{change_of, falls, rises, same_phase}, LineSet.{LineSet, byte_set, none, same, same_set}}
 pub use bus_trace.{LineSet.{union}, Phases.{changes_phase, is_data, is_message_in, is_message_out}, Terms.{arbitration}}
 pub use bus_trace.Terms.{arbitration_after, call, call_goes_on, connected, connected_by, connected_of, connection}
@@ -29,26 +29,26 @@ pub use bus_trace.declared.{Row.{Row}, agreements.Agreement.{Agreement}, arbitra
 pub use bus_trace.declared.{changes.Change.{Change}, connection.Connection.{Connection}}
 pub use bus_trace.declared.{delays.TheConstants.{BUS_SETTLE_DELAY, QUIET_TIME}, selection.Call.{Call}}
 pub use bus_trace.declared.selection.Calling.{Calling}
-use Rattle.bus_due.specs.bus_lines.proofs as bus_lines_proofs
+use Rattle.due_model.specs.bus_lines.proofs as bus_lines_proofs
 pub use bus_lines_proofs.Early.{struck_length}
-use Rattle.bus_due.specs.bus_lines.specs as bus_lines
+use Rattle.due_model.specs.bus_lines.specs as bus_lines
 pub use bus_lines.Handshakes.{Handshakes, answered, answered_if, asked, asked_if, handshakes, handshakes_after}
-pub use bus_lines.{Handshakes.{no_handshakes, opened, strikes_if}, Stage.{stage, stage_by}}
+pub use bus_lines.{Handshakes.{newest_struck_if, no_handshakes, opened}, Stage.{stage, stage_by}}
 pub use bus_lines.declared.{handshakes.Request.{Request}, stage.Stage.{Stage, TheVariants.{InAnswer, InArbitration}}}
 pub use bus_lines.declared.stage.Stage.TheVariants.{InCalling, InReset, OnFreeBus}
-use Rattle.bus_due.specs.cdb_codec.specs as cdb_codec
+use Rattle.due_model.specs.cdb_codec.specs as cdb_codec
 pub use cdb_codec.{Blocks.{blocks_moved}, Cdb.{command_of, has_group_len, is_len}, declared.command.CdbFault.{CdbFault}}
 pub use cdb_codec.declared.{command.Command.{Command}, status.TheConstants.{CHECK_CONDITION, GOOD}}
-use Rattle.bus_due.specs.msg_grammar.specs as msg_grammar
+use Rattle.due_model.specs.msg_grammar.specs as msg_grammar
 pub use msg_grammar.{Messages.{out_bytes}, declared.message.{MsgIn.{MsgIn}, MsgOut.{MsgOut}}}
-use Rattle.bus_due.specs.bus_phases.specs as bus_phases
+use Rattle.due_model.specs.bus_phases.specs as bus_phases
 pub use bus_phases.Dialogue.{byte_crosses, byte_else, byte_in, byte_out, dialogue, heard_with_command, phase_begins}
 pub use bus_phases.declared.{dialogue.Dialogue.{Dialogue}, spoken.CommandBytes.{CommandBytes}}
-use Rattle.bus_due.specs.bus_rules.specs as bus_rules
+use Rattle.due_model.specs.bus_rules.specs as bus_rules
 pub use bus_rules.{Order.{is_of_device}, Reset.{only_rst}, Rules.{broken_rule}}
-use Rattle.bus_due.specs.scenario.proofs as scenario_proofs
+use Rattle.due_model.specs.scenario.proofs as scenario_proofs
 pub use scenario_proofs.{Obeying.{all_needs, each_need}, Steps.{bind_ok, guard_ok, ok_is}}
-use Rattle.bus_due.specs.scenario.specs as scenario
+use Rattle.due_model.specs.scenario.specs as scenario
 pub use scenario.Forms.{Said, abort_line, cmd_line, end_line, fault_line, fill_line, initiator_line, reset_line}
 pub use scenario.{Forms.{scsi_line, target_line, unit_line}, Lookups.{has_device, has_target, unit_of}}
 pub use scenario.{Needs.{block_bytes, is_write, moved, moved_by}, Reading.{Progress, abort_def, fill_def, fits_version}}
@@ -58,63 +58,63 @@ pub use scenario.declared.value.{AbortDef.{AbortDef}, CmdDef.{CmdDef}, FaultDef.
 pub use scenario.declared.value.{Policy.{Policy}, ResetDef.{ResetDef}, Tag.{Tag}, TargetDef.{TargetDef}}
 pub use scenario.declared.value.UnitDef.{UnitDef}
 unfoldable pub use scenario.{Needs.{need_of, sent_of}, Reading.{added, fault_def, reset_def, said_after}}
-use Rattle.bus_due.specs.disk_array.proofs as disk_array_proofs
-pub use disk_array_proofs.{ExecutionFacts.{good_range}, SeatLookups.{none_at}, SeatReplies.{id_self}}
-use Rattle.bus_due.specs.disk_array.specs as disk_array
-pub use disk_array.{ArrayHistory.{array_after}, Contents.{Contents}, Execution.{execution, is_good_range, range_of}}
-pub use disk_array.{Order.{range_in}, Processes.{Process, command_at, command_process, process_by, process_if}}
-pub use disk_array.{Processes.{process_of, same_bool, same_id, sense_block, sense_process}, Seats.{is_initiator}}
-pub use disk_array.{Steps.{context_at, has_ended}, Units.{Array, UnitState, nexus_of, unit_state_at}}
-use Rattle.bus_due.specs.bus_story.proofs as bus_story_proofs
-pub use bus_story_proofs.StorySteps.{ends_checks, event_sent}
-use Rattle.bus_due.specs.bus_story.specs as bus_story
-pub use bus_story.Budget.{budget, bytes_of_all, data_runs, longest_need, runs_at, runs_by, runs_of, runs_of_all}
-pub use bus_story.{Budget.{runs_over}, BusState.{RowReading, row_reading}, CarriedBytes.{CarriedBytes, carried_of}}
-pub use bus_story.HistoryEvents.{abort_line_at, abort_line_events, bus_free_events, carried_if, connection_events}
-pub use bus_story.HistoryEvents.{end_events, is_complete, is_completion, item_abort_events, item_loss_events}
-pub use bus_story.{HistoryEvents.{link_events, phase_events, row_events_by}, Items.{Item, Sent, abort, command_id}}
-pub use bus_story.Items.{command_item, count_item, has_item, is_done, is_open, process, same_item, sense_item}
-pub use bus_story.{Links.{LastMessage, Link, abortive, complete, disconnect, link_of, plain}, Samples.{faults_in_order}}
-pub use bus_story.{Samples.{host_latency, latency_of, target_latency, with_fault}, Story.{Ending, Story, by_abort}}
-pub use bus_story.Story.{by_reset, by_status, is_aborted, is_sense_stopped, story_after_event, story_after_events}
-pub use bus_story.{Story.{story_with_end, story_with_ends, story_with_over, with_check}, TraceHistory.{aim_of}}
-pub use bus_story.TraceHistory.{is_arbitration_entry, is_counted, retries_of, story_after_calling, story_by_change}
-pub use bus_story.TraceHistory.{story_in_connection, story_on_bus, story_on_free_bus, story_with_aim}
-pub use bus_story.TraceHistory.{story_with_restored, story_with_sent, story_with_try, story_without_answer}
-use Rattle.bus_due.specs.bus_reactions.specs as bus_reactions
-pub use bus_reactions.{Calling.{answered_due}, Ends.{sample_due}, FreeBus.{contender_lines}, Linking.{bus_clear}}
-pub use bus_reactions.{Reactions.{due_at, earlier_due, fault_or, sooner_time, time_if}, Target.{bits_if, byte_bits}}
-pub use bus_reactions.declared.{due.Due.{Due}, ends.{Answering.{Answering}, Offering.{Offering}}}
-use Rattle.bus_due.specs.bus_dialogue.specs as bus_dialogue
-pub use bus_dialogue.{Arrivals.{policy_of}, DataRuns.{DataRun, run_by, run_in, runs_in, runs_in_all}}
-pub use bus_dialogue.{Ends.{is_pulsed_phase}, Exchange.{Exchange, Speech, attends_with, bytes_of_messages, from_byte}}
-pub use bus_dialogue.Exchange.{message_bytes, no_messages, nothing_heard, one_message, plan_after_message, plan_anew}
-pub use bus_dialogue.Exchange.{plan_anew_if, said_with_if, speech_after_byte, speech_after_request, speech_of}
-pub use bus_dialogue.{Exchange.{struck_plan}, Hearing.{begun, begun_after}, NextPhase.{Serving, after_messages}}
-pub use bus_dialogue.NextPhase.{bus_free, leaving_by, phase_entry, phase_leaving, phase_lines, phase_of}
-pub use bus_dialogue.{NextPhase.{unless_attention}, PhaseBytes.{follows_in, has_whole_block, lines_by, one_if}}
-pub use bus_dialogue.{PhaseBytes.{run_length_if}, Planning.{cause_after, first_plan, plan_after, plan_in_message_out}}
-pub use bus_dialogue.{Planning.{plan_in_phase, plan_with_byte}, Sending.{Sending}, Speaking.{speech_after}}
-pub use bus_dialogue.{Speaking.{speech_in_phase, words_after}, Wants.{Ready}, Words.{abort_bytes, abort_opening}}
-pub use bus_dialogue.Words.{answer_bytes, detected_error, naming_messages, offer_if, parity_error, process_opening}
-pub use bus_dialogue.{Words.{tag_bytes, tag_named}, declared.exchange.{Cause.{Cause}, Hearing.{Hearing}}}
-pub use bus_dialogue.declared.exchange.{Leaving.{Leaving}, Messages.{Messages}, Next.{Next}, Phase.{Phase}, Plan.{Plan}}
-pub use bus_dialogue.declared.exchange.Task.{Task}
-use Rattle.bus_due.proofs as bus_due_proofs
-pub use bus_due_proofs.{Plains.{run_state_plain}, Stills.{keeps_wishes, still_talk}}
-use Rattle.bus_due.specs as bus_due
-pub use bus_due.{Defs.{host_of, opening, target_def_of}, Due.{is_reset_past, reset_from}, Goals.{RunsEnd, StaysWithin}}
-pub use bus_due.{LastingState.{ProcessProgress, progress_in, progress_with}, Least.{IsLeast}, Next.{IsEnded, IsPrompt}}
-pub use bus_due.{Next.{due, next_by}, Own.{Own, own_after, own_at, own_of}, Plain.{AreOfDevices, IsPlain}, Run.{Run}}
-pub use bus_due.{Run.{one_more, run_by_due}, RunState.{RunState, agreement_of, array_of, bus_of, carried_here}}
-pub use bus_due.{RunState.{drives_of, item_of, or_start, process_item, process_served}, RunSteps.{array_after_events}}
-pub use bus_due.RunSteps.{exchange_after, first_exchange, first_run_state, item_if, leaving_of, may_negotiate}
-pub use bus_due.RunSteps.{messages_if, progress_after, progress_by_leaving, run_state, run_state_with_events}
-pub use bus_due.{RunSteps.{served_after}, Sights.{answering_of, flip_of, hearing_of, leaving, offering_of, pace_of}}
-pub use bus_due.{Sights.{sending_of, serving_at, serving_of}, Tasks.{blocks_in, is_writing, moved_count, reply_now}}
-pub use bus_due.{Tasks.{size_of, task_if, task_of, task_with}, Wants.{abort_target, callee, initiator_if, ready_of}}
-pub use bus_due.{Wants.{target_if, target_of, want_time}, Wishes.{IsStill, Wishes, wishes_of}}
-unfoldable pub use bus_due.Run.{run_from}
+use Rattle.due_model.specs.array_model.proofs as array_model_proofs
+pub use array_model_proofs.{ExecutionFacts.{good_range}, SeatLookups.{none_at}, SeatReplies.{id_self}}
+use Rattle.due_model.specs.array_model.specs as array_model
+pub use array_model.{ArrayHistory.{array_after}, Contents.{Contents}, Execution.{execution, is_good_range, range_of}}
+pub use array_model.{Order.{range_in}, Processes.{Process, command_at, command_process, process_by, process_if}}
+pub use array_model.{Processes.{process_of, same_bool, same_id, sense_block, sense_process}, Seats.{is_initiator}}
+pub use array_model.{Steps.{context_at, has_ended}, Units.{Array, UnitState, nexus_of, unit_state_at}}
+use Rattle.due_model.specs.story_model.proofs as story_model_proofs
+pub use story_model_proofs.StorySteps.{ends_checks, event_sent}
+use Rattle.due_model.specs.story_model.specs as story_model
+pub use story_model.Budget.{budget, bytes_of_all, data_runs, longest_need, runs_at, runs_by, runs_of, runs_of_all}
+pub use story_model.{Budget.{runs_over}, BusState.{RowReading, row_reading}, CarriedBytes.{CarriedBytes, carried_of}}
+pub use story_model.HistoryEvents.{abort_line_at, abort_line_events, bus_free_events, carried_if, connection_events}
+pub use story_model.HistoryEvents.{end_events, is_complete, is_completion, item_abort_events, item_loss_events}
+pub use story_model.{HistoryEvents.{link_events, phase_events, row_events_by}, Items.{Item, Sent, abort, command_id}}
+pub use story_model.Items.{command_item, count_item, has_item, is_done, is_open, process, same_item, sense_item}
+pub use story_model.Links.{LastMessage, Link, abortive, complete, disconnect, link_of, plain}
+pub use story_model.{Samples.{faults_in_order, host_latency, latency_of, target_latency, with_fault}, Story.{Ending}}
+pub use story_model.Story.{Story, by_abort, by_reset, by_status, is_aborted, is_sense_stopped, story_after_event}
+pub use story_model.Story.{story_after_events, story_with_end, story_with_ends, story_with_over, with_check}
+pub use story_model.TraceHistory.{aim_of, is_arbitration_entry, is_counted, retries_of, story_after_calling}
+pub use story_model.TraceHistory.{story_by_change, story_in_connection, story_on_bus, story_on_free_bus, story_with_aim}
+pub use story_model.TraceHistory.{story_with_restored, story_with_sent, story_with_try, story_without_answer}
+use Rattle.due_model.specs.reaction_model.specs as reaction_model
+pub use reaction_model.{Calling.{answered_due}, Ends.{sample_due}, FreeBus.{contender_lines}, Linking.{bus_clear}}
+pub use reaction_model.{Reactions.{due_at, earlier_due, fault_or, sooner_time, time_if}, Target.{bits_if, byte_bits}}
+pub use reaction_model.declared.{due.Due.{Due}, ends.{Answering.{Answering}, Offering.{Offering}}}
+use Rattle.due_model.specs.dialogue_model.specs as dialogue_model
+pub use dialogue_model.{Arrivals.{policy_of}, DataRuns.{DataRun, run_by, run_in, runs_in, runs_in_all}}
+pub use dialogue_model.{Ends.{is_pulsed_phase}, Exchange.{Exchange, Speech, attends_with, bytes_of_messages, from_byte}}
+pub use dialogue_model.Exchange.{message_bytes, no_messages, nothing_heard, one_message, plan_after_message, plan_anew}
+pub use dialogue_model.Exchange.{plan_anew_if, said_with_if, speech_after_byte, speech_after_request, speech_of}
+pub use dialogue_model.{Exchange.{struck_plan}, Hearing.{begun, begun_after}, NextPhase.{Serving, after_messages}}
+pub use dialogue_model.NextPhase.{bus_free, leaving_by, phase_entry, phase_leaving, phase_lines, phase_of}
+pub use dialogue_model.{NextPhase.{unless_attention}, PhaseBytes.{follows_in, has_whole_block, lines_by, one_if}}
+pub use dialogue_model.{PhaseBytes.{run_length_if}, Planning.{cause_after, first_plan, plan_after, plan_in_message_out}}
+pub use dialogue_model.{Planning.{plan_in_phase, plan_with_byte}, Sending.{Sending}, Speaking.{speech_after}}
+pub use dialogue_model.{Speaking.{speech_in_phase, words_after}, Wants.{Ready}, Words.{abort_bytes, abort_opening}}
+pub use dialogue_model.Words.{answer_bytes, detected_error, naming_messages, offer_if, parity_error, process_opening}
+pub use dialogue_model.{Words.{tag_bytes, tag_named}, declared.exchange.{Cause.{Cause}, Hearing.{Hearing}}}
+pub use dialogue_model.declared.exchange.{Leaving.{Leaving}, Messages.{Messages}, Next.{Next}, Phase.{Phase}}
+pub use dialogue_model.declared.exchange.{Plan.{Plan}, Task.{Task}}
+use Rattle.due_model.proofs as due_model_proofs
+pub use due_model_proofs.{Plains.{run_state_plain}, Stills.{keeps_wishes, still_talk}}
+use Rattle.due_model.specs as due_model
+pub use due_model.{Defs.{host_of, opening, target_def_of}, Due.{is_reset_past, reset_from}, Goals.{RunsEnd}}
+pub use due_model.{Goals.{StaysWithin}, LastingState.{ProcessProgress, progress_in, progress_with}, Least.{IsLeast}}
+pub use due_model.{Next.{IsEnded, IsPrompt, due, next_by}, Own.{Own, own_after, own_at, own_of}, Plain.{AreOfDevices}}
+pub use due_model.{Plain.{IsPlain}, Run.{Run, one_more, run_by_due}, RunState.{RunState, agreement_of, array_of}}
+pub use due_model.RunState.{bus_of, carried_here, drives_of, item_of, or_start, process_item, process_served}
+pub use due_model.RunSteps.{array_after_events, exchange_after, first_exchange, first_run_state, item_if, leaving_of}
+pub use due_model.RunSteps.{may_negotiate, messages_if, progress_after, progress_by_leaving, run_state}
+pub use due_model.{RunSteps.{run_state_with_events, served_after}, Sights.{answering_of, flip_of, hearing_of, leaving}}
+pub use due_model.{Sights.{offering_of, pace_of, sending_of, serving_at, serving_of}, Tasks.{blocks_in, is_writing}}
+pub use due_model.{Tasks.{moved_count, reply_now, size_of, task_if, task_of, task_with}, Wants.{abort_target, callee}}
+pub use due_model.{Wants.{initiator_if, ready_of, target_if, target_of, want_time}, Wishes.{IsStill, Wishes, wishes_of}}
+unfoldable pub use due_model.Run.{run_from}
 use Rattle.progress_laws.specs.scsi_device.proofs as scsi_device_proofs
 pub use scsi_device_proofs.{FitLines.{command_fits, obeys_fits}, LineReads.{fault_by, reset_by}}
 use Rattle.progress_laws.specs.scsi_device.specs as scsi_device

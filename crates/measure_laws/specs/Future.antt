@@ -3,31 +3,31 @@
 use Rattle.std.specs.Prelude.{ℕ, ◌+◌, ◌-◌, ◌*◌, Bool, true, false, not, ◌&&◌, ◌==◌, List, [], ◌∷◌, length, Option, Some}
 use Rattle.std.specs.Prelude.{None, nat_lt, if◌then◌else◌}
 use Rattle.std.specs.List.{list_any}
-use Rattle.bus_due.specs.cdb_codec.specs.Cdb.{command_of}
-use Rattle.bus_due.specs.bus_trace.specs.Phases.{is_data}
-use Rattle.bus_due.specs.scenario.specs.declared.value.AbortDef.{AbortDef}
-use Rattle.bus_due.specs.scenario.specs.declared.value.CmdDef.{CmdDef}
-use Rattle.bus_due.specs.scenario.specs.declared.value.Policy.{Policy}
-use Rattle.bus_due.specs.scenario.specs.declared.value.Policy.TheVariants as policies
-use Rattle.bus_due.specs.scenario.specs.declared.value.ResetDef.{ResetDef}
-use Rattle.bus_due.specs.scenario.specs.declared.value.UnitDef.{UnitDef}
-use Rattle.bus_due.specs.scenario.specs.Lookups.{unit_of}
-use Rattle.bus_due.specs.scenario.specs.Needs.{need_of}
-use Rattle.bus_due.specs.scenario.specs.Value.{ScenarioValue}
-use Rattle.bus_due.specs.disk_array.specs.Execution.{range_of}
-use Rattle.bus_due.specs.bus_story.specs.Budget.{data_runs}
-use Rattle.bus_due.specs.bus_story.specs.Items.{Item, Sent, abort, command_id, command_item, count_item, has_item}
-use Rattle.bus_due.specs.bus_story.specs.Items.{is_done, same_item, sense_item}
-use Rattle.bus_due.specs.bus_story.specs.TraceHistory.{retries_of}
-use Rattle.bus_due.specs.bus_dialogue.specs.Arrivals.{policy_of}
-use Rattle.bus_due.specs.Defs.{target_def_of}
-use Rattle.bus_due.specs.Due.{is_reset_past}
-use Rattle.bus_due.specs.LastingState.{progress_in}
-use Rattle.bus_due.specs.Own.{Own, own_at}
-use Rattle.bus_due.specs.RunState.{RunState, bus_of, drives_of}
+use Rattle.due_model.specs.cdb_codec.specs.Cdb.{command_of}
+use Rattle.due_model.specs.bus_trace.specs.Phases.{is_data}
+use Rattle.due_model.specs.scenario.specs.declared.value.AbortDef.{AbortDef}
+use Rattle.due_model.specs.scenario.specs.declared.value.CmdDef.{CmdDef}
+use Rattle.due_model.specs.scenario.specs.declared.value.Policy.{Policy}
+use Rattle.due_model.specs.scenario.specs.declared.value.Policy.TheVariants as policies
+use Rattle.due_model.specs.scenario.specs.declared.value.ResetDef.{ResetDef}
+use Rattle.due_model.specs.scenario.specs.declared.value.UnitDef.{UnitDef}
+use Rattle.due_model.specs.scenario.specs.Lookups.{unit_of}
+use Rattle.due_model.specs.scenario.specs.Needs.{need_of}
+use Rattle.due_model.specs.scenario.specs.Value.{ScenarioValue}
+use Rattle.due_model.specs.array_model.specs.Execution.{range_of}
+use Rattle.due_model.specs.story_model.specs.Budget.{data_runs}
+use Rattle.due_model.specs.story_model.specs.Items.{Item, Sent, abort, command_id, command_item, count_item, has_item}
+use Rattle.due_model.specs.story_model.specs.Items.{is_done, same_item, sense_item}
+use Rattle.due_model.specs.story_model.specs.TraceHistory.{retries_of}
+use Rattle.due_model.specs.dialogue_model.specs.Arrivals.{policy_of}
+use Rattle.due_model.specs.Defs.{target_def_of}
+use Rattle.due_model.specs.Due.{is_reset_past}
+use Rattle.due_model.specs.LastingState.{progress_in}
+use Rattle.due_model.specs.Own.{Own, own_at}
+use Rattle.due_model.specs.RunState.{RunState, bus_of, drives_of}
 use Rattle.measure_laws.specs.Weights.{for_byte, for_calling, for_fault, for_item, for_reselection, for_reset}
-use Rattle.bus_due.specs.cdb_codec.specs.declared.command.Command.{Command}
-use Rattle.bus_due.specs.cdb_codec.specs.declared.command.CdbFault.{CdbFault}
+use Rattle.due_model.specs.cdb_codec.specs.declared.command.Command.{Command}
+use Rattle.due_model.specs.cdb_codec.specs.declared.command.CdbFault.{CdbFault}
 use Rattle.std.specs.Prelude.{Result, Ok, Err}
 
 -- ---- the bytes of the data runs that are left after so many, by the policy of the target: with NOSAVE the first run

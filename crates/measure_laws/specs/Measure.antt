@@ -1,14 +1,14 @@
 -- The measure of a run: how many rows are still to come at most, as a natural number that is computed from the scenario
 -- and from what is kept of the rows. It falls with each row of a prompt trace, and is within the budget at the start.
 use Rattle.std.specs.Prelude.{ℕ, suc, ◌+◌, ◌/◌, ◌≤◌, Bool, true, false, List, [], ◌∷◌, Option, None}
-use Rattle.bus_due.specs.bus_trace.specs.declared.Row.{Row}
-use Rattle.bus_due.specs.bus_trace.specs.declared.connection.Connection.{Connection}
-use Rattle.bus_due.specs.scenario.specs.Value.{ScenarioValue}
-use Rattle.bus_due.specs.scenario.specs.Writing.{Obeys}
-use Rattle.bus_due.specs.bus_story.specs.Budget.{budget}
-use Rattle.bus_due.specs.Next.{IsPrompt}
-use Rattle.bus_due.specs.RunState.{RunState, bus_of}
-use Rattle.bus_due.specs.RunSteps.{run_state}
+use Rattle.due_model.specs.bus_trace.specs.declared.Row.{Row}
+use Rattle.due_model.specs.bus_trace.specs.declared.connection.Connection.{Connection}
+use Rattle.due_model.specs.scenario.specs.Value.{ScenarioValue}
+use Rattle.due_model.specs.scenario.specs.Writing.{Obeys}
+use Rattle.due_model.specs.story_model.specs.Budget.{budget}
+use Rattle.due_model.specs.Next.{IsPrompt}
+use Rattle.due_model.specs.RunState.{RunState, bus_of}
+use Rattle.due_model.specs.RunSteps.{run_state}
 use Rattle.progress_laws.specs.book_laws.specs.WrongParity.{is_refusing, is_struck_phase}
 use Rattle.measure_laws.specs.Future.{future_left}
 use Rattle.measure_laws.specs.Turns.{connection_left}

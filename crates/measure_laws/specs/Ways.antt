@@ -1,13 +1,13 @@
 -- What is left of the way to a connection, in rows: of an arbitration, of a selection or reselection, and under RST. A
 -- free bus, and a connection, have an arbitration set aside: who ends one has paid for the next.
 use Rattle.std.specs.Prelude.{ℕ, ◌+◌, Bool, true, false, Option, Some, None, if◌then◌else◌}
-use Rattle.bus_due.specs.bus_trace.specs.LineSet.{none, same_set}
-use Rattle.bus_due.specs.bus_trace.specs.declared.selection.Calling.{Calling}
-use Rattle.bus_due.specs.bus_lines.specs.declared.stage.Stage.{Stage}
-use Rattle.bus_due.specs.bus_lines.specs.declared.stage.Stage.TheVariants.{OnFreeBus, InArbitration, InCalling}
-use Rattle.bus_due.specs.bus_lines.specs.declared.stage.Stage.TheVariants.{InAnswer, InConnection, InReset}
-use Rattle.bus_due.specs.RunState.{RunState, drives_of}
-use Rattle.bus_due.specs.Sights.{stage_of}
+use Rattle.due_model.specs.bus_trace.specs.LineSet.{none, same_set}
+use Rattle.due_model.specs.bus_trace.specs.declared.selection.Calling.{Calling}
+use Rattle.due_model.specs.bus_lines.specs.declared.stage.Stage.{Stage}
+use Rattle.due_model.specs.bus_lines.specs.declared.stage.Stage.TheVariants.{OnFreeBus, InArbitration, InCalling}
+use Rattle.due_model.specs.bus_lines.specs.declared.stage.Stage.TheVariants.{InAnswer, InConnection, InReset}
+use Rattle.due_model.specs.RunState.{RunState, drives_of}
+use Rattle.due_model.specs.Sights.{stage_of}
 use Rattle.measure_laws.specs.Weights.{for_calling, for_free_bus}
 
 -- How many devices drive lines.

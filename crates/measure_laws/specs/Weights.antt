@@ -2,8 +2,8 @@
 -- it is easier to see with room to spare. What follows a thing is paid from that thing's weight, and in advance: an
 -- arbitration by whoever frees the bus, a phase by the one before it.
 use Rattle.std.specs.Prelude.{ℕ, ◌+◌, ◌*◌}
-use Rattle.bus_due.specs.scenario.specs.Value.{ScenarioValue}
-use Rattle.bus_due.specs.bus_story.specs.Budget.{longest_need}
+use Rattle.due_model.specs.scenario.specs.Value.{ScenarioValue}
+use Rattle.due_model.specs.story_model.specs.Budget.{longest_need}
 
 -- A free bus: the arbitration that comes next, in which each of eight devices enters once, and what the calling after
 -- it needs, whether it is answered or not. With the first entry 16 are left and one for each of the seven devices that

@@ -1,14 +1,14 @@
 //! The law of how long a run may be: the contract of a function that only cites another law.
 ghost use Rattle.std.specs.Prelude.{◌<◌, ◌/◌, ◌^◌, ◌-◌, List, length};
-ghost use Rattle.bus_due.specs.bus_trace.specs.declared.Row.{Row};
-ghost use Rattle.bus_due.specs.scenario.specs.Value.{ScenarioValue};
-ghost use Rattle.bus_due.specs.scenario.specs.Writing.{Obeys};
-ghost use Rattle.bus_due.specs.bus_story.specs.Budget.{budget};
-ghost use Rattle.bus_due.specs.Goals.{RunsEnd, StaysWithin};
-ghost use Rattle.bus_due.specs.Next.{IsPrompt};
+ghost use Rattle.due_model.specs.bus_trace.specs.declared.Row.{Row};
+ghost use Rattle.due_model.specs.scenario.specs.Value.{ScenarioValue};
+ghost use Rattle.due_model.specs.scenario.specs.Writing.{Obeys};
+ghost use Rattle.due_model.specs.story_model.specs.Budget.{budget};
+ghost use Rattle.due_model.specs.Goals.{RunsEnd, StaysWithin};
+ghost use Rattle.due_model.specs.Next.{IsPrompt};
 ghost use Rattle.measure_laws.specs.Measure.{Falls, StartsWithin};
 
-use bus_due::runs_are_prompt;
+use due_model::runs_are_prompt;
 
 /// The measure of a run is within the eighth part of its budget at its start, and falls with each row of a prompt
 /// trace. So a prompt trace has fewer rows than that part, a device being asked eight times for each of them, and

@@ -5,9 +5,9 @@ ghost use Rattle.connect.specs.Ready.{time_limit};
 
 use bitflags::Flags;
 use bus_lines::{BusView, views_are_timely};
-use bus_reactions::{Due, Myself};
 use bus_trace::{Kind, Lines, Row};
 use connect::{Idle, Link, Step, due_with_reset, sample_time};
+use reaction_model::{Due, Myself};
 use std::process::Abort;
 use std::test::Fail;
 

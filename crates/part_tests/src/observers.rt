@@ -1,10 +1,10 @@
-//! Tests of `bus_dialogue`: one observer, over a selection. The kernel computes more in its
+//! Tests of `dialogue_model`: one observer, over a selection. The kernel computes more in its
 //! `proofs/HearingCases.antt`.
 
 use crate::driven_rows::drive;
 use bitflags::Flags;
-use bus_dialogue::Observer;
 use bus_trace::{Agreement, Lines};
+use dialogue_model::Observer;
 use msg_grammar::{MsgIn, MsgOut};
 
 #[test]

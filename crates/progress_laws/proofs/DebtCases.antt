@@ -1,13 +1,13 @@
 -- In some runs those to whom a sense is owed stand in the hold, and no two senses are owed to one initiator at one unit. Written by tools/makers/books_case.py.
 use Rattle.std.proofs.Common.{◌≡◌, true, refl}
 use lib.Count.{ones}
-use Rattle.bus_due.specs.bus_trace.specs.LineSet.{line_of}
-use Rattle.bus_due.specs.bus_trace.specs.View.{union_below}
-use Rattle.bus_due.specs.msg_grammar.specs.Messages.{form_out, form_in}
-use Rattle.bus_due.specs.scenario.specs.Needs.{need_of, sent_of}
-use Rattle.bus_due.specs.RunSteps.{first_run_state}
+use Rattle.due_model.specs.bus_trace.specs.LineSet.{line_of}
+use Rattle.due_model.specs.bus_trace.specs.View.{union_below}
+use Rattle.due_model.specs.msg_grammar.specs.Messages.{form_out, form_in}
+use Rattle.due_model.specs.scenario.specs.Needs.{need_of, sent_of}
+use Rattle.due_model.specs.RunSteps.{first_run_state}
 use Rattle.progress_laws.specs.DebtTests.{keep_debts}
-use Rattle.bus_due.proofs.Cases.{hold_of_a_unit_due, hold_of_a_unit_due_rows, held_reselection_due, held_reselection_due_rows, given_up_due, given_up_due_rows, lost_due, lost_due_rows, status_given_up_due, status_given_up_due_rows, command_given_up_due, command_given_up_due_rows, data_in_given_up_due, data_in_given_up_due_rows, data_out_given_up_due, data_out_given_up_due_rows, own_processes_aborted_due, own_processes_aborted_due_rows, device_reset_by_message_due, device_reset_by_message_due_rows, absent_unit_due, absent_unit_due_rows, queue_cleared_due, queue_cleared_due_rows, status_struck_due, status_struck_due_rows}
+use Rattle.due_model.proofs.Cases.{hold_of_a_unit_due, hold_of_a_unit_due_rows, held_reselection_due, held_reselection_due_rows, given_up_due, given_up_due_rows, lost_due, lost_due_rows, status_given_up_due, status_given_up_due_rows, command_given_up_due, command_given_up_due_rows, data_in_given_up_due, data_in_given_up_due_rows, data_out_given_up_due, data_out_given_up_due_rows, own_processes_aborted_due, own_processes_aborted_due_rows, device_reset_by_message_due, device_reset_by_message_due_rows, absent_unit_due, absent_unit_due_rows, queue_cleared_due, queue_cleared_due_rows, status_struck_due, status_struck_due_rows}
 
 hold_of_a_unit_due_debts : keep_debts hold_of_a_unit_due (first_run_state hold_of_a_unit_due) hold_of_a_unit_due_rows ≡ true
 unfolding need_of sent_of ones union_below line_of form_out form_in

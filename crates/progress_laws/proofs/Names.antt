@@ -9,16 +9,16 @@ pub use std_proofs.lemmas.{Bool.Decides.{nat_tests}, Nat.{pow_below, pow_pos}, O
 use Rattle.std.specs as std
 pub use std.{List.{AllByRecursion, find, list_all, list_any}, Prelude.{cond, if◌then◌else◌, is_none, is_some, max}}
 pub use std.Prelude.{nat_le, nat_lt, slice_index, slice_set, ⊤, ◌==◌}
-use Rattle.bus_due.specs.bus_base.proofs as bus_base_proofs
+use Rattle.due_model.specs.bus_base.proofs as bus_base_proofs
 pub use bus_base_proofs.Tests.{and_false, and_first, and_more, and_second, and_true, either_stays, eq_self, implied}
 pub use bus_base_proofs.Tests.{none_number, not_later, or_other, or_second, or_true, plus_none, true_by_test, wrong}
 pub use bus_base_proofs.Tests.{wrong', zero_of}
-use Rattle.bus_due.specs.bus_base.specs as bus_base
+use Rattle.due_model.specs.bus_base.specs as bus_base
 pub use bus_base.declared.{AbortKind.{AbortKind}, Event.{Event}, ProcId.{ProcId}, events.Pick.{Pick}}
-use Rattle.bus_due.specs.bus_trace.proofs as bus_trace_proofs
+use Rattle.due_model.specs.bus_trace.proofs as bus_trace_proofs
 pub use bus_trace_proofs.{Buses.{bus_data_below, bus_none, bus_off, bus_on}, OneRow.{drives-other, drives-own}}
 pub use bus_trace_proofs.Sets.{same_set-eq}
-use Rattle.bus_due.specs.bus_trace.specs as bus_trace
+use Rattle.due_model.specs.bus_trace.specs as bus_trace
 pub use bus_trace.{Changes.{change_of, falls, implies, is_within, rises}, LineSet.{LineSet, has_id_above, none, union}}
 pub use bus_trace.{Phases.{changes_phase, is_message_in}, Terms.{arbitration, arbitration_after, call, call_goes_on}}
 pub use bus_trace.Terms.{called_goes_on, caller_goes_on, calling_after, connection, connection_after, free_since}
@@ -27,25 +27,25 @@ pub use bus_trace.declared.{Kind.TheVariants.{Drives, Fault}, Row.{Row}, arbitra
 pub use bus_trace.declared.{changes.Change.{Change}, connection.Connection.{Connection}}
 pub use bus_trace.declared.delays.TheConstants.{ARBITRATION_DELAY, BUS_CLEAR_DELAY, ENTRY_DELAY}
 pub use bus_trace.declared.selection.{Call.{Call}, Calling.{Calling}}
-use Rattle.bus_due.specs.bus_lines.specs as bus_lines
+use Rattle.due_model.specs.bus_lines.specs as bus_lines
 pub use bus_lines.{Handshakes.{handshakes}, Stage.{stage}, declared.stage.Stage.TheVariants.{InArbitration, InCalling}}
 pub use bus_lines.declared.stage.Stage.TheVariants.{OnFreeBus}
-use Rattle.bus_due.specs.cdb_codec.specs as cdb_codec
+use Rattle.due_model.specs.cdb_codec.specs as cdb_codec
 pub use cdb_codec.{Cdb.{command_of}, declared.sense.TheConstants.{ABORTED_COMMAND}}
 pub use cdb_codec.declared.status.TheConstants.{CHECK_CONDITION, GOOD}
-use Rattle.bus_due.specs.msg_grammar.specs as msg_grammar
+use Rattle.due_model.specs.msg_grammar.specs as msg_grammar
 pub use msg_grammar.declared.message.{MsgIn.{MsgIn}, MsgOut.{MsgOut}}
-use Rattle.bus_due.specs.bus_rules.proofs as bus_rules_proofs
+use Rattle.due_model.specs.bus_rules.proofs as bus_rules_proofs
 pub use bus_rules_proofs.First.{row_none}
-use Rattle.bus_due.specs.bus_rules.specs as bus_rules
+use Rattle.due_model.specs.bus_rules.specs as bus_rules
 pub use bus_rules.Connected.{initiator_released, initiator_released_of, target_released, target_released_of}
 pub use bus_rules.{FreeBus.{is_cleared}, Lawful.{IsLawful}, Order.{is_in_order}, Reset.{is_quiet_in_reset, is_reset}}
 pub use bus_rules.{Reset.{only_rst}, Rules.{broken_rule, end_test, judged_rules, keeps_at_end, obeys_at_end}}
 pub use bus_rules.{Rules.{stands_in_reset}, Seen.{end_row, seen}, declared.seen.Seen.{Seen}}
 unfoldable pub use bus_rules.Seen.{seen_with}
-use Rattle.bus_due.specs.scenario.proofs as scenario_proofs
+use Rattle.due_model.specs.scenario.proofs as scenario_proofs
 pub use scenario_proofs.Steps.{bind_ok, guard_ok, ok_is, within_ok}
-use Rattle.bus_due.specs.scenario.specs as scenario
+use Rattle.due_model.specs.scenario.specs as scenario
 pub use scenario.Forms.{Said, abort_line, cmd_line, end_line, fault_line, fill_line, initiator_line, reset_line}
 pub use scenario.{Forms.{scsi_line, target_line, unit_line}, Lookups.{has_device, has_target, unit_of}}
 pub use scenario.Reading.{Progress, abort_def, fault_def, fill_def, fits_version, full_cmd_def, guard, in_8, in_order}
@@ -55,65 +55,65 @@ pub use scenario.declared.bounds.TheConstants.{DEPTH_LIMIT, HOST_OFFSET_LIMIT, L
 pub use scenario.declared.{bounds.TheConstants.{RETRY_LIMIT}, value.{AbortDef.{AbortDef}, CmdDef.{CmdDef}}}
 pub use scenario.declared.value.{HostDef.{HostDef}, TargetDef.{TargetDef}, UnitDef.{UnitDef}}
 unfoldable pub use scenario.{Needs.{need_of, sent_of}, Reading.{added, host_def, said_after, unit_def}}
-use Rattle.bus_due.specs.disk_array.proofs as disk_array_proofs
-pub use disk_array_proofs.ArrayReplies.{abort_lists, end_lists, fail_lists, loss_lists, reset_lists, took}
-pub use disk_array_proofs.{ArrayUnits.{cleared_units, unit_reset_units}, ExecutionFacts.{sense_fetched}}
-pub use disk_array_proofs.{SeatLookups.{nexus_put_at, nexuses_without_at, none_at, same_nexus_is}, SeatSteps.{any_none}}
-pub use disk_array_proofs.{SeatSteps.{choice_target}, SoundArrays.{step_sound}}
-use Rattle.bus_due.specs.disk_array.specs as disk_array
-pub use disk_array.{ArrayHistory.{array_after, array_step, reply_in}, Execution.{CommandContext, Execution, Reply}}
-pub use disk_array.{Execution.{check_condition, execution, is_request_sense, queue_full, sense_of}, Order.{choice}}
-pub use disk_array.Order.{chosen_place, entries_of, entry_of, is_head, last_head, last_of, may_run_after, picked_place}
-pub use disk_array.{Order.{process_at, process_at_if, runnable_after, runnable_by}, Processes.{Process, command_at}}
-pub use disk_array.Processes.{command_process, process_by, process_if, process_of, same_bool, same_id, sense_block}
-pub use disk_array.{Processes.{sense_process}, Seats.{current_of, in_hold, is_initiator, nexus_at, unit_mapped}}
-pub use disk_array.{Seats.{unit_with_choice, waits_in}, SoundArray.{AllOwn, AllOwnUnits, AreApart, HasSeats, IsOwn}}
-pub use disk_array.{SoundArray.{IsOwnRunning, IsOwnUnit, IsSound}, Steps.{has_ended, has_tag, is_of_unit, running_if}}
-pub use disk_array.Units.{Array, Nexus, RunningProcess, UnitState, guest_at, has_no_current, is_at_unit, is_held}
-pub use disk_array.Units.{nexus_of, nexuses_without, same_nexus, senses_without, starting_array, starting_units}
-pub use disk_array.{Units.{unit_state_at, units_after_choice, with_current, with_unit}, declared.entries.Entry.{Entry}}
-unfoldable pub use disk_array.Seats.{is_any_held}
-use Rattle.bus_due.specs.bus_story.proofs as bus_story_proofs
-pub use bus_story_proofs.StorySteps.{begun_aims, calling_aims, ends_checks, event_sent, events_aims, restored_sent}
-use Rattle.bus_due.specs.bus_story.specs as bus_story
-pub use bus_story.{BusState.{RowReading, row_reading}, CarriedBytes.{CarriedBytes, is_status_phase, is_whole_block}}
-pub use bus_story.HistoryEvents.{abort_line_at, abort_line_events, bus_free_events, carried_if, end_events, is_complete}
-pub use bus_story.HistoryEvents.{is_completion, is_refuse, item_abort_events, item_loss_events, link_events}
-pub use bus_story.HistoryEvents.{phase_events, queue_event, queue_events, row_events_by, status_event, status_events}
-pub use bus_story.Items.{Item, Sent, abort, command_id, command_item, count_item, has_item, is_done, is_of_host}
-pub use bus_story.Items.{is_open, item_at, open_limit_of, process, same_item, sense_from, sense_id, sense_item}
-pub use bus_story.Links.{LastMessage, Link, abortive, complete, disconnect, link_after_name, link_of, plain}
-pub use bus_story.Outcomes.{Outcome, ending_of, outcome_if, outcome_of, outcomes, outcomes_from}
-pub use bus_story.{Samples.{host_latency, latency_of, target_latency}, Story.{Ending, Story, by_abort, by_loss}}
-pub use bus_story.Story.{by_reset, by_status, is_aborted, is_ended, is_sense_stopped, story_after_event}
-pub use bus_story.Story.{story_after_events, story_with_end, story_with_end_if, story_with_ends, story_with_over}
-pub use bus_story.{Story.{unanswered, with_check, with_ending}, TraceHistory.{aim_of, carried_after_byte_if}}
-pub use bus_story.TraceHistory.{carried_after_fault_if, is_arbitration_entry, is_counted, is_parity_error, retries_of}
-pub use bus_story.TraceHistory.{story, story_after_byte, story_after_calling, story_after_calling_by}
-pub use bus_story.TraceHistory.{story_after_connection, story_after_fault, story_after_in, story_after_out}
-pub use bus_story.TraceHistory.{story_by_change, story_in_connection, story_on_bus, story_on_free_bus, story_with_aim}
-pub use bus_story.TraceHistory.{story_with_carried, story_with_restored, story_with_sent, story_with_try}
-pub use bus_story.TraceHistory.{story_without_answer}
+use Rattle.due_model.specs.array_model.proofs as array_model_proofs
+pub use array_model_proofs.ArrayReplies.{abort_lists, end_lists, fail_lists, loss_lists, reset_lists, took}
+pub use array_model_proofs.{ArrayUnits.{cleared_units, unit_reset_units}, ExecutionFacts.{sense_fetched}}
+pub use array_model_proofs.SeatLookups.{nexus_put_at, nexuses_without_at, none_at, same_nexus_is}
+pub use array_model_proofs.{SeatSteps.{any_none, choice_target}, SoundArrays.{step_sound}}
+use Rattle.due_model.specs.array_model.specs as array_model
+pub use array_model.{ArrayHistory.{array_after, array_step, reply_in}, Execution.{CommandContext, Execution, Reply}}
+pub use array_model.{Execution.{check_condition, execution, is_request_sense, queue_full, sense_of}, Order.{choice}}
+pub use array_model.Order.{chosen_place, entries_of, entry_of, is_head, last_head, last_of, may_run_after, picked_place}
+pub use array_model.{Order.{process_at, process_at_if, runnable_after, runnable_by}, Processes.{Process, command_at}}
+pub use array_model.Processes.{command_process, process_by, process_if, process_of, same_bool, same_id, sense_block}
+pub use array_model.{Processes.{sense_process}, Seats.{current_of, in_hold, is_initiator, nexus_at, unit_mapped}}
+pub use array_model.{Seats.{unit_with_choice, waits_in}, SoundArray.{AllOwn, AllOwnUnits, AreApart, HasSeats, IsOwn}}
+pub use array_model.{SoundArray.{IsOwnRunning, IsOwnUnit, IsSound}, Steps.{has_ended, has_tag, is_of_unit, running_if}}
+pub use array_model.Units.{Array, Nexus, RunningProcess, UnitState, guest_at, has_no_current, is_at_unit, is_held}
+pub use array_model.Units.{nexus_of, nexuses_without, same_nexus, senses_without, starting_array, starting_units}
+pub use array_model.{Units.{unit_state_at, units_after_choice, with_current, with_unit}, declared.entries.Entry.{Entry}}
+unfoldable pub use array_model.Seats.{is_any_held}
+use Rattle.due_model.specs.story_model.proofs as story_model_proofs
+pub use story_model_proofs.StorySteps.{begun_aims, calling_aims, ends_checks, event_sent, events_aims, restored_sent}
+use Rattle.due_model.specs.story_model.specs as story_model
+pub use story_model.{BusState.{RowReading, row_reading}, CarriedBytes.{CarriedBytes, is_status_phase, is_whole_block}}
+pub use story_model.HistoryEvents.{abort_line_at, abort_line_events, bus_free_events, carried_if, end_events}
+pub use story_model.HistoryEvents.{is_complete, is_completion, is_refuse, item_abort_events, item_loss_events}
+pub use story_model.HistoryEvents.{link_events, phase_events, queue_event, queue_events, row_events_by, status_event}
+pub use story_model.{HistoryEvents.{status_events}, Items.{Item, Sent, abort, command_id, command_item, count_item}}
+pub use story_model.Items.{has_item, is_done, is_of_host, is_open, item_at, open_limit_of, process, same_item}
+pub use story_model.{Items.{sense_from, sense_id, sense_item}, Links.{LastMessage, Link, abortive, complete}}
+pub use story_model.{Links.{disconnect, link_after_name, link_of, plain}, Outcomes.{Outcome, ending_of, outcome_if}}
+pub use story_model.{Outcomes.{outcome_of, outcomes, outcomes_from}, Samples.{host_latency, latency_of, target_latency}}
+pub use story_model.Story.{Ending, Story, by_abort, by_loss, by_reset, by_status, is_aborted, is_ended}
+pub use story_model.Story.{is_sense_stopped, story_after_event, story_after_events, story_with_end, story_with_end_if}
+pub use story_model.Story.{story_with_ends, story_with_over, unanswered, with_check, with_ending}
+pub use story_model.TraceHistory.{aim_of, carried_after_byte_if, carried_after_fault_if, is_arbitration_entry}
+pub use story_model.TraceHistory.{is_counted, is_parity_error, retries_of, story, story_after_byte, story_after_calling}
+pub use story_model.TraceHistory.{story_after_calling_by, story_after_connection, story_after_fault, story_after_in}
+pub use story_model.TraceHistory.{story_after_out, story_by_change, story_in_connection, story_on_bus}
+pub use story_model.TraceHistory.{story_on_free_bus, story_with_aim, story_with_carried, story_with_restored}
+pub use story_model.TraceHistory.{story_with_sent, story_with_try, story_without_answer}
 use Rattle.tag_queue.proofs as tag_queue_proofs
 pub use tag_queue_proofs.Chosen.{first_runs}
-use Rattle.bus_due.specs.bus_reactions.specs as bus_reactions
-pub use bus_reactions.{Calling.{answered_due, calling_start}, Ends.{sample_due}, FreeBus.{contender_lines, free_due}}
-pub use bus_reactions.{Reactions.{due_at, due_where, sooner_time, time_if}, declared.due.{Due.{Due}, Myself.{Myself}}}
-pub use bus_reactions.declared.due.Want.{Want}
-use Rattle.bus_due.specs.bus_dialogue.specs as bus_dialogue
-pub use bus_dialogue.{Exchange.{one_message}, Hearing.{begun}, NextPhase.{phase_of, recovery_limit}, Wants.{Ready}}
-pub use bus_dialogue.Wants.{abort_since, command_since, first_ready, is_reached, is_ready_before, may_follow, open_in}
-pub use bus_dialogue.{Wants.{ready_by, ready_in}, declared.exchange.{Cause.{Cause}, Phase.{Phase}, Task.{Task}}}
-use Rattle.bus_due.proofs as bus_due_proofs
-pub use bus_due_proofs.{Leasts.{least_none}, Plains.{run_state_plain}}
-use Rattle.bus_due.specs as bus_due
-pub use bus_due.{Defs.{host_of, target_def_of}, Least.{IsLeast}, Next.{IsEnded, IsPrompt, due}, Plain.{AreOfDevices}}
-pub use bus_due.{Plain.{IsPlain}, RunState.{RunState, array_of, bus_of, carried_here, item_of, or_start, process_item}}
-pub use bus_due.{RunState.{process_served}, RunSteps.{array_after_events, item_if, run_state, run_state_after}}
-pub use bus_due.{RunSteps.{served_after}, Sights.{leaving}, Tasks.{task_if, task_of}, Telling.{is_true_telling}}
-pub use bus_due.{Telling.{same_event, telling}, Wants.{abort_target, initiator_if, item_want_time, own_aborts}}
-pub use bus_due.Wants.{own_command, own_commands, ready_among, ready_at, ready_of, ready_time, seek_of, since_of}
-pub use bus_due.Wants.{target_if, target_of, want_time}
+use Rattle.due_model.specs.reaction_model.specs as reaction_model
+pub use reaction_model.{Calling.{answered_due, calling_start}, Ends.{sample_due}, FreeBus.{contender_lines, free_due}}
+pub use reaction_model.{Reactions.{due_at, due_where, sooner_time, time_if}, declared.due.{Due.{Due}, Myself.{Myself}}}
+pub use reaction_model.declared.due.Want.{Want}
+use Rattle.due_model.specs.dialogue_model.specs as dialogue_model
+pub use dialogue_model.{Exchange.{one_message}, Hearing.{begun}, NextPhase.{phase_of, recovery_limit}, Wants.{Ready}}
+pub use dialogue_model.Wants.{abort_since, command_since, first_ready, is_reached, is_ready_before, may_follow, open_in}
+pub use dialogue_model.{Wants.{ready_by, ready_in}, declared.exchange.{Cause.{Cause}, Phase.{Phase}, Task.{Task}}}
+use Rattle.due_model.proofs as due_model_proofs
+pub use due_model_proofs.{Leasts.{least_none}, Plains.{run_state_plain}}
+use Rattle.due_model.specs as due_model
+pub use due_model.{Defs.{host_of, target_def_of}, Least.{IsLeast}, Next.{IsEnded, IsPrompt, due}, Plain.{AreOfDevices}}
+pub use due_model.{Plain.{IsPlain}, RunState.{RunState, array_of, bus_of, carried_here, item_of, or_start}}
+pub use due_model.{RunState.{process_item, process_served}, RunSteps.{array_after_events, item_if, run_state}}
+pub use due_model.{RunSteps.{run_state_after, served_after}, Sights.{leaving}, Tasks.{task_if, task_of}}
+pub use due_model.{Telling.{is_true_telling, same_event, telling}, Wants.{abort_target, initiator_if, item_want_time}}
+pub use due_model.Wants.{own_aborts, own_command, own_commands, ready_among, ready_at, ready_of, ready_time, seek_of}
+pub use due_model.Wants.{since_of, target_if, target_of, want_time}
 use Rattle.trace_laws.specs.scsi_device.proofs as scsi_device_proofs
 pub use scsi_device_proofs.{Finds.{all_are, all_more}, FitLines.{abort_fits, command_fits, obeys_fits, seats_are}}
 pub use scsi_device_proofs.{FitLines.{units_are}, LineReads.{host_by, unit_by}}

@@ -2,18 +2,18 @@
 use Rattle.std.specs.Prelude.{ℕ, ◌+◌, ◌==◌, ◌&&◌, ◌||◌, Bool, true, not, List, [], ◌∷◌, Option, Some, None, nat_le}
 use Rattle.std.specs.Prelude.{if◌then◌else◌}
 use Rattle.std.specs.List.{list_any}
-use Rattle.bus_due.specs.bus_trace.specs.declared.Row.{Row}
-use Rattle.bus_due.specs.cdb_codec.specs.declared.status.TheConstants.{GOOD}
-use Rattle.bus_due.specs.scenario.specs.declared.value.CmdDef.{CmdDef}
-use Rattle.bus_due.specs.scenario.specs.Value.{ScenarioValue}
-use Rattle.bus_due.specs.disk_array.specs.ArrayHistory.{reply_in}
-use Rattle.bus_due.specs.disk_array.specs.Execution.{Reply}
-use Rattle.bus_due.specs.disk_array.specs.Processes.{command_at}
-use Rattle.bus_due.specs.disk_array.specs.Seats.{in_hold}
-use Rattle.bus_due.specs.disk_array.specs.Units.{Array, Nexus, same_nexus}
-use Rattle.bus_due.specs.bus_story.specs.Items.{Item, Sent, abort, has_item, process, sense_item, sense_id}
-use Rattle.bus_due.specs.RunState.{RunState, array_of}
-use Rattle.bus_due.specs.RunSteps.{run_state_after}
+use Rattle.due_model.specs.bus_trace.specs.declared.Row.{Row}
+use Rattle.due_model.specs.cdb_codec.specs.declared.status.TheConstants.{GOOD}
+use Rattle.due_model.specs.scenario.specs.declared.value.CmdDef.{CmdDef}
+use Rattle.due_model.specs.scenario.specs.Value.{ScenarioValue}
+use Rattle.due_model.specs.array_model.specs.ArrayHistory.{reply_in}
+use Rattle.due_model.specs.array_model.specs.Execution.{Reply}
+use Rattle.due_model.specs.array_model.specs.Processes.{command_at}
+use Rattle.due_model.specs.array_model.specs.Seats.{in_hold}
+use Rattle.due_model.specs.array_model.specs.Units.{Array, Nexus, same_nexus}
+use Rattle.due_model.specs.story_model.specs.Items.{Item, Sent, abort, has_item, process, sense_item, sense_id}
+use Rattle.due_model.specs.RunState.{RunState, array_of}
+use Rattle.due_model.specs.RunSteps.{run_state_after}
 use Rattle.progress_laws.specs.Debts.{is_owed, nexus_of_command}
 
 -- ---- of all commands, counted from n

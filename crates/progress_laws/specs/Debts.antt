@@ -2,19 +2,19 @@
 -- of a command that ended with CHECK CONDITION is not over, its initiator stands in the hold of the unit (7.6, 7.8).
 use Rattle.std.specs.Prelude.{ℕ, ◌≡◌, ◌==◌, ◌&&◌, Bool, true, false, not, List, Some, ⊤}
 use Rattle.std.specs.List.{list_any}
-use Rattle.bus_due.specs.bus_base.specs.declared.Event.{Event}
-use Rattle.bus_due.specs.bus_base.specs.declared.Event.TheVariants as events
-use Rattle.bus_due.specs.bus_base.specs.declared.ProcId.{ProcId}
-use Rattle.bus_due.specs.cdb_codec.specs.declared.status.TheConstants.{GOOD}
-use Rattle.bus_due.specs.scenario.specs.declared.value.CmdDef.{CmdDef}
-use Rattle.bus_due.specs.scenario.specs.Value.{ScenarioValue}
-use Rattle.bus_due.specs.disk_array.specs.ArrayHistory.{reply_in}
-use Rattle.bus_due.specs.disk_array.specs.Execution.{Reply}
-use Rattle.bus_due.specs.disk_array.specs.Processes.{command_at}
-use Rattle.bus_due.specs.disk_array.specs.Seats.{in_hold}
-use Rattle.bus_due.specs.disk_array.specs.Units.{Nexus}
-use Rattle.bus_due.specs.bus_story.specs.Items.{Sent, has_item, process, sense_item, sense_id}
-use Rattle.bus_due.specs.RunState.{RunState, array_of}
+use Rattle.due_model.specs.bus_base.specs.declared.Event.{Event}
+use Rattle.due_model.specs.bus_base.specs.declared.Event.TheVariants as events
+use Rattle.due_model.specs.bus_base.specs.declared.ProcId.{ProcId}
+use Rattle.due_model.specs.cdb_codec.specs.declared.status.TheConstants.{GOOD}
+use Rattle.due_model.specs.scenario.specs.declared.value.CmdDef.{CmdDef}
+use Rattle.due_model.specs.scenario.specs.Value.{ScenarioValue}
+use Rattle.due_model.specs.array_model.specs.ArrayHistory.{reply_in}
+use Rattle.due_model.specs.array_model.specs.Execution.{Reply}
+use Rattle.due_model.specs.array_model.specs.Processes.{command_at}
+use Rattle.due_model.specs.array_model.specs.Seats.{in_hold}
+use Rattle.due_model.specs.array_model.specs.Units.{Nexus}
+use Rattle.due_model.specs.story_model.specs.Items.{Sent, has_item, process, sense_item, sense_id}
+use Rattle.due_model.specs.RunState.{RunState, array_of}
 
 -- The command ended with CHECK CONDITION, and its automatic REQUEST SENSE is not over.
 abbrev pub is_owed : Sent → ℕ → Bool

@@ -2,12 +2,12 @@
 -- stands in a queue, and to those that stand in a hold a sense is owed (7.6, 7.8).
 use Rattle.std.specs.Prelude.{ℕ, ◌≡◌, ◌==◌, true, false, List, [], ◌∷◌, Some, ⊤}
 use Rattle.std.specs.List.{list_any}
-use Rattle.bus_due.specs.scenario.specs.declared.value.CmdDef.{CmdDef}
-use Rattle.bus_due.specs.scenario.specs.Value.{ScenarioValue}
-use Rattle.bus_due.specs.disk_array.specs.Processes.{command_at}
-use Rattle.bus_due.specs.disk_array.specs.Units.{Nexus}
-use Rattle.bus_due.specs.bus_story.specs.Items.{Sent, has_item, is_open, sense_item, command_id}
-use Rattle.bus_due.specs.RunState.{RunState, array_of}
+use Rattle.due_model.specs.scenario.specs.declared.value.CmdDef.{CmdDef}
+use Rattle.due_model.specs.scenario.specs.Value.{ScenarioValue}
+use Rattle.due_model.specs.array_model.specs.Processes.{command_at}
+use Rattle.due_model.specs.array_model.specs.Units.{Nexus}
+use Rattle.due_model.specs.story_model.specs.Items.{Sent, has_item, is_open, sense_item, command_id}
+use Rattle.due_model.specs.RunState.{RunState, array_of}
 use Rattle.trace_laws.specs.book_laws.specs.Accounts.{is_served_by}
 use Rattle.trace_laws.specs.row_laws.specs.Places.{is_queued}
 

@@ -2,20 +2,20 @@
 
 ghost use Rattle.std.specs.Prelude.{ℕ, ◌≡◌, ◌<◌, true, is_some, List, Option, Some, None};
 ghost use Rattle.std.specs.List.{list_all};
-ghost use Rattle.bus_due.specs.bus_trace.specs.LineSet.{none};
-ghost use Rattle.bus_due.specs.bus_trace.specs.Trace.{bus, last_time};
-ghost use Rattle.bus_due.specs.bus_trace.specs.declared.Row.{Row};
-ghost use Rattle.bus_due.specs.bus_rules.specs.Lawful.{IsLawful};
-ghost use Rattle.bus_due.specs.scenario.specs.Value.{ScenarioValue};
-ghost use Rattle.bus_due.specs.scenario.specs.Writing.{Obeys};
-ghost use Rattle.bus_due.specs.bus_story.specs.Outcomes.{Outcome, outcomes};
-ghost use Rattle.bus_due.specs.bus_story.specs.Samples.{latency_of};
-ghost use Rattle.bus_due.specs.bus_story.specs.TraceHistory.{story};
-ghost use Rattle.bus_due.specs.Next.{IsEnded, IsPrompt};
-ghost use Rattle.bus_due.specs.RunSteps.{run_state};
-ghost use Rattle.bus_due.specs.Wants.{want_time};
+ghost use Rattle.due_model.specs.bus_trace.specs.LineSet.{none};
+ghost use Rattle.due_model.specs.bus_trace.specs.Trace.{bus, last_time};
+ghost use Rattle.due_model.specs.bus_trace.specs.declared.Row.{Row};
+ghost use Rattle.due_model.specs.bus_rules.specs.Lawful.{IsLawful};
+ghost use Rattle.due_model.specs.scenario.specs.Value.{ScenarioValue};
+ghost use Rattle.due_model.specs.scenario.specs.Writing.{Obeys};
+ghost use Rattle.due_model.specs.story_model.specs.Outcomes.{Outcome, outcomes};
+ghost use Rattle.due_model.specs.story_model.specs.Samples.{latency_of};
+ghost use Rattle.due_model.specs.story_model.specs.TraceHistory.{story};
+ghost use Rattle.due_model.specs.Next.{IsEnded, IsPrompt};
+ghost use Rattle.due_model.specs.RunSteps.{run_state};
+ghost use Rattle.due_model.specs.Wants.{want_time};
 
-use bus_due::wants_are_items;
+use due_model::wants_are_items;
 
 /// A prompt trace that has ended is quiet: where nothing is due of any device, no line is true (`quiet`), the end obeys
 /// every rule of the bus, as each row does (`lawful`), and no device wants the bus any more (`unwanted`). So no prompt

@@ -13,4 +13,4 @@ pub use laws::{ended_traces_are_quiet, ended_traces_have_outcomes};
 
 // Handed on to the crates above that list this one and not these.
 pub use trace_laws as the_trace_laws;
-pub use trace_laws::the_bus_books;
+pub use trace_laws::the_book_laws;

@@ -11,15 +11,15 @@ pub use std_proofs.lemmas.Option.{same_Some}
 use Rattle.std.specs as std
 pub use std.{Int.RustNames.{bit_or, count_ones}, List.{AllByRecursion, find, list_any}, Prelude.{if◌then◌else◌}}
 pub use std.Prelude.{is_none, is_some, min, nat_le, nat_lt, reverse, slice_index, slice_index_or, slice_set, ⊤}
-use Rattle.bus_due.specs.bus_base.proofs as bus_base_proofs
+use Rattle.due_model.specs.bus_base.proofs as bus_base_proofs
 pub use bus_base_proofs.Tests.{all_three, and_false, and_first, eq_self, eq_turned, middle, none_number, not_first}
 pub use bus_base_proofs.Tests.{nothing_below, plus_none, wrong, wrong', zero_of}
-use Rattle.bus_due.specs.bus_base.specs as bus_base
+use Rattle.due_model.specs.bus_base.specs as bus_base
 pub use bus_base.{Faults.{counted_on}, declared.{AbortKind.{AbortKind}, Event.{Event}, ProcId.{ProcId}}}
-use Rattle.bus_due.specs.bus_trace.proofs as bus_trace_proofs
+use Rattle.due_model.specs.bus_trace.proofs as bus_trace_proofs
 pub use bus_trace_proofs.{Buses.{bus_off, bus_on, bus_one}, Connections.{connection_stays}, OddParity.{byte_back}}
 pub use bus_trace_proofs.{OneRow.{bus-fault, drives-fault, drives-other}, Sets.{same_eq, same_self, same_set-eq}}
-use Rattle.bus_due.specs.bus_trace.specs as bus_trace
+use Rattle.due_model.specs.bus_trace.specs as bus_trace
 pub use bus_trace.{Agreements.{fast_times, slow_times, times_of, times_or_slow}, Changes.{change_of, falls, rises}}
 pub use bus_trace.LineSet.{LineSet, byte_set, has_id_above, ids_set, none, same, same_set, union}
 pub use bus_trace.{Phases.{changes_phase, is_command, is_data, is_message_in, is_message_out}, Terms.{arbitration}}
@@ -33,31 +33,31 @@ pub use bus_trace.declared.delays.TheConstants.{ARBITRATION_DELAY, BUS_SETTLE_DE
 pub use bus_trace.declared.{delays.TheConstants.{QUIET_TIME, SET_UP_TIME, TWO_DESKEW}, selection.Call.{Call}}
 pub use bus_trace.declared.selection.Calling.{Calling}
 unfoldable pub use bus_trace.View.{union_below}
-use Rattle.bus_due.specs.bus_lines.proofs as bus_lines_proofs
+use Rattle.due_model.specs.bus_lines.proofs as bus_lines_proofs
 pub use bus_lines_proofs.Early.{struck_same}
-use Rattle.bus_due.specs.bus_lines.specs as bus_lines
-pub use bus_lines.Handshakes.{Handshakes, answered_if, asked_if, handshakes, handshakes_after, no_handshakes}
-pub use bus_lines.{Handshakes.{strikes_if}, Stage.{answer_stage, call_stage, stage, stage_by}}
+use Rattle.due_model.specs.bus_lines.specs as bus_lines
+pub use bus_lines.Handshakes.{Handshakes, answered_if, asked_if, handshakes, handshakes_after, newest_struck_if}
+pub use bus_lines.{Handshakes.{no_handshakes}, Stage.{answer_stage, call_stage, stage, stage_by}}
 pub use bus_lines.declared.stage.Stage.{Stage, TheVariants.{InAnswer, InArbitration, InCalling, InReset, OnFreeBus}}
-use Rattle.bus_due.specs.cdb_codec.specs as cdb_codec
+use Rattle.due_model.specs.cdb_codec.specs as cdb_codec
 pub use cdb_codec.{Blocks.{blocks_moved}, Cdb.{command_of, has_group_len}, Replies.{inquiry_data, sense_data}}
 pub use cdb_codec.declared.{Sense.{Sense}, command.{CdbFault.{CdbFault}, Command.{Command}}}
 pub use cdb_codec.declared.{operation.TheConstants.{INQUIRY}, replies.TheConstants.{INQUIRY_LEN, SENSE_LEN}}
 pub use cdb_codec.declared.sense.TheConstants.{ABORTED_COMMAND, INITIATOR_DETECTED_ERROR, PARITY_ERROR}
 pub use cdb_codec.declared.status.TheConstants.{CHECK_CONDITION, GOOD}
-use Rattle.bus_due.specs.msg_grammar.specs as msg_grammar
+use Rattle.due_model.specs.msg_grammar.specs as msg_grammar
 pub use msg_grammar.{Messages.{got_in, got_out}, declared.message.{MsgIn.{MsgIn}, MsgOut.{MsgOut}}}
 unfoldable pub use msg_grammar.Messages.{form_in}
-use Rattle.bus_due.specs.bus_phases.specs as bus_phases
+use Rattle.due_model.specs.bus_phases.specs as bus_phases
 pub use bus_phases.Dialogue.{byte_else, byte_in, byte_out, dialogue, fresh_bytes, heard_with_command}
 pub use bus_phases.declared.dialogue.Dialogue.{Dialogue}
-use Rattle.bus_due.specs.bus_rules.proofs as bus_rules_proofs
+use Rattle.due_model.specs.bus_rules.proofs as bus_rules_proofs
 pub use bus_rules_proofs.First.{row_none}
-use Rattle.bus_due.specs.bus_rules.specs as bus_rules
+use Rattle.due_model.specs.bus_rules.specs as bus_rules
 pub use bus_rules.{Order.{is_of_device}, Reset.{only_rst}, Rules.{broken_rule}}
-use Rattle.bus_due.specs.scenario.proofs as scenario_proofs
+use Rattle.due_model.specs.scenario.proofs as scenario_proofs
 pub use scenario_proofs.Steps.{bind_ok, ok_is}
-use Rattle.bus_due.specs.scenario.specs as scenario
+use Rattle.due_model.specs.scenario.specs as scenario
 pub use scenario.Forms.{Said, abort_line, cmd_line, end_line, fault_line, fill_line, initiator_line, reset_line}
 pub use scenario.{Forms.{scsi_line, target_line, unit_line}, Lookups.{has_target, unit_of}, Needs.{is_write, moved_by}}
 pub use scenario.Reading.{Progress, abort_def, fault_def, fill_def, fits_version, full_cmd_def, guard, host_def}
@@ -66,91 +66,93 @@ pub use scenario.{Writing.{Obeys, built, saids}, declared.value.{AbortDef.{Abort
 pub use scenario.declared.value.{FaultDef.{FaultDef}, FillDef.{FillDef}, HostDef.{HostDef}, Policy.{Policy}}
 pub use scenario.declared.value.{TargetDef.{TargetDef}, UnitDef.{UnitDef}}
 unfoldable pub use scenario.{Needs.{need_of}, Reading.{added, said_after}}
-use Rattle.bus_due.specs.disk_array.proofs as disk_array_proofs
-pub use disk_array_proofs.{ArrayReplies.{end_lists, loss_lists}, Executed.{of_all, storing}}
-pub use disk_array_proofs.ExecutionFacts.{read_gives, sense_block_of, sense_executed, stored_apart, undone, whole_kept}
-pub use disk_array_proofs.{SeatContexts.{choice_keeps, settled_context}, SeatLaws.{abort_law, accept_law, device_law}}
-pub use disk_array_proofs.SeatLaws.{end_law, fail_law, loss_law, other_law, refuse_law, reset_law, run_law}
-pub use disk_array_proofs.{SoundArrays.{history_sound, is_own, step_sound}, WholeBlocks.{AreWhole, blank_whole}}
-pub use disk_array_proofs.WholeBlocks.{block_whole}
-use Rattle.bus_due.specs.disk_array.specs as disk_array
-pub use disk_array.ArrayHistory.{array_after, array_step, disks_of, reply_in, reply_of, shows_run}
-pub use disk_array.Contents.{Contents, blank_contents, bytes_at, filled_contents, no_contents, with_block}
-pub use disk_array.Execution.{CommandContext, Execution, Reply, check_condition, command_execution, execution}
-pub use disk_array.Execution.{invalid_field, is_good_range, is_opcode, is_request_sense, queue_full, range_of}
-pub use disk_array.{Execution.{returned_sense, sense_of, unit_not_supported}, Order.{choice, range_in}}
-pub use disk_array.{Processes.{Process, process_of, same_id}, Seats.{Seat, contents_of, context_of, current_of}}
-pub use disk_array.Seats.{guests_at, is_of_other_unit, seat_if, seat_of, settled_seat, settled_seat_if}
-pub use disk_array.SoundArray.{AllOwn, AllOwnGuests, AllOwnUnits, AreApart, HasSeats, IsOwn, IsOwnRunning, IsOwnUnit}
-pub use disk_array.{SoundArray.{IsSound}, Steps.{context_at, has_ended, has_tag, is_of_unit, process_count, running_if}}
-pub use disk_array.{Steps.{step}, Units.{Array, Nexus, RunningProcess, UnitState, guest_at, has_no_current, is_held}}
-pub use disk_array.Units.{nexus_of, sense_of_nexus, settled_array, starting_array, starting_unit, starting_units}
-pub use disk_array.Units.{unit_after_choice, unit_state_at, units_after_choice, with_current, without_reply}
-use Rattle.bus_due.specs.bus_story.proofs as bus_story_proofs
-pub use bus_story_proofs.{CarriedLists.{carried_id, carried_with}, StorySteps.{check_carried, ends_carried}}
-pub use bus_story_proofs.StorySteps.{free_carried, message_id}
-use Rattle.bus_due.specs.bus_story.specs as bus_story
-pub use bus_story.BusState.{RowReading, message_in, message_out, row_reading, whole_in, whole_out}
-pub use bus_story.CarriedBytes.{Area, CarriedBytes, area_with, bytes_with, carried_after_byte, carried_after_fault}
-pub use bus_story.CarriedBytes.{carried_after_message, carried_of, carried_or_nothing, is_status_phase, is_whole_block}
-pub use bus_story.{CarriedBytes.{nothing_carried, with_carried, with_restored_pointers}, HistoryEvents.{abort_line_at}}
-pub use bus_story.HistoryEvents.{abort_line_events, bus_free_events, carried_if, connection_events, end_events}
-pub use bus_story.HistoryEvents.{is_complete, is_completion, is_refuse, item_abort_events, item_loss_events}
-pub use bus_story.HistoryEvents.{link_events, phase_events, queue_event, queue_events, row_events_by, status_event}
-pub use bus_story.{Items.{Item, abort, has_item, process, sense_item}, Links.{LastMessage, Link, abortive, complete}}
-pub use bus_story.Links.{disconnect, is_open_sense, last_in, last_out, link_after_name, link_of, plain}
-pub use bus_story.{Outcomes.{outcomes}, Right.{Right, all_carried, carried_by, has_run, is_carried, is_run_of}}
-pub use bus_story.{Right.{moved_bytes, same_bytes}, Samples.{Sample, Strike, expected_strikes, faults_in_order}}
-pub use bus_story.Samples.{first_from, host_latency, is_kept_by_reset, is_sampled_before, kept_samples, latency_of}
-pub use bus_story.Samples.{row_strikes, samples, samples_with_byte, samples_with_ids, samples_with_ids_after}
-pub use bus_story.Samples.{samples_with_ids_of, strike_of, strikes_by, target_latency, with_fault, with_first_strike}
-pub use bus_story.{Samples.{with_sample, with_strike, without_first}, Story.{Story, by_abort, by_reset, is_aborted}}
-pub use bus_story.Story.{is_sense_stopped, marked_refused, marked_shown, story_after_event, story_after_events}
-pub use bus_story.{Story.{story_with_end}, TraceHistory.{aim_of, carried_after_byte_if, carried_after_fault_if}}
-pub use bus_story.TraceHistory.{carried_after_message_if, is_parity_error, story, story_after_byte}
-pub use bus_story.TraceHistory.{story_after_connection, story_after_fault, story_after_in, story_after_message}
-pub use bus_story.TraceHistory.{story_after_out, story_by_change, story_in_connection, story_on_bus, story_with_carried}
-pub use bus_story.TraceHistory.{story_with_restored, story_with_sent, trace_history}
+use Rattle.due_model.specs.array_model.proofs as array_model_proofs
+pub use array_model_proofs.{ArrayReplies.{end_lists, loss_lists}, Executed.{of_all, storing}}
+pub use array_model_proofs.ExecutionFacts.{read_gives, sense_block_of, sense_executed, stored_apart, undone, whole_kept}
+pub use array_model_proofs.{SeatContexts.{choice_keeps, settled_context}, SeatLaws.{abort_law, accept_law, device_law}}
+pub use array_model_proofs.SeatLaws.{end_law, fail_law, loss_law, other_law, refuse_law, reset_law, run_law}
+pub use array_model_proofs.{SoundArrays.{history_sound, is_own, step_sound}, WholeBlocks.{AreWhole, blank_whole}}
+pub use array_model_proofs.WholeBlocks.{block_whole}
+use Rattle.due_model.specs.array_model.specs as array_model
+pub use array_model.ArrayHistory.{array_after, array_step, disks_of, reply_in, reply_of, shows_run}
+pub use array_model.Contents.{Contents, blank_contents, bytes_at, filled_contents, no_contents, with_block}
+pub use array_model.Execution.{CommandContext, Execution, Reply, check_condition, command_execution, execution}
+pub use array_model.Execution.{invalid_field, is_good_range, is_opcode, is_request_sense, queue_full, range_of}
+pub use array_model.{Execution.{returned_sense, sense_of, unit_not_supported}, Order.{choice, range_in}}
+pub use array_model.{Processes.{Process, process_of, same_id}, Seats.{Seat, contents_of, context_of, current_of}}
+pub use array_model.Seats.{guests_at, is_of_other_unit, seat_if, seat_of, settled_seat, settled_seat_if}
+pub use array_model.SoundArray.{AllOwn, AllOwnGuests, AllOwnUnits, AreApart, HasSeats, IsOwn, IsOwnRunning, IsOwnUnit}
+pub use array_model.{SoundArray.{IsSound}, Steps.{context_at, has_ended, has_tag, is_of_unit, process_count}}
+pub use array_model.{Steps.{running_if, step}, Units.{Array, Nexus, RunningProcess, UnitState, guest_at}}
+pub use array_model.Units.{has_no_current, is_held, nexus_of, sense_of_nexus, settled_array, starting_array}
+pub use array_model.Units.{starting_unit, starting_units, unit_after_choice, unit_state_at, units_after_choice}
+pub use array_model.Units.{with_current, without_reply}
+use Rattle.due_model.specs.story_model.proofs as story_model_proofs
+pub use story_model_proofs.{CarriedLists.{carried_id, carried_with}, StorySteps.{check_carried, ends_carried}}
+pub use story_model_proofs.StorySteps.{free_carried, message_id}
+use Rattle.due_model.specs.story_model.specs as story_model
+pub use story_model.BusState.{RowReading, message_in, message_out, row_reading, whole_in, whole_out}
+pub use story_model.CarriedBytes.{Area, CarriedBytes, area_with, bytes_with, carried_after_byte, carried_after_fault}
+pub use story_model.CarriedBytes.{carried_after_message, carried_of, carried_or_nothing, is_status_phase}
+pub use story_model.CarriedBytes.{is_whole_block, nothing_carried, with_carried, with_restored_pointers}
+pub use story_model.HistoryEvents.{abort_line_at, abort_line_events, bus_free_events, carried_if, connection_events}
+pub use story_model.HistoryEvents.{end_events, is_complete, is_completion, is_refuse, item_abort_events}
+pub use story_model.HistoryEvents.{item_loss_events, link_events, phase_events, queue_event, queue_events}
+pub use story_model.{HistoryEvents.{row_events_by, status_event}, Items.{Item, abort, has_item, process, sense_item}}
+pub use story_model.Links.{LastMessage, Link, abortive, complete, disconnect, is_open_sense, last_in, last_out}
+pub use story_model.{Links.{link_after_name, link_of, plain}, Outcomes.{outcomes}, Right.{Right, all_carried}}
+pub use story_model.{Right.{carried_by, has_run, is_carried, is_run_of, moved_bytes, same_bytes}, Samples.{Sample}}
+pub use story_model.Samples.{Strike, expected_strikes, faults_in_order, first_from, host_latency, is_kept_by_reset}
+pub use story_model.Samples.{is_sampled_before, kept_samples, latency_of, row_strikes, samples, samples_with_byte}
+pub use story_model.Samples.{samples_with_ids, samples_with_ids_after, samples_with_ids_of, strike_of, strikes_by}
+pub use story_model.Samples.{target_latency, with_fault, with_first_strike, with_sample, with_strike, without_first}
+pub use story_model.Story.{Story, by_abort, by_reset, is_aborted, is_sense_stopped, marked_refused, marked_shown}
+pub use story_model.{Story.{story_after_event, story_after_events, story_with_end}, TraceHistory.{aim_of}}
+pub use story_model.TraceHistory.{carried_after_byte_if, carried_after_fault_if, carried_after_message_if}
+pub use story_model.TraceHistory.{is_parity_error, story, story_after_byte, story_after_connection, story_after_fault}
+pub use story_model.TraceHistory.{story_after_in, story_after_message, story_after_out, story_by_change}
+pub use story_model.TraceHistory.{story_in_connection, story_on_bus, story_with_carried, story_with_restored}
+pub use story_model.TraceHistory.{story_with_sent, trace_history}
 use Rattle.disk_unit.proofs as disk_unit_proofs
 pub use disk_unit_proofs.Parts.{length_bytes}
 use Rattle.disk_unit.specs as disk_unit
 pub use disk_unit.Disk.{blocks_written, blocks_written_by}
-use Rattle.bus_due.specs.bus_reactions.specs as bus_reactions
-pub use bus_reactions.Calling.{answer, answer_due, answered_due, bsy_takeover, called_due, caller_due, calling_abort}
-pub use bus_reactions.Calling.{calling_start, is_called, loser_release, reselection_end, selection_end, unanswered_due}
-pub use bus_reactions.{Calling.{with_calling_mark, withdrawal}, Ends.{bsy_release, initiator_due, message_out_start}}
-pub use bus_reactions.{Ends.{owes_release, sample_due, target_due}, FreeBus.{arbitration_due, entry, free_due}}
-pub use bus_reactions.{FreeBus.{later_entry_if, win}, Initiator.{ack_negation, ack_pulse, ack_pulse_end, byte_release}}
-pub use bus_reactions.Initiator.{initiator_byte, initiator_handshake, initiator_pulse, initiator_turn, pulsed_byte}
-pub use bus_reactions.Initiator.{received_byte_ack, received_byte_pulse, rose_with_ack, sent_byte_ack, sent_byte_pulse}
-pub use bus_reactions.{Linking.{bus_clear, link_due_by}, Reactions.{due_at, due_where, earlier_due, fault_due}}
-pub use bus_reactions.{Reactions.{fault_or}, Target.{bits_if, byte_bits, byte_change, first_byte, first_req}}
-pub use bus_reactions.Target.{has_io_turned, next_req, phase_end, pulse_turn, pulsed_phase_end, req_assertion}
-pub use bus_reactions.Target.{req_negation, req_pulse, req_pulse_end, target_handshake, target_pulse, target_turn}
-pub use bus_reactions.declared.{due.{Due.{Due}, Myself.{Myself}, Want.{Want}}, ends.Answering.{Answering}}
-pub use bus_reactions.declared.{ends.{Offering.{Offering}, Pace.{Pace}}, sight.Sight.{Sight}}
-use Rattle.bus_due.specs.bus_dialogue.specs as bus_dialogue
-pub use bus_dialogue.{Arrivals.{policy_of}, DataRuns.{run_at, run_in, run_length, runs_in, runs_in_all}}
-pub use bus_dialogue.{Ends.{follows_by, is_pulsed_phase}, Events.{is_status_next}, Exchange.{Exchange}}
-pub use bus_dialogue.{Exchange.{bytes_of_messages, from_byte, message_bytes, one_message, plan_anew}, Hearing.{begun}}
-pub use bus_dialogue.{Hearing.{begun_after}, NextPhase.{Serving, after_messages, after_run, disconnect_messages}}
-pub use bus_dialogue.NextPhase.{disconnection, leaving_by, phase_entry, phase_leaving, phase_lines, phase_of}
-pub use bus_dialogue.{NextPhase.{unless_attention, with_task}, PhaseBytes.{data_byte, follows_in, lines_by, one_if}}
-pub use bus_dialogue.{PhaseBytes.{phase_byte, run_length_if}, Planning.{cause_after, first_plan, plan_in_message_out}}
-pub use bus_dialogue.{Planning.{plan_in_phase}, declared.exchange.{Cause.{Cause}, Leaving.{Leaving}}}
-pub use bus_dialogue.declared.exchange.{Messages.{Messages}, Next.{Next}, Phase.{Phase}, Plan.{Plan}, Task.{Task}}
-use Rattle.bus_due.proofs as bus_due_proofs
-pub use bus_due_proofs.{Leasts.{least_none}, Plains.{run_state_plain}}
-use Rattle.bus_due.specs as bus_due
-pub use bus_due.{Connected.{is_receiver}, Defs.{host_of, target_def_of}, Due.{reset_from}}
-pub use bus_due.{LastingState.{ProcessProgress, progress_in}, Least.{IsLeast}, Next.{IsPrompt, due}, Own.{Own}}
-pub use bus_due.{Plain.{AreOfDevices, IsPlain, crossed, crossed_if}, RunState.{RunState, array_of, bus_of}}
-pub use bus_due.{RunState.{carried_here, or_start, process_item, process_served}, RunSteps.{array_after_events}}
-pub use bus_due.RunSteps.{exchange_after, first_exchange, is_for_process, item_if, leaving_of, may_negotiate, naming_of}
-pub use bus_due.RunSteps.{progress_after, progress_by_leaving, run_state, run_state_after, served_after}
-pub use bus_due.{Sights.{flip_of, hearing_of, leaving, offering_of, serving_at, serving_of, want_of}, Tasks.{blocks_in}}
-pub use bus_due.Tasks.{given_if, given_of, is_writing, moved_count, reply_now, size_of, task_if, task_of, task_with}
-pub use bus_due.{Telling.{is_true_telling, telling}, Wants.{ready_of}}
+use Rattle.due_model.specs.reaction_model.specs as reaction_model
+pub use reaction_model.Calling.{answer, answer_due, answered_due, bsy_takeover, called_due, caller_due, calling_abort}
+pub use reaction_model.Calling.{calling_start, is_called, loser_release, reselection_end, selection_end, unanswered_due}
+pub use reaction_model.{Calling.{with_calling_mark, withdrawal}, Ends.{bsy_release, initiator_due, message_out_start}}
+pub use reaction_model.{Ends.{owes_release, sample_due, target_due}, FreeBus.{arbitration_due, entry, free_due}}
+pub use reaction_model.{FreeBus.{later_entry_if, win}, Initiator.{ack_negation, ack_pulse, ack_pulse_end, byte_release}}
+pub use reaction_model.Initiator.{initiator_byte, initiator_handshake, initiator_pulse, initiator_turn, pulsed_byte}
+pub use reaction_model.Initiator.{received_byte_ack, received_byte_pulse, rose_with_ack, sent_byte_ack, sent_byte_pulse}
+pub use reaction_model.{Linking.{bus_clear, link_due_by}, Reactions.{due_at, due_where, earlier_due, fault_due}}
+pub use reaction_model.{Reactions.{fault_or}, Target.{bits_if, byte_bits, byte_change, first_byte, first_req}}
+pub use reaction_model.Target.{has_io_turned, next_req, phase_end, pulse_turn, pulsed_phase_end, req_assertion}
+pub use reaction_model.Target.{req_negation, req_pulse, req_pulse_end, target_handshake, target_pulse, target_turn}
+pub use reaction_model.declared.{due.{Due.{Due}, Myself.{Myself}, Want.{Want}}, ends.Answering.{Answering}}
+pub use reaction_model.declared.{ends.{Offering.{Offering}, Pace.{Pace}}, sight.Sight.{Sight}}
+use Rattle.due_model.specs.dialogue_model.specs as dialogue_model
+pub use dialogue_model.{Arrivals.{policy_of}, DataRuns.{run_at, run_in, run_length, runs_in, runs_in_all}}
+pub use dialogue_model.{Ends.{follows_by, is_pulsed_phase}, Events.{is_status_next}, Exchange.{Exchange}}
+pub use dialogue_model.{Exchange.{bytes_of_messages, from_byte, message_bytes, one_message, plan_anew}, Hearing.{begun}}
+pub use dialogue_model.{Hearing.{begun_after}, NextPhase.{Serving, after_messages, after_run, disconnect_messages}}
+pub use dialogue_model.NextPhase.{disconnection, leaving_by, phase_entry, phase_leaving, phase_lines, phase_of}
+pub use dialogue_model.{NextPhase.{unless_attention, with_task}, PhaseBytes.{data_byte, follows_in, lines_by, one_if}}
+pub use dialogue_model.{PhaseBytes.{phase_byte, run_length_if}, Planning.{cause_after, first_plan, plan_in_message_out}}
+pub use dialogue_model.{Planning.{plan_in_phase}, declared.exchange.{Cause.{Cause}, Leaving.{Leaving}}}
+pub use dialogue_model.declared.exchange.{Messages.{Messages}, Next.{Next}, Phase.{Phase}, Plan.{Plan}, Task.{Task}}
+use Rattle.due_model.proofs as due_model_proofs
+pub use due_model_proofs.{Leasts.{least_none}, Plains.{run_state_plain}}
+use Rattle.due_model.specs as due_model
+pub use due_model.{Connected.{is_receiver}, Defs.{host_of, target_def_of}, Due.{reset_from}}
+pub use due_model.{LastingState.{ProcessProgress, progress_in}, Least.{IsLeast}, Next.{IsPrompt, due}, Own.{Own}}
+pub use due_model.{Plain.{AreOfDevices, IsPlain, crossed, crossed_if}, RunState.{RunState, array_of, bus_of}}
+pub use due_model.{RunState.{carried_here, or_start, process_item, process_served}, RunSteps.{array_after_events}}
+pub use due_model.RunSteps.{exchange_after, first_exchange, is_for_process, item_if, leaving_of, may_negotiate}
+pub use due_model.RunSteps.{naming_of, progress_after, progress_by_leaving, run_state, run_state_after, served_after}
+pub use due_model.Sights.{flip_of, hearing_of, leaving, offering_of, serving_at, serving_of, want_of}
+pub use due_model.Tasks.{blocks_in, given_if, given_of, is_writing, moved_count, reply_now, size_of, task_if, task_of}
+pub use due_model.{Tasks.{task_with}, Telling.{is_true_telling, telling}, Wants.{ready_of}}
 use Rattle.trace_laws.specs.scsi_device.proofs as scsi_device_proofs
 pub use scsi_device_proofs.{Finds.{all_are, all_more}, FitLines.{obeys_fits, seats_are}, LineReads.{unit_read}}
 use Rattle.trace_laws.specs.scsi_device.specs as scsi_device

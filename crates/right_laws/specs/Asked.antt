@@ -1,19 +1,19 @@
 -- What holds of each row of a prompt trace, of a process that runs with it: the bytes that a write sends have come with
 -- it; and any other has carried the bytes that its reply gives.
 use Rattle.std.specs.Prelude.{◌≡◌, ◌≤◌, true, false, ◌&&◌, ◌==◌, List, [], ◌∷◌, length, Some, ⊤}
-use Rattle.bus_due.specs.bus_trace.specs.declared.Row.{Row}
-use Rattle.bus_due.specs.cdb_codec.specs.declared.status.TheConstants.{GOOD}
-use Rattle.bus_due.specs.scenario.specs.Value.{ScenarioValue}
-use Rattle.bus_due.specs.disk_array.specs.ArrayHistory.{reply_in}
-use Rattle.bus_due.specs.disk_array.specs.Execution.{Reply}
-use Rattle.bus_due.specs.disk_array.specs.Processes.{Process, process_of}
+use Rattle.due_model.specs.bus_trace.specs.declared.Row.{Row}
+use Rattle.due_model.specs.cdb_codec.specs.declared.status.TheConstants.{GOOD}
+use Rattle.due_model.specs.scenario.specs.Value.{ScenarioValue}
+use Rattle.due_model.specs.array_model.specs.ArrayHistory.{reply_in}
+use Rattle.due_model.specs.array_model.specs.Execution.{Reply}
+use Rattle.due_model.specs.array_model.specs.Processes.{Process, process_of}
 use Rattle.trace_laws.specs.scsi_device.specs.Writes.{is_of_size}
-use Rattle.bus_due.specs.bus_story.specs.BusState.{row_reading}
-use Rattle.bus_due.specs.bus_story.specs.HistoryEvents.{row_events_by}
-use Rattle.bus_due.specs.bus_story.specs.Right.{has_run, moved_bytes}
-use Rattle.bus_due.specs.RunState.{RunState, array_of, carried_here}
-use Rattle.bus_due.specs.RunSteps.{run_state, run_state_after}
-use Rattle.bus_due.specs.Tasks.{is_writing}
+use Rattle.due_model.specs.story_model.specs.BusState.{row_reading}
+use Rattle.due_model.specs.story_model.specs.HistoryEvents.{row_events_by}
+use Rattle.due_model.specs.story_model.specs.Right.{has_run, moved_bytes}
+use Rattle.due_model.specs.RunState.{RunState, array_of, carried_here}
+use Rattle.due_model.specs.RunSteps.{run_state, run_state_after}
+use Rattle.due_model.specs.Tasks.{is_writing}
 use Rattle.trace_laws.specs.story_laws.specs.WholeRuns.{bytes_come}
 
 -- It runs with the row, and this is its reply.

@@ -3,16 +3,16 @@
 -- (6.1.3, 6.1.4).
 use Rattle.std.specs.Prelude.{ℕ, ◌+◌, Bool, true, false, ◌&&◌, List, [], ◌∷◌, Option, Some, None, is_none}
 use Rattle.std.specs.Prelude.{if◌then◌else◌}
-use Rattle.bus_due.specs.bus_trace.specs.declared.Row.{Row}
-use Rattle.bus_due.specs.bus_trace.specs.declared.delays.TheConstants.{BUS_SETTLE_DELAY}
-use Rattle.bus_due.specs.bus_trace.specs.declared.selection.Call.{Call}
-use Rattle.bus_due.specs.bus_trace.specs.declared.selection.Calling.{Calling}
-use Rattle.bus_due.specs.bus_trace.specs.declared.connection.Connection.{Connection}
-use Rattle.bus_due.specs.bus_trace.specs.Terms.{call, connection, receiver}
-use Rattle.bus_due.specs.bus_trace.specs.Trace.{bus, last_time, since_line}
-use Rattle.bus_due.specs.scenario.specs.Value.{ScenarioValue}
-use Rattle.bus_due.specs.bus_story.specs.Samples.{Sample, latency_of}
-use Rattle.bus_due.specs.bus_reactions.specs.Calling.{is_called}
+use Rattle.due_model.specs.bus_trace.specs.declared.Row.{Row}
+use Rattle.due_model.specs.bus_trace.specs.declared.delays.TheConstants.{BUS_SETTLE_DELAY}
+use Rattle.due_model.specs.bus_trace.specs.declared.selection.Call.{Call}
+use Rattle.due_model.specs.bus_trace.specs.declared.selection.Calling.{Calling}
+use Rattle.due_model.specs.bus_trace.specs.declared.connection.Connection.{Connection}
+use Rattle.due_model.specs.bus_trace.specs.Terms.{call, connection, receiver}
+use Rattle.due_model.specs.bus_trace.specs.Trace.{bus, last_time, since_line}
+use Rattle.due_model.specs.scenario.specs.Value.{ScenarioValue}
+use Rattle.due_model.specs.story_model.specs.Samples.{Sample, latency_of}
+use Rattle.due_model.specs.reaction_model.specs.Calling.{is_called}
 
 -- The called device has not answered yet, and no fault has struck it.
 abbrev pub is_asked : Calling → Bool

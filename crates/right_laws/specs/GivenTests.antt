@@ -3,29 +3,29 @@
 use Rattle.std.specs.Prelude.{ℕ, ◌+◌, Bool, true, false, not, ◌&&◌, ◌||◌, ◌==◌, nat_le, nat_lt, List, [], ◌∷◌, length}
 use Rattle.std.specs.Prelude.{Option, Some, None, is_some}
 use Rattle.std.specs.List.{list_all}
-use Rattle.bus_due.specs.bus_base.specs.declared.Event.{Event}
-use Rattle.bus_due.specs.bus_trace.specs.Phases.{changes_phase, is_command}
-use Rattle.bus_due.specs.bus_trace.specs.declared.Row.{Row}
-use Rattle.bus_due.specs.bus_trace.specs.declared.connection.Connection.{Connection}
-use Rattle.bus_due.specs.scenario.specs.Value.{ScenarioValue}
-use Rattle.bus_due.specs.scenario.specs.declared.value.CmdDef.{CmdDef}
-use Rattle.bus_due.specs.disk_array.specs.ArrayHistory.{reply_in}
-use Rattle.bus_due.specs.disk_array.specs.Execution.{Reply}
-use Rattle.bus_due.specs.disk_array.specs.Processes.{Process, process_of}
-use Rattle.bus_due.specs.disk_array.specs.Units.{RunningProcess, UnitState}
-use Rattle.bus_due.specs.bus_story.specs.BusState.{row_reading}
-use Rattle.bus_due.specs.bus_story.specs.HistoryEvents.{row_events_by}
-use Rattle.bus_due.specs.bus_story.specs.Items.{Item, process, abort}
-use Rattle.bus_due.specs.bus_story.specs.Links.{Link}
-use Rattle.bus_due.specs.bus_story.specs.Right.{has_run, same_bytes}
-use Rattle.bus_due.specs.bus_dialogue.specs.declared.exchange.Task.{Task}
-use Rattle.bus_due.specs.bus_dialogue.specs.Arrivals.{policy_of}
-use Rattle.bus_due.specs.bus_dialogue.specs.DataRuns.{run_at, run_length}
-use Rattle.bus_due.specs.bus_dialogue.specs.NextPhase.{phase_of}
-use Rattle.bus_due.specs.Defs.{target_def_of}
-use Rattle.bus_due.specs.RunState.{RunState, array_of, bus_of, carried_here, process_served}
-use Rattle.bus_due.specs.RunSteps.{run_state_after}
-use Rattle.bus_due.specs.Tasks.{is_writing, reply_now, task_of}
+use Rattle.due_model.specs.bus_base.specs.declared.Event.{Event}
+use Rattle.due_model.specs.bus_trace.specs.Phases.{changes_phase, is_command}
+use Rattle.due_model.specs.bus_trace.specs.declared.Row.{Row}
+use Rattle.due_model.specs.bus_trace.specs.declared.connection.Connection.{Connection}
+use Rattle.due_model.specs.scenario.specs.Value.{ScenarioValue}
+use Rattle.due_model.specs.scenario.specs.declared.value.CmdDef.{CmdDef}
+use Rattle.due_model.specs.array_model.specs.ArrayHistory.{reply_in}
+use Rattle.due_model.specs.array_model.specs.Execution.{Reply}
+use Rattle.due_model.specs.array_model.specs.Processes.{Process, process_of}
+use Rattle.due_model.specs.array_model.specs.Units.{RunningProcess, UnitState}
+use Rattle.due_model.specs.story_model.specs.BusState.{row_reading}
+use Rattle.due_model.specs.story_model.specs.HistoryEvents.{row_events_by}
+use Rattle.due_model.specs.story_model.specs.Items.{Item, process, abort}
+use Rattle.due_model.specs.story_model.specs.Links.{Link}
+use Rattle.due_model.specs.story_model.specs.Right.{has_run, same_bytes}
+use Rattle.due_model.specs.dialogue_model.specs.declared.exchange.Task.{Task}
+use Rattle.due_model.specs.dialogue_model.specs.Arrivals.{policy_of}
+use Rattle.due_model.specs.dialogue_model.specs.DataRuns.{run_at, run_length}
+use Rattle.due_model.specs.dialogue_model.specs.NextPhase.{phase_of}
+use Rattle.due_model.specs.Defs.{target_def_of}
+use Rattle.due_model.specs.RunState.{RunState, array_of, bus_of, carried_here, process_served}
+use Rattle.due_model.specs.RunSteps.{run_state_after}
+use Rattle.due_model.specs.Tasks.{is_writing, reply_now, task_of}
 use Rattle.trace_laws.specs.scsi_device.specs.Writes.{is_data_in}
 
 -- As a byte of DATA IN crosses for a process that does not write.

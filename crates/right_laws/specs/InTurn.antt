@@ -1,9 +1,9 @@
 -- Which samples the faults strike, sample by sample in order of time: the first fault that has not struck yet strikes a
 -- sample at or after its time.
 use Rattle.std.specs.Prelude.{ℕ, List, [], ◌∷◌, ◌++◌, drop, Option, Some, None}
-use Rattle.bus_due.specs.scenario.specs.declared.value.FaultDef.{FaultDef}
-use Rattle.bus_due.specs.bus_story.specs.Samples.{Sample, Strike}
-use Rattle.bus_due.specs.Sights.{flip_of}
+use Rattle.due_model.specs.scenario.specs.declared.value.FaultDef.{FaultDef}
+use Rattle.due_model.specs.story_model.specs.Samples.{Sample, Strike}
+use Rattle.due_model.specs.Sights.{flip_of}
 
 -- What a sample takes of a fault that strikes this bit of it, and what is left of the faults then.
 abbrev pub strike_if : Sample → Option ℕ → List Strike

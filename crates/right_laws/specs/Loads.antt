@@ -1,9 +1,9 @@
 -- What a process has carried, by its bytes alone: of its command, its data and its status (6.4, 6.6.19).
 use Rattle.std.specs.Prelude.{ℕ, List}
-use Rattle.bus_due.specs.bus_trace.specs.declared.Row.{Row}
-use Rattle.bus_due.specs.scenario.specs.Value.{ScenarioValue}
-use Rattle.bus_due.specs.bus_story.specs.CarriedBytes.{CarriedBytes}
-use Rattle.bus_due.specs.RunState.{RunState}
+use Rattle.due_model.specs.bus_trace.specs.declared.Row.{Row}
+use Rattle.due_model.specs.scenario.specs.Value.{ScenarioValue}
+use Rattle.due_model.specs.story_model.specs.CarriedBytes.{CarriedBytes}
+use Rattle.due_model.specs.RunState.{RunState}
 use Rattle.trace_laws.specs.row_laws.specs.Tells.{UndoesSame, UndoFacts}
 
 pub record Load : Type 0 where

@@ -1,14 +1,14 @@
 -- What holds of each process of the plain disk array that was not answered; and of each event of a history.
 use Rattle.std.specs.Prelude.{◌≡◌, List, [], ◌∷◌, None, Some, ⊤}
-use Rattle.bus_due.specs.bus_base.specs.declared.Event.{Event}
-use Rattle.bus_due.specs.bus_base.specs.declared.ProcId.{ProcId}
-use Rattle.bus_due.specs.bus_trace.specs.declared.Row.{Row}
-use Rattle.bus_due.specs.scenario.specs.Value.{ScenarioValue}
-use Rattle.bus_due.specs.disk_array.specs.ArrayHistory.{reply_in}
-use Rattle.bus_due.specs.disk_array.specs.Processes.{Process, process_of}
-use Rattle.bus_due.specs.disk_array.specs.Units.{RunningProcess, Array}
-use Rattle.bus_due.specs.RunState.{RunState, array_of, carried_here}
-use Rattle.bus_due.specs.RunSteps.{run_state}
+use Rattle.due_model.specs.bus_base.specs.declared.Event.{Event}
+use Rattle.due_model.specs.bus_base.specs.declared.ProcId.{ProcId}
+use Rattle.due_model.specs.bus_trace.specs.declared.Row.{Row}
+use Rattle.due_model.specs.scenario.specs.Value.{ScenarioValue}
+use Rattle.due_model.specs.array_model.specs.ArrayHistory.{reply_in}
+use Rattle.due_model.specs.array_model.specs.Processes.{Process, process_of}
+use Rattle.due_model.specs.array_model.specs.Units.{RunningProcess, Array}
+use Rattle.due_model.specs.RunState.{RunState, array_of, carried_here}
+use Rattle.due_model.specs.RunSteps.{run_state}
 use Rattle.trace_laws.specs.row_laws.specs.Places.{Each}
 
 abbrev pub OnEvents : (Event → Type 0) → List Event → Type 0

@@ -2,18 +2,18 @@
 use Rattle.std.specs.Prelude.{ℕ, ◌+◌, Bool, true, false, not, ◌&&◌, ◌||◌, ◌==◌, List, [], ◌∷◌, length, Option, Some}
 use Rattle.std.specs.Prelude.{None, is_some, nat_le}
 use Rattle.std.specs.List.{list_all}
-use Rattle.bus_due.specs.bus_trace.specs.declared.Row.{Row}
-use Rattle.bus_due.specs.bus_trace.specs.declared.connection.Connection.{Connection}
-use Rattle.bus_due.specs.cdb_codec.specs.declared.status.TheConstants.{GOOD}
-use Rattle.bus_due.specs.scenario.specs.Value.{ScenarioValue}
-use Rattle.bus_due.specs.scenario.specs.declared.value.CmdDef.{CmdDef}
-use Rattle.bus_due.specs.disk_array.specs.Processes.{Process, process_of}
-use Rattle.bus_due.specs.disk_array.specs.Units.{RunningProcess, UnitState}
-use Rattle.bus_due.specs.bus_story.specs.Items.{process, has_item}
-use Rattle.bus_due.specs.bus_dialogue.specs.NextPhase.{phase_of}
-use Rattle.bus_due.specs.RunState.{RunState, array_of, bus_of, carried_here, process_served}
-use Rattle.bus_due.specs.RunSteps.{run_state_after}
-use Rattle.bus_due.specs.Tasks.{is_writing, reply_now}
+use Rattle.due_model.specs.bus_trace.specs.declared.Row.{Row}
+use Rattle.due_model.specs.bus_trace.specs.declared.connection.Connection.{Connection}
+use Rattle.due_model.specs.cdb_codec.specs.declared.status.TheConstants.{GOOD}
+use Rattle.due_model.specs.scenario.specs.Value.{ScenarioValue}
+use Rattle.due_model.specs.scenario.specs.declared.value.CmdDef.{CmdDef}
+use Rattle.due_model.specs.array_model.specs.Processes.{Process, process_of}
+use Rattle.due_model.specs.array_model.specs.Units.{RunningProcess, UnitState}
+use Rattle.due_model.specs.story_model.specs.Items.{process, has_item}
+use Rattle.due_model.specs.dialogue_model.specs.NextPhase.{phase_of}
+use Rattle.due_model.specs.RunState.{RunState, array_of, bus_of, carried_here, process_served}
+use Rattle.due_model.specs.RunSteps.{run_state_after}
+use Rattle.due_model.specs.Tasks.{is_writing, reply_now}
 use Rattle.trace_laws.specs.book_laws.specs.Accounts.{is_served_by}
 use Rattle.trace_laws.specs.book_laws.specs.Tests.{is_front}
 use Rattle.trace_laws.specs.row_laws.specs.DataPointers.{is_marked, run_start}

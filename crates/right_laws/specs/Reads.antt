@@ -1,8 +1,8 @@
 -- What a process carries of its data before it runs (6.1.5.1).
 use Rattle.std.specs.Prelude.{ℕ, List, if◌then◌else◌}
-use Rattle.bus_due.specs.disk_array.specs.Processes.{Process}
-use Rattle.bus_due.specs.disk_array.specs.Units.{Array}
-use Rattle.bus_due.specs.Tasks.{is_writing, reply_now}
+use Rattle.due_model.specs.array_model.specs.Processes.{Process}
+use Rattle.due_model.specs.array_model.specs.Units.{Array}
+use Rattle.due_model.specs.Tasks.{is_writing, reply_now}
 
 -- What it sends, or would give if it ran now.
 abbrev pub content_now : Array → Process → List ℕ

@@ -1,10 +1,10 @@
 -- What the faults of a scenario have struck after some rows: all that they strike of the samples but for the one that
 -- comes next.
 use Rattle.std.specs.Prelude.{◌≡◌, List, ◌++◌, reverse}
-use Rattle.bus_due.specs.bus_trace.specs.declared.Row.{Row}
-use Rattle.bus_due.specs.scenario.specs.Value.{ScenarioValue}
-use Rattle.bus_due.specs.bus_story.specs.Samples.{Sample, samples, faults_in_order, row_strikes, strikes_by}
-use Rattle.bus_due.specs.RunSteps.{run_state}
+use Rattle.due_model.specs.bus_trace.specs.declared.Row.{Row}
+use Rattle.due_model.specs.scenario.specs.Value.{ScenarioValue}
+use Rattle.due_model.specs.story_model.specs.Samples.{Sample, samples, faults_in_order, row_strikes, strikes_by}
+use Rattle.due_model.specs.RunSteps.{run_state}
 use Rattle.right_laws.specs.Awaited.{awaited, listed}
 use Rattle.right_laws.specs.InTurn.{faults_left}
 

@@ -1,9 +1,9 @@
 -- The pointers of the data that a process has carried stand in its bytes, or at their end (6.6.19, 6.6.20).
 use Rattle.std.specs.Prelude.{◌≡◌, ◌≤◌, length, Some}
-use Rattle.bus_due.specs.bus_base.specs.declared.ProcId.{ProcId}
-use Rattle.bus_due.specs.bus_story.specs.CarriedBytes.{Area, CarriedBytes}
-use Rattle.bus_due.specs.bus_story.specs.Links.{Link}
-use Rattle.bus_due.specs.RunState.{RunState, carried_here}
+use Rattle.due_model.specs.bus_base.specs.declared.ProcId.{ProcId}
+use Rattle.due_model.specs.story_model.specs.CarriedBytes.{Area, CarriedBytes}
+use Rattle.due_model.specs.story_model.specs.Links.{Link}
+use Rattle.due_model.specs.RunState.{RunState, carried_here}
 
 pub record StandsIn (a : Area) : Type 0 where
   pub active_in : a.active ≤ length a.bytes

@@ -1,11 +1,11 @@
 // The law of the fault rows, named by the contract of a function that does nothing.
 
 ghost use Rattle.std.specs.Prelude.{◌≡◌, List, reverse};
-ghost use Rattle.bus_due.specs.bus_trace.specs.declared.Row.{Row};
-ghost use Rattle.bus_due.specs.scenario.specs.Value.{ScenarioValue};
-ghost use Rattle.bus_due.specs.scenario.specs.Writing.{Obeys};
-ghost use Rattle.bus_due.specs.bus_story.specs.Samples.{expected_strikes, row_strikes};
-ghost use Rattle.bus_due.specs.Next.{IsPrompt, IsEnded};
+ghost use Rattle.due_model.specs.bus_trace.specs.declared.Row.{Row};
+ghost use Rattle.due_model.specs.scenario.specs.Value.{ScenarioValue};
+ghost use Rattle.due_model.specs.scenario.specs.Writing.{Obeys};
+ghost use Rattle.due_model.specs.story_model.specs.Samples.{expected_strikes, row_strikes};
+ghost use Rattle.due_model.specs.Next.{IsPrompt, IsEnded};
 ghost use Rattle.right_laws.specs.SoFar.{StrikesSoFar};
 
 /// The fault rows of a prompt trace that has ended are those of the scenario: each fault strikes its bit of the first

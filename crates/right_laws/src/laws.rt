@@ -1,14 +1,14 @@
 // Laws of prompt traces, each named by the contract of a function that does nothing.
 
 ghost use Rattle.std.specs.Prelude.{◌≡◌, true, is_some, List, reverse};
-ghost use Rattle.bus_due.specs.bus_trace.specs.declared.Row.{Row};
-ghost use Rattle.bus_due.specs.scenario.specs.Value.{ScenarioValue};
-ghost use Rattle.bus_due.specs.scenario.specs.Writing.{Obeys};
-ghost use Rattle.bus_due.specs.disk_array.specs.ArrayHistory.{array_after, disks_of};
-ghost use Rattle.bus_due.specs.bus_story.specs.Outcomes.{outcomes};
-ghost use Rattle.bus_due.specs.bus_story.specs.Right.{Right, all_carried};
-ghost use Rattle.bus_due.specs.bus_story.specs.TraceHistory.{story, trace_history};
-ghost use Rattle.bus_due.specs.Next.{IsPrompt};
+ghost use Rattle.due_model.specs.bus_trace.specs.declared.Row.{Row};
+ghost use Rattle.due_model.specs.scenario.specs.Value.{ScenarioValue};
+ghost use Rattle.due_model.specs.scenario.specs.Writing.{Obeys};
+ghost use Rattle.due_model.specs.array_model.specs.ArrayHistory.{array_after, disks_of};
+ghost use Rattle.due_model.specs.story_model.specs.Outcomes.{outcomes};
+ghost use Rattle.due_model.specs.story_model.specs.Right.{Right, all_carried};
+ghost use Rattle.due_model.specs.story_model.specs.TraceHistory.{story, trace_history};
+ghost use Rattle.due_model.specs.Next.{IsPrompt};
 
 /// The plain disk array permits the history of every prompt trace, however long it is (`permitted`). Each process
 /// that ran and ended carried exactly its command block, the bytes that it moves and its status (`carried`), and so the

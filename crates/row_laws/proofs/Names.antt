@@ -9,15 +9,15 @@ pub use std_proofs.lemmas.{Bool.Decides.{nat_tests}, Option.{none-some, same_Som
 use Rattle.std.specs as std
 pub use std.{Int.{Bits.{or_zero_r}, RustNames.{bit_or, count_ones}}, List.{AllByRecursion, find, list_all, list_any}}
 pub use std.Prelude.{drop, if◌then◌else◌, is_none, is_some, max, min, nat_le, nat_lt, slice_index_or, ⊤, ◌-◌}
-use Rattle.bus_due.specs.bus_base.proofs as bus_base_proofs
+use Rattle.due_model.specs.bus_base.proofs as bus_base_proofs
 pub use bus_base_proofs.Tests.{and_false, and_first, and_second, either_stays, eq_self, implication, implication_parts}
 pub use bus_base_proofs.Tests.{implied, not_first, or_middle, or_true, wrong, wrong', zero_of}
-use Rattle.bus_due.specs.bus_base.specs as bus_base
+use Rattle.due_model.specs.bus_base.specs as bus_base
 pub use bus_base.declared.{AbortKind.{AbortKind}, Event.{Event}, ProcId.{ProcId}, events.Pick.{Pick}}
-use Rattle.bus_due.specs.bus_trace.proofs as bus_trace_proofs
+use Rattle.due_model.specs.bus_trace.proofs as bus_trace_proofs
 pub use bus_trace_proofs.{Buses.{bus_off, bus_on, bus_two}, OddParity.{byte_back, byte_odd}, OneRow.{bus-fault}}
 pub use bus_trace_proofs.{OneRow.{drives-fault, drives-other, drives-own}, Sets.{same_self, same_set-eq}}
-use Rattle.bus_due.specs.bus_trace.specs as bus_trace
+use Rattle.due_model.specs.bus_trace.specs as bus_trace
 pub use bus_trace.{Agreements.{times_of}, Changes.{change_of, falls, implies, is_within, rises}, LineSet.{LineSet}}
 pub use bus_trace.{LineSet.{byte_set, has_odd_parity, none, union}, Phases.{changes_phase, is_command, is_data}}
 pub use bus_trace.{Phases.{is_message_in, is_message_out}, Terms.{arbitration, call, call_goes_on, called_goes_on}}
@@ -28,36 +28,36 @@ pub use bus_trace.{Trace.{phase_time}, declared.{Kind.{Kind, TheVariants.{Drives
 pub use bus_trace.declared.{agreements.Agreement.{Agreement}, changes.Change.{Change}}
 pub use bus_trace.declared.{connection.Connection.{Connection}, delays.TheConstants.{BUS_CLEAR_DELAY, BUS_SETTLE_DELAY}}
 pub use bus_trace.declared.{delays.TheConstants.{TURN_DELAY}, selection.{Call.{Call}, Calling.{Calling}}}
-use Rattle.bus_due.specs.bus_lines.specs as bus_lines
+use Rattle.due_model.specs.bus_lines.specs as bus_lines
 pub use bus_lines.Handshakes.{Handshakes, answered_if, asked_if, first_of, handshakes, handshakes_after, is_struck}
-pub use bus_lines.{Handshakes.{no_handshakes, strikes_if}, Stage.{stage}, declared.handshakes.Request.{Request}}
+pub use bus_lines.{Handshakes.{newest_struck_if, no_handshakes}, Stage.{stage}, declared.handshakes.Request.{Request}}
 pub use bus_lines.declared.stage.Stage.TheVariants.{InAnswer, InCalling}
 use Rattle.text_words.specs as text_words
 pub use text_words.{Spelling.{AreBytes}, Words.{Number}}
-use Rattle.bus_due.specs.cdb_codec.specs as cdb_codec
+use Rattle.due_model.specs.cdb_codec.specs as cdb_codec
 pub use cdb_codec.{Blocks.{blocks_moved}, Cdb.{command_of, has_group_len}, Replies.{capacity_data, inquiry_data}}
 pub use cdb_codec.{Replies.{sense_data}, declared.command.{CdbFault.{CdbFault}, Command.{Command}, Sense.{Sense}}}
 pub use cdb_codec.declared.{replies.TheConstants.{INQUIRY_LEN, SENSE_LEN}, sense.TheConstants.{ABORTED_COMMAND}}
 pub use cdb_codec.declared.sense.TheConstants.{INITIATOR_DETECTED_ERROR, PARITY_ERROR}
 pub use cdb_codec.declared.status.TheConstants.{CHECK_CONDITION, GOOD}
-use Rattle.bus_due.specs.msg_grammar.proofs as msg_grammar_proofs
+use Rattle.due_model.specs.msg_grammar.proofs as msg_grammar_proofs
 pub use msg_grammar_proofs.{Exact.{whole}, Spells.{in_one, out_one}}
-use Rattle.bus_due.specs.msg_grammar.specs as msg_grammar
+use Rattle.due_model.specs.msg_grammar.specs as msg_grammar
 pub use msg_grammar.{Grammar.{Begins}, Messages.{got_in, got_out, in_bytes, msg_in_of, msg_out_of, out_bytes}}
 pub use msg_grammar.declared.message.{Got.{Got, TheVariants.{More, Unknown, Whole}}, MsgIn.{MsgIn}, MsgOut.{MsgOut}}
 unfoldable pub use msg_grammar.Messages.{form_in, form_out}
-use Rattle.bus_due.specs.bus_phases.specs as bus_phases
+use Rattle.due_model.specs.bus_phases.specs as bus_phases
 pub use bus_phases.Dialogue.{byte_crosses, byte_else, byte_in, byte_out, dialogue, dialogue_after, fresh_bytes}
 pub use bus_phases.{Dialogue.{phase_begins}, Half.{left_of}, declared.dialogue.Dialogue.{Dialogue}}
-use Rattle.bus_due.specs.bus_rules.proofs as bus_rules_proofs
+use Rattle.due_model.specs.bus_rules.proofs as bus_rules_proofs
 pub use bus_rules_proofs.First.{all_kept}
-use Rattle.bus_due.specs.bus_rules.specs as bus_rules
+use Rattle.due_model.specs.bus_rules.specs as bus_rules
 pub use bus_rules.{Order.{is_of_device}, Reset.{only_rst}, Rules.{broken_rule, judged_rules}, Seen.{seen}}
 pub use bus_rules.declared.seen.Seen.{Seen}
 unfoldable pub use bus_rules.Seen.{seen_with}
-use Rattle.bus_due.specs.scenario.proofs as scenario_proofs
+use Rattle.due_model.specs.scenario.proofs as scenario_proofs
 pub use scenario_proofs.Steps.{bind_ok, guard_ok, ok_is, read_tag, read_what, within_ok}
-use Rattle.bus_due.specs.scenario.specs as scenario
+use Rattle.due_model.specs.scenario.specs as scenario
 pub use scenario.Forms.{CmdSaid, Said, abort_line, cmd_line, end_line, fault_line, fill_line, initiator_line}
 pub use scenario.{Forms.{reset_line, scsi_line, target_line, unit_line}, Lookups.{has_device}, Reading.{Progress}}
 pub use scenario.Reading.{are_ends, fault_def, fill_def, fits_version, guard, has_abort_room, has_room, in_8, in_order}
@@ -70,81 +70,84 @@ pub use scenario.declared.value.{Payload.{Payload}, Policy.{Policy}, Tag.{Tag}, 
 pub use scenario.declared.value.UnitDef.{UnitDef}
 unfoldable pub use scenario.{Needs.{need_of, sent_of}, Reading.{abort_def, added, cmd_def, full_cmd_def, host_def}}
 unfoldable pub use scenario.Reading.{period_in, said_after, tag_in, target_def, what_in}
-use Rattle.bus_due.specs.disk_array.proofs as disk_array_proofs
-pub use disk_array_proofs.ArrayReplies.{abort_lists, accept_lists, end_lists, executed_lists, fail_lists, loss_lists}
-pub use disk_array_proofs.{ArrayReplies.{refuse_lists, reset_lists, took}, ArrayUnits.{cleared_units, unit_reset_units}}
-pub use disk_array_proofs.Executed.{IsRefused, absent, faulty, of_all, outside, sense_of_fault}
-pub use disk_array_proofs.{SeatEvents.{status_units}, SeatLaws.{fail_law, run_law}, SeatOwn.{guest_own, running_unit}}
-pub use disk_array_proofs.SeatReplies.{first, guest_id, guest_replied, last_waits, no_guest_replied}
-pub use disk_array_proofs.SoundArrays.{history_sound, start_sound, start_units, step_sound}
-use Rattle.bus_due.specs.disk_array.specs as disk_array
-pub use disk_array.{ArrayHistory.{array_after, array_step, reply_in}, Contents.{Contents, blank_contents, block_at}}
-pub use disk_array.Contents.{bytes_at, filled_contents, touched_block, touched_with, with_block, with_bytes, zero_block}
-pub use disk_array.Execution.{CommandContext, Execution, Reply, aborted_reply, check_condition, command_execution}
-pub use disk_array.Execution.{commands_cleared, execution, good, is_request_sense, queue_full, reply_execution}
-pub use disk_array.{Execution.{returned_sense, sense_of, write_execution}, Order.{choice, chosen_place, entries_of}}
-pub use disk_array.Order.{entry_of, has_none_before, has_ordered, is_head, is_held_back, is_ordered, picked_place}
-pub use disk_array.{Order.{process_at, process_at_if, runnable_by, without_process}, Processes.{Process, bytes_from}}
-pub use disk_array.Processes.{command_at, command_process, payload_bytes, process_by, process_if, process_of, same_id}
-pub use disk_array.{Processes.{sense_block, sense_process}, Seats.{Seat, current_of, is_initiator, running_at, seat_if}}
-pub use disk_array.Seats.{seat_of, settled_seat, settled_seat_if, unit_mapped, unit_with_choice, unit_with_contents}
-pub use disk_array.{Seats.{unit_with_reply, waits_in}, SoundArray.{AllOwn, AllOwnGuests, AllOwnUnits, AreApart}}
-pub use disk_array.{SoundArray.{HasSeats, IsOwn, IsOwnRunning, IsOwnUnit, IsSound}, Steps.{accept_step, accept_step_at}}
-pub use disk_array.Steps.{after_status, array_without, end_step, end_step_with, fail_step, fail_step_of_new}
-pub use disk_array.Steps.{guests_with_reply, has_ended, has_tag, is_of_unit, is_waiting, process_count, refuse_step}
-pub use disk_array.Steps.{refuse_step_at, running_count, running_if, running_in, running_process, settled_array_if}
-pub use disk_array.{Steps.{step, with_guest, with_listed_reply, with_reply}, Units.{Array, Nexus, RunningProcess}}
-pub use disk_array.Units.{UnitState, guest_at, has_no_current, is_held, nexus_of, nexuses_without, same_nexus}
-pub use disk_array.Units.{sense_of_nexus, senses_without, settled_array, starting_array, starting_units}
-pub use disk_array.Units.{unit_after_choice, unit_state_at, units_after_choice, with_current, with_unit, without_guest}
-pub use disk_array.Units.{without_reply}
-use Rattle.bus_due.specs.bus_story.proofs as bus_story_proofs
-pub use bus_story_proofs.{CarriedLists.{carried_id, carried_with}, StorySteps.{check_carried, ends_carried}}
-pub use bus_story_proofs.StorySteps.{free_carried}
-use Rattle.bus_due.specs.bus_story.specs as bus_story
-pub use bus_story.BusState.{RowReading, message_in, message_out, row_reading, whole_in, whole_out}
-pub use bus_story.CarriedBytes.{CarriedBytes, carried_after_byte, carried_after_fault, carried_after_message}
-pub use bus_story.CarriedBytes.{carried_at, carried_of, carried_or_nothing, is_status_phase, is_whole_block}
-pub use bus_story.{CarriedBytes.{with_carried, with_restored_pointers}, HistoryEvents.{abort_line_at}}
-pub use bus_story.HistoryEvents.{abort_line_events, bus_free_events, carried_if, connection_events, end_events}
-pub use bus_story.HistoryEvents.{is_complete, is_completion, is_refuse, item_abort_events, item_loss_events}
-pub use bus_story.HistoryEvents.{link_events, phase_events, queue_event, queue_events, row_events_by, status_event}
-pub use bus_story.{HistoryEvents.{status_events}, Items.{Item, abort, count_item, is_open, process, sense_item}}
-pub use bus_story.Links.{LastMessage, Link, abortive, complete, disconnect, last_in, last_out, link_after_name, link_of}
-pub use bus_story.{Links.{plain}, Samples.{host_latency, latency_of, target_latency}, Story.{Story, by_abort}}
-pub use bus_story.Story.{is_aborted, is_sense_stopped, marked_refused, marked_shown, story_after_event}
-pub use bus_story.{Story.{story_after_events}, TraceHistory.{aim_of, carried_after_byte_if, carried_after_fault_if}}
-pub use bus_story.TraceHistory.{carried_after_message_if, is_parity_error, story_after, story_after_byte}
-pub use bus_story.TraceHistory.{story_after_connection, story_after_fault, story_after_in, story_after_message}
-pub use bus_story.TraceHistory.{story_after_out, story_by_change, story_in_connection, story_on_bus, story_on_free_bus}
-pub use bus_story.TraceHistory.{story_with_carried, story_with_restored, story_with_sent, trace_history}
-use Rattle.bus_due.specs.bus_reactions.specs as bus_reactions
-pub use bus_reactions.{Calling.{answered_due}, Initiator.{attends_by}, Reactions.{due_at}, Target.{bits_if, byte_bits}}
-pub use bus_reactions.declared.due.Due.{Due}
-use Rattle.bus_due.specs.bus_dialogue.specs as bus_dialogue
-pub use bus_dialogue.{Arrivals.{policy_of}, DataRuns.{run_at}, Ends.{is_pulsed_phase, offering_by}, Exchange.{Exchange}}
-pub use bus_dialogue.Exchange.{Speech, attends_with, bytes_of_messages, from_byte, message_bytes, next_word}
-pub use bus_dialogue.Exchange.{no_messages, one_message, plan_after_message, plan_anew, plan_anew_if, request_after}
-pub use bus_dialogue.{Exchange.{said_with, said_with_if, speech_after_byte, struck_plan}, Hearing.{begun, begun_after}}
-pub use bus_dialogue.{NextPhase.{Serving, leaving_by, phase_leaving, phase_lines, phase_of}, PhaseBytes.{data_byte}}
-pub use bus_dialogue.{PhaseBytes.{follows_in, lines_by, one_if, phase_byte, status_byte}, Planning.{cause_after}}
-pub use bus_dialogue.Planning.{first_plan, plan_after, plan_in_message_out, plan_in_phase, plan_with_byte}
-pub use bus_dialogue.{Sending.{Sending, byte_to_send}, Speaking.{speech_after, words_after}, Wants.{Ready, first_ready}}
-pub use bus_dialogue.{Wants.{is_ready_before, ready_in}, Words.{abort_bytes, abort_opening, agreement_answer}}
-pub use bus_dialogue.Words.{answer_bytes, host_answer, offer_if, process_opening, tag_bytes, tag_named, target_answer}
-pub use bus_dialogue.declared.exchange.{Cause.{Cause}, Hearing.{Hearing}, Leaving.{Leaving}, Messages.{Messages}}
-pub use bus_dialogue.declared.exchange.{Phase.{Phase}, Plan.{Plan}, Task.{Task}}
-use Rattle.bus_due.proofs as bus_due_proofs
-pub use bus_due_proofs.{Lookups.{none_stays}, Plains.{run_state_plain}, Stills.{still_talk}}
-use Rattle.bus_due.specs as bus_due
-pub use bus_due.{Defs.{host_of, opening, target_def_of}, LastingState.{ProcessProgress, progress_in}, Least.{IsLeast}}
-pub use bus_due.{Next.{IsPrompt, due}, Own.{own_of}, Plain.{AreOfDevices, IsPlain}, RunState.{RunState, array_of}}
-pub use bus_due.RunState.{bus_of, item_of, or_start, process_here, process_item, process_served}
-pub use bus_due.RunSteps.{array_after_events, exchange_after, leaving_of, may_negotiate, messages_if, run_state}
-pub use bus_due.{RunSteps.{run_state_after}, Sights.{answering_of, hearing_of, identify_byte, leaving, offering_of}}
-pub use bus_due.{Sights.{sending_by, sending_of, serving_at, serving_of}, Tasks.{given_if, is_writing, reply_now}}
-pub use bus_due.{Tasks.{status_by, task_if, task_of}, Wants.{abort_target, callee, initiator_if, ready_at, ready_of}}
-pub use bus_due.{Wants.{seek_of, since_of, target_if, target_of}, Wishes.{IsStill}}
+use Rattle.due_model.specs.array_model.proofs as array_model_proofs
+pub use array_model_proofs.ArrayReplies.{abort_lists, accept_lists, end_lists, executed_lists, fail_lists, loss_lists}
+pub use array_model_proofs.{ArrayReplies.{refuse_lists, reset_lists, took}, ArrayUnits.{cleared_units}}
+pub use array_model_proofs.{ArrayUnits.{unit_reset_units}, Executed.{IsRefused, absent, faulty, of_all, outside}}
+pub use array_model_proofs.{Executed.{sense_of_fault}, SeatEvents.{status_units}, SeatLaws.{fail_law, run_law}}
+pub use array_model_proofs.{SeatOwn.{guest_own, running_unit}, SeatReplies.{first, guest_id, guest_replied, last_waits}}
+pub use array_model_proofs.{SeatReplies.{no_guest_replied}, SoundArrays.{history_sound, start_sound, start_units}}
+pub use array_model_proofs.SoundArrays.{step_sound}
+use Rattle.due_model.specs.array_model.specs as array_model
+pub use array_model.{ArrayHistory.{array_after, array_step, reply_in}, Contents.{Contents, blank_contents, block_at}}
+pub use array_model.Contents.{bytes_at, filled_contents, touched_block, touched_with, with_block, with_bytes}
+pub use array_model.{Contents.{zero_block}, Execution.{CommandContext, Execution, Reply, aborted_reply}}
+pub use array_model.Execution.{check_condition, command_execution, commands_cleared, execution, good, is_request_sense}
+pub use array_model.{Execution.{queue_full, reply_execution, returned_sense, sense_of, write_execution}, Order.{choice}}
+pub use array_model.Order.{chosen_place, entries_of, entry_of, has_none_before, has_ordered, is_head, is_held_back}
+pub use array_model.Order.{is_ordered, picked_place, process_at, process_at_if, runnable_by, without_process}
+pub use array_model.Processes.{Process, bytes_from, command_at, command_process, payload_bytes, process_by, process_if}
+pub use array_model.{Processes.{process_of, same_id, sense_block, sense_process}, Seats.{Seat, current_of}}
+pub use array_model.Seats.{is_initiator, running_at, seat_if, seat_of, settled_seat, settled_seat_if, unit_mapped}
+pub use array_model.{Seats.{unit_with_choice, unit_with_contents, unit_with_reply, waits_in}, SoundArray.{AllOwn}}
+pub use array_model.SoundArray.{AllOwnGuests, AllOwnUnits, AreApart, HasSeats, IsOwn, IsOwnRunning, IsOwnUnit, IsSound}
+pub use array_model.Steps.{accept_step, accept_step_at, after_status, array_without, end_step, end_step_with, fail_step}
+pub use array_model.Steps.{fail_step_of_new, guests_with_reply, has_ended, has_tag, is_of_unit, is_waiting}
+pub use array_model.Steps.{process_count, refuse_step, refuse_step_at, running_count, running_if, running_in}
+pub use array_model.Steps.{running_process, settled_array_if, step, with_guest, with_listed_reply, with_reply}
+pub use array_model.Units.{Array, Nexus, RunningProcess, UnitState, guest_at, has_no_current, is_held, nexus_of}
+pub use array_model.Units.{nexuses_without, same_nexus, sense_of_nexus, senses_without, settled_array, starting_array}
+pub use array_model.Units.{starting_units, unit_after_choice, unit_state_at, units_after_choice, with_current}
+pub use array_model.Units.{with_unit, without_guest, without_reply}
+use Rattle.due_model.specs.story_model.proofs as story_model_proofs
+pub use story_model_proofs.{CarriedLists.{carried_id, carried_with}, StorySteps.{check_carried, ends_carried}}
+pub use story_model_proofs.StorySteps.{free_carried}
+use Rattle.due_model.specs.story_model.specs as story_model
+pub use story_model.BusState.{RowReading, message_in, message_out, row_reading, whole_in, whole_out}
+pub use story_model.CarriedBytes.{CarriedBytes, carried_after_byte, carried_after_fault, carried_after_message}
+pub use story_model.CarriedBytes.{carried_at, carried_of, carried_or_nothing, is_status_phase, is_whole_block}
+pub use story_model.{CarriedBytes.{with_carried, with_restored_pointers}, HistoryEvents.{abort_line_at}}
+pub use story_model.HistoryEvents.{abort_line_events, bus_free_events, carried_if, connection_events, end_events}
+pub use story_model.HistoryEvents.{is_complete, is_completion, is_refuse, item_abort_events, item_loss_events}
+pub use story_model.HistoryEvents.{link_events, phase_events, queue_event, queue_events, row_events_by, status_event}
+pub use story_model.{HistoryEvents.{status_events}, Items.{Item, abort, count_item, is_open, process, sense_item}}
+pub use story_model.Links.{LastMessage, Link, abortive, complete, disconnect, last_in, last_out, link_after_name}
+pub use story_model.{Links.{link_of, plain}, Samples.{host_latency, latency_of, target_latency}, Story.{Story}}
+pub use story_model.Story.{by_abort, is_aborted, is_sense_stopped, marked_refused, marked_shown, story_after_event}
+pub use story_model.{Story.{story_after_events}, TraceHistory.{aim_of, carried_after_byte_if, carried_after_fault_if}}
+pub use story_model.TraceHistory.{carried_after_message_if, is_parity_error, story_after, story_after_byte}
+pub use story_model.TraceHistory.{story_after_connection, story_after_fault, story_after_in, story_after_message}
+pub use story_model.TraceHistory.{story_after_out, story_by_change, story_in_connection, story_on_bus}
+pub use story_model.TraceHistory.{story_on_free_bus, story_with_carried, story_with_restored, story_with_sent}
+pub use story_model.TraceHistory.{trace_history}
+use Rattle.due_model.specs.reaction_model.specs as reaction_model
+pub use reaction_model.{Calling.{answered_due}, Initiator.{attends_by}, Reactions.{due_at}, Target.{bits_if, byte_bits}}
+pub use reaction_model.declared.due.Due.{Due}
+use Rattle.due_model.specs.dialogue_model.specs as dialogue_model
+pub use dialogue_model.{Arrivals.{policy_of}, DataRuns.{run_at}, Ends.{is_pulsed_phase, offering_by}}
+pub use dialogue_model.Exchange.{Exchange, Speech, attends_with, bytes_of_messages, from_byte, message_bytes, next_word}
+pub use dialogue_model.Exchange.{no_messages, one_message, plan_after_message, plan_anew, plan_anew_if, request_after}
+pub use dialogue_model.{Exchange.{said_with, said_with_if, speech_after_byte, struck_plan}, Hearing.{begun}}
+pub use dialogue_model.{Hearing.{begun_after}, NextPhase.{Serving, leaving_by, phase_leaving, phase_lines, phase_of}}
+pub use dialogue_model.PhaseBytes.{data_byte, follows_in, lines_by, one_if, phase_byte, status_byte}
+pub use dialogue_model.Planning.{cause_after, first_plan, plan_after, plan_in_message_out, plan_in_phase}
+pub use dialogue_model.{Planning.{plan_with_byte}, Sending.{Sending, byte_to_send}, Speaking.{speech_after}}
+pub use dialogue_model.{Speaking.{words_after}, Wants.{Ready, first_ready, is_ready_before, ready_in}}
+pub use dialogue_model.Words.{abort_bytes, abort_opening, agreement_answer, answer_bytes, host_answer, offer_if}
+pub use dialogue_model.{Words.{process_opening, tag_bytes, tag_named, target_answer}, declared.exchange.Cause.{Cause}}
+pub use dialogue_model.declared.exchange.{Hearing.{Hearing}, Leaving.{Leaving}, Messages.{Messages}, Phase.{Phase}}
+pub use dialogue_model.declared.exchange.{Plan.{Plan}, Task.{Task}}
+use Rattle.due_model.proofs as due_model_proofs
+pub use due_model_proofs.{Lookups.{none_stays}, Plains.{run_state_plain}, Stills.{still_talk}}
+use Rattle.due_model.specs as due_model
+pub use due_model.{Defs.{host_of, opening, target_def_of}, LastingState.{ProcessProgress, progress_in}, Least.{IsLeast}}
+pub use due_model.{Next.{IsPrompt, due}, Own.{own_of}, Plain.{AreOfDevices, IsPlain}, RunState.{RunState, array_of}}
+pub use due_model.RunState.{bus_of, item_of, or_start, process_here, process_item, process_served}
+pub use due_model.RunSteps.{array_after_events, exchange_after, leaving_of, may_negotiate, messages_if, run_state}
+pub use due_model.{RunSteps.{run_state_after}, Sights.{answering_of, hearing_of, identify_byte, leaving, offering_of}}
+pub use due_model.{Sights.{sending_by, sending_of, serving_at, serving_of}, Tasks.{given_if, is_writing, reply_now}}
+pub use due_model.{Tasks.{status_by, task_if, task_of}, Wants.{abort_target, callee, initiator_if, ready_at, ready_of}}
+pub use due_model.{Wants.{seek_of, since_of, target_if, target_of}, Wishes.{IsStill}}
 use Rattle.scsi_device.proofs as scsi_device_proofs
 pub use scsi_device_proofs.{Finds.{all_are, all_more, found_holds}, FitLines.{abort_fits, command_fits, obeys_fits}}
 pub use scsi_device_proofs.{FitLines.{seats_are, units_are}, LineReads.{abort_by, host_by, target_by}}

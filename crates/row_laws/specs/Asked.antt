@@ -1,28 +1,28 @@
 -- What the laws of the books and those of connections ask of a row of a connection beside what is due: each part is
 -- proved of the rows of prompt traces.
 use Rattle.std.specs.Prelude.{◌+◌, ◌≡◌, ◌<◌, true, false, List, ◌∷◌, length, Some, is_some, ◌&&◌}
-use Rattle.bus_due.specs.bus_trace.specs.declared.Row.{Row}
-use Rattle.bus_due.specs.bus_trace.specs.declared.connection.Connection.{Connection}
-use Rattle.bus_due.specs.bus_trace.specs.Phases.{changes_phase, is_command, is_data}
-use Rattle.bus_due.specs.bus_trace.specs.Terms.{connection}
-use Rattle.bus_due.specs.bus_trace.specs.Trace.{bus}
-use Rattle.bus_due.specs.bus_rules.specs.Seen.{seen}
-use Rattle.bus_due.specs.bus_rules.specs.Messages.{settles_offers}
-use Rattle.bus_due.specs.scenario.specs.Value.{ScenarioValue}
-use Rattle.bus_due.specs.disk_array.specs.Processes.{Process}
-use Rattle.bus_due.specs.bus_story.specs.BusState.{row_reading}
-use Rattle.bus_due.specs.bus_dialogue.specs.NextPhase.{phase_of}
-use Rattle.bus_due.specs.RunState.{RunState, bus_of, item_of, process_here, process_served, carried_here}
-use Rattle.bus_due.specs.RunSteps.{run_state}
-use Rattle.bus_due.specs.Tasks.{is_writing, task_of}
-use Rattle.bus_due.specs.Defs.{target_def_of}
-use Rattle.bus_due.specs.bus_dialogue.specs.declared.exchange.Task.{Task}
-use Rattle.bus_due.specs.bus_dialogue.specs.Arrivals.{policy_of}
-use Rattle.bus_due.specs.bus_dialogue.specs.DataRuns.{run_at}
+use Rattle.due_model.specs.bus_trace.specs.declared.Row.{Row}
+use Rattle.due_model.specs.bus_trace.specs.declared.connection.Connection.{Connection}
+use Rattle.due_model.specs.bus_trace.specs.Phases.{changes_phase, is_command, is_data}
+use Rattle.due_model.specs.bus_trace.specs.Terms.{connection}
+use Rattle.due_model.specs.bus_trace.specs.Trace.{bus}
+use Rattle.due_model.specs.bus_rules.specs.Seen.{seen}
+use Rattle.due_model.specs.bus_rules.specs.Messages.{settles_offers}
+use Rattle.due_model.specs.scenario.specs.Value.{ScenarioValue}
+use Rattle.due_model.specs.array_model.specs.Processes.{Process}
+use Rattle.due_model.specs.story_model.specs.BusState.{row_reading}
+use Rattle.due_model.specs.dialogue_model.specs.NextPhase.{phase_of}
+use Rattle.due_model.specs.RunState.{RunState, bus_of, item_of, process_here, process_served, carried_here}
+use Rattle.due_model.specs.RunSteps.{run_state}
+use Rattle.due_model.specs.Tasks.{is_writing, task_of}
+use Rattle.due_model.specs.Defs.{target_def_of}
+use Rattle.due_model.specs.dialogue_model.specs.declared.exchange.Task.{Task}
+use Rattle.due_model.specs.dialogue_model.specs.Arrivals.{policy_of}
+use Rattle.due_model.specs.dialogue_model.specs.DataRuns.{run_at}
 use Rattle.book_laws.specs.Hearing.{is_in_phase, is_out_phase}
 use Rattle.book_laws.specs.Knowing.{NamesServed}
 use Rattle.link_laws.specs.Books.{has_whole_command}
-use Rattle.bus_due.specs.bus_dialogue.specs.declared.exchange.Phase.TheVariants as phases
+use Rattle.due_model.specs.dialogue_model.specs.declared.exchange.Phase.TheVariants as phases
 
 -- The pointers stand in what the process sends, as a byte of it crosses.
 pub record PointsInto (k : RunState) (p : Process) : Type 0 where

@@ -2,25 +2,25 @@
 -- it; a process ends GOOD only where the target knows its command; and in the opening after a selection nothing is
 -- shown while the connection stands (6.1.6, 6.6, 7.3).
 use Rattle.std.specs.Prelude.{ℕ, ◌≡◌, ◌<◌, ◌==◌, Bool, true, false, List, [], ◌∷◌, Option, Some, None, is_some, ⊤}
-use Rattle.bus_due.specs.bus_base.specs.declared.AbortKind.{AbortKind}
-use Rattle.bus_due.specs.bus_base.specs.declared.Event.{Event}
-use Rattle.bus_due.specs.bus_base.specs.declared.ProcId.{ProcId}
-use Rattle.bus_due.specs.bus_trace.specs.declared.Row.{Row}
-use Rattle.bus_due.specs.bus_trace.specs.declared.connection.Connection.{Connection}
-use Rattle.bus_due.specs.bus_trace.specs.Terms.{connection}
-use Rattle.bus_due.specs.bus_trace.specs.Trace.{bus}
-use Rattle.bus_due.specs.cdb_codec.specs.declared.status.TheConstants.{GOOD}
-use Rattle.bus_due.specs.scenario.specs.declared.value.AbortDef.{AbortDef}
-use Rattle.bus_due.specs.scenario.specs.Value.{ScenarioValue}
-use Rattle.bus_due.specs.disk_array.specs.ArrayHistory.{reply_in}
-use Rattle.bus_due.specs.disk_array.specs.Execution.{Reply}
-use Rattle.bus_due.specs.bus_story.specs.BusState.{row_reading}
-use Rattle.bus_due.specs.bus_story.specs.HistoryEvents.{abort_line_at}
-use Rattle.bus_due.specs.bus_story.specs.Items.{process, abort}
-use Rattle.bus_due.specs.RunState.{RunState, array_of, process_served}
-use Rattle.bus_due.specs.RunSteps.{run_state, events_of_row}
+use Rattle.due_model.specs.bus_base.specs.declared.AbortKind.{AbortKind}
+use Rattle.due_model.specs.bus_base.specs.declared.Event.{Event}
+use Rattle.due_model.specs.bus_base.specs.declared.ProcId.{ProcId}
+use Rattle.due_model.specs.bus_trace.specs.declared.Row.{Row}
+use Rattle.due_model.specs.bus_trace.specs.declared.connection.Connection.{Connection}
+use Rattle.due_model.specs.bus_trace.specs.Terms.{connection}
+use Rattle.due_model.specs.bus_trace.specs.Trace.{bus}
+use Rattle.due_model.specs.cdb_codec.specs.declared.status.TheConstants.{GOOD}
+use Rattle.due_model.specs.scenario.specs.declared.value.AbortDef.{AbortDef}
+use Rattle.due_model.specs.scenario.specs.Value.{ScenarioValue}
+use Rattle.due_model.specs.array_model.specs.ArrayHistory.{reply_in}
+use Rattle.due_model.specs.array_model.specs.Execution.{Reply}
+use Rattle.due_model.specs.story_model.specs.BusState.{row_reading}
+use Rattle.due_model.specs.story_model.specs.HistoryEvents.{abort_line_at}
+use Rattle.due_model.specs.story_model.specs.Items.{process, abort}
+use Rattle.due_model.specs.RunState.{RunState, array_of, process_served}
+use Rattle.due_model.specs.RunSteps.{run_state, events_of_row}
 use Rattle.scsi_device.specs.Heard.{instructions, is_opening}
-use Rattle.bus_due.specs.bus_base.specs.declared.Event.TheVariants as events
+use Rattle.due_model.specs.bus_base.specs.declared.Event.TheVariants as events
 
 -- ---- one event, and all of a row
 

@@ -1,17 +1,17 @@
 -- ATN in a row of a connection: the initiator raises it as it answers a byte of MESSAGE IN, and the target leaves the
 -- phase then (6.1.5.1, 6.2.1).
 use Rattle.std.specs.Prelude.{◌≡◌, ◌⊎◌, Bool, true, false, ◌||◌, ◌==◌, None, is_some}
-use Rattle.bus_due.specs.bus_trace.specs.declared.changes.Change.{Change}
-use Rattle.bus_due.specs.bus_trace.specs.declared.connection.Connection.{Connection}
-use Rattle.bus_due.specs.bus_trace.specs.Changes.{implies}
-use Rattle.bus_due.specs.bus_trace.specs.Phases.{changes_phase, is_message_in}
-use Rattle.bus_due.specs.bus_trace.specs.Terms.{receiver_in}
-use Rattle.bus_due.specs.bus_phases.specs.declared.dialogue.Dialogue.{Dialogue}
-use Rattle.bus_due.specs.bus_phases.specs.Dialogue.{is_of_other}
-use Rattle.bus_due.specs.bus_lines.specs.Handshakes.{Handshakes}
+use Rattle.due_model.specs.bus_trace.specs.declared.changes.Change.{Change}
+use Rattle.due_model.specs.bus_trace.specs.declared.connection.Connection.{Connection}
+use Rattle.due_model.specs.bus_trace.specs.Changes.{implies}
+use Rattle.due_model.specs.bus_trace.specs.Phases.{changes_phase, is_message_in}
+use Rattle.due_model.specs.bus_trace.specs.Terms.{receiver_in}
+use Rattle.due_model.specs.bus_phases.specs.declared.dialogue.Dialogue.{Dialogue}
+use Rattle.due_model.specs.bus_phases.specs.Dialogue.{is_of_other}
+use Rattle.due_model.specs.bus_lines.specs.Handshakes.{Handshakes}
 use Rattle.row_laws.specs.Offers.{offer_now}
 use Rattle.row_laws.specs.ItemTalks.{awaits}
-use Rattle.bus_due.specs.bus_phases.specs.declared.words.End.TheVariants as ends
+use Rattle.due_model.specs.bus_phases.specs.declared.words.End.TheVariants as ends
 
 -- A row of MESSAGE IN: it changes other lines; or REQ rises, for the first byte or with ATN false; or the initiator
 -- answers.

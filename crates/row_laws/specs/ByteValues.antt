@@ -1,13 +1,13 @@
 -- What the two ends of a connection are due to give: bytes.
 use Rattle.std.specs.Prelude.{◌≡◌, ◌<◌, true, Some}
-use Rattle.bus_due.specs.bus_trace.specs.declared.connection.Connection.{Connection}
-use Rattle.bus_due.specs.bus_trace.specs.Phases.{is_message_out}
-use Rattle.bus_due.specs.scenario.specs.Value.{ScenarioValue}
-use Rattle.bus_due.specs.bus_dialogue.specs.declared.exchange.Phase.{Phase}
-use Rattle.bus_due.specs.bus_dialogue.specs.Exchange.{next_word}
-use Rattle.bus_due.specs.bus_dialogue.specs.PhaseBytes.{phase_byte, one_if}
-use Rattle.bus_due.specs.RunState.{RunState, bus_of}
-use Rattle.bus_due.specs.Sights.{serving_of, leaving, offering_of}
+use Rattle.due_model.specs.bus_trace.specs.declared.connection.Connection.{Connection}
+use Rattle.due_model.specs.bus_trace.specs.Phases.{is_message_out}
+use Rattle.due_model.specs.scenario.specs.Value.{ScenarioValue}
+use Rattle.due_model.specs.dialogue_model.specs.declared.exchange.Phase.{Phase}
+use Rattle.due_model.specs.dialogue_model.specs.Exchange.{next_word}
+use Rattle.due_model.specs.dialogue_model.specs.PhaseBytes.{phase_byte, one_if}
+use Rattle.due_model.specs.RunState.{RunState, bus_of}
+use Rattle.due_model.specs.Sights.{serving_of, leaving, offering_of}
 
 -- What the target is due to give is a byte, and what the initiator is due to say; and so is the first byte of the phase
 -- that comes next.

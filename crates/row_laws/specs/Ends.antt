@@ -1,10 +1,10 @@
 -- The two ends of a connection are an initiator and a target of the scenario.
 use Rattle.std.specs.Prelude.{◌≡◌, true, List, Some, is_some}
-use Rattle.bus_due.specs.bus_trace.specs.declared.Row.{Row}
-use Rattle.bus_due.specs.bus_trace.specs.declared.connection.Connection.{Connection}
-use Rattle.bus_due.specs.bus_trace.specs.Terms.{connection}
-use Rattle.bus_due.specs.scenario.specs.Value.{ScenarioValue}
-use Rattle.bus_due.specs.Defs.{host_of, target_def_of}
+use Rattle.due_model.specs.bus_trace.specs.declared.Row.{Row}
+use Rattle.due_model.specs.bus_trace.specs.declared.connection.Connection.{Connection}
+use Rattle.due_model.specs.bus_trace.specs.Terms.{connection}
+use Rattle.due_model.specs.scenario.specs.Value.{ScenarioValue}
+use Rattle.due_model.specs.Defs.{host_of, target_def_of}
 
 pub record HasEnds (s : ScenarioValue) (n : Connection) : Type 0 where
   pub initiator : is_some (host_of s n.initiator) ≡ true

@@ -1,20 +1,20 @@
 -- What of the place of a served process in the plain disk array the target of its connection rests on: as the
 -- connection begins, and by the phase (6.1.5, 7.5).
 use Rattle.std.specs.Prelude.{◌≡◌, true, false, List, ◌∷◌, Some, None, is_some, is_none}
-use Rattle.bus_due.specs.bus_trace.specs.declared.Row.{Row}
-use Rattle.bus_due.specs.bus_trace.specs.declared.connection.Connection.{Connection}
-use Rattle.bus_due.specs.bus_trace.specs.Terms.{connection}
-use Rattle.bus_due.specs.bus_trace.specs.Trace.{bus}
-use Rattle.bus_due.specs.scenario.specs.Value.{ScenarioValue}
-use Rattle.bus_due.specs.disk_array.specs.ArrayHistory.{reply_in}
-use Rattle.bus_due.specs.disk_array.specs.Processes.{Process}
-use Rattle.bus_due.specs.disk_array.specs.Steps.{running_process}
-use Rattle.bus_due.specs.disk_array.specs.Units.{Array}
-use Rattle.bus_due.specs.bus_dialogue.specs.declared.exchange.Next.{Next}
-use Rattle.bus_due.specs.bus_dialogue.specs.declared.exchange.Phase.{Phase}
-use Rattle.bus_due.specs.bus_dialogue.specs.NextPhase.{phase_of}
-use Rattle.bus_due.specs.RunState.{RunState, array_of, bus_of, process_served}
-use Rattle.bus_due.specs.RunSteps.{run_state}
+use Rattle.due_model.specs.bus_trace.specs.declared.Row.{Row}
+use Rattle.due_model.specs.bus_trace.specs.declared.connection.Connection.{Connection}
+use Rattle.due_model.specs.bus_trace.specs.Terms.{connection}
+use Rattle.due_model.specs.bus_trace.specs.Trace.{bus}
+use Rattle.due_model.specs.scenario.specs.Value.{ScenarioValue}
+use Rattle.due_model.specs.array_model.specs.ArrayHistory.{reply_in}
+use Rattle.due_model.specs.array_model.specs.Processes.{Process}
+use Rattle.due_model.specs.array_model.specs.Steps.{running_process}
+use Rattle.due_model.specs.array_model.specs.Units.{Array}
+use Rattle.due_model.specs.dialogue_model.specs.declared.exchange.Next.{Next}
+use Rattle.due_model.specs.dialogue_model.specs.declared.exchange.Phase.{Phase}
+use Rattle.due_model.specs.dialogue_model.specs.NextPhase.{phase_of}
+use Rattle.due_model.specs.RunState.{RunState, array_of, bus_of, process_served}
+use Rattle.due_model.specs.RunSteps.{run_state}
 use Rattle.scsi_device.specs.Heard.{gives_status, is_answered, is_beginning, is_command_phase, is_new, is_opening}
 use Rattle.scsi_device.specs.Heard.{is_unanswered, moves_data}
 

@@ -1,27 +1,28 @@
 -- What holds of the items after any rows of a prompt trace.
 use Rattle.std.specs.Prelude.{List, None, Option, Some, [], false, true, ℕ, ⊤, ◌<◌, ◌==◌, ◌∷◌, ◌≡◌}
-use Rattle.bus_due.specs.bus_base.specs.declared.ProcId.{ProcId}
-use Rattle.bus_due.specs.LastingState.{ProcessProgress, progress_in}
-use Rattle.bus_due.specs.RunState.{RunState, array_of, bus_of}
-use Rattle.bus_due.specs.RunSteps.{run_state}
-use Rattle.bus_due.specs.bus_story.specs.CarriedBytes.{CarriedBytes, carried_at}
-use Rattle.bus_due.specs.bus_story.specs.Items.{Item, Sent, abort, command_item, has_item, is_clash, is_done, is_open}
-use Rattle.bus_due.specs.bus_story.specs.Items.{may_send}
-use Rattle.bus_due.specs.bus_story.specs.Items.{open_from, process, sense_from, sense_item}
-use Rattle.bus_due.specs.bus_story.specs.Links.{Link, is_open_sense}
-use Rattle.bus_due.specs.bus_story.specs.Story.{Story}
-use Rattle.bus_due.specs.bus_story.specs.TraceHistory.{aim_of}
-use Rattle.bus_due.specs.bus_trace.specs.Terms.{arbitration, call, connection}
-use Rattle.bus_due.specs.bus_trace.specs.Trace.{bus, drives}
-use Rattle.bus_due.specs.bus_trace.specs.declared.Row.{Row}
-use Rattle.bus_due.specs.bus_trace.specs.declared.arbitration.Arbitration.{Arbitration}
-use Rattle.bus_due.specs.bus_trace.specs.declared.connection.Connection.{Connection}
-use Rattle.bus_due.specs.bus_trace.specs.declared.selection.Call.{Call}
-use Rattle.bus_due.specs.disk_array.specs.Processes.{Process, command_at, process_of}
-use Rattle.bus_due.specs.disk_array.specs.Units.{RunningProcess, UnitState}
-use Rattle.bus_due.specs.disk_array.specs.Seats.{is_initiator}
-use Rattle.bus_due.specs.scenario.specs.Value.{ScenarioValue}
-use Rattle.bus_due.specs.scenario.specs.declared.value.CmdDef.{CmdDef}
+use Rattle.due_model.specs.bus_base.specs.declared.ProcId.{ProcId}
+use Rattle.due_model.specs.LastingState.{ProcessProgress, progress_in}
+use Rattle.due_model.specs.RunState.{RunState, array_of, bus_of}
+use Rattle.due_model.specs.RunSteps.{run_state}
+use Rattle.due_model.specs.story_model.specs.CarriedBytes.{CarriedBytes, carried_at}
+use Rattle.due_model.specs.story_model.specs.Items.{Item, Sent, abort, command_item, has_item, is_clash, is_done}
+use Rattle.due_model.specs.story_model.specs.Items.{is_open}
+use Rattle.due_model.specs.story_model.specs.Items.{may_send}
+use Rattle.due_model.specs.story_model.specs.Items.{open_from, process, sense_from, sense_item}
+use Rattle.due_model.specs.story_model.specs.Links.{Link, is_open_sense}
+use Rattle.due_model.specs.story_model.specs.Story.{Story}
+use Rattle.due_model.specs.story_model.specs.TraceHistory.{aim_of}
+use Rattle.due_model.specs.bus_trace.specs.Terms.{arbitration, call, connection}
+use Rattle.due_model.specs.bus_trace.specs.Trace.{bus, drives}
+use Rattle.due_model.specs.bus_trace.specs.declared.Row.{Row}
+use Rattle.due_model.specs.bus_trace.specs.declared.arbitration.Arbitration.{Arbitration}
+use Rattle.due_model.specs.bus_trace.specs.declared.connection.Connection.{Connection}
+use Rattle.due_model.specs.bus_trace.specs.declared.selection.Call.{Call}
+use Rattle.due_model.specs.array_model.specs.Processes.{Process, command_at, process_of}
+use Rattle.due_model.specs.array_model.specs.Units.{RunningProcess, UnitState}
+use Rattle.due_model.specs.array_model.specs.Seats.{is_initiator}
+use Rattle.due_model.specs.scenario.specs.Value.{ScenarioValue}
+use Rattle.due_model.specs.scenario.specs.declared.value.CmdDef.{CmdDef}
 use Rattle.std.specs.List.{list_any}
 use Rattle.row_laws.specs.ItemTalks.{Talks}
 

@@ -2,24 +2,24 @@
 -- and after a reselection the target names it alone.
 use Rattle.std.specs.Prelude.{Bool, List, None, Option, Some, false, is_none, length, not, true, ℕ, ⊤, ◌&&◌, ◌<◌, ◌||◌}
 use Rattle.std.specs.Prelude.{◌≡◌, ◌⊎◌}
-use Rattle.bus_due.specs.bus_base.specs.declared.ProcId.{ProcId}
+use Rattle.due_model.specs.bus_base.specs.declared.ProcId.{ProcId}
 use Rattle.book_laws.specs.Giving.{OnMessages}
-use Rattle.bus_due.specs.bus_dialogue.specs.Exchange.{bytes_of_messages}
-use Rattle.bus_due.specs.bus_dialogue.specs.declared.exchange.Messages.{Messages}
-use Rattle.bus_due.specs.bus_dialogue.specs.declared.exchange.Next.{Next}
-use Rattle.bus_due.specs.RunState.{RunState, bus_of}
-use Rattle.bus_due.specs.bus_story.specs.HistoryEvents.{is_complete}
-use Rattle.bus_due.specs.bus_story.specs.Items.{Item, abort, has_item, process}
-use Rattle.bus_due.specs.bus_story.specs.Links.{LastMessage, Link, abortive, complete, disconnect, plain}
-use Rattle.bus_due.specs.bus_trace.specs.LineSet.{LineSet}
-use Rattle.bus_due.specs.bus_trace.specs.Phases.{is_message_in, is_message_out}
-use Rattle.bus_due.specs.bus_trace.specs.declared.connection.Connection.{Connection}
-use Rattle.bus_due.specs.disk_array.specs.Processes.{Process, process_of}
-use Rattle.bus_due.specs.disk_array.specs.Order.{tag_number}
-use Rattle.bus_due.specs.msg_grammar.specs.declared.message.MsgIn.{MsgIn}
-use Rattle.bus_due.specs.scenario.specs.Value.{ScenarioValue}
-use Rattle.bus_due.specs.bus_dialogue.specs.declared.exchange.Next.TheVariants as nexts
-use Rattle.bus_due.specs.msg_grammar.specs.declared.message.MsgIn.TheVariants as to_initiator
+use Rattle.due_model.specs.dialogue_model.specs.Exchange.{bytes_of_messages}
+use Rattle.due_model.specs.dialogue_model.specs.declared.exchange.Messages.{Messages}
+use Rattle.due_model.specs.dialogue_model.specs.declared.exchange.Next.{Next}
+use Rattle.due_model.specs.RunState.{RunState, bus_of}
+use Rattle.due_model.specs.story_model.specs.HistoryEvents.{is_complete}
+use Rattle.due_model.specs.story_model.specs.Items.{Item, abort, has_item, process}
+use Rattle.due_model.specs.story_model.specs.Links.{LastMessage, Link, abortive, complete, disconnect, plain}
+use Rattle.due_model.specs.bus_trace.specs.LineSet.{LineSet}
+use Rattle.due_model.specs.bus_trace.specs.Phases.{is_message_in, is_message_out}
+use Rattle.due_model.specs.bus_trace.specs.declared.connection.Connection.{Connection}
+use Rattle.due_model.specs.array_model.specs.Processes.{Process, process_of}
+use Rattle.due_model.specs.array_model.specs.Order.{tag_number}
+use Rattle.due_model.specs.msg_grammar.specs.declared.message.MsgIn.{MsgIn}
+use Rattle.due_model.specs.scenario.specs.Value.{ScenarioValue}
+use Rattle.due_model.specs.dialogue_model.specs.declared.exchange.Next.TheVariants as nexts
+use Rattle.due_model.specs.msg_grammar.specs.declared.message.MsgIn.TheVariants as to_initiator
 
 abbrev pub is_complete_in : Option MsgIn → Bool
 is_complete_in (Some to_initiator.CommandComplete) = true

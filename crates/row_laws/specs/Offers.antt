@@ -2,37 +2,37 @@
 -- (6.6.21).
 use Rattle.std.specs.Prelude.{ℕ, ◌≡◌, ◌⊎◌, ◌<◌, Bool, true, false, ◌==◌, List, length, Option, Some, None, is_some}
 use Rattle.std.specs.Prelude.{if◌then◌else◌}
-use Rattle.bus_due.specs.bus_trace.specs.LineSet.{LineSet}
-use Rattle.bus_due.specs.bus_trace.specs.declared.Row.{Row}
-use Rattle.bus_due.specs.bus_trace.specs.declared.agreements.Agreement.{Agreement}
-use Rattle.bus_due.specs.bus_trace.specs.declared.connection.Connection.{Connection}
-use Rattle.bus_due.specs.bus_trace.specs.Phases.{is_message_out, is_message_in}
-use Rattle.bus_due.specs.bus_trace.specs.Terms.{connection}
-use Rattle.bus_due.specs.bus_trace.specs.Trace.{bus}
-use Rattle.bus_due.specs.msg_grammar.specs.declared.message.MsgIn.{MsgIn}
-use Rattle.bus_due.specs.msg_grammar.specs.declared.message.MsgOut.{MsgOut}
-use Rattle.bus_due.specs.msg_grammar.specs.Messages.{in_bytes, out_bytes}
-use Rattle.bus_due.specs.bus_phases.specs.declared.dialogue.Dialogue.{Dialogue}
-use Rattle.bus_due.specs.bus_phases.specs.declared.spoken.Heard.{Heard}
-use Rattle.bus_due.specs.bus_phases.specs.declared.spoken.Spoken.{Spoken}
-use Rattle.bus_due.specs.bus_phases.specs.declared.words.End.{End}
-use Rattle.bus_due.specs.bus_phases.specs.Dialogue.{fresh_heard, heard_with_out, word_out}
-use Rattle.bus_due.specs.bus_lines.specs.Handshakes.{Handshakes}
-use Rattle.bus_due.specs.scenario.specs.Value.{ScenarioValue}
-use Rattle.bus_due.specs.bus_dialogue.specs.declared.exchange.Cause.{Cause}
-use Rattle.bus_due.specs.bus_dialogue.specs.declared.exchange.Messages.{Messages}
-use Rattle.bus_due.specs.bus_dialogue.specs.declared.exchange.Next.{Next}
-use Rattle.bus_due.specs.bus_dialogue.specs.declared.exchange.Said.{Said}
-use Rattle.bus_due.specs.bus_dialogue.specs.Exchange.{Speech, Exchange, one_message}
-use Rattle.bus_due.specs.RunState.{RunState, bus_of}
-use Rattle.bus_due.specs.RunSteps.{run_state}
+use Rattle.due_model.specs.bus_trace.specs.LineSet.{LineSet}
+use Rattle.due_model.specs.bus_trace.specs.declared.Row.{Row}
+use Rattle.due_model.specs.bus_trace.specs.declared.agreements.Agreement.{Agreement}
+use Rattle.due_model.specs.bus_trace.specs.declared.connection.Connection.{Connection}
+use Rattle.due_model.specs.bus_trace.specs.Phases.{is_message_out, is_message_in}
+use Rattle.due_model.specs.bus_trace.specs.Terms.{connection}
+use Rattle.due_model.specs.bus_trace.specs.Trace.{bus}
+use Rattle.due_model.specs.msg_grammar.specs.declared.message.MsgIn.{MsgIn}
+use Rattle.due_model.specs.msg_grammar.specs.declared.message.MsgOut.{MsgOut}
+use Rattle.due_model.specs.msg_grammar.specs.Messages.{in_bytes, out_bytes}
+use Rattle.due_model.specs.bus_phases.specs.declared.dialogue.Dialogue.{Dialogue}
+use Rattle.due_model.specs.bus_phases.specs.declared.spoken.Heard.{Heard}
+use Rattle.due_model.specs.bus_phases.specs.declared.spoken.Spoken.{Spoken}
+use Rattle.due_model.specs.bus_phases.specs.declared.words.End.{End}
+use Rattle.due_model.specs.bus_phases.specs.Dialogue.{fresh_heard, heard_with_out, word_out}
+use Rattle.due_model.specs.bus_lines.specs.Handshakes.{Handshakes}
+use Rattle.due_model.specs.scenario.specs.Value.{ScenarioValue}
+use Rattle.due_model.specs.dialogue_model.specs.declared.exchange.Cause.{Cause}
+use Rattle.due_model.specs.dialogue_model.specs.declared.exchange.Messages.{Messages}
+use Rattle.due_model.specs.dialogue_model.specs.declared.exchange.Next.{Next}
+use Rattle.due_model.specs.dialogue_model.specs.declared.exchange.Said.{Said}
+use Rattle.due_model.specs.dialogue_model.specs.Exchange.{Speech, Exchange, one_message}
+use Rattle.due_model.specs.RunState.{RunState, bus_of}
+use Rattle.due_model.specs.RunSteps.{run_state}
 use Rattle.book_laws.specs.Giving.{OnMessages}
 use Rattle.row_laws.specs.ItemTalks.{awaits}
-use Rattle.bus_due.specs.msg_grammar.specs.declared.message.MsgIn.TheVariants as to_initiator
-use Rattle.bus_due.specs.msg_grammar.specs.declared.message.MsgOut.TheVariants as to_target
-use Rattle.bus_due.specs.bus_phases.specs.declared.words.End.TheVariants as ends
-use Rattle.bus_due.specs.bus_dialogue.specs.declared.exchange.Cause.TheVariants as causes
-use Rattle.bus_due.specs.bus_dialogue.specs.declared.exchange.Next.TheVariants as nexts
+use Rattle.due_model.specs.msg_grammar.specs.declared.message.MsgIn.TheVariants as to_initiator
+use Rattle.due_model.specs.msg_grammar.specs.declared.message.MsgOut.TheVariants as to_target
+use Rattle.due_model.specs.bus_phases.specs.declared.words.End.TheVariants as ends
+use Rattle.due_model.specs.dialogue_model.specs.declared.exchange.Cause.TheVariants as causes
+use Rattle.due_model.specs.dialogue_model.specs.declared.exchange.Next.TheVariants as nexts
 
 -- ---- what a target plans to say
 

@@ -1,32 +1,32 @@
 -- Which process last sent its unit a byte of the data of writes: one of the scenario that writes there; and the current
 -- process of a unit, once it has made a run, until it has its reply (6.1.5.1, 7.8).
 use Rattle.std.specs.Prelude.{ℕ, ◌≡◌, ◌==◌, nat_le, true, false, List, [], ◌∷◌, Some, None, ⊤}
-use Rattle.bus_due.specs.bus_base.specs.declared.ProcId.{ProcId}
-use Rattle.bus_due.specs.bus_trace.specs.declared.Row.{Row}
-use Rattle.bus_due.specs.bus_trace.specs.declared.connection.Connection.{Connection}
-use Rattle.bus_due.specs.bus_trace.specs.Changes.{change_of}
-use Rattle.bus_due.specs.bus_trace.specs.Phases.{changes_phase}
-use Rattle.bus_due.specs.bus_trace.specs.Terms.{connection}
-use Rattle.bus_due.specs.bus_trace.specs.Trace.{bus}
-use Rattle.bus_due.specs.scenario.specs.Value.{ScenarioValue}
-use Rattle.bus_due.specs.disk_array.specs.Processes.{Process, process_of, same_id}
-use Rattle.bus_due.specs.disk_array.specs.Units.{RunningProcess, UnitState, guest_at}
-use Rattle.bus_due.specs.bus_dialogue.specs.declared.exchange.Task.{Task}
-use Rattle.bus_due.specs.bus_dialogue.specs.Arrivals.{policy_of}
-use Rattle.bus_due.specs.bus_dialogue.specs.DataRuns.{run_length}
-use Rattle.bus_due.specs.bus_dialogue.specs.Hearing.{begun}
-use Rattle.bus_due.specs.bus_dialogue.specs.NextPhase.{phase_of}
-use Rattle.bus_due.specs.Defs.{target_def_of}
-use Rattle.bus_due.specs.LastingState.{ProcessProgress, progress_in}
-use Rattle.bus_due.specs.RunState.{RunState, array_of, bus_of, process_served}
-use Rattle.bus_due.specs.RunSteps.{run_state}
-use Rattle.bus_due.specs.Tasks.{is_writing, task_of}
+use Rattle.due_model.specs.bus_base.specs.declared.ProcId.{ProcId}
+use Rattle.due_model.specs.bus_trace.specs.declared.Row.{Row}
+use Rattle.due_model.specs.bus_trace.specs.declared.connection.Connection.{Connection}
+use Rattle.due_model.specs.bus_trace.specs.Changes.{change_of}
+use Rattle.due_model.specs.bus_trace.specs.Phases.{changes_phase}
+use Rattle.due_model.specs.bus_trace.specs.Terms.{connection}
+use Rattle.due_model.specs.bus_trace.specs.Trace.{bus}
+use Rattle.due_model.specs.scenario.specs.Value.{ScenarioValue}
+use Rattle.due_model.specs.array_model.specs.Processes.{Process, process_of, same_id}
+use Rattle.due_model.specs.array_model.specs.Units.{RunningProcess, UnitState, guest_at}
+use Rattle.due_model.specs.dialogue_model.specs.declared.exchange.Task.{Task}
+use Rattle.due_model.specs.dialogue_model.specs.Arrivals.{policy_of}
+use Rattle.due_model.specs.dialogue_model.specs.DataRuns.{run_length}
+use Rattle.due_model.specs.dialogue_model.specs.Hearing.{begun}
+use Rattle.due_model.specs.dialogue_model.specs.NextPhase.{phase_of}
+use Rattle.due_model.specs.Defs.{target_def_of}
+use Rattle.due_model.specs.LastingState.{ProcessProgress, progress_in}
+use Rattle.due_model.specs.RunState.{RunState, array_of, bus_of, process_served}
+use Rattle.due_model.specs.RunSteps.{run_state}
+use Rattle.due_model.specs.Tasks.{is_writing, task_of}
 use Rattle.scsi_device.specs.Heard.{instructions}
 use Rattle.scsi_device.specs.Writes.{Writer, writer_of, writers, is_of_size}
 use Rattle.row_laws.specs.HeardPlaces.{ArePlaced}
 use Rattle.row_laws.specs.ItemFacts.{AllP}
 use Rattle.row_laws.specs.Places.{Runs}
-use Rattle.bus_due.specs.bus_dialogue.specs.declared.exchange.Phase.TheVariants as phases
+use Rattle.due_model.specs.dialogue_model.specs.declared.exchange.Phase.TheVariants as phases
 
 -- ---- of each unit
 

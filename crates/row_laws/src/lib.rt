@@ -6,4 +6,4 @@
 #![tactic(auto)]
 
 // Handed on to the crates above that list this one and not these.
-pub use book_laws as the_bus_books;
+pub use book_laws as the_book_laws;

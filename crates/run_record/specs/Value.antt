@@ -2,7 +2,7 @@
 use Rattle.std.specs.Prelude.{ℕ, List}
 use Rattle.bus_base.specs.declared.Event.{Event}
 use Rattle.bus_trace.specs.declared.Row.{Row}
-use Rattle.disk_array.specs.Contents.{Contents}
+use Rattle.array_model.specs.Contents.{Contents}
 use Rattle.disk_unit.specs.Sparse.{Store}
 use Rattle.run_record.specs.declared.outcome.Outcome.{Outcome}
 

@@ -26,7 +26,7 @@ use Rattle.scenario.specs.Parts.{PayloadSaid, no_bytes, these_bytes, bytes_from}
 use Rattle.scenario.specs.Forms.{Said, FillSaid, CmdSaid, initiator_line, target_line, unit_line, fill_line, cmd_line}
 use Rattle.scenario.specs.Forms.{abort_line, reset_line, fault_line}
 use Rattle.scenario.specs.Reading.{guard, within, in_8, time_in, period_in, size_in, policy_in, tag_in, what_in}
-use Rattle.scenario.specs.Reading.{is_block, says, host_def, target_def, unit_def, found, is_block_of, fill_def}
+use Rattle.scenario.specs.Reading.{is_block, answer_or, host_def, target_def, unit_def, found, is_block_of, fill_def}
 use Rattle.scenario.specs.Reading.{are_ends, payload_of, cmd_def, is_payload, has_room, full_cmd_def, has_abort_room}
 use Rattle.scenario.specs.Reading.{abort_def, reset_def, fault_def, fits_flag}
 use Rattle.scenario.specs.Writing.{said_flag, said_host, said_target, said_unit, said_fill, said_payload, said_cmd}
@@ -37,7 +37,7 @@ use Rattle.scenario.proofs.Steps.{bind_ok, ok_is, read_within, read_period, read
 
 -- In text 1 and 2, YN that fits is the one that is written.
 flag_again : (version : ℕ) (otherwise : Bool) (o : Option Bool) → (version == 1 || version == 2) ≡ true
-    → fits_flag version o ≡ true → said_flag version (says otherwise o) ≡ o
+    → fits_flag version o ≡ true → said_flag version (answer_or otherwise o) ≡ o
 flag_again version otherwise None v f = go (version == 2) f where
   go : (q : Bool) → not q ≡ true → cond q (Some otherwise) None ≡ None
   go true e = absurd cc

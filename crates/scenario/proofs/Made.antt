@@ -30,7 +30,7 @@ use Rattle.scenario.specs.Reading.{Progress, ◌>>=◌, guard, within, in_8, per
 use Rattle.scenario.specs.Reading.{host_def, target_def, unit_def, is_block, are_ends, payload_of, cmd_def, is_payload}
 use Rattle.scenario.specs.Reading.{has_room, full_cmd_def, rank, in_order, added, said_after, nothing}
 use Rattle.scenario.specs.Writing.{said_payload, cmd_form, said_host, said_target, said_unit, said_cmd, said_line}
-use Rattle.scenario.specs.Writing.{payload_text, cmd_tag_text, cmd_text, saids, text_of, built, tells, IsHex}
+use Rattle.scenario.specs.Writing.{payload_text, cmd_tag_text, cmd_text, saids, text_of, built, told_scenario, IsHex}
 use Rattle.scenario.specs.Writing.{IsHexPayload, Obeys, host_sync_text, initiator_text, target_seek_text}
 use Rattle.scenario.specs.Writing.{target_disc_text, target_text, unit_text}
 use Rattle.scenario.specs.Making.{made_hosts, made_targets, made_unit, made_units, spread, is_writing, transfer, sent}
@@ -375,7 +375,7 @@ commands_hex seed (suc n) =
 pub made_obeys : (seed n : ℕ) → n ≤ COMMAND_LIMIT → Obeys (made seed n)
 made_obeys seed n h = record {
   version = refl;
-  lawful = ap tells (all_after seed n ∙ rest_after seed n h);
+  lawful = ap told_scenario (all_after seed n ∙ rest_after seed n h);
   fills = tt;
   commands = commands_hex seed n;
   limit = text_len seed n h;

@@ -32,7 +32,7 @@ use Rattle.scenario.specs.Reading.{Progress, ◌>>=◌, guard, host_def, target_
 use Rattle.scenario.specs.Reading.{is_payload, has_room, full_cmd_def, abort_def, reset_def, fault_def, with_scenario}
 use Rattle.scenario.specs.Reading.{added, said_after, fits_version, line_after, formed, is_printable, is_skipped}
 use Rattle.scenario.specs.Reading.{in_order, rank, kind_of, nothing, scenario_of, read_from, and_then, is_end, Answers}
-use Rattle.scenario.specs.Writing.{saids, body_of, events_of, text_of, built, tells, Obeys, IsHex, IsHexPayload}
+use Rattle.scenario.specs.Writing.{saids, body_of, events_of, text_of, built, told_scenario, Obeys, IsHex, IsHexPayload}
 use Rattle.scenario.specs.Writing.{said_payload, said_host, said_target, said_unit, said_fill, said_cmd, said_abort}
 use Rattle.scenario.specs.Writing.{said_reset, said_fault, said_line, said_text}
 use Rattle.scenario.proofs.PartsAgain.{IsSpelledPayload}
@@ -783,7 +783,7 @@ read_obeys bytes s e =
     (all_right CanSay (map (said_host s.version) s.hosts) _ all)) in
     record {
       version = d.version;
-      lawful = ap tells d.lawful ∙ ap (λ (t : ScenarioValue). Ok t) d.is;
+      lawful = ap told_scenario d.lawful ∙ ap (λ (t : ScenarioValue). Ok t) d.is;
       fills = fills_hex s.fills (all_left CanSay (map said_fill s.fills) (events_of s) after_units);
       commands = cmds_hex s.commands (all_left CanSay (map said_cmd s.commands) _
           (all_right CanSay (map said_fill s.fills) (events_of s) after_units));

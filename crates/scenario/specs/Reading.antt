@@ -133,9 +133,9 @@ is_block [] = false
 is_block (b ∷ bytes) = is_len (group_len b) (length (b ∷ bytes))
 
 -- What YN says; where the text has none, this.
-abbrev pub says : Bool → Option Bool → Bool
-says otherwise None = otherwise
-says otherwise (Some answer) = answer
+abbrev pub answer_or : Bool → Option Bool → Bool
+answer_or otherwise None = otherwise
+answer_or otherwise (Some answer) = answer
 
 -- ---- What each line adds, its reasons in rising order.
 
@@ -158,7 +158,7 @@ host_def s f = do
     period = period;
     offset = offset;
     lag = lag;
-    offers = says true f.offers;
+    offers = answer_or true f.offers;
   })
 
 -- A target. In text 1 it does not begin.
@@ -181,7 +181,7 @@ target_def s f = do
     seek = seek;
     period = period;
     offset = offset;
-    begins = says false f.begins;
+    begins = answer_or false f.begins;
   })
 
 -- A unit of a target.

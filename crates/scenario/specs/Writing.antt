@@ -302,8 +302,8 @@ built d [] = Ok d
 built d (x ∷ xs) = said_after d x >>= λ e. built e xs
 
 -- What lines say tells this scenario, with `end` as its last line.
-abbrev pub tells : Result Progress ℕ → Result ScenarioValue ℕ
-tells read = read >>= λ d. Ok d.scenario
+abbrev pub told_scenario : Result Progress ℕ → Result ScenarioValue ℕ
+told_scenario read = read >>= λ d. Ok d.scenario
 
 -- HEX: bytes, one or more.
 abbrev pub IsHex : List ℕ → Type 0
@@ -319,7 +319,7 @@ IsHexPayload (payloads.From b) = b < 256
 -- they say it again; its bytes are bytes, and its text is within the limit.
 pub record Obeys (s : ScenarioValue) : Type 0 where
   pub version : (s.version == 1 || s.version == 2) ≡ true
-  pub lawful : tells (built nothing (saids s)) ≡ Ok s
+  pub lawful : told_scenario (built nothing (saids s)) ≡ Ok s
   pub fills : AllByRecursion (λ f. IsHex f.bytes) s.fills
   pub commands : AllByRecursion (λ c. IsHex c.cdb × IsHexPayload c.payload) s.commands
   pub limit : length (text_of s) ≤ LIMIT

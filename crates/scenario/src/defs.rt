@@ -18,8 +18,8 @@ use crate::form::{
 };
 use crate::index::is_filled;
 use crate::limits::{
-    byte, decoded, in_8, is_block, period_in, policy_in, require, says, size_in, small, tag_in,
-    time_in, what_in, within,
+    answer_or, byte, decoded, in_8, is_block, period_in, policy_in, require, size_in, small,
+    tag_in, time_in, what_in, within,
 };
 use crate::needs::{has_room, is_payload, need_of, sent_of};
 use crate::value::{
@@ -57,7 +57,7 @@ pub(crate) fn host_def(scenario: &Scenario, form: HostForm) -> Result<HostDef, R
         period,
         offset,
         lag,
-        offers: says(true, form.offers),
+        offers: answer_or(true, form.offers),
     })
 }
 
@@ -83,7 +83,7 @@ pub(crate) fn target_def(scenario: &Scenario, form: TargetForm) -> Result<Target
         seek,
         period,
         offset,
-        begins: says(false, form.begins),
+        begins: answer_or(false, form.begins),
     })
 }
 

@@ -2,7 +2,7 @@
 ghost use Rattle.std.specs.Prelude.{◌≡◌, ◌≤◌, ◌<◌, ◌-◌, ◌^◌, IfOk};
 ghost use Rattle.text_words.specs.Words.{bytes_of};
 ghost use Rattle.std.specs.List.{list_all};
-ghost use Rattle.scenario.specs.Reading.{Gives, Refuses, guard, within, in_8, time_in, period_in, is_size, size_in, policy_in, tag_in, what_in, is_block, says, is_printable, is_skipped};
+ghost use Rattle.scenario.specs.Reading.{Gives, Refuses, guard, within, in_8, time_in, period_in, is_size, size_in, policy_in, tag_in, what_in, is_block, answer_or, is_printable, is_skipped};
 
 use crate::bounds::{
     BURST_LIMIT, FACTOR_LIMIT, LEAST_FACTOR, LEAST_SIZE, SIZE_LIMIT, TAG_LIMIT, TIME_LIMIT,
@@ -164,9 +164,9 @@ pub(crate) fn is_block(bytes: &[u8]) -> bool
     }
 }
 
-/// What the line says, or `otherwise`.
-pub(crate) fn says(otherwise: bool, said: Option<bool>) -> bool
-    ensures { result ≡ says otherwise said }
+/// What the line answer_or, or `otherwise`.
+pub(crate) fn answer_or(otherwise: bool, said: Option<bool>) -> bool
+    ensures { result ≡ answer_or otherwise said }
 {
     match said {
         Some(yes) => yes,
@@ -194,7 +194,7 @@ pub(crate) fn are_printable(text: &[u8]) -> bool
     text.iter().all(|b| 0x20 <= *b && *b <= 0x7e)
 }
 
-/// Whether the line says nothing.
+/// Whether the line answer_or nothing.
 pub(crate) fn is_skipped(text: &[u8]) -> bool
     ensures { result ≡ is_skipped text.now }
 {

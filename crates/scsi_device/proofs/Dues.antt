@@ -6,13 +6,13 @@ use Rattle.bus_trace.specs.declared.connection.Connection.{Connection}
 use Rattle.bus_trace.specs.Changes.{rises}
 use Rattle.scenario.specs.declared.value.FaultDef.{FaultDef}
 use Rattle.scenario.specs.Value.{ScenarioValue}
-use Rattle.bus_reactions.specs.declared.due.Myself.{Myself}
-use Rattle.bus_reactions.specs.Ends as hand
-use Rattle.bus_due.specs.Connected.{is_receiver, initiator_end_due, target_end_due, connected_due}
-use Rattle.bus_due.specs.RunState.{RunState}
-use Rattle.bus_due.specs.Sights.{flip_of}
+use Rattle.reaction_model.specs.declared.due.Myself.{Myself}
+use Rattle.reaction_model.specs.Ends as hand
+use Rattle.due_model.specs.Connected.{is_receiver, initiator_end_due, target_end_due, connected_due}
+use Rattle.due_model.specs.RunState.{RunState}
+use Rattle.due_model.specs.Sights.{flip_of}
 use Rattle.scsi_device.specs.Told.{first_fault, flip_by}
-use Rattle.bus_due.specs.bus_rules.specs.Order.{is_of_device}
+use Rattle.due_model.specs.bus_rules.specs.Order.{is_of_device}
 
 pub flips_are : (faults : List FaultDef) (f : Option FaultDef) (time : ℕ) → f ≡ first_fault faults
     → flip_of faults time ≡ flip_by f time

@@ -17,14 +17,14 @@ use Rattle.scenario.specs.Lookups.{unit_of}
 use Rattle.scenario.specs.Needs.{need_of, sent_of}
 use Rattle.scenario.specs.Reading.{is_payload}
 use Rattle.scenario.specs.Writing.{Obeys, IsHex, IsHexPayload}
-use Rattle.bus_due.specs.disk_array.specs.Processes.{Process, process_by, process_if, command_at, sense_block}
-use Rattle.bus_due.specs.disk_array.specs.Processes.{payload_bytes, bytes_from}
-use Rattle.bus_due.specs.disk_array.specs.Units.{starting_unit, starting_units, unit_state_at}
-use Rattle.bus_due.specs.disk_array.specs.SoundArray.{AreApart, HasSeats}
-use Rattle.bus_due.specs.disk_array.specs.Seats.{is_initiator}
-use Rattle.bus_due.specs.bus_story.specs.HistoryEvents.{abort_line_at}
-use Rattle.bus_due.specs.bus_story.specs.TraceHistory.{retries_of}
-use Rattle.bus_due.specs.Defs.{host_of, target_def_of}
+use Rattle.due_model.specs.array_model.specs.Processes.{Process, process_by, process_if, command_at, sense_block}
+use Rattle.due_model.specs.array_model.specs.Processes.{payload_bytes, bytes_from}
+use Rattle.due_model.specs.array_model.specs.Units.{starting_unit, starting_units, unit_state_at}
+use Rattle.due_model.specs.array_model.specs.SoundArray.{AreApart, HasSeats}
+use Rattle.due_model.specs.array_model.specs.Seats.{is_initiator}
+use Rattle.due_model.specs.story_model.specs.HistoryEvents.{abort_line_at}
+use Rattle.due_model.specs.story_model.specs.TraceHistory.{retries_of}
+use Rattle.due_model.specs.Defs.{host_of, target_def_of}
 use Rattle.scsi_device.specs.NoUnits.{has_unit}
 use Rattle.scsi_device.specs.Lines.{IsHostLine, IsTargetLine, IsUnitLine, IsCommandLine, IsAbortLine, FitsBus, AreUnits}
 use Rattle.scsi_device.proofs.Finds.{some_is, none_some, all_are, all_both, find_none, found_any, found_passes}

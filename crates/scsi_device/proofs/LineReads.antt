@@ -3,7 +3,7 @@ use Rattle.std.proofs.Common.{ℕ, ◌≡◌, ◌≤◌, ◌<◌, ◌-◌, ◌^�
 use Rattle.std.proofs.Common.{Some, None, Result, Ok, Err, subst, arith}
 use Rattle.std.specs.Prelude.{is_some, nat_lt, if◌then◌else◌}
 use Rattle.std.proofs.lemmas.Bool.Decides.{nat_tests}
-use Rattle.bus_due.specs.cdb_codec.specs.Cdb.{is_len}
+use Rattle.due_model.specs.cdb_codec.specs.Cdb.{is_len}
 use Rattle.text_words.specs.Words.{Number}
 use Rattle.scenario.specs.declared.bounds.TheConstants.{LATENCY_LIMIT, OPEN_LIMIT, RETRY_LIMIT, HOST_OFFSET_LIMIT}
 use Rattle.scenario.specs.declared.bounds.TheConstants.{TARGET_OFFSET_LIMIT, LAG_LIMIT, SEEK_LIMIT, BLOCK_LIMIT}

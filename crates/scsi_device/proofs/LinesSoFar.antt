@@ -23,7 +23,7 @@ use Rattle.scsi_device.proofs.LineReads.{IsHostWithin, IsTargetWithin, IsUnitWit
 use Rattle.scsi_device.proofs.LineReads.{IsUnitRead, IsFullCommandRead, IsAbortRead}
 use Rattle.std.proofs.lemmas.Bool.{not-true, eqb-true, and_parts, or_parts}
 use Rattle.bus_base.proofs.Tests.{eq_self}
-use Rattle.bus_due.specs.disk_array.specs.Seats.{is_initiator}
+use Rattle.due_model.specs.array_model.specs.Seats.{is_initiator}
 
 -- ---- lines beside others
 

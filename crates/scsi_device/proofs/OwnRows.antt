@@ -6,7 +6,7 @@ use Rattle.bus_trace.specs.declared.Row.{Row}
 use Rattle.bus_trace.specs.declared.changes.Change.{Change}
 use Rattle.bus_trace.specs.Changes.{change_of}
 use Rattle.scenario.specs.Value.{ScenarioValue}
-use Rattle.bus_due.specs.Own.{own_next, own_of}
+use Rattle.due_model.specs.Own.{own_next, own_of}
 use Rattle.scsi_device.specs.Itself.{ItselfValue, IsItselfOf, itself_with}
 
 pub others_rows : (s : ScenarioValue) (rows : List Row) (row : Row) (v : ItselfValue) → row.dev ≢ v.dev

@@ -2,11 +2,11 @@
 use Rattle.bus_trace.specs.LineSet.{LineSet}
 use Rattle.std.specs.Prelude.{if◌then◌else◌, not, ◌&&◌}
 use Rattle.std.proofs.Common.{false, refl, ◌≡◌, Bool, true, sym, true≢false}
-use Rattle.bus_due.specs.bus_dialogue.specs.NextPhase.{phase_of}
+use Rattle.due_model.specs.dialogue_model.specs.NextPhase.{phase_of}
 use Rattle.scsi_device.specs.Heard.{is_command_phase}
 use Rattle.bus_trace.specs.Phases.{is_command, is_message_in, is_message_out}
-use Rattle.bus_due.specs.bus_dialogue.specs.declared.exchange.Phase.TheVariants as phases
-use Rattle.bus_due.specs.bus_dialogue.specs.declared.exchange.Phase.{Phase}
+use Rattle.due_model.specs.dialogue_model.specs.declared.exchange.Phase.TheVariants as phases
+use Rattle.due_model.specs.dialogue_model.specs.declared.exchange.Phase.{Phase}
 
 pub command_is : (bus : LineSet) → is_command bus ≡ is_command_phase (phase_of bus)
 command_is bus = go bus.msg bus.cd bus.io

@@ -2,11 +2,11 @@
 use Rattle.std.proofs.Common.{◌≡◌, ◌≤◌, Bool, true, false, length, Option, Some, None, refl, subst, arith}
 use Rattle.std.specs.Prelude.{if◌then◌else◌}
 use Rattle.bus_base.specs.declared.ProcId.{ProcId}
-use Rattle.bus_due.specs.cdb_codec.specs.Cdb.{command_of}
+use Rattle.due_model.specs.cdb_codec.specs.Cdb.{command_of}
 use Rattle.scenario.specs.Needs.{need_of, sent_of, is_write}
 use Rattle.scenario.specs.Value.{ScenarioValue}
 use Rattle.scenario.specs.declared.value.CmdDef.{CmdDef}
-use Rattle.bus_due.specs.disk_array.specs.Processes.{Process, process_of, process_if, process_by, command_at}
+use Rattle.due_model.specs.array_model.specs.Processes.{Process, process_of, process_if, process_by, command_at}
 use Rattle.scsi_device.specs.Lines.{FitsBus, IsCommandLine}
 use Rattle.scsi_device.proofs.FitLines.{command_fits}
 

@@ -9,12 +9,12 @@ use Rattle.scenario.specs.declared.value.CmdDef.{CmdDef}
 use Rattle.scenario.specs.declared.value.AbortDef.{AbortDef}
 use Rattle.scenario.specs.declared.value.ResetDef.{ResetDef}
 use Rattle.scenario.specs.Value.{ScenarioValue}
-use Rattle.bus_due.specs.bus_story.specs.Items.{Sent, sense_from, open_limit_of}
-use Rattle.bus_reactions.specs.Reactions.{sooner_time, time_if}
-use Rattle.bus_due.specs.bus_dialogue.specs.Wants.{OwnCommand, OwnAbort, may_follow, open_in, abort_since}
-use Rattle.bus_due.specs.bus_dialogue.specs.Wants.{command_since}
-use Rattle.bus_due.specs.Due.{is_reset_past, reset_from}
-use Rattle.bus_due.specs.Wants.{own_command, own_commands, own_abort, own_aborts, item_want_time}
+use Rattle.due_model.specs.story_model.specs.Items.{Sent, sense_from, open_limit_of}
+use Rattle.reaction_model.specs.Reactions.{sooner_time, time_if}
+use Rattle.due_model.specs.dialogue_model.specs.Wants.{OwnCommand, OwnAbort, may_follow, open_in, abort_since}
+use Rattle.due_model.specs.dialogue_model.specs.Wants.{command_since}
+use Rattle.due_model.specs.Due.{is_reset_past, reset_from}
+use Rattle.due_model.specs.Wants.{own_command, own_commands, own_abort, own_aborts, item_want_time}
 use Rattle.scsi_device.specs.Lines.{IsCommandLine, IsAbortLine, FitsBus}
 use Rattle.scsi_device.proofs.Finds.{all_are}
 

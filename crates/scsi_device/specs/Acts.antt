@@ -1,6 +1,6 @@
 -- What a device does at a moment.
 use Rattle.std.specs.Prelude.{ℕ, Option, Some, None, nat_le, if◌then◌else◌}
-use Rattle.bus_reactions.specs.declared.due.Due.{Due}
+use Rattle.reaction_model.specs.declared.due.Due.{Due}
 use Rattle.scsi_device.specs.declared.acts.Act.{Act}
 
 -- Its next row, where it is due by then, else the moment at which it is.

@@ -5,33 +5,33 @@ use Rattle.std.specs.Prelude.{is_some, is_none, if◌then◌else◌}
 use Rattle.bus_trace.specs.declared.Row.{Row}
 use Rattle.bus_trace.specs.declared.connection.Connection.{Connection}
 use Rattle.bus_trace.specs.Phases.{is_message_out, is_command, changes_phase}
-use Rattle.bus_due.specs.cdb_codec.specs.Cdb.{has_group_len}
+use Rattle.due_model.specs.cdb_codec.specs.Cdb.{has_group_len}
 use Rattle.scenario.specs.Value.{ScenarioValue}
-use Rattle.bus_due.specs.disk_array.specs.Processes.{Process}
-use Rattle.bus_due.specs.disk_array.specs.Units.{RunningProcess, Array, guest_at}
-use Rattle.bus_due.specs.disk_array.specs.Steps.{running_process, is_waiting}
-use Rattle.bus_due.specs.disk_array.specs.ArrayHistory.{reply_in}
-use Rattle.bus_due.specs.bus_story.specs.BusState.{RowReading, row_reading}
-use Rattle.bus_due.specs.bus_story.specs.Items.{Item, process, abort}
-use Rattle.bus_due.specs.bus_story.specs.HistoryEvents.{abort_line_at}
-use Rattle.bus_due.specs.bus_story.specs.Right.{same_bytes}
-use Rattle.bus_due.specs.bus_dialogue.specs.declared.exchange.Cause.{Cause}
-use Rattle.bus_due.specs.bus_dialogue.specs.declared.exchange.Cause.TheVariants as causes
-use Rattle.bus_due.specs.bus_dialogue.specs.declared.exchange.Hearing.{Hearing}
-use Rattle.bus_due.specs.bus_dialogue.specs.declared.exchange.Next.{Next}
-use Rattle.bus_due.specs.bus_dialogue.specs.declared.exchange.Next.TheVariants as nexts
-use Rattle.bus_due.specs.bus_dialogue.specs.declared.exchange.Phase.{Phase}
-use Rattle.bus_due.specs.bus_dialogue.specs.declared.exchange.Phase.TheVariants as phases
-use Rattle.bus_due.specs.bus_dialogue.specs.declared.exchange.Plan.{Plan}
-use Rattle.bus_due.specs.bus_dialogue.specs.declared.exchange.Said.{Said}
-use Rattle.bus_due.specs.bus_dialogue.specs.NextPhase.{phase_of}
-use Rattle.bus_due.specs.bus_dialogue.specs.Ends.{follows_by}
-use Rattle.bus_due.specs.LastingState.{ProcessProgress, progress_in}
-use Rattle.bus_due.specs.RunState.{RunState, array_of, bus_of, drives_of, item_of, process_item, process_served}
-use Rattle.bus_due.specs.RunState.{carried_here}
-use Rattle.bus_due.specs.RunSteps.{run_state}
-use Rattle.bus_due.specs.Sights.{hearing_of, leaving, pace_of, serving_of}
-use Rattle.bus_due.specs.Faithful.{is_process_named, is_true_leaving, same_process}
+use Rattle.due_model.specs.array_model.specs.Processes.{Process}
+use Rattle.due_model.specs.array_model.specs.Units.{RunningProcess, Array, guest_at}
+use Rattle.due_model.specs.array_model.specs.Steps.{running_process, is_waiting}
+use Rattle.due_model.specs.array_model.specs.ArrayHistory.{reply_in}
+use Rattle.due_model.specs.story_model.specs.BusState.{RowReading, row_reading}
+use Rattle.due_model.specs.story_model.specs.Items.{Item, process, abort}
+use Rattle.due_model.specs.story_model.specs.HistoryEvents.{abort_line_at}
+use Rattle.due_model.specs.story_model.specs.Right.{same_bytes}
+use Rattle.due_model.specs.dialogue_model.specs.declared.exchange.Cause.{Cause}
+use Rattle.due_model.specs.dialogue_model.specs.declared.exchange.Cause.TheVariants as causes
+use Rattle.due_model.specs.dialogue_model.specs.declared.exchange.Hearing.{Hearing}
+use Rattle.due_model.specs.dialogue_model.specs.declared.exchange.Next.{Next}
+use Rattle.due_model.specs.dialogue_model.specs.declared.exchange.Next.TheVariants as nexts
+use Rattle.due_model.specs.dialogue_model.specs.declared.exchange.Phase.{Phase}
+use Rattle.due_model.specs.dialogue_model.specs.declared.exchange.Phase.TheVariants as phases
+use Rattle.due_model.specs.dialogue_model.specs.declared.exchange.Plan.{Plan}
+use Rattle.due_model.specs.dialogue_model.specs.declared.exchange.Said.{Said}
+use Rattle.due_model.specs.dialogue_model.specs.NextPhase.{phase_of}
+use Rattle.due_model.specs.dialogue_model.specs.Ends.{follows_by}
+use Rattle.due_model.specs.LastingState.{ProcessProgress, progress_in}
+use Rattle.due_model.specs.RunState.{RunState, array_of, bus_of, drives_of, item_of, process_item, process_served}
+use Rattle.due_model.specs.RunState.{carried_here}
+use Rattle.due_model.specs.RunSteps.{run_state}
+use Rattle.due_model.specs.Sights.{hearing_of, leaving, pace_of, serving_of}
+use Rattle.due_model.specs.Faithful.{is_process_named, is_true_leaving, same_process}
 
 -- ---- what the target has been told in the connection that stands: the opening, once that is left (6.6); the bytes of
 -- the last COMMAND phase (6.1.6); and whether it knows the command, since COMMAND was left with no byte struck, or

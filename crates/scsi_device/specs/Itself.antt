@@ -3,8 +3,8 @@ use Rattle.std.specs.Prelude.{ℕ, ◌≡◌, List, Option}
 use Rattle.bus_trace.specs.declared.Row.{Row}
 use Rattle.scenario.specs.declared.value.ResetDef.{ResetDef}
 use Rattle.scenario.specs.Value.{ScenarioValue}
-use Rattle.bus_due.specs.Own.{Own, idle_device, own_of}
-use Rattle.bus_due.specs.Due.{reset_from}
+use Rattle.due_model.specs.Own.{Own, idle_device, own_of}
+use Rattle.due_model.specs.Due.{reset_from}
 
 -- When it made rows, all reset lines of the scenario, and when it drives RST next.
 pub record ItselfValue : Type 0 where

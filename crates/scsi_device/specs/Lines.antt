@@ -14,13 +14,13 @@ use Rattle.scenario.specs.Lookups.{unit_of}
 use Rattle.scenario.specs.Needs.{need_of, sent_of}
 use Rattle.scenario.specs.Reasons.{is_block_in}
 use Rattle.scenario.specs.Value.{ScenarioValue}
-use Rattle.bus_due.specs.disk_array.specs.Processes.{command_at, payload_bytes}
-use Rattle.bus_due.specs.disk_array.specs.SoundArray.{AreApart}
-use Rattle.bus_due.specs.disk_array.specs.Units.{starting_unit, starting_units, unit_state_at}
-use Rattle.bus_due.specs.disk_array.specs.Seats.{is_initiator}
-use Rattle.bus_due.specs.bus_story.specs.HistoryEvents.{abort_line_at}
-use Rattle.bus_due.specs.bus_story.specs.TraceHistory.{retries_of}
-use Rattle.bus_due.specs.Defs.{host_of, target_def_of}
+use Rattle.due_model.specs.array_model.specs.Processes.{command_at, payload_bytes}
+use Rattle.due_model.specs.array_model.specs.SoundArray.{AreApart}
+use Rattle.due_model.specs.array_model.specs.Units.{starting_unit, starting_units, unit_state_at}
+use Rattle.due_model.specs.array_model.specs.Seats.{is_initiator}
+use Rattle.due_model.specs.story_model.specs.HistoryEvents.{abort_line_at}
+use Rattle.due_model.specs.story_model.specs.TraceHistory.{retries_of}
+use Rattle.due_model.specs.Defs.{host_of, target_def_of}
 use Rattle.scsi_device.specs.NoUnits.{HasNoUnit}
 
 pub record IsHostLine (s : ScenarioValue) (h : HostDef) : Type 0 where

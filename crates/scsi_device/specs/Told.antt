@@ -8,16 +8,16 @@ use Rattle.bus_trace.specs.declared.agreements.Agreement.{Agreement}
 use Rattle.bus_trace.specs.declared.connection.Connection.{Connection}
 use Rattle.bus_lines.specs.Handshakes.{Handshakes, handshakes}
 use Rattle.bus_lines.specs.declared.stage.Stage.TheVariants.{OnFreeBus}
-use Rattle.bus_due.specs.bus_phases.specs.declared.words.End.{End}
-use Rattle.bus_due.specs.bus_phases.specs.Dialogue.{dialogue}
+use Rattle.due_model.specs.bus_phases.specs.declared.words.End.{End}
+use Rattle.due_model.specs.bus_phases.specs.Dialogue.{dialogue}
 use Rattle.scenario.specs.declared.value.FaultDef.{FaultDef}
 use Rattle.scenario.specs.declared.value.HostDef.{HostDef}
-use Rattle.bus_reactions.specs.declared.ends.Pace.{Pace}
-use Rattle.bus_reactions.specs.declared.sight.Sight.{Sight}
-use Rattle.bus_reactions.specs.Sight.{sight}
-use Rattle.bus_due.specs.bus_dialogue.specs.Ends.{pace_by}
-use Rattle.bus_due.specs.bus_dialogue.specs.Hearing.{begun}
-use Rattle.bus_due.specs.Sights.{flip_of}
+use Rattle.reaction_model.specs.declared.ends.Pace.{Pace}
+use Rattle.reaction_model.specs.declared.sight.Sight.{Sight}
+use Rattle.reaction_model.specs.Sight.{sight}
+use Rattle.due_model.specs.dialogue_model.specs.Ends.{pace_by}
+use Rattle.due_model.specs.dialogue_model.specs.Hearing.{begun}
+use Rattle.due_model.specs.Sights.{flip_of}
 
 pub record Told : Type 0 where
   pub sight : Sight

@@ -3,8 +3,8 @@ ghost use Rattle.std.specs.Prelude.{◌≡◌};
 ghost use Rattle.scsi_device.specs.Acts.{act_of};
 
 use bus_base::Ns;
-use bus_reactions::Due;
 use bus_trace::Kind;
+use reaction_model::Due;
 
 /// What a device does at a moment: a row that is due by then, or nothing before the moment at which its next one is.
 #[derive(Clone, Copy, Debug)]

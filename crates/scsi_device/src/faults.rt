@@ -3,16 +3,16 @@ ghost use Rattle.std.specs.Prelude.{◌≡◌, List};
 ghost use Rattle.bus_trace.specs.declared.Row.{Row};
 ghost use Rattle.bus_trace.specs.Terms.{receiver};
 ghost use Rattle.bus_trace.specs.Trace.{last_time};
-ghost use Rattle.bus_reactions.specs.Ends.{sample_due};
-ghost use Rattle.bus_due.specs.bus_dialogue.specs.Observer.{IsObserverOf};
+ghost use Rattle.reaction_model.specs.Ends.{sample_due};
+ghost use Rattle.due_model.specs.dialogue_model.specs.Observer.{IsObserverOf};
 ghost use Rattle.scsi_device.specs.Told.{flip_by};
-ghost use Rattle.bus_due.specs.bus_rules.specs.Order.{is_of_device};
+ghost use Rattle.due_model.specs.bus_rules.specs.Order.{is_of_device};
 
 use bus_base::{Dev, Ns};
-use bus_due::the_bus_dialogue::Observer;
-use bus_due::the_bus_rules::is_of_device;
-use bus_reactions::Due;
 use bus_trace::{Kind, ScsiId};
+use due_model::the_bus_rules::is_of_device;
+use due_model::the_dialogue_model::Observer;
+use reaction_model::Due;
 use scenario::FaultDef;
 
 /// The bit that the first fault which has not struck yet strikes in a sample of this time, in ns.

@@ -4,7 +4,7 @@ ghost use Rattle.bus_trace.specs.declared.rows.Row.{Row};
 ghost use Rattle.bus_lines.specs.BusView.{IsBusViewOf};
 ghost use Rattle.bus_lines.specs.Timely.{IsTimely};
 ghost use Rattle.scenario.specs.Value.{ScenarioValue};
-ghost use Rattle.bus_due.specs.Own.{own_next};
+ghost use Rattle.due_model.specs.Own.{own_next};
 ghost use Rattle.scsi_device.specs.Itself.{IsItselfOf, itself, itself_with};
 
 use crate::own_times::OwnTimes;

@@ -1,11 +1,11 @@
 //! What every device of the bus knows, initiator or target (ANSI X3.131-1994, 6).
 //!
-//! A device is told of every row ([`Observer`](bus_dialogue::Observer)); `specs/Told.antt` says what it is told then.
+//! A device is told of every row ([`Observer`](dialogue_model::Observer)); `specs/Told.antt` says what it is told then.
 //! Beside that it knows its own rows and resets ([`Itself`]), and the first fault that has not struck yet ([`flip`],
 //! [`sampled`]); in a connection it knows how bytes cross ([`pace`]). `initiator` and `disk_target` stand on it.
 //!
 //! Public contract: after any rows, lawful or not, an `Itself` that was told of each of them knows of its own rows
-//! what `bus_due` says (`IsItselfOf`), and each function is exactly the definition of the same name. No call but
+//! what `due_model` says (`IsItselfOf`), and each function is exactly the definition of the same name. No call but
 //! `Itself::new` takes memory.
 #![tactic(auto)]
 

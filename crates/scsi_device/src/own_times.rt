@@ -1,6 +1,6 @@
 //! When a device made its own rows of lines.
 ghost use Rattle.std.specs.Prelude.{◌≡◌, ◌<◌, ◌^◌};
-ghost use Rattle.bus_due.specs.Own.{idle_device, own_after, own_next};
+ghost use Rattle.due_model.specs.Own.{idle_device, own_after, own_next};
 
 use bus_base::Ns;
 use bus_trace::{Change, Kind, falls, rises};
@@ -17,7 +17,7 @@ pub struct OwnTimes {
 
 impl Model for OwnTimes {
     ghost use Rattle.std.specs.Prelude.{◌<◌, ◌^◌};
-    ghost use Rattle.bus_due.specs.Own.{Own};
+    ghost use Rattle.due_model.specs.Own.{Own};
 
     ghost Value = { Own };
 

@@ -1,7 +1,7 @@
 // The resets of a device (6.2.2).
 ghost use Rattle.std.specs.Prelude.{◌≡◌};
-ghost use Rattle.bus_reactions.specs.Reactions.{sooner_time};
-ghost use Rattle.bus_due.specs.Due.{is_reset_past, reset_from};
+ghost use Rattle.reaction_model.specs.Reactions.{sooner_time};
+ghost use Rattle.due_model.specs.Due.{is_reset_past, reset_from};
 
 use bus_base::{Dev, Ns};
 use scenario::ResetDef;

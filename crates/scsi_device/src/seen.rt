@@ -4,11 +4,11 @@ ghost use Rattle.bus_trace.specs.declared.Row.{Row};
 ghost use Rattle.bus_trace.specs.View.{AreTimesBefore};
 ghost use Rattle.bus_lines.specs.BusView.{IsBusViewOf};
 ghost use Rattle.bus_lines.specs.Timely.{IsTimely};
-ghost use Rattle.bus_reactions.specs.Sight.{sight};
+ghost use Rattle.reaction_model.specs.Sight.{sight};
 ghost use Rattle.scsi_device.specs.Told.{at_no_stage};
 
 use bus_lines::{BusView, Stage};
-use bus_reactions::Sight;
+use reaction_model::Sight;
 
 /// What a device in a connection sees of the lines. It goes by these alone, so that the stage is not asked (6.1.5).
 pub fn lines_seen(view: &BusView) -> Sight

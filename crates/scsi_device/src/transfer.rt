@@ -2,17 +2,17 @@
 ghost use Rattle.std.specs.Prelude.{ℕ, ◌≡◌, List, Option};
 ghost use Rattle.bus_trace.specs.declared.Row.{Row};
 ghost use Rattle.bus_trace.specs.Agreements.{times_of};
-ghost use Rattle.bus_due.specs.bus_dialogue.specs.Ends.{lag_by};
-ghost use Rattle.bus_due.specs.bus_dialogue.specs.Observer.{IsObserverOf};
-ghost use Rattle.bus_due.specs.bus_dialogue.specs.Words.{agreement_answer};
+ghost use Rattle.due_model.specs.dialogue_model.specs.Ends.{lag_by};
+ghost use Rattle.due_model.specs.dialogue_model.specs.Observer.{IsObserverOf};
+ghost use Rattle.due_model.specs.dialogue_model.specs.Words.{agreement_answer};
 ghost use Rattle.handshake.specs.Bounds.{IsSteady};
 ghost use Rattle.scenario.specs.declared.value.HostDef.{HostDef};
 ghost use Rattle.scsi_device.specs.Told.{told, pace_of};
 
 use bus_base::Ns;
-use bus_due::the_bus_dialogue::Observer;
-use bus_reactions::Pace;
 use bus_trace::{Agreement, is_data, times_of};
+use due_model::the_dialogue_model::Observer;
+use reaction_model::Pace;
 
 /// Whether bytes cross by pulses in the phase: in a data phase under an agreement with an offset (6.1.5.2).
 pub fn is_pulsed(observer: &Observer) -> bool

@@ -10,16 +10,16 @@ use Rattle.std.specs as std
 pub use std.{List.{list_any}, Prelude.{drop, if◌then◌else◌, is_none, is_some, nat_le, nat_lt, slice_index}}
 pub use std.Prelude.{slice_index_or, slice_set, ⊤, ◌-◌}
 unfoldable pub use std.Int.RustNames.{count_ones}
-use Rattle.bus_due.specs.bus_base.proofs as bus_base_proofs
+use Rattle.due_model.specs.bus_base.proofs as bus_base_proofs
 pub use bus_base_proofs.Tests.{and_false, and_first, and_second, and_true, eq_self, implication, implied, nil_of}
 pub use bus_base_proofs.Tests.{none_between, not_first, or_false, or_none_second, or_other, or_true, plus_none}
 pub use bus_base_proofs.Tests.{rises_none, suc_some, wrong, wrong', zero_of}
-use Rattle.bus_due.specs.bus_base.specs as bus_base
+use Rattle.due_model.specs.bus_base.specs as bus_base
 pub use bus_base.{Faults.{counted_on}, declared.{AbortKind.{AbortKind}, Event.{Event}, ProcId.{ProcId}}}
-use Rattle.bus_due.specs.bus_trace.proofs as bus_trace_proofs
+use Rattle.due_model.specs.bus_trace.proofs as bus_trace_proofs
 pub use bus_trace_proofs.{Buses.{bus_off, bus_on, bus_two}, OneRow.{bus-fault, drives-other, drives-own}}
 pub use bus_trace_proofs.Sets.{same_set-eq}
-use Rattle.bus_due.specs.bus_trace.specs as bus_trace
+use Rattle.due_model.specs.bus_trace.specs as bus_trace
 pub use bus_trace.{Changes.{change_of, falls, implies, is_within, rises}, LineSet.{LineSet, byte_set, none, same}}
 pub use bus_trace.{LineSet.{union}, Phases.{changes_phase, is_command, is_data, is_message_in, is_message_out}}
 pub use bus_trace.Terms.{arbitration, arbitration_after, call, call_goes_on, connected, connected_by, connected_of}
@@ -29,20 +29,20 @@ pub use bus_trace.declared.{Kind.TheVariants.{Drives, Fault}, Row.{Row}, agreeme
 pub use bus_trace.declared.{arbitration.Arbitration.{Arbitration}, changes.Change.{Change}}
 pub use bus_trace.declared.{connection.Connection.{Connection}, delays.TheConstants.{ARBITRATION_DELAY}}
 pub use bus_trace.declared.selection.{Call.{Call}, Calling.{Calling}}
-use Rattle.bus_due.specs.bus_lines.proofs as bus_lines_proofs
+use Rattle.due_model.specs.bus_lines.proofs as bus_lines_proofs
 pub use bus_lines_proofs.Early.{struck_same}
-use Rattle.bus_due.specs.bus_lines.specs as bus_lines
+use Rattle.due_model.specs.bus_lines.specs as bus_lines
 pub use bus_lines.Handshakes.{Handshakes, answered_if, asked_if, first_of, handshakes, handshakes_after, handshakes_on}
-pub use bus_lines.{Handshakes.{is_struck, no_handshakes, strikes_if}, declared.handshakes.Request.{Request}}
-use Rattle.bus_due.specs.cdb_codec.specs as cdb_codec
+pub use bus_lines.{Handshakes.{is_struck, newest_struck_if, no_handshakes}, declared.handshakes.Request.{Request}}
+use Rattle.due_model.specs.cdb_codec.specs as cdb_codec
 pub use cdb_codec.Cdb.{command_of, group_len, has_group_len, is_len}
 pub use cdb_codec.declared.sense.TheConstants.{INITIATOR_DETECTED_ERROR, PARITY_ERROR}
 pub use cdb_codec.declared.status.TheConstants.{CHECK_CONDITION}
-use Rattle.bus_due.specs.msg_grammar.specs as msg_grammar
+use Rattle.due_model.specs.msg_grammar.specs as msg_grammar
 pub use msg_grammar.{Grammar.{is_abort}, Messages.{FitsIn, FitsOut, got_in, got_out, in_bytes, out_bytes}}
 pub use msg_grammar.declared.message.{Got.{Got, TheVariants.{More, Unknown, Whole}}, MsgIn.{MsgIn}, MsgOut.{MsgOut}}
 unfoldable pub use msg_grammar.Messages.{form_in, form_out}
-use Rattle.bus_due.specs.bus_phases.specs as bus_phases
+use Rattle.due_model.specs.bus_phases.specs as bus_phases
 pub use bus_phases.Dialogue.{byte_crosses, byte_else, byte_in, byte_out, command_on, dialogue, dialogue_after}
 pub use bus_phases.Dialogue.{fresh_bytes, fresh_heard, heard_if_begun, heard_in, heard_out, heard_with_command}
 pub use bus_phases.Dialogue.{heard_with_in, heard_with_out, is_of_other, no_command, opened, phase_begins}
@@ -50,91 +50,91 @@ pub use bus_phases.Dialogue.{spoken_with_reject, spoken_with_word, void_or_now, 
 pub use bus_phases.{Half.{is_nil, left_of}, Reading.{reading_out}, declared.dialogue.Dialogue.{Dialogue}}
 pub use bus_phases.declared.{spoken.{CommandBytes.{CommandBytes}, Heard.{Heard}, Spoken.{Spoken}}, words.End.{End}}
 pub use bus_phases.declared.words.Word.{Word}
-use Rattle.bus_due.specs.bus_rules.proofs as bus_rules_proofs
+use Rattle.due_model.specs.bus_rules.proofs as bus_rules_proofs
 pub use bus_rules_proofs.First.{all_kept}
-use Rattle.bus_due.specs.bus_rules.specs as bus_rules
+use Rattle.due_model.specs.bus_rules.specs as bus_rules
 pub use bus_rules.{Messages.{is_none_or_all, is_unknown, may_take, settles_offers}, Reset.{only_rst}}
 pub use bus_rules.{Rules.{broken_rule, judged_rules}, Seen.{seen}, declared.seen.Seen.{Seen}}
 unfoldable pub use bus_rules.Seen.{seen_with}
-use Rattle.bus_due.specs.scenario.specs as scenario
+use Rattle.due_model.specs.scenario.specs as scenario
 pub use scenario.{Needs.{is_write, sent_of}, Value.{ScenarioValue}, Writing.{Obeys}, declared.value.AbortDef.{AbortDef}}
 pub use scenario.declared.value.{CmdDef.{CmdDef}, HostDef.{HostDef}, Policy.{Policy}, Tag.{Tag}, TargetDef.{TargetDef}}
 pub use scenario.declared.value.UnitDef.{UnitDef}
-use Rattle.bus_due.specs.disk_array.proofs as disk_array_proofs
-pub use disk_array_proofs.{SeatLookups.{none_at, number_same}, SeatReplies.{id_turned}}
-use Rattle.bus_due.specs.disk_array.specs as disk_array
-pub use disk_array.{ArrayHistory.{array_after, array_step, reply_in}, Execution.{Reply, is_request_sense}}
-pub use disk_array.{Order.{range_in, same_number, tag_number}, Processes.{Process, command_at, payload_bytes}}
-pub use disk_array.{Processes.{process_by, process_if, process_of, same_bool, same_id, sense_block}, Seats.{current_of}}
-pub use disk_array.{Seats.{is_initiator}, Steps.{accept_step, accept_step_at, process_count, queue_step}}
-pub use disk_array.{Steps.{settled_array_if, with_guest}, Units.{Array, RunningProcess, UnitState, is_held}}
-pub use disk_array.Units.{starting_units, unit_state_at, with_unit}
-use Rattle.bus_due.specs.bus_story.proofs as bus_story_proofs
-pub use bus_story_proofs.{CarriedLists.{carried_id, carried_with}, SameBytes.{bytes_are}, StorySteps.{byte_link}}
-pub use bus_story_proofs.StorySteps.{carried_link, check_keeps, ends_checks, ends_keep, event_sent, events_link}
-pub use bus_story_proofs.StorySteps.{events_sent, fault_link, first_link, message_id, out_link, restored_sent}
-pub use bus_story_proofs.StorySteps.{sent_carried}
-use Rattle.bus_due.specs.bus_story.specs as bus_story
-pub use bus_story.BusState.{RowReading, message_in, message_out, row_reading, whole_in, whole_out}
-pub use bus_story.CarriedBytes.{Area, CarriedBytes, area_with, carried_after_byte, carried_after_fault}
-pub use bus_story.CarriedBytes.{carried_after_message, carried_at, carried_of, carried_or_nothing, is_status_phase}
-pub use bus_story.{CarriedBytes.{is_whole_block, with_carried, with_restored_pointers}, HistoryEvents.{abort_line_at}}
-pub use bus_story.HistoryEvents.{abort_line_events, bus_free_events, carried_if, connection_events, end_events}
-pub use bus_story.HistoryEvents.{is_complete, is_completion, is_refuse, item_abort_events, item_loss_events}
-pub use bus_story.HistoryEvents.{link_events, phase_events, queue_event, queue_events, row_events_by, status_event}
-pub use bus_story.{HistoryEvents.{status_events}, Items.{Item, Sent, abort, abort_from, command_from, command_item}}
-pub use bus_story.Items.{has_item, is_clash, is_done, is_of_host, is_open, is_tag_clash, item_at, may_send, open_from}
-pub use bus_story.{Items.{open_limit_of, or_else, process, same_item, sense_from, sense_item}, Links.{LastMessage}}
-pub use bus_story.Links.{Link, abortive, complete, disconnect, is_of_nexus, is_open_sense, last_in, last_out}
-pub use bus_story.{Links.{link_after_name, link_of, named_item, named_item_from, plain}, PairAgreements.{agreement_in}}
-pub use bus_story.Story.{Ending, Story, by_abort, by_reset, by_status, is_aborted, is_sense_stopped, marked_refused}
-pub use bus_story.Story.{marked_shown, story_after_event, story_after_events, story_with_end, story_with_end_if}
-pub use bus_story.{Story.{story_with_ends, story_with_over, with_check}, TraceHistory.{aim_of, carried_after_byte_if}}
-pub use bus_story.TraceHistory.{carried_after_fault_if, carried_after_message_if, is_arbitration_entry, is_counted}
-pub use bus_story.TraceHistory.{is_parity_error, retries_of, story_after_byte, story_after_calling}
-pub use bus_story.TraceHistory.{story_after_calling_by, story_after_connection, story_after_crossing, story_after_fault}
-pub use bus_story.TraceHistory.{story_after_in, story_after_message, story_after_out, story_by_change}
-pub use bus_story.TraceHistory.{story_in_connection, story_on_bus, story_on_free_bus, story_with_aim}
-pub use bus_story.TraceHistory.{story_with_carried, story_with_restored, story_with_sent, story_with_try}
-pub use bus_story.TraceHistory.{story_without_answer}
-use Rattle.bus_due.specs.bus_reactions.specs as bus_reactions
-pub use bus_reactions.Target.{byte_bits}
-use Rattle.bus_due.specs.bus_dialogue.proofs as bus_dialogue_proofs
-pub use bus_dialogue_proofs.Leavings.{recovery_not, task_not}
-use Rattle.bus_due.specs.bus_dialogue.specs as bus_dialogue
-pub use bus_dialogue.{Arrivals.{arrival_by, arrival_in, is_never, policy_of}, DataRuns.{runs_in, runs_in_all}}
-pub use bus_dialogue.{Ends.{follows_by}, Events.{after_opening_events, arrival_event, arrival_events}}
-pub use bus_dialogue.Events.{arrival_run_events, connection_end_events, has_replied, is_status_next, newest_with}
-pub use bus_dialogue.{Events.{reply_events, turn_events, turn_events_if, unit_or_0}, Exchange.{Exchange, Speech}}
-pub use bus_dialogue.Exchange.{attends_with, bytes_of_messages, from_byte, message_bytes, next_word, no_messages}
-pub use bus_dialogue.Exchange.{nothing_heard, one_message, plan_after_message, plan_anew, plan_anew_if, request_after}
-pub use bus_dialogue.Exchange.{said_with_if, speech_after_byte, speech_after_request, speech_of, struck_plan}
-pub use bus_dialogue.{Exchange.{two_messages}, Hearing.{begun}, NextPhase.{Serving, after_messages, after_offer}}
-pub use bus_dialogue.NextPhase.{after_refusal, bus_free, disconnect_messages, leaving_by, message_in_entry}
-pub use bus_dialogue.NextPhase.{message_out_leaving, message_repetition, next_data_phase, phase_entry, phase_leaving}
-pub use bus_dialogue.NextPhase.{phase_lines, phase_of, recovery, recovery_limit, request_or_command, with_task}
-pub use bus_dialogue.PhaseBytes.{follows_in, has_whole_block, lines_by, one_if, phase_byte, status_byte}
-pub use bus_dialogue.Planning.{cause_after, first_plan, plan_in_message_out, plan_in_phase, plan_with_byte}
-pub use bus_dialogue.{Speaking.{words_after}, Wants.{Ready, first_ready, is_ready_before, ready_in}}
-pub use bus_dialogue.Words.{abort_bytes, abort_opening, answer_bytes, detected_error, host_answer, is_name, is_naming}
-pub use bus_dialogue.Words.{naming_messages, offer_if, parity_error, process_opening, request_by, tag_bytes, tag_named}
-pub use bus_dialogue.{Words.{target_answer}, declared.exchange.{Arrival.{Arrival}, Cause.{Cause}, Hearing.{Hearing}}}
-pub use bus_dialogue.declared.exchange.{Leaving.{Leaving}, Messages.{Messages}, Next.{Next}, Phase.{Phase}, Plan.{Plan}}
-pub use bus_dialogue.declared.exchange.{Room.{Room}, Said.{Said}, Task.{Task}}
-use Rattle.bus_due.proofs as bus_due_proofs
-pub use bus_due_proofs.{Lookups.{named_none, other_kept}, Plains.{run_state_plain}, Stills.{still_talk}}
-use Rattle.bus_due.specs as bus_due
-pub use bus_due.{Defs.{host_of, target_def_of}, Faithful.{is_abort_named, is_item_named, is_kind, is_opening_named}}
-pub use bus_due.{Faithful.{is_process_named, is_unit}, LastingState.{ProcessProgress, progress_in, progress_with}}
-pub use bus_due.{Least.{IsLeast}, Next.{IsPrompt, due}, Plain.{AreOfDevices, IsPlain}, RunState.{RunState}}
-pub use bus_due.RunState.{agreement_of, array_of, bus_of, carried_here, item_of, or_start, process_here, process_item}
-pub use bus_due.{RunState.{process_served}, RunSteps.{array_after_events, exchange_after, first_exchange, item_if}}
-pub use bus_due.RunSteps.{leaving_of, may_negotiate, messages_if, progress_after, progress_by_leaving, run_state}
-pub use bus_due.{RunSteps.{run_state_after, run_state_with_events, served_after}, Sights.{arrival_at, hearing_of}}
-pub use bus_due.{Sights.{leaving, serving_at, serving_of}, Tasks.{arrival_if, blocks_in, is_idle_unit, is_writing}}
-pub use bus_due.{Tasks.{room_of, task_if, task_of}, Telling.{events_of_ends, events_of_ends_in, id_of}}
-pub use bus_due.Telling.{initiator_events, is_true_telling, same_event, same_events, same_kind, target_events}
-pub use bus_due.Wants.{abort_target, initiator_if, ready_among, ready_at, ready_of, seek_of, since_of, target_of}
+use Rattle.due_model.specs.array_model.proofs as array_model_proofs
+pub use array_model_proofs.{SeatLookups.{none_at, number_same}, SeatReplies.{id_turned}}
+use Rattle.due_model.specs.array_model.specs as array_model
+pub use array_model.{ArrayHistory.{array_after, array_step, reply_in}, Execution.{Reply, is_request_sense}}
+pub use array_model.{Order.{range_in, same_number, tag_number}, Processes.{Process, command_at, payload_bytes}}
+pub use array_model.Processes.{process_by, process_if, process_of, same_bool, same_id, sense_block}
+pub use array_model.{Seats.{current_of, is_initiator}, Steps.{accept_step, accept_step_at, process_count, queue_step}}
+pub use array_model.{Steps.{settled_array_if, with_guest}, Units.{Array, RunningProcess, UnitState, is_held}}
+pub use array_model.Units.{starting_units, unit_state_at, with_unit}
+use Rattle.due_model.specs.story_model.proofs as story_model_proofs
+pub use story_model_proofs.{CarriedLists.{carried_id, carried_with}, SameBytes.{bytes_are}, StorySteps.{byte_link}}
+pub use story_model_proofs.StorySteps.{carried_link, check_keeps, ends_checks, ends_keep, event_sent, events_link}
+pub use story_model_proofs.StorySteps.{events_sent, fault_link, first_link, message_id, out_link, restored_sent}
+pub use story_model_proofs.StorySteps.{sent_carried}
+use Rattle.due_model.specs.story_model.specs as story_model
+pub use story_model.BusState.{RowReading, message_in, message_out, row_reading, whole_in, whole_out}
+pub use story_model.CarriedBytes.{Area, CarriedBytes, area_with, carried_after_byte, carried_after_fault}
+pub use story_model.CarriedBytes.{carried_after_message, carried_at, carried_of, carried_or_nothing, is_status_phase}
+pub use story_model.{CarriedBytes.{is_whole_block, with_carried, with_restored_pointers}, HistoryEvents.{abort_line_at}}
+pub use story_model.HistoryEvents.{abort_line_events, bus_free_events, carried_if, connection_events, end_events}
+pub use story_model.HistoryEvents.{is_complete, is_completion, is_refuse, item_abort_events, item_loss_events}
+pub use story_model.HistoryEvents.{link_events, phase_events, queue_event, queue_events, row_events_by, status_event}
+pub use story_model.{HistoryEvents.{status_events}, Items.{Item, Sent, abort, abort_from, command_from, command_item}}
+pub use story_model.Items.{has_item, is_clash, is_done, is_of_host, is_open, is_tag_clash, item_at, may_send, open_from}
+pub use story_model.{Items.{open_limit_of, or_else, process, same_item, sense_from, sense_item}, Links.{LastMessage}}
+pub use story_model.Links.{Link, abortive, complete, disconnect, is_of_nexus, is_open_sense, last_in, last_out}
+pub use story_model.Links.{link_after_name, link_of, named_item, named_item_from, plain}
+pub use story_model.{PairAgreements.{agreement_in}, Story.{Ending, Story, by_abort, by_reset, by_status, is_aborted}}
+pub use story_model.Story.{is_sense_stopped, marked_refused, marked_shown, story_after_event, story_after_events}
+pub use story_model.Story.{story_with_end, story_with_end_if, story_with_ends, story_with_over, with_check}
+pub use story_model.TraceHistory.{aim_of, carried_after_byte_if, carried_after_fault_if, carried_after_message_if}
+pub use story_model.TraceHistory.{is_arbitration_entry, is_counted, is_parity_error, retries_of, story_after_byte}
+pub use story_model.TraceHistory.{story_after_calling, story_after_calling_by, story_after_connection}
+pub use story_model.TraceHistory.{story_after_crossing, story_after_fault, story_after_in, story_after_message}
+pub use story_model.TraceHistory.{story_after_out, story_by_change, story_in_connection, story_on_bus}
+pub use story_model.TraceHistory.{story_on_free_bus, story_with_aim, story_with_carried, story_with_restored}
+pub use story_model.TraceHistory.{story_with_sent, story_with_try, story_without_answer}
+use Rattle.due_model.specs.reaction_model.specs as reaction_model
+pub use reaction_model.Target.{byte_bits}
+use Rattle.due_model.specs.dialogue_model.proofs as dialogue_model_proofs
+pub use dialogue_model_proofs.Leavings.{recovery_not, task_not}
+use Rattle.due_model.specs.dialogue_model.specs as dialogue_model
+pub use dialogue_model.{Arrivals.{arrival_by, arrival_in, is_never, policy_of}, DataRuns.{runs_in, runs_in_all}}
+pub use dialogue_model.{Ends.{follows_by}, Events.{after_opening_events, arrival_event, arrival_events}}
+pub use dialogue_model.Events.{arrival_run_events, connection_end_events, has_replied, is_status_next, newest_with}
+pub use dialogue_model.{Events.{reply_events, turn_events, turn_events_if, unit_or_0}, Exchange.{Exchange, Speech}}
+pub use dialogue_model.Exchange.{attends_with, bytes_of_messages, from_byte, message_bytes, next_word, no_messages}
+pub use dialogue_model.Exchange.{nothing_heard, one_message, plan_after_message, plan_anew, plan_anew_if, request_after}
+pub use dialogue_model.Exchange.{said_with_if, speech_after_byte, speech_after_request, speech_of, struck_plan}
+pub use dialogue_model.{Exchange.{two_messages}, Hearing.{begun}, NextPhase.{Serving, after_messages, after_offer}}
+pub use dialogue_model.NextPhase.{after_refusal, bus_free, disconnect_messages, leaving_by, message_in_entry}
+pub use dialogue_model.NextPhase.{message_out_leaving, message_repetition, next_data_phase, phase_entry, phase_leaving}
+pub use dialogue_model.NextPhase.{phase_lines, phase_of, recovery, recovery_limit, request_or_command, with_task}
+pub use dialogue_model.PhaseBytes.{follows_in, has_whole_block, lines_by, one_if, phase_byte, status_byte}
+pub use dialogue_model.Planning.{cause_after, first_plan, plan_in_message_out, plan_in_phase, plan_with_byte}
+pub use dialogue_model.{Speaking.{words_after}, Wants.{Ready, first_ready, is_ready_before, ready_in}}
+pub use dialogue_model.Words.{abort_bytes, abort_opening, answer_bytes, detected_error, host_answer, is_name, is_naming}
+pub use dialogue_model.Words.{naming_messages, offer_if, parity_error, process_opening, request_by, tag_bytes}
+pub use dialogue_model.{Words.{tag_named, target_answer}, declared.exchange.{Arrival.{Arrival}, Cause.{Cause}}}
+pub use dialogue_model.declared.exchange.{Hearing.{Hearing}, Leaving.{Leaving}, Messages.{Messages}, Next.{Next}}
+pub use dialogue_model.declared.exchange.{Phase.{Phase}, Plan.{Plan}, Room.{Room}, Said.{Said}, Task.{Task}}
+use Rattle.due_model.proofs as due_model_proofs
+pub use due_model_proofs.{Lookups.{named_none, other_kept}, Plains.{run_state_plain}, Stills.{still_talk}}
+use Rattle.due_model.specs as due_model
+pub use due_model.{Defs.{host_of, target_def_of}, Faithful.{is_abort_named, is_item_named, is_kind, is_opening_named}}
+pub use due_model.{Faithful.{is_process_named, is_unit}, LastingState.{ProcessProgress, progress_in, progress_with}}
+pub use due_model.{Least.{IsLeast}, Next.{IsPrompt, due}, Plain.{AreOfDevices, IsPlain}, RunState.{RunState}}
+pub use due_model.RunState.{agreement_of, array_of, bus_of, carried_here, item_of, or_start, process_here, process_item}
+pub use due_model.{RunState.{process_served}, RunSteps.{array_after_events, exchange_after, first_exchange, item_if}}
+pub use due_model.RunSteps.{leaving_of, may_negotiate, messages_if, progress_after, progress_by_leaving, run_state}
+pub use due_model.{RunSteps.{run_state_after, run_state_with_events, served_after}, Sights.{arrival_at, hearing_of}}
+pub use due_model.{Sights.{leaving, serving_at, serving_of}, Tasks.{arrival_if, blocks_in, is_idle_unit, is_writing}}
+pub use due_model.{Tasks.{room_of, task_if, task_of}, Telling.{events_of_ends, events_of_ends_in, id_of}}
+pub use due_model.Telling.{initiator_events, is_true_telling, same_event, same_events, same_kind, target_events}
+pub use due_model.Wants.{abort_target, initiator_if, ready_among, ready_at, ready_of, seek_of, since_of, target_of}
 use Rattle.row_laws.specs.scsi_device.proofs as scsi_device_proofs
 pub use scsi_device_proofs.{FitLines.{obeys_fits, seats_are, units_are}, PhaseLines.{command_is}}
 use Rattle.row_laws.specs.scsi_device.specs as scsi_device

@@ -1,22 +1,22 @@
 -- Why the initiator raises ATN in a phase to it, and what it says in the MESSAGE OUT that follows: a byte was struck,
 -- or a request of the target is answered (6.6.10, 6.6.13, 6.6.21).
 use Rattle.std.specs.Prelude.{◌≡◌, ◌⊎◌, Bool, true, false, ◌||◌, List, [], ◌∷◌, Some, Option}
-use Rattle.bus_due.specs.bus_trace.specs.declared.Row.{Row}
-use Rattle.bus_due.specs.bus_trace.specs.declared.agreements.Agreement.{Agreement}
-use Rattle.bus_due.specs.bus_trace.specs.declared.connection.Connection.{Connection}
-use Rattle.bus_due.specs.bus_trace.specs.Terms.{connection}
-use Rattle.bus_due.specs.bus_trace.specs.Trace.{bus}
-use Rattle.bus_due.specs.bus_lines.specs.declared.handshakes.Request.{Request}
-use Rattle.bus_due.specs.scenario.specs.declared.value.HostDef.{HostDef}
-use Rattle.bus_due.specs.scenario.specs.Value.{ScenarioValue}
-use Rattle.bus_due.specs.bus_dialogue.specs.declared.exchange.Cause.{Cause}
-use Rattle.bus_due.specs.bus_dialogue.specs.NextPhase.{phase_of}
-use Rattle.bus_due.specs.bus_dialogue.specs.Words.{answer_bytes}
-use Rattle.bus_due.specs.RunState.{RunState, bus_of}
-use Rattle.bus_due.specs.RunSteps.{run_state}
+use Rattle.due_model.specs.bus_trace.specs.declared.Row.{Row}
+use Rattle.due_model.specs.bus_trace.specs.declared.agreements.Agreement.{Agreement}
+use Rattle.due_model.specs.bus_trace.specs.declared.connection.Connection.{Connection}
+use Rattle.due_model.specs.bus_trace.specs.Terms.{connection}
+use Rattle.due_model.specs.bus_trace.specs.Trace.{bus}
+use Rattle.due_model.specs.bus_lines.specs.declared.handshakes.Request.{Request}
+use Rattle.due_model.specs.scenario.specs.declared.value.HostDef.{HostDef}
+use Rattle.due_model.specs.scenario.specs.Value.{ScenarioValue}
+use Rattle.due_model.specs.dialogue_model.specs.declared.exchange.Cause.{Cause}
+use Rattle.due_model.specs.dialogue_model.specs.NextPhase.{phase_of}
+use Rattle.due_model.specs.dialogue_model.specs.Words.{answer_bytes}
+use Rattle.due_model.specs.RunState.{RunState, bus_of}
+use Rattle.due_model.specs.RunSteps.{run_state}
 use Rattle.row_laws.specs.book_laws.specs.WrongParity.{is_refusing, is_struck_phase}
-use Rattle.bus_due.specs.bus_dialogue.specs.declared.exchange.Cause.TheVariants as causes
-use Rattle.bus_due.specs.bus_dialogue.specs.declared.exchange.Phase.TheVariants as phases
+use Rattle.due_model.specs.dialogue_model.specs.declared.exchange.Cause.TheVariants as causes
+use Rattle.due_model.specs.dialogue_model.specs.declared.exchange.Phase.TheVariants as phases
 
 abbrev pub any_struck : List Request → Bool
 any_struck [] = false

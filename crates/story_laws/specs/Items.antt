@@ -1,14 +1,14 @@
 -- What is known of the items in a prompt trace: an initiator sends each once, and the process of a connection is open
 -- until its command has ended.
 use Rattle.std.specs.Prelude.{◌≡◌, true, false, Some, None}
-use Rattle.bus_due.specs.bus_base.specs.declared.ProcId.{ProcId}
-use Rattle.bus_due.specs.bus_trace.specs.declared.connection.Connection.{Connection}
-use Rattle.bus_due.specs.bus_story.specs.CarriedBytes.{carried_at}
-use Rattle.bus_due.specs.bus_story.specs.Items.{Item, process, has_item}
-use Rattle.bus_due.specs.bus_story.specs.TraceHistory.{aim_of}
-use Rattle.bus_due.specs.bus_dialogue.specs.NextPhase.{phase_of}
-use Rattle.bus_due.specs.LastingState.{ProcessProgress, progress_in}
-use Rattle.bus_due.specs.RunState.{RunState, bus_of, item_of}
+use Rattle.due_model.specs.bus_base.specs.declared.ProcId.{ProcId}
+use Rattle.due_model.specs.bus_trace.specs.declared.connection.Connection.{Connection}
+use Rattle.due_model.specs.story_model.specs.CarriedBytes.{carried_at}
+use Rattle.due_model.specs.story_model.specs.Items.{Item, process, has_item}
+use Rattle.due_model.specs.story_model.specs.TraceHistory.{aim_of}
+use Rattle.due_model.specs.dialogue_model.specs.NextPhase.{phase_of}
+use Rattle.due_model.specs.LastingState.{ProcessProgress, progress_in}
+use Rattle.due_model.specs.RunState.{RunState, bus_of, item_of}
 use Rattle.row_laws.specs.book_laws.specs.Hearing.{is_in_phase}
 
 -- A selection begins a connection for an item of its initiator that was neither sent nor given up.

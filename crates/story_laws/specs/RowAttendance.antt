@@ -1,11 +1,11 @@
 -- What the target of a connection rests on at a row beside what it hears: which events the row shows, that a process
 -- which runs with it has come whole, and that a phase is left while RST is false (6.1.5.1, 6.2.2, 7.3).
 use Rattle.std.specs.Prelude.{◌≡◌, ◌⊎◌, true, false, List, is_some}
-use Rattle.bus_due.specs.bus_trace.specs.declared.Row.{Row}
-use Rattle.bus_due.specs.bus_trace.specs.Phases.{changes_phase, is_message_in}
-use Rattle.bus_due.specs.scenario.specs.Value.{ScenarioValue}
-use Rattle.bus_due.specs.bus_story.specs.BusState.{RowReading, row_reading}
-use Rattle.bus_due.specs.RunSteps.{run_state}
+use Rattle.due_model.specs.bus_trace.specs.declared.Row.{Row}
+use Rattle.due_model.specs.bus_trace.specs.Phases.{changes_phase, is_message_in}
+use Rattle.due_model.specs.scenario.specs.Value.{ScenarioValue}
+use Rattle.due_model.specs.story_model.specs.BusState.{RowReading, row_reading}
+use Rattle.due_model.specs.RunSteps.{run_state}
 use Rattle.row_laws.specs.Attendance.{Shows}
 use Rattle.story_laws.specs.RunsWhole.{RunsWhole}
 

@@ -1,18 +1,18 @@
 -- DATA OUT: how many bytes of the run were asked for and answered.
 use Rattle.std.specs.Prelude.{ℕ, ◌≡◌, ◌≤◌, ◌<◌, Bool, true, false, List, Some}
-use Rattle.bus_due.specs.bus_trace.specs.LineSet.{LineSet}
-use Rattle.bus_due.specs.bus_trace.specs.declared.Row.{Row}
-use Rattle.bus_due.specs.bus_trace.specs.declared.connection.Connection.{Connection}
-use Rattle.bus_due.specs.bus_trace.specs.Terms.{connection}
-use Rattle.bus_due.specs.bus_trace.specs.Trace.{bus}
-use Rattle.bus_due.specs.bus_phases.specs.Dialogue.{dialogue}
-use Rattle.bus_due.specs.bus_lines.specs.Handshakes.{Handshakes, handshakes}
-use Rattle.bus_due.specs.scenario.specs.Value.{ScenarioValue}
-use Rattle.bus_due.specs.bus_dialogue.specs.Ends.{is_pulsed_phase}
-use Rattle.bus_due.specs.bus_dialogue.specs.Hearing.{begun}
-use Rattle.bus_due.specs.bus_dialogue.specs.NextPhase.{phase_of}
+use Rattle.due_model.specs.bus_trace.specs.LineSet.{LineSet}
+use Rattle.due_model.specs.bus_trace.specs.declared.Row.{Row}
+use Rattle.due_model.specs.bus_trace.specs.declared.connection.Connection.{Connection}
+use Rattle.due_model.specs.bus_trace.specs.Terms.{connection}
+use Rattle.due_model.specs.bus_trace.specs.Trace.{bus}
+use Rattle.due_model.specs.bus_phases.specs.Dialogue.{dialogue}
+use Rattle.due_model.specs.bus_lines.specs.Handshakes.{Handshakes, handshakes}
+use Rattle.due_model.specs.scenario.specs.Value.{ScenarioValue}
+use Rattle.due_model.specs.dialogue_model.specs.Ends.{is_pulsed_phase}
+use Rattle.due_model.specs.dialogue_model.specs.Hearing.{begun}
+use Rattle.due_model.specs.dialogue_model.specs.NextPhase.{phase_of}
 use Rattle.row_laws.specs.link_laws.specs.Pulses.{run_count}
-use Rattle.bus_due.specs.bus_dialogue.specs.declared.exchange.Phase.TheVariants as phases
+use Rattle.due_model.specs.dialogue_model.specs.declared.exchange.Phase.TheVariants as phases
 
 -- A run has a byte; no more are answered than it has, nor asked for by pulses; and one that REQ asks for and ACK has
 -- not answered is of the run.

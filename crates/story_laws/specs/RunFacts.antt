@@ -1,14 +1,14 @@
 -- Where the data pointers of processes of one kind stand after some rows: of all that write, or of all others.
 use Rattle.std.specs.Prelude.{◌≡◌, true, false, List, Some, None}
-use Rattle.bus_due.specs.bus_base.specs.declared.ProcId.{ProcId}
-use Rattle.bus_due.specs.bus_trace.specs.declared.Row.{Row}
-use Rattle.bus_due.specs.bus_trace.specs.declared.connection.Connection.{Connection}
-use Rattle.bus_due.specs.scenario.specs.Value.{ScenarioValue}
-use Rattle.bus_due.specs.disk_array.specs.Processes.{Process, process_of, same_id}
-use Rattle.bus_due.specs.bus_story.specs.Items.{process, has_item}
-use Rattle.bus_due.specs.RunState.{RunState, bus_of, process_served}
-use Rattle.bus_due.specs.RunSteps.{run_state}
-use Rattle.bus_due.specs.Tasks.{is_writing}
+use Rattle.due_model.specs.bus_base.specs.declared.ProcId.{ProcId}
+use Rattle.due_model.specs.bus_trace.specs.declared.Row.{Row}
+use Rattle.due_model.specs.bus_trace.specs.declared.connection.Connection.{Connection}
+use Rattle.due_model.specs.scenario.specs.Value.{ScenarioValue}
+use Rattle.due_model.specs.array_model.specs.Processes.{Process, process_of, same_id}
+use Rattle.due_model.specs.story_model.specs.Items.{process, has_item}
+use Rattle.due_model.specs.RunState.{RunState, bus_of, process_served}
+use Rattle.due_model.specs.RunSteps.{run_state}
+use Rattle.due_model.specs.Tasks.{is_writing}
 use Rattle.row_laws.specs.DataPointers.{IsWaiting, ServedPointers, UndoesServed}
 
 -- In a connection, of the process that is served.

@@ -1,7 +1,7 @@
 -- What holds after any rows of a prompt trace, by which its ends show the events that the rows show.
 use Rattle.std.specs.Prelude.{List}
-use Rattle.bus_due.specs.bus_trace.specs.declared.Row.{Row}
-use Rattle.bus_due.specs.scenario.specs.Value.{ScenarioValue}
+use Rattle.due_model.specs.bus_trace.specs.declared.Row.{Row}
+use Rattle.due_model.specs.scenario.specs.Value.{ScenarioValue}
 use Rattle.row_laws.specs.DataPointers.{is_marked}
 use Rattle.row_laws.specs.ItemFacts.{ItemFacts}
 use Rattle.story_laws.specs.LastTalks.{LastFacts}

@@ -6,4 +6,4 @@
 #![tactic(auto)]
 
 // Handed on to the crates above that list this one and not these.
-pub use row_laws::the_bus_books;
+pub use row_laws::the_book_laws;

@@ -5,7 +5,7 @@ use Rattle.bus_trace.specs.LineSet.{set_of}
 use Rattle.bus_trace.specs.View.{union_below}
 use Rattle.bus_trace.specs.declared.Row.{Row}
 use Rattle.bus_trace.specs.declared.Kind.TheVariants.{Drives, Fault}
-use Rattle.bus_dialogue.specs.bus_phases.specs.declared.words.End.TheVariants as ends
+use Rattle.dialogue_model.specs.bus_phases.specs.declared.words.End.TheVariants as ends
 use Rattle.msg_grammar.specs.Messages.{form_out, form_in}
 use Rattle.sync_nego.specs.Exchange.{side}
 use Rattle.sync_nego.specs.Rows.{turns}

@@ -4,22 +4,22 @@ use Rattle.std.proofs.Common.{arith}
 use Rattle.std.proofs.lemmas.Bool.Decides.{nat_tests}
 use Rattle.bus_trace.specs.declared.agreements.Agreement.{Agreement}
 use Rattle.bus_trace.specs.Agreements.{same_agreement}
-use Rattle.bus_dialogue.specs.bus_phases.specs.declared.words.Word.{Word}
-use Rattle.bus_dialogue.specs.bus_phases.specs.declared.words.Word.TheVariants as words
-use Rattle.bus_dialogue.specs.bus_phases.specs.declared.words.End.{End}
-use Rattle.bus_dialogue.specs.bus_phases.specs.declared.words.End.TheVariants as ends
-use Rattle.bus_dialogue.specs.bus_phases.specs.declared.spoken.Spoken.{Spoken}
-use Rattle.bus_dialogue.specs.bus_phases.specs.declared.spoken.CommandBytes.{CommandBytes}
-use Rattle.bus_dialogue.specs.bus_phases.specs.declared.spoken.Heard.{Heard}
-use Rattle.bus_dialogue.specs.bus_phases.specs.declared.dialogue.Dialogue.{Dialogue}
-use Rattle.bus_dialogue.specs.bus_phases.specs.Dialogue.{asynchronous, nothing_spoken, is_same_end, is_of_other}
-use Rattle.bus_dialogue.specs.bus_phases.specs.Dialogue.{spoken_with_word, spoken_with_offer, spoken_with_reject}
-use Rattle.bus_dialogue.specs.bus_phases.specs.Dialogue.{heard_with_out, heard_before_in, heard_with_in}
-use Rattle.bus_dialogue.specs.bus_phases.specs.Dialogue.{heard_with_command, spoken_with_byte}
+use Rattle.dialogue_model.specs.bus_phases.specs.declared.words.Word.{Word}
+use Rattle.dialogue_model.specs.bus_phases.specs.declared.words.Word.TheVariants as words
+use Rattle.dialogue_model.specs.bus_phases.specs.declared.words.End.{End}
+use Rattle.dialogue_model.specs.bus_phases.specs.declared.words.End.TheVariants as ends
+use Rattle.dialogue_model.specs.bus_phases.specs.declared.spoken.Spoken.{Spoken}
+use Rattle.dialogue_model.specs.bus_phases.specs.declared.spoken.CommandBytes.{CommandBytes}
+use Rattle.dialogue_model.specs.bus_phases.specs.declared.spoken.Heard.{Heard}
+use Rattle.dialogue_model.specs.bus_phases.specs.declared.dialogue.Dialogue.{Dialogue}
+use Rattle.dialogue_model.specs.bus_phases.specs.Dialogue.{asynchronous, nothing_spoken, is_same_end, is_of_other}
+use Rattle.dialogue_model.specs.bus_phases.specs.Dialogue.{spoken_with_word, spoken_with_offer, spoken_with_reject}
+use Rattle.dialogue_model.specs.bus_phases.specs.Dialogue.{heard_with_out, heard_before_in, heard_with_in}
+use Rattle.dialogue_model.specs.bus_phases.specs.Dialogue.{heard_with_command, spoken_with_byte}
 use Rattle.sync_nego.specs.Negotiation.{Negotiation}
 use Rattle.sync_nego.specs.Exchange.{Turn, connects, begins_phase, begins_anew, to_target, begins_message, to_initiator}
 use Rattle.sync_nego.specs.Exchange.{in_command, resets, told, Count, connected, said, carried, reset, with_byte}
-use Rattle.sync_nego.specs.Exchange.{Counted, or_now, counted, Side, voids, says_offer, hears_offer, says_reject}
+use Rattle.sync_nego.specs.Exchange.{Counted, or_now, counted, Side, voided, says_offer, hears_offer, says_reject}
 use Rattle.sync_nego.specs.Exchange.{hears_reject, side_says, side_hears, side_after, side_by, side}
 use Rattle.bus_trace.proofs.SameAgreement.{itself}
 
@@ -187,10 +187,10 @@ hears_rejects ends.Target (Some ends.Initiator) (Some ends.Initiator) b k r n h 
 hears_rejects ends.Target (Some ends.Initiator) (Some ends.Target) b k r n h = record { flags = refl; agrees = refl }
 hears_rejects ends.Target (Some ends.Target) p b k r n h = record { flags = refl; agrees = refl }
 
-voided : (renews : Bool) (n : Negotiation) (a : Agreement) → a.offset ≡ 0
-    → same_agreement (voids renews n).agreed a ≡ true
-voided true n a e = grind (arith, nat_tests)
-voided false n a e = grind (arith, nat_tests)
+voided_agrees : (renews : Bool) (n : Negotiation) (a : Agreement) → a.offset ≡ 0
+    → same_agreement (voided renews n).agreed a ≡ true
+voided_agrees true n a e = grind (arith, nat_tests)
+voided_agrees false n a e = grind (arith, nat_tests)
 
 passed : (renews : Bool) (end : End) (o p : Option End) (w : Word) (b : Agreement)
     (k : CommandBytes) (r : Bool) (n : Negotiation) → same_agreement n.agreed b ≡ true
@@ -199,7 +199,7 @@ passed renews end o p (words.Offer a) b k r n h = says_offers end o p a b k r n 
 passed renews end o p words.Reject b k r n h = says_rejects end o p b k r n h
 passed renews end o p words.Restore b k r n h = record { flags = refl; agrees = h }
 passed renews end o p words.DeviceReset b k r n h =
-    record { flags = refl; agrees = voided renews n (record b { offset = 0 }) refl }
+    record { flags = refl; agrees = voided_agrees renews n (record b { offset = 0 }) refl }
 passed renews end o p words.ParityError b k r n h = record { flags = refl; agrees = h }
 passed renews end o p words.Other b k r n h = record { flags = refl; agrees = h }
 
@@ -210,7 +210,7 @@ heard renews end o p (words.Offer a) b k r n h = hears_offers end o p a b k r n 
 heard renews end o p words.Reject b k r n h = hears_rejects end o p b k r n h
 heard renews end o p words.Restore b k r n h = record { flags = refl; agrees = h }
 heard renews end o p words.DeviceReset b k r n h =
-    record { flags = refl; agrees = voided renews n (record b { offset = 0 }) refl }
+    record { flags = refl; agrees = voided_agrees renews n (record b { offset = 0 }) refl }
 heard renews end o p words.ParityError b k r n h = record { flags = refl; agrees = h }
 heard renews end o p words.Other b k r n h = record { flags = refl; agrees = h }
 
@@ -240,7 +240,7 @@ follows renews end own (carried b ∷ cs) =
     let h = follows renews end own cs in
     record { flags = h.flags; agrees = h.agrees }
 follows renews end own (reset ∷ cs) =
-    record { flags = refl; agrees = voided renews (side_by renews end own cs).nego asynchronous refl }
+    record { flags = refl; agrees = voided_agrees renews (side_by renews end own cs).nego asynchronous refl }
 
 -- ---- the law
 

@@ -4,13 +4,13 @@ use Rattle.std.proofs.Common.{arith}
 use Rattle.std.proofs.lemmas.Bool.Decides.{nat_tests}
 use Rattle.bus_trace.specs.declared.agreements.Agreement.{Agreement}
 use Rattle.bus_trace.specs.Agreements.{same_agreement}
-use Rattle.bus_dialogue.specs.bus_phases.specs.declared.words.Word.{Word}
-use Rattle.bus_dialogue.specs.bus_phases.specs.declared.words.Word.TheVariants as words
-use Rattle.bus_dialogue.specs.bus_phases.specs.declared.words.End.{End}
-use Rattle.bus_dialogue.specs.bus_phases.specs.declared.words.End.TheVariants as ends
+use Rattle.dialogue_model.specs.bus_phases.specs.declared.words.Word.{Word}
+use Rattle.dialogue_model.specs.bus_phases.specs.declared.words.Word.TheVariants as words
+use Rattle.dialogue_model.specs.bus_phases.specs.declared.words.End.{End}
+use Rattle.dialogue_model.specs.bus_phases.specs.declared.words.End.TheVariants as ends
 use Rattle.sync_nego.specs.Negotiation.{Negotiation, answer_to, agreed_by, settled}
 use Rattle.sync_nego.specs.Exchange.{Turn, connects, to_target, told_agreement, Count, connected, said, counted, Side}
-use Rattle.sync_nego.specs.Exchange.{quiet, passes, side_after, side_by, side, in_void, word_of, asked, answered}
+use Rattle.sync_nego.specs.Exchange.{quiet, unanswered, side_after, side_by, side, in_void, word_of, asked, answered}
 use Rattle.sync_nego.specs.Exchange.{asked_back, answered_back}
 use Rattle.sync_nego.proofs.Following.{holds_what_is_told}
 
@@ -26,21 +26,21 @@ counted_in_void (suc n) w ts =
 
 -- After a message that is no answer they change nothing.
 error_told : (renews : Bool) (end : End) (x : Side)
-    → side_after renews end x (said ends.Initiator words.ParityError) ≡ passes x
+    → side_after renews end x (said ends.Initiator words.ParityError) ≡ unanswered x
 error_told renews ends.Initiator x = refl
 error_told renews ends.Target x = refl
 
 errors_told : (n : ℕ) (renews : Bool) (end : End) (own : Agreement) (cs : List Count)
-    → passes (side_by renews end own cs) ≡ side_by renews end own cs
+    → unanswered (side_by renews end own cs) ≡ side_by renews end own cs
     → side_by renews end own (errors n cs) ≡ side_by renews end own cs
 errors_told zero renews end own cs e = refl
 errors_told (suc n) renews end own cs e = error_told renews end (side_by renews end own (errors n cs))
-    ∙ ap (λ (x : Side). passes x) (errors_told n renews end own cs e) ∙ e
+    ∙ ap (λ (x : Side). unanswered x) (errors_told n renews end own cs e) ∙ e
 
 -- ---- a request of the initiator
 
 asked_side : (renews : Bool) (end : End) (own i : Agreement) (cs : List Count)
-    → passes (side_by renews end own (said ends.Initiator (words.Offer i) ∷ connected ∷ cs))
+    → unanswered (side_by renews end own (said ends.Initiator (words.Offer i) ∷ connected ∷ cs))
     ≡ side_by renews end own (said ends.Initiator (words.Offer i) ∷ connected ∷ cs)
 asked_side renews ends.Initiator own i cs = refl
 asked_side renews ends.Target own i cs = refl

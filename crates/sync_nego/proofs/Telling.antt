@@ -17,15 +17,16 @@ use Rattle.msg_grammar.specs.declared.message.MsgOut.{MsgOut}
 use Rattle.msg_grammar.specs.declared.message.MsgIn.{MsgIn}
 use Rattle.msg_grammar.specs.Messages.{got_out, got_in}
 use Rattle.bus_trace.specs.Agreements.{same_agreement}
-use Rattle.bus_dialogue.specs.bus_story.specs.CurrentAgreement.{current_agreement, current_agreement_in}
-use Rattle.bus_dialogue.specs.bus_phases.specs.declared.words.End.{End}
-use Rattle.bus_dialogue.specs.bus_phases.specs.declared.spoken.Heard.{Heard}
-use Rattle.bus_dialogue.specs.bus_phases.specs.declared.dialogue.Dialogue.{Dialogue}
-use Rattle.bus_dialogue.specs.bus_phases.specs.Dialogue.{asynchronous, heard_out, heard_in, heard_if_begun}
-use Rattle.bus_dialogue.specs.bus_phases.specs.Dialogue.{heard_with_command, fresh_bytes, byte_out, byte_in, byte_else}
-use Rattle.bus_dialogue.specs.bus_phases.specs.Dialogue.{byte_crosses, phase_begins, dialogue_on, dialogue_after}
-use Rattle.bus_dialogue.specs.bus_phases.specs.Dialogue.{closed_agreement, closed_agreement_by, opened, agreed}
-use Rattle.bus_dialogue.specs.bus_phases.specs.Dialogue.{dialogue}
+use Rattle.dialogue_model.specs.story_model.specs.CurrentAgreement.{current_agreement, current_agreement_in}
+use Rattle.dialogue_model.specs.bus_phases.specs.declared.words.End.{End}
+use Rattle.dialogue_model.specs.bus_phases.specs.declared.spoken.Heard.{Heard}
+use Rattle.dialogue_model.specs.bus_phases.specs.declared.dialogue.Dialogue.{Dialogue}
+use Rattle.dialogue_model.specs.bus_phases.specs.Dialogue.{asynchronous, heard_out, heard_in, heard_if_begun}
+use Rattle.dialogue_model.specs.bus_phases.specs.Dialogue.{heard_with_command, fresh_bytes, byte_out, byte_in}
+use Rattle.dialogue_model.specs.bus_phases.specs.Dialogue.{byte_else}
+use Rattle.dialogue_model.specs.bus_phases.specs.Dialogue.{byte_crosses, phase_begins, dialogue_on, dialogue_after}
+use Rattle.dialogue_model.specs.bus_phases.specs.Dialogue.{closed_agreement, closed_agreement_by, opened, agreed}
+use Rattle.dialogue_model.specs.bus_phases.specs.Dialogue.{dialogue}
 use Rattle.sync_nego.specs.Exchange.{Turn, connects, begins_phase, in_command, told, told_agreement, side}
 use Rattle.sync_nego.proofs.Following.{holds_what_is_told}
 use Rattle.sync_nego.specs.Rows.{anew_if, out_turns, begins_if, in_turns, byte_turns, dialogue_turns, resets_if}

@@ -2,14 +2,14 @@
 -- and what either end keeps of it.
 use Rattle.std.specs.Prelude.{ℕ, zero, suc, Bool, true, false, List, [], ◌∷◌, Option, Some, None, if◌then◌else◌}
 use Rattle.bus_trace.specs.declared.agreements.Agreement.{Agreement}
-use Rattle.bus_dialogue.specs.bus_phases.specs.declared.words.Word.{Word}
-use Rattle.bus_dialogue.specs.bus_phases.specs.declared.words.Word.TheVariants as words
-use Rattle.bus_dialogue.specs.bus_phases.specs.declared.words.End.{End}
-use Rattle.bus_dialogue.specs.bus_phases.specs.declared.words.End.TheVariants as ends
-use Rattle.bus_dialogue.specs.bus_phases.specs.declared.dialogue.Dialogue.{Dialogue}
-use Rattle.bus_dialogue.specs.bus_phases.specs.Dialogue.{asynchronous, is_same_end, opened, heard_with_out}
-use Rattle.bus_dialogue.specs.bus_phases.specs.Dialogue.{heard_before_in, heard_with_in, heard_with_command}
-use Rattle.bus_dialogue.specs.bus_phases.specs.Dialogue.{phase_begins}
+use Rattle.dialogue_model.specs.bus_phases.specs.declared.words.Word.{Word}
+use Rattle.dialogue_model.specs.bus_phases.specs.declared.words.Word.TheVariants as words
+use Rattle.dialogue_model.specs.bus_phases.specs.declared.words.End.{End}
+use Rattle.dialogue_model.specs.bus_phases.specs.declared.words.End.TheVariants as ends
+use Rattle.dialogue_model.specs.bus_phases.specs.declared.dialogue.Dialogue.{Dialogue}
+use Rattle.dialogue_model.specs.bus_phases.specs.Dialogue.{asynchronous, is_same_end, opened, heard_with_out}
+use Rattle.dialogue_model.specs.bus_phases.specs.Dialogue.{heard_before_in, heard_with_in, heard_with_command}
+use Rattle.dialogue_model.specs.bus_phases.specs.Dialogue.{phase_begins}
 use Rattle.sync_nego.specs.Negotiation.{Negotiation, unsettled, answer_to, settled, cleared, renewed}
 
 -- What happens between the two, as far as their agreement goes. Lists of these have the newest first.
@@ -110,55 +110,55 @@ abbrev pub quiet : Negotiation → Side
 quiet n = record { nego = n; asks = false; is_asked = false; answers = false; is_answered = false }
 
 -- No answer was last.
-abbrev pub passes : Side → Side
-passes x = record x { answers = false; is_answered = false }
+abbrev pub unanswered : Side → Side
+unanswered x = record x { answers = false; is_answered = false }
 
 -- Its agreement is void: whether it offers again is its choice.
-abbrev pub voids : Bool → Negotiation → Negotiation
-voids renews n = if renews then renewed n else cleared n
+abbrev pub voided : Bool → Negotiation → Negotiation
+voided renews n = if renews then renewed n else cleared n
 
 -- It says a request, which answers the one that it has heard; or it hears one, which answers its own.
 abbrev pub says_offer : Side → Agreement → Side
 says_offer x a =
     if x.is_asked
     then record x { nego = settled x.nego (Some a); is_asked = false; answers = true; is_answered = false }
-    else record (passes x) { asks = true }
+    else record (unanswered x) { asks = true }
 
 abbrev pub hears_offer : Side → Agreement → Side
 hears_offer x a =
     if x.asks then record x { nego = settled x.nego (Some a); asks = false; answers = false; is_answered = true }
-    else record (passes x) { is_asked = true }
+    else record (unanswered x) { is_asked = true }
 
 -- It rejects a request that it has heard, or the answer to its own; or its own request or answer is rejected.
 abbrev pub says_reject : Side → Side
 says_reject x =
-    if x.is_asked then record (passes x) { nego = settled x.nego None; is_asked = false }
-    else if x.is_answered then record (passes x) { nego = settled x.nego None }
-    else passes x
+    if x.is_asked then record (unanswered x) { nego = settled x.nego None; is_asked = false }
+    else if x.is_answered then record (unanswered x) { nego = settled x.nego None }
+    else unanswered x
 
 abbrev pub hears_reject : Side → Side
 hears_reject x =
-    if x.asks then record (passes x) { nego = settled x.nego None; asks = false }
-    else if x.answers then record (passes x) { nego = settled x.nego None }
-    else passes x
+    if x.asks then record (unanswered x) { nego = settled x.nego None; asks = false }
+    else if x.answers then record (unanswered x) { nego = settled x.nego None }
+    else unanswered x
 
 abbrev pub side_says : Bool → Side → Word → Side
 side_says renews x (words.Offer a) = says_offer x a
 side_says renews x words.Reject = says_reject x
-side_says renews x words.DeviceReset = record (passes x) { nego = voids renews x.nego }
-side_says renews x _ = passes x
+side_says renews x words.DeviceReset = record (unanswered x) { nego = voided renews x.nego }
+side_says renews x _ = unanswered x
 
 abbrev pub side_hears : Bool → Side → Word → Side
 side_hears renews x (words.Offer a) = hears_offer x a
 side_hears renews x words.Reject = hears_reject x
-side_hears renews x words.DeviceReset = record (passes x) { nego = voids renews x.nego }
-side_hears renews x _ = passes x
+side_hears renews x words.DeviceReset = record (unanswered x) { nego = voided renews x.nego }
+side_hears renews x _ = unanswered x
 
 abbrev pub side_after : Bool → End → Side → Count → Side
 side_after renews end x connected = quiet x.nego
 side_after renews end x (said e w) = if is_same_end e end then side_says renews x w else side_hears renews x w
 side_after renews end x (carried b) = x
-side_after renews end x reset = quiet (voids renews x.nego)
+side_after renews end x reset = quiet (voided renews x.nego)
 
 abbrev pub side_by : Bool → End → Agreement → List Count → Side
 side_by renews end own [] = quiet (unsettled own)

@@ -6,8 +6,8 @@ use Rattle.msg_grammar.specs.declared.message.MsgOut.{MsgOut}
 use Rattle.msg_grammar.specs.declared.message.MsgOut.TheVariants as to_target
 use Rattle.msg_grammar.specs.declared.message.MsgIn.{MsgIn}
 use Rattle.msg_grammar.specs.declared.message.MsgIn.TheVariants as to_initiator
-use Rattle.bus_dialogue.specs.bus_phases.specs.Dialogue.{asynchronous}
-use Rattle.bus_dialogue.specs.Words.{agreement_answer}
+use Rattle.dialogue_model.specs.bus_phases.specs.Dialogue.{asynchronous}
+use Rattle.dialogue_model.specs.Words.{agreement_answer}
 
 pub record Negotiation : Type 0 where
   -- what it offers itself

@@ -12,8 +12,8 @@ use Rattle.msg_grammar.specs.declared.message.Got.TheVariants.{Whole, More, Unkn
 use Rattle.msg_grammar.specs.declared.message.MsgOut.{MsgOut}
 use Rattle.msg_grammar.specs.declared.message.MsgIn.{MsgIn}
 use Rattle.msg_grammar.specs.Messages.{got_out, got_in}
-use Rattle.bus_dialogue.specs.bus_phases.specs.declared.dialogue.Dialogue.{Dialogue}
-use Rattle.bus_dialogue.specs.bus_phases.specs.Dialogue.{word_out, word_in, fresh_bytes, dialogue}
+use Rattle.dialogue_model.specs.bus_phases.specs.declared.dialogue.Dialogue.{Dialogue}
+use Rattle.dialogue_model.specs.bus_phases.specs.Dialogue.{word_out, word_in, fresh_bytes, dialogue}
 use Rattle.sync_nego.specs.Exchange.{Turn, connects, begins_phase, begins_anew, to_target, begins_message, to_initiator}
 use Rattle.sync_nego.specs.Exchange.{in_command, resets}
 

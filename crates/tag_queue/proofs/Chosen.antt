@@ -4,9 +4,9 @@ use Rattle.std.proofs.Common.{None, refl, ap, sym, ◌∙◌, arith}
 use Rattle.std.specs.Prelude.{if◌then◌else◌}
 use Rattle.bus_base.specs.declared.events.Pick.{Pick}
 use Rattle.bus_base.specs.declared.events.Pick.TheVariants as picks
-use Rattle.disk_array.specs.declared.entries.Entry.{Entry}
-use Rattle.disk_array.specs.Order.{is_head, is_ordered, last_head, may_run_after, runnable_after, runnable_by}
-use Rattle.disk_array.specs.Order.{picked_place, last_of, chosen_place}
+use Rattle.array_model.specs.declared.entries.Entry.{Entry}
+use Rattle.array_model.specs.Order.{is_head, is_ordered, last_head, may_run_after, runnable_after, runnable_by}
+use Rattle.array_model.specs.Order.{picked_place, last_of, chosen_place}
 use Rattle.tag_queue.specs.Queue.{Queued, key_at, key_at_if, entries_in}
 use Rattle.tag_queue.proofs.Scans.{some_same}
 

@@ -4,7 +4,7 @@ use Rattle.std.proofs.Common.{eq-eqb}
 use Rattle.std.specs.Prelude.{◌==◌, is_some, if◌then◌else◌}
 use Rattle.std.proofs.lemmas.Bool.{eqb-true, true≢false}
 use Rattle.slab.specs.Slab.{Slab, get}
-use Rattle.disk_array.specs.declared.entries.Entry.{Entry}
+use Rattle.array_model.specs.declared.entries.Entry.{Entry}
 use Rattle.tag_queue.specs.declared.those.Those.{Those}
 use Rattle.tag_queue.specs.declared.arrivals.Arrival.{Arrival}
 use Rattle.tag_queue.specs.Queue.{Queued, QueueState, queue_without, queue_cleared_of, current_without, current_among}

@@ -4,8 +4,8 @@ use Rattle.std.proofs.Common.{get_or, set, take, drop, refl, ap, sym, ◌∙◌,
 use Rattle.std.specs.Prelude.{◌==◌}
 use Rattle.std.proofs.lemmas.List.{drop_more, take_more_set, drop-set-lt}
 use Rattle.slab.specs.Slab.{Slab, get}
-use Rattle.disk_array.specs.declared.entries.Entry.{Entry}
-use Rattle.disk_array.specs.Order.{holds_back}
+use Rattle.array_model.specs.declared.entries.Entry.{Entry}
+use Rattle.array_model.specs.Order.{holds_back}
 use Rattle.tag_queue.specs.declared.arrivals.Arrival.{Arrival}
 use Rattle.tag_queue.specs.Stored.{lowered, lowered_if, lowered_by}
 

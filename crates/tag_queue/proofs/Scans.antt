@@ -3,9 +3,9 @@ use Rattle.std.proofs.Common.{◌≡◌, ◌≢◌, ℕ, ◌+◌, ◌-◌, zero,
 use Rattle.std.proofs.Common.{length, Option, Some, None, refl, ap, sym, subst, ◌∙◌, arith, rules, eq-eqb}
 use Rattle.std.specs.Prelude.{◌==◌, if◌then◌else◌}
 use Rattle.bus_base.specs.declared.events.Pick.TheVariants as picks
-use Rattle.disk_array.specs.declared.entries.Entry.{Entry}
-use Rattle.disk_array.specs.Order.{picked_place, last_of, is_ordered, has_ordered, has_none_before, is_held_back}
-use Rattle.disk_array.specs.Order.{holds_back, may_run_after, may_run_in_order, runnable_after}
+use Rattle.array_model.specs.declared.entries.Entry.{Entry}
+use Rattle.array_model.specs.Order.{picked_place, last_of, is_ordered, has_ordered, has_none_before, is_held_back}
+use Rattle.array_model.specs.Order.{holds_back, may_run_after, may_run_in_order, runnable_after}
 use Rattle.slab.specs.Slab.{Slab, get}
 use Rattle.tag_queue.specs.declared.arrivals.Arrival.{Arrival}
 use Rattle.tag_queue.specs.Queue.{Queued, key_at, is_current, waiting_in, entries_in, place_of}

@@ -8,8 +8,8 @@ use Rattle.std.specs.List.{filter}
 use Rattle.std.proofs.lemmas.Bool.{eqb-false, eqb-true, ne_eqb, true≢false}
 use Rattle.std.proofs.lemmas.List.{append-nil, length-append}
 use Rattle.slab.specs.Slab.{Slab, get, slab_len, Updates}
-use Rattle.disk_array.specs.declared.entries.Entry.{Entry}
-use Rattle.disk_array.specs.Order.{holds_back}
+use Rattle.array_model.specs.declared.entries.Entry.{Entry}
+use Rattle.array_model.specs.Order.{holds_back}
 use Rattle.tag_queue.specs.declared.arrivals.Arrival.{Arrival}
 use Rattle.tag_queue.specs.Queue.{Queued, is_current, waiting_in, entries_in, without_key, has_key, entry_at}
 use Rattle.tag_queue.specs.Stored.{queued_if, queued_at, entries_at, held_back_by, is_out, IsCounted, before_with}

@@ -4,11 +4,11 @@ use Rattle.std.specs.Prelude.{replicate, slice_set, if◌then◌else◌}
 use Rattle.std.specs.List.{list_any}
 use Rattle.bus_base.specs.declared.events.Pick.{Pick}
 use Rattle.bus_base.specs.declared.ProcId.{ProcId}
-use Rattle.disk_array.specs.declared.entries.Entry.{Entry}
-use Rattle.disk_array.specs.Processes.{same_id}
+use Rattle.array_model.specs.declared.entries.Entry.{Entry}
+use Rattle.array_model.specs.Processes.{same_id}
 use Rattle.tag_queue.specs.declared.those.Those.{Those}
 use Rattle.tag_queue.specs.declared.those.Those.TheVariants as those
-use Rattle.disk_array.specs.Order.{chosen_place, may_run, same_number}
+use Rattle.array_model.specs.Order.{chosen_place, may_run, same_number}
 
 -- A live command, under its key.
 pub record Queued : Type 0 where

@@ -3,14 +3,14 @@
 ghost use Rattle.std.specs.Prelude.{◌≡◌, ◌+◌, ◌-◌, ◌==◌, ◌&&◌, ◌||◌, ℕ, [], not, Option, Some, None, false, if◌then◌else◌};
 ghost use Rattle.slab.specs.Slab.{get};
 ghost use Rattle.bus_base.specs.declared.events.Pick.TheVariants as picks;
-ghost use Rattle.disk_array.specs.declared.entries.Entry.{Entry};
-ghost use Rattle.disk_array.specs.Processes.{same_bool, same_id};
-ghost use Rattle.disk_array.specs.Order.{is_head as is_head_class, is_ordered as is_ordered_class, overlap, holds_back as holds_back_entry, last_head as last_head_place, may_run_in_order, picked_place, runnable_after, chosen_place, same_number as same_tag_number};
+ghost use Rattle.array_model.specs.declared.entries.Entry.{Entry};
+ghost use Rattle.array_model.specs.Processes.{same_bool, same_id};
+ghost use Rattle.array_model.specs.Order.{is_head as is_head_class, is_ordered as is_ordered_class, overlap, holds_back as holds_back_entry, last_head as last_head_place, may_run_in_order, picked_place, runnable_after, chosen_place, same_number as same_tag_number};
 ghost use Rattle.tag_queue.specs.Queue.{is_current as is_current_key, key_at as waiting_key, key_at_if, place_of, key_of as first_key_of, key_of_process as first_of_process, is_of as is_of_initiator};
 ghost use Rattle.tag_queue.specs.Stored.{queued_at, waiting_at, entries_at, held_back_by, AreKept, IsLive, lowered, lowered_by, first_of as first_key_of_those};
 
 use super::those::Those;
-use disk_array::{Class, Dev, Entry, Pick, ProcId, same_id};
+use array_model::{Class, Dev, Entry, Pick, ProcId, same_id};
 use slab::Slab;
 
 /// What a command is called by for as long as it is live.

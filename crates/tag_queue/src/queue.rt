@@ -1,6 +1,6 @@
 //! The queue of a logical unit (ANSI X3.131-1994, 6.6.17 and 7.8).
 ghost use Rattle.std.specs.Prelude.{◌≡◌, ◌+◌, ◌<◌, ◌==◌, not, nat_lt, ◌⊎◌, true, false, [], ◌∷◌, ◌++◌, length, Some, None, IfNone, IfSome, IfOk, OnOk, OnErr, slice_index_or};
-ghost use Rattle.disk_array.specs.Order.{chosen_place};
+ghost use Rattle.array_model.specs.Order.{chosen_place};
 ghost use Rattle.tag_queue.specs.Queue.{queued, empty_queue, queue_with, queue_started, queue_left, queue_without, queue_cleared_of, those_of, has_any as any_of, with_held, with_none_held, is_current as is_current_key, is_held, has_key, entry_at, without_key, waiting_of, entries_in, key_at_if, chosen_key, may_run_key, key_of as first_key_of, key_of_process as first_of_process};
 ghost use Rattle.tag_queue.specs.Stored.{AreOf};
 
@@ -9,8 +9,8 @@ use super::arrivals::{
     last_head, lower_later, place_standing, runnable_place,
 };
 use super::those::Those;
+use array_model::{Dev, Entry, Pick, ProcId};
 use bus_base::NoMemory;
-use disk_array::{Dev, Entry, Pick, ProcId};
 use slab::Slab;
 use std::alloc::Global;
 use std::marker::Model;

@@ -1,5 +1,5 @@
 //! Some of the commands of a queue.
-use disk_array::Dev;
+use array_model::Dev;
 
 /// Some of the commands of a queue.
 #[derive(Clone, Copy, Debug, PartialEq, Eq)]

@@ -12,32 +12,33 @@ use Rattle.scenario.specs.declared.value.Policy.{Policy}
 use Rattle.scenario.specs.declared.value.TargetDef.{TargetDef}
 use Rattle.msg_grammar.specs.declared.message.MsgIn.{MsgIn}
 use Rattle.bus_trace.specs.declared.agreements.Agreement.{Agreement}
-use Rattle.bus_due.specs.bus_dialogue.specs.declared.exchange.Arrival.{Arrival}
-use Rattle.bus_due.specs.bus_dialogue.specs.declared.exchange.Arrival.TheVariants as arrivals
-use Rattle.bus_due.specs.bus_dialogue.specs.declared.exchange.Cause.{Cause}
-use Rattle.bus_due.specs.bus_dialogue.specs.declared.exchange.Cause.TheVariants as causes
-use Rattle.bus_due.specs.bus_dialogue.specs.declared.exchange.Leaving.{Leaving}
-use Rattle.bus_due.specs.bus_dialogue.specs.declared.exchange.Next.{Next}
-use Rattle.bus_due.specs.bus_dialogue.specs.declared.exchange.Next.TheVariants as nexts
-use Rattle.bus_due.specs.bus_dialogue.specs.declared.exchange.Phase.{Phase}
-use Rattle.bus_due.specs.bus_dialogue.specs.declared.exchange.Phase.TheVariants as phases
-use Rattle.bus_due.specs.bus_dialogue.specs.declared.exchange.Plan.{Plan}
-use Rattle.bus_due.specs.bus_dialogue.specs.declared.exchange.Task.{Task}
-use Rattle.bus_due.specs.bus_dialogue.specs.Arrivals.{policy_of}
-use Rattle.bus_due.specs.bus_dialogue.specs.Words.{is_naming, request_by}
-use Rattle.bus_due.specs.bus_dialogue.specs.DataRuns.{run_length, run_byte}
-use Rattle.bus_due.specs.bus_dialogue.specs.NextPhase.{Serving, phase_of, leaving_by, bus_free, phase_entry}
-use Rattle.bus_due.specs.bus_dialogue.specs.NextPhase.{phase_lines, with_task, recovery, recovery_limit}
-use Rattle.bus_due.specs.bus_dialogue.specs.NextPhase.{request_or_command, after_offer, after_opening}
-use Rattle.bus_due.specs.bus_dialogue.specs.NextPhase.{message_out_leaving, message_repetition, pointer_restoration}
-use Rattle.bus_due.specs.bus_dialogue.specs.NextPhase.{next_data_phase, after_messages, after_arrival, after_run}
-use Rattle.bus_due.specs.bus_dialogue.specs.NextPhase.{phase_leaving, unless_attention, waits_seek}
-use Rattle.bus_due.specs.bus_dialogue.specs.PhaseBytes.{has_whole_block, status_byte, data_byte, run_length_if}
-use Rattle.bus_due.specs.bus_dialogue.specs.PhaseBytes.{phase_byte, follows_in, lines_by, one_if}
-use Rattle.bus_due.specs.bus_dialogue.specs.Ends.{seek_by, seek_before, follows_by, offering_by}
-use Rattle.bus_due.specs.bus_dialogue.specs.Events.{is_status_next, has_replied, newest_with, reply_events}
-use Rattle.bus_due.specs.bus_dialogue.specs.Events.{arrival_events, turn_events, turn_events_if, connection_end_events}
-use Rattle.bus_due.specs.bus_dialogue.specs.Events.{leaving_events}
+use Rattle.due_model.specs.dialogue_model.specs.declared.exchange.Arrival.{Arrival}
+use Rattle.due_model.specs.dialogue_model.specs.declared.exchange.Arrival.TheVariants as arrivals
+use Rattle.due_model.specs.dialogue_model.specs.declared.exchange.Cause.{Cause}
+use Rattle.due_model.specs.dialogue_model.specs.declared.exchange.Cause.TheVariants as causes
+use Rattle.due_model.specs.dialogue_model.specs.declared.exchange.Leaving.{Leaving}
+use Rattle.due_model.specs.dialogue_model.specs.declared.exchange.Next.{Next}
+use Rattle.due_model.specs.dialogue_model.specs.declared.exchange.Next.TheVariants as nexts
+use Rattle.due_model.specs.dialogue_model.specs.declared.exchange.Phase.{Phase}
+use Rattle.due_model.specs.dialogue_model.specs.declared.exchange.Phase.TheVariants as phases
+use Rattle.due_model.specs.dialogue_model.specs.declared.exchange.Plan.{Plan}
+use Rattle.due_model.specs.dialogue_model.specs.declared.exchange.Task.{Task}
+use Rattle.due_model.specs.dialogue_model.specs.Arrivals.{policy_of}
+use Rattle.due_model.specs.dialogue_model.specs.Words.{is_naming, request_by}
+use Rattle.due_model.specs.dialogue_model.specs.DataRuns.{run_length, run_byte}
+use Rattle.due_model.specs.dialogue_model.specs.NextPhase.{Serving, phase_of, leaving_by, bus_free, phase_entry}
+use Rattle.due_model.specs.dialogue_model.specs.NextPhase.{phase_lines, with_task, recovery, recovery_limit}
+use Rattle.due_model.specs.dialogue_model.specs.NextPhase.{request_or_command, after_offer, after_opening}
+use Rattle.due_model.specs.dialogue_model.specs.NextPhase.{message_out_leaving, message_repetition, pointer_restoration}
+use Rattle.due_model.specs.dialogue_model.specs.NextPhase.{next_data_phase, after_messages, after_arrival, after_run}
+use Rattle.due_model.specs.dialogue_model.specs.NextPhase.{phase_leaving, unless_attention, waits_seek}
+use Rattle.due_model.specs.dialogue_model.specs.PhaseBytes.{has_whole_block, status_byte, data_byte, run_length_if}
+use Rattle.due_model.specs.dialogue_model.specs.PhaseBytes.{phase_byte, follows_in, lines_by, one_if}
+use Rattle.due_model.specs.dialogue_model.specs.Ends.{seek_by, seek_before, follows_by, offering_by}
+use Rattle.due_model.specs.dialogue_model.specs.Events.{is_status_next, has_replied, newest_with, reply_events}
+use Rattle.due_model.specs.dialogue_model.specs.Events.{arrival_events, turn_events, turn_events_if}
+use Rattle.due_model.specs.dialogue_model.specs.Events.{connection_end_events}
+use Rattle.due_model.specs.dialogue_model.specs.Events.{leaving_events}
 use Rattle.target_units.specs.scsi_device.specs.Heard.{is_selected, is_opening_in, is_command_phase, moves_data}
 use Rattle.target_units.specs.scsi_device.specs.Heard.{gives_status, goes_on}
 use Rattle.target_units.specs.scsi_device.specs.Heard as heard

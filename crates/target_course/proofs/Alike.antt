@@ -4,16 +4,16 @@ use Rattle.std.specs.Prelude.{if◌then◌else◌, not, ◌&&◌, ◌||◌, nat_
 use Rattle.bus_trace.specs.Trace.{phase_time}
 use Rattle.bus_trace.specs.declared.delays.TheConstants.{BUS_SETTLE_DELAY, TURN_DELAY, SET_UP_TIME}
 use Rattle.bus_lines.specs.Handshakes.{Handshakes}
-use Rattle.bus_reactions.specs.Reactions.{due_at}
-use Rattle.bus_reactions.specs.declared.due.Myself.{Myself}
-use Rattle.bus_reactions.specs.declared.sight.Sight.{Sight}
-use Rattle.bus_reactions.specs.declared.ends.Pace.{Pace}
-use Rattle.bus_reactions.specs.declared.ends.Offering.{Offering}
-use Rattle.bus_reactions.specs.Target.{byte_bits, with_data_bits, req_assertion, first_byte, first_req, bits_if}
-use Rattle.bus_reactions.specs.Target.{req_negation, next_req, phase_end, target_turn, target_handshake, req_pulse_end}
-use Rattle.bus_reactions.specs.Target.{hold_end, byte_change, req_pulse, last_hold_end, pulsed_phase_end, pulse_turn}
-use Rattle.bus_reactions.specs.Target.{target_pulse}
-use Rattle.bus_reactions.specs.Ends as hand
+use Rattle.reaction_model.specs.Reactions.{due_at}
+use Rattle.reaction_model.specs.declared.due.Myself.{Myself}
+use Rattle.reaction_model.specs.declared.sight.Sight.{Sight}
+use Rattle.reaction_model.specs.declared.ends.Pace.{Pace}
+use Rattle.reaction_model.specs.declared.ends.Offering.{Offering}
+use Rattle.reaction_model.specs.Target.{byte_bits, with_data_bits, req_assertion, first_byte, first_req, bits_if}
+use Rattle.reaction_model.specs.Target.{req_negation, next_req, phase_end, target_turn, target_handshake, req_pulse_end}
+use Rattle.reaction_model.specs.Target.{hold_end, byte_change, req_pulse, last_hold_end, pulsed_phase_end, pulse_turn}
+use Rattle.reaction_model.specs.Target.{target_pulse}
+use Rattle.reaction_model.specs.Ends as hand
 use Rattle.target_course.specs.Alike.{AreAlike, is_driven}
 
 -- ---- where a byte is driven

@@ -20,39 +20,40 @@ use Rattle.scenario.specs.declared.value.Tag.TheVariants as tags
 use Rattle.scenario.specs.declared.value.TargetDef.{TargetDef}
 use Rattle.scenario.specs.Value.{ScenarioValue}
 use Rattle.bus_base.specs.declared.AbortKind.{AbortKind}
-use Rattle.disk_array.proofs.SoundArrays
-use Rattle.disk_array.specs.ArrayHistory.{reply_in}
-use Rattle.disk_array.specs.Execution.{Reply, is_request_sense}
-use Rattle.disk_array.specs.Order.{range_in}
-use Rattle.disk_array.specs.Processes.{Process}
-use Rattle.disk_array.specs.Steps.{running_process}
-use Rattle.disk_array.specs.Units.{Array}
-use Rattle.bus_due.specs.bus_story.specs.BusState.{RowReading, row_reading}
-use Rattle.bus_due.specs.bus_story.specs.HistoryEvents.{abort_line_at}
-use Rattle.bus_due.specs.bus_story.specs.Items.{Item, process, abort}
-use Rattle.bus_due.specs.bus_story.specs.Right.{same_bytes}
-use Rattle.bus_due.specs.bus_dialogue.specs.declared.exchange.Cause.{Cause}
-use Rattle.bus_due.specs.bus_dialogue.specs.declared.exchange.Cause.TheVariants as causes
-use Rattle.bus_due.specs.bus_dialogue.specs.declared.exchange.Next.{Next}
-use Rattle.bus_due.specs.bus_dialogue.specs.declared.exchange.Phase.{Phase}
-use Rattle.bus_due.specs.bus_dialogue.specs.declared.exchange.Phase.TheVariants as phases
-use Rattle.bus_due.specs.bus_dialogue.specs.declared.exchange.Plan.{Plan}
-use Rattle.bus_due.specs.bus_dialogue.specs.declared.exchange.Said.{Said}
-use Rattle.bus_due.specs.bus_dialogue.specs.declared.exchange.Task.{Task}
-use Rattle.bus_due.specs.bus_dialogue.specs.Arrivals.{arrival_by, policy_of}
-use Rattle.bus_due.specs.bus_dialogue.specs.NextPhase.{Serving, phase_of}
-use Rattle.bus_due.specs.bus_dialogue.specs.Ends.{follows_by}
-use Rattle.bus_due.specs.bus_dialogue.specs.PhaseBytes
-use Rattle.bus_due.specs.Defs.{target_def_of}
-use Rattle.bus_due.specs.Faithful.{is_unit, same_tag, is_kind, is_abort_named, is_item_named, is_opening_named}
-use Rattle.bus_due.specs.Faithful.{is_block_of_process, is_true_leaving}
-use Rattle.bus_due.specs.LastingState.{progress_in}
-use Rattle.bus_due.specs.Plain.{IsPlain}
-use Rattle.bus_due.specs.RunState.{RunState, array_of, bus_of, drives_of, process_item, process_served, carried_here}
-use Rattle.bus_due.specs.RunSteps.{run_state, is_for_process}
-use Rattle.bus_due.specs.Sights.{leaving, arrival_at, pace_of, serving_of}
-use Rattle.bus_due.specs.Tasks.{arrival_if, blocks_in, given_of, is_writing, moved_count, reply_now, status_by, task_if}
-use Rattle.bus_due.specs.Tasks.{task_of, task_with}
+use Rattle.array_model.proofs.SoundArrays
+use Rattle.array_model.specs.ArrayHistory.{reply_in}
+use Rattle.array_model.specs.Execution.{Reply, is_request_sense}
+use Rattle.array_model.specs.Order.{range_in}
+use Rattle.array_model.specs.Processes.{Process}
+use Rattle.array_model.specs.Steps.{running_process}
+use Rattle.array_model.specs.Units.{Array}
+use Rattle.due_model.specs.story_model.specs.BusState.{RowReading, row_reading}
+use Rattle.due_model.specs.story_model.specs.HistoryEvents.{abort_line_at}
+use Rattle.due_model.specs.story_model.specs.Items.{Item, process, abort}
+use Rattle.due_model.specs.story_model.specs.Right.{same_bytes}
+use Rattle.due_model.specs.dialogue_model.specs.declared.exchange.Cause.{Cause}
+use Rattle.due_model.specs.dialogue_model.specs.declared.exchange.Cause.TheVariants as causes
+use Rattle.due_model.specs.dialogue_model.specs.declared.exchange.Next.{Next}
+use Rattle.due_model.specs.dialogue_model.specs.declared.exchange.Phase.{Phase}
+use Rattle.due_model.specs.dialogue_model.specs.declared.exchange.Phase.TheVariants as phases
+use Rattle.due_model.specs.dialogue_model.specs.declared.exchange.Plan.{Plan}
+use Rattle.due_model.specs.dialogue_model.specs.declared.exchange.Said.{Said}
+use Rattle.due_model.specs.dialogue_model.specs.declared.exchange.Task.{Task}
+use Rattle.due_model.specs.dialogue_model.specs.Arrivals.{arrival_by, policy_of}
+use Rattle.due_model.specs.dialogue_model.specs.NextPhase.{Serving, phase_of}
+use Rattle.due_model.specs.dialogue_model.specs.Ends.{follows_by}
+use Rattle.due_model.specs.dialogue_model.specs.PhaseBytes
+use Rattle.due_model.specs.Defs.{target_def_of}
+use Rattle.due_model.specs.Faithful.{is_unit, same_tag, is_kind, is_abort_named, is_item_named, is_opening_named}
+use Rattle.due_model.specs.Faithful.{is_block_of_process, is_true_leaving}
+use Rattle.due_model.specs.LastingState.{progress_in}
+use Rattle.due_model.specs.Plain.{IsPlain}
+use Rattle.due_model.specs.RunState.{RunState, array_of, bus_of, drives_of, process_item, process_served, carried_here}
+use Rattle.due_model.specs.RunSteps.{run_state, is_for_process}
+use Rattle.due_model.specs.Sights.{leaving, arrival_at, pace_of, serving_of}
+use Rattle.due_model.specs.Tasks.{arrival_if, blocks_in, given_of, is_writing, moved_count, reply_now, status_by}
+use Rattle.due_model.specs.Tasks.{task_if}
+use Rattle.due_model.specs.Tasks.{task_of, task_with}
 use Rattle.target_units.specs.scsi_device.specs.Heard.{Instructions, instructions, is_block, is_carried}
 use Rattle.target_units.specs.scsi_device.specs.Heard.{is_command_phase, is_heard, is_heard_after, is_heard_in}
 use Rattle.target_units.specs.scsi_device.specs.Heard.{is_heard_process, is_heard_row, is_instructed, is_known_item}
@@ -67,7 +68,7 @@ use Rattle.target_course.specs.Courses.{IsStateOf, IsOutlookOf, AreToldOf}
 use Rattle.target_course.specs.declared.course.ProcessState.{ProcessState}
 use Rattle.bus_base.proofs.Tests.{or_second, implied, middle}
 use Rattle.target_units.specs.scsi_device.proofs.PhaseLines.{phase_is_command}
-use Rattle.bus_due.specs.bus_story.proofs.SameBytes.{bytes_are}
+use Rattle.due_model.specs.story_model.proofs.SameBytes.{bytes_are}
 
 pub either : (x y : Bool) → (x || y) ≡ true → (x ≡ true) ⊎ (y ≡ true)
 either true y e = inl refl

@@ -9,22 +9,22 @@ use Rattle.bus_trace.specs.Terms.{connection}
 use Rattle.scenario.specs.declared.value.Tag.{Tag}
 use Rattle.scenario.specs.declared.value.Tag.TheVariants as tags
 use Rattle.scenario.specs.Value.{ScenarioValue}
-use Rattle.disk_array.specs.Processes.{Process}
-use Rattle.disk_array.proofs.SeatLookups.{same_id_is}
-use Rattle.bus_due.specs.bus_story.specs.BusState.{RowReading, row_reading}
-use Rattle.bus_due.specs.bus_story.specs.Items.{Item, process, abort}
-use Rattle.bus_due.specs.bus_story.specs.TraceHistory.{aim_of}
-use Rattle.bus_due.specs.bus_dialogue.specs.Wants.{Ready}
-use Rattle.bus_due.specs.bus_dialogue.specs.Words.{naming_messages}
-use Rattle.bus_due.specs.bus_dialogue.specs.Planning.{first_plan}
-use Rattle.bus_due.specs.Faithful.{faithful, is_faithful, is_true_beginning, has_ends, same_process}
-use Rattle.bus_due.specs.LastingState.{has_negotiated}
-use Rattle.bus_due.specs.Plain.{IsPlain}
-use Rattle.bus_due.specs.RunState.{RunState, item_of, process_item, process_served}
-use Rattle.bus_due.specs.RunSteps.{run_state, served_after, is_for_process, item_if, may_negotiate, naming_of}
-use Rattle.bus_due.specs.RunSteps.{messages_if}
-use Rattle.bus_due.specs.Sights.{hearing_of}
-use Rattle.bus_due.specs.Wants.{ready_of}
+use Rattle.array_model.specs.Processes.{Process}
+use Rattle.array_model.proofs.SeatLookups.{same_id_is}
+use Rattle.due_model.specs.story_model.specs.BusState.{RowReading, row_reading}
+use Rattle.due_model.specs.story_model.specs.Items.{Item, process, abort}
+use Rattle.due_model.specs.story_model.specs.TraceHistory.{aim_of}
+use Rattle.due_model.specs.dialogue_model.specs.Wants.{Ready}
+use Rattle.due_model.specs.dialogue_model.specs.Words.{naming_messages}
+use Rattle.due_model.specs.dialogue_model.specs.Planning.{first_plan}
+use Rattle.due_model.specs.Faithful.{faithful, is_faithful, is_true_beginning, has_ends, same_process}
+use Rattle.due_model.specs.LastingState.{has_negotiated}
+use Rattle.due_model.specs.Plain.{IsPlain}
+use Rattle.due_model.specs.RunState.{RunState, item_of, process_item, process_served}
+use Rattle.due_model.specs.RunSteps.{run_state, served_after, is_for_process, item_if, may_negotiate, naming_of}
+use Rattle.due_model.specs.RunSteps.{messages_if}
+use Rattle.due_model.specs.Sights.{hearing_of}
+use Rattle.due_model.specs.Wants.{ready_of}
 use Rattle.target_units.specs.scsi_device.specs.Heard.{Instructions, no_instructions, instructions, instructions_after}
 use Rattle.target_units.specs.scsi_device.specs.Heard.{is_of_scenario}
 use Rattle.target_course.specs.declared.course.Name.{Name}

@@ -12,28 +12,28 @@ use Rattle.bus_trace.specs.Terms.{connection}
 use Rattle.bus_trace.specs.Trace.{bus, drives}
 use Rattle.bus_lines.specs.Handshakes.{handshakes}
 use Rattle.scenario.specs.declared.value.TargetDef.{TargetDef}
-use Rattle.disk_array.specs.Processes.{command_at, process_if, process_of}
-use Rattle.disk_array.proofs.SeatLookups.{none_at}
-use Rattle.bus_due.specs.bus_story.specs.Items.{Item, process, abort}
-use Rattle.bus_due.specs.bus_dialogue.specs.Events.{leaving_events}
-use Rattle.bus_due.specs.bus_dialogue.specs.Wants.{Ready}
-use Rattle.bus_due.specs.Faithful.{faithful, same_process}
-use Rattle.bus_due.specs.LastingState.{has_negotiated}
-use Rattle.bus_due.specs.Telling.{id_of, target_events}
-use Rattle.bus_due.specs.Wants.{ready_of}
+use Rattle.array_model.specs.Processes.{command_at, process_if, process_of}
+use Rattle.array_model.proofs.SeatLookups.{none_at}
+use Rattle.due_model.specs.story_model.specs.Items.{Item, process, abort}
+use Rattle.due_model.specs.dialogue_model.specs.Events.{leaving_events}
+use Rattle.due_model.specs.dialogue_model.specs.Wants.{Ready}
+use Rattle.due_model.specs.Faithful.{faithful, same_process}
+use Rattle.due_model.specs.LastingState.{has_negotiated}
+use Rattle.due_model.specs.Telling.{id_of, target_events}
+use Rattle.due_model.specs.Wants.{ready_of}
 use Rattle.target_course.specs.declared.course.Name.{Name}
 use Rattle.scenario.specs.Value.{ScenarioValue}
-use Rattle.bus_due.specs.bus_story.specs.BusState.{RowReading, row_reading}
-use Rattle.bus_due.specs.bus_dialogue.specs.declared.exchange.Leaving.{Leaving}
-use Rattle.bus_due.specs.bus_dialogue.specs.Hearing.{begun, hearing}
-use Rattle.bus_due.specs.bus_dialogue.specs.NextPhase.{Serving, leaving_by, phase_of}
-use Rattle.bus_due.specs.bus_dialogue.specs.Ends.{follows_by, is_pulsed_phase, offering_by}
-use Rattle.bus_due.specs.Defs.{target_def_of}
-use Rattle.bus_due.specs.Plain.{IsPlain}
-use Rattle.bus_due.specs.RunState.{RunState, bus_of, agreement_of, drives_of, item_of}
-use Rattle.bus_due.specs.RunSteps.{run_state}
-use Rattle.bus_due.specs.Sights.{hearing_of, pace_of, serving_of}
-use Rattle.bus_due.specs.Tasks.{given_of}
+use Rattle.due_model.specs.story_model.specs.BusState.{RowReading, row_reading}
+use Rattle.due_model.specs.dialogue_model.specs.declared.exchange.Leaving.{Leaving}
+use Rattle.due_model.specs.dialogue_model.specs.Hearing.{begun, hearing}
+use Rattle.due_model.specs.dialogue_model.specs.NextPhase.{Serving, leaving_by, phase_of}
+use Rattle.due_model.specs.dialogue_model.specs.Ends.{follows_by, is_pulsed_phase, offering_by}
+use Rattle.due_model.specs.Defs.{target_def_of}
+use Rattle.due_model.specs.Plain.{IsPlain}
+use Rattle.due_model.specs.RunState.{RunState, bus_of, agreement_of, drives_of, item_of}
+use Rattle.due_model.specs.RunSteps.{run_state}
+use Rattle.due_model.specs.Sights.{hearing_of, pace_of, serving_of}
+use Rattle.due_model.specs.Tasks.{given_of}
 use Rattle.bus_phases.specs.Dialogue.{dialogue}
 use Rattle.target_units.specs.scsi_device.specs.Heard.{instructions, heard, is_message, is_of_scenario, is_true_turn}
 use Rattle.target_units.specs.scsi_device.specs.Heard.{is_heard_after, may_leave}

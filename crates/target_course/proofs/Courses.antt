@@ -10,18 +10,19 @@ use Rattle.bus_trace.specs.declared.connection.Connection.{Connection}
 use Rattle.bus_trace.specs.Phases.{is_command, is_message_out, changes_phase}
 use Rattle.bus_trace.specs.Terms.{connection}
 use Rattle.scenario.specs.Value.{ScenarioValue}
-use Rattle.disk_array.specs.Processes.{Process}
-use Rattle.bus_due.specs.bus_story.specs.BusState.{RowReading, row_reading}
-use Rattle.bus_due.specs.bus_dialogue.specs.declared.exchange.Hearing.{Hearing}
-use Rattle.bus_due.specs.bus_dialogue.specs.declared.exchange.Leaving.{Leaving}
-use Rattle.bus_due.specs.bus_dialogue.specs.declared.exchange.Plan.{Plan}
-use Rattle.bus_due.specs.bus_dialogue.specs.Hearing.{hearing}
-use Rattle.bus_due.specs.bus_dialogue.specs.Planning.{plan_after, plan_with_byte, plan_in_message_out, plan_in_phase}
-use Rattle.bus_due.specs.bus_dialogue.specs.Exchange.{plan_anew, plan_after_message, struck_plan}
-use Rattle.bus_due.specs.Plain.{IsPlain}
-use Rattle.bus_due.specs.RunState.{RunState, process_item, process_served}
-use Rattle.bus_due.specs.RunSteps.{run_state, served_after, is_for_process}
-use Rattle.bus_due.specs.Sights.{hearing_of}
+use Rattle.array_model.specs.Processes.{Process}
+use Rattle.due_model.specs.story_model.specs.BusState.{RowReading, row_reading}
+use Rattle.due_model.specs.dialogue_model.specs.declared.exchange.Hearing.{Hearing}
+use Rattle.due_model.specs.dialogue_model.specs.declared.exchange.Leaving.{Leaving}
+use Rattle.due_model.specs.dialogue_model.specs.declared.exchange.Plan.{Plan}
+use Rattle.due_model.specs.dialogue_model.specs.Hearing.{hearing}
+use Rattle.due_model.specs.dialogue_model.specs.Planning.{plan_after, plan_with_byte, plan_in_message_out}
+use Rattle.due_model.specs.dialogue_model.specs.Planning.{plan_in_phase}
+use Rattle.due_model.specs.dialogue_model.specs.Exchange.{plan_anew, plan_after_message, struck_plan}
+use Rattle.due_model.specs.Plain.{IsPlain}
+use Rattle.due_model.specs.RunState.{RunState, process_item, process_served}
+use Rattle.due_model.specs.RunSteps.{run_state, served_after, is_for_process}
+use Rattle.due_model.specs.Sights.{hearing_of}
 use Rattle.target_units.specs.scsi_device.specs.Heard.{Instructions, instructions, instructions_after, instructions_on}
 use Rattle.target_units.specs.scsi_device.specs.Heard.{instructions_with, leaves_opening, leaves_command, block_after}
 use Rattle.target_course.specs.Plans.{plan_at, leaving_after}

@@ -9,31 +9,34 @@ use Rattle.msg_grammar.specs.declared.message.MsgIn.TheVariants as to_initiator
 use Rattle.scenario.specs.declared.value.TargetDef.{TargetDef}
 use Rattle.scenario.specs.declared.value.Policy.{Policy}
 use Rattle.scenario.specs.declared.value.Policy.TheVariants as policies
-use Rattle.bus_due.specs.bus_dialogue.specs.declared.exchange.Cause.{Cause}
-use Rattle.bus_due.specs.bus_dialogue.specs.declared.exchange.Cause.TheVariants as causes
-use Rattle.bus_due.specs.bus_dialogue.specs.declared.exchange.Next.{Next}
-use Rattle.bus_due.specs.bus_dialogue.specs.declared.exchange.Next.TheVariants as nexts
-use Rattle.bus_due.specs.bus_dialogue.specs.declared.exchange.Phase.{Phase}
-use Rattle.bus_due.specs.bus_dialogue.specs.declared.exchange.Phase.TheVariants as phases
-use Rattle.bus_due.specs.bus_dialogue.specs.declared.exchange.Arrival.{Arrival}
-use Rattle.bus_due.specs.bus_dialogue.specs.declared.exchange.Arrival.TheVariants as arrivals
-use Rattle.bus_due.specs.bus_dialogue.specs.declared.exchange.Leaving.{Leaving}
-use Rattle.bus_due.specs.bus_dialogue.specs.declared.exchange.Task.{Task}
-use Rattle.bus_due.specs.bus_dialogue.specs.declared.exchange.Plan.{Plan}
-use Rattle.bus_due.specs.bus_dialogue.specs.declared.exchange.Hearing.{Hearing}
-use Rattle.bus_due.specs.bus_dialogue.specs.Exchange.{one_message, plan_anew, plan_anew_if, plan_after_message}
-use Rattle.bus_due.specs.bus_dialogue.specs.Exchange.{struck_plan, from_byte, message_bytes}
-use Rattle.bus_due.specs.bus_dialogue.specs.Planning.{plan_in_message_out, plan_in_phase, plan_with_byte, plan_after}
-use Rattle.bus_due.specs.bus_dialogue.specs.Words.{target_answer, reply_to, request_by, is_naming}
-use Rattle.bus_due.specs.bus_dialogue.specs.Arrivals.{policy_of}
-use Rattle.bus_due.specs.bus_dialogue.specs.DataRuns.{runs_in_all}
-use Rattle.bus_due.specs.bus_dialogue.specs.NextPhase.{Serving, phase_of, bus_free, phase_entry, with_task, recovery}
-use Rattle.bus_due.specs.bus_dialogue.specs.NextPhase.{recovery_limit, pointer_restoration, next_data_phase}
-use Rattle.bus_due.specs.bus_dialogue.specs.NextPhase.{request_or_command, after_offer, message_repetition}
-use Rattle.bus_due.specs.bus_dialogue.specs.NextPhase.{after_refusal, message_out_leaving, after_messages}
-use Rattle.bus_due.specs.bus_dialogue.specs.NextPhase.{disconnection, after_arrival, command_leaving}
-use Rattle.bus_due.specs.bus_dialogue.specs.NextPhase.{disconnect_messages, after_run, data_in_leaving}
-use Rattle.bus_due.specs.bus_dialogue.specs.NextPhase.{data_out_leaving, unless_attention, phase_leaving, leaving_by}
+use Rattle.due_model.specs.dialogue_model.specs.declared.exchange.Cause.{Cause}
+use Rattle.due_model.specs.dialogue_model.specs.declared.exchange.Cause.TheVariants as causes
+use Rattle.due_model.specs.dialogue_model.specs.declared.exchange.Next.{Next}
+use Rattle.due_model.specs.dialogue_model.specs.declared.exchange.Next.TheVariants as nexts
+use Rattle.due_model.specs.dialogue_model.specs.declared.exchange.Phase.{Phase}
+use Rattle.due_model.specs.dialogue_model.specs.declared.exchange.Phase.TheVariants as phases
+use Rattle.due_model.specs.dialogue_model.specs.declared.exchange.Arrival.{Arrival}
+use Rattle.due_model.specs.dialogue_model.specs.declared.exchange.Arrival.TheVariants as arrivals
+use Rattle.due_model.specs.dialogue_model.specs.declared.exchange.Leaving.{Leaving}
+use Rattle.due_model.specs.dialogue_model.specs.declared.exchange.Task.{Task}
+use Rattle.due_model.specs.dialogue_model.specs.declared.exchange.Plan.{Plan}
+use Rattle.due_model.specs.dialogue_model.specs.declared.exchange.Hearing.{Hearing}
+use Rattle.due_model.specs.dialogue_model.specs.Exchange.{one_message, plan_anew, plan_anew_if, plan_after_message}
+use Rattle.due_model.specs.dialogue_model.specs.Exchange.{struck_plan, from_byte, message_bytes}
+use Rattle.due_model.specs.dialogue_model.specs.Planning.{plan_in_message_out, plan_in_phase, plan_with_byte}
+use Rattle.due_model.specs.dialogue_model.specs.Planning.{plan_after}
+use Rattle.due_model.specs.dialogue_model.specs.Words.{target_answer, reply_to, request_by, is_naming}
+use Rattle.due_model.specs.dialogue_model.specs.Arrivals.{policy_of}
+use Rattle.due_model.specs.dialogue_model.specs.DataRuns.{runs_in_all}
+use Rattle.due_model.specs.dialogue_model.specs.NextPhase.{Serving, phase_of, bus_free, phase_entry, with_task}
+use Rattle.due_model.specs.dialogue_model.specs.NextPhase.{recovery}
+use Rattle.due_model.specs.dialogue_model.specs.NextPhase.{recovery_limit, pointer_restoration, next_data_phase}
+use Rattle.due_model.specs.dialogue_model.specs.NextPhase.{request_or_command, after_offer, message_repetition}
+use Rattle.due_model.specs.dialogue_model.specs.NextPhase.{after_refusal, message_out_leaving, after_messages}
+use Rattle.due_model.specs.dialogue_model.specs.NextPhase.{disconnection, after_arrival, command_leaving}
+use Rattle.due_model.specs.dialogue_model.specs.NextPhase.{disconnect_messages, after_run, data_in_leaving}
+use Rattle.due_model.specs.dialogue_model.specs.NextPhase.{data_out_leaving, unless_attention, phase_leaving}
+use Rattle.due_model.specs.dialogue_model.specs.NextPhase.{leaving_by}
 use Rattle.target_course.specs.Fits.{FitsIf, AreFit}
 
 -- Either of two.

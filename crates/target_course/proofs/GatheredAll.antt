@@ -15,25 +15,25 @@ use Rattle.cdb_codec.specs.Cdb.{command_of}
 use Rattle.scenario.specs.Lookups.{unit_of}
 use Rattle.scenario.specs.Value.{ScenarioValue}
 use Rattle.scenario.specs.declared.value.CmdDef.{CmdDef}
-use Rattle.disk_array.specs.Order.{range_in}
-use Rattle.disk_array.specs.Processes.{Process, command_at, process_of}
-use Rattle.disk_array.specs.Units.{unit_state_at}
-use Rattle.bus_due.specs.bus_story.specs.BusState.{RowReading, row_reading}
-use Rattle.bus_due.specs.bus_story.specs.Items.{Item, process, abort}
-use Rattle.bus_due.specs.bus_dialogue.specs.Arrivals.{policy_of}
-use Rattle.bus_due.specs.bus_dialogue.specs.DataRuns.{run_in}
-use Rattle.bus_due.specs.bus_dialogue.specs.Hearing.{hearing}
-use Rattle.bus_due.specs.bus_dialogue.specs.NextPhase.{phase_of}
-use Rattle.bus_due.specs.bus_dialogue.specs.declared.exchange.Hearing.{Hearing}
-use Rattle.bus_due.specs.Defs.{target_def_of}
-use Rattle.bus_due.specs.Faithful.{has_ends, faithful, is_faithful}
-use Rattle.bus_due.specs.LastingState.{progress_in}
-use Rattle.bus_due.specs.Plain.{IsPlain, AreOfDevices}
-use Rattle.bus_due.specs.RunState.{RunState, array_of, bus_of, process_item, process_served}
-use Rattle.bus_due.specs.RunSteps.{run_state, leaving_of}
-use Rattle.bus_due.specs.Sights.{hearing_of}
-use Rattle.bus_due.specs.Tasks.{blocks_in, size_of, task_if, task_of}
-use Rattle.bus_due.specs.Telling.{id_of}
+use Rattle.array_model.specs.Order.{range_in}
+use Rattle.array_model.specs.Processes.{Process, command_at, process_of}
+use Rattle.array_model.specs.Units.{unit_state_at}
+use Rattle.due_model.specs.story_model.specs.BusState.{RowReading, row_reading}
+use Rattle.due_model.specs.story_model.specs.Items.{Item, process, abort}
+use Rattle.due_model.specs.dialogue_model.specs.Arrivals.{policy_of}
+use Rattle.due_model.specs.dialogue_model.specs.DataRuns.{run_in}
+use Rattle.due_model.specs.dialogue_model.specs.Hearing.{hearing}
+use Rattle.due_model.specs.dialogue_model.specs.NextPhase.{phase_of}
+use Rattle.due_model.specs.dialogue_model.specs.declared.exchange.Hearing.{Hearing}
+use Rattle.due_model.specs.Defs.{target_def_of}
+use Rattle.due_model.specs.Faithful.{has_ends, faithful, is_faithful}
+use Rattle.due_model.specs.LastingState.{progress_in}
+use Rattle.due_model.specs.Plain.{IsPlain, AreOfDevices}
+use Rattle.due_model.specs.RunState.{RunState, array_of, bus_of, process_item, process_served}
+use Rattle.due_model.specs.RunSteps.{run_state, leaving_of}
+use Rattle.due_model.specs.Sights.{hearing_of}
+use Rattle.due_model.specs.Tasks.{blocks_in, size_of, task_if, task_of}
+use Rattle.due_model.specs.Telling.{id_of}
 use Rattle.target_units.specs.scsi_device.specs.Lines.{IsCommandLine}
 use Rattle.target_units.specs.scsi_device.specs.Writes.{writer_of, is_data_out, brings_byte, writers_with, writers}
 use Rattle.target_units.specs.scsi_device.specs.Writes.{block_size, is_of_size, is_next_byte, is_written_byte}
@@ -51,8 +51,8 @@ use Rattle.target_course.proofs.ProgressRows.{named_so}
 use Rattle.target_course.proofs.ServedEnds.{ends_are}
 use Rattle.bus_base.proofs.Tests.{wrong}
 use Rattle.target_course.proofs.GatheredRows.{same_target}
-use Rattle.disk_array.proofs.SoundArrays.{id_is}
-use Rattle.disk_array.proofs.SeatReplies.{id_self}
+use Rattle.array_model.proofs.SoundArrays.{id_is}
+use Rattle.array_model.proofs.SeatReplies.{id_self}
 
 served_id : (s : ScenarioValue) (served : Option Item) (p : Process) → process_item s served ≡ Some p
     → id_of served ≡ Some p.id

@@ -17,31 +17,32 @@ use Rattle.bus_trace.specs.declared.connection.Connection.{Connection}
 use Rattle.bus_trace.specs.declared.rows.Kind.{Kind}
 use Rattle.bus_trace.specs.declared.rows.Kind.TheVariants.{Drives, Fault}
 use Rattle.bus_trace.proofs.Sets.{same_self}
-use Rattle.bus_lines.specs.Handshakes.{Handshakes, no_handshakes, handshakes_after, answered_if, asked_if, strikes_if}
+use Rattle.bus_lines.specs.Handshakes.{Handshakes, no_handshakes, handshakes_after, answered_if, asked_if}
+use Rattle.bus_lines.specs.Handshakes.{newest_struck_if}
 use Rattle.cdb_codec.specs.Cdb.{command_of}
 use Rattle.scenario.specs.Lookups.{unit_of}
 use Rattle.scenario.specs.Value.{ScenarioValue}
-use Rattle.disk_array.specs.ArrayHistory as Play
-use Rattle.disk_array.specs.Order.{range_in}
-use Rattle.disk_array.specs.Processes.{Process, process_of, same_id}
-use Rattle.disk_array.specs.Units.{unit_state_at}
-use Rattle.bus_due.specs.bus_story.specs.BusState.{RowReading, row_reading}
-use Rattle.bus_due.specs.bus_dialogue.specs.Arrivals.{policy_of}
-use Rattle.bus_due.specs.bus_dialogue.specs.DataRuns.{run_in, run_length}
-use Rattle.bus_due.specs.bus_dialogue.specs.NextPhase.{phase_of}
-use Rattle.bus_due.specs.bus_dialogue.specs.PhaseBytes.{one_if}
-use Rattle.bus_due.specs.bus_dialogue.specs.declared.exchange.Hearing.{Hearing}
-use Rattle.bus_due.specs.bus_dialogue.specs.declared.exchange.Phase.TheVariants as phases
-use Rattle.bus_due.specs.bus_dialogue.specs.declared.exchange.Task.{Task}
-use Rattle.bus_due.specs.Defs.{target_def_of}
-use Rattle.bus_due.specs.Faithful.{has_ends}
-use Rattle.bus_due.specs.LastingState.{ProcessProgress, progress_in, progress_with}
-use Rattle.bus_due.specs.Plain.{IsPlain}
-use Rattle.bus_due.specs.RunState.{RunState, array_of, bus_of, carried_here, process_item, process_served}
-use Rattle.bus_due.specs.RunSteps.{run_state, progress_by_leaving, progress_after, served_after, exchange_after}
-use Rattle.bus_due.specs.RunSteps.{leaving_of}
-use Rattle.bus_due.specs.Sights.{hearing_of, leaving}
-use Rattle.bus_due.specs.Tasks.{blocks_in, reply_now, size_of, task_with, task_if, task_of}
+use Rattle.array_model.specs.ArrayHistory as Play
+use Rattle.array_model.specs.Order.{range_in}
+use Rattle.array_model.specs.Processes.{Process, process_of, same_id}
+use Rattle.array_model.specs.Units.{unit_state_at}
+use Rattle.due_model.specs.story_model.specs.BusState.{RowReading, row_reading}
+use Rattle.due_model.specs.dialogue_model.specs.Arrivals.{policy_of}
+use Rattle.due_model.specs.dialogue_model.specs.DataRuns.{run_in, run_length}
+use Rattle.due_model.specs.dialogue_model.specs.NextPhase.{phase_of}
+use Rattle.due_model.specs.dialogue_model.specs.PhaseBytes.{one_if}
+use Rattle.due_model.specs.dialogue_model.specs.declared.exchange.Hearing.{Hearing}
+use Rattle.due_model.specs.dialogue_model.specs.declared.exchange.Phase.TheVariants as phases
+use Rattle.due_model.specs.dialogue_model.specs.declared.exchange.Task.{Task}
+use Rattle.due_model.specs.Defs.{target_def_of}
+use Rattle.due_model.specs.Faithful.{has_ends}
+use Rattle.due_model.specs.LastingState.{ProcessProgress, progress_in, progress_with}
+use Rattle.due_model.specs.Plain.{IsPlain}
+use Rattle.due_model.specs.RunState.{RunState, array_of, bus_of, carried_here, process_item, process_served}
+use Rattle.due_model.specs.RunSteps.{run_state, progress_by_leaving, progress_after, served_after, exchange_after}
+use Rattle.due_model.specs.RunSteps.{leaving_of}
+use Rattle.due_model.specs.Sights.{hearing_of, leaving}
+use Rattle.due_model.specs.Tasks.{blocks_in, reply_now, size_of, task_with, task_if, task_of}
 use Rattle.target_units.specs.scsi_device.specs.Writes.{writer_of, is_data_out, brings_byte, writers_with, writers}
 use Rattle.target_units.specs.scsi_device.specs.Writes.{block_size, is_of_size, is_writer, is_whole_run, is_written_run}
 use Rattle.target_units.specs.scsi_device.specs.Writes.{is_written_byte, ends_run, is_written_in, is_written_on}
@@ -51,11 +52,11 @@ use Rattle.target_course.proofs.GatheredSteps.{AreByteGathered, data_out_is}
 use Rattle.target_course.proofs.GatheredWhole.{next_start}
 use Rattle.target_course.proofs.HeardOpenings.{phase_same}
 use Rattle.target_course.proofs.ProgressRows.{entry_with, named_so, plus_none}
-use Rattle.bus_due.proofs.Lookups.{other_kept}
+use Rattle.due_model.proofs.Lookups.{other_kept}
 use Rattle.target_course.proofs.ServedEnds.{connection_stays}
 use Rattle.bus_base.proofs.Tests.{wrong}
-use Rattle.disk_array.proofs.SeatLookups.{same_id_is}
-use Rattle.disk_array.proofs.SeatReplies.{id_self}
+use Rattle.array_model.proofs.SeatLookups.{same_id_is}
+use Rattle.array_model.proofs.SeatReplies.{id_self}
 use Rattle.target_units.specs.scsi_device.proofs.PhaseLines.{no_input}
 
 come_less : (v : GatheredValue) (p : Process) (a b : ℕ) → a ≤ b → HasCome v p b → HasCome v p a
@@ -133,8 +134,8 @@ answers_on true n c time h b e crosses = same c.before.io
     either true l = refl
     either false l = lt-ltb 0 h.answers l
 
-    same : (q : Bool) → ((strikes_if q h).answers ≤ h.answers + one_if b)
-        × (0 < (strikes_if q h).answers → (b || nat_lt 0 h.answers) ≡ true)
+    same : (q : Bool) → ((newest_struck_if q h).answers ≤ h.answers + one_if b)
+        × (0 < (newest_struck_if q h).answers → (b || nat_lt 0 h.answers) ≡ true)
     same true = (omega arith, λ l. either b l)
     same false = (omega arith, λ l. either b l)
 answers_on false n c time h b e crosses = subst (λ (z : Bool). ((if z then no_handshakes

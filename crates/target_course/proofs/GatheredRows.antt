@@ -16,28 +16,28 @@ use Rattle.bus_trace.specs.declared.connection.Connection.{Connection}
 use Rattle.scenario.specs.Needs.{sent_of}
 use Rattle.scenario.specs.Value.{ScenarioValue}
 use Rattle.scenario.specs.declared.value.CmdDef.{CmdDef}
-use Rattle.disk_array.specs.ArrayHistory as Play
-use Rattle.disk_array.specs.Processes.{Process, process_of}
-use Rattle.bus_due.specs.bus_story.specs.BusState.{RowReading, row_reading}
-use Rattle.bus_due.specs.bus_story.specs.Items.{Item, process, abort}
-use Rattle.bus_due.specs.bus_dialogue.specs.Arrivals.{policy_of}
-use Rattle.bus_due.specs.bus_dialogue.specs.DataRuns.{run_at}
-use Rattle.bus_due.specs.bus_dialogue.specs.Hearing.{hearing}
-use Rattle.bus_due.specs.bus_dialogue.specs.NextPhase.{phase_of}
-use Rattle.bus_due.specs.bus_dialogue.specs.declared.exchange.Hearing.{Hearing}
-use Rattle.bus_due.specs.bus_dialogue.specs.declared.exchange.Phase.{Phase}
-use Rattle.bus_due.specs.bus_dialogue.specs.declared.exchange.Phase.TheVariants as phases
-use Rattle.bus_due.specs.bus_dialogue.specs.declared.exchange.Task.{Task}
-use Rattle.bus_due.specs.Defs.{target_def_of}
-use Rattle.bus_due.specs.Faithful.{has_ends, is_sent_at, is_true_beginning, is_true_crossing, is_true_hearing}
-use Rattle.bus_due.specs.Faithful.{is_known_process, is_true_leaving, is_faithful, faithful}
-use Rattle.bus_due.specs.Plain.{IsPlain, AreOfDevices}
-use Rattle.bus_due.specs.RunState.{RunState, array_of, bus_of, carried_here, process_item, process_served}
-use Rattle.bus_due.specs.LastingState.{progress_in}
-use Rattle.bus_due.specs.RunSteps.{run_state}
-use Rattle.bus_due.specs.Sights.{hearing_of}
-use Rattle.bus_due.specs.Tasks.{reply_now, task_with, task_if, task_of}
-use Rattle.bus_due.specs.Telling.{id_of}
+use Rattle.array_model.specs.ArrayHistory as Play
+use Rattle.array_model.specs.Processes.{Process, process_of}
+use Rattle.due_model.specs.story_model.specs.BusState.{RowReading, row_reading}
+use Rattle.due_model.specs.story_model.specs.Items.{Item, process, abort}
+use Rattle.due_model.specs.dialogue_model.specs.Arrivals.{policy_of}
+use Rattle.due_model.specs.dialogue_model.specs.DataRuns.{run_at}
+use Rattle.due_model.specs.dialogue_model.specs.Hearing.{hearing}
+use Rattle.due_model.specs.dialogue_model.specs.NextPhase.{phase_of}
+use Rattle.due_model.specs.dialogue_model.specs.declared.exchange.Hearing.{Hearing}
+use Rattle.due_model.specs.dialogue_model.specs.declared.exchange.Phase.{Phase}
+use Rattle.due_model.specs.dialogue_model.specs.declared.exchange.Phase.TheVariants as phases
+use Rattle.due_model.specs.dialogue_model.specs.declared.exchange.Task.{Task}
+use Rattle.due_model.specs.Defs.{target_def_of}
+use Rattle.due_model.specs.Faithful.{has_ends, is_sent_at, is_true_beginning, is_true_crossing, is_true_hearing}
+use Rattle.due_model.specs.Faithful.{is_known_process, is_true_leaving, is_faithful, faithful}
+use Rattle.due_model.specs.Plain.{IsPlain, AreOfDevices}
+use Rattle.due_model.specs.RunState.{RunState, array_of, bus_of, carried_here, process_item, process_served}
+use Rattle.due_model.specs.LastingState.{progress_in}
+use Rattle.due_model.specs.RunSteps.{run_state}
+use Rattle.due_model.specs.Sights.{hearing_of}
+use Rattle.due_model.specs.Tasks.{reply_now, task_with, task_if, task_of}
+use Rattle.due_model.specs.Telling.{id_of}
 use Rattle.target_units.specs.scsi_device.specs.Writes.{is_data_out, brings_byte}
 use Rattle.target_course.specs.Gathered.{Gathering, empty_gathering, gathering_of, gathering_with, bytes_of}
 use Rattle.target_course.specs.Gathered.{GatheredValue, gathering_at, gathered_with, most_room, unit_room, empty_unit}
@@ -45,7 +45,7 @@ use Rattle.target_course.specs.Gathered.{nothing_gathered, gathered_seen, place_
 use Rattle.target_course.specs.Gathered.{IsSentSo}
 use Rattle.target_units.specs.Seated.{is_same_process}
 use Rattle.target_course.proofs.ServedEnds.{ends_are}
-use Rattle.disk_array.proofs.SeatLookups.{same_id_is}
+use Rattle.array_model.proofs.SeatLookups.{same_id_is}
 
 -- ---- a buffer
 

@@ -10,13 +10,13 @@ use Rattle.bus_base.specs.declared.ProcId.{ProcId}
 use Rattle.bus_trace.specs.declared.Row.{Row}
 use Rattle.bus_trace.specs.declared.connection.Connection.{Connection}
 use Rattle.scenario.specs.Value.{ScenarioValue}
-use Rattle.disk_array.specs.Processes.{Process, process_of}
-use Rattle.bus_due.specs.bus_dialogue.specs.PhaseBytes.{one_if}
-use Rattle.bus_due.specs.bus_dialogue.specs.declared.exchange.Phase.{Phase}
-use Rattle.bus_due.specs.bus_dialogue.specs.declared.exchange.Phase.TheVariants as phases
-use Rattle.bus_due.specs.LastingState.{progress_in}
-use Rattle.bus_due.specs.RunState.{RunState}
-use Rattle.bus_due.specs.RunSteps.{run_state}
+use Rattle.array_model.specs.Processes.{Process, process_of}
+use Rattle.due_model.specs.dialogue_model.specs.PhaseBytes.{one_if}
+use Rattle.due_model.specs.dialogue_model.specs.declared.exchange.Phase.{Phase}
+use Rattle.due_model.specs.dialogue_model.specs.declared.exchange.Phase.TheVariants as phases
+use Rattle.due_model.specs.LastingState.{progress_in}
+use Rattle.due_model.specs.RunState.{RunState}
+use Rattle.due_model.specs.RunSteps.{run_state}
 use Rattle.target_units.specs.scsi_device.specs.Writes.{Writer, writer_of, is_data_out, writers_with, writers}
 use Rattle.target_units.specs.scsi_device.specs.Writes.{is_writer, is_next_byte, start_of_run}
 use Rattle.target_course.specs.Gathered.{Gathering, empty_gathering, gathering_of, gathering_with, GatheredValue}
@@ -25,8 +25,8 @@ use Rattle.target_course.specs.Gathered.{AreAllGathered}
 use Rattle.target_units.specs.Seated.{is_same_process}
 use Rattle.target_course.proofs.GatheredRows.{own_so, unit_put}
 use Rattle.target_course.proofs.GatheredWhole.{put_grows}
-use Rattle.disk_array.proofs.SeatLookups.{same_id_is}
-use Rattle.disk_array.proofs.SeatReplies.{id_self}
+use Rattle.array_model.proofs.SeatLookups.{same_id_is}
+use Rattle.array_model.proofs.SeatReplies.{id_self}
 use Rattle.target_course.proofs.ProgressRows.{plus_none}
 
 pub is_writer_is : (o : Option ProcId) (id : ProcId) → is_writer o id ≡ true → o ≡ Some id

@@ -14,9 +14,9 @@ use Rattle.scenario.specs.Value.{ScenarioValue}
 use Rattle.scenario.specs.declared.value.CmdDef.{CmdDef}
 use Rattle.scenario.specs.declared.value.Policy.{Policy}
 use Rattle.scenario.specs.declared.value.Policy.TheVariants as policies
-use Rattle.disk_array.specs.Processes.{Process, command_at, process_by, process_if, process_of, sense_process}
-use Rattle.disk_array.specs.Processes.{command_process}
-use Rattle.bus_due.specs.bus_dialogue.specs.DataRuns.{run_in}
+use Rattle.array_model.specs.Processes.{Process, command_at, process_by, process_if, process_of, sense_process}
+use Rattle.array_model.specs.Processes.{command_process}
+use Rattle.due_model.specs.dialogue_model.specs.DataRuns.{run_in}
 use Rattle.target_units.specs.scsi_device.specs.Lines.{IsCommandLine}
 use Rattle.target_course.specs.Gathered.{Gathering, gathering_with, write_room, most_room, unit_room}
 

@@ -13,35 +13,37 @@ use Rattle.bus_trace.specs.declared.connection.Connection.{Connection}
 use Rattle.bus_trace.proofs.Sets.{same_eq}
 use Rattle.scenario.specs.Value.{ScenarioValue}
 use Rattle.scenario.specs.declared.value.AbortDef.{AbortDef}
-use Rattle.disk_array.specs.Processes.{Process, process_of}
-use Rattle.bus_due.specs.bus_story.specs.BusState.{RowReading, row_reading}
-use Rattle.bus_due.specs.bus_story.specs.HistoryEvents.{abort_line_at}
-use Rattle.bus_due.specs.bus_story.specs.Items.{Item, process, abort}
-use Rattle.bus_due.specs.bus_dialogue.specs.Ends.{follows_by}
-use Rattle.bus_due.specs.bus_dialogue.specs.Arrivals.{policy_of}
-use Rattle.bus_due.specs.bus_dialogue.specs.Exchange.{plan_anew, plan_anew_if, said_with_if, struck_plan}
-use Rattle.bus_due.specs.bus_dialogue.specs.NextPhase.{phase_of, phase_entry, phase_leaving}
-use Rattle.bus_due.specs.bus_dialogue.specs.PhaseBytes.{follows_in, run_length_if}
-use Rattle.bus_due.specs.bus_dialogue.specs.Planning.{plan_after, plan_in_phase, plan_in_message_out, plan_with_byte}
-use Rattle.bus_due.specs.bus_dialogue.specs.declared.exchange.Cause.TheVariants as causes
-use Rattle.bus_due.specs.bus_dialogue.specs.declared.exchange.Hearing.{Hearing}
-use Rattle.bus_due.specs.bus_dialogue.specs.declared.exchange.Leaving.{Leaving}
-use Rattle.bus_due.specs.bus_dialogue.specs.declared.exchange.Phase.{Phase}
-use Rattle.bus_due.specs.bus_dialogue.specs.declared.exchange.Phase.TheVariants as phases
-use Rattle.bus_due.specs.bus_dialogue.specs.declared.exchange.Plan.{Plan}
-use Rattle.bus_due.specs.bus_dialogue.specs.declared.exchange.Said.{Said}
-use Rattle.bus_due.specs.Faithful.{is_unit, is_process_named, is_kind, is_abort_named, is_item_named, is_opening_named}
-use Rattle.bus_due.specs.Faithful.{is_true_leaving}
-use Rattle.bus_due.specs.Plain.{IsPlain}
-use Rattle.bus_due.specs.RunState.{RunState, agreement_of, bus_of, drives_of, process_served}
-use Rattle.bus_due.specs.RunSteps.{run_state, is_for_process}
-use Rattle.bus_due.specs.Sights.{pace_of, serving_of, leaving}
+use Rattle.array_model.specs.Processes.{Process, process_of}
+use Rattle.due_model.specs.story_model.specs.BusState.{RowReading, row_reading}
+use Rattle.due_model.specs.story_model.specs.HistoryEvents.{abort_line_at}
+use Rattle.due_model.specs.story_model.specs.Items.{Item, process, abort}
+use Rattle.due_model.specs.dialogue_model.specs.Ends.{follows_by}
+use Rattle.due_model.specs.dialogue_model.specs.Arrivals.{policy_of}
+use Rattle.due_model.specs.dialogue_model.specs.Exchange.{plan_anew, plan_anew_if, said_with_if, struck_plan}
+use Rattle.due_model.specs.dialogue_model.specs.NextPhase.{phase_of, phase_entry, phase_leaving}
+use Rattle.due_model.specs.dialogue_model.specs.PhaseBytes.{follows_in, run_length_if}
+use Rattle.due_model.specs.dialogue_model.specs.Planning.{plan_after, plan_in_phase, plan_in_message_out}
+use Rattle.due_model.specs.dialogue_model.specs.Planning.{plan_with_byte}
+use Rattle.due_model.specs.dialogue_model.specs.declared.exchange.Cause.TheVariants as causes
+use Rattle.due_model.specs.dialogue_model.specs.declared.exchange.Hearing.{Hearing}
+use Rattle.due_model.specs.dialogue_model.specs.declared.exchange.Leaving.{Leaving}
+use Rattle.due_model.specs.dialogue_model.specs.declared.exchange.Phase.{Phase}
+use Rattle.due_model.specs.dialogue_model.specs.declared.exchange.Phase.TheVariants as phases
+use Rattle.due_model.specs.dialogue_model.specs.declared.exchange.Plan.{Plan}
+use Rattle.due_model.specs.dialogue_model.specs.declared.exchange.Said.{Said}
+use Rattle.due_model.specs.Faithful.{is_unit, is_process_named, is_kind, is_abort_named, is_item_named}
+use Rattle.due_model.specs.Faithful.{is_opening_named}
+use Rattle.due_model.specs.Faithful.{is_true_leaving}
+use Rattle.due_model.specs.Plain.{IsPlain}
+use Rattle.due_model.specs.RunState.{RunState, agreement_of, bus_of, drives_of, process_served}
+use Rattle.due_model.specs.RunSteps.{run_state, is_for_process}
+use Rattle.due_model.specs.Sights.{pace_of, serving_of, leaving}
 use Rattle.target_units.specs.scsi_device.specs.Heard as hears
 use Rattle.target_units.specs.scsi_device.specs.Heard.{Instructions, instructions, may_leave, is_said, is_known_item}
 use Rattle.target_units.specs.scsi_device.specs.Heard.{is_of_scenario, is_served, is_opening, is_heard_process}
 use Rattle.target_units.specs.scsi_device.specs.Heard.{is_heard_in, is_heard, is_to, is_true_turn, is_true_end}
 use Rattle.target_units.specs.scsi_device.specs.Heard.{is_heard_on, is_heard_row, is_heard_after, heard}
-use Rattle.bus_due.proofs.Lookups.{named_none}
+use Rattle.due_model.proofs.Lookups.{named_none}
 
 -- ---- phases
 

@@ -19,22 +19,22 @@ use Rattle.bus_trace.specs.declared.changes.Change.{Change}
 use Rattle.bus_trace.specs.declared.connection.Connection.{Connection}
 use Rattle.bus_trace.specs.declared.selection.Call.{Call}
 use Rattle.scenario.specs.Value.{ScenarioValue}
-use Rattle.bus_due.specs.bus_story.specs.BusState.{RowReading, row_reading}
-use Rattle.bus_due.specs.bus_story.specs.HistoryEvents.{row_events_by, link_events}
-use Rattle.bus_due.specs.bus_story.specs.TraceHistory.{aim_of}
-use Rattle.bus_due.specs.bus_dialogue.specs.Hearing.{hearing}
-use Rattle.bus_due.specs.bus_dialogue.specs.Planning.{first_plan}
-use Rattle.bus_due.specs.bus_dialogue.specs.declared.exchange.Hearing.{Hearing}
-use Rattle.bus_due.specs.LastingState.{Negotiated, has_negotiated, with_negotiated, pairs_without}
-use Rattle.bus_due.specs.LastingState.{negotiated_after_event, negotiated_after}
-use Rattle.bus_due.specs.Plain.{IsPlain, AreOfDevices}
-use Rattle.bus_due.specs.RunState.{RunState}
-use Rattle.bus_due.specs.RunSteps.{run_state, is_for_process, negotiated_by_connection, served_after, item_if}
-use Rattle.bus_due.specs.RunSteps.{may_negotiate, naming_of, first_exchange, exchange_on, exchange_after, leaving_of}
-use Rattle.bus_due.specs.RunSteps.{events_of_row}
-use Rattle.bus_due.specs.Defs.{host_of}
-use Rattle.bus_due.specs.Sights.{hearing_of, leaving}
-use Rattle.bus_due.specs.Wants.{ready_of}
+use Rattle.due_model.specs.story_model.specs.BusState.{RowReading, row_reading}
+use Rattle.due_model.specs.story_model.specs.HistoryEvents.{row_events_by, link_events}
+use Rattle.due_model.specs.story_model.specs.TraceHistory.{aim_of}
+use Rattle.due_model.specs.dialogue_model.specs.Hearing.{hearing}
+use Rattle.due_model.specs.dialogue_model.specs.Planning.{first_plan}
+use Rattle.due_model.specs.dialogue_model.specs.declared.exchange.Hearing.{Hearing}
+use Rattle.due_model.specs.LastingState.{Negotiated, has_negotiated, with_negotiated, pairs_without}
+use Rattle.due_model.specs.LastingState.{negotiated_after_event, negotiated_after}
+use Rattle.due_model.specs.Plain.{IsPlain, AreOfDevices}
+use Rattle.due_model.specs.RunState.{RunState}
+use Rattle.due_model.specs.RunSteps.{run_state, is_for_process, negotiated_by_connection, served_after, item_if}
+use Rattle.due_model.specs.RunSteps.{may_negotiate, naming_of, first_exchange, exchange_on, exchange_after, leaving_of}
+use Rattle.due_model.specs.RunSteps.{events_of_row}
+use Rattle.due_model.specs.Defs.{host_of}
+use Rattle.due_model.specs.Sights.{hearing_of, leaving}
+use Rattle.due_model.specs.Wants.{ready_of}
 use Rattle.target_course.specs.Negotiated.{NegotiatedValue, nobody_met, opened_in, met_by_opening, is_opening_left}
 use Rattle.target_course.specs.Negotiated.{met_by_connection, met_after_reset, met_after_event, met_after_events}
 use Rattle.target_course.specs.Negotiated.{negotiated_seen, is_open_to, HasMet, IsOpening, IsOpeningIf, IsNegotiatedOf}
@@ -44,7 +44,7 @@ use Rattle.target_units.specs.scsi_device.specs.Heard.{heard}
 use Rattle.target_course.proofs.HeardOpenings.{left_told, cause_stays, phase_stays}
 use Rattle.target_course.proofs.ServedEnds.{connection_stays}
 use Rattle.bus_base.proofs.Tests.{or_false, put_at}
-use Rattle.bus_due.proofs.NegotiatedPairs.{with_pair, pairs_gone}
+use Rattle.due_model.proofs.NegotiatedPairs.{with_pair, pairs_gone}
 
 -- ---- eight alike
 

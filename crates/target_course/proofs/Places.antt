@@ -6,8 +6,8 @@ use Rattle.std.proofs.lemmas.Bool.{cases_lt}
 use native.Mathlib.Omega.{arith}
 use Rattle.scenario.specs.declared.value.Policy.{Policy}
 use Rattle.scenario.specs.declared.value.Policy.TheVariants as policies
-use Rattle.bus_due.specs.bus_dialogue.specs.declared.exchange.Task.{Task}
-use Rattle.bus_due.specs.bus_dialogue.specs.DataRuns.{run_at, run_in}
+use Rattle.due_model.specs.dialogue_model.specs.declared.exchange.Task.{Task}
+use Rattle.due_model.specs.dialogue_model.specs.DataRuns.{run_at, run_in}
 use Rattle.target_units.specs.scsi_device.proofs.Places.{weaker}
 
 both_past : (x y m : ℕ) → m ≤ x → m ≤ y → min x m ≡ min y m

@@ -12,20 +12,20 @@ use Rattle.bus_trace.specs.Phases.{changes_phase}
 use Rattle.bus_trace.specs.Terms.{connection}
 use Rattle.scenario.specs.declared.value.CmdDef.{CmdDef}
 use Rattle.scenario.specs.Value.{ScenarioValue}
-use Rattle.disk_array.specs.Processes.{Process, command_at, process_if, process_of, same_bool, same_id}
-use Rattle.bus_due.specs.bus_story.specs.BusState.{RowReading, row_reading}
-use Rattle.bus_due.specs.bus_story.specs.Items.{Item, process, abort}
-use Rattle.bus_due.specs.bus_dialogue.specs.Hearing.{hearing}
-use Rattle.bus_due.specs.bus_dialogue.specs.PhaseBytes.{one_if}
-use Rattle.bus_due.specs.bus_dialogue.specs.declared.exchange.Hearing.{Hearing}
-use Rattle.bus_due.specs.bus_dialogue.specs.declared.exchange.Leaving.{Leaving}
-use Rattle.bus_due.specs.Faithful.{has_ends, faithful}
-use Rattle.bus_due.specs.LastingState.{ProcessProgress, progress_in, progress_with}
-use Rattle.bus_due.specs.Plain.{IsPlain, AreOfDevices}
-use Rattle.bus_due.specs.RunState.{RunState, process_item, process_served}
-use Rattle.bus_due.specs.RunSteps.{run_state, progress_by_leaving, progress_after, leaving_of}
-use Rattle.bus_due.specs.Sights.{leaving, hearing_of}
-use Rattle.bus_due.specs.Telling.{id_of}
+use Rattle.array_model.specs.Processes.{Process, command_at, process_if, process_of, same_bool, same_id}
+use Rattle.due_model.specs.story_model.specs.BusState.{RowReading, row_reading}
+use Rattle.due_model.specs.story_model.specs.Items.{Item, process, abort}
+use Rattle.due_model.specs.dialogue_model.specs.Hearing.{hearing}
+use Rattle.due_model.specs.dialogue_model.specs.PhaseBytes.{one_if}
+use Rattle.due_model.specs.dialogue_model.specs.declared.exchange.Hearing.{Hearing}
+use Rattle.due_model.specs.dialogue_model.specs.declared.exchange.Leaving.{Leaving}
+use Rattle.due_model.specs.Faithful.{has_ends, faithful}
+use Rattle.due_model.specs.LastingState.{ProcessProgress, progress_in, progress_with}
+use Rattle.due_model.specs.Plain.{IsPlain, AreOfDevices}
+use Rattle.due_model.specs.RunState.{RunState, process_item, process_served}
+use Rattle.due_model.specs.RunSteps.{run_state, progress_by_leaving, progress_after, leaving_of}
+use Rattle.due_model.specs.Sights.{leaving, hearing_of}
+use Rattle.due_model.specs.Telling.{id_of}
 use Rattle.target_course.specs.Progress.{no_counts, counts_after, no_pair, half_of, pair_after, pair_at, counts_at}
 use Rattle.target_course.specs.Progress.{pairs_after, ProgressValue, no_progress, is_phase_left, progress_counted}
 use Rattle.target_course.specs.Progress.{progress_seen, counts_of, AreCounted, IsProgressOf, IsLeftSo, IsUncounted}
@@ -33,10 +33,10 @@ use Rattle.target_course.specs.Progress.{AreExactly}
 use Rattle.target_course.specs.declared.progress.Counts.{Counts}
 use Rattle.target_course.specs.declared.progress.CountsPair.{CountsPair}
 use Rattle.target_course.proofs.ServedEnds.{ends_are}
-use Rattle.disk_array.proofs.SeatLookups.{same_id_is}
-use Rattle.disk_array.proofs.SoundArrays.{id_is}
+use Rattle.array_model.proofs.SeatLookups.{same_id_is}
+use Rattle.array_model.proofs.SoundArrays.{id_is}
 use Rattle.bus_phases.specs.Phases.{count_after}
-use Rattle.bus_due.proofs.Lookups.{other_kept}
+use Rattle.due_model.proofs.Lookups.{other_kept}
 
 -- ---- counts
 

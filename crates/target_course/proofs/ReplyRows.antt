@@ -13,48 +13,49 @@ use Rattle.bus_trace.specs.Terms.{connection}
 use Rattle.bus_trace.specs.Trace.{bus}
 use Rattle.cdb_codec.specs.declared.sense.TheConstants.{PARITY_ERROR, INITIATOR_DETECTED_ERROR}
 use Rattle.scenario.specs.Value.{ScenarioValue}
-use Rattle.disk_array.proofs.SoundArrays
-use Rattle.disk_array.specs.ArrayHistory.{reply_in, shows_run}
-use Rattle.disk_array.specs.ArrayHistory as Play
-use Rattle.disk_array.specs.Execution.{Reply}
-use Rattle.disk_array.specs.Processes.{Process, process_of}
-use Rattle.disk_array.specs.SoundArray.{HasSeats, IsSound}
-use Rattle.disk_array.specs.Steps
-use Rattle.disk_array.specs.Steps.{step}
-use Rattle.disk_array.specs.Units
-use Rattle.disk_array.specs.Units.{Array}
-use Rattle.bus_due.specs.LastingState
+use Rattle.array_model.proofs.SoundArrays
+use Rattle.array_model.specs.ArrayHistory.{reply_in, shows_run}
+use Rattle.array_model.specs.ArrayHistory as Play
+use Rattle.array_model.specs.Execution.{Reply}
+use Rattle.array_model.specs.Processes.{Process, process_of}
+use Rattle.array_model.specs.SoundArray.{HasSeats, IsSound}
+use Rattle.array_model.specs.Steps
+use Rattle.array_model.specs.Steps.{step}
+use Rattle.array_model.specs.Units
+use Rattle.array_model.specs.Units.{Array}
+use Rattle.due_model.specs.LastingState
 use Rattle.disk_unit.specs.declared.media.Plan.{Plan as UnitPlan}
 use Rattle.disk_unit.specs.declared.unit.Reply.{Reply as UnitReply}
 use Rattle.disk_unit.specs.Plans.{plan_of}
 use Rattle.disk_unit.specs.Units.{told_of, planned_reply}
-use Rattle.bus_due.specs.bus_story.specs.BusState.{RowReading, row_reading}
-use Rattle.bus_due.specs.bus_story.specs.CarriedBytes.{CarriedBytes}
-use Rattle.bus_due.specs.bus_story.specs.HistoryEvents.{carried_if, end_events, is_completion, row_events_by}
-use Rattle.bus_due.specs.bus_story.specs.Items.{Item, process, abort}
-use Rattle.bus_due.specs.bus_story.specs.Links.{Link}
-use Rattle.bus_due.specs.bus_story.specs.TraceHistory.{trace_history}
-use Rattle.bus_due.specs.bus_dialogue.specs.declared.exchange.Arrival.{Arrival}
-use Rattle.bus_due.specs.bus_dialogue.specs.declared.exchange.Arrival.TheVariants as arrivals
-use Rattle.bus_due.specs.bus_dialogue.specs.declared.exchange.Cause.{Cause}
-use Rattle.bus_due.specs.bus_dialogue.specs.declared.exchange.Cause.TheVariants as causes
-use Rattle.bus_due.specs.bus_dialogue.specs.declared.exchange.Phase.{Phase}
-use Rattle.bus_due.specs.bus_dialogue.specs.declared.exchange.Phase.TheVariants as phases
-use Rattle.bus_due.specs.bus_dialogue.specs.declared.exchange.Plan.{Plan}
-use Rattle.bus_due.specs.bus_dialogue.specs.Events.{arrival_event, arrival_events, arrival_run_events, detected_events}
-use Rattle.bus_due.specs.bus_dialogue.specs.Events.{has_replied, is_status_next, leaving_events, newest_with}
-use Rattle.bus_due.specs.bus_dialogue.specs.Events.{reply_events}
-use Rattle.bus_due.specs.bus_dialogue.specs.Hearing.{hearing}
-use Rattle.bus_due.specs.bus_dialogue.specs.NextPhase.{Serving, phase_leaving, phase_of}
-use Rattle.bus_due.specs.Allowed.{allowed, is_allowed}
-use Rattle.bus_due.specs.Plain.{IsPlain}
-use Rattle.bus_due.specs.RunState.{RunState, array_of, bus_of, or_start, process_item, process_served}
-use Rattle.bus_due.specs.RunSteps.{run_state, array_after_events, served_after}
-use Rattle.bus_due.specs.Sights.{hearing_of, serving_of}
-use Rattle.bus_due.specs.Tasks.{reply_now}
-use Rattle.bus_due.specs.Telling.{events_of_ends, events_of_ends_in, id_of, initiator_events, is_true_telling}
-use Rattle.bus_due.specs.Telling.{target_events, telling}
-use Rattle.bus_due.proofs.SameEvents.{events_are}
+use Rattle.due_model.specs.story_model.specs.BusState.{RowReading, row_reading}
+use Rattle.due_model.specs.story_model.specs.CarriedBytes.{CarriedBytes}
+use Rattle.due_model.specs.story_model.specs.HistoryEvents.{carried_if, end_events, is_completion, row_events_by}
+use Rattle.due_model.specs.story_model.specs.Items.{Item, process, abort}
+use Rattle.due_model.specs.story_model.specs.Links.{Link}
+use Rattle.due_model.specs.story_model.specs.TraceHistory.{trace_history}
+use Rattle.due_model.specs.dialogue_model.specs.declared.exchange.Arrival.{Arrival}
+use Rattle.due_model.specs.dialogue_model.specs.declared.exchange.Arrival.TheVariants as arrivals
+use Rattle.due_model.specs.dialogue_model.specs.declared.exchange.Cause.{Cause}
+use Rattle.due_model.specs.dialogue_model.specs.declared.exchange.Cause.TheVariants as causes
+use Rattle.due_model.specs.dialogue_model.specs.declared.exchange.Phase.{Phase}
+use Rattle.due_model.specs.dialogue_model.specs.declared.exchange.Phase.TheVariants as phases
+use Rattle.due_model.specs.dialogue_model.specs.declared.exchange.Plan.{Plan}
+use Rattle.due_model.specs.dialogue_model.specs.Events.{arrival_event, arrival_events, arrival_run_events}
+use Rattle.due_model.specs.dialogue_model.specs.Events.{detected_events}
+use Rattle.due_model.specs.dialogue_model.specs.Events.{has_replied, is_status_next, leaving_events, newest_with}
+use Rattle.due_model.specs.dialogue_model.specs.Events.{reply_events}
+use Rattle.due_model.specs.dialogue_model.specs.Hearing.{hearing}
+use Rattle.due_model.specs.dialogue_model.specs.NextPhase.{Serving, phase_leaving, phase_of}
+use Rattle.due_model.specs.Allowed.{allowed, is_allowed}
+use Rattle.due_model.specs.Plain.{IsPlain}
+use Rattle.due_model.specs.RunState.{RunState, array_of, bus_of, or_start, process_item, process_served}
+use Rattle.due_model.specs.RunSteps.{run_state, array_after_events, served_after}
+use Rattle.due_model.specs.Sights.{hearing_of, serving_of}
+use Rattle.due_model.specs.Tasks.{reply_now}
+use Rattle.due_model.specs.Telling.{events_of_ends, events_of_ends_in, id_of, initiator_events, is_true_telling}
+use Rattle.due_model.specs.Telling.{target_events, telling}
+use Rattle.due_model.proofs.SameEvents.{events_are}
 use Rattle.target_units.specs.scsi_device.specs.Heard.{Instructions, heard, instructions, is_beginning, is_heard}
 use Rattle.target_units.specs.scsi_device.specs.Heard.{is_heard_after, is_heard_on, is_heard_row, is_new, is_uncounted}
 use Rattle.target_course.specs.Courses.{events_of_target}
@@ -64,7 +65,7 @@ use Rattle.target_course.specs.States.{IsOwnConnection}
 use Rattle.target_units.proofs.ReplySteps.{accept_same, end_replies, fail_replies, refuse_replies, run_replies}
 use Rattle.bus_base.proofs.Tests.{or_second}
 use Rattle.target_units.proofs.Arrivals.{arrival_replies}
-use Rattle.bus_due.proofs.Lookups.{none_stays}
+use Rattle.due_model.proofs.Lookups.{none_stays}
 
 -- ---- what a target shows as it turns to another phase
 

@@ -10,11 +10,11 @@ use Rattle.bus_trace.specs.declared.connection.Connection.{Connection}
 use Rattle.bus_trace.specs.declared.selection.Call.{Call}
 use Rattle.bus_trace.specs.Terms.{connection, connection_after}
 use Rattle.scenario.specs.Value.{ScenarioValue}
-use Rattle.bus_due.specs.bus_story.specs.BusState.{RowReading, row_reading}
-use Rattle.bus_due.specs.Faithful.{has_ends, is_true_beginning, is_true_hearing, is_faithful, faithful}
-use Rattle.bus_due.specs.Plain.{IsPlain, AreOfDevices}
-use Rattle.bus_due.specs.RunState.{RunState, process_item, process_served}
-use Rattle.bus_due.specs.RunSteps.{run_state, served_after}
+use Rattle.due_model.specs.story_model.specs.BusState.{RowReading, row_reading}
+use Rattle.due_model.specs.Faithful.{has_ends, is_true_beginning, is_true_hearing, is_faithful, faithful}
+use Rattle.due_model.specs.Plain.{IsPlain, AreOfDevices}
+use Rattle.due_model.specs.RunState.{RunState, process_item, process_served}
+use Rattle.due_model.specs.RunSteps.{run_state, served_after}
 
 -- ---- the connection that stands stays the same
 

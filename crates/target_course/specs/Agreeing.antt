@@ -1,9 +1,9 @@
 -- Two servings of a connection that mean the same: of the process only what the phase needs is alike.
 use Rattle.std.specs.Prelude.{◌≡◌, Bool, true, false, not, ◌&&◌, ◌||◌, Option, Some, is_none}
-use Rattle.bus_due.specs.bus_dialogue.specs.declared.exchange.Phase.{Phase}
-use Rattle.bus_due.specs.bus_dialogue.specs.declared.exchange.Plan.{Plan}
-use Rattle.bus_due.specs.bus_dialogue.specs.declared.exchange.Task.{Task}
-use Rattle.bus_due.specs.bus_dialogue.specs.NextPhase.{Serving}
+use Rattle.due_model.specs.dialogue_model.specs.declared.exchange.Phase.{Phase}
+use Rattle.due_model.specs.dialogue_model.specs.declared.exchange.Plan.{Plan}
+use Rattle.due_model.specs.dialogue_model.specs.declared.exchange.Task.{Task}
+use Rattle.due_model.specs.dialogue_model.specs.NextPhase.{Serving}
 use Rattle.target_units.specs.scsi_device.specs.Heard.{is_opening_in, is_command_phase, moves_data, gives_status}
 
 -- The command matters while data move, and as COMMAND is left with a whole and unstruck block; the status as soon as it

@@ -1,7 +1,7 @@
 -- Two things that the target of a connection may have to do in the phase, between which nothing that it does next
 -- tells.
 use Rattle.std.specs.Prelude.{ℕ, ◌≡◌, ◌==◌, Bool, true, false, ◌&&◌, ◌||◌}
-use Rattle.bus_reactions.specs.declared.ends.Offering.{Offering}
+use Rattle.reaction_model.specs.declared.ends.Offering.{Offering}
 
 -- In a phase to the initiator it drives a byte of its own as the first one, `none` yet; then one that follows, as it
 -- negates REQ, `asks`, and by pulses (6.1.5.1, 6.1.5.2).

@@ -17,33 +17,33 @@ use Rattle.scenario.specs.declared.value.TargetDef.{TargetDef}
 use Rattle.scenario.specs.declared.value.Tag.{Tag}
 use Rattle.scenario.specs.Needs.{is_write}
 use Rattle.scenario.specs.Value.{ScenarioValue}
-use Rattle.disk_array.specs.Execution.{Reply, is_request_sense}
-use Rattle.disk_array.specs.Order.{class_of, tag_number, range_in}
-use Rattle.disk_array.specs.Processes.{Process, process_of}
-use Rattle.disk_array.specs.Seats.{in_hold}
-use Rattle.disk_array.specs.Units.{nexus_of, unit_state_at}
-use Rattle.disk_array.specs.ArrayHistory.{reply_in}
-use Rattle.bus_due.specs.bus_story.specs.Items.{Item, process, abort}
+use Rattle.array_model.specs.Execution.{Reply, is_request_sense}
+use Rattle.array_model.specs.Order.{class_of, tag_number, range_in}
+use Rattle.array_model.specs.Processes.{Process, process_of}
+use Rattle.array_model.specs.Seats.{in_hold}
+use Rattle.array_model.specs.Units.{nexus_of, unit_state_at}
+use Rattle.array_model.specs.ArrayHistory.{reply_in}
+use Rattle.due_model.specs.story_model.specs.Items.{Item, process, abort}
 use Rattle.disk_unit.specs.declared.media.Plan as outlook
 use Rattle.disk_unit.specs.Plans.{plan_of}
-use Rattle.bus_due.specs.bus_dialogue.specs.Wants.{Ready}
-use Rattle.bus_due.specs.bus_dialogue.specs.declared.exchange.Hearing.{Hearing}
-use Rattle.bus_due.specs.bus_dialogue.specs.declared.exchange.Leaving.{Leaving}
-use Rattle.bus_due.specs.bus_dialogue.specs.declared.exchange.Messages.{Messages}
-use Rattle.bus_due.specs.bus_dialogue.specs.declared.exchange.Plan.{Plan}
-use Rattle.bus_due.specs.bus_dialogue.specs.declared.exchange.Said.{Said}
-use Rattle.bus_due.specs.bus_dialogue.specs.declared.exchange.Task.{Task}
-use Rattle.bus_due.specs.bus_dialogue.specs.Arrivals.{arrival_by}
-use Rattle.bus_due.specs.bus_dialogue.specs.Exchange.{no_messages}
-use Rattle.bus_due.specs.bus_dialogue.specs.Events.{leaving_events}
-use Rattle.bus_due.specs.bus_dialogue.specs.Hearing.{hearing}
-use Rattle.bus_due.specs.bus_dialogue.specs.NextPhase.{Serving, phase_of}
-use Rattle.bus_due.specs.bus_dialogue.specs.Planning.{plan_after, first_plan}
-use Rattle.bus_due.specs.LastingState.{progress_in}
-use Rattle.bus_due.specs.RunState.{RunState, array_of, process_served}
-use Rattle.bus_due.specs.RunSteps.{run_state, is_for_process}
-use Rattle.bus_due.specs.Telling.{target_events}
-use Rattle.bus_due.specs.Tasks.{blocks_in, size_of, reply_now, room_of, is_writing}
+use Rattle.due_model.specs.dialogue_model.specs.Wants.{Ready}
+use Rattle.due_model.specs.dialogue_model.specs.declared.exchange.Hearing.{Hearing}
+use Rattle.due_model.specs.dialogue_model.specs.declared.exchange.Leaving.{Leaving}
+use Rattle.due_model.specs.dialogue_model.specs.declared.exchange.Messages.{Messages}
+use Rattle.due_model.specs.dialogue_model.specs.declared.exchange.Plan.{Plan}
+use Rattle.due_model.specs.dialogue_model.specs.declared.exchange.Said.{Said}
+use Rattle.due_model.specs.dialogue_model.specs.declared.exchange.Task.{Task}
+use Rattle.due_model.specs.dialogue_model.specs.Arrivals.{arrival_by}
+use Rattle.due_model.specs.dialogue_model.specs.Exchange.{no_messages}
+use Rattle.due_model.specs.dialogue_model.specs.Events.{leaving_events}
+use Rattle.due_model.specs.dialogue_model.specs.Hearing.{hearing}
+use Rattle.due_model.specs.dialogue_model.specs.NextPhase.{Serving, phase_of}
+use Rattle.due_model.specs.dialogue_model.specs.Planning.{plan_after, first_plan}
+use Rattle.due_model.specs.LastingState.{progress_in}
+use Rattle.due_model.specs.RunState.{RunState, array_of, process_served}
+use Rattle.due_model.specs.RunSteps.{run_state, is_for_process}
+use Rattle.due_model.specs.Telling.{target_events}
+use Rattle.due_model.specs.Tasks.{blocks_in, size_of, reply_now, room_of, is_writing}
 use Rattle.target_units.specs.scsi_device.specs.Heard.{Instructions, instructions, leaves_opening, leaves_command}
 use Rattle.target_course.specs.declared.course.Name.{Name}
 use Rattle.target_course.specs.declared.course.ProcessState.{ProcessState}

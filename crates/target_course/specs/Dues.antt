@@ -5,23 +5,23 @@ use Rattle.bus_trace.specs.declared.connection.Connection.{Connection}
 use Rattle.bus_lines.specs.Handshakes.{handshakes}
 use Rattle.scenario.specs.declared.value.FaultDef.{FaultDef}
 use Rattle.scenario.specs.declared.value.TargetDef.{TargetDef}
-use Rattle.bus_reactions.specs.declared.due.Due.{Due}
-use Rattle.bus_reactions.specs.declared.due.Myself.{Myself}
-use Rattle.bus_reactions.specs.declared.due.Want.{Want}
-use Rattle.bus_reactions.specs.declared.ends.Offering.{Offering}
-use Rattle.bus_reactions.specs.declared.ends.Pace.{Pace}
-use Rattle.bus_reactions.specs.Linking.{link_due, sample_time}
-use Rattle.bus_reactions.specs.Ends as hand
-use Rattle.bus_reactions.specs.Reset.{with_reset}
-use Rattle.bus_due.specs.bus_dialogue.specs.declared.exchange.Leaving.{Leaving}
-use Rattle.bus_due.specs.bus_dialogue.specs.NextPhase.{leaving_by}
-use Rattle.bus_due.specs.bus_dialogue.specs.Ends.{offering_by}
+use Rattle.reaction_model.specs.declared.due.Due.{Due}
+use Rattle.reaction_model.specs.declared.due.Myself.{Myself}
+use Rattle.reaction_model.specs.declared.due.Want.{Want}
+use Rattle.reaction_model.specs.declared.ends.Offering.{Offering}
+use Rattle.reaction_model.specs.declared.ends.Pace.{Pace}
+use Rattle.reaction_model.specs.Linking.{link_due, sample_time}
+use Rattle.reaction_model.specs.Ends as hand
+use Rattle.reaction_model.specs.Reset.{with_reset}
+use Rattle.due_model.specs.dialogue_model.specs.declared.exchange.Leaving.{Leaving}
+use Rattle.due_model.specs.dialogue_model.specs.NextPhase.{leaving_by}
+use Rattle.due_model.specs.dialogue_model.specs.Ends.{offering_by}
 use Rattle.target_units.specs.declared.ready.Ready.{Ready}
 use Rattle.target_course.specs.declared.knowledge.Knowledge.{Knowledge}
 use Rattle.target_course.specs.Servings.{serving_with, AreBytesOf}
 use Rattle.target_units.specs.scsi_device.specs.Told.{Told, told, pace_of, flip_by}
 use Rattle.target_course.specs.States.{TargetState, state_of}
-use Rattle.bus_due.specs.bus_rules.specs.Order.{is_of_device}
+use Rattle.due_model.specs.bus_rules.specs.Order.{is_of_device}
 
 abbrev pub myself_by : TargetDef → Told → TargetState → Myself
 myself_by d t i = record { dev = d.dev; latency = d.latency; own = t.lines; since = i.own.row }

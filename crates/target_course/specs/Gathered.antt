@@ -10,19 +10,19 @@ use Rattle.scenario.specs.Needs.{sent_count}
 use Rattle.scenario.specs.Value.{ScenarioValue}
 use Rattle.scenario.specs.declared.value.CmdDef.{CmdDef}
 use Rattle.scenario.specs.declared.value.Policy.{Policy}
-use Rattle.disk_array.specs.Processes.{Process, process_of}
-use Rattle.bus_due.specs.bus_dialogue.specs.Arrivals.{policy_of}
-use Rattle.bus_due.specs.bus_dialogue.specs.DataRuns.{run_at}
-use Rattle.bus_due.specs.bus_dialogue.specs.NextPhase.{phase_of}
-use Rattle.bus_due.specs.bus_dialogue.specs.declared.exchange.Hearing.{Hearing}
-use Rattle.bus_due.specs.bus_dialogue.specs.declared.exchange.Phase.TheVariants as phases
-use Rattle.bus_due.specs.bus_dialogue.specs.declared.exchange.Task.{Task}
-use Rattle.bus_due.specs.Defs.{target_def_of}
-use Rattle.bus_due.specs.LastingState.{progress_in}
-use Rattle.bus_due.specs.RunState.{RunState, bus_of, process_served}
-use Rattle.bus_due.specs.RunSteps.{run_state}
-use Rattle.bus_due.specs.Tasks.{task_of}
-use Rattle.bus_due.specs.Telling.{id_of}
+use Rattle.array_model.specs.Processes.{Process, process_of}
+use Rattle.due_model.specs.dialogue_model.specs.Arrivals.{policy_of}
+use Rattle.due_model.specs.dialogue_model.specs.DataRuns.{run_at}
+use Rattle.due_model.specs.dialogue_model.specs.NextPhase.{phase_of}
+use Rattle.due_model.specs.dialogue_model.specs.declared.exchange.Hearing.{Hearing}
+use Rattle.due_model.specs.dialogue_model.specs.declared.exchange.Phase.TheVariants as phases
+use Rattle.due_model.specs.dialogue_model.specs.declared.exchange.Task.{Task}
+use Rattle.due_model.specs.Defs.{target_def_of}
+use Rattle.due_model.specs.LastingState.{progress_in}
+use Rattle.due_model.specs.RunState.{RunState, bus_of, process_served}
+use Rattle.due_model.specs.RunSteps.{run_state}
+use Rattle.due_model.specs.Tasks.{task_of}
+use Rattle.due_model.specs.Telling.{id_of}
 use Rattle.target_units.specs.scsi_device.specs.Writes.{brings_byte, writer_of, writers, start_of_run}
 use Rattle.target_units.specs.Seated.{is_same_process}
 use Rattle.target_course.specs.States.{IsOwnConnection}

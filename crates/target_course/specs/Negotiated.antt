@@ -10,13 +10,13 @@ use Rattle.bus_trace.specs.Terms.{connection}
 use Rattle.bus_trace.specs.declared.Row.{Row}
 use Rattle.bus_trace.specs.declared.connection.Connection.{Connection}
 use Rattle.scenario.specs.Value.{ScenarioValue}
-use Rattle.bus_due.specs.bus_dialogue.specs.NextPhase.{phase_of}
-use Rattle.bus_due.specs.bus_dialogue.specs.declared.exchange.Cause.TheVariants as causes
-use Rattle.bus_due.specs.bus_dialogue.specs.declared.exchange.Hearing.{Hearing}
-use Rattle.bus_due.specs.bus_dialogue.specs.declared.exchange.Phase.TheVariants as phases
-use Rattle.bus_due.specs.LastingState.{Negotiated, has_negotiated}
-use Rattle.bus_due.specs.RunState.{bus_of}
-use Rattle.bus_due.specs.RunSteps.{run_state, is_for_process}
+use Rattle.due_model.specs.dialogue_model.specs.NextPhase.{phase_of}
+use Rattle.due_model.specs.dialogue_model.specs.declared.exchange.Cause.TheVariants as causes
+use Rattle.due_model.specs.dialogue_model.specs.declared.exchange.Hearing.{Hearing}
+use Rattle.due_model.specs.dialogue_model.specs.declared.exchange.Phase.TheVariants as phases
+use Rattle.due_model.specs.LastingState.{Negotiated, has_negotiated}
+use Rattle.due_model.specs.RunState.{bus_of}
+use Rattle.due_model.specs.RunSteps.{run_state, is_for_process}
 use Rattle.target_course.specs.Plans.{plan_at}
 use Rattle.target_course.specs.Progress.{is_phase_left}
 use Rattle.target_course.specs.States.{IsOwnConnection}

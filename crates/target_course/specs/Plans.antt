@@ -3,12 +3,12 @@ use Rattle.std.specs.Prelude.{ℕ, not, ◌&&◌, List}
 use Rattle.bus_trace.specs.declared.Row.{Row}
 use Rattle.bus_trace.specs.declared.connection.Connection.{Connection}
 use Rattle.scenario.specs.Value.{ScenarioValue}
-use Rattle.bus_due.specs.bus_story.specs.TraceHistory.{aim_of}
-use Rattle.bus_due.specs.bus_dialogue.specs.declared.exchange.Plan.{Plan}
-use Rattle.bus_due.specs.bus_dialogue.specs.declared.exchange.Leaving.{Leaving}
-use Rattle.bus_due.specs.bus_dialogue.specs.Planning.{first_plan}
-use Rattle.bus_due.specs.RunSteps.{run_state, may_negotiate, naming_of}
-use Rattle.bus_due.specs.Sights.{leaving}
+use Rattle.due_model.specs.story_model.specs.TraceHistory.{aim_of}
+use Rattle.due_model.specs.dialogue_model.specs.declared.exchange.Plan.{Plan}
+use Rattle.due_model.specs.dialogue_model.specs.declared.exchange.Leaving.{Leaving}
+use Rattle.due_model.specs.dialogue_model.specs.Planning.{first_plan}
+use Rattle.due_model.specs.RunSteps.{run_state, may_negotiate, naming_of}
+use Rattle.due_model.specs.Sights.{leaving}
 
 abbrev pub plan_at : ScenarioValue → List Row → Plan
 plan_at s rows = (run_state s rows).exchange.plan

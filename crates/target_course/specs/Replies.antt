@@ -6,16 +6,16 @@ use Rattle.bus_trace.specs.declared.Row.{Row}
 use Rattle.bus_trace.specs.declared.connection.Connection.{Connection}
 use Rattle.bus_trace.specs.Trace.{bus}
 use Rattle.scenario.specs.Value.{ScenarioValue}
-use Rattle.disk_array.specs.ArrayHistory.{reply_in, shows_run}
-use Rattle.disk_array.specs.Execution.{queue_full, aborted_reply}
-use Rattle.disk_array.specs.Processes.{Process}
+use Rattle.array_model.specs.ArrayHistory.{reply_in, shows_run}
+use Rattle.array_model.specs.Execution.{queue_full, aborted_reply}
+use Rattle.array_model.specs.Processes.{Process}
 use Rattle.disk_unit.specs.declared.media.Plan.{Plan}
 use Rattle.disk_unit.specs.declared.unit.Reply.{Reply as UnitReply}
 use Rattle.disk_unit.specs.Plans.{plan_of}
 use Rattle.disk_unit.specs.Units.{told_of, planned_reply}
-use Rattle.bus_due.specs.RunState.{array_of, process_served}
-use Rattle.bus_due.specs.RunSteps.{run_state}
-use Rattle.bus_due.specs.Tasks.{reply_now}
+use Rattle.due_model.specs.RunState.{array_of, process_served}
+use Rattle.due_model.specs.RunSteps.{run_state}
+use Rattle.due_model.specs.Tasks.{reply_now}
 use Rattle.target_units.specs.Seated.{reply_told}
 use Rattle.target_course.specs.States.{IsOwnConnection}
 

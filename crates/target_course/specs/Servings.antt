@@ -1,9 +1,9 @@
 -- What the target of a connection decides by, with the bytes that its process gives.
 use Rattle.std.specs.Prelude.{ℕ, ◌≡◌, List, slice_index_or, Option, Some, None}
-use Rattle.bus_due.specs.bus_dialogue.specs.declared.exchange.Leaving.{Leaving}
-use Rattle.bus_due.specs.bus_dialogue.specs.Arrivals.{policy_of}
-use Rattle.bus_due.specs.bus_dialogue.specs.NextPhase as next_phase
-use Rattle.bus_due.specs.bus_dialogue.specs.PhaseBytes.{data_byte, one_if}
+use Rattle.due_model.specs.dialogue_model.specs.declared.exchange.Leaving.{Leaving}
+use Rattle.due_model.specs.dialogue_model.specs.Arrivals.{policy_of}
+use Rattle.due_model.specs.dialogue_model.specs.NextPhase as next_phase
+use Rattle.due_model.specs.dialogue_model.specs.PhaseBytes.{data_byte, one_if}
 use Rattle.target_course.specs.declared.serving.Serving.{Serving}
 use Rattle.target_course.specs.declared.serving.DataBytes.{DataBytes}
 

@@ -1,7 +1,7 @@
 -- What a row shows, as a list of events, the newest first.
 use Rattle.std.specs.Prelude.{List}
 use Rattle.bus_base.specs.declared.Event.{Event}
-use Rattle.bus_due.specs.bus_dialogue.specs.Events.{newest_with, event_if}
+use Rattle.due_model.specs.dialogue_model.specs.Events.{newest_with, event_if}
 use Rattle.target_course.specs.declared.events.Shown.{Shown}
 
 abbrev pub shown_list : Shown → List Event

@@ -7,24 +7,24 @@ use Rattle.scenario.specs.declared.value.TargetDef.{TargetDef}
 use Rattle.scenario.specs.Value.{ScenarioValue}
 use Rattle.bus_trace.specs.Trace.{bus, drives}
 use Rattle.bus_lines.specs.Handshakes.{handshakes}
-use Rattle.bus_reactions.specs.declared.ends.Offering.{Offering}
-use Rattle.bus_due.specs.bus_dialogue.specs.Ends.{offering_by}
-use Rattle.bus_due.specs.bus_dialogue.specs.Hearing.{begun}
+use Rattle.reaction_model.specs.declared.ends.Offering.{Offering}
+use Rattle.due_model.specs.dialogue_model.specs.Ends.{offering_by}
+use Rattle.due_model.specs.dialogue_model.specs.Hearing.{begun}
 use Rattle.target_units.specs.scsi_device.specs.Told.{told, pace_of}
 use Rattle.target_course.specs.Alike.{AreAlike}
-use Rattle.bus_due.specs.bus_dialogue.specs.NextPhase as next_phase
-use Rattle.bus_due.specs.Own.{Own, own_of}
-use Rattle.bus_due.specs.Defs.{host_of, target_def_of}
-use Rattle.bus_due.specs.Wants.{ready_of}
-use Rattle.bus_due.specs.Sights.{serving_of}
-use Rattle.bus_due.specs.RunSteps.{run_state}
-use Rattle.bus_due.specs.Due.{reset_from}
+use Rattle.due_model.specs.dialogue_model.specs.NextPhase as next_phase
+use Rattle.due_model.specs.Own.{Own, own_of}
+use Rattle.due_model.specs.Defs.{host_of, target_def_of}
+use Rattle.due_model.specs.Wants.{ready_of}
+use Rattle.due_model.specs.Sights.{serving_of}
+use Rattle.due_model.specs.RunSteps.{run_state}
+use Rattle.due_model.specs.Due.{reset_from}
 use Rattle.target_units.specs.Readies.{ready_unit}
 use Rattle.target_units.specs.declared.ready.Ready.{Ready}
 use Rattle.target_course.specs.declared.knowledge.Knowledge.{Knowledge}
 use Rattle.target_course.specs.Fits.{AreFit}
 use Rattle.target_course.specs.Servings.{serving_with}
-use Rattle.disk_array.specs.Seats.{is_initiator}
+use Rattle.array_model.specs.Seats.{is_initiator}
 
 -- ---- what it knows itself
 

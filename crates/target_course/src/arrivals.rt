@@ -1,8 +1,8 @@
 //! What becomes of a command as it arrives (ANSI X3.131-1994, 6.6.6, 7.8).
 ghost use Rattle.std.specs.Prelude.{◌≡◌};
-ghost use Rattle.bus_due.specs.bus_dialogue.specs.Arrivals.{is_never, arrival_in, arrival_by};
+ghost use Rattle.due_model.specs.dialogue_model.specs.Arrivals.{is_never, arrival_in, arrival_by};
 
-use bus_due::the_bus_dialogue::{Arrival, Room};
+use due_model::the_dialogue_model::{Arrival, Room};
 use scenario::Policy;
 
 fn is_never(policy: Policy) -> bool

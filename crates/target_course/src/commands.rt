@@ -2,9 +2,9 @@
 ghost use Rattle.std.specs.Prelude.{◌≡◌};
 ghost use Rattle.cdb_codec.specs.Cdb.{has_group_len};
 ghost use Rattle.scenario.specs.Needs.{is_write};
-ghost use Rattle.disk_array.specs.Execution.{is_request_sense};
-ghost use Rattle.disk_array.specs.Order.{range_in};
-ghost use Rattle.bus_due.specs.Tasks.{blocks_in};
+ghost use Rattle.array_model.specs.Execution.{is_request_sense};
+ghost use Rattle.array_model.specs.Order.{range_in};
+ghost use Rattle.due_model.specs.Tasks.{blocks_in};
 
 use cdb_codec::{CdbFault, Command, blocks_moved, group_len};
 

@@ -1,13 +1,13 @@
 //! The data runs of a process: in how many goes, and which bytes in each, its data are moved (ANSI X3.131-1994, 6.6.6,
 //! 6.6.20). A place among bytes that is past the last u64 counts as that one; no data reach so far.
 ghost use Rattle.std.specs.Prelude.{ℕ, ◌≡◌, ◌+◌, ◌*◌, ◌<◌, ◌^◌, min, ◌-◌, ◌==◌, ◌&&◌, if◌then◌else◌, length, slice_index_or, nat_lt, List};
-ghost use Rattle.bus_due.specs.bus_dialogue.specs.DataRuns.{runs_in, runs_in_all, run_at, run_length, run_byte};
-ghost use Rattle.bus_due.specs.bus_dialogue.specs.PhaseBytes.{run_length_if, data_byte, one_if};
-ghost use Rattle.bus_due.specs.bus_story.specs.Budget.{runs_by};
+ghost use Rattle.due_model.specs.dialogue_model.specs.DataRuns.{runs_in, runs_in_all, run_at, run_length, run_byte};
+ghost use Rattle.due_model.specs.dialogue_model.specs.PhaseBytes.{run_length_if, data_byte, one_if};
+ghost use Rattle.due_model.specs.story_model.specs.Budget.{runs_by};
 ghost use Rattle.target_course.specs.Servings.{byte_if};
 ghost use Rattle.scenario.specs.declared.value.Policy.TheVariants.{Burst};
 
-use bus_due::the_bus_dialogue::Task;
+use due_model::the_dialogue_model::Task;
 use scenario::Policy;
 
 fn burst_count(most: u32, blocks: u32) -> u64

@@ -1,16 +1,16 @@
 //! The events that the target of a connection shows as it leaves a phase.
 ghost use Rattle.std.specs.Prelude.{ℕ, ◌≡◌, ◌&&◌, not, List, [], ◌∷◌, Some, if◌then◌else◌};
-ghost use Rattle.bus_due.specs.bus_dialogue.specs.NextPhase.{phase_leaving};
-ghost use Rattle.bus_due.specs.bus_dialogue.specs.Events.{arrival_event, arrival_events, detected_events, arrival_run_events, reply_events, is_status_next, has_replied, newest_with, turn_events, turn_events_if, unit_or_0, abort_events, loss_events, after_opening_events, connection_end_events, leaving_events, event_if};
+ghost use Rattle.due_model.specs.dialogue_model.specs.NextPhase.{phase_leaving};
+ghost use Rattle.due_model.specs.dialogue_model.specs.Events.{arrival_event, arrival_events, detected_events, arrival_run_events, reply_events, is_status_next, has_replied, newest_with, turn_events, turn_events_if, unit_or_0, abort_events, loss_events, after_opening_events, connection_end_events, leaving_events, event_if};
 ghost use Rattle.target_course.specs.Servings.{serving_with};
 ghost use Rattle.target_course.specs.Shown.{shown_list};
 
 use crate::next_phase::phase_leaving;
 use crate::serving::Serving;
 use bus_base::{AbortKind, Event, ProcId};
-use bus_due::the_bus_dialogue::{Arrival, Cause, Phase, Plan, Said, Task};
 use bus_trace::Connection;
 use cdb_codec::{INITIATOR_DETECTED_ERROR, PARITY_ERROR};
+use due_model::the_dialogue_model::{Arrival, Cause, Phase, Plan, Said, Task};
 
 /// What a row shows: nothing, one event, or two in this order.
 #[derive(Clone, Copy)]

@@ -4,19 +4,19 @@ ghost use Rattle.bus_trace.specs.declared.Row.{Row};
 ghost use Rattle.scenario.specs.declared.value.FaultDef.{FaultDef};
 ghost use Rattle.scenario.specs.declared.value.TargetDef.{TargetDef};
 ghost use Rattle.scenario.specs.Value.{ScenarioValue};
-ghost use Rattle.bus_due.specs.Next.{due};
-ghost use Rattle.bus_due.specs.Plain.{AreOfDevices};
-ghost use Rattle.bus_due.specs.RunSteps.{run_state};
+ghost use Rattle.due_model.specs.Next.{due};
+ghost use Rattle.due_model.specs.Plain.{AreOfDevices};
+ghost use Rattle.due_model.specs.RunSteps.{run_state};
 ghost use Rattle.target_units.specs.scsi_device.specs.Told.{told, first_fault};
 ghost use Rattle.target_course.specs.States.{TargetState, IsTargetOf, IsTargetLine, IsNoInitiator};
 ghost use Rattle.target_course.specs.Dues.{target_next};
 ghost use Rattle.target_course.specs.Plans.{plan_at, leaving_after, plan_begun};
 ghost use Rattle.bus_trace.specs.declared.connection.Connection.{Connection};
 ghost use Rattle.bus_trace.specs.Terms.{connection};
-ghost use Rattle.bus_due.specs.bus_dialogue.specs.Planning.{plan_after};
-ghost use Rattle.bus_due.specs.bus_dialogue.specs.Hearing.{hearing};
+ghost use Rattle.due_model.specs.dialogue_model.specs.Planning.{plan_after};
+ghost use Rattle.due_model.specs.dialogue_model.specs.Hearing.{hearing};
 
-use bus_due::{end_reactions_are_due, hearings_are_plain, kept_is_plain};
+use due_model::{end_reactions_are_due, hearings_are_plain, kept_is_plain};
 use target_units::the_scsi_device::devices_know_enough;
 
 /// What is due of a target is what it does next by what all devices are told, by what it knows itself, and by the first

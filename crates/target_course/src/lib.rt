@@ -8,7 +8,7 @@
 //! the serving. What its unit gives comes in as a [`ProcessState`], the unit that is ready first, and two bytes, which
 //! stand at the places that [`process_byte_place`] names. Beside its units a target keeps how far its processes have
 //! come ([`Progress`]), with whom it has negotiated ([`Negotiated`]), and which bytes came of its present writes
-//! ([`Gathered`]); each is told of every row. Stands on the definitions of `bus_dialogue` and `bus_due`, on
+//! ([`Gathered`]); each is told of every row. Stands on the definitions of `dialogue_model` and `due_model`, on
 //! `target_units`, and on `connect` and `handshake`.
 //!
 //! Public contract: each of these is exactly the definition of the same name, whatever it is given; a plan that is kept

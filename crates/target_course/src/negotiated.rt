@@ -3,18 +3,18 @@ ghost use Rattle.std.specs.Prelude.{◌≡◌, ◌<◌, ◌≤◌, ◌&&◌, ◌
 ghost use Rattle.bus_trace.specs.declared.Row.{Row};
 ghost use Rattle.bus_trace.specs.Terms.{connection};
 ghost use Rattle.scenario.specs.Value.{ScenarioValue};
-ghost use Rattle.bus_due.specs.bus_dialogue.specs.Hearing.{hearing as hearing_in};
-ghost use Rattle.bus_due.specs.LastingState.{has_negotiated};
-ghost use Rattle.bus_due.specs.Plain.{AreOfDevices};
-ghost use Rattle.bus_due.specs.RunSteps.{run_state, is_for_process, events_of_row};
+ghost use Rattle.due_model.specs.dialogue_model.specs.Hearing.{hearing as hearing_in};
+ghost use Rattle.due_model.specs.LastingState.{has_negotiated};
+ghost use Rattle.due_model.specs.Plain.{AreOfDevices};
+ghost use Rattle.due_model.specs.RunSteps.{run_state, is_for_process, events_of_row};
 ghost use Rattle.target_units.specs.scsi_device.specs.Heard.{heard};
 ghost use Rattle.target_course.specs.Negotiated.{nobody_met, opened_in, met_by_opening, is_opening_left, met_by_connection, met_after_reset, met_after_event, met_after_events, negotiated_seen, is_open_to, IsNegotiatedOf, IsHeardSo};
 
 use crate::progress::is_phase_left;
 use bus_base::{AbortKind, Dev, Event};
-use bus_due::the_bus_dialogue::Hearing;
-use bus_due::{hearings_are_plain, kept_is_plain};
 use bus_trace::{Connection, ScsiId, lines_on_the_bus};
+use due_model::the_dialogue_model::Hearing;
+use due_model::{hearings_are_plain, kept_is_plain};
 use std::marker::Model;
 
 /// With which initiators this target has had the connection in which the two may negotiate: the first one for a

@@ -1,10 +1,10 @@
 //! The course of a connection at its target: which phase follows, and what is said in it (ANSI X3.131-1994, 6.1.5 and
 //! 6.6).
 ghost use Rattle.std.specs.Prelude.{ℕ, ◌≡◌, List, Some};
-ghost use Rattle.bus_due.specs.bus_dialogue.specs.Arrivals.{policy_of};
-ghost use Rattle.bus_due.specs.bus_dialogue.specs.Exchange.{one_message, two_messages};
-ghost use Rattle.bus_due.specs.bus_dialogue.specs.Words.{reply_to, request_by, is_naming};
-ghost use Rattle.bus_due.specs.bus_dialogue.specs.NextPhase.{phase_of, bus_free, phase_entry, message_in_entry, recovery, pointer_restoration, next_data_phase, request_or_command, after_offer, after_opening, message_repetition, after_refusal, message_out_leaving, after_messages, disconnection, with_task, after_arrival, command_leaving, waits_seek, disconnect_messages, after_run, data_in_leaving, data_out_leaving, unless_attention, phase_leaving, leaving_by};
+ghost use Rattle.due_model.specs.dialogue_model.specs.Arrivals.{policy_of};
+ghost use Rattle.due_model.specs.dialogue_model.specs.Exchange.{one_message, two_messages};
+ghost use Rattle.due_model.specs.dialogue_model.specs.Words.{reply_to, request_by, is_naming};
+ghost use Rattle.due_model.specs.dialogue_model.specs.NextPhase.{phase_of, bus_free, phase_entry, message_in_entry, recovery, pointer_restoration, next_data_phase, request_or_command, after_offer, after_opening, message_repetition, after_refusal, message_out_leaving, after_messages, disconnection, with_task, after_arrival, command_leaving, waits_seek, disconnect_messages, after_run, data_in_leaving, data_out_leaving, unless_attention, phase_leaving, leaving_by};
 ghost use Rattle.msg_grammar.specs.declared.message.MsgIn.TheVariants as to_initiator;
 ghost use Rattle.target_course.specs.Fits.{AreFit};
 ghost use Rattle.target_course.specs.Servings.{serving_with};
@@ -12,8 +12,8 @@ ghost use Rattle.target_course.specs.Servings.{serving_with};
 use crate::data_runs::{has_further_run, runs_in_all};
 use crate::plans::no_messages;
 use crate::serving::Serving;
-use bus_due::the_bus_dialogue::{Arrival, Cause, Leaving, Messages, Next, Phase, Plan, Task};
 use bus_trace::{Agreement, Lines, UNLIMITED_OFFSET};
+use due_model::the_dialogue_model::{Arrival, Cause, Leaving, Messages, Next, Phase, Plan, Task};
 use msg_grammar::MsgIn;
 use scenario::{Policy, TargetDef};
 use target_units::the_scsi_device::agreement_answer;

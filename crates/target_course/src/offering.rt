@@ -1,7 +1,7 @@
 //! What the target of a connection has to do in the phase (ANSI X3.131-1994, 6.1.5, 6.1.9, 6.2.1).
 ghost use Rattle.std.specs.Prelude.{ℕ, ◌≡◌, ◌<◌, ◌^◌, List};
-ghost use Rattle.bus_due.specs.bus_dialogue.specs.NextPhase.{leaving_by};
-ghost use Rattle.bus_due.specs.bus_dialogue.specs.Ends.{seek_before, follows_by, offering_by};
+ghost use Rattle.due_model.specs.dialogue_model.specs.NextPhase.{leaving_by};
+ghost use Rattle.due_model.specs.dialogue_model.specs.Ends.{seek_before, follows_by, offering_by};
 ghost use Rattle.target_course.specs.Fits.{AreFit};
 ghost use Rattle.target_course.specs.Servings.{serving_with, AreBytesOf};
 
@@ -11,8 +11,8 @@ use crate::phase_bytes::{follows_in, lines_by, phase_byte};
 use crate::serving::{DataBytes, Serving};
 use bus_base::Ns;
 use bus_lines::Handshakes;
-use bus_reactions::Offering;
 use bus_trace::{Lines, is_command};
+use reaction_model::Offering;
 
 /// How long the target of a connection waits before it leaves the phase of these lines.
 pub fn seek_before(serving: &Serving, bus: Lines) -> Ns

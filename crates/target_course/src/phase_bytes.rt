@@ -1,19 +1,19 @@
 //! The bytes that the target gives, and how many bytes a phase has (ANSI X3.131-1994, 6.1.5, 6.1.9, 6.2.1).
 ghost use Rattle.std.specs.Prelude.{ℕ, ◌≡◌, ◌<◌, List, slice_index_or, Some, length};
 ghost use Rattle.msg_grammar.specs.Messages.{FitsIn, in_bytes};
-ghost use Rattle.bus_due.specs.bus_dialogue.specs.Arrivals.{policy_of};
-ghost use Rattle.bus_due.specs.bus_dialogue.specs.Exchange.{message_bytes, bytes_of_messages};
-ghost use Rattle.bus_due.specs.bus_dialogue.specs.NextPhase.{phase_lines};
-ghost use Rattle.bus_due.specs.bus_dialogue.specs.PhaseBytes.{status_byte, data_byte, phase_byte, has_whole_block, follows_in, lines_by, one_if};
+ghost use Rattle.due_model.specs.dialogue_model.specs.Arrivals.{policy_of};
+ghost use Rattle.due_model.specs.dialogue_model.specs.Exchange.{message_bytes, bytes_of_messages};
+ghost use Rattle.due_model.specs.dialogue_model.specs.NextPhase.{phase_lines};
+ghost use Rattle.due_model.specs.dialogue_model.specs.PhaseBytes.{status_byte, data_byte, phase_byte, has_whole_block, follows_in, lines_by, one_if};
 ghost use Rattle.target_course.specs.Servings.{serving_with};
 ghost use Rattle.target_course.specs.Fits.{FitsIf, AreFit};
 
 use crate::data_runs::run_length_if;
 use crate::plans::message_length;
 use crate::serving::Serving;
-use bus_due::the_bus_dialogue::{Leaving, Messages, Phase, Task};
 use bus_lines::Handshakes;
 use bus_trace::Lines;
+use due_model::the_dialogue_model::{Leaving, Messages, Phase, Task};
 use msg_grammar::{MsgIn, encode_in};
 
 // The byte at this place of a message; 00 past the last one.

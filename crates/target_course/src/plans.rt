@@ -1,12 +1,12 @@
 //! What the target of a connection plans in it, row by row (ANSI X3.131-1994, 6.6).
 ghost use Rattle.std.specs.Prelude.{◌≡◌, length};
-ghost use Rattle.bus_due.specs.bus_dialogue.specs.Exchange.{no_messages, nothing_heard, no_plan, plan_anew, tag_number, said_with, said_with_if, plan_anew_if, plan_after_message, struck_plan, message_bytes, from_byte};
-ghost use Rattle.bus_due.specs.bus_dialogue.specs.Planning.{first_plan, cause_after, plan_in_message_out, plan_in_phase, plan_with_byte, plan_after};
+ghost use Rattle.due_model.specs.dialogue_model.specs.Exchange.{no_messages, nothing_heard, no_plan, plan_anew, tag_number, said_with, said_with_if, plan_anew_if, plan_after_message, struck_plan, message_bytes, from_byte};
+ghost use Rattle.due_model.specs.dialogue_model.specs.Planning.{first_plan, cause_after, plan_in_message_out, plan_in_phase, plan_with_byte, plan_after};
 ghost use Rattle.target_course.specs.Fits.{AreFit};
 
 use bus_base::AbortKind;
-use bus_due::the_bus_dialogue::{Cause, Hearing, Leaving, Messages, Next, Plan, Said};
 use bus_trace::{Lines, changes_phase, is_message_in, is_message_out};
+use due_model::the_dialogue_model::{Cause, Hearing, Leaving, Messages, Next, Plan, Said};
 use msg_grammar::{MsgIn, MsgOut};
 use scenario::Tag;
 

@@ -4,20 +4,20 @@ ghost use Rattle.std.specs.Prelude.{ℕ, ◌≡◌, ◌<◌, ◌+◌, ◌^◌, [
 ghost use Rattle.bus_trace.specs.declared.Row.{Row};
 ghost use Rattle.bus_trace.specs.Terms.{connection as connection_after};
 ghost use Rattle.scenario.specs.Value.{ScenarioValue};
-ghost use Rattle.disk_array.specs.Processes.{Process, process_of};
-ghost use Rattle.bus_due.specs.bus_dialogue.specs.Hearing.{hearing as hearing_in};
-ghost use Rattle.bus_due.specs.Faithful.{faithful};
-ghost use Rattle.bus_due.specs.LastingState.{progress_in};
-ghost use Rattle.bus_due.specs.Plain.{AreOfDevices};
-ghost use Rattle.bus_due.specs.RunSteps.{run_state};
+ghost use Rattle.array_model.specs.Processes.{Process, process_of};
+ghost use Rattle.due_model.specs.dialogue_model.specs.Hearing.{hearing as hearing_in};
+ghost use Rattle.due_model.specs.Faithful.{faithful};
+ghost use Rattle.due_model.specs.LastingState.{progress_in};
+ghost use Rattle.due_model.specs.Plain.{AreOfDevices};
+ghost use Rattle.due_model.specs.RunSteps.{run_state};
 ghost use Rattle.target_course.specs.Progress.{no_counts, counts_after, no_pair, half_of, pair_after, counts_at, no_progress, is_phase_left, progress_counted, progress_seen, counts_of, IsProgressOf, IsLeftSo, AreExactly};
 ghost use Rattle.bus_phases.specs.Phases.{count_after};
 
 use bus_base::{Dev, NoMemory, ProcId};
-use bus_due::the_bus_dialogue::{Hearing, Leaving};
-use bus_due::{hearings_are_plain, kept_is_plain};
 use bus_phases::count_after;
 use bus_trace::{Connection, changes_phase};
+use due_model::the_dialogue_model::{Hearing, Leaving};
+use due_model::{hearings_are_plain, kept_is_plain};
 use scenario::Scenario;
 use std::alloc::Global;
 use std::marker::Model;

@@ -5,12 +5,12 @@ ghost use Rattle.bus_trace.specs.declared.connection.Connection.{Connection};
 ghost use Rattle.bus_trace.specs.Terms.{connection};
 ghost use Rattle.bus_trace.specs.Trace.{bus};
 ghost use Rattle.scenario.specs.Value.{ScenarioValue};
-ghost use Rattle.disk_array.specs.Execution.{queue_full, aborted_reply};
-ghost use Rattle.disk_array.specs.SoundArray.{HasSeats};
+ghost use Rattle.array_model.specs.Execution.{queue_full, aborted_reply};
+ghost use Rattle.array_model.specs.SoundArray.{HasSeats};
 ghost use Rattle.disk_unit.specs.Units.{told_of, planned_reply};
-ghost use Rattle.bus_due.specs.Allowed.{allowed};
-ghost use Rattle.bus_due.specs.Plain.{AreOfDevices};
-ghost use Rattle.bus_due.specs.Telling.{telling};
+ghost use Rattle.due_model.specs.Allowed.{allowed};
+ghost use Rattle.due_model.specs.Plain.{AreOfDevices};
+ghost use Rattle.due_model.specs.Telling.{telling};
 ghost use Rattle.target_units.specs.scsi_device.specs.Heard.{heard};
 ghost use Rattle.target_course.specs.Courses.{events_of_target};
 ghost use Rattle.target_course.specs.Replies.{reply_if, reply_after, IsReplyOf, IsOutlookAt};
@@ -19,8 +19,8 @@ ghost use Rattle.target_course.specs.States.{IsOwnConnection};
 
 use crate::events::Shown;
 use bus_base::Event;
-use bus_due::{hearings_are_plain, kept_is_plain};
 use disk_unit::{Plan, Reply, aborted_reply, planned_reply, refusal};
+use due_model::{hearings_are_plain, kept_is_plain};
 
 fn reply_with(was: Option<Reply>, event: Option<Event>, plan: &Plan) -> Option<Reply>
     ensures { result ≡ reply_if plan.now event was }

@@ -1,6 +1,6 @@
 // What the target of a connection goes by.
 
-use bus_due::the_bus_dialogue::{Arrival, Plan, Task};
+use due_model::the_dialogue_model::{Arrival, Plan, Task};
 use scenario::TargetDef;
 
 /// What the target of a connection decides by: its line of the scenario, what was said, and the process that it

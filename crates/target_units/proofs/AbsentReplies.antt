@@ -10,19 +10,20 @@ use Rattle.cdb_codec.specs.Replies.{sense_data, inquiry_data}
 use Rattle.cdb_codec.specs.declared.command.Command.{Command}
 use Rattle.cdb_codec.specs.declared.command.CdbFault.{CdbFault}
 use Rattle.cdb_codec.specs.Cdb.{command_of}
-use Rattle.disk_array.specs.Contents.{Contents, no_contents}
-use Rattle.disk_array.specs.Execution.{Reply, CommandContext, execution, check_condition, unit_not_supported, is_opcode}
-use Rattle.disk_array.specs.Execution.{is_request_sense, invalid_field, returned_sense}
-use Rattle.disk_array.specs.Seats.{Seat}
+use Rattle.array_model.specs.Contents.{Contents, no_contents}
+use Rattle.array_model.specs.Execution.{Reply, CommandContext, execution, check_condition, unit_not_supported}
+use Rattle.array_model.specs.Execution.{is_opcode}
+use Rattle.array_model.specs.Execution.{is_request_sense, invalid_field, returned_sense}
+use Rattle.array_model.specs.Seats.{Seat}
 use Rattle.disk_unit.proofs.Replies.{take_part}
 use Rattle.target_units.specs.Absent.{AbsentState, IsAbsentAt, absent_reply, absent_reply_by, data_or_refusal}
 use Rattle.target_units.specs.Absent.{inquiry_room, sense_room}
-use Rattle.disk_array.proofs.OperationCodes.{is_inquiry_or_faulty, inquiry_command}
-use Rattle.disk_array.proofs.Executed.{Passes, absent_executed, faulty_executed, carried_executed}
-use Rattle.disk_array.proofs.ExecutionFacts.{sense_executed}
+use Rattle.array_model.proofs.OperationCodes.{is_inquiry_or_faulty, inquiry_command}
+use Rattle.array_model.proofs.Executed.{Passes, absent_executed, faulty_executed, carried_executed}
+use Rattle.array_model.proofs.ExecutionFacts.{sense_executed}
 use Rattle.cdb_codec.specs.declared.command.Command.TheVariants as commands
 use Rattle.cdb_codec.specs.declared.command.CdbFault.TheVariants as faults
-use Rattle.disk_array.specs.Seats
+use Rattle.array_model.specs.Seats
 
 -- ---- the reply
 

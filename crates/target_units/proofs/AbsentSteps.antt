@@ -10,12 +10,12 @@ use Rattle.cdb_codec.specs.declared.status.TheConstants.{GOOD, CHECK_CONDITION}
 use Rattle.cdb_codec.specs.Cdb.{command_of}
 use Rattle.scenario.specs.declared.value.HostDef.{HostDef}
 use Rattle.scenario.specs.Value.{ScenarioValue}
-use Rattle.disk_array.specs.Execution.{Reply, execution, is_request_sense}
-use Rattle.disk_array.specs.Processes.{Process}
-use Rattle.disk_array.specs.Units.{RunningProcess, guest_at, starting_array}
-use Rattle.disk_array.specs.Steps.{running_if, unit_without}
-use Rattle.disk_array.specs.Seats
-use Rattle.disk_array.specs.Seats.{Seat, settled_seat}
+use Rattle.array_model.specs.Execution.{Reply, execution, is_request_sense}
+use Rattle.array_model.specs.Processes.{Process}
+use Rattle.array_model.specs.Units.{RunningProcess, guest_at, starting_array}
+use Rattle.array_model.specs.Steps.{running_if, unit_without}
+use Rattle.array_model.specs.Seats
+use Rattle.array_model.specs.Seats.{Seat, settled_seat}
 use Rattle.disk_unit.specs.Plans.{sense_if}
 use Rattle.disk_unit.specs.Units.{told_of}
 use Rattle.disk_unit.specs.declared.unit.Reply.{Reply as UnitReply}
@@ -238,7 +238,7 @@ aborted hosts seat v aborts.All by lt h = settles (Seats.seat_after_abort by sea
     (λ i. Seats.unit_mapped (Seats.unit_kept (λ p. p.initiator == by)) (h.none i)) refl refl)
 aborted hosts seat v (aborts.Tag n) by lt h = settles (Seats.seat_after_abort_tag by n seat) v
     (like seat (Seats.seat_after_abort_tag by n seat) v h (λ i. Seats.unit_mapped
-    (Seats.unit_kept (λ p. p.initiator == by && Rattle.disk_array.specs.Steps.has_tag p.tag n)) (h.none i)) refl refl)
+    (Seats.unit_kept (λ p. p.initiator == by && Rattle.array_model.specs.Steps.has_tag p.tag n)) (h.none i)) refl refl)
 aborted hosts seat v aborts.WholeQueue by lt h =
     settles (Seats.seat_after_clear_queue by seat) v (like seat (Seats.seat_after_clear_queue by seat) v h
     (λ i. Seats.unit_mapped (Seats.unit_kept (λ p. true)) (h.none i)) refl refl)

@@ -5,11 +5,11 @@ use Rattle.bus_base.specs.declared.Event.TheVariants as events
 use Rattle.bus_base.specs.declared.ProcId.{ProcId}
 use Rattle.cdb_codec.specs.Cdb.{command_of}
 use Rattle.scenario.specs.Value.{ScenarioValue}
-use Rattle.disk_array.specs.Execution.{is_request_sense}
-use Rattle.disk_array.specs.Processes.{Process, process_of}
-use Rattle.disk_array.specs.Units.{UnitState, Array, unit_state_at, with_unit, settled_array}
-use Rattle.disk_array.specs.Steps
-use Rattle.disk_array.specs.Steps.{step, settled_array_if}
+use Rattle.array_model.specs.Execution.{is_request_sense}
+use Rattle.array_model.specs.Processes.{Process, process_of}
+use Rattle.array_model.specs.Units.{UnitState, Array, unit_state_at, with_unit, settled_array}
+use Rattle.array_model.specs.Steps
+use Rattle.array_model.specs.Steps.{step, settled_array_if}
 
 took : (c d b : Array) → Some d ≡ Some b → d.replies ≡ c.replies → b.replies ≡ c.replies
 took c d b e f = let same : d ≡ b = cc in (λ i. (sym same i).replies) ∙ f

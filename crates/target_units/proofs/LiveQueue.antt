@@ -8,19 +8,19 @@ use Rattle.bus_base.specs.declared.ProcId.{ProcId}
 use Rattle.bus_base.proofs.Tests.{wrong, eq_self}
 use Rattle.cdb_codec.specs.Cdb.{command_of}
 use Rattle.scenario.specs.declared.value.HostDef.{HostDef}
-use Rattle.disk_array.specs.Execution.{Reply, is_request_sense}
-use Rattle.disk_array.specs.Processes.{Process, same_id}
-use Rattle.disk_array.specs.Units.{RunningProcess, UnitState, guest_at, without_guest}
-use Rattle.disk_array.specs.Steps.{running_if, guests_with_reply, kept_guests}
-use Rattle.disk_array.specs.Seats.{is_initiator}
-use Rattle.disk_array.proofs.SeatReplies.{id_self, id_turned}
-use Rattle.disk_array.proofs.SeatLookups.{same_id_is}
+use Rattle.array_model.specs.Execution.{Reply, is_request_sense}
+use Rattle.array_model.specs.Processes.{Process, same_id}
+use Rattle.array_model.specs.Units.{RunningProcess, UnitState, guest_at, without_guest}
+use Rattle.array_model.specs.Steps.{running_if, guests_with_reply, kept_guests}
+use Rattle.array_model.specs.Seats.{is_initiator}
+use Rattle.array_model.proofs.SeatReplies.{id_self, id_turned}
+use Rattle.array_model.proofs.SeatLookups.{same_id_is}
 use Rattle.tag_queue.specs.Queue.{Queued, has_key, key_of_process}
 use Rattle.disk_unit.specs.Books.{UnitBooks}
 use Rattle.disk_unit.specs.LiveCommands.{LiveCommand, HasLive, IsCurrentOf, AreApart, queued_of, waiting_processes}
 use Rattle.disk_unit.specs.LiveCommands.{process_under, has_process, live_but}
 use Rattle.disk_unit.proofs.LiveCommands.{process_found, entry_found, apart_key}
-use Rattle.bus_due.specs.RunSteps.{is_same_running}
+use Rattle.due_model.specs.RunSteps.{is_same_running}
 use Rattle.target_units.specs.Seated.{AreQueued, running_id, entry_id, id_under, current_id, is_same_process}
 
 -- ---- the same process

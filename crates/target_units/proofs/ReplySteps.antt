@@ -7,26 +7,28 @@ use Rattle.bus_base.specs.declared.Event.TheVariants as events
 use Rattle.bus_base.specs.declared.ProcId.{ProcId}
 use Rattle.cdb_codec.specs.Cdb.{command_of}
 use Rattle.scenario.specs.Value.{ScenarioValue}
-use Rattle.disk_array.proofs.SeatLaws.{accept_law}
-use Rattle.disk_array.specs.ArrayHistory.{reply_in}
-use Rattle.disk_array.specs.Execution.{Reply, execution, is_request_sense, queue_full, aborted_reply}
-use Rattle.disk_array.specs.Processes.{Process, process_of, same_id}
-use Rattle.disk_array.specs.Seats
-use Rattle.disk_array.specs.Seats.{Seat, seat_of, seat_if, context_of, settled_seat, settled_seat_if, seat_after_accept}
-use Rattle.disk_array.specs.Seats.{seat_after_accept_at, seat_with_waiting}
-use Rattle.disk_array.specs.SoundArray.{HasSeats, IsSound, AllOwnUnits, AllOwnGuests, IsOwnRunning}
-use Rattle.disk_array.specs.Steps
-use Rattle.disk_array.specs.Steps.{process_count, refuse_step_at, refuse_step, context_at, after_execution_at, run_step}
-use Rattle.disk_array.specs.Steps.{running_if, running_in, running_process, fail_step_of_new, fail_step, has_ended}
-use Rattle.disk_array.specs.Steps.{is_waiting, event_step, settled_array_if, step, with_guest}
-use Rattle.disk_array.specs.Units.{RunningProcess, UnitState, Array, guest_at, is_held, nexus_of, settled_array}
-use Rattle.disk_array.specs.Units.{unit_state_at}
-use Rattle.disk_array.proofs.ArrayReplies.{end_lists}
-use Rattle.disk_array.proofs.SeatReplies.{id_self}
-use Rattle.disk_array.proofs.SeatLookups.{same_id_is}
-use Rattle.bus_due.specs.Tasks.{reply_now}
+use Rattle.array_model.proofs.SeatLaws.{accept_law}
+use Rattle.array_model.specs.ArrayHistory.{reply_in}
+use Rattle.array_model.specs.Execution.{Reply, execution, is_request_sense, queue_full, aborted_reply}
+use Rattle.array_model.specs.Processes.{Process, process_of, same_id}
+use Rattle.array_model.specs.Seats
+use Rattle.array_model.specs.Seats.{Seat, seat_of, seat_if, context_of, settled_seat, settled_seat_if}
+use Rattle.array_model.specs.Seats.{seat_after_accept}
+use Rattle.array_model.specs.Seats.{seat_after_accept_at, seat_with_waiting}
+use Rattle.array_model.specs.SoundArray.{HasSeats, IsSound, AllOwnUnits, AllOwnGuests, IsOwnRunning}
+use Rattle.array_model.specs.Steps
+use Rattle.array_model.specs.Steps.{process_count, refuse_step_at, refuse_step, context_at, after_execution_at}
+use Rattle.array_model.specs.Steps.{run_step}
+use Rattle.array_model.specs.Steps.{running_if, running_in, running_process, fail_step_of_new, fail_step, has_ended}
+use Rattle.array_model.specs.Steps.{is_waiting, event_step, settled_array_if, step, with_guest}
+use Rattle.array_model.specs.Units.{RunningProcess, UnitState, Array, guest_at, is_held, nexus_of, settled_array}
+use Rattle.array_model.specs.Units.{unit_state_at}
+use Rattle.array_model.proofs.ArrayReplies.{end_lists}
+use Rattle.array_model.proofs.SeatReplies.{id_self}
+use Rattle.array_model.proofs.SeatLookups.{same_id_is}
+use Rattle.due_model.specs.Tasks.{reply_now}
 use Rattle.target_units.proofs.UnitTellings.{context_same}
-use Rattle.disk_array.proofs.SeatContexts.{settled_context}
+use Rattle.array_model.proofs.SeatContexts.{settled_context}
 
 -- ---- a step, before the choice
 

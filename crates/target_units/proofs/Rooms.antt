@@ -17,16 +17,16 @@ use Rattle.scenario.specs.declared.value.UnitDef.{UnitDef}
 use Rattle.scenario.specs.Lookups.{has_target, unit_of}
 use Rattle.scenario.specs.Needs.{is_write, moved_by, need_of, sent_of}
 use Rattle.scenario.specs.Value.{ScenarioValue}
-use Rattle.disk_array.specs.ArrayHistory.{array_after, array_step, reply_in}
-use Rattle.disk_array.specs.Contents.{Contents, blank_contents, filled_contents, starting_contents, with_block}
-use Rattle.disk_array.specs.Execution.{Reply, execution, is_good_range, range_of, is_request_sense, queue_full}
-use Rattle.disk_array.specs.Processes.{Process, process_of, process_if, process_by, command_at, payload_bytes}
-use Rattle.disk_array.specs.Processes.{sense_block, same_id}
-use Rattle.disk_array.specs.Seats.{seat_of, contents_of, context_of}
-use Rattle.disk_array.specs.SoundArray.{IsOwn}
-use Rattle.disk_array.specs.Units.{Array, UnitState, starting_array, starting_unit, starting_units, settled_array}
-use Rattle.disk_array.specs.Units.{unit_state_at}
-use Rattle.disk_array.proofs.SeatReplies.{id_self}
+use Rattle.array_model.specs.ArrayHistory.{array_after, array_step, reply_in}
+use Rattle.array_model.specs.Contents.{Contents, blank_contents, filled_contents, starting_contents, with_block}
+use Rattle.array_model.specs.Execution.{Reply, execution, is_good_range, range_of, is_request_sense, queue_full}
+use Rattle.array_model.specs.Processes.{Process, process_of, process_if, process_by, command_at, payload_bytes}
+use Rattle.array_model.specs.Processes.{sense_block, same_id}
+use Rattle.array_model.specs.Seats.{seat_of, contents_of, context_of}
+use Rattle.array_model.specs.SoundArray.{IsOwn}
+use Rattle.array_model.specs.Units.{Array, UnitState, starting_array, starting_unit, starting_units, settled_array}
+use Rattle.array_model.specs.Units.{unit_state_at}
+use Rattle.array_model.proofs.SeatReplies.{id_self}
 use Rattle.disk_unit.specs.Disk.{blocks_written, blocks_written_by, written_of}
 use Rattle.scsi_device.specs.Lines.{FitsBus, IsCommandLine}
 use Rattle.scsi_device.proofs.FitLines.{command_fits, unit_fits}
@@ -36,10 +36,10 @@ use Rattle.target_units.specs.declared.logical.LogicalUnit.{LogicalUnit}
 use Rattle.target_units.specs.Units.{HaveRoom, spare_of, unit_in}
 use Rattle.target_units.specs.Rooms.{blocks_left, blocks_left_at, IsOfLine, AreOfLines, HasRoomFor}
 use Rattle.target_units.proofs.Starts.{start_settled}
-use Rattle.disk_array.proofs.WholeBlocks.{HasSameExtent, extent_self, extent_more}
+use Rattle.array_model.proofs.WholeBlocks.{HasSameExtent, extent_self, extent_more}
 use Rattle.target_units.proofs.UnitTimes.{AreSame, HasMore, one_more, IsLater, step_later}
-use Rattle.disk_array.proofs.SeatLookups.{never_first}
-use Rattle.disk_array.proofs.ExecutionFacts.{good_range}
+use Rattle.array_model.proofs.SeatLookups.{never_first}
+use Rattle.array_model.proofs.ExecutionFacts.{good_range}
 use Rattle.cdb_codec.specs.declared.command.Command.TheVariants as commands
 
 -- ---- the blocks of a unit stay those of its line

@@ -14,18 +14,18 @@ use Rattle.cdb_codec.specs.declared.command.Command.{Command}
 use Rattle.cdb_codec.specs.declared.command.CdbFault.{CdbFault}
 use Rattle.cdb_codec.specs.Cdb.{command_of}
 use Rattle.scenario.specs.declared.value.HostDef.{HostDef}
-use Rattle.disk_array.specs.declared.entries.Entry.{Entry}
-use Rattle.disk_array.specs.Contents.{Contents}
-use Rattle.disk_array.specs.Execution.{Reply, Execution, execution, check_condition, is_good_range, range_of}
-use Rattle.disk_array.specs.Execution.{is_request_sense, queue_full, aborted_reply}
-use Rattle.disk_array.specs.Order.{entry_of, choice}
-use Rattle.disk_array.specs.Processes.{Process, same_id}
-use Rattle.disk_array.specs.Units.{RunningProcess, UnitState, with_current, has_no_current, guest_at, without_guest}
-use Rattle.disk_array.specs.Steps.{process_count, running_if, current_with_reply, unit_without, guests_with_reply}
-use Rattle.disk_array.specs.Steps.{kept_running, kept_guests, has_tag}
-use Rattle.disk_array.specs.Seats.{Seat, unit_with_choice, unit_with_reply, unit_with_contents, unit_kept}
-use Rattle.disk_array.proofs.SeatReplies.{id_self, guest_id}
-use Rattle.disk_array.proofs.SeatLookups.{same_id_is}
+use Rattle.array_model.specs.declared.entries.Entry.{Entry}
+use Rattle.array_model.specs.Contents.{Contents}
+use Rattle.array_model.specs.Execution.{Reply, Execution, execution, check_condition, is_good_range, range_of}
+use Rattle.array_model.specs.Execution.{is_request_sense, queue_full, aborted_reply}
+use Rattle.array_model.specs.Order.{entry_of, choice}
+use Rattle.array_model.specs.Processes.{Process, same_id}
+use Rattle.array_model.specs.Units.{RunningProcess, UnitState, with_current, has_no_current, guest_at, without_guest}
+use Rattle.array_model.specs.Steps.{process_count, running_if, current_with_reply, unit_without, guests_with_reply}
+use Rattle.array_model.specs.Steps.{kept_running, kept_guests, has_tag}
+use Rattle.array_model.specs.Seats.{Seat, unit_with_choice, unit_with_reply, unit_with_contents, unit_kept}
+use Rattle.array_model.proofs.SeatReplies.{id_self, guest_id}
+use Rattle.array_model.proofs.SeatLookups.{same_id_is}
 use Rattle.tag_queue.specs.Queue.{key_of_process}
 use Rattle.disk_unit.specs.AtSeats.{IsUnitAt}
 use Rattle.disk_unit.specs.Books.{UnitBooks, block_at, attention_at, initiator_at, books_with, books_after_choice}
@@ -42,18 +42,18 @@ use Rattle.disk_unit.specs.Units.{unit_reply}
 use Rattle.disk_unit.specs.declared.unit.Accepted.{Accepted}
 use Rattle.disk_unit.specs.declared.unit.Reply.{Reply as UnitReply}
 use Rattle.disk_unit.proofs.LiveCommands.{process_found, room_is}
-use Rattle.bus_due.specs.RunSteps.{is_same_running}
+use Rattle.due_model.specs.RunSteps.{is_same_running}
 use Rattle.target_units.specs.Rooms.{HasRoomFor}
 use Rattle.target_units.specs.Seated.{SeatedState, IsSeated, IsAtSeat, IsSince, current_reply, reply_told, current_id}
 use Rattle.target_units.specs.Seated.{running_id, is_same_process, seat_time, settled, since_after, reply_kept}
 use Rattle.target_units.specs.Seated.{with_books, AreQueued, IsProcess, IsNew, IsArrived, IsRun, IsRunLive, can_run}
 use Rattle.target_units.specs.Seated.{taken_at, HasSent, state_after_failure, state_after_end, state_ended}
 use Rattle.target_units.specs.Seated.{state_after_loss, books_after_guest, books_by_guest, IsSensing, IsCut}
-use Rattle.disk_array.proofs.Executed.{carried_executed}
-use Rattle.disk_array.proofs.ExecutionFacts.{command_good, sense_block_of, sense_executed, sent_apart, undone}
+use Rattle.array_model.proofs.Executed.{carried_executed}
+use Rattle.array_model.proofs.ExecutionFacts.{command_good, sense_block_of, sense_executed, sent_apart, undone}
 use Rattle.bus_base.specs.declared.AbortKind.TheVariants as aborts
 use Rattle.cdb_codec.specs.declared.command.Command.TheVariants as commands
-use Rattle.disk_array.specs.Seats
+use Rattle.array_model.specs.Seats
 use Rattle.tag_queue.specs.declared.those.Those.TheVariants as those
 use Rattle.disk_unit.specs.Books
 use Rattle.disk_unit.specs.Units

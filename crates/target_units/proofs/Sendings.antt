@@ -9,18 +9,18 @@ use Rattle.cdb_codec.specs.declared.status.TheConstants.{GOOD}
 use Rattle.scenario.specs.Lookups.{has_target}
 use Rattle.scenario.specs.Needs.{is_write}
 use Rattle.scenario.specs.Value.{ScenarioValue}
-use Rattle.disk_array.specs.Contents.{Contents}
-use Rattle.disk_array.specs.Execution.{execution, is_good_range, range_of, is_request_sense}
-use Rattle.disk_array.specs.Order.{count_in, range_in}
-use Rattle.disk_array.specs.Processes.{Process, process_of}
-use Rattle.disk_array.specs.Seats.{seat_of, contents_of, context_of}
-use Rattle.disk_array.specs.Units.{Array, UnitState, unit_state_at}
-use Rattle.bus_due.specs.Tasks.{reply_now, size_of}
+use Rattle.array_model.specs.Contents.{Contents}
+use Rattle.array_model.specs.Execution.{execution, is_good_range, range_of, is_request_sense}
+use Rattle.array_model.specs.Order.{count_in, range_in}
+use Rattle.array_model.specs.Processes.{Process, process_of}
+use Rattle.array_model.specs.Seats.{seat_of, contents_of, context_of}
+use Rattle.array_model.specs.Units.{Array, UnitState, unit_state_at}
+use Rattle.due_model.specs.Tasks.{reply_now, size_of}
 use Rattle.disk_unit.specs.Disk.{blocks_written, blocks_written_by, written_of}
 use Rattle.scsi_device.specs.Lines.{FitsBus}
 use Rattle.target_units.specs.Rooms.{AreOfLines}
 use Rattle.target_units.proofs.Rooms.{plain_id, Sends, sends}
-use Rattle.disk_array.proofs.ExecutionFacts.{good_range}
+use Rattle.array_model.proofs.ExecutionFacts.{good_range}
 use Rattle.target_units.proofs.UnitTellings.{reply_same}
 use Rattle.cdb_codec.specs.declared.command.Command.TheVariants as commands
 

@@ -6,11 +6,11 @@ use Rattle.bus_base.specs.declared.events.Pick.{Pick}
 use Rattle.scenario.specs.declared.value.FillDef.{FillDef}
 use Rattle.scenario.specs.declared.value.UnitDef.{UnitDef}
 use Rattle.scenario.specs.Value.{ScenarioValue}
-use Rattle.disk_array.specs.Contents.{Contents, starting_contents, with_block}
-use Rattle.disk_array.specs.Seats.{seat_of}
-use Rattle.disk_array.specs.Units.{Array, UnitState, starting_array, starting_unit, starting_units, units_after_choice}
-use Rattle.disk_array.specs.Units.{settled_array, pick_of}
-use Rattle.bus_due.specs.Wants.{since_of}
+use Rattle.array_model.specs.Contents.{Contents, starting_contents, with_block}
+use Rattle.array_model.specs.Seats.{seat_of}
+use Rattle.array_model.specs.Units.{Array, UnitState, starting_array, starting_unit, starting_units, units_after_choice}
+use Rattle.array_model.specs.Units.{settled_array, pick_of}
+use Rattle.due_model.specs.Wants.{since_of}
 use Rattle.target_units.specs.declared.logical.LogicalUnit.{LogicalUnit}
 use Rattle.target_units.specs.Units.{IsUnitOf, AreUnitsOf, HaveRoom, unit_in}
 use Rattle.disk_unit.specs.AtSeats.{IsUnitAt}
@@ -26,7 +26,7 @@ use Rattle.scenario.specs.declared.value.TargetDef.{TargetDef}
 use Rattle.scenario.specs.Lookups.{unit_of}
 use Rattle.scenario.specs.Reading.{is_block_of}
 use Rattle.scenario.specs.Reasons.{is_block_in}
-use Rattle.bus_due.specs.Defs.{target_def_of}
+use Rattle.due_model.specs.Defs.{target_def_of}
 use Rattle.scsi_device.specs.Lines.{FitsBus}
 use Rattle.scsi_device.proofs.Finds.{none_some, some_is}
 use Rattle.scsi_device.proofs.FitLines.{starts_none}

@@ -11,13 +11,13 @@ use Rattle.cdb_codec.specs.declared.replies.TheConstants.{SENSE_LEN}
 use Rattle.cdb_codec.specs.Cdb.{command_of}
 use Rattle.cdb_codec.specs.Replies.{sense_data}
 use Rattle.scenario.specs.declared.value.HostDef.{HostDef}
-use Rattle.disk_array.specs.Contents.{Contents}
-use Rattle.disk_array.specs.Execution.{Reply, execution, check_condition, is_request_sense, heeds_attention, no_sense}
-use Rattle.disk_array.specs.Execution.{returned_sense}
-use Rattle.disk_array.specs.Units.{RunningProcess, UnitState, has_no_current}
-use Rattle.disk_array.specs.Steps.{process_count, running_count}
-use Rattle.disk_array.specs.Seats.{Seat}
-use Rattle.bus_due.specs.bus_dialogue.specs.Wants.{ready_in}
+use Rattle.array_model.specs.Contents.{Contents}
+use Rattle.array_model.specs.Execution.{Reply, execution, check_condition, is_request_sense, heeds_attention, no_sense}
+use Rattle.array_model.specs.Execution.{returned_sense}
+use Rattle.array_model.specs.Units.{RunningProcess, UnitState, has_no_current}
+use Rattle.array_model.specs.Steps.{process_count, running_count}
+use Rattle.array_model.specs.Seats.{Seat}
+use Rattle.due_model.specs.dialogue_model.specs.Wants.{ready_in}
 use Rattle.tag_queue.specs.Queue.{is_held}
 use Rattle.disk_unit.specs.Books.{UnitBooks, sense_or_none}
 use Rattle.disk_unit.specs.Disk.{disk_reply, disk_context}
@@ -32,10 +32,10 @@ use Rattle.target_units.specs.Seated.{SeatedState, IsAtSeat, IsSince, seated_con
 use Rattle.target_units.specs.Seated.{current_reply, entry_under, current_entry, block_under, ready_by_entry, room_by}
 use Rattle.target_units.specs.Seated.{room_at}
 use Rattle.disk_unit.proofs.Replies.{take_part}
-use Rattle.disk_array.proofs.OperationCodes.{heeds_none}
-use Rattle.disk_array.proofs.ExecutionFacts.{IsSenseBlock, sense_block_of, sense_executed, sent_apart}
+use Rattle.array_model.proofs.OperationCodes.{heeds_none}
+use Rattle.array_model.proofs.ExecutionFacts.{IsSenseBlock, sense_block_of, sense_executed, sent_apart}
 use Rattle.cdb_codec.specs.declared.command.Command.TheVariants as commands
-use Rattle.disk_array.specs.Seats
+use Rattle.array_model.specs.Seats
 use Rattle.disk_unit.proofs.Keeping as keeping
 
 -- ---- the queue

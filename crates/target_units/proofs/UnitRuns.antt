@@ -6,13 +6,13 @@ use Rattle.cdb_codec.specs.Cdb.{command_of}
 use Rattle.scenario.specs.declared.value.HostDef.{HostDef}
 use Rattle.scenario.specs.Lookups.{unit_of}
 use Rattle.scenario.specs.Value.{ScenarioValue}
-use Rattle.disk_array.specs.ArrayHistory.{reply_in}
-use Rattle.disk_array.specs.Execution.{is_request_sense}
-use Rattle.disk_array.specs.Processes.{Process}
-use Rattle.disk_array.specs.Seats.{Seat, seat_of, contents_of, current_of, running_at}
-use Rattle.disk_array.specs.SoundArray.{IsOwn}
-use Rattle.disk_array.specs.Steps.{running_if}
-use Rattle.disk_array.specs.Units.{Array, RunningProcess, guest_at}
+use Rattle.array_model.specs.ArrayHistory.{reply_in}
+use Rattle.array_model.specs.Execution.{is_request_sense}
+use Rattle.array_model.specs.Processes.{Process}
+use Rattle.array_model.specs.Seats.{Seat, seat_of, contents_of, current_of, running_at}
+use Rattle.array_model.specs.SoundArray.{IsOwn}
+use Rattle.array_model.specs.Steps.{running_if}
+use Rattle.array_model.specs.Units.{Array, RunningProcess, guest_at}
 use Rattle.disk_unit.specs.Disk.{blocks_written}
 use Rattle.target_units.specs.declared.logical.LogicalUnit.{LogicalUnit}
 use Rattle.target_units.specs.declared.logical.LogicalUnit.TheVariants as kinds

@@ -12,20 +12,20 @@ use Rattle.scenario.specs.declared.value.HostDef.{HostDef}
 use Rattle.scenario.specs.Lookups.{unit_of}
 use Rattle.scenario.specs.Value.{ScenarioValue}
 use Rattle.cdb_codec.specs.declared.sense.TheConstants.{ABORTED_COMMAND}
-use Rattle.disk_array.specs.Execution.{Reply, execution, check_condition, sense_of}
-use Rattle.disk_array.specs.Processes.{Process, process_of, same_id}
-use Rattle.disk_array.specs.Units.{RunningProcess, UnitState, Array, unit_state_at, guest_at}
-use Rattle.disk_array.specs.Steps.{step, has_ended, running_if}
-use Rattle.disk_array.specs.Seats
-use Rattle.disk_array.specs.Seats.{Seat, seat_of, seat_if, settled_seat, settled_seat_if, current_of, is_elsewhere}
-use Rattle.disk_array.specs.Seats.{is_of_other_unit}
-use Rattle.disk_array.specs.SoundArray.{IsSound, HasSeats, IsOwn, IsOwnRunning}
-use Rattle.disk_array.proofs.SeatLaws as laws
-use Rattle.disk_array.proofs.SeatReplies.{id_self}
-use Rattle.disk_array.proofs.SeatLookups.{same_id_is}
-use Rattle.disk_array.proofs.SeatOwn.{own_found}
-use Rattle.bus_due.specs.Wants.{since_of}
-use Rattle.bus_due.specs.RunSteps.{is_same_running, current_times_after}
+use Rattle.array_model.specs.Execution.{Reply, execution, check_condition, sense_of}
+use Rattle.array_model.specs.Processes.{Process, process_of, same_id}
+use Rattle.array_model.specs.Units.{RunningProcess, UnitState, Array, unit_state_at, guest_at}
+use Rattle.array_model.specs.Steps.{step, has_ended, running_if}
+use Rattle.array_model.specs.Seats
+use Rattle.array_model.specs.Seats.{Seat, seat_of, seat_if, settled_seat, settled_seat_if, current_of, is_elsewhere}
+use Rattle.array_model.specs.Seats.{is_of_other_unit}
+use Rattle.array_model.specs.SoundArray.{IsSound, HasSeats, IsOwn, IsOwnRunning}
+use Rattle.array_model.proofs.SeatLaws as laws
+use Rattle.array_model.proofs.SeatReplies.{id_self}
+use Rattle.array_model.proofs.SeatLookups.{same_id_is}
+use Rattle.array_model.proofs.SeatOwn.{own_found}
+use Rattle.due_model.specs.Wants.{since_of}
+use Rattle.due_model.specs.RunSteps.{is_same_running, current_times_after}
 use Rattle.target_units.specs.declared.logical.LogicalUnit.{LogicalUnit}
 use Rattle.target_units.specs.declared.logical.LogicalUnit.TheVariants as kinds
 use Rattle.target_units.specs.Seated.{SeatedState, IsAtSeat, IsSince, seat_time}

@@ -2,22 +2,22 @@
 use Rattle.std.proofs.Common.{ℕ, ◌≡◌, ◌+◌, Bool, true, false, List, [], ◌∷◌, ◌∙◌, refl, sym, Option, Some, None}
 use Rattle.std.specs.Prelude.{if◌then◌else◌, is_some}
 use Rattle.scenario.specs.Value.{ScenarioValue}
-use Rattle.disk_array.specs.Execution.{execution}
-use Rattle.disk_array.specs.Processes.{Process}
-use Rattle.disk_array.specs.Units.{RunningProcess, UnitState, Array, unit_state_at, is_held}
-use Rattle.disk_array.specs.Steps.{context_at}
-use Rattle.disk_array.specs.Seats
-use Rattle.disk_array.specs.Seats.{Seat, seat_of}
-use Rattle.disk_array.specs.SoundArray.{IsSound, IsOwnRunning}
-use Rattle.bus_due.specs.bus_dialogue.specs.Wants as wants
-use Rattle.bus_due.specs.Wants as due
-use Rattle.bus_due.specs.Tasks.{room_of, size_of, reply_now}
+use Rattle.array_model.specs.Execution.{execution}
+use Rattle.array_model.specs.Processes.{Process}
+use Rattle.array_model.specs.Units.{RunningProcess, UnitState, Array, unit_state_at, is_held}
+use Rattle.array_model.specs.Steps.{context_at}
+use Rattle.array_model.specs.Seats
+use Rattle.array_model.specs.Seats.{Seat, seat_of}
+use Rattle.array_model.specs.SoundArray.{IsSound, IsOwnRunning}
+use Rattle.due_model.specs.dialogue_model.specs.Wants as wants
+use Rattle.due_model.specs.Wants as due
+use Rattle.due_model.specs.Tasks.{room_of, size_of, reply_now}
 use Rattle.target_units.specs.Readies.{ready_unit}
 use Rattle.target_units.specs.Seated.{room_at}
 use Rattle.target_units.specs.Units.{room_if, first_unit, is_before}
-use Rattle.disk_array.proofs.SeatSteps.{held_at}
-use Rattle.disk_array.proofs.SeatLookups.{found_target, found_unit}
-use Rattle.disk_array.proofs.SeatOwn.{own_found}
+use Rattle.array_model.proofs.SeatSteps.{held_at}
+use Rattle.array_model.proofs.SeatLookups.{found_target, found_unit}
+use Rattle.array_model.proofs.SeatOwn.{own_found}
 
 -- ---- a unit that is found
 

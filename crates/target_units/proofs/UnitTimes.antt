@@ -12,27 +12,28 @@ use Rattle.cdb_codec.specs.declared.status.TheConstants.{GOOD, CHECK_CONDITION}
 use Rattle.cdb_codec.specs.Cdb.{command_of}
 use Rattle.scenario.specs.declared.value.HostDef.{HostDef}
 use Rattle.scenario.specs.Value.{ScenarioValue}
-use Rattle.disk_array.specs.ArrayHistory.{reply_in}
-use Rattle.disk_array.specs.Contents.{Contents}
-use Rattle.disk_array.specs.Execution.{Reply, Execution, execution, is_request_sense, check_condition, sense_of}
-use Rattle.disk_array.specs.Execution.{queue_full, commands_cleared}
-use Rattle.disk_array.specs.Order.{choice}
-use Rattle.disk_array.specs.Processes.{Process, process_of, same_id}
-use Rattle.disk_array.specs.Units.{RunningProcess, UnitState, Nexus, Array, is_held, unit_state_at, with_unit, guest_at}
-use Rattle.disk_array.specs.Units.{nexus_of, with_current, has_no_current, units_after_choice, sense_of_nexus}
-use Rattle.disk_array.specs.Units.{senses_without, nexuses_without, settled_array}
-use Rattle.disk_array.specs.Steps.{event_step, step, settled_array_if}
-use Rattle.disk_array.specs.Seats.{current_of}
-use Rattle.disk_array.proofs.SeatLookups.{found_target, found_unit}
-use Rattle.disk_array.proofs.SeatReplies.{found_id}
-use Rattle.bus_due.specs.Wants.{since_of}
-use Rattle.bus_due.specs.RunSteps.{is_same_running, current_times_after}
+use Rattle.array_model.specs.ArrayHistory.{reply_in}
+use Rattle.array_model.specs.Contents.{Contents}
+use Rattle.array_model.specs.Execution.{Reply, Execution, execution, is_request_sense, check_condition, sense_of}
+use Rattle.array_model.specs.Execution.{queue_full, commands_cleared}
+use Rattle.array_model.specs.Order.{choice}
+use Rattle.array_model.specs.Processes.{Process, process_of, same_id}
+use Rattle.array_model.specs.Units.{RunningProcess, UnitState, Nexus, Array, is_held, unit_state_at, with_unit}
+use Rattle.array_model.specs.Units.{guest_at}
+use Rattle.array_model.specs.Units.{nexus_of, with_current, has_no_current, units_after_choice, sense_of_nexus}
+use Rattle.array_model.specs.Units.{senses_without, nexuses_without, settled_array}
+use Rattle.array_model.specs.Steps.{event_step, step, settled_array_if}
+use Rattle.array_model.specs.Seats.{current_of}
+use Rattle.array_model.proofs.SeatLookups.{found_target, found_unit}
+use Rattle.array_model.proofs.SeatReplies.{found_id}
+use Rattle.due_model.specs.Wants.{since_of}
+use Rattle.due_model.specs.RunSteps.{is_same_running, current_times_after}
 use Rattle.scsi_device.proofs.Finds.{none_some}
-use Rattle.disk_array.proofs.ExecutionFacts.{extent_kept}
-use Rattle.disk_array.proofs.WholeBlocks.{HasSameExtent, extent_self, extent_more}
+use Rattle.array_model.proofs.ExecutionFacts.{extent_kept}
+use Rattle.array_model.proofs.WholeBlocks.{HasSameExtent, extent_self, extent_more}
 use Rattle.bus_base.specs.declared.AbortKind.TheVariants as aborts
 use Rattle.bus_base.specs.declared.Event.TheVariants as events
-use Rattle.disk_array.specs.Steps
+use Rattle.array_model.specs.Steps
 
 -- The same targets and numbers, in one order.
 abbrev pub AreSame : List UnitState → List UnitState → Type 0

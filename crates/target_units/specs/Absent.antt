@@ -13,9 +13,9 @@ use Rattle.cdb_codec.specs.declared.sense.TheConstants.{ILLEGAL_REQUEST}
 use Rattle.cdb_codec.specs.declared.status.TheConstants.{GOOD, CHECK_CONDITION}
 use Rattle.cdb_codec.specs.Cdb.{command_of}
 use Rattle.cdb_codec.specs.Replies.{sense_data, inquiry_data}
-use Rattle.disk_array.specs.Execution.{Reply, good, check_condition, invalid_field, unit_not_supported, is_opcode}
-use Rattle.disk_array.specs.Execution.{returned_sense, sense_of}
-use Rattle.disk_array.specs.Seats.{Seat}
+use Rattle.array_model.specs.Execution.{Reply, good, check_condition, invalid_field, unit_not_supported, is_opcode}
+use Rattle.array_model.specs.Execution.{returned_sense, sense_of}
+use Rattle.array_model.specs.Seats.{Seat}
 use Rattle.disk_unit.specs.declared.media.Plan.{Plan}
 use Rattle.disk_unit.specs.declared.unit.Reply.{Reply as UnitReply}
 

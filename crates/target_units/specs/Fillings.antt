@@ -5,7 +5,7 @@ use Rattle.bus_base.specs.declared.events.Pick.{Pick}
 use Rattle.scenario.specs.declared.value.CmdDef.{CmdDef}
 use Rattle.scenario.specs.declared.value.FillDef.{FillDef}
 use Rattle.scenario.specs.declared.value.UnitDef.{UnitDef}
-use Rattle.disk_array.specs.Contents.{blank_contents, starting_contents}
+use Rattle.array_model.specs.Contents.{blank_contents, starting_contents}
 use Rattle.disk_unit.specs.Books.{empty_books}
 use Rattle.disk_unit.specs.Disk.{blocks_written}
 use Rattle.target_units.specs.Seated.{SeatedState}

@@ -1,6 +1,6 @@
 -- The unit that is ready for a reselection.
 use Rattle.std.specs.Prelude.{Option, Some, None}
-use Rattle.bus_due.specs.bus_dialogue.specs.Wants as wants
+use Rattle.due_model.specs.dialogue_model.specs.Wants as wants
 use Rattle.target_units.specs.declared.ready.Ready.{Ready}
 
 -- Of a ready process a target needs its time, its initiator and its unit.

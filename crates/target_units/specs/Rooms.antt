@@ -7,11 +7,11 @@ use Rattle.scenario.specs.declared.value.CmdDef.{CmdDef}
 use Rattle.scenario.specs.declared.value.UnitDef.{UnitDef}
 use Rattle.scenario.specs.Lookups.{unit_of}
 use Rattle.scenario.specs.Value.{ScenarioValue}
-use Rattle.disk_array.specs.ArrayHistory.{reply_in}
-use Rattle.disk_array.specs.Execution.{Reply, execution}
-use Rattle.disk_array.specs.Processes.{Process}
-use Rattle.disk_array.specs.Seats.{Seat, contents_of, context_of}
-use Rattle.disk_array.specs.Units.{Array, UnitState, unit_state_at}
+use Rattle.array_model.specs.ArrayHistory.{reply_in}
+use Rattle.array_model.specs.Execution.{Reply, execution}
+use Rattle.array_model.specs.Processes.{Process}
+use Rattle.array_model.specs.Seats.{Seat, contents_of, context_of}
+use Rattle.array_model.specs.Units.{Array, UnitState, unit_state_at}
 use Rattle.disk_unit.specs.Disk.{blocks_written}
 use Rattle.target_units.specs.Fillings.{blocks_by}
 

@@ -9,14 +9,14 @@ use Rattle.cdb_codec.specs.declared.Sense.{Sense}
 use Rattle.cdb_codec.specs.declared.status.TheConstants.{GOOD}
 use Rattle.cdb_codec.specs.Cdb.{command_of}
 use Rattle.scenario.specs.declared.value.HostDef.{HostDef}
-use Rattle.disk_array.specs.declared.entries.Entry.{Entry}
-use Rattle.disk_array.specs.Contents.{Contents}
-use Rattle.disk_array.specs.Execution.{Reply, CommandContext, execution, is_request_sense, aborted_reply}
-use Rattle.disk_array.specs.Order.{class_of, tag_number, entry_of}
-use Rattle.disk_array.specs.Processes.{Process, same_id}
-use Rattle.disk_array.specs.Units.{RunningProcess, UnitState, guest_at, has_no_current}
-use Rattle.disk_array.specs.Steps.{running_if, process_count}
-use Rattle.disk_array.specs.Seats.{Seat, current_of, context_of, is_initiator, is_waiting_at}
+use Rattle.array_model.specs.declared.entries.Entry.{Entry}
+use Rattle.array_model.specs.Contents.{Contents}
+use Rattle.array_model.specs.Execution.{Reply, CommandContext, execution, is_request_sense, aborted_reply}
+use Rattle.array_model.specs.Order.{class_of, tag_number, entry_of}
+use Rattle.array_model.specs.Processes.{Process, same_id}
+use Rattle.array_model.specs.Units.{RunningProcess, UnitState, guest_at, has_no_current}
+use Rattle.array_model.specs.Steps.{running_if, process_count}
+use Rattle.array_model.specs.Seats.{Seat, current_of, context_of, is_initiator, is_waiting_at}
 use Rattle.tag_queue.specs.Queue.{Queued, has_key, entry_at, is_held}
 use Rattle.disk_unit.specs.AtSeats.{IsUnitAt}
 use Rattle.disk_unit.specs.Books.{UnitBooks, block_at, attention_at, initiator_at, books_with, books_after_choice}
@@ -27,9 +27,9 @@ use Rattle.disk_unit.specs.Units.{IsAborted, is_reported, bytes_taken, books_if_
 use Rattle.disk_unit.specs.declared.unit.Accepted.{Accepted}
 use Rattle.disk_unit.specs.declared.unit.Accepted.TheVariants as accepted
 use Rattle.disk_unit.specs.declared.unit.Reply.{Reply as UnitReply}
-use Rattle.bus_due.specs.bus_dialogue.specs.declared.exchange.Room.{Room}
+use Rattle.due_model.specs.dialogue_model.specs.declared.exchange.Room.{Room}
 use Rattle.target_units.specs.declared.ready.Ready.{Ready}
-use Rattle.bus_due.specs.RunSteps.{is_same_running}
+use Rattle.due_model.specs.RunSteps.{is_same_running}
 
 pub record SeatedState : Type 0 where
   -- its commands, and what it keeps for each initiator

@@ -8,17 +8,17 @@ use Rattle.scenario.specs.declared.value.HostDef.{HostDef}
 use Rattle.scenario.specs.Lookups.{has_target, unit_of}
 use Rattle.scenario.specs.Value.{ScenarioValue}
 use Rattle.scsi_device.specs.Lines.{FitsBus}
-use Rattle.disk_array.specs.Seats.{Seat, seat_of}
-use Rattle.disk_array.specs.SoundArray.{HasSeats, IsSound}
-use Rattle.disk_array.specs.Steps.{step}
-use Rattle.disk_array.specs.Execution.{Reply, execution}
-use Rattle.disk_array.specs.Units.{Array, UnitState}
-use Rattle.bus_due.specs.bus_dialogue.specs.declared.exchange.Room.{Room}
-use Rattle.disk_array.specs.Contents.{Contents}
+use Rattle.array_model.specs.Seats.{Seat, seat_of}
+use Rattle.array_model.specs.SoundArray.{HasSeats, IsSound}
+use Rattle.array_model.specs.Steps.{step}
+use Rattle.array_model.specs.Execution.{Reply, execution}
+use Rattle.array_model.specs.Units.{Array, UnitState}
+use Rattle.due_model.specs.dialogue_model.specs.declared.exchange.Room.{Room}
+use Rattle.array_model.specs.Contents.{Contents}
 use Rattle.disk_unit.specs.Books.{books_after_reset}
 use Rattle.disk_unit.specs.Sparse.{Store}
-use Rattle.bus_due.specs.Wants.{since_of}
-use Rattle.bus_due.specs.RunSteps.{current_times_after}
+use Rattle.due_model.specs.Wants.{since_of}
+use Rattle.due_model.specs.RunSteps.{current_times_after}
 use Rattle.target_units.specs.declared.ready.Ready.{Ready}
 use Rattle.target_units.specs.declared.logical.LogicalUnit.{LogicalUnit}
 use Rattle.target_units.specs.declared.logical.LogicalUnit.TheVariants as kinds

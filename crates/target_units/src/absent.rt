@@ -2,10 +2,10 @@
 ghost use Rattle.std.specs.Prelude.{◌≡◌, ℕ, ◌<◌, ◌≤◌, ◌+◌, Bool, false, List, length, take, drop, Option, Some, None, slice_index_or};
 ghost use Rattle.cdb_codec.specs.declared.operation.TheConstants.{INQUIRY as INQUIRY_CODE};
 ghost use Rattle.scenario.specs.declared.value.HostDef.{HostDef};
-ghost use Rattle.disk_array.specs.Execution.{Reply as ArrayReply, execution, is_opcode, returned_sense, sense_of};
-ghost use Rattle.disk_array.specs.Processes.{Process};
-ghost use Rattle.disk_array.specs.Seats.{Seat, settled_seat, seat_after_end, seat_after_aborted, seat_after_reset, context_of};
-ghost use Rattle.disk_array.specs.Units.{guest_at};
+ghost use Rattle.array_model.specs.Execution.{Reply as ArrayReply, execution, is_opcode, returned_sense, sense_of};
+ghost use Rattle.array_model.specs.Processes.{Process};
+ghost use Rattle.array_model.specs.Seats.{Seat, settled_seat, seat_after_end, seat_after_aborted, seat_after_reset, context_of};
+ghost use Rattle.array_model.specs.Units.{guest_at};
 ghost use Rattle.disk_unit.specs.Plans.{plan_of};
 ghost use Rattle.disk_unit.specs.Units.{told_of};
 ghost use Rattle.target_units.specs.Seated.{IsSensing};

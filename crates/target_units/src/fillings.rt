@@ -1,6 +1,6 @@
 //! What a unit holds at the start, and the memory that its commands need.
 ghost use Rattle.std.specs.Prelude.{◌≡◌, ◌+◌, ◌-◌, ◌^◌, ◌≤◌, ◌==◌, ◌&&◌, true, [], ◌∷◌, min, if◌then◌else◌, IfOk};
-ghost use Rattle.disk_array.specs.Contents.{blank_contents, with_block, filled_contents};
+ghost use Rattle.array_model.specs.Contents.{blank_contents, with_block, filled_contents};
 ghost use Rattle.target_units.specs.Fillings.{is_filled_by, AreFilled, fill_count as fills_of, blocks_by, blocks_by_all as blocks_of_all};
 
 use bus_base::NoMemory;

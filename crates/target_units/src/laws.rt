@@ -8,18 +8,18 @@ ghost use Rattle.cdb_codec.specs.declared.status.TheConstants.{GOOD};
 ghost use Rattle.scenario.specs.declared.value.TargetDef.{TargetDef};
 ghost use Rattle.scenario.specs.Needs.{is_write};
 ghost use Rattle.scenario.specs.Value.{ScenarioValue};
-ghost use Rattle.bus_due.specs.Defs.{target_def_of};
-ghost use Rattle.disk_array.specs.ArrayHistory.{array_after};
-ghost use Rattle.disk_array.specs.Order.{range_in, count_in};
-ghost use Rattle.disk_array.specs.Processes.{Process, process_of};
-ghost use Rattle.disk_array.specs.Seats.{is_elsewhere};
-ghost use Rattle.disk_array.specs.Steps.{step};
-ghost use Rattle.disk_array.specs.Units.{Array, unit_state_at};
+ghost use Rattle.due_model.specs.Defs.{target_def_of};
+ghost use Rattle.array_model.specs.ArrayHistory.{array_after};
+ghost use Rattle.array_model.specs.Order.{range_in, count_in};
+ghost use Rattle.array_model.specs.Processes.{Process, process_of};
+ghost use Rattle.array_model.specs.Seats.{is_elsewhere};
+ghost use Rattle.array_model.specs.Steps.{step};
+ghost use Rattle.array_model.specs.Units.{Array, unit_state_at};
 ghost use Rattle.scsi_device.specs.Lines.{FitsBus};
 ghost use Rattle.target_units.specs.Units.{AreUnitsOf, AreUnitsAfter, IsStep, unit_in, contents_in, state_contents};
 ghost use Rattle.target_units.specs.Rooms.{AreOfLines};
 ghost use Rattle.target_units.specs.declared.logical.LogicalUnit.{LogicalUnit};
-ghost use Rattle.bus_due.specs.Tasks.{size_of, reply_now};
+ghost use Rattle.due_model.specs.Tasks.{size_of, reply_now};
 
 /// What the units hold that are there, before their blocks are handed out, is what the units of the array hold.
 pub fn units_hold_their_blocks()

@@ -3,7 +3,7 @@
 //! [`Units`] are the eight of a target: a [`LogicalUnit`] is there, a [`SeatedUnit`] with its queue, its hold and its
 //! blocks, or it is not, an [`AbsentUnit`], which keeps senses and a hold all the same. [`Ready`] is the unit whose
 //! current process is ready for a reselection. Stands on `disk_unit`, `tag_queue`, `scsi_device` and the definitions of
-//! `disk_array` and `bus_due`.
+//! `array_model` and `due_model`.
 //!
 //! Public contract: where each unit stands at its seat (`specs/Units.antt`, `AreUnitsOf`), as it does before any event,
 //! it does so after every event that the array permits, with the choice that follows it; and what it tells is that of

@@ -1,7 +1,7 @@
 //! What units of both kinds need: a part of some bytes, and which commands are REQUEST SENSE.
 ghost use Rattle.std.specs.Prelude.{◌≡◌, ◌≤◌, ◌+◌, length, take, drop};
 ghost use Rattle.cdb_codec.specs.Cdb.{command_of};
-ghost use Rattle.disk_array.specs.Execution.{is_request_sense};
+ghost use Rattle.array_model.specs.Execution.{is_request_sense};
 
 use cdb_codec::{CdbFault, Command, from_cdb};
 use disk_unit::heeds_attention;

@@ -11,16 +11,16 @@ pub use std_proofs.lemmas.Option.{same_Some}
 use Rattle.std.specs as std
 pub use std.{List.{AllByRecursion, find, list_any}, Prelude.{drop, if◌then◌else◌, is_none, is_some, max, min, nat_le}}
 pub use std.Prelude.{nat_lt, slice_index, slice_index_or, slice_set, ⊤, ◌-◌}
-use Rattle.bus_due.specs.bus_base.proofs as bus_base_proofs
+use Rattle.due_model.specs.bus_base.proofs as bus_base_proofs
 pub use bus_base_proofs.Tests.{all_three, and_second, eq_self, implication, implication_parts, is_nothing, none_number}
 pub use bus_base_proofs.Tests.{nothing_below, or_false, or_true, plus_none, suc_some, times_none, unless, wrong, wrong'}
 pub use bus_base_proofs.Tests.{zero_of}
-use Rattle.bus_due.specs.bus_base.specs as bus_base
+use Rattle.due_model.specs.bus_base.specs as bus_base
 pub use bus_base.{Faults.{counted_on}, declared.{AbortKind.{AbortKind}, Event.{Event}, ProcId.{ProcId}}}
-use Rattle.bus_due.specs.bus_trace.proofs as bus_trace_proofs
+use Rattle.due_model.specs.bus_trace.proofs as bus_trace_proofs
 pub use bus_trace_proofs.{Buses.{bus_off, bus_on}, OddParity.{byte_back}, OneRow.{bus-fault, drives-fault}}
 pub use bus_trace_proofs.{OneRow.{drives-other}, Sets.{same_self, same_set-eq}}
-use Rattle.bus_due.specs.bus_trace.specs as bus_trace
+use Rattle.due_model.specs.bus_trace.specs as bus_trace
 pub use bus_trace.{Changes.{change_of, falls, rises, same_phase}, LineSet.{LineSet, has_odd_parity, none, same}}
 pub use bus_trace.{LineSet.{same_set, union}, Phases.{changes_phase, is_command, is_data, is_message_in}}
 pub use bus_trace.{Phases.{is_message_out}, Terms.{call, connected, connected_by, connected_of, connection}}
@@ -29,108 +29,111 @@ pub use bus_trace.{Trace.{driven_after, drives, last_time, line_times, phase_tim
 pub use bus_trace.declared.{Kind.TheVariants.{Drives, Fault}, Row.{Row}, agreements.Agreement.{Agreement}}
 pub use bus_trace.declared.{changes.Change.{Change}, connection.Connection.{Connection}}
 pub use bus_trace.declared.{delays.TheConstants.{BUS_SETTLE_DELAY}, selection.{Call.{Call}, Calling.{Calling}}}
-use Rattle.bus_due.specs.bus_lines.proofs as bus_lines_proofs
+use Rattle.due_model.specs.bus_lines.proofs as bus_lines_proofs
 pub use bus_lines_proofs.Early.{struck_same}
-use Rattle.bus_due.specs.bus_lines.specs as bus_lines
+use Rattle.due_model.specs.bus_lines.specs as bus_lines
 pub use bus_lines.{Effect.{effect}, Handshakes.{Handshakes, answered, answered_if, asked, asked_if, first_of}}
-pub use bus_lines.Handshakes.{handshakes, handshakes_after, handshakes_on, is_struck, no_handshakes, opened, strikes_if}
-pub use bus_lines.{Handshakes.{strikes_last}, declared.handshakes.Request.{Request}}
-use Rattle.bus_due.specs.cdb_codec.specs as cdb_codec
+pub use bus_lines.Handshakes.{handshakes, handshakes_after, handshakes_on, is_struck, newest_struck, newest_struck_if}
+pub use bus_lines.{Handshakes.{no_handshakes, opened, with_last_struck}, declared.handshakes.Request.{Request}}
+use Rattle.due_model.specs.cdb_codec.specs as cdb_codec
 pub use cdb_codec.Cdb.{are_zero, command_of, has_group_len, sized_of, spare_room, where_zero}
 pub use cdb_codec.{Operations.{operation_of}, declared.command.{CdbFault.{CdbFault}, Command.{Command}}}
 pub use cdb_codec.declared.{operation.TheConstants.{INQUIRY}, sense.TheConstants.{INITIATOR_DETECTED_ERROR}}
 pub use cdb_codec.declared.{sense.TheConstants.{PARITY_ERROR}, status.TheConstants.{GOOD}}
-use Rattle.bus_due.specs.msg_grammar.specs as msg_grammar
+use Rattle.due_model.specs.msg_grammar.specs as msg_grammar
 pub use msg_grammar.{Messages.{got_in, got_out}, declared.message.{MsgIn.{MsgIn}, MsgOut.{MsgOut}}}
-use Rattle.bus_due.specs.bus_phases.specs as bus_phases
+use Rattle.due_model.specs.bus_phases.specs as bus_phases
 pub use bus_phases.Dialogue.{byte_crosses, byte_else, byte_in, byte_out, dialogue, fresh_bytes, is_of_other}
 pub use bus_phases.declared.{dialogue.Dialogue.{Dialogue}, words.End.{End}}
-use Rattle.bus_due.specs.bus_rules.specs as bus_rules
+use Rattle.due_model.specs.bus_rules.specs as bus_rules
 pub use bus_rules.{Order.{is_of_device}, Reset.{only_rst}, Rules.{broken_rule}}
-use Rattle.bus_due.specs.scenario.proofs as scenario_proofs
+use Rattle.due_model.specs.scenario.proofs as scenario_proofs
 pub use scenario_proofs.Steps.{bind_ok, ok_is, read_policy, within_ok}
-use Rattle.bus_due.specs.scenario.specs as scenario
+use Rattle.due_model.specs.scenario.specs as scenario
 pub use scenario.{Forms.{Said, target_line}, Lookups.{has_device, has_target, unit_of}, Needs.{is_write, moved_by}}
 pub use scenario.{Reading.{guard, in_8, period_in, within}, Value.{ScenarioValue}, Writing.{Obeys, said_policy}}
 pub use scenario.declared.bounds.TheConstants.{BURST_LIMIT, LATENCY_LIMIT, RETRY_LIMIT, SEEK_LIMIT, TARGET_OFFSET_LIMIT}
 pub use scenario.declared.value.{AbortDef.{AbortDef}, CmdDef.{CmdDef}, Policy.{Policy}, Tag.{Tag}}
 pub use scenario.declared.value.{TargetDef.{TargetDef}, UnitDef.{UnitDef}}
 unfoldable pub use scenario.{Needs.{need_of, sent_of}, Reading.{policy_in, target_def}}
-use Rattle.bus_due.specs.disk_array.proofs as disk_array_proofs
-pub use disk_array_proofs.{Executed.{absent_executed}, ExecutionFacts.{good_range}, SeatLookups.{found_target}}
-pub use disk_array_proofs.{SeatLookups.{found_unit}, SeatOwn.{own_found}, SeatSteps.{choice_target, choice_unit}}
-pub use disk_array_proofs.SoundArrays.{current_process, history_sound, is_own, start_sound, step_sound}
-use Rattle.bus_due.specs.disk_array.specs as disk_array
-pub use disk_array.{ArrayHistory.{array_after, array_step, is_run, reply_in, shows_run}, Contents.{Contents}}
-pub use disk_array.Execution.{CommandContext, Reply, aborted_reply, execution, is_opcode, is_request_sense, needs_unit}
-pub use disk_array.{Order.{choice, count_in, range_in}, Processes.{Process, command_at, process_by, process_if}}
-pub use disk_array.{Processes.{process_of, same_id}, Seats.{contents_of, context_of, current_of, is_initiator, seat_of}}
-pub use disk_array.SoundArray.{AllOwnUnits, AreApart, HasSeats, IsOwn, IsOwnRunning, IsOwnUnit, IsSound}
-pub use disk_array.Steps.{accept_step, accept_step_at, after_status, array_without, context_at, end_step, end_step_with}
-pub use disk_array.Steps.{has_ended, is_waiting, process_count, queue_step, running_if, running_in, running_process}
-pub use disk_array.{Steps.{settled_array_if, step, with_guest}, Units.{Array, Nexus, RunningProcess, UnitState}}
-pub use disk_array.Units.{guest_at, has_no_current, is_held, nexus_of, settled_array, starting_array, unit_after_choice}
-pub use disk_array.Units.{unit_state_at, units_after_choice, with_current, with_unit, without_reply}
-use Rattle.bus_due.specs.bus_story.proofs as bus_story_proofs
-pub use bus_story_proofs.{CarriedLists.{carried_id, carried_with}, StorySteps.{byte_link, carried_link, check_carried}}
-pub use bus_story_proofs.StorySteps.{ends_carried, events_link, events_sent, fault_link, free_carried, message_id}
-pub use bus_story_proofs.StorySteps.{out_link}
-use Rattle.bus_due.specs.bus_story.specs as bus_story
-pub use bus_story.BusState.{RowReading, message_in, message_out, row_reading, whole_in, whole_out}
-pub use bus_story.CarriedBytes.{Area, CarriedBytes, area_with, carried_after_byte, carried_after_fault}
-pub use bus_story.CarriedBytes.{carried_after_message, carried_of, carried_or_nothing, is_status_phase, is_whole_block}
-pub use bus_story.{CarriedBytes.{with_carried, with_restored_pointers}, HistoryEvents.{abort_line_at}}
-pub use bus_story.HistoryEvents.{abort_line_events, bus_free_events, carried_if, connection_events, end_events}
-pub use bus_story.HistoryEvents.{is_complete, is_completion, is_refuse, item_abort_events, item_loss_events}
-pub use bus_story.HistoryEvents.{link_events, phase_events, queue_event, queue_events, row_events_by, status_event}
-pub use bus_story.{HistoryEvents.{status_events}, Items.{Item, Sent, abort, has_item, process, sense_item}}
-pub use bus_story.Links.{LastMessage, Link, abortive, complete, disconnect, last_in, last_out, link_after_name, link_of}
-pub use bus_story.{Links.{plain}, Right.{same_bytes}, Story.{Story, by_abort, is_aborted, is_sense_stopped}}
-pub use bus_story.{Story.{marked_refused, marked_shown, story_after_event, story_after_events}, TraceHistory.{aim_of}}
-pub use bus_story.TraceHistory.{carried_after_byte_if, carried_after_fault_if, carried_after_message_if}
-pub use bus_story.TraceHistory.{is_parity_error, story_after_byte, story_after_connection, story_after_fault}
-pub use bus_story.TraceHistory.{story_after_in, story_after_message, story_after_out, story_by_change}
-pub use bus_story.TraceHistory.{story_in_connection, story_on_bus, story_on_free_bus, story_with_carried}
-pub use bus_story.TraceHistory.{story_with_restored, story_with_sent, trace_history}
+use Rattle.due_model.specs.array_model.proofs as array_model_proofs
+pub use array_model_proofs.{Executed.{absent_executed}, ExecutionFacts.{good_range}, SeatLookups.{found_target}}
+pub use array_model_proofs.{SeatLookups.{found_unit}, SeatOwn.{own_found}, SeatSteps.{choice_target, choice_unit}}
+pub use array_model_proofs.SoundArrays.{current_process, history_sound, is_own, start_sound, step_sound}
+use Rattle.due_model.specs.array_model.specs as array_model
+pub use array_model.{ArrayHistory.{array_after, array_step, is_run, reply_in, shows_run}, Contents.{Contents}}
+pub use array_model.Execution.{CommandContext, Reply, aborted_reply, execution, is_opcode, is_request_sense, needs_unit}
+pub use array_model.{Order.{choice, count_in, range_in}, Processes.{Process, command_at, process_by, process_if}}
+pub use array_model.{Processes.{process_of, same_id}, Seats.{contents_of, context_of, current_of, is_initiator}}
+pub use array_model.{Seats.{seat_of}, SoundArray.{AllOwnUnits, AreApart, HasSeats, IsOwn, IsOwnRunning, IsOwnUnit}}
+pub use array_model.{SoundArray.{IsSound}, Steps.{accept_step, accept_step_at, after_status, array_without, context_at}}
+pub use array_model.Steps.{end_step, end_step_with, has_ended, is_waiting, process_count, queue_step, running_if}
+pub use array_model.{Steps.{running_in, running_process, settled_array_if, step, with_guest}, Units.{Array, Nexus}}
+pub use array_model.Units.{RunningProcess, UnitState, guest_at, has_no_current, is_held, nexus_of, settled_array}
+pub use array_model.Units.{starting_array, unit_after_choice, unit_state_at, units_after_choice, with_current}
+pub use array_model.Units.{with_unit, without_reply}
+use Rattle.due_model.specs.story_model.proofs as story_model_proofs
+pub use story_model_proofs.{CarriedLists.{carried_id, carried_with}, StorySteps.{byte_link, carried_link}}
+pub use story_model_proofs.StorySteps.{check_carried, ends_carried, events_link, events_sent, fault_link, free_carried}
+pub use story_model_proofs.StorySteps.{message_id, out_link}
+use Rattle.due_model.specs.story_model.specs as story_model
+pub use story_model.BusState.{RowReading, message_in, message_out, row_reading, whole_in, whole_out}
+pub use story_model.CarriedBytes.{Area, CarriedBytes, area_with, carried_after_byte, carried_after_fault}
+pub use story_model.CarriedBytes.{carried_after_message, carried_of, carried_or_nothing, is_status_phase}
+pub use story_model.{CarriedBytes.{is_whole_block, with_carried, with_restored_pointers}, HistoryEvents.{abort_line_at}}
+pub use story_model.HistoryEvents.{abort_line_events, bus_free_events, carried_if, connection_events, end_events}
+pub use story_model.HistoryEvents.{is_complete, is_completion, is_refuse, item_abort_events, item_loss_events}
+pub use story_model.HistoryEvents.{link_events, phase_events, queue_event, queue_events, row_events_by, status_event}
+pub use story_model.{HistoryEvents.{status_events}, Items.{Item, Sent, abort, has_item, process, sense_item}}
+pub use story_model.Links.{LastMessage, Link, abortive, complete, disconnect, last_in, last_out, link_after_name}
+pub use story_model.{Links.{link_of, plain}, Right.{same_bytes}, Story.{Story, by_abort, is_aborted, is_sense_stopped}}
+pub use story_model.{Story.{marked_refused, marked_shown, story_after_event, story_after_events}, TraceHistory.{aim_of}}
+pub use story_model.TraceHistory.{carried_after_byte_if, carried_after_fault_if, carried_after_message_if}
+pub use story_model.TraceHistory.{is_parity_error, story_after_byte, story_after_connection, story_after_fault}
+pub use story_model.TraceHistory.{story_after_in, story_after_message, story_after_out, story_by_change}
+pub use story_model.TraceHistory.{story_in_connection, story_on_bus, story_on_free_bus, story_with_carried}
+pub use story_model.TraceHistory.{story_with_restored, story_with_sent, trace_history}
 use Rattle.disk_unit.specs as disk_unit
 pub use disk_unit.Disk.{blocks_written}
-use Rattle.bus_due.specs.bus_reactions.specs as bus_reactions
-pub use bus_reactions.{Linking.{bus_clear}, Reactions.{due_at, earlier_due}, declared.due.Due.{Due}}
-use Rattle.bus_due.specs.bus_dialogue.proofs as bus_dialogue_proofs
-pub use bus_dialogue_proofs.Leavings.{recovery_not, task_not}
-use Rattle.bus_due.specs.bus_dialogue.specs as bus_dialogue
-pub use bus_dialogue.{Arrivals.{arrival_by, is_never, policy_of}, DataRuns.{run_at, run_in, run_length, runs_in}}
-pub use bus_dialogue.{DataRuns.{runs_in_all}, Ends.{follows_by, is_pulsed_phase}, Events.{after_opening_events}}
-pub use bus_dialogue.Events.{arrival_event, arrival_events, arrival_run_events, connection_end_events, detected_events}
-pub use bus_dialogue.Events.{has_replied, is_status_next, loss_events, newest_with, reply_events, turn_events}
-pub use bus_dialogue.{Events.{turn_events_if}, Exchange.{Exchange, Speech, bytes_of_messages, from_byte, message_bytes}}
-pub use bus_dialogue.Exchange.{no_messages, one_message, plan_after_message, plan_anew, speech_after_byte}
-pub use bus_dialogue.{Exchange.{speech_after_request, struck_plan}, Hearing.{begun, begun_after}, NextPhase.{Serving}}
-pub use bus_dialogue.NextPhase.{after_arrival, after_messages, after_offer, after_run, bus_free, data_in_leaving}
-pub use bus_dialogue.NextPhase.{data_out_leaving, disconnect_messages, disconnection, leaving_by, message_out_leaving}
-pub use bus_dialogue.NextPhase.{message_repetition, next_data_phase, phase_entry, phase_leaving, phase_lines, phase_of}
-pub use bus_dialogue.NextPhase.{pointer_restoration, recovery, recovery_limit, request_or_command, unless_attention}
-pub use bus_dialogue.{NextPhase.{with_task}, PhaseBytes.{follows_in, lines_by, one_if, phase_byte, run_length_if}}
-pub use bus_dialogue.{PhaseBytes.{status_byte}, Planning.{cause_after, first_plan, plan_in_message_out, plan_in_phase}}
-pub use bus_dialogue.{Planning.{plan_with_byte}, Wants.{Ready, first_ready, is_ready_before, ready_in}}
-pub use bus_dialogue.{Words.{is_naming, parity_error, request_by, tag_named}, declared.exchange.Arrival.{Arrival}}
-pub use bus_dialogue.declared.exchange.{Cause.{Cause}, Hearing.{Hearing}, Leaving.{Leaving}, Messages.{Messages}}
-pub use bus_dialogue.declared.exchange.{Next.{Next}, Phase.{Phase}, Plan.{Plan}, Room.{Room}, Task.{Task}}
-use Rattle.bus_due.proofs as bus_due_proofs
-pub use bus_due_proofs.Plains.{run_state_plain}
-use Rattle.bus_due.specs as bus_due
-pub use bus_due.{Allowed.{allowed, is_allowed}, Defs.{host_of, target_def_of}, Faithful.{is_block_of_process}}
-pub use bus_due.{Faithful.{is_true_leaving}, LastingState.{ProcessProgress, progress_in, progress_with}}
-pub use bus_due.{Least.{IsLeast}, Next.{IsPrompt, due}, Own.{own_of}, Plain.{AreOfDevices, IsPlain, crossed}}
-pub use bus_due.{Plain.{crossed_if}, RunState.{RunState, array_of, bus_of, carried_here, drives_of, item_of, or_start}}
-pub use bus_due.{RunState.{process_here, process_item, process_served}, RunSteps.{array_after_events, events_of_row}}
-pub use bus_due.RunSteps.{exchange_after, first_exchange, first_run_state, item_if, leaving_of, may_negotiate}
-pub use bus_due.RunSteps.{messages_if, progress_after, progress_by_leaving, run_state, run_state_after, served_after}
-pub use bus_due.Sights.{arrival_at, byte_of_phase, hearing_of, leaving, offering_of, serving_at, serving_of}
-pub use bus_due.Tasks.{arrival_if, arrival_of, blocks_in, is_idle_unit, is_writing, moved_count, reply_now, room_of}
-pub use bus_due.{Tasks.{size_of, status_by, task_if, task_of, task_with}, Telling.{events_of_ends, events_of_ends_in}}
-pub use bus_due.Telling.{id_of, initiator_events, is_true_telling, same_event, same_events, target_events, telling}
-pub use bus_due.Wants.{abort_target, initiator_if, ready_among, ready_at, ready_of, seek_of, since_of, target_of}
+use Rattle.due_model.specs.reaction_model.specs as reaction_model
+pub use reaction_model.{Linking.{bus_clear}, Reactions.{due_at, earlier_due}, declared.due.Due.{Due}}
+use Rattle.due_model.specs.dialogue_model.proofs as dialogue_model_proofs
+pub use dialogue_model_proofs.Leavings.{recovery_not, task_not}
+use Rattle.due_model.specs.dialogue_model.specs as dialogue_model
+pub use dialogue_model.{Arrivals.{arrival_by, is_never, policy_of}, DataRuns.{run_at, run_in, run_length, runs_in}}
+pub use dialogue_model.{DataRuns.{runs_in_all}, Ends.{follows_by, is_pulsed_phase}, Events.{after_opening_events}}
+pub use dialogue_model.Events.{arrival_event, arrival_events, arrival_run_events, connection_end_events}
+pub use dialogue_model.Events.{detected_events, has_replied, is_status_next, loss_events, newest_with, reply_events}
+pub use dialogue_model.{Events.{turn_events, turn_events_if}, Exchange.{Exchange, Speech, bytes_of_messages, from_byte}}
+pub use dialogue_model.Exchange.{message_bytes, no_messages, one_message, plan_after_message, plan_anew}
+pub use dialogue_model.{Exchange.{speech_after_byte, speech_after_request, struck_plan}, Hearing.{begun, begun_after}}
+pub use dialogue_model.NextPhase.{Serving, after_arrival, after_messages, after_offer, after_run, bus_free}
+pub use dialogue_model.NextPhase.{data_in_leaving, data_out_leaving, disconnect_messages, disconnection, leaving_by}
+pub use dialogue_model.NextPhase.{message_out_leaving, message_repetition, next_data_phase, phase_entry, phase_leaving}
+pub use dialogue_model.NextPhase.{phase_lines, phase_of, pointer_restoration, recovery, recovery_limit}
+pub use dialogue_model.{NextPhase.{request_or_command, unless_attention, with_task}, PhaseBytes.{follows_in, lines_by}}
+pub use dialogue_model.{PhaseBytes.{one_if, phase_byte, run_length_if, status_byte}, Planning.{cause_after, first_plan}}
+pub use dialogue_model.{Planning.{plan_in_message_out, plan_in_phase, plan_with_byte}, Wants.{Ready, first_ready}}
+pub use dialogue_model.{Wants.{is_ready_before, ready_in}, Words.{is_naming, parity_error, request_by, tag_named}}
+pub use dialogue_model.declared.exchange.{Arrival.{Arrival}, Cause.{Cause}, Hearing.{Hearing}, Leaving.{Leaving}}
+pub use dialogue_model.declared.exchange.{Messages.{Messages}, Next.{Next}, Phase.{Phase}, Plan.{Plan}, Room.{Room}}
+pub use dialogue_model.declared.exchange.Task.{Task}
+use Rattle.due_model.proofs as due_model_proofs
+pub use due_model_proofs.Plains.{run_state_plain}
+use Rattle.due_model.specs as due_model
+pub use due_model.{Allowed.{allowed, is_allowed}, Defs.{host_of, target_def_of}, Faithful.{is_block_of_process}}
+pub use due_model.{Faithful.{is_true_leaving}, LastingState.{ProcessProgress, progress_in, progress_with}}
+pub use due_model.{Least.{IsLeast}, Next.{IsPrompt, due}, Own.{own_of}, Plain.{AreOfDevices, IsPlain, crossed}}
+pub use due_model.{Plain.{crossed_if}, RunState.{RunState, array_of, bus_of, carried_here, drives_of, item_of}}
+pub use due_model.{RunState.{or_start, process_here, process_item, process_served}, RunSteps.{array_after_events}}
+pub use due_model.RunSteps.{events_of_row, exchange_after, first_exchange, first_run_state, item_if, leaving_of}
+pub use due_model.RunSteps.{may_negotiate, messages_if, progress_after, progress_by_leaving, run_state, run_state_after}
+pub use due_model.{RunSteps.{served_after}, Sights.{arrival_at, byte_of_phase, hearing_of, leaving, offering_of}}
+pub use due_model.{Sights.{serving_at, serving_of}, Tasks.{arrival_if, arrival_of, blocks_in, is_idle_unit, is_writing}}
+pub use due_model.Tasks.{moved_count, reply_now, room_of, size_of, status_by, task_if, task_of, task_with}
+pub use due_model.Telling.{events_of_ends, events_of_ends_in, id_of, initiator_events, is_true_telling, same_event}
+pub use due_model.{Telling.{same_events, target_events, telling}, Wants.{abort_target, initiator_if, ready_among}}
+pub use due_model.Wants.{ready_at, ready_of, seek_of, since_of, target_of}
 use Rattle.story_laws.specs.scsi_device.proofs as scsi_device_proofs
 pub use scsi_device_proofs.{Finds.{none_is}, FitLines.{command_fits, obeys_fits, seats_are, units_are}}
 pub use scsi_device_proofs.{LineReads.{target_by}, PhaseLines.{command_is, no_input, phase_is_command}}

@@ -1,14 +1,14 @@
 -- Between its connections nothing has struck a process that is open and has no answer: as one is disconnected in the
 -- middle of its data no byte that was struck is left to be carried again (6.6.6, 6.6.10, 6.6.19).
 use Rattle.std.specs.Prelude.{◌≡◌, true, false, List, Some}
-use Rattle.bus_due.specs.bus_base.specs.declared.ProcId.{ProcId}
-use Rattle.bus_due.specs.bus_trace.specs.declared.Row.{Row}
-use Rattle.bus_due.specs.bus_trace.specs.declared.connection.Connection.{Connection}
-use Rattle.bus_due.specs.scenario.specs.Value.{ScenarioValue}
-use Rattle.bus_due.specs.disk_array.specs.Processes.{same_id}
-use Rattle.bus_due.specs.bus_story.specs.Items.{process, has_item}
-use Rattle.bus_due.specs.RunState.{RunState, bus_of, carried_here}
-use Rattle.bus_due.specs.RunSteps.{run_state}
+use Rattle.due_model.specs.bus_base.specs.declared.ProcId.{ProcId}
+use Rattle.due_model.specs.bus_trace.specs.declared.Row.{Row}
+use Rattle.due_model.specs.bus_trace.specs.declared.connection.Connection.{Connection}
+use Rattle.due_model.specs.scenario.specs.Value.{ScenarioValue}
+use Rattle.due_model.specs.array_model.specs.Processes.{same_id}
+use Rattle.due_model.specs.story_model.specs.Items.{process, has_item}
+use Rattle.due_model.specs.RunState.{RunState, bus_of, carried_here}
+use Rattle.due_model.specs.RunSteps.{run_state}
 use Rattle.story_laws.specs.row_laws.specs.DataPointers.{UndoesServed, is_marked}
 use Rattle.trace_laws.specs.Failures.{IsClear}
 

@@ -1,20 +1,20 @@
 -- COMMAND COMPLETE in MESSAGE IN: its byte is asked for and answered once; and with ATN false its process ends as it is
 -- (6.1.5.1, 6.6.5).
 use Rattle.std.specs.Prelude.{◌≡◌, ◌==◌, true, false, List, Some}
-use Rattle.bus_due.specs.bus_base.specs.declared.ProcId.{ProcId}
-use Rattle.bus_due.specs.bus_trace.specs.Phases.{is_message_in}
-use Rattle.bus_due.specs.bus_trace.specs.declared.Row.{Row}
-use Rattle.bus_due.specs.bus_trace.specs.declared.connection.Connection.{Connection}
-use Rattle.bus_due.specs.bus_trace.specs.Terms.{connection}
-use Rattle.bus_due.specs.bus_trace.specs.Trace.{bus}
-use Rattle.bus_due.specs.scenario.specs.Value.{ScenarioValue}
-use Rattle.bus_due.specs.disk_array.specs.Steps.{has_ended}
-use Rattle.bus_due.specs.bus_story.specs.Items.{process}
-use Rattle.bus_due.specs.bus_dialogue.specs.Exchange.{one_message}
-use Rattle.bus_due.specs.RunState.{RunState, array_of, bus_of}
-use Rattle.bus_due.specs.RunSteps.{run_state}
+use Rattle.due_model.specs.bus_base.specs.declared.ProcId.{ProcId}
+use Rattle.due_model.specs.bus_trace.specs.Phases.{is_message_in}
+use Rattle.due_model.specs.bus_trace.specs.declared.Row.{Row}
+use Rattle.due_model.specs.bus_trace.specs.declared.connection.Connection.{Connection}
+use Rattle.due_model.specs.bus_trace.specs.Terms.{connection}
+use Rattle.due_model.specs.bus_trace.specs.Trace.{bus}
+use Rattle.due_model.specs.scenario.specs.Value.{ScenarioValue}
+use Rattle.due_model.specs.array_model.specs.Steps.{has_ended}
+use Rattle.due_model.specs.story_model.specs.Items.{process}
+use Rattle.due_model.specs.dialogue_model.specs.Exchange.{one_message}
+use Rattle.due_model.specs.RunState.{RunState, array_of, bus_of}
+use Rattle.due_model.specs.RunSteps.{run_state}
 use Rattle.story_laws.specs.row_laws.specs.ItemTalks.{awaits}
-use Rattle.bus_due.specs.msg_grammar.specs.declared.message.MsgIn.TheVariants as to_initiator
+use Rattle.due_model.specs.msg_grammar.specs.declared.message.MsgIn.TheVariants as to_initiator
 
 abbrev pub IsCompleting : RunState → Type 0
 IsCompleting k = k.exchange.plan.messages ≡ one_message to_initiator.CommandComplete

@@ -1,32 +1,32 @@
 -- The code of the failure of the process that is served, by the phase: in COMMAND and DATA OUT it is that of a struck
 -- byte, after DATA IN that of the initiator's complaint, and RESTORE POINTERS takes it away (6.6.10, 6.6.19).
 use Rattle.std.specs.Prelude.{ℕ, ◌≡◌, ◌⊎◌, true, false, List, Option, Some, None, ⊤}
-use Rattle.bus_due.specs.bus_base.specs.declared.ProcId.{ProcId}
-use Rattle.bus_due.specs.bus_trace.specs.declared.Row.{Row}
-use Rattle.bus_due.specs.bus_trace.specs.declared.connection.Connection.{Connection}
-use Rattle.bus_due.specs.bus_trace.specs.Terms.{connection}
-use Rattle.bus_due.specs.bus_trace.specs.Trace.{bus}
-use Rattle.bus_due.specs.cdb_codec.specs.declared.sense.TheConstants.{PARITY_ERROR, INITIATOR_DETECTED_ERROR}
-use Rattle.bus_due.specs.scenario.specs.Value.{ScenarioValue}
-use Rattle.bus_due.specs.bus_story.specs.CarriedBytes.{CarriedBytes}
-use Rattle.bus_due.specs.bus_story.specs.Items.{process}
-use Rattle.bus_due.specs.bus_story.specs.Links.{Link}
-use Rattle.bus_due.specs.bus_dialogue.specs.declared.exchange.Cause.{Cause}
-use Rattle.bus_due.specs.bus_dialogue.specs.declared.exchange.Messages.{Messages}
-use Rattle.bus_due.specs.bus_dialogue.specs.declared.exchange.Next.{Next}
-use Rattle.bus_due.specs.bus_dialogue.specs.declared.exchange.Phase.{Phase}
-use Rattle.bus_due.specs.bus_dialogue.specs.declared.exchange.Plan.{Plan}
-use Rattle.bus_due.specs.bus_dialogue.specs.Exchange.{one_message}
-use Rattle.bus_due.specs.bus_dialogue.specs.NextPhase.{phase_of}
-use Rattle.bus_due.specs.bus_dialogue.specs.Words.{parity_error}
-use Rattle.bus_due.specs.RunState.{RunState, bus_of, carried_here}
-use Rattle.bus_due.specs.RunSteps.{run_state}
+use Rattle.due_model.specs.bus_base.specs.declared.ProcId.{ProcId}
+use Rattle.due_model.specs.bus_trace.specs.declared.Row.{Row}
+use Rattle.due_model.specs.bus_trace.specs.declared.connection.Connection.{Connection}
+use Rattle.due_model.specs.bus_trace.specs.Terms.{connection}
+use Rattle.due_model.specs.bus_trace.specs.Trace.{bus}
+use Rattle.due_model.specs.cdb_codec.specs.declared.sense.TheConstants.{PARITY_ERROR, INITIATOR_DETECTED_ERROR}
+use Rattle.due_model.specs.scenario.specs.Value.{ScenarioValue}
+use Rattle.due_model.specs.story_model.specs.CarriedBytes.{CarriedBytes}
+use Rattle.due_model.specs.story_model.specs.Items.{process}
+use Rattle.due_model.specs.story_model.specs.Links.{Link}
+use Rattle.due_model.specs.dialogue_model.specs.declared.exchange.Cause.{Cause}
+use Rattle.due_model.specs.dialogue_model.specs.declared.exchange.Messages.{Messages}
+use Rattle.due_model.specs.dialogue_model.specs.declared.exchange.Next.{Next}
+use Rattle.due_model.specs.dialogue_model.specs.declared.exchange.Phase.{Phase}
+use Rattle.due_model.specs.dialogue_model.specs.declared.exchange.Plan.{Plan}
+use Rattle.due_model.specs.dialogue_model.specs.Exchange.{one_message}
+use Rattle.due_model.specs.dialogue_model.specs.NextPhase.{phase_of}
+use Rattle.due_model.specs.dialogue_model.specs.Words.{parity_error}
+use Rattle.due_model.specs.RunState.{RunState, bus_of, carried_here}
+use Rattle.due_model.specs.RunSteps.{run_state}
 use Rattle.story_laws.specs.row_laws.specs.Tells.{code_if, is_short, IsLeaving}
 use Rattle.story_laws.specs.row_laws.specs.DataPointers.{is_marked}
-use Rattle.bus_due.specs.msg_grammar.specs.declared.message.MsgIn.TheVariants as to_initiator
-use Rattle.bus_due.specs.bus_dialogue.specs.declared.exchange.Cause.TheVariants as causes
-use Rattle.bus_due.specs.bus_dialogue.specs.declared.exchange.Next.TheVariants as nexts
-use Rattle.bus_due.specs.bus_dialogue.specs.declared.exchange.Phase.TheVariants as phases
+use Rattle.due_model.specs.msg_grammar.specs.declared.message.MsgIn.TheVariants as to_initiator
+use Rattle.due_model.specs.dialogue_model.specs.declared.exchange.Cause.TheVariants as causes
+use Rattle.due_model.specs.dialogue_model.specs.declared.exchange.Next.TheVariants as nexts
+use Rattle.due_model.specs.dialogue_model.specs.declared.exchange.Phase.TheVariants as phases
 
 -- Nothing has struck it.
 pub record IsClear (c : CarriedBytes) : Type 0 where

@@ -1,12 +1,12 @@
 -- A connection that still stands under RST: its target alone drives the lines of the phase, and data come to the
 -- initiator only of a process that does not write (6.1.5, 6.2.2).
 use Rattle.std.specs.Prelude.{ℕ, ◌≡◌, ◌≢◌, ◌<◌, true, false, List, Some}
-use Rattle.bus_due.specs.bus_trace.specs.LineSet.{LineSet}
-use Rattle.bus_due.specs.bus_trace.specs.declared.Row.{Row}
-use Rattle.bus_due.specs.bus_trace.specs.declared.connection.Connection.{Connection}
-use Rattle.bus_due.specs.bus_trace.specs.Terms.{connection}
-use Rattle.bus_due.specs.bus_trace.specs.Trace.{bus, drives}
-use Rattle.bus_due.specs.scenario.specs.Value.{ScenarioValue}
+use Rattle.due_model.specs.bus_trace.specs.LineSet.{LineSet}
+use Rattle.due_model.specs.bus_trace.specs.declared.Row.{Row}
+use Rattle.due_model.specs.bus_trace.specs.declared.connection.Connection.{Connection}
+use Rattle.due_model.specs.bus_trace.specs.Terms.{connection}
+use Rattle.due_model.specs.bus_trace.specs.Trace.{bus, drives}
+use Rattle.due_model.specs.scenario.specs.Value.{ScenarioValue}
 use Rattle.story_laws.specs.row_laws.specs.WriteFacts.{ReadsUnderRst}
 
 pub record HasNoPhase (l : LineSet) : Type 0 where

@@ -1,16 +1,16 @@
 -- A process that writes, and has no reply, has a data run left, or has made none (6.6.6, 7.3).
 use Rattle.std.specs.Prelude.{ℕ, ◌≡◌, ◌⊎◌, ◌<◌, List, Some, None}
-use Rattle.bus_due.specs.bus_trace.specs.declared.Row.{Row}
-use Rattle.bus_due.specs.cdb_codec.specs.Cdb.{command_of}
-use Rattle.bus_due.specs.scenario.specs.Value.{ScenarioValue}
-use Rattle.bus_due.specs.disk_array.specs.ArrayHistory.{reply_in}
-use Rattle.bus_due.specs.disk_array.specs.Order.{range_in}
-use Rattle.bus_due.specs.disk_array.specs.Processes.{Process, process_of}
-use Rattle.bus_due.specs.bus_dialogue.specs.DataRuns.{runs_in}
-use Rattle.bus_due.specs.LastingState.{progress_in}
-use Rattle.bus_due.specs.RunState.{array_of}
-use Rattle.bus_due.specs.RunSteps.{run_state}
-use Rattle.bus_due.specs.Tasks.{blocks_in}
+use Rattle.due_model.specs.bus_trace.specs.declared.Row.{Row}
+use Rattle.due_model.specs.cdb_codec.specs.Cdb.{command_of}
+use Rattle.due_model.specs.scenario.specs.Value.{ScenarioValue}
+use Rattle.due_model.specs.array_model.specs.ArrayHistory.{reply_in}
+use Rattle.due_model.specs.array_model.specs.Order.{range_in}
+use Rattle.due_model.specs.array_model.specs.Processes.{Process, process_of}
+use Rattle.due_model.specs.dialogue_model.specs.DataRuns.{runs_in}
+use Rattle.due_model.specs.LastingState.{progress_in}
+use Rattle.due_model.specs.RunState.{array_of}
+use Rattle.due_model.specs.RunSteps.{run_state}
+use Rattle.due_model.specs.Tasks.{blocks_in}
 use Rattle.story_laws.specs.book_laws.specs.Accounts.{policy_for}
 use Rattle.story_laws.specs.RunFacts.{IsWriter}
 

@@ -1,31 +1,31 @@
 // Laws of prompt traces, each named by the contract of a function that does nothing.
 
 ghost use Rattle.std.specs.Prelude.{ℕ, ◌≡◌, ◌<◌, ◌≤◌, true, List, ◌∷◌, Some};
-ghost use Rattle.bus_due.specs.bus_base.specs.declared.Event.TheVariants as events;
-ghost use Rattle.bus_due.specs.bus_trace.specs.declared.Row.{Row};
-ghost use Rattle.bus_due.specs.bus_trace.specs.declared.connection.Connection.{Connection};
-ghost use Rattle.bus_due.specs.bus_trace.specs.Trace.{last_time};
-ghost use Rattle.bus_due.specs.bus_rules.specs.Lawful.{AreLawful};
-ghost use Rattle.bus_due.specs.scenario.specs.Value.{ScenarioValue};
-ghost use Rattle.bus_due.specs.scenario.specs.Writing.{Obeys};
-ghost use Rattle.bus_due.specs.bus_reactions.specs.declared.due.Due.{Due};
-ghost use Rattle.bus_due.specs.disk_array.specs.Processes.{process_of, Process};
+ghost use Rattle.due_model.specs.bus_base.specs.declared.Event.TheVariants as events;
+ghost use Rattle.due_model.specs.bus_trace.specs.declared.Row.{Row};
+ghost use Rattle.due_model.specs.bus_trace.specs.declared.connection.Connection.{Connection};
+ghost use Rattle.due_model.specs.bus_trace.specs.Trace.{last_time};
+ghost use Rattle.due_model.specs.bus_rules.specs.Lawful.{AreLawful};
+ghost use Rattle.due_model.specs.scenario.specs.Value.{ScenarioValue};
+ghost use Rattle.due_model.specs.scenario.specs.Writing.{Obeys};
+ghost use Rattle.due_model.specs.reaction_model.specs.declared.due.Due.{Due};
+ghost use Rattle.due_model.specs.array_model.specs.Processes.{process_of, Process};
 ghost use Rattle.story_laws.specs.book_laws.specs.FullQueues.{has_event};
-ghost use Rattle.bus_due.specs.Allowed.{allowed};
-ghost use Rattle.bus_due.specs.Faithful.{faithful};
-ghost use Rattle.bus_due.specs.Next.{due, IsPrompt};
-ghost use Rattle.bus_due.specs.Plain.{AreOfDevices};
-ghost use Rattle.bus_due.specs.RunSteps.{run_state};
+ghost use Rattle.due_model.specs.Allowed.{allowed};
+ghost use Rattle.due_model.specs.Faithful.{faithful};
+ghost use Rattle.due_model.specs.Next.{due, IsPrompt};
+ghost use Rattle.due_model.specs.Plain.{AreOfDevices};
+ghost use Rattle.due_model.specs.RunSteps.{run_state};
 ghost use Rattle.story_laws.specs.scsi_device.specs.Heard.{heard};
 ghost use Rattle.story_laws.specs.scsi_device.specs.Writes.{written};
 ghost use Rattle.story_laws.specs.book_laws.specs.WrongParity.{complains_truly, has_more_faults, left_as_due};
 ghost use Rattle.story_laws.specs.book_laws.specs.Traces.{AreRowsOf, Books};
-ghost use Rattle.bus_due.specs.Telling.{telling};
+ghost use Rattle.due_model.specs.Telling.{telling};
 ghost use Rattle.story_laws.specs.row_laws.specs.ByteValues.{HasByteValues};
 ghost use Rattle.story_laws.specs.row_laws.specs.Ends.{AreEnds};
 ghost use Rattle.story_laws.specs.RowAttendance.{IsAttended};
 
-use story_laws::the_bus_books::limits_are_passed;
+use story_laws::the_book_laws::limits_are_passed;
 
 /// A prompt trace, whatever connections, faults and resets it has and however long it is, obeys every rule of the bus
 /// (`lawful`), and nothing that is due after it lies in the past (`ahead`).

@@ -14,4 +14,4 @@ pub use laws::{
 };
 
 // Handed on to the crates above that list this one and not these.
-pub use story_laws::the_bus_books;
+pub use story_laws::the_book_laws;

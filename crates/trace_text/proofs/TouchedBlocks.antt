@@ -2,7 +2,7 @@
 use Rattle.std.proofs.Common.{◌≡◌, ℕ, ◌+◌, ◌<◌, ◌≤◌, Bool, true, false, List, [], ◌∷◌, ◌++◌, refl, arith}
 use Rattle.std.specs.Prelude.{Some, None, ◌==◌, nat_lt, if◌then◌else◌}
 use Rattle.std.proofs.lemmas.Bool.Decides.{nat_tests}
-use Rattle.disk_array.specs.Contents.{touched_block}
+use Rattle.array_model.specs.Contents.{touched_block}
 use Rattle.disk_unit.specs.Sparse.{touched_from}
 use Rattle.trace_text.specs.BlockText.{block_text, blocks_text}
 

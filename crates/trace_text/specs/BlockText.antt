@@ -2,7 +2,7 @@
 use Rattle.std.specs.Prelude.{ℕ, ◌+◌, ◌==◌, Bool, List, [], ◌∷◌, ◌++◌, codes, decimal, nat_lt, if◌then◌else◌}
 use Rattle.std.specs.List.{list_all}
 use Rattle.text_words.specs.Spelling.{hex_text}
-use Rattle.disk_array.specs.Contents.{Contents}
+use Rattle.array_model.specs.Contents.{Contents}
 
 abbrev pub is_zero : List ℕ → Bool
 is_zero bytes = list_all (λ b. b == 0) bytes

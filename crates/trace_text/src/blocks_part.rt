@@ -1,6 +1,6 @@
 //! The part of a report with the blocks.
 ghost use Rattle.std.specs.Prelude.{ℕ, ◌≡◌, ◌≤◌, ◌<◌, ◌++◌, List, map, length};
-ghost use Rattle.disk_array.specs.Contents.{block_at};
+ghost use Rattle.array_model.specs.Contents.{block_at};
 ghost use Rattle.run_record.specs.Value.{held_by};
 ghost use Rattle.trace_text.specs.BlockText.{is_zero, block_text, blocks_from, disk_text, disks_text};
 ghost use Rattle.trace_text.specs.ReportText.{disk_name};

@@ -1,19 +1,19 @@
 -- Whole runs, computed: each of their rows fits. An independent simulator printed the rows. Written by tools/makers/fit_case.py.
 use Rattle.std.proofs.Common.{ℕ, ◌≡◌, true, false, List, [], ◌∷◌, refl}
 use lib.Count.{ones}
-use Rattle.bus_due.specs.bus_base.specs.declared.AbortKind.TheVariants as aborts
-use Rattle.bus_due.specs.bus_base.specs.declared.events.Pick.TheVariants as picks
-use Rattle.bus_due.specs.scenario.specs.declared.value.Policy.TheVariants as policies
-use Rattle.bus_due.specs.scenario.specs.declared.value.Tag.TheVariants as tags
-use Rattle.bus_due.specs.scenario.specs.declared.value.Payload.TheVariants as payloads
-use Rattle.bus_due.specs.scenario.specs.Value.{ScenarioValue}
-use Rattle.bus_due.specs.scenario.specs.Needs.{need_of, sent_of}
-use Rattle.bus_due.specs.bus_trace.specs.LineSet.{set_of, line_of}
-use Rattle.bus_due.specs.bus_trace.specs.View.{union_below}
-use Rattle.bus_due.specs.bus_trace.specs.declared.Row.{Row}
-use Rattle.bus_due.specs.bus_trace.specs.declared.Kind.TheVariants.{Drives, Fault}
-use Rattle.bus_due.specs.msg_grammar.specs.Messages.{form_out, form_in}
-use Rattle.bus_due.specs.bus_story.specs.Story.{empty_story}
+use Rattle.due_model.specs.bus_base.specs.declared.AbortKind.TheVariants as aborts
+use Rattle.due_model.specs.bus_base.specs.declared.events.Pick.TheVariants as picks
+use Rattle.due_model.specs.scenario.specs.declared.value.Policy.TheVariants as policies
+use Rattle.due_model.specs.scenario.specs.declared.value.Tag.TheVariants as tags
+use Rattle.due_model.specs.scenario.specs.declared.value.Payload.TheVariants as payloads
+use Rattle.due_model.specs.scenario.specs.Value.{ScenarioValue}
+use Rattle.due_model.specs.scenario.specs.Needs.{need_of, sent_of}
+use Rattle.due_model.specs.bus_trace.specs.LineSet.{set_of, line_of}
+use Rattle.due_model.specs.bus_trace.specs.View.{union_below}
+use Rattle.due_model.specs.bus_trace.specs.declared.Row.{Row}
+use Rattle.due_model.specs.bus_trace.specs.declared.Kind.TheVariants.{Drives, Fault}
+use Rattle.due_model.specs.msg_grammar.specs.Messages.{form_out, form_in}
+use Rattle.due_model.specs.story_model.specs.Story.{empty_story}
 use Rattle.bus_transcript.specs.Rows.{by_change, closed_by, nothing_seen}
 use Rattle.transcript_laws.specs.RowTests.{keep_fit}
 

@@ -11,88 +11,89 @@ use Rattle.std.specs as std
 pub use std.{BTreeMap.{insert_entry, is_at}, List.{flat_map, list_any}, Map.{lookup}, Ordering.{is_eq, match_ordering}}
 pub use std.Prelude.{if◌then◌else◌, is_none, is_some, nat_lt, slice_index, slice_index_or, slice_set, ⊤}
 pub use std.declared.cmp.Ordering.{Ordering, TheVariants.{Equal, Greater, Less}}
-use Rattle.bus_due.specs.bus_base.proofs as bus_base_proofs
+use Rattle.due_model.specs.bus_base.proofs as bus_base_proofs
 pub use bus_base_proofs.Tests.{and_false, and_first, and_second, and_true, eq_self, eq_turned, implication, implied}
 pub use bus_base_proofs.Tests.{is_nothing, length_more, middle, next_some, nil_of, nothing_below, or_false, or_later}
 pub use bus_base_proofs.Tests.{or_middle, or_none_first, or_second, or_true, plus_none, rises_some, second_false, wrong}
 pub use bus_base_proofs.Tests.{wrong', zero_of}
-use Rattle.bus_due.specs.bus_base.specs as bus_base
+use Rattle.due_model.specs.bus_base.specs as bus_base
 pub use bus_base.{Faults.{counted_on}, declared.{AbortKind.{AbortKind}, Event.{Event}, ProcId.{ProcId}}}
-use Rattle.bus_due.specs.bus_trace.specs as bus_trace
+use Rattle.due_model.specs.bus_trace.specs as bus_trace
 pub use bus_trace.{Changes.{change_of, falls, rises}, LineSet.{LineSet}, Phases.{changes_phase, is_command, is_data}}
 pub use bus_trace.{Phases.{is_message_in, is_message_out}, Terms.{call, call_after, connection, connection_after}}
 pub use bus_trace.{Terms.{is_fault, receiver_in, receiver_of}, Trace.{bus, driven_after, drives, last_time}}
 pub use bus_trace.{View.{driven_at, union_all}, declared.{agreements.Agreement.{Agreement}, changes.Change.{Change}}}
 pub use bus_trace.declared.{connection.Connection.{Connection}, rows.Kind.{Kind, TheVariants.{Drives, Fault}}}
 pub use bus_trace.declared.{rows.Row.{Row}, selection.{Call.{Call}, Calling.{Calling}}}
-use Rattle.bus_due.specs.bus_lines.specs as bus_lines
+use Rattle.due_model.specs.bus_lines.specs as bus_lines
 pub use bus_lines.Handshakes.{Handshakes, no_handshakes}
-use Rattle.bus_due.specs.cdb_codec.specs as cdb_codec
+use Rattle.due_model.specs.cdb_codec.specs as cdb_codec
 pub use cdb_codec.{Cdb.{has_group_len}, declared.sense.TheConstants.{INITIATOR_DETECTED_ERROR, PARITY_ERROR}}
 pub use cdb_codec.declared.status.TheConstants.{CHECK_CONDITION}
-use Rattle.bus_due.specs.msg_grammar.specs as msg_grammar
+use Rattle.due_model.specs.msg_grammar.specs as msg_grammar
 pub use msg_grammar.{Messages.{FitsOut, got_in, got_out, out_bytes}, declared.message.{Got.{Got}, MsgIn.{MsgIn}}}
 pub use msg_grammar.declared.message.MsgOut.{MsgOut}
 unfoldable pub use msg_grammar.Messages.{form_in, form_out}
-use Rattle.bus_due.specs.bus_phases.specs as bus_phases
+use Rattle.due_model.specs.bus_phases.specs as bus_phases
 pub use bus_phases.Dialogue.{asynchronous, byte_crosses, byte_else, byte_in, byte_out, dialogue_after, fresh_bytes}
 pub use bus_phases.{Dialogue.{heard_with_command, phase_begins}, Half.{is_nil, left_of}, Reading.{reading_out}}
 pub use bus_phases.declared.{dialogue.Dialogue.{Dialogue}, reading.Reading.{Reading}}
-use Rattle.bus_due.specs.bus_rules.specs as bus_rules
+use Rattle.due_model.specs.bus_rules.specs as bus_rules
 pub use bus_rules.Messages.{is_unknown}
-use Rattle.bus_due.specs.scenario.specs as scenario
+use Rattle.due_model.specs.scenario.specs as scenario
 pub use scenario.{Value.{ScenarioValue}, Writing.{Obeys}, declared.value.{AbortDef.{AbortDef}, CmdDef.{CmdDef}}}
 pub use scenario.declared.value.{HostDef.{HostDef}, Tag.{Tag}}
-use Rattle.bus_due.specs.disk_array.proofs as disk_array_proofs
-pub use disk_array_proofs.{SeatLookups.{none_at, number_same, same_bool_is}, SeatReplies.{id_turned}}
-use Rattle.bus_due.specs.disk_array.specs as disk_array
-pub use disk_array.{ArrayHistory.{array_after, reply_in}, Execution.{Reply}, Order.{same_number, tag_number}}
-pub use disk_array.Processes.{command_at, process_by, process_if, same_bool, same_id}
-use Rattle.bus_due.specs.bus_story.proofs as bus_story_proofs
-pub use bus_story_proofs.{CarriedLists.{carried_id, carried_with}, SameBytes.{bytes_are}, StorySteps.{check_keeps}}
-pub use bus_story_proofs.StorySteps.{ends_checks, ends_keep, event_sent, events_link, events_sent, first_link}
-pub use bus_story_proofs.StorySteps.{message_id, out_link}
-use Rattle.bus_due.specs.bus_story.specs as bus_story
-pub use bus_story.BusState.{BusState, RowReading, bus_state_after, change_by, change_to, message_in, message_out}
-pub use bus_story.{BusState.{row_reading, whole_in, whole_out}, CarriedBytes.{Area, CarriedBytes, area_with}}
-pub use bus_story.CarriedBytes.{bytes_with, carried_after_byte, carried_after_fault, carried_after_message, carried_at}
-pub use bus_story.CarriedBytes.{carried_of, carried_or_nothing, is_status_phase, is_whole_block, nothing_carried}
-pub use bus_story.{CarriedBytes.{with_carried, with_restored_pointers}, HistoryEvents.{abort_line_at}}
-pub use bus_story.HistoryEvents.{abort_line_events, bus_free_events, carried_if, connection_events, end_events}
-pub use bus_story.HistoryEvents.{is_refuse, item_abort_events, link_events, phase_events, row_events_by, status_event}
-pub use bus_story.Items.{Item, Sent, abort, command_id, command_item, has_item, is_clash, is_done, is_open}
-pub use bus_story.{Items.{is_tag_clash, process, same_item, sense_from, sense_id, sense_item}, Links.{LastMessage}}
-pub use bus_story.Links.{Link, abortive, complete, disconnect, is_of_nexus, is_open_sense, last_in, last_out}
-pub use bus_story.{Links.{link_after_name, link_of, named_item_from, plain}, PairAgreements.{agreement_in}}
-pub use bus_story.{Right.{same_bytes}, Story.{Ending, Story, by_abort, by_reset, by_status, is_aborted}}
-pub use bus_story.Story.{is_sense_stopped, marked_refused, marked_shown, story_after_event, story_after_events}
-pub use bus_story.{Story.{story_with_end, story_with_ends, story_with_over}, TraceHistory.{aim_of}}
-pub use bus_story.TraceHistory.{carried_after_byte_if, carried_after_fault_if, carried_after_message_if}
-pub use bus_story.TraceHistory.{is_parity_error, story, story_after_byte, story_after_connection, story_after_crossing}
-pub use bus_story.TraceHistory.{story_after_fault, story_after_in, story_after_message, story_after_out, story_by}
-pub use bus_story.TraceHistory.{story_by_change, story_in_connection, story_on_bus, story_on_free_bus, story_with}
-pub use bus_story.TraceHistory.{story_with_carried, story_with_history, story_with_restored, story_with_sent}
-pub use bus_story.TraceHistory.{trace_history}
-use Rattle.bus_due.specs.bus_dialogue.specs as bus_dialogue
-pub use bus_dialogue.{Arrivals.{policy_of}, DataRuns.{run_length}, Exchange.{Exchange, Speech, attends_with}}
-pub use bus_dialogue.Exchange.{bytes_of_messages, from_byte, message_bytes, no_messages, one_message}
-pub use bus_dialogue.Exchange.{plan_after_message, plan_anew, speech_after_byte, speech_after_request, speech_of}
-pub use bus_dialogue.{Exchange.{struck_plan}, Hearing.{begun}, NextPhase.{Serving, after_messages, after_refusal}}
-pub use bus_dialogue.NextPhase.{bus_free, leaving_by, message_out_leaving, message_repetition, next_data_phase}
-pub use bus_dialogue.{NextPhase.{phase_entry, phase_leaving, phase_of, recovery, with_task}, PhaseBytes.{run_length_if}}
-pub use bus_dialogue.{Planning.{cause_after, first_plan, plan_in_message_out}, Speaking.{speech_in_phase, words_after}}
-pub use bus_dialogue.Words.{abort_bytes, abort_opening, host_answer, is_name, is_naming, naming_messages, offer_if}
-pub use bus_dialogue.{Words.{parity_error, process_opening, tag_bytes, tag_named}, declared.exchange.Cause.{Cause}}
-pub use bus_dialogue.declared.exchange.{Hearing.{Hearing}, Leaving.{Leaving}, Messages.{Messages}, Next.{Next}}
-pub use bus_dialogue.declared.exchange.{Phase.{Phase}, Plan.{Plan}, Said.{Said}, Task.{Task}}
-use Rattle.bus_due.proofs as bus_due_proofs
-pub use bus_due_proofs.{Plains.{run_state_plain}, SameEvents.{kinds_are}, Stills.{still_talk}}
-use Rattle.bus_due.specs as bus_due
-pub use bus_due.{Defs.{host_of, opening, target_def_of}, Next.{IsPrompt}, Plain.{AreOfDevices, IsPlain}}
-pub use bus_due.RunState.{RunState, bus_of, item_of, or_start, process_item, process_served}
-pub use bus_due.RunSteps.{exchange_after, item_if, leaving_of, may_negotiate, messages_if, run_state, run_state_after}
-pub use bus_due.{RunSteps.{served_after}, Sights.{hearing_of, leaving, serving_of}, Tasks.{task_if, task_of}}
-pub use bus_due.{Telling.{same_kind}, Wants.{ready_of}}
+use Rattle.due_model.specs.array_model.proofs as array_model_proofs
+pub use array_model_proofs.{SeatLookups.{none_at, number_same, same_bool_is}, SeatReplies.{id_turned}}
+use Rattle.due_model.specs.array_model.specs as array_model
+pub use array_model.{ArrayHistory.{array_after, reply_in}, Execution.{Reply}, Order.{same_number, tag_number}}
+pub use array_model.Processes.{command_at, process_by, process_if, process_of, same_bool, same_id}
+use Rattle.due_model.specs.story_model.proofs as story_model_proofs
+pub use story_model_proofs.{CarriedLists.{carried_id, carried_with}, SameBytes.{bytes_are}, StorySteps.{check_keeps}}
+pub use story_model_proofs.StorySteps.{ends_checks, ends_keep, event_sent, events_link, events_sent, first_link}
+pub use story_model_proofs.StorySteps.{message_id, out_link}
+use Rattle.due_model.specs.story_model.specs as story_model
+pub use story_model.BusState.{BusState, RowReading, bus_state_after, change_by, change_to, message_in, message_out}
+pub use story_model.{BusState.{row_reading, whole_in, whole_out}, CarriedBytes.{Area, CarriedBytes, area_with}}
+pub use story_model.CarriedBytes.{bytes_with, carried_after_byte, carried_after_fault, carried_after_message}
+pub use story_model.CarriedBytes.{carried_at, carried_of, carried_or_nothing, is_status_phase, is_whole_block}
+pub use story_model.CarriedBytes.{nothing_carried, with_carried, with_restored_pointers}
+pub use story_model.HistoryEvents.{abort_line_at, abort_line_events, bus_free_events, carried_if, connection_events}
+pub use story_model.HistoryEvents.{end_events, is_refuse, item_abort_events, link_events, phase_events, row_events_by}
+pub use story_model.{HistoryEvents.{status_event}, Items.{Item, Sent, abort, command_id, command_item, has_item}}
+pub use story_model.Items.{is_clash, is_done, is_open, is_tag_clash, process, same_item, sense_from, sense_id}
+pub use story_model.{Items.{sense_item}, Links.{LastMessage, Link, abortive, complete, disconnect, is_of_nexus}}
+pub use story_model.Links.{is_open_sense, last_in, last_out, link_after_name, link_of, named_item_from, plain}
+pub use story_model.{PairAgreements.{agreement_in}, Right.{same_bytes}, Story.{Ending, Story, by_abort, by_reset}}
+pub use story_model.Story.{by_status, is_aborted, is_sense_stopped, marked_refused, marked_shown, story_after_event}
+pub use story_model.Story.{story_after_events, story_with_end, story_with_ends, story_with_over}
+pub use story_model.TraceHistory.{aim_of, carried_after_byte_if, carried_after_fault_if, carried_after_message_if}
+pub use story_model.TraceHistory.{is_parity_error, story, story_after_byte, story_after_connection}
+pub use story_model.TraceHistory.{story_after_crossing, story_after_fault, story_after_in, story_after_message}
+pub use story_model.TraceHistory.{story_after_out, story_by, story_by_change, story_in_connection, story_on_bus}
+pub use story_model.TraceHistory.{story_on_free_bus, story_with, story_with_carried, story_with_history}
+pub use story_model.TraceHistory.{story_with_restored, story_with_sent, trace_history}
+use Rattle.due_model.specs.dialogue_model.specs as dialogue_model
+pub use dialogue_model.{Arrivals.{policy_of}, DataRuns.{run_length}, Exchange.{Exchange, Speech, attends_with}}
+pub use dialogue_model.Exchange.{bytes_of_messages, from_byte, message_bytes, no_messages, one_message}
+pub use dialogue_model.Exchange.{plan_after_message, plan_anew, speech_after_byte, speech_after_request, speech_of}
+pub use dialogue_model.{Exchange.{struck_plan}, Hearing.{begun}, NextPhase.{Serving, after_messages, after_refusal}}
+pub use dialogue_model.NextPhase.{bus_free, leaving_by, message_out_leaving, message_repetition, next_data_phase}
+pub use dialogue_model.NextPhase.{phase_entry, phase_leaving, phase_of, recovery, with_task}
+pub use dialogue_model.{PhaseBytes.{run_length_if}, Planning.{cause_after, first_plan, plan_in_message_out}}
+pub use dialogue_model.{Speaking.{speech_in_phase, words_after}, Words.{abort_bytes, abort_opening, host_answer}}
+pub use dialogue_model.Words.{is_name, is_naming, naming_messages, offer_if, parity_error, process_opening, tag_bytes}
+pub use dialogue_model.{Words.{tag_named}, declared.exchange.{Cause.{Cause}, Hearing.{Hearing}, Leaving.{Leaving}}}
+pub use dialogue_model.declared.exchange.{Messages.{Messages}, Next.{Next}, Phase.{Phase}, Plan.{Plan}, Said.{Said}}
+pub use dialogue_model.declared.exchange.Task.{Task}
+use Rattle.due_model.proofs as due_model_proofs
+pub use due_model_proofs.{Plains.{run_state_plain}, SameEvents.{kinds_are}, Stills.{still_talk}}
+use Rattle.due_model.specs as due_model
+pub use due_model.{Defs.{host_of, opening, target_def_of}, Next.{IsPrompt}, Plain.{AreOfDevices, IsPlain}}
+pub use due_model.RunState.{RunState, bus_of, item_of, or_start, process_item, process_served}
+pub use due_model.RunSteps.{exchange_after, item_if, leaving_of, may_negotiate, messages_if, run_state, run_state_after}
+pub use due_model.{RunSteps.{served_after}, Sights.{hearing_of, leaving, serving_of}, Tasks.{task_if, task_of}}
+pub use due_model.{Telling.{same_kind}, Wants.{ready_of}}
 use Rattle.progress_laws.specs.scsi_device.proofs as scsi_device_proofs
 pub use scsi_device_proofs.{FitLines.{obeys_fits, units_are}, PhaseLines.{command_is}}
 use Rattle.progress_laws.specs.scsi_device.specs as scsi_device
@@ -180,10 +181,10 @@ pub use bus_transcript.{Numbers.{next_number}, Opened.{OpenedValue, broken_off, 
 pub use bus_transcript.Opened.{is_complete, is_completion, messages_of, opened_connection, phase_entered, phase_over}
 pub use bus_transcript.Opened.{phase_parts, settled, spoken, with_all_out, with_crossing, with_fault, with_in}
 pub use bus_transcript.Opened.{with_in_if, with_out, with_part, with_phase, with_row, with_said, with_still_row}
-pub use bus_transcript.Processes.{IsLast, process_after, process_of, same_nexus, with_last, with_process}
-pub use bus_transcript.Rows.{TranscriberValue, abort_item, account_parts, closed_if, closed_with, departed, departed_if}
-pub use bus_transcript.Rows.{finished_if, free_items, name_of, on_bus, on_free_bus, reset_items, transcribed}
-pub use bus_transcript.Rows.{transcript_of, unanswered_by, unanswered_items, under_reset, with_bus, with_items}
+pub use bus_transcript.{Processes.{IsLast, process_after, same_nexus, with_last, with_process}, Rows.{TranscriberValue}}
+pub use bus_transcript.Rows.{abort_item, account_parts, closed_if, closed_with, departed, departed_if, finished_if}
+pub use bus_transcript.Rows.{free_items, name_of, on_bus, on_free_bus, reset_items, transcribed, transcript_of}
+pub use bus_transcript.Rows.{unanswered_by, unanswered_items, under_reset, with_bus, with_items}
 pub use bus_transcript.declared.{item.Name.{Name}, part.{Incoming.{Incoming, TheVariants.{Broken}}, Part.{Part}}}
 pub use bus_transcript.declared.part.Part.TheVariants.{Command, Completion, Status, StatusPhase}
 pub use bus_transcript.declared.{process.Process.{Process}, summary.Departure.{Departure, TheVariants.{Abortion}}}

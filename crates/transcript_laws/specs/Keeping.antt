@@ -1,10 +1,10 @@
 -- What the transcript keeps of the processes that are open, by the nexus of each (6.5).
 use Rattle.std.specs.Prelude.{◌≡◌, List, Some}
-use Rattle.bus_due.specs.bus_base.specs.declared.ProcId.{ProcId}
-use Rattle.bus_due.specs.scenario.specs.Value.{ScenarioValue}
-use Rattle.bus_due.specs.disk_array.specs.Processes as array_of
-use Rattle.bus_due.specs.bus_story.specs.CarriedBytes.{CarriedBytes, carried_of}
-use Rattle.bus_due.specs.bus_story.specs.Items.{Item}
+use Rattle.due_model.specs.bus_base.specs.declared.ProcId.{ProcId}
+use Rattle.due_model.specs.scenario.specs.Value.{ScenarioValue}
+use Rattle.due_model.specs.array_model.specs.Processes as array_of
+use Rattle.due_model.specs.story_model.specs.CarriedBytes.{CarriedBytes, carried_of}
+use Rattle.due_model.specs.story_model.specs.Items.{Item}
 use Rattle.bus_transcript.specs.declared.item.Name.{Name}
 use Rattle.bus_transcript.specs.declared.process.Process.{Process}
 use Rattle.bus_transcript.specs.Events.{name_sent}

@@ -2,31 +2,31 @@
 use Rattle.std.specs.Prelude.{ℕ, Bool, true, false, not, ◌&&◌, ◌||◌, ◌==◌, List, [], ◌∷◌, Option, Some, None, is_some}
 use Rattle.std.specs.Prelude.{is_none, if◌then◌else◌}
 use Rattle.std.specs.List.{list_any}
-use Rattle.bus_due.specs.bus_trace.specs.LineSet.{LineSet}
-use Rattle.bus_due.specs.bus_trace.specs.declared.Row.{Row}
-use Rattle.bus_due.specs.bus_trace.specs.declared.changes.Change.{Change}
-use Rattle.bus_due.specs.bus_trace.specs.declared.connection.Connection.{Connection}
-use Rattle.bus_due.specs.bus_trace.specs.Changes.{rises}
-use Rattle.bus_due.specs.bus_trace.specs.Phases.{is_command, is_message_in, is_message_out, changes_phase}
-use Rattle.bus_due.specs.msg_grammar.specs.declared.message.MsgIn.{MsgIn}
-use Rattle.bus_due.specs.msg_grammar.specs.declared.message.MsgOut.{MsgOut}
-use Rattle.bus_due.specs.scenario.specs.declared.value.AbortDef.{AbortDef}
-use Rattle.bus_due.specs.scenario.specs.Value.{ScenarioValue}
-use Rattle.bus_due.specs.disk_array.specs.Processes.{Process, process_of, same_bool}
-use Rattle.bus_due.specs.disk_array.specs.Order.{same_number}
-use Rattle.bus_due.specs.bus_phases.specs.Half.{is_nil}
-use Rattle.bus_due.specs.bus_story.specs.BusState.{RowReading, row_reading}
-use Rattle.bus_due.specs.bus_story.specs.CarriedBytes.{CarriedBytes, carried_at, carried_of, is_whole_block}
-use Rattle.bus_due.specs.bus_story.specs.CarriedBytes.{is_status_phase}
-use Rattle.bus_due.specs.bus_story.specs.HistoryEvents as story_of
-use Rattle.bus_due.specs.bus_story.specs.HistoryEvents.{abort_line_at}
-use Rattle.bus_due.specs.bus_story.specs.Items.{Item, process, abort, Sent, has_item}
-use Rattle.bus_due.specs.bus_story.specs.Links.{Link, LastMessage, plain, complete, disconnect, abortive}
-use Rattle.bus_due.specs.bus_story.specs.Links.{link_after_name}
-use Rattle.bus_due.specs.bus_story.specs.Right.{same_bytes}
-use Rattle.bus_due.specs.bus_story.specs.Story.{Story, by_reset, story_with_ends}
-use Rattle.bus_due.specs.bus_story.specs.TraceHistory.{aim_of, story, story_after, is_parity_error}
-use Rattle.bus_due.specs.Telling.{same_kind}
+use Rattle.due_model.specs.bus_trace.specs.LineSet.{LineSet}
+use Rattle.due_model.specs.bus_trace.specs.declared.Row.{Row}
+use Rattle.due_model.specs.bus_trace.specs.declared.changes.Change.{Change}
+use Rattle.due_model.specs.bus_trace.specs.declared.connection.Connection.{Connection}
+use Rattle.due_model.specs.bus_trace.specs.Changes.{rises}
+use Rattle.due_model.specs.bus_trace.specs.Phases.{is_command, is_message_in, is_message_out, changes_phase}
+use Rattle.due_model.specs.msg_grammar.specs.declared.message.MsgIn.{MsgIn}
+use Rattle.due_model.specs.msg_grammar.specs.declared.message.MsgOut.{MsgOut}
+use Rattle.due_model.specs.scenario.specs.declared.value.AbortDef.{AbortDef}
+use Rattle.due_model.specs.scenario.specs.Value.{ScenarioValue}
+use Rattle.due_model.specs.array_model.specs.Processes.{Process, process_of, same_bool}
+use Rattle.due_model.specs.array_model.specs.Order.{same_number}
+use Rattle.due_model.specs.bus_phases.specs.Half.{is_nil}
+use Rattle.due_model.specs.story_model.specs.BusState.{RowReading, row_reading}
+use Rattle.due_model.specs.story_model.specs.CarriedBytes.{CarriedBytes, carried_at, carried_of, is_whole_block}
+use Rattle.due_model.specs.story_model.specs.CarriedBytes.{is_status_phase}
+use Rattle.due_model.specs.story_model.specs.HistoryEvents as story_of
+use Rattle.due_model.specs.story_model.specs.HistoryEvents.{abort_line_at}
+use Rattle.due_model.specs.story_model.specs.Items.{Item, process, abort, Sent, has_item}
+use Rattle.due_model.specs.story_model.specs.Links.{Link, LastMessage, plain, complete, disconnect, abortive}
+use Rattle.due_model.specs.story_model.specs.Links.{link_after_name}
+use Rattle.due_model.specs.story_model.specs.Right.{same_bytes}
+use Rattle.due_model.specs.story_model.specs.Story.{Story, by_reset, story_with_ends}
+use Rattle.due_model.specs.story_model.specs.TraceHistory.{aim_of, story, story_after, is_parity_error}
+use Rattle.due_model.specs.Telling.{same_kind}
 use Rattle.progress_laws.specs.book_laws.specs.Accounts.{is_open_in}
 use Rattle.progress_laws.specs.book_laws.specs.RowTests.{same_item_if}
 use Rattle.bus_transcript.specs.declared.part.Incoming.{Incoming}

@@ -1,18 +1,18 @@
 -- What holds of a transcript and of the story of the same rows, row by row, where each row fits.
 use Rattle.std.specs.Prelude.{ℕ, ◌≡◌, ◌||◌, Bool, true, false, List, [], ◌∷◌, ◌++◌, reverse, Option, Some, None}
-use Rattle.bus_due.specs.bus_base.specs.declared.Event.{Event}
-use Rattle.bus_due.specs.bus_base.specs.declared.ProcId.{ProcId}
-use Rattle.bus_due.specs.bus_trace.specs.Phases.{is_command, is_data, is_message_out}
-use Rattle.bus_due.specs.bus_trace.specs.declared.Row.{Row}
-use Rattle.bus_due.specs.bus_trace.specs.declared.changes.Change.{Change}
-use Rattle.bus_due.specs.scenario.specs.Value.{ScenarioValue}
-use Rattle.bus_due.specs.disk_array.specs.Processes as array_of
-use Rattle.bus_due.specs.disk_array.specs.Processes.{same_id}
-use Rattle.bus_due.specs.bus_story.specs.CarriedBytes.{CarriedBytes, carried_of, is_status_phase}
-use Rattle.bus_due.specs.bus_story.specs.Items.{Item, process, abort, has_item}
-use Rattle.bus_due.specs.bus_story.specs.Links.{Link}
-use Rattle.bus_due.specs.bus_story.specs.Story.{Story}
-use Rattle.bus_due.specs.bus_story.specs.TraceHistory.{story}
+use Rattle.due_model.specs.bus_base.specs.declared.Event.{Event}
+use Rattle.due_model.specs.bus_base.specs.declared.ProcId.{ProcId}
+use Rattle.due_model.specs.bus_trace.specs.Phases.{is_command, is_data, is_message_out}
+use Rattle.due_model.specs.bus_trace.specs.declared.Row.{Row}
+use Rattle.due_model.specs.bus_trace.specs.declared.changes.Change.{Change}
+use Rattle.due_model.specs.scenario.specs.Value.{ScenarioValue}
+use Rattle.due_model.specs.array_model.specs.Processes as array_of
+use Rattle.due_model.specs.array_model.specs.Processes.{same_id}
+use Rattle.due_model.specs.story_model.specs.CarriedBytes.{CarriedBytes, carried_of, is_status_phase}
+use Rattle.due_model.specs.story_model.specs.Items.{Item, process, abort, has_item}
+use Rattle.due_model.specs.story_model.specs.Links.{Link}
+use Rattle.due_model.specs.story_model.specs.Story.{Story}
+use Rattle.due_model.specs.story_model.specs.TraceHistory.{story}
 use Rattle.progress_laws.specs.book_laws.specs.Accounts.{is_open_in}
 use Rattle.bus_transcript.specs.Events.{names_begun}
 use Rattle.bus_transcript.specs.Opened.{OpenedValue}

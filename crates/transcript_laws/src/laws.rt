@@ -1,10 +1,10 @@
 // Laws of transcripts, each named by the contract of a function that does nothing.
 
 ghost use Rattle.std.specs.Prelude.{◌≡◌, ◌<◌, ◌^◌, ◌-◌, true, List, length};
-ghost use Rattle.bus_due.specs.bus_trace.specs.declared.rows.Row.{Row};
-ghost use Rattle.bus_due.specs.scenario.specs.Value.{ScenarioValue};
-ghost use Rattle.bus_due.specs.scenario.specs.Writing.{Obeys};
-ghost use Rattle.bus_due.specs.Next.{IsPrompt};
+ghost use Rattle.due_model.specs.bus_trace.specs.declared.rows.Row.{Row};
+ghost use Rattle.due_model.specs.scenario.specs.Value.{ScenarioValue};
+ghost use Rattle.due_model.specs.scenario.specs.Writing.{Obeys};
+ghost use Rattle.due_model.specs.Next.{IsPrompt};
 ghost use Rattle.bus_transcript.specs.Events.{TellsHistory, names_begun};
 ghost use Rattle.bus_transcript.specs.Rows.{transcript_of};
 ghost use Rattle.transcript_laws.specs.RowTests.{fit};

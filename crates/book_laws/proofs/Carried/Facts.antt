@@ -6,7 +6,7 @@ use proofs.Names.{Link, RunState, item_of, process_item, process_here, run_state
 use proofs.{Names.{SendsNext, SendsOwn, AllSendOwn}, Carried.Crossings.{restored_own, refused_own, shown_own}}
 use proofs.Carried.{Crossings.{fault_own, message_own, IsNext, byte_own, nothing_own}, Steps.{IsKept, no_link}}
 use proofs.Carried.Steps.{row_carried}
-pub use Rattle.bus_due.specs.disk_array.proofs.SoundArrays.{id_is as process_id}
+pub use Rattle.due_model.specs.array_model.proofs.SoundArrays.{id_is as process_id}
 
 pub process_none : (p : Process) → (let a : Option Process = None in a) ≡ Some p → ⊥
 process_none p e = cc

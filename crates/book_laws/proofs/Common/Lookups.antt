@@ -2,8 +2,8 @@
 use Rattle.book_laws.proofs
 use proofs.Names.{◌≡◌, Bool, false, List, ◌∙◌, ap, if◌then◌else◌, ProcId, same_id, carried_with, CarriedBytes}
 use proofs.Names.{with_carried, carried_of}
-pub use Rattle.bus_due.specs.disk_array.proofs.SeatLookups.{same_id_is as id_is}
-pub use Rattle.bus_due.specs.disk_array.proofs.SeatReplies.{id_self as self_id}
+pub use Rattle.due_model.specs.array_model.proofs.SeatLookups.{same_id_is as id_is}
+pub use Rattle.due_model.specs.array_model.proofs.SeatReplies.{id_self as self_id}
 
 pub put_own : (all : List CarriedBytes) (c : CarriedBytes) (id : ProcId) → c.id ≡ id
     → carried_of (with_carried all c) id ≡ c

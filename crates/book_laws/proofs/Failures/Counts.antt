@@ -96,7 +96,7 @@ struck_is s (row ∷ rows) h = go (λ e. struck_is s rows e) k.story.bus_state.c
         && (is_fault row.kind || is_struck_phase s rows)) ≡ true
     go more None z None e = wrong (sym (struck_stands s rows (more e)) ∙ (λ i. is_some (z i)))
     go more None z (Some n) e = wrong (sym e ∙ first_struck n.reselected (not n.reselected
-        && may_negotiate k n (Rattle.bus_due.specs.bus_story.specs.TraceHistory.aim_of k.story.aims n.initiator))
+        && may_negotiate k n (Rattle.due_model.specs.story_model.specs.TraceHistory.aim_of k.story.aims n.initiator))
         (naming_of s k n))
     go more (Some m) z None e = cc
     go more (Some m) z (Some n) e =
@@ -190,7 +190,8 @@ messages_counts : (v : Serving) (n : Next) → (after_messages v n).counts ≡ f
 messages_counts v Next.GoOn = go v.task
   where
     go : (o : Option Task) → (with_task o (λ t. phase_entry
-        (Rattle.bus_due.specs.bus_dialogue.specs.NextPhase.next_data_phase (policy_of v.def) t t.runs))).counts ≡ false
+        (Rattle.due_model.specs.dialogue_model.specs.NextPhase.next_data_phase (policy_of v.def) t t.runs))).counts
+        ≡ false
     go None = refl
     go (Some t) = refl
 messages_counts v _ = refl

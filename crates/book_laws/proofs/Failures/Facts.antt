@@ -45,7 +45,7 @@ ends_are s (row ∷ rows) n h z = go (λ m y. ends_are s rows m two.0 y) k.story
         ∙ (λ i. is_true_beginning s k (sym y i) (sym next i)) ∙ begins
     go before (Some m) y =
         let same : m ≡ n = some_same m n d.change.after.bsy
-        ((λ i. Rattle.bus_due.specs.bus_trace.specs.Terms.connection_after
+        ((λ i. Rattle.due_model.specs.bus_trace.specs.Terms.connection_after
         (sym y i) k.story.bus_state.call d.change row) ∙ next) in
         (λ i. has_ends (process_item s (served_after s k (y i) (next i))) (sym same i)) ∙ before m y
 

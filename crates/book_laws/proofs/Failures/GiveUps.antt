@@ -125,7 +125,7 @@ arrival_fails : (id other : ProcId) (code : ℕ) (plan : Plan) (arrival : Arriva
 arrival_fails id other code plan arrival Phase.Command = go plan.struck arrival
   where
     go : (q : Bool) (a : Arrival)
-        → has_event (if q then [] else Rattle.bus_due.specs.bus_dialogue.specs.Events.arrival_event id a ∷ [])
+        → has_event (if q then [] else Rattle.due_model.specs.dialogue_model.specs.Events.arrival_event id a ∷ [])
         (Event.Fail other code) ≡ false
     go true a = refl
     go false Arrival.Refused = refl
@@ -427,9 +427,10 @@ past s rows row n id leaves same spent = and_from _ _ leaves (go (process_served
     go (Some p) w e =
         (λ i. is_past_limit (target_def_of s n.target) (task_if s k (w i)) (wrong_phases s rows id + one_if (leaves i)))
         ∙ numbers (progress_in k.progress p.id).recoveries (wrong_phases s rows id)
-        (Rattle.std.specs.List.list_any (λ (q : Rattle.bus_due.specs.disk_array.specs.Units.Nexus).
-        Rattle.bus_due.specs.disk_array.specs.Units.same_nexus q
-        (Rattle.bus_due.specs.disk_array.specs.Units.nexus_of p)) (Rattle.bus_due.specs.RunState.array_of s k).holds)
+        (Rattle.std.specs.List.list_any (λ (q : Rattle.due_model.specs.array_model.specs.Units.Nexus).
+        Rattle.due_model.specs.array_model.specs.Units.same_nexus q
+        (Rattle.due_model.specs.array_model.specs.Units.nexus_of p))
+        (Rattle.due_model.specs.RunState.array_of s k).holds)
         (subst (λ (x : ProcId). (progress_in k.progress x).recoveries ≤ wrong_phases s rows id)
         (sym (own k.served p w same)) (counted s rows id)) e
 
@@ -605,7 +606,7 @@ arrival_loses : (id other : ProcId) (plan : Plan) (arrival : Arrival) (phase : P
 arrival_loses id other plan arrival Phase.Command = go plan.struck arrival
   where
     go : (q : Bool) (a : Arrival)
-        → has_event (if q then [] else Rattle.bus_due.specs.bus_dialogue.specs.Events.arrival_event id a ∷ [])
+        → has_event (if q then [] else Rattle.due_model.specs.dialogue_model.specs.Events.arrival_event id a ∷ [])
         (Event.Lost other) ≡ false
     go true a = refl
     go false Arrival.Refused = refl

@@ -15,8 +15,8 @@ use proofs.Names.{marked_shown, story_after_event, story_after_events, story_wit
 use proofs.Names.{retries_of, is_counted, is_parity_error, story_by_change, story_on_bus, story_with_restored}
 use proofs.Names.{story_with_carried, same_event, has_event, is_item_of, is_link_of, fails_with, has_failing_byte}
 use proofs.Names.{is_strike, has_strike}
-use Rattle.bus_due.specs.bus_story.specs.HistoryEvents
-use Rattle.bus_due.specs.bus_story.specs.TraceHistory
+use Rattle.due_model.specs.story_model.specs.HistoryEvents
+use Rattle.due_model.specs.story_model.specs.TraceHistory
 
 -- ---- what a process has carried: a failure has its fault row
 
@@ -248,11 +248,11 @@ byte_is : (s : ScenarioValue) (rows : List Row) (k : CarriedBytes) (lines : Line
 byte_is s rows k lines byte h = go (is_command lines) (is_data lines) (is_status_phase lines)
   where
     go : (p q r : Bool) → IsCarried s rows (if p then record k {
-      command = Rattle.bus_due.specs.bus_story.specs.CarriedBytes.area_with k.command byte;
+      command = Rattle.due_model.specs.story_model.specs.CarriedBytes.area_with k.command byte;
       block = k.block ++ byte ∷ [];
-    } else if q then record k { moved = Rattle.bus_due.specs.bus_story.specs.CarriedBytes.area_with k.moved byte }
-        else if r then record k { status = Rattle.bus_due.specs.bus_story.specs.CarriedBytes.area_with k.status byte }
-        else k)
+    } else if q then record k { moved = Rattle.due_model.specs.story_model.specs.CarriedBytes.area_with k.moved byte }
+        else if r
+        then record k { status = Rattle.due_model.specs.story_model.specs.CarriedBytes.area_with k.status byte } else k)
     go true q r = h
     go false true r = h
     go false false true = h
@@ -434,7 +434,7 @@ queue_none : (s : ScenarioValue) (b : Story) (o : Option CarriedBytes) (lines : 
     → has_event (HistoryEvents.queue_events s b o lines) (Event.Fail id code) ≡ false
 queue_none s b None lines id code = refl
 queue_none s b (Some k) lines id code = go (is_command lines && is_whole_block k)
-    (is_some (Rattle.bus_due.specs.disk_array.specs.ArrayHistory.array_after s (Event.Accept k.id ∷ b.history)))
+    (is_some (Rattle.due_model.specs.array_model.specs.ArrayHistory.array_after s (Event.Accept k.id ∷ b.history)))
   where
     go : (p q : Bool)
         → has_event (if p then (if q then Event.Accept k.id else Event.Refuse k.id) ∷ [] else []) (Event.Fail id code)
@@ -476,19 +476,19 @@ end_none None id code = refl
 end_none (Some k) id code = refl
 
 free_none : (s : ScenarioValue) (l : Link)
-    (last : Rattle.bus_due.specs.bus_story.specs.Links.LastMessage) (id : ProcId) (code : ℕ)
+    (last : Rattle.due_model.specs.story_model.specs.Links.LastMessage) (id : ProcId) (code : ℕ)
     → has_event (HistoryEvents.bus_free_events s l last) (Event.Fail id code) ≡ false
-free_none s l Rattle.bus_due.specs.bus_story.specs.Links.plain id code = go l.item
+free_none s l Rattle.due_model.specs.story_model.specs.Links.plain id code = go l.item
   where
     go : (o : Option Item) → has_event (HistoryEvents.item_loss_events o) (Event.Fail id code) ≡ false
     go None = refl
     go (Some (process p)) = refl
     go (Some (abort k)) = refl
-free_none s l Rattle.bus_due.specs.bus_story.specs.Links.complete id code = refl
-free_none s l Rattle.bus_due.specs.bus_story.specs.Links.disconnect id code = refl
-free_none s l Rattle.bus_due.specs.bus_story.specs.Links.abortive id code = go l.item
+free_none s l Rattle.due_model.specs.story_model.specs.Links.complete id code = refl
+free_none s l Rattle.due_model.specs.story_model.specs.Links.disconnect id code = refl
+free_none s l Rattle.due_model.specs.story_model.specs.Links.abortive id code = go l.item
   where
-    line : (o : Option Rattle.bus_due.specs.scenario.specs.declared.value.AbortDef.AbortDef)
+    line : (o : Option Rattle.due_model.specs.scenario.specs.declared.value.AbortDef.AbortDef)
         → has_event (HistoryEvents.abort_line_events o) (Event.Fail id code) ≡ false
     line None = refl
     line (Some a) = refl

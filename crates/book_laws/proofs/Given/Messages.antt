@@ -11,7 +11,7 @@ use proofs.Names.{run_state_after, messages_if, first_exchange, exchange_after, 
 use proofs.Names.{OnMessage, OnMessages, Gives, GivesNext, half_after, form_messages_in, IsFirstRow}
 use proofs.{Carried.Areas.{split_at}, Common.Lists.{word_at}, Given.{Heard.{next_half}, Rows.{gives_as, answered_same}}}
 use proofs.Said.Messages.{nil_is}
-use Rattle.bus_due.specs.bus_phases.specs.Reading.{reading_in}
+use Rattle.due_model.specs.bus_phases.specs.Reading.{reading_in}
 
 -- ---- the first row
 

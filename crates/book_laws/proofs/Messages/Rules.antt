@@ -5,14 +5,13 @@ use proofs.Names.{true≢false, zero, suc, ◌+◌, arith, Option, None, inl, in
 use proofs.Names.{slice_index_or, nil_of, falls, change_of, LineSet, changes_phase, is_message_out, is_message_in}
 use proofs.Names.{is_data, receiver_in, receiver_of, connection, connection_after, connection_of, call, bus, Row}
 use proofs.Names.{Change, Connection, got_out, got_in, form_in, dialogue, is_nil, reading_out, reading_of, Reading}
-use proofs.Names.{is_unknown, leaves_message_well, is_opening, opens_well, settles_offers, keeps_messages, seen}
-use proofs.Names.{seen_with, ScenarioValue, row_reading, Story, message_bytes, phase_of, Phase, IsBusStateOf}
+use proofs.Names.{is_unknown, leaves_message_well, is_opening, opens_well, settles_offers, keeps_messages, same_bool}
+use proofs.Names.{seen, seen_with, ScenarioValue, row_reading, Story, message_bytes, phase_of, Phase, IsBusStateOf}
 use proofs.Names.{run_state_plain, bus_state_is, change_same, AreOfDevices, RunState, bus_of, run_state, IsUnopened}
 use proofs.Names.{before_all, in_opening, in_names, Understanding, nothing_understood, understood, half_after, GoesOn}
 use proofs.{Names.{Books, Ends}, Given.{Messages.{in_is_whole, in_is_known}, Rows.{in_io}}}
 use proofs.Said.Leavings.{out_is_whole, out_is_known}
-use Rattle.bus_due.specs.bus_phases.specs.Reading.{reading_in}
-use Rattle.bus_due.specs.bus_rules.specs.Messages.{same_bool}
+use Rattle.due_model.specs.bus_phases.specs.Reading.{reading_in}
 
 -- ---- phases by the lines
 

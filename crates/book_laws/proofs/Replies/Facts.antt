@@ -10,7 +10,7 @@ use proofs.Names.{Process, process_of, same_id, RunningProcess, UnitState, Nexus
 use proofs.Names.{senses_without, nexuses_without, is_held, unit_state_at, with_unit, guest_at, without_guest}
 use proofs.Names.{with_current, has_no_current, units_after_choice, settled_array, starting_array, starting_units}
 use proofs.Names.{nexus_of, same_event, has_event, is_refused_at, was_refused, finds_full_queue, has_cause}
-use Rattle.bus_due.specs.disk_array.specs.Steps
+use Rattle.due_model.specs.array_model.specs.Steps
 
 -- ---- one of several
 

@@ -7,7 +7,7 @@ use proofs.Names.{process_count, UnitState, Array, unit_state_at, row_reading, r
 use proofs.Names.{arrival_by, Arrival, Room, is_allowed, allowed, RunState, array_of, process_served, run_state}
 use proofs.Names.{array_after_events, is_idle_unit, room_of, arrival_if, arrival_of, has_event, finds_full_queue}
 use proofs.{Names.{lacks_room, is_refusal, was_refused}, Replies.Facts.{full_caused}}
-use Rattle.bus_due.specs.disk_array.specs.ArrayHistory as Play
+use Rattle.due_model.specs.array_model.specs.ArrayHistory as Play
 
 pub refused_exactly : (s : ScenarioValue) (a : Array) (id : ProcId)
     → is_some (event_step s a (Event.Refuse id)) ≡ finds_full_queue a (process_of s id)

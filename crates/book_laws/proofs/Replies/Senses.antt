@@ -10,7 +10,7 @@ use proofs.Names.{HasSeats, RunningProcess, UnitState, Nexus, Array, same_nexus,
 use proofs.Names.{nexuses_without, is_held, unit_state_at, guest_at, nexus_of, same_event, has_event, was_refused}
 use proofs.{Names.{has_cause, is_at_nexus, is_failure_at, has_failure_at}, Replies.Facts.{IsCaused, Caused, caused}}
 use proofs.Replies.Facts.{process_runs}
-use Rattle.bus_due.specs.disk_array.specs.Steps
+use Rattle.due_model.specs.array_model.specs.Steps
 
 -- ---- a failure of a process is one at its nexus
 

@@ -8,7 +8,7 @@ use proofs.Names.{Cause, Said, host_of, opening, is_process_named, is_abort_name
 use proofs.Names.{RunState, bus_of, AreUnits, Understanding, nothing_understood, understood, understanding, AreWordsFor}
 use proofs.{Names.{opens, refuses, answers, rejects_data, rejects_status, Speaks, SaysNext}, Said.First.{process_unit}}
 use proofs.Said.{Messages.{reads_byte}, Openings.{opening_heard, abort_heard}}
-use Rattle.bus_due.specs.bus_phases.specs.Reading.{reading_in}
+use Rattle.due_model.specs.bus_phases.specs.Reading.{reading_in}
 
 item_named : (s : ScenarioValue) (dev : ℕ) (negotiates : Bool) (said : Said) (item : Option Item) → AreUnits s
     → (x : List ℕ) → x ≡ opening s dev negotiates item → said ≡ (understood nothing_understood x).said

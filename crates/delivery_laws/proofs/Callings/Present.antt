@@ -6,7 +6,7 @@ use proofs.Names.{Row, Connection, has_target, ScenarioValue, Obeys, TargetDef, 
 use proofs.Names.{one_if, run_state_plain, faithful, has_ends, IsPrompt, IsPlain, RunState, process_item}
 use proofs.Names.{process_served, run_state, obeys_fits, units_are, ends_are, trace_faithful, fault_rows, is_fault_of}
 use proofs.Names.{serves, item_is, Whole, whole}
-use Rattle.bus_due.specs.Faithful.{same_process}
+use Rattle.due_model.specs.Faithful.{same_process}
 
 -- A line that is found is there.
 found_there : (targets : List TargetDef) (dev : ℕ) → is_some (find (λ (t : TargetDef). t.dev == dev) targets) ≡ true

@@ -37,12 +37,12 @@ is_full _ = false
 -- A status gives none of these.
 by_none : {A : Type 0} (s : ScenarioValue) (h : List Event) (n status : ℕ) (f : Option Outcome → Bool)
     → ((bytes : List ℕ) → f (Some (ended_good bytes)) ≡ false) → f (Some ended_full) ≡ false
-    → ((o : Option Rattle.bus_due.specs.cdb_codec.specs.declared.Sense.Sense) → f (Some (ended_check o)) ≡ false)
+    → ((o : Option Rattle.due_model.specs.cdb_codec.specs.declared.Sense.Sense) → f (Some (ended_check o)) ≡ false)
     → f (Some (outcome_by_status s h n status)) ≡ true → A
 by_none s h n status f good full check e = go (status == GOOD) (status == QUEUE_FULL) _ _ e
   where
     go : {A : Type 0} (q r : Bool) (bytes : List ℕ)
-        (o : Option Rattle.bus_due.specs.cdb_codec.specs.declared.Sense.Sense)
+        (o : Option Rattle.due_model.specs.cdb_codec.specs.declared.Sense.Sense)
         → f (Some (if q then ended_good bytes else if r then ended_full else ended_check o)) ≡ true → A
     go true r bytes o z = wrong (sym z ∙ good bytes)
     go false true bytes o z = wrong (sym z ∙ full)
@@ -77,7 +77,7 @@ by_full : (s : ScenarioValue) (h : List Event) (n : ℕ) (o : Option Ending) →
 by_full s h n (Some (by_status status)) e = go (status == GOOD) (status == QUEUE_FULL) refl _ _ e
   where
     go : (q r : Bool) → (status == QUEUE_FULL) ≡ r
-        → (bytes : List ℕ) (o : Option Rattle.bus_due.specs.cdb_codec.specs.declared.Sense.Sense)
+        → (bytes : List ℕ) (o : Option Rattle.due_model.specs.cdb_codec.specs.declared.Sense.Sense)
         → is_full (Some (if q then ended_good bytes else if r then ended_full else ended_check o)) ≡ true
         → Some (by_status status) ≡ Some (by_status QUEUE_FULL)
     go true r w bytes o z = wrong' z

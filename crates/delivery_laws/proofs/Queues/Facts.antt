@@ -17,7 +17,7 @@ use proofs.Names.{Waits, AllUnits, IsOther, IsWrittenUnit, items_open, IsServedO
 use proofs.Names.{ArrivesNow, arrives_first, OfCommand, of_command, GoesSo, IsNew, here_goes, known_served, new_here}
 use proofs.Queues.Counts.{AreOnce, IsAnother, IsMarked, both, count_from, count_less, hosts_bound, is_open_of, of_host}
 use proofs.Queues.{Counts.{processes_fit, less_again}, Open.{open_within}, Taken.{AreTaken, row_taken, taken_both}}
-use Rattle.bus_due.specs.disk_array.specs.Steps
+use Rattle.due_model.specs.array_model.specs.Steps
 
 -- ---- in each unit each process waits once, and there is room for as many
 
@@ -142,7 +142,7 @@ arriving s p row w next pl l c v = known l.item refl v.carried_is
 -- ---- what stands in a unit
 
 waits_at : (q : RunningProcess → Type 0) (r : Process → Type 0) (waiting : List Process)
-    → ((p : Process) → q (Rattle.bus_due.specs.disk_array.specs.Units.without_reply p) → r p) → Waits q waiting
+    → ((p : Process) → q (Rattle.due_model.specs.array_model.specs.Units.without_reply p) → r p) → Waits q waiting
     → AllP r waiting
 waits_at q r [] f h = tt
 waits_at q r (p ∷ waiting) f h = (f p h.0, waits_at q r waiting f h.1)

@@ -192,7 +192,7 @@ none_open s dev = less_again (count_from (is_open_of (run_state s []).story.sent
     none : (n : ℕ) (commands : List CmdDef) → count_from (is_open_of (run_state s []).story.sent dev) n commands ≤ 0
     none n [] = omega arith
     none n (c ∷ commands) = at_none _ (count_from (is_open_of (run_state s []).story.sent dev) (n + 1) commands)
-        (ap Rattle.bus_due.specs.bus_dialogue.specs.PhaseBytes.one_if (and_false (c.host == dev)))
+        (ap Rattle.due_model.specs.dialogue_model.specs.PhaseBytes.one_if (and_false (c.host == dev)))
         (none (n + 1) commands)
 
 pub open_within : (s : ScenarioValue) (p : List Row) → Obeys s → IsPrompt s p → IsWithin s (run_state s p).story.sent

@@ -8,7 +8,7 @@ use proofs.Names.{same_id, IsSound, Array, RunningProcess, guest_at, is_held, un
 use proofs.Names.{seats_are, id_is, self_id, has_event, none_some, executed, reply_at, accepted}
 use proofs.Names.{refused as lists_refused, running_id, settles, running_own, HasRun, IsGiven, failed, ran}
 use Rattle.delivery_laws.specs.Delivery.{refused}
-use Rattle.bus_due.specs.disk_array.specs.Steps
+use Rattle.due_model.specs.array_model.specs.Steps
 
 abbrev AreGiven : ScenarioValue → List Event → List (ProcId × Reply) → Type 0
 AreGiven s h replies = (id : ProcId) (reply : Reply) → reply_in replies id ≡ Some reply → IsGiven s h id reply

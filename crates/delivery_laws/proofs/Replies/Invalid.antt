@@ -10,7 +10,7 @@ use proofs.Names.{is_request_sense, needs_unit, range_of, unit_not_supported, co
 use proofs.Names.{Nexus, UnitState, nexus_of, unit_state_at, command_id, fits_unit, is_sound_command, is_valid}
 use proofs.Names.{lines_always, AreOfLines, IsOfLine, none_some, HasRun, checked_sense, fault_sense, is_calm_event}
 use proofs.Replies.Valid.{calm_context, fair_after}
-use Rattle.bus_due.specs.disk_array.specs.Steps
+use Rattle.due_model.specs.array_model.specs.Steps
 
 -- ---- the checks
 

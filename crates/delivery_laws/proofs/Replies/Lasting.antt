@@ -10,8 +10,8 @@ use proofs.Names.{story_by_change, prompt_plain, IsPrompt, IsPlain, RunState, ar
 use proofs.Names.{obeys_fits, seats_are, self_id, has_event, least_is, none_some, reply_at, running_id, Whole}
 use proofs.{Names.{standing_next, whole, running_own, HasRun}, Senses.Events.{Book, IfBooks, Tells, kept_reply}}
 use proofs.Senses.Rows.{AllTell, Coming, row_tells}
-use Rattle.bus_due.specs.disk_array.proofs.SoundArrays.{id_is}
-use Rattle.bus_due.specs.disk_array.specs.Steps
+use Rattle.due_model.specs.array_model.proofs.SoundArrays.{id_is}
+use Rattle.due_model.specs.array_model.specs.Steps
 use Rattle.delivery_laws.proofs.Senses.Events as books
 
 -- ---- an event answers no process anew

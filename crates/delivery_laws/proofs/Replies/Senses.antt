@@ -9,7 +9,7 @@ use proofs.Names.{array_step, reply_in, CommandContext, Reply, check_condition, 
 use proofs.Names.{process_of, same_id, sense_block, IsSound, Array, RunningProcess, UnitState, guest_at, is_held}
 use proofs.Names.{nexus_of, unit_state_at, obeys_fits, seats_are, id_is, none_some, executed, reply_at, accepted}
 use proofs.Names.{refused, settles, running_id, sense_cdb, running_own}
-use Rattle.bus_due.specs.disk_array.specs.Steps
+use Rattle.due_model.specs.array_model.specs.Steps
 
 abbrev pub is_known : ℕ → Bool
 is_known status = status == GOOD || (status == CHECK_CONDITION || status == QUEUE_FULL)

@@ -15,7 +15,7 @@ use proofs.Names.{guest_at, is_held, nexus_of, nexuses_without, sense_of_nexus, 
 use proofs.Names.{unit_state_at, with_unit, command_id, fits_unit, is_sound_command, is_valid, obeys_fits, seats_are}
 use proofs.Names.{lines_always, AreOfLines, IsOfLine, id_is, self_id, none_some, executed, reply_at, accepted, refused}
 use proofs.Names.{settles, running_id, running_own, is_given_up_by, is_calm_event}
-use Rattle.bus_due.specs.disk_array.specs.Steps
+use Rattle.due_model.specs.array_model.specs.Steps
 
 -- ---- what a command without fault answers, where no attention stands and its range is good
 

@@ -188,9 +188,10 @@ own_line s p row time how comes h = by_kind row.kind refl
     driven = λ i. (if eq_self row.dev i then driven_after row.kind (drives p row.dev) else drives p row.dev).rst
 
     own_kind : (k : Kind) → row.kind ≡ k
-        → own_of (row ∷ p) dev ≡ Rattle.bus_due.specs.Own.own_next k (own_of p dev) (change_of p row) row.time
+        → own_of (row ∷ p) dev ≡ Rattle.due_model.specs.Own.own_next k (own_of p dev) (change_of p row) row.time
     own_kind k e = λ i. if eq_self row.dev i
-        then Rattle.bus_due.specs.Own.own_next (e i) (own_of p row.dev) (change_of p row) row.time else own_of p row.dev
+        then Rattle.due_model.specs.Own.own_next (e i) (own_of p row.dev) (change_of p row) row.time
+        else own_of p row.dev
 
     by_lines : own_of (row ∷ p) dev ≡ own_after (own_of p dev) (change_of p row) row.time
         → (b : Bool) → (drives p dev).rst ≡ b → (a : Bool) → after.rst ≡ a → Line s (row ∷ p) dev time
@@ -285,7 +286,7 @@ line_next s p row dev time how = go (row.dev == dev) refl
   where
     go : (q : Bool) → (row.dev == dev) ≡ q → Comes s dev time → Line s p dev time → Line s (row ∷ p) dev time
     go false e comes h = same_line s p row dev time
-        (λ i. if e i then Rattle.bus_due.specs.Own.own_next row.kind (own_of p dev) (change_of p row) row.time
+        (λ i. if e i then Rattle.due_model.specs.Own.own_next row.kind (own_of p dev) (change_of p row) row.time
         else own_of p dev) (λ i. (if e i then driven_after row.kind (drives p dev) else drives p dev).rst) h
     go true e comes h = subst (λ (d : ℕ). Comes s d time → Line s p d time → Line s (row ∷ p) d time)
         (eqb-true row.dev dev e) (own_line s p row time how) comes h

@@ -14,7 +14,7 @@ use proofs.Names.{Story, by_abort, by_reset, by_status, is_aborted, is_sense_sto
 use proofs.Names.{story_with_ends, id_is, self_nexus, none_some, reply_at, running_id, AreChecked, ends_over}
 use proofs.Names.{ends_senses, events_grow, in_append, sense_cdb, debt_before, is_checked, is_not_over, same_debt}
 use proofs.Names.{OfCommand, of_command, running_own, nexus_at, Debts, IsDebt, PaysWell, is_owed, nexus_of_command}
-use Rattle.bus_due.specs.disk_array.specs.Steps
+use Rattle.due_model.specs.array_model.specs.Steps
 
 -- ---- what is kept
 
@@ -597,7 +597,7 @@ event_own s b a (Event.Refuse id) sound checked debts well tells h = refused (Ow
     (ap (reply_in a.replies) own ∙ tells) (ap (λ (x : ProcId). x.sense) own ∙ refused_plain s id p e f) h)
   where
     process_own : (p : Process) → process_of s id ≡ Some p → id ≡ p.id
-    process_own p e = sym (Rattle.bus_due.specs.disk_array.proofs.SoundArrays.id_is s id p e)
+    process_own p e = sym (Rattle.due_model.specs.array_model.proofs.SoundArrays.id_is s id p e)
 event_own s b a (Event.Run id) sound checked debts well tells h = run (OwnSenses s b.sent) a
     (is_some (guest_at a.guests id)) (running_process a id) (λ r e. ran s b.sent a id r sound tells e h)
 event_own s b a (Event.Fail id code) sound checked debts well tells h =

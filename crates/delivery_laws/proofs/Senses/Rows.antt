@@ -21,8 +21,8 @@ use proofs.Names.{on_running, Whole, standing_next, whole, AllPay, Paid, events_
 use proofs.Names.{sense_is, senses_same, same_debt, same_debts, changed, Debts, is_owed, GoesSo, here_goes}
 use proofs.{Names.{known_served, none_is}, Queues.Facts.{Arriving, arriving}, Senses.Events.{IfBooks, OwnSenses, Tells}}
 use proofs.Senses.Events.{fewer_owned, step_own}
-use Rattle.bus_due.specs.disk_array.proofs.SoundArrays.{id_is}
-use Rattle.bus_due.specs.disk_array.specs.Steps
+use Rattle.due_model.specs.array_model.proofs.SoundArrays.{id_is}
+use Rattle.due_model.specs.array_model.specs.Steps
 
 -- ---- the events of a row, one after the other
 
@@ -184,7 +184,7 @@ row_tells s p row v = go d.change.after.rst refl
         g : GoesSo s k row
         g = goes l id e f calm stands
 
-        change : d.change ≡ Rattle.bus_due.specs.bus_trace.specs.Changes.change_of p row
+        change : d.change ≡ Rattle.due_model.specs.bus_trace.specs.Changes.change_of p row
         change = change_plain s row p w.stood.standing.devices v.lt
 
         reads : d.next ≡ connection (row ∷ p)

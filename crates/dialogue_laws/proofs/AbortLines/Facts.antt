@@ -431,7 +431,7 @@ not_waiting s b n a e (inr w) = wrong (sym e ∙ (λ i. w.unsent i || has_item b
 -- No initiator wants the bus any more.
 abbrev pub AreUnwanted : ScenarioValue → List Row → Type 0
 AreUnwanted s p =
-    (dev latency : ℕ) → dev < 8 → Rattle.bus_due.specs.bus_story.specs.Samples.latency_of s dev ≡ Some latency
+    (dev latency : ℕ) → dev < 8 → Rattle.due_model.specs.story_model.specs.Samples.latency_of s dev ≡ Some latency
     → want_time s (run_state s p) dev ≡ None
 
 pub aborts_ended : (s : ScenarioValue) (p : List Row) (n : ℕ) (a : AbortDef) → Obeys s → IsPrompt s p → AreUnwanted s p

@@ -54,16 +54,16 @@ length_out s p row n q next o prompt h to phase struck = just (handshakes p).ans
     pl : IsPlain s p k
     pl = run_state_plain s p h.end.was.stood.standing.devices
 
-    begun_is : Rattle.bus_due.specs.bus_dialogue.specs.Hearing.begun p ≡ true
+    begun_is : Rattle.due_model.specs.dialogue_model.specs.Hearing.begun p ≡ true
     begun_is = sym pl.begun ∙ h.leaving_row.begun
 
     counts : Rattle.progress_laws.specs.story_laws.specs.RunCounts.AreCounted (handshakes p) (bus p)
         (Rattle.progress_laws.specs.story_laws.specs.RunCounts.pulses_here p) (run_count s p n)
     counts = h.end.was.sends.counts.counts n h.leaving_row.stands h.leaving_row.calm begun_is phase
 
-    on : (Rattle.bus_due.specs.bus_trace.specs.Terms.connection (row ∷ p) ≡ Some n)
-        × (Rattle.bus_due.specs.bus_trace.specs.Phases.changes_phase
-        (Rattle.bus_due.specs.bus_trace.specs.Changes.change_of p row) ≡ true)
+    on : (Rattle.due_model.specs.bus_trace.specs.Terms.connection (row ∷ p) ≡ Some n)
+        × (Rattle.due_model.specs.bus_trace.specs.Phases.changes_phase
+        (Rattle.due_model.specs.bus_trace.specs.Changes.change_of p row) ≡ true)
     on = h.end.stands next to
 
     whole : Rattle.progress_laws.specs.row_laws.specs.WriteFacts.IsAnsweredWhole s k q t

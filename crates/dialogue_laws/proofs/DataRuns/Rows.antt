@@ -120,7 +120,7 @@ runs_of_run s p row n q (inr e) h =
     ap (reply_events q.id (serving_of s (run_state s p) n.target).plan (serving_of s (run_state s p) n.target).arrival)
     (phase_is s p row n q h Phase.DataOut e.0)
     ∙ ap (λ (b : Bool).
-    if b then Event.Fail q.id Rattle.bus_due.specs.cdb_codec.specs.declared.sense.TheConstants.PARITY_ERROR ∷ []
+    if b then Event.Fail q.id Rattle.due_model.specs.cdb_codec.specs.declared.sense.TheConstants.PARITY_ERROR ∷ []
     else Event.Run q.id ∷ []) (unstruck s p e.1)
 
 unanswered : (s : ScenarioValue) (p : List Row) (row : Row) (n : Connection) (q : Process)
@@ -205,7 +205,7 @@ answers : (s : ScenarioValue) (p : List Row) (row : Row) (n : Connection) (q : P
 answers s p row n q a h e = (λ i. reply_events q.id (serving_of s (run_state s p) n.target).plan
     (arrival_is s p row n q a h e i) (phase_is s p row n q h Phase.Command e.0 i))
     ∙ ap (λ (b : Bool).
-    if b then Event.Fail q.id Rattle.bus_due.specs.cdb_codec.specs.declared.sense.TheConstants.PARITY_ERROR ∷ []
+    if b then Event.Fail q.id Rattle.due_model.specs.cdb_codec.specs.declared.sense.TheConstants.PARITY_ERROR ∷ []
     else arrival_run_events a q.id) (unstruck s p e.1)
 
 pub queues : (s : ScenarioValue) (p : List Row) (row : Row) (n : Connection) (q : Process) → Left s p row n q

@@ -241,7 +241,7 @@ pub open_if : (s : ScenarioValue) (p : List Row) (row : Row) (n : Connection) (q
 open_if s p row n q h e =
     ap has_replied (task_is s p row n q h)
     ∙ (λ i. is_some (reply_in (or_start s (h.end.was.places.array_is i)).replies q.id))
-    ∙ ap (λ (x : Option Rattle.bus_due.specs.disk_array.specs.Execution.Reply). is_some x) e
+    ∙ ap (λ (x : Option Rattle.due_model.specs.array_model.specs.Execution.Reply). is_some x) e
 
 -- ---- COMMAND and DATA OUT
 
@@ -305,15 +305,15 @@ command_recovers s p row n q h e = (
     leaves : leaving s k n.target ≡ recovery v.def t (pointer_restoration Next.Command) (phase_entry Phase.Status)
     leaves = h.end.leaves ∙ ap (phase_leaving v (bus_of k).atn) here ∙ (λ i. with_task (task_is s p row n q h i)
         (λ x. if struck i then recovery v.def x (pointer_restoration Next.Command) (phase_entry Phase.Status)
-        else Rattle.bus_due.specs.bus_dialogue.specs.NextPhase.after_arrival v.def x v.arrival))
+        else Rattle.due_model.specs.dialogue_model.specs.NextPhase.after_arrival v.def x v.arrival))
 
     none : arrival_events q.id v.plan v.arrival (phase_of (bus_of k)) ≡ []
     none = ap (arrival_events q.id v.plan v.arrival) here ∙ ap (λ (b : Bool). if b then []
-        else Rattle.bus_due.specs.bus_dialogue.specs.Events.arrival_event q.id v.arrival ∷ []) struck
+        else Rattle.due_model.specs.dialogue_model.specs.Events.arrival_event q.id v.arrival ∷ []) struck
 
     fails : reply_events q.id v.plan v.arrival (phase_of (bus_of k)) ≡ Event.Fail q.id PARITY_ERROR ∷ []
     fails = ap (reply_events q.id v.plan v.arrival) here ∙ ap (λ (b : Bool). if b then Event.Fail q.id PARITY_ERROR ∷ []
-        else Rattle.bus_due.specs.bus_dialogue.specs.Events.arrival_run_events v.arrival q.id) struck
+        else Rattle.due_model.specs.dialogue_model.specs.Events.arrival_run_events v.arrival q.id) struck
 
 pub data_out_recovers : (s : ScenarioValue) (p : List Row) (row : Row) (n : Connection) (q : Process)
     → Left s p row n q → Struck s p Phase.DataOut
@@ -345,8 +345,8 @@ data_out_recovers s p row n q h e = (
     leaves : leaving s k n.target ≡ recovery v.def t (pointer_restoration Next.GoOn) (phase_entry Phase.Status)
     leaves = h.end.leaves ∙ ap (phase_leaving v (bus_of k).atn) here ∙ (λ i. with_task (task_is s p row n q h i)
         (λ x. if struck i then recovery v.def x (pointer_restoration Next.GoOn) (phase_entry Phase.Status)
-        else Rattle.bus_due.specs.bus_dialogue.specs.NextPhase.after_run
-        (Rattle.bus_due.specs.bus_dialogue.specs.Arrivals.policy_of v.def) x))
+        else Rattle.due_model.specs.dialogue_model.specs.NextPhase.after_run
+        (Rattle.due_model.specs.dialogue_model.specs.Arrivals.policy_of v.def) x))
 
     none : arrival_events q.id v.plan v.arrival (phase_of (bus_of k)) ≡ []
     none = ap (arrival_events q.id v.plan v.arrival) here
@@ -391,7 +391,7 @@ asked_lost s p row n q o h cause e =
     let none = none_heard s k n q.id q speaks
     (id_served s p row n q h) own h.leaving_row.begun heard.out heard.last heard.named in
     ap (λ (x : Phase). connection_end_events n k.exchange.plan x (Some q.id)) here
-    ∙ ap (λ (x : Option Rattle.bus_due.specs.bus_base.specs.declared.AbortKind.AbortKind). after_opening_events n
+    ∙ ap (λ (x : Option Rattle.due_model.specs.bus_base.specs.declared.AbortKind.AbortKind). after_opening_events n
     k.exchange.plan.said x (Some q.id)) none
 
 pub data_in_recovers : (s : ScenarioValue) (p : List Row) (row : Row) (n : Connection) (q : Process)

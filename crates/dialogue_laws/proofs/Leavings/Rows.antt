@@ -101,7 +101,7 @@ phase_end s p row n o prompt w = by r.facts
     leaves = λ i. leaving_by (serving_of s k n.target) (w.begun i) (bus_of k)
 
     true_row : is_true_telling s k row d ≡ true
-    true_row = (and_parts (Rattle.bus_due.specs.Telling.telling s p) (is_true_telling s k row d) now.told).1
+    true_row = (and_parts (Rattle.due_model.specs.Telling.telling s p) (is_true_telling s k row d) now.told).1
 
     -- what the ends show is what the target shows
     ends_are : (x : Option Connection) → d.next ≡ x → (changes_phase d.change || not (is_some x)) ≡ true
@@ -156,7 +156,7 @@ phase_end s p row n o prompt w = by r.facts
         next_is = (λ i. connection_after (g.row_is.connection_is i) k.story.bus_state.call (g.row_is.change_is i) row)
             ∙ ap (λ (x : Bool). if x then Some n else None) g.row_is.stands
 
-        begun_is : Rattle.bus_due.specs.bus_dialogue.specs.Hearing.begun p ≡ true
+        begun_is : Rattle.due_model.specs.dialogue_model.specs.Hearing.begun p ≡ true
         begun_is = sym pl.begun ∙ w.begun
 
         turned : changes_phase g.change ≡ true

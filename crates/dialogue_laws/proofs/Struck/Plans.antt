@@ -22,8 +22,9 @@ plan_knows w l p was t ep apart h e =
   where
     byte : p.struck ≡ true → (plan_with_byte w p).struck ≡ true
     byte s = ap (λ (q : Bool).
-        (if q then Rattle.bus_due.specs.bus_dialogue.specs.Exchange.plan_after_message p w.is_last w.out else p).struck)
-        (not_message_out w.change.before t.1) ∙ s
+        (if q then Rattle.due_model.specs.dialogue_model.specs.Exchange.plan_after_message p w.is_last w.out
+        else p).struck) (not_message_out w.change.before t.1)
+        ∙ s
 
     go : (c : Bool) → w.crosses ≡ c → (f : Bool) → w.fault ≡ f
         → (if c then plan_with_byte w p else if f && not w.change.before.io then struck_plan p else p).struck ≡ true

@@ -5,9 +5,9 @@ use proofs.Names.{inl, inr, ℕ, ◌≡◌, ◌⊎◌, Bool, true, false, not, �
 use proofs.Names.{None, refl, sym, ap, subst, ◌==◌, if◌then◌else◌, nat_lt, or_false, wrong', same_self, change_of}
 use proofs.Names.{rises, LineSet, changes_phase, call, connection, connection_after, is_fault, bus, drives, last_time}
 use proofs.Names.{Row, Change, Connection, Handshakes, answered_if, asked_if, handshakes, handshakes_after}
-use proofs.Names.{handshakes_on, no_handshakes, strikes_if, ScenarioValue, bytes_of_messages, Serving, phase_leaving}
-use proofs.Names.{phase_lines, phase_of, lines_by, Leaving, Phase, run_state, serving_at, fault_change, EndLines}
-use proofs.Names.{Linked, connected_bus, initiator_side, target_side, change_to, row_of_fault, row_of_lines}
+use proofs.Names.{handshakes_on, no_handshakes, newest_struck_if, ScenarioValue, bytes_of_messages, Serving}
+use proofs.Names.{phase_leaving, phase_lines, phase_of, lines_by, Leaving, Phase, run_state, serving_at, fault_change}
+use proofs.Names.{EndLines, Linked, connected_bus, initiator_side, target_side, change_to, row_of_fault, row_of_lines}
 use proofs.Names.{answering_with, offering_with, initiator_moves, no_rise, phase_same, target_moves, none_some}
 use proofs.Names.{lines_are, turn, LinkRow, is_unasked, freed_connection, awaits}
 use Rattle.progress_laws.specs.link_laws.specs.Phases.{ends}
@@ -25,8 +25,8 @@ unstruck (row ∷ p) e = kind (λ z. unstruck p z) (is_fault row.kind) refl
     before : Type 0
     before = is_unasked p ≡ true → (handshakes p).struck ≡ false
 
-    faulty : before → (io : Bool) → ((strikes_if io (handshakes p)).requests == 0) ≡ true
-        → (strikes_if io (handshakes p)).struck ≡ false
+    faulty : before → (io : Bool) → ((newest_struck_if io (handshakes p)).requests == 0) ≡ true
+        → (newest_struck_if io (handshakes p)).struck ≡ false
     faulty was true z = ap not z
     faulty was false z = was z
 

@@ -4,7 +4,7 @@ use Rattle.dialogue_laws.proofs
 use proofs.Names.{inl, inr, ℕ, ◌≡◌, ◌⊎◌, ◌<◌, Bool, true, false, not, ◌&&◌, ◌||◌, ◌∙◌, List, [], ◌∷◌, Option, Some}
 use proofs.Names.{None, refl, sym, ap, subst, same_Some, is_some, or_true, wrong, wrong', ProcId, change_of, LineSet}
 use proofs.Names.{changes_phase, connection, is_fault, receiver_in, bus, Row, Change, Connection, Handshakes, first_of}
-use proofs.Names.{handshakes, handshakes_after, strikes_if, strikes_last, Request, INITIATOR_DETECTED_ERROR}
+use proofs.Names.{handshakes, handshakes_after, newest_struck_if, with_last_struck, Request, INITIATOR_DETECTED_ERROR}
 use proofs.Names.{ScenarioValue, Obeys, Process, RowReading, row_reading, Item, process, Link, begun, begun_after}
 use proofs.Names.{phase_of, Phase, run_state_plain, IsPrompt, IsPlain, RunState, bus_of, carried_here, run_state}
 use proofs.Names.{in_connection, Knows, IsRowIn, RowKind, crosses, still, strikes as fault_strikes, turns}
@@ -13,7 +13,7 @@ use proofs.Names.{GoingRow, RowKindOf, begins_now, connection_row, goes_now, goi
 use proofs.Names.{code_if, same_phase_of, undo_asks, any_struck, Named, known, refused, said, SameFail, still_fails}
 use proofs.Names.{in_none, out_none, quiet_same, fault_receives, or_left, last_struck, Whole, standing_next, whole}
 use proofs.{Names.{SentTalk}, Leavings.Recoveries.{Left, id_served}, Struck.Complaints.{data_in_attends}}
-use Rattle.bus_due.specs.bus_lines.specs.Handshakes.{strikes}
+use Rattle.due_model.specs.bus_lines.specs.Handshakes.{strikes}
 
 -- ATN is true, or a struck byte waits for its ACK.
 abbrev owes : List Row → Bool
@@ -142,7 +142,7 @@ run_next s p row o prompt was now facts n id after calm b here served struck =
           where
             hand : handshakes q ≡ strikes (handshakes p)
             hand = ap (λ (x : Bool). handshakes_after x (connection q) c row.time (handshakes p)) ef
-                ∙ ap (λ (x : Bool). strikes_if x (handshakes p)) lines.2
+                ∙ ap (λ (x : Bool). newest_struck_if x (handshakes p)) lines.2
         on false ef =
             let before : is_struck_phase s p ≡ true = ap (λ (x : Bool). x || is_struck_phase s p) (sym ef) ∙ all.2 in
             has_code (owes q) INITIATOR_DETECTED_ERROR (sym ((now.sent n after calm b here).code id served)

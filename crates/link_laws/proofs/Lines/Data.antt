@@ -10,7 +10,7 @@ use proofs.Names.{target_def_of, progress_in, AreOfDevices, RunState, or_start, 
 use proofs.Names.{process_here, run_state, array_after_events, served_after, progress_after, progress_by_leaving}
 use proofs.Names.{leaving_of, sending_by, sending_of, task_if, task_with, reply_now, given_if, IsStill, Wishes}
 use proofs.Names.{change_plain, run_count, byte_in_run}
-use Rattle.bus_due.specs.disk_array.specs.ArrayHistory as Play
+use Rattle.due_model.specs.array_model.specs.ArrayHistory as Play
 
 -- The row leaves the phase lines as they are, in a data phase of this connection.
 pub record DataRow (p : List Row) (row : Row) (n : Connection) (c : Change) : Type 0 where

@@ -5,15 +5,15 @@ use proofs.Names.{None, refl, sym, ap, subst, arith, if◌then◌else◌, is_som
 use proofs.Names.{drives-fault, same_self, times_of, LineSet, data_of, changes_phase, receiver, receiver_in, when}
 use proofs.Names.{drives, last_time, since, line_times, phase_time, Row, Agreement, TransferTimes, Change, Connection}
 use proofs.Names.{BUS_SETTLE_DELAY, TURN_DELAY, LineTimes, struck_length, struck_same, Handshakes, handshakes}
-use proofs.Names.{strikes_if, strikes, strikes_last, first_of, time_of, room_by, Request, dialogue, byte_crosses}
-use proofs.Names.{phase_begins, duty, duty_left, duty_if_held, turned, is_attention_held, pulses, no_pulses}
-use proofs.Names.{count_after, Duty, Dialogue, is_of_device, ScenarioValue, bits_if, is_pulsed_phase, lag_by, begun}
-use proofs.Names.{host_of, Own, own_of, AreOfDevices, fault_change, stands_by, own_time_fault, own_fault, EndLines}
-use proofs.Names.{initiator_side, target_side, connected_bus, Linked, own_time, row_of_fault, change_to, CalmStanding}
-use proofs.Names.{KeepsBooksIn, LinkStage, when_selected, when_settling, when_turning, when_offering, when_shaking}
-use proofs.Names.{when_pulsing, ends, fits_duty, InPhase, HasDriven, shaking_time, Shaking, times_here, offset_here}
-use proofs.Names.{pulses_of, Reached, PulseFacts, Pulsing, HasDrivenPulsed, drives_by, EndsAhead, NoSooner, target_time}
-use proofs.{Names.{target_next, initiator_next, run_count, byte_in_run, given_here}, Lines.Data.{DataRow}}
+use proofs.Names.{newest_struck_if, strikes, with_last_struck, first_of, time_of, room_by, Request, dialogue}
+use proofs.Names.{byte_crosses, phase_begins, duty, duty_left, duty_if_held, turned, is_attention_held, pulses}
+use proofs.Names.{no_pulses, count_after, Duty, Dialogue, is_of_device, ScenarioValue, bits_if, is_pulsed_phase, lag_by}
+use proofs.Names.{begun, host_of, Own, own_of, AreOfDevices, fault_change, stands_by, own_time_fault, own_fault}
+use proofs.Names.{EndLines, initiator_side, target_side, connected_bus, Linked, own_time, row_of_fault, change_to}
+use proofs.Names.{CalmStanding, KeepsBooksIn, LinkStage, when_selected, when_settling, when_turning, when_offering}
+use proofs.Names.{when_shaking, when_pulsing, ends, fits_duty, InPhase, HasDriven, shaking_time, Shaking, times_here}
+use proofs.Names.{offset_here, pulses_of, Reached, PulseFacts, Pulsing, HasDrivenPulsed, drives_by, EndsAhead, NoSooner}
+use proofs.{Names.{target_time, target_next, initiator_next, run_count, byte_in_run, given_here}, Lines.Data.{DataRow}}
 use proofs.Lines.{Faults.{fault_obeys_in, fault_obeys_out}, Rows.{terms_after, same_line, no_rise}, Seen.{around}}
 use proofs.{Lines.Seen.{obeys_linked}, Phases.{First.{no_fall}, Stays.{NextLinked}}, Pulses.Rows.{target_next_is}}
 use proofs.Pulses.Rows.{initiator_next_is}
@@ -86,7 +86,7 @@ stays p n e t d bit h =
     none_both true = refl
     none_both false = refl
 
-    struck : (q : Bool) → (strikes_if q (handshakes p)).requests ≡ (handshakes p).requests
+    struck : (q : Bool) → (newest_struck_if q (handshakes p)).requests ≡ (handshakes p).requests
     struck true = refl
     struck false = refl
 
@@ -162,7 +162,7 @@ strikes_out s p n msg cd req ack atn x bit got h books =
 
 -- ---- by pulses
 
-oldest_same : (w : List Request) → time_of (first_of (strikes_last w)) ≡ time_of (first_of w)
+oldest_same : (w : List Request) → time_of (first_of (with_last_struck w)) ≡ time_of (first_of w)
 oldest_same [] = refl
 oldest_same (r ∷ []) = refl
 oldest_same (r ∷ (q ∷ w)) = refl
@@ -188,16 +188,16 @@ struck_facts h a b c d e last req ack f =
     }
 
 facts_stay : (io : Bool) (h : Handshakes) (a b c d e last : ℕ) (req ack : Bool) → PulseFacts h a b c d e last req ack
-    → PulseFacts (strikes_if io h) a b c d e last req ack
+    → PulseFacts (newest_struck_if io h) a b c d e last req ack
 facts_stay true h a b c d e last req ack f = struck_facts h a b c d e last req ack f
 facts_stay false h a b c d e last req ack f = f
 
-pulses_stay : (io : Bool) (h : Handshakes) → pulses_of (strikes_if io h) ≡ pulses_of h
+pulses_stay : (io : Bool) (h : Handshakes) → pulses_of (newest_struck_if io h) ≡ pulses_of h
 pulses_stay true h = refl
 pulses_stay false h = refl
 
 handshakes_struck : (p : List Row) (n : Connection) (e : EndLines) (t d bit : ℕ) → Linked p n e
-    → handshakes (row_of_fault t d bit ∷ p) ≡ strikes_if e.io (handshakes p)
+    → handshakes (row_of_fault t d bit ∷ p) ≡ newest_struck_if e.io (handshakes p)
 handshakes_struck p n e t d bit h = (terms_after p (row_of_fault t d bit) n _
     (fault_change p t d bit (connected_bus e) (drives p d) h.stands.bus_is refl) h.stands.connection_is
     (linked_fault p n e t d bit h).stands.connection_is).handshakes_are
@@ -218,7 +218,7 @@ pulses_struck p n e t d bit h =
     })
 
 driven_stays_in : (s : ScenarioValue) (p q : List Row) (n : Connection) (io : Bool) (x : ℕ) → Stays p q n
-    → handshakes q ≡ strikes_if io (handshakes p) → (own_of q n.initiator).ack ≡ (own_of p n.initiator).ack
+    → handshakes q ≡ newest_struck_if io (handshakes p) → (own_of q n.initiator).ack ≡ (own_of p n.initiator).ack
     → HasDrivenPulsed s p n io x → HasDrivenPulsed s q n io x
 driven_stays_in s p q n true x w eh eo h = λ lat there.
     let u = h lat there in
@@ -255,14 +255,14 @@ pulsing_stays s p n io req ack atn x y d bit h =
           ∙ ap pulses_of (sym eh);
       facts = subst (λ k. PulseFacts k (line_times q).req (line_times q).ack
           (own_of q n.initiator).ack (times_here q).assertion (offset_here q) t req ack) (sym eh)
-          (subst (λ (k : LineTimes). PulseFacts (strikes_if io (handshakes p)) k.req k.ack
-          (own_of q n.initiator).ack (times_here q).assertion (offset_here q) t req ack)
-          (sym w.times_are) (subst (λ k. PulseFacts (strikes_if io (handshakes p)) (line_times p).req
+          (subst (λ (k : LineTimes). PulseFacts (newest_struck_if io (handshakes p)) k.req k.ack
+          (own_of q n.initiator).ack (times_here q).assertion (offset_here q) t req ack) (sym w.times_are)
+          (subst (λ k. PulseFacts (newest_struck_if io (handshakes p)) (line_times p).req
           (line_times p).ack k (times_here q).assertion (offset_here q) t req ack) (sym eo)
-          (subst (λ (k : Agreement). PulseFacts (strikes_if io (handshakes p)) (line_times p).req (line_times p).ack
-          (own_of p n.initiator).ack (times_of k.period).assertion k.offset t req ack) (sym w.agreements_are)
-          (facts_stay io (handshakes p) (line_times p).req (line_times p).ack (own_of p n.initiator).ack
-          (times_here p).assertion (offset_here p) t req ack h.facts))));
+          (subst (λ (k : Agreement). PulseFacts (newest_struck_if io (handshakes p)) (line_times p).req
+          (line_times p).ack (own_of p n.initiator).ack (times_of k.period).assertion k.offset t req ack)
+          (sym w.agreements_are) (facts_stay io (handshakes p) (line_times p).req (line_times p).ack
+          (own_of p n.initiator).ack (times_here p).assertion (offset_here p) t req ack h.facts))));
       driven = driven_stays_in s p q n io x w eh eo h.driven;
       receives = λ k z. absurd (none_device (receiver q) k w.receiver_is z);
       received = λ a b. let k = sym (ap (λ (o : Option ℕ). is_some o) w.receiver_is) ∙ b in absurd cc;
@@ -283,7 +283,7 @@ struck_row p n e t d bit devices lt low h = record {
 }
 
 target_stays : (io req ack : Bool) (y : ℕ) (h : Handshakes) (a b : ℕ) (z : TransferTimes) (off run bits lat : ℕ)
-    → target_next io req ack y (strikes_if io h) a b z off run bits lat
+    → target_next io req ack y (newest_struck_if io h) a b z off run bits lat
     ≡ target_next io req ack y h a b z off run bits lat
 target_stays true req ack y h a b z off run bits lat =
     let long = struck_length h.waiting in
@@ -294,7 +294,7 @@ target_stays true req ack y h a b z off run bits lat =
 target_stays false req ack y h a b z off run bits lat = refl
 
 initiator_stays : (io ack atn : Bool) (x : ℕ) (h : Handshakes) (a b : ℕ) (z : TransferTimes) (lag raised g g' lat : ℕ)
-    → (io ≡ false → ack ≡ true) → initiator_next io ack atn x (strikes_if io h) a b z lag raised g' lat
+    → (io ≡ false → ack ≡ true) → initiator_next io ack atn x (newest_struck_if io h) a b z lag raised g' lat
     ≡ initiator_next io ack atn x h a b z lag raised g lat
 initiator_stays true ack atn x h a b z lag raised g g' lat f =
     let long = struck_length h.waiting in
@@ -326,14 +326,14 @@ ahead_stays s p n io req ack atn x y d bit always lt out h a =
     let en = ap (λ (k : LineTimes). k.atn) w.times_are in
     record {
       target = λ lat there. subst (NoSooner t)
-          (sym (target_next_is s p row n _ io req ack y lat (strikes_if io (handshakes p)) (line_times p).req
+          (sym (target_next_is s p row n _ io req ack y lat (newest_struck_if io (handshakes p)) (line_times p).req
           (line_times p).ack dr eh er ea w.agreements_are ∙ target_stays io req ack y (handshakes p)
           (line_times p).req (line_times p).ack (times_here p) (offset_here p) (run_count s p n) _ lat
           ∙ ap (λ (k : ℕ). target_next io req ack y (handshakes p) (line_times p).req (line_times p).ack (times_here p)
           (offset_here p) (run_count s p n) (bits_if (nat_lt k (run_count s p n)) (byte_in_run s p n k)) lat)
           (struck_same io (handshakes p)))) (a.target lat there);
       initiator = λ lat there. subst (NoSooner t)
-          (sym (initiator_next_is s p row n io ack atn x lat (strikes_if io (handshakes p)) (line_times p).ack
+          (sym (initiator_next_is s p row n io ack atn x lat (newest_struck_if io (handshakes p)) (line_times p).ack
           (line_times p).atn (own_of p n.initiator).ack (given_here s q) eh ea en eo refl w.agreements_are
           ∙ initiator_stays io ack atn x (handshakes p) (line_times p).ack (line_times p).atn (times_here p)
           (lag_by (host_of s n.initiator)) (own_of p n.initiator).ack (given_here s p) (given_here s q) lat out))

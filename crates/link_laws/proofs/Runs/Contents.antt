@@ -14,8 +14,8 @@ use proofs.Names.{execution, commands_cleared, is_request_sense, choice, Process
 use proofs.Names.{Nexus, Array, unit_state_at, with_unit, guest_at, with_current, has_no_current, is_held}
 use proofs.Names.{units_after_choice, settled_array, starting_array, starting_units, nexus_of, sense_of_nexus}
 use proofs.Names.{senses_without, nexuses_without, unit_fits, FitsBus, IsUnitLine}
-use Rattle.bus_due.specs.disk_array.specs.ArrayHistory as Play
-use Rattle.bus_due.specs.disk_array.specs.Steps
+use Rattle.due_model.specs.array_model.specs.ArrayHistory as Play
+use Rattle.due_model.specs.array_model.specs.Steps
 
 -- ---- blocks: at most 2^32 of at most 2048 bytes
 

@@ -8,8 +8,8 @@ use proofs.Names.{RunState, or_start, array_of, process_item, process_served, ca
 use proofs.Names.{array_after_events, is_writing, moved_count, reply_now, task_if, task_with, process_few, FitsBus}
 use proofs.{Names.{run_count}, Runs.Contents.{HasShortUnits, HasShortUnitsIf, gives_few, context_at_short, event_short}}
 use proofs.Runs.Contents.{start_short, settled_start_short}
-use Rattle.bus_due.specs.disk_array.specs.ArrayHistory as Play
-use Rattle.bus_due.specs.disk_array.specs.Steps
+use Rattle.due_model.specs.array_model.specs.ArrayHistory as Play
+use Rattle.due_model.specs.array_model.specs.Steps
 
 -- No run has more than 2^43 bytes.
 abbrev pub HasShortRuns : ScenarioValue → Type 0

@@ -22,7 +22,7 @@ use proofs.Names.{IsContender, IsLoser, on_free_bus, in_arbitration, after_arbit
 use proofs.Names.{after_withdrawal, after_answer, after_takeover, in_reset, none_some, falls_true, again_if}
 use proofs.{Names.{answer_left, calling_left, stage_left, way_left, for_free_bus}, Resets.Drivers.{all_devices, busy}}
 use proofs.Resets.Drivers.{busy_one, busy_same, busy_swap, quiet, quiet_same}
-use Rattle.bus_due.specs.bus_lines.specs.declared.stage.Stage.TheVariants.{InConnection}
+use Rattle.due_model.specs.bus_lines.specs.declared.stage.Stage.TheVariants.{InConnection}
 use Rattle.progress_laws.specs.bus_laws.specs.Stages.{in_connection}
 
 -- ---- the way, by the lines of the devices and the stage

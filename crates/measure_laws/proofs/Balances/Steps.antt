@@ -2,7 +2,7 @@
 use Rattle.measure_laws.proofs
 use proofs.Names.{ℕ, ◌≡◌, ◌≤◌, ◌<◌, Bool, true, false, List, ◌∷◌, refl, sym, subst, arith, ◌&&◌, ◌+◌, ◌^◌, not, rises}
 use proofs.Names.{LineSet, bus, drives, Row, Connection, Handshakes, answered_if, asked_if, handshakes, no_handshakes}
-use proofs.Names.{strikes_if, fault_change, EndLines, Linked, connected_bus, change_to, row_of_fault}
+use proofs.Names.{newest_struck_if, fault_change, EndLines, Linked, connected_bus, change_to, row_of_fault}
 use proofs.Names.{initiator_in_phase, initiator_moves, target_in_phase, target_moves, terms_after, initiator_row}
 use proofs.Names.{target_row, linked_fault, ends, one_where}
 
@@ -87,7 +87,8 @@ balanced_struck p t d bit n e h b =
     balanced_at (row_of_fault t d bit ∷ p) e _ (linked_fault p n e t d bit h).stands.bus_is z.handshakes_are
     (by e.io (balanced_here p e h.stands.bus_is b))
   where
-    by : (io : Bool) → IsBalanced (handshakes p) e.req e.ack → IsBalanced (strikes_if io (handshakes p)) e.req e.ack
+    by : (io : Bool) → IsBalanced (handshakes p) e.req e.ack
+        → IsBalanced (newest_struck_if io (handshakes p)) e.req e.ack
     by true b = record { few = b.few; bounded = b.bounded }
     by false b = b
 

@@ -13,7 +13,7 @@ use proofs.Names.{AbortDef, CmdDef, FaultDef, Policy, ResetDef, TargetDef, UnitD
 use proofs.Names.{runs_at, runs_by, runs_of, runs_over, retries_of, first_run_state, obeys_fits, fault_by, reset_by}
 use proofs.Names.{FitsBus, some_count, aborts_left, bytes_after, commands_left, resets_left, measure, for_fault}
 use proofs.Budget.Start.{all_faults, few_bytes, few_retries, start_resets}
-use Rattle.bus_due.specs.cdb_codec.specs.declared.command.Command.TheVariants as commands
+use Rattle.due_model.specs.cdb_codec.specs.declared.command.Command.TheVariants as commands
 
 -- ---- a command makes at most two runs for each byte that it needs
 

@@ -6,7 +6,7 @@ use proofs.Names.{nothing_heard, plan_after_message, said_with_if, phase_of, pla
 use proofs.Names.{Plan, run_state_plain, still_talk, host_of, bus_of, run_state, hearing_of, leaving, in_connection}
 use proofs.Names.{crosses, reading_in, still, EndLines, row_of_lines, row_in, turn, after_words, phases_in, phases_left}
 use proofs.{Names.{for_phase, for_reselection}, Lines.Shifts.{Shifts}}
-use Rattle.bus_due.specs.bus_dialogue.specs.declared.exchange.Said.{Said}
+use Rattle.due_model.specs.dialogue_model.specs.declared.exchange.Said.{Said}
 
 -- ---- what is heard and struck is no matter to them
 

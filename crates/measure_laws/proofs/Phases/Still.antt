@@ -15,7 +15,7 @@ use proofs.Names.{future_left, is_in_data, resets_left, connection_if, measure, 
 use proofs.Names.{connection_left, is_asked, phase_left, phases_in, phases_left, requests_by, requests_left}
 use proofs.Names.{sense_bytes_left, struck_left, under_way, stage_left, for_byte, for_phase, for_reselection}
 use proofs.{Lines.Still.{future_same}, Phases.Shakes.{ack_ends, gives, req_ends, way}, Resets.Counts.{resets_stay}}
-use Rattle.bus_due.specs.disk_array.specs.ArrayHistory as Play
+use Rattle.due_model.specs.array_model.specs.ArrayHistory as Play
 
 pub record StaysIn (s : ScenarioValue) (p : List Row) (row : Row) (n : Connection) : Type 0 where
   pub below : row.dev < 8

@@ -4,7 +4,7 @@ use proofs.Names.{ℕ, suc, ◌≡◌, ◌≤◌, ◌<◌, ◌∙◌, Bool, true
 use proofs.Names.{Option, Some, None, ◌&&◌, ◌+◌, ◌-◌, ◌*◌, ◌==◌, drop, if◌then◌else◌, not, ◌||◌, is_some, wrong, Event}
 use proofs.Names.{same_self, rises, LineSet, changes_phase, is_data, is_message_in, is_message_out, connection_after}
 use proofs.Names.{is_fault, receiver_in, drives, last_time, Row, Change, Connection, struck_length, Handshakes}
-use proofs.Names.{handshakes, strikes_if, ScenarioValue, Policy, Process, RowReading, row_reading, is_complete}
+use proofs.Names.{handshakes, newest_struck_if, ScenarioValue, Policy, Process, RowReading, row_reading, is_complete}
 use proofs.Names.{is_completion, link_events, row_events_by, Item, Link, latency_of, story_after_events}
 use proofs.Names.{story_by_change, story_on_bus, sample_due, bits_if, Due, Answering, Offering, policy_of}
 use proofs.Names.{is_pulsed_phase, Exchange, Speech, bytes_of_messages, struck_plan, begun, phase_of, run_length_if}
@@ -167,11 +167,11 @@ struck_messages : (q : Bool) (p : Plan) → (if q then struck_plan p else p).mes
 struck_messages true p = refl
 struck_messages false p = refl
 
-struck_requests : (q : Bool) (h : Handshakes) → (strikes_if q h).requests ≡ h.requests
+struck_requests : (q : Bool) (h : Handshakes) → (newest_struck_if q h).requests ≡ h.requests
 struck_requests true h = refl
 struck_requests false h = refl
 
-struck_waiting : (q : Bool) (h : Handshakes) → length (strikes_if q h).waiting ≡ length h.waiting
+struck_waiting : (q : Bool) (h : Handshakes) → length (newest_struck_if q h).waiting ≡ length h.waiting
 struck_waiting true h = struck_length h.waiting
 struck_waiting false h = refl
 

@@ -3,10 +3,10 @@ use Rattle.measure_laws.proofs
 use proofs.Names.{ℕ, ◌≡◌, ◌≤◌, ◌<◌, ◌∙◌, Bool, true, false, List, [], ◌∷◌, refl, sym, ap, arith, Some, None, ◌&&◌, ◌%◌}
 use proofs.Names.{◌^◌, if◌then◌else◌, is_some, not, ◌||◌, wrong, counted_on, change_of, rises, LineSet, changes_phase}
 use proofs.Names.{connection, is_fault, bus, Kind, Drives, Fault, Row, Connection, Handshakes, answered_if, asked_if}
-use proofs.Names.{handshakes, handshakes_after, no_handshakes, strikes_if, byte_crosses, byte_in, byte_out, dialogue}
-use proofs.Names.{heard_with_command, phase_begins, Dialogue, ScenarioValue, Obeys, begun, begun_after, IsPrompt}
-use proofs.Names.{same_phase_is, BeginsConnection, by_reselection, by_selection, terms_after, by_bool, RowKindOf}
-use proofs.Names.{begins_now, goes_now, row_kind, handshakes_begin, or_left, whole}
+use proofs.Names.{handshakes, handshakes_after, no_handshakes, newest_struck_if, byte_crosses, byte_in, byte_out}
+use proofs.Names.{dialogue, heard_with_command, phase_begins, Dialogue, ScenarioValue, Obeys, begun, begun_after}
+use proofs.Names.{IsPrompt, same_phase_is, BeginsConnection, by_reselection, by_selection, terms_after, by_bool}
+use proofs.Names.{RowKindOf, begins_now, goes_now, row_kind, handshakes_begin, or_left, whole}
 
 -- The lines of COMMAND.
 pub record InCommand (b : LineSet) : Type 0 where
@@ -54,7 +54,7 @@ answers_asked : (b : Bool) (t : ℕ) (h : Handshakes) → (asked_if b t h).answe
 answers_asked true t h = refl
 answers_asked false t h = refl
 
-answers_struck : (b : Bool) (h : Handshakes) → (strikes_if b h).answers ≡ h.answers
+answers_struck : (b : Bool) (h : Handshakes) → (newest_struck_if b h).answers ≡ h.answers
 answers_struck true h = refl
 answers_struck false h = refl
 

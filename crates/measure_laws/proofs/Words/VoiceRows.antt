@@ -3,7 +3,7 @@ use Rattle.measure_laws.proofs
 use proofs.Names.{ℕ, ◌≡◌, ◌<◌, ◌∙◌, Bool, true, false, List, ◌∷◌, refl, sym, ap, subst, Option, Some, None, ◌&&◌, ◌+◌}
 use proofs.Names.{◌%◌, if◌then◌else◌, is_some, not, wrong', counted_on, change_of, rises, LineSet, changes_phase}
 use proofs.Names.{is_message_out, is_message_in, connection, is_fault, receiver, bus, Row, Change, Connection}
-use proofs.Names.{Handshakes, answered_if, asked_if, handshakes, handshakes_after, no_handshakes, strikes_if}
+use proofs.Names.{Handshakes, answered_if, asked_if, handshakes, handshakes_after, no_handshakes, newest_struck_if}
 use proofs.Names.{byte_crosses, byte_else, byte_in, byte_out, dialogue, phase_begins, Dialogue, ScenarioValue, Exchange}
 use proofs.Names.{attends_with, speech_after_byte, speech_after_request, host_of, AreOfDevices, run_state, hearing_of}
 use proofs.Names.{leaving, in_connection, same_phase_is, RowKind, crosses, reading_in, still, strikes, turns}
@@ -21,7 +21,7 @@ answers_asked : (b : Bool) (t : ℕ) (h : Handshakes) → (asked_if b t h).answe
 answers_asked true t h = refl
 answers_asked false t h = refl
 
-answers_struck : (b : Bool) (h : Handshakes) → (strikes_if b h).answers ≡ h.answers
+answers_struck : (b : Bool) (h : Handshakes) → (newest_struck_if b h).answers ≡ h.answers
 answers_struck true h = refl
 answers_struck false h = refl
 

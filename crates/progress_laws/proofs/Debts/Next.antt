@@ -14,7 +14,7 @@ use proofs.Names.{items_open, carried_of_item, row_of, change_over, alternating,
 use proofs.{Names.{NoDebt, PaysWell, is_owed, nexus_of_command}, Debts.{Events.{AllPay}, Rows.{Allows, GivenUp, Shown}}}
 use proofs.Debts.Rows.{completes, fails_elsewhere, given_up, loses_elsewhere, no_ends, past_not_held, pays_all}
 use proofs.{Debts.{Rows.{row_shown}, Steps.{same_no_debt}}, Owed.{Events.{OfCommand, of_command}, Rows.{changed}}}
-use Rattle.bus_due.specs.disk_array.proofs.SoundArrays.{id_is}
+use Rattle.due_model.specs.array_model.proofs.SoundArrays.{id_is}
 
 -- ---- the change of the bus: which REQUEST SENSE are over
 

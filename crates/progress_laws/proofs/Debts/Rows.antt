@@ -14,8 +14,8 @@ use proofs.Names.{Cause, Phase, Task, target_def_of, RunState, bus_of, run_state
 use proofs.Names.{has_event, is_in_phase, gives_up, is_failure, is_loss, is_past_limit, leaves_wrong_phase}
 use proofs.Names.{is_struck_phase, is_left, is_wrong_phase, serves, wrong_phases, item_is, AllOf}
 use proofs.Debts.Events.{AllPay}
-use Rattle.bus_due.specs.bus_trace.specs.Phases.{is_command}
-use Rattle.bus_due.specs.Faithful.{same_process}
+use Rattle.due_model.specs.bus_trace.specs.Phases.{is_command}
+use Rattle.due_model.specs.Faithful.{same_process}
 
 -- ---- which events a row may show
 

@@ -8,8 +8,8 @@ use proofs.Names.{check_condition, execution, is_request_sense, queue_full, sens
 use proofs.Names.{process_of, command_at, same_bool, same_id, sense_block, IsSound, Array, RunningProcess, UnitState}
 use proofs.Names.{guest_at, is_held, nexus_of, unit_state_at, Sent, sense_id, none_some, executed, reply_at, accepted}
 use proofs.{Names.{settles, running_id, AreFetched, PaysWell}, Owed.Events.{running_own}}
-use Rattle.bus_due.specs.disk_array.proofs.SoundArrays.{id_is}
-use Rattle.bus_due.specs.disk_array.specs.Steps
+use Rattle.due_model.specs.array_model.proofs.SoundArrays.{id_is}
+use Rattle.due_model.specs.array_model.specs.Steps
 
 -- ---- what it answers
 

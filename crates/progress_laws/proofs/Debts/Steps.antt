@@ -14,7 +14,7 @@ use proofs.Names.{ends_senses, events_grow, in_append, later, not_grown, more_ha
 use proofs.{Names.{PaysWell, is_owed, nexus_of_command}, Owed.Events.{IfHolds, OfCommand, accepted, ended_so, failed}}
 use proofs.Owed.{Events.{if_none, if_settled, no_check, other_over, refused, run}, Steps.{all_reset_holds}}
 use proofs.Owed.Steps.{cleared_holds, command_apart, nexus_at}
-use Rattle.bus_due.specs.disk_array.specs.Steps
+use Rattle.due_model.specs.array_model.specs.Steps
 
 -- ---- what is owed after was owed before
 

@@ -9,7 +9,7 @@ use proofs.Names.{Array, Nexus, RunningProcess, UnitState, guest_at, is_held, ne
 use proofs.Names.{starting_array, starting_units, unit_state_at, units_after_choice, with_unit, row_reading}
 use proofs.Names.{row_events_by, RunState, array_of, or_start, array_after_events, run_state, HasDevice, AllUnits}
 use proofs.Outcomes.Seats.{IsOfTarget, are_of_targets, target_there}
-use Rattle.bus_due.specs.disk_array.specs.Steps
+use Rattle.due_model.specs.array_model.specs.Steps
 
 abbrev pub targets : List UnitState → List ℕ
 targets [] = []

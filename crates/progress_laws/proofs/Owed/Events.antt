@@ -10,7 +10,7 @@ use proofs.Names.{RunningProcess, UnitState, guest_at, is_held, nexus_of, nexuse
 use proofs.Names.{unit_state_at, Item, Sent, has_item, process, same_item, sense_item, Story, by_status}
 use proofs.Names.{story_after_event, story_with_end, running_own as own_process, executed, running_id, later, AreOwed}
 use proofs.{Names.{IsOwed}, Owed.Steps.{aborts_owe, owed_all, owed_without, reset_owes}}
-use Rattle.bus_due.specs.disk_array.specs.Steps
+use Rattle.due_model.specs.array_model.specs.Steps
 
 -- An automatic REQUEST SENSE that ends does so with GOOD, and none is lost; and that of a command is not over as the
 -- command ends.

@@ -7,7 +7,7 @@ use proofs.Names.{and_true, AbortKind, ScenarioValue, CmdDef, HostDef, Process, 
 use proofs.Names.{UnitState, nexus_of, nexuses_without, same_nexus, unit_state_at, ends_checks, Sent, command_item}
 use proofs.Names.{has_item, is_open, same_item, sense_item, Ending, Story, by_abort, is_aborted, is_sense_stopped}
 use proofs.Names.{story_with_end, story_with_ends, story_with_over, AreOwed, IsOwed}
-use Rattle.bus_due.specs.disk_array.specs.Steps
+use Rattle.due_model.specs.array_model.specs.Steps
 
 -- ---- what stays owed
 

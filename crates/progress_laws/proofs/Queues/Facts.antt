@@ -9,7 +9,7 @@ use proofs.Names.{Knows, Ends, RowOf, begins, ends, goes_on, under_reset, change
 use proofs.Names.{is_queued, events_grow, end_begun, end_asked, RowSteps, Whole, steps, whole, AreQueued}
 use proofs.{Outcomes.Facts.{place_array}, Queues.{Ends.{left_calm}, Over.{all_over}, Resets.{none_under_rst}}}
 use proofs.Queues.Rows.{IsLeftQueued, queued_next, WasOpen, before, begins as begins_new, fewer_open, open_before}
-use Rattle.bus_due.specs.disk_array.proofs.SoundArrays.{id_is}
+use Rattle.due_model.specs.array_model.proofs.SoundArrays.{id_is}
 use Rattle.trace_laws.specs.book_laws.specs.Traces.{apart}
 
 -- ---- as a connection ends

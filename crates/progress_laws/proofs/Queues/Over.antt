@@ -8,7 +8,7 @@ use proofs.Names.{Process, process_of, same_id, has_ended, Array, RunningProcess
 use proofs.Names.{nexus_of, nexuses_without, senses_without, unit_state_at, RowReading, row_reading, row_events_by}
 use proofs.Names.{Item, has_item, process, Story, story_after_event, story_after_events, story_by_change, RunState}
 use proofs.Names.{array_after_events, run_state, id_is, running_id, ends_over, events_grow, lost_over, change_over}
-use Rattle.bus_due.specs.disk_array.specs.Steps
+use Rattle.due_model.specs.array_model.specs.Steps
 
 -- ---- of a list of what has ended
 

@@ -11,7 +11,7 @@ use proofs.Names.{sense_item, Ending, Story, story_with_end, story_with_ends, st
 use proofs.Names.{is_dropped, Spares, chosen_all, kept_all, left_all, replied_all, waits_last, with_unit_all}
 use proofs.Names.{running_id, is_in_queue, is_queued, more_has, own_has}
 use Rattle.trace_laws.specs.story_laws.proofs.Pointers.Stories.{ends_over}
-use Rattle.bus_due.specs.disk_array.specs.Steps
+use Rattle.due_model.specs.array_model.specs.Steps
 
 abbrev pub IfQueued : ProcId → Option Array → Type 0
 IfQueued id None = ⊤

@@ -10,8 +10,8 @@ use proofs.Names.{free_due, IsPrompt, IsEnded, run_state, want_time, obeys_fits,
 use proofs.Names.{own_time, FreeBus, sides_are, link_calm, AnyStage, apart, linked, Stood, link_connection, AreEnds}
 use proofs.{Names.{whole}, Callees.{Facts.{AreBound, bound_next, bound_start}, First.{WantsAreItems}}}
 use proofs.Quiet.{Acts.{calm_end, moved}, Apart.{free_at_end}, Connections.{ends_there, goes_on}}
-use Rattle.bus_due.specs.bus_rules.specs.Lawful.{KeepsAll}
-use Rattle.bus_due.specs.bus_rules.specs.Selection.{is_left}
+use Rattle.due_model.specs.bus_rules.specs.Lawful.{KeepsAll}
+use Rattle.due_model.specs.bus_rules.specs.Selection.{is_left}
 
 -- What is known of a prompt trace.
 pub record Joined (s : ScenarioValue) (p : List Row) : Type 0 where

@@ -52,10 +52,10 @@ pub entry_reply : (s : ScenarioValue) (p : List Row) (row : Row) (n : Connection
     → is_data_in (row_reading (run_state s p).story.bus_state row).change.after ≡ true
     → reply_now (array_of s (run_state s (row ∷ p))) q ≡ reply_now (array_of s (run_state s p)) q
 entry_reply s p row n q o h next off turned reading =
-    ap (λ (a : Rattle.bus_due.specs.disk_array.specs.Units.Array). reply_now a q) (then_is s p row h)
+    ap (λ (a : Rattle.due_model.specs.array_model.specs.Units.Array). reply_now a q) (then_is s p row h)
     ∙ (events_same s h.places.array h.later.array shown q (seats_are s (obeys_fits s o)) h.places.sound
     (all_stay s q shown (each shown (row_shown s k row))) (steps_of s p row h)).same
-    ∙ ap (λ (a : Rattle.bus_due.specs.disk_array.specs.Units.Array). reply_now a q) (sym (here_is s p row h))
+    ∙ ap (λ (a : Rattle.due_model.specs.array_model.specs.Units.Array). reply_now a q) (sym (here_is s p row h))
   where
     k : RunState
     k = run_state s p
@@ -233,7 +233,7 @@ counted_up : (n m : ℕ) → n < m → counted_on n ≤ m
 counted_up n m h = omega (arith, h)
 
 pub none_asked : (n m : ℕ) → (n == 0) ≡ true → 1 ≤ m → n < m
-none_asked n m e h = let z = Rattle.bus_due.specs.bus_base.proofs.Tests.zero_of n e in omega (arith, z, h)
+none_asked n m e h = let z = Rattle.due_model.specs.bus_base.proofs.Tests.zero_of n e in omega (arith, z, h)
 
 stays_few : (s : ScenarioValue) (p : List Row) (row : Row) (n : Connection) → ReadRow s p row → connection p ≡ Some n
     → (bus p).rst ≡ false → connection (row ∷ p) ≡ Some n → (bus (row ∷ p)).rst ≡ false → (g : GoingRow s p row n)

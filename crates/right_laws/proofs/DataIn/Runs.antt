@@ -86,8 +86,8 @@ moved_reads a q blocks whole reads is some =
     at (Some u) e good = ap (λ (b : List ℕ). length b) (read_gives (context_at a (nexus_of q) (Some u)) q.cdb
         q.sent r.command r.lba blocks r.command_is (r.gives (context_at a (nexus_of q) (Some u)) q.sent) good)
         ∙ length_bytes u.contents (subst (λ (x : Option UnitState). (lba : ℕ)
-        → length (Rattle.bus_due.specs.disk_array.specs.Contents.block_at (contents_of x) lba) ≡ (contents_of x).size) e
-        (whole q.target q.unit)) r.lba blocks
+        → length (Rattle.due_model.specs.array_model.specs.Contents.block_at (contents_of x) lba)
+        ≡ (contents_of x).size) e (whole q.target q.unit)) r.lba blocks
 
 pub whole_now : (s : ScenarioValue) (history : List Event) (o : Option Array) → Obeys s → array_after s history ≡ o
     → HasWhole (or_start s o)

@@ -89,7 +89,7 @@ unmoved_next s p row o prompt h told was n x con off unknown served = go h.next.
             ∙ unknown)
 
         next : (row_reading k.story.bus_state row).next ≡ Some n
-        next = (λ i. Rattle.bus_due.specs.bus_trace.specs.Terms.connection_after
+        next = (λ i. Rattle.due_model.specs.bus_trace.specs.Terms.connection_after
             (h.was.plain.connection i) (h.was.plain.call i) (change_plain s row p dv lt i) row)
             ∙ con
 
@@ -136,7 +136,7 @@ none_at_arrival s p row prompt h told commands was l id link item calm stands tu
     served : k.served ≡ Some (process id)
     served = known_served s k row n g.change l id h.was.books g.goes link item
 
-    own : (q : Process) × (Rattle.bus_due.specs.disk_array.specs.Processes.process_of s id ≡ Some q)
+    own : (q : Process) × (Rattle.due_model.specs.array_model.specs.Processes.process_of s id ≡ Some q)
     own = h.places.of_scenario id served
 
     same : own.0.id ≡ id

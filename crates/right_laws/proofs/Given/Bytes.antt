@@ -14,7 +14,7 @@ use proofs.{Given.Areas.{moved_crosses}, Ran.{Blocks.{lasting_by, front_all}, Cr
 use proofs.Ran.{Facts.{Known, here_is, run_found, steps_of, then_is, undoes_of}, Lasting.{row_lasts}, Open.{IfAccepts}}
 use proofs.Ran.{Open.{each_both, each_map, open_events, open_start, running_has, none_is}, Shown.{IsArrival, IsAnswer}}
 use proofs.Ran.Shown.{ShownAs, row_shown, RunsAs, runs_alone, runs_arrived, row_runs}
-use Rattle.bus_due.specs.disk_array.specs.Steps
+use Rattle.due_model.specs.array_model.specs.Steps
 
 -- ---- a byte comes to a front
 

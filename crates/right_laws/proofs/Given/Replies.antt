@@ -3,7 +3,7 @@ use Rattle.right_laws.proofs
 use proofs.Names.{ℕ, ◌≡◌, ◌&&◌, ◌==◌, ◌∙◌, List, [], ◌∷◌, Option, Some, None, sym, ap, same_Some, if◌then◌else◌}
 use proofs.Names.{ScenarioValue, Process, process_of, AllOwn, AllOwnGuests, AllOwnUnits, IsOwnRunning, IsSound, Array}
 use proofs.{Names.{RunningProcess, UnitState, IsOf, running_id, OnGuests, OnUnits, Runs, Waits}, Ran.Open.{running_has}}
-use Rattle.bus_due.specs.disk_array.specs.Steps
+use Rattle.due_model.specs.array_model.specs.Steps
 
 -- ---- the reply of one that runs
 

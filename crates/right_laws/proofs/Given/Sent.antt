@@ -13,14 +13,14 @@ use proofs.Ran.Shown.{runs_arrived, row_runs}
 -- ---- the reply of a process that runs is the one that it would have before the row
 
 pub runs_so : (s : ScenarioValue) (a b : Array) (q : Process) (shown : List Event) → Obeys s
-    → Rattle.bus_due.specs.disk_array.specs.SoundArray.IsSound s a → process_of s q.id ≡ Some q → RunsAs q.id shown
+    → Rattle.due_model.specs.array_model.specs.SoundArray.IsSound s a → process_of s q.id ≡ Some q → RunsAs q.id shown
     → array_after_events s (Some a) shown ≡ Some b → reply_in b.replies q.id ≡ Some (reply_now a q)
 runs_so s a b q shown o sound own (runs_alone e) after =
     run_replies s a b q sound own (sym (ap (array_after_events s (Some a)) e) ∙ after)
 runs_so s a b q shown o sound own (runs_arrived e) after =
     go (step s (Event.Accept q.id) a) refl (sym (ap (array_after_events s (Some a)) e) ∙ after)
   where
-    seats : Rattle.bus_due.specs.disk_array.specs.SoundArray.HasSeats s
+    seats : Rattle.due_model.specs.array_model.specs.SoundArray.HasSeats s
     seats = seats_are s (obeys_fits s o)
 
     go : (m : Option Array) → step s (Event.Accept q.id) a ≡ m

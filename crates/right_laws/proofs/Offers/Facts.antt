@@ -224,7 +224,7 @@ data_row s p row n dv dv2 was con off g = record {
           where
             go : (o : Option Process) → progress_by_leaving k o (leaving s k n.target) ≡ k.progress
             go None = refl
-            go (Some q) = λ z. Rattle.bus_due.specs.LastingState.progress_with k.progress q.id (quiet.0 z) (quiet.1 z)
+            go (Some q) = λ z. Rattle.due_model.specs.LastingState.progress_with k.progress q.id (quiet.0 z) (quiet.1 z)
 
 -- ---- any row
 

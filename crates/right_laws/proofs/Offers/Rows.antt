@@ -11,7 +11,7 @@ use proofs.Names.{or_start, carried_here, process_item, process_served, run_stat
 use proofs.Names.{progress_after, progress_by_leaving, leaving_of, task_with, task_if, task_of, given_if, given_of}
 use proofs.Names.{reply_now, InConnection, in_connection, dialogue_by, reading_is, IsRowIn, by_option, no_completion}
 use proofs.{Names.{stay_shown}, Offers.Steps.{is_data_in, DataKept}}
-use Rattle.bus_due.specs.disk_array.specs.ArrayHistory as Play
+use Rattle.due_model.specs.array_model.specs.ArrayHistory as Play
 
 -- ---- what a task tells of the bytes
 

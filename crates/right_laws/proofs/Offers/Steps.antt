@@ -3,7 +3,7 @@ use Rattle.right_laws.proofs
 use proofs.Names.{ℕ, ◌≡◌, ◌⊎◌, inl, inr, ◌<◌, Bool, true, false, not, ◌&&◌, ◌==◌, ◌%◌, ◌∙◌, List, ◌∷◌, Option, Some}
 use proofs.Names.{None, refl, sym, ap, subst, arith, ltb-true, nat_tests, count_ones, bit_or, nat_lt, if◌then◌else◌}
 use proofs.Names.{wrong, wrong', not_first, rises, LineSet, bus, last_time, Row, Agreement, Connection, Handshakes}
-use proofs.Names.{handshakes, strikes_if, dialogue, ScenarioValue, byte_bits, bits_if, policy_of, begun, Serving}
+use proofs.Names.{handshakes, newest_struck_if, dialogue, ScenarioValue, byte_bits, bits_if, policy_of, begun, Serving}
 use proofs.Names.{phase_of, phase_leaving, data_byte, run_length_if, one_if, lines_by, Leaving, Phase, target_def_of}
 use proofs.Names.{AreOfDevices, run_state, serving_at, leaving, task_of, given_of, drives_own, EndLines, target_side}
 use proofs.Names.{connected_bus, Linked, row_of_lines, row_of_fault, offering_with, same_phases, initiator_moves}
@@ -136,7 +136,7 @@ of_fault s p t d bit n e h b v w =
     (λ a. ap (λ (g : Agreement). not e.msg && not e.cd && nat_lt 0 g.offset) (kept a).agreement)
     (struck (bus p).io (handshakes p)) kept v)
   where
-    struck : (q : Bool) (x : Handshakes) → (strikes_if q x).requests ≡ x.requests
+    struck : (q : Bool) (x : Handshakes) → (newest_struck_if q x).requests ≡ x.requests
     struck true x = refl
     struck false x = refl
 

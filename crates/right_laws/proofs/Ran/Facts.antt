@@ -17,7 +17,7 @@ use proofs.Ran.Crossings.{known_served, IsPlaced, placed_here, new_here, InBytes
 use proofs.Ran.{Crossings.{byte_phase}, Lasting.{row_lasts}, Open.{IfAccepts, reply_kept, replies_kept, running_has}}
 use proofs.Ran.{Open.{open_step, none_is}, Shown.{IsArrival, IsAnswer, ShownAs, row_shown, RunsAs, runs_alone}}
 use proofs.Ran.{Shown.{runs_arrived, row_runs}, Undone.{lasting_load, load_asks, loads_stay}}
-use Rattle.bus_due.specs.disk_array.specs.Steps
+use Rattle.due_model.specs.array_model.specs.Steps
 
 no_reply : {A : Type 0} (o : Option Reply) → is_some o ≡ true → o ≡ None → A
 no_reply o e f = wrong' (sym (ap is_some f) ∙ e)

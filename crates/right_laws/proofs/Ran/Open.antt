@@ -7,7 +7,7 @@ use proofs.Names.{array_step, reply_in, Reply, Process, process_of, same_id, Run
 use proofs.Names.{starting_array, settled_array, without_reply, array_after_events, process_id, self_id, none_some}
 use proofs.Names.{no_array, same_after, untouched_at_start, Admits, AdmitsEvent, each_after, replies_to, listed_on}
 use proofs.Names.{accepted, Each, OnUnits, OnGuests, Waits, Runs, IsAway, on_running, OnEvents, IfOpen, OnOpen}
-use Rattle.bus_due.specs.disk_array.specs.Steps
+use Rattle.due_model.specs.array_model.specs.Steps
 
 -- ---- of each process
 

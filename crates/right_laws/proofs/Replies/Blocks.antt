@@ -17,8 +17,8 @@ use proofs.Names.{lines_always, sends, line_filled, start_settled, AreFilled, Ar
 use proofs.Names.{IsOf, none_some, zero_times, by_bool, by_option, running_id, writer_plain, none_sent}
 use proofs.{Given.Replies.{own_guests, own_units}, Ran.Open.{running_has}, Replies.Facts.{guest_there}}
 use proofs.Replies.{Same.{SameContext, accept_at, fail_at, place_of, refuse_at}, Targeted.{unit_targeted}}
-use Rattle.bus_due.specs.disk_array.specs.Seats
-use Rattle.bus_due.specs.disk_array.specs.Steps
+use Rattle.due_model.specs.array_model.specs.Seats
+use Rattle.due_model.specs.array_model.specs.Steps
 
 -- ---- contents
 
@@ -80,7 +80,7 @@ aborted_whole : (hosts : List HostDef) (i : ℕ) (what : AbortKind) (seat : Seat
     → AreWhole (contents_of (Seats.seat_after_aborted hosts i what seat).unit)
 aborted_whole hosts i AbortKind.All seat h = kept_whole seat (λ p. p.initiator == i) h
 aborted_whole hosts i (AbortKind.Tag n) seat h =
-    kept_whole seat (λ p. p.initiator == i && Rattle.bus_due.specs.disk_array.specs.Steps.has_tag p.tag n) h
+    kept_whole seat (λ p. p.initiator == i && Rattle.due_model.specs.array_model.specs.Steps.has_tag p.tag n) h
 aborted_whole hosts i AbortKind.WholeQueue seat h = kept_whole seat (λ p. true) h
 aborted_whole hosts i AbortKind.Device seat h = kept_whole seat (λ p. true) h
 
@@ -98,15 +98,12 @@ end_whole seat id status b t n h = go (Seats.running_at seat id)
           senses = Seats.with_sense_of seat.senses p.initiator None;
           hold = Seats.with_hold_of seat.hold p.initiator false;
         } else seat) p.id).unit)
-    stored p reply true y = subst AreWhole (sym
-        (mapped_contents (λ u. Rattle.bus_due.specs.disk_array.specs.Steps.unit_without u p.id) seat.unit (λ u. refl)))
-        h
-    stored p reply false true = subst AreWhole (sym
-        (mapped_contents (λ u. Rattle.bus_due.specs.disk_array.specs.Steps.unit_without u p.id) seat.unit (λ u. refl)))
-        h
-    stored p reply false false = subst AreWhole (sym
-        (mapped_contents (λ u. Rattle.bus_due.specs.disk_array.specs.Steps.unit_without u p.id) seat.unit (λ u. refl)))
-        h
+    stored p reply true y = subst AreWhole (sym (mapped_contents
+        (λ u. Rattle.due_model.specs.array_model.specs.Steps.unit_without u p.id) seat.unit (λ u. refl))) h
+    stored p reply false true = subst AreWhole (sym (mapped_contents
+        (λ u. Rattle.due_model.specs.array_model.specs.Steps.unit_without u p.id) seat.unit (λ u. refl))) h
+    stored p reply false false = subst AreWhole (sym (mapped_contents
+        (λ u. Rattle.due_model.specs.array_model.specs.Steps.unit_without u p.id) seat.unit (λ u. refl))) h
 
     by : (p : Process) (o : Option Reply) → LeavesSo b t n (Seats.seat_after_end_with seat p status o)
     by p None = leaves_none b t n
@@ -243,14 +240,14 @@ known_event s a b e id sound st h = go (process_of s id) refl h
 
     failed : (code : ℕ) (x : Option Process) → process_of s id ≡ x
         → (o : Option RunningProcess) → Steps.running_process a id ≡ o → Steps.settled_array_if
-        (Steps.fail_step s a id (check_condition (Rattle.bus_due.specs.disk_array.specs.Execution.sense_of
-        Rattle.bus_due.specs.cdb_codec.specs.declared.sense.TheConstants.ABORTED_COMMAND code 0x00)) o) ≡ Some b
+        (Steps.fail_step s a id (check_condition (Rattle.due_model.specs.array_model.specs.Execution.sense_of
+        Rattle.due_model.specs.cdb_codec.specs.declared.sense.TheConstants.ABORTED_COMMAND code 0x00)) o) ≡ Some b
         → is_some x ≡ true
     failed code x z (Some r) w v = sym (ap (λ (y : Option Process). is_some y) z) ∙ running_known s a id r sound w
     failed code (Some p) z None w v = refl
     failed code None z None w v = none_some b (sym (ap (λ (y : Option Process). Steps.settled_array_if
-        (Steps.fail_step_of_new a id (check_condition (Rattle.bus_due.specs.disk_array.specs.Execution.sense_of
-        Rattle.bus_due.specs.cdb_codec.specs.declared.sense.TheConstants.ABORTED_COMMAND code 0x00)) y)) z) ∙ v)
+        (Steps.fail_step_of_new a id (check_condition (Rattle.due_model.specs.array_model.specs.Execution.sense_of
+        Rattle.due_model.specs.cdb_codec.specs.declared.sense.TheConstants.ABORTED_COMMAND code 0x00)) y)) z) ∙ v)
 
     go : (x : Option Process) → process_of s id ≡ x → (e ≡ Event.Accept id) ⊎ (e ≡ Event.Refuse id)
         ⊎ (e ≡ Event.Run id) ⊎ ((code : ℕ) × (e ≡ Event.Fail id code)) ⊎ ((status : ℕ) × (e ≡ Event.End id status))

@@ -16,7 +16,7 @@ use proofs.Ran.{Crossings.{known_served, new_here, placed_here}, Facts.{IsFound,
 use proofs.Ran.{Facts.{steps_of}, Open.{none_is}, Shown.{IsAnswer, IsArrival, RunsAs, ShownAs, row_runs, row_shown}}
 use proofs.{Ran.Shown.{runs_alone, runs_arrived}, Replies.Same.{SameContext, accept_at, by_context, place_of}}
 use proofs.Replies.Senses.{IsCurrentAt, run_seat}
-use Rattle.bus_due.specs.disk_array.specs.Seats
+use Rattle.due_model.specs.array_model.specs.Seats
 
 -- ---- a unit that is not there
 

@@ -15,7 +15,7 @@ use proofs.{Names.{IsWrittenUnit, away_guest, ArrivesNow, arrives_first, NoneAtA
 use proofs.{Given.Bytes.{no_data_in_command}, Ran.Crossings.{GoesSo, InBytes, IsPlaced, byte_phase, crossing_goes}}
 use proofs.Ran.{Crossings.{in_command, in_data, in_status, known_served, placed_here}, Facts.{Known, here_is, steps_of}}
 use proofs.Ran.Facts.{then_is}
-use Rattle.bus_due.specs.disk_array.specs.Steps
+use Rattle.due_model.specs.array_model.specs.Steps
 use Rattle.trace_laws.specs.row_laws.proofs.Events.Queued
 
 -- ---- what is kept

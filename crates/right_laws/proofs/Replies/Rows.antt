@@ -19,7 +19,7 @@ use proofs.{Ran.Shown.{row_shown}, Replies.{Facts.{IsCurrent, answer_here, run_r
 use proofs.Replies.{Queues.{IsCleanUnit, IsNoSense, SenselessFacts, moved_of}, Stays.{end_same}}
 use Rattle.trace_laws.specs.book_laws.specs.Traces.{ends}
 use Rattle.right_laws.specs.GivenPointers.{StaysSo}
-use Rattle.bus_due.specs.disk_array.specs.Steps
+use Rattle.due_model.specs.array_model.specs.Steps
 use Rattle.trace_laws.specs.row_laws.proofs.Events.Queued
 
 -- ---- the process that the initiator knows is one of the scenario
@@ -142,8 +142,8 @@ changing s p row h q calm may =
     free next (Some l) e = last l.last refl
       where
         freed : shown ≡ bus_free_events s l l.last
-        freed = shown_is ∙ ap (λ (o : Option Link). link_events s k.story o d) e
-            ∙ (λ i. if next i then Rattle.bus_due.specs.bus_story.specs.HistoryEvents.connection_events s k.story l d
+        freed = shown_is ∙ ap (λ (o : Option Link). link_events s k.story o d) e ∙ (λ i.
+            if next i then Rattle.due_model.specs.story_model.specs.HistoryEvents.connection_events s k.story l d
             else bus_free_events s l l.last)
 
         lost : (o : Option Item) → l.item ≡ o → shown ≡ item_loss_events l.item → Changing s k row q

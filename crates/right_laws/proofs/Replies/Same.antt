@@ -12,7 +12,7 @@ use proofs.Names.{UnitState, row_reading, row_events_by, RunState, array_of, run
 use proofs.Names.{array_after_events, reply_now, context_same, process_id, none_some, by_bool, by_option, HasReplyStill}
 use proofs.{Names.{abort_may_change, may_change, any_may_change, HasReplyThen, IfOpen, OnOpen}, Ran.Facts.{Known}}
 use proofs.Ran.{Facts.{here_is, steps_of, then_is}, Open.{each_map}}
-use Rattle.bus_due.specs.disk_array.specs.Seats
+use Rattle.due_model.specs.array_model.specs.Seats
 
 no_process : {A : Type 0} (o : Option Process) → o ≡ None → is_some o ≡ true → A
 no_process o e some = wrong' (sym (ap is_some e) ∙ some)

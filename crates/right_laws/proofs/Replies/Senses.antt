@@ -6,8 +6,8 @@ use proofs.Names.{same_Some, if◌then◌else◌, is_none, is_some, ProcId, comm
 use proofs.Names.{settled_context, Execution, execution, is_request_sense, choice, Process, same_id, Seat, context_of}
 use proofs.Names.{current_of, settled_seat, settled_seat_if, running_if, RunningProcess, UnitState, guest_at}
 use proofs.Names.{has_no_current, with_current, none_some}
-use Rattle.bus_due.specs.disk_array.specs.Seats
-use Rattle.bus_due.specs.disk_array.specs.Steps
+use Rattle.due_model.specs.array_model.specs.Seats
+use Rattle.due_model.specs.array_model.specs.Steps
 
 -- ---- at its seat
 

@@ -6,7 +6,7 @@ use proofs.Names.{if◌then◌else◌, Event, ProcId, command_of, Sense, GOOD, C
 use proofs.Names.{stored_apart, settled_context, end_law, Reply, execution, is_request_sense, Process, process_of, Seat}
 use proofs.Names.{context_of, seat_if, seat_of, settled_seat, settled_seat_if, HasSeats, IsSound, is_of_unit, step}
 use proofs.{Names.{Array, RunningProcess, UnitState, reply_now, context_same, none_some}, Replies.Same.{place_of}}
-use Rattle.bus_due.specs.disk_array.specs.Seats
+use Rattle.due_model.specs.array_model.specs.Seats
 
 -- ---- only REQUEST SENSE answers by the stored sense
 

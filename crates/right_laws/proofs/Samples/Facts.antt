@@ -7,7 +7,7 @@ use proofs.Names.{flip_of, comes_by, due_calm, off_at, least_is, always_is, obey
 use proofs.Names.{none_some, by_bool, by_option, Whole, whole, awaited, awaited_by, listed, strike_if, StrikesSoFar}
 use proofs.Samples.{InTurn.{in_order_last, in_turn, ordered_faults, strikes_on}, Moments.{Moment, awaits_here}}
 use proofs.Samples.{Next.{SoFar, next_taken}, Taken.{Taken}}
-use Rattle.bus_due.specs.Next.{IsEnded}
+use Rattle.due_model.specs.Next.{IsEnded}
 
 -- ---- what is known of a prompt trace
 

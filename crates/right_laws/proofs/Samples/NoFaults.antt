@@ -11,7 +11,7 @@ use proofs.Names.{loser_release, reselection_end, selection_end, unanswered_due,
 use proofs.Names.{free_due, arbitration_due, entry, later_entry_if, win, bus_clear, link_due_by, due_at, due_where, Due}
 use proofs.Names.{Myself, Want, AreOfDevices, run_state, want_of, flip_of, due_in, is_there, own_time, device_with}
 use proofs.Names.{unreset_due, none_some, by_bool, by_option, is_asked, ids_at, ids_of, awaited_ids}
-use Rattle.bus_due.specs.bus_lines.specs.declared.stage.Stage.TheVariants.{InConnection}
+use Rattle.due_model.specs.bus_lines.specs.declared.stage.Stage.TheVariants.{InConnection}
 
 -- ---- rows of lines
 

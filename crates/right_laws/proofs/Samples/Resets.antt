@@ -14,7 +14,7 @@ use proofs.Names.{BusStage, on_free_bus, in_arbitration, after_arbitration, with
 use proofs.Names.{after_withdrawal, after_answer, after_takeover, in_reset, due_of, none_some, not_unless, by_bool}
 use proofs.{Names.{by_option}, Samples.{Calls.{calling_follows, GoesOn, call_goes, ids_unsampled}, Takes.{IsNoLater}}}
 use lib.Count.{ones}
-use Rattle.bus_due.specs.Own.{own_of}
+use Rattle.due_model.specs.Own.{own_of}
 use Rattle.trace_laws.specs.bus_laws.specs.Stages.{in_connection}
 
 -- ---- the row of a reset, and others

@@ -15,10 +15,10 @@ small_as c d e (inl h) = inl (ap (λ (x : Load). x.status) e ∙ h)
 small_as c d e (inr h) = inr (one_as c d e h)
 
 pub ready_as : (c d : CarriedBytes) → d.status ≡ c.status → IsReady c → IsReady d
-ready_as c d e (inl h) = inl (ap (λ (a : Rattle.bus_due.specs.bus_story.specs.CarriedBytes.Area). a.bytes) e ∙ h)
+ready_as c d e (inl h) = inl (ap (λ (a : Rattle.due_model.specs.story_model.specs.CarriedBytes.Area). a.bytes) e ∙ h)
 ready_as c d e (inr h) = inr (
-  (h.0.0, ap (λ (a : Rattle.bus_due.specs.bus_story.specs.CarriedBytes.Area). a.bytes) e ∙ h.0.1),
-  ap (λ (a : Rattle.bus_due.specs.bus_story.specs.CarriedBytes.Area). a.active) e ∙ h.1,
+  (h.0.0, ap (λ (a : Rattle.due_model.specs.story_model.specs.CarriedBytes.Area). a.bytes) e ∙ h.0.1),
+  ap (λ (a : Rattle.due_model.specs.story_model.specs.CarriedBytes.Area). a.active) e ∙ h.1,
 )
 
 pub ready_small : (c : CarriedBytes) → IsReady c → IsSmall c
@@ -80,14 +80,15 @@ status_lines b e = go b.msg b.cd b.io refl refl refl (ap (λ (p : Phase). is_sta
 pub freeing : (l : Link) (m : Messages) (next : Next) (count : ℕ) → LastGiven l m next count
     → m ≡ one_message MsgIn.CommandComplete → frees_bus next ≡ true
 freeing l m next count (still_stays f all last) e =
-    absurd (no_end ((subst (λ (x : Messages). Rattle.trace_laws.specs.book_laws.specs.Giving.OnMessages
-    (λ y. Rattle.bus_due.specs.bus_story.specs.Links.last_in y ≡ Rattle.bus_due.specs.bus_story.specs.Links.plain) x) e
-    all).0))
+    absurd (no_end ((subst (λ (x : Messages). Rattle.trace_laws.specs.book_laws.specs.Giving.OnMessages (λ y.
+    Rattle.due_model.specs.story_model.specs.Links.last_in y ≡ Rattle.due_model.specs.story_model.specs.Links.plain) x)
+    e all).0))
   where
-    no_end : (let x : Rattle.bus_due.specs.bus_story.specs.Links.LastMessage =
-        Rattle.bus_due.specs.bus_story.specs.Links.complete in x) ≡ Rattle.bus_due.specs.bus_story.specs.Links.plain
+    no_end : (let x : Rattle.due_model.specs.story_model.specs.Links.LastMessage =
+        Rattle.due_model.specs.story_model.specs.Links.complete in x)
+        ≡ Rattle.due_model.specs.story_model.specs.Links.plain
         → ⊥
-    no_end z = true≢false (ap Rattle.bus_due.specs.bus_story.specs.HistoryEvents.is_complete z)
+    no_end z = true≢false (ap Rattle.due_model.specs.story_model.specs.HistoryEvents.is_complete z)
 freeing l m next count (to_close f x one end zero last) e = frees next f
   where
     frees : (y : Next) → frees_bus y ≡ true → frees_bus y ≡ true

@@ -256,9 +256,9 @@ talk_crosses s p row n id dev h ef ep er talk =
             into = (λ x. if here x then whole_in (got_in (half x ++ byte x ∷ [])) else None) ∙ restore_whole
 
             out : message_out k.story.bus_state.dialogue c true ≡ None
-            out = λ x. if out_in c.before here x then Rattle.bus_due.specs.bus_story.specs.BusState.whole_out
-                (Rattle.bus_due.specs.msg_grammar.specs.Messages.got_out
-                (Rattle.bus_due.specs.bus_phases.specs.Dialogue.fresh_bytes k.story.bus_state.dialogue
+            out = λ x. if out_in c.before here x then Rattle.due_model.specs.story_model.specs.BusState.whole_out
+                (Rattle.due_model.specs.msg_grammar.specs.Messages.got_out
+                (Rattle.due_model.specs.bus_phases.specs.Dialogue.fresh_bytes k.story.bus_state.dialogue
                 ++ c.after.data_bits % 256 ∷ [])) else None
 
             item : knows.link.item ≡ Some (process id)

@@ -144,7 +144,7 @@ talk_turns s p row n id h ef ep er lasts talk =
     i : InConnection s k row n c true false false
     i = in_connection s k row n c true false false r ep none ef
 
-    w : Rattle.bus_due.specs.bus_dialogue.specs.declared.exchange.Hearing.Hearing
+    w : Rattle.due_model.specs.dialogue_model.specs.declared.exchange.Hearing.Hearing
     w = hearing_of k row (reading_in k.story.bus_state n c false)
 
     v : Serving
@@ -315,8 +315,8 @@ talk_turns s p row n id h ef ep er lasts talk =
           again = λ z. no_status l.next (next_status f) (sym (planned q).1 ∙ z);
         }
           where
-            either : (x : Bool) → is_status_next (Rattle.bus_due.specs.bus_dialogue.specs.NextPhase.unless_attention x
-                (Rattle.bus_due.specs.bus_dialogue.specs.NextPhase.disconnection
+            either : (x : Bool) → is_status_next (Rattle.due_model.specs.dialogue_model.specs.NextPhase.unless_attention
+                x (Rattle.due_model.specs.dialogue_model.specs.NextPhase.disconnection
                 (one_message MsgIn.CommandComplete))).next ≡ false
             either true = refl
             either false = refl

@@ -11,7 +11,7 @@ use proofs.Names.{guest_at, without_guest, with_current, has_no_current, units_a
 use proofs.{Names.{starting_array, starting_units, nexus_of, all_more}, Bytes.Executions.{HoldsBytes, block_small}}
 use proofs.Bytes.Executions.{IsByteSense, HasByteReply, check_small, HasByteContext, gives_bytes}
 use proofs.Common.Impossible.{none_some}
-use Rattle.bus_due.specs.disk_array.specs.Steps
+use Rattle.due_model.specs.array_model.specs.Steps
 
 -- ---- what is kept
 

@@ -12,8 +12,8 @@ use proofs.Names.{abort_line_events, item_abort_events, bus_free_events, link_ev
 use proofs.Names.{process, abort, sense_item, is_open, count_item, Link, LastMessage, plain, complete, disconnect}
 use proofs.Names.{abortive, link_of, link_after_name, last_out, last_in, Story, aim_of, story_after}
 use proofs.Bytes.Arrays.{HasByteCode}
-use Rattle.bus_due.specs.bus_story.specs.Story as Told
-use Rattle.bus_due.specs.bus_story.specs.TraceHistory as Rows
+use Rattle.due_model.specs.story_model.specs.Story as Told
+use Rattle.due_model.specs.story_model.specs.TraceHistory as Rows
 
 abbrev CodeIf : Option ℕ → Type 0
 CodeIf None = Unit {0}
@@ -312,10 +312,10 @@ byte : (k : CarriedBytes) (x : LineSet) (n : ℕ) → HasCode k → HasCode (car
 byte k x n h = go (is_command x) (is_data x) (is_status_phase x)
   where
     go : (q r t : Bool) → HasCode (if q then record k {
-      command = Rattle.bus_due.specs.bus_story.specs.CarriedBytes.area_with k.command n;
+      command = Rattle.due_model.specs.story_model.specs.CarriedBytes.area_with k.command n;
       block = k.block ++ n ∷ [];
-    } else if r then record k { moved = Rattle.bus_due.specs.bus_story.specs.CarriedBytes.area_with k.moved n }
-        else if t then record k { status = Rattle.bus_due.specs.bus_story.specs.CarriedBytes.area_with k.status n }
+    } else if r then record k { moved = Rattle.due_model.specs.story_model.specs.CarriedBytes.area_with k.moved n }
+        else if t then record k { status = Rattle.due_model.specs.story_model.specs.CarriedBytes.area_with k.status n }
         else k)
     go true r t = h
     go false true t = h

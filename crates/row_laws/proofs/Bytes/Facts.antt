@@ -22,10 +22,10 @@ use proofs.Bytes.Spoken.{small_append, HasByteHalves, halves_after, told_out, to
 use proofs.Bytes.Spoken.{target_answer_small, host_small, target_small, IsSmallProcess, process_small, HasByteWords}
 use proofs.{Bytes.Spoken.{opening_small, words_on, offer_bytes}, Common.Impossible.{none_some}}
 use proofs.Lines.Called.{own_units}
-use Rattle.bus_due.specs.bus_dialogue.specs.declared.exchange.Said.{Said}
+use Rattle.due_model.specs.dialogue_model.specs.declared.exchange.Said.{Said}
 use Rattle.link_laws.proofs.LeavingWays as ways
-use Rattle.bus_due.specs.disk_array.specs.ArrayHistory as Play
-use Rattle.bus_due.specs.disk_array.specs.Steps
+use Rattle.due_model.specs.array_model.specs.ArrayHistory as Play
+use Rattle.due_model.specs.array_model.specs.Steps
 
 -- ---- messages
 
@@ -206,7 +206,7 @@ exchange_on s k row d None (Some n) l hs own f g a h = (
     item = aim_of k.story.aims n.initiator
 
     words : (q : Bool)
-        → AreBytes (if q then [] else Rattle.bus_due.specs.Defs.opening s n.initiator (may_negotiate k n item) item)
+        → AreBytes (if q then [] else Rattle.due_model.specs.Defs.opening s n.initiator (may_negotiate k n item) item)
     words true = tt
     words false = opening_small s n.initiator (may_negotiate k n item) item hs
 

@@ -82,7 +82,7 @@ halves_after d (Some m) (Some n) agreed c h = go (is_some (receiver_of (Some m) 
     b = c.after.data_bits % 256
 
     other : (q : Bool) → HasByteHalves (if q then record d {
-      heard = Rattle.bus_due.specs.bus_phases.specs.Dialogue.heard_with_command d.heard b;
+      heard = Rattle.due_model.specs.bus_phases.specs.Dialogue.heard_with_command d.heard b;
       begun = true;
     } else record d { begun = true })
     other true = record { half = h.half; fresh = h.fresh }
@@ -101,8 +101,8 @@ halves_after d (Some m) (Some n) agreed c h = go (is_some (receiver_of (Some m) 
     }
     crossing false false = other (is_command c.before)
 
-    go : (q r : Bool) → HasByteHalves
-        (if q then Rattle.bus_due.specs.bus_phases.specs.Dialogue.byte_crosses d c else if r then phase_begins d else d)
+    go : (q r : Bool) → HasByteHalves (if q then Rattle.due_model.specs.bus_phases.specs.Dialogue.byte_crosses d c
+        else if r then phase_begins d else d)
     go true r = crossing (is_message_out c.before) (is_message_in c.before)
     go false true = record { half = tt; fresh = tt }
     go false false = h
@@ -286,8 +286,9 @@ words_on o w p f g h = go (changes_phase w.change) w.crosses
     byte true = record { words = h.words; asked = h.asked }
     byte false = record { words = h.words; asked = request_small p.asked w.into h.asked g }
 
-    go : (q r : Bool) → HasByteWords (if q then Rattle.bus_due.specs.bus_dialogue.specs.Speaking.speech_in_phase o w p
-        else if r then Rattle.bus_due.specs.bus_dialogue.specs.Speaking.speech_with_byte w p else p)
+    go : (q r : Bool)
+        → HasByteWords (if q then Rattle.due_model.specs.dialogue_model.specs.Speaking.speech_in_phase o w p
+        else if r then Rattle.due_model.specs.dialogue_model.specs.Speaking.speech_with_byte w p else p)
     go true r = phase (is_message_out w.change.after && w.begun)
     go false true = byte (is_message_out w.change.before)
     go false false = h

@@ -11,8 +11,8 @@ use proofs.Names.{RunningProcess, UnitState, Array, unit_state_at, guest_at, wit
 use proofs.Names.{with_current, settled_array, without_reply, self_id, Waits, Runs, OnUnits, OnGuests, IsAway, IsAtRest}
 use proofs.{Names.{MayRun, IsAnswered}, Common.Impossible.{none_some, some_none}, Events.Others.{reply_at, executed}}
 use proofs.Events.{Others.{away_rests, running_own}, Processes.{each_settled}, Replies.{running_id}}
-use Rattle.bus_due.specs.disk_array.specs.Seats
-use Rattle.bus_due.specs.disk_array.specs.Steps
+use Rattle.due_model.specs.array_model.specs.Seats
+use Rattle.due_model.specs.array_model.specs.Steps
 
 -- ---- a reply is given at a seat
 

@@ -12,7 +12,7 @@ use proofs.Names.{with_current, unit_after_choice, units_after_choice, settled_a
 use proofs.Names.{Runs, OnUnits, OnGuests, Each, IsAway, IsUnanswered, IsAtRest, IsUntouched, IsOutside, MayRun}
 use proofs.{Names.{IsAnswered, AreWithin}, Common.Impossible.{none_some, some_none}, Events.Depths.{unit_within}}
 use proofs.Events.{Others.{away_units}, Processes.{append_waits, with_units, unit_has, chosen, each_settled}}
-use Rattle.bus_due.specs.disk_array.specs.Steps
+use Rattle.due_model.specs.array_model.specs.Steps
 
 -- ---- who is away is not found
 

@@ -10,7 +10,7 @@ use proofs.Names.{Nexus, Array, is_held, unit_state_at, with_unit, guest_at, nex
 use proofs.Names.{unit_after_choice, units_after_choice, settled_array, starting_array, starting_units, self_id}
 use proofs.{Names.{AreWithin}, Common.Impossible.{none_some}, Events.Processes.{IsSameIn, status_same, attended_same}}
 use proofs.Events.Processes.{cleared_same}
-use Rattle.bus_due.specs.disk_array.specs.Steps
+use Rattle.due_model.specs.array_model.specs.Steps
 
 -- ---- one unit
 

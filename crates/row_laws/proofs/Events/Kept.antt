@@ -5,7 +5,7 @@ use proofs.Names.{ProcId, ABORTED_COMMAND, ScenarioValue, fail_lists, loss_lists
 use proofs.Names.{end_lists, array_step, reply_in, Reply, queue_full, check_condition, sense_of, process_of, same_id}
 use proofs.{Names.{step, running_process, Array, guest_at, array_after_events}, Events.Replies.{settles, accepted}}
 use proofs.Events.Replies.{refused, ran, replies_to}
-use Rattle.bus_due.specs.disk_array.specs.Steps
+use Rattle.due_model.specs.array_model.specs.Steps
 
 -- ---- an event
 

@@ -9,8 +9,8 @@ use proofs.Names.{UnitState, is_held, unit_state_at, with_unit, guest_at, nexus_
 use proofs.Names.{starting_units, id_is as ids_are, IsAway, IsUnanswered, Waits, Runs, OnUnits, Each, IsAtRest}
 use proofs.{Names.{IsUntouched}, Events.Processes.{AdmitsEvent, Admits, status_same, attended_same, cleared_same}}
 use proofs.Events.{Processes.{each_after, each_settled}, Replies.{running_id}}
-use Rattle.bus_due.specs.disk_array.proofs.SoundArrays.{id_is}
-use Rattle.bus_due.specs.disk_array.specs.Steps
+use Rattle.due_model.specs.array_model.proofs.SoundArrays.{id_is}
+use Rattle.due_model.specs.array_model.specs.Steps
 
 -- ---- the units
 

@@ -10,7 +10,7 @@ use proofs.Names.{has_tag, RunningProcess, UnitState, Nexus, Array, is_held, uni
 use proofs.Names.{without_guest, nexus_of, has_no_current, with_current, unit_after_choice, units_after_choice}
 use proofs.Names.{settled_array, senses_without, nexuses_without, sense_of_nexus, without_reply, Waits, Runs, OnUnit}
 use proofs.{Names.{OnUnits, OnGuests, Each}, Common.Impossible.{none_some}, Events.Replies.{running_id}}
-use Rattle.bus_due.specs.disk_array.specs.Steps
+use Rattle.due_model.specs.array_model.specs.Steps
 
 -- ---- lists
 

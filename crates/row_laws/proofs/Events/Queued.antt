@@ -10,7 +10,7 @@ use proofs.Names.{Nexus, Array, is_held, unit_state_at, with_unit, guest_at, nex
 use proofs.Names.{unit_after_choice, units_after_choice, settled_array, senses_without, nexuses_without, AllP, RunsP}
 use proofs.{Names.{UnitsP}, Common.Impossible.{none_some}, Events.{Replies.{running_id}, Writers.{append_all}}}
 use proofs.Events.Writers.{choice_all}
-use Rattle.bus_due.specs.disk_array.specs.Steps
+use Rattle.due_model.specs.array_model.specs.Steps
 
 -- ---- the processes that wait, and the current ones
 

@@ -8,7 +8,7 @@ use proofs.Names.{AllOwn, AllOwnUnits, IsOwnRunning, running_if, running_in, run
 use proofs.Names.{RunningProcess, UnitState, has_no_current, is_held, settled_array, unit_after_choice, unit_state_at}
 use proofs.Names.{units_after_choice, with_current, with_unit, without_reply, id_is, IsAtRest, is_in_queue, is_queued}
 use proofs.{Common.Impossible.{none_some}, Events.Arriving.{found_at, no_guest, queued}}
-use Rattle.bus_due.specs.disk_array.specs.Steps
+use Rattle.due_model.specs.array_model.specs.Steps
 
 -- ---- it waits
 

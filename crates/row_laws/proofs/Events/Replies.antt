@@ -6,7 +6,7 @@ use proofs.Names.{executed_lists, refuse_lists, loss_lists, abort_lists, took, r
 use proofs.Names.{guest_id, reply_in, Reply, Execution, execution, queue_full, check_condition, sense_of, Process}
 use proofs.Names.{process_of, same_id, step, settled_array_if, running_if, running_process, RunningProcess, UnitState}
 use proofs.Names.{Array, unit_state_at, guest_at, is_held, nexus_of, settled_array, process_id, id_is}
-use Rattle.bus_due.specs.disk_array.specs.Steps
+use Rattle.due_model.specs.array_model.specs.Steps
 
 -- ---- what it lists after an event
 

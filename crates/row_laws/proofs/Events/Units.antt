@@ -8,7 +8,7 @@ use proofs.Names.{Reply, Execution, execution, is_request_sense, check_condition
 use proofs.Names.{process_of, is_of_unit, has_tag, RunningProcess, UnitState, Nexus, Array, is_held, unit_state_at}
 use proofs.Names.{with_unit, nexus_of, guest_at, unit_after_choice, units_after_choice, settled_array, starting_array}
 use proofs.{Names.{none_stays, or_start, array_after_events, AllUnits}, Common.Impossible.{none_some}}
-use Rattle.bus_due.specs.disk_array.specs.Steps
+use Rattle.due_model.specs.array_model.specs.Steps
 
 -- It is kept by all that events make of a unit, but for the arrival of a command.
 pub record StaysSo (q : UnitState → Type 0) : Type 0 where

@@ -10,7 +10,7 @@ use proofs.Names.{with_current, unit_after_choice, starting_units, ProcessProgre
 use proofs.Names.{writer_of, id_is, self_id, AllP, Runs, AllUnits, IsUnrun, IsLastWriter, IsOther, IsWrittenUnit}
 use proofs.{Names.{IsEmptyUnit}, Common.{Impossible.{none_some, some_none}, Tests.{by_bool}}, Events.Units.{StaysSo}}
 use proofs.Events.Units.{MayWait}
-use Rattle.bus_due.specs.disk_array.specs.Steps
+use Rattle.due_model.specs.array_model.specs.Steps
 
 -- ---- those that wait
 

@@ -17,7 +17,7 @@ use proofs.Lines.{InPhase.{offered_in, follows_in_message}, Kept.{EndRow, turn, 
 use proofs.Lines.{Rows.{LinkRow, is_pulsed, is_unasked}, Steps.{IsDriven, HasValues}, Turns.{freed_bus}}
 use proofs.Lines.Turns.{freed_connection}
 use Rattle.book_laws.specs.Reactions.{IsAnswered}
-use Rattle.bus_due.specs.bus_reactions.specs.declared.ends.Offering.{Offering}
+use Rattle.due_model.specs.reaction_model.specs.declared.ends.Offering.{Offering}
 use Rattle.row_laws.proofs.Lines.Rows as rows
 
 -- The connection goes on with the row.

@@ -4,7 +4,7 @@ use proofs.Names.{inl, inr, ℕ, ◌≡◌, ◌+◌, Bool, true, false, not, ◌
 use proofs.Names.{sym, ap, subst, true≢false, cases_eq, same_Some, if◌then◌else◌, wrong, wrong', bus_on, bus-fault}
 use proofs.Names.{same_set-eq, change_of, falls, LineSet, none, union, byte_set, is_fault, call, connected, connection}
 use proofs.Names.{connection_of, connection_after, bus, drives, Kind, Drives, Fault, Row, Connection, Call, Calling}
-use proofs.Names.{handshakes, handshakes_after, strikes_if, stage, InAnswer, only_rst, ScenarioValue, latency_of}
+use proofs.Names.{handshakes, handshakes_after, newest_struck_if, stage, InAnswer, only_rst, ScenarioValue, latency_of}
 use proofs.Names.{answered_due, byte_bits, Due, begun, begun_after, IsLeast, due, run_state, identify_byte, ready_of}
 use proofs.Names.{stage_is, drives_own, only_caller_acts, goes_on_due, want_at, is_at, is_there, by_calm, reset_or_calm}
 use proofs.Names.{by_reset, calling_lines, call_with, answer_lines, answered_calling, resumed_calling, BeginsConnection}
@@ -53,7 +53,7 @@ requests_none (row ∷ rows) e = go (λ z. requests_none rows z) row.kind refl
     lines : is_fault row.kind ≡ false → (handshakes (row ∷ rows)).requests ≡ 0
     lines f = λ i. (handshakes_after (f i) (e i) (change_of rows row) row.time (handshakes rows)).requests
 
-    struck : (q : Bool) → (strikes_if q (handshakes rows)).requests ≡ (handshakes rows).requests
+    struck : (q : Bool) → (newest_struck_if q (handshakes rows)).requests ≡ (handshakes rows).requests
     struck true = refl
     struck false = refl
 

@@ -7,7 +7,7 @@ use proofs.Names.{implies, is_within, LineSet, none, union, call, connection, co
 use proofs.Names.{receiver_in, bus, drives, driven_after, line_times, Kind, Drives, Fault, Row, Change, Connection}
 use proofs.Names.{BUS_CLEAR_DELAY, all_kept, only_rst, judged_rules, broken_rule, seen, seen_with, Seen, ScenarioValue}
 use proofs.{Names.{off_at, UnderRst, IsUnderRst, quiet, holds, lingers}, Common.Tests.{none_both, by_bool, by_option}}
-use Rattle.bus_due.specs.bus_rules.specs.Rules.{keeps}
+use Rattle.due_model.specs.bus_rules.specs.Rules.{keeps}
 
 -- ---- the rule of the reset condition
 

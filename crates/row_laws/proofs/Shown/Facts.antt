@@ -14,7 +14,7 @@ use proofs.Names.{story_after_byte, carried_after_fault_if, story_after_fault, s
 use proofs.Names.{story_by_change, RunState, or_start, array_after_events, run_state_after, id_is, is_marked}
 use proofs.{Names.{AreRepliesShown, UndoesAnswers}, Common.StoryWays.{StoryWay, says, hears, carries, stays, story_way}}
 use proofs.Events.Replies.{replies_to, listed_on}
-use Rattle.bus_due.specs.bus_story.specs.Story.{by_reset}
+use Rattle.due_model.specs.story_model.specs.Story.{by_reset}
 
 -- Whether it has an answer, of all processes.
 abbrev pub SameAnswers : List CarriedBytes → List CarriedBytes → Type 0
@@ -103,19 +103,19 @@ begun_keeps : (b : Story) (n : Connection) → Keeps b (story_after_connection b
 begun_keeps b n = go n.reselected (aim_of b.aims n.initiator)
   where
     sent : (item : Option Item) → (story_with_sent (record b {
-      link = Some (Rattle.bus_due.specs.bus_story.specs.Links.link_of n (aim_of b.aims n.initiator));
+      link = Some (Rattle.due_model.specs.story_model.specs.Links.link_of n (aim_of b.aims n.initiator));
     }) item).carried ≡ b.carried
     sent None = refl
     sent (Some item) = refl
 
     go : (q : Bool) (item : Option Item)
-        → Keeps b (if q then record b { link = Some (Rattle.bus_due.specs.bus_story.specs.Links.link_of n None) }
+        → Keeps b (if q then record b { link = Some (Rattle.due_model.specs.story_model.specs.Links.link_of n None) }
         else story_with_restored (story_with_sent (record b {
-          link = Some (Rattle.bus_due.specs.bus_story.specs.Links.link_of n (aim_of b.aims n.initiator));
+          link = Some (Rattle.due_model.specs.story_model.specs.Links.link_of n (aim_of b.aims n.initiator));
         }) item) item)
     go true item id = refl
     go false item id = with_restored (story_with_sent (record b {
-      link = Some (Rattle.bus_due.specs.bus_story.specs.Links.link_of n (aim_of b.aims n.initiator));
+      link = Some (Rattle.due_model.specs.story_model.specs.Links.link_of n (aim_of b.aims n.initiator));
     }) item) item id ∙ ap (λ (x : List CarriedBytes). is_marked (carried_of x id)) (sent item)
 
 free_keeps : (s : ScenarioValue) (b : Story) (d : RowReading) (row : Row) → Keeps b (story_on_free_bus s b d row)
@@ -162,16 +162,19 @@ byte_answer : (c : CarriedBytes) (l : LineSet) (byte : ℕ)
 byte_answer c l byte = go (is_command l) (is_data l) (is_status_phase l)
   where
     go : (q r t : Bool) → (is_marked (if q then record c {
-      command = Rattle.bus_due.specs.bus_story.specs.CarriedBytes.area_with c.command byte;
+      command = Rattle.due_model.specs.story_model.specs.CarriedBytes.area_with c.command byte;
       block = c.block ++ byte ∷ [];
-    } else if r then record c { moved = Rattle.bus_due.specs.bus_story.specs.CarriedBytes.area_with c.moved byte }
-        else if t then record c { status = Rattle.bus_due.specs.bus_story.specs.CarriedBytes.area_with c.status byte }
-        else c) ≡ is_marked c) × ((if q then record c {
-          command = Rattle.bus_due.specs.bus_story.specs.CarriedBytes.area_with c.command byte;
-          block = c.block ++ byte ∷ [];
-        } else if r then record c { moved = Rattle.bus_due.specs.bus_story.specs.CarriedBytes.area_with c.moved byte }
-        else if t then record c { status = Rattle.bus_due.specs.bus_story.specs.CarriedBytes.area_with c.status byte }
-        else c).id ≡ c.id)
+    } else if r then record c {
+      moved = Rattle.due_model.specs.story_model.specs.CarriedBytes.area_with c.moved byte;
+    } else if t then record c {
+      status = Rattle.due_model.specs.story_model.specs.CarriedBytes.area_with c.status byte;
+    } else c) ≡ is_marked c) × ((if q then record c {
+      command = Rattle.due_model.specs.story_model.specs.CarriedBytes.area_with c.command byte;
+      block = c.block ++ byte ∷ [];
+    } else if r then record c { moved = Rattle.due_model.specs.story_model.specs.CarriedBytes.area_with c.moved byte }
+        else if t then record c {
+          status = Rattle.due_model.specs.story_model.specs.CarriedBytes.area_with c.status byte;
+        } else c).id ≡ c.id)
     go true r t = (refl, refl)
     go false true t = (refl, refl)
     go false false true = (refl, refl)
@@ -195,15 +198,16 @@ fault_answer : (c : CarriedBytes) (l : LineSet)
 fault_answer c l = go (is_command l) (is_data l)
   where
     code : Option ℕ
-    code = Some (if l.io then Rattle.bus_due.specs.cdb_codec.specs.declared.sense.TheConstants.INITIATOR_DETECTED_ERROR
-        else Rattle.bus_due.specs.cdb_codec.specs.declared.sense.TheConstants.PARITY_ERROR)
+    code =
+        Some (if l.io then Rattle.due_model.specs.cdb_codec.specs.declared.sense.TheConstants.INITIATOR_DETECTED_ERROR
+        else Rattle.due_model.specs.cdb_codec.specs.declared.sense.TheConstants.PARITY_ERROR)
 
     go : (q r : Bool) → (is_marked (if q then record c {
       struck = true;
-      failure = Some Rattle.bus_due.specs.cdb_codec.specs.declared.sense.TheConstants.PARITY_ERROR;
+      failure = Some Rattle.due_model.specs.cdb_codec.specs.declared.sense.TheConstants.PARITY_ERROR;
     } else if r then record c { failure = code } else c) ≡ is_marked c) × ((if q then record c {
       struck = true;
-      failure = Some Rattle.bus_due.specs.cdb_codec.specs.declared.sense.TheConstants.PARITY_ERROR;
+      failure = Some Rattle.due_model.specs.cdb_codec.specs.declared.sense.TheConstants.PARITY_ERROR;
     } else if r then record c { failure = code } else c).id ≡ c.id)
     go true r = (refl, refl)
     go false true = (refl, refl)
@@ -290,5 +294,5 @@ replies_next s k row some undoes h = go (run_state_after s k row).array refl som
         ap (λ (x : Option Array). is_some (reply_in (or_start s x).replies id)) e
         ∙ events_agree s k.array changed (row_events_by s k.story d row) c e before id
 
-pub replies_first : (s : ScenarioValue) → AreRepliesShown s (Rattle.bus_due.specs.RunSteps.first_run_state s)
+pub replies_first : (s : ScenarioValue) → AreRepliesShown s (Rattle.due_model.specs.RunSteps.first_run_state s)
 replies_first s id = refl

@@ -4,11 +4,11 @@ use proofs.Names.{ℕ, ◌≡◌, ◌≢◌, ◌<◌, Bool, true, false, not, �
 use proofs.Names.{sym, ap, arith, if◌then◌else◌, wrong, wrong', zero_of, counted_on, bus_two, bus-fault, change_of}
 use proofs.Names.{rises, LineSet, none, union, byte_set, changes_phase, is_command, connection, is_fault, bus, drives}
 use proofs.Names.{Kind, Drives, Fault, Row, Change, Connection, Handshakes, handshakes, handshakes_after, handshakes_on}
-use proofs.Names.{no_handshakes, asked_if, answered_if, strikes_if, has_group_len, ScenarioValue, Process, Serving}
-use proofs.Names.{phase_lines, phase_leaving, phase_of, has_whole_block, lines_by, phase_byte, one_if, Leaving, Phase}
-use proofs.Names.{process_served, carried_here, run_state, serving_at, task_if, drives_own, drives_other, EndLines}
-use proofs.Names.{connected_bus, initiator_side, target_side, Linked, row_of_lines, offering_with, initiator_moves}
-use proofs.{Names.{target_moves, ends, LinkRow, is_unasked}, Offers.Statuses.{left_req}}
+use proofs.Names.{no_handshakes, asked_if, answered_if, newest_struck_if, has_group_len, ScenarioValue, Process}
+use proofs.Names.{Serving, phase_lines, phase_leaving, phase_of, has_whole_block, lines_by, phase_byte, one_if, Leaving}
+use proofs.Names.{Phase, process_served, carried_here, run_state, serving_at, task_if, drives_own, drives_other}
+use proofs.Names.{EndLines, connected_bus, initiator_side, target_side, Linked, row_of_lines, offering_with}
+use proofs.{Names.{initiator_moves, target_moves, ends, LinkRow, is_unasked}, Offers.Statuses.{left_req}}
 use Rattle.row_laws.proofs.Lines.Rows as rows
 
 -- ---- a byte follows while the block is not whole
@@ -51,7 +51,7 @@ pub unasked_before : (p : List Row) (row : Row) (n : Connection) → connection 
     → changes_phase (change_of p row) ≡ false → (handshakes (row ∷ p)).requests ≡ 0 → (handshakes p).requests ≡ 0
 unasked_before p row n ec ep e = go row.kind refl
   where
-    struck : (q : Bool) → (strikes_if q (handshakes p)).requests ≡ 0 → (handshakes p).requests ≡ 0
+    struck : (q : Bool) → (newest_struck_if q (handshakes p)).requests ≡ 0 → (handshakes p).requests ≡ 0
     struck true z = z
     struck false z = z
 

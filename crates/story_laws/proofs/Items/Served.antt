@@ -116,11 +116,11 @@ frees : (v : Serving) (attention : Bool) (phase : Phase) → phase ≡ Phase.Mes
     → is_some v.plan.said.aborts ≡ true → (phase_leaving v attention phase).to ≡ None
 frees v attention phase e c heard =
     ap (λ (p : Phase). (phase_leaving v attention p).to) e
-    ∙ ap (λ (x : Cause). (Rattle.bus_due.specs.bus_dialogue.specs.NextPhase.message_out_leaving v x).to) c
+    ∙ ap (λ (x : Cause). (Rattle.due_model.specs.dialogue_model.specs.NextPhase.message_out_leaving v x).to) c
     ∙ ap (λ (q : Bool). (if q then bus_free else after_offer v.def v.plan.negotiates v.plan.said.offer).to) heard
 
 abort_heard : (s : ScenarioValue)
-    (said : Rattle.bus_due.specs.bus_dialogue.specs.declared.exchange.Said.Said) (m : ℕ) (a : AbortDef)
+    (said : Rattle.due_model.specs.dialogue_model.specs.declared.exchange.Said.Said) (m : ℕ) (a : AbortDef)
     → abort_line_at s.aborts m ≡ Some a → is_item_named s said (Some (abort m)) ≡ true → is_some said.aborts ≡ true
 abort_heard s said m a line named = go said.aborts
     (and_parts (is_unit said.unit a.unit) (is_kind said.aborts a.what) (sym (ap (is_abort_named said) line) ∙ named)).1

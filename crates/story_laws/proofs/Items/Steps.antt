@@ -12,8 +12,8 @@ use proofs.Names.{other_kept, progress_in, RunState, or_start, array_of, process
 use proofs.Names.{progress_by_leaving, progress_after, since_of, seek_of, ready_at, ready_among, ready_of, process_id}
 use proofs.Names.{none_some, by_option, map_units, unit_at, stays_queued, step_units, RunsP, UnitsP, AreChecked}
 use proofs.{Names.{IsQueued}, Items.{Open.{item_is}, Over.{Grows, grows_same, still_queued}, Sent.{more_has}}}
-use Rattle.bus_due.specs.disk_array.specs.Steps
-use Rattle.bus_due.specs.disk_array.specs.ArrayHistory as Play
+use Rattle.due_model.specs.array_model.specs.Steps
+use Rattle.due_model.specs.array_model.specs.ArrayHistory as Play
 
 -- ---- the process that a target has ready is in a queue
 

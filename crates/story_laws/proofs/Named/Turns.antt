@@ -4,7 +4,7 @@ use Rattle.story_laws.proofs
 use proofs.Names.{ℕ, ◌≡◌, ◌<◌, ◌≤◌, Bool, true, false, not, ◌&&◌, ◌∙◌, List, length, length-append, Option, Some, None}
 use proofs.Names.{refl, sym, ap, subst, arith, ◌-◌, if◌then◌else◌, is_some, wrong, wrong', rises, LineSet}
 use proofs.Names.{changes_phase, is_message_out, is_message_in, receiver_in, Row, Change, Connection, struck_same}
-use proofs.Names.{Handshakes, no_handshakes, handshakes_after, handshakes_on, answered_if, asked_if, strikes_if}
+use proofs.Names.{Handshakes, no_handshakes, handshakes_after, handshakes_on, answered_if, asked_if, newest_struck_if}
 use proofs.Names.{ScenarioValue, HostDef, Process, row_reading, is_complete, Sent, Link, policy_of, Exchange}
 use proofs.Names.{bytes_of_messages, from_byte, plan_anew, speech_of, Serving, phase_of, phase_entry, phase_leaving}
 use proofs.Names.{message_repetition, message_out_leaving, after_refusal, after_messages, next_data_phase, with_task}
@@ -271,12 +271,12 @@ named_on s k row n c g there sp gv of whereto h link link_is = go r.kind
         (sent_stays false (none_crosses er)) (λ io. requests_stay n c row.time k.handshakes ep io er) was)
     go (strikes ef ep er) =
         let i = in_connection s k row n c false false true r ep (none_crosses er) ef in
-        to false false true (strikes_if c.before.io k.handshakes)
+        to false false true (newest_struck_if c.before.io k.handshakes)
         (i.handshakes_is ∙ ap (λ (q : Bool). handshakes_after q (Some n) c row.time k.handshakes) ef) i
         (named_struck s n (run_state_after s k row).story.sent (run_state_after s k row).story.link k.exchange
-        (strikes_if c.before.io k.handshakes) c.after c.before.io (named_still s n k.story.sent
+        (newest_struck_if c.before.io k.handshakes) c.after c.before.io (named_still s n k.story.sent
         (run_state_after s k row).story.sent k.story.link (run_state_after s k row).story.link k.exchange k.handshakes
-        (strikes_if c.before.io k.handshakes) c.before c.after (same_phase_is c ep) (link_stays er)
+        (newest_struck_if c.before.io k.handshakes) c.before c.after (same_phase_is c ep) (link_stays er)
         (sent_stays false (none_crosses er)) (λ io. struck_same c.before.io k.handshakes) was))
     go (crosses dev ef ep er) =
         let en : is_some (receiver_in n c) ≡ true = ap (λ (z : Option ℕ). is_some z) er in

@@ -3,10 +3,10 @@ use Rattle.story_laws.proofs
 use proofs.Names.{inl, inr, ℕ, ◌≡◌, ◌⊎◌, ◌<◌, ◌+◌, Bool, true, false, not, ◌&&◌, ◌||◌, ◌==◌, ◌∙◌, Option, Some, None}
 use proofs.Names.{refl, sym, ap, subst, true≢false, if◌then◌else◌, is_some, wrong, wrong', rises_none, rises, LineSet}
 use proofs.Names.{changes_phase, is_command, is_message_out, is_message_in, receiver_in, Change, Connection, Handshakes}
-use proofs.Names.{no_handshakes, handshakes_on, asked_if, answered_if, strikes_if, is_of_other, heard_with_command}
-use proofs.Names.{byte_else, Dialogue, End, Exchange, struck_plan, Messages, SamePhase, in_io, in_same, counted}
-use proofs.Names.{not_both, requests_rise, out_same, struck, message_line, out_line, MessageRow, keeps, asks, awaits}
-use proofs.Names.{offer_now, IsHeardIn, IsHeardOut, opens, repeats, answers_it, detects, OffersBy}
+use proofs.Names.{no_handshakes, handshakes_on, asked_if, answered_if, newest_struck_if, is_of_other}
+use proofs.Names.{heard_with_command, byte_else, Dialogue, End, Exchange, struck_plan, Messages, SamePhase, in_io}
+use proofs.Names.{in_same, counted, not_both, requests_rise, out_same, struck, message_line, out_line, MessageRow}
+use proofs.Names.{keeps, asks, awaits, offer_now, IsHeardIn, IsHeardOut, opens, repeats, answers_it, detects, OffersBy}
 use Rattle.row_laws.specs.Attention.{answers}
 
 -- ---- what is kept is known otherwise
@@ -117,7 +117,7 @@ struck_stays n c t h ep io er = (λ i. (if ep i then no_handshakes
     ∙ answered_struck (rises c.before.ack c.after.ack) t h
 
 pub struck_by_fault : (io : Bool) (h : Handshakes) → (h.requests == 0) ≡ false → h.struck ≡ true
-    → (strikes_if io h).struck ≡ true
+    → (newest_struck_if io h).struck ≡ true
 struck_by_fault true h some s = ap not some
 struck_by_fault false h some s = s
 

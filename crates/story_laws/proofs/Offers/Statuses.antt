@@ -2,7 +2,7 @@
 use Rattle.story_laws.proofs
 use proofs.Names.{ℕ, ◌≡◌, Bool, true, false, not, ◌&&◌, ◌==◌, ◌%◌, ◌∙◌, List, ◌∷◌, Option, Some, None, refl, sym, ap}
 use proofs.Names.{subst, arith, nat_tests, count_ones, wrong, wrong', not_first, ProcId, rises, LineSet, none, bus}
-use proofs.Names.{last_time, Row, Connection, Handshakes, handshakes, strikes_if, ScenarioValue, reply_in, Reply}
+use proofs.Names.{last_time, Row, Connection, Handshakes, handshakes, newest_struck_if, ScenarioValue, reply_in, Reply}
 use proofs.Names.{is_status_phase, process, byte_bits, begun, Serving, phase_of, phase_leaving, status_byte, lines_by}
 use proofs.Names.{Leaving, Phase, array_of, run_state, serving_at, task_of, drives_own, EndLines, target_side}
 use proofs.Names.{connected_bus, Linked, row_of_lines, row_of_fault, offering_with, same_phases, initiator_moves}
@@ -88,7 +88,7 @@ of_fault s p t d bit n e h b v w =
     offered_by s q n e (linked_fault p n e t d bit h) (λ a z u some id reply given. v a z (sym same ∙ u) some id reply
     (w.kept (ap is_status_phase h.stands.bus_is ∙ a) b id reply given))
   where
-    struck : (q : Bool) (x : Handshakes) → (strikes_if q x).requests ≡ x.requests
+    struck : (q : Bool) (x : Handshakes) → (newest_struck_if q x).requests ≡ x.requests
     struck true x = refl
     struck false x = refl
 

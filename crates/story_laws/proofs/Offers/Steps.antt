@@ -4,21 +4,21 @@ use proofs.Names.{inl, inr, ℕ, ◌≡◌, ◌+◌, Bool, true, false, not, ◌
 use proofs.Names.{refl, sym, ap, subst, ◌-◌, if◌then◌else◌, is_some, wrong, wrong', and_second, rises, LineSet, same}
 use proofs.Names.{changes_phase, is_message_out, is_message_in, receiver_in, receiver_of, Row, Change, Connection}
 use proofs.Names.{struck_same, Handshakes, no_handshakes, handshakes_after, handshakes_on, answered_if, asked_if}
-use proofs.Names.{strikes_if, got_out, fresh_bytes, byte_in, byte_out, byte_else, byte_crosses, phase_begins, Dialogue}
-use proofs.Names.{End, ScenarioValue, HostDef, row_reading, whole_out, message_in, message_out, Exchange, from_byte}
-use proofs.Names.{plan_after_message, plan_anew, request_after, speech_after_byte, speech_after_request, speech_of}
-use proofs.Names.{attends_with, Serving, phase_of, phase_leaving, leaving_by, plan_in_message_out, words_after}
-use proofs.Names.{parity_error, detected_error, answer_bytes, Cause, Hearing, Leaving, Phase, still_talk, host_of}
-use proofs.Names.{RunState, bus_of, run_state_after, serving_of, hearing_of, leaving, InConnection, in_connection}
-use proofs.Names.{dialogue_by, same_phase_is, requests_stay, few_messages, heard_byte, opening_exchange, asking, Gives}
-use proofs.Names.{LeavesWhole, is_out_phase, IsOver, RowKind, still, strikes, crosses, turns, IsRowIn, reading_in}
-use proofs.Names.{Speaks, GoesOn, in_phase, out_phase, not_message_out, not_message_in, Attention, offer_now, IsHeardIn}
-use proofs.{Names.{is_detected, OffersBy, Offers}, Offers.{Bytes.{heard_in_on, heard_out_on}, Leavings.{HeadsTo}}}
-use proofs.Offers.{Leavings.{Heads, heads_none, heads_attended, heads_out, attends}, Rows.{offers_as, offers_still}}
-use proofs.Offers.Rows.{offers_struck, struck_stays, struck_by_fault, request_rises, offers_said, offers_given}
-use proofs.Offers.{Rows.{offers_else}, Turns.{out_by_phase, Lines, says, gives, others, lines_of, entering}}
-use proofs.Offers.Turns.{offers_enter, offers_open, offers_detect, offers_answer, none_open, unattended, in_direction}
-use proofs.Offers.Turns.{low_line}
+use proofs.Names.{newest_struck_if, got_out, fresh_bytes, byte_in, byte_out, byte_else, byte_crosses, phase_begins}
+use proofs.Names.{Dialogue, End, ScenarioValue, HostDef, row_reading, whole_out, message_in, message_out, Exchange}
+use proofs.Names.{from_byte, plan_after_message, plan_anew, request_after, speech_after_byte, speech_after_request}
+use proofs.Names.{speech_of, attends_with, Serving, phase_of, phase_leaving, leaving_by, plan_in_message_out}
+use proofs.Names.{words_after, parity_error, detected_error, answer_bytes, Cause, Hearing, Leaving, Phase, still_talk}
+use proofs.Names.{host_of, RunState, bus_of, run_state_after, serving_of, hearing_of, leaving, InConnection}
+use proofs.Names.{in_connection, dialogue_by, same_phase_is, requests_stay, few_messages, heard_byte, opening_exchange}
+use proofs.Names.{asking, Gives, LeavesWhole, is_out_phase, IsOver, RowKind, still, strikes, crosses, turns, IsRowIn}
+use proofs.Names.{reading_in, Speaks, GoesOn, in_phase, out_phase, not_message_out, not_message_in, Attention}
+use proofs.{Names.{offer_now, IsHeardIn, is_detected, OffersBy, Offers}, Offers.Bytes.{heard_in_on, heard_out_on}}
+use proofs.Offers.{Leavings.{HeadsTo, Heads, heads_none, heads_attended, heads_out, attends}, Rows.{offers_as}}
+use proofs.Offers.Rows.{offers_still, offers_struck, struck_stays, struck_by_fault, request_rises, offers_said}
+use proofs.Offers.{Rows.{offers_given, offers_else}, Turns.{out_by_phase, Lines, says, gives, others, lines_of}}
+use proofs.Offers.Turns.{entering, offers_enter, offers_open, offers_detect, offers_answer, none_open, unattended}
+use proofs.Offers.Turns.{in_direction, low_line}
 
 -- ---- small facts
 
@@ -376,10 +376,10 @@ offers_on s k row n c g there sp gv att over whereto h = go r.kind
         (λ io some z. struck_stays n c row.time k.handshakes ep io er ∙ z) was)
     go (strikes ef ep er) =
         let i = in_connection s k row n c false false true r ep (none_crosses er) ef in
-        to false false true (strikes_if c.before.io k.handshakes)
+        to false false true (newest_struck_if c.before.io k.handshakes)
         (i.handshakes_is ∙ ap (λ (q : Bool). handshakes_after q (Some n) c row.time k.handshakes) ef) i
-        (offers_struck k.exchange d (strikes_if c.before.io k.handshakes) c.after c.before.io
-        (offers_still n c k.exchange d k.handshakes (strikes_if c.before.io k.handshakes)
+        (offers_struck k.exchange d (newest_struck_if c.before.io k.handshakes) c.after c.before.io
+        (offers_still n c k.exchange d k.handshakes (newest_struck_if c.before.io k.handshakes)
         (same_phase_is c ep) er (att.into ep) (λ io. struck_same c.before.io k.handshakes)
         (λ io some z. struck_by_fault c.before.io k.handshakes some z) was))
     go (crosses dev ef ep er) =

@@ -131,14 +131,14 @@ begins_served s k row n q h names anew served waits = go n.reselected refl (sym 
           undone = tt;
           undisturbed = inr (refl, refl);
           next = ap (λ (x : Exchange). x.plan.next) made
-              ∙ ap (λ (x : Bool). (Rattle.bus_due.specs.bus_dialogue.specs.Planning.first_plan x
-              (not n.reselected && Rattle.bus_due.specs.RunSteps.may_negotiate k n (aim_of k.story.aims n.initiator))
-              (Rattle.bus_due.specs.RunSteps.naming_of s k n)).next) e;
+              ∙ ap (λ (x : Bool). (Rattle.due_model.specs.dialogue_model.specs.Planning.first_plan x
+              (not n.reselected && Rattle.due_model.specs.RunSteps.may_negotiate k n (aim_of k.story.aims n.initiator))
+              (Rattle.due_model.specs.RunSteps.naming_of s k n)).next) e;
           plain = subst (λ (x : Messages). OnMessages IsPlainIn x) (sym (ap (λ (x : Exchange). x.plan.messages) made
-              ∙ ap (λ (x : Bool). (Rattle.bus_due.specs.bus_dialogue.specs.Planning.first_plan x
-              (not x && Rattle.bus_due.specs.RunSteps.may_negotiate k n (aim_of k.story.aims n.initiator))
+              ∙ ap (λ (x : Bool). (Rattle.due_model.specs.dialogue_model.specs.Planning.first_plan x
+              (not x && Rattle.due_model.specs.RunSteps.may_negotiate k n (aim_of k.story.aims n.initiator))
               (if x then messages_if (ready_of s k n.target)
-              else Rattle.bus_due.specs.bus_dialogue.specs.Exchange.no_messages)).messages) e ∙ ap messages_if er))
+              else Rattle.due_model.specs.dialogue_model.specs.Exchange.no_messages)).messages) e ∙ ap messages_if er))
               (plain_names r.process);
           saved = ap (λ (x : Area). x.saved) (first_carried s k row n q.id h).moved
               ∙ ap (λ (x : CarriedBytes). x.moved.saved) there ∙ from ∙ sym start;
@@ -196,12 +196,12 @@ goes_undoes s k row n c now r en knows served h l u el eu = served
     go (ways.stays _) e =
         same (same_Some knows.link l (sym (fault_link k.story knows.link row.kind ∙ knows.link_is) ∙ e))
     go (ways.says o _ _) e = h knows.link u knows.link_is (ap (λ (x : Link). x.undo) (same_Some (record knows.link {
-      last = Rattle.bus_due.specs.bus_story.specs.Links.last_out o knows.link;
+      last = Rattle.due_model.specs.story_model.specs.Links.last_out o knows.link;
     }) l (sym (out_link k.story knows.link o) ∙ e)) ∙ eu)
     go (ways.carries _ _ _) e = same (same_Some knows.link l (sym (byte_link k.story knows.link d ∙ knows.link_is) ∙ e))
     go (ways.hears m _ _ _) e = told knows.link.item refl
         (ap (λ (x : Link). x.undo) (same_Some (record (link_after_name k.story.sent s.commands knows.link m) {
-          last = Rattle.bus_due.specs.bus_story.specs.Links.last_in m;
+          last = Rattle.due_model.specs.story_model.specs.Links.last_in m;
           before = knows.link.last;
           undo = carried_if k.story knows.link.item;
         }) l (sym (in_link s k.story knows.link m) ∙ e)) ∙ eu)

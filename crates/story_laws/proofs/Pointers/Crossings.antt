@@ -296,7 +296,7 @@ said s k row n c q l m y x e eo w =
 
 next_byte : (s : ScenarioValue) (k : RunState) (row : Row) (n : Connection) (c : Change) (q : Process) (l : Link)
     → Crosses s k row n c q l → phase_of (bus_of k) ≡ Phase.MessageOut
-    → byte_of c ≡ Rattle.bus_due.specs.bus_dialogue.specs.Exchange.next_word k.exchange.speech
+    → byte_of c ≡ Rattle.due_model.specs.dialogue_model.specs.Exchange.next_word k.exchange.speech
 next_byte s k row n c q l x e =
     (x.meets.of.says (ap is_message_out (sym x.meets.of.row_is.bus_is) ∙ message_out_is s k row n c q l x e)
     (ap (λ (z : Option ℕ). is_some z) x.receiver)).0

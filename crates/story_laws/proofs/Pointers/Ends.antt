@@ -93,9 +93,9 @@ ends_wait s k row n q con next off h = go (ended s k q h)
         (ap (λ (x : Bool). if x then (if rises d.change.own.rst d.change.next.rst then Event.Reset row.dev ∷ [] else [])
         else link_events s k.story k.story.link d) off
         ∙ ap (λ (x : Option Link). link_events s k.story x d) el ∙ ap (λ (x : Option Connection).
-        if is_some x then Rattle.bus_due.specs.bus_story.specs.HistoryEvents.connection_events s k.story l d
+        if is_some x then Rattle.due_model.specs.story_model.specs.HistoryEvents.connection_events s k.story l d
         else bus_free_events s l l.last) next ∙ ap (λ (x : LastMessage). bus_free_events s l x) last
-        ∙ ap (λ (x : Option Item). Rattle.bus_due.specs.bus_story.specs.HistoryEvents.item_loss_events x) own)
+        ∙ ap (λ (x : Option Item). Rattle.due_model.specs.story_model.specs.HistoryEvents.item_loss_events x) own)
         ∙ lost_over s c q.id
 
     go : Ended s k q → IsWaiting s j q

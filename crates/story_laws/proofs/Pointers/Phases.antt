@@ -209,7 +209,7 @@ no_offer s k row n c q meets b ep e cause = go (meets.refuses b e cause)
     last = (meets.of.leaves (ap changes_phase meets.of.row_is.change_is ∙ ep)).out e
 
     go : (k.exchange.plan.next ≡ Next.Command)
-        ⊎ (k.exchange.speech.words ≡ Rattle.bus_due.specs.bus_dialogue.specs.Words.parity_error)
+        ⊎ (k.exchange.speech.words ≡ Rattle.due_model.specs.dialogue_model.specs.Words.parity_error)
         → (k.exchange.plan.next ≡ Next.Command) ⊎ (is_some k.exchange.plan.said.offer ≡ false)
     go (inl z) = inl z
     go (inr z) = inr (refusal_offers k.exchange.speech k.exchange.plan k.story.bus_state.dialogue z
@@ -361,9 +361,10 @@ unnamed_turns s k row n c q l meets t ep el none known to h = go h.phase
         → ServedPointers s j q
     go (inl e) =
         let leads : leaving s k n.target
-        ≡ Rattle.bus_due.specs.bus_dialogue.specs.NextPhase.phase_entry Phase.MessageOut = leaving_is Phase.MessageIn e
-        ∙ ap (λ (x : Bool). if x then Rattle.bus_due.specs.bus_dialogue.specs.NextPhase.phase_entry Phase.MessageOut
-        else Rattle.bus_due.specs.bus_dialogue.specs.NextPhase.after_messages
+        ≡ Rattle.due_model.specs.dialogue_model.specs.NextPhase.phase_entry Phase.MessageOut =
+        leaving_is Phase.MessageIn e
+        ∙ ap (λ (x : Bool). if x then Rattle.due_model.specs.dialogue_model.specs.NextPhase.phase_entry Phase.MessageOut
+        else Rattle.due_model.specs.dialogue_model.specs.NextPhase.after_messages
         (serving_of s k n.target) k.exchange.plan.next) (attention e) in
         let out : phase_of c.after ≡ Phase.MessageOut = sym
         (same_Some Phase.MessageOut (phase_of c.after) (sym (ap (λ (x : Leaving). x.to) leads) ∙ to)) in

@@ -4,10 +4,10 @@ use proofs.Names.{ℕ, ◌≡◌, ◌+◌, ◌*◌, ◌<◌, ◌^◌, Bool, true
 use proofs.Names.{None, refl, sym, ap, subst, arith, ◌%◌, if◌then◌else◌, is_some, wrong', counted_on, rises, LineSet}
 use proofs.Names.{changes_phase, is_data, is_message_out, is_message_in, is_fault, receiver_in, Row, Change, Connection}
 use proofs.Names.{struck_same, Handshakes, no_handshakes, handshakes_on, handshakes_after, asked_if, answered_if}
-use proofs.Names.{strikes_if, got_in, got_out, MsgIn, MsgOut, fresh_bytes, ScenarioValue, Policy, Process, byte_link}
-use proofs.Names.{fault_link, RowReading, whole_in, whole_out, message_in, message_out, Area, CarriedBytes, carried_of}
-use proofs.Names.{carried_after_byte, link_events, process, Link, Story, story_after_events, story_after_out}
-use proofs.Names.{story_after_in, story_after_byte, story_after_fault, story_in_connection, Exchange}
+use proofs.Names.{newest_struck_if, got_in, got_out, MsgIn, MsgOut, fresh_bytes, ScenarioValue, Policy, Process}
+use proofs.Names.{byte_link, fault_link, RowReading, whole_in, whole_out, message_in, message_out, Area, CarriedBytes}
+use proofs.Names.{carried_of, carried_after_byte, link_events, process, Link, Story, story_after_events}
+use proofs.Names.{story_after_out, story_after_in, story_after_byte, story_after_fault, story_in_connection, Exchange}
 use proofs.Names.{plan_after_message, struck_plan, phase_of, plan_with_byte, Hearing, Phase, Plan, ProcessProgress}
 use proofs.Names.{progress_in, RunState, bus_of, carried_here, run_state_after, progress_after, leaving_of, hearing_of}
 use proofs.Names.{is_data_out, InConnection, in_connection, reading_is, same_phase_is, requests_rise, requests_stay}
@@ -117,7 +117,7 @@ answers_rise n c t dev h ep io er =
     (if ep i then no_handshakes else answered_if (raised i) t (asked_if (rises c.before.req c.after.req) t h)).answers)
     ∙ ap counted_on (asked_answers (rises c.before.req c.after.req) t h)
 
-pub struck_answers : (q : Bool) (h : Handshakes) → (strikes_if q h).answers ≡ h.answers
+pub struck_answers : (q : Bool) (h : Handshakes) → (newest_struck_if q h).answers ≡ h.answers
 struck_answers true h = refl
 struck_answers false h = refl
 
@@ -200,8 +200,8 @@ in_row s k row n c q now fault l r ep en el i same =
         phase = ap phase_of i.bus_is ∙ phase_same c.before c.after (same_phase_is c ep) ∙ ap phase_of (sym r.bus_is);
         start = start_same s k (run_state_after s k row) q ((λ i. progress_after s k (reading_is k row n c now r en i)
             (r.connection_is i) (reading_is k row n c now r en i).next (leaving_of s k k.story.bus_state.connection))
-            ∙ ap (λ (x : Bool). if x && k.exchange.begun then Rattle.bus_due.specs.RunSteps.progress_by_leaving k
-            (Rattle.bus_due.specs.RunState.process_served s k) (leaving_of s k k.story.bus_state.connection)
+            ∙ ap (λ (x : Bool). if x && k.exchange.begun then Rattle.due_model.specs.RunSteps.progress_by_leaving k
+            (Rattle.due_model.specs.RunState.process_served s k) (leaving_of s k k.story.bus_state.connection)
             else k.progress) ep);
       };
       carried = subst (λ (x : CarriedBytes). SamePointers x

@@ -15,7 +15,7 @@ use proofs.Names.{leaving_of, Knows, IsRowIn, reading_in, StoryWay, story_way, n
 use proofs.{Names.{run_start, run_step, IsWaiting, UndoesServed}, Items.Stays.{inside_sent}, Pointers.Steps.{IsNot}}
 use proofs.Pointers.{Steps.{fault_story, byte_other, out_other, in_other}, Stories.{SamePointers, events_same}}
 use proofs.Pointers.Stories.{events_over, over_more, story_row}
-use Rattle.bus_due.specs.disk_array.proofs.SoundArrays.{id_is}
+use Rattle.due_model.specs.array_model.proofs.SoundArrays.{id_is}
 use Rattle.row_laws.proofs.Common.StoryWays as ways
 
 -- ---- what is asked of one that waits
@@ -79,7 +79,7 @@ free_story s b d row x = go (is_arbitration_entry b d) (falls d.change.before.se
     tried : (dev : ℕ) (item : Option Item) → Freed b (story_with_try s b dev item) x
     tried dev None = freed_self b x
     tried dev (Some item) = by (is_counted item && nat_lt (retries_of s.hosts dev)
-        (Rattle.bus_due.specs.bus_story.specs.Items.count_item (item ∷ b.sent.tries) item)) item
+        (Rattle.due_model.specs.story_model.specs.Items.count_item (item ∷ b.sent.tries) item)) item
       where
         by : (q : Bool) (i : Item) → Freed b
             (if q then story_without_answer (record b { sent = record b.sent { tries = item ∷ b.sent.tries } }) i

@@ -12,7 +12,7 @@ use proofs.Names.{row_of_lines, row_of_fault, offering_with, initiator_moves, ta
 use proofs.Names.{hands, releases, ends_ack_in, gives, sends, ends_ack_out, answers_pulse, ends_ack_pulse}
 use proofs.Names.{drives_pulsed, sends_pulse, offers, asks_first, ends_req, asks_next, leaves, ends_req_pulse}
 use proofs.{Names.{changes_pulsed, asks_pulse, line_off, awaits}, Items.Aims.{RisesWell}, Talks.Steps.{Alternates}}
-use Rattle.bus_due.specs.bus_rules.specs.Rules.{keeps}
+use Rattle.due_model.specs.bus_rules.specs.Rules.{keeps}
 use Rattle.row_laws.proofs.Lines.Rows.{opens, strikes, answers}
 
 -- ---- the lines

@@ -29,7 +29,7 @@ loses : (s : ScenarioValue) (n : Connection) (v : Serving) (id : ProcId) (l : Li
     → connection_end_events n v.plan Phase.MessageOut (Some id) ≡ bus_free_events s l l.last
 loses s n v id l item none e =
     ap (λ (o : Option AbortKind). after_opening_events n v.plan.said o (Some id)) none
-    ∙ (λ i. Rattle.bus_due.specs.bus_story.specs.HistoryEvents.item_loss_events (sym item i))
+    ∙ (λ i. Rattle.due_model.specs.story_model.specs.HistoryEvents.item_loss_events (sym item i))
     ∙ ap (λ (y : LastMessage). bus_free_events s l y) (sym e)
 
 lost : (s : ScenarioValue) (v : Serving) (n : Connection) (t : Task) (id : ProcId) (l : Link) {attention : Bool}
@@ -85,9 +85,9 @@ no_item (Some x) e = wrong' e
 
 process_none : (s : ScenarioValue) (said : Said) (id : ProcId) (p : Process) → process_of s id ≡ Some p
     → is_item_named s said (Some (process id)) ≡ true → said.aborts ≡ None
-process_none s said id p e h = no_item said.aborts (and_parts (is_none said.aborts) (is_unit said.unit p.unit)
-    (and_parts (is_none said.aborts && is_unit said.unit p.unit) (Rattle.bus_due.specs.Faithful.same_tag said.tag p.tag)
-    (sym (ap (is_process_named said) e) ∙ h)).0).0
+process_none s said id p e h = no_item said.aborts (and_parts (is_none said.aborts)
+    (is_unit said.unit p.unit) (and_parts (is_none said.aborts && is_unit said.unit p.unit)
+    (Rattle.due_model.specs.Faithful.same_tag said.tag p.tag) (sym (ap (is_process_named said) e) ∙ h)).0).0
 
 pub none_heard : (s : ScenarioValue) (k : RunState) (n : Connection) (id : ProcId) (p : Process)
     → Speaks s k n → k.served ≡ Some (process id) → process_of s id ≡ Some p → k.exchange.begun ≡ true

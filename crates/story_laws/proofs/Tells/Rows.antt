@@ -56,11 +56,11 @@ item_is_served k n l = (l.item ≡ k.served) ⊎ ((n.reselected ≡ true) × (l.
 pub no_events : (s : ScenarioValue) (b : Story) (o : Option CarriedBytes) (c : Change) → is_command c.before ≡ false
     → is_status_phase c.after ≡ false → phase_events s b o c ≡ []
 no_events s b None c e f = refl
-no_events s b (Some own) c e f = (λ i. Rattle.bus_due.specs.bus_story.specs.HistoryEvents.status_events
-    (Some own) c.after (if e i && Rattle.bus_due.specs.bus_story.specs.CarriedBytes.is_whole_block own
-    then Rattle.bus_due.specs.bus_story.specs.HistoryEvents.queue_event s b.history own.id ∷ [] else []))
+no_events s b (Some own) c e f = (λ i. Rattle.due_model.specs.story_model.specs.HistoryEvents.status_events
+    (Some own) c.after (if e i && Rattle.due_model.specs.story_model.specs.CarriedBytes.is_whole_block own
+    then Rattle.due_model.specs.story_model.specs.HistoryEvents.queue_event s b.history own.id ∷ [] else []))
     ∙ (λ i. if f i && not own.shown && not own.refused && true
-    then Rattle.bus_due.specs.bus_story.specs.HistoryEvents.status_event own.id own.failure ∷ [] else [])
+    then Rattle.due_model.specs.story_model.specs.HistoryEvents.status_event own.id own.failure ∷ [] else [])
 
 pub unbegun_lines : (s : ScenarioValue) (p : List Row) (n : Connection) → LinkStage s p n → begun p ≡ false
     → is_command (bus p) ≡ false

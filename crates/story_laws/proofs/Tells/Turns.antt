@@ -72,13 +72,13 @@ reply_told v false Phase.DataIn id c same fails st new = λ i. status_event (sym
 reply_told v attention Phase.MessageOut id c same fails st new =
     let e : v.plan.cause ≡ Cause.InData = rejected (ways.leaves v attention Phase.MessageOut) st in
     let code : c.failure ≡ Some INITIATOR_DETECTED_ERROR = subst (Rattle.row_laws.specs.Tells.FailsAsked c) e fails in
-    ap (λ (x : Cause). Rattle.bus_due.specs.bus_dialogue.specs.Events.detected_events x id) e ∙
+    ap (λ (x : Cause). Rattle.due_model.specs.dialogue_model.specs.Events.detected_events x id) e ∙
     (λ i. status_event (sym same i) (sym code i) ∷ [])
 reply_told v true Phase.MessageIn id c same fails st new = wrong' st
 reply_told v false Phase.MessageIn id c same fails st new = go v.plan.next (fails refl) st
   where
     go : (next : Next) → Rattle.row_laws.specs.Tells.FailsBefore c next
-        → is_status_next (Rattle.bus_due.specs.bus_dialogue.specs.NextPhase.after_messages v next).to ≡ true
+        → is_status_next (Rattle.due_model.specs.dialogue_model.specs.NextPhase.after_messages v next).to ≡ true
         → Event.Run id ∷ [] ≡ status_event c.id c.failure ∷ []
     go Next.Command f z = wrong' z
     go Next.FreeBus f z = wrong' z

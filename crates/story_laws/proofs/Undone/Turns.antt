@@ -70,11 +70,11 @@ turn_keeps what kept s k row n c l t undoes h = record {
     asked : j.handshakes.requests ≡ 0
     asked = ap (λ (x : Handshakes). x.requests) i.handshakes_is
         ∙ ap (λ (q : Bool). (handshakes_after q (Some n) c row.time k.handshakes).requests) t.lines
-        ∙ ap (λ (q : Bool). (if q then no_handshakes else Rattle.bus_due.specs.bus_lines.specs.Handshakes.answered_if
-        (Rattle.bus_due.specs.bus_trace.specs.Changes.rises c.before.ack c.after.ack) row.time
-        (Rattle.bus_due.specs.bus_lines.specs.Handshakes.asked_if
-        (Rattle.bus_due.specs.bus_trace.specs.Changes.rises c.before.req c.after.req) row.time k.handshakes)).requests)
-        t.turns
+        ∙ ap (λ (q : Bool). (if q then no_handshakes else Rattle.due_model.specs.bus_lines.specs.Handshakes.answered_if
+        (Rattle.due_model.specs.bus_trace.specs.Changes.rises c.before.ack c.after.ack) row.time
+        (Rattle.due_model.specs.bus_lines.specs.Handshakes.asked_if
+        (Rattle.due_model.specs.bus_trace.specs.Changes.rises c.before.req c.after.req) row.time
+        k.handshakes)).requests) t.turns
 
     change : changes_phase (row_reading k.story.bus_state row).change ≡ true
     change = ap changes_phase t.goes.row_is.change_is ∙ t.turns

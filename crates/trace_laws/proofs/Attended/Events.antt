@@ -107,7 +107,7 @@ stop_shown s k n known l h between = go l.last
     lost (Some (process id)) (inr e) = absurd cc
 
     stopped : (item : Option Item) → Of k item
-        → AreShown k n known (Rattle.bus_due.specs.bus_story.specs.HistoryEvents.item_abort_events s item)
+        → AreShown k n known (Rattle.due_model.specs.story_model.specs.HistoryEvents.item_abort_events s item)
     stopped None w = tt
     stopped (Some (process id)) w = tt
     stopped (Some (abort m)) (inl e) = line_shown k n known (abort_line_at s.aborts m) (λ a f. between m a (sym e) f)

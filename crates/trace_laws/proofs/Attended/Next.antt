@@ -74,8 +74,8 @@ called_for s p row n alone e selects was = by_call (call p) refl (made_is p row 
 -- ---- the row
 
 -- What is known after a connection went on with the row.
-still_unknown : (w : Rattle.bus_due.specs.bus_dialogue.specs.declared.exchange.Hearing.Hearing)
-    (plan : Rattle.bus_due.specs.bus_dialogue.specs.declared.exchange.Plan.Plan) (i : Instructions)
+still_unknown : (w : Rattle.due_model.specs.dialogue_model.specs.declared.exchange.Hearing.Hearing)
+    (plan : Rattle.due_model.specs.dialogue_model.specs.declared.exchange.Plan.Plan) (i : Instructions)
     → (instructions_on w plan i).known ≡ false → i.known ≡ false
 still_unknown w plan i e =
     by_bool i.known

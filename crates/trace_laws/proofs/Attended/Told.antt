@@ -21,7 +21,7 @@ reset_told s k row d on =
     (if on i then shown else link_events s k.story k.story.link d))
     ∙ self_events shown
   where
-    shown : List Rattle.bus_due.specs.bus_base.specs.declared.Event.Event
+    shown : List Rattle.due_model.specs.bus_base.specs.declared.Event.Event
     shown = if rises d.change.own.rst d.change.next.rst then Event.Reset row.dev ∷ [] else []
 
 apart_told : (s : ScenarioValue) (k : RunState) (row : Row) (d : RowReading) → d.change.after.rst ≡ false
@@ -29,7 +29,7 @@ apart_told : (s : ScenarioValue) (k : RunState) (row : Row) (d : RowReading) →
 apart_told s k row d off con link = λ i. same_events (if off i then shown else events_of_ends_in s k (con i) d)
     (if off i then shown else link_events s k.story (link i) d)
   where
-    shown : List Rattle.bus_due.specs.bus_base.specs.declared.Event.Event
+    shown : List Rattle.due_model.specs.bus_base.specs.declared.Event.Event
     shown = if rises d.change.own.rst d.change.next.rst then Event.Reset row.dev ∷ [] else []
 
 -- ---- in a connection

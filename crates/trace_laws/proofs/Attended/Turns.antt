@@ -45,9 +45,9 @@ fails_first s k dev id b known after left to shown refused_is = go (phase_of (bu
         (sym (left.message e f g) ∙ or_from (carried_here k id).shown (carried_here k id).refused shown refused_is)
 
     ends : (atn : Bool)
-        → is_status_next (unless_attention atn (Rattle.bus_due.specs.bus_dialogue.specs.NextPhase.disconnection
-        (Rattle.bus_due.specs.bus_dialogue.specs.Exchange.one_message
-        Rattle.bus_due.specs.msg_grammar.specs.declared.message.MsgIn.TheVariants.CommandComplete))).to ≡ false
+        → is_status_next (unless_attention atn (Rattle.due_model.specs.dialogue_model.specs.NextPhase.disconnection
+        (Rattle.due_model.specs.dialogue_model.specs.Exchange.one_message
+        Rattle.due_model.specs.msg_grammar.specs.declared.message.MsgIn.TheVariants.CommandComplete))).to ≡ false
     ends true = refl
     ends false = refl
 

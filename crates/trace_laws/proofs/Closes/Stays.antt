@@ -9,7 +9,7 @@ use proofs.Names.{bus_of, run_state, self_id, is_in_phase, GoesOn, change_plain,
 use proofs.Names.{not_unless, by_bool, running_id, ConnectionRow, connection_row, Stood, NextStood, awaits, IsServed}
 use proofs.Names.{of_process, of_abort, ServedFacts, in_move, alternating, Alternates, frees, LastFacts, LastBy}
 use proofs.Names.{LastGiven, still_stays, to_close, to_save, closed, IsCompleting, CloseFacts}
-use Rattle.bus_due.specs.disk_array.specs.Steps
+use Rattle.due_model.specs.array_model.specs.Steps
 
 -- Where END is a step, the process has ended after it.
 pub ended_after : (s : ScenarioValue) (a b : Array) (id : ProcId) (status : ℕ)

@@ -11,7 +11,7 @@ use proofs.Names.{story_after_event, story_after_events, story_with_restored, st
 use proofs.Names.{story_after_out, carried_after_message_if, story_after_message, story_after_in, carried_after_byte_if}
 use proofs.Names.{story_after_byte, story_after_fault, story_in_connection, story_on_bus, story_by_change, RunState}
 use proofs.Names.{carried_here, run_state_after, reading_is, id_is, put_own, IsRowIn, reading_in, IsClear, UndoesClear}
-use Rattle.bus_due.specs.bus_story.specs.Story.{by_reset}
+use Rattle.due_model.specs.story_model.specs.Story.{by_reset}
 
 pub record SameFail (c d : CarriedBytes) : Type 0 where
   pub failure : d.failure ≡ c.failure
@@ -99,7 +99,7 @@ row_carries s k row n c now l r en link id =
 driven : (s : ScenarioValue) (b : Story) (l : Link) (d : RowReading) (row : Row) → d.crosses ≡ false
     → is_fault row.kind ≡ false → story_in_connection s b (Some l) d row ≡ b
 driven s b l d row e f =
-    ap (λ (q : Bool). if q then Rattle.bus_due.specs.bus_story.specs.TraceHistory.story_after_crossing s b l d
+    ap (λ (q : Bool). if q then Rattle.due_model.specs.story_model.specs.TraceHistory.story_after_crossing s b l d
     else story_after_fault b l row.kind) e ∙ go row.kind f
   where
     go : (kind : Kind) → is_fault kind ≡ false → story_after_fault b l kind ≡ b

@@ -71,8 +71,8 @@ pub not_to_status : (v : Serving) (attention : Bool) (phase : Phase)
     → ((phase ≡ Phase.MessageOut) × (v.plan.cause ≡ Cause.InMessage)) ⊎ ((phase ≡ Phase.MessageIn) × (attention ≡ true))
     → is_status_next (phase_leaving v attention phase).to ≡ false
 not_to_status v attention phase (inl e) = ap (λ (x : Phase). is_status_next (phase_leaving v attention x).to) e.0 ∙ ap
-    (λ (x : Cause). is_status_next (Rattle.bus_due.specs.bus_dialogue.specs.NextPhase.message_out_leaving v x).to) e.1
-    ∙ refused v
+    (λ (x : Cause). is_status_next (Rattle.due_model.specs.dialogue_model.specs.NextPhase.message_out_leaving v x).to)
+    e.1 ∙ refused v
 not_to_status v attention phase (inr e) =
     ap (λ (x : Phase). is_status_next (phase_leaving v attention x).to) e.0
     ∙ ap (λ (q : Bool). is_status_next (phase_leaving v q Phase.MessageIn).to) e.1

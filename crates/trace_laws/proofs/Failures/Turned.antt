@@ -94,8 +94,8 @@ status_marks s k row n c l id r en link item undoes ep st =
         ≡ phase_events s k.story (Some (carried_here k id)) c
     shown = row_shows s k row n c false l r en link
         ∙ (λ i. if ep i then phase_events s k.story (carried_if k.story (item i)) c
-        else if Rattle.bus_due.specs.bus_story.specs.HistoryEvents.is_completion l c
-        then Rattle.bus_due.specs.bus_story.specs.HistoryEvents.end_events (carried_if k.story l.item) else [])
+        else if Rattle.due_model.specs.story_model.specs.HistoryEvents.is_completion l c
+        then Rattle.due_model.specs.story_model.specs.HistoryEvents.end_events (carried_if k.story l.item) else [])
 
 -- ---- The code of the failure of the process that is served goes on with each row in which a phase is left for
 -- another.

@@ -13,7 +13,7 @@ use proofs.Names.{none_some, by_bool, by_option, not_waiting, not_running, no_gu
 use proofs.Names.{BeginsPlaced, IsPlacedIn, ItemFacts, no_progress, frees_bus, IsUntouched, IsAtRest, PlaceFacts}
 use proofs.{Names.{PlacedIf, PlacedIn, PlacedBefore, RunsOpen, AnsweredOpen, items_fresh}, Heard.Rows.{begun_of}}
 use proofs.Places.{First.{rest_first, shown_first}, Ready.{MayBeReady, ready_runs}}
-use Rattle.bus_due.specs.disk_array.proofs.SoundArrays.{id_is}
+use Rattle.due_model.specs.array_model.proofs.SoundArrays.{id_is}
 
 pub new_heard : (a : Array) (p : Process) → IsUntouched a p.id → is_new a p ≡ true
 new_heard a p h =

@@ -18,7 +18,7 @@ use proofs.Names.{stage_of_connection, begins_now, goes_now, row_kind, no_third,
 use proofs.Names.{BeginsPlaced, IsPlacedIn, same_process as same_id_of, served_process, CommandBooks, CommandFacts}
 use proofs.Names.{Serves, StandsIn, TakesBlock, Instructed, InstructedFacts, KnownIn, KnownNext, Named, NamedFacts}
 use proofs.{Names.{known, refused, said}, Heard.Turns.{heard_goes}}
-use Rattle.bus_due.specs.Faithful.{same_process}
+use Rattle.due_model.specs.Faithful.{same_process}
 use Rattle.story_laws.specs.link_laws.specs.Phases.{ends}
 use Rattle.story_laws.specs.book_laws.proofs.Carried.Blocks.{same_self}
 

@@ -10,7 +10,7 @@ use proofs.Places.Events.{Passes, passes_on, Turned, turned_fails, turned_none, 
 use proofs.Places.{Events.{refusal_planned, refused_so}, Leavings.{LeadsRunning, LeavesStruck, restores, fails, frees}}
 use proofs.Places.{Leavings.{from_struck_command, ArrivedTo, from_command}, Turns.{Standing, PlacedNext, none_shown}}
 use proofs.Places.Turns.{running_turn}
-use Rattle.bus_due.specs.disk_array.specs.Steps
+use Rattle.due_model.specs.array_model.specs.Steps
 
 -- ---- the events
 

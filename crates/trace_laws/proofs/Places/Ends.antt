@@ -12,8 +12,8 @@ use proofs.Names.{id_is as ids_are, self_id, is_served_by, is_out_phase, is_stat
 use proofs.Names.{leaves, rests_after, untouched_after, AreWithin, IsUntouched, IsAtRest, Closes, completes}
 use proofs.{Names.{disconnects, PlacedBefore, PlacedAsked, PlacedIn, PlacedIf, HasPlaces}, Places.Events.{Passes}}
 use proofs.Places.{Events.{passes_same, passes_step}, Turned.{other_id}}
-use Rattle.bus_due.specs.disk_array.proofs.SoundArrays.{id_is}
-use Rattle.bus_due.specs.disk_array.specs.Steps
+use Rattle.due_model.specs.array_model.proofs.SoundArrays.{id_is}
+use Rattle.due_model.specs.array_model.specs.Steps
 
 -- ---- what is asked of it
 

@@ -13,7 +13,7 @@ use proofs.Names.{guest_may_run, at_once_may_run, guest_answered, as_guest, in_q
 use proofs.Names.{within_after, is_of, untouched_after, rests_after, executed, queued_stands, AreWithin, IsUntouched}
 use proofs.Names.{IsAtRest, IsOutside, RunsOpen, AnsweredOpen, is_queued}
 use Rattle.story_laws.specs.row_laws.proofs.Events.Arriving.{Arrives, refuses}
-use Rattle.bus_due.specs.disk_array.specs.Steps
+use Rattle.due_model.specs.array_model.specs.Steps
 
 -- ---- what events of one process leave of the array
 

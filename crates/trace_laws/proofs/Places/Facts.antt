@@ -14,7 +14,7 @@ use proofs.Names.{PlaceFacts, AreRepliesShown, code_if, FailsIn, Tells, TellsAsL
 use proofs.{Closes.{Asks.{CompletesAsGiven, stay_asked}, Ends.{taken_in, lost_in, lost_by}}, Places.Asks.{places_asked}}
 use proofs.Places.{EndTells.{end_told, end_begun}, Ends.{IsEndAsked}, Joins.{PlaceLeft, places_owed}}
 use proofs.Places.{Leavings.{Repeats, commands, again, leaves, from_refusal}, Rows.{places_next}, TurnRows.{TellsOf}}
-use Rattle.bus_due.specs.disk_array.proofs.SoundArrays.{id_is}
+use Rattle.due_model.specs.array_model.proofs.SoundArrays.{id_is}
 
 coded : (q : Bool) (failure : Option ℕ) → failure ≡ code_if q PARITY_ERROR → q ≡ true → is_some failure ≡ true
 coded true failure e f = ap is_some e

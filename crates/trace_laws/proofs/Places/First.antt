@@ -10,7 +10,7 @@ use proofs.Names.{first_exchange, may_negotiate, item_if, messages_if, ready_of,
 use proofs.Names.{is_served_by, IsItem, is_process, is_abort, IsFirstRow, Begins, some_none, none_some, in_phase}
 use proofs.Names.{not_running, IsUntouched, IsAtRest, RunsOpen, PlacedBefore, PlacedIn, PlacedIf, HasPlaces, less_has}
 use proofs.{Names.{first_sent, first_served, first_made}, Places.{Next.{apart_shown}, Ready.{MayBeReady, ready_runs}}}
-use Rattle.bus_due.specs.disk_array.proofs.SoundArrays.{id_is}
+use Rattle.due_model.specs.array_model.proofs.SoundArrays.{id_is}
 
 -- What a selection is for: an item of the scenario that was not sent.
 pub record IsSelectedFor (s : ScenarioValue) (k : RunState) (n : Connection) : Type 0 where

@@ -11,7 +11,7 @@ use proofs.Names.{is_in_message, ItemFacts, OfferFacts, Offers, IsHeardOut, open
 use proofs.Names.{is_detected, rst_raised, items_fresh, free_keeps, inside_sent, parity_said, all_said}
 use proofs.Places.{Asks.{PlaceOwed}, Ends.{IsEndAsked}, First.{IsSelectedFor}, Next.{SendsNone, IsResetAsked}}
 use proofs.Places.{Stays.{IsStayAsked}, TurnRows.{TellsOf}}
-use Rattle.bus_due.specs.bus_dialogue.specs.declared.exchange.Said.{Said}
+use Rattle.due_model.specs.dialogue_model.specs.declared.exchange.Said.{Said}
 
 -- ---- what is sent
 

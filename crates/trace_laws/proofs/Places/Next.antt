@@ -10,7 +10,7 @@ use proofs.Names.{some_none, none_some, by_bool, away_rests, untouched_after, ea
 use proofs.{Names.{Waits, Runs, OnUnits, OnGuests, IsAway, IsUntouched, IsAtRest, HasPlaces}, Places.Ends.{HasFreed}}
 use proofs.Places.{Events.{passes_step}, TurnRows.{RowPlaced}}
 use Rattle.story_laws.specs.row_laws.proofs.Events.Processes.{each_settled}
-use Rattle.bus_due.specs.disk_array.specs.Steps
+use Rattle.due_model.specs.array_model.specs.Steps
 
 -- ---- what was sent
 

@@ -4,10 +4,10 @@ use Rattle.trace_laws.proofs
 use proofs.Names.{inl, inr, ℕ, ◌≡◌, ◌⊎◌, Bool, true, false, not, ◌&&◌, ◌==◌, ◌∙◌, [], ◌∷◌, Option, Some, None, refl}
 use proofs.Names.{sym, ap, subst, if◌then◌else◌, is_some, slice_index, wrong, wrong', counted_on, Event, ProcId, rises}
 use proofs.Names.{LineSet, changes_phase, is_message_out, is_message_in, receiver_in, is_fault, Row, Change, Connection}
-use proofs.Names.{Handshakes, no_handshakes, handshakes_after, answered_if, asked_if, strikes_if, MsgIn, ScenarioValue}
-use proofs.Names.{reply_in, Reply, Process, HasSeats, Array, settled_array, carried_id, row_reading, carried_if}
-use proofs.Names.{is_complete, is_completion, end_events, phase_events, link_events, row_events_by, Item, process}
-use proofs.Names.{abort, Link, Exchange, one_message, plan_after_message, plan_anew, struck_plan, phase_of}
+use proofs.Names.{Handshakes, no_handshakes, handshakes_after, answered_if, asked_if, newest_struck_if, MsgIn}
+use proofs.Names.{ScenarioValue, reply_in, Reply, Process, HasSeats, Array, settled_array, carried_id, row_reading}
+use proofs.Names.{carried_if, is_complete, is_completion, end_events, phase_events, link_events, row_events_by, Item}
+use proofs.Names.{process, abort, Link, Exchange, one_message, plan_after_message, plan_anew, struck_plan, phase_of}
 use proofs.Names.{plan_with_byte, Cause, Hearing, Leaving, Messages, Next, Phase, Plan, RunState, array_of, or_start}
 use proofs.Names.{bus_of, process_item, process_served, carried_here, run_state_after, hearing_of, leaving}
 use proofs.Names.{InConnection, in_connection, reading_is, same_phase_is, is_in_phase, IsRowIn, reading_in, GoesOn}
@@ -15,8 +15,8 @@ use proofs.Names.{counted_some, in_phase, end_is, leaves, is_complete_in, Answer
 use proofs.{Names.{PlacedBefore, IsTaken, PlacedAsked, PlacedIn, PlacedIf, HasPlaces}, Places.Events.{turned_none}}
 use proofs.Places.{Events.{passes_step}, TurnRows.{RowPlaced}, Turned.{row_turned, row_none}}
 use Rattle.story_laws.proofs.Commands.Stays.{phase_same}
-use Rattle.bus_due.specs.disk_array.proofs.SoundArrays.{id_is}
-use Rattle.bus_due.specs.disk_array.specs.Steps
+use Rattle.due_model.specs.array_model.proofs.SoundArrays.{id_is}
+use Rattle.due_model.specs.array_model.specs.Steps
 
 -- ---- what it shows
 
@@ -74,7 +74,7 @@ answers_after : (fault : Bool) (n : Connection) (c : Change) (t : ℕ) (h : Hand
     → (handshakes_after fault (Some n) c t h).answers
     ≡ (if not fault && rises c.before.ack c.after.ack then counted_on h.answers else h.answers)
 answers_after true n c t h e =
-    elim c.before.io as (λ q. (strikes_if q h).answers ≡ h.answers) [ true ↦ refl | false ↦ refl ]
+    elim c.before.io as (λ q. (newest_struck_if q h).answers ≡ h.answers) [ true ↦ refl | false ↦ refl ]
 answers_after false n c t h e = (λ i. (if e i then no_handshakes
     else answered_if (rises c.before.ack c.after.ack) t (asked_if (rises c.before.req c.after.req) t h)).answers)
     ∙ go (rises c.before.ack c.after.ack) (rises c.before.req c.after.req)

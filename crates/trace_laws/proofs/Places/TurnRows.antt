@@ -16,7 +16,7 @@ use proofs.Names.{IsUntouched, IsAtRest, IsOutside, PlacedBefore, PlacedAsked, P
 use proofs.Places.{Commands.{command_shown, command_turns}, Events.{Turned, status_events_are, queue_events_are}}
 use proofs.Places.{Leavings.{HasOneRun}, Turns.{OutOf, PlacedNext, Standing, IsLeft, reply_shown, turns}}
 use proofs.Places.Turns.{command_not_out}
-use Rattle.bus_due.specs.disk_array.proofs.SoundArrays.{id_is}
+use Rattle.due_model.specs.array_model.proofs.SoundArrays.{id_is}
 
 -- ---- what a row shows where another phase begins
 
@@ -26,11 +26,11 @@ pub shown_is : (s : ScenarioValue) (k : RunState) (row : Row) (n : Connection) (
     ≡ phase_events s k.story (carried_if k.story l.item) c
 shown_is s k row n c l r ep none link = (λ i. row_events_by s k.story (reading_is k row n c false r none i) row)
     ∙ (λ i. if r.calm i then (if rises c.own.rst c.next.rst
-    then Rattle.bus_due.specs.bus_base.specs.declared.Event.TheVariants.Reset row.dev ∷ [] else [])
+    then Rattle.due_model.specs.bus_base.specs.declared.Event.TheVariants.Reset row.dev ∷ [] else [])
     else link_events s k.story (link i) (reading_in k.story.bus_state n c false))
     ∙ ap (λ (q : Bool). if q then phase_events s k.story (carried_if k.story l.item) c
-    else (if Rattle.bus_due.specs.bus_story.specs.HistoryEvents.is_completion l c
-    then Rattle.bus_due.specs.bus_story.specs.HistoryEvents.end_events (carried_if k.story l.item) else [])) ep
+    else (if Rattle.due_model.specs.story_model.specs.HistoryEvents.is_completion l c
+    then Rattle.due_model.specs.story_model.specs.HistoryEvents.end_events (carried_if k.story l.item) else [])) ep
 
 -- Of a process.
 marks_gone : (x m : Bool) (y : Bool) (a b : List Event) → m ≡ false

@@ -11,7 +11,7 @@ use proofs.Names.{is_served_by, is_out_phase, IsRowIn, reading_in, GoesOn, none_
 use proofs.{Names.{IsUntouched, PlacedAsked, PlacedIn, PlacedIf, HasPlaces}, Places.Events.{Turned, turned_none}}
 use proofs.Places.TurnRows.{IsTurnAsked, RowPlaced, asked_by, enters, process_turn, other_shown, shown_is}
 use proofs.Places.Turns.{OutOf, PlacedNext, reply_shown}
-use Rattle.bus_due.specs.disk_array.proofs.SoundArrays.{id_is}
+use Rattle.due_model.specs.array_model.proofs.SoundArrays.{id_is}
 
 -- Another process than the one that is served.
 pub other_id : (x id : ProcId) → is_served_by (Some (process x)) id ≡ false → same_id x id ≡ false
@@ -162,8 +162,8 @@ turn_row s k row n c l h seats g ep none ef link item there whereto asked = by_s
             let u = asked.unnamed z in
             let quiet : phase_events s k.story (Some (carried_here k p.id)) c ≡ [] = other_shown s k c p.id u.1
             ∙ ap (λ (x : Bool). if x && not ((carried_here k p.id).shown || (carried_here k p.id).refused)
-            then Rattle.bus_due.specs.bus_story.specs.HistoryEvents.status_event p.id (carried_here k p.id).failure ∷ []
-            else []) u.0 in
+            then Rattle.due_model.specs.story_model.specs.HistoryEvents.status_event p.id (carried_here k p.id).failure
+            ∷ [] else []) u.0 in
             row_turned s k row a p [] q h.array_is e here
             (shown ∙ ap (λ (x : Option Item). phase_events s k.story (carried_if k.story x) c) z)
             (subst (λ (x : List Event). Turned s a p.id x q) quiet t) f
@@ -203,9 +203,9 @@ turn_row s k row n c l h seats g ep none ef link item there whereto asked = by_s
     none_shown x e f = shown ∙ by item
       where
         by : (l.item ≡ k.served) ⊎ (l.item ≡ None) → phase_events s k.story (carried_if k.story l.item) c ≡ []
-        by (inl z) = ap (λ (y : Option Item). phase_events s k.story (carried_if k.story y) c) (z ∙ e) ∙ ap
-            (λ (y : Option Rattle.bus_due.specs.bus_story.specs.CarriedBytes.CarriedBytes). phase_events s k.story y c)
-            f
+        by (inl z) = ap (λ (y : Option Item). phase_events s k.story (carried_if k.story y) c) (z ∙ e)
+            ∙ ap (λ (y : Option Rattle.due_model.specs.story_model.specs.CarriedBytes.CarriedBytes). phase_events s
+            k.story y c) f
         by (inr z) = ap (λ (y : Option Item). phase_events s k.story (carried_if k.story y) c) z
 
     by_served : (x : Option Item) → k.served ≡ x → RowPlaced s k row a

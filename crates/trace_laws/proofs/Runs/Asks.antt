@@ -386,7 +386,7 @@ run_moved s p row n o prompt was facts counted con calm off after q known crosse
     (length q.sent) (run_active s p n o was facts con calm b q task served (ap (task_if s k) served) phase)
     (byte_within (policy_of (target_def_of s q.target)) task k.handshakes.answers
     (subst (λ (x : ℕ). k.handshakes.answers < x) run answered))
-    (moved_few q (reply_now (Rattle.bus_due.specs.RunState.array_of s k) q) w)
+    (moved_few q (reply_now (Rattle.due_model.specs.RunState.array_of s k) q) w)
   where
     k : RunState
     k = run_state s p
@@ -412,10 +412,11 @@ run_moved s p row n o prompt was facts counted con calm off after q known crosse
     here = ap phase_of (sym was.plain.bus) ∙ phase
 
     task : Task
-    task = Rattle.bus_due.specs.Tasks.task_with (Rattle.bus_due.specs.RunState.array_of s k)
-        (Rattle.bus_due.specs.LastingState.progress_in k.progress q.id) q (carried_here k q.id) (reply_now
-        (Rattle.bus_due.specs.RunState.array_of s k) q) (Rattle.bus_due.specs.disk_array.specs.ArrayHistory.reply_in
-        (Rattle.bus_due.specs.RunState.array_of s k).replies q.id)
+    task = Rattle.due_model.specs.Tasks.task_with (Rattle.due_model.specs.RunState.array_of s k)
+        (Rattle.due_model.specs.LastingState.progress_in k.progress q.id) q
+        (carried_here k q.id) (reply_now (Rattle.due_model.specs.RunState.array_of s k) q)
+        (Rattle.due_model.specs.array_model.specs.ArrayHistory.reply_in
+        (Rattle.due_model.specs.RunState.array_of s k).replies q.id)
 
     target : q.target ≡ n.target
     target = (facts.served n q (was.plain.connection ∙ con)

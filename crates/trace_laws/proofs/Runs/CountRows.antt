@@ -4,7 +4,7 @@ use proofs.Names.{ℕ, ◌≡◌, ◌⊎◌, inl, inr, ◌+◌, ◌≤◌, ◌<�
 use proofs.Names.{Some, None, refl, sym, ap, subst, arith, true≢false, ◌%◌, if◌then◌else◌, is_some, nat_lt, wrong'}
 use proofs.Names.{zero_of, counted_on, change_of, rises, LineSet, changes_phase, connection, is_fault, receiver_in, bus}
 use proofs.Names.{drives, Kind, Drives, Fault, Row, Change, Connection, Handshakes, handshakes, no_handshakes}
-use proofs.Names.{handshakes_after, asked_if, answered_if, strikes_if, dialogue, byte_out, byte_in, byte_else}
+use proofs.Names.{handshakes_after, asked_if, answered_if, newest_struck_if, dialogue, byte_out, byte_in, byte_else}
 use proofs.Names.{byte_crosses, Dialogue, ScenarioValue, phase_of, Phase, run_state_plain, IsPlain, AreOfDevices}
 use proofs.Names.{RunState, run_state, InConnection, in_connection, dialogue_by, SamePhase, same_phase_is, RowKind}
 use proofs.Names.{still, strikes, crosses, turns, IsRowIn, fault_change, row_of_fault, no_rise, count_more, run_count}
@@ -136,11 +136,11 @@ data_agreement d c em ed = ap
     else if m && c.before.cd && c.before.io then byte_in d (c.after.data_bits % 256)
     else byte_else d c.before (c.after.data_bits % 256)).heard.now.agreement) em
     ∙ ap (λ (m : Bool). (if not c.before.msg && m && not c.before.io then record d {
-      heard = Rattle.bus_due.specs.bus_phases.specs.Dialogue.heard_with_command d.heard (c.after.data_bits % 256);
+      heard = Rattle.due_model.specs.bus_phases.specs.Dialogue.heard_with_command d.heard (c.after.data_bits % 256);
       begun = true;
     } else record d { begun = true }).heard.now.agreement) ed
     ∙ ap (λ (b : Bool). (if b then record d {
-      heard = Rattle.bus_due.specs.bus_phases.specs.Dialogue.heard_with_command d.heard (c.after.data_bits % 256);
+      heard = Rattle.due_model.specs.bus_phases.specs.Dialogue.heard_with_command d.heard (c.after.data_bits % 256);
       begun = true;
     } else record d { begun = true }).heard.now.agreement) (none c.before.msg)
   where
@@ -229,7 +229,7 @@ counts_stay s p row n ep after pulsed run phase short f k = subst
         let quiet = fault_quiet p row e in
         let same : handshakes (row ∷ p) ≡ handshakes p =
         ap (λ (b : Bool). handshakes_after b (connection (row ∷ p)) c row.time (handshakes p)) e
-        ∙ ap (λ (b : Bool). strikes_if b (handshakes p)) io in
+        ∙ ap (λ (b : Bool). newest_struck_if b (handshakes p)) io in
         let made : answered_if (rises c.before.ack c.after.ack) row.time
         (asked_if (rises c.before.req c.after.req) row.time (handshakes p)) ≡ handshakes p = λ i. answered_if
         (quiet.0 i) row.time (asked_if (quiet.1 i) row.time (handshakes p)) in

@@ -69,8 +69,8 @@ write_no_sense (Ok (Command.Write10 lba count)) e = refl
 pub no_room : (a : Array) (o : Option UnitState) → room_of a o ≡ None → size_of o ≡ 0
 no_room a None e = refl
 no_room a (Some u) e = some_none (record {
-  full = not (nat_lt (Rattle.bus_due.specs.disk_array.specs.Steps.process_count u) u.depth);
-  idle = Rattle.bus_due.specs.Tasks.is_idle_unit a u;
+  full = not (nat_lt (Rattle.due_model.specs.array_model.specs.Steps.process_count u) u.depth);
+  idle = Rattle.due_model.specs.Tasks.is_idle_unit a u;
 }) e
 
 pub none_in_all : (policy : Policy) (t : Task) (blocks : ℕ) → RunsFit policy t → t.blocks ≡ Some blocks → t.size ≡ 0
@@ -406,7 +406,7 @@ active_is s k q t count f served task {phase} is on b there h = go h
       where
         by : (phase_of (bus_of k) ≡ Phase.MessageIn)
             ⊎ ((phase_of (bus_of k) ≡ Phase.MessageOut) × (k.exchange.plan.cause
-            ≡ Rattle.bus_due.specs.bus_dialogue.specs.declared.exchange.Cause.TheVariants.InMessage))
+            ≡ Rattle.due_model.specs.dialogue_model.specs.declared.exchange.Cause.TheVariants.InMessage))
             → (carried_here k q.id).moved.active
             ≡ (run_at (policy_of (target_def_of s q.target)) t t.runs).start + count
         by (inl z) = wrong' (sym (ap is_data_phase (sym is ∙ z)) ∙ on)

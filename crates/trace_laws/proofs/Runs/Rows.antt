@@ -12,7 +12,7 @@ use proofs.Names.{some_none, by_bool, by_option, IsWaiting, ServedPointers, Undo
 use proofs.Names.{run_step, begins_served, begins_undoes, goes_undoes, phase_served, names_or, ends_wait, turns_served}
 use proofs.Names.{Meets, IsNot, TurnsBy, SameSaved, wait_on, over_row, start_other, apart_same, ends_same, begins_same}
 use proofs.Names.{goes_other, IsServedWell, RunsBy}
-use Rattle.bus_due.specs.disk_array.proofs.SoundArrays.{id_is}
+use Rattle.due_model.specs.array_model.proofs.SoundArrays.{id_is}
 
 -- ---- before any row
 

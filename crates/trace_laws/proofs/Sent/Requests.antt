@@ -2,9 +2,8 @@
 use Rattle.trace_laws.proofs
 use proofs.Names.{ℕ, ◌≡◌, Bool, true, false, not, ◌||◌, ◌∙◌, List, [], ◌∷◌, ◌++◌, length, refl, sym, ap, subst, drop}
 use proofs.Names.{if◌then◌else◌, is_some, nat_lt, wrong, wrong', or_true, or_false, rises, Change, Handshakes, answered}
-use proofs.Names.{answered_if, asked, asked_if, first_of, is_struck, strikes_last, opened, Request, counted_some}
-use proofs.Names.{awaits, any_struck, IsNewest, WaitsFor}
-use Rattle.bus_due.specs.bus_lines.specs.Handshakes.{strikes}
+use proofs.Names.{answered_if, asked, asked_if, first_of, is_struck, with_last_struck, opened, newest_struck, Request}
+use proofs.Names.{counted_some, awaits, any_struck, IsNewest, WaitsFor}
 
 -- Neither rises; REQ does; or ACK does, with ATN where the byte was struck that it answers, the newest or, by pulses,
 -- the oldest.
@@ -116,19 +115,19 @@ struck_on h pulsed c t (answers_oldest v er ea at) w =
 
 -- ---- a fault strikes the newest
 
-pub waits_struck : (h : Handshakes) (q : Bool) → WaitsFor h q → WaitsFor (strikes h) q
+pub waits_struck : (h : Handshakes) (q : Bool) → WaitsFor h q → WaitsFor (newest_struck h) q
 waits_struck h true w = record {
   asked = w.asked;
-  alone = ap strikes_last w.alone ∙ (λ i. record { time = h.last_req; struck = ap not (sym w.asked) i } ∷ []);
+  alone = ap with_last_struck w.alone ∙ (λ i. record { time = h.last_req; struck = ap not (sym w.asked) i } ∷ []);
 }
-waits_struck h false w = ap strikes_last w
+waits_struck h false w = ap with_last_struck w
 
-pub first_struck : (ws : List Request) → is_some (first_of ws) ≡ true → is_some (first_of (strikes_last ws)) ≡ true
+pub first_struck : (ws : List Request) → is_some (first_of ws) ≡ true → is_some (first_of (with_last_struck ws)) ≡ true
 first_struck [] e = e
 first_struck (r ∷ []) e = refl
 first_struck (r ∷ (q ∷ ws)) e = refl
 
-pub last_struck : (ws : List Request) → is_some (first_of ws) ≡ true → any_struck (strikes_last ws) ≡ true
+pub last_struck : (ws : List Request) → is_some (first_of ws) ≡ true → any_struck (with_last_struck ws) ≡ true
 last_struck [] e = wrong' e
 last_struck (r ∷ []) e = refl
 last_struck (r ∷ (q ∷ ws)) e = (λ i. r.struck || last_struck (q ∷ ws) refl i) ∙ or_true r.struck

@@ -4,16 +4,15 @@ use proofs.Names.{ℕ, ◌≡◌, Bool, true, false, ◌==◌, ◌∙◌, List, 
 use proofs.Names.{subst, if◌then◌else◌, is_some, wrong', wrong, or_true, ProcId, bus-fault, change_of, rises, LineSet}
 use proofs.Names.{changes_phase, connection, is_fault, receiver, receiver_in, receiver_of, bus, Kind, Drives, Fault}
 use proofs.Names.{Row, Change, Connection, Handshakes, first_of, handshakes, handshakes_after, no_handshakes}
-use proofs.Names.{strikes_if, INITIATOR_DETECTED_ERROR, ScenarioValue, CarriedBytes, process, Link, Serving}
-use proofs.Names.{message_out_leaving, phase_leaving, phase_of, Leaving, Phase, run_state_plain, IsPlain, AreOfDevices}
-use proofs.Names.{RunState, carried_here, run_state, in_connection, IsRowIn, RowKind, still, strikes as fault_strikes}
-use proofs.Names.{crosses, turns, data_in_lines, not_message_out, not_message_in, LinkRow, awaits, UndoesAnswers}
-use proofs.{Names.{code_if, any_struck, pulses_here, FailsBy, IsClear, SentTalk, WaitsFor}, Failures.Bytes.{SameFail}}
-use proofs.Failures.{Bytes.{still_fails}, Crossed.{CrossedBooks}, Crossings.{in_none, out_none, quiet_same}}
+use proofs.Names.{newest_struck_if, newest_struck, INITIATOR_DETECTED_ERROR, ScenarioValue, CarriedBytes, process, Link}
+use proofs.Names.{Serving, message_out_leaving, phase_leaving, phase_of, Leaving, Phase, run_state_plain, IsPlain}
+use proofs.Names.{AreOfDevices, RunState, carried_here, run_state, in_connection, IsRowIn, RowKind, still}
+use proofs.Names.{strikes as fault_strikes, crosses, turns, data_in_lines, not_message_out, not_message_in, LinkRow}
+use proofs.Names.{awaits, UndoesAnswers, code_if, any_struck, pulses_here, FailsBy, IsClear, SentTalk, WaitsFor}
+use proofs.Failures.{Bytes.{SameFail, still_fails}, Crossed.{CrossedBooks}, Crossings.{in_none, out_none, quiet_same}}
 use proofs.Failures.{Faults.{Struck, fault_crossed, fault_fails, fault_receives}, Turns.{is_sending, sends_clear}}
 use proofs.{Runs.CountRows.{data_pulses_stay}, Sent.Requests.{InStep, asked_waits, first_struck, hands_after}}
 use proofs.Sent.Requests.{last_struck, struck_on, waits_on, waits_struck}
-use Rattle.bus_due.specs.bus_lines.specs.Handshakes.{strikes}
 use Rattle.story_laws.specs.link_laws.proofs.LeavingWays as ways
 
 -- ---- MESSAGE OUT is not left for it
@@ -156,7 +155,7 @@ strikes_on s p row n w ef t = record {
   received = λ z. ap (λ (x : Handshakes). is_some (first_of x.waiting)) hand ∙ first_struck (handshakes p).waiting some;
   waits = λ u.
       subst (λ (x : Handshakes). WaitsFor x (awaits (bus (row ∷ p)))) (sym hand)
-      (subst (λ (b : LineSet). WaitsFor (strikes (handshakes p)) (awaits b)) (sym (fault_bus p row ef))
+      (subst (λ (b : LineSet). WaitsFor (newest_struck (handshakes p)) (awaits b)) (sym (fault_bus p row ef))
       (waits_struck (handshakes p) (awaits (bus p)) (t.waits (sym (pulses_same s p row n w) ∙ u))));
   code = λ id served. (struck id (sym (served_same s p row n w) ∙ served)).1
       ∙ ap (λ (q : Bool). code_if q INITIATOR_DETECTED_ERROR)
@@ -177,9 +176,9 @@ strikes_on s p row n w ef t = record {
     some : is_some (first_of (handshakes p).waiting) ≡ true
     some = t.received (fault_receives s p row n ef w.moves)
 
-    hand : handshakes (row ∷ p) ≡ strikes (handshakes p)
+    hand : handshakes (row ∷ p) ≡ newest_struck (handshakes p)
     hand = ap (λ (q : Bool). handshakes_after q (connection (row ∷ p)) c row.time (handshakes p)) ef
-        ∙ ap (λ (q : Bool). strikes_if q (handshakes p)) (data_in_lines (bus p) w.phase).2
+        ∙ ap (λ (q : Bool). newest_struck_if q (handshakes p)) (data_in_lines (bus p) w.phase).2
 
     none : RowKind row n c → is_some (receiver_in n c) ≡ false
     none (still e ep er) = ap (λ (z : Option ℕ). is_some z) er

@@ -13,7 +13,7 @@ use proofs.Names.{story_with_sent, story_after_connection, story_with_carried, i
 use proofs.Names.{carried_after_message_if, story_after_message, story_after_in, carried_after_byte_if}
 use proofs.Names.{story_after_byte, carried_after_fault_if, story_after_fault, story_in_connection, story_on_bus}
 use proofs.Names.{story_by_change, RunState, run_state_after, id_is, none_some, StoryWay, story_way}
-use Rattle.bus_due.specs.bus_story.specs.Story.{by_reset}
+use Rattle.due_model.specs.story_model.specs.Story.{by_reset}
 use Rattle.story_laws.specs.row_laws.proofs.Common.StoryWays as ways
 
 -- It holds of the status area of each process; and of that which would be brought back.

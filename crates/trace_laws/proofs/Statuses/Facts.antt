@@ -28,7 +28,7 @@ use proofs.{Closes.{Status.{area_all, first_all}, Stays.{taking, said_then}}, St
 use proofs.Statuses.{Carried.{areas_next, undo_next}, Replies.{no_link, reply_kept}, TalkTurns.{turn_talk}}
 use proofs.Statuses.{Talks.{TalksOf, still_talk, out_talk, in_talk, else_talk}, Turns.{RunsWell, runs_well}}
 use proofs.Statuses.Turns.{turned_status}
-use Rattle.bus_due.specs.disk_array.proofs.SoundArrays.{id_is}
+use Rattle.due_model.specs.array_model.proofs.SoundArrays.{id_is}
 
 pub record StatusFacts (s : ScenarioValue) (p : List Row) : Type 0 where
   pub shown : AreRepliesShown s (run_state s p)

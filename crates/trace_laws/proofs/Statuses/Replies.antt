@@ -15,7 +15,7 @@ use proofs.Names.{ends as row_ends, under_reset, AnyStage, linked, none_some, co
 use proofs.Names.{events_keep, link_none, Stood, link_connection, is_marked, IsUntouched, PlacedIf, PlaceFacts}
 use proofs.Names.{AreRepliesShown}
 use Rattle.story_laws.specs.link_laws.specs.LinkStages.{apart}
-use Rattle.bus_due.specs.disk_array.proofs.SoundArrays.{id_is}
+use Rattle.due_model.specs.array_model.proofs.SoundArrays.{id_is}
 
 -- ---- events that show no reply
 

@@ -12,7 +12,7 @@ use proofs.Names.{process_served, carried_here, run_state, array_after_events, r
 use proofs.Names.{self_id, IsRowIn, none_some, by_option, run_is, NoReplyTo, executed, reply_at, is_marked, IsTaken}
 use proofs.Names.{PlacedBefore, PlacedIn, RunsOpen, PlaceFacts, AreRepliesShown, FailsIn, FailsBefore}
 use proofs.{Places.TurnRows.{shown_is}, Statuses.Replies.{reply_stays}}
-use Rattle.bus_due.specs.disk_array.specs.Steps
+use Rattle.due_model.specs.array_model.specs.Steps
 
 -- ---- the phase that is left
 

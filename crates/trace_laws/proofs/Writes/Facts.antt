@@ -5,7 +5,7 @@ use proofs.Names.{ℕ, ◌≡◌, Bool, true, false, ◌==◌, ◌∙◌, List, 
 use proofs.Names.{◌&&◌, [], subst, and_parts, eqb-true, same_Some, if◌then◌else◌, is_some, wrong, wrong', Event, ProcId}
 use proofs.Names.{rises, change_of, LineSet, changes_phase, is_fault, receiver_in, receiver_of, bus, Row, Change}
 use proofs.Names.{Connection, Handshakes, no_handshakes, handshakes_on, handshakes_after, answered_if, asked_if}
-use proofs.Names.{strikes_if, ScenarioValue, Obeys, Process, process_of, Array, starting_array, settled_array}
+use proofs.Names.{newest_struck_if, ScenarioValue, Obeys, Process, process_of, Array, starting_array, settled_array}
 use proofs.Names.{RowReading, row_reading, CarriedBytes, row_events_by, link_events, process, has_item, Link, aim_of}
 use proofs.Names.{Exchange, phase_of, Hearing, Phase, Plan, run_state_plain, ProcessProgress, progress_in, IsPrompt}
 use proofs.Names.{IsPlain, RunState, bus_of, process_item, array_of, or_start, process_served, run_state}
@@ -22,7 +22,7 @@ use proofs.{Names.{IsFresh}, Runs.Rows.{served_id}, Writes.{Arrivals.{ArrivesNow
 use proofs.Writes.{Rows.{Around, around, out_is, runs_stay, going_units, arrival_waits}, Turns.{no_byte, a_byte}}
 use proofs.Writes.Turns.{writer_now, writer_elsewhere, progress_apart, progress_ends}
 use Rattle.story_laws.proofs.Commands.Stays.{phase_same}
-use Rattle.bus_due.specs.disk_array.specs.Steps
+use Rattle.due_model.specs.array_model.specs.Steps
 
 -- No byte is answered but with one that crosses.
 same_answers : (n : Connection) (c : Change) (time : ℕ) (h : Handshakes) → changes_phase c ≡ false
@@ -93,7 +93,7 @@ present_next s p row w n x con off begun phase served some = go w.nx.row_is
             counts false ep er io = same_answers m c row.time k.handshakes ep er io
             counts true ep er io = struck c.before.io
               where
-                struck : (y : Bool) → (strikes_if y k.handshakes).answers ≡ k.handshakes.answers
+                struck : (y : Bool) → (newest_struck_if y k.handshakes).answers ≡ k.handshakes.answers
                 struck true = refl
                 struck false = refl
 

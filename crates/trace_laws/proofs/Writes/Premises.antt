@@ -109,7 +109,7 @@ write_premises s p row o prompt was h facts resets = record {
 
     task_is : (q : Process) → process_served s k ≡ Some q → task_of s k ≡ Some
         (task_with (array_of s k) (progress_in k.progress q.id) q (carried_here k q.id) (reply_now (array_of s k) q)
-        (Rattle.bus_due.specs.disk_array.specs.ArrayHistory.reply_in (array_of s k).replies q.id))
+        (Rattle.due_model.specs.array_model.specs.ArrayHistory.reply_in (array_of s k).replies q.id))
     task_is q served = ap (task_if s k) served
 
     counted : (n : Connection) (t : Task) → connection p ≡ Some n → (bus p).rst ≡ false
@@ -136,7 +136,7 @@ write_premises s p row o prompt was h facts resets = record {
 
         t : Task
         t = task_with (array_of s k) (progress_in k.progress q.id) q (carried_here k q.id) (reply_now (array_of s k) q)
-            (Rattle.bus_due.specs.disk_array.specs.ArrayHistory.reply_in (array_of s k).replies q.id)
+            (Rattle.due_model.specs.array_model.specs.ArrayHistory.reply_in (array_of s k).replies q.id)
 
         w : is_writing q ≡ true
         w = writes n q con calm b phase served

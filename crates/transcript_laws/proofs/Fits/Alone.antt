@@ -2,12 +2,13 @@
 use Rattle.transcript_laws.proofs
 use proofs.Names.{ℕ, ◌≡◌, ◌∙◌, ◌==◌, Bool, true, false, not, ◌&&◌, List, ◌∷◌, Option, Some, None, refl, sym, ap}
 use proofs.Names.{eqb-true, list_any, wrong, wrong', and_first, and_second, eq_self, ProcId, connection, Connection}
-use proofs.Names.{Row, ScenarioValue, Obeys, CmdDef, same_number, tag_number, command_at, process_by, process_if, Item}
-use proofs.Names.{Sent, process, abort, command_item, sense_item, is_tag_clash, is_clash, is_done, sense_id, command_id}
-use proofs.Names.{is_open_sense, Story, aim_of, IsPrompt, RunState, run_state, is_open_in, IsNext, is_abort, is_sense}
-use proofs.Names.{is_next_command as is_command, aimed_next, calm_before, items_fresh, next_free, Whole, same_nexus}
-use proofs.{Names.{nexus_of, is_of, shares_nexus, is_alone}, Fits.{Senses.{SensesAlone, senses_alone}, Sent.{none_any}}}
-use Rattle.bus_due.specs.disk_array.specs.Processes.{Process, process_of}
+use proofs.Names.{Row, ScenarioValue, Obeys, CmdDef, same_number, tag_number, command_at, process_by, process_if}
+use proofs.Names.{process_of, Item, Sent, process, abort, command_item, sense_item, is_tag_clash, is_clash, is_done}
+use proofs.Names.{sense_id, command_id, is_open_sense, Story, aim_of, IsPrompt, RunState, run_state, is_open_in, IsNext}
+use proofs.Names.{is_abort, is_sense, is_next_command as is_command, aimed_next, calm_before, items_fresh, next_free}
+use proofs.{Names.{Whole, same_nexus, nexus_of, is_of, shares_nexus, is_alone}, Fits.Senses.{SensesAlone, senses_alone}}
+use proofs.Fits.Sent.{none_any}
+use Rattle.due_model.specs.array_model.specs.Processes.{Process}
 
 -- ---- commands of one nexus clash
 

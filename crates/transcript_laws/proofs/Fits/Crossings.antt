@@ -12,7 +12,7 @@ use proofs.Names.{OpenedValue, are_talk, base_parts, is_known, names_item, fits_
 use proofs.{Fits.Turns.{item_served, not_both}, Opened.{Bytes.{OpenedBytes, crosses_is, begun_crossing}, Rows.{Going}}}
 use proofs.Opened.Rows.{knows_before}
 use Rattle.progress_laws.specs.row_laws.specs.Tells.{of_process, of_abort}
-use Rattle.bus_due.specs.bus_story.specs.HistoryEvents as story_of
+use Rattle.due_model.specs.story_model.specs.HistoryEvents as story_of
 
 some_of : (o : Option ℕ) (dev : ℕ) → o ≡ Some dev → is_some o ≡ true
 some_of o dev e = ap (λ (x : Option ℕ). is_some x) e

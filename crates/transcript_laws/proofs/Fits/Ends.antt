@@ -5,18 +5,18 @@ use proofs.Names.{ℕ, ◌≡◌, ◌∙◌, ◌⊎◌, inl, inr, ◌==◌, Bool
 use proofs.Names.{None, refl, sym, ap, subst, ◌||◌, append-nil, same_Some, is_some, is_none, wrong, wrong', eq_self}
 use proofs.Names.{or_second, AbortKind, ProcId, change_of, LineSet, is_command, is_data, is_message_in, is_message_out}
 use proofs.Names.{connection, connection_after, receiver_in, bus, Change, Connection, Row, MsgOut, is_nil}
-use proofs.Names.{ScenarioValue, Obeys, AbortDef, same_number, RowReading, row_reading, abort_line_at, Item, process}
-use proofs.Names.{abort, Link, LastMessage, plain, abortive, phase_of, message_out_leaving, phase_leaving, leaving_by}
-use proofs.Names.{is_naming, abort_opening, Cause, Next, Phase, opening, IsPrompt, IsPlain, RunState, bus_of, item_of}
-use proofs.Names.{process_item, run_state, serving_of, task_if, same_kind, reading_is, in_is_whole, not_both, Gives}
-use proofs.Names.{Speaks, is_selected, change_plain, least_is, none_some, in_out, out_in, by_bool, ConnectionRow}
-use proofs.Names.{connection_row, RowFacts, Stops, ends_here, link_phase, IsClosing, IsServed, LastIn, Tells, goes_on}
-use proofs.Names.{naming_goes_on, none_heard, all_given, left_tells, IsHeard, is_heard, never_ends, in_of, LastBy}
-use proofs.Names.{Named, known, said, refused, fails_as_left, task_here, sent_asks, Whole, no_summary, kind_of}
-use proofs.Names.{summary_of, OpenedValue, opened_connection, held_part, transcribed, Incoming, Part, Departure, Loss}
-use proofs.Names.{Leave, Abortion, Summary, are_talk, base_parts, out_parts, parts_now, summary_by, name_process}
-use proofs.{Names.{is_departure, is_abortion, is_line, closing_parts, fits_end, is_named}, Fits.EndWays.{EndsBy}}
-use proofs.Fits.{EndWays.{by_messages, by_giving_up, ends_by}, Named.{Standing, standing, item_is_served}}
+use proofs.Names.{ScenarioValue, Obeys, AbortDef, same_number, process_of, RowReading, row_reading, abort_line_at, Item}
+use proofs.Names.{process, abort, Link, LastMessage, plain, abortive, phase_of, message_out_leaving, phase_leaving}
+use proofs.Names.{leaving_by, is_naming, abort_opening, Cause, Next, Phase, opening, IsPrompt, IsPlain, RunState}
+use proofs.Names.{bus_of, item_of, process_item, run_state, serving_of, task_if, same_kind, reading_is, in_is_whole}
+use proofs.Names.{not_both, Gives, Speaks, is_selected, change_plain, least_is, none_some, in_out, out_in, by_bool}
+use proofs.Names.{ConnectionRow, connection_row, RowFacts, Stops, ends_here, link_phase, IsClosing, IsServed, LastIn}
+use proofs.Names.{Tells, goes_on, naming_goes_on, none_heard, all_given, left_tells, IsHeard, is_heard, never_ends}
+use proofs.Names.{in_of, LastBy, Named, known, said, refused, fails_as_left, task_here, sent_asks, Whole, no_summary}
+use proofs.Names.{kind_of, summary_of, OpenedValue, opened_connection, held_part, transcribed, Incoming, Part}
+use proofs.Names.{Departure, Loss, Leave, Abortion, Summary, are_talk, base_parts, out_parts, parts_now, summary_by}
+use proofs.Names.{name_process, is_departure, is_abortion, is_line, closing_parts, fits_end, is_named}
+use proofs.Fits.{EndWays.{EndsBy, by_messages, by_giving_up, ends_by}, Named.{Standing, standing, item_is_served}}
 use proofs.{Fits.Named.{ServedProcess, served_process}, Held.{Ends.{HeldEnds, ends_start, ends_row}, Last.{some_said}}}
 use proofs.{Named.Facts.{named_again}, Opened.Rows.{Holds, always}, Parts.{Base.{base_held}, Ends.{last_held}}}
 use proofs.Parts.Ends.{are_silent, ends_told, summary_more, leave_departure, loss_departure, closing_now}
@@ -25,7 +25,7 @@ use proofs.Said.Naming.{outs_of, outs_now, mild_tame, IsOpening, opening_more, o
 use proofs.Said.{Naming.{names, name_steps, names_same}, Out.{abort_messages, abort_said}, Words.{said_of}}
 use proofs.{Serving.TurnSteps.{outs_talk}, Talks.{Aborts.{AbortTalk, abort_row}, Again.{AgainTalk, again_start}}}
 use proofs.Talks.{Again.{again_row, no_name}, Named.{talk_more}}
-use Rattle.bus_due.specs.disk_array.specs.Processes.{Process, process_of}
+use Rattle.due_model.specs.array_model.specs.Processes.{Process}
 use Rattle.progress_laws.specs.row_laws.specs.Tells.{of_process, of_abort}
 use Rattle.progress_laws.specs.row_laws.proofs.Lines.Crossings.{stays}
 

@@ -4,7 +4,7 @@ use proofs.Names.{ℕ, ◌≡◌, ◌∙◌, Bool, true, false, not, ◌&&◌, L
 use proofs.Names.{changes_phase, drives, last_time, Connection, Row, ScenarioValue, begun, fault_change, EndLines}
 use proofs.Names.{Linked, connected_bus, initiator_side, target_side, row_of_fault, row_of_lines, initiator_moves}
 use proofs.Names.{target_moves, phase_same, ends, LinkRow, is_unasked}
-use Rattle.bus_due.specs.bus_trace.proofs.Sets.{same_self}
+use Rattle.due_model.specs.bus_trace.proofs.Sets.{same_self}
 use Rattle.progress_laws.specs.row_laws.proofs.Lines.Rows as rows
 
 -- ---- rows with which the phase stays

@@ -2,14 +2,14 @@
 use Rattle.transcript_laws.proofs
 use proofs.Names.{◌≡◌, ◌∙◌, ◌⊎◌, inl, inr, Bool, true, false, ◌&&◌, List, [], ◌++◌, Option, Some, None, refl, sym, ap}
 use proofs.Names.{subst, ◌||◌, same_Some, is_none, wrong, or_true, ProcId, LineSet, is_message_out, connection, bus}
-use proofs.Names.{Connection, Row, MsgOut, ScenarioValue, Obeys, Item, process, abort, Link, IsPrompt, IsPlain}
-use proofs.Names.{RunState, bus_of, run_state, obeys_fits, units_are, Knows, none_some, stage_of_connection}
+use proofs.Names.{Connection, Row, MsgOut, ScenarioValue, Obeys, process_of, Item, process, abort, Link, IsPrompt}
+use proofs.Names.{IsPlain, RunState, bus_of, run_state, obeys_fits, units_are, Knows, none_some, stage_of_connection}
 use proofs.Names.{link_unbegun, IsServed, Whole, whole, OpenedValue, transcribed, are_talk, base_parts, out_parts}
 use proofs.{Names.{parts_now, summary_by, name_process, is_named}, Opened.Rows.{always}, Said.Facts.{SaidNames}}
 use proofs.Said.Facts.{OutNames, unsaid, told, Speaking, mild_said, opening_is, words_front, names_hold}
 use proofs.Said.Naming.{outs_of, outs_now, are_tame, tame_front, IsOpening, opening_more, opening_tame, no_abort}
 use proofs.{Said.{Naming.{opening_names}, Words.{said_of}}, Serving.TurnSteps.{outs_talk}, Talks.Named.{talk_more}}
-use Rattle.bus_due.specs.disk_array.specs.Processes.{Process, process_of}
+use Rattle.due_model.specs.array_model.specs.Processes.{Process}
 use Rattle.progress_laws.specs.row_laws.specs.Tells.{of_process, of_abort}
 
 -- ---- a prompt trace, at a connection that stands

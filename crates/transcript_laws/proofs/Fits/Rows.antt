@@ -14,7 +14,7 @@ use proofs.Fits.{Crossings.{completes_none, no_message_line, takes_none, names_f
 use proofs.{Fits.Turns.{talk_leaves, arrives, known_open}, Held.Last.{HeldLast}, Opened.Bytes.{crosses_is}}
 use proofs.{Opened.{Facts.{OpenedAll}, Rows.{Going, knows_before}}, Undone.Facts.{UndoesNothing}}
 use Rattle.progress_laws.specs.row_laws.specs.Tells.{of_process, of_abort}
-use Rattle.bus_due.specs.bus_story.specs.HistoryEvents as story_of
+use Rattle.due_model.specs.story_model.specs.HistoryEvents as story_of
 
 -- ---- a byte crosses
 

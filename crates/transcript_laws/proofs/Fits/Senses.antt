@@ -13,7 +13,7 @@ use proofs.Names.{NextStood, IsNext, is_abort, is_sense, is_next_command as is_c
 use proofs.Names.{calm_before, next_free, opened, same_process, events_grow, in_append, not_grown, carried_of_item}
 use proofs.Names.{change_over, Whole, standing_next, whole, ends_open, known_served, NoEnds, Shown, completes, no_ends}
 use proofs.{Names.{row_shown, sense_left, changed}, Fits.Sent.{SentAfter, as_before, one_more, row_sends}}
-use Rattle.bus_due.specs.bus_trace.specs.declared.Row.{Row}
+use Rattle.due_model.specs.bus_trace.specs.declared.Row.{Row}
 use Rattle.progress_laws.specs.book_laws.specs.Traces.{apart, ends, goes_on, under_reset}
 
 abbrev is_checked : Sent → ℕ → Bool

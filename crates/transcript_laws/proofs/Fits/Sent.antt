@@ -2,14 +2,13 @@
 use Rattle.transcript_laws.proofs
 use proofs.Names.{ℕ, zero, suc, ◌≡◌, ◌∙◌, ◌+◌, Bool, true, false, not, ◌&&◌, List, [], ◌∷◌, Option, Some, None, refl}
 use proofs.Names.{sym, ap, subst, arith, ◌||◌, list_any, is_some, if◌then◌else◌, wrong', and_false, Event, ProcId}
-use proofs.Names.{Connection, Row, ScenarioValue, CmdDef, none_at, command_at, process_if, event_sent, events_sent}
-use proofs.Names.{RowReading, row_reading, row_events_by, Item, Sent, process, abort, same_item, has_item, sense_item}
-use proofs.Names.{Link, link_of, Story, by_reset, story_with_ends, story_after_event, aim_of, story_with_sent}
-use proofs.Names.{story_with_restored, story_after_connection, story_in_connection, story_on_bus, story_by_change}
-use proofs.Names.{RunState, run_state, run_state_after, id_is, aims_are, IsItem, is_process, none_some, AreChecked}
-use proofs.Names.{IsChecked, reset_senses, own_has, more_has, free_keeps, restored_sent, inside_sent, reset_over}
-use proofs.Names.{is_open_process, ends_all}
-use Rattle.bus_due.specs.disk_array.specs.Processes.{process_of}
+use proofs.Names.{Connection, Row, ScenarioValue, CmdDef, none_at, command_at, process_if, process_of, event_sent}
+use proofs.Names.{events_sent, RowReading, row_reading, row_events_by, Item, Sent, process, abort, same_item, has_item}
+use proofs.Names.{sense_item, Link, link_of, Story, by_reset, story_with_ends, story_after_event, aim_of}
+use proofs.Names.{story_with_sent, story_with_restored, story_after_connection, story_in_connection, story_on_bus}
+use proofs.Names.{story_by_change, RunState, run_state, run_state_after, id_is, aims_are, IsItem, is_process, none_some}
+use proofs.Names.{AreChecked, IsChecked, reset_senses, own_has, more_has, free_keeps, restored_sent, inside_sent}
+use proofs.Names.{reset_over, is_open_process, ends_all}
 use Rattle.progress_laws.specs.book_laws.specs.Items.{is_abort}
 
 -- ---- what a row sends

@@ -4,14 +4,14 @@ use Rattle.transcript_laws.proofs
 use proofs.Names.{ℕ, ◌≡◌, ◌∙◌, ◌⊎◌, inl, inr, Bool, true, false, not, ◌&&◌, List, [], ◌∷◌, Option, Some, None, refl}
 use proofs.Names.{sym, ap, subst, ◌||◌, same_Some, is_some, if◌then◌else◌, wrong, wrong', or_true, or_none_first}
 use proofs.Names.{ProcId, LineSet, changes_phase, is_command, is_data, is_message_in, is_message_out, is_fault}
-use proofs.Names.{receiver_in, Change, Connection, Row, is_nil, ScenarioValue, reply_in, Reply, CarriedBytes}
-use proofs.Names.{carried_of, is_whole_block, is_status_phase, Item, process, abort, has_item, Link, phase_of, Phase}
-use proofs.Names.{IsPlain, RunState, or_start, bus_of, process_item, run_state, process_id, InConnection, in_connection}
-use proofs.Names.{Knows, none_some, command_phase, by_bool, is_marked, IsUntouched, PlacedIf, PlacedIn, IsServed}
-use proofs.Names.{over_after, link_still, unbegun_lines, Named, known, said, refused, OpenedValue, is_open_item}
-use proofs.{Names.{arrives_first, leaves_talk, gets_known}, Opened.{Bytes.{OpenedBytes, begun_turned}, Rows.{Going}}}
-use proofs.Opened.Rows.{plain_before, knows_before}
-use Rattle.bus_due.specs.disk_array.specs.Processes.{Process, process_of}
+use proofs.Names.{receiver_in, Change, Connection, Row, is_nil, ScenarioValue, reply_in, Reply, process_of}
+use proofs.Names.{CarriedBytes, carried_of, is_whole_block, is_status_phase, Item, process, abort, has_item, Link}
+use proofs.Names.{phase_of, Phase, IsPlain, RunState, or_start, bus_of, process_item, run_state, process_id}
+use proofs.Names.{InConnection, in_connection, Knows, none_some, command_phase, by_bool, is_marked, IsUntouched}
+use proofs.Names.{PlacedIf, PlacedIn, IsServed, over_after, link_still, unbegun_lines, Named, known, said, refused}
+use proofs.{Names.{OpenedValue, is_open_item, arrives_first, leaves_talk, gets_known}, Opened.Bytes.{OpenedBytes}}
+use proofs.Opened.{Bytes.{begun_turned}, Rows.{Going, plain_before, knows_before}}
+use Rattle.due_model.specs.array_model.specs.Processes.{Process}
 use Rattle.progress_laws.specs.row_laws.specs.Tells.{of_process, of_abort}
 
 -- ---- items

@@ -13,7 +13,7 @@ use proofs.Opened.Bytes.{CrossingMade, crossed_out, crossed_in, crossed_status, 
 use proofs.Opened.{Bytes.{out_same}, Rows.{Going, RowMade, made_still, made_crossing, made_turn, plain_before}}
 use proofs.{Opened.Rows.{knows_before}, Parts.Lists.{none_held}, Said.Words.{SaidWords, said_of}}
 use Rattle.bus_transcript.specs.declared.part.Incoming.TheVariants.{Whole}
-use Rattle.bus_due.specs.bus_story.specs.HistoryEvents as story_of
+use Rattle.due_model.specs.story_model.specs.HistoryEvents as story_of
 
 pub record HeldLast (k : RunState) (o : OpenedValue) : Type 0 where
   pub same : is_message_out (bus_of k) ≡ false → (l : Link) → k.story.link ≡ Some l

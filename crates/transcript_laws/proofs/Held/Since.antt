@@ -21,10 +21,10 @@ use proofs.Opened.Bytes.{KeepsTalk, still_keeps, turned, CrossingMade, crossed_o
 use proofs.Opened.Bytes.{crossed_else, crossing_made, lines_same, out_same, in_same, begun_same, begun_crossing}
 use proofs.{Opened.Rows.{Going, RowMade, made_still, made_crossing, made_turn, knows_before}, Parts.Lists.{over_keeps}}
 use proofs.Talks.Named.{TalkNamed, base_talk, in_talk, turn_talk}
-use Rattle.bus_due.specs.bus_phases.specs.Reading.{reading_in}
+use Rattle.due_model.specs.bus_phases.specs.Reading.{reading_in}
 use Rattle.bus_transcript.specs.declared.part.Incoming.TheVariants.{Whole}
 use Rattle.progress_laws.specs.row_laws.specs.Tells.{of_process, of_abort}
-use Rattle.bus_due.specs.bus_story.specs.HistoryEvents as story_of
+use Rattle.due_model.specs.story_model.specs.HistoryEvents as story_of
 
 -- In MESSAGE IN, with no message half heard, once a byte has crossed; and in a MESSAGE OUT that follows.
 pub record IsHeardIn (k : RunState) : Type 0 where

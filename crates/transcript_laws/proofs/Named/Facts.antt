@@ -4,21 +4,21 @@ use Rattle.transcript_laws.proofs
 use proofs.Names.{◌≡◌, ◌∙◌, Bool, true, false, ◌&&◌, List, [], ◌∷◌, ◌++◌, Option, Some, None, refl, sym, ap, subst}
 use proofs.Names.{◌||◌, not, same_Some, is_some, is_none, if◌then◌else◌, wrong, wrong', nil_of, or_true, ProcId}
 use proofs.Names.{LineSet, changes_phase, is_message_in, connection, is_fault, receiver_in, bus, Connection, Row}
-use proofs.Names.{Handshakes, no_handshakes, MsgIn, ScenarioValue, Obeys, row_reading, Item, process, abort, Link}
-use proofs.Names.{aim_of, no_messages, bytes_of_messages, first_plan, naming_messages, is_naming, Plan, run_state_plain}
-use proofs.Names.{IsPrompt, IsPlain, RunState, bus_of, process_item, run_state, exchange_after, leaving_of}
-use proofs.Names.{served_after, item_if, may_negotiate, messages_if, ready_of, obeys_fits, units_are, in_connection}
-use proofs.Names.{AreGiven, OnMessage, IsNoName, half_after, Begins, IsReadyFor, by_bool, beginning, items_found, Whole}
-use proofs.Names.{no_summary, OpenedValue, opened_connection, transcribed, are_talk, base_parts, out_parts, parts_now}
-use proofs.{Names.{summary_by, name_process, is_named}, Fits.Named.{Standing, standing, item_is_served, served_process}}
-use proofs.Named.Heard.{ins_of, heard_names, AreNames, again_abort, names_of_parts, none_said, says_name, repeats_name}
-use proofs.Named.{Parts.{ins_held, since_made, names_now}, Rows.{AgainNames, saying, refused, known, told_now}}
-use proofs.{Named.{Rows.{again_still, again_crossing}, Turns.{again_turn}}, Opened.Bytes.{KeepsTalk, still_keeps}}
-use proofs.Opened.{Bytes.{crossing_made}, Rows.{Going, Starts, Holds, RowMade, made_still, made_crossing, made_turn}}
-use proofs.{Opened.Rows.{always}, Said.{Facts.{SaidNames, NoNames, mild_said, speaking, names_hold}, Naming.{outs_of}}}
-use proofs.Said.{Naming.{outs_now, are_tame, mild_more, mild_tame, name_by}, Out.{unit_small}}
-use proofs.{Serving.TurnSteps.{outs_talk}, Talks.Named.{talk_more}}
-use Rattle.bus_due.specs.disk_array.specs.Processes.{Process, process_of}
+use proofs.Names.{Handshakes, no_handshakes, MsgIn, ScenarioValue, Obeys, process_of, row_reading, Item, process, abort}
+use proofs.Names.{Link, aim_of, no_messages, bytes_of_messages, first_plan, naming_messages, is_naming, Plan}
+use proofs.Names.{run_state_plain, IsPrompt, IsPlain, RunState, bus_of, process_item, run_state, exchange_after}
+use proofs.Names.{leaving_of, served_after, item_if, may_negotiate, messages_if, ready_of, obeys_fits, units_are}
+use proofs.Names.{in_connection, AreGiven, OnMessage, IsNoName, half_after, Begins, IsReadyFor, by_bool, beginning}
+use proofs.Names.{items_found, Whole, no_summary, OpenedValue, opened_connection, transcribed, are_talk, base_parts}
+use proofs.{Names.{out_parts, parts_now, summary_by, name_process, is_named}, Fits.Named.{Standing, standing}}
+use proofs.{Fits.Named.{item_is_served, served_process}, Named.Heard.{ins_of, heard_names, AreNames, again_abort}}
+use proofs.Named.{Heard.{names_of_parts, none_said, says_name, repeats_name}, Parts.{ins_held, since_made, names_now}}
+use proofs.Named.{Rows.{AgainNames, saying, refused, known, told_now, again_still, again_crossing}, Turns.{again_turn}}
+use proofs.Opened.{Bytes.{KeepsTalk, still_keeps, crossing_made}, Rows.{Going, Starts, Holds, RowMade, made_still}}
+use proofs.{Opened.Rows.{made_crossing, made_turn, always}, Said.Facts.{SaidNames, NoNames, mild_said, speaking}}
+use proofs.Said.{Facts.{names_hold}, Naming.{outs_of, outs_now, are_tame, mild_more, mild_tame, name_by}}
+use proofs.{Said.Out.{unit_small}, Serving.TurnSteps.{outs_talk}, Talks.Named.{talk_more}}
+use Rattle.due_model.specs.array_model.specs.Processes.{Process}
 
 pub record NamesAgain (s : ScenarioValue) (k : RunState) (n : Connection) (o : OpenedValue) : Type 0 where
   pub names : SaidNames s k n o

@@ -8,8 +8,8 @@ use proofs.Names.{is_nil, left_of, tag_number, whole_in, bytes_of_messages, mess
 use proofs.Names.{naming_messages, tag_named, is_name, is_naming, Messages, all_bytes, identify_got, Tagged, bare}
 use proofs.Names.{numbered, tagged_is, no_summary, named, unit_in, tag_in, summary_of, summary_in, summary_out, Part}
 use proofs.{Names.{Loss, Summary, out_parts, summary_by}, Said.Naming.{outs_of, is_tame, are_tame}}
-use Rattle.bus_due.specs.disk_array.specs.Processes.{Process}
-use Rattle.bus_due.specs.msg_grammar.specs.Grammar.{is_abort}
+use Rattle.due_model.specs.array_model.specs.Processes.{Process}
+use Rattle.due_model.specs.msg_grammar.specs.Grammar.{is_abort}
 
 -- ---- the messages of a target among parts
 

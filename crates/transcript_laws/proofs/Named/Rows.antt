@@ -16,8 +16,8 @@ use proofs.{Named.Parts.{heard_held, base_names, void_names}, Opened.Bytes.{Keep
 use proofs.Opened.Bytes.{crossed_in, crossed_status, crossed_else, lines_same, out_same, in_same, begun_same}
 use proofs.{Opened.{Bytes.{begun_crossing}, Rows.{Going}}, Said.Facts.{Speaking, IsOpened, words_front}}
 use proofs.Said.Out.{SaysParity, refusing, plain_words, says_parity, is_plain_said}
-use Rattle.bus_due.specs.bus_phases.specs.Reading.{reading_in}
-use Rattle.bus_due.specs.disk_array.specs.Processes.{Process}
+use Rattle.due_model.specs.bus_phases.specs.Reading.{reading_in}
+use Rattle.due_model.specs.array_model.specs.Processes.{Process}
 
 -- ---- what is kept
 

@@ -17,7 +17,7 @@ use proofs.Named.{Heard.{says_again, names_said, repeats_from, repeats_name, set
 use proofs.Named.{Parts.{base_names, turned_names, in_turned, void_turned}, Rows.{AreTold, AgainNames, saying, refused}}
 use proofs.{Named.Rows.{known, told_now}, Opened.{Facts.{OpenedAll}, Rows.{Going, plain_before}}, Said.Facts.{Speaking}}
 use proofs.{Said.{Facts.{IsOpened}, Out.{said_one}, Words.{said_of}}, Talks.Named.{known_plan}}
-use Rattle.bus_due.specs.disk_array.specs.Processes.{Process}
+use Rattle.due_model.specs.array_model.specs.Processes.{Process}
 use Rattle.progress_laws.specs.row_laws.specs.Offers.{opens}
 
 -- ---- how MESSAGE IN and MESSAGE OUT are left

@@ -8,7 +8,7 @@ use proofs.{Names.{run_state, OpenedValue, opened_connection, transcribed}, Held
 use proofs.{Held.Since.{HeldSince, since_row}, Opened.{Bytes.{OpenedBytes, bytes_hold}, Rows.{Starts, Holds, always}}}
 use proofs.{Said.Words.{SaidWords, words_hold}, Talks.{Named.{TalkNamed, named_row}, Status.{StatusTalk}}}
 use proofs.Talks.Status.{status_starts, status_row}
-use Rattle.bus_due.specs.bus_story.specs.HistoryEvents as story_of
+use Rattle.due_model.specs.story_model.specs.HistoryEvents as story_of
 
 pub record OpenedAll (k : RunState) (n : Connection) (o : OpenedValue) : Type 0 where
   pub bytes : OpenedBytes k n o

@@ -7,7 +7,7 @@ use proofs.Names.{last_in, no_summary, summary_out, summary_in, summary_after, s
 use proofs.Names.{data_parts, phase_parts, Incoming, Broken, Part, Loss, Leave, Abortion, Summary, is_talk, out_parts}
 use proofs.{Names.{parts_now, summary_by, closing_parts}, Parts.Lists.{over_parts}, Said.Naming.{is_tame, are_tame}}
 use Rattle.bus_transcript.specs.declared.part.Incoming.TheVariants.{Whole}
-use Rattle.bus_due.specs.msg_grammar.specs.Grammar.{is_abort}
+use Rattle.due_model.specs.msg_grammar.specs.Grammar.{is_abort}
 
 -- ---- messages that tell that the connection ends
 

@@ -3,13 +3,14 @@ use Rattle.transcript_laws.proofs
 use proofs.Names.{ℕ, ◌≡◌, ◌∙◌, Bool, true, false, ◌&&◌, not, List, [], ◌∷◌, ◌++◌, Option, Some, None, refl, sym, ap}
 use proofs.Names.{subst, append_assoc, append-nil, is_some, if◌then◌else◌, Event, ProcId, LineSet, is_command, is_data}
 use proofs.Names.{is_message_in, Connection, MsgOut, is_nil, CarriedBytes, AccountValue, account_of, with_block}
-use proofs.Names.{account_after_all, OpenedValue, data_parts, phase_parts, process_of, process_after, with_process}
+use proofs.Names.{account_after_all, OpenedValue, data_parts, phase_parts, process_after, with_process}
 use proofs.Names.{TranscriberValue, name_of, account_parts, abort_item, departed, departed_if, closed_by, Name, Part}
 use proofs.Names.{Process, Departure, Loss, Leave, Abortion, Summary, base_parts, out_parts, parts_now, closing_parts}
 use proofs.{Names.{IsAsBegun, IsServing, IsAccountOf, account_base, shown_items}, Accounts.Items.{all_after}}
 use proofs.{Accounts.{Items.{parts_name, behind, account_is}, Steps.{same_account}}, Parts.Lists.{over_parts}}
 use proofs.{Parts.{Lists.{broken_parts}, Shown.{part_more, talk_more}}, Serving.TurnSteps.{phase_account, same_block}}
 use proofs.Serving.TurnSteps.{spoken_same, outs_talk, broken_talk, data_shown}
+use Rattle.bus_transcript.specs.Processes.{process_of}
 use Rattle.bus_transcript.specs.declared.item.Item.{Item}
 pub use Rattle.transcript_laws.proofs.Serving.Steps.{account_by}
 

@@ -7,7 +7,7 @@ use proofs.Names.{event_shown, items_if, items_told, named_events, Name, IsEvent
 use proofs.Names.{AreEventsSent, items_by, AreRefused, IsPast, is_refusal, is_answer, has_refusal, has_answer}
 use proofs.{Names.{shown_items}, Processes.Sent.{name_before, name_later, has_append}}
 use Rattle.bus_transcript.specs.declared.item.Item.{Item}
-use Rattle.bus_due.specs.bus_story.specs.Items as told
+use Rattle.due_model.specs.story_model.specs.Items as told
 
 -- ---- what was said before
 

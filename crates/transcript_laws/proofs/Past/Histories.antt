@@ -5,7 +5,7 @@ use proofs.Names.{or_right, reverse-append, flat_map, list_any, wrong', or_later
 use proofs.Names.{story, trace_history, self_id, id_is, name_same, same_name, names_begun, name_sent, named_if}
 use proofs.Names.{refused_name, refused_names, TellsHistory, transcript_of, Name, IsPast, AreApart, is_refusal}
 use proofs.{Names.{has_refusal, is_listed}, Processes.Sent.{or_turned}}
-use Rattle.bus_due.specs.bus_story.specs.Items as told
+use Rattle.due_model.specs.story_model.specs.Items as told
 
 -- ---- lists
 

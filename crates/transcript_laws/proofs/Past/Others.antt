@@ -6,7 +6,7 @@ use proofs.Names.{append-nil, if◌then◌else◌, Event, ProcId, Connection, no
 use proofs.{Names.{Name, Part, Process, Summary, AreEventsSent, IsPast, shown_items}, Past.Closings.{account_by}}
 use proofs.Past.{Closings.{leaving_items, connection_items}, Events.{shown_append, past_more}, Own.{connection_names}}
 use Rattle.bus_transcript.specs.declared.item.Item.{Item}
-use Rattle.bus_due.specs.bus_story.specs.Items as told
+use Rattle.due_model.specs.story_model.specs.Items as told
 
 -- That of an abort is the name of no process.
 abort_named : (j : ℕ) (names : List Name) (id : ProcId) → name_sent (told.abort j ∷ []) names id ≡ None

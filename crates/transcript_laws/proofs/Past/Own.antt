@@ -11,7 +11,7 @@ use proofs.Past.{Closings.{departure_items, leaving_items, connection_items}, Ev
 use proofs.{Past.Events.{past_more}, Processes.Sent.{name_own, has_append}, Serving.Steps.{conn_items}}
 use proofs.Serving.Turns.{conn_append, refused_less}
 use Rattle.bus_transcript.specs.declared.item.Item.{Item}
-use Rattle.bus_due.specs.bus_story.specs.Items as told
+use Rattle.due_model.specs.story_model.specs.Items as told
 
 -- ---- the events of a process, with its name
 

@@ -3,12 +3,12 @@ use Rattle.transcript_laws.proofs
 use proofs.Names.{ℕ, zero, suc, ◌≡◌, ◌∙◌, ◌+◌, ◌≤◌, Bool, true, false, List, [], ◌∷◌, ◌++◌, length, Option, Some, None}
 use proofs.Names.{refl, sym, ap, subst, arith, ◌||◌, or_left, length-append, same_Some, if◌then◌else◌, ⊤, wrong, wrong'}
 use proofs.Names.{or_true, plus_none, ProcId, connection, connection_after, Row, ScenarioValue, Obeys, AbortDef, CmdDef}
-use proofs.Names.{none_at, command_at, process_if, row_reading, abort_line_at, Item, process, abort, same_item}
-use proofs.Names.{has_item, command_item, sense_item, IsPrompt, IsPlain, RunState, run_state, obeys_fits, aims_are}
-use proofs.Names.{IsItem, is_process, change_plain, least_is, none_some, plus_one, items_fresh, item_is, own_has}
-use proofs.{Names.{more_has, Whole, whole}, Fits.Sent.{SentAfter, as_before, one_more, row_sends}}
+use proofs.Names.{none_at, command_at, process_if, process_of, row_reading, abort_line_at, Item, process, abort}
+use proofs.Names.{same_item, has_item, command_item, sense_item, IsPrompt, IsPlain, RunState, run_state, obeys_fits}
+use proofs.Names.{aims_are, IsItem, is_process, change_plain, least_is, none_some, plus_one, items_fresh, item_is}
+use proofs.{Names.{own_has, more_has, Whole, whole}, Fits.Sent.{SentAfter, as_before, one_more, row_sends}}
 use proofs.Processes.Sent.{has_append}
-use Rattle.bus_due.specs.disk_array.specs.Processes.{Process, process_of}
+use Rattle.due_model.specs.array_model.specs.Processes.{Process}
 use Rattle.progress_laws.specs.book_laws.specs.Items.{is_abort}
 
 -- ---- lists without repetition

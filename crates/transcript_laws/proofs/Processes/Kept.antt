@@ -1,10 +1,11 @@
 -- The processes that are kept stay, but for that of the connection that is over, which is put in its place.
 use Rattle.transcript_laws.proofs
 use proofs.Names.{◌≡◌, ◌∙◌, Bool, true, false, List, ◌++◌, length, Some, ap, if◌then◌else◌, ProcId, ScenarioValue}
-use proofs.Names.{CarriedBytes, carried_of, Item, process, has_item, AccountValue, name_sent, Key, process_of}
-use proofs.Names.{with_last, same_nexus, Name, Process, IsKept, nexus_of, IsAccountOf, IsKeptOf}
-use proofs.Processes.{Last.{is_last}, Sent.{name_before}}
-use Rattle.bus_due.specs.disk_array.specs.Processes as array_of
+use proofs.Names.{CarriedBytes, carried_of, Item, process, has_item, AccountValue, name_sent, Key, with_last}
+use proofs.{Names.{same_nexus, Name, Process, IsKept, nexus_of, IsAccountOf, IsKeptOf}, Processes.Last.{is_last}}
+use proofs.Processes.Sent.{name_before}
+use Rattle.bus_transcript.specs.Processes.{process_of}
+use Rattle.due_model.specs.array_model.specs.Processes as array_of
 
 -- The account of a connection is what is kept of its process.
 pub account_kept : (a : AccountValue) (c : CarriedBytes) → IsAccountOf a c → IsKeptOf a.process c

@@ -2,8 +2,9 @@
 use Rattle.transcript_laws.proofs
 use proofs.Names.{ℕ, ◌≡◌, ◌∙◌, Bool, true, false, List, [], ◌∷◌, Option, Some, None, refl, sym, ap, ◌&&◌, ◌==◌}
 use proofs.Names.{eqb-true, and_parts, is_at, insert_entry, lookup, is_eq, match_ordering, if◌then◌else◌, Ordering}
-use proofs.Names.{Less, Equal, Greater, wrong', eq_turned, same_number, by_key, Key, key_of, key_cmp, process_of}
-use proofs.Names.{with_last, same_nexus, IsLast, Name, Process}
+use proofs.Names.{Less, Equal, Greater, wrong', eq_turned, same_number, by_key, Key, key_of, key_cmp, with_last}
+use proofs.Names.{same_nexus, IsLast, Name, Process}
+use Rattle.bus_transcript.specs.Processes.{process_of}
 
 -- ---- keys that are the same
 

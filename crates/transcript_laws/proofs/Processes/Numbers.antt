@@ -3,8 +3,9 @@ use Rattle.transcript_laws.proofs
 use proofs.Names.{ℕ, ◌≡◌, ◌∙◌, ◌+◌, ◌<◌, ◌≤◌, ◌==◌, Bool, true, false, not, ◌&&◌, List, [], ◌∷◌, ◌++◌, length, Option}
 use proofs.Names.{Some, None, refl, sym, ap, arith, subst, eq-eqb, and_from, nat_tests, length-append, same_Some}
 use proofs.Names.{if◌then◌else◌, wrong, and_false, number_same, none_some, by_bool, same_name, Key, next_number}
-use proofs.Names.{process_of, with_last, same_nexus, process_after, Name, Process, OnNames, AreOther, AreDistinct}
-use proofs.{Names.{HasLast, AreNumbered}, Processes.Last.{is_last, nexus_is, nexus_turned}}
+use proofs.Names.{with_last, same_nexus, process_after, Name, Process, OnNames, AreOther, AreDistinct, HasLast}
+use proofs.{Names.{AreNumbered}, Processes.Last.{is_last, nexus_is, nexus_turned}}
+use Rattle.bus_transcript.specs.Processes.{process_of}
 
 -- ---- numbers
 

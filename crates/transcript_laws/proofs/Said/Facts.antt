@@ -5,12 +5,12 @@ use proofs.Names.{ℕ, ◌≡◌, ◌∙◌, Bool, true, false, not, ◌&&◌, �
 use proofs.Names.{ap, subst, append-nil, same_Some, is_some, if◌then◌else◌, wrong, wrong', and_true, ProcId, rises}
 use proofs.Names.{LineSet, changes_phase, is_command, is_data, is_message_in, is_message_out, is_fault, connection}
 use proofs.Names.{receiver_in, Change, Connection, Row, MsgIn, MsgOut, is_nil, ScenarioValue, CmdDef, command_at}
-use proofs.Names.{process_by, process_if, message_in, message_out, is_status_phase, Item, Sent, process, abort, aim_of}
-use proofs.Names.{Exchange, plan_anew, plan_after_message, struck_plan, cause_after, plan_in_message_out, host_answer}
-use proofs.Names.{process_opening, Cause, Plan, host_of, opening, RunState, bus_of, process_item, run_state}
-use proofs.Names.{served_after, item_if, hearing_of, leaving, ready_of, obeys_fits, units_are, AreUnits, InConnection}
-use proofs.Names.{in_connection, reading_in, AreWordsFor, AreWordsHeard, IsSpeaking, opens, refuses, answers}
-use proofs.Names.{rejects_data, rejects_status, is_selected, Begins, connected_bus, ends_selected, in_out}
+use proofs.Names.{process_by, process_if, process_of, message_in, message_out, is_status_phase, Item, Sent, process}
+use proofs.Names.{abort, aim_of, Exchange, plan_anew, plan_after_message, struck_plan, cause_after, plan_in_message_out}
+use proofs.Names.{host_answer, process_opening, Cause, Plan, host_of, opening, RunState, bus_of, process_item}
+use proofs.Names.{run_state, served_after, item_if, hearing_of, leaving, ready_of, obeys_fits, units_are, AreUnits}
+use proofs.Names.{InConnection, in_connection, reading_in, AreWordsFor, AreWordsHeard, IsSpeaking, opens, refuses}
+use proofs.Names.{answers, rejects_data, rejects_status, is_selected, Begins, connected_bus, ends_selected, in_out}
 use proofs.Names.{out_no_status, out_phase, plan_out, by_bool, link_unbegun, IsNext, is_abort, is_sense}
 use proofs.Names.{is_next_command, aimed_next, beginning, calm_before, Whole, OpenedValue, held_part, is_complete}
 use proofs.Names.{is_completion, with_part, with_fault, with_in_if, phase_entered, phase_over, phase_parts, data_parts}
@@ -22,7 +22,7 @@ use proofs.{Parts.{Base.{base_turned}, Lists.{broken_parts}}, Said.Naming.{outs_
 use proofs.Said.{Naming.{are_mild, mild_more, mild_front, offers_mild, IsOpening, opening_more}, Out.{process_said}}
 use proofs.Said.{Out.{said_one, offers_if, unit_small}, Words.{SaidWords, said_of, said_append, left_half}}
 use proofs.{Serving.TurnSteps.{outs_talk}, Talks.Named.{base_talk, talk_more}}
-use Rattle.bus_due.specs.disk_array.specs.Processes.{Process, process_of}
+use Rattle.due_model.specs.array_model.specs.Processes.{Process}
 
 -- ---- what is kept
 

@@ -4,12 +4,13 @@ use Rattle.transcript_laws.proofs
 use proofs.Names.{ℕ, ◌≡◌, ◌∙◌, Bool, true, false, not, ◌&&◌, List, [], ◌∷◌, ◌++◌, Option, Some, None, refl, sym, ap}
 use proofs.Names.{◌==◌, append_assoc, is_some, is_none, nat_lt, if◌then◌else◌, wrong', and_first, and_second, eq_self}
 use proofs.Names.{ProcId, Connection, MsgOut, ScenarioValue, HostDef, Tag, number_same, same_number, tag_number}
-use proofs.Names.{no_summary, named, unit_out, tag_out, last_abort, departure_out, summary_out, summary_in, summary_of}
-use proofs.Names.{OpenedValue, held_part, Incoming, Broken, Part, Departure, Loss, Summary, held_parts, base_parts}
-use proofs.{Names.{out_parts, parts_now, summary_by, is_of, name_process}, Said.Out.{tag_messages, offers_if}}
-use Rattle.bus_due.specs.disk_array.specs.Processes.{Process, process_of}
+use proofs.Names.{process_of, no_summary, named, unit_out, tag_out, last_abort, departure_out, summary_out, summary_in}
+use proofs.Names.{summary_of, OpenedValue, held_part, Incoming, Broken, Part, Departure, Loss, Summary, held_parts}
+use proofs.{Names.{base_parts, out_parts, parts_now, summary_by, is_of, name_process}, Said.Out.{tag_messages}}
+use proofs.Said.Out.{offers_if}
+use Rattle.due_model.specs.array_model.specs.Processes.{Process}
 use Rattle.bus_transcript.specs.declared.part.Incoming.TheVariants.{Whole}
-use Rattle.bus_due.specs.msg_grammar.specs.Grammar.{is_abort}
+use Rattle.due_model.specs.msg_grammar.specs.Grammar.{is_abort}
 
 -- ---- the messages of an initiator among parts
 

@@ -2,11 +2,11 @@
 use Rattle.transcript_laws.proofs
 use proofs.Names.{ℕ, zero, suc, ◌≡◌, ◌∙◌, ◌<◌, Bool, true, false, not, ◌&&◌, List, [], ◌∷◌, ◌++◌, Option, Some, None}
 use proofs.Names.{refl, sym, ap, arith, append-nil, nat_lt, if◌then◌else◌, AbortKind, Connection, FitsOut, form_out}
-use proofs.Names.{out_bytes, MsgOut, ScenarioValue, AbortDef, HostDef, Tag, abort_line_at, Item, process, abort}
-use proofs.Names.{is_parity_error, Exchange, offer_if, tag_bytes, abort_bytes, process_opening, abort_opening}
+use proofs.Names.{out_bytes, MsgOut, ScenarioValue, AbortDef, HostDef, Tag, process_of, abort_line_at, Item, process}
+use proofs.Names.{abort, is_parity_error, Exchange, offer_if, tag_bytes, abort_bytes, process_opening, abort_opening}
 use proofs.Names.{parity_error, host_answer, Cause, host_of, opening, AreUnits, AreWordsFor, opens, refuses, answers}
 use proofs.{Names.{rejects_data, rejects_status}, Said.Words.{said_of}}
-use Rattle.bus_due.specs.disk_array.specs.Processes.{Process, process_of}
+use Rattle.due_model.specs.array_model.specs.Processes.{Process}
 pub use Rattle.progress_laws.specs.book_laws.proofs.Said.First.{process_unit as unit_small}
 
 -- ---- one message after another

@@ -11,7 +11,7 @@ use proofs.Names.{sent_order, StandsApart, again, first, of_abort, of_none, of_p
 use proofs.{Names.{Standing, IsKeptOf, IsMarked}, Processes.Sent.{has_reverse}, Serving.Talks.{talk_serves}}
 use proofs.Standing.{Buses.{reading_same, buses_alike}, First.{first_story, again_story, sent_story, first_crosses}}
 use proofs.Standing.First.{first_change}
-use Rattle.bus_due.specs.disk_array.specs.Processes as array_of
+use Rattle.due_model.specs.array_model.specs.Processes as array_of
 
 -- What is asked of the row.
 pub record Begins (s : ScenarioValue) (rows : List Row) (row : Row) (n : Connection) : Type 0 where

@@ -7,7 +7,7 @@ use proofs.Names.{asynchronous, fresh_bytes, byte_out, byte_in, byte_else, heard
 use proofs.Names.{phase_begins, dialogue_after, left_of, Dialogue, ScenarioValue, BusState, RowReading, change_by}
 use proofs.Names.{row_reading, whole_out, whole_in, message_out, message_in, agreement_in, Story, story, change_same}
 use proofs.Names.{row_bus, TranscriberValue, by_change, transcribed}
-use Rattle.bus_due.specs.bus_phases.specs.Dialogue.{opened}
+use Rattle.due_model.specs.bus_phases.specs.Dialogue.{opened}
 
 -- ---- a row leaves it as it is, until the row is over
 

@@ -3,13 +3,14 @@ use Rattle.transcript_laws.proofs
 use proofs.Names.{ℕ, ◌≡◌, ◌∙◌, ◌<◌, Bool, true, false, List, [], ◌∷◌, ◌++◌, length, Option, Some, None, refl, sym, ap}
 use proofs.Names.{subst, append-nil, is_at, is_some, if◌then◌else◌, LineSet, Connection, Row, ScenarioValue}
 use proofs.Names.{row_reading, story, by_key, account_of, names_begun, Key, key_of, key_cmp, OpenedValue, settled}
-use proofs.Names.{phase_over, process_of, process_after, with_process, with_last, same_nexus, TranscriberValue, name_of}
-use proofs.Names.{closed_by, closed_with, closed_if, transcribed, Name, Part, Process, Summary, AreNumbered, summary_by}
+use proofs.Names.{phase_over, process_after, with_process, with_last, same_nexus, TranscriberValue, name_of, closed_by}
+use proofs.Names.{closed_with, closed_if, transcribed, Name, Part, Process, Summary, AreNumbered, summary_by}
 use proofs.{Names.{closing_parts, StandsLinked}, Accounts.Items.{parts_name}, Parts.Lists.{over_keeps}}
 use proofs.Past.Closings.{account_by, process_for, connection_items, closed_items, closed_processes}
 use proofs.{Past.{Events.{names_append}, Own.{connection_names}}, Processes.{Last.{nexus_is}, Numbers.{first_numbered}}}
 use proofs.{Processes.Numbers.{again_numbered, abort_numbered}, Standing.Buses.{reading_same, buses_alike}}
 use proofs.Standing.Distinct.{zero_number}
+use Rattle.bus_transcript.specs.Processes.{process_of}
 use Rattle.bus_transcript.specs.declared.item.Item as item_of
 
 -- ---- one nexus

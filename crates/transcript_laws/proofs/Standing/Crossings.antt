@@ -8,7 +8,7 @@ use proofs.Names.{carried_after_byte_if, story_after_byte, story_after_in, story
 use proofs.Names.{story_after_fault, story_in_connection, story, crossed_else, OpenedValue, with_crossing}
 use proofs.Names.{with_still_row, phase_over, phase_entered, with_row, transcribed, StandsLinked}
 use proofs.Standing.Linked.{IsOn, change_on, story_quiet, story_on, Makes}
-use Rattle.bus_due.specs.bus_story.specs.HistoryEvents.{is_completion}
+use Rattle.due_model.specs.story_model.specs.HistoryEvents.{is_completion}
 
 crossing_row : (k : OpenedValue) (w : BusState) (d : RowReading) (kind : Kind) → d.crosses ≡ true
     → with_row k w d kind ≡ with_crossing k w.dialogue.is_last d

@@ -15,7 +15,7 @@ use proofs.Past.{Closings.{closing_shown, closed_items}, Events.{names_append}, 
 use proofs.{Past.Others.{free_openly, openly_past}, Standing.Buses.{reading_same, buses_alike}}
 use proofs.Standing.{Closed.{closed_numbered, closed_opened, parts_left, closed_left, left_closed}, Linked.{story_on}}
 use proofs.Standing.{Over.{over_next}, Past.{IsCut, cut_past, stands_cut}}
-use Rattle.bus_due.specs.disk_array.specs.Processes as array_of
+use Rattle.due_model.specs.array_model.specs.Processes as array_of
 use Rattle.bus_transcript.specs.declared.item.Item as item_of
 use Rattle.bus_transcript.specs.declared.item.Item.TheVariants as items
 

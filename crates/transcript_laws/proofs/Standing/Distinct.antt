@@ -2,11 +2,12 @@
 use Rattle.transcript_laws.proofs
 use proofs.Names.{◌≡◌, ◌∙◌, ◌<◌, Bool, true, false, List, [], ◌∷◌, ◌++◌, length, Option, Some, None, refl, sym, ap}
 use proofs.Names.{subst, append-nil, is_some, if◌then◌else◌, Connection, Row, ScenarioValue, story, by_bool}
-use proofs.Names.{names_begun, OpenedValue, process_of, process_after, TranscriberValue, name_of, finished_if}
-use proofs.Names.{transcribed, transcript_of, Name, Process, Summary, AreDistinct, AreNumbered, parts_now, summary_by}
-use proofs.{Names.{StandsBy, apart, linked, Standing}, Past.Closings.{process_for, connection_items}}
-use proofs.{Past.{Events.{names_append}, Own.{connection_names}}, Processes.Numbers.{first_numbered, abort_numbered}}
+use proofs.Names.{names_begun, OpenedValue, process_after, TranscriberValue, name_of, finished_if, transcribed}
+use proofs.Names.{transcript_of, Name, Process, Summary, AreDistinct, AreNumbered, parts_now, summary_by, StandsBy}
+use proofs.{Names.{apart, linked, Standing}, Past.{Closings.{process_for, connection_items}, Events.{names_append}}}
+use proofs.{Past.Own.{connection_names}, Processes.Numbers.{first_numbered, abort_numbered}}
 use proofs.Standing.Past.{standing_items}
+use Rattle.bus_transcript.specs.Processes.{process_of}
 use Rattle.bus_transcript.specs.declared.item.Item as item_of
 
 -- ---- with the connection that stands

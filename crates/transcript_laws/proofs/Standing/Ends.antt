@@ -9,7 +9,7 @@ use proofs.Names.{abort_line_events, item_abort_events, connection_events, bus_f
 use proofs.Names.{abort, has_item, Link, LastMessage, plain, complete, disconnect, abortive, Story, by_abort}
 use proofs.Names.{is_aborted, is_sense_stopped, story_after_events, story_on_bus, story_with_history, story_with}
 use proofs.Names.{story_by, story, kinds_are, same_kind, is_open_in, events_grow, name_same, account_of, names_begun}
-use proofs.Names.{name_sent, Key, kind_of, OpenedValue, process_of, process_after, with_process, with_last, same_nexus}
+use proofs.Names.{name_sent, Key, kind_of, OpenedValue, process_after, with_process, with_last, same_nexus}
 use proofs.Names.{TranscriberValue, name_of, abort_item, with_items, closed_if, under_reset, on_bus, by_change}
 use proofs.Names.{transcribed, Name, Part, Process, Departure, Loss, Leave, Abortion, Summary, HasProcess, IsKept}
 use proofs.Names.{AreNumbered, are_talk, base_parts, is_known, summary_by, nexus_of, name_process, AreOwnEvents, IsPast}
@@ -24,7 +24,8 @@ use proofs.{Processes.Sent.{name_own}, Standing.{Buses.{reading_same, buses_alik
 use proofs.Standing.Closed.{closed_numbered, closed_opened, parts_left, closed_left, left_closed, closed_names}
 use proofs.Standing.{Linked.{story_on, grown_opens}, Out.{four_true}, Over.{over_next, put_kept, IsNamed}}
 use proofs.Standing.{Over.{named_process}, Past.{own_number, named_sent, process_new, process_kept, closing}}
-use Rattle.bus_due.specs.disk_array.specs.Processes as array_of
+use Rattle.bus_transcript.specs.Processes.{process_of}
+use Rattle.due_model.specs.array_model.specs.Processes as array_of
 use Rattle.bus_transcript.specs.declared.item.Item as item_of
 use Rattle.bus_transcript.specs.declared.item.Item.TheVariants as items
 

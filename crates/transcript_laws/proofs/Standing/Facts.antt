@@ -17,8 +17,8 @@ use proofs.Standing.{Begins.{abort_next, process_next}, Bytes.{byte_next}, Close
 use proofs.Standing.{Cuts.{cut_next, unlisted}, Distinct.{distinct_names}, Ends.{end_next}, Free.{free_next}}
 use proofs.Standing.{In.{in_next}, Linked.{IsOn}, More.{names_grow, names_end}, Nothing.{standing_first}}
 use proofs.Standing.{Out.{out_next}, Past.{standing_past}, Stays.{still_next}, Turns.{turn_next}}
-use Rattle.bus_due.specs.disk_array.specs.Processes as array_of
-use Rattle.bus_due.specs.bus_story.specs.HistoryEvents as story_of
+use Rattle.due_model.specs.array_model.specs.Processes as array_of
+use Rattle.due_model.specs.story_model.specs.HistoryEvents as story_of
 
 -- ---- a connection begins
 

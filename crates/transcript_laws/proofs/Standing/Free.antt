@@ -5,11 +5,11 @@ use proofs.Names.{sym, ap, subst, append-nil, is_none, if◌then◌else◌, wron
 use proofs.Names.{Change, Row, Call, Calling, ScenarioValue, RowReading, row_reading, bus_state_after, CarriedBytes}
 use proofs.Names.{carried_of, link_events, Item, process, has_item, Story, story_on_free_bus, story_on_bus}
 use proofs.Names.{story_with_history, story_with, story_by, story, is_open_in, by_bool, free_keeps, free_over}
-use proofs.Names.{names_begun, name_sent, Key, process_of, TranscriberValue, unanswered_by, unanswered_items}
-use proofs.Names.{on_free_bus, under_reset, on_bus, by_change, transcribed, Name, Process, IsKept, AreNumbered}
-use proofs.Names.{nexus_of, IsPast, sent_order, StandsApart, apart, Standing, IsKeptOf, IsMarked}
-use proofs.Past.{Events.{names_append}, Others.{IsOpenly, unanswered_openly, openly_past}}
-use proofs.Standing.Buses.{reading_same, buses_alike}
+use proofs.Names.{names_begun, name_sent, Key, TranscriberValue, unanswered_by, unanswered_items, on_free_bus}
+use proofs.Names.{under_reset, on_bus, by_change, transcribed, Name, Process, IsKept, AreNumbered, nexus_of, IsPast}
+use proofs.{Names.{sent_order, StandsApart, apart, Standing, IsKeptOf, IsMarked}, Past.Events.{names_append}}
+use proofs.{Past.Others.{IsOpenly, unanswered_openly, openly_past}, Standing.Buses.{reading_same, buses_alike}}
+use Rattle.bus_transcript.specs.Processes.{process_of}
 use Rattle.bus_transcript.specs.declared.item.Item as item_of
 use Rattle.bus_transcript.specs.declared.item.Item.TheVariants as items
 

@@ -2,8 +2,9 @@
 use Rattle.transcript_laws.proofs
 use proofs.Names.{ℕ, ◌≡◌, ◌∙◌, Bool, true, false, List, Option, sym, ap, subst, if◌then◌else◌, ProcId, Connection}
 use proofs.Names.{ScenarioValue, same_id, carried_with, CarriedBytes, carried_of, with_carried, Item, Story, id_is}
-use proofs.Names.{is_open_in, by_bool, names_begun, name_sent, Key, OpenedValue, process_of, TranscriberValue, Name}
-use proofs.Names.{Process, HasProcess, nexus_of, AreKept, AreAlike, IsFrom, anew, kept, first_byte, IsKeptOf}
+use proofs.Names.{is_open_in, by_bool, names_begun, name_sent, Key, OpenedValue, TranscriberValue, Name, Process}
+use proofs.Names.{HasProcess, nexus_of, AreKept, AreAlike, IsFrom, anew, kept, first_byte, IsKeptOf}
+use Rattle.bus_transcript.specs.Processes.{process_of}
 
 -- ---- what is carried
 

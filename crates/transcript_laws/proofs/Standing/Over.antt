@@ -7,7 +7,7 @@ use proofs.Names.{TranscriberValue, with_items, by_change, with_bus, transcribed
 use proofs.Names.{nexus_of, is_of, IsPast, sent_order, AreKept, no_process, StandsBy, apart, Standing, IsKeptOf}
 use proofs.{Names.{IsMarked}, Past.{Events.{names_append}, Others.{IsOpenly, openly_past}}}
 use proofs.{Processes.Kept.{kept_carried, kept_other, kept_own}, Standing.Linked.{story_on}}
-use Rattle.bus_due.specs.disk_array.specs.Processes as array_of
+use Rattle.due_model.specs.array_model.specs.Processes as array_of
 use Rattle.bus_transcript.specs.declared.item.Item as item_of
 
 -- ---- the row

@@ -5,17 +5,18 @@ use proofs.Names.{ℕ, ◌≡◌, ◌∙◌, ◌==◌, Bool, true, false, ◌||�
 use proofs.Names.{subst, arith, ◌&&◌, same_Some, is_none, is_some, if◌then◌else◌, wrong, wrong', and_first, and_second}
 use proofs.Names.{or_second, Event, ProcId, is_command, Connection, Row, MsgOut, ScenarioValue, CarriedBytes}
 use proofs.Names.{carried_of, Item, process, abort, same_item, has_item, Story, story, none_some, by_bool, some_there}
-use proofs.Names.{account_of, names_begun, name_sent, next_number, OpenedValue, settled, spoken, process_of}
-use proofs.Names.{process_after, same_nexus, TranscriberValue, name_of, closed_by, closed_with, finished_if}
-use proofs.Names.{transcribed, transcript_of, Name, Part, Process, Summary, are_talk, base_parts, out_parts, parts_now}
-use proofs.Names.{summary_by, nexus_of, is_of, name_process, AreOwnEvents, IsPast, is_named, are_named, IsAsBegun}
-use proofs.Names.{IsServing, sent_order, IsBegun, first, again, IsFrom, anew, kept, Stage, of_abort, of_none}
-use proofs.Names.{of_process, StandsLinked, StandsBy, apart, linked, Standing, account_base, shown_items}
+use proofs.Names.{account_of, names_begun, name_sent, next_number, OpenedValue, settled, spoken, process_after}
+use proofs.Names.{same_nexus, TranscriberValue, name_of, closed_by, closed_with, finished_if, transcribed}
+use proofs.Names.{transcript_of, Name, Part, Process, Summary, are_talk, base_parts, out_parts, parts_now, summary_by}
+use proofs.Names.{nexus_of, is_of, name_process, AreOwnEvents, IsPast, is_named, are_named, IsAsBegun, IsServing}
+use proofs.Names.{sent_order, IsBegun, first, again, IsFrom, anew, kept, Stage, of_abort, of_none, of_process}
+use proofs.Names.{StandsLinked, StandsBy, apart, linked, Standing, account_base, shown_items}
 use proofs.{Parts.{Lists.{spoken_parts, spoken_keeps}, Shown.{talk_more}}, Past.Closings.{account_by, standing_shown}}
 use proofs.Past.{Closings.{process_for, leaving_items, connection_items, closed_items}, Others.{quiet_past, abort_past}}
 use proofs.{Past.Own.{Leaves, leaves, IsClosing, first_past, again_past}, Processes.Numbers.{same_process}}
 use proofs.Serving.Talks.{talk_first}
-use Rattle.bus_due.specs.disk_array.specs.Processes as array_of
+use Rattle.bus_transcript.specs.Processes.{process_of}
+use Rattle.due_model.specs.array_model.specs.Processes as array_of
 use Rattle.bus_transcript.specs.declared.item.Item as item_of
 
 -- What has a name was sent.

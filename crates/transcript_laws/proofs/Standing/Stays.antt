@@ -20,7 +20,7 @@ use proofs.Standing.{Changed.{by_fault, by_none}, Crossings.{no_events}, Faults.
 use proofs.Standing.{In.{same_stands}, Linked.{SameLines, same_lines, transcript_on, story_on, IsOn, uncrossed}}
 use proofs.Standing.Linked.{change_on, story_is_on, story_quiet, books_on, Makes, Stands, linked_next}
 use proofs.Standing.{Open.{alike_self, alike_on, SameBooks, kept_on, from_on}, Stages.{stage_on}}
-use Rattle.bus_due.specs.bus_story.specs.HistoryEvents as story_of
+use Rattle.due_model.specs.story_model.specs.HistoryEvents as story_of
 
 -- ---- the row
 

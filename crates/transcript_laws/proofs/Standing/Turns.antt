@@ -19,7 +19,7 @@ use proofs.Standing.{Open.{alike_turned, alike_kept, SameBooks, kept_on, from_on
 use proofs.Standing.{TurnMarks.{events_own, events_other, others_marked, turn_marks, turn_own}, TurnParts.{turned}}
 use proofs.Standing.TurnParts.{IsTurned, is_turned, talk_parts, known_stays, known_then, IsQuiet, quiet_since, alike_is}
 use proofs.Standing.TurnParts.{alike_account, alike_marked}
-use Rattle.bus_due.specs.bus_story.specs.HistoryEvents as story_of
+use Rattle.due_model.specs.story_model.specs.HistoryEvents as story_of
 
 -- ---- the row
 

@@ -17,7 +17,7 @@ use proofs.Opened.Bytes.{CrossingMade, crossed_out, crossed_in, crossed_status, 
 use proofs.{Opened.Rows.{Going, RowMade, made_still, made_crossing, made_turn, knows_before}, Parts.Base.{base_turned}}
 use proofs.{Parts.Lists.{broken_parts}, Serving.TurnSteps.{outs_talk, broken_talk}}
 use Rattle.bus_transcript.specs.declared.part.Incoming.TheVariants.{Whole}
-use Rattle.bus_due.specs.bus_story.specs.HistoryEvents as story_of
+use Rattle.due_model.specs.story_model.specs.HistoryEvents as story_of
 
 -- ---- messages among parts
 

@@ -13,9 +13,9 @@ use proofs.Names.{story_in_connection, RunState, run_state_after, same_self, put
 use proofs.Names.{StoryWay, story_way, fault_id, message_byte, in_link, story_row, no_events, is_restore, is_alike}
 use proofs.{Names.{undoes_nothing}, Standing.Changed.{KeepsId, changed_each, after_message, after_fault, ChangesBy}}
 use proofs.Standing.Changed.{by_fault, unchanged, by_none}
-use Rattle.bus_due.specs.bus_trace.specs.declared.Kind.{Kind}
-use Rattle.bus_due.specs.bus_trace.specs.declared.Kind.TheVariants.{Drives, Fault}
-use Rattle.bus_due.specs.bus_story.specs.HistoryEvents.{is_completion}
+use Rattle.due_model.specs.bus_trace.specs.declared.Kind.{Kind}
+use Rattle.due_model.specs.bus_trace.specs.declared.Kind.TheVariants.{Drives, Fault}
+use Rattle.due_model.specs.story_model.specs.HistoryEvents.{is_completion}
 use Rattle.progress_laws.specs.row_laws.proofs.Common.StoryWays as ways
 
 -- ---- one process

@@ -20,7 +20,7 @@ use proofs.Opened.{Bytes.{in_same, begun_same, begun_crossing, begun_turned}, Ro
 use proofs.Opened.Rows.{made_still, made_crossing, made_turn, always, plain_before, knows_before}
 use proofs.Undone.{Bytes.{UndoesSo, row_undoes}, Leavings.{is_brief, are_brief, Leads, briefly, answers, again}}
 use proofs.Undone.Leavings.{leads_from}
-use Rattle.bus_due.specs.disk_array.specs.Processes.{Process}
+use Rattle.due_model.specs.array_model.specs.Processes.{Process}
 
 -- Each of the messages that the target gives is one byte; or none of them restores pointers, and nothing is to be
 -- brought back but data.

@@ -1,4 +1,4 @@
-use Rattle.bus_due.specs.RunSteps.{run_state}
+use Rattle.due_model.specs.RunSteps.{run_state}
 use Rattle.book_laws.proofs.Faith.{row_is_faithful}
 use Rattle.book_laws.proofs.laws.rows_of_connections_are_faithful.Goals as goal
 

@@ -1,6 +1,6 @@
 use Rattle.std.proofs.Common.{◌≡◌, List, length, drop, map}
 use Rattle.std.specs.List.{AllByRecursion}
-use Rattle.disk_array.specs.Contents.{Contents}
+use Rattle.array_model.specs.Contents.{Contents}
 use Rattle.run_record.specs.Value.{held_by}
 use Rattle.bus_engine.specs.Disks.{AreHeld, AreLinesApart, IsWithin}
 use Rattle.bus_engine.proofs.Disks.{AreStored}

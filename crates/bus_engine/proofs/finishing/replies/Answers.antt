@@ -3,8 +3,8 @@ use Rattle.std.specs.Prelude.{slice_index_or}
 use Rattle.std.specs.List.{AllByRecursion}
 use Rattle.std.proofs.lemmas.Bool.{and_parts}
 use Rattle.scenario.specs.declared.value.CmdDef.{CmdDef}
-use Rattle.bus_due.specs.RunSteps.{run_state}
-use Rattle.disk_array.specs.Processes.{command_at}
+use Rattle.due_model.specs.RunSteps.{run_state}
+use Rattle.array_model.specs.Processes.{command_at}
 use Rattle.delivery_laws.specs.scsi_device.specs.Lines.{IsCommandLine}
 use Rattle.initiator.specs.Received.{undoes_no_byte}
 use Rattle.bus_engine.specs.Answers.{are_answered_from}

@@ -3,7 +3,7 @@ use Rattle.std.specs.List.{AllByRecursion}
 use Rattle.bus_trace.specs.declared.Row.{Row}
 use Rattle.scenario.specs.declared.value.CmdDef.{CmdDef}
 use Rattle.scenario.specs.Value.{ScenarioValue}
-use Rattle.bus_due.specs.RunSteps.{run_state}
+use Rattle.due_model.specs.RunSteps.{run_state}
 use Rattle.delivery_laws.specs.scsi_device.specs.Lines.{FitsBus}
 use Rattle.bus_engine.specs.Answers.{are_answered}
 use Rattle.bus_engine.specs.Over.{AreOver}

@@ -1,9 +1,9 @@
 use Rattle.std.proofs.Common.{◌≡◌, ◌∙◌, List, Option, map, sym, subst}
 use Rattle.scenario.specs.declared.value.UnitDef.{UnitDef}
-use Rattle.disk_array.specs.ArrayHistory.{array_after, disks_of, unit_contents}
-use Rattle.bus_due.specs.bus_story.specs.TraceHistory.{trace_history}
-use Rattle.bus_due.specs.RunState.{array_of}
-use Rattle.bus_due.specs.RunSteps.{run_state}
+use Rattle.array_model.specs.ArrayHistory.{array_after, disks_of, unit_contents}
+use Rattle.due_model.specs.story_model.specs.TraceHistory.{trace_history}
+use Rattle.due_model.specs.RunState.{array_of}
+use Rattle.due_model.specs.RunSteps.{run_state}
 use Rattle.delivery_laws.specs.target_units.specs.Units.{UnitsState}
 use Rattle.run_record.specs.Value.{held_by}
 use Rattle.bus_engine.specs.Disks.{AreHeld, AreLinesApart}

@@ -7,21 +7,21 @@ use Rattle.bus_base.specs.declared.Event.{Event}
 use Rattle.bus_trace.specs.declared.Row.{Row}
 use Rattle.bus_trace.specs.LineSet.{none}
 use Rattle.bus_trace.specs.Trace.{bus, last_time}
-use Rattle.bus_due.specs.bus_rules.specs.Lawful.{IsLawful}
-use Rattle.disk_array.specs.ArrayHistory.{array_after, disks_of}
+use Rattle.due_model.specs.bus_rules.specs.Lawful.{IsLawful}
+use Rattle.array_model.specs.ArrayHistory.{array_after, disks_of}
 use Rattle.scenario.specs.Value.{ScenarioValue}
-use Rattle.bus_due.specs.bus_story.specs.Budget.{budget}
-use Rattle.bus_due.specs.bus_story.specs.Outcomes.{outcomes}
-use Rattle.bus_due.specs.bus_story.specs.Samples.{expected_strikes, row_strikes}
-use Rattle.bus_due.specs.bus_story.specs.Story.{Story}
-use Rattle.bus_due.specs.bus_story.specs.TraceHistory.{story, trace_history}
-use Rattle.bus_due.specs.Next.{IsPrompt, IsEnded}
-use Rattle.bus_due.specs.Plain.{AreOfDevices}
+use Rattle.due_model.specs.story_model.specs.Budget.{budget}
+use Rattle.due_model.specs.story_model.specs.Outcomes.{outcomes}
+use Rattle.due_model.specs.story_model.specs.Samples.{expected_strikes, row_strikes}
+use Rattle.due_model.specs.story_model.specs.Story.{Story}
+use Rattle.due_model.specs.story_model.specs.TraceHistory.{story, trace_history}
+use Rattle.due_model.specs.Next.{IsPrompt, IsEnded}
+use Rattle.due_model.specs.Plain.{AreOfDevices}
 use Rattle.bus_run.specs.Runs.{AreEarly}
-use Rattle.bus_due.specs.bus_story.specs.Right.{all_carried}
+use Rattle.due_model.specs.story_model.specs.Right.{all_carried}
 use Rattle.transcript_laws.specs.bus_transcript.specs.Events.{TellsHistory}
 use Rattle.delivery_laws.specs.progress_laws.proofs.Quiet.Facts.{joined}
-use Rattle.bus_due.specs.bus_story.specs.Outcomes.{Outcome}
+use Rattle.due_model.specs.story_model.specs.Outcomes.{Outcome}
 use Rattle.delivery_laws.specs.Delivery.{AreAnswered, AreCaused, AreChecked, AreOwnSenses, AreStoppedSenses}
 use Rattle.delivery_laws.specs.Delivery.{HaveStrikes, IsDelivered}
 use Rattle.delivery_laws.specs.Endings.{AreExact, arrive_by_room}

@@ -1,6 +1,6 @@
 use Rattle.std.proofs.Common.{◌≡◌, ◌∙◌, true, false, None, sym}
 use Rattle.std.specs.Prelude.{if◌then◌else◌}
-use Rattle.bus_due.specs.Next.{due}
+use Rattle.due_model.specs.Next.{due}
 use Rattle.bus_run.specs.Away.{is_end_if, sooner_row}
 use Rattle.bus_run.proofs.asking.ask_besides.Goals as goal
 

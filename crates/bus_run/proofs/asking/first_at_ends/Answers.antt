@@ -1,5 +1,5 @@
 use Rattle.std.proofs.Common.{◌≡◌, ◌<◌, ◌∙◌, length, arith}
-use Rattle.bus_due.specs.Next.{due}
+use Rattle.due_model.specs.Next.{due}
 use Rattle.bus_run.specs.Away.{sooner_row}
 use Rattle.bus_run.proofs.OnePlace.{read_at, in_at}
 use Rattle.bus_run.proofs.Sooner.{ends_first}

@@ -1,5 +1,5 @@
 use Rattle.std.proofs.Common.{◌<◌, sym, length, arith}
-use Rattle.bus_due.specs.Next.{due}
+use Rattle.due_model.specs.Next.{due}
 use Rattle.bus_run.specs.Away.{due_besides}
 use Rattle.bus_run.proofs.Firsts.{least_none}
 use Rattle.bus_run.proofs.OnePlace.{read_at, in_at}

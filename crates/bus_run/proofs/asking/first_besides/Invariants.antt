@@ -2,8 +2,8 @@ use Rattle.std.proofs.Common.{◌≡◌, ◌<◌, List}
 use Rattle.std.specs.Prelude.{IfSome}
 use Rattle.bus_trace.specs.declared.Row.{Row}
 use Rattle.scenario.specs.Value.{ScenarioValue}
-use Rattle.bus_due.specs.Next.{due, least}
-use Rattle.bus_due.specs.RunSteps.{run_state}
+use Rattle.due_model.specs.Next.{due, least}
+use Rattle.due_model.specs.RunSteps.{run_state}
 use Rattle.bus_laws.specs.scsi_device.specs.Told.{first_fault}
 use Rattle.bus_run.specs.Away.{due_besides}
 use Rattle.bus_run.specs.Places.{AreIn}

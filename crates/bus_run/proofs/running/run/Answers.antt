@@ -4,8 +4,8 @@ use Rattle.std.specs.Prelude.{IfSome}
 use Rattle.std.proofs.lemmas.List.{length-reverse}
 use Rattle.bus_trace.specs.declared.Row.{Row}
 use Rattle.scenario.specs.declared.value.FaultDef.{FaultDef}
-use Rattle.bus_due.specs.bus_story.specs.Story.{Story}
-use Rattle.bus_due.specs.Next.{next}
+use Rattle.due_model.specs.story_model.specs.Story.{Story}
+use Rattle.due_model.specs.Next.{next}
 use Rattle.bus_laws.specs.scsi_device.specs.Told.{first_fault}
 use Rattle.bus_run.proofs.Going.{seen, goes_on, observed_on, devices_on, early_on, too_late}
 use Rattle.bus_run.proofs.running.run.Goals as goal

@@ -1,6 +1,6 @@
 use Rattle.std.proofs.Common.{◌≡◌, ◌+◌, ◌*◌, [], length, reverse}
-use Rattle.bus_due.specs.bus_dialogue.specs.Observer.{IsObserverOf}
-use Rattle.bus_due.specs.Plain.{AreOfDevices}
+use Rattle.due_model.specs.dialogue_model.specs.Observer.{IsObserverOf}
+use Rattle.due_model.specs.Plain.{AreOfDevices}
 use Rattle.bus_run.specs.Places.{AreIn}
 use Rattle.bus_run.specs.Runs.{AreEarly}
 use Rattle.bus_run.specs.Seams.{SeamsHold}

@@ -1,7 +1,7 @@
 use Rattle.std.proofs.Common.{◌≡◌, ◌∙◌, true, false, sym}
 use Rattle.bus_run.proofs.Told.{told, skipped}
 use Rattle.bus_run.proofs.telling.see_unless.Goals as goal
-use Rattle.bus_due.specs.bus_rules.specs.Order.{is_of_device}
+use Rattle.due_model.specs.bus_rules.specs.Order.{is_of_device}
 
 pub returns-then-not-is_of_device : goal.returns-then-not-is_of_device
 returns-then-not-is_of_device g c = λ s rows a e l h.

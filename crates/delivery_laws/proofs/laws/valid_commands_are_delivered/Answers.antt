@@ -1,4 +1,4 @@
-use Rattle.bus_due.specs.bus_story.specs.Items.{command_id}
+use Rattle.due_model.specs.story_model.specs.Items.{command_id}
 use Rattle.delivery_laws.proofs.laws.valid_commands_are_delivered.Goals as goal
 
 pub returns : goal.returns

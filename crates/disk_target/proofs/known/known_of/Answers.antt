@@ -1,10 +1,10 @@
 use Rattle.std.proofs.Common.{◌∙◌, sym}
 use Rattle.std.proofs.lemmas.Bool.{eqb-true}
-use Rattle.disk_array.specs.Processes.{process_of}
-use Rattle.disk_array.specs.Seats.{is_initiator}
+use Rattle.array_model.specs.Processes.{process_of}
+use Rattle.array_model.specs.Seats.{is_initiator}
 use Rattle.scenario.specs.Lookups.{has_target}
-use Rattle.bus_due.specs.RunState.{array_of}
-use Rattle.bus_due.specs.RunSteps.{run_state}
+use Rattle.due_model.specs.RunState.{array_of}
+use Rattle.due_model.specs.RunSteps.{run_state}
 use Rattle.target_course.specs.Courses.{name_of}
 use Rattle.disk_target.proofs.Data.{served_of}
 use Rattle.disk_target.proofs.Lines.{line_of_process}

@@ -1,13 +1,13 @@
 use Rattle.std.proofs.Common.{◌∙◌, ◌==◌, sym}
 use Rattle.cdb_codec.specs.declared.status.TheConstants.{GOOD}
-use Rattle.disk_array.specs.Processes.{process_of}
-use Rattle.disk_array.specs.ArrayHistory.{reply_in}
-use Rattle.disk_array.specs.Seats.{in_hold, nexus_at}
-use Rattle.disk_array.specs.Units.{unit_state_at}
-use Rattle.bus_due.specs.LastingState.{progress_in}
-use Rattle.bus_due.specs.RunState.{array_of}
-use Rattle.bus_due.specs.RunSteps.{run_state}
-use Rattle.bus_due.specs.Tasks.{room_of, size_of}
+use Rattle.array_model.specs.Processes.{process_of}
+use Rattle.array_model.specs.ArrayHistory.{reply_in}
+use Rattle.array_model.specs.Seats.{in_hold, nexus_at}
+use Rattle.array_model.specs.Units.{unit_state_at}
+use Rattle.due_model.specs.LastingState.{progress_in}
+use Rattle.due_model.specs.RunState.{array_of}
+use Rattle.due_model.specs.RunSteps.{run_state}
+use Rattle.due_model.specs.Tasks.{room_of, size_of}
 use Rattle.disk_target.specs.Bytes.{status_in, taken_by}
 use Rattle.disk_target.proofs.Telling.{status_told}
 use Rattle.disk_target.proofs.known.state_of.Goals as goal

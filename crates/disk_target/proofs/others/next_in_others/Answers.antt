@@ -1,7 +1,7 @@
 use Rattle.std.proofs.Common.{◌≡◌, ◌∙◌, refl, sym, None}
 use Rattle.std.specs.Prelude.{if◌then◌else◌}
-use Rattle.bus_reactions.specs.Reset.{with_reset}
-use Rattle.bus_due.specs.RunSteps.{run_state}
+use Rattle.reaction_model.specs.Reset.{with_reset}
+use Rattle.due_model.specs.RunSteps.{run_state}
 use Rattle.target_course.specs.scsi_device.specs.Told.{told, first_fault}
 use Rattle.target_course.specs.Dues.{calm_by, hand_by, myself_by}
 use Rattle.disk_target.proofs.others.next_in_others.Goals as goal

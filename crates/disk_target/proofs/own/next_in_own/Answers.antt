@@ -2,12 +2,12 @@ use Rattle.std.proofs.Common.{◌≡◌, ◌∙◌, sym, None}
 use Rattle.std.specs.Prelude.{if◌then◌else◌}
 use Rattle.bus_trace.specs.Trace.{last_time}
 use Rattle.bus_trace.specs.Terms.{receiver}
-use Rattle.bus_reactions.specs.Ends.{sample_due}
-use Rattle.bus_reactions.specs.Reset.{with_reset}
+use Rattle.reaction_model.specs.Ends.{sample_due}
+use Rattle.reaction_model.specs.Reset.{with_reset}
 use Rattle.target_course.specs.scsi_device.specs.Told.{told, flip_by}
 use Rattle.target_course.specs.Dues.{calm_by, hand_by, myself_by}
 use Rattle.disk_target.proofs.own.next_in_own.Goals as goal
-use Rattle.bus_due.specs.bus_rules.specs.Order.{is_of_device}
+use Rattle.due_model.specs.bus_rules.specs.Order.{is_of_device}
 
 pub returns : goal.returns
 returns c = λ s rows n i o line devices away at calm own reset r fault plain.

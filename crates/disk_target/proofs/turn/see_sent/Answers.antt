@@ -1,5 +1,5 @@
 use Rattle.std.proofs.Common.{ℕ, sym, subst, Option}
-use Rattle.bus_due.specs.bus_dialogue.specs.declared.exchange.Hearing.{Hearing}
+use Rattle.due_model.specs.dialogue_model.specs.declared.exchange.Hearing.{Hearing}
 use Rattle.target_course.specs.Gathered.{IsAtUnit, IsSentSo}
 use Rattle.disk_target.specs.Turns.{IsSentIf}
 use Rattle.disk_target.specs.declared.turn.Sent.{Sent}

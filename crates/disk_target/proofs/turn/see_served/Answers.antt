@@ -2,10 +2,10 @@ use Rattle.std.proofs.Common.{ℕ, ◌≡◌, ◌<◌, ◌∙◌, inl, inr, arit
 use Rattle.std.proofs.lemmas.List.{take_all}
 use Rattle.bus_base.specs.declared.Event.{Event}
 use Rattle.bus_trace.specs.Terms.{connection}
-use Rattle.bus_due.specs.RunState.{array_of}
-use Rattle.bus_due.specs.RunSteps.{run_state, events_of_row}
-use Rattle.disk_array.specs.Processes.{Process}
-use Rattle.disk_array.specs.Seats.{seat_of}
+use Rattle.due_model.specs.RunState.{array_of}
+use Rattle.due_model.specs.RunSteps.{run_state, events_of_row}
+use Rattle.array_model.specs.Processes.{Process}
+use Rattle.array_model.specs.Seats.{seat_of}
 use Rattle.target_course.specs.scsi_device.specs.Writes.{writers}
 use Rattle.scenario.specs.Lookups.{has_target}
 use Rattle.target_course.specs.Courses.{name_of}

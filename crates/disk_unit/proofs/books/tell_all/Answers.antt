@@ -3,7 +3,7 @@ use Rattle.std.proofs.Common.{get_or-set_same, below_more, None, Option}
 use Rattle.cdb_codec.specs.declared.Sense.{Sense}
 use Rattle.disk_unit.specs.Books.{is_told}
 use Rattle.disk_unit.proofs.books.tell_all.Goals as goal
-use Rattle.disk_array.specs.Seats.{attention_if_told}
+use Rattle.array_model.specs.Seats.{attention_if_told}
 
 pub loop-dev-preserved : goal.loop-dev-preserved
 loop-dev-preserved c =

@@ -1,7 +1,7 @@
 use Rattle.std.proofs.Common.{◌≡◌, ℕ, ◌<◌, ◌≤◌, get_or, length, None}
 use Rattle.disk_unit.specs.Books.{is_told}
 use Rattle.disk_unit.proofs.books.tell_all.Given as goal
-use Rattle.disk_array.specs.Seats.{attention_if_told}
+use Rattle.array_model.specs.Seats.{attention_if_told}
 
 abbrev pub invariant-loop-dev : goal.invariant-loop-dev
 invariant-loop-dev l = record {

@@ -1,7 +1,7 @@
 use Rattle.std.proofs.Common.{◌≡◌, ℕ, ◌+◌, ◌-◌, ◌≤◌, List, length, take, drop, arith}
 use Rattle.std.proofs.lemmas.List.{length-drop, take_rest}
 use borrow.Rule.Slice.PartMut.{put_mid}
-use Rattle.disk_array.specs.Contents.{bytes_at}
+use Rattle.array_model.specs.Contents.{bytes_at}
 use Rattle.disk_unit.proofs.Parts.{more_read, length_put}
 use Rattle.disk_unit.proofs.transfer.read_bytes.Goals as goal
 

@@ -1,5 +1,5 @@
 use Rattle.std.proofs.Common.{length, ◌-◌, ◌≡◌, ◌≤◌, take, drop}
-use Rattle.disk_array.specs.Contents.{bytes_at}
+use Rattle.array_model.specs.Contents.{bytes_at}
 use Rattle.disk_unit.proofs.transfer.read_bytes.Given as goal
 
 abbrev pub invariant-loop-done : goal.invariant-loop-done

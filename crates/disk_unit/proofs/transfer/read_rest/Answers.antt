@@ -1,7 +1,7 @@
 use Rattle.std.proofs.Common.{◌≡◌, ℕ, ◌+◌, ◌-◌, ◌<◌, ◌≤◌, List, ◌++◌, length, take, drop, ap, ◌∙◌, arith}
 use Rattle.std.specs.Prelude.{◌/◌, ◌%◌}
 use Rattle.std.proofs.lemmas.List.{length-take-le}
-use Rattle.disk_array.specs.Contents.{Contents, block_at, bytes_at}
+use Rattle.array_model.specs.Contents.{Contents, block_at, bytes_at}
 use Rattle.disk_unit.proofs.Parts.{place_within, part_of}
 use Rattle.disk_unit.proofs.transfer.read_rest.Goals as goal
 use Rattle.disk_unit.proofs.transfer.read_rest.Goals.{then-size-offset, else-size-offset}

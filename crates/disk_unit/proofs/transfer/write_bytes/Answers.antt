@@ -1,5 +1,5 @@
 use Rattle.std.proofs.Common.{◌≡◌, ℕ, ◌+◌, ◌-◌, ◌*◌, take, drop, arith, ap, sym, ◌∙◌}
-use Rattle.disk_array.specs.Contents.{Contents, with_bytes}
+use Rattle.array_model.specs.Contents.{Contents, with_bytes}
 use Rattle.disk_unit.proofs.Parts.{more_written}
 use Rattle.disk_unit.proofs.transfer.write_bytes.Goals as goal
 

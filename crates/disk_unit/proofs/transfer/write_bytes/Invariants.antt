@@ -1,5 +1,5 @@
 use Rattle.std.proofs.Common.{◌≡◌, ◌+◌, ◌-◌, ◌*◌, ◌≤◌, drop}
-use Rattle.disk_array.specs.Contents.{with_bytes}
+use Rattle.array_model.specs.Contents.{with_bytes}
 use Rattle.disk_unit.proofs.transfer.write_bytes.Given as goal
 
 abbrev pub invariant-loop-i : goal.invariant-loop-i

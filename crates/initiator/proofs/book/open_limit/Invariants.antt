@@ -1,5 +1,5 @@
 use Rattle.std.specs.Prelude.{◌≡◌, drop}
-use Rattle.bus_story.specs.Items.{open_limit_of}
+use Rattle.story_model.specs.Items.{open_limit_of}
 use Rattle.initiator.proofs.book.open_limit.Given as goal
 
 abbrev pub invariant-loop-def : goal.invariant-loop-def

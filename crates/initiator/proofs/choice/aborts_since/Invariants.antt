@@ -1,5 +1,5 @@
 use Rattle.std.specs.Prelude.{◌≡◌, drop}
-use Rattle.bus_reactions.specs.Reactions.{sooner_time}
+use Rattle.reaction_model.specs.Reactions.{sooner_time}
 use Rattle.initiator.specs.Mines.{my_aborts_since}
 use Rattle.initiator.proofs.choice.aborts_since.Given as goal
 

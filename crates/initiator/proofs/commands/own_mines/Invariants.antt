@@ -1,5 +1,5 @@
 use Rattle.std.specs.Prelude.{◌≡◌, ◌+◌, ◌++◌, map, drop, []}
-use Rattle.bus_due.specs.Wants.{own_commands}
+use Rattle.due_model.specs.Wants.{own_commands}
 use Rattle.initiator.specs.Mines.{nothing_sent, mine_of, mines_of}
 use Rattle.initiator.proofs.commands.own_mines.Given as goal
 

@@ -3,9 +3,9 @@ use Rattle.bus_trace.specs.Trace.{bus}
 use Rattle.bus_lines.specs.BusView.{BusViewValue}
 use Rattle.bus_lines.specs.Handshakes.{handshakes}
 use Rattle.bus_lines.specs.Timely.{IsTimely}
-use Rattle.bus_reactions.specs.Ends as hand
-use Rattle.bus_reactions.specs.Sight.{sight}
-use Rattle.bus_due.specs.bus_dialogue.specs.Hearing.{begun}
+use Rattle.reaction_model.specs.Ends as hand
+use Rattle.reaction_model.specs.Sight.{sight}
+use Rattle.due_model.specs.dialogue_model.specs.Hearing.{begun}
 use Rattle.scsi_device.specs.Told.{Told, told, pace_of}
 use Rattle.initiator.specs.States.{InitiatorState, state_known}
 use Rattle.initiator.specs.Dues.{answering_of_host, drives_byte, myself_by, with_byte_if}

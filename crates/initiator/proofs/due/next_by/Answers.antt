@@ -1,5 +1,5 @@
 use Rattle.std.proofs.Common.{◌∙◌}
-use Rattle.bus_reactions.specs.Reset.{with_reset}
+use Rattle.reaction_model.specs.Reset.{with_reset}
 use Rattle.initiator.proofs.due.next_by.Goals as goal
 
 pub returns : goal.returns

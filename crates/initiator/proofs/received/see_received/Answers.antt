@@ -1,8 +1,8 @@
 use Rattle.std.proofs.Common.{◌∷◌, ◌∙◌, refl, sym, subst, List}
 use Rattle.bus_trace.specs.Terms.{connection}
-use Rattle.bus_due.specs.RunState.{item_of}
-use Rattle.bus_due.specs.RunSteps.{run_state}
-use Rattle.bus_due.specs.Telling.{id_of}
+use Rattle.due_model.specs.RunState.{item_of}
+use Rattle.due_model.specs.RunSteps.{run_state}
+use Rattle.due_model.specs.Telling.{id_of}
 use Rattle.initiator.specs.OwnLinks.{own_link}
 use Rattle.initiator.specs.Transfers.{active_of}
 use Rattle.initiator.specs.Received.{BufferPairValue, AreReceived}

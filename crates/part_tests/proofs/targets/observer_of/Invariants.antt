@@ -1,7 +1,7 @@
 use Rattle.std.proofs.Common.{◌<◌, ◌^◌, List}
 use Rattle.std.specs.List.{AllByRecursion}
 use Rattle.bus_trace.specs.declared.Row.{Row}
-use Rattle.bus_dialogue.specs.Observer.{IsObserverOf}
+use Rattle.dialogue_model.specs.Observer.{IsObserverOf}
 use Rattle.part_tests.proofs.targets.observer_of.Given as goal
 
 -- The observer is that of some rows, all before the limit.

@@ -1,5 +1,5 @@
 use Rattle.std.proofs.Common.{◌^◌, arith}
-use Rattle.bus_due.specs.RunSteps.{run_state}
+use Rattle.due_model.specs.RunSteps.{run_state}
 use Rattle.scsi_device.proofs.FitLines.{obeys_fits, seats_are, units_are, command_fits, abort_fits, host_fits}
 use Rattle.scsi_device.proofs.FitLines.{target_fits, unit_fits}
 use Rattle.scsi_device.proofs.WantTimes.{wants_before, next_reset_before}

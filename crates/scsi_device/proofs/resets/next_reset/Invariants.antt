@@ -1,6 +1,6 @@
 use Rattle.std.specs.Prelude.{◌≡◌, drop}
-use Rattle.bus_reactions.specs.Reactions.{sooner_time}
-use Rattle.bus_due.specs.Due.{reset_from}
+use Rattle.reaction_model.specs.Reactions.{sooner_time}
+use Rattle.due_model.specs.Due.{reset_from}
 use Rattle.scsi_device.proofs.resets.next_reset.Given as goal
 
 abbrev pub invariant-loop-def : goal.invariant-loop-def

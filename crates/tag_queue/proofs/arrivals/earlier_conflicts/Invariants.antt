@@ -1,5 +1,5 @@
 use Rattle.std.proofs.Common.{◌≡◌, ◌≤◌, ◌+◌, List, None, drop}
-use Rattle.disk_array.specs.declared.entries.Entry.{Entry}
+use Rattle.array_model.specs.declared.entries.Entry.{Entry}
 use Rattle.tag_queue.specs.Stored.{entries_at, held_back_by, AreKept}
 use Rattle.tag_queue.proofs.arrivals.earlier_conflicts.Given as goal
 

@@ -1,5 +1,5 @@
 use Rattle.std.proofs.Common.{◌≡◌, List, None, drop}
-use Rattle.disk_array.specs.declared.entries.Entry.{Entry}
+use Rattle.array_model.specs.declared.entries.Entry.{Entry}
 use Rattle.tag_queue.specs.Queue.{key_at}
 use Rattle.tag_queue.specs.Stored.{waiting_at, AreKept}
 use Rattle.tag_queue.proofs.arrivals.key_at.Given as goal

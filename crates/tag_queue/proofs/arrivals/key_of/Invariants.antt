@@ -1,5 +1,5 @@
 use Rattle.std.proofs.Common.{◌≡◌, List, Option, None, ℕ, drop}
-use Rattle.disk_array.specs.declared.entries.Entry.{Entry}
+use Rattle.array_model.specs.declared.entries.Entry.{Entry}
 use Rattle.tag_queue.specs.Queue.{key_of}
 use Rattle.tag_queue.specs.Stored.{queued_at, AreKept}
 use Rattle.tag_queue.proofs.arrivals.key_of.Given as goal

@@ -1,6 +1,6 @@
 use Rattle.std.proofs.Common.{◌≡◌, ◌≤◌, List, None, drop}
-use Rattle.disk_array.specs.declared.entries.Entry.{Entry}
-use Rattle.disk_array.specs.Order.{last_head}
+use Rattle.array_model.specs.declared.entries.Entry.{Entry}
+use Rattle.array_model.specs.Order.{last_head}
 use Rattle.tag_queue.specs.Stored.{entries_at, AreKept}
 use Rattle.tag_queue.proofs.arrivals.last_head.Given as goal
 

@@ -3,7 +3,7 @@ use Rattle.std.proofs.Common.{subst, ap, ◌∙◌, arith}
 use Rattle.std.specs.Prelude.{◌==◌, if◌then◌else◌}
 use Rattle.std.proofs.lemmas.List.{drop_more}
 use Rattle.std.proofs.lemmas.Grind.{common_steps}
-use Rattle.disk_array.specs.Order.{is_ordered, runnable_after}
+use Rattle.array_model.specs.Order.{is_ordered, runnable_after}
 use Rattle.tag_queue.specs.declared.arrivals.Arrival.{Arrival}
 use Rattle.tag_queue.specs.Queue.{entries_in}
 use Rattle.tag_queue.specs.Stored.{entries_at, AreKept}

@@ -1,6 +1,6 @@
 use Rattle.std.proofs.Common.{◌≡◌, ◌≤◌, List, None, [], length, drop}
-use Rattle.disk_array.specs.declared.entries.Entry.{Entry}
-use Rattle.disk_array.specs.Order.{runnable_after, has_ordered}
+use Rattle.array_model.specs.declared.entries.Entry.{Entry}
+use Rattle.array_model.specs.Order.{runnable_after, has_ordered}
 use Rattle.tag_queue.specs.Stored.{entries_at, AreKept}
 use Rattle.tag_queue.proofs.Scans.{last_or}
 use Rattle.tag_queue.proofs.arrivals.last_in_order.Given as goal

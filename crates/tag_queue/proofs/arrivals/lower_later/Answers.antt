@@ -1,7 +1,7 @@
 use Rattle.std.proofs.Common.{◌≡◌, ◌<◌, ◌+◌, Bool, ◌&&◌, List, None, length, get_or, sym, subst, ap, ◌∙◌, arith}
 use Rattle.std.proofs.lemmas.List.{drop_more, drop-set-lt}
-use Rattle.disk_array.specs.declared.entries.Entry.{Entry}
-use Rattle.disk_array.specs.Order.{holds_back}
+use Rattle.array_model.specs.declared.entries.Entry.{Entry}
+use Rattle.array_model.specs.Order.{holds_back}
 use Rattle.tag_queue.specs.declared.arrivals.Arrival.{Arrival}
 use Rattle.tag_queue.specs.Stored.{is_out, before_with, AreKept}
 use Rattle.tag_queue.proofs.Leaving.{lowered_step}

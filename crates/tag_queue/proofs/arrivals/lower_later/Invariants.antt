@@ -1,6 +1,6 @@
 use Rattle.std.proofs.Common.{◌≡◌, List, Option, None, ℕ, ◌++◌, drop, take}
 use Rattle.std.proofs.Common.{false}
-use Rattle.disk_array.specs.declared.entries.Entry.{Entry}
+use Rattle.array_model.specs.declared.entries.Entry.{Entry}
 use Rattle.tag_queue.specs.Stored.{AreKept, lowered}
 use Rattle.tag_queue.proofs.arrivals.lower_later.Given as goal
 

@@ -1,6 +1,6 @@
 use Rattle.std.proofs.Common.{List, None, sym, subst, ap, ◌∙◌}
 use Rattle.std.proofs.lemmas.List.{drop_more}
-use Rattle.disk_array.specs.Order.{may_run_in_order}
+use Rattle.array_model.specs.Order.{may_run_in_order}
 use Rattle.tag_queue.specs.declared.arrivals.Arrival.{Arrival}
 use Rattle.tag_queue.specs.Queue.{place_of}
 use Rattle.tag_queue.specs.Stored.{waiting_at, entries_at, AreKept}

@@ -1,6 +1,6 @@
 use Rattle.std.proofs.Common.{◌≡◌, ◌≤◌, ◌+◌, List, None, [], length, drop}
-use Rattle.disk_array.specs.declared.entries.Entry.{Entry}
-use Rattle.disk_array.specs.Order.{may_run_in_order, has_ordered}
+use Rattle.array_model.specs.declared.entries.Entry.{Entry}
+use Rattle.array_model.specs.Order.{may_run_in_order, has_ordered}
 use Rattle.tag_queue.specs.Queue.{place_of}
 use Rattle.tag_queue.specs.Stored.{waiting_at, entries_at, AreKept}
 use Rattle.tag_queue.proofs.arrivals.place_standing.Given as goal

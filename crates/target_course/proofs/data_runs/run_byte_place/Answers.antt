@@ -1,9 +1,9 @@
 use Rattle.std.proofs.Common.{ℕ, ◌<◌, ◌≤◌, ◌+◌, ◌-◌, ◌^◌, ◌∙◌, min, List, length, arith}
 use Rattle.std.specs.Prelude.{slice_index_or}
 use Rattle.scenario.specs.declared.value.Policy.{Policy}
-use Rattle.bus_due.specs.bus_dialogue.specs.declared.exchange.Task.{Task}
-use Rattle.bus_due.specs.bus_dialogue.specs.DataRuns.{run_at}
-use Rattle.bus_due.specs.bus_dialogue.specs.PhaseBytes.{one_if}
+use Rattle.due_model.specs.dialogue_model.specs.declared.exchange.Task.{Task}
+use Rattle.due_model.specs.dialogue_model.specs.DataRuns.{run_at}
+use Rattle.due_model.specs.dialogue_model.specs.PhaseBytes.{one_if}
 use Rattle.target_units.specs.scsi_device.proofs.Places.{held_place}
 use Rattle.target_course.proofs.Places.{start_held, held_sum}
 use Rattle.target_course.proofs.data_runs.run_byte_place.Goals as goal

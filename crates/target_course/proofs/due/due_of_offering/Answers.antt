@@ -2,9 +2,9 @@ use Rattle.std.proofs.Common.{ℕ, ◌^◌, ◌∙◌, sym, subst}
 use Rattle.bus_lines.specs.BusView.{BusViewValue}
 use Rattle.bus_lines.specs.Handshakes.{handshakes}
 use Rattle.bus_lines.specs.Timely.{IsTimely}
-use Rattle.bus_due.specs.bus_dialogue.specs.Hearing.{begun}
-use Rattle.bus_reactions.specs.Ends.{target_due}
-use Rattle.bus_reactions.specs.Sight.{sight}
+use Rattle.due_model.specs.dialogue_model.specs.Hearing.{begun}
+use Rattle.reaction_model.specs.Ends.{target_due}
+use Rattle.reaction_model.specs.Sight.{sight}
 use Rattle.bus_trace.specs.Trace.{drives}
 use Rattle.target_course.proofs.due.due_of_offering.Goals as goal
 

@@ -1,8 +1,8 @@
 use Rattle.std.proofs.Common.{◌∙◌, sym}
-use Rattle.bus_due.specs.bus_dialogue.specs.Arrivals.{policy_of}
-use Rattle.bus_due.specs.bus_dialogue.specs.NextPhase as next_phase
-use Rattle.bus_due.specs.bus_dialogue.specs.PhaseBytes.{data_byte, one_if}
-use Rattle.bus_due.specs.bus_dialogue.specs.Ends as ends
+use Rattle.due_model.specs.dialogue_model.specs.Arrivals.{policy_of}
+use Rattle.due_model.specs.dialogue_model.specs.NextPhase as next_phase
+use Rattle.due_model.specs.dialogue_model.specs.PhaseBytes.{data_byte, one_if}
+use Rattle.due_model.specs.dialogue_model.specs.Ends as ends
 use Rattle.target_course.specs.Servings.{serving_with, AreBytesOf}
 use Rattle.target_course.proofs.due.offering.Goals as goal
 

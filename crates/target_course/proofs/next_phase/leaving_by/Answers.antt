@@ -1,5 +1,5 @@
 use Rattle.std.proofs.Common.{[], sym, subst}
-use Rattle.bus_due.specs.bus_dialogue.specs.declared.exchange.Leaving.{Leaving}
+use Rattle.due_model.specs.dialogue_model.specs.declared.exchange.Leaving.{Leaving}
 use Rattle.target_course.specs.Fits.{AreFit}
 use Rattle.target_course.specs.Servings.{serving_with}
 use Rattle.target_course.proofs.Fits.{leaving_fits}

@@ -1,7 +1,7 @@
 use Rattle.std.proofs.Common.{◌∙◌, sym}
-use Rattle.bus_due.specs.bus_dialogue.specs.Arrivals.{policy_of}
-use Rattle.bus_due.specs.bus_dialogue.specs.NextPhase as next_phase
-use Rattle.bus_due.specs.bus_dialogue.specs.PhaseBytes.{data_byte, phase_byte, lines_by, one_if}
+use Rattle.due_model.specs.dialogue_model.specs.Arrivals.{policy_of}
+use Rattle.due_model.specs.dialogue_model.specs.NextPhase as next_phase
+use Rattle.due_model.specs.dialogue_model.specs.PhaseBytes.{data_byte, phase_byte, lines_by, one_if}
 use Rattle.target_course.specs.Servings.{serving_with}
 use Rattle.target_course.proofs.offering.offering_by.Goals as goal
 

@@ -1,5 +1,5 @@
 use Rattle.std.proofs.Common.{sym, subst}
-use Rattle.bus_due.specs.bus_dialogue.specs.declared.exchange.Plan.{Plan}
+use Rattle.due_model.specs.dialogue_model.specs.declared.exchange.Plan.{Plan}
 use Rattle.target_course.specs.Fits.{AreFit}
 use Rattle.target_course.proofs.Fits.{plan_fits}
 use Rattle.target_course.proofs.plans.plan_after.Goals as goal

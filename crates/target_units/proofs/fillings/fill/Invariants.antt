@@ -1,5 +1,5 @@
 use Rattle.std.proofs.Common.{◌≡◌, ◌+◌, ◌≤◌, length, drop}
-use Rattle.disk_array.specs.Contents.{filled_contents}
+use Rattle.array_model.specs.Contents.{filled_contents}
 use Rattle.target_units.specs.Fillings.{AreFilled, fill_count}
 use Rattle.target_units.proofs.fillings.fill.Given as goal
 

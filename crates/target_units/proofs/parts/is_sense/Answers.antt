@@ -1,5 +1,5 @@
 use Rattle.std.proofs.Common.{◌∙◌, sym}
-use Rattle.disk_array.proofs.OperationCodes.{no_sense}
+use Rattle.array_model.proofs.OperationCodes.{no_sense}
 use Rattle.target_units.proofs.parts.is_sense.Goals as goal
 
 pub returns-then-heeds_attention : goal.returns-then-heeds_attention

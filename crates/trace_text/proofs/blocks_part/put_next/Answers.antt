@@ -1,5 +1,5 @@
 use Rattle.std.proofs.Common.{◌≤◌, ◌∙◌, [], sym, arith}
-use Rattle.disk_array.specs.Contents.{zero_block}
+use Rattle.array_model.specs.Contents.{zero_block}
 use Rattle.text_pages.proofs.Putting.{nothing}
 use Rattle.trace_text.proofs.TouchedBlocks.{from_on, next_is, none_is, past_is, over_is}
 use Rattle.trace_text.proofs.blocks_part.put_next.Goals as goal

@@ -1,6 +1,6 @@
 use Rattle.std.proofs.Common.{◌∙◌}
 use Rattle.std.proofs.lemmas.Bool.{eq-eqb}
-use Rattle.bus_due.specs.RunSteps.{run_state}
+use Rattle.due_model.specs.RunSteps.{run_state}
 use Rattle.initiator.specs.Endings.{end_at}
 use Rattle.initiator.specs.Openings.{mine_at}
 use Rattle.initiator.specs.Outcomes.{is_sense_over}

@@ -1,5 +1,5 @@
 use Rattle.std.proofs.Common.{ℕ, ◌∙◌, ap}
-use Rattle.bus_due.specs.Next.{due}
+use Rattle.due_model.specs.Next.{due}
 use Rattle.bus_engine.proofs.Held.{target_is}
 use Rattle.bus_engine.proofs.member.MemberDevice.due.Goals as goal
 

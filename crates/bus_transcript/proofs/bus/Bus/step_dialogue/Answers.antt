@@ -1,6 +1,6 @@
 use Rattle.std.proofs.Common.{◌≡◌, true, sym, ◌∙◌}
-use Rattle.bus_story.specs.BusState.{BusState}
-use Rattle.bus_story.specs.PairAgreements.{agreement_in}
+use Rattle.story_model.specs.BusState.{BusState}
+use Rattle.story_model.specs.PairAgreements.{agreement_in}
 use Rattle.bus_transcript.specs.Rows.{is_silent}
 use Rattle.bus_transcript.proofs.Silence.{silent_stays}
 use Rattle.bus_transcript.proofs.bus.Bus.step_dialogue.Goals as goal

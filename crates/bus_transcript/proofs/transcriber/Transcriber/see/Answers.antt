@@ -1,7 +1,7 @@
 use Rattle.std.proofs.Common.{◌≡◌, ◌∙◌, sym, true}
 use Rattle.bus_transcript.specs.Rows.{TranscriberValue, after_row}
 use Rattle.bus_transcript.specs.Still.{is_still, still_bus}
-use Rattle.bus_story.specs.BusState.{change_by}
+use Rattle.story_model.specs.BusState.{change_by}
 use Rattle.bus_transcript.proofs.StillRows.{still_row}
 use Rattle.bus_transcript.proofs.transcriber.Transcriber.see.Goals as goal
 

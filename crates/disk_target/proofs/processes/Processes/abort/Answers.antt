@@ -1,7 +1,7 @@
 use Rattle.std.proofs.Common.{ℕ, [], ◌∷◌, sym, subst}
 use Rattle.bus_base.specs.declared.Event.TheVariants as events
-use Rattle.bus_due.specs.RunState.{or_start}
-use Rattle.bus_due.specs.RunSteps.{run_state}
+use Rattle.due_model.specs.RunState.{or_start}
+use Rattle.due_model.specs.RunSteps.{run_state}
 use Rattle.target_course.specs.target_units.specs.Units.{AreUnitsAfter}
 use Rattle.disk_target.proofs.UnitRows.{by_one, by_row, some_after}
 use Rattle.disk_target.proofs.processes.Processes.abort.Goals as goal

@@ -1,5 +1,5 @@
 use Rattle.std.proofs.Common.{◌∙◌, sym, subst}
-use Rattle.disk_array.specs.Seats.{seat_of}
+use Rattle.array_model.specs.Seats.{seat_of}
 use Rattle.disk_target.specs.Standings.{IsStanding, standing_at_first}
 use Rattle.disk_target.specs.declared.standing.Standing.{Standing}
 use Rattle.disk_target.proofs.Beginnings.{new_nowhere, current_inside}

@@ -1,8 +1,8 @@
 use Rattle.std.proofs.Common.{ℕ, ◌≡◌, sym, subst, None}
 use Rattle.bus_base.specs.declared.Event.TheVariants as events
 use Rattle.bus_base.specs.declared.ProcId.{ProcId}
-use Rattle.disk_array.specs.Seats.{seat_of}
-use Rattle.disk_array.specs.Units.{guest_at}
+use Rattle.array_model.specs.Seats.{seat_of}
+use Rattle.array_model.specs.Units.{guest_at}
 use Rattle.target_course.specs.target_units.specs.Units.{IsStep}
 use Rattle.disk_target.specs.Standings.{IsServed, outcome_of}
 use Rattle.disk_target.specs.Processes.{ProcessesState, AreProcessesAt}

@@ -1,6 +1,6 @@
 use Rattle.std.proofs.Common.{ℕ, ◌≡◌, ◌∙◌, sym, subst, Some}
-use Rattle.disk_array.specs.Seats.{seat_of}
-use Rattle.disk_array.specs.Execution.{is_request_sense}
+use Rattle.array_model.specs.Seats.{seat_of}
+use Rattle.array_model.specs.Execution.{is_request_sense}
 use Rattle.cdb_codec.specs.Cdb.{command_of}
 use Rattle.disk_target.specs.declared.standing.Standing.{Standing}
 use Rattle.disk_target.specs.declared.standing.Standing.TheVariants as standings

@@ -1,9 +1,9 @@
 use Rattle.std.proofs.Common.{ℕ, ◌≡◌, sym, subst, false, None}
 use Rattle.bus_base.specs.declared.Event.TheVariants as events
 use Rattle.bus_base.specs.declared.ProcId.{ProcId}
-use Rattle.disk_array.specs.ArrayHistory.{reply_in}
-use Rattle.disk_array.specs.Seats.{seat_of}
-use Rattle.disk_array.specs.Units.{guest_at}
+use Rattle.array_model.specs.ArrayHistory.{reply_in}
+use Rattle.array_model.specs.Seats.{seat_of}
+use Rattle.array_model.specs.Units.{guest_at}
 use Rattle.target_course.specs.target_units.specs.Seated.{HasSent}
 use Rattle.target_course.specs.target_units.specs.Units.{IsStep}
 use Rattle.disk_target.specs.Standings.{IsServed, is_guest}

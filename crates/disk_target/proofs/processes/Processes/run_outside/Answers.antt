@@ -1,8 +1,8 @@
 use Rattle.std.proofs.Common.{ℕ, ◌≡◌, sym, subst, Some, true}
 use Rattle.bus_base.specs.declared.Event.TheVariants as events
 use Rattle.bus_base.specs.declared.ProcId.{ProcId}
-use Rattle.disk_array.specs.Seats.{seat_of, is_initiator}
-use Rattle.disk_array.specs.Units.{guest_at}
+use Rattle.array_model.specs.Seats.{seat_of, is_initiator}
+use Rattle.array_model.specs.Units.{guest_at}
 use Rattle.target_course.specs.target_units.specs.Units.{IsStep}
 use Rattle.disk_target.specs.declared.standing.Standing.{Standing}
 use Rattle.disk_target.specs.Standings.{IsServed, IsStanding, is_guest}

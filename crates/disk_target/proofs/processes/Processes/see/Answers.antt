@@ -1,9 +1,9 @@
 use Rattle.std.proofs.Common.{ℕ, ◌≡◌, ◌∙◌, subst, true, List}
 use Rattle.std.specs.Prelude.{is_some}
 use Rattle.bus_base.specs.declared.Event.{Event}
-use Rattle.bus_due.specs.Allowed.{allowed}
-use Rattle.bus_due.specs.RunState.{or_start}
-use Rattle.bus_due.specs.RunSteps.{run_state, array_after_events, events_of_row}
+use Rattle.due_model.specs.Allowed.{allowed}
+use Rattle.due_model.specs.RunState.{or_start}
+use Rattle.due_model.specs.RunSteps.{run_state, array_after_events, events_of_row}
 use Rattle.disk_target.specs.Processes.{AreSettledAt, times_of_events}
 use Rattle.disk_target.proofs.RowEvents.{row_events}
 use Rattle.disk_target.proofs.processes.Processes.see.Goals as goal

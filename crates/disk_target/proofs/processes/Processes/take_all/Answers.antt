@@ -3,7 +3,7 @@ use Rattle.bus_base.specs.declared.Event.TheVariants as events
 use Rattle.disk_target.specs.Standings.{IsServed}
 use Rattle.disk_target.specs.Processes.{ProcessesState, AreProcessesAt, IsOwnEvent}
 use Rattle.std.specs.Prelude.{slice_get}
-use Rattle.bus_due.specs.RunSteps.{current_times_after}
+use Rattle.due_model.specs.RunSteps.{current_times_after}
 use Rattle.disk_target.proofs.TimesTwice.{twice, arrival_keeps}
 use Rattle.disk_target.proofs.processes.Processes.take_all.Goals as goal
 

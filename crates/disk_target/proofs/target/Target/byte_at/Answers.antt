@@ -1,6 +1,6 @@
 use Rattle.std.proofs.Common.{◌∙◌, sym, subst}
 use Rattle.std.specs.Prelude.{slice_index_or}
-use Rattle.bus_due.specs.Tasks.{reply_now}
+use Rattle.due_model.specs.Tasks.{reply_now}
 use Rattle.target_course.specs.Servings.{byte_if}
 use Rattle.target_course.specs.target_units.specs.Units.{UnitsState, AreUnitsOf}
 use Rattle.disk_target.specs.Targets.{TargetValue}

@@ -1,8 +1,8 @@
 use Rattle.std.proofs.Common.{◌∙◌, sym, subst}
 use Rattle.std.specs.Prelude.{not}
 use Rattle.std.proofs.lemmas.Bool.{eqb-true}
-use Rattle.bus_due.specs.LastingState.{has_negotiated}
-use Rattle.bus_due.specs.RunSteps.{run_state}
+use Rattle.due_model.specs.LastingState.{has_negotiated}
+use Rattle.due_model.specs.RunSteps.{run_state}
 use Rattle.disk_target.specs.Targets.{TargetValue, KnowsRows}
 use Rattle.disk_target.proofs.target.Target.course_begun.Goals as goal
 

@@ -1,10 +1,10 @@
 use Rattle.std.proofs.Common.{ℕ, ◌≡◌, ◌<◌, ◌+◌, ◌^◌, ◌∙◌, ◌∷◌, sym, subst, Option, Some, None}
 use Rattle.std.proofs.lemmas.Bool.{eqb-true}
-use Rattle.bus_due.specs.RunState.{array_of}
-use Rattle.bus_due.specs.RunSteps.{run_state}
-use Rattle.bus_due.specs.Wants.{ready_among, seek_of, since_of}
-use Rattle.disk_array.specs.Units.{unit_state_at}
-use Rattle.disk_array.specs.Seats.{current_of}
+use Rattle.due_model.specs.RunState.{array_of}
+use Rattle.due_model.specs.RunSteps.{run_state}
+use Rattle.due_model.specs.Wants.{ready_among, seek_of, since_of}
+use Rattle.array_model.specs.Units.{unit_state_at}
+use Rattle.array_model.specs.Seats.{current_of}
 use Rattle.target_course.specs.scsi_device.proofs.Finds.{none_some}
 use Rattle.target_course.specs.target_units.specs.Readies.{ready_unit}
 use Rattle.target_course.specs.target_units.specs.Seated.{running_block, running_entry}

@@ -1,14 +1,14 @@
 use Rattle.std.proofs.Common.{ℕ, ◌≡◌, ◌∙◌, refl, sym, subst, None}
 use Rattle.bus_trace.specs.Trace.{bus, drives}
-use Rattle.bus_due.specs.bus_dialogue.specs.Hearing.{begun}
+use Rattle.due_model.specs.dialogue_model.specs.Hearing.{begun}
 use Rattle.bus_lines.specs.Handshakes.{handshakes}
 use Rattle.scenario.specs.declared.value.TargetDef.{TargetDef}
-use Rattle.bus_due.specs.Due.{reset_from}
-use Rattle.bus_due.specs.Next.{due}
-use Rattle.bus_due.specs.Own.{own_of}
-use Rattle.bus_due.specs.RunSteps.{run_state}
-use Rattle.bus_due.specs.Sights.{serving_of}
-use Rattle.bus_due.specs.Wants.{ready_of}
+use Rattle.due_model.specs.Due.{reset_from}
+use Rattle.due_model.specs.Next.{due}
+use Rattle.due_model.specs.Own.{own_of}
+use Rattle.due_model.specs.RunSteps.{run_state}
+use Rattle.due_model.specs.Sights.{serving_of}
+use Rattle.due_model.specs.Wants.{ready_of}
 use Rattle.target_course.specs.scsi_device.specs.Told.{told, pace_of}
 use Rattle.target_course.specs.Dues.{plain_by}
 use Rattle.target_course.specs.States.{AreAlikeIn, IsNoInitiator, IsOwnConnection, TargetState, offering_in}

@@ -1,12 +1,12 @@
 use Rattle.std.proofs.Common.{◌≡◌, ◌∙◌, refl, sym, subst, Option}
 use Rattle.bus_trace.specs.declared.connection.Connection.{Connection}
 use Rattle.scenario.specs.declared.value.TargetDef.{TargetDef}
-use Rattle.bus_due.specs.Due.{reset_from}
-use Rattle.bus_due.specs.Next.{due}
-use Rattle.bus_due.specs.Own.{own_of}
-use Rattle.bus_due.specs.RunSteps.{run_state}
-use Rattle.bus_due.specs.Sights.{serving_of}
-use Rattle.bus_due.specs.Wants.{ready_of}
+use Rattle.due_model.specs.Due.{reset_from}
+use Rattle.due_model.specs.Next.{due}
+use Rattle.due_model.specs.Own.{own_of}
+use Rattle.due_model.specs.RunSteps.{run_state}
+use Rattle.due_model.specs.Sights.{serving_of}
+use Rattle.due_model.specs.Wants.{ready_of}
 use Rattle.target_course.specs.States.{IsNoInitiator}
 use Rattle.target_course.specs.target_units.specs.Readies.{ready_unit}
 use Rattle.disk_target.specs.Bytes.{IsOthersIf}

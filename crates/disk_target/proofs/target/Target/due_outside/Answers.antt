@@ -1,11 +1,11 @@
 use Rattle.std.proofs.Common.{ℕ, ◌<◌, ◌+◌, ◌^◌, ◌∙◌, sym, subst, Option}
 use Rattle.scenario.specs.declared.value.TargetDef.{TargetDef}
-use Rattle.bus_due.specs.Due.{reset_from}
-use Rattle.bus_due.specs.Next.{due}
-use Rattle.bus_due.specs.Own.{own_of}
-use Rattle.bus_due.specs.RunState.{array_of}
-use Rattle.bus_due.specs.RunSteps.{run_state}
-use Rattle.bus_due.specs.Wants.{ready_among, since_of}
+use Rattle.due_model.specs.Due.{reset_from}
+use Rattle.due_model.specs.Next.{due}
+use Rattle.due_model.specs.Own.{own_of}
+use Rattle.due_model.specs.RunState.{array_of}
+use Rattle.due_model.specs.RunSteps.{run_state}
+use Rattle.due_model.specs.Wants.{ready_among, since_of}
 use Rattle.target_course.specs.States.{IsNoInitiator, IsReadyWithin, IsTargetLine, IsTargetOf}
 use Rattle.target_course.specs.target_units.specs.Readies.{ready_unit}
 use Rattle.target_course.specs.target_units.specs.Units.{UnitsState, AreUnitsOf}

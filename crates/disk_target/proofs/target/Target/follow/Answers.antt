@@ -1,12 +1,12 @@
 use Rattle.std.proofs.Common.{◌∷◌, subst, List}
 use Rattle.bus_base.specs.declared.Event.{Event}
-use Rattle.bus_due.specs.bus_dialogue.specs.Hearing.{hearing}
-use Rattle.bus_due.specs.bus_dialogue.specs.declared.exchange.Hearing.{Hearing}
+use Rattle.due_model.specs.dialogue_model.specs.Hearing.{hearing}
+use Rattle.due_model.specs.dialogue_model.specs.declared.exchange.Hearing.{Hearing}
 use Rattle.disk_target.specs.Bytes.{StandsInOwn}
 use Rattle.disk_target.specs.Knowns.{IsQuiet}
 use Rattle.disk_target.specs.Targets.{TargetValue}
 use Rattle.disk_target.proofs.target.Target.follow.Goals as goal
-use Rattle.bus_due.specs.RunSteps.{events_of_row}
+use Rattle.due_model.specs.RunSteps.{events_of_row}
 
 pub returns-then-stands_in_own-clause-trace : goal.returns-then-stands_in_own-clause-trace
 returns-then-stands_in_own-clause-trace c = λ s rows fits o devices tied time labels shown_is h.

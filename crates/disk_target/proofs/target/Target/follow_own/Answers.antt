@@ -3,11 +3,11 @@ use Rattle.std.specs.Prelude.{is_some}
 use Rattle.std.proofs.lemmas.Bool.{and_parts}
 use Rattle.bus_trace.specs.declared.connection.Connection.{Connection}
 use Rattle.bus_trace.specs.Terms.{connection}
-use Rattle.bus_due.specs.bus_story.specs.BusState.{row_reading}
-use Rattle.bus_due.specs.bus_dialogue.specs.declared.exchange.Hearing.{Hearing}
+use Rattle.due_model.specs.story_model.specs.BusState.{row_reading}
+use Rattle.due_model.specs.dialogue_model.specs.declared.exchange.Hearing.{Hearing}
 use Rattle.disk_unit.specs.declared.unit.Reply.{Reply}
-use Rattle.bus_due.specs.Faithful.{faithful, is_faithful}
-use Rattle.bus_due.specs.RunSteps.{run_state}
+use Rattle.due_model.specs.Faithful.{faithful, is_faithful}
+use Rattle.due_model.specs.RunSteps.{run_state}
 use Rattle.target_course.specs.Gathered.{IsAtUnit, IsSentSo}
 use Rattle.target_course.specs.Negotiated.{IsHeardSo}
 use Rattle.target_course.specs.Progress.{IsLeftSo, ProgressValue}

@@ -1,7 +1,7 @@
 use Rattle.std.proofs.Common.{ℕ, ◌≡◌, ◌∙◌, ◌∷◌, refl, sym, subst, Option, Some}
 use Rattle.std.specs.Prelude.{is_some}
 use Rattle.bus_trace.specs.LineSet.{LineSet}
-use Rattle.bus_due.specs.bus_dialogue.specs.Hearing.{hearing}
+use Rattle.due_model.specs.dialogue_model.specs.Hearing.{hearing}
 use Rattle.bus_trace.specs.declared.connection.Connection.{Connection}
 use Rattle.disk_target.specs.Bytes.{IsOwnIf, StandsInOwn}
 use Rattle.disk_target.specs.Knowns.{IsQuiet}
@@ -9,7 +9,7 @@ use Rattle.disk_target.specs.Targets.{KnowsRows, TargetValue}
 use Rattle.disk_target.specs.Turns.{IsSentIf}
 use Rattle.disk_target.proofs.Quiet.{serves}
 use Rattle.disk_target.proofs.target.Target.follow_quiet.Goals as goal
-use Rattle.bus_due.specs.RunSteps.{events_of_row}
+use Rattle.due_model.specs.RunSteps.{events_of_row}
 
 pub returns-clause-trace : goal.returns-clause-trace
 returns-clause-trace c = λ s rows fits o devices tied time stands quiet h.

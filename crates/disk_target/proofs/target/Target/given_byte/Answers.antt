@@ -3,13 +3,13 @@ use Rattle.std.proofs.lemmas.Bool.{eqb-true, and_parts}
 use Rattle.std.specs.Prelude.{◌&&◌}
 use Rattle.bus_trace.specs.Trace.{bus, drives}
 use Rattle.bus_lines.specs.Handshakes.{handshakes}
-use Rattle.disk_array.specs.Seats.{is_initiator}
-use Rattle.bus_due.specs.bus_dialogue.specs.Hearing.{begun}
-use Rattle.bus_due.specs.bus_dialogue.specs.NextPhase.{phase_of}
-use Rattle.bus_due.specs.RunState.{array_of}
-use Rattle.bus_due.specs.RunSteps.{run_state}
-use Rattle.bus_due.specs.Sights.{serving_of}
-use Rattle.bus_due.specs.Tasks.{given_if, given_of, reply_now}
+use Rattle.array_model.specs.Seats.{is_initiator}
+use Rattle.due_model.specs.dialogue_model.specs.Hearing.{begun}
+use Rattle.due_model.specs.dialogue_model.specs.NextPhase.{phase_of}
+use Rattle.due_model.specs.RunState.{array_of}
+use Rattle.due_model.specs.RunSteps.{run_state}
+use Rattle.due_model.specs.Sights.{serving_of}
+use Rattle.due_model.specs.Tasks.{given_if, given_of, reply_now}
 use Rattle.target_course.specs.scsi_device.specs.Told.{told, pace_of}
 use Rattle.target_course.specs.Courses.{name_of}
 use Rattle.target_course.specs.Servings.{serving_with}

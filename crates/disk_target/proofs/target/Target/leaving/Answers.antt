@@ -1,7 +1,7 @@
 use Rattle.std.proofs.Common.{false, ◌∙◌}
-use Rattle.bus_due.specs.bus_dialogue.specs.Ends.{seek_before}
-use Rattle.bus_due.specs.bus_dialogue.specs.NextPhase as next_phase
-use Rattle.bus_due.specs.bus_dialogue.specs.PhaseBytes.{lines_by}
+use Rattle.due_model.specs.dialogue_model.specs.Ends.{seek_before}
+use Rattle.due_model.specs.dialogue_model.specs.NextPhase as next_phase
+use Rattle.due_model.specs.dialogue_model.specs.PhaseBytes.{lines_by}
 use Rattle.target_course.specs.Servings.{serving_with}
 use Rattle.disk_target.proofs.target.Target.leaving.Goals as goal
 

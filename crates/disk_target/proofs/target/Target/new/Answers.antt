@@ -3,7 +3,7 @@ use Rattle.std.specs.Prelude.{◌==◌}
 use Rattle.std.specs.List.{find}
 use Rattle.std.proofs.lemmas.Result.{IfOk-weaker}
 use Rattle.scenario.specs.declared.value.TargetDef.{TargetDef}
-use Rattle.bus_due.specs.Defs.{target_def_of}
+use Rattle.due_model.specs.Defs.{target_def_of}
 use Rattle.disk_target.specs.Targets.{TargetValue}
 use Rattle.disk_target.proofs.target.Target.new.Goals as goal
 

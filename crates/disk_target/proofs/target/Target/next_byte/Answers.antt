@@ -1,8 +1,8 @@
 use Rattle.std.proofs.Common.{◌≡◌, ◌∙◌, true, false, sym}
-use Rattle.bus_due.specs.bus_dialogue.specs.NextPhase.{phase_of}
-use Rattle.bus_due.specs.bus_dialogue.specs.PhaseBytes.{phase_byte}
-use Rattle.bus_due.specs.RunSteps.{run_state}
-use Rattle.bus_due.specs.Tasks.{given_of}
+use Rattle.due_model.specs.dialogue_model.specs.NextPhase.{phase_of}
+use Rattle.due_model.specs.dialogue_model.specs.PhaseBytes.{phase_byte}
+use Rattle.due_model.specs.RunSteps.{run_state}
+use Rattle.due_model.specs.Tasks.{given_of}
 use Rattle.target_course.specs.Servings.{serving_with}
 use Rattle.disk_target.proofs.Knowing.{alike_known}
 use Rattle.disk_target.proofs.target.Target.next_byte.Goals as goal

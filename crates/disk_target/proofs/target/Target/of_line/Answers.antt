@@ -1,6 +1,6 @@
 use Rattle.std.proofs.Common.{ℕ, [], arith, refl, sym, subst, length}
 use Rattle.std.specs.Prelude.{replicate}
-use Rattle.disk_array.specs.Units.{settled_array, starting_array}
+use Rattle.array_model.specs.Units.{settled_array, starting_array}
 use Rattle.target_course.specs.target_units.specs.Units.{AreUnitsOf}
 use Rattle.target_course.specs.scsi_device.proofs.Finds.{none_some}
 use Rattle.disk_target.proofs.Servables.{servable}

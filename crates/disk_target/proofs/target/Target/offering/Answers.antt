@@ -2,12 +2,12 @@ use Rattle.std.proofs.Common.{ℕ, ◌≡◌, ◌==◌, ◌∙◌, Bool, sym, su
 use Rattle.std.specs.Prelude.{◌&&◌}
 use Rattle.bus_trace.specs.Trace.{bus, drives}
 use Rattle.bus_lines.specs.Handshakes.{handshakes}
-use Rattle.bus_due.specs.bus_dialogue.specs.Ends.{follows_by}
-use Rattle.bus_due.specs.bus_dialogue.specs.Hearing.{begun}
-use Rattle.bus_due.specs.bus_dialogue.specs.NextPhase as next_phase
-use Rattle.bus_due.specs.RunSteps.{run_state}
-use Rattle.bus_due.specs.Sights.{serving_of}
-use Rattle.bus_reactions.specs.declared.ends.Offering.{Offering}
+use Rattle.due_model.specs.dialogue_model.specs.Ends.{follows_by}
+use Rattle.due_model.specs.dialogue_model.specs.Hearing.{begun}
+use Rattle.due_model.specs.dialogue_model.specs.NextPhase as next_phase
+use Rattle.due_model.specs.RunSteps.{run_state}
+use Rattle.due_model.specs.Sights.{serving_of}
+use Rattle.reaction_model.specs.declared.ends.Offering.{Offering}
 use Rattle.target_course.specs.scsi_device.specs.Told.{told, pace_of}
 use Rattle.target_course.specs.Alike.{is_driven}
 use Rattle.target_course.specs.Servings.{serving_with}

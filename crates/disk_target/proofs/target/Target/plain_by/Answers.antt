@@ -1,11 +1,11 @@
 use Rattle.std.proofs.Common.{◌≡◌, ◌∙◌, refl, sym, None}
 use Rattle.bus_lines.specs.Handshakes.{handshakes}
-use Rattle.bus_due.specs.bus_dialogue.specs.Hearing.{begun}
-use Rattle.bus_due.specs.RunSteps.{run_state}
-use Rattle.bus_due.specs.Sights.{serving_of}
-use Rattle.bus_reactions.specs.Sight.{sight}
-use Rattle.bus_reactions.specs.declared.ends.Offering.{Offering}
-use Rattle.bus_reactions.specs.declared.ends.Pace.{Pace}
+use Rattle.due_model.specs.dialogue_model.specs.Hearing.{begun}
+use Rattle.due_model.specs.RunSteps.{run_state}
+use Rattle.due_model.specs.Sights.{serving_of}
+use Rattle.reaction_model.specs.Sight.{sight}
+use Rattle.reaction_model.specs.declared.ends.Offering.{Offering}
+use Rattle.reaction_model.specs.declared.ends.Pace.{Pace}
 use Rattle.scenario.specs.declared.value.TargetDef.{TargetDef}
 use Rattle.target_course.specs.scsi_device.specs.Told.{told, pace_of}
 use Rattle.target_course.specs.Dues.{due_of_offering, myself_by}

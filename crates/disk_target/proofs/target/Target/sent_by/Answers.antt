@@ -1,6 +1,6 @@
 use Rattle.std.proofs.Common.{◌≡◌, ◌∙◌, subst, Option}
-use Rattle.bus_due.specs.RunSteps.{run_state}
-use Rattle.bus_due.specs.Tasks.{given_of}
+use Rattle.due_model.specs.RunSteps.{run_state}
+use Rattle.due_model.specs.Tasks.{given_of}
 use Rattle.target_course.specs.scsi_device.specs.Heard.{instructions}
 use Rattle.target_course.specs.Courses.{CourseState, IsCourse, IsCourseOf, AreToldOf, name_of}
 use Rattle.target_course.specs.Gathered.{place_in_run}

@@ -1,6 +1,6 @@
 use Rattle.std.proofs.Common.{◌∷◌}
-use Rattle.bus_due.specs.RunSteps.{run_state}
-use Rattle.bus_due.specs.Tasks.{given_of}
+use Rattle.due_model.specs.RunSteps.{run_state}
+use Rattle.due_model.specs.Tasks.{given_of}
 use Rattle.disk_target.proofs.Knowing.{sources}
 use Rattle.disk_target.proofs.target.Target.shown_by.Goals as goal
 

@@ -3,12 +3,12 @@ use Rattle.bus_trace.specs.declared.Row.{Row}
 use Rattle.bus_trace.specs.declared.connection.Connection.{Connection}
 use Rattle.std.specs.Prelude.{is_some}
 use Rattle.bus_trace.specs.Terms.{connection}
-use Rattle.disk_array.specs.Processes.{Process}
-use Rattle.disk_array.specs.ArrayHistory.{shows_run}
-use Rattle.bus_due.specs.bus_dialogue.specs.NextPhase.{leaving_by}
-use Rattle.bus_due.specs.RunState.{process_served}
-use Rattle.bus_due.specs.RunSteps.{run_state}
-use Rattle.bus_due.specs.Tasks.{given_of}
+use Rattle.array_model.specs.Processes.{Process}
+use Rattle.array_model.specs.ArrayHistory.{shows_run}
+use Rattle.due_model.specs.dialogue_model.specs.NextPhase.{leaving_by}
+use Rattle.due_model.specs.RunState.{process_served}
+use Rattle.due_model.specs.RunSteps.{run_state}
+use Rattle.due_model.specs.Tasks.{given_of}
 use Rattle.target_course.specs.Courses.{CourseState, IsCourse, IsCourseOf, AreToldOf, events_of_target, name_of}
 use Rattle.disk_target.specs.Bytes.{taken_by}
 use Rattle.disk_target.specs.Targets.{IsCourseIf}

@@ -1,6 +1,6 @@
 use Rattle.std.proofs.Common.{◌≡◌, Bool, true, false, sym, Some, None}
 use Rattle.std.specs.Prelude.{if◌then◌else◌}
-use Rattle.disk_array.specs.Order.{chosen_place}
+use Rattle.array_model.specs.Order.{chosen_place}
 use Rattle.tag_queue.specs.Queue.{has_key, is_held, key_at_if, waiting_of, entries_in}
 use Rattle.disk_unit.proofs.BookLists.{chosen_live}
 use Rattle.disk_unit.proofs.books.Books.choose.Goals as goal

@@ -1,6 +1,6 @@
 use Rattle.std.proofs.Common.{◌≡◌, ◌*◌, ℕ, List, replicate, ap, ◌∙◌, arith}
 use Rattle.std.proofs.lemmas.Grind.{common_steps}
-use Rattle.disk_array.specs.Contents.{touched_block}
+use Rattle.array_model.specs.Contents.{touched_block}
 use Rattle.disk_unit.specs.Dense.{blocks_in}
 use Rattle.disk_unit.proofs.AllBlocks.{zero_dense}
 use Rattle.disk_unit.proofs.dense.DenseBlocks.new.Goals as goal

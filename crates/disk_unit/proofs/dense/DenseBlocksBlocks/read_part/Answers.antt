@@ -1,5 +1,5 @@
 use Rattle.std.proofs.Common.{◌≡◌, ◌<◌, ◌+◌, ◌-◌, ◌*◌, ℕ, List, length, take, drop, sym, ap, subst, ◌∙◌, arith}
-use Rattle.disk_array.specs.Contents.{Contents, block_at, touched_block, zero_block}
+use Rattle.array_model.specs.Contents.{Contents, block_at, touched_block, zero_block}
 use Rattle.disk_unit.specs.Dense.{blocks_in}
 use Rattle.disk_unit.proofs.AllBlocks.{read_dense}
 use Rattle.disk_unit.proofs.dense.DenseBlocksBlocks.read_part.Goals as goal

@@ -1,5 +1,5 @@
 use Rattle.std.proofs.Common.{◌≡◌, length, subst}
-use Rattle.disk_array.specs.Contents.{Contents, block_at}
+use Rattle.array_model.specs.Contents.{Contents, block_at}
 use Rattle.disk_unit.proofs.AllBlocks.{dense_whole}
 use Rattle.disk_unit.proofs.dense.DenseBlocksBlocks.size.Goals as goal
 

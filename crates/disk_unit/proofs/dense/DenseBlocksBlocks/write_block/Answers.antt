@@ -3,7 +3,7 @@ use Rattle.std.specs.Vec.{with_items}
 use Rattle.std.proofs.lemmas.List.{with_items_is}
 use Rattle.std.proofs.lemmas.Grind.{common_steps}
 use borrow.Rule.Slice.PartMut.{put_mid}
-use Rattle.disk_array.specs.Contents.{Contents, with_block, touched_with}
+use Rattle.array_model.specs.Contents.{Contents, with_block, touched_with}
 use Rattle.disk_unit.specs.Dense.{blocks_in}
 use Rattle.disk_unit.proofs.AllBlocks.{put_at, put_mid_is, length_put, block_within, write_dense}
 use Rattle.disk_unit.proofs.dense.DenseBlocksBlocks.write_block.Goals as goal

@@ -3,7 +3,7 @@ use Rattle.std.proofs.Common.{ap, ◌∙◌, arith}
 use Rattle.std.specs.Global.{Vec}
 use Rattle.std.proofs.lemmas.Grind.{common_steps}
 use Rattle.std.proofs.lemmas.List.{take-replicate, drop-replicate}
-use Rattle.disk_array.specs.Contents.{block_at, zero_block}
+use Rattle.array_model.specs.Contents.{block_at, zero_block}
 use Rattle.disk_unit.specs.Sparse.{Store, place_in, is_at}
 use Rattle.disk_unit.proofs.Touched.{at_within, size_at, read_found, read_absent}
 use Rattle.disk_unit.proofs.sparse.SparseBlocksBlocks.read_part.Goals as goal

@@ -1,5 +1,5 @@
 use Rattle.std.proofs.Common.{◌≡◌, length, subst}
-use Rattle.disk_array.specs.Contents.{block_at}
+use Rattle.array_model.specs.Contents.{block_at}
 use Rattle.disk_unit.specs.Sparse.{Store}
 use Rattle.disk_unit.proofs.Touched.{touched_whole}
 use Rattle.disk_unit.proofs.sparse.SparseBlocksBlocks.size.Goals as goal

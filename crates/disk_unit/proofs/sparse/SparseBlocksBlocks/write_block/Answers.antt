@@ -3,7 +3,7 @@ use Rattle.std.specs.List.{insert}
 use Rattle.std.specs.Global.{Vec}
 use Rattle.std.specs.Vec.{vec_capacity}
 use Rattle.std.proofs.lemmas.Grind.{common_steps}
-use Rattle.disk_array.specs.Contents.{with_block, touched_with}
+use Rattle.array_model.specs.Contents.{with_block, touched_with}
 use Rattle.disk_unit.specs.Sparse.{Store, place_in, is_at, touched_of, IsSparse}
 use Rattle.disk_unit.proofs.Touched.{at_within, size_at, write_found, write_absent, overwrite_sound, touch_sound}
 use Rattle.disk_unit.proofs.Touched.{sized_last}

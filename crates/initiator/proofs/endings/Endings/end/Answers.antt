@@ -1,5 +1,5 @@
 use Rattle.std.proofs.Common.{sym, subst}
-use Rattle.bus_due.specs.RunSteps.{run_state}
+use Rattle.due_model.specs.RunSteps.{run_state}
 use Rattle.initiator.specs.declared.endings.CommandEnd.{CommandEnd}
 use Rattle.initiator.specs.Endings.{IsEndOf}
 use Rattle.initiator.proofs.endings.Endings.end.Goals as goal

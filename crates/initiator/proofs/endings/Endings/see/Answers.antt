@@ -1,6 +1,6 @@
 use Rattle.std.proofs.Common.{◌∷◌, ◌∙◌, sym, subst, List}
-use Rattle.bus_due.specs.RunSteps.{run_state, events_of_row}
-use Rattle.bus_story.specs.Items.{Sent}
+use Rattle.due_model.specs.RunSteps.{run_state, events_of_row}
+use Rattle.story_model.specs.Items.{Sent}
 use Rattle.initiator.specs.declared.endings.CommandEnd.{CommandEnd}
 use Rattle.initiator.specs.Books.{my_book}
 use Rattle.initiator.specs.Endings.{ends_after_from, AreEndingsOf}

@@ -1,8 +1,8 @@
 use Rattle.std.proofs.Common.{ℕ, ◌∷◌, ◌∙◌, sym, subst}
 use Rattle.bus_trace.specs.Terms.{connection}
-use Rattle.bus_story.specs.BusState.{row_reading}
-use Rattle.bus_due.specs.RunSteps.{run_state}
-use Rattle.bus_due.specs.Telling.{initiator_events}
+use Rattle.story_model.specs.BusState.{row_reading}
+use Rattle.due_model.specs.RunSteps.{run_state}
+use Rattle.due_model.specs.Telling.{initiator_events}
 use Rattle.initiator.specs.Hosts.{HostValue, IsHostAfter}
 use Rattle.initiator.specs.OwnLinks.{own_link}
 use Rattle.initiator.specs.States.{IsOwnConnection}

@@ -1,6 +1,6 @@
 use Rattle.std.proofs.Common.{ℕ, ◌^◌, ◌∙◌, sym, subst, Option, None}
 use Rattle.bus_lines.specs.Timely.{IsBefore}
-use Rattle.bus_due.specs.Next.{due}
+use Rattle.due_model.specs.Next.{due}
 use Rattle.initiator.specs.Hosts.{HostValue, IsHostAfter, IsNeverCalled}
 use Rattle.initiator.specs.States.{InitiatorState, IsInitiatorOf, sending_by}
 use Rattle.initiator.proofs.Hosts.{host_sends}

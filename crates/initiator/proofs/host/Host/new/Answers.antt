@@ -3,7 +3,7 @@ use Rattle.std.specs.Prelude.{◌==◌}
 use Rattle.std.specs.List.{find}
 use Rattle.std.proofs.lemmas.Result.{IfOk-weaker}
 use Rattle.scenario.specs.declared.value.HostDef.{HostDef}
-use Rattle.bus_due.specs.Defs.{host_of}
+use Rattle.due_model.specs.Defs.{host_of}
 use Rattle.initiator.specs.Hosts.{HostValue}
 use Rattle.initiator.proofs.host.Host.new.Goals as goal
 

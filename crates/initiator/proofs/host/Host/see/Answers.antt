@@ -2,8 +2,8 @@ use Rattle.std.proofs.Common.{◌∷◌, ◌∙◌, sym}
 use Rattle.std.specs.Prelude.{is_some}
 use Rattle.std.proofs.lemmas.Bool.{and_parts}
 use Rattle.initiator.proofs.host.Host.see.Goals as goal
-use Rattle.bus_due.specs.bus_dialogue.specs.Events.{is_empty}
-use Rattle.bus_due.specs.bus_dialogue.proofs.Leavings.{empty_is}
+use Rattle.due_model.specs.dialogue_model.specs.Events.{is_empty}
+use Rattle.due_model.specs.dialogue_model.proofs.Leavings.{empty_is}
 
 pub returns-then-is_linked-clause-trace : goal.returns-then-is_linked-clause-trace
 returns-then-is_linked-clause-trace c = λ s rows f o d shown h.

@@ -1,7 +1,7 @@
 use Rattle.std.proofs.Common.{◌≡◌, ◌∷◌, ◌∙◌, [], sym, subst, refl}
 use Rattle.std.specs.Prelude.{◌==◌, is_some, true}
 use Rattle.bus_trace.specs.Terms.{connection}
-use Rattle.bus_due.specs.bus_dialogue.specs.Hearing.{hearing}
+use Rattle.due_model.specs.dialogue_model.specs.Hearing.{hearing}
 use Rattle.initiator.specs.Hosts.{HostValue, IsHostAfter}
 use Rattle.initiator.proofs.Hosts.{is_initiator}
 use Rattle.initiator.proofs.Still.{linked_goes_on, still_heard, others_tell_nothing}

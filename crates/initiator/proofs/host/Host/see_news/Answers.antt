@@ -1,7 +1,7 @@
 use Rattle.std.proofs.Common.{ℕ, ◌≡◌, ◌∷◌, ◌∙◌, ap, sym, subst, List, Option}
 use Rattle.std.specs.Prelude.{take}
-use Rattle.bus_due.specs.RunSteps.{run_state}
-use Rattle.bus_story.specs.TraceHistory.{aim_of}
+use Rattle.due_model.specs.RunSteps.{run_state}
+use Rattle.story_model.specs.TraceHistory.{aim_of}
 use Rattle.scsi_device.specs.Itself.{ItselfValue, IsItselfOf}
 use Rattle.initiator.specs.declared.endings.CommandEnd.{CommandEnd}
 use Rattle.initiator.specs.declared.mine.OwnItem.{OwnItem}

@@ -1,5 +1,5 @@
 use Rattle.std.proofs.Common.{◌≡◌, ◌∙◌, ap, refl, Option, Some, None}
-use Rattle.bus_due.specs.RunSteps.{is_for_process}
+use Rattle.due_model.specs.RunSteps.{is_for_process}
 use Rattle.initiator.specs.Books.{item_if}
 use Rattle.initiator.specs.Intents.{IntentValue, is_for_own_process}
 use Rattle.initiator.specs.declared.mine.OwnItem.{OwnItem}

@@ -1,7 +1,7 @@
 use Rattle.std.proofs.Common.{◌∙◌, ap, sym, subst, Option, Some}
-use Rattle.bus_story.specs.Items.{Item}
-use Rattle.bus_due.specs.Defs.{opening}
-use Rattle.bus_due.specs.RunSteps.{run_state}
+use Rattle.story_model.specs.Items.{Item}
+use Rattle.due_model.specs.Defs.{opening}
+use Rattle.due_model.specs.RunSteps.{run_state}
 use Rattle.initiator.specs.Wishes.{IsItemIf}
 use Rattle.initiator.specs.Intents.{IntentValue}
 use Rattle.initiator.specs.Openings.{opening_by}

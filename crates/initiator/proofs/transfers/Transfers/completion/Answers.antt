@@ -1,11 +1,11 @@
 use Rattle.std.proofs.Common.{◌∙◌, ap, Option}
 use Rattle.bus_base.specs.declared.Event.{Event}
-use Rattle.bus_story.specs.BusState.{row_reading}
-use Rattle.bus_due.specs.RunSteps.{run_state}
-use Rattle.bus_due.specs.Telling.{initiator_events}
+use Rattle.story_model.specs.BusState.{row_reading}
+use Rattle.due_model.specs.RunSteps.{run_state}
+use Rattle.due_model.specs.Telling.{initiator_events}
 use Rattle.initiator.proofs.TransferRows.{completion_is, own_is}
 use Rattle.initiator.proofs.transfers.Transfers.completion.Goals as goal
-use Rattle.bus_due.specs.bus_dialogue.specs.Events.{event_if}
+use Rattle.due_model.specs.dialogue_model.specs.Events.{event_if}
 
 pub returns-clause-rows : goal.returns-clause-rows
 returns-clause-rows c = λ s rows row d told h. ap (λ (e : Option Event). event_if e) c.completion_in.ensures

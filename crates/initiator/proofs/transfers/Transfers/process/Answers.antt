@@ -1,7 +1,7 @@
 use Rattle.std.proofs.Common.{◌∙◌, ap}
-use Rattle.bus_due.specs.RunState.{item_of}
-use Rattle.bus_due.specs.RunSteps.{run_state}
-use Rattle.bus_due.specs.Telling.{id_of}
+use Rattle.due_model.specs.RunState.{item_of}
+use Rattle.due_model.specs.RunSteps.{run_state}
+use Rattle.due_model.specs.Telling.{id_of}
 use Rattle.initiator.specs.Transfers.{TransfersValue, process_of_link}
 use Rattle.initiator.proofs.TransferRows.{process_is, own_is}
 use Rattle.initiator.proofs.transfers.Transfers.process.Goals as goal

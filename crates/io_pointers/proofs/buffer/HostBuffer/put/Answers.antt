@@ -1,6 +1,6 @@
 use Rattle.std.proofs.Common.{ℕ, List, sym, subst}
 use Rattle.std.specs.Prelude.{slice_set}
-use Rattle.bus_story.specs.CarriedBytes.{area_with}
+use Rattle.story_model.specs.CarriedBytes.{area_with}
 use Rattle.io_pointers.specs.HostBuffer.{IsHeld}
 use Rattle.io_pointers.proofs.Held.{put_held}
 use Rattle.io_pointers.proofs.buffer.HostBuffer.put.Goals as goal

@@ -1,6 +1,6 @@
 use Rattle.std.proofs.Common.{◌≡◌, ℕ, Option, None, Some, true, [], inr, sym, ◌⊎◌}
 use Rattle.std.specs.Prelude.{IfNone}
-use Rattle.disk_array.specs.Order.{chosen_place}
+use Rattle.array_model.specs.Order.{chosen_place}
 use Rattle.tag_queue.specs.Queue.{is_held, waiting_of, entries_in, key_at_if}
 use Rattle.tag_queue.proofs.Chosen.{chosen_none}
 use Rattle.tag_queue.proofs.queue.Queue.choose.Goals as goal

@@ -1,6 +1,6 @@
 use Rattle.std.proofs.Common.{◌∷◌, ◌∙◌}
-use Rattle.bus_due.specs.RunSteps.{run_state}
-use Rattle.bus_due.specs.Tasks.{given_of}
+use Rattle.due_model.specs.RunSteps.{run_state}
+use Rattle.due_model.specs.Tasks.{given_of}
 use Rattle.target_course.specs.Courses.{course_events}
 use Rattle.target_course.proofs.CourseRows.{course_shows}
 use Rattle.target_course.proofs.course.Course.shown.Goals as goal

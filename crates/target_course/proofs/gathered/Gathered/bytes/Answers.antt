@@ -1,6 +1,6 @@
 use Rattle.std.proofs.Common.{◌∙◌}
-use Rattle.disk_array.specs.Processes.{process_of}
-use Rattle.bus_due.specs.RunSteps.{run_state}
+use Rattle.array_model.specs.Processes.{process_of}
+use Rattle.due_model.specs.RunSteps.{run_state}
 use Rattle.target_course.specs.Gathered.{bytes_of, gathering_at}
 use Rattle.target_course.proofs.GatheredAll.{whole_bytes}
 use Rattle.target_course.proofs.GatheredRows.{bytes_sent}

@@ -1,5 +1,5 @@
 use Rattle.std.proofs.Common.{sym, subst}
-use Rattle.disk_array.specs.Seats.{settled_seat}
+use Rattle.array_model.specs.Seats.{settled_seat}
 use Rattle.target_units.specs.Absent.{AbsentState, IsAbsentAt}
 use Rattle.target_units.proofs.AbsentSteps.{guest_ends}
 use Rattle.target_units.proofs.absent.AbsentUnit.end_guest.Goals as goal

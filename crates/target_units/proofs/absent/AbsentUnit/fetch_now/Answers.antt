@@ -3,7 +3,7 @@ use Rattle.std.specs.Prelude.{is_some}
 use Rattle.cdb_codec.specs.declared.operation.TheConstants.{INQUIRY}
 use Rattle.cdb_codec.specs.Cdb.{command_of}
 use Rattle.cdb_codec.specs.Replies.{sense_data}
-use Rattle.disk_array.specs.Execution.{is_opcode}
+use Rattle.array_model.specs.Execution.{is_opcode}
 use Rattle.target_units.specs.Absent.{inquiry_room, sense_room}
 use Rattle.target_units.proofs.AbsentReplies.{inquired_part, sensed_part, no_part}
 use Rattle.target_units.proofs.absent.AbsentUnit.fetch_now.Goals as goal

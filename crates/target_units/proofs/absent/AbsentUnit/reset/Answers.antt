@@ -1,5 +1,5 @@
 use Rattle.std.proofs.Common.{sym, subst}
-use Rattle.disk_array.specs.Seats.{settled_seat, seat_after_reset}
+use Rattle.array_model.specs.Seats.{settled_seat, seat_after_reset}
 use Rattle.target_units.specs.Absent.{AbsentState, IsAbsentAt}
 use Rattle.target_units.proofs.AbsentSteps.{resets}
 use Rattle.target_units.proofs.absent.AbsentUnit.reset.Goals as goal

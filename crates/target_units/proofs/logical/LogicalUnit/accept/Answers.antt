@@ -1,6 +1,6 @@
 use Rattle.std.proofs.Common.{Some, subst, sym, ◌∙◌}
-use Rattle.disk_array.specs.Execution.{queue_full}
-use Rattle.disk_array.specs.Seats.{seat_with_guest}
+use Rattle.array_model.specs.Execution.{queue_full}
+use Rattle.array_model.specs.Seats.{seat_with_guest}
 use Rattle.target_units.specs.declared.logical.LogicalUnit.{LogicalUnit}
 use Rattle.target_units.specs.Seated.{IsAtSeat}
 use Rattle.target_units.specs.Units.{IsUnitOf, spare_of}

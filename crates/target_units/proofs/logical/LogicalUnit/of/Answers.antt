@@ -3,8 +3,8 @@ use Rattle.scenario.specs.declared.value.FillDef.{FillDef}
 use Rattle.scenario.specs.declared.value.UnitDef.{UnitDef}
 use Rattle.scenario.specs.Lookups.{unit_of}
 use Rattle.scenario.specs.Value.{ScenarioValue}
-use Rattle.disk_array.specs.Seats.{seat_of}
-use Rattle.disk_array.specs.Units.{starting_array, pick_of}
+use Rattle.array_model.specs.Seats.{seat_of}
+use Rattle.array_model.specs.Units.{starting_array, pick_of}
 use Rattle.scsi_device.proofs.FitLines.{unit_fits}
 use Rattle.target_units.specs.Absent.{AbsentState, IsAbsentAt}
 use Rattle.target_units.specs.Fillings.{AreFilled, blocks_at}

@@ -1,5 +1,5 @@
 use Rattle.std.proofs.Common.{Some, subst, sym, ◌∙◌}
-use Rattle.disk_array.specs.Seats.{is_any_held}
+use Rattle.array_model.specs.Seats.{is_any_held}
 use Rattle.target_units.specs.declared.logical.LogicalUnit.{LogicalUnit}
 use Rattle.target_units.specs.Seated.{IsAtSeat}
 use Rattle.target_units.specs.Units.{IsUnitOf, room_if}

@@ -1,6 +1,6 @@
 use Rattle.std.proofs.Common.{ℕ, ◌∙◌, ◌≤◌, ◌+◌, subst, sym}
-use Rattle.disk_array.specs.Seats.{contents_of, running_at}
-use Rattle.disk_array.specs.Units.{guest_at}
+use Rattle.array_model.specs.Seats.{contents_of, running_at}
+use Rattle.array_model.specs.Units.{guest_at}
 use Rattle.disk_unit.specs.Disk.{blocks_written}
 use Rattle.target_units.specs.Rooms.{HasRoomFor}
 use Rattle.std.specs.Prelude.{is_some}

@@ -1,5 +1,5 @@
 use Rattle.std.proofs.Common.{◌∙◌}
-use Rattle.disk_array.specs.Seats.{seat_after_aborted}
+use Rattle.array_model.specs.Seats.{seat_after_aborted}
 use Rattle.target_units.specs.Seated.{settled}
 use Rattle.target_units.proofs.SeatSteps.{by_state, aborts_at}
 use Rattle.target_units.proofs.seated.SeatedUnit.abort.Goals as goal

@@ -1,6 +1,6 @@
 use Rattle.std.proofs.Common.{◌∙◌}
-use Rattle.disk_array.specs.Execution.{queue_full}
-use Rattle.disk_array.specs.Seats.{seat_with_guest}
+use Rattle.array_model.specs.Execution.{queue_full}
+use Rattle.array_model.specs.Seats.{seat_with_guest}
 use Rattle.std.specs.Prelude.{Some}
 use Rattle.target_units.specs.Seated.{settled}
 use Rattle.target_units.proofs.SeatSteps.{by_state, accepts, refuses, refused_full, arrival_spare}

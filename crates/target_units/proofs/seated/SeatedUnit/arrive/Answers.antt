@@ -1,6 +1,6 @@
 use Rattle.std.proofs.Common.{◌∙◌, subst}
 use Rattle.cdb_codec.specs.Cdb.{command_of}
-use Rattle.disk_array.specs.Execution.{is_request_sense}
+use Rattle.array_model.specs.Execution.{is_request_sense}
 use Rattle.disk_unit.specs.Disk.{disk_extent}
 use Rattle.disk_unit.specs.Units.{IsAccepted, entry_with}
 use Rattle.target_units.specs.Seated.{SeatedState, with_books}

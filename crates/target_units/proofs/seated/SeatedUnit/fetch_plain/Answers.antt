@@ -1,6 +1,6 @@
 use Rattle.std.proofs.Common.{ℕ, ◌≤◌, ◌+◌, ◌∙◌, List, [], length, take, drop, sym, subst, None}
 use Rattle.std.specs.Prelude.{slice_index_or}
-use Rattle.disk_array.specs.Execution.{execution}
+use Rattle.array_model.specs.Execution.{execution}
 use Rattle.target_units.specs.Seated.{seated_context}
 use Rattle.target_units.proofs.Tellings.{plain_bytes}
 use Rattle.target_units.proofs.seated.SeatedUnit.fetch_plain.Goals as goal

@@ -1,7 +1,7 @@
 use Rattle.std.proofs.Common.{ℕ, ◌≡◌, ◌≤◌, ◌+◌, ◌∙◌, List, [], length, take, drop, sym, subst, true, None}
 use Rattle.std.specs.Prelude.{slice_index_or}
 use Rattle.cdb_codec.specs.Replies.{sense_data}
-use Rattle.disk_array.specs.Execution.{execution, returned_sense}
+use Rattle.array_model.specs.Execution.{execution, returned_sense}
 use Rattle.disk_unit.specs.Books.{sense_or_none}
 use Rattle.target_units.specs.Seated.{SeatedState, seated_context}
 use Rattle.target_units.proofs.Tellings.{IsSensed, sense_bytes as sensed, sense_within, sense_part, stored_sense}

@@ -1,5 +1,5 @@
-use Rattle.disk_array.specs.Seats.{seat_of}
-use Rattle.disk_array.specs.Units.{starting_array}
+use Rattle.array_model.specs.Seats.{seat_of}
+use Rattle.array_model.specs.Units.{starting_array}
 use Rattle.target_units.specs.Seated.{SeatedState, IsAtSeat}
 use Rattle.target_units.specs.Fillings.{IsFresh, blocks_by_all}
 use Rattle.target_units.proofs.Starts.{fresh_at, if_ok}

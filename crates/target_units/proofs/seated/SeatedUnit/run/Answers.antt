@@ -1,5 +1,5 @@
 use Rattle.std.proofs.Common.{ℕ, ◌∙◌, ◌≤◌, ◌+◌, subst, sym}
-use Rattle.disk_array.specs.Seats.{contents_of}
+use Rattle.array_model.specs.Seats.{contents_of}
 use Rattle.disk_unit.specs.Disk.{blocks_written}
 use Rattle.target_units.specs.Seated.{settled}
 use Rattle.target_units.proofs.SeatSteps.{by_state, runs, guest_runs}

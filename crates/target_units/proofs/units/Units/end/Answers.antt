@@ -1,8 +1,8 @@
 use Rattle.std.proofs.Common.{ℕ, ◌≡◌, ◌∙◌, refl, sym, subst, set, get_or}
 use Rattle.bus_base.specs.declared.Event.TheVariants as events
 use Rattle.bus_base.specs.declared.ProcId.{ProcId}
-use Rattle.bus_due.specs.Wants.{since_of}
-use Rattle.disk_array.specs.Seats.{seat_of, seat_after_end}
+use Rattle.due_model.specs.Wants.{since_of}
+use Rattle.array_model.specs.Seats.{seat_of, seat_after_end}
 use Rattle.target_units.specs.Units.{IsStep}
 use Rattle.target_units.proofs.UnitSteps.{one_set, spare_stays, other_place, end_left}
 use Rattle.target_units.proofs.units.Units.end.Goals as goal

@@ -1,7 +1,7 @@
 use Rattle.std.proofs.Common.{ℕ, ◌≡◌, refl, set, get_or}
 use Rattle.bus_base.specs.declared.Event.TheVariants as events
-use Rattle.bus_due.specs.Wants.{since_of}
-use Rattle.disk_array.specs.Seats.{seat_of}
+use Rattle.due_model.specs.Wants.{since_of}
+use Rattle.array_model.specs.Seats.{seat_of}
 use Rattle.target_units.proofs.UnitSteps.{one_set, spare_stays, other_place, end_left}
 use Rattle.target_units.proofs.units.Units.end_guest.Goals as goal
 

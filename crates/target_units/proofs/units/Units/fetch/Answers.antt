@@ -1,6 +1,6 @@
 use Rattle.std.proofs.Common.{ℕ, ◌∙◌, length, take, drop}
-use Rattle.disk_array.specs.Seats.{seat_of}
-use Rattle.bus_due.specs.Wants.{since_of}
+use Rattle.array_model.specs.Seats.{seat_of}
+use Rattle.due_model.specs.Wants.{since_of}
 use Rattle.target_units.proofs.UnitSteps.{unit_seen}
 use Rattle.target_units.proofs.UnitTellings.{reply_same}
 use Rattle.target_units.proofs.units.Units.fetch.Goals as goal

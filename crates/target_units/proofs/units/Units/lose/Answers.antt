@@ -1,11 +1,11 @@
 use Rattle.std.proofs.Common.{ℕ, ◌≡◌, ◌∙◌, refl, sym, subst, set, get_or}
 use Rattle.bus_base.specs.declared.Event.TheVariants as events
 use Rattle.bus_base.specs.declared.ProcId.{ProcId}
-use Rattle.bus_due.specs.Wants.{since_of}
-use Rattle.disk_array.specs.Seats.{seat_of, seat_after_loss}
+use Rattle.due_model.specs.Wants.{since_of}
+use Rattle.array_model.specs.Seats.{seat_of, seat_after_loss}
 use Rattle.target_units.specs.Units.{IsStep}
 use Rattle.target_units.proofs.UnitSteps.{one_set, spare_stays, other_place, loss_left}
-use Rattle.disk_array.specs.Steps.{has_ended}
+use Rattle.array_model.specs.Steps.{has_ended}
 use Rattle.target_units.proofs.units.Units.lose.Goals as goal
 
 pub returns-clause-array : goal.returns-clause-array

@@ -5,8 +5,8 @@ use Rattle.scenario.specs.Lookups.{unit_of}
 use Rattle.scsi_device.proofs.Finds.{found_any}
 use Rattle.scsi_device.proofs.FitLines.{obeys_fits}
 use Rattle.scenario.specs.Value.{ScenarioValue}
-use Rattle.disk_array.specs.Seats.{seat_of}
-use Rattle.disk_array.specs.Units.{starting_array}
+use Rattle.array_model.specs.Seats.{seat_of}
+use Rattle.array_model.specs.Units.{starting_array}
 use Rattle.target_units.specs.Fillings.{blocks_at}
 use Rattle.target_units.specs.Units.{IsUnitOf, UnitsState, spare_of, unit_in}
 use Rattle.target_units.proofs.Starts.{eight_units}

@@ -1,5 +1,5 @@
 use Rattle.std.proofs.Common.{ℕ, ◌∙◌}
-use Rattle.bus_due.specs.Wants.{ready_at}
+use Rattle.due_model.specs.Wants.{ready_at}
 use Rattle.target_units.specs.Readies.{ready_unit}
 use Rattle.target_units.specs.Units.{first_unit}
 use Rattle.target_units.proofs.UnitTellings.{eight_first}

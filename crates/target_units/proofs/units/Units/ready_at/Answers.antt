@@ -1,10 +1,10 @@
 use Rattle.std.proofs.Common.{ℕ, subst, sym, ◌∙◌}
-use Rattle.disk_array.specs.Seats.{seat_of}
-use Rattle.bus_due.specs.Wants.{since_of}
+use Rattle.array_model.specs.Seats.{seat_of}
+use Rattle.due_model.specs.Wants.{since_of}
 use Rattle.target_units.proofs.UnitSteps.{unit_seen}
 use Rattle.std.proofs.Common.{◌+◌, ◌≡◌, ◌<◌, ◌^◌}
-use Rattle.disk_array.specs.Seats.{is_any_held, current_of}
-use Rattle.bus_due.specs.bus_dialogue.specs.Wants.{ready_in}
+use Rattle.array_model.specs.Seats.{is_any_held, current_of}
+use Rattle.due_model.specs.dialogue_model.specs.Wants.{ready_in}
 use Rattle.target_units.specs.Readies.{ready_unit}
 use Rattle.target_units.proofs.UnitTellings.{ready_is, own_number}
 use Rattle.target_units.proofs.units.Units.ready_at.Goals as goal

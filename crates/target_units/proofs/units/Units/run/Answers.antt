@@ -1,10 +1,10 @@
 use Rattle.std.proofs.Common.{ℕ, ◌≡◌, ◌∙◌, refl, sym, subst, Some, None, set, get_or}
 use Rattle.bus_base.specs.declared.Event.TheVariants as events
 use Rattle.bus_base.specs.declared.ProcId.{ProcId}
-use Rattle.bus_due.specs.Wants.{since_of}
-use Rattle.disk_array.specs.ArrayHistory.{reply_in}
-use Rattle.disk_array.specs.Seats.{seat_of, seat_after_run, running_at}
-use Rattle.disk_array.specs.Units.{guest_at}
+use Rattle.due_model.specs.Wants.{since_of}
+use Rattle.array_model.specs.ArrayHistory.{reply_in}
+use Rattle.array_model.specs.Seats.{seat_of, seat_after_run, running_at}
+use Rattle.array_model.specs.Units.{guest_at}
 use Rattle.disk_unit.specs.Units.{told_of}
 use Rattle.target_units.specs.declared.logical.LogicalUnit.{LogicalUnit}
 use Rattle.target_units.specs.Units.{IsStep}

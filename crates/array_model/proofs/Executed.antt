@@ -1,0 +1,163 @@
+-- How a command comes out at the unit that it meets, in three ways: a check fails, an attention is reported, or a disk
+-- carries it out (7.3, 7.9, 8.2.14, 9.2). Lemmas split this view, and not the tests of `execution`; a further kind of
+-- unit is a further way.
+use Rattle.std.proofs.Common.{ℕ, ◌≡◌, Bool, true, false, not, ◌&&◌, ◌∙◌, List, Option, Some, None, refl, sym, subst}
+use Rattle.std.specs.Prelude.{Result, Ok, Err, if◌then◌else◌}
+use Rattle.cdb_codec.specs.Cdb.{command_of}
+use Rattle.cdb_codec.specs.declared.Sense.{Sense}
+use Rattle.cdb_codec.specs.declared.command.CdbFault.{CdbFault}
+use Rattle.cdb_codec.specs.declared.command.CdbFault.TheVariants as faults
+use Rattle.cdb_codec.specs.declared.command.Command.{Command}
+use Rattle.array_model.specs.Execution.{CommandContext, Execution, execution, attention_execution, cdb_execution}
+use Rattle.array_model.specs.Execution.{command_execution, reply_execution, check_condition, heeds_attention}
+use Rattle.array_model.specs.Execution.{needs_unit}
+use Rattle.array_model.specs.Execution.{is_good_range, range_of, block_out_of_range, invalid_opcode, invalid_field}
+use Rattle.array_model.specs.Execution.{unit_not_supported}
+
+pub none_some : {A B : Type 0} (x : A) → (let o : Option A = None in o) ≡ Some x → B
+none_some x e = absurd cc
+
+-- The same unit, where this sense is stored for the initiator.
+abbrev pub storing : CommandContext → Option Sense → CommandContext
+storing m x = record m { stored = x }
+
+-- What reports an attention: nothing else is done (7.9).
+abbrev pub report_execution : CommandContext → Sense → Execution
+report_execution m sense = record { contents = m.contents; reported = true; reply = check_condition sense }
+
+-- The sense of a fault of the command descriptor block (8.2.14.3).
+abbrev pub sense_of_fault : CdbFault → Sense
+sense_of_fault faults.Opcode = invalid_opcode
+sense_of_fault faults.Length = invalid_field
+sense_of_fault faults.Field = invalid_field
+
+-- Its unit is there, if it needs one, and no attention is pending that it heeds: so its command descriptor block is
+-- looked at.
+pub record Passes (m : CommandContext) (cdb : List ℕ) : Type 0 where
+  pub there : (not m.present && needs_unit cdb) ≡ false
+  pub calm : (sense : Sense) → m.attention ≡ Some sense → heeds_attention cdb ≡ false
+
+-- The check that fails, with its sense.
+pub data IsRefused (m : CommandContext) (cdb : List ℕ) : Sense → Type 0 where
+  absent : (not m.present && needs_unit cdb) ≡ true → IsRefused m cdb unit_not_supported
+  faulty : (fault : CdbFault) → Passes m cdb → command_of cdb ≡ Err fault → IsRefused m cdb (sense_of_fault fault)
+  outside : (c : Command) → Passes m cdb → command_of cdb ≡ Ok c → is_good_range m.contents.count (range_of c) ≡ false
+      → IsRefused m cdb block_out_of_range
+
+-- Whatever sense is stored, and whatever is sent.
+abbrev pub AreSame : (Option Sense → List ℕ → Execution) → (Option Sense → List ℕ → Execution) → Type 0
+AreSame f g = (x : Option Sense) (sent : List ℕ) → f x sent ≡ g x sent
+
+pub data Executed (m : CommandContext) (cdb : List ℕ) (f : Option Sense → List ℕ → Execution) : Type 0 where
+  refused : (sense : Sense) → IsRefused m cdb sense → AreSame f (λ x sent. reply_execution m (check_condition sense))
+      → Executed m cdb f
+  reported : (sense : Sense) → m.attention ≡ Some sense → heeds_attention cdb ≡ true
+      → AreSame f (λ x sent. report_execution m sense) → Executed m cdb f
+  at_disk : (c : Command) → Passes m cdb → command_of cdb ≡ Ok c → is_good_range m.contents.count (range_of c) ≡ true
+      → AreSame f (λ x sent. command_execution (storing m x) c sent) → Executed m cdb f
+
+pub executed : (m : CommandContext) (cdb : List ℕ) → Executed m cdb (λ x sent. execution (storing m x) cdb sent)
+executed m cdb = first (not m.present && needs_unit cdb) refl
+  where
+    Is : (Option Sense → List ℕ → Execution) → Type 0
+    Is f = Executed m cdb f
+
+    in_range : Passes m cdb → (c : Command) → command_of cdb ≡ Ok c
+        → (q : Bool) → is_good_range m.contents.count (range_of c) ≡ q
+        → Is (λ x sent. if q then command_execution (storing m x) c sent
+        else reply_execution (storing m x) (check_condition block_out_of_range))
+    in_range p c e true g = at_disk c p e g (λ x sent. refl)
+    in_range p c e false g = refused block_out_of_range (outside c p e g) (λ x sent. refl)
+
+    by_block : Passes m cdb → (r : Result Command CdbFault) → command_of cdb ≡ r
+        → Is (λ x sent. cdb_execution (storing m x) r sent)
+    by_block p (Ok c) e = in_range p c e (is_good_range m.contents.count (range_of c)) refl
+    by_block p (Err faults.Opcode) e = refused invalid_opcode (faulty faults.Opcode p e) (λ x sent. refl)
+    by_block p (Err faults.Length) e = refused invalid_field (faulty faults.Length p e) (λ x sent. refl)
+    by_block p (Err faults.Field) e = refused invalid_field (faulty faults.Field p e) (λ x sent. refl)
+
+    attended : (not m.present && needs_unit cdb) ≡ false → (o : Option Sense) → m.attention ≡ o
+        → Is (λ x sent. attention_execution (storing m x) o cdb sent)
+    attended there None e =
+        by_block (record { there = there; calm = λ sense f. none_some sense (sym e ∙ f) }) (command_of cdb) refl
+    attended there (Some a) e = go (heeds_attention cdb) refl
+      where
+        go : (q : Bool) → heeds_attention cdb ≡ q
+            → Is (λ x sent. if q then report_execution m a else cdb_execution (storing m x) (command_of cdb) sent)
+        go true h = reported a e h (λ x sent. refl)
+        go false h = by_block (record { there = there; calm = λ sense f. h }) (command_of cdb) refl
+
+    first : (q : Bool) → (not m.present && needs_unit cdb) ≡ q
+        → Is (λ x sent. if q then reply_execution (storing m x) (check_condition unit_not_supported)
+        else attention_execution (storing m x) m.attention cdb sent)
+    first true e = refused unit_not_supported (absent e) (λ x sent. refl)
+    first false e = attended e m.attention refl
+
+-- A statement about every execution, by the three ways.
+pub record OfAll (m : CommandContext) (cdb sent : List ℕ) (Is : Execution → Type 0) : Type 0 where
+  pub refused_is : (sense : Sense) → IsRefused m cdb sense → Is (reply_execution m (check_condition sense))
+  pub reported_is : (sense : Sense) → m.attention ≡ Some sense → Is (report_execution m sense)
+  pub disk_is : (c : Command) → command_of cdb ≡ Ok c → is_good_range m.contents.count (range_of c) ≡ true
+      → Is (command_execution m c sent)
+
+pub of_all : (m : CommandContext) (cdb sent : List ℕ) (Is : Execution → Type 0) → OfAll m cdb sent Is
+    → Is (execution m cdb sent)
+of_all m cdb sent Is h = by (λ x given. execution (storing m x) cdb given) (executed m cdb)
+  where
+    by : (f : Option Sense → List ℕ → Execution) → Executed m cdb f → Is (f m.stored sent)
+    by f (refused sense k e) = subst Is (sym (e m.stored sent)) (h.refused_is sense k)
+    by f (reported sense a k e) = subst Is (sym (e m.stored sent)) (h.reported_is sense a)
+    by f (at_disk c p is g e) = subst Is (sym (e m.stored sent)) (h.disk_is c is g)
+
+-- ---- which way it is
+
+-- The unit is absent, and the command needs it.
+pub absent_executed : (m : CommandContext) (cdb sent : List ℕ) → (not m.present && needs_unit cdb) ≡ true
+    → execution m cdb sent ≡ reply_execution m (check_condition unit_not_supported)
+absent_executed m cdb sent e = λ i. if e i then reply_execution m (check_condition unit_not_supported)
+    else attention_execution m m.attention cdb sent
+
+-- An attention is pending that it heeds.
+pub reported_executed : (m : CommandContext) (cdb sent : List ℕ) (sense : Sense)
+    → (not m.present && needs_unit cdb) ≡ false → m.attention ≡ Some sense → heeds_attention cdb ≡ true
+    → execution m cdb sent ≡ report_execution m sense
+reported_executed m cdb sent sense e a h =
+    (λ i. if e i then reply_execution m (check_condition unit_not_supported) else attention_execution m (a i) cdb sent)
+    ∙ (λ i. if h i then report_execution m sense else cdb_execution m (command_of cdb) sent)
+
+passed : (m : CommandContext) (cdb sent : List ℕ) → Passes m cdb
+    → execution m cdb sent ≡ cdb_execution m (command_of cdb) sent
+passed m cdb sent p = (λ i. if p.there i then reply_execution m (check_condition unit_not_supported)
+    else attention_execution m m.attention cdb sent) ∙ past m.attention refl
+  where
+    past : (o : Option Sense) → m.attention ≡ o
+        → attention_execution m o cdb sent ≡ cdb_execution m (command_of cdb) sent
+    past None e = refl
+    past (Some a) e = λ i. if p.calm a e i then report_execution m a else cdb_execution m (command_of cdb) sent
+
+-- Its command descriptor block has a fault.
+pub faulty_executed : (m : CommandContext) (cdb sent : List ℕ) (fault : CdbFault) → Passes m cdb
+    → command_of cdb ≡ Err fault → execution m cdb sent ≡ reply_execution m (check_condition (sense_of_fault fault))
+faulty_executed m cdb sent fault p e = passed m cdb sent p ∙ (λ i. cdb_execution m (e i) sent) ∙ by fault
+  where
+    by : (f : CdbFault) → cdb_execution m (Err f) sent ≡ reply_execution m (check_condition (sense_of_fault f))
+    by faults.Opcode = refl
+    by faults.Length = refl
+    by faults.Field = refl
+
+-- It names blocks that are not the unit's.
+pub outside_executed : (m : CommandContext) (cdb sent : List ℕ) (c : Command) → Passes m cdb → command_of cdb ≡ Ok c
+    → is_good_range m.contents.count (range_of c) ≡ false
+    → execution m cdb sent ≡ reply_execution m (check_condition block_out_of_range)
+outside_executed m cdb sent c p e g =
+    passed m cdb sent p
+    ∙ (λ i. cdb_execution m (e i) sent)
+    ∙ (λ i. if g i then command_execution m c sent else reply_execution m (check_condition block_out_of_range))
+
+-- Otherwise it is carried out.
+pub carried_executed : (m : CommandContext) (cdb sent : List ℕ) (c : Command) → Passes m cdb → command_of cdb ≡ Ok c
+    → is_good_range m.contents.count (range_of c) ≡ true → execution m cdb sent ≡ command_execution m c sent
+carried_executed m cdb sent c p e g =
+    passed m cdb sent p
+    ∙ (λ i. cdb_execution m (e i) sent)
+    ∙ (λ i. if g i then command_execution m c sent else reply_execution m (check_condition block_out_of_range))

@@ -1,0 +1,271 @@
+-- What laws use of an execution, each fact once, by the ways of `Executed` (7.3, 7.9, 8.2.14, 9.2). docs/array.md has
+-- who uses which.
+use Rattle.std.proofs.Common.{ℕ, ◌≡◌, ◌*◌, Bool, true, false, not, ◌&&◌, ◌==◌, ◌∙◌, ◌⊎◌, inl, inr, List, [], Option}
+use Rattle.std.proofs.Common.{Some, None, refl, sym, ap, subst, arith, length, take}
+use Rattle.std.specs.Prelude.{Result, Ok, Err, min}
+use Rattle.cdb_codec.specs.Cdb.{command_of}
+use Rattle.cdb_codec.specs.Blocks.{blocks_moved}
+use Rattle.cdb_codec.specs.Replies.{sense_data}
+use Rattle.cdb_codec.specs.declared.Sense.{Sense}
+use Rattle.cdb_codec.specs.declared.replies.TheConstants.{SENSE_LEN}
+use Rattle.cdb_codec.specs.declared.sense.TheConstants.{ABORTED_COMMAND}
+use Rattle.cdb_codec.specs.declared.status.TheConstants.{GOOD, CHECK_CONDITION}
+use Rattle.cdb_codec.specs.declared.command.CdbFault.{CdbFault}
+use Rattle.cdb_codec.specs.declared.command.CdbFault.TheVariants as faults
+use Rattle.cdb_codec.specs.declared.command.Command.{Command}
+use Rattle.cdb_codec.specs.declared.command.Command.TheVariants as commands
+use Rattle.cdb_codec.specs.declared.operation.TheConstants.{INQUIRY}
+use Rattle.scenario.specs.Needs.{is_write}
+use Rattle.array_model.specs.Contents.{bytes_at, with_bytes}
+use Rattle.array_model.specs.Execution.{CommandContext, Execution, execution, command_execution, reply_execution, good}
+use Rattle.array_model.specs.Execution.{heeds_attention, is_opcode, is_request_sense, is_good_range, range_of}
+use Rattle.array_model.specs.Execution.{returned_sense}
+use Rattle.array_model.specs.Order.{count_in}
+use Rattle.array_model.specs.Processes.{sense_block}
+use Rattle.array_model.proofs.OperationCodes.{heeds_none}
+use Rattle.array_model.proofs.Executed.{Executed, refused, reported, at_disk, executed, of_all, storing, sense_of_fault}
+use Rattle.array_model.proofs.Executed.{Passes, IsRefused, absent, faulty, outside, absent_executed, faulty_executed}
+use Rattle.array_model.proofs.Executed.{outside_executed, carried_executed, none_some}
+use Rattle.array_model.proofs.WholeBlocks.{HasSameExtent, extent_self, bytes_extent, AreWhole, bytes_whole}
+
+wrong : {A : Type 0} → false ≡ true → A
+wrong e = absurd cc
+
+same_Ok : (c d : Command) → (let r : Result Command CdbFault = Ok c in r) ≡ Ok d → c ≡ d
+same_Ok c d e = ap or_c e
+  where
+    or_c : Result Command CdbFault → Command
+    or_c (Ok x) = x
+    or_c (Err fault) = c
+
+not_good : {A : Type 0} → CHECK_CONDITION ≡ GOOD → A
+not_good e = absurd (omega (arith, e))
+
+-- ---- it ends GOOD or CHECK CONDITION
+
+-- What a command that is carried out ends with.
+record IsDone (x : Execution) : Type 0 where
+  good : x.reply.status ≡ GOOD
+  reported : x.reported ≡ false
+  plain : (x.reply.sense.key == ABORTED_COMMAND) ≡ false
+
+done : (m : CommandContext) (c : Command) (sent : List ℕ) → IsDone (command_execution m c sent)
+done m commands.TestUnitReady sent = record { good = refl; reported = refl; plain = refl }
+done m _ sent = record { good = refl; reported = refl; plain = refl }
+
+pub command_good : (m : CommandContext) (c : Command) (sent : List ℕ) → (command_execution m c sent).reply.status ≡ GOOD
+command_good m c sent = (done m c sent).good
+
+pub status_known : (m : CommandContext) (cdb sent : List ℕ)
+    → ((execution m cdb sent).reply.status ≡ GOOD) ⊎ ((execution m cdb sent).reply.status ≡ CHECK_CONDITION)
+status_known m cdb sent =
+    of_all m cdb sent (λ x. (x.reply.status ≡ GOOD) ⊎ (x.reply.status ≡ CHECK_CONDITION)) (record {
+      refused_is = λ sense k. inr refl;
+      reported_is = λ sense a. inr refl;
+      disk_is = λ c is g. inl (command_good m c sent);
+    })
+
+-- ---- REQUEST SENSE without fault changes and reports nothing, ends GOOD, and gives the first bytes of the stored
+-- sense
+
+pub record IsSenseBlock (cdb : List ℕ) : Type 0 where
+  pub room : ℕ
+  pub command_is : command_of cdb ≡ Ok (commands.RequestSense room)
+
+pub sense_block_of : (cdb : List ℕ) → is_request_sense (command_of cdb) ≡ true → IsSenseBlock cdb
+sense_block_of cdb h = by (command_of cdb) refl h
+  where
+    by : (r : Result Command CdbFault) → command_of cdb ≡ r → is_request_sense r ≡ true → IsSenseBlock cdb
+    by (Ok (commands.RequestSense room)) e k = record { room = room; command_is = e }
+    by _ e k = wrong k
+
+none_needed : (x y : Bool) → (x && (y && false)) ≡ false
+none_needed true true = refl
+none_needed _ _ = refl
+
+pub sense_executed : (m : CommandContext) (cdb sent : List ℕ) (k : IsSenseBlock cdb) → execution m cdb sent
+    ≡ reply_execution m (good (take (min k.room SENSE_LEN) (sense_data (returned_sense m.present m.stored))))
+sense_executed m cdb sent k = carried_executed m cdb sent (commands.RequestSense k.room) passes k.command_is refl
+  where
+    passes : Passes m cdb
+    passes = record {
+      there = (λ i. not m.present && (not (is_opcode cdb INQUIRY) && not (is_request_sense (k.command_is i))))
+          ∙ none_needed (not m.present) (not (is_opcode cdb INQUIRY));
+      calm = λ sense a. heeds_none cdb (λ i. is_request_sense (k.command_is i));
+    }
+
+-- The automatic one gives all of them.
+pub sense_fetched : (m : CommandContext) (sent : List ℕ)
+    → execution m sense_block sent ≡ reply_execution m (good (sense_data (returned_sense m.present m.stored)))
+sense_fetched m sent = carried_executed m sense_block sent (commands.RequestSense SENSE_LEN)
+    (record { there = none_needed (not m.present) true; calm = λ sense a. refl }) refl refl
+
+-- ---- only REQUEST SENSE looks at the stored sense
+
+command_apart :
+    (m : CommandContext) (x a : Option Sense) (c : Command) (sent : List ℕ) → is_request_sense (Ok c) ≡ false
+    → command_execution (record m { stored = x; attention = a }) c sent ≡ command_execution m c sent
+command_apart m x a (commands.RequestSense room) sent e = wrong (sym e)
+command_apart m x a _ sent e = refl
+
+pub stored_apart : (m : CommandContext) (x : Option Sense) (cdb sent : List ℕ)
+    → is_request_sense (command_of cdb) ≡ false → execution (storing m x) cdb sent ≡ execution m cdb sent
+stored_apart m x cdb sent h = by (λ y given. execution (storing m y) cdb given) (executed m cdb)
+  where
+    by : (f : Option Sense → List ℕ → Execution) → Executed m cdb f → f x sent ≡ f m.stored sent
+    by f (refused sense k e) = e x sent ∙ sym (e m.stored sent)
+    by f (reported sense a k e) = e x sent ∙ sym (e m.stored sent)
+    by f (at_disk c p is g e) =
+        e x sent ∙ command_apart m x m.attention c sent ((λ i. is_request_sense (sym is i)) ∙ h) ∙ sym (e m.stored sent)
+
+-- ---- the reply does not depend on what was sent
+
+pub sent_apart : (m : CommandContext) (cdb a b : List ℕ) → (execution m cdb a).reply ≡ (execution m cdb b).reply
+sent_apart m cdb a b = by (λ y given. execution (storing m y) cdb given) (executed m cdb)
+  where
+    command : (c : Command) → (command_execution m c a).reply ≡ (command_execution m c b).reply
+    command commands.TestUnitReady = refl
+    command _ = refl
+
+    by : (f : Option Sense → List ℕ → Execution) → Executed m cdb f → (f m.stored a).reply ≡ (f m.stored b).reply
+    by f (refused sense k e) = λ i. ((e m.stored a ∙ sym (e m.stored b)) i).reply
+    by f (reported sense w k e) = λ i. ((e m.stored a ∙ sym (e m.stored b)) i).reply
+    by f (at_disk c p is g e) = (λ i. (e m.stored a i).reply) ∙ command c ∙ (λ i. (sym (e m.stored b) i).reply)
+
+-- ---- attentions: one that the command does not heed is as none, and without one nothing is reported
+
+pub attention_apart : (m : CommandContext) (cdb sent : List ℕ) → is_request_sense (command_of cdb) ≡ false
+    → heeds_attention cdb ≡ false → execution m cdb sent ≡ execution (record m { attention = None }) cdb sent
+attention_apart m cdb sent r h = by (λ y given. execution (storing m y) cdb given) (executed m cdb)
+  where
+    n : CommandContext
+    n = record m { attention = None }
+
+    passes : Passes m cdb → Passes n cdb
+    passes p = record { there = p.there; calm = λ sense a. h }
+
+    by : (f : Option Sense → List ℕ → Execution) → Executed m cdb f → f m.stored sent ≡ execution n cdb sent
+    by f (refused _ (absent k) e) = e m.stored sent ∙ sym (absent_executed n cdb sent k)
+    by f (refused _ (faulty fault p k) e) = e m.stored sent ∙ sym (faulty_executed n cdb sent fault (passes p) k)
+    by f (refused _ (outside c p k g) e) = e m.stored sent ∙ sym (outside_executed n cdb sent c (passes p) k g)
+    by f (reported sense a k e) = wrong (sym h ∙ k)
+    by f (at_disk c p is g e) =
+        e m.stored sent ∙ sym (command_apart m m.stored None c sent ((λ i. is_request_sense (sym is i)) ∙ r))
+        ∙ sym (carried_executed n cdb sent c (passes p) is g)
+
+pub unreported : (m : CommandContext) (cdb sent : List ℕ) → m.attention ≡ None → (execution m cdb sent).reported ≡ false
+unreported m cdb sent n = of_all m cdb sent (λ x. x.reported ≡ false) (record {
+  refused_is = λ sense k. refl;
+  reported_is = λ sense a. none_some sense (sym n ∙ a);
+  disk_is = λ c is g. (done m c sent).reported;
+})
+
+-- ---- no sense is ABORTED COMMAND, unless that of the attention is
+
+pub not_aborted : (m : CommandContext) (cdb sent : List ℕ)
+    → ((sense : Sense) → m.attention ≡ Some sense → (sense.key == ABORTED_COMMAND) ≡ false)
+    → ((execution m cdb sent).reply.sense.key == ABORTED_COMMAND) ≡ false
+not_aborted m cdb sent h = of_all m cdb sent (λ x. (x.reply.sense.key == ABORTED_COMMAND) ≡ false) (record {
+  refused_is = λ sense k. plain sense k;
+  reported_is = λ sense a. h sense a;
+  disk_is = λ c is g. (done m c sent).plain;
+})
+  where
+    by_fault : (fault : CdbFault) → ((sense_of_fault fault).key == ABORTED_COMMAND) ≡ false
+    by_fault faults.Opcode = refl
+    by_fault _ = refl
+
+    plain : (sense : Sense) → IsRefused m cdb sense → (sense.key == ABORTED_COMMAND) ≡ false
+    plain _ (absent k) = refl
+    plain _ (faulty fault p k) = by_fault fault
+    plain _ (outside c p k g) = refl
+
+-- ---- one that ends GOOD was carried out, and the blocks that it names are the unit's
+
+pub record IsCarried (m : CommandContext) (cdb sent : List ℕ) (x : Execution) : Type 0 where
+  pub command : Command
+  pub command_is : command_of cdb ≡ Ok command
+  pub range_is : is_good_range m.contents.count (range_of command) ≡ true
+  pub is : x ≡ command_execution m command sent
+
+pub carried_out : (m : CommandContext) (cdb sent : List ℕ) → (execution m cdb sent).reply.status ≡ GOOD
+    → IsCarried m cdb sent (execution m cdb sent)
+carried_out m cdb sent = of_all m cdb sent (λ x. x.reply.status ≡ GOOD → IsCarried m cdb sent x) (record {
+  refused_is = λ sense k e. not_good e;
+  reported_is = λ sense a e. not_good e;
+  disk_is = λ c is g e. record { command = c; command_is = is; range_is = g; is = refl };
+})
+
+pub good_range : (m : CommandContext) (cdb sent : List ℕ) (c : Command) → command_of cdb ≡ Ok c
+    → (execution m cdb sent).reply.status ≡ GOOD → is_good_range m.contents.count (range_of c) ≡ true
+good_range m cdb sent c is e =
+    let h = carried_out m cdb sent e in
+    subst (λ (d : Command). is_good_range m.contents.count (range_of d) ≡ true)
+    (same_Ok h.command c (sym h.command_is ∙ is)) h.range_is
+
+-- A read of these blocks gives them.
+pub read_gives : (m : CommandContext) (cdb sent : List ℕ) (c : Command) (lba n : ℕ) → command_of cdb ≡ Ok c
+    → (command_execution m c sent).reply.bytes ≡ bytes_at m.contents lba n → (execution m cdb sent).reply.status ≡ GOOD
+    → (execution m cdb sent).reply.bytes ≡ bytes_at m.contents lba n
+read_gives m cdb sent c lba n is gives e =
+    let h = carried_out m cdb sent e in
+    (λ i. (h.is i).reply.bytes)
+    ∙ (λ i. (command_execution m (same_Ok h.command c (sym h.command_is ∙ is) i) sent).reply.bytes) ∙ gives
+
+-- ---- the contents stay, but for the blocks of a write that ends GOOD; one that does not end GOOD gives no bytes
+
+pub data Changes (m : CommandContext) (cdb sent : List ℕ) (x : Execution) : Type 0 where
+  nothing : x.contents ≡ m.contents → Changes m cdb sent x
+  blocks : (c : Command) (lba n : ℕ) → command_of cdb ≡ Ok c → is_write (Ok c) ≡ true → range_of c ≡ Some (lba, n)
+      → is_good_range m.contents.count (range_of c) ≡ true → x.reply.status ≡ GOOD
+      → x.contents ≡ with_bytes m.contents lba n sent
+      → Changes m cdb sent x
+
+pub changes : (m : CommandContext) (cdb sent : List ℕ) → Changes m cdb sent (execution m cdb sent)
+changes m cdb sent = of_all m cdb sent (Changes m cdb sent) (record {
+  refused_is = λ sense k. nothing refl;
+  reported_is = λ sense a. nothing refl;
+  disk_is = by;
+})
+  where
+    by : (c : Command) → command_of cdb ≡ Ok c → is_good_range m.contents.count (range_of c) ≡ true
+        → Changes m cdb sent (command_execution m c sent)
+    by (commands.Write6 lba count) e g =
+        blocks (commands.Write6 lba count) lba (blocks_moved (commands.Write6 lba count)) e refl refl g refl refl
+    by (commands.Write10 lba count) e g = blocks (commands.Write10 lba count) lba count e refl refl g refl refl
+    by _ e g = nothing refl
+
+-- What a check or an attention leaves and gives.
+pub record IsUndone (m : CommandContext) (x : Execution) : Type 0 where
+  pub contents : x.contents ≡ m.contents
+  pub bytes : x.reply.bytes ≡ []
+
+pub undone : (m : CommandContext) (cdb sent : List ℕ) → ((execution m cdb sent).reply.status == GOOD) ≡ false
+    → IsUndone m (execution m cdb sent)
+undone m cdb sent = of_all m cdb sent (λ x. (x.reply.status == GOOD) ≡ false → IsUndone m x) (record {
+  refused_is = λ sense k e. record { contents = refl; bytes = refl };
+  reported_is = λ sense a e. record { contents = refl; bytes = refl };
+  disk_is = λ c is g e. wrong (sym e ∙ (λ i. command_good m c sent i == GOOD));
+})
+
+-- ---- the number of blocks and their size stay
+
+pub extent_kept : (m : CommandContext) (cdb sent : List ℕ) → HasSameExtent m.contents (execution m cdb sent).contents
+extent_kept m cdb sent = by (changes m cdb sent)
+  where
+    by : Changes m cdb sent (execution m cdb sent) → HasSameExtent m.contents (execution m cdb sent).contents
+    by (nothing e) = subst (HasSameExtent m.contents) (sym e) (extent_self m.contents)
+    by (blocks c lba n is w r g good e) = subst (HasSameExtent m.contents) (sym e) (bytes_extent n m.contents lba sent)
+
+-- ---- blocks stay whole, where a write that ends GOOD was sent as many bytes as its blocks have
+
+pub whole_kept : (m : CommandContext) (cdb sent : List ℕ) → AreWhole m.contents
+    → ((c : Command) (n : ℕ) → command_of cdb ≡ Ok c → is_write (Ok c) ≡ true → count_in (range_of c) ≡ n
+    → is_good_range m.contents.count (range_of c) ≡ true → (execution m cdb sent).reply.status ≡ GOOD
+    → length sent ≡ n * m.contents.size) → AreWhole (execution m cdb sent).contents
+whole_kept m cdb sent h f = by (changes m cdb sent)
+  where
+    by : Changes m cdb sent (execution m cdb sent) → AreWhole (execution m cdb sent).contents
+    by (nothing e) = subst AreWhole (sym e) h
+    by (blocks c lba n is w r g good e) =
+        subst AreWhole (sym e) (bytes_whole n m.contents lba sent (f c n is w (λ i. count_in (r i)) g good) h)

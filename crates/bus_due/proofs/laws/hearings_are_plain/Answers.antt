@@ -1,9 +1,0 @@
-use Rattle.bus_due.proofs.Plains.{run_state_plain}
-use Rattle.bus_due.proofs.Hearings.{hearing_plain}
-use Rattle.bus_due.proofs.laws.hearings_are_plain.Goals as goal
-
-pub returns-clause-begun : goal.returns-clause-begun
-returns-clause-begun c = λ s rows h. (run_state_plain s rows h).begun
-
-pub returns-clause-hearing : goal.returns-clause-hearing
-returns-clause-hearing c = λ s rows row h lt. hearing_plain s rows row h lt

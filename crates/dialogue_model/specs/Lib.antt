@@ -1,0 +1,21 @@
+pub mod Exchange
+pub mod Wants
+pub mod Words
+pub mod Speaking
+pub mod Planning
+pub mod Arrivals
+pub mod DataRuns
+pub mod NextPhase
+pub mod PhaseBytes
+pub mod Sending
+pub mod Ends
+pub mod Events
+pub mod Hearing
+pub mod Observer
+-- Handed on to the crates above that list this one and not these.
+pub use Rattle.reaction_model.specs.bus_lines
+pub use Rattle.story_model.specs.bus_phases
+pub use Rattle.scenario
+pub use Rattle.story_model.specs.array_model
+pub use Rattle.story_model
+pub use Rattle.reaction_model

@@ -1,5 +1,0 @@
-use Rattle.disk_array.proofs.SeatLaws.{abort_law, device_law, reset_law}
-use Rattle.disk_array.proofs.seats.aborts_change_their_seat.Goals as goal
-
-pub returns : goal.returns
-returns c = record { abort = abort_law; device = device_law; reset = reset_law }
