@@ -58,18 +58,18 @@ row_is word row e dev kind =
     ∙ λ i. (record { time = row.time; dev = dev i; kind = kind i }) ∷ []
 
 -- The time word before the word of a row far from the row before.
-far_time : (last word time : ℕ) → is_time word ≡ true → time < 2 ^ 64 → apart_in word ≡ time / 68719476736
-    → time_after last word ≡ time / 68719476736 * 68719476736
-far_time last word time e fits units = time_alone (is_time word) _ _ e ∙ ap (λ n. n % 268435456 * 68719476736) units
-    ∙ ap (λ n. n * 68719476736)
-    (below (time / 68719476736) 268435456 (div_below time 68719476736 268435456 (omega arith) (omega (arith, fits))))
+far_time : (last word time : ℕ) → is_time word ≡ true → time < 2 ^ 64 → apart_in word ≡ time / (2 ^ 36)
+    → time_after last word ≡ time / (2 ^ 36) * (2 ^ 36)
+far_time last word time e fits units = time_alone (is_time word) _ _ e ∙ ap (λ n. n % (2 ^ 28) * (2 ^ 36)) units
+    ∙ ap (λ n. n * (2 ^ 36))
+    (below (time / (2 ^ 36)) (2 ^ 28) (div_below time (2 ^ 36) (2 ^ 28) (omega arith) (omega (arith, fits))))
 
-rest_time : (last word time : ℕ) → is_time word ≡ false → time < 2 ^ 64 → apart_in word ≡ time % 68719476736
-    → last ≡ time / 68719476736 * 68719476736 → time_after last word ≡ time
+rest_time : (last word time : ℕ) → is_time word ≡ false → time < 2 ^ 64 → apart_in word ≡ time % (2 ^ 36)
+    → last ≡ time / (2 ^ 36) * (2 ^ 36) → time_after last word ≡ time
 rest_time last word time e fits apart is =
     row_time (is_time word) last _ _ e
     ∙ (λ i. (is i + apart i) % 2 ^ 64)
-    ∙ ap (λ n. n % 2 ^ 64) (div-add-mod' time 68719476736)
+    ∙ ap (λ n. n % 2 ^ 64) (div-add-mod' time (2 ^ 36))
     ∙ below time (2 ^ 64) fits
 
 only_time : (time word : ℕ) → is_time word ≡ true → rows_in time word ≡ []
@@ -106,7 +106,7 @@ with_near words new word last n row was sum fits e apart dev kind is = with_word
     (ap (λ t. time_after t word) (sym was) ∙ near_time last word row.time n e sum fits apart) e dev kind is
 
 pub with_far : (words new : List ℕ) (first word : ℕ) (row : Row) → row.time < 2 ^ 64 → is_time first ≡ true
-    → apart_in first ≡ row.time / 68719476736 → is_time word ≡ false → apart_in word ≡ row.time % 68719476736
+    → apart_in first ≡ row.time / (2 ^ 36) → is_time word ≡ false → apart_in word ≡ row.time % (2 ^ 36)
     → device_in word ≡ row.dev → kind_in word ≡ row.kind → new ≡ words ++ first ∷ word ∷ [] → IsWith words new row
 with_far words new first word row fits f units e apart dev kind is =
     let timed = words ++ first ∷ [] in

@@ -11,16 +11,16 @@ use Rattle.bus_trace.specs.declared.rows.Row.{Row}
 
 -- The fields of a word.
 abbrev pub lines_in : ℕ → ℕ
-lines_in word = word % 262144
+lines_in word = word % 2 ^ 18
 
 abbrev pub device_in : ℕ → ℕ
-device_in word = word / 262144 % 256
+device_in word = word / 2 ^ 18 % 256
 
 abbrev pub mark_in : ℕ → ℕ
-mark_in word = word / 262144 / 256 % 4
+mark_in word = word / 2 ^ 18 / 256 % 4
 
 abbrev pub apart_in : ℕ → ℕ
-apart_in word = word / 262144 / 256 / 4
+apart_in word = word / 2 ^ 18 / 256 / 4
 
 -- a word of a time alone
 abbrev pub is_time : ℕ → Bool
@@ -28,7 +28,7 @@ is_time word = mark_in word == 2
 
 -- the time of a word, where this was that of the word before
 abbrev pub time_after : ℕ → ℕ → ℕ
-time_after time word = if is_time word then apart_in word % 268435456 * 68719476736 else (time + apart_in word) % 2 ^ 64
+time_after time word = if is_time word then apart_in word % 2 ^ 28 * 2 ^ 36 else (time + apart_in word) % 2 ^ 64
 
 abbrev pub kind_in : ℕ → Kind
 kind_in word = if mark_in word == 1 then Fault (word % 256) else Drives (set_of (lines_in word))

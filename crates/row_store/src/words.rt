@@ -1,5 +1,5 @@
 //! The words that rows are kept in.
-ghost use Rattle.std.specs.Prelude.{◌≡◌, ◌+◌, ◌*◌, ◌/◌, ◌%◌, ◌<◌, ◌^◌, ◌==◌, true, false, IfSome};
+ghost use Rattle.std.specs.Prelude.{◌≡◌, ◌+◌, ◌*◌, ◌/◌, ◌%◌, ◌<◌, ◌^◌, ◌==◌, ◌-◌, ◌||◌, true, false, IfSome, None, nat_lt, nat_le};
 ghost use Rattle.row_store.specs.Words.{lines_in, device_in, mark_in, apart_in, is_time, kind_in, row_in, time_after};
 
 use bitflags::Flags;
@@ -75,9 +75,9 @@ pub(crate) fn row_in(time: Ns, word: u64) -> Row
 
 // A word of these fields.
 fn word_of(apart: u64, mark: u64, dev: u8, low: u32) -> u64
-    requires apart { apart < 68719476736 }
+    requires apart { apart < 2 ^ 36 }
     requires mark { mark < 4 }
-    requires low { low < 262144 }
+    requires low { low < 2 ^ 18 }
     ensures lines { lines_in result ≡ low }
     ensures device { device_in result ≡ dev }
     ensures mark { mark_in result ≡ mark }
@@ -89,7 +89,8 @@ fn word_of(apart: u64, mark: u64, dev: u8, low: u32) -> u64
 /// How long after the row before a row of this time comes, in ns, where its word has room for that.
 #[inline(always)]
 pub(crate) fn apart(last: Ns, time: Ns) -> Option<Ns>
-    ensures room { IfSome result (λ n. n < 68719476736) }
+    ensures room { IfSome result (λ n. n < 2 ^ 36) }
+    ensures far { result ≡ None → (nat_lt time last || nat_le (2 ^ 36) (time - last)) ≡ true }
     ensures sum { IfSome result (λ n. last + n ≡ time) }
     ensures fits { time < 2 ^ 64 }
 {
@@ -102,7 +103,7 @@ pub(crate) fn apart(last: Ns, time: Ns) -> Option<Ns>
 /// The word of a row, so long after the row before.
 #[inline(always)]
 pub(crate) fn row_word(apart: Ns, row: &Row) -> u64
-    requires { apart < 68719476736 }
+    requires { apart < 2 ^ 36 }
     ensures row { is_time result ≡ false }
     ensures apart { apart_in result ≡ apart }
     ensures device { device_in result ≡ row.now.dev }
@@ -117,7 +118,7 @@ pub(crate) fn row_word(apart: Ns, row: &Row) -> u64
 /// The word of the time from which a row of this time counts.
 pub(crate) fn time_word(time: Ns) -> u64
     ensures time { is_time result ≡ true }
-    ensures units { apart_in result ≡ time / 68719476736 }
+    ensures units { apart_in result ≡ time / 2 ^ 36 }
     ensures fits { time < 2 ^ 64 }
 {
     word_of(time / APART, TIME, 0, 0)
