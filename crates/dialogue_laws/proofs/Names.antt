@@ -23,7 +23,7 @@ pub use bus_trace.declared.selection.Calling.{Calling}
 unfoldable pub use bus_trace.{LineSet.{line_of}, View.{union_below}}
 use Rattle.due_model.specs.bus_lines.specs as bus_lines
 pub use bus_lines.Handshakes.{Handshakes, answered_if, asked_if, first_of, handshakes, handshakes_after, handshakes_on}
-pub use bus_lines.Handshakes.{newest_struck_if, no_handshakes, with_last_struck}
+pub use bus_lines.Handshakes.{newest_struck, newest_struck_if, no_handshakes, with_last_struck}
 pub use bus_lines.declared.handshakes.Request.{Request}
 use Rattle.due_model.specs.cdb_codec.specs as cdb_codec
 pub use cdb_codec.declared.sense.TheConstants.{INITIATOR_DETECTED_ERROR, PARITY_ERROR}

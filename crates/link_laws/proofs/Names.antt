@@ -32,8 +32,8 @@ use Rattle.due_model.specs.bus_lines.proofs as bus_lines_proofs
 pub use bus_lines_proofs.Early.{push_length, struck_length, struck_same}
 use Rattle.due_model.specs.bus_lines.specs as bus_lines
 pub use bus_lines.Handshakes.{Handshakes, answered, answered_if, asked, asked_if, first_of, handshakes}
-pub use bus_lines.Handshakes.{handshakes_after, is_struck, newest_struck_if, no_handshakes, opened, or_now, or_zero}
-pub use bus_lines.{Handshakes.{room_by, strikes, time_of, with_last_struck}, Stage.{stage}}
+pub use bus_lines.Handshakes.{handshakes_after, is_struck, newest_struck, newest_struck_if, no_handshakes, opened}
+pub use bus_lines.{Handshakes.{or_now, or_zero, room_by, time_of, with_last_struck}, Stage.{stage}}
 pub use bus_lines.declared.{handshakes.Request.{Request}, stage.Stage.TheVariants.{InConnection, OnFreeBus}}
 use Rattle.due_model.specs.cdb_codec.specs as cdb_codec
 pub use cdb_codec.{Blocks.{blocks_moved}, Cdb.{command_of}, Replies.{capacity_data, inquiry_data, sense_data}}

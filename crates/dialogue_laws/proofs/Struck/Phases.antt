@@ -5,14 +5,13 @@ use proofs.Names.{inl, inr, ℕ, ◌≡◌, ◌⊎◌, ◌<◌, Bool, true, fals
 use proofs.Names.{None, refl, sym, ap, subst, eqb-true, if◌then◌else◌, is_some, or_false, or_true, wrong, wrong'}
 use proofs.Names.{bus-fault, change_of, rises, LineSet, changes_phase, connection, connection_after, is_fault, receiver}
 use proofs.Names.{receiver_in, receiver_of, bus, Kind, Drives, Fault, Row, Change, Connection, Handshakes, answered_if}
-use proofs.Names.{asked_if, handshakes, handshakes_after, no_handshakes, newest_struck_if, ScenarioValue, Obeys}
-use proofs.Names.{RowReading, row_reading, begun, begun_after, phase_of, Phase, run_state_plain, IsPrompt, IsPlain}
-use proofs.Names.{run_state, RowKind, crosses, still, strikes as fault_strikes, turns, is_struck_phase, change_plain}
-use proofs.Names.{least_is, none_some, RowKindOf, begins_now, connection_row, goes_now, going_row, row_kind}
-use proofs.Names.{stage_of_connection, link_phase, LinkRow, is_unasked, awaits, IsLeaving, same_phase_of}
+use proofs.Names.{asked_if, handshakes, handshakes_after, no_handshakes, newest_struck_if, newest_struck, ScenarioValue}
+use proofs.Names.{Obeys, RowReading, row_reading, begun, begun_after, phase_of, Phase, run_state_plain, IsPrompt}
+use proofs.Names.{IsPlain, run_state, RowKind, crosses, still, strikes as fault_strikes, turns, is_struck_phase}
+use proofs.Names.{change_plain, least_is, none_some, RowKindOf, begins_now, connection_row, goes_now, going_row}
+use proofs.Names.{row_kind, stage_of_connection, link_phase, LinkRow, is_unasked, awaits, IsLeaving, same_phase_of}
 use proofs.{Names.{fault_receives, or_left, unasked_low, Whole, standing_next, whole}, Struck.Rows.{Stays, owes}}
 use proofs.Struck.Rows.{struck_row}
-use Rattle.due_model.specs.bus_lines.specs.Handshakes.{strikes}
 
 -- ---- STATUS, or MESSAGE IN
 
@@ -174,7 +173,7 @@ struck_next s p row o prompt was now facts n after calm b here = by (row_kind s 
             some : is_unasked p ≡ false
             some = asked s p n was con off waits
 
-            hand : handshakes q ≡ strikes (handshakes p)
+            hand : handshakes q ≡ newest_struck (handshakes p)
             hand = ap (λ (x : Bool). handshakes_after x (connection q) c row.time (handshakes p)) ef
                 ∙ ap (λ (x : Bool). newest_struck_if x (handshakes p)) lines.1
         on false ef = record {

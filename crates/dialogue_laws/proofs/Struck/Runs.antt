@@ -4,16 +4,16 @@ use Rattle.dialogue_laws.proofs
 use proofs.Names.{inl, inr, ℕ, ◌≡◌, ◌⊎◌, ◌<◌, Bool, true, false, not, ◌&&◌, ◌||◌, ◌∙◌, List, [], ◌∷◌, Option, Some}
 use proofs.Names.{None, refl, sym, ap, subst, same_Some, is_some, or_true, wrong, wrong', ProcId, change_of, LineSet}
 use proofs.Names.{changes_phase, connection, is_fault, receiver_in, bus, Row, Change, Connection, Handshakes, first_of}
-use proofs.Names.{handshakes, handshakes_after, newest_struck_if, with_last_struck, Request, INITIATOR_DETECTED_ERROR}
-use proofs.Names.{ScenarioValue, Obeys, Process, RowReading, row_reading, Item, process, Link, begun, begun_after}
-use proofs.Names.{phase_of, Phase, run_state_plain, IsPrompt, IsPlain, RunState, bus_of, carried_here, run_state}
-use proofs.Names.{in_connection, Knows, IsRowIn, RowKind, crosses, still, strikes as fault_strikes, turns}
-use proofs.Names.{is_struck_phase, change_plain, least_is, none_some, data_in_lines, not_message_in, not_message_out}
-use proofs.Names.{GoingRow, RowKindOf, begins_now, connection_row, goes_now, going_row, row_kind, LinkRow, is_marked}
-use proofs.Names.{code_if, same_phase_of, undo_asks, any_struck, Named, known, refused, said, SameFail, still_fails}
-use proofs.Names.{in_none, out_none, quiet_same, fault_receives, or_left, last_struck, Whole, standing_next, whole}
-use proofs.{Names.{SentTalk}, Leavings.Recoveries.{Left, id_served}, Struck.Complaints.{data_in_attends}}
-use Rattle.due_model.specs.bus_lines.specs.Handshakes.{strikes}
+use proofs.Names.{handshakes, handshakes_after, newest_struck_if, with_last_struck, newest_struck, Request}
+use proofs.Names.{INITIATOR_DETECTED_ERROR, ScenarioValue, Obeys, Process, RowReading, row_reading, Item, process, Link}
+use proofs.Names.{begun, begun_after, phase_of, Phase, run_state_plain, IsPrompt, IsPlain, RunState, bus_of}
+use proofs.Names.{carried_here, run_state, in_connection, Knows, IsRowIn, RowKind, crosses, still}
+use proofs.Names.{strikes as fault_strikes, turns, is_struck_phase, change_plain, least_is, none_some, data_in_lines}
+use proofs.Names.{not_message_in, not_message_out, GoingRow, RowKindOf, begins_now, connection_row, goes_now, going_row}
+use proofs.Names.{row_kind, LinkRow, is_marked, code_if, same_phase_of, undo_asks, any_struck, Named, known, refused}
+use proofs.Names.{said, SameFail, still_fails, in_none, out_none, quiet_same, fault_receives, or_left, last_struck}
+use proofs.{Names.{Whole, standing_next, whole, SentTalk}, Leavings.Recoveries.{Left, id_served}}
+use proofs.Struck.Complaints.{data_in_attends}
 
 -- ATN is true, or a struck byte waits for its ACK.
 abbrev owes : List Row → Bool
@@ -140,7 +140,7 @@ run_next s p row o prompt was now facts n id after calm b here served struck =
             (last_struck (handshakes p).waiting (t.received (fault_receives s p row n ef link)))
             ∙ or_true (bus q).atn
           where
-            hand : handshakes q ≡ strikes (handshakes p)
+            hand : handshakes q ≡ newest_struck (handshakes p)
             hand = ap (λ (x : Bool). handshakes_after x (connection q) c row.time (handshakes p)) ef
                 ∙ ap (λ (x : Bool). newest_struck_if x (handshakes p)) lines.2
         on false ef =

@@ -5,7 +5,7 @@ use proofs.Names.{None, refl, sym, ap, subst, arith, if◌then◌else◌, is_som
 use proofs.Names.{drives-fault, same_self, times_of, LineSet, data_of, changes_phase, receiver, receiver_in, when}
 use proofs.Names.{drives, last_time, since, line_times, phase_time, Row, Agreement, TransferTimes, Change, Connection}
 use proofs.Names.{BUS_SETTLE_DELAY, TURN_DELAY, LineTimes, struck_length, struck_same, Handshakes, handshakes}
-use proofs.Names.{newest_struck_if, strikes, with_last_struck, first_of, time_of, room_by, Request, dialogue}
+use proofs.Names.{newest_struck_if, newest_struck, with_last_struck, first_of, time_of, room_by, Request, dialogue}
 use proofs.Names.{byte_crosses, phase_begins, duty, duty_left, duty_if_held, turned, is_attention_held, pulses}
 use proofs.Names.{no_pulses, count_after, Duty, Dialogue, is_of_device, ScenarioValue, bits_if, is_pulsed_phase, lag_by}
 use proofs.Names.{begun, host_of, Own, own_of, AreOfDevices, fault_change, stands_by, own_time_fault, own_fault}
@@ -168,7 +168,7 @@ oldest_same (r ∷ []) = refl
 oldest_same (r ∷ (q ∷ w)) = refl
 
 struck_facts : (h : Handshakes) (a b c d e last : ℕ) (req ack : Bool) → PulseFacts h a b c d e last req ack
-    → PulseFacts (strikes h) a b c d e last req ack
+    → PulseFacts (newest_struck h) a b c d e last req ack
 struck_facts h a b c d e last req ack f =
     let long = struck_length h.waiting in
     let count = f.counts in
