@@ -1,8 +1,9 @@
 -- How a command comes out at the unit that it meets, in three ways: a check fails, an attention is reported, or a disk
 -- carries it out (7.3, 7.9, 8.2.14, 9.2). Lemmas split this view, and not the tests of `execution`; a further kind of
 -- unit is a further way.
-use Rattle.std.proofs.Common.{ℕ, ◌≡◌, Bool, true, false, not, ◌&&◌, ◌∙◌, List, Option, Some, None, refl, sym, subst}
+use Rattle.std.proofs.Common.{ℕ, ◌≡◌, true, false, not, ◌&&◌, ◌∙◌, List, Option, Some, None, inl, inr, refl, sym, subst}
 use Rattle.std.specs.Prelude.{Result, Ok, Err, if◌then◌else◌}
+use Rattle.std.proofs.lemmas.Bool.{cases_Bool}
 use Rattle.cdb_codec.specs.Cdb.{command_of}
 use Rattle.cdb_codec.specs.declared.Sense.{Sense}
 use Rattle.cdb_codec.specs.declared.command.CdbFault.{CdbFault}
@@ -43,71 +44,6 @@ pub data IsRefused (m : CommandContext) (cdb : List ℕ) : Sense → Type 0 wher
   faulty : (fault : CdbFault) → Passes m cdb → command_of cdb ≡ Err fault → IsRefused m cdb (sense_of_fault fault)
   outside : (c : Command) → Passes m cdb → command_of cdb ≡ Ok c → is_good_range m.contents.count (range_of c) ≡ false
       → IsRefused m cdb block_out_of_range
-
--- Whatever sense is stored, and whatever is sent.
-abbrev pub AreSame : (Option Sense → List ℕ → Execution) → (Option Sense → List ℕ → Execution) → Type 0
-AreSame f g = (x : Option Sense) (sent : List ℕ) → f x sent ≡ g x sent
-
-pub data Executed (m : CommandContext) (cdb : List ℕ) (f : Option Sense → List ℕ → Execution) : Type 0 where
-  refused : (sense : Sense) → IsRefused m cdb sense → AreSame f (λ x sent. reply_execution m (check_condition sense))
-      → Executed m cdb f
-  reported : (sense : Sense) → m.attention ≡ Some sense → heeds_attention cdb ≡ true
-      → AreSame f (λ x sent. report_execution m sense) → Executed m cdb f
-  at_disk : (c : Command) → Passes m cdb → command_of cdb ≡ Ok c → is_good_range m.contents.count (range_of c) ≡ true
-      → AreSame f (λ x sent. command_execution (storing m x) c sent) → Executed m cdb f
-
-pub executed : (m : CommandContext) (cdb : List ℕ) → Executed m cdb (λ x sent. execution (storing m x) cdb sent)
-executed m cdb = first (not m.present && needs_unit cdb) refl
-  where
-    Is : (Option Sense → List ℕ → Execution) → Type 0
-    Is f = Executed m cdb f
-
-    in_range : Passes m cdb → (c : Command) → command_of cdb ≡ Ok c
-        → (q : Bool) → is_good_range m.contents.count (range_of c) ≡ q
-        → Is (λ x sent. if q then command_execution (storing m x) c sent
-        else reply_execution (storing m x) (check_condition block_out_of_range))
-    in_range p c e true g = at_disk c p e g (λ x sent. refl)
-    in_range p c e false g = refused block_out_of_range (outside c p e g) (λ x sent. refl)
-
-    by_block : Passes m cdb → (r : Result Command CdbFault) → command_of cdb ≡ r
-        → Is (λ x sent. cdb_execution (storing m x) r sent)
-    by_block p (Ok c) e = in_range p c e (is_good_range m.contents.count (range_of c)) refl
-    by_block p (Err faults.Opcode) e = refused invalid_opcode (faulty faults.Opcode p e) (λ x sent. refl)
-    by_block p (Err faults.Length) e = refused invalid_field (faulty faults.Length p e) (λ x sent. refl)
-    by_block p (Err faults.Field) e = refused invalid_field (faulty faults.Field p e) (λ x sent. refl)
-
-    attended : (not m.present && needs_unit cdb) ≡ false → (o : Option Sense) → m.attention ≡ o
-        → Is (λ x sent. attention_execution (storing m x) o cdb sent)
-    attended there None e =
-        by_block (record { there = there; calm = λ sense f. none_some sense (sym e ∙ f) }) (command_of cdb) refl
-    attended there (Some a) e = go (heeds_attention cdb) refl
-      where
-        go : (q : Bool) → heeds_attention cdb ≡ q
-            → Is (λ x sent. if q then report_execution m a else cdb_execution (storing m x) (command_of cdb) sent)
-        go true h = reported a e h (λ x sent. refl)
-        go false h = by_block (record { there = there; calm = λ sense f. h }) (command_of cdb) refl
-
-    first : (q : Bool) → (not m.present && needs_unit cdb) ≡ q
-        → Is (λ x sent. if q then reply_execution (storing m x) (check_condition unit_not_supported)
-        else attention_execution (storing m x) m.attention cdb sent)
-    first true e = refused unit_not_supported (absent e) (λ x sent. refl)
-    first false e = attended e m.attention refl
-
--- A statement about every execution, by the three ways.
-pub record OfAll (m : CommandContext) (cdb sent : List ℕ) (Is : Execution → Type 0) : Type 0 where
-  pub refused_is : (sense : Sense) → IsRefused m cdb sense → Is (reply_execution m (check_condition sense))
-  pub reported_is : (sense : Sense) → m.attention ≡ Some sense → Is (report_execution m sense)
-  pub disk_is : (c : Command) → command_of cdb ≡ Ok c → is_good_range m.contents.count (range_of c) ≡ true
-      → Is (command_execution m c sent)
-
-pub of_all : (m : CommandContext) (cdb sent : List ℕ) (Is : Execution → Type 0) → OfAll m cdb sent Is
-    → Is (execution m cdb sent)
-of_all m cdb sent Is h = by (λ x given. execution (storing m x) cdb given) (executed m cdb)
-  where
-    by : (f : Option Sense → List ℕ → Execution) → Executed m cdb f → Is (f m.stored sent)
-    by f (refused sense k e) = subst Is (sym (e m.stored sent)) (h.refused_is sense k)
-    by f (reported sense a k e) = subst Is (sym (e m.stored sent)) (h.reported_is sense a)
-    by f (at_disk c p is g e) = subst Is (sym (e m.stored sent)) (h.disk_is c is g)
 
 -- ---- which way it is
 
@@ -161,3 +97,65 @@ carried_executed m cdb sent c p e g =
     passed m cdb sent p
     ∙ (λ i. cdb_execution m (e i) sent)
     ∙ (λ i. if g i then command_execution m c sent else reply_execution m (check_condition block_out_of_range))
+
+-- ---- the view
+
+-- Whatever sense is stored, and whatever is sent.
+abbrev pub AreSame : (Option Sense → List ℕ → Execution) → (Option Sense → List ℕ → Execution) → Type 0
+AreSame f g = (x : Option Sense) (sent : List ℕ) → f x sent ≡ g x sent
+
+pub data Executed (m : CommandContext) (cdb : List ℕ) (f : Option Sense → List ℕ → Execution) : Type 0 where
+  refused : (sense : Sense) → IsRefused m cdb sense → AreSame f (λ x sent. reply_execution m (check_condition sense))
+      → Executed m cdb f
+  reported : (sense : Sense) → m.attention ≡ Some sense → heeds_attention cdb ≡ true
+      → AreSame f (λ x sent. report_execution m sense) → Executed m cdb f
+  at_disk : (c : Command) → Passes m cdb → command_of cdb ≡ Ok c → is_good_range m.contents.count (range_of c) ≡ true
+      → AreSame f (λ x sent. command_execution (storing m x) c sent) → Executed m cdb f
+
+-- Each execution is one of them.
+pub executed : (m : CommandContext) (cdb : List ℕ) → Executed m cdb (λ x sent. execution (storing m x) cdb sent)
+executed m cdb =
+    elim (cases_Bool (not m.present && needs_unit cdb)) [
+      | inl e ↦ refused unit_not_supported (absent e) (λ x sent. absent_executed (storing m x) cdb sent e)
+      | inr e ↦ attended e m.attention refl
+    ]
+  where
+    passes : (x : Option Sense) → Passes m cdb → Passes (storing m x) cdb
+    passes x p = record { there = p.there; calm = p.calm }
+
+    by_block : Passes m cdb → (r : Result Command CdbFault) → command_of cdb ≡ r
+        → Executed m cdb (λ x sent. execution (storing m x) cdb sent)
+    by_block p (Ok c) e =
+        elim (cases_Bool (is_good_range m.contents.count (range_of c))) [
+          | inl g ↦ at_disk c p e g (λ x sent. carried_executed (storing m x) cdb sent c (passes x p) e g)
+          | inr g ↦ refused block_out_of_range (outside c p e g)
+              (λ x sent. outside_executed (storing m x) cdb sent c (passes x p) e g)
+        ]
+    by_block p (Err fault) e = refused (sense_of_fault fault) (faulty fault p e)
+        (λ x sent. faulty_executed (storing m x) cdb sent fault (passes x p) e)
+
+    attended : (not m.present && needs_unit cdb) ≡ false → (o : Option Sense) → m.attention ≡ o
+        → Executed m cdb (λ x sent. execution (storing m x) cdb sent)
+    attended there None e =
+        by_block (record { there = there; calm = λ sense f. none_some sense (sym e ∙ f) }) (command_of cdb) refl
+    attended there (Some a) e =
+        elim (cases_Bool (heeds_attention cdb)) [
+          | inl h ↦ reported a e h (λ x sent. reported_executed (storing m x) cdb sent a there e h)
+          | inr h ↦ by_block (record { there = there; calm = λ sense f. h }) (command_of cdb) refl
+        ]
+
+-- A statement about every execution, by the three ways.
+pub record OfAll (m : CommandContext) (cdb sent : List ℕ) (Is : Execution → Type 0) : Type 0 where
+  pub refused_is : (sense : Sense) → IsRefused m cdb sense → Is (reply_execution m (check_condition sense))
+  pub reported_is : (sense : Sense) → m.attention ≡ Some sense → Is (report_execution m sense)
+  pub disk_is : (c : Command) → command_of cdb ≡ Ok c → is_good_range m.contents.count (range_of c) ≡ true
+      → Is (command_execution m c sent)
+
+pub of_all : (m : CommandContext) (cdb sent : List ℕ) (Is : Execution → Type 0) → OfAll m cdb sent Is
+    → Is (execution m cdb sent)
+of_all m cdb sent Is h = by (λ x given. execution (storing m x) cdb given) (executed m cdb)
+  where
+    by : (f : Option Sense → List ℕ → Execution) → Executed m cdb f → Is (f m.stored sent)
+    by f (refused sense k e) = subst Is (sym (e m.stored sent)) (h.refused_is sense k)
+    by f (reported sense a k e) = subst Is (sym (e m.stored sent)) (h.reported_is sense a)
+    by f (at_disk c p is g e) = subst Is (sym (e m.stored sent)) (h.disk_is c is g)

@@ -2,7 +2,7 @@
 -- who uses which.
 use Rattle.std.proofs.Common.{ℕ, ◌≡◌, ◌*◌, Bool, true, false, not, ◌&&◌, ◌==◌, ◌∙◌, ◌⊎◌, inl, inr, List, [], Option}
 use Rattle.std.proofs.Common.{Some, None, refl, sym, ap, subst, arith, length, take}
-use Rattle.std.specs.Prelude.{Result, Ok, Err, min}
+use Rattle.std.specs.Prelude.{Result, Ok, Err, min, if◌then◌else◌}
 use Rattle.cdb_codec.specs.Cdb.{command_of}
 use Rattle.cdb_codec.specs.Blocks.{blocks_moved}
 use Rattle.cdb_codec.specs.Replies.{sense_data}
@@ -17,9 +17,9 @@ use Rattle.cdb_codec.specs.declared.command.Command.TheVariants as commands
 use Rattle.cdb_codec.specs.declared.operation.TheConstants.{INQUIRY}
 use Rattle.scenario.specs.Needs.{is_write}
 use Rattle.array_model.specs.Contents.{bytes_at, with_bytes}
-use Rattle.array_model.specs.Execution.{CommandContext, Execution, execution, command_execution, reply_execution, good}
-use Rattle.array_model.specs.Execution.{heeds_attention, is_opcode, is_request_sense, is_good_range, range_of}
-use Rattle.array_model.specs.Execution.{returned_sense}
+use Rattle.array_model.specs.Execution.{CommandContext, Execution, execution, command_execution, range_execution}
+use Rattle.array_model.specs.Execution.{reply_execution, check_condition, block_out_of_range, good, heeds_attention}
+use Rattle.array_model.specs.Execution.{is_opcode, is_request_sense, is_good_range, range_of, returned_sense}
 use Rattle.array_model.specs.Order.{count_in}
 use Rattle.array_model.specs.Processes.{sense_block}
 use Rattle.array_model.proofs.OperationCodes.{heeds_none}
@@ -55,6 +55,16 @@ done m _ sent = record { good = refl; reported = refl; plain = refl }
 
 pub command_good : (m : CommandContext) (c : Command) (sent : List ℕ) → (command_execution m c sent).reply.status ≡ GOOD
 command_good m c sent = (done m c sent).good
+
+-- A command without fault ends GOOD where its range is good.
+pub range_good : (m : CommandContext) (c : Command) (sent : List ℕ)
+    → is_good_range m.contents.count (range_of c) ≡ ((range_execution m c sent).reply.status == GOOD)
+range_good m c sent = by (is_good_range m.contents.count (range_of c))
+  where
+    by : (x : Bool) → x ≡ ((if x then command_execution m c sent
+        else reply_execution m (check_condition block_out_of_range)).reply.status == GOOD)
+    by true = λ i. sym (command_good m c sent) i == GOOD
+    by false = refl
 
 pub status_known : (m : CommandContext) (cdb sent : List ℕ)
     → ((execution m cdb sent).reply.status ≡ GOOD) ⊎ ((execution m cdb sent).reply.status ≡ CHECK_CONDITION)
@@ -97,8 +107,7 @@ sense_executed m cdb sent k = carried_executed m cdb sent (commands.RequestSense
 -- The automatic one gives all of them.
 pub sense_fetched : (m : CommandContext) (sent : List ℕ)
     → execution m sense_block sent ≡ reply_execution m (good (sense_data (returned_sense m.present m.stored)))
-sense_fetched m sent = carried_executed m sense_block sent (commands.RequestSense SENSE_LEN)
-    (record { there = none_needed (not m.present) true; calm = λ sense a. refl }) refl refl
+sense_fetched m sent = sense_executed m sense_block sent (record { room = SENSE_LEN; command_is = refl })
 
 -- ---- only REQUEST SENSE looks at the stored sense
 

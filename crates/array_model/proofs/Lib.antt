@@ -1,6 +1,7 @@
 mod Stories
 pub mod Touched
 pub mod WholeBlocks
+pub mod NamedBlocks
 pub mod OperationCodes
 pub mod Executed
 pub mod ExecutionFacts

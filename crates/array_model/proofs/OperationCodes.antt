@@ -14,7 +14,8 @@ use Rattle.cdb_codec.specs.Operations.{operation_of}
 use Rattle.cdb_codec.specs.Cdb.{command_of, sized_of, has_group_len, fields_of, where_zero, are_zero, lba_6, lba_10}
 use Rattle.cdb_codec.specs.Cdb.{count_10, spare_room, spare_10}
 use Rattle.cdb_codec.proofs.Codes.{code_is}
-use Rattle.array_model.specs.Execution.{is_opcode, is_request_sense, heeds_attention}
+use Rattle.array_model.specs.Execution.{is_opcode, is_request_sense, heeds_attention, needs_unit}
+use Rattle.scenario.specs.Needs.{is_write}
 
 not_sense : {A : Type 0} (y : Bool) (r : Result Command CdbFault) → is_request_sense r ≡ false
     → is_request_sense (if y then r else Err faults.Length) ≡ true → A
@@ -106,3 +107,21 @@ inquiry_command cdb h = go (length cdb == 0) h
     go false k =
         let code : slice_index cdb 0 ≡ INQUIRY = eqb-true (slice_index cdb 0) INQUIRY k in
         (λ i. is_inquiry_or_faulty (sized_of (operation_of (code i)) cdb)) ∙ sized_inquiry cdb
+
+-- A write needs its unit.
+pub write_needs : (cdb : List ℕ) → is_write (command_of cdb) ≡ true → needs_unit cdb ≡ true
+write_needs cdb w = go (is_opcode cdb INQUIRY) refl
+  where
+    plain : (r : Result Command CdbFault) → is_write r ≡ true → is_request_sense r ≡ false
+    plain (Ok (commands.RequestSense room)) k = cc
+    plain (Ok commands.TestUnitReady) k = refl
+    plain _ k = refl
+
+    no_inquiry : {A : Type 0} (r : Result Command CdbFault) → is_write r ≡ true → is_inquiry_or_faulty r ≡ true → A
+    no_inquiry (Ok (commands.Write6 lba count)) k h = cc
+    no_inquiry (Ok (commands.Write10 lba count)) k h = cc
+    no_inquiry _ k h = cc
+
+    go : (x : Bool) → is_opcode cdb INQUIRY ≡ x → needs_unit cdb ≡ true
+    go true e = no_inquiry (command_of cdb) w (inquiry_command cdb e)
+    go false e = λ i. not (e i) && not (plain (command_of cdb) w i)

@@ -12,12 +12,10 @@ use Rattle.cdb_codec.specs.Cdb.{command_of}
 use Rattle.scenario.specs.declared.value.CmdDef.{CmdDef}
 use Rattle.scenario.specs.declared.value.HostDef.{HostDef}
 use Rattle.scenario.specs.declared.value.UnitDef.{UnitDef}
-use Rattle.scenario.specs.declared.value.Tag.TheVariants as tags
-use Rattle.scenario.specs.Needs.{sent_of}
 use Rattle.scenario.specs.Value.{ScenarioValue}
 use Rattle.array_model.specs.Contents.{Contents}
-use Rattle.array_model.specs.Processes.{Process, process_of, process_by, process_if, command_at, same_id, sense_block}
-use Rattle.array_model.specs.Processes.{payload_bytes}
+use Rattle.array_model.specs.Processes.{Process, process_of, process_by, process_if, command_at, command_process}
+use Rattle.array_model.specs.Processes.{same_id, sense_process}
 use Rattle.array_model.specs.Execution.{Reply, Execution, execution, is_request_sense, queue_full, check_condition}
 use Rattle.array_model.specs.Execution.{commands_cleared}
 use Rattle.array_model.specs.Order.{choice, process_at, process_at_if, chosen_place, entries_of, without_process}
@@ -58,23 +56,10 @@ id_is s id p h = go (command_at s.commands id.command) h
     either false one two a b = b
 
     by : (c : CmdDef) → (process_by s id c).id ≡ id
-    by c = either id.sense (record {
-      id = id;
-      initiator = c.host;
-      target = c.target;
-      unit = c.unit;
-      tag = tags.Untagged;
-      cdb = sense_block;
-      sent = [];
-    }) (record {
-      id = id;
-      initiator = c.host;
-      target = c.target;
-      unit = c.unit;
-      tag = c.tag;
-      cdb = c.cdb;
-      sent = payload_bytes c.payload (sent_of s c);
-    }) refl refl
+    by c = either id.sense
+        (sense_process s id c)
+        (command_process s id c)
+        refl refl
 
     go : (x : Option CmdDef) → process_if s id x ≡ Some p → p.id ≡ id
     go None k = cc

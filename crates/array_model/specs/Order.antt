@@ -50,15 +50,23 @@ abbrev pub count_in : Option (ℕ × ℕ) → ℕ
 count_in None = 0
 count_in (Some range) = range.1
 
+-- The blocks that a process names: none at a serial unit.
+abbrev pub range_named : Process → Option (ℕ × ℕ)
+range_named p = if p.serial then None else range_in (command_of p.cdb)
+
+-- What of its unit it reads or writes: a serial unit is one block to all its processes.
+abbrev pub extent_of : Process → Option (ℕ × ℕ)
+extent_of p = if p.serial then Some (0, 1) else range_in (command_of p.cdb)
+
 abbrev pub entry_of : Process → Entry
 entry_of p = record {
   id = p.id;
   from = p.initiator;
   tag = tag_number p.tag;
   class = class_of p.tag;
-  first = first_in (range_in (command_of p.cdb));
-  count = count_in (range_in (command_of p.cdb));
-  writes = is_write (command_of p.cdb);
+  first = first_in (extent_of p);
+  count = count_in (extent_of p);
+  writes = p.serial || is_write (command_of p.cdb);
 }
 
 abbrev pub entries_of : List Process → List Entry

@@ -22,6 +22,8 @@ pub record Process : Type 0 where
   pub tag : Tag
   pub cdb : List ℕ
   pub sent : List ℕ
+  -- whether its unit is serial: it takes the commands of an initiator in their order, and they name no blocks
+  pub serial : Bool
 
 -- From this byte on, modulo 256.
 abbrev pub bytes_from : ℕ → ℕ → List ℕ
@@ -44,8 +46,12 @@ command_at (c ∷ commands) (suc (suc n)) = command_at commands (suc n)
 abbrev pub sense_block : List ℕ
 sense_block = REQUEST_SENSE ∷ 0x00 ∷ 0x00 ∷ 0x00 ∷ SENSE_LEN ∷ 0x00 ∷ []
 
-abbrev pub sense_process : ProcId → CmdDef → Process
-sense_process id c = record {
+-- Every unit of a scenario is a disk, and no disk is serial.
+abbrev pub is_serial : ScenarioValue → CmdDef → Bool
+is_serial s c = false
+
+abbrev pub sense_process : ScenarioValue → ProcId → CmdDef → Process
+sense_process s id c = record {
   id = id;
   initiator = c.host;
   target = c.target;
@@ -53,6 +59,7 @@ sense_process id c = record {
   tag = tags.Untagged;
   cdb = sense_block;
   sent = [];
+  serial = is_serial s c;
 }
 
 abbrev pub command_process : ScenarioValue → ProcId → CmdDef → Process
@@ -64,10 +71,11 @@ command_process s id c = record {
   tag = c.tag;
   cdb = c.cdb;
   sent = payload_bytes c.payload (sent_of s c);
+  serial = is_serial s c;
 }
 
 abbrev pub process_by : ScenarioValue → ProcId → CmdDef → Process
-process_by s id c = if id.sense then sense_process id c else command_process s id c
+process_by s id c = if id.sense then sense_process s id c else command_process s id c
 
 abbrev pub process_if : ScenarioValue → ProcId → Option CmdDef → Option Process
 process_if s id None = None

@@ -58,6 +58,7 @@ ready unit time =
         tag = tags.Untagged;
         cdb = [];
         sent = [];
+        serial = false;
       };
       reply = None;
     }))

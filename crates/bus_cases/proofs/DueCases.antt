@@ -408,6 +408,7 @@ sender = record {
   tag = tags.Untagged;
   cdb = test_unit_ready;
   sent = 8 ∷ 9 ∷ [];
+  serial = false;
 }
 
 abbrev unit_said : Said

@@ -81,6 +81,7 @@ process sense tag = Some (record {
   tag = tag;
   cdb = [];
   sent = [];
+  serial = false;
 })
 
 -- ---- what the initiator says after a selection (6.6.7, 6.6.17, 6.6.21)
@@ -190,6 +191,7 @@ names_a_tagged_one : naming_messages (record {
   tag = tags.Head 9;
   cdb = [];
   sent = [];
+  serial = false;
 }) ≡ named
 names_a_tagged_one = refl
 
@@ -201,6 +203,7 @@ names_an_untagged_one : naming_messages (record {
   tag = tags.Untagged;
   cdb = [];
   sent = [];
+  serial = false;
 }) ≡ message (to_initiator.Identify 2)
 names_an_untagged_one = refl
 

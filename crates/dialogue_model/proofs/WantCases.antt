@@ -116,6 +116,7 @@ process_at unit = record {
   tag = tags.Untagged;
   cdb = [];
   sent = [];
+  serial = false;
 }
 
 abbrev ready : ℕ → ℕ → Option Ready

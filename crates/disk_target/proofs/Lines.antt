@@ -7,10 +7,8 @@ use Rattle.bus_base.specs.declared.ProcId.{ProcId}
 use Rattle.scenario.specs.declared.value.CmdDef.{CmdDef}
 use Rattle.scenario.specs.declared.value.TargetDef.{TargetDef}
 use Rattle.scenario.specs.Value.{ScenarioValue}
-use Rattle.scenario.specs.declared.value.Tag.TheVariants as tags
-use Rattle.scenario.specs.Needs.{sent_of}
-use Rattle.array_model.specs.Processes.{Process, payload_bytes, sense_block, command_at, process_by, process_if}
-use Rattle.array_model.specs.Processes.{process_of}
+use Rattle.array_model.specs.Processes.{Process, command_at, command_process, process_by, process_if, process_of}
+use Rattle.array_model.specs.Processes.{sense_process}
 use Rattle.array_model.specs.Seats.{is_initiator}
 use Rattle.due_model.specs.Defs.{target_def_of}
 use Rattle.due_model.specs.Wants.{seek_of}
@@ -24,23 +22,10 @@ pub record IsOfLine (s : ScenarioValue) (p : Process) : Type 0 where
   pub host : is_initiator s.hosts p.initiator ≡ true
 
 line_by : (s : ScenarioValue) (id : ProcId) (c : CmdDef) → IsCommandLine s c → IsOfLine s (process_by s id c)
-line_by s id c l = either id.sense (record {
-  id = id;
-  initiator = c.host;
-  target = c.target;
-  unit = c.unit;
-  tag = tags.Untagged;
-  cdb = sense_block;
-  sent = [];
-}) (record {
-  id = id;
-  initiator = c.host;
-  target = c.target;
-  unit = c.unit;
-  tag = c.tag;
-  cdb = c.cdb;
-  sent = payload_bytes c.payload (sent_of s c);
-}) (record { unit = l.unit; host = l.host_is }) (record { unit = l.unit; host = l.host_is })
+line_by s id c l = either id.sense
+    (sense_process s id c)
+    (command_process s id c)
+    (record { unit = l.unit; host = l.host_is }) (record { unit = l.unit; host = l.host_is })
   where
     either : (y : Bool) (one two : Process) → IsOfLine s one → IsOfLine s two → IsOfLine s (if y then one else two)
     either true one two f g = f

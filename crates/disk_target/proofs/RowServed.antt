@@ -14,10 +14,8 @@ use Rattle.scenario.specs.Value.{ScenarioValue}
 use Rattle.bus_base.specs.declared.ProcId.{ProcId}
 use Rattle.bus_trace.specs.Phases.{changes_phase}
 use Rattle.scenario.specs.declared.value.CmdDef.{CmdDef}
-use Rattle.scenario.specs.declared.value.Tag.TheVariants as tags
-use Rattle.scenario.specs.Needs.{sent_of}
-use Rattle.array_model.specs.Processes.{Process, command_at, payload_bytes, process_by, process_if, process_of}
-use Rattle.array_model.specs.Processes.{sense_block}
+use Rattle.array_model.specs.Processes.{Process, command_at, command_process, process_by, process_if, process_of}
+use Rattle.array_model.specs.Processes.{sense_process}
 use Rattle.array_model.specs.Seats.{seat_of}
 use Rattle.array_model.specs.SoundArray.{HasSeats}
 use Rattle.due_model.specs.story_model.specs.BusState.{RowReading, row_reading}
@@ -116,23 +114,8 @@ reset_empty s rows row r calm = go (rises d.change.own.rst d.change.next.rst) re
 block_by : (s : ScenarioValue) (id : ProcId) (x : CmdDef) → length x.cdb ≤ 10 → length (process_by s id x).cdb ≤ 10
 block_by s id x h = go id.sense
   where
-    go : (y : Bool) → (let q : Process = if y then record {
-      id = id;
-      initiator = x.host;
-      target = x.target;
-      unit = x.unit;
-      tag = tags.Untagged;
-      cdb = sense_block;
-      sent = [];
-    } else record {
-      id = id;
-      initiator = x.host;
-      target = x.target;
-      unit = x.unit;
-      tag = x.tag;
-      cdb = x.cdb;
-      sent = payload_bytes x.payload (sent_of s x);
-    } in length q.cdb ≤ 10)
+    go :
+        (y : Bool) → (let q : Process = if y then sense_process s id x else command_process s id x in length q.cdb ≤ 10)
     go true = omega arith
     go false = h
 

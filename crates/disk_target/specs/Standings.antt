@@ -15,6 +15,7 @@ use Rattle.target_course.specs.target_units.specs.Seated.{IsProcess, reply_told}
 use Rattle.disk_target.specs.declared.standing.Served.{Served}
 use Rattle.disk_target.specs.declared.standing.Standing.{Standing}
 use Rattle.disk_target.specs.declared.standing.Standing.TheVariants as standings
+use Rattle.array_model.proofs.NamedBlocks.{is_disk}
 
 -- ---- a process as its target knows it
 
@@ -32,8 +33,14 @@ HasBlock p v = p.cdb ≡ v.cdb.now
 
 abbrev pub words_of : (s : ScenarioValue) (dev : ℕ) (p : Process) (v : Served) → IsServed s dev p v → HasBlock p v
     → IsProcess p v.id v.from v.tag v.class v.cdb.now
-words_of s dev p v h block =
-    record { id_is = h.id_is; from_is = h.from_is; tag_is = h.tag_is; class_is = h.class_is; cdb_is = block }
+words_of s dev p v h block = record {
+  id_is = h.id_is;
+  from_is = h.from_is;
+  tag_is = h.tag_is;
+  class_is = h.class_is;
+  cdb_is = block;
+  disk = is_disk s p h.own.is;
+}
 
 -- ---- at its unit
 

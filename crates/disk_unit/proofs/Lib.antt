@@ -7,3 +7,4 @@ pub mod Executions
 pub mod LiveCommands
 pub mod Keeping
 pub mod AtSeats
+pub mod MediumFacts

@@ -30,6 +30,11 @@ use Rattle.disk_unit.specs.LiveCommands.{LiveCommand, queued_of, waiting_process
 use Rattle.disk_unit.specs.LiveCommands.{AreApart, HaveBlocks, IsCurrentOf, HasLive, live_but, has_this_key, is_one_of}
 use Rattle.array_model.proofs.SeatLookups.{same_id_is}
 use Rattle.array_model.proofs.SeatReplies.{id_self}
+use Rattle.array_model.specs.Order.{class_of, count_in, first_in, range_in}
+use Rattle.cdb_codec.specs.Cdb.{command_of}
+use Rattle.array_model.specs.scenario.specs.Needs.{is_write}
+use Rattle.disk_unit.specs.Disk.{disk_extent}
+use Rattle.disk_unit.specs.Units.{entry_with}
 
 -- ---- tests
 
@@ -70,6 +75,18 @@ process_found (x ∷ live) key p h = go (x.key == key) h (λ k. process_found li
         (λ (q : Process). same_id x.process.id q.id ≡ true) e (id_self x.process.id) in
         λ i. if same i then true else has_process live p.id
     go false k more = later (same_id x.process.id p.id) (more k)
+
+pub entry_at_disk : (p : Process) → p.serial ≡ false
+    → entry_with p.id p.initiator (tag_number p.tag) (class_of p.tag) (disk_extent p.cdb) ≡ entry_of p
+entry_at_disk p e = λ i. record {
+  id = p.id;
+  from = p.initiator;
+  tag = tag_number p.tag;
+  class = class_of p.tag;
+  first = first_in (if sym e i then Some (0, 1) else range_in (command_of p.cdb));
+  count = count_in (if sym e i then Some (0, 1) else range_in (command_of p.cdb));
+  writes = sym e i || is_write (command_of p.cdb);
+}
 
 pub entry_found : (live : List LiveCommand) (key : ℕ) (p : Process) → process_under live key ≡ Some p
     → entry_at (queued_of live) key ≡ Some (entry_of p)

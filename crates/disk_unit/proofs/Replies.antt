@@ -1,7 +1,7 @@
 -- The bytes of replies, and when a command is carried out.
-use Rattle.std.proofs.Common.{ℕ, ◌≡◌, ◌+◌, ◌-◌, ◌*◌, ◌≤◌, Bool, true, false, List, [], ◌∙◌, refl, sym, ap, arith}
+use Rattle.std.proofs.Common.{ℕ, ◌≡◌, ◌+◌, ◌-◌, ◌*◌, ◌≤◌, true, List, [], ◌∙◌, refl, sym, ap, arith}
 use Rattle.std.proofs.Common.{length, take, drop, min}
-use Rattle.std.specs.Prelude.{◌==◌, if◌then◌else◌}
+use Rattle.std.specs.Prelude.{◌==◌}
 use Rattle.std.proofs.lemmas.List.{drop-take, take-take, length-take}
 use Rattle.cdb_codec.specs.declared.status.TheConstants.{GOOD}
 use Rattle.cdb_codec.specs.declared.command.Command.{Command}
@@ -9,11 +9,11 @@ use Rattle.cdb_codec.specs.declared.replies.TheConstants.{SENSE_LEN, INQUIRY_LEN
 use Rattle.cdb_codec.specs.Blocks.{blocks_moved}
 use Rattle.cdb_codec.specs.Replies.{sense_data, inquiry_data}
 use Rattle.array_model.specs.Contents.{Contents, block_at}
-use Rattle.array_model.specs.Execution.{no_sense, range_execution, command_execution, reply_execution, check_condition}
-use Rattle.array_model.specs.Execution.{block_out_of_range, is_good_range, range_of}
+use Rattle.array_model.specs.Execution.{no_sense, range_execution}
+use Rattle.array_model.specs.Execution.{is_good_range, range_of}
 use Rattle.disk_unit.specs.Disk.{command_reply, bytes_in, disk_context}
 use Rattle.disk_unit.proofs.Parts.{length_bytes}
-use Rattle.array_model.proofs.ExecutionFacts.{command_good}
+use Rattle.array_model.proofs.ExecutionFacts.{range_good}
 use Rattle.cdb_codec.specs.declared.command.Command.TheVariants as commands
 
 pub take_part : (n at m : ℕ) (bytes : List ℕ) → at + n ≤ m → take n (drop at (take m bytes)) ≡ take n (drop at bytes)
@@ -47,9 +47,4 @@ reply_length c w (commands.Write10 lba count) r e = refl
 -- A command without fault is carried out where its blocks are the unit's.
 pub carried_out : (c : Contents) (command : Command)
     → is_good_range c.count (range_of command) ≡ ((range_execution (disk_context c) command []).reply.status == GOOD)
-carried_out c command = go (is_good_range c.count (range_of command))
-  where
-    go : (x : Bool) → x ≡ ((if x then command_execution (disk_context c) command []
-        else reply_execution (disk_context c) (check_condition block_out_of_range)).reply.status == GOOD)
-    go true = λ i. sym (command_good (disk_context c) command []) i == GOOD
-    go false = refl
+carried_out c command = range_good (disk_context c) command []

@@ -8,6 +8,7 @@ use Rattle.cdb_codec.specs.Blocks.{blocks_moved}
 use Rattle.cdb_codec.specs.declared.command.CdbFault.{CdbFault}
 use Rattle.cdb_codec.specs.Cdb.{command_of}
 use Rattle.array_model.specs.scenario.specs.Needs.{is_write}
+use Rattle.array_model.specs.scenario.specs.declared.value.UnitDef.{UnitDef}
 use Rattle.array_model.specs.Contents.{Contents}
 use Rattle.array_model.specs.Execution.{Reply, CommandContext, Execution, cdb_execution, command_execution, range_of}
 use Rattle.array_model.specs.Execution.{is_good_range}
@@ -27,6 +28,10 @@ disk_reply c cdb = (disk_execution c cdb []).reply
 -- The command is carried out.
 abbrev pub is_carried_out : Contents → List ℕ → Bool
 is_carried_out c cdb = (disk_reply c cdb).status == GOOD
+
+-- It makes the contents new: at a disk where it is carried out.
+abbrev pub is_changed : Contents → List ℕ → Bool
+is_changed c cdb = is_carried_out c cdb
 
 abbrev pub disk_extent : List ℕ → Extent
 disk_extent cdb = record {
@@ -53,14 +58,32 @@ bytes_in (commands.Write10 lba count) size = 0
 abbrev pub command_reply : Contents → Command → Reply
 command_reply c command = (command_execution (disk_context c) command []).reply
 
--- How many blocks it writes, where its blocks are the unit's.
-abbrev pub written_if : Contents → Command → ℕ
-written_if c command = if is_good_range c.count (range_of command) then written_of command else 0
+-- How many blocks it writes at a disk of so many, where its blocks are among these.
+abbrev pub written_if : ℕ → Command → ℕ
+written_if blocks command = if is_good_range blocks (range_of command) then written_of command else 0
 
--- How many blocks a command writes: none where it is not carried out.
-abbrev pub blocks_written_by : Contents → Result Command CdbFault → ℕ
-blocks_written_by c (Ok command) = written_if c command
-blocks_written_by c (Err fault) = 0
+-- How many a command writes there: none where it has a fault.
+abbrev pub blocks_written : ℕ → Result Command CdbFault → ℕ
+blocks_written blocks (Ok command) = written_if blocks command
+blocks_written blocks (Err fault) = 0
 
-abbrev pub blocks_written : Contents → List ℕ → ℕ
-blocks_written c cdb = blocks_written_by c (command_of cdb)
+-- ---- what a command may write, whatever the unit holds, and what it takes if it runs now
+
+-- What a unit is: a disk of so many blocks.
+pub data UnitKind : Type 0 where
+  disk_of : (blocks : ℕ) → UnitKind
+
+abbrev pub kind_of : Contents → UnitKind
+kind_of c = disk_of c.count
+
+-- As its line says.
+abbrev pub kind_by : UnitDef → UnitKind
+kind_by u = disk_of u.blocks
+
+-- How many blocks it writes at most, for which there has to be memory.
+abbrev pub cost_by : UnitKind → List ℕ → ℕ
+cost_by (disk_of blocks) cdb = blocks_written blocks (command_of cdb)
+
+-- How many bytes: those of the blocks that it writes.
+abbrev pub taken_now : Contents → List ℕ → ℕ
+taken_now c cdb = blocks_written c.count (command_of cdb) * c.size

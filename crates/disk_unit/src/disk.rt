@@ -1,5 +1,5 @@
 //! A disk as a medium: what the eight commands do to its blocks (ANSI X3.131-1994, 8.2 and 9.2).
-ghost use Rattle.std.specs.Prelude.{◌≡◌, ℕ, min, Ok, ◌+◌, ◌-◌, ◌*◌, ◌<◌, ◌≤◌, ◌&&◌, ◌==◌, if◌then◌else◌, Bool, true, false, List, [], length, take, drop, nat_lt, nat_le};
+ghost use Rattle.std.specs.Prelude.{◌≡◌, refl, ℕ, min, Ok, ◌+◌, ◌-◌, ◌*◌, ◌<◌, ◌≤◌, ◌&&◌, ◌==◌, if◌then◌else◌, Bool, true, false, List, [], length, take, drop, nat_lt, nat_le};
 ghost use Rattle.cdb_codec.specs.Cdb.{command_of};
 ghost use Rattle.cdb_codec.specs.declared.status.TheConstants.{GOOD as GOOD_STATUS};
 ghost use Rattle.cdb_codec.specs.Blocks.{blocks_moved as blocks_of};
@@ -9,7 +9,7 @@ ghost use Rattle.cdb_codec.specs.Replies.{capacity_data};
 ghost use Rattle.array_model.specs.Execution.{Reply, is_good_range, range_of, command_execution, cdb_execution, range_execution, check_condition, good};
 ghost use Rattle.array_model.specs.Order.{range_in, first_in, count_in};
 ghost use Rattle.disk_unit.specs.Plans.{plan_of};
-ghost use Rattle.disk_unit.specs.Disk.{disk_context, disk_execution, disk_reply, is_carried_out, blocks_written, disk_extent, written_of, bytes_in, command_reply, written_if};
+ghost use Rattle.disk_unit.specs.Disk.{disk_context, disk_execution, disk_reply, is_changed, cost_by, kind_of, taken_now, disk_extent, written_of, bytes_in, command_reply, written_if};
 
 use super::blocks::{Blocks, copy_from};
 use super::media::{Extent, Medium, Plan};
@@ -267,8 +267,8 @@ fn bytes_to_target(command: &Command, size: usize) -> u32
 // How a command without fault ends.
 fn plan_in_range<B: Blocks>(blocks: &B, command: &Command) -> Plan
     ensures { result ≡ plan_of
-        (range_execution (disk_context (B.contents blocks.now)) command.now []).reply (written_if
-        (B.contents blocks.now) command.now * (B.contents blocks.now).size) }
+        (range_execution (disk_context (B.contents blocks.now)) command.now []).reply
+        (written_if (B.contents blocks.now).count command.now * (B.contents blocks.now).size) }
 {
     if is_within(command, blocks.count()) {
         good_plan(blocks, command)
@@ -279,7 +279,7 @@ fn plan_in_range<B: Blocks>(blocks: &B, command: &Command) -> Plan
 
 // How many blocks it writes, none where it names others than the unit's.
 fn blocks_if_within<B: Blocks>(blocks: &B, command: &Command) -> u32
-    ensures { result ≡ written_if (B.contents blocks.now) command.now }
+    ensures { result ≡ written_if (B.contents blocks.now).count command.now }
 {
     if is_within(command, blocks.count()) {
         blocks_to_write(command)
@@ -308,12 +308,13 @@ fn read_in_range<B: Blocks>(blocks: &B, command: &Command, at: u32, into: &mut [
 }
 
 fn write_in_range<B: Blocks>(blocks: &mut B, command: &Command, sent: &[u8])
-    requires whole { length sent.now ≡ written_if (B.contents blocks.old) command.now * (B.contents blocks.old).size }
-    requires room { written_if (B.contents blocks.old) command.now ≤ B.spare_blocks blocks.old }
+    requires whole { length sent.now
+        ≡ written_if (B.contents blocks.old).count command.now * (B.contents blocks.old).size }
+    requires room { written_if (B.contents blocks.old).count command.now ≤ B.spare_blocks blocks.old }
     ensures exact { B.contents blocks.new
         ≡ (range_execution (disk_context (B.contents blocks.old)) command.now sent.now).contents }
     ensures lowered { B.spare_blocks blocks.old
-        ≤ B.spare_blocks blocks.new + written_if (B.contents blocks.old) command.now }
+        ≤ B.spare_blocks blocks.new + written_if (B.contents blocks.old).count command.now }
 {
     if is_within(command, blocks.count()) {
         write_reply(blocks, command, sent);
@@ -363,16 +364,18 @@ impl<B: Blocks> Medium for DiskMedium<B> {
 
     ghost reply_to = { λ m cdb. disk_reply (B.contents m.blocks) cdb };
 
-    ghost taken_by = { λ m cdb. blocks_written (B.contents m.blocks) cdb * (B.contents m.blocks).size };
+    ghost taken_by = { λ m cdb. taken_now (B.contents m.blocks) cdb };
 
-    ghost written_by = { λ m cdb. blocks_written (B.contents m.blocks) cdb };
+    ghost written_by = { λ m cdb. cost_by (kind_of (B.contents m.blocks)) cdb };
 
-    ghost named_by = { disk_extent };
+    ghost named_by = { λ m cdb. disk_extent cdb };
 
-    ghost is_changed_by = { λ m cdb. is_carried_out (B.contents m.blocks) cdb };
+    ghost is_changed_by = { λ m cdb. is_changed (B.contents m.blocks) cdb };
 
     ghost Becomes = { λ m cdb sent new. B.contents new.blocks
         ≡ (disk_execution (B.contents m.blocks) cdb sent).contents };
+
+    ghost names_stay = { λ before after cdb sent block h. refl };
 
     fn spare(&self) -> u64 {
         self.blocks.spare()

@@ -100,8 +100,8 @@ pub fn units_are_seats()
         → (seat_of (starting_array s) target unit).unit ≡ Some (starting_unit s d)
         → IsUnitAt s.hosts [] (starting_contents d s.fills) (starting_unit s d) (seat_of (starting_array s) target unit)
         (empty_books d.depth keys blocks) }
-    ensures entry { (p : Process) → entry_with p.id p.initiator (tag_number p.tag) (class_of p.tag) (disk_extent p.cdb)
-        ≡ entry_of p }
+    ensures entry { (p : Process) → p.serial ≡ false
+        → entry_with p.id p.initiator (tag_number p.tag) (class_of p.tag) (disk_extent p.cdb) ≡ entry_of p }
     ensures accept { (hosts : List HostDef) (live : List LiveCommand) (c : Contents) (u : UnitState) (seat : Seat)
         (b : UnitBooks) (key : ℕ) (p : Process) → IsUnitAt hosts live c u seat b
         → is_request_sense (command_of p.cdb) ≡ false → length b.queue.arrived < b.queue.depth

@@ -46,7 +46,7 @@ pub trait Medium {
     ghost written_by: { Self → List ℕ → ℕ };
 
     // What a command names, for the order of the queue.
-    ghost named_by: { List ℕ → Extent };
+    ghost named_by: { Self → List ℕ → Extent };
 
     // Whether a command makes the contents new, and whether these are the new ones with the bytes that it sent.
     ghost is_changed_by: { Self → List ℕ → Bool };
@@ -67,7 +67,7 @@ pub trait Medium {
 
     /// What the command names, for the order of the queue.
     fn extent(&self, cdb: &[u8]) -> Extent
-        ensures { result ≡ named_by cdb.now };
+        ensures { result ≡ named_by self.now cdb.now };
 
     /// The bytes of the reply from `at` on, as many as `into` has.
     fn fetch(&self, cdb: &[u8], at: u32, into: &mut [u8])
@@ -84,4 +84,8 @@ pub trait Medium {
     /// Whether the command makes the contents new.
     fn changes(&self, cdb: &[u8]) -> bool
         ensures { result ≡ is_changed_by self.now cdb.now };
+
+    // What commands name stays, whatever they write.
+    ghost names_stay: { (before after : Self) (cdb sent block : List ℕ) → Becomes before cdb sent after
+        → named_by after block ≡ named_by before block };
 }

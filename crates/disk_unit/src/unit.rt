@@ -164,7 +164,7 @@ impl<M: Medium> Unit<M> {
         requires device { from < 8 }
         requires most { length cdb.now ≤ 10 }
         ensures books { IsAccepted (requests_sense (command_of cdb.now)) self.old.books
-            (entry_with id from tag class (M.named_by cdb.now)) cdb.now self.new.books result }
+            (entry_with id from tag class (M.named_by self.old.medium cdb.now)) cdb.now self.new.books result }
         ensures medium { self.new.medium ≡ self.old.medium }
     {
         if is_request_sense(from_cdb(cdb)) {

@@ -4,7 +4,7 @@ use Rattle.std.specs.Prelude.{if◌then◌else◌}
 use Rattle.std.specs.List.{list_any}
 use Rattle.bus_rules.specs.cdb_codec.specs.Cdb.{has_group_len, command_of}
 use Rattle.dialogue_model.specs.scenario.specs.Needs.{is_write}
-use Rattle.dialogue_model.specs.array_model.specs.Order.{range_in}
+use Rattle.dialogue_model.specs.array_model.specs.Order.{range_named}
 use Rattle.dialogue_model.specs.declared.exchange.Task.{Task}
 use Rattle.dialogue_model.specs.scenario.specs.declared.value.Policy.{Policy}
 use Rattle.dialogue_model.specs.scenario.specs.Value.{ScenarioValue}
@@ -52,7 +52,7 @@ abbrev pub task_with : Array → ProcessProgress → Process → CarriedBytes �
 task_with a made p c now given = record {
   writes = is_writing p;
   moved = moved_count p now;
-  blocks = blocks_in (range_in (command_of p.cdb));
+  blocks = blocks_in (range_named p);
   size = size_of (unit_state_at a.units p.target p.unit);
   runs = made.runs;
   recoveries = made.recoveries;

@@ -8,9 +8,9 @@ use Rattle.bus_trace.specs.LineSet.{LineSet}
 use Rattle.bus_trace.specs.Phases.{is_message_out, is_command}
 use Rattle.scenario.specs.declared.value.CmdDef.{CmdDef}
 use Rattle.scenario.specs.Needs.{sent_of, sent_count}
-use Rattle.scenario.specs.declared.value.Tag.TheVariants as tags
 use Rattle.scenario.specs.Value.{ScenarioValue}
-use Rattle.array_model.specs.Processes.{payload_bytes, command_at, sense_block, process_by, process_if}
+use Rattle.array_model.specs.Processes.{payload_bytes, command_at, command_process, sense_block, process_by, process_if}
+use Rattle.array_model.specs.Processes.{sense_process}
 use Rattle.array_model.proofs.SeatLookups.{never_first}
 use Rattle.story_model.specs.Items.{Item, process, abort, is_of_host}
 use Rattle.due_model.specs.dialogue_model.specs.Exchange.{Speech, next_word}
@@ -88,23 +88,7 @@ of_command s k dev id c l e own = λ bus p. go bus p id.sense
     go : (bus : LineSet) (p : Speech) (sense : Bool) → (let v : CommandBytesValue =
         if sense then sense_bytes else slice_index_or (own_bytes s dev) id.command no_bytes in
         byte_to_send bus p (record { cdb = v.cdb; sent = v.sent; command = min command most; moved = min moved most }))
-        ≡ byte_to_send bus p (sending_by k (Some (if sense then record {
-          id = id;
-          initiator = c.host;
-          target = c.target;
-          unit = c.unit;
-          tag = tags.Untagged;
-          cdb = sense_block;
-          sent = [];
-        } else record {
-          id = id;
-          initiator = c.host;
-          target = c.target;
-          unit = c.unit;
-          tag = c.tag;
-          cdb = c.cdb;
-          sent = payload_bytes c.payload (sent_of s c);
-        })))
+        ≡ byte_to_send bus p (sending_by k (Some (if sense then sense_process s id c else command_process s id c)))
     go bus p true = byte_is bus p sense_block [] command moved (few 6 refl) none_within
     go bus p false = (λ i. byte_to_send bus p (record {
       cdb = (bytes_at s dev s.commands id.command c e own i).cdb;

@@ -9,7 +9,7 @@ pub use std_proofs.lemmas.{Nat.{div_below}, Option.{none-some, same_Some}}
 use Rattle.std.specs as std
 pub use std.{Int.Bits.{or_zero_r}, List.{AllByRecursion, find, list_any, sum_by}, Prelude.{drop, if◌then◌else◌}}
 pub use std.Prelude.{is_none, is_some, min, nat_le, nat_lt, not, slice_index, slice_index_or, slice_set, ⊤, ◌%◌, ◌*◌}
-pub use std.Prelude.{◌++◌, ◌+◌, ◌-◌, ◌/◌, ◌==◌, ◌^◌, ◌||◌}
+pub use std.Prelude.{◌++◌, ◌+◌, ◌-◌, ◌/◌, ◌==◌, ◌^◌, ◌||◌, ◌×◌}
 use Rattle.due_model.specs.bus_base.proofs as bus_base_proofs
 pub use bus_base_proofs.Tests.{and_false, and_first, and_second, and_true, eq_self, next_some, none_between}
 pub use bus_base_proofs.Tests.{none_number, not_first, plus_none, wrong, wrong'}
@@ -59,12 +59,14 @@ pub use scenario.declared.value.{Policy.{Policy}, ResetDef.{ResetDef}, Tag.{Tag}
 pub use scenario.declared.value.UnitDef.{UnitDef}
 unfoldable pub use scenario.{Needs.{need_of, sent_of}, Reading.{added, fault_def, reset_def, said_after}}
 use Rattle.due_model.specs.array_model.proofs as array_model_proofs
-pub use array_model_proofs.{ExecutionFacts.{good_range}, SeatLookups.{none_at}, SeatReplies.{id_self}}
+pub use array_model_proofs.{ExecutionFacts.{good_range}, NamedBlocks.{at_disk, is_disk}, SeatLookups.{none_at}}
+pub use array_model_proofs.SeatReplies.{id_self}
 use Rattle.due_model.specs.array_model.specs as array_model
 pub use array_model.{ArrayHistory.{array_after}, Contents.{Contents}, Execution.{execution, is_good_range, range_of}}
-pub use array_model.{Order.{range_in}, Processes.{Process, command_at, command_process, process_by, process_if}}
-pub use array_model.{Processes.{process_of, same_bool, same_id, sense_block, sense_process}, Seats.{is_initiator}}
-pub use array_model.{Steps.{context_at, has_ended}, Units.{Array, UnitState, nexus_of, unit_state_at}}
+pub use array_model.{Order.{range_in, range_named}, Processes.{Process, command_at, command_process, process_by}}
+pub use array_model.Processes.{process_if, process_of, same_bool, same_id, sense_block, sense_process}
+pub use array_model.{Seats.{is_initiator}, Steps.{context_at, has_ended}, Units.{Array, UnitState, nexus_of}}
+pub use array_model.Units.{unit_state_at}
 use Rattle.due_model.specs.story_model.proofs as story_model_proofs
 pub use story_model_proofs.StorySteps.{ends_checks, event_sent}
 use Rattle.due_model.specs.story_model.specs as story_model
@@ -204,7 +206,7 @@ use Rattle.progress_laws.specs.trace_laws.proofs as trace_laws_proofs
 pub use trace_laws_proofs.{Closes.Ends.{EndsHere, ends_low, ends_row, lost_by, lost_in}, Places.EndTells.{EndTold}}
 pub use trace_laws_proofs.{Places.{EndTells.{end_told}, Ends.{free_shown}}, Runs.Begins.{enters_run}}
 pub use trace_laws_proofs.Runs.{Counts.{handshakes_begin, or_left}, Done.{counted_runs, done_in_data, same_runs}}
-pub use trace_laws_proofs.Runs.{Facts.{task_here}, Fits.{FitsRuns, fits_runs, lines_now}, Rows.{served_id}}
+pub use trace_laws_proofs.Runs.{Facts.{task_here}, Fits.{FitsRuns, fits_runs, lines_now, named_by}, Rows.{served_id}}
 pub use trace_laws_proofs.{Runs.Steps.{pulsed_as}, Whole.{Whole, standing_next, steps, whole}}
 use Rattle.progress_laws.proofs as progress_laws_proofs
 pub use progress_laws_proofs.Debts.{Next.{ends_open, known_served}, Rows.{NoEnds, Shown, completes, no_ends, row_shown}}

@@ -78,7 +78,7 @@ pub use array_model.ArrayHistory.{array_after, array_step, disks_of, reply_in, r
 pub use array_model.Contents.{Contents, blank_contents, bytes_at, filled_contents, no_contents, with_block}
 pub use array_model.Execution.{CommandContext, Execution, Reply, check_condition, command_execution, execution}
 pub use array_model.Execution.{invalid_field, is_good_range, is_opcode, is_request_sense, queue_full, range_of}
-pub use array_model.{Execution.{returned_sense, sense_of, unit_not_supported}, Order.{choice, range_in}}
+pub use array_model.{Execution.{returned_sense, sense_of, unit_not_supported}, Order.{choice, range_in, range_named}}
 pub use array_model.{Processes.{Process, process_of, same_id}, Seats.{Seat, contents_of, context_of, current_of}}
 pub use array_model.Seats.{guests_at, is_of_other_unit, seat_if, seat_of, settled_seat, settled_seat_if}
 pub use array_model.SoundArray.{AllOwn, AllOwnGuests, AllOwnUnits, AreApart, HasSeats, IsOwn, IsOwnRunning, IsOwnUnit}
@@ -116,7 +116,7 @@ pub use story_model.TraceHistory.{story_with_sent, trace_history}
 use Rattle.disk_unit.proofs as disk_unit_proofs
 pub use disk_unit_proofs.Parts.{length_bytes}
 use Rattle.disk_unit.specs as disk_unit
-pub use disk_unit.Disk.{blocks_written, blocks_written_by}
+pub use disk_unit.Disk.{blocks_written, taken_now}
 use Rattle.due_model.specs.reaction_model.specs as reaction_model
 pub use reaction_model.Calling.{answer, answer_due, answered_due, bsy_takeover, called_due, caller_due, calling_abort}
 pub use reaction_model.Calling.{calling_start, is_called, loser_release, reselection_end, selection_end, unanswered_due}
@@ -132,15 +132,15 @@ pub use reaction_model.Target.{req_negation, req_pulse, req_pulse_end, target_ha
 pub use reaction_model.declared.{due.{Due.{Due}, Myself.{Myself}, Want.{Want}}, ends.Answering.{Answering}}
 pub use reaction_model.declared.{ends.{Offering.{Offering}, Pace.{Pace}}, sight.Sight.{Sight}}
 use Rattle.due_model.specs.dialogue_model.specs as dialogue_model
-pub use dialogue_model.{Arrivals.{policy_of}, DataRuns.{run_at, run_in, run_length, runs_in, runs_in_all}}
-pub use dialogue_model.{Ends.{follows_by, is_pulsed_phase}, Events.{is_status_next}, Exchange.{Exchange}}
-pub use dialogue_model.{Exchange.{bytes_of_messages, from_byte, message_bytes, one_message, plan_anew}, Hearing.{begun}}
-pub use dialogue_model.{Hearing.{begun_after}, NextPhase.{Serving, after_messages, after_run, disconnect_messages}}
-pub use dialogue_model.NextPhase.{disconnection, leaving_by, phase_entry, phase_leaving, phase_lines, phase_of}
-pub use dialogue_model.{NextPhase.{unless_attention, with_task}, PhaseBytes.{data_byte, follows_in, lines_by, one_if}}
-pub use dialogue_model.{PhaseBytes.{phase_byte, run_length_if}, Planning.{cause_after, first_plan, plan_in_message_out}}
-pub use dialogue_model.{Planning.{plan_in_phase}, declared.exchange.{Cause.{Cause}, Leaving.{Leaving}}}
-pub use dialogue_model.declared.exchange.{Messages.{Messages}, Next.{Next}, Phase.{Phase}, Plan.{Plan}, Task.{Task}}
+pub use dialogue_model.{Arrivals.{policy_of}, DataRuns.{run_at, run_length, runs_in, runs_in_all}, Ends.{follows_by}}
+pub use dialogue_model.{Ends.{is_pulsed_phase}, Events.{is_status_next}, Exchange.{Exchange, bytes_of_messages}}
+pub use dialogue_model.{Exchange.{from_byte, message_bytes, one_message, plan_anew}, Hearing.{begun, begun_after}}
+pub use dialogue_model.NextPhase.{Serving, after_messages, after_run, disconnect_messages, disconnection, leaving_by}
+pub use dialogue_model.NextPhase.{phase_entry, phase_leaving, phase_lines, phase_of, unless_attention, with_task}
+pub use dialogue_model.PhaseBytes.{data_byte, follows_in, lines_by, one_if, phase_byte, run_length_if}
+pub use dialogue_model.Planning.{cause_after, first_plan, plan_in_message_out, plan_in_phase}
+pub use dialogue_model.declared.exchange.{Cause.{Cause}, Leaving.{Leaving}, Messages.{Messages}, Next.{Next}}
+pub use dialogue_model.declared.exchange.{Phase.{Phase}, Plan.{Plan}, Task.{Task}}
 use Rattle.due_model.proofs as due_model_proofs
 pub use due_model_proofs.{Leasts.{least_none}, Plains.{run_state_plain}}
 use Rattle.due_model.specs as due_model
@@ -253,16 +253,16 @@ pub use story_laws.WholeRuns.{bytes_come}
 use Rattle.trace_laws.proofs as trace_laws_proofs
 pub use trace_laws_proofs.{Attended.Asks.{away_guest}, Closes.Stays.{said_then}, Places.Ready.{on_running}}
 pub use trace_laws_proofs.Places.{Stays.{stay_shown}, Turns.{command_not_out}, Unshown.{unshown_ready}}
-pub use trace_laws_proofs.Runs.{AllSent.{runs_blocks, some_run, zero_blocks}, Asks.{out_step, rise_of}}
-pub use trace_laws_proofs.Runs.{Begins.{same_length}, Begun.{no_more}, Counts.{handshakes_begin, or_left}}
-pub use trace_laws_proofs.Runs.{Data.{crossing_stands}, Events.{RunsFrom, RunsInPhase, answered, moved_all, reads}}
-pub use trace_laws_proofs.Runs.{Events.{run_turn, runs_from, writes}, Facts.{LinesOf, active_is, crossing_begun}}
-pub use trace_laws_proofs.Runs.{Facts.{kind_next, lines_of, raised_rst, task_here, turns_by}, Fits.{FitsRuns}}
-pub use trace_laws_proofs.Runs.{Fits.{fits_runs, lines_now, none_sent, policies_most, size_is}, Left.{left_next}}
-pub use trace_laws_proofs.Runs.{Left.{left_start}, Parts.{RunsFit, byte_within, has_byte, start_is}, Rows.{runs_first}}
-pub use trace_laws_proofs.{Runs.{Rows.{served_id}, Whole.{last_run}}, Sent.Stays.{is_in_next}, Whole.{Whole}}
-pub use trace_laws_proofs.{Whole.{row_attendance, standing_next, whole}, Writes.Arrivals.{ArrivesNow, arrives_first}}
-pub use trace_laws_proofs.Writes.{Facts.{known_before}, Premises.{write_premises}, Turns.{progress_turns}}
+pub use trace_laws_proofs.Runs.{AllSent.{moves_runs, some_total}, Asks.{out_step, rise_of}, Begins.{same_length}}
+pub use trace_laws_proofs.Runs.{Begun.{no_more}, Counts.{handshakes_begin, or_left}, Data.{crossing_stands}}
+pub use trace_laws_proofs.Runs.Events.{RunsFrom, RunsInPhase, answered, moved_all, reads, run_turn, runs_from, writes}
+pub use trace_laws_proofs.Runs.Facts.{LinesOf, active_is, crossing_begun, kind_next, lines_of, raised_rst, task_here}
+pub use trace_laws_proofs.Runs.{Facts.{turns_by}, Fits.{FitsRuns, fits_runs, lines_now, named_by, none_sent}}
+pub use trace_laws_proofs.Runs.{Fits.{policies_most, size_is}, Left.{left_next, left_start}, Parts.{RunsFit}}
+pub use trace_laws_proofs.Runs.{Parts.{byte_within, has_byte, start_is}, Rows.{runs_first, served_id}, Whole.{last_run}}
+pub use trace_laws_proofs.{Sent.Stays.{is_in_next}, Whole.{Whole, row_attendance, standing_next, whole}}
+pub use trace_laws_proofs.Writes.{Arrivals.{ArrivesNow, arrives_first}, Facts.{known_before}, Premises.{write_premises}}
+pub use trace_laws_proofs.Writes.Turns.{progress_turns}
 use Rattle.trace_laws.specs as trace_laws
 pub use trace_laws.RunsLeft.{HasRunLeft, RunsLeftOf, run_total}
 use Rattle.right_laws.specs as right_laws

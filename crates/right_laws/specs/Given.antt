@@ -1,7 +1,7 @@
 -- What a process that is not over has given or sent of its data: none, or some where a write would end GOOD if it ran
 -- now, and any other has given a front of what it would give then (6.1.5, 6.6.20); and what this asks of a row.
-use Rattle.std.specs.Prelude.{ℕ, ◌%◌, ◌≡◌, ◌≤◌, ◌<◌, ◌⊎◌, ◌==◌, true, false, List, [], ◌++◌, length, slice_index_or}
-use Rattle.std.specs.Prelude.{Some, is_some}
+use Rattle.std.specs.Prelude.{ℕ, ◌%◌, ◌≡◌, ◌≤◌, ◌<◌, ◌⊎◌, true, false, List, [], ◌++◌, length, slice_index_or, Some}
+use Rattle.std.specs.Prelude.{is_some}
 use Rattle.due_model.specs.bus_base.specs.declared.ProcId.{ProcId}
 use Rattle.due_model.specs.bus_trace.specs.Phases.{changes_phase, is_command, is_data}
 use Rattle.due_model.specs.bus_trace.specs.declared.Row.{Row}

@@ -4,11 +4,10 @@
 use Rattle.std.specs.Prelude.{ℕ, ◌+◌, ◌*◌, ◌≡◌, ◌⊎◌, Bool, true, false, ◌||◌, Option, Some, None, ⊤}
 use Rattle.due_model.specs.bus_base.specs.declared.ProcId.{ProcId}
 use Rattle.due_model.specs.bus_trace.specs.declared.connection.Connection.{Connection}
-use Rattle.due_model.specs.cdb_codec.specs.Cdb.{command_of}
 use Rattle.due_model.specs.msg_grammar.specs.declared.message.MsgIn.{MsgIn}
 use Rattle.due_model.specs.scenario.specs.declared.value.Policy.{Policy}
 use Rattle.due_model.specs.scenario.specs.Value.{ScenarioValue}
-use Rattle.due_model.specs.array_model.specs.Order.{range_in}
+use Rattle.due_model.specs.array_model.specs.Order.{range_named}
 use Rattle.due_model.specs.array_model.specs.Processes.{Process}
 use Rattle.due_model.specs.array_model.specs.Units.{starting_array, unit_state_at}
 use Rattle.due_model.specs.story_model.specs.CarriedBytes.{Area, CarriedBytes}
@@ -48,7 +47,7 @@ policy_by policy None = policies.Never
 policy_by policy (Some blocks) = policy
 
 abbrev pub run_policy : ScenarioValue → Process → Policy
-run_policy s p = policy_by (policy_for s p) (blocks_in (range_in (command_of p.cdb)))
+run_policy s p = policy_by (policy_for s p) (blocks_in (range_named p))
 
 -- How far a run begins after that before it.
 abbrev pub step_by : Policy → ℕ → ℕ
@@ -63,7 +62,7 @@ step_in policy (Some blocks) size = step_by policy size
 
 -- Of a process, by the blocks of its unit.
 abbrev pub run_step : ScenarioValue → Process → ℕ
-run_step s p = step_in (policy_for s p) (blocks_in (range_in (command_of p.cdb)))
+run_step s p = step_in (policy_for s p) (blocks_in (range_named p))
     (size_of (unit_state_at (starting_array s).units p.target p.unit))
 
 -- Where its next run begins.

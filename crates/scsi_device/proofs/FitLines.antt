@@ -11,14 +11,13 @@ use Rattle.scenario.specs.declared.value.CmdDef.{CmdDef}
 use Rattle.scenario.specs.declared.value.AbortDef.{AbortDef}
 use Rattle.scenario.specs.declared.value.Payload.{Payload}
 use Rattle.scenario.specs.declared.value.Payload.TheVariants as payloads
-use Rattle.scenario.specs.declared.value.Tag.TheVariants as tags
 use Rattle.scenario.specs.Value.{ScenarioValue}
 use Rattle.scenario.specs.Lookups.{unit_of}
 use Rattle.scenario.specs.Needs.{need_of, sent_of}
 use Rattle.scenario.specs.Reading.{is_payload}
 use Rattle.scenario.specs.Writing.{Obeys, IsHex, IsHexPayload}
-use Rattle.due_model.specs.array_model.specs.Processes.{Process, process_by, process_if, command_at, sense_block}
-use Rattle.due_model.specs.array_model.specs.Processes.{payload_bytes, bytes_from}
+use Rattle.due_model.specs.array_model.specs.Processes.{Process, process_by, process_if, command_at, command_process}
+use Rattle.due_model.specs.array_model.specs.Processes.{payload_bytes, bytes_from, sense_process}
 use Rattle.due_model.specs.array_model.specs.Units.{starting_unit, starting_units, unit_state_at}
 use Rattle.due_model.specs.array_model.specs.SoundArray.{AreApart, HasSeats}
 use Rattle.due_model.specs.array_model.specs.Seats.{is_initiator}
@@ -266,23 +265,10 @@ unit_fits s target unit u f e =
 
 initiator_is : (s : ScenarioValue) (id : ProcId) (c : CmdDef)
     → (let p : Process = process_by s id c in p.initiator) ≡ c.host
-initiator_is s id c = either id.sense (record {
-  id = id;
-  initiator = c.host;
-  target = c.target;
-  unit = c.unit;
-  tag = tags.Untagged;
-  cdb = sense_block;
-  sent = [];
-}) (record {
-  id = id;
-  initiator = c.host;
-  target = c.target;
-  unit = c.unit;
-  tag = c.tag;
-  cdb = c.cdb;
-  sent = payload_bytes c.payload (sent_of s c);
-}) refl refl
+initiator_is s id c = either id.sense
+    (sense_process s id c)
+    (command_process s id c)
+    refl refl
   where
     either : (q : Bool) (one two : Process) → one.initiator ≡ c.host → two.initiator ≡ c.host
         → (let p : Process = if q then one else two in p.initiator) ≡ c.host

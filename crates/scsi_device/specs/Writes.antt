@@ -5,12 +5,11 @@ use Rattle.bus_base.specs.declared.ProcId.{ProcId}
 use Rattle.bus_trace.specs.declared.Row.{Row}
 use Rattle.bus_trace.specs.declared.connection.Connection.{Connection}
 use Rattle.bus_trace.specs.Phases.{changes_phase}
-use Rattle.due_model.specs.cdb_codec.specs.Cdb.{command_of}
 use Rattle.scenario.specs.Lookups.{unit_of}
 use Rattle.scenario.specs.Value.{ScenarioValue}
 use Rattle.scenario.specs.declared.value.UnitDef.{UnitDef}
 use Rattle.due_model.specs.array_model.specs.Processes.{Process, same_id}
-use Rattle.due_model.specs.array_model.specs.Order.{range_in}
+use Rattle.due_model.specs.array_model.specs.Order.{range_named}
 use Rattle.due_model.specs.array_model.specs.Units.{unit_state_at}
 use Rattle.due_model.specs.story_model.specs.BusState.{RowReading, row_reading}
 use Rattle.due_model.specs.dialogue_model.specs.Arrivals.{policy_of}
@@ -76,7 +75,7 @@ block_size (Some u) = u.size
 
 -- Where the n-th run of a process begins, by the size of a block that the scenario says.
 abbrev pub start_of_run : ScenarioValue → Process → ℕ → ℕ
-start_of_run s p n = (run_in (policy_of (target_def_of s p.target)) (blocks_in (range_in (command_of p.cdb)))
+start_of_run s p n = (run_in (policy_of (target_def_of s p.target)) (blocks_in (range_named p))
     (block_size (unit_of s p.target p.unit)) 0 n).start
 
 abbrev pub is_of_size : ScenarioValue → RunState → Process → Bool

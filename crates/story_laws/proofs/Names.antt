@@ -57,15 +57,15 @@ pub use bus_rules.{Messages.{is_none_or_all, is_unknown, may_take, settles_offer
 pub use bus_rules.{Rules.{broken_rule, judged_rules}, Seen.{seen}, declared.seen.Seen.{Seen}}
 unfoldable pub use bus_rules.Seen.{seen_with}
 use Rattle.due_model.specs.scenario.specs as scenario
-pub use scenario.{Needs.{is_write, sent_of}, Value.{ScenarioValue}, Writing.{Obeys}, declared.value.AbortDef.{AbortDef}}
+pub use scenario.{Needs.{is_write}, Value.{ScenarioValue}, Writing.{Obeys}, declared.value.AbortDef.{AbortDef}}
 pub use scenario.declared.value.{CmdDef.{CmdDef}, HostDef.{HostDef}, Policy.{Policy}, Tag.{Tag}, TargetDef.{TargetDef}}
 pub use scenario.declared.value.UnitDef.{UnitDef}
 use Rattle.due_model.specs.array_model.proofs as array_model_proofs
-pub use array_model_proofs.{SeatLookups.{none_at, number_same}, SeatReplies.{id_turned}}
+pub use array_model_proofs.{NamedBlocks.{none_named}, SeatLookups.{none_at, number_same}, SeatReplies.{id_turned}}
 use Rattle.due_model.specs.array_model.specs as array_model
 pub use array_model.{ArrayHistory.{array_after, array_step, reply_in}, Execution.{Reply, is_request_sense}}
-pub use array_model.{Order.{range_in, same_number, tag_number}, Processes.{Process, command_at, payload_bytes}}
-pub use array_model.Processes.{process_by, process_if, process_of, same_bool, same_id, sense_block}
+pub use array_model.{Order.{range_in, same_number, tag_number}, Processes.{Process, command_at, command_process}}
+pub use array_model.Processes.{process_by, process_if, process_of, same_bool, same_id, sense_block, sense_process}
 pub use array_model.{Seats.{current_of, is_initiator}, Steps.{accept_step, accept_step_at, process_count, queue_step}}
 pub use array_model.{Steps.{settled_array_if, with_guest}, Units.{Array, RunningProcess, UnitState, is_held}}
 pub use array_model.Units.{starting_units, unit_state_at, with_unit}

@@ -1,5 +1,5 @@
 -- A process that runs as its last data run is done has sent all that it sends (6.1.5.1, 6.6.6).
-use Rattle.std.specs.Prelude.{ℕ, ◌+◌, ◌*◌, ◌≡◌, ◌≤◌, true, List, length, Some, ⊤, if◌then◌else◌}
+use Rattle.std.specs.Prelude.{ℕ, ◌+◌, ◌*◌, ◌≡◌, ◌≤◌, true, List, length, Some, None, ⊤, if◌then◌else◌}
 use Rattle.due_model.specs.scenario.specs.Value.{ScenarioValue}
 use Rattle.due_model.specs.scenario.specs.declared.value.Policy.{Policy}
 use Rattle.due_model.specs.array_model.specs.Processes.{Process}
@@ -34,3 +34,8 @@ pub record MovesBlocks (policy : Policy) (t : Task) : Type 0 where
   pub blocks_are : t.blocks ≡ Some blocks
   pub moved : t.moved ≡ blocks * t.size
   pub runs : RunsBlocks policy
+
+-- All that it moves in one run, or blocks in runs.
+pub data MovesInRuns (policy : Policy) (t : Task) : Type 0 where
+  in_one : t.blocks ≡ None → MovesInRuns policy t
+  in_blocks : MovesBlocks policy t → MovesInRuns policy t

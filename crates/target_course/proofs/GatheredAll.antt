@@ -11,11 +11,10 @@ use Rattle.bus_trace.specs.Trace.{bus}
 use Rattle.bus_trace.specs.declared.Row.{Row}
 use Rattle.bus_trace.specs.declared.connection.Connection.{Connection}
 use Rattle.bus_trace.specs.declared.rows.Kind.TheVariants.{Fault}
-use Rattle.cdb_codec.specs.Cdb.{command_of}
 use Rattle.scenario.specs.Lookups.{unit_of}
 use Rattle.scenario.specs.Value.{ScenarioValue}
 use Rattle.scenario.specs.declared.value.CmdDef.{CmdDef}
-use Rattle.array_model.specs.Order.{range_in}
+use Rattle.array_model.specs.Order.{range_named}
 use Rattle.array_model.specs.Processes.{Process, command_at, process_of}
 use Rattle.array_model.specs.Units.{unit_state_at}
 use Rattle.due_model.specs.story_model.specs.BusState.{RowReading, row_reading}
@@ -67,10 +66,10 @@ place_so : (s : ScenarioValue) (k : RunState) (p : Process) (dev : ℕ)
     ≡ min (start_of_run s p (progress_in k.progress p.id).runs + k.handshakes.answers) (2 ^ 64 - 1)
 place_so s k p dev served at size =
     (λ i. place_in_run (policy_of (target_def_of s (sym at i))) (task_if s k (served i)) k.handshakes.answers)
-    ∙ (λ i. min (same_start (policy_of (target_def_of s p.target)) (blocks_in (range_in (command_of p.cdb)))
+    ∙ (λ i. min (same_start (policy_of (target_def_of s p.target)) (blocks_in (range_named p))
     (size_of (unit_state_at (array_of s k).units p.target p.unit)) (task_at s k p).moved 0
     (progress_in k.progress p.id).runs i + k.handshakes.answers) (2 ^ 64 - 1))
-    ∙ (λ i. min ((run_in (policy_of (target_def_of s p.target)) (blocks_in (range_in (command_of p.cdb))) (eqb-true
+    ∙ (λ i. min ((run_in (policy_of (target_def_of s p.target)) (blocks_in (range_named p)) (eqb-true
     (size_of (unit_state_at (array_of s k).units p.target p.unit)) (block_size (unit_of s p.target p.unit)) size i) 0
     (progress_in k.progress p.id).runs).start + k.handshakes.answers) (2 ^ 64 - 1))
 
@@ -230,7 +229,7 @@ byte_gathered s rows row v known unit place lines p ends is_so says at_unit g h 
                 }) true = byte_more s rows v z m place
                 (w.change.after.data_bits % 256) running to named g.eight fit.0 room (g.each z.unit fit.0)
                 (so.1 ∙ place_so s k z v.dev x to three.1) (first_start (policy_of (target_def_of s z.target))
-                (blocks_in (range_in (command_of z.cdb))) (block_size (unit_of s z.target z.unit)) 0) four.1 h in
+                (blocks_in (range_named z)) (block_size (unit_of s z.target z.unit)) 0) four.1 h in
                 subst (λ (u : GatheredValue). AreByteGathered s rows v.dev
                 (writers_with (writers s rows) (Some z)) u true) ((λ i. record v {
                   units = gathered_with v.units (sym (at_unit m z own e x) i) (ids i) place

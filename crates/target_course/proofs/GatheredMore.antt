@@ -19,11 +19,10 @@ use Rattle.bus_trace.specs.declared.rows.Kind.TheVariants.{Drives, Fault}
 use Rattle.bus_trace.proofs.Sets.{same_self}
 use Rattle.bus_lines.specs.Handshakes.{Handshakes, no_handshakes, handshakes_after, answered_if, asked_if}
 use Rattle.bus_lines.specs.Handshakes.{newest_struck_if}
-use Rattle.cdb_codec.specs.Cdb.{command_of}
 use Rattle.scenario.specs.Lookups.{unit_of}
 use Rattle.scenario.specs.Value.{ScenarioValue}
 use Rattle.array_model.specs.ArrayHistory as Play
-use Rattle.array_model.specs.Order.{range_in}
+use Rattle.array_model.specs.Order.{range_named}
 use Rattle.array_model.specs.Processes.{Process, process_of, same_id}
 use Rattle.array_model.specs.Units.{unit_state_at}
 use Rattle.due_model.specs.story_model.specs.BusState.{RowReading, row_reading}
@@ -100,7 +99,7 @@ run_made s k v p extra e h =
     (block_size (unit_of s p.target p.unit)) three.1 in
     let moved : (task_at s k p).moved ≡ length p.sent = eqb-true (task_at s k p).moved (length p.sent) two.1 in
     let runs : ℕ = (progress_in k.progress p.id).runs in
-    let blocks : Option ℕ = blocks_in (range_in (command_of p.cdb)) in
+    let blocks : Option ℕ = blocks_in (range_named p) in
     let all : (run_in (policy_of (target_def_of s p.target)) blocks (block_size (unit_of s p.target p.unit))
     (length p.sent) runs).end - (run_in (policy_of (target_def_of s p.target)) blocks
     (block_size (unit_of s p.target p.unit)) (length p.sent) runs).start ≤ k.handshakes.answers = subst

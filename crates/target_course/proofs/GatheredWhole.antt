@@ -120,10 +120,10 @@ room_enough s id p lines e = go (command_at s.commands id.command) refl e
     own : (c : CmdDef) → command_at s.commands id.command ≡ Some c → (q : Bool) → id.sense ≡ q
         → ((process_by s id c).unit < 8)
         × (length (process_by s id c).sent ≤ unit_room s (process_by s id c).target (process_by s id c).unit)
-    own c f true g = subst (λ (z : Bool). ((if z then sense_process id c else command_process s id c).unit < 8)
-        × (length (if z then sense_process id c else command_process s id c).sent
-        ≤ unit_room s (if z then sense_process id c else command_process s id c).target
-        (if z then sense_process id c else command_process s id c).unit)) (sym g)
+    own c f true g = subst (λ (z : Bool). ((if z then sense_process s id c else command_process s id c).unit < 8)
+        × (length (if z then sense_process s id c else command_process s id c).sent
+        ≤ unit_room s (if z then sense_process s id c else command_process s id c).target
+        (if z then sense_process s id c else command_process s id c).unit)) (sym g)
         ((lines id.command c f).unit, omega arith)
     own c f false g =
         let line = lines id.command c f in
@@ -134,10 +134,10 @@ room_enough s id p lines e = go (command_at s.commands id.command) refl e
         let here : write_room s c.target c.unit c ≡ min (sent_of s c) (2 ^ 32 - 1) =
         λ i. if eq-eqb c.target c.target refl i && eq-eqb c.unit c.unit refl i then sent_count s c else 0 in
         let most = enough_of s s.commands id.command c f in
-        subst (λ (z : Bool). ((if z then sense_process id c else command_process s id c).unit < 8)
-        × (length (if z then sense_process id c else command_process s id c).sent
-        ≤ unit_room s (if z then sense_process id c else command_process s id c).target
-        (if z then sense_process id c else command_process s id c).unit)) (sym g)
+        subst (λ (z : Bool). ((if z then sense_process s id c else command_process s id c).unit < 8)
+        × (length (if z then sense_process s id c else command_process s id c).sent
+        ≤ unit_room s (if z then sense_process s id c else command_process s id c).target
+        (if z then sense_process s id c else command_process s id c).unit)) (sym g)
         (unit, omega (arith, long, few, below, here, most))
 
     go : (c : Option CmdDef) → command_at s.commands id.command ≡ c → process_if s id c ≡ Some p

@@ -1,7 +1,7 @@
 -- What a command answers where its unit is not there.
 use Rattle.std.proofs.Common.{ℕ, ◌≡◌, ◌<◌, ◌+◌, ◌≤◌, Bool, true, false, List, [], ◌∷◌, ◌∙◌, refl, sym, subst, length}
 use Rattle.std.proofs.Common.{take, drop, min, arith, Option, Some, None, Result, Ok, Err}
-use Rattle.std.specs.Prelude.{if◌then◌else◌, ◌&&◌, ◌==◌, not, is_some, slice_index_or}
+use Rattle.std.specs.Prelude.{◌&&◌, not, is_some, slice_index_or}
 use Rattle.std.proofs.lemmas.List.{length-take}
 use Rattle.cdb_codec.specs.declared.Sense.{Sense}
 use Rattle.cdb_codec.specs.declared.operation.TheConstants.{INQUIRY, REQUEST_SENSE}

@@ -19,7 +19,7 @@ use Rattle.scenario.specs.Needs.{is_write, moved_by, need_of, sent_of}
 use Rattle.scenario.specs.Value.{ScenarioValue}
 use Rattle.array_model.specs.ArrayHistory.{array_after, array_step, reply_in}
 use Rattle.array_model.specs.Contents.{Contents, blank_contents, filled_contents, starting_contents, with_block}
-use Rattle.array_model.specs.Execution.{Reply, execution, is_good_range, range_of, is_request_sense, queue_full}
+use Rattle.array_model.specs.Execution.{Reply, execution, is_request_sense, queue_full}
 use Rattle.array_model.specs.Processes.{Process, process_of, process_if, process_by, command_at, payload_bytes}
 use Rattle.array_model.specs.Processes.{sense_block, same_id}
 use Rattle.array_model.specs.Seats.{seat_of, contents_of, context_of}
@@ -27,7 +27,8 @@ use Rattle.array_model.specs.SoundArray.{IsOwn}
 use Rattle.array_model.specs.Units.{Array, UnitState, starting_array, starting_unit, starting_units, settled_array}
 use Rattle.array_model.specs.Units.{unit_state_at}
 use Rattle.array_model.proofs.SeatReplies.{id_self}
-use Rattle.disk_unit.specs.Disk.{blocks_written, blocks_written_by, written_of}
+use Rattle.disk_unit.specs.Disk.{blocks_written, cost_by, disk_of, kind_by, kind_of, taken_now}
+use Rattle.disk_unit.proofs.MediumFacts.{need_taken}
 use Rattle.scsi_device.specs.Lines.{FitsBus, IsCommandLine}
 use Rattle.scsi_device.proofs.FitLines.{command_fits, unit_fits}
 use Rattle.scsi_device.proofs.SentBytes.{process_few}
@@ -39,7 +40,6 @@ use Rattle.target_units.proofs.Starts.{start_settled}
 use Rattle.array_model.proofs.WholeBlocks.{HasSameExtent, extent_self, extent_more}
 use Rattle.target_units.proofs.UnitTimes.{AreSame, HasMore, one_more, IsLater, step_later}
 use Rattle.array_model.proofs.SeatLookups.{never_first}
-use Rattle.array_model.proofs.ExecutionFacts.{good_range}
 use Rattle.cdb_codec.specs.declared.command.Command.TheVariants as commands
 
 -- ---- the blocks of a unit stay those of its line
@@ -211,40 +211,7 @@ by_line s p e plain = go (command_at s.commands p.id.command) refl e
           sent = λ i. (sym by i).sent;
         }
 
--- ---- what it sends are the bytes of the blocks that it names
-
--- What a write needs at a unit of this line, whose blocks are these.
-sends_by : (r : Result Command CdbFault) (u : UnitDef) (c : Contents) → c.count ≡ u.blocks → c.size ≡ u.size
-    → ((command : Command) → r ≡ Ok command → is_good_range c.count (range_of command) ≡ true)
-    → (if is_write r then moved_by r (Some u) else 0) ≡ blocks_written_by c r * c.size
-sends_by (Err fault) u c count size good = omega arith
-sends_by (Ok command) u c count size good = by command (good command refl)
-  where
-    none : (y : Bool) → 0 ≡ (if y then 0 else 0) * c.size
-    none true = omega arith
-    none false = omega arith
-
-    writes : (lba n : ℕ) → (nat_lt lba c.count && nat_le (lba + n) c.count) ≡ true
-        → (if nat_le (lba + n) u.blocks then n * u.size else 0)
-        ≡ (if nat_lt lba c.count && nat_le (lba + n) c.count then n else 0) * c.size
-    writes lba n g =
-        let within : nat_le (lba + n) c.count ≡ true = grind (arith, nat_tests, g) in
-        (λ i. if nat_le (lba + n) (sym count i) then n * sym size i else 0)
-        ∙ (λ i. if within i then n * c.size else 0)
-        ∙ (λ i. (if sym g i then n else 0) * c.size)
-
-    by : (x : Command) → is_good_range c.count (range_of x) ≡ true
-        → (if is_write (Ok x) then moved_by (Ok x) (Some u) else 0)
-        ≡ (if is_good_range c.count (range_of x) then written_of x else 0) * c.size
-    by commands.TestUnitReady g = none true
-    by (commands.RequestSense room) g = none true
-    by (commands.Read6 lba count) g =
-        none (nat_lt lba c.count && nat_le (lba + blocks_moved (commands.Read6 lba count)) c.count)
-    by (commands.Write6 lba count) g = writes lba (blocks_moved (commands.Write6 lba count)) g
-    by (commands.Inquiry room) g = none true
-    by commands.ReadCapacity g = none true
-    by (commands.Read10 lba count) g = none (nat_lt lba c.count && nat_le (lba + count) c.count)
-    by (commands.Write10 lba count) g = writes lba count g
+-- ---- what it sends are the bytes that it takes
 
 -- No unit is there: a write needs nothing.
 sends_none : (r : Result Command CdbFault) → (if is_write r then moved_by r None else 0) ≡ 0
@@ -264,16 +231,10 @@ unfolding sent_of need_of
 sent_is s c t = λ i. if is_write (command_of c.cdb)
     then (if t i then moved_by (command_of c.cdb) (unit_of s c.target c.unit) else 0) else 0
 
-count_same : (c d : Contents) (r : Result Command CdbFault) → c.count ≡ d.count
-    → blocks_written_by c r ≡ blocks_written_by d r
-count_same c d (Err fault) e = refl
-count_same c d (Ok command) e = λ i. if is_good_range (e i) (range_of command) then written_of command else 0
-
--- The bytes that it sends, where it is carried out, are those of the blocks that it names; and they are few.
+-- The bytes that it sends, where it is carried out, are those that it takes; and they are few.
 pub record Sends (a : Array) (p : Process) : Type 0 where
   pub bytes : (execution (context_of (seat_of a p.target p.unit) p.initiator) p.cdb p.sent).reply.status ≡ GOOD
-      → length p.sent ≡ blocks_written (contents_of (unit_state_at a.units p.target p.unit)) p.cdb
-      * (contents_of (unit_state_at a.units p.target p.unit)).size
+      → length p.sent ≡ taken_now (contents_of (unit_state_at a.units p.target p.unit)) p.cdb
   pub few : length p.sent ≤ 65536
 
 pub sends : (s : ScenarioValue) (a : Array) (p : Process) → FitsBus s → AreOfLines s a → has_target s p.target ≡ true
@@ -295,32 +256,33 @@ sends s a p fits lines target is plain =
   where
     go : (o : Option UnitDef) (x : Option UnitState) → unit_state_at a.units p.target p.unit ≡ x → IsOfLine o x
         → (execution (context_of (seat_of a p.target p.unit) p.initiator) p.cdb p.sent).reply.status ≡ GOOD
-        → (if is_write (command_of p.cdb) then moved_by (command_of p.cdb) o else 0)
-        ≡ blocks_written (contents_of x) p.cdb * (contents_of x).size
-    go None None f h good = sends_none (command_of p.cdb) ∙ omega arith
+        → (if is_write (command_of p.cdb) then moved_by (command_of p.cdb) o else 0) ≡ taken_now (contents_of x) p.cdb
+    go None None f h good = sends_none (command_of p.cdb) ∙ none (blocks_written 0 (command_of p.cdb))
+      where
+        none : (n : ℕ) → 0 ≡ n * 0
+        none n = omega arith
     go None (Some v) f h good = absurd h
     go (Some u) None f h good = absurd h
     go (Some u) (Some v) f h good =
-        sends_by (command_of p.cdb) u v.contents h.0 h.1
-        (λ command e.
-        (λ i. is_good_range (contents_of (sym f i)).count (range_of command))
-        ∙ good_range (context_of (seat_of a p.target p.unit) p.initiator) p.cdb p.sent command e good)
+        need_taken (context_of (seat_of a p.target p.unit) p.initiator) u p.cdb p.sent
+        ((λ i. (contents_of (f i)).count) ∙ h.0) ((λ i. (contents_of (f i)).size) ∙ h.1) good
+        ∙ (λ i. taken_now (contents_of (f i)) p.cdb)
 
 -- ---- a process that runs
 
 named_blocks : (s : ScenarioValue) (c : CmdDef) (u : UnitDef) (v : Contents) → c.target ≡ u.target → c.unit ≡ u.unit
-    → v.count ≡ u.blocks → blocks_by u c ≡ blocks_written v c.cdb
+    → v.count ≡ u.blocks → blocks_by u c ≡ cost_by (kind_of v) c.cdb
 named_blocks s c u v target unit count =
     let one : (c.target == u.target) ≡ true = grind arith in
     let other : (c.unit == u.unit) ≡ true = grind arith in
-    (λ i. if one i && other i then blocks_written (blank_contents u.blocks u.size) c.cdb else 0)
-    ∙ count_same (blank_contents u.blocks u.size) v (command_of c.cdb) (sym count)
+    (λ i. if one i && other i then cost_by (kind_by u) c.cdb else 0)
+    ∙ (λ i. cost_by (disk_of (sym count i)) c.cdb)
 
 either : (n : ℕ) (y : Bool) → (if y then n else n) ≡ n
 either n true = refl
 either n false = refl
 
-no_blocks : (r : Result Command CdbFault) → blocks_written_by (blank_contents 0 0) r ≡ 0
+no_blocks : (r : Result Command CdbFault) → blocks_written 0 r ≡ 0
 no_blocks (Err fault) = refl
 no_blocks (Ok commands.TestUnitReady) = refl
 no_blocks (Ok (commands.RequestSense room)) = refl
@@ -341,8 +303,8 @@ no_blocks (Ok (commands.Write10 lba count)) =
 pub among : (s : ScenarioValue) (a : Array) (dev n : ℕ) (p : Process) (new : List (ProcId × Reply)) (r : Reply)
     → FitsBus s → AreOfLines s a → IsOwn s dev n p → p.id.sense ≡ false
     → reply_in a.replies p.id ≡ None → HasMore a.replies new → reply_in new p.id ≡ Some r
-    → blocks_written (contents_of (unit_state_at a.units dev n)) p.cdb + blocks_left_at new (unit_of s dev n) s.commands
-    ≤ blocks_left_at a.replies (unit_of s dev n) s.commands
+    → cost_by (kind_of (contents_of (unit_state_at a.units dev n))) p.cdb
+    + blocks_left_at new (unit_of s dev n) s.commands ≤ blocks_left_at a.replies (unit_of s dev n) s.commands
 among s a dev n p new r fits lines own plain unanswered more answered =
     let by : IsByLine s p = by_line s p own.is plain in
     go by (unit_of s dev n) refl (unit_state_at a.units dev n) (lines dev n)
@@ -357,18 +319,19 @@ among s a dev n p new r fits lines own plain unanswered more answered =
         ((λ i. reply_in a.replies (sym id_is i)) ∙ unanswered) ((λ i. reply_in new (sym id_is i)) ∙ answered)
 
     go : IsByLine s p → (o : Option UnitDef) → unit_of s dev n ≡ o → (x : Option UnitState) → IsOfLine o x
-        → blocks_written (contents_of x) p.cdb + blocks_left_at new o s.commands ≤ blocks_left_at a.replies o s.commands
+        → cost_by (kind_of (contents_of x)) p.cdb + blocks_left_at new o s.commands
+        ≤ blocks_left_at a.replies o s.commands
     go by None f None h =
-        let none : blocks_written (contents_of None) p.cdb ≡ 0 = no_blocks (command_of p.cdb) in
+        let none : cost_by (kind_of (contents_of None)) p.cdb ≡ 0 = no_blocks (command_of p.cdb) in
         omega (arith, none)
     go by None f (Some v) h = absurd h
     go by (Some u) f None h = absurd h
     go by (Some u) f (Some v) h =
         let place = unit_fits s dev n u fits f in
-        let named : blocks_by u by.line ≡ blocks_written v.contents by.line.cdb = named_blocks s by.line u v.contents
+        let named : blocks_by u by.line ≡ cost_by (kind_of v.contents) by.line.cdb = named_blocks s by.line u v.contents
         (sym by.target ∙ own.target_is ∙ sym place.1) (sym by.unit ∙ own.unit_is ∙ sym place.2) h.0 in
-        let own_blocks : blocks_written v.contents p.cdb ≡ blocks_by u by.line =
-        (λ i. blocks_written v.contents (by.cdb i)) ∙ sym named in
+        let own_blocks : cost_by (kind_of v.contents) p.cdb ≡ blocks_by u by.line =
+        (λ i. cost_by (kind_of v.contents) (by.cdb i)) ∙ sym named in
         let all = counted by.line u p.id.command refl by.is in
         omega (arith, own_blocks, all)
 
@@ -388,9 +351,7 @@ has_room s a dev n spare p fits lines target left own plain unanswered =
       blocks = omega (arith, one, left);
       bytes = λ good. all.bytes ((λ i.
           (execution (context_of (seat_of a (own.target_is i) (own.unit_is i)) p.initiator) p.cdb p.sent).reply.status)
-          ∙ good)
-          ∙ (λ i. blocks_written (contents_of (unit_state_at a.units (own.target_is i) (own.unit_is i))) p.cdb
-          * (contents_of (unit_state_at a.units (own.target_is i) (own.unit_is i))).size);
+          ∙ good) ∙ (λ i. taken_now (contents_of (unit_state_at a.units (own.target_is i) (own.unit_is i))) p.cdb);
     }
 
 -- ---- a process of the queue is no automatic REQUEST SENSE

@@ -1,6 +1,6 @@
 -- A unit at its seat after each event and the choice that follows it.
-use Rattle.std.proofs.Common.{ℕ, ◌≡◌, ◌<◌, ◌≤◌, ◌+◌, ◌*◌, length, take, arith, Bool, true, false, List, [], ◌∷◌, ◌++◌}
-use Rattle.std.proofs.Common.{◌∙◌, refl, sym, subst, Option, Some, None, Result, Ok, Err}
+use Rattle.std.proofs.Common.{ℕ, ◌≡◌, ◌<◌, ◌≤◌, ◌+◌, length, take, arith, Bool, true, false, List, [], ◌∷◌, ◌++◌}
+use Rattle.std.proofs.Common.{◌∙◌, refl, sym, subst, Option, Some, None}
 use Rattle.std.specs.Prelude.{if◌then◌else◌, ◌&&◌, ◌||◌, ◌==◌, not, nat_le, is_some, is_none}
 use Rattle.std.proofs.lemmas.Bool.{eqb-true, and_from, le-leb}
 use Rattle.std.proofs.lemmas.List.{take_all}
@@ -10,13 +10,11 @@ use Rattle.bus_base.specs.declared.events.Class.{Class}
 use Rattle.bus_base.specs.declared.events.Pick.{Pick}
 use Rattle.cdb_codec.specs.declared.Sense.{Sense}
 use Rattle.cdb_codec.specs.declared.status.TheConstants.{GOOD, CHECK_CONDITION}
-use Rattle.cdb_codec.specs.declared.command.Command.{Command}
-use Rattle.cdb_codec.specs.declared.command.CdbFault.{CdbFault}
 use Rattle.cdb_codec.specs.Cdb.{command_of}
 use Rattle.scenario.specs.declared.value.HostDef.{HostDef}
 use Rattle.array_model.specs.declared.entries.Entry.{Entry}
 use Rattle.array_model.specs.Contents.{Contents}
-use Rattle.array_model.specs.Execution.{Reply, Execution, execution, check_condition, is_good_range, range_of}
+use Rattle.array_model.specs.Execution.{Reply, Execution, execution, check_condition}
 use Rattle.array_model.specs.Execution.{is_request_sense, queue_full, aborted_reply}
 use Rattle.array_model.specs.Order.{entry_of, choice}
 use Rattle.array_model.specs.Processes.{Process, same_id}
@@ -31,8 +29,8 @@ use Rattle.disk_unit.specs.AtSeats.{IsUnitAt}
 use Rattle.disk_unit.specs.Books.{UnitBooks, block_at, attention_at, initiator_at, books_with, books_after_choice}
 use Rattle.disk_unit.specs.Books.{books_after_end, books_without, books_after_abort, books_after_abort_tag}
 use Rattle.disk_unit.specs.Books.{books_after_reset}
-use Rattle.disk_unit.specs.Disk.{blocks_written, blocks_written_by, written_of, disk_execution, disk_reply, disk_extent}
-use Rattle.disk_unit.specs.Disk.{is_carried_out, disk_context}
+use Rattle.disk_unit.specs.Disk.{cost_by, kind_of, taken_now, disk_execution, disk_reply, disk_extent, is_carried_out}
+use Rattle.disk_unit.specs.Disk.{is_changed}
 use Rattle.disk_unit.specs.Keeping.{books_after_status}
 use Rattle.disk_unit.specs.LiveCommands.{LiveCommand, HasLive, IsCurrentOf, process_under, has_process, queued_of}
 use Rattle.disk_unit.specs.LiveCommands.{live_but, has_this_key, is_one_of}
@@ -41,18 +39,17 @@ use Rattle.disk_unit.specs.Units.{IsAborted, is_reported, reply_with, entry_with
 use Rattle.disk_unit.specs.Units.{unit_reply}
 use Rattle.disk_unit.specs.declared.unit.Accepted.{Accepted}
 use Rattle.disk_unit.specs.declared.unit.Reply.{Reply as UnitReply}
-use Rattle.disk_unit.proofs.LiveCommands.{process_found, room_is}
+use Rattle.disk_unit.proofs.LiveCommands.{entry_at_disk, process_found, room_is}
+use Rattle.disk_unit.proofs.MediumFacts.{contents_stay, none_taken, sent_unseen}
 use Rattle.due_model.specs.RunSteps.{is_same_running}
 use Rattle.target_units.specs.Rooms.{HasRoomFor}
 use Rattle.target_units.specs.Seated.{SeatedState, IsSeated, IsAtSeat, IsSince, current_reply, reply_told, current_id}
 use Rattle.target_units.specs.Seated.{running_id, is_same_process, seat_time, settled, since_after, reply_kept}
 use Rattle.target_units.specs.Seated.{with_books, AreQueued, IsProcess, IsNew, IsArrived, IsRun, IsRunLive, can_run}
-use Rattle.target_units.specs.Seated.{taken_at, HasSent, state_after_failure, state_after_end, state_ended}
+use Rattle.target_units.specs.Seated.{taken_at, cost_at, HasSent, state_after_failure, state_after_end, state_ended}
 use Rattle.target_units.specs.Seated.{state_after_loss, books_after_guest, books_by_guest, IsSensing, IsCut}
-use Rattle.array_model.proofs.Executed.{carried_executed}
-use Rattle.array_model.proofs.ExecutionFacts.{command_good, sense_block_of, sense_executed, sent_apart, undone}
+use Rattle.array_model.proofs.ExecutionFacts.{sense_block_of, sense_executed}
 use Rattle.bus_base.specs.declared.AbortKind.TheVariants as aborts
-use Rattle.cdb_codec.specs.declared.command.Command.TheVariants as commands
 use Rattle.array_model.specs.Seats
 use Rattle.tag_queue.specs.declared.those.Those.TheVariants as those
 use Rattle.disk_unit.specs.Books
@@ -226,8 +223,9 @@ arrives hosts seat after time now v w p (accepted.Queued key) h lt new e a =
 
 entry_is : (p : Process) (id : ProcId) (from : ℕ) (tag : Option ℕ) (class : Class) (cdb : List ℕ)
     → IsProcess p id from tag class cdb → entry_with id from tag class (disk_extent cdb) ≡ entry_of p
-entry_is p id from tag class cdb h =
-    λ i. entry_with (sym h.id_is i) (sym h.from_is i) (sym h.tag_is i) (sym h.class_is i) (disk_extent (sym h.cdb_is i))
+entry_is p id from tag class cdb h = (λ i. entry_with (sym h.id_is i) (sym h.from_is i)
+    (sym h.tag_is i) (sym h.class_is i) (disk_extent (sym h.cdb_is i)))
+    ∙ entry_at_disk p h.disk
 
 own_words : (v w : SeatedState) (p : Process) (id : ProcId) (from : ℕ)
     (tag : Option ℕ) (class : Class) (cdb : List ℕ) (result : Accepted)
@@ -711,12 +709,6 @@ aborts_at hosts seat time now v w kind by lt cut h = cuts hosts seat time now v 
 
 -- ---- a command runs
 
--- A command that is not carried out changes nothing, whatever was sent.
-not_carried : (c : Contents) (cdb sent : List ℕ) → is_carried_out c cdb ≡ false
-    → (disk_execution c cdb sent).contents ≡ c
-not_carried c cdb sent h =
-    (undone (disk_context c) cdb sent ((λ i. (sent_apart (disk_context c) cdb sent [] i).status == GOOD) ∙ h)).contents
-
 unreported : (attention : Option Sense) (cdb : List ℕ) (reply : Reply) → is_reported attention cdb ≡ false
     → reply_with attention cdb reply ≡ reply
 unreported None cdb reply h = refl
@@ -735,7 +727,7 @@ contents_same c attention block cdb sent own b h = go (is_reported attention blo
         let same : sent ≡ own = h ((λ i. (unreported attention block (disk_reply c block) f i).status) ∙ status) in
         λ i. (disk_execution c (sym b i) (sym same i)).contents
     carried false k f =
-        (λ i. (disk_execution c (sym b i) own).contents) ∙ not_carried c block own k ∙ sym (not_carried c block sent k)
+        (λ i. (disk_execution c (sym b i) own).contents) ∙ sent_unseen c block own sent k
 
     go : (y : Bool) → is_reported attention block ≡ y → (if y then c else (disk_execution c cdb own).contents)
         ≡ (if y then c else (disk_execution c block sent).contents)
@@ -817,24 +809,6 @@ run_reply r p reply kept e h =
     if self i then Some (record { process = p; reply = Some reply }) else Some (record { process = p; reply = None }))))
     h
 
--- A command that is not carried out writes no blocks.
-not_written : (c : Contents) (cdb : List ℕ) → is_carried_out c cdb ≡ false → blocks_written c cdb ≡ 0
-not_written c cdb h = go (command_of cdb) refl
-  where
-    ranged : (command : Command) → command_of cdb ≡ Ok command
-        → (y : Bool) → is_good_range c.count (range_of command) ≡ y → (if y then written_of command else 0) ≡ 0
-    ranged command e false g = refl
-    ranged command e true g =
-        let done = carried_executed (disk_context c) cdb [] command
-        (record { there = refl; calm = λ sense a. some_none sense a }) e g in
-        let bad : true ≡ false = (λ i. sym (command_good (disk_context c) command []) i == GOOD)
-        ∙ (λ i. (sym done i).reply.status == GOOD) ∙ h in
-        cc
-
-    go : (r : Result Command CdbFault) → command_of cdb ≡ r → blocks_written_by c r ≡ 0
-    go (Ok command) e = ranged command e (is_good_range c.count (range_of command)) refl
-    go (Err fault) e = refl
-
 -- The command of this key may run with these bytes, and they are those of the process where it is carried out.
 record MayRun (seat : Seat) (v : SeatedState) (key : ℕ) (p : Process) (sent : List ℕ) : Type 0 where
   can : can_run v key (length sent) ≡ true
@@ -859,14 +833,14 @@ may_run hosts seat time v p key sent h under q sending room =
     contents : Seats.contents_of seat.unit ≡ v.contents
     contents = (λ i. Seats.contents_of (h.2.kept.there i)) ∙ h.2.kept.contents
 
-    blocks : ℕ
-    blocks = blocks_written v.contents (block_at v.books key)
+    named : cost_by (kind_of (Seats.contents_of seat.unit)) p.cdb ≡ cost_at v key
+    named = λ i. cost_by (kind_of (contents i)) (sym block i)
 
-    named : blocks_written (Seats.contents_of seat.unit) p.cdb ≡ blocks
-    named = λ i. blocks_written (contents i) (sym block i)
+    fits : nat_le (cost_at v key) v.spare ≡ true
+    fits = le-leb (cost_at v key) v.spare (subst (λ (n : ℕ). n ≤ v.spare) named room.blocks)
 
-    fits : nat_le blocks v.spare ≡ true
-    fits = le-leb blocks v.spare (subst (λ (n : ℕ). n ≤ v.spare) named room.blocks)
+    takes : taken_now (Seats.contents_of seat.unit) p.cdb ≡ taken_now v.contents (block_at v.books key)
+    takes = λ i. taken_now (contents i) (sym block i)
 
     status : (done_at seat p).reply.status ≡ (reply_with (attention_at v.books key) (block_at v.books key)
         (disk_reply v.contents (block_at v.books key))).status
@@ -882,33 +856,33 @@ may_run hosts seat time v p key sent h under q sending room =
     -- Nothing is taken, and it is not carried out.
     nothing : taken_at v key ≡ 0 → ((done_at seat p).reply.status ≡ GOOD → ⊥) → MayRun seat v key p sent
     nothing none bad = record {
-      can = and_from (nat_le (taken_at v key) (length sent)) (nat_le blocks v.spare)
+      can = and_from (nat_le (taken_at v key) (length sent)) (nat_le (cost_at v key) v.spare)
           (le-leb (taken_at v key) (length sent) (omega (arith, none))) fits;
       sends = λ good. absurd (bad good);
     }
 
     carried : is_reported (attention_at v.books key) (block_at v.books key) ≡ false
         → (y : Bool) → is_carried_out v.contents (block_at v.books key) ≡ y → MayRun seat v key p sent
-    carried f false k = nothing ((λ i. if f i then 0 else blocks * v.contents.size)
-        ∙ (λ i. not_written v.contents (block_at v.books key) k i * v.contents.size) ∙ omega arith) (λ good.
+    carried f false k = nothing ((λ i. if f i then 0 else taken_now v.contents (block_at v.books key))
+        ∙ none_taken v.contents (block_at v.books key) k) (λ good.
         let plain : (disk_reply v.contents (block_at v.books key)).status ≡ GOOD = (λ i. (sym (plainly f) i).status)
         ∙ sym status ∙ good in let bad : true ≡ false = (λ i. sym plain i == GOOD) ∙ k in cc)
     carried f true k =
         let good : (done_at seat p).reply.status ≡ GOOD = status ∙ (λ i. (plainly f i).status)
         ∙ eqb-true (disk_reply v.contents (block_at v.books key)).status GOOD k in
         let same : sent ≡ p.sent = sending good in
-        let taken : taken_at v key ≡ length sent = (λ i. if f i then 0 else blocks * v.contents.size)
-        ∙ (λ i. sym named i * (sym contents i).size) ∙ sym (room.bytes good) ∙ (λ i. length (sym same i)) in
+        let taken : taken_at v key ≡ length sent = (λ i. if f i then 0 else taken_now v.contents (block_at v.books key))
+        ∙ sym takes ∙ sym (room.bytes good) ∙ (λ i. length (sym same i)) in
         record {
-          can = and_from (nat_le (taken_at v key) (length sent)) (nat_le blocks v.spare)
+          can = and_from (nat_le (taken_at v key) (length sent)) (nat_le (cost_at v key) v.spare)
               (le-leb (taken_at v key) (length sent) (omega (arith, taken))) fits;
           sends = λ g. take_all (taken_at v key) sent (omega (arith, taken)) ∙ sending g;
         }
 
     by : (y : Bool) → is_reported (attention_at v.books key) (block_at v.books key) ≡ y → MayRun seat v key p sent
-    by true f =
-        nothing (λ i. if f i then 0 else blocks * v.contents.size) (λ good. reported_bad (attention_at v.books key)
-        (block_at v.books key) (disk_reply v.contents (block_at v.books key)) f (sym status ∙ good))
+    by true f = nothing (λ i. if f i then 0 else taken_now v.contents (block_at v.books key))
+        (λ good. reported_bad (attention_at v.books key) (block_at v.books key)
+        (disk_reply v.contents (block_at v.books key)) f (sym status ∙ good))
     by false f = carried f (is_carried_out v.contents (block_at v.books key)) refl
 
 pub runs : (hosts : List HostDef) (seat after : Seat) (time now : ℕ) (v w : SeatedState)
@@ -918,7 +892,7 @@ pub runs : (hosts : List HostDef) (seat after : Seat) (time now : ℕ) (v w : Se
     → HasSent seat p sent → HasRoomFor seat p v.spare → Seats.seat_after_run id seat ≡ Some after
     → AtAfter hosts seat after time now (settled (current_id v.books) now w)
     × (result ≡ Some (told_of (done_at seat p).reply))
-    × (v.spare ≤ w.spare + blocks_written (Seats.contents_of seat.unit) p.cdb)
+    × (v.spare ≤ w.spare + cost_by (kind_of (Seats.contents_of seat.unit)) p.cdb)
 runs hosts seat after time now v w id p sent result ran h same none running_is sending room e =
     let current : h.1.current ≡ Some (record { process = p; reply = None }) = current_found
     seat h.1 p None id h.2.kept.there none running_is in
@@ -939,7 +913,7 @@ runs hosts seat after time now v w id p sent result ran h same none running_is s
         → MayRun seat v k.key p sent → (x : Option UnitReply) → IsRunLive v sent (Some k.key) x w
         → AtAfter hosts seat after time now (settled (current_id v.books) now w)
         × (x ≡ Some (told_of (done_at seat p).reply))
-        × (v.spare ≤ w.spare + blocks_written (Seats.contents_of seat.unit) p.cdb)
+        × (v.spare ≤ w.spare + cost_by (kind_of (Seats.contents_of seat.unit)) p.cdb)
     go current k q it may None r = let bad : true ≡ false = sym may.can ∙ r.0 in cc
     go current k q it may (Some reply) r =
         let next : Seat = Seats.seat_with_execution seat p (done_at seat p) in
@@ -948,9 +922,9 @@ runs hosts seat after time now v w id p sent result ran h same none running_is s
         hosts seat time v w p k.key taken h k.under q may.sends r.1 in
         let block : block_at v.books k.key ≡ p.cdb =
         (seats.ran hosts h.0 v.contents h.1 seat v.books k.key p h.2.kept k.under q.below q.host q.sense).0 in
-        let written : blocks_written v.contents (block_at v.books k.key)
-        ≡ blocks_written (Seats.contents_of seat.unit) p.cdb = (λ i. blocks_written (sym h.2.kept.contents i) (block i))
-        ∙ (λ i. blocks_written (Seats.contents_of (sym h.2.kept.there i)) p.cdb) in (
+        let written : cost_at v k.key ≡ cost_by (kind_of (Seats.contents_of seat.unit)) p.cdb =
+        (λ i. cost_by (kind_of (sym h.2.kept.contents i)) (block i))
+        ∙ (λ i. cost_by (kind_of (Seats.contents_of (sym h.2.kept.there i))) p.cdb) in (
           subst (λ (s : Seat). AtAfter hosts seat s time now (settled (current_id v.books) now w)) it
               (settles hosts seat time now h.0 h.1 v h.2 h.0
               (unit_with_reply p.id (done_at seat p).reply (unit_with_contents (done_at seat p).contents h.1)) next w
@@ -1057,15 +1031,15 @@ guest_runs hosts seat after time now v w id r sent result ran h g sense e =
 
 -- What the call of the unit tells of the contents.
 pub contents_after : (c d : Contents) (block sent : List ℕ) (reported : Bool)
-    → (reported ≡ true → d ≡ c) → (is_carried_out c block ≡ false → d ≡ c)
-    → (reported ≡ false → is_carried_out c block ≡ true → d ≡ (disk_execution c block sent).contents)
+    → (reported ≡ true → d ≡ c) → (is_changed c block ≡ false → d ≡ c)
+    → (reported ≡ false → is_changed c block ≡ true → d ≡ (disk_execution c block sent).contents)
     → d ≡ (if reported then c else (disk_execution c block sent).contents)
 contents_after c d block sent true f g h = f refl
-contents_after c d block sent false f g h = go (is_carried_out c block) refl
+contents_after c d block sent false f g h = go (is_changed c block) refl
   where
-    go : (y : Bool) → is_carried_out c block ≡ y → d ≡ (disk_execution c block sent).contents
+    go : (y : Bool) → is_changed c block ≡ y → d ≡ (disk_execution c block sent).contents
     go true e = h refl e
-    go false e = g e ∙ sym (not_carried c block sent e)
+    go false e = g e ∙ sym (contents_stay c block sent e)
 
 -- The last step of each call.
 pub by_state : (hosts : List HostDef) (before after : Seat) (time now : ℕ) (x y : SeatedState) → y ≡ x

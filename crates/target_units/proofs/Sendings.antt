@@ -16,7 +16,7 @@ use Rattle.array_model.specs.Processes.{Process, process_of}
 use Rattle.array_model.specs.Seats.{seat_of, contents_of, context_of}
 use Rattle.array_model.specs.Units.{Array, UnitState, unit_state_at}
 use Rattle.due_model.specs.Tasks.{reply_now, size_of}
-use Rattle.disk_unit.specs.Disk.{blocks_written, blocks_written_by, written_of}
+use Rattle.disk_unit.specs.Disk.{blocks_written, written_of}
 use Rattle.scsi_device.specs.Lines.{FitsBus}
 use Rattle.target_units.specs.Rooms.{AreOfLines}
 use Rattle.target_units.proofs.Rooms.{plain_id, Sends, sends}
@@ -42,7 +42,7 @@ write_id s p e writes = plain_id s p e (no_sense (command_of p.cdb) writes)
 -- The blocks of a write that is carried out are those that it names.
 pub written_named : (c : Contents) (r : Result Command CdbFault) → is_write r ≡ true
     → ((command : Command) → r ≡ Ok command → is_good_range c.count (range_of command) ≡ true)
-    → blocks_written_by c r ≡ count_in (range_in r)
+    → blocks_written c.count r ≡ count_in (range_in r)
 written_named c (Err fault) k good = cc
 written_named c (Ok command) k good =
     (λ i. if good command refl i then written_of command else 0) ∙ (λ i. if k i then count_in (range_of command) else 0)
@@ -62,16 +62,17 @@ named s a p fits lines target is writes good =
     go : (x : Option UnitState) → unit_state_at a.units p.target p.unit ≡ x
         → count_in (range_in (command_of p.cdb)) * size_of (unit_state_at a.units p.target p.unit) ≡ length p.sent
     go None f =
-        let blocks : ℕ = blocks_written (contents_of (unit_state_at a.units p.target p.unit)) p.cdb in
+        let blocks : ℕ = blocks_written
+        (contents_of (unit_state_at a.units p.target p.unit)).count (command_of p.cdb) in
         let count : ℕ = count_in (range_in (command_of p.cdb)) in
         let nothing : count * 0 ≡ blocks * 0 = omega arith in
         (λ i. count * size_of (f i)) ∙ nothing ∙ (λ i. blocks * (contents_of (sym f i)).size) ∙ sym (all.bytes status)
     go (Some v) f =
         let there : is_some (unit_state_at a.units p.target p.unit) ≡ true = λ i. is_some (f i) in
-        let count : blocks_written_by (contents_of (unit_state_at a.units p.target p.unit)) (command_of p.cdb)
+        let count : blocks_written (contents_of (unit_state_at a.units p.target p.unit)).count (command_of p.cdb)
         ≡ count_in (range_in (command_of p.cdb)) = written_named
         (contents_of (unit_state_at a.units p.target p.unit)) (command_of p.cdb) writes
         (λ command e. good_range (context_of (seat_of a p.target p.unit) p.initiator) p.cdb p.sent command e status) in
         (λ i. sym count i * size_of (f i))
-        ∙ (λ i. blocks_written (contents_of (unit_state_at a.units p.target p.unit)) p.cdb
+        ∙ (λ i. blocks_written (contents_of (unit_state_at a.units p.target p.unit)).count (command_of p.cdb)
         * (contents_of (sym f i)).size) ∙ sym (all.bytes status)

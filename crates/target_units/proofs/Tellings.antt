@@ -34,7 +34,6 @@ use Rattle.target_units.specs.Seated.{room_at}
 use Rattle.disk_unit.proofs.Replies.{take_part}
 use Rattle.array_model.proofs.OperationCodes.{heeds_none}
 use Rattle.array_model.proofs.ExecutionFacts.{IsSenseBlock, sense_block_of, sense_executed, sent_apart}
-use Rattle.cdb_codec.specs.declared.command.Command.TheVariants as commands
 use Rattle.array_model.specs.Seats
 use Rattle.disk_unit.proofs.Keeping as keeping
 

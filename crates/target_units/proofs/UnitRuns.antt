@@ -13,7 +13,7 @@ use Rattle.array_model.specs.Seats.{Seat, seat_of, contents_of, current_of, runn
 use Rattle.array_model.specs.SoundArray.{IsOwn}
 use Rattle.array_model.specs.Steps.{running_if}
 use Rattle.array_model.specs.Units.{Array, RunningProcess, guest_at}
-use Rattle.disk_unit.specs.Disk.{blocks_written}
+use Rattle.disk_unit.specs.Disk.{cost_by, kind_of}
 use Rattle.target_units.specs.declared.logical.LogicalUnit.{LogicalUnit}
 use Rattle.target_units.specs.declared.logical.LogicalUnit.TheVariants as kinds
 use Rattle.target_units.specs.Rooms.{blocks_left_at, HasRoomFor}
@@ -70,7 +70,7 @@ room_for s a dev n units u p room own first left =
 pub room_after :
     (s : ScenarioValue) (a b : Array) (dev n : ℕ) (units : List LogicalUnit) (u w : LogicalUnit) (p : Process)
     → IsStep s (events.Run p.id) a b → HaveRoom s a dev units → IsOwn s dev n p → RunsFirst a p
-    → spare_of u ≤ spare_of w + blocks_written (contents_of (seat_of a dev n).unit) p.cdb
+    → spare_of u ≤ spare_of w + cost_by (kind_of (contents_of (seat_of a dev n).unit)) p.cdb
     → blocks_left_at a.replies (unit_of s dev n) s.commands ≤ spare_of u
     → blocks_left_at b.replies (unit_of s dev n) s.commands ≤ spare_of w
 room_after s a b dev n units u w p st room own first lowered left =

@@ -5,9 +5,9 @@ use Rattle.bus_base.specs.declared.events.Pick.{Pick}
 use Rattle.scenario.specs.declared.value.CmdDef.{CmdDef}
 use Rattle.scenario.specs.declared.value.FillDef.{FillDef}
 use Rattle.scenario.specs.declared.value.UnitDef.{UnitDef}
-use Rattle.array_model.specs.Contents.{blank_contents, starting_contents}
+use Rattle.array_model.specs.Contents.{starting_contents}
 use Rattle.disk_unit.specs.Books.{empty_books}
-use Rattle.disk_unit.specs.Disk.{blocks_written}
+use Rattle.disk_unit.specs.Disk.{cost_by, kind_by}
 use Rattle.target_units.specs.Seated.{SeatedState}
 
 abbrev pub is_filled_by : UnitDef → FillDef → Bool
@@ -23,10 +23,9 @@ abbrev pub fill_count : UnitDef → List FillDef → ℕ
 fill_count u [] = 0
 fill_count u (f ∷ fills) = if is_filled_by u f then suc (fill_count u fills) else fill_count u fills
 
--- How many blocks a command writes at the unit.
+-- How many blocks a command writes at the unit at most.
 abbrev pub blocks_by : UnitDef → CmdDef → ℕ
-blocks_by u c =
-    if c.target == u.target && c.unit == u.unit then blocks_written (blank_contents u.blocks u.size) c.cdb else 0
+blocks_by u c = if c.target == u.target && c.unit == u.unit then cost_by (kind_by u) c.cdb else 0
 
 abbrev pub blocks_by_all : UnitDef → List CmdDef → ℕ
 blocks_by_all u [] = 0

@@ -1,6 +1,6 @@
 -- The memory that the units of a target have for the blocks that are still written for the first time.
-use Rattle.std.specs.Prelude.{◌≡◌, ℕ, suc, ◌+◌, ◌*◌, ◌≤◌, Bool, false, List, [], ◌∷◌, length, Option, Some, None}
-use Rattle.std.specs.Prelude.{is_none, if◌then◌else◌}
+use Rattle.std.specs.Prelude.{◌≡◌, ℕ, suc, ◌+◌, ◌≤◌, Bool, false, List, [], ◌∷◌, length, Option, Some, None, is_none}
+use Rattle.std.specs.Prelude.{if◌then◌else◌}
 use Rattle.bus_base.specs.declared.ProcId.{ProcId}
 use Rattle.cdb_codec.specs.declared.status.TheConstants.{GOOD}
 use Rattle.scenario.specs.declared.value.CmdDef.{CmdDef}
@@ -12,7 +12,7 @@ use Rattle.array_model.specs.Execution.{Reply, execution}
 use Rattle.array_model.specs.Processes.{Process}
 use Rattle.array_model.specs.Seats.{Seat, contents_of, context_of}
 use Rattle.array_model.specs.Units.{Array, UnitState, unit_state_at}
-use Rattle.disk_unit.specs.Disk.{blocks_written}
+use Rattle.disk_unit.specs.Disk.{cost_by, kind_of, taken_now}
 use Rattle.target_units.specs.Fillings.{blocks_by}
 
 -- ---- the blocks that commands may still write
@@ -21,8 +21,8 @@ use Rattle.target_units.specs.Fillings.{blocks_by}
 abbrev pub is_unanswered : List (ProcId × Reply) → ℕ → Bool
 is_unanswered replies n = is_none (reply_in replies (record { command = n; sense = false }))
 
--- How many blocks these commands write at the unit, the first of which has this number, but for those that have a
--- reply.
+-- How many blocks these commands write at the unit at most, the first of which has this number, but for those that have
+-- a reply.
 abbrev pub blocks_left : List (ProcId × Reply) → UnitDef → ℕ → List CmdDef → ℕ
 blocks_left replies u n [] = 0
 blocks_left replies u n (c ∷ commands) =
@@ -46,8 +46,8 @@ AreOfLines s a = (target unit : ℕ) → IsOfLine (unit_of s target unit) (unit_
 
 -- ---- a process that runs
 
--- There is memory for the blocks that it writes, and where it is carried out it sends their bytes.
+-- There is memory for the blocks that it may write, and where it is carried out it sends the bytes that it takes.
 pub record HasRoomFor (seat : Seat) (p : Process) (spare : ℕ) : Type 0 where
-  pub blocks : blocks_written (contents_of seat.unit) p.cdb ≤ spare
+  pub blocks : cost_by (kind_of (contents_of seat.unit)) p.cdb ≤ spare
   pub bytes : (execution (context_of seat p.initiator) p.cdb p.sent).reply.status ≡ GOOD
-      → length p.sent ≡ blocks_written (contents_of seat.unit) p.cdb * (contents_of seat.unit).size
+      → length p.sent ≡ taken_now (contents_of seat.unit) p.cdb

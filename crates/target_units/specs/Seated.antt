@@ -1,6 +1,6 @@
 -- A logical unit at its seat of the plain disk array, with what its target keeps beside it.
-use Rattle.std.specs.Prelude.{◌≡◌, ℕ, ◌<◌, ◌≤◌, ◌+◌, ◌*◌, ◌==◌, ◌&&◌, Bool, true, false, List, [], ◌∷◌, length, Option}
-use Rattle.std.specs.Prelude.{Some, None, nat_le, nat_lt, not, take, slice_index_or, if◌then◌else◌}
+use Rattle.std.specs.Prelude.{◌≡◌, ℕ, ◌<◌, ◌≤◌, ◌+◌, ◌==◌, ◌&&◌, Bool, true, false, List, [], ◌∷◌, length, Option, Some}
+use Rattle.std.specs.Prelude.{None, nat_le, nat_lt, not, take, slice_index_or, if◌then◌else◌}
 use Rattle.bus_base.specs.declared.AbortKind.{AbortKind}
 use Rattle.bus_base.specs.declared.ProcId.{ProcId}
 use Rattle.bus_base.specs.declared.events.Class.{Class}
@@ -21,7 +21,7 @@ use Rattle.tag_queue.specs.Queue.{Queued, has_key, entry_at, is_held}
 use Rattle.disk_unit.specs.AtSeats.{IsUnitAt}
 use Rattle.disk_unit.specs.Books.{UnitBooks, block_at, attention_at, initiator_at, books_with, books_after_choice}
 use Rattle.disk_unit.specs.Books.{books_after_end, books_without, books_with_sense, books_without_sense}
-use Rattle.disk_unit.specs.Disk.{disk_execution, disk_reply, blocks_written}
+use Rattle.disk_unit.specs.Disk.{disk_execution, disk_reply, cost_by, kind_of, taken_now}
 use Rattle.disk_unit.specs.LiveCommands.{LiveCommand}
 use Rattle.disk_unit.specs.Units.{IsAborted, is_reported, bytes_taken, books_if_reported, unit_reply, told_of}
 use Rattle.disk_unit.specs.declared.unit.Accepted.{Accepted}
@@ -142,6 +142,8 @@ pub record IsProcess (p : Process) (id : ProcId) (from : ℕ) (tag : Option ℕ)
   pub tag_is : tag_number p.tag ≡ tag
   pub class_is : class_of p.tag ≡ class
   pub cdb_is : p.cdb ≡ cdb
+  -- its unit is a disk
+  pub disk : p.serial ≡ false
 
 -- A process of an initiator of the scenario that is neither in the queue of the seat nor outside it.
 pub record IsNew (hosts : List HostDef) (seat : Seat) (p : Process) : Type 0 where
@@ -164,11 +166,15 @@ IsArrived v entry cdb (accepted.Queued key) new =
 
 -- How many bytes the command of this key takes as it runs.
 abbrev pub taken_at : SeatedState → ℕ → ℕ
-taken_at v key = bytes_taken v.books key (blocks_written v.contents (block_at v.books key) * v.contents.size)
+taken_at v key = bytes_taken v.books key (taken_now v.contents (block_at v.books key))
+
+-- How many blocks it writes at most.
+abbrev pub cost_at : SeatedState → ℕ → ℕ
+cost_at v key = cost_by (kind_of v.contents) (block_at v.books key)
 
 -- No fewer bytes were sent, and its blocks have memory.
 abbrev pub can_run : SeatedState → ℕ → ℕ → Bool
-can_run v key sent = nat_le (taken_at v key) sent && nat_le (blocks_written v.contents (block_at v.books key)) v.spare
+can_run v key sent = nat_le (taken_at v key) sent && nat_le (cost_at v key) v.spare
 
 abbrev pub is_reported_at : UnitBooks → ℕ → Bool
 is_reported_at b key = is_reported (attention_at b key) (block_at b key)
@@ -181,7 +187,7 @@ pub record IsRun (v : SeatedState) (key : ℕ) (sent : List ℕ) (new : SeatedSt
   pub pick : new.pick ≡ v.pick
   pub reply : new.reply ≡ Some (told_of (unit_reply v.books key (disk_reply v.contents (block_at v.books key))))
   pub since : new.since ≡ v.since
-  pub spare : v.spare ≤ new.spare + blocks_written v.contents (block_at v.books key)
+  pub spare : v.spare ≤ new.spare + cost_at v key
 
 -- The command of this key, if there is one, ran and gave this reply, or could not run and left all as it was.
 abbrev pub IsRunLive : SeatedState → List ℕ → Option ℕ → Option UnitReply → SeatedState → Type 0

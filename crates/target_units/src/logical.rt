@@ -12,7 +12,7 @@ ghost use Rattle.array_model.specs.Processes.{Process};
 ghost use Rattle.array_model.specs.Units.{RunningProcess, guest_at, starting_array};
 ghost use Rattle.array_model.specs.Seats.{Seat, seat_of, settled_seat, seat_after_accept, seat_after_refuse, seat_after_run, seat_after_failure, seat_after_end, seat_after_loss, seat_after_aborted, current_of, running_at, context_of, contents_of, is_any_held, is_initiator};
 ghost use Rattle.due_model.specs.dialogue_model.specs.Wants.{ready_in};
-ghost use Rattle.disk_unit.specs.Disk.{blocks_written};
+ghost use Rattle.disk_unit.specs.Disk.{cost_by, kind_of};
 ghost use Rattle.disk_unit.specs.Units.{told_of};
 ghost use Rattle.disk_unit.specs.Plans.{plan_of};
 ghost use Rattle.disk_unit.specs.declared.unit.Accepted.TheVariants as accepted;
@@ -240,7 +240,7 @@ impl LogicalUnit {
             → HasRoomFor seat p (spare_of self.old) → seat_after_run id seat ≡ Some after
             → IsUnitOf hosts (settled_seat after) (seat_time seat (settled_seat after) time now) self.new
             × (result ≡ Some (told_of (execution (context_of seat p.initiator) p.cdb p.sent).reply))
-            × (spare_of self.old ≤ spare_of self.new + blocks_written (contents_of seat.unit) p.cdb) }
+            × (spare_of self.old ≤ spare_of self.new + cost_by (kind_of (contents_of seat.unit)) p.cdb) }
         ensures guest { (hosts : List HostDef) (seat after : Seat) (time : ℕ) (r : RunningProcess)
             → IsUnitOf hosts seat time self.old → guest_at seat.guests id ≡ Some r
             → (is_some seat.unit ≡ true → is_request_sense (command_of r.process.cdb) ≡ true)

@@ -12,7 +12,7 @@ ghost use Rattle.tag_queue.specs.Queue.{has_key, key_of_process, is_held};
 ghost use Rattle.disk_unit.specs.Books.{books_after_end, books_without, books_after_reset, initiator_at};
 ghost use Rattle.disk_unit.specs.Units.{told_of, entry_with, plan_for};
 ghost use Rattle.disk_unit.specs.Plans.{plan_of};
-ghost use Rattle.disk_unit.specs.Disk.{disk_extent, disk_reply, blocks_written};
+ghost use Rattle.disk_unit.specs.Disk.{disk_extent, disk_reply, cost_by, kind_of, taken_now};
 ghost use Rattle.disk_unit.specs.declared.unit.Accepted.TheVariants as accepted;
 ghost use Rattle.target_units.specs.Fillings.{IsFresh, AreFilled, blocks_by_all as blocks_of_all};
 ghost use Rattle.scenario.specs.Value.{ScenarioValue};
@@ -302,7 +302,7 @@ impl SeatedUnit {
             → HasRoomFor seat p self.old.spare → seat_after_run id seat ≡ Some after
             → IsAtSeat hosts (settled_seat after) (seat_time seat (settled_seat after) time now) self.new
             × (result ≡ Some (told_of (execution (context_of seat p.initiator) p.cdb p.sent).reply))
-            × (self.old.spare ≤ self.new.spare + blocks_written (contents_of seat.unit) p.cdb) }
+            × (self.old.spare ≤ self.new.spare + cost_by (kind_of (contents_of seat.unit)) p.cdb) }
         ensures guest { (hosts : List HostDef) (seat after : Seat) (time : ℕ) (r : RunningProcess)
             → IsAtSeat hosts seat time self.old → guest_at seat.guests id ≡ Some r
             → is_request_sense (command_of r.process.cdb) ≡ true → seat_after_run id seat ≡ Some after
@@ -574,8 +574,7 @@ impl SeatedUnit {
     fn plan_now(&self, from: Dev, cdb: &[u8]) -> Plan
         requires device { from < 8 }
         ensures { result ≡ plan_for (slice_index_or self.now.books.attentions from None) cdb.now
-            (disk_reply self.now.contents cdb.now)
-            (blocks_written self.now.contents cdb.now * self.now.contents.size) }
+            (disk_reply self.now.contents cdb.now) (taken_now self.now.contents cdb.now) }
     {
         self.unit.plan_for(from, cdb)
     }

@@ -57,19 +57,20 @@ pub use scenario.declared.value.{AbortDef.{AbortDef}, CmdDef.{CmdDef}, Policy.{P
 pub use scenario.declared.value.{TargetDef.{TargetDef}, UnitDef.{UnitDef}}
 unfoldable pub use scenario.{Needs.{need_of, sent_of}, Reading.{policy_in, target_def}}
 use Rattle.due_model.specs.array_model.proofs as array_model_proofs
-pub use array_model_proofs.{Executed.{absent_executed}, ExecutionFacts.{good_range}, SeatLookups.{found_target}}
+pub use array_model_proofs.{Executed.{absent_executed}, ExecutionFacts.{good_range}, NamedBlocks.{named_either}}
+pub use array_model_proofs.{NamedBlocks.{none_named}, OperationCodes.{write_needs}, SeatLookups.{found_target}}
 pub use array_model_proofs.{SeatLookups.{found_unit}, SeatOwn.{own_found}, SeatSteps.{choice_target, choice_unit}}
 pub use array_model_proofs.SoundArrays.{current_process, history_sound, is_own, start_sound, step_sound}
 use Rattle.due_model.specs.array_model.specs as array_model
 pub use array_model.{ArrayHistory.{array_after, array_step, is_run, reply_in, shows_run}, Contents.{Contents}}
 pub use array_model.Execution.{CommandContext, Reply, aborted_reply, execution, is_opcode, is_request_sense, needs_unit}
-pub use array_model.{Order.{choice, count_in, range_in}, Processes.{Process, command_at, process_by, process_if}}
-pub use array_model.{Processes.{process_of, same_id}, Seats.{contents_of, context_of, current_of, is_initiator}}
-pub use array_model.{Seats.{seat_of}, SoundArray.{AllOwnUnits, AreApart, HasSeats, IsOwn, IsOwnRunning, IsOwnUnit}}
-pub use array_model.{SoundArray.{IsSound}, Steps.{accept_step, accept_step_at, after_status, array_without, context_at}}
-pub use array_model.Steps.{end_step, end_step_with, has_ended, is_waiting, process_count, queue_step, running_if}
-pub use array_model.{Steps.{running_in, running_process, settled_array_if, step, with_guest}, Units.{Array, Nexus}}
-pub use array_model.Units.{RunningProcess, UnitState, guest_at, has_no_current, is_held, nexus_of, settled_array}
+pub use array_model.{Order.{choice, count_in, range_in, range_named}, Processes.{Process, command_at, process_by}}
+pub use array_model.{Processes.{process_if, process_of, same_id}, Seats.{contents_of, context_of, current_of}}
+pub use array_model.{Seats.{is_initiator, seat_of}, SoundArray.{AllOwnUnits, AreApart, HasSeats, IsOwn, IsOwnRunning}}
+pub use array_model.{SoundArray.{IsOwnUnit, IsSound}, Steps.{accept_step, accept_step_at, after_status, array_without}}
+pub use array_model.Steps.{context_at, end_step, end_step_with, has_ended, is_waiting, process_count, queue_step}
+pub use array_model.{Steps.{running_if, running_in, running_process, settled_array_if, step, with_guest}, Units.{Array}}
+pub use array_model.Units.{Nexus, RunningProcess, UnitState, guest_at, has_no_current, is_held, nexus_of, settled_array}
 pub use array_model.Units.{starting_array, unit_after_choice, unit_state_at, units_after_choice, with_current}
 pub use array_model.Units.{with_unit, without_reply}
 use Rattle.due_model.specs.story_model.proofs as story_model_proofs
@@ -94,7 +95,7 @@ pub use story_model.TraceHistory.{story_after_in, story_after_message, story_aft
 pub use story_model.TraceHistory.{story_in_connection, story_on_bus, story_on_free_bus, story_with_carried}
 pub use story_model.TraceHistory.{story_with_restored, story_with_sent, trace_history}
 use Rattle.disk_unit.specs as disk_unit
-pub use disk_unit.Disk.{blocks_written}
+pub use disk_unit.Disk.{blocks_written, taken_now}
 use Rattle.due_model.specs.reaction_model.specs as reaction_model
 pub use reaction_model.{Linking.{bus_clear}, Reactions.{due_at, earlier_due}, declared.due.Due.{Due}}
 use Rattle.due_model.specs.dialogue_model.proofs as dialogue_model_proofs
@@ -153,12 +154,12 @@ pub use target_units_proofs.{Starts.{start_settled}, UnitTimes.{running_is}}
 use Rattle.target_units.specs as target_units
 pub use target_units.Rooms.{AreOfLines, IsOfLine}
 use Rattle.story_laws.specs.book_laws.proofs as book_laws_proofs
-pub use book_laws_proofs.Carried.{Commands.{block_own, process_own}, Facts.{process_id}}
-pub use book_laws_proofs.Common.InConnection.{InConnection, SamePhase, dialogue_by, in_connection, reading_is}
-pub use book_laws_proofs.Common.{InConnection.{same_phase_is}, Lookups.{id_is, put_other, put_own, self_id}}
-pub use book_laws_proofs.{Faith.{same_self as process_same}, Given.{Heard.{heard_next}, Rows.{few_messages, in_io}}}
-pub use book_laws_proofs.{Given.Rows.{in_same, requests_stay}, Items.{Facts.{aims_are}, Ready.{or_ready}}}
-pub use book_laws_proofs.{Reactions.{command_over, out_over}, Said.Leavings.{opening_named}, Traces.{trace_faithful}}
+pub use book_laws_proofs.{Carried.{Commands.{block_own}, Facts.{process_id}}, Common.InConnection.{InConnection}}
+pub use book_laws_proofs.Common.InConnection.{SamePhase, dialogue_by, in_connection, reading_is, same_phase_is}
+pub use book_laws_proofs.{Common.Lookups.{id_is, put_other, put_own, self_id}, Faith.{same_self as process_same}}
+pub use book_laws_proofs.Given.{Heard.{heard_next}, Rows.{few_messages, in_io, in_same, requests_stay}}
+pub use book_laws_proofs.{Items.{Facts.{aims_are}, Ready.{or_ready}}, Reactions.{command_over, out_over}}
+pub use book_laws_proofs.{Said.Leavings.{opening_named}, Traces.{trace_faithful}}
 use Rattle.story_laws.specs.book_laws.specs as book_laws
 pub use book_laws.{Accounts.{is_served_by, policy_for}, FullQueues.{is_refusal}, Giving.{AreGiven, Gives, OnMessage}}
 pub use book_laws.{Giving.{OnMessages}, Hearing.{HasPhase, LeavesWhole, is_in_phase, is_out_phase}, Items.{IsItem}}
@@ -274,7 +275,7 @@ pub use story_laws.{LastTalks.{to_close, to_save}, Named.{Named, NamedFacts, Nam
 pub use story_laws.{Named.{tag_alone}, RowAttendance.{IsAttended, IsCalmTurn}, RunCounts.{AreCounted, CountFacts}}
 pub use story_laws.{RunCounts.{pulses_here}, RunFacts.{IsServedWell, IsWriter, RunFacts, RunsBy}, RunsWhole.{IsWhole}}
 pub use story_laws.{RunsWhole.{RunsWhole, ends_badly, sends_all, sends_none}, TellFacts.{TellFacts}}
-pub use story_laws.WholeRuns.{HasSentAll, MovesBlocks, RunsBlocks, bytes_come}
+pub use story_laws.WholeRuns.{HasSentAll, MovesInRuns, RunsBlocks, bytes_come, in_blocks, in_one}
 use Rattle.trace_laws.specs as trace_laws
 pub use trace_laws.AttendanceAsked.{AttendanceAsked, BeginsUnanswered, EndsAsGiven, HasGiven, HasReplyGiven}
 pub use trace_laws.{AttendanceAsked.{LeavesAnswered, LeftAnswered, RepliesGiven}, ClearFacts.{ClearBooks, ClearFacts}}

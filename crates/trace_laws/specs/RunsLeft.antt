@@ -1,10 +1,9 @@
 -- A process that writes, and has no reply, has a data run left, or has made none (6.6.6, 7.3).
 use Rattle.std.specs.Prelude.{ℕ, ◌≡◌, ◌⊎◌, ◌<◌, List, Some, None}
 use Rattle.due_model.specs.bus_trace.specs.declared.Row.{Row}
-use Rattle.due_model.specs.cdb_codec.specs.Cdb.{command_of}
 use Rattle.due_model.specs.scenario.specs.Value.{ScenarioValue}
 use Rattle.due_model.specs.array_model.specs.ArrayHistory.{reply_in}
-use Rattle.due_model.specs.array_model.specs.Order.{range_in}
+use Rattle.due_model.specs.array_model.specs.Order.{range_named}
 use Rattle.due_model.specs.array_model.specs.Processes.{Process, process_of}
 use Rattle.due_model.specs.dialogue_model.specs.DataRuns.{runs_in}
 use Rattle.due_model.specs.LastingState.{progress_in}
@@ -16,7 +15,7 @@ use Rattle.story_laws.specs.RunFacts.{IsWriter}
 
 -- In how many runs its data are moved, if any are.
 abbrev pub run_total : ScenarioValue → Process → ℕ
-run_total s p = runs_in (policy_for s p) (blocks_in (range_in (command_of p.cdb)))
+run_total s p = runs_in (policy_for s p) (blocks_in (range_named p))
 
 -- Of so many runs in all it has made so many.
 abbrev pub HasRunLeft : ℕ → ℕ → Type 0

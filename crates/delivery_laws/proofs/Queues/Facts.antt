@@ -6,16 +6,16 @@ use proofs.Names.{nat_tests, same_Some, list_any, if◌then◌else◌, ◌==◌,
 use proofs.Names.{wrong, wrong', Event, ProcId, LineSet, is_command, Row, Change, command_of, ScenarioValue, Obeys}
 use proofs.Names.{CmdDef, UnitDef, id_turned, array_after, array_step, is_request_sense, choice, without_process}
 use proofs.Names.{Process, process_of, same_id, is_initiator, Array, Nexus, RunningProcess, UnitState, has_no_current}
-use proofs.Names.{is_held, settled_array, starting_array, starting_units, unit_after_choice, unit_state_at}
-use proofs.Names.{with_current, with_unit, carried_id, RowReading, row_reading, CarriedBytes, carried_if, row_events_by}
-use proofs.Names.{Item, Sent, process, abort, command_id, command_item, has_item, is_open, open_limit_of, Link}
-use proofs.Names.{is_roomy, most_open, phase_of, Phase, prompt_plain, IsPrompt, IsPlain, RunState, array_of, bus_of}
-use proofs.Names.{carried_here, or_start, run_state, command_fits, obeys_fits, writers, process_id, is_in_phase}
-use proofs.Names.{command_phase, MayWait, StaysSo, each_settled, events_all, unit_has, append_all, kept_all}
-use proofs.Names.{without_all, NextStood, AllP, IsQueued, RunsP, UnitsP, IsAway, IsUntouched, OnUnit, OnUnits, Runs}
-use proofs.Names.{Waits, AllUnits, IsOther, IsWrittenUnit, items_open, IsServedOpen, Whole, standing_next, whole}
-use proofs.Names.{ArrivesNow, arrives_first, OfCommand, of_command, GoesSo, IsNew, here_goes, known_served, new_here}
-use proofs.Queues.Counts.{AreOnce, IsAnother, IsMarked, both, count_from, count_less, hosts_bound, is_open_of, of_host}
+use proofs.Names.{is_held, starting_array, starting_units, unit_after_choice, unit_state_at, with_current, with_unit}
+use proofs.Names.{carried_id, RowReading, row_reading, CarriedBytes, carried_if, row_events_by, Item, Sent, process}
+use proofs.Names.{abort, command_id, command_item, has_item, is_open, open_limit_of, Link, is_roomy, most_open}
+use proofs.Names.{phase_of, Phase, prompt_plain, IsPrompt, IsPlain, RunState, array_of, bus_of, carried_here, or_start}
+use proofs.Names.{run_state, command_fits, obeys_fits, writers, process_id, is_in_phase, command_phase, MayWait}
+use proofs.Names.{StaysSo, each_settled, events_all, unit_has, append_all, kept_all, without_all, NextStood, AllP}
+use proofs.Names.{IsQueued, RunsP, UnitsP, IsAway, IsUntouched, OnUnit, OnUnits, Runs, Waits, AllUnits, IsOther}
+use proofs.Names.{IsWrittenUnit, items_open, IsServedOpen, Whole, standing_next, whole, ArrivesNow, arrives_first}
+use proofs.{Names.{OfCommand, of_command, GoesSo, IsNew, here_goes, known_served, new_here}, Queues.Counts.{AreOnce}}
+use proofs.Queues.Counts.{IsAnother, IsMarked, both, count_from, count_less, hosts_bound, is_open_of, of_host}
 use proofs.Queues.{Counts.{processes_fit, less_again}, Open.{open_within}, Taken.{AreTaken, row_taken, taken_both}}
 use Rattle.due_model.specs.array_model.specs.Steps
 

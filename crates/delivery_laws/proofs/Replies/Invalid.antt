@@ -2,9 +2,9 @@
 -- wrong with it first (7.2, 8.2).
 use Rattle.delivery_laws.proofs
 use proofs.Names.{ℕ, ◌≡◌, Bool, true, false, not, ◌&&◌, ◌||◌, ◌∙◌, List, [], ◌∷◌, ◌++◌, Option, Some, None, Result, Ok}
-use proofs.Names.{Err, refl, sym, ap, not-false, same_Some, list_all, if◌then◌else◌, ◌==◌, is_some, and_second, wrong}
-use proofs.Names.{Event, command_of, CdbFault, Command, INQUIRY, REQUEST_SENSE, has_target, unit_of, ScenarioValue}
-use proofs.Names.{Obeys, CmdDef, UnitDef, Passes, absent_executed, faulty_executed, outside_executed, sense_of_fault}
+use proofs.Names.{Err, refl, sym, ap, not-false, same_Some, list_all, if◌then◌else◌, is_some, and_second, wrong, Event}
+use proofs.Names.{command_of, CdbFault, Command, INQUIRY, REQUEST_SENSE, has_target, unit_of, ScenarioValue, Obeys}
+use proofs.Names.{CmdDef, UnitDef, Passes, absent_executed, faulty_executed, outside_executed, sense_of_fault}
 use proofs.Names.{sense_opcode, CommandContext, Reply, check_condition, execution, is_good_range, is_opcode}
 use proofs.Names.{is_request_sense, needs_unit, range_of, unit_not_supported, command_at, process_by, process_if, Array}
 use proofs.Names.{Nexus, UnitState, nexus_of, unit_state_at, command_id, fits_unit, is_sound_command, is_valid}

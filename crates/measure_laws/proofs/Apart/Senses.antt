@@ -129,7 +129,7 @@ is_there s dev e = go (target_def_of s dev) refl e
 target_of_process : (s : ScenarioValue) (id : ProcId) (c : CmdDef) → (process_by s id c).target ≡ c.target
 target_of_process s id c = go id.sense
   where
-    go : (q : Bool) → (if q then sense_process id c else command_process s id c).target ≡ c.target
+    go : (q : Bool) → (if q then sense_process s id c else command_process s id c).target ≡ c.target
     go true = refl
     go false = refl
 

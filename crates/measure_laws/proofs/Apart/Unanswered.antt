@@ -28,7 +28,7 @@ process_host s id p fits e = by_option (command_at s.commands id.command)
     ∙ by id.sense c (command_fits s id.command c fits z).host_is)
   where
     by : (q : Bool) (c : CmdDef) → is_initiator s.hosts c.host ≡ true
-        → is_initiator s.hosts (if q then sense_process id c else command_process s id c).initiator ≡ true
+        → is_initiator s.hosts (if q then sense_process s id c else command_process s id c).initiator ≡ true
     by true c h = h
     by false c h = h
 

@@ -5,20 +5,21 @@ use proofs.Names.{inl, inr, ℕ, ◌≡◌, ◌≤◌, ◌<◌, ◌⊎◌, ◌�
 use proofs.Names.{Result, Ok, Err, refl, sym, ap, subst, arith, [], ltb-true, same_Some, ◌+◌, ◌*◌, ◌-◌, not, ◌==◌, drop}
 use proofs.Names.{if◌then◌else◌, is_some, nat_lt, and_false, wrong, wrong', plus_none, ProcId, LineSet, changes_phase}
 use proofs.Names.{is_data, connection, bus, Row, Change, Connection, command_of, CdbFault, Command, GOOD, has_target}
-use proofs.Names.{unit_of, is_write, moved_by, need_of, sent_of, ScenarioValue, Obeys, CmdDef, Policy, UnitDef}
-use proofs.Names.{array_after, range_of, range_in, Process, command_at, command_process, process_by, process_if}
-use proofs.Names.{process_of, same_bool, sense_block, sense_process, Array, UnitState, unit_state_at, Item, command_id}
-use proofs.Names.{command_item, has_item, process, Story, policy_of, run_in, runs_in, runs_in_all, Serving, bus_free}
-use proofs.Names.{phase_entry, phase_leaving, phase_of, unless_attention, after_messages, run_length_if, Leaving, Next}
-use proofs.Names.{Phase, Task, run_state_plain, target_def_of, progress_in, IsPrompt, IsPlain, RunState, array_of}
-use proofs.Names.{bus_of, process_item, process_served, run_state, leaving, serving_of, blocks_in, is_writing}
-use proofs.Names.{moved_count, reply_now, size_of, task_if, task_of, command_fits, obeys_fits, IsCommandLine, IsByLine}
-use proofs.Names.{by_line, AreOfLines, IsOfLine, Knows, none_some, in_phase, by_bool, zero_below, TalksBy, frees_bus}
-use proofs.Names.{talk_of, over_after, enters_run, task_here, lines_now, served_id, Whole, enters_read, read_books}
-use proofs.Names.{whole_now, given_few, most_given, need_is, HasWhole, bytes_after, future_left, is_in_data, open_left}
-use proofs.{Names.{range_if, resets_left, serves_item, size_if, sense_bytes_left}, Connections.BeginFalls.{calm_resets}}
-use proofs.Data.{Bytes.{blocks_of, length_of, run_bytes}, Commands.{command_turn_falls}, Needs.{target_there}}
-use proofs.{Data.Turns.{data_turn_falls, run_of}, Lines.{Futures.{future_falls, open_of}, Lowers.{lowers_same}}}
+use proofs.Names.{unit_of, is_write, moved_by, need_of, sent_of, ScenarioValue, Obeys, CmdDef, Policy, UnitDef, at_disk}
+use proofs.Names.{is_disk, array_after, range_of, range_in, range_named, Process, command_at, command_process}
+use proofs.Names.{process_by, process_if, process_of, same_bool, sense_block, sense_process, Array, UnitState}
+use proofs.Names.{unit_state_at, Item, command_id, command_item, has_item, process, Story, policy_of, run_in, runs_in}
+use proofs.Names.{runs_in_all, Serving, bus_free, phase_entry, phase_leaving, phase_of, unless_attention}
+use proofs.Names.{after_messages, run_length_if, Leaving, Next, Phase, Task, run_state_plain, target_def_of}
+use proofs.Names.{progress_in, IsPrompt, IsPlain, RunState, array_of, bus_of, process_item, process_served, run_state}
+use proofs.Names.{leaving, serving_of, blocks_in, is_writing, moved_count, reply_now, size_of, task_if, task_of}
+use proofs.Names.{command_fits, obeys_fits, IsCommandLine, IsByLine, by_line, AreOfLines, IsOfLine, Knows, none_some}
+use proofs.Names.{in_phase, by_bool, zero_below, TalksBy, frees_bus, talk_of, over_after, enters_run, task_here}
+use proofs.Names.{lines_now, served_id, Whole, enters_read, read_books, whole_now, given_few, most_given, need_is}
+use proofs.Names.{HasWhole, bytes_after, future_left, is_in_data, open_left, range_if, resets_left, serves_item}
+use proofs.{Names.{size_if, sense_bytes_left}, Connections.BeginFalls.{calm_resets}, Data.Bytes.{blocks_of, length_of}}
+use proofs.Data.{Bytes.{run_bytes}, Commands.{command_turn_falls}, Needs.{target_there}, Turns.{data_turn_falls}}
+use proofs.{Data.Turns.{run_of}, Lines.{Futures.{future_falls, open_of}, Lowers.{lowers_same}}}
 use proofs.{Phases.Falls.{FallsWith}, Turns.{Edges.{leaving_turn}, Falls.{TurnRow, turn_in, turn_kind, turn_runs}}}
 use proofs.Turns.Leavings.{FallsDataEntered, LeavingRow}
 
@@ -123,8 +124,8 @@ sense_cdb s q own sense = go (command_at s.commands q.id.command) own
     go None e = none_some q e
     go (Some c) e =
         let made : process_by s q.id c ≡ q = same_Some (process_by s q.id c) q e in
-        let by : (if q.id.sense then sense_process q.id c else command_process s q.id c) ≡ sense_process q.id c =
-        λ i. if sense i then sense_process q.id c else command_process s q.id c in
+        let by : (if q.id.sense then sense_process s q.id c else command_process s q.id c) ≡ sense_process s q.id c =
+        λ i. if sense i then sense_process s q.id c else command_process s q.id c in
         ap (λ (x : Process). x.cdb) (sym made ∙ by)
 
 sense_few : (s : ScenarioValue) (a : Array) (q : Process) → q.cdb ≡ sense_block → AreOfLines s a → HasWhole a
@@ -328,11 +329,11 @@ falls s p row n r from into = go (process_served s k) refl
         task_is : task_of s j ≡ Some (task_here s j q)
         task_is = ap (task_if s j) (ap (process_item s) (turn_in s p row n c h).served_is ∙ e)
 
-        run_is : run_of s j n ≡ length_of
-            (run_in policy (blocks_in (range_in (command_of q.cdb))) size moved (progress_in k.progress q.id).runs)
+        run_is : run_of s j n
+            ≡ length_of (run_in policy (blocks_in (range_named q)) size moved (progress_in k.progress q.id).runs)
         run_is =
             ap (run_length_if policy) task_is
-            ∙ ap (λ (x : ℕ). length_of (run_in policy (blocks_in (range_in (command_of q.cdb))) size moved x)) runs
+            ∙ ap (λ (x : ℕ). length_of (run_in policy (blocks_in (range_named q)) size moved x)) runs
 
         by : (b : Bool) → q.id.sense ≡ b → FallsWith s p row
         by false plain = command (by_line s q own plain)
@@ -371,8 +372,9 @@ falls s p row n r from into = go (process_served s k) refl
                 blocks : Option ℕ
                 blocks = blocks_of (range_if (command_of line.line.cdb))
 
-                blocks_are : blocks_in (range_in (command_of q.cdb)) ≡ blocks
-                blocks_are = ap (λ (x : List ℕ). blocks_in (range_in (command_of x))) line.cdb
+                blocks_are : blocks_in (range_named q) ≡ blocks
+                blocks_are = ap blocks_in (at_disk q (is_disk s q own))
+                    ∙ ap (λ (x : List ℕ). blocks_in (range_in (command_of x))) line.cdb
                     ∙ blocks_same (command_of line.line.cdb)
 
                 of_unit : ℕ
@@ -394,8 +396,9 @@ falls s p row n r from into = go (process_served s k) refl
             cdb : q.cdb ≡ sense_block
             cdb = sense_cdb s q own sense
 
-            none : blocks_in (range_in (command_of q.cdb)) ≡ None
-            none = ap (λ (x : List ℕ). blocks_in (range_in (command_of x))) cdb
+            none : blocks_in (range_named q) ≡ None
+            none = ap blocks_in (at_disk q (is_disk s q own))
+                ∙ ap (λ (x : List ℕ). blocks_in (range_in (command_of x))) cdb
 
             few : moved ≤ 18
             few = sense_few s (array_of s j) q cdb lines whole

@@ -3,26 +3,25 @@
 use Rattle.measure_laws.proofs
 use proofs.Names.{ℕ, ◌≡◌, ◌<◌, ◌∙◌, Bool, true, false, ◌&&◌, List, [], ◌∷◌, Option, Some, None, Result, Ok, Err, refl}
 use proofs.Names.{sym, ap, arith, and_parts, same_Some, find, list_any, ◌+◌, ◌*◌, ◌||◌, ◌==◌, if◌then◌else◌, is_some}
-use proofs.Names.{nat_le, nat_lt, wrong', blocks_moved, command_of, CdbFault, Command, GOOD, has_target, unit_of}
-use proofs.Names.{moved_by, need_of, ScenarioValue, Obeys, CmdDef, Policy, TargetDef, UnitDef, good_range, array_after}
-use proofs.Names.{Contents, execution, is_good_range, range_of, range_in, Process, command_process, process_by}
-use proofs.Names.{process_if, process_of, sense_process, command_at, context_at, Array, UnitState, nexus_of}
-use proofs.Names.{unit_state_at, data_runs, runs_at, runs_of, runs_over, policy_of, runs_in, target_def_of, RunState}
-use proofs.Names.{array_of, blocks_in, is_writing, moved_count, reply_now, size_of, IsByLine, IsOfLine, none_some}
-use proofs.Names.{some_zero, zero_times, by_bool, task_here, FitsRuns, fits_runs, lines_now, fits_reads, moved_good}
-use proofs.{Names.{need_is}, Data.Leavings.{HasMore}}
+use proofs.Names.{nat_le, nat_lt, ◌×◌, wrong', blocks_moved, command_of, CdbFault, Command, GOOD, has_target, unit_of}
+use proofs.Names.{moved_by, need_of, ScenarioValue, Obeys, CmdDef, Policy, TargetDef, UnitDef, good_range, at_disk}
+use proofs.Names.{is_disk, array_after, Contents, execution, is_good_range, range_of, range_in, range_named, Process}
+use proofs.Names.{command_process, process_by, process_if, process_of, sense_process, command_at, context_at, Array}
+use proofs.Names.{UnitState, nexus_of, unit_state_at, data_runs, runs_at, runs_of, runs_over, policy_of, runs_in}
+use proofs.Names.{target_def_of, RunState, array_of, blocks_in, is_writing, moved_count, reply_now, size_of, IsByLine}
+use proofs.Names.{IsOfLine, none_some, some_zero, zero_times, by_bool, task_here, FitsRuns, fits_runs, lines_now}
+use proofs.{Names.{named_by, fits_reads, moved_good, need_is}, Data.Leavings.{HasMore}}
 
 -- ---- an automatic REQUEST SENSE moves no blocks
 
 pub sense_moves_none : (s : ScenarioValue) (q : Process) → process_of s q.id ≡ Some q → q.id.sense ≡ true
-    → blocks_in (range_in (command_of q.cdb)) ≡ None
+    → blocks_in (range_named q) ≡ None
 sense_moves_none s q own e = go (command_at s.commands q.id.command) own
   where
-    go : (o : Option CmdDef) → process_if s q.id o ≡ Some q → blocks_in (range_in (command_of q.cdb)) ≡ None
+    go : (o : Option CmdDef) → process_if s q.id o ≡ Some q → blocks_in (range_named q) ≡ None
     go None z = none_some q z
-    go (Some c) z =
-        ap (λ (p : Process). blocks_in (range_in (command_of p.cdb))) (sym (same_Some (process_by s q.id c) q z)
-        ∙ ap (λ (b : Bool). if b then sense_process q.id c else command_process s q.id c) e)
+    go (Some c) z = ap (λ (p : Process). blocks_in (range_named p)) (sym (same_Some (process_by s q.id c) q z)
+        ∙ ap (λ (b : Bool). if b then sense_process s q.id c else command_process s q.id c) e)
 
 -- ---- what a read or a write of blocks needs, where it is carried out
 
@@ -75,7 +74,7 @@ target_there s dev = go s.targets
 
 pub need_moved : (s : ScenarioValue) (k : RunState) (q : Process) (h : IsByLine s q) (blocks : ℕ) → Obeys s
     → k.array ≡ array_after s k.story.history → process_of s q.id ≡ Some q → is_some (target_def_of s q.target) ≡ true
-    → blocks_in (range_in (command_of q.cdb)) ≡ Some blocks → (moved_count q (reply_now (array_of s k) q) == 0) ≡ false
+    → blocks_in (range_named q) ≡ Some blocks → (moved_count q (reply_now (array_of s k) q) == 0) ≡ false
     → need_of s h.line ≡ moved_count q (reply_now (array_of s k) q)
 need_moved s k q h blocks o is own there named some =
     need_is s h.line (ap (has_target s) (sym h.target) ∙ target_there s q.target there)
@@ -101,7 +100,7 @@ need_moved s k q h blocks o is own there named some =
         let good : (execution (context_at a (nexus_of q) (Some v)) q.cdb q.sent).reply.status ≡ GOOD =
         ap (λ (x : Option UnitState). (execution (context_at a (nexus_of q) x) q.cdb q.sent).reply.status) (sym e)
         ∙ moved_good a q some in
-        blocks_needed (command_of q.cdb) u v.contents blocks named l.0 l.1
+        blocks_needed (command_of q.cdb) u v.contents blocks (named_by q blocks named) l.0 l.1
         (λ c f. good_range (context_at a (nexus_of q) (Some v)) q.cdb q.sent c f good)
         ∙ ap (λ (x : Option UnitState). blocks * size_of x) (sym e) ∙ sym all
 
@@ -127,17 +126,19 @@ runs_set_aside s c blocks some there e =
 pub runs_left : (s : ScenarioValue) (k : RunState) (q : Process) (h : IsByLine s q) → Obeys s
     → k.array ≡ array_after s k.story.history → process_of s q.id ≡ Some q → is_some (target_def_of s q.target) ≡ true
     → HasMore (policy_of (target_def_of s q.target)) (task_here s k q) → (task_here s k q).runs < data_runs s h.line
-runs_left s k q h o is own there m = less (task_here s k q).runs (runs_in (policy_of (target_def_of s q.target))
-    (blocks_in (range_in (command_of q.cdb)))) (data_runs s h.line) m.few all
+runs_left s k q h o is own there m = less (task_here s k q).runs
+    (runs_in (policy_of (target_def_of s q.target)) (blocks_in (range_named q))) (data_runs s h.line) m.few all
   where
     needed : (need_of s h.line == 0) ≡ false
     needed = ap (λ (x : ℕ). x == 0) (need_moved s k q h m.blocks o is own there m.blocks_are m.moves) ∙ m.moves
 
-    all : data_runs s h.line ≡ runs_in (policy_of (target_def_of s q.target)) (blocks_in (range_in (command_of q.cdb)))
+    all : data_runs s h.line ≡ runs_in (policy_of (target_def_of s q.target)) (blocks_in (range_named q))
     all = runs_set_aside s h.line m.blocks needed (ap (λ (x : ℕ). is_some (target_def_of s x)) (sym h.target) ∙ there)
-        (ap (λ (x : List ℕ). blocks_in (range_in (command_of x))) (sym h.cdb) ∙ m.blocks_are)
+        (ap (λ (x : List ℕ). blocks_in (range_in (command_of x))) (sym h.cdb) ∙ named_by q m.blocks m.blocks_are)
         ∙ (λ i. runs_in (policy_of (target_def_of s (sym h.target i)))
         (blocks_in (range_in (command_of (sym h.cdb i)))))
+        ∙ ap (λ (x : Option (ℕ × ℕ)). runs_in (policy_of (target_def_of s q.target)) (blocks_in x))
+        (sym (at_disk q (is_disk s q own)))
 
     less : (n x y : ℕ) → n + 1 < x → y ≡ x → n < y
     less n x y f e = omega (arith, f, e)

@@ -2,20 +2,20 @@
 -- of its runs is done, or it gives none (6.1.5.1, 6.6.6, 7.3).
 use Rattle.right_laws.proofs
 use proofs.Names.{ℕ, ◌≡◌, ◌⊎◌, inl, inr, ◌+◌, ◌-◌, ◌≤◌, arith, Bool, true, false, ◌==◌, ◌∙◌, List, [], ◌∷◌, length}
-use proofs.Names.{Option, Some, None, refl, sym, ap, subst, and_parts, ltb-false, same_Some, if◌then◌else◌, is_some}
-use proofs.Names.{nat_lt, wrong, wrong', zero_of, Event, changes_phase, Row, Connection, GOOD, ScenarioValue, Policy}
+use proofs.Names.{Option, Some, refl, sym, ap, subst, and_parts, ltb-false, same_Some, if◌then◌else◌, is_some, nat_lt}
+use proofs.Names.{wrong, wrong', zero_of, Event, changes_phase, Row, Connection, GOOD, ScenarioValue, Policy}
 use proofs.Names.{array_after, reply_in, shows_run, Reply, Array, RowReading, row_reading, row_events_by, process}
-use proofs.Names.{Story, policy_of, run_at, run_in, run_length, runs_in, runs_in_all, is_status_next, Serving}
-use proofs.Names.{after_run, disconnect_messages, disconnection, phase_entry, phase_leaving, phase_of, unless_attention}
-use proofs.Names.{with_task, Next, Phase, Task, target_def_of, progress_in, RunState, array_of, bus_of, carried_here}
-use proofs.Names.{or_start, process_item, process_served, array_after_events, run_state, serving_of, reply_now, task_if}
-use proofs.Names.{is_true_telling, telling, policy_for, change_plain, least_is, by_bool, by_option, writes_there}
-use proofs.Names.{frees_bus, AnsweredOpen, IsTaken, PlacedBefore, PlacedIf, PlacedIn, IsServedWell, runs_blocks}
-use proofs.Names.{some_run, zero_blocks, RunsFrom, RunsInPhase, answered, moved_all, reads, run_turn, runs_from, writes}
-use proofs.Names.{LinesOf, active_is, lines_of, task_here, FitsRuns, RunsFit, last_run, Whole, HasRunLeft, RunsLeftOf}
-use proofs.{Names.{run_total, PointsAtEnd}, DataIn.{Counts.{IsReader, ReadRow}, Pointers.{read_done}}}
-use proofs.{DataIn.Runs.{fits_reads}, Given.Sent.{runs_so}, Ran.Crossings.{GoesSo, here_goes, known_served}}
-use proofs.Ran.{Open.{none_is}, Sent.{answer_of}, Shown.{IsAnswer, RunsAs, runs_alone, runs_arrived, row_runs}}
+use proofs.Names.{Story, policy_of, run_at, run_length, runs_in, runs_in_all, is_status_next, Serving, after_run}
+use proofs.Names.{disconnect_messages, disconnection, phase_entry, phase_leaving, phase_of, unless_attention, with_task}
+use proofs.Names.{Next, Phase, Task, target_def_of, progress_in, RunState, array_of, bus_of, carried_here, or_start}
+use proofs.Names.{process_item, process_served, array_after_events, run_state, serving_of, reply_now, task_if}
+use proofs.Names.{is_true_telling, telling, policy_for, change_plain, least_is, by_bool, writes_there, frees_bus}
+use proofs.Names.{AnsweredOpen, IsTaken, PlacedBefore, PlacedIf, PlacedIn, IsServedWell, moves_runs, some_total}
+use proofs.Names.{RunsFrom, RunsInPhase, answered, moved_all, reads, run_turn, runs_from, writes, LinesOf, active_is}
+use proofs.Names.{lines_of, task_here, FitsRuns, RunsFit, last_run, Whole, HasRunLeft, RunsLeftOf, run_total}
+use proofs.{Names.{PointsAtEnd}, DataIn.{Counts.{IsReader, ReadRow}, Pointers.{read_done}, Runs.{fits_reads}}}
+use proofs.{Given.Sent.{runs_so}, Ran.{Crossings.{GoesSo, here_goes, known_served}, Open.{none_is}, Sent.{answer_of}}}
+use proofs.Ran.Shown.{IsAnswer, RunsAs, runs_alone, runs_arrived, row_runs}
 
 -- ---- the last run
 
@@ -40,30 +40,15 @@ last_read v attention t e status = attends attention status
 
 last_all : (policy : Policy) (t : Task) → RunsFit policy t → nat_lt (t.runs + 1) (runs_in_all policy t) ≡ false
     → t.moved ≤ (run_at policy t t.runs).start + run_length policy t
-last_all policy t f last = some (t.moved == 0) refl t.blocks refl
+last_all policy t f last =
+    by_bool (t.moved == 0)
+    (λ z. none t.moved ((run_at policy t t.runs).start + run_length policy t) (zero_of t.moved z))
+    (λ z. last_run policy t (moves_runs policy t f z) z last)
   where
-    whole : (m : ℕ) → m ≤ 0 + (m - 0)
-    whole m = omega arith
-
     none : (m a : ℕ) → m ≡ 0 → m ≤ a
     none m a e = omega (arith, e)
 
-    some : (q : Bool) → (t.moved == 0) ≡ q → (o : Option ℕ) → t.blocks ≡ o
-        → t.moved ≤ (run_at policy t t.runs).start + run_length policy t
-    some true z o e = none t.moved ((run_at policy t t.runs).start + run_length policy t) (zero_of t.moved z)
-    some false z None e = subst (λ (b : Option ℕ). t.moved ≤ (run_in policy b t.size t.moved t.runs).start
-        + ((run_in policy b t.size t.moved t.runs).end - (run_in policy b t.size t.moved t.runs).start)) (sym e)
-        (whole t.moved)
-    some false z (Some blocks) e = last_run policy t
-        (record { blocks = blocks; blocks_are = e; moved = f.moved blocks e z; runs = runs_blocks policy f.most }) z
-        last
-
 -- ---- its runs are not all made
-
-some_total : (policy : Policy) (t : Task) → RunsFit policy t → (t.moved == 0) ≡ false → 1 ≤ runs_in policy t.blocks
-some_total policy t f some = by_option t.blocks (λ e. subst (λ (b : Option ℕ). 1 ≤ runs_in policy b)
-    (sym e) (omega arith)) (λ blocks e. subst (λ (b : Option ℕ). 1 ≤ runs_in policy b) (sym e)
-    (some_run policy blocks f.most (zero_blocks blocks t.size t.moved some (f.moved blocks e some))))
 
 clash : (made whole : ℕ) → 1 ≤ whole → whole ≤ made → HasRunLeft whole made → ⊥
 clash made whole one few (inl z) = absurd omega (arith, one, few, z)

@@ -1,12 +1,12 @@
 -- The data runs of a process that does not write: a read of blocks that ends GOOD gives all their bytes (6.6.6, 7.5).
 use Rattle.right_laws.proofs
-use proofs.Names.{ℕ, ◌≡◌, ◌*◌, Bool, true, false, ◌&&◌, ◌==◌, ◌∙◌, List, length, Option, Some, None, Result, Ok, Err}
-use proofs.Names.{refl, sym, ap, subst, [], eqb-true, same_Some, if◌then◌else◌, wrong, Event, blocks_moved, command_of}
+use proofs.Names.{ℕ, ◌≡◌, ◌*◌, Bool, true, false, ◌==◌, ◌∙◌, List, length, Option, Some, None, Result, Ok, Err, refl}
+use proofs.Names.{sym, ap, subst, [], eqb-true, same_Some, if◌then◌else◌, wrong, Event, blocks_moved, command_of}
 use proofs.Names.{CdbFault, Command, GOOD, is_write, ScenarioValue, Obeys, read_gives, undone, array_after, bytes_at}
-use proofs.Names.{CommandContext, command_execution, execution, range_in, Process, contents_of, context_at, Array}
-use proofs.Names.{UnitState, nexus_of, unit_state_at, length_bytes, RunState, array_of, or_start, blocks_in, is_writing}
-use proofs.Names.{moved_count, reply_now, size_of, policy_for, step_in, task_here, policies_most, FitsRuns, lines_now}
-use proofs.{Names.{size_is}, Replies.Blocks.{HasWhole, whole_always, whole_start}}
+use proofs.Names.{CommandContext, command_execution, execution, range_in, range_named, Process, contents_of, context_at}
+use proofs.Names.{Array, UnitState, nexus_of, unit_state_at, length_bytes, RunState, array_of, or_start, blocks_in}
+use proofs.Names.{is_writing, moved_count, reply_now, size_of, policy_for, step_in, task_here, policies_most, FitsRuns}
+use proofs.{Names.{lines_now, size_is, named_by}, Replies.Blocks.{HasWhole, whole_always, whole_start}}
 
 -- ---- the bytes of a read
 
@@ -98,10 +98,10 @@ pub fits_reads : (s : ScenarioValue) (k : RunState) (q : Process) → Obeys s �
     → is_writing q ≡ false → FitsRuns s k q (task_here s k q)
 fits_reads s k q o e reads = record {
   fit = record {
-    moved = λ blocks is some. moved_reads (array_of s k) q blocks
-        (whole_now s k.story.history k.array o (sym e)) reads is some;
+    moved = λ blocks is some. moved_reads (array_of s k) q blocks (whole_now s k.story.history k.array o (sym e)) reads
+        (named_by q blocks is) some;
     most = policies_most s q.target o;
   };
-  step = ap (λ (x : ℕ). step_in (policy_for s q) (blocks_in (range_in (command_of q.cdb))) x)
+  step = ap (λ (x : ℕ). step_in (policy_for s q) (blocks_in (range_named q)) x)
       (size_is s (array_of s k) q.target q.unit (lines_now s k.story.history k.array (sym e)));
 }

@@ -1,8 +1,8 @@
 -- The process that runs is the one of the scenario, after any history (7.5).
 use Rattle.right_laws.proofs
-use proofs.Names.{ℕ, ◌≡◌, ◌&&◌, ◌==◌, ◌∙◌, List, [], ◌∷◌, Option, Some, None, sym, ap, same_Some, if◌then◌else◌}
-use proofs.Names.{ScenarioValue, Process, process_of, AllOwn, AllOwnGuests, AllOwnUnits, IsOwnRunning, IsSound, Array}
-use proofs.{Names.{RunningProcess, UnitState, IsOf, running_id, OnGuests, OnUnits, Runs, Waits}, Ran.Open.{running_has}}
+use proofs.Names.{ℕ, ◌≡◌, ◌∙◌, List, [], ◌∷◌, Option, Some, None, sym, ap, same_Some, ScenarioValue, Process}
+use proofs.Names.{process_of, AllOwn, AllOwnGuests, AllOwnUnits, IsOwnRunning, IsSound, Array, RunningProcess}
+use proofs.{Names.{UnitState, IsOf, running_id, OnGuests, OnUnits, Runs, Waits}, Ran.Open.{running_has}}
 use Rattle.due_model.specs.array_model.specs.Steps
 
 -- ---- the reply of one that runs

@@ -2,17 +2,17 @@
 use Rattle.right_laws.proofs
 use proofs.Names.{ℕ, ◌+◌, ◌*◌, ◌≡◌, ◌≤◌, arith, Bool, true, false, ◌&&◌, ◌==◌, ◌∙◌, List, [], length, Some, refl, sym}
 use proofs.Names.{ap, subst, true≢false, eqb-true, same_Some, if◌then◌else◌, wrong, ProcId, Row, Change, Connection}
-use proofs.Names.{Handshakes, command_of, GOOD, unit_of, ScenarioValue, Obeys, Policy, array_after, reply_in, Reply}
-use proofs.Names.{range_in, Process, process_of, unit_state_at, row_reading, CarriedBytes, row_events_by, process, Link}
-use proofs.Names.{has_run, moved_bytes, phase_of, Cause, Phase, Plan, progress_in, RunState, array_of, bus_of}
-use proofs.Names.{carried_here, process_item, run_state, run_state_after, is_writing, size_of, blocks_in, block_size}
-use proofs.Names.{is_data_out, is_of_size, start_of_run, own_of, process_id, policy_for, IsFilled, GoesOn, none_some}
-use proofs.Names.{out_no_status, run_policy, step_in, run_start, is_marked, PointersIn, calm, restores, saved}
-use proofs.Names.{PointersRefused, still_calm, restores_again, saves_again, disconnects_again, closes_again}
-use proofs.Names.{PointersAsked, PointersOf, PointersIf, ServedPointers, unnamed, named, DataFacts, IsServedWell}
-use proofs.Names.{bytes_come, fits_runs, start_is, IsRunning, SendsAtRun, GivesAtRun, OnEvents, MovesAtRun}
-use proofs.Ran.{Blocks.{front_all}, Crossings.{GoesSo, here_goes, known_served}, Facts.{Known, apart_of}}
-use proofs.Ran.Shown.{IsAnswer, ShownAs, row_shown, RunsAs, runs_alone, runs_arrived, row_runs}
+use proofs.Names.{Handshakes, GOOD, unit_of, ScenarioValue, Obeys, Policy, array_after, reply_in, Reply, range_named}
+use proofs.Names.{Process, process_of, unit_state_at, row_reading, CarriedBytes, row_events_by, process, Link, has_run}
+use proofs.Names.{moved_bytes, phase_of, Cause, Phase, Plan, progress_in, RunState, array_of, bus_of, carried_here}
+use proofs.Names.{process_item, run_state, run_state_after, is_writing, size_of, blocks_in, block_size, is_data_out}
+use proofs.Names.{is_of_size, start_of_run, own_of, process_id, policy_for, IsFilled, GoesOn, none_some, out_no_status}
+use proofs.Names.{run_policy, step_in, run_start, is_marked, PointersIn, calm, restores, saved, PointersRefused}
+use proofs.Names.{still_calm, restores_again, saves_again, disconnects_again, closes_again, PointersAsked, PointersOf}
+use proofs.Names.{PointersIf, ServedPointers, unnamed, named, DataFacts, IsServedWell, bytes_come, fits_runs, start_is}
+use proofs.{Names.{IsRunning, SendsAtRun, GivesAtRun, OnEvents, MovesAtRun}, Ran.Blocks.{front_all}}
+use proofs.Ran.{Crossings.{GoesSo, here_goes, known_served}, Facts.{Known, apart_of}, Shown.{IsAnswer, ShownAs}}
+use proofs.Ran.Shown.{row_shown, RunsAs, runs_alone, runs_arrived, row_runs}
 use Rattle.trace_laws.specs.row_laws.specs.DataPointers.{saves, disconnects, closes}
 
 -- ---- where a run begins
@@ -23,11 +23,10 @@ run_starts : (s : ScenarioValue) (k : RunState) (q : Process) → Obeys s → k.
 run_starts s k q o e own w sized =
     let size = eqb-true (size_of (unit_state_at (array_of s k).units q.target q.unit))
     (block_size (unit_of s q.target q.unit)) sized in
-    start_is (policy_for s q) (blocks_in (range_in (command_of q.cdb)))
+    start_is (policy_for s q) (blocks_in (range_named q))
     (block_size (unit_of s q.target q.unit)) 0 (progress_in k.progress q.id).runs
-    ∙ ap (λ (x : ℕ). (progress_in k.progress q.id).runs
-    * step_in (policy_for s q) (blocks_in (range_in (command_of q.cdb))) x) (sym size)
-    ∙ ap (λ (x : ℕ). (progress_in k.progress q.id).runs * x) (fits_runs s k q o e own w).step
+    ∙ ap (λ (x : ℕ). (progress_in k.progress q.id).runs * step_in (policy_for s q) (blocks_in (range_named q)) x)
+    (sym size) ∙ ap (λ (x : ℕ). (progress_in k.progress q.id).runs * x) (fits_runs s k q o e own w).step
 
 -- ---- the data pointer stands within what was carried
 

@@ -1,22 +1,22 @@
 -- Each block of each unit of the plain disk array has as many bytes as the unit's blocks have, after any history (7.3,
 -- 7.5).
 use Rattle.right_laws.proofs
-use proofs.Names.{ℕ, ◌≡◌, ◌⊎◌, inl, inr, cond, ◌+◌, ◌-◌, ◌*◌, Bool, true, false, not, ◌&&◌, ◌||◌, ◌==◌, ◌∙◌, List, []}
-use proofs.Names.{◌∷◌, length, Option, Some, None, refl, sym, ap, subst, eqb-true, and_parts, same_Some, find}
-use proofs.Names.{if◌then◌else◌, is_none, is_some, wrong, wrong', AbortKind, Event, ProcId, command_of, GOOD}
-use proofs.Names.{CHECK_CONDITION, has_target, unit_of, is_write, ScenarioValue, Obeys, FillDef, HostDef, UnitDef}
-use proofs.Names.{whole_kept, choice_keeps, abort_law, device_law, end_law, other_law, reset_law, run_law}
-use proofs.Names.{history_sound, is_own, AreWhole, blank_whole, block_whole, array_after, array_step, Contents}
-use proofs.Names.{filled_contents, no_contents, with_block, blank_contents, CommandContext, Execution, Reply}
-use proofs.Names.{check_condition, execution, is_request_sense, choice, Process, process_of, same_id, Seat, contents_of}
-use proofs.Names.{context_of, seat_of, settled_seat, settled_seat_if, AllOwnUnits, HasSeats, IsOwnRunning, IsSound}
-use proofs.Names.{is_of_unit, running_if, step, Array, Nexus, RunningProcess, UnitState, guest_at, has_no_current}
-use proofs.Names.{is_held, settled_array, starting_array, starting_unit, starting_units, unit_state_at}
-use proofs.Names.{units_after_choice, with_current, blocks_written, blocks_written_by, obeys_fits, seats_are, FitsBus}
-use proofs.Names.{lines_always, sends, line_filled, start_settled, AreFilled, AreOfLines, IsOfLine, process_id, id_is}
-use proofs.Names.{IsOf, none_some, zero_times, by_bool, by_option, running_id, writer_plain, none_sent}
-use proofs.{Given.Replies.{own_guests, own_units}, Ran.Open.{running_has}, Replies.Facts.{guest_there}}
-use proofs.Replies.{Same.{SameContext, accept_at, fail_at, place_of, refuse_at}, Targeted.{unit_targeted}}
+use proofs.Names.{ℕ, ◌≡◌, ◌⊎◌, inl, inr, cond, ◌-◌, ◌*◌, Bool, true, false, not, ◌&&◌, ◌||◌, ◌==◌, ◌∙◌, List, [], ◌∷◌}
+use proofs.Names.{length, Option, Some, None, refl, sym, ap, subst, eqb-true, and_parts, same_Some, find, if◌then◌else◌}
+use proofs.Names.{is_none, is_some, wrong, wrong', AbortKind, Event, ProcId, command_of, GOOD, CHECK_CONDITION}
+use proofs.Names.{has_target, unit_of, is_write, ScenarioValue, Obeys, FillDef, HostDef, UnitDef, whole_kept}
+use proofs.Names.{choice_keeps, abort_law, device_law, end_law, other_law, reset_law, run_law, history_sound, is_own}
+use proofs.Names.{AreWhole, blank_whole, block_whole, array_after, array_step, Contents, filled_contents, with_block}
+use proofs.Names.{blank_contents, CommandContext, Execution, Reply, check_condition, execution, is_request_sense}
+use proofs.Names.{choice, Process, process_of, same_id, Seat, contents_of, context_of, seat_of, settled_seat}
+use proofs.Names.{settled_seat_if, AllOwnUnits, HasSeats, IsOwnRunning, IsSound, is_of_unit, running_if, step, Array}
+use proofs.Names.{Nexus, RunningProcess, UnitState, guest_at, has_no_current, is_held, settled_array, starting_array}
+use proofs.Names.{starting_unit, starting_units, unit_state_at, units_after_choice, with_current, blocks_written}
+use proofs.Names.{taken_now, obeys_fits, seats_are, FitsBus, lines_always, sends, line_filled, start_settled, AreFilled}
+use proofs.Names.{AreOfLines, IsOfLine, process_id, id_is, IsOf, none_some, zero_times, by_bool, by_option, running_id}
+use proofs.{Names.{writer_plain, none_sent}, Given.Replies.{own_guests, own_units}, Ran.Open.{running_has}}
+use proofs.Replies.{Facts.{guest_there}, Same.{SameContext, accept_at, fail_at, place_of, refuse_at}}
+use proofs.Replies.Targeted.{unit_targeted}
 use Rattle.due_model.specs.array_model.specs.Seats
 use Rattle.due_model.specs.array_model.specs.Steps
 
@@ -39,10 +39,10 @@ filled_whole u (f ∷ fills) c a e h =
 -- What it writes are whole blocks, where it is carried out.
 execution_whole : (m : CommandContext) (cdb sent : List ℕ) → AreWhole m.contents
     → (((execution m cdb sent).reply.status ≡ GOOD) → is_write (command_of cdb) ≡ true
-    → length sent ≡ blocks_written m.contents cdb * m.contents.size) → AreWhole (execution m cdb sent).contents
+    → length sent ≡ taken_now m.contents cdb) → AreWhole (execution m cdb sent).contents
 execution_whole m cdb sent h f =
     whole_kept m cdb sent h (λ c n is w r g good. f good (ap is_write is ∙ w) ∙ ap (λ (x : ℕ). x * m.contents.size)
-    (ap (blocks_written_by m.contents) is ∙ (λ i. if g i then (if w i then r i else 0) else 0)))
+    (ap (blocks_written m.contents.count) is ∙ (λ i. if g i then (if w i then r i else 0) else 0)))
 
 -- ---- the seats
 
@@ -194,16 +194,15 @@ no_unit u (Some d) e h = absurd (none_is d e)
 sent_whole : (s : ScenarioValue) (a : Array) (p : Process) → Obeys s → AreOfLines s a → process_of s p.id ≡ Some p
     → (execution (context_of (seat_of a p.target p.unit) p.initiator) p.cdb p.sent).reply.status ≡ GOOD
     → is_write (command_of p.cdb) ≡ true
-    → length p.sent ≡ blocks_written (contents_of (unit_state_at a.units p.target p.unit)) p.cdb
-    * (contents_of (unit_state_at a.units p.target p.unit)).size
+    → length p.sent ≡ taken_now (contents_of (unit_state_at a.units p.target p.unit)) p.cdb
 sent_whole s a p o lines is good w =
     by_bool (has_target s p.target)
     (λ e. (sends s a p (obeys_fits s o) lines e is (writer_plain s p is w)).bytes good)
     (λ e. none (unit_state_at a.units p.target p.unit) (lines p.target p.unit) e)
   where
     none : (x : Option UnitState) → IsOfLine (unit_of s p.target p.unit) x → has_target s p.target ≡ false
-        → length p.sent ≡ blocks_written (contents_of x) p.cdb * (contents_of x).size
-    none None h e = none_sent s p o is w e ∙ sym (zero_times (blocks_written no_contents p.cdb))
+        → length p.sent ≡ taken_now (contents_of x) p.cdb
+    none None h e = none_sent s p o is w e ∙ sym (zero_times (blocks_written 0 (command_of p.cdb)))
     none (Some u) h e =
         by_option (unit_of s p.target p.unit)
         (λ z. no_unit u (unit_of s p.target p.unit) z h)

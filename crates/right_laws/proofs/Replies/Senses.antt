@@ -1,7 +1,7 @@
 -- A REQUEST SENSE that runs leaves the contents and the attentions of its unit; so another process there would answer
 -- the same (7.2, 7.5).
 use Rattle.right_laws.proofs
-use proofs.Names.{ℕ, ◌≡◌, ◌⊎◌, inl, inr, Bool, true, false, not, ◌&&◌, ◌||◌, ◌==◌, ◌∙◌, Option, Some, None, refl, subst}
+use proofs.Names.{ℕ, ◌≡◌, ◌⊎◌, inl, inr, Bool, true, false, not, ◌&&◌, ◌||◌, ◌∙◌, Option, Some, None, refl, subst}
 use proofs.Names.{same_Some, if◌then◌else◌, is_none, is_some, ProcId, command_of, sense_block_of, sense_executed}
 use proofs.Names.{settled_context, Execution, execution, is_request_sense, choice, Process, same_id, Seat, context_of}
 use proofs.Names.{current_of, settled_seat, settled_seat_if, running_if, RunningProcess, UnitState, guest_at}

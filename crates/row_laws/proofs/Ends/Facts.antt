@@ -62,8 +62,8 @@ by_command : (s : ScenarioValue) (id : ProcId) (c : CmdDef) → AreHosts s c.hos
     → AreHosts s (process_by s id c).initiator (process_by s id c).target
 by_command s id c h = go id.sense
   where
-    go : (q : Bool) → AreHosts s (if q then sense_process id c else command_process s id c).initiator
-        (if q then sense_process id c else command_process s id c).target
+    go : (q : Bool) → AreHosts s (if q then sense_process s id c else command_process s id c).initiator
+        (if q then sense_process s id c else command_process s id c).target
     go true = h
     go false = h
 

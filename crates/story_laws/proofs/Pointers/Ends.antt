@@ -2,8 +2,8 @@
 use Rattle.story_laws.proofs
 use proofs.Names.{ℕ, zero, suc, ◌≡◌, ◌+◌, ◌*◌, Bool, true, false, not, ◌&&◌, ◌∙◌, List, [], ◌∷◌, Option, Some, None}
 use proofs.Names.{refl, sym, ap, subst, arith, true≢false, ◌==◌, list_any, if◌then◌else◌, is_some, plus_none, Event}
-use proofs.Names.{ProcId, rises, Row, Connection, command_of, is_write, sent_of, ScenarioValue, CmdDef, Tag, Process}
-use proofs.Names.{process_of, process_if, process_by, command_at, payload_bytes, sense_block, row_reading}
+use proofs.Names.{ProcId, rises, Row, Connection, command_of, is_write, ScenarioValue, CmdDef, Process, process_of}
+use proofs.Names.{process_if, process_by, command_at, sense_block, command_process, sense_process, row_reading}
 use proofs.Names.{row_events_by, link_events, bus_free_events, Item, process, has_item, command_item, sense_item}
 use proofs.Names.{is_open, Link, LastMessage, plain, Story, by_reset, story_with_over, story_with_end, story_with_ends}
 use proofs.Names.{story_after_event, story_after_events, story_on_bus, story_by_change, phase_of, Cause, Phase}
@@ -121,23 +121,9 @@ writer_plain s q e w = go (command_at s.commands q.id.command) q.id.sense refl e
     go (Some c) false f g = f
     go (Some c) true f g =
         let is : process_by s q.id c ≡ q = same (process_by s q.id c) g in
-        let block : sense_block ≡ q.cdb = sym (ap (λ (b : Bool). let y : Process = if b then record {
-          id = q.id;
-          initiator = c.host;
-          target = c.target;
-          unit = c.unit;
-          tag = Tag.Untagged;
-          cdb = sense_block;
-          sent = [];
-        } else record {
-          id = q.id;
-          initiator = c.host;
-          target = c.target;
-          unit = c.unit;
-          tag = c.tag;
-          cdb = c.cdb;
-          sent = payload_bytes c.payload (sent_of s c);
-        } in y.cdb) f) ∙ ap (λ (p : Process). p.cdb) is in
+        let block : sense_block ≡ q.cdb = sym
+        (ap (λ (b : Bool). let y : Process = if b then sense_process s q.id c else command_process s q.id c in y.cdb) f)
+        ∙ ap (λ (p : Process). p.cdb) is in
         absurd (true≢false (sym w ∙ ap (λ (x : List ℕ). is_write (command_of x)) (sym block) ∙ write_sense))
       where
         same : (x : Process) → (let o : Option Process = Some x in o) ≡ Some q → x ≡ q

@@ -3,12 +3,13 @@
 use Rattle.story_laws.proofs
 use proofs.Names.{ℕ, ◌≡◌, ◌+◌, Bool, true, false, not, ◌&&◌, ◌||◌, ◌∙◌, List, length, Option, Some, None, refl, sym, ap}
 use proofs.Names.{arith, ◌==◌, nat_tests, same_Some, if◌then◌else◌, is_none, nat_lt, wrong, wrong', ProcId, LineSet}
-use proofs.Names.{command_of, ScenarioValue, CmdDef, Policy, is_request_sense, range_in, Process, process_of}
-use proofs.Names.{process_if, process_by, command_at, sense_block, Array, unit_state_at, Item, process, abort}
-use proofs.Names.{policy_of, arrival_by, runs_in, runs_in_all, message_bytes, from_byte, Serving, phase_of, leaving_by}
-use proofs.Names.{Arrival, Leaving, Messages, Next, Phase, Room, Task, target_def_of, RunState, bus_of, array_of}
-use proofs.Names.{process_item, process_served, arrival_at, serving_of, task_if, blocks_in, room_of, arrival_if}
-use proofs.Names.{none_some, by_option, is_complete_in, is_disconnect_in, frees_bus, plans_well, is_sense_item}
+use proofs.Names.{command_of, ScenarioValue, CmdDef, Policy, none_named, is_request_sense, range_in, Process}
+use proofs.Names.{process_of, process_if, process_by, command_at, sense_block, Array, unit_state_at, Item, process}
+use proofs.Names.{abort, policy_of, arrival_by, runs_in, runs_in_all, message_bytes, from_byte, Serving, phase_of}
+use proofs.Names.{leaving_by, Arrival, Leaving, Messages, Next, Phase, Room, Task, target_def_of, RunState, bus_of}
+use proofs.Names.{array_of, process_item, process_served, arrival_at, serving_of, task_if, blocks_in, room_of}
+use proofs.Names.{arrival_if, none_some, by_option, is_complete_in, is_disconnect_in, frees_bus, plans_well}
+use proofs.Names.{is_sense_item}
 use Rattle.row_laws.specs.link_laws.proofs.LeavingWays as ways
 
 abbrev Well : Bool → Leaving → Type 0
@@ -126,7 +127,7 @@ sense_stays s k dev e = record {
     runs None f t z = absurd (none_some t z)
     runs (Some p) f t z =
         one_run (policy_of (target_def_of s dev)) t (sym (ap (λ (x : Option Task). (or_task t x).blocks) z)
-        ∙ ap (λ (c : List ℕ). blocks_in (range_in (command_of c))) (f p refl))
+        ∙ ap blocks_in (none_named p (ap (λ (c : List ℕ). range_in (command_of c)) (f p refl))))
       where
         or_task : Task → Option Task → Task
         or_task x None = x

@@ -1,20 +1,19 @@
 -- A command that stays outside the queue has one run at most: a REQUEST SENSE or an INQUIRY, or one that ends with
 -- CHECK CONDITION since its unit is not there (7.5, 8.2).
 use Rattle.trace_laws.proofs
-use proofs.Names.{inl, inr, ℕ, ◌≡◌, ◌⊎◌, ◌+◌, Bool, true, false, not, ◌&&◌, ◌==◌, ◌∙◌, List, [], length, Option, Some}
-use proofs.Names.{None, refl, sym, ap, subst, arith, ◌++◌, length-append, Result, Ok, Err, eqb-true, nat_tests, ◌-◌}
+use proofs.Names.{inl, inr, ℕ, ◌≡◌, ◌⊎◌, ◌+◌, Bool, true, false, not, ◌&&◌, ◌==◌, ◌∙◌, List, length, Option, Some, None}
+use proofs.Names.{refl, sym, ap, subst, arith, ◌++◌, length-append, Result, Ok, Err, eqb-true, nat_tests, ◌-◌}
 use proofs.Names.{if◌then◌else◌, nat_lt, slice_index, is_some, wrong, wrong', and_second, ProcId, LineSet}
 use proofs.Names.{changes_phase, is_message_in, connection, is_fault, bus, Row, Change, Connection, command_of}
 use proofs.Names.{sized_of, has_group_len, are_zero, spare_room, where_zero, operation_of, CdbFault, Command, INQUIRY}
-use proofs.Names.{MsgIn, ScenarioValue, Policy, absent_executed, reply_in, array_after, execution, is_request_sense}
-use proofs.Names.{is_opcode, needs_unit, range_in, Process, context_at, Array, unit_state_at, nexus_of, row_reading}
-use proofs.Names.{is_completion, process, Link, Story, policy_of, runs_in, runs_in_all, one_message, bytes_of_messages}
-use proofs.Names.{phase_of, Cause, Messages, Next, Phase, Task, progress_in, RunState, array_of, process_served}
-use proofs.Names.{carried_here, bus_of, run_state, serving_of, blocks_in, is_writing, moved_count, reply_now, task_with}
-use proofs.Names.{task_if, task_of, is_command_phase, is_in_phase, GoesOn, Begins, Ends, is_status, stage_of_connection}
-use proofs.{Names.{Stood, link_unbegun, IsOutside, one_run}, Places.{Ends.{IsEndAsked}, First.{IsSelectedFor}}}
-use proofs.Places.{Leavings.{HasOneRun}, Next.{SendsNone, IsResetAsked}, Rows.{PlaceAsked}, Stays.{IsStayAsked}}
-use proofs.Places.TurnRows.{TellsOf, IsTurnAsked}
+use proofs.Names.{MsgIn, ScenarioValue, Policy, none_named, reply_in, array_after, is_request_sense, is_opcode}
+use proofs.Names.{needs_unit, range_in, Process, Array, unit_state_at, row_reading, is_completion, process, Link, Story}
+use proofs.Names.{policy_of, runs_in, runs_in_all, one_message, bytes_of_messages, phase_of, Cause, Messages, Next}
+use proofs.Names.{Phase, Task, progress_in, RunState, array_of, process_served, carried_here, bus_of, run_state}
+use proofs.Names.{serving_of, blocks_in, reply_now, task_with, task_if, task_of, is_command_phase, is_in_phase, GoesOn}
+use proofs.Names.{Begins, Ends, is_status, stage_of_connection, Stood, link_unbegun, IsOutside, one_run}
+use proofs.Places.{Ends.{IsEndAsked}, First.{IsSelectedFor}, Leavings.{HasOneRun}, Next.{SendsNone, IsResetAsked}}
+use proofs.{Places.{Rows.{PlaceAsked}, Stays.{IsStayAsked}, TurnRows.{TellsOf, IsTurnAsked}}, Runs.Fits.{absent_moves}}
 
 -- ---- commands of no blocks
 
@@ -57,18 +56,6 @@ none_moved policy t e = ap (λ (m : ℕ). nat_lt (t.runs + 1) (if m == 0 then 0 
     none : nat_lt (t.runs + 1) 0 ≡ false
     none = grind (arith, nat_tests)
 
--- Of a unit that is not there.
-pub absent_moves : (a : Array) (p : Process) → unit_state_at a.units p.target p.unit ≡ None → needs_unit p.cdb ≡ true
-    → moved_count p (reply_now a p) ≡ 0
-absent_moves a p e f =
-    (λ i. moved_count p (execution (context_at a (nexus_of p) (e i)) p.cdb p.sent).reply)
-    ∙ (λ i. moved_count p (absent_executed (context_at a (nexus_of p) None) p.cdb p.sent f i).reply)
-    ∙ none (is_writing p)
-  where
-    none : (b : Bool) → (let bytes : List ℕ = if b then [] else [] in length bytes) ≡ 0
-    none true = refl
-    none false = refl
-
 either_opcode : (x y : Bool) → (not x && not y) ≡ false → (x ≡ true) ⊎ (y ≡ true)
 either_opcode true y e = inl refl
 either_opcode false true e = inr refl
@@ -96,7 +83,7 @@ outside_runs s k dev p served out =
     task_is t e = ap (or_task task) (sym (ap (λ (o : Option Process). task_if s k o) served) ∙ e)
 
     by_range : range_in (command_of p.cdb) ≡ None → nat_lt (task.runs + 1) (runs_in_all policy task) ≡ false
-    by_range e = one_run policy task (ap blocks_in e)
+    by_range e = one_run policy task (ap blocks_in (none_named p e))
 
     absent : unit_state_at a.units p.target p.unit ≡ None → (q : Bool) → needs_unit p.cdb ≡ q
         → nat_lt (task.runs + 1) (runs_in_all policy task) ≡ false

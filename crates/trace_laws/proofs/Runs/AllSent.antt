@@ -3,19 +3,19 @@ use Rattle.trace_laws.proofs
 use proofs.Names.{ℕ, ◌≡◌, ◌⊎◌, inl, inr, ◌<◌, ◌≤◌, ◌+◌, ◌*◌, ◌/◌, Bool, true, false, not, ◌==◌, ◌∙◌, List, [], ◌∷◌}
 use proofs.Names.{length, Option, Some, None, refl, sym, ap, subst, arith, lt-div-mul-add, ltb-false, same_Some, ◌-◌}
 use proofs.Names.{if◌then◌else◌, is_some, nat_le, nat_lt, wrong, wrong', zero_of, change_of, LineSet, changes_phase}
-use proofs.Names.{is_data, call, connection, connection_after, bus, Row, Change, Connection, command_of, GOOD}
-use proofs.Names.{ScenarioValue, Obeys, Policy, array_after, reply_in, shows_run, Reply, count_in, range_in, Process}
-use proofs.Names.{process_of, Array, RowReading, row_reading, Story, policy_of, runs_in, runs_in_all, is_status_next}
-use proofs.Names.{phase_leaving, phase_of, Leaving, Next, Phase, Task, target_def_of, progress_in, IsPrompt, RunState}
-use proofs.Names.{array_of, bus_of, or_start, process_served, run_state, events_of_row, serving_of, is_writing}
-use proofs.Names.{reply_now, task_if, is_true_telling, none_is, writers, is_data_in, policy_for, change_plain, least_is}
-use proofs.Names.{by_bool, some_count, IsGoing, going, NextStood, Stood, is_directed, writes_of, frees_bus}
-use proofs.Names.{AnsweredOpen, IsTaken, PlaceFacts, PlacedBefore, PlacedIf, PlacedIn, AreRepliesShown, FailsAsLeft}
-use proofs.Names.{WriteFacts, WritesAsked, left_tells, CommandFacts, InstructedFacts, RunFacts, IsWhole, RunsWhole}
-use proofs.Names.{ends_badly, sends_none, sends_all, TellFacts, HasSentAll, RunsBlocks, HasRunLeft, RunsLeft, run_total}
+use proofs.Names.{is_data, call, connection, connection_after, bus, Row, Change, Connection, GOOD, ScenarioValue, Obeys}
+use proofs.Names.{Policy, array_after, reply_in, shows_run, Reply, Process, process_of, Array, RowReading, row_reading}
+use proofs.Names.{Story, policy_of, runs_in, runs_in_all, is_status_next, phase_leaving, phase_of, Leaving, Next, Phase}
+use proofs.Names.{Task, target_def_of, progress_in, IsPrompt, RunState, array_of, bus_of, or_start, process_served}
+use proofs.Names.{run_state, events_of_row, serving_of, is_writing, reply_now, task_if, is_true_telling, none_is}
+use proofs.Names.{writers, is_data_in, policy_for, change_plain, least_is, by_bool, some_count, by_option, IsGoing}
+use proofs.Names.{going, NextStood, Stood, is_directed, writes_of, frees_bus, AnsweredOpen, IsTaken, PlaceFacts}
+use proofs.Names.{PlacedBefore, PlacedIf, PlacedIn, AreRepliesShown, FailsAsLeft, WriteFacts, WritesAsked, left_tells}
+use proofs.Names.{CommandFacts, InstructedFacts, RunFacts, IsWhole, RunsWhole, ends_badly, sends_none, sends_all}
+use proofs.Names.{TellFacts, HasSentAll, MovesInRuns, RunsBlocks, in_one, in_blocks, HasRunLeft, RunsLeft, run_total}
 use proofs.{Attended.Told.{tells_row}, Runs.Events.{RunsFrom, RunsInPhase, answered, moved_all, reads, run_turn}}
-use proofs.Runs.{Events.{runs_from, writes, reads_send_none}, Facts.{task_here}, Fits.{FitsRuns, blocks_named}}
-use proofs.{Runs.{Fits.{fits_runs}, Parts.{HasMost}, Rows.{served_id}, Whole.{whole_run}}, Writes.Facts.{write_row}}
+use proofs.Runs.{Events.{runs_from, writes, reads_send_none}, Facts.{task_here}, Fits.{FitsRuns, fits_runs}}
+use proofs.{Runs.{Parts.{HasMost, RunsFit}, Rows.{served_id}, Whole.{whole_run}}, Writes.Facts.{write_row}}
 use proofs.Writes.{Rows.{in_lines}, Written.{left_by}}
 
 -- ---- blocks are moved in one run at least
@@ -46,6 +46,15 @@ some_run (Policy.NoSave most) blocks m h =
 pub runs_blocks : (policy : Policy) → HasMost policy → RunsBlocks policy
 runs_blocks (Policy.Burst most) m = m
 runs_blocks _ m = tt
+
+pub moves_runs : (policy : Policy) (t : Task) → RunsFit policy t → (t.moved == 0) ≡ false → MovesInRuns policy t
+moves_runs policy t f some = by_option t.blocks (λ e. in_one e) (λ blocks e. in_blocks
+    (record { blocks = blocks; blocks_are = e; moved = f.moved blocks e some; runs = runs_blocks policy f.most }))
+
+pub some_total : (policy : Policy) (t : Task) → RunsFit policy t → (t.moved == 0) ≡ false → 1 ≤ runs_in policy t.blocks
+some_total policy t f some = by_option t.blocks (λ e. subst (λ (b : Option ℕ). 1 ≤ runs_in policy b)
+    (sym e) (omega arith)) (λ blocks e. subst (λ (b : Option ℕ). 1 ≤ runs_in policy b) (sym e)
+    (some_run policy blocks f.most (zero_blocks blocks t.size t.moved some (f.moved blocks e some))))
 
 -- ---- replies
 
@@ -133,15 +142,6 @@ sent_all s p row n q h = by (runs_from (serving_of s k n.target) (bus_of k).atn 
     moves : (t.moved == 0) ≡ false
     moves = ap (λ (x : ℕ). x == 0) moved ∙ h.some
 
-    count : ℕ
-    count = count_in (range_in (command_of q.cdb))
-
-    named : t.blocks ≡ Some count
-    named = blocks_named (command_of q.cdb) h.writes
-
-    blocks : t.moved ≡ count * t.size
-    blocks = fits.fit.moved count named moves
-
     -- where it stands
     placed : PlacedIn h.places.array q k.exchange.plan k.handshakes (bus_of k).atn (phase_of (bus_of k))
     placed = subst (λ (b : Bool). PlacedIf b h.places.array q k.exchange.plan k.handshakes (bus_of k).atn
@@ -170,14 +170,11 @@ sent_all s p row n q h = by (runs_from (serving_of s k n.target) (bus_of k).atn 
     total : runs_in_all (policy_for s q) t ≡ run_total s q
     total = λ i. if moves i then 0 else runs_in (policy_for s q) t.blocks
 
-    some_total : 1 ≤ run_total s q
-    some_total = subst (λ (b : Option ℕ). 1 ≤ runs_in (policy_for s q) b) (sym named)
-        (some_run (policy_for s q) count fits.fit.most (zero_blocks count t.size t.moved moves blocks))
-
     not_all : nat_lt r.turn.task.runs (runs_in_all (policy_of (target_def_of s n.target)) r.turn.task) ≡ false
         → HasSentAll s k (writers s p) q
-    not_all e = absurd (clash (progress_in k.progress q.id).runs (run_total s q) some_total all
-        (h.left q own h.writes (none_is (reply_in (array_of s k).replies q.id) unanswered)))
+    not_all e =
+        absurd (clash (progress_in k.progress q.id).runs (run_total s q) (some_total (policy_for s q) t fits.fit moves)
+        all (h.left q own h.writes (none_is (reply_in (array_of s k).replies q.id) unanswered)))
       where
         all : run_total s q ≤ (progress_in k.progress q.id).runs
         all = subst (λ (x : ℕ). x ≤ t.runs) total (ltb-false t.runs (runs_in_all (policy_for s q) t)
@@ -201,12 +198,7 @@ sent_all s p row n q h = by (runs_from (serving_of s k n.target) (bus_of k).atn 
         (ap changes_phase (sym g.goes.row_is.change_is) ∙ r.left) r.begun phase struck
         (ap (λ (l : Leaving). l.to) (left_by s k n r.begun)
         ∙ status_is (phase_leaving (serving_of s k n.target) (bus_of k).atn (phase_of (bus_of k))).to r.turn.status)
-        h.served target (record {
-          blocks = count;
-          blocks_are = named;
-          moved = blocks;
-          runs = runs_blocks (policy_for s q) fits.fit.most;
-        })
+        h.served target (moves_runs (policy_for s q) t fits.fit moves)
       where
         next : d.next ≡ connection (row ∷ p)
         next = λ i. connection_after (h.was.plain.connection i) (h.was.plain.call i) (change i) row

@@ -3,18 +3,18 @@ use Rattle.trace_laws.proofs
 use proofs.Names.{ℕ, ◌≡◌, Bool, true, false, not, ◌&&◌, ◌==◌, ◌∙◌, List, [], ◌∷◌, Option, Some, None, refl, sym, ap}
 use proofs.Names.{◌⊎◌, inl, inr, subst, ◌++◌, not-false, same_Some, list_any, if◌then◌else◌, nat_lt, is_some, ◌-◌}
 use proofs.Names.{eq_self, wrong', nothing_below, Event, rises, LineSet, changes_phase, is_command, Row, Connection}
-use proofs.Names.{command_of, ScenarioValue, Policy, found_target, found_unit, choice_target, choice_unit, array_after}
-use proofs.Names.{array_step, Contents, CommandContext, execution, is_request_sense, choice, count_in, range_in}
-use proofs.Names.{Process, process_of, context_at, step, settled_array_if, accept_step, accept_step_at, queue_step}
-use proofs.Names.{with_guest, process_count, UnitState, Nexus, Array, unit_state_at, with_unit, with_current}
-use proofs.Names.{has_no_current, is_held, unit_after_choice, units_after_choice, settled_array, nexus_of, RowReading}
-use proofs.Names.{CarriedBytes, is_whole_block, is_status_phase, row_events_by, link_events, connection_events}
-use proofs.Names.{bus_free_events, phase_events, queue_event, queue_events, is_refuse, status_event, is_completion}
-use proofs.Names.{end_events, carried_if, Link, Story, policy_of, is_never, arrival_by, runs_in_all, run_in, run_length}
+use proofs.Names.{command_of, ScenarioValue, Policy, write_needs, found_target, found_unit, choice_target, choice_unit}
+use proofs.Names.{array_after, array_step, Contents, CommandContext, execution, is_request_sense, choice, Process}
+use proofs.Names.{process_of, context_at, step, settled_array_if, accept_step, accept_step_at, queue_step, with_guest}
+use proofs.Names.{process_count, UnitState, Nexus, Array, unit_state_at, with_unit, with_current, has_no_current}
+use proofs.Names.{is_held, unit_after_choice, units_after_choice, settled_array, nexus_of, RowReading, CarriedBytes}
+use proofs.Names.{is_whole_block, is_status_phase, row_events_by, link_events, connection_events, bus_free_events}
+use proofs.Names.{phase_events, queue_event, queue_events, is_refuse, status_event, is_completion, end_events}
+use proofs.Names.{carried_if, Link, Story, policy_of, is_never, arrival_by, runs_in_all, run_in, run_length, runs_in}
 use proofs.Names.{Serving, phase_leaving, phase_of, leaving_by, Arrival, Leaving, Phase, Room, Task, target_def_of}
 use proofs.Names.{progress_in, RunState, or_start, array_of, bus_of, process_served, array_after_events, leaving}
 use proofs.Names.{serving_of, moved_count, reply_now, size_of, is_writing, task_of, task_if, room_of, is_idle_unit}
-use proofs.{Names.{none_some, run_lines}, Runs.{Facts.{task_here, none_in_all, write_no_sense}, Fits.{blocks_named}}}
+use proofs.{Names.{none_some, run_lines}, Runs.{Facts.{task_here, write_no_sense}, Fits.{absent_moves}}}
 use proofs.Runs.Parts.{RunsFit}
 use Rattle.story_laws.specs.link_laws.proofs.LeavingWays as ways
 
@@ -278,9 +278,6 @@ enters_queue s a q u own e senses room = ap (λ (o : Option Process). settled_ar
     ∙ ap (λ (b : Bool). settled_array_if
     (if b then Some (record a { units = with_unit a.units (unit_waited u q) }) else None)) room
 
-no_units : (o : Option UnitState) → o ≡ None → size_of o ≡ 0
-no_units o e = ap size_of e
-
 -- What the array is after the event of it.
 pub arrives : (s : ScenarioValue) (k : RunState) (q : Process) (policy : Policy) → process_of s q.id ≡ Some q
     → is_writing q ≡ true → k.array ≡ array_after s k.story.history → RunsFit policy (task_here s k q)
@@ -308,12 +305,12 @@ arrives s k q policy own w is fit more arrival = go k.array refl
         by : (x : Option UnitState) → unit_state_at a.units q.target q.unit ≡ x → SameRun (array_of s k)
             (or_start s (array_after_events s k.array (queue_event s k.story.history q.id ∷ []))) q
         by None z =
-            let size : (task_here s k q).size ≡ 0 =
-            ap (λ (b : Array). size_of (unit_state_at b.units q.target q.unit)) here
-            ∙ no_units (unit_state_at a.units q.target q.unit) z in
-            wrong' (sym (ap (λ (m : ℕ). nat_lt (task_here s k q).runs m) (none_in_all policy (task_here s k q)
-            (count_in (range_in (command_of q.cdb))) fit (blocks_named (command_of q.cdb) w) size)
-            ∙ nothing_below (task_here s k q).runs) ∙ more)
+            let zero : (task_here s k q).moved ≡ 0 = (λ i. moved_count q (reply_now (here i) q))
+            ∙ absent_moves a q z (write_needs q.cdb w) in
+            let none : runs_in_all policy (task_here s k q) ≡ 0 = ap
+            (λ (m : ℕ). if m == 0 then 0 else runs_in policy (task_here s k q).blocks) zero in
+            wrong'
+            (sym (ap (λ (m : ℕ). nat_lt (task_here s k q).runs m) none ∙ nothing_below (task_here s k q).runs) ∙ more)
         by (Some u) z =
             let arrived : (arrival_by policy false (room_of a (Some u)) ≡ Arrival.Guest)
             ⊎ (arrival_by policy false (room_of a (Some u)) ≡ Arrival.AtOnce) = subst

@@ -7,17 +7,18 @@ use proofs.Names.{if◌then◌else◌, is_some, nat_lt, eq_self, wrong', none_nu
 use proofs.Names.{change_of, rises, LineSet, changes_phase, is_data, call, connection, connection_after, receiver_of}
 use proofs.Names.{bus, drives, driven_after, Row, Change, Connection, Handshakes, handshakes, command_of, CdbFault}
 use proofs.Names.{Command, is_write, ScenarioValue, Obeys, Policy, array_after, reply_in, is_request_sense, range_in}
-use proofs.Names.{Process, process_of, Array, UnitState, unit_state_at, row_reading, process, has_item, Link, Story}
-use proofs.Names.{policy_of, is_never, arrival_by, run_at, run_length, runs_in_all, runs_in, begun, phase_of, Arrival}
-use proofs.Names.{Phase, Room, Task, run_state_plain, target_def_of, progress_in, IsPrompt, AreOfDevices, RunState}
-use proofs.Names.{bus_of, array_of, process_served, carried_here, run_state, arrival_at, leaving, blocks_in, is_writing}
-use proofs.Names.{task_of, task_if, task_with, reply_now, arrival_of, arrival_if, room_of, size_of, policy_for, IsRowIn}
-use proofs.Names.{change_plain, off_at, none_some, some_none, data_in_lines, is_data_phase, zero_times, by_option}
-use proofs.Names.{connection_row, stage_of_connection, RowFacts, stays, ends_here, Stood, NextStood, link_phase}
-use proofs.Names.{is_directed, writes_of, writes_there, policy_by, run_policy, run_start, run_step, PointersIf}
-use proofs.Names.{PointersOf, ServedPointers, unnamed, named, IsServedAnew, OfferFacts, refuses_later, rst_over}
-use proofs.{Names.{MoreRuns, TurnsBy, IsWriter, RunsBy, RunFacts}, Runs.{Fits.{FitsRuns, fits_runs}, Parts.{RunsFit}}}
-use proofs.Runs.{Parts.{start_is, more_cut, more_runs}, Rows.{runs_first, runs_row, served_id}}
+use proofs.Names.{range_named, Process, process_of, Array, UnitState, unit_state_at, row_reading, process, has_item}
+use proofs.Names.{Link, Story, policy_of, is_never, arrival_by, run_at, run_length, runs_in_all, runs_in, begun}
+use proofs.Names.{phase_of, Arrival, Phase, Room, Task, run_state_plain, target_def_of, progress_in, IsPrompt}
+use proofs.Names.{AreOfDevices, RunState, bus_of, array_of, process_served, carried_here, run_state, arrival_at}
+use proofs.Names.{leaving, blocks_in, is_writing, task_of, task_if, task_with, reply_now, arrival_of, arrival_if}
+use proofs.Names.{room_of, size_of, policy_for, IsRowIn, change_plain, off_at, none_some, some_none, data_in_lines}
+use proofs.Names.{is_data_phase, zero_times, by_option, connection_row, stage_of_connection, RowFacts, stays, ends_here}
+use proofs.Names.{Stood, NextStood, link_phase, is_directed, writes_of, writes_there, policy_by, run_policy, run_start}
+use proofs.Names.{run_step, PointersIf, PointersOf, ServedPointers, unnamed, named, IsServedAnew, OfferFacts}
+use proofs.{Names.{refuses_later, rst_over, MoreRuns, TurnsBy, IsWriter, RunsBy, RunFacts}, Runs.Fits.{FitsRuns}}
+use proofs.Runs.{Fits.{fits_runs, named_by}, Parts.{RunsFit, start_is, more_cut, more_runs}, Rows.{runs_first}}
+use proofs.Runs.Rows.{runs_row, served_id}
 use Rattle.story_laws.specs.book_laws.proofs.Reactions.{out_lines}
 
 -- ---- before any row
@@ -146,7 +147,7 @@ turns_by s k n q f served to sent given = record {
     arrives = ap (arrival_if policy (array_of s k)) served
 
     never : is_never policy ≡ true → is_never (run_policy s q) ≡ true
-    never e = never_by (policy_for s q) (blocks_in (range_in (command_of q.cdb))) (ap is_never same ∙ e)
+    never e = never_by (policy_for s q) (blocks_in (range_named q)) (ap is_never same ∙ e)
 
     once : (x : Phase) → arrival_at s k n.target x ≡ Arrival.AtOnce → is_never (run_policy s q) ≡ true
     once Phase.Command e = never (at_once_never policy (is_request_sense (command_of q.cdb))
@@ -155,16 +156,15 @@ turns_by s k n q f served to sent given = record {
 
     outside : arrival_of s k policy ≡ Arrival.Guest
         → (is_never (run_policy s q) ≡ true) ⊎ (runs_in_all policy (task_here s k q) ≡ 0)
-    outside e = by_option (blocks_in (range_in (command_of q.cdb)))
+    outside e = by_option (blocks_in (range_named q))
         (λ is. inl (ap (λ (x : Option ℕ). is_never (policy_by (policy_for s q) x)) is))
         (λ blocks is. inr (by blocks is (guest_none policy (is_request_sense (command_of q.cdb))
         (room_of (array_of s k) (unit_state_at (array_of s k).units q.target q.unit)) (sym arrives ∙ e))))
       where
-        by : (blocks : ℕ) → blocks_in (range_in (command_of q.cdb)) ≡ Some blocks
-            → (is_request_sense (command_of q.cdb) ≡ true)
+        by : (blocks : ℕ) → blocks_in (range_named q) ≡ Some blocks → (is_request_sense (command_of q.cdb) ≡ true)
             ⊎ (room_of (array_of s k) (unit_state_at (array_of s k).units q.target q.unit) ≡ None)
             → runs_in_all policy (task_here s k q) ≡ 0
-        by blocks is (inl z) = absurd (sense_no_blocks (command_of q.cdb) blocks z is)
+        by blocks is (inl z) = absurd (sense_no_blocks (command_of q.cdb) blocks z (named_by q blocks is))
         by blocks is (inr z) = none_in_all policy (task_here s k q) blocks fit is
             (no_room (array_of s k) (unit_state_at (array_of s k).units q.target q.unit) z)
 

@@ -1,17 +1,18 @@
 -- A target of a scenario that obeys the rules of its text moves one block at least in each run.
 use Rattle.trace_laws.proofs
 use proofs.Names.{ℕ, ◌≡◌, Bool, true, false, cond, List, [], ◌∷◌, Some, Ok, sym, ap, subst, ◌∙◌, ◌*◌, length, Option}
-use proofs.Names.{None, Result, Err, refl, true≢false, ◌==◌, not, eqb-true, same_Some, AllByRecursion, find}
+use proofs.Names.{None, Result, Err, refl, true≢false, ◌==◌, not, inl, inr, eqb-true, same_Some, AllByRecursion, find}
 use proofs.Names.{if◌then◌else◌, Event, command_of, CdbFault, Command, GOOD, bind_ok, ok_is, within_ok, read_policy}
 use proofs.Names.{target_line, Said, has_device, has_target, unit_of, is_write, moved_by, need_of, sent_of, guard}
 use proofs.Names.{within, in_8, period_in, policy_in, target_def, ScenarioValue, said_policy, Obeys, LATENCY_LIMIT}
-use proofs.Names.{RETRY_LIMIT, TARGET_OFFSET_LIMIT, SEEK_LIMIT, BURST_LIMIT, Policy, TargetDef, UnitDef, good_range}
-use proofs.Names.{array_after, reply_in, execution, range_in, count_in, Process, process_of, contents_of, context_of}
-use proofs.Names.{seat_of, context_at, Array, UnitState, nexus_of, unit_state_at, starting_array, blocks_written}
-use proofs.Names.{policy_of, Task, target_def_of, progress_in, RunState, or_start, array_of, carried_here, is_writing}
-use proofs.Names.{size_of, blocks_in, reply_now, moved_count, task_with, obeys_fits, command_fits, target_by}
-use proofs.Names.{IsCommandLine, by_line, lines_always, lines_start, sends, written_named, start_settled, IsOfLine}
-use proofs.Names.{AreOfLines, policy_for, Any, each_line, zero_times, by_bool, by_option, context_same, step_in}
+use proofs.Names.{RETRY_LIMIT, TARGET_OFFSET_LIMIT, SEEK_LIMIT, BURST_LIMIT, Policy, TargetDef, UnitDef}
+use proofs.Names.{absent_executed, good_range, named_either, array_after, reply_in, execution, needs_unit, range_in}
+use proofs.Names.{count_in, range_named, Process, process_of, contents_of, context_of, seat_of, context_at, Array}
+use proofs.Names.{UnitState, nexus_of, unit_state_at, starting_array, blocks_written, taken_now, policy_of, Task}
+use proofs.Names.{target_def_of, progress_in, RunState, or_start, array_of, carried_here, is_writing, size_of}
+use proofs.Names.{blocks_in, reply_now, moved_count, task_with, obeys_fits, command_fits, target_by, IsCommandLine}
+use proofs.Names.{by_line, lines_always, lines_start, sends, written_named, start_settled, IsOfLine, AreOfLines}
+use proofs.Names.{policy_for, Any, each_line, none_some, zero_times, by_bool, by_option, context_same, step_in}
 use proofs.{Names.{run_step, writer_plain}, Runs.Parts.{HasMost, RunsFit}}
 
 abbrev HasMostIn : TargetDef → Type 0
@@ -99,6 +100,12 @@ blocks_named (Ok Command.ReadCapacity) e = absurd (true≢false (sym e))
 blocks_named (Ok (Command.Read10 lba count)) e = absurd (true≢false (sym e))
 blocks_named (Ok (Command.Write10 lba count)) e = refl
 
+-- It names the blocks of its command, if it names any.
+pub named_by : (q : Process) (blocks : ℕ) → blocks_in (range_named q) ≡ Some blocks
+    → blocks_in (range_in (command_of q.cdb)) ≡ Some blocks
+named_by q blocks e =
+    elim (named_either q) [ inl z ↦ none_some blocks (sym (ap blocks_in z) ∙ e) | inr z ↦ sym (ap blocks_in z) ∙ e ]
+
 pub none_sent : (s : ScenarioValue) (q : Process) → Obeys s → process_of s q.id ≡ Some q → is_writing q ≡ true
     → has_target s q.target ≡ false → length q.sent ≡ 0
 unfolding need_of sent_of
@@ -113,6 +120,18 @@ none_sent s q o own w e =
     nothing : (b : Bool) → (let n : ℕ = if b then 0 else 0 in n) ≡ 0
     nothing true = refl
     nothing false = refl
+
+-- Of a unit that is not there.
+pub absent_moves : (a : Array) (p : Process) → unit_state_at a.units p.target p.unit ≡ None → needs_unit p.cdb ≡ true
+    → moved_count p (reply_now a p) ≡ 0
+absent_moves a p e f =
+    (λ i. moved_count p (execution (context_at a (nexus_of p) (e i)) p.cdb p.sent).reply)
+    ∙ (λ i. moved_count p (absent_executed (context_at a (nexus_of p) None) p.cdb p.sent f i).reply)
+    ∙ none (is_writing p)
+  where
+    none : (b : Bool) → (let bytes : List ℕ = if b then [] else [] in length bytes) ≡ 0
+    none true = refl
+    none false = refl
 
 -- The bytes that it moves, where it would be carried out now.
 moved_all : (s : ScenarioValue) (a : Array) (q : Process) → Obeys s → AreOfLines s a → process_of s q.id ≡ Some q
@@ -135,23 +154,21 @@ moved_all s a q o lines own w some =
 
     carried : (reply_now a q).status ≡ GOOD → has_target s q.target ≡ true
         → length q.sent ≡ count_in (range_in (command_of q.cdb)) * size_of (unit_state_at a.units q.target q.unit)
-    carried good there = by_option (unit_state_at a.units q.target q.unit) (λ e. let none : length q.sent ≡ 0 = all
-        ∙ ap (λ (y : Option UnitState). blocks_written (contents_of y) q.cdb * (contents_of y).size) e
-        ∙ zero_times (blocks_written (contents_of None) q.cdb) in
+    carried good there = by_option (unit_state_at a.units q.target q.unit)
+        (λ e. let none : length q.sent ≡ 0 = all ∙ ap (λ (y : Option UnitState). taken_now (contents_of y) q.cdb) e
+        ∙ zero_times (blocks_written 0 (command_of q.cdb)) in
         none ∙ sym (zero_times (count_in (range_in (command_of q.cdb))))
-        ∙ ap (λ (y : Option UnitState). count_in (range_in (command_of q.cdb)) * size_of y) (sym e))
-        (λ u e. let written : blocks_written u.contents q.cdb ≡ count_in (range_in (command_of q.cdb)) = written_named
-        u.contents (command_of q.cdb) w (λ x f. good_range (context_at a (nexus_of q) (Some u)) q.cdb q.sent x f
-        ((λ i. (execution (context_at a (nexus_of q) (sym e i)) q.cdb q.sent).reply.status) ∙ good)) in
-        all ∙ ap (λ (y : Option UnitState). blocks_written (contents_of y) q.cdb * (contents_of y).size) e
-        ∙ ap (λ (y : ℕ). y * u.contents.size) written
+        ∙ ap (λ (y : Option UnitState). count_in (range_in (command_of q.cdb)) * size_of y) (sym e)) (λ u e.
+        let written : blocks_written u.contents.count (command_of q.cdb) ≡ count_in (range_in (command_of q.cdb)) =
+        written_named u.contents (command_of q.cdb) w (λ x f. good_range (context_at a (nexus_of q) (Some u)) q.cdb
+        q.sent x f ((λ i. (execution (context_at a (nexus_of q) (sym e i)) q.cdb q.sent).reply.status) ∙ good)) in all
+        ∙ ap (λ (y : Option UnitState). taken_now (contents_of y) q.cdb) e ∙ ap (λ (y : ℕ). y * u.contents.size) written
         ∙ ap (λ (y : Option UnitState). count_in (range_in (command_of q.cdb)) * size_of y) (sym e))
       where
         status : (execution (context_of (seat_of a q.target q.unit) q.initiator) q.cdb q.sent).reply.status ≡ GOOD
         status = (λ i. (execution (sym (context_same a q) i) q.cdb q.sent).reply.status) ∙ good
 
-        all : length q.sent ≡ blocks_written (contents_of (unit_state_at a.units q.target q.unit)) q.cdb
-            * (contents_of (unit_state_at a.units q.target q.unit)).size
+        all : length q.sent ≡ taken_now (contents_of (unit_state_at a.units q.target q.unit)) q.cdb
         all = (sends s a q (obeys_fits s o) lines there own (writer_plain s q own w)).bytes status
 
 -- Its runs fit what it moves, and step by the blocks of its unit.
@@ -169,9 +186,10 @@ fits_runs s k q o e own w =
       fit = record {
         moved = λ blocks e some. moved_all s (array_of s k) q o lines own w some
             ∙ ap (λ (x : ℕ). x * size_of (unit_state_at (array_of s k).units q.target q.unit))
-            (same_Some (count_in (range_in (command_of q.cdb))) blocks (sym (blocks_named (command_of q.cdb) w) ∙ e));
+            (same_Some (count_in (range_in (command_of q.cdb))) blocks
+            (sym (blocks_named (command_of q.cdb) w) ∙ named_by q blocks e));
         most = policies_most s q.target o;
       };
-      step = ap (λ (x : ℕ). step_in (policy_for s q) (blocks_in (range_in (command_of q.cdb))) x)
+      step = ap (λ (x : ℕ). step_in (policy_for s q) (blocks_in (range_named q)) x)
           (size_is s (array_of s k) q.target q.unit lines);
     }

@@ -3,13 +3,13 @@ use Rattle.trace_laws.proofs
 use proofs.Names.{ℕ, ◌≡◌, ◌≤◌, ◌<◌, ◌+◌, ◌*◌, ◌/◌, Bool, true, false, ◌&&◌, ◌==◌, ◌∙◌, Option, Some, None, refl, sym}
 use proofs.Names.{ap, subst, arith, List, length, lt-div-mul-add, ltb-true, leb-true, ltb-false, eqb-true, nat_tests}
 use proofs.Names.{◌-◌, if◌then◌else◌, min, nat_lt, nat_le, zero_of, wrong', changes_phase, Row, Change, Connection}
-use proofs.Names.{command_of, unit_of, ScenarioValue, Policy, range_in, Process, unit_state_at, policy_of, run_at}
-use proofs.Names.{run_in, run_length, runs_in, runs_in_all, is_status_next, phase_of, phase_leaving, phase_entry}
-use proofs.Names.{disconnection, disconnect_messages, after_run, recovery, pointer_restoration, with_task, Leaving}
-use proofs.Names.{Next, Phase, Task, target_def_of, progress_in, RunState, array_of, bus_of, process_served, run_state}
-use proofs.Names.{leaving, serving_of, blocks_in, is_writing, reply_now, size_of, task_if, task_of, Writer, block_size}
+use proofs.Names.{unit_of, ScenarioValue, Policy, range_named, Process, unit_state_at, policy_of, run_at, run_in}
+use proofs.Names.{run_length, runs_in, runs_in_all, is_status_next, phase_of, phase_leaving, phase_entry, disconnection}
+use proofs.Names.{disconnect_messages, after_run, recovery, pointer_restoration, with_task, Leaving, Next, Phase, Task}
+use proofs.Names.{target_def_of, progress_in, RunState, array_of, bus_of, process_served, run_state, leaving}
+use proofs.Names.{serving_of, blocks_in, is_writing, reply_now, size_of, task_if, task_of, Writer, block_size}
 use proofs.Names.{is_data_out, is_writer, writer_of, writers, start_of_run, self_id, GoesOn, mul_assoc, by_bool}
-use proofs.Names.{writes_there, IsAnsweredWhole, MovesBlocks, RunsBlocks, HasSentAll, bytes_come}
+use proofs.Names.{writes_there, IsAnsweredWhole, RunsBlocks, HasSentAll, bytes_come, MovesInRuns, in_one, in_blocks}
 use proofs.{Runs.Facts.{task_here}, Writes.{Rows.{WriteRow, Around, around}, Written.{left_by, moved_all}}}
 
 -- ---- numbers
@@ -70,18 +70,23 @@ ends_all (Policy.Burst most) blocks size moved n h e l =
 ends_all (Policy.NoSave most) blocks size moved n h e l = part_all most blocks size moved n e l
 
 -- No run follows it.
-pub last_run : (policy : Policy) (t : Task) → MovesBlocks policy t
+pub last_run : (policy : Policy) (t : Task) → MovesInRuns policy t
     → (t.moved == 0) ≡ false → nat_lt (t.runs + 1) (runs_in_all policy t) ≡ false
     → t.moved ≤ (run_at policy t t.runs).start + run_length policy t
-last_run policy t f some e =
-    let all : runs_in policy (Some f.blocks) ≤ t.runs + 1 = subst
-    (λ (b : Option ℕ). runs_in policy b ≤ t.runs + 1) f.blocks_are (ltb-false (t.runs + 1) (runs_in policy t.blocks)
-    ((λ i. nat_lt (t.runs + 1) (if sym some i then 0 else runs_in policy t.blocks)) ∙ e)) in
-    let end : (run_at policy t t.runs).end ≡ t.moved =
-    ap (λ (b : Option ℕ). (run_in policy b t.size t.moved t.runs).end) f.blocks_are
-    ∙ ends_all policy f.blocks t.size t.moved t.runs f.runs f.moved all in
-    let rest = with_rest (run_at policy t t.runs).start (run_at policy t t.runs).end in
-    subst (λ (x : ℕ). x ≤ (run_at policy t t.runs).start + run_length policy t) end rest
+last_run policy t m some e = reaches (end m)
+  where
+    reaches : (run_at policy t t.runs).end ≡ t.moved → t.moved ≤ (run_at policy t t.runs).start + run_length policy t
+    reaches z = subst (λ (x : ℕ). x ≤ (run_at policy t t.runs).start + run_length policy t) z
+        (with_rest (run_at policy t t.runs).start (run_at policy t t.runs).end)
+
+    end : MovesInRuns policy t → (run_at policy t t.runs).end ≡ t.moved
+    end (in_one z) = ap (λ (b : Option ℕ). (run_in policy b t.size t.moved t.runs).end) z
+    end (in_blocks f) =
+        let all : runs_in policy (Some f.blocks) ≤ t.runs + 1 = subst
+        (λ (b : Option ℕ). runs_in policy b ≤ t.runs + 1) f.blocks_are (ltb-false (t.runs + 1) (runs_in policy t.blocks)
+        ((λ i. nat_lt (t.runs + 1) (if sym some i then 0 else runs_in policy t.blocks)) ∙ e)) in
+        ap (λ (b : Option ℕ). (run_in policy b t.size t.moved t.runs).end) f.blocks_are
+        ∙ ends_all policy f.blocks t.size t.moved t.runs f.runs f.moved all
 
 -- Where a run begins does not hang on how much is moved.
 pub start_same : (policy : Policy) (blocks : Option ℕ) (size moved other n : ℕ)
@@ -108,7 +113,7 @@ pub whole_run : (s : ScenarioValue) (p : List Row) (row : Row) (n : Connection) 
     → (run_state s p).exchange.begun ≡ true → phase_of (bus_of (run_state s p)) ≡ Phase.DataOut
     → (run_state s p).exchange.plan.struck ≡ false → (leaving s (run_state s p) n.target).to ≡ Some Phase.Status
     → process_served s (run_state s p) ≡ Some q → q.target ≡ n.target
-    → MovesBlocks (policy_of (target_def_of s q.target)) (task_here s (run_state s p) q)
+    → MovesInRuns (policy_of (target_def_of s q.target)) (task_here s (run_state s p) q)
     → HasSentAll s (run_state s p) (writers s p) q
 whole_run s p row n c q w g ep b phase unstruck to served target blocks = record {
   writes = writes;
@@ -152,11 +157,10 @@ whole_run s p row n c q w g ep b phase unstruck to served target blocks = record
     all = moved_all q (reply_now (array_of s k) q) writes answered.moves
 
     start : (run_at policy t t.runs).start ≡ start_of_run s q (progress_in k.progress q.id).runs
-    start = ap (λ (size : ℕ). (run_in policy (blocks_in (range_in (command_of q.cdb))) size t.moved t.runs).start)
+    start = ap (λ (size : ℕ). (run_in policy (blocks_in (range_named q)) size t.moved t.runs).start)
         (eqb-true (size_of (unit_state_at (array_of s k).units q.target q.unit))
         (block_size (unit_of s q.target q.unit)) (w.asked.sizes q served))
-        ∙ start_same policy (blocks_in (range_in (command_of q.cdb)))
-        (block_size (unit_of s q.target q.unit)) t.moved 0 t.runs
+        ∙ start_same policy (blocks_in (range_named q)) (block_size (unit_of s q.target q.unit)) t.moved 0 t.runs
 
     come : bytes_come s k q ≡ start_of_run s q (progress_in k.progress q.id).runs + k.handshakes.answers
     come = λ i. start_of_run s q (progress_in k.progress q.id).runs

@@ -4,14 +4,14 @@ use Rattle.trace_laws.proofs
 use proofs.Names.{inl, inr, ℕ, ◌≡◌, ◌⊎◌, ◌≤◌, ◌+◌, ◌*◌, Bool, true, false, not, ◌&&◌, ◌==◌, ◌∙◌, List, ◌∷◌, Option}
 use proofs.Names.{Some, None, refl, sym, ap, subst, arith, nat_tests, ◌-◌, if◌then◌else◌, min, nat_le, nat_lt, wrong}
 use proofs.Names.{wrong', eq_self, zero_of, change_of, LineSet, changes_phase, is_data, connection, bus, Row}
-use proofs.Names.{Connection, command_of, unit_of, ScenarioValue, Obeys, Policy, UnitDef, array_after, count_in}
-use proofs.Names.{range_in, Process, UnitState, guest_at, unit_state_at, policy_of, run_at, run_in, run_length, begun}
-use proofs.Names.{phase_of, run_length_if, Phase, Task, target_def_of, progress_in, IsPrompt, RunState, array_of}
-use proofs.Names.{or_start, bus_of, carried_here, process_served, run_state, is_writing, reply_now, size_of, task_if}
-use proofs.Names.{task_of, task_with, block_size, is_data_out, AreOfLines, IsOfLine, process_own, by_bool, zero_times}
-use proofs.Names.{no_guest, Stood, is_directed, writes_of, IsAtRest, IsOutside, PlaceFacts, PlacedIf, RunsOpen}
-use proofs.{Names.{IsAnsweredWhole, WritesAsked, DataFacts, ResetFacts}, Heard.Places.{places_heard}}
-use proofs.Runs.{Asks.{answers_all}, Facts.{write_no_sense}, Fits.{FitsRuns, blocks_named, fits_runs, lines_now}}
+use proofs.Names.{Connection, command_of, unit_of, ScenarioValue, Obeys, Policy, UnitDef, write_needs, array_after}
+use proofs.Names.{Process, UnitState, guest_at, unit_state_at, policy_of, run_at, run_in, run_length, begun, phase_of}
+use proofs.Names.{run_length_if, Phase, Task, target_def_of, progress_in, IsPrompt, RunState, array_of, or_start}
+use proofs.Names.{bus_of, carried_here, process_served, run_state, is_writing, reply_now, size_of, task_if, task_of}
+use proofs.Names.{task_with, moved_count, block_size, is_data_out, AreOfLines, IsOfLine, by_bool, no_guest, Stood}
+use proofs.Names.{is_directed, writes_of, IsAtRest, IsOutside, PlaceFacts, PlacedIf, RunsOpen, IsAnsweredWhole}
+use proofs.{Names.{WritesAsked, DataFacts, ResetFacts}, Heard.Places.{places_heard}, Runs.Asks.{answers_all}}
+use proofs.Runs.{Facts.{write_no_sense}, Fits.{lines_now, absent_moves}}
 
 -- ---- the size of a block
 
@@ -51,9 +51,6 @@ moves_some policy t h = by_bool (t.moved == 0) (λ e. let none : (run_at policy 
     absurd (none_left (run_at policy t t.runs).end (run_at policy t t.runs).start none h)) (λ e. e)
 
 -- ---- a process that writes
-
-zero_size : (n moved size : ℕ) → size ≡ 0 → moved ≡ n * size → moved ≡ 0
-zero_size n moved size z e = e ∙ ap (λ (x : ℕ). n * x) z ∙ zero_times n
 
 at_least : (a b : ℕ) → a ≡ b → nat_le b a ≡ true
 at_least a b e = grind (arith, nat_tests, e)
@@ -144,15 +141,10 @@ write_premises s p row o prompt was h facts resets = record {
         some : (t.moved == 0) ≡ false
         some = moves_some (policy_of (target_def_of s n.target)) t (counted n t con calm b phase (task_is q served))
 
-        fits : FitsRuns s k q t
-        fits = fits_runs s k q o plays (process_own s k.served q served) w
-
         by_outside : IsOutside h.array q → guest_at h.array.guests q.id ≡ None
         by_outside (inl none) =
-            let size : t.size ≡ 0 = (λ i. size_of (unit_state_at (or_start s (h.array_is i)).units q.target q.unit))
-            ∙ ap size_of none in
-            let zero : t.moved ≡ 0 = zero_size (count_in (range_in (command_of q.cdb))) t.moved t.size size
-            (fits.fit.moved (count_in (range_in (command_of q.cdb))) (blocks_named (command_of q.cdb) w) some) in
+            let zero : t.moved ≡ 0 = (λ i. moved_count q (reply_now (or_start s (h.array_is i)) q))
+            ∙ absent_moves h.array q none (write_needs q.cdb w) in
             wrong (sym (ap (λ (x : ℕ). x == 0) zero) ∙ some)
         by_outside (inr sense) = wrong' (sym (write_no_sense (command_of q.cdb) w) ∙ sense)
 

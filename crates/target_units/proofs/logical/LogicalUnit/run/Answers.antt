@@ -1,7 +1,7 @@
 use Rattle.std.proofs.Common.{ℕ, ◌∙◌, ◌≤◌, ◌+◌, subst, sym}
 use Rattle.array_model.specs.Seats.{contents_of, running_at}
 use Rattle.array_model.specs.Units.{guest_at}
-use Rattle.disk_unit.specs.Disk.{blocks_written}
+use Rattle.disk_unit.specs.Disk.{cost_by, kind_of}
 use Rattle.target_units.specs.Rooms.{HasRoomFor}
 use Rattle.std.specs.Prelude.{is_some}
 use Rattle.target_units.specs.declared.logical.LogicalUnit.{LogicalUnit}
@@ -17,7 +17,7 @@ returns-in-There-clause-seat c = λ hosts seat after time p h same none running 
     (subst (λ (u : LogicalUnit). HasRoomFor seat p (spare_of u)) c.in-There.is room) e in (
       x.0,
       x.1,
-      subst (λ (n : ℕ). n ≤ c.run.new.self.spare + blocks_written (contents_of seat.unit) p.cdb)
+      subst (λ (n : ℕ). n ≤ c.run.new.self.spare + cost_by (kind_of (contents_of seat.unit)) p.cdb)
           (λ i. spare_of (sym c.in-There.is i)) x.2,
     )
 

@@ -1,6 +1,6 @@
 use Rattle.std.proofs.Common.{ℕ, ◌∙◌, ◌≤◌, ◌+◌, subst, sym}
 use Rattle.array_model.specs.Seats.{contents_of}
-use Rattle.disk_unit.specs.Disk.{blocks_written}
+use Rattle.disk_unit.specs.Disk.{cost_by, kind_of}
 use Rattle.target_units.specs.Seated.{settled}
 use Rattle.target_units.proofs.SeatSteps.{by_state, runs, guest_runs}
 use Rattle.target_units.proofs.seated.SeatedUnit.run.Goals as goal
@@ -12,7 +12,7 @@ returns-clause-seat c = λ hosts seat after time p h same none running sending r
       by_state hosts seat after time c.args.now _ _ (c.settle.ensures
           ∙ (λ i. settled (c.current_process-before.ensures i) c.args.now c.run_live-reply.new.self)) x.0,
       x.1,
-      subst (λ (n : ℕ). c.args.self.now.spare ≤ n + blocks_written (contents_of seat.unit) p.cdb)
+      subst (λ (n : ℕ). c.args.self.now.spare ≤ n + cost_by (kind_of (contents_of seat.unit)) p.cdb)
           (λ i. (sym c.settle.ensures i).spare) x.2,
     )
 
