@@ -9,7 +9,7 @@ pub use std_proofs.lemmas.{Nat.{div_below}, Option.{none-some, same_Some}}
 use Rattle.std.specs as std
 pub use std.{Int.Bits.{or_zero_r}, List.{AllByRecursion, find, list_any, sum_by}, Prelude.{drop, if◌then◌else◌}}
 pub use std.Prelude.{is_none, is_some, min, nat_le, nat_lt, not, slice_index, slice_index_or, slice_set, ⊤, ◌%◌, ◌*◌}
-pub use std.Prelude.{◌++◌, ◌+◌, ◌-◌, ◌/◌, ◌==◌, ◌^◌, ◌||◌, ◌×◌}
+pub use std.Prelude.{◌++◌, ◌+◌, ◌-◌, ◌/◌, ◌==◌, ◌^◌, ◌||◌}
 use Rattle.due_model.specs.bus_base.proofs as bus_base_proofs
 pub use bus_base_proofs.Tests.{and_false, and_first, and_second, and_true, eq_self, next_some, none_between}
 pub use bus_base_proofs.Tests.{none_number, not_first, plus_none, wrong, wrong'}

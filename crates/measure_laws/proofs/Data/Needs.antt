@@ -3,7 +3,7 @@
 use Rattle.measure_laws.proofs
 use proofs.Names.{ℕ, ◌≡◌, ◌<◌, ◌∙◌, Bool, true, false, ◌&&◌, List, [], ◌∷◌, Option, Some, None, Result, Ok, Err, refl}
 use proofs.Names.{sym, ap, arith, and_parts, same_Some, find, list_any, ◌+◌, ◌*◌, ◌||◌, ◌==◌, if◌then◌else◌, is_some}
-use proofs.Names.{nat_le, nat_lt, ◌×◌, wrong', blocks_moved, command_of, CdbFault, Command, GOOD, has_target, unit_of}
+use proofs.Names.{nat_le, nat_lt, wrong', blocks_moved, command_of, CdbFault, Command, GOOD, has_target, unit_of}
 use proofs.Names.{moved_by, need_of, ScenarioValue, Obeys, CmdDef, Policy, TargetDef, UnitDef, good_range, at_disk}
 use proofs.Names.{is_disk, array_after, Contents, execution, is_good_range, range_of, range_in, range_named, Process}
 use proofs.Names.{command_process, process_by, process_if, process_of, sense_process, command_at, context_at, Array}
