@@ -1,6 +1,6 @@
 -- A process that runs, and ends GOOD, has sent what its target has gathered of it.
-use Rattle.std.proofs.Common.{ℕ, ◌≡◌, ◌≤◌, ◌+◌, ◌-◌, ◌*◌, ◌^◌, ◌∙◌, ◌==◌, arith, Bool, true, false, List, [], ◌∷◌, refl}
-use Rattle.std.proofs.Common.{sym, length, take, Option, Some, None, ◌⊎◌, inl, inr}
+use Rattle.std.proofs.Common.{ℕ, ◌≡◌, ◌≤◌, ◌+◌, ◌-◌, ◌∙◌, ◌==◌, arith, Bool, true, false, List, [], ◌∷◌, refl, sym}
+use Rattle.std.proofs.Common.{length, take, Some, ◌⊎◌, inl, inr}
 use Rattle.std.specs.Prelude.{if◌then◌else◌, not, ◌&&◌, min, nat_le}
 use Rattle.std.proofs.lemmas.Bool.{and_parts, eqb-true, leb-true}
 use Rattle.std.proofs.lemmas.List.{take_all, length-take}
@@ -13,54 +13,24 @@ use Rattle.cdb_codec.specs.declared.status.TheConstants.{GOOD}
 use Rattle.scenario.specs.Needs.{is_write}
 use Rattle.scenario.specs.Value.{ScenarioValue}
 use Rattle.array_model.specs.Processes.{Process, process_of}
-use Rattle.array_model.specs.Units.{Array, unit_state_at}
 use Rattle.due_model.specs.dialogue_model.specs.NextPhase.{phase_of}
 use Rattle.due_model.specs.LastingState.{progress_in}
 use Rattle.due_model.specs.RunState.{RunState, array_of, bus_of, process_served}
 use Rattle.due_model.specs.RunSteps.{run_state}
-use Rattle.due_model.specs.Tasks.{is_writing, reply_now, size_of}
+use Rattle.due_model.specs.Tasks.{is_writing, reply_now}
 use Rattle.target_course.specs.scsi_device.specs.Writes.{is_data_out, is_writer, writer_of, writers, start_of_run}
-use Rattle.target_course.specs.scsi_device.specs.Lines.{FitsBus}
-use Rattle.scenario.specs.Lookups.{has_target}
-use Rattle.array_model.specs.Order.{count_in, range_in}
 use Rattle.array_model.proofs.SeatReplies.{id_self}
-use Rattle.due_model.specs.Tasks.{blocks_in}
-use Rattle.target_course.specs.target_units.specs.Rooms.{AreOfLines}
 use Rattle.target_course.specs.target_units.specs.Seated.{is_same_process}
-use Rattle.target_course.specs.scsi_device.proofs.SentBytes.{process_few}
-use Rattle.target_course.specs.target_units.proofs.Sendings.{named}
 use Rattle.target_course.specs.Gathered.{GatheredValue, Gathering, IsGatheredOf, AreAllGathered, bytes_of, gathering_at}
 use Rattle.target_course.specs.Courses.{CourseState}
 use Rattle.target_course.specs.States.{IsOwnConnection}
 use Rattle.target_course.proofs.CourseAgrees.{either}
 use Rattle.target_course.proofs.GatheredRows.{bytes_sent}
 use Rattle.disk_target.specs.Attended.{received_count, ends_good, is_whole_of, is_whole_run}
-use Rattle.disk_target.specs.Bytes.{count_if, taken_by}
 use Rattle.disk_target.specs.Turns.{count_sent}
 use Rattle.disk_target.specs.declared.turn.Turn.{Turn}
 use Rattle.bus_base.proofs.Tests.{or_second, nil_of}
 use Rattle.target_course.proofs.GatheredSteps.{is_writer_is, data_out_is}
-
--- ---- how many bytes
-
-few : (x n : ℕ) → x ≡ n → n ≤ 65536 → min x (2 ^ 32 - 1) ≡ n
-few x n e h = omega (arith, e, h)
-
-block_count : (x : Option (ℕ × ℕ)) → count_if (blocks_in x) ≡ count_in x
-block_count None = refl
-block_count (Some range) = refl
-
--- A write that would end GOOD sends the blocks that it names.
-pub sends_as_named : (s : ScenarioValue) (a : Array) (p : Process) → FitsBus s
-    → AreOfLines s a → has_target s p.target ≡ true → process_of s p.id ≡ Some p
-    → is_writing p ≡ true → ((reply_now a p).status == GOOD) ≡ true
-    → taken_by p.cdb (size_of (unit_state_at a.units p.target p.unit)) ≡ length p.sent
-sends_as_named s a p fits lines target is writes good =
-    let size : ℕ = size_of (unit_state_at a.units p.target p.unit) in
-    few (count_if (blocks_in (range_in (command_of p.cdb))) * size)
-    (length p.sent) ((λ i. block_count (range_in (command_of p.cdb)) i * size)
-    ∙ named s a p fits lines target is writes (eqb-true (reply_now a p).status GOOD good))
-    (process_few s p.id p fits is)
 
 -- ---- which bytes
 
@@ -122,17 +92,15 @@ whole_taken s v p n g at owned process small most = (λ i. bytes_of (gathering_a
 
 -- As it runs.
 pub all_sent : (s : ScenarioValue) (rows : List Row) (v : GatheredValue) (p : Process) (n : Connection)
-    (c : CourseState) (t : Turn) (unit : ℕ) → FitsBus s → AreOfLines s (array_of s (run_state s rows))
-    → has_target s p.target ≡ true → IsGatheredOf s v → AreAllGathered s rows v → IsOwnConnection rows v.dev n
+    (c : CourseState) (t : Turn) (unit : ℕ) → IsGatheredOf s v → AreAllGathered s rows v → IsOwnConnection rows v.dev n
     → (bus rows).rst ≡ false → (run_state s rows).exchange.begun ≡ true → process_served s (run_state s rows) ≡ Some p
     → process_of s p.id ≡ Some p → p.target ≡ v.dev → p.unit ≤ 7 → unit ≡ p.unit → c.id ≡ p.id → c.block ≡ p.cdb
-    → t.plan.out_len ≡ taken_by c.block (size_of (unit_state_at (array_of s (run_state s rows)).units p.target p.unit))
-    → is_whole_run s (run_state s rows) (writers s rows) (Some p) ≡ true
+    → (is_writing p ≡ true → ((reply_now (array_of s (run_state s rows)) p).status == GOOD) ≡ true
+    → t.plan.out_len ≡ length p.sent) → is_whole_run s (run_state s rows) (writers s rows) (Some p) ≡ true
     → (reply_now (array_of s (run_state s rows)) p).status ≡ GOOD
     → bytes_of (gathering_at v.units unit) c.id (count_sent t c) ≡ p.sent
-all_sent s rows v p n c t unit fits lines target g all own calm begins is process at small unit_is
-    id block taken whole status = (λ i. bytes_of (gathering_at v.units unit) (id i) (count_sent t c))
-    ∙ go (either (length p.sent == 0) (is_writing p
+all_sent s rows v p n c t unit g all own calm begins is process at small unit_is id block taken whole status =
+    (λ i. bytes_of (gathering_at v.units unit) (id i) (count_sent t c)) ∙ go (either (length p.sent == 0) (is_writing p
     && (is_writer (writer_of (writers s rows) p.target p.unit) p.id && nat_le (length p.sent) (received_count s k p)))
     ran)
   where
@@ -149,11 +117,7 @@ all_sent s rows v p n c t unit fits lines target g all own calm begins is proces
     writes = λ i. is_write (command_of (block i))
 
     count : is_writing p ≡ true → count_sent t c ≡ length p.sent
-    count w =
-        (λ i. if (writes ∙ w) i then t.plan.out_len else 0)
-        ∙ taken
-        ∙ (λ i. taken_by (block i) (size_of (unit_state_at (array_of s k).units p.target p.unit)))
-        ∙ sends_as_named s (array_of s k) p fits lines target process w good
+    count w = (λ i. if (writes ∙ w) i then t.plan.out_len else 0) ∙ taken w good
 
     zero_count : (y : Bool) → is_writing p ≡ y → length p.sent ≡ 0 → count_sent t c ≡ 0
     zero_count true w e = count w ∙ e

@@ -1,16 +1,13 @@
 -- What a target decides by in a connection of its own, with the bytes that its process gives.
-use Rattle.std.specs.Prelude.{ℕ, ◌≡◌, ◌==◌, ◌*◌, ◌-◌, ◌^◌, min, if◌then◌else◌, ◌&&◌, not, Bool, true, false, List, ◌∷◌}
-use Rattle.std.specs.Prelude.{Option, Some, None}
+use Rattle.std.specs.Prelude.{ℕ, ◌≡◌, ◌==◌, if◌then◌else◌, ◌&&◌, not, Bool, true, false, List, ◌∷◌, Option, Some, None}
 use Rattle.bus_trace.specs.declared.Row.{Row}
 use Rattle.bus_trace.specs.declared.changes.Change.{Change}
 use Rattle.bus_trace.specs.declared.connection.Connection.{Connection}
 use Rattle.bus_trace.specs.Terms.{connection}
 use Rattle.bus_trace.specs.Trace.{bus}
 use Rattle.bus_lines.specs.Handshakes.{handshakes}
-use Rattle.cdb_codec.specs.Cdb.{command_of}
 use Rattle.scenario.specs.declared.value.TargetDef.{TargetDef}
 use Rattle.scenario.specs.Value.{ScenarioValue}
-use Rattle.array_model.specs.Order.{range_in}
 use Rattle.disk_unit.specs.declared.unit.Reply.{Reply}
 use Rattle.due_model.specs.dialogue_model.specs.declared.exchange.Next.{Next}
 use Rattle.due_model.specs.dialogue_model.specs.declared.exchange.Phase.{Phase}
@@ -19,7 +16,6 @@ use Rattle.due_model.specs.dialogue_model.specs.Hearing.{begun}
 use Rattle.due_model.specs.dialogue_model.specs.NextPhase.{leaving_by}
 use Rattle.due_model.specs.RunSteps.{run_state}
 use Rattle.due_model.specs.Sights.{serving_of}
-use Rattle.due_model.specs.Tasks.{blocks_in}
 use Rattle.target_course.specs.scsi_device.specs.Heard.{goes_on}
 use Rattle.target_course.specs.Servings.{serving_with, AreBytesOf}
 use Rattle.target_course.specs.States.{AreAlikeIn, IsOwnConnection, offering_in}
@@ -30,18 +26,6 @@ use Rattle.target_course.specs.declared.serving.Serving.{Serving}
 abbrev pub status_in : Option Reply → Option ℕ
 status_in None = None
 status_in (Some reply) = Some reply.status
-
--- ---- how many bytes a write takes: the blocks that it names
-
-abbrev pub count_if : Option ℕ → ℕ
-count_if None = 0
-count_if (Some count) = count
-
-abbrev pub blocks_of : List ℕ → ℕ
-blocks_of cdb = count_if (blocks_in (range_in (command_of cdb)))
-
-abbrev pub taken_by : List ℕ → ℕ → ℕ
-taken_by cdb size = min (blocks_of cdb * size) (2 ^ 32 - 1)
 
 -- ---- the bytes that the process gives are driven in DATA IN, and as the messages are over after which it goes on
 

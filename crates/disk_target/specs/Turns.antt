@@ -12,14 +12,13 @@ use Rattle.scenario.specs.declared.value.TargetDef.{TargetDef}
 use Rattle.scenario.specs.Needs.{is_write}
 use Rattle.scenario.specs.Value.{ScenarioValue}
 use Rattle.array_model.specs.Processes.{Process}
-use Rattle.array_model.specs.Units.{unit_state_at}
 use Rattle.due_model.specs.dialogue_model.specs.declared.exchange.Hearing.{Hearing}
 use Rattle.due_model.specs.dialogue_model.specs.Hearing.{begun, hearing}
 use Rattle.due_model.specs.dialogue_model.specs.NextPhase.{leaving_by, phase_of}
 use Rattle.due_model.specs.Plain.{AreOfDevices}
-use Rattle.due_model.specs.RunState.{array_of, process_served}
+use Rattle.due_model.specs.RunState.{process_served}
 use Rattle.due_model.specs.RunSteps.{run_state, events_of_row}
-use Rattle.due_model.specs.Tasks.{given_of, size_of}
+use Rattle.due_model.specs.Tasks.{given_of}
 use Rattle.target_course.specs.scsi_device.specs.Heard.{is_opening_in}
 use Rattle.target_course.specs.Courses.{CourseState, events_of_target, name_of, serving_by, AreToldOf}
 use Rattle.target_course.specs.scsi_device.specs.Lines.{FitsBus, IsTargetLine}
@@ -34,7 +33,6 @@ use Rattle.target_course.specs.declared.course.ProcessState.{ProcessState}
 use Rattle.disk_target.specs.declared.turn.Abort.{Abort}
 use Rattle.disk_target.specs.declared.turn.Sent.{Sent}
 use Rattle.disk_target.specs.declared.turn.Turn.{Turn}
-use Rattle.disk_target.specs.Bytes.{taken_by}
 use Rattle.disk_target.specs.Processes.{ProcessesState, AreKeptOf}
 use Rattle.disk_target.specs.Targets.{AreTied, IsCourseIf, IsStandingOf}
 
@@ -92,8 +90,7 @@ pub record IsTurnIn (s : ScenarioValue) (rows : List Row) (row : Row) (d : Targe
   pub from_is : t.from ≡ n.initiator
   pub unit_is : (p : Process) → process_served s (run_state s rows) ≡ Some p → c.named ≡ Some (name_of p)
       → t.unit ≡ p.unit
-  pub taken : (p : Process) → process_served s (run_state s rows) ≡ Some p → c.named ≡ Some (name_of p) → t.plan.out_len
-      ≡ taken_by c.block (size_of (unit_state_at (array_of s (run_state s rows)).units p.target p.unit))
+  pub plan_is : t.plan ≡ state.plan
 
 abbrev pub IsTurnIf : ScenarioValue → List Row → Row → TargetDef → Option CourseState → Turn → Type 0
 IsTurnIf s rows row d None t = (n : Connection) → IsOwnConnection rows d.dev n → (bus rows).rst ≡ true

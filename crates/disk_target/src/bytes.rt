@@ -1,5 +1,5 @@
 //! What a target decides by, and the bytes that its process gives.
-ghost use Rattle.std.specs.Prelude.{◌≡◌, ◌<◌, ◌*◌, ◌-◌, ◌^◌, ◌&&◌, min, ◌∷◌, true, List, Some};
+ghost use Rattle.std.specs.Prelude.{◌≡◌, ◌<◌, ◌&&◌, ◌∷◌, true, List, Some};
 ghost use Rattle.bus_trace.specs.declared.Row.{Row};
 ghost use Rattle.bus_trace.specs.Terms.{connection};
 ghost use Rattle.bus_trace.specs.Trace.{bus};
@@ -10,12 +10,11 @@ ghost use Rattle.due_model.specs.dialogue_model.specs.Observer.{IsObserverOf};
 ghost use Rattle.target_course.specs.Courses.{name_of};
 ghost use Rattle.target_course.specs.States.{IsReadyWithin};
 ghost use Rattle.target_course.specs.declared.course.Name.{Name as NameValue};
-ghost use Rattle.disk_target.specs.Bytes.{status_in, blocks_of, taken_by, gives_data, own_in, are_own, IsOwnIf, IsOthersIf, StandsInOwn};
+ghost use Rattle.disk_target.specs.Bytes.{status_in, gives_data, own_in, are_own, IsOwnIf, IsOthersIf, StandsInOwn};
 
 use bus_base::Dev;
 use bus_lines::BusView;
 use bus_trace::{Change, Connection};
-use cdb_codec::{Command, blocks_moved, from_cdb};
 use disk_unit::Reply;
 use due_model::the_dialogue_model::{Next, Observer, Phase};
 use target_course::the_target_units::Ready;
@@ -37,32 +36,6 @@ pub fn status_in(reply: Option<Reply>) -> Option<u8>
     match reply {
         None => None,
         Some(reply) => Some(reply.status),
-    }
-}
-
-fn blocks_of(cdb: &[u8]) -> u32
-    ensures { result ≡ blocks_of cdb.now }
-{
-    match from_cdb(cdb) {
-        Ok(
-            command @ (Command::Read6 { lba: _, count: _ }
-            | Command::Write6 { lba: _, count: _ }
-            | Command::Read10 { lba: _, count: _ }
-            | Command::Write10 { lba: _, count: _ }),
-        ) => blocks_moved(&command),
-        _ => 0,
-    }
-}
-
-/// How many bytes have the blocks that a command names; those that a write takes (ANSI X3.131-1994, 9.2).
-pub fn taken_by(cdb: &[u8], size: u64) -> u32
-    ensures { result ≡ taken_by cdb.now size }
-{
-    let bytes = u64::from(blocks_of(cdb)).saturating_mul(size);
-    if bytes < 0xffff_ffff {
-        bytes as u32
-    } else {
-        0xffff_ffff
     }
 }
 

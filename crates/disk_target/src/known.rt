@@ -1,28 +1,24 @@
 //! What a target decides by in a connection of its own.
 ghost use Rattle.std.specs.Prelude.{ℕ, ◌≡◌, ◌<◌, ◌==◌, ◌^◌, true, false, List, [], length, Option, Some, None};
 ghost use Rattle.bus_trace.specs.declared.Row.{Row};
-ghost use Rattle.cdb_codec.specs.declared.status.TheConstants.{GOOD};
 ghost use Rattle.scenario.specs.Value.{ScenarioValue};
 ghost use Rattle.array_model.specs.ArrayHistory.{reply_in};
 ghost use Rattle.array_model.specs.Processes.{Process, process_of};
 ghost use Rattle.array_model.specs.Seats.{is_initiator};
-ghost use Rattle.array_model.specs.Units.{unit_state_at};
 ghost use Rattle.due_model.specs.RunState.{array_of};
 ghost use Rattle.due_model.specs.RunSteps.{run_state};
-ghost use Rattle.due_model.specs.Tasks.{size_of, reply_now, is_writing};
 ghost use Rattle.target_course.specs.Courses.{IsStateOf, IsOutlookOf};
 ghost use Rattle.target_course.specs.Progress.{is_phase_left};
 ghost use Rattle.target_course.specs.Shown.{shown_list};
 ghost use Rattle.target_course.specs.target_units.specs.Seated.{reply_told};
 ghost use Rattle.target_course.specs.target_units.specs.Units.{reply_at, unit_in};
-ghost use Rattle.disk_target.specs.Bytes.{taken_by};
 ghost use Rattle.disk_target.specs.Knowns.{AreSourcesOf, IsKnownBy, IsKnownIf, IsQuiet, IsStill, hears_message, knows_command, refreshed};
 
-use crate::bytes::{status_in, taken_by, unit_named};
+use crate::bytes::{status_in, unit_named};
 use crate::turn::Turn;
 use bus_base::{Dev, Event};
 use bus_trace::{Connection, changes_phase, is_message_out};
-use disk_unit::{Plan, Reply};
+use disk_unit::Reply;
 use due_model::the_dialogue_model::Hearing;
 use scenario::TargetDef;
 use target_course::the_scsi_device::scenarios_fit_the_bus;
@@ -64,13 +60,8 @@ fn state_of(
     ensures outlook { (s : ScenarioValue) (rows : List Row) (d : TargetDef) (p : Process)
         → AreSourcesOf s rows d units.now progress.now
         → is_initiator s.hosts from ≡ true → p.target ≡ d.dev → p.unit ≡ unit → p.initiator ≡ from
-        → p.cdb ≡ course.now.block
-        → (is_writing p ≡ true → ((reply_now (array_of s (run_state s rows)) p).status == GOOD) ≡ true
-        → taken_by p.cdb (size_of (unit_state_at (array_of s (run_state s rows)).units p.target p.unit))
-        ≡ length p.sent)
-        → IsOutlookOf s (run_state s rows) p result }
+        → p.cdb ≡ course.now.block → process_of s p.id ≡ Some p → IsOutlookOf s (run_state s rows) p result }
     ensures count { result.plan.in_len ≡ length (reply_at (unit_in units.now.units unit) from course.now.block).bytes }
-    ensures taken { result.plan.out_len ≡ taken_by course.now.block result.size }
 {
     let counts = progress.counts(course.id());
     let size = units.block_size(unit) as u64;
@@ -81,10 +72,7 @@ fn state_of(
         recoveries: counts.recoveries,
         size,
         room: units.room(unit),
-        plan: Plan {
-            out_len: taken_by(course.block(), size),
-            ..plan
-        },
+        plan,
         reply: status_in(reply),
     }
 }

@@ -57,6 +57,7 @@ use Rattle.disk_unit.specs.Units
 use Rattle.disk_unit.specs.declared.unit.Accepted.TheVariants as accepted
 use Rattle.disk_unit.proofs.AtSeats as seats
 use Rattle.target_units.proofs.LiveQueue as queue
+use Rattle.target_units.proofs.Tellings.{reported_bad}
 
 some_none : {A : Type 0} {X : Type 0} (x : A) → None ≡ Some x → X
 some_none x e = cc
@@ -813,13 +814,6 @@ run_reply r p reply kept e h =
 record MayRun (seat : Seat) (v : SeatedState) (key : ℕ) (p : Process) (sent : List ℕ) : Type 0 where
   can : can_run v key (length sent) ≡ true
   sends : HasSent seat p (take (taken_at v key) sent)
-
-reported_bad : (attention : Option Sense) (cdb : List ℕ) (reply : Reply) → is_reported attention cdb ≡ true
-    → (reply_with attention cdb reply).status ≡ GOOD → ⊥
-reported_bad None cdb reply f e = cc
-reported_bad (Some a) cdb reply f e =
-    let bad : CHECK_CONDITION ≡ GOOD = (λ i. (if sym f i then check_condition a else reply).status) ∙ e in
-    omega (arith, bad)
 
 may_run : (hosts : List HostDef) (seat : Seat) (time : ℕ) (v : SeatedState) (p : Process) (key : ℕ) (sent : List ℕ)
     (h : IsAtSeat hosts seat time v) → process_under h.0 key ≡ Some p → queue.IsQueued hosts seat.guests p

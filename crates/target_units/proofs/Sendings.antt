@@ -16,10 +16,10 @@ use Rattle.array_model.specs.Processes.{Process, process_of}
 use Rattle.array_model.specs.Seats.{seat_of, contents_of, context_of}
 use Rattle.array_model.specs.Units.{Array, UnitState, unit_state_at}
 use Rattle.due_model.specs.Tasks.{reply_now, size_of}
-use Rattle.disk_unit.specs.Disk.{blocks_written, written_of}
+use Rattle.disk_unit.specs.Disk.{blocks_written, taken_now, written_of}
 use Rattle.scsi_device.specs.Lines.{FitsBus}
 use Rattle.target_units.specs.Rooms.{AreOfLines}
-use Rattle.target_units.proofs.Rooms.{plain_id, Sends, sends}
+use Rattle.target_units.proofs.Rooms.{plain_id, sends}
 use Rattle.array_model.proofs.ExecutionFacts.{good_range}
 use Rattle.target_units.proofs.UnitTellings.{reply_same}
 use Rattle.cdb_codec.specs.declared.command.Command.TheVariants as commands
@@ -47,14 +47,23 @@ written_named c (Err fault) k good = cc
 written_named c (Ok command) k good =
     (λ i. if good command refl i then written_of command else 0) ∙ (λ i. if k i then count_in (range_of command) else 0)
 
+-- It sends the bytes that it takes.
+pub taken_sent : (s : ScenarioValue) (a : Array) (p : Process) → FitsBus s
+    → AreOfLines s a → has_target s p.target ≡ true → process_of s p.id ≡ Some p
+    → is_write (command_of p.cdb) ≡ true → (reply_now a p).status ≡ GOOD
+    → taken_now (contents_of (unit_state_at a.units p.target p.unit)) p.cdb ≡ length p.sent
+taken_sent s a p fits lines target is writes good =
+    sym ((sends s a p fits lines target is (write_id s p is writes)).bytes
+    ((λ i. (reply_same a p.target p.unit p.initiator p.cdb p refl refl refl refl i).status) ∙ good))
+
 pub named : (s : ScenarioValue) (a : Array) (p : Process) → FitsBus s → AreOfLines s a → has_target s p.target ≡ true
     → process_of s p.id ≡ Some p → is_write (command_of p.cdb) ≡ true → (reply_now a p).status ≡ GOOD
     → count_in (range_in (command_of p.cdb)) * size_of (unit_state_at a.units p.target p.unit) ≡ length p.sent
 named s a p fits lines target is writes good =
     go (unit_state_at a.units p.target p.unit) refl
   where
-    all : Sends a p
-    all = sends s a p fits lines target is (write_id s p is writes)
+    all : taken_now (contents_of (unit_state_at a.units p.target p.unit)) p.cdb ≡ length p.sent
+    all = taken_sent s a p fits lines target is writes good
 
     status : (execution (context_of (seat_of a p.target p.unit) p.initiator) p.cdb p.sent).reply.status ≡ GOOD
     status = (λ i. (reply_same a p.target p.unit p.initiator p.cdb p refl refl refl refl i).status) ∙ good
@@ -66,7 +75,7 @@ named s a p fits lines target is writes good =
         (contents_of (unit_state_at a.units p.target p.unit)).count (command_of p.cdb) in
         let count : ℕ = count_in (range_in (command_of p.cdb)) in
         let nothing : count * 0 ≡ blocks * 0 = omega arith in
-        (λ i. count * size_of (f i)) ∙ nothing ∙ (λ i. blocks * (contents_of (sym f i)).size) ∙ sym (all.bytes status)
+        (λ i. count * size_of (f i)) ∙ nothing ∙ (λ i. blocks * (contents_of (sym f i)).size) ∙ all
     go (Some v) f =
         let there : is_some (unit_state_at a.units p.target p.unit) ≡ true = λ i. is_some (f i) in
         let count : blocks_written (contents_of (unit_state_at a.units p.target p.unit)).count (command_of p.cdb)
@@ -75,4 +84,4 @@ named s a p fits lines target is writes good =
         (λ command e. good_range (context_of (seat_of a p.target p.unit) p.initiator) p.cdb p.sent command e status) in
         (λ i. sym count i * size_of (f i))
         ∙ (λ i. blocks_written (contents_of (unit_state_at a.units p.target p.unit)).count (command_of p.cdb)
-        * (contents_of (sym f i)).size) ∙ sym (all.bytes status)
+        * (contents_of (sym f i)).size) ∙ all

@@ -6,7 +6,7 @@ use Rattle.std.proofs.Math.Nat.{min-eq_left}
 use Rattle.std.proofs.lemmas.List.{length-take}
 use native.Mathlib.Omega.{arith}
 use Rattle.cdb_codec.specs.declared.Sense.{Sense}
-use Rattle.cdb_codec.specs.declared.status.TheConstants.{GOOD}
+use Rattle.cdb_codec.specs.declared.status.TheConstants.{GOOD, CHECK_CONDITION}
 use Rattle.cdb_codec.specs.declared.replies.TheConstants.{SENSE_LEN}
 use Rattle.cdb_codec.specs.Cdb.{command_of}
 use Rattle.cdb_codec.specs.Replies.{sense_data}
@@ -20,7 +20,7 @@ use Rattle.array_model.specs.Seats.{Seat}
 use Rattle.due_model.specs.dialogue_model.specs.Wants.{ready_in}
 use Rattle.tag_queue.specs.Queue.{is_held}
 use Rattle.disk_unit.specs.Books.{UnitBooks, sense_or_none}
-use Rattle.disk_unit.specs.Disk.{disk_reply, disk_context}
+use Rattle.disk_unit.specs.Disk.{disk_reply, disk_context, taken_now}
 use Rattle.disk_unit.specs.LiveCommands.{LiveCommand, HasLive, IsCurrentOf, queued_of}
 use Rattle.disk_unit.specs.Plans.{plan_of}
 use Rattle.disk_unit.specs.Units.{is_reported, reply_with, plan_for}
@@ -210,6 +210,29 @@ plan_seen hosts seat time v from cdb sent plan lt e h host =
     e
     ∙ (λ i. plan_of (execution (sym (context_is hosts seat time v from lt host h) i) cdb []).reply plan.out_len)
     ∙ (λ i. plan_of (sent_apart (Seats.context_of seat from) cdb [] sent i) plan.out_len)
+
+-- One that would report an attention would not end GOOD.
+pub reported_bad : (attention : Option Sense) (cdb : List ℕ) (reply : Reply) → is_reported attention cdb ≡ true
+    → (reply_with attention cdb reply).status ≡ GOOD → ⊥
+reported_bad None cdb reply f e = cc
+reported_bad (Some a) cdb reply f e =
+    let bad : CHECK_CONDITION ≡ GOOD = (λ i. (if sym f i then check_condition a else reply).status) ∙ e in
+    omega (arith, bad)
+
+-- What it would take, where it would end GOOD.
+pub taken_seen : (c : Contents) (attention : Option Sense) (cdb : List ℕ) (plan : Plan)
+    → plan ≡ plan_for attention cdb (disk_reply c cdb) (taken_now c cdb) → plan.status ≡ GOOD
+    → plan.out_len ≡ taken_now c cdb
+taken_seen c attention cdb plan h good = go (is_reported attention cdb) refl
+  where
+    go : (y : Bool) → is_reported attention cdb ≡ y → plan.out_len ≡ taken_now c cdb
+    go true f = absurd (reported_bad attention cdb (disk_reply c cdb) f ((λ i. (sym h i).status) ∙ good))
+    go false f = (λ i. (h i).out_len) ∙ (λ i. if f i then 0 else taken_now c cdb)
+
+pub contents_seen : (hosts : List HostDef) (seat : Seat) (time : ℕ) (v : SeatedState) → IsAtSeat hosts seat time v
+    → v.contents ≡ Seats.contents_of seat.unit
+contents_seen hosts seat time v h =
+    sym h.2.kept.contents ∙ (λ i. Seats.contents_of (sym h.2.kept.there i))
 
 -- ---- the bytes that it would give
 

@@ -2,6 +2,7 @@
 ghost use Rattle.std.specs.Prelude.{◌≡◌, ◌<◌, ◌≤◌, ◌+◌, ◌^◌, ℕ, Bool, true, List, length, Option, Some, None, is_some, take, drop, ◌==◌, ◌&&◌, IfOk};
 ghost use Rattle.std.specs.List.{find};
 ghost use Rattle.cdb_codec.specs.Cdb.{command_of};
+ghost use Rattle.cdb_codec.specs.declared.status.TheConstants.{GOOD};
 ghost use Rattle.scenario.specs.declared.value.HostDef.{HostDef};
 ghost use Rattle.scenario.specs.declared.value.UnitDef.{UnitDef as UnitLine};
 ghost use Rattle.scenario.specs.Lookups.{unit_of};
@@ -12,7 +13,7 @@ ghost use Rattle.array_model.specs.Processes.{Process};
 ghost use Rattle.array_model.specs.Units.{RunningProcess, guest_at, starting_array};
 ghost use Rattle.array_model.specs.Seats.{Seat, seat_of, settled_seat, seat_after_accept, seat_after_refuse, seat_after_run, seat_after_failure, seat_after_end, seat_after_loss, seat_after_aborted, current_of, running_at, context_of, contents_of, is_any_held, is_initiator};
 ghost use Rattle.due_model.specs.dialogue_model.specs.Wants.{ready_in};
-ghost use Rattle.disk_unit.specs.Disk.{cost_by, kind_of};
+ghost use Rattle.disk_unit.specs.Disk.{cost_by, kind_of, taken_now};
 ghost use Rattle.disk_unit.specs.Units.{told_of};
 ghost use Rattle.disk_unit.specs.Plans.{plan_of};
 ghost use Rattle.disk_unit.specs.declared.unit.Accepted.TheVariants as accepted;
@@ -170,6 +171,10 @@ impl LogicalUnit {
         ensures seat { (hosts : List HostDef) (seat : Seat) (time : ℕ) (sent : List ℕ)
             → IsUnitOf hosts seat time self.now → is_initiator hosts from ≡ true
             → result ≡ plan_of (execution (context_of seat from) cdb.now sent).reply result.out_len }
+        ensures taken { (hosts : List HostDef) (seat : Seat) (time : ℕ) (sent : List ℕ)
+            → IsUnitOf hosts seat time self.now → is_initiator hosts from ≡ true
+            → (execution (context_of seat from) cdb.now sent).reply.status ≡ GOOD
+            → result.out_len ≡ taken_now (contents_of seat.unit) cdb.now }
     {
         match self {
             LogicalUnit::There(seated) => seated.plan(from, cdb),

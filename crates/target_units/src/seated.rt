@@ -1,6 +1,7 @@
 //! A logical unit of a target, at its seat of the plain disk array.
 ghost use Rattle.std.specs.Prelude.{◌≡◌, ◌<◌, ◌≤◌, ◌+◌, ◌-◌, ◌*◌, ◌^◌, min, ◌&&◌, ◌==◌, [], slice_index_or, ℕ, Bool, true, false, List, length, Option, Some, None, is_some, if◌then◌else◌, IfSome, IfOk, nat_le, take, drop};
 ghost use Rattle.cdb_codec.specs.Cdb.{command_of};
+ghost use Rattle.cdb_codec.specs.declared.status.TheConstants.{GOOD as GOOD_STATUS};
 ghost use Rattle.scenario.specs.declared.value.HostDef.{HostDef};
 ghost use Rattle.array_model.specs.Execution.{Reply as ArrayReply, execution, heeds_attention, is_request_sense, queue_full, aborted_reply};
 ghost use Rattle.array_model.specs.Processes.{Process, same_id, same_bool};
@@ -586,6 +587,10 @@ impl SeatedUnit {
         ensures seat { (hosts : List HostDef) (seat : Seat) (time : ℕ) (sent : List ℕ)
             → IsAtSeat hosts seat time self.now → is_initiator hosts from ≡ true
             → result ≡ plan_of (execution (context_of seat from) cdb.now sent).reply result.out_len }
+        ensures taken { (hosts : List HostDef) (seat : Seat) (time : ℕ) (sent : List ℕ)
+            → IsAtSeat hosts seat time self.now → is_initiator hosts from ≡ true
+            → (execution (context_of seat from) cdb.now sent).reply.status ≡ GOOD_STATUS
+            → result.out_len ≡ taken_now (contents_of seat.unit) cdb.now }
     {
         self.plan_now(from, cdb)
     }

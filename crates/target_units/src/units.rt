@@ -3,13 +3,15 @@ ghost use Rattle.std.specs.Prelude.{◌≡◌, ◌<◌, ◌≤◌, ◌+◌, ◌=
 ghost use Rattle.bus_base.specs.declared.AbortKind.TheVariants as aborts;
 ghost use Rattle.bus_base.specs.declared.Event.TheVariants as events;
 ghost use Rattle.cdb_codec.specs.Cdb.{command_of};
+ghost use Rattle.cdb_codec.specs.declared.status.TheConstants.{GOOD};
 ghost use Rattle.scenario.specs.Lookups.{has_target, unit_of};
+ghost use Rattle.scenario.specs.Needs.{is_write};
 ghost use Rattle.scenario.specs.Value.{ScenarioValue};
 ghost use Rattle.scenario.specs.Writing.{Obeys};
 ghost use Rattle.due_model.specs.Defs.{target_def_of};
 ghost use Rattle.array_model.specs.ArrayHistory.{reply_in};
 ghost use Rattle.array_model.specs.Execution.{Reply as ArrayReply, is_request_sense};
-ghost use Rattle.array_model.specs.Processes.{Process};
+ghost use Rattle.array_model.specs.Processes.{Process, process_of};
 ghost use Rattle.array_model.specs.Seats.{seat_of, current_of, in_hold, nexus_at, is_initiator};
 ghost use Rattle.array_model.specs.SoundArray.{IsOwn, IsSound, HasSeats};
 ghost use Rattle.array_model.specs.Steps.{step};
@@ -181,6 +183,11 @@ impl Units {
             → AreUnitsOf s a times self.now.dev self.now.units → is_initiator s.hosts from ≡ true
             → p.target ≡ self.now.dev → p.unit ≡ unit → p.initiator ≡ from → p.cdb ≡ cdb.now
             → result ≡ plan_of (reply_now a p) result.out_len }
+        ensures taken { (s : ScenarioValue) (a : Array) (times : List ℕ) (p : Process)
+            → AreUnitsOf s a times self.now.dev self.now.units → is_initiator s.hosts from ≡ true
+            → p.target ≡ self.now.dev → p.unit ≡ unit → p.initiator ≡ from → p.cdb ≡ cdb.now
+            → process_of s p.id ≡ Some p → is_write (command_of p.cdb) ≡ true → (reply_now a p).status ≡ GOOD
+            → result.out_len ≡ length p.sent }
     {
         self.units[unit as usize].plan(from, cdb)
     }

@@ -2,13 +2,9 @@ use Rattle.std.proofs.Common.{◌∙◌, sym}
 use Rattle.std.proofs.lemmas.Bool.{eqb-true}
 use Rattle.array_model.specs.Processes.{process_of}
 use Rattle.array_model.specs.Seats.{is_initiator}
-use Rattle.scenario.specs.Lookups.{has_target}
-use Rattle.due_model.specs.RunState.{array_of}
-use Rattle.due_model.specs.RunSteps.{run_state}
 use Rattle.target_course.specs.Courses.{name_of}
 use Rattle.disk_target.proofs.Data.{served_of}
 use Rattle.disk_target.proofs.Lines.{line_of_process}
-use Rattle.disk_target.proofs.RowSent.{sends_as_named}
 use Rattle.disk_target.proofs.known.known_of.Goals as goal
 
 pub returns-clause-known : goal.returns-clause-known
@@ -33,12 +29,9 @@ returns-clause-known c = record {
         ((λ i. is_initiator s.hosts (sym (e.initiator ∙ from) i)) ∙ line.host)
         (e.target ∙ eqb-true n.target c.args.def.now.dev own.own)
         (sym (c.unit_named-unit.ensures.named (name_of p) name line.unit)) (e.initiator ∙ from) (sym block)
-        (λ writes good. sends_as_named s (array_of s (run_state s rows)) p h.units_are.room.fits h.units_are.room.lines
-        ((λ i. has_target s ((e.target ∙ eqb-true n.target c.args.def.now.dev own.own ∙ sym h.units_dev) i))
-        ∙ h.units_are.room.target) (served_of s rows p is) writes good);
+        (served_of s rows p is);
   };
   count = c.state_of-state.ensures.count;
-  taken = c.state_of-state.ensures.taken;
   serving = c.serving-serving.ensures.exact;
   fits = c.serving-serving.ensures.fits;
 }

@@ -1,4 +1,5 @@
 use Rattle.std.proofs.Common.{◌∙◌, ◌==◌, sym}
+use Rattle.std.proofs.lemmas.Bool.{eqb-true}
 use Rattle.cdb_codec.specs.declared.status.TheConstants.{GOOD}
 use Rattle.array_model.specs.Processes.{process_of}
 use Rattle.array_model.specs.ArrayHistory.{reply_in}
@@ -7,8 +8,8 @@ use Rattle.array_model.specs.Units.{unit_state_at}
 use Rattle.due_model.specs.LastingState.{progress_in}
 use Rattle.due_model.specs.RunState.{array_of}
 use Rattle.due_model.specs.RunSteps.{run_state}
-use Rattle.due_model.specs.Tasks.{room_of, size_of}
-use Rattle.disk_target.specs.Bytes.{status_in, taken_by}
+use Rattle.due_model.specs.Tasks.{reply_now, room_of, size_of}
+use Rattle.disk_target.specs.Bytes.{status_in}
 use Rattle.disk_target.proofs.Telling.{status_told}
 use Rattle.disk_target.proofs.known.state_of.Goals as goal
 
@@ -32,22 +33,15 @@ returns-clause-state c = λ s rows d p h few is id target unit from reply.
     }
 
 pub returns-clause-outlook : goal.returns-clause-outlook
-returns-clause-outlook c = λ s rows d p h host target unit from cdb sends.
+returns-clause-outlook c = λ s rows d p h host target unit from cdb is.
     let k = run_state s rows in
     let a = array_of s k in
     let units = target ∙ sym h.units_dev in
-    let size = c.block_size-size.ensures s a k.current_since h.units_are
-    ∙ (λ i. size_of (unit_state_at a.units (sym units i) (sym unit i))) in
-    let plan = c.plan-plan.ensures.array s a k.current_since p h.units_are host units unit from
-    (cdb ∙ sym c.block.ensures.value) in
+    let block = cdb ∙ sym c.block.ensures.value in
+    let plan = c.plan-plan.ensures.array s a k.current_since p h.units_are host units unit from block in
     record {
-      plan = λ i. record {
-        status = (plan i).status;
-        sense = (plan i).sense;
-        in_len = (plan i).in_len;
-        out_len = c.taken_by.result;
-      };
-      sent = λ writes good. c.taken_by.ensures
-          ∙ (λ i. taken_by (sym (cdb ∙ sym c.block-2.ensures.value) i) (size i))
-          ∙ sends writes ((λ i. (sym plan i).status == GOOD) ∙ good);
+      plan = plan;
+      sent = λ writes good.
+          c.plan-plan.ensures.taken s a k.current_since p h.units_are host units unit from block is writes
+          (eqb-true (reply_now a p).status GOOD ((λ i. (sym plan i).status == GOOD) ∙ good));
     }

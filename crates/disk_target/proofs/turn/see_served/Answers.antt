@@ -1,13 +1,13 @@
-use Rattle.std.proofs.Common.{ℕ, ◌≡◌, ◌<◌, ◌∙◌, inl, inr, arith, List, ◌∷◌, sym, subst, take, Some, None}
+use Rattle.std.proofs.Common.{ℕ, ◌≡◌, ◌<◌, ◌∙◌, ◌==◌, inl, inr, arith, List, ◌∷◌, sym, subst, take, Some, None}
 use Rattle.std.proofs.lemmas.List.{take_all}
 use Rattle.bus_base.specs.declared.Event.{Event}
+use Rattle.cdb_codec.specs.declared.status.TheConstants.{GOOD}
 use Rattle.bus_trace.specs.Terms.{connection}
 use Rattle.due_model.specs.RunState.{array_of}
 use Rattle.due_model.specs.RunSteps.{run_state, events_of_row}
 use Rattle.array_model.specs.Processes.{Process}
 use Rattle.array_model.specs.Seats.{seat_of}
 use Rattle.target_course.specs.scsi_device.specs.Writes.{writers}
-use Rattle.scenario.specs.Lookups.{has_target}
 use Rattle.target_course.specs.Courses.{name_of}
 use Rattle.target_course.specs.States.{IsOwnConnection}
 use Rattle.disk_target.specs.Attended.{is_whole_run}
@@ -74,15 +74,14 @@ returns-in-Some-clause-trace c = λ s rows row d n h own calm reset none opening
           (λ (z : ℕ). IsStanding (seat_of a z x.unit) p old.standing) (sym att.dev_is)
           (subst (λ (z : ℕ). IsStanding (seat_of a d.dev z) p old.standing)
           (sym unit) (att.standing n p own calm v.knows.is)) in
-          let room = att.kept.units.room in
           let events : AreOwnEvents s a old.units.dev x.unit p x old.standing (events_of_row s rows row) = own_events
           s rows row n c.args.course.now p x old.standing old.units.dev x.unit seats att.kept.sound v.front v.attended
           v.shows v.may v.knows v.there target (sym unit) block (λ runs begins blocks good. c.served-served.ensures.sent
-          ∙ all_sent s rows c.args.gathered.now p n c.args.course.now c.args.turn.now c.args.turn.now.unit
-          room.fits room.lines ((λ i. has_target s (target i)) ∙ room.target) h.gathered h.all
-          (subst (λ (z : ℕ). IsOwnConnection rows z n) (sym h.dev_is) own) calm begins v.knows.is v.there
-          (v.target ∙ sym h.dev_is) (omega (arith, small))
-          (turn.unit_is p v.knows.is v.knows.named) v.knows.id blocks (turn.taken p v.knows.is v.knows.named)
+          ∙ all_sent s rows c.args.gathered.now p n c.args.course.now c.args.turn.now c.args.turn.now.unit h.gathered
+          h.all (subst (λ (z : ℕ). IsOwnConnection rows z n) (sym h.dev_is) own) calm begins v.knows.is v.there
+          (v.target ∙ sym h.dev_is) (omega (arith, small)) (turn.unit_is p v.knows.is v.knows.named) v.knows.id blocks
+          (λ w g. let outlook = turn.told.outlook p v.knows.is v.knows.id v.knows.named blocks in
+          (λ i. (turn.plan_is i).out_len) ∙ outlook.sent w ((λ i. (outlook.plan i).status == GOOD) ∙ g))
           ((λ i. is_whole_run s (run_state s rows) (writers s rows) (sym v.knows.is i)) ∙ v.attended.whole runs) good)
           standing ((λ i. abort_of (sym h.shown_is i)) ∙ none) in
           let r : AreProcessesOf s (row ∷ rows) p x.unit new = c.see.ensures.trace

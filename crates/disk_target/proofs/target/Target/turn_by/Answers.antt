@@ -10,11 +10,10 @@ use Rattle.due_model.specs.RunState.{process_served}
 use Rattle.due_model.specs.RunSteps.{run_state}
 use Rattle.due_model.specs.Tasks.{given_of}
 use Rattle.target_course.specs.Courses.{CourseState, IsCourse, IsCourseOf, AreToldOf, events_of_target, name_of}
-use Rattle.disk_target.specs.Bytes.{taken_by}
 use Rattle.disk_target.specs.Targets.{IsCourseIf}
 use Rattle.disk_target.specs.declared.turn.Turn.{Turn}
 use Rattle.disk_target.specs.Turns.{IsTurnIf, IsTurnIn, is_opening_by}
-use Rattle.disk_target.proofs.Data.{id_is, served_of}
+use Rattle.disk_target.proofs.Data.{served_of}
 use Rattle.disk_target.proofs.Knowing.{sources}
 use Rattle.disk_target.proofs.Lines.{line_of_process}
 use Rattle.disk_target.proofs.Servables.{in_time_before, servable}
@@ -69,8 +68,7 @@ returns-clause-trace c = λ s rows row fits o devices tied time h own calm cours
       opening_is = c.is_opening.ensures ∙ (λ i. is_opening_by n (hears i) x);
       from_is = sym from;
       unit_is = unit;
-      taken =
-          λ r is named. y.taken ∙ (λ i. taken_by x.block ((told.state r is (id_is s rows n x r here is) named).size i));
+      plan_is = refl;
     } in
     record {
       course = subst (λ (y : Option CourseState). IsTurnIf s rows row d y it) (sym course_is) (λ m own' calm'. subst
