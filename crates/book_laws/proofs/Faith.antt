@@ -68,10 +68,10 @@ known_left s k n h w _ e =
 -- ---- a phase is left
 
 block_left : (s : ScenarioValue) (k : RunState) (n : Connection) → AllCarryOwn s k → LeavesWhole s k n
-    → phase_of (bus_of k) ≡ Phase.Command → (p : Option Process) → process_served s k ≡ p
-    → is_true_leaving s k p Phase.Command ≡ true
+    → phase_of (bus_of k) ≡ Phase.Command → (t : Option Process) → process_served s k ≡ t
+    → is_true_leaving s k t Phase.Command ≡ true
 block_left s k n c w e None f = refl
-block_left s k n c w e (Some p) f = let b = w.command p f e in block_own s k p c f b.0 b.1
+block_left s k n c w e (Some t) f = let b = w.command t f e in block_own s k t c f b.0 b.1
 
 said_left : (s : ScenarioValue) (k : RunState) (n : Connection) → AreUnits s → Speaks s k n → AllCarryOwn s k
     → LeavesWhole s k n → HasPhase k → k.exchange.begun ≡ true → (phase : Phase) → phase_of (bus_of k) ≡ phase
@@ -83,26 +83,26 @@ said_left s k n u h c w lines eb _ e = refl
 
 -- ---- a byte crosses
 
-sent_at : (s : ScenarioValue) (k : RunState) (row : Row) (n : Connection) (p : Process) → Knows s k n
-    → SendsOwn s k row → MovesRuns s k n → process_served s k ≡ Some p → phase_of (bus_of k) ≡ Phase.DataOut
+sent_at : (s : ScenarioValue) (k : RunState) (row : Row) (n : Connection) (c : Process) → Knows s k n
+    → SendsOwn s k row → MovesRuns s k n → process_served s k ≡ Some c → phase_of (bus_of k) ≡ Phase.DataOut
     → (row_reading k.story.bus_state row).crosses ≡ true → (t : Option Task) → task_of s k ≡ t
-    → is_sent_at s k p t ((row_reading k.story.bus_state row).change.after.data_bits % 256) ≡ true
-sent_at s k row n p h sends runs ep e ec None et = refl
-sent_at s k row n p h sends runs ep e ec (Some t) et =
-    let r = runs p t ep et e in
-    let here : process_here s k ≡ Some p = ap (process_item s) (linked_item s k n h r.named) ∙ ep in
-    let y = (sends p here ec).moved (data_lines (bus_of k) e) r.writes in
-    let start : ℕ = (run_at (policy_of (target_def_of s p.target)) t t.runs).start in
+    → is_sent_at s k c t ((row_reading k.story.bus_state row).change.after.data_bits % 256) ≡ true
+sent_at s k row n c h sends runs ep e ec None et = refl
+sent_at s k row n c h sends runs ep e ec (Some t) et =
+    let r = runs c t ep et e in
+    let here : process_here s k ≡ Some c = ap (process_item s) (linked_item s k n h r.named) ∙ ep in
+    let y = (sends c here ec).moved (data_lines (bus_of k) e) r.writes in
+    let start : ℕ = (run_at (policy_of (target_def_of s c.target)) t t.runs).start in
     let byte : ℕ = (row_reading k.story.bus_state row).change.after.data_bits % 256 in
-    (λ i. y.0 i == slice_index_or p.sent (sym r.active_is i) 0)
-    ∙ eq_self (slice_index_or p.sent (carried_here k p.id).moved.active 0)
+    (λ i. y.0 i == slice_index_or c.sent (sym r.active_is i) 0)
+    ∙ eq_self (slice_index_or c.sent (carried_here k c.id).moved.active 0)
 
 crossed : (s : ScenarioValue) (k : RunState) (row : Row) (n : Connection) → Knows s k n
     → SendsOwn s k row → MovesRuns s k n → (row_reading k.story.bus_state row).crosses ≡ true
-    → (p : Option Process) → process_served s k ≡ p → (phase : Phase) → phase_of (bus_of k) ≡ phase
-    → is_true_crossing s k p ((row_reading k.story.bus_state row).change.after.data_bits % 256) phase ≡ true
-crossed s k row n h sends runs ec (Some p) ep Phase.DataOut e =
-    sent_at s k row n p h sends runs ep e ec (task_of s k) refl
+    → (c : Option Process) → process_served s k ≡ c → (phase : Phase) → phase_of (bus_of k) ≡ phase
+    → is_true_crossing s k c ((row_reading k.story.bus_state row).change.after.data_bits % 256) phase ≡ true
+crossed s k row n h sends runs ec (Some c) ep Phase.DataOut e =
+    sent_at s k row n c h sends runs ep e ec (task_of s k) refl
 crossed s k row n h sends runs ec _ ep _ e = refl
 
 -- ---- a row, with which the connection goes on or ends

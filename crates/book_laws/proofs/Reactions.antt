@@ -30,30 +30,30 @@ answers_next s k n c eb h eo er = (
     io false d i e = absurd (true≢false (sym e))
 
 -- In COMMAND and DATA OUT it is the byte at the pointer.
-pub answers_own : (s : ScenarioValue) (k : RunState) (n : Connection) (c : Change) (p : Process) → bus_of k ≡ c.before
-    → IsAnswered s k n c → process_here s k ≡ Some p → is_some (receiver_in n c) ≡ true → c.before.io ≡ false
+pub answers_own : (s : ScenarioValue) (k : RunState) (n : Connection) (c : Change) (t : Process) → bus_of k ≡ c.before
+    → IsAnswered s k n c → process_here s k ≡ Some t → is_some (receiver_in n c) ≡ true → c.before.io ≡ false
     → ((is_command c.before ≡ true
-    → c.after.data_bits % 256 ≡ slice_index_or p.cdb (carried_here k p.id).command.active 0)
-    × (is_data c.before ≡ true → c.after.data_bits % 256 ≡ slice_index_or p.sent (carried_here k p.id).moved.active 0))
-answers_own s k n c p eb h ep er ei =
-    let is : c.after.data_bits % 256 ≡ byte_to_send c.before k.exchange.speech (sending_by k (Some p)) =
+    → c.after.data_bits % 256 ≡ slice_index_or t.cdb (carried_here k t.id).command.active 0)
+    × (is_data c.before ≡ true → c.after.data_bits % 256 ≡ slice_index_or t.sent (carried_here k t.id).moved.active 0))
+answers_own s k n c t eb h ep er ei =
+    let is : c.after.data_bits % 256 ≡ byte_to_send c.before k.exchange.speech (sending_by k (Some t)) =
     h.byte_is ei er ∙ (λ i. byte_to_send (eb i) k.exchange.speech (sending_by k (ep i))) in
     (λ e. is ∙ by c.before.msg c.before.cd c.before.io e, λ e. is ∙ of_data c.before.msg c.before.cd c.before.io e)
   where
     o : Sending
-    o = sending_by k (Some p)
+    o = sending_by k (Some t)
 
     by : (m d i : Bool) → (not m && d && not i) ≡ true → (if m && d && not i then next_word k.exchange.speech
-        else if not m && d && not i then slice_index_or p.cdb (carried_here k p.id).command.active 0
-        else slice_index_or p.sent (carried_here k p.id).moved.active 0)
-        ≡ slice_index_or p.cdb (carried_here k p.id).command.active 0
+        else if not m && d && not i then slice_index_or t.cdb (carried_here k t.id).command.active 0
+        else slice_index_or t.sent (carried_here k t.id).moved.active 0)
+        ≡ slice_index_or t.cdb (carried_here k t.id).command.active 0
     by false true false e = refl
     by _ _ _ e = absurd (true≢false (sym e))
 
     of_data : (m d i : Bool) → (not m && not d) ≡ true → (if m && d && not i then next_word k.exchange.speech
-        else if not m && d && not i then slice_index_or p.cdb (carried_here k p.id).command.active 0
-        else slice_index_or p.sent (carried_here k p.id).moved.active 0)
-        ≡ slice_index_or p.sent (carried_here k p.id).moved.active 0
+        else if not m && d && not i then slice_index_or t.cdb (carried_here k t.id).command.active 0
+        else slice_index_or t.sent (carried_here k t.id).moved.active 0)
+        ≡ slice_index_or t.sent (carried_here k t.id).moved.active 0
     of_data true d i e = absurd (true≢false (sym e))
     of_data false true i e = absurd (true≢false (sym e))
     of_data false false i e = refl
@@ -129,13 +129,13 @@ out_over s k n eo h =
     data_none false d i e = absurd (true≢false (sym e))
 
 -- COMMAND was left struck, or once the block had the length of its group.
-pub command_over : (s : ScenarioValue) (k : RunState) (n : Connection) (p : Process)
-    → is_command (bus_of k) ≡ true → IsOver s k n → process_served s k ≡ Some p → k.exchange.plan.struck ≡ false
-    → has_group_len (carried_here k p.id).block ≡ true
-command_over s k n p ec h ep es =
+pub command_over : (s : ScenarioValue) (k : RunState) (n : Connection) (c : Process)
+    → is_command (bus_of k) ≡ true → IsOver s k n → process_served s k ≡ Some c → k.exchange.plan.struck ≡ false
+    → has_group_len (carried_here k c.id).block ≡ true
+command_over s k n c ec h ep es =
     let f = over_in s k n Phase.Command (data_none (bus_of k).msg (bus_of k).cd (bus_of k).io ec)
     (command_phase (bus_of k).msg (bus_of k).cd (bus_of k).io ec) h in
-    not-false (has_group_len (carried_here k p.id).block)
+    not-false (has_group_len (carried_here k c.id).block)
     (sym (λ i. not (es i) && not (has_whole_block (task_if s k (ep i)))) ∙ f)
   where
     data_none : (m d i : Bool) → (not m && d && not i) ≡ true → (not m && not d) ≡ false
@@ -174,15 +174,15 @@ one_given : (q a l : Bool) → ((q || not a) && l) ≡ false → l ≡ true → 
 one_given true a l e f = absurd (true≢false (sym f ∙ e))
 one_given false a l e f = refl
 
-at_end : (n m : ℕ) → n ≤ m → nat_lt n m ≡ false → n ≡ m
-at_end n m h e = grind (arith, nat_tests)
+at_end : (i m : ℕ) → i ≤ m → nat_lt i m ≡ false → i ≡ m
+at_end i m h e = grind (arith, nat_tests)
 
 some_bytes : (m : MsgIn) → nat_lt 0 (length (in_bytes m)) ≡ true
 some_bytes MsgIn.CommandComplete = refl
 some_bytes _ = refl
 
-some_more : (n : ℕ) → nat_lt 0 (suc n) ≡ true
-some_more n = grind (arith, nat_tests)
+some_more : (m : ℕ) → nat_lt 0 (suc m) ≡ true
+some_more m = grind (arith, nat_tests)
 
 more_bytes : (xs ys : List ℕ) → nat_lt 0 (length xs) ≡ true → nat_lt 0 (length (xs ++ ys)) ≡ true
 more_bytes [] ys e = absurd (true≢false (sym e))
@@ -209,9 +209,9 @@ in_some s k n e em h = go (k.handshakes.requests == 0) refl
 in_given : (s : ScenarioValue) (k : RunState) (n : Connection) → Gives k → HasPhase k
     → phase_of (bus_of k) ≡ Phase.MessageIn → IsOver s k n → (bus_of k).atn ≡ false
     → k.handshakes.requests ≡ length (bytes_of_messages k.exchange.plan.messages)
-in_given s k n g p e h a =
+in_given s k n g f e h a =
     let msg = in_lines (bus_of k).msg (bus_of k).cd (bus_of k).io (ap is_in_phase e) in
-    let lines = p msg.0 in
+    let lines = f msg.0 in
     let w = g.in_message_in lines.1 ((λ i. msg.0 i && lines.0 i && msg.1 i)) in
     let all = ap (λ (x : List ℕ). length x) w.bytes_are in
     let two = length-append w.before w.rest in
@@ -234,14 +234,14 @@ in_given s k n g p e h a =
 pub leaves_by : (s : ScenarioValue) (k : RunState) (n : Connection) → Gives k → HasPhase k → IsOver s k n → HasMessage k
     → (n.reselected ≡ true → is_out_phase (phase_of (bus_of k)) ≡ false
     → (is_in_phase (phase_of (bus_of k)) && (bus_of k).atn) ≡ false → is_some (item_of k.story.link) ≡ true)
-    → ((p : Process) → process_served s k ≡ Some p → has_group_len p.cdb ≡ true) → LeavesWhole s k n
+    → ((c : Process) → process_served s k ≡ Some c → has_group_len c.cdb ≡ true) → LeavesWhole s k n
 leaves_by s k n g lines h message named group = record {
   out = λ e. let w = out_lines (bus_of k) e in out_over s k n ((λ i. w.0 i && (lines w.0).0 i && not (w.1 i))) h;
   some = λ e. in_some s k n e (message e) h;
   given = λ e a. in_given s k n g lines e h a;
-  command = λ p ep e. (
-    group p ep,
-    λ z. command_over s k n p (command_lines (bus_of k).msg (bus_of k).cd (bus_of k).io (ap is_command_phase e)) h ep z,
+  command = λ c ep e. (
+    group c ep,
+    λ z. command_over s k n c (command_lines (bus_of k).msg (bus_of k).cd (bus_of k).io (ap is_command_phase e)) h ep z,
   );
   named = named;
 }

@@ -90,24 +90,24 @@ made_ready s k n e = go (ready_of s k n.target) refl
         here : is_ready_for s n (Some r) ≡ true
         here = sym (ap (is_ready_for s n) f) ∙ e
 
-        by : (p : Option Process) → process_of s r.process.id ≡ p → IsReadyFor s k n
+        by : (c : Option Process) → process_of s r.process.id ≡ c → IsReadyFor s k n
         by None g = absurd
             (true≢false (sym (and_second (nat_lt r.process.unit 8) (is_between (process_of s r.process.id) n) here)
             ∙ ap (λ (x : Option Process). is_between x n) g))
-        by (Some p) g =
-            let ends_are : is_between (Some p) n ≡ true = sym (ap (λ (x : Option Process). is_between x n) g)
+        by (Some c) g =
+            let ends_are : is_between (Some c) n ≡ true = sym (ap (λ (x : Option Process). is_between x n) g)
             ∙ and_second (nat_lt r.process.unit 8) (is_between (process_of s r.process.id) n) here in
             record {
               ready = r;
               ready_is = f;
               unit_in = ltb-true r.process.unit 8
                   (and_first (nat_lt r.process.unit 8) (is_between (process_of s r.process.id) n) here);
-              process = p;
+              process = c;
               process_is = g;
-              initiator_is = eqb-true p.initiator n.initiator
-                  (and_first (p.initiator == n.initiator) (p.target == n.target) ends_are);
+              initiator_is = eqb-true c.initiator n.initiator
+                  (and_first (c.initiator == n.initiator) (c.target == n.target) ends_are);
               target_is =
-                  eqb-true p.target n.target (and_second (p.initiator == n.initiator) (p.target == n.target) ends_are);
+                  eqb-true c.target n.target (and_second (c.initiator == n.initiator) (c.target == n.target) ends_are);
             }
 
 first_row : (s : ScenarioValue) (k : RunState) (row : Row) (n : Connection) → k.story.bus_state.connection ≡ None
@@ -183,17 +183,17 @@ sent s k row t p e f =
           );
     }
 
-at_run : (s : ScenarioValue) (k : RunState) (n : Connection) (p : Process) (t : Task)
-    → is_at_run s k n (Some p) (Some t) Phase.DataOut ≡ true → IsAtRun s k n p t
-at_run s k n p t e =
-    let two = and_first ((not n.reselected || is_some (item_of k.story.link)) && is_writing p) _ e in
+at_run : (s : ScenarioValue) (k : RunState) (n : Connection) (c : Process) (t : Task)
+    → is_at_run s k n (Some c) (Some t) Phase.DataOut ≡ true → IsAtRun s k n c t
+at_run s k n c t e =
+    let two = and_first ((not n.reselected || is_some (item_of k.story.link)) && is_writing c) _ e in
     record {
       named = λ r. implied n.reselected (is_some (item_of k.story.link))
-          (and_first (not n.reselected || is_some (item_of k.story.link)) (is_writing p) two) r;
-      writes = and_second (not n.reselected || is_some (item_of k.story.link)) (is_writing p) two;
-      active_is = eqb-true (carried_here k p.id).moved.active
-          ((run_at (policy_of (target_def_of s p.target)) t t.runs).start + k.handshakes.answers)
-          (and_second ((not n.reselected || is_some (item_of k.story.link)) && is_writing p) _ e);
+          (and_first (not n.reselected || is_some (item_of k.story.link)) (is_writing c) two) r;
+      writes = and_second (not n.reselected || is_some (item_of k.story.link)) (is_writing c) two;
+      active_is = eqb-true (carried_here k c.id).moved.active
+          ((run_at (policy_of (target_def_of s c.target)) t t.runs).start + k.handshakes.answers)
+          (and_second ((not n.reselected || is_some (item_of k.story.link)) && is_writing c) _ e);
     }
 
 -- A message is heard with a byte.
@@ -357,8 +357,8 @@ pub row_of : (s : ScenarioValue) (k : RunState) (row : Row) → is_row_of s k ro
 row_of s k row t = go (row_reading k.story.bus_state row).change.after.rst refl
   where
     by : (row_reading k.story.bus_state row).change.after.rst ≡ false
-        → (m n : Option Connection) → k.story.bus_state.connection ≡ m → (row_reading k.story.bus_state row).next ≡ n
-        → is_row_by s k row (row_reading k.story.bus_state row) m n ≡ true → RowOf s k row
+        → (m o : Option Connection) → k.story.bus_state.connection ≡ m → (row_reading k.story.bus_state row).next ≡ o
+        → is_row_by s k row (row_reading k.story.bus_state row) m o ≡ true → RowOf s k row
     by r None None e f z = apart e f
     by r None (Some n) e f z = begins n (first_row s k row n e f r z)
     by r (Some m) None e f z = ends m (last_row s k row m e f z)

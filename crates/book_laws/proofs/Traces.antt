@@ -155,20 +155,20 @@ silent s k row e b = (λ i. if e i then is_true_crossing s k (process_served s k
     else true) (and_false (changes_phase (row_reading k.story.bus_state row).change))
 
 -- The connection is made between the ends of the process.
-ends_are : (s : ScenarioValue) (k : RunState) (n : Connection) (p : Process) → p.initiator ≡ n.initiator
-    → p.target ≡ n.target → has_ends (Some p) n ≡ true
-ends_are s k n p ei et =
+ends_are : (s : ScenarioValue) (k : RunState) (n : Connection) (c : Process) → c.initiator ≡ n.initiator
+    → c.target ≡ n.target → has_ends (Some c) n ≡ true
+ends_are s k n c ei et =
     (λ i. ei i == n.initiator && et i == n.target) ∙ (λ i. eq_self n.initiator i && eq_self n.target i)
 
-ends_if : (s : ScenarioValue) (k : RunState) (n : Connection) (p : Option Process)
-    → ((x : Process) → p ≡ Some x → (x.initiator ≡ n.initiator) × (x.target ≡ n.target)) → has_ends p n ≡ true
+ends_if : (s : ScenarioValue) (k : RunState) (n : Connection) (c : Option Process)
+    → ((x : Process) → c ≡ Some x → (x.initiator ≡ n.initiator) × (x.target ≡ n.target)) → has_ends c n ≡ true
 ends_if s k n None h = refl
-ends_if s k n (Some p) h = let e = h p refl in ends_are s k n p e.0 e.1
+ends_if s k n (Some c) h = let e = h c refl in ends_are s k n c e.0 e.1
 
 item_initiator : (s : ScenarioValue) (dev : ℕ) (item : Item) → IsItem s dev item
-    → (p : Process) → process_item s (Some item) ≡ Some p → p.initiator ≡ dev
-item_initiator s dev _ (is_process id p e own) q f =
-    sym (ap (λ (x : Process). x.initiator) (same_Some p q (sym e ∙ f))) ∙ own
+    → (c : Process) → process_item s (Some item) ≡ Some c → c.initiator ≡ dev
+item_initiator s dev _ (is_process id c e own) q f =
+    sym (ap (λ (x : Process). x.initiator) (same_Some c q (sym e ∙ f))) ∙ own
 item_initiator s dev _ (is_abort n a e own) q f = absurd (process_none q f)
 
 begins_truly : (s : ScenarioValue) (k : RunState) (row : Row) (n : Connection) → AimsAreItems s k → Begins s k row n

@@ -29,13 +29,13 @@ pub record TakesBlock (c : CarriedBytes) (cdb : List ℕ) : Type 0 where
   pub saved_is : c.command.saved ≡ 0
   pub filled : IsFilled c.command cdb
 
-pub record CarriesOwn (c : CarriedBytes) (p : Process) : Type 0 where
-  pub command : TakesBlock c p.cdb
-  pub sent : is_writing p ≡ true → IsFilled c.moved p.sent
+pub record CarriesOwn (c : CarriedBytes) (t : Process) : Type 0 where
+  pub command : TakesBlock c t.cdb
+  pub sent : is_writing t ≡ true → IsFilled c.moved t.sent
   pub status : c.status.saved ≡ 0
 
 abbrev pub IsOwn : ScenarioValue → CarriedBytes → Type 0
-IsOwn s c = (p : Process) → process_of s c.id ≡ Some p → CarriesOwn c p
+IsOwn s c = (t : Process) → process_of s c.id ≡ Some t → CarriesOwn c t
 
 -- So is what MESSAGE PARITY ERROR would bring back.
 pub record AllCarryOwn (s : ScenarioValue) (k : RunState) : Type 0 where
@@ -45,17 +45,17 @@ pub record AllCarryOwn (s : ScenarioValue) (k : RunState) : Type 0 where
 -- A byte that crosses in COMMAND, or in a data phase of a process that writes, is that at the pointer of the process of
 -- the connection, and stands in what it sends: what the initiator is due to drive, as long as the target asks for no
 -- byte more.
-pub record SendsNext (s : ScenarioValue) (k : RunState) (p : Process) (d : RowReading) : Type 0 where
+pub record SendsNext (s : ScenarioValue) (k : RunState) (c : Process) (d : RowReading) : Type 0 where
   pub command : is_command d.change.before ≡ true
-      → (d.change.after.data_bits % 256 ≡ slice_index_or p.cdb (carried_here k p.id).command.active 0)
-      × ((carried_here k p.id).command.active < length p.cdb)
-  pub moved : is_data d.change.before ≡ true → is_writing p ≡ true
-      → (d.change.after.data_bits % 256 ≡ slice_index_or p.sent (carried_here k p.id).moved.active 0)
-      × ((carried_here k p.id).moved.active < length p.sent)
+      → (d.change.after.data_bits % 256 ≡ slice_index_or c.cdb (carried_here k c.id).command.active 0)
+      × ((carried_here k c.id).command.active < length c.cdb)
+  pub moved : is_data d.change.before ≡ true → is_writing c ≡ true
+      → (d.change.after.data_bits % 256 ≡ slice_index_or c.sent (carried_here k c.id).moved.active 0)
+      × ((carried_here k c.id).moved.active < length c.sent)
 
 abbrev pub SendsOwn : ScenarioValue → RunState → Row → Type 0
-SendsOwn s k row = (p : Process) → process_here s k ≡ Some p → (row_reading k.story.bus_state row).crosses ≡ true
-    → SendsNext s k p (row_reading k.story.bus_state row)
+SendsOwn s k row = (c : Process) → process_here s k ≡ Some c → (row_reading k.story.bus_state row).crosses ≡ true
+    → SendsNext s k c (row_reading k.story.bus_state row)
 
 -- In all of these rows.
 abbrev pub AllSendOwn : ScenarioValue → List Row → Type 0

@@ -36,20 +36,20 @@ pub record LeavesWhole (s : ScenarioValue) (k : RunState) (n : Connection) : Typ
   pub some : phase_of (bus_of k) ≡ phases.MessageIn → (k.handshakes.requests == 0) ≡ false
   pub given : phase_of (bus_of k) ≡ phases.MessageIn → (bus_of k).atn ≡ false
       → k.handshakes.requests ≡ length (bytes_of_messages k.exchange.plan.messages)
-  pub command : (p : Process) → process_served s k ≡ Some p → phase_of (bus_of k) ≡ phases.Command
-      → (has_group_len p.cdb ≡ true)
-      × (k.exchange.plan.struck ≡ false → has_group_len (carried_here k p.id).block ≡ true)
+  pub command : (c : Process) → process_served s k ≡ Some c → phase_of (bus_of k) ≡ phases.Command
+      → (has_group_len c.cdb ≡ true)
+      × (k.exchange.plan.struck ≡ false → has_group_len (carried_here k c.id).block ≡ true)
   pub named : n.reselected ≡ true → is_out_phase (phase_of (bus_of k)) ≡ false
       → (is_in_phase (phase_of (bus_of k)) && (bus_of k).atn) ≡ false → is_some (item_of k.story.link) ≡ true
 
 -- In DATA OUT the process writes, its initiator knows it, and its pointer stands as many bytes after the beginning of
 -- its run as were answered.
-pub record IsAtRun (s : ScenarioValue) (k : RunState) (n : Connection) (p : Process) (t : Task) : Type 0 where
+pub record IsAtRun (s : ScenarioValue) (k : RunState) (n : Connection) (c : Process) (t : Task) : Type 0 where
   pub named : n.reselected ≡ true → is_some (item_of k.story.link) ≡ true
-  pub writes : is_writing p ≡ true
-  pub active_is : (carried_here k p.id).moved.active
-      ≡ (run_at (policy_of (target_def_of s p.target)) t t.runs).start + k.handshakes.answers
+  pub writes : is_writing c ≡ true
+  pub active_is : (carried_here k c.id).moved.active
+      ≡ (run_at (policy_of (target_def_of s c.target)) t t.runs).start + k.handshakes.answers
 
 abbrev pub MovesRuns : ScenarioValue → RunState → Connection → Type 0
-MovesRuns s k n = (p : Process) (t : Task) → process_served s k ≡ Some p → task_of s k ≡ Some t
-    → phase_of (bus_of k) ≡ phases.DataOut → IsAtRun s k n p t
+MovesRuns s k n = (c : Process) (t : Task) → process_served s k ≡ Some c → task_of s k ≡ Some t
+    → phase_of (bus_of k) ≡ phases.DataOut → IsAtRun s k n c t

@@ -10,8 +10,8 @@ use Rattle.due_model.specs.story_model.specs.TraceHistory.{aim_of}
 use Rattle.due_model.specs.RunState.{RunState}
 
 pub data IsItem (s : ScenarioValue) (dev : ℕ) : Item → Type 0 where
-  is_process : (id : ProcId) (p : Process) → process_of s id ≡ Some p → p.initiator ≡ dev → IsItem s dev (process id)
-  is_abort : (n : ℕ) (a : AbortDef) → abort_line_at s.aborts n ≡ Some a → a.host ≡ dev → IsItem s dev (abort n)
+  is_process : (id : ProcId) (c : Process) → process_of s id ≡ Some c → c.initiator ≡ dev → IsItem s dev (process id)
+  is_abort : (m : ℕ) (a : AbortDef) → abort_line_at s.aborts m ≡ Some a → a.host ≡ dev → IsItem s dev (abort m)
 
 abbrev pub AimsAreItems : ScenarioValue → RunState → Type 0
 AimsAreItems s k = (dev : ℕ) (item : Item) → aim_of k.story.aims dev ≡ Some item → IsItem s dev item

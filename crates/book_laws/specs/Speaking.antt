@@ -21,14 +21,14 @@ use Rattle.book_laws.specs.Listening.{nothing_understood, understood, form_messa
 
 -- The words stand before and after the place; what counts of the hearing is what stands before; after the last byte all
 -- of them were heard.
-pub record AreWordsHeard (v : Speech) (p : Plan) (d : Dialogue) : Type 0 where
+pub record AreWordsHeard (v : Speech) (l : Plan) (d : Dialogue) : Type 0 where
   pub before : List ℕ
   pub byte : ℕ
   pub rest : List ℕ
   pub words_are : v.words ≡ before ++ byte ∷ rest
   pub place_is : v.place ≡ length before
-  pub anew : understanding_anew p d ≡ understood nothing_understood before
-  pub last : d.is_last ≡ true → understanding p d ≡ understood nothing_understood v.words
+  pub anew : understanding_anew l d ≡ understood nothing_understood before
+  pub last : d.is_last ≡ true → understanding l d ≡ understood nothing_understood v.words
 
 -- What the target asked for: after a selection the opening; after a message the refusal of a struck byte, or the answer
 -- to a request; after data or status that something was struck (6.6.10, 6.6.13, 6.6.21).

@@ -81,10 +81,10 @@ are_words_for s k n causes.InStatus = same_bytes k.exchange.speech.words detecte
 
 -- The words before the place were heard; after the byte with which ATN was false all of them, and it begins anew.
 abbrev pub are_words_heard : Speech → Plan → Dialogue → Bool
-are_words_heard p plan d =
-    nat_lt p.place (length p.words)
-    && same_understanding (understanding_anew plan d) (understood nothing_understood (take p.place p.words))
-    && (not d.is_last || same_understanding (understanding plan d) (understood nothing_understood p.words))
+are_words_heard h plan d =
+    nat_lt h.place (length h.words)
+    && same_understanding (understanding_anew plan d) (understood nothing_understood (take h.place h.words))
+    && (not d.is_last || same_understanding (understanding plan d) (understood nothing_understood h.words))
 
 abbrev pub speaks_well : ScenarioValue → RunState → Connection → Bool
 speaks_well s k n =
@@ -140,7 +140,7 @@ abbrev pub is_at : Area → ℕ → ℕ → Bool
 is_at a active saved = a.active == active && a.saved == saved
 
 abbrev pub takes_block : RunState → Process → CarriedBytes → Bool
-takes_block k p c = is_front c.block p.cdb && length c.block == k.handshakes.answers && is_filled c.command p.cdb
+takes_block k t c = is_front c.block t.cdb && length c.block == k.handshakes.answers && is_filled c.command t.cdb
     && is_at c.command (length c.block) 0 && k.story.bus_state.dialogue.heard.now.command.count == length c.block
     && (length c.block == 0 || k.story.bus_state.dialogue.heard.now.command.first == slice_index_or c.block 0 0)
     && same_bool c.struck k.exchange.plan.struck
@@ -149,16 +149,16 @@ takes_block k p c = is_front c.block p.cdb && length c.block == k.handshakes.ans
 
 -- A run that began here, so many bytes of which have crossed.
 abbrev pub moves_run : ScenarioValue → Account → Process → ℕ → Bool
-moves_run s a p count =
-    is_at a.carried.moved (next_start s a p + count) (next_start s a p)
-    && is_filled a.carried.moved (content_of a p)
-    && nat_le count (run_length (policy_for s p) (task_in a p))
-    && nat_lt a.progress.runs (runs_in_all (policy_for s p) (task_in a p))
-    && not (task_in a p).replied
+moves_run s a c count =
+    is_at a.carried.moved (next_start s a c + count) (next_start s a c)
+    && is_filled a.carried.moved (content_of a c)
+    && nat_le count (run_length (policy_for s c) (task_in a c))
+    && nat_lt a.progress.runs (runs_in_all (policy_for s c) (task_in a c))
+    && not (task_in a c).replied
 
 abbrev pub gives_status : Account → Process → ℕ → Bool
-gives_status a p count =
-    is_filled a.carried.status ((task_in a p).status ∷ []) && is_at a.carried.status count 0 && (task_in a p).replied
+gives_status a c count =
+    is_filled a.carried.status ((task_in a c).status ∷ []) && is_at a.carried.status count 0 && (task_in a c).replied
 
 -- In the phases that follow when messages were heard, the pointers stand at the beginning.
 abbrev pub is_at_start : CarriedBytes → Bool
@@ -180,18 +180,18 @@ is_before_answer c next causes.InData = same_number c.failure (Some INITIATOR_DE
 is_before_answer c next causes.InStatus = true
 
 abbrev pub moves : ScenarioValue → RunState → Account → Process → Phase → Bool
-moves s k a p phases.Command = takes_block k p a.carried
-moves s k a p phases.DataIn = not (task_in a p).writes && moves_run s a p k.handshakes.requests
-moves s k a p phases.DataOut =
-    (task_in a p).writes && moves_run s a p k.handshakes.answers
+moves s k a c phases.Command = takes_block k c a.carried
+moves s k a c phases.DataIn = not (task_in a c).writes && moves_run s a c k.handshakes.requests
+moves s k a c phases.DataOut =
+    (task_in a c).writes && moves_run s a c k.handshakes.answers
     && same_number a.carried.failure (if k.exchange.plan.struck then Some PARITY_ERROR else None)
-moves s k a p phases.Status = gives_status a p k.handshakes.requests
-moves s k a p phases.MessageIn = is_before a.carried k.exchange.plan.next
-moves s k a p phases.MessageOut = is_before_answer a.carried k.exchange.plan.next k.exchange.plan.cause
+moves s k a c phases.Status = gives_status a c k.handshakes.requests
+moves s k a c phases.MessageIn = is_before a.carried k.exchange.plan.next
+moves s k a c phases.MessageOut = is_before_answer a.carried k.exchange.plan.next k.exchange.plan.cause
 
 abbrev pub moves_if : ScenarioValue → RunState → Option Process → Phase → Bool
 moves_if s k None phase = true
-moves_if s k (Some p) phase = moves s k (account_of s k p.id) p phase
+moves_if s k (Some c) phase = moves s k (account_of s k c.id) c phase
 
 -- ---- the connection
 
@@ -208,55 +208,55 @@ is_connected_well s k (Some n) = is_link_of s k n k.story.link && is_talk s k n 
 
 -- No reply was given yet.
 abbrev pub has_pointers : ScenarioValue → Account → Process → Bool
-has_pointers s a p =
-    a.carried.command.saved == 0 && is_filled a.carried.command p.cdb
+has_pointers s a c =
+    a.carried.command.saved == 0 && is_filled a.carried.command c.cdb
     && is_at a.carried.status 0 0 && length a.carried.status.bytes == 0
-    && a.carried.moved.saved == next_start s a p && is_filled a.carried.moved (content_of a p)
-    && nat_le a.progress.runs (runs_in_all (policy_for s p) (task_in a p))
+    && a.carried.moved.saved == next_start s a c && is_filled a.carried.moved (content_of a c)
+    && nat_le a.progress.runs (runs_in_all (policy_for s c) (task_in a c))
 
 -- It ran, and has carried all that it moves.
 abbrev pub has_carried : RunState → Account → Process → Reply → Bool
-has_carried k a p reply =
-    not (has_run k.story.history p.id)
-    || (same_bytes a.carried.command.bytes p.cdb && same_bytes a.carried.moved.bytes (moved_bytes p reply))
+has_carried k a c reply =
+    not (has_run k.story.history c.id)
+    || (same_bytes a.carried.command.bytes c.cdb && same_bytes a.carried.moved.bytes (moved_bytes c reply))
 
 abbrev pub is_found : ScenarioValue → Sent → Process → Bool
-is_found s b p =
-    same_process (Some (process p.id)) (named_item_from b p.initiator p.target p.unit (tag_number p.tag) 1 s.commands)
+is_found s b c =
+    same_process (Some (process c.id)) (named_item_from b c.initiator c.target c.unit (tag_number c.tag) 1 s.commands)
 
 abbrev pub stands_by_reply : ScenarioValue → RunState → Account → Process → Option Reply → Bool
-stands_by_reply s k a p (Some reply) =
-    is_served_by a.served p.id && is_in_array a.array p.id && a.carried.status.saved == 0 && has_carried k a p reply
-stands_by_reply s k a p None = has_pointers s a p && (if is_in_array a.array p.id
-    then same_bytes a.carried.command.bytes p.cdb && (is_served_by a.served p.id || is_found s a.sent p)
-    else is_served_by a.served p.id)
+stands_by_reply s k a c (Some reply) =
+    is_served_by a.served c.id && is_in_array a.array c.id && a.carried.status.saved == 0 && has_carried k a c reply
+stands_by_reply s k a c None = has_pointers s a c && (if is_in_array a.array c.id
+    then same_bytes a.carried.command.bytes c.cdb && (is_served_by a.served c.id || is_found s a.sent c)
+    else is_served_by a.served c.id)
 
 abbrev pub stands_open : ScenarioValue → RunState → Account → Option Process → Bool
 stands_open s k a None = false
-stands_open s k a (Some p) = not (has_ended a.array p.id) && stands_by_reply s k a p (reply_in a.array.replies p.id)
+stands_open s k a (Some c) = not (has_ended a.array c.id) && stands_by_reply s k a c (reply_in a.array.replies c.id)
 
 abbrev pub stands : ScenarioValue → RunState → Account → ProcId → Bool
 stands s k a id = if is_open_in a.sent id then stands_open s k a (process_of s id) else not (is_in_array a.array id)
 
 abbrev pub all_stand : ScenarioValue → RunState → ℕ → List CmdDef → Bool
-all_stand s k n [] = true
-all_stand s k n (c ∷ commands) =
-    stands s k (account_of s k (record { command = n; sense = false })) (record { command = n; sense = false })
-    && stands s k (account_of s k (record { command = n; sense = true })) (record { command = n; sense = true })
-    && all_stand s k (n + 1) commands
+all_stand s k m [] = true
+all_stand s k m (c ∷ commands) =
+    stands s k (account_of s k (record { command = m; sense = false })) (record { command = m; sense = false })
+    && stands s k (account_of s k (record { command = m; sense = true })) (record { command = m; sense = true })
+    && all_stand s k (m + 1) commands
 
 -- ---- items, and the units of the plain disk array
 
 -- Open commands of one initiator are not confused (6.6.17, 7.8), and each item is sent once.
 abbrev pub clashes_with_none : Sent → CmdDef → ℕ → List CmdDef → Bool
-clashes_with_none b c n [] = true
-clashes_with_none b c n (d ∷ commands) =
-    not (d.host == c.host && is_open b n && is_clash c d) && clashes_with_none b c (n + 1) commands
+clashes_with_none b c m [] = true
+clashes_with_none b c m (d ∷ commands) =
+    not (d.host == c.host && is_open b m && is_clash c d) && clashes_with_none b c (m + 1) commands
 
 abbrev pub have_no_clash : Sent → ℕ → List CmdDef → Bool
-have_no_clash b n [] = true
-have_no_clash b n (c ∷ commands) =
-    (not (is_open b n) || clashes_with_none b c (n + 1) commands) && have_no_clash b (n + 1) commands
+have_no_clash b m [] = true
+have_no_clash b m (c ∷ commands) =
+    (not (is_open b m) || clashes_with_none b c (m + 1) commands) && have_no_clash b (m + 1) commands
 
 abbrev pub are_sent_once : List Item → Bool
 are_sent_once [] = true
@@ -269,7 +269,7 @@ is_item s (Some (process id)) = is_some (process_of s id)
 is_item s (Some (abort n)) = is_some (abort_line_at s.aborts n)
 
 abbrev pub is_of_unit : UnitState → Process → Bool
-is_of_unit u p = p.target == u.target && p.unit == u.unit
+is_of_unit u c = c.target == u.target && c.unit == u.unit
 
 abbrev pub is_current_of_unit : UnitState → Option RunningProcess → Bool
 is_current_of_unit u None = true
@@ -277,7 +277,7 @@ is_current_of_unit u (Some r) = is_of_unit u r.process
 
 abbrev pub have_own_processes : List UnitState → Bool
 have_own_processes units = list_all
-    (λ (u : UnitState). list_all (λ (p : Process). is_of_unit u p) u.waiting && is_current_of_unit u u.current) units
+    (λ (u : UnitState). list_all (λ (c : Process). is_of_unit u c) u.waiting && is_current_of_unit u u.current) units
 
 abbrev pub are_items_well : ScenarioValue → RunState → Bool
 are_items_well s k =

@@ -37,7 +37,7 @@ pub record IsReadyFor (s : ScenarioValue) (k : RunState) (n : Connection) : Type
 pub record IsAimedAt (s : ScenarioValue) (k : RunState) (n : Connection) : Type 0 where
   pub item : Item
   pub aim_is : aim_of k.story.aims n.initiator ≡ Some item
-  pub target_is : (p : Process) → process_item s (Some item) ≡ Some p → p.target ≡ n.target
+  pub target_is : (c : Process) → process_item s (Some item) ≡ Some c → c.target ≡ n.target
 
 pub record Begins (s : ScenarioValue) (k : RunState) (row : Row) (n : Connection) : Type 0 where
   pub first : IsFirstRow k row n

@@ -78,7 +78,7 @@ pub record IsLoser (s : ScenarioValue) (p : List Row) (d : ℕ) : Type 0 where
 -- A contender has won: SEL has risen, and the caller does not drive both IDs yet (6.1.2).
 pub record ArbitrationWon (s : ScenarioValue) (p : List Row) (c : ℕ) (t : ℕ) : Type 0 where
   pub stands : Stands p (won_bus (bus p).data_bits) None
-      (let k : Call = record { caller = c; at = t; calling = None } in Some k) None
+      (let h : Call = record { caller = c; at = t; calling = None } in Some h) None
   pub caller_below : c < 8
   pub caller : drives p c ≡ record (contender_lines c) { sel = true }
   pub lat : ℕ
@@ -90,8 +90,8 @@ pub record ArbitrationWon (s : ScenarioValue) (p : List Row) (c : ℕ) (t : ℕ)
 
 -- From the row that drives both IDs on: the caller c drives x, the called device d drives y, no other device a line,
 -- and so the bus is b (6.1.3, 6.1.4).
-pub record Calls (s : ScenarioValue) (p : List Row) (k : Call) (c d : ℕ) (x y b : LineSet) : Type 0 where
-  pub stands : Stands p b None (Some k) None
+pub record Calls (s : ScenarioValue) (p : List Row) (h : Call) (c d : ℕ) (x y b : LineSet) : Type 0 where
+  pub stands : Stands p b None (Some h) None
   pub caller_below : c < 8
   pub called_below : d < 8
   pub apart : c ≢ d
@@ -102,17 +102,17 @@ pub record Calls (s : ScenarioValue) (p : List Row) (k : Call) (c d : ℕ) (x y 
 
 -- The caller has released BSY at t2, and awaits the answer; a fault has struck the called device (v), or not. The data
 -- lines are x, on which the ID of the called device is true.
-pub record AwaitsAnswer (s : ScenarioValue) (p : List Row) (v m : Bool) (c k t0 t1 t2 x : ℕ) : Type 0 where
-  pub here : Calls s p (awaiting_call v m c k t0 t1 t2) c k (calling_lines m false x) none (calling_lines m false x)
+pub record AwaitsAnswer (s : ScenarioValue) (p : List Row) (v m : Bool) (c i t0 t1 t2 x : ℕ) : Type 0 where
+  pub here : Calls s p (awaiting_call v m c i t0 t1 t2) c i (calling_lines m false x) none (calling_lines m false x)
   pub bsy_age : since_line (λ z. z.bsy) p ≡ t2
   pub sel_age : since_line (λ z. z.sel) p ≤ t2
-  pub id_age : since (line_of k) p ≤ t2
-  pub shows : (bit_at x k == 1) ≡ true
+  pub id_age : since (line_of i) p ≤ t2
+  pub shows : (bit_at x i == 1) ≡ true
   pub some : (x == 0) ≡ false
 
 -- The called device drives BSY, and the caller BSY again (b), or not yet.
-pub record IsAnswered (s : ScenarioValue) (p : List Row) (g : Calling) (c k t0 : ℕ) (m b : Bool) (x : ℕ) : Type 0 where
-  pub here : Calls s p (record { caller = c; at = t0; calling = Some g }) c k (calling_lines m b x) answer_lines
+pub record IsAnswered (s : ScenarioValue) (p : List Row) (g : Calling) (c i t0 : ℕ) (m b : Bool) (x : ℕ) : Type 0 where
+  pub here : Calls s p (record { caller = c; at = t0; calling = Some g }) c i (calling_lines m b x) answer_lines
       (calling_lines m true x)
   pub some : (x == 0) ≡ false
 
@@ -138,23 +138,23 @@ pub record UnderRst (s : ScenarioValue) (p : List Row) : Type 0 where
   pub each : (d : ℕ) → d < 8 → IsUnderRst p d
   pub link : (run_state s p).story.link ≡ None
 
--- The stages. In both directions of a calling m says that the caller selects; c is the caller, k the called device, t0
+-- The stages. In both directions of a calling m says that the caller selects; c is the caller, i the called device, t0
 -- the time of the rise of SEL, t1 that of the IDs, t2 that of the release of BSY, t3 that of the withdrawal or of the
 -- answer, t4 that of BSY again.
 pub data BusStage (s : ScenarioValue) (p : List Row) : Type 0 where
   on_free_bus : FreeBus s p → BusStage s p
   in_arbitration : (a : Arbitration) → Arbitrating s p a → BusStage s p
   after_arbitration : (c t : ℕ) → ArbitrationWon s p c t → BusStage s p
-  with_both_ids : (m : Bool) (c k t0 t : ℕ) → own_time p c ≡ t
-      → Calls s p (begun_call m c k t0 t) c k (both_ids m c k) none (both_ids m c k) → BusStage s p
-  awaiting_answer : (v m : Bool) (c k t0 t1 t2 x : ℕ) → AwaitsAnswer s p v m c k t0 t1 t2 x → BusStage s p
-  after_withdrawal : (v m : Bool) (c k t0 t1 t2 t3 : ℕ) → own_time p c ≡ t3
-      → Calls s p (withdrawn_call v m c k t0 t1 t2 t3) c k (calling_lines m false 0) none (calling_lines m false 0)
+  with_both_ids : (m : Bool) (c i t0 t : ℕ) → own_time p c ≡ t
+      → Calls s p (begun_call m c i t0 t) c i (both_ids m c i) none (both_ids m c i) → BusStage s p
+  awaiting_answer : (v m : Bool) (c i t0 t1 t2 x : ℕ) → AwaitsAnswer s p v m c i t0 t1 t2 x → BusStage s p
+  after_withdrawal : (v m : Bool) (c i t0 t1 t2 t3 : ℕ) → own_time p c ≡ t3
+      → Calls s p (withdrawn_call v m c i t0 t1 t2 t3) c i (calling_lines m false 0) none (calling_lines m false 0)
       → BusStage s p
-  after_answer : (m : Bool) (c k t0 t1 t2 t3 x : ℕ) → IsAnswered s p (answered_calling m k t1 t2 t3) c k t0 m false x
+  after_answer : (m : Bool) (c i t0 t1 t2 t3 x : ℕ) → IsAnswered s p (answered_calling m i t1 t2 t3) c i t0 m false x
       → BusStage s p
-  after_takeover : (c k t0 t1 t2 t3 t4 x : ℕ) → own_time p c ≡ t4 → since_line (λ z. z.io) p ≤ t4
-      → IsAnswered s p (resumed_calling k t1 t2 t3 t4) c k t0 false true x → BusStage s p
+  after_takeover : (c i t0 t1 t2 t3 t4 x : ℕ) → own_time p c ≡ t4 → since_line (λ z. z.io) p ≤ t4
+      → IsAnswered s p (resumed_calling i t1 t2 t3 t4) c i t0 false true x → BusStage s p
   in_reset : UnderRst s p → BusStage s p
   in_connection : (n : Connection) → connection p ≡ Some n → (bus p).rst ≡ false → BeginsConnection p n → BusStage s p
 

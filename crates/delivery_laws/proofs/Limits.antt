@@ -22,13 +22,13 @@ has_no_abort (a ∷ aborts) = false
 -- Its queue has room for all, and there is no reset and no abort; it is valid, so many faults struck it, it bears so
 -- many, and it ended GOOD or not.
 abbrev pub limit_told_of : ScenarioValue → List Row → ℕ → ℕ → ℕ → Bool → Option CmdDef → Bool
-limit_told_of s rows n faults limit good None = false
-limit_told_of s rows n faults limit good (Some c) = (is_roomy s && (has_no_reset s.resets && has_no_abort s.aborts))
-    && (is_valid s c && (command_faults s rows n == faults
-    && (fault_limit s c == limit && same_bool (is_good (outcome_of s (story s rows) n)) good)))
+limit_told_of s rows m faults limit good None = false
+limit_told_of s rows m faults limit good (Some c) = (is_roomy s && (has_no_reset s.resets && has_no_abort s.aborts))
+    && (is_valid s c && (command_faults s rows m == faults
+    && (fault_limit s c == limit && same_bool (is_good (outcome_of s (story s rows) m)) good)))
 
 abbrev pub limit_told : ScenarioValue → List Row → ℕ → ℕ → ℕ → Bool → Bool
-limit_told s rows n faults limit good = limit_told_of s rows n faults limit good (command_at s.commands n)
+limit_told s rows m faults limit good = limit_told_of s rows m faults limit good (command_at s.commands m)
 
 -- ---- its outcome
 
@@ -55,27 +55,27 @@ is_outcome _ _ = false
 -- It ended so, as the story of the rows tells, and as the first row does that ends it; it ended unanswered where nobody
 -- answered its initiator too often, and with QUEUE FULL where it was refused at a full queue.
 abbrev outcome_told_of : ScenarioValue → List Row → ℕ → Outcome → Option CmdDef → Bool
-outcome_told_of s rows n outcome None = false
-outcome_told_of s rows n outcome (Some c) =
-    (is_outcome outcome (outcome_of s (story s rows) n) && is_outcome outcome (first_outcome s rows n c))
-    && (same_bool (is_unanswered (Some outcome)) (is_tried_out s rows n c) && same_bool (is_full (Some outcome))
-    (was_refused s (trace_history s rows) (command_id n) && is_by_status QUEUE_FULL (first_ending s rows n c)))
+outcome_told_of s rows m outcome None = false
+outcome_told_of s rows m outcome (Some c) =
+    (is_outcome outcome (outcome_of s (story s rows) m) && is_outcome outcome (first_outcome s rows m c))
+    && (same_bool (is_unanswered (Some outcome)) (is_tried_out s rows m c) && same_bool (is_full (Some outcome))
+    (was_refused s (trace_history s rows) (command_id m) && is_by_status QUEUE_FULL (first_ending s rows m c)))
 
 abbrev pub outcome_told : ScenarioValue → List Row → ℕ → Outcome → Bool
-outcome_told s rows n outcome = outcome_told_of s rows n outcome (command_at s.commands n)
+outcome_told s rows m outcome = outcome_told_of s rows m outcome (command_at s.commands m)
 
 -- ---- all of a run
 
 -- Within its limit it ended GOOD, if it is valid.
 abbrev is_within : ScenarioValue → List Row → ℕ → CmdDef → Bool
-is_within s rows n c = is_valid s c && nat_le (command_faults s rows n) (fault_limit s c)
+is_within s rows m c = is_valid s c && nat_le (command_faults s rows m) (fault_limit s c)
 
 abbrev delivers_one : ScenarioValue → List Row → ℕ → CmdDef → Bool
-delivers_one s rows n c = not (is_within s rows n c) || is_good (outcome_of s (story s rows) n)
+delivers_one s rows m c = not (is_within s rows m c) || is_good (outcome_of s (story s rows) m)
 
 abbrev delivers_from : ScenarioValue → List Row → ℕ → List CmdDef → Bool
-delivers_from s rows n [] = true
-delivers_from s rows n (c ∷ commands) = delivers_one s rows n c && delivers_from s rows (n + 1) commands
+delivers_from s rows m [] = true
+delivers_from s rows m (c ∷ commands) = delivers_one s rows m c && delivers_from s rows (m + 1) commands
 
 abbrev is_calm : ScenarioValue → Bool
 is_calm s = is_roomy s && (has_no_reset s.resets && has_no_abort s.aborts)
@@ -95,33 +95,33 @@ given_if false r e z = absurd (never e)
 one_more : (m : ℕ) → 1 + m ≡ suc m
 one_more m = omega arith
 
-each_from : (s : ScenarioValue) (rows : List Row) (n m : ℕ) (commands : List CmdDef) (c : CmdDef)
-    → delivers_from s rows n commands ≡ true → command_at commands (suc m) ≡ Some c
-    → delivers_one s rows (n + m) c ≡ true
-each_from s rows n m [] c e at = none_some c at
-each_from s rows n zero (x ∷ commands) c e at = subst (λ (k : ℕ). delivers_one s rows k c ≡ true)
-    (sym (plus_none n)) (ap (λ (y : CmdDef). delivers_one s rows n y) (sym (same_Some x c at))
-    ∙ and_first (delivers_one s rows n x) (delivers_from s rows (n + 1) commands) e)
-each_from s rows n (suc m) (x ∷ commands) c e at =
-    subst (λ (k : ℕ). delivers_one s rows k c ≡ true) (sym (plus_one n m)) (each_from s rows (n + 1) m commands c
-    (and_second (delivers_one s rows n x) (delivers_from s rows (n + 1) commands) e) at)
+each_from : (s : ScenarioValue) (rows : List Row) (i m : ℕ) (commands : List CmdDef) (c : CmdDef)
+    → delivers_from s rows i commands ≡ true → command_at commands (suc m) ≡ Some c
+    → delivers_one s rows (i + m) c ≡ true
+each_from s rows i m [] c e at = none_some c at
+each_from s rows i zero (x ∷ commands) c e at = subst (λ (l : ℕ). delivers_one s rows l c ≡ true)
+    (sym (plus_none i)) (ap (λ (y : CmdDef). delivers_one s rows i y) (sym (same_Some x c at))
+    ∙ and_first (delivers_one s rows i x) (delivers_from s rows (i + 1) commands) e)
+each_from s rows i (suc m) (x ∷ commands) c e at =
+    subst (λ (l : ℕ). delivers_one s rows l c ≡ true) (sym (plus_one i m)) (each_from s rows (i + 1) m commands c
+    (and_second (delivers_one s rows i x) (delivers_from s rows (i + 1) commands) e) at)
 
 no_command : (commands : List CmdDef) (c : CmdDef) → command_at commands 0 ≡ Some c → ⊥
 no_command [] c e = none_some c e
 no_command (x ∷ commands) c e = none_some c e
 
 pub delivered_by_test : (s : ScenarioValue) (rows : List Row) → delivers s rows ≡ true → IsDelivered s rows
-delivered_by_test s rows e = λ roomy resets aborts n c at valid bears. by n at valid bears
+delivered_by_test s rows e = λ roomy resets aborts l c at valid bears. by l at valid bears
     (given_if (is_calm s) (delivers_from s rows 1 s.commands) (calm roomy resets aborts) e)
   where
     calm : is_roomy s ≡ true → s.resets ≡ [] → s.aborts ≡ [] → is_calm s ≡ true
     calm roomy resets aborts = λ i. roomy i && (has_no_reset (resets i) && has_no_abort (aborts i))
 
-    by : (n : ℕ) {c : CmdDef} → command_at s.commands n ≡ Some c → is_valid s c ≡ true
-        → nat_le (command_faults s rows n) (fault_limit s c) ≡ true → delivers_from s rows 1 s.commands ≡ true
-        → is_good (outcome_of s (story s rows) n) ≡ true
+    by : (l : ℕ) {c : CmdDef} → command_at s.commands l ≡ Some c → is_valid s c ≡ true
+        → nat_le (command_faults s rows l) (fault_limit s c) ≡ true → delivers_from s rows 1 s.commands ≡ true
+        → is_good (outcome_of s (story s rows) l) ≡ true
     by zero {c} at valid bears all = absurd (no_command s.commands c at)
     by (suc m) {c} at valid bears all = given_if (is_within s rows (suc m) c)
         (is_good (outcome_of s (story s rows) (suc m)))
         (and_from (is_valid s c) (nat_le (command_faults s rows (suc m)) (fault_limit s c)) valid bears)
-        (subst (λ (k : ℕ). delivers_one s rows k c ≡ true) (one_more m) (each_from s rows 1 m s.commands c all at))
+        (subst (λ (w : ℕ). delivers_one s rows w c ≡ true) (one_more m) (each_from s rows 1 m s.commands c all at))

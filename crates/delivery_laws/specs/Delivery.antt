@@ -58,7 +58,7 @@ is_for_item (Some i) item = same_item i item
 -- An initiator calls for this item.
 abbrev pub is_call_for : List (Option Item) → Item → Option Call → Bool
 is_call_for aims item None = false
-is_call_for aims item (Some k) = is_selecting k.calling && is_for_item (aim_of aims k.caller) item
+is_call_for aims item (Some c) = is_selecting c.calling && is_for_item (aim_of aims c.caller) item
 
 abbrev pub is_calling_fault : RunState → Row → Item → Bool
 is_calling_fault k row item = is_fault row.kind && is_call_for k.story.aims item k.story.bus_state.call
@@ -70,7 +70,7 @@ calling_faults s (row ∷ rows) item = calling_faults s rows item + one_if (is_c
 
 -- Those in its connections, and those.
 abbrev pub command_faults : ScenarioValue → List Row → ℕ → ℕ
-command_faults s rows n = fault_rows s rows (command_id n) + calling_faults s rows (command_item n)
+command_faults s rows m = fault_rows s rows (command_id m) + calling_faults s rows (command_item m)
 
 -- How many it bears: the smaller retry limit of its initiator and its target, or that of its initiator where the target
 -- is absent.
@@ -99,9 +99,9 @@ is_calm_event _ = true
 -- Of a trace: where queues have room for all that may be open, and there is no reset and no abort, every valid command
 -- that no more faults struck than it bears ends GOOD.
 abbrev pub IsDelivered : ScenarioValue → List Row → Type 0
-IsDelivered s rows = is_roomy s ≡ true → s.resets ≡ [] → s.aborts ≡ [] → (n : ℕ) (c : CmdDef)
-    → command_at s.commands n ≡ Some c → is_valid s c ≡ true → nat_le (command_faults s rows n) (fault_limit s c) ≡ true
-    → is_good (outcome_of s (story s rows) n) ≡ true
+IsDelivered s rows = is_roomy s ≡ true → s.resets ≡ [] → s.aborts ≡ [] → (m : ℕ) (c : CmdDef)
+    → command_at s.commands m ≡ Some c → is_valid s c ≡ true → nat_le (command_faults s rows m) (fault_limit s c) ≡ true
+    → is_good (outcome_of s (story s rows) m) ≡ true
 
 -- So of every trace.
 abbrev pub Delivers : Type 0
@@ -109,29 +109,29 @@ Delivers = (s : ScenarioValue) (rows : List Row) → Obeys s → IsPrompt s rows
 
 -- More faults struck this command than it bears.
 abbrev pub has_too_many : ScenarioValue → List Row → ℕ → CmdDef → Bool
-has_too_many s rows n c = nat_lt (fault_limit s c) (command_faults s rows n)
+has_too_many s rows m c = nat_lt (fault_limit s c) (command_faults s rows m)
 
 -- Of a trace: why a command ends otherwise than GOOD. It is lost, or fails with the sense of ABORTED COMMAND, only
 -- where more faults struck it than it bears, and ends unanswered only there or where its target is absent; it ends with
 -- QUEUE FULL only where it was refused at a full queue, and by a reset or an abort only where the history has one.
 pub record AreCaused (s : ScenarioValue) (rows : List Row) : Type 0 where
-  pub lost : (n : ℕ) (c : CmdDef) → command_at s.commands n ≡ Some c → outcome_of s (story s rows) n ≡ Some ended_lost
-      → has_too_many s rows n c ≡ true
-  pub failed : (n code : ℕ) (c : CmdDef) → command_at s.commands n ≡ Some c
-      → has_event (trace_history s rows) (events.Fail (command_id n) code) ≡ true → has_too_many s rows n c ≡ true
-  pub unanswered : (n : ℕ) (c : CmdDef) → command_at s.commands n ≡ Some c
-      → outcome_of s (story s rows) n ≡ Some ended_unanswered
-      → (has_target s c.target ≡ false) ⊎ (has_too_many s rows n c ≡ true)
-  pub full : (n : ℕ) → outcome_of s (story s rows) n ≡ Some ended_full
-      → was_refused s (trace_history s rows) (command_id n) ≡ true
-  pub reset : (n : ℕ) → outcome_of s (story s rows) n ≡ Some ended_reset → has_bus_reset (trace_history s rows) ≡ true
-  pub aborted : (n : ℕ) (c : CmdDef) → command_at s.commands n ≡ Some c
-      → outcome_of s (story s rows) n ≡ Some ended_aborted → has_command_abort (trace_history s rows) c ≡ true
+  pub lost : (m : ℕ) (c : CmdDef) → command_at s.commands m ≡ Some c → outcome_of s (story s rows) m ≡ Some ended_lost
+      → has_too_many s rows m c ≡ true
+  pub failed : (m code : ℕ) (c : CmdDef) → command_at s.commands m ≡ Some c
+      → has_event (trace_history s rows) (events.Fail (command_id m) code) ≡ true → has_too_many s rows m c ≡ true
+  pub unanswered : (m : ℕ) (c : CmdDef) → command_at s.commands m ≡ Some c
+      → outcome_of s (story s rows) m ≡ Some ended_unanswered
+      → (has_target s c.target ≡ false) ⊎ (has_too_many s rows m c ≡ true)
+  pub full : (m : ℕ) → outcome_of s (story s rows) m ≡ Some ended_full
+      → was_refused s (trace_history s rows) (command_id m) ≡ true
+  pub reset : (m : ℕ) → outcome_of s (story s rows) m ≡ Some ended_reset → has_bus_reset (trace_history s rows) ≡ true
+  pub aborted : (m : ℕ) (c : CmdDef) → command_at s.commands m ≡ Some c
+      → outcome_of s (story s rows) m ≡ Some ended_aborted → has_command_abort (trace_history s rows) c ≡ true
 
 -- Of a trace: a command is without the sense of its CHECK CONDITION only where its automatic REQUEST SENSE was stopped.
 abbrev pub AreStoppedSenses : ScenarioValue → List Row → Type 0
-AreStoppedSenses s rows = (n : ℕ) (c : CmdDef) → command_at s.commands n ≡ Some c
-    → outcome_of s (story s rows) n ≡ Some (ended_check None) → has_sense_stop (trace_history s rows) n c ≡ true
+AreStoppedSenses s rows = (m : ℕ) (c : CmdDef) → command_at s.commands m ≡ Some c
+    → outcome_of s (story s rows) m ≡ Some (ended_check None) → has_sense_stop (trace_history s rows) m c ≡ true
 
 -- ---- why a process has its reply
 
@@ -164,30 +164,30 @@ HaveStrikes s rows = (id : ProcId) (code : ℕ) → has_event (trace_history s r
 -- ---- whose sense came back
 
 -- The reply of the command itself is CHECK CONDITION with this sense.
-pub record IsOwnSense (s : ScenarioValue) (h : List Event) (n : ℕ) (sense : Sense) : Type 0 where
+pub record IsOwnSense (s : ScenarioValue) (h : List Event) (m : ℕ) (sense : Sense) : Type 0 where
   pub reply : Reply
-  pub reply_is : reply_of (array_after s h) (command_id n) ≡ Some reply
+  pub reply_is : reply_of (array_after s h) (command_id m) ≡ Some reply
   pub check : reply.status ≡ CHECK_CONDITION
   pub sense_is : reply.sense ≡ sense
 
 -- It ran so.
-pub record RanSo (s : ScenarioValue) (h : List Event) (n : ℕ) (sense : Sense) : Type 0 where
+pub record RanSo (s : ScenarioValue) (h : List Event) (m : ℕ) (sense : Sense) : Type 0 where
   pub reply : Reply
-  pub has_run : HasRun s h (command_id n) reply
+  pub has_run : HasRun s h (command_id m) reply
   pub check : reply.status ≡ CHECK_CONDITION
   pub sense_is : reply.sense ≡ sense
 
 -- Of a trace: the sense with which a command ends is that of its own reply. With the key ABORTED COMMAND it failed with
 -- that code, and more faults struck it than it bears; any other is what the plain disk array answered as it ran.
 pub record AreOwnSenses (s : ScenarioValue) (rows : List Row) : Type 0 where
-  pub own : (n : ℕ) (sense : Sense) → outcome_of s (story s rows) n ≡ Some (ended_check (Some sense))
-      → IsOwnSense s (trace_history s rows) n sense
-  pub failed : (n : ℕ) (c : CmdDef) (sense : Sense) → command_at s.commands n ≡ Some c
-      → outcome_of s (story s rows) n ≡ Some (ended_check (Some sense)) → (sense.key == ABORTED_COMMAND) ≡ true
-      → (has_event (trace_history s rows) (events.Fail (command_id n) sense.asc) ≡ true)
-      × (has_too_many s rows n c ≡ true)
-  pub ran : (n : ℕ) (sense : Sense) → outcome_of s (story s rows) n ≡ Some (ended_check (Some sense))
-      → (sense.key == ABORTED_COMMAND) ≡ false → RanSo s (trace_history s rows) n sense
+  pub own : (m : ℕ) (sense : Sense) → outcome_of s (story s rows) m ≡ Some (ended_check (Some sense))
+      → IsOwnSense s (trace_history s rows) m sense
+  pub failed : (m : ℕ) (c : CmdDef) (sense : Sense) → command_at s.commands m ≡ Some c
+      → outcome_of s (story s rows) m ≡ Some (ended_check (Some sense)) → (sense.key == ABORTED_COMMAND) ≡ true
+      → (has_event (trace_history s rows) (events.Fail (command_id m) sense.asc) ≡ true)
+      × (has_too_many s rows m c ≡ true)
+  pub ran : (m : ℕ) (sense : Sense) → outcome_of s (story s rows) m ≡ Some (ended_check (Some sense))
+      → (sense.key == ABORTED_COMMAND) ≡ false → RanSo s (trace_history s rows) m sense
 
 -- ---- what a command that is not valid answers
 
@@ -208,17 +208,17 @@ checked_sense s c =
 -- and where queues have room, one that is not valid ends with CHECK CONDITION and this sense, if no more faults struck
 -- it than it bears.
 pub record AreChecked (s : ScenarioValue) (rows : List Row) : Type 0 where
-  pub unheard : (n : ℕ) (c : CmdDef) → command_at s.commands n ≡ Some c → has_target s c.target ≡ false
-      → outcome_of s (story s rows) n ≡ Some ended_unanswered
-  pub checked : (n : ℕ) (c : CmdDef) → is_roomy s ≡ true → command_at s.commands n ≡ Some c
-      → has_target s c.target ≡ true → is_valid s c ≡ false → nat_le (command_faults s rows n) (fault_limit s c) ≡ true
-      → outcome_of s (story s rows) n ≡ Some (ended_check (Some (checked_sense s c)))
+  pub unheard : (m : ℕ) (c : CmdDef) → command_at s.commands m ≡ Some c → has_target s c.target ≡ false
+      → outcome_of s (story s rows) m ≡ Some ended_unanswered
+  pub checked : (m : ℕ) (c : CmdDef) → is_roomy s ≡ true → command_at s.commands m ≡ Some c
+      → has_target s c.target ≡ true → is_valid s c ≡ false → nat_le (command_faults s rows m) (fault_limit s c) ≡ true
+      → outcome_of s (story s rows) m ≡ Some (ended_check (Some (checked_sense s c)))
 
 -- ---- how a command ends that ran with CHECK CONDITION
 
 -- Of a trace: a command that ran so and ended with a status ends with CHECK CONDITION and this sense, or without sense.
 abbrev pub AreAnswered : ScenarioValue → List Row → Type 0
-AreAnswered s rows = (n status : ℕ) (reply : Reply) → HasRun s (trace_history s rows) (command_id n) reply
-    → reply.status ≡ CHECK_CONDITION → ending_of (story s rows).ended n ≡ Some (by_status status)
-    → (outcome_of s (story s rows) n ≡ Some (ended_check None))
-    ⊎ (outcome_of s (story s rows) n ≡ Some (ended_check (Some reply.sense)))
+AreAnswered s rows = (m status : ℕ) (reply : Reply) → HasRun s (trace_history s rows) (command_id m) reply
+    → reply.status ≡ CHECK_CONDITION → ending_of (story s rows).ended m ≡ Some (by_status status)
+    → (outcome_of s (story s rows) m ≡ Some (ended_check None))
+    ⊎ (outcome_of s (story s rows) m ≡ Some (ended_check (Some reply.sense)))

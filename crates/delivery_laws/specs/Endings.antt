@@ -39,7 +39,7 @@ is_unheard (Some g) = is_none g.answered && not g.reselects
 -- The call that stands is one, and its caller entered arbitration for this item.
 abbrev pub is_unheard_call : List (Option Item) → Item → Option Call → Bool
 is_unheard_call aims item None = false
-is_unheard_call aims item (Some k) = is_unheard k.calling && is_for_item (aim_of aims k.caller) item
+is_unheard_call aims item (Some c) = is_unheard c.calling && is_for_item (aim_of aims c.caller) item
 
 -- With this row SEL becomes false, and neither a connection nor RST ended the call.
 abbrev pub is_end_in_vain : Story → RowReading → Item → Bool
@@ -54,19 +54,19 @@ calls_in_vain s (row ∷ rows) item =
 
 -- More often than its initiator tries again.
 abbrev pub is_tried_out : ScenarioValue → List Row → ℕ → CmdDef → Bool
-is_tried_out s rows n c = nat_lt (retries_of s.hosts c.host) (calls_in_vain s rows (command_item n))
+is_tried_out s rows m c = nat_lt (retries_of s.hosts c.host) (calls_in_vain s rows (command_item m))
 
 -- ---- the first row that ends a command
 
 -- The event ends the command, the n-th: it ends with its status, or is lost; or it was sent, and a reset, or an abort
 -- that concerns it, comes.
 abbrev pub event_ending : Bool → ℕ → CmdDef → Event → Option Ending
-event_ending sent n c (events.End id status) = if same_id id (command_id n) then Some (by_status status) else None
-event_ending sent n c (events.Lost id) = if same_id id (command_id n) then Some by_loss else None
-event_ending sent n c (events.Aborted host target unit what) =
+event_ending sent m c (events.End id status) = if same_id id (command_id m) then Some (by_status status) else None
+event_ending sent m c (events.Lost id) = if same_id id (command_id m) then Some by_loss else None
+event_ending sent m c (events.Aborted host target unit what) =
     if sent && is_aborted host target unit what c then Some by_abort else None
-event_ending sent n c (events.Reset dev) = if sent then Some by_reset else None
-event_ending sent n c _ = None
+event_ending sent m c (events.Reset dev) = if sent then Some by_reset else None
+event_ending sent m c _ = None
 
 abbrev pub first_of : Option Ending → Option Ending → Option Ending
 first_of None later = later
@@ -74,21 +74,21 @@ first_of (Some e) later = Some e
 
 -- Of these events, the newest first, the first that ends it.
 abbrev pub events_ending : Bool → ℕ → CmdDef → List Event → Option Ending
-events_ending sent n c [] = None
-events_ending sent n c (e ∷ shown) = first_of (events_ending sent n c shown) (event_ending sent n c e)
+events_ending sent m c [] = None
+events_ending sent m c (e ∷ shown) = first_of (events_ending sent m c shown) (event_ending sent m c e)
 
 -- A connection was begun for it.
 abbrev pub was_sent : ScenarioValue → List Row → ℕ → Bool
-was_sent s rows n = has_item (story s rows).sent.sent (command_item n)
+was_sent s rows m = has_item (story s rows).sent.sent (command_item m)
 
 -- The row after these rows ends it: its initiator has called for it too often, or the row shows an event that ends it.
 abbrev pub row_ending : ScenarioValue → List Row → Row → ℕ → CmdDef → Option Ending
-row_ending s rows row n c = first_of (if is_tried_out s (row ∷ rows) n c then Some unanswered else None)
-    (events_ending (was_sent s (row ∷ rows) n) n c (row_events s (story s rows) row))
+row_ending s rows row m c = first_of (if is_tried_out s (row ∷ rows) m c then Some unanswered else None)
+    (events_ending (was_sent s (row ∷ rows) m) m c (row_events s (story s rows) row))
 
 abbrev pub first_ending : ScenarioValue → List Row → ℕ → CmdDef → Option Ending
-first_ending s [] n c = None
-first_ending s (row ∷ rows) n c = first_of (first_ending s rows n c) (row_ending s rows row n c)
+first_ending s [] m c = None
+first_ending s (row ∷ rows) m c = first_of (first_ending s rows m c) (row_ending s rows row m c)
 
 -- ---- the sense that does not come
 
@@ -99,10 +99,10 @@ is_sense_stop c e = is_bus_reset e || is_sense_abort c e
 -- In this history, the newest event first, one came after the command had ended with CHECK CONDITION, and before its
 -- automatic REQUEST SENSE ended.
 abbrev pub was_sense_stopped : List Event → ℕ → CmdDef → Bool
-was_sense_stopped [] n c = false
-was_sense_stopped (e ∷ history) n c =
-    (is_sense_stop c e && (has_status history (command_id n) CHECK_CONDITION && not (has_end history (sense_id n))))
-    || was_sense_stopped history n c
+was_sense_stopped [] m c = false
+was_sense_stopped (e ∷ history) m c =
+    (is_sense_stop c e && (has_status history (command_id m) CHECK_CONDITION && not (has_end history (sense_id m))))
+    || was_sense_stopped history m c
 
 -- ---- the outcome that follows
 
@@ -112,29 +112,29 @@ sense_if (Some reply) = Some reply.sense
 
 -- The sense of its own reply, unless its automatic REQUEST SENSE was stopped.
 abbrev pub own_sense_of : ScenarioValue → List Event → ℕ → CmdDef → Option Sense
-own_sense_of s history n c =
-    if was_sense_stopped history n c then None else sense_if (reply_of (array_after s history) (command_id n))
+own_sense_of s history m c =
+    if was_sense_stopped history m c then None else sense_if (reply_of (array_after s history) (command_id m))
 
 abbrev pub status_outcome : ScenarioValue → List Event → ℕ → CmdDef → ℕ → Outcome
-status_outcome s history n c status =
-    if status == GOOD then ended_good (reply_bytes s history (command_id n))
+status_outcome s history m c status =
+    if status == GOOD then ended_good (reply_bytes s history (command_id m))
     else if status == QUEUE_FULL then ended_full
-    else ended_check (own_sense_of s history n c)
+    else ended_check (own_sense_of s history m c)
 
 abbrev pub ending_outcome : ScenarioValue → List Event → ℕ → CmdDef → Ending → Outcome
-ending_outcome s history n c (by_status status) = status_outcome s history n c status
-ending_outcome s history n c by_loss = ended_lost
-ending_outcome s history n c by_reset = ended_reset
-ending_outcome s history n c by_abort = ended_aborted
-ending_outcome s history n c unanswered = ended_unanswered
+ending_outcome s history m c (by_status status) = status_outcome s history m c status
+ending_outcome s history m c by_loss = ended_lost
+ending_outcome s history m c by_reset = ended_reset
+ending_outcome s history m c by_abort = ended_aborted
+ending_outcome s history m c unanswered = ended_unanswered
 
 abbrev pub ending_outcome_if : ScenarioValue → List Event → ℕ → CmdDef → Option Ending → Option Outcome
-ending_outcome_if s history n c None = None
-ending_outcome_if s history n c (Some e) = Some (ending_outcome s history n c e)
+ending_outcome_if s history m c None = None
+ending_outcome_if s history m c (Some e) = Some (ending_outcome s history m c e)
 
 -- By the first row that ends it, and by the reply that the plain disk array gave it.
 abbrev pub first_outcome : ScenarioValue → List Row → ℕ → CmdDef → Option Outcome
-first_outcome s rows n c = ending_outcome_if s (trace_history s rows) n c (first_ending s rows n c)
+first_outcome s rows m c = ending_outcome_if s (trace_history s rows) m c (first_ending s rows m c)
 
 -- ---- tests of an outcome, and of an ending
 
@@ -166,14 +166,14 @@ pub record HasReplyOf (s : ScenarioValue) (history : List Event) (id : ProcId) (
 -- then: by its execution on the plain disk array, by the code of its failure, or QUEUE FULL (`given`, `ran`, `failed`,
 -- `refused`).
 pub record AreExact (s : ScenarioValue) (rows : List Row) : Type 0 where
-  pub outcome : (n : ℕ) (c : CmdDef) → command_at s.commands n ≡ Some c
-      → outcome_of s (story s rows) n ≡ first_outcome s rows n c
-  pub unanswered : (n : ℕ) (c : CmdDef) → command_at s.commands n ≡ Some c
-      → is_unanswered (outcome_of s (story s rows) n) ≡ is_tried_out s rows n c
-  pub full : (n : ℕ) (c : CmdDef) → command_at s.commands n ≡ Some c → is_full (outcome_of s (story s rows) n)
-      ≡ (was_refused s (trace_history s rows) (command_id n) && is_by_status QUEUE_FULL (first_ending s rows n c))
-  pub status : (n status : ℕ) (c : CmdDef) → command_at s.commands n ≡ Some c
-      → first_ending s rows n c ≡ Some (by_status status) → HasReplyOf s (trace_history s rows) (command_id n) status
+  pub outcome : (m : ℕ) (c : CmdDef) → command_at s.commands m ≡ Some c
+      → outcome_of s (story s rows) m ≡ first_outcome s rows m c
+  pub unanswered : (m : ℕ) (c : CmdDef) → command_at s.commands m ≡ Some c
+      → is_unanswered (outcome_of s (story s rows) m) ≡ is_tried_out s rows m c
+  pub full : (m : ℕ) (c : CmdDef) → command_at s.commands m ≡ Some c → is_full (outcome_of s (story s rows) m)
+      ≡ (was_refused s (trace_history s rows) (command_id m) && is_by_status QUEUE_FULL (first_ending s rows m c))
+  pub status : (m status : ℕ) (c : CmdDef) → command_at s.commands m ≡ Some c
+      → first_ending s rows m c ≡ Some (by_status status) → HasReplyOf s (trace_history s rows) (command_id m) status
   pub given : (id : ProcId) (reply : Reply) → reply_of (array_after s (trace_history s rows)) id ≡ Some reply
       → IsGiven s (trace_history s rows) id reply
   pub ran : (id : ProcId) (reply : Reply) → HasRun s (trace_history s rows) id reply

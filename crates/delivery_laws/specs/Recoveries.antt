@@ -94,15 +94,15 @@ pub record AreRecoveries (s : ScenarioValue) (rows : List Row) : Type 0 where
       → has_event (row_events s (story s before) row) (events.Fail id code) ≡ true
       → (is_failure (run_state s before).exchange.plan.cause code (phase_of (bus before)) && gives_up s before row n id)
       ≡ true
-  pub lost : (later before : List Row) (row : Row) (n : Connection) (p : Process) → rows ≡ later ++ row ∷ before
+  pub lost : (later before : List Row) (row : Row) (n : Connection) (c : Process) → rows ≡ later ++ row ∷ before
       → connection before ≡ Some n → connection (row ∷ before) ≡ None → (bus (row ∷ before)).rst ≡ false
-      → process_of s p.id ≡ Some p → has_event (row_events s (story s before) row) (events.Lost p.id) ≡ true
-      → (is_loss (run_state s before).exchange.plan.cause (phase_of (bus before)) && gives_up s before row n p.id)
+      → process_of s c.id ≡ Some c → has_event (row_events s (story s before) row) (events.Lost c.id) ≡ true
+      → (is_loss (run_state s before).exchange.plan.cause (phase_of (bus before)) && gives_up s before row n c.id)
       ≡ true
   pub struck : (later before : List Row) → rows ≡ later ++ before → (run_state s before).exchange.plan.struck ≡ true
       → is_struck_phase s before ≡ true
   pub counted : (later before : List Row) (id : ProcId) → rows ≡ later ++ before
       → (progress_in (run_state s before).progress id).recoveries ≤ wrong_phases s before id
-  pub refused : (later before : List Row) (policy : Policy) (p : Process)
-      → rows ≡ later ++ before → process_served s (run_state s before) ≡ Some p
-      → is_refusal (arrival_of s (run_state s before) policy) ≡ lacks_room (array_of s (run_state s before)) p
+  pub refused : (later before : List Row) (policy : Policy) (c : Process)
+      → rows ≡ later ++ before → process_served s (run_state s before) ≡ Some c
+      → is_refusal (arrival_of s (run_state s before) policy) ≡ lacks_room (array_of s (run_state s before)) c

@@ -36,9 +36,9 @@ present_phase rows = phase_if (connection rows) (bus rows)
 
 -- With this row the target of this connection leaves a phase that has begun, for another or for BUS FREE, while it
 -- serves this process; RST is false.
-pub record LeavesPhase (s : ScenarioValue) (rows : List Row) (row : Row) (n : Connection) (p : Process) : Type 0 where
+pub record LeavesPhase (s : ScenarioValue) (rows : List Row) (row : Row) (n : Connection) (c : Process) : Type 0 where
   pub leaving_row : IsLeaving s rows row n
-  pub served : process_served s (run_state s rows) ≡ Some p
+  pub served : process_served s (run_state s rows) ≡ Some c
 
 -- With this row the phase of this connection lasts, and RST is false.
 pub record IsWithin (rows : List Row) (row : Row) (n : Connection) : Type 0 where
@@ -52,41 +52,41 @@ pub record IsWithin (rows : List Row) (row : Row) (n : Connection) : Type 0 wher
 
 -- For an initiator that stands in the hold of the unit none counts.
 abbrev pub is_uncounted : ScenarioValue → RunState → Process → Bool
-is_uncounted s k p = in_hold (array_of s k).holds (nexus_of p)
+is_uncounted s k c = in_hold (array_of s k).holds (nexus_of c)
 
 abbrev pub recoveries_of : RunState → Process → ℕ
-recoveries_of k p = (progress_in k.progress p.id).recoveries
+recoveries_of k c = (progress_in k.progress c.id).recoveries
 
 -- One more would count, and as many were counted as the limit of the target.
 abbrev pub is_spent : ScenarioValue → RunState → Connection → Process → Bool
-is_spent s k n p =
-    not (is_uncounted s k p) && not (nat_lt (recoveries_of k p) (recovery_limit (target_def_of s n.target)))
+is_spent s k n c =
+    not (is_uncounted s k c) && not (nat_lt (recoveries_of k c) (recovery_limit (target_def_of s n.target)))
 
 -- ---- with the row after these
 
 -- MESSAGE IN follows, in which the target has these messages to say, and after which it means to go on so; nothing is
 -- told. One recovery more is counted, if any.
-pub record Repeats (s : ScenarioValue) (rows : List Row) (row : Row) (p : Process) (m : Messages) (next : Next)
+pub record Repeats (s : ScenarioValue) (rows : List Row) (row : Row) (c : Process) (m : Messages) (next : Next)
     (counts : Bool) : Type 0 where
   pub phase : present_phase (row ∷ rows) ≡ Some phases.MessageIn
   pub messages : (run_state s (row ∷ rows)).exchange.plan.messages ≡ m
   pub follows : (run_state s (row ∷ rows)).exchange.plan.next ≡ next
-  pub counted : recoveries_of (run_state s (row ∷ rows)) p ≡ recoveries_of (run_state s rows) p + one_if counts
+  pub counted : recoveries_of (run_state s (row ∷ rows)) c ≡ recoveries_of (run_state s rows) c + one_if counts
   pub silent : events_of_row s rows row ≡ []
 
 -- A recovery.
 abbrev pub Recovers : ScenarioValue → List Row → Row → Process → Messages → Next → Type 0
-Recovers s rows row p m next = Repeats s rows row p m next (not (is_uncounted s (run_state s rows) p))
+Recovers s rows row c m next = Repeats s rows row c m next (not (is_uncounted s (run_state s rows) c))
 
 -- STATUS follows, and the process fails with this code of ABORTED COMMAND.
-pub record FailsWith (s : ScenarioValue) (rows : List Row) (row : Row) (p : Process) (code : ℕ) : Type 0 where
+pub record FailsWith (s : ScenarioValue) (rows : List Row) (row : Row) (c : Process) (code : ℕ) : Type 0 where
   pub phase : present_phase (row ∷ rows) ≡ Some phases.Status
-  pub shown : events_of_row s rows row ≡ events.Fail p.id code ∷ []
+  pub shown : events_of_row s rows row ≡ events.Fail c.id code ∷ []
 
 -- BUS FREE follows, and the process is lost.
-pub record IsLost (s : ScenarioValue) (rows : List Row) (row : Row) (p : Process) : Type 0 where
+pub record IsLost (s : ScenarioValue) (rows : List Row) (row : Row) (c : Process) : Type 0 where
   pub phase : present_phase (row ∷ rows) ≡ None
-  pub shown : events_of_row s rows row ≡ events.Lost p.id ∷ []
+  pub shown : events_of_row s rows row ≡ events.Lost c.id ∷ []
 
 -- The target recovers, or gives up exactly where the limit is spent.
 abbrev pub RecoversUnless : Bool → Type 0 → Type 0 → Type 0

@@ -157,7 +157,7 @@ from_settling s p row n true atn msg cd io y fits always there order h books lea
     (is_at (phase_time (line_times p) + BUS_SETTLE_DELAY + lat) (target_side (ends true false atn 0 msg cd io true y))
     (due_of row) (sym (settling_target s p n true atn msg cd io y lat h) ∙ e)).time_is in
     let device = is_device s p n.initiator (initiator_side (ends true false atn 0 msg cd io false y))
-    there h.linked.initiator_below h.linked.initiator (λ z. let w = ap (λ (k : LineSet). k.bsy) z in cc) in
+    there h.linked.initiator_below h.linked.initiator (λ z. let w = ap (λ (l : LineSet). l.bsy) z in cc) in
     let hands = h.hands refl in
     let sooner = not_sooner s p row n (ends true false atn 0 msg cd io false y) device.0 ((line_times p).sel + device.0)
     (initiator_side (ends false false atn 0 msg cd io false y)) always h.linked h.phase.begun_is device.1
@@ -226,7 +226,7 @@ from_turning s p row n atn x msg cd fits always there order h books least (by_ta
         let owed = h.owed some in
         let device = is_device s p n.initiator
         (initiator_side (ends false false atn x msg cd true false 0)) there h.linked.initiator_below h.linked.initiator
-        (λ z. let w = sym (ap (λ (k : LineSet). k.data_bits == 0) z) ∙ some in cc) in
+        (λ z. let w = sym (ap (λ (l : LineSet). l.data_bits == 0) z) ∙ some in cc) in
         let sooner = not_sooner s p row n (ends false false atn x msg cd true false 0) device.0
         ((own_of p n.initiator).ack + (times_of (dialogue p).heard.now.agreement.period).hold + device.0)
         (initiator_side (ends false false atn 0 msg cd true false 0)) always h.linked h.phase.begun_is device.1
@@ -270,10 +270,10 @@ owed_out _ = refl
 -- MESSAGE OUT is not owed where a byte follows to the initiator.
 owed_in : (d : Duty) (atn msg cd : Bool) → fits_duty d atn msg ≡ true → (msg && not cd) ≡ false
     → ((msg && cd && atn) ≡ true → ⊥) → implies (is_owed d) (msg && cd && not true) ≡ true
-owed_in Duty.Nothing atn msg cd f k stop = refl
-owed_in Duty.Asked atn msg cd f k stop = refl
-owed_in Duty.Owed true true true f k stop = absurd (stop refl)
-owed_in Duty.Owed _ _ _ f k stop = absurd cc
+owed_in Duty.Nothing atn msg cd f e stop = refl
+owed_in Duty.Asked atn msg cd f e stop = refl
+owed_in Duty.Owed true true true f e stop = absurd (stop refl)
+owed_in Duty.Owed _ _ _ f e stop = absurd cc
 
 from_answered : (s : ScenarioValue) (p : List Row) (row : Row) (n : Connection) (msg cd io atn : Bool) (x y : ℕ)
     → CalmStanding s p → last_time p ≤ row.time → Shaking p n msg cd io true true atn x y
@@ -382,9 +382,9 @@ by_initiator_in s p row n msg cd false false atn y order h books lat same e =
 
 attends : (msg cd a atn : Bool) → implies atn (false || msg) ≡ true → (msg && not cd) ≡ false
     → implies (if msg && cd && true then a else atn) msg ≡ true
-attends true true a atn h k = or_asks a
-attends true false a atn h k = absurd cc
-attends false cd a atn h k = h
+attends true true a atn h e = or_asks a
+attends true false a atn h e = absurd cc
+attends false cd a atn h e = h
 
 negated : (q : Bool) (own a t lat : ℕ) → t ≡ (if q && true then max (own + 55) (a + 90) else own + 55) + lat
     → implies q (nat_le (a + 90) t) ≡ true
@@ -646,7 +646,7 @@ pulsed_by_initiator_out :
 pulsed_by_initiator_out s p row n req true atn x lat there same h e = pulses_react s p n row false req true atn x 0
     n.initiator (ack_pulse_end_time p atn lat) (initiator_side (ends false false atn x false false false req 0)) same
     (sym (pulsed_initiator_out s p n req true atn x lat h.pulsing.offset) ∙ e) h
-    (λ at k. next_of s p _ n false req false atn x 0 (ends_pulse_out s p n req atn x row.time lat there at k))
+    (λ at m. next_of s p _ n false req false atn x 0 (ends_pulse_out s p n req atn x row.time lat there at m))
 pulsed_by_initiator_out s p row n req false atn x lat there same h e = go (length (handshakes p).waiting == 0) refl
     (sym (pulsed_initiator_out s p n req false atn x lat h.pulsing.offset) ∙ e)
   where
@@ -659,23 +659,23 @@ pulsed_by_initiator_out s p row n req false atn x lat there same h e = go (lengt
         else due_at (byte_driven_time p n lat) (initiator_side (ends false false atn given false false false req 0)))
         ≡ Some (due_of row) → AfterLink s p row n
     waits some true z e =
-        let byte : (x == 0) ≡ false = ap (λ (k : ℕ). k == 0) (eqb-true x given z)
+        let byte : (x == 0) ≡ false = ap (λ (m : ℕ). m == 0) (eqb-true x given z)
         ∙ some_byte (answering_with s p n (ends false false atn x false false false req 0)).byte in
         pulses_react s p n row false req false atn x 0 n.initiator
         (max (answer_time s p n) (byte_driven_time p n lat + (times_here p).set_up) + lat)
-        (initiator_side (ends false true atn x false false false req 0)) same e h (λ at k. next_of s p _ n false req
-        true atn x 0 (answers_pulse_out s p n req atn x row.time lat there at some byte k))
+        (initiator_side (ends false true atn x false false false req 0)) same e h (λ at m. next_of s p _ n false req
+        true atn x 0 (answers_pulse_out s p n req atn x row.time lat there at some byte m))
     waits some false z e = pulses_react s p n row false req false atn x 0 n.initiator (byte_driven_time p n lat)
-        (initiator_side (ends false false atn given false false false req 0)) same e h (λ at k. next_of s p _ n false
-        req false atn given 0 (gives_pulsed_byte s p n req atn x given row.time lat there at some z k))
+        (initiator_side (ends false false atn given false false false req 0)) same e h (λ at m. next_of s p _ n false
+        req false atn given 0 (gives_pulsed_byte s p n req atn x given row.time lat there at some z m))
 
     idle : (length (handshakes p).waiting == 0) ≡ true → (q : Bool) → (x == 0) ≡ q → (if q then None
         else due_at (release_time p n lat) (initiator_side (ends false false atn 0 false false false req 0)))
         ≡ Some (due_of row) → AfterLink s p row n
     idle empty true z e = absurd (none-some (due_of row) e)
     idle empty false z e = pulses_react s p n row false req false atn x 0 n.initiator (release_time p n lat)
-        (initiator_side (ends false false atn 0 false false false req 0)) same e h (λ at k. next_of s p _ n false req
-        false atn 0 0 (releases_pulsed_byte s p n req atn x row.time lat there at empty z k))
+        (initiator_side (ends false false atn 0 false false false req 0)) same e h (λ at m. next_of s p _ n false req
+        false atn 0 0 (releases_pulsed_byte s p n req atn x row.time lat there at empty z m))
 
     go : (q : Bool) → (length (handshakes p).waiting == 0) ≡ q
         → (if not q then (if x == given then due_at (max (answer_time s p n) (byte_driven_time p n lat

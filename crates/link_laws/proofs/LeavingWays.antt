@@ -132,12 +132,12 @@ recovers : (v : Serving) (atn : Bool) (phase : Phase) (t : Task) (again over : L
     → ((counts : Bool) → Leaves v atn phase (record again { counts = counts })) → again.counts ≡ false
     → Leaves v atn phase over
     → Leaves v atn phase (recovery v.def t again over)
-recovers v atn phase t again over h none k = go t.in_hold (nat_lt t.recoveries (recovery_limit v.def))
+recovers v atn phase t again over h none e = go t.in_hold (nat_lt t.recoveries (recovery_limit v.def))
   where
     go : (q r : Bool) → Leaves v atn phase (if q then again else if r then record again { counts = true } else over)
     go true r = subst (λ (x : Bool). Leaves v atn phase (record again { counts = x })) (sym none) (h false)
     go false true = h true
-    go false false = k
+    go false false = e
 
 attends : (v : Serving) (atn : Bool) (phase : Phase) (l : Leaving) → IsToInitiator phase
     → (atn ≡ false → Leaves v atn phase l)
@@ -169,10 +169,10 @@ moved : (v : Serving) (atn : Bool) (phase : Phase) (t : Task) → IsMoved v atn 
     → Leaves v atn phase (after_run (policy_of v.def) t)
 moved v atn phase t m e = go (nat_lt (t.runs + 1) (runs_in_all (policy_of v.def) t)) refl (policy_of v.def) refl
   where
-    go : (q : Bool) → nat_lt (t.runs + 1) (runs_in_all (policy_of v.def) t) ≡ q → (p : Policy) → policy_of v.def ≡ p
+    go : (q : Bool) → nat_lt (t.runs + 1) (runs_in_all (policy_of v.def) t) ≡ q → (x : Policy) → policy_of v.def ≡ x
         → Leaves v atn phase
-        (record (if q then disconnection (disconnect_messages p) else phase_entry Phase.Status) { done = true })
-    go false f p is = ends_runs phase t m (record { task_is = e; more_is = f })
+        (record (if q then disconnection (disconnect_messages x) else phase_entry Phase.Status) { done = true })
+    go false f x is = ends_runs phase t m (record { task_is = e; more_is = f })
     go true f (Policy.Burst most) is =
         saves phase t m (record { task_is = e; more_is = f }) (ap disconnect_messages is)
     go true f _ is =
@@ -184,9 +184,9 @@ opening v atn c = go (is_some v.plan.said.aborts) refl
   where
     asks : (def : Option TargetDef) → v.def ≡ def → IsOpened v → v.plan.said.offer ≡ None
         → Leaves v atn Phase.MessageOut (request_or_command (request_by def))
-    asks None e o n = opens o n
-    asks (Some t) e o n =
-        elim (cases_Bool (t.begins && nat_lt 0 t.period)) [ inl f ↦ rw f (requests t o n e) | inr f ↦ rw f (opens o n) ]
+    asks None e o h = opens o h
+    asks (Some t) e o h =
+        elim (cases_Bool (t.begins && nat_lt 0 t.period)) [ inl f ↦ rw f (requests t o h e) | inr f ↦ rw f (opens o h) ]
 
     replies : (offer : Agreement) → IsOpened v → v.plan.said.offer ≡ Some offer → (q : Bool)
         → Leaves v atn Phase.MessageOut
@@ -243,10 +243,10 @@ by_next v atn a Next.GoOn e = served v atn Phase.MessageIn _ (λ t h. goes v atn
 
 arrives : (v : Serving) (atn : Bool) (t : Task) (a : Arrival) → v.plan.struck ≡ false → v.arrival ≡ a → v.task ≡ Some t
     → Leaves v atn Phase.Command (after_arrival v.def t a)
-arrives v atn t Arrival.Refused s e h = refuses s e
-arrives v atn t Arrival.Guest s e h = goes v atn Phase.Command t (guest s e) h
-arrives v atn t Arrival.AtOnce s e h = goes v atn Phase.Command t (at_once s e) h
-arrives v atn t Arrival.Queued s e h = queues s e
+arrives v atn t Arrival.Refused f e h = refuses f e
+arrives v atn t Arrival.Guest f e h = goes v atn Phase.Command t (guest f e) h
+arrives v atn t Arrival.AtOnce f e h = goes v atn Phase.Command t (at_once f e) h
+arrives v atn t Arrival.Queued f e h = queues f e
 
 from_command : (v : Serving) (atn : Bool) → Leaves v atn Phase.Command (command_leaving v v.arrival)
 from_command v atn = served v atn Phase.Command _ (λ t h. go v.plan.struck refl t h)

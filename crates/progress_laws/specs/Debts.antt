@@ -18,31 +18,31 @@ use Rattle.due_model.specs.RunState.{RunState, array_of}
 
 -- The command ended with CHECK CONDITION, and its automatic REQUEST SENSE is not over.
 abbrev pub is_owed : Sent → ℕ → Bool
-is_owed b n = list_any (λ k. k == n) b.checks && not (has_item b.over (sense_item n))
+is_owed b m = list_any (λ k. k == m) b.checks && not (has_item b.over (sense_item m))
 
 abbrev pub nexus_of_command : CmdDef → Nexus
 nexus_of_command c = record { initiator = c.host; target = c.target; unit = c.unit }
 
 -- The sense of this command is owed to this initiator at this unit.
-pub record IsDebt (s : ScenarioValue) (b : Sent) (n : ℕ) (q : Nexus) : Type 0 where
+pub record IsDebt (s : ScenarioValue) (b : Sent) (m : ℕ) (q : Nexus) : Type 0 where
   pub def : CmdDef
-  pub def_is : command_at s.commands n ≡ Some def
+  pub def_is : command_at s.commands m ≡ Some def
   pub nexus_is : nexus_of_command def ≡ q
-  pub owed : is_owed b n ≡ true
+  pub owed : is_owed b m ≡ true
 
 abbrev pub NoDebt : ScenarioValue → Sent → Nexus → Type 0
-NoDebt s b q = (n : ℕ) → IsDebt s b n q → ⊥
+NoDebt s b q = (m : ℕ) → IsDebt s b m q → ⊥
 
 -- Those to whom a sense is owed stand in the hold, and no two senses are owed to one at one unit; a REQUEST SENSE is
 -- over of such commands alone.
 pub record Debts (s : ScenarioValue) (b : Sent) (holds : List Nexus) : Type 0 where
-  pub held : (n : ℕ) (q : Nexus) → IsDebt s b n q → in_hold holds q ≡ true
-  pub alone : (n m : ℕ) (q : Nexus) → IsDebt s b n q → IsDebt s b m q → n ≡ m
-  pub checked : (n : ℕ) → has_item b.over (sense_item n) ≡ true → list_any (λ k. k == n) b.checks ≡ true
+  pub held : (i : ℕ) (q : Nexus) → IsDebt s b i q → in_hold holds q ≡ true
+  pub alone : (i m : ℕ) (q : Nexus) → IsDebt s b i q → IsDebt s b m q → i ≡ m
+  pub checked : (i : ℕ) → has_item b.over (sense_item i) ≡ true → list_any (λ k. k == i) b.checks ≡ true
 
 -- An automatic REQUEST SENSE is answered GOOD.
 abbrev pub AreFetched : List (ProcId × Reply) → Type 0
-AreFetched replies = (n : ℕ) (r : Reply) → reply_in replies (sense_id n) ≡ Some r → r.status ≡ GOOD
+AreFetched replies = (m : ℕ) (r : Reply) → reply_in replies (sense_id m) ≡ Some r → r.status ≡ GOOD
 
 -- An automatic REQUEST SENSE neither fails nor is lost, and ends with GOOD while it is owed. As a command ends no sense
 -- is owed to its initiator at its unit.

@@ -13,8 +13,8 @@ use Rattle.trace_laws.specs.row_laws.specs.Places.{is_queued}
 
 -- Each command that was sent, is not over and has no connection stands in a queue.
 abbrev pub AreQueued : ScenarioValue → RunState → Type 0
-AreQueued s k = (n : ℕ) (c : CmdDef) → command_at s.commands n ≡ Some c → is_open k.story.sent n ≡ true
-    → is_served_by k.served (command_id n) ≡ false → is_queued (array_of s k).units (command_id n) ≡ true
+AreQueued s k = (m : ℕ) (c : CmdDef) → command_at s.commands m ≡ Some c → is_open k.story.sent m ≡ true
+    → is_served_by k.served (command_id m) ≡ false → is_queued (array_of s k).units (command_id m) ≡ true
 
 -- To an initiator that stands in the hold of a unit the sense of a command of this unit is owed, of which its automatic
 -- REQUEST SENSE is not over (7.6).

@@ -17,20 +17,20 @@ use Rattle.due_model.specs.Tasks.{is_writing}
 use Rattle.trace_laws.specs.story_laws.specs.WholeRuns.{bytes_come}
 
 -- It runs with the row, and this is its reply.
-pub record IsRunning (s : ScenarioValue) (k : RunState) (row : Row) (p : Process) (reply : Reply) : Type 0 where
-  pub runs : has_run (row_events_by s k.story (row_reading k.story.bus_state row) row) p.id ≡ true
-  pub process_is : process_of s p.id ≡ Some p
-  pub reply_is : reply_in (array_of s (run_state_after s k row)).replies p.id ≡ Some reply
+pub record IsRunning (s : ScenarioValue) (k : RunState) (row : Row) (c : Process) (reply : Reply) : Type 0 where
+  pub runs : has_run (row_events_by s k.story (row_reading k.story.bus_state row) row) c.id ≡ true
+  pub process_is : process_of s c.id ≡ Some c
+  pub reply_is : reply_in (array_of s (run_state_after s k row)).replies c.id ≡ Some reply
 
 -- All that it sends came, where it writes and ends GOOD; and its unit keeps the size of its blocks.
 abbrev pub SendsAtRun : ScenarioValue → RunState → Row → Type 0
-SendsAtRun s k row = (p : Process) (reply : Reply) → IsRunning s k row p reply → is_writing p ≡ true
-    → (reply.status == GOOD) ≡ true → (length p.sent ≤ bytes_come s k p) × (is_of_size s k p ≡ true)
+SendsAtRun s k row = (c : Process) (reply : Reply) → IsRunning s k row c reply → is_writing c ≡ true
+    → (reply.status == GOOD) ≡ true → (length c.sent ≤ bytes_come s k c) × (is_of_size s k c ≡ true)
 
 -- Any other has carried the bytes that it moves.
 abbrev pub GivesAtRun : ScenarioValue → RunState → Row → Type 0
-GivesAtRun s k row = (p : Process) (reply : Reply) → IsRunning s k row p reply
-    → (is_writing p && reply.status == GOOD) ≡ false → (carried_here k p.id).moved.bytes ≡ moved_bytes p reply
+GivesAtRun s k row = (c : Process) (reply : Reply) → IsRunning s k row c reply
+    → (is_writing c && reply.status == GOOD) ≡ false → (carried_here k c.id).moved.bytes ≡ moved_bytes c reply
 
 -- Of all rows.
 abbrev pub AllMove : ScenarioValue → List Row → Type 0

@@ -23,16 +23,16 @@ pub record IsFront (bytes all : List ℕ) : Type 0 where
   pub rest : List ℕ
   pub all_is : bytes ++ rest ≡ all
 
-pub record GivesGood (a : Array) (p : Process) (bytes : List ℕ) : Type 0 where
-  pub good : is_writing p ≡ true → (reply_now a p).status ≡ GOOD
-  pub front : is_writing p ≡ false → IsFront bytes (reply_now a p).bytes
+pub record GivesGood (a : Array) (c : Process) (bytes : List ℕ) : Type 0 where
+  pub good : is_writing c ≡ true → (reply_now a c).status ≡ GOOD
+  pub front : is_writing c ≡ false → IsFront bytes (reply_now a c).bytes
 
 abbrev pub GivenIn : Array → Process → List ℕ → Type 0
-GivenIn a p bytes = (bytes ≡ []) ⊎ GivesGood a p bytes
+GivenIn a c bytes = (bytes ≡ []) ⊎ GivesGood a c bytes
 
 -- By this array, and by what it has carried.
 abbrev pub HasGiven : ScenarioValue → Array → RunState → ProcId → Type 0
-HasGiven s a k id = (p : Process) → process_of s id ≡ Some p → GivenIn a p (carried_here k id).moved.bytes
+HasGiven s a k id = (c : Process) → process_of s id ≡ Some c → GivenIn a c (carried_here k id).moved.bytes
 
 -- Of each process that waits, or runs, and has no reply.
 abbrev pub GivenFacts : ScenarioValue → List Row → Type 0
@@ -43,18 +43,18 @@ GivenFacts s rows =
 
 -- As a byte of its data crosses: a write would end GOOD; any other gives the byte at its pointer, which stands in what
 -- it has carried, or at its end, and in what it gives.
-pub record GivesNext (s : ScenarioValue) (k : RunState) (p : Process) (id : ProcId) (byte : ℕ) : Type 0 where
-  pub good : is_writing p ≡ true → (reply_now (array_of s k) p).status ≡ GOOD
-  pub byte_is : is_writing p ≡ false
-      → byte ≡ slice_index_or (reply_now (array_of s k) p).bytes (carried_here k id).moved.active 0
-  pub active_in : is_writing p ≡ false → (carried_here k id).moved.active ≤ length (carried_here k id).moved.bytes
-  pub within : is_writing p ≡ false → (carried_here k id).moved.active < length (reply_now (array_of s k) p).bytes
+pub record GivesNext (s : ScenarioValue) (k : RunState) (c : Process) (id : ProcId) (byte : ℕ) : Type 0 where
+  pub good : is_writing c ≡ true → (reply_now (array_of s k) c).status ≡ GOOD
+  pub byte_is : is_writing c ≡ false
+      → byte ≡ slice_index_or (reply_now (array_of s k) c).bytes (carried_here k id).moved.active 0
+  pub active_in : is_writing c ≡ false → (carried_here k id).moved.active ≤ length (carried_here k id).moved.bytes
+  pub within : is_writing c ≡ false → (carried_here k id).moved.active < length (reply_now (array_of s k) c).bytes
 
 abbrev pub GivesAtCrossing : ScenarioValue → RunState → Row → Type 0
-GivesAtCrossing s k row = (l : Link) (id : ProcId) (p : Process) → k.story.link ≡ Some l
-    → l.item ≡ Some (process id) → process_of s id ≡ Some p → (row_reading k.story.bus_state row).crosses ≡ true
+GivesAtCrossing s k row = (l : Link) (id : ProcId) (c : Process) → k.story.link ≡ Some l
+    → l.item ≡ Some (process id) → process_of s id ≡ Some c → (row_reading k.story.bus_state row).crosses ≡ true
     → is_data (row_reading k.story.bus_state row).change.before ≡ true
-    → GivesNext s k p id ((row_reading k.story.bus_state row).change.after.data_bits % 256)
+    → GivesNext s k c id ((row_reading k.story.bus_state row).change.after.data_bits % 256)
 
 -- As COMMAND is left no data were carried.
 abbrev pub NoneAtArrival : RunState → Row → Type 0
@@ -66,13 +66,13 @@ NoneAtArrival k row = (l : Link) (id : ProcId) → k.story.link ≡ Some l
 
 -- As it runs as many bytes were carried as its reply has.
 abbrev pub WholeAtRun : ScenarioValue → RunState → Row → Type 0
-WholeAtRun s k row = (p : Process) (reply : Reply) → IsRunning s k row p reply → is_writing p ≡ false
-    → length reply.bytes ≤ length (carried_here k p.id).moved.bytes
+WholeAtRun s k row = (c : Process) (reply : Reply) → IsRunning s k row c reply → is_writing c ≡ false
+    → length reply.bytes ≤ length (carried_here k c.id).moved.bytes
 
 -- One that has carried some of its data has the reply that it had.
 abbrev pub HasReplyStill : ScenarioValue → RunState → RunState → ProcId → Type 0
-HasReplyStill s k j id = (p : Process) → process_of s id ≡ Some p → ((carried_here j id).moved.bytes ≡ [] → ⊥)
-    → reply_now (array_of s j) p ≡ reply_now (array_of s k) p
+HasReplyStill s k j id = (c : Process) → process_of s id ≡ Some c → ((carried_here j id).moved.bytes ≡ [] → ⊥)
+    → reply_now (array_of s j) c ≡ reply_now (array_of s k) c
 
 pub record GivesAsked (s : ScenarioValue) (k : RunState) (row : Row) : Type 0 where
   pub crosses : GivesAtCrossing s k row

@@ -29,51 +29,51 @@ use Rattle.due_model.specs.bus_base.specs.declared.AbortKind.TheVariants as abor
 use Rattle.due_model.specs.bus_base.specs.declared.Event.TheVariants as events
 use Rattle.due_model.specs.dialogue_model.specs.declared.exchange.Phase.TheVariants as phases
 
-pub record PointsAtRun (s : ScenarioValue) (k : RunState) (n : Connection) (p : Process) (t : Task) : Type 0 where
-  pub active_is : (carried_here k p.id).moved.active
+pub record PointsAtRun (s : ScenarioValue) (k : RunState) (n : Connection) (c : Process) (t : Task) : Type 0 where
+  pub active_is : (carried_here k c.id).moved.active
       ≡ (run_at (policy_of (target_def_of s n.target)) t t.runs).start + k.handshakes.requests
   pub more : k.handshakes.requests < run_length (policy_of (target_def_of s n.target)) t
 
 abbrev pub PointsAtCrossing : ScenarioValue → RunState → Row → Type 0
-PointsAtCrossing s k row = (n : Connection) (p : Process) (t : Task) → k.story.bus_state.connection ≡ Some n
-    → process_served s k ≡ Some p → task_of s k ≡ Some t → is_writing p ≡ false
-    → (row_reading k.story.bus_state row).crosses ≡ true → phase_of (bus_of k) ≡ phases.DataIn → PointsAtRun s k n p t
+PointsAtCrossing s k row = (n : Connection) (c : Process) (t : Task) → k.story.bus_state.connection ≡ Some n
+    → process_served s k ≡ Some c → task_of s k ≡ Some t → is_writing c ≡ false
+    → (row_reading k.story.bus_state row).crosses ≡ true → phase_of (bus_of k) ≡ phases.DataIn → PointsAtRun s k n c t
 
 -- As it runs its pointer stands past the bytes of its reply.
 abbrev pub PointsAtEnd : ScenarioValue → RunState → Row → Type 0
-PointsAtEnd s k row = (p : Process) (reply : Reply) → IsRunning s k row p reply → is_writing p ≡ false
-    → length reply.bytes ≤ (carried_here k p.id).moved.active
+PointsAtEnd s k row = (c : Process) (reply : Reply) → IsRunning s k row c reply → is_writing c ≡ false
+    → length reply.bytes ≤ (carried_here k c.id).moved.active
 
 -- ---- what changes a reply
 
 -- An abort of the processes of one initiator changes nothing for another, and that of one tag nothing for others.
 abbrev pub abort_may_change : Process → ℕ → ℕ → ℕ → AbortKind → Bool
-abort_may_change p i t n aborts.All = i == p.initiator && (t == p.target && n == p.unit)
-abort_may_change p i t n (aborts.Tag x) = false
-abort_may_change p i t n aborts.WholeQueue = t == p.target && n == p.unit
-abort_may_change p i t n aborts.Device = t == p.target
+abort_may_change c i t m aborts.All = i == c.initiator && (t == c.target && m == c.unit)
+abort_may_change c i t m (aborts.Tag x) = false
+abort_may_change c i t m aborts.WholeQueue = t == c.target && m == c.unit
+abort_may_change c i t m aborts.Device = t == c.target
 
 -- An event with which what a process of the unit would answer may change: another runs or ends, an abort, and a reset.
 abbrev pub may_change : ScenarioValue → Process → Event → Bool
-may_change s p (events.Accept id) = is_none (process_of s id)
-may_change s p (events.Refuse id) = is_none (process_of s id)
-may_change s p (events.Fail id code) = is_none (process_of s id)
-may_change s p (events.Lost id) = is_none (process_of s id)
-may_change s p (events.Run id) = not (is_elsewhere s (events.Run id) p.target p.unit)
-may_change s p (events.End id status) = not (is_elsewhere s (events.End id status) p.target p.unit)
-may_change s p (events.Aborted i t n what) = abort_may_change p i t n what
-may_change s p (events.Reset dev) = true
+may_change s c (events.Accept id) = is_none (process_of s id)
+may_change s c (events.Refuse id) = is_none (process_of s id)
+may_change s c (events.Fail id code) = is_none (process_of s id)
+may_change s c (events.Lost id) = is_none (process_of s id)
+may_change s c (events.Run id) = not (is_elsewhere s (events.Run id) c.target c.unit)
+may_change s c (events.End id status) = not (is_elsewhere s (events.End id status) c.target c.unit)
+may_change s c (events.Aborted i t n what) = abort_may_change c i t n what
+may_change s c (events.Reset dev) = true
 
 abbrev pub any_may_change : ScenarioValue → Process → List Event → Bool
-any_may_change s p [] = false
-any_may_change s p (e ∷ shown) = may_change s p e || any_may_change s p shown
+any_may_change s c [] = false
+any_may_change s c (e ∷ shown) = may_change s c e || any_may_change s c shown
 
 -- With such an event one that has carried some of its data has the reply that it had.
 abbrev pub HasReplyThen : ScenarioValue → RunState → Row → ProcId → Type 0
 HasReplyThen s k row id =
-    (p : Process) → process_of s id ≡ Some p → ((carried_here (run_state_after s k row) id).moved.bytes ≡ [] → ⊥)
-    → any_may_change s p (row_events_by s k.story (row_reading k.story.bus_state row) row) ≡ true
-    → reply_now (array_of s (run_state_after s k row)) p ≡ reply_now (array_of s k) p
+    (c : Process) → process_of s id ≡ Some c → ((carried_here (run_state_after s k row) id).moved.bytes ≡ [] → ⊥)
+    → any_may_change s c (row_events_by s k.story (row_reading k.story.bus_state row) row) ≡ true
+    → reply_now (array_of s (run_state_after s k row)) c ≡ reply_now (array_of s k) c
 
 abbrev pub StaysSo : ScenarioValue → RunState → Row → Type 0
 StaysSo s k row = OnOpen (HasReplyThen s k row) (array_of s (run_state_after s k row))

@@ -30,15 +30,15 @@ use Rattle.trace_laws.specs.scsi_device.specs.Writes.{is_data_in}
 
 -- As a byte of DATA IN crosses for a process that does not write.
 abbrev is_at_run : ScenarioValue → RunState → Connection → Process → Option Task → Bool
-is_at_run s k n p None = false
-is_at_run s k n p (Some t) = (carried_here k p.id).moved.active
+is_at_run s k n c None = false
+is_at_run s k n c (Some t) = (carried_here k c.id).moved.active
     == (run_at (policy_of (target_def_of s n.target)) t t.runs).start + k.handshakes.requests
     && nat_lt k.handshakes.requests (run_length (policy_of (target_def_of s n.target)) t)
 
 abbrev is_read_at : ScenarioValue → RunState → Option Connection → Option Process → Bool
-is_read_at s k None p = true
+is_read_at s k None c = true
 is_read_at s k (Some n) None = true
-is_read_at s k (Some n) (Some p) = is_writing p || is_at_run s k n p (task_of s k)
+is_read_at s k (Some n) (Some c) = is_writing c || is_at_run s k n c (task_of s k)
 
 abbrev are_pointed : ScenarioValue → RunState → Row → Bool
 are_pointed s k row = not (row_reading k.story.bus_state row).crosses || not (is_data_in (phase_of (bus_of k)))
@@ -60,26 +60,26 @@ are_new k row = not (changes_phase (row_reading k.story.bus_state row).change)
 
 -- As one runs.
 abbrev is_past : ScenarioValue → RunState → RunState → Process → Option Reply → Bool
-is_past s k j p None = true
-is_past s k j p (Some reply) = is_writing p || nat_le (length reply.bytes) (carried_here k p.id).moved.active
+is_past s k j c None = true
+is_past s k j c (Some reply) = is_writing c || nat_le (length reply.bytes) (carried_here k c.id).moved.active
 
 abbrev is_past_if : ScenarioValue → RunState → RunState → List Event → Option Process → Bool
 is_past_if s k j shown None = true
-is_past_if s k j shown (Some p) = not (has_run shown p.id) || is_past s k j p (reply_in (array_of s j).replies p.id)
+is_past_if s k j shown (Some c) = not (has_run shown c.id) || is_past s k j c (reply_in (array_of s j).replies c.id)
 
 abbrev are_past : ScenarioValue → RunState → RunState → List Event → ℕ → List CmdDef → Bool
-are_past s k j shown n [] = true
-are_past s k j shown n (c ∷ commands) = is_past_if s k j shown (process_of s (record { command = n; sense = false }))
-    && is_past_if s k j shown (process_of s (record { command = n; sense = true }))
-    && are_past s k j shown (n + 1) commands
+are_past s k j shown m [] = true
+are_past s k j shown m (c ∷ commands) = is_past_if s k j shown (process_of s (record { command = m; sense = false }))
+    && is_past_if s k j shown (process_of s (record { command = m; sense = true }))
+    && are_past s k j shown (m + 1) commands
 
 -- The status and the bytes of the reply of one that has carried some of its data.
 abbrev is_same_reply : Reply → Reply → Bool
 is_same_reply a b = a.status == b.status && same_bytes a.bytes b.bytes
 
 abbrev has_reply_still : ScenarioValue → RunState → RunState → Process → Bool
-has_reply_still s k j p = length (carried_here j p.id).moved.bytes == 0
-    || is_same_reply (reply_now (array_of s j) p) (reply_now (array_of s k) p)
+has_reply_still s k j c = length (carried_here j c.id).moved.bytes == 0
+    || is_same_reply (reply_now (array_of s j) c) (reply_now (array_of s k) c)
 
 abbrev has_reply_still_if : ScenarioValue → RunState → RunState → Option RunningProcess → Bool
 has_reply_still_if s k j None = true
@@ -87,7 +87,7 @@ has_reply_still_if s k j (Some r) = is_some r.reply || has_reply_still s k j r.p
 
 abbrev have_replies_still : ScenarioValue → RunState → RunState → List UnitState → Bool
 have_replies_still s k j [] = true
-have_replies_still s k j (u ∷ units) = list_all (λ (p : Process). has_reply_still s k j p) u.waiting
+have_replies_still s k j (u ∷ units) = list_all (λ (c : Process). has_reply_still s k j c) u.waiting
     && has_reply_still_if s k j u.current && have_replies_still s k j units
 
 abbrev pub is_given_by : ScenarioValue → RunState → RunState → Row → Bool

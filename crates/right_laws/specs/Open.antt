@@ -23,7 +23,7 @@ OnOpen h a = Each (IfOpen h a) (IfOpen h a) a
 
 -- It has carried its whole command block.
 abbrev pub HasBlock : ScenarioValue → RunState → ProcId → Type 0
-HasBlock s k id = (p : Process) → process_of s id ≡ Some p → (carried_here k id).command.bytes ≡ p.cdb
+HasBlock s k id = (c : Process) → process_of s id ≡ Some c → (carried_here k id).command.bytes ≡ c.cdb
 
 abbrev pub BlockFacts : ScenarioValue → List Row → Type 0
 BlockFacts s rows = OnOpen (HasBlock s (run_state s rows)) (array_of s (run_state s rows))

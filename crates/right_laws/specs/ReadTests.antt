@@ -21,11 +21,11 @@ use Rattle.right_laws.specs.Reads.{content_now}
 use Rattle.trace_laws.specs.scsi_device.specs.Writes.{is_data_in}
 
 abbrev is_given : ScenarioValue → RunState → Process → Bool
-is_given s k p = is_front (carried_here k p.id).moved.bytes (content_now (array_of s k) p)
-    && nat_le (carried_here k p.id).moved.active (length (carried_here k p.id).moved.bytes)
-    && nat_le (carried_here k p.id).moved.saved (length (carried_here k p.id).moved.bytes)
-    && (length (carried_here k p.id).moved.bytes == 0 || not (is_writing p)
-    || (reply_now (array_of s k) p).status == GOOD)
+is_given s k c = is_front (carried_here k c.id).moved.bytes (content_now (array_of s k) c)
+    && nat_le (carried_here k c.id).moved.active (length (carried_here k c.id).moved.bytes)
+    && nat_le (carried_here k c.id).moved.saved (length (carried_here k c.id).moved.bytes)
+    && (length (carried_here k c.id).moved.bytes == 0 || not (is_writing c)
+    || (reply_now (array_of s k) c).status == GOOD)
 
 abbrev is_given_if : ScenarioValue → RunState → Option RunningProcess → Bool
 is_given_if s k None = true
@@ -33,7 +33,7 @@ is_given_if s k (Some r) = is_some r.reply || is_given s k r.process
 
 abbrev are_units_given : ScenarioValue → RunState → List UnitState → Bool
 are_units_given s k [] = true
-are_units_given s k (u ∷ units) = list_all (λ (p : Process). length (carried_here k p.id).moved.bytes == 0) u.waiting
+are_units_given s k (u ∷ units) = list_all (λ (c : Process). length (carried_here k c.id).moved.bytes == 0) u.waiting
     && is_given_if s k u.current && are_units_given s k units
 
 abbrev is_in_run : ScenarioValue → RunState → Option Process → Bool
@@ -53,9 +53,9 @@ is_waiting_if s k (Some q) = is_writing q || is_served_by k.served q.id || has_i
     || is_marked (carried_here k q.id) || (carried_here k q.id).moved.saved == run_start s k q
 
 abbrev are_waiting : ScenarioValue → RunState → ℕ → List CmdDef → Bool
-are_waiting s k n [] = true
-are_waiting s k n (c ∷ commands) = is_waiting_if s k (process_of s (record { command = n; sense = false }))
-    && is_waiting_if s k (process_of s (record { command = n; sense = true })) && are_waiting s k (n + 1) commands
+are_waiting s k m [] = true
+are_waiting s k m (c ∷ commands) = is_waiting_if s k (process_of s (record { command = m; sense = false }))
+    && is_waiting_if s k (process_of s (record { command = m; sense = true })) && are_waiting s k (m + 1) commands
 
 abbrev pub is_read_well : ScenarioValue → RunState → Bool
 is_read_well s k = are_units_given s k (array_of s k).units

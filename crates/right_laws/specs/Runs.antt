@@ -20,8 +20,8 @@ use Rattle.right_laws.specs.Open.{OnEvents, HasBlock}
 -- It is a process of the scenario with a reply, and has carried its command block and the bytes that it moves with this
 -- reply.
 abbrev pub HasMoved : ScenarioValue → RunState → ProcId → Type 0
-HasMoved s k id = (p : Process) (reply : Reply) → process_of s id ≡ Some p
-    → reply_in (array_of s k).replies id ≡ Some reply → (carried_here k id).moved.bytes ≡ moved_bytes p reply
+HasMoved s k id = (c : Process) (reply : Reply) → process_of s id ≡ Some c
+    → reply_in (array_of s k).replies id ≡ Some reply → (carried_here k id).moved.bytes ≡ moved_bytes c reply
 
 pub record HasRun (s : ScenarioValue) (k : RunState) (id : ProcId) : Type 0 where
   pub process : Process
@@ -50,10 +50,10 @@ pub record RightFacts (s : ScenarioValue) (rows : List Row) : Type 0 where
 
 -- A process that runs with it has carried the bytes that it moves.
 abbrev pub MovesAtRun : ScenarioValue → RunState → Row → Type 0
-MovesAtRun s k row = (id : ProcId) (p : Process) (reply : Reply)
+MovesAtRun s k row = (id : ProcId) (c : Process) (reply : Reply)
     → has_run (row_events_by s k.story (row_reading k.story.bus_state row) row) id ≡ true
-    → process_of s id ≡ Some p → reply_in (array_of s (run_state_after s k row)).replies id ≡ Some reply
-    → (carried_here k id).moved.bytes ≡ moved_bytes p reply
+    → process_of s id ≡ Some c → reply_in (array_of s (run_state_after s k row)).replies id ≡ Some reply
+    → (carried_here k id).moved.bytes ≡ moved_bytes c reply
 
 -- As COMMAND COMPLETE is taken one byte of STATUS was carried.
 abbrev pub StatusAtEnd : RunState → Row → Type 0

@@ -25,28 +25,28 @@ use Rattle.link_laws.specs.Books.{has_whole_command}
 use Rattle.due_model.specs.dialogue_model.specs.declared.exchange.Phase.TheVariants as phases
 
 -- The pointers stand in what the process sends, as a byte of it crosses.
-pub record PointsInto (k : RunState) (p : Process) : Type 0 where
-  pub command : is_command (bus_of k) ≡ true → (carried_here k p.id).command.active < length p.cdb
-  pub moved : is_data (bus_of k) ≡ true → is_writing p ≡ true → (carried_here k p.id).moved.active < length p.sent
+pub record PointsInto (k : RunState) (c : Process) : Type 0 where
+  pub command : is_command (bus_of k) ≡ true → (carried_here k c.id).command.active < length c.cdb
+  pub moved : is_data (bus_of k) ≡ true → is_writing c ≡ true → (carried_here k c.id).moved.active < length c.sent
 
 -- In DATA OUT the initiator of the process knows it, and its pointer stands as many bytes after the beginning of its
 -- run as were answered.
-pub record StandsAtRun (s : ScenarioValue) (k : RunState) (n : Connection) (p : Process) (t : Task) : Type 0 where
+pub record StandsAtRun (s : ScenarioValue) (k : RunState) (n : Connection) (c : Process) (t : Task) : Type 0 where
   pub named : n.reselected ≡ true → is_some (item_of k.story.link) ≡ true
-  pub active_is : (carried_here k p.id).moved.active
-      ≡ (run_at (policy_of (target_def_of s p.target)) t t.runs).start + k.handshakes.answers
+  pub active_is : (carried_here k c.id).moved.active
+      ≡ (run_at (policy_of (target_def_of s c.target)) t t.runs).start + k.handshakes.answers
 
 abbrev pub MovesAtRun : ScenarioValue → RunState → Connection → Type 0
-MovesAtRun s k n = (p : Process) (t : Task) → process_served s k ≡ Some p → task_of s k ≡ Some t
-    → phase_of (bus_of k) ≡ phases.DataOut → StandsAtRun s k n p t
+MovesAtRun s k n = (c : Process) (t : Task) → process_served s k ≡ Some c → task_of s k ≡ Some t
+    → phase_of (bus_of k) ≡ phases.DataOut → StandsAtRun s k n c t
 
 -- A row of a connection, before and after which RST is false.
 pub record IsAskedIn (s : ScenarioValue) (rows : List Row) (row : Row) (n : Connection) : Type 0 where
   -- a name that is whole with the row is of the process that is served
   pub names : NamesServed s (run_state s rows) row n
   -- as a byte crosses the pointers stand in what is sent, the data pointer where the run does
-  pub pointers : (p : Process) → process_here s (run_state s rows) ≡ Some p
-      → (row_reading (run_state s rows).story.bus_state row).crosses ≡ true → PointsInto (run_state s rows) p
+  pub pointers : (c : Process) → process_here s (run_state s rows) ≡ Some c
+      → (row_reading (run_state s rows).story.bus_state row).crosses ≡ true → PointsInto (run_state s rows) c
   pub runs : (row_reading (run_state s rows).story.bus_state row).crosses ≡ true → MovesAtRun s (run_state s rows) n
   -- as a phase is left the initiator knows the process, but after MESSAGE OUT, and MESSAGE IN with ATN true
   pub named : changes_phase (row_reading (run_state s rows).story.bus_state row).change ≡ true

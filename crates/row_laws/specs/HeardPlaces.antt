@@ -19,17 +19,17 @@ use Rattle.scsi_device.specs.Heard.{gives_status, is_answered, is_beginning, is_
 use Rattle.scsi_device.specs.Heard.{is_unanswered, moves_data}
 
 -- It is new in COMMAND, runs without a reply while data move, and with one as its status is given.
-pub record IsPlacedIn (a : Array) (p : Process) (phase : Phase) (next : Next) : Type 0 where
-  pub new : is_command_phase phase ≡ true → is_new a p ≡ true
+pub record IsPlacedIn (a : Array) (c : Process) (phase : Phase) (next : Next) : Type 0 where
+  pub new : is_command_phase phase ≡ true → is_new a c ≡ true
   pub unanswered : moves_data phase next ≡ true
-      → (is_unanswered (running_process a p.id) ≡ true) × (is_none (reply_in a.replies p.id) ≡ true)
+      → (is_unanswered (running_process a c.id) ≡ true) × (is_none (reply_in a.replies c.id) ≡ true)
   pub answered : gives_status phase next ≡ true
-      → (is_answered (running_process a p.id) ≡ true) × (is_some (reply_in a.replies p.id) ≡ true)
+      → (is_answered (running_process a c.id) ≡ true) × (is_some (reply_in a.replies c.id) ≡ true)
 
 -- After the opening.
 abbrev pub IsPlacedAt : ScenarioValue → RunState → Type 0
-IsPlacedAt s k = is_opening k ≡ false → (p : Process) → process_served s k ≡ Some p
-    → IsPlacedIn (array_of s k) p (phase_of (bus_of k)) k.exchange.plan.next
+IsPlacedAt s k = is_opening k ≡ false → (c : Process) → process_served s k ≡ Some c
+    → IsPlacedIn (array_of s k) c (phase_of (bus_of k)) k.exchange.plan.next
 
 abbrev pub ArePlaced : ScenarioValue → List Row → Type 0
 ArePlaced s rows =

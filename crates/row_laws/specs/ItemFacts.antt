@@ -30,18 +30,18 @@ use Rattle.row_laws.specs.ItemTalks.{Talks}
 -- a command of its own that may be sent beside those that are open, where no REQUEST SENSE is to be sent before it. It
 -- was neither sent nor given up.
 pub data IsNext (s : ScenarioValue) (b : Sent) (dev : ℕ) : Item → Type 0 where
-  is_abort : (n : ℕ) → is_done b (abort n) ≡ false → IsNext s b dev (abort n)
-  is_sense : (n : ℕ) (c : CmdDef) → command_at s.commands n ≡ Some c → c.host ≡ dev
-      → list_any (λ k. k == n) b.checks ≡ true → is_done b (sense_item n) ≡ false
-      → IsNext s b dev (process (record { command = n; sense = true }))
-  is_command : (n time : ℕ) (c : CmdDef) → command_at s.commands n ≡ Some c → c.host ≡ dev
-      → is_done b (command_item n) ≡ false → may_send s time (open_from b dev 1 s.commands) c ≡ true
-      → sense_from s b dev b.checks ≡ None → IsNext s b dev (process (record { command = n; sense = false }))
+  is_abort : (m : ℕ) → is_done b (abort m) ≡ false → IsNext s b dev (abort m)
+  is_sense : (m : ℕ) (c : CmdDef) → command_at s.commands m ≡ Some c → c.host ≡ dev
+      → list_any (λ k. k == m) b.checks ≡ true → is_done b (sense_item m) ≡ false
+      → IsNext s b dev (process (record { command = m; sense = true }))
+  is_command : (m time : ℕ) (c : CmdDef) → command_at s.commands m ≡ Some c → c.host ≡ dev
+      → is_done b (command_item m) ≡ false → may_send s time (open_from b dev 1 s.commands) c ≡ true
+      → sense_from s b dev b.checks ≡ None → IsNext s b dev (process (record { command = m; sense = false }))
 
 -- Two open commands of one initiator that would be confused are one.
 abbrev pub NoClash : ScenarioValue → Sent → Type 0
-NoClash s b = (n m : ℕ) (c d : CmdDef) → command_at s.commands n ≡ Some c → command_at s.commands m ≡ Some d
-    → c.host ≡ d.host → is_open b n ≡ true → is_open b m ≡ true → is_clash c d ≡ true → n ≡ m
+NoClash s b = (i m : ℕ) (c d : CmdDef) → command_at s.commands i ≡ Some c → command_at s.commands m ≡ Some d
+    → c.host ≡ d.host → is_open b i ≡ true → is_open b m ≡ true → is_clash c d ≡ true → i ≡ m
 
 -- What the device entered arbitration for, if anything, is what it sends next.
 abbrev pub IsAimed : ScenarioValue → RunState → ℕ → Type 0
@@ -69,7 +69,7 @@ pub record SentOnly (b : Story) : Type 0 where
 -- The processes that wait at units, and the current ones, are such.
 abbrev pub AllP : (Process → Type 0) → List Process → Type 0
 AllP q [] = ⊤
-AllP q (p ∷ waiting) = q p × AllP q waiting
+AllP q (c ∷ waiting) = q c × AllP q waiting
 
 abbrev pub RunsP : (Process → Type 0) → Option RunningProcess → Type 0
 RunsP q None = ⊤
@@ -81,20 +81,20 @@ UnitsP q (u ∷ units) = (AllP q u.waiting × RunsP q u.current) × UnitsP q uni
 
 -- Commands that ended with CHECK CONDITION are over.
 abbrev pub AreChecked : Sent → Type 0
-AreChecked b = (n : ℕ) → list_any (λ k. k == n) b.checks ≡ true → has_item b.over (command_item n) ≡ true
+AreChecked b = (m : ℕ) → list_any (λ k. k == m) b.checks ≡ true → has_item b.over (command_item m) ≡ true
 
 -- A command in a queue of the plain disk array: of the scenario, sent and not over.
-pub record IsQueued (s : ScenarioValue) (b : Sent) (p : Process) : Type 0 where
-  pub is : process_of s p.id ≡ Some p
-  pub command : p.id.sense ≡ false
-  pub sent : has_item b.sent (process p.id) ≡ true
-  pub opens : has_item b.over (process p.id) ≡ false
+pub record IsQueued (s : ScenarioValue) (b : Sent) (c : Process) : Type 0 where
+  pub is : process_of s c.id ≡ Some c
+  pub command : c.id.sense ≡ false
+  pub sent : has_item b.sent (process c.id) ≡ true
+  pub opens : has_item b.over (process c.id) ≡ false
 
 -- An automatic REQUEST SENSE that was sent is that of a command that ended with CHECK CONDITION.
-pub record IsChecked (s : ScenarioValue) (b : Sent) (n : ℕ) : Type 0 where
+pub record IsChecked (s : ScenarioValue) (b : Sent) (m : ℕ) : Type 0 where
   pub def : CmdDef
-  pub def_is : command_at s.commands n ≡ Some def
-  pub checked : list_any (λ k. k == n) b.checks ≡ true
+  pub def_is : command_at s.commands m ≡ Some def
+  pub checked : list_any (λ k. k == m) b.checks ≡ true
 
 abbrev pub no_progress : ProcId → ProcessProgress
 no_progress id = record { id = id; runs = 0; recoveries = 0 }

@@ -99,17 +99,17 @@ last_well sense l =
 
 -- The names of a process; other messages are none.
 abbrev pub IsNameOf : Process → MsgIn → Type 0
-IsNameOf p (to_initiator.Identify lun) = lun ≡ p.unit
-IsNameOf p (to_initiator.SimpleTag n) = tag_number p.tag ≡ Some n
-IsNameOf p _ = ⊤
+IsNameOf c (to_initiator.Identify lun) = lun ≡ c.unit
+IsNameOf c (to_initiator.SimpleTag n) = tag_number c.tag ≡ Some n
+IsNameOf c _ = ⊤
 
 -- No byte has crossed yet.
-pub record IsUnnamed (t : Talk) (p : Process) : Type 0 where
+pub record IsUnnamed (t : Talk) (c : Process) : Type 0 where
   pub here : is_message_in t.bus ≡ true
   pub begun : t.begun ≡ true
   pub none_asked : t.requests ≡ 0
-  pub first : t.messages.first ≡ Some (to_initiator.Identify p.unit)
-  pub small : p.unit < 8
+  pub first : t.messages.first ≡ Some (to_initiator.Identify c.unit)
+  pub small : c.unit < 8
 
 pub record HasNames (s : ScenarioValue) (t : Talk) (n : Connection) (l : Link) : Type 0 where
   pub named : Process

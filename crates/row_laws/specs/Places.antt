@@ -37,7 +37,7 @@ use Rattle.due_model.specs.dialogue_model.specs.declared.exchange.Phase.TheVaria
 
 abbrev pub Waits : (RunningProcess → Type 0) → List Process → Type 0
 Waits q [] = ⊤
-Waits q (p ∷ waiting) = q (without_reply p) × Waits q waiting
+Waits q (c ∷ waiting) = q (without_reply c) × Waits q waiting
 
 abbrev pub Runs : (RunningProcess → Type 0) → Option RunningProcess → Type 0
 Runs q None = ⊤
@@ -80,14 +80,14 @@ pub record IsUntouched (a : Array) (id : ProcId) : Type 0 where
 
 -- A REQUEST SENSE, and any command to a unit that is not there, stays outside the queue.
 abbrev pub IsOutside : Array → Process → Type 0
-IsOutside a p = (unit_state_at a.units p.target p.unit ≡ None) ⊎ (is_request_sense (command_of p.cdb) ≡ true)
+IsOutside a c = (unit_state_at a.units c.target c.unit ≡ None) ⊎ (is_request_sense (command_of c.cdb) ≡ true)
 
 -- It was not answered and may run: outside the queue, or as long as its unit is not held.
-pub record MayRun (a : Array) (p : Process) : Type 0 where
-  pub running_is : running_process a p.id ≡ Some (without_reply p)
-  pub free : (is_some (guest_at a.guests p.id) || not (is_held a.holds p.target p.unit)) ≡ true
-  pub reply : reply_in a.replies p.id ≡ None
-  pub kind : IsOutside a p ⊎ IsAtRest a p.id
+pub record MayRun (a : Array) (c : Process) : Type 0 where
+  pub running_is : running_process a c.id ≡ Some (without_reply c)
+  pub free : (is_some (guest_at a.guests c.id) || not (is_held a.holds c.target c.unit)) ≡ true
+  pub reply : reply_in a.replies c.id ≡ None
+  pub kind : IsOutside a c ⊎ IsAtRest a c.id
 
 -- It has this reply, which was given.
 pub record IsAnswered (a : Array) (id : ProcId) : Type 0 where
@@ -101,7 +101,7 @@ pub record IsAnswered (a : Array) (id : ProcId) : Type 0 where
 
 -- A process waits at this unit, or is the current one.
 abbrev pub is_in_queue : UnitState → ProcId → Bool
-is_in_queue u id = list_any (λ (p : Process). same_id p.id id) u.waiting || is_some (running_if u.current id)
+is_in_queue u id = list_any (λ (c : Process). same_id c.id id) u.waiting || is_some (running_if u.current id)
 
 abbrev pub is_queued : List UnitState → ProcId → Bool
 is_queued units id = list_any (λ (u : UnitState). is_in_queue u id) units
@@ -118,9 +118,9 @@ pub record TellNoEnd (m : Messages) : Type 0 where
   pub first : is_complete_in m.first ≡ false
   pub second : is_complete_in m.second ≡ false
 
-pub record RunsOpen (a : Array) (p : Process) : Type 0 where
-  pub runs : MayRun a p
-  pub open_is : has_ended a p.id ≡ false
+pub record RunsOpen (a : Array) (c : Process) : Type 0 where
+  pub runs : MayRun a c
+  pub open_is : has_ended a c.id ≡ false
 
 pub record AnsweredOpen (a : Array) (id : ProcId) : Type 0 where
   pub answered : IsAnswered a id
@@ -128,43 +128,43 @@ pub record AnsweredOpen (a : Array) (id : ProcId) : Type 0 where
 
 -- It will be disconnected, and stands in a queue, or has ended once its initiator takes COMMAND COMPLETE (6.6.5,
 -- 6.6.6).
-pub data Closes (a : Array) (p : Process) (m : Messages) : Type 0 where
-  completes : m ≡ one_message to_initiator.CommandComplete → AnsweredOpen a p.id → Closes a p m
-  disconnects : TellNoEnd m → IsAtRest a p.id → has_ended a p.id ≡ false → is_queued a.units p.id ≡ true → Closes a p m
+pub data Closes (a : Array) (c : Process) (m : Messages) : Type 0 where
+  completes : m ≡ one_message to_initiator.CommandComplete → AnsweredOpen a c.id → Closes a c m
+  disconnects : TellNoEnd m → IsAtRest a c.id → has_ended a c.id ≡ false → is_queued a.units c.id ≡ true → Closes a c m
 
 -- Where these messages are said, and this follows.
 abbrev pub PlacedBefore : Array → Process → Messages → Next → Type 0
-PlacedBefore a p m nexts.Command = IsUntouched a p.id
-PlacedBefore a p m nexts.GoOn = RunsOpen a p
-PlacedBefore a p m nexts.Status = AnsweredOpen a p.id
-PlacedBefore a p m nexts.FreeBus = Closes a p m
+PlacedBefore a c m nexts.Command = IsUntouched a c.id
+PlacedBefore a c m nexts.GoOn = RunsOpen a c
+PlacedBefore a c m nexts.Status = AnsweredOpen a c.id
+PlacedBefore a c m nexts.FreeBus = Closes a c m
 
 -- The initiator has taken COMMAND COMPLETE: ACK rose in the phase, and ATN was false (6.6.5).
-pub record IsTaken (a : Array) (p : Process) (plan : Plan) (h : Handshakes) (atn : Bool) : Type 0 where
+pub record IsTaken (a : Array) (c : Process) (plan : Plan) (h : Handshakes) (atn : Bool) : Type 0 where
   pub next_is : plan.next ≡ nexts.FreeBus
   pub messages_are : plan.messages ≡ one_message to_initiator.CommandComplete
   pub answered : (h.answers == 0) ≡ false
   pub attends : atn ≡ false
-  pub rests : IsAtRest a p.id
+  pub rests : IsAtRest a c.id
 
 abbrev pub PlacedAsked : Array → Process → Plan → Cause → Type 0
-PlacedAsked a p plan causes.Selected = IsUntouched a p.id
-PlacedAsked a p plan causes.InMessage = PlacedBefore a p plan.messages plan.next
-PlacedAsked a p plan causes.InData = RunsOpen a p
-PlacedAsked a p plan causes.InStatus = AnsweredOpen a p.id
+PlacedAsked a c plan causes.Selected = IsUntouched a c.id
+PlacedAsked a c plan causes.InMessage = PlacedBefore a c plan.messages plan.next
+PlacedAsked a c plan causes.InData = RunsOpen a c
+PlacedAsked a c plan causes.InStatus = AnsweredOpen a c.id
 
 abbrev pub PlacedIn : Array → Process → Plan → Handshakes → Bool → Phase → Type 0
-PlacedIn a p plan h atn phases.MessageOut = PlacedAsked a p plan plan.cause
-PlacedIn a p plan h atn phases.MessageIn = PlacedBefore a p plan.messages plan.next ⊎ IsTaken a p plan h atn
-PlacedIn a p plan h atn phases.Command = IsUntouched a p.id
-PlacedIn a p plan h atn phases.Status = AnsweredOpen a p.id
-PlacedIn a p plan h atn phases.DataIn = RunsOpen a p
-PlacedIn a p plan h atn phases.DataOut = RunsOpen a p
+PlacedIn a c plan h atn phases.MessageOut = PlacedAsked a c plan plan.cause
+PlacedIn a c plan h atn phases.MessageIn = PlacedBefore a c plan.messages plan.next ⊎ IsTaken a c plan h atn
+PlacedIn a c plan h atn phases.Command = IsUntouched a c.id
+PlacedIn a c plan h atn phases.Status = AnsweredOpen a c.id
+PlacedIn a c plan h atn phases.DataIn = RunsOpen a c
+PlacedIn a c plan h atn phases.DataOut = RunsOpen a c
 
 -- Once a phase has begun; before it, after a selection, it has not arrived.
 abbrev pub PlacedIf : Bool → Array → Process → Plan → Handshakes → Bool → Phase → Type 0
-PlacedIf false a p plan h atn phase = IsUntouched a p.id
-PlacedIf true a p plan h atn phase = PlacedIn a p plan h atn phase
+PlacedIf false a c plan h atn phase = IsUntouched a c.id
+PlacedIf true a c plan h atn phase = PlacedIn a c plan h atn phase
 
 -- ---- all that is kept
 
@@ -178,10 +178,10 @@ pub record HasPlaces (s : ScenarioValue) (k : RunState) : Type 0 where
   pub reset : (bus_of k).rst ≡ true → (id : ProcId) → IsAtRest array id
   pub unserved : k.story.bus_state.connection ≡ None → k.served ≡ None
   pub sent : (id : ProcId) → k.served ≡ Some (process id) → has_item k.story.sent.sent (process id) ≡ true
-  pub of_scenario : (id : ProcId) → k.served ≡ Some (process id) → (p : Process) × (process_of s id ≡ Some p)
+  pub of_scenario : (id : ProcId) → k.served ≡ Some (process id) → (c : Process) × (process_of s id ≡ Some c)
   pub placed : (n : Connection) → k.story.bus_state.connection ≡ Some n
-      → (bus_of k).rst ≡ false → (p : Process) → process_served s k ≡ Some p
-      → PlacedIf k.exchange.begun array p k.exchange.plan k.handshakes (bus_of k).atn (phase_of (bus_of k))
+      → (bus_of k).rst ≡ false → (c : Process) → process_served s k ≡ Some c
+      → PlacedIf k.exchange.begun array c k.exchange.plan k.handshakes (bus_of k).atn (phase_of (bus_of k))
 
 abbrev pub PlaceFacts : ScenarioValue → List Row → Type 0
 PlaceFacts s rows = HasPlaces s (run_state s rows)

@@ -59,12 +59,12 @@ FailsBefore c _ = ⊤
 -- A struck byte of COMMAND and DATA OUT is known to the target; one of DATA IN to the initiator, which raises ATN
 -- (6.6.10).
 abbrev pub FailsIn : Plan → Bool → CarriedBytes → Phase → Type 0
-FailsIn p attention c phases.Command = (c.struck ≡ p.struck) × (c.failure ≡ code_if p.struck PARITY_ERROR)
-FailsIn p attention c phases.DataOut = c.failure ≡ code_if p.struck PARITY_ERROR
-FailsIn p attention c phases.DataIn = attention ≡ false → c.failure ≡ None
-FailsIn p attention c phases.MessageOut = FailsAsked c p.cause
-FailsIn p attention c phases.MessageIn = attention ≡ false → FailsBefore c p.next
-FailsIn p attention c phases.Status = ⊤
+FailsIn l attention c phases.Command = (c.struck ≡ l.struck) × (c.failure ≡ code_if l.struck PARITY_ERROR)
+FailsIn l attention c phases.DataOut = c.failure ≡ code_if l.struck PARITY_ERROR
+FailsIn l attention c phases.DataIn = attention ≡ false → c.failure ≡ None
+FailsIn l attention c phases.MessageOut = FailsAsked c l.cause
+FailsIn l attention c phases.MessageIn = attention ≡ false → FailsBefore c l.next
+FailsIn l attention c phases.Status = ⊤
 
 -- ---- the last message, as the connection ends
 
@@ -72,21 +72,21 @@ abbrev pub IsClosing : LastMessage → Type 0
 IsClosing last = (last ≡ complete) ⊎ (last ≡ disconnect)
 
 abbrev pub LastAsked : Plan → LastMessage → Cause → Type 0
-LastAsked p last causes.Selected = is_some p.said.aborts ≡ true → last ≡ abortive
-LastAsked p last causes.InMessage = last ≡ plain
-LastAsked p last causes.InStatus = last ≡ plain
-LastAsked p last causes.InData = ⊤
+LastAsked l last causes.Selected = is_some l.said.aborts ≡ true → last ≡ abortive
+LastAsked l last causes.InMessage = last ≡ plain
+LastAsked l last causes.InStatus = last ≡ plain
+LastAsked l last causes.InData = ⊤
 
 abbrev pub LastIn : Plan → Bool → LastMessage → Phase → Type 0
-LastIn p attention last phases.MessageOut = LastAsked p last p.cause
-LastIn p attention last phases.MessageIn = attention ≡ false → p.next ≡ nexts.FreeBus → IsClosing last
-LastIn p attention last _ = ⊤
+LastIn l attention last phases.MessageOut = LastAsked l last l.cause
+LastIn l attention last phases.MessageIn = attention ≡ false → l.next ≡ nexts.FreeBus → IsClosing last
+LastIn l attention last _ = ⊤
 
 -- ---- what is served
 
 -- A process of the scenario; or an abort of the two ends, all of whose connection is MESSAGE OUT.
 pub data IsServed (s : ScenarioValue) (k : RunState) (n : Connection) : Type 0 where
-  of_process : (id : ProcId) (p : Process) → k.served ≡ Some (process id) → process_of s id ≡ Some p → IsServed s k n
+  of_process : (id : ProcId) (c : Process) → k.served ≡ Some (process id) → process_of s id ≡ Some c → IsServed s k n
   of_abort : (m : ℕ) (a : AbortDef) → k.served ≡ Some (abort m) → abort_line_at s.aborts m ≡ Some a
       → a.host ≡ n.initiator → a.target ≡ n.target → n.reselected ≡ false → (k.exchange.begun ≡ true
       → (phase_of (bus_of k) ≡ phases.MessageOut) × (k.exchange.plan.cause ≡ causes.Selected)) → IsServed s k n
@@ -155,9 +155,9 @@ UndoAsked fits causes.InData = ⊤
 UndoAsked fits causes.InStatus = ⊤
 
 abbrev pub UndoBy : Type 0 → Plan → ℕ → Phase → Type 0
-UndoBy fits p requests phases.MessageOut = UndoAsked fits p.cause
-UndoBy fits p requests phases.MessageIn = fits ⊎ ((requests ≡ 0) × (is_short p.messages.first ≡ true))
-UndoBy fits p requests _ = ⊤
+UndoBy fits l requests phases.MessageOut = UndoAsked fits l.cause
+UndoBy fits l requests phases.MessageIn = fits ⊎ ((requests ≡ 0) × (is_short l.messages.first ≡ true))
+UndoBy fits l requests _ = ⊤
 
 pub record UndoBooks {A : Type 0} (what : CarriedBytes → A) (k : RunState) : Type 0 where
   pub unbegun : k.exchange.begun ≡ false → UndoFits what k

@@ -36,7 +36,7 @@ AllUnits q (u ∷ units) = q u × AllUnits q units
 
 -- A process that writes has made no run.
 abbrev pub IsUnrun : List ProcessProgress → Process → Type 0
-IsUnrun made p = is_writing p ≡ true → (progress_in made p.id).runs ≡ 0
+IsUnrun made c = is_writing c ≡ true → (progress_in made c.id).runs ≡ 0
 
 -- One that has made a run, and has no reply, last sent its unit a byte.
 abbrev pub IsLastWriter : List ProcessProgress → List Writer → RunningProcess → Type 0
@@ -45,7 +45,7 @@ IsLastWriter made all r =
     → writer_of all r.process.target r.process.unit ≡ Some r.process.id
 
 abbrev pub IsOther : RunningProcess → Process → Type 0
-IsOther r p = same_id p.id r.process.id ≡ false
+IsOther r c = same_id c.id r.process.id ≡ false
 
 -- Those that wait have made no run, and are others than the current one.
 pub record IsWrittenUnit (made : List ProcessProgress) (all : List Writer) (u : UnitState) : Type 0 where
@@ -69,16 +69,16 @@ pub record IsWriterOf (s : ScenarioValue) (target unit : ℕ) (id : ProcId) : Ty
 
 -- Before the target of a connection knows the command, the process that it serves has made no run.
 abbrev pub IsUnrunServed : ScenarioValue → List Row → Type 0
-IsUnrunServed s rows = (n : Connection) (p : Process) → connection rows ≡ Some n → (bus rows).rst ≡ false
-    → (instructions s rows).known ≡ false → process_served s (run_state s rows) ≡ Some p
-    → (progress_in (run_state s rows).progress p.id).runs ≡ 0
+IsUnrunServed s rows = (n : Connection) (c : Process) → connection rows ≡ Some n → (bus rows).rst ≡ false
+    → (instructions s rows).known ≡ false → process_served s (run_state s rows) ≡ Some c
+    → (progress_in (run_state s rows).progress c.id).runs ≡ 0
 
 -- In DATA OUT, once a byte has come, the process that is served last sent one.
 abbrev pub IsPresentWriter : ScenarioValue → List Row → Type 0
-IsPresentWriter s rows = (n : Connection) (p : Process) → connection rows ≡ Some n → (bus rows).rst ≡ false
+IsPresentWriter s rows = (n : Connection) (c : Process) → connection rows ≡ Some n → (bus rows).rst ≡ false
     → (run_state s rows).exchange.begun ≡ true → phase_of (bus_of (run_state s rows)) ≡ phases.DataOut
-    → process_served s (run_state s rows) ≡ Some p → ((run_state s rows).handshakes.answers == 0) ≡ false
-    → writer_of (writers s rows) p.target p.unit ≡ Some p.id
+    → process_served s (run_state s rows) ≡ Some c → ((run_state s rows).handshakes.answers == 0) ≡ false
+    → writer_of (writers s rows) c.target c.unit ≡ Some c.id
 
 pub record WriteFacts (s : ScenarioValue) (rows : List Row) : Type 0 where
   pub whose : (target unit : ℕ) (id : ProcId) → writer_of (writers s rows) target unit ≡ Some id
@@ -93,21 +93,21 @@ pub record WriteFacts (s : ScenarioValue) (rows : List Row) : Type 0 where
 
 -- In DATA OUT the process that is served is no guest.
 abbrev pub IsNoGuest : ScenarioValue → List Row → Type 0
-IsNoGuest s rows = (n : Connection) (p : Process) → connection rows ≡ Some n → (bus rows).rst ≡ false
+IsNoGuest s rows = (n : Connection) (c : Process) → connection rows ≡ Some n → (bus rows).rst ≡ false
     → (run_state s rows).exchange.begun ≡ true → phase_of (bus_of (run_state s rows)) ≡ phases.DataOut
-    → process_served s (run_state s rows) ≡ Some p → guest_at (array_of s (run_state s rows)).guests p.id ≡ None
+    → process_served s (run_state s rows) ≡ Some c → guest_at (array_of s (run_state s rows)).guests c.id ≡ None
 
 -- Of a run that has bytes all were answered.
-pub record IsAnsweredWhole (s : ScenarioValue) (k : RunState) (p : Process) (t : Task) : Type 0 where
-  pub whole : nat_le (run_length (policy_of (target_def_of s p.target)) t) k.handshakes.answers ≡ true
+pub record IsAnsweredWhole (s : ScenarioValue) (k : RunState) (c : Process) (t : Task) : Type 0 where
+  pub whole : nat_le (run_length (policy_of (target_def_of s c.target)) t) k.handshakes.answers ≡ true
   pub some : (k.handshakes.answers == 0) ≡ false
   pub moves : (t.moved == 0) ≡ false
 
 -- Under RST a connection that still stands is in DATA IN only for a process that does not write.
 abbrev pub ReadsUnderRst : ScenarioValue → List Row → Type 0
-ReadsUnderRst s rows = (n : Connection) (p : Process) → connection rows ≡ Some n → (bus rows).rst ≡ true
+ReadsUnderRst s rows = (n : Connection) (c : Process) → connection rows ≡ Some n → (bus rows).rst ≡ true
     → (run_state s rows).exchange.begun ≡ true → phase_of (bus_of (run_state s rows)) ≡ phases.DataIn
-    → process_served s (run_state s rows) ≡ Some p → is_writing p ≡ false
+    → process_served s (run_state s rows) ≡ Some c → is_writing c ≡ false
 
 -- Data move for a process that runs; the units keep the size of their blocks; and as DATA OUT is left with no byte
 -- struck its run was answered whole.
@@ -115,9 +115,9 @@ pub record WritesAsked (s : ScenarioValue) (rows : List Row) (row : Row) : Type 
   pub placed : ArePlaced s rows
   pub guests : IsNoGuest s rows
   pub resets : ReadsUnderRst s rows
-  pub sizes : (p : Process) → process_served s (run_state s rows) ≡ Some p → is_of_size s (run_state s rows) p ≡ true
-  pub answered : (n : Connection) (p : Process) (t : Task) → connection rows ≡ Some n → (bus rows).rst ≡ false
+  pub sizes : (c : Process) → process_served s (run_state s rows) ≡ Some c → is_of_size s (run_state s rows) c ≡ true
+  pub answered : (n : Connection) (c : Process) (t : Task) → connection rows ≡ Some n → (bus rows).rst ≡ false
       → (bus (row ∷ rows)).rst ≡ false → connection (row ∷ rows) ≡ Some n → begun rows ≡ true
       → changes_phase (change_of rows row) ≡ true → phase_of (bus_of (run_state s rows)) ≡ phases.DataOut
-      → (run_state s rows).exchange.plan.struck ≡ false → process_served s (run_state s rows) ≡ Some p
-      → task_of s (run_state s rows) ≡ Some t → IsAnsweredWhole s (run_state s rows) p t
+      → (run_state s rows).exchange.plan.struck ≡ false → process_served s (run_state s rows) ≡ Some c
+      → task_of s (run_state s rows) ≡ Some t → IsAnsweredWhole s (run_state s rows) c t

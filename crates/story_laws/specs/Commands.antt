@@ -176,10 +176,10 @@ pub record CommandFacts (s : ScenarioValue) (rows : List Row) : Type 0 where
 
 -- What is asked of it: as a byte crosses in COMMAND the pointer stands in the block, and rule 26 is kept.
 pub record CommandAsked (s : ScenarioValue) (rows : List Row) (row : Row) : Type 0 where
-  pub pointer : (p : Process) → process_here s (run_state s rows) ≡ Some p
+  pub pointer : (c : Process) → process_here s (run_state s rows) ≡ Some c
       → (row_reading (run_state s rows).story.bus_state row).crosses ≡ true
       → is_command (bus_of (run_state s rows)) ≡ true
-      → (carried_here (run_state s rows) p.id).command.active < length p.cdb
+      → (carried_here (run_state s rows) c.id).command.active < length c.cdb
   pub command : has_whole_command rows row ≡ true
 
 -- In MESSAGE IN the initiator asks for MESSAGE OUT because a byte was struck; or to answer a request, which COMMAND

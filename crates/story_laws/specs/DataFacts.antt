@@ -38,11 +38,11 @@ pub record DataPremises (s : ScenarioValue) (rows : List Row) (row : Row) : Type
 -- What the laws ask of a row of a connection: as a byte crosses the data pointer stands in what is sent, in DATA OUT as
 -- many bytes after the beginning of the run as were answered.
 pub record DataAsked (s : ScenarioValue) (rows : List Row) (row : Row) : Type 0 where
-  pub moved : (p : Process) → process_here s (run_state s rows) ≡ Some p
+  pub moved : (c : Process) → process_here s (run_state s rows) ≡ Some c
       → (row_reading (run_state s rows).story.bus_state row).crosses ≡ true → is_data (bus_of (run_state s rows)) ≡ true
-      → is_writing p ≡ true → (carried_here (run_state s rows) p.id).moved.active < length p.sent
+      → is_writing c ≡ true → (carried_here (run_state s rows) c.id).moved.active < length c.sent
   pub active_is : (row_reading (run_state s rows).story.bus_state row).crosses ≡ true
-      → (p : Process) (t : Task) → process_served s (run_state s rows) ≡ Some p
+      → (c : Process) (t : Task) → process_served s (run_state s rows) ≡ Some c
       → task_of s (run_state s rows) ≡ Some t → phase_of (bus_of (run_state s rows)) ≡ phases.DataOut
-      → (carried_here (run_state s rows) p.id).moved.active
-      ≡ (run_at (policy_of (target_def_of s p.target)) t t.runs).start + (run_state s rows).handshakes.answers
+      → (carried_here (run_state s rows) c.id).moved.active
+      ≡ (run_at (policy_of (target_def_of s c.target)) t t.runs).start + (run_state s rows).handshakes.answers

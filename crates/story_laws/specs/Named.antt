@@ -41,19 +41,19 @@ pub record AreFound (s : ScenarioValue) (k : RunState) (n : Connection) : Type 0
 
 -- The names of the process find one.
 abbrev pub IsFoundBy : ScenarioValue → Connection → Sent → Process → Type 0
-IsFoundBy s n sent p = (l : Link) → l.initiator ≡ n.initiator → l.target ≡ n.target → l.unit ≡ p.unit
-    → is_some (named_item sent s.commands l (tag_number p.tag)) ≡ true
+IsFoundBy s n sent c = (l : Link) → l.initiator ≡ n.initiator → l.target ≡ n.target → l.unit ≡ c.unit
+    → is_some (named_item sent s.commands l (tag_number c.tag)) ≡ true
 
 -- ---- its names
 
 -- They are said from the first on, or from the second, and so many bytes of them have crossed: after IDENTIFY the
 -- initiator knows the unit.
-pub data Names (p : Process) (l : Link) (messages : Messages) (count : ℕ) : Type 0 where
-  all : messages ≡ naming_messages p → ((count == 0) ≡ false → l.unit ≡ p.unit) → Names p l messages count
-  tag_alone : (m : MsgIn) → tag_named p.tag ≡ Some m → messages ≡ one_message m → l.unit ≡ p.unit
-      → Names p l messages count
+pub data Names (c : Process) (l : Link) (messages : Messages) (count : ℕ) : Type 0 where
+  all : messages ≡ naming_messages c → ((count == 0) ≡ false → l.unit ≡ c.unit) → Names c l messages count
+  tag_alone : (m : MsgIn) → tag_named c.tag ≡ Some m → messages ≡ one_message m → l.unit ≡ c.unit
+      → Names c l messages count
 
-pub record IsNaming (s : ScenarioValue) (n : Connection) (sent : Sent) (link : Option Link) (p : Process) (l : Link)
+pub record IsNaming (s : ScenarioValue) (n : Connection) (sent : Sent) (link : Option Link) (c : Process) (l : Link)
     (x : Exchange) : Type 0 where
   pub link_is : link ≡ Some l
   pub initiator_is : l.initiator ≡ n.initiator
@@ -62,7 +62,7 @@ pub record IsNaming (s : ScenarioValue) (n : Connection) (sent : Sent) (link : O
   pub next_is : x.plan.next ≡ nexts.GoOn
   pub last : is_complete l.last ≡ false
   pub before : is_complete l.before ≡ false
-  pub found : IsFoundBy s n sent p
+  pub found : IsFoundBy s n sent c
 
 -- The initiator knows the process, and no names follow; or they are said; or MESSAGE PARITY ERROR is, after which they
 -- are said again.
@@ -70,11 +70,11 @@ pub data NamedBy (s : ScenarioValue) (n : Connection) (sent : Sent) (link : Opti
     (b : LineSet) : Type 0 where
   known : (l : Link) → link ≡ Some l → is_some l.item ≡ true → OnMessages IsNoName x.plan.messages
       → NamedBy s n sent link x h b
-  said : (p : Process) (l : Link) → IsNaming s n sent link p l x
-      → is_message_in b ≡ true → Names p l x.plan.messages h.requests
+  said : (c : Process) (l : Link) → IsNaming s n sent link c l x
+      → is_message_in b ≡ true → Names c l x.plan.messages h.requests
       → (h.requests ≡ length (bytes_of_messages x.plan.messages) → is_some l.item ≡ true) → NamedBy s n sent link x h b
-  refused : (p : Process) (l : Link) → IsNaming s n sent link p l x → is_message_out b ≡ true
-      → x.plan.cause ≡ causes.InMessage → Names p l x.plan.messages 0 → NamedBy s n sent link x h b
+  refused : (c : Process) (l : Link) → IsNaming s n sent link c l x → is_message_out b ≡ true
+      → x.plan.cause ≡ causes.InMessage → Names c l x.plan.messages 0 → NamedBy s n sent link x h b
 
 abbrev pub Named : ScenarioValue → RunState → Connection → Type 0
 Named s k n = NamedBy s n k.story.sent k.story.link k.exchange k.handshakes (bus_of k)

@@ -16,13 +16,13 @@ use Rattle.story_laws.specs.WholeRuns.{HasSentAll}
 
 -- ---- the process that is served
 
-pub data IsWhole (s : ScenarioValue) (k : RunState) (all : List Writer) (p : Process) : Type 0 where
-  ends_badly : ((reply_now (array_of s k) p).status == GOOD) ≡ false → IsWhole s k all p
-  sends_none : length p.sent ≡ 0 → IsWhole s k all p
-  sends_all : HasSentAll s k all p → IsWhole s k all p
+pub data IsWhole (s : ScenarioValue) (k : RunState) (all : List Writer) (c : Process) : Type 0 where
+  ends_badly : ((reply_now (array_of s k) c).status == GOOD) ≡ false → IsWhole s k all c
+  sends_none : length c.sent ≡ 0 → IsWhole s k all c
+  sends_all : HasSentAll s k all c → IsWhole s k all c
 
 -- With a row of a connection, before and after which RST is false.
 abbrev pub RunsWhole : ScenarioValue → List Row → Row → Type 0
-RunsWhole s rows row = (n : Connection) (p : Process) → connection rows ≡ Some n → (bus rows).rst ≡ false
+RunsWhole s rows row = (n : Connection) (c : Process) → connection rows ≡ Some n → (bus rows).rst ≡ false
     → (bus (row ∷ rows)).rst ≡ false → shows_run (events_of_row s rows row) ≡ true
-    → process_served s (run_state s rows) ≡ Some p → IsWhole s (run_state s rows) (writers s rows) p
+    → process_served s (run_state s rows) ≡ Some c → IsWhole s (run_state s rows) (writers s rows) c

@@ -13,13 +13,13 @@ use Rattle.due_model.specs.scenario.specs.declared.value.Policy.TheVariants as p
 
 -- So many bytes have come with the runs that it has made, and with the present one in DATA OUT.
 abbrev pub bytes_come : ScenarioValue → RunState → Process → ℕ
-bytes_come s k p = start_of_run s p (progress_in k.progress p.id).runs
+bytes_come s k c = start_of_run s c (progress_in k.progress c.id).runs
     + (if is_data_out (phase_of (bus_of k)) then k.handshakes.answers else 0)
 
-pub record HasSentAll (s : ScenarioValue) (k : RunState) (all : List Writer) (p : Process) : Type 0 where
-  pub writes : is_writing p ≡ true
-  pub writer : writer_of all p.target p.unit ≡ Some p.id
-  pub came : length p.sent ≤ bytes_come s k p
+pub record HasSentAll (s : ScenarioValue) (k : RunState) (all : List Writer) (c : Process) : Type 0 where
+  pub writes : is_writing c ≡ true
+  pub writer : writer_of all c.target c.unit ≡ Some c.id
+  pub came : length c.sent ≤ bytes_come s k c
 
 -- ---- what is asked
 

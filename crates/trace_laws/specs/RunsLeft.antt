@@ -15,7 +15,7 @@ use Rattle.story_laws.specs.RunFacts.{IsWriter}
 
 -- In how many runs its data are moved, if any are.
 abbrev pub run_total : ScenarioValue → Process → ℕ
-run_total s p = runs_in (policy_for s p) (blocks_in (range_named p))
+run_total s c = runs_in (policy_for s c) (blocks_in (range_named c))
 
 -- Of so many runs in all it has made so many.
 abbrev pub HasRunLeft : ℕ → ℕ → Type 0
@@ -24,8 +24,8 @@ HasRunLeft total made = (made ≡ 0) ⊎ (made < total)
 -- So those of this kind.
 abbrev pub RunsLeftOf : (Process → Type 0) → ScenarioValue → List Row → Type 0
 RunsLeftOf kind s rows =
-    (p : Process) → process_of s p.id ≡ Some p → kind p → reply_in (array_of s (run_state s rows)).replies p.id ≡ None
-    → HasRunLeft (run_total s p) (progress_in (run_state s rows).progress p.id).runs
+    (c : Process) → process_of s c.id ≡ Some c → kind c → reply_in (array_of s (run_state s rows)).replies c.id ≡ None
+    → HasRunLeft (run_total s c) (progress_in (run_state s rows).progress c.id).runs
 
 abbrev pub RunsLeft : ScenarioValue → List Row → Type 0
 RunsLeft s rows = RunsLeftOf IsWriter s rows

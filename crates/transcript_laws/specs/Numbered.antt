@@ -27,7 +27,7 @@ pub record HasLast (last : List (Key × Process)) (name : Name) : Type 0 where
 
 -- What is kept of each nexus is a process of it, and no number is beyond the count of names.
 pub record AreNumbered (last : List (Key × Process)) (names : List Name) : Type 0 where
-  pub keyed : (name : Name) (p : Process) → process_of last name ≡ Some p → same_nexus p.name name ≡ true
-  pub counted : (name : Name) (p : Process) → process_of last name ≡ Some p → p.name.number ≤ length names + 1
+  pub keyed : (name : Name) (c : Process) → process_of last name ≡ Some c → same_nexus c.name name ≡ true
+  pub counted : (name : Name) (c : Process) → process_of last name ≡ Some c → c.name.number ≤ length names + 1
   pub has_last : OnNames (λ name. (name.number == 0) ≡ false → HasLast last name) names
   pub distinct : AreDistinct names

@@ -17,12 +17,12 @@ use Rattle.transcript_laws.specs.Told.{IsAccountOf, account_base, has_refusal, h
 
 -- In COMMAND the bytes of the phase count with those before.
 abbrev pub account_now : OpenedValue → Bool → Process → AccountValue
-account_now k commands p = with_block (account_base k p) (if commands then k.bytes else []) (commands && k.struck)
+account_now o commands c = with_block (account_base o c) (if commands then o.bytes else []) (commands && o.struck)
 
 -- As the connection began, the transcript had this of its process.
-pub record IsAsBegun (p : Process) (was : Bool) (before : Option ℕ) : Type 0 where
-  pub shown : p.shown ≡ was
-  pub status : p.status ≡ before
+pub record IsAsBegun (c : Process) (was : Bool) (before : Option ℕ) : Type 0 where
+  pub shown : c.shown ≡ was
+  pub status : c.status ≡ before
 
 -- The name is refused where the history has refused its process, and not where it has shown its status.
 pub record IsRefused (refused : List Name) (name : Name) (id : ProcId) (history : List Event) : Type 0 where
@@ -31,13 +31,13 @@ pub record IsRefused (refused : List Name) (name : Name) (id : ProcId) (history 
 
 -- What is carried now, what MESSAGE PARITY ERROR would bring back, and the events of the connection so far, the newest
 -- first.
-pub record IsServing (k : OpenedValue) (commands : Bool) (id : ProcId) (now back : CarriedBytes)
+pub record IsServing (o : OpenedValue) (commands : Bool) (id : ProcId) (now back : CarriedBytes)
     (conn history : List Event) (was : Bool) (before : Option ℕ) : Type 0 where
-  pub account : (p : Process) → IsAsBegun p was before → IsAccountOf (account_now k commands p) now
-  pub void : (m : Incoming) (p : Process) → k.held ≡ Some m → k.since ≡ [] → k.bytes ≡ [] → IsAsBegun p was before
-      → IsAccountOf (account_after_all (account_of p []) k.parts) back
-  pub told : (refused : List Name) (p : Process) → IsAsBegun p was before → IsRefused refused p.name id history
-      → shown_items refused (account_base k p).items ≡ flat_map (λ event. items_named p.name event) (reverse conn)
+  pub account : (c : Process) → IsAsBegun c was before → IsAccountOf (account_now o commands c) now
+  pub void : (m : Incoming) (c : Process) → o.held ≡ Some m → o.since ≡ [] → o.bytes ≡ [] → IsAsBegun c was before
+      → IsAccountOf (account_after_all (account_of c []) o.parts) back
+  pub told : (refused : List Name) (c : Process) → IsAsBegun c was before → IsRefused refused c.name id history
+      → shown_items refused (account_base o c).items ≡ flat_map (λ event. items_named c.name event) (reverse conn)
 
 -- ---- what the events of a row mark
 

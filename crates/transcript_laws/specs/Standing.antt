@@ -48,10 +48,10 @@ pub record StandsApart (s : ScenarioValue) (t : TranscriberValue) (b : Story) : 
 -- ---- a connection stands
 
 -- What was sent before it; and the item that its initiator sent with it.
-pub data IsBegun (b : Story) (k : OpenedValue) (l : Link) (sent : List Item) : Type 0 where
-  first : (item : Item) → k.connection.reselected ≡ false → l.item ≡ Some item → sent_order b ≡ sent ++ item ∷ []
-      → has_item sent item ≡ false → IsBegun b k l sent
-  again : k.connection.reselected ≡ true → sent_order b ≡ sent → IsBegun b k l sent
+pub data IsBegun (b : Story) (o : OpenedValue) (l : Link) (sent : List Item) : Type 0 where
+  first : (item : Item) → o.connection.reselected ≡ false → l.item ≡ Some item → sent_order b ≡ sent ++ item ∷ []
+      → has_item sent item ≡ false → IsBegun b o l sent
+  again : o.connection.reselected ≡ true → sent_order b ≡ sent → IsBegun b o l sent
 
 -- The same is kept of them.
 pub record AreAlike (u c : CarriedBytes) : Type 0 where
@@ -66,29 +66,29 @@ IsAlone s b id = (x : ProcId) (d e : array_of.Process) → is_open_in b.sent x �
     → same_nexus (nexus_of d) (nexus_of e) ≡ false
 
 -- As an initiator begins it, its process has shown nothing; as a target does, it is the one that was kept.
-pub data IsFrom (s : ScenarioValue) (t : TranscriberValue) (b : Story) (k : OpenedValue) (sent : List Item)
+pub data IsFrom (s : ScenarioValue) (t : TranscriberValue) (b : Story) (o : OpenedValue) (sent : List Item)
     (id : ProcId) (was : Bool) (st : Option ℕ) : Type 0 where
-  anew : k.connection.reselected ≡ false → was ≡ false → st ≡ None → IsAlone s b id → IsFrom s t b k sent id was st
-  kept : k.connection.reselected ≡ true → (h : HasProcess s t.processes sent (names_begun t.items) id)
-      → IsAsBegun h.process was st → IsFrom s t b k sent id was st
+  anew : o.connection.reselected ≡ false → was ≡ false → st ≡ None → IsAlone s b id → IsFrom s t b o sent id was st
+  kept : o.connection.reselected ≡ true → (h : HasProcess s t.processes sent (names_begun t.items) id)
+      → IsAsBegun h.process was st → IsFrom s t b o sent id was st
 
 -- It is that of an abort; or its process is not known yet; or it is.
-pub data Stage (s : ScenarioValue) (t : TranscriberValue) (b : Story) (k : OpenedValue) (l : Link) (sent : List Item)
+pub data Stage (s : ScenarioValue) (t : TranscriberValue) (b : Story) (o : OpenedValue) (l : Link) (sent : List Item)
     (conn : List Event) : Type 0 where
-  of_abort : (j : ℕ) → k.connection.reselected ≡ false → l.item ≡ Some (abort j) → l.undo ≡ None → conn ≡ []
-      → are_talk (base_parts k) ≡ true → AreKept s t b sent no_process → Stage s t b k l sent conn
-  of_none : k.connection.reselected ≡ true → conn ≡ []
-      → are_talk (base_parts k) ≡ true → is_command b.bus_state.bus ≡ false
-      → is_status_phase b.bus_state.bus ≡ false → ((j : ℕ) → l.item ≡ Some (abort j) → ⊥)
+  of_abort : (m : ℕ) → o.connection.reselected ≡ false → l.item ≡ Some (abort m) → l.undo ≡ None → conn ≡ []
+      → are_talk (base_parts o) ≡ true → AreKept s t b sent no_process → Stage s t b o l sent conn
+  of_none : o.connection.reselected ≡ true → conn ≡ []
+      → are_talk (base_parts o) ≡ true → is_command b.bus_state.bus ≡ false
+      → is_status_phase b.bus_state.bus ≡ false → ((m : ℕ) → l.item ≡ Some (abort m) → ⊥)
       → ((id : ProcId) → l.item ≡ Some (process id) → IsBlank (carried_of b.carried id))
       → ((u : CarriedBytes) → l.undo ≡ Some u
       → IsBlank u × AreAlike u (carried_of b.carried u.id) × ((id : ProcId) → l.item ≡ Some (process id) → u.id ≡ id))
-      → AreKept s t b sent no_process → Stage s t b k l sent conn
+      → AreKept s t b sent no_process → Stage s t b o l sent conn
   of_process : (id : ProcId) (back : CarriedBytes) (was : Bool) (st : Option ℕ) → l.item ≡ Some (process id)
-      → ((u : CarriedBytes) → l.undo ≡ Some u → u ≡ back) → back.id ≡ id → is_known k b.bus_state.bus ≡ true
-      → IsServing k (is_command b.bus_state.bus) id (carried_of b.carried id) back conn b.history was st
-      → AreOwnEvents id conn → (are_talk (base_parts k) ≡ true → conn ≡ []) → IsFrom s t b k sent id was st
-      → AreKept s t b sent (λ x. same_id x id) → Stage s t b k l sent conn
+      → ((u : CarriedBytes) → l.undo ≡ Some u → u ≡ back) → back.id ≡ id → is_known o b.bus_state.bus ≡ true
+      → IsServing o (is_command b.bus_state.bus) id (carried_of b.carried id) back conn b.history was st
+      → AreOwnEvents id conn → (are_talk (base_parts o) ≡ true → conn ≡ []) → IsFrom s t b o sent id was st
+      → AreKept s t b sent (λ x. same_id x id) → Stage s t b o l sent conn
 
 pub record StandsLinked (s : ScenarioValue) (t : TranscriberValue) (b : Story) : Type 0 where
   pub opened : OpenedValue

@@ -33,13 +33,13 @@ pub record IsAccountOf (a : AccountValue) (c : CarriedBytes) : Type 0 where
 
 -- The account of a connection of this process so far, and no items before it.
 abbrev pub account_base : OpenedValue → Process → AccountValue
-account_base k p = account_after_all (account_of p []) (base_parts k)
+account_base o c = account_after_all (account_of c []) (base_parts o)
 
 -- ---- between its connections
 
-pub record IsKeptOf (p : Process) (c : CarriedBytes) : Type 0 where
-  pub status : p.status ≡ first_byte c.status.bytes
-  pub shown : c.refused ≡ false → p.shown ≡ c.shown
+pub record IsKeptOf (t : Process) (c : CarriedBytes) : Type 0 where
+  pub status : t.status ≡ first_byte c.status.bytes
+  pub shown : c.refused ≡ false → t.shown ≡ c.shown
 
 -- ---- what a history has of a process
 

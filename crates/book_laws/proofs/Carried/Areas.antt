@@ -4,8 +4,8 @@ use proofs.Names.{ℕ, ◌≡◌, ◌≤◌, ◌<◌, ◌+◌, Bool, true, false
 use proofs.Names.{ap, arith, append_assoc, length-append, nat_tests, slice_index_or, slice_set, nat_lt, if◌then◌else◌}
 use proofs.{Names.{Area, CarriedBytes, bytes_with, area_with, IsFilled, TakesBlock}, Common.Lists.{word_at, set_same}}
 
-lt_or_end : (n m : ℕ) → n ≤ m → (nat_lt n m ≡ true) ⊎ ((n ≡ m) × (nat_lt n m ≡ false))
-lt_or_end n m h = grind (arith, nat_tests)
+lt_or_end : (i m : ℕ) → i ≤ m → (nat_lt i m ≡ true) ⊎ ((i ≡ m) × (nat_lt i m ≡ false))
+lt_or_end i m h = grind (arith, nat_tests)
 
 pub split_at : (xs rest content : List ℕ) → xs ++ rest ≡ content → length xs < length content
     → (b : ℕ) × (ys : List ℕ) × (rest ≡ b ∷ ys)
@@ -76,7 +76,7 @@ takes_on c cdb byte h e lt =
       rest = sp.1;
       block_is = append_assoc c.block (byte ∷ []) sp.1 ∙ (λ i. c.block ++ is i ∷ sp.1)
           ∙ ap (λ (r : List ℕ). c.block ++ r) (sym sp.2) ∙ h.block_is;
-      active_is = ap (λ (n : ℕ). n + 1) h.active_is ∙ sym (length-append c.block (byte ∷ []));
+      active_is = ap (λ (m : ℕ). m + 1) h.active_is ∙ sym (length-append c.block (byte ∷ []));
       saved_is = h.saved_is;
       filled = puts c.command cdb byte h.filled e (omega arith);
     }

@@ -15,13 +15,13 @@ follows_block block (b ∷ rest) cdb e whole not_yet =
     let v = length-append block (b ∷ rest) in
     omega arith
 
-len_is : (g : Option ℕ) (n m : ℕ) → is_len g n ≡ true → is_len g m ≡ true → n ≡ m
-len_is None n m e f = absurd (true≢false (sym e))
-len_is (Some l) n m e f = grind (arith, nat_tests)
+len_is : (g : Option ℕ) (i m : ℕ) → is_len g i ≡ true → is_len g m ≡ true → i ≡ m
+len_is None i m e f = absurd (true≢false (sym e))
+len_is (Some l) i m e f = grind (arith, nat_tests)
 
-nil_of : (rest : List ℕ) (n : ℕ) → n + length rest ≡ n → rest ≡ []
-nil_of [] n e = refl
-nil_of (b ∷ rest) n e = absurd omega (arith, e)
+nil_of : (rest : List ℕ) (m : ℕ) → m + length rest ≡ m → rest ≡ []
+nil_of [] m e = refl
+nil_of (b ∷ rest) m e = absurd omega (arith, e)
 
 -- where it is whole, nothing follows
 pub whole_block : (block rest cdb : List ℕ) → block ++ rest ≡ cdb → has_group_len cdb ≡ true
@@ -48,8 +48,8 @@ same_self (x ∷ xs) = ap (λ (q : Bool). q && same_bytes xs xs) (eq_self x) ∙
 abbrev pub counts : List ℕ → CommandBytes
 counts block = record { first = slice_index block 0; count = length block }
 
-counted_small : (n m : ℕ) → n < 1000 → m ≡ n + 1 → counted_on n ≡ m
-counted_small n m lt e = omega (arith, lt, e)
+counted_small : (i m : ℕ) → i < 1000 → m ≡ i + 1 → counted_on i ≡ m
+counted_small i m lt e = omega (arith, lt, e)
 
 pub counts_on : (block : List ℕ) (byte : ℕ) → length block < 1000
     → command_on (counts block) byte ≡ counts (block ++ byte ∷ [])
@@ -60,13 +60,13 @@ counts_on (b ∷ block) byte lt =
     (length (b ∷ block)) (length (b ∷ (block ++ byte ∷ []))) lt (omega arith) in
     λ i. record { first = if suc_some (length block) i then byte else b; count = e i }
 
-some_len : (g : Option ℕ) (n : ℕ) → is_len g n ≡ true → is_some g ≡ true
-some_len None n e = e
-some_len (Some l) n e = refl
+some_len : (g : Option ℕ) (m : ℕ) → is_len g m ≡ true → is_some g ≡ true
+some_len None m e = e
+some_len (Some l) m e = refl
 
-below_len : (g : Option ℕ) (n m : ℕ) → is_len g n ≡ true → m < n → is_below m g ≡ true
-below_len None n m e lt = e
-below_len (Some l) n m e lt = grind (arith, nat_tests)
+below_len : (g : Option ℕ) (i m : ℕ) → is_len g i ≡ true → m < i → is_below m g ≡ true
+below_len None i m e lt = e
+below_len (Some l) i m e lt = grind (arith, nat_tests)
 
 pub may_follow : (block : List ℕ) (byte : ℕ) (ys cdb : List ℕ) → block ++ byte ∷ ys ≡ cdb → has_group_len cdb ≡ true
     → may_take (counts block) byte ≡ true
@@ -80,9 +80,9 @@ may_follow (b ∷ block) byte ys cdb e whole =
     ∙ below_len (group_len b) (length cdb) (length (b ∷ block))
     ((λ i. is_len (group_len (slice_index (e i) 0)) (length cdb)) ∙ whole) (omega arith)
 
-same_len : (g : Option ℕ) (n : ℕ) → is_len g n ≡ true → is_same_length n g ≡ true
-same_len None n e = e
-same_len (Some l) n e = grind (arith, nat_tests)
+same_len : (g : Option ℕ) (m : ℕ) → is_len g m ≡ true → is_same_length m g ≡ true
+same_len None m e = e
+same_len (Some l) m e = grind (arith, nat_tests)
 
 pub none_or_all : (block : List ℕ) → has_group_len block ≡ true → is_none_or_all (counts block) ≡ true
 none_or_all [] whole = refl

@@ -101,14 +101,14 @@ message_own s c _ h = h
 -- ---- a byte
 
 -- It is that at the pointer.
-pub record IsNext (c : CarriedBytes) (p : Process) (b : LineSet) (byte : ℕ) : Type 0 where
+pub record IsNext (c : CarriedBytes) (t : Process) (b : LineSet) (byte : ℕ) : Type 0 where
   pub command : is_command b ≡ true
-      → (byte ≡ slice_index_or p.cdb c.command.active 0) × (c.command.active < length p.cdb)
-  pub moved : is_data b ≡ true → is_writing p ≡ true
-      → (byte ≡ slice_index_or p.sent c.moved.active 0) × (c.moved.active < length p.sent)
+      → (byte ≡ slice_index_or t.cdb c.command.active 0) × (c.command.active < length t.cdb)
+  pub moved : is_data b ≡ true → is_writing t ≡ true
+      → (byte ≡ slice_index_or t.sent c.moved.active 0) × (c.moved.active < length t.sent)
 
 pub byte_own : (s : ScenarioValue) (c : CarriedBytes) (b : LineSet) (byte : ℕ)
-    → ((p : Process) → process_of s c.id ≡ Some p → IsNext c p b byte) → IsOwn s c
+    → ((y : Process) → process_of s c.id ≡ Some y → IsNext c y b byte) → IsOwn s c
     → IsOwn s (carried_after_byte c b byte)
 byte_own s c b byte next h = go (is_command b) (is_data b) (is_status_phase b) refl refl
   where
@@ -116,14 +116,14 @@ byte_own s c b byte next h = go (is_command b) (is_data b) (is_status_phase b) r
         → IsOwn s (if q then record c { command = area_with c.command byte; block = c.block ++ byte ∷ [] }
         else if r then record c { moved = area_with c.moved byte }
         else if t then record c { status = area_with c.status byte } else c)
-    go true r t eq er p e =
-        let o = h p e in
-        let x = (next p e).command eq in
+    go true r t eq er y e =
+        let o = h y e in
+        let x = (next y e).command eq in
         let act = o.command.active_is in
         let lt = x.1 in
-        record { command = takes_on c p.cdb byte o.command x.0 (omega arith); sent = o.sent; status = o.status }
-    go false true t eq er p e =
-        let o = h p e in
+        record { command = takes_on c y.cdb byte o.command x.0 (omega arith); sent = o.sent; status = o.status }
+    go false true t eq er y e =
+        let o = h y e in
         record {
           command = record {
             rest = o.command.rest;
@@ -132,11 +132,11 @@ byte_own s c b byte next h = go (is_command b) (is_data b) (is_status_phase b) r
             saved_is = o.command.saved_is;
             filled = o.command.filled;
           };
-          sent = λ w. let x = (next p e).moved er w in puts c.moved p.sent byte (o.sent w) x.0 x.1;
+          sent = λ w. let x = (next y e).moved er w in puts c.moved y.sent byte (o.sent w) x.0 x.1;
           status = o.status;
         }
-    go false false true eq er p e =
-        let o = h p e in
+    go false false true eq er y e =
+        let o = h y e in
         record {
           command = record {
             rest = o.command.rest;
@@ -148,7 +148,7 @@ byte_own s c b byte next h = go (is_command b) (is_data b) (is_status_phase b) r
           sent = o.sent;
           status = o.status;
         }
-    go false false false eq er p e = h p e
+    go false false false eq er y e = h y e
 
 -- ---- before any row
 

@@ -8,26 +8,26 @@ use proofs.Carried.{Crossings.{fault_own, message_own, IsNext, byte_own, nothing
 use proofs.Carried.Steps.{row_carried}
 pub use Rattle.due_model.specs.array_model.proofs.SoundArrays.{id_is as process_id}
 
-pub process_none : (p : Process) → (let a : Option Process = None in a) ≡ Some p → ⊥
-process_none p e = cc
+pub process_none : (c : Process) → (let a : Option Process = None in a) ≡ Some c → ⊥
+process_none c e = cc
 
 sends : (s : ScenarioValue) (k : RunState) (l : Link) (d : RowReading) (id : ProcId) → k.story.link ≡ Some l
-    → l.item ≡ Some (process id) → ((p : Process) → process_here s k ≡ Some p → SendsNext s k p d)
-    → (p : Process) → process_of s (carried_of k.story.carried id).id ≡ Some p
-    → IsNext (carried_of k.story.carried id) p d.change.before (d.change.after.data_bits % 256)
-sends s k l d id el ei next p e =
-    let own : process_of s id ≡ Some p = ap (process_of s) (sym (carried_id k.story.carried id)) ∙ e in
-    let here : process_here s k ≡ Some p = ap (λ (x : Option Link). process_item s (item_of x)) el
+    → l.item ≡ Some (process id) → ((c : Process) → process_here s k ≡ Some c → SendsNext s k c d)
+    → (c : Process) → process_of s (carried_of k.story.carried id).id ≡ Some c
+    → IsNext (carried_of k.story.carried id) c d.change.before (d.change.after.data_bits % 256)
+sends s k l d id el ei next c e =
+    let own : process_of s id ≡ Some c = ap (process_of s) (sym (carried_id k.story.carried id)) ∙ e in
+    let here : process_here s k ≡ Some c = ap (λ (x : Option Link). process_item s (item_of x)) el
     ∙ ap (process_item s) ei ∙ own in
-    let same : p.id ≡ id = process_id s id p own in
-    let n = next p here in
+    let same : c.id ≡ id = process_id s id c own in
+    let n = next c here in
     record {
       command = λ q. subst (λ (x : ProcId).
-          (d.change.after.data_bits % 256 ≡ slice_index_or p.cdb (carried_of k.story.carried x).command.active 0)
-          × ((carried_of k.story.carried x).command.active < length p.cdb)) same (n.command q);
+          (d.change.after.data_bits % 256 ≡ slice_index_or c.cdb (carried_of k.story.carried x).command.active 0)
+          × ((carried_of k.story.carried x).command.active < length c.cdb)) same (n.command q);
       moved = λ q w. subst (λ (x : ProcId).
-          (d.change.after.data_bits % 256 ≡ slice_index_or p.sent (carried_of k.story.carried x).moved.active 0)
-          × ((carried_of k.story.carried x).moved.active < length p.sent)) same (n.moved q w);
+          (d.change.after.data_bits % 256 ≡ slice_index_or c.sent (carried_of k.story.carried x).moved.active 0)
+          × ((carried_of k.story.carried x).moved.active < length c.sent)) same (n.moved q w);
     }
 
 own_kept : (s : ScenarioValue) → IsKept (IsOwn s)

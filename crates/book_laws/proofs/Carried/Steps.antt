@@ -117,17 +117,17 @@ free_keeps s b d row = go (is_arbitration_entry b d) (falls d.change.before.sel 
     called : (call : Option Call)
         → ((story_after_calling s b call).carried ≡ b.carried) × ((story_after_calling s b call).link ≡ b.link)
     called None = (refl, refl)
-    called (Some k) = by k.calling
+    called (Some c) = by c.calling
       where
-        by : (g : Option Calling) → ((story_after_calling_by s b k.caller g).carried ≡ b.carried)
-            × ((story_after_calling_by s b k.caller g).link ≡ b.link)
+        by : (g : Option Calling) → ((story_after_calling_by s b c.caller g).carried ≡ b.carried)
+            × ((story_after_calling_by s b c.caller g).link ≡ b.link)
         by None = (refl, refl)
         by (Some g) = one (is_none g.answered && not g.reselects)
           where
             one : (q : Bool)
-                → ((if q then story_with_try s b k.caller (aim_of b.aims k.caller) else b).carried ≡ b.carried)
-                × ((if q then story_with_try s b k.caller (aim_of b.aims k.caller) else b).link ≡ b.link)
-            one true = tried k.caller (aim_of b.aims k.caller)
+                → ((if q then story_with_try s b c.caller (aim_of b.aims c.caller) else b).carried ≡ b.carried)
+                × ((if q then story_with_try s b c.caller (aim_of b.aims c.caller) else b).link ≡ b.link)
+            one true = tried c.caller (aim_of b.aims c.caller)
             one false = (refl, refl)
 
     go : (q r : Bool)
@@ -293,8 +293,8 @@ connected_carried q kept s b (Some l) d row el takes h = go d.crosses refl (is_s
     go false e r t = faulted_carried q kept b l row.kind h
 
 bus_carried : (q : CarriedBytes → Type 0) → IsKept q
-    → (s : ScenarioValue) (b : Story) (m n : Option Connection) (d : RowReading) (row : Row) → TakesByte q b d
-    → IsCarried q b → IsCarried q (story_on_bus s b m n d row)
+    → (s : ScenarioValue) (b : Story) (m o : Option Connection) (d : RowReading) (row : Row) → TakesByte q b d
+    → IsCarried q b → IsCarried q (story_on_bus s b m o d row)
 bus_carried q kept s b None None d row takes h =
     let e = free_keeps s b d row in
     carried_by q (story_on_free_bus s b d row) b e.0 e.1 h

@@ -21,37 +21,37 @@ first_struck : (r q : Bool) (names : Messages) → (first_plan r q names).struck
 first_struck true q names = refl
 first_struck false q names = refl
 
-phase_struck : (w : Hearing) (l : Leaving) (p : Plan) → (plan_in_phase w l p).struck ≡ false
-phase_struck w l p = go (not (is_message_out w.change.after)) w.begun
+phase_struck : (w : Hearing) (l : Leaving) (f : Plan) → (plan_in_phase w l f).struck ≡ false
+phase_struck w l f = go (not (is_message_out w.change.after)) w.begun
   where
-    go : (a b : Bool) → (if a then record (plan_anew p) { messages = l.messages; next = l.next }
-        else if b then plan_in_message_out w p else plan_anew p).struck ≡ false
+    go : (a b : Bool) → (if a then record (plan_anew f) { messages = l.messages; next = l.next }
+        else if b then plan_in_message_out w f else plan_anew f).struck ≡ false
     go true b = refl
     go false true = refl
     go false false = refl
 
-byte_struck : (w : Hearing) (p : Plan) → (plan_with_byte w p).struck ≡ true → p.struck ≡ true
-byte_struck w p h = go (is_message_out w.change.before) w.is_last h
+byte_struck : (w : Hearing) (l : Plan) → (plan_with_byte w l).struck ≡ true → l.struck ≡ true
+byte_struck w l h = go (is_message_out w.change.before) w.is_last h
   where
-    go : (a b : Bool) → (if a then plan_after_message p b w.out else p).struck ≡ true → p.struck ≡ true
-    go true true k = cc
-    go true false k = k
-    go false b k = k
+    go : (a b : Bool) → (if a then plan_after_message l b w.out else l).struck ≡ true → l.struck ≡ true
+    go true true e = cc
+    go true false e = e
+    go false b e = e
 
-plan_struck : (w : Hearing) (l : Leaving) (p : Plan) → (plan_after w l p).struck ≡ true
-    → (not (changes_phase w.change) && (w.fault || p.struck)) ≡ true
-plan_struck w l p h = go (changes_phase w.change) w.crosses w.fault w.change.before.io h
+plan_struck : (w : Hearing) (l : Leaving) (x : Plan) → (plan_after w l x).struck ≡ true
+    → (not (changes_phase w.change) && (w.fault || x.struck)) ≡ true
+plan_struck w l x h = go (changes_phase w.change) w.crosses w.fault w.change.before.io h
   where
-    still : (f : Bool) → p.struck ≡ true → (f || p.struck) ≡ true
-    still f k = or_right f p.struck k
+    still : (f : Bool) → x.struck ≡ true → (f || x.struck) ≡ true
+    still f e = or_right f x.struck e
 
-    go : (a b f io : Bool) → (if a then plan_in_phase w l p
-        else if b then plan_with_byte w p else if f && not io then struck_plan p else p).struck ≡ true
-        → (not a && (f || p.struck)) ≡ true
-    go true b f io k = wrong (sym k ∙ phase_struck w l p)
-    go false true f io k = still f (byte_struck w p k)
-    go false false true io k = refl
-    go false false false io k = k
+    go : (a b f io : Bool) → (if a then plan_in_phase w l x
+        else if b then plan_with_byte w x else if f && not io then struck_plan x else x).struck ≡ true
+        → (not a && (f || x.struck)) ≡ true
+    go true b f io e = wrong (sym e ∙ phase_struck w l x)
+    go false true f io e = still f (byte_struck w x e)
+    go false false true io e = refl
+    go false false false io e = e
 
 struck_stands : (s : ScenarioValue) (rows : List Row) → is_struck_phase s rows ≡ true
     → is_some (run_state s rows).story.bus_state.connection ≡ true
@@ -84,10 +84,10 @@ struck_is s (row ∷ rows) h = go (λ e. struck_is s rows e) k.story.bus_state.c
     l : Leaving
     l = leaving_of s k k.story.bus_state.connection
 
-    kept : (c f p q : Bool) → (p ≡ true → q ≡ true) → (not c && (f || p)) ≡ true → (not c && (f || q)) ≡ true
-    kept true f p q more e = cc
-    kept false true p q more e = refl
-    kept false false p q more e = more e
+    kept : (c f r q : Bool) → (r ≡ true → q ≡ true) → (not c && (f || r)) ≡ true → (not c && (f || q)) ≡ true
+    kept true f r q more e = cc
+    kept false true r q more e = refl
+    kept false false r q more e = more e
 
     go : (k.exchange.plan.struck ≡ true → is_struck_phase s rows ≡ true)
         → (before : Option Connection) → k.story.bus_state.connection ≡ before
@@ -134,9 +134,9 @@ command_counts v a h = go v.task v.plan.struck h
         → (with_task o (λ t. if q then recovery v.def t (pointer_restoration Next.Command) (phase_entry Phase.Status)
         else after_arrival v.def t a)).counts ≡ true
         → q ≡ true
-    go o true k = refl
-    go None false k = cc
-    go (Some t) false k = wrong (sym k ∙ arrival_counts v.def t a)
+    go o true e = refl
+    go None false e = cc
+    go (Some t) false e = wrong (sym e ∙ arrival_counts v.def t a)
 
 data_out_counts : (v : Serving) → (data_out_leaving v).counts ≡ true → v.plan.struck ≡ true
 data_out_counts v h = go v.task v.plan.struck h
@@ -145,9 +145,9 @@ data_out_counts v h = go v.task v.plan.struck h
         → (with_task o (λ t. if q then recovery v.def t (pointer_restoration Next.GoOn) (phase_entry Phase.Status)
         else after_run (policy_of v.def) t)).counts ≡ true
         → q ≡ true
-    go o true k = refl
-    go None false k = cc
-    go (Some t) false k = wrong (sym k ∙ run_counts (policy_of v.def) t)
+    go o true e = refl
+    go None false e = cc
+    go (Some t) false e = wrong (sym e ∙ run_counts (policy_of v.def) t)
 
 data_in_counts : (v : Serving) → (data_in_leaving v).counts ≡ false
 data_in_counts v = go v.task
@@ -181,12 +181,12 @@ message_out_counts v Cause.InMessage h = go v.plan.said.offer h
         else if is_naming v.plan.messages.first then message_repetition v.plan
         else with_task v.task (λ t. recovery v.def t (message_repetition v.plan) bus_free)).counts ≡ true
         → is_none o ≡ true
-    go None k = refl
-    go (Some x) k = cc
+    go None e = refl
+    go (Some x) e = cc
 message_out_counts v Cause.InData h = refl
 message_out_counts v Cause.InStatus h = refl
 
-messages_counts : (v : Serving) (n : Next) → (after_messages v n).counts ≡ false
+messages_counts : (v : Serving) (x : Next) → (after_messages v x).counts ≡ false
 messages_counts v Next.GoOn = go v.task
   where
     go : (o : Option Task) → (with_task o (λ t. phase_entry
@@ -210,9 +210,9 @@ counts_wrong v false Phase.Status h = cc
 
 -- ---- a row more
 
-no_more : (n : ℕ) (q : Bool) → n ≤ n + one_if q
-no_more n true = grind arith
-no_more n false = grind arith
+no_more : (m : ℕ) (q : Bool) → m ≤ m + one_if q
+no_more m true = grind arith
+no_more m false = grind arith
 
 progress_step : (all : List ProcessProgress) (pid id : ProcId) (r c : Bool)
     → (progress_in (progress_with all pid r c) id).recoveries
@@ -248,15 +248,15 @@ progress_step all pid id r c = go (r || c) (same_id pid id) refl
 pub all_four : (a b c e : Bool) → a ≡ true → b ≡ true → c ≡ true → e ≡ true → (a && b && c && e) ≡ true
 all_four a b c e x y z w = λ i. x i && y i && z i && w i
 
-served_is : (s : ScenarioValue) (x : Option Item) (p : Process) (id : ProcId) → process_item s x ≡ Some p
-    → same_id p.id id ≡ true → same_process x (Some (process id)) ≡ true
-served_is s None p id e z = cc
-served_is s (Some (abort n)) p id e z = cc
-served_is s (Some (process q)) p id e z = (λ i. same_id (sym (id_is s q p e) i) id) ∙ z
+served_is : (s : ScenarioValue) (x : Option Item) (c : Process) (id : ProcId) → process_item s x ≡ Some c
+    → same_id c.id id ≡ true → same_process x (Some (process id)) ≡ true
+served_is s None c id e z = cc
+served_is s (Some (abort n)) c id e z = cc
+served_is s (Some (process q)) c id e z = (λ i. same_id (sym (id_is s q c e) i) id) ∙ z
 
-some_served : (s : ScenarioValue) (x : Option Item) (p : Process) → process_item s x ≡ Some p → is_some x ≡ true
-some_served s None p e = cc
-some_served s (Some x) p e = refl
+some_served : (s : ScenarioValue) (x : Option Item) (c : Process) → process_item s x ≡ Some c → is_some x ≡ true
+some_served s None c e = cc
+some_served s (Some x) c e = refl
 
 row_counts : (s : ScenarioValue) (rows : List Row) (row : Row) (id : ProcId)
     → (progress_in (run_state s rows).progress id).recoveries ≤ wrong_phases s rows id
@@ -301,13 +301,13 @@ row_counts s rows row id before = go k.story.bus_state.connection refl d.next re
         → changes_phase d.change ≡ true → k.exchange.begun ≡ true → (o : Option Process) → process_served s k ≡ o
         → (progress_in (progress_by_leaving k o (leaving s k m.target)) id).recoveries ≤ wrong + one_if leaves
     by_process m n z y c b None w = same leaves
-    by_process m n z y c b (Some p) w = one (progress_in
-        (progress_with k.progress p.id (leaving s k m.target).done (leaving s k m.target).counts) id).recoveries
-        ((leaving s k m.target).counts && same_id p.id id) leaves
-        (λ e. let two = and_parts (leaving s k m.target).counts (same_id p.id id) e in all_three (is_left k d)
+    by_process m n z y c b (Some t) w = one (progress_in
+        (progress_with k.progress t.id (leaving s k m.target).done (leaving s k m.target).counts) id).recoveries
+        ((leaving s k m.target).counts && same_id t.id id) leaves
+        (λ e. let two = and_parts (leaving s k m.target).counts (same_id t.id id) e in all_three (is_left k d)
         (serves k id) (is_wrong_phase (is_struck_phase s rows) k.exchange.plan (phase_of (bus_of k))) (left m n z y c b)
-        (and_from _ _ (served_is s k.served p id w two.1) (some_served s k.served p w)) (counts m b two.0))
-        (progress_step k.progress p.id id (leaving s k m.target).done (leaving s k m.target).counts)
+        (and_from _ _ (served_is s k.served t id w two.1) (some_served s k.served t w)) (counts m b two.0))
+        (progress_step k.progress t.id id (leaving s k m.target).done (leaving s k m.target).counts)
 
     by_phase : (m n : Connection) → k.story.bus_state.connection ≡ Some m → d.next ≡ Some n
         → (c b : Bool) → changes_phase d.change ≡ c → k.exchange.begun ≡ b → (progress_in

@@ -57,12 +57,12 @@ past_limit def None w h = cc
 past_limit def (Some t) w h =
     (and_parts (not t.in_hold && not (nat_lt t.recoveries (recovery_limit def))) (nat_lt (recovery_limit def) w) h).1
 
-gave_up : (s : ScenarioValue) (rows : List Row) (row : Row) (n : Connection) (p : Process)
-    → faithful s rows ≡ true → (run_state s rows).story.bus_state.connection ≡ Some n → process_of s p.id ≡ Some p
-    → gives_up s rows row n p.id ≡ true → has_passed_limit s (row ∷ rows) p ≡ true
-gave_up s rows row n p f z own h =
-    (λ i. nat_lt (recovery_limit (target_def_of s (at_target i))) (wrong_phases s (row ∷ rows) p.id))
-    ∙ past_limit (target_def_of s n.target) (task_of s k) (wrong_phases s (row ∷ rows) p.id) two.1
+gave_up : (s : ScenarioValue) (rows : List Row) (row : Row) (n : Connection) (c : Process)
+    → faithful s rows ≡ true → (run_state s rows).story.bus_state.connection ≡ Some n → process_of s c.id ≡ Some c
+    → gives_up s rows row n c.id ≡ true → has_passed_limit s (row ∷ rows) c ≡ true
+gave_up s rows row n c f z own h =
+    (λ i. nat_lt (recovery_limit (target_def_of s (at_target i))) (wrong_phases s (row ∷ rows) c.id))
+    ∙ past_limit (target_def_of s n.target) (task_of s k) (wrong_phases s (row ∷ rows) c.id) two.1
   where
     k : RunState
     k = run_state s rows
@@ -70,51 +70,51 @@ gave_up s rows row n p f z own h =
     d : RowReading
     d = row_reading k.story.bus_state row
 
-    two : (leaves_wrong_phase (is_struck_phase s rows) k d p.id ≡ true)
-        × (is_past_limit (target_def_of s n.target) (task_of s k) (wrong_phases s (row ∷ rows) p.id) ≡ true)
-    two = and_parts (leaves_wrong_phase (is_struck_phase s rows) k d p.id)
-        (is_past_limit (target_def_of s n.target) (task_of s k) (wrong_phases s (row ∷ rows) p.id)) h
+    two : (leaves_wrong_phase (is_struck_phase s rows) k d c.id ≡ true)
+        × (is_past_limit (target_def_of s n.target) (task_of s k) (wrong_phases s (row ∷ rows) c.id) ≡ true)
+    two = and_parts (leaves_wrong_phase (is_struck_phase s rows) k d c.id)
+        (is_past_limit (target_def_of s n.target) (task_of s k) (wrong_phases s (row ∷ rows) c.id)) h
 
-    served : (same_process k.served (Some (process p.id)) ≡ true) × (is_some k.served ≡ true)
-    served = and_parts (same_process k.served (Some (process p.id))) (is_some k.served) (middle (is_left k d)
-        (serves k p.id) (is_wrong_phase (is_struck_phase s rows) k.exchange.plan (phase_of (bus_of k))) two.0)
+    served : (same_process k.served (Some (process c.id)) ≡ true) × (is_some k.served ≡ true)
+    served = and_parts (same_process k.served (Some (process c.id))) (is_some k.served) (middle (is_left k d)
+        (serves k c.id) (is_wrong_phase (is_struck_phase s rows) k.exchange.plan (phase_of (bus_of k))) two.0)
 
-    is_own : (x : Option Item) → same_process x (Some (process p.id)) ≡ true → is_some x ≡ true
-        → process_item s x ≡ Some p
+    is_own : (x : Option Item) → same_process x (Some (process c.id)) ≡ true → is_some x ≡ true
+        → process_item s x ≡ Some c
     is_own None a b = cc
     is_own (Some (abort m)) a b = cc
-    is_own (Some (process m)) a b = (λ i. process_of s (same_id_is m p.id a i)) ∙ own
+    is_own (Some (process m)) a b = (λ i. process_of s (same_id_is m c.id a i)) ∙ own
 
-    at_target : p.target ≡ n.target
-    at_target = eqb-true p.target n.target (and_parts (p.initiator == n.initiator) (p.target == n.target)
+    at_target : c.target ≡ n.target
+    at_target = eqb-true c.target n.target (and_parts (c.initiator == n.initiator) (c.target == n.target)
         ((λ i. has_ends (sym (is_own k.served served.0 served.1) i) n) ∙ ends_are s rows n f z)).1
 
 -- ---- it stays so
 
-more_phases : (s : ScenarioValue) (rows : List Row) (row : Row) (p : Process) → has_passed_limit s rows p ≡ true
-    → has_passed_limit s (row ∷ rows) p ≡ true
-more_phases s rows row p h =
-    go (recovery_limit (target_def_of s p.target)) (wrong_phases s rows p.id) (leaves_wrong_phase
-    (is_struck_phase s rows) (run_state s rows) (row_reading (run_state s rows).story.bus_state row) p.id) h
+more_phases : (s : ScenarioValue) (rows : List Row) (row : Row) (c : Process) → has_passed_limit s rows c ≡ true
+    → has_passed_limit s (row ∷ rows) c ≡ true
+more_phases s rows row c h =
+    go (recovery_limit (target_def_of s c.target)) (wrong_phases s rows c.id) (leaves_wrong_phase
+    (is_struck_phase s rows) (run_state s rows) (row_reading (run_state s rows).story.bus_state row) c.id) h
   where
     go : (limit w : ℕ) (q : Bool) → nat_lt limit w ≡ true → nat_lt limit (w + one_if q) ≡ true
     go limit w true e = grind (arith, nat_tests)
     go limit w false e = grind (arith, nat_tests)
 
-pub failures_are : (s : ScenarioValue) (rows : List Row) (p : Process) (code : ℕ)
-    → faithful s rows ≡ true → telling s rows ≡ true → process_of s p.id ≡ Some p
-    → has_event (run_state s rows).story.history (Event.Fail p.id code) ≡ true → has_passed_limit s rows p ≡ true
-failures_are s [] p code f t own h = cc
-failures_are s (row ∷ rows) p code f t own h =
+pub failures_are : (s : ScenarioValue) (rows : List Row) (c : Process) (code : ℕ)
+    → faithful s rows ≡ true → telling s rows ≡ true → process_of s c.id ≡ Some c
+    → has_event (run_state s rows).story.history (Event.Fail c.id code) ≡ true → has_passed_limit s rows c ≡ true
+failures_are s [] c code f t own h = cc
+failures_are s (row ∷ rows) c code f t own h =
     let k : RunState = run_state s rows in
     let d : RowReading = row_reading k.story.bus_state row in
     let ff = and_parts (faithful s rows) (is_faithful s k d) f in
     let tt2 = and_parts (telling s rows) (is_true_telling s k row d) t in
-    either_list (row_events_by s k.story d row) k.story.history (Event.Fail p.id code)
-    (has_passed_limit s (row ∷ rows) p) (λ x. let n = fails_connected s k row d p.id code tt2.1 x in
-    gave_up s rows row n.0 p ff.0 n.1 own (and_parts (is_failure k.exchange.plan.cause code (phase_of (bus_of k)))
-    (gives_up s rows row n.0 p.id) (failure_is s rows row n.0 p.id code n.1 tt2.1 x)).1)
-    (λ x. more_phases s rows row p (failures_are s rows p code ff.0 tt2.0 own x)) h
+    either_list (row_events_by s k.story d row) k.story.history (Event.Fail c.id code)
+    (has_passed_limit s (row ∷ rows) c) (λ x. let n = fails_connected s k row d c.id code tt2.1 x in
+    gave_up s rows row n.0 c ff.0 n.1 own (and_parts (is_failure k.exchange.plan.cause code (phase_of (bus_of k)))
+    (gives_up s rows row n.0 c.id) (failure_is s rows row n.0 c.id code n.1 tt2.1 x)).1)
+    (λ x. more_phases s rows row c (failures_are s rows c code ff.0 tt2.0 own x)) h
 
 free_row : (s : ScenarioValue) (k : RunState) (d : RowReading) (n : Connection) → k.story.bus_state.connection ≡ Some n
     → d.change.after.rst ≡ false → is_left_as_due s k d ≡ true → is_some d.next ≡ false
@@ -122,18 +122,18 @@ free_row : (s : ScenarioValue) (k : RunState) (d : RowReading) (n : Connection) 
 free_row s k d n z calm left next =
     (λ i. sym calm i || sym next i || is_none (leaving s k n.target).to) ∙ (λ i. is_left_by s k d (sym z i)) ∙ left
 
-pub losses_are : (s : ScenarioValue) (rows : List Row) (p : Process) → faithful s rows ≡ true
-    → telling s rows ≡ true → left_as_due s rows ≡ true → process_of s p.id ≡ Some p
-    → has_event (run_state s rows).story.history (Event.Lost p.id) ≡ true → has_passed_limit s rows p ≡ true
-losses_are s [] p f t l own h = cc
-losses_are s (row ∷ rows) p f t l own h =
+pub losses_are : (s : ScenarioValue) (rows : List Row) (c : Process) → faithful s rows ≡ true
+    → telling s rows ≡ true → left_as_due s rows ≡ true → process_of s c.id ≡ Some c
+    → has_event (run_state s rows).story.history (Event.Lost c.id) ≡ true → has_passed_limit s rows c ≡ true
+losses_are s [] c f t l own h = cc
+losses_are s (row ∷ rows) c f t l own h =
     let k : RunState = run_state s rows in
     let d : RowReading = row_reading k.story.bus_state row in
     let ff = and_parts (faithful s rows) (is_faithful s k d) f in
     let tt2 = and_parts (telling s rows) (is_true_telling s k row d) t in
     let ll = and_parts (left_as_due s rows) (is_left_as_due s k d) l in
-    either_list (row_events_by s k.story d row) k.story.history (Event.Lost p.id) (has_passed_limit s (row ∷ rows) p)
-    (λ x. let n = lost_connected s k row d p.id tt2.1 x in gave_up s rows row n.0 p ff.0 n.1 own
-    (and_parts (is_loss k.exchange.plan.cause (phase_of (bus_of k))) (gives_up s rows row n.0 p.id)
-    (loss_by s rows row n.0 p n.1 tt2.1 own (free_row s k d n.0 n.1 (lost_calm s k row d p.id tt2.1 x) ll.1) x)).1)
-    (λ x. more_phases s rows row p (losses_are s rows p ff.0 tt2.0 ll.0 own x)) h
+    either_list (row_events_by s k.story d row) k.story.history (Event.Lost c.id) (has_passed_limit s (row ∷ rows) c)
+    (λ x. let n = lost_connected s k row d c.id tt2.1 x in gave_up s rows row n.0 c ff.0 n.1 own
+    (and_parts (is_loss k.exchange.plan.cause (phase_of (bus_of k))) (gives_up s rows row n.0 c.id)
+    (loss_by s rows row n.0 c n.1 tt2.1 own (free_row s k d n.0 n.1 (lost_calm s k row d c.id tt2.1 x) ll.1) x)).1)
+    (λ x. more_phases s rows row c (losses_are s rows c ff.0 tt2.0 ll.0 own x)) h

@@ -15,61 +15,61 @@ use proofs.Names.{complains_truly, has_passed_limit, has_more_faults}
 abbrev open_faults : Bool → Bool → Bool → ℕ
 open_faults served struck refusing = if served then one_if struck + one_if refusing else 0
 
-uncounted : (w f : ℕ) (s p q : Bool) → w + open_faults s p q ≤ f → w ≤ f
+uncounted : (w f : ℕ) (r b q : Bool) → w + open_faults r b q ≤ f → w ≤ f
 uncounted w f true true true h = grind arith
 uncounted w f _ _ _ h = grind arith
 
-counts_one : (w f : ℕ) (s p q l : Bool)
-    → (l ≡ true → s ≡ true) → (l ≡ true → (p || q) ≡ true) → w + open_faults s p q ≤ f → w + one_if l ≤ f
-counts_one w f s p q false a b h = let k : w ≤ f = uncounted w f s p q h in grind arith
-counts_one w f false p q true a b h = wrong' (a refl)
+counts_one : (w f : ℕ) (r c q l : Bool)
+    → (l ≡ true → r ≡ true) → (l ≡ true → (c || q) ≡ true) → w + open_faults r c q ≤ f → w + one_if l ≤ f
+counts_one w f r c q false a b h = let e : w ≤ f = uncounted w f r c q h in grind arith
+counts_one w f false c q true a b h = wrong' (a refl)
 counts_one w f true false false true a b h = wrong' (b refl)
 counts_one w f true _ _ true a b h = grind arith
 
-no_open : (s : Bool) → open_faults s false false ≡ 0
+no_open : (q : Bool) → open_faults q false false ≡ 0
 no_open true = refl
 no_open false = refl
 
 -- A phase is left to another: at most its strikes are complained of.
-left_to : (w f : ℕ) (s p q c x : Bool) → w + open_faults s p q ≤ f → w + 0 + open_faults s false (c && p && x) ≤ f
-left_to w f true false q true x h = let k : w ≤ f = uncounted w f true false q h in grind arith
-left_to w f true false q false x h = let k : w ≤ f = uncounted w f true false q h in grind arith
-left_to w f true true q false x h = let k : w ≤ f = uncounted w f true true q h in grind arith
+left_to : (w f : ℕ) (r b q c x : Bool) → w + open_faults r b q ≤ f → w + 0 + open_faults r false (c && b && x) ≤ f
+left_to w f true false q true x h = let e : w ≤ f = uncounted w f true false q h in grind arith
+left_to w f true false q false x h = let e : w ≤ f = uncounted w f true false q h in grind arith
+left_to w f true true q false x h = let e : w ≤ f = uncounted w f true true q h in grind arith
 left_to w f _ _ _ _ _ h = grind arith
 
 -- A phase goes on: a fault row is one more.
-goes_on : (w f : ℕ) (s p q x : Bool) → w + open_faults s p q ≤ f
-    → w + 0 + open_faults s (x || p) q ≤ f + one_if (x && true && s)
-goes_on w f false p q true h = grind arith
+goes_on : (w f : ℕ) (r b q x : Bool) → w + open_faults r b q ≤ f
+    → w + 0 + open_faults r (x || b) q ≤ f + one_if (x && true && r)
+goes_on w f false b q true h = grind arith
 goes_on w f _ _ _ _ h = grind arith
 
-more_faults : (n f : ℕ) (q : Bool) → n ≤ f → n ≤ f + one_if q
-more_faults n f true h = grind arith
-more_faults n f false h = grind arith
+more_faults : (m f : ℕ) (q : Bool) → m ≤ f → m ≤ f + one_if q
+more_faults m f true h = grind arith
+more_faults m f false h = grind arith
 
 -- Connected before and after, another phase, a fault row, I/O, MESSAGE OUT; served before and after, struck, refusing;
 -- and whether a phase with wrong parity is left.
-step : (w f : ℕ) (c n ch x io out s t p q l : Bool)
-    → (c ≡ true → n ≡ true → t ≡ s) → (l ≡ true → s ≡ true) → (l ≡ true → (p || q) ≡ true)
-    → (l ≡ true → io ≡ false) → (l ≡ true → n ≡ true → ch ≡ true) → w + open_faults s p q ≤ f
-    → w + one_if l + open_faults t (c && n && not ch && (x || p)) (c && n && (if ch then io && p && out else q))
-    ≤ f + one_if (x && c && s)
-step w f false n ch x io out s t p q l a b d e g h =
-    more_faults _ f (x && false && s) (subst (λ (m : ℕ). w + one_if l + m ≤ f) (sym (no_open t))
-    (let k : w + one_if l ≤ f = counts_one w f s p q l b d h in grind arith))
-step w f true false ch x io out s t p q l a b d e g h =
-    more_faults _ f (x && true && s) (subst (λ (m : ℕ). w + one_if l + m ≤ f) (sym (no_open t))
-    (let k : w + one_if l ≤ f = counts_one w f s p q l b d h in grind arith))
-step w f true true true x io out s t p q true a b d e g h =
-    more_faults _ f (x && true && s)
-    (subst (λ (m : ℕ). w + 1 + m ≤ f) (sym (no_open t) ∙ (λ i. open_faults t false (sym (e refl) i && p && out)))
-    (let k : w + 1 ≤ f = counts_one w f s p q true b d h in grind arith))
-step w f true true true x io out s t p q false a b d e g h = more_faults _ f (x && true && s) (subst
-    (λ (r : Bool). w + 0 + open_faults r false (io && p && out) ≤ f) (sym (a refl refl)) (left_to w f s p q io out h))
-step w f true true false x io out s t p q true a b d e g h = wrong' (g refl refl)
-step w f true true false x io out s t p q false a b d e g h = subst
-    (λ (r : Bool). w + 0 + open_faults r (x || p) q ≤ f + one_if (x && true && s)) (sym (a refl refl))
-    (goes_on w f s p q x h)
+step : (w f : ℕ) (c y ch x io out z t o q l : Bool)
+    → (c ≡ true → y ≡ true → t ≡ z) → (l ≡ true → z ≡ true) → (l ≡ true → (o || q) ≡ true)
+    → (l ≡ true → io ≡ false) → (l ≡ true → y ≡ true → ch ≡ true) → w + open_faults z o q ≤ f
+    → w + one_if l + open_faults t (c && y && not ch && (x || o)) (c && y && (if ch then io && o && out else q))
+    ≤ f + one_if (x && c && z)
+step w f false y ch x io out z t o q l a b d e g h =
+    more_faults _ f (x && false && z) (subst (λ (m : ℕ). w + one_if l + m ≤ f) (sym (no_open t))
+    (let v : w + one_if l ≤ f = counts_one w f z o q l b d h in grind arith))
+step w f true false ch x io out z t o q l a b d e g h =
+    more_faults _ f (x && true && z) (subst (λ (m : ℕ). w + one_if l + m ≤ f) (sym (no_open t))
+    (let v : w + one_if l ≤ f = counts_one w f z o q l b d h in grind arith))
+step w f true true true x io out z t o q true a b d e g h =
+    more_faults _ f (x && true && z)
+    (subst (λ (m : ℕ). w + 1 + m ≤ f) (sym (no_open t) ∙ (λ i. open_faults t false (sym (e refl) i && o && out)))
+    (let v : w + 1 ≤ f = counts_one w f z o q true b d h in grind arith))
+step w f true true true x io out z t o q false a b d e g h = more_faults _ f (x && true && z) (subst
+    (λ (r : Bool). w + 0 + open_faults r false (io && o && out) ≤ f) (sym (a refl refl)) (left_to w f z o q io out h))
+step w f true true false x io out z t o q true a b d e g h = wrong' (g refl refl)
+step w f true true false x io out z t o q false a b d e g h = subst
+    (λ (r : Bool). w + 0 + open_faults r (x || o) q ≤ f + one_if (x && true && z)) (sym (a refl refl))
+    (goes_on w f z o q x h)
 
 -- ---- a phase with wrong parity
 
@@ -80,10 +80,10 @@ wrong_out struck plan lines h = go lines.msg lines.io lines.cd h
     go : (m io c : Bool) → is_wrong_phase struck plan (if m then (if io then Phase.MessageIn else Phase.MessageOut)
         else if c then (if io then Phase.Status else Phase.Command) else if io then Phase.DataIn else Phase.DataOut)
         ≡ true → io ≡ false
-    go true true c k = cc
-    go false true true k = cc
-    go false true false k = cc
-    go m false c k = refl
+    go true true c e = cc
+    go false true true e = cc
+    go false true false e = cc
+    go m false c e = refl
 
 wrong_struck : (struck refusing left : Bool) (plan : Plan) (phase : Phase) → left ≡ true
     → is_wrong_phase struck plan phase ≡ true → (not (left && is_complaining plan phase) || refusing) ≡ true
@@ -102,7 +102,7 @@ parts : (a b c : Bool) → (a && b && c) ≡ true → (a ≡ true) × (b ≡ tru
 parts true true true h = (refl, refl, refl)
 parts _ _ _ h = cc
 
-left_phase : (a b n c r : Bool) → (a && b && (if n then c else not r)) ≡ true → n ≡ true → c ≡ true
+left_phase : (a b q c r : Bool) → (a && b && (if q then c else not r)) ≡ true → q ≡ true → c ≡ true
 left_phase true true true c r h e = h
 left_phase _ _ _ c r h e = cc
 
@@ -162,10 +162,10 @@ pub faults_are : (s : ScenarioValue) (rows : List Row) (id : ProcId) → complai
 faults_are s rows id h = uncounted (wrong_phases s rows id) (fault_rows s rows id) (serves (run_state s rows) id)
     (is_struck_phase s rows) (is_refusing s rows) (bound s rows id h)
 
-pub faults_pass : (s : ScenarioValue) (rows : List Row) (p : Process) → complains_truly s rows ≡ true
-    → has_passed_limit s rows p ≡ true → has_more_faults s rows p ≡ true
-faults_pass s rows p h e = go (recovery_limit (target_def_of s p.target)) (wrong_phases s rows p.id)
-    (fault_rows s rows p.id) (faults_are s rows p.id h) e
+pub faults_pass : (s : ScenarioValue) (rows : List Row) (c : Process) → complains_truly s rows ≡ true
+    → has_passed_limit s rows c ≡ true → has_more_faults s rows c ≡ true
+faults_pass s rows c h e = go (recovery_limit (target_def_of s c.target)) (wrong_phases s rows c.id)
+    (fault_rows s rows c.id) (faults_are s rows c.id h) e
   where
     go : (limit w f : ℕ) → w ≤ f → nat_lt limit w ≡ true → nat_lt limit f ≡ true
     go limit w f a b = grind (arith, nat_tests)

@@ -22,46 +22,46 @@ use proofs.{Names.{is_past_limit, gives_up}, Failures.Counts.{is_planned_wrong, 
 -- ---- equal events
 
 id_through : (a b c : ProcId) → same_id a b ≡ true → same_id b c ≡ true → same_id a c ≡ true
-id_through a b c h k = (λ i. same_id (same_id_is a b h i) c) ∙ k
+id_through a b c h e = (λ i. same_id (same_id_is a b h i) c) ∙ e
 
 fail_through : (e f : Event) (id : ProcId) (code : ℕ) → same_event e f ≡ true → same_event f (Event.Fail id code) ≡ true
     → same_event e (Event.Fail id code) ≡ true
-fail_through (Event.Fail a x) (Event.Fail b y) id code h k =
+fail_through (Event.Fail a x) (Event.Fail b y) id code h g =
     let one = and_parts (same_id a b) (x == y) h in
-    let two = and_parts (same_id b id) (y == code) k in
+    let two = and_parts (same_id b id) (y == code) g in
     and_from _ _ (id_through a b id one.0 two.0) ((λ i. eqb-true x y one.1 i == code) ∙ two.1)
-fail_through (Event.Accept a) (Event.Fail b y) id code h k = cc
-fail_through (Event.Refuse a) (Event.Fail b y) id code h k = cc
-fail_through (Event.Run a) (Event.Fail b y) id code h k = cc
-fail_through (Event.End a x) (Event.Fail b y) id code h k = cc
-fail_through (Event.Lost a) (Event.Fail b y) id code h k = cc
-fail_through (Event.Aborted a b c d) (Event.Fail f y) id code h k = cc
-fail_through (Event.Reset a) (Event.Fail b y) id code h k = cc
-fail_through e (Event.Accept a) id code h k = cc
-fail_through e (Event.Refuse a) id code h k = cc
-fail_through e (Event.Run a) id code h k = cc
-fail_through e (Event.End a x) id code h k = cc
-fail_through e (Event.Lost a) id code h k = cc
-fail_through e (Event.Aborted a b c d) id code h k = cc
-fail_through e (Event.Reset a) id code h k = cc
+fail_through (Event.Accept a) (Event.Fail b y) id code h g = cc
+fail_through (Event.Refuse a) (Event.Fail b y) id code h g = cc
+fail_through (Event.Run a) (Event.Fail b y) id code h g = cc
+fail_through (Event.End a x) (Event.Fail b y) id code h g = cc
+fail_through (Event.Lost a) (Event.Fail b y) id code h g = cc
+fail_through (Event.Aborted a b c d) (Event.Fail f y) id code h g = cc
+fail_through (Event.Reset a) (Event.Fail b y) id code h g = cc
+fail_through e (Event.Accept a) id code h g = cc
+fail_through e (Event.Refuse a) id code h g = cc
+fail_through e (Event.Run a) id code h g = cc
+fail_through e (Event.End a x) id code h g = cc
+fail_through e (Event.Lost a) id code h g = cc
+fail_through e (Event.Aborted a b c d) id code h g = cc
+fail_through e (Event.Reset a) id code h g = cc
 
 lost_through : (e f : Event) (id : ProcId) → same_event e f ≡ true → same_event f (Event.Lost id) ≡ true
     → same_event e (Event.Lost id) ≡ true
-lost_through (Event.Lost a) (Event.Lost b) id h k = id_through a b id h k
-lost_through (Event.Accept a) (Event.Lost b) id h k = cc
-lost_through (Event.Refuse a) (Event.Lost b) id h k = cc
-lost_through (Event.Run a) (Event.Lost b) id h k = cc
-lost_through (Event.End a x) (Event.Lost b) id h k = cc
-lost_through (Event.Fail a x) (Event.Lost b) id h k = cc
-lost_through (Event.Aborted a b c d) (Event.Lost f) id h k = cc
-lost_through (Event.Reset a) (Event.Lost b) id h k = cc
-lost_through e (Event.Accept a) id h k = cc
-lost_through e (Event.Refuse a) id h k = cc
-lost_through e (Event.Run a) id h k = cc
-lost_through e (Event.End a x) id h k = cc
-lost_through e (Event.Fail a x) id h k = cc
-lost_through e (Event.Aborted a b c d) id h k = cc
-lost_through e (Event.Reset a) id h k = cc
+lost_through (Event.Lost a) (Event.Lost b) id h g = id_through a b id h g
+lost_through (Event.Accept a) (Event.Lost b) id h g = cc
+lost_through (Event.Refuse a) (Event.Lost b) id h g = cc
+lost_through (Event.Run a) (Event.Lost b) id h g = cc
+lost_through (Event.End a x) (Event.Lost b) id h g = cc
+lost_through (Event.Fail a x) (Event.Lost b) id h g = cc
+lost_through (Event.Aborted a b c d) (Event.Lost f) id h g = cc
+lost_through (Event.Reset a) (Event.Lost b) id h g = cc
+lost_through e (Event.Accept a) id h g = cc
+lost_through e (Event.Refuse a) id h g = cc
+lost_through e (Event.Run a) id h g = cc
+lost_through e (Event.End a x) id h g = cc
+lost_through e (Event.Fail a x) id h g = cc
+lost_through e (Event.Aborted a b c d) id h g = cc
+lost_through e (Event.Reset a) id h g = cc
 
 either_true : (x y z : Bool) → (x ≡ true → z ≡ true) → (y ≡ true → z ≡ true) → (x || y) ≡ true → z ≡ true
 either_true true y z f g h = f refl
@@ -69,28 +69,28 @@ either_true false y z f g h = g h
 
 fails_in : (shown told : List Event) (id : ProcId) (code : ℕ) → same_events shown told ≡ true
     → has_event told (Event.Fail id code) ≡ true → has_event shown (Event.Fail id code) ≡ true
-fails_in [] [] id code h k = cc
-fails_in (e ∷ shown) (f ∷ told) id code h k =
+fails_in [] [] id code h g = cc
+fails_in (e ∷ shown) (f ∷ told) id code h g =
     let two = and_parts (same_event e f) (same_events shown told) h in
     let now = fail_through e f id code two.0 in
     let later = fails_in shown told id code two.1 in
     either_true (same_event f (Event.Fail id code))
     (has_event told (Event.Fail id code)) (has_event (e ∷ shown) (Event.Fail id code))
     (λ x. or_left (same_event e (Event.Fail id code)) (has_event shown (Event.Fail id code)) (now x))
-    (λ x. or_right (same_event e (Event.Fail id code)) (has_event shown (Event.Fail id code)) (later x)) k
-fails_in _ _ id code h k = cc
+    (λ x. or_right (same_event e (Event.Fail id code)) (has_event shown (Event.Fail id code)) (later x)) g
+fails_in _ _ id code h g = cc
 
 lost_in : (shown told : List Event) (id : ProcId) → same_events shown told ≡ true
     → has_event told (Event.Lost id) ≡ true → has_event shown (Event.Lost id) ≡ true
-lost_in [] [] id h k = cc
-lost_in (e ∷ shown) (f ∷ told) id h k =
+lost_in [] [] id h g = cc
+lost_in (e ∷ shown) (f ∷ told) id h g =
     let two = and_parts (same_event e f) (same_events shown told) h in
     let now = lost_through e f id two.0 in
     let later = lost_in shown told id two.1 in
     either_true (same_event f (Event.Lost id)) (has_event told (Event.Lost id)) (has_event (e ∷ shown) (Event.Lost id))
     (λ x. or_left (same_event e (Event.Lost id)) (has_event shown (Event.Lost id)) (now x))
-    (λ x. or_right (same_event e (Event.Lost id)) (has_event shown (Event.Lost id)) (later x)) k
-lost_in _ _ id h k = cc
+    (λ x. or_right (same_event e (Event.Lost id)) (has_event shown (Event.Lost id)) (later x)) g
+lost_in _ _ id h g = cc
 
 -- ---- no recovery is left to the process
 
@@ -100,7 +100,7 @@ is_spent def (Some t) = not t.in_hold && not (nat_lt t.recoveries (recovery_limi
 
 spent_by : (f : Option Phase → Bool) (def : Option TargetDef) (t : Task) (a b : Leaving) → f a.to ≡ false
     → f (recovery def t a b).to ≡ true → is_spent def (Some t) ≡ true
-spent_by f def t a b h k = go t.in_hold (nat_lt t.recoveries (recovery_limit def)) k
+spent_by f def t a b h g = go t.in_hold (nat_lt t.recoveries (recovery_limit def)) g
   where
     go : (q r : Bool) → f (if q then a else if r then record a { counts = true } else b).to ≡ true
         → (not q && not r) ≡ true
@@ -141,12 +141,12 @@ record Newer (q : Bool) (xs : List Event) (e : Event) : Type 0 where
 
 newer : (q : Bool) (xs ys : List Event) (e : Event) → has_event ys e ≡ false
     → has_event (newest_with (if q then xs else []) ys) e ≡ true → Newer q xs e
-newer false xs ys e h k = wrong (sym k ∙ h)
-newer true [] ys e h k = wrong (sym k ∙ h)
-newer true (x ∷ xs) ys e h k = record {
+newer false xs ys e h f = wrong (sym f ∙ h)
+newer true [] ys e h f = wrong (sym f ∙ h)
+newer true (x ∷ xs) ys e h f = record {
   on = refl;
   has = or_left (same_event x e) (has_event xs e)
-      (either_true (same_event x e) (has_event ys e) (same_event x e) (λ z. z) (λ z. wrong (sym z ∙ h)) k);
+      (either_true (same_event x e) (has_event ys e) (same_event x e) (λ z. z) (λ z. wrong (sym z ∙ h)) f);
 }
 
 -- What the events of a reply say of the plan.
@@ -167,36 +167,36 @@ reply_tells v Phase.Command id other code h = go v.plan.struck refl h
     go : (q : Bool) → v.plan.struck ≡ q → has_event
         (if q then Event.Fail id PARITY_ERROR ∷ [] else arrival_run_events v.arrival id) (Event.Fail other code) ≡ true
         → Tells v Phase.Command id other code
-    go true e k =
+    go true e f =
         let two = and_parts (same_id id other) (PARITY_ERROR == code)
-        (one_event (Event.Fail id PARITY_ERROR) (Event.Fail other code) k) in
+        (one_event (Event.Fail id PARITY_ERROR) (Event.Fail other code) f) in
         record { same = two.0; failure = eq_turned code PARITY_ERROR ∙ two.1; wrong = e }
-    go false e k = wrong (sym k ∙ run_fails v.arrival id other code)
+    go false e f = wrong (sym f ∙ run_fails v.arrival id other code)
 reply_tells v Phase.DataOut id other code h = go v.plan.struck refl h
   where
     go : (q : Bool) → v.plan.struck ≡ q
         → has_event (if q then Event.Fail id PARITY_ERROR ∷ [] else Event.Run id ∷ []) (Event.Fail other code) ≡ true
         → Tells v Phase.DataOut id other code
-    go true e k =
+    go true e f =
         let two = and_parts (same_id id other) (PARITY_ERROR == code)
-        (one_event (Event.Fail id PARITY_ERROR) (Event.Fail other code) k) in
+        (one_event (Event.Fail id PARITY_ERROR) (Event.Fail other code) f) in
         record { same = two.0; failure = eq_turned code PARITY_ERROR ∙ two.1; wrong = e }
-    go false e k = cc
+    go false e f = cc
 reply_tells v Phase.MessageOut id other code h = go v.plan.cause refl h
   where
     go : (c : Cause) → v.plan.cause ≡ c → has_event (detected_events c id) (Event.Fail other code) ≡ true
         → Tells v Phase.MessageOut id other code
-    go Cause.InData e k =
+    go Cause.InData e f =
         let two = and_parts (same_id id other) (INITIATOR_DETECTED_ERROR == code)
-        (one_event (Event.Fail id INITIATOR_DETECTED_ERROR) (Event.Fail other code) k) in
+        (one_event (Event.Fail id INITIATOR_DETECTED_ERROR) (Event.Fail other code) f) in
         record {
           same = two.0;
           failure = (λ i. is_failure (e i) code Phase.MessageOut) ∙ eq_turned code INITIATOR_DETECTED_ERROR ∙ two.1;
           wrong = λ i. is_complaint v.plan (e i);
         }
-    go Cause.Selected e k = cc
-    go Cause.InMessage e k = cc
-    go Cause.InStatus e k = cc
+    go Cause.Selected e f = cc
+    go Cause.InMessage e f = cc
+    go Cause.InStatus e f = cc
 reply_tells v _ id other code h = cc
 
 turn_spent : (v : Serving) (attention : Bool) (phase : Phase) (code : ℕ) → is_failure v.plan.cause code phase ≡ true
@@ -209,9 +209,9 @@ turn_spent v attention Phase.Command code f w h = go v.task ((λ i. is_status_ne
     go : (o : Option Task) → is_status_next
         (with_task o (λ t. recovery v.def t (pointer_restoration Next.Command) (phase_entry Phase.Status))).to ≡ true
         → is_spent v.def o ≡ true
-    go None k = cc
-    go (Some t) k =
-        spent_by (λ x. is_status_next x) v.def t (pointer_restoration Next.Command) (phase_entry Phase.Status) refl k
+    go None g = cc
+    go (Some t) g =
+        spent_by (λ x. is_status_next x) v.def t (pointer_restoration Next.Command) (phase_entry Phase.Status) refl g
 turn_spent v attention Phase.DataOut code f w h = go v.task ((λ i. is_status_next
     (with_task v.task (λ t. if sym w i then recovery v.def t (pointer_restoration Next.GoOn) (phase_entry Phase.Status)
     else after_run (policy_of v.def) t)).to) ∙ h)
@@ -219,36 +219,36 @@ turn_spent v attention Phase.DataOut code f w h = go v.task ((λ i. is_status_ne
     go : (o : Option Task) → is_status_next
         (with_task o (λ t. recovery v.def t (pointer_restoration Next.GoOn) (phase_entry Phase.Status))).to ≡ true
         → is_spent v.def o ≡ true
-    go None k = cc
-    go (Some t) k =
-        spent_by (λ x. is_status_next x) v.def t (pointer_restoration Next.GoOn) (phase_entry Phase.Status) refl k
+    go None g = cc
+    go (Some t) g =
+        spent_by (λ x. is_status_next x) v.def t (pointer_restoration Next.GoOn) (phase_entry Phase.Status) refl g
 turn_spent v attention Phase.MessageOut code f w h = by_cause v.plan.cause f h
   where
     go : (o : Option Task) → is_status_next
         (with_task o (λ t. recovery v.def t (pointer_restoration Next.GoOn) (phase_entry Phase.Status))).to ≡ true
         → is_spent v.def o ≡ true
-    go None k = cc
-    go (Some t) k =
-        spent_by (λ x. is_status_next x) v.def t (pointer_restoration Next.GoOn) (phase_entry Phase.Status) refl k
+    go None g = cc
+    go (Some t) g =
+        spent_by (λ x. is_status_next x) v.def t (pointer_restoration Next.GoOn) (phase_entry Phase.Status) refl g
 
     by_cause : (c : Cause) → is_failure c code Phase.MessageOut ≡ true
         → is_status_next (message_out_leaving v c).to ≡ true → is_spent v.def v.task ≡ true
-    by_cause Cause.InData e k = go v.task k
-    by_cause Cause.Selected e k = cc
-    by_cause Cause.InMessage e k = cc
-    by_cause Cause.InStatus e k = cc
+    by_cause Cause.InData e g = go v.task g
+    by_cause Cause.Selected e g = cc
+    by_cause Cause.InMessage e g = cc
+    by_cause Cause.InStatus e g = cc
 turn_spent v attention _ code f w h = cc
 
 turn_fails : (v : Serving) (attention : Bool) (phase : Phase) (id other : ProcId) (code : ℕ)
     → has_event (turn_events v attention phase id) (Event.Fail other code) ≡ true → Fails v phase id other code
 turn_fails v attention phase id other code h =
-    let n : Newer (is_status_next (phase_leaving v attention phase).to && not (has_replied v.task))
+    let e : Newer (is_status_next (phase_leaving v attention phase).to && not (has_replied v.task))
     (reply_events id v.plan v.arrival phase) (Event.Fail other code) = newer
     (is_status_next (phase_leaving v attention phase).to && not (has_replied v.task))
     (reply_events id v.plan v.arrival phase) (arrival_events id v.plan v.arrival phase)
     (Event.Fail other code) (arrival_fails id other code v.plan v.arrival phase) h in
-    let t : Tells v phase id other code = reply_tells v phase id other code n.has in
-    let on = and_parts (is_status_next (phase_leaving v attention phase).to) (not (has_replied v.task)) n.on in
+    let t : Tells v phase id other code = reply_tells v phase id other code e.has in
+    let on = and_parts (is_status_next (phase_leaving v attention phase).to) (not (has_replied v.task)) e.on in
     record {
       same = t.same;
       failure = t.failure;
@@ -414,25 +414,25 @@ past s rows row n id leaves same spent = and_from _ _ leaves (go (process_served
         more m w true h e = cc
         more m w false h e = grind (arith, nat_tests)
 
-    own : (x : Option Item) (p : Process) → process_item s x ≡ Some p → same_process x (Some (process id)) ≡ true
-        → p.id ≡ id
-    own None p w q = cc
-    own (Some (abort m)) p w q = cc
-    own (Some (process m)) p w q = id_is s m p w ∙ same_id_is m id q
+    own : (x : Option Item) (c : Process) → process_item s x ≡ Some c → same_process x (Some (process id)) ≡ true
+        → c.id ≡ id
+    own None c w q = cc
+    own (Some (abort m)) c w q = cc
+    own (Some (process m)) c w q = id_is s m c w ∙ same_id_is m id q
 
     go : (o : Option Process) → process_served s k ≡ o → is_spent (target_def_of s n.target) (task_if s k o) ≡ true
         → is_past_limit (target_def_of s n.target) (task_if s k (process_served s k)) (wrong_phases s (row ∷ rows) id)
         ≡ true
     go None w e = cc
-    go (Some p) w e =
+    go (Some c) w e =
         (λ i. is_past_limit (target_def_of s n.target) (task_if s k (w i)) (wrong_phases s rows id + one_if (leaves i)))
-        ∙ numbers (progress_in k.progress p.id).recoveries (wrong_phases s rows id)
+        ∙ numbers (progress_in k.progress c.id).recoveries (wrong_phases s rows id)
         (Rattle.std.specs.List.list_any (λ (q : Rattle.due_model.specs.array_model.specs.Units.Nexus).
         Rattle.due_model.specs.array_model.specs.Units.same_nexus q
-        (Rattle.due_model.specs.array_model.specs.Units.nexus_of p))
+        (Rattle.due_model.specs.array_model.specs.Units.nexus_of c))
         (Rattle.due_model.specs.RunState.array_of s k).holds)
         (subst (λ (x : ProcId). (progress_in k.progress x).recoveries ≤ wrong_phases s rows id)
-        (sym (own k.served p w same)) (counted s rows id)) e
+        (sym (own k.served c w same)) (counted s rows id)) e
 
 leaves_wrong : (s : ScenarioValue) (rows : List Row) (row : Row) (n : Connection) (id : ProcId)
     → (run_state s rows).story.bus_state.connection ≡ Some n → (run_state s rows).exchange.begun ≡ true
@@ -477,12 +477,12 @@ record Loses (v : Serving) (phase : Phase) : Type 0 where
 
 recovered : (def : Option TargetDef) (t : Task) (a b : Leaving) → is_none a.to ≡ false → is_none b.to ≡ false
     → is_none (recovery def t a b).to ≡ false
-recovered def t a b h k = go t.in_hold (nat_lt t.recoveries (recovery_limit def))
+recovered def t a b h e = go t.in_hold (nat_lt t.recoveries (recovery_limit def))
   where
     go : (q r : Bool) → is_none (if q then a else if r then record a { counts = true } else b).to ≡ false
     go true r = h
     go false true = h
-    go false false = k
+    go false false = e
 
 after_run_goes : (policy : Policy) (t : Task) → is_none (after_run policy t).to ≡ false
 after_run_goes policy t = elim (cases_Bool (nat_lt (t.runs + 1) (runs_in_all policy t))) [ inl e ↦ rw e | inr e ↦ rw e ]
@@ -536,8 +536,8 @@ message_out_loses v t e a h = go v.plan.cause refl h
   where
     spent : (b : Leaving) → is_none b.to ≡ false
         → is_none (with_task v.task (λ x. recovery v.def x b bus_free)).to ≡ true → is_spent v.def v.task ≡ true
-    spent b f k = (λ i. is_spent v.def (e i)) ∙ spent_by (λ x. is_none x) v.def t b bus_free f
-        ((λ i. is_none (with_task (sym e i) (λ x. recovery v.def x b bus_free)).to) ∙ k)
+    spent b f g = (λ i. is_spent v.def (e i)) ∙ spent_by (λ x. is_none x) v.def t b bus_free f
+        ((λ i. is_none (with_task (sym e i) (λ x. recovery v.def x b bus_free)).to) ∙ g)
 
     restored :
         is_none (with_task v.task (λ x. recovery v.def x (pointer_restoration Next.GoOn) (phase_entry Phase.Status))).to
@@ -550,11 +550,11 @@ message_out_loses v t e a h = go v.plan.cause refl h
         → is_none (if q then message_repetition v.plan
         else with_task v.task (λ x. recovery v.def x (message_repetition v.plan) bus_free)).to ≡ true
         → Loses v Phase.MessageOut
-    named c o true k = cc
-    named c o false k = record {
+    named c o true g = cc
+    named c o false g = record {
       loss = λ i. is_loss (c i) Phase.MessageOut;
       wrong = (λ i. is_complaint v.plan (c i)) ∙ (λ i. is_none (o i));
-      spent = spent (message_repetition v.plan) refl k;
+      spent = spent (message_repetition v.plan) refl g;
     }
 
     refused : v.plan.cause ≡ Cause.InMessage → (o : Option Agreement) → v.plan.said.offer ≡ o
@@ -562,44 +562,44 @@ message_out_loses v t e a h = go v.plan.cause refl h
         else if is_naming v.plan.messages.first then message_repetition v.plan
         else with_task v.task (λ x. recovery v.def x (message_repetition v.plan) bus_free)).to ≡ true
         → Loses v Phase.MessageOut
-    refused c None o k = named c o (is_naming v.plan.messages.first) k
-    refused c (Some x) o k = cc
+    refused c None o g = named c o (is_naming v.plan.messages.first) g
+    refused c (Some x) o g = cc
 
     go : (c : Cause) → v.plan.cause ≡ c → is_none (message_out_leaving v c).to ≡ true → Loses v Phase.MessageOut
-    go Cause.Selected c k = wrong (sym k ∙ opening_goes v a)
-    go Cause.InMessage c k = refused c v.plan.said.offer refl k
-    go Cause.InData c k = wrong (sym k ∙ restored)
-    go Cause.InStatus c k = record {
+    go Cause.Selected c g = wrong (sym g ∙ opening_goes v a)
+    go Cause.InMessage c g = refused c v.plan.said.offer refl g
+    go Cause.InData c g = wrong (sym g ∙ restored)
+    go Cause.InStatus c g = record {
       loss = λ i. is_loss (c i) Phase.MessageOut;
       wrong = λ i. is_complaint v.plan (c i);
-      spent = spent (pointer_restoration Next.Status) refl k;
+      spent = spent (pointer_restoration Next.Status) refl g;
     }
 
 end_loses :
     (v : Serving) (n : Connection) (attention : Bool) (phase : Phase) (o : Option ProcId) (other : ProcId) (t : Task)
     → v.task ≡ Some t → is_none (phase_leaving v attention phase).to ≡ true
     → has_event (connection_end_events n v.plan phase o) (Event.Lost other) ≡ true → Loses v phase
-end_loses v n attention Phase.MessageOut o other t e h k = go v.plan.said.aborts refl k
+end_loses v n attention Phase.MessageOut o other t e h f = go v.plan.said.aborts refl f
   where
     go : (a : Option AbortKind) → v.plan.said.aborts ≡ a
         → has_event (after_opening_events n v.plan.said a o) (Event.Lost other) ≡ true → Loses v Phase.MessageOut
     go None a x = message_out_loses v t e a h
     go (Some what) a x = cc
-end_loses v n attention Phase.MessageIn o other t e h k = cc
-end_loses v n attention Phase.Command o other t e h k = wrong (sym h ∙ command_goes v t e)
-end_loses v n attention Phase.DataOut o other t e h k = wrong (sym h ∙ data_out_goes v t e)
-end_loses v n true Phase.DataIn o other t e h k = cc
-end_loses v n false Phase.DataIn o other t e h k = wrong (sym h ∙ data_in_goes v t e)
-end_loses v n true Phase.Status o other t e h k = cc
-end_loses v n false Phase.Status o other t e h k = cc
+end_loses v n attention Phase.MessageIn o other t e h f = cc
+end_loses v n attention Phase.Command o other t e h f = wrong (sym h ∙ command_goes v t e)
+end_loses v n attention Phase.DataOut o other t e h f = wrong (sym h ∙ data_out_goes v t e)
+end_loses v n true Phase.DataIn o other t e h f = cc
+end_loses v n false Phase.DataIn o other t e h f = wrong (sym h ∙ data_in_goes v t e)
+end_loses v n true Phase.Status o other t e h f = cc
+end_loses v n false Phase.Status o other t e h f = cc
 
 -- ---- no turn to another phase shows it
 
 none_newer : (q : Bool) (xs ys : List Event) (e : Event) → has_event xs e ≡ false → has_event ys e ≡ false
     → has_event (newest_with (if q then xs else []) ys) e ≡ false
-none_newer false xs ys e h k = k
-none_newer true [] ys e h k = k
-none_newer true (x ∷ xs) ys e h k = (λ i. or_none_first (same_event x e) (has_event xs e) h i || k i)
+none_newer false xs ys e h f = f
+none_newer true [] ys e h f = f
+none_newer true (x ∷ xs) ys e h f = (λ i. or_none_first (same_event x e) (has_event xs e) h i || f i)
 
 arrival_loses : (id other : ProcId) (plan : Plan) (arrival : Arrival) (phase : Phase)
     → has_event (arrival_events id plan arrival phase) (Event.Lost other) ≡ false
@@ -666,20 +666,20 @@ end_id n plan Phase.MessageOut o other h = go plan.said.aborts h
 end_id n plan Phase.MessageIn o other h = cc
 end_id n plan _ o other h = lost_id o other h
 
-served_task : (s : ScenarioValue) (k : RunState) (p : Process) → same_process k.served (Some (process p.id)) ≡ true
-    → is_some k.served ≡ true → process_of s p.id ≡ Some p → task_of s k ≡ task_if s k (Some p)
-served_task s k p same some e = λ i. task_if s k (go k.served same some i)
+served_task : (s : ScenarioValue) (k : RunState) (c : Process) → same_process k.served (Some (process c.id)) ≡ true
+    → is_some k.served ≡ true → process_of s c.id ≡ Some c → task_of s k ≡ task_if s k (Some c)
+served_task s k c same some e = λ i. task_if s k (go k.served same some i)
   where
-    go : (x : Option Item) → same_process x (Some (process p.id)) ≡ true → is_some x ≡ true → process_item s x ≡ Some p
+    go : (x : Option Item) → same_process x (Some (process c.id)) ≡ true → is_some x ≡ true → process_item s x ≡ Some c
     go None a b = cc
     go (Some (abort m)) a b = cc
-    go (Some (process m)) a b = (λ i. process_of s (same_id_is m p.id a i)) ∙ e
+    go (Some (process m)) a b = (λ i. process_of s (same_id_is m c.id a i)) ∙ e
 
-target_loses : (s : ScenarioValue) (k : RunState) (n : Connection) (stands : Bool) (p : Process)
-    → process_of s p.id ≡ Some p → (stands ≡ false → is_none (leaving s k n.target).to ≡ true)
-    → has_event (target_events s k n stands) (Event.Lost p.id) ≡ true
-    → Drops k (serving_of s k n.target) (phase_of (bus_of k)) p.id
-target_loses s k n stands p own free h = go k.exchange.begun refl stands refl h
+target_loses : (s : ScenarioValue) (k : RunState) (n : Connection) (stands : Bool) (c : Process)
+    → process_of s c.id ≡ Some c → (stands ≡ false → is_none (leaving s k n.target).to ≡ true)
+    → has_event (target_events s k n stands) (Event.Lost c.id) ≡ true
+    → Drops k (serving_of s k n.target) (phase_of (bus_of k)) c.id
+target_loses s k n stands c own free h = go k.exchange.begun refl stands refl h
   where
     v : Serving
     v = serving_of s k n.target
@@ -687,18 +687,18 @@ target_loses s k n stands p own free h = go k.exchange.begun refl stands refl h
     phase : Phase
     phase = phase_of (bus_of k)
 
-    turned : (o : Option ProcId) → has_event (turn_events_if v (bus_of k).atn phase o) (Event.Lost p.id) ≡ false
+    turned : (o : Option ProcId) → has_event (turn_events_if v (bus_of k).atn phase o) (Event.Lost c.id) ≡ false
     turned None = refl
     turned (Some id) = none_newer (is_status_next (phase_leaving v (bus_of k).atn phase).to && not (has_replied v.task))
-        (reply_events id v.plan v.arrival phase) (arrival_events id v.plan v.arrival phase) (Event.Lost p.id)
-        (reply_loses v phase id p.id) (arrival_loses id p.id v.plan v.arrival phase)
+        (reply_events id v.plan v.arrival phase) (arrival_events id v.plan v.arrival phase) (Event.Lost c.id)
+        (reply_loses v phase id c.id) (arrival_loses id c.id v.plan v.arrival phase)
 
     ends : k.exchange.begun ≡ true → stands ≡ false
-        → has_event (connection_end_events n v.plan phase (id_of k.served)) (Event.Lost p.id) ≡ true
-        → Drops k v phase p.id
+        → has_event (connection_end_events n v.plan phase (id_of k.served)) (Event.Lost c.id) ≡ true
+        → Drops k v phase c.id
     ends b q x =
-        let who = end_id n v.plan phase (id_of k.served) p.id x in
-        let same : same_process k.served (Some (process p.id)) ≡ true = id_served k.served who.0 p.id who.1 who.2 in
+        let who = end_id n v.plan phase (id_of k.served) c.id x in
+        let same : same_process k.served (Some (process c.id)) ≡ true = id_served k.served who.0 c.id who.1 who.2 in
         let some : is_some k.served ≡ true = some_id k.served who.0 who.1 in
         let out : is_none (phase_leaving v (bus_of k).atn phase).to ≡ true =
         (λ i. is_none (leaving_by v (sym b i) (bus_of k)).to) ∙ free q in
@@ -706,45 +706,45 @@ target_loses s k n stands p own free h = go k.exchange.begun refl stands refl h
           begun = b;
           served = same;
           some = some;
-          loses = end_loses v n (bus_of k).atn phase (id_of k.served) p.id _ (served_task s k p same some own) out x;
+          loses = end_loses v n (bus_of k).atn phase (id_of k.served) c.id _ (served_task s k c same some own) out x;
         }
 
     go : (b : Bool) → k.exchange.begun ≡ b → (q : Bool) → stands ≡ q
         → has_event (if not b then [] else if q then turn_events_if v (bus_of k).atn phase (id_of k.served)
-        else connection_end_events n v.plan phase (id_of k.served)) (Event.Lost p.id) ≡ true
-        → Drops k v phase p.id
+        else connection_end_events n v.plan phase (id_of k.served)) (Event.Lost c.id) ≡ true
+        → Drops k v phase c.id
     go false b q y x = cc
     go true b true y x = wrong (sym x ∙ turned (id_of k.served))
     go true b false y x = ends b y x
 
-pub loss_by : (s : ScenarioValue) (rows : List Row) (row : Row) (n : Connection) (p : Process)
+pub loss_by : (s : ScenarioValue) (rows : List Row) (row : Row) (n : Connection) (c : Process)
     → (run_state s rows).story.bus_state.connection ≡ Some n
     → is_true_telling s (run_state s rows) row (row_reading (run_state s rows).story.bus_state row) ≡ true
-    → process_of s p.id ≡ Some p → (is_some (row_reading (run_state s rows).story.bus_state row).next ≡ false
+    → process_of s c.id ≡ Some c → (is_some (row_reading (run_state s rows).story.bus_state row).next ≡ false
     → is_none (leaving s (run_state s rows) n.target).to ≡ true)
     → has_event (row_events_by s (run_state s rows).story (row_reading (run_state s rows).story.bus_state row) row)
-    (Event.Lost p.id) ≡ true
+    (Event.Lost c.id) ≡ true
     → (is_loss (run_state s rows).exchange.plan.cause (phase_of (bus_of (run_state s rows)))
-    && gives_up s rows row n p.id) ≡ true
-loss_by s rows row n p z told own free has =
+    && gives_up s rows row n c.id) ≡ true
+loss_by s rows row n c z told own free has =
     let k : RunState = run_state s rows in
     let d : RowReading = row_reading k.story.bus_state row in
-    let l : Leaves s k d n (Event.Lost p.id) = leaves_row s k row d n (Event.Lost p.id) z
-    (λ q status. refl) refl (lost_in (events_of_ends s k row d) (row_events_by s k.story d row) p.id told has) in
-    let w : Drops k (serving_of s k n.target) (phase_of (bus_of k)) p.id = target_loses s k n
-    (is_some d.next) p own free l.has in
-    and_from _ _ w.loses.loss (past s rows row n p.id
-    (leaves_wrong s rows row n p.id z w.begun l.left w.served w.some w.loses.wrong) w.served w.loses.spent)
+    let l : Leaves s k d n (Event.Lost c.id) = leaves_row s k row d n (Event.Lost c.id) z
+    (λ q status. refl) refl (lost_in (events_of_ends s k row d) (row_events_by s k.story d row) c.id told has) in
+    let w : Drops k (serving_of s k n.target) (phase_of (bus_of k)) c.id = target_loses s k n
+    (is_some d.next) c own free l.has in
+    and_from _ _ w.loses.loss (past s rows row n c.id
+    (leaves_wrong s rows row n c.id z w.begun l.left w.served w.some w.loses.wrong) w.served w.loses.spent)
 
-pub loss_is : (s : ScenarioValue) (rows : List Row) (row : Row) (n : Connection) (p : Process)
+pub loss_is : (s : ScenarioValue) (rows : List Row) (row : Row) (n : Connection) (c : Process)
     → (run_state s rows).story.bus_state.connection ≡ Some n
     → is_true_telling s (run_state s rows) row (row_reading (run_state s rows).story.bus_state row) ≡ true
-    → process_of s p.id ≡ Some p → (leaving s (run_state s rows) n.target).to ≡ None
+    → process_of s c.id ≡ Some c → (leaving s (run_state s rows) n.target).to ≡ None
     → has_event (row_events_by s (run_state s rows).story (row_reading (run_state s rows).story.bus_state row) row)
-    (Event.Lost p.id) ≡ true
+    (Event.Lost c.id) ≡ true
     → (is_loss (run_state s rows).exchange.plan.cause (phase_of (bus_of (run_state s rows)))
-    && gives_up s rows row n p.id) ≡ true
-loss_is s rows row n p z told own free has = loss_by s rows row n p z told own (λ x. λ i. is_none (free i)) has
+    && gives_up s rows row n c.id) ≡ true
+loss_is s rows row n c z told own free has = loss_by s rows row n c z told own (λ x. λ i. is_none (free i)) has
 
 -- ---- such a row is of a connection
 

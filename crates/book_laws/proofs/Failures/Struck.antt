@@ -25,15 +25,15 @@ IsFailure s rows id None = Unit {0}
 IsFailure s rows id (Some code) = has_strike s rows id code ≡ true
 
 abbrev IsCarried : ScenarioValue → List Row → CarriedBytes → Type 0
-IsCarried s rows k = IsFailure s rows k.id k.failure
+IsCarried s rows c = IsFailure s rows c.id c.failure
 
 abbrev AreCarried : ScenarioValue → List Row → List CarriedBytes → Type 0
 AreCarried s rows [] = Unit {0}
-AreCarried s rows (k ∷ all) = IsCarried s rows k × AreCarried s rows all
+AreCarried s rows (c ∷ all) = IsCarried s rows c × AreCarried s rows all
 
 abbrev IsCarriedIf : ScenarioValue → List Row → Option CarriedBytes → Type 0
 IsCarriedIf s rows None = Unit {0}
-IsCarriedIf s rows (Some k) = IsCarried s rows k
+IsCarriedIf s rows (Some c) = IsCarried s rows c
 
 abbrev IsUndo : ScenarioValue → List Row → Option Link → Type 0
 IsUndo s rows None = Unit {0}
@@ -53,12 +53,12 @@ failure_more s rows row id (Some code) h = or_right (is_strike (story s rows) ro
 carried_more : (s : ScenarioValue) (rows : List Row) (row : Row) (all : List CarriedBytes) → AreCarried s rows all
     → AreCarried s (row ∷ rows) all
 carried_more s rows row [] h = tt
-carried_more s rows row (k ∷ all) h = (failure_more s rows row k.id k.failure h.0, carried_more s rows row all h.1)
+carried_more s rows row (c ∷ all) h = (failure_more s rows row c.id c.failure h.0, carried_more s rows row all h.1)
 
 if_more : (s : ScenarioValue) (rows : List Row) (row : Row) (o : Option CarriedBytes) → IsCarriedIf s rows o
     → IsCarriedIf s (row ∷ rows) o
 if_more s rows row None h = tt
-if_more s rows row (Some k) h = failure_more s rows row k.id k.failure h
+if_more s rows row (Some c) h = failure_more s rows row c.id c.failure h
 
 undo_more : (s : ScenarioValue) (rows : List Row) (row : Row) (o : Option Link) → IsUndo s rows o
     → IsUndo s (row ∷ rows) o
@@ -67,17 +67,17 @@ undo_more s rows row (Some l) h = if_more s rows row l.undo h
 
 -- ---- the list of what was carried
 
-with_is : (s : ScenarioValue) (rows : List Row) (all : List CarriedBytes) (k : CarriedBytes) → AreCarried s rows all
-    → IsCarried s rows k → AreCarried s rows (with_carried all k)
-with_is s rows [] k h c = (c, tt)
-with_is s rows (l ∷ all) k h c =
-    elim (cases_Bool (same_id l.id k.id)) [ inl e ↦ rw e (c, h.1) | inr e ↦ rw e (h.0, (with_is s rows all k h.1 c)) ]
+with_is : (s : ScenarioValue) (rows : List Row) (all : List CarriedBytes) (x : CarriedBytes) → AreCarried s rows all
+    → IsCarried s rows x → AreCarried s rows (with_carried all x)
+with_is s rows [] x h c = (c, tt)
+with_is s rows (l ∷ all) x h c =
+    elim (cases_Bool (same_id l.id x.id)) [ inl e ↦ rw e (c, h.1) | inr e ↦ rw e (h.0, (with_is s rows all x h.1 c)) ]
 
 at_is : (s : ScenarioValue) (rows : List Row) (all : List CarriedBytes) (id : ProcId) → AreCarried s rows all
     → IsCarriedIf s rows (carried_at all id)
 at_is s rows [] id h = tt
-at_is s rows (k ∷ all) id h =
-    elim (cases_Bool (same_id k.id id)) [ inl e ↦ rw e h.0 | inr e ↦ rw e (at_is s rows all id h.1) ]
+at_is s rows (c ∷ all) id h =
+    elim (cases_Bool (same_id c.id id)) [ inl e ↦ rw e h.0 | inr e ↦ rw e (at_is s rows all id h.1) ]
 
 of_is : (s : ScenarioValue) (rows : List Row) (all : List CarriedBytes) (id : ProcId) → AreCarried s rows all
     → IsCarried s rows (carried_of all id)
@@ -85,7 +85,7 @@ of_is s rows all id h = go (carried_at all id) (at_is s rows all id h)
   where
     go : (o : Option CarriedBytes) → IsCarriedIf s rows o → IsCarried s rows (carried_or_nothing o id)
     go None m = tt
-    go (Some k) m = m
+    go (Some c) m = m
 
 carried_if_is : (s : ScenarioValue) (rows : List Row) (b : Story) (o : Option Item) → AreCarried s rows b.carried
     → IsCarriedIf s rows (carried_if b o)
@@ -108,18 +108,18 @@ same_struck s rows b c e h = record {
 same_twice : (a b c : Story) → Same a b → Same b c → Same a c
 same_twice a b c x y = record { carried = y.carried ∙ x.carried; link = y.link ∙ x.link }
 
-with_ends_same : (drops stops : CmdDef → Bool) (e : Ending) (n : ℕ) (commands : List CmdDef) (b : Story)
-    → Same b (story_with_ends drops stops e n commands b)
-with_ends_same drops stops e n [] b = record { carried = refl; link = refl }
-with_ends_same drops stops e n (c ∷ commands) b =
-    same_twice b next (story_with_ends drops stops e (n + 1) commands next) (go (is_open b.sent n && drops c)
-    (stops c && list_any (λ k. k == n) b.sent.checks)) (with_ends_same drops stops e (n + 1) commands next)
+with_ends_same : (drops stops : CmdDef → Bool) (e : Ending) (m : ℕ) (commands : List CmdDef) (b : Story)
+    → Same b (story_with_ends drops stops e m commands b)
+with_ends_same drops stops e m [] b = record { carried = refl; link = refl }
+with_ends_same drops stops e m (c ∷ commands) b =
+    same_twice b next (story_with_ends drops stops e (m + 1) commands next) (go (is_open b.sent m && drops c)
+    (stops c && list_any (λ k. k == m) b.sent.checks)) (with_ends_same drops stops e (m + 1) commands next)
   where
     next : Story
-    next = story_with_end_if drops stops e n c b
+    next = story_with_end_if drops stops e m c b
 
-    go : (p q : Bool) → Same b (if p then story_with_end b (record { command = n; sense = false }) e
-        else if q then story_with_over b (sense_item n) else b)
+    go : (r q : Bool) → Same b (if r then story_with_end b (record { command = m; sense = false }) e
+        else if q then story_with_over b (sense_item m) else b)
     go true q = record { carried = refl; link = refl }
     go false true = record { carried = refl; link = refl }
     go false false = record { carried = refl; link = refl }
@@ -143,8 +143,8 @@ calling_same s b (Some c) = by c.calling
   where
     by : (o : Option Calling) → Same b (TraceHistory.story_after_calling_by s b c.caller o)
     by None = record { carried = refl; link = refl }
-    by (Some k) =
-        elim (cases_Bool (is_none k.answered && not k.reselects)) [
+    by (Some x) =
+        elim (cases_Bool (is_none x.answered && not x.reselects)) [
           | inl e ↦ rw e (try_same s b c.caller (aim_of b.aims c.caller))
           | inr e ↦ rw e (record { carried = refl; link = refl })
         ]
@@ -153,7 +153,7 @@ free_same : (s : ScenarioValue) (b : Story) (d : RowReading) (row : Row)
     → Same b (TraceHistory.story_on_free_bus s b d row)
 free_same s b d row = go (TraceHistory.is_arbitration_entry b d) (falls d.change.before.sel d.change.after.sel)
   where
-    go : (p q : Bool) → Same b (if p then TraceHistory.story_with_aim s b row
+    go : (r q : Bool) → Same b (if r then TraceHistory.story_with_aim s b row
         else if q then TraceHistory.story_after_calling s b b.bus_state.call else b)
     go true q = record { carried = refl; link = refl }
     go false true = calling_same s b b.bus_state.call
@@ -196,7 +196,7 @@ linked_struck s rows b n h = go n.reselected
 with_struck : (s : ScenarioValue) (rows : List Row) (b : Story) (o : Option CarriedBytes) → Struck s rows b
     → IsCarriedIf s rows o → Struck s rows (story_with_carried b o)
 with_struck s rows b None h c = h
-with_struck s rows b (Some k) h c = record { carried = with_is s rows b.carried k h.carried c; undo = h.undo }
+with_struck s rows b (Some x) h c = record { carried = with_is s rows b.carried x h.carried c; undo = h.undo }
 
 out_struck : (s : ScenarioValue) (rows : List Row) (b : Story) (l : Link) (o : Option MsgOut) → b.link ≡ Some l
     → Struck s rows b → Struck s rows (TraceHistory.story_after_out b l o)
@@ -211,15 +211,15 @@ out_struck s rows b l (Some m) e h =
     go undo true = undo
     go undo false = tt
 
-message_is : (s : ScenarioValue) (rows : List Row) (k : CarriedBytes) (m : MsgIn) → IsCarried s rows k
-    → IsCarried s rows (carried_after_message k m)
-message_is s rows k MsgIn.RestorePointers h = tt
-message_is s rows k _ h = h
+message_is : (s : ScenarioValue) (rows : List Row) (c : CarriedBytes) (m : MsgIn) → IsCarried s rows c
+    → IsCarried s rows (carried_after_message c m)
+message_is s rows c MsgIn.RestorePointers h = tt
+message_is s rows c _ h = h
 
 message_if : (s : ScenarioValue) (rows : List Row) (o : Option CarriedBytes) (m : MsgIn) → IsCarriedIf s rows o
     → IsCarriedIf s rows (TraceHistory.carried_after_message_if o m)
 message_if s rows None m h = tt
-message_if s rows (Some k) m h = message_is s rows k m h
+message_if s rows (Some c) m h = message_is s rows c m h
 
 name_struck : (s : ScenarioValue) (rows : List Row) (b : Story) (l next : Link) (m : MsgIn) → Struck s rows b
     → Struck s rows (TraceHistory.story_after_name s b l next m)
@@ -234,25 +234,25 @@ name_struck s rows b l next m h =
     last = record next { last = last_in m; before = l.last; undo = carried_if b l.item }
 
     after : (c : Story) → Struck s rows c → Struck s rows (TraceHistory.story_after_message s c last m)
-    after c k = with_struck s rows (record c { link = Some last }) (TraceHistory.carried_after_message_if
-        (carried_if c next.item) m) (record { carried = k.carried; undo = carried_if_is s rows b l.item h.carried })
-        (message_if s rows (carried_if c next.item) m (carried_if_is s rows c next.item k.carried))
+    after c e = with_struck s rows (record c { link = Some last }) (TraceHistory.carried_after_message_if
+        (carried_if c next.item) m) (record { carried = e.carried; undo = carried_if_is s rows b l.item h.carried })
+        (message_if s rows (carried_if c next.item) m (carried_if_is s rows c next.item e.carried))
 
 in_struck : (s : ScenarioValue) (rows : List Row) (b : Story) (l : Link) (o : Option MsgIn) → Struck s rows b
     → Struck s rows (TraceHistory.story_after_in s b l o)
 in_struck s rows b l None h = h
 in_struck s rows b l (Some m) h = name_struck s rows b l (link_after_name b.sent s.commands l m) m h
 
-byte_is : (s : ScenarioValue) (rows : List Row) (k : CarriedBytes) (lines : LineSet) (byte : ℕ) → IsCarried s rows k
-    → IsCarried s rows (carried_after_byte k lines byte)
-byte_is s rows k lines byte h = go (is_command lines) (is_data lines) (is_status_phase lines)
+byte_is : (s : ScenarioValue) (rows : List Row) (c : CarriedBytes) (lines : LineSet) (byte : ℕ) → IsCarried s rows c
+    → IsCarried s rows (carried_after_byte c lines byte)
+byte_is s rows c lines byte h = go (is_command lines) (is_data lines) (is_status_phase lines)
   where
-    go : (p q r : Bool) → IsCarried s rows (if p then record k {
-      command = Rattle.due_model.specs.story_model.specs.CarriedBytes.area_with k.command byte;
-      block = k.block ++ byte ∷ [];
-    } else if q then record k { moved = Rattle.due_model.specs.story_model.specs.CarriedBytes.area_with k.moved byte }
+    go : (b q r : Bool) → IsCarried s rows (if b then record c {
+      command = Rattle.due_model.specs.story_model.specs.CarriedBytes.area_with c.command byte;
+      block = c.block ++ byte ∷ [];
+    } else if q then record c { moved = Rattle.due_model.specs.story_model.specs.CarriedBytes.area_with c.moved byte }
         else if r
-        then record k { status = Rattle.due_model.specs.story_model.specs.CarriedBytes.area_with k.status byte } else k)
+        then record c { status = Rattle.due_model.specs.story_model.specs.CarriedBytes.area_with c.status byte } else c)
     go true q r = h
     go false true r = h
     go false false true = h
@@ -261,7 +261,7 @@ byte_is s rows k lines byte h = go (is_command lines) (is_data lines) (is_status
 byte_if : (s : ScenarioValue) (rows : List Row) (o : Option CarriedBytes) (d : RowReading) → IsCarriedIf s rows o
     → IsCarriedIf s rows (TraceHistory.carried_after_byte_if o d)
 byte_if s rows None d h = tt
-byte_if s rows (Some k) d h = byte_is s rows k d.change.before _ h
+byte_if s rows (Some c) d h = byte_is s rows c d.change.before _ h
 
 byte_struck : (s : ScenarioValue) (rows : List Row) (b : Story) (l : Link) (d : RowReading) → Struck s rows b
     → Struck s rows (TraceHistory.story_after_byte b l d)
@@ -277,7 +277,7 @@ crossing_struck : (s : ScenarioValue) (rows : List Row) (b : Story) (l : Link) (
     → Struck s rows b → Struck s rows (TraceHistory.story_after_crossing s b l d)
 crossing_struck s rows b l d e h = go (is_some d.out) (is_some d.into)
   where
-    go : (p q : Bool) → Struck s rows (if p then TraceHistory.story_after_out b l d.out
+    go : (r q : Bool) → Struck s rows (if r then TraceHistory.story_after_out b l d.out
         else if q then TraceHistory.story_after_in s b l d.into else TraceHistory.story_after_byte b l d)
     go true q = out_struck s rows b l d.out e h
     go false true = in_struck s rows b l d.into h
@@ -285,17 +285,17 @@ crossing_struck s rows b l d e h = go (is_some d.out) (is_some d.into)
 
 -- ---- a fault strikes a byte
 
-fault_code : (s : ScenarioValue) (rows : List Row) (id : ProcId) (lines : LineSet) (k : CarriedBytes) → k.id ≡ id
-    → ((code : ℕ) → fails_with lines code ≡ true → has_strike s rows id code ≡ true) → IsCarried s rows k
-    → IsCarried s rows (carried_after_fault k lines)
-fault_code s rows id lines k same now h = go (is_command lines) refl (is_data lines) refl lines.io refl
+fault_code : (s : ScenarioValue) (rows : List Row) (id : ProcId) (lines : LineSet) (c : CarriedBytes) → c.id ≡ id
+    → ((code : ℕ) → fails_with lines code ≡ true → has_strike s rows id code ≡ true) → IsCarried s rows c
+    → IsCarried s rows (carried_after_fault c lines)
+fault_code s rows id lines c same now h = go (is_command lines) refl (is_data lines) refl lines.io refl
   where
-    at : (code : ℕ) → fails_with lines code ≡ true → has_strike s rows k.id code ≡ true
+    at : (code : ℕ) → fails_with lines code ≡ true → has_strike s rows c.id code ≡ true
     at code e = subst (λ (other : ProcId). has_strike s rows other code ≡ true) (sym same) (now code e)
 
-    go : (p : Bool) → is_command lines ≡ p → (q : Bool) → is_data lines ≡ q → (io : Bool) → lines.io ≡ io
-        → IsCarried s rows (if p then record k { struck = true; failure = Some PARITY_ERROR }
-        else if q then record k { failure = Some (if io then INITIATOR_DETECTED_ERROR else PARITY_ERROR) } else k)
+    go : (r : Bool) → is_command lines ≡ r → (q : Bool) → is_data lines ≡ q → (io : Bool) → lines.io ≡ io
+        → IsCarried s rows (if r then record c { struck = true; failure = Some PARITY_ERROR }
+        else if q then record c { failure = Some (if io then INITIATOR_DETECTED_ERROR else PARITY_ERROR) } else c)
     go true e q f io g = at PARITY_ERROR (λ i. if e i then PARITY_ERROR == PARITY_ERROR else if is_data lines
         then (if lines.io then PARITY_ERROR == INITIATOR_DETECTED_ERROR else PARITY_ERROR == PARITY_ERROR) else false)
     go false e true f true g = at INITIATOR_DETECTED_ERROR (λ i. if e i then INITIATOR_DETECTED_ERROR == PARITY_ERROR
@@ -353,7 +353,7 @@ change_struck s rows row d h = go d.change.after.rst
         either true = crossing_struck s (row ∷ rows) b l d e h
         either false = fault_struck s rows row l e h
 
-    on_bus : (m n : Option Connection) → Struck s (row ∷ rows) (story_on_bus s b m n d row)
+    on_bus : (m x : Option Connection) → Struck s (row ∷ rows) (story_on_bus s b m x d row)
     on_bus None None = same_struck s (row ∷ rows) b (TraceHistory.story_on_free_bus s b d row) (free_same s b d row) h
     on_bus None (Some n) = linked_struck s (row ∷ rows) b n h
     on_bus (Some m) None = record { carried = h.carried; undo = tt }
@@ -428,16 +428,16 @@ struck_after s (row ∷ rows) = row_struck s rows row (struck_after s rows)
 
 no_failure : (e : Event) (xs : List Event) (f : Event) → same_event e f ≡ false → has_event (e ∷ xs) f ≡ true
     → has_event xs f ≡ true
-no_failure e xs f n h = (λ i. sym n i || has_event xs f) ∙ h
+no_failure e xs f g h = (λ i. sym g i || has_event xs f) ∙ h
 
 queue_none : (s : ScenarioValue) (b : Story) (o : Option CarriedBytes) (lines : LineSet) (id : ProcId) (code : ℕ)
     → has_event (HistoryEvents.queue_events s b o lines) (Event.Fail id code) ≡ false
 queue_none s b None lines id code = refl
-queue_none s b (Some k) lines id code = go (is_command lines && is_whole_block k)
-    (is_some (Rattle.due_model.specs.array_model.specs.ArrayHistory.array_after s (Event.Accept k.id ∷ b.history)))
+queue_none s b (Some c) lines id code = go (is_command lines && is_whole_block c)
+    (is_some (Rattle.due_model.specs.array_model.specs.ArrayHistory.array_after s (Event.Accept c.id ∷ b.history)))
   where
-    go : (p q : Bool)
-        → has_event (if p then (if q then Event.Accept k.id else Event.Refuse k.id) ∷ [] else []) (Event.Fail id code)
+    go : (r q : Bool)
+        → has_event (if r then (if q then Event.Accept c.id else Event.Refuse c.id) ∷ [] else []) (Event.Fail id code)
         ≡ false
     go true true = refl
     go _ _ = refl
@@ -446,34 +446,34 @@ status_is : (s : ScenarioValue) (rows : List Row) (o : Option CarriedBytes) (lin
     (id : ProcId) (code : ℕ) → IsCarriedIf s rows o → has_event arrived (Event.Fail id code) ≡ false
     → has_event (HistoryEvents.status_events o lines arrived) (Event.Fail id code) ≡ true
     → has_strike s rows id code ≡ true
-status_is s rows None lines arrived id code c n h = wrong (sym h ∙ n)
-status_is s rows (Some k) lines arrived id code c n h = go
-    (is_status_phase lines && not k.shown && not k.refused && not (list_any (λ e. HistoryEvents.is_refuse e) arrived)) h
+status_is s rows None lines arrived id code c g h = wrong (sym h ∙ g)
+status_is s rows (Some y) lines arrived id code c g h = go
+    (is_status_phase lines && not y.shown && not y.refused && not (list_any (λ e. HistoryEvents.is_refuse e) arrived)) h
   where
-    same : (x : ℕ) → has_strike s rows k.id x ≡ true → same_event (Event.Fail k.id x) (Event.Fail id code) ≡ true
+    same : (x : ℕ) → has_strike s rows y.id x ≡ true → same_event (Event.Fail y.id x) (Event.Fail id code) ≡ true
         → has_strike s rows id code ≡ true
     same x m e =
-        let two = and_parts (same_id k.id id) (x == code) e in
-        (λ i. has_strike s rows (sym (same_id_is k.id id two.0) i) (sym (eqb-true x code two.1) i)) ∙ m
+        let two = and_parts (same_id y.id id) (x == code) e in
+        (λ i. has_strike s rows (sym (same_id_is y.id id two.0) i) (sym (eqb-true x code two.1) i)) ∙ m
 
-    of_event : (x : Option ℕ) → IsFailure s rows k.id x
-        → (q : Bool) → same_event (HistoryEvents.status_event k.id x) (Event.Fail id code) ≡ q
+    of_event : (x : Option ℕ) → IsFailure s rows y.id x
+        → (q : Bool) → same_event (HistoryEvents.status_event y.id x) (Event.Fail id code) ≡ q
         → (q || has_event arrived (Event.Fail id code)) ≡ true → has_strike s rows id code ≡ true
     of_event None m true e f = cc
     of_event (Some x) m true e f = same x m e
-    of_event x m false e f = wrong (sym f ∙ n)
+    of_event x m false e f = wrong (sym f ∙ g)
 
     go : (q : Bool)
-        → has_event (if q then HistoryEvents.status_event k.id k.failure ∷ arrived else arrived) (Event.Fail id code)
+        → has_event (if q then HistoryEvents.status_event y.id y.failure ∷ arrived else arrived) (Event.Fail id code)
         ≡ true → has_strike s rows id code ≡ true
-    go false e = wrong (sym e ∙ n)
+    go false e = wrong (sym e ∙ g)
     go true e =
-        of_event k.failure c (same_event (HistoryEvents.status_event k.id k.failure) (Event.Fail id code)) refl e
+        of_event y.failure c (same_event (HistoryEvents.status_event y.id y.failure) (Event.Fail id code)) refl e
 
 end_none : (o : Option CarriedBytes) (id : ProcId) (code : ℕ)
     → has_event (HistoryEvents.end_events o) (Event.Fail id code) ≡ false
 end_none None id code = refl
-end_none (Some k) id code = refl
+end_none (Some c) id code = refl
 
 free_none : (s : ScenarioValue) (l : Link)
     (last : Rattle.due_model.specs.story_model.specs.Links.LastMessage) (id : ProcId) (code : ℕ)
@@ -509,8 +509,8 @@ shown_is s rows row id code h = go d.change.after.rst (rises d.change.own.rst d.
     d : RowReading
     d = row_reading b.bus_state row
 
-    by_link : (l : Link) (p q r : Bool)
-        → has_event (if p then (if q then HistoryEvents.phase_events s b (carried_if b l.item) d.change
+    by_link : (l : Link) (c q r : Bool)
+        → has_event (if c then (if q then HistoryEvents.phase_events s b (carried_if b l.item) d.change
         else if r then HistoryEvents.end_events (carried_if b l.item) else [])
         else HistoryEvents.bus_free_events s l l.last) (Event.Fail id code) ≡ true
         → has_strike s rows id code ≡ true
@@ -536,13 +536,13 @@ shown_is s rows row id code h = go d.change.after.rst (rises d.change.own.rst d.
 pub either_list : (shown history : List Event) (e : Event) (z : Bool) → (has_event shown e ≡ true → z ≡ true)
     → (has_event history e ≡ true → z ≡ true) → has_event (shown ++ history) e ≡ true → z ≡ true
 either_list [] history e z now before h = before h
-either_list (x ∷ shown) history e z now before h = go (λ k. either_list shown history e z
-    (λ y. now (or_right (same_event x e) (has_event shown e) y)) before k) (same_event x e) refl h
+either_list (x ∷ shown) history e z now before h = go (λ f. either_list shown history e z
+    (λ y. now (or_right (same_event x e) (has_event shown e) y)) before f) (same_event x e) refl h
   where
     go : (has_event (shown ++ history) e ≡ true → z ≡ true) → (q : Bool) → same_event x e ≡ q
         → (q || has_event (shown ++ history) e) ≡ true → z ≡ true
-    go later true w k = now (λ i. w i || has_event shown e)
-    go later false w k = later k
+    go later true w f = now (λ i. w i || has_event shown e)
+    go later false w f = later f
 
 pub strikes_are : (s : ScenarioValue) (rows : List Row) (id : ProcId) (code : ℕ)
     → has_event (trace_history s rows) (Event.Fail id code) ≡ true → has_strike s rows id code ≡ true

@@ -116,10 +116,10 @@ command_left q o v arrival = go v.task v.plan.struck
 run_left : (q : MsgIn → Type 0) → IsOfOthers q → (policy : Policy) (t : Task) → On q (after_run policy t)
 run_left q o policy t = go (nat_lt (t.runs + 1) (runs_in_all policy t)) policy
   where
-    go : (r : Bool) (p : Policy)
-        → On q (record (if r then disconnection (disconnect_messages p) else phase_entry Phase.Status) { done = true })
+    go : (r : Bool) (x : Policy)
+        → On q (record (if r then disconnection (disconnect_messages x) else phase_entry Phase.Status) { done = true })
     go true (Policy.Burst most) = (o.save, o.disconnect)
-    go false p = (tt, tt)
+    go false x = (tt, tt)
     go true _ = (o.disconnect, tt)
 
 data_left : (q : MsgIn → Type 0) → IsOfOthers q → (policy : Policy) (task : Option Task)

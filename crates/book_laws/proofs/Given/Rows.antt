@@ -52,8 +52,8 @@ few_messages m =
     let c = length-append (message_bytes m.first) (message_bytes m.second) in
     omega arith
 
-pub counted : (n m : ℕ) → n < m → m < 12 → counted_on n ≡ n + 1
-counted n m a b = omega (arith, a, b)
+pub counted : (i m : ℕ) → i < m → m < 12 → counted_on i ≡ i + 1
+counted i m a b = omega (arith, a, b)
 
 -- ---- handshakes
 
@@ -97,9 +97,9 @@ not_both b i o = wrong (sym (in_io b i) ∙ not-true b.io (and_second (b.msg && 
 count_as : (bytes half : List ℕ) (a b : ℕ) → a ≡ b → AreGiven bytes half b → AreGiven bytes half a
 count_as bytes half a b e h = subst (λ (x : ℕ). AreGiven bytes half x) (sym e) h
 
-kept_messages : (q : Bool) (p : Plan) → (plan_anew_if q p).messages ≡ p.messages
-kept_messages true p = refl
-kept_messages false p = refl
+kept_messages : (q : Bool) (l : Plan) → (plan_anew_if q l).messages ≡ l.messages
+kept_messages true l = refl
+kept_messages false l = refl
 
 -- Lines change, or a byte is struck.
 gives_still : (n : Connection) (c : Change) (x : Exchange) (d : Dialogue) (h h' : Handshakes)
@@ -152,15 +152,15 @@ gives_byte k n c dev x t eb em ep er next g = record {
     by d byte last true r eo ei e = not_both c.before ei eo
     by d byte last false r eo ei e = ap (λ (q : Bool). (if q then byte_in d byte else byte_else d c.before byte).half) e
 
-pub byte_messages : (o last : Bool) (m : Option MsgOut) (p : Plan)
-    → (if o then plan_after_message p last m else p).messages ≡ p.messages
-byte_messages true last m p = kept_messages last p
-byte_messages false last m p = refl
+pub byte_messages : (o last : Bool) (m : Option MsgOut) (l : Plan)
+    → (if o then plan_after_message l last m else l).messages ≡ l.messages
+byte_messages true last m l = kept_messages last l
+byte_messages false last m l = refl
 
 -- A phase begins.
-from_fit : (m : Messages) (n : ℕ) → OnMessages FitsIn m → OnMessages FitsIn (from_byte m n)
-from_fit m n h =
-    elim (cases_Bool (nat_lt n (length (message_bytes m.first)))) [ inl e ↦ rw e h | inr e ↦ rw e (h.1, tt) ]
+from_fit : (m : Messages) (i : ℕ) → OnMessages FitsIn m → OnMessages FitsIn (from_byte m i)
+from_fit m i h =
+    elim (cases_Bool (nat_lt i (length (message_bytes m.first)))) [ inl e ↦ rw e h | inr e ↦ rw e (h.1, tt) ]
 
 others_fit : IsOfOthers FitsIn
 others_fit = record { complete = tt; save = tt; restore = tt; disconnect = tt; sdtr = λ a. tt; reject = tt }

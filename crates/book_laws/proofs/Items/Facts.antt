@@ -19,78 +19,78 @@ abbrev IsItemIf : ScenarioValue → ℕ → Option Item → Type 0
 IsItemIf s dev None = Unit {0}
 IsItemIf s dev (Some item) = IsItem s dev item
 
-aborts_are : (s : ScenarioValue) (b : Sent) (dev time j : ℕ) (aborts : List AbortDef)
-    → ((m : ℕ) → abort_line_at aborts (suc m) ≡ abort_line_at s.aborts (suc (j + m)))
-    → IsItemIf s dev (abort_from b dev time (suc j) aborts)
-aborts_are s b dev time j [] h = tt
-aborts_are s b dev time j (a ∷ aborts) h = go (a.host == dev && nat_le a.at time && not (is_done b (abort (suc j))))
-    refl (subst (λ (n : ℕ). IsItemIf s dev (abort_from b dev time n aborts)) (one_more j) (aborts_are s b dev time
-    (suc j) aborts (λ m. h (suc m) ∙ ap (λ (n : ℕ). abort_line_at s.aborts (suc n)) (moved j m))))
+aborts_are : (s : ScenarioValue) (b : Sent) (dev time i : ℕ) (aborts : List AbortDef)
+    → ((m : ℕ) → abort_line_at aborts (suc m) ≡ abort_line_at s.aborts (suc (i + m)))
+    → IsItemIf s dev (abort_from b dev time (suc i) aborts)
+aborts_are s b dev time i [] h = tt
+aborts_are s b dev time i (a ∷ aborts) h = go (a.host == dev && nat_le a.at time && not (is_done b (abort (suc i))))
+    refl (subst (λ (l : ℕ). IsItemIf s dev (abort_from b dev time l aborts)) (one_more i) (aborts_are s b dev time
+    (suc i) aborts (λ m. h (suc m) ∙ ap (λ (l : ℕ). abort_line_at s.aborts (suc l)) (moved i m))))
   where
-    one_more : (n : ℕ) → suc (suc n) ≡ suc n + 1
-    one_more n = omega arith
+    one_more : (l : ℕ) → suc (suc l) ≡ suc l + 1
+    one_more l = omega arith
 
-    moved : (n m : ℕ) → n + suc m ≡ suc n + m
-    moved n m = omega arith
+    moved : (l m : ℕ) → l + suc m ≡ suc l + m
+    moved l m = omega arith
 
-    go : (q : Bool) → (a.host == dev && nat_le a.at time && not (is_done b (abort (suc j)))) ≡ q
-        → IsItemIf s dev (abort_from b dev time (suc j + 1) aborts)
-        → IsItemIf s dev (if q then Some (abort (suc j)) else abort_from b dev time (suc j + 1) aborts)
-    go true z rest = is_abort (suc j) a (ap (λ (n : ℕ). abort_line_at s.aborts (suc n)) (sym (plus_none j)) ∙ sym (h 0))
+    go : (q : Bool) → (a.host == dev && nat_le a.at time && not (is_done b (abort (suc i)))) ≡ q
+        → IsItemIf s dev (abort_from b dev time (suc i + 1) aborts)
+        → IsItemIf s dev (if q then Some (abort (suc i)) else abort_from b dev time (suc i + 1) aborts)
+    go true z rest = is_abort (suc i) a (ap (λ (l : ℕ). abort_line_at s.aborts (suc l)) (sym (plus_none i)) ∙ sym (h 0))
         (eqb-true a.host dev (and_first (a.host == dev) (nat_le a.at time)
-        (and_first (a.host == dev && nat_le a.at time) (not (is_done b (abort (suc j)))) z)))
+        (and_first (a.host == dev && nat_le a.at time) (not (is_done b (abort (suc i)))) z)))
     go false z rest = rest
 
-commands_are : (s : ScenarioValue) (b : Sent) (dev time j : ℕ) (commands : List CmdDef)
-    → ((m : ℕ) → command_at commands (suc m) ≡ command_at s.commands (suc (j + m)))
-    → IsItemIf s dev (command_from s b dev time (suc j) commands)
-commands_are s b dev time j [] h = tt
-commands_are s b dev time j (c ∷ commands) h = go (c.host == dev && not (is_done b (command_item (suc j))))
+commands_are : (s : ScenarioValue) (b : Sent) (dev time i : ℕ) (commands : List CmdDef)
+    → ((m : ℕ) → command_at commands (suc m) ≡ command_at s.commands (suc (i + m)))
+    → IsItemIf s dev (command_from s b dev time (suc i) commands)
+commands_are s b dev time i [] h = tt
+commands_are s b dev time i (c ∷ commands) h = go (c.host == dev && not (is_done b (command_item (suc i))))
     (may_send s time (open_from b dev 1 s.commands) c) refl
-    (subst (λ (n : ℕ). IsItemIf s dev (command_from s b dev time n commands)) (one_more j) (commands_are s b dev time
-    (suc j) commands (λ m. h (suc m) ∙ ap (λ (n : ℕ). command_at s.commands (suc n)) (moved j m))))
+    (subst (λ (l : ℕ). IsItemIf s dev (command_from s b dev time l commands)) (one_more i) (commands_are s b dev time
+    (suc i) commands (λ m. h (suc m) ∙ ap (λ (l : ℕ). command_at s.commands (suc l)) (moved i m))))
   where
-    one_more : (n : ℕ) → suc (suc n) ≡ suc n + 1
-    one_more n = omega arith
+    one_more : (l : ℕ) → suc (suc l) ≡ suc l + 1
+    one_more l = omega arith
 
-    moved : (n m : ℕ) → n + suc m ≡ suc n + m
-    moved n m = omega arith
+    moved : (l m : ℕ) → l + suc m ≡ suc l + m
+    moved l m = omega arith
 
-    go : (q r : Bool) → (c.host == dev && not (is_done b (command_item (suc j)))) ≡ q
-        → IsItemIf s dev (command_from s b dev time (suc j + 1) commands) → IsItemIf s dev
-        (if q then if r then Some (command_item (suc j)) else None else command_from s b dev time (suc j + 1) commands)
-    go true true z rest = is_process (record { command = suc j; sense = false })
-        (process_by s (record { command = suc j; sense = false }) c)
-        (ap (λ (x : Option CmdDef). process_if s (record { command = suc j; sense = false }) x)
-        (ap (λ (n : ℕ). command_at s.commands (suc n)) (sym (plus_none j)) ∙ sym (h 0)))
-        (eqb-true c.host dev (and_first (c.host == dev) (not (is_done b (command_item (suc j)))) z))
+    go : (q r : Bool) → (c.host == dev && not (is_done b (command_item (suc i)))) ≡ q
+        → IsItemIf s dev (command_from s b dev time (suc i + 1) commands) → IsItemIf s dev
+        (if q then if r then Some (command_item (suc i)) else None else command_from s b dev time (suc i + 1) commands)
+    go true true z rest = is_process (record { command = suc i; sense = false })
+        (process_by s (record { command = suc i; sense = false }) c)
+        (ap (λ (x : Option CmdDef). process_if s (record { command = suc i; sense = false }) x)
+        (ap (λ (l : ℕ). command_at s.commands (suc l)) (sym (plus_none i)) ∙ sym (h 0)))
+        (eqb-true c.host dev (and_first (c.host == dev) (not (is_done b (command_item (suc i)))) z))
     go true false z rest = tt
     go false r z rest = rest
 
 senses_are : (s : ScenarioValue) (b : Sent) (dev : ℕ) (checks : List ℕ) → IsItemIf s dev (sense_from s b dev checks)
 senses_are s b dev [] = tt
-senses_are s b dev (n ∷ checks) = go (senses_are s b dev checks) (command_at s.commands n) refl
+senses_are s b dev (m ∷ checks) = go (senses_are s b dev checks) (command_at s.commands m) refl
   where
     later : (q : Bool) → IsItemIf s dev (sense_from s b dev checks)
-        → ((is_of_host (command_at s.commands n) dev && not (is_done b (sense_item n))) ≡ q
-        → q ≡ true → IsItem s dev (sense_item n))
-        → (is_of_host (command_at s.commands n) dev && not (is_done b (sense_item n))) ≡ q
-        → IsItemIf s dev (if q then Some (sense_item n) else sense_from s b dev checks)
+        → ((is_of_host (command_at s.commands m) dev && not (is_done b (sense_item m))) ≡ q
+        → q ≡ true → IsItem s dev (sense_item m))
+        → (is_of_host (command_at s.commands m) dev && not (is_done b (sense_item m))) ≡ q
+        → IsItemIf s dev (if q then Some (sense_item m) else sense_from s b dev checks)
     later true rest own z = own z refl
     later false rest own z = rest
 
-    go : IsItemIf s dev (sense_from s b dev checks) → (c : Option CmdDef) → command_at s.commands n ≡ c → IsItemIf s dev
-        (if is_of_host (command_at s.commands n) dev && not (is_done b (sense_item n)) then Some (sense_item n)
+    go : IsItemIf s dev (sense_from s b dev checks) → (c : Option CmdDef) → command_at s.commands m ≡ c → IsItemIf s dev
+        (if is_of_host (command_at s.commands m) dev && not (is_done b (sense_item m)) then Some (sense_item m)
         else sense_from s b dev checks)
     go rest None e = subst (λ (x : Option CmdDef). IsItemIf s dev
-        (if is_of_host x dev && not (is_done b (sense_item n)) then Some (sense_item n) else sense_from s b dev checks))
+        (if is_of_host x dev && not (is_done b (sense_item m)) then Some (sense_item m) else sense_from s b dev checks))
         (sym e) rest
     go rest (Some c) e =
-        later (is_of_host (command_at s.commands n) dev && not (is_done b (sense_item n))) rest (λ z y. is_process
-        (record { command = n; sense = true }) (process_by s (record { command = n; sense = true }) c)
-        (ap (λ (x : Option CmdDef). process_if s (record { command = n; sense = true }) x) e)
+        later (is_of_host (command_at s.commands m) dev && not (is_done b (sense_item m))) rest (λ z y. is_process
+        (record { command = m; sense = true }) (process_by s (record { command = m; sense = true }) c)
+        (ap (λ (x : Option CmdDef). process_if s (record { command = m; sense = true }) x) e)
         (eqb-true c.host dev (sym (ap (λ (x : Option CmdDef). is_of_host x dev) e)
-        ∙ and_first (is_of_host (command_at s.commands n) dev) (not (is_done b (sense_item n))) (z ∙ y)))) refl
+        ∙ and_first (is_of_host (command_at s.commands m) dev) (not (is_done b (sense_item m))) (z ∙ y)))) refl
 
 either_is : (s : ScenarioValue) (dev : ℕ) (x y : Option Item) → IsItemIf s dev x → IsItemIf s dev y
     → IsItemIf s dev (or_else x y)
@@ -100,9 +100,9 @@ either_is s dev (Some item) y h g = h
 sent_next_is : (s : ScenarioValue) (b : Sent) (dev time : ℕ) → IsItemIf s dev (item_at s b dev time)
 sent_next_is s b dev time = either_is s dev (abort_from b dev time 1 s.aborts)
     (or_else (sense_from s b dev b.checks) (command_from s b dev time 1 s.commands))
-    (aborts_are s b dev time 0 s.aborts (λ m. ap (λ (n : ℕ). abort_line_at s.aborts (suc n)) (none_more m))) (either_is
+    (aborts_are s b dev time 0 s.aborts (λ m. ap (λ (i : ℕ). abort_line_at s.aborts (suc i)) (none_more m))) (either_is
     s dev (sense_from s b dev b.checks) (command_from s b dev time 1 s.commands) (senses_are s b dev b.checks)
-    (commands_are s b dev time 0 s.commands (λ m. ap (λ (n : ℕ). command_at s.commands (suc n)) (none_more m))))
+    (commands_are s b dev time 0 s.commands (λ m. ap (λ (i : ℕ). command_at s.commands (suc i)) (none_more m))))
   where
     none_more : (m : ℕ) → m ≡ 0 + m
     none_more m = omega arith
@@ -123,19 +123,19 @@ with_item s from [] at x g h dev item e = h dev item e
 with_item s from (a ∷ all) zero x g h zero item e = subst (λ (z : Option Item). IsItemIf s (from + 0) z) e g
 with_item s from (a ∷ all) zero x g h (suc dev) item e = h (suc dev) item e
 with_item s from (a ∷ all) (suc at) x g h zero item e = h 0 item e
-with_item s from (a ∷ all) (suc at) x g h (suc dev) item e = subst (λ (n : ℕ). IsItem s n item)
-    (sym (moved from dev)) (with_item s (suc from) all at x (subst (λ (n : ℕ). IsItemIf s n x) (moved from at) g)
-    (λ d i f. subst (λ (n : ℕ). IsItem s n i) (moved from d) (h (suc d) i f)) dev item e)
+with_item s from (a ∷ all) (suc at) x g h (suc dev) item e = subst (λ (l : ℕ). IsItem s l item)
+    (sym (moved from dev)) (with_item s (suc from) all at x (subst (λ (l : ℕ). IsItemIf s l x) (moved from at) g)
+    (λ d i f. subst (λ (l : ℕ). IsItem s l i) (moved from d) (h (suc d) i f)) dev item e)
   where
-    moved : (n m : ℕ) → n + suc m ≡ suc n + m
-    moved n m = omega arith
+    moved : (l m : ℕ) → l + suc m ≡ suc l + m
+    moved l m = omega arith
 
 aimed : (s : ScenarioValue) (b : Story) (row : Row) → AreItems s b.aims → AreItems s (story_with_aim s b row).aims
-aimed s b row h = λ dev item e. subst (λ (n : ℕ). IsItem s n item) (none_more dev)
+aimed s b row h = λ dev item e. subst (λ (l : ℕ). IsItem s l item) (none_more dev)
     (with_item s 0 b.aims row.dev (if is_initiator s.hosts row.dev then item_at s b.sent row.dev row.time else None)
-    (subst (λ (n : ℕ). IsItemIf s n (if is_initiator s.hosts row.dev then item_at s b.sent row.dev row.time else None))
+    (subst (λ (l : ℕ). IsItemIf s l (if is_initiator s.hosts row.dev then item_at s b.sent row.dev row.time else None))
     (sym (none_more row.dev)) (own (is_initiator s.hosts row.dev)))
-    (λ d i f. subst (λ (n : ℕ). IsItem s n i) (sym (none_more d)) (h d i f)) dev item e)
+    (λ d i f. subst (λ (l : ℕ). IsItem s l i) (sym (none_more d)) (h d i f)) dev item e)
   where
     none_more : (m : ℕ) → 0 + m ≡ m
     none_more m = omega arith
@@ -196,8 +196,8 @@ connected_aims s b (Some l) d row = go d.crosses (is_some d.out) (is_some d.into
     go true false false = byte_aims b l d
     go false r t = fault_aims b l row.kind
 
-bus_aims : (s : ScenarioValue) (b : Story) (m n : Option Connection) (d : RowReading) (row : Row) → AreItems s b.aims
-    → AreItems s (story_on_bus s b m n d row).aims
+bus_aims : (s : ScenarioValue) (b : Story) (m o : Option Connection) (d : RowReading) (row : Row) → AreItems s b.aims
+    → AreItems s (story_on_bus s b m o d row).aims
 bus_aims s b None None d row h = free_aims s b d row h
 bus_aims s b None (Some n) d row h = items_as s (story_after_connection b n).aims b.aims (begun_aims b n) h
 bus_aims s b (Some m) None d row h = h

@@ -59,8 +59,8 @@ ready_own s a times seek target unit r h e = go (unit_state_at a.units target un
     by false u (Some c) own t z =
         let same : c.process ≡ r.process = ap (λ (x : Option Ready). (or_ready r x).process) z in
         record {
-          process_is = subst (λ (p : Process). process_of s p.id ≡ Some p) same own.is;
-          target_is = sym (ap (λ (p : Process). p.target) same) ∙ own.target_is ∙ t;
+          process_is = subst (λ (y : Process). process_of s y.id ≡ Some y) same own.is;
+          target_is = sym (ap (λ (y : Process). y.target) same) ∙ own.target_is ∙ t;
         }
 
     go : (x : Option UnitState) → unit_state_at a.units target unit ≡ x → IsOwnReady s target r
@@ -84,7 +84,7 @@ first_own s target (Some a) (Some b) h g = elim (cases_Bool (is_ready_before b a
 ready_is_own : (s : ScenarioValue) (a : Array) (times : List ℕ) (seek t : ℕ) → AllOwnUnits s a.units
     → OwnIf s t (ready_among a times seek t)
 ready_is_own s a times seek t h =
-    let at : (n : ℕ) → OwnIf s t (ready_at a times seek t n) = λ n r e. ready_own s a times seek t n r h e in
+    let at : (m : ℕ) → OwnIf s t (ready_at a times seek t m) = λ m r e. ready_own s a times seek t m r h e in
     let none : OwnIf s t None = λ r e. absurd (none_some r e) in
     first_own s t (ready_at a times seek t 0) _ (at 0)
     (first_own s t (ready_at a times seek t 1) _ (at 1)
@@ -142,9 +142,9 @@ selects_for s k n host e = go (aim_of k.story.aims n.initiator) refl
         else initiator_if (ready_of s k n.initiator)) host) ∙ e
 
     of_item : (item : Item) → target_of s (Some item) ≡ Some n.target
-        → (p : Process) → process_item s (Some item) ≡ Some p → p.target ≡ n.target
-    of_item (process id) z p f = same_Some p.target n.target (sym (ap target_if f) ∙ z)
-    of_item (abort m) z p f = absurd (process_none p f)
+        → (c : Process) → process_item s (Some item) ≡ Some c → c.target ≡ n.target
+    of_item (process id) z c f = same_Some c.target n.target (sym (ap target_if f) ∙ z)
+    of_item (abort m) z c f = absurd (process_none c f)
 
     go : (x : Option Item) → aim_of k.story.aims n.initiator ≡ x → IsAimedAt s k n
     go None f = absurd (none_number n.target (sym (ap (target_of s) f) ∙ called))

@@ -115,9 +115,9 @@ pub others_nameless : IsOfOthers IsNoName
 others_nameless =
     record { complete = refl; save = refl; restore = refl; disconnect = refl; sdtr = λ a. refl; reject = refl }
 
-pub from_nameless : (m : Messages) (n : ℕ) → OnMessages IsNoName m → OnMessages IsNoName (from_byte m n)
-from_nameless m n h =
-    elim (cases_Bool (nat_lt n (length (message_bytes m.first)))) [ inl e ↦ rw e h | inr e ↦ rw e (h.1, tt) ]
+pub from_nameless : (m : Messages) (i : ℕ) → OnMessages IsNoName m → OnMessages IsNoName (from_byte m i)
+from_nameless m i h =
+    elim (cases_Bool (nat_lt i (length (message_bytes m.first)))) [ inl e ↦ rw e h | inr e ↦ rw e (h.1, tt) ]
 
 nameless_turn : (x : Exchange) (w : Hearing) (l : Leaving) → OnMessages IsNoName x.plan.messages
     → OnMessages IsNoName l.messages → OnMessages IsNoName (still_talk true false false None w l x).plan.messages

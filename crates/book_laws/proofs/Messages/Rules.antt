@@ -85,7 +85,7 @@ half_left s k row n c g h ep ea = go (is_message_out c.before) refl (is_message_
     go false eo false ei =
         h.quiet n con g.calm (ap is_message_out g.row_is.bus_is ∙ eo) (ap is_message_in g.row_is.bus_is ∙ ei)
 
-left_by : (p a half z : Bool) → (p ≡ true → a ≡ false → half ≡ false) → (not (p && half) || (a || z)) ≡ true
+left_by : (q a half z : Bool) → (q ≡ true → a ≡ false → half ≡ false) → (not (q && half) || (a || z)) ≡ true
 left_by false a half z h = refl
 left_by true true true z h = refl
 left_by true true false z h = refl
@@ -244,7 +244,7 @@ gone true x z = absurd (some_none x z)
     some_none y e = cc
 gone false x z = refl
 
-left_free : (p half a b : Bool) → (not (p && half) || (a || (true && not false))) ≡ true
+left_free : (q half a b : Bool) → (not (q && half) || (a || (true && not false))) ≡ true
 left_free true true true b = refl
 left_free _ _ _ b = refl
 

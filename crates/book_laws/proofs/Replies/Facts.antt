@@ -56,37 +56,37 @@ pub record Caused (s : ScenarioValue) (h : List Event) (a : Array) : Type 0 wher
 
 cause_more : (s : ScenarioValue) (h : List Event) (e : Event) (id : ProcId) (reply : Reply)
     → has_cause s h id reply ≡ true → has_cause s (e ∷ h) id reply ≡ true
-cause_more s h e id reply k =
+cause_more s h e id reply f =
     let two = and_parts (not (reply.status == QUEUE_FULL) || was_refused s h id)
-    (not (reply.sense.key == ABORTED_COMMAND) || has_event h (Event.Fail id reply.sense.asc)) k in
+    (not (reply.sense.key == ABORTED_COMMAND) || has_event h (Event.Fail id reply.sense.asc)) f in
     and_from _ _ (more (reply.status == QUEUE_FULL) (was_refused s h id) (is_refused_at s h id e) two.0)
     (more (reply.sense.key == ABORTED_COMMAND) (has_event h (Event.Fail id reply.sense.asc))
     (same_event e (Event.Fail id reply.sense.asc)) two.1)
 
 caused_more : (s : ScenarioValue) (h : List Event) (e : Event) (id : ProcId) (x : Option Reply) → IsCaused s h id x
     → IsCaused s (e ∷ h) id x
-caused_more s h e id None k = tt
-caused_more s h e id (Some reply) k = cause_more s h e id reply k
+caused_more s h e id None f = tt
+caused_more s h e id (Some reply) f = cause_more s h e id reply f
 
 current_more : (s : ScenarioValue) (h : List Event) (e : Event) (x : Option RunningProcess) → IsCurrent s h x
     → IsCurrent s (e ∷ h) x
-current_more s h e None k = tt
-current_more s h e (Some r) k = caused_more s h e r.process.id r.reply k
+current_more s h e None f = tt
+current_more s h e (Some r) f = caused_more s h e r.process.id r.reply f
 
 guests_more : (s : ScenarioValue) (h : List Event) (e : Event) (guests : List RunningProcess) → AreGuests s h guests
     → AreGuests s (e ∷ h) guests
-guests_more s h e [] k = tt
-guests_more s h e (g ∷ guests) k = (caused_more s h e g.process.id g.reply k.0, guests_more s h e guests k.1)
+guests_more s h e [] f = tt
+guests_more s h e (g ∷ guests) f = (caused_more s h e g.process.id g.reply f.0, guests_more s h e guests f.1)
 
 units_more : (s : ScenarioValue) (h : List Event) (e : Event) (units : List UnitState) → AreUnits s h units
     → AreUnits s (e ∷ h) units
-units_more s h e [] k = tt
-units_more s h e (u ∷ units) k = (current_more s h e u.current k.0, units_more s h e units k.1)
+units_more s h e [] f = tt
+units_more s h e (u ∷ units) f = (current_more s h e u.current f.0, units_more s h e units f.1)
 
 replies_more : (s : ScenarioValue) (h : List Event) (e : Event) (replies : List (ProcId × Reply))
     → AreReplies s h replies → AreReplies s (e ∷ h) replies
-replies_more s h e [] k = tt
-replies_more s h e (r ∷ replies) k = (cause_more s h e r.0 r.1 k.0, replies_more s h e replies k.1)
+replies_more s h e [] f = tt
+replies_more s h e (r ∷ replies) f = (cause_more s h e r.0 r.1 f.0, replies_more s h e replies f.1)
 
 one_more : (s : ScenarioValue) (h : List Event) (e : Event) (a : Array) → Caused s h a → Caused s (e ∷ h) a
 one_more s h e a b = record {
@@ -107,15 +107,15 @@ units_with s h (u ∷ units) new b c =
       | inr e ↦ rw e (b.0, (units_with s h units new b.1 c))
     ]
 
-unit_found : (s : ScenarioValue) (h : List Event) (units : List UnitState) (t n : ℕ) (u : UnitState)
-    → AreUnits s h units → unit_state_at units t n ≡ Some u → IsCurrent s h u.current
-unit_found s h [] t n u b e = cc
-unit_found s h (v ∷ units) t n u b e = go (λ k. unit_found s h units t n u b.1 k) (v.target == t && v.unit == n) e
+unit_found : (s : ScenarioValue) (h : List Event) (units : List UnitState) (t m : ℕ) (u : UnitState)
+    → AreUnits s h units → unit_state_at units t m ≡ Some u → IsCurrent s h u.current
+unit_found s h [] t m u b e = cc
+unit_found s h (v ∷ units) t m u b e = go (λ f. unit_found s h units t m u b.1 f) (v.target == t && v.unit == m) e
   where
-    go : (unit_state_at units t n ≡ Some u → IsCurrent s h u.current) → (x : Bool)
-        → (if x then Some v else unit_state_at units t n) ≡ Some u → IsCurrent s h u.current
-    go later true k = let same : v ≡ u = cc in subst (λ (w : UnitState). IsCurrent s h w.current) same b.0
-    go later false k = later k
+    go : (unit_state_at units t m ≡ Some u → IsCurrent s h u.current) → (x : Bool)
+        → (if x then Some v else unit_state_at units t m) ≡ Some u → IsCurrent s h u.current
+    go later true f = let same : v ≡ u = cc in subst (λ (w : UnitState). IsCurrent s h w.current) same b.0
+    go later false f = later f
 
 units_replied : (s : ScenarioValue) (h : List Event) (units : List UnitState) (id : ProcId) (reply : Reply)
     → has_cause s h id reply ≡ true → AreUnits s h units → AreUnits s h (Steps.units_with_reply units id reply)
@@ -124,13 +124,13 @@ units_replied s h (u ∷ units) id reply c b = (go u.current b.0, units_replied 
   where
     inner : (r : RunningProcess) → IsCaused s h r.process.id r.reply → (x : Bool) → same_id r.process.id id ≡ x
         → IsCurrent s h (if x then Some (record r { reply = Some reply }) else Some r)
-    inner r k true z =
+    inner r e true z =
         subst (λ (other : ProcId). has_cause s h other reply ≡ true) (sym (same_id_is r.process.id id z)) c
-    inner r k false z = k
+    inner r e false z = e
 
     go : (x : Option RunningProcess) → IsCurrent s h x → IsCurrent s h (Steps.current_with_reply x id reply)
-    go None k = tt
-    go (Some r) k = inner r k (same_id r.process.id id) refl
+    go None e = tt
+    go (Some r) e = inner r e (same_id r.process.id id) refl
 
 units_without : (s : ScenarioValue) (h : List Event) (units : List UnitState) (id : ProcId) → AreUnits s h units
     → AreUnits s h (Steps.units_without units id)
@@ -148,12 +148,12 @@ units_kept s h drops (u ∷ units) b = (go u.current b.0, units_kept s h drops u
   where
     inner : (r : RunningProcess) → IsCaused s h r.process.id r.reply
         → (x : Bool) → IsCurrent s h (if x then None else Some r)
-    inner r k true = tt
-    inner r k false = k
+    inner r e true = tt
+    inner r e false = e
 
     go : (x : Option RunningProcess) → IsCurrent s h x → IsCurrent s h (Steps.kept_running drops x)
-    go None k = tt
-    go (Some r) k = inner r k (drops r.process)
+    go None e = tt
+    go (Some r) e = inner r e (drops r.process)
 
 units_chosen : (s : ScenarioValue) (h : List Event) (holds : List Nexus) (units : List UnitState) → AreUnits s h units
     → AreUnits s h (units_after_choice holds units)
@@ -163,10 +163,10 @@ units_chosen s h holds (u ∷ units) b = (
   units_chosen s h holds units b.1,
 )
   where
-    go : (x : Bool) (p : Option Process) → IsCurrent s h (if x then with_current u p else u).current
+    go : (x : Bool) (c : Option Process) → IsCurrent s h (if x then with_current u c else u).current
     go true None = b.0
-    go true (Some p) = tt
-    go false p = b.0
+    go true (Some c) = tt
+    go false c = b.0
 
 -- ---- guests
 
@@ -184,9 +184,9 @@ guests_replied s h (g ∷ guests) id reply c b =
     go : (x : Bool) → same_id g.process.id id ≡ x → AreGuests s h (Steps.guests_with_reply guests id reply)
         → AreGuests s h
         (if x then record g { reply = Some reply } ∷ guests else g ∷ Steps.guests_with_reply guests id reply)
-    go true z k =
+    go true z e =
         (subst (λ (other : ProcId). has_cause s h other reply ≡ true) (sym (same_id_is g.process.id id z)) c, b.1)
-    go false z k = (b.0, k)
+    go false z e = (b.0, e)
 
 guests_without : (s : ScenarioValue) (h : List Event) (guests : List RunningProcess) (id : ProcId)
     → AreGuests s h guests → AreGuests s h (without_guest guests id)
@@ -235,8 +235,8 @@ is_plain reply = not (reply.status == QUEUE_FULL) && not (reply.sense.key == ABO
 
 plain_cause : (s : ScenarioValue) (h : List Event) (id : ProcId) (reply : Reply) → is_plain reply ≡ true
     → has_cause s h id reply ≡ true
-plain_cause s h id reply k =
-    let two = and_parts (not (reply.status == QUEUE_FULL)) (not (reply.sense.key == ABORTED_COMMAND)) k in
+plain_cause s h id reply e =
+    let two = and_parts (not (reply.status == QUEUE_FULL)) (not (reply.sense.key == ABORTED_COMMAND)) e in
     and_from _ _ (or_left (not (reply.status == QUEUE_FULL)) (was_refused s h id) two.0)
     (or_left (not (reply.sense.key == ABORTED_COMMAND)) (has_event h (Event.Fail id reply.sense.asc)) two.1)
 
@@ -268,11 +268,11 @@ caused_if : (s : ScenarioValue) (h : List Event) (x : Bool) (a : Array) → Caus
 caused_if s h true a b = b
 caused_if s h false a b = tt
 
-guest_comes : (s : ScenarioValue) (h : List Event) (a : Array) (p : Process) (reply : Option Reply)
-    → IsCaused s h p.id reply → Caused s h a → Caused s h (Steps.with_guest a p reply)
-guest_comes s h a p reply c b = record {
+guest_comes : (s : ScenarioValue) (h : List Event) (a : Array) (t : Process) (reply : Option Reply)
+    → IsCaused s h t.id reply → Caused s h a → Caused s h (Steps.with_guest a t reply)
+guest_comes s h a t reply c b = record {
   units = b.units;
-  guests = guests_append s h a.guests (record { process = p; reply = reply }) b.guests c;
+  guests = guests_append s h a.guests (record { process = t; reply = reply }) b.guests c;
   replies = b.replies;
   attentions = b.attentions;
 }
@@ -294,91 +294,91 @@ replied s h a id reply c b = record {
 accepted : (s : ScenarioValue) (h : List Event) (a : Array) (o : Option Process) → Caused s h a
     → IsCausedIf s h (Steps.accept_step a o)
 accepted s h a None b = tt
-accepted s h a (Some p) b = at (unit_state_at a.units p.target p.unit) refl
+accepted s h a (Some c) b = at (unit_state_at a.units c.target c.unit) refl
   where
-    waits : (u : UnitState) → unit_state_at a.units p.target p.unit ≡ Some u
-        → Caused s h (record a { units = with_unit a.units (record u { waiting = u.waiting ++ p ∷ [] }) })
+    waits : (u : UnitState) → unit_state_at a.units c.target c.unit ≡ Some u
+        → Caused s h (record a { units = with_unit a.units (record u { waiting = u.waiting ++ c ∷ [] }) })
     waits u z = record {
-      units = units_with s h a.units (record u { waiting = u.waiting ++ p ∷ [] }) b.units
-          (unit_found s h a.units p.target p.unit u b.units z);
+      units = units_with s h a.units (record u { waiting = u.waiting ++ c ∷ [] }) b.units
+          (unit_found s h a.units c.target c.unit u b.units z);
       guests = b.guests;
       replies = b.replies;
       attentions = b.attentions;
     }
 
-    either : (u : UnitState) → unit_state_at a.units p.target p.unit ≡ Some u
-        → (x : Bool) → IsCausedIf s h (if x then Some (Steps.with_guest a p None) else Steps.queue_step a p u)
-    either u z true = guest_comes s h a p None tt b
+    either : (u : UnitState) → unit_state_at a.units c.target c.unit ≡ Some u
+        → (x : Bool) → IsCausedIf s h (if x then Some (Steps.with_guest a c None) else Steps.queue_step a c u)
+    either u z true = guest_comes s h a c None tt b
     either u z false = caused_if s h (nat_lt (Steps.process_count u) u.depth)
-        (record a { units = with_unit a.units (record u { waiting = u.waiting ++ p ∷ [] }) }) (waits u z)
+        (record a { units = with_unit a.units (record u { waiting = u.waiting ++ c ∷ [] }) }) (waits u z)
 
-    at : (x : Option UnitState) → unit_state_at a.units p.target p.unit ≡ x
-        → IsCausedIf s h (Steps.accept_step_at a p x)
-    at None z = guest_comes s h a p None tt b
-    at (Some u) z = either u z (is_request_sense (command_of p.cdb))
+    at : (x : Option UnitState) → unit_state_at a.units c.target c.unit ≡ x
+        → IsCausedIf s h (Steps.accept_step_at a c x)
+    at None z = guest_comes s h a c None tt b
+    at (Some u) z = either u z (is_request_sense (command_of c.cdb))
 
 -- Refused: the queue is full as the event comes.
 refused : (s : ScenarioValue) (h : List Event) (a : Array) (id : ProcId) → array_after s h ≡ Some a
     → Caused s (Event.Refuse id ∷ h) a → IsCausedIf s (Event.Refuse id ∷ h) (Steps.refuse_step a (process_of s id))
 refused s h a id z b = go (process_of s id) refl
   where
-    full : (p : Process) → process_of s id ≡ Some p → finds_full_queue a (Some p) ≡ true
-        → has_cause s (Event.Refuse id ∷ h) p.id queue_full ≡ true
-    full p e f = subst (λ (other : ProcId). has_cause s (Event.Refuse id ∷ h) other queue_full ≡ true)
-        (sym (id_is s id p e)) (and_from _ _ (or_left (is_refused_at s h id (Event.Refuse id)) (was_refused s h id)
+    full : (t : Process) → process_of s id ≡ Some t → finds_full_queue a (Some t) ≡ true
+        → has_cause s (Event.Refuse id ∷ h) t.id queue_full ≡ true
+    full t e f = subst (λ (other : ProcId). has_cause s (Event.Refuse id ∷ h) other queue_full ≡ true)
+        (sym (id_is s id t e)) (and_from _ _ (or_left (is_refused_at s h id (Event.Refuse id)) (was_refused s h id)
         (and_from _ _ (id_self id) ((λ i. Rattle.book_laws.specs.FullQueues.finds_full_queue_if (z i) (e i)) ∙ f)))
         refl)
 
-    comes : (p : Process) → process_of s id ≡ Some p → (x : Bool) → (x ≡ true → finds_full_queue a (Some p) ≡ true)
+    comes : (t : Process) → process_of s id ≡ Some t → (x : Bool) → (x ≡ true → finds_full_queue a (Some t) ≡ true)
         → IsCausedIf s (Event.Refuse id ∷ h)
-        (if x then Some (Steps.with_listed_reply (Steps.with_guest a p (Some queue_full)) p.id queue_full) else None)
-    comes p e true f =
-        let c : has_cause s (Event.Refuse id ∷ h) p.id queue_full ≡ true = full p e (f refl) in
-        listed s (Event.Refuse id ∷ h) (Steps.with_guest a p (Some queue_full)) p.id queue_full c
-        (guest_comes s (Event.Refuse id ∷ h) a p (Some queue_full) c b)
-    comes p e false f = tt
+        (if x then Some (Steps.with_listed_reply (Steps.with_guest a t (Some queue_full)) t.id queue_full) else None)
+    comes t e true f =
+        let c : has_cause s (Event.Refuse id ∷ h) t.id queue_full ≡ true = full t e (f refl) in
+        listed s (Event.Refuse id ∷ h) (Steps.with_guest a t (Some queue_full)) t.id queue_full c
+        (guest_comes s (Event.Refuse id ∷ h) a t (Some queue_full) c b)
+    comes t e false f = tt
 
-    at : (p : Process) → process_of s id ≡ Some p → (x : Option UnitState) → unit_state_at a.units p.target p.unit ≡ x
-        → IsCausedIf s (Event.Refuse id ∷ h) (Steps.refuse_step_at a p x)
-    at p e None w = tt
-    at p e (Some u) w =
-        comes p e (not (is_request_sense (command_of p.cdb)) && Steps.process_count u == u.depth)
-        (λ f. (λ i. not (is_request_sense (command_of p.cdb)) && Rattle.book_laws.specs.FullQueues.is_full (w i)) ∙ f)
+    at : (t : Process) → process_of s id ≡ Some t → (x : Option UnitState) → unit_state_at a.units t.target t.unit ≡ x
+        → IsCausedIf s (Event.Refuse id ∷ h) (Steps.refuse_step_at a t x)
+    at t e None w = tt
+    at t e (Some u) w =
+        comes t e (not (is_request_sense (command_of t.cdb)) && Steps.process_count u == u.depth)
+        (λ f. (λ i. not (is_request_sense (command_of t.cdb)) && Rattle.book_laws.specs.FullQueues.is_full (w i)) ∙ f)
 
     go : (x : Option Process) → process_of s id ≡ x → IsCausedIf s (Event.Refuse id ∷ h) (Steps.refuse_step a x)
     go None e = tt
-    go (Some p) e = at p e (unit_state_at a.units p.target p.unit) refl
+    go (Some t) e = at t e (unit_state_at a.units t.target t.unit) refl
 
 -- ---- a command runs, fails, ends
 
-contents_put : (s : ScenarioValue) (h : List Event) (a : Array) (p : Process) (contents : Contents) (r : Bool) (t n : ℕ)
+contents_put : (s : ScenarioValue) (h : List Event) (a : Array) (y : Process) (contents : Contents) (r : Bool) (t m : ℕ)
     → Caused s h a
-    → Caused s h (Steps.with_contents (Steps.without_attention a r (nexus_of p)) (unit_state_at a.units t n) contents)
-contents_put s h a p contents r t n b = go r (unit_state_at a.units t n) refl
+    → Caused s h (Steps.with_contents (Steps.without_attention a r (nexus_of y)) (unit_state_at a.units t m) contents)
+contents_put s h a y contents r t m b = go r (unit_state_at a.units t m) refl
   where
-    put : (c : Array) → c.units ≡ a.units → Caused s h c → (u : UnitState) → unit_state_at a.units t n ≡ Some u
+    put : (c : Array) → c.units ≡ a.units → Caused s h c → (u : UnitState) → unit_state_at a.units t m ≡ Some u
         → Caused s h (record c { units = with_unit c.units (record u { contents = contents }) })
-    put c same k u z = record {
+    put c same e u z = record {
       units =
-          units_with s h c.units (record u { contents = contents }) k.units (unit_found s h a.units t n u b.units z);
-      guests = k.guests;
-      replies = k.replies;
-      attentions = k.attentions;
+          units_with s h c.units (record u { contents = contents }) e.units (unit_found s h a.units t m u b.units z);
+      guests = e.guests;
+      replies = e.replies;
+      attentions = e.attentions;
     }
 
-    told : Caused s h (record a { attentions = senses_without a.attentions (nexus_of p) })
+    told : Caused s h (record a { attentions = senses_without a.attentions (nexus_of y) })
     told = record {
       units = b.units;
       guests = b.guests;
       replies = b.replies;
-      attentions = attentions_without a.attentions (nexus_of p) b.attentions;
+      attentions = attentions_without a.attentions (nexus_of y) b.attentions;
     }
 
-    go : (r : Bool) (x : Option UnitState) → unit_state_at a.units t n ≡ x
-        → Caused s h (Steps.with_contents (Steps.without_attention a r (nexus_of p)) x contents)
+    go : (r : Bool) (x : Option UnitState) → unit_state_at a.units t m ≡ x
+        → Caused s h (Steps.with_contents (Steps.without_attention a r (nexus_of y)) x contents)
     go true None z = told
     go false None z = b
-    go true (Some u) z = put (record a { attentions = senses_without a.attentions (nexus_of p) }) refl told u z
+    go true (Some u) z = put (record a { attentions = senses_without a.attentions (nexus_of y) }) refl told u z
     go false (Some u) z = put a refl b u z
 
 ran : (s : ScenarioValue) (h : List Event) (a : Array) (guest : Bool) (r : Option RunningProcess) → Caused s h a
@@ -403,19 +403,19 @@ failed s h a id code r b = on r
     cause =
         or_left (same_id id id && code == code) (has_event h (Event.Fail id code)) (λ i. id_self id i && eq_self code i)
 
-    came : (x : Bool) (p : Process) → process_of s id ≡ Some p
+    came : (x : Bool) (c : Process) → process_of s id ≡ Some c
         → IsCausedIf s (Event.Fail id code ∷ h) (if x then None
-        else Some (Steps.with_listed_reply (Steps.with_guest a p (Some (aborted_reply code))) id (aborted_reply code)))
-    came true p e = tt
-    came false p e = listed s (Event.Fail id code ∷ h) (Steps.with_guest a p (Some (aborted_reply code))) id
-        (aborted_reply code) cause (guest_comes s (Event.Fail id code ∷ h) a p (Some (aborted_reply code))
+        else Some (Steps.with_listed_reply (Steps.with_guest a c (Some (aborted_reply code))) id (aborted_reply code)))
+    came true c e = tt
+    came false c e = listed s (Event.Fail id code ∷ h) (Steps.with_guest a c (Some (aborted_reply code))) id
+        (aborted_reply code) cause (guest_comes s (Event.Fail id code ∷ h) a c (Some (aborted_reply code))
         (subst (λ (other : ProcId). has_cause s (Event.Fail id code ∷ h) other (aborted_reply code) ≡ true)
-        (sym (id_is s id p e)) cause) b)
+        (sym (id_is s id c e)) cause) b)
 
     new : (x : Option Process) → process_of s id ≡ x
         → IsCausedIf s (Event.Fail id code ∷ h) (Steps.fail_step_of_new a id (aborted_reply code) x)
     new None e = tt
-    new (Some p) e = came (Steps.is_waiting a.units id || Steps.has_ended a id) p e
+    new (Some c) e = came (Steps.is_waiting a.units id || Steps.has_ended a id) c e
 
     on : (x : Option RunningProcess)
         → IsCausedIf s (Event.Fail id code ∷ h) (Steps.fail_step s a id (aborted_reply code) x)
@@ -432,17 +432,17 @@ left_out s h a id b = record {
   attentions = b.attentions;
 }
 
-after_status : (s : ScenarioValue) (h : List Event) (a : Array) (p : Process) (reply : Reply) → Caused s h a
-    → Caused s h (Steps.after_status a p reply)
-after_status s h a p reply b =
-    go (reply.status == CHECK_CONDITION) (reply.status == GOOD && is_request_sense (command_of p.cdb))
+after_status : (s : ScenarioValue) (h : List Event) (a : Array) (c : Process) (reply : Reply) → Caused s h a
+    → Caused s h (Steps.after_status a c reply)
+after_status s h a c reply b =
+    go (reply.status == CHECK_CONDITION) (reply.status == GOOD && is_request_sense (command_of c.cdb))
   where
     go : (x y : Bool) → Caused s h (if x then record a {
-      senses = (nexus_of p, reply.sense) ∷ senses_without a.senses (nexus_of p);
-      holds = nexus_of p ∷ nexuses_without a.holds (nexus_of p);
+      senses = (nexus_of c, reply.sense) ∷ senses_without a.senses (nexus_of c);
+      holds = nexus_of c ∷ nexuses_without a.holds (nexus_of c);
     } else if y then record a {
-      senses = senses_without a.senses (nexus_of p);
-      holds = nexuses_without a.holds (nexus_of p);
+      senses = senses_without a.senses (nexus_of c);
+      holds = nexuses_without a.holds (nexus_of c);
     } else a)
     go true y = record { units = b.units; guests = b.guests; replies = b.replies; attentions = b.attentions }
     go false true = record { units = b.units; guests = b.guests; replies = b.replies; attentions = b.attentions }
@@ -474,12 +474,12 @@ dropped s h a drops b = record {
   attentions = b.attentions;
 }
 
-hosts_told : (s : ScenarioValue) (h : List Event) (hosts : List HostDef) (t n : ℕ) (a : Array) → Caused s h a
-    → Caused s h (Steps.reset_attentions hosts t n a)
-hosts_told s h [] t n a b = b
-hosts_told s h (d ∷ hosts) t n a b =
-    let q : Nexus = record { initiator = d.dev; target = t; unit = n } in
-    hosts_told s h hosts t n (Steps.reset_attention a q) (record {
+hosts_told : (s : ScenarioValue) (h : List Event) (hosts : List HostDef) (t m : ℕ) (a : Array) → Caused s h a
+    → Caused s h (Steps.reset_attentions hosts t m a)
+hosts_told s h [] t m a b = b
+hosts_told s h (d ∷ hosts) t m a b =
+    let q : Nexus = record { initiator = d.dev; target = t; unit = m } in
+    hosts_told s h hosts t m (Steps.reset_attention a q) (record {
       units = b.units;
       guests = b.guests;
       replies = b.replies;
@@ -519,17 +519,17 @@ cleared_told s h by (q ∷ gone) a b = cleared_told s h by gone
     go true y = b
     go false y = told (Steps.is_reset_pending (sense_of_nexus a.attentions (nexus_of q)))
 
-aborted : (s : ScenarioValue) (h : List Event) (a : Array) (i t n : ℕ) (what : AbortKind) → Caused s h a
-    → Caused s h (Steps.abort_step s a i t n what)
-aborted s h a i t n AbortKind.All b =
-    let d : Caused s h (Steps.without_dropped a (λ p. p.initiator == i && Steps.is_of_unit p t n)) = dropped s h a
-    (λ p. p.initiator == i && Steps.is_of_unit p t n) b in
+aborted : (s : ScenarioValue) (h : List Event) (a : Array) (i t m : ℕ) (what : AbortKind) → Caused s h a
+    → Caused s h (Steps.abort_step s a i t m what)
+aborted s h a i t m AbortKind.All b =
+    let d : Caused s h (Steps.without_dropped a (λ p. p.initiator == i && Steps.is_of_unit p t m)) = dropped s h a
+    (λ p. p.initiator == i && Steps.is_of_unit p t m) b in
     record { units = d.units; guests = d.guests; replies = d.replies; attentions = d.attentions }
-aborted s h a i t n (AbortKind.Tag tag) b =
-    dropped s h a (λ p. p.initiator == i && Steps.is_of_unit p t n && Steps.has_tag p.tag tag) b
-aborted s h a i t n AbortKind.WholeQueue b = cleared_told s h i (Steps.unit_processes (unit_state_at a.units t n))
-    (Steps.without_dropped a (λ p. Steps.is_of_unit p t n)) (dropped s h a (λ p. Steps.is_of_unit p t n) b)
-aborted s h a i t n AbortKind.Device b =
+aborted s h a i t m (AbortKind.Tag tag) b =
+    dropped s h a (λ p. p.initiator == i && Steps.is_of_unit p t m && Steps.has_tag p.tag tag) b
+aborted s h a i t m AbortKind.WholeQueue b = cleared_told s h i (Steps.unit_processes (unit_state_at a.units t m))
+    (Steps.without_dropped a (λ p. Steps.is_of_unit p t m)) (dropped s h a (λ p. Steps.is_of_unit p t m) b)
+aborted s h a i t m AbortKind.Device b =
     let d : Caused s h (Steps.without_dropped a (λ p. p.target == t)) = dropped s h a (λ p. p.target == t) b in
     units_told s h s.hosts a.units (λ u. u.target == t) (record (Steps.without_dropped a (λ p. p.target == t)) {
       senses = Steps.kept_senses (λ q. q.target == t) a.senses;
@@ -596,14 +596,14 @@ caused s h a z = subst (λ (x : Option Array). IsCausedIf s h x) z (caused_after
 reply_found : (s : ScenarioValue) (h : List Event) (replies : List (ProcId × Reply)) (id : ProcId) (reply : Reply)
     → AreReplies s h replies → reply_in replies id ≡ Some reply → has_cause s h id reply ≡ true
 reply_found s h [] id reply b e = cc
-reply_found s h (r ∷ replies) id reply b e = go (λ k. reply_found s h replies id reply b.1 k) (same_id r.0 id) refl e
+reply_found s h (r ∷ replies) id reply b e = go (λ f. reply_found s h replies id reply b.1 f) (same_id r.0 id) refl e
   where
     go : (reply_in replies id ≡ Some reply → has_cause s h id reply ≡ true) → (x : Bool) → same_id r.0 id ≡ x
         → (if x then Some r.1 else reply_in replies id) ≡ Some reply → has_cause s h id reply ≡ true
-    go later true z k =
+    go later true z f =
         let same : r.1 ≡ reply = cc in
         (λ i. has_cause s h (sym (same_id_is r.0 id z) i) (sym same i)) ∙ b.0
-    go later false z k = later k
+    go later false z f = later f
 
 pub reply_caused : (s : ScenarioValue) (h : List Event) (a : Array) (id : ProcId) (reply : Reply)
     → array_after s h ≡ Some a → reply_in a.replies id ≡ Some reply → has_cause s h id reply ≡ true
@@ -619,34 +619,34 @@ pub record Runs (s : ScenarioValue) (h : List Event) (id : ProcId) (r : RunningP
 guest_runs : (s : ScenarioValue) (h : List Event) (guests : List RunningProcess) (id : ProcId) (g : RunningProcess)
     → AreGuests s h guests → guest_at guests id ≡ Some g → Runs s h id g
 guest_runs s h [] id g b e = cc
-guest_runs s h (f ∷ guests) id g b e = go (λ k. guest_runs s h guests id g b.1 k) (same_id f.process.id id) refl e
+guest_runs s h (f ∷ guests) id g b e = go (λ y. guest_runs s h guests id g b.1 y) (same_id f.process.id id) refl e
   where
     go : (guest_at guests id ≡ Some g → Runs s h id g) → (x : Bool) → same_id f.process.id id ≡ x
         → (if x then Some f else guest_at guests id) ≡ Some g → Runs s h id g
-    go later true z k =
+    go later true z y =
         let same : f ≡ g = cc in
         subst (λ (r : RunningProcess). Runs s h id r) same (record { same = z; cause = b.0 })
-    go later false z k = later k
+    go later false z y = later y
 
 current_runs : (s : ScenarioValue) (h : List Event) (units : List UnitState) (id : ProcId) (r : RunningProcess)
     → AreUnits s h units → Steps.running_in units id ≡ Some r → Runs s h id r
 current_runs s h [] id r b e = cc
-current_runs s h (u ∷ units) id r b e = go (λ k. current_runs s h units id r b.1 k) u.current b.0 e
+current_runs s h (u ∷ units) id r b e = go (λ g. current_runs s h units id r b.1 g) u.current b.0 e
   where
     inner : (Steps.running_in units id ≡ Some r → Runs s h id r) → (q : RunningProcess)
         → IsCaused s h q.process.id q.reply → (x : Bool) → same_id q.process.id id ≡ x
         → (if is_some (if x then Some q else None) then (if x then Some q else None) else Steps.running_in units id)
         ≡ Some r → Runs s h id r
-    inner later q k true z l =
+    inner later q g true z l =
         let same : q ≡ r = cc in
-        subst (λ (f : RunningProcess). Runs s h id f) same (record { same = z; cause = k })
-    inner later q k false z l = later l
+        subst (λ (f : RunningProcess). Runs s h id f) same (record { same = z; cause = g })
+    inner later q g false z l = later l
 
     go : (Steps.running_in units id ≡ Some r → Runs s h id r) → (x : Option RunningProcess) → IsCurrent s h x
         → (if is_some (Steps.running_if x id) then Steps.running_if x id else Steps.running_in units id) ≡ Some r
         → Runs s h id r
-    go later None k l = later l
-    go later (Some q) k l = inner later q k (same_id q.process.id id) refl l
+    go later None g l = later l
+    go later (Some q) g l = inner later q g (same_id q.process.id id) refl l
 
 pub process_runs : (s : ScenarioValue) (h : List Event) (a : Array) (id : ProcId) (r : RunningProcess) → Caused s h a
     → Steps.running_process a id ≡ Some r → Runs s h id r
@@ -654,8 +654,8 @@ process_runs s h a id r b e = go (guest_at a.guests id) refl e
   where
     go : (x : Option RunningProcess) → guest_at a.guests id ≡ x
         → (if is_some x then x else Steps.running_in a.units id) ≡ Some r → Runs s h id r
-    go None z k = current_runs s h a.units id r b.units k
-    go (Some g) z k = guest_runs s h a.guests id r b.guests (z ∙ k)
+    go None z f = current_runs s h a.units id r b.units f
+    go (Some g) z f = guest_runs s h a.guests id r b.guests (z ∙ f)
 
 -- The event of an end that is permitted.
 full_now : (s : ScenarioValue) (h : List Event) (a : Array) (id : ProcId) → Caused s h a
@@ -666,21 +666,21 @@ full_now s h a id b e = go (Steps.running_process a id) refl e
         → (x : Bool) → (reply.status == QUEUE_FULL) ≡ x
         → is_some (if x then Some (Steps.array_without (Steps.after_status a r.process reply) r.process.id) else None)
         ≡ true → was_refused s h id ≡ true
-    by r k reply c false z l = cc
-    by r k reply c true z l =
+    by r f reply c false z l = cc
+    by r f reply c true z l =
         let two = and_parts (not (reply.status == QUEUE_FULL) || was_refused s h r.process.id)
         (not (reply.sense.key == ABORTED_COMMAND) || has_event h (Event.Fail r.process.id reply.sense.asc)) c in
-        (λ i. not (sym z i) || was_refused s h (sym (same_id_is r.process.id id k.same) i)) ∙ two.0
+        (λ i. not (sym z i) || was_refused s h (sym (same_id_is r.process.id id f.same) i)) ∙ two.0
 
     with_reply : (r : RunningProcess) → Runs s h id r → (x : Option Reply) → IsCaused s h r.process.id x
         → is_some (Steps.end_step_with a r.process QUEUE_FULL x) ≡ true → was_refused s h id ≡ true
-    with_reply r k None c l = cc
-    with_reply r k (Some reply) c l = by r k reply c (reply.status == QUEUE_FULL) refl l
+    with_reply r f None c l = cc
+    with_reply r f (Some reply) c l = by r f reply c (reply.status == QUEUE_FULL) refl l
 
     go : (x : Option RunningProcess) → Steps.running_process a id ≡ x → is_some (Steps.end_step a QUEUE_FULL x) ≡ true
         → was_refused s h id ≡ true
     go None z l = cc
-    go (Some r) z l = let k : Runs s h id r = process_runs s h a id r b z in with_reply r k r.reply k.cause l
+    go (Some r) z l = let f : Runs s h id r = process_runs s h a id r b z in with_reply r f r.reply f.cause l
 
 some_of : (x : Option Array) → is_some (Steps.settled_array_if x) ≡ true → is_some x ≡ true
 some_of None h = h
@@ -689,11 +689,11 @@ some_of (Some a) h = refl
 is_end : (s : ScenarioValue) (h : List Event) (a : Array) (e : Event) (id : ProcId) → Caused s h a
     → same_event e (Event.End id QUEUE_FULL) ≡ true → is_some (Steps.event_step s a e) ≡ true
     → was_refused s h id ≡ true
-is_end s h a (Event.End p status) id b e k =
+is_end s h a (Event.End p status) id b e f =
     let two = and_parts (same_id p id) (status == QUEUE_FULL) e in
     full_now s h a id b ((λ i. is_some (Steps.end_step a (sym (eqb-true status QUEUE_FULL two.1) i)
-    (Steps.running_process a (sym (same_id_is p id two.0) i)))) ∙ k)
-is_end s h a _ id b e k = cc
+    (Steps.running_process a (sym (same_id_is p id two.0) i)))) ∙ f)
+is_end s h a _ id b e f = cc
 
 some : (x : Option Array) (a : Array) → x ≡ Some a → is_some x ≡ true
 some x a e = λ i. is_some (e i)
@@ -707,12 +707,12 @@ full_caused s (f ∷ h) id z e = before (λ w l. full_caused s h id w l) (array_
         → (a : Array) → array_after s h ≡ Some a → is_some (Steps.settled_array_if (Steps.event_step s a f)) ≡ true
         → (x : Bool) → same_event f (Event.End id QUEUE_FULL) ≡ x → (x || has_event h (Event.End id QUEUE_FULL)) ≡ true
         → was_refused s h id ≡ true
-    now later a w k true q l = is_end s h a f id (caused s h a w) q (some_of (Steps.event_step s a f) k)
-    now later a w k false q l = later (some (array_after s h) a w) l
+    now later a w g true q l = is_end s h a f id (caused s h a w) q (some_of (Steps.event_step s a f) g)
+    now later a w g false q l = later (some (array_after s h) a w) l
 
     before :
         (is_some (array_after s h) ≡ true → has_event h (Event.End id QUEUE_FULL) ≡ true → was_refused s h id ≡ true)
         → (x : Option Array) → array_after s h ≡ x → is_some (array_step s f x) ≡ true → was_refused s (f ∷ h) id ≡ true
-    before later None w k = cc
-    before later (Some a) w k = or_right (is_refused_at s h id f) (was_refused s h id)
-        (now later a w k (same_event f (Event.End id QUEUE_FULL)) refl e)
+    before later None w g = cc
+    before later (Some a) w g = or_right (is_refused_at s h id f) (was_refused s h id)
+        (now later a w g (same_event f (Event.End id QUEUE_FULL)) refl e)

@@ -21,14 +21,14 @@ refused_exactly s a id = go (process_of s id)
     never true = refl
     never false = refl
 
-    at : (p : Process) (o : Option UnitState) → is_some (refuse_step_at a p o)
-        ≡ (not (is_request_sense (command_of p.cdb)) && Rattle.book_laws.specs.FullQueues.is_full o)
-    at p None = never (not (is_request_sense (command_of p.cdb)))
-    at p (Some u) = some_if (not (is_request_sense (command_of p.cdb)) && process_count u == u.depth) _
+    at : (c : Process) (o : Option UnitState) → is_some (refuse_step_at a c o)
+        ≡ (not (is_request_sense (command_of c.cdb)) && Rattle.book_laws.specs.FullQueues.is_full o)
+    at c None = never (not (is_request_sense (command_of c.cdb)))
+    at c (Some u) = some_if (not (is_request_sense (command_of c.cdb)) && process_count u == u.depth) _
 
     go : (o : Option Process) → is_some (refuse_step a o) ≡ finds_full_queue a o
     go None = refl
-    go (Some p) = at p (unit_state_at a.units p.target p.unit)
+    go (Some c) = at c (unit_state_at a.units c.target c.unit)
 
 -- ---- what a target plans
 
@@ -48,11 +48,11 @@ refusal_by policy false a (Some u) =
     refusal_in policy (record { full = not (nat_lt (process_count u) u.depth); idle = is_idle_unit a u })
 refusal_by policy _ a _ = refl
 
-pub refused_by_plan : (s : ScenarioValue) (k : RunState) (policy : Policy) (p : Process) → process_served s k ≡ Some p
-    → is_refusal (arrival_of s k policy) ≡ lacks_room (array_of s k) p
-refused_by_plan s k policy p e = (λ i. is_refusal (arrival_if policy (array_of s k) (e i)))
-    ∙ refusal_by policy (is_request_sense (command_of p.cdb)) (array_of s k)
-    (unit_state_at (array_of s k).units p.target p.unit)
+pub refused_by_plan : (s : ScenarioValue) (k : RunState) (policy : Policy) (c : Process) → process_served s k ≡ Some c
+    → is_refusal (arrival_of s k policy) ≡ lacks_room (array_of s k) c
+refused_by_plan s k policy c e = (λ i. is_refusal (arrival_if policy (array_of s k) (e i)))
+    ∙ refusal_by policy (is_request_sense (command_of c.cdb)) (array_of s k)
+    (unit_state_at (array_of s k).units c.target c.unit)
 
 -- ---- the history that rows tell
 

@@ -17,25 +17,25 @@ use Rattle.due_model.specs.array_model.specs.Steps
 pub self_nexus : (q : Nexus) → same_nexus q q ≡ true
 self_nexus q = λ i. eq_self q.initiator i && (eq_self q.target i && eq_self q.unit i)
 
-here : (s : ScenarioValue) (e : Event) (p : Process) (code : ℕ) → process_of s p.id ≡ Some p
-    → same_event e (Event.Fail p.id code) ≡ true → is_failure_at s e (nexus_of p) code ≡ true
-here s (Event.Fail id x) p code own h =
-    let two = and_parts (same_id id p.id) (x == code) h in
-    and_from _ _ two.1 ((λ i. is_at_nexus (process_of s (same_id_is id p.id two.0 i)) (nexus_of p))
-    ∙ (λ i. is_at_nexus (own i) (nexus_of p)) ∙ self_nexus (nexus_of p))
-here s _ p code own h = cc
+here : (s : ScenarioValue) (e : Event) (c : Process) (code : ℕ) → process_of s c.id ≡ Some c
+    → same_event e (Event.Fail c.id code) ≡ true → is_failure_at s e (nexus_of c) code ≡ true
+here s (Event.Fail id x) c code own h =
+    let two = and_parts (same_id id c.id) (x == code) h in
+    and_from _ _ two.1 ((λ i. is_at_nexus (process_of s (same_id_is id c.id two.0 i)) (nexus_of c))
+    ∙ (λ i. is_at_nexus (own i) (nexus_of c)) ∙ self_nexus (nexus_of c))
+here s _ c code own h = cc
 
-failed_at : (s : ScenarioValue) (h : List Event) (p : Process) (code : ℕ) → process_of s p.id ≡ Some p
-    → has_event h (Event.Fail p.id code) ≡ true → has_failure_at s h (nexus_of p) code ≡ true
-failed_at s [] p code own k = cc
-failed_at s (e ∷ h) p code own k = go (λ z. failed_at s h p code own z) (same_event e (Event.Fail p.id code)) refl k
+failed_at : (s : ScenarioValue) (h : List Event) (c : Process) (code : ℕ) → process_of s c.id ≡ Some c
+    → has_event h (Event.Fail c.id code) ≡ true → has_failure_at s h (nexus_of c) code ≡ true
+failed_at s [] c code own f = cc
+failed_at s (e ∷ h) c code own f = go (λ z. failed_at s h c code own z) (same_event e (Event.Fail c.id code)) refl f
   where
-    go : (has_event h (Event.Fail p.id code) ≡ true → has_failure_at s h (nexus_of p) code ≡ true) → (q : Bool)
-        → same_event e (Event.Fail p.id code) ≡ q → (q || has_event h (Event.Fail p.id code)) ≡ true
-        → has_failure_at s (e ∷ h) (nexus_of p) code ≡ true
+    go : (has_event h (Event.Fail c.id code) ≡ true → has_failure_at s h (nexus_of c) code ≡ true) → (q : Bool)
+        → same_event e (Event.Fail c.id code) ≡ q → (q || has_event h (Event.Fail c.id code)) ≡ true
+        → has_failure_at s (e ∷ h) (nexus_of c) code ≡ true
     go later true w z =
-        or_left (is_failure_at s e (nexus_of p) code) (has_failure_at s h (nexus_of p) code) (here s e p code own w)
-    go later false w z = or_right (is_failure_at s e (nexus_of p) code) (has_failure_at s h (nexus_of p) code) (later z)
+        or_left (is_failure_at s e (nexus_of c) code) (has_failure_at s h (nexus_of c) code) (here s e c code own w)
+    go later false w z = or_right (is_failure_at s e (nexus_of c) code) (has_failure_at s h (nexus_of c) code) (later z)
 
 -- ---- the senses that are stored
 
@@ -86,25 +86,25 @@ if_is s h false a b = tt
 accept_is : (s : ScenarioValue) (h : List Event) (a : Array) (o : Option Process) → AreSenses s h a.senses
     → AreSensesIf s h (Steps.accept_step a o)
 accept_is s h a None b = tt
-accept_is s h a (Some p) b = at (unit_state_at a.units p.target p.unit)
+accept_is s h a (Some c) b = at (unit_state_at a.units c.target c.unit)
   where
     either : (u : UnitState) (q : Bool)
-        → AreSensesIf s h (if q then Some (Steps.with_guest a p None) else Steps.queue_step a p u)
+        → AreSensesIf s h (if q then Some (Steps.with_guest a c None) else Steps.queue_step a c u)
     either u true = b
     either u false = if_is s h (nat_lt (Steps.process_count u) u.depth) _ b
 
-    at : (x : Option UnitState) → AreSensesIf s h (Steps.accept_step_at a p x)
+    at : (x : Option UnitState) → AreSensesIf s h (Steps.accept_step_at a c x)
     at None = b
-    at (Some u) = either u (is_request_sense (command_of p.cdb))
+    at (Some u) = either u (is_request_sense (command_of c.cdb))
 
 refuse_is : (s : ScenarioValue) (h : List Event) (a : Array) (o : Option Process) → AreSenses s h a.senses
     → AreSensesIf s h (Steps.refuse_step a o)
 refuse_is s h a None b = tt
-refuse_is s h a (Some p) b = at (unit_state_at a.units p.target p.unit)
+refuse_is s h a (Some c) b = at (unit_state_at a.units c.target c.unit)
   where
-    at : (x : Option UnitState) → AreSensesIf s h (Steps.refuse_step_at a p x)
+    at : (x : Option UnitState) → AreSensesIf s h (Steps.refuse_step_at a c x)
     at None = tt
-    at (Some u) = if_is s h (not (is_request_sense (command_of p.cdb)) && Steps.process_count u == u.depth) _ b
+    at (Some u) = if_is s h (not (is_request_sense (command_of c.cdb)) && Steps.process_count u == u.depth) _ b
 
 contents_is :
     (s : ScenarioValue) (h : List Event) (a : Array) (q : Nexus) (r : Bool) (o : Option UnitState) (contents : Contents)
@@ -128,23 +128,23 @@ fail_is : (s : ScenarioValue) (h : List Event) (a : Array) (id : ProcId) (reply 
 fail_is s h a id reply (Some r) b = if_is s h (is_none r.reply) (Steps.with_reply a id reply) b
 fail_is s h a id reply None b = new (process_of s id)
   where
-    came : (q : Bool) (p : Process) → AreSensesIf s h
-        (if q then None else Some (Steps.with_listed_reply (Steps.with_guest a p (Some reply)) id reply))
-    came true p = tt
-    came false p = b
+    came : (q : Bool) (c : Process) → AreSensesIf s h
+        (if q then None else Some (Steps.with_listed_reply (Steps.with_guest a c (Some reply)) id reply))
+    came true c = tt
+    came false c = b
 
     new : (x : Option Process) → AreSensesIf s h (Steps.fail_step_of_new a id reply x)
     new None = tt
-    new (Some p) = came (Steps.is_waiting a.units id || Steps.has_ended a id) p
+    new (Some c) = came (Steps.is_waiting a.units id || Steps.has_ended a id) c
 
 lost_is : (s : ScenarioValue) (h : List Event) (a : Array) (id : ProcId) → AreSenses s h a.senses
     → AreSensesIf s h (Steps.loss_step a id)
 lost_is s h a id b = elim (cases_Bool (Steps.has_ended a id)) [ inl e ↦ rw e tt | inr e ↦ rw e b ]
 
-hosts_same : (hosts : List HostDef) (t n : ℕ) (a : Array) → (Steps.reset_attentions hosts t n a).senses ≡ a.senses
-hosts_same [] t n a = refl
-hosts_same (d ∷ hosts) t n a =
-    hosts_same hosts t n (Steps.reset_attention a (record { initiator = d.dev; target = t; unit = n }))
+hosts_same : (hosts : List HostDef) (t m : ℕ) (a : Array) → (Steps.reset_attentions hosts t m a).senses ≡ a.senses
+hosts_same [] t m a = refl
+hosts_same (d ∷ hosts) t m a =
+    hosts_same hosts t m (Steps.reset_attention a (record { initiator = d.dev; target = t; unit = m }))
 
 units_same : (hosts : List HostDef) (units : List UnitState) (is_one : UnitState → Bool) (a : Array)
     → (Steps.unit_reset_attentions hosts units is_one a).senses ≡ a.senses
@@ -171,13 +171,13 @@ cleared_same by (q ∷ gone) a =
     go false true = refl
     go false false = refl
 
-abort_is : (s : ScenarioValue) (h : List Event) (a : Array) (i t n : ℕ) (what : AbortKind) → AreSenses s h a.senses
-    → AreSenses s h (Steps.abort_step s a i t n what).senses
-abort_is s h a i t n AbortKind.All b = without_is s h a.senses (record { initiator = i; target = t; unit = n }) b
-abort_is s h a i t n (AbortKind.Tag tag) b = b
-abort_is s h a i t n AbortKind.WholeQueue b = subst (λ (x : List (Nexus × Sense)). AreSenses s h x) (sym (cleared_same i
-    (Steps.unit_processes (unit_state_at a.units t n)) (Steps.without_dropped a (λ p. Steps.is_of_unit p t n)))) b
-abort_is s h a i t n AbortKind.Device b = subst (λ (x : List (Nexus × Sense)). AreSenses s h x)
+abort_is : (s : ScenarioValue) (h : List Event) (a : Array) (i t m : ℕ) (what : AbortKind) → AreSenses s h a.senses
+    → AreSenses s h (Steps.abort_step s a i t m what).senses
+abort_is s h a i t m AbortKind.All b = without_is s h a.senses (record { initiator = i; target = t; unit = m }) b
+abort_is s h a i t m (AbortKind.Tag tag) b = b
+abort_is s h a i t m AbortKind.WholeQueue b = subst (λ (x : List (Nexus × Sense)). AreSenses s h x) (sym (cleared_same i
+    (Steps.unit_processes (unit_state_at a.units t m)) (Steps.without_dropped a (λ p. Steps.is_of_unit p t m)))) b
+abort_is s h a i t m AbortKind.Device b = subst (λ (x : List (Nexus × Sense)). AreSenses s h x)
     (sym (units_same s.hosts a.units (λ u. u.target == t) (record (Steps.without_dropped a (λ p. p.target == t)) {
       senses = Steps.kept_senses (λ q. q.target == t) a.senses;
       holds = Steps.kept_nexuses (λ q. q.target == t) a.holds;
@@ -196,8 +196,8 @@ running_own s a id r b h = go (guest_at a.guests id) refl h
   where
     go : (x : Option RunningProcess) → guest_at a.guests id ≡ x
         → (if is_some x then x else Steps.running_in a.units id) ≡ Some r → process_of s r.process.id ≡ Some r.process
-    go None z k = current_process s a.units id r b.units k
-    go (Some g) z k = guest_process s a.guests id r b.guests (z ∙ k)
+    go None z e = current_process s a.units id r b.units e
+    go (Some g) z e = guest_process s a.guests id r b.guests (z ∙ e)
 
 end_is : (s : ScenarioValue) (h : List Event) (a : Array) (id : ProcId) (status : ℕ) → IsSound s a → Caused s h a
     → AreSenses s h a.senses → AreSensesIf s h (Steps.end_step a status (Steps.running_process a id))
@@ -270,18 +270,18 @@ senses_after s (e ∷ h) f = go (array_after s h) refl (senses_after s h f)
 sense_at : (s : ScenarioValue) (h : List Event) (entries : List (Nexus × Sense)) (q : Nexus) (sense : Sense)
     → AreSenses s h entries → sense_of_nexus entries q ≡ Some sense → IsSense s h q sense
 sense_at s h [] q sense b e = cc
-sense_at s h (x ∷ entries) q sense b e = go (λ k. sense_at s h entries q sense b.1 k) (same_nexus x.0 q) refl e
+sense_at s h (x ∷ entries) q sense b e = go (λ f. sense_at s h entries q sense b.1 f) (same_nexus x.0 q) refl e
   where
     go : (sense_of_nexus entries q ≡ Some sense → IsSense s h q sense) → (y : Bool) → same_nexus x.0 q ≡ y
         → (if y then Some x.1 else sense_of_nexus entries q) ≡ Some sense → IsSense s h q sense
-    go later true w k =
+    go later true w f =
         let same : x.1 ≡ sense = cc in
         λ z. (λ i. has_failure_at s h (sym (same_nexus_is x.0 q w) i) (sym same i).asc)
         ∙ b.0 ((λ i. (same i).key == ABORTED_COMMAND) ∙ z)
-    go later false w k = later k
+    go later false w f = later f
 
 pub sense_caused : (s : ScenarioValue) (h : List Event) (a : Array) (q : Nexus) (sense : Sense) → HasSeats s
     → array_after s h ≡ Some a → sense_of_nexus a.senses q ≡ Some sense → (sense.key == ABORTED_COMMAND) ≡ true
     → has_failure_at s h q sense.asc ≡ true
-sense_caused s h a q sense f z e k =
-    sense_at s h a.senses q sense (subst (λ (o : Option Array). AreSensesIf s h o) z (senses_after s h f)) e k
+sense_caused s h a q sense f z e g =
+    sense_at s h a.senses q sense (subst (λ (o : Option Array). AreSensesIf s h o) z (senses_after s h f)) e g

@@ -12,19 +12,19 @@ use proofs.{Carried.Facts.{process_none}, Said.Messages.{opening_reads, abort_op
 
 -- ---- the units that processes and aborts name
 
-pub process_unit : (s : ScenarioValue) (id : ProcId) (p : Process) → AreUnits s → process_of s id ≡ Some p → p.unit < 8
-process_unit s id p u e = go (command_at s.commands id.command) refl
+pub process_unit : (s : ScenarioValue) (id : ProcId) (t : Process) → AreUnits s → process_of s id ≡ Some t → t.unit < 8
+process_unit s id t u e = go (command_at s.commands id.command) refl
   where
     by : (c : CmdDef) (sense : Bool) → (process_by s (record { command = id.command; sense = sense }) c).unit ≡ c.unit
     by c true = refl
     by c false = refl
 
-    go : (c : Option CmdDef) → command_at s.commands id.command ≡ c → p.unit < 8
-    go None f = absurd (process_none p (sym (ap (λ (x : Option CmdDef). process_if s id x) f) ∙ e))
+    go : (c : Option CmdDef) → command_at s.commands id.command ≡ c → t.unit < 8
+    go None f = absurd (process_none t (sym (ap (λ (x : Option CmdDef). process_if s id x) f) ∙ e))
     go (Some c) f =
-        let same : process_by s id c ≡ p = same_Some (process_by s id c) p
+        let same : process_by s id c ≡ t = same_Some (process_by s id c) t
         (sym (ap (λ (x : Option CmdDef). process_if s id x) f) ∙ e) in
-        subst (λ (n : ℕ). n < 8) (sym (by c id.sense) ∙ ap (λ (q : Process). q.unit) same) (u.commands id.command c f)
+        subst (λ (m : ℕ). m < 8) (sym (by c id.sense) ∙ ap (λ (q : Process). q.unit) same) (u.commands id.command c f)
 
 -- ---- the opening of an item
 

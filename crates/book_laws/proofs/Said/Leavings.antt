@@ -16,11 +16,11 @@ item_named : (s : ScenarioValue) (dev : ℕ) (negotiates : Bool) (said : Said) (
 item_named s dev negotiates said None u x e f = refl
 item_named s dev negotiates said (Some (process id)) u x e f = go (process_of s id) refl
   where
-    go : (p : Option Process) → process_of s id ≡ p → is_process_named said (process_of s id) ≡ true
+    go : (c : Option Process) → process_of s id ≡ c → is_process_named said (process_of s id) ≡ true
     go None ep = ap (is_process_named said) ep
-    go (Some p) ep =
-        let o = opening_heard (host_of s dev) negotiates p (process_unit s id p u ep) in
-        let words : x ≡ process_opening (host_of s dev) negotiates (Some p) = e
+    go (Some c) ep =
+        let o = opening_heard (host_of s dev) negotiates c (process_unit s id c u ep) in
+        let words : x ≡ process_opening (host_of s dev) negotiates (Some c) = e
         ∙ ap (process_opening (host_of s dev) negotiates) ep in
         let heard : said ≡ o.0 = f ∙ ap (λ (y : List ℕ). (understood nothing_understood y).said) words
         ∙ ap (λ (y : Understanding). y.said) o.1 in

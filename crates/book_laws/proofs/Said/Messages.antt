@@ -35,17 +35,17 @@ pub record Reads (v : Speech) (d : Dialogue) : Type 0 where
   pub half_is : d.half ≡ fresh_bytes d
 
 -- rule 25: it makes no unknown message
-pub reads_byte : (v : Speech) (p : Plan) (d : Dialogue) (byte : ℕ) → AreWordsHeard v p d → Reads v d
+pub reads_byte : (v : Speech) (l : Plan) (d : Dialogue) (byte : ℕ) → AreWordsHeard v l d → Reads v d
     → byte ≡ next_word v → is_unknown (reading_out (got_out (d.half ++ byte ∷ []))) ≡ false
-reads_byte v p d byte h r e =
+reads_byte v l d byte h r e =
     let at = reads_at nothing_understood h.before h.byte h.rest
     (ap (form_messages nothing_understood) (sym h.words_are) ∙ r.whole) in
     not-true (is_unknown (reading_out (got_out (d.half ++ byte ∷ [])))) ((λ i. not (is_unknown (reading_out
-    (got_out ((r.half_is ∙ ap (λ (x : Understanding). x.half) h.anew) i ++ (e ∙ says_byte v p d h) i ∷ []))))) ∙ at)
+    (got_out ((r.half_is ∙ ap (λ (x : Understanding). x.half) h.anew) i ++ (e ∙ says_byte v l d h) i ∷ []))))) ∙ at)
 
-pub reads_on : (v : Speech) (p : Plan) (d : Dialogue) (byte : ℕ) → AreWordsHeard v p d → Reads v d → byte ≡ next_word v
+pub reads_on : (v : Speech) (l : Plan) (d : Dialogue) (byte : ℕ) → AreWordsHeard v l d → Reads v d → byte ≡ next_word v
     → Reads (speech_after_byte v) (byte_out d byte (not (attends_with v)))
-reads_on v p d byte h r e = record { whole = r.whole; half_is = go h.rest (says_more v p d h) h.words_are }
+reads_on v l d byte h r e = record { whole = r.whole; half_is = go h.rest (says_more v l d h) h.words_are }
   where
     half_next : left_of (got_out (d.half ++ byte ∷ [])) (d.half ++ byte ∷ [])
         ≡ left_of (got_out (fresh_bytes d ++ byte ∷ [])) (fresh_bytes d ++ byte ∷ [])
@@ -55,8 +55,8 @@ reads_on v p d byte h r e = record { whole = r.whole; half_is = go h.rest (says_
         → left_of (got_out (d.half ++ byte ∷ [])) (d.half ++ byte ∷ [])
         ≡ fresh_bytes (byte_out d byte (not (attends_with v)))
     go [] more words = half_next
-        ∙ (λ i. left_of (got_out (ap (λ (x : Understanding). x.half) h.anew i ++ (e ∙ says_byte v p d h) i ∷ []))
-        (ap (λ (x : Understanding). x.half) h.anew i ++ (e ∙ says_byte v p d h) i ∷ []))
+        ∙ (λ i. left_of (got_out (ap (λ (x : Understanding). x.half) h.anew i ++ (e ∙ says_byte v l d h) i ∷ []))
+        (ap (λ (x : Understanding). x.half) h.anew i ++ (e ∙ says_byte v l d h) i ∷ []))
         ∙ ap (λ (x : Understanding). x.half) (sym (understood_append nothing_understood h.before (h.byte ∷ []))
         ∙ ap (understood nothing_understood) (sym words))
         ∙ reads_end nothing_understood v.words r.whole ∙ (λ i. fresh_bytes (byte_out d byte (not (sym more i))))
@@ -110,11 +110,11 @@ offer_reads false h said = refl
 offer_reads true None said = refl
 offer_reads true (Some h) said = elim (cases_Bool (h.offers && nat_lt 0 h.period)) [ inl e ↦ rw e | inr e ↦ rw e ]
 
-pub opening_reads : (h : Option HostDef) (negotiates : Bool) (p : Process) → p.unit < 8
-    → form_messages nothing_understood (process_opening h negotiates (Some p)) ≡ true
-opening_reads h negotiates p lt = whole_message (MsgOut.Identify (not p.id.sense) p.unit)
-    (tag_bytes p.tag ++ offer_if negotiates h) lt nothing_heard (tag_reads p.tag (offer_if negotiates h)
-    (said_with (MsgOut.Identify (not p.id.sense) p.unit) nothing_heard) (λ x. offer_reads negotiates h x))
+pub opening_reads : (h : Option HostDef) (negotiates : Bool) (c : Process) → c.unit < 8
+    → form_messages nothing_understood (process_opening h negotiates (Some c)) ≡ true
+opening_reads h negotiates c lt = whole_message (MsgOut.Identify (not c.id.sense) c.unit)
+    (tag_bytes c.tag ++ offer_if negotiates h) lt nothing_heard (tag_reads c.tag (offer_if negotiates h)
+    (said_with (MsgOut.Identify (not c.id.sense) c.unit) nothing_heard) (λ x. offer_reads negotiates h x))
 
 abort_reads : (what : AbortKind) (said : Said)
     → form_messages (record { said = said; half = [] }) (abort_bytes what) ≡ true

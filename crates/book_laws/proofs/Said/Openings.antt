@@ -49,21 +49,21 @@ hears_offer true (Some h) said = go (h.offers && nat_lt 0 h.period)
     go false = (said, refl, refl, refl, refl)
 
 -- The opening of a process names its unit and its tag, and aborts nothing.
-pub opening_heard : (h : Option HostDef) (negotiates : Bool) (p : Process) → p.unit < 8
-    → (x : Said) × (understood nothing_understood (process_opening h negotiates (Some p)) ≡ after x)
-    × (is_process_named x (Some p) ≡ true)
-opening_heard h negotiates p lt =
-    let m : MsgOut = MsgOut.Identify (not p.id.sense) p.unit in
+pub opening_heard : (h : Option HostDef) (negotiates : Bool) (c : Process) → c.unit < 8
+    → (x : Said) × (understood nothing_understood (process_opening h negotiates (Some c)) ≡ after x)
+    × (is_process_named x (Some c) ≡ true)
+opening_heard h negotiates c lt =
+    let m : MsgOut = MsgOut.Identify (not c.id.sense) c.unit in
     let one : Said = said_with m nothing_heard in
-    let two = hears_tag p.tag one refl in
+    let two = hears_tag c.tag one refl in
     let three = hears_offer negotiates h two.0 in (
       three.0,
-      understood_append nothing_understood (out_bytes m) (tag_bytes p.tag ++ offer_if negotiates h)
-          ∙ ap (λ (x : Understanding). understood x (tag_bytes p.tag ++ offer_if negotiates h))
-          (hears_message m nothing_heard lt) ∙ understood_append (after one) (tag_bytes p.tag) (offer_if negotiates h)
+      understood_append nothing_understood (out_bytes m) (tag_bytes c.tag ++ offer_if negotiates h)
+          ∙ ap (λ (x : Understanding). understood x (tag_bytes c.tag ++ offer_if negotiates h))
+          (hears_message m nothing_heard lt) ∙ understood_append (after one) (tag_bytes c.tag) (offer_if negotiates h)
           ∙ ap (λ (x : Understanding). understood x (offer_if negotiates h)) two.1 ∙ three.1,
-      (λ i. is_none ((three.4 ∙ two.4) i) && is_unit ((three.2 ∙ two.2) i) p.unit && same_tag (three.3 i) p.tag)
-          ∙ (λ i. eq_self p.unit i && two.3 i),
+      (λ i. is_none ((three.4 ∙ two.4) i) && is_unit ((three.2 ∙ two.2) i) c.unit && same_tag (three.3 i) c.tag)
+          ∙ (λ i. eq_self c.unit i && two.3 i),
     )
 
 -- The opening of an abort names its unit, and what it aborts.

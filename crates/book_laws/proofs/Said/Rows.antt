@@ -49,18 +49,18 @@ words_struck s n v x _ (answers e) = answers e
 words_struck s n v x _ (rejects_data e) = rejects_data e
 words_struck s n v x _ (rejects_status e) = rejects_status e
 
-still_said : (q : Bool) (p : Plan) → (plan_anew_if q (struck_plan p)).said ≡ (plan_anew_if q p).said
-still_said true p = refl
-still_said false p = refl
+still_said : (q : Bool) (l : Plan) → (plan_anew_if q (struck_plan l)).said ≡ (plan_anew_if q l).said
+still_said true l = refl
+still_said false l = refl
 
-heard_struck : (v : Speech) (p : Plan) (d : Dialogue) → AreWordsHeard v p d → AreWordsHeard v (struck_plan p) d
-heard_struck v p d h = record {
+heard_struck : (v : Speech) (l : Plan) (d : Dialogue) → AreWordsHeard v l d → AreWordsHeard v (struck_plan l) d
+heard_struck v l d h = record {
   before = h.before;
   byte = h.byte;
   rest = h.rest;
   words_are = h.words_are;
   place_is = h.place_is;
-  anew = (λ i. record { said = still_said d.is_last p i; half = fresh_bytes d }) ∙ h.anew;
+  anew = (λ i. record { said = still_said d.is_last l i; half = fresh_bytes d }) ∙ h.anew;
   last = h.last;
 }
 
@@ -112,13 +112,13 @@ other_on s n v x asked d d' a b none h = record {
 abbrev pub heard_byte : Exchange → Bool → Option MsgOut → Exchange
 heard_byte x is_last m = record x { speech = speech_after_byte x.speech; plan = plan_after_message x.plan is_last m }
 
-kept_cause : (q : Bool) (p : Plan) → (plan_anew_if q p).cause ≡ p.cause
-kept_cause true p = refl
-kept_cause false p = refl
+kept_cause : (q : Bool) (l : Plan) → (plan_anew_if q l).cause ≡ l.cause
+kept_cause true l = refl
+kept_cause false l = refl
 
-kept_negotiates : (q : Bool) (p : Plan) → (plan_anew_if q p).negotiates ≡ p.negotiates
-kept_negotiates true p = refl
-kept_negotiates false p = refl
+kept_negotiates : (q : Bool) (l : Plan) → (plan_anew_if q l).negotiates ≡ l.negotiates
+kept_negotiates true l = refl
+kept_negotiates false l = refl
 
 words_on :
     (s : ScenarioValue) (n : Connection) (v : Option Item) (x : Exchange) (q : Bool) (m : Option MsgOut) (cause : Cause)
@@ -165,7 +165,7 @@ byte_on s n v x d byte a b same out e h = record {
 -- ---- a phase begins
 
 abbrev pub asked_plan : Plan → Cause → Messages → Plan
-asked_plan p cause messages = record (plan_anew p) { cause = cause; messages = messages }
+asked_plan l cause messages = record (plan_anew l) { cause = cause; messages = messages }
 
 abbrev pub asking : Exchange → List ℕ → Cause → Messages → Exchange
 asking x words cause messages =

@@ -33,14 +33,14 @@ leaves_by : (s : ScenarioValue) (k : RunState) (row : Row) (d : RowReading) → 
     → k.story.bus_state.connection ≡ None → d.next ≡ None → k.story.link ≡ None
     → Leaves k (run_state_with_events s k row d (row_events_by s k.story d row)) (story_on_free_bus s k.story d row)
 leaves_by s k row d e f g h =
-    let n : row_events_by s k.story d row ≡ [] = nothing_shown s k.story d row e h in
+    let z : row_events_by s k.story d row ≡ [] = nothing_shown s k.story d row e h in
     let b : story_by_change s k.story d row ≡ story_on_free_bus s k.story d row = on_free s k.story d row e f g in
     record {
-      sent = ap (λ (x : List Event). (run_state_with_events s k row d x).story.sent) n ∙ ap (λ (y : Story). y.sent) b;
-      aims = ap (λ (x : List Event). (run_state_with_events s k row d x).story.aims) n ∙ ap (λ (y : Story). y.aims) b;
-      link = ap (λ (x : List Event). (run_state_with_events s k row d x).story.link) n ∙ ap (λ (y : Story). y.link) b;
-      array = ap (λ (x : List Event). (run_state_with_events s k row d x).array) n;
-      current = ap (λ (x : List Event). (run_state_with_events s k row d x).current_since) n;
+      sent = ap (λ (x : List Event). (run_state_with_events s k row d x).story.sent) z ∙ ap (λ (y : Story). y.sent) b;
+      aims = ap (λ (x : List Event). (run_state_with_events s k row d x).story.aims) z ∙ ap (λ (y : Story). y.aims) b;
+      link = ap (λ (x : List Event). (run_state_with_events s k row d x).story.link) z ∙ ap (λ (y : Story). y.link) b;
+      array = ap (λ (x : List Event). (run_state_with_events s k row d x).array) z;
+      current = ap (λ (x : List Event). (run_state_with_events s k row d x).current_since) z;
     }
 
 -- ---- a row that enters, and one that does not and leaves SEL as it was

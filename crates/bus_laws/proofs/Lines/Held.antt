@@ -10,20 +10,20 @@ held x = record none { data_bits = x.data_bits; bsy = x.bsy; sel = x.sel }
 pub held_by : (l m : LineSet) → l ≡ m → m ≡ held m → l ≡ held l
 held_by l m e h = e ∙ h ∙ ap held (sym e)
 
-pub held_below : (f : ℕ → LineSet) (n : ℕ) → ((d : ℕ) → d < n → f d ≡ held (f d))
-    → union_below f n ≡ held (union_below f n)
+pub held_below : (f : ℕ → LineSet) (m : ℕ) → ((d : ℕ) → d < m → f d ≡ held (f d))
+    → union_below f m ≡ held (union_below f m)
 unfolding union_below
 held_below f zero h = refl
-held_below f (suc n) h =
-    let low = held_below f n (λ d lt. h d (omega arith)) in
-    let top = h n (omega arith) in
+held_below f (suc m) h =
+    let low = held_below f m (λ d lt. h d (omega arith)) in
+    let top = h m (omega arith) in
     λ i. union (low i) (top i)
 
 pub as_entries : (x : LineSet) → x ≡ held x → x.bsy ≡ true → x.sel ≡ false → x ≡ arbitration_bus x.data_bits
-as_entries x h b s = h ∙ (λ i. record none { data_bits = x.data_bits; bsy = b i; sel = s i })
+as_entries x h b e = h ∙ (λ i. record none { data_bits = x.data_bits; bsy = b i; sel = e i })
 
 pub as_winner : (x : LineSet) → x ≡ held x → x.bsy ≡ true → x.sel ≡ true → x ≡ won_bus x.data_bits
-as_winner x h b s = h ∙ (λ i. record none { data_bits = x.data_bits; bsy = b i; sel = s i })
+as_winner x h b e = h ∙ (λ i. record none { data_bits = x.data_bits; bsy = b i; sel = e i })
 
 -- a device that drives nothing, or BSY and its ID
 abbrev pub ContendsOrNot : List Row → ℕ → Type 0
@@ -34,9 +34,9 @@ contender_held p e (inl n) = held_by (drives p e) none n refl
 contender_held p e (inr k) = held_by (drives p e) (contender_lines e) k refl
 
 contender_off : (on : LineSet → Bool) (p : List Row) (e : ℕ) → on none ≡ false
-    → ((k : ℕ) → on (contender_lines k) ≡ false) → ContendsOrNot p e → on (drives p e) ≡ false
+    → ((m : ℕ) → on (contender_lines m) ≡ false) → ContendsOrNot p e → on (drives p e) ≡ false
 contender_off on p e n0 n1 (inl n) = ap on n ∙ n0
-contender_off on p e n0 n1 (inr k) = ap on k ∙ n1 e
+contender_off on p e n0 n1 (inr m) = ap on m ∙ n1 e
 
 -- the bus of an arbitration
 pub entries_is : (p : List Row) (d : ℕ) → d < 8 → drives p d ≡ contender_lines d

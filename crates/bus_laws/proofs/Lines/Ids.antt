@@ -12,16 +12,16 @@ unfolding count_ones
 all_good true = refl
 all_good false = refl
 
-pub record IsCall (m : Bool) (c k : ℕ) : Type 0 where
-  pub two : drives_two_ids c (both_ids m c k) ≡ true
-  pub other : other_id (both_ids m c k) c ≡ k
-  pub parity : (bit_at (2 ^ c + 2 ^ k + 256) 8 == 1) ≡ true
+pub record IsCall (m : Bool) (c i : ℕ) : Type 0 where
+  pub two : drives_two_ids c (both_ids m c i) ≡ true
+  pub other : other_id (both_ids m c i) c ≡ i
+  pub parity : (bit_at (2 ^ c + 2 ^ i + 256) 8 == 1) ≡ true
 
-pub is_call : (m : Bool) (c k : ℕ) → c < 8 → k < 8 → c ≢ k → IsCall m c k
-is_call m c k lc lk ne =
-    let g : good m c k ≡ true = agree_below_at (good m c) (λ b. true) 8 k
+pub is_call : (m : Bool) (c i : ℕ) → c < 8 → i < 8 → c ≢ i → IsCall m c i
+is_call m c i lc lk ne =
+    let g : good m c i ≡ true = agree_below_at (good m c) (λ b. true) 8 i
     (agree_below_at (λ a. agree_below (good m a) (λ b. true) 8) (λ a. true) 8 c (all_good m) lc) lk in
-    let h = and_parts _ _ (or_second (c == k) (drives_two_ids c (both_ids m c k)
-    && ((other_id (both_ids m c k) c == k) && (bit_at (both_ids m c k).data_bits 8 == 1))) g (ne_eqb c k ne)) in
-    let j = and_parts (other_id (both_ids m c k) c == k) (bit_at (both_ids m c k).data_bits 8 == 1) h.1 in
+    let h = and_parts _ _ (or_second (c == i) (drives_two_ids c (both_ids m c i)
+    && ((other_id (both_ids m c i) c == i) && (bit_at (both_ids m c i).data_bits 8 == 1))) g (ne_eqb c i ne)) in
+    let j = and_parts (other_id (both_ids m c i) c == i) (bit_at (both_ids m c i).data_bits 8 == 1) h.1 in
     record { two = h.0; other = eqb-true _ _ j.0; parity = j.1 }

@@ -33,44 +33,44 @@ pub loser_obeys : (p : List Row) (c t0 t e x y : ℕ) (o : Bool) → last_time p
     → lowest_broken
     (seen_apart p e (change_to (won_bus x) (won_bus y) (contender_lines e) none) None (Some (won_call c t0)) o)
     (row_of_lines t e none) ≡ None
-loser_obeys p c t0 t e x y o a b n = let z : bit_or (2 ^ e) 0 ≡ 2 ^ e = or_zero_r (2 ^ e) in grind (arith, nat_tests)
+loser_obeys p c t0 t e x y o a b h = let z : bit_or (2 ^ e) 0 ≡ 2 ^ e = or_zero_r (2 ^ e) in grind (arith, nat_tests)
 
 abbrev pub won_lines : ℕ → LineSet
 won_lines c = record (contender_lines c) { sel = true }
 
 -- Where the tests that do not compute are many, they are proved one by one.
 abbrev pub call_seen : List Row → Bool → ℕ → ℕ → ℕ → Seen
-call_seen p m c k t0 = seen_apart p c (change_to (won_lines c) (both_ids m c k) (won_lines c) (both_ids m c k)) None
+call_seen p m c i t0 = seen_apart p c (change_to (won_lines c) (both_ids m c i) (won_lines c) (both_ids m c i)) None
     (Some (won_call c t0)) false
 
-call_news : (c k : ℕ) → (2 ^ c == 2 ^ c + 2 ^ k + 256) ≡ false
-call_news c k = grind (arith, nat_tests)
+call_news : (c m : ℕ) → (2 ^ c == 2 ^ c + 2 ^ m + 256) ≡ false
+call_news c m = grind (arith, nat_tests)
 
-exactly : (m : Bool) (c k : ℕ) → IsCall m c k → calls_exactly c (both_ids m c k) ≡ true
-exactly true c k h = λ i. ((h.two i && h.parity i) && true) && true
-exactly false c k h = λ i. ((h.two i && h.parity i) && true) && true
+exactly : (m : Bool) (c l : ℕ) → IsCall m c l → calls_exactly c (both_ids m c l) ≡ true
+exactly true c l h = λ i. ((h.two i && h.parity i) && true) && true
+exactly false c l h = λ i. ((h.two i && h.parity i) && true) && true
 
-call_said : (p : List Row) (m : Bool) (c k t0 t : ℕ)
-    → keeps 25 (call_seen p m c k t0) (row_of_lines t c (both_ids m c k)) ≡ true
-call_said p true c k t0 t = refl
-call_said p false c k t0 t = refl
+call_said : (p : List Row) (m : Bool) (c i t0 t : ℕ)
+    → keeps 25 (call_seen p m c i t0) (row_of_lines t c (both_ids m c i)) ≡ true
+call_said p true c i t0 t = refl
+call_said p false c i t0 t = refl
 
-pub call_obeys : (p : List Row) (m : Bool) (c k t0 t : ℕ) → last_time p ≤ t → t0 + QUIET_TIME ≤ t → IsCall m c k
-    → lowest_broken (call_seen p m c k t0) (row_of_lines t c (both_ids m c k)) ≡ None
-call_obeys p m c k t0 t a b h =
-    let r : Row = row_of_lines t c (both_ids m c k) in
-    let v : Seen = call_seen p m c k t0 in
+pub call_obeys : (p : List Row) (m : Bool) (c i t0 t : ℕ) → last_time p ≤ t → t0 + QUIET_TIME ≤ t → IsCall m c i
+    → lowest_broken (call_seen p m c i t0) (row_of_lines t c (both_ids m c i)) ≡ None
+call_obeys p m c i t0 t a b h =
+    let r : Row = row_of_lines t c (both_ids m c i) in
+    let v : Seen = call_seen p m c i t0 in
     let self = eq_self c in
     let two : keeps 2 v r ≡ true = ap
     (λ (q : Bool). not (q && true && same true true && same false false && same false (not m) && same false false
-    && same false false && same false false && same false m && same false false)) (call_news c k) in
+    && same false false && same false false && same false m && same false false)) (call_news c i) in
     let seven : keeps 7 v r ≡ true =
     ap (λ (q : Bool). implies (not q) (false || raises_none v.change) && (nat_le t (t0 + BUS_CLEAR_DELAY) || true)) self
     ∙ or_true (nat_le t (t0 + BUS_CLEAR_DELAY)) in
     let eight : keeps 8 v r ≡ true = ap (λ (q : Bool). implies q (nat_le (t0 + QUIET_TIME) t)) self
     ∙ le-leb (t0 + QUIET_TIME) t b in
-    let nine : keeps 9 v r ≡ true = ap (λ (q : Bool). implies q (calls_exactly c (both_ids m c k))) self
-    ∙ exactly m c k h in
+    let nine : keeps 9 v r ≡ true = ap (λ (q : Bool). implies q (calls_exactly c (both_ids m c i))) self
+    ∙ exactly m c i h in
     none_broken (λ n. keeps n v r) judged_rules (
       le-leb (last_time p) t a,
       (
@@ -115,7 +115,7 @@ call_obeys p m c k t0 t a b h =
                                               refl,
                                               (
                                                 refl,
-                                                (refl, (refl, (call_said p m c k t0 t, (refl, (refl, (refl, tt)))))),
+                                                (refl, (refl, (call_said p m c i t0 t, (refl, (refl, (refl, tt)))))),
                                               ),
                                             ),
                                           ),
@@ -141,76 +141,76 @@ call_obeys p m c k t0 t a b h =
 
 -- ---- a calling: the data bits are any
 
-pub asks_obeys : (p : List Row) (m : Bool) (c k x t0 t1 t : ℕ) → c ≢ k → last_time p ≤ t → t1 + 90 ≤ t
+pub asks_obeys : (p : List Row) (m : Bool) (c i x t0 t1 t : ℕ) → c ≢ i → last_time p ≤ t → t1 + 90 ≤ t
     → lowest_broken (seen_apart p c
     (change_to (calling_lines m true x) (calling_lines m false x) (calling_lines m true x) (calling_lines m false x))
-    None (Some (begun_call m c k t0 t1)) false) (row_of_lines t c (calling_lines m false x)) ≡ None
-asks_obeys p true c k x t0 t1 t ne a b =
+    None (Some (begun_call m c i t0 t1)) false) (row_of_lines t c (calling_lines m false x)) ≡ None
+asks_obeys p true c i x t0 t1 t ne a b =
     let e = eq_self c in
-    let o = ne_eqb c k ne in
+    let o = ne_eqb c i ne in
     let u = or_self x in
     let v = eq_self x in
     grind (arith, nat_tests)
-asks_obeys p false c k x t0 t1 t ne a b =
+asks_obeys p false c i x t0 t1 t ne a b =
     let e = eq_self c in
-    let o = ne_eqb c k ne in
+    let o = ne_eqb c i ne in
     let u = or_self x in
     let v = eq_self x in
     grind (arith, nat_tests)
 
-pub answer_obeys : (p : List Row) (m : Bool) (c k x t0 t1 t2 t : ℕ) → c ≢ k
+pub answer_obeys : (p : List Row) (m : Bool) (c l x t0 t1 t2 t : ℕ) → c ≢ l
     → last_time p ≤ t → t2 + BUS_SETTLE_DELAY ≤ t → since_line (λ s. s.sel) p ≤ t2
-    → since (line_of k) p ≤ t2 → since_line (λ s. s.bsy) p ≤ t2 → (bit_at x k == 1) ≡ true
-    → lowest_broken (seen_apart p k (change_to (calling_lines m false x) (calling_lines m true x) none answer_lines)
-    None (Some (awaiting_call false m c k t0 t1 t2)) false) (row_of_lines t k answer_lines) ≡ None
-answer_obeys p true c k x t0 t1 t2 t ne a b f g h i =
-    let e = eq_self k in
-    let o = ne_eqb k c (λ z. ne (sym z)) in
+    → since (line_of l) p ≤ t2 → since_line (λ s. s.bsy) p ≤ t2 → (bit_at x l == 1) ≡ true
+    → lowest_broken (seen_apart p l (change_to (calling_lines m false x) (calling_lines m true x) none answer_lines)
+    None (Some (awaiting_call false m c l t0 t1 t2)) false) (row_of_lines t l answer_lines) ≡ None
+answer_obeys p true c l x t0 t1 t2 t ne a b f g h i =
+    let e = eq_self l in
+    let o = ne_eqb l c (λ z. ne (sym z)) in
     grind (arith, nat_tests)
-answer_obeys p false c k x t0 t1 t2 t ne a b f g h i =
-    let e = eq_self k in
-    let o = ne_eqb k c (λ z. ne (sym z)) in
+answer_obeys p false c l x t0 t1 t2 t ne a b f g h i =
+    let e = eq_self l in
+    let o = ne_eqb l c (λ z. ne (sym z)) in
     grind (arith, nat_tests)
 
 -- ---- a fault strikes the IDs; the caller withdraws, and releases all
 
-pub struck_obeys : (p : List Row) (m : Bool) (c k x bit t0 t1 t2 t : ℕ) → c ≢ k → last_time p ≤ t
-    → since_line (λ s. s.bsy) p + BUS_SETTLE_DELAY ≤ t → (bit_at x k == 1) ≡ true
-    → lowest_broken (seen_apart p k (change_to (calling_lines m false x) (calling_lines m false x) none none) None
-    (Some (awaiting_call false m c k t0 t1 t2)) false) (row_of_fault t k bit) ≡ None
-struck_obeys p true c k x bit t0 t1 t2 t ne a b i =
-    let e = eq_self k in
-    let o = ne_eqb k c (λ z. ne (sym z)) in
+pub struck_obeys : (p : List Row) (m : Bool) (c l x bit t0 t1 t2 t : ℕ) → c ≢ l → last_time p ≤ t
+    → since_line (λ s. s.bsy) p + BUS_SETTLE_DELAY ≤ t → (bit_at x l == 1) ≡ true
+    → lowest_broken (seen_apart p l (change_to (calling_lines m false x) (calling_lines m false x) none none) None
+    (Some (awaiting_call false m c l t0 t1 t2)) false) (row_of_fault t l bit) ≡ None
+struck_obeys p true c l x bit t0 t1 t2 t ne a b i =
+    let e = eq_self l in
+    let o = ne_eqb l c (λ z. ne (sym z)) in
     grind (arith, nat_tests)
-struck_obeys p false c k x bit t0 t1 t2 t ne a b i =
-    let e = eq_self k in
-    let o = ne_eqb k c (λ z. ne (sym z)) in
+struck_obeys p false c l x bit t0 t1 t2 t ne a b i =
+    let e = eq_self l in
+    let o = ne_eqb l c (λ z. ne (sym z)) in
     grind (arith, nat_tests)
 
-pub withdrawal_obeys : (p : List Row) (v m : Bool) (c k x t0 t1 t2 t : ℕ) → c ≢ k
+pub withdrawal_obeys : (p : List Row) (v m : Bool) (c i x t0 t1 t2 t : ℕ) → c ≢ i
     → (x == 0) ≡ false → last_time p ≤ t → t2 + 250000000 ≤ t → lowest_broken (seen_apart p c
     (change_to (calling_lines m false x) (calling_lines m false 0) (calling_lines m false x) (calling_lines m false 0))
-    None (Some (awaiting_call v m c k t0 t1 t2)) false) (row_of_lines t c (calling_lines m false 0)) ≡ None
-withdrawal_obeys p v true c k x t0 t1 t2 t ne z a b =
+    None (Some (awaiting_call v m c i t0 t1 t2)) false) (row_of_lines t c (calling_lines m false 0)) ≡ None
+withdrawal_obeys p v true c i x t0 t1 t2 t ne z a b =
     let e = eq_self c in
-    let n = ne_eqb c k ne in
+    let n = ne_eqb c i ne in
     let u = or_zero_r x in
     let w = eq_self x in
     grind (arith, nat_tests)
-withdrawal_obeys p v false c k x t0 t1 t2 t ne z a b =
+withdrawal_obeys p v false c i x t0 t1 t2 t ne z a b =
     let e = eq_self c in
-    let n = ne_eqb c k ne in
+    let n = ne_eqb c i ne in
     let u = or_zero_r x in
     let w = eq_self x in
     grind (arith, nat_tests)
 
-pub give_up_obeys : (p : List Row) (v m : Bool) (c k t0 t1 t2 t3 t : ℕ) → c ≢ k → last_time p ≤ t → t3 + 200090 ≤ t
+pub give_up_obeys : (p : List Row) (v m : Bool) (c i t0 t1 t2 t3 t : ℕ) → c ≢ i → last_time p ≤ t → t3 + 200090 ≤ t
     → lowest_broken (seen_apart p c (change_to (calling_lines m false 0) none (calling_lines m false 0) none) None
-    (Some (withdrawn_call v m c k t0 t1 t2 t3)) false) (row_of_lines t c none) ≡ None
-give_up_obeys p v true c k t0 t1 t2 t3 t ne a b = let e = eq_self c in let n = ne_eqb c k ne in grind (arith, nat_tests)
-give_up_obeys p v false c k t0 t1 t2 t3 t ne a b =
+    (Some (withdrawn_call v m c i t0 t1 t2 t3)) false) (row_of_lines t c none) ≡ None
+give_up_obeys p v true c i t0 t1 t2 t3 t ne a b = let e = eq_self c in let n = ne_eqb c i ne in grind (arith, nat_tests)
+give_up_obeys p v false c i t0 t1 t2 t3 t ne a b =
     let e = eq_self c in
-    let n = ne_eqb c k ne in
+    let n = ne_eqb c i ne in
     grind (arith, nat_tests)
 
 -- ---- after the answer
@@ -219,23 +219,23 @@ give_up_obeys p v false c k t0 t1 t2 t3 t ne a b =
 abbrev pub selected : LineSet
 selected = record none { bsy = true; atn = true }
 
-pub selection_end_obeys : (p : List Row) (c k x t0 t1 t2 t3 t : ℕ) (o : Bool) → c ≢ k → last_time p ≤ t → t3 + 90 ≤ t
+pub selection_end_obeys : (p : List Row) (c m x t0 t1 t2 t3 t : ℕ) (o : Bool) → c ≢ m → last_time p ≤ t → t3 + 90 ≤ t
     → lowest_broken (seen_apart p c
     (change_to (calling_lines true true x) selected (calling_lines true false x) (record none { atn = true })) None
-    (Some (call_with c t0 (answered_calling true k t1 t2 t3))) o) (row_of_lines t c (record none { atn = true })) ≡ None
-selection_end_obeys p c k x t0 t1 t2 t3 t o ne a b =
+    (Some (call_with c t0 (answered_calling true m t1 t2 t3))) o) (row_of_lines t c (record none { atn = true })) ≡ None
+selection_end_obeys p c m x t0 t1 t2 t3 t o ne a b =
     let e = eq_self c in
-    let n = ne_eqb c k ne in
+    let n = ne_eqb c m ne in
     grind (arith, nat_tests)
 
 -- in a reselection the target drives BSY on the answer
-pub takeover_obeys : (p : List Row) (c k x t0 t1 t2 t3 t : ℕ) (o : Bool) → c ≢ k → last_time p ≤ t → lowest_broken
+pub takeover_obeys : (p : List Row) (c m x t0 t1 t2 t3 t : ℕ) (o : Bool) → c ≢ m → last_time p ≤ t → lowest_broken
     (seen_apart p c (change_to (calling_lines false true x) (calling_lines false true x) (calling_lines false false x)
-    (calling_lines false true x)) None (Some (call_with c t0 (answered_calling false k t1 t2 t3))) o)
+    (calling_lines false true x)) None (Some (call_with c t0 (answered_calling false m t1 t2 t3))) o)
     (row_of_lines t c (calling_lines false true x)) ≡ None
-takeover_obeys p c k x t0 t1 t2 t3 t o ne a =
+takeover_obeys p c m x t0 t1 t2 t3 t o ne a =
     let e = eq_self c in
-    let n = ne_eqb c k ne in
+    let n = ne_eqb c m ne in
     let u = or_self x in
     let w = eq_self x in
     grind (arith, nat_tests)
@@ -244,11 +244,11 @@ takeover_obeys p c k x t0 t1 t2 t3 t o ne a =
 abbrev pub reselected_lines : ℕ → LineSet
 reselected_lines y = record none { data_bits = y; bsy = true; msg = true; cd = true; io = true }
 
-pub reselection_end_obeys : (p : List Row) (c k x y t0 t1 t2 t3 t4 t : ℕ) (o : Bool)
-    → c ≢ k → last_time p ≤ t → t4 + 90 ≤ t → lowest_broken (seen_apart p c
+pub reselection_end_obeys : (p : List Row) (c m x y t0 t1 t2 t3 t4 t : ℕ) (o : Bool)
+    → c ≢ m → last_time p ≤ t → t4 + 90 ≤ t → lowest_broken (seen_apart p c
     (change_to (calling_lines false true x) (reselected_lines y) (calling_lines false true x) (reselected_lines y)) None
-    (Some (call_with c t0 (resumed_calling k t1 t2 t3 t4))) o) (row_of_lines t c (reselected_lines y)) ≡ None
-reselection_end_obeys p c k x y t0 t1 t2 t3 t4 t o ne a b =
+    (Some (call_with c t0 (resumed_calling m t1 t2 t3 t4))) o) (row_of_lines t c (reselected_lines y)) ≡ None
+reselection_end_obeys p c m x y t0 t1 t2 t3 t4 t o ne a b =
     let e = eq_self c in
-    let n = ne_eqb c k ne in
+    let n = ne_eqb c m ne in
     grind (arith, nat_tests)

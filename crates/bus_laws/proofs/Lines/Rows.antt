@@ -38,11 +38,11 @@ pub change_is : (p : List Row) (t d : ℕ) (l l' b b' o : LineSet) → l ≡ l' 
     → bus (row_of_lines t d l ∷ p) ≡ b' → drives p d ≡ o → change_of p (row_of_lines t d l) ≡ change_to b b' o l'
 change_is p t d l l' b b' o el eb ea eo = λ i. change_to (eb i) (ea i) (eo i) (el i)
 
-pub stands_by : (p : List Row) (row : Row) (k : Change) (b : LineSet) (a : Option Arbitration)
-    (c : Option Call) (n : Option Connection) → Stands p b a c n → change_of p row ≡ k
-    → Stands (row ∷ p) k.after (arbitration_after a (free_since p) k row) (call_after c k row)
-    (connection_after n c k row)
-stands_by p row k b a c n h e = record {
+pub stands_by : (p : List Row) (row : Row) (y : Change) (b : LineSet) (a : Option Arbitration)
+    (c : Option Call) (o : Option Connection) → Stands p b a c o → change_of p row ≡ y
+    → Stands (row ∷ p) y.after (arbitration_after a (free_since p) y row) (call_after c y row)
+    (connection_after o c y row)
+stands_by p row y b a c o h e = record {
   bus_is = ap (λ (x : Change). x.after) e;
   arbitration_is = λ i. arbitration_after (h.arbitration_is i) (free_since p) (e i) row;
   call_is = λ i. call_after (h.call_is i) (e i) row;
@@ -63,8 +63,8 @@ own_time_fault p t d bit e = go (d == e)
     go true = refl
     go false = refl
 
-pub own_time_le : (p : List Row) (t d : ℕ) (k : Kind) (e : ℕ) → own_time p e ≤ t
-    → own_time (record { time = t; dev = d; kind = k } ∷ p) e ≤ t
+pub own_time_le : (p : List Row) (t d : ℕ) (y : Kind) (e : ℕ) → own_time p e ≤ t
+    → own_time (record { time = t; dev = d; kind = y } ∷ p) e ≤ t
 own_time_le p t d (Drives l) e h =
     elim (cases_eq e d) [
       | inl same ↦
@@ -75,12 +75,12 @@ own_time_le p t d (Drives l) e h =
 own_time_le p t d (Fault bit) e h = let w = own_time_fault p t d bit e in omega arith
 
 pub stands_after :
-    (p : List Row) (t d : ℕ) (l l' b b' o : LineSet) (a : Option Arbitration) (c : Option Call) (n : Option Connection)
-    → Stands p b a c n → l ≡ l' → bus (row_of_lines t d l ∷ p) ≡ b' → drives p d ≡ o
+    (p : List Row) (t d : ℕ) (l l' b b' o : LineSet) (a : Option Arbitration) (c : Option Call) (x : Option Connection)
+    → Stands p b a c x → l ≡ l' → bus (row_of_lines t d l ∷ p) ≡ b' → drives p d ≡ o
     → Stands (row_of_lines t d l ∷ p) b' (arbitration_after a (free_since p) (change_to b b' o l') (row_of_lines t d l))
     (call_after c (change_to b b' o l') (row_of_lines t d l))
-    (connection_after n c (change_to b b' o l') (row_of_lines t d l))
-stands_after p t d l l' b b' o a c n h el ea eo =
+    (connection_after x c (change_to b b' o l') (row_of_lines t d l))
+stands_after p t d l l' b b' o a c x h el ea eo =
     let e = change_is p t d l l' b b' o el h.bus_is ea eo in
     record {
       bus_is = ea;
@@ -90,9 +90,9 @@ stands_after p t d l l' b b' o a c n h el ea eo =
     }
 
 -- The stage of the bus.
-pub stage_is : (p : List Row) (b : LineSet) (a : Option Arbitration) (c : Option Call) (n : Option Connection)
-    → Stands p b a c n → stage p ≡ stage_by b.rst (since_line (λ x. x.rst) p) n c a (free_since p)
-stage_is p b a c n h = λ i. stage_by (h.bus_is i).rst (since_line (λ x. x.rst) p) (h.connection_is i) (h.call_is i)
+pub stage_is : (p : List Row) (b : LineSet) (a : Option Arbitration) (c : Option Call) (o : Option Connection)
+    → Stands p b a c o → stage p ≡ stage_by b.rst (since_line (λ x. x.rst) p) o c a (free_since p)
+stage_is p b a c o h = λ i. stage_by (h.bus_is i).rst (since_line (λ x. x.rst) p) (h.connection_is i) (h.call_is i)
     (h.arbitration_is i) (free_since p)
 
 -- Since when a line stands.

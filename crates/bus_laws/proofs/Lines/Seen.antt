@@ -25,20 +25,20 @@ pulses_none [] e = refl
 pulses_none (row ∷ rows) e = λ i. pulses_after (pulses rows) (e i) (change_of rows row) row.time
 
 abbrev pub seen_apart : List Row → ℕ → Change → Option Arbitration → Option Call → Bool → Seen
-seen_apart p dev c a k others = record {
+seen_apart p dev c a o others = record {
   change = c;
   last = last_time p;
   times = line_times p;
-  id_since = id_since p k;
+  id_since = id_since p o;
   bsy_raised = raised (λ s. s.bsy) p dev;
   rst_raised = raised (λ s. s.rst) p dev;
   others_drive = others;
-  initiator_bsy = drives_bsy (drives p) (initiator_of k None);
+  initiator_bsy = drives_bsy (drives p) (initiator_of o None);
   initiator_data = false;
   target_data = false;
   receiver = receiver p;
   arbitration = a;
-  call = k;
+  call = o;
   connection = None;
   data_since = since data_of p;
   pulses = pulses p;
@@ -53,11 +53,11 @@ seen_apart p dev c a k others = record {
 }
 
 pub seen_by :
-    (p : List Row) (row : Row) (g : Change) (b : LineSet) (a : Option Arbitration) (k : Option Call) (others : Bool)
-    → Stands p b a k None → change_of p row ≡ g → others_in_call (drives p) k ≡ others
-    → seen p row ≡ seen_apart p row.dev g a k others
+    (p : List Row) (row : Row) (g : Change) (b : LineSet) (a : Option Arbitration) (o : Option Call) (others : Bool)
+    → Stands p b a o None → change_of p row ≡ g → others_in_call (drives p) o ≡ others
+    → seen p row ≡ seen_apart p row.dev g a o others
 unfolding seen_with
-seen_by p row g b a k others h c eq =
+seen_by p row g b a o others h c eq =
     let q : others_in_call (drives p) (call p) ≡ others = (λ i. others_in_call (drives p) (h.call_is i)) ∙ eq in
     let di = dialogue_none p h.connection_is in
     λ i. record {
@@ -88,18 +88,18 @@ seen_by p row g b a k others h c eq =
     }
 
 pub obeys_by :
-    (p : List Row) (row : Row) (g : Change) (b : LineSet) (a : Option Arbitration) (k : Option Call) (others : Bool)
-    → Stands p b a k None → change_of p row ≡ g → others_in_call (drives p) k ≡ others
-    → lowest_broken (seen_apart p row.dev g a k others) row ≡ None → broken_rule p row ≡ None
-obeys_by p row g b a k others h e eq z =
-    ap (λ (v : Seen). lowest_broken v row) (seen_by p row g b a k others h e eq) ∙ z
+    (p : List Row) (row : Row) (g : Change) (b : LineSet) (a : Option Arbitration) (o : Option Call) (others : Bool)
+    → Stands p b a o None → change_of p row ≡ g → others_in_call (drives p) o ≡ others
+    → lowest_broken (seen_apart p row.dev g a o others) row ≡ None → broken_rule p row ≡ None
+obeys_by p row g b a o others h e eq z =
+    ap (λ (v : Seen). lowest_broken v row) (seen_by p row g b a o others h e eq) ∙ z
 
 pub obeys_apart :
-    (p : List Row) (t d : ℕ) (l b b' o l' : LineSet) (a : Option Arbitration) (k : Option Call) (others : Bool)
-    → Stands p b a k None → l ≡ l' → bus (row_of_lines t d l ∷ p) ≡ b'
-    → drives p d ≡ o → others_in_call (drives p) k ≡ others
-    → lowest_broken (seen_apart p d (change_to b b' o l') a k others) (row_of_lines t d l') ≡ None
+    (p : List Row) (t d : ℕ) (l b b' o l' : LineSet) (a : Option Arbitration) (x : Option Call) (others : Bool)
+    → Stands p b a x None → l ≡ l' → bus (row_of_lines t d l ∷ p) ≡ b'
+    → drives p d ≡ o → others_in_call (drives p) x ≡ others
+    → lowest_broken (seen_apart p d (change_to b b' o l') a x others) (row_of_lines t d l') ≡ None
     → broken_rule p (row_of_lines t d l) ≡ None
-obeys_apart p t d l b b' o l' a k others h el ea eo eq z = obeys_by p (row_of_lines t d l)
-    (change_to b b' o l') b a k others h (change_is p t d l l' b b' o el h.bus_is ea eo) eq
-    ((λ i. lowest_broken (seen_apart p d (change_to b b' o l') a k others) (row_of_lines t d (el i))) ∙ z)
+obeys_apart p t d l b b' o l' a x others h el ea eo eq z = obeys_by p (row_of_lines t d l)
+    (change_to b b' o l') b a x others h (change_is p t d l l' b b' o el h.bus_is ea eo) eq
+    ((λ i. lowest_broken (seen_apart p d (change_to b b' o l') a x others) (row_of_lines t d (el i))) ∙ z)

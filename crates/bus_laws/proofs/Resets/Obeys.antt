@@ -7,15 +7,15 @@ use proofs.Names.{BUS_CLEAR_DELAY, none_broken, is_in_order, is_news, is_reset, 
 use proofs.Names.{is_quiet_in_reset, holds_reset, keeps_reset, test, stands_in_reset, keeps, judged_rules}
 use proofs.Names.{lowest_broken, broken_rule, seen, seen_with, Seen, change_to, row_of_lines}
 
-other_rule : (n : ℕ) (v : Seen) (row : Row) → stands_in_reset n ≡ false → is_reset v ≡ true → keeps n v row ≡ true
-other_rule n v row a b = λ i. if not (a i) && b i then true else test n v row
+other_rule : (m : ℕ) (v : Seen) (row : Row) → stands_in_reset m ≡ false → is_reset v ≡ true → keeps m v row ≡ true
+other_rule m v row a b = λ i. if not (a i) && b i then true else test m v row
 
 -- While RST is true, or rises, three rules are judged.
 three_rules : (v : Seen) (row : Row) → is_reset v ≡ true → is_in_order v row.time ≡ true → is_news v row ≡ true
     → keeps_reset v row ≡ true → lowest_broken v row ≡ None
 three_rules v row r a b c =
-    let o : (n : ℕ) → stands_in_reset n ≡ false → keeps n v row ≡ true = λ n e. other_rule n v row e r in
-    none_broken (λ n. keeps n v row) judged_rules (
+    let o : (m : ℕ) → stands_in_reset m ≡ false → keeps m v row ≡ true = λ m e. other_rule m v row e r in
+    none_broken (λ m. keeps m v row) judged_rules (
       a,
       (
         b,
@@ -99,17 +99,17 @@ pub reset_row_obeys : (p : List Row) (t d : ℕ) (l b b' o : LineSet)
     → change_of p (row_of_lines t d l) ≡ change_to b b' o l → KeepsReset p t d b b' o l
     → broken_rule p (row_of_lines t d l) ≡ None
 unfolding seen_with
-reset_row_obeys p t d l b b' o e k =
+reset_row_obeys p t d l b b' o e h =
     let row : Row = row_of_lines t d l in
     let v : Seen = seen p row in
-    three_rules v row (ap (λ (c : Change). c.before.rst || c.after.rst) e ∙ k.reset)
-    (le-leb (last_time p) t k.order) (ap (λ (c : Change). not (same_set c.own c.next)) e ∙ ap not k.news)
+    three_rules v row (ap (λ (c : Change). c.before.rst || c.after.rst) e ∙ h.reset)
+    (le-leb (last_time p) t h.order) (ap (λ (c : Change). not (same_set c.own c.next)) e ∙ ap not h.news)
     (all_three (raises_rst_alone v) (is_quiet_in_reset v t) (holds_reset v row)
     (ap (λ (c : Change). implies (c.before.rst || rises c.own.rst c.next.rst) (is_within c.next (union only_rst c.own)))
-    e ∙ k.alone) (ap (λ (c : Change). implies c.before.rst
-    (nat_le t ((line_times p).rst + BUS_CLEAR_DELAY) || is_within c.before only_rst)) e ∙ k.quiet)
+    e ∙ h.alone) (ap (λ (c : Change). implies c.before.rst
+    (nat_le t ((line_times p).rst + BUS_CLEAR_DELAY) || is_within c.before only_rst)) e ∙ h.quiet)
     (ap (λ (c : Change). implies (falls c.own.rst c.next.rst) (nat_le (raised (λ s. s.rst) p d + 25000) t)) e
-    ∙ k.holds))
+    ∙ h.holds))
 
 -- ---- what rises and what does not
 

@@ -91,7 +91,7 @@ resets_ahead s p row h m d lt off x r =
           (sym (resets_of_own s p (row ∷ p) d (ap (λ (o : Own). o.released) (own_other p row d ne))) ∙ r)
     ]
   where
-    by_kind : (k : Kind) → row.kind ≡ k → d ≡ row.dev → row.time ≤ x.time
+    by_kind : (v : Kind) → row.kind ≡ v → d ≡ row.dev → row.time ≤ x.time
     by_kind (Fault bit) e same =
         let f : row ≡ row_of_fault row.time row.dev bit = λ i. record { time = row.time; dev = row.dev; kind = e i } in
         let o : own_of (row ∷ p) d ≡ own_of p d = ap (λ (w : Row). own_of (w ∷ p) d) f
@@ -100,26 +100,26 @@ resets_ahead s p row h m d lt off x r =
         (sym (resets_of_own s p (row ∷ p) d (ap (λ (y : Own). y.released) o)) ∙ r)
     by_kind (Drives l) e same =
         let f : row ≡ row_of_lines row.time row.dev l = λ i. record { time = row.time; dev = row.dev; kind = e i } in
-        let n : l.rst ≡ false = ap (λ (y : LineSet). y.rst) (sym (drives_own p row.time row.dev l))
+        let g : l.rst ≡ false = ap (λ (y : LineSet). y.rst) (sym (drives_own p row.time row.dev l))
         ∙ (λ i. (drives (sym f i ∷ p) (sym same i)).rst) ∙ off in
         let rel : (own_of (row ∷ p) d).released
         ≡ when (falls (drives p row.dev).rst l.rst) row.time (own_of p row.dev).released =
         (λ i. (own_of (f i ∷ p) (same i)).released) ∙ released_own p row.time row.dev l in
-        go (drives p row.dev).rst refl l n rel
+        go (drives p row.dev).rst refl l g rel
       where
         go : (q : Bool) → (drives p row.dev).rst ≡ q → (l : LineSet) → l.rst ≡ false → (own_of (row ∷ p) d).released
             ≡ when (falls (drives p row.dev).rst l.rst) row.time (own_of p row.dev).released
             → row.time ≤ x.time
-        go true a l n rel =
+        go true a l g rel =
             let z : (own_of (row ∷ p) d).released ≡ Some row.time = rel
-            ∙ (λ i. when (falls (a i) (n i)) row.time (own_of p row.dev).released) in
+            ∙ (λ i. when (falls (a i) (g i)) row.time (own_of p row.dev).released) in
             let w = own_reset_is s (row ∷ p) d x r in
             let u = reset_after d row.time s.resets x.time
             (ap (λ (y : Option ℕ). reset_from d y s.resets) (sym z) ∙ w.time_is) in
             omega arith
-        go false a l n rel =
+        go false a l g rel =
             let z : (own_of (row ∷ p) d).released ≡ (own_of p d).released = rel
-            ∙ (λ i. when (falls (a i) (n i)) row.time (own_of p row.dev).released)
+            ∙ (λ i. when (falls (a i) (g i)) row.time (own_of p row.dev).released)
             ∙ ap (λ (y : ℕ). (own_of p y).released) (sym same) in
             reset_no_sooner s p row d x h lt m (ap (λ (y : ℕ). (drives p y).rst) same ∙ a)
             (sym (resets_of_own s p (row ∷ p) d z) ∙ r)

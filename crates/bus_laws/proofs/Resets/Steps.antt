@@ -79,24 +79,24 @@ union_rst : (x y : LineSet) → x ≡ record none { rst = x.rst } → y ≡ reco
     → union x y ≡ record none { rst = (union x y).rst }
 union_rst x y a b = (λ i. union (a i) (b i))
 
-below_rst : (f : ℕ → LineSet) (n : ℕ) → ((d : ℕ) → d < n → f d ≡ record none { rst = (f d).rst })
-    → union_below f n ≡ record none { rst = (union_below f n).rst }
+below_rst : (f : ℕ → LineSet) (m : ℕ) → ((d : ℕ) → d < m → f d ≡ record none { rst = (f d).rst })
+    → union_below f m ≡ record none { rst = (union_below f m).rst }
 unfolding union_below
 below_rst f zero h = refl
-below_rst f (suc n) h =
-    union_rst (union_below f n) (f n) (below_rst f n (λ d lt. h d (omega arith))) (h n (omega arith))
+below_rst f (suc m) h =
+    union_rst (union_below f m) (f m) (below_rst f m (λ d lt. h d (omega arith))) (h m (omega arith))
 
-all_or : (p : List Row) (t : ℕ) (n : ℕ)
-    → ((d : ℕ) → d < n → ((drives p d ≡ none) ⊎ (drives p d ≡ only_rst)) ⊎ (t ≤ (line_times p).rst + 100))
-    → ((d : ℕ) → d < n → (drives p d ≡ none) ⊎ (drives p d ≡ only_rst)) ⊎ (t ≤ (line_times p).rst + 100)
+all_or : (p : List Row) (t : ℕ) (m : ℕ)
+    → ((d : ℕ) → d < m → ((drives p d ≡ none) ⊎ (drives p d ≡ only_rst)) ⊎ (t ≤ (line_times p).rst + 100))
+    → ((d : ℕ) → d < m → (drives p d ≡ none) ⊎ (drives p d ≡ only_rst)) ⊎ (t ≤ (line_times p).rst + 100)
 all_or p t zero f = inl (λ d lt. absurd (omega arith))
-all_or p t (suc n) f =
-    elim (all_or p t n (λ d lt. f d (omega arith))) [
+all_or p t (suc m) f =
+    elim (all_or p t m (λ d lt. f d (omega arith))) [
       | inr l ↦ inr l
-      | inl g ↦ elim (f n (omega arith)) [
+      | inl g ↦ elim (f m (omega arith)) [
         | inr l ↦ inr l
-        | inl h ↦ inl (λ d lt. elim (cases_eq d n) [
-          | inl same ↦ subst (λ (k : ℕ). (drives p k ≡ none) ⊎ (drives p k ≡ only_rst)) (sym same) h
+        | inl h ↦ inl (λ d lt. elim (cases_eq d m) [
+          | inl same ↦ subst (λ (i : ℕ). (drives p i ≡ none) ⊎ (drives p i ≡ only_rst)) (sym same) h
           | inr ne ↦ g d (omega arith)
         ])
       ]
@@ -179,7 +179,7 @@ stays s p t d l st rs m on mine obeys =
       obeys = obeys;
       ahead = λ _. ahead_in_reset s p row st.devices m.inside m
           (λ x e le on_e r. elim (cases_eq e d) [
-            | inl same ↦ mine.held x (ap (λ (k : ℕ). (drives q k).rst) (sym same) ∙ on_e) (ap (due s q) (sym same) ∙ r)
+            | inl same ↦ mine.held x (ap (λ (u : ℕ). (drives q u).rst) (sym same) ∙ on_e) (ap (due s q) (sym same) ∙ r)
             | inr ne ↦
                 let h = due_there s q e x r in
                 let was : (drives p e).rst ≡ true = ap (λ (y : LineSet). y.rst) (sym (drives_other p t d l e ne))
@@ -192,8 +192,8 @@ stays s p t d l st rs m on mine obeys =
           ])
           on
           (λ e lat le there x off c. elim (cases_eq e d) [
-            | inl same ↦ mine.cleared lat x (ap (λ (k : ℕ). (drives q k).rst) (sym same) ∙ off)
-                (ap (λ (k : ℕ). bus_clear (device_with k lat (drives q k) (own_time q k)) (line_times q).rst) (sym same)
+            | inl same ↦ mine.cleared lat x (ap (λ (u : ℕ). (drives q u).rst) (sym same) ∙ off)
+                (ap (λ (u : ℕ). bus_clear (device_with u lat (drives q u) (own_time q u)) (line_times q).rst) (sym same)
                 ∙ c)
             | inr ne ↦
                 let was : (drives p e).rst ≡ false = ap (λ (y : LineSet). y.rst) (sym (drives_other p t d l e ne))
@@ -210,7 +210,7 @@ stays s p t d l st rs m on mine obeys =
       here = in_reset (record {
         reset = on;
         each = λ e le. elim (cases_eq e d) [
-          | inl same ↦ subst (λ (k : ℕ). IsUnderRst q k) (sym same) mine.stands
+          | inl same ↦ subst (λ (u : ℕ). IsUnderRst q u) (sym same) mine.stands
           | inr ne ↦ goes_on p t d l e ne since (rs.each e le)
         ];
         link = link_in_reset s p row (change_to (bus p) (bus q) (drives p d) l) st.devices m.inside change on;
@@ -321,7 +321,7 @@ raises s p t d st calm m =
           (λ i. implies (calm i) (nat_le t ((line_times p).rst + BUS_CLEAR_DELAY) || is_within (bus p) only_rst));
       ahead = λ _. ahead_in_reset s p row st.devices m.inside m
           (λ x e le on_e r. elim (cases_eq e d) [
-            | inl same ↦ mine.held x (ap (λ (k : ℕ). (drives q k).rst) (sym same) ∙ on_e) (ap (due s q) (sym same) ∙ r)
+            | inl same ↦ mine.held x (ap (λ (l : ℕ). (drives q l).rst) (sym same) ∙ on_e) (ap (due s q) (sym same) ∙ r)
             | inr ne ↦ let w = sym on_e ∙ other_off e le ne in absurd cc
           ])
           on
@@ -331,7 +331,7 @@ raises s p t d st calm m =
       here = in_reset (record {
         reset = on;
         each = λ e le. elim (cases_eq e d) [
-          | inl same ↦ subst (λ (k : ℕ). IsUnderRst q k) (sym same) mine.stands
+          | inl same ↦ subst (λ (l : ℕ). IsUnderRst q l) (sym same) mine.stands
           | inr ne ↦ lingers (other_off e le ne)
         ];
         link = link_in_reset s p row (change_to (bus p) (bus q) (drives p d) only_rst) st.devices m.inside change on;
@@ -373,7 +373,7 @@ stays_true p t d rst lt off = go (bus q).rst refl
     all_off : (bus q).rst ≡ false → (e : ℕ) → e < 8 → (drives p e).rst ≡ false
     all_off h e le =
         elim (cases_eq e d) [
-          | inl same ↦ ap (λ (k : ℕ). (drives p k).rst) same ∙ off
+          | inl same ↦ ap (λ (m : ℕ). (drives p m).rst) same ∙ off
           | inr ne ↦ ap (λ (y : LineSet). y.rst) (sym (drives_other p t d none e ne)) ∙ off_at q h e le
         ]
 
@@ -424,8 +424,8 @@ empty_arbitration : (a : Option Arbitration) (f t d : ℕ)
 empty_arbitration None f t d = refl
 empty_arbitration (Some a) f t d = refl
 
-empty_connection : (n : Option Connection) (c : Option Call) (t d : ℕ)
-    → connection_after n c (change_to only_rst none only_rst none) (row_of_lines t d none) ≡ None
+empty_connection : (o : Option Connection) (c : Option Call) (t d : ℕ)
+    → connection_after o c (change_to only_rst none only_rst none) (row_of_lines t d none) ≡ None
 empty_connection None c t d = refl
 empty_connection (Some n) c t d = refl
 

@@ -28,12 +28,12 @@ none_asks d e = let w : false ≡ true = ap (λ (y : LineSet). y.bsy) e in cc
 -- a contender stays one through the row of another
 stays : (s : ScenarioValue) (p : List Row) (a : Arbitration) (t d : ℕ) (l : LineSet) (e : ℕ) → e ≢ d
     → IsContender s p a e → IsContender s (row_of_lines t d l ∷ p) a e
-stays s p a t d l e ne k = record {
-  drive = drives_other p t d l e ne ∙ k.drive;
-  lat = k.lat;
-  there = k.there;
-  entered = let w = own_time_other p t d l e ne in let v = k.entered in omega arith;
-  raised_at = raised_other (λ x. x.bsy) p t d l e ne ∙ k.raised_at ∙ sym (own_time_other p t d l e ne);
+stays s p a t d l e ne h = record {
+  drive = drives_other p t d l e ne ∙ h.drive;
+  lat = h.lat;
+  there = h.there;
+  entered = let w = own_time_other p t d l e ne in let v = h.entered in omega arith;
+  raised_at = raised_other (λ x. x.bsy) p t d l e ne ∙ h.raised_at ∙ sym (own_time_other p t d l e ne);
 }
 
 enters : (s : ScenarioValue) (p : List Row) (a : Arbitration) (t d : ℕ) → CalmStanding s p → Arbitrating s p a
@@ -51,15 +51,15 @@ enters s p a t d always h o m after_free soon =
       drive = own;
       lat = th.0;
       there = th.1;
-      entered = let k = own_time_own p t d l in let w = h.early in omega arith;
+      entered = let z = own_time_own p t d l in let w = h.early in omega arith;
       raised_at = raised_own (λ y. y.bsy) p t d l ∙ (λ i. raised_next (o i).bsy true t (raised (λ y. y.bsy) p d))
           ∙ sym (own_time_own p t d l);
     } in
     let each : (e : ℕ) → e < 8 → (drives q e ≡ none) ⊎ IsContender s q a e = λ e lt. elim (cases_eq e d) [
-      | inl same ↦ inr (subst (λ (k : ℕ). IsContender s q a k) (sym same) asks)
+      | inl same ↦ inr (subst (λ (z : ℕ). IsContender s q a z) (sym same) asks)
       | inr ne ↦ elim (h.each e lt) [
         | inl n ↦ inl (drives_other p t d l e ne ∙ n)
-        | inr k ↦ inr (stays s p a t d l e ne k)
+        | inr z ↦ inr (stays s p a t d l e ne z)
       ]
     ] in
     let after : bus q ≡ arbitration_bus (bus q).data_bits = entries_is q d m.inside own
@@ -92,9 +92,9 @@ enters s p a t d always h o m after_free soon =
                 ∙ ap (later_entry_if (device_with e w.0 none (own_time p e)) a) (sym (books.wants e))
                 ∙ same_entry_in e w.0 (own_time p e) (own_time q e) a (want_time s (run_state s q) e)
                 ∙ sym (idle_due s q e w.0 a devices lt w.1 goes.connection_is here n) ∙ r)
-            | inr k ↦
-                let v = (win_due s q e w.0 a y devices lt w.1 goes.connection_is here k.drive r).time_is in
-                let u = k.entered in
+            | inr z ↦
+                let v = (win_due s q e w.0 a y devices lt w.1 goes.connection_is here z.drive r).time_is in
+                let u = z.entered in
                 omega arith
           ];
       here = in_arbitration a (record {

@@ -17,22 +17,22 @@ abbrev pub flip_at : ScenarioValue → List Row → ℕ → Option ℕ
 flip_at s p lat = flip_of (run_state s p).faults ((line_times p).bsy + BUS_SETTLE_DELAY + lat)
 
 -- the caller, by its calling; and another
-pub as_caller : (s : ScenarioValue) (p : List Row) (c lat : ℕ) (own : LineSet) (k : Call) → AreOfDevices p → c < 8
-    → latency_of s c ≡ Some lat → connection p ≡ None → k.caller ≡ c → stage p ≡ InCalling k → drives p c ≡ own
-    → unreset_due s p c ≡ caller_due (device_with c lat own (own_time p c)) (want_at s p c) k.calling
-as_caller s p c lat own k h lt there alone ek eg eo = due_in s p c lat own (InCalling k) h lt there alone eg eo
-    ∙ ap (λ (q : Bool). if q then caller_due (device_with c lat own (own_time p c)) (want_at s p c) k.calling else
-    called_due (line_times p).bsy (line_times p).sel (device_with c lat own (own_time p c)) (flip_at s p lat) k.calling)
+pub as_caller : (s : ScenarioValue) (p : List Row) (c lat : ℕ) (own : LineSet) (y : Call) → AreOfDevices p → c < 8
+    → latency_of s c ≡ Some lat → connection p ≡ None → y.caller ≡ c → stage p ≡ InCalling y → drives p c ≡ own
+    → unreset_due s p c ≡ caller_due (device_with c lat own (own_time p c)) (want_at s p c) y.calling
+as_caller s p c lat own y h lt there alone ek eg eo = due_in s p c lat own (InCalling y) h lt there alone eg eo
+    ∙ ap (λ (q : Bool). if q then caller_due (device_with c lat own (own_time p c)) (want_at s p c) y.calling else
+    called_due (line_times p).bsy (line_times p).sel (device_with c lat own (own_time p c)) (flip_at s p lat) y.calling)
     (ap (λ (x : ℕ). x == c) ek ∙ eq_self c)
 
-pub as_other : (s : ScenarioValue) (p : List Row) (e lat : ℕ) (own : LineSet) (k : Call) → AreOfDevices p → e < 8
-    → latency_of s e ≡ Some lat → connection p ≡ None → k.caller ≢ e → stage p ≡ InCalling k → drives p e ≡ own
+pub as_other : (s : ScenarioValue) (p : List Row) (e lat : ℕ) (own : LineSet) (c : Call) → AreOfDevices p → e < 8
+    → latency_of s e ≡ Some lat → connection p ≡ None → c.caller ≢ e → stage p ≡ InCalling c → drives p e ≡ own
     → unreset_due s p e ≡ called_due (line_times p).bsy (line_times p).sel (device_with e lat own (own_time p e))
-    (flip_at s p lat) k.calling
-as_other s p e lat own k h lt there alone ek eg eo = due_in s p e lat own (InCalling k) h lt there alone eg eo
-    ∙ ap (λ (q : Bool). if q then caller_due (device_with e lat own (own_time p e)) (want_at s p e) k.calling else
-    called_due (line_times p).bsy (line_times p).sel (device_with e lat own (own_time p e)) (flip_at s p lat) k.calling)
-    (ne_eqb k.caller e ek)
+    (flip_at s p lat) c.calling
+as_other s p e lat own c h lt there alone ek eg eo = due_in s p e lat own (InCalling c) h lt there alone eg eo
+    ∙ ap (λ (q : Bool). if q then caller_due (device_with e lat own (own_time p e)) (want_at s p e) c.calling else
+    called_due (line_times p).bsy (line_times p).sel (device_with e lat own (own_time p e)) (flip_at s p lat) c.calling)
+    (ne_eqb c.caller e ek)
 
 asks_some : (e : ℕ) → same_set (contender_lines e) none ≡ false
 asks_some e = grind (arith, nat_tests)
@@ -64,105 +64,105 @@ pub record IsCalling (s : ScenarioValue) (c lat since : ℕ) (other : Option ℕ
   pub time_is : x.time ≡ since + QUIET_TIME + lat
   pub kind_is : x.kind ≡ Drives (both_ids (is_initiator s.hosts c) c k)
 
-marked_is : (m : Bool) (c k : ℕ)
-    → with_calling_mark (not m) (record (ids_set c k) { bsy = true; sel = true }) ≡ both_ids m c k
-marked_is true c k = refl
-marked_is false c k = refl
+marked_is : (m : Bool) (c i : ℕ)
+    → with_calling_mark (not m) (record (ids_set c i) { bsy = true; sel = true }) ≡ both_ids m c i
+marked_is true c i = refl
+marked_is false c i = refl
 
-calls_well : (k c : ℕ) → (nat_lt k 8 && not (k == c)) ≡ true → (k < 8) × (c ≢ k)
-calls_well k c e = (grind (arith, nat_tests), λ (w : c ≡ k). other w)
+calls_well : (m c : ℕ) → (nat_lt m 8 && not (m == c)) ≡ true → (m < 8) × (c ≢ m)
+calls_well m c e = (grind (arith, nat_tests), λ (w : c ≡ m). other w)
   where
-    other : c ≡ k → ⊥
-    other w = let v : (c == k) ≡ true = ap (λ (x : ℕ). c == x) (sym w) ∙ eq_self c in grind (arith, nat_tests)
+    other : c ≡ m → ⊥
+    other w = let v : (c == m) ≡ true = ap (λ (x : ℕ). c == x) (sym w) ∙ eq_self c in grind (arith, nat_tests)
 
 pub is_calling : (s : ScenarioValue) (c lat : ℕ) (own : LineSet) (since : ℕ) (other : Option ℕ) (x : Due)
     → calling_start (not (is_initiator s.hosts c)) (device_with c lat own since) other ≡ Some x
     → IsCalling s c lat since other x
 is_calling s c lat own since None x e = absurd cc
-is_calling s c lat own since (Some k) x e =
+is_calling s c lat own since (Some m) x e =
     let lines : LineSet = with_calling_mark (not (is_initiator s.hosts c))
-    (record (ids_set c k) { bsy = true; sel = true }) in
-    let w = where_is (nat_lt k 8 && not (k == c)) (due_at (since + QUIET_TIME + lat) lines) x e in
+    (record (ids_set c m) { bsy = true; sel = true }) in
+    let w = where_is (nat_lt m 8 && not (m == c)) (due_at (since + QUIET_TIME + lat) lines) x e in
     let v = is_at (since + QUIET_TIME + lat) lines x w.1 in
-    let g = calls_well k c w.0 in
+    let g = calls_well m c w.0 in
     record {
-      k = k;
+      k = m;
       names = refl;
       below = g.0;
       apart = g.1;
       time_is = v.time_is;
-      kind_is = v.kind_is ∙ ap (λ (y : LineSet). Drives y) (marked_is (is_initiator s.hosts c) c k);
+      kind_is = v.kind_is ∙ ap (λ (y : LineSet). Drives y) (marked_is (is_initiator s.hosts c) c m);
     }
 
 -- ---- once both IDs stand
 
 -- the caller releases BSY; no other device does anything before that
-pub asks_due : (s : ScenarioValue) (p : List Row) (m : Bool) (c k t0 t lat : ℕ) (own : LineSet) → AreOfDevices p → c < 8
-    → latency_of s c ≡ Some lat → connection p ≡ None → stage p ≡ InCalling (begun_call m c k t0 t) → drives p c ≡ own
+pub asks_due : (s : ScenarioValue) (p : List Row) (m : Bool) (c i t0 t lat : ℕ) (own : LineSet) → AreOfDevices p → c < 8
+    → latency_of s c ≡ Some lat → connection p ≡ None → stage p ≡ InCalling (begun_call m c i t0 t) → drives p c ≡ own
     → unreset_due s p c ≡ due_at (own_time p c + 90 + lat) (record own { bsy = false })
-asks_due s p m c k t0 t lat own h lt there alone eg eo =
-    as_caller s p c lat own (begun_call m c k t0 t) h lt there alone refl eg eo
+asks_due s p m c i t0 t lat own h lt there alone eg eo =
+    as_caller s p c lat own (begun_call m c i t0 t) h lt there alone refl eg eo
 
-pub before_due : (s : ScenarioValue) (p : List Row) (m : Bool) (c k t0 t e lat : ℕ) → AreOfDevices p → e < 8
-    → latency_of s e ≡ Some lat → connection p ≡ None → c ≢ e → stage p ≡ InCalling (begun_call m c k t0 t)
+pub before_due : (s : ScenarioValue) (p : List Row) (m : Bool) (c i t0 t e lat : ℕ) → AreOfDevices p → e < 8
+    → latency_of s e ≡ Some lat → connection p ≡ None → c ≢ e → stage p ≡ InCalling (begun_call m c i t0 t)
     → drives p e ≡ none → unreset_due s p e ≡ None
-before_due s p m c k t0 t e lat h lt there alone ne eg eo =
-    as_other s p e lat none (begun_call m c k t0 t) h lt there alone ne eg eo ∙ go (k == e)
+before_due s p m c i t0 t e lat h lt there alone ne eg eo =
+    as_other s p e lat none (begun_call m c i t0 t) h lt there alone ne eg eo ∙ go (i == e)
   where
-    go : (q : Bool) → (let n : Option Due = None in if not q then n else n) ≡ None
+    go : (q : Bool) → (let o : Option Due = None in if not q then o else o) ≡ None
     go true = refl
     go false = refl
 
 -- the caller waits, and withdraws in the end
-pub waits_due : (s : ScenarioValue) (p : List Row) (v m : Bool) (c k t0 t1 t2 lat : ℕ) (own : LineSet) → AreOfDevices p
-    → c < 8 → latency_of s c ≡ Some lat → connection p ≡ None → stage p ≡ InCalling (awaiting_call v m c k t0 t1 t2)
+pub waits_due : (s : ScenarioValue) (p : List Row) (v m : Bool) (c i t0 t1 t2 lat : ℕ) (own : LineSet) → AreOfDevices p
+    → c < 8 → latency_of s c ≡ Some lat → connection p ≡ None → stage p ≡ InCalling (awaiting_call v m c i t0 t1 t2)
     → drives p c ≡ own → unreset_due s p c ≡ due_at (t2 + 250000000 + lat) (record own { data_bits = 0 })
-waits_due s p v m c k t0 t1 t2 lat own h lt there alone eg eo =
-    as_caller s p c lat own (awaiting_call v m c k t0 t1 t2) h lt there alone refl eg eo
+waits_due s p v m c i t0 t1 t2 lat own h lt there alone eg eo =
+    as_caller s p c lat own (awaiting_call v m c i t0 t1 t2) h lt there alone refl eg eo
 
 -- the called device answers, or a fault strikes the IDs
-pub answers_due : (s : ScenarioValue) (p : List Row) (m : Bool) (c k t0 t1 t2 lat : ℕ)
-    → AreOfDevices p → k < 8 → latency_of s k ≡ Some lat → connection p ≡ None → c ≢ k
-    → stage p ≡ InCalling (awaiting_call false m c k t0 t1 t2) → drives p k ≡ none
-    → unreset_due s p k ≡ fault_or ((line_times p).bsy + BUS_SETTLE_DELAY + lat) (flip_at s p lat)
+pub answers_due : (s : ScenarioValue) (p : List Row) (m : Bool) (c i t0 t1 t2 lat : ℕ)
+    → AreOfDevices p → i < 8 → latency_of s i ≡ Some lat → connection p ≡ None → c ≢ i
+    → stage p ≡ InCalling (awaiting_call false m c i t0 t1 t2) → drives p i ≡ none
+    → unreset_due s p i ≡ fault_or ((line_times p).bsy + BUS_SETTLE_DELAY + lat) (flip_at s p lat)
     (due_at ((line_times p).bsy + BUS_SETTLE_DELAY + lat) answer_lines)
-answers_due s p m c k t0 t1 t2 lat h lt there alone ne eg eo =
-    as_other s p k lat none (awaiting_call false m c k t0 t1 t2) h lt there alone ne eg eo
+answers_due s p m c i t0 t1 t2 lat h lt there alone ne eg eo =
+    as_other s p i lat none (awaiting_call false m c i t0 t1 t2) h lt there alone ne eg eo
     ∙ ap (λ (q : Bool). if not q then None
-    else answer (line_times p).bsy (device_with k lat none (own_time p k)) (flip_at s p lat)) (eq_self k)
+    else answer (line_times p).bsy (device_with i lat none (own_time p i)) (flip_at s p lat)) (eq_self i)
 
 -- one that a fault has struck does not answer
-pub struck_due : (s : ScenarioValue) (p : List Row) (m : Bool) (c k t0 t1 t2 lat : ℕ) → AreOfDevices p → k < 8
-    → latency_of s k ≡ Some lat → connection p ≡ None → c ≢ k → stage p ≡ InCalling (awaiting_call true m c k t0 t1 t2)
-    → drives p k ≡ none → unreset_due s p k ≡ None
-struck_due s p m c k t0 t1 t2 lat h lt there alone ne eg eo =
-    as_other s p k lat none (awaiting_call true m c k t0 t1 t2) h lt there alone ne eg eo
-    ∙ ap (λ (q : Bool). let n : Option Due = None in if not q then n else n) (eq_self k)
+pub struck_due : (s : ScenarioValue) (p : List Row) (m : Bool) (c i t0 t1 t2 lat : ℕ) → AreOfDevices p → i < 8
+    → latency_of s i ≡ Some lat → connection p ≡ None → c ≢ i → stage p ≡ InCalling (awaiting_call true m c i t0 t1 t2)
+    → drives p i ≡ none → unreset_due s p i ≡ None
+struck_due s p m c i t0 t1 t2 lat h lt there alone ne eg eo =
+    as_other s p i lat none (awaiting_call true m c i t0 t1 t2) h lt there alone ne eg eo
+    ∙ ap (λ (q : Bool). let o : Option Due = None in if not q then o else o) (eq_self i)
 
-pub aside_due : (s : ScenarioValue) (p : List Row) (v m : Bool) (c k t0 t1 t2 e lat : ℕ)
-    → AreOfDevices p → e < 8 → latency_of s e ≡ Some lat → connection p ≡ None → c ≢ e → k ≢ e
-    → stage p ≡ InCalling (awaiting_call v m c k t0 t1 t2) → drives p e ≡ none → unreset_due s p e ≡ None
-aside_due s p v m c k t0 t1 t2 e lat h lt there alone ne nk eg eo =
-    as_other s p e lat none (awaiting_call v m c k t0 t1 t2) h lt there alone ne eg eo
+pub aside_due : (s : ScenarioValue) (p : List Row) (v m : Bool) (c i t0 t1 t2 e lat : ℕ)
+    → AreOfDevices p → e < 8 → latency_of s e ≡ Some lat → connection p ≡ None → c ≢ e → i ≢ e
+    → stage p ≡ InCalling (awaiting_call v m c i t0 t1 t2) → drives p e ≡ none → unreset_due s p e ≡ None
+aside_due s p v m c i t0 t1 t2 e lat h lt there alone ne nk eg eo =
+    as_other s p e lat none (awaiting_call v m c i t0 t1 t2) h lt there alone ne eg eo
     ∙ ap (λ (q : Bool). if not q then None
     else if not v then answer (line_times p).bsy (device_with e lat none (own_time p e)) (flip_at s p lat) else None)
-    (ne_eqb k e nk)
+    (ne_eqb i e nk)
 
 -- the caller has withdrawn: it releases all in the end, and no other device does anything
-pub gives_up_due : (s : ScenarioValue) (p : List Row) (v m : Bool) (c k t0 t1 t2 t3 lat : ℕ) (own : LineSet)
+pub gives_up_due : (s : ScenarioValue) (p : List Row) (v m : Bool) (c i t0 t1 t2 t3 lat : ℕ) (own : LineSet)
     → AreOfDevices p → c < 8 → latency_of s c ≡ Some lat → connection p ≡ None
-    → stage p ≡ InCalling (withdrawn_call v m c k t0 t1 t2 t3) → drives p c ≡ own
+    → stage p ≡ InCalling (withdrawn_call v m c i t0 t1 t2 t3) → drives p c ≡ own
     → unreset_due s p c ≡ due_at (own_time p c + 200090 + lat) none
-gives_up_due s p v m c k t0 t1 t2 t3 lat own h lt there alone eg eo =
-    as_caller s p c lat own (withdrawn_call v m c k t0 t1 t2 t3) h lt there alone refl eg eo
+gives_up_due s p v m c i t0 t1 t2 t3 lat own h lt there alone eg eo =
+    as_caller s p c lat own (withdrawn_call v m c i t0 t1 t2 t3) h lt there alone refl eg eo
 
-pub after_withdrawal_due : (s : ScenarioValue) (p : List Row) (v m : Bool) (c k t0 t1 t2 t3 e lat : ℕ)
+pub after_withdrawal_due : (s : ScenarioValue) (p : List Row) (v m : Bool) (c i t0 t1 t2 t3 e lat : ℕ)
     → AreOfDevices p → e < 8 → latency_of s e ≡ Some lat → connection p ≡ None → c ≢ e
-    → stage p ≡ InCalling (withdrawn_call v m c k t0 t1 t2 t3) → drives p e ≡ none → unreset_due s p e ≡ None
-after_withdrawal_due s p v m c k t0 t1 t2 t3 e lat h lt there alone ne eg eo =
-    as_other s p e lat none (withdrawn_call v m c k t0 t1 t2 t3) h lt there alone ne eg eo ∙ go (k == e)
+    → stage p ≡ InCalling (withdrawn_call v m c i t0 t1 t2 t3) → drives p e ≡ none → unreset_due s p e ≡ None
+after_withdrawal_due s p v m c i t0 t1 t2 t3 e lat h lt there alone ne eg eo =
+    as_other s p e lat none (withdrawn_call v m c i t0 t1 t2 t3) h lt there alone ne eg eo ∙ go (i == e)
   where
-    go : (q : Bool) → (let n : Option Due = None in if not q then n else n) ≡ None
+    go : (q : Bool) → (let o : Option Due = None in if not q then o else o) ≡ None
     go true = refl
     go false = refl
 

@@ -46,7 +46,7 @@ standing_after s p row st m order obeys ahead = record {
   seen_past = λ see. let w = st.seen_past see in since_le see row p (omega arith);
   own_past = λ e. let w = st.own_past e in own_time_le p row.time row.dev row.kind e (omega arith);
   there = λ d lt. elim (cases_eq d row.dev) [
-    | inl same ↦ inr (subst (λ (k : ℕ). HasDevice s k) (sym same)
+    | inl same ↦ inr (subst (λ (i : ℕ). HasDevice s i) (sym same)
         (due_there s p row.dev (record { time = row.time; kind = row.kind }) m.is_due))
     | inr ne ↦ elim (st.there d lt) [
       | inl n ↦ inl (drives-other row p d ne ∙ n)
@@ -151,9 +151,9 @@ calm_or_reset s p row st calm m goes =
       | by_calm always least ↦ next_row s p row st m (goes always least)
     ]
 
-calm_bus : (p : List Row) (b : LineSet) (a : Option Arbitration) (c : Option Call) (n : Option Connection)
-    → Stands p b a c n → b.rst ≡ false → (bus p).rst ≡ false
-calm_bus p b a c n h e = ap (λ (x : LineSet). x.rst) h.bus_is ∙ e
+calm_bus : (p : List Row) (b : LineSet) (a : Option Arbitration) (c : Option Call) (o : Option Connection)
+    → Stands p b a c o → b.rst ≡ false → (bus p).rst ≡ false
+calm_bus p b a c o h e = ap (λ (x : LineSet). x.rst) h.bus_is ∙ e
 
 -- ---- any row while no connection stands, or RST is true
 

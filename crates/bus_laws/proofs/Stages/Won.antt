@@ -112,20 +112,20 @@ quiet_others f c h =
           | inr ne ↦ (λ i. not (e == c) && not (same_set (h e lt ne i) none)) ∙ and_false (not (e == c))
         ]
 
-new_calling_is : (m : Bool) (c k t : ℕ) → IsCall m c k → new_calling c (both_ids m c k) t ≡ new_calling_at m k t
-new_calling_is m c k t h = λ i. record (new_calling_at m k t) { called = h.other i }
+new_calling_is : (m : Bool) (c l t : ℕ) → IsCall m c l → new_calling c (both_ids m c l) t ≡ new_calling_at m l t
+new_calling_is m c l t h = λ i. record (new_calling_at m l t) { called = h.other i }
 
-makes_call : (s : ScenarioValue) (p : List Row) (m : Bool) (c k t0 t : ℕ) → HasShortLatencies s → CalmStanding s p
-    → ArbitrationWon s p c t0 → IsLeast (unreset_due s p) 8 (row_of_lines t c (both_ids m c k)) → t0 + QUIET_TIME ≤ t
-    → k < 8 → k ≢ c → NextCalmRow s p (row_of_lines t c (both_ids m c k))
-makes_call s p m c k t0 t fits always h least wait lk ne_k =
-    let l : LineSet = both_ids m c k in
+makes_call : (s : ScenarioValue) (p : List Row) (m : Bool) (c b t0 t : ℕ) → HasShortLatencies s → CalmStanding s p
+    → ArbitrationWon s p c t0 → IsLeast (unreset_due s p) 8 (row_of_lines t c (both_ids m c b)) → t0 + QUIET_TIME ≤ t
+    → b < 8 → b ≢ c → NextCalmRow s p (row_of_lines t c (both_ids m c b))
+makes_call s p m c b t0 t fits always h least wait lk ne_k =
+    let l : LineSet = both_ids m c b in
     let q : List Row = row_of_lines t c l ∷ p in
     let x : Due = record { time = t; kind = Drives l } in
     let order = always.ahead c least.inside x least.is_due in
     let own : drives q c ≡ l = drives_own p t c l in
     let devices : AreOfDevices q = (least.inside, always.devices) in
-    let ids = is_call m c k h.caller_below lk (λ z. ne_k (sym z)) in
+    let ids = is_call m c b h.caller_below lk (λ z. ne_k (sym z)) in
     let was = in_won s p c t0 h in
     let quiet : (e : ℕ) → e < 8 → e ≢ c → drives p e ≡ none = λ e lt ne. elim (h.each e lt ne) [
       | inl n ↦ n
@@ -142,45 +142,45 @@ makes_call s p m c k t0 t fits always h least wait lk ne_k =
     } in
     let goes = stands_after p t c l l (won_lines c) l (won_lines c) None
     (Some (won_call c t0)) None stood refl after h.caller in
-    let calling : call q ≡ Some (begun_call m c k t0 t) = goes.call_is ∙ (λ i. Some (record (won_call c t0) {
+    let calling : call q ≡ Some (begun_call m c b t0 t) = goes.call_is ∙ (λ i. Some (record (won_call c t0) {
       calling =
-          if eq_self c i && ids.two i then Some (new_calling_is m c k t ids i) else None;
+          if eq_self c i && ids.two i then Some (new_calling_is m c b t ids i) else None;
     })) in
-    let stands : Stands q l None (Some (begun_call m c k t0 t)) None = record {
+    let stands : Stands q l None (Some (begun_call m c b t0 t)) None = record {
       bus_is = after;
       arbitration_is = goes.arbitration_is;
       call_is = calling;
       connection_is = goes.connection_is;
     } in
-    let here : stage q ≡ InCalling (begun_call m c k t0 t) = stage_is q _ _ _ _ stands in
+    let here : stage q ≡ InCalling (begun_call m c b t0 t) = stage_is q _ _ _ _ stands in
     let books = still_row_keeps s p t c l l (won_lines c) l (won_lines c) None
     (Some (won_call c t0)) always.devices least.inside stood h.link refl after h.caller refl refl refl refl in
     record {
       order = order;
       calm = ap (λ (y : LineSet). y.rst) after;
       obeys = obeys_apart p t c l (won_lines c) l (won_lines c) l None (Some (won_call c t0)) false stood refl after
-          h.caller (quiet_others (drives p) c quiet) (call_obeys p m c k t0 t order wait ids);
+          h.caller (quiet_others (drives p) c quiet) (call_obeys p m c b t0 t order wait ids);
       ahead = λ alone e lt y r.
           let w = is_there s q e y r in
           elim (cases_eq e c) [
             | inl same ↦
                 let v = (is_at (own_time q c + 90 + w.0) (record l { bsy = false }) y
-                (sym (asks_due s q m c k t0 t w.0 l devices h.caller_below (ap (latency_of s) (sym same) ∙ w.1)
+                (sym (asks_due s q m c b t0 t w.0 l devices h.caller_below (ap (latency_of s) (sym same) ∙ w.1)
                 goes.connection_is here own) ∙ ap (unreset_due s q) (sym same) ∙ r)).time_is in
                 let u = own_time_own p t c l in
                 omega arith
             | inr ne ↦
-                let v = sym (before_due s q m c k t0 t e w.0 devices lt w.1 goes.connection_is
+                let v = sym (before_due s q m c b t0 t e w.0 devices lt w.1 goes.connection_is
                 (λ z. ne (sym z)) here (rest e lt ne)) ∙ r in
                 absurd cc
           ];
-      here = with_both_ids m c k t0 t (own_time_own p t c l) (record {
+      here = with_both_ids m c b t0 t (own_time_own p t c l) (record {
         stands = stands;
         caller_below = h.caller_below;
         called_below = lk;
         apart = λ z. ne_k (sym z);
         caller = own;
-        other = rest k lk ne_k;
+        other = rest b lk ne_k;
         rest = λ e lt n1 n2. rest e lt n1;
         link = books.wishes.link;
       });

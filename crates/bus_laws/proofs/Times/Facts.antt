@@ -44,16 +44,16 @@ first_before limit (Some a) (Some b) f g = elim (cases_Bool (is_ready_before b a
 
 at_before : (end : ℕ) (a : Array) (times : List ℕ) (seek t u : ℕ) → 0 < end → AreNumbersBefore end times
     → seek ≤ 1000000000 → IsReadyBefore (end + 1000000000) (ready_at a times seek t u)
-at_before end a times seek t u some h k =
+at_before end a times seek t u some h e =
     let z = since_before end some a.units times t u h in
     in_before (end + 1000000000) (is_held a.holds t u) (current_of (unit_state_at a.units t u))
     (since_of a.units times t u + seek) (omega arith)
 
 among_before : (end : ℕ) (a : Array) (times : List ℕ) (seek t : ℕ) → 0 < end → AreNumbersBefore end times
     → seek ≤ 1000000000 → IsReadyBefore (end + 1000000000) (ready_among a times seek t)
-among_before end a times seek t some h k =
+among_before end a times seek t some h e =
     let at_ : (u : ℕ) → IsReadyBefore (end + 1000000000) (ready_at a times seek t u) = λ u. at_before
-    end a times seek t u some h k in
+    end a times seek t u some h e in
     let L : ℕ = end + 1000000000 in
     first_before L (ready_at a times seek t 0) _ (at_ 0)
     (first_before L (ready_at a times seek t 1) _ (at_ 1) (first_before L (ready_at a times seek t 2) _ (at_ 2)
@@ -128,9 +128,9 @@ pace_short : (s : ScenarioValue) (rows : List Row) (dev : ℕ) → FitsBus s →
     → IsShortPace (pace_of s (run_state s rows) dev)
 pace_short s rows dev w h =
     let d = (run_state_plain s rows h).dialogue in
-    let p : (agreement_of (run_state s rows)).period < 256 =
+    let e : (agreement_of (run_state s rows)).period < 256 =
     let z = ap (λ (x : Dialogue). x.heard.now.agreement.period) d in let y = period_is_byte rows in omega arith in
-    let t = times_short (agreement_of (run_state s rows)).period p in
+    let t = times_short (agreement_of (run_state s rows)).period e in
     record {
       period = t.period;
       assertion = t.assertion;
@@ -221,10 +221,10 @@ record IsBounded (rows : List Row) : Type 0 where
   times : ComeBefore (1000000000001 + length rows * 1000100000) rows
 
 bounded : (s : ScenarioValue) → FitsBus s → (rows : List Row) → IsPrompt s rows → IsBounded rows
-bounded s w [] p = record { devices = tt; times = tt }
-bounded s w (row ∷ rows) p =
-    let was = bounded s w rows p.0 in
-    let m = least_is s rows row p.1 in
+bounded s w [] e = record { devices = tt; times = tt }
+bounded s w (row ∷ rows) e =
+    let was = bounded s w rows e.0 in
+    let m = least_is s rows row e.1 in
     let t = due_before (1000000000001 + length rows * 1000100000) s rows row.dev
     (omega arith) w was.devices m.inside was.times (record { time = row.time; kind = row.kind }) m.is_due in
     record {
@@ -238,9 +238,9 @@ bounded s w (row ∷ rows) p =
 
 pub times_bounded : (s : ScenarioValue) → Obeys s → (rows : List Row) → IsPrompt s rows
     → ComeBefore (1000000000001 + length rows * 1000100000) rows
-times_bounded s o rows p = (bounded s (obeys_fits s o) rows p).times
+times_bounded s o rows e = (bounded s (obeys_fits s o) rows e).times
 
 pub times_far : (s : ScenarioValue) → Obeys s → (rows : List Row) → IsPrompt s rows → length rows ≤ 2 ^ 32
     → ComeBefore (2 ^ 62) rows
-times_far s o rows p l =
-    later (1000000000001 + length rows * 1000100000) (2 ^ 62) rows (omega arith) (times_bounded s o rows p)
+times_far s o rows e l =
+    later (1000000000001 + length rows * 1000100000) (2 ^ 62) rows (omega arith) (times_bounded s o rows e)

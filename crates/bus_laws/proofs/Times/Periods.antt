@@ -76,13 +76,13 @@ offer_short word message [] f h = tt
 offer_short word message (len ∷ bytes) f h = by_len (len == 0x03)
   where
     fields : (x : List ℕ) → AreBytes x → IsShortGot word (as_got message (got_fields x))
-    fields [] k = tt
-    fields (period ∷ []) k = tt
-    fields (period ∷ offset ∷ x) k = f (record { period = period; offset = offset }) (k.0, k.1.0)
+    fields [] g = tt
+    fields (period ∷ []) g = tt
+    fields (period ∷ offset ∷ x) g = f (record { period = period; offset = offset }) (g.0, g.1.0)
 
     code : (x : List ℕ) → AreBytes x → IsShortGot word (as_got message (got_code x))
-    code [] k = tt
-    code (c ∷ x) k = elim (cases_Bool (c == 0x01)) [ inl e ↦ rw e (fields x k.1) | inr e ↦ rw e tt ]
+    code [] g = tt
+    code (c ∷ x) g = elim (cases_Bool (c == 0x01)) [ inl e ↦ rw e (fields x g.1) | inr e ↦ rw e tt ]
 
     by_len : (q : Bool) → IsShortGot word (as_got message (if q then got_code bytes else Unknown))
     by_len true = code bytes h.1
@@ -98,7 +98,7 @@ got_short {M = M} word form (first ∷ bytes) f h = go (form first) (f first)
     tag message [] g = tt
     tag message (t ∷ x) g = g t
 
-    go : (k : Form M) → IsShortForm word k → IsShortGot word (got_after k bytes)
+    go : (e : Form M) → IsShortForm word e → IsShortGot word (got_after e bytes)
     go (alone m) g = g
     go (tagged message) g = tag message bytes g
     go (extended message) g = offer_short word message bytes g h.1
@@ -140,25 +140,25 @@ void_short None v a b = b
 void_short (Some w) v a b = a
 
 out_short : (h : Heard) (w : Word) → IsShortHeard h → IsShortWord w → IsShortHeard (heard_with_out h w)
-out_short h (Word.Offer a) k g = record { now = word_short h.now End.Initiator (Word.Offer a) k.now g; void = tt }
-out_short h Word.Reject k g = record { now = word_short h.now End.Initiator Word.Reject k.now g; void = tt }
-out_short h Word.Restore k g = record { now = k.now; void = tt }
-out_short h Word.DeviceReset k g = record { now = (k.now.0, omega arith); void = tt }
-out_short h Word.ParityError k g = record { now = void_short h.void h.now k.void k.now; void = tt }
-out_short h Word.Other k g = record { now = k.now; void = tt }
+out_short h (Word.Offer a) e g = record { now = word_short h.now End.Initiator (Word.Offer a) e.now g; void = tt }
+out_short h Word.Reject e g = record { now = word_short h.now End.Initiator Word.Reject e.now g; void = tt }
+out_short h Word.Restore e g = record { now = e.now; void = tt }
+out_short h Word.DeviceReset e g = record { now = (e.now.0, omega arith); void = tt }
+out_short h Word.ParityError e g = record { now = void_short h.void h.now e.void e.now; void = tt }
+out_short h Word.Other e g = record { now = e.now; void = tt }
 
 heard_out_short : (h : Heard) (g : Got MsgOut) → IsShortHeard h → IsShortGot word_out g → IsShortHeard (heard_out h g)
-heard_out_short h (Whole m n) k g = out_short h (word_out m) k g
-heard_out_short h More k g = k
-heard_out_short h Unknown k g = k
+heard_out_short h (Whole m n) e g = out_short h (word_out m) e g
+heard_out_short h More e g = e
+heard_out_short h Unknown e g = e
 
 heard_in_short : (h : Heard) (g : Got MsgIn) → IsShortHeard h → IsShortGot word_in g → IsShortHeard (heard_in h g)
-heard_in_short h (Whole m n) k g = record { now = word_short h.now End.Target (word_in m) k.now g; void = k.void }
-heard_in_short h More k g = k
-heard_in_short h Unknown k g = k
+heard_in_short h (Whole m n) e g = record { now = word_short h.now End.Target (word_in m) e.now g; void = e.void }
+heard_in_short h More e g = e
+heard_in_short h Unknown e g = e
 
 command_short : (h : Heard) (byte : ℕ) → IsShortHeard h → IsShortHeard (heard_with_command h byte)
-command_short h byte k = record { now = k.now; void = go h.void k.void }
+command_short h byte e = record { now = e.now; void = go h.void e.void }
   where
     go : (o : Option Spoken) → IsShortVoid o → IsShortVoid (void_with_byte o byte)
     go None x = tt
@@ -176,8 +176,8 @@ record IsShortDialogue (d : Dialogue) : Type 0 where
   fresh : AreBytes d.fresh
 
 more_bytes : (bytes : List ℕ) (b : ℕ) → AreBytes bytes → b < 256 → AreBytes (bytes ++ b ∷ [])
-more_bytes [] b h k = (k, tt)
-more_bytes (x ∷ bytes) b h k = (h.0, more_bytes bytes b h.1 k)
+more_bytes [] b h e = (e, tt)
+more_bytes (x ∷ bytes) b h e = (h.0, more_bytes bytes b h.1 e)
 
 left_bytes : {M : Type 0} → (g : Got M) (bytes : List ℕ) → AreBytes bytes → AreBytes (left_of g bytes)
 left_bytes (Whole m n) bytes h = tt
@@ -190,46 +190,46 @@ opened_short a h =
 
 out_byte_short : (d : Dialogue) (b : ℕ) (last : Bool) → IsShortDialogue d → b < 256
     → IsShortDialogue (byte_out d b last)
-out_byte_short d b last k h =
+out_byte_short d b last e h =
     let f = fresh_short d.is_last in
     let fb = more_bytes (fresh_bytes d) b f h in
-    let hb = more_bytes d.half b k.half h in
+    let hb = more_bytes d.half b e.half h in
     record {
       heard = heard_out_short (fresh_heard d) (got_out (fresh_bytes d ++ b ∷ [])) (heard_short d.is_last)
           (got_short word_out form_out (fresh_bytes d ++ b ∷ []) short_out fb);
-      at_phase = k.at_phase;
+      at_phase = e.at_phase;
       half = left_bytes (got_out (d.half ++ b ∷ [])) (d.half ++ b ∷ []) hb;
       fresh = left_bytes (got_out (fresh_bytes d ++ b ∷ [])) (fresh_bytes d ++ b ∷ []) fb;
     }
   where
     fresh_short : (q : Bool) → AreBytes (if q then [] else d.fresh)
     fresh_short true = tt
-    fresh_short false = k.fresh
+    fresh_short false = e.fresh
 
     heard_short : (q : Bool) → IsShortHeard (if q then d.at_phase else d.heard)
-    heard_short true = k.at_phase
-    heard_short false = k.heard
+    heard_short true = e.at_phase
+    heard_short false = e.heard
 
 in_byte_short : (d : Dialogue) (b : ℕ) → IsShortDialogue d → b < 256 → IsShortDialogue (byte_in d b)
-in_byte_short d b k h =
-    let hb = more_bytes d.half b k.half h in
+in_byte_short d b e h =
+    let hb = more_bytes d.half b e.half h in
     record {
       heard = heard_in_short (heard_if_begun d.half d.heard) (got_in (d.half ++ b ∷ [])) (begun d.half)
           (got_short word_in form_in (d.half ++ b ∷ []) short_in hb);
-      at_phase = k.at_phase;
+      at_phase = e.at_phase;
       half = left_bytes (got_in (d.half ++ b ∷ [])) (d.half ++ b ∷ []) hb;
-      fresh = k.fresh;
+      fresh = e.fresh;
     }
   where
     begun : (x : List ℕ) → IsShortHeard (heard_if_begun x d.heard)
-    begun [] = record { now = k.heard.now; void = k.heard.now }
-    begun (y ∷ x) = k.heard
+    begun [] = record { now = e.heard.now; void = e.heard.now }
+    begun (y ∷ x) = e.heard
 
-below_256 : (n : ℕ) → n % 256 < 256
-below_256 n = omega arith
+below_256 : (m : ℕ) → m % 256 < 256
+below_256 m = omega arith
 
 crosses_short : (d : Dialogue) (c : Change) → IsShortDialogue d → IsShortDialogue (byte_crosses d c)
-crosses_short d c k = go (is_message_out c.before) (is_message_in c.before) (is_command c.before)
+crosses_short d c e = go (is_message_out c.before) (is_message_in c.before) (is_command c.before)
   where
     b : ℕ
     b = c.after.data_bits % 256
@@ -238,29 +238,29 @@ crosses_short d c k = go (is_message_out c.before) (is_message_in c.before) (is_
         else if r then byte_in d (c.after.data_bits % 256)
         else if x then record d { heard = heard_with_command d.heard (c.after.data_bits % 256); begun = true }
         else record d { begun = true })
-    go true r x = out_byte_short d (c.after.data_bits % 256) (not c.after.atn) k (below_256 c.after.data_bits)
-    go false true x = in_byte_short d (c.after.data_bits % 256) k (below_256 c.after.data_bits)
+    go true r x = out_byte_short d (c.after.data_bits % 256) (not c.after.atn) e (below_256 c.after.data_bits)
+    go false true x = in_byte_short d (c.after.data_bits % 256) e (below_256 c.after.data_bits)
     go false false true = record {
-      heard = command_short d.heard (c.after.data_bits % 256) k.heard;
-      at_phase = k.at_phase;
-      half = k.half;
-      fresh = k.fresh;
+      heard = command_short d.heard (c.after.data_bits % 256) e.heard;
+      at_phase = e.at_phase;
+      half = e.half;
+      fresh = e.fresh;
     }
-    go false false false = record { heard = k.heard; at_phase = k.at_phase; half = k.half; fresh = k.fresh }
+    go false false false = record { heard = e.heard; at_phase = e.at_phase; half = e.half; fresh = e.fresh }
 
-on_short : (d : Dialogue) (n : Option Connection) (c : Change) → IsShortDialogue d → IsShortDialogue (dialogue_on d n c)
-on_short d n c k = go (is_some (receiver_of n c)) (changes_phase c)
+on_short : (d : Dialogue) (o : Option Connection) (c : Change) → IsShortDialogue d → IsShortDialogue (dialogue_on d o c)
+on_short d o c e = go (is_some (receiver_of o c)) (changes_phase c)
   where
     go : (q r : Bool) → IsShortDialogue (if q then byte_crosses d c else if r then phase_begins d else d)
-    go true r = crosses_short d c k
-    go false true = record { heard = k.heard; at_phase = k.heard; half = tt; fresh = tt }
-    go false false = k
+    go true r = crosses_short d c e
+    go false true = record { heard = e.heard; at_phase = e.heard; half = tt; fresh = tt }
+    go false false = e
 
-after_short : (d : Dialogue) (m n : Option Connection) (f : ℕ → ℕ → Agreement) (c : Change) → IsShortDialogue d
-    → ((i t : ℕ) → IsByteAgreement (f i t)) → IsShortDialogue (dialogue_after d m n f c)
-after_short d m None f c k g = opened_short asynchronous asynchronous_bytes
-after_short d None (Some n) f c k g = opened_short (f n.initiator n.target) (g n.initiator n.target)
-after_short d (Some m) (Some n) f c k g = on_short d (Some m) c k
+after_short : (d : Dialogue) (m o : Option Connection) (f : ℕ → ℕ → Agreement) (c : Change) → IsShortDialogue d
+    → ((i t : ℕ) → IsByteAgreement (f i t)) → IsShortDialogue (dialogue_after d m o f c)
+after_short d m None f c e g = opened_short asynchronous asynchronous_bytes
+after_short d None (Some n) f c e g = opened_short (f n.initiator n.target) (g n.initiator n.target)
+after_short d (Some m) (Some n) f c e g = on_short d (Some m) c e
 
 record IsShort (rows : List Row) : Type 0 where
   dialogue_is : IsShortDialogue (dialogue rows)
@@ -270,8 +270,8 @@ rst_short : (q : Bool) (x : Agreement) → IsByteAgreement x → IsByteAgreement
 rst_short true x h = asynchronous_bytes
 rst_short false x h = h
 
-closed_short : (n : Option Connection) (stands : Bool) (v : Spoken) (i t : ℕ) (was : Agreement)
-    → IsByteAgreement v.agreement → IsByteAgreement was → IsByteAgreement (closed_agreement_by n stands v i t was)
+closed_short : (o : Option Connection) (stands : Bool) (v : Spoken) (i t : ℕ) (was : Agreement)
+    → IsByteAgreement v.agreement → IsByteAgreement was → IsByteAgreement (closed_agreement_by o stands v i t was)
 closed_short None stands v i t was a b = b
 closed_short (Some n) true v i t was a b = b
 closed_short (Some n) false v i t was a b = go (i == n.initiator && t == n.target) (t == n.target && v.device_reset)

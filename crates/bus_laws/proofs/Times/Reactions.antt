@@ -41,13 +41,13 @@ where_before limit false a f = none_before limit
 -- ---- an end of a connection
 
 -- The times of the transfer and of a wait are short.
-pub record IsShortPace (p : Pace) : Type 0 where
-  pub period : p.times.period ≤ 2000
-  pub assertion : p.times.assertion ≤ 2000
-  pub negation : p.times.negation ≤ 2000
-  pub set_up : p.times.set_up ≤ 2000
-  pub hold : p.times.hold ≤ 2000
-  pub lag : p.lag ≤ 10000
+pub record IsShortPace (a : Pace) : Type 0 where
+  pub period : a.times.period ≤ 2000
+  pub assertion : a.times.assertion ≤ 2000
+  pub negation : a.times.negation ≤ 2000
+  pub set_up : a.times.set_up ≤ 2000
+  pub hold : a.times.hold ≤ 2000
+  pub lag : a.lag ≤ 10000
 
 abbrev pub longest : ℕ
 longest = 1000100000
@@ -71,10 +71,10 @@ first_req_before end v b me g a =
     (at_before (end + longest) _ _ (omega arith))
     (at_before (end + longest) _ _ (omega arith)))
 
-pub target_before : (end : ℕ) (begun : Bool) (v : Sight) (b : Handshakes) (me : Myself) (p : Pace) (g : Offering)
-    → 0 < end → AreAllBefore end v b me → IsShortPace p → g.wait ≤ 1000000000
-    → IsDueBefore (end + longest) (target_due begun v b me p g)
-target_before end begun v b me p g some a q wait =
+pub target_before : (end : ℕ) (begun : Bool) (v : Sight) (b : Handshakes) (me : Myself) (x : Pace) (g : Offering)
+    → 0 < end → AreAllBefore end v b me → IsShortPace x → g.wait ≤ 1000000000
+    → IsDueBefore (end + longest) (target_due begun v b me x g)
+target_before end begun v b me x g some a q wait =
     let t = a.ages in
     let h = a.handshakes in
     let sel = t.sel in
@@ -84,36 +84,36 @@ target_before end begun v b me p g some a q wait =
     let l = a.latency in
     let lr = h.last_req in
     let la = h.last_ack in
-    let rm = room_before end p.offset b some h.relieved in
+    let rm = room_before end x.offset b some h.relieved in
     let p1 = q.period in
     let p2 = q.assertion in
     let p3 = q.negation in
     let p4 = q.set_up in
     let p5 = q.hold in
     let lim : ℕ = end + longest in
-    let he : hold_end b me p < end + 3000 = omega arith in
-    let se : set_up_end v b me p < end + 6000 = if_less v.bus.io
-    (hold_end b me p + p.times.set_up) 0 (end + 6000) (omega arith) (omega arith) in
-    let lh : last_hold_end v b p < end + 3000 = let w = if_less v.bus.io b.last_req b.last_ack end lr la in
+    let he : hold_end b me x < end + 3000 = omega arith in
+    let se : set_up_end v b me x < end + 6000 = if_less v.bus.io
+    (hold_end b me x + x.times.set_up) 0 (end + 6000) (omega arith) (omega arith) in
+    let lh : last_hold_end v b x < end + 3000 = let w = if_less v.bus.io b.last_req b.last_ack end lr la in
     omega arith in
     let nr : (if v.bus.io then max v.ages.ack (me.since + 55) else v.ages.ack) < end + 3000 = if_less v.bus.io
     (max v.ages.ack (me.since + 55)) v.ages.ack (end + 3000) (omega arith) (omega arith) in
     let fr = first_req_before end v b me g a in
     if_before lim (not begun) _ _ (at_before lim _ _ (omega arith))
-    (if_before lim p.pulsed _ _ (if_before lim me.own.req _ _ (at_before lim _ _ (omega arith)) (if_before lim
+    (if_before lim x.pulsed _ _ (if_before lim me.own.req _ _ (at_before lim _ _ (omega arith)) (if_before lim
     (b.requests == 0) _ _ fr (if_before lim (v.bus.io && not (me.own.data_bits == bits_if g.follows g.byte)) _ _
     (at_before lim _ _ (omega arith)) (if_before lim g.follows _ _
-    (if_before lim (nat_lt (length b.waiting) p.offset) _ _ (at_before lim _ _ (omega arith)) (none_before lim))
+    (if_before lim (nat_lt (length b.waiting) x.offset) _ _ (at_before lim _ _ (omega arith)) (none_before lim))
     (if_before lim (not (length b.waiting == 0) || v.bus.ack) _ _
     (none_before lim) (at_before lim _ _ (omega arith)))))))
     (if_before lim me.own.req _ _ (if_before lim v.bus.ack _ _ (at_before lim _ _ (omega arith)) (none_before lim))
     (if_before lim v.bus.ack _ _ (none_before lim) (if_before lim (b.requests == 0) _ _ fr
     (if_before lim g.follows _ _ (at_before lim _ _ (omega arith)) (at_before lim _ _ (omega arith)))))))
 
-pub initiator_before : (end : ℕ) (begun : Bool) (v : Sight) (b : Handshakes) (me : Myself) (p : Pace) (g : Answering)
-    → 0 < end → AreAllBefore end v b me → IsShortPace p → g.raised < end
-    → IsDueBefore (end + longest) (initiator_due begun v b me p g)
-initiator_before end begun v b me p g some a q raised =
+pub initiator_before : (end : ℕ) (begun : Bool) (v : Sight) (b : Handshakes) (me : Myself) (x : Pace) (g : Answering)
+    → 0 < end → AreAllBefore end v b me → IsShortPace x → g.raised < end
+    → IsDueBefore (end + longest) (initiator_due begun v b me x g)
+initiator_before end begun v b me x g some a q raised =
     let t = a.ages in
     let h = a.handshakes in
     let sel = t.sel in
@@ -132,23 +132,23 @@ initiator_before end begun v b me p g some a q raised =
     let p5 = q.hold in
     let p6 = q.lag in
     let lim : ℕ = end + longest in
-    let he : byte_hold_end me p g < end + 3000 = omega arith in
-    let bt : byte_time b me p g < end + 4000 = if_less (b.answers == 0) (oldest_req_time b + me.latency)
-    (max (oldest_req_time b + me.latency) (byte_hold_end me p g)) (end + 4000) (omega arith) (omega arith) in
-    let na : next_ack_time v b p < end + 3000 = if_less (b.answers == 0) 0
-    (max (b.last_ack + p.times.period) (v.ages.ack + p.times.negation)) (end + 3000) (omega arith) (omega arith) in
-    let ap_ : ack_pulse_time v b p < end + 20000 = omega arith in
+    let he : byte_hold_end me x g < end + 3000 = omega arith in
+    let bt : byte_time b me x g < end + 4000 = if_less (b.answers == 0) (oldest_req_time b + me.latency)
+    (max (oldest_req_time b + me.latency) (byte_hold_end me x g)) (end + 4000) (omega arith) (omega arith) in
+    let na : next_ack_time v b x < end + 3000 = if_less (b.answers == 0) 0
+    (max (b.last_ack + x.times.period) (v.ages.ack + x.times.negation)) (end + 3000) (omega arith) (omega arith) in
+    let ap_ : ack_pulse_time v b x < end + 20000 = omega arith in
     let ne : (if rose_with_ack v me then max v.ages.req (v.ages.ack + 90) else v.ages.req) < end + 1000 = if_less
     (rose_with_ack v me) (max v.ages.req (v.ages.ack + 90)) v.ages.req (end + 1000) (omega arith) (omega arith) in
-    let pe : (if rose_with_ack v me then max 90 p.times.assertion else p.times.assertion) < 3000 = if_less
-    (rose_with_ack v me) (max 90 p.times.assertion) p.times.assertion 3000 (omega arith) (omega arith) in
+    let pe : (if rose_with_ack v me then max 90 x.times.assertion else x.times.assertion) < 3000 = if_less
+    (rose_with_ack v me) (max 90 x.times.assertion) x.times.assertion 3000 (omega arith) (omega arith) in
     let sb : (if is_message_out v.bus then max (me.since + 55) (v.ages.atn + 90) else me.since + 55) < end + 1000 =
     if_less (is_message_out v.bus) (max (me.since + 55) (v.ages.atn + 90))
     (me.since + 55) (end + 1000) (omega arith) (omega arith) in
-    let release : IsDueBefore lim (due_at (byte_hold_end me p g) (record me.own { data_bits = 0 })) = at_before lim _ _
+    let release : IsDueBefore lim (due_at (byte_hold_end me x g) (record me.own { data_bits = 0 })) = at_before lim _ _
     (omega arith) in
     if_before lim me.own.bsy _ _ (at_before lim _ _ (omega arith)) (if_before lim (not begun) _ _ (none_before lim)
-    (if_before lim p.pulsed _ _ (if_before lim me.own.ack _ _ (at_before lim _ _ (omega arith)) (if_before lim
+    (if_before lim x.pulsed _ _ (if_before lim me.own.ack _ _ (at_before lim _ _ (omega arith)) (if_before lim
     (not (length b.waiting == 0)) _ _ (if_before lim v.bus.io _ _ (at_before lim _ _ (omega arith)) (if_before lim
     (me.own.data_bits == byte_bits g.byte) _ _ (at_before lim _ _ (omega arith)) (at_before lim _ _ (omega arith))))
     (if_before lim (me.own.data_bits == 0) _ _ (none_before lim) release)))
@@ -171,7 +171,7 @@ free_before end me free (Some w) f g l = entry_before end me free w f g l
 arbitration_before : (end : ℕ) (bus : LineSet) (me : Myself) (a : Arbitration) (w : Option ℕ)
     → a.free < end → me.since < end → IsBefore (end + 1000000000) w → me.latency ≤ 100
     → IsDueBefore (end + longest) (arbitration_due bus me a w)
-arbitration_before end bus me a w f s g l =
+arbitration_before end bus me a w f e g l =
     if_before (end + longest) me.own.bsy _ _
     (where_before (end + longest) (not (has_id_above bus me.dev)) _ (at_before (end + longest) _ _ (omega arith)))
     (later w g)
@@ -183,14 +183,14 @@ arbitration_before end bus me a w f s g l =
 
 loser_before : (end sel : ℕ) (me : Myself) → sel < end → me.latency ≤ 100
     → IsDueBefore (end + longest) (loser_release sel me)
-loser_before end sel me s l = if_before (end + longest) (same_set me.own none) _ _ (none_before (end + longest))
+loser_before end sel me e l = if_before (end + longest) (same_set me.own none) _ _ (none_before (end + longest))
     (at_before (end + longest) _ _ (omega arith))
 
 calling_before : (end bsy sel : ℕ) (me : Myself) (w : Want) (flip : Option ℕ) (c : Call)
     → bsy < end → sel < end → me.since < end → me.latency ≤ 100 → IsCallingBefore end c.calling
     → IsDueBefore (end + longest) (calling_due bsy sel me w flip c)
-calling_before end bsy sel me w flip c b s i l k =
-    if_before (end + longest) (c.caller == me.dev) _ _ (caller c.calling k) (other c.calling k)
+calling_before end bsy sel me w flip c b e i l h =
+    if_before (end + longest) (c.caller == me.dev) _ _ (caller c.calling h) (other c.calling h)
   where
     lim : ℕ
     lim = end + longest
@@ -214,34 +214,34 @@ calling_before end bsy sel me w flip c b s i l k =
     sampled (Some bit) = fault_before (end + longest) (bsy + BUS_SETTLE_DELAY + me.latency) bit (omega arith)
 
     other : (o : Option Calling) → IsCallingBefore end o → IsDueBefore (end + longest) (called_due bsy sel me flip o)
-    other None z = loser_before end sel me s l
-    other (Some g) z = if_before (end + longest) (not (g.called == me.dev)) _ _ (loser_before end sel me s l)
+    other None z = loser_before end sel me e l
+    other (Some g) z = if_before (end + longest) (not (g.called == me.dev)) _ _ (loser_before end sel me e l)
         (if_before (end + longest) (is_called g) _ _ (sampled flip) (none_before (end + longest)))
 
-answer_before : (end sel : ℕ) (me : Myself) (w : Want) (c : Call) (k : Calling) (answered : ℕ)
+answer_before : (end sel : ℕ) (me : Myself) (w : Want) (c : Call) (x : Calling) (answered : ℕ)
     → sel < end → me.since < end → me.latency ≤ 100 → answered < end
-    → IsDueBefore (end + longest) (answer_due sel me w c k answered)
-answer_before end sel me w c k answered s i l a =
+    → IsDueBefore (end + longest) (answer_due sel me w c x answered)
+answer_before end sel me w c x answered e i l a =
     if_before (end + longest) (c.caller == me.dev) _ _
-    (if_before (end + longest) (not k.reselects) _ _
+    (if_before (end + longest) (not x.reselects) _ _
     (at_before (end + longest) _ _ (omega arith))
-    (if_before (end + longest) (is_none k.resumed) _ _
+    (if_before (end + longest) (is_none x.resumed) _ _
     (at_before (end + longest) _ _ (omega arith))
     (at_before (end + longest) _ _ (omega arith))))
-    (if_before (end + longest) (k.called == me.dev) _ _
+    (if_before (end + longest) (x.called == me.dev) _ _
     (none_before (end + longest))
-    (loser_before end sel me s l))
+    (loser_before end sel me e l))
 
 pub link_before : (end : ℕ) (bus : LineSet) (bsy sel : ℕ) (me : Myself) (w : Want) (flip : Option ℕ) (g : Stage)
     → bsy < end → sel < end → me.since < end → me.latency ≤ 100 → IsBefore (end + 1000000000) w.since
     → IsStageBefore end g → IsDueBefore (end + longest) (link_due_by bus bsy sel me w flip g)
-link_before end bus bsy sel me w flip (OnFreeBus free) b s i l n z = free_before end me free w.since z n l
-link_before end bus bsy sel me w flip (InArbitration a) b s i l n z = arbitration_before end bus me a w.since z.0 i n l
-link_before end bus bsy sel me w flip (InCalling c) b s i l n z = calling_before end bsy sel me w flip c b s i l z.1
-link_before end bus bsy sel me w flip (InAnswer c k answered) b s i l n z =
-    answer_before end sel me w c k answered s i l z.1.1
-link_before end bus bsy sel me w flip (InConnection n) b s i l m z = none_before (end + longest)
-link_before end bus bsy sel me w flip (InReset since) b s i l n z = if_before (end + longest) (same_set me.own none) _ _
+link_before end bus bsy sel me w flip (OnFreeBus free) b e i l h z = free_before end me free w.since z h l
+link_before end bus bsy sel me w flip (InArbitration a) b e i l h z = arbitration_before end bus me a w.since z.0 i h l
+link_before end bus bsy sel me w flip (InCalling c) b e i l h z = calling_before end bsy sel me w flip c b e i l z.1
+link_before end bus bsy sel me w flip (InAnswer c k answered) b e i l h z =
+    answer_before end sel me w c k answered e i l z.1.1
+link_before end bus bsy sel me w flip (InConnection h) b e i l m z = none_before (end + longest)
+link_before end bus bsy sel me w flip (InReset since) b e i l h z = if_before (end + longest) (same_set me.own none) _ _
     (none_before (end + longest)) (at_before (end + longest) _ _ (omega arith))
 
 -- ---- RST round all of it, and the sample of a byte
@@ -255,8 +255,8 @@ sample_before end false last flip o l f = f
 pub reset_before : (end : ℕ) (me : Myself) (raised : ℕ) (reset : Option ℕ) (o : Option Due)
     → raised < end → me.latency ≤ 100 → IsBefore end reset → IsDueBefore (end + longest) o
     → IsDueBefore (end + longest) (with_reset me raised reset o)
-reset_before end me raised reset o r l n f = if_before (end + longest) me.own.rst _ _
-    (at_before (end + longest) _ _ (omega arith)) (earlier (rst_assertion reset) o (asserted reset n) f)
+reset_before end me raised reset o r l y f = if_before (end + longest) me.own.rst _ _
+    (at_before (end + longest) _ _ (omega arith)) (earlier (rst_assertion reset) o (asserted reset y) f)
   where
     asserted : (t : Option ℕ) → IsBefore end t → IsDueBefore (end + longest) (rst_assertion t)
     asserted None z = none_before (end + longest)

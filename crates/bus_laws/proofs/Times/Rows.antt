@@ -86,22 +86,22 @@ pub handshakes_before : (end : ℕ) → 0 < end → (rows : List Row) → ComeBe
 unfolding view_of
 handshakes_before end some rows h = (is_timely end some rows h).handshakes
 
-stage_from : (end : ℕ) (rst : Bool) (since free : ℕ) (n : Option Connection) (c : Option Call) (a : Option Arbitration)
-    → since < end → free < end → IsConnectionBefore end n → IsCallBefore end c → IsArbitrationBefore end a
-    → IsStageBefore end (stage_by rst since n c a free)
-stage_from end true since free n c a s f x y z = s
-stage_from end false since free (Some n) c a s f x y z = x
-stage_from end false since free None (Some c) a s f x y z = by c.calling y.1
+stage_from : (end : ℕ) (rst : Bool) (since free : ℕ) (w : Option Connection) (c : Option Call) (a : Option Arbitration)
+    → since < end → free < end → IsConnectionBefore end w → IsCallBefore end c → IsArbitrationBefore end a
+    → IsStageBefore end (stage_by rst since w c a free)
+stage_from end true since free w c a e f x y z = e
+stage_from end false since free (Some n) c a e f x y z = x
+stage_from end false since free None (Some c) a e f x y z = by c.calling y.1
   where
     by : (g : Option Calling) → IsCallingBefore end g → IsStageBefore end (call_stage c g)
     by None h = (y.0, y.1)
     by (Some g) h = answered g.answered h.answered
       where
         answered : (o : Option ℕ) → IsBefore end o → IsStageBefore end (answer_stage c g o)
-        answered None k = (y.0, y.1)
-        answered (Some t) k = (y.0, (h, k))
-stage_from end false since free None None (Some a) s f x y z = z
-stage_from end false since free None None None s f x y z = f
+        answered None v = (y.0, y.1)
+        answered (Some t) v = (y.0, (h, v))
+stage_from end false since free None None (Some a) e f x y z = z
+stage_from end false since free None None None e f x y z = f
 
 pub stage_before : (end : ℕ) → 0 < end → (rows : List Row) → ComeBefore end rows → IsStageBefore end (stage rows)
 unfolding view_of
@@ -121,8 +121,8 @@ pub record IsOwnBefore (end : ℕ) (o : Own) : Type 0 where
   pub ack : o.ack < end
   pub rst : o.rst < end
 
-own_more : (end : ℕ) (k : Kind) (o : Own) (c : Change) (time : ℕ) → time < end → IsOwnBefore end o
-    → IsOwnBefore end (own_next k o c time)
+own_more : (end : ℕ) (x : Kind) (o : Own) (c : Change) (time : ℕ) → time < end → IsOwnBefore end o
+    → IsOwnBefore end (own_next x o c time)
 own_more end (Drives lines) o c time t h = record {
   row = t;
   ack = if_less (rises c.own.ack c.next.ack) time o.ack end t h.ack;
@@ -147,9 +147,9 @@ own_before end some (row ∷ rows) dev h =
 abbrev pub AreNumbersBefore : ℕ → List ℕ → Type 0
 AreNumbersBefore end xs = AllByRecursion (λ (t : ℕ). t < end) xs
 
-zeros_before : (end n : ℕ) → 0 < end → AreNumbersBefore end (replicate n 0)
+zeros_before : (end m : ℕ) → 0 < end → AreNumbersBefore end (replicate m 0)
 zeros_before end zero some = tt
-zeros_before end (suc n) some = (some, zeros_before end n some)
+zeros_before end (suc m) some = (some, zeros_before end m some)
 
 times_after : (end time : ℕ) (before after : List UnitState) (times : List ℕ) → time < end → AreNumbersBefore end times
     → AreNumbersBefore end (current_times_after before after times time)
@@ -179,6 +179,6 @@ since_before end some (v ∷ units) (x ∷ times) t u h =
     go (v.target == t) (v.unit == u) (since_before end some units times t u h.1)
   where
     go : (q r : Bool) → since_of units times t u < end → (if q && r then x else since_of units times t u) < end
-    go true true k = h.0
-    go true false k = k
-    go false r k = k
+    go true true e = h.0
+    go true false e = e
+    go false r e = e

@@ -28,23 +28,23 @@ use Rattle.progress_laws.specs.bus_laws.proofs.Stages.Next.{by_reset}
 
 -- Before an answer: it releases BSY, with both IDs still true; or it withdraws, a selection time-out delay after it.
 data CallerRow (s : ScenarioValue) (p : List Row) (row : Row) : Type 0 where
-  asks : (m : Bool) (c k : ℕ) → row.kind ≡ Drives (calling_lines m false (2 ^ c + 2 ^ k + 256)) → CallerRow s p row
+  asks : (m : Bool) (c i : ℕ) → row.kind ≡ Drives (calling_lines m false (2 ^ c + 2 ^ i + 256)) → CallerRow s p row
   withdraws : (m : Bool) (t : ℕ) → t + 250000000 ≤ row.time → row.kind ≡ Drives (calling_lines m false 0)
       → CallerRow s p row
 
 -- ---- a calling that ends without an answer was withdrawn
 
 -- While it calls and no answer has come, the caller keeps SEL true but as it gives up.
-given_up : (s : ScenarioValue) (p : List Row) (row : Row) (k : Call) (x : Calling) → connection p ≡ None
+given_up : (s : ScenarioValue) (p : List Row) (row : Row) (b : Call) (x : Calling) → connection p ≡ None
     → (bus p).rst ≡ false → (bus (row ∷ p)).sel ≡ false → row.dev < 8 → CalmStanding s p
-    → IsLeast (unreset_due s p) 8 row → call p ≡ Some k → k.calling ≡ Some x → is_some x.answered ≡ false → BusStage s p
+    → IsLeast (unreset_due s p) 8 row → call p ≡ Some b → b.calling ≡ Some x → is_some x.answered ≡ false → BusStage s p
     → is_some x.withdrawn ≡ true
-given_up s p row k x alone calm low lt always least ek ex un (on_free_bus h) = none_some k (sym h.stands.call_is ∙ ek)
-given_up s p row k x alone calm low lt always least ek ex un (in_arbitration a h) =
-    none_some k (sym h.stands.call_is ∙ ek)
-given_up s p row k x alone calm low lt always least ek ex un (after_arbitration c t h) =
-    none_some x (ap (λ (w : Call). w.calling) (same_Some (won_call c t) k (sym h.stands.call_is ∙ ek)) ∙ ex)
-given_up s p row k x alone calm low lt always least ek ex un (with_both_ids m c j t0 t z h) =
+given_up s p row b x alone calm low lt always least ek ex un (on_free_bus h) = none_some b (sym h.stands.call_is ∙ ek)
+given_up s p row b x alone calm low lt always least ek ex un (in_arbitration a h) =
+    none_some b (sym h.stands.call_is ∙ ek)
+given_up s p row b x alone calm low lt always least ek ex un (after_arbitration c t h) =
+    none_some x (ap (λ (w : Call). w.calling) (same_Some (won_call c t) b (sym h.stands.call_is ∙ ek)) ∙ ex)
+given_up s p row b x alone calm low lt always least ek ex un (with_both_ids m c j t0 t z h) =
     wrong (sym (elim (cases_eq row.dev c) [
       | inl same ↦ bus_on (λ y. y.sel) (λ _ _. refl) (row ∷ p) row.dev lt
           (ap (λ (r : Row). (drives (r ∷ p) row.dev).sel) (row_lines (asks_row s p m c j t0 t row always h least same))
@@ -55,7 +55,7 @@ given_up s p row k x alone calm low lt always least ek ex un (with_both_ids m c 
   where
     row_lines : {l : LineSet} → row.kind ≡ Drives l → row ≡ row_of_lines row.time row.dev l
     row_lines e = λ i. record { time = row.time; dev = row.dev; kind = e i }
-given_up s p row k x alone calm low lt always least ek ex un (awaiting_answer v m c j t0 t1 t2 y a) =
+given_up s p row b x alone calm low lt always least ek ex un (awaiting_answer v m c j t0 t1 t2 y a) =
     wrong (sym (elim (cases_eq row.dev c) [
       | inl same ↦
           bus_on (λ z. z.sel) (λ _ _. refl) (row ∷ p) row.dev lt (ap (λ (r : Row). (drives (r ∷ p) row.dev).sel)
@@ -67,30 +67,30 @@ given_up s p row k x alone calm low lt always least ek ex un (awaiting_answer v 
   where
     row_lines : {l : LineSet} → row.kind ≡ Drives l → row ≡ row_of_lines row.time row.dev l
     row_lines e = λ i. record { time = row.time; dev = row.dev; kind = e i }
-given_up s p row k x alone calm low lt always least ek ex un (after_withdrawal v m c j t0 t1 t2 t3 z h) =
+given_up s p row b x alone calm low lt always least ek ex un (after_withdrawal v m c j t0 t1 t2 t3 z h) =
     sym (ap (λ (w : Calling). is_some w.withdrawn)
-    (same_Some _ x (ap (λ (w : Call). w.calling) (same_Some _ k (sym h.stands.call_is ∙ ek)) ∙ ex)))
-given_up s p row k x alone calm low lt always least ek ex un (after_answer m c j t0 t1 t2 t3 y h) =
+    (same_Some _ x (ap (λ (w : Call). w.calling) (same_Some _ b (sym h.stands.call_is ∙ ek)) ∙ ex)))
+given_up s p row b x alone calm low lt always least ek ex un (after_answer m c j t0 t1 t2 t3 y h) =
     wrong (ap (λ (w : Calling). is_some w.answered)
-    (same_Some _ x (ap (λ (w : Call). w.calling) (same_Some _ k (sym h.here.stands.call_is ∙ ek)) ∙ ex)) ∙ un)
-given_up s p row k x alone calm low lt always least ek ex un (after_takeover c j t0 t1 t2 t3 t4 y z f h) =
+    (same_Some _ x (ap (λ (w : Call). w.calling) (same_Some _ b (sym h.here.stands.call_is ∙ ek)) ∙ ex)) ∙ un)
+given_up s p row b x alone calm low lt always least ek ex un (after_takeover c j t0 t1 t2 t3 t4 y z f h) =
     wrong (ap (λ (w : Calling). is_some w.answered)
-    (same_Some _ x (ap (λ (w : Call). w.calling) (same_Some _ k (sym h.here.stands.call_is ∙ ek)) ∙ ex)) ∙ un)
-given_up s p row k x alone calm low lt always least ek ex un (in_reset h) = wrong (sym h.reset ∙ calm)
-given_up s p row k x alone calm low lt always least ek ex un (in_connection n f g h) = none_some n (sym alone ∙ f)
+    (same_Some _ x (ap (λ (w : Call). w.calling) (same_Some _ b (sym h.here.stands.call_is ∙ ek)) ∙ ex)) ∙ un)
+given_up s p row b x alone calm low lt always least ek ex un (in_reset h) = wrong (sym h.reset ∙ calm)
+given_up s p row b x alone calm low lt always least ek ex un (in_connection n f g h) = none_some n (sym alone ∙ f)
 
 -- ---- what a row makes of the callings in vain, and of the aims
 
 -- No event is a calling.
-ends_tries : (drops stops : CmdDef → Bool) (e : Ending) (k : ℕ) (commands : List CmdDef) (b : Story)
-    → (story_with_ends drops stops e k commands b).sent.tries ≡ b.sent.tries
-ends_tries drops stops e k [] b = refl
-ends_tries drops stops e k (c ∷ commands) b =
-    ends_tries drops stops e (k + 1) commands (story_with_end_if drops stops e k c b)
-    ∙ go (is_open b.sent k && drops c) (stops c && list_any (λ j. j == k) b.sent.checks)
+ends_tries : (drops stops : CmdDef → Bool) (e : Ending) (m : ℕ) (commands : List CmdDef) (b : Story)
+    → (story_with_ends drops stops e m commands b).sent.tries ≡ b.sent.tries
+ends_tries drops stops e m [] b = refl
+ends_tries drops stops e m (c ∷ commands) b =
+    ends_tries drops stops e (m + 1) commands (story_with_end_if drops stops e m c b)
+    ∙ go (is_open b.sent m && drops c) (stops c && list_any (λ j. j == m) b.sent.checks)
   where
-    go : (p q : Bool) → (if p then story_with_end b (record { command = k; sense = false }) e
-        else if q then story_with_over b (sense_item k) else b).sent.tries ≡ b.sent.tries
+    go : (r q : Bool) → (if r then story_with_end b (record { command = m; sense = false }) e
+        else if q then story_with_over b (sense_item m) else b).sent.tries ≡ b.sent.tries
     go true q = refl
     go false true = refl
     go false false = refl
@@ -137,17 +137,17 @@ connection_tries b n = go n.reselected
 -- One calling in vain more for the item of the call that stands, as SEL falls, or none.
 pub data Tried (b c : Story) (d : RowReading) : Type 0 where
   no_more : c.sent.tries ≡ b.sent.tries → Tried b c d
-  one_more : (k : Call) (g : Calling) (i : Item) → falls d.change.before.sel d.change.after.sel ≡ true
-      → d.change.after.rst ≡ false → b.bus_state.connection ≡ None → b.bus_state.call ≡ Some k
-      → k.calling ≡ Some g → is_some g.answered ≡ false → g.reselects ≡ false → aim_of b.aims k.caller ≡ Some i
+  one_more : (h : Call) (g : Calling) (i : Item) → falls d.change.before.sel d.change.after.sel ≡ true
+      → d.change.after.rst ≡ false → b.bus_state.connection ≡ None → b.bus_state.call ≡ Some h
+      → h.calling ≡ Some g → is_some g.answered ≡ false → g.reselects ≡ false → aim_of b.aims h.caller ≡ Some i
       → c.sent.tries ≡ i ∷ b.sent.tries → Tried b c d
 
 pub try_tried : (s : ScenarioValue) (b : Story) (dev : ℕ) (i : Item)
     → (story_with_try s b dev (Some i)).sent.tries ≡ i ∷ b.sent.tries
 try_tried s b dev i = go _ i
   where
-    go : (q : Bool) (j : Item)
-        → (if q then story_without_answer (record b { sent = record b.sent { tries = i ∷ b.sent.tries } }) j
+    go : (q : Bool) (x : Item)
+        → (if q then story_without_answer (record b { sent = record b.sent { tries = i ∷ b.sent.tries } }) x
         else record b { sent = record b.sent { tries = i ∷ b.sent.tries } }).sent.tries ≡ i ∷ b.sent.tries
     go true (process id) = refl
     go _ _ = refl
@@ -160,22 +160,22 @@ calling_tried : (s : ScenarioValue) (b : Story) (d : RowReading) → falls d.cha
     → d.change.after.rst ≡ false → b.bus_state.connection ≡ None → (o : Option Call) → b.bus_state.call ≡ o
     → Tried b (story_after_calling s b o) d
 calling_tried s b d z off con None e = no_more refl
-calling_tried s b d z off con (Some k) e = by k.calling refl
+calling_tried s b d z off con (Some c) e = by c.calling refl
   where
-    by : (o : Option Calling) → k.calling ≡ o → Tried b (story_after_calling_by s b k.caller o) d
+    by : (o : Option Calling) → c.calling ≡ o → Tried b (story_after_calling_by s b c.caller o) d
     by None f = no_more refl
     by (Some g) f =
         elim (cases_Bool (is_none g.answered && not g.reselects)) [
-          | inl e ↦ rw e (aimed e (aim_of b.aims k.caller) refl)
+          | inl e ↦ rw e (aimed e (aim_of b.aims c.caller) refl)
           | inr e ↦ rw e (no_more refl)
         ]
       where
-        aimed : (is_none g.answered && not g.reselects) ≡ true → (o : Option Item) → aim_of b.aims k.caller ≡ o
-            → Tried b (story_with_try s b k.caller o) d
+        aimed : (is_none g.answered && not g.reselects) ≡ true → (o : Option Item) → aim_of b.aims c.caller ≡ o
+            → Tried b (story_with_try s b c.caller o) d
         aimed y None w = no_more refl
-        aimed y (Some i) w = one_more k g i z off con e f
+        aimed y (Some i) w = one_more c g i z off con e f
             (none_of g.answered (and_first (is_none g.answered) (not g.reselects) y))
-            (not-true g.reselects (and_second (is_none g.answered) (not g.reselects) y)) w (try_tried s b k.caller i)
+            (not-true g.reselects (and_second (is_none g.answered) (not g.reselects) y)) w (try_tried s b c.caller i)
 
 free_tried : (s : ScenarioValue) (b : Story) (d : RowReading) (row : Row) → d.change.after.rst ≡ false
     → b.bus_state.connection ≡ None → Tried b (story_on_free_bus s b d row) d
@@ -190,8 +190,8 @@ free_tried s b d row off con = go (is_arbitration_entry b d) (falls d.change.bef
 pub change_tried : (s : ScenarioValue) (b : Story) (d : RowReading) (row : Row) → Tried b (story_by_change s b d row) d
 change_tried s b d row = go d.change.after.rst refl
   where
-    on_bus : d.change.after.rst ≡ false → (m n : Option Connection) → b.bus_state.connection ≡ m
-        → Tried b (story_on_bus s b m n d row) d
+    on_bus : d.change.after.rst ≡ false → (m o : Option Connection) → b.bus_state.connection ≡ m
+        → Tried b (story_on_bus s b m o d row) d
     on_bus off None None con = free_tried s b d row off con
     on_bus off None (Some n) con = no_more (connection_tries b n)
     on_bus off (Some m) None con = no_more refl
@@ -220,22 +220,22 @@ aims_on_bus s b d row on = go d.change.after.rst
     tried dev None = refl
     tried dev (Some i) = by _ i
       where
-        by : (q : Bool) (j : Item)
-            → (if q then story_without_answer (record b { sent = record b.sent { tries = i ∷ b.sent.tries } }) j
+        by : (q : Bool) (y : Item)
+            → (if q then story_without_answer (record b { sent = record b.sent { tries = i ∷ b.sent.tries } }) y
             else record b { sent = record b.sent { tries = i ∷ b.sent.tries } }).aims ≡ b.aims
         by true (process id) = refl
         by _ _ = refl
 
     called : (o : Option Call) → (story_after_calling s b o).aims ≡ b.aims
     called None = refl
-    called (Some k) = by k.calling
+    called (Some h) = by h.calling
       where
-        by : (o : Option Calling) → (story_after_calling_by s b k.caller o).aims ≡ b.aims
+        by : (o : Option Calling) → (story_after_calling_by s b h.caller o).aims ≡ b.aims
         by None = refl
         by (Some g) = at (is_none g.answered && not g.reselects)
           where
-            at : (q : Bool) → (if q then story_with_try s b k.caller (aim_of b.aims k.caller) else b).aims ≡ b.aims
-            at true = tried k.caller (aim_of b.aims k.caller)
+            at : (q : Bool) → (if q then story_with_try s b h.caller (aim_of b.aims h.caller) else b).aims ≡ b.aims
+            at true = tried h.caller (aim_of b.aims h.caller)
             at false = refl
 
     no_entry : is_arbitration_entry b d ≡ false
@@ -251,7 +251,7 @@ aims_on_bus s b d row on = go d.change.after.rst
         by true = called b.bus_state.call
         by false = refl
 
-    on_bus : (m n : Option Connection) → (story_on_bus s b m n d row).aims ≡ b.aims
+    on_bus : (m x : Option Connection) → (story_on_bus s b m x d row).aims ≡ b.aims
     on_bus None None = free
     on_bus None (Some n) = begun n n.reselected
     on_bus (Some m) None = refl
@@ -270,7 +270,7 @@ is_struck_by (Some g) = g.struck
 
 abbrev pub is_struck_call : Option Call → Bool
 is_struck_call None = false
-is_struck_call (Some k) = is_struck_by k.calling
+is_struck_call (Some c) = is_struck_by c.calling
 
 -- A fault has struck the call that stands, which is for this item.
 abbrev pub is_pending : List (Option Item) → Item → Option Call → Bool
@@ -566,9 +566,9 @@ counts_next s p row o prompt item t lat et el h = by_tried (change_tried s k.sto
         count_is : count_item j.story.sent.tries item ≡ (if same_item i item then before + 1 else before)
         count_is = ap (λ (x : List Item). count_item x item) (tries ∙ more)
 
-        done : (n : ℕ) → count_item j.story.sent.tries item ≡ n → n + 0 ≤ calling_faults s p item + one_if fault
+        done : (u : ℕ) → count_item j.story.sent.tries item ≡ u → u + 0 ≤ calling_faults s p item + one_if fault
             → Counts s q item
-        done n e less = subst
+        done u e less = subst
             (λ (x : Bool). count_item j.story.sent.tries item + one_if x ≤ calling_faults s p item + one_if fault)
             (sym none_pending) (subst (λ (x : ℕ). x + 0 ≤ calling_faults s p item + one_if fault) (sym e) less)
 
@@ -601,20 +601,20 @@ less_by : (a b x y : ℕ) → nat_lt a b ≡ true → b + x ≤ y → nat_lt a y
 less_by a b x y e f = grind (arith, nat_tests)
 
 abbrev pub AreTried : Type 0
-AreTried = (s : ScenarioValue) (rows : List Row) (n : ℕ) (c : CmdDef) → AreOfDevices rows
-    → command_at s.commands n ≡ Some c → ending_of (run_state s rows).story.ended n ≡ Some unanswered
-    → nat_lt (retries_of s.hosts c.host) (count_item (run_state s rows).story.sent.tries (command_item n)) ≡ true
+AreTried = (s : ScenarioValue) (rows : List Row) (m : ℕ) (c : CmdDef) → AreOfDevices rows
+    → command_at s.commands m ≡ Some c → ending_of (run_state s rows).story.ended m ≡ Some unanswered
+    → nat_lt (retries_of s.hosts c.host) (count_item (run_state s rows).story.sent.tries (command_item m)) ≡ true
 
-pub unanswered_struck : (s : ScenarioValue) (p : List Row) (n : ℕ) (c : CmdDef)
-    → AreTried → Obeys s → IsPrompt s p → command_at s.commands n ≡ Some c
-    → has_target s c.target ≡ true → ending_of (run_state s p).story.ended n ≡ Some unanswered
-    → nat_lt (retries_of s.hosts c.host) (calling_faults s p (command_item n)) ≡ true
-unanswered_struck s p n c tried o prompt at there e =
+pub unanswered_struck : (s : ScenarioValue) (p : List Row) (m : ℕ) (c : CmdDef)
+    → AreTried → Obeys s → IsPrompt s p → command_at s.commands m ≡ Some c
+    → has_target s c.target ≡ true → ending_of (run_state s p).story.ended m ≡ Some unanswered
+    → nat_lt (retries_of s.hosts c.host) (calling_faults s p (command_item m)) ≡ true
+unanswered_struck s p m c tried o prompt at there e =
     let dv : AreOfDevices p = (whole s p o prompt).stood.standing.devices in
     let w = target_there s c.target there in
-    let target : target_of s (Some (command_item n)) ≡ Some c.target = λ i. target_if
-    (process_if s (command_id n) (at i)) in
-    less_by (retries_of s.hosts c.host) (count_item (run_state s p).story.sent.tries (command_item n))
-    (one_if (is_pending (run_state s p).story.aims (command_item n) (run_state s p).story.bus_state.call))
-    (calling_faults s p (command_item n)) (tried s p n c dv at e)
-    (tries_counted s p o prompt (command_item n) c.target w.latency target w.latency_is)
+    let target : target_of s (Some (command_item m)) ≡ Some c.target = λ i. target_if
+    (process_if s (command_id m) (at i)) in
+    less_by (retries_of s.hosts c.host) (count_item (run_state s p).story.sent.tries (command_item m))
+    (one_if (is_pending (run_state s p).story.aims (command_item m) (run_state s p).story.bus_state.call))
+    (calling_faults s p (command_item m)) (tried s p m c dv at e)
+    (tries_counted s p o prompt (command_item m) c.target w.latency target w.latency_is)

@@ -14,7 +14,7 @@ use Rattle.progress_laws.proofs.Debts.Next.{known_served}
 
 abbrev is_this : Option ProcId → ProcId → Bool
 is_this None id = false
-is_this (Some p) id = same_id p id
+is_this (Some d) id = same_id d id
 
 abbrev pub is_about : ProcId → Event → Bool
 is_about id e = is_this (process_in e) id
@@ -48,8 +48,8 @@ its_item item id (x ∷ shown) own e = go (process_in x) refl (is_about id x) re
         → (has_about shown id ≡ true → item ≡ Some (process id)) → item ≡ Some (process id)
     go o f false g z rest = rest z
     go None f true g z rest = wrong (sym g ∙ ap (λ (y : Option ProcId). is_this y id) f)
-    go (Some p) f true g z rest = own.0 p f
-        ∙ ap (λ (y : ProcId). Some (process y)) (id_is p id (sym (ap (λ (y : Option ProcId). is_this y id) f) ∙ g))
+    go (Some d) f true g z rest = own.0 d f
+        ∙ ap (λ (y : ProcId). Some (process y)) (id_is d id (sym (ap (λ (y : Option ProcId). is_this y id) f) ∙ g))
 
 -- ---- those of a row
 
@@ -115,29 +115,29 @@ about_there s (row ∷ p) o prompt id q own e = go (λ z. about_there s p o prom
 
 -- ---- no automatic REQUEST SENSE is lost
 
-pays_losses : {A : Type 0} (s : ScenarioValue) (b : Story) (n : ℕ) (shown : List Event) → AllPay s b shown
-    → has_loss shown (sense_id n) ≡ true → A
-pays_losses s b n [] well e = wrong' e
-pays_losses s b n (Event.Lost id ∷ shown) well e =
-    go (same_id id (sense_id n)) refl e (λ z. pays_losses s b n shown well.1 z)
+pays_losses : {A : Type 0} (s : ScenarioValue) (b : Story) (l : ℕ) (shown : List Event) → AllPay s b shown
+    → has_loss shown (sense_id l) ≡ true → A
+pays_losses s b l [] well e = wrong' e
+pays_losses s b l (Event.Lost id ∷ shown) well e =
+    go (same_id id (sense_id l)) refl e (λ z. pays_losses s b l shown well.1 z)
   where
-    go : {A : Type 0} (q : Bool) → same_id id (sense_id n) ≡ q → (q || has_loss shown (sense_id n)) ≡ true
-        → (has_loss shown (sense_id n) ≡ true → A) → A
-    go true f z rest = wrong (ap (λ (x : ProcId). x.sense) (sym (id_is id (sense_id n) f)) ∙ well.0)
+    go : {A : Type 0} (q : Bool) → same_id id (sense_id l) ≡ q → (q || has_loss shown (sense_id l)) ≡ true
+        → (has_loss shown (sense_id l) ≡ true → A) → A
+    go true f z rest = wrong (ap (λ (x : ProcId). x.sense) (sym (id_is id (sense_id l) f)) ∙ well.0)
     go false f z rest = rest z
-pays_losses s b n (Event.Accept id ∷ shown) well e = pays_losses s b n shown well.1 e
-pays_losses s b n (Event.Refuse id ∷ shown) well e = pays_losses s b n shown well.1 e
-pays_losses s b n (Event.Run id ∷ shown) well e = pays_losses s b n shown well.1 e
-pays_losses s b n (Event.Fail id code ∷ shown) well e = pays_losses s b n shown well.1 e
-pays_losses s b n (Event.End id status ∷ shown) well e = pays_losses s b n shown well.1 e
-pays_losses s b n (Event.Aborted i t m what ∷ shown) well e = pays_losses s b n shown well.1 e
-pays_losses s b n (Event.Reset dev ∷ shown) well e = pays_losses s b n shown well.1 e
+pays_losses s b l (Event.Accept id ∷ shown) well e = pays_losses s b l shown well.1 e
+pays_losses s b l (Event.Refuse id ∷ shown) well e = pays_losses s b l shown well.1 e
+pays_losses s b l (Event.Run id ∷ shown) well e = pays_losses s b l shown well.1 e
+pays_losses s b l (Event.Fail id code ∷ shown) well e = pays_losses s b l shown well.1 e
+pays_losses s b l (Event.End id status ∷ shown) well e = pays_losses s b l shown well.1 e
+pays_losses s b l (Event.Aborted i t m what ∷ shown) well e = pays_losses s b l shown well.1 e
+pays_losses s b l (Event.Reset dev ∷ shown) well e = pays_losses s b l shown well.1 e
 
-pub no_sense_lost : {A : Type 0} (s : ScenarioValue) (p : List Row) (n : ℕ) → Obeys s → IsPrompt s p
-    → has_loss (run_state s p).story.history (sense_id n) ≡ true → A
-no_sense_lost s [] n o prompt e = wrong' e
-no_sense_lost s (row ∷ p) n o prompt e =
-    go (λ z. no_sense_lost s p n o prompt.0 z) (any_either (λ x. is_loss_of (sense_id n) x)
+pub no_sense_lost : {A : Type 0} (s : ScenarioValue) (p : List Row) (m : ℕ) → Obeys s → IsPrompt s p
+    → has_loss (run_state s p).story.history (sense_id m) ≡ true → A
+no_sense_lost s [] m o prompt e = wrong' e
+no_sense_lost s (row ∷ p) m o prompt e =
+    go (λ z. no_sense_lost s p m o prompt.0 z) (any_either (λ x. is_loss_of (sense_id m) x)
     (row_events_by s k.story (row_reading k.story.bus_state row) row) k.story.history e)
   where
     k : RunState
@@ -154,11 +154,11 @@ no_sense_lost s (row ∷ p) n o prompt e =
       stood = standing_next s p row o prompt due.whole;
     }
 
-    go : {A : Type 0} → (has_loss k.story.history (sense_id n) ≡ true → A)
-        → (has_loss (row_events_by s k.story (row_reading k.story.bus_state row) row) (sense_id n) ≡ true)
-        ⊎ (has_loss k.story.history (sense_id n) ≡ true)
+    go : {A : Type 0} → (has_loss k.story.history (sense_id m) ≡ true → A)
+        → (has_loss (row_events_by s k.story (row_reading k.story.bus_state row) row) (sense_id m) ≡ true)
+        ⊎ (has_loss k.story.history (sense_id m) ≡ true)
         → A
-    go before (inl z) = pays_losses s (story_by_change s k.story (row_reading k.story.bus_state row) row) n
+    go before (inl z) = pays_losses s (story_by_change s k.story (row_reading k.story.bus_state row) row) m
         (row_events_by s k.story (row_reading k.story.bus_state row) row)
         (row_pays s p row v.lt v.was v.next v.stood due.books) z
     go before (inr z) = before z

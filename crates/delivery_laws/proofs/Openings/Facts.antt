@@ -15,25 +15,25 @@ use proofs.Names.{opening_with, IsLeaving}
 
 -- ---- whether its ends may negotiate stays as the connection began
 
-plan_keeps : (w : Hearing) (l : Leaving) (p : Plan) → (plan_after w l p).negotiates ≡ p.negotiates
-plan_keeps w l p = go (changes_phase w.change) w.crosses (w.fault && not w.change.before.io)
+plan_keeps : (w : Hearing) (l : Leaving) (f : Plan) → (plan_after w l f).negotiates ≡ f.negotiates
+plan_keeps w l f = go (changes_phase w.change) w.crosses (w.fault && not w.change.before.io)
   where
-    anew : (q : Bool) → (plan_anew_if q p).negotiates ≡ p.negotiates
+    anew : (q : Bool) → (plan_anew_if q f).negotiates ≡ f.negotiates
     anew true = refl
     anew false = refl
 
-    by_phase : (q r : Bool) → (if q then record (plan_anew p) { messages = l.messages; next = l.next }
-        else if r then plan_in_message_out w p else plan_anew p).negotiates ≡ p.negotiates
+    by_phase : (q r : Bool) → (if q then record (plan_anew f) { messages = l.messages; next = l.next }
+        else if r then plan_in_message_out w f else plan_anew f).negotiates ≡ f.negotiates
     by_phase true r = refl
     by_phase false true = refl
     by_phase false false = refl
 
-    by_byte : (q : Bool) → (if q then plan_after_message p w.is_last w.out else p).negotiates ≡ p.negotiates
+    by_byte : (q : Bool) → (if q then plan_after_message f w.is_last w.out else f).negotiates ≡ f.negotiates
     by_byte true = anew w.is_last
     by_byte false = refl
 
-    go : (a b c : Bool) → (if a then plan_in_phase w l p
-        else if b then plan_with_byte w p else if c then struck_plan p else p).negotiates ≡ p.negotiates
+    go : (a b c : Bool) → (if a then plan_in_phase w l f
+        else if b then plan_with_byte w f else if c then struck_plan f else f).negotiates ≡ f.negotiates
     go true b c = by_phase (not (is_message_out w.change.after)) w.begun
     go false true c = by_byte (is_message_out w.change.before)
     go false false true = refl

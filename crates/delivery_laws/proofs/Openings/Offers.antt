@@ -32,11 +32,11 @@ some_after p row x e = go (connection (row ∷ p)) e
     go None z = none_some x z
     go (Some c) z = refl
 
-planned_in : (w : Hearing) (l : Leaving) (p : Plan) → changes_phase w.change ≡ true
-    → is_message_out w.change.after ≡ false → (plan_after w l p).messages ≡ l.messages
-planned_in w l p turns other = (λ i. (if turns i then plan_in_phase w l p else if w.crosses then plan_with_byte w p
-    else if w.fault && not w.change.before.io then struck_plan p else p).messages)
-    ∙ ap (λ (x : Plan). x.messages) (plan_left w l p other)
+planned_in : (w : Hearing) (l : Leaving) (a : Plan) → changes_phase w.change ≡ true
+    → is_message_out w.change.after ≡ false → (plan_after w l a).messages ≡ l.messages
+planned_in w l a turns other = (λ i. (if turns i then plan_in_phase w l a else if w.crosses then plan_with_byte w a
+    else if w.fault && not w.change.before.io then struck_plan a else a).messages)
+    ∙ ap (λ (x : Plan). x.messages) (plan_left w l a other)
 
 pub planned_for : (s : ScenarioValue) (p : List Row) (row : Row) (n : Connection) → Obeys s
     → IsPrompt s (row ∷ p) → IsLeaving p row n → phase_after p row ≡ Some Phase.MessageIn

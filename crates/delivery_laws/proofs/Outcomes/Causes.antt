@@ -35,11 +35,11 @@ is_full (Some ended_full) = true
 is_full _ = false
 
 -- A status gives none of these.
-by_none : {A : Type 0} (s : ScenarioValue) (h : List Event) (n status : ℕ) (f : Option Outcome → Bool)
+by_none : {A : Type 0} (s : ScenarioValue) (h : List Event) (m status : ℕ) (f : Option Outcome → Bool)
     → ((bytes : List ℕ) → f (Some (ended_good bytes)) ≡ false) → f (Some ended_full) ≡ false
     → ((o : Option Rattle.due_model.specs.cdb_codec.specs.declared.Sense.Sense) → f (Some (ended_check o)) ≡ false)
-    → f (Some (outcome_by_status s h n status)) ≡ true → A
-by_none s h n status f good full check e = go (status == GOOD) (status == QUEUE_FULL) _ _ e
+    → f (Some (outcome_by_status s h m status)) ≡ true → A
+by_none s h m status f good full check e = go (status == GOOD) (status == QUEUE_FULL) _ _ e
   where
     go : {A : Type 0} (q r : Bool) (bytes : List ℕ)
         (o : Option Rattle.due_model.specs.cdb_codec.specs.declared.Sense.Sense)
@@ -48,33 +48,33 @@ by_none s h n status f good full check e = go (status == GOOD) (status == QUEUE_
     go false true bytes o z = wrong (sym z ∙ full)
     go false false bytes o z = wrong (sym z ∙ check o)
 
-by_lost : (s : ScenarioValue) (h : List Event) (n : ℕ) (o : Option Ending) → is_lost (outcome_if s h n o) ≡ true
+by_lost : (s : ScenarioValue) (h : List Event) (m : ℕ) (o : Option Ending) → is_lost (outcome_if s h m o) ≡ true
     → o ≡ Some by_loss
-by_lost s h n (Some (by_status status)) e = by_none s h n status is_lost (λ bytes. refl) refl (λ o. refl) e
-by_lost s h n (Some by_loss) e = refl
-by_lost s h n _ e = wrong' e
+by_lost s h m (Some (by_status status)) e = by_none s h m status is_lost (λ bytes. refl) refl (λ o. refl) e
+by_lost s h m (Some by_loss) e = refl
+by_lost s h m _ e = wrong' e
 
-by_silence : (s : ScenarioValue) (h : List Event) (n : ℕ) (o : Option Ending)
-    → is_unanswered (outcome_if s h n o) ≡ true → o ≡ Some unanswered
-by_silence s h n (Some (by_status status)) e = by_none s h n status is_unanswered (λ bytes. refl) refl (λ o. refl) e
-by_silence s h n (Some unanswered) e = refl
-by_silence s h n _ e = wrong' e
+by_silence : (s : ScenarioValue) (h : List Event) (m : ℕ) (o : Option Ending)
+    → is_unanswered (outcome_if s h m o) ≡ true → o ≡ Some unanswered
+by_silence s h m (Some (by_status status)) e = by_none s h m status is_unanswered (λ bytes. refl) refl (λ o. refl) e
+by_silence s h m (Some unanswered) e = refl
+by_silence s h m _ e = wrong' e
 
-by_resetting : (s : ScenarioValue) (h : List Event) (n : ℕ) (o : Option Ending) → is_reset (outcome_if s h n o) ≡ true
+by_resetting : (s : ScenarioValue) (h : List Event) (m : ℕ) (o : Option Ending) → is_reset (outcome_if s h m o) ≡ true
     → o ≡ Some by_reset
-by_resetting s h n (Some (by_status status)) e = by_none s h n status is_reset (λ bytes. refl) refl (λ o. refl) e
-by_resetting s h n (Some by_reset) e = refl
-by_resetting s h n _ e = wrong' e
+by_resetting s h m (Some (by_status status)) e = by_none s h m status is_reset (λ bytes. refl) refl (λ o. refl) e
+by_resetting s h m (Some by_reset) e = refl
+by_resetting s h m _ e = wrong' e
 
-by_aborting : (s : ScenarioValue) (h : List Event) (n : ℕ) (o : Option Ending) → is_aborted (outcome_if s h n o) ≡ true
+by_aborting : (s : ScenarioValue) (h : List Event) (m : ℕ) (o : Option Ending) → is_aborted (outcome_if s h m o) ≡ true
     → o ≡ Some by_abort
-by_aborting s h n (Some (by_status status)) e = by_none s h n status is_aborted (λ bytes. refl) refl (λ o. refl) e
-by_aborting s h n (Some by_abort) e = refl
-by_aborting s h n _ e = wrong' e
+by_aborting s h m (Some (by_status status)) e = by_none s h m status is_aborted (λ bytes. refl) refl (λ o. refl) e
+by_aborting s h m (Some by_abort) e = refl
+by_aborting s h m _ e = wrong' e
 
-by_full : (s : ScenarioValue) (h : List Event) (n : ℕ) (o : Option Ending) → is_full (outcome_if s h n o) ≡ true
+by_full : (s : ScenarioValue) (h : List Event) (m : ℕ) (o : Option Ending) → is_full (outcome_if s h m o) ≡ true
     → o ≡ Some (by_status QUEUE_FULL)
-by_full s h n (Some (by_status status)) e = go (status == GOOD) (status == QUEUE_FULL) refl _ _ e
+by_full s h m (Some (by_status status)) e = go (status == GOOD) (status == QUEUE_FULL) refl _ _ e
   where
     go : (q r : Bool) → (status == QUEUE_FULL) ≡ r
         → (bytes : List ℕ) (o : Option Rattle.due_model.specs.cdb_codec.specs.declared.Sense.Sense)
@@ -83,13 +83,13 @@ by_full s h n (Some (by_status status)) e = go (status == GOOD) (status == QUEUE
     go true r w bytes o z = wrong' z
     go false true w bytes o z = λ i. Some (by_status (eqb-true status QUEUE_FULL w i))
     go false false w bytes o z = wrong' z
-by_full s h n _ e = wrong' e
+by_full s h m _ e = wrong' e
 
 -- What the run state tells of it.
-told : (s : ScenarioValue) (p : List Row) (n : ℕ) (x : Outcome) (f : Option Outcome → Bool)
-    → IsPrompt s p → f (Some x) ≡ true → outcome_of s (story s p) n ≡ Some x
-    → f (outcome_if s (run_state s p).story.history n (ending_of (run_state s p).story.ended n)) ≡ true
-told s p n x f prompt own e = ap f (ap (λ (b : Story). outcome_of s b n) (prompt_plain s p prompt).story ∙ e) ∙ own
+told : (s : ScenarioValue) (p : List Row) (m : ℕ) (x : Outcome) (f : Option Outcome → Bool)
+    → IsPrompt s p → f (Some x) ≡ true → outcome_of s (story s p) m ≡ Some x
+    → f (outcome_if s (run_state s p).story.history m (ending_of (run_state s p).story.ended m)) ≡ true
+told s p m x f prompt own e = ap f (ap (λ (b : Story). outcome_of s b m) (prompt_plain s p prompt).story ∙ e) ∙ own
 
 -- ---- faults above the limit
 
@@ -102,46 +102,46 @@ above_own l r f g e h = grind (arith, nat_tests)
 none_above : {A : Type 0} (r f : ℕ) → f ≡ 0 → nat_lt r f ≡ true → A
 none_above r f e h = absurd grind (arith, nat_tests)
 
-connected_above : (s : ScenarioValue) (p : List Row) (n : ℕ) (c : CmdDef)
-    → Obeys s → IsPrompt s p → command_at s.commands n ≡ Some c
-    → nat_lt (recovery_limit (target_def_of s c.target)) (fault_rows s p (command_id n)) ≡ true
-    → nat_lt (fault_limit s c) (command_faults s p n) ≡ true
-connected_above s p n c o prompt at e = go (has_target s c.target) refl
+connected_above : (s : ScenarioValue) (p : List Row) (m : ℕ) (c : CmdDef)
+    → Obeys s → IsPrompt s p → command_at s.commands m ≡ Some c
+    → nat_lt (recovery_limit (target_def_of s c.target)) (fault_rows s p (command_id m)) ≡ true
+    → nat_lt (fault_limit s c) (command_faults s p m) ≡ true
+connected_above s p m c o prompt at e = go (has_target s c.target) refl
   where
-    go : (q : Bool) → has_target s c.target ≡ q → nat_lt (fault_limit s c) (command_faults s p n) ≡ true
+    go : (q : Bool) → has_target s c.target ≡ q → nat_lt (fault_limit s c) (command_faults s p m) ≡ true
     go true there = above_other (fault_limit s c) (recovery_limit (target_def_of s c.target))
-        (fault_rows s p (command_id n)) (calling_faults s p (command_item n)) (borne s c there).other e
-    go false away = none_above (recovery_limit (target_def_of s c.target)) (fault_rows s p (command_id n))
-        (absent_unstruck s p o prompt (command_id n) (process_by s (command_id n) c)
-        (ap (process_if s (command_id n)) at) away) e
+        (fault_rows s p (command_id m)) (calling_faults s p (command_item m)) (borne s c there).other e
+    go false away = none_above (recovery_limit (target_def_of s c.target)) (fault_rows s p (command_id m))
+        (absent_unstruck s p o prompt (command_id m) (process_by s (command_id m) c)
+        (ap (process_if s (command_id m)) at) away) e
 
-pub lost_above : (s : ScenarioValue) (p : List Row) (n : ℕ) (c : CmdDef) → HaveCauses → IsLostAbove → Obeys s
-    → IsPrompt s p → command_at s.commands n ≡ Some c → outcome_of s (story s p) n ≡ Some ended_lost
-    → nat_lt (fault_limit s c) (command_faults s p n) ≡ true
-lost_above s p n c causes lost o prompt at e = connected_above s p n c o prompt at
-    (lost s p (process_by s (command_id n) c) o prompt (ap (process_if s (command_id n)) at)
-    (any_to (is_loss_of (command_id n)) (λ x. same_event x (Event.Lost (command_id n))) (loss_is_event (command_id n))
-    (run_state s p).story.history (causes.loss s p n (by_lost s (run_state s p).story.history n
-    (ending_of (run_state s p).story.ended n) (told s p n ended_lost is_lost prompt refl e)))))
+pub lost_above : (s : ScenarioValue) (p : List Row) (m : ℕ) (c : CmdDef) → HaveCauses → IsLostAbove → Obeys s
+    → IsPrompt s p → command_at s.commands m ≡ Some c → outcome_of s (story s p) m ≡ Some ended_lost
+    → nat_lt (fault_limit s c) (command_faults s p m) ≡ true
+lost_above s p m c causes lost o prompt at e = connected_above s p m c o prompt at
+    (lost s p (process_by s (command_id m) c) o prompt (ap (process_if s (command_id m)) at)
+    (any_to (is_loss_of (command_id m)) (λ x. same_event x (Event.Lost (command_id m))) (loss_is_event (command_id m))
+    (run_state s p).story.history (causes.loss s p m (by_lost s (run_state s p).story.history m
+    (ending_of (run_state s p).story.ended m) (told s p m ended_lost is_lost prompt refl e)))))
 
-pub failed_above : (s : ScenarioValue) (p : List Row) (n code : ℕ) (c : CmdDef) → IsLimited → Obeys s → IsPrompt s p
-    → command_at s.commands n ≡ Some c → has_event (run_state s p).story.history (Event.Fail (command_id n) code) ≡ true
-    → nat_lt (fault_limit s c) (command_faults s p n) ≡ true
-failed_above s p n code c limited o prompt at e = connected_above s p n c o prompt at
-    (limited s p (process_by s (command_id n) c) code o prompt (ap (process_if s (command_id n)) at) e)
+pub failed_above : (s : ScenarioValue) (p : List Row) (m code : ℕ) (c : CmdDef) → IsLimited → Obeys s → IsPrompt s p
+    → command_at s.commands m ≡ Some c → has_event (run_state s p).story.history (Event.Fail (command_id m) code) ≡ true
+    → nat_lt (fault_limit s c) (command_faults s p m) ≡ true
+failed_above s p m code c limited o prompt at e = connected_above s p m c o prompt at
+    (limited s p (process_by s (command_id m) c) code o prompt (ap (process_if s (command_id m)) at) e)
 
-pub unanswered_above : (s : ScenarioValue) (p : List Row) (n : ℕ) (c : CmdDef) → HaveCauses → Obeys s
-    → IsPrompt s p → command_at s.commands n ≡ Some c → outcome_of s (story s p) n ≡ Some ended_unanswered
-    → (has_target s c.target ≡ false) ⊎ (nat_lt (fault_limit s c) (command_faults s p n) ≡ true)
-unanswered_above s p n c causes o prompt at e = go (has_target s c.target) refl
+pub unanswered_above : (s : ScenarioValue) (p : List Row) (m : ℕ) (c : CmdDef) → HaveCauses → Obeys s
+    → IsPrompt s p → command_at s.commands m ≡ Some c → outcome_of s (story s p) m ≡ Some ended_unanswered
+    → (has_target s c.target ≡ false) ⊎ (nat_lt (fault_limit s c) (command_faults s p m) ≡ true)
+unanswered_above s p m c causes o prompt at e = go (has_target s c.target) refl
   where
     go : (q : Bool) → has_target s c.target ≡ q
-        → (has_target s c.target ≡ false) ⊎ (nat_lt (fault_limit s c) (command_faults s p n) ≡ true)
+        → (has_target s c.target ≡ false) ⊎ (nat_lt (fault_limit s c) (command_faults s p m) ≡ true)
     go false away = inl away
     go true there = inr (above_own (fault_limit s c) (retries_of s.hosts c.host)
-        (fault_rows s p (command_id n)) (calling_faults s p (command_item n)) (borne s c there).own
-        (unanswered_struck s p n c causes.tried o prompt at there (by_silence s (run_state s p).story.history n
-        (ending_of (run_state s p).story.ended n) (told s p n ended_unanswered is_unanswered prompt refl e))))
+        (fault_rows s p (command_id m)) (calling_faults s p (command_item m)) (borne s c there).own
+        (unanswered_struck s p m c causes.tried o prompt at there (by_silence s (run_state s p).story.history m
+        (ending_of (run_state s p).story.ended m) (told s p m ended_unanswered is_unanswered prompt refl e))))
 
 -- ---- a full queue, a reset, an abort
 
@@ -155,21 +155,21 @@ IsFullTrace = (s : ScenarioValue) (rows : List Row) (id : ProcId) → allowed s 
     → has_event (run_state s rows).story.history (Event.End id QUEUE_FULL) ≡ true
     → was_refused s (run_state s rows).story.history id ≡ true
 
-pub full_refused : (s : ScenarioValue) (p : List Row) (n : ℕ) → HaveCauses → IsFullTrace → Obeys s → IsPrompt s p
-    → outcome_of s (story s p) n ≡ Some ended_full → was_refused s (run_state s p).story.history (command_id n) ≡ true
-full_refused s p n causes full o prompt e =
-    full s p (command_id n) (whole s p o prompt).permitted (any_to (is_status_of (command_id n) QUEUE_FULL)
-    (λ x. same_event x (Event.End (command_id n) QUEUE_FULL)) (status_is_event (command_id n) QUEUE_FULL)
-    (run_state s p).story.history (causes.status s p n QUEUE_FULL (by_full s (run_state s p).story.history n
-    (ending_of (run_state s p).story.ended n) (told s p n ended_full is_full prompt refl e))))
+pub full_refused : (s : ScenarioValue) (p : List Row) (m : ℕ) → HaveCauses → IsFullTrace → Obeys s → IsPrompt s p
+    → outcome_of s (story s p) m ≡ Some ended_full → was_refused s (run_state s p).story.history (command_id m) ≡ true
+full_refused s p m causes full o prompt e =
+    full s p (command_id m) (whole s p o prompt).permitted (any_to (is_status_of (command_id m) QUEUE_FULL)
+    (λ x. same_event x (Event.End (command_id m) QUEUE_FULL)) (status_is_event (command_id m) QUEUE_FULL)
+    (run_state s p).story.history (causes.status s p m QUEUE_FULL (by_full s (run_state s p).story.history m
+    (ending_of (run_state s p).story.ended m) (told s p m ended_full is_full prompt refl e))))
 
-pub reset_came : (s : ScenarioValue) (p : List Row) (n : ℕ) → HaveCauses → IsPrompt s p
-    → outcome_of s (story s p) n ≡ Some ended_reset → has_bus_reset (run_state s p).story.history ≡ true
-reset_came s p n causes prompt e = causes.reset s p n (by_resetting s (run_state s p).story.history n
-    (ending_of (run_state s p).story.ended n) (told s p n ended_reset is_reset prompt refl e))
+pub reset_came : (s : ScenarioValue) (p : List Row) (m : ℕ) → HaveCauses → IsPrompt s p
+    → outcome_of s (story s p) m ≡ Some ended_reset → has_bus_reset (run_state s p).story.history ≡ true
+reset_came s p m causes prompt e = causes.reset s p m (by_resetting s (run_state s p).story.history m
+    (ending_of (run_state s p).story.ended m) (told s p m ended_reset is_reset prompt refl e))
 
-pub abort_came : (s : ScenarioValue) (p : List Row) (n : ℕ) (c : CmdDef) → HaveCauses → IsPrompt s p
-    → command_at s.commands n ≡ Some c → outcome_of s (story s p) n ≡ Some ended_aborted
+pub abort_came : (s : ScenarioValue) (p : List Row) (m : ℕ) (c : CmdDef) → HaveCauses → IsPrompt s p
+    → command_at s.commands m ≡ Some c → outcome_of s (story s p) m ≡ Some ended_aborted
     → has_command_abort (run_state s p).story.history c ≡ true
-abort_came s p n c causes prompt at e = causes.abort s p n c at (by_aborting s (run_state s p).story.history n
-    (ending_of (run_state s p).story.ended n) (told s p n ended_aborted is_aborted prompt refl e))
+abort_came s p m c causes prompt at e = causes.abort s p m c at (by_aborting s (run_state s p).story.history m
+    (ending_of (run_state s p).story.ended m) (told s p m ended_aborted is_aborted prompt refl e))

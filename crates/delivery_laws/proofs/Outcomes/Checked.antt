@@ -41,10 +41,10 @@ calm_of : (s : ScenarioValue) (p : List Row) → IsCalmTrace s p
     → list_all (λ (x : Event). is_calm_event x) (run_state s p).story.history ≡ true
 calm_of s p t = calm_history s p t.obeys t.resets t.aborts t.prompt
 
-has_outcome : (s : ScenarioValue) (p : List Row) (n : ℕ) (c : CmdDef) → Laws → IsCalmTrace s p
-    → command_at s.commands n ≡ Some c → is_some (outcome_of s (run_state s p).story n) ≡ true
-has_outcome s p n c laws t at = subst (λ (b : Story). is_some (outcome_of s b n) ≡ true) (sym
-    (prompt_plain s p t.prompt).story) (some_outcome s (story s p) n c (laws.answered s p t.obeys t.prompt t.end) at)
+has_outcome : (s : ScenarioValue) (p : List Row) (m : ℕ) (c : CmdDef) → Laws → IsCalmTrace s p
+    → command_at s.commands m ≡ Some c → is_some (outcome_of s (run_state s p).story m) ≡ true
+has_outcome s p m c laws t at = subst (λ (b : Story). is_some (outcome_of s b m) ≡ true) (sym
+    (prompt_plain s p t.prompt).story) (some_outcome s (story s p) m c (laws.answered s p t.obeys t.prompt t.end) at)
 
 -- ---- its target is absent
 
@@ -56,67 +56,67 @@ loss_about : (id : ProcId) (e : Event) → is_loss_of id e ≡ true → is_about
 loss_about id (Event.Lost p) z = z
 loss_about id _ z = wrong' z
 
-pub unheard : (s : ScenarioValue) (p : List Row) (n : ℕ) (c : CmdDef) → Laws
-    → IsCalmTrace s p → command_at s.commands n ≡ Some c → has_target s c.target ≡ false
-    → outcome_of s (story s p) n ≡ Some ended_unanswered
-unheard s p n c laws t at away = ap (λ (b : Story). outcome_of s b n) (sym (prompt_plain s p t.prompt).story)
-    ∙ go (ending_of k.story.ended n) refl (has_outcome s p n c laws t at)
+pub unheard : (s : ScenarioValue) (p : List Row) (m : ℕ) (c : CmdDef) → Laws
+    → IsCalmTrace s p → command_at s.commands m ≡ Some c → has_target s c.target ≡ false
+    → outcome_of s (story s p) m ≡ Some ended_unanswered
+unheard s p m c laws t at away = ap (λ (b : Story). outcome_of s b m) (sym (prompt_plain s p t.prompt).story)
+    ∙ go (ending_of k.story.ended m) refl (has_outcome s p m c laws t at)
   where
     k : RunState
     k = run_state s p
 
-    none : {A : Type 0} → has_about k.story.history (command_id n) ≡ true → A
-    none has = wrong (sym (about_there s p t.obeys t.prompt (command_id n) (process_by s (command_id n) c)
-        (ap (process_if s (command_id n)) at) has) ∙ away)
+    none : {A : Type 0} → has_about k.story.history (command_id m) ≡ true → A
+    none has = wrong (sym (about_there s p t.obeys t.prompt (command_id m) (process_by s (command_id m) c)
+        (ap (process_if s (command_id m)) at) has) ∙ away)
 
-    go : (o : Option Ending) → ending_of k.story.ended n ≡ o → is_some (outcome_if s k.story.history n o) ≡ true
-        → outcome_if s k.story.history n o ≡ Some ended_unanswered
+    go : (o : Option Ending) → ending_of k.story.ended m ≡ o → is_some (outcome_if s k.story.history m o) ≡ true
+        → outcome_if s k.story.history m o ≡ Some ended_unanswered
     go None e some = wrong' some
     go (Some (by_status status)) e some =
-        none (any_to (is_status_of (command_id n) status) (λ x. is_about (command_id n) x)
-        (status_about (command_id n) status) k.story.history (laws.causes.status s p n status e))
-    go (Some by_loss) e some = none (any_to (is_loss_of (command_id n)) (λ x. is_about (command_id n) x)
-        (loss_about (command_id n)) k.story.history (laws.causes.loss s p n e))
+        none (any_to (is_status_of (command_id m) status) (λ x. is_about (command_id m) x)
+        (status_about (command_id m) status) k.story.history (laws.causes.status s p m status e))
+    go (Some by_loss) e some = none (any_to (is_loss_of (command_id m)) (λ x. is_about (command_id m) x)
+        (loss_about (command_id m)) k.story.history (laws.causes.loss s p m e))
     go (Some by_reset) e some =
-        none_calm is_bus_reset reset_uncalm k.story.history (calm_of s p t) (laws.causes.reset s p n e)
+        none_calm is_bus_reset reset_uncalm k.story.history (calm_of s p t) (laws.causes.reset s p m e)
     go (Some by_abort) e some =
-        none_calm (is_command_abort c) (abort_uncalm c) k.story.history (calm_of s p t) (laws.causes.abort s p n c at e)
+        none_calm (is_command_abort c) (abort_uncalm c) k.story.history (calm_of s p t) (laws.causes.abort s p m c at e)
     go (Some unanswered) e some = refl
 
 -- ---- it is not valid
 
 -- What is asked of it.
-pub record IsWrong (s : ScenarioValue) (p : List Row) (n : ℕ) (c : CmdDef) : Type 0 where
-  pub at : command_at s.commands n ≡ Some c
+pub record IsWrong (s : ScenarioValue) (p : List Row) (m : ℕ) (c : CmdDef) : Type 0 where
+  pub at : command_at s.commands m ≡ Some c
   pub there : has_target s c.target ≡ true
   pub invalid : is_valid s c ≡ false
-  pub bears : nat_le (command_faults s p n) (fault_limit s c) ≡ true
-  pub unrefused : has_event (run_state s p).story.history (Event.Refuse (command_id n)) ≡ false
+  pub bears : nat_le (command_faults s p m) (fault_limit s c) ≡ true
+  pub unrefused : has_event (run_state s p).story.history (Event.Refuse (command_id m)) ≡ false
 
 -- Its faults are borne.
-no_more : {A : Type 0} (s : ScenarioValue) (p : List Row) (n : ℕ) (c : CmdDef) → IsWrong s p n c
-    → nat_lt (recovery_limit (target_def_of s c.target)) (fault_rows s p (command_id n)) ≡ true → A
-no_more s p n c h e =
+no_more : {A : Type 0} (s : ScenarioValue) (p : List Row) (m : ℕ) (c : CmdDef) → IsWrong s p m c
+    → nat_lt (recovery_limit (target_def_of s c.target)) (fault_rows s p (command_id m)) ≡ true → A
+no_more s p m c h e =
     let b : Borne s c = borne s c h.there in
-    not_above (fault_rows s p (command_id n)) (calling_faults s p (command_item n))
+    not_above (fault_rows s p (command_id m)) (calling_faults s p (command_item m))
     (retries_of s.hosts c.host) (fault_limit s c) (recovery_limit (target_def_of s c.target))
     (recovery_limit (target_def_of s c.target)) h.bears b.own b.other e refl
 
 -- Its reply.
-wrong_reply : (s : ScenarioValue) (p : List Row) (n : ℕ) (c : CmdDef) (reply : Reply) → Laws → IsCalmTrace s p
-    → IsWrong s p n c → reply_of (array_after s (run_state s p).story.history) (command_id n) ≡ Some reply
+wrong_reply : (s : ScenarioValue) (p : List Row) (m : ℕ) (c : CmdDef) (reply : Reply) → Laws → IsCalmTrace s p
+    → IsWrong s p m c → reply_of (array_after s (run_state s p).story.history) (command_id m) ≡ Some reply
     → reply ≡ check_condition (checked_sense s c)
-wrong_reply s p n c reply laws t h e =
-    by (all_given s k.story.history (array_of s k) t.obeys (own_plays s p t.obeys t.prompt) (command_id n) reply
-    (ap (λ (x : Option Array). reply_of x (command_id n)) (sym (own_plays s p t.obeys t.prompt)) ∙ e))
+wrong_reply s p m c reply laws t h e =
+    by (all_given s k.story.history (array_of s k) t.obeys (own_plays s p t.obeys t.prompt) (command_id m) reply
+    (ap (λ (x : Option Array). reply_of x (command_id m)) (sym (own_plays s p t.obeys t.prompt)) ∙ e))
   where
     k : RunState
     k = run_state s p
 
-    by : IsGiven s k.story.history (command_id n) reply → reply ≡ check_condition (checked_sense s c)
-    by (ran w) = invalid_ran s k.story.history n c reply t.obeys (calm_of s p t) h.at h.there h.invalid w
-    by (failed code f g) = no_more s p n c h (laws.limited s p (process_by s (command_id n) c) code t.obeys t.prompt
-        (ap (process_if s (command_id n)) h.at) f)
+    by : IsGiven s k.story.history (command_id m) reply → reply ≡ check_condition (checked_sense s c)
+    by (ran w) = invalid_ran s k.story.history m c reply t.obeys (calm_of s p t) h.at h.there h.invalid w
+    by (failed code f g) = no_more s p m c h (laws.limited s p (process_by s (command_id m) c) code t.obeys t.prompt
+        (ap (process_if s (command_id m)) h.at) f)
     by (refused f g) = wrong (sym f ∙ h.unrefused)
 
 sense_uncalm : (c : CmdDef) (e : Event) → is_sense_abort c e ≡ true → is_calm_event e ≡ false
@@ -124,86 +124,86 @@ sense_uncalm c (Event.Aborted i t n what) z = refl
 sense_uncalm c _ z = wrong' z
 
 -- Its automatic REQUEST SENSE is not stopped.
-unstopped : {A : Type 0} (s : ScenarioValue) (p : List Row) (n : ℕ) (c : CmdDef) → IsCalmTrace s p
-    → has_sense_stop (run_state s p).story.history n c ≡ true → A
-unstopped s p n c t e = go (has_loss k.story.history (sense_id n)) refl (has_bus_reset k.story.history) refl e
+unstopped : {A : Type 0} (s : ScenarioValue) (p : List Row) (m : ℕ) (c : CmdDef) → IsCalmTrace s p
+    → has_sense_stop (run_state s p).story.history m c ≡ true → A
+unstopped s p m c t e = go (has_loss k.story.history (sense_id m)) refl (has_bus_reset k.story.history) refl e
   where
     k : RunState
     k = run_state s p
 
-    go : {A : Type 0} (x : Bool) → has_loss k.story.history (sense_id n) ≡ x
+    go : {A : Type 0} (x : Bool) → has_loss k.story.history (sense_id m) ≡ x
         → (y : Bool) → has_bus_reset k.story.history ≡ y → (x || (y || has_sense_abort k.story.history c)) ≡ true → A
-    go true f y g z = no_sense_lost s p n t.obeys t.prompt f
+    go true f y g z = no_sense_lost s p m t.obeys t.prompt f
     go false f true g z = none_calm is_bus_reset reset_uncalm k.story.history (calm_of s p t) g
     go false f false g z = none_calm (is_sense_abort c) (sense_uncalm c) k.story.history (calm_of s p t) z
 
-by_check : (s : ScenarioValue) (h : List Event) (n status : ℕ) → status ≡ CHECK_CONDITION
-    → outcome_if s h n (Some (by_status status)) ≡ Some (ended_check (sense_of_end s h (sense_id n)))
-by_check s h n status e = λ i. Some (outcome_by_status s h n (e i))
+by_check : (s : ScenarioValue) (h : List Event) (m status : ℕ) → status ≡ CHECK_CONDITION
+    → outcome_if s h m (Some (by_status status)) ≡ Some (ended_check (sense_of_end s h (sense_id m)))
+by_check s h m status e = λ i. Some (outcome_by_status s h m (e i))
 
-pub wrong_outcome : (s : ScenarioValue) (p : List Row) (n : ℕ) (c : CmdDef) → Laws → IsCalmTrace s p → IsWrong s p n c
-    → outcome_of s (story s p) n ≡ Some (ended_check (Some (checked_sense s c)))
-wrong_outcome s p n c laws t h = told ∙ go (ending_of k.story.ended n) refl (has_outcome s p n c laws t h.at)
+pub wrong_outcome : (s : ScenarioValue) (p : List Row) (m : ℕ) (c : CmdDef) → Laws → IsCalmTrace s p → IsWrong s p m c
+    → outcome_of s (story s p) m ≡ Some (ended_check (Some (checked_sense s c)))
+wrong_outcome s p m c laws t h = told ∙ go (ending_of k.story.ended m) refl (has_outcome s p m c laws t h.at)
   where
     k : RunState
     k = run_state s p
 
-    told : outcome_of s (story s p) n ≡ outcome_of s k.story n
-    told = ap (λ (b : Story). outcome_of s b n) (sym (prompt_plain s p t.prompt).story)
+    told : outcome_of s (story s p) m ≡ outcome_of s k.story m
+    told = ap (λ (b : Story). outcome_of s b m) (sym (prompt_plain s p t.prompt).story)
 
     w : Whole s p
     w = whole s p t.obeys t.prompt
 
     -- its status
-    checks : (status : ℕ) → has_status k.story.history (command_id n) status ≡ true → status ≡ CHECK_CONDITION
+    checks : (status : ℕ) → has_status k.story.history (command_id m) status ≡ true → status ≡ CHECK_CONDITION
     checks status e =
-        let r : HasReply s k (command_id n) status = end_reply s k (command_id n) status
-        (w.statuses.areas.areas (command_id n)) (end_found s k k.story.history (command_id n) status
+        let r : HasReply s k (command_id m) status = end_reply s k (command_id m) status
+        (w.statuses.areas.areas (command_id m)) (end_found s k k.story.history (command_id m) status
         (all_ended s p t.obeys t.prompt (all_joined s p t.obeys t.prompt)) e) in
-        r.status_is ∙ ap (λ (x : Reply). x.status) (wrong_reply s p n c r.reply laws t h
-        (ap (λ (x : Option Array). reply_of x (command_id n)) (own_plays s p t.obeys t.prompt) ∙ r.reply_is))
+        r.status_is ∙ ap (λ (x : Reply). x.status) (wrong_reply s p m c r.reply laws t h
+        (ap (λ (x : Option Array). reply_of x (command_id m)) (own_plays s p t.obeys t.prompt) ∙ r.reply_is))
 
     -- its sense
-    brought : outcome_of s k.story n ≡ Some (ended_check (sense_of_end s k.story.history (sense_id n)))
-        → (x : Option Sense) → sense_of_end s k.story.history (sense_id n) ≡ x
+    brought : outcome_of s k.story m ≡ Some (ended_check (sense_of_end s k.story.history (sense_id m)))
+        → (x : Option Sense) → sense_of_end s k.story.history (sense_id m) ≡ x
         → Some (ended_check x) ≡ Some (ended_check (Some (checked_sense s c)))
-    brought e None f = unstopped s p n c t (sense_stopped s p n c laws.wants laws.causes laws.stopped t.obeys t.prompt
+    brought e None f = unstopped s p m c t (sense_stopped s p m c laws.wants laws.causes laws.stopped t.obeys t.prompt
         t.end h.at (told ∙ e ∙ (λ i. Some (ended_check (f i)))))
     brought e (Some x) f =
-        let own : IsOwnSense s k.story.history n x = own_sense s p n x t.obeys t.prompt
+        let own : IsOwnSense s k.story.history m x = own_sense s p m x t.obeys t.prompt
         (told ∙ e ∙ (λ i. Some (ended_check (f i)))) in
         λ i. Some (ended_check (Some
-        ((sym own.sense_is ∙ ap (λ (y : Reply). y.sense) (wrong_reply s p n c own.reply laws t h own.reply_is)) i)))
+        ((sym own.sense_is ∙ ap (λ (y : Reply). y.sense) (wrong_reply s p m c own.reply laws t h own.reply_is)) i)))
 
-    go : (o : Option Ending) → ending_of k.story.ended n ≡ o → is_some (outcome_if s k.story.history n o) ≡ true
-        → outcome_if s k.story.history n o ≡ Some (ended_check (Some (checked_sense s c)))
+    go : (o : Option Ending) → ending_of k.story.ended m ≡ o → is_some (outcome_if s k.story.history m o) ≡ true
+        → outcome_if s k.story.history m o ≡ Some (ended_check (Some (checked_sense s c)))
     go None e some = wrong' some
     go (Some (by_status status)) e some =
-        let is = by_check s k.story.history n status (checks status (laws.causes.status s p n status e)) in
-        is ∙ (λ i. Some (ended_check (sense_of_end s k.story.history (sense_id n))))
-        ∙ brought (ap (outcome_if s k.story.history n) e ∙ is) (sense_of_end s k.story.history (sense_id n)) refl
-    go (Some by_loss) e some = no_more s p n c h
-        (laws.lost s p (process_by s (command_id n) c) t.obeys t.prompt (ap (process_if s (command_id n)) h.at)
-        (any_to (is_loss_of (command_id n)) (λ x. same_event x (Event.Lost (command_id n)))
-        (loss_is_event (command_id n)) k.story.history (laws.causes.loss s p n e)))
+        let is = by_check s k.story.history m status (checks status (laws.causes.status s p m status e)) in
+        is ∙ (λ i. Some (ended_check (sense_of_end s k.story.history (sense_id m))))
+        ∙ brought (ap (outcome_if s k.story.history m) e ∙ is) (sense_of_end s k.story.history (sense_id m)) refl
+    go (Some by_loss) e some = no_more s p m c h
+        (laws.lost s p (process_by s (command_id m) c) t.obeys t.prompt (ap (process_if s (command_id m)) h.at)
+        (any_to (is_loss_of (command_id m)) (λ x. same_event x (Event.Lost (command_id m)))
+        (loss_is_event (command_id m)) k.story.history (laws.causes.loss s p m e)))
     go (Some by_reset) e some =
-        none_calm is_bus_reset reset_uncalm k.story.history (calm_of s p t) (laws.causes.reset s p n e)
+        none_calm is_bus_reset reset_uncalm k.story.history (calm_of s p t) (laws.causes.reset s p m e)
     go (Some by_abort) e some = none_calm (is_command_abort c) (abort_uncalm c) k.story.history (calm_of s p t)
-        (laws.causes.abort s p n c h.at e)
+        (laws.causes.abort s p m c h.at e)
     go (Some unanswered) e some =
         let b : Borne s c = borne s c h.there in
-        not_unheard (fault_rows s p (command_id n)) (calling_faults s p (command_item n)) (retries_of s.hosts c.host)
+        not_unheard (fault_rows s p (command_id m)) (calling_faults s p (command_item m)) (retries_of s.hosts c.host)
         (fault_limit s c) (recovery_limit (target_def_of s c.target)) h.bears b.own b.other
-        (unanswered_struck s p n c laws.causes.tried t.obeys t.prompt h.at h.there e)
+        (unanswered_struck s p m c laws.causes.tried t.obeys t.prompt h.at h.there e)
 
 -- ---- it ran with CHECK CONDITION
 
-pub ran_outcome : (s : ScenarioValue) (p : List Row) (n status : ℕ) (reply : Reply) → HaveCauses
-    → Obeys s → IsPrompt s p → HasRun s (run_state s p).story.history (command_id n) reply
-    → reply.status ≡ CHECK_CONDITION → ending_of (run_state s p).story.ended n ≡ Some (by_status status)
-    → (outcome_of s (story s p) n ≡ Some (ended_check None))
-    ⊎ (outcome_of s (story s p) n ≡ Some (ended_check (Some reply.sense)))
-ran_outcome s p n status reply causes o prompt w check e = by (sense_of_end s k.story.history (sense_id n)) refl
+pub ran_outcome : (s : ScenarioValue) (p : List Row) (m status : ℕ) (reply : Reply) → HaveCauses
+    → Obeys s → IsPrompt s p → HasRun s (run_state s p).story.history (command_id m) reply
+    → reply.status ≡ CHECK_CONDITION → ending_of (run_state s p).story.ended m ≡ Some (by_status status)
+    → (outcome_of s (story s p) m ≡ Some (ended_check None))
+    ⊎ (outcome_of s (story s p) m ≡ Some (ended_check (Some reply.sense)))
+ran_outcome s p m status reply causes o prompt w check e = by (sense_of_end s k.story.history (sense_id m)) refl
   where
     k : RunState
     k = run_state s p
@@ -211,28 +211,28 @@ ran_outcome s p n status reply causes o prompt w check e = by (sense_of_end s k.
     plays : array_after s k.story.history ≡ Some (array_of s k)
     plays = own_plays s p o prompt
 
-    listed : reply_in (array_of s k).replies (command_id n) ≡ Some reply
-    listed = ran_lasts s p (array_of s k) (command_id n) reply o prompt plays w
+    listed : reply_in (array_of s k).replies (command_id m) ≡ Some reply
+    listed = ran_lasts s p (array_of s k) (command_id m) reply o prompt plays w
 
-    r : HasReply s k (command_id n) status
-    r = end_reply s k (command_id n) status ((whole s p o prompt).statuses.areas.areas (command_id n))
-        (end_found s k k.story.history (command_id n) status (all_ended s p o prompt (all_joined s p o prompt))
-        (causes.status s p n status e))
+    r : HasReply s k (command_id m) status
+    r = end_reply s k (command_id m) status ((whole s p o prompt).statuses.areas.areas (command_id m))
+        (end_found s k k.story.history (command_id m) status (all_ended s p o prompt (all_joined s p o prompt))
+        (causes.status s p m status e))
 
     is_check : status ≡ CHECK_CONDITION
     is_check = r.status_is ∙ ap (λ (x : Reply). x.status) (same_Some r.reply reply (sym r.reply_is ∙ listed)) ∙ check
 
-    told : outcome_of s (story s p) n ≡ Some (ended_check (sense_of_end s k.story.history (sense_id n)))
-    told = ap (λ (b : Story). outcome_of s b n) (sym (prompt_plain s p prompt).story)
-        ∙ ap (outcome_if s k.story.history n) e ∙ by_check s k.story.history n status is_check
+    told : outcome_of s (story s p) m ≡ Some (ended_check (sense_of_end s k.story.history (sense_id m)))
+    told = ap (λ (b : Story). outcome_of s b m) (sym (prompt_plain s p prompt).story)
+        ∙ ap (outcome_if s k.story.history m) e ∙ by_check s k.story.history m status is_check
 
-    by : (x : Option Sense) → sense_of_end s k.story.history (sense_id n) ≡ x
-        → (outcome_of s (story s p) n ≡ Some (ended_check None))
-        ⊎ (outcome_of s (story s p) n ≡ Some (ended_check (Some reply.sense)))
+    by : (x : Option Sense) → sense_of_end s k.story.history (sense_id m) ≡ x
+        → (outcome_of s (story s p) m ≡ Some (ended_check None))
+        ⊎ (outcome_of s (story s p) m ≡ Some (ended_check (Some reply.sense)))
     by None f = inl (told ∙ (λ i. Some (ended_check (f i))))
     by (Some x) f =
-        let now : outcome_of s (story s p) n ≡ Some (ended_check (Some x)) = told ∙ (λ i. Some (ended_check (f i))) in
-        let own : IsOwnSense s k.story.history n x = own_sense s p n x o prompt now in
+        let now : outcome_of s (story s p) m ≡ Some (ended_check (Some x)) = told ∙ (λ i. Some (ended_check (f i))) in
+        let own : IsOwnSense s k.story.history m x = own_sense s p m x o prompt now in
         let same : own.reply ≡ reply = same_Some own.reply reply
-        (sym own.reply_is ∙ ap (λ (y : Option Array). reply_of y (command_id n)) plays ∙ listed) in
+        (sym own.reply_is ∙ ap (λ (y : Option Array). reply_of y (command_id m)) plays ∙ listed) in
         inr (now ∙ (λ i. Some (ended_check (Some ((sym own.sense_is ∙ ap (λ (y : Reply). y.sense) same) i)))))

@@ -80,14 +80,14 @@ how_given_up (x ∷ h) id e =
 -- ---- limits
 
 abbrev pub IsLimited : Type 0
-IsLimited = (s : ScenarioValue) (rows : List Row) (p : Process) (code : ℕ) → Obeys s → IsPrompt s rows
-    → process_of s p.id ≡ Some p → has_event (run_state s rows).story.history (Event.Fail p.id code) ≡ true
-    → has_more_faults s rows p ≡ true
+IsLimited = (s : ScenarioValue) (rows : List Row) (c : Process) (code : ℕ) → Obeys s → IsPrompt s rows
+    → process_of s c.id ≡ Some c → has_event (run_state s rows).story.history (Event.Fail c.id code) ≡ true
+    → has_more_faults s rows c ≡ true
 
 abbrev pub IsLostAbove : Type 0
 IsLostAbove =
-    (s : ScenarioValue) (rows : List Row) (p : Process) → Obeys s → IsPrompt s rows → process_of s p.id ≡ Some p
-    → has_event (run_state s rows).story.history (Event.Lost p.id) ≡ true → has_more_faults s rows p ≡ true
+    (s : ScenarioValue) (rows : List Row) (c : Process) → Obeys s → IsPrompt s rows → process_of s c.id ≡ Some c
+    → has_event (run_state s rows).story.history (Event.Lost c.id) ≡ true → has_more_faults s rows c ≡ true
 
 abbrev pub AreOutcomes : Type 0
 AreOutcomes = (s : ScenarioValue) (rows : List Row) → Obeys s → IsPrompt s rows → IsEnded s rows
@@ -95,15 +95,15 @@ AreOutcomes = (s : ScenarioValue) (rows : List Row) → Obeys s → IsPrompt s r
 
 -- Why commands end (endings_have_causes of the initiator).
 pub record HaveCauses : Type 0 where
-  pub status : (s : ScenarioValue) (rows : List Row) (n status : ℕ)
-      → ending_of (run_state s rows).story.ended n ≡ Some (by_status status)
-      → has_status (run_state s rows).story.history (command_id n) status ≡ true
-  pub loss : (s : ScenarioValue) (rows : List Row) (n : ℕ) → ending_of (run_state s rows).story.ended n ≡ Some by_loss
-      → has_loss (run_state s rows).story.history (command_id n) ≡ true
-  pub reset : (s : ScenarioValue) (rows : List Row) (n : ℕ) → ending_of (run_state s rows).story.ended n ≡ Some by_reset
+  pub status : (s : ScenarioValue) (rows : List Row) (m status : ℕ)
+      → ending_of (run_state s rows).story.ended m ≡ Some (by_status status)
+      → has_status (run_state s rows).story.history (command_id m) status ≡ true
+  pub loss : (s : ScenarioValue) (rows : List Row) (m : ℕ) → ending_of (run_state s rows).story.ended m ≡ Some by_loss
+      → has_loss (run_state s rows).story.history (command_id m) ≡ true
+  pub reset : (s : ScenarioValue) (rows : List Row) (m : ℕ) → ending_of (run_state s rows).story.ended m ≡ Some by_reset
       → has_bus_reset (run_state s rows).story.history ≡ true
-  pub abort : (s : ScenarioValue) (rows : List Row) (n : ℕ) (c : CmdDef)
-      → command_at s.commands n ≡ Some c → ending_of (run_state s rows).story.ended n ≡ Some by_abort
+  pub abort : (s : ScenarioValue) (rows : List Row) (m : ℕ) (c : CmdDef)
+      → command_at s.commands m ≡ Some c → ending_of (run_state s rows).story.ended m ≡ Some by_abort
       → has_command_abort (run_state s rows).story.history c ≡ true
   pub tried : AreTried
 
@@ -115,16 +115,16 @@ not_unheard f g l m r e a b c = absurd grind (arith, nat_tests)
 
 -- ---- an outcome
 
-some_from : (s : ScenarioValue) (b : Story) (n : ℕ) (commands : List CmdDef) (m : ℕ) (c : CmdDef)
-    → list_all (λ (o : Option Outcome). is_some o) (outcomes_from s b n commands) ≡ true
-    → command_at commands (suc m) ≡ Some c → is_some (outcome_of s b (n + m)) ≡ true
-some_from s b n [] m c e at = none_some c at
-some_from s b n (x ∷ commands) zero c e at =
-    subst (λ (y : ℕ). is_some (outcome_of s b y) ≡ true) (sym (plus_none n)) (and_parts (is_some (outcome_of s b n))
-    (list_all (λ (o : Option Outcome). is_some o) (outcomes_from s b (n + 1) commands)) e).0
-some_from s b n (x ∷ commands) (suc m) c e at = subst (λ (y : ℕ). is_some (outcome_of s b y) ≡ true)
-    (sym (plus_one n m)) (some_from s b (n + 1) commands m c (and_parts (is_some (outcome_of s b n))
-    (list_all (λ (o : Option Outcome). is_some o) (outcomes_from s b (n + 1) commands)) e).1 at)
+some_from : (s : ScenarioValue) (b : Story) (i : ℕ) (commands : List CmdDef) (m : ℕ) (c : CmdDef)
+    → list_all (λ (o : Option Outcome). is_some o) (outcomes_from s b i commands) ≡ true
+    → command_at commands (suc m) ≡ Some c → is_some (outcome_of s b (i + m)) ≡ true
+some_from s b i [] m c e at = none_some c at
+some_from s b i (x ∷ commands) zero c e at =
+    subst (λ (y : ℕ). is_some (outcome_of s b y) ≡ true) (sym (plus_none i)) (and_parts (is_some (outcome_of s b i))
+    (list_all (λ (o : Option Outcome). is_some o) (outcomes_from s b (i + 1) commands)) e).0
+some_from s b i (x ∷ commands) (suc m) c e at = subst (λ (y : ℕ). is_some (outcome_of s b y) ≡ true)
+    (sym (plus_one i m)) (some_from s b (i + 1) commands m c (and_parts (is_some (outcome_of s b i))
+    (list_all (λ (o : Option Outcome). is_some o) (outcomes_from s b (i + 1) commands)) e).1 at)
 
 one_more : (m : ℕ) → 1 + m ≡ suc m
 one_more m = omega arith
@@ -133,9 +133,9 @@ no_command : (commands : List CmdDef) (c : CmdDef) → command_at commands 0 ≡
 no_command [] c e = none_some c e
 no_command (x ∷ commands) c e = none_some c e
 
-pub some_outcome : (s : ScenarioValue) (b : Story) (n : ℕ) (c : CmdDef)
-    → list_all (λ (o : Option Outcome). is_some o) (outcomes s b) ≡ true → command_at s.commands n ≡ Some c
-    → is_some (outcome_of s b n) ≡ true
+pub some_outcome : (s : ScenarioValue) (b : Story) (i : ℕ) (c : CmdDef)
+    → list_all (λ (o : Option Outcome). is_some o) (outcomes s b) ≡ true → command_at s.commands i ≡ Some c
+    → is_some (outcome_of s b i) ≡ true
 some_outcome s b zero c e at = absurd (no_command s.commands c at)
 some_outcome s b (suc m) c e at =
     subst (λ (y : ℕ). is_some (outcome_of s b y) ≡ true) (one_more m) (some_from s b 1 s.commands m c e at)
@@ -143,20 +143,20 @@ some_outcome s b (suc m) c e at =
 -- ---- what is known of histories without resets and aborts, and of commands that end unanswered
 
 abbrev pub RunsGood : Type 0
-RunsGood = (s : ScenarioValue) (h : List Event) (a : Array) (n : ℕ) (c : CmdDef) (reply : Reply)
+RunsGood = (s : ScenarioValue) (h : List Event) (a : Array) (m : ℕ) (c : CmdDef) (reply : Reply)
     → Obeys s → array_after s h ≡ Some a → list_all (λ (e : Event). is_calm_event e) h ≡ true
-    → command_at s.commands n ≡ Some c → is_valid s c ≡ true → reply_in a.replies (command_id n) ≡ Some reply
-    → (reply.status ≡ GOOD) ⊎ (list_any (λ (e : Event). is_given_up_by (command_id n) e) h ≡ true)
+    → command_at s.commands m ≡ Some c → is_valid s c ≡ true → reply_in a.replies (command_id m) ≡ Some reply
+    → (reply.status ≡ GOOD) ⊎ (list_any (λ (e : Event). is_given_up_by (command_id m) e) h ≡ true)
 
 abbrev pub IsCalm : Type 0
 IsCalm = (s : ScenarioValue) (rows : List Row) → Obeys s → s.resets ≡ [] → s.aborts ≡ [] → IsPrompt s rows
     → list_all (λ (e : Event). is_calm_event e) (run_state s rows).story.history ≡ true
 
 abbrev pub AreStruckOut : Type 0
-AreStruckOut = (s : ScenarioValue) (rows : List Row) (n : ℕ) (c : CmdDef) → Obeys s
-    → IsPrompt s rows → command_at s.commands n ≡ Some c → has_target s c.target ≡ true
-    → ending_of (run_state s rows).story.ended n ≡ Some unanswered
-    → nat_lt (retries_of s.hosts c.host) (calling_faults s rows (command_item n)) ≡ true
+AreStruckOut = (s : ScenarioValue) (rows : List Row) (m : ℕ) (c : CmdDef) → Obeys s
+    → IsPrompt s rows → command_at s.commands m ≡ Some c → has_target s c.target ≡ true
+    → ending_of (run_state s rows).story.ended m ≡ Some unanswered
+    → nat_lt (retries_of s.hosts c.host) (calling_faults s rows (command_item m)) ≡ true
 
 pub record CalmLaws : Type 0 where
   pub good : RunsGood
@@ -165,16 +165,16 @@ pub record CalmLaws : Type 0 where
 
 -- ---- a valid command
 
-record Bears (s : ScenarioValue) (p : List Row) (n : ℕ) (c : CmdDef) : Type 0 where
+record Bears (s : ScenarioValue) (p : List Row) (m : ℕ) (c : CmdDef) : Type 0 where
   obeys : Obeys s
   resets : s.resets ≡ []
   aborts : s.aborts ≡ []
   prompt : IsPrompt s p
-  at : command_at s.commands n ≡ Some c
+  at : command_at s.commands m ≡ Some c
   valid : is_valid s c ≡ true
   there : has_target s c.target ≡ true
-  bears : nat_le (command_faults s p n) (fault_limit s c) ≡ true
-  unrefused : has_event (run_state s p).story.history (Event.Refuse (command_id n)) ≡ false
+  bears : nat_le (command_faults s p m) (fault_limit s c) ≡ true
+  unrefused : has_event (run_state s p).story.history (Event.Refuse (command_id m)) ≡ false
 
 -- No more are borne than its initiator tries again, nor than its target recovers from.
 pub record Borne (s : ScenarioValue) (c : CmdDef) : Type 0 where
@@ -194,18 +194,18 @@ borne s c there = go (target_def_of s c.target) refl (any_found (λ (t : TargetD
     }
 
 -- Of its faults in connections there are no more than its target bears.
-not_more : {A : Type 0} (s : ScenarioValue) (p : List Row) (n : ℕ) (c : CmdDef) → Bears s p n c
-    → nat_lt (recovery_limit (target_def_of s c.target)) (fault_rows s p (command_id n)) ≡ true → A
-not_more s p n c h e =
+not_more : {A : Type 0} (s : ScenarioValue) (p : List Row) (m : ℕ) (c : CmdDef) → Bears s p m c
+    → nat_lt (recovery_limit (target_def_of s c.target)) (fault_rows s p (command_id m)) ≡ true → A
+not_more s p m c h e =
     let b : Borne s c = borne s c h.there in
-    not_above (fault_rows s p (command_id n)) (calling_faults s p (command_item n))
+    not_above (fault_rows s p (command_id m)) (calling_faults s p (command_item m))
     (retries_of s.hosts c.host) (fault_limit s c) (recovery_limit (target_def_of s c.target))
     (recovery_limit (target_def_of s c.target)) h.bears b.own b.other e refl
 
-good_status : (s : ScenarioValue) (p : List Row) (n : ℕ) (c : CmdDef) (status : ℕ) → CalmLaws → IsLimited
-    → Bears s p n c → has_status (run_state s p).story.history (command_id n) status ≡ true → status ≡ GOOD
-good_status s p n c status laws limited h e =
-    by (laws.good s k.story.history (array_of s k) n c r.reply h.obeys plays calm h.at h.valid r.reply_is)
+good_status : (s : ScenarioValue) (p : List Row) (m : ℕ) (c : CmdDef) (status : ℕ) → CalmLaws → IsLimited
+    → Bears s p m c → has_status (run_state s p).story.history (command_id m) status ≡ true → status ≡ GOOD
+good_status s p m c status laws limited h e =
+    by (laws.good s k.story.history (array_of s k) m c r.reply h.obeys plays calm h.at h.valid r.reply_is)
   where
     k : RunState
     k = run_state s p
@@ -220,55 +220,55 @@ good_status s p n c status laws limited h e =
     plays = (λ i. array_after s ((prompt_plain s p h.prompt).story i).history) ∙ sym (prompt_plain s p h.prompt).array
         ∙ w.places.array_is ∙ ap (λ (a : Array). Some a) (sym (ap (or_start s) w.places.array_is))
 
-    r : HasReply s k (command_id n) status
-    r = end_reply s k (command_id n) status (w.statuses.areas.areas (command_id n)) (end_found s k k.story.history
-        (command_id n) status (all_ended s p h.obeys h.prompt (all_joined s p h.obeys h.prompt)) e)
+    r : HasReply s k (command_id m) status
+    r = end_reply s k (command_id m) status (w.statuses.areas.areas (command_id m)) (end_found s k k.story.history
+        (command_id m) status (all_ended s p h.obeys h.prompt (all_joined s p h.obeys h.prompt)) e)
 
-    given_up : HowGivenUp k.story.history (command_id n) → status ≡ GOOD
+    given_up : HowGivenUp k.story.history (command_id m) → status ≡ GOOD
     given_up (refused z) = wrong (sym z ∙ h.unrefused)
-    given_up (failed code z) = not_more s p n c h
-        (limited s p (process_by s (command_id n) c) code h.obeys h.prompt (ap (process_if s (command_id n)) h.at) z)
+    given_up (failed code z) = not_more s p m c h
+        (limited s p (process_by s (command_id m) c) code h.obeys h.prompt (ap (process_if s (command_id m)) h.at) z)
 
-    by : (r.reply.status ≡ GOOD) ⊎ (list_any (λ (x : Event). is_given_up_by (command_id n) x) k.story.history ≡ true)
+    by : (r.reply.status ≡ GOOD) ⊎ (list_any (λ (x : Event). is_given_up_by (command_id m) x) k.story.history ≡ true)
         → status ≡ GOOD
     by (inl z) = r.status_is ∙ z
-    by (inr z) = given_up (how_given_up k.story.history (command_id n) z)
+    by (inr z) = given_up (how_given_up k.story.history (command_id m) z)
 
-good_ending : (s : ScenarioValue) (p : List Row) (n : ℕ) (c : CmdDef) → CalmLaws → HaveCauses → IsLimited
-    → IsLostAbove → Bears s p n c → (o : Option Ending) → ending_of (run_state s p).story.ended n ≡ o
-    → is_some (outcome_if s (run_state s p).story.history n o) ≡ true
-    → is_good (outcome_if s (run_state s p).story.history n o) ≡ true
-good_ending s p n c laws causes limited lost h None e some = wrong' some
-good_ending s p n c laws causes limited lost h (Some (by_status status)) e some = subst
-    (λ (x : ℕ). is_good (Some (outcome_by_status s (run_state s p).story.history n x)) ≡ true)
-    (sym (good_status s p n c status laws limited h (causes.status s p n status e))) refl
-good_ending s p n c laws causes limited lost h (Some by_loss) e some = not_more s p n c h
-    (lost s p (process_by s (command_id n) c) h.obeys h.prompt (ap (process_if s (command_id n)) h.at)
-    (any_to (is_loss_of (command_id n)) (λ x. same_event x (Event.Lost (command_id n))) (loss_is_event (command_id n))
-    (run_state s p).story.history (causes.loss s p n e)))
-good_ending s p n c laws causes limited lost h (Some by_reset) e some = none_calm is_bus_reset reset_uncalm
-    (run_state s p).story.history (laws.calm s p h.obeys h.resets h.aborts h.prompt) (causes.reset s p n e)
-good_ending s p n c laws causes limited lost h (Some by_abort) e some = none_calm (is_command_abort c) (abort_uncalm c)
-    (run_state s p).story.history (laws.calm s p h.obeys h.resets h.aborts h.prompt) (causes.abort s p n c h.at e)
-good_ending s p n c laws causes limited lost h (Some unanswered) e some =
+good_ending : (s : ScenarioValue) (p : List Row) (m : ℕ) (c : CmdDef) → CalmLaws → HaveCauses → IsLimited
+    → IsLostAbove → Bears s p m c → (o : Option Ending) → ending_of (run_state s p).story.ended m ≡ o
+    → is_some (outcome_if s (run_state s p).story.history m o) ≡ true
+    → is_good (outcome_if s (run_state s p).story.history m o) ≡ true
+good_ending s p m c laws causes limited lost h None e some = wrong' some
+good_ending s p m c laws causes limited lost h (Some (by_status status)) e some = subst
+    (λ (x : ℕ). is_good (Some (outcome_by_status s (run_state s p).story.history m x)) ≡ true)
+    (sym (good_status s p m c status laws limited h (causes.status s p m status e))) refl
+good_ending s p m c laws causes limited lost h (Some by_loss) e some = not_more s p m c h
+    (lost s p (process_by s (command_id m) c) h.obeys h.prompt (ap (process_if s (command_id m)) h.at)
+    (any_to (is_loss_of (command_id m)) (λ x. same_event x (Event.Lost (command_id m))) (loss_is_event (command_id m))
+    (run_state s p).story.history (causes.loss s p m e)))
+good_ending s p m c laws causes limited lost h (Some by_reset) e some = none_calm is_bus_reset reset_uncalm
+    (run_state s p).story.history (laws.calm s p h.obeys h.resets h.aborts h.prompt) (causes.reset s p m e)
+good_ending s p m c laws causes limited lost h (Some by_abort) e some = none_calm (is_command_abort c) (abort_uncalm c)
+    (run_state s p).story.history (laws.calm s p h.obeys h.resets h.aborts h.prompt) (causes.abort s p m c h.at e)
+good_ending s p m c laws causes limited lost h (Some unanswered) e some =
     let b : Borne s c = borne s c h.there in
-    not_unheard (fault_rows s p (command_id n)) (calling_faults s p (command_item n)) (retries_of s.hosts c.host)
+    not_unheard (fault_rows s p (command_id m)) (calling_faults s p (command_item m)) (retries_of s.hosts c.host)
     (fault_limit s c) (recovery_limit (target_def_of s c.target)) h.bears b.own b.other
-    (laws.struck s p n c h.obeys h.prompt h.at h.there e)
+    (laws.struck s p m c h.obeys h.prompt h.at h.there e)
 
-pub delivered : (s : ScenarioValue) (p : List Row) (n : ℕ) (c : CmdDef) → CalmLaws → HaveCauses → IsLimited
+pub delivered : (s : ScenarioValue) (p : List Row) (m : ℕ) (c : CmdDef) → CalmLaws → HaveCauses → IsLimited
     → IsLostAbove → AreOutcomes → Obeys s → s.resets ≡ [] → s.aborts ≡ [] → IsPrompt s p → IsEnded s p
-    → command_at s.commands n ≡ Some c → is_valid s c ≡ true → nat_le (command_faults s p n) (fault_limit s c) ≡ true
-    → has_event (run_state s p).story.history (Event.Refuse (command_id n)) ≡ false
-    → is_good (outcome_of s (story s p) n) ≡ true
-delivered s p n c laws causes limited lost all o resets aborts prompt end at valid bears unrefused = subst
-    (λ (b : Story). is_good (outcome_of s b n) ≡ true) pl.story
-    (good_ending s p n c laws causes limited lost h (ending_of (run_state s p).story.ended n) refl some)
+    → command_at s.commands m ≡ Some c → is_valid s c ≡ true → nat_le (command_faults s p m) (fault_limit s c) ≡ true
+    → has_event (run_state s p).story.history (Event.Refuse (command_id m)) ≡ false
+    → is_good (outcome_of s (story s p) m) ≡ true
+delivered s p m c laws causes limited lost all o resets aborts prompt end at valid bears unrefused = subst
+    (λ (b : Story). is_good (outcome_of s b m) ≡ true) pl.story
+    (good_ending s p m c laws causes limited lost h (ending_of (run_state s p).story.ended m) refl some)
   where
     pl : IsPlain s p (run_state s p)
     pl = prompt_plain s p prompt
 
-    h : Bears s p n c
+    h : Bears s p m c
     h = record {
       obeys = o;
       resets = resets;
@@ -281,6 +281,6 @@ delivered s p n c laws causes limited lost all o resets aborts prompt end at val
       unrefused = unrefused;
     }
 
-    some : is_some (outcome_of s (run_state s p).story n) ≡ true
-    some = subst (λ (b : Story). is_some (outcome_of s b n) ≡ true) (sym pl.story)
-        (some_outcome s (story s p) n c (all s p o prompt end) at)
+    some : is_some (outcome_of s (run_state s p).story m) ≡ true
+    some = subst (λ (b : Story). is_some (outcome_of s b m) ≡ true) (sym pl.story)
+        (some_outcome s (story s p) m c (all s p o prompt end) at)

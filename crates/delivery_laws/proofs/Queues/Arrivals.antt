@@ -18,29 +18,29 @@ below : (a b : ℕ) → nat_lt a b ≡ true → (a == b) ≡ false
 below a b e = ne_eqb a b (λ z. grind (arith, nat_tests))
 
 -- One that is taken finds room.
-taken_at : (a : Array) (p : Process) (o : Option UnitState) → is_some (accept_step_at a p o) ≡ true
-    → (not (is_request_sense (command_of p.cdb)) && is_full o) ≡ false
-taken_at a p None e = and_false (not (is_request_sense (command_of p.cdb)))
-taken_at a p (Some u) e = go (is_request_sense (command_of p.cdb)) refl
+taken_at : (a : Array) (c : Process) (o : Option UnitState) → is_some (accept_step_at a c o) ≡ true
+    → (not (is_request_sense (command_of c.cdb)) && is_full o) ≡ false
+taken_at a c None e = and_false (not (is_request_sense (command_of c.cdb)))
+taken_at a c (Some u) e = go (is_request_sense (command_of c.cdb)) refl
   where
-    queued : is_some (queue_step a p u) ≡ true → (process_count u == u.depth) ≡ false
+    queued : is_some (queue_step a c u) ≡ true → (process_count u == u.depth) ≡ false
     queued z = by (nat_lt (process_count u) u.depth) refl
       where
         by : (q : Bool) → nat_lt (process_count u) u.depth ≡ q → (process_count u == u.depth) ≡ false
         by true y = below (process_count u) u.depth y
         by false y = wrong' (sym (ap (λ (q : Bool). is_some (if q then Some (record a {
-          units = with_unit a.units (record u { waiting = u.waiting ++ p ∷ [] });
+          units = with_unit a.units (record u { waiting = u.waiting ++ c ∷ [] });
         }) else None)) y) ∙ z)
 
-    go : (q : Bool) → is_request_sense (command_of p.cdb) ≡ q
-        → (not (is_request_sense (command_of p.cdb)) && is_full (Some u)) ≡ false
+    go : (q : Bool) → is_request_sense (command_of c.cdb) ≡ q
+        → (not (is_request_sense (command_of c.cdb)) && is_full (Some u)) ≡ false
     go true f = ap (λ (q : Bool). not q && (process_count u == u.depth)) f
     go false f = ap (λ (q : Bool). not q && (process_count u == u.depth)) f
-        ∙ queued (sym (ap (λ (q : Bool). is_some (if q then Some (with_guest a p None) else queue_step a p u)) f) ∙ e)
+        ∙ queued (sym (ap (λ (q : Bool). is_some (if q then Some (with_guest a c None) else queue_step a c u)) f) ∙ e)
 
 taken : (a : Array) (o : Option Process) → is_some (accept_step a o) ≡ true → finds_full_queue a o ≡ false
 taken a None e = refl
-taken a (Some p) e = taken_at a p (unit_state_at a.units p.target p.unit) e
+taken a (Some c) e = taken_at a c (unit_state_at a.units c.target c.unit) e
 
 some_step : (o : Option Array) (d : Array) → settled_array_if o ≡ Some d → is_some o ≡ true
 some_step None d e = none_some d e

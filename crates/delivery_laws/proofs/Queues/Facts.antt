@@ -26,25 +26,25 @@ IsRoomy most u = AreOnce u.waiting × (most ≤ u.depth)
 
 once_without : (waiting : List Process) (id : ProcId) → AreOnce waiting → AreOnce (without_process waiting id)
 once_without [] id h = tt
-once_without (p ∷ waiting) id h =
-    elim (cases_Bool (same_id p.id id)) [
+once_without (c ∷ waiting) id h =
+    elim (cases_Bool (same_id c.id id)) [
       | inl e ↦ rw e (once_without waiting id h.1)
-      | inr e ↦ rw e (without_all (IsAnother p) waiting id h.0, (once_without waiting id h.1))
+      | inr e ↦ rw e (without_all (IsAnother c) waiting id h.0, (once_without waiting id h.1))
     ]
 
 once_kept : (drops : Process → Bool) (waiting : List Process) → AreOnce waiting
     → AreOnce (Steps.kept_processes drops waiting)
 once_kept drops [] h = tt
-once_kept drops (p ∷ waiting) h =
-    elim (cases_Bool (drops p)) [
+once_kept drops (c ∷ waiting) h =
+    elim (cases_Bool (drops c)) [
       | inl e ↦ rw e (once_kept drops waiting h.1)
-      | inr e ↦ rw e (kept_all (IsAnother p) drops waiting h.0, (once_kept drops waiting h.1))
+      | inr e ↦ rw e (kept_all (IsAnother c) drops waiting h.0, (once_kept drops waiting h.1))
     ]
 
-once_more : (waiting : List Process) (p : Process) → AreOnce waiting → AllP (λ x. same_id p.id x.id ≡ false) waiting
-    → AreOnce (waiting ++ p ∷ [])
-once_more [] p h g = (tt, tt)
-once_more (w ∷ waiting) p h g = (append_all (IsAnother w) waiting p h.0 g.0, once_more waiting p h.1 g.1)
+once_more : (waiting : List Process) (c : Process) → AreOnce waiting → AllP (λ x. same_id c.id x.id ≡ false) waiting
+    → AreOnce (waiting ++ c ∷ [])
+once_more [] c h g = (tt, tt)
+once_more (w ∷ waiting) c h g = (append_all (IsAnother w) waiting c h.0 g.0, once_more waiting c h.1 g.1)
 
 roomy_stays : (most : ℕ) → StaysSo (IsRoomy most)
 roomy_stays most = record {
@@ -58,10 +58,10 @@ roomy_stays most = record {
     chosen : (u : UnitState) (holds : List Nexus) → IsRoomy most u → IsRoomy most (unit_after_choice holds u)
     chosen u holds h = go (has_no_current u.current && not (is_held holds u.target u.unit)) (choice u.pick u.waiting)
       where
-        go : (x : Bool) (p : Option Process) → IsRoomy most (if x then with_current u p else u)
+        go : (x : Bool) (t : Option Process) → IsRoomy most (if x then with_current u t else u)
         go true None = h
-        go true (Some p) = (once_without u.waiting p.id h.0, h.1)
-        go false p = h
+        go true (Some t) = (once_without u.waiting t.id h.0, h.1)
+        go false t = h
 
 le_of : (a b : ℕ) → nat_le a b ≡ true → a ≤ b
 le_of a b e = grind (arith, nat_tests)
@@ -142,10 +142,10 @@ arriving s p row w next pl l c v = known l.item refl v.carried_is
 -- ---- what stands in a unit
 
 waits_at : (q : RunningProcess → Type 0) (r : Process → Type 0) (waiting : List Process)
-    → ((p : Process) → q (Rattle.due_model.specs.array_model.specs.Units.without_reply p) → r p) → Waits q waiting
+    → ((c : Process) → q (Rattle.due_model.specs.array_model.specs.Units.without_reply c) → r c) → Waits q waiting
     → AllP r waiting
 waits_at q r [] f h = tt
-waits_at q r (p ∷ waiting) f h = (f p h.0, waits_at q r waiting f h.1)
+waits_at q r (c ∷ waiting) f h = (f c h.0, waits_at q r waiting f h.1)
 
 at_units : (q : RunningProcess → Type 0) (units : List UnitState) → OnUnits q units → AllUnits (OnUnit q) units
 at_units q [] h = tt
@@ -158,10 +158,10 @@ processes_at : (q : Process → Type 0) (units : List UnitState) → UnitsP q un
 processes_at q [] h = tt
 processes_at q (u ∷ units) h = (h.0, processes_at q units h.1)
 
-map_waiting : (q r : Process → Type 0) (waiting : List Process) → ((p : Process) → q p → r p) → AllP q waiting
+map_waiting : (q r : Process → Type 0) (waiting : List Process) → ((c : Process) → q c → r c) → AllP q waiting
     → AllP r waiting
 map_waiting q r [] f h = tt
-map_waiting q r (p ∷ waiting) f h = (f p h.0, map_waiting q r waiting f h.1)
+map_waiting q r (c ∷ waiting) f h = (f c h.0, map_waiting q r waiting f h.1)
 
 -- ---- the row
 
@@ -211,7 +211,7 @@ all_roomy s (row ∷ p) o prompt roomy = roomy_next s p row o prompt roomy (all_
 -- ---- there is room for it
 
 abbrev is_ours : ScenarioValue → Sent → ℕ → CmdDef → Bool
-is_ours s b n c = is_initiator s.hosts c.host && is_open b n
+is_ours s b m c = is_initiator s.hosts c.host && is_open b m
 
 same_command : (id : ProcId) → id.sense ≡ false → id ≡ command_id id.command
 same_command id e = λ i. record { command = id.command; sense = e i }
@@ -225,17 +225,17 @@ open_now b id plain sent over = not_over (has_item b.sent (command_item id.comma
     (command_item id.command)) (ap (λ (x : ProcId). has_item b.sent (process x)) (sym (same_command id plain)) ∙ sent)
     (ap (λ (x : ProcId). has_item b.over (process x)) (sym (same_command id plain)) ∙ over)
 
-marked : (s : ScenarioValue) (b : Sent) (p : Process) → Obeys s → process_of s p.id ≡ Some p
-    → p.id.sense ≡ false → has_item b.sent (process p.id) ≡ true → has_item b.over (process p.id) ≡ false
-    → IsMarked (is_ours s b) s.commands p
-marked s b p o is plain sent over =
-    let of : OfCommand s p.id p = of_command s p.id p is in
+marked : (s : ScenarioValue) (b : Sent) (c : Process) → Obeys s → process_of s c.id ≡ Some c
+    → c.id.sense ≡ false → has_item b.sent (process c.id) ≡ true → has_item b.over (process c.id) ≡ false
+    → IsMarked (is_ours s b) s.commands c
+marked s b c o is plain sent over =
+    let of : OfCommand s c.id c = of_command s c.id c is in
     record {
       def = of.def;
       def_is = of.def_is;
       plain = plain;
-      passes = and_from (is_initiator s.hosts of.def.host) (is_open b p.id.command)
-          (command_fits s p.id.command of.def (obeys_fits s o) of.def_is).host_is (open_now b p.id plain sent over);
+      passes = and_from (is_initiator s.hosts of.def.host) (is_open b c.id.command)
+          (command_fits s c.id.command of.def (obeys_fits s o) of.def_is).host_is (open_now b c.id plain sent over);
     }
 
 -- All open commands of the scenario are no more than all initiators may have open.
@@ -255,11 +255,11 @@ few_open s p o prompt = hosts_bound s.hosts (is_ours s b) 1 s.commands (λ m c e
         (c.host == dev) e) (and_second (is_initiator s.hosts c.host) (is_open b m)
         (and_first (is_initiator s.hosts c.host && is_open b m) (c.host == dev) e))
 
-room_none : (n c m d : ℕ) → suc n ≤ c → c ≤ m → m ≤ d → nat_lt (n + 0) d ≡ true
-room_none n c m d e f g = grind (arith, nat_tests)
+room_none : (i c m d : ℕ) → suc i ≤ c → c ≤ m → m ≤ d → nat_lt (i + 0) d ≡ true
+room_none i c m d e f g = grind (arith, nat_tests)
 
-room_one : (n c m d : ℕ) → suc (suc n) ≤ c → c ≤ m → m ≤ d → nat_lt (n + 1) d ≡ true
-room_one n c m d e f g = grind (arith, nat_tests)
+room_one : (i c m d : ℕ) → suc (suc i) ≤ c → c ≤ m → m ≤ d → nat_lt (i + 1) d ≡ true
+room_one i c m d e f g = grind (arith, nat_tests)
 
 has_room : (s : ScenarioValue) (p : List Row) → Obeys s → IsPrompt s p → (w : Whole s p) → (x : Process)
     → process_of s x.id ≡ Some x → x.id.sense ≡ false → Arriving s (run_state s p) w.places.array x.id → (u : UnitState)

@@ -21,7 +21,7 @@ room_for_one a b l x e f g = grind (arith, nat_tests)
 
 -- ---- where no command is opened
 
-all_before : (s : ScenarioValue) (a b : Sent) → ((n : ℕ) → is_open b n ≡ true → is_open a n ≡ true) → IsWithin s a
+all_before : (s : ScenarioValue) (a b : Sent) → ((i : ℕ) → is_open b i ≡ true → is_open a i ≡ true) → IsWithin s a
     → IsWithin s b
 all_before s a b f was dev = less_again (count_from (is_open_of b dev) 1 s.commands)
     (count_from (is_open_of a dev) 1 s.commands) (open_limit_of s.hosts dev)
@@ -32,10 +32,10 @@ all_before s a b f was dev = less_again (count_from (is_open_of b dev) 1 s.comma
 
 -- Open before, or the one of this number.
 abbrev IsOpened : Sent → Sent → ℕ → Type 0
-IsOpened a b number = (n : ℕ) → is_open b n ≡ true → (n == number) ≡ false → is_open a n ≡ true
+IsOpened a b number = (m : ℕ) → is_open b m ≡ true → (m == number) ≡ false → is_open a m ≡ true
 
-number_at : (k : ℕ) → suc k ≡ 1 + k
-number_at k = omega arith
+number_at : (m : ℕ) → suc m ≡ 1 + m
+number_at m = omega arith
 
 opened_one : (s : ScenarioValue) (a b : Sent) (number time : ℕ) (c : CmdDef) → command_at s.commands number ≡ Some c
     → may_send s time (open_from a c.host 1 s.commands) c ≡ true → IsOpened a b number → IsWithin s a → IsWithin s b
@@ -47,26 +47,26 @@ opened_one s a b number time c at may f was dev = go (c.host == dev) refl
         (nat_le c.at time && nat_lt (length (open_from a c.host 1 s.commands)) (open_limit_of s.hosts c.host))
         (not (list_any (λ (d : CmdDef). is_clash c d) (open_from a c.host 1 s.commands))) may)
 
-    others : (k : ℕ) (d : CmdDef) → command_at s.commands (suc k) ≡ Some d
-        → less (is_open_of b dev) (is_number number) (1 + k) d ≡ true → is_open_of a dev (1 + k) d ≡ true
-    others k d there e =
-        let is = and_first (d.host == dev && is_open b (1 + k)) (not (1 + k == number)) e in
-        and_from (d.host == dev) (is_open a (1 + k)) (and_first (d.host == dev) (is_open b (1 + k)) is)
-        (f (1 + k) (and_second (d.host == dev) (is_open b (1 + k)) is)
-        (not-true (1 + k == number) (and_second (d.host == dev && is_open b (1 + k)) (not (1 + k == number)) e)))
+    others : (m : ℕ) (d : CmdDef) → command_at s.commands (suc m) ≡ Some d
+        → less (is_open_of b dev) (is_number number) (1 + m) d ≡ true → is_open_of a dev (1 + m) d ≡ true
+    others m d there e =
+        let is = and_first (d.host == dev && is_open b (1 + m)) (not (1 + m == number)) e in
+        and_from (d.host == dev) (is_open a (1 + m)) (and_first (d.host == dev) (is_open b (1 + m)) is)
+        (f (1 + m) (and_second (d.host == dev) (is_open b (1 + m)) is)
+        (not-true (1 + m == number) (and_second (d.host == dev && is_open b (1 + m)) (not (1 + m == number)) e)))
 
     -- one of another initiator is not that one
-    foreign : (c.host == dev) ≡ false → (k : ℕ) (d : CmdDef) → command_at s.commands (suc k) ≡ Some d
-        → is_open_of b dev (1 + k) d ≡ true → is_open_of a dev (1 + k) d ≡ true
-    foreign away k d there e = by (1 + k == number) refl
+    foreign : (c.host == dev) ≡ false → (m : ℕ) (d : CmdDef) → command_at s.commands (suc m) ≡ Some d
+        → is_open_of b dev (1 + m) d ≡ true → is_open_of a dev (1 + m) d ≡ true
+    foreign away m d there e = by (1 + m == number) refl
       where
-        by : (q : Bool) → (1 + k == number) ≡ q → is_open_of a dev (1 + k) d ≡ true
-        by false z = and_from (d.host == dev) (is_open a (1 + k)) (and_first (d.host == dev) (is_open b (1 + k)) e)
-            (f (1 + k) (and_second (d.host == dev) (is_open b (1 + k)) e) z)
+        by : (q : Bool) → (1 + m == number) ≡ q → is_open_of a dev (1 + m) d ≡ true
+        by false z = and_from (d.host == dev) (is_open a (1 + m)) (and_first (d.host == dev) (is_open b (1 + m)) e)
+            (f (1 + m) (and_second (d.host == dev) (is_open b (1 + m)) e) z)
         by true z =
             let same : d ≡ c = same_Some d c
-            (sym there ∙ ap (command_at s.commands) (number_at k ∙ eqb-true (1 + k) number z) ∙ at) in
-            wrong (sym (ap (λ (y : CmdDef). y.host == dev) (sym same) ∙ and_first (d.host == dev) (is_open b (1 + k)) e)
+            (sym there ∙ ap (command_at s.commands) (number_at m ∙ eqb-true (1 + m) number z) ∙ at) in
+            wrong (sym (ap (λ (y : CmdDef). y.host == dev) (sym same) ∙ and_first (d.host == dev) (is_open b (1 + m)) e)
             ∙ away)
 
     go : (q : Bool) → (c.host == dev) ≡ q → count_from (is_open_of b dev) 1 s.commands ≤ open_limit_of s.hosts dev
@@ -80,8 +80,8 @@ opened_one s a b number time c at may f was dev = go (c.host == dev) refl
         (open_limit_of s.hosts dev) (count_less_at (is_open_of b dev) (is_open_of a dev) 1 s.commands (foreign away))
         (was dev)
 
-no_item : {A : Type 0} (k n : ℕ) → abort k ≡ command_item n → A
-no_item k n e = absurd cc
+no_item : {A : Type 0} (m i : ℕ) → abort m ≡ command_item i → A
+no_item m i e = absurd cc
 
 -- ---- a row
 
@@ -117,21 +117,21 @@ within_next s p row o prompt was = by k.story.bus_state.connection d.next refl r
     shown : List Event
     shown = row_events_by s k.story d row
 
-    opens : (n : ℕ) → is_open j.story.sent n ≡ true → WasOpen k d n
-    opens n e = open_before s k d row n (let g = events_grow s changed shown in
-        fewer_open changed.sent (story_after_events s changed shown).sent n g.sent g.over e)
+    opens : (u : ℕ) → is_open j.story.sent u ≡ true → WasOpen k d u
+    opens u e = open_before s k d row u (let g = events_grow s changed shown in
+        fewer_open changed.sent (story_after_events s changed shown).sent u g.sent g.over e)
 
     -- where no selection begins a connection
     none_begins :
-        ((n : ℕ) (x : Connection) → k.story.bus_state.connection ≡ None → d.next ≡ Some x → x.reselected ≡ false
-        → aim_of k.story.aims x.initiator ≡ Some (command_item n) → is_open k.story.sent n ≡ true)
+        ((u : ℕ) (x : Connection) → k.story.bus_state.connection ≡ None → d.next ≡ Some x → x.reselected ≡ false
+        → aim_of k.story.aims x.initiator ≡ Some (command_item u) → is_open k.story.sent u ≡ true)
         → IsWithin s j.story.sent
     none_begins f = all_before s k.story.sent j.story.sent each was
       where
-        each : (n : ℕ) → is_open j.story.sent n ≡ true → is_open k.story.sent n ≡ true
-        each n e = elim (opens n e) [
+        each : (u : ℕ) → is_open j.story.sent u ≡ true → is_open k.story.sent u ≡ true
+        each u e = elim (opens u e) [
           | before z ↦ z
-          | begins x y z v aim ↦ f n x y z v aim
+          | begins x y z v aim ↦ f u x y z v aim
         ]
 
     selecting : (x : Connection) → k.story.bus_state.connection ≡ None → d.next ≡ Some x → x.reselected ≡ false
@@ -139,41 +139,41 @@ within_next s p row o prompt was = by k.story.bus_state.connection d.next refl r
         → IsWithin s j.story.sent
     selecting x f g re item aim next = of item aim next
       where
-        same_aim : (item : Item) → aim_of k.story.aims x.initiator ≡ Some item → (n : ℕ) (y : Connection)
-            → d.next ≡ Some y → aim_of k.story.aims y.initiator ≡ Some (command_item n) → item ≡ command_item n
-        same_aim item aim n y next is = same_Some item (command_item n)
+        same_aim : (item : Item) → aim_of k.story.aims x.initiator ≡ Some item → (u : ℕ) (y : Connection)
+            → d.next ≡ Some y → aim_of k.story.aims y.initiator ≡ Some (command_item u) → item ≡ command_item u
+        same_aim item aim u y next is = same_Some item (command_item u)
             (sym aim ∙ ap (λ (c : Connection). aim_of k.story.aims c.initiator) (same_Some x y (sym g ∙ next)) ∙ is)
 
         of : (item : Item) → aim_of k.story.aims x.initiator ≡ Some item → IsNext s k.story.sent x.initiator item
             → IsWithin s j.story.sent
         of _ aim (is_abort number z) =
-            none_begins (λ n y a b c e. no_item number n (same_aim (abort number) aim n y b e))
-        of _ aim (is_sense number c at own there z) = none_begins (λ n y a b v e. wrong (ap (λ (i : ProcId). i.sense)
-            (same_process _ _ (same_aim (process (record { command = number; sense = true })) aim n y b e))))
+            none_begins (λ u y a b c e. no_item number u (same_aim (abort number) aim u y b e))
+        of _ aim (is_sense number c at own there z) = none_begins (λ u y a b v e. wrong (ap (λ (i : ProcId). i.sense)
+            (same_process _ _ (same_aim (process (record { command = number; sense = true })) aim u y b e))))
         of _ aim (is_command number time c at own z may none) = opened_one s k.story.sent j.story.sent number time c at
             (subst (λ (dev : ℕ). may_send s time (open_from k.story.sent dev 1 s.commands) c ≡ true) (sym own) may) each
             was
           where
             each : IsOpened k.story.sent j.story.sent number
-            each n e apart = elim (opens n e) [
+            each u e apart = elim (opens u e) [
               | before y ↦ y
               | begins y a b v is ↦ wrong' (sym (ap (λ (i : ℕ). i == number) (ap (λ (i : ProcId). i.command)
-                  (same_process _ _ (same_aim (process (record { command = number; sense = false })) aim n y b is)))
+                  (same_process _ _ (same_aim (process (record { command = number; sense = false })) aim u y b is)))
                   ∙ apart) ∙ eq_self number)
             ]
 
     by : (x y : Option Connection) → k.story.bus_state.connection ≡ x → d.next ≡ y → IsWithin s j.story.sent
-    by (Some l) y f g = none_begins (λ n x a b c e. none_some l (sym a ∙ f))
-    by None None f g = none_begins (λ n x a b c e. none_some x (sym g ∙ b))
+    by (Some l) y f g = none_begins (λ u x a b c e. none_some l (sym a ∙ f))
+    by None None f g = none_begins (λ u x a b c e. none_some x (sym g ∙ b))
     by None (Some x) f g = go x.reselected refl
       where
         go : (q : Bool) → x.reselected ≡ q → IsWithin s j.story.sent
         go true re = none_begins
-            (λ n y a b c e. wrong (sym re ∙ ap (λ (z : Connection). z.reselected) (same_Some x y (sym g ∙ b)) ∙ c))
+            (λ u y a b c e. wrong (sym re ∙ ap (λ (z : Connection). z.reselected) (same_Some x y (sym g ∙ b)) ∙ c))
         go false re = aimed (aim_of k.story.aims x.initiator) refl
           where
             aimed : (item : Option Item) → aim_of k.story.aims x.initiator ≡ item → IsWithin s j.story.sent
-            aimed None aim = none_begins (λ n y a b c e. none_some (command_item n)
+            aimed None aim = none_begins (λ u y a b c e. none_some (command_item u)
                 (sym aim ∙ ap (λ (z : Connection). aim_of k.story.aims z.initiator) (same_Some x y (sym g ∙ b)) ∙ e))
             aimed (Some item) aim =
                 let alone : connection p ≡ None = sym pl.connection ∙ f in
@@ -189,11 +189,11 @@ none_open s dev = less_again (count_from (is_open_of (run_state s []).story.sent
     at_none : (a b : ℕ) → a ≡ 0 → b ≤ 0 → a + b ≤ 0
     at_none a b e f = omega (arith, e, f)
 
-    none : (n : ℕ) (commands : List CmdDef) → count_from (is_open_of (run_state s []).story.sent dev) n commands ≤ 0
-    none n [] = omega arith
-    none n (c ∷ commands) = at_none _ (count_from (is_open_of (run_state s []).story.sent dev) (n + 1) commands)
+    none : (m : ℕ) (commands : List CmdDef) → count_from (is_open_of (run_state s []).story.sent dev) m commands ≤ 0
+    none m [] = omega arith
+    none m (c ∷ commands) = at_none _ (count_from (is_open_of (run_state s []).story.sent dev) (m + 1) commands)
         (ap Rattle.due_model.specs.dialogue_model.specs.PhaseBytes.one_if (and_false (c.host == dev)))
-        (none (n + 1) commands)
+        (none (m + 1) commands)
 
 pub open_within : (s : ScenarioValue) (p : List Row) → Obeys s → IsPrompt s p → IsWithin s (run_state s p).story.sent
 open_within s [] o prompt = none_open s

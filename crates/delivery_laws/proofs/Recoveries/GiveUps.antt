@@ -18,14 +18,14 @@ AreFailures = (s : ScenarioValue) (rows : List Row) (row : Row) (n : Connection)
     && gives_up s rows row n id) ≡ true
 
 abbrev pub AreLosses : Type 0
-AreLosses = (s : ScenarioValue) (rows : List Row) (row : Row) (n : Connection) (p : Process)
+AreLosses = (s : ScenarioValue) (rows : List Row) (row : Row) (n : Connection) (c : Process)
     → (run_state s rows).story.bus_state.connection ≡ Some n
     → is_true_telling s (run_state s rows) row (row_reading (run_state s rows).story.bus_state row) ≡ true
-    → process_of s p.id ≡ Some p → (leaving s (run_state s rows) n.target).to ≡ None
+    → process_of s c.id ≡ Some c → (leaving s (run_state s rows) n.target).to ≡ None
     → has_event (row_events_by s (run_state s rows).story (row_reading (run_state s rows).story.bus_state row) row)
-    (Event.Lost p.id) ≡ true
+    (Event.Lost c.id) ≡ true
     → (is_loss (run_state s rows).exchange.plan.cause (phase_of (bus_of (run_state s rows)))
-    && gives_up s rows row n p.id) ≡ true
+    && gives_up s rows row n c.id) ≡ true
 
 plain : (s : ScenarioValue) (p : List Row) (row : Row) → Obeys s → IsPrompt s (row ∷ p) → IsPlain s p (run_state s p)
 plain s p row o prompt = run_state_plain s p (whole s p o prompt.0).stood.standing.devices

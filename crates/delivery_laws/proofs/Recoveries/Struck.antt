@@ -27,21 +27,21 @@ taken_lines l e = go l.msg l.cd l.io e
 -- ---- one row
 
 -- A fault row, with which no byte crosses; or it was struck before.
-struck_on : (w : Hearing) (l : Leaving) (p : Plan) → changes_phase w.change ≡ false
+struck_on : (w : Hearing) (l : Leaving) (a : Plan) → changes_phase w.change ≡ false
     → (w.change.before.io ≡ false) × (is_message_out w.change.before ≡ false)
-    → (w.fault ≡ true → w.crosses ≡ false) → (w.fault || p.struck) ≡ true → (plan_after w l p).struck ≡ true
-struck_on w l p stays lines alone e =
-    (λ i. (if stays i then plan_in_phase w l p else if w.crosses then plan_with_byte w p
-    else if w.fault && not w.change.before.io then struck_plan p else p).struck)
+    → (w.fault ≡ true → w.crosses ≡ false) → (w.fault || a.struck) ≡ true → (plan_after w l a).struck ≡ true
+struck_on w l a stays lines alone e =
+    (λ i. (if stays i then plan_in_phase w l a else if w.crosses then plan_with_byte w a
+    else if w.fault && not w.change.before.io then struck_plan a else a).struck)
     ∙ go w.crosses refl w.fault refl
   where
     go : (q : Bool) → w.crosses ≡ q → (r : Bool) → w.fault ≡ r
-        → (if q then plan_with_byte w p else if r && not w.change.before.io then struck_plan p else p).struck ≡ true
+        → (if q then plan_with_byte w a else if r && not w.change.before.io then struck_plan a else a).struck ≡ true
     go true c true f = wrong (sym c ∙ alone f)
     go true c false f =
-        (λ i. (if lines.1 i then plan_after_message p w.is_last w.out else p).struck) ∙ (λ i. sym f i || p.struck) ∙ e
-    go false c true f = λ i. (if not (lines.0 i) then struck_plan p else p).struck
-    go false c false f = (λ i. sym f i || p.struck) ∙ e
+        (λ i. (if lines.1 i then plan_after_message a w.is_last w.out else a).struck) ∙ (λ i. sym f i || a.struck) ∙ e
+    go false c true f = λ i. (if not (lines.0 i) then struck_plan a else a).struck
+    go false c false f = (λ i. sym f i || a.struck) ∙ e
 
 all_four : (a b c d : Bool) → (a && b && c && d) ≡ true → (a ≡ true) × ((b ≡ true) × ((c ≡ true) × (d ≡ true)))
 all_four true true true true e = (refl, (refl, (refl, refl)))

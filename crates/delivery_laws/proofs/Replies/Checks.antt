@@ -7,48 +7,48 @@ use proofs.Names.{Story, by_status, story_after_event, story_after_events, story
 use proofs.Names.{run_state, id_is, events_grow, changed, has_status, is_status_of}
 
 abbrev pub IsChecked : ℕ → Sent → Type 0
-IsChecked n b = list_any (λ k. k == n) b.checks ≡ true
+IsChecked m b = list_any (λ k. k == m) b.checks ≡ true
 
-last_there : (xs : List ℕ) (n : ℕ) → list_any (λ k. k == n) (xs ++ n ∷ []) ≡ true
-last_there [] n = ap (λ (q : Bool). q || false) (eq_self n)
-last_there (x ∷ xs) n = elim (cases_Bool (x == n)) [ inl e ↦ rw e | inr e ↦ rw e (last_there xs n) ]
+last_there : (xs : List ℕ) (m : ℕ) → list_any (λ k. k == m) (xs ++ m ∷ []) ≡ true
+last_there [] m = ap (λ (q : Bool). q || false) (eq_self m)
+last_there (x ∷ xs) m = elim (cases_Bool (x == m)) [ inl e ↦ rw e | inr e ↦ rw e (last_there xs m) ]
 
 -- ---- an event
 
-check_stands : (b : Story) (n status : ℕ) → (status == CHECK_CONDITION) ≡ true
-    → IsChecked n (with_check b (command_id n) status).sent
-check_stands b n status e = (λ i. list_any (λ k. k == n)
-    (if e i then record b { sent = record b.sent { checks = b.sent.checks ++ n ∷ [] } } else b).sent.checks)
-    ∙ last_there b.sent.checks n
+check_stands : (b : Story) (m status : ℕ) → (status == CHECK_CONDITION) ≡ true
+    → IsChecked m (with_check b (command_id m) status).sent
+check_stands b m status e = (λ i. list_any (λ k. k == m)
+    (if e i then record b { sent = record b.sent { checks = b.sent.checks ++ m ∷ [] } } else b).sent.checks)
+    ∙ last_there b.sent.checks m
 
-event_stands : (s : ScenarioValue) (b : Story) (n : ℕ) (e : Event)
-    → is_status_of (command_id n) CHECK_CONDITION e ≡ true → IsChecked n (story_after_event s b e).sent
-event_stands s b n (Event.End id status) e =
-    let same : id ≡ command_id n = id_is id (command_id n)
-    (and_first (same_id id (command_id n)) (status == CHECK_CONDITION) e) in
-    ap (λ (x : ProcId). list_any (λ k. k == n)
+event_stands : (s : ScenarioValue) (b : Story) (m : ℕ) (e : Event)
+    → is_status_of (command_id m) CHECK_CONDITION e ≡ true → IsChecked m (story_after_event s b e).sent
+event_stands s b m (Event.End id status) e =
+    let same : id ≡ command_id m = id_is id (command_id m)
+    (and_first (same_id id (command_id m)) (status == CHECK_CONDITION) e) in
+    ap (λ (x : ProcId). list_any (λ k. k == m)
     (with_check (story_with_end b x (by_status status)) x status).sent.checks) same
-    ∙ check_stands (story_with_end b (command_id n) (by_status status)) n status
-    (and_second (same_id id (command_id n)) (status == CHECK_CONDITION) e)
-event_stands s b n _ e = wrong' e
+    ∙ check_stands (story_with_end b (command_id m) (by_status status)) m status
+    (and_second (same_id id (command_id m)) (status == CHECK_CONDITION) e)
+event_stands s b m _ e = wrong' e
 
 -- ---- the events of a row
 
-shown_stands : (s : ScenarioValue) (b : Story) (n : ℕ) (shown : List Event)
-    → has_status shown (command_id n) CHECK_CONDITION ≡ true → IsChecked n (story_after_events s b shown).sent
-shown_stands s b n [] e = wrong' e
-shown_stands s b n (x ∷ shown) e =
-    go (is_status_of (command_id n) CHECK_CONDITION x) refl e (λ z. shown_stands s b n shown z)
+shown_stands : (s : ScenarioValue) (b : Story) (m : ℕ) (shown : List Event)
+    → has_status shown (command_id m) CHECK_CONDITION ≡ true → IsChecked m (story_after_events s b shown).sent
+shown_stands s b m [] e = wrong' e
+shown_stands s b m (x ∷ shown) e =
+    go (is_status_of (command_id m) CHECK_CONDITION x) refl e (λ z. shown_stands s b m shown z)
   where
     was : Story
     was = story_after_events s b shown
 
-    go : (q : Bool) → is_status_of (command_id n) CHECK_CONDITION x ≡ q
-        → (q || has_status shown (command_id n) CHECK_CONDITION) ≡ true
-        → (has_status shown (command_id n) CHECK_CONDITION ≡ true → IsChecked n was.sent)
-        → IsChecked n (story_after_event s was x).sent
-    go true z f rest = event_stands s was n x z
-    go false z f rest = (events_grow s was (x ∷ [])).checks n (rest f)
+    go : (q : Bool) → is_status_of (command_id m) CHECK_CONDITION x ≡ q
+        → (q || has_status shown (command_id m) CHECK_CONDITION) ≡ true
+        → (has_status shown (command_id m) CHECK_CONDITION ≡ true → IsChecked m was.sent)
+        → IsChecked m (story_after_event s was x).sent
+    go true z f rest = event_stands s was m x z
+    go false z f rest = (events_grow s was (x ∷ [])).checks m (rest f)
 
 either : (xs ys : List Event) (id : ProcId) (status : ℕ) → has_status (xs ++ ys) id status ≡ true
     → (has_status xs id status ≡ true) ⊎ (has_status ys id status ≡ true)
@@ -61,11 +61,11 @@ either (x ∷ xs) ys id status e =
 
 -- ---- after any rows
 
-pub checks_stand : (s : ScenarioValue) (p : List Row) (n : ℕ)
-    → has_status (run_state s p).story.history (command_id n) CHECK_CONDITION ≡ true
-    → IsChecked n (run_state s p).story.sent
-checks_stand s [] n e = wrong' e
-checks_stand s (row ∷ p) n e = go (either now b.history (command_id n) CHECK_CONDITION e) (λ z. checks_stand s p n z)
+pub checks_stand : (s : ScenarioValue) (p : List Row) (m : ℕ)
+    → has_status (run_state s p).story.history (command_id m) CHECK_CONDITION ≡ true
+    → IsChecked m (run_state s p).story.sent
+checks_stand s [] m e = wrong' e
+checks_stand s (row ∷ p) m e = go (either now b.history (command_id m) CHECK_CONDITION e) (λ z. checks_stand s p m z)
   where
     b : Story
     b = (run_state s p).story
@@ -79,10 +79,10 @@ checks_stand s (row ∷ p) n e = go (either now b.history (command_id n) CHECK_C
     now : List Event
     now = row_events_by s b d row
 
-    go : (has_status now (command_id n) CHECK_CONDITION ≡ true)
-        ⊎ (has_status b.history (command_id n) CHECK_CONDITION ≡ true)
-        → (has_status b.history (command_id n) CHECK_CONDITION ≡ true → IsChecked n b.sent)
-        → IsChecked n (run_state s (row ∷ p)).story.sent
-    go (inl z) rest = shown_stands s c n now z
-    go (inr z) rest = (events_grow s c now).checks n
-        (ap (λ (x : List ℕ). list_any (λ k. k == n) x) (changed s b d row).checks ∙ rest z)
+    go : (has_status now (command_id m) CHECK_CONDITION ≡ true)
+        ⊎ (has_status b.history (command_id m) CHECK_CONDITION ≡ true)
+        → (has_status b.history (command_id m) CHECK_CONDITION ≡ true → IsChecked m b.sent)
+        → IsChecked m (run_state s (row ∷ p)).story.sent
+    go (inl z) rest = shown_stands s c m now z
+    go (inr z) rest = (events_grow s c now).checks m
+        (ap (λ (x : List ℕ). list_any (λ k. k == m) x) (changed s b d row).checks ∙ rest z)

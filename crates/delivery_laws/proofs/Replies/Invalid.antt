@@ -15,17 +15,17 @@ use Rattle.due_model.specs.array_model.specs.Steps
 -- ---- the checks
 
 -- Neither INQUIRY nor REQUEST SENSE, and it does not fit its unit.
-record IsUnsound (d : Option UnitDef) (cdb : List ℕ) (k : Command) : Type 0 where
+record IsUnsound (d : Option UnitDef) (cdb : List ℕ) (c : Command) : Type 0 where
   inquiry : is_opcode cdb INQUIRY ≡ false
   sense : is_opcode cdb REQUEST_SENSE ≡ false
-  fits : fits_unit d k ≡ false
+  fits : fits_unit d c ≡ false
 
-unsound : (d : Option UnitDef) (cdb : List ℕ) (k : Command)
-    → (is_opcode cdb INQUIRY || is_opcode cdb REQUEST_SENSE || fits_unit d k) ≡ false → IsUnsound d cdb k
-unsound d cdb k e = go (is_opcode cdb INQUIRY) refl (is_opcode cdb REQUEST_SENSE) refl e
+unsound : (d : Option UnitDef) (cdb : List ℕ) (c : Command)
+    → (is_opcode cdb INQUIRY || is_opcode cdb REQUEST_SENSE || fits_unit d c) ≡ false → IsUnsound d cdb c
+unsound d cdb c e = go (is_opcode cdb INQUIRY) refl (is_opcode cdb REQUEST_SENSE) refl e
   where
     go : (x : Bool) → is_opcode cdb INQUIRY ≡ x → (y : Bool) → is_opcode cdb REQUEST_SENSE ≡ y
-        → (x || y || fits_unit d k) ≡ false → IsUnsound d cdb k
+        → (x || y || fits_unit d c) ≡ false → IsUnsound d cdb c
     go true f y g z = wrong z
     go false f true g z = wrong z
     go false f false g z = record { inquiry = f; sense = g; fits = z }
@@ -33,7 +33,7 @@ unsound d cdb k e = go (is_opcode cdb INQUIRY) refl (is_opcode cdb REQUEST_SENSE
 -- What is wrong with it, where its unit is there or not needed.
 wrong_block : (c : CmdDef) (m : CommandContext) (sent : List ℕ)
     → (not m.present && needs_unit c.cdb) ≡ false → m.attention ≡ None
-    → ((k : Command) → command_of c.cdb ≡ Ok k → is_good_range m.contents.count (range_of k) ≡ false)
+    → ((x : Command) → command_of c.cdb ≡ Ok x → is_good_range m.contents.count (range_of x) ≡ false)
     → (execution m c.cdb sent).reply ≡ check_condition (fault_sense (command_of c.cdb))
 wrong_block c m sent there calm range = go (command_of c.cdb) refl
   where
@@ -47,7 +47,7 @@ wrong_block c m sent there calm range = go (command_of c.cdb) refl
 
     go : (r : Result Command CdbFault) → command_of c.cdb ≡ r
         → (execution m c.cdb sent).reply ≡ check_condition (fault_sense r)
-    go (Ok k) e = λ i. (outside_executed m c.cdb sent k passes e (range k e) i).reply
+    go (Ok x) e = λ i. (outside_executed m c.cdb sent x passes e (range x e) i).reply
     go (Err f) e = (λ i. (faulty_executed m c.cdb sent f passes e i).reply) ∙ by_fault f
 
 pub invalid_answers : (s : ScenarioValue) (a : Array) (q : Nexus) (c : CmdDef) (sent : List ℕ)
@@ -57,10 +57,10 @@ pub invalid_answers : (s : ScenarioValue) (a : Array) (q : Nexus) (c : CmdDef) (
 invalid_answers s a q c sent lines calm there invalid =
     by (unit_of s c.target c.unit) refl (unit_state_at a.units c.target c.unit) (lines c.target c.unit)
   where
-    bad : (d : Option UnitDef) → unit_of s c.target c.unit ≡ d → (k : Command) → command_of c.cdb ≡ Ok k
-        → IsUnsound d c.cdb k
-    bad d e k is =
-        unsound d c.cdb k ((λ i. is_opcode c.cdb INQUIRY || is_opcode c.cdb REQUEST_SENSE || fits_unit (sym e i) k)
+    bad : (d : Option UnitDef) → unit_of s c.target c.unit ≡ d → (y : Command) → command_of c.cdb ≡ Ok y
+        → IsUnsound d c.cdb y
+    bad d e y is =
+        unsound d c.cdb y ((λ i. is_opcode c.cdb INQUIRY || is_opcode c.cdb REQUEST_SENSE || fits_unit (sym e i) y)
         ∙ (λ i. is_sound_command s c (sym is i))
         ∙ ap (λ (x : Bool). x && is_sound_command s c (command_of c.cdb)) (sym there) ∙ invalid)
 
@@ -74,10 +74,10 @@ invalid_answers s a q c sent lines calm there invalid =
         m : CommandContext
         m = Steps.context_at a q None
 
-        unneeded : needs_unit c.cdb ≡ false → (k : Command) → command_of c.cdb ≡ Ok k
-            → is_good_range m.contents.count (range_of k) ≡ false
-        unneeded f k is =
-            let w : IsUnsound None c.cdb k = bad None e k is in
+        unneeded : needs_unit c.cdb ≡ false → (y : Command) → command_of c.cdb ≡ Ok y
+            → is_good_range m.contents.count (range_of y) ≡ false
+        unneeded f y is =
+            let w : IsUnsound None c.cdb y = bad None e y is in
             let needed : (not false && not (is_request_sense (command_of c.cdb))) ≡ false =
             (λ i. not (sym w.inquiry i) && not (is_request_sense (command_of c.cdb))) ∙ f in
             wrong (sym (sense_opcode c.cdb (not-false (is_request_sense (command_of c.cdb)) needed)) ∙ w.sense)
@@ -90,7 +90,7 @@ invalid_answers s a q c sent lines calm there invalid =
     by (Some d) e None line = absurd line
     by (Some d) e (Some u) line =
         wrong_block c (Steps.context_at a q (Some u)) sent refl (calm_context a q (Some u) calm)
-        (λ k is. ap (λ (n : ℕ). is_good_range n (range_of k)) line.0 ∙ (bad (Some d) e k is).fits)
+        (λ y is. ap (λ (l : ℕ). is_good_range l (range_of y)) line.0 ∙ (bad (Some d) e y is).fits)
         ∙ (λ i. check_condition
         (if not (is_some (sym e i)) && needs_unit c.cdb then unit_not_supported else fault_sense (command_of c.cdb)))
 
@@ -102,23 +102,23 @@ calm_before [] earlier e = e
 calm_before (x ∷ later) earlier e = calm_before later earlier
     (and_second (is_calm_event x) (list_all (λ (y : Event). is_calm_event y) (later ++ earlier)) e)
 
-pub invalid_ran : (s : ScenarioValue) (h : List Event) (n : ℕ) (c : CmdDef) (reply : Reply) → Obeys s
-    → list_all (λ (e : Event). is_calm_event e) h ≡ true → command_at s.commands n ≡ Some c
-    → has_target s c.target ≡ true → is_valid s c ≡ false → HasRun s h (command_id n) reply
+pub invalid_ran : (s : ScenarioValue) (h : List Event) (m : ℕ) (c : CmdDef) (reply : Reply) → Obeys s
+    → list_all (λ (e : Event). is_calm_event e) h ≡ true → command_at s.commands m ≡ Some c
+    → has_target s c.target ≡ true → is_valid s c ≡ false → HasRun s h (command_id m) reply
     → reply ≡ check_condition (checked_sense s c)
-invalid_ran s h n c reply o calm at there invalid w = w.reply_is ∙ (λ i. (execution
+invalid_ran s h m c reply o calm at there invalid w = w.reply_is ∙ (λ i. (execution
     (Steps.context_at w.array (nexus_of w.process) (unit_state_at w.array.units (sym same i).target (sym same i).unit))
     (sym same i).cdb w.process.sent).reply)
     ∙ invalid_answers s w.array (nexus_of w.process) c w.process.sent
     (lines_always s w.earlier w.array w.array_is) quiet there invalid
   where
-    same : process_by s (command_id n) c ≡ w.process
+    same : process_by s (command_id m) c ≡ w.process
     same =
-        same_Some (process_by s (command_id n) c) w.process (sym (ap (process_if s (command_id n)) at) ∙ w.process_is)
+        same_Some (process_by s (command_id m) c) w.process (sym (ap (process_if s (command_id m)) at) ∙ w.process_is)
 
     before : list_all (λ (e : Event). is_calm_event e) w.earlier ≡ true
-    before = and_second (is_calm_event (Event.Run (command_id n))) (list_all (λ (e : Event). is_calm_event e) w.earlier)
-        (calm_before w.later (Event.Run (command_id n) ∷ w.earlier)
+    before = and_second (is_calm_event (Event.Run (command_id m))) (list_all (λ (e : Event). is_calm_event e) w.earlier)
+        (calm_before w.later (Event.Run (command_id m) ∷ w.earlier)
         (ap (λ (x : List Event). list_all (λ (e : Event). is_calm_event e) x) (sym w.split) ∙ calm))
 
     quiet : w.array.attentions ≡ []

@@ -92,23 +92,23 @@ step_keeps s a d e id y sound fresh st h = subst (IfBooks (λ x z. reply_in z id
 
 -- ---- one that ran
 
-run_lists : (s : ScenarioValue) (a d : Array) (id : ProcId) (p : Process) → IsSound s a
-    → process_of s id ≡ Some p → Steps.step s (Event.Run id) a ≡ Some d → reply_in d.replies id
-    ≡ Some (execution (Steps.context_at a (nexus_of p) (unit_state_at a.units p.target p.unit)) p.cdb p.sent).reply
-run_lists s a d id p sound is st = subst (IfBooks f) st (books.settled f (Steps.event_step s a (Event.Run id))
+run_lists : (s : ScenarioValue) (a d : Array) (id : ProcId) (c : Process) → IsSound s a
+    → process_of s id ≡ Some c → Steps.step s (Event.Run id) a ≡ Some d → reply_in d.replies id
+    ≡ Some (execution (Steps.context_at a (nexus_of c) (unit_state_at a.units c.target c.unit)) c.cdb c.sent).reply
+run_lists s a d id c sound is st = subst (IfBooks f) st (books.settled f (Steps.event_step s a (Event.Run id))
     (books.run f a (is_some (guest_at a.guests id)) (Steps.running_process a id) now))
   where
     answer : Process → Reply
     answer q = (execution (Steps.context_at a (nexus_of q) (unit_state_at a.units q.target q.unit)) q.cdb q.sent).reply
 
     f : List (Nexus × Sense) → List (ProcId × Reply) → Type 0
-    f x z = reply_in z id ≡ Some (answer p)
+    f x z = reply_in z id ≡ Some (answer c)
 
     now : (r : RunningProcess) → Steps.running_process a id ≡ Some r → f a.senses
         ((r.process.id, reply_at a r.process (unit_state_at a.units r.process.target r.process.unit)) ∷ a.replies)
     now r e = ap (λ (q : Bool). if q then Some (answer r.process) else reply_in a.replies id)
         (ap (λ (x : ProcId). same_id x id) (running_id a id r e) ∙ self_id id)
-        ∙ ap (λ (q : Process). Some (answer q)) (same_Some r.process p (sym (running_own s a id r sound e) ∙ is))
+        ∙ ap (λ (q : Process). Some (answer q)) (same_Some r.process c (sym (running_own s a id r sound e) ∙ is))
 
 no_cons : {A : Type 0} (x : Event) (h : List Event) → (let l : List Event = [] in l) ≡ x ∷ h → A
 no_cons x h e = absurd (never e)
@@ -123,20 +123,20 @@ tail_is : (x y : Event) (h g : List Event) → x ∷ h ≡ y ∷ g → h ≡ g
 tail_is x y h g e = cc
 
 run_lasts : (s : ScenarioValue) (h : List Event) (a : Array) (id : ProcId) (reply : Reply)
-    (later earlier : List Event) (was : Array) (p : Process) → Obeys s → AreFresh s h → array_after s h ≡ Some a
-    → h ≡ later ++ Event.Run id ∷ earlier → array_after s earlier ≡ Some was → process_of s id ≡ Some p → reply
-    ≡ (execution (Steps.context_at was (nexus_of p) (unit_state_at was.units p.target p.unit)) p.cdb p.sent).reply
+    (later earlier : List Event) (was : Array) (t : Process) → Obeys s → AreFresh s h → array_after s h ≡ Some a
+    → h ≡ later ++ Event.Run id ∷ earlier → array_after s earlier ≡ Some was → process_of s id ≡ Some t → reply
+    ≡ (execution (Steps.context_at was (nexus_of t) (unit_state_at was.units t.target t.unit)) t.cdb t.sent).reply
     → reply_in a.replies id ≡ Some reply
-run_lasts s [] a id reply [] earlier was p o fresh plays split before is own = no_cons (Event.Run id) earlier split
-run_lasts s [] a id reply (x ∷ later) earlier was p o fresh plays split before is own =
+run_lasts s [] a id reply [] earlier was t o fresh plays split before is own = no_cons (Event.Run id) earlier split
+run_lasts s [] a id reply (x ∷ later) earlier was t o fresh plays split before is own =
     no_cons x (later ++ Event.Run id ∷ earlier) split
-run_lasts s (e ∷ h) a id reply [] earlier was p o fresh plays split before is own =
-    run_lists s was a id p (history_sound s earlier was (seats_are s (obeys_fits s o)) before) is
+run_lasts s (e ∷ h) a id reply [] earlier was t o fresh plays split before is own =
+    run_lists s was a id t (history_sound s earlier was (seats_are s (obeys_fits s o)) before) is
     ((λ i. array_step s (sym (head_is e (Event.Run id) h earlier split) i)
     (sym (ap (array_after s) (tail_is e (Event.Run id) h earlier split) ∙ before) i)) ∙ plays)
     ∙ ap (λ (x : Reply). Some x) (sym own)
-run_lasts s (e ∷ h) a id reply (x ∷ later) earlier was p o fresh plays split before is own =
-    go (array_after s h) refl plays (λ b z. run_lasts s h b id reply later earlier was p o fresh.1 z
+run_lasts s (e ∷ h) a id reply (x ∷ later) earlier was t o fresh plays split before is own =
+    go (array_after s h) refl plays (λ b z. run_lasts s h b id reply later earlier was t o fresh.1 z
     (tail_is e x h (later ++ Event.Run id ∷ earlier) split) before is own)
   where
     go : (b : Option Array) → array_after s h ≡ b → array_step s e b ≡ Some a

@@ -47,9 +47,9 @@ sense_command cdb h = go (length cdb == 0) h
   where
     go : (y : Bool) → (not y && slice_index cdb 0 == REQUEST_SENSE) ≡ true
         → is_sense_or_faulty (if y then Err CdbFault.Length else sized_of (operation_of (slice_index cdb 0)) cdb) ≡ true
-    go true k = refl
-    go false k =
-        let code : slice_index cdb 0 ≡ REQUEST_SENSE = eqb-true (slice_index cdb 0) REQUEST_SENSE k in
+    go true e = refl
+    go false e =
+        let code : slice_index cdb 0 ≡ REQUEST_SENSE = eqb-true (slice_index cdb 0) REQUEST_SENSE e in
         (λ i. is_sense_or_faulty (sized_of (operation_of (code i)) cdb)) ∙ sized_sense cdb
 
 inquiry_range : (blocks : ℕ) (c : Command) → is_inquiry_or_faulty (Ok c) ≡ true
@@ -76,15 +76,15 @@ count_at : Option UnitState → ℕ
 count_at None = 0
 count_at (Some u) = u.contents.count
 
-fit_unit : (s : ScenarioValue) (c : CmdDef) (d : Option UnitDef) (u : Option UnitState) (k : Command)
-    → IsOfLine d u → command_of c.cdb ≡ Ok k → fits_unit d k ≡ true
-    → (is_some u ≡ true) × ((v : UnitState) → u ≡ Some v → is_good_range v.contents.count (range_of k) ≡ true)
-fit_unit s c None u k line is e = wrong' e
-fit_unit s c (Some d) None k line is e = absurd line
-fit_unit s c (Some d) (Some u) k line is e = (
+fit_unit : (s : ScenarioValue) (c : CmdDef) (d : Option UnitDef) (u : Option UnitState) (x : Command)
+    → IsOfLine d u → command_of c.cdb ≡ Ok x → fits_unit d x ≡ true
+    → (is_some u ≡ true) × ((v : UnitState) → u ≡ Some v → is_good_range v.contents.count (range_of x) ≡ true)
+fit_unit s c None u x line is e = wrong' e
+fit_unit s c (Some d) None x line is e = absurd line
+fit_unit s c (Some d) (Some u) x line is e = (
   refl,
-  λ v z. subst (λ (w : UnitState). is_good_range w.contents.count (range_of k) ≡ true) (same_Some u v z)
-      (ap (λ (n : ℕ). is_good_range n (range_of k)) line.0 ∙ e),
+  λ v z. subst (λ (w : UnitState). is_good_range w.contents.count (range_of x) ≡ true) (same_Some u v z)
+      (ap (λ (m : ℕ). is_good_range m (range_of x)) line.0 ∙ e),
 )
 
 -- The context of a process at its unit, where no attention stands.
@@ -97,18 +97,18 @@ present_is : (a : Array) (q : Nexus) (u : Option UnitState) → (Steps.context_a
 present_is a q None = refl
 present_is a q (Some u) = refl
 
-answers_by_unit : (a : Array) (q : Nexus) (u : Option UnitState) (cdb sent : List ℕ) (k : Command)
-    → a.attentions ≡ [] → command_of cdb ≡ Ok k → is_some u ≡ true
-    → ((v : UnitState) → u ≡ Some v → is_good_range v.contents.count (range_of k) ≡ true)
+answers_by_unit : (a : Array) (q : Nexus) (u : Option UnitState) (cdb sent : List ℕ) (c : Command)
+    → a.attentions ≡ [] → command_of cdb ≡ Ok c → is_some u ≡ true
+    → ((v : UnitState) → u ≡ Some v → is_good_range v.contents.count (range_of c) ≡ true)
     → (execution (Steps.context_at a q u) cdb sent).reply.status ≡ GOOD
-answers_by_unit a q None cdb sent k calm is some range = wrong' some
-answers_by_unit a q (Some u) cdb sent k calm is some range =
-    run_good (Steps.context_at a q (Some u)) cdb sent k refl (calm_context a q (Some u) calm) is (range u refl)
+answers_by_unit a q None cdb sent c calm is some range = wrong' some
+answers_by_unit a q (Some u) cdb sent c calm is some range =
+    run_good (Steps.context_at a q (Some u)) cdb sent c refl (calm_context a q (Some u) calm) is (range u refl)
 
-answers_anywhere : (a : Array) (q : Nexus) (u : Option UnitState) (cdb sent : List ℕ) (k : Command) → a.attentions ≡ []
-    → command_of cdb ≡ Ok k → needs_unit cdb ≡ false → ((n : ℕ) → is_good_range n (range_of k) ≡ true)
+answers_anywhere : (a : Array) (q : Nexus) (u : Option UnitState) (cdb sent : List ℕ) (c : Command) → a.attentions ≡ []
+    → command_of cdb ≡ Ok c → needs_unit cdb ≡ false → ((m : ℕ) → is_good_range m (range_of c) ≡ true)
     → (execution (Steps.context_at a q u) cdb sent).reply.status ≡ GOOD
-answers_anywhere a q u cdb sent k calm is apart range = run_good (Steps.context_at a q u) cdb sent k
+answers_anywhere a q u cdb sent c calm is apart range = run_good (Steps.context_at a q u) cdb sent c
     (and_right (not (Steps.context_at a q u).present) (needs_unit cdb) apart) (calm_context a q u calm) is
     (range (Steps.context_at a q u).contents.count)
 
@@ -124,41 +124,41 @@ valid_answers s a q c sent lines calm valid =
     Good : Type 0
     Good = (execution (Steps.context_at a q u) c.cdb sent).reply.status ≡ GOOD
 
-    by_inquiry : (k : Command) → command_of c.cdb ≡ Ok k → is_opcode c.cdb INQUIRY ≡ true → Good
-    by_inquiry k is e =
-        answers_anywhere a q u c.cdb sent k calm is (λ i. not (e i) && not (is_request_sense (command_of c.cdb)))
-        (λ n. inquiry_range n k ((λ i. is_inquiry_or_faulty (sym is i)) ∙ inquiry_command c.cdb e))
+    by_inquiry : (z : Command) → command_of c.cdb ≡ Ok z → is_opcode c.cdb INQUIRY ≡ true → Good
+    by_inquiry z is e =
+        answers_anywhere a q u c.cdb sent z calm is (λ i. not (e i) && not (is_request_sense (command_of c.cdb)))
+        (λ n. inquiry_range n z ((λ i. is_inquiry_or_faulty (sym is i)) ∙ inquiry_command c.cdb e))
 
-    by_sense : (k : Command) → command_of c.cdb ≡ Ok k → is_opcode c.cdb REQUEST_SENSE ≡ true → Good
-    by_sense k is e =
-        let known : is_sense_or_faulty (Ok k) ≡ true = (λ i. is_sense_or_faulty (sym is i)) ∙ sense_command c.cdb e in
+    by_sense : (z : Command) → command_of c.cdb ≡ Ok z → is_opcode c.cdb REQUEST_SENSE ≡ true → Good
+    by_sense z is e =
+        let known : is_sense_or_faulty (Ok z) ≡ true = (λ i. is_sense_or_faulty (sym is i)) ∙ sense_command c.cdb e in
         let senses : is_request_sense (command_of c.cdb) ≡ true = (λ i. is_request_sense (is i))
-        ∙ (sense_range 0 k known).1 in
-        answers_anywhere a q u c.cdb sent k calm is (and_right (not (is_opcode c.cdb INQUIRY))
-        (not (is_request_sense (command_of c.cdb))) (ap not senses)) (λ n. (sense_range n k known).0)
+        ∙ (sense_range 0 z known).1 in
+        answers_anywhere a q u c.cdb sent z calm is (and_right (not (is_opcode c.cdb INQUIRY))
+        (not (is_request_sense (command_of c.cdb))) (ap not senses)) (λ n. (sense_range n z known).0)
 
-    by_unit : (k : Command) → command_of c.cdb ≡ Ok k → fits_unit (unit_of s c.target c.unit) k ≡ true → Good
-    by_unit k is e =
-        let w = fit_unit s c (unit_of s c.target c.unit) u k (lines c.target c.unit) is e in
-        answers_by_unit a q u c.cdb sent k calm is w.0 w.1
+    by_unit : (z : Command) → command_of c.cdb ≡ Ok z → fits_unit (unit_of s c.target c.unit) z ≡ true → Good
+    by_unit z is e =
+        let w = fit_unit s c (unit_of s c.target c.unit) u z (lines c.target c.unit) is e in
+        answers_by_unit a q u c.cdb sent z calm is w.0 w.1
 
-    either : (k : Command) → command_of c.cdb ≡ Ok k → (x y : Bool) → is_opcode c.cdb INQUIRY ≡ x
-        → is_opcode c.cdb REQUEST_SENSE ≡ y → (x || y || fits_unit (unit_of s c.target c.unit) k) ≡ true → Good
-    either k is true y ex ey e = by_inquiry k is ex
-    either k is false true ex ey e = by_sense k is ey
-    either k is false false ex ey e = by_unit k is e
+    either : (z : Command) → command_of c.cdb ≡ Ok z → (x y : Bool) → is_opcode c.cdb INQUIRY ≡ x
+        → is_opcode c.cdb REQUEST_SENSE ≡ y → (x || y || fits_unit (unit_of s c.target c.unit) z) ≡ true → Good
+    either z is true y ex ey e = by_inquiry z is ex
+    either z is false true ex ey e = by_sense z is ey
+    either z is false false ex ey e = by_unit z is e
 
     go : (r : Result Command CdbFault) → command_of c.cdb ≡ r → is_sound_command s c r ≡ true → Good
-    go (Ok k) is e = either k is (is_opcode c.cdb INQUIRY) (is_opcode c.cdb REQUEST_SENSE) refl refl e
+    go (Ok z) is e = either z is (is_opcode c.cdb INQUIRY) (is_opcode c.cdb REQUEST_SENSE) refl refl e
     go (Err fault) is e = wrong' e
 
 -- ---- the replies that are listed
 
 -- A valid command is answered GOOD, unless it was given up.
 abbrev pub AreFair : ScenarioValue → List Event → List (ProcId × Reply) → Type 0
-AreFair s h replies = (n : ℕ) (c : CmdDef) (r : Reply) → command_at s.commands n ≡ Some c
-    → is_valid s c ≡ true → reply_in replies (command_id n) ≡ Some r
-    → (r.status ≡ GOOD) ⊎ (list_any (λ (e : Event). is_given_up_by (command_id n) e) h ≡ true)
+AreFair s h replies = (m : ℕ) (c : CmdDef) (r : Reply) → command_at s.commands m ≡ Some c
+    → is_valid s c ≡ true → reply_in replies (command_id m) ≡ Some r
+    → (r.status ≡ GOOD) ⊎ (list_any (λ (e : Event). is_given_up_by (command_id m) e) h ≡ true)
 
 later : (h : List Event) (e : Event) (id : ProcId) (x : Type 0)
     → x ⊎ (list_any (λ (y : Event). is_given_up_by id y) h ≡ true)
@@ -173,22 +173,22 @@ no_more s h e replies after is g = subst (λ (x : List (ProcId × Reply)). AreFa
 
 one_more : (s : ScenarioValue) (h : List Event) (e : Event) (replies after : List (ProcId × Reply))
     (id : ProcId) (reply : Reply) → after ≡ (id, reply) ∷ replies
-    → ((n : ℕ) (c : CmdDef) → command_at s.commands n ≡ Some c → is_valid s c ≡ true → id ≡ command_id n
-    → (reply.status ≡ GOOD) ⊎ (is_given_up_by (command_id n) e ≡ true)) → AreFair s h replies → AreFair s (e ∷ h) after
+    → ((m : ℕ) (c : CmdDef) → command_at s.commands m ≡ Some c → is_valid s c ≡ true → id ≡ command_id m
+    → (reply.status ≡ GOOD) ⊎ (is_given_up_by (command_id m) e ≡ true)) → AreFair s h replies → AreFair s (e ∷ h) after
 one_more s h e replies after id reply is own g = subst (λ (x : List (ProcId × Reply)). AreFair s (e ∷ h) x) (sym is)
-    (λ n c r at valid z. go n c r at valid (same_id id (command_id n)) refl z)
+    (λ m c r at valid z. go m c r at valid (same_id id (command_id m)) refl z)
   where
-    now : (n : ℕ) (r : Reply) → reply ≡ r → (reply.status ≡ GOOD) ⊎ (is_given_up_by (command_id n) e ≡ true)
-        → (r.status ≡ GOOD) ⊎ (list_any (λ (y : Event). is_given_up_by (command_id n) y) (e ∷ h) ≡ true)
-    now n r same (inl z) = inl (ap (λ (x : Reply). x.status) (sym same) ∙ z)
-    now n r same (inr z) =
-        inr (or_left (is_given_up_by (command_id n) e) (list_any (λ (y : Event). is_given_up_by (command_id n) y) h) z)
+    now : (m : ℕ) (r : Reply) → reply ≡ r → (reply.status ≡ GOOD) ⊎ (is_given_up_by (command_id m) e ≡ true)
+        → (r.status ≡ GOOD) ⊎ (list_any (λ (y : Event). is_given_up_by (command_id m) y) (e ∷ h) ≡ true)
+    now m r same (inl z) = inl (ap (λ (x : Reply). x.status) (sym same) ∙ z)
+    now m r same (inr z) =
+        inr (or_left (is_given_up_by (command_id m) e) (list_any (λ (y : Event). is_given_up_by (command_id m) y) h) z)
 
-    go : (n : ℕ) (c : CmdDef) (r : Reply) → command_at s.commands n ≡ Some c → is_valid s c ≡ true → (q : Bool)
-        → same_id id (command_id n) ≡ q → (if q then Some reply else reply_in replies (command_id n)) ≡ Some r
-        → (r.status ≡ GOOD) ⊎ (list_any (λ (y : Event). is_given_up_by (command_id n) y) (e ∷ h) ≡ true)
-    go n c r at valid true f z = now n r (same_Some reply r z) (own n c at valid (id_is id (command_id n) f))
-    go n c r at valid false f z = later h e (command_id n) (r.status ≡ GOOD) (g n c r at valid z)
+    go : (m : ℕ) (c : CmdDef) (r : Reply) → command_at s.commands m ≡ Some c → is_valid s c ≡ true → (q : Bool)
+        → same_id id (command_id m) ≡ q → (if q then Some reply else reply_in replies (command_id m)) ≡ Some r
+        → (r.status ≡ GOOD) ⊎ (list_any (λ (y : Event). is_given_up_by (command_id m) y) (e ∷ h) ≡ true)
+    go m c r at valid true f z = now m r (same_Some reply r z) (own m c at valid (id_is id (command_id m) f))
+    go m c r at valid false f z = later h e (command_id m) (r.status ≡ GOOD) (g m c r at valid z)
 
 -- ---- event by event
 
@@ -207,13 +207,13 @@ ran s h a c id guest (Some r) is f e g =
     u : Option UnitState
     u = unit_state_at a.units r.process.target r.process.unit
 
-    good : (n : ℕ) (d : CmdDef) → command_at s.commands n ≡ Some d → is_valid s d ≡ true → r.process.id ≡ command_id n
+    good : (m : ℕ) (d : CmdDef) → command_at s.commands m ≡ Some d → is_valid s d ≡ true → r.process.id ≡ command_id m
         → (reply_at a r.process u).status ≡ GOOD
-    good n d at valid own =
-        let is_process : process_of s (command_id n) ≡ Some r.process =
+    good m d at valid own =
+        let is_process : process_of s (command_id m) ≡ Some r.process =
         ap (process_of s) (sym own ∙ running_id a id r f) ∙ running_own s a id r is.sound f in
-        let by : process_by s (command_id n) d ≡ r.process = same_Some
-        (process_by s (command_id n) d) r.process (sym (ap (process_if s (command_id n)) at) ∙ is_process) in
+        let by : process_by s (command_id m) d ≡ r.process = same_Some
+        (process_by s (command_id m) d) r.process (sym (ap (process_if s (command_id m)) at) ∙ is_process) in
         let target : d.target ≡ r.process.target = ap (λ (x : Process). x.target) by in
         let unit : d.unit ≡ r.process.unit = ap (λ (x : Process). x.unit) by in
         let cdb : d.cdb ≡ r.process.cdb = ap (λ (x : Process). x.cdb) by in
@@ -225,7 +225,7 @@ ran s h a c id guest (Some r) is f e g =
         → AreFair s (Event.Run id ∷ h) c.replies
     go true z = one_more s h (Event.Run id) a.replies c.replies r.process.id (reply_at a r.process u)
         (took (Steps.after_execution_at a r.process u) c _ z (executed a r.process u).replies)
-        (λ n d at valid own. inl (good n d at valid own)) g
+        (λ m d at valid own. inl (good m d at valid own)) g
     go false z = none_some c z
 
 step_fair : (s : ScenarioValue) (h : List Event) (a d : Array) (e : Event) → IsAlong s a → is_calm_event e ≡ true
@@ -273,34 +273,34 @@ calm_none false a h = h
 
 calm_accepted : (a : Array) (o : Option Process) → IsCalm a → IfCalm (Steps.accept_step a o)
 calm_accepted a None h = tt
-calm_accepted a (Some p) h = at (unit_state_at a.units p.target p.unit)
+calm_accepted a (Some c) h = at (unit_state_at a.units c.target c.unit)
   where
     either : (u : UnitState) (q : Bool)
-        → IfCalm (if q then Some (Steps.with_guest a p None) else Steps.queue_step a p u)
+        → IfCalm (if q then Some (Steps.with_guest a c None) else Steps.queue_step a c u)
     either u true = h
     either u false = calm_if (nat_lt (Steps.process_count u) u.depth)
-        (record a { units = with_unit a.units (record u { waiting = u.waiting ++ p ∷ [] }) }) h
+        (record a { units = with_unit a.units (record u { waiting = u.waiting ++ c ∷ [] }) }) h
 
-    at : (u : Option UnitState) → IfCalm (Steps.accept_step_at a p u)
+    at : (u : Option UnitState) → IfCalm (Steps.accept_step_at a c u)
     at None = h
-    at (Some u) = either u (is_request_sense (command_of p.cdb))
+    at (Some u) = either u (is_request_sense (command_of c.cdb))
 
 calm_refused : (a : Array) (o : Option Process) → IsCalm a → IfCalm (Steps.refuse_step a o)
 calm_refused a None h = tt
-calm_refused a (Some p) h = at (unit_state_at a.units p.target p.unit)
+calm_refused a (Some c) h = at (unit_state_at a.units c.target c.unit)
   where
-    at : (u : Option UnitState) → IfCalm (Steps.refuse_step_at a p u)
+    at : (u : Option UnitState) → IfCalm (Steps.refuse_step_at a c u)
     at None = tt
-    at (Some u) = calm_if (not (is_request_sense (command_of p.cdb)) && Steps.process_count u == u.depth)
-        (Steps.with_listed_reply (Steps.with_guest a p (Some queue_full)) p.id queue_full) h
+    at (Some u) = calm_if (not (is_request_sense (command_of c.cdb)) && Steps.process_count u == u.depth)
+        (Steps.with_listed_reply (Steps.with_guest a c (Some queue_full)) c.id queue_full) h
 
-calm_executed : (a : Array) (p : Process) (u : Option UnitState) → IsCalm a → IsCalm (Steps.after_execution_at a p u)
-calm_executed a p u h = go (execution (Steps.context_at a (nexus_of p) u) p.cdb p.sent).reported u
+calm_executed : (a : Array) (c : Process) (u : Option UnitState) → IsCalm a → IsCalm (Steps.after_execution_at a c u)
+calm_executed a c u h = go (execution (Steps.context_at a (nexus_of c) u) c.cdb c.sent).reported u
   where
-    go : (q : Bool) (v : Option UnitState) → (Steps.with_contents (Steps.without_attention a q (nexus_of p)) v
-        (execution (Steps.context_at a (nexus_of p) u) p.cdb p.sent).contents).attentions ≡ []
-    go true None = λ i. senses_without (h i) (nexus_of p)
-    go true (Some v) = λ i. senses_without (h i) (nexus_of p)
+    go : (q : Bool) (v : Option UnitState) → (Steps.with_contents (Steps.without_attention a q (nexus_of c)) v
+        (execution (Steps.context_at a (nexus_of c) u) c.cdb c.sent).contents).attentions ≡ []
+    go true None = λ i. senses_without (h i) (nexus_of c)
+    go true (Some v) = λ i. senses_without (h i) (nexus_of c)
     go false None = h
     go false (Some v) = h
 
@@ -318,8 +318,8 @@ calm_failed s a id reply None h = go (process_of s id)
   where
     go : (o : Option Process) → IfCalm (Steps.fail_step_of_new a id reply o)
     go None = tt
-    go (Some p) = calm_none (Steps.is_waiting a.units id || Steps.has_ended a id)
-        (Steps.with_listed_reply (Steps.with_guest a p (Some reply)) id reply) h
+    go (Some c) = calm_none (Steps.is_waiting a.units id || Steps.has_ended a id)
+        (Steps.with_listed_reply (Steps.with_guest a c (Some reply)) id reply) h
 
 calm_ended : (a : Array) (status : ℕ) (o : Option RunningProcess) → IsCalm a → IfCalm (Steps.end_step a status o)
 calm_ended a status None h = tt
@@ -359,8 +359,8 @@ calm_step : (s : ScenarioValue) (a d : Array) (e : Event) → is_calm_event e �
 calm_step s a d e q st h = go (Steps.event_step s a e) (calm_event s a e q h) st
   where
     go : (o : Option Array) → IfCalm o → Steps.settled_array_if o ≡ Some d → IsCalm d
-    go None k z = none_some d z
-    go (Some b) k z = ap (λ (x : Array). x.attentions) (sym (same_Some (settled_array b) d z)) ∙ k
+    go None f z = none_some d z
+    go (Some b) f z = ap (λ (x : Array). x.attentions) (sym (same_Some (settled_array b) d z)) ∙ f
 
 -- ---- after every history
 

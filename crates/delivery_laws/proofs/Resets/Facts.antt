@@ -187,9 +187,9 @@ own_line s p row time how comes h = by_kind row.kind refl
     driven : (drives (row ∷ p) dev).rst ≡ after.rst
     driven = λ i. (if eq_self row.dev i then driven_after row.kind (drives p row.dev) else drives p row.dev).rst
 
-    own_kind : (k : Kind) → row.kind ≡ k
-        → own_of (row ∷ p) dev ≡ Rattle.due_model.specs.Own.own_next k (own_of p dev) (change_of p row) row.time
-    own_kind k e = λ i. if eq_self row.dev i
+    own_kind : (v : Kind) → row.kind ≡ v
+        → own_of (row ∷ p) dev ≡ Rattle.due_model.specs.Own.own_next v (own_of p dev) (change_of p row) row.time
+    own_kind v e = λ i. if eq_self row.dev i
         then Rattle.due_model.specs.Own.own_next (e i) (own_of p row.dev) (change_of p row) row.time
         else own_of p row.dev
 
@@ -275,7 +275,7 @@ own_line s p row time how comes h = by_kind row.kind refl
         never (begins off r) = wrong (sym eb ∙ off)
         never (is_off z) = wrong (sym ea ∙ sym driven ∙ z)
 
-    by_kind : (k : Kind) → row.kind ≡ k → Line s (row ∷ p) dev time
+    by_kind : (v : Kind) → row.kind ≡ v → Line s (row ∷ p) dev time
     by_kind (Fault bit) e = same_line s p row dev time (own_kind (Fault bit) e)
         (driven ∙ (λ i. (driven_after (e i) (drives p row.dev)).rst)) h
     by_kind (Drives l) e = by_lines (own_kind (Drives l) e) (drives p dev).rst refl after.rst refl
@@ -387,8 +387,8 @@ found_all q f (y ∷ xs) x h e = go (f y) refl e (λ z. found_all q f xs x h.1 z
   where
     go : (b : Bool) → f y ≡ b → cond b (Some y) (find f xs) ≡ Some x
         → (find f xs ≡ Some x → q x × (f x ≡ true)) → q x × (f x ≡ true)
-    go true z k rest = let same = same_Some y x k in (subst q same h.0, ap f (sym same) ∙ z)
-    go false z k rest = rest k
+    go true z g rest = let same = same_Some y x g in (subst q same h.0, ap f (sym same) ∙ z)
+    go false z g rest = rest g
 
 -- A device that is there is one of eight.
 there_below : (s : ScenarioValue) (dev lat : ℕ) → Obeys s → latency_of s dev ≡ Some lat → dev < 8

@@ -19,23 +19,23 @@ use Rattle.due_model.specs.array_model.specs.Steps
 -- ---- what is kept
 
 -- The reply of the command, CHECK CONDITION, and its sense is stored here.
-pub record OwnReply (senses : List (Nexus × Sense)) (replies : List (ProcId × Reply)) (n : ℕ) (q : Nexus) : Type 0 where
+pub record OwnReply (senses : List (Nexus × Sense)) (replies : List (ProcId × Reply)) (m : ℕ) (q : Nexus) : Type 0 where
   pub reply : Reply
-  pub reply_is : reply_in replies (command_id n) ≡ Some reply
+  pub reply_is : reply_in replies (command_id m) ≡ Some reply
   pub check : reply.status ≡ CHECK_CONDITION
   pub stored : sense_of_nexus senses q ≡ Some reply.sense
 
 -- These bytes are its sense.
-pub record Brought (replies : List (ProcId × Reply)) (n : ℕ) (bytes : List ℕ) : Type 0 where
+pub record Brought (replies : List (ProcId × Reply)) (m : ℕ) (bytes : List ℕ) : Type 0 where
   pub reply : Reply
-  pub reply_is : reply_in replies (command_id n) ≡ Some reply
+  pub reply_is : reply_in replies (command_id m) ≡ Some reply
   pub check : reply.status ≡ CHECK_CONDITION
   pub sense_is : sense_in bytes ≡ Some reply.sense
 
 pub record OwnSenses (s : ScenarioValue) (b : Sent) (senses : List (Nexus × Sense)) (replies : List (ProcId × Reply)) :
     Type 0 where
-  pub owned : (n : ℕ) (q : Nexus) → IsDebt s b n q → OwnReply senses replies n q
-  pub brought : (n : ℕ) (r : Reply) → reply_in replies (sense_id n) ≡ Some r → Brought replies n r.bytes
+  pub owned : (m : ℕ) (q : Nexus) → IsDebt s b m q → OwnReply senses replies m q
+  pub brought : (m : ℕ) (r : Reply) → reply_in replies (sense_id m) ≡ Some r → Brought replies m r.bytes
 
 -- A process is answered once; an automatic REQUEST SENSE runs as it is owed; and the one that ends has the reply that
 -- is listed.
@@ -58,49 +58,49 @@ IfBooks f (Some a) = f a.senses a.replies
 
 pub accepted : (f : Book) (a : Array) (o : Option Process) → f a.senses a.replies → IfBooks f (Steps.accept_step a o)
 accepted f a None h = tt
-accepted f a (Some p) h = at (unit_state_at a.units p.target p.unit)
+accepted f a (Some c) h = at (unit_state_at a.units c.target c.unit)
   where
-    at : (u : Option UnitState) → IfBooks f (Steps.accept_step_at a p u)
+    at : (u : Option UnitState) → IfBooks f (Steps.accept_step_at a c u)
     at None = h
-    at (Some u) = go (is_request_sense (command_of p.cdb)) (nat_lt (Steps.process_count u) u.depth)
+    at (Some u) = go (is_request_sense (command_of c.cdb)) (nat_lt (Steps.process_count u) u.depth)
       where
-        go : (q x : Bool) → IfBooks f (if q then Some (Steps.with_guest a p None)
-            else if x then Some (record a { units = with_unit a.units (record u { waiting = u.waiting ++ p ∷ [] }) })
+        go : (q x : Bool) → IfBooks f (if q then Some (Steps.with_guest a c None)
+            else if x then Some (record a { units = with_unit a.units (record u { waiting = u.waiting ++ c ∷ [] }) })
             else None)
         go true x = h
         go false true = h
         go false false = tt
 
-pub refused : (f : Book) (a : Array) (o : Option Process) → ((p : Process) → o ≡ Some p
-    → is_request_sense (command_of p.cdb) ≡ false → f a.senses ((p.id, queue_full) ∷ a.replies))
+pub refused : (f : Book) (a : Array) (o : Option Process) → ((c : Process) → o ≡ Some c
+    → is_request_sense (command_of c.cdb) ≡ false → f a.senses ((c.id, queue_full) ∷ a.replies))
     → IfBooks f (Steps.refuse_step a o)
 refused f a None h = tt
-refused f a (Some p) h = at (unit_state_at a.units p.target p.unit)
+refused f a (Some c) h = at (unit_state_at a.units c.target c.unit)
   where
-    at : (u : Option UnitState) → IfBooks f (Steps.refuse_step_at a p u)
+    at : (u : Option UnitState) → IfBooks f (Steps.refuse_step_at a c u)
     at None = tt
-    at (Some u) = go (is_request_sense (command_of p.cdb)) refl (Steps.process_count u == u.depth)
+    at (Some u) = go (is_request_sense (command_of c.cdb)) refl (Steps.process_count u == u.depth)
       where
-        go : (q : Bool) → is_request_sense (command_of p.cdb) ≡ q → (x : Bool) → IfBooks f
-            (if not q && x then Some (Steps.with_listed_reply (Steps.with_guest a p (Some queue_full)) p.id queue_full)
+        go : (q : Bool) → is_request_sense (command_of c.cdb) ≡ q → (x : Bool) → IfBooks f
+            (if not q && x then Some (Steps.with_listed_reply (Steps.with_guest a c (Some queue_full)) c.id queue_full)
             else None)
         go true e x = tt
-        go false e true = h p refl e
+        go false e true = h c refl e
         go false e false = tt
 
-executed : (f : Book) (a : Array) (p : Process) (u : Option UnitState) → f a.senses ((p.id, reply_at a p u) ∷ a.replies)
-    → f (Steps.after_execution_at a p u).senses (Steps.after_execution_at a p u).replies
-executed f a p u h = inner (execution (Steps.context_at a (nexus_of p) u) p.cdb p.sent)
-    (execution (Steps.context_at a (nexus_of p) u) p.cdb p.sent).reported u h
+executed : (f : Book) (a : Array) (c : Process) (u : Option UnitState) → f a.senses ((c.id, reply_at a c u) ∷ a.replies)
+    → f (Steps.after_execution_at a c u).senses (Steps.after_execution_at a c u).replies
+executed f a c u h = inner (execution (Steps.context_at a (nexus_of c) u) c.cdb c.sent)
+    (execution (Steps.context_at a (nexus_of c) u) c.cdb c.sent).reported u h
   where
-    inner : (done : Execution) (x : Bool) (v : Option UnitState) → f a.senses ((p.id, done.reply) ∷ a.replies)
-        → f (Steps.with_reply (Steps.with_contents (Steps.without_attention a x (nexus_of p)) v done.contents)
-        p.id done.reply).senses (Steps.with_reply
-        (Steps.with_contents (Steps.without_attention a x (nexus_of p)) v done.contents) p.id done.reply).replies
-    inner done true None k = k
-    inner done false None k = k
-    inner done true (Some w) k = k
-    inner done false (Some w) k = k
+    inner : (done : Execution) (x : Bool) (v : Option UnitState) → f a.senses ((c.id, done.reply) ∷ a.replies)
+        → f (Steps.with_reply (Steps.with_contents (Steps.without_attention a x (nexus_of c)) v done.contents)
+        c.id done.reply).senses (Steps.with_reply
+        (Steps.with_contents (Steps.without_attention a x (nexus_of c)) v done.contents) c.id done.reply).replies
+    inner done true None e = e
+    inner done false None e = e
+    inner done true (Some w) e = e
+    inner done false (Some w) e = e
 
 pub run : (f : Book) (a : Array) (guest : Bool) (o : Option RunningProcess)
     → ((r : RunningProcess) → o ≡ Some r → f a.senses
@@ -118,12 +118,12 @@ pub failed : (f : Book) (s : ScenarioValue) (a : Array) (id : ProcId) (reply : R
 failed f s a id reply (Some r) h = elim (cases_Bool (is_none r.reply)) [ inl e ↦ rw e h | inr e ↦ rw e tt ]
 failed f s a id reply None h = new (process_of s id)
   where
-    new : (p : Option Process) → IfBooks f (Steps.fail_step_of_new a id reply p)
+    new : (c : Option Process) → IfBooks f (Steps.fail_step_of_new a id reply c)
     new None = tt
-    new (Some p) = go (Steps.is_waiting a.units id || Steps.has_ended a id)
+    new (Some c) = go (Steps.is_waiting a.units id || Steps.has_ended a id)
       where
         go : (x : Bool) → IfBooks f
-            (if x then None else Some (Steps.with_listed_reply (Steps.with_guest a p (Some reply)) id reply))
+            (if x then None else Some (Steps.with_listed_reply (Steps.with_guest a c (Some reply)) id reply))
         go true = tt
         go false = h
 
@@ -172,14 +172,14 @@ record SameBooks (a b : Array) : Type 0 where
   senses : b.senses ≡ a.senses
   replies : b.replies ≡ a.replies
 
-hosts_same : (hosts : List HostDef) (t n : ℕ) (a : Array) → SameBooks a (Steps.reset_attentions hosts t n a)
-hosts_same [] t n a = record { senses = refl; replies = refl }
-hosts_same (h ∷ hosts) t n a =
-    let k = hosts_same hosts t n (Steps.reset_attention a (record { initiator = h.dev; target = t; unit = n })) in
+hosts_same : (hosts : List HostDef) (t m : ℕ) (a : Array) → SameBooks a (Steps.reset_attentions hosts t m a)
+hosts_same [] t m a = record { senses = refl; replies = refl }
+hosts_same (h ∷ hosts) t m a =
+    let k = hosts_same hosts t m (Steps.reset_attention a (record { initiator = h.dev; target = t; unit = m })) in
     record { senses = k.senses; replies = k.replies }
 
 then_same : (a b c : Array) → SameBooks a b → SameBooks b c → SameBooks a c
-then_same a b c h k = record { senses = k.senses ∙ h.senses; replies = k.replies ∙ h.replies }
+then_same a b c h e = record { senses = e.senses ∙ h.senses; replies = e.replies ∙ h.replies }
 
 units_same : (hosts : List HostDef) (units : List UnitState) (is_one : UnitState → Bool) (a : Array)
     → SameBooks a (Steps.unit_reset_attentions hosts units is_one a)
@@ -195,19 +195,19 @@ units_same hosts (u ∷ units) is_one a = then_same a
 
 cleared_same : (by : ℕ) (gone : List Process) (a : Array) → SameBooks a (Steps.cleared_attentions by gone a)
 cleared_same by [] a = record { senses = refl; replies = refl }
-cleared_same by (p ∷ gone) a = then_same a (if p.initiator == by then a else Steps.cleared_attention a (nexus_of p))
-    (Steps.cleared_attentions by gone (if p.initiator == by then a else Steps.cleared_attention a (nexus_of p)))
-    (go (p.initiator == by))
-    (cleared_same by gone (if p.initiator == by then a else Steps.cleared_attention a (nexus_of p)))
+cleared_same by (c ∷ gone) a = then_same a (if c.initiator == by then a else Steps.cleared_attention a (nexus_of c))
+    (Steps.cleared_attentions by gone (if c.initiator == by then a else Steps.cleared_attention a (nexus_of c)))
+    (go (c.initiator == by))
+    (cleared_same by gone (if c.initiator == by then a else Steps.cleared_attention a (nexus_of c)))
   where
     one : (q : Bool) (x : Array) → SameBooks a x → SameBooks a (if q then a else x)
     one true x e = record { senses = refl; replies = refl }
     one false x e = e
 
-    go : (q : Bool) → SameBooks a (if q then a else Steps.cleared_attention a (nexus_of p))
+    go : (q : Bool) → SameBooks a (if q then a else Steps.cleared_attention a (nexus_of c))
     go true = record { senses = refl; replies = refl }
-    go false = one (Steps.is_reset_pending (sense_of_nexus a.attentions (nexus_of p))) (record a {
-      attentions = (nexus_of p, commands_cleared) ∷ senses_without a.attentions (nexus_of p);
+    go false = one (Steps.is_reset_pending (sense_of_nexus a.attentions (nexus_of c))) (record a {
+      attentions = (nexus_of c, commands_cleared) ∷ senses_without a.attentions (nexus_of c);
     }) (record { senses = refl; replies = refl })
 
 by_same : (f : Book) (a b : Array) → SameBooks a b → f a.senses a.replies → f b.senses b.replies
@@ -226,38 +226,38 @@ kept_reply replies id x m y none e =
 
 one_more : (s : ScenarioValue) (b : Sent) (senses : List (Nexus × Sense))
     (replies : List (ProcId × Reply)) (id : ProcId) (x : Reply)
-    → reply_in replies id ≡ None → ((n : ℕ) → id ≡ sense_id n → Brought ((id, x) ∷ replies) n x.bytes)
+    → reply_in replies id ≡ None → ((m : ℕ) → id ≡ sense_id m → Brought ((id, x) ∷ replies) m x.bytes)
     → OwnSenses s b senses replies → OwnSenses s b senses ((id, x) ∷ replies)
 one_more s b senses replies id x none new h = record {
-  owned = λ n q d. owns n q (h.owned n q d);
-  brought = λ n r e. go n r (same_id id (sense_id n)) refl e;
+  owned = λ m q d. owns m q (h.owned m q d);
+  brought = λ m r e. go m r (same_id id (sense_id m)) refl e;
 }
   where
-    owns : (n : ℕ) (q : Nexus) → OwnReply senses replies n q → OwnReply senses ((id, x) ∷ replies) n q
-    owns n q w = record {
+    owns : (m : ℕ) (q : Nexus) → OwnReply senses replies m q → OwnReply senses ((id, x) ∷ replies) m q
+    owns m q w = record {
       reply = w.reply;
-      reply_is = kept_reply replies id x (command_id n) w.reply none w.reply_is;
+      reply_is = kept_reply replies id x (command_id m) w.reply none w.reply_is;
       check = w.check;
       stored = w.stored;
     }
 
-    brings : (n : ℕ) (bytes : List ℕ) → Brought replies n bytes → Brought ((id, x) ∷ replies) n bytes
-    brings n bytes w = record {
+    brings : (m : ℕ) (bytes : List ℕ) → Brought replies m bytes → Brought ((id, x) ∷ replies) m bytes
+    brings m bytes w = record {
       reply = w.reply;
-      reply_is = kept_reply replies id x (command_id n) w.reply none w.reply_is;
+      reply_is = kept_reply replies id x (command_id m) w.reply none w.reply_is;
       check = w.check;
       sense_is = w.sense_is;
     }
 
-    go : (n : ℕ) (r : Reply) (q : Bool) → same_id id (sense_id n) ≡ q
-        → (if q then Some x else reply_in replies (sense_id n)) ≡ Some r → Brought ((id, x) ∷ replies) n r.bytes
-    go n r true z e =
-        subst (λ (y : Reply). Brought ((id, x) ∷ replies) n y.bytes) (same_Some x r e) (new n (id_is id (sense_id n) z))
-    go n r false z e = brings n r.bytes (h.brought n r e)
+    go : (m : ℕ) (r : Reply) (q : Bool) → same_id id (sense_id m) ≡ q
+        → (if q then Some x else reply_in replies (sense_id m)) ≡ Some r → Brought ((id, x) ∷ replies) m r.bytes
+    go m r true z e =
+        subst (λ (y : Reply). Brought ((id, x) ∷ replies) m y.bytes) (same_Some x r e) (new m (id_is id (sense_id m) z))
+    go m r false z e = brings m r.bytes (h.brought m r e)
 
 -- That of a command.
-no_sense_id : {A : Type 0} (id : ProcId) (n : ℕ) → id.sense ≡ false → id ≡ sense_id n → A
-no_sense_id id n e f = wrong (sym (ap (λ (x : ProcId). x.sense) f) ∙ e)
+no_sense_id : {A : Type 0} (id : ProcId) (m : ℕ) → id.sense ≡ false → id ≡ sense_id m → A
+no_sense_id id m e f = wrong (sym (ap (λ (x : ProcId). x.sense) f) ∙ e)
 
 command_more : (s : ScenarioValue) (b : Sent) (senses : List (Nexus × Sense)) (replies : List (ProcId × Reply))
     (id : ProcId) (x : Reply) → reply_in replies id ≡ None → id.sense ≡ false → OwnSenses s b senses replies
@@ -281,69 +281,69 @@ ran : (s : ScenarioValue) (b : Sent) (a : Array) (id : ProcId) (r : RunningProce
     → Tells b a (Event.Run id) → running_process a id ≡ Some r → OwnSenses s b a.senses a.replies
     → OwnSenses s b a.senses
     ((r.process.id, reply_at a r.process (unit_state_at a.units r.process.target r.process.unit)) ∷ a.replies)
-ran s b a id r sound tells e h = one_more s b a.senses a.replies r.process.id (reply_at a p u) none new h
+ran s b a id r sound tells e h = one_more s b a.senses a.replies r.process.id (reply_at a c u) none new h
   where
-    p : Process
-    p = r.process
+    c : Process
+    c = r.process
 
     u : Option UnitState
-    u = unit_state_at a.units p.target p.unit
+    u = unit_state_at a.units c.target c.unit
 
-    own : p.id ≡ id
+    own : c.id ≡ id
     own = running_id a id r e
 
-    none : reply_in a.replies p.id ≡ None
+    none : reply_in a.replies c.id ≡ None
     none = ap (reply_in a.replies) own ∙ tells.0
 
-    is : process_of s id ≡ Some p
+    is : process_of s id ≡ Some c
     is = running_own s a id r sound e
 
-    new : (n : ℕ) → p.id ≡ sense_id n → Brought ((p.id, reply_at a p u) ∷ a.replies) n (reply_at a p u).bytes
-    new n f = subst (λ (x : ℕ). Brought ((p.id, reply_at a p u) ∷ a.replies) x (reply_at a p u).bytes)
+    new : (m : ℕ) → c.id ≡ sense_id m → Brought ((c.id, reply_at a c u) ∷ a.replies) m (reply_at a c u).bytes
+    new m f = subst (λ (x : ℕ). Brought ((c.id, reply_at a c u) ∷ a.replies) x (reply_at a c u).bytes)
         (ap (λ (x : ProcId). x.command) (sym own ∙ f)) now
       where
         fetches : id.sense ≡ true
         fetches = ap (λ (x : ProcId). x.sense) (sym own ∙ f)
 
-        of : OfCommand s id p
-        of = of_command s id p is
+        of : OfCommand s id c
+        of = of_command s id c is
 
-        w : OwnReply a.senses a.replies id.command (nexus_of p)
-        w = h.owned id.command (nexus_of p) (record {
+        w : OwnReply a.senses a.replies id.command (nexus_of c)
+        w = h.owned id.command (nexus_of c) (record {
           def = of.def;
           def_is = of.def_is;
           nexus_is = λ i. record { initiator = of.host_is i; target = of.target_is i; unit = of.unit_is i };
           owed = tells.1 fetches;
         })
 
-        now : Brought ((p.id, reply_at a p u) ∷ a.replies) id.command (reply_at a p u).bytes
+        now : Brought ((c.id, reply_at a c u) ∷ a.replies) id.command (reply_at a c u).bytes
         now = record {
           reply = w.reply;
-          reply_is = kept_reply a.replies p.id (reply_at a p u) (command_id id.command) w.reply none w.reply_is;
+          reply_is = kept_reply a.replies c.id (reply_at a c u) (command_id id.command) w.reply none w.reply_is;
           check = w.check;
           sense_is = (λ i. sense_in
-              (execution (Steps.context_at a (nexus_of p) u) (sense_cdb s id p fetches is i) p.sent).reply.bytes)
-              ∙ sense_brought (Steps.context_at a (nexus_of p) u) p.sent w.reply.sense
-              (context_stored a (nexus_of p) u ∙ w.stored);
+              (execution (Steps.context_at a (nexus_of c) u) (sense_cdb s id c fetches is i) c.sent).reply.bytes)
+              ∙ sense_brought (Steps.context_at a (nexus_of c) u) c.sent w.reply.sense
+              (context_stored a (nexus_of c) u ∙ w.stored);
         }
 
 -- ---- what is stored elsewhere stays
 
-apart_without : (entries : List (Nexus × Sense)) (p q : Nexus)
-    → (p ≡ q → ⊥) → sense_of_nexus (senses_without entries p) q ≡ sense_of_nexus entries q
-apart_without entries p q apart = senses_without_at entries p q ∙ go (same_nexus p q) refl
+apart_without : (entries : List (Nexus × Sense)) (y q : Nexus)
+    → (y ≡ q → ⊥) → sense_of_nexus (senses_without entries y) q ≡ sense_of_nexus entries q
+apart_without entries y q apart = senses_without_at entries y q ∙ go (same_nexus y q) refl
   where
-    go : (x : Bool) → same_nexus p q ≡ x → (if x then None else sense_of_nexus entries q) ≡ sense_of_nexus entries q
-    go true z = absurd (apart (same_nexus_is p q z))
+    go : (x : Bool) → same_nexus y q ≡ x → (if x then None else sense_of_nexus entries q) ≡ sense_of_nexus entries q
+    go true z = absurd (apart (same_nexus_is y q z))
     go false z = refl
 
-apart_put : (entries : List (Nexus × Sense)) (p : Nexus) (sense : Sense) (q : Nexus)
-    → (p ≡ q → ⊥) → sense_of_nexus ((p, sense) ∷ senses_without entries p) q ≡ sense_of_nexus entries q
-apart_put entries p sense q apart = sense_put_at entries p sense q ∙ go (same_nexus p q) refl
+apart_put : (entries : List (Nexus × Sense)) (y : Nexus) (sense : Sense) (q : Nexus)
+    → (y ≡ q → ⊥) → sense_of_nexus ((y, sense) ∷ senses_without entries y) q ≡ sense_of_nexus entries q
+apart_put entries y sense q apart = sense_put_at entries y sense q ∙ go (same_nexus y q) refl
   where
-    go : (x : Bool) → same_nexus p q ≡ x
+    go : (x : Bool) → same_nexus y q ≡ x
         → (if x then Some sense else sense_of_nexus entries q) ≡ sense_of_nexus entries q
-    go true z = absurd (apart (same_nexus_is p q z))
+    go true z = absurd (apart (same_nexus_is y q z))
     go false z = refl
 
 kept_at : (drops : Nexus → Bool) (entries : List (Nexus × Sense)) (q : Nexus) → drops q ≡ false
@@ -359,28 +359,28 @@ kept_at drops (x ∷ entries) q keep = go (drops x.0) refl (same_nexus x.0 q) re
     go true f false g more = more
     go false f z g more = λ i. if g i then Some x.1 else more i
 
-still : (senses kept : List (Nexus × Sense)) (replies : List (ProcId × Reply)) (n : ℕ) (q : Nexus)
-    → sense_of_nexus kept q ≡ sense_of_nexus senses q → OwnReply senses replies n q → OwnReply kept replies n q
-still senses kept replies n q same w =
+still : (senses kept : List (Nexus × Sense)) (replies : List (ProcId × Reply)) (m : ℕ) (q : Nexus)
+    → sense_of_nexus kept q ≡ sense_of_nexus senses q → OwnReply senses replies m q → OwnReply kept replies m q
+still senses kept replies m q same w =
     record { reply = w.reply; reply_is = w.reply_is; check = w.check; stored = same ∙ w.stored }
 
 -- What is owed was owed before.
 pub fewer_owned : (s : ScenarioValue) (b c : Sent) (senses : List (Nexus × Sense)) (replies : List (ProcId × Reply))
-    → ((n : ℕ) (q : Nexus) → IsDebt s c n q → IsDebt s b n q) → OwnSenses s b senses replies
+    → ((m : ℕ) (q : Nexus) → IsDebt s c m q → IsDebt s b m q) → OwnSenses s b senses replies
     → OwnSenses s c senses replies
-fewer_owned s b c senses replies before h = record { owned = λ n q d. h.owned n q (before n q d); brought = h.brought }
+fewer_owned s b c senses replies before h = record { owned = λ m q d. h.owned m q (before m q d); brought = h.brought }
 
 -- ---- a process ends
 
 -- What is owed after it: its own sense, or one that was owed before, of another initiator or at another unit.
-data Owes (s : ScenarioValue) (b : Sent) (id : ProcId) (status : ℕ) (p : Nexus) (n : ℕ) (q : Nexus) : Type 0 where
-  own : id.command ≡ n → id.sense ≡ false → (status == CHECK_CONDITION) ≡ true → Owes s b id status p n q
-  other : IsDebt s b n q → (p ≡ q → ⊥) → Owes s b id status p n q
+data Owes (s : ScenarioValue) (b : Sent) (id : ProcId) (status : ℕ) (x : Nexus) (m : ℕ) (q : Nexus) : Type 0 where
+  own : id.command ≡ m → id.sense ≡ false → (status == CHECK_CONDITION) ≡ true → Owes s b id status x m q
+  other : IsDebt s b m q → (x ≡ q → ⊥) → Owes s b id status x m q
 
-owes : (s : ScenarioValue) (b : Story) (holds : List Nexus) (id : ProcId) (status : ℕ) (p : Process)
-    → OfCommand s id p → PaysWell s b.sent (Event.End id status) → Debts s b.sent holds → (n : ℕ) (q : Nexus)
-    → IsDebt s (story_after_event s b (Event.End id status)).sent n q → Owes s b.sent id status (nexus_of p) n q
-owes s b holds id status p of well h n q d = go (not id.sense && status == CHECK_CONDITION) refl
+owes : (s : ScenarioValue) (b : Story) (holds : List Nexus) (id : ProcId) (status : ℕ) (t : Process)
+    → OfCommand s id t → PaysWell s b.sent (Event.End id status) → Debts s b.sent holds → (l : ℕ) (q : Nexus)
+    → IsDebt s (story_after_event s b (Event.End id status)).sent l q → Owes s b.sent id status (nexus_of t) l q
+owes s b holds id status t of well h l q d = go (not id.sense && status == CHECK_CONDITION) refl
   where
     c : Sent
     c = (story_after_event s b (Event.End id status)).sent
@@ -398,12 +398,12 @@ owes s b holds id status p of well h n q d = go (not id.sense && status == CHECK
         λ i. (if z i then record ends { sent = record ends.sent { checks = ends.sent.checks ++ id.command ∷ [] } }
         else ends).sent.checks
 
-    nexus : nexus_of_command of.def ≡ nexus_of p
+    nexus : nexus_of_command of.def ≡ nexus_of t
     nexus = λ i. record { initiator = of.host_is i; target = of.target_is i; unit = of.unit_is i }
 
     -- the one that ends is owed no more
-    apart : IsDebt s b.sent n q → (x : Bool) → id.sense ≡ x → nexus_of p ≡ q → ⊥
-    apart old true e same = no_more (sym (ap (has_item c.over) item ∙ ends_over s b id status) ∙ is_not_over c n d.owed)
+    apart : IsDebt s b.sent l q → (x : Bool) → id.sense ≡ x → nexus_of t ≡ q → ⊥
+    apart old true e same = no_more (sym (ap (has_item c.over) item ∙ ends_over s b id status) ∙ is_not_over c l d.owed)
       where
         no_more : true ≡ false → ⊥
         no_more z = wrong z
@@ -411,26 +411,26 @@ owes s b holds id status p of well h n q d = go (not id.sense && status == CHECK
         mine : IsDebt s b.sent id.command q
         mine = record { def = of.def; def_is = of.def_is; nexus_is = nexus ∙ same; owed = (well.0 e).1 }
 
-        item : sense_item n ≡ process id
-        item = λ i. process (record { command = h.alone n id.command q old mine i; sense = sym e i })
-    apart old false e same = (well.1 e).1 of.def of.def_is n
+        item : sense_item l ≡ process id
+        item = λ i. process (record { command = h.alone l id.command q old mine i; sense = sym e i })
+    apart old false e same = (well.1 e).1 of.def of.def_is l
         (record { def = old.def; def_is = old.def_is; nexus_is = old.nexus_is ∙ sym same ∙ sym nexus; owed = old.owed })
 
-    older : IsDebt s b.sent n q → Owes s b.sent id status (nexus_of p) n q
+    older : IsDebt s b.sent l q → Owes s b.sent id status (nexus_of t) l q
     older old = other old (apart old id.sense refl)
 
-    go : (x : Bool) → (not id.sense && status == CHECK_CONDITION) ≡ x → Owes s b.sent id status (nexus_of p) n q
-    go false z = older (same_debt s b.sent c n q (checks false z) more d)
-    go true z = by (in_append n id.command b.sent.checks
-        (ap (λ (x : List ℕ). list_any (λ k. k == n) x) (sym (checks true z)) ∙ is_checked c n d.owed))
+    go : (x : Bool) → (not id.sense && status == CHECK_CONDITION) ≡ x → Owes s b.sent id status (nexus_of t) l q
+    go false z = older (same_debt s b.sent c l q (checks false z) more d)
+    go true z = by (in_append l id.command b.sent.checks
+        (ap (λ (x : List ℕ). list_any (λ k. k == l) x) (sym (checks true z)) ∙ is_checked c l d.owed))
       where
         plain : (x : Bool) → (not x && status == CHECK_CONDITION) ≡ true
             → (x ≡ false) × ((status == CHECK_CONDITION) ≡ true)
         plain true y = wrong' y
         plain false y = (refl, y)
 
-        by : (list_any (λ k. k == n) b.sent.checks ≡ true) ⊎ (id.command ≡ n) → Owes s b.sent id status (nexus_of p) n q
-        by (inl old) = older (debt_before s b.sent c n q more old d)
+        by : (list_any (λ k. k == l) b.sent.checks ≡ true) ⊎ (id.command ≡ l) → Owes s b.sent id status (nexus_of t) l q
+        by (inl old) = older (debt_before s b.sent c l q more old d)
         by (inr new) = own new (plain id.sense z).0 (plain id.sense z).1
 
 ends_own : (s : ScenarioValue) (b : Story) (a : Array) (id : ProcId) (status : ℕ)
@@ -446,72 +446,72 @@ ends_own s b a id status sound debts well tells h = ended (OwnSenses s c) a id s
     after : (r : RunningProcess) (reply : Reply) → running_process a id ≡ Some r → r.reply ≡ Some reply
         → (reply.status == status) ≡ true → OwnSenses s c (Steps.after_status a r.process reply).senses a.replies
     after r reply e f z =
-        record { owned = λ n q d. by n q d (owes s b a.holds id status p of well debts n q d); brought = h.brought }
+        record { owned = λ m q d. by m q d (owes s b a.holds id status y of well debts m q d); brought = h.brought }
       where
-        p : Process
-        p = r.process
+        y : Process
+        y = r.process
 
-        of : OfCommand s id p
-        of = of_command s id p (running_own s a id r sound e)
+        of : OfCommand s id y
+        of = of_command s id y (running_own s a id r sound e)
 
-        nexus : nexus_of_command of.def ≡ nexus_of p
+        nexus : nexus_of_command of.def ≡ nexus_of y
         nexus = λ i. record { initiator = of.host_is i; target = of.target_is i; unit = of.unit_is i }
 
-        stays : (n : ℕ) (q : Nexus)
-            → (nexus_of p ≡ q → ⊥) → sense_of_nexus (Steps.after_status a p reply).senses q ≡ sense_of_nexus a.senses q
-        stays n q apart =
-            go (reply.status == CHECK_CONDITION) (reply.status == GOOD && is_request_sense (command_of p.cdb))
+        stays : (m : ℕ) (q : Nexus)
+            → (nexus_of y ≡ q → ⊥) → sense_of_nexus (Steps.after_status a y reply).senses q ≡ sense_of_nexus a.senses q
+        stays m q apart =
+            go (reply.status == CHECK_CONDITION) (reply.status == GOOD && is_request_sense (command_of y.cdb))
           where
             go : (x t : Bool) → sense_of_nexus (if x then record a {
-              senses = (nexus_of p, reply.sense) ∷ senses_without a.senses (nexus_of p);
-              holds = nexus_of p ∷ nexuses_without a.holds (nexus_of p);
+              senses = (nexus_of y, reply.sense) ∷ senses_without a.senses (nexus_of y);
+              holds = nexus_of y ∷ nexuses_without a.holds (nexus_of y);
             } else if t then record a {
-              senses = senses_without a.senses (nexus_of p);
-              holds = nexuses_without a.holds (nexus_of p);
+              senses = senses_without a.senses (nexus_of y);
+              holds = nexuses_without a.holds (nexus_of y);
             } else a).senses q ≡ sense_of_nexus a.senses q
-            go true t = apart_put a.senses (nexus_of p) reply.sense q apart
-            go false true = apart_without a.senses (nexus_of p) q apart
+            go true t = apart_put a.senses (nexus_of y) reply.sense q apart
+            go false true = apart_without a.senses (nexus_of y) q apart
             go false false = refl
 
         same : reply.status ≡ status
         same = eqb-true reply.status status z
 
-        new : (n : ℕ) (q : Nexus) → IsDebt s c n q → id.command ≡ n → id.sense ≡ false
-            → (status == CHECK_CONDITION) ≡ true → OwnReply (Steps.after_status a p reply).senses a.replies n q
-        new n q d mine plain check = record {
+        new : (m : ℕ) (q : Nexus) → IsDebt s c m q → id.command ≡ m → id.sense ≡ false
+            → (status == CHECK_CONDITION) ≡ true → OwnReply (Steps.after_status a y reply).senses a.replies m q
+        new m q d mine plain check = record {
           reply = reply;
           reply_is =
               (λ i. reply_in a.replies (record { command = sym mine i; sense = sym plain i })) ∙ tells r reply e f;
           check = same ∙ eqb-true status CHECK_CONDITION check;
           stored = ap (λ (x : Bool). sense_of_nexus (if x then record a {
-            senses = (nexus_of p, reply.sense) ∷ senses_without a.senses (nexus_of p);
-            holds = nexus_of p ∷ nexuses_without a.holds (nexus_of p);
-          } else if reply.status == GOOD && is_request_sense (command_of p.cdb) then record a {
-            senses = senses_without a.senses (nexus_of p);
-            holds = nexuses_without a.holds (nexus_of p);
+            senses = (nexus_of y, reply.sense) ∷ senses_without a.senses (nexus_of y);
+            holds = nexus_of y ∷ nexuses_without a.holds (nexus_of y);
+          } else if reply.status == GOOD && is_request_sense (command_of y.cdb) then record a {
+            senses = senses_without a.senses (nexus_of y);
+            holds = nexuses_without a.holds (nexus_of y);
           } else a).senses q) (ap (λ (x : ℕ). x == CHECK_CONDITION) same ∙ check)
-              ∙ sense_put_at a.senses (nexus_of p) reply.sense q
+              ∙ sense_put_at a.senses (nexus_of y) reply.sense q
               ∙ ap (λ (x : Bool). if x then Some reply.sense else sense_of_nexus a.senses q)
-              (ap (same_nexus (nexus_of p)) (sym here) ∙ self_nexus (nexus_of p));
+              (ap (same_nexus (nexus_of y)) (sym here) ∙ self_nexus (nexus_of y));
         }
           where
-            here : nexus_of p ≡ q
+            here : nexus_of y ≡ q
             here = sym nexus ∙ ap nexus_of_command
                 (same_Some of.def d.def (sym of.def_is ∙ ap (command_at s.commands) mine ∙ d.def_is))
                 ∙ d.nexus_is
 
-        by : (n : ℕ) (q : Nexus) → IsDebt s c n q → Owes s b.sent id status (nexus_of p) n q
-            → OwnReply (Steps.after_status a p reply).senses a.replies n q
-        by n q d (own mine plain check) = new n q d mine plain check
-        by n q d (other old apart) =
-            still a.senses (Steps.after_status a p reply).senses a.replies n q (stays n q apart) (h.owned n q old)
+        by : (m : ℕ) (q : Nexus) → IsDebt s c m q → Owes s b.sent id status (nexus_of y) m q
+            → OwnReply (Steps.after_status a y reply).senses a.replies m q
+        by m q d (own mine plain check) = new m q d mine plain check
+        by m q d (other old apart) =
+            still a.senses (Steps.after_status a y reply).senses a.replies m q (stays m q apart) (h.owned m q old)
 
 -- ---- an abort, or RST
 
 ends_stopped : (s : ScenarioValue) (drops stops : CmdDef → Bool) (e : Ending)
     (b : Story) (senses kept : List (Nexus × Sense)) (replies : List (ProcId × Reply))
-    → AreChecked b.sent → ((n : ℕ) → has_item b.sent.over (sense_item n) ≡ true
-    → has_item (story_with_ends drops stops e 1 s.commands b).sent.over (sense_item n) ≡ true)
+    → AreChecked b.sent → ((m : ℕ) → has_item b.sent.over (sense_item m) ≡ true
+    → has_item (story_with_ends drops stops e 1 s.commands b).sent.over (sense_item m) ≡ true)
     → ((def : CmdDef) (q : Nexus) → stops def ≡ false → nexus_of_command def ≡ q
     → sense_of_nexus kept q ≡ sense_of_nexus senses q)
     → OwnSenses s b.sent senses replies → OwnSenses s (story_with_ends drops stops e 1 s.commands b).sent kept replies
@@ -520,46 +520,46 @@ ends_stopped s drops stops e b senses kept replies checked more keep h = record 
     c : Sent
     c = (story_with_ends drops stops e 1 s.commands b).sent
 
-    unstopped : (n : ℕ) (q : Nexus) (d : IsDebt s c n q) → IsDebt s b.sent n q → (x : Bool) → stops d.def ≡ x
+    unstopped : (m : ℕ) (q : Nexus) (d : IsDebt s c m q) → IsDebt s b.sent m q → (x : Bool) → stops d.def ≡ x
         → stops d.def ≡ false
-    unstopped n q d f false z = z
-    unstopped n q d f true z =
-        wrong (sym (ends_senses s drops stops e b n d.def d.def_is z checked (is_checked b.sent n f.owed))
-        ∙ is_not_over c n d.owed)
+    unstopped m q d f false z = z
+    unstopped m q d f true z =
+        wrong (sym (ends_senses s drops stops e b m d.def d.def_is z checked (is_checked b.sent m f.owed))
+        ∙ is_not_over c m d.owed)
 
-    owned : (n : ℕ) (q : Nexus) → IsDebt s c n q → OwnReply kept replies n q
-    owned n q d =
-        let old : IsDebt s b.sent n q = same_debt s b.sent c n q (ends_checks drops stops e 1 s.commands b) more d in
-        still senses kept replies n q (keep d.def q (unstopped n q d old (stops d.def) refl) d.nexus_is)
-        (h.owned n q old)
+    owned : (m : ℕ) (q : Nexus) → IsDebt s c m q → OwnReply kept replies m q
+    owned m q d =
+        let old : IsDebt s b.sent m q = same_debt s b.sent c m q (ends_checks drops stops e 1 s.commands b) more d in
+        still senses kept replies m q (keep d.def q (unstopped m q d old (stops d.def) refl) d.nexus_is)
+        (h.owned m q old)
 
-aborted : (s : ScenarioValue) (b : Story) (a : Array) (i t n : ℕ) (what : AbortKind)
+aborted : (s : ScenarioValue) (b : Story) (a : Array) (i t l : ℕ) (what : AbortKind)
     → AreChecked b.sent → OwnSenses s b.sent a.senses a.replies
-    → OwnSenses s (story_after_event s b (Event.Aborted i t n what)).sent (Steps.abort_step s a i t n what).senses
-    (Steps.abort_step s a i t n what).replies
-aborted s b a i t n what checked h =
-    go what (λ m z. (events_grow s b (Event.Aborted i t n what ∷ [])).over (sense_item m) z)
+    → OwnSenses s (story_after_event s b (Event.Aborted i t l what)).sent (Steps.abort_step s a i t l what).senses
+    (Steps.abort_step s a i t l what).replies
+aborted s b a i t l what checked h =
+    go what (λ m z. (events_grow s b (Event.Aborted i t l what ∷ [])).over (sense_item m) z)
   where
     go : (what : AbortKind) → ((m : ℕ) → has_item b.sent.over (sense_item m) ≡ true
-        → has_item (story_after_event s b (Event.Aborted i t n what)).sent.over (sense_item m) ≡ true)
-        → OwnSenses s (story_after_event s b (Event.Aborted i t n what)).sent (Steps.abort_step s a i t n what).senses
-        (Steps.abort_step s a i t n what).replies
-    go AbortKind.All more = ends_stopped s (is_aborted i t n AbortKind.All) (is_sense_stopped i t n AbortKind.All)
-        by_abort b a.senses (senses_without a.senses (nexus_at i t n)) a.replies checked more
-        (λ def q e is. apart_without a.senses (nexus_at i t n) q (λ same. wrong
-        (sym (ap (λ (x : Nexus). same_nexus x (nexus_at i t n)) (is ∙ sym same) ∙ self_nexus (nexus_at i t n)) ∙ e))) h
-    go (AbortKind.Tag tag) more = ends_stopped s (is_aborted i t n (AbortKind.Tag tag))
-        (is_sense_stopped i t n (AbortKind.Tag tag)) by_abort b a.senses a.senses a.replies checked more
+        → has_item (story_after_event s b (Event.Aborted i t l what)).sent.over (sense_item m) ≡ true)
+        → OwnSenses s (story_after_event s b (Event.Aborted i t l what)).sent (Steps.abort_step s a i t l what).senses
+        (Steps.abort_step s a i t l what).replies
+    go AbortKind.All more = ends_stopped s (is_aborted i t l AbortKind.All) (is_sense_stopped i t l AbortKind.All)
+        by_abort b a.senses (senses_without a.senses (nexus_at i t l)) a.replies checked more
+        (λ def q e is. apart_without a.senses (nexus_at i t l) q (λ same. wrong
+        (sym (ap (λ (x : Nexus). same_nexus x (nexus_at i t l)) (is ∙ sym same) ∙ self_nexus (nexus_at i t l)) ∙ e))) h
+    go (AbortKind.Tag tag) more = ends_stopped s (is_aborted i t l (AbortKind.Tag tag))
+        (is_sense_stopped i t l (AbortKind.Tag tag)) by_abort b a.senses a.senses a.replies checked more
         (λ def q e is. refl) h
     go AbortKind.WholeQueue more = by_same
-        (OwnSenses s (story_after_event s b (Event.Aborted i t n AbortKind.WholeQueue)).sent) (Steps.without_dropped a
-        (λ p. Steps.is_of_unit p t n)) (Steps.abort_step s a i t n AbortKind.WholeQueue) (cleared_same i
-        (Steps.unit_processes (unit_state_at a.units t n)) (Steps.without_dropped a (λ p. Steps.is_of_unit p t n)))
-        (ends_stopped s (is_aborted i t n AbortKind.WholeQueue) (is_sense_stopped i t n AbortKind.WholeQueue) by_abort b
+        (OwnSenses s (story_after_event s b (Event.Aborted i t l AbortKind.WholeQueue)).sent) (Steps.without_dropped a
+        (λ p. Steps.is_of_unit p t l)) (Steps.abort_step s a i t l AbortKind.WholeQueue) (cleared_same i
+        (Steps.unit_processes (unit_state_at a.units t l)) (Steps.without_dropped a (λ p. Steps.is_of_unit p t l)))
+        (ends_stopped s (is_aborted i t l AbortKind.WholeQueue) (is_sense_stopped i t l AbortKind.WholeQueue) by_abort b
         a.senses a.senses a.replies checked more (λ def q e is. refl) h)
-    go AbortKind.Device more = by_same (OwnSenses s (story_after_event s b (Event.Aborted i t n AbortKind.Device)).sent)
-        kept (Steps.abort_step s a i t n AbortKind.Device) (units_same s.hosts a.units (λ u. u.target == t) kept)
-        (ends_stopped s (is_aborted i t n AbortKind.Device) (is_sense_stopped i t n AbortKind.Device)
+    go AbortKind.Device more = by_same (OwnSenses s (story_after_event s b (Event.Aborted i t l AbortKind.Device)).sent)
+        kept (Steps.abort_step s a i t l AbortKind.Device) (units_same s.hosts a.units (λ u. u.target == t) kept)
+        (ends_stopped s (is_aborted i t l AbortKind.Device) (is_sense_stopped i t l AbortKind.Device)
         by_abort b a.senses (Steps.kept_senses (λ r. r.target == t) a.senses) a.replies checked more
         (λ def q e is. kept_at (λ r. r.target == t) a.senses q (ap (λ (x : Nexus). x.target == t) (sym is) ∙ e)) h)
       where
@@ -583,21 +583,21 @@ reset s b a dev checked h = by_same (OwnSenses s (story_after_event s b (Event.R
 
 -- ---- any event
 
-refused_plain : (s : ScenarioValue) (id : ProcId) (p : Process) → process_of s id ≡ Some p
-    → is_request_sense (command_of p.cdb) ≡ false → id.sense ≡ false
-refused_plain s id p is e =
-    elim (cases_Bool id.sense) [ inl f ↦ wrong (sym ((of_command s id p is).fetches f) ∙ e) | inr f ↦ f ]
+refused_plain : (s : ScenarioValue) (id : ProcId) (c : Process) → process_of s id ≡ Some c
+    → is_request_sense (command_of c.cdb) ≡ false → id.sense ≡ false
+refused_plain s id c is e =
+    elim (cases_Bool id.sense) [ inl f ↦ wrong (sym ((of_command s id c is).fetches f) ∙ e) | inr f ↦ f ]
 
 event_own : (s : ScenarioValue) (b : Story) (a : Array) (event : Event) → IsSound s a → AreChecked b.sent
     → Debts s b.sent a.holds → PaysWell s b.sent event → Tells b.sent a event → OwnSenses s b.sent a.senses a.replies
     → IfBooks (OwnSenses s (story_after_event s b event).sent) (Steps.event_step s a event)
 event_own s b a (Event.Accept id) sound checked debts well tells h = accepted (OwnSenses s b.sent) a (process_of s id) h
 event_own s b a (Event.Refuse id) sound checked debts well tells h = refused (OwnSenses s b.sent) a (process_of s id)
-    (λ p e f. let own : p.id ≡ id = sym (process_own p e) in command_more s b.sent a.senses a.replies p.id queue_full
-    (ap (reply_in a.replies) own ∙ tells) (ap (λ (x : ProcId). x.sense) own ∙ refused_plain s id p e f) h)
+    (λ c e f. let own : c.id ≡ id = sym (process_own c e) in command_more s b.sent a.senses a.replies c.id queue_full
+    (ap (reply_in a.replies) own ∙ tells) (ap (λ (x : ProcId). x.sense) own ∙ refused_plain s id c e f) h)
   where
-    process_own : (p : Process) → process_of s id ≡ Some p → id ≡ p.id
-    process_own p e = sym (Rattle.due_model.specs.array_model.proofs.SoundArrays.id_is s id p e)
+    process_own : (c : Process) → process_of s id ≡ Some c → id ≡ c.id
+    process_own c e = sym (Rattle.due_model.specs.array_model.proofs.SoundArrays.id_is s id c e)
 event_own s b a (Event.Run id) sound checked debts well tells h = run (OwnSenses s b.sent) a
     (is_some (guest_at a.guests id)) (running_process a id) (λ r e. ran s b.sent a id r sound tells e h)
 event_own s b a (Event.Fail id code) sound checked debts well tells h =

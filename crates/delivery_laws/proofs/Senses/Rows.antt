@@ -44,13 +44,13 @@ events_own s b o (event ∷ shown) seats well tell paid h = go (array_after_even
 
     go : (x : Option Array) → array_after_events s o shown ≡ x → Paid s was x → IfBooks (OwnSenses s was.sent) x
         → IfBooks (OwnSenses s (story_after_event s was event).sent) (array_step s event x)
-    go None e k w = tt
-    go (Some a) e k w = by (Steps.step s event a) refl
+    go None e f w = tt
+    go (Some a) e f w = by (Steps.step s event a) refl
       where
         by : (x : Option Array) → Steps.step s event a ≡ x
             → IfBooks (OwnSenses s (story_after_event s was event).sent) x
         by None z = tt
-        by (Some d) z = step_own s was a d event (k.sound a refl) k.checked (k.debts a refl) well.0 (tell.0 a e) w z
+        by (Some d) z = step_own s was a d event (f.sound a refl) f.checked (f.debts a refl) well.0 (tell.0 a e) w z
 
 -- ---- a process that ends has the reply that is listed
 
@@ -61,9 +61,9 @@ Listed a id = (r : RunningProcess) (reply : Reply) → running_process a id ≡ 
 untouched_listed : (a : Array) (id : ProcId) → IsUntouched a id → Listed a id
 untouched_listed a id h = λ r reply e f. none_some r (sym (not_running a id h.away) ∙ e)
 
-fresh_listed : (a : Array) (p : Process) → RunsOpen a p → Listed a p.id
-fresh_listed a p h = λ r reply e f. none_some reply
-    (ap (λ (x : RunningProcess). x.reply) (same_Some (without_reply p) r (sym h.runs.running_is ∙ e)) ∙ f)
+fresh_listed : (a : Array) (c : Process) → RunsOpen a c → Listed a c.id
+fresh_listed a c h = λ r reply e f. none_some reply
+    (ap (λ (x : RunningProcess). x.reply) (same_Some (without_reply c) r (sym h.runs.running_is ∙ e)) ∙ f)
 
 answered_listed : (a : Array) (id : ProcId) → AnsweredOpen a id → Listed a id
 answered_listed a id h = λ r reply e f. h.answered.given ∙ sym h.answered.reply_is
@@ -81,39 +81,39 @@ rests_listed a id h = λ r reply e f. none_some reply (sym (unanswered r e).0 �
         (sym (λ i. if is_some (elsewhere i) then elsewhere i else Steps.running_in a.units id) ∙ e)
         (ap (λ (x : ProcId). same_id x id) (running_id a id r e) ∙ self_id id)
 
-before_listed : (a : Array) (p : Process) (m : Messages) (next : Next) → PlacedBefore a p m next → Listed a p.id
-before_listed a p m Next.Command h = untouched_listed a p.id h
-before_listed a p m Next.GoOn h = fresh_listed a p h
-before_listed a p m Next.Status h = answered_listed a p.id h
-before_listed a p m Next.FreeBus h = by h
+before_listed : (a : Array) (c : Process) (m : Messages) (next : Next) → PlacedBefore a c m next → Listed a c.id
+before_listed a c m Next.Command h = untouched_listed a c.id h
+before_listed a c m Next.GoOn h = fresh_listed a c h
+before_listed a c m Next.Status h = answered_listed a c.id h
+before_listed a c m Next.FreeBus h = by h
   where
-    by : Closes a p m → Listed a p.id
-    by (completes e o) = answered_listed a p.id o
-    by (disconnects e rests x y) = rests_listed a p.id rests
+    by : Closes a c m → Listed a c.id
+    by (completes e o) = answered_listed a c.id o
+    by (disconnects e rests x y) = rests_listed a c.id rests
 
-asked_listed : (a : Array) (p : Process) (plan : Plan) (cause : Cause) → PlacedAsked a p plan cause → Listed a p.id
-asked_listed a p plan Cause.Selected h = untouched_listed a p.id h
-asked_listed a p plan Cause.InMessage h = before_listed a p plan.messages plan.next h
-asked_listed a p plan Cause.InData h = fresh_listed a p h
-asked_listed a p plan Cause.InStatus h = answered_listed a p.id h
+asked_listed : (a : Array) (c : Process) (plan : Plan) (cause : Cause) → PlacedAsked a c plan cause → Listed a c.id
+asked_listed a c plan Cause.Selected h = untouched_listed a c.id h
+asked_listed a c plan Cause.InMessage h = before_listed a c plan.messages plan.next h
+asked_listed a c plan Cause.InData h = fresh_listed a c h
+asked_listed a c plan Cause.InStatus h = answered_listed a c.id h
 
-in_listed : (a : Array) (p : Process) (plan : Plan) (h : Handshakes) (atn : Bool) (phase : Phase)
-    → PlacedIn a p plan h atn phase → Listed a p.id
-in_listed a p plan h atn Phase.MessageOut w = asked_listed a p plan plan.cause w
-in_listed a p plan h atn Phase.MessageIn w = by w
+in_listed : (a : Array) (c : Process) (plan : Plan) (h : Handshakes) (atn : Bool) (phase : Phase)
+    → PlacedIn a c plan h atn phase → Listed a c.id
+in_listed a c plan h atn Phase.MessageOut w = asked_listed a c plan plan.cause w
+in_listed a c plan h atn Phase.MessageIn w = by w
   where
-    by : PlacedBefore a p plan.messages plan.next ⊎ IsTaken a p plan h atn → Listed a p.id
-    by (inl x) = before_listed a p plan.messages plan.next x
-    by (inr x) = rests_listed a p.id x.rests
-in_listed a p plan h atn Phase.Command w = untouched_listed a p.id w
-in_listed a p plan h atn Phase.Status w = answered_listed a p.id w
-in_listed a p plan h atn Phase.DataIn w = fresh_listed a p w
-in_listed a p plan h atn Phase.DataOut w = fresh_listed a p w
+    by : PlacedBefore a c plan.messages plan.next ⊎ IsTaken a c plan h atn → Listed a c.id
+    by (inl x) = before_listed a c plan.messages plan.next x
+    by (inr x) = rests_listed a c.id x.rests
+in_listed a c plan h atn Phase.Command w = untouched_listed a c.id w
+in_listed a c plan h atn Phase.Status w = answered_listed a c.id w
+in_listed a c plan h atn Phase.DataIn w = fresh_listed a c w
+in_listed a c plan h atn Phase.DataOut w = fresh_listed a c w
 
-if_listed : (x : Bool) (a : Array) (p : Process) (plan : Plan) (h : Handshakes) (atn : Bool) (phase : Phase)
-    → PlacedIf x a p plan h atn phase → Listed a p.id
-if_listed false a p plan h atn phase w = untouched_listed a p.id w
-if_listed true a p plan h atn phase w = in_listed a p plan h atn phase w
+if_listed : (x : Bool) (a : Array) (c : Process) (plan : Plan) (h : Handshakes) (atn : Bool) (phase : Phase)
+    → PlacedIf x a c plan h atn phase → Listed a c.id
+if_listed false a c plan h atn phase w = untouched_listed a c.id w
+if_listed true a c plan h atn phase w = in_listed a c plan h atn phase w
 
 -- ---- what a row tells
 

@@ -15,32 +15,32 @@ use proofs.Replies.{Ends.{end_found, end_reply}, Senses.{AreTold, all_told, is_f
 
 -- ---- the ending behind a CHECK CONDITION without sense
 
-record Senseless (s : ScenarioValue) (h : List Event) (n : ℕ) (o : Option Ending) : Type 0 where
+record Senseless (s : ScenarioValue) (h : List Event) (m : ℕ) (o : Option Ending) : Type 0 where
   status : ℕ
   ending_is : o ≡ Some (by_status status)
   bad : (status == GOOD) ≡ false
   unfull : (status == QUEUE_FULL) ≡ false
-  none : is_some (sense_of_end s h (sense_id n)) ≡ false
+  none : is_some (sense_of_end s h (sense_id m)) ≡ false
 
 abbrev is_senseless : Option Outcome → Bool
 is_senseless (Some (ended_check None)) = true
 is_senseless _ = false
 
-senseless : (s : ScenarioValue) (h : List Event) (n : ℕ) (o : Option Ending) → is_senseless (outcome_if s h n o) ≡ true
-    → Senseless s h n o
-senseless s h n (Some (by_status status)) e = go (status == GOOD) refl (status == QUEUE_FULL) refl
-    (reply_bytes s h (command_id n)) (sense_of_end s h (sense_id n)) refl e
+senseless : (s : ScenarioValue) (h : List Event) (m : ℕ) (o : Option Ending) → is_senseless (outcome_if s h m o) ≡ true
+    → Senseless s h m o
+senseless s h m (Some (by_status status)) e = go (status == GOOD) refl (status == QUEUE_FULL) refl
+    (reply_bytes s h (command_id m)) (sense_of_end s h (sense_id m)) refl e
   where
     go : (q : Bool) → (status == GOOD) ≡ q → (r : Bool) → (status == QUEUE_FULL) ≡ r
-        → (bytes : List ℕ) (x : Option Sense) → sense_of_end s h (sense_id n) ≡ x
+        → (bytes : List ℕ) (x : Option Sense) → sense_of_end s h (sense_id m) ≡ x
         → is_senseless (Some (if q then ended_good bytes else if r then ended_full else ended_check x)) ≡ true
-        → Senseless s h n (Some (by_status status))
+        → Senseless s h m (Some (by_status status))
     go true f r g bytes x y z = wrong' z
     go false f true g bytes x y z = wrong' z
     go false f false g bytes (Some sense) y z = wrong' z
     go false f false g bytes None y z =
         record { status = status; ending_is = refl; bad = f; unfull = g; none = ap (λ (w : Option Sense). is_some w) y }
-senseless s h n _ e = wrong' e
+senseless s h m _ e = wrong' e
 
 pub is_check : (status : ℕ) → is_known status ≡ true → (status == GOOD) ≡ false → (status == QUEUE_FULL) ≡ false
     → (status == CHECK_CONDITION) ≡ true
@@ -88,44 +88,44 @@ sense_given (b ∷ bytes) e = refl
 
 -- ---- the trace
 
-sense_done : (s : ScenarioValue) (k : RunState) (n : ℕ) (c : CmdDef) → Obeys s → Items s k
-    → k.served ≡ None → AreUnwanted s k → command_at s.commands n ≡ Some c → IsChecked n k.story.sent
-    → has_item k.story.sent.over (sense_item n) ≡ true
-sense_done s k n c o items rest quiet at checked =
-    elim (cases_Bool (has_item k.story.sent.over (sense_item n))) [
+sense_done : (s : ScenarioValue) (k : RunState) (m : ℕ) (c : CmdDef) → Obeys s → Items s k
+    → k.served ≡ None → AreUnwanted s k → command_at s.commands m ≡ Some c → IsChecked m k.story.sent
+    → has_item k.story.sent.over (sense_item m) ≡ true
+sense_done s k m c o items rest quiet at checked =
+    elim (cases_Bool (has_item k.story.sent.over (sense_item m))) [
       | inl f ↦ f
-      | inr f ↦ sense_wanted s k n c o items rest quiet at checked f
+      | inr f ↦ sense_wanted s k m c o items rest quiet at checked f
     ]
 
 abbrev pub AreStopped : Type 0
-AreStopped = (s : ScenarioValue) (rows : List Row) (n : ℕ) (c : CmdDef)
-    → command_at s.commands n ≡ Some c → has_item (run_state s rows).story.sent.over (sense_item n) ≡ true
-    → has_end (run_state s rows).story.history (sense_id n) ≡ false
-    → has_sense_stop (run_state s rows).story.history n c ≡ true
+AreStopped = (s : ScenarioValue) (rows : List Row) (m : ℕ) (c : CmdDef)
+    → command_at s.commands m ≡ Some c → has_item (run_state s rows).story.sent.over (sense_item m) ≡ true
+    → has_end (run_state s rows).story.history (sense_id m) ≡ false
+    → has_sense_stop (run_state s rows).story.history m c ≡ true
 
 -- Of a command that ended with a status other than GOOD and QUEUE FULL: its reply has that status, which is CHECK
 -- CONDITION; its automatic REQUEST SENSE is over; and where that has ended it brought bytes.
-pub record IsFetched (s : ScenarioValue) (p : List Row) (n status : ℕ) : Type 0 where
-  pub replied : HasReply s (run_state s p) (command_id n) status
+pub record IsFetched (s : ScenarioValue) (p : List Row) (m status : ℕ) : Type 0 where
+  pub replied : HasReply s (run_state s p) (command_id m) status
   pub check : (status == CHECK_CONDITION) ≡ true
-  pub over : has_item (run_state s p).story.sent.over (sense_item n) ≡ true
-  pub brought : has_end (run_state s p).story.history (sense_id n) ≡ true
-      → is_some (sense_of_end s (run_state s p).story.history (sense_id n)) ≡ true
+  pub over : has_item (run_state s p).story.sent.over (sense_item m) ≡ true
+  pub brought : has_end (run_state s p).story.history (sense_id m) ≡ true
+      → is_some (sense_of_end s (run_state s p).story.history (sense_id m)) ≡ true
 
-pub is_replied : (s : ScenarioValue) (p : List Row) (n status : ℕ) → HaveCauses → Obeys s
-    → IsPrompt s p → ending_of (run_state s p).story.ended n ≡ Some (by_status status)
-    → HasReply s (run_state s p) (command_id n) status
-is_replied s p n status causes o prompt e = end_reply s (run_state s p)
-    (command_id n) status ((whole s p o prompt).statuses.areas.areas (command_id n))
-    (end_found s (run_state s p) (run_state s p).story.history (command_id n) status
-    (all_ended s p o prompt (all_joined s p o prompt)) (causes.status s p n status e))
+pub is_replied : (s : ScenarioValue) (p : List Row) (m status : ℕ) → HaveCauses → Obeys s
+    → IsPrompt s p → ending_of (run_state s p).story.ended m ≡ Some (by_status status)
+    → HasReply s (run_state s p) (command_id m) status
+is_replied s p m status causes o prompt e = end_reply s (run_state s p)
+    (command_id m) status ((whole s p o prompt).statuses.areas.areas (command_id m))
+    (end_found s (run_state s p) (run_state s p).story.history (command_id m) status
+    (all_ended s p o prompt (all_joined s p o prompt)) (causes.status s p m status e))
 
-pub fetched : (s : ScenarioValue) (p : List Row) (n status : ℕ) (c : CmdDef) → WantsAreItems
-    → HaveCauses → Obeys s → IsPrompt s p → IsEnded s p → command_at s.commands n ≡ Some c
-    → ending_of (run_state s p).story.ended n ≡ Some (by_status status) → (status == GOOD) ≡ false
-    → (status == QUEUE_FULL) ≡ false → IsFetched s p n status
-fetched s p n status c wants causes o prompt end at e bad unfull =
-    record { replied = is_replied s p n status causes o prompt e; check = check_is; over = over; brought = brought }
+pub fetched : (s : ScenarioValue) (p : List Row) (m status : ℕ) (c : CmdDef) → WantsAreItems
+    → HaveCauses → Obeys s → IsPrompt s p → IsEnded s p → command_at s.commands m ≡ Some c
+    → ending_of (run_state s p).story.ended m ≡ Some (by_status status) → (status == GOOD) ≡ false
+    → (status == QUEUE_FULL) ≡ false → IsFetched s p m status
+fetched s p m status c wants causes o prompt end at e bad unfull =
+    record { replied = is_replied s p m status causes o prompt e; check = check_is; over = over; brought = brought }
   where
     k : RunState
     k = run_state s p
@@ -133,8 +133,8 @@ fetched s p n status c wants causes o prompt end at e bad unfull =
     pl : IsPlain s p k
     pl = prompt_plain s p prompt
 
-    j : Joined s p
-    j = joined s p wants o prompt
+    f : Joined s p
+    f = joined s p wants o prompt
 
     h : Indebted s p
     h = indebted s p o prompt
@@ -150,56 +150,56 @@ fetched s p n status c wants causes o prompt end at e bad unfull =
     reply_for id status has = end_reply s k id status (h.whole.statuses.areas.areas id)
         (end_found s k k.story.history id status (all_ended s p o prompt (all_joined s p o prompt)) has)
 
-    has : has_status k.story.history (command_id n) status ≡ true
-    has = causes.status s p n status e
+    has : has_status k.story.history (command_id m) status ≡ true
+    has = causes.status s p m status e
 
     known : is_known status ≡ true
     known =
-        let r = reply_for (command_id n) status has in
-        ap is_known r.status_is ∙ (told (command_id n) r.reply r.reply_is).known
+        let r = reply_for (command_id m) status has in
+        ap is_known r.status_is ∙ (told (command_id m) r.reply r.reply_is).known
 
     check_is : (status == CHECK_CONDITION) ≡ true
     check_is = is_check status known bad unfull
 
-    check : has_status k.story.history (command_id n) CHECK_CONDITION ≡ true
-    check = subst (λ (x : ℕ). has_status k.story.history (command_id n) x ≡ true)
+    check : has_status k.story.history (command_id m) CHECK_CONDITION ≡ true
+    check = subst (λ (x : ℕ). has_status k.story.history (command_id m) x ≡ true)
         (eqb-true status CHECK_CONDITION check_is) has
 
     rest : k.served ≡ None
-    rest = (h.whole.facts.items.items.apart (pl.connection ∙ (free_when_ended s p j end).stands.connection_is)).1
+    rest = (h.whole.facts.items.items.apart (pl.connection ∙ (free_when_ended s p f end).stands.connection_is)).1
 
-    over : has_item k.story.sent.over (sense_item n) ≡ true
-    over = sense_done s k n c o h.whole.facts.items.items rest
-        (λ dev latency lt there. unwanted_when_ended s p j end dev latency lt there) at (checks_stand s p n check)
+    over : has_item k.story.sent.over (sense_item m) ≡ true
+    over = sense_done s k m c o h.whole.facts.items.items rest
+        (λ dev latency lt there. unwanted_when_ended s p f end dev latency lt there) at (checks_stand s p m check)
 
     -- its bytes are a sense
-    brought : has_end k.story.history (sense_id n) ≡ true → is_some (sense_of_end s k.story.history (sense_id n)) ≡ true
+    brought : has_end k.story.history (sense_id m) ≡ true → is_some (sense_of_end s k.story.history (sense_id m)) ≡ true
     brought ended =
-        let v = end_status k.story.history (sense_id n) ended in
-        let r = reply_for (sense_id n) v.status v.has in
+        let v = end_status k.story.history (sense_id m) ended in
+        let r = reply_for (sense_id m) v.status v.has in
         let good : (r.reply.status == GOOD) ≡ true = eq-eqb r.reply.status GOOD
-        (h.books.fetched n r.reply r.reply_is) in
-        let bytes : reply_bytes s k.story.history (sense_id n) ≡ r.reply.bytes =
-        (λ i. reply_bytes_if (reply_of (plays i) (sense_id n))) ∙ ap reply_bytes_if r.reply_is in
-        ap (λ (q : Bool). is_some (if q then sense_in (reply_bytes s k.story.history (sense_id n)) else None)) ended
+        (h.books.fetched m r.reply r.reply_is) in
+        let bytes : reply_bytes s k.story.history (sense_id m) ≡ r.reply.bytes =
+        (λ i. reply_bytes_if (reply_of (plays i) (sense_id m))) ∙ ap reply_bytes_if r.reply_is in
+        ap (λ (q : Bool). is_some (if q then sense_in (reply_bytes s k.story.history (sense_id m)) else None)) ended
         ∙ ap (λ (x : List ℕ). is_some (sense_in x)) bytes
-        ∙ sense_given r.reply.bytes ((told (sense_id n) r.reply r.reply_is).filled refl good)
+        ∙ sense_given r.reply.bytes ((told (sense_id m) r.reply r.reply_is).filled refl good)
 
-pub sense_stopped : (s : ScenarioValue) (p : List Row) (n : ℕ) (c : CmdDef) → WantsAreItems
-    → HaveCauses → AreStopped → Obeys s → IsPrompt s p → IsEnded s p → command_at s.commands n ≡ Some c
-    → outcome_of s (story s p) n ≡ Some (ended_check None) → has_sense_stop (run_state s p).story.history n c ≡ true
-sense_stopped s p n c wants causes stops o prompt end at e =
-    elim (cases_Bool (has_end k.story.history (sense_id n))) [
+pub sense_stopped : (s : ScenarioValue) (p : List Row) (m : ℕ) (c : CmdDef) → WantsAreItems
+    → HaveCauses → AreStopped → Obeys s → IsPrompt s p → IsEnded s p → command_at s.commands m ≡ Some c
+    → outcome_of s (story s p) m ≡ Some (ended_check None) → has_sense_stop (run_state s p).story.history m c ≡ true
+sense_stopped s p m c wants causes stops o prompt end at e =
+    elim (cases_Bool (has_end k.story.history (sense_id m))) [
       | inl g ↦ wrong (sym (f.brought g) ∙ w.none)
-      | inr g ↦ stops s p n c at f.over g
+      | inr g ↦ stops s p m c at f.over g
     ]
   where
     k : RunState
     k = run_state s p
 
-    w : Senseless s k.story.history n (ending_of k.story.ended n)
-    w = senseless s k.story.history n (ending_of k.story.ended n)
-        (ap is_senseless (ap (λ (b : Story). outcome_of s b n) (prompt_plain s p prompt).story ∙ e))
+    w : Senseless s k.story.history m (ending_of k.story.ended m)
+    w = senseless s k.story.history m (ending_of k.story.ended m)
+        (ap is_senseless (ap (λ (b : Story). outcome_of s b m) (prompt_plain s p prompt).story ∙ e))
 
-    f : IsFetched s p n w.status
-    f = fetched s p n w.status c wants causes o prompt end at w.ending_is w.bad w.unfull
+    f : IsFetched s p m w.status
+    f = fetched s p m w.status c wants causes o prompt end at w.ending_is w.bad w.unfull

@@ -20,30 +20,30 @@ use proofs.Names.{standing_next, whole, initiator_there, AbortEnd, IsToSend, was
 use Rattle.progress_laws.specs.link_laws.specs.LinkStages.{apart}
 
 abbrev pub AbortState : ScenarioValue → Sent → ℕ → AbortDef → Type 0
-AbortState s b n a = AbortEnd s b n a ⊎ IsToSend s b n a
+AbortState s b m a = AbortEnd s b m a ⊎ IsToSend s b m a
 
 -- ---- what changes nothing of the line
 
-record Same (n : ℕ) (b c : Sent) : Type 0 where
-  sent : has_item c.sent (abort n) ≡ has_item b.sent (abort n)
-  over : has_item c.over (abort n) ≡ has_item b.over (abort n)
-  tries : count_item c.tries (abort n) ≡ count_item b.tries (abort n)
+record Same (m : ℕ) (b c : Sent) : Type 0 where
+  sent : has_item c.sent (abort m) ≡ has_item b.sent (abort m)
+  over : has_item c.over (abort m) ≡ has_item b.over (abort m)
+  tries : count_item c.tries (abort m) ≡ count_item b.tries (abort m)
 
-same_sent : (n : ℕ) (b c : Sent) → c ≡ b → Same n b c
-same_sent n b c e = record {
-  sent = ap (λ (x : Sent). has_item x.sent (abort n)) e;
-  over = ap (λ (x : Sent). has_item x.over (abort n)) e;
-  tries = ap (λ (x : Sent). count_item x.tries (abort n)) e;
+same_sent : (m : ℕ) (b c : Sent) → c ≡ b → Same m b c
+same_sent m b c e = record {
+  sent = ap (λ (x : Sent). has_item x.sent (abort m)) e;
+  over = ap (λ (x : Sent). has_item x.over (abort m)) e;
+  tries = ap (λ (x : Sent). count_item x.tries (abort m)) e;
 }
 
-same_then : (n : ℕ) (b c d : Sent) → Same n b c → Same n c d → Same n b d
-same_then n b c d h g = record { sent = g.sent ∙ h.sent; over = g.over ∙ h.over; tries = g.tries ∙ h.tries }
+same_then : (m : ℕ) (b c d : Sent) → Same m b c → Same m c d → Same m b d
+same_then m b c d h g = record { sent = g.sent ∙ h.sent; over = g.over ∙ h.over; tries = g.tries ∙ h.tries }
 
-stays : (s : ScenarioValue) (b c : Sent) (n : ℕ) (a : AbortDef) → Same n b c → AbortState s b n a → AbortState s c n a
-stays s b c n a h (inl (was_sent x y z)) =
+stays : (s : ScenarioValue) (b c : Sent) (m : ℕ) (a : AbortDef) → Same m b c → AbortState s b m a → AbortState s c m a
+stays s b c m a h (inl (was_sent x y z)) =
     inl (was_sent (h.sent ∙ x) (h.over ∙ y) (subst (λ t. t ≤ retries_of s.hosts a.host) (sym h.tries) z))
-stays s b c n a h (inl (was_dropped x y z)) = inl (was_dropped (h.sent ∙ x) (h.over ∙ y) (h.tries ∙ z))
-stays s b c n a h (inr g) = inr (record {
+stays s b c m a h (inl (was_dropped x y z)) = inl (was_dropped (h.sent ∙ x) (h.over ∙ y) (h.tries ∙ z))
+stays s b c m a h (inr g) = inr (record {
   unsent = h.sent ∙ g.unsent;
   kept = h.over ∙ g.kept;
   tried = subst (λ t. t ≤ retries_of s.hosts a.host) (sym h.tries) g.tried;
@@ -51,43 +51,43 @@ stays s b c n a h (inr g) = inr (record {
 
 -- ---- events end processes alone
 
-one_end : (q r : Bool) (k n : ℕ) (e : Ending) (b : Story)
-    → Same n b.sent (if q then story_with_end b (record { command = k; sense = false }) e
-    else if r then story_with_over b (sense_item k) else b).sent
-one_end true r k n e b = record { sent = refl; over = refl; tries = refl }
-one_end false true k n e b = record { sent = refl; over = refl; tries = refl }
-one_end false false k n e b = record { sent = refl; over = refl; tries = refl }
+one_end : (q r : Bool) (m i : ℕ) (e : Ending) (b : Story)
+    → Same i b.sent (if q then story_with_end b (record { command = m; sense = false }) e
+    else if r then story_with_over b (sense_item m) else b).sent
+one_end true r m i e b = record { sent = refl; over = refl; tries = refl }
+one_end false true m i e b = record { sent = refl; over = refl; tries = refl }
+one_end false false m i e b = record { sent = refl; over = refl; tries = refl }
 
-ends_same : (drops stops : CmdDef → Bool) (e : Ending) (k n : ℕ) (commands : List CmdDef) (b : Story)
-    → Same n b.sent (story_with_ends drops stops e k commands b).sent
-ends_same drops stops e k n [] b = record { sent = refl; over = refl; tries = refl }
-ends_same drops stops e k n (c ∷ commands) b =
-    let next : Story = story_with_end_if drops stops e k c b in
-    same_then n b.sent next.sent (story_with_ends drops stops e (k + 1) commands next).sent
-    (one_end (is_open b.sent k && drops c) (stops c && list_any (λ j. j == k) b.sent.checks) k n e b)
-    (ends_same drops stops e (k + 1) n commands next)
+ends_same : (drops stops : CmdDef → Bool) (e : Ending) (m i : ℕ) (commands : List CmdDef) (b : Story)
+    → Same i b.sent (story_with_ends drops stops e m commands b).sent
+ends_same drops stops e m i [] b = record { sent = refl; over = refl; tries = refl }
+ends_same drops stops e m i (c ∷ commands) b =
+    let next : Story = story_with_end_if drops stops e m c b in
+    same_then i b.sent next.sent (story_with_ends drops stops e (m + 1) commands next).sent
+    (one_end (is_open b.sent m && drops c) (stops c && list_any (λ j. j == m) b.sent.checks) m i e b)
+    (ends_same drops stops e (m + 1) i commands next)
 
-event_same : (s : ScenarioValue) (n : ℕ) (b : Story) (event : Event) → Same n b.sent (story_after_event s b event).sent
-event_same s n b (Event.End id status) = go (not id.sense && status == CHECK_CONDITION)
+event_same : (s : ScenarioValue) (m : ℕ) (b : Story) (event : Event) → Same m b.sent (story_after_event s b event).sent
+event_same s m b (Event.End id status) = go (not id.sense && status == CHECK_CONDITION)
   where
     over : Story
     over = story_with_end b id (by_status status)
 
-    go : (q : Bool) → Same n b.sent
+    go : (q : Bool) → Same m b.sent
         (if q then record over { sent = record over.sent { checks = b.sent.checks ++ id.command ∷ [] } } else over).sent
     go true = record { sent = refl; over = refl; tries = refl }
     go false = record { sent = refl; over = refl; tries = refl }
-event_same s n b (Event.Aborted host target unit what) =
-    ends_same (is_aborted host target unit what) (is_sense_stopped host target unit what) by_abort 1 n s.commands b
-event_same s n b (Event.Reset dev) = ends_same (λ c. true) (λ c. true) by_reset 1 n s.commands b
-event_same s n b _ = record { sent = refl; over = refl; tries = refl }
+event_same s m b (Event.Aborted host target unit what) =
+    ends_same (is_aborted host target unit what) (is_sense_stopped host target unit what) by_abort 1 m s.commands b
+event_same s m b (Event.Reset dev) = ends_same (λ c. true) (λ c. true) by_reset 1 m s.commands b
+event_same s m b _ = record { sent = refl; over = refl; tries = refl }
 
-events_same : (s : ScenarioValue) (n : ℕ) (b : Story) (shown : List Event)
-    → Same n b.sent (story_after_events s b shown).sent
-events_same s n b [] = record { sent = refl; over = refl; tries = refl }
-events_same s n b (event ∷ shown) = same_then n b.sent (story_after_events s b shown).sent
-    (story_after_events s b (event ∷ shown)).sent (events_same s n b shown)
-    (event_same s n (story_after_events s b shown) event)
+events_same : (s : ScenarioValue) (m : ℕ) (b : Story) (shown : List Event)
+    → Same m b.sent (story_after_events s b shown).sent
+events_same s m b [] = record { sent = refl; over = refl; tries = refl }
+events_same s m b (event ∷ shown) = same_then m b.sent (story_after_events s b shown).sent
+    (story_after_events s b (event ∷ shown)).sent (events_same s m b shown)
+    (event_same s m (story_after_events s b shown) event)
 
 -- ---- a connection begins for an item, or it was called for in vain
 
@@ -95,38 +95,38 @@ events_same s n b (event ∷ shown) = same_then n b.sent (story_after_events s b
 record IsCalled (s : ScenarioValue) (b : Sent) (dev : ℕ) (i : Item) : Type 0 where
   unsent : has_item b.sent i ≡ false
   unended : has_item b.over i ≡ false
-  host_is : (n : ℕ) (a : AbortDef) → i ≡ abort n → abort_line_at s.aborts n ≡ Some a → a.host ≡ dev
+  host_is : (m : ℕ) (a : AbortDef) → i ≡ abort m → abort_line_at s.aborts m ≡ Some a → a.host ≡ dev
 
-waits : (s : ScenarioValue) (b : Sent) (n : ℕ) (a : AbortDef) → has_item b.sent (abort n) ≡ false
-    → has_item b.over (abort n) ≡ false → AbortState s b n a → IsToSend s b n a
-waits s b n a e f (inl (was_sent x y z)) = wrong (sym x ∙ e)
-waits s b n a e f (inl (was_dropped x y z)) = wrong (sym y ∙ f)
-waits s b n a e f (inr g) = g
+waits : (s : ScenarioValue) (b : Sent) (m : ℕ) (a : AbortDef) → has_item b.sent (abort m) ≡ false
+    → has_item b.over (abort m) ≡ false → AbortState s b m a → IsToSend s b m a
+waits s b m a e f (inl (was_sent x y z)) = wrong (sym x ∙ e)
+waits s b m a e f (inl (was_dropped x y z)) = wrong (sym y ∙ f)
+waits s b m a e f (inr g) = g
 
-sends : (s : ScenarioValue) (b : Sent) (n dev : ℕ) (a : AbortDef) (i : Item) → IsCalled s b dev i → AbortState s b n a
-    → AbortState s (record b { sent = i ∷ b.sent }) n a
-sends s b n dev a i h st = go (same_item i (abort n)) refl
+sends : (s : ScenarioValue) (b : Sent) (m dev : ℕ) (a : AbortDef) (i : Item) → IsCalled s b dev i → AbortState s b m a
+    → AbortState s (record b { sent = i ∷ b.sent }) m a
+sends s b m dev a i h st = go (same_item i (abort m)) refl
   where
-    go : (q : Bool) → same_item i (abort n) ≡ q → AbortState s (record b { sent = i ∷ b.sent }) n a
+    go : (q : Bool) → same_item i (abort m) ≡ q → AbortState s (record b { sent = i ∷ b.sent }) m a
     go true e =
-        let is = item_is i (abort n) e in
-        let w = waits s b n a (ap (has_item b.sent) (sym is) ∙ h.unsent)
+        let is = item_is i (abort m) e in
+        let w = waits s b m a (ap (has_item b.sent) (sym is) ∙ h.unsent)
         (ap (has_item b.over) (sym is) ∙ h.unended) st in
-        inl (was_sent (ap (λ (q : Bool). q || has_item b.sent (abort n)) e) w.kept w.tried)
-    go false e = stays s b (record b { sent = i ∷ b.sent }) n a
-        (record { sent = ap (λ (q : Bool). q || has_item b.sent (abort n)) e; over = refl; tries = refl }) st
+        inl (was_sent (ap (λ (q : Bool). q || has_item b.sent (abort m)) e) w.kept w.tried)
+    go false e = stays s b (record b { sent = i ∷ b.sent }) m a
+        (record { sent = ap (λ (q : Bool). q || has_item b.sent (abort m)) e; over = refl; tries = refl }) st
 
 -- With one calling in vain more than it calls again the line is dropped.
-own_try : (s : ScenarioValue) (b : Story) (n dev : ℕ) (a : AbortDef) → a.host ≡ dev → IsToSend s b.sent n a
-    → AbortState s (story_with_try s b dev (Some (abort n))).sent n a
-own_try s b n dev a host w = go (nat_lt (retries_of s.hosts dev) (count_item (abort n ∷ b.sent.tries) (abort n))) refl
+own_try : (s : ScenarioValue) (b : Story) (m dev : ℕ) (a : AbortDef) → a.host ≡ dev → IsToSend s b.sent m a
+    → AbortState s (story_with_try s b dev (Some (abort m))).sent m a
+own_try s b m dev a host w = go (nat_lt (retries_of s.hosts dev) (count_item (abort m ∷ b.sent.tries) (abort m))) refl
   where
     next : Story
-    next = record b { sent = record b.sent { tries = abort n ∷ b.sent.tries } }
+    next = record b { sent = record b.sent { tries = abort m ∷ b.sent.tries } }
 
-    counted : count_item (abort n ∷ b.sent.tries) (abort n) ≡ count_item b.sent.tries (abort n) + 1
-    counted = ap (λ (q : Bool). if q then count_item b.sent.tries (abort n) + 1 else count_item b.sent.tries (abort n))
-        (eq_self n)
+    counted : count_item (abort m ∷ b.sent.tries) (abort m) ≡ count_item b.sent.tries (abort m) + 1
+    counted = ap (λ (q : Bool). if q then count_item b.sent.tries (abort m) + 1 else count_item b.sent.tries (abort m))
+        (eq_self m)
 
     limit : retries_of s.hosts a.host ≡ retries_of s.hosts dev
     limit = ap (retries_of s.hosts) host
@@ -134,90 +134,90 @@ own_try s b n dev a host w = go (nat_lt (retries_of s.hosts dev) (count_item (ab
     just : (most count : ℕ) → most < count + 1 → count ≤ most → count + 1 ≡ most + 1
     just most count h g = omega (arith, h, g)
 
-    go : (q : Bool) → nat_lt (retries_of s.hosts dev) (count_item (abort n ∷ b.sent.tries) (abort n)) ≡ q → AbortState s
-        (if q then record next { sent = record next.sent { over = abort n ∷ next.sent.over } } else next).sent n a
+    go : (q : Bool) → nat_lt (retries_of s.hosts dev) (count_item (abort m ∷ b.sent.tries) (abort m)) ≡ q → AbortState s
+        (if q then record next { sent = record next.sent { over = abort m ∷ next.sent.over } } else next).sent m a
     go true e =
-        let past : retries_of s.hosts a.host < count_item b.sent.tries (abort n) + 1 = subst
-        (λ (x : ℕ). x < count_item b.sent.tries (abort n) + 1) (sym limit)
+        let past : retries_of s.hosts a.host < count_item b.sent.tries (abort m) + 1 = subst
+        (λ (x : ℕ). x < count_item b.sent.tries (abort m) + 1) (sym limit)
         (subst (λ (x : ℕ). retries_of s.hosts dev < x) counted
-        (ltb-true (retries_of s.hosts dev) (count_item (abort n ∷ b.sent.tries) (abort n)) e)) in
-        inl (was_dropped w.unsent (ap (λ (q : Bool). q || has_item b.sent.over (abort n)) (eq_self n))
-        (counted ∙ just (retries_of s.hosts a.host) (count_item b.sent.tries (abort n)) past w.tried))
+        (ltb-true (retries_of s.hosts dev) (count_item (abort m ∷ b.sent.tries) (abort m)) e)) in
+        inl (was_dropped w.unsent (ap (λ (q : Bool). q || has_item b.sent.over (abort m)) (eq_self m))
+        (counted ∙ just (retries_of s.hosts a.host) (count_item b.sent.tries (abort m)) past w.tried))
     go false e = inr (record {
       unsent = w.unsent;
       kept = w.kept;
-      tried = subst (λ (x : ℕ). count_item (abort n ∷ b.sent.tries) (abort n) ≤ x) (sym limit)
-          (ltb-false (retries_of s.hosts dev) (count_item (abort n ∷ b.sent.tries) (abort n)) e);
+      tried = subst (λ (x : ℕ). count_item (abort m ∷ b.sent.tries) (abort m) ≤ x) (sym limit)
+          (ltb-false (retries_of s.hosts dev) (count_item (abort m ∷ b.sent.tries) (abort m)) e);
     })
 
-tries_one : (s : ScenarioValue) (b : Story) (n dev : ℕ) (a : AbortDef) (i : Item) → abort_line_at s.aborts n ≡ Some a
-    → IsCalled s b.sent dev i → AbortState s b.sent n a → AbortState s (story_with_try s b dev (Some i)).sent n a
-tries_one s b n dev a (process id) at h st = go
+tries_one : (s : ScenarioValue) (b : Story) (m dev : ℕ) (a : AbortDef) (i : Item) → abort_line_at s.aborts m ≡ Some a
+    → IsCalled s b.sent dev i → AbortState s b.sent m a → AbortState s (story_with_try s b dev (Some i)).sent m a
+tries_one s b m dev a (process id) at h st = go
     (is_counted (process id) && nat_lt (retries_of s.hosts dev) (count_item (process id ∷ b.sent.tries) (process id)))
   where
     next : Story
     next = record b { sent = record b.sent { tries = process id ∷ b.sent.tries } }
 
-    go : (q : Bool) → AbortState s (if q then story_without_answer next (process id) else next).sent n a
-    go true = stays s b.sent (story_without_answer next (process id)).sent n a
+    go : (q : Bool) → AbortState s (if q then story_without_answer next (process id) else next).sent m a
+    go true = stays s b.sent (story_without_answer next (process id)).sent m a
         (record { sent = refl; over = refl; tries = refl }) st
-    go false = stays s b.sent next.sent n a (record { sent = refl; over = refl; tries = refl }) st
-tries_one s b n dev a (abort k) at h st = by (k == n) refl
+    go false = stays s b.sent next.sent m a (record { sent = refl; over = refl; tries = refl }) st
+tries_one s b m dev a (abort k) at h st = by (k == m) refl
   where
     next : Story
     next = record b { sent = record b.sent { tries = abort k ∷ b.sent.tries } }
 
     other :
-        (k == n) ≡ false → (q : Bool) → AbortState s (if q then story_without_answer next (abort k) else next).sent n a
-    other e true = stays s b.sent (story_without_answer next (abort k)).sent n a (record {
+        (k == m) ≡ false → (q : Bool) → AbortState s (if q then story_without_answer next (abort k) else next).sent m a
+    other e true = stays s b.sent (story_without_answer next (abort k)).sent m a (record {
       sent = refl;
-      over = ap (λ (x : Bool). x || has_item b.sent.over (abort n)) e;
+      over = ap (λ (x : Bool). x || has_item b.sent.over (abort m)) e;
       tries =
-          ap (λ (x : Bool). if x then count_item b.sent.tries (abort n) + 1 else count_item b.sent.tries (abort n)) e;
+          ap (λ (x : Bool). if x then count_item b.sent.tries (abort m) + 1 else count_item b.sent.tries (abort m)) e;
     }) st
-    other e false = stays s b.sent next.sent n a (record {
+    other e false = stays s b.sent next.sent m a (record {
       sent = refl;
       over = refl;
       tries =
-          ap (λ (x : Bool). if x then count_item b.sent.tries (abort n) + 1 else count_item b.sent.tries (abort n)) e;
+          ap (λ (x : Bool). if x then count_item b.sent.tries (abort m) + 1 else count_item b.sent.tries (abort m)) e;
     }) st
 
-    by : (q : Bool) → (k == n) ≡ q → AbortState s (story_with_try s b dev (Some (abort k))).sent n a
+    by : (q : Bool) → (k == m) ≡ q → AbortState s (story_with_try s b dev (Some (abort k))).sent m a
     by true e =
-        let is : abort k ≡ abort n = item_is (abort k) (abort n) e in
-        let w = waits s b.sent n a (ap (has_item b.sent.sent) (sym is) ∙ h.unsent)
+        let is : abort k ≡ abort m = item_is (abort k) (abort m) e in
+        let w = waits s b.sent m a (ap (has_item b.sent.sent) (sym is) ∙ h.unsent)
         (ap (has_item b.sent.over) (sym is) ∙ h.unended) st in
-        subst (λ (i : Item). AbortState s (story_with_try s b dev (Some i)).sent n a) (sym is)
-        (own_try s b n dev a (h.host_is n a is at) w)
+        subst (λ (i : Item). AbortState s (story_with_try s b dev (Some i)).sent m a) (sym is)
+        (own_try s b m dev a (h.host_is m a is at) w)
     by false e = other e (nat_lt (retries_of s.hosts dev) (count_item (abort k ∷ b.sent.tries) (abort k)))
 
-free_row : (s : ScenarioValue) (b : Story) (d : RowReading) (row : Row) (n : ℕ) (a : AbortDef)
-    → abort_line_at s.aborts n ≡ Some a → ((k : Call) (x : Calling) → b.bus_state.call ≡ Some k → k.calling ≡ Some x
-    → x.reselects ≡ false → (i : Item) → aim_of b.aims k.caller ≡ Some i → IsCalled s b.sent k.caller i)
-    → AbortState s b.sent n a → AbortState s (story_on_free_bus s b d row).sent n a
-free_row s b d row n a at h st = go (is_arbitration_entry b d) (falls d.change.before.sel d.change.after.sel)
+free_row : (s : ScenarioValue) (b : Story) (d : RowReading) (row : Row) (m : ℕ) (a : AbortDef)
+    → abort_line_at s.aborts m ≡ Some a → ((c : Call) (x : Calling) → b.bus_state.call ≡ Some c → c.calling ≡ Some x
+    → x.reselects ≡ false → (i : Item) → aim_of b.aims c.caller ≡ Some i → IsCalled s b.sent c.caller i)
+    → AbortState s b.sent m a → AbortState s (story_on_free_bus s b d row).sent m a
+free_row s b d row m a at h st = go (is_arbitration_entry b d) (falls d.change.before.sel d.change.after.sel)
   where
-    called : (o : Option Call) → b.bus_state.call ≡ o → AbortState s (story_after_calling s b o).sent n a
+    called : (o : Option Call) → b.bus_state.call ≡ o → AbortState s (story_after_calling s b o).sent m a
     called None e = st
-    called (Some k) e = by k.calling refl
+    called (Some c) e = by c.calling refl
       where
-        by : (g : Option Calling) → k.calling ≡ g → AbortState s (story_after_calling_by s b k.caller g).sent n a
+        by : (g : Option Calling) → c.calling ≡ g → AbortState s (story_after_calling_by s b c.caller g).sent m a
         by None f = st
         by (Some x) f = one (is_none x.answered) x.reselects refl
           where
-            aimed : x.reselects ≡ false → (o : Option Item) → aim_of b.aims k.caller ≡ o
-                → AbortState s (story_with_try s b k.caller o).sent n a
+            aimed : x.reselects ≡ false → (o : Option Item) → aim_of b.aims c.caller ≡ o
+                → AbortState s (story_with_try s b c.caller o).sent m a
             aimed z None y = st
-            aimed z (Some i) y = tries_one s b n k.caller a i at (h k x e f z i y) st
+            aimed z (Some i) y = tries_one s b m c.caller a i at (h c x e f z i y) st
 
             one : (q r : Bool) → x.reselects ≡ r
-                → AbortState s (if q && not r then story_with_try s b k.caller (aim_of b.aims k.caller) else b).sent n a
-            one true false z = aimed z (aim_of b.aims k.caller) refl
+                → AbortState s (if q && not r then story_with_try s b c.caller (aim_of b.aims c.caller) else b).sent m a
+            one true false z = aimed z (aim_of b.aims c.caller) refl
             one true true z = st
             one false r z = st
 
     go : (q r : Bool) → AbortState s
-        (if q then story_with_aim s b row else if r then story_after_calling s b b.bus_state.call else b).sent n a
+        (if q then story_with_aim s b row else if r then story_after_calling s b b.bus_state.call else b).sent m a
     go true r = st
     go false true = called b.bus_state.call refl
     go false false = st
@@ -227,18 +227,18 @@ free_row s b d row n a at h st = go (is_arbitration_entry b d) (falls d.change.b
 abbrev none_sent : Sent
 none_sent = record { sent = []; over = []; checks = []; tries = [] }
 
-owner : (s : ScenarioValue) (dev : ℕ) (i : Item) → IsItem s dev i → (n : ℕ) (a : AbortDef) → i ≡ abort n
-    → abort_line_at s.aborts n ≡ Some a → a.host ≡ dev
-owner s dev _ (is_process id p z own) n a e at = absurd (not_abort e)
+owner : (s : ScenarioValue) (dev : ℕ) (i : Item) → IsItem s dev i → (l : ℕ) (a : AbortDef) → i ≡ abort l
+    → abort_line_at s.aborts l ≡ Some a → a.host ≡ dev
+owner s dev _ (is_process id p z own) l a e at = absurd (not_abort e)
   where
-    not_abort : process id ≡ abort n → ⊥
+    not_abort : process id ≡ abort l → ⊥
     not_abort f = wrong' (ap (λ (i : Item). is_abort_item i) f)
       where
         is_abort_item : Item → Bool
         is_abort_item (process x) = false
         is_abort_item (abort m) = true
-owner s dev _ (is_abort m b z own) n a e at =
-    let same : m ≡ n = number e in
+owner s dev _ (is_abort m b z own) l a e at =
+    let same : m ≡ l = number e in
     let line : b ≡ a = same_Some b a (sym z ∙ ap (abort_line_at s.aborts) same ∙ at) in
     ap (λ (x : AbortDef). x.host) (sym line) ∙ own
   where
@@ -246,13 +246,13 @@ owner s dev _ (is_abort m b z own) n a e at =
     number_of (process x) = 0
     number_of (abort k) = k
 
-    number : abort m ≡ abort n → m ≡ n
+    number : abort m ≡ abort l → m ≡ l
     number f = ap number_of f
 
-next_state : (s : ScenarioValue) (p : List Row) (row : Row) (n : ℕ) (a : AbortDef) → Obeys s → IsPrompt s (row ∷ p)
-    → abort_line_at s.aborts n ≡ Some a → Whole s p → AbortState s (run_state s p).story.sent n a
-    → AbortState s (run_state s (row ∷ p)).story.sent n a
-next_state s p row n a o prompt at was st = go nx.row_is
+next_state : (s : ScenarioValue) (p : List Row) (row : Row) (l : ℕ) (a : AbortDef) → Obeys s → IsPrompt s (row ∷ p)
+    → abort_line_at s.aborts l ≡ Some a → Whole s p → AbortState s (run_state s p).story.sent l a
+    → AbortState s (run_state s (row ∷ p)).story.sent l a
+next_state s p row l a o prompt at was st = go nx.row_is
   where
     q : List Row
     q = row ∷ p
@@ -275,21 +275,21 @@ next_state s p row n a o prompt at was st = go nx.row_is
     nx : NextStood s p row
     nx = standing_next s p row o prompt was
 
-    by_change : AbortState s (story_by_change s k.story d row).sent n a → AbortState s (run_state s q).story.sent n a
-    by_change g = stays s (story_by_change s k.story d row).sent (run_state s q).story.sent n a
-        (events_same s n (story_by_change s k.story d row) (row_events_by s k.story d row)) g
+    by_change : AbortState s (story_by_change s k.story d row).sent l a → AbortState s (run_state s q).story.sent l a
+    by_change g = stays s (story_by_change s k.story d row).sent (run_state s q).story.sent l a
+        (events_same s l (story_by_change s k.story d row) (row_events_by s k.story d row)) g
 
     -- nothing is sent, and nothing called for
-    calm : (story_by_change s k.story d row).sent ≡ k.story.sent → AbortState s (run_state s q).story.sent n a
-    calm e = by_change (stays s k.story.sent (story_by_change s k.story d row).sent n a
-        (same_sent n k.story.sent (story_by_change s k.story d row).sent e) st)
+    calm : (story_by_change s k.story d row).sent ≡ k.story.sent → AbortState s (run_state s q).story.sent l a
+    calm e = by_change (stays s k.story.sent (story_by_change s k.story d row).sent l a
+        (same_sent l k.story.sent (story_by_change s k.story d row).sent e) st)
 
-    under : d.change.after.rst ≡ true → AbortState s (run_state s q).story.sent n a
+    under : d.change.after.rst ≡ true → AbortState s (run_state s q).story.sent l a
     under on = calm (ap (λ (x : Bool). (if x then record k.story { link = None }
         else story_on_bus s k.story k.story.bus_state.connection d.next d row).sent) on)
 
     free : d.change.after.rst ≡ false → k.story.bus_state.connection ≡ None → d.next ≡ None → AnyStage s p
-        → (r : Bool) → (bus p).rst ≡ r → AbortState s (run_state s q).story.sent n a
+        → (r : Bool) → (bus p).rst ≡ r → AbortState s (run_state s q).story.sent l a
     free off con gone (linked m h) r e = none_some m (sym con ∙ pl.connection ∙ link_connection s p m h)
     free off con gone (apart stage alone) true e =
         let f = falls_quiet s p row lt nx.obeys stage e (ap (λ (x : Change). x.after.rst) (sym c) ∙ off) in
@@ -301,16 +301,16 @@ next_state s p row n a o prompt at was st = go nx.row_is
     free off con gone (apart stage alone) false e =
         let here = sym pl.connection ∙ con in
         let aims = was.facts.items.aims here e in
-        by_change (subst (λ (x : Story). AbortState s x.sent n a)
+        by_change (subst (λ (x : Story). AbortState s x.sent l a)
         (sym (λ i. if off i then record k.story { link = None } else story_on_bus s k.story (con i) (gone i) d row))
-        (free_row s k.story d row n a at (λ j x ej ex re i ei. let next = aims.calls j (sym pl.call ∙ ej)
+        (free_row s k.story d row l a at (λ j x ej ex re i ei. let next = aims.calls j (sym pl.call ∙ ej)
         ((was.stood.called here e j x (sym pl.call ∙ ej) ex).host_is ∙ ap not re) i ei in record {
           unsent = next_unsent s k.story.sent j.caller i next;
           unended = next_unended s k.story.sent j.caller i next;
           host_is = owner s j.caller i (aims_are s p j.caller i ei);
         }) st))
 
-    go : RowOf s k row → AbortState s (run_state s q).story.sent n a
+    go : RowOf s k row → AbortState s (run_state s q).story.sent l a
     go (row_apart con gone) =
         elim (cases_Bool d.change.after.rst) [
           | inl e ↦ under e
@@ -325,17 +325,17 @@ next_state s p row n a o prompt at was st = go nx.row_is
             ≡ (if m.reselected then k.story.sent else sent_with k.story.sent (aim_of k.story.aims m.initiator))
         is = (first_sent s k row m b.first none).sent
 
-        by : (r : Bool) → m.reselected ≡ r → AbortState s (run_state s q).story.sent n a
-        by true e = stays s k.story.sent (run_state s q).story.sent n a
-            (same_sent n k.story.sent (run_state s q).story.sent (is ∙ ap
+        by : (r : Bool) → m.reselected ≡ r → AbortState s (run_state s q).story.sent l a
+        by true e = stays s k.story.sent (run_state s q).story.sent l a
+            (same_sent l k.story.sent (run_state s q).story.sent (is ∙ ap
             (λ (x : Bool). if x then k.story.sent else sent_with k.story.sent (aim_of k.story.aims m.initiator)) e)) st
         by false e =
             let reads : d.next ≡ connection q = λ i. connection_after (pl.connection i) (pl.call i) (c i) row in
             let f = items_fresh s p row m o prompt was.stood was.facts.items
             (sym pl.connection ∙ b.first.connection_is) (sym reads ∙ b.first.next_is) e in
-            subst (λ (x : Sent). AbortState s x n a) (sym (is
+            subst (λ (x : Sent). AbortState s x l a) (sym (is
             ∙ ap (λ (x : Bool). if x then k.story.sent else sent_with k.story.sent (aim_of k.story.aims m.initiator)) e
-            ∙ ap (sent_with k.story.sent) f.aim_is)) (sends s k.story.sent n m.initiator a f.item (record {
+            ∙ ap (sent_with k.story.sent) f.aim_is)) (sends s k.story.sent l m.initiator a f.item (record {
               unsent = f.unsent;
               unended = f.unended;
               host_is = owner s m.initiator f.item (aims_are s p m.initiator f.item f.aim_is);
@@ -346,24 +346,24 @@ next_state s p row n a o prompt at was st = go nx.row_is
         next_is = (λ i. connection_after (g.row_is.connection_is i) k.story.bus_state.call (g.row_is.change_is i) row)
             ∙ ap (λ (r : Bool). if r then Some m else None) g.row_is.stands
 
-        by : (r : Bool) → d.change.after.rst ≡ r → AbortState s (run_state s q).story.sent n a
+        by : (r : Bool) → d.change.after.rst ≡ r → AbortState s (run_state s q).story.sent l a
         by true on = under on
         by false off = calm ((λ i. (if off i then record k.story { link = None }
             else story_on_bus s k.story (g.row_is.connection_is i) (next_is i) d row).sent)
             ∙ connection_sent s k.story k.story.link d row)
     go (ends m g) = by d.change.after.rst refl
       where
-        by : (r : Bool) → d.change.after.rst ≡ r → AbortState s (run_state s q).story.sent n a
+        by : (r : Bool) → d.change.after.rst ≡ r → AbortState s (run_state s q).story.sent l a
         by true on = under on
         by false off = calm (λ i. (if off i then record k.story { link = None }
             else story_on_bus s k.story (g.connection_is i) (g.next_is i) d row).sent)
     go (under_reset on quiet) = under on
 
-pub abort_states : (s : ScenarioValue) (p : List Row) (n : ℕ) (a : AbortDef) → Obeys s → IsPrompt s p
-    → abort_line_at s.aborts n ≡ Some a → AbortState s (run_state s p).story.sent n a
-abort_states s [] n a o prompt at = inr (record { unsent = refl; kept = refl; tried = omega arith })
-abort_states s (row ∷ p) n a o prompt at =
-    next_state s p row n a o prompt at (whole s p o prompt.0) (abort_states s p n a o prompt.0 at)
+pub abort_states : (s : ScenarioValue) (p : List Row) (m : ℕ) (a : AbortDef) → Obeys s → IsPrompt s p
+    → abort_line_at s.aborts m ≡ Some a → AbortState s (run_state s p).story.sent m a
+abort_states s [] m a o prompt at = inr (record { unsent = refl; kept = refl; tried = omega arith })
+abort_states s (row ∷ p) m a o prompt at =
+    next_state s p row m a o prompt at (whole s p o prompt.0) (abort_states s p m a o prompt.0 at)
 
 -- ---- at the end
 
@@ -380,10 +380,10 @@ untimed true t e = refl
 untimed false t e = time_none t e
 
 -- Of the lines from number m on.
-all_done : (b : Sent) (dev m : ℕ) (lines : List AbortDef) (j : ℕ) (a : AbortDef)
-    → abort_since (own_aborts b dev m lines) ≡ None → abort_line_at lines (suc j) ≡ Some a → a.host ≡ dev
-    → is_done b (abort (m + j)) ≡ true
-all_done b dev m [] j a e at own = none_some a at
+all_done : (b : Sent) (dev m : ℕ) (lines : List AbortDef) (l : ℕ) (a : AbortDef)
+    → abort_since (own_aborts b dev m lines) ≡ None → abort_line_at lines (suc l) ≡ Some a → a.host ≡ dev
+    → is_done b (abort (m + l)) ≡ true
+all_done b dev m [] l a e at own = none_some a at
 all_done b dev m (x ∷ lines) zero a e at own = go (x.host == dev)
     (ap (λ (y : AbortDef). y.host == dev) (same_Some x a at) ∙ ap (λ (h : ℕ). h == dev) own ∙ eq_self dev) e
   where
@@ -396,10 +396,10 @@ all_done b dev m (x ∷ lines) zero a e at own = go (x.host == dev)
     go true z f = ap (λ (i : ℕ). is_done b (abort i)) here ∙ untimed (is_done b (abort m)) x.at
         (both_none (time_if (not (is_done b (abort m))) x.at) (abort_since (own_aborts b dev (m + 1) lines)) f).0
     go false z f = wrong' z
-all_done b dev m (x ∷ lines) (suc j) a e at own =
-    ap (λ (i : ℕ). is_done b (abort i)) there ∙ all_done b dev (m + 1) lines j a (go (x.host == dev) e) at own
+all_done b dev m (x ∷ lines) (suc l) a e at own =
+    ap (λ (i : ℕ). is_done b (abort i)) there ∙ all_done b dev (m + 1) lines l a (go (x.host == dev) e) at own
   where
-    there : m + suc j ≡ m + 1 + j
+    there : m + suc l ≡ m + 1 + l
     there = omega arith
 
     go : (q : Bool)
@@ -409,24 +409,24 @@ all_done b dev m (x ∷ lines) (suc j) a e at own =
         (both_none (time_if (not (is_done b (abort m))) x.at) (abort_since (own_aborts b dev (m + 1) lines)) f).1
     go false f = f
 
-done_one : (s : ScenarioValue) (b : Sent) (n : ℕ) (a : AbortDef) → item_want_time s b a.host ≡ None
-    → abort_line_at s.aborts n ≡ Some a → is_done b (abort n) ≡ true
+done_one : (s : ScenarioValue) (b : Sent) (m : ℕ) (a : AbortDef) → item_want_time s b a.host ≡ None
+    → abort_line_at s.aborts m ≡ Some a → is_done b (abort m) ≡ true
 done_one s b zero a e at = none_some a (sym (none_at s.aborts) ∙ at)
   where
     none_at : (lines : List AbortDef) → abort_line_at lines zero ≡ None
     none_at [] = refl
     none_at (x ∷ lines) = refl
-done_one s b (suc j) a e at =
+done_one s b (suc l) a e at =
     ap (λ (i : ℕ). is_done b (abort i)) here
-    ∙ all_done b a.host 1 s.aborts j a (both_none (abort_since (own_aborts b a.host 1 s.aborts)) _ e).0 at refl
+    ∙ all_done b a.host 1 s.aborts l a (both_none (abort_since (own_aborts b a.host 1 s.aborts)) _ e).0 at refl
   where
-    here : suc j ≡ 1 + j
+    here : suc l ≡ 1 + l
     here = omega arith
 
-not_waiting : (s : ScenarioValue) (b : Sent) (n : ℕ) (a : AbortDef) → is_done b (abort n) ≡ true → AbortState s b n a
-    → AbortEnd s b n a
-not_waiting s b n a e (inl h) = h
-not_waiting s b n a e (inr w) = wrong (sym e ∙ (λ i. w.unsent i || has_item b.over (abort n)) ∙ w.kept)
+not_waiting : (s : ScenarioValue) (b : Sent) (m : ℕ) (a : AbortDef) → is_done b (abort m) ≡ true → AbortState s b m a
+    → AbortEnd s b m a
+not_waiting s b m a e (inl h) = h
+not_waiting s b m a e (inr w) = wrong (sym e ∙ (λ i. w.unsent i || has_item b.over (abort m)) ∙ w.kept)
 
 -- No initiator wants the bus any more.
 abbrev pub AreUnwanted : ScenarioValue → List Row → Type 0
@@ -434,13 +434,13 @@ AreUnwanted s p =
     (dev latency : ℕ) → dev < 8 → Rattle.due_model.specs.story_model.specs.Samples.latency_of s dev ≡ Some latency
     → want_time s (run_state s p) dev ≡ None
 
-pub aborts_ended : (s : ScenarioValue) (p : List Row) (n : ℕ) (a : AbortDef) → Obeys s → IsPrompt s p → AreUnwanted s p
-    → abort_line_at s.aborts n ≡ Some a → AbortEnd s (run_state s p).story.sent n a
-aborts_ended s p n a o prompt quiet at =
+pub aborts_ended : (s : ScenarioValue) (p : List Row) (m : ℕ) (a : AbortDef) → Obeys s → IsPrompt s p → AreUnwanted s p
+    → abort_line_at s.aborts m ≡ Some a → AbortEnd s (run_state s p).story.sent m a
+aborts_ended s p m a o prompt quiet at =
     let k : RunState = run_state s p in
-    let line : IsAbortLine s a = abort_fits s n a (obeys_fits s o) at in
+    let line : IsAbortLine s a = abort_fits s m a (obeys_fits s o) at in
     let d = initiator_there s a.host line.host_is in
     let want : item_want_time s k.story.sent a.host ≡ None = sym (ap
     (λ (x : Bool). if x then item_want_time s k.story.sent a.host else ready_time (ready_of s k a.host)) line.host_is)
     ∙ quiet a.host d.latency line.host d.latency_is in
-    not_waiting s k.story.sent n a (done_one s k.story.sent n a want at) (abort_states s p n a o prompt at)
+    not_waiting s k.story.sent m a (done_one s k.story.sent m a want at) (abort_states s p m a o prompt at)

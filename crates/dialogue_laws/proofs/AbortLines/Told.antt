@@ -18,8 +18,8 @@ abbrev pub aborted : AbortDef → Event
 aborted a = Event.Aborted a.host a.target a.unit a.what
 
 abbrev pub ToldState : ScenarioValue → List Row → ℕ → AbortDef → Type 0
-ToldState s p n a = (((run_state s p).served ≡ Some (abort n)) × ((bus p).rst ≡ false))
-    ⊎ ((has_event (run_state s p).story.history (aborted a) ≡ true) ⊎ (is_cut s p n ≡ true))
+ToldState s p m a = (((run_state s p).served ≡ Some (abort m)) × ((bus p).rst ≡ false))
+    ⊎ ((has_event (run_state s p).story.history (aborted a) ≡ true) ⊎ (is_cut s p m ≡ true))
 
 same_kind_self : (x : AbortKind) → same_kind x x ≡ true
 same_kind_self (AbortKind.Tag n) = eq_self n
@@ -34,11 +34,11 @@ has_more [] history e h = h
 has_more (f ∷ shown) history e h =
     or_right (same_event f e) (has_event (shown ++ history) e) (has_more shown history e h)
 
-told_next : (s : ScenarioValue) (p : List Row) (row : Row) (n : ℕ) (a : AbortDef)
-    → Obeys s → IsPrompt s (row ∷ p) → abort_line_at s.aborts n ≡ Some a → Whole s p
-    → (has_item (run_state s p).story.sent.sent (abort n) ≡ true → ToldState s p n a)
-    → has_item (run_state s (row ∷ p)).story.sent.sent (abort n) ≡ true → ToldState s (row ∷ p) n a
-told_next s p row n a o prompt at was h sent = go nx.row_is
+told_next : (s : ScenarioValue) (p : List Row) (row : Row) (l : ℕ) (a : AbortDef)
+    → Obeys s → IsPrompt s (row ∷ p) → abort_line_at s.aborts l ≡ Some a → Whole s p
+    → (has_item (run_state s p).story.sent.sent (abort l) ≡ true → ToldState s p l a)
+    → has_item (run_state s (row ∷ p)).story.sent.sent (abort l) ≡ true → ToldState s (row ∷ p) l a
+told_next s p row l a o prompt at was h sent = go nx.row_is
   where
     q : List Row
     q = row ∷ p
@@ -67,10 +67,10 @@ told_next s p row n a o prompt at was h sent = go nx.row_is
     more : has_event k.story.history (aborted a) ≡ true → has_event (run_state s q).story.history (aborted a) ≡ true
     more e = has_more (row_events_by s k.story d row) k.story.history (aborted a) e
 
-    cut : is_cut s p n ≡ true → is_cut s q n ≡ true
-    cut e = or_left (is_cut s p n) (is_cut_by s p row n) e
+    cut : is_cut s p l ≡ true → is_cut s q l ≡ true
+    cut e = or_left (is_cut s p l) (is_cut_by s p row l) e
 
-    past : (has_event k.story.history (aborted a) ≡ true) ⊎ (is_cut s p n ≡ true) → ToldState s q n a
+    past : (has_event k.story.history (aborted a) ≡ true) ⊎ (is_cut s p l ≡ true) → ToldState s q l a
     past (inl e) = inr (inl (more e))
     past (inr e) = inr (inr (cut e))
 
@@ -79,29 +79,29 @@ told_next s p row n a o prompt at was h sent = go nx.row_is
 
     -- nothing is sent with the row
     still : (story_by_change s k.story d row).sent.sent ≡ k.story.sent.sent
-        → has_item k.story.sent.sent (abort n) ≡ true
-    still e = ap (λ (x : List Item). has_item x (abort n)) (sym (sent_is ∙ e)) ∙ sent
+        → has_item k.story.sent.sent (abort l) ≡ true
+    still e = ap (λ (x : List Item). has_item x (abort l)) (sym (sent_is ∙ e)) ∙ sent
 
     -- RST rises
-    cuts : k.served ≡ Some (abort n) → (bus p).rst ≡ false → (bus q).rst ≡ true → ToldState s q n a
+    cuts : k.served ≡ Some (abort l) → (bus p).rst ≡ false → (bus q).rst ≡ true → ToldState s q l a
     cuts served off on =
-        inr (inr (or_right (is_cut s p n) (is_cut_by s p row n)
-        ((λ i. is_served_for (served i) (abort n) && rises (off i) (on i)) ∙ self)))
+        inr (inr (or_right (is_cut s p l) (is_cut_by s p row l)
+        ((λ i. is_served_for (served i) (abort l) && rises (off i) (on i)) ∙ self)))
       where
-        self : (is_served_for (Some (abort n)) (abort n) && rises false true) ≡ true
-        self = ap (λ (x : Bool). x && rises false true) (eq_self n)
+        self : (is_served_for (Some (abort l)) (abort l) && rises false true) ≡ true
+        self = ap (λ (x : Bool). x && rises false true) (eq_self l)
 
-    under : (bus q).rst ≡ true → has_item k.story.sent.sent (abort n) ≡ true → ToldState s q n a
+    under : (bus q).rst ≡ true → has_item k.story.sent.sent (abort l) ≡ true → ToldState s q l a
     under on e = by (h e)
       where
-        by : ToldState s p n a → ToldState s q n a
+        by : ToldState s p l a → ToldState s q l a
         by (inl (served, off)) = cuts served off on
         by (inr t) = past t
 
     on_rst : d.change.after.rst ≡ true → (bus q).rst ≡ true
     on_rst on = ap (λ (x : Change). x.after.rst) (sym c) ∙ on
 
-    reset : d.change.after.rst ≡ true → ToldState s q n a
+    reset : d.change.after.rst ≡ true → ToldState s q l a
     reset on = under (on_rst on) (still (ap (λ (x : Bool). (if x then record k.story { link = None }
         else story_on_bus s k.story k.story.bus_state.connection d.next d row).sent.sent) on))
 
@@ -109,20 +109,20 @@ told_next s p row n a o prompt at was h sent = go nx.row_is
     unserved : k.story.bus_state.connection ≡ None → k.served ≡ None
     unserved con = (was.facts.items.items.apart con).1
 
-    not_served : {A : Type 0} → k.served ≡ None → ToldState s p n a
-        → ((has_event k.story.history (aborted a) ≡ true) ⊎ (is_cut s p n ≡ true) → A) → A
-    not_served none (inl (served, off)) f = none_some (abort n) (sym none ∙ served)
+    not_served : {A : Type 0} → k.served ≡ None → ToldState s p l a
+        → ((has_event k.story.history (aborted a) ≡ true) ⊎ (is_cut s p l ≡ true) → A) → A
+    not_served none (inl (served, off)) f = none_some (abort l) (sym none ∙ served)
     not_served none (inr t) f = f t
 
-    go : RowOf s k row → ToldState s q n a
+    go : RowOf s k row → ToldState s q l a
     go (row_apart con gone) = by d.change.after.rst refl
       where
-        by : (r : Bool) → d.change.after.rst ≡ r → ToldState s q n a
+        by : (r : Bool) → d.change.after.rst ≡ r → ToldState s q l a
         by true on = reset on
         by false off = not_served (unserved con) (h (still ((λ i.
             (if off i then record k.story { link = None } else story_on_bus s k.story (con i) (gone i) d row).sent.sent)
             ∙ (free_keeps s k.story d row).2))) past
-    go (begins m b) = by (has_item k.story.sent.sent (abort n)) refl m.reselected refl
+    go (begins m b) = by (has_item k.story.sent.sent (abort l)) refl m.reselected refl
       where
         none : k.served ≡ None
         none = unserved b.first.connection_is
@@ -138,25 +138,25 @@ told_next s p row n a o prompt at was h sent = go nx.row_is
         calm : (bus q).rst ≡ false
         calm = ap (λ (x : Change). x.after.rst) (sym c) ∙ b.first.calm
 
-        fresh : (w : Option Item) → has_item k.story.sent.sent (abort n) ≡ false
-            → has_item (sent_with k.story.sent w).sent (abort n) ≡ true → w ≡ Some (abort n)
+        fresh : (w : Option Item) → has_item k.story.sent.sent (abort l) ≡ false
+            → has_item (sent_with k.story.sent w).sent (abort l) ≡ true → w ≡ Some (abort l)
         fresh None e f = wrong (sym f ∙ e)
         fresh (Some i) e f =
-            elim (cases_Bool (same_item i (abort n))) [
-              | inl g ↦ ap (λ (y : Item). Some y) (item_is i (abort n) g)
-              | inr g ↦ wrong (sym f ∙ ap (λ (y : Bool). y || has_item k.story.sent.sent (abort n)) g ∙ e)
+            elim (cases_Bool (same_item i (abort l))) [
+              | inl g ↦ ap (λ (y : Item). Some y) (item_is i (abort l) g)
+              | inr g ↦ wrong (sym f ∙ ap (λ (y : Bool). y || has_item k.story.sent.sent (abort l)) g ∙ e)
             ]
 
-        by : (x : Bool) → has_item k.story.sent.sent (abort n) ≡ x → (r : Bool) → m.reselected ≡ r → ToldState s q n a
+        by : (x : Bool) → has_item k.story.sent.sent (abort l) ≡ x → (r : Bool) → m.reselected ≡ r → ToldState s q l a
         by true e r re = not_served none (h e) past
-        by false e true re = wrong (sym sent ∙ ap (λ (x : Sent). has_item x.sent (abort n)) (is ∙ ap
+        by false e true re = wrong (sym sent ∙ ap (λ (x : Sent). has_item x.sent (abort l)) (is ∙ ap
             (λ (x : Bool). if x then k.story.sent else sent_with k.story.sent (aim_of k.story.aims m.initiator)) re)
             ∙ e)
         by false e false re =
             let w = is ∙ ap
             (λ (x : Bool). if x then k.story.sent else sent_with k.story.sent (aim_of k.story.aims m.initiator)) re in
             let aim = fresh (aim_of k.story.aims m.initiator) e
-            (ap (λ (x : Sent). has_item x.sent (abort n)) (sym w) ∙ sent) in
+            (ap (λ (x : Sent). has_item x.sent (abort l)) (sym w) ∙ sent) in
             inl (
               served
                   ∙ ap (λ (x : Bool). if x then item_if (ready_of s k m.target) else aim_of k.story.aims m.initiator) re
@@ -175,7 +175,7 @@ told_next s p row n a o prompt at was h sent = go nx.row_is
         off : d.change.after.rst ≡ false
         off = ap (λ (y : Change). y.after.rst) g.row_is.change_is ∙ g.row_is.calm
 
-        by : ToldState s p n a → ToldState s q n a
+        by : ToldState s p l a → ToldState s q l a
         by (inl (served, quiet)) = inl (
           (λ i. served_after s k (g.row_is.connection_is i) (next_is i)) ∙ served,
           ap (λ (y : Change). y.after.rst) (sym c) ∙ off,
@@ -183,12 +183,12 @@ told_next s p row n a o prompt at was h sent = go nx.row_is
         by (inr t) = past t
     go (ends m g) = by d.change.after.rst refl
       where
-        by : (r : Bool) → d.change.after.rst ≡ r → ToldState s q n a
+        by : (r : Bool) → d.change.after.rst ≡ r → ToldState s q l a
         by true on = reset on
         by false off = told (h (still (λ i. (if off i then record k.story { link = None }
             else story_on_bus s k.story (g.connection_is i) (g.next_is i) d row).sent.sent)))
           where
-            shown : k.served ≡ Some (abort n) → (bus p).rst ≡ false
+            shown : k.served ≡ Some (abort l) → (bus p).rst ≡ false
                 → has_event (run_state s q).story.history (aborted a) ≡ true
             shown served quiet = by_item (was.facts.served m con quiet)
               where
@@ -216,7 +216,7 @@ told_next s p row n a o prompt at was h sent = go nx.row_is
 
                 by_item : IsServed s k m → has_event (run_state s q).story.history (aborted a) ≡ true
                 by_item (of_process id x e f) =
-                    wrong' (ap is_abort_item (same_Some (process id) (abort n) (sym e ∙ served)))
+                    wrong' (ap is_abort_item (same_Some (process id) (abort l) (sym e ∙ served)))
                   where
                     is_abort_item : Item → Bool
                     is_abort_item (process y) = false
@@ -228,8 +228,8 @@ told_next s p row n a o prompt at was h sent = go nx.row_is
                     (books.speaks m g.connection_is here) f.0 (λ z. ap (λ (v : LineSet). v.cd) pl.bus
                     ∙ (link_phase s p m r.stage (ap (λ (v : LineSet). v.msg) (sym pl.bus) ∙ z)).0) f.1 ph.0 in
                     let last : knows.link.last ≡ abortive = (was.facts.last m con quiet).1
-                    knows.link n knows.link_is served f.0 heard.last in
-                    let item : knows.link.item ≡ Some (abort n) = item_served s k m knows re ∙ served in
+                    knows.link l knows.link_is served f.0 heard.last in
+                    let item : knows.link.item ≡ Some (abort l) = item_served s k m knows re ∙ served in
                     let all : row_events_by s k.story d row ≡ aborted a ∷ [] = (λ i.
                     if off i then (if rises d.change.own.rst d.change.next.rst then Event.Reset row.dev ∷ [] else [])
                     else link_events s k.story (knows.link_is i) d)
@@ -239,28 +239,28 @@ told_next s p row n a o prompt at was h sent = go nx.row_is
                     ap (λ (y : List Event). has_event (y ++ k.story.history) (aborted a)) all
                     ∙ or_left (same_event (aborted a) (aborted a)) (has_event k.story.history (aborted a)) (same_self a)
 
-            told : ToldState s p n a → ToldState s q n a
+            told : ToldState s p l a → ToldState s q l a
             told (inl (served, quiet)) = inr (inl (shown served quiet))
             told (inr t) = past t
     go (under_reset on quiet) = reset on
 
-pub told_states : (s : ScenarioValue) (p : List Row) (n : ℕ) (a : AbortDef) → Obeys s → IsPrompt s p
-    → abort_line_at s.aborts n ≡ Some a → has_item (run_state s p).story.sent.sent (abort n) ≡ true → ToldState s p n a
-told_states s [] n a o prompt at sent = wrong' sent
-told_states s (row ∷ p) n a o prompt at sent =
-    told_next s p row n a o prompt at (whole s p o prompt.0) (λ e. told_states s p n a o prompt.0 at e) sent
+pub told_states : (s : ScenarioValue) (p : List Row) (m : ℕ) (a : AbortDef) → Obeys s → IsPrompt s p
+    → abort_line_at s.aborts m ≡ Some a → has_item (run_state s p).story.sent.sent (abort m) ≡ true → ToldState s p m a
+told_states s [] m a o prompt at sent = wrong' sent
+told_states s (row ∷ p) m a o prompt at sent =
+    told_next s p row m a o prompt at (whole s p o prompt.0) (λ e. told_states s p m a o prompt.0 at e) sent
 
-pub aborts_told : (s : ScenarioValue) (p : List Row) (n : ℕ) (a : AbortDef) → Obeys s
-    → IsPrompt s p → connection p ≡ None → abort_line_at s.aborts n ≡ Some a
-    → has_item (run_state s p).story.sent.sent (abort n) ≡ true
-    → (has_event (run_state s p).story.history (aborted a) ≡ true) ⊎ (is_cut s p n ≡ true)
-aborts_told s p n a o prompt apart at sent = by (told_states s p n a o prompt at sent)
+pub aborts_told : (s : ScenarioValue) (p : List Row) (m : ℕ) (a : AbortDef) → Obeys s
+    → IsPrompt s p → connection p ≡ None → abort_line_at s.aborts m ≡ Some a
+    → has_item (run_state s p).story.sent.sent (abort m) ≡ true
+    → (has_event (run_state s p).story.history (aborted a) ≡ true) ⊎ (is_cut s p m ≡ true)
+aborts_told s p m a o prompt apart at sent = by (told_states s p m a o prompt at sent)
   where
     was : Whole s p
     was = whole s p o prompt
 
-    by : ToldState s p n a → (has_event (run_state s p).story.history (aborted a) ≡ true) ⊎ (is_cut s p n ≡ true)
-    by (inl (served, off)) = none_some (abort n)
+    by : ToldState s p m a → (has_event (run_state s p).story.history (aborted a) ≡ true) ⊎ (is_cut s p m ≡ true)
+    by (inl (served, off)) = none_some (abort m)
         (sym (was.facts.items.items.apart ((run_state_plain s p was.stood.standing.devices).connection ∙ apart)).1
         ∙ served)
     by (inr t) = t

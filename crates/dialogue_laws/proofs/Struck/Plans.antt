@@ -12,25 +12,25 @@ use proofs.Names.{is_struck_phase, not_message_out}
 abbrev pub TakesBytes : LineSet → Type 0
 TakesBytes b = (b.io ≡ false) × (b.msg ≡ false)
 
-plan_knows : (w : Hearing) (l : Leaving) (p : Plan) (was : Bool) → TakesBytes w.change.before
-    → changes_phase w.change ≡ false → (w.fault ≡ true → w.crosses ≡ false) → (was ≡ true → p.struck ≡ true)
-    → (w.fault || was) ≡ true → (plan_after w l p).struck ≡ true
-plan_knows w l p was t ep apart h e =
-    ap (λ (q : Bool). (if q then plan_in_phase w l p else if w.crosses then plan_with_byte w p
-    else if w.fault && not w.change.before.io then struck_plan p else p).struck) ep
+plan_knows : (w : Hearing) (l : Leaving) (a : Plan) (was : Bool) → TakesBytes w.change.before
+    → changes_phase w.change ≡ false → (w.fault ≡ true → w.crosses ≡ false) → (was ≡ true → a.struck ≡ true)
+    → (w.fault || was) ≡ true → (plan_after w l a).struck ≡ true
+plan_knows w l a was t ep apart h e =
+    ap (λ (q : Bool). (if q then plan_in_phase w l a else if w.crosses then plan_with_byte w a
+    else if w.fault && not w.change.before.io then struck_plan a else a).struck) ep
     ∙ go w.crosses refl w.fault refl
   where
-    byte : p.struck ≡ true → (plan_with_byte w p).struck ≡ true
-    byte s = ap (λ (q : Bool).
-        (if q then Rattle.due_model.specs.dialogue_model.specs.Exchange.plan_after_message p w.is_last w.out
-        else p).struck) (not_message_out w.change.before t.1)
-        ∙ s
+    byte : a.struck ≡ true → (plan_with_byte w a).struck ≡ true
+    byte g = ap (λ (q : Bool).
+        (if q then Rattle.due_model.specs.dialogue_model.specs.Exchange.plan_after_message a w.is_last w.out
+        else a).struck) (not_message_out w.change.before t.1)
+        ∙ g
 
     go : (c : Bool) → w.crosses ≡ c → (f : Bool) → w.fault ≡ f
-        → (if c then plan_with_byte w p else if f && not w.change.before.io then struck_plan p else p).struck ≡ true
+        → (if c then plan_with_byte w a else if f && not w.change.before.io then struck_plan a else a).struck ≡ true
     go true ec true ef = wrong (sym ec ∙ apart ef)
     go true ec false ef = byte (h (sym (ap (λ (q : Bool). q || was) ef) ∙ e))
-    go false ec true ef = ap (λ (q : Bool). (if not q then struck_plan p else p).struck) t.0
+    go false ec true ef = ap (λ (q : Bool). (if not q then struck_plan a else a).struck) t.0
     go false ec false ef = h (sym (ap (λ (q : Bool). q || was) ef) ∙ e)
 
 four : (a b c d : Bool) → (a && b && c && d) ≡ true → (a ≡ true) × (b ≡ true) × (c ≡ true) × (d ≡ true)

@@ -33,14 +33,14 @@ refuses_as x y _ e h = h
 
 -- ---- the phase stays
 
-cause_said : (q last : Bool) (m : Option MsgOut) (p : Plan)
-    → (if q then plan_after_message p last m else p).cause ≡ p.cause
-cause_said true true m p = refl
-cause_said _ _ m p = refl
+cause_said : (q last : Bool) (m : Option MsgOut) (l : Plan)
+    → (if q then plan_after_message l last m else l).cause ≡ l.cause
+cause_said true true m l = refl
+cause_said _ _ m l = refl
 
-cause_struck : (q : Bool) (p : Plan) → (if q then struck_plan p else p).cause ≡ p.cause
-cause_struck true p = refl
-cause_struck false p = refl
+cause_struck : (q : Bool) (l : Plan) → (if q then struck_plan l else l).cause ≡ l.cause
+cause_struck true l = refl
+cause_struck false l = refl
 
 -- What the initiator says, and why, stays.
 record SameWords (x y : Exchange) : Type 0 where

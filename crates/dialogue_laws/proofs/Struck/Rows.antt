@@ -45,8 +45,8 @@ unstruck (row ∷ p) e = kind (λ z. unstruck p z) (is_fault row.kind) refl
     turned was true z = refl
     turned was false z = shaken was (rises c.before.req c.after.req) (rises c.before.ack c.after.ack) z
 
-    on : before → (n : Option Connection) → ((handshakes_on n c row.time (handshakes p)).requests == 0) ≡ true
-        → (handshakes_on n c row.time (handshakes p)).struck ≡ false
+    on : before → (o : Option Connection) → ((handshakes_on o c row.time (handshakes p)).requests == 0) ≡ true
+        → (handshakes_on o c row.time (handshakes p)).struck ≡ false
     on was None z = refl
     on was (Some n) z = turned was (changes_phase c) z
 

@@ -14,11 +14,11 @@ use proofs.Dues.Ends.{sight_with, pace_with, offering_with, answering_with, targ
 
 -- By pulses or byte by byte, the target begins with the first REQ.
 begins_with_req :
-    (v : Sight) (me : Myself) (p : Pace) (g : Offering) (q : Bool) → me.own.req ≡ false → v.bus.ack ≡ false
-    → (if q then target_pulse v no_handshakes me p g else target_handshake v no_handshakes me g) ≡ first_req v me g
-begins_with_req v me p g true e f =
-    λ i. if e i then req_pulse_end v me p else first_req v me g
-begins_with_req v me p g false e f =
+    (v : Sight) (me : Myself) (a : Pace) (g : Offering) (q : Bool) → me.own.req ≡ false → v.bus.ack ≡ false
+    → (if q then target_pulse v no_handshakes me a g else target_handshake v no_handshakes me g) ≡ first_req v me g
+begins_with_req v me a g true e f =
+    λ i. if e i then req_pulse_end v me a else first_req v me g
+begins_with_req v me a g false e f =
     λ i. if e i then (if v.bus.ack then req_negation v me g else None) else if f i then None else first_req v me g
 
 pub selected_target : (s : ScenarioValue) (p : List Row) (n : Connection) (lat : ℕ)
@@ -83,15 +83,15 @@ offering_target s p n atn msg cd y lat h =
     else if h.some i then first_byte v me g else req_assertion me (own_time p n.target + 55))
 
 -- The initiator waits, but for BSY and for a byte that it still drives.
-waits_idle : (v : Sight) (me : Myself) (p : Pace) (a : Answering) (q : Bool) → me.own.ack ≡ false
-    → v.bus.req ≡ false → (me.own.data_bits == 0) ≡ true → (if q then initiator_pulse v no_handshakes me p a
-    else if owes_release v me then byte_release me p a else initiator_handshake v no_handshakes me a) ≡ None
-waits_idle v me p a true e f d = λ i. if e i then ack_pulse_end v me p else if d i then None else byte_release me p a
-waits_idle v me p a false e f d = (λ i. if v.bus.io && not (d i) then byte_release me p a
+waits_idle : (v : Sight) (me : Myself) (x : Pace) (a : Answering) (q : Bool) → me.own.ack ≡ false
+    → v.bus.req ≡ false → (me.own.data_bits == 0) ≡ true → (if q then initiator_pulse v no_handshakes me x a
+    else if owes_release v me then byte_release me x a else initiator_handshake v no_handshakes me a) ≡ None
+waits_idle v me x a true e f d = λ i. if e i then ack_pulse_end v me x else if d i then None else byte_release me x a
+waits_idle v me x a false e f d = (λ i. if v.bus.io && not (d i) then byte_release me x a
     else if e i then (if v.bus.req then None else ack_negation v me)
     else if not (f i) then None else if v.bus.io then received_byte_ack v no_handshakes me a
     else if me.own.data_bits == 0 then initiator_byte v me a else sent_byte_ack v me)
-    ∙ ap (λ (q : Bool). if q then byte_release me p a else None) (and_false v.bus.io)
+    ∙ ap (λ (q : Bool). if q then byte_release me x a else None) (and_false v.bus.io)
 
 idle_initiator : (s : ScenarioValue) (p : List Row) (n : Connection) (atn msg cd io : Bool) (y lat : ℕ)
     → handshakes p ≡ no_handshakes → initiator_plain s p n true (ends false false atn 0 msg cd io false y) lat ≡ None
@@ -122,13 +122,13 @@ pub turned_initiator : (s : ScenarioValue) (p : List Row) (n : Connection) (atn 
     → Turning s p n atn 0 msg cd → initiator_plain s p n true (ends false false atn 0 msg cd true false 0) lat ≡ None
 turned_initiator s p n atn msg cd lat h = idle_initiator s p n atn msg cd true 0 lat h.quiet
 
-releases_byte : (v : Sight) (me : Myself) (p : Pace) (a : Answering) (q : Bool) → me.own.ack ≡ false
-    → v.bus.io ≡ true → (me.own.data_bits == 0) ≡ false → (if q then initiator_pulse v no_handshakes me p a
-    else if owes_release v me then byte_release me p a else initiator_handshake v no_handshakes me a)
-    ≡ byte_release me p a
-releases_byte v me p a true e f d = λ i. if e i then ack_pulse_end v me p else if d i then None else byte_release me p a
-releases_byte v me p a false e f d =
-    λ i. if f i && not (d i) then byte_release me p a else initiator_handshake v no_handshakes me a
+releases_byte : (v : Sight) (me : Myself) (x : Pace) (a : Answering) (q : Bool) → me.own.ack ≡ false
+    → v.bus.io ≡ true → (me.own.data_bits == 0) ≡ false → (if q then initiator_pulse v no_handshakes me x a
+    else if owes_release v me then byte_release me x a else initiator_handshake v no_handshakes me a)
+    ≡ byte_release me x a
+releases_byte v me x a true e f d = λ i. if e i then ack_pulse_end v me x else if d i then None else byte_release me x a
+releases_byte v me x a false e f d =
+    λ i. if f i && not (d i) then byte_release me x a else initiator_handshake v no_handshakes me a
 
 pub owing_initiator : (s : ScenarioValue) (p : List Row) (n : Connection) (atn : Bool) (x : ℕ) (msg cd : Bool) (lat : ℕ)
     → Turning s p n atn x msg cd → (x == 0) ≡ false

@@ -203,9 +203,9 @@ with_books v row w h17 h25 h26 =
       ),
     )
 
-kept_if : (n : ℕ) (q : Bool) (x : Bool) → x ≡ true → (if q then true else x) ≡ true
-kept_if n true x e = refl
-kept_if n false x e = e
+kept_if : (m : ℕ) (q : Bool) (x : Bool) → x ≡ true → (if q then true else x) ≡ true
+kept_if m true x e = refl
+kept_if m false x e = e
 
 pub obeys_linked : (p : List Row) (row : Row) (n : Connection) (e : EndLines) (c : Change)
     → Linked p n e → change_of p row ≡ c → c.after.rst ≡ false → KeepsBooksIn p row

@@ -93,14 +93,14 @@ stays p n e t d bit h =
 phase_stays : (p q : List Row) (n : Connection) (e : EndLines) → Stays p q n → InPhase p n e → InPhase q n e
 phase_stays p q n e w h = record {
   begun_is = w.begun_is ∙ h.begun_is;
-  began = subst (λ k. n.began ≤ phase_time k) (sym w.times_are) h.began;
+  began = subst (λ d. n.began ≤ phase_time d) (sym w.times_are) h.began;
   known = h.known;
   asks = h.asks;
-  owes = ap (λ (k : Duty). fits_duty k e.atn e.msg) w.duty_is ∙ h.owes;
+  owes = ap (λ (d : Duty). fits_duty d e.atn e.msg) w.duty_is ∙ h.owes;
 }
 
 pub none_device : (o : Option ℕ) (d : ℕ) → o ≡ None → is_of_device o d ≡ true → ⊥
-none_device o d e z = let w = sym (ap (λ (k : Option ℕ). is_of_device k d) e) ∙ z in cc
+none_device o d e z = let w = sym (ap (λ (x : Option ℕ). is_of_device x d) e) ∙ z in cc
 
 driven_stays : (a b c a' b' c' : ℕ) (req ack io : Bool) (x : ℕ) → a' ≡ a → b' ≡ b → c' ≡ c
     → HasDriven a b c req ack io x → HasDriven a' b' c' req ack io x
@@ -342,7 +342,7 @@ ahead_stays s p n io req ack atn x y d bit always lt out h a =
 
 pub some_device : (o : Option ℕ) (d : ℕ) → is_of_device o d ≡ true → is_some o ≡ true
 some_device None d e = absurd cc
-some_device (Some k) d e = refl
+some_device (Some m) d e = refl
 
 strikes_pulsed_in : (s : ScenarioValue) (p : List Row) (n : Connection) (req ack atn : Bool) (y bit : ℕ)
     → CalmStanding s p → is_of_device (receiver p) n.initiator ≡ true → Pulsing s p n true req ack atn 0 y

@@ -17,13 +17,13 @@ use proofs.Pulses.Dues.{pulsed_initiator_out}
 choice_time : (a b c d f : Bool) (ta tb tc td : ℕ) (la lb lc ld : LineSet) (x : Due)
     → target_choice a b c d f (due_at ta la) (due_at tb lb) (due_at tc lc) (due_at td ld) ≡ Some x
     → target_time a b c d f ta tb tc td ≡ Some x.time
-choice_time true b c d f ta tb tc td la lb lc ld x e = ap (λ (k : ℕ). Some k) (sym (is_at ta la x e).time_is)
-choice_time false true c d f ta tb tc td la lb lc ld x e = ap (λ (k : ℕ). Some k) (sym (is_at tb lb x e).time_is)
-choice_time false false true true f ta tb tc td la lb lc ld x e = ap (λ (k : ℕ). Some k) (sym (is_at tc lc x e).time_is)
+choice_time true b c d f ta tb tc td la lb lc ld x e = ap (λ (m : ℕ). Some m) (sym (is_at ta la x e).time_is)
+choice_time false true c d f ta tb tc td la lb lc ld x e = ap (λ (m : ℕ). Some m) (sym (is_at tb lb x e).time_is)
+choice_time false false true true f ta tb tc td la lb lc ld x e = ap (λ (m : ℕ). Some m) (sym (is_at tc lc x e).time_is)
 choice_time false false true false f ta tb tc td la lb lc ld x e = absurd (none-some x e)
 choice_time false false false d true ta tb tc td la lb lc ld x e = absurd (none-some x e)
 choice_time false false false d false ta tb tc td la lb lc ld x e =
-    ap (λ (k : ℕ). Some k) (sym (is_at td ld x e).time_is)
+    ap (λ (m : ℕ). Some m) (sym (is_at td ld x e).time_is)
 
 -- What is due at a time.
 pub record DueAt (o : Option Due) (time : ℕ) : Type 0 where
@@ -44,42 +44,42 @@ choice_due false false true false f ta tb tc td la lb lc ld u e = absurd (none_n
 choice_due false false false d true ta tb tc td la lb lc ld u e = absurd (none_number u e)
 choice_due false false false d false ta tb tc td la lb lc ld u e = at_lines td u ld e
 
-in_choice_time : (a w s n : Bool) (ta tb : ℕ) (c d e : ℕ) (la lb : LineSet) (x : Due)
+in_choice_time : (a w q r : Bool) (ta tb : ℕ) (c d e : ℕ) (la lb : LineSet) (x : Due)
     → initiator_choice a w (due_at ta la) (due_at tb lb) None ≡ Some x
-    → initiator_time a w true s n ta tb c d e ≡ Some x.time
-in_choice_time true w s n ta tb c d e la lb x f = ap (λ (k : ℕ). Some k) (sym (is_at ta la x f).time_is)
-in_choice_time false true s n ta tb c d e la lb x f = ap (λ (k : ℕ). Some k) (sym (is_at tb lb x f).time_is)
-in_choice_time false false s n ta tb c d e la lb x f = absurd (none-some x f)
+    → initiator_time a w true q r ta tb c d e ≡ Some x.time
+in_choice_time true w q r ta tb c d e la lb x f = ap (λ (m : ℕ). Some m) (sym (is_at ta la x f).time_is)
+in_choice_time false true q r ta tb c d e la lb x f = ap (λ (m : ℕ). Some m) (sym (is_at tb lb x f).time_is)
+in_choice_time false false q r ta tb c d e la lb x f = absurd (none-some x f)
 
-in_choice_due : (a w s n : Bool) (ta tb : ℕ) (c d e : ℕ) (la lb : LineSet) (u : ℕ)
-    → initiator_time a w true s n ta tb c d e ≡ Some u
+in_choice_due : (a w q r : Bool) (ta tb : ℕ) (c d e : ℕ) (la lb : LineSet) (u : ℕ)
+    → initiator_time a w true q r ta tb c d e ≡ Some u
     → DueAt (initiator_choice a w (due_at ta la) (due_at tb lb) None) u
-in_choice_due true w s n ta tb c d e la lb u f = at_lines ta u la f
-in_choice_due false true s n ta tb c d e la lb u f = at_lines tb u lb f
-in_choice_due false false s n ta tb c d e la lb u f = absurd (none_number u f)
+in_choice_due true w q r ta tb c d e la lb u f = at_lines ta u la f
+in_choice_due false true q r ta tb c d e la lb u f = at_lines tb u lb f
+in_choice_due false false q r ta tb c d e la lb u f = absurd (none_number u f)
 
-abbrev out_choice : (a w s n : Bool) → Option Due → Option Due → Option Due → Option Due → Option Due
-out_choice a w s n p q r t = initiator_choice a w p (if s then q else r) (if n then None else t)
+abbrev out_choice : (a w b c : Bool) → Option Due → Option Due → Option Due → Option Due → Option Due
+out_choice a w b c o q r t = initiator_choice a w o (if b then q else r) (if c then None else t)
 
-out_choice_time : (a w s n : Bool) (ta b tc td te : ℕ) (la lc ld le : LineSet) (x : Due)
-    → out_choice a w s n (due_at ta la) (due_at tc lc) (due_at td ld) (due_at te le) ≡ Some x
-    → initiator_time a w false s n ta b tc td te ≡ Some x.time
-out_choice_time true w s n ta b tc td te la lc ld le x f = ap (λ (k : ℕ). Some k) (sym (is_at ta la x f).time_is)
-out_choice_time false true true n ta b tc td te la lc ld le x f = ap (λ (k : ℕ). Some k) (sym (is_at tc lc x f).time_is)
-out_choice_time false true false n ta b tc td te la lc ld le x f =
-    ap (λ (k : ℕ). Some k) (sym (is_at td ld x f).time_is)
-out_choice_time false false s true ta b tc td te la lc ld le x f = absurd (none-some x f)
-out_choice_time false false s false ta b tc td te la lc ld le x f =
-    ap (λ (k : ℕ). Some k) (sym (is_at te le x f).time_is)
+out_choice_time : (a w q r : Bool) (ta b tc td te : ℕ) (la lc ld le : LineSet) (x : Due)
+    → out_choice a w q r (due_at ta la) (due_at tc lc) (due_at td ld) (due_at te le) ≡ Some x
+    → initiator_time a w false q r ta b tc td te ≡ Some x.time
+out_choice_time true w q r ta b tc td te la lc ld le x f = ap (λ (m : ℕ). Some m) (sym (is_at ta la x f).time_is)
+out_choice_time false true true r ta b tc td te la lc ld le x f = ap (λ (m : ℕ). Some m) (sym (is_at tc lc x f).time_is)
+out_choice_time false true false r ta b tc td te la lc ld le x f =
+    ap (λ (m : ℕ). Some m) (sym (is_at td ld x f).time_is)
+out_choice_time false false q true ta b tc td te la lc ld le x f = absurd (none-some x f)
+out_choice_time false false q false ta b tc td te la lc ld le x f =
+    ap (λ (m : ℕ). Some m) (sym (is_at te le x f).time_is)
 
-out_choice_due : (a w s n : Bool) (ta b tc td te : ℕ) (la lc ld le : LineSet) (u : ℕ)
-    → initiator_time a w false s n ta b tc td te ≡ Some u
-    → DueAt (out_choice a w s n (due_at ta la) (due_at tc lc) (due_at td ld) (due_at te le)) u
-out_choice_due true w s n ta b tc td te la lc ld le u f = at_lines ta u la f
-out_choice_due false true true n ta b tc td te la lc ld le u f = at_lines tc u lc f
-out_choice_due false true false n ta b tc td te la lc ld le u f = at_lines td u ld f
-out_choice_due false false s true ta b tc td te la lc ld le u f = absurd (none_number u f)
-out_choice_due false false s false ta b tc td te la lc ld le u f = at_lines te u le f
+out_choice_due : (a w q r : Bool) (ta b tc td te : ℕ) (la lc ld le : LineSet) (u : ℕ)
+    → initiator_time a w false q r ta b tc td te ≡ Some u
+    → DueAt (out_choice a w q r (due_at ta la) (due_at tc lc) (due_at td ld) (due_at te le)) u
+out_choice_due true w q r ta b tc td te la lc ld le u f = at_lines ta u la f
+out_choice_due false true true r ta b tc td te la lc ld le u f = at_lines tc u lc f
+out_choice_due false true false r ta b tc td te la lc ld le u f = at_lines td u ld f
+out_choice_due false false q true ta b tc td te la lc ld le u f = absurd (none_number u f)
+out_choice_due false false q false ta b tc td te la lc ld le u f = at_lines te u le f
 
 -- ---- of the rows
 

@@ -23,7 +23,7 @@ all_answered s p n io req ack atn x y h none =
     let w = zero_of (length (handshakes p).waiting) none in
     let u = h.facts.counts in
     let a : (handshakes p).requests ≡ (handshakes p).answers = omega arith in
-    ap (λ (k : Pulses). k.req) h.pulses_are ∙ a ∙ sym (ap (λ (k : Pulses). k.ack) h.pulses_are)
+    ap (λ (z : Pulses). z.req) h.pulses_are ∙ a ∙ sym (ap (λ (z : Pulses). z.ack) h.pulses_are)
 
 -- The bus is not freed in a data phase.
 not_freed : (p : List Row) (n : Connection) (atn io : Bool) (x y t : ℕ)
@@ -44,7 +44,7 @@ pub pulsed_leaves_in : (s : ScenarioValue) (p : List Row) (n : Connection) (atn 
     → (length (handshakes p).waiting == 0) ≡ true → (handshakes p).last_req + (times_here p).hold ≤ t
     → may_leave false false true atn o ≡ true → KeepsBooksIn p (row_of_lines t n.target (lines_by v true l o))
     → NextLinked s p (row_of_lines t n.target (lines_by v true l o)) n
-pulsed_leaves_in s p n atn y t v l o always order h idle held k books = go o k books
+pulsed_leaves_in s p n atn y t v l o always order h idle held g books = go o g books
   where
     hold_test : is_after (pulses p).last_req (times_here p).hold t ≡ true
     hold_test = ap (λ (w : Pulses). is_after w.last_req (times_here p).hold t) h.pulses_are ∙ le-leb _ t held
@@ -94,30 +94,30 @@ pulsed_leaves_in s p n atn y t v l o always order h idle held k books = go o k b
     go : (o : Option Phase) → may_leave false false true atn o ≡ true
         → KeepsBooksIn p (row_of_lines t n.target (lines_by v true l o))
         → NextLinked s p (row_of_lines t n.target (lines_by v true l o)) n
-    go None k books = freed atn k h.linked
+    go None g books = freed atn g h.linked
       where
         freed : (q : Bool) → not (true && q) ≡ true → Linked p n (ends false false q 0 false false true false y)
             → NextLinked s p (row_of_lines t n.target none) n
-        freed true k l = absurd cc
-        freed false k l =
+        freed true g l = absurd cc
+        freed false g l =
             let c = freeing_change p n (ends false false false 0 false false true false y) t l refl in
             absurd (not_freed p n false true 0 y t l books (ap (λ (w : Change). w.after.bsy) c)
             (ap (λ (w : Change). w.after.rst) c))
-    go (Some Phase.DataOut) k books =
-        let w = and_parts (not (same_phases false false true false false false)) (implies (true && atn) false) k in
+    go (Some Phase.DataOut) g books =
+        let w = and_parts (not (same_phases false false true false false false)) (implies (true && atn) false) g in
         to_out false false refl refl w.1 books
-    go (Some Phase.DataIn) k books = absurd cc
-    go (Some Phase.Command) k books =
-        let w = and_parts (not (same_phases false false true false true false)) (implies (true && atn) false) k in
+    go (Some Phase.DataIn) g books = absurd cc
+    go (Some Phase.Command) g books =
+        let w = and_parts (not (same_phases false false true false true false)) (implies (true && atn) false) g in
         to_out false true refl refl w.1 books
-    go (Some Phase.Status) k books =
-        let w = and_parts (not (same_phases false false true false true true)) (implies (true && atn) false) k in
+    go (Some Phase.Status) g books =
+        let w = and_parts (not (same_phases false false true false true true)) (implies (true && atn) false) g in
         to_in false true _ refl refl w.1 books
-    go (Some Phase.MessageOut) k books =
-        let w = and_parts (not (same_phases false false true true true false)) (implies (true && atn) true) k in
+    go (Some Phase.MessageOut) g books =
+        let w = and_parts (not (same_phases false false true true true false)) (implies (true && atn) true) g in
         to_out true true refl refl w.1 books
-    go (Some Phase.MessageIn) k books =
-        let w = and_parts (not (same_phases false false true true true true)) (implies (true && atn) false) k in
+    go (Some Phase.MessageIn) g books =
+        let w = and_parts (not (same_phases false false true true true true)) (implies (true && atn) false) g in
         to_in true true _ refl refl w.1 books
 
 -- From DATA OUT, the initiator driving its last byte still.
@@ -138,7 +138,7 @@ to_initiator s p n x msg' cd' t other differs known idle h =
     let terms = terms_of p row n e f (target_side e) (target_side f) hp.linked m in
     let ph : changes_phase c ≡ true = ap not differs in
     let eg : (dialogue q).heard.now.agreement ≡ (dialogue p).heard.now.agreement =
-    ap (λ (k : Dialogue). k.heard.now.agreement) terms.dialogue_is
+    ap (λ (d : Dialogue). d.heard.now.agreement) terms.dialogue_is
     ∙ ap (λ (b : Bool). (if b then phase_begins (dialogue p) else dialogue p).heard.now.agreement) ph in
     let eo : (own_of q n.initiator).ack ≡ (own_of p n.initiator).ack = own_ack_other
     p row n.initiator hp.linked.apart in
@@ -175,7 +175,7 @@ to_initiator s p n x msg' cd' t other differs known idle h =
               else Some (drives_at (handshakes p) (times_here p) (own_of p n.initiator).ack lat))
               else if x == 0 then None else Some ((own_of p n.initiator).ack + (times_here p).hold + lat))) idle
               (later_initiator_out s p row n false false false x h lat there))) in
-              let k = ap (λ (a : Agreement). (times_of a.period).hold) eg in
+              let d = ap (λ (a : Agreement). (times_of a.period).hold) eg in
               omega arith;
         };
       });
@@ -192,19 +192,19 @@ still_drives p n x t h =
     drives_other p t n.target none n.initiator h.apart ∙ h.initiator in
     let after = bus_two q n.initiator n.target h.apart h.initiator_below h.target_below
     (λ d lt n1 n2. drives_other p t n.target none d n2 ∙ h.rest d lt n1 n2) ∙ (λ i. union (holds i) (own i)) in
-    (ap (λ (k : LineSet). k.bsy) after, ap (λ (k : LineSet). k.rst) after)
+    (ap (λ (l : LineSet). l.bsy) after, ap (λ (l : LineSet). l.rst) after)
 
 pub pulsed_leaves_out :
     (s : ScenarioValue) (p : List Row) (n : Connection) (x t : ℕ) (v : Serving) (l : Leaving) (o : Option Phase)
     → (length (handshakes p).waiting == 0) ≡ true → is_to_initiator o ≡ true
     → PulseHere s p (row_of_lines t n.target (lines_by v false l o)) n false false false false x 0
     → NextLinked s p (row_of_lines t n.target (lines_by v false l o)) n
-pulsed_leaves_out s p n x t v l None idle k h = absurd (held x h)
+pulsed_leaves_out s p n x t v l None idle e h = absurd (held x h)
   where
     held : (x : ℕ) → PulseHere s p (row_of_lines t n.target none) n false false false false x 0 → ⊥
     held x h =
         let low = still_drives p n x t h.pulsing.linked in
         not_freed p n false false x 0 t h.pulsing.linked h.books low.0 low.1
-pulsed_leaves_out s p n x t v l (Some Phase.Status) idle k h = to_initiator s p n x false true t refl refl refl idle h
-pulsed_leaves_out s p n x t v l (Some Phase.MessageIn) idle k h = to_initiator s p n x true true t refl refl refl idle h
-pulsed_leaves_out s p n x t v l _ idle k h = absurd cc
+pulsed_leaves_out s p n x t v l (Some Phase.Status) idle e h = to_initiator s p n x false true t refl refl refl idle h
+pulsed_leaves_out s p n x t v l (Some Phase.MessageIn) idle e h = to_initiator s p n x true true t refl refl refl idle h
+pulsed_leaves_out s p n x t v l _ idle e h = absurd cc

@@ -26,10 +26,10 @@ may_pulse : (s : ScenarioValue) (p : List Row) (n : Connection) (atn io : Bool) 
 may_pulse s p n atn io y t dev c h off pu = record {
   asks = may_ask_by s p n atn false false io y t dev c h;
   offset = off;
-  period = ap (λ (k : Pulses). is_after k.last_req (times_here p).period t) pu;
+  period = ap (λ (x : Pulses). is_after x.last_req (times_here p).period t) pu;
   negation =
-      ap (λ (k : Pulses). not (is_some k.last_req) || nat_le ((line_times p).req + (times_here p).negation) t) pu;
-  room = ap (λ (k : Pulses). offset_here p == 255 || nat_lt k.req (k.ack + offset_here p)) pu
+      ap (λ (x : Pulses). not (is_some x.last_req) || nat_le ((line_times p).req + (times_here p).negation) t) pu;
+  room = ap (λ (x : Pulses). offset_here p == 255 || nat_lt x.req (x.ack + offset_here p)) pu
       ∙ ap (λ (b : Bool). offset_here p == 255 || b) (some_room (offset_here p) off) ∙ or_true (offset_here p == 255);
 }
   where
@@ -86,14 +86,14 @@ starts_in s p n atn y t h off byte quiet none books =
         facts = first_facts p q n t refl off' eh r.req_is;
         driven = λ lat there.
             let u = data_by s p row h.always h.order in
-            let w : (handshakes q).last_req ≡ t = ap (λ (k : Handshakes). k.last_req) eh in
+            let w : (handshakes q).last_req ≡ t = ap (λ (x : Handshakes). x.last_req) eh in
             omega arith;
         receives = λ d. receives_if true (receiver q) n.initiator d r.receiver_is;
         received = λ a b. absurd cc;
       }) (record {
         target = λ lat there. some_no_sooner t _ (let w = r.req_is in omega arith);
         initiator = λ lat there. subst
-            (λ k. NoSooner t (initiator_next true false atn 0 k (line_times q).ack (line_times q).atn (times_here q)
+            (λ x. NoSooner t (initiator_next true false atn 0 x (line_times q).ack (line_times q).atn (times_here q)
             (lag_by (host_of s n.initiator)) (own_of q n.initiator).ack (given_here s q) lat)) (sym eh)
             (some_no_sooner t _ (omega arith));
       });
@@ -136,11 +136,11 @@ starts_out s p n atn t h off byte quiet none books =
         facts = first_facts p q n t refl off' eh r.req_is;
         driven = λ some lat there. let w = (λ i. (sym eh i).answers == 0 && 0 == 0) ∙ some in absurd cc;
         receives = λ d. receives_if false (receiver q) n.target d r.receiver_is;
-        received = λ a b. let w = sym (ap (λ (k : Option ℕ). is_some k) r.receiver_is) ∙ b in absurd cc;
+        received = λ a b. let w = sym (ap (λ (o : Option ℕ). is_some o) r.receiver_is) ∙ b in absurd cc;
       }) (record {
         target = λ lat there. some_no_sooner t _ (let w = r.req_is in omega arith);
         initiator = λ lat there. subst
-            (λ k. NoSooner t (initiator_next false false atn 0 k (line_times q).ack (line_times q).atn
+            (λ o. NoSooner t (initiator_next false false atn 0 o (line_times q).ack (line_times q).atn
             (times_here q) (lag_by (host_of s n.initiator)) (own_of q n.initiator).ack (given_here s q) lat))
             (sym eh) (go (0 == given_here s q)
             (max (answers_at (asked t no_handshakes) (line_times q).ack (lag_by (host_of s n.initiator)) (times_here q))

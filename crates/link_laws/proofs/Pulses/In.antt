@@ -30,12 +30,12 @@ waits_more t w h = ap (λ (k : List Request). not (length k == 0)) (opened_is t 
 
 pub oldest_stays : (t : ℕ) (w : List Request) → length w < 255 → (length w == 0) ≡ false
     → time_of (first_of (opened t w)) ≡ time_of (first_of w)
-oldest_stays t w h some = ap (λ (k : List Request). time_of (first_of k)) (opened_is t w h)
+oldest_stays t w h some = ap (λ (xs : List Request). time_of (first_of xs)) (opened_is t w h)
     ∙ ap time_of (first_stays w (record { time = t; struck = false }) some)
 
 pub oldest_new : (t : ℕ) (w : List Request) → length w < 255 → (length w == 0) ≡ true
     → time_of (first_of (opened t w)) ≡ t
-oldest_new t w h none = ap (λ (k : List Request). time_of (first_of k)) (opened_is t w h)
+oldest_new t w h none = ap (λ (xs : List Request). time_of (first_of xs)) (opened_is t w h)
     ∙ ap time_of (first_new w (record { time = t; struck = false }) none)
 
 asked_in : (h : Handshakes) (ack atn : Bool) (t tack tatn : ℕ) (z : TransferTimes) (lag raised g g' lat : ℕ)
@@ -227,13 +227,13 @@ pub may_answer : (p : List Row) (dev : ℕ) (n : Connection) (c : Change) (t lag
 may_answer p dev n c t lag pu off order late count some = record {
   order = order;
   offset = off;
-  period = ap (λ (k : Pulses). is_after k.last_ack (times_here p).period t) pu
+  period = ap (λ (x : Pulses). is_after x.last_ack (times_here p).period t) pu
       ∙ last_ack_test (handshakes p) (times_here p).period t
       (λ w. let u = (answer_late (handshakes p) (line_times p).ack lag (times_here p) w).0 in omega arith);
-  negation = ap (λ (k : Pulses). not (is_some k.last_ack) || nat_le ((line_times p).ack + (times_here p).negation) t) pu
+  negation = ap (λ (x : Pulses). not (is_some x.last_ack) || nat_le ((line_times p).ack + (times_here p).negation) t) pu
       ∙ negation_test (handshakes p) ((line_times p).ack + (times_here p).negation) t
       (λ w. let u = (answer_late (handshakes p) (line_times p).ack lag (times_here p) w).1 in omega arith);
-  waits = ap (λ (k : Pulses). nat_lt k.ack k.req) pu ∙ lt-ltb (handshakes p).answers (handshakes p).requests
+  waits = ap (λ (x : Pulses). nat_lt x.ack x.req) pu ∙ lt-ltb (handshakes p).answers (handshakes p).requests
       (let u = one_less (handshakes p).waiting some in omega arith);
 }
 
@@ -264,8 +264,8 @@ answered_target io req y h tr ta z off run bits lat t reached few f =
         (max (room_by off (answered t h)) (if io then h.last_req + z.hold + lat + z.set_up else 0)) + lat)
     go true e = inl (
       refl,
-      ap (λ (k : ℕ). max (max (h.last_req + z.period) (tr + z.negation))
-          (max k (if io then h.last_req + z.hold + lat + z.set_up else 0)) + lat)
+      ap (λ (m : ℕ). max (max (h.last_req + z.period) (tr + z.negation))
+          (max m (if io then h.last_req + z.hold + lat + z.set_up else 0)) + lat)
           (room_same h off (ltb-true (length h.waiting) off e) reached t),
     )
     go false e = inr (let w = room_now h off t e reached few in omega arith)

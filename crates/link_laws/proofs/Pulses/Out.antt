@@ -30,10 +30,10 @@ given_stays : (s : ScenarioValue) (p : List Row) (n : Connection) (req ack atn :
     → receiver_in n (change_to (connected_bus (ends false ack atn x false false false req 0))
     (connected_bus (ends false ack' atn' x' false false false req' 0)) o l) ≡ None
     → given_here s (row_of_lines t d l ∷ p) ≡ given_here s p
-given_stays s p n req ack atn x req' ack' atn' x' t d o l h k dr none =
+given_stays s p n req ack atn x req' ack' atn' x' t d o l h e dr none =
     let q : List Row = row_of_lines t d l ∷ p in
     let still = data_still s p (row_of_lines t d l) n _ dr refl refl none in
-    (λ i. byte_bits (byte_to_send (k.stands.bus_is i) (run_state s q).exchange.speech (sending_of s (run_state s q))))
+    (λ i. byte_bits (byte_to_send (e.stands.bus_is i) (run_state s q).exchange.speech (sending_of s (run_state s q))))
     ∙ ap (λ (v : Sending). byte_bits (slice_index_or v.sent v.moved 0)) (sending_stays s p (row_of_lines t d l) still)
     ∙ sym
     (λ i. byte_bits (byte_to_send (h.stands.bus_is i) (run_state s p).exchange.speech (sending_of s (run_state s p))))
@@ -97,7 +97,7 @@ req_ends_out s p n ack atn x t lat0 there0 at h =
           (times_here p).assertion (offset_here p) (last_time p) t ack hp.facts held order)
           (driven_same s p q n x hp.driven (data_stands p row (bit_or x 0) r.data_is) eh eg eo)
           (λ d. receives_if false (receiver q) n.target d (r.receiver_is ∙ none))
-          (λ a b. let w = sym (ap (λ (k : Option ℕ). is_some k) (r.receiver_is ∙ none)) ∙ b in absurd cc);
+          (λ a b. let w = sym (ap (λ (o : Option ℕ). is_some o) (r.receiver_is ∙ none)) ∙ b in absurd cc);
       ahead = record {
         target = λ lat there.
             let same = same_latency s n.target lat lat0 there there0 in
@@ -179,8 +179,8 @@ driven_more h hold raised lat t few count some = go (length h.waiting == 0) refl
         first_none (r ∷ w) e = let u = zero_of (length (r ∷ w)) e in absurd (omega arith)
     go false some =
         let w = oldest_stays t h.waiting few some in
-        subst (λ (k : ℕ). drives_by h hold raised lat
-        ≤ (if h.answers == 0 then k + lat else max (k + lat) (raised + hold + lat))) (sym w) (omega arith)
+        subst (λ (m : ℕ). drives_by h hold raised lat
+        ≤ (if h.answers == 0 then m + lat else max (m + lat) (raised + hold + lat))) (sym w) (omega arith)
 
 pub req_pulses_out : (s : ScenarioValue) (p : List Row) (n : Connection) (ack atn : Bool) (x t lat0 : ℕ)
     → latency_of s n.target ≡ Some lat0
@@ -344,10 +344,10 @@ answers_pulse_out s p n req atn x t lat0 there0 at some given h =
 
 fresh_out : (w u v : Bool) (c d e t : ℕ) → (w ≡ true → t ≤ c) → (w ≡ true → t ≤ d) → t ≤ e
     → NoSooner t (if w then (if u then Some c else Some d) else if v then None else Some e)
-fresh_out true true v c d e t f g k = some_no_sooner t c (f refl)
-fresh_out true false v c d e t f g k = some_no_sooner t d (g refl)
-fresh_out false u true c d e t f g k = none_no_sooner t
-fresh_out false u false c d e t f g k = some_no_sooner t e k
+fresh_out true true v c d e t f g h = some_no_sooner t c (f refl)
+fresh_out true false v c d e t f g h = some_no_sooner t d (g refl)
+fresh_out false u true c d e t f g h = none_no_sooner t
+fresh_out false u false c d e t f g h = some_no_sooner t e h
 
 -- A byte is driven no sooner than the end of the hold time of the one before it.
 drives_late : (h : Handshakes) (z : TransferTimes) (raised lat : ℕ) → (h.answers == 0) ≡ false
@@ -404,7 +404,7 @@ ends_pulse_out s p n req atn x t lat0 there0 at h =
           (times_here p).assertion (offset_here p) (last_time p) t req hp.facts held order)
           (driven_same s p q n x hp.driven (data_stands p row (bit_or x 0) r.data_is) eh eg eo)
           (λ d. receives_if false (receiver q) n.target d r.receiver_is)
-          (λ a b. let w = sym (ap (λ (k : Option ℕ). is_some k) r.receiver_is) ∙ b in absurd cc);
+          (λ a b. let w = sym (ap (λ (o : Option ℕ). is_some o) r.receiver_is) ∙ b in absurd cc);
       ahead = record {
         target = λ lat there. subst (NoSooner t)
             (sym (target_next_is s p row n c false req false 0 lat hs (line_times p).req t dr eh er r.ack_is eg))

@@ -120,7 +120,7 @@ pub own_ack_own : (p : List Row) (t d : ℕ) (l o : LineSet) → drives p d ≡ 
     → (own_of (row_of_lines t d l ∷ p) d).ack ≡ (if rises o.ack l.ack then t else (own_of p d).ack)
 own_ack_own p t d l o e =
     (λ i. (if eq_self d i then own_after (own_of p d) (change_of p (row_of_lines t d l)) t else own_of p d).ack)
-    ∙ ap (λ (k : LineSet). if rises k.ack l.ack then t else (own_of p d).ack) e
+    ∙ ap (λ (b : LineSet). if rises b.ack l.ack then t else (own_of p d).ack) e
 
 -- All that a row must leave so that the pulses go on.
 pub pulsing_goes : (s : ScenarioValue) (p q : List Row) (n : Connection) (io req ack atn : Bool)
@@ -145,14 +145,14 @@ pulsing_goes s p q n io req ack atn x y req' ack' atn' x' y' t h' tr ta raised h
       turned = turn_goes p q n (ends false ack atn x false false io req y)
           (ends false ack' atn' x' false false io req' y') io t r order now h.turned;
       pulses_are = ep ∙ ap pulses_of (sym eh);
-      facts = subst (λ k. PulseFacts k (line_times q).req (line_times q).ack (own_of q n.initiator).ack
+      facts = subst (λ z. PulseFacts z (line_times q).req (line_times q).ack (own_of q n.initiator).ack
           (times_here q).assertion (offset_here q) (last_time q) req' ack') (sym eh)
-          (subst (λ k. PulseFacts h' k (line_times q).ack (own_of q n.initiator).ack (times_here q).assertion
-          (offset_here q) (last_time q) req' ack') (sym er) (subst (λ k. PulseFacts h' tr k
+          (subst (λ z. PulseFacts h' z (line_times q).ack (own_of q n.initiator).ack (times_here q).assertion
+          (offset_here q) (last_time q) req' ack') (sym er) (subst (λ z. PulseFacts h' tr z
           (own_of q n.initiator).ack (times_here q).assertion (offset_here q) (last_time q) req' ack') (sym ea) (subst
-          (λ k. PulseFacts h' tr ta k (times_here q).assertion (offset_here q) (last_time q) req' ack') (sym eo) (subst
-          (λ (k : Agreement). PulseFacts h' tr ta raised (times_of k.period).assertion k.offset (last_time q) req' ack')
-          (sym eg) (subst (λ k. PulseFacts h' tr ta raised (times_here p).assertion (offset_here p) k req' ack')
+          (λ z. PulseFacts h' tr ta z (times_here q).assertion (offset_here q) (last_time q) req' ack') (sym eo) (subst
+          (λ (z : Agreement). PulseFacts h' tr ta raised (times_of z.period).assertion z.offset (last_time q) req' ack')
+          (sym eg) (subst (λ z. PulseFacts h' tr ta raised (times_here p).assertion (offset_here p) z req' ack')
           (sym now) facts)))));
       driven = driven;
       receives = receives;
@@ -163,11 +163,11 @@ pulsing_goes s p q n io req ack atn x y req' ack' atn' x' y' t h' tr ta raised h
 
 fresh_target : (changes follows room held : Bool) (a b c d t : ℕ) → (changes ≡ true → t ≤ b) → t ≤ c
     → (held ≡ false → t ≤ d) → NoSooner t (target_time false changes follows room held a b c d)
-fresh_target true follows room held a b c d t f g k = some_no_sooner t b (f refl)
-fresh_target false true true held a b c d t f g k = some_no_sooner t c g
-fresh_target false true false held a b c d t f g k = none_no_sooner t
-fresh_target false false room true a b c d t f g k = none_no_sooner t
-fresh_target false false room false a b c d t f g k = some_no_sooner t d (k refl)
+fresh_target true follows room held a b c d t f g h = some_no_sooner t b (f refl)
+fresh_target false true true held a b c d t f g h = some_no_sooner t c g
+fresh_target false true false held a b c d t f g h = none_no_sooner t
+fresh_target false false room true a b c d t f g h = none_no_sooner t
+fresh_target false false room false a b c d t f g h = some_no_sooner t d (h refl)
 
 pub fresh_next : (io ack : Bool) (y : ℕ) (h : Handshakes) (tr ta : ℕ) (z : TransferTimes) (off run bits lat t : ℕ)
     → ((io && not (y == bits)) ≡ true → t ≤ h.last_req + z.hold + lat)
@@ -176,11 +176,11 @@ pub fresh_next : (io ack : Bool) (y : ℕ) (h : Handshakes) (tr ta : ℕ) (z : T
     → ((not (length h.waiting == 0) || ack) ≡ false
     → t ≤ max ta ((if io then h.last_req else h.last_ack) + z.hold) + lat)
     → NoSooner t (target_next io false ack y h tr ta z off run bits lat)
-fresh_next io ack y h tr ta z off run bits lat t f g k = fresh_target (io && not (y == bits))
+fresh_next io ack y h tr ta z off run bits lat t f g x = fresh_target (io && not (y == bits))
     (nat_lt h.requests run) (nat_lt (length h.waiting) off) (not (length h.waiting == 0) || ack)
     (tr + z.assertion + lat) (h.last_req + z.hold + lat) (max (max (h.last_req + z.period) (tr + z.negation))
     (max (room_by off h) (if io then h.last_req + z.hold + lat + z.set_up else 0)) + lat)
-    (max ta ((if io then h.last_req else h.last_ack) + z.hold) + lat) t f g k
+    (max ta ((if io then h.last_req else h.last_ack) + z.hold) + lat) t f g x
 
 pub same_latency : (s : ScenarioValue) (d a b : ℕ) → latency_of s d ≡ Some a → latency_of s d ≡ Some b → a ≡ b
 same_latency s d a b e f = some_same a b (sym e ∙ f)

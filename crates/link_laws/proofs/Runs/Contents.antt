@@ -40,12 +40,12 @@ block_short c lba h =
     let size = h.size in
     touched_short c.touched lba (zero_block c.size) h.touched (omega (arith, long, size))
 
-bytes_short : (c : Contents) (lba n : ℕ) → HasShortBlocks c → length (bytes_at c lba n) ≤ n * 2048
+bytes_short : (c : Contents) (lba m : ℕ) → HasShortBlocks c → length (bytes_at c lba m) ≤ m * 2048
 bytes_short c lba zero h = omega arith
-bytes_short c lba (suc n) h =
+bytes_short c lba (suc m) h =
     let one = block_short c lba h in
-    let more = bytes_short c (lba + 1) n h in
-    let both = length-append (block_at c lba) (bytes_at c (lba + 1) n) in
+    let more = bytes_short c (lba + 1) m h in
+    let both = length-append (block_at c lba) (bytes_at c (lba + 1) m) in
     omega (arith, one, more, both)
 
 with_short : (touched : List (ℕ × List ℕ)) (lba : ℕ) (block : List ℕ) → AllByRecursion IsShortBlock touched
@@ -57,24 +57,24 @@ with_short (entry ∷ touched) lba block a b =
     go : (q r : Bool) → AllByRecursion IsShortBlock (touched_with touched lba block)
         → AllByRecursion IsShortBlock (if q then (lba, block) ∷ touched
         else if r then (lba, block) ∷ (entry ∷ touched) else entry ∷ touched_with touched lba block)
-    go true r k = (b, a.1)
-    go false true k = (b, a)
-    go false false k = (a.0, k)
+    go true r e = (b, a.1)
+    go false true e = (b, a)
+    go false false e = (a.0, e)
 
 block_put : (c : Contents) (lba : ℕ) (block : List ℕ) → HasShortBlocks c → length block ≤ 2048
     → HasShortBlocks (with_block c lba block)
 block_put c lba block h b =
     record { count = h.count; size = h.size; touched = with_short c.touched lba block h.touched b }
 
-taken_short : (n : ℕ) (xs : List ℕ) → length (take n xs) ≤ n
-taken_short n xs = let long = length-take n xs in omega (arith, long)
+taken_short : (m : ℕ) (xs : List ℕ) → length (take m xs) ≤ m
+taken_short m xs = let long = length-take m xs in omega (arith, long)
 
-bytes_put : (c : Contents) (lba n : ℕ) (bytes : List ℕ) → HasShortBlocks c → HasShortBlocks (with_bytes c lba n bytes)
+bytes_put : (c : Contents) (lba m : ℕ) (bytes : List ℕ) → HasShortBlocks c → HasShortBlocks (with_bytes c lba m bytes)
 bytes_put c lba zero bytes h = h
-bytes_put c lba (suc n) bytes h =
+bytes_put c lba (suc m) bytes h =
     let few = taken_short c.size bytes in
     let size = h.size in
-    bytes_put (with_block c lba (take c.size bytes)) (lba + 1) n (drop c.size bytes)
+    bytes_put (with_block c lba (take c.size bytes)) (lba + 1) m (drop c.size bytes)
     (block_put c lba (take c.size bytes) h (omega (arith, few, size)))
 
 none_short : HasShortBlocks no_contents
@@ -93,30 +93,30 @@ replies m r h few = record { contents = h; bytes = few }
 checks : (m : CommandContext) (x : Sense) → HasShortBlocks m.contents → GivesFew (reply_execution m (check_condition x))
 checks m x h = replies m (check_condition x) h (omega arith)
 
-writes : (m : CommandContext) (lba n : ℕ) (sent : List ℕ) → HasShortBlocks m.contents
-    → GivesFew (write_execution m lba n sent)
-writes m lba n sent h = record { contents = bytes_put m.contents lba n sent h; bytes = omega arith }
+writes : (m : CommandContext) (lba i : ℕ) (sent : List ℕ) → HasShortBlocks m.contents
+    → GivesFew (write_execution m lba i sent)
+writes m lba i sent h = record { contents = bytes_put m.contents lba i sent h; bytes = omega arith }
 
-in_blocks : (blocks lba n : ℕ) → (nat_lt lba blocks && nat_le (lba + n) blocks) ≡ true → n ≤ blocks
-in_blocks blocks lba n e = within (and_parts (nat_lt lba blocks) (nat_le (lba + n) blocks) e).1
+in_blocks : (blocks lba m : ℕ) → (nat_lt lba blocks && nat_le (lba + m) blocks) ≡ true → m ≤ blocks
+in_blocks blocks lba m e = within (and_parts (nat_lt lba blocks) (nat_le (lba + m) blocks) e).1
   where
-    within : nat_le (lba + n) blocks ≡ true → n ≤ blocks
+    within : nat_le (lba + m) blocks ≡ true → m ≤ blocks
     within z = grind (arith, nat_tests)
 
-reads : (m : CommandContext) (lba n : ℕ) → HasShortBlocks m.contents
-    → (nat_lt lba m.contents.count && nat_le (lba + n) m.contents.count) ≡ true
-    → GivesFew (reply_execution m (good (bytes_at m.contents lba n)))
-reads m lba n h e =
-    let some = in_blocks m.contents.count lba n e in
+reads : (m : CommandContext) (lba i : ℕ) → HasShortBlocks m.contents
+    → (nat_lt lba m.contents.count && nat_le (lba + i) m.contents.count) ≡ true
+    → GivesFew (reply_execution m (good (bytes_at m.contents lba i)))
+reads m lba i h e =
+    let some = in_blocks m.contents.count lba i e in
     let most = h.count in
-    let few = bytes_short m.contents lba n h in
-    replies m (good (bytes_at m.contents lba n)) h (omega (arith, some, most, few))
+    let few = bytes_short m.contents lba i h in
+    replies m (good (bytes_at m.contents lba i)) h (omega (arith, some, most, few))
 
 takes : (m : CommandContext) (room most : ℕ) (bytes : List ℕ) → HasShortBlocks m.contents → most ≤ 2 ^ 43
     → GivesFew (reply_execution m (good (take (min room most) bytes)))
-takes m room most bytes h k =
+takes m room most bytes h e =
     let few = taken_short (min room most) bytes in
-    replies m (good (take (min room most) bytes)) h (omega (arith, few, k))
+    replies m (good (take (min room most) bytes)) h (omega (arith, few, e))
 
 gives : (m : CommandContext) (c : Command) (sent : List ℕ) → HasShortBlocks m.contents
     → is_good_range m.contents.count (range_of c) ≡ true → GivesFew (command_execution m c sent)
@@ -167,20 +167,20 @@ abbrev IsShortUnitIf : Option UnitState → Type 0
 IsShortUnitIf None = Unit {0}
 IsShortUnitIf (Some u) = IsShortUnit u
 
-unit_found : (units : List UnitState) (t n : ℕ) → AllByRecursion IsShortUnit units
-    → IsShortUnitIf (unit_state_at units t n)
-unit_found [] t n a = tt
-unit_found (u ∷ units) t n a =
-    elim (cases_Bool (u.target == t && u.unit == n)) [ inl e ↦ rw e a.0 | inr e ↦ rw e (unit_found units t n a.1) ]
+unit_found : (units : List UnitState) (t m : ℕ) → AllByRecursion IsShortUnit units
+    → IsShortUnitIf (unit_state_at units t m)
+unit_found [] t m a = tt
+unit_found (u ∷ units) t m a =
+    elim (cases_Bool (u.target == t && u.unit == m)) [ inl e ↦ rw e a.0 | inr e ↦ rw e (unit_found units t m a.1) ]
 
-pub context_short : (a : Array) (n : Nexus) (o : Option UnitState) → IsShortUnitIf o
-    → HasShortBlocks (Steps.context_at a n o).contents
-context_short a n None b = none_short
-context_short a n (Some u) b = b
+pub context_short : (a : Array) (x : Nexus) (o : Option UnitState) → IsShortUnitIf o
+    → HasShortBlocks (Steps.context_at a x o).contents
+context_short a x None b = none_short
+context_short a x (Some u) b = b
 
-pub context_at_short : (a : Array) (n : Nexus) (t m : ℕ) → HasShortUnits a
-    → HasShortBlocks (Steps.context_at a n (unit_state_at a.units t m)).contents
-context_at_short a n t m h = context_short a n (unit_state_at a.units t m) (unit_found a.units t m h)
+pub context_at_short : (a : Array) (x : Nexus) (t m : ℕ) → HasShortUnits a
+    → HasShortBlocks (Steps.context_at a x (unit_state_at a.units t m)).contents
+context_at_short a x t m h = context_short a x (unit_state_at a.units t m) (unit_found a.units t m h)
 
 -- ---- the choice
 
@@ -192,7 +192,7 @@ choices holds (u ∷ units) a = (
   choices holds units a.1,
 )
   where
-    go : (q : Bool) (p : Option Process) → IsShortUnit (if q then with_current u p else u)
+    go : (q : Bool) (o : Option Process) → IsShortUnit (if q then with_current u o else u)
     go true None = a.0
     go _ _ = a.0
 
@@ -203,27 +203,27 @@ settles a h = choices a.holds a.units h
 
 accepts : (a : Array) (o : Option Process) → HasShortUnits a → HasShortUnitsIf (Steps.accept_step a o)
 accepts a None h = tt
-accepts a (Some p) h = at (unit_state_at a.units p.target p.unit) (unit_found a.units p.target p.unit h)
+accepts a (Some c) h = at (unit_state_at a.units c.target c.unit) (unit_found a.units c.target c.unit h)
   where
     either : (u : UnitState) → IsShortUnit u
-        → (q : Bool) → HasShortUnitsIf (if q then Some (Steps.with_guest a p None) else Steps.queue_step a p u)
+        → (q : Bool) → HasShortUnitsIf (if q then Some (Steps.with_guest a c None) else Steps.queue_step a c u)
     either u b true = h
     either u b false = if_so (nat_lt (Steps.process_count u) u.depth) (record a {
-      units = with_unit a.units (record u { waiting = u.waiting ++ p ∷ [] });
-    }) (unit_put a.units (record u { waiting = u.waiting ++ p ∷ [] }) h b)
+      units = with_unit a.units (record u { waiting = u.waiting ++ c ∷ [] });
+    }) (unit_put a.units (record u { waiting = u.waiting ++ c ∷ [] }) h b)
 
-    at : (x : Option UnitState) → IsShortUnitIf x → HasShortUnitsIf (Steps.accept_step_at a p x)
+    at : (x : Option UnitState) → IsShortUnitIf x → HasShortUnitsIf (Steps.accept_step_at a c x)
     at None b = h
-    at (Some u) b = either u b (is_request_sense (command_of p.cdb))
+    at (Some u) b = either u b (is_request_sense (command_of c.cdb))
 
 refuses : (a : Array) (o : Option Process) → HasShortUnits a → HasShortUnitsIf (Steps.refuse_step a o)
 refuses a None h = tt
-refuses a (Some p) h = at (unit_state_at a.units p.target p.unit)
+refuses a (Some c) h = at (unit_state_at a.units c.target c.unit)
   where
-    at : (x : Option UnitState) → HasShortUnitsIf (Steps.refuse_step_at a p x)
+    at : (x : Option UnitState) → HasShortUnitsIf (Steps.refuse_step_at a c x)
     at None = tt
-    at (Some u) = if_so (not (is_request_sense (command_of p.cdb)) && Steps.process_count u == u.depth)
-        (Steps.with_listed_reply (Steps.with_guest a p (Some queue_full)) p.id queue_full) h
+    at (Some u) = if_so (not (is_request_sense (command_of c.cdb)) && Steps.process_count u == u.depth)
+        (Steps.with_listed_reply (Steps.with_guest a c (Some queue_full)) c.id queue_full) h
 
 -- ---- a command runs, fails, ends
 
@@ -232,57 +232,57 @@ units_replied : (units : List UnitState) (id : ProcId) (r : Reply) → AllByRecu
 units_replied [] id r a = tt
 units_replied (u ∷ units) id r a = (a.0, units_replied units id r a.1)
 
-reported : (a : Array) (q : Bool) (n : Nexus) → HasShortUnits a → HasShortUnits (Steps.without_attention a q n)
-reported a true n h = h
-reported a false n h = h
+reported : (a : Array) (q : Bool) (x : Nexus) → HasShortUnits a → HasShortUnits (Steps.without_attention a q x)
+reported a true x h = h
+reported a false x h = h
 
 contents_put : (a : Array) (x : Option UnitState) (c : Contents) → HasShortUnits a → HasShortBlocks c
     → HasShortUnits (Steps.with_contents a x c)
-contents_put a None c h k = h
-contents_put a (Some u) c h k = unit_put a.units (record u { contents = c }) h k
+contents_put a None c h e = h
+contents_put a (Some u) c h e = unit_put a.units (record u { contents = c }) h e
 
 runs : (a : Array) (guest : Bool) (o : Option RunningProcess) → HasShortUnits a
     → HasShortUnitsIf (Steps.run_step a guest o)
 runs a guest None h = tt
 runs a guest (Some r) h =
     let u : Option UnitState = unit_state_at a.units r.process.target r.process.unit in
-    let n : Nexus = nexus_of r.process in
-    let done : Execution = execution (Steps.context_at a n u) r.process.cdb r.process.sent in
-    let after : Array = Steps.with_contents (Steps.without_attention a done.reported n) u done.contents in
-    let e = gives_few (Steps.context_at a n u) r.process.cdb r.process.sent
-    (context_at_short a n r.process.target r.process.unit h) in
+    let x : Nexus = nexus_of r.process in
+    let done : Execution = execution (Steps.context_at a x u) r.process.cdb r.process.sent in
+    let after : Array = Steps.with_contents (Steps.without_attention a done.reported x) u done.contents in
+    let e = gives_few (Steps.context_at a x u) r.process.cdb r.process.sent
+    (context_at_short a x r.process.target r.process.unit h) in
     if_so (is_none r.reply && (guest || not (is_held a.holds r.process.target r.process.unit)))
     (Steps.after_execution_at a r.process u) (units_replied after.units r.process.id done.reply (contents_put
-    (Steps.without_attention a done.reported n) u done.contents (reported a done.reported n h) e.contents))
+    (Steps.without_attention a done.reported x) u done.contents (reported a done.reported x h) e.contents))
 
 fails : (s : ScenarioValue) (a : Array) (id : ProcId) (r : Reply) (o : Option RunningProcess) → HasShortUnits a
     → HasShortUnitsIf (Steps.fail_step s a id r o)
 fails s a id r (Some x) h = if_so (is_none x.reply) (Steps.with_reply a id r) (units_replied a.units id r h)
 fails s a id r None h = go (process_of s id)
   where
-    came : (q : Bool) (p : Process)
-        → HasShortUnitsIf (if q then None else Some (Steps.with_listed_reply (Steps.with_guest a p (Some r)) id r))
-    came true p = tt
-    came false p = h
+    came : (q : Bool) (c : Process)
+        → HasShortUnitsIf (if q then None else Some (Steps.with_listed_reply (Steps.with_guest a c (Some r)) id r))
+    came true c = tt
+    came false c = h
 
     go : (x : Option Process) → HasShortUnitsIf (Steps.fail_step_of_new a id r x)
     go None = tt
-    go (Some p) = came (Steps.is_waiting a.units id || Steps.has_ended a id) p
+    go (Some c) = came (Steps.is_waiting a.units id || Steps.has_ended a id) c
 
 units_left : (units : List UnitState) (id : ProcId) → AllByRecursion IsShortUnit units
     → AllByRecursion IsShortUnit (Steps.units_without units id)
 units_left [] id a = tt
 units_left (u ∷ units) id a = (a.0, units_left units id a.1)
 
-status_kept : (a : Array) (p : Process) (r : Reply) → HasShortUnits a → HasShortUnits (Steps.after_status a p r)
-status_kept a p r h = go (r.status == CHECK_CONDITION) (r.status == GOOD && is_request_sense (command_of p.cdb))
+status_kept : (a : Array) (c : Process) (r : Reply) → HasShortUnits a → HasShortUnits (Steps.after_status a c r)
+status_kept a c r h = go (r.status == CHECK_CONDITION) (r.status == GOOD && is_request_sense (command_of c.cdb))
   where
-    n : Nexus
-    n = nexus_of p
+    z : Nexus
+    z = nexus_of c
 
     go : (x y : Bool) → HasShortUnits
-        (if x then record a { senses = (n, r.sense) ∷ senses_without a.senses n; holds = n ∷ nexuses_without a.holds n }
-        else if y then record a { senses = senses_without a.senses n; holds = nexuses_without a.holds n } else a)
+        (if x then record a { senses = (z, r.sense) ∷ senses_without a.senses z; holds = z ∷ nexuses_without a.holds z }
+        else if y then record a { senses = senses_without a.senses z; holds = nexuses_without a.holds z } else a)
     go true y = h
     go false true = h
     go false false = h
@@ -307,11 +307,11 @@ units_kept : (drops : Process → Bool) (units : List UnitState) → AllByRecurs
 units_kept drops [] a = tt
 units_kept drops (u ∷ units) a = (a.0, units_kept drops units a.1)
 
-of_hosts : (hosts : List HostDef) (t n : ℕ) (a : Array) → HasShortUnits a
-    → HasShortUnits (Steps.reset_attentions hosts t n a)
-of_hosts [] t n a h = h
-of_hosts (x ∷ hosts) t n a h =
-    of_hosts hosts t n (Steps.reset_attention a (record { initiator = x.dev; target = t; unit = n })) h
+of_hosts : (hosts : List HostDef) (t m : ℕ) (a : Array) → HasShortUnits a
+    → HasShortUnits (Steps.reset_attentions hosts t m a)
+of_hosts [] t m a h = h
+of_hosts (x ∷ hosts) t m a h =
+    of_hosts hosts t m (Steps.reset_attention a (record { initiator = x.dev; target = t; unit = m })) h
 
 of_units : (hosts : List HostDef) (units : List UnitState) (is_one : UnitState → Bool) (a : Array) → HasShortUnits a
     → HasShortUnits (Steps.unit_reset_attentions hosts units is_one a)
@@ -336,14 +336,14 @@ cleared by (q ∷ lost) a h = cleared by lost (if q.initiator == by then a else 
     go false true = h
     go false false = h
 
-aborted : (s : ScenarioValue) (a : Array) (i t n : ℕ) (what : AbortKind) → HasShortUnits a
-    → HasShortUnits (Steps.abort_step s a i t n what)
-aborted s a i t n AbortKind.All h = units_kept (λ p. p.initiator == i && Steps.is_of_unit p t n) a.units h
-aborted s a i t n (AbortKind.Tag tag) h =
-    units_kept (λ p. p.initiator == i && Steps.is_of_unit p t n && Steps.has_tag p.tag tag) a.units h
-aborted s a i t n AbortKind.WholeQueue h = cleared i (Steps.unit_processes (unit_state_at a.units t n))
-    (Steps.without_dropped a (λ p. Steps.is_of_unit p t n)) (units_kept (λ p. Steps.is_of_unit p t n) a.units h)
-aborted s a i t n AbortKind.Device h =
+aborted : (s : ScenarioValue) (a : Array) (i t m : ℕ) (what : AbortKind) → HasShortUnits a
+    → HasShortUnits (Steps.abort_step s a i t m what)
+aborted s a i t m AbortKind.All h = units_kept (λ p. p.initiator == i && Steps.is_of_unit p t m) a.units h
+aborted s a i t m (AbortKind.Tag tag) h =
+    units_kept (λ p. p.initiator == i && Steps.is_of_unit p t m && Steps.has_tag p.tag tag) a.units h
+aborted s a i t m AbortKind.WholeQueue h = cleared i (Steps.unit_processes (unit_state_at a.units t m))
+    (Steps.without_dropped a (λ p. Steps.is_of_unit p t m)) (units_kept (λ p. Steps.is_of_unit p t m) a.units h)
+aborted s a i t m AbortKind.Device h =
     of_units s.hosts a.units (λ u. u.target == t) (record (Steps.without_dropped a (λ p. p.target == t)) {
       senses = Steps.kept_senses (λ q. q.target == t) a.senses;
       holds = Steps.kept_nexuses (λ q. q.target == t) a.holds;
@@ -382,8 +382,8 @@ fill_short : (s : ScenarioValue) (f : FillDef) → FitsBus s
     → is_block_in (unit_of s f.target f.unit) f.lba f.bytes ≡ true → length f.bytes ≤ 2048
 fill_short s f fits e = go (unit_of s f.target f.unit) refl e
   where
-    as_long : (n m : ℕ) → (n == m) ≡ true → m ≤ 2048 → n ≤ 2048
-    as_long n m z few = grind (arith, nat_tests)
+    as_long : (i m : ℕ) → (i == m) ≡ true → m ≤ 2048 → i ≤ 2048
+    as_long i m z few = grind (arith, nat_tests)
 
     go : (o : Option UnitDef) → unit_of s f.target f.unit ≡ o → is_block_in o f.lba f.bytes ≡ true
         → length f.bytes ≤ 2048

@@ -34,10 +34,10 @@ or_start_short s (Some a) fits h = h
 
 -- ---- how many bytes a process moves, and a run has
 
-moved_few : (p : Process) (r : Reply) → length p.sent ≤ 65536 → length r.bytes ≤ 2 ^ 43 → moved_count p r ≤ 2 ^ 43
-moved_few p r sent given = go (r.status == GOOD) (is_writing p)
+moved_few : (c : Process) (r : Reply) → length c.sent ≤ 65536 → length r.bytes ≤ 2 ^ 43 → moved_count c r ≤ 2 ^ 43
+moved_few c r sent given = go (r.status == GOOD) (is_writing c)
   where
-    go : (a b : Bool) → length (if b then (if a then p.sent else []) else r.bytes) ≤ 2 ^ 43
+    go : (a b : Bool) → length (if b then (if a then c.sent else []) else r.bytes) ≤ 2 ^ 43
     go true true = omega (arith, sent)
     go false true = omega arith
     go a false = given
@@ -51,18 +51,18 @@ first_part step moved false shorter e = omega arith
 first_part step moved true false e = omega arith
 first_part step moved true true e = let less = ltb-true step moved e in omega (arith, less)
 
-part_of_all : (policy : Policy) (size moved n : ℕ)
-    → (run_by policy size moved n).end - (run_by policy size moved n).start ≤ moved
-part_of_all Policy.Never size moved n = omega arith
-part_of_all Policy.Command size moved n = omega arith
-part_of_all (Policy.Burst most) size moved n = cut (n * (most * size)) (most * size) moved
-part_of_all (Policy.NoSave most) size moved n =
-    first_part (most * size) moved (n == 0) (nat_lt (most * size) moved) refl
+part_of_all : (policy : Policy) (size moved m : ℕ)
+    → (run_by policy size moved m).end - (run_by policy size moved m).start ≤ moved
+part_of_all Policy.Never size moved m = omega arith
+part_of_all Policy.Command size moved m = omega arith
+part_of_all (Policy.Burst most) size moved m = cut (m * (most * size)) (most * size) moved
+part_of_all (Policy.NoSave most) size moved m =
+    first_part (most * size) moved (m == 0) (nat_lt (most * size) moved) refl
 
-run_in_all : (policy : Policy) (blocks : Option ℕ) (size moved n : ℕ)
-    → (run_in policy blocks size moved n).end - (run_in policy blocks size moved n).start ≤ moved
-run_in_all policy None size moved n = omega arith
-run_in_all policy (Some blocks) size moved n = part_of_all policy size moved n
+run_in_all : (policy : Policy) (blocks : Option ℕ) (size moved m : ℕ)
+    → (run_in policy blocks size moved m).end - (run_in policy blocks size moved m).start ≤ moved
+run_in_all policy None size moved m = omega arith
+run_in_all policy (Some blocks) size moved m = part_of_all policy size moved m
 
 pub run_within : (policy : Policy) (t : Task) → run_length policy t ≤ t.moved
 run_within policy t = run_in_all policy t.blocks t.size t.moved t.runs
@@ -70,23 +70,23 @@ run_within policy t = run_in_all policy t.blocks t.size t.moved t.runs
 -- ---- any rows
 
 task_few : (s : ScenarioValue) (k : RunState) (policy : Policy) (o : Option Process) → HasShortUnits (array_of s k)
-    → ((p : Process) → o ≡ Some p → length p.sent ≤ 65536) → run_length_if policy (task_if s k o) ≤ 2 ^ 43
+    → ((c : Process) → o ≡ Some c → length c.sent ≤ 65536) → run_length_if policy (task_if s k o) ≤ 2 ^ 43
 task_few s k policy None h f = omega arith
-task_few s k policy (Some p) h f =
+task_few s k policy (Some c) h f =
     let a : Array = array_of s k in
-    let given = (gives_few (Steps.context_at a (nexus_of p) (unit_state_at a.units p.target p.unit)) p.cdb p.sent
-    (context_at_short a (nexus_of p) p.target p.unit h)).bytes in
-    let t : Task = task_with a (progress_in k.progress p.id) p
-    (carried_here k p.id) (reply_now a p) (Play.reply_in a.replies p.id) in
+    let given = (gives_few (Steps.context_at a (nexus_of c) (unit_state_at a.units c.target c.unit)) c.cdb c.sent
+    (context_at_short a (nexus_of c) c.target c.unit h)).bytes in
+    let t : Task = task_with a (progress_in k.progress c.id) c
+    (carried_here k c.id) (reply_now a c) (Play.reply_in a.replies c.id) in
     let part = run_within policy t in
-    let all = moved_few p (reply_now a p) (f p refl) given in
+    let all = moved_few c (reply_now a c) (f c refl) given in
     omega (arith, part, all)
 
-served_few : (s : ScenarioValue) (i : Option Item) (p : Process) → FitsBus s → process_item s i ≡ Some p
-    → length p.sent ≤ 65536
-served_few s None p fits e = absurd cc
-served_few s (Some (process id)) p fits e = process_few s id p fits e
-served_few s (Some (abort n)) p fits e = absurd cc
+served_few : (s : ScenarioValue) (i : Option Item) (c : Process) → FitsBus s → process_item s i ≡ Some c
+    → length c.sent ≤ 65536
+served_few s None c fits e = absurd cc
+served_few s (Some (process id)) c fits e = process_few s id c fits e
+served_few s (Some (abort n)) c fits e = absurd cc
 
 pub runs_are_short : (s : ScenarioValue) → FitsBus s → HasShortRuns s
 runs_are_short s fits p n =

@@ -16,8 +16,8 @@ bare s p dv alone =
     let k : RunState = run_state s p in
     (λ i. future_left s k + way_left k + connection_left s k (is_struck_phase s p) (is_refusing s p)
     (connection_if (bus_of k).rst (((run_state_plain s p dv).connection ∙ alone) i)))
-    ∙ ap (λ (n : Option Connection). future_left s k + way_left k
-    + connection_left s k (is_struck_phase s p) (is_refusing s p) n) (none (bus_of k).rst)
+    ∙ ap (λ (o : Option Connection). future_left s k + way_left k
+    + connection_left s k (is_struck_phase s p) (is_refusing s p) o) (none (bus_of k).rst)
     ∙ plus_none (future_left s k + way_left k)
   where
     none : (q : Bool) → connection_if q None ≡ None
@@ -63,8 +63,8 @@ pub one_fault : (faults : List FaultDef) (time bit : ℕ) → flip_of faults tim
 one_fault [] time bit e = none_some bit e
 one_fault (f ∷ faults) time bit e = refl
 
-pub times_one : (f n : ℕ) → f * suc n ≡ f * n + f
-times_one f n = grind arith
+pub times_one : (f m : ℕ) → f * suc m ≡ f * m + f
+times_one f m = grind arith
 
 fault_pays : (c f x u v z : ℕ) → u ≤ v + 64 → suc (c + x + u) ≤ c + (x + (z + 2 * 64)) + v
 fault_pays c f x u v z h = omega (arith, h)
@@ -80,15 +80,15 @@ strikes_by s p t d bit time parts dv lt was alone flips sel more =
     let j : RunState = run_state s (row ∷ p) in
     let c : ℕ = commands_by s k.story.sent k.served (is_in_data k) k.progress 1 s.commands
     + aborts_left s k.story.sent 1 s.aborts + for_reset * resets_left k s.resets in
-    let n : ℕ = length (drop 1 k.faults) in
-    let after : future_left s j ≡ c + for_fault s * n =
+    let m : ℕ = length (drop 1 k.faults) in
+    let after : future_left s j ≡ c + for_fault s * m =
     future_is s p row parts (resets_fault s p t d bit s.resets dv lt)
     ∙ ap (λ (x : Sent). future_by s x k (resets_left k s.resets) (drop 1 k.faults)) (sent_stays s p row parts sel) in
-    let before : future_left s k ≡ c + (for_fault s * n + for_fault s) = future_was s k
-    ∙ ap (λ x. c + for_fault s * x) (one_fault k.faults time bit flips) ∙ ap (λ x. c + x) (times_one (for_fault s) n) in
+    let before : future_left s k ≡ c + (for_fault s * m + for_fault s) = future_was s k
+    ∙ ap (λ x. c + for_fault s * x) (one_fault k.faults time bit flips) ∙ ap (λ x. c + x) (times_one (for_fault s) m) in
     falling s p row dv lt was alone (subst (λ x. suc (future_left s j + way_left j) ≤ x + way_left k) (sym before)
-    (subst (λ x. suc (x + way_left j) ≤ c + (for_fault s * n + for_fault s) + way_left k) (sym after)
-    (fault_pays c (for_fault s) (for_fault s * n) (way_left j) (way_left k) (for_struck_phase s) more)))
+    (subst (λ x. suc (x + way_left j) ≤ c + (for_fault s * m + for_fault s) + way_left k) (sym after)
+    (fault_pays c (for_fault s) (for_fault s * m) (way_left j) (way_left k) (for_struck_phase s) more)))
 
 pub strikes_falls : (s : ScenarioValue) (p : List Row) (row : Row) (t d bit time : ℕ) → row ≡ row_of_fault t d bit
     → ApartParts s p row → AreOfDevices p → row.dev < 8 → connection p ≡ None → connection (row ∷ p) ≡ None

@@ -12,18 +12,18 @@ use proofs.Lines.Lowers.{left_by}
 -- ---- commands, by what is sent, served and made
 
 abbrev pub command_by : ScenarioValue → Sent → Option Item → Bool → List ProcessProgress → ℕ → CmdDef → ℕ
-command_by s b served moves made n c =
-    left_by s b (open_left s (serves_item served (command_item n)) moves (progress_in made (command_id n)).runs c) n c
+command_by s b served moves made m c =
+    left_by s b (open_left s (serves_item served (command_item m)) moves (progress_in made (command_id m)).runs c) m c
 
 abbrev pub commands_by : ScenarioValue → Sent → Option Item → Bool → List ProcessProgress → ℕ → List CmdDef → ℕ
-commands_by s b served moves made n [] = 0
-commands_by s b served moves made n (c ∷ commands) =
-    command_by s b served moves made n c + commands_by s b served moves made (n + 1) commands
+commands_by s b served moves made m [] = 0
+commands_by s b served moves made m (c ∷ commands) =
+    command_by s b served moves made m c + commands_by s b served moves made (m + 1) commands
 
-pub commands_are : (s : ScenarioValue) (k : RunState) (n : ℕ) (commands : List CmdDef)
-    → commands_left s k n commands ≡ commands_by s k.story.sent k.served (is_in_data k) k.progress n commands
-commands_are s k n [] = refl
-commands_are s k n (c ∷ commands) = ap (λ x. command_left s k n c + x) (commands_are s k (n + 1) commands)
+pub commands_are : (s : ScenarioValue) (k : RunState) (m : ℕ) (commands : List CmdDef)
+    → commands_left s k m commands ≡ commands_by s k.story.sent k.served (is_in_data k) k.progress m commands
+commands_are s k m [] = refl
+commands_are s k m (c ∷ commands) = ap (λ x. command_left s k m c + x) (commands_are s k (m + 1) commands)
 
 -- ---- the row
 
@@ -55,11 +55,11 @@ apart_parts s p row dv lt alone next calm link =
     let off : d.change.after.rst ≡ false = ap (λ (x : Change). x.after.rst) c ∙ calm in
     let none : d.next ≡ None = (λ i. connection_after (pl.connection i) (pl.call i) (c i) row) ∙ next in
     let was : k.story.bus_state.connection ≡ None = pl.connection ∙ alone in
-    let n : row_events_by s k.story d row ≡ [] = nothing_shown s k.story d row off link in
+    let e : row_events_by s k.story d row ≡ [] = nothing_shown s k.story d row off link in
     let b : story_by_change s k.story d row ≡ story_on_free_bus s k.story d row = on_free
     s k.story d row off was none in
     record {
-      sent = ap (λ (x : List Event). (run_state_with_events s k row d x).story.sent) n ∙ ap (λ (y : Story). y.sent) b;
+      sent = ap (λ (x : List Event). (run_state_with_events s k row d x).story.sent) e ∙ ap (λ (y : Story). y.sent) b;
       served = λ i. served_after s k (was i) (none i);
       made = λ i. progress_after s k d (was i) (none i) (leaving_of s k k.story.bus_state.connection);
       moves = moves_none s (row ∷ p) (lt, dv) next ∙ sym (moves_none s p dv alone);

@@ -16,39 +16,39 @@ use proofs.Names.{free_keeps, restored_sent, sent_grows, connection_sent, Whole,
 -- ---- which commands end with CHECK CONDITION
 
 -- Of an event: its own, or none more.
-event_checks : (s : ScenarioValue) (b : Story) (e : Event) (n : ℕ)
-    → list_any (λ k. k == n) (story_after_event s b e).sent.checks ≡ true
-    → (list_any (λ k. k == n) b.sent.checks ≡ true) ⊎ (process_in e ≡ Some (command_id n))
-event_checks s b (Event.End id status) n z = go id.sense refl (status == CHECK_CONDITION) z
+event_checks : (s : ScenarioValue) (b : Story) (e : Event) (m : ℕ)
+    → list_any (λ k. k == m) (story_after_event s b e).sent.checks ≡ true
+    → (list_any (λ k. k == m) b.sent.checks ≡ true) ⊎ (process_in e ≡ Some (command_id m))
+event_checks s b (Event.End id status) m z = go id.sense refl (status == CHECK_CONDITION) z
   where
     c : Story
     c = story_with_end b id (by_status status)
 
-    go : (q : Bool) → id.sense ≡ q → (r : Bool) → list_any (λ k. k == n)
+    go : (q : Bool) → id.sense ≡ q → (r : Bool) → list_any (λ k. k == m)
         (if not q && r then record c { sent = record c.sent { checks = c.sent.checks ++ id.command ∷ [] } }
-        else c).sent.checks ≡ true → (list_any (λ k. k == n) b.sent.checks ≡ true) ⊎ (Some id ≡ Some (command_id n))
+        else c).sent.checks ≡ true → (list_any (λ k. k == m) b.sent.checks ≡ true) ⊎ (Some id ≡ Some (command_id m))
     go true f r y = inl y
     go false f false y = inl y
-    go false f true y = elim (in_append n id.command b.sent.checks y) [
+    go false f true y = elim (in_append m id.command b.sent.checks y) [
       | inl w ↦ inl w
       | inr w ↦ inr (λ i. Some (record { command = w i; sense = f i }))
     ]
-event_checks s b (Event.Aborted host target unit what) n z = inl (ap (λ (x : List ℕ). list_any (λ k. k == n) x) (sym
+event_checks s b (Event.Aborted host target unit what) m z = inl (ap (λ (x : List ℕ). list_any (λ k. k == m) x) (sym
     (ends_checks (is_aborted host target unit what) (is_sense_stopped host target unit what) by_abort 1 s.commands b))
     ∙ z)
-event_checks s b (Event.Reset dev) n z = inl
-    (ap (λ (x : List ℕ). list_any (λ k. k == n) x) (sym (ends_checks (λ c. true) (λ c. true) by_reset 1 s.commands b))
+event_checks s b (Event.Reset dev) m z = inl
+    (ap (λ (x : List ℕ). list_any (λ k. k == m) x) (sym (ends_checks (λ c. true) (λ c. true) by_reset 1 s.commands b))
     ∙ z)
-event_checks s b _ n z = inl z
+event_checks s b _ m z = inl z
 
-events_check : (s : ScenarioValue) (b : Story) (item : Option Item) (shown : List Event) (n : ℕ)
-    → AllOf item shown → list_any (λ k. k == n) (story_after_events s b shown).sent.checks ≡ true
-    → (list_any (λ k. k == n) b.sent.checks ≡ true) ⊎ (item ≡ Some (process (command_id n)))
-events_check s b item [] n h z = inl z
-events_check s b item (e ∷ shown) n h z =
-    elim (event_checks s (story_after_events s b shown) e n z) [
-      | inl w ↦ events_check s b item shown n h.1 w
-      | inr w ↦ inr (h.0 (command_id n) w)
+events_check : (s : ScenarioValue) (b : Story) (item : Option Item) (shown : List Event) (m : ℕ)
+    → AllOf item shown → list_any (λ k. k == m) (story_after_events s b shown).sent.checks ≡ true
+    → (list_any (λ k. k == m) b.sent.checks ≡ true) ⊎ (item ≡ Some (process (command_id m)))
+events_check s b item [] m h z = inl z
+events_check s b item (e ∷ shown) m h z =
+    elim (event_checks s (story_after_events s b shown) e m z) [
+      | inl w ↦ events_check s b item shown m h.1 w
+      | inr w ↦ inr (h.0 (command_id m) w)
     ]
 
 -- ---- what is sent
@@ -101,8 +101,8 @@ change_sends s k d row i e = by_rst d.change.after.rst refl e
         (story_with_sent (record b { link = Some (link_of n (aim_of b.aims n.initiator)) }) (aim_of b.aims n.initiator))
         (aim_of b.aims n.initiator))) ∙ z)
 
-    by_bus : d.change.after.rst ≡ false → (m n : Option Connection) → b.bus_state.connection ≡ m → d.next ≡ n
-        → has_item (story_on_bus s b m n d row).sent.sent i ≡ true → (has_item b.sent.sent i ≡ true) ⊎ SendsAnew s k d i
+    by_bus : d.change.after.rst ≡ false → (m w : Option Connection) → b.bus_state.connection ≡ m → d.next ≡ w
+        → has_item (story_on_bus s b m w d row).sent.sent i ≡ true → (has_item b.sent.sent i ≡ true) ⊎ SendsAnew s k d i
     by_bus calm None None f g z = inl (ap (λ (x : List Item). has_item x i) (sym (free_keeps s b d row).2) ∙ z)
     by_bus calm None (Some n) f g z = by_begin n f g calm n.reselected refl z
     by_bus calm (Some m) None f g z = inl z
@@ -136,8 +136,8 @@ target_of_process s id c = go id.sense
 record SentThere (s : ScenarioValue) (k : RunState) : Type 0 where
   sent : (id : ProcId) (c : CmdDef) → has_item k.story.sent.sent (process id) ≡ true
       → command_at s.commands id.command ≡ Some c → HasDevice s c.target
-  checked : (n : ℕ) → list_any (λ m. m == n) k.story.sent.checks ≡ true
-      → has_item k.story.sent.sent (command_item n) ≡ true
+  checked : (i : ℕ) → list_any (λ m. m == i) k.story.sent.checks ≡ true
+      → has_item k.story.sent.sent (command_item i) ≡ true
 
 sent_next : (s : ScenarioValue) (p : List Row) (row : Row) → Obeys s → IsPrompt s (row ∷ p)
     → SentThere s (run_state s p) → SentThere s (run_state s (row ∷ p))
@@ -195,14 +195,14 @@ sent_next s p row o prompt h = record { sent = sent; checked = checked }
     linked None f i e = none_some i e
     linked (Some l) f i e = (w.facts.items.items.only.link l f).item i e
 
-    checked : (n : ℕ) → list_any (λ m. m == n) j.story.sent.checks ≡ true
-        → has_item j.story.sent.sent (command_item n) ≡ true
-    checked n z =
-        sent_grows s k row (command_item n)
-        (elim (events_check s b (item_of k.story.link) shown n (row_of s k.story d row) z) [
+    checked : (u : ℕ) → list_any (λ m. m == u) j.story.sent.checks ≡ true
+        → has_item j.story.sent.sent (command_item u) ≡ true
+    checked u z =
+        sent_grows s k row (command_item u)
+        (elim (events_check s b (item_of k.story.link) shown u (row_of s k.story d row) z) [
           | inl y ↦
-              h.checked n (ap (λ (x : List ℕ). list_any (λ m. m == n) x) (sym (changed s k.story d row).checks) ∙ y)
-          | inr y ↦ linked k.story.link refl (command_item n) y
+              h.checked u (ap (λ (x : List ℕ). list_any (λ m. m == u) x) (sym (changed s k.story d row).checks) ∙ y)
+          | inr y ↦ linked k.story.link refl (command_item u) y
         ])
 
 sent_there : (s : ScenarioValue) (p : List Row) → Obeys s → IsPrompt s p → SentThere s (run_state s p)
@@ -210,7 +210,7 @@ sent_there s [] o prompt = record { sent = λ id c z at. wrong' z; checked = λ 
 sent_there s (row ∷ p) o prompt = sent_next s p row o prompt (sent_there s p o prompt.0)
 
 -- The target of a command that ended with CHECK CONDITION.
-pub checked_there : (s : ScenarioValue) (p : List Row) (n : ℕ) (c : CmdDef) → Obeys s → IsPrompt s p
-    → list_any (λ m. m == n) (run_state s p).story.sent.checks ≡ true → command_at s.commands n ≡ Some c
+pub checked_there : (s : ScenarioValue) (p : List Row) (i : ℕ) (c : CmdDef) → Obeys s → IsPrompt s p
+    → list_any (λ m. m == i) (run_state s p).story.sent.checks ≡ true → command_at s.commands i ≡ Some c
     → HasDevice s c.target
-checked_there s p n c o prompt e at = let h = sent_there s p o prompt in h.sent (command_id n) c (h.checked n e) at
+checked_there s p i c o prompt e at = let h = sent_there s p o prompt in h.sent (command_id i) c (h.checked i e) at

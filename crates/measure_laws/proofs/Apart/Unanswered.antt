@@ -20,11 +20,11 @@ use Rattle.progress_laws.specs.book_laws.specs.Items.{is_abort}
 
 -- ---- who is there
 
-process_host : (s : ScenarioValue) (id : ProcId) (p : Process) → FitsBus s → process_of s id ≡ Some p
-    → is_initiator s.hosts p.initiator ≡ true
-process_host s id p fits e = by_option (command_at s.commands id.command)
-    (λ z. none_some p (sym (ap (process_if s id) z) ∙ e)) (λ c z. ap (λ (x : Process). is_initiator s.hosts x.initiator)
-    (sym (same_Some (process_by s id c) p (sym (ap (process_if s id) z) ∙ e)))
+process_host : (s : ScenarioValue) (id : ProcId) (t : Process) → FitsBus s → process_of s id ≡ Some t
+    → is_initiator s.hosts t.initiator ≡ true
+process_host s id t fits e = by_option (command_at s.commands id.command)
+    (λ z. none_some t (sym (ap (process_if s id) z) ∙ e)) (λ c z. ap (λ (x : Process). is_initiator s.hosts x.initiator)
+    (sym (same_Some (process_by s id c) t (sym (ap (process_if s id) z) ∙ e)))
     ∙ by id.sense c (command_fits s id.command c fits z).host_is)
   where
     by : (q : Bool) (c : CmdDef) → is_initiator s.hosts c.host ≡ true
@@ -33,23 +33,23 @@ process_host s id p fits e = by_option (command_at s.commands id.command)
     by false c h = h
 
 -- A target calls an initiator of the scenario.
-ready_there : (s : ScenarioValue) (p : List Row) (c k : ℕ) → Obeys s → Whole s p → is_initiator s.hosts c ≡ false
-    → callee_at s p c ≡ Some k → HasDevice s k
-ready_there s p c k o w none e = by_option (ready_of s (run_state s p) c)
-    (λ f. none_some k (sym (ap initiator_if f) ∙ called)) (λ r f. let queued = items_ready s p c r w.facts.items f in
+ready_there : (s : ScenarioValue) (p : List Row) (c m : ℕ) → Obeys s → Whole s p → is_initiator s.hosts c ≡ false
+    → callee_at s p c ≡ Some m → HasDevice s m
+ready_there s p c m o w none e = by_option (ready_of s (run_state s p) c)
+    (λ f. none_some m (sym (ap initiator_if f) ∙ called)) (λ r f. let queued = items_ready s p c r w.facts.items f in
     let host = process_host s r.process.id r.process (obeys_fits s o) queued.is in subst (HasDevice s)
-    (same_Some r.process.initiator k (sym (ap initiator_if f) ∙ called)) (initiator_there s r.process.initiator host))
+    (same_Some r.process.initiator m (sym (ap initiator_if f) ∙ called)) (initiator_there s r.process.initiator host))
   where
-    called : initiator_if (ready_of s (run_state s p) c) ≡ Some k
+    called : initiator_if (ready_of s (run_state s p) c) ≡ Some m
     called = sym (ap (λ (q : Bool). if q then target_of s (aim_of (run_state s p).story.aims c)
         else initiator_if (ready_of s (run_state s p) c)) none)
         ∙ e
 
 -- An initiator that calls for an automatic REQUEST SENSE calls a target of the scenario.
-sense_target : (s : ScenarioValue) (n k : ℕ) (c : CmdDef) → command_at s.commands n ≡ Some c
-    → target_of s (Some (sense_item n)) ≡ Some k → c.target ≡ k
-sense_target s n k c at e = same_Some c.target k
-    (sym (ap (λ (o : Option CmdDef). target_if (process_if s (record { command = n; sense = true }) o)) at) ∙ e)
+sense_target : (s : ScenarioValue) (m i : ℕ) (c : CmdDef) → command_at s.commands m ≡ Some c
+    → target_of s (Some (sense_item m)) ≡ Some i → c.target ≡ i
+sense_target s m i c at e = same_Some c.target i
+    (sym (ap (λ (o : Option CmdDef). target_if (process_if s (record { command = m; sense = true }) o)) at) ∙ e)
 
 -- ---- numbers
 
@@ -89,22 +89,22 @@ no_abort [] a e = none_some a e
 no_abort (d ∷ aborts) a e = none_some a e
 
 -- The line of an abort that is called for.
-record ItsLine (s : ScenarioValue) (dev n : ℕ) : Type 0 where
+record ItsLine (s : ScenarioValue) (dev m : ℕ) : Type 0 where
   line : AbortDef
-  at : abort_line_at s.aborts n ≡ Some line
+  at : abort_line_at s.aborts m ≡ Some line
   own : line.host ≡ dev
 
 abbrev abort_of : Item → ℕ
 abort_of (abort n) = n
 abort_of (process id) = 0
 
-its_line : (s : ScenarioValue) (dev : ℕ) (item : Item) → IsItem s dev item → (n : ℕ) → item ≡ abort n → ItsLine s dev n
-its_line s dev _ (is_process id p found own) n e = absurd (no_process e)
+its_line : (s : ScenarioValue) (dev : ℕ) (item : Item) → IsItem s dev item → (i : ℕ) → item ≡ abort i → ItsLine s dev i
+its_line s dev _ (is_process id p found own) i e = absurd (no_process e)
   where
-    no_process : process id ≡ abort n → ⊥
+    no_process : process id ≡ abort i → ⊥
     no_process f = absurd cc
-its_line s dev _ (is_abort m a found own) n e =
-    let same : m ≡ n = ap abort_of e in
+its_line s dev _ (is_abort m a found own) i e =
+    let same : m ≡ i = ap abort_of e in
     record { line = a; at = ap (abort_line_at s.aborts) (sym same) ∙ found; own = own }
 
 -- What is left of the items: a try, or an item, less; or as much at most, where its target is there.
@@ -157,8 +157,8 @@ item_left s p c i o prompt aim next = by_kind i refl next
     fewer_aborts : (x : Item) → aborts x ≤ aborts_were
     fewer_aborts x = aborts_le s b (gives_up_at s b c x) x 1 s.aborts
 
-    of_command : (n : ℕ) (d : CmdDef) → command_at s.commands n ≡ Some d → d.host ≡ c → IsNext s b c (command_item n)
-        → Left (command_item n)
+    of_command : (w : ℕ) (d : CmdDef) → command_at s.commands w ≡ Some d → d.host ≡ c → IsNext s b c (command_item w)
+        → Left (command_item w)
     of_command zero d at own h = absurd (no_command s.commands d at)
     of_command (suc m) d at own h =
         let x : Item = command_item (suc m) in
@@ -167,7 +167,7 @@ item_left s p c i o prompt aim next = by_kind i refl next
         k.progress (gives_up_at s b c x) x m 1 s.commands d (next_unsent s b c x h) (next_unended s b c x h) at
         (ap command_item (one_and m)) (few_tries s b c d.host x refl own)) (fewer_aborts x)))
 
-    of_abort : (n : ℕ) → is_done b (abort n) ≡ false → ItsLine s c n → IsNext s b c (abort n) → Left (abort n)
+    of_abort : (w : ℕ) → is_done b (abort w) ≡ false → ItsLine s c w → IsNext s b c (abort w) → Left (abort w)
     of_abort zero new l h = absurd (no_abort s.aborts l.line l.at)
     of_abort (suc m) new l h =
         let x : Item = abort (suc m) in
@@ -175,11 +175,11 @@ item_left s p c i o prompt aim next = by_kind i refl next
         (aborts x) commands_were aborts_were r f (fewer_commands x h) (aborts_pay s b (gives_up_at s b c x) x m 1
         s.aborts l.line new l.at (ap (λ z. abort z) (one_and m)) (few_tries s b c l.line.host x refl l.own))))
 
-    of_sense : (n : ℕ) (d : CmdDef) → command_at s.commands n ≡ Some d → HasDevice s d.target
-        → IsNext s b c (sense_item n) → Left (sense_item n)
-    of_sense n d at there h =
-        let x : Item = sense_item n in
-        stays (λ e z. subst (HasDevice s) (sense_target s n e d at z) there)
+    of_sense : (w : ℕ) (d : CmdDef) → command_at s.commands w ≡ Some d → HasDevice s d.target
+        → IsNext s b c (sense_item w) → Left (sense_item w)
+    of_sense w d at there h =
+        let x : Item = sense_item w in
+        stays (λ e z. subst (HasDevice s) (sense_target s w e d at z) there)
         (subst (λ y. commands x + aborts x + r + f ≤ y) (sym (future_was s k))
         (both_less (commands x) (aborts x) commands_were aborts_were r f (fewer_commands x h) (fewer_aborts x)))
 
@@ -187,16 +187,16 @@ item_left s p c i o prompt aim next = by_kind i refl next
     its x e = subst (IsItem s c) e (aims_are s p c i aim)
 
     by_kind : (x : Item) → i ≡ x → IsNext s b c x → Left x
-    by_kind _ e (next_abort n new) = of_abort n new (its_line s c (abort n) (its (abort n) e) n refl) (next_abort n new)
-    by_kind _ e (is_sense n d at own checked new) =
-        of_sense n d at (checked_there s p n d o prompt checked at) (is_sense n d at own checked new)
-    by_kind _ e (is_command n time d at own new may none) =
-        of_command n d at own (is_command n time d at own new may none)
+    by_kind _ e (next_abort w new) = of_abort w new (its_line s c (abort w) (its (abort w) e) w refl) (next_abort w new)
+    by_kind _ e (is_sense w d at own checked new) =
+        of_sense w d at (checked_there s p w d o prompt checked at) (is_sense w d at own checked new)
+    by_kind _ e (is_command w time d at own new may none) =
+        of_command w d at own (is_command w time d at own new may none)
 
 -- ---- the row
 
 -- The caller releases all, and SEL falls.
-record ReleasesAll (s : ScenarioValue) (p : List Row) (row : Row) (v m : Bool) (c k t0 t1 t2 t3 : ℕ) : Type 0 where
+record ReleasesAll (s : ScenarioValue) (p : List Row) (row : Row) (v m : Bool) (c i t0 t1 t2 t3 : ℕ) : Type 0 where
   parts : ApartParts s p row
   devices : AreOfDevices p
   below : row.dev < 8
@@ -205,17 +205,17 @@ record ReleasesAll (s : ScenarioValue) (p : List Row) (row : Row) (v m : Bool) (
   calm : (bus p).rst ≡ false
   next : (bus (row ∷ p)).rst ≡ false
   lines : is_fault row.kind ≡ false
-  call_is : call p ≡ Some (withdrawn_call v m c k t0 t1 t2 t3)
+  call_is : call p ≡ Some (withdrawn_call v m c i t0 t1 t2 t3)
   sel : (bus p).sel ≡ true
   low : (bus (row ∷ p)).sel ≡ false
   way : way_left (run_state s (row ∷ p)) ≡ 40
   pays : 5 + again_if v ≤ way_left (run_state s p)
 
 -- What is sent after it.
-released_sent : (s : ScenarioValue) (p : List Row) (row : Row) (v m : Bool) (c k t0 t1 t2 t3 : ℕ)
-    → ReleasesAll s p row v m c k t0 t1 t2 t3 → (run_state s (row ∷ p)).story.sent
-    ≡ (story_after_calling s (run_state s p).story (Some (withdrawn_call v m c k t0 t1 t2 t3))).sent
-released_sent s p row v m c k t0 t1 t2 t3 h =
+released_sent : (s : ScenarioValue) (p : List Row) (row : Row) (v m : Bool) (c l t0 t1 t2 t3 : ℕ)
+    → ReleasesAll s p row v m c l t0 t1 t2 t3 → (run_state s (row ∷ p)).story.sent
+    ≡ (story_after_calling s (run_state s p).story (Some (withdrawn_call v m c l t0 t1 t2 t3))).sent
+released_sent s p row v m c l t0 t1 t2 t3 h =
     let j : RunState = run_state s p in
     let d : RowReading = row_reading j.story.bus_state row in
     let entry : is_arbitration_entry j.story d ≡ false = (λ i. rises d.change.own.bsy d.change.next.bsy
@@ -223,32 +223,32 @@ released_sent s p row v m c k t0 t1 t2 t3 h =
     ∙ none_between (rises d.change.own.bsy d.change.next.bsy) (is_none j.story.bus_state.connection) in
     let fall : falls d.change.before.sel d.change.after.sel ≡ true =
     ap (λ (x : Change). falls x.before.sel x.after.sel) h.parts.change ∙ (λ i. falls (h.sel i) (h.low i)) in
-    let called : j.story.bus_state.call ≡ Some (withdrawn_call v m c k t0 t1 t2 t3) =
+    let called : j.story.bus_state.call ≡ Some (withdrawn_call v m c l t0 t1 t2 t3) =
     (run_state_plain s p h.devices).call ∙ h.call_is in
     h.parts.sent ∙ (λ i. (free_by s j.story row (entry i) (fall i) (called i)).sent)
 
 -- What is to come after it.
-released_future : (s : ScenarioValue) (p : List Row) (row : Row) (v m : Bool) (c k t0 t1 t2 t3 : ℕ) (b : Sent)
-    → ReleasesAll s p row v m c k t0 t1 t2 t3 → (run_state s (row ∷ p)).story.sent ≡ b
+released_future : (s : ScenarioValue) (p : List Row) (row : Row) (v m : Bool) (c l t0 t1 t2 t3 : ℕ) (b : Sent)
+    → ReleasesAll s p row v m c l t0 t1 t2 t3 → (run_state s (row ∷ p)).story.sent ≡ b
     → future_left s (run_state s (row ∷ p))
     ≡ future_by s b (run_state s p) (resets_left (run_state s p) s.resets) (run_state s p).faults
-released_future s p row v m c k t0 t1 t2 t3 b h e =
+released_future s p row v m c l t0 t1 t2 t3 b h e =
     let j : RunState = run_state s p in
     future_is s p row h.parts (resets_calm s p row s.resets h.devices h.below h.calm h.next)
     ∙ (λ i. future_by s (e i) j (resets_left j s.resets) (if h.lines i then drop 1 j.faults else j.faults))
 
 -- A device that is there was struck.
-was_struck : (s : ScenarioValue) (p : List Row) (row : Row) (v m : Bool) (c k t0 t1 t2 t3 : ℕ) → Obeys s → IsPrompt s p
-    → ReleasesAll s p row v m c k t0 t1 t2 t3 → HasDevice s k → 5 + 64 ≤ way_left (run_state s p)
-was_struck s p row v m c k t0 t1 t2 t3 o prompt h there =
-    let g : Calling = record (new_calling_at m k t1) { released = Some t2; withdrawn = Some t3; struck = v } in
+was_struck : (s : ScenarioValue) (p : List Row) (row : Row) (v m : Bool) (c i t0 t1 t2 t3 : ℕ) → Obeys s → IsPrompt s p
+    → ReleasesAll s p row v m c i t0 t1 t2 t3 → HasDevice s i → 5 + 64 ≤ way_left (run_state s p)
+was_struck s p row v m c i t0 t1 t2 t3 o prompt h there =
+    let g : Calling = record (new_calling_at m i t1) { released = Some t2; withdrawn = Some t3; struck = v } in
     let struck : v ≡ true = struck_out s p o prompt h.was h.calm
-    (withdrawn_call v m c k t0 t1 t2 t3) g h.call_is refl refl refl there.latency there.latency_is in
+    (withdrawn_call v m c i t0 t1 t2 t3) g h.call_is refl refl refl there.latency there.latency_is in
     subst (λ (x : Bool). 5 + again_if x ≤ way_left (run_state s p)) struck h.pays
 
-releases : (s : ScenarioValue) (p : List Row) (row : Row) (v m : Bool) (c k t0 t1 t2 t3 : ℕ) → Obeys s → IsPrompt s p
-    → ReleasesAll s p row v m c k t0 t1 t2 t3 → suc (measure s (row ∷ p)) ≤ measure s p
-releases s p row v m c k t0 t1 t2 t3 o prompt h = falling s p row h.devices h.below h.was h.alone (by m h)
+releases : (s : ScenarioValue) (p : List Row) (row : Row) (v m : Bool) (c l t0 t1 t2 t3 : ℕ) → Obeys s → IsPrompt s p
+    → ReleasesAll s p row v m c l t0 t1 t2 t3 → suc (measure s (row ∷ p)) ≤ measure s p
+releases s p row v m c l t0 t1 t2 t3 o prompt h = falling s p row h.devices h.below h.was h.alone (by m h)
   where
     j : RunState
     j = run_state s p
@@ -259,60 +259,60 @@ releases s p row v m c k t0 t1 t2 t3 o prompt h = falling s p row h.devices h.be
     w : Whole s p
     w = whole s p o prompt
 
-    by : (m : Bool) → ReleasesAll s p row v m c k t0 t1 t2 t3
+    by : (m : Bool) → ReleasesAll s p row v m c l t0 t1 t2 t3
         → suc (future_left s q + way_left q) ≤ future_left s j + way_left j
     by false h =
-        let g : Calling = record (new_calling_at false k t1) { released = Some t2; withdrawn = Some t3; struck = v } in
+        let g : Calling = record (new_calling_at false l t1) { released = Some t2; withdrawn = Some t3; struck = v } in
         let due : IsDueCall s p c g = w.stood.called h.was h.calm
-        (withdrawn_call v false c k t0 t1 t2 t3) g h.call_is refl in
+        (withdrawn_call v false c l t0 t1 t2 t3) g h.call_is refl in
         let same : future_left s q ≡ future_left s j =
-        released_future s p row v false c k t0 t1 t2 t3 j.story.sent h (released_sent s p row v false c k t0 t1 t2 t3 h)
+        released_future s p row v false c l t0 t1 t2 t3 j.story.sent h (released_sent s p row v false c l t0 t1 t2 t3 h)
         ∙ sym (future_was s j) in
         by_strike (future_left s q) (future_left s j) (way_left q) (way_left j)
         (subst (λ x. future_left s q ≤ x) same (omega arith)) h.way
-        (was_struck s p row v false c k t0 t1 t2 t3 o prompt h (ready_there s p c k o w due.host_is due.callee_is))
+        (was_struck s p row v false c l t0 t1 t2 t3 o prompt h (ready_there s p c l o w due.host_is due.callee_is))
     by true h = aimed (aim_of j.story.aims c) refl
       where
         g : Calling
-        g = record (new_calling_at true k t1) { released = Some t2; withdrawn = Some t3; struck = v }
+        g = record (new_calling_at true l t1) { released = Some t2; withdrawn = Some t3; struck = v }
 
         due : IsDueCall s p c g
-        due = w.stood.called h.was h.calm (withdrawn_call v true c k t0 t1 t2 t3) g h.call_is refl
+        due = w.stood.called h.was h.calm (withdrawn_call v true c l t0 t1 t2 t3) g h.call_is refl
 
-        called : target_of s (aim_of j.story.aims c) ≡ Some k
+        called : target_of s (aim_of j.story.aims c) ≡ Some l
         called =
             sym (ap (λ (x : Bool). if x then target_of s (aim_of j.story.aims c) else initiator_if (ready_of s j c))
             due.host_is) ∙ due.callee_is
 
         aimed : (x : Option Item) → aim_of j.story.aims c ≡ x
             → suc (future_left s q + way_left q) ≤ future_left s j + way_left j
-        aimed None e = none_some k (sym (ap (target_of s) e) ∙ called)
+        aimed None e = none_some l (sym (ap (target_of s) e) ∙ called)
         aimed (Some i) e =
             let b : Sent = sent_if (gives_up_at s j.story.sent c i) j.story.sent i in
-            let sent : q.story.sent ≡ b = released_sent s p row v true c k t0 t1 t2 t3 h
+            let sent : q.story.sent ≡ b = released_sent s p row v true c l t0 t1 t2 t3 h
             ∙ ap (λ (x : Option Item). (story_with_try s j.story c x).sent) e ∙ try_sent s j.story c i in
-            let after = released_future s p row v true c k t0 t1 t2 t3 b h sent in
+            let after = released_future s p row v true c l t0 t1 t2 t3 b h sent in
             ending b after (item_left s p c i o prompt e
-            ((w.facts.items.aims h.was h.calm).calls (withdrawn_call v true c k t0 t1 t2 t3) h.call_is due.host_is i e))
+            ((w.facts.items.aims h.was h.calm).calls (withdrawn_call v true c l t0 t1 t2 t3) h.call_is due.host_is i e))
             (sym (ap (target_of s) e) ∙ called)
           where
             ending : (b : Sent) → future_left s q ≡ future_by s b j (resets_left j s.resets) j.faults
-                → ItemLeft s j b (target_of s (Some i)) → target_of s (Some i) ≡ Some k
+                → ItemLeft s j b (target_of s (Some i)) → target_of s (Some i) ≡ Some l
                 → suc (future_left s q + way_left q) ≤ future_left s j + way_left j
             ending b after (pays less) f = by_try (future_left s q) (future_left s j) (way_left q) (way_left j)
                 (again_if v) (subst (λ x. x + 64 ≤ future_left s j) (sym after) less) h.way h.pays
             ending b after (stays there less) f = by_strike (future_left s q) (future_left s j)
                 (way_left q) (way_left j) (subst (λ x. x ≤ future_left s j) (sym after) less) h.way
-                (was_struck s p row v true c k t0 t1 t2 t3 o prompt h (there k f))
+                (was_struck s p row v true c l t0 t1 t2 t3 o prompt h (there l f))
 
-pub gives_up_falls : (s : ScenarioValue) (p : List Row) (row : Row) (v m : Bool) (c k t0 t1 t2 t3 : ℕ)
+pub gives_up_falls : (s : ScenarioValue) (p : List Row) (row : Row) (v m : Bool) (c i t0 t1 t2 t3 : ℕ)
     → Obeys s → IsPrompt s p → ApartParts s p row → AreOfDevices p → row.dev < 8 → connection p ≡ None
     → connection (row ∷ p) ≡ None → (bus p).rst ≡ false → (bus (row ∷ p)).rst ≡ false → is_fault row.kind ≡ false
-    → call p ≡ Some (withdrawn_call v m c k t0 t1 t2 t3) → (bus p).sel ≡ true → (bus (row ∷ p)).sel ≡ false
+    → call p ≡ Some (withdrawn_call v m c i t0 t1 t2 t3) → (bus p).sel ≡ true → (bus (row ∷ p)).sel ≡ false
     → way_left (run_state s (row ∷ p)) ≡ 40 → 5 + again_if v ≤ way_left (run_state s p)
     → suc (measure s (row ∷ p)) ≤ measure s p
-gives_up_falls s p row v m c k t0 t1 t2 t3 o prompt parts dv lt was alone calm next lines called sel low way credit =
-    releases s p row v m c k t0 t1 t2 t3 o prompt (record {
+gives_up_falls s p row v m c i t0 t1 t2 t3 o prompt parts dv lt was alone calm next lines called sel low way credit =
+    releases s p row v m c i t0 t1 t2 t3 o prompt (record {
       parts = parts;
       devices = dv;
       below = lt;

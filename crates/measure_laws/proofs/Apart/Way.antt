@@ -60,7 +60,7 @@ way_is s p st dv e = ap (stage_left k) ((run_state_plain s p dv).stage ∙ e) �
 pub with_line : (on : LineSet → Bool) → on none ≡ false → (l : LineSet) → on l ≡ true → busy_one l ≡ 1
 with_line on off l e = go (same_set l none) refl
   where
-    go : (q : Bool) → same_set l none ≡ q → (let n : ℕ = if q then 0 else 1 in n) ≡ 1
+    go : (q : Bool) → same_set l none ≡ q → (let m : ℕ = if q then 0 else 1 in m) ≡ 1
     go true f = wrong (sym e ∙ ap on (same_set-eq l none f) ∙ off)
     go false f = refl
 
@@ -94,8 +94,8 @@ pub data ApartRow (s : ScenarioValue) (p : List Row) (row : Row) : Type 0 where
   strikes : (t d bit time : ℕ) → row ≡ row_of_fault t d bit → flip_of (run_state s p).faults time ≡ Some bit
       → falls (bus p).sel (bus (row ∷ p)).sel ≡ false → way_left (run_state s (row ∷ p)) ≤ way_left (run_state s p) + 64
       → ApartRow s p row
-  gives_up : (v m : Bool) (c k t0 t1 t2 t3 : ℕ) → is_fault row.kind ≡ false
-      → call p ≡ Some (withdrawn_call v m c k t0 t1 t2 t3) → (bus p).sel ≡ true → (bus (row ∷ p)).sel ≡ false
+  gives_up : (v m : Bool) (c i t0 t1 t2 t3 : ℕ) → is_fault row.kind ≡ false
+      → call p ≡ Some (withdrawn_call v m c i t0 t1 t2 t3) → (bus p).sel ≡ true → (bus (row ∷ p)).sel ≡ false
       → way_left (run_state s (row ∷ p)) ≡ 40 → 5 + again_if v ≤ way_left (run_state s p) → ApartRow s p row
 
 -- From a stage to a stage.
@@ -149,7 +149,7 @@ free_row s p row dv h m =
     subst (λ (r : Row). ApartRow s p r) (sym e) (enters s p row.time row.dev dv m.inside h)
 
 fewer : (b c q r x y : ℕ) → b + x ≡ c + y → c + r ≡ 8 → b + q ≡ 8 → x ≡ 0 → y ≡ 1 → suc (16 + q) ≤ 16 + r
-fewer b c q r x y h k l ex ey = omega (arith, h, k, l, ex, ey)
+fewer b c q r x y h e l ex ey = omega (arith, h, e, l, ex, ey)
 
 contends : (s : ScenarioValue) (p : List Row) (a : Arbitration) (e : ℕ) → (drives p e ≡ none) ⊎ IsContender s p a e
     → (drives p e ≡ none) ⊎ (drives p e ≡ contender_lines e)
@@ -270,20 +270,20 @@ loses s p c t0 t d dv lt h ne_c o =
     (one_less (busy (drives q)) (busy (drives p)) (busy_one (drives p d)) (busy_one none) m.swaps
     (ap busy_one o ∙ with_bsy (contender_lines d) refl) refl)
 
-new_calling_is : (m : Bool) (c k t : ℕ) → IsCall m c k → new_calling c (both_ids m c k) t ≡ new_calling_at m k t
-new_calling_is m c k t h = λ i. record (new_calling_at m k t) { called = h.other i }
+new_calling_is : (m : Bool) (c l t : ℕ) → IsCall m c l → new_calling c (both_ids m c l) t ≡ new_calling_at m l t
+new_calling_is m c l t h = λ i. record (new_calling_at m l t) { called = h.other i }
 
 same_less : (b c x y u v : ℕ) → b + x ≡ c + y → x ≡ 1 → y ≡ 1 → suc v ≤ u → suc (b + v) ≤ c + u
 same_less b c x y u v h ex ey l = omega (arith, h, ex, ey, l)
 
-makes_call : (s : ScenarioValue) (p : List Row) (m : Bool) (c k t0 t : ℕ) → HasShortLatencies s → CalmStanding s p
-    → ArbitrationWon s p c t0 → IsLeast (unreset_due s p) 8 (row_of_lines t c (both_ids m c k)) → t0 + QUIET_TIME ≤ t
-    → k < 8 → k ≢ c → ApartRow s p (row_of_lines t c (both_ids m c k))
-makes_call s p m c k t0 t fits always h least wait lk ne_k =
-    let l : LineSet = both_ids m c k in
+makes_call : (s : ScenarioValue) (p : List Row) (m : Bool) (c x t0 t : ℕ) → HasShortLatencies s → CalmStanding s p
+    → ArbitrationWon s p c t0 → IsLeast (unreset_due s p) 8 (row_of_lines t c (both_ids m c x)) → t0 + QUIET_TIME ≤ t
+    → x < 8 → x ≢ c → ApartRow s p (row_of_lines t c (both_ids m c x))
+makes_call s p m c x t0 t fits always h least wait lk ne_k =
+    let l : LineSet = both_ids m c x in
     let q : List Row = row_of_lines t c l ∷ p in
     let own : drives q c ≡ l = drives_own p t c l in
-    let ids = is_call m c k h.caller_below lk (λ z. ne_k (sym z)) in
+    let ids = is_call m c x h.caller_below lk (λ z. ne_k (sym z)) in
     let quiets : (e : ℕ) → e < 8 → e ≢ c → drives p e ≡ none = λ e lt ne. elim (h.each e lt ne) [
       | inl n ↦ n
       | inr o ↦ gone e lt ne o
@@ -299,20 +299,20 @@ makes_call s p m c k t0 t fits always h least wait lk ne_k =
     } in
     let goes = stands_after p t c l l (won_lines c) l (won_lines c) None
     (Some (won_call c t0)) None stood refl after h.caller in
-    let calling : call q ≡ Some (begun_call m c k t0 t) = goes.call_is ∙ (λ i. Some (record (won_call c t0) {
+    let calling : call q ≡ Some (begun_call m c x t0 t) = goes.call_is ∙ (λ i. Some (record (won_call c t0) {
       calling =
-          if eq_self c i && ids.two i then Some (new_calling_is m c k t ids i) else None;
+          if eq_self c i && ids.two i then Some (new_calling_is m c x t ids i) else None;
     })) in
-    let stands : Stands q l None (Some (begun_call m c k t0 t)) None = record {
+    let stands : Stands q l None (Some (begun_call m c x t0 t)) None = record {
       bus_is = after;
       arbitration_is = goes.arbitration_is;
       call_is = calling;
       connection_is = goes.connection_is;
     } in
-    let here : stage q ≡ InCalling (begun_call m c k t0 t) = stage_is q _ _ _ _ stands in
+    let here : stage q ≡ InCalling (begun_call m c x t0 t) = stage_is q _ _ _ _ stands in
     let was : stage p ≡ InCalling (won_call c t0) = stage_is p _ _ _ _ h.stands in
     let v = moves p t c l h.caller_below in
-    passing s p (row_of_lines t c l) (InCalling (won_call c t0)) (InCalling (begun_call m c k t0 t))
+    passing s p (row_of_lines t c l) (InCalling (won_call c t0)) (InCalling (begun_call m c x t0 t))
     always.devices h.caller_below refl (sel_holds p (row_of_lines t c l) l after refl) was here
     (same_less (busy (drives q)) (busy (drives p)) (busy_one (drives p c)) (busy_one l) 7 6 v.swaps
     (ap busy_one h.caller ∙ with_bsy (won_lines c) refl) (with_bsy l refl) (omega arith))
@@ -361,57 +361,57 @@ won_row s p c t0 row fits always h m =
 
 -- ---- falls_true IDs, and the answer
 
-makes_asking : (s : ScenarioValue) (p : List Row) (m : Bool) (c k t0 t1 t : ℕ) → AreOfDevices p
-    → Calls s p (begun_call m c k t0 t1) c k (both_ids m c k) none (both_ids m c k)
-    → ApartRow s p (row_of_lines t c (calling_lines m false (2 ^ c + 2 ^ k + 256)))
-makes_asking s p m c k t0 t1 t dv h =
-    let l : LineSet = calling_lines m false (2 ^ c + 2 ^ k + 256) in
+makes_asking : (s : ScenarioValue) (p : List Row) (m : Bool) (c w t0 t1 t : ℕ) → AreOfDevices p
+    → Calls s p (begun_call m c w t0 t1) c w (both_ids m c w) none (both_ids m c w)
+    → ApartRow s p (row_of_lines t c (calling_lines m false (2 ^ c + 2 ^ w + 256)))
+makes_asking s p m c w t0 t1 t dv h =
+    let l : LineSet = calling_lines m false (2 ^ c + 2 ^ w + 256) in
     let q : List Row = row_of_lines t c l ∷ p in
     let own : drives q c ≡ l = drives_own p t c l in
-    let quiets = only_caller s p _ c k _ _ h in
+    let quiets = only_caller s p _ c w _ _ h in
     let rest : (e : ℕ) → e < 8 → e ≢ c → drives q e ≡ none = λ e lt ne. drives_other p t c l e ne ∙ quiets e lt ne in
     let after : bus q ≡ l = bus_one q c h.caller_below rest ∙ own in
-    let goes = stands_after p t c l l (both_ids m c k) l (both_ids m c k) None
-    (Some (begun_call m c k t0 t1)) None h.stands refl after h.caller in
-    let calling : call q ≡ Some (awaiting_call false m c k t0 t1 t) = goes.call_is
-    ∙ (λ i. Some (record (begun_call m c k t0 t1) {
-      calling = if eq_self c i then Some (record (new_calling_at m k t1) {
+    let goes = stands_after p t c l l (both_ids m c w) l (both_ids m c w) None
+    (Some (begun_call m c w t0 t1)) None h.stands refl after h.caller in
+    let calling : call q ≡ Some (awaiting_call false m c w t0 t1 t) = goes.call_is
+    ∙ (λ i. Some (record (begun_call m c w t0 t1) {
+      calling = if eq_self c i then Some (record (new_calling_at m w t1) {
         released = Some t;
-        withdrawn = when (not (ids_not_zero c k i) && ids_not_zero c k i) t None;
-      }) else if c == k then Some (record (new_calling_at m k t1) { struck = false }) else Some (new_calling_at m k t1);
+        withdrawn = when (not (ids_not_zero c w i) && ids_not_zero c w i) t None;
+      }) else if c == w then Some (record (new_calling_at m w t1) { struck = false }) else Some (new_calling_at m w t1);
     })) in
-    let stands : Stands q l None (Some (awaiting_call false m c k t0 t1 t)) None = record {
+    let stands : Stands q l None (Some (awaiting_call false m c w t0 t1 t)) None = record {
       bus_is = after;
       arbitration_is = goes.arbitration_is;
       call_is = calling;
       connection_is = goes.connection_is;
     } in
-    let here : stage q ≡ InCalling (awaiting_call false m c k t0 t1 t) = stage_is q _ _ _ _ stands in
-    let was : stage p ≡ InCalling (begun_call m c k t0 t1) = stage_is p _ _ _ _ h.stands in
+    let here : stage q ≡ InCalling (awaiting_call false m c w t0 t1 t) = stage_is q _ _ _ _ stands in
+    let was : stage p ≡ InCalling (begun_call m c w t0 t1) = stage_is p _ _ _ _ h.stands in
     let v = moves p t c l h.caller_below in
-    passing s p (row_of_lines t c l) (InCalling (begun_call m c k t0 t1)) (InCalling
-    (awaiting_call false m c k t0 t1 t)) dv h.caller_below refl (sel_holds p (row_of_lines t c l) l after refl) was here
+    passing s p (row_of_lines t c l) (InCalling (begun_call m c w t0 t1)) (InCalling
+    (awaiting_call false m c w t0 t1 t)) dv h.caller_below refl (sel_holds p (row_of_lines t c l) l after refl) was here
     (same_less (busy (drives q)) (busy (drives p)) (busy_one (drives p c)) (busy_one l) 6 (5 + 0) v.swaps
-    (ap busy_one h.caller ∙ with_sel (both_ids m c k) refl) (with_sel l refl) (omega arith))
+    (ap busy_one h.caller ∙ with_sel (both_ids m c w) refl) (with_sel l refl) (omega arith))
 
-calls_row : (s : ScenarioValue) (p : List Row) (m : Bool) (c k t0 t1 : ℕ) (row : Row) → AreOfDevices p
-    → Calls s p (begun_call m c k t0 t1) c k (both_ids m c k) none (both_ids m c k) → IsLeast (unreset_due s p) 8 row
+calls_row : (s : ScenarioValue) (p : List Row) (m : Bool) (c l t0 t1 : ℕ) (row : Row) → AreOfDevices p
+    → Calls s p (begun_call m c l t0 t1) c l (both_ids m c l) none (both_ids m c l) → IsLeast (unreset_due s p) 8 row
     → ApartRow s p row
-calls_row s p m c k t0 t1 row dv h least =
+calls_row s p m c l t0 t1 row dv h least =
     let x : Due = record { time = row.time; kind = row.kind } in
     let w = is_there s p row.dev x least.is_due in
-    let was : stage p ≡ InCalling (begun_call m c k t0 t1) = stage_is p _ _ _ _ h.stands in
+    let was : stage p ≡ InCalling (begun_call m c l t0 t1) = stage_is p _ _ _ _ h.stands in
     elim (cases_eq row.dev c) [
       | inl same ↦
-          let z = is_at (own_time p c + 90 + w.0) (calling_lines m false (2 ^ c + 2 ^ k + 256)) x
-          (sym (asks_due s p m c k t0 t1 w.0 (both_ids m c k) dv h.caller_below (ap (latency_of s) (sym same) ∙ w.1)
+          let z = is_at (own_time p c + 90 + w.0) (calling_lines m false (2 ^ c + 2 ^ l + 256)) x
+          (sym (asks_due s p m c l t0 t1 w.0 (both_ids m c l) dv h.caller_below (ap (latency_of s) (sym same) ∙ w.1)
           h.stands.connection_is was h.caller) ∙ ap (unreset_due s p) (sym same) ∙ least.is_due) in
-          let e : row ≡ row_of_lines row.time c (calling_lines m false (2 ^ c + 2 ^ k + 256)) =
+          let e : row ≡ row_of_lines row.time c (calling_lines m false (2 ^ c + 2 ^ l + 256)) =
           λ i. record { time = row.time; dev = same i; kind = z.kind_is i } in
-          subst (λ (r : Row). ApartRow s p r) (sym e) (makes_asking s p m c k t0 t1 row.time dv h)
+          subst (λ (r : Row). ApartRow s p r) (sym e) (makes_asking s p m c l t0 t1 row.time dv h)
       | inr ne ↦
-          let v = sym (before_due s p m c k t0 t1 row.dev w.0 dv least.inside w.1 h.stands.connection_is
-          (λ z. ne (sym z)) was (only_caller s p _ c k _ _ h row.dev least.inside ne)) ∙ least.is_due in
+          let v = sym (before_due s p m c l t0 t1 row.dev w.0 dv least.inside w.1 h.stands.connection_is
+          (λ z. ne (sym z)) was (only_caller s p _ c l _ _ h row.dev least.inside ne)) ∙ least.is_due in
           absurd cc
     ]
 
@@ -422,181 +422,181 @@ met_is false x = λ i. record (calling_lines false true x) { data_bits = or_zero
 one_more : (b c x y : ℕ) → b + x ≡ c + y → x ≡ 0 → y ≡ 1 → suc (b + 3) ≤ c + 5
 one_more b c x y h ex ey = omega (arith, h, ex, ey)
 
-makes_answer : (s : ScenarioValue) (p : List Row) (m : Bool) (c k t0 t1 t2 n t : ℕ) → AreOfDevices p
-    → AwaitsAnswer s p false m c k t0 t1 t2 n → ApartRow s p (row_of_lines t k answer_lines)
-makes_answer s p m c k t0 t1 t2 n t dv a =
+makes_answer : (s : ScenarioValue) (p : List Row) (m : Bool) (c w t0 t1 t2 u t : ℕ) → AreOfDevices p
+    → AwaitsAnswer s p false m c w t0 t1 t2 u → ApartRow s p (row_of_lines t w answer_lines)
+makes_answer s p m c w t0 t1 t2 u t dv a =
     let h = a.here in
-    let b : LineSet = calling_lines m false n in
-    let b' : LineSet = calling_lines m true n in
+    let b : LineSet = calling_lines m false u in
+    let b' : LineSet = calling_lines m true u in
     let l : LineSet = answer_lines in
-    let q : List Row = row_of_lines t k l ∷ p in
-    let own : drives q k ≡ l = drives_own p t k l in
-    let holds : drives q c ≡ b = drives_other p t k l c h.apart ∙ h.caller in
-    let rest : (e : ℕ) → e < 8 → e ≢ c → e ≢ k → drives q e ≡ none = λ e lt n1 n2. drives_other p t k l e n2
+    let q : List Row = row_of_lines t w l ∷ p in
+    let own : drives q w ≡ l = drives_own p t w l in
+    let holds : drives q c ≡ b = drives_other p t w l c h.apart ∙ h.caller in
+    let rest : (e : ℕ) → e < 8 → e ≢ c → e ≢ w → drives q e ≡ none = λ e lt n1 n2. drives_other p t w l e n2
     ∙ h.rest e lt n1 n2 in
-    let after : bus q ≡ b' = bus_two q c k h.apart h.caller_below h.called_below rest
-    ∙ (λ i. union (holds i) (own i)) ∙ met_is m n in
-    let goes = stands_after p t k l l b b' none None
-    (Some (awaiting_call false m c k t0 t1 t2)) None h.stands refl after h.other in
-    let ne : k ≢ c = λ z. h.apart (sym z) in
-    let g : Calling = record (new_calling_at m k t1) { released = Some t2 } in
-    let calling : call q ≡ Some (call_with c t0 (answered_calling m k t1 t2 t)) = goes.call_is
-    ∙ (λ i. Some (record (awaiting_call false m c k t0 t1 t2) {
+    let after : bus q ≡ b' = bus_two q c w h.apart h.caller_below h.called_below rest
+    ∙ (λ i. union (holds i) (own i)) ∙ met_is m u in
+    let goes = stands_after p t w l l b b' none None
+    (Some (awaiting_call false m c w t0 t1 t2)) None h.stands refl after h.other in
+    let ne : w ≢ c = λ z. h.apart (sym z) in
+    let g : Calling = record (new_calling_at m w t1) { released = Some t2 } in
+    let calling : call q ≡ Some (call_with c t0 (answered_calling m w t1 t2 t)) = goes.call_is
+    ∙ (λ i. Some (record (awaiting_call false m c w t0 t1 t2) {
       calling =
-          if ne_eqb k c ne i then Some (record g { resumed = Some t; withdrawn = None })
-          else if eq_self k i then Some (answered_calling m k t1 t2 t) else Some g;
+          if ne_eqb w c ne i then Some (record g { resumed = Some t; withdrawn = None })
+          else if eq_self w i then Some (answered_calling m w t1 t2 t) else Some g;
     })) in
-    let stands : Stands q b' None (Some (call_with c t0 (answered_calling m k t1 t2 t))) None = record {
+    let stands : Stands q b' None (Some (call_with c t0 (answered_calling m w t1 t2 t))) None = record {
       bus_is = after;
       arbitration_is = goes.arbitration_is;
       call_is = calling;
       connection_is = goes.connection_is;
     } in
-    let here : stage q ≡ InAnswer (call_with c t0 (answered_calling m k t1 t2 t)) (answered_calling m k t1 t2 t) t =
+    let here : stage q ≡ InAnswer (call_with c t0 (answered_calling m w t1 t2 t)) (answered_calling m w t1 t2 t) t =
     stage_is q _ _ _ _ stands in
-    let was : stage p ≡ InCalling (awaiting_call false m c k t0 t1 t2) = stage_is p _ _ _ _ h.stands in
-    let v = moves p t k l h.called_below in
-    passing s p (row_of_lines t k l) (InCalling (awaiting_call false m c k t0 t1 t2))
-    (InAnswer (call_with c t0 (answered_calling m k t1 t2 t)) (answered_calling m k t1 t2 t) t) dv h.called_below refl
-    (sel_holds p (row_of_lines t k l) b' after refl) was here (one_more (busy (drives q)) (busy (drives p))
-    (busy_one (drives p k)) (busy_one l) v.swaps (ap busy_one h.other) (with_bsy l refl))
+    let was : stage p ≡ InCalling (awaiting_call false m c w t0 t1 t2) = stage_is p _ _ _ _ h.stands in
+    let v = moves p t w l h.called_below in
+    passing s p (row_of_lines t w l) (InCalling (awaiting_call false m c w t0 t1 t2))
+    (InAnswer (call_with c t0 (answered_calling m w t1 t2 t)) (answered_calling m w t1 t2 t) t) dv h.called_below refl
+    (sel_holds p (row_of_lines t w l) b' after refl) was here (one_more (busy (drives q)) (busy (drives p))
+    (busy_one (drives p w)) (busy_one l) v.swaps (ap busy_one h.other) (with_bsy l refl))
 
 -- A fault strikes the IDs.
 struck_more : (b c : ℕ) → b ≡ c → b + (5 + 64) ≤ c + (5 + 0) + 64
 struck_more b c h = omega (arith, h)
 
-makes_fault : (s : ScenarioValue) (p : List Row) (m : Bool) (c k t0 t1 t2 n t bit time : ℕ) → AreOfDevices p
-    → AwaitsAnswer s p false m c k t0 t1 t2 n → flip_of (run_state s p).faults time ≡ Some bit
-    → ApartRow s p (row_of_fault t k bit)
-makes_fault s p m c k t0 t1 t2 n t bit time dv a flips =
+makes_fault : (s : ScenarioValue) (p : List Row) (m : Bool) (c l t0 t1 t2 w t bit time : ℕ) → AreOfDevices p
+    → AwaitsAnswer s p false m c l t0 t1 t2 w → flip_of (run_state s p).faults time ≡ Some bit
+    → ApartRow s p (row_of_fault t l bit)
+makes_fault s p m c l t0 t1 t2 w t bit time dv a flips =
     let h = a.here in
-    let b : LineSet = calling_lines m false n in
-    let row : Row = row_of_fault t k bit in
+    let b : LineSet = calling_lines m false w in
+    let row : Row = row_of_fault t l bit in
     let q : List Row = row ∷ p in
     let g : Change = change_to b b none none in
-    let e : change_of p row ≡ g = fault_change p t k bit b none h.stands.bus_is h.other in
-    let goes = stands_by p row g b None (Some (awaiting_call false m c k t0 t1 t2)) None h.stands e in
-    let ne : k ≢ c = λ z. h.apart (sym z) in
-    let f : Calling = record (new_calling_at m k t1) { released = Some t2 } in
-    let calling : call q ≡ Some (awaiting_call true m c k t0 t1 t2) = goes.call_is
-    ∙ (λ i. Some (record (awaiting_call false m c k t0 t1 t2) {
+    let e : change_of p row ≡ g = fault_change p t l bit b none h.stands.bus_is h.other in
+    let goes = stands_by p row g b None (Some (awaiting_call false m c l t0 t1 t2)) None h.stands e in
+    let ne : l ≢ c = λ z. h.apart (sym z) in
+    let f : Calling = record (new_calling_at m l t1) { released = Some t2 } in
+    let calling : call q ≡ Some (awaiting_call true m c l t0 t1 t2) = goes.call_is
+    ∙ (λ i. Some (record (awaiting_call false m c l t0 t1 t2) {
       calling =
-          if ne_eqb k c ne i then Some f else if eq_self k i then Some (record f { struck = true }) else Some f;
+          if ne_eqb l c ne i then Some f else if eq_self l i then Some (record f { struck = true }) else Some f;
     })) in
-    let stands : Stands q b None (Some (awaiting_call true m c k t0 t1 t2)) None = record {
+    let stands : Stands q b None (Some (awaiting_call true m c l t0 t1 t2)) None = record {
       bus_is = goes.bus_is;
       arbitration_is = goes.arbitration_is;
       call_is = calling;
       connection_is = goes.connection_is;
     } in
-    let here : stage q ≡ InCalling (awaiting_call true m c k t0 t1 t2) = stage_is q _ _ _ _ stands in
-    let was : stage p ≡ InCalling (awaiting_call false m c k t0 t1 t2) = stage_is p _ _ _ _ h.stands in
-    let before = way_is s p (InCalling (awaiting_call false m c k t0 t1 t2)) dv was in
-    let after = way_is s q (InCalling (awaiting_call true m c k t0 t1 t2)) (h.called_below, dv) here in
+    let here : stage q ≡ InCalling (awaiting_call true m c l t0 t1 t2) = stage_is q _ _ _ _ stands in
+    let was : stage p ≡ InCalling (awaiting_call false m c l t0 t1 t2) = stage_is p _ _ _ _ h.stands in
+    let before = way_is s p (InCalling (awaiting_call false m c l t0 t1 t2)) dv was in
+    let after = way_is s q (InCalling (awaiting_call true m c l t0 t1 t2)) (h.called_below, dv) here in
     let same = busy_same (drives p) (drives q) (λ d lt. drives-fault row p bit d refl) in
     let more = struck_more (busy (drives q)) (busy (drives p)) same in
-    strikes t k bit time refl flips (sel_holds p row b goes.bus_is refl) (subst (λ x. way_left (run_state s q) ≤ x + 64)
+    strikes t l bit time refl flips (sel_holds p row b goes.bus_is refl) (subst (λ x. way_left (run_state s q) ≤ x + 64)
     (sym before) (subst (λ x. x ≤ busy (drives p) + (5 + 0) + 64) (sym after) more))
 
 -- No answer has come: the caller withdraws the IDs.
-makes_withdrawal : (s : ScenarioValue) (p : List Row) (v m : Bool) (c k t0 t1 t2 n t : ℕ) → AreOfDevices p
-    → AwaitsAnswer s p v m c k t0 t1 t2 n → ApartRow s p (row_of_lines t c (calling_lines m false 0))
-makes_withdrawal s p v m c k t0 t1 t2 n t dv a =
+makes_withdrawal : (s : ScenarioValue) (p : List Row) (v m : Bool) (c u t0 t1 t2 x t : ℕ) → AreOfDevices p
+    → AwaitsAnswer s p v m c u t0 t1 t2 x → ApartRow s p (row_of_lines t c (calling_lines m false 0))
+makes_withdrawal s p v m c u t0 t1 t2 x t dv a =
     let h = a.here in
-    let b : LineSet = calling_lines m false n in
+    let b : LineSet = calling_lines m false x in
     let l : LineSet = calling_lines m false 0 in
     let q : List Row = row_of_lines t c l ∷ p in
     let own : drives q c ≡ l = drives_own p t c l in
-    let quiets = only_caller s p _ c k _ _ h in
+    let quiets = only_caller s p _ c u _ _ h in
     let rest : (e : ℕ) → e < 8 → e ≢ c → drives q e ≡ none = λ e lt ne. drives_other p t c l e ne ∙ quiets e lt ne in
     let after : bus q ≡ l = bus_one q c h.caller_below rest ∙ own in
     let goes = stands_after p t c l l b l b None
-    (Some (awaiting_call v m c k t0 t1 t2)) None h.stands refl after h.caller in
-    let calling : call q ≡ Some (withdrawn_call v m c k t0 t1 t2 t) = goes.call_is
-    ∙ (λ i. Some (record (awaiting_call v m c k t0 t1 t2) {
+    (Some (awaiting_call v m c u t0 t1 t2)) None h.stands refl after h.caller in
+    let calling : call q ≡ Some (withdrawn_call v m c u t0 t1 t2 t) = goes.call_is
+    ∙ (λ i. Some (record (awaiting_call v m c u t0 t1 t2) {
       calling =
-          if eq_self c i then Some (record (new_calling_at m k t1) {
+          if eq_self c i then Some (record (new_calling_at m u t1) {
             released = Some t2;
             withdrawn = when (not (a.some i) && true) t None;
             struck = v;
           })
-          else if c == k then Some (record (new_calling_at m k t1) { released = Some t2; struck = v || false })
-          else Some (record (new_calling_at m k t1) { released = Some t2; struck = v });
+          else if c == u then Some (record (new_calling_at m u t1) { released = Some t2; struck = v || false })
+          else Some (record (new_calling_at m u t1) { released = Some t2; struck = v });
     })) in
-    let stands : Stands q l None (Some (withdrawn_call v m c k t0 t1 t2 t)) None = record {
+    let stands : Stands q l None (Some (withdrawn_call v m c u t0 t1 t2 t)) None = record {
       bus_is = after;
       arbitration_is = goes.arbitration_is;
       call_is = calling;
       connection_is = goes.connection_is;
     } in
-    let here : stage q ≡ InCalling (withdrawn_call v m c k t0 t1 t2 t) = stage_is q _ _ _ _ stands in
-    let was : stage p ≡ InCalling (awaiting_call v m c k t0 t1 t2) = stage_is p _ _ _ _ h.stands in
+    let here : stage q ≡ InCalling (withdrawn_call v m c u t0 t1 t2 t) = stage_is q _ _ _ _ stands in
+    let was : stage p ≡ InCalling (awaiting_call v m c u t0 t1 t2) = stage_is p _ _ _ _ h.stands in
     let w = moves p t c l h.caller_below in
-    passing s p (row_of_lines t c l) (InCalling (awaiting_call v m c k t0 t1 t2)) (InCalling
-    (withdrawn_call v m c k t0 t1 t2 t)) dv h.caller_below refl (sel_holds p (row_of_lines t c l) l after refl) was here
+    passing s p (row_of_lines t c l) (InCalling (awaiting_call v m c u t0 t1 t2)) (InCalling
+    (withdrawn_call v m c u t0 t1 t2 t)) dv h.caller_below refl (sel_holds p (row_of_lines t c l) l after refl) was here
     (same_less (busy (drives q)) (busy (drives p)) (busy_one (drives p c)) (busy_one l) (5 + again_if v)
     (4 + again_if v) w.swaps (ap busy_one h.caller ∙ with_sel b refl) (with_sel l refl) (omega arith))
 
-makes_answer_or_fault : (s : ScenarioValue) (p : List Row) (m : Bool) (c k t0 t1 t2 n lat : ℕ) (row : Row)
-    → AreOfDevices p → AwaitsAnswer s p false m c k t0 t1 t2 n → row.dev ≡ k → (o : Option ℕ) → flip_at s p lat ≡ o
+makes_answer_or_fault : (s : ScenarioValue) (p : List Row) (m : Bool) (c l t0 t1 t2 u lat : ℕ) (row : Row)
+    → AreOfDevices p → AwaitsAnswer s p false m c l t0 t1 t2 u → row.dev ≡ l → (o : Option ℕ) → flip_at s p lat ≡ o
     → (let x : Due = record { time = row.time; kind = row.kind } in fault_or
     ((line_times p).bsy + BUS_SETTLE_DELAY + lat) o (due_at ((line_times p).bsy + BUS_SETTLE_DELAY + lat) answer_lines)
     ≡ Some x) → ApartRow s p row
-makes_answer_or_fault s p m c k t0 t1 t2 n lat row dv a same None flips f =
+makes_answer_or_fault s p m c l t0 t1 t2 u lat row dv a same None flips f =
     let x : Due = record { time = row.time; kind = row.kind } in
     let z = is_at ((line_times p).bsy + BUS_SETTLE_DELAY + lat) answer_lines x f in
-    let e : row ≡ row_of_lines row.time k answer_lines = λ i. record {
+    let e : row ≡ row_of_lines row.time l answer_lines = λ i. record {
       time = row.time;
       dev = same i;
       kind = z.kind_is i;
     } in
-    subst (λ (r : Row). ApartRow s p r) (sym e) (makes_answer s p m c k t0 t1 t2 n row.time dv a)
-makes_answer_or_fault s p m c k t0 t1 t2 n lat row dv a same (Some bit) flips f =
+    subst (λ (r : Row). ApartRow s p r) (sym e) (makes_answer s p m c l t0 t1 t2 u row.time dv a)
+makes_answer_or_fault s p m c l t0 t1 t2 u lat row dv a same (Some bit) flips f =
     let x : Due = record { time = row.time; kind = row.kind } in
     let y : Due = record { time = (line_times p).bsy + BUS_SETTLE_DELAY + lat; kind = Fault bit } in
     let kind : row.kind ≡ Fault bit = ap (λ (w : Due). w.kind) (sym (same_Some y x f)) in
-    let e : row ≡ row_of_fault row.time k bit = λ i. record { time = row.time; dev = same i; kind = kind i } in
+    let e : row ≡ row_of_fault row.time l bit = λ i. record { time = row.time; dev = same i; kind = kind i } in
     subst (λ (r : Row). ApartRow s p r) (sym e)
-    (makes_fault s p m c k t0 t1 t2 n row.time bit ((line_times p).bsy + BUS_SETTLE_DELAY + lat) dv a flips)
+    (makes_fault s p m c l t0 t1 t2 u row.time bit ((line_times p).bsy + BUS_SETTLE_DELAY + lat) dv a flips)
 
-asking_row : (s : ScenarioValue) (p : List Row) (v m : Bool) (c k t0 t1 t2 n : ℕ) (row : Row) → AreOfDevices p
-    → AwaitsAnswer s p v m c k t0 t1 t2 n → IsLeast (unreset_due s p) 8 row → ApartRow s p row
-asking_row s p v m c k t0 t1 t2 n row dv a least =
+asking_row : (s : ScenarioValue) (p : List Row) (v m : Bool) (c l t0 t1 t2 u : ℕ) (row : Row) → AreOfDevices p
+    → AwaitsAnswer s p v m c l t0 t1 t2 u → IsLeast (unreset_due s p) 8 row → ApartRow s p row
+asking_row s p v m c l t0 t1 t2 u row dv a least =
     let h = a.here in
     let x : Due = record { time = row.time; kind = row.kind } in
     let w = is_there s p row.dev x least.is_due in
-    let was : stage p ≡ InCalling (awaiting_call v m c k t0 t1 t2) = stage_is p _ _ _ _ h.stands in
+    let was : stage p ≡ InCalling (awaiting_call v m c l t0 t1 t2) = stage_is p _ _ _ _ h.stands in
     elim (cases_eq row.dev c) [
       | inl same ↦
-          let z = is_at (t2 + 250000000 + w.0) (record (calling_lines m false n) { data_bits = 0 }) x
-          (sym (waits_due s p v m c k t0 t1 t2 w.0 (calling_lines m false n) dv h.caller_below
+          let z = is_at (t2 + 250000000 + w.0) (record (calling_lines m false u) { data_bits = 0 }) x
+          (sym (waits_due s p v m c l t0 t1 t2 w.0 (calling_lines m false u) dv h.caller_below
           (ap (latency_of s) (sym same) ∙ w.1) h.stands.connection_is was h.caller)
           ∙ ap (unreset_due s p) (sym same) ∙ least.is_due) in
           let e : row ≡ row_of_lines row.time c (calling_lines m false 0) =
           λ i. record { time = row.time; dev = same i; kind = z.kind_is i } in
-          subst (λ (r : Row). ApartRow s p r) (sym e) (makes_withdrawal s p v m c k t0 t1 t2 n row.time dv a)
-      | inr nc ↦ elim (cases_eq row.dev k) [
+          subst (λ (r : Row). ApartRow s p r) (sym e) (makes_withdrawal s p v m c l t0 t1 t2 u row.time dv a)
+      | inr nc ↦ elim (cases_eq row.dev l) [
         | inl same ↦ called_acts v a was same
         | inr nk ↦ absurd
-            (none-some x (sym (aside_due s p v m c k t0 t1 t2 row.dev w.0 dv least.inside w.1 h.stands.connection_is
+            (none-some x (sym (aside_due s p v m c l t0 t1 t2 row.dev w.0 dv least.inside w.1 h.stands.connection_is
             (λ z. nc (sym z)) (λ z. nk (sym z)) was (h.rest row.dev least.inside nc nk)) ∙ least.is_due))
       ]
     ]
   where
-    called_acts : (v : Bool) → AwaitsAnswer s p v m c k t0 t1 t2 n
-        → stage p ≡ InCalling (awaiting_call v m c k t0 t1 t2) → row.dev ≡ k → ApartRow s p row
+    called_acts : (v : Bool) → AwaitsAnswer s p v m c l t0 t1 t2 u
+        → stage p ≡ InCalling (awaiting_call v m c l t0 t1 t2) → row.dev ≡ l → ApartRow s p row
     called_acts true a was same =
         let h = a.here in
         let x : Due = record { time = row.time; kind = row.kind } in
         let w = is_there s p row.dev x least.is_due in
         absurd
-        (none-some x (sym (struck_due s p m c k t0 t1 t2 w.0 dv h.called_below (ap (latency_of s) (sym same) ∙ w.1)
+        (none-some x (sym (struck_due s p m c l t0 t1 t2 w.0 dv h.called_below (ap (latency_of s) (sym same) ∙ w.1)
         h.stands.connection_is h.apart was h.other) ∙ ap (unreset_due s p) (sym same) ∙ least.is_due))
     called_acts false a was same =
         let h = a.here in
         let x : Due = record { time = row.time; kind = row.kind } in
         let w = is_there s p row.dev x least.is_due in
-        makes_answer_or_fault s p m c k t0 t1 t2 n w.0 row dv a same (flip_at s p w.0) refl (sym (answers_due s p m c k
+        makes_answer_or_fault s p m c l t0 t1 t2 u w.0 row dv a same (flip_at s p w.0) refl (sym (answers_due s p m c l
         t0 t1 t2 w.0 dv h.called_below (ap (latency_of s) (sym same) ∙ w.1) h.stands.connection_is h.apart was h.other)
         ∙ ap (unreset_due s p) (sym same) ∙ least.is_due)
 
@@ -609,40 +609,40 @@ at_least b a h = omega (arith, h)
 counted : (b c x y : ℕ) → b + x ≡ c + y → x ≡ 1 → y ≡ 0 → 1 ≤ c
 counted b c x y h ex ey = omega (arith, h, ex, ey)
 
-makes_free : (s : ScenarioValue) (p : List Row) (v m : Bool) (c k t0 t1 t2 t3 t : ℕ) → AreOfDevices p
-    → Calls s p (withdrawn_call v m c k t0 t1 t2 t3) c k (calling_lines m false 0) none (calling_lines m false 0)
+makes_free : (s : ScenarioValue) (p : List Row) (v m : Bool) (c i t0 t1 t2 t3 t : ℕ) → AreOfDevices p
+    → Calls s p (withdrawn_call v m c i t0 t1 t2 t3) c i (calling_lines m false 0) none (calling_lines m false 0)
     → ApartRow s p (row_of_lines t c none)
-makes_free s p v m c k t0 t1 t2 t3 t dv h =
+makes_free s p v m c i t0 t1 t2 t3 t dv h =
     let b : LineSet = calling_lines m false 0 in
     let q : List Row = row_of_lines t c none ∷ p in
     let own : drives q c ≡ none = drives_own p t c none in
-    let quiets = only_caller s p _ c k _ _ h in
+    let quiets = only_caller s p _ c i _ _ h in
     let others : (e : ℕ) → e < 8 → e ≢ c → drives q e ≡ none = λ e lt ne. drives_other p t c none e ne
     ∙ quiets e lt ne in
     let after : bus q ≡ none = bus_one q c h.caller_below others ∙ own in
     let goes = stands_after p t c none none b none b None
-    (Some (withdrawn_call v m c k t0 t1 t2 t3)) None h.stands refl after h.caller in
+    (Some (withdrawn_call v m c i t0 t1 t2 t3)) None h.stands refl after h.caller in
     let here : stage q ≡ OnFreeBus (free_since q) = stage_is q _ _ _ _ goes in
-    let was : stage p ≡ InCalling (withdrawn_call v m c k t0 t1 t2 t3) = stage_is p _ _ _ _ h.stands in
+    let was : stage p ≡ InCalling (withdrawn_call v m c i t0 t1 t2 t3) = stage_is p _ _ _ _ h.stands in
     let w = moves p t c none h.caller_below in
     let one = counted (busy (drives q)) (busy (drives p)) (busy_one (drives p c))
     (busy_one none) w.swaps (ap busy_one h.caller ∙ with_sel b refl) refl in
-    gives_up v m c k t0 t1 t2 t3 refl h.stands.call_is (ap (λ (x : LineSet). x.sel) h.stands.bus_is)
+    gives_up v m c i t0 t1 t2 t3 refl h.stands.call_is (ap (λ (x : LineSet). x.sel) h.stands.bus_is)
     (ap (λ (x : LineSet). x.sel) after) (way_is s q (OnFreeBus (free_since q)) (h.caller_below, dv) here)
-    (subst (λ x. 5 + again_if v ≤ x) (sym (way_is s p (InCalling (withdrawn_call v m c k t0 t1 t2 t3)) dv was))
+    (subst (λ x. 5 + again_if v ≤ x) (sym (way_is s p (InCalling (withdrawn_call v m c i t0 t1 t2 t3)) dv was))
     (at_least (busy (drives p)) (again_if v) one))
 
-withdrawn_row : (s : ScenarioValue) (p : List Row) (v m : Bool) (c k t0 t1 t2 t3 : ℕ) (row : Row) → AreOfDevices p
-    → Calls s p (withdrawn_call v m c k t0 t1 t2 t3) c k (calling_lines m false 0) none (calling_lines m false 0)
+withdrawn_row : (s : ScenarioValue) (p : List Row) (v m : Bool) (c l t0 t1 t2 t3 : ℕ) (row : Row) → AreOfDevices p
+    → Calls s p (withdrawn_call v m c l t0 t1 t2 t3) c l (calling_lines m false 0) none (calling_lines m false 0)
     → IsLeast (unreset_due s p) 8 row → ApartRow s p row
-withdrawn_row s p v m c k t0 t1 t2 t3 row dv h least =
+withdrawn_row s p v m c l t0 t1 t2 t3 row dv h least =
     let x : Due = record { time = row.time; kind = row.kind } in
     let w = is_there s p row.dev x least.is_due in
-    let was : stage p ≡ InCalling (withdrawn_call v m c k t0 t1 t2 t3) = stage_is p _ _ _ _ h.stands in
+    let was : stage p ≡ InCalling (withdrawn_call v m c l t0 t1 t2 t3) = stage_is p _ _ _ _ h.stands in
     elim (cases_eq row.dev c) [
       | inl same ↦
           let z = is_at (own_time p c + 200090 + w.0) none x
-          (sym (gives_up_due s p v m c k t0 t1 t2 t3 w.0 (calling_lines m false 0) dv h.caller_below
+          (sym (gives_up_due s p v m c l t0 t1 t2 t3 w.0 (calling_lines m false 0) dv h.caller_below
           (ap (latency_of s) (sym same) ∙ w.1) h.stands.connection_is was h.caller)
           ∙ ap (unreset_due s p) (sym same) ∙ least.is_due) in
           let e : row ≡ row_of_lines row.time c none = λ i. record {
@@ -650,38 +650,38 @@ withdrawn_row s p v m c k t0 t1 t2 t3 row dv h least =
             dev = same i;
             kind = z.kind_is i;
           } in
-          subst (λ (r : Row). ApartRow s p r) (sym e) (makes_free s p v m c k t0 t1 t2 t3 row.time dv h)
+          subst (λ (r : Row). ApartRow s p r) (sym e) (makes_free s p v m c l t0 t1 t2 t3 row.time dv h)
       | inr ne ↦ absurd (none-some x
-          (sym (after_withdrawal_due s p v m c k t0 t1 t2 t3 row.dev w.0 dv least.inside w.1 h.stands.connection_is
-          (λ z. ne (sym z)) was (only_caller s p _ c k _ _ h row.dev least.inside ne)) ∙ least.is_due))
+          (sym (after_withdrawal_due s p v m c l t0 t1 t2 t3 row.dev w.0 dv least.inside w.1 h.stands.connection_is
+          (λ z. ne (sym z)) was (only_caller s p _ c l _ _ h row.dev least.inside ne)) ∙ least.is_due))
     ]
 
-with_answer : (n : ℕ) → union (calling_lines false true n) answer_lines ≡ calling_lines false true n
-with_answer n = λ i. record (calling_lines false true n) { data_bits = or_zero_r n i }
+with_answer : (m : ℕ) → union (calling_lines false true m) answer_lines ≡ calling_lines false true m
+with_answer m = λ i. record (calling_lines false true m) { data_bits = or_zero_r m i }
 
 -- In a reselection the target drives BSY again.
-makes_takeover : (s : ScenarioValue) (p : List Row) (c k t0 t1 t2 t3 n t : ℕ)
-    → AreOfDevices p → IsAnswered s p (answered_calling false k t1 t2 t3) c k t0 false false n
-    → ApartRow s p (row_of_lines t c (calling_lines false true n))
-makes_takeover s p c k t0 t1 t2 t3 n t dv a =
+makes_takeover : (s : ScenarioValue) (p : List Row) (c m t0 t1 t2 t3 u t : ℕ)
+    → AreOfDevices p → IsAnswered s p (answered_calling false m t1 t2 t3) c m t0 false false u
+    → ApartRow s p (row_of_lines t c (calling_lines false true u))
+makes_takeover s p c m t0 t1 t2 t3 u t dv a =
     let h = a.here in
-    let b : LineSet = calling_lines false true n in
-    let l : LineSet = calling_lines false true n in
-    let g : Calling = answered_calling false k t1 t2 t3 in
-    let f : Calling = resumed_calling k t1 t2 t3 t in
+    let b : LineSet = calling_lines false true u in
+    let l : LineSet = calling_lines false true u in
+    let g : Calling = answered_calling false m t1 t2 t3 in
+    let f : Calling = resumed_calling m t1 t2 t3 t in
     let q : List Row = row_of_lines t c l ∷ p in
     let own : drives q c ≡ l = drives_own p t c l in
-    let holds : drives q k ≡ answer_lines = drives_other p t c l k (λ z. h.apart (sym z)) ∙ h.other in
-    let rest : (e : ℕ) → e < 8 → e ≢ c → e ≢ k → drives q e ≡ none = λ e lt n1 n2. drives_other p t c l e n1
+    let holds : drives q m ≡ answer_lines = drives_other p t c l m (λ z. h.apart (sym z)) ∙ h.other in
+    let rest : (e : ℕ) → e < 8 → e ≢ c → e ≢ m → drives q e ≡ none = λ e lt n1 n2. drives_other p t c l e n1
     ∙ h.rest e lt n1 n2 in
-    let after : bus q ≡ b = bus_two q c k h.apart h.caller_below h.called_below rest
-    ∙ (λ i. union (own i) (holds i)) ∙ with_answer n in
-    let goes = stands_after p t c l l b b (calling_lines false false n) None
+    let after : bus q ≡ b = bus_two q c m h.apart h.caller_below h.called_below rest
+    ∙ (λ i. union (own i) (holds i)) ∙ with_answer u in
+    let goes = stands_after p t c l l b b (calling_lines false false u) None
     (Some (call_with c t0 g)) None h.stands refl after h.caller in
     let calling : call q ≡ Some (call_with c t0 f) = goes.call_is ∙ (λ i. Some (record (call_with c t0 g) {
       calling =
           if eq_self c i then Some (record g { withdrawn = when (not (a.some i) && a.some i) t None; resumed = Some t })
-          else if c == k then Some (record g { answered = Some t }) else Some g;
+          else if c == m then Some (record g { answered = Some t }) else Some g;
     })) in
     let stands : Stands q b None (Some (call_with c t0 f)) None = record {
       bus_is = after;
@@ -695,92 +695,92 @@ makes_takeover s p c k t0 t1 t2 t3 n t dv a =
     passing s p (row_of_lines t c l) (InAnswer (call_with c t0 g) g t3)
     (InAnswer (call_with c t0 f) f t3) dv h.caller_below refl (sel_holds p (row_of_lines t c l) b after refl) was here
     (same_less (busy (drives q)) (busy (drives p)) (busy_one (drives p c)) (busy_one l) 3 2 w.swaps
-    (ap busy_one h.caller ∙ with_sel (calling_lines false false n) refl) (with_sel l refl) (omega arith))
+    (ap busy_one h.caller ∙ with_sel (calling_lines false false u) refl) (with_sel l refl) (omega arith))
 
 -- The rows with which a connection begins are not of these.
-begins_selected : (s : ScenarioValue) (p : List Row) (c k t0 t1 t2 t3 n t : ℕ)
-    → IsAnswered s p (answered_calling true k t1 t2 t3) c k t0 true false n
+begins_selected : (s : ScenarioValue) (p : List Row) (c m t0 t1 t2 t3 w t : ℕ)
+    → IsAnswered s p (answered_calling true m t1 t2 t3) c m t0 true false w
     → connection (row_of_lines t c (record none { atn = true }) ∷ p) ≡ None → ⊥
-begins_selected s p c k t0 t1 t2 t3 n t a alone =
+begins_selected s p c m t0 t1 t2 t3 w t a alone =
     let h = a.here in
-    let b : LineSet = calling_lines true true n in
+    let b : LineSet = calling_lines true true w in
     let l : LineSet = record none { atn = true } in
     let q : List Row = row_of_lines t c l ∷ p in
     let own : drives q c ≡ l = drives_own p t c l in
-    let holds : drives q k ≡ answer_lines = drives_other p t c l k (λ z. h.apart (sym z)) ∙ h.other in
-    let rest : (e : ℕ) → e < 8 → e ≢ c → e ≢ k → drives q e ≡ none = λ e lt n1 n2. drives_other p t c l e n1
+    let holds : drives q m ≡ answer_lines = drives_other p t c l m (λ z. h.apart (sym z)) ∙ h.other in
+    let rest : (e : ℕ) → e < 8 → e ≢ c → e ≢ m → drives q e ≡ none = λ e lt n1 n2. drives_other p t c l e n1
     ∙ h.rest e lt n1 n2 in
-    let after : bus q ≡ selected = bus_two q c k h.apart h.caller_below h.called_below rest
+    let after : bus q ≡ selected = bus_two q c m h.apart h.caller_below h.called_below rest
     ∙ (λ i. union (own i) (holds i)) in
-    let goes = stands_after p t c l l b selected (calling_lines true false n) None
-    (Some (call_with c t0 (answered_calling true k t1 t2 t3))) None h.stands refl after h.caller in
+    let goes = stands_after p t c l l b selected (calling_lines true false w) None
+    (Some (call_with c t0 (answered_calling true m t1 t2 t3))) None h.stands refl after h.caller in
     none_some _ (sym alone ∙ goes.connection_is)
 
-begins_reselected : (s : ScenarioValue) (p : List Row) (c k t0 t1 t2 t3 t4 n y t : ℕ)
-    → IsAnswered s p (resumed_calling k t1 t2 t3 t4) c k t0 false true n
+begins_reselected : (s : ScenarioValue) (p : List Row) (c m t0 t1 t2 t3 t4 w y t : ℕ)
+    → IsAnswered s p (resumed_calling m t1 t2 t3 t4) c m t0 false true w
     → connection (row_of_lines t c (reselected_lines y) ∷ p) ≡ None → ⊥
-begins_reselected s p c k t0 t1 t2 t3 t4 n y t a alone =
+begins_reselected s p c m t0 t1 t2 t3 t4 w y t a alone =
     let h = a.here in
-    let b : LineSet = calling_lines false true n in
+    let b : LineSet = calling_lines false true w in
     let l : LineSet = reselected_lines y in
     let q : List Row = row_of_lines t c l ∷ p in
     let own : drives q c ≡ l = drives_own p t c l in
-    let holds : drives q k ≡ answer_lines = drives_other p t c l k (λ z. h.apart (sym z)) ∙ h.other in
-    let rest : (e : ℕ) → e < 8 → e ≢ c → e ≢ k → drives q e ≡ none = λ e lt n1 n2. drives_other p t c l e n1
+    let holds : drives q m ≡ answer_lines = drives_other p t c l m (λ z. h.apart (sym z)) ∙ h.other in
+    let rest : (e : ℕ) → e < 8 → e ≢ c → e ≢ m → drives q e ≡ none = λ e lt n1 n2. drives_other p t c l e n1
     ∙ h.rest e lt n1 n2 in
-    let after : bus q ≡ l = bus_two q c k h.apart h.caller_below h.called_below rest
+    let after : bus q ≡ l = bus_two q c m h.apart h.caller_below h.called_below rest
     ∙ (λ i. union (own i) (holds i)) ∙ (λ i. record l { data_bits = or_zero_r y i }) in
     let goes = stands_after p t c l l b l b None
-    (Some (call_with c t0 (resumed_calling k t1 t2 t3 t4))) None h.stands refl after h.caller in
+    (Some (call_with c t0 (resumed_calling m t1 t2 t3 t4))) None h.stands refl after h.caller in
     none_some _ (sym alone ∙ goes.connection_is)
 
-answered_row : (s : ScenarioValue) (p : List Row) (m : Bool) (c k t0 t1 t2 t3 n : ℕ) (row : Row) → CalmStanding s p
-    → IsAnswered s p (answered_calling m k t1 t2 t3) c k t0 m false n → IsLeast (unreset_due s p) 8 row
+answered_row : (s : ScenarioValue) (p : List Row) (m : Bool) (c l t0 t1 t2 t3 u : ℕ) (row : Row) → CalmStanding s p
+    → IsAnswered s p (answered_calling m l t1 t2 t3) c l t0 m false u → IsLeast (unreset_due s p) 8 row
     → connection (row ∷ p) ≡ None → ApartRow s p row
-answered_row s p m c k t0 t1 t2 t3 n row always a least alone =
+answered_row s p m c l t0 t1 t2 t3 u row always a least alone =
     let h = a.here in
-    let g : Calling = answered_calling m k t1 t2 t3 in
+    let g : Calling = answered_calling m l t1 t2 t3 in
     let was : stage p ≡ InAnswer (call_with c t0 g) g t3 = stage_is p _ _ _ _ h.stands in
     elim (cases_eq row.dev c) [
       | inl same ↦
           let x : Due = record { time = row.time; kind = row.kind } in
           let w = is_there s p row.dev x least.is_due in
-          let f : answered_due (device_with c w.0 (calling_lines m false n) (own_time p c)) (want_at s p c) g t3
-          ≡ Some x = sym (goes_on_due s p g c t0 t3 w.0 (calling_lines m false n) always.devices h.caller_below
+          let f : answered_due (device_with c w.0 (calling_lines m false u) (own_time p c)) (want_at s p c) g t3
+          ≡ Some x = sym (goes_on_due s p g c t0 t3 w.0 (calling_lines m false u) always.devices h.caller_below
           (ap (latency_of s) (sym same) ∙ w.1) h.stands.connection_is was h.caller)
           ∙ ap (unreset_due s p) (sym same) ∙ least.is_due in
           acts m a w.0 x f refl refl same
-      | inr nc ↦ absurd (only_caller_acts s p g c t0 t3 (calling_lines m false n) answer_lines
-          (calling_lines m true n) row always h was least nc)
+      | inr nc ↦ absurd (only_caller_acts s p g c t0 t3 (calling_lines m false u) answer_lines
+          (calling_lines m true u) row always h was least nc)
     ]
   where
-    acts : (m : Bool) → IsAnswered s p (answered_calling m k t1 t2 t3) c k t0 m false n → (lat : ℕ) (x : Due)
-        → answered_due (device_with c lat (calling_lines m false n) (own_time p c))
-        (want_at s p c) (answered_calling m k t1 t2 t3) t3 ≡ Some x
+    acts : (m : Bool) → IsAnswered s p (answered_calling m l t1 t2 t3) c l t0 m false u → (lat : ℕ) (x : Due)
+        → answered_due (device_with c lat (calling_lines m false u) (own_time p c))
+        (want_at s p c) (answered_calling m l t1 t2 t3) t3 ≡ Some x
         → x.time ≡ row.time → x.kind ≡ row.kind → row.dev ≡ c → ApartRow s p row
     acts true a lat x f et ek same =
         let z = is_at (t3 + 90 + lat) (record none { atn = true }) x f in
         let e : row ≡ row_of_lines row.time c (record none { atn = true }) =
         λ i. record { time = row.time; dev = same i; kind = (sym ek ∙ z.kind_is) i } in
-        absurd (begins_selected s p c k t0 t1 t2 t3 n row.time a (ap (λ (r : Row). connection (r ∷ p)) (sym e) ∙ alone))
+        absurd (begins_selected s p c l t0 t1 t2 t3 u row.time a (ap (λ (r : Row). connection (r ∷ p)) (sym e) ∙ alone))
     acts false a lat x f et ek same =
-        let z = is_at (t3 + lat) (calling_lines false true n) x f in
-        let e : row ≡ row_of_lines row.time c (calling_lines false true n) =
+        let z = is_at (t3 + lat) (calling_lines false true u) x f in
+        let e : row ≡ row_of_lines row.time c (calling_lines false true u) =
         λ i. record { time = row.time; dev = same i; kind = (sym ek ∙ z.kind_is) i } in
-        subst (λ (r : Row). ApartRow s p r) (sym e) (makes_takeover s p c k t0 t1 t2 t3 n row.time always.devices a)
+        subst (λ (r : Row). ApartRow s p r) (sym e) (makes_takeover s p c l t0 t1 t2 t3 u row.time always.devices a)
 
-resumed_row : (s : ScenarioValue) (p : List Row) (c k t0 t1 t2 t3 t4 n : ℕ) (row : Row) → CalmStanding s p
-    → IsAnswered s p (resumed_calling k t1 t2 t3 t4) c k t0 false true n → IsLeast (unreset_due s p) 8 row
+resumed_row : (s : ScenarioValue) (p : List Row) (c m t0 t1 t2 t3 t4 l : ℕ) (row : Row) → CalmStanding s p
+    → IsAnswered s p (resumed_calling m t1 t2 t3 t4) c m t0 false true l → IsLeast (unreset_due s p) 8 row
     → connection (row ∷ p) ≡ None → ApartRow s p row
-resumed_row s p c k t0 t1 t2 t3 t4 n row always a least alone =
+resumed_row s p c m t0 t1 t2 t3 t4 l row always a least alone =
     let h = a.here in
-    let g : Calling = resumed_calling k t1 t2 t3 t4 in
+    let g : Calling = resumed_calling m t1 t2 t3 t4 in
     let was : stage p ≡ InAnswer (call_with c t0 g) g t3 = stage_is p _ _ _ _ h.stands in
     elim (cases_eq row.dev c) [
       | inl same ↦
           let x : Due = record { time = row.time; kind = row.kind } in
           let w = is_there s p row.dev x least.is_due in
-          let f = sym (goes_on_due s p g c t0 t3 w.0 (calling_lines false true n) always.devices h.caller_below
+          let f = sym (goes_on_due s p g c t0 t3 w.0 (calling_lines false true l) always.devices h.caller_below
           (ap (latency_of s) (sym same) ∙ w.1) h.stands.connection_is was h.caller)
           ∙ ap (unreset_due s p) (sym same) ∙ least.is_due in
           let y : ℕ = (byte_set (want_at s p c).first).data_bits in
@@ -790,10 +790,10 @@ resumed_row s p c k t0 t1 t2 t3 t4 n row always a least alone =
             dev = same i;
             kind = z.kind_is i;
           } in
-          absurd (begins_reselected s p c k t0 t1 t2 t3 t4 n y row.time a
+          absurd (begins_reselected s p c m t0 t1 t2 t3 t4 l y row.time a
           (ap (λ (r : Row). connection (r ∷ p)) (sym e) ∙ alone))
-      | inr nc ↦ absurd (only_caller_acts s p g c t0 t3 (calling_lines false true n) answer_lines
-          (calling_lines false true n) row always h was least nc)
+      | inr nc ↦ absurd (only_caller_acts s p g c t0 t3 (calling_lines false true l) answer_lines
+          (calling_lines false true l) row always h was least nc)
     ]
 
 -- ---- all of them

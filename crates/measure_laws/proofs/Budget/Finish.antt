@@ -7,25 +7,25 @@ use proofs.Budget.Start.{starts}
 
 -- ---- each row takes one of the measure
 
-one_row : (n m before at : ℕ) → n + before ≤ at → suc m ≤ before → suc n + m ≤ at
-one_row n m before at h f = omega arith
+one_row : (i m before at : ℕ) → i + before ≤ at → suc m ≤ before → suc i + m ≤ at
+one_row i m before at h f = omega arith
 
 pub counted : Falls → (s : ScenarioValue) (rows : List Row) → Obeys s → IsPrompt s rows
     → length rows + measure s rows ≤ measure s []
-counted falls s [] o p = omega arith
-counted falls s (row ∷ rows) o p = one_row (length rows) (measure s (row ∷ rows)) (measure s rows) (measure s [])
-    (counted falls s rows o p.0) (falls s rows row o p)
+counted falls s [] o e = omega arith
+counted falls s (row ∷ rows) o e = one_row (length rows) (measure s (row ∷ rows)) (measure s rows) (measure s [])
+    (counted falls s rows o e.0) (falls s rows row o e)
 
-below : (n m at most : ℕ) → n + m ≤ at → suc at ≤ most → suc n ≤ most
-below n m at most h f = omega arith
+below : (i m at most : ℕ) → i + m ≤ at → suc at ≤ most → suc i ≤ most
+below i m at most h f = omega arith
 
 -- It has fewer rows than the eighth part of the budget, which is what a run may make.
 pub within : Falls → (s : ScenarioValue) (rows : List Row) → Obeys s → IsPrompt s rows → length rows < budget s / 8
-within falls s rows o p =
-    below (length rows) (measure s rows) (measure s []) (budget s / 8) (counted falls s rows o p) (starts s o)
+within falls s rows o e =
+    below (length rows) (measure s rows) (measure s []) (budget s / 8) (counted falls s rows o e) (starts s o)
 
-eighth : (n b : ℕ) → suc n ≤ b / 8 → n ≤ b
-eighth n b h = grind arith
+eighth : (m b : ℕ) → suc m ≤ b / 8 → m ≤ b
+eighth m b h = grind arith
 
 pub stays_within : Falls → StaysWithin
 stays_within falls s rows o p = eighth (length rows) (budget s) (within falls s rows o p)
@@ -58,8 +58,8 @@ unended s (suc fuel) r e = go (λ z w. unended s fuel z w) r.ended refl (next_by
         let same : suc (length r.rows) + fuel ≡ length r.rows + suc fuel = omega arith in
         again (one_more s r (Some row)) w ∙ same
 
-too_long : (n b : ℕ) → n ≡ 0 + b → suc n ≤ b / 8 → ⊥
-too_long n b e h = grind arith
+too_long : (m b : ℕ) → m ≡ 0 + b → suc m ≤ b / 8 → ⊥
+too_long m b e h = grind arith
 
 -- A run by what is due is a prompt trace, and where it says that it is over, nothing is due after it.
 abbrev pub RunsArePrompt : Type 0
@@ -79,5 +79,5 @@ runs_end falls prompt ends s o = by_bool (run_by_due s (budget s)).ended (λ e. 
 
 pub few_rows : Falls → (s : ScenarioValue) (rows : List Row) → Obeys s → IsPrompt s rows → measure s [] < 2 ^ 32 - 1
     → length rows < 2 ^ 32 - 1
-few_rows falls s rows o p small =
-    below (length rows) (measure s rows) (measure s []) (2 ^ 32 - 1) (counted falls s rows o p) small
+few_rows falls s rows o e small =
+    below (length rows) (measure s rows) (measure s []) (2 ^ 32 - 1) (counted falls s rows o e) small

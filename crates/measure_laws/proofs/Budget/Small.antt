@@ -39,16 +39,16 @@ runs_by_few (Policy.NoSave most) blocks need some h =
     elim (nat_le blocks most) as (λ q. (if q then 1 else 2) ≤ 2 * need) [ true ↦ omega arith | false ↦ omega arith ]
 
 -- A command moves no fewer bytes than blocks.
-some_blocks : (u : Option UnitDef) (lba n : ℕ) → 1 ≤ block_bytes u lba n → n ≤ block_bytes u lba n
-some_blocks None lba n h = absurd (omega arith)
-some_blocks (Some u) lba n h = go (nat_le (lba + n) u.blocks) h
+some_blocks : (u : Option UnitDef) (lba i : ℕ) → 1 ≤ block_bytes u lba i → i ≤ block_bytes u lba i
+some_blocks None lba i h = absurd (omega arith)
+some_blocks (Some u) lba i h = go (nat_le (lba + i) u.blocks) h
   where
-    by : (n size : ℕ) → 1 ≤ n * size → n ≤ n * size
-    by n zero h = absurd (omega arith)
-    by n (suc m) h = times_more n m
+    by : (i size : ℕ) → 1 ≤ i * size → i ≤ i * size
+    by i zero h = absurd (omega arith)
+    by i (suc m) h = times_more i m
 
-    go : (q : Bool) → 1 ≤ (if q then n * u.size else 0) → n ≤ (if q then n * u.size else 0)
-    go true h = by n u.size h
+    go : (q : Bool) → 1 ≤ (if q then i * u.size else 0) → i ≤ (if q then i * u.size else 0)
+    go true h = by i u.size h
     go false h = absurd (omega arith)
 
 runs_of_few : (policy : Policy) (c : Command) (u : Option UnitDef) → 1 ≤ moved c u
@@ -112,44 +112,44 @@ fault_room s (fault_line f) y e =
     room s e = grind (arith, nat_tests)
 fault_room s _ y e = absurd cc
 
-one_more : {X : Type 0} (xs : List X) (x : X) (n : ℕ) → length xs < n → length (xs ++ x ∷ []) ≤ n
-one_more xs x n lt = let w = length-append xs (x ∷ []) in omega arith
+one_more : {X : Type 0} (xs : List X) (x : X) (m : ℕ) → length xs < m → length (xs ++ x ∷ []) ≤ m
+one_more xs x m lt = let w = length-append xs (x ∷ []) in omega arith
 
 few_added : (d z : Progress) (x : Said) → added d x ≡ Ok z → FewLines d.scenario → FewLines z.scenario
 unfolding added
 few_added d z (scsi_line v) e a =
-    subst (λ (p : Progress). FewLines p.scenario) (ok_is _ z e) (record { resets = a.resets; faults = a.faults })
+    subst (λ (g : Progress). FewLines g.scenario) (ok_is _ z e) (record { resets = a.resets; faults = a.faults })
 few_added d z (initiator_line f) e a =
     let b = bind_ok (host_def d.scenario f) _ z e in
-    subst (λ (p : Progress). FewLines p.scenario) (ok_is _ z b.2) (record { resets = a.resets; faults = a.faults })
+    subst (λ (g : Progress). FewLines g.scenario) (ok_is _ z b.2) (record { resets = a.resets; faults = a.faults })
 few_added d z (target_line f) e a =
     let b = bind_ok (target_def d.scenario f) _ z e in
-    subst (λ (p : Progress). FewLines p.scenario) (ok_is _ z b.2) (record { resets = a.resets; faults = a.faults })
+    subst (λ (g : Progress). FewLines g.scenario) (ok_is _ z b.2) (record { resets = a.resets; faults = a.faults })
 few_added d z (unit_line f) e a =
     let b = bind_ok (unit_def d.scenario f) _ z e in
-    subst (λ (p : Progress). FewLines p.scenario) (ok_is _ z b.2) (record { resets = a.resets; faults = a.faults })
+    subst (λ (g : Progress). FewLines g.scenario) (ok_is _ z b.2) (record { resets = a.resets; faults = a.faults })
 few_added d z (fill_line f) e a =
     let b = bind_ok (fill_def d.scenario f) _ z e in
-    subst (λ (p : Progress). FewLines p.scenario) (ok_is _ z b.2) (record { resets = a.resets; faults = a.faults })
+    subst (λ (g : Progress). FewLines g.scenario) (ok_is _ z b.2) (record { resets = a.resets; faults = a.faults })
 few_added d z (cmd_line f) e a =
     let b = bind_ok (full_cmd_def d.scenario d.needs f) _ z e in
-    subst (λ (p : Progress). FewLines p.scenario) (ok_is _ z b.2) (record { resets = a.resets; faults = a.faults })
+    subst (λ (g : Progress). FewLines g.scenario) (ok_is _ z b.2) (record { resets = a.resets; faults = a.faults })
 few_added d z (abort_line f) e a =
     let b = bind_ok (abort_def d.scenario f) _ z e in
-    subst (λ (p : Progress). FewLines p.scenario) (ok_is _ z b.2) (record { resets = a.resets; faults = a.faults })
+    subst (λ (g : Progress). FewLines g.scenario) (ok_is _ z b.2) (record { resets = a.resets; faults = a.faults })
 few_added d z (reset_line f) e a =
     let b = bind_ok (reset_def d.scenario f) _ z e in
-    subst (λ (p : Progress). FewLines p.scenario) (ok_is _ z b.2) (record {
+    subst (λ (g : Progress). FewLines g.scenario) (ok_is _ z b.2) (record {
       resets = one_more d.scenario.resets b.0 64 (reset_room d.scenario (reset_line f) b.0 b.1);
       faults = a.faults;
     })
 few_added d z (fault_line f) e a =
     let b = bind_ok (fault_def d.scenario f) _ z e in
-    subst (λ (p : Progress). FewLines p.scenario) (ok_is _ z b.2) (record {
+    subst (λ (g : Progress). FewLines g.scenario) (ok_is _ z b.2) (record {
       resets = a.resets;
       faults = one_more d.scenario.faults b.0 64 (fault_room d.scenario (fault_line f) b.0 b.1);
     })
-few_added d z end_line e a = subst (λ (p : Progress). FewLines p.scenario) (ok_is d z e) a
+few_added d z end_line e a = subst (λ (g : Progress). FewLines g.scenario) (ok_is d z e) a
 
 few_after : (d z : Progress) (x : Said) → said_after d x ≡ Ok z → FewLines d.scenario → FewLines z.scenario
 unfolding said_after
@@ -158,10 +158,10 @@ few_after d z x e a =
     let o = bind_ok (guard 3 (in_order (rank d.last) (rank (kind_of x)))) _ z v.2 in
     let b = bind_ok (added d x) _ z o.2 in
     let f = few_added d b.0 x b.1 a in
-    subst (λ (p : Progress). FewLines p.scenario) (ok_is _ z b.2) (record { resets = f.resets; faults = f.faults })
+    subst (λ (g : Progress). FewLines g.scenario) (ok_is _ z b.2) (record { resets = f.resets; faults = f.faults })
 
 few_built : (d z : Progress) (xs : List Said) → built d xs ≡ Ok z → FewLines d.scenario → FewLines z.scenario
-few_built d z [] e a = subst (λ (p : Progress). FewLines p.scenario) (ok_is d z e) a
+few_built d z [] e a = subst (λ (g : Progress). FewLines g.scenario) (ok_is d z e) a
 few_built d z (x ∷ xs) e a = let b = bind_ok (said_after d x) _ z e in few_built b.0 z xs b.2 (few_after d b.0 x b.1 a)
 
 pub obeys_few : (s : ScenarioValue) → Obeys s → FewLines s
@@ -176,21 +176,21 @@ one_command : (retries runs bytes need : ℕ) → retries ≤ 16 → bytes ≤ 2
     → 64 * (retries + 1 - 0) + (2 * 4096 + 1024 * (runs + 1) + 8 * bytes) ≤ 10304 + 2064 * need
 one_command retries runs bytes need f b r = grind arith
 
-small_commands : (s : ScenarioValue) (n : ℕ) (commands : List CmdDef) → FitsBus s
-    → commands_left s (first_run_state s) n commands ≤ 10304 * length commands + 2064 * sum_by (need_of s) commands
-small_commands s n [] f = omega arith
-small_commands s n (c ∷ commands) f =
-    let rest = small_commands s (n + 1) commands f in
+small_commands : (s : ScenarioValue) (m : ℕ) (commands : List CmdDef) → FitsBus s
+    → commands_left s (first_run_state s) m commands ≤ 10304 * length commands + 2064 * sum_by (need_of s) commands
+small_commands s m [] f = omega arith
+small_commands s m (c ∷ commands) f =
+    let rest = small_commands s (m + 1) commands f in
     let one = one_command (retries_of s.hosts c.host) (data_runs s c) (bytes_after s c 0)
     (need_of s c) (few_retries s s.hosts c.host f.hosts) (few_bytes s c) (few_runs s c) in
     let total = sum_by-cons (need_of s) c commands in
     omega arith
 
-small_aborts : (s : ScenarioValue) (n : ℕ) (aborts : List AbortDef) → FitsBus s
-    → aborts_left s (first_run_state s).story.sent n aborts ≤ 5184 * length aborts
-small_aborts s n [] f = omega arith
-small_aborts s n (a ∷ aborts) f =
-    let rest = small_aborts s (n + 1) aborts f in
+small_aborts : (s : ScenarioValue) (m : ℕ) (aborts : List AbortDef) → FitsBus s
+    → aborts_left s (first_run_state s).story.sent m aborts ≤ 5184 * length aborts
+small_aborts s m [] f = omega arith
+small_aborts s m (a ∷ aborts) f =
+    let rest = small_aborts s (m + 1) aborts f in
     let few = few_retries s s.hosts a.host f.hosts in
     grind arith
 
@@ -205,10 +205,10 @@ longest s (c ∷ commands) h = both (need_of s c) (longest_need s commands) h.0 
 times_few : (a m b : ℕ) → a ≤ m → a * b ≤ m * b
 times_few a m b h = grind arith
 
-sum_small : (commands n needs aborts an resets rn faults : ℕ) → commands ≤ 10304 * n + 2064 * needs
-    → n ≤ 4096 → needs ≤ 1048576 → aborts ≤ 5184 * an → an ≤ 64 → resets ≤ rn → rn ≤ 64 → faults ≤ 525440 * 64
+sum_small : (commands m needs aborts an resets rn faults : ℕ) → commands ≤ 10304 * m + 2064 * needs
+    → m ≤ 4096 → needs ≤ 1048576 → aborts ≤ 5184 * an → an ≤ 64 → resets ≤ rn → rn ≤ 64 → faults ≤ 525440 * 64
     → commands + aborts + 64 * resets + faults + 40 + 0 < 4294967295
-sum_small commands n needs aborts an resets rn faults a b c d e f g h = omega arith
+sum_small commands m needs aborts an resets rn faults a b c d e f g h = omega arith
 
 pub small_start : (s : ScenarioValue) → Obeys s → measure s [] < 4294967295
 small_start s o =

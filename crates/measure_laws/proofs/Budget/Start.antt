@@ -38,23 +38,23 @@ one_command : (retries runs bytes need : ℕ) → retries ≤ 16 → bytes ≤ 2
     ≤ 128 * (2 * need + 128) + 4096 * (runs + 8) + 1024
 one_command retries runs bytes need f b = grind arith
 
-start_commands : (s : ScenarioValue) (n : ℕ) (commands : List CmdDef) → FitsBus s
-    → commands_left s (first_run_state s) n commands
+start_commands : (s : ScenarioValue) (m : ℕ) (commands : List CmdDef) → FitsBus s
+    → commands_left s (first_run_state s) m commands
     ≤ 128 * bytes_of_all s commands + 4096 * runs_of_all s commands + 1024 * length commands
-start_commands s n [] f = omega arith
-start_commands s n (c ∷ commands) f =
-    let rest = start_commands s (n + 1) commands f in
+start_commands s m [] f = omega arith
+start_commands s m (c ∷ commands) f =
+    let rest = start_commands s (m + 1) commands f in
     let one = one_command (retries_of s.hosts c.host) (data_runs s c) (bytes_after s c 0)
     (need_of s c) (few_retries s s.hosts c.host f.hosts) (few_bytes s c) in
     grind arith
 
 -- ---- aborts, resets and faults
 
-start_aborts : (s : ScenarioValue) (n : ℕ) (aborts : List AbortDef) → FitsBus s
-    → aborts_left s (first_run_state s).story.sent n aborts ≤ 8192 * length aborts
-start_aborts s n [] f = omega arith
-start_aborts s n (a ∷ aborts) f =
-    let rest = start_aborts s (n + 1) aborts f in
+start_aborts : (s : ScenarioValue) (m : ℕ) (aborts : List AbortDef) → FitsBus s
+    → aborts_left s (first_run_state s).story.sent m aborts ≤ 8192 * length aborts
+start_aborts s m [] f = omega arith
+start_aborts s m (a ∷ aborts) f =
+    let rest = start_aborts s (m + 1) aborts f in
     let few = few_retries s s.hosts a.host f.hosts in
     grind arith
 

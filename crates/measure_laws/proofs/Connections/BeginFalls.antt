@@ -60,7 +60,7 @@ pub calm_resets : (s : ScenarioValue) (p : List Row) (row : Row) → AreOfDevice
     → resets_left (run_state s (row ∷ p)) s.resets ≡ resets_left (run_state s p) s.resets
 calm_resets s p row dv lt lines off calm = go row.kind refl
   where
-    go : (k : Kind) → row.kind ≡ k → resets_left (run_state s (row ∷ p)) s.resets ≡ resets_left (run_state s p) s.resets
+    go : (x : Kind) → row.kind ≡ x → resets_left (run_state s (row ∷ p)) s.resets ≡ resets_left (run_state s p) s.resets
     go (Fault bit) e = wrong (sym (ap is_fault e) ∙ lines)
     go (Drives l) e =
         let same : row ≡ row_of_lines row.time row.dev l = row_is row l e in
@@ -96,35 +96,35 @@ abort_there s p row n m alone e selects was aim = by_call (call p) refl (made_is
     found None f d z = none_some d z
     found (Some a) f d z = (a, f)
 
-    by_calling : (k : Call) → call p ≡ Some k → (o : Option Calling) → k.calling ≡ o
-        → connected_of k.caller o row.time ≡ Some n → Found
-    by_calling k ek None f z = none_some n z
-    by_calling k ek (Some x) f z = by_answer x.answered z
+    by_calling : (c : Call) → call p ≡ Some c → (o : Option Calling) → c.calling ≡ o
+        → connected_of c.caller o row.time ≡ Some n → Found
+    by_calling c ek None f z = none_some n z
+    by_calling c ek (Some x) f z = by_answer x.answered z
       where
-        by_answer : (a : Option ℕ) → connected_by k.caller x a row.time ≡ Some n → Found
+        by_answer : (a : Option ℕ) → connected_by c.caller x a row.time ≡ Some n → Found
         by_answer None y = none_some n y
         by_answer (Some t) y =
-            let same : connected k.caller x row.time ≡ n = same_Some (connected k.caller x row.time) n y in
+            let same : connected c.caller x row.time ≡ n = same_Some (connected c.caller x row.time) n y in
             let re : x.reselects ≡ false = ap (λ (w : Connection). w.reselected) same ∙ selects in
-            let caller : n.initiator ≡ k.caller = ap (λ (w : Connection). w.initiator) (sym same)
-            ∙ ap (λ (q : Bool). if q then x.called else k.caller) re in
-            let own : aim_of (run_state s p).story.aims k.caller ≡ Some (abort m) =
+            let caller : n.initiator ≡ c.caller = ap (λ (w : Connection). w.initiator) (sym same)
+            ∙ ap (λ (q : Bool). if q then x.called else c.caller) re in
+            let own : aim_of (run_state s p).story.aims c.caller ≡ Some (abort m) =
             ap (λ (d : ℕ). aim_of (run_state s p).story.aims d) (sym caller) ∙ aim in
-            let host : is_initiator s.hosts k.caller ≡ true = (was k x ek f).host_is ∙ ap not re in
+            let host : is_initiator s.hosts c.caller ≡ true = (was c x ek f).host_is ∙ ap not re in
             let called : abort_target (abort_line_at s.aborts m) ≡ Some x.called =
-            sym (ap (λ (q : Bool). if q then target_of s (aim_of (run_state s p).story.aims k.caller)
-            else initiator_if (ready_of s (run_state s p) k.caller)) host ∙ ap (target_of s) own)
-            ∙ (was k x ek f).callee_is in
+            sym (ap (λ (q : Bool). if q then target_of s (aim_of (run_state s p).story.aims c.caller)
+            else initiator_if (ready_of s (run_state s p) c.caller)) host ∙ ap (target_of s) own)
+            ∙ (was c x ek f).callee_is in
             found (abort_line_at s.aborts m) refl x.called called
 
     by_call : (o : Option Call) → call p ≡ o → connection_of o row.time ≡ Some n → Found
     by_call None f z = none_some n z
-    by_call (Some k) f z = by_calling k f k.calling refl z
+    by_call (Some c) f z = by_calling c f c.calling refl z
 
 -- ---- what is still to come, as a selection begins
 
-pub command_apart : (m n : ℕ) → n ≢ m → same_item (command_item m) (command_item n) ≡ false
-command_apart m n ne = λ i. ne_eqb m n (λ z. ne (sym z)) i && same_bool false false
+pub command_apart : (m l : ℕ) → l ≢ m → same_item (command_item m) (command_item l) ≡ false
+command_apart m l ne = λ i. ne_eqb m l (λ z. ne (sym z)) i && same_bool false false
 
 -- The state after it, of which these parts are known.
 pub record Selects (s : ScenarioValue) (j k : RunState) (item : Item) : Type 0 where
@@ -136,23 +136,23 @@ pub record Selects (s : ScenarioValue) (j k : RunState) (item : Item) : Type 0 w
   pub resets : resets_left j s.resets ≡ resets_left k s.resets
   pub faults : j.faults ≡ k.faults
 
-left_after : (s : ScenarioValue) (j k : RunState) (item : Item) (n : ℕ) (c : CmdDef) → Selects s j k item
-    → command_left s j n c ≡ left_by s (sent_more k.story.sent item)
-    (open_left s (same_item item (command_item n)) false (progress_in k.progress (command_id n)).runs c) n c
-left_after s j k item n c h = λ i. left_by s (h.sent i) (open_left s (serves_item (h.served i) (command_item n))
-    (h.still i) (progress_in (h.progress i) (command_id n)).runs c) n c
+left_after : (s : ScenarioValue) (j k : RunState) (item : Item) (m : ℕ) (c : CmdDef) → Selects s j k item
+    → command_left s j m c ≡ left_by s (sent_more k.story.sent item)
+    (open_left s (same_item item (command_item m)) false (progress_in k.progress (command_id m)).runs c) m c
+left_after s j k item m c h = λ i. left_by s (h.sent i) (open_left s (serves_item (h.served i) (command_item m))
+    (h.still i) (progress_in (h.progress i) (command_id m)).runs c) m c
 
-other_command : (s : ScenarioValue) (j k : RunState) (item : Item) (n : ℕ) (c : CmdDef) → Selects s j k item
-    → same_item item (command_item n) ≡ false → command_left s j n c ≤ command_left s k n c
-other_command s j k item n c h e =
-    let after = left_after s j k item n c h ∙ ap (λ (q : Bool). left_by s (sent_more k.story.sent item)
-    (open_left s q false (progress_in k.progress (command_id n)).runs c) n c) e in
-    let same : open_of s k n c ≡ open_left s false false (progress_in k.progress (command_id n)).runs c = ap
-    (λ (o : Option Item). open_left s (serves_item o (command_item n))
-    (is_in_data k) (progress_in k.progress (command_id n)).runs c) h.before in
+other_command : (s : ScenarioValue) (j k : RunState) (item : Item) (m : ℕ) (c : CmdDef) → Selects s j k item
+    → same_item item (command_item m) ≡ false → command_left s j m c ≤ command_left s k m c
+other_command s j k item m c h e =
+    let after = left_after s j k item m c h ∙ ap (λ (q : Bool). left_by s (sent_more k.story.sent item)
+    (open_left s q false (progress_in k.progress (command_id m)).runs c) m c) e in
+    let same : open_of s k m c ≡ open_left s false false (progress_in k.progress (command_id m)).runs c = ap
+    (λ (o : Option Item). open_left s (serves_item o (command_item m))
+    (is_in_data k) (progress_in k.progress (command_id m)).runs c) h.before in
     let one = other_sent s k.story.sent item
-    (open_left s false false (progress_in k.progress (command_id n)).runs c) (open_of s k n c) n c e (omega arith) in
-    subst (λ (x : ℕ). x ≤ command_left s k n c) (sym after) one
+    (open_left s false false (progress_in k.progress (command_id m)).runs c) (open_of s k m c) m c e (omega arith) in
+    subst (λ (x : ℕ). x ≤ command_left s k m c) (sym after) one
 
 select_sum : (c d a b r q f x y : ℕ) → c + x ≤ d → a + y ≤ b → r ≡ q → x + y ≡ 4096
     → c + a + 64 * r + f + 4096 ≤ d + b + 64 * q + f
@@ -266,24 +266,24 @@ reselection_pays s j k m c at sent over h =
     plus_more a b h = omega arith
 
     made : ℕ → ℕ
-    made n = (progress_in k.progress (command_id n)).runs
+    made l = (progress_in k.progress (command_id l)).runs
 
-    after : (n : ℕ) (d : CmdDef) → command_left s j n d
-        ≡ left_by s k.story.sent (open_left s (same_item (command_item m) (command_item n)) false (made n) d) n d
-    after n d = λ i. left_by s (h.sent i) (open_left s (serves_item (h.served i) (command_item n)) (h.still i)
-        (progress_in (h.progress i) (command_id n)).runs d) n d
+    after : (l : ℕ) (d : CmdDef) → command_left s j l d
+        ≡ left_by s k.story.sent (open_left s (same_item (command_item m) (command_item l)) false (made l) d) l d
+    after l d = λ i. left_by s (h.sent i) (open_left s (serves_item (h.served i) (command_item l)) (h.still i)
+        (progress_in (h.progress i) (command_id l)).runs d) l d
 
-    before : (n : ℕ) (d : CmdDef)
-        → command_left s k n d ≡ left_by s k.story.sent (open_left s false false (made n) d) n d
-    before n d = ap (λ (o : Option Item). left_by s k.story.sent
-        (open_left s (serves_item o (command_item n)) (is_in_data k) (made n) d) n d) h.before
+    before : (l : ℕ) (d : CmdDef)
+        → command_left s k l d ≡ left_by s k.story.sent (open_left s false false (made l) d) l d
+    before l d = ap (λ (o : Option Item). left_by s k.story.sent
+        (open_left s (serves_item o (command_item l)) (is_in_data k) (made l) d) l d) h.before
 
-    other : (n : ℕ) (d : CmdDef) → command_at s.commands n ≡ Some d → n ≢ m
-        → command_left s j n d ≤ command_left s k n d
-    other n d f ne =
-        let e = after n d
-        ∙ ap (λ (q : Bool). left_by s k.story.sent (open_left s q false (made n) d) n d) (command_apart m n ne)
-        ∙ sym (before n d) in
+    other : (l : ℕ) (d : CmdDef) → command_at s.commands l ≡ Some d → l ≢ m
+        → command_left s j l d ≤ command_left s k l d
+    other l d f ne =
+        let e = after l d
+        ∙ ap (λ (q : Bool). left_by s k.story.sent (open_left s q false (made l) d) l d) (command_apart m l ne)
+        ∙ sym (before l d) in
         omega arith
 
     own : command_left s j m c + 1024 ≤ command_left s k m c
@@ -299,18 +299,18 @@ reselection_pays s j k m c at sent over h =
         chain (command_left s j m c) (open_left s true false (made m) c) (open_left s false false (made m) c)
         (command_left s k m c) e f w
       where
-        by : (r n y : ℕ) → 1024 * (r - n + 0) + 8 * y + 4096 + 1024 ≤ 1024 * (r - n + 1) + 8 * y + 4096
-        by r n y = omega arith
+        by : (r l y : ℕ) → 1024 * (r - l + 0) + 8 * y + 4096 + 1024 ≤ 1024 * (r - l + 1) + 8 * y + 4096
+        by r l y = omega arith
 
         chain : (a x y b : ℕ) → a ≡ x → b ≡ y → x + 1024 ≤ y → a + 1024 ≤ b
         chain a x y b e f h = omega arith
 
 -- The messages that name a process.
-few_names : (p : Process) → length (bytes_of_messages (naming_messages p)) ≤ 3
-few_names p = go p.tag
+few_names : (c : Process) → length (bytes_of_messages (naming_messages c)) ≤ 3
+few_names c = go c.tag
   where
     go : (t : Tag)
-        → length (bytes_of_messages (record { first = Some (MsgIn.Identify p.unit); second = tag_named t })) ≤ 3
+        → length (bytes_of_messages (record { first = Some (MsgIn.Identify c.unit); second = tag_named t })) ≤ 3
     go Tag.Untagged = omega arith
     go _ = omega arith
 

@@ -59,7 +59,7 @@ same_connection p row n m con next =
 
 edge_falls : FallsOpening → FallsStriking → FallsLeaving
     → (s : ScenarioValue) (p : List Row) (row : Row) (n : Connection) → LinkedRow s p row n
-    → (k : PhaseRow s p n row) → is_edge k ≡ true → FallsWith s p row
+    → (f : PhaseRow s p n row) → is_edge f ≡ true → FallsWith s p row
 edge_falls opens strikes leaves s p row n r (kinds.opens h e) z = opens s p row n r h e
 edge_falls opens strikes leaves s p row n r (kinds.strikes e bit h b got who is) z =
     strikes s p row n r e bit h b got who is

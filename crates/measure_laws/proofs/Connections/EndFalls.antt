@@ -34,26 +34,26 @@ use Rattle.progress_laws.specs.story_laws.specs.LastTalks.{stays}
 -- ---- after the row the bus is free
 
 abbrev call_if : Bool → Call → Option Call → Option Call
-call_if q k otherwise = if q then Some k else otherwise
+call_if q c otherwise = if q then Some c else otherwise
 
 abbrev connection_if_on : Bool → Connection → Option Connection
 connection_if_on q n = if q then Some n else None
 
 -- Where no call stood, none that has called stands.
-no_calling : (p : List Row) (row : Row) (k : Call) (x : Calling) → call p ≡ None → call (row ∷ p) ≡ Some k
-    → k.calling ≡ Some x → ⊥
-no_calling p row k x none e f = go (bus (row ∷ p)).sel refl (rises (bus p).sel (bus (row ∷ p)).sel) refl
+no_calling : (p : List Row) (row : Row) (c : Call) (x : Calling) → call p ≡ None → call (row ∷ p) ≡ Some c
+    → c.calling ≡ Some x → ⊥
+no_calling p row c x none e f = go (bus (row ∷ p)).sel refl (rises (bus p).sel (bus (row ∷ p)).sel) refl
   where
     is : (q r : Bool) → (bus (row ∷ p)).sel ≡ q → rises (bus p).sel (bus (row ∷ p)).sel ≡ r
-        → (if not q then None else call_if r (record { caller = row.dev; at = row.time; calling = None }) None) ≡ Some k
+        → (if not q then None else call_if r (record { caller = row.dev; at = row.time; calling = None }) None) ≡ Some c
     is q r u v = sym (λ i. if not (u i) then None else call_if (v i)
         (record { caller = row.dev; at = row.time; calling = None }) (call_goes_on (none i) (change_of p row) row))
         ∙ e
 
     go : (q : Bool) → (bus (row ∷ p)).sel ≡ q → (r : Bool) → rises (bus p).sel (bus (row ∷ p)).sel ≡ r → ⊥
-    go false u r v = none_some k (is false r u v)
-    go true u false v = none_some k (is true false u v)
-    go true u true v = none_some x (ap (λ (o : Call). o.calling) (same_Some _ k (is true true u v)) ∙ f)
+    go false u r v = none_some c (is false r u v)
+    go true u false v = none_some c (is true false u v)
+    go true u true v = none_some x (ap (λ (o : Call). o.calling) (same_Some _ c (is true true u v)) ∙ f)
 
 pub record IsFreed (p : List Row) : Type 0 where
   pub call_is : call p ≡ None
@@ -159,26 +159,26 @@ pub record LetsGo (s : ScenarioValue) (j k : RunState) : Type 0 where
   pub resets : resets_left j s.resets ≡ resets_left k s.resets
   pub faults : j.faults ≡ k.faults
 
-open_after : (s : ScenarioValue) (j k : RunState) (n : ℕ) (c : CmdDef) → LetsGo s j k
-    → open_of s j n c ≡ open_left s false false (progress_in k.progress (command_id n)).runs c
-open_after s j k n c h = λ i. open_left s (serves_item (h.served i) (command_item n)) (h.still i)
-    (progress_in (h.progress i) (command_id n)).runs c
+open_after : (s : ScenarioValue) (j k : RunState) (m : ℕ) (c : CmdDef) → LetsGo s j k
+    → open_of s j m c ≡ open_left s false false (progress_in k.progress (command_id m)).runs c
+open_after s j k m c h = λ i. open_left s (serves_item (h.served i) (command_item m)) (h.still i)
+    (progress_in (h.progress i) (command_id m)).runs c
 
-other_open : (s : ScenarioValue) (j k : RunState) (n : ℕ) (c : CmdDef) → LetsGo s j k
-    → serves_item k.served (command_item n) ≡ false → open_of s j n c ≤ open_of s k n c
-other_open s j k n c h e =
-    let after = open_after s j k n c h in
-    let before : open_of s k n c ≡ open_left s false false (progress_in k.progress (command_id n)).runs c = ap
-    (λ (q : Bool). open_left s q (is_in_data k) (progress_in k.progress (command_id n)).runs c) e in
+other_open : (s : ScenarioValue) (j k : RunState) (m : ℕ) (c : CmdDef) → LetsGo s j k
+    → serves_item k.served (command_item m) ≡ false → open_of s j m c ≤ open_of s k m c
+other_open s j k m c h e =
+    let after = open_after s j k m c h in
+    let before : open_of s k m c ≡ open_left s false false (progress_in k.progress (command_id m)).runs c = ap
+    (λ (q : Bool). open_left s q (is_in_data k) (progress_in k.progress (command_id m)).runs c) e in
     omega arith
 
 -- No command stays open that was served.
 pub none_waits : (s : ScenarioValue) (j k : RunState) → LetsGo s j k
-    → ((n : ℕ) → serves_item k.served (command_item n) ≡ true → is_open j.story.sent n ≡ true → ⊥)
+    → ((m : ℕ) → serves_item k.served (command_item m) ≡ true → is_open j.story.sent m ≡ true → ⊥)
     → future_left s j ≤ future_left s k
 none_waits s j k h none_open = zero_less _ _ (future_falls s j k 0 (record {
   sent = h.sent;
-  «open» = λ n c at o. by n c o (serves_item k.served (command_item n)) refl;
+  «open» = λ m c at o. by m c o (serves_item k.served (command_item m)) refl;
   resets = let e = h.resets in omega arith;
   faults = h.faults;
 }))
@@ -186,10 +186,10 @@ none_waits s j k h none_open = zero_less _ _ (future_falls s j k 0 (record {
     zero_less : (a b : ℕ) → a + 64 * 0 ≤ b → a ≤ b
     zero_less a b h = omega arith
 
-    by : (n : ℕ) (c : CmdDef) → is_open j.story.sent n ≡ true → (q : Bool) → serves_item k.served (command_item n) ≡ q
-        → open_of s j n c ≤ open_of s k n c
-    by n c o true e = absurd (none_open n e o)
-    by n c o false e = other_open s j k n c h e
+    by : (m : ℕ) (c : CmdDef) → is_open j.story.sent m ≡ true → (q : Bool) → serves_item k.served (command_item m) ≡ q
+        → open_of s j m c ≤ open_of s k m c
+    by m c o true e = absurd (none_open m e o)
+    by m c o false e = other_open s j k m c h e
 
 -- The one that was served waits for a reselection.
 pub one_waits : (s : ScenarioValue) (j k : RunState) (m : ℕ) (c : CmdDef) → LetsGo s j k
@@ -208,10 +208,10 @@ one_waits s j k m c h at served moves =
     sum : (c d a b r q f : ℕ) → c + 0 ≤ d + 1024 → a ≤ b → r ≡ q → c + a + 64 * r + f ≤ d + b + 64 * q + f + 1024
     sum c d a b r q f x y z = omega arith
 
-    others : (n : ℕ) (d : CmdDef) → command_at s.commands n ≡ Some d → n ≢ m
-        → command_left s j n d ≤ command_left s k n d
-    others n d f ne = command_lowers s j k n d h.sent (λ o. other_open s j k n d h
-        (ap (λ (x : Option Item). serves_item x (command_item n)) served ∙ command_apart m n ne))
+    others : (l : ℕ) (d : CmdDef) → command_at s.commands l ≡ Some d → l ≢ m
+        → command_left s j l d ≤ command_left s k l d
+    others l d f ne = command_lowers s j k l d h.sent (λ o. other_open s j k l d h
+        (ap (λ (x : Option Item). serves_item x (command_item l)) served ∙ command_apart m l ne))
 
     own : command_left s j m c + 0 ≤ command_left s k m c + 1024
     own = plain _ _ (command_waits s j k 1024 m c h.sent (λ o. wait))
@@ -219,8 +219,8 @@ one_waits s j k m c h at served moves =
         plain : (a b : ℕ) → a ≤ b → a + 0 ≤ b
         plain a b h = omega arith
 
-        by : (r n y : ℕ) → 1024 * (r - n + 1) + 8 * y + 4096 ≤ 1024 * (r - n + 0) + 8 * y + 4096 + 1024
-        by r n y = omega arith
+        by : (r l y : ℕ) → 1024 * (r - l + 1) + 8 * y + 4096 ≤ 1024 * (r - l + 0) + 8 * y + 4096 + 1024
+        by r l y = omega arith
 
         wait : open_of s j m c ≤ open_of s k m c + 1024
         wait =

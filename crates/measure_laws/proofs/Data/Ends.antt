@@ -18,7 +18,7 @@ use proofs.Turns.{Falls.{turn_phase, turn_in, turn_phases, turn_struck}, Table.{
 
 end_sum : (f g a b x w y z u m v e : ℕ) → v ≡ f + 40 + (a + x + y + 0) → m ≡ g + 40 + (b + w + z + u)
     → f + e + y ≤ g + z → a + 128 ≤ b + e → x ≤ 106 → suc v ≤ m
-end_sum f g a b x w y z u m v e d i h j k = omega arith
+end_sum f g a b x w y z u m v e d i h c l = omega arith
 
 pub done_turn_falls : (s : ScenarioValue) (p : List Row) (row : Row) (n : Connection) (c : Change) (again : Bool)
     → TurnRow s p row n c → (run_state s p).exchange.begun ≡ true → is_data (bus_of (run_state s p)) ≡ true
@@ -79,8 +79,8 @@ pub record LeavesData (s : ScenarioValue) (j k : RunState) (m : ℕ) : Type 0 wh
   pub still : is_in_data j ≡ false
   pub moves : is_in_data k ≡ true
   pub made : (progress_in j.progress (command_id m)).runs ≡ (progress_in k.progress (command_id m)).runs + 1
-  pub others : (n : ℕ) → n ≢ m
-      → (progress_in j.progress (command_id n)).runs ≡ (progress_in k.progress (command_id n)).runs
+  pub others : (i : ℕ) → i ≢ m
+      → (progress_in j.progress (command_id i)).runs ≡ (progress_in k.progress (command_id i)).runs
   pub resets : resets_left j s.resets ≡ resets_left k s.resets
   pub faults : j.faults ≡ k.faults
 
@@ -110,17 +110,17 @@ run_done_pays s j k m again c at sent over h most =
     no_more a b g h = omega arith
 
     made : ℕ → ℕ
-    made n = (progress_in k.progress (command_id n)).runs
+    made l = (progress_in k.progress (command_id l)).runs
 
-    other : (n : ℕ) (d : CmdDef) → command_at s.commands n ≡ Some d → n ≢ m
-        → command_left s j n d ≤ command_left s k n d
-    other n d f ne =
-        let e : command_left s j n d ≡ left_by s k.story.sent (open_left s false false (made n) d) n d = (λ i. left_by s
-        (h.sent i) (open_left s (serves_item (h.served i) (command_item n)) (h.still i) (h.others n ne i) d) n d)
-        ∙ ap (λ (q : Bool). left_by s k.story.sent (open_left s q false (made n) d) n d) (command_apart m n ne) in
-        let g : command_left s k n d ≡ left_by s k.story.sent (open_left s false true (made n) d) n d = (λ i. left_by
-        s k.story.sent (open_left s (serves_item (h.before i) (command_item n)) (h.moves i) (made n) d) n d)
-        ∙ ap (λ (q : Bool). left_by s k.story.sent (open_left s q true (made n) d) n d) (command_apart m n ne) in
+    other : (l : ℕ) (d : CmdDef) → command_at s.commands l ≡ Some d → l ≢ m
+        → command_left s j l d ≤ command_left s k l d
+    other l d f ne =
+        let e : command_left s j l d ≡ left_by s k.story.sent (open_left s false false (made l) d) l d = (λ i. left_by s
+        (h.sent i) (open_left s (serves_item (h.served i) (command_item l)) (h.still i) (h.others l ne i) d) l d)
+        ∙ ap (λ (q : Bool). left_by s k.story.sent (open_left s q false (made l) d) l d) (command_apart m l ne) in
+        let g : command_left s k l d ≡ left_by s k.story.sent (open_left s false true (made l) d) l d = (λ i. left_by
+        s k.story.sent (open_left s (serves_item (h.before i) (command_item l)) (h.moves i) (made l) d) l d)
+        ∙ ap (λ (q : Bool). left_by s k.story.sent (open_left s q true (made l) d) l d) (command_apart m l ne) in
         let z = e ∙ sym g in
         omega arith
 
@@ -140,12 +140,12 @@ run_done_pays s j k m again c at sent over h most =
         (open_left s true true (made m) c) (command_left s k m c) (reselection_if again) e f
         (by again most (ap (bytes_after s c) (plus_none (made m + 1))))
       where
-        add : (r n x y : ℕ) → x ≡ y → n < r
-            → 1024 * (r - (n + 1) + 0) + 8 * x + 4096 + 1024 ≤ 1024 * (r - n + 0) + 8 * y + 4096
-        add r n x y e h = omega arith
+        add : (r l x y : ℕ) → x ≡ y → l < r
+            → 1024 * (r - (l + 1) + 0) + 8 * x + 4096 + 1024 ≤ 1024 * (r - l + 0) + 8 * y + 4096
+        add r l x y e h = omega arith
 
-        keep : (r n x y : ℕ) → x ≡ y → 1024 * (r - (n + 1) + 0) + 8 * x + 4096 + 0 ≤ 1024 * (r - n + 0) + 8 * y + 4096
-        keep r n x y e = omega arith
+        keep : (r l x y : ℕ) → x ≡ y → 1024 * (r - (l + 1) + 0) + 8 * x + 4096 + 0 ≤ 1024 * (r - l + 0) + 8 * y + 4096
+        keep r l x y e = omega arith
 
         by : (q : Bool) → (q ≡ true → made m < data_runs s c)
             → bytes_after s c (made m + 1 + 0) ≡ bytes_after s c (made m + 1)

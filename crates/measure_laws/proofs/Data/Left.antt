@@ -93,7 +93,7 @@ future_sum c d a b r q f g l h x y z = omega (arith, h, x, y, z)
 
 struck_sum : (f g l a b x w y z u m v : ℕ) → v ≡ f + 40 + (a + x + y + 0) → m ≡ g + 40 + (b + w + z + u) → f ≤ g + 8 * l
     → a ≤ 4 * 128 → b ≡ 3 * 128 → u ≡ 8 * l + 8 * 128 → x ≤ 106 → y ≤ 144 → suc v ≤ m
-struck_sum f g l a b x w y z u m v d e h i j k o r = omega (arith, d, e, h, i, j, k, o, r)
+struck_sum f g l a b x w y z u m v d e h i c t o r = omega (arith, d, e, h, i, c, t, o, r)
 
 undone : (s : ScenarioValue) (k : RunState) (o : Option Process) (l : Leaving) (id : ProcId) → l.done ≡ false
     → (progress_in (progress_by_leaving k o l) id).runs ≡ (progress_in k.progress id).runs
@@ -101,11 +101,11 @@ undone s k None l id e = refl
 undone s k (Some q) l id e =
     (λ i. (progress_in (progress_with k.progress q.id (e i) l.counts) id).runs) ∙ same_runs k.progress q.id l.counts id
 
-three : (l : LineSet) → is_data l ≡ true → (r : Bool) (p : Plan) → phases_in r p (phase_of l) ≡ 3 * 128
-three l e r p = go l.msg l.cd l.io e
+three : (l : LineSet) → is_data l ≡ true → (r : Bool) (a : Plan) → phases_in r a (phase_of l) ≡ 3 * 128
+three l e r a = go l.msg l.cd l.io e
   where
     go : (m d i : Bool) → (not m && not d) ≡ true
-        → phases_in r p (if m then (if i then Phase.MessageIn else Phase.MessageOut)
+        → phases_in r a (if m then (if i then Phase.MessageIn else Phase.MessageOut)
         else if d then (if i then Phase.Status else Phase.Command) else if i then Phase.DataIn else Phase.DataOut)
         ≡ 3 * 128
     go true d i z = wrong' z
@@ -192,8 +192,8 @@ done_run s p row n q w e done =
     }
 
 -- Of an automatic REQUEST SENSE: it has one run, after which no bytes are set aside for it.
-sense_apart : (id : ProcId) (n : ℕ) → id.sense ≡ true → same_id id (command_id n) ≡ false
-sense_apart id n e = (λ i. (id.command == n) && same_bool (e i) false) ∙ and_false (id.command == n)
+sense_apart : (id : ProcId) (m : ℕ) → id.sense ≡ true → same_id id (command_id m) ≡ false
+sense_apart id m e = (λ i. (id.command == m) && same_bool (e i) false) ∙ and_false (id.command == m)
 
 sense_done : (a : Bool) (m : List ProcessProgress) (o : Option Item) (id : ProcId) (r : ℕ) → o ≡ Some (process id)
     → (progress_in m id).runs ≡ r + 1 → sense_bytes_left a m o ≡ 0

@@ -20,7 +20,7 @@ sense_moves_none s q own e = go (command_at s.commands q.id.command) own
   where
     go : (o : Option CmdDef) → process_if s q.id o ≡ Some q → blocks_in (range_named q) ≡ None
     go None z = none_some q z
-    go (Some c) z = ap (λ (p : Process). blocks_in (range_named p)) (sym (same_Some (process_by s q.id c) q z)
+    go (Some c) z = ap (λ (t : Process). blocks_in (range_named t)) (sym (same_Some (process_by s q.id c) q z)
         ∙ ap (λ (b : Bool). if b then sense_process s q.id c else command_process s q.id c) e)
 
 -- ---- what a read or a write of blocks needs, where it is carried out
@@ -31,11 +31,11 @@ blocks_needed : (r : Result Command CdbFault) (u : UnitDef) (c : Contents) (bloc
     → moved_by r (Some u) ≡ blocks * c.size
 blocks_needed r u c blocks is count size good = go r is good
   where
-    by : (lba n : ℕ) → n ≡ blocks → (nat_lt lba c.count && nat_le (lba + n) c.count) ≡ true
-        → (if nat_le (lba + n) u.blocks then n * u.size else 0) ≡ blocks * c.size
-    by lba n e g =
-        (λ i. if nat_le (lba + n) (sym count i) then n * sym size i else 0)
-        ∙ (λ i. if (and_parts (nat_lt lba c.count) (nat_le (lba + n) c.count) g).1 i then n * c.size else 0)
+    by : (lba m : ℕ) → m ≡ blocks → (nat_lt lba c.count && nat_le (lba + m) c.count) ≡ true
+        → (if nat_le (lba + m) u.blocks then m * u.size else 0) ≡ blocks * c.size
+    by lba m e g =
+        (λ i. if nat_le (lba + m) (sym count i) then m * sym size i else 0)
+        ∙ (λ i. if (and_parts (nat_lt lba c.count) (nat_le (lba + m) c.count) g).1 i then m * c.size else 0)
         ∙ ap (λ (x : ℕ). x * c.size) e
 
     go : (x : Result Command CdbFault) → blocks_in (range_in x) ≡ Some blocks
@@ -140,5 +140,5 @@ runs_left s k q h o is own there m = less (task_here s k q).runs
         ∙ ap (λ (x : Option (ℕ × ℕ)). runs_in (policy_of (target_def_of s q.target)) (blocks_in x))
         (sym (at_disk q (is_disk s q own)))
 
-    less : (n x y : ℕ) → n + 1 < x → y ≡ x → n < y
-    less n x y f e = omega (arith, f, e)
+    less : (l x y : ℕ) → l + 1 < x → y ≡ x → l < y
+    less l x y f e = omega (arith, f, e)

@@ -53,44 +53,44 @@ pub record Leaves (s : ScenarioValue) (j k : RunState) : Type 0 where
   pub moves : is_in_data k ≡ true
   pub runs : (id : ProcId) → (progress_in j.progress id).runs ≡ (progress_in k.progress id).runs
 
-unique : (o : Option Item) (n m : ℕ) → serves_item o (command_item n) ≡ true → n ≢ m
+unique : (o : Option Item) (w m : ℕ) → serves_item o (command_item w) ≡ true → w ≢ m
     → serves_item o (command_item m) ≡ false
-unique None n m e ne = wrong' e
-unique (Some (abort l)) n m e ne = wrong' e
-unique (Some (process id)) n m e ne =
-    let same : id.command ≡ n = eqb-true id.command n (and_parts (id.command == n) (same_bool id.sense false) e).0 in
+unique None w m e ne = wrong' e
+unique (Some (abort l)) w m e ne = wrong' e
+unique (Some (process id)) w m e ne =
+    let same : id.command ≡ w = eqb-true id.command w (and_parts (id.command == w) (same_bool id.sense false) e).0 in
     λ i. ne_eqb id.command m (λ z. ne (sym same ∙ z)) i && same_bool id.sense false
 
-open_then : (s : ScenarioValue) (j k : RunState) (n : ℕ) (c : CmdDef) (q : Bool)
-    → Leaves s j k → serves_item k.served (command_item n) ≡ q
-    → open_of s j n c ≡ open_left s q false (progress_in k.progress (command_id n)).runs c
-open_then s j k n c q h e =
-    (λ i. open_left s (serves_item (h.served i) (command_item n)) (h.still i) (h.runs (command_id n) i) c)
-    ∙ (λ i. open_left s (e i) false (progress_in k.progress (command_id n)).runs c)
+open_then : (s : ScenarioValue) (j k : RunState) (m : ℕ) (c : CmdDef) (q : Bool)
+    → Leaves s j k → serves_item k.served (command_item m) ≡ q
+    → open_of s j m c ≡ open_left s q false (progress_in k.progress (command_id m)).runs c
+open_then s j k m c q h e =
+    (λ i. open_left s (serves_item (h.served i) (command_item m)) (h.still i) (h.runs (command_id m) i) c)
+    ∙ (λ i. open_left s (e i) false (progress_in k.progress (command_id m)).runs c)
 
-open_now : (s : ScenarioValue) (j k : RunState) (n : ℕ) (c : CmdDef) (q : Bool)
-    → Leaves s j k → serves_item k.served (command_item n) ≡ q
-    → open_of s k n c ≡ open_left s q true (progress_in k.progress (command_id n)).runs c
-open_now s j k n c q h e = λ i. open_left s (e i) (h.moves i) (progress_in k.progress (command_id n)).runs c
+open_now : (s : ScenarioValue) (j k : RunState) (m : ℕ) (c : CmdDef) (q : Bool)
+    → Leaves s j k → serves_item k.served (command_item m) ≡ q
+    → open_of s k m c ≡ open_left s q true (progress_in k.progress (command_id m)).runs c
+open_now s j k m c q h e = λ i. open_left s (e i) (h.moves i) (progress_in k.progress (command_id m)).runs c
 
-unserved : (s : ScenarioValue) (j k : RunState) (n : ℕ) (c : CmdDef) → Leaves s j k
-    → serves_item k.served (command_item n) ≡ false → command_left s j n c ≤ command_left s k n c
-unserved s j k n c h e =
-    command_lowers s j k n c h.sent (λ o. same _ _ _ (open_then s j k n c false h e) (open_now s j k n c false h e))
+unserved : (s : ScenarioValue) (j k : RunState) (m : ℕ) (c : CmdDef) → Leaves s j k
+    → serves_item k.served (command_item m) ≡ false → command_left s j m c ≤ command_left s k m c
+unserved s j k m c h e =
+    command_lowers s j k m c h.sent (λ o. same _ _ _ (open_then s j k m c false h e) (open_now s j k m c false h e))
   where
     same : (a b x : ℕ) → a ≡ x → b ≡ x → a ≤ b
     same a b x e f = omega (arith, e, f)
 
-served_once : (s : ScenarioValue) (j k : RunState) (n : ℕ) (c : CmdDef) → Leaves s j k
-    → serves_item k.served (command_item n) ≡ true → command_left s j n c ≤ command_left s k n c + 8 * need_of s c
-served_once s j k n c h e = command_waits s j k (8 * need_of s c) n c h.sent
-    (λ o. chain _ _ _ _ (need_of s c) (open_then s j k n c true h e) (open_now s j k n c true h e)
+served_once : (s : ScenarioValue) (j k : RunState) (m : ℕ) (c : CmdDef) → Leaves s j k
+    → serves_item k.served (command_item m) ≡ true → command_left s j m c ≤ command_left s k m c + 8 * need_of s c
+served_once s j k m c h e = command_waits s j k (8 * need_of s c) m c h.sent
+    (λ o. chain _ _ _ _ (need_of s c) (open_then s j k m c true h e) (open_now s j k m c true h e)
     (sums (for_reselection * (data_runs s c - made + 0)) (bytes_after s c (made + 0)) (bytes_after s c (made + 1))
     (need_of s c) (subst (λ x. bytes_after s c x ≤ bytes_after s c (made + 1) + need_of s c) (plain made)
     (bytes_more _ _ _ (need_of s c) made))))
   where
     made : ℕ
-    made = (progress_in k.progress (command_id n)).runs
+    made = (progress_in k.progress (command_id m)).runs
 
     plain : (x : ℕ) → x ≡ x + 0
     plain x = omega arith
@@ -107,11 +107,11 @@ left_most a b = grind arith
 right_most : (a b : ℕ) → b ≤ max a b
 right_most a b = grind arith
 
-pub commands_more : (s : ScenarioValue) (j k : RunState) (n : ℕ) (commands : List CmdDef) → Leaves s j k
-    → commands_left s j n commands ≤ commands_left s k n commands + 8 * longest_need s commands
-commands_more s j k n [] h = omega arith
-commands_more s j k n (c ∷ commands) h =
-    by (commands_more s j k (n + 1) commands h) (serves_item k.served (command_item n)) refl
+pub commands_more : (s : ScenarioValue) (j k : RunState) (l : ℕ) (commands : List CmdDef) → Leaves s j k
+    → commands_left s j l commands ≤ commands_left s k l commands + 8 * longest_need s commands
+commands_more s j k l [] h = omega arith
+commands_more s j k l (c ∷ commands) h =
+    by (commands_more s j k (l + 1) commands h) (serves_item k.served (command_item l)) refl
   where
     here : (a b x y u m : ℕ) → a ≤ b + 8 * u → x ≤ y → u ≤ m → a + x ≤ b + y + 8 * m
     here a b x y u m h g f = omega (arith, h, g, f)
@@ -119,20 +119,20 @@ commands_more s j k n (c ∷ commands) h =
     later : (a b x y u m : ℕ) → a ≤ b → x ≤ y + 8 * u → u ≤ m → a + x ≤ b + y + 8 * m
     later a b x y u m h g f = omega (arith, h, g, f)
 
-    apart : (i : ℕ) → n ≡ n + 1 + i → ⊥
+    apart : (i : ℕ) → l ≡ l + 1 + i → ⊥
     apart i e = absurd (omega (arith, e))
 
-    by : commands_left s j (n + 1) commands ≤ commands_left s k (n + 1) commands + 8 * longest_need s commands
-        → (q : Bool) → serves_item k.served (command_item n) ≡ q
-        → commands_left s j n (c ∷ commands) ≤ commands_left s k n (c ∷ commands) + 8 * longest_need s (c ∷ commands)
-    by rest true e = here (command_left s j n c) (command_left s k n c)
-        (commands_left s j (n + 1) commands) (commands_left s k (n + 1) commands) (need_of s c)
-        (max (need_of s c) (longest_need s commands)) (served_once s j k n c h e) (none_more s j k
-        (n + 1) commands (λ i d at. unserved s j k (n + 1 + i) d h (unique k.served n (n + 1 + i) e (apart i))))
+    by : commands_left s j (l + 1) commands ≤ commands_left s k (l + 1) commands + 8 * longest_need s commands
+        → (q : Bool) → serves_item k.served (command_item l) ≡ q
+        → commands_left s j l (c ∷ commands) ≤ commands_left s k l (c ∷ commands) + 8 * longest_need s (c ∷ commands)
+    by rest true e = here (command_left s j l c) (command_left s k l c)
+        (commands_left s j (l + 1) commands) (commands_left s k (l + 1) commands) (need_of s c)
+        (max (need_of s c) (longest_need s commands)) (served_once s j k l c h e) (none_more s j k
+        (l + 1) commands (λ i d at. unserved s j k (l + 1 + i) d h (unique k.served l (l + 1 + i) e (apart i))))
         (left_most (need_of s c) (longest_need s commands))
-    by rest false e = later (command_left s j n c) (command_left s k n c) (commands_left s j (n + 1) commands)
-        (commands_left s k (n + 1) commands) (longest_need s commands) (max (need_of s c) (longest_need s commands))
-        (unserved s j k n c h e) rest (right_most (need_of s c) (longest_need s commands))
+    by rest false e = later (command_left s j l c) (command_left s k l c) (commands_left s j (l + 1) commands)
+        (commands_left s k (l + 1) commands) (longest_need s commands) (max (need_of s c) (longest_need s commands))
+        (unserved s j k l c h e) rest (right_most (need_of s c) (longest_need s commands))
 
 -- ---- the row
 
@@ -167,7 +167,7 @@ future_sum c d a b r q f g l h x y z = omega (arith, h, x, y, z)
 
 measure_sum : (f g l a b x w y z u m v : ℕ) → v ≡ f + 40 + (a + x + y + 0) → m ≡ g + 40 + (b + w + z + u)
     → f ≤ g + 8 * l → a ≡ 5 * 128 → b ≡ 3 * 128 → u ≡ 8 * l + 8 * 128 → x ≤ 106 → y ≤ 144 → suc v ≤ m
-measure_sum f g l a b x w y z u m v d e h i j k o r = omega (arith, d, e, h, i, j, k, o, r)
+measure_sum f g l a b x w y z u m v d e h i c t o r = omega (arith, d, e, h, i, c, t, o, r)
 
 pub data_out_falls : (s : ScenarioValue) (p : List Row) (row : Row) (n : Connection) (c : Change) → TurnRow s p row n c
     → (run_state s p).exchange.begun ≡ true → is_message_out c.after ≡ true → is_data (bus_of (run_state s p)) ≡ true

@@ -21,12 +21,12 @@ use proofs.Turns.{Struck.{struck_known}, Table.{left_of}}
 abbrev pub run_of : ScenarioValue → RunState → Connection → ℕ
 run_of s j n = run_length_if (policy_of (target_def_of s n.target)) (task_of s j)
 
-data_requests : (struck asked : Bool) (h : Handshakes) (p : Speech) (bytes run : ℕ) (l : LineSet) → is_data l ≡ true
-    → requests_by struck asked h p bytes run (phase_of l) ≤ run
-data_requests struck asked h p bytes run l e = go l.msg l.cd l.io e
+data_requests : (struck asked : Bool) (h : Handshakes) (x : Speech) (bytes run : ℕ) (l : LineSet) → is_data l ≡ true
+    → requests_by struck asked h x bytes run (phase_of l) ≤ run
+data_requests struck asked h x bytes run l e = go l.msg l.cd l.io e
   where
     go : (m d i : Bool) → (not m && not d) ≡ true
-        → requests_by struck asked h p bytes run (if m then (if i then Phase.MessageIn else Phase.MessageOut)
+        → requests_by struck asked h x bytes run (if m then (if i then Phase.MessageIn else Phase.MessageOut)
         else if d then (if i then Phase.Status else Phase.Command) else if i then Phase.DataIn else Phase.DataOut) ≤ run
     go true d i z = wrong' z
     go false true i z = wrong' z
@@ -54,7 +54,7 @@ data_left s p row n c h to =
 
 data_sum : (f g a b x w y z u m v e : ℕ) → v ≡ f + 40 + (a + x + y + 0) → m ≡ g + 40 + (b + w + z + u)
     → f + 8 * e + y ≤ g + z → a + 128 ≤ b + u → x ≤ 8 * e + 10 → suc v ≤ m
-data_sum f g a b x w y z u m v e d i h j k = omega arith
+data_sum f g a b x w y z u m v e d i h c l = omega arith
 
 pub data_turn_falls : (s : ScenarioValue) (p : List Row) (row : Row) (n : Connection) (c : Change)
     → Obeys s → IsPrompt s (row ∷ p) → TurnRow s p row n c → connection p ≡ Some n
@@ -143,25 +143,25 @@ command_pays_run s j k m run c at sent over h fewer =
     no_more a b g h = omega arith
 
     made : ℕ → ℕ
-    made n = (progress_in k.progress (command_id n)).runs
+    made l = (progress_in k.progress (command_id l)).runs
 
-    after : (n : ℕ) (d : CmdDef) → command_left s j n d
-        ≡ left_by s k.story.sent (open_left s (same_item (command_item m) (command_item n)) true (made n) d) n d
-    after n d = λ i. left_by s (h.sent i)
-        (open_left s (serves_item (h.served i) (command_item n)) (h.moves i) (h.runs (command_id n) i) d) n d
+    after : (l : ℕ) (d : CmdDef) → command_left s j l d
+        ≡ left_by s k.story.sent (open_left s (same_item (command_item m) (command_item l)) true (made l) d) l d
+    after l d = λ i. left_by s (h.sent i)
+        (open_left s (serves_item (h.served i) (command_item l)) (h.moves i) (h.runs (command_id l) i) d) l d
 
-    before : (n : ℕ) (d : CmdDef) → command_left s k n d
-        ≡ left_by s k.story.sent (open_left s (same_item (command_item m) (command_item n)) false (made n) d) n d
-    before n d =
-        λ i. left_by s k.story.sent (open_left s (serves_item (h.before i) (command_item n)) (h.still i) (made n) d) n d
+    before : (l : ℕ) (d : CmdDef) → command_left s k l d
+        ≡ left_by s k.story.sent (open_left s (same_item (command_item m) (command_item l)) false (made l) d) l d
+    before l d =
+        λ i. left_by s k.story.sent (open_left s (serves_item (h.before i) (command_item l)) (h.still i) (made l) d) l d
 
-    other : (n : ℕ) (d : CmdDef) → command_at s.commands n ≡ Some d → n ≢ m
-        → command_left s j n d ≤ command_left s k n d
-    other n d f ne =
-        let e = after n d
-        ∙ ap (λ (q : Bool). left_by s k.story.sent (open_left s q true (made n) d) n d) (command_apart m n ne)
-        ∙ sym (before n d
-        ∙ ap (λ (q : Bool). left_by s k.story.sent (open_left s q false (made n) d) n d) (command_apart m n ne)) in
+    other : (l : ℕ) (d : CmdDef) → command_at s.commands l ≡ Some d → l ≢ m
+        → command_left s j l d ≤ command_left s k l d
+    other l d f ne =
+        let e = after l d
+        ∙ ap (λ (q : Bool). left_by s k.story.sent (open_left s q true (made l) d) l d) (command_apart m l ne)
+        ∙ sym (before l d
+        ∙ ap (λ (q : Bool). left_by s k.story.sent (open_left s q false (made l) d) l d) (command_apart m l ne)) in
         omega arith
 
     own : command_left s j m c + 8 * run ≤ command_left s k m c
@@ -178,9 +178,9 @@ command_pays_run s j k m run c at sent over h fewer =
         (command_left s k m c) e f (by (data_runs s c) (made m) (bytes_after s c (made m + 1))
         (bytes_after s c (made m)) (bytes_after s c (made m + 0)) (ap (bytes_after s c) (plus_none (made m))) fewer)
       where
-        by : (r n x y z : ℕ) → z ≡ y → run + x ≤ y
-            → 1024 * (r - n + 0) + 8 * x + 4096 + 8 * run ≤ 1024 * (r - n + 0) + 8 * z + 4096
-        by r n x y z e h = omega arith
+        by : (r l x y z : ℕ) → z ≡ y → run + x ≤ y
+            → 1024 * (r - l + 0) + 8 * x + 4096 + 8 * run ≤ 1024 * (r - l + 0) + 8 * z + 4096
+        by r l x y z e h = omega arith
 
         chain : (a x y b : ℕ) → a ≡ x → b ≡ y → x + 8 * run ≤ y → a + 8 * run ≤ b
         chain a x y b e f h = omega arith

@@ -15,8 +15,8 @@ pub record Lowers (a b : Sent) : Type 0 where
   pub sent : b.sent ≡ a.sent
   pub tries : b.tries ≡ a.tries
   pub over : (i : Item) → has_item a.over i ≡ true → has_item b.over i ≡ true
-  pub checks : (n : ℕ) → list_any (λ k. k == n) b.checks ≡ true
-      → (list_any (λ k. k == n) a.checks ≡ true) ⊎ (has_item a.over (command_item n) ≡ false)
+  pub checks : (m : ℕ) → list_any (λ k. k == m) b.checks ≡ true
+      → (list_any (λ k. k == m) a.checks ≡ true) ⊎ (has_item a.over (command_item m) ≡ false)
 
 pub lowers_same : (a b : Sent) → b ≡ a → Lowers a b
 lowers_same a b e = record {
@@ -72,22 +72,22 @@ end_lowers b id status first = go id.sense refl (status == CHECK_CONDITION)
       ];
     }
 
-one_end : (q r : Bool) (n : ℕ) (e : Ending) (b : Story)
-    → Lowers b.sent (if q then story_with_end b (record { command = n; sense = false }) e
-    else if r then story_with_over b (sense_item n) else b).sent
-one_end true r n e b = over_lowers b.sent (command_item n)
-one_end false true n e b = over_lowers b.sent (sense_item n)
-one_end false false n e b = lowers_same b.sent b.sent refl
+one_end : (q r : Bool) (m : ℕ) (e : Ending) (b : Story)
+    → Lowers b.sent (if q then story_with_end b (record { command = m; sense = false }) e
+    else if r then story_with_over b (sense_item m) else b).sent
+one_end true r m e b = over_lowers b.sent (command_item m)
+one_end false true m e b = over_lowers b.sent (sense_item m)
+one_end false false m e b = lowers_same b.sent b.sent refl
 
-ends_lower : (drops stops : CmdDef → Bool) (e : Ending) (n : ℕ) (commands : List CmdDef) (b : Story)
-    → Lowers b.sent (story_with_ends drops stops e n commands b).sent
-ends_lower drops stops e n [] b = lowers_same b.sent b.sent refl
-ends_lower drops stops e n (c ∷ commands) b =
-    let next : Story = if is_open b.sent n && drops c then story_with_end b (record { command = n; sense = false }) e
-    else if stops c && list_any (λ k. k == n) b.sent.checks then story_with_over b (sense_item n) else b in
-    lowers_on b.sent next.sent (story_with_ends drops stops e (n + 1) commands next).sent
-    (one_end (is_open b.sent n && drops c) (stops c && list_any (λ k. k == n) b.sent.checks) n e b)
-    (ends_lower drops stops e (n + 1) commands next)
+ends_lower : (drops stops : CmdDef → Bool) (e : Ending) (m : ℕ) (commands : List CmdDef) (b : Story)
+    → Lowers b.sent (story_with_ends drops stops e m commands b).sent
+ends_lower drops stops e m [] b = lowers_same b.sent b.sent refl
+ends_lower drops stops e m (c ∷ commands) b =
+    let next : Story = if is_open b.sent m && drops c then story_with_end b (record { command = m; sense = false }) e
+    else if stops c && list_any (λ k. k == m) b.sent.checks then story_with_over b (sense_item m) else b in
+    lowers_on b.sent next.sent (story_with_ends drops stops e (m + 1) commands next).sent
+    (one_end (is_open b.sent m && drops c) (stops c && list_any (λ k. k == m) b.sent.checks) m e b)
+    (ends_lower drops stops e (m + 1) commands next)
 
 pub event_lowers : (s : ScenarioValue) (b : Story) (event : Event) → EndsFirst b event
     → Lowers b.sent (story_after_event s b event).sent
@@ -113,10 +113,10 @@ events_lower s b (event ∷ shown) h = lowers_on b.sent (story_after_events s b 
 -- ---- what is left of a command, by what is sent and what is left of it while it is open
 
 abbrev pub left_by : ScenarioValue → Sent → ℕ → ℕ → CmdDef → ℕ
-left_by s b there n c =
-    if has_item b.over (command_item n) then sense_left b n
-    else if has_item b.sent (command_item n) then there
-    else unsent_left s b n c
+left_by s b there m c =
+    if has_item b.over (command_item m) then sense_left b m
+    else if has_item b.sent (command_item m) then there
+    else unsent_left s b m c
 
 done_more : (a b : Sent) (i : Item) → Lowers a b → is_done a i ≡ true → is_done b i ≡ true
 done_more a b i h e =
@@ -128,13 +128,13 @@ done_more a b i h e =
     go false r t f z = f z
 
 -- The automatic REQUEST SENSE of a command that is over.
-pub sense_lowers : (a b : Sent) (n : ℕ) → Lowers a b → has_item a.over (command_item n) ≡ true
-    → sense_left b n ≤ sense_left a n
-sense_lowers a b n h o = go (list_any (λ m. m == n) a.checks) (list_any (λ m. m == n) b.checks)
-    (is_done a (sense_item n)) (is_done b (sense_item n)) checked (done_more a b (sense_item n) h)
+pub sense_lowers : (a b : Sent) (i : ℕ) → Lowers a b → has_item a.over (command_item i) ≡ true
+    → sense_left b i ≤ sense_left a i
+sense_lowers a b i h o = go (list_any (λ m. m == i) a.checks) (list_any (λ m. m == i) b.checks)
+    (is_done a (sense_item i)) (is_done b (sense_item i)) checked (done_more a b (sense_item i) h)
   where
-    checked : list_any (λ m. m == n) b.checks ≡ true → list_any (λ m. m == n) a.checks ≡ true
-    checked z = elim (h.checks n z) [
+    checked : list_any (λ m. m == i) b.checks ≡ true → list_any (λ m. m == i) a.checks ≡ true
+    checked z = elim (h.checks i z) [
       | inl x ↦ x
       | inr x ↦ wrong (sym o ∙ x)
     ]
@@ -147,78 +147,78 @@ sense_lowers a b n h o = go (list_any (λ m. m == n) a.checks) (list_any (λ m. 
     go true true false false f g = omega arith
     go false true u false f g = wrong' (f refl)
 
-sense_few : (b : Sent) (n : ℕ) → sense_left b n ≤ 4096
-sense_few b n = go (list_any (λ m. m == n) b.checks && not (is_done b (sense_item n)))
+sense_few : (b : Sent) (i : ℕ) → sense_left b i ≤ 4096
+sense_few b i = go (list_any (λ m. m == i) b.checks && not (is_done b (sense_item i)))
   where
     go : (q : Bool) → (if q then 4096 else 0) ≤ 4096
     go true = omega arith
     go false = omega arith
 
-unsent_many : (s : ScenarioValue) (b : Sent) (n : ℕ) (c : CmdDef) → 4096 ≤ unsent_left s b n c
-unsent_many s b n c = omega arith
+unsent_many : (s : ScenarioValue) (b : Sent) (m : ℕ) (c : CmdDef) → 4096 ≤ unsent_left s b m c
+unsent_many s b m c = omega arith
 
 -- A command: what is left of it while it is open, y before and x after.
-pub one_lowers : (s : ScenarioValue) (a b : Sent) (x y n : ℕ) (c : CmdDef) → Lowers a b → 4096 ≤ y
-    → (is_open b n ≡ true → x ≤ y) → left_by s b x n c ≤ left_by s a y n c
-one_lowers s a b x y n c h many less = go (has_item a.over (command_item n)) refl
-    (has_item b.over (command_item n)) refl (has_item a.sent (command_item n)) refl
+pub one_lowers : (s : ScenarioValue) (a b : Sent) (x y m : ℕ) (c : CmdDef) → Lowers a b → 4096 ≤ y
+    → (is_open b m ≡ true → x ≤ y) → left_by s b x m c ≤ left_by s a y m c
+one_lowers s a b x y m c h many less = go (has_item a.over (command_item m)) refl
+    (has_item b.over (command_item m)) refl (has_item a.sent (command_item m)) refl
   where
-    same : unsent_left s b n c ≡ unsent_left s a n c
-    same = ap (λ (z : List Item). unsent_left s (record b { tries = z }) n c) h.tries
+    same : unsent_left s b m c ≡ unsent_left s a m c
+    same = ap (λ (z : List Item). unsent_left s (record b { tries = z }) m c) h.tries
 
-    few : sense_left b n ≤ 4096
-    few = sense_few b n
+    few : sense_left b m ≤ 4096
+    few = sense_few b m
 
-    go : (p : Bool) → has_item a.over (command_item n) ≡ p → (q : Bool) → has_item b.over (command_item n) ≡ q
-        → (r : Bool) → has_item a.sent (command_item n) ≡ r → left_by s b x n c ≤ left_by s a y n c
-    go p ep q eq r er = over (λ i. has_item (h.sent i) (command_item n)) p ep q eq r er
+    go : (d : Bool) → has_item a.over (command_item m) ≡ d → (q : Bool) → has_item b.over (command_item m) ≡ q
+        → (r : Bool) → has_item a.sent (command_item m) ≡ r → left_by s b x m c ≤ left_by s a y m c
+    go d ep q eq r er = over (λ i. has_item (h.sent i) (command_item m)) d ep q eq r er
       where
-        over : has_item b.sent (command_item n) ≡ has_item a.sent (command_item n)
-            → (p : Bool) → has_item a.over (command_item n) ≡ p → (q : Bool) → has_item b.over (command_item n) ≡ q
-            → (r : Bool) → has_item a.sent (command_item n) ≡ r → left_by s b x n c ≤ left_by s a y n c
-        over es p ep q eq r er =
-            subst2 (by p q r (λ z. h.over (command_item n) (ep ∙ z)) ep eq er (es ∙ er))
+        over : has_item b.sent (command_item m) ≡ has_item a.sent (command_item m)
+            → (d : Bool) → has_item a.over (command_item m) ≡ d → (q : Bool) → has_item b.over (command_item m) ≡ q
+            → (r : Bool) → has_item a.sent (command_item m) ≡ r → left_by s b x m c ≤ left_by s a y m c
+        over es d ep q eq r er =
+            subst2 (by d q r (λ z. h.over (command_item m) (ep ∙ z)) ep eq er (es ∙ er))
           where
-            shape_b : left_by s b x n c ≡ (if q then sense_left b n else if r then x else unsent_left s b n c)
-            shape_b = λ i. if eq i then sense_left b n else if (es ∙ er) i then x else unsent_left s b n c
+            shape_b : left_by s b x m c ≡ (if q then sense_left b m else if r then x else unsent_left s b m c)
+            shape_b = λ i. if eq i then sense_left b m else if (es ∙ er) i then x else unsent_left s b m c
 
-            shape_a : left_by s a y n c ≡ (if p then sense_left a n else if r then y else unsent_left s a n c)
-            shape_a = λ i. if ep i then sense_left a n else if er i then y else unsent_left s a n c
+            shape_a : left_by s a y m c ≡ (if d then sense_left a m else if r then y else unsent_left s a m c)
+            shape_a = λ i. if ep i then sense_left a m else if er i then y else unsent_left s a m c
 
-            subst2 : (if q then sense_left b n else if r then x else unsent_left s b n c)
-                ≤ (if p then sense_left a n else if r then y else unsent_left s a n c)
-                → left_by s b x n c ≤ left_by s a y n c
+            subst2 : (if q then sense_left b m else if r then x else unsent_left s b m c)
+                ≤ (if d then sense_left a m else if r then y else unsent_left s a m c)
+                → left_by s b x m c ≤ left_by s a y m c
             subst2 z = let u = shape_b in let v = shape_a in omega arith
 
-            by : (p q r : Bool) → (p ≡ true → has_item b.over (command_item n) ≡ true)
-                → has_item a.over (command_item n) ≡ p → has_item b.over (command_item n) ≡ q
-                → has_item a.sent (command_item n) ≡ r → has_item b.sent (command_item n) ≡ r
-                → (if q then sense_left b n else if r then x else unsent_left s b n c)
-                ≤ (if p then sense_left a n else if r then y else unsent_left s a n c)
-            by true true r f u v w t = sense_lowers a b n h u
+            by : (d q r : Bool) → (d ≡ true → has_item b.over (command_item m) ≡ true)
+                → has_item a.over (command_item m) ≡ d → has_item b.over (command_item m) ≡ q
+                → has_item a.sent (command_item m) ≡ r → has_item b.sent (command_item m) ≡ r
+                → (if q then sense_left b m else if r then x else unsent_left s b m c)
+                ≤ (if d then sense_left a m else if r then y else unsent_left s a m c)
+            by true true r f u v w t = sense_lowers a b m h u
             by true false r f u v w t = wrong (sym (f refl) ∙ v)
             by false true true f u v w t = let k = few in omega arith
-            by false true false f u v w t = let k = few in let l = (unsent_many s a n c) in omega arith
+            by false true false f u v w t = let k = few in let l = (unsent_many s a m c) in omega arith
             by false false true f u v w t = less (λ i. t i && not (v i))
             by false false false f u v w t = let k = same in omega arith
 
 -- ---- aborts
 
-pub aborts_lower : (s : ScenarioValue) (a b : Sent) (n : ℕ) (aborts : List AbortDef) → Lowers a b
-    → aborts_left s b n aborts ≤ aborts_left s a n aborts
-aborts_lower s a b n [] h = omega arith
-aborts_lower s a b n (d ∷ aborts) h =
-    let rest = aborts_lower s a b (n + 1) aborts h in
-    let one = go (is_done a (abort n)) (is_done b (abort n)) (done_more a b (abort n) h) in
+pub aborts_lower : (s : ScenarioValue) (a b : Sent) (m : ℕ) (aborts : List AbortDef) → Lowers a b
+    → aborts_left s b m aborts ≤ aborts_left s a m aborts
+aborts_lower s a b m [] h = omega arith
+aborts_lower s a b m (d ∷ aborts) h =
+    let rest = aborts_lower s a b (m + 1) aborts h in
+    let one = go (is_done a (abort m)) (is_done b (abort m)) (done_more a b (abort m) h) in
     omega arith
   where
-    same : 64 * (retries_of s.hosts d.host + 1 - count_item b.tries (abort n)) + 4096
-        ≡ 64 * (retries_of s.hosts d.host + 1 - count_item a.tries (abort n)) + 4096
-    same = ap (λ (z : List Item). 64 * (retries_of s.hosts d.host + 1 - count_item z (abort n)) + 4096) h.tries
+    same : 64 * (retries_of s.hosts d.host + 1 - count_item b.tries (abort m)) + 4096
+        ≡ 64 * (retries_of s.hosts d.host + 1 - count_item a.tries (abort m)) + 4096
+    same = ap (λ (z : List Item). 64 * (retries_of s.hosts d.host + 1 - count_item z (abort m)) + 4096) h.tries
 
     go : (u v : Bool) → (u ≡ true → v ≡ true)
-        → (if v then 0 else 64 * (retries_of s.hosts d.host + 1 - count_item b.tries (abort n)) + 4096)
-        ≤ (if u then 0 else 64 * (retries_of s.hosts d.host + 1 - count_item a.tries (abort n)) + 4096)
+        → (if v then 0 else 64 * (retries_of s.hosts d.host + 1 - count_item b.tries (abort m)) + 4096)
+        ≤ (if u then 0 else 64 * (retries_of s.hosts d.host + 1 - count_item a.tries (abort m)) + 4096)
     go u true f = omega arith
     go true false f = wrong' (f refl)
     go false false f = let k = same in omega arith

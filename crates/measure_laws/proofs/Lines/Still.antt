@@ -6,18 +6,18 @@ use proofs.Names.{commands_left, future_left, is_in_data, open_left, resets_left
 use proofs.Names.{for_fault, for_reset}
 
 same_commands : (s : ScenarioValue) (j k : RunState) → wishes_of j ≡ wishes_of k → is_in_data j ≡ is_in_data k
-    → (n : ℕ) (commands : List CmdDef) → commands_left s j n commands ≡ commands_left s k n commands
-same_commands s j k w d n [] = refl
-same_commands s j k w d n (c ∷ commands) =
-    let rest = same_commands s j k w d (n + 1) commands in
-    λ i. (if has_item (w i).sent.over (command_item n) then sense_left (w i).sent n
-    else if has_item (w i).sent.sent (command_item n) then open_left s (serves_item (w i).served (command_item n))
-    (d i) (progress_in (w i).progress (command_id n)).runs c else unsent_left s (w i).sent n c)
+    → (m : ℕ) (commands : List CmdDef) → commands_left s j m commands ≡ commands_left s k m commands
+same_commands s j k w d m [] = refl
+same_commands s j k w d m (c ∷ commands) =
+    let rest = same_commands s j k w d (m + 1) commands in
+    λ i. (if has_item (w i).sent.over (command_item m) then sense_left (w i).sent m
+    else if has_item (w i).sent.sent (command_item m) then open_left s (serves_item (w i).served (command_item m))
+    (d i) (progress_in (w i).progress (command_id m)).runs c else unsent_left s (w i).sent m c)
     + rest i
 
-same_aborts : (s : ScenarioValue) (j k : RunState) → wishes_of j ≡ wishes_of k → (n : ℕ) (aborts : List AbortDef)
-    → aborts_left s j.story.sent n aborts ≡ aborts_left s k.story.sent n aborts
-same_aborts s j k w n aborts = ap (λ (x : Wishes). aborts_left s x.sent n aborts) w
+same_aborts : (s : ScenarioValue) (j k : RunState) → wishes_of j ≡ wishes_of k → (m : ℕ) (aborts : List AbortDef)
+    → aborts_left s j.story.sent m aborts ≡ aborts_left s k.story.sent m aborts
+same_aborts s j k w m aborts = ap (λ (x : Wishes). aborts_left s x.sent m aborts) w
 
 -- All of it, where it is no matter of a reset.
 pub future_same : (s : ScenarioValue) (j k : RunState) → wishes_of j ≡ wishes_of k → is_in_data j ≡ is_in_data k

@@ -45,7 +45,7 @@ first_out s p n bsy atn y o was h =
     (subst (λ (x : Handshakes). x.requests < run_count s p n) (sym h.quiet) some, runs_are_short s (obeys_fits s o) p n)
 
 below : (a b c : ℕ) → a ≤ b → b < c → a < c
-below a b c h k = omega (arith, h, k)
+below a b c h e = omega (arith, h, e)
 
 next_out : (s : ScenarioValue) (p : List Row) (n : Connection) (atn : Bool) (y : ℕ)
     → Obeys s → IsPrompt s p → Shaking p n false false false false false atn 0 y
@@ -127,7 +127,7 @@ out_sends s p row n atn true cd x o prompt dv h some e = subst (FallsWith s p) (
 -- ---- any row
 
 pub inside_falls : (s : ScenarioValue) (p : List Row) (row : Row) (n : Connection) → Obeys s → IsPrompt s p
-    → AreOfDevices p → TellsFirst s p row → (k : PhaseRow s p n row) → is_edge k ≡ false → FallsWith s p row
+    → AreOfDevices p → TellsFirst s p row → (f : PhaseRow s p n row) → is_edge f ≡ false → FallsWith s p row
 inside_falls s p row n o prompt dv first (kinds.hands atn msg cd io y h e) z =
     subst (FallsWith s p) (sym e) (settling_hands s p row.time n atn msg cd io y dv h)
 inside_falls s p row n o prompt dv first (kinds.releases atn x msg cd h some e) z =
@@ -181,20 +181,20 @@ inside_falls s p row n o prompt dv first _ z = wrong z
 -- The same of the next row of a prompt trace: it falls, or is of one of these three kinds.
 pub data InsideOrEdge (s : ScenarioValue) (p : List Row) (row : Row) (n : Connection) : Type 0 where
   inside : FallsWith s p row → InsideOrEdge s p row n
-  edge : (k : PhaseRow s p n row) → is_edge k ≡ true → InsideOrEdge s p row n
+  edge : (e : PhaseRow s p n row) → is_edge e ≡ true → InsideOrEdge s p row n
 
 pub connection_falls : (s : ScenarioValue) (p : List Row) (row : Row) (n : Connection) → Obeys s → IsPrompt s (row ∷ p)
     → connection p ≡ Some n → (bus p).rst ≡ false → (bus (row ∷ p)).rst ≡ false → InsideOrEdge s p row n
 connection_falls s p row n o prompt con calm off =
-    by_bool (is_edge k)
-    (λ e. edge k e)
-    (λ e. inside (inside_falls s p row n o prompt.0 was.stood.standing.devices first k e))
+    by_bool (is_edge h)
+    (λ e. edge h e)
+    (λ e. inside (inside_falls s p row n o prompt.0 was.stood.standing.devices first h e))
   where
     was : Whole s p
     was = whole s p o prompt.0
 
-    k : PhaseRow s p n row
-    k = kind_of_row s p row n o prompt was.stood con calm off
+    h : PhaseRow s p n row
+    h = kind_of_row s p row n o prompt was.stood con calm off
 
     first : TellsFirst s p row
     first = row_first s p row n (least_is s p row prompt.1).inside was (standing_next s p row o prompt was) con calm off

@@ -183,8 +183,8 @@ pulsing_sends s p t n req atn x dv h waits =
     shift_out s p t n.initiator _ _ n false atn req true atn req x x (answered t (handshakes p)) h c hand h.facts.asked
     (λ g. omega (arith, fewer, driven))
 
-counted_some : (n : ℕ) → (counted_on n == 0) ≡ false
-counted_some n = grind (arith, nat_tests)
+counted_some : (m : ℕ) → (counted_on m == 0) ≡ false
+counted_some m = grind (arith, nat_tests)
 
 -- REQ rises while a byte of the run follows.
 pub pulsing_asks_in : (s : ScenarioValue) (p : List Row) (t : ℕ) (n : Connection) (ack atn : Bool) (y : ℕ) → Obeys s

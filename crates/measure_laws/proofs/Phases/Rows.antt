@@ -110,11 +110,11 @@ out_next s p t d l o n bsy ack atn false req bsy' ack' atn' req' x y x' y' u h' 
 
 -- ---- a row falls
 
-one_sum : (r s w v : ℕ) → r ≤ s → suc w ≤ v → suc (8 * r + w) ≤ 8 * s + v
-one_sum r s w v a b = omega (arith, a, b)
+one_sum : (r m w v : ℕ) → r ≤ m → suc w ≤ v → suc (8 * r + w) ≤ 8 * m + v
+one_sum r m w v a b = omega (arith, a, b)
 
-pub eight_sum : (r s w v : ℕ) → suc r ≤ s → suc w ≤ 8 + v → suc (8 * r + w) ≤ 8 * s + v
-eight_sum r s w v a b = omega (arith, a, b)
+pub eight_sum : (r m w v : ℕ) → suc r ≤ m → suc w ≤ 8 + v → suc (8 * r + w) ≤ 8 * m + v
+eight_sum r m w v a b = omega (arith, a, b)
 
 -- ACK rises: to the initiator, where this shows no event; and to the target.
 pub shaking_answers : (s : ScenarioValue) (p : List Row) (t : ℕ) (n : Connection) (atn to msg cd : Bool) (y : ℕ)

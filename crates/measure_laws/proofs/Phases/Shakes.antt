@@ -33,12 +33,12 @@ ack_ends atn msg cd io x y h g f a b asked =
     omega arith
 
 -- The initiator answers a byte to it.
-pub answers : (atn to msg cd : Bool) (y : ℕ) (h k : Handshakes) (g f : Offering) (a b : Answering)
-    → (h.requests == 0) ≡ false → (k.requests == 0) ≡ false
-    → suc (way (ends false true to 0 msg cd true true y) k f b) ≤ way (ends false false atn 0 msg cd true true y) h g a
-answers atn to msg cd y h k g f a b asked still =
+pub answers : (atn to msg cd : Bool) (y : ℕ) (h x : Handshakes) (g f : Offering) (a b : Answering)
+    → (h.requests == 0) ≡ false → (x.requests == 0) ≡ false
+    → suc (way (ends false true to 0 msg cd true true y) x f b) ≤ way (ends false false atn 0 msg cd true true y) h g a
+answers atn to msg cd y h x g f a b asked still =
     let first = no_first (h.requests == 0) true (y == 0) asked in
-    let second = no_first (k.requests == 0) true (y == 0) still in
+    let second = no_first (x.requests == 0) true (y == 0) still in
     omega arith
 
 -- It drives its byte, and raises ACK with it.
@@ -51,15 +51,15 @@ gives atn to msg cd x h g f a b some =
     (λ (q : Bool). one_where (not q && true && true)) some in
     omega arith
 
-pub sends : (atn msg cd : Bool) (x : ℕ) (h k : Handshakes) (g f : Offering) (a b : Answering)
-    → (h.requests == 0) ≡ (k.requests == 0) → (x == 0) ≡ false
-    → suc (way (ends false true atn x msg cd false true 0) k f b)
+pub sends : (atn msg cd : Bool) (x : ℕ) (h y : Handshakes) (g f : Offering) (a b : Answering)
+    → (h.requests == 0) ≡ (y.requests == 0) → (x == 0) ≡ false
+    → suc (way (ends false true atn x msg cd false true 0) y f b)
     ≤ way (ends false false atn x msg cd false true 0) h g a
-sends atn msg cd x h k g f a b same some =
+sends atn msg cd x h y g f a b same some =
     let one : one_where (not (x == 0)) ≡ 1 = ap (λ (q : Bool). one_where (not q)) some in
     let two : one_where (not (x == 0) && true && true) ≡ 1 = ap
     (λ (q : Bool). one_where (not q && true && true)) some in
-    let first : one_where (h.requests == 0 && false && true) ≡ one_where (k.requests == 0 && false && true) = ap
+    let first : one_where (h.requests == 0 && false && true) ≡ one_where (y.requests == 0 && false && true) = ap
     (λ (q : Bool). one_where (q && false && true)) same in
     omega arith
 
@@ -69,8 +69,8 @@ pub hands : (atn msg cd io : Bool) (y : ℕ) (h : Handshakes) (g f : Offering) (
 hands atn msg cd io y h g f a b = omega arith
 
 -- REQ rises: with the byte that it asks for eight are given up.
-pub asks : (bsy atn msg cd io : Bool) (y : ℕ) (h k : Handshakes) (g f : Offering) (a b : Answering)
-    → suc (way (ends bsy false atn 0 msg cd io true y) k f b) ≤ 8 + way (ends bsy false atn 0 msg cd io false y) h g a
-asks bsy atn msg cd io y h k g f a b =
-    let first = at_most_one (k.requests == 0 && io && y == 0) in
+pub asks : (bsy atn msg cd io : Bool) (y : ℕ) (h x : Handshakes) (g f : Offering) (a b : Answering)
+    → suc (way (ends bsy false atn 0 msg cd io true y) x f b) ≤ 8 + way (ends bsy false atn 0 msg cd io false y) h g a
+asks bsy atn msg cd io y h x g f a b =
+    let first = at_most_one (x.requests == 0 && io && y == 0) in
     omega arith

@@ -10,26 +10,26 @@ use Rattle.due_model.specs.dialogue_model.specs.declared.exchange.Said.{Said}
 
 -- ---- what is heard and struck is no matter to them
 
-heard_words : (b : Bool) (p : Plan) (x : Said) (y : Bool) (c : Cause)
-    → after_words b (record p { said = x; struck = y }) c ≡ after_words b p c
-heard_words b p x y Cause.Selected = refl
-heard_words true p x y Cause.InMessage = refl
-heard_words false p x y Cause.InMessage = refl
-heard_words true p x y Cause.InData = refl
-heard_words false p x y Cause.InData = refl
-heard_words true p x y Cause.InStatus = refl
-heard_words false p x y Cause.InStatus = refl
+heard_words : (b : Bool) (l : Plan) (x : Said) (y : Bool) (c : Cause)
+    → after_words b (record l { said = x; struck = y }) c ≡ after_words b l c
+heard_words b l x y Cause.Selected = refl
+heard_words true l x y Cause.InMessage = refl
+heard_words false l x y Cause.InMessage = refl
+heard_words true l x y Cause.InData = refl
+heard_words false l x y Cause.InData = refl
+heard_words true l x y Cause.InStatus = refl
+heard_words false l x y Cause.InStatus = refl
 
-heard_phases : (b : Bool) (p : Plan) (x : Said) (y : Bool) (phase : Phase)
-    → phases_in b (record p { said = x; struck = y }) phase ≡ phases_in b p phase
-heard_phases b p x y Phase.MessageOut = heard_words b p x y p.cause
-heard_phases b p x y _ = refl
+heard_phases : (b : Bool) (l : Plan) (x : Said) (y : Bool) (phase : Phase)
+    → phases_in b (record l { said = x; struck = y }) phase ≡ phases_in b l phase
+heard_phases b l x y Phase.MessageOut = heard_words b l x y l.cause
+heard_phases b l x y _ = refl
 
-byte_phases : (b : Bool) (p : Plan) (last : Bool) (m : Option MsgOut) (out : Bool) (phase : Phase)
-    → phases_in b (if out then plan_after_message p last m else p) phase ≡ phases_in b p phase
-byte_phases b p true m true phase = heard_phases b p (said_with_if m nothing_heard) false phase
-byte_phases b p false m true phase = heard_phases b p (said_with_if m p.said) p.struck phase
-byte_phases b p last m false phase = refl
+byte_phases : (b : Bool) (l : Plan) (last : Bool) (m : Option MsgOut) (out : Bool) (phase : Phase)
+    → phases_in b (if out then plan_after_message l last m else l) phase ≡ phases_in b l phase
+byte_phases b l true m true phase = heard_phases b l (said_with_if m nothing_heard) false phase
+byte_phases b l false m true phase = heard_phases b l (said_with_if m l.said) l.struck phase
+byte_phases b l last m false phase = refl
 
 -- ---- a row
 
@@ -71,11 +71,11 @@ phases_stay s p t d l n e f o u h b =
     else for_reselection + 8 * for_phase)
 
 -- So do the messages.
-byte_messages : (p : Plan) (last : Bool) (m : Option MsgOut) (out : Bool)
-    → (if out then plan_after_message p last m else p).messages ≡ p.messages
-byte_messages p true m true = refl
-byte_messages p false m true = refl
-byte_messages p last m false = refl
+byte_messages : (l : Plan) (last : Bool) (m : Option MsgOut) (out : Bool)
+    → (if out then plan_after_message l last m else l).messages ≡ l.messages
+byte_messages l true m true = refl
+byte_messages l false m true = refl
+byte_messages l last m false = refl
 
 talk_messages : (w : Hearing) (x : Exchange) (now : Bool)
     → (if now then plan_with_byte w x.plan else x.plan).messages ≡ x.plan.messages

@@ -11,88 +11,88 @@ use proofs.{Names.{none_some, raises_or_stands, more_has, own_has}, Lines.Lowers
 -- ---- what an event that names a command leaves of it
 
 ends_more : (s : ScenarioValue) (drops stops : CmdDef → Bool)
-    (e : Ending) (n : ℕ) (commands : List CmdDef) (b : Story) (i : Item)
-    → has_item b.sent.over i ≡ true → has_item (story_with_ends drops stops e n commands b).sent.over i ≡ true
-ends_more s drops stops e n [] b i h = h
-ends_more s drops stops e n (c ∷ commands) b i h = ends_more s drops stops e (n + 1) commands _ i
-    (go (is_open b.sent n && drops c) (stops c && list_any (λ m. m == n) b.sent.checks))
+    (e : Ending) (l : ℕ) (commands : List CmdDef) (b : Story) (i : Item)
+    → has_item b.sent.over i ≡ true → has_item (story_with_ends drops stops e l commands b).sent.over i ≡ true
+ends_more s drops stops e l [] b i h = h
+ends_more s drops stops e l (c ∷ commands) b i h = ends_more s drops stops e (l + 1) commands _ i
+    (go (is_open b.sent l && drops c) (stops c && list_any (λ m. m == l) b.sent.checks))
   where
-    go : (q r : Bool) → has_item (if q then story_with_end b (record { command = n; sense = false }) e
-        else if r then story_with_over b (sense_item n) else b).sent.over i ≡ true
-    go true r = more_has (command_item n) i b.sent.over h
-    go false true = more_has (sense_item n) i b.sent.over h
+    go : (q r : Bool) → has_item (if q then story_with_end b (record { command = l; sense = false }) e
+        else if r then story_with_over b (sense_item l) else b).sent.over i ≡ true
+    go true r = more_has (command_item l) i b.sent.over h
+    go false true = more_has (sense_item l) i b.sent.over h
     go false false = h
 
 ends_close : (s : ScenarioValue) (drops stops : CmdDef → Bool) (e : Ending)
-    (j k : ℕ) (commands : List CmdDef) (b : Story) (c : CmdDef)
-    → command_at commands (suc k) ≡ Some c → drops c ≡ true → has_item b.sent.sent (command_item (suc (j + k))) ≡ true
-    → has_item (story_with_ends drops stops e (suc j) commands b).sent.over (command_item (suc (j + k))) ≡ true
-ends_close s drops stops e j k [] b c at d sent = none_some c at
-ends_close s drops stops e j zero (x ∷ commands) b c at d sent =
-    let same : suc (j + 0) ≡ suc j = omega arith in
-    let there : has_item b.sent.sent (command_item (suc j)) ≡ true =
+    (l w : ℕ) (commands : List CmdDef) (b : Story) (c : CmdDef)
+    → command_at commands (suc w) ≡ Some c → drops c ≡ true → has_item b.sent.sent (command_item (suc (l + w))) ≡ true
+    → has_item (story_with_ends drops stops e (suc l) commands b).sent.over (command_item (suc (l + w))) ≡ true
+ends_close s drops stops e l w [] b c at d sent = none_some c at
+ends_close s drops stops e l zero (x ∷ commands) b c at d sent =
+    let same : suc (l + 0) ≡ suc l = omega arith in
+    let there : has_item b.sent.sent (command_item (suc l)) ≡ true =
     ap (λ (m : ℕ). has_item b.sent.sent (command_item m)) (sym same) ∙ sent in
     let next : Story =
-    if is_open b.sent (suc j) && drops x then story_with_end b (record { command = suc j; sense = false }) e
-    else if stops x && list_any (λ m. m == suc j) b.sent.checks then story_with_over b (sense_item (suc j)) else b in
-    ap (λ (m : ℕ). has_item (story_with_ends drops stops e (suc j) (x ∷ commands) b).sent.over (command_item m)) same
-    ∙ ends_more s drops stops e (suc j + 1) commands next (command_item (suc j))
-    (by there (ap drops (same_Some x c at) ∙ d) (has_item b.sent.over (command_item (suc j))) refl)
+    if is_open b.sent (suc l) && drops x then story_with_end b (record { command = suc l; sense = false }) e
+    else if stops x && list_any (λ m. m == suc l) b.sent.checks then story_with_over b (sense_item (suc l)) else b in
+    ap (λ (m : ℕ). has_item (story_with_ends drops stops e (suc l) (x ∷ commands) b).sent.over (command_item m)) same
+    ∙ ends_more s drops stops e (suc l + 1) commands next (command_item (suc l))
+    (by there (ap drops (same_Some x c at) ∙ d) (has_item b.sent.over (command_item (suc l))) refl)
   where
     after : Bool → Story
     after q =
-        if q then story_with_end b (record { command = suc j; sense = false }) e
-        else if stops x && list_any (λ m. m == suc j) b.sent.checks then story_with_over b (sense_item (suc j))
+        if q then story_with_end b (record { command = suc l; sense = false }) e
+        else if stops x && list_any (λ m. m == suc l) b.sent.checks then story_with_over b (sense_item (suc l))
         else b
 
-    still : (q r : Bool) → has_item b.sent.over (command_item (suc j)) ≡ true
-        → has_item (if q then story_with_end b (record { command = suc j; sense = false }) e
-        else if r then story_with_over b (sense_item (suc j)) else b).sent.over (command_item (suc j)) ≡ true
-    still true r h = more_has (command_item (suc j)) (command_item (suc j)) b.sent.over h
-    still false true h = more_has (sense_item (suc j)) (command_item (suc j)) b.sent.over h
+    still : (q r : Bool) → has_item b.sent.over (command_item (suc l)) ≡ true
+        → has_item (if q then story_with_end b (record { command = suc l; sense = false }) e
+        else if r then story_with_over b (sense_item (suc l)) else b).sent.over (command_item (suc l)) ≡ true
+    still true r h = more_has (command_item (suc l)) (command_item (suc l)) b.sent.over h
+    still false true h = more_has (sense_item (suc l)) (command_item (suc l)) b.sent.over h
     still false false h = h
 
-    by : has_item b.sent.sent (command_item (suc j)) ≡ true → drops x ≡ true
-        → (o : Bool) → has_item b.sent.over (command_item (suc j)) ≡ o
-        → has_item (after (is_open b.sent (suc j) && drops x)).sent.over (command_item (suc j)) ≡ true
+    by : has_item b.sent.sent (command_item (suc l)) ≡ true → drops x ≡ true
+        → (o : Bool) → has_item b.sent.over (command_item (suc l)) ≡ o
+        → has_item (after (is_open b.sent (suc l) && drops x)).sent.over (command_item (suc l)) ≡ true
     by there dx true f =
-        still (is_open b.sent (suc j) && drops x) (stops x && list_any (λ m. m == suc j) b.sent.checks) f
-    by there dx false f = (λ i. has_item (after ((there i && not (f i)) && dx i)).sent.over (command_item (suc j)))
-        ∙ own_has (command_item (suc j)) b.sent.over
-ends_close s drops stops e j (suc k) (x ∷ commands) b c at d sent =
+        still (is_open b.sent (suc l) && drops x) (stops x && list_any (λ m. m == suc l) b.sent.checks) f
+    by there dx false f = (λ i. has_item (after ((there i && not (f i)) && dx i)).sent.over (command_item (suc l)))
+        ∙ own_has (command_item (suc l)) b.sent.over
+ends_close s drops stops e l (suc w) (x ∷ commands) b c at d sent =
     let next : Story =
-    if is_open b.sent (suc j) && drops x then story_with_end b (record { command = suc j; sense = false }) e
-    else if stops x && list_any (λ m. m == suc j) b.sent.checks then story_with_over b (sense_item (suc j)) else b in
-    let moved : suc (j + suc k) ≡ suc (suc j + k) = omega arith in
-    let one_more : suc (suc j) ≡ suc j + 1 = omega arith in
+    if is_open b.sent (suc l) && drops x then story_with_end b (record { command = suc l; sense = false }) e
+    else if stops x && list_any (λ m. m == suc l) b.sent.checks then story_with_over b (sense_item (suc l)) else b in
+    let moved : suc (l + suc w) ≡ suc (suc l + w) = omega arith in
+    let one_more : suc (suc l) ≡ suc l + 1 = omega arith in
     (λ i. has_item (story_with_ends drops stops e (sym one_more i) commands next).sent.over (command_item (moved i)))
-    ∙ ends_close s drops stops e (suc j) k commands next c at d
-    (same_sent (is_open b.sent (suc j) && drops x) (stops x && list_any (λ m. m == suc j) b.sent.checks)
+    ∙ ends_close s drops stops e (suc l) w commands next c at d
+    (same_sent (is_open b.sent (suc l) && drops x) (stops x && list_any (λ m. m == suc l) b.sent.checks)
     ∙ ap (λ (m : ℕ). has_item b.sent.sent (command_item m)) (sym moved) ∙ sent)
   where
-    same_sent : (q r : Bool) → has_item (if q then story_with_end b (record { command = suc j; sense = false }) e
-        else if r then story_with_over b (sense_item (suc j)) else b).sent.sent (command_item (suc (suc j + k)))
-        ≡ has_item b.sent.sent (command_item (suc (suc j + k)))
+    same_sent : (q r : Bool) → has_item (if q then story_with_end b (record { command = suc l; sense = false }) e
+        else if r then story_with_over b (sense_item (suc l)) else b).sent.sent (command_item (suc (suc l + w)))
+        ≡ has_item b.sent.sent (command_item (suc (suc l + w)))
     same_sent true r = refl
     same_sent false true = refl
     same_sent false false = refl
 
-reset_over : (s : ScenarioValue) (b : Story) (dev n : ℕ) (c : CmdDef)
-    → command_at s.commands n ≡ Some c → has_item b.sent.sent (command_item n) ≡ true
-    → has_item (story_after_event s b (Event.Reset dev)).sent.over (command_item n) ≡ true
+reset_over : (s : ScenarioValue) (b : Story) (dev m : ℕ) (c : CmdDef)
+    → command_at s.commands m ≡ Some c → has_item b.sent.sent (command_item m) ≡ true
+    → has_item (story_after_event s b (Event.Reset dev)).sent.over (command_item m) ≡ true
 reset_over s b dev zero c at sent = none_some c (sym (none_at s.commands) ∙ at)
-reset_over s b dev (suc n) c at sent =
-    ap (λ (j : ℕ). has_item (story_after_event s b (Event.Reset dev)).sent.over (command_item j)) (sym one_less)
-    ∙ ends_close s (λ x. true) (λ x. true) by_reset 0 n s.commands b c at refl
-    (ap (λ (j : ℕ). has_item b.sent.sent (command_item j)) one_less ∙ sent)
+reset_over s b dev (suc m) c at sent =
+    ap (λ (i : ℕ). has_item (story_after_event s b (Event.Reset dev)).sent.over (command_item i)) (sym one_less)
+    ∙ ends_close s (λ x. true) (λ x. true) by_reset 0 m s.commands b c at refl
+    (ap (λ (i : ℕ). has_item b.sent.sent (command_item i)) one_less ∙ sent)
   where
-    one_less : suc (0 + n) ≡ suc n
+    one_less : suc (0 + m) ≡ suc m
     one_less = omega arith
 
 -- ---- no command is open
 
 abbrev pub AreClosed : ScenarioValue → Sent → Type 0
-AreClosed s b = (n : ℕ) (c : CmdDef) → command_at s.commands n ≡ Some c → is_open b n ≡ false
+AreClosed s b = (m : ℕ) (c : CmdDef) → command_at s.commands m ≡ Some c → is_open b m ≡ false
 
 reset_closes : (s : ScenarioValue) (b : Story) (dev : ℕ) → AreClosed s (story_after_event s b (Event.Reset dev)).sent
 reset_closes s b dev n c at = go (has_item b.sent.sent (command_item n)) refl

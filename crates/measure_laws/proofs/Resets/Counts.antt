@@ -6,11 +6,11 @@ use proofs.Names.{ScenarioValue, ResetDef, row_reading, run_state_plain, is_rese
 use proofs.Names.{AreOfDevices, RunState, drives_of, run_state, drives_own, released_own, row_of_lines, awaits_reset}
 use proofs.Names.{one_where, resets_left}
 
-pub driven_other : (xs : List LineSet) (i j : ℕ) (v : LineSet) → i ≢ j → driven_at (slice_set xs i v) j ≡ driven_at xs j
-driven_other xs i j v h = grind (arith, common_steps, elements)
+pub driven_other : (xs : List LineSet) (i m : ℕ) (v : LineSet) → i ≢ m → driven_at (slice_set xs i v) m ≡ driven_at xs m
+driven_other xs i m v h = grind (arith, common_steps, elements)
 
-pub owns_other : (xs : List Own) (i j : ℕ) (v : Own) → i ≢ j → own_at (slice_set xs i v) j ≡ own_at xs j
-owns_other xs i j v h = grind (arith, common_steps, elements)
+pub owns_other : (xs : List Own) (i m : ℕ) (v : Own) → i ≢ m → own_at (slice_set xs i v) m ≡ own_at xs m
+owns_other xs i m v h = grind (arith, common_steps, elements)
 
 one_stays : (s : ScenarioValue) (p : List Row) (t d : ℕ) (l : LineSet)
     → AreOfDevices p → d < 8 → (drives p d).rst ≡ false → l.rst ≡ false → (dev at : ℕ)

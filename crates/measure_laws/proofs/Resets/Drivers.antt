@@ -9,13 +9,13 @@ use proofs.Names.{drivers}
 
 abbrev pub sum_to : ℕ → (ℕ → ℕ) → ℕ
 sum_to zero f = 0
-sum_to (suc n) f = sum_to n f + f n
+sum_to (suc m) f = sum_to m f + f m
 
-pub sum_same : (n : ℕ) (f g : ℕ → ℕ) → ((e : ℕ) → e < n → g e ≡ f e) → sum_to n g ≡ sum_to n f
+pub sum_same : (m : ℕ) (f g : ℕ → ℕ) → ((e : ℕ) → e < m → g e ≡ f e) → sum_to m g ≡ sum_to m f
 sum_same zero f g h = refl
-sum_same (suc n) f g h =
-    let rest = sum_same n f g (λ e lt. h e (omega (arith, lt))) in
-    let last = h n (omega arith) in
+sum_same (suc m) f g h =
+    let rest = sum_same m f g (λ e lt. h e (omega (arith, lt))) in
+    let last = h m (omega arith) in
     λ i. rest i + last i
 
 swapped : (a b x y c : ℕ) → a + x ≡ b + y → (a + c) + x ≡ (b + c) + y
@@ -25,27 +25,27 @@ swapped_last : (a b x y : ℕ) → a ≡ b → (a + y) + x ≡ (b + x) + y
 swapped_last a b x y h = omega (arith, h)
 
 -- Where all but that of one device stays.
-pub sum_swap : (n d : ℕ) (f g : ℕ → ℕ) → ((e : ℕ) → e < n → e ≢ d → g e ≡ f e) → d < n
-    → sum_to n g + f d ≡ sum_to n f + g d
+pub sum_swap : (m d : ℕ) (f g : ℕ → ℕ) → ((e : ℕ) → e < m → e ≢ d → g e ≡ f e) → d < m
+    → sum_to m g + f d ≡ sum_to m f + g d
 sum_swap zero d f g h lt = absurd (omega (arith, lt))
-sum_swap (suc n) d f g h lt =
-    elim (cases_eq d n) [
+sum_swap (suc m) d f g h lt =
+    elim (cases_eq d m) [
       | inl same ↦
-          let rest = sum_same n f g (λ e l. h e (omega (arith, l)) (λ z. absurd (omega (arith, l, z, same)))) in
-          (λ i. sum_to n g + g (sym same i) + f d) ∙ swapped_last (sum_to n g) (sum_to n f) (f d) (g d) rest
-          ∙ (λ i. sum_to n f + f (same i) + g d)
+          let rest = sum_same m f g (λ e l. h e (omega (arith, l)) (λ z. absurd (omega (arith, l, z, same)))) in
+          (λ i. sum_to m g + g (sym same i) + f d) ∙ swapped_last (sum_to m g) (sum_to m f) (f d) (g d) rest
+          ∙ (λ i. sum_to m f + f (same i) + g d)
       | inr ne ↦
-          let l : d < n = omega (arith, lt, ne) in
-          let rest = sum_swap n d f g (λ e l ne. h e (omega (arith, l)) ne) l in
-          let last : g n ≡ f n = h n (omega arith) (λ z. ne (sym z)) in
-          (λ i. sum_to n g + last i + f d) ∙ swapped (sum_to n g) (sum_to n f) (f d) (g d) (f n) rest
+          let l : d < m = omega (arith, lt, ne) in
+          let rest = sum_swap m d f g (λ e l ne. h e (omega (arith, l)) ne) l in
+          let last : g m ≡ f m = h m (omega arith) (λ z. ne (sym z)) in
+          (λ i. sum_to m g + last i + f d) ∙ swapped (sum_to m g) (sum_to m f) (f d) (g d) (f m) rest
     ]
 
-pub sum_both : (n : ℕ) (f g : ℕ → ℕ) → ((e : ℕ) → f e + g e ≡ 1) → sum_to n f + sum_to n g ≡ n
+pub sum_both : (m : ℕ) (f g : ℕ → ℕ) → ((e : ℕ) → f e + g e ≡ 1) → sum_to m f + sum_to m g ≡ m
 sum_both zero f g h = refl
-sum_both (suc n) f g h =
-    let rest = sum_both n f g h in
-    let last = h n in
+sum_both (suc m) f g h =
+    let rest = sum_both m f g h in
+    let last = h m in
     omega (arith, rest, last)
 
 -- ---- the devices

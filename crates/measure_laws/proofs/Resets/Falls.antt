@@ -183,7 +183,7 @@ resets_pay s p t d (r ∷ resets) dv lt off late e = go (r.dev == d && not (is_r
     go true z None f g more = paid (made z (same_Some r.at t g))
     go true z (Some y) f g more = elim (cases_eq r.at t) [
       | inl same ↦ paid (made z same)
-      | inr ne ↦ passed (more (f ∙ ap (λ (n : ℕ). Some n) (one_of_two r.at y t (same_Some (min r.at y) t g) ne)))
+      | inr ne ↦ passed (more (f ∙ ap (λ (m : ℕ). Some m) (one_of_two r.at y t (same_Some (min r.at y) t g) ne)))
     ]
 
 -- ---- the measure under RST
@@ -271,7 +271,7 @@ stays_true p t d rst lt off =
     all_off : (bus q).rst ≡ false → (e : ℕ) → e < 8 → (drives p e).rst ≡ false
     all_off h e le =
         elim (cases_eq e d) [
-          | inl same ↦ ap (λ (k : ℕ). (drives p k).rst) same ∙ off
+          | inl same ↦ ap (λ (m : ℕ). (drives p m).rst) same ∙ off
           | inr ne ↦ ap (λ (y : LineSet). y.rst) (sym (drives_other p t d none e ne)) ∙ off_at q h e le
         ]
 
@@ -340,7 +340,7 @@ none_arbitrates None free c row b e r =
 none_arbitrates (Some a) free c row b e r = λ i. if e i || not (b i || e i || r i) then None else Some a
 
 abbrev call_if : Bool → Call → Option Call → Option Call
-call_if q k otherwise = if q then Some k else otherwise
+call_if q c otherwise = if q then Some c else otherwise
 
 no_rise : (q : Bool) → rises q false ≡ false
 no_rise true = refl
@@ -430,7 +430,7 @@ reset_row_falls s p row dv lt off x time kind e =
     let z = own_reset_is s p row.dev x e in
     let same : row ≡ row_of_lines row.time row.dev only_rst = row_is row only_rst (sym kind ∙ z.kind_is) in
     subst (λ (r : Row). suc (measure s (r ∷ p)) ≤ measure s p) (sym same)
-    (raise_falls s p row.time row.dev dv lt off (z.time_is ∙ ap (λ (n : ℕ). Some n) time))
+    (raise_falls s p row.time row.dev dv lt off (z.time_is ∙ ap (λ (m : ℕ). Some m) time))
 
 -- Under RST each row lowers the measure.
 pub under_reset_falls : (s : ScenarioValue) (p : List Row) (row : Row) → AreOfDevices p → BusStage s p

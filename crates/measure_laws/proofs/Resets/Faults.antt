@@ -6,8 +6,8 @@ use proofs.Names.{Fault, Row, ScenarioValue, ResetDef, row_reading, run_state_pl
 use proofs.Names.{drives_of, run_state, drives_own, off_at, row_of_fault, row_of_lines, awaits_reset, one_where}
 use proofs.{Names.{resets_left}, Resets.Counts.{resets_stay}}
 
-driven_other : (xs : List LineSet) (i j : ℕ) (v : LineSet) → i ≢ j → driven_at (slice_set xs i v) j ≡ driven_at xs j
-driven_other xs i j v h = grind (arith, common_steps, elements)
+driven_other : (xs : List LineSet) (i m : ℕ) (v : LineSet) → i ≢ m → driven_at (slice_set xs i v) m ≡ driven_at xs m
+driven_other xs i m v h = grind (arith, common_steps, elements)
 
 one_stays : (s : ScenarioValue) (p : List Row) (t d bit : ℕ) → AreOfDevices p → d < 8 → (dev at : ℕ)
     → awaits_reset (drives_of (run_state s (row_of_fault t d bit ∷ p)) dev).rst

@@ -79,14 +79,14 @@ fresh_way true b h t i g a e = subst (λ (x : Handshakes). under_way true b x t 
     let w7 = at_most_one (has_next_byte true b no_handshakes t g) in
     omega arith)
 
-few_requests : (struck asked : Bool) (h : Handshakes) (p : Speech) (bytes run : ℕ) (phase : Phase)
-    → h ≡ no_handshakes → length p.words ≤ 8 → bytes ≤ 5 → (phase ≡ Phase.DataIn → ⊥) → (phase ≡ Phase.DataOut → ⊥)
-    → requests_by struck asked h p bytes run phase ≤ 12
-few_requests struck asked h p bytes run Phase.MessageOut e w b fi fo =
-    subst (λ (x : Handshakes). requests_by struck asked x p bytes run Phase.MessageOut ≤ 12) (sym e) (omega arith)
-few_requests struck asked h p bytes run Phase.DataIn e w b fi fo = absurd (fi refl)
-few_requests struck asked h p bytes run Phase.DataOut e w b fi fo = absurd (fo refl)
-few_requests struck asked h p bytes run _ e w b fi fo = omega arith
+few_requests : (struck asked : Bool) (h : Handshakes) (y : Speech) (bytes run : ℕ) (phase : Phase)
+    → h ≡ no_handshakes → length y.words ≤ 8 → bytes ≤ 5 → (phase ≡ Phase.DataIn → ⊥) → (phase ≡ Phase.DataOut → ⊥)
+    → requests_by struck asked h y bytes run phase ≤ 12
+few_requests struck asked h y bytes run Phase.MessageOut e w b fi fo =
+    subst (λ (x : Handshakes). requests_by struck asked x y bytes run Phase.MessageOut ≤ 12) (sym e) (omega arith)
+few_requests struck asked h y bytes run Phase.DataIn e w b fi fo = absurd (fi refl)
+few_requests struck asked h y bytes run Phase.DataOut e w b fi fo = absurd (fo refl)
+few_requests struck asked h y bytes run _ e w b fi fo = omega arith
 
 begun_sum : (b : Bool) (r u : ℕ) → r ≤ 12 → u ≤ 10 → bytes_if_begun b r + u ≤ 106
 begun_sum true r u h g = omega arith
@@ -127,10 +127,10 @@ turn_phase s p row n c h e =
     (fresh_way (pace_of s j n.target).pulsed (bus_of j) j.handshakes (drives_of j n.target) (drives_of j n.initiator)
     (offering_of s j n.target) (answering_of s j n.initiator) none)
 
-entered : (r : Bool) (p : Plan) (l : Leaving) (phase : Phase) → (phase ≡ Phase.MessageOut → ⊥)
-    → phases_in r (record (plan_anew p) { messages = l.messages; next = l.next }) phase ≡ left_in l phase
-entered r p l Phase.MessageOut z = absurd (z refl)
-entered r p l _ z = refl
+entered : (r : Bool) (a : Plan) (l : Leaving) (phase : Phase) → (phase ≡ Phase.MessageOut → ⊥)
+    → phases_in r (record (plan_anew a) { messages = l.messages; next = l.next }) phase ≡ left_in l phase
+entered r a l Phase.MessageOut z = absurd (z refl)
+entered r a l _ z = refl
 
 not_out : (l : LineSet) → is_message_out l ≡ false → (l.msg ≡ true → l.cd ≡ true) → phase_of l ≡ Phase.MessageOut → ⊥
 not_out l e known f = go l.msg refl l.cd refl l.io refl
@@ -262,7 +262,7 @@ zero_more a b h = omega arith
 
 turn_sum : (f g a b x w y z u m v : ℕ) → v ≡ f + 40 + (a + x + y + 0) → m ≡ g + 40 + (b + w + z + u) → f ≤ g
     → a + 128 ≤ b + u → x ≤ 106 → y ≡ z → suc v ≤ m
-turn_sum f g a b x w y z u m v d e h i j k = omega arith
+turn_sum f g a b x w y z u m v d e h i c l = omega arith
 
 pub turn_falls : (s : ScenarioValue) (p : List Row) (row : Row) (n : Connection) (c : Change)
     → TurnRow s p row n c → is_in_data (run_state s p) ≡ false → is_data c.after ≡ false

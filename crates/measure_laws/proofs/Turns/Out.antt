@@ -16,8 +16,8 @@ use Rattle.progress_laws.specs.book_laws.specs.Rows as rows
 -- ---- the table
 
 -- The messages that are sent again disconnect only if all of them did.
-from_less : (m : Messages) (n : ℕ) → reselection_if (disconnects (from_byte m n)) ≤ reselection_if (disconnects m)
-from_less m n = go (nat_lt n (length (message_bytes m.first)))
+from_less : (m : Messages) (i : ℕ) → reselection_if (disconnects (from_byte m i)) ≤ reselection_if (disconnects m)
+from_less m i = go (nat_lt i (length (message_bytes m.first)))
   where
     late : (a b : Bool) → reselection_if (b || false) ≤ reselection_if (a || b)
     late true true = omega arith
@@ -44,21 +44,21 @@ next_some m Next.FreeBus = omega arith
 next_some m _ = omega arith
 
 -- The phase before it by MSG and C/D, I/O being true.
-pays_by : (s : ScenarioValue) (r struck m d : Bool) (p : Plan) (place : ℕ) → after_words struck (record (plan_anew p) {
+pays_by : (s : ScenarioValue) (r struck m d : Bool) (l : Plan) (place : ℕ) → after_words struck (record (plan_anew l) {
   cause =
       if m && d && true then Cause.InMessage else if d then Cause.InStatus else Cause.InData;
   messages =
-      if m && d && true then from_byte p.messages place else p.messages;
+      if m && d && true then from_byte l.messages place else l.messages;
 }) (if m && d && true then Cause.InMessage else if d then Cause.InStatus else Cause.InData) + 128
-    ≤ phases_in r p (if m then Phase.MessageIn else if d then Phase.Status else Phase.DataIn) + struck_left s struck
-pays_by s r true true true p place = messages_again p.messages place (for_byte * longest_need s s.commands) p.next
-pays_by s r false true true p place = request_answered p.messages p.next
-pays_by s r true true false p place = let some = next_some p.messages p.next in omega (arith, some)
-pays_by s r false true false p place = let some = next_some p.messages p.next in omega (arith, some)
-pays_by s r true false true p place = omega arith
-pays_by s r false false true p place = omega arith
-pays_by s r true false false p place = omega arith
-pays_by s r false false false p place = omega arith
+    ≤ phases_in r l (if m then Phase.MessageIn else if d then Phase.Status else Phase.DataIn) + struck_left s struck
+pays_by s r true true true l place = messages_again l.messages place (for_byte * longest_need s s.commands) l.next
+pays_by s r false true true l place = request_answered l.messages l.next
+pays_by s r true true false l place = let some = next_some l.messages l.next in omega (arith, some)
+pays_by s r false true false l place = let some = next_some l.messages l.next in omega (arith, some)
+pays_by s r true false true l place = omega arith
+pays_by s r false false true l place = omega arith
+pays_by s r true false false l place = omega arith
+pays_by s r false false false l place = omega arith
 
 -- ---- the row
 
@@ -169,16 +169,16 @@ not_out b a turned out known = go b.msg b.cd b.io a.msg a.cd a.io turned out kno
         → (m ≡ true → d ≡ true) → is_out_phase (if m then (if i then Phase.MessageIn else Phase.MessageOut)
         else if d then (if i then Phase.Status else Phase.Command) else if i then Phase.DataIn else Phase.DataOut)
         ≡ false
-    go true d true m2 d2 i2 t o k = refl
-    go true true false true true false t o k = wrong' t
-    go true true false true true true t o k = wrong' o
-    go true true false true false i2 t o k = wrong' o
-    go true true false false d2 i2 t o k = wrong' o
-    go true false false m2 d2 i2 t o k = wrong' (k refl)
-    go false true true m2 d2 i2 t o k = refl
-    go false true false m2 d2 i2 t o k = refl
-    go false false true m2 d2 i2 t o k = refl
-    go false false false m2 d2 i2 t o k = refl
+    go true d true m2 d2 i2 t o f = refl
+    go true true false true true false t o f = wrong' t
+    go true true false true true true t o f = wrong' o
+    go true true false true false i2 t o f = wrong' o
+    go true true false false d2 i2 t o f = wrong' o
+    go true false false m2 d2 i2 t o f = wrong' (f refl)
+    go false true true m2 d2 i2 t o f = refl
+    go false true false m2 d2 i2 t o f = refl
+    go false false true m2 d2 i2 t o f = refl
+    go false false false m2 d2 i2 t o f = refl
 
 pub out_after_in : (s : ScenarioValue) (p : List Row) (row : Row) (n : Connection) (c : Change)
     → IsRowIn (run_state s p) row n c → HasPhase (run_state s p) → changes_phase c ≡ true

@@ -21,54 +21,54 @@ none_some_not : (o : Option Agreement) → is_some o ≡ false → is_none o ≡
 none_some_not None e = refl
 none_some_not (Some a) e = wrong' (sym e)
 
-answered : (r : Bool) (p : Plan) → p.next ≡ Next.Command → 1024 + 5 * 128 ≤ after_refused r p
-answered true p e = subst (λ (n : Next). 1024 + 5 * 128 ≤ 128 + after_next p.messages n) (sym e) (omega arith)
-answered false p e = subst (λ (n : Next). 1024 + 5 * 128 ≤ after_answer n) (sym e) (omega arith)
+answered : (r : Bool) (l : Plan) → l.next ≡ Next.Command → 1024 + 5 * 128 ≤ after_refused r l
+answered true l e = subst (λ (x : Next). 1024 + 5 * 128 ≤ 128 + after_next l.messages x) (sym e) (omega arith)
+answered false l e = subst (λ (x : Next). 1024 + 5 * 128 ≤ after_answer x) (sym e) (omega arith)
 
-pub record OutFacts (r : Bool) (p : Plan) : Type 0 where
-  pub truly : is_complaint p p.cause ≡ true → r ≡ true
-  pub asked : p.cause ≡ Cause.InMessage → is_some p.said.offer ≡ true → p.next ≡ Next.Command
+pub record OutFacts (r : Bool) (l : Plan) : Type 0 where
+  pub truly : is_complaint l l.cause ≡ true → r ≡ true
+  pub asked : l.cause ≡ Cause.InMessage → is_some l.said.offer ≡ true → l.next ≡ Next.Command
 
 -- What MESSAGE OUT pays for by its cause, and with a complaint; and MESSAGE IN by what follows it.
-by_cause : (s : ScenarioValue) (r q : Bool) (p : Plan) (c : Cause) → p.cause ≡ c → (x : ℕ) → x ≤ after_words r p c
-    → x ≤ after_words r p p.cause + struck_left s q
-by_cause s r q p c e x h = let w = subst (λ (y : Cause). x ≤ after_words r p y) (sym e) h in omega arith
+by_cause : (s : ScenarioValue) (r q : Bool) (l : Plan) (c : Cause) → l.cause ≡ c → (x : ℕ) → x ≤ after_words r l c
+    → x ≤ after_words r l l.cause + struck_left s q
+by_cause s r q l c e x h = let w = subst (λ (y : Cause). x ≤ after_words r l y) (sym e) h in omega arith
 
-by_complaint : (s : ScenarioValue) (r q : Bool) (p : Plan) (c : Cause) → p.cause ≡ c → OutFacts r p
-    → is_complaint p c ≡ true → (x : ℕ) → x ≤ after_words true p c → x ≤ after_words r p p.cause + struck_left s q
-by_complaint s r q p c e out is x h =
-    by_cause s r q p c e x
-    (subst (λ (y : Bool). x ≤ after_words y p c) (sym (out.truly (ap (is_complaint p) e ∙ is))) h)
+by_complaint : (s : ScenarioValue) (r q : Bool) (l : Plan) (c : Cause) → l.cause ≡ c → OutFacts r l
+    → is_complaint l c ≡ true → (x : ℕ) → x ≤ after_words true l c → x ≤ after_words r l l.cause + struck_left s q
+by_complaint s r q l c e out is x h =
+    by_cause s r q l c e x
+    (subst (λ (y : Bool). x ≤ after_words y l c) (sym (out.truly (ap (is_complaint l) e ∙ is))) h)
 
-by_answer : (s : ScenarioValue) (r q : Bool) (p : Plan) → p.cause ≡ Cause.InMessage → OutFacts r p
-    → is_some p.said.offer ≡ true → 1024 + 5 * 128 ≤ after_words r p p.cause + struck_left s q
-by_answer s r q p e out some = by_cause s r q p Cause.InMessage e (1024 + 5 * 128) (answered r p (out.asked e some))
+by_answer : (s : ScenarioValue) (r q : Bool) (l : Plan) → l.cause ≡ Cause.InMessage → OutFacts r l
+    → is_some l.said.offer ≡ true → 1024 + 5 * 128 ≤ after_words r l l.cause + struck_left s q
+by_answer s r q l e out some = by_cause s r q l Cause.InMessage e (1024 + 5 * 128) (answered r l (out.asked e some))
 
-by_next : (s : ScenarioValue) (q : Bool) (p : Plan) (n : Next) → p.next ≡ n → (x : ℕ) → x ≤ after_next p.messages n
-    → x ≤ after_next p.messages p.next + struck_left s q
-by_next s q p n e x h = let w = subst (λ (y : Next). x ≤ after_next p.messages y) (sym e) h in omega arith
+by_next : (s : ScenarioValue) (q : Bool) (l : Plan) (z : Next) → l.next ≡ z → (x : ℕ) → x ≤ after_next l.messages z
+    → x ≤ after_next l.messages l.next + struck_left s q
+by_next s q l z e x h = let w = subst (λ (y : Next). x ≤ after_next l.messages y) (sym e) h in omega arith
 
 -- The phase itself is paid for.
-next_least : (m : Messages) (n : Next) → 128 ≤ after_next m n
+next_least : (m : Messages) (x : Next) → 128 ≤ after_next m x
 next_least m Next.Command = omega arith
 next_least m _ = omega arith
 
-out_least : (s : ScenarioValue) (r q : Bool) (p : Plan) → OutFacts r p → (c : Cause) → p.cause ≡ c
-    → 128 ≤ after_words r p p.cause + struck_left s q
-out_least s r q p out Cause.Selected e = by_cause s r q p Cause.Selected e 128 (omega arith)
-out_least s r q p out Cause.InData e = by_complaint s r q p Cause.InData e out refl 128 (omega arith)
-out_least s r q p out Cause.InStatus e = by_complaint s r q p Cause.InStatus e out refl 128 (omega arith)
-out_least s r q p out Cause.InMessage e =
-    by_bool (is_some p.said.offer)
-    (λ some. let w = by_answer s r q p e out some in omega arith)
+out_least : (s : ScenarioValue) (r q : Bool) (l : Plan) → OutFacts r l → (c : Cause) → l.cause ≡ c
+    → 128 ≤ after_words r l l.cause + struck_left s q
+out_least s r q l out Cause.Selected e = by_cause s r q l Cause.Selected e 128 (omega arith)
+out_least s r q l out Cause.InData e = by_complaint s r q l Cause.InData e out refl 128 (omega arith)
+out_least s r q l out Cause.InStatus e = by_complaint s r q l Cause.InStatus e out refl 128 (omega arith)
+out_least s r q l out Cause.InMessage e =
+    by_bool (is_some l.said.offer)
+    (λ some. let w = by_answer s r q l e out some in omega arith)
     (λ none.
-    by_complaint s r q p Cause.InMessage e out (none_some_not p.said.offer none) 128 (omega arith))
+    by_complaint s r q l Cause.InMessage e out (none_some_not l.said.offer none) 128 (omega arith))
 
-least : (s : ScenarioValue) (r q : Bool) (p : Plan) (phase : Phase) → (phase ≡ Phase.MessageOut → OutFacts r p)
-    → 128 ≤ phases_in r p phase + struck_left s q
-least s r q p Phase.MessageOut out = out_least s r q p (out refl) p.cause refl
-least s r q p Phase.MessageIn out = let w = next_least p.messages p.next in omega arith
-least s r q p _ out = omega arith
+least : (s : ScenarioValue) (r q : Bool) (l : Plan) (phase : Phase) → (phase ≡ Phase.MessageOut → OutFacts r l)
+    → 128 ≤ phases_in r l phase + struck_left s q
+least s r q l Phase.MessageOut out = out_least s r q l (out refl) l.cause refl
+least s r q l Phase.MessageIn out = let w = next_least l.messages l.next in omega arith
+least s r q l _ out = omega arith
 
 goes_on : (s : ScenarioValue) (v : Serving) (r q : Bool) {atn : Bool} {phase : Phase} → ways.GoesOn v atn phase
     → 3 * 128 + 128 ≤ phases_in r v.plan phase + struck_left s q
@@ -172,9 +172,9 @@ out_facts s p row n c o prompt h con begun out = record { truly = truly; asked =
 
 -- ---- the first MESSAGE OUT after a selection
 
-first_words : (r : Bool) (p : Plan) (phase : Phase) → p.cause ≡ Cause.Selected → phase ≡ Phase.MessageOut
-    → phases_in r (plan_anew p) phase ≡ 1024 + 7 * 128
-first_words r p phase e f = λ i. phases_in r (record (plan_anew p) { cause = e i }) (f i)
+first_words : (r : Bool) (l : Plan) (phase : Phase) → l.cause ≡ Cause.Selected → phase ≡ Phase.MessageOut
+    → phases_in r (plan_anew l) phase ≡ 1024 + 7 * 128
+first_words r l phase e f = λ i. phases_in r (record (plan_anew l) { cause = e i }) (f i)
 
 pub opening_falls : (s : ScenarioValue) (p : List Row) (row : Row) (n : Connection) (c : Change) → TurnRow s p row n c
     → (run_state s p).exchange.begun ≡ false → suc (measure s (row ∷ p)) ≤ measure s p

@@ -65,14 +65,14 @@ strikes_fault s p row n e dv h b who fault least =
 run_of : (s : ScenarioValue) (j k : RunState) (policy : Policy) → j.array ≡ k.array → j.progress ≡ k.progress
     → (o : Option Process) → run_length_if policy (task_if s j o) ≡ run_length_if policy (task_if s k o)
 run_of s j k policy a m None = refl
-run_of s j k Policy.Never a m (Some p) =
-    λ i. run_length_if Policy.Never (task_if s (record k { array = a i; progress = m i }) (Some p))
-run_of s j k Policy.Command a m (Some p) =
-    λ i. run_length_if Policy.Command (task_if s (record k { array = a i; progress = m i }) (Some p))
-run_of s j k (Policy.Burst most) a m (Some p) =
-    λ i. run_length_if (Policy.Burst most) (task_if s (record k { array = a i; progress = m i }) (Some p))
-run_of s j k (Policy.NoSave most) a m (Some p) =
-    λ i. run_length_if (Policy.NoSave most) (task_if s (record k { array = a i; progress = m i }) (Some p))
+run_of s j k Policy.Never a m (Some c) =
+    λ i. run_length_if Policy.Never (task_if s (record k { array = a i; progress = m i }) (Some c))
+run_of s j k Policy.Command a m (Some c) =
+    λ i. run_length_if Policy.Command (task_if s (record k { array = a i; progress = m i }) (Some c))
+run_of s j k (Policy.Burst most) a m (Some c) =
+    λ i. run_length_if (Policy.Burst most) (task_if s (record k { array = a i; progress = m i }) (Some c))
+run_of s j k (Policy.NoSave most) a m (Some c) =
+    λ i. run_length_if (Policy.NoSave most) (task_if s (record k { array = a i; progress = m i }) (Some c))
 
 few_again : (q : Bool) (w : ℕ) → w ≤ 8 → repeated q w ≤ 8
 few_again true w h = h
@@ -98,30 +98,30 @@ words_more false false false a b w place h = more (w - place) (repeated a w) (re
 words_more false true true a b w place h = same_more (w - 1) (w - 1) refl
 words_more false true false a b w place h = more (w - (place + 1)) (repeated a w) (repeated b w) (few_again a w h)
 
-requests_more : (a b asked : Bool) (g h : Handshakes) (p : Speech) (bytes run : ℕ) (phase : Phase)
-    → g.requests ≡ h.requests → length p.words ≤ 8
-    → requests_by a asked g p bytes run phase ≤ requests_by b asked h p bytes run phase + 8
-requests_more a b asked g h p bytes run Phase.MessageOut e w = subst
-    (λ x. x ≤ words_left b asked h p + 8) (λ i. words_left a asked (record h { requests = (sym e) i }) p)
-    (words_more (h.requests == 0) asked (p.place == 0) a b (length p.words) p.place w)
-requests_more a b asked g h p bytes run Phase.MessageIn e w =
+requests_more : (a b asked : Bool) (g h : Handshakes) (y : Speech) (bytes run : ℕ) (phase : Phase)
+    → g.requests ≡ h.requests → length y.words ≤ 8
+    → requests_by a asked g y bytes run phase ≤ requests_by b asked h y bytes run phase + 8
+requests_more a b asked g h y bytes run Phase.MessageOut e w = subst
+    (λ x. x ≤ words_left b asked h y + 8) (λ i. words_left a asked (record h { requests = (sym e) i }) y)
+    (words_more (h.requests == 0) asked (y.place == 0) a b (length y.words) y.place w)
+requests_more a b asked g h y bytes run Phase.MessageIn e w =
     same_more (bytes - g.requests) (bytes - h.requests) (ap (λ x. bytes - x) e)
-requests_more a b asked g h p bytes run Phase.Command e w =
+requests_more a b asked g h y bytes run Phase.Command e w =
     same_more (12 - g.requests) (12 - h.requests) (ap (λ x. 12 - x) e)
-requests_more a b asked g h p bytes run Phase.Status e w =
+requests_more a b asked g h y bytes run Phase.Status e w =
     same_more (1 - g.requests) (1 - h.requests) (ap (λ x. 1 - x) e)
-requests_more a b asked g h p bytes run Phase.DataIn e w =
+requests_more a b asked g h y bytes run Phase.DataIn e w =
     same_more (run - g.requests) (run - h.requests) (ap (λ x. run - x) e)
-requests_more a b asked g h p bytes run Phase.DataOut e w =
+requests_more a b asked g h y bytes run Phase.DataOut e w =
     same_more (run - g.requests) (run - h.requests) (ap (λ x. run - x) e)
 
 one_most : (q : Bool) → one_where q ≤ 1
 one_most true = omega arith
 one_most false = omega arith
 
-way_more : (a c c' m1 m2 m3 m4 m5 n n' : ℕ) → c ≤ 1 → n' ≤ 1
-    → a - 2 * c' + m1 + m2 + m3 + m4 + m5 + n' ≤ a - 2 * c + m1 + m2 + m3 + m4 + m5 + n + 3
-way_more a c c' m1 m2 m3 m4 m5 n n' h k = omega (arith, h, k)
+way_more : (a c c' m1 m2 m3 m4 m5 m n' : ℕ) → c ≤ 1 → n' ≤ 1
+    → a - 2 * c' + m1 + m2 + m3 + m4 + m5 + n' ≤ a - 2 * c + m1 + m2 + m3 + m4 + m5 + m + 3
+way_more a c c' m1 m2 m3 m4 m5 m n' h e = omega (arith, h, e)
 
 -- What is under way, by the count of requests and of those that wait.
 abbrev under_by : Bool → LineSet → ℕ → ℕ → LineSet → LineSet → Offering → Answering → ℕ
@@ -148,24 +148,24 @@ under_more u bus g h tl il x y a c e l =
 
 -- ---- and of the phases after it: nothing
 
-struck_words : (b : Bool) (p : Plan) (c : Cause) → after_words b (struck_plan p) c ≡ after_words b p c
-struck_words b p Cause.Selected = refl
-struck_words true p Cause.InMessage = refl
-struck_words false p Cause.InMessage = refl
-struck_words true p Cause.InData = refl
-struck_words false p Cause.InData = refl
-struck_words true p Cause.InStatus = refl
-struck_words false p Cause.InStatus = refl
+struck_words : (b : Bool) (l : Plan) (c : Cause) → after_words b (struck_plan l) c ≡ after_words b l c
+struck_words b l Cause.Selected = refl
+struck_words true l Cause.InMessage = refl
+struck_words false l Cause.InMessage = refl
+struck_words true l Cause.InData = refl
+struck_words false l Cause.InData = refl
+struck_words true l Cause.InStatus = refl
+struck_words false l Cause.InStatus = refl
 
-struck_phases : (b q : Bool) (p : Plan) (phase : Phase)
-    → phases_in b (if q then struck_plan p else p) phase ≡ phases_in b p phase
-struck_phases b false p phase = refl
-struck_phases b true p Phase.MessageOut = struck_words b p p.cause
-struck_phases b true p _ = refl
+struck_phases : (b q : Bool) (l : Plan) (phase : Phase)
+    → phases_in b (if q then struck_plan l else l) phase ≡ phases_in b l phase
+struck_phases b false l phase = refl
+struck_phases b true l Phase.MessageOut = struck_words b l l.cause
+struck_phases b true l _ = refl
 
-struck_messages : (q : Bool) (p : Plan) → (if q then struck_plan p else p).messages ≡ p.messages
-struck_messages true p = refl
-struck_messages false p = refl
+struck_messages : (q : Bool) (l : Plan) → (if q then struck_plan l else l).messages ≡ l.messages
+struck_messages true l = refl
+struck_messages false l = refl
 
 struck_requests : (q : Bool) (h : Handshakes) → (newest_struck_if q h).requests ≡ h.requests
 struck_requests true h = refl
@@ -177,9 +177,9 @@ struck_waiting false h = refl
 
 -- ---- the row
 
-strike_sum : (c x z p r r' w w' s t : ℕ) → r' ≤ r + 8 → w' ≤ w + 3
-    → suc (c + x + 40 + (p + (8 * r' + w') + s + z)) ≤ c + (x + (z + 2 * 64)) + 40 + (p + (8 * r + w) + s + t)
-strike_sum c x z p r r' w w' s t h k = omega (arith, h, k)
+strike_sum : (c x z m r r' w w' i t : ℕ) → r' ≤ r + 8 → w' ≤ w + 3
+    → suc (c + x + 40 + (m + (8 * r' + w') + i + z)) ≤ c + (x + (z + 2 * 64)) + 40 + (m + (8 * r + w) + i + t)
+strike_sum c x z m r r' w w' i t h e = omega (arith, h, e)
 
 pub strike_falls : (s : ScenarioValue) (p : List Row) (t d bit : ℕ) (n : Connection) (e : EndLines)
     → AreOfDevices p → d < 8 → Linked p n e → begun p ≡ true

@@ -7,7 +7,7 @@ use proofs.Names.{plan_in_message_out, first_plan, Hearing, Leaving, Plan, RunSt
 use proofs.Names.{leaving_of, run_state, may_negotiate, messages_if, hearing_of, ready_of, is_struck_phase}
 
 abbrev IsKnown : Bool → Bool → Option Connection → Type 0
-IsKnown struck here n = struck ≡ true → (here ≡ true) × (is_some n ≡ true)
+IsKnown struck here o = struck ≡ true → (here ≡ true) × (is_some o ≡ true)
 
 first_unstruck : (s : ScenarioValue) (k : RunState) (n : Connection)
     → (first_exchange s k n (aim_of k.story.aims n.initiator)).plan.struck ≡ false
@@ -22,20 +22,20 @@ never : {A : Type 0} (b : Bool) → b ≡ false → b ≡ true → A
 never true e f = wrong' (sym e)
 never false e f = wrong' f
 
-step : (w : Hearing) (l : Leaving) (p : Plan) (was : Bool) → (p.struck ≡ true → was ≡ true)
-    → (plan_after w l p).struck ≡ true → (true && true && not (changes_phase w.change) && (w.fault || was)) ≡ true
-step w l p was h = go (changes_phase w.change) (is_message_out w.change.after) w.begun w.crosses
+step : (w : Hearing) (l : Leaving) (x : Plan) (was : Bool) → (x.struck ≡ true → was ≡ true)
+    → (plan_after w l x).struck ≡ true → (true && true && not (changes_phase w.change) && (w.fault || was)) ≡ true
+step w l x was h = go (changes_phase w.change) (is_message_out w.change.after) w.begun w.crosses
     (is_message_out w.change.before) w.is_last w.fault (not w.change.before.io)
   where
-    either : (f : Bool) → p.struck ≡ true → (f || was) ≡ true
+    either : (f : Bool) → x.struck ≡ true → (f || was) ≡ true
     either true e = refl
     either false e = h e
 
-    go : (a b c d m i f o : Bool) → (if a then (if not b then record (plan_anew p) {
+    go : (a b c d m i f o : Bool) → (if a then (if not b then record (plan_anew x) {
       messages = l.messages;
       next = l.next;
-    } else if c then plan_in_message_out w p else plan_anew p)
-        else if d then (if m then plan_after_message p i w.out else p) else if f && o then struck_plan p else p).struck
+    } else if c then plan_in_message_out w x else plan_anew x)
+        else if d then (if m then plan_after_message x i w.out else x) else if f && o then struck_plan x else x).struck
         ≡ true → (true && true && not a && (f || was)) ≡ true
     go true true true d m i f o e = wrong' e
     go true true false d m i f o e = wrong' e

@@ -14,8 +14,8 @@ use Rattle.progress_laws.specs.link_laws.proofs.LeavingWays as ways
 
 -- ---- the words of MESSAGE OUT
 
-joined : (a b : List ℕ) (n m : ℕ) → length a ≤ n → length b ≤ m → length (a ++ b) ≤ n + m
-joined a b n m h g = let w = length-append a b in omega arith
+joined : (a b : List ℕ) (i m : ℕ) → length a ≤ i → length b ≤ m → length (a ++ b) ≤ i + m
+joined a b i m h g = let w = length-append a b in omega arith
 
 tag_few : (t : Tag) → length (tag_bytes t) ≤ 2
 tag_few Tag.Untagged = omega arith
@@ -33,15 +33,15 @@ offer_few true (Some h) = go (h.offers && nat_lt 0 h.period)
 
 process_few : (h : Option HostDef) (q : Bool) (o : Option Process) → length (process_opening h q o) ≤ 8
 process_few h q None = omega arith
-process_few h q (Some p) =
-    let w = joined (tag_bytes p.tag) (offer_if q h) 2 5 (tag_few p.tag) (offer_few q h) in
+process_few h q (Some c) =
+    let w = joined (tag_bytes c.tag) (offer_if q h) 2 5 (tag_few c.tag) (offer_few q h) in
     omega arith
 
 abort_few : (o : Option AbortDef) → length (abort_opening o) ≤ 8
 abort_few None = omega arith
 abort_few (Some a) = go a.what
   where
-    go : (k : AbortKind) → length (out_bytes (MsgOut.Identify false a.unit) ++ abort_bytes k) ≤ 8
+    go : (x : AbortKind) → length (out_bytes (MsgOut.Identify false a.unit) ++ abort_bytes x) ≤ 8
     go AbortKind.All = omega arith
     go _ = omega arith
 
@@ -58,15 +58,15 @@ words_few h w a = go (is_message_in w.change.before) w.struck
     go true true = omega arith
     go true false = omega arith
 
-speech_few : (h : Option HostDef) (w : Hearing) (p : Speech) → length p.words ≤ 8
-    → length (speech_after h w p).words ≤ 8
-speech_few h w p few =
+speech_few : (h : Option HostDef) (w : Hearing) (x : Speech) → length x.words ≤ 8
+    → length (speech_after h w x).words ≤ 8
+speech_few h w x few =
     go (changes_phase w.change) (is_message_out w.change.after && w.begun) w.crosses (is_message_out w.change.before)
   where
     go : (a b c d : Bool)
-        → length (if a then (if b then speech_of p (words_after h w p.asked) else record p { place = 0 })
-        else if c then (if d then speech_after_byte p else speech_after_request p w.into) else p).words ≤ 8
-    go true true c d = words_few h w p.asked
+        → length (if a then (if b then speech_of x (words_after h w x.asked) else record x { place = 0 })
+        else if c then (if d then speech_after_byte x else speech_after_request x w.into) else x).words ≤ 8
+    go true true c d = words_few h w x.asked
     go true false c d = few
     go false b true true = few
     go false b true false = few
@@ -105,7 +105,7 @@ few_words s (row ∷ p) = go k.story.bus_state.connection d.next (few_words s p)
 abbrev FewIn : Messages → Type 0
 FewIn m = length (bytes_of_messages m) ≤ 5
 
-left_few : {v : Serving} {q : Bool} {p : Phase} {l : Leaving} → ways.Leaves v q p l → FewIn v.plan.messages
+left_few : {v : Serving} {q : Bool} {f : Phase} {l : Leaving} → ways.Leaves v q f l → FewIn v.plan.messages
     → FewIn l.messages
 left_few (ways.repeats _ _) few = few
 left_few _ few = omega arith
@@ -114,8 +114,8 @@ leaving_few : (v : Serving) (begun : Bool) (b : LineSet) → FewIn v.plan.messag
 leaving_few v true b few = left_few (ways.leaves v b.atn (phase_of b)) few
 leaving_few v false b few = omega arith
 
-rest_few : (m : Messages) (n : ℕ) → FewIn m → FewIn (from_byte m n)
-rest_few m n few = go (nat_lt n (length (message_bytes m.first)))
+rest_few : (m : Messages) (i : ℕ) → FewIn m → FewIn (from_byte m i)
+rest_few m i few = go (nat_lt i (length (message_bytes m.first)))
   where
     all : length (message_bytes m.first ++ message_bytes m.second)
         ≡ length (message_bytes m.first) + length (message_bytes m.second)
@@ -128,26 +128,26 @@ rest_few m n few = go (nat_lt n (length (message_bytes m.first)))
     go true = few
     go false = let a = all in let b = one in omega arith
 
-plan_few : (w : Hearing) (l : Leaving) (p : Plan) → FewIn l.messages → FewIn p.messages
-    → FewIn (plan_after w l p).messages
-plan_few w l p left few = go (changes_phase w.change) (is_message_out w.change.after) w.begun
+plan_few : (w : Hearing) (l : Leaving) (x : Plan) → FewIn l.messages → FewIn x.messages
+    → FewIn (plan_after w l x).messages
+plan_few w l x left few = go (changes_phase w.change) (is_message_out w.change.after) w.begun
     (is_message_in w.change.before) w.crosses (is_message_out w.change.before)
     (w.fault && not w.change.before.io) w.is_last
   where
     go : (a b c d e f g h : Bool)
-        → FewIn (if a then (if not b then record (plan_anew p) { messages = l.messages; next = l.next }
-        else if c then record (plan_anew p) {
+        → FewIn (if a then (if not b then record (plan_anew x) { messages = l.messages; next = l.next }
+        else if c then record (plan_anew x) {
           cause = cause_after w.change.before;
           messages =
-              if d then from_byte p.messages (w.offered - 1) else p.messages;
-        } else plan_anew p) else if e then (if f then plan_after_message p w.is_last w.out else p)
-        else if g then struck_plan p else p).messages
+              if d then from_byte x.messages (w.offered - 1) else x.messages;
+        } else plan_anew x) else if e then (if f then plan_after_message x w.is_last w.out else x)
+        else if g then struck_plan x else x).messages
     go true false c d e f g h = left
-    go true true true true e f g h = rest_few p.messages (w.offered - 1) few
+    go true true true true e f g h = rest_few x.messages (w.offered - 1) few
     go true true true false e f g h = few
     go true true false d e f g h = few
     go false b c d true true g h =
-        elim w.is_last as (λ q. FewIn (plan_after_message p q w.out).messages) [ true ↦ few | false ↦ few ]
+        elim w.is_last as (λ q. FewIn (plan_after_message x q w.out).messages) [ true ↦ few | false ↦ few ]
     go false b c d true false g h = few
     go false b c d false f true h = few
     go false b c d false f false h = few

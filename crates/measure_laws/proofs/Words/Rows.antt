@@ -11,9 +11,9 @@ use proofs.Phases.{Bytes.{quiet_other, shift_initiator, shift_target}, Rows.{req
 use proofs.Words.{Steps.{hears_by, said_left, says_by, words_said}, VoiceRows.{InWords}, Voiced.{voiced}}
 use proofs.Words.Voices.{VoicedAt}
 
-struck_anew : (l : Bool) (p : Plan) → (plan_anew_if l p).struck ≡ (if l then false else p.struck)
-struck_anew true p = refl
-struck_anew false p = refl
+struck_anew : (l : Bool) (a : Plan) → (plan_anew_if l a).struck ≡ (if l then false else a.struck)
+struck_anew true a = refl
+struck_anew false a = refl
 
 words_of : (p : List Row) (n : Connection) (e : EndLines) → Linked p n e → e.msg ≡ true → e.cd ≡ true → e.io ≡ false
     → InWords (bus p)
@@ -105,8 +105,8 @@ words_say s p t n atn false x o prompt h = wrong' (sym h.phase.known)
 
 -- ---- REQ rises
 
-counted_some : (n : ℕ) → (counted_on n == 0) ≡ false
-counted_some n = grind (arith, nat_tests)
+counted_some : (m : ℕ) → (counted_on m == 0) ≡ false
+counted_some m = grind (arith, nat_tests)
 
 -- The words after it.
 asked_words : (s : ScenarioValue) (p : List Row) (t : ℕ) (n : Connection) (bsy atn : Bool) (y : ℕ)
@@ -153,8 +153,8 @@ words_first s p t n bsy atn true y o prompt h =
     (λ b. suc (said_left k.exchange.plan.struck true k.exchange.speech.place (length k.exchange.speech.words)) ≤ b)
     (sym was) (first_one k.exchange.speech.place (length k.exchange.speech.words) k.exchange.plan.struck place there))
 
-is_some_count : (n : ℕ) → 1 ≤ n → (n == 0) ≡ false
-is_some_count n e = grind (arith, nat_tests)
+is_some_count : (m : ℕ) → 1 ≤ m → (m == 0) ≡ false
+is_some_count m e = grind (arith, nat_tests)
 
 third : (a b c : Bool) → (a || b || c) ≡ true → a ≡ false → b ≡ false → c ≡ true
 third a b c e f g = (λ i. sym f i || sym g i || c) ∙ e

@@ -8,12 +8,12 @@ abbrev pub said_left : (struck asked : Bool) → (place words : ℕ) → ℕ
 said_left struck false place words = if place == 0 then repeated struck words else words - place + repeated struck words
 said_left struck true place words = if place == 0 then words - 1 else words - (place + 1) + repeated struck words
 
-pub words_said : (struck asked : Bool) (h : Handshakes) (p : Speech) → (h.requests == 0) ≡ false
-    → words_left struck asked h p ≡ said_left struck asked p.place (length p.words)
-words_said struck true h p e =
-    ap (λ (q : Bool). if q then length p.words else said_left struck true p.place (length p.words)) e
-words_said struck false h p e =
-    ap (λ (q : Bool). if q then length p.words else said_left struck false p.place (length p.words)) e
+pub words_said : (struck asked : Bool) (h : Handshakes) (x : Speech) → (h.requests == 0) ≡ false
+    → words_left struck asked h x ≡ said_left struck asked x.place (length x.words)
+words_said struck true h x e =
+    ap (λ (q : Bool). if q then length x.words else said_left struck true x.place (length x.words)) e
+words_said struck false h x e =
+    ap (λ (q : Bool). if q then length x.words else said_left struck false x.place (length x.words)) e
 
 not_first : (place words : ℕ) (struck : Bool)
     → said_left struck false (place + 1) words ≡ words - (place + 1) + repeated struck words
@@ -31,10 +31,10 @@ pub says_by : (struck last attends : Bool) (place words : ℕ) → ((place == 0)
     ≤ said_left struck true place words
 says_by struck last attends place words first = go (place == 0) refl
   where
-    less : (l s : Bool) → repeated (if l then false else s) words ≤ repeated s words
+    less : (l r : Bool) → repeated (if l then false else r) words ≤ repeated r words
     less true true = omega arith
     less true false = omega arith
-    less false s = omega arith
+    less false r = omega arith
 
     none : (last ≡ true) ⊎ (struck ≡ false) → repeated (if last then false else struck) words ≡ 0
     none (inl e) = ap (λ (l : Bool). repeated (if l then false else struck) words) e

@@ -14,10 +14,10 @@ use Rattle.progress_laws.specs.book_laws.proofs.Carried.Commands.{own_of}
 abbrev group_of : Bool → Bool → Option ℕ
 group_of six ten = if six then Some 6 else if ten then Some 10 else None
 
-short_group : (six ten : Bool) (n : ℕ) → is_len (group_of six ten) n ≡ true → n ≤ 10
-short_group true ten n e = let same : 6 ≡ n = eqb-true 6 n e in omega (arith, same)
-short_group false true n e = let same : 10 ≡ n = eqb-true 10 n e in omega (arith, same)
-short_group false false n e = absurd cc
+short_group : (six ten : Bool) (m : ℕ) → is_len (group_of six ten) m ≡ true → m ≤ 10
+short_group true ten m e = let same : 6 ≡ m = eqb-true 6 m e in omega (arith, same)
+short_group false true m e = let same : 10 ≡ m = eqb-true 10 m e in omega (arith, same)
+short_group false false m e = absurd cc
 
 group_short : (block : List ℕ) → has_group_len block ≡ true → length block ≤ 10
 group_short block e =

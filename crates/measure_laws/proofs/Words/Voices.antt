@@ -14,19 +14,19 @@ pub record IsVoiced (x : Exchange) (is_last : Bool) (answers : ℕ) (received : 
   pub fresh : (x.speech.place == 0) ≡ true → (answers == 0) ≡ false → is_last ≡ true
 
 -- MESSAGE OUT begins.
-pub begins_place : (h : Option HostDef) (w : Hearing) (p : Speech) → (speech_in_phase h w p).place ≡ 0
-begins_place h w p = go (is_message_out w.change.after && w.begun)
+pub begins_place : (h : Option HostDef) (w : Hearing) (x : Speech) → (speech_in_phase h w x).place ≡ 0
+begins_place h w x = go (is_message_out w.change.after && w.begun)
   where
     go : (q : Bool)
-        → (if q then record p { words = words_after h w p.asked; place = 0 } else record p { place = 0 }).place ≡ 0
+        → (if q then record x { words = words_after h w x.asked; place = 0 } else record x { place = 0 }).place ≡ 0
     go true = refl
     go false = refl
 
-pub begins_unstruck : (w : Hearing) (l : Leaving) (p : Plan) → (plan_in_phase w l p).struck ≡ false
-begins_unstruck w l p = go (is_message_out w.change.after) w.begun
+pub begins_unstruck : (w : Hearing) (l : Leaving) (a : Plan) → (plan_in_phase w l a).struck ≡ false
+begins_unstruck w l a = go (is_message_out w.change.after) w.begun
   where
-    go : (q r : Bool) → (if not q then record (plan_anew p) { messages = l.messages; next = l.next }
-        else if r then plan_in_message_out w p else plan_anew p).struck ≡ false
+    go : (q r : Bool) → (if not q then record (plan_anew a) { messages = l.messages; next = l.next }
+        else if r then plan_in_message_out w a else plan_anew a).struck ≡ false
     go false r = refl
     go true true = refl
     go true false = refl
@@ -36,10 +36,10 @@ begins_unstruck w l p = go (is_message_out w.change.after) w.begun
 abbrev pub VoicedAt : ScenarioValue → List Row → Type 0
 VoicedAt s p = IsVoiced (run_state s p).exchange (dialogue p).is_last (handshakes p).answers (is_some (receiver p))
 
-pub voiced_by : (x y : Exchange) (a b : Bool) (m n : ℕ) (r t : Bool) → x ≡ y → a ≡ b → m ≡ n → r ≡ t → IsVoiced y b n t
+pub voiced_by : (x y : Exchange) (a b : Bool) (m i : ℕ) (r t : Bool) → x ≡ y → a ≡ b → m ≡ i → r ≡ t → IsVoiced y b i t
     → IsVoiced x a m r
-voiced_by x y a b m n r t ex ea em er h = subst (λ z. IsVoiced z a m r) (sym ex) (subst (λ z. IsVoiced y z m r) (sym ea)
-    (subst (λ z. IsVoiced y b z r) (sym em) (subst (λ z. IsVoiced y b n z) (sym er) h)))
+voiced_by x y a b m i r t ex ea em er h = subst (λ z. IsVoiced z a m r) (sym ex) (subst (λ z. IsVoiced y z m r) (sym ea)
+    (subst (λ z. IsVoiced y b z r) (sym em) (subst (λ z. IsVoiced y b i z) (sym er) h)))
 
 -- As MESSAGE OUT begins; after a row that lets no byte cross; after a fault row; and as a byte has crossed.
 pub begun_voiced : (x : Exchange) (last : Bool) → x.speech.place ≡ 0 → x.plan.struck ≡ false → IsVoiced x last 0 false
@@ -68,8 +68,8 @@ struck_voiced x y last answers now place h = record {
     by (inl e) = inl e
     by (inr (e, r)) = wrong r
 
-counted_positive : (n : ℕ) → counted_on n ≡ 0 → (1 ≤ 0)
-counted_positive n e = omega (arith, e)
+counted_positive : (m : ℕ) → counted_on m ≡ 0 → (1 ≤ 0)
+counted_positive m e = omega (arith, e)
 
 pub heard_voiced : (x : Exchange) (last attends : Bool) (place answers : ℕ) (now : Bool)
     → x.speech.place ≡ (if attends then place + 1 else 0) → last ≡ not attends

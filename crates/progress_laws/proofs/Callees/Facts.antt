@@ -35,7 +35,7 @@ silent : (s : ScenarioValue) (p : List Row) (row : Row) → row.dev < 8 → brok
     → (bus (row ∷ p)).rst ≡ false → (d : ℕ) → d < 8 → (drives (row ∷ p) d).bsy ≡ false
 silent s p row lt obeys u off d ld =
     elim (cases_eq d row.dev) [
-      | inl same ↦ ap (λ (k : ℕ). (drives (row ∷ p) k).bsy) same ∙ ap (λ (l : LineSet). l.bsy) (drives_next p row) ∙ its
+      | inl same ↦ ap (λ (m : ℕ). (drives (row ∷ p) m).bsy) same ∙ ap (λ (l : LineSet). l.bsy) (drives_next p row) ∙ its
       | inr ne ↦ ap (λ (l : LineSet). l.bsy) (drives-other row p d ne) ∙ was d ld
     ]
   where
@@ -89,13 +89,13 @@ calling_stays caller g c row e = go (row.dev == caller) (row.dev == g.called) e
     go false true z = none_calling _ z
     go false false z = none_calling _ z
 
-called_before : (p : List Row) (row : Row) (k : Call) (g : Calling) (c t : ℕ) → (bus p).sel ≡ true → call p ≡ Some k
-    → k.calling ≡ Some g → (bus (row ∷ p)).sel ≡ true → call (row ∷ p) ≡ Some (won_call c t) → ⊥
-called_before p row k g c t before now some after won =
-    let same = same_Some (record k { calling = calling_after k.caller k.calling (change_of p row) row }) (won_call c t)
+called_before : (p : List Row) (row : Row) (h : Call) (g : Calling) (c t : ℕ) → (bus p).sel ≡ true → call p ≡ Some h
+    → h.calling ≡ Some g → (bus (row ∷ p)).sel ≡ true → call (row ∷ p) ≡ Some (won_call c t) → ⊥
+called_before p row h g c t before now some after won =
+    let same = same_Some (record h { calling = calling_after h.caller h.calling (change_of p row) row }) (won_call c t)
     (sym (call_on p row before after ∙ ap (λ (o : Option Call). call_goes_on o (change_of p row) row) now) ∙ won) in
-    calling_stays k.caller g (change_of p row) row
-    (ap (λ (o : Option Calling). calling_after k.caller o (change_of p row) row) (sym some)
+    calling_stays h.caller g (change_of p row) row
+    (ap (λ (o : Option Calling). calling_after h.caller o (change_of p row) row) (sym some)
     ∙ ap (λ (x : Call). x.calling) same)
 
 -- The device of the row raised a line that was false.
@@ -159,10 +159,10 @@ later_enters s p row b fits wants always h a least off =
 win_kind : (s : ScenarioValue) (p : List Row) (row : Row) (b : Arbitration) → CalmStanding s p
     → Arbitrating s p b → IsLeast (unreset_due s p) 8 row → IsContender s p b row.dev
     → row.kind ≡ Drives (record (contender_lines row.dev) { sel = true })
-win_kind s p row b always h least k =
+win_kind s p row b always h least e =
     let here : stage p ≡ InArbitration b = stage_is p _ _ _ _ h.stands in
-    (win_due s p row.dev k.lat b (record { time = row.time; kind = row.kind }) always.devices least.inside k.there
-    h.stands.connection_is here k.drive least.is_due).kind_is
+    (win_due s p row.dev e.lat b (record { time = row.time; kind = row.kind }) always.devices least.inside e.there
+    h.stands.connection_is here e.drive least.is_due).kind_is
 
 -- ---- the contenders after a row
 
@@ -173,14 +173,14 @@ after_is s p row a h = ap (λ (l : LineSet). l.rst) h.stands.bus_is
 contender_next : (s : ScenarioValue) (p : List Row) (row : Row) (a : Arbitration) (d : ℕ) → FitsBus s → WantsAreItems
     → CalmStanding s p → IsLeast (unreset_due s p) 8 row → (bus p).rst ≡ false → connection p ≡ None → AreBound s p
     → Arbitrating s (row ∷ p) a → d < 8 → IsContender s (row ∷ p) a d → BusStage s p → IsBound s (row ∷ p) d
-contender_next s p row a d fits wants always least calm alone was after lt k (on_free_bus h) =
+contender_next s p row a d fits wants always least calm alone was after lt z (on_free_bus h) =
     let e = free_enters s p row fits wants always h (row_apart s p row always.devices
     least.inside h.link alone after.stands.connection_is (after_is s p row a after)) least in
     elim (cases_eq d row.dev) [
       | inl same ↦ subst (λ (c : ℕ). IsBound s (row ∷ p) c) (sym same) e.bound
-      | inr ne ↦ wrong' (ap (λ (l : LineSet). l.bsy) (sym (drives-other row p d ne ∙ h.quiet d lt) ∙ k.drive))
+      | inr ne ↦ wrong' (ap (λ (l : LineSet). l.bsy) (sym (drives-other row p d ne ∙ h.quiet d lt) ∙ z.drive))
     ]
-contender_next s p row a d fits wants always least calm alone was after lt k (in_arbitration b h) =
+contender_next s p row a d fits wants always least calm alone was after lt z (in_arbitration b h) =
     let q = row_apart s p row always.devices least.inside h.link alone after.stands.connection_is
     (after_is s p row a after) in
     elim (h.each row.dev least.inside) [
@@ -189,7 +189,7 @@ contender_next s p row a d fits wants always least calm alone was after lt k (in
           elim (cases_eq d row.dev) [
             | inl same ↦ subst (λ (c : ℕ). IsBound s (row ∷ p) c) (sym same) e.bound
             | inr ne ↦ elim (h.each d lt) [
-              | inl none_of ↦ wrong' (ap (λ (l : LineSet). l.bsy) (sym (drives-other row p d ne ∙ none_of) ∙ k.drive))
+              | inl none_of ↦ wrong' (ap (λ (l : LineSet). l.bsy) (sym (drives-other row p d ne ∙ none_of) ∙ z.drive))
               | inr c ↦ others_bound s p row d e.apart e.enters ne (was.contenders b h d lt c)
             ]
           ]
@@ -199,24 +199,24 @@ contender_next s p row a d fits wants always least calm alone was after lt k (in
           wrong (sym (bus_on (λ x. x.sel) (λ _ _. refl) (row ∷ p) row.dev least.inside up)
           ∙ ap (λ (l : LineSet). l.sel) after.stands.bus_is)
     ]
-contender_next s p row a d fits wants always least calm alone was after lt k (after_arbitration c t h) =
+contender_next s p row a d fits wants always least calm alone was after lt z (after_arbitration c t h) =
     absurd (busy_before p row a h.stands.arbitration_is (ap is_free h.stands.bus_is) after.stands.arbitration_is)
-contender_next s p row a d fits wants always least calm alone was after lt k (with_both_ids m c j t0 t e h) =
+contender_next s p row a d fits wants always least calm alone was after lt z (with_both_ids m c j t0 t e h) =
     absurd (busy_before p row a h.stands.arbitration_is (ap is_free h.stands.bus_is) after.stands.arbitration_is)
-contender_next s p row a d fits wants always least calm alone was after lt k (awaiting_answer v m c j t0 t1 t2 x g) =
+contender_next s p row a d fits wants always least calm alone was after lt z (awaiting_answer v m c j t0 t1 t2 x g) =
     absurd
     (busy_before p row a g.here.stands.arbitration_is (ap is_free g.here.stands.bus_is) after.stands.arbitration_is)
-contender_next s p row a d fits wants always least calm alone was after lt k
+contender_next s p row a d fits wants always least calm alone was after lt z
     (after_withdrawal v m c j t0 t1 t2 t3 e h) =
     absurd (busy_before p row a h.stands.arbitration_is (ap is_free h.stands.bus_is) after.stands.arbitration_is)
-contender_next s p row a d fits wants always least calm alone was after lt k (after_answer m c j t0 t1 t2 t3 x g) =
+contender_next s p row a d fits wants always least calm alone was after lt z (after_answer m c j t0 t1 t2 t3 x g) =
     absurd
     (busy_before p row a g.here.stands.arbitration_is (ap is_free g.here.stands.bus_is) after.stands.arbitration_is)
-contender_next s p row a d fits wants always least calm alone was after lt k
+contender_next s p row a d fits wants always least calm alone was after lt z
     (after_takeover c j t0 t1 t2 t3 t4 x e f g) = absurd
     (busy_before p row a g.here.stands.arbitration_is (ap is_free g.here.stands.bus_is) after.stands.arbitration_is)
-contender_next s p row a d fits wants always least calm alone was after lt k (in_reset h) = wrong (sym h.reset ∙ calm)
-contender_next s p row a d fits wants always least calm alone was after lt k (in_connection n e f h) =
+contender_next s p row a d fits wants always least calm alone was after lt z (in_reset h) = wrong (sym h.reset ∙ calm)
+contender_next s p row a d fits wants always least calm alone was after lt z (in_connection n e f h) =
     absurd (some_connection n (sym e ∙ alone))
 
 -- ---- the winner after a row
@@ -248,13 +248,13 @@ caller_next s p row c t fits wants always least calm alone was after stage_of = 
 
     entered : (bus p).sel ≡ false → Enters s p row → IsBound s q c
     entered before e = wrong' (ap (λ (l : LineSet). l.sel) (sym (drives-own row p _ e.kind_is))
-        ∙ ap (λ (k : ℕ). (drives q k).sel) (sym (mine before)) ∙ up)
+        ∙ ap (λ (w : ℕ). (drives q w).sel) (sym (mine before)) ∙ up)
 
     apart_row : (run_state s p).story.link ≡ None → IsApart s p row
     apart_row link = row_apart s p row always.devices least.inside link alone after.stands.connection_is off
 
-    called : (k : Call) (g : Calling) → (bus p).sel ≡ true → call p ≡ Some k → k.calling ≡ Some g → IsBound s q c
-    called k g before now some = absurd (called_before p row k g c t before now some sel after.stands.call_is)
+    called : (y : Call) (g : Calling) → (bus p).sel ≡ true → call p ≡ Some y → y.calling ≡ Some g → IsBound s q c
+    called y g before now some = absurd (called_before p row y g c t before now some sel after.stands.call_is)
 
     won : (c0 t0 : ℕ) → ArbitrationWon s p c0 t0 → IsBound s q c
     won c0 t0 h =
@@ -269,12 +269,12 @@ caller_next s p row c t fits wants always least calm alone was after stage_of = 
         (still_bound s p q c0 k (was.caller c0 t0 h))
 
     wins : (b : Arbitration) → Arbitrating s p b → IsContender s p b row.dev → IsBound s q c
-    wins b h k =
+    wins b h z =
         let before : (bus p).sel ≡ false = ap (λ (l : LineSet). l.sel) h.stands.bus_is in
         let keeps = still_keeps s p row _ _ _ _ (apart_row h.link)
-        (no_entry p row (contender_lines row.dev) k.drive refl) (λ i. falls (before i) (sel i)) in
+        (no_entry p row (contender_lines row.dev) z.drive refl) (λ i. falls (before i) (sel i)) in
         subst (λ (x : ℕ). IsBound s q x) (sym (mine before))
-        (still_bound s p q row.dev keeps (was.contenders b h row.dev least.inside k))
+        (still_bound s p q row.dev keeps (was.contenders b h row.dev least.inside z))
 
     go : BusStage s p → IsBound s q c
     go (on_free_bus h) = entered (ap (λ (l : LineSet). l.sel) h.stands.bus_is)

@@ -21,16 +21,16 @@ command_ends : (s : ScenarioValue) (id : ProcId) (c : CmdDef) → HasTwoEnds s c
     → HasTwoEnds s (process_by s id c).initiator (process_by s id c).target
 command_ends s id c h = elim (cases_Bool id.sense) [ inl e ↦ rw e h | inr e ↦ rw e h ]
 
-process_ends : (s : ScenarioValue) (id : ProcId) (p : Process) → FitsBus s → process_of s id ≡ Some p
-    → HasTwoEnds s p.initiator p.target
-process_ends s id p fits e = go (command_at s.commands id.command) refl
+process_ends : (s : ScenarioValue) (id : ProcId) (t : Process) → FitsBus s → process_of s id ≡ Some t
+    → HasTwoEnds s t.initiator t.target
+process_ends s id t fits e = go (command_at s.commands id.command) refl
   where
-    go : (o : Option CmdDef) → command_at s.commands id.command ≡ o → HasTwoEnds s p.initiator p.target
-    go None z = absurd (none-some p (sym (ap (process_if s id) z) ∙ e))
+    go : (o : Option CmdDef) → command_at s.commands id.command ≡ o → HasTwoEnds s t.initiator t.target
+    go None z = absurd (none-some t (sym (ap (process_if s id) z) ∙ e))
     go (Some c) z =
         let line = command_fits s id.command c fits z in
         subst (λ (x : Process). HasTwoEnds s x.initiator x.target)
-        (same_Some (process_by s id c) p (sym (ap (process_if s id) z) ∙ e)) (command_ends s id c (record {
+        (same_Some (process_by s id c) t (sym (ap (process_if s id) z) ∙ e)) (command_ends s id c (record {
           initiator_below = line.host;
           target_below = line.target;
           host = line.host_is;
@@ -84,7 +84,7 @@ ready_bound s p c r fits dv host e =
     record {
       other = r.process.initiator;
       is = called;
-      below = subst (λ (k : ℕ). k < 8) w.initiator_is ends.initiator_below;
+      below = subst (λ (m : ℕ). m < 8) w.initiator_is ends.initiator_below;
       apart = λ same. are_apart s r.process.initiator c
           (ap (is_initiator s.hosts) (sym w.initiator_is) ∙ ends.host) host (sym same);
     }

@@ -22,8 +22,8 @@ free_aims s b d row = go (is_arbitration_entry b d) (falls d.change.before.sel d
     go false true = inl (calling_aims s b b.bus_state.call)
     go false false = inl refl
 
-bus_aims : (s : ScenarioValue) (b : Story) (m n : Option Connection) (d : RowReading) (row : Row)
-    → IsAims s b row (story_on_bus s b m n d row).aims
+bus_aims : (s : ScenarioValue) (b : Story) (m o : Option Connection) (d : RowReading) (row : Row)
+    → IsAims s b row (story_on_bus s b m o d row).aims
 bus_aims s b None None d row = free_aims s b d row
 bus_aims s b None (Some n) d row = inl (begun_aims b n)
 bus_aims s b (Some m) None d row = inl refl

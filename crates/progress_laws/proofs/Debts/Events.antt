@@ -24,22 +24,22 @@ pub record Paid (s : ScenarioValue) (b : Story) (o : Option Array) : Type 0 wher
 
 pub events_pay : (s : ScenarioValue) (b : Story) (o : Option Array) (shown : List Event) → HasSeats s → AllPay s b shown
     → Paid s b o → Paid s (story_after_events s b shown) (array_after_events s o shown)
-events_pay s b o [] seats well k = k
-events_pay s b o (event ∷ shown) seats well k =
-    go (array_after_events s o shown) (events_pay s b o shown seats well.1 k)
+events_pay s b o [] seats well e = e
+events_pay s b o (event ∷ shown) seats well e =
+    go (array_after_events s o shown) (events_pay s b o shown seats well.1 e)
   where
     was : Story
     was = story_after_events s b shown
 
     go : (x : Option Array) → Paid s was x → Paid s (story_after_event s was event) (array_step s event x)
     go None h = record {
-      checked = events_checked s b (event ∷ shown) k.checked;
+      checked = events_checked s b (event ∷ shown) e.checked;
       sound = λ a z. none_some a z;
       debts = λ a z. none_some a z;
       fetched = λ a z. none_some a z;
     }
     go (Some a) h = record {
-      checked = events_checked s b (event ∷ shown) k.checked;
+      checked = events_checked s b (event ∷ shown) e.checked;
       sound = λ y z. step_sound s a y event seats (h.sound a refl) z;
       debts =
           λ y z. subst (λ (w : Option Array). IfHolds (λ holds. Debts s (story_after_event s was event).sent holds) w) z
@@ -61,15 +61,15 @@ paid_ends s b (Event.Reset dev ∷ shown) h = (tt, paid_ends s b shown h.1)
 
 -- ---- which sense is owed anew: that of the process of the connection, which is over then
 
-pub record IsNew (c : Sent) (item : Option Item) (n : ℕ) : Type 0 where
+pub record IsNew (c : Sent) (item : Option Item) (m : ℕ) : Type 0 where
   pub id : ProcId
   pub item_is : item ≡ Some (process id)
   pub over : has_item c.over (process id) ≡ true
 
-event_debt : (s : ScenarioValue) (b : Story) (event : Event) (item : Option Item) (n : ℕ) (q : Nexus)
-    → IsOf item event → IsDebt s (story_after_event s b event).sent n q
-    → IsNew (story_after_event s b event).sent item n ⊎ IsDebt s b.sent n q
-event_debt s b (Event.End id status) item n q own d = go (not id.sense && status == CHECK_CONDITION) refl
+event_debt : (s : ScenarioValue) (b : Story) (event : Event) (item : Option Item) (l : ℕ) (q : Nexus)
+    → IsOf item event → IsDebt s (story_after_event s b event).sent l q
+    → IsNew (story_after_event s b event).sent item l ⊎ IsDebt s b.sent l q
+event_debt s b (Event.End id status) item l q own d = go (not id.sense && status == CHECK_CONDITION) refl
   where
     c : Sent
     c = (story_after_event s b (Event.End id status)).sent
@@ -87,43 +87,43 @@ event_debt s b (Event.End id status) item n q own d = go (not id.sense && status
         λ i. (if z i then record ends { sent = record ends.sent { checks = ends.sent.checks ++ id.command ∷ [] } }
         else ends).sent.checks
 
-    go : (x : Bool) → (not id.sense && status == CHECK_CONDITION) ≡ x → IsNew c item n ⊎ IsDebt s b.sent n q
-    go false z = inr (same_debt s b.sent c n q (checks false z) more d)
-    go true z = by (in_append n id.command b.sent.checks
-        (ap (λ (x : List ℕ). list_any (λ k. k == n) x) (sym (checks true z)) ∙ is_checked c n d.owed))
+    go : (x : Bool) → (not id.sense && status == CHECK_CONDITION) ≡ x → IsNew c item l ⊎ IsDebt s b.sent l q
+    go false z = inr (same_debt s b.sent c l q (checks false z) more d)
+    go true z = by (in_append l id.command b.sent.checks
+        (ap (λ (x : List ℕ). list_any (λ k. k == l) x) (sym (checks true z)) ∙ is_checked c l d.owed))
       where
-        by : (list_any (λ k. k == n) b.sent.checks ≡ true) ⊎ (id.command ≡ n) → IsNew c item n ⊎ IsDebt s b.sent n q
-        by (inl old) = inr (debt_before s b.sent c n q more old d)
+        by : (list_any (λ k. k == l) b.sent.checks ≡ true) ⊎ (id.command ≡ l) → IsNew c item l ⊎ IsDebt s b.sent l q
+        by (inl old) = inr (debt_before s b.sent c l q more old d)
         by (inr new) = inl (record { id = id; item_is = own id refl; over = ends_over s b id status })
-event_debt s b (Event.Lost id) item n q own d = inr (same_debt s b.sent (story_after_event s b (Event.Lost id)).sent n q
+event_debt s b (Event.Lost id) item l q own d = inr (same_debt s b.sent (story_after_event s b (Event.Lost id)).sent l q
     refl (λ m z. (events_grow s b (Event.Lost id ∷ [])).over (sense_item m) z) d)
-event_debt s b (Event.Aborted i t m what) item n q own d =
-    inr (same_debt s b.sent (story_after_event s b (Event.Aborted i t m what)).sent n q
+event_debt s b (Event.Aborted i t m what) item l q own d =
+    inr (same_debt s b.sent (story_after_event s b (Event.Aborted i t m what)).sent l q
     (ends_checks (is_aborted i t m what) (is_sense_stopped i t m what) by_abort 1 s.commands b)
     (λ j z. (events_grow s b (Event.Aborted i t m what ∷ [])).over (sense_item j) z) d)
-event_debt s b (Event.Reset dev) item n q own d = inr (same_debt s b.sent
-    (story_after_event s b (Event.Reset dev)).sent n q (ends_checks (λ c. true) (λ c. true) by_reset 1 s.commands b)
+event_debt s b (Event.Reset dev) item l q own d = inr (same_debt s b.sent
+    (story_after_event s b (Event.Reset dev)).sent l q (ends_checks (λ c. true) (λ c. true) by_reset 1 s.commands b)
     (λ j z. (events_grow s b (Event.Reset dev ∷ [])).over (sense_item j) z) d)
-event_debt s b _ item n q own d = inr d
+event_debt s b _ item l q own d = inr d
 
-pub new_debt : (s : ScenarioValue) (b : Story) (shown : List Event) (item : Option Item) (n : ℕ) (q : Nexus)
-    → AllOf item shown → IsDebt s (story_after_events s b shown).sent n q
-    → IsNew (story_after_events s b shown).sent item n ⊎ IsDebt s b.sent n q
-new_debt s b [] item n q own d = inr d
-new_debt s b (event ∷ shown) item n q own d =
-    go (event_debt s was event item n q own.0 d) (λ x. new_debt s b shown item n q own.1 x)
+pub new_debt : (s : ScenarioValue) (b : Story) (shown : List Event) (item : Option Item) (m : ℕ) (q : Nexus)
+    → AllOf item shown → IsDebt s (story_after_events s b shown).sent m q
+    → IsNew (story_after_events s b shown).sent item m ⊎ IsDebt s b.sent m q
+new_debt s b [] item m q own d = inr d
+new_debt s b (event ∷ shown) item m q own d =
+    go (event_debt s was event item m q own.0 d) (λ x. new_debt s b shown item m q own.1 x)
   where
     was : Story
     was = story_after_events s b shown
 
-    later : IsNew was.sent item n ⊎ IsDebt s b.sent n q
-        → IsNew (story_after_event s was event).sent item n ⊎ IsDebt s b.sent n q
+    later : IsNew was.sent item m ⊎ IsDebt s b.sent m q
+        → IsNew (story_after_event s was event).sent item m ⊎ IsDebt s b.sent m q
     later (inl x) = inl
         (record { id = x.id; item_is = x.item_is; over = (events_grow s was (event ∷ [])).over (process x.id) x.over })
     later (inr x) = inr x
 
-    go : IsNew (story_after_event s was event).sent item n ⊎ IsDebt s was.sent n q
-        → (IsDebt s was.sent n q → IsNew was.sent item n ⊎ IsDebt s b.sent n q)
-        → IsNew (story_after_event s was event).sent item n ⊎ IsDebt s b.sent n q
+    go : IsNew (story_after_event s was event).sent item m ⊎ IsDebt s was.sent m q
+        → (IsDebt s was.sent m q → IsNew was.sent item m ⊎ IsDebt s b.sent m q)
+        → IsNew (story_after_event s was event).sent item m ⊎ IsDebt s b.sent m q
     go (inl x) before = inl x
     go (inr x) before = later (before x)

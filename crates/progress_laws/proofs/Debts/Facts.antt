@@ -24,14 +24,14 @@ use Rattle.trace_laws.specs.book_laws.specs.Traces.{apart}
 -- It would stand in the hold of the unit.
 held_unit : (holds : List Nexus) (q : Nexus) → in_hold holds q ≡ true → is_held holds q.target q.unit ≡ true
 held_unit [] q e = e
-held_unit (p ∷ holds) q e = go (same_nexus p q) refl e (held_unit holds q)
+held_unit (w ∷ holds) q e = go (same_nexus w q) refl e (held_unit holds q)
   where
-    go : (x : Bool) → same_nexus p q ≡ x → (x || in_hold holds q) ≡ true
+    go : (x : Bool) → same_nexus w q ≡ x → (x || in_hold holds q) ≡ true
         → (in_hold holds q ≡ true → is_held holds q.target q.unit ≡ true)
-        → (is_at_unit p q.target q.unit || is_held holds q.target q.unit) ≡ true
+        → (is_at_unit w q.target q.unit || is_held holds q.target q.unit) ≡ true
     go true z y more = ap (λ (t : Bool). t || is_held holds q.target q.unit)
-        (and_second (p.initiator == q.initiator) (is_at_unit p q.target q.unit) z)
-    go false z y more = (λ i. is_at_unit p q.target q.unit || more y i) ∙ or_true (is_at_unit p q.target q.unit)
+        (and_second (w.initiator == q.initiator) (is_at_unit w q.target q.unit) z)
+    go false z y more = (λ i. is_at_unit w q.target q.unit || more y i) ∙ or_true (is_at_unit w q.target q.unit)
 
 -- An initiator has no REQUEST SENSE to send as it sends a command.
 record SendsCommand (s : ScenarioValue) (b : Sent) (dev : ℕ) (c : CmdDef) : Type 0 where
@@ -148,8 +148,8 @@ books_next s p row o prompt lt w nx st books = record {
     checks : b.sent.checks ≡ k.story.sent.checks
     checks = (changed s k.story d row).checks
 
-    more : (n : ℕ) → has_item k.story.sent.over (sense_item n) ≡ true → has_item b.sent.over (sense_item n) ≡ true
-    more n z = senses_same s k.story d row n ∙ z
+    more : (l : ℕ) → has_item k.story.sent.over (sense_item l) ≡ true → has_item b.sent.over (sense_item l) ≡ true
+    more l z = senses_same s k.story d row l ∙ z
 
     was : Paid s b k.array
     was = record {

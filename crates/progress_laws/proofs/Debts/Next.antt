@@ -18,12 +18,12 @@ use Rattle.due_model.specs.array_model.proofs.SoundArrays.{id_is}
 
 -- ---- the change of the bus: which REQUEST SENSE are over
 
-pub senses_same : (s : ScenarioValue) (b : Story) (d : RowReading) (row : Row) (n : ℕ)
-    → has_item (story_by_change s b d row).sent.over (sense_item n) ≡ has_item b.sent.over (sense_item n)
-senses_same s b d row n =
-    elim (cases_Bool (has_item b.sent.over (sense_item n))) [
-      | inl e ↦ change_over s b d row (sense_item n) e ∙ sym e
-      | inr e ↦ (changed s b d row).over n e ∙ sym e
+pub senses_same : (s : ScenarioValue) (b : Story) (d : RowReading) (row : Row) (m : ℕ)
+    → has_item (story_by_change s b d row).sent.over (sense_item m) ≡ has_item b.sent.over (sense_item m)
+senses_same s b d row m =
+    elim (cases_Bool (has_item b.sent.over (sense_item m))) [
+      | inl e ↦ change_over s b d row (sense_item m) e ∙ sym e
+      | inr e ↦ (changed s b d row).over m e ∙ sym e
     ]
 
 -- ---- the process that is served

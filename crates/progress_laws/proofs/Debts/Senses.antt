@@ -16,41 +16,41 @@ use Rattle.due_model.specs.array_model.specs.Steps
 fetches_good : (m : CommandContext) (sent : List ℕ) → (execution m sense_block sent).reply.status ≡ GOOD
 fetches_good m sent = λ i. (sense_fetched m sent i).reply.status
 
-pub sense_cdb : (s : ScenarioValue) (id : ProcId) (p : Process) → id.sense ≡ true → process_of s id ≡ Some p
-    → p.cdb ≡ sense_block
-sense_cdb s id p e is = go (command_at s.commands id.command) is
+pub sense_cdb : (s : ScenarioValue) (id : ProcId) (t : Process) → id.sense ≡ true → process_of s id ≡ Some t
+    → t.cdb ≡ sense_block
+sense_cdb s id t e is = go (command_at s.commands id.command) is
   where
-    no_process : (let o : Option Process = None in o) ≡ Some p → p.cdb ≡ sense_block
+    no_process : (let o : Option Process = None in o) ≡ Some t → t.cdb ≡ sense_block
     no_process z = absurd cc
 
-    blocks : (q : Bool) (n : ℕ) (c : CmdDef) → q ≡ true
-        → (process_by s (record { command = n; sense = q }) c).cdb ≡ sense_block
-    blocks true n c z = refl
-    blocks false n c z = wrong' z
+    blocks : (q : Bool) (m : ℕ) (c : CmdDef) → q ≡ true
+        → (process_by s (record { command = m; sense = q }) c).cdb ≡ sense_block
+    blocks true m c z = refl
+    blocks false m c z = wrong' z
 
-    go : (o : Option CmdDef) → process_if s id o ≡ Some p → p.cdb ≡ sense_block
+    go : (o : Option CmdDef) → process_if s id o ≡ Some t → t.cdb ≡ sense_block
     go None z = no_process z
     go (Some c) z =
-        ap (λ (x : Process). x.cdb) (sym (same_Some (process_by s id c) p z)) ∙ blocks id.sense id.command c e
+        ap (λ (x : Process). x.cdb) (sym (same_Some (process_by s id c) t z)) ∙ blocks id.sense id.command c e
 
 -- ---- one more reply
 
-is_sense : (id : ProcId) (n : ℕ) → same_id id (sense_id n) ≡ true → id.sense ≡ true
-is_sense id n e =
+is_sense : (id : ProcId) (m : ℕ) → same_id id (sense_id m) ≡ true → id.sense ≡ true
+is_sense id m e =
     elim (cases_Bool id.sense) [
       | inl f ↦ rw f
-      | inr f ↦ rw f (wrong' (rw f at (and_second (id.command == n) (same_bool id.sense true) e)))
+      | inr f ↦ rw f (wrong' (rw f at (and_second (id.command == m) (same_bool id.sense true) e)))
     ]
 
 one_more : (replies after : List (ProcId × Reply)) (id : ProcId) (reply : Reply) → after ≡ (id, reply) ∷ replies
     → (id.sense ≡ true → reply.status ≡ GOOD) → AreFetched replies → AreFetched after
 one_more replies after id reply is good h =
-    subst (λ (x : List (ProcId × Reply)). AreFetched x) (sym is) (λ n r e. go n r (same_id id (sense_id n)) refl e)
+    subst (λ (x : List (ProcId × Reply)). AreFetched x) (sym is) (λ m r e. go m r (same_id id (sense_id m)) refl e)
   where
-    go : (n : ℕ) (r : Reply) (x : Bool) → same_id id (sense_id n) ≡ x
-        → (if x then Some reply else reply_in replies (sense_id n)) ≡ Some r → r.status ≡ GOOD
-    go n r true z e = ap (λ (y : Reply). y.status) (sym (same_Some reply r e)) ∙ good (is_sense id n z)
-    go n r false z e = h n r e
+    go : (m : ℕ) (r : Reply) (x : Bool) → same_id id (sense_id m) ≡ x
+        → (if x then Some reply else reply_in replies (sense_id m)) ≡ Some r → r.status ≡ GOOD
+    go m r true z e = ap (λ (y : Reply). y.status) (sym (same_Some reply r e)) ∙ good (is_sense id m z)
+    go m r false z e = h m r e
 
 no_more : (replies after : List (ProcId × Reply)) → after ≡ replies → AreFetched replies → AreFetched after
 no_more replies after is h = subst (λ (x : List (ProcId × Reply)). AreFetched x) (sym is) h
@@ -86,27 +86,27 @@ ran s a c id guest (Some r) sound f e h =
 refused : (s : ScenarioValue) (a c : Array) (id : ProcId) (o : Option Process) → process_of s id ≡ o
     → Steps.refuse_step a o ≡ Some c → AreFetched a.replies → AreFetched c.replies
 refused s a c id None f e h = none_some c e
-refused s a c id (Some p) f e h = at (unit_state_at a.units p.target p.unit) e
+refused s a c id (Some t) f e h = at (unit_state_at a.units t.target t.unit) e
   where
-    own : p.id ≡ id
-    own = id_is s id p f
+    own : t.id ≡ id
+    own = id_is s id t f
 
-    kind : (q : Bool) → is_request_sense (command_of p.cdb) ≡ q → p.id.sense ≡ true → q ≡ true
+    kind : (q : Bool) → is_request_sense (command_of t.cdb) ≡ q → t.id.sense ≡ true → q ≡ true
     kind q z sense = sym z ∙ ap (λ (x : List ℕ). is_request_sense (command_of x))
-        (sense_cdb s id p (ap (λ (x : ProcId). x.sense) (sym own) ∙ sense) f)
+        (sense_cdb s id t (ap (λ (x : ProcId). x.sense) (sym own) ∙ sense) f)
 
-    go : (u : UnitState) (q : Bool) → is_request_sense (command_of p.cdb) ≡ q → (x : Bool)
-        → (if not q && x then Some (Steps.with_listed_reply (Steps.with_guest a p (Some queue_full)) p.id queue_full)
+    go : (u : UnitState) (q : Bool) → is_request_sense (command_of t.cdb) ≡ q → (x : Bool)
+        → (if not q && x then Some (Steps.with_listed_reply (Steps.with_guest a t (Some queue_full)) t.id queue_full)
         else None) ≡ Some c → AreFetched c.replies
     go u true z x y = none_some c y
     go u false z false y = none_some c y
-    go u false z true y = one_more a.replies c.replies p.id queue_full
-        (took (Steps.with_listed_reply (Steps.with_guest a p (Some queue_full)) p.id queue_full) c _ y refl)
+    go u false z true y = one_more a.replies c.replies t.id queue_full
+        (took (Steps.with_listed_reply (Steps.with_guest a t (Some queue_full)) t.id queue_full) c _ y refl)
         (λ sense. wrong' (kind false z sense)) h
 
-    at : (u : Option UnitState) → Steps.refuse_step_at a p u ≡ Some c → AreFetched c.replies
+    at : (u : Option UnitState) → Steps.refuse_step_at a t u ≡ Some c → AreFetched c.replies
     at None z = none_some c z
-    at (Some u) z = go u (is_request_sense (command_of p.cdb)) refl (Steps.process_count u == u.depth) z
+    at (Some u) z = go u (is_request_sense (command_of t.cdb)) refl (Steps.process_count u == u.depth) z
 
 pub step_fetches : (s : ScenarioValue) (b : Sent) (a d : Array) (event : Event) → IsSound s a → PaysWell s b event
     → Steps.step s event a ≡ Some d → AreFetched a.replies → AreFetched d.replies

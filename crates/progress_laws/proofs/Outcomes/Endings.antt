@@ -20,7 +20,7 @@ abbrev pub told : Story → List Item × List (ℕ × Ending)
 told b = (b.sent.over, b.ended)
 
 abbrev pub AllEnded : List Item × List (ℕ × Ending) → Type 0
-AllEnded t = (n : ℕ) → has_item t.0 (command_item n) ≡ true → is_ended t.1 n ≡ true
+AllEnded t = (m : ℕ) → has_item t.0 (command_item m) ≡ true → is_ended t.1 m ≡ true
 
 sense_of : (q : Bool) → same_bool q false ≡ true → q ≡ false
 sense_of true e = wrong (sym e)
@@ -51,18 +51,18 @@ sense_told b m h n z = h n (sym (ap (λ (x : Bool). x || has_item b.sent.over (c
 
 -- ---- events
 
-ends_told : (drops stops : CmdDef → Bool) (e : Ending) (n : ℕ) (commands : List CmdDef) (b : Story) → AllEnded (told b)
-    → AllEnded (told (story_with_ends drops stops e n commands b))
-ends_told drops stops e n [] b h = h
-ends_told drops stops e n (c ∷ commands) b h =
-    ends_told drops stops e (n + 1) commands
-    (story_with_end_if drops stops e n c b)
-    (go (is_open b.sent n && drops c) (stops c && list_any (λ k. k == n) b.sent.checks))
+ends_told : (drops stops : CmdDef → Bool) (e : Ending) (m : ℕ) (commands : List CmdDef) (b : Story) → AllEnded (told b)
+    → AllEnded (told (story_with_ends drops stops e m commands b))
+ends_told drops stops e m [] b h = h
+ends_told drops stops e m (c ∷ commands) b h =
+    ends_told drops stops e (m + 1) commands
+    (story_with_end_if drops stops e m c b)
+    (go (is_open b.sent m && drops c) (stops c && list_any (λ k. k == m) b.sent.checks))
   where
-    go : (q r : Bool) → AllEnded (told (if q then story_with_end b (record { command = n; sense = false }) e
-        else if r then story_with_over b (sense_item n) else b))
-    go true r = end_told b (record { command = n; sense = false }) e h
-    go false true = sense_told b n h
+    go : (q r : Bool) → AllEnded (told (if q then story_with_end b (record { command = m; sense = false }) e
+        else if r then story_with_over b (sense_item m) else b))
+    go true r = end_told b (record { command = m; sense = false }) e h
+    go false true = sense_told b m h
     go false false = h
 
 check_told : (b : Story) (id : ProcId) (status : ℕ) → told (with_check b id status) ≡ told b
@@ -100,13 +100,13 @@ try_told s b dev (Some item) h = go _ item
 calling_told : (s : ScenarioValue) (b : Story) (call : Option Call) → AllEnded (told b)
     → AllEnded (told (story_after_calling s b call))
 calling_told s b None h = h
-calling_told s b (Some k) h = by k.calling
+calling_told s b (Some c) h = by c.calling
   where
-    by : (g : Option Calling) → AllEnded (told (story_after_calling_by s b k.caller g))
+    by : (g : Option Calling) → AllEnded (told (story_after_calling_by s b c.caller g))
     by None = h
     by (Some g) =
         elim (cases_Bool (is_none g.answered && not g.reselects)) [
-          | inl e ↦ rw e (try_told s b k.caller (aim_of b.aims k.caller) h)
+          | inl e ↦ rw e (try_told s b c.caller (aim_of b.aims c.caller) h)
           | inr e ↦ rw e h
         ]
 
@@ -183,8 +183,8 @@ free_told s b d row h = go (is_arbitration_entry b d) (falls d.change.before.sel
     go false true = calling_told s b b.bus_state.call h
     go false false = h
 
-bus_told : (s : ScenarioValue) (b : Story) (m n : Option Connection) (d : RowReading) (row : Row) → AllEnded (told b)
-    → AllEnded (told (story_on_bus s b m n d row))
+bus_told : (s : ScenarioValue) (b : Story) (m o : Option Connection) (d : RowReading) (row : Row) → AllEnded (told b)
+    → AllEnded (told (story_on_bus s b m o d row))
 bus_told s b None None d row h = free_told s b d row h
 bus_told s b None (Some n) d row h = subst AllEnded (sym (begun_told b n)) h
 bus_told s b (Some m) None d row h = h

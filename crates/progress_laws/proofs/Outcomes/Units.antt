@@ -60,41 +60,41 @@ if_none ts false b e = e
 
 accepted : (a : Array) (o : Option Process) → IfSame (targets a.units) (Steps.accept_step a o)
 accepted a None = tt
-accepted a (Some p) = at (unit_state_at a.units p.target p.unit)
+accepted a (Some c) = at (unit_state_at a.units c.target c.unit)
   where
-    at : (u : Option UnitState) → IfSame (targets a.units) (Steps.accept_step_at a p u)
+    at : (u : Option UnitState) → IfSame (targets a.units) (Steps.accept_step_at a c u)
     at None = refl
-    at (Some u) = go (is_request_sense (command_of p.cdb))
+    at (Some u) = go (is_request_sense (command_of c.cdb))
       where
         go : (q : Bool)
-            → IfSame (targets a.units) (if q then Some (Steps.with_guest a p None) else Steps.queue_step a p u)
+            → IfSame (targets a.units) (if q then Some (Steps.with_guest a c None) else Steps.queue_step a c u)
         go true = refl
         go false = if_some (targets a.units) (nat_lt (Steps.process_count u) u.depth) _
-            (with_unit_same a.units (record u { waiting = u.waiting ++ p ∷ [] }))
+            (with_unit_same a.units (record u { waiting = u.waiting ++ c ∷ [] }))
 
 refused : (a : Array) (o : Option Process) → IfSame (targets a.units) (Steps.refuse_step a o)
 refused a None = tt
-refused a (Some p) = at (unit_state_at a.units p.target p.unit)
+refused a (Some c) = at (unit_state_at a.units c.target c.unit)
   where
-    at : (u : Option UnitState) → IfSame (targets a.units) (Steps.refuse_step_at a p u)
+    at : (u : Option UnitState) → IfSame (targets a.units) (Steps.refuse_step_at a c u)
     at None = tt
     at (Some u) =
-        if_some (targets a.units) (not (is_request_sense (command_of p.cdb)) && Steps.process_count u == u.depth) _ refl
+        if_some (targets a.units) (not (is_request_sense (command_of c.cdb)) && Steps.process_count u == u.depth) _ refl
 
-executed : (a : Array) (p : Process) (u : Option UnitState) (done : Execution)
-    → targets (Steps.after_execution a p u done).units ≡ targets a.units
-executed a p u done = replied_same
-    (Steps.with_contents (Steps.without_attention a done.reported (nexus_of p)) u done.contents).units p.id done.reply
+executed : (a : Array) (c : Process) (u : Option UnitState) (done : Execution)
+    → targets (Steps.after_execution a c u done).units ≡ targets a.units
+executed a c u done = replied_same
+    (Steps.with_contents (Steps.without_attention a done.reported (nexus_of c)) u done.contents).units c.id done.reply
     ∙ filled u ∙ attended done.reported
   where
     filled : (o : Option UnitState)
-        → targets (Steps.with_contents (Steps.without_attention a done.reported (nexus_of p)) o done.contents).units
-        ≡ targets (Steps.without_attention a done.reported (nexus_of p)).units
+        → targets (Steps.with_contents (Steps.without_attention a done.reported (nexus_of c)) o done.contents).units
+        ≡ targets (Steps.without_attention a done.reported (nexus_of c)).units
     filled None = refl
-    filled (Some v) = with_unit_same (Steps.without_attention a done.reported (nexus_of p)).units
+    filled (Some v) = with_unit_same (Steps.without_attention a done.reported (nexus_of c)).units
         (record v { contents = done.contents })
 
-    attended : (q : Bool) → targets (Steps.without_attention a q (nexus_of p)).units ≡ targets a.units
+    attended : (q : Bool) → targets (Steps.without_attention a q (nexus_of c)).units ≡ targets a.units
     attended true = refl
     attended false = refl
 
@@ -111,9 +111,9 @@ failed : (s : ScenarioValue) (a : Array) (id : ProcId) (reply : Reply) (o : Opti
 failed s a id reply (Some r) = if_some (targets a.units) (is_none r.reply) _ (replied_same a.units id reply)
 failed s a id reply None = new (process_of s id)
   where
-    new : (p : Option Process) → IfSame (targets a.units) (Steps.fail_step_of_new a id reply p)
+    new : (c : Option Process) → IfSame (targets a.units) (Steps.fail_step_of_new a id reply c)
     new None = tt
-    new (Some p) = if_none (targets a.units) (Steps.is_waiting a.units id || Steps.has_ended a id) _ refl
+    new (Some c) = if_none (targets a.units) (Steps.is_waiting a.units id || Steps.has_ended a id) _ refl
 
 ended : (a : Array) (status : ℕ) (o : Option RunningProcess) → IfSame (targets a.units) (Steps.end_step a status o)
 ended a status None = tt
@@ -136,15 +136,15 @@ ended a status (Some r) = by r.reply
         (left_same (Steps.after_status a r.process reply).units r.process.id ∙ ap targets (same reply
         (reply.status == CHECK_CONDITION) (reply.status == GOOD && is_request_sense (command_of r.process.cdb))))
 
-aborted : (s : ScenarioValue) (a : Array) (i t n : ℕ) (what : AbortKind)
-    → targets (Steps.abort_step s a i t n what).units ≡ targets a.units
-aborted s a i t n AbortKind.All = kept_same (λ p. p.initiator == i && is_of_unit p t n) a.units
-aborted s a i t n (AbortKind.Tag tag) =
-    kept_same (λ p. p.initiator == i && is_of_unit p t n && has_tag p.tag tag) a.units
-aborted s a i t n AbortKind.WholeQueue = ap targets (cleared_units i
-    (Steps.unit_processes (unit_state_at a.units t n)) (Steps.without_dropped a (λ p. is_of_unit p t n)))
-    ∙ kept_same (λ p. is_of_unit p t n) a.units
-aborted s a i t n AbortKind.Device = ap targets
+aborted : (s : ScenarioValue) (a : Array) (i t m : ℕ) (what : AbortKind)
+    → targets (Steps.abort_step s a i t m what).units ≡ targets a.units
+aborted s a i t m AbortKind.All = kept_same (λ p. p.initiator == i && is_of_unit p t m) a.units
+aborted s a i t m (AbortKind.Tag tag) =
+    kept_same (λ p. p.initiator == i && is_of_unit p t m && has_tag p.tag tag) a.units
+aborted s a i t m AbortKind.WholeQueue = ap targets (cleared_units i
+    (Steps.unit_processes (unit_state_at a.units t m)) (Steps.without_dropped a (λ p. is_of_unit p t m)))
+    ∙ kept_same (λ p. is_of_unit p t m) a.units
+aborted s a i t m AbortKind.Device = ap targets
     (unit_reset_units s.hosts a.units (λ u. u.target == t) (record (Steps.without_dropped a (λ p. p.target == t)) {
       senses = Steps.kept_senses (λ r. r.target == t) a.senses;
       holds = Steps.kept_nexuses (λ r. r.target == t) a.holds;
@@ -167,8 +167,8 @@ step_same : (s : ScenarioValue) (a : Array) (event : Event) → IfSame (targets 
 step_same s a event = go (Steps.event_step s a event) (event_same s a event)
   where
     go : (o : Option Array) → IfSame (targets a.units) o → IfSame (targets a.units) (Steps.settled_array_if o)
-    go None k = tt
-    go (Some b) k = chosen_same b.holds b.units ∙ k
+    go None e = tt
+    go (Some b) e = chosen_same b.holds b.units ∙ e
 
 -- ---- rows
 
@@ -182,12 +182,12 @@ events_keep s o (event ∷ shown) h = go (array_after_events s o shown) (events_
   where
     next : (a : Array) (b : Option Array) → targets a.units ≡ targets (starting_array s).units
         → IfSame (targets a.units) b → Keeps s b
-    next a None h k = refl
-    next a (Some b) h k = k ∙ h
+    next a None h e = refl
+    next a (Some b) h e = e ∙ h
 
     go : (x : Option Array) → Keeps s x → Keeps s (array_step s event x)
-    go None k = k
-    go (Some a) k = next a (Steps.step s event a) k (step_same s a event)
+    go None e = e
+    go (Some a) e = next a (Steps.step s event a) e (step_same s a event)
 
 pub targets_kept : (s : ScenarioValue) (p : List Row)
     → targets (array_of s (run_state s p)).units ≡ targets (starting_array s).units

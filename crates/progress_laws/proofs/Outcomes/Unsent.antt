@@ -13,14 +13,14 @@ time_none t e = absurd cc
 
 -- None of them is open.
 abbrev pub NoneOpen : Sent → ℕ → List CmdDef → Type 0
-NoneOpen b n [] = ⊤
-NoneOpen b n (c ∷ commands) = (is_open b n ≡ false) × NoneOpen b (n + 1) commands
+NoneOpen b m [] = ⊤
+NoneOpen b m (c ∷ commands) = (is_open b m ≡ false) × NoneOpen b (m + 1) commands
 
 -- Those of this device were sent or given up.
 abbrev pub DoneBy : Sent → ℕ → ℕ → List CmdDef → Type 0
-DoneBy b dev n [] = ⊤
-DoneBy b dev n (c ∷ commands) =
-    ((c.host == dev) ≡ true → is_done b (command_item n) ≡ true) × DoneBy b dev (n + 1) commands
+DoneBy b dev m [] = ⊤
+DoneBy b dev m (c ∷ commands) =
+    ((c.host == dev) ≡ true → is_done b (command_item m) ≡ true) × DoneBy b dev (m + 1) commands
 
 -- ---- what is wanted
 
@@ -33,16 +33,16 @@ untimed : (q : Bool) (t : ℕ) → time_if q t ≡ None → q ≡ false
 untimed true t e = time_none t e
 untimed false t e = refl
 
-own_open : (b : Sent) (dev n : ℕ) (commands : List CmdDef) → NoneOpen b n commands
-    → open_in (own_commands b dev n commands) ≡ []
-own_open b dev n [] h = refl
-own_open b dev n (c ∷ commands) h = go (c.host == dev) (own_open b dev (n + 1) commands h.1)
+own_open : (b : Sent) (dev m : ℕ) (commands : List CmdDef) → NoneOpen b m commands
+    → open_in (own_commands b dev m commands) ≡ []
+own_open b dev m [] h = refl
+own_open b dev m (c ∷ commands) h = go (c.host == dev) (own_open b dev (m + 1) commands h.1)
   where
-    go : (q : Bool) → open_in (own_commands b dev (n + 1) commands) ≡ [] → open_in
-        (if q then own_command b n c ∷ own_commands b dev (n + 1) commands else own_commands b dev (n + 1) commands)
+    go : (q : Bool) → open_in (own_commands b dev (m + 1) commands) ≡ [] → open_in
+        (if q then own_command b m c ∷ own_commands b dev (m + 1) commands else own_commands b dev (m + 1) commands)
         ≡ []
-    go true more = ap (λ (o : Bool). if o then c ∷ open_in (own_commands b dev (n + 1) commands)
-        else open_in (own_commands b dev (n + 1) commands)) h.0
+    go true more = ap (λ (o : Bool). if o then c ∷ open_in (own_commands b dev (m + 1) commands)
+        else open_in (own_commands b dev (m + 1) commands)) h.0
         ∙ more
     go false more = more
 
@@ -56,19 +56,19 @@ first_done true most c rest some e = (refl, e)
 first_done false most c rest some e =
     wrong (sym (follows_none most c some) ∙ untimed (may_follow most c.at [] c) c.at e)
 
-done_by : (b : Sent) (dev most n : ℕ) (commands : List CmdDef) → 0 < most
-    → command_since most [] (own_commands b dev n commands) ≡ None → DoneBy b dev n commands
-done_by b dev most n [] some e = tt
-done_by b dev most n (c ∷ commands) some e = go (c.host == dev) (λ z. done_by b dev most (n + 1) commands some z) e
+done_by : (b : Sent) (dev most m : ℕ) (commands : List CmdDef) → 0 < most
+    → command_since most [] (own_commands b dev m commands) ≡ None → DoneBy b dev m commands
+done_by b dev most m [] some e = tt
+done_by b dev most m (c ∷ commands) some e = go (c.host == dev) (λ z. done_by b dev most (m + 1) commands some z) e
   where
     go : (q : Bool)
-        → (command_since most [] (own_commands b dev (n + 1) commands) ≡ None → DoneBy b dev (n + 1) commands)
+        → (command_since most [] (own_commands b dev (m + 1) commands) ≡ None → DoneBy b dev (m + 1) commands)
         → command_since most []
-        (if q then own_command b n c ∷ own_commands b dev (n + 1) commands else own_commands b dev (n + 1) commands)
-        ≡ None → (q ≡ true → is_done b (command_item n) ≡ true) × DoneBy b dev (n + 1) commands
+        (if q then own_command b m c ∷ own_commands b dev (m + 1) commands else own_commands b dev (m + 1) commands)
+        ≡ None → (q ≡ true → is_done b (command_item m) ≡ true) × DoneBy b dev (m + 1) commands
     go true more z =
-        let w = first_done (is_done b (command_item n)) most c
-        (command_since most [] (own_commands b dev (n + 1) commands)) some z in
+        let w = first_done (is_done b (command_item m)) most c
+        (command_since most [] (own_commands b dev (m + 1) commands)) some z in
         (λ _. w.0, more w.1)
     go false more z = (λ y. wrong (sym y), more z)
 

@@ -41,23 +41,23 @@ if_none f false a h = h
 pub accepted : (f : List Nexus → Type 0) (a : Array) (o : Option Process) → f a.holds
     → IfHolds f (Steps.accept_step a o)
 accepted f a None h = tt
-accepted f a (Some p) h = at (unit_state_at a.units p.target p.unit)
+accepted f a (Some c) h = at (unit_state_at a.units c.target c.unit)
   where
-    at : (u : Option UnitState) → IfHolds f (Steps.accept_step_at a p u)
+    at : (u : Option UnitState) → IfHolds f (Steps.accept_step_at a c u)
     at None = h
     at (Some u) =
-        elim (cases_Bool (is_request_sense (command_of p.cdb))) [
+        elim (cases_Bool (is_request_sense (command_of c.cdb))) [
           | inl e ↦ rw e h
           | inr e ↦ rw e (if_some f (nat_lt (Steps.process_count u) u.depth) _ h)
         ]
 
 pub refused : (f : List Nexus → Type 0) (a : Array) (o : Option Process) → f a.holds → IfHolds f (Steps.refuse_step a o)
 refused f a None h = tt
-refused f a (Some p) h = at (unit_state_at a.units p.target p.unit)
+refused f a (Some c) h = at (unit_state_at a.units c.target c.unit)
   where
-    at : (u : Option UnitState) → IfHolds f (Steps.refuse_step_at a p u)
+    at : (u : Option UnitState) → IfHolds f (Steps.refuse_step_at a c u)
     at None = tt
-    at (Some u) = if_some f (not (is_request_sense (command_of p.cdb)) && Steps.process_count u == u.depth) _ h
+    at (Some u) = if_some f (not (is_request_sense (command_of c.cdb)) && Steps.process_count u == u.depth) _ h
 
 pub run : (f : List Nexus → Type 0) (a : Array) (guest : Bool) (o : Option RunningProcess) → f a.holds
     → IfHolds f (Steps.run_step a guest o)
@@ -73,22 +73,22 @@ pub failed :
 failed f s a i reply (Some r) h = if_some f (is_none r.reply) _ h
 failed f s a i reply None h = new (process_of s i)
   where
-    new : (p : Option Process) → IfHolds f (Steps.fail_step_of_new a i reply p)
+    new : (c : Option Process) → IfHolds f (Steps.fail_step_of_new a i reply c)
     new None = tt
-    new (Some p) = if_none f (Steps.is_waiting a.units i || Steps.has_ended a i) _ h
+    new (Some c) = if_none f (Steps.is_waiting a.units i || Steps.has_ended a i) _ h
 
 -- ---- a process that is over
 
-pub other_over : (id : ProcId) (n : ℕ) → id.sense ≡ false → same_item (process id) (sense_item n) ≡ false
-other_over id n e = ap (λ (q : Bool). (id.command == n) && same_bool q true) e ∙ and_false (id.command == n)
+pub other_over : (id : ProcId) (m : ℕ) → id.sense ≡ false → same_item (process id) (sense_item m) ≡ false
+other_over id m e = ap (λ (q : Bool). (id.command == m) && same_bool q true) e ∙ and_false (id.command == m)
 
-own_last : (n : ℕ) (checks : List ℕ) → list_any (λ k. k == n) (checks ++ n ∷ []) ≡ true
-own_last n [] = ap (λ (q : Bool). q || false) (eq_self n)
-own_last n (c ∷ checks) = elim (cases_Bool (c == n)) [ inl e ↦ rw e | inr e ↦ rw e (own_last n checks) ]
+own_last : (m : ℕ) (checks : List ℕ) → list_any (λ k. k == m) (checks ++ m ∷ []) ≡ true
+own_last m [] = ap (λ (q : Bool). q || false) (eq_self m)
+own_last m (c ∷ checks) = elim (cases_Bool (c == m)) [ inl e ↦ rw e | inr e ↦ rw e (own_last m checks) ]
 
 -- What is owed for another stays so.
 owed_on : (s : ScenarioValue) (b c : Sent) (id : ProcId) (q : Nexus) (w : IsOwed s b q) → c.over ≡ process id ∷ b.over
-    → ((n : ℕ) → list_any (λ k. k == n) b.checks ≡ true → list_any (λ k. k == n) c.checks ≡ true)
+    → ((m : ℕ) → list_any (λ k. k == m) b.checks ≡ true → list_any (λ k. k == m) c.checks ≡ true)
     → same_item (process id) (sense_item w.number) ≡ false → IsOwed s c q
 owed_on s b c id q w over more apart = record {
   number = w.number;
@@ -115,41 +115,41 @@ pub running_own : (s : ScenarioValue) (a : Array) (i : ProcId) (r : RunningProce
 running_own s a i r sound e = ap (process_of s) (sym (running_id a i r e)) ∙ own_process s a i r sound e
 
 -- Its command, and its nexus.
-pub record OfCommand (s : ScenarioValue) (id : ProcId) (p : Process) : Type 0 where
+pub record OfCommand (s : ScenarioValue) (id : ProcId) (c : Process) : Type 0 where
   pub def : CmdDef
   pub def_is : command_at s.commands id.command ≡ Some def
-  pub host_is : def.host ≡ p.initiator
-  pub target_is : def.target ≡ p.target
-  pub unit_is : def.unit ≡ p.unit
-  pub fetches : id.sense ≡ true → is_request_sense (command_of p.cdb) ≡ true
+  pub host_is : def.host ≡ c.initiator
+  pub target_is : def.target ≡ c.target
+  pub unit_is : def.unit ≡ c.unit
+  pub fetches : id.sense ≡ true → is_request_sense (command_of c.cdb) ≡ true
 
-pub of_command : (s : ScenarioValue) (id : ProcId) (p : Process) → process_of s id ≡ Some p → OfCommand s id p
-of_command s id p e = go (command_at s.commands id.command) refl
+pub of_command : (s : ScenarioValue) (id : ProcId) (t : Process) → process_of s id ≡ Some t → OfCommand s id t
+of_command s id t e = go (command_at s.commands id.command) refl
   where
-    no_process : {A : Type 0} → (let o : Option Process = None in o) ≡ Some p → A
+    no_process : {A : Type 0} → (let o : Option Process = None in o) ≡ Some t → A
     no_process z = absurd cc
 
-    hosts : (q : Bool) (n : ℕ) (c : CmdDef) → c.host ≡ (process_by s (record { command = n; sense = q }) c).initiator
-    hosts true n c = refl
-    hosts false n c = refl
+    hosts : (q : Bool) (m : ℕ) (c : CmdDef) → c.host ≡ (process_by s (record { command = m; sense = q }) c).initiator
+    hosts true m c = refl
+    hosts false m c = refl
 
-    targets : (q : Bool) (n : ℕ) (c : CmdDef) → c.target ≡ (process_by s (record { command = n; sense = q }) c).target
-    targets true n c = refl
-    targets false n c = refl
+    targets : (q : Bool) (m : ℕ) (c : CmdDef) → c.target ≡ (process_by s (record { command = m; sense = q }) c).target
+    targets true m c = refl
+    targets false m c = refl
 
-    units : (q : Bool) (n : ℕ) (c : CmdDef) → c.unit ≡ (process_by s (record { command = n; sense = q }) c).unit
-    units true n c = refl
-    units false n c = refl
+    units : (q : Bool) (m : ℕ) (c : CmdDef) → c.unit ≡ (process_by s (record { command = m; sense = q }) c).unit
+    units true m c = refl
+    units false m c = refl
 
-    senses : (q : Bool) (n : ℕ) (c : CmdDef) → q ≡ true
-        → is_request_sense (command_of (process_by s (record { command = n; sense = q }) c).cdb) ≡ true
-    senses true n c z = refl
-    senses false n c z = wrong (sym z)
+    senses : (q : Bool) (m : ℕ) (c : CmdDef) → q ≡ true
+        → is_request_sense (command_of (process_by s (record { command = m; sense = q }) c).cdb) ≡ true
+    senses true m c z = refl
+    senses false m c z = wrong (sym z)
 
-    go : (o : Option CmdDef) → command_at s.commands id.command ≡ o → OfCommand s id p
+    go : (o : Option CmdDef) → command_at s.commands id.command ≡ o → OfCommand s id t
     go None z = no_process (sym (ap (process_if s id) z) ∙ e)
     go (Some c) z =
-        let same : process_by s id c ≡ p = same_Some (process_by s id c) p (sym (ap (process_if s id) z) ∙ e) in
+        let same : process_by s id c ≡ t = same_Some (process_by s id c) t (sym (ap (process_if s id) z) ∙ e) in
         record {
           def = c;
           def_is = z;
@@ -163,12 +163,12 @@ of_command s id p e = go (command_at s.commands id.command) refl
 -- ---- a process ends
 
 pub no_check : {A : Type 0} (status : ℕ) → (status == GOOD) ≡ true → (status == CHECK_CONDITION) ≡ true → A
-no_check status e f = wrong (sym (sym (ap (λ (n : ℕ). n == GOOD) (eqb-true status CHECK_CONDITION f)) ∙ e))
+no_check status e f = wrong (sym (sym (ap (λ (m : ℕ). m == GOOD) (eqb-true status CHECK_CONDITION f)) ∙ e))
 
 -- The process that ends is of the scenario, and its reply has this status.
 pub ended_so : (s : ScenarioValue) (f : List Nexus → Type 0) (a : Array) (id : ProcId) (status : ℕ) → IsSound s a
-    → ((p : Process) (reply : Reply) → OfCommand s id p → (reply.status == status) ≡ true
-    → f (Steps.after_status a p reply).holds) → IfHolds f (Steps.end_step a status (Steps.running_process a id))
+    → ((c : Process) (reply : Reply) → OfCommand s id c → (reply.status == status) ≡ true
+    → f (Steps.after_status a c reply).holds) → IfHolds f (Steps.end_step a status (Steps.running_process a id))
 ended_so s f a id status sound h = go (Steps.running_process a id) refl
   where
     reply_by : (r : RunningProcess) → OfCommand s id r.process
@@ -201,13 +201,13 @@ ended s b a id status sound well h = ended_so s (λ holds. AreOwed s c holds) a 
         by true = refl
         by false = refl
 
-    more : (n : ℕ) → list_any (λ k. k == n) b.sent.checks ≡ true → list_any (λ k. k == n) c.checks ≡ true
-    more n z = by (not id.sense && status == CHECK_CONDITION)
+    more : (m : ℕ) → list_any (λ k. k == m) b.sent.checks ≡ true → list_any (λ k. k == m) c.checks ≡ true
+    more m z = by (not id.sense && status == CHECK_CONDITION)
       where
-        by : (q : Bool) → list_any (λ k. k == n)
+        by : (q : Bool) → list_any (λ k. k == m)
             (if q then record ends { sent = record ends.sent { checks = ends.sent.checks ++ id.command ∷ [] } }
             else ends).sent.checks ≡ true
-        by true = later n b.sent.checks (id.command ∷ []) z
+        by true = later m b.sent.checks (id.command ∷ []) z
         by false = z
 
     checked : id.sense ≡ false → (status == CHECK_CONDITION) ≡ true → list_any (λ k. k == id.command) c.checks ≡ true
@@ -218,41 +218,41 @@ ended s b a id status sound well h = ended_so s (λ holds. AreOwed s c holds) a 
     others : id.sense ≡ false → (q : Nexus) → IsOwed s b.sent q → IsOwed s c q
     others e q w = owed_on s b.sent c id q w over more (other_over id w.number e)
 
-    apart : (p : Process) → OfCommand s id p → (q : Nexus) → same_nexus q (nexus_of p) ≡ false → IsOwed s b.sent q
+    apart : (y : Process) → OfCommand s id y → (q : Nexus) → same_nexus q (nexus_of y) ≡ false → IsOwed s b.sent q
         → IsOwed s c q
-    apart p of q ne w = owed_on s b.sent c id q w over more (by (id.command == w.number) refl)
+    apart y of q ne w = owed_on s b.sent c id q w over more (by (id.command == w.number) refl)
       where
         by : (x : Bool) → (id.command == w.number) ≡ x → same_item (process id) (sense_item w.number) ≡ false
         by false z = ap (λ (x : Bool). x && same_bool id.sense true) z
         by true z =
             let same : w.def ≡ of.def = same_Some w.def of.def
             (sym w.def_is ∙ ap (command_at s.commands) (sym (eqb-true id.command w.number z)) ∙ of.def_is) in
-            let host : q.initiator ≡ (nexus_of p).initiator = sym w.host_is
+            let host : q.initiator ≡ (nexus_of y).initiator = sym w.host_is
             ∙ ap (λ (x : CmdDef). x.host) same ∙ of.host_is in
-            let target : q.target ≡ (nexus_of p).target = sym w.target_is
+            let target : q.target ≡ (nexus_of y).target = sym w.target_is
             ∙ ap (λ (x : CmdDef). x.target) same ∙ of.target_is in
-            let unit : q.unit ≡ (nexus_of p).unit = sym w.unit_is ∙ ap (λ (x : CmdDef). x.unit) same ∙ of.unit_is in
-            wrong (sym ((λ i. (host i == p.initiator) && ((target i == p.target) && (unit i == p.unit)))
-            ∙ (λ i. eq_self p.initiator i && (eq_self p.target i && eq_self p.unit i))) ∙ ne)
+            let unit : q.unit ≡ (nexus_of y).unit = sym w.unit_is ∙ ap (λ (x : CmdDef). x.unit) same ∙ of.unit_is in
+            wrong (sym ((λ i. (host i == y.initiator) && ((target i == y.target) && (unit i == y.unit)))
+            ∙ (λ i. eq_self y.initiator i && (eq_self y.target i && eq_self y.unit i))) ∙ ne)
 
-    after : (p : Process) (reply : Reply) → OfCommand s id p → (reply.status == status) ≡ true
-        → AreOwed s c (Steps.after_status a p reply).holds
-    after p reply of z = by (reply.status == CHECK_CONDITION) refl
-        (reply.status == GOOD && is_request_sense (command_of p.cdb)) refl id.sense refl
+    after : (y : Process) (reply : Reply) → OfCommand s id y → (reply.status == status) ≡ true
+        → AreOwed s c (Steps.after_status a y reply).holds
+    after y reply of z = by (reply.status == CHECK_CONDITION) refl
+        (reply.status == GOOD && is_request_sense (command_of y.cdb)) refl id.sense refl
       where
         same : reply.status ≡ status
         same = eqb-true reply.status status z
 
         by : (q : Bool) → (reply.status == CHECK_CONDITION) ≡ q
-            → (t : Bool) → (reply.status == GOOD && is_request_sense (command_of p.cdb)) ≡ t → (x : Bool) → id.sense ≡ x
+            → (t : Bool) → (reply.status == GOOD && is_request_sense (command_of y.cdb)) ≡ t → (x : Bool) → id.sense ≡ x
             → AreOwed s c (if q then record a {
-              senses = (nexus_of p, reply.sense) ∷ senses_without a.senses (nexus_of p);
-              holds = nexus_of p ∷ nexuses_without a.holds (nexus_of p);
+              senses = (nexus_of y, reply.sense) ∷ senses_without a.senses (nexus_of y);
+              holds = nexus_of y ∷ nexuses_without a.holds (nexus_of y);
             } else if t then record a {
-              senses = senses_without a.senses (nexus_of p);
-              holds = nexuses_without a.holds (nexus_of p);
+              senses = senses_without a.senses (nexus_of y);
+              holds = nexuses_without a.holds (nexus_of y);
             } else a).holds
-        by true f t g true e = no_check status (well.0 e) (ap (λ (n : ℕ). n == CHECK_CONDITION) (sym same) ∙ f)
+        by true f t g true e = no_check status (well.0 e) (ap (λ (m : ℕ). m == CHECK_CONDITION) (sym same) ∙ f)
         by true f t g false e = (
           record {
             number = id.command;
@@ -261,16 +261,16 @@ ended s b a id status sound well h = ended_so s (λ holds. AreOwed s c holds) a 
             host_is = of.host_is;
             target_is = of.target_is;
             unit_is = of.unit_is;
-            checked = checked e (ap (λ (n : ℕ). n == CHECK_CONDITION) (sym same) ∙ f);
+            checked = checked e (ap (λ (m : ℕ). m == CHECK_CONDITION) (sym same) ∙ f);
             opens = ap (λ (x : List Item). has_item x (sense_item id.command)) over
                 ∙ or_from (same_item (process id) (sense_item id.command))
                 (has_item b.sent.over (sense_item id.command)) (other_over id id.command e) (well.1 e);
           },
-          owed_without s b.sent c a.holds (nexus_of p) (λ q ne w. apart p of q ne w) h,
+          owed_without s b.sent c a.holds (nexus_of y) (λ q ne w. apart y of q ne w) h,
         )
-        by false f true g x e = owed_without s b.sent c a.holds (nexus_of p) (λ q ne w. apart p of q ne w) h
+        by false f true g x e = owed_without s b.sent c a.holds (nexus_of y) (λ q ne w. apart y of q ne w) h
         by false f false g true e =
-            wrong (sym (λ i. (ap (λ (n : ℕ). n == GOOD) same ∙ well.0 e) i && of.fetches e i) ∙ g)
+            wrong (sym (λ i. (ap (λ (m : ℕ). m == GOOD) same ∙ well.0 e) i && of.fetches e i) ∙ g)
         by false f false g false e = owed_all s b.sent c a.holds (λ q w. others e q w) h
 
 -- ---- any event
@@ -290,8 +290,8 @@ event_owes s b a (Event.Reset dev) sound well h = reset_owes s (story_after_even
 
 -- The choices change no hold.
 pub if_settled : (f : List Nexus → Type 0) (o : Option Array) → IfHolds f o → IfHolds f (Steps.settled_array_if o)
-if_settled f None k = tt
-if_settled f (Some x) k = k
+if_settled f None e = tt
+if_settled f (Some x) e = e
 
 pub step_owes : (s : ScenarioValue) (b : Story) (a : Array) (event : Event) → IsSound s a → EndsWell b event
     → AreOwed s b.sent a.holds → IfOwed s (story_after_event s b event).sent (Steps.step s event a)

@@ -15,7 +15,7 @@ use proofs.{Owed.{Events.{EndsWell, IfOwed, other_over, step_owes}, Steps.{owed_
 
 pub record Holds (b c : Sent) : Type 0 where
   pub checks : c.checks ≡ b.checks
-  pub over : (n : ℕ) → has_item b.over (sense_item n) ≡ false → has_item c.over (sense_item n) ≡ false
+  pub over : (m : ℕ) → has_item b.over (sense_item m) ≡ false → has_item c.over (sense_item m) ≡ false
 
 same : (b c : Sent) → c ≡ b → Holds b c
 same b c e = record {
@@ -47,13 +47,13 @@ tried s b dev (Some item) =
 
 called : (s : ScenarioValue) (b : Story) (call : Option Call) → Holds b.sent (story_after_calling s b call).sent
 called s b None = same b.sent b.sent refl
-called s b (Some k) = by k.calling
+called s b (Some c) = by c.calling
   where
-    by : (g : Option Calling) → Holds b.sent (story_after_calling_by s b k.caller g).sent
+    by : (g : Option Calling) → Holds b.sent (story_after_calling_by s b c.caller g).sent
     by None = same b.sent b.sent refl
     by (Some g) =
         elim (cases_Bool (is_none g.answered && not g.reselects)) [
-          | inl e ↦ rw e (tried s b k.caller (aim_of b.aims k.caller))
+          | inl e ↦ rw e (tried s b c.caller (aim_of b.aims c.caller))
           | inr e ↦ rw e (same b.sent b.sent refl)
         ]
 
@@ -115,9 +115,9 @@ record Keeps (s : ScenarioValue) (c : Sent) (o : Option Array) : Type 0 where
 
 events_owe : (s : ScenarioValue) (b : Story) (o : Option Array) (shown : List Event) → HasSeats s → AllEndWell s b shown
     → Keeps s b.sent o → Keeps s (story_after_events s b shown).sent (array_after_events s o shown)
-events_owe s b o [] seats well k = k
-events_owe s b o (event ∷ shown) seats well k =
-    go (array_after_events s o shown) (events_owe s b o shown seats well.1 k)
+events_owe s b o [] seats well e = e
+events_owe s b o (event ∷ shown) seats well e =
+    go (array_after_events s o shown) (events_owe s b o shown seats well.1 e)
   where
     was : Story
     was = story_after_events s b shown

@@ -40,52 +40,52 @@ owed_kept s b c drops (q ∷ holds) f h =
 
 -- ---- an abort, or RST
 
-pub command_apart : (n m : ℕ) → same_item (command_item n) (sense_item m) ≡ false
-command_apart n m = elim (cases_Bool (n == m)) [ inl e ↦ rw e | inr e ↦ rw e ]
+pub command_apart : (i m : ℕ) → same_item (command_item i) (sense_item m) ≡ false
+command_apart i m = elim (cases_Bool (i == m)) [ inl e ↦ rw e | inr e ↦ rw e ]
 
 -- The REQUEST SENSE of a command that the test does not stop is not over by it.
-sense_leaves : (drops stops : CmdDef → Bool) (e : Ending) (j : ℕ) (all commands : List CmdDef) (b : Story) (m : ℕ)
-    → ((k : ℕ) → command_at commands (suc k) ≡ command_at all (suc (j + k)))
+sense_leaves : (drops stops : CmdDef → Bool) (e : Ending) (i : ℕ) (all commands : List CmdDef) (b : Story) (m : ℕ)
+    → ((l : ℕ) → command_at commands (suc l) ≡ command_at all (suc (i + l)))
     → ((c : CmdDef) → command_at all m ≡ Some c → stops c ≡ false) → has_item b.sent.over (sense_item m) ≡ false
-    → has_item (story_with_ends drops stops e (suc j) commands b).sent.over (sense_item m) ≡ false
-sense_leaves drops stops e j all [] b m h keep o = o
-sense_leaves drops stops e j all (c ∷ commands) b m h keep o =
+    → has_item (story_with_ends drops stops e (suc i) commands b).sent.over (sense_item m) ≡ false
+sense_leaves drops stops e i all [] b m h keep o = o
+sense_leaves drops stops e i all (c ∷ commands) b m h keep o =
     let next : Story =
-    if is_open b.sent (suc j) && drops c then story_with_end b (record { command = suc j; sense = false }) e
-    else if stops c && list_any (λ k. k == suc j) b.sent.checks then story_with_over b (sense_item (suc j)) else b in
-    ap (λ (n : ℕ). has_item (story_with_ends drops stops e n commands next).sent.over (sense_item m)) (sym one_more)
-    ∙ sense_leaves drops stops e (suc j) all commands next m
-    (λ k. h (suc k) ∙ ap (λ (n : ℕ). command_at all (suc n)) (moved k)) keep
-    (go (is_open b.sent (suc j) && drops c) (stops c && list_any (λ k. k == suc j) b.sent.checks) refl)
+    if is_open b.sent (suc i) && drops c then story_with_end b (record { command = suc i; sense = false }) e
+    else if stops c && list_any (λ l. l == suc i) b.sent.checks then story_with_over b (sense_item (suc i)) else b in
+    ap (λ (w : ℕ). has_item (story_with_ends drops stops e w commands next).sent.over (sense_item m)) (sym one_more)
+    ∙ sense_leaves drops stops e (suc i) all commands next m
+    (λ l. h (suc l) ∙ ap (λ (w : ℕ). command_at all (suc w)) (moved l)) keep
+    (go (is_open b.sent (suc i) && drops c) (stops c && list_any (λ l. l == suc i) b.sent.checks) refl)
   where
-    one_more : suc (suc j) ≡ suc j + 1
+    one_more : suc (suc i) ≡ suc i + 1
     one_more = omega arith
 
-    moved : (k : ℕ) → j + suc k ≡ suc j + k
-    moved k = omega arith
+    moved : (l : ℕ) → i + suc l ≡ suc i + l
+    moved l = omega arith
 
-    same : j + 0 ≡ j
+    same : i + 0 ≡ i
     same = omega arith
 
-    here : command_at all (suc j) ≡ Some c
-    here = ap (λ (n : ℕ). command_at all (suc n)) (sym same) ∙ sym (h 0)
+    here : command_at all (suc i) ≡ Some c
+    here = ap (λ (w : ℕ). command_at all (suc w)) (sym same) ∙ sym (h 0)
 
-    apart : (q : Bool) → (suc j == m) ≡ q → stops c ≡ true → (suc j == m) ≡ false
+    apart : (q : Bool) → (suc i == m) ≡ q → stops c ≡ true → (suc i == m) ≡ false
     apart false z d = z
-    apart true z d = wrong (sym d ∙ keep c (ap (command_at all) (sym (eqb-true (suc j) m z)) ∙ here))
+    apart true z d = wrong (sym d ∙ keep c (ap (command_at all) (sym (eqb-true (suc i) m z)) ∙ here))
 
-    go : (q r : Bool) → (stops c && list_any (λ k. k == suc j) b.sent.checks) ≡ r
-        → has_item (if q then story_with_end b (record { command = suc j; sense = false }) e
-        else if r then story_with_over b (sense_item (suc j)) else b).sent.over (sense_item m) ≡ false
-    go true r z = or_from (same_item (command_item (suc j)) (sense_item m)) (has_item b.sent.over (sense_item m))
-        (command_apart (suc j) m) o
-    go false true z = or_from (same_item (sense_item (suc j)) (sense_item m))
-        (has_item b.sent.over (sense_item m)) (and_true (suc j == m)
-        ∙ apart (suc j == m) refl (and_first (stops c) (list_any (λ k. k == suc j) b.sent.checks) z)) o
+    go : (q r : Bool) → (stops c && list_any (λ l. l == suc i) b.sent.checks) ≡ r
+        → has_item (if q then story_with_end b (record { command = suc i; sense = false }) e
+        else if r then story_with_over b (sense_item (suc i)) else b).sent.over (sense_item m) ≡ false
+    go true r z = or_from (same_item (command_item (suc i)) (sense_item m)) (has_item b.sent.over (sense_item m))
+        (command_apart (suc i) m) o
+    go false true z = or_from (same_item (sense_item (suc i)) (sense_item m))
+        (has_item b.sent.over (sense_item m)) (and_true (suc i == m)
+        ∙ apart (suc i == m) refl (and_first (stops c) (list_any (λ l. l == suc i) b.sent.checks) z)) o
     go false false z = o
 
-none_more : (k : ℕ) → k ≡ 0 + k
-none_more k = omega arith
+none_more : (m : ℕ) → m ≡ 0 + m
+none_more m = omega arith
 
 -- What is owed for a command that the test does not stop stays so.
 still_owed :
@@ -105,26 +105,26 @@ still_owed s drops stops e b q w keep = record {
 }
 
 abbrev pub nexus_at : ℕ → ℕ → ℕ → Nexus
-nexus_at i t n = record { initiator = i; target = t; unit = n }
+nexus_at i t m = record { initiator = i; target = t; unit = m }
 
 pub cleared_holds : (i : ℕ) (lost : List Process) (a : Array) → (Steps.cleared_attentions i lost a).holds ≡ a.holds
 cleared_holds i [] a = refl
-cleared_holds i (p ∷ lost) a =
-    cleared_holds i lost (if p.initiator == i then a else Steps.cleared_attention a (nexus_of p))
-    ∙ go (p.initiator == i)
+cleared_holds i (c ∷ lost) a =
+    cleared_holds i lost (if c.initiator == i then a else Steps.cleared_attention a (nexus_of c))
+    ∙ go (c.initiator == i)
   where
     one : (q : Bool) (x : Array) → x.holds ≡ a.holds → (if q then a else x).holds ≡ a.holds
     one true x e = refl
     one false x e = e
 
-    go : (q : Bool) → (if q then a else Steps.cleared_attention a (nexus_of p)).holds ≡ a.holds
+    go : (q : Bool) → (if q then a else Steps.cleared_attention a (nexus_of c)).holds ≡ a.holds
     go true = refl
     go false = one _ _ refl
 
-reset_holds : (hosts : List HostDef) (t n : ℕ) (a : Array) → (Steps.reset_attentions hosts t n a).holds ≡ a.holds
-reset_holds [] t n a = refl
-reset_holds (h ∷ hosts) t n a =
-    reset_holds hosts t n (Steps.reset_attention a (record { initiator = h.dev; target = t; unit = n }))
+reset_holds : (hosts : List HostDef) (t m : ℕ) (a : Array) → (Steps.reset_attentions hosts t m a).holds ≡ a.holds
+reset_holds [] t m a = refl
+reset_holds (h ∷ hosts) t m a =
+    reset_holds hosts t m (Steps.reset_attention a (record { initiator = h.dev; target = t; unit = m }))
 
 pub all_reset_holds : (hosts : List HostDef) (units : List UnitState) (is_one : UnitState → Bool) (a : Array)
     → (Steps.unit_reset_attentions hosts units is_one a).holds ≡ a.holds
@@ -137,27 +137,27 @@ all_reset_holds hosts (u ∷ units) is_one a =
     go true = reset_holds hosts u.target u.unit a
     go false = refl
 
-pub aborts_owe : (s : ScenarioValue) (b : Story) (a : Array) (i t n : ℕ) (what : AbortKind) → AreOwed s b.sent a.holds
-    → AreOwed s (story_with_ends (is_aborted i t n what) (is_sense_stopped i t n what) by_abort 1 s.commands b).sent
-    (Steps.abort_step s a i t n what).holds
-aborts_owe s b a i t n AbortKind.All h = owed_without s b.sent _ a.holds (nexus_at i t n)
-    (λ q ne w. still_owed s (is_aborted i t n AbortKind.All) (is_sense_stopped i t n AbortKind.All) by_abort b q w
-    ((λ j. (w.host_is j == i) && ((w.target_is j == t) && (w.unit_is j == n))) ∙ ne)) h
-aborts_owe s b a i t n (AbortKind.Tag tag) h = owed_all s b.sent _ a.holds (λ q w. still_owed s
-    (is_aborted i t n (AbortKind.Tag tag)) (is_sense_stopped i t n (AbortKind.Tag tag)) by_abort b q w refl) h
-aborts_owe s b a i t n AbortKind.WholeQueue h = subst
-    (λ (x : List Nexus). AreOwed s (story_with_ends (is_aborted i t n AbortKind.WholeQueue)
-    (is_sense_stopped i t n AbortKind.WholeQueue) by_abort 1 s.commands b).sent x) (sym (cleared_holds i
-    (Steps.unit_processes (unit_state_at a.units t n)) (Steps.without_dropped a (λ p. Steps.is_of_unit p t n))))
-    (owed_all s b.sent _ a.holds (λ q w. still_owed s (is_aborted i t n AbortKind.WholeQueue)
-    (is_sense_stopped i t n AbortKind.WholeQueue) by_abort b q w refl) h)
-aborts_owe s b a i t n AbortKind.Device h = subst (λ (x : List Nexus). AreOwed s (story_with_ends
-    (is_aborted i t n AbortKind.Device) (is_sense_stopped i t n AbortKind.Device) by_abort 1 s.commands b).sent x)
+pub aborts_owe : (s : ScenarioValue) (b : Story) (a : Array) (i t m : ℕ) (what : AbortKind) → AreOwed s b.sent a.holds
+    → AreOwed s (story_with_ends (is_aborted i t m what) (is_sense_stopped i t m what) by_abort 1 s.commands b).sent
+    (Steps.abort_step s a i t m what).holds
+aborts_owe s b a i t m AbortKind.All h = owed_without s b.sent _ a.holds (nexus_at i t m)
+    (λ q ne w. still_owed s (is_aborted i t m AbortKind.All) (is_sense_stopped i t m AbortKind.All) by_abort b q w
+    ((λ j. (w.host_is j == i) && ((w.target_is j == t) && (w.unit_is j == m))) ∙ ne)) h
+aborts_owe s b a i t m (AbortKind.Tag tag) h = owed_all s b.sent _ a.holds (λ q w. still_owed s
+    (is_aborted i t m (AbortKind.Tag tag)) (is_sense_stopped i t m (AbortKind.Tag tag)) by_abort b q w refl) h
+aborts_owe s b a i t m AbortKind.WholeQueue h = subst
+    (λ (x : List Nexus). AreOwed s (story_with_ends (is_aborted i t m AbortKind.WholeQueue)
+    (is_sense_stopped i t m AbortKind.WholeQueue) by_abort 1 s.commands b).sent x) (sym (cleared_holds i
+    (Steps.unit_processes (unit_state_at a.units t m)) (Steps.without_dropped a (λ p. Steps.is_of_unit p t m))))
+    (owed_all s b.sent _ a.holds (λ q w. still_owed s (is_aborted i t m AbortKind.WholeQueue)
+    (is_sense_stopped i t m AbortKind.WholeQueue) by_abort b q w refl) h)
+aborts_owe s b a i t m AbortKind.Device h = subst (λ (x : List Nexus). AreOwed s (story_with_ends
+    (is_aborted i t m AbortKind.Device) (is_sense_stopped i t m AbortKind.Device) by_abort 1 s.commands b).sent x)
     (sym (all_reset_holds s.hosts a.units (λ u. u.target == t) (record (Steps.without_dropped a (λ p. p.target == t)) {
       senses = Steps.kept_senses (λ r. r.target == t) a.senses;
       holds = Steps.kept_nexuses (λ r. r.target == t) a.holds;
-    }))) (owed_kept s b.sent _ (λ q. q.target == t) a.holds (λ q ne w. still_owed s (is_aborted i t n AbortKind.Device)
-    (is_sense_stopped i t n AbortKind.Device) by_abort b q w (ap (λ (x : ℕ). x == t) w.target_is ∙ ne)) h)
+    }))) (owed_kept s b.sent _ (λ q. q.target == t) a.holds (λ q ne w. still_owed s (is_aborted i t m AbortKind.Device)
+    (is_sense_stopped i t m AbortKind.Device) by_abort b q w (ap (λ (x : ℕ). x == t) w.target_is ∙ ne)) h)
 
 pub reset_owes : (s : ScenarioValue) (b : Story) (a : Array) → AreOwed s b.sent (Steps.reset_step s a).holds
 reset_owes s b a = subst (λ (x : List Nexus). AreOwed s b.sent x) (sym (all_reset_holds s.hosts a.units (λ u. true)

@@ -9,55 +9,55 @@ use proofs.Names.{Closes, HasPlaces, IsTaken, PlacedBefore, PlacedIf, PlacedIn, 
 use proofs.{Names.{lost_over, IsEndAsked, free_shown}, Queues.{Over.{EndedOver}, Rows.{open_over}}}
 
 -- What is lost is over.
-lost_closed : {A : Type 0} (s : ScenarioValue) (k : RunState) (row : Row) (l : Link) (n : ℕ) → k.story.link ≡ Some l
+lost_closed : {A : Type 0} (s : ScenarioValue) (k : RunState) (row : Row) (l : Link) (m : ℕ) → k.story.link ≡ Some l
     → (row_reading k.story.bus_state row).change.after.rst ≡ false → (row_reading k.story.bus_state row).next ≡ None
-    → l.last ≡ plain → l.item ≡ Some (command_item n) → is_open (run_state_after s k row).story.sent n ≡ true → A
-lost_closed s k row l n link calm none last item e = open_over
-    (story_after_events s b (Event.Lost (command_id n) ∷ [])).sent n
-    (ap (λ (x : List Event). is_open (story_after_events s b x).sent n) (sym shown) ∙ e) (lost_over s b (command_id n))
+    → l.last ≡ plain → l.item ≡ Some (command_item m) → is_open (run_state_after s k row).story.sent m ≡ true → A
+lost_closed s k row l m link calm none last item e = open_over
+    (story_after_events s b (Event.Lost (command_id m) ∷ [])).sent m
+    (ap (λ (x : List Event). is_open (story_after_events s b x).sent m) (sym shown) ∙ e) (lost_over s b (command_id m))
   where
     b : Story
     b = story_by_change s k.story (row_reading k.story.bus_state row) row
 
-    shown : row_events_by s k.story (row_reading k.story.bus_state row) row ≡ Event.Lost (command_id n) ∷ []
+    shown : row_events_by s k.story (row_reading k.story.bus_state row) row ≡ Event.Lost (command_id m) ∷ []
     shown = free_shown s k row l link calm none ∙ (λ i. bus_free_events s l (last i)) ∙ (λ i. item_loss_events (item i))
 
-pub left_calm : (s : ScenarioValue) (k : RunState) (row : Row) (m : Connection) (l : Link) (n : ℕ) (p : Process)
+pub left_calm : (s : ScenarioValue) (k : RunState) (row : Row) (m : Connection) (l : Link) (i : ℕ) (c : Process)
     → (h : HasPlaces s k) → k.story.bus_state.connection ≡ Some m → (bus_of k).rst ≡ false → k.exchange.begun ≡ true
-    → k.served ≡ Some (command_item n) → process_served s k ≡ Some p → p.id ≡ command_id n → k.story.link ≡ Some l
+    → k.served ≡ Some (command_item i) → process_served s k ≡ Some c → c.id ≡ command_id i → k.story.link ≡ Some l
     → (row_reading k.story.bus_state row).change.after.rst ≡ false → (row_reading k.story.bus_state row).next ≡ None
-    → IsEndAsked k l h.array → EndedOver k h.array → is_open k.story.sent n ≡ true
-    → is_open (run_state_after s k row).story.sent n ≡ true → is_queued h.array.units (command_id n) ≡ true
-left_calm s k row m l n p h con off begun served is own link calm none asked over was e = go (phase_of (bus_of k)) refl
+    → IsEndAsked k l h.array → EndedOver k h.array → is_open k.story.sent i ≡ true
+    → is_open (run_state_after s k row).story.sent i ≡ true → is_queued h.array.units (command_id i) ≡ true
+left_calm s k row m l i c h con off begun served is own link calm none asked over was e = go (phase_of (bus_of k)) refl
   where
-    placed : PlacedIn h.array p k.exchange.plan k.handshakes (bus_of k).atn (phase_of (bus_of k))
-    placed = subst (λ (q : Bool). PlacedIf q h.array p k.exchange.plan k.handshakes (bus_of k).atn
-        (phase_of (bus_of k))) begun (h.placed m con off p is)
+    placed : PlacedIn h.array c k.exchange.plan k.handshakes (bus_of k).atn (phase_of (bus_of k))
+    placed = subst (λ (q : Bool). PlacedIf q h.array c k.exchange.plan k.handshakes (bus_of k).atn
+        (phase_of (bus_of k))) begun (h.placed m con off c is)
 
     Left : Type 0
-    Left = is_queued h.array.units (command_id n) ≡ true
+    Left = is_queued h.array.units (command_id i) ≡ true
 
     lost : (phase_of (bus_of k) ≡ Phase.MessageIn → ⊥) → Left
-    lost f = lost_closed s k row l n link calm none (asked.lost (command_id n) served f)
-        (asked.named (command_id n) served) e
+    lost f = lost_closed s k row l i link calm none (asked.lost (command_id i) served f)
+        (asked.named (command_id i) served) e
 
     taken : phase_of (bus_of k) ≡ Phase.MessageIn → k.exchange.plan.messages ≡ one_message MsgIn.CommandComplete → Left
-    taken here says = open_over k.story.sent n was (over (command_id n) (asked.taken (command_id n) served here says))
+    taken here says = open_over k.story.sent i was (over (command_id i) (asked.taken (command_id i) served here says))
 
-    closes : phase_of (bus_of k) ≡ Phase.MessageIn → Closes h.array p k.exchange.plan.messages → Left
+    closes : phase_of (bus_of k) ≡ Phase.MessageIn → Closes h.array c k.exchange.plan.messages → Left
     closes here (completes says answered) = taken here says
     closes here (disconnects tells rests opens queued) = ap (is_queued h.array.units) (sym own) ∙ queued
 
-    by : phase_of (bus_of k) ≡ Phase.MessageIn → (PlacedBefore h.array p k.exchange.plan.messages k.exchange.plan.next)
-        ⊎ (IsTaken h.array p k.exchange.plan k.handshakes (bus_of k).atn)
+    by : phase_of (bus_of k) ≡ Phase.MessageIn → (PlacedBefore h.array c k.exchange.plan.messages k.exchange.plan.next)
+        ⊎ (IsTaken h.array c k.exchange.plan k.handshakes (bus_of k).atn)
         → Left
     by here (inl z) = closes here
-        (subst (λ x. PlacedBefore h.array p k.exchange.plan.messages x) (asked.next (command_id n) served here) z)
+        (subst (λ x. PlacedBefore h.array c k.exchange.plan.messages x) (asked.next (command_id i) served here) z)
     by here (inr z) = taken here z.messages_are
 
     go : (x : Phase) → phase_of (bus_of k) ≡ x → Left
     go Phase.MessageIn z =
-        by z (subst (λ (x : Phase). PlacedIn h.array p k.exchange.plan k.handshakes (bus_of k).atn x) z placed)
+        by z (subst (λ (x : Phase). PlacedIn h.array c k.exchange.plan k.handshakes (bus_of k).atn x) z placed)
     go Phase.MessageOut z = lost (λ y. no_out (sym z ∙ y))
       where
         no_out : Phase.MessageOut ≡ Phase.MessageIn → ⊥

@@ -15,11 +15,11 @@ use Rattle.trace_laws.specs.book_laws.specs.Traces.{apart}
 -- ---- as a connection ends
 
 -- A command that is open after a row of a connection was open before it.
-was_open : (s : ScenarioValue) (k : RunState) (row : Row) (m : Connection) (n : ℕ)
-    → k.story.bus_state.connection ≡ Some m → is_open (run_state_after s k row).story.sent n ≡ true
-    → is_open k.story.sent n ≡ true
-was_open s k row m n con e = by (open_before s k d row n
-    (let g = events_grow s b shown in fewer_open b.sent (story_after_events s b shown).sent n g.sent g.over e))
+was_open : (s : ScenarioValue) (k : RunState) (row : Row) (m : Connection) (i : ℕ)
+    → k.story.bus_state.connection ≡ Some m → is_open (run_state_after s k row).story.sent i ≡ true
+    → is_open k.story.sent i ≡ true
+was_open s k row m i con e = by (open_before s k d row i
+    (let g = events_grow s b shown in fewer_open b.sent (story_after_events s b shown).sent i g.sent g.over e))
   where
     d : RowReading
     d = row_reading k.story.bus_state row
@@ -30,7 +30,7 @@ was_open s k row m n con e = by (open_before s k d row n
     shown : List Event
     shown = row_events_by s k.story d row
 
-    by : WasOpen k d n → is_open k.story.sent n ≡ true
+    by : WasOpen k d i → is_open k.story.sent i ≡ true
     by (before z) = z
     by (begins_new x none next new aim) = some_none m (sym con ∙ none)
 

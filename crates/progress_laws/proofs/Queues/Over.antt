@@ -35,30 +35,30 @@ if_none b false a h = h
 
 accepted : (b : Story) (a : Array) (o : Option Process) → AllOver b a.ended → IfOver b (Steps.accept_step a o)
 accepted b a None h = tt
-accepted b a (Some p) h = at (unit_state_at a.units p.target p.unit)
+accepted b a (Some c) h = at (unit_state_at a.units c.target c.unit)
   where
-    at : (u : Option UnitState) → IfOver b (Steps.accept_step_at a p u)
+    at : (u : Option UnitState) → IfOver b (Steps.accept_step_at a c u)
     at None = h
     at (Some u) =
-        elim (cases_Bool (is_request_sense (command_of p.cdb))) [
+        elim (cases_Bool (is_request_sense (command_of c.cdb))) [
           | inl e ↦ rw e h
           | inr e ↦ rw e (if_some b (nat_lt (Steps.process_count u) u.depth) _ h)
         ]
 
 refused : (b : Story) (a : Array) (o : Option Process) → AllOver b a.ended → IfOver b (Steps.refuse_step a o)
 refused b a None h = tt
-refused b a (Some p) h = at (unit_state_at a.units p.target p.unit)
+refused b a (Some c) h = at (unit_state_at a.units c.target c.unit)
   where
-    at : (u : Option UnitState) → IfOver b (Steps.refuse_step_at a p u)
+    at : (u : Option UnitState) → IfOver b (Steps.refuse_step_at a c u)
     at None = tt
-    at (Some u) = if_some b (not (is_request_sense (command_of p.cdb)) && Steps.process_count u == u.depth) _ h
+    at (Some u) = if_some b (not (is_request_sense (command_of c.cdb)) && Steps.process_count u == u.depth) _ h
 
-executed : (a : Array) (p : Process) (u : Option UnitState) (done : Execution)
-    → (Steps.after_execution a p u done).ended ≡ a.ended
-executed a p u done = go done.reported u
+executed : (a : Array) (c : Process) (u : Option UnitState) (done : Execution)
+    → (Steps.after_execution a c u done).ended ≡ a.ended
+executed a c u done = go done.reported u
   where
     go : (q : Bool) (o : Option UnitState)
-        → (Steps.with_contents (Steps.without_attention a q (nexus_of p)) o done.contents).ended ≡ a.ended
+        → (Steps.with_contents (Steps.without_attention a q (nexus_of c)) o done.contents).ended ≡ a.ended
     go true None = refl
     go true (Some v) = refl
     go false None = refl
@@ -79,9 +79,9 @@ failed : (s : ScenarioValue) (b : Story) (a : Array) (i : ProcId) (reply : Reply
 failed s b a i reply (Some r) h = if_some b (is_none r.reply) _ h
 failed s b a i reply None h = new (process_of s i)
   where
-    new : (p : Option Process) → IfOver b (Steps.fail_step_of_new a i reply p)
+    new : (c : Option Process) → IfOver b (Steps.fail_step_of_new a i reply c)
     new None = tt
-    new (Some p) = if_none b (Steps.is_waiting a.units i || Steps.has_ended a i) _ h
+    new (Some c) = if_none b (Steps.is_waiting a.units i || Steps.has_ended a i) _ h
 
 pub ended : (b : Story) (a : Array) (i : ProcId) (status : ℕ) → has_item b.sent.over (process i) ≡ true
     → AllOver b a.ended → IfOver b (Steps.end_step a status (Steps.running_process a i))
@@ -113,10 +113,10 @@ ended b a i status over h = go (Steps.running_process a i) refl
 
 -- ---- aborts and resets end none in the array
 
-reset_same : (hosts : List HostDef) (t n : ℕ) (a : Array) → (Steps.reset_attentions hosts t n a).ended ≡ a.ended
-reset_same [] t n a = refl
-reset_same (h ∷ hosts) t n a =
-    reset_same hosts t n (Steps.reset_attention a (record { initiator = h.dev; target = t; unit = n }))
+reset_same : (hosts : List HostDef) (t m : ℕ) (a : Array) → (Steps.reset_attentions hosts t m a).ended ≡ a.ended
+reset_same [] t m a = refl
+reset_same (h ∷ hosts) t m a =
+    reset_same hosts t m (Steps.reset_attention a (record { initiator = h.dev; target = t; unit = m }))
 
 all_reset_same : (hosts : List HostDef) (units : List UnitState) (is_one : UnitState → Bool) (a : Array)
     → (Steps.unit_reset_attentions hosts units is_one a).ended ≡ a.ended
@@ -131,24 +131,24 @@ all_reset_same hosts (u ∷ units) is_one a =
 
 cleared_same : (i : ℕ) (lost : List Process) (a : Array) → (Steps.cleared_attentions i lost a).ended ≡ a.ended
 cleared_same i [] a = refl
-cleared_same i (p ∷ lost) a =
-    cleared_same i lost (if p.initiator == i then a else Steps.cleared_attention a (nexus_of p)) ∙ go (p.initiator == i)
+cleared_same i (c ∷ lost) a =
+    cleared_same i lost (if c.initiator == i then a else Steps.cleared_attention a (nexus_of c)) ∙ go (c.initiator == i)
   where
     one : (q : Bool) (x : Array) → x.ended ≡ a.ended → (if q then a else x).ended ≡ a.ended
     one true x e = refl
     one false x e = e
 
-    go : (q : Bool) → (if q then a else Steps.cleared_attention a (nexus_of p)).ended ≡ a.ended
+    go : (q : Bool) → (if q then a else Steps.cleared_attention a (nexus_of c)).ended ≡ a.ended
     go true = refl
     go false = one _ _ refl
 
-aborted_same : (s : ScenarioValue) (a : Array) (i t n : ℕ) (what : AbortKind)
-    → (Steps.abort_step s a i t n what).ended ≡ a.ended
-aborted_same s a i t n AbortKind.All = refl
-aborted_same s a i t n (AbortKind.Tag tag) = refl
-aborted_same s a i t n AbortKind.WholeQueue = cleared_same i (Steps.unit_processes (unit_state_at a.units t n))
-    (Steps.without_dropped a (λ p. Steps.is_of_unit p t n))
-aborted_same s a i t n AbortKind.Device =
+aborted_same : (s : ScenarioValue) (a : Array) (i t m : ℕ) (what : AbortKind)
+    → (Steps.abort_step s a i t m what).ended ≡ a.ended
+aborted_same s a i t m AbortKind.All = refl
+aborted_same s a i t m (AbortKind.Tag tag) = refl
+aborted_same s a i t m AbortKind.WholeQueue = cleared_same i (Steps.unit_processes (unit_state_at a.units t m))
+    (Steps.without_dropped a (λ p. Steps.is_of_unit p t m))
+aborted_same s a i t m AbortKind.Device =
     all_reset_same s.hosts a.units (λ u. u.target == t) (record (Steps.without_dropped a (λ p. p.target == t)) {
       senses = Steps.kept_senses (λ r. r.target == t) a.senses;
       holds = Steps.kept_nexuses (λ r. r.target == t) a.holds;
@@ -161,21 +161,21 @@ event_over s b a event h =
   where
     by : (e : Event) → AllOver (story_after_event s b e) a.ended
         → IfOver (story_after_event s b e) (Steps.event_step s a e)
-    by (Event.Accept id) k = accepted (story_after_event s b (Event.Accept id)) a (process_of s id) k
-    by (Event.Refuse id) k = refused (story_after_event s b (Event.Refuse id)) a (process_of s id) k
-    by (Event.Run id) k =
-        run (story_after_event s b (Event.Run id)) a (is_some (guest_at a.guests id)) (Steps.running_process a id) k
-    by (Event.Fail id code) k = failed s (story_after_event s b (Event.Fail id code)) a id
-        (check_condition (sense_of ABORTED_COMMAND code 0x00)) (Steps.running_process a id) k
-    by (Event.End id status) k =
-        ended (story_after_event s b (Event.End id status)) a id status (ends_over s b id status) k
-    by (Event.Lost id) k =
-        if_none (story_after_event s b (Event.Lost id)) (Steps.has_ended a id) _ (lost_over s b id, k)
-    by (Event.Aborted i t n what) k = subst (λ (x : List ProcId). AllOver
-        (story_after_event s b (Event.Aborted i t n what)) x) (sym (aborted_same s a i t n what)) k
-    by (Event.Reset dev) k =
+    by (Event.Accept id) f = accepted (story_after_event s b (Event.Accept id)) a (process_of s id) f
+    by (Event.Refuse id) f = refused (story_after_event s b (Event.Refuse id)) a (process_of s id) f
+    by (Event.Run id) f =
+        run (story_after_event s b (Event.Run id)) a (is_some (guest_at a.guests id)) (Steps.running_process a id) f
+    by (Event.Fail id code) f = failed s (story_after_event s b (Event.Fail id code)) a id
+        (check_condition (sense_of ABORTED_COMMAND code 0x00)) (Steps.running_process a id) f
+    by (Event.End id status) f =
+        ended (story_after_event s b (Event.End id status)) a id status (ends_over s b id status) f
+    by (Event.Lost id) f =
+        if_none (story_after_event s b (Event.Lost id)) (Steps.has_ended a id) _ (lost_over s b id, f)
+    by (Event.Aborted i t n what) f = subst (λ (x : List ProcId). AllOver
+        (story_after_event s b (Event.Aborted i t n what)) x) (sym (aborted_same s a i t n what)) f
+    by (Event.Reset dev) f =
         subst (λ (x : List ProcId). AllOver (story_after_event s b (Event.Reset dev)) x) (sym (all_reset_same s.hosts
-        a.units (λ u. true) (record (Steps.without_dropped a (λ p. true)) { senses = []; holds = [] }))) k
+        a.units (λ u. true) (record (Steps.without_dropped a (λ p. true)) { senses = []; holds = [] }))) f
 
 step_over : (s : ScenarioValue) (b : Story) (a : Array) (event : Event) → AllOver b a.ended
     → IfOver (story_after_event s b event) (Steps.step s event a)
@@ -183,8 +183,8 @@ step_over s b a event h = go (Steps.event_step s a event) (event_over s b a even
   where
     go : (o : Option Array) → IfOver (story_after_event s b event) o
         → IfOver (story_after_event s b event) (Steps.settled_array_if o)
-    go None k = tt
-    go (Some x) k = k
+    go None e = tt
+    go (Some x) e = e
 
 -- ---- over the events of a row, and over rows
 
@@ -197,8 +197,8 @@ events_over s b o (event ∷ shown) h = go (array_after_events s o shown) (event
     was = story_after_events s b shown
 
     go : (x : Option Array) → IfOver was x → IfOver (story_after_event s was event) (array_step s event x)
-    go None k = tt
-    go (Some a) k = step_over s was a event k
+    go None e = tt
+    go (Some a) e = step_over s was a event e
 
 more_over : (b c : Story) (o : Option Array)
     → ((i : Item) → has_item b.sent.over i ≡ true → has_item c.sent.over i ≡ true) → IfOver b o → IfOver c o
@@ -215,12 +215,12 @@ ended_over s (row ∷ p) =
     (more_over k.story b k.array (λ i. change_over s k.story d row i) (ended_over s p))
 
 over_at : (b : Story) (ids : List ProcId) (id : ProcId) → AllOver b ids
-    → list_any (λ (p : ProcId). same_id p id) ids ≡ true → has_item b.sent.over (process id) ≡ true
+    → list_any (λ (d : ProcId). same_id d id) ids ≡ true → has_item b.sent.over (process id) ≡ true
 over_at b [] id h e = wrong (sym e)
 over_at b (x ∷ ids) id h e = go (same_id x id) refl e (λ z. over_at b ids id h.1 z)
   where
-    go : (q : Bool) → same_id x id ≡ q → (q || list_any (λ (p : ProcId). same_id p id) ids) ≡ true
-        → (list_any (λ (p : ProcId). same_id p id) ids ≡ true → has_item b.sent.over (process id) ≡ true)
+    go : (q : Bool) → same_id x id ≡ q → (q || list_any (λ (d : ProcId). same_id d id) ids) ≡ true
+        → (list_any (λ (d : ProcId). same_id d id) ids ≡ true → has_item b.sent.over (process id) ≡ true)
         → has_item b.sent.over (process id) ≡ true
     go true z f more = ap (λ (y : ProcId). has_item b.sent.over (process y)) (sym (id_is x id z)) ∙ h.0
     go false z f more = more f

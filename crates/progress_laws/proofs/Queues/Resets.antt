@@ -9,17 +9,17 @@ use proofs.Names.{RunState, run_state, run_state_after, change_plain, rst_raised
 use proofs.Queues.Rows.{fewer_open, open_over}
 
 abbrev pub NoneOpen : ScenarioValue → RunState → Type 0
-NoneOpen s k = (n : ℕ) (c : CmdDef) → command_at s.commands n ≡ Some c → is_open k.story.sent n ≡ false
+NoneOpen s k = (m : ℕ) (c : CmdDef) → command_at s.commands m ≡ Some c → is_open k.story.sent m ≡ false
 
 -- Under RST nothing is sent.
-open_before : (s : ScenarioValue) (k : RunState) (row : Row) (n : ℕ)
+open_before : (s : ScenarioValue) (k : RunState) (row : Row) (m : ℕ)
     → (row_reading k.story.bus_state row).change.after.rst ≡ true
-    → is_open (run_state_after s k row).story.sent n ≡ true → is_open k.story.sent n ≡ true
-open_before s k row n on e =
+    → is_open (run_state_after s k row).story.sent m ≡ true → is_open k.story.sent m ≡ true
+open_before s k row m on e =
     let g = events_grow s b shown in
     ap (λ (q : Bool). is_open (if q then record k.story { link = None }
-    else story_on_bus s k.story k.story.bus_state.connection d.next d row).sent n) (sym on)
-    ∙ fewer_open b.sent (story_after_events s b shown).sent n g.sent g.over e
+    else story_on_bus s k.story k.story.bus_state.connection d.next d row).sent m) (sym on)
+    ∙ fewer_open b.sent (story_after_events s b shown).sent m g.sent g.over e
   where
     d : RowReading
     d = row_reading k.story.bus_state row

@@ -17,108 +17,108 @@ use proofs.Queues.Steps.{IfQueued, IsNotEnded, ends_close, step_stays}
 
 -- ---- what is open after an event was not ended by it
 
-pub open_over : {A : Type 0} (b : Sent) (n : ℕ) → is_open b n ≡ true → has_item b.over (command_item n) ≡ true → A
-open_over b n e o =
-    wrong (sym (and_second (has_item b.sent (command_item n)) (not (has_item b.over (command_item n))) e) ∙ ap not o)
+pub open_over : {A : Type 0} (b : Sent) (m : ℕ) → is_open b m ≡ true → has_item b.over (command_item m) ≡ true → A
+open_over b m e o =
+    wrong (sym (and_second (has_item b.sent (command_item m)) (not (has_item b.over (command_item m))) e) ∙ ap not o)
 
-was_sent : (s : ScenarioValue) (b : Story) (event : Event) (n : ℕ) → is_open (story_after_event s b event).sent n ≡ true
-    → has_item b.sent.sent (command_item n) ≡ true
-was_sent s b event n e = ap (λ (x : List Item). has_item x (command_item n)) (sym (event_sent s b event))
-    ∙ and_first (has_item (story_after_event s b event).sent.sent (command_item n))
-    (not (has_item (story_after_event s b event).sent.over (command_item n))) e
+was_sent : (s : ScenarioValue) (b : Story) (event : Event) (m : ℕ) → is_open (story_after_event s b event).sent m ≡ true
+    → has_item b.sent.sent (command_item m) ≡ true
+was_sent s b event m e = ap (λ (x : List Item). has_item x (command_item m)) (sym (event_sent s b event))
+    ∙ and_first (has_item (story_after_event s b event).sent.sent (command_item m))
+    (not (has_item (story_after_event s b event).sent.over (command_item m))) e
 
-one_less : (n : ℕ) → suc (0 + n) ≡ suc n
-one_less n = omega arith
+one_less : (m : ℕ) → suc (0 + m) ≡ suc m
+one_less m = omega arith
 
-aborted_over : (s : ScenarioValue) (b : Story) (i t m : ℕ) (what : AbortKind) (n : ℕ) (c : CmdDef)
-    → command_at s.commands n ≡ Some c → is_aborted i t m what c ≡ true → has_item b.sent.sent (command_item n) ≡ true
-    → has_item (story_after_event s b (Event.Aborted i t m what)).sent.over (command_item n) ≡ true
+aborted_over : (s : ScenarioValue) (b : Story) (i t m : ℕ) (what : AbortKind) (l : ℕ) (c : CmdDef)
+    → command_at s.commands l ≡ Some c → is_aborted i t m what c ≡ true → has_item b.sent.sent (command_item l) ≡ true
+    → has_item (story_after_event s b (Event.Aborted i t m what)).sent.over (command_item l) ≡ true
 aborted_over s b i t m what zero c at d sent = none_some c (sym (none_at s.commands) ∙ at)
-aborted_over s b i t m what (suc n) c at d sent =
-    ap (λ (j : ℕ). has_item (story_after_event s b (Event.Aborted i t m what)).sent.over (command_item j))
-    (sym (one_less n))
-    ∙ ends_close (is_aborted i t m what) (is_sense_stopped i t m what) by_abort 0 n s.commands b c at d
-    (ap (λ (j : ℕ). has_item b.sent.sent (command_item j)) (one_less n) ∙ sent)
+aborted_over s b i t m what (suc l) c at d sent =
+    ap (λ (w : ℕ). has_item (story_after_event s b (Event.Aborted i t m what)).sent.over (command_item w))
+    (sym (one_less l))
+    ∙ ends_close (is_aborted i t m what) (is_sense_stopped i t m what) by_abort 0 l s.commands b c at d
+    (ap (λ (w : ℕ). has_item b.sent.sent (command_item w)) (one_less l) ∙ sent)
 
-reset_over : (s : ScenarioValue) (b : Story) (dev n : ℕ) (c : CmdDef)
-    → command_at s.commands n ≡ Some c → has_item b.sent.sent (command_item n) ≡ true
-    → has_item (story_after_event s b (Event.Reset dev)).sent.over (command_item n) ≡ true
+reset_over : (s : ScenarioValue) (b : Story) (dev m : ℕ) (c : CmdDef)
+    → command_at s.commands m ≡ Some c → has_item b.sent.sent (command_item m) ≡ true
+    → has_item (story_after_event s b (Event.Reset dev)).sent.over (command_item m) ≡ true
 reset_over s b dev zero c at sent = none_some c (sym (none_at s.commands) ∙ at)
-reset_over s b dev (suc n) c at sent =
-    ap (λ (j : ℕ). has_item (story_after_event s b (Event.Reset dev)).sent.over (command_item j)) (sym (one_less n))
-    ∙ ends_close (λ x. true) (λ x. true) by_reset 0 n s.commands b c at refl
-    (ap (λ (j : ℕ). has_item b.sent.sent (command_item j)) (one_less n) ∙ sent)
+reset_over s b dev (suc m) c at sent =
+    ap (λ (i : ℕ). has_item (story_after_event s b (Event.Reset dev)).sent.over (command_item i)) (sym (one_less m))
+    ∙ ends_close (λ x. true) (λ x. true) by_reset 0 m s.commands b c at refl
+    (ap (λ (i : ℕ). has_item b.sent.sent (command_item i)) (one_less m) ∙ sent)
 
-aborts_same : (s : ScenarioValue) (i t m : ℕ) (what : AbortKind) (n : ℕ) (c : CmdDef)
-    → is_dropped i t m what (process_by s (command_id n) c) ≡ is_aborted i t m what c
-aborts_same s i t m AbortKind.All n c = refl
-aborts_same s i t m _ n c = refl
+aborts_same : (s : ScenarioValue) (i t m : ℕ) (what : AbortKind) (l : ℕ) (c : CmdDef)
+    → is_dropped i t m what (process_by s (command_id l) c) ≡ is_aborted i t m what c
+aborts_same s i t m AbortKind.All l c = refl
+aborts_same s i t m _ l c = refl
 
-pub not_ended : (s : ScenarioValue) (b : Story) (event : Event) (n : ℕ) (c : CmdDef) → command_at s.commands n ≡ Some c
-    → is_open (story_after_event s b event).sent n ≡ true → IsNotEnded s event (command_id n)
-not_ended s b (Event.End id status) n c at e = go (same_id id (command_id n)) refl
+pub not_ended : (s : ScenarioValue) (b : Story) (event : Event) (l : ℕ) (c : CmdDef) → command_at s.commands l ≡ Some c
+    → is_open (story_after_event s b event).sent l ≡ true → IsNotEnded s event (command_id l)
+not_ended s b (Event.End id status) l c at e = go (same_id id (command_id l)) refl
   where
-    go : (q : Bool) → same_id id (command_id n) ≡ q → same_id id (command_id n) ≡ false
+    go : (q : Bool) → same_id id (command_id l) ≡ q → same_id id (command_id l) ≡ false
     go false z = z
-    go true z = open_over (story_after_event s b (Event.End id status)).sent n e
+    go true z = open_over (story_after_event s b (Event.End id status)).sent l e
         (ap (λ (w : ProcId). has_item (story_after_event s b (Event.End id status)).sent.over (process w))
-        (sym (id_is id (command_id n) z)) ∙ ends_over s b id status)
-not_ended s b (Event.Lost id) n c at e = go (same_id id (command_id n)) refl
+        (sym (id_is id (command_id l) z)) ∙ ends_over s b id status)
+not_ended s b (Event.Lost id) l c at e = go (same_id id (command_id l)) refl
   where
-    go : (q : Bool) → same_id id (command_id n) ≡ q → same_id id (command_id n) ≡ false
+    go : (q : Bool) → same_id id (command_id l) ≡ q → same_id id (command_id l) ≡ false
     go false z = z
-    go true z = open_over (story_after_event s b (Event.Lost id)).sent n e
+    go true z = open_over (story_after_event s b (Event.Lost id)).sent l e
         (ap (λ (w : ProcId). has_item (story_after_event s b (Event.Lost id)).sent.over (process w))
-        (sym (id_is id (command_id n) z)) ∙ lost_over s b id)
-not_ended s b (Event.Aborted i t m what) n c at e = λ p own same. go p own same (is_dropped i t m what p) refl
+        (sym (id_is id (command_id l) z)) ∙ lost_over s b id)
+not_ended s b (Event.Aborted i t m what) l c at e = λ x own same. go x own same (is_dropped i t m what x) refl
   where
-    go : (p : Process) → process_of s p.id ≡ Some p → same_id p.id (command_id n) ≡ true
-        → (q : Bool) → is_dropped i t m what p ≡ q → is_dropped i t m what p ≡ false
-    go p own same false z = z
-    go p own same true z =
-        let is : process_by s (command_id n) c ≡ p = same_Some (process_by s (command_id n) c) p
-        (sym (ap (process_of s) (id_is p.id (command_id n) same) ∙ ap (process_if s (command_id n)) at) ∙ own) in
-        open_over (story_after_event s b (Event.Aborted i t m what)).sent n e
-        (aborted_over s b i t m what n c at (sym (aborts_same s i t m what n c) ∙ ap (is_dropped i t m what) is ∙ z)
-        (was_sent s b (Event.Aborted i t m what) n e))
-not_ended s b (Event.Reset dev) n c at e = open_over (story_after_event s b (Event.Reset dev)).sent n e
-    (reset_over s b dev n c at (was_sent s b (Event.Reset dev) n e))
-not_ended s b _ n c at e = tt
+    go : (x : Process) → process_of s x.id ≡ Some x → same_id x.id (command_id l) ≡ true
+        → (q : Bool) → is_dropped i t m what x ≡ q → is_dropped i t m what x ≡ false
+    go x own same false z = z
+    go x own same true z =
+        let is : process_by s (command_id l) c ≡ x = same_Some (process_by s (command_id l) c) x
+        (sym (ap (process_of s) (id_is x.id (command_id l) same) ∙ ap (process_if s (command_id l)) at) ∙ own) in
+        open_over (story_after_event s b (Event.Aborted i t m what)).sent l e
+        (aborted_over s b i t m what l c at (sym (aborts_same s i t m what l c) ∙ ap (is_dropped i t m what) is ∙ z)
+        (was_sent s b (Event.Aborted i t m what) l e))
+not_ended s b (Event.Reset dev) l c at e = open_over (story_after_event s b (Event.Reset dev)).sent l e
+    (reset_over s b dev l c at (was_sent s b (Event.Reset dev) l e))
+not_ended s b _ l c at e = tt
 
 -- ---- all events of a row
 
-pub fewer_open : (a b : Sent) (n : ℕ) → b.sent ≡ a.sent
-    → ((i : Item) → has_item a.over i ≡ true → has_item b.over i ≡ true) → is_open b n ≡ true → is_open a n ≡ true
-fewer_open a b n same more e =
-    let sent = and_first (has_item b.sent (command_item n)) (not (has_item b.over (command_item n))) e in
-    let over = and_second (has_item b.sent (command_item n)) (not (has_item b.over (command_item n))) e in
-    λ i. (ap (λ (x : List Item). has_item x (command_item n)) (sym same) ∙ sent) i
-    && not_grown (has_item a.over (command_item n)) (has_item b.over (command_item n)) (more (command_item n)) over i
+pub fewer_open : (a b : Sent) (m : ℕ) → b.sent ≡ a.sent
+    → ((i : Item) → has_item a.over i ≡ true → has_item b.over i ≡ true) → is_open b m ≡ true → is_open a m ≡ true
+fewer_open a b m same more e =
+    let sent = and_first (has_item b.sent (command_item m)) (not (has_item b.over (command_item m))) e in
+    let over = and_second (has_item b.sent (command_item m)) (not (has_item b.over (command_item m))) e in
+    λ i. (ap (λ (x : List Item). has_item x (command_item m)) (sym same) ∙ sent) i
+    && not_grown (has_item a.over (command_item m)) (has_item b.over (command_item m)) (more (command_item m)) over i
 
 pub record Kept (s : ScenarioValue) (id : ProcId) (o : Option Array) : Type 0 where
   pub sound : (a : Array) → o ≡ Some a → IsSound s a
   pub queued : IfQueued id o
 
-pub events_stay : (s : ScenarioValue) (b : Story) (o : Option Array) (shown : List Event) (n : ℕ) (c : CmdDef)
-    → HasSeats s → command_at s.commands n ≡ Some c → is_open (story_after_events s b shown).sent n ≡ true
-    → Kept s (command_id n) o → Kept s (command_id n) (array_after_events s o shown)
-events_stay s b o [] n c seats at e k = k
-events_stay s b o (event ∷ shown) n c seats at e k =
-    go (array_after_events s o shown) (events_stay s b o shown n c seats at before k)
+pub events_stay : (s : ScenarioValue) (b : Story) (o : Option Array) (shown : List Event) (m : ℕ) (c : CmdDef)
+    → HasSeats s → command_at s.commands m ≡ Some c → is_open (story_after_events s b shown).sent m ≡ true
+    → Kept s (command_id m) o → Kept s (command_id m) (array_after_events s o shown)
+events_stay s b o [] m c seats at e f = f
+events_stay s b o (event ∷ shown) m c seats at e f =
+    go (array_after_events s o shown) (events_stay s b o shown m c seats at before f)
   where
     g : Grows (story_after_events s b shown).sent (story_after_event s (story_after_events s b shown) event).sent
     g = events_grow s (story_after_events s b shown) (event ∷ [])
 
-    before : is_open (story_after_events s b shown).sent n ≡ true
+    before : is_open (story_after_events s b shown).sent m ≡ true
     before = fewer_open (story_after_events s b shown).sent
-        (story_after_event s (story_after_events s b shown) event).sent n g.sent g.over e
+        (story_after_event s (story_after_events s b shown) event).sent m g.sent g.over e
 
-    go : (x : Option Array) → Kept s (command_id n) x → Kept s (command_id n) (array_step s event x)
+    go : (x : Option Array) → Kept s (command_id m) x → Kept s (command_id m) (array_step s event x)
     go None h = record { sound = λ a z. none_some a z; queued = tt }
     go (Some a) h = record {
       sound = λ y z. step_sound s a y event seats (h.sound a refl) z;
-      queued = step_stays s a event (command_id n) (h.sound a refl).units
-          (not_ended s (story_after_events s b shown) event n c at e) h.queued;
+      queued = step_stays s a event (command_id m) (h.sound a refl).units
+          (not_ended s (story_after_events s b shown) event m c at e) h.queued;
     }
 
 -- ---- on the free bus
@@ -128,23 +128,23 @@ pub tried_over : (s : ScenarioValue) (b : Story) (dev : ℕ) (item : Option Item
 tried_over s b dev None i h = h
 tried_over s b dev (Some item) i h = go _ item
   where
-    go : (q : Bool) (j : Item)
-        → has_item (if q then story_without_answer (record b { sent = record b.sent { tries = item ∷ b.sent.tries } }) j
+    go : (q : Bool) (x : Item)
+        → has_item (if q then story_without_answer (record b { sent = record b.sent { tries = item ∷ b.sent.tries } }) x
         else record b { sent = record b.sent { tries = item ∷ b.sent.tries } }).sent.over i ≡ true
     go true (process id) = more_has (process id) i b.sent.over h
     go true (abort k) = more_has (abort k) i b.sent.over h
-    go false j = h
+    go false x = h
 
 pub called_over : (s : ScenarioValue) (b : Story) (call : Option Call) (i : Item) → has_item b.sent.over i ≡ true
     → has_item (story_after_calling s b call).sent.over i ≡ true
 called_over s b None i h = h
-called_over s b (Some k) i h = by k.calling
+called_over s b (Some c) i h = by c.calling
   where
-    by : (g : Option Calling) → has_item (story_after_calling_by s b k.caller g).sent.over i ≡ true
+    by : (g : Option Calling) → has_item (story_after_calling_by s b c.caller g).sent.over i ≡ true
     by None = h
     by (Some g) =
         elim (cases_Bool (is_none g.answered && not g.reselects)) [
-          | inl e ↦ rw e (tried_over s b k.caller (aim_of b.aims k.caller) i h)
+          | inl e ↦ rw e (tried_over s b c.caller (aim_of b.aims c.caller) i h)
           | inr e ↦ rw e h
         ]
 
@@ -161,14 +161,14 @@ free_over s b d row i h = go (is_arbitration_entry b d) (falls d.change.before.s
 
 -- ---- a command that is open after a row was open before it, or is the one for which a connection begins
 
-pub data WasOpen (k : RunState) (d : RowReading) (n : ℕ) : Type 0 where
-  before : is_open k.story.sent n ≡ true → WasOpen k d n
+pub data WasOpen (k : RunState) (d : RowReading) (i : ℕ) : Type 0 where
+  before : is_open k.story.sent i ≡ true → WasOpen k d i
   begins : (m : Connection) → k.story.bus_state.connection ≡ None → d.next ≡ Some m → m.reselected ≡ false
-      → aim_of k.story.aims m.initiator ≡ Some (command_item n) → WasOpen k d n
+      → aim_of k.story.aims m.initiator ≡ Some (command_item i) → WasOpen k d i
 
-pub open_before : (s : ScenarioValue) (k : RunState) (d : RowReading) (row : Row) (n : ℕ)
-    → is_open (story_by_change s k.story d row).sent n ≡ true → WasOpen k d n
-open_before s k d row n e = by_rst d.change.after.rst e
+pub open_before : (s : ScenarioValue) (k : RunState) (d : RowReading) (row : Row) (w : ℕ)
+    → is_open (story_by_change s k.story d row).sent w ≡ true → WasOpen k d w
+open_before s k d row w e = by_rst d.change.after.rst e
   where
     b : Story
     b = k.story
@@ -176,11 +176,11 @@ open_before s k d row n e = by_rst d.change.after.rst e
     begun : (m : Connection) → k.story.bus_state.connection ≡ None → d.next ≡ Some m
         → (q : Bool) → m.reselected ≡ q → (o : Option Item) → aim_of b.aims m.initiator ≡ o
         → is_open (if q then record b { link = Some (link_of m None) }
-        else story_with_restored (story_with_sent (record b { link = Some (link_of m o) }) o) o).sent n ≡ true
-        → WasOpen k d n
+        else story_with_restored (story_with_sent (record b { link = Some (link_of m o) }) o) o).sent w ≡ true
+        → WasOpen k d w
     begun m x y true z o f h = before h
     begun m x y false z None f h = before h
-    begun m x y false z (Some i) f h = elim (opened b.sent i n (ap (λ (t : Sent). is_open t n)
+    begun m x y false z (Some i) f h = elim (opened b.sent i w (ap (λ (t : Sent). is_open t w)
         (sym (restored_sent (story_with_sent (record b { link = Some (link_of m (Some i)) }) (Some i)) (Some i)))
         ∙ h)) [
           | inl g ↦ begins m x y z (f ∙ ap (λ (t : Item). Some t) g)
@@ -188,16 +188,16 @@ open_before s k d row n e = by_rst d.change.after.rst e
         ]
 
     by : (x y : Option Connection) → k.story.bus_state.connection ≡ x → d.next ≡ y
-        → is_open (story_on_bus s b x y d row).sent n ≡ true → WasOpen k d n
-    by None None f g h = before (fewer_open b.sent (story_on_free_bus s b d row).sent n (free_keeps s b d row).2
+        → is_open (story_on_bus s b x y d row).sent w ≡ true → WasOpen k d w
+    by None None f g h = before (fewer_open b.sent (story_on_free_bus s b d row).sent w (free_keeps s b d row).2
         (λ i z. free_over s b d row i z) h)
     by None (Some m) f g h = begun m f g m.reselected refl (aim_of b.aims m.initiator) refl h
     by (Some l) None f g h = before h
-    by (Some l) (Some m) f g h = before (ap (λ (x : Sent). is_open x n) (sym (connection_sent s b b.link d row)) ∙ h)
+    by (Some l) (Some m) f g h = before (ap (λ (x : Sent). is_open x w) (sym (connection_sent s b b.link d row)) ∙ h)
 
     by_rst : (q : Bool)
-        → is_open (if q then record b { link = None } else story_on_bus s b b.bus_state.connection d.next d row).sent n
-        ≡ true → WasOpen k d n
+        → is_open (if q then record b { link = None } else story_on_bus s b b.bus_state.connection d.next d row).sent w
+        ≡ true → WasOpen k d w
     by_rst true h = before h
     by_rst false h = by b.bus_state.connection d.next refl refl h
 
@@ -205,11 +205,11 @@ open_before s k d row n e = by_rst d.change.after.rst e
 
 -- A command whose connection ends with the row, and which is open after it, stands in a queue.
 abbrev pub IsLeftQueued : ScenarioValue → List Row → Row → Type 0
-IsLeftQueued s p row = (m : Connection) (n : ℕ) (c : CmdDef)
-    → command_at s.commands n ≡ Some c → (run_state s p).story.bus_state.connection ≡ Some m
+IsLeftQueued s p row = (m : Connection) (i : ℕ) (c : CmdDef)
+    → command_at s.commands i ≡ Some c → (run_state s p).story.bus_state.connection ≡ Some m
     → (row_reading (run_state s p).story.bus_state row).next ≡ None
-    → (run_state s p).served ≡ Some (command_item n) → is_open (run_state s (row ∷ p)).story.sent n ≡ true
-    → is_queued (array_of s (run_state s p)).units (command_id n) ≡ true
+    → (run_state s p).served ≡ Some (command_item i) → is_open (run_state s (row ∷ p)).story.sent i ≡ true
+    → is_queued (array_of s (run_state s p)).units (command_id i) ≡ true
 
 pub record HasArray (s : ScenarioValue) (k : RunState) : Type 0 where
   pub array : Array

@@ -35,50 +35,50 @@ if_none : (id : ProcId) (q : Bool) (b : Array) → is_queued b.units id ≡ true
 if_none id true b e = tt
 if_none id false b e = e
 
-arriving : (u : UnitState) (p : Process) (id : ProcId) → is_in_queue u id ≡ true
-    → is_in_queue (record u { waiting = u.waiting ++ p ∷ [] }) id ≡ true
-arriving u p id e = either_stays (waits_in u.waiting id) (is_some (running_if u.current id)) _ _
-    (λ z. waits_last u.waiting p id z) (λ z. z) e
+arriving : (u : UnitState) (c : Process) (id : ProcId) → is_in_queue u id ≡ true
+    → is_in_queue (record u { waiting = u.waiting ++ c ∷ [] }) id ≡ true
+arriving u c id e = either_stays (waits_in u.waiting id) (is_some (running_if u.current id)) _ _
+    (λ z. waits_last u.waiting c id z) (λ z. z) e
 
 accepted : (a : Array) (o : Option Process) (id : ProcId) → is_queued a.units id ≡ true
     → IfQueued id (Steps.accept_step a o)
 accepted a None id e = tt
-accepted a (Some p) id e = at (unit_state_at a.units p.target p.unit) refl
+accepted a (Some c) id e = at (unit_state_at a.units c.target c.unit) refl
   where
-    at : (u : Option UnitState) → unit_state_at a.units p.target p.unit ≡ u → IfQueued id (Steps.accept_step_at a p u)
+    at : (u : Option UnitState) → unit_state_at a.units c.target c.unit ≡ u → IfQueued id (Steps.accept_step_at a c u)
     at None z = e
-    at (Some u) z = go (is_request_sense (command_of p.cdb))
+    at (Some u) z = go (is_request_sense (command_of c.cdb))
       where
-        go : (q : Bool) → IfQueued id (if q then Some (Steps.with_guest a p None) else Steps.queue_step a p u)
+        go : (q : Bool) → IfQueued id (if q then Some (Steps.with_guest a c None) else Steps.queue_step a c u)
         go true = e
         go false = if_some id (nat_lt (Steps.process_count u) u.depth) (record a {
-          units = with_unit a.units (record u { waiting = u.waiting ++ p ∷ [] });
-        }) (with_unit_all a.units (record u { waiting = u.waiting ++ p ∷ [] }) u id
-            (place_found a.units p.target p.unit u z) (λ y. arriving u p id y) e)
+          units = with_unit a.units (record u { waiting = u.waiting ++ c ∷ [] });
+        }) (with_unit_all a.units (record u { waiting = u.waiting ++ c ∷ [] }) u id
+            (place_found a.units c.target c.unit u z) (λ y. arriving u c id y) e)
 
 refused : (a : Array) (o : Option Process) (id : ProcId) → is_queued a.units id ≡ true
     → IfQueued id (Steps.refuse_step a o)
 refused a None id e = tt
-refused a (Some p) id e = at (unit_state_at a.units p.target p.unit)
+refused a (Some c) id e = at (unit_state_at a.units c.target c.unit)
   where
-    at : (u : Option UnitState) → IfQueued id (Steps.refuse_step_at a p u)
+    at : (u : Option UnitState) → IfQueued id (Steps.refuse_step_at a c u)
     at None = tt
-    at (Some u) = if_some id (not (is_request_sense (command_of p.cdb)) && Steps.process_count u == u.depth) _ e
+    at (Some u) = if_some id (not (is_request_sense (command_of c.cdb)) && Steps.process_count u == u.depth) _ e
 
-executed : (a : Array) (p : Process) (u : Option UnitState) (done : Execution) (id : ProcId)
-    → unit_state_at a.units p.target p.unit ≡ u → is_queued a.units id ≡ true
-    → is_queued (Steps.after_execution a p u done).units id ≡ true
-executed a p u done id at e = replied_all (Steps.with_contents (Steps.without_attention a done.reported (nexus_of p)) u
-    done.contents).units id p.id done.reply (filled done.reported u at)
+executed : (a : Array) (c : Process) (u : Option UnitState) (done : Execution) (id : ProcId)
+    → unit_state_at a.units c.target c.unit ≡ u → is_queued a.units id ≡ true
+    → is_queued (Steps.after_execution a c u done).units id ≡ true
+executed a c u done id at e = replied_all (Steps.with_contents (Steps.without_attention a done.reported (nexus_of c)) u
+    done.contents).units id c.id done.reply (filled done.reported u at)
   where
-    filled : (q : Bool) (o : Option UnitState) → unit_state_at a.units p.target p.unit ≡ o
-        → is_queued (Steps.with_contents (Steps.without_attention a q (nexus_of p)) o done.contents).units id ≡ true
+    filled : (q : Bool) (o : Option UnitState) → unit_state_at a.units c.target c.unit ≡ o
+        → is_queued (Steps.with_contents (Steps.without_attention a q (nexus_of c)) o done.contents).units id ≡ true
     filled true None z = e
     filled false None z = e
     filled true (Some v) z = with_unit_all a.units (record v { contents = done.contents }) v id
-        (place_found a.units p.target p.unit v z) (λ y. y) e
+        (place_found a.units c.target c.unit v z) (λ y. y) e
     filled false (Some v) z = with_unit_all a.units (record v { contents = done.contents }) v id
-        (place_found a.units p.target p.unit v z) (λ y. y) e
+        (place_found a.units c.target c.unit v z) (λ y. y) e
 
 run : (a : Array) (guest : Bool) (o : Option RunningProcess) (id : ProcId) → is_queued a.units id ≡ true
     → IfQueued id (Steps.run_step a guest o)
@@ -94,9 +94,9 @@ failed : (s : ScenarioValue) (a : Array) (i : ProcId) (reply : Reply) (o : Optio
 failed s a i reply (Some r) id e = if_some id (is_none r.reply) _ (replied_all a.units id i reply e)
 failed s a i reply None id e = new (process_of s i)
   where
-    new : (p : Option Process) → IfQueued id (Steps.fail_step_of_new a i reply p)
+    new : (c : Option Process) → IfQueued id (Steps.fail_step_of_new a i reply c)
     new None = tt
-    new (Some p) = if_none id (Steps.is_waiting a.units i || Steps.has_ended a i) _ e
+    new (Some c) = if_none id (Steps.is_waiting a.units i || Steps.has_ended a i) _ e
 
 ended : (a : Array) (i : ProcId) (status : ℕ) (id : ProcId) → same_id i id ≡ false → is_queued a.units id ≡ true
     → IfQueued id (Steps.end_step a status (Steps.running_process a i))
@@ -125,17 +125,17 @@ ended a i status id ne e = go (Steps.running_process a i) refl
     go None z = tt
     go (Some r) z = by r (running_id a i r z) r.reply
 
-aborted : (s : ScenarioValue) (a : Array) (i t n : ℕ) (what : AbortKind) (id : ProcId)
-    → Spares s (λ p. is_dropped i t n what p) id → AllOwnUnits s a.units → is_queued a.units id ≡ true
-    → is_queued (Steps.abort_step s a i t n what).units id ≡ true
-aborted s a i t n AbortKind.All id spares own e =
-    kept_all s (λ p. p.initiator == i && is_of_unit p t n) a.units id spares own e
-aborted s a i t n (AbortKind.Tag tag) id spares own e =
-    kept_all s (λ p. p.initiator == i && is_of_unit p t n && has_tag p.tag tag) a.units id spares own e
-aborted s a i t n AbortKind.WholeQueue id spares own e = ap (λ (us : List UnitState). is_queued us id) (cleared_units i
-    (Steps.unit_processes (unit_state_at a.units t n)) (Steps.without_dropped a (λ p. is_of_unit p t n)))
-    ∙ kept_all s (λ p. is_of_unit p t n) a.units id spares own e
-aborted s a i t n AbortKind.Device id spares own e = ap (λ (us : List UnitState). is_queued us id)
+aborted : (s : ScenarioValue) (a : Array) (i t m : ℕ) (what : AbortKind) (id : ProcId)
+    → Spares s (λ p. is_dropped i t m what p) id → AllOwnUnits s a.units → is_queued a.units id ≡ true
+    → is_queued (Steps.abort_step s a i t m what).units id ≡ true
+aborted s a i t m AbortKind.All id spares own e =
+    kept_all s (λ p. p.initiator == i && is_of_unit p t m) a.units id spares own e
+aborted s a i t m (AbortKind.Tag tag) id spares own e =
+    kept_all s (λ p. p.initiator == i && is_of_unit p t m && has_tag p.tag tag) a.units id spares own e
+aborted s a i t m AbortKind.WholeQueue id spares own e = ap (λ (us : List UnitState). is_queued us id) (cleared_units i
+    (Steps.unit_processes (unit_state_at a.units t m)) (Steps.without_dropped a (λ p. is_of_unit p t m)))
+    ∙ kept_all s (λ p. is_of_unit p t m) a.units id spares own e
+aborted s a i t m AbortKind.Device id spares own e = ap (λ (us : List UnitState). is_queued us id)
     (unit_reset_units s.hosts a.units (λ u. u.target == t) (record (Steps.without_dropped a (λ p. p.target == t)) {
       senses = Steps.kept_senses (λ r. r.target == t) a.senses;
       holds = Steps.kept_nexuses (λ r. r.target == t) a.holds;
@@ -158,60 +158,60 @@ pub step_stays : (s : ScenarioValue) (a : Array) (event : Event) (id : ProcId) �
 step_stays s a event id own h e = go (Steps.event_step s a event) (event_stays s a event id own h e)
   where
     go : (o : Option Array) → IfQueued id o → IfQueued id (Steps.settled_array_if o)
-    go None k = tt
-    go (Some b) k = chosen_all b.holds b.units id k
+    go None f = tt
+    go (Some b) f = chosen_all b.holds b.units id f
 
 -- ---- what is open after an event was not ended by it
 
-pub ends_close : (drops stops : CmdDef → Bool) (e : Ending) (j k : ℕ) (commands : List CmdDef) (b : Story) (c : CmdDef)
-    → command_at commands (suc k) ≡ Some c → drops c ≡ true → has_item b.sent.sent (command_item (suc (j + k))) ≡ true
-    → has_item (story_with_ends drops stops e (suc j) commands b).sent.over (command_item (suc (j + k))) ≡ true
-ends_close drops stops e j k [] b c at d sent = none_some c at
-ends_close drops stops e j zero (x ∷ commands) b c at d sent =
-    let same : suc (j + 0) ≡ suc j = omega arith in
-    let there : has_item b.sent.sent (command_item (suc j)) ≡ true =
+pub ends_close : (drops stops : CmdDef → Bool) (e : Ending) (l w : ℕ) (commands : List CmdDef) (b : Story) (c : CmdDef)
+    → command_at commands (suc w) ≡ Some c → drops c ≡ true → has_item b.sent.sent (command_item (suc (l + w))) ≡ true
+    → has_item (story_with_ends drops stops e (suc l) commands b).sent.over (command_item (suc (l + w))) ≡ true
+ends_close drops stops e l w [] b c at d sent = none_some c at
+ends_close drops stops e l zero (x ∷ commands) b c at d sent =
+    let same : suc (l + 0) ≡ suc l = omega arith in
+    let there : has_item b.sent.sent (command_item (suc l)) ≡ true =
     ap (λ (m : ℕ). has_item b.sent.sent (command_item m)) (sym same) ∙ sent in
     let next : Story =
-    if is_open b.sent (suc j) && drops x then story_with_end b (record { command = suc j; sense = false }) e
-    else if stops x && list_any (λ m. m == suc j) b.sent.checks then story_with_over b (sense_item (suc j)) else b in
-    ap (λ (m : ℕ). has_item (story_with_ends drops stops e (suc j) (x ∷ commands) b).sent.over (command_item m)) same
-    ∙ ends_over drops stops e (suc j + 1) commands next (command_item (suc j))
-    (by there (ap drops (same_Some x c at) ∙ d) (has_item b.sent.over (command_item (suc j))) refl)
+    if is_open b.sent (suc l) && drops x then story_with_end b (record { command = suc l; sense = false }) e
+    else if stops x && list_any (λ m. m == suc l) b.sent.checks then story_with_over b (sense_item (suc l)) else b in
+    ap (λ (m : ℕ). has_item (story_with_ends drops stops e (suc l) (x ∷ commands) b).sent.over (command_item m)) same
+    ∙ ends_over drops stops e (suc l + 1) commands next (command_item (suc l))
+    (by there (ap drops (same_Some x c at) ∙ d) (has_item b.sent.over (command_item (suc l))) refl)
   where
     after : Bool → Story
     after q =
-        if q then story_with_end b (record { command = suc j; sense = false }) e
-        else if stops x && list_any (λ m. m == suc j) b.sent.checks then story_with_over b (sense_item (suc j))
+        if q then story_with_end b (record { command = suc l; sense = false }) e
+        else if stops x && list_any (λ m. m == suc l) b.sent.checks then story_with_over b (sense_item (suc l))
         else b
 
-    still : (q r : Bool) → has_item b.sent.over (command_item (suc j)) ≡ true
-        → has_item (if q then story_with_end b (record { command = suc j; sense = false }) e
-        else if r then story_with_over b (sense_item (suc j)) else b).sent.over (command_item (suc j)) ≡ true
-    still true r h = more_has (command_item (suc j)) (command_item (suc j)) b.sent.over h
-    still false true h = more_has (sense_item (suc j)) (command_item (suc j)) b.sent.over h
+    still : (q r : Bool) → has_item b.sent.over (command_item (suc l)) ≡ true
+        → has_item (if q then story_with_end b (record { command = suc l; sense = false }) e
+        else if r then story_with_over b (sense_item (suc l)) else b).sent.over (command_item (suc l)) ≡ true
+    still true r h = more_has (command_item (suc l)) (command_item (suc l)) b.sent.over h
+    still false true h = more_has (sense_item (suc l)) (command_item (suc l)) b.sent.over h
     still false false h = h
 
-    by : has_item b.sent.sent (command_item (suc j)) ≡ true → drops x ≡ true
-        → (o : Bool) → has_item b.sent.over (command_item (suc j)) ≡ o
-        → has_item (after (is_open b.sent (suc j) && drops x)).sent.over (command_item (suc j)) ≡ true
+    by : has_item b.sent.sent (command_item (suc l)) ≡ true → drops x ≡ true
+        → (o : Bool) → has_item b.sent.over (command_item (suc l)) ≡ o
+        → has_item (after (is_open b.sent (suc l) && drops x)).sent.over (command_item (suc l)) ≡ true
     by there dx true f =
-        still (is_open b.sent (suc j) && drops x) (stops x && list_any (λ m. m == suc j) b.sent.checks) f
-    by there dx false f = (λ i. has_item (after ((there i && not (f i)) && dx i)).sent.over (command_item (suc j)))
-        ∙ own_has (command_item (suc j)) b.sent.over
-ends_close drops stops e j (suc k) (x ∷ commands) b c at d sent =
+        still (is_open b.sent (suc l) && drops x) (stops x && list_any (λ m. m == suc l) b.sent.checks) f
+    by there dx false f = (λ i. has_item (after ((there i && not (f i)) && dx i)).sent.over (command_item (suc l)))
+        ∙ own_has (command_item (suc l)) b.sent.over
+ends_close drops stops e l (suc w) (x ∷ commands) b c at d sent =
     let next : Story =
-    if is_open b.sent (suc j) && drops x then story_with_end b (record { command = suc j; sense = false }) e
-    else if stops x && list_any (λ m. m == suc j) b.sent.checks then story_with_over b (sense_item (suc j)) else b in
-    let moved : suc (j + suc k) ≡ suc (suc j + k) = omega arith in
-    let one_more : suc (suc j) ≡ suc j + 1 = omega arith in
+    if is_open b.sent (suc l) && drops x then story_with_end b (record { command = suc l; sense = false }) e
+    else if stops x && list_any (λ m. m == suc l) b.sent.checks then story_with_over b (sense_item (suc l)) else b in
+    let moved : suc (l + suc w) ≡ suc (suc l + w) = omega arith in
+    let one_more : suc (suc l) ≡ suc l + 1 = omega arith in
     (λ i. has_item (story_with_ends drops stops e (sym one_more i) commands next).sent.over (command_item (moved i)))
-    ∙ ends_close drops stops e (suc j) k commands next c at d
-    (same_sent (is_open b.sent (suc j) && drops x) (stops x && list_any (λ m. m == suc j) b.sent.checks)
+    ∙ ends_close drops stops e (suc l) w commands next c at d
+    (same_sent (is_open b.sent (suc l) && drops x) (stops x && list_any (λ m. m == suc l) b.sent.checks)
     ∙ ap (λ (m : ℕ). has_item b.sent.sent (command_item m)) (sym moved) ∙ sent)
   where
-    same_sent : (q r : Bool) → has_item (if q then story_with_end b (record { command = suc j; sense = false }) e
-        else if r then story_with_over b (sense_item (suc j)) else b).sent.sent (command_item (suc (suc j + k)))
-        ≡ has_item b.sent.sent (command_item (suc (suc j + k)))
+    same_sent : (q r : Bool) → has_item (if q then story_with_end b (record { command = suc l; sense = false }) e
+        else if r then story_with_over b (sense_item (suc l)) else b).sent.sent (command_item (suc (suc l + w)))
+        ≡ has_item b.sent.sent (command_item (suc (suc l + w)))
     same_sent true r = refl
     same_sent false true = refl
     same_sent false false = refl

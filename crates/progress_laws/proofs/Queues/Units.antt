@@ -64,24 +64,24 @@ pub record IsThere (s : ScenarioValue) (u : UnitState) (id : ProcId) : Type 0 wh
   pub target_is : process.target ≡ u.target
   pub unit_is : process.unit ≡ u.unit
 
-by_own : (s : ScenarioValue) (u : UnitState) (id : ProcId) (p : Process) → IsOwn s u.target u.unit p
-    → same_id p.id id ≡ true → IsThere s u id
-by_own s u id p own e = record {
-  process = p;
-  is = ap (process_of s) (sym (id_is p.id id e)) ∙ own.is;
+by_own : (s : ScenarioValue) (u : UnitState) (id : ProcId) (c : Process) → IsOwn s u.target u.unit c
+    → same_id c.id id ≡ true → IsThere s u id
+by_own s u id c own e = record {
+  process = c;
+  is = ap (process_of s) (sym (id_is c.id id e)) ∙ own.is;
   target_is = own.target_is;
   unit_is = own.unit_is;
 }
 
 waits_there : (s : ScenarioValue) (u : UnitState) (id : ProcId) (waiting : List Process)
-    → AllOwn s u.target u.unit waiting → list_any (λ (p : Process). same_id p.id id) waiting ≡ true → IsThere s u id
+    → AllOwn s u.target u.unit waiting → list_any (λ (c : Process). same_id c.id id) waiting ≡ true → IsThere s u id
 waits_there s u id [] own e = wrong (sym e)
-waits_there s u id (p ∷ waiting) own e = go (same_id p.id id) refl (λ z. waits_there s u id waiting own.1 z) e
+waits_there s u id (c ∷ waiting) own e = go (same_id c.id id) refl (λ z. waits_there s u id waiting own.1 z) e
   where
     go :
-        (q : Bool) → same_id p.id id ≡ q → (list_any (λ (w : Process). same_id w.id id) waiting ≡ true → IsThere s u id)
+        (q : Bool) → same_id c.id id ≡ q → (list_any (λ (w : Process). same_id w.id id) waiting ≡ true → IsThere s u id)
         → (q || list_any (λ (w : Process). same_id w.id id) waiting) ≡ true → IsThere s u id
-    go true z more h = by_own s u id p own.0 z
+    go true z more h = by_own s u id c own.0 z
     go false z more h = more h
 
 runs_there : (s : ScenarioValue) (u : UnitState) (id : ProcId) (current : Option RunningProcess)
@@ -96,7 +96,7 @@ runs_there s u id (Some r) own e =
 pub process_there : (s : ScenarioValue) (u : UnitState) (id : ProcId) → IsOwnUnit s u → is_in_queue u id ≡ true
     → IsThere s u id
 process_there s u id own e =
-    elim (cases_Bool (list_any (λ (p : Process). same_id p.id id) u.waiting)) [
+    elim (cases_Bool (list_any (λ (c : Process). same_id c.id id) u.waiting)) [
       | inl f ↦ waits_there s u id u.waiting own.waiting f
       | inr f ↦ runs_there s u id u.current own.current (rw f at e)
     ]
@@ -108,16 +108,16 @@ pub record HasCurrent (u : UnitState) : Type 0 where
   pub running_is : u.current ≡ Some running
 
 -- No one stands in the hold of a unit that is not held.
-none_in : (holds : List Nexus) (t n i : ℕ) → is_held holds t n ≡ false → in_hold holds (nexus_at t n i) ≡ false
-none_in [] t n i e = refl
-none_in (q ∷ holds) t n i e =
-    let w = or_parts (is_at_unit q t n) (is_held holds t n) e in
-    (λ j. and_right (q.initiator == i) (is_at_unit q t n) w.0 j || none_in holds t n i w.1 j)
+none_in : (holds : List Nexus) (t m i : ℕ) → is_held holds t m ≡ false → in_hold holds (nexus_at t m i) ≡ false
+none_in [] t m i e = refl
+none_in (q ∷ holds) t m i e =
+    let w = or_parts (is_at_unit q t m) (is_held holds t m) e in
+    (λ j. and_right (q.initiator == i) (is_at_unit q t m) w.0 j || none_in holds t m i w.1 j)
 
-not_any : (holds : List Nexus) (t n : ℕ) → is_held holds t n ≡ false
-    → is_any_held (λ i. in_hold holds (nexus_at t n i)) ≡ false
+not_any : (holds : List Nexus) (t m : ℕ) → is_held holds t m ≡ false
+    → is_any_held (λ i. in_hold holds (nexus_at t m i)) ≡ false
 unfolding is_any_held
-not_any holds t n e = any_none (λ i. in_hold holds (nexus_at t n i)) 8 (λ i. none_in holds t n i e)
+not_any holds t m e = any_none (λ i. in_hold holds (nexus_at t m i)) 8 (λ i. none_in holds t m i e)
 
 settled_unit : (s : ScenarioValue) (a : Array) (u : UnitState) → IsSound s a
     → unit_state_at a.units u.target u.unit ≡ Some u → is_held a.holds u.target u.unit ≡ false
@@ -135,9 +135,9 @@ current_there s a u id sound at here free = go u.current refl
   where
     chosen : u.current ≡ None → (waiting : List Process) → u.waiting ≡ waiting → HasCurrent u
     chosen idle [] w = wrong
-        (sym (sym (λ i. list_any (λ (p : Process). same_id p.id id) (w i) || is_some (running_if (idle i) id)) ∙ here))
-    chosen idle (p ∷ waiting) w =
-        let c = some_chosen u.pick p waiting in
+        (sym (sym (λ i. list_any (λ (t : Process). same_id t.id id) (w i) || is_some (running_if (idle i) id)) ∙ here))
+    chosen idle (t ∷ waiting) w =
+        let c = some_chosen u.pick t waiting in
         let is : choice u.pick u.waiting ≡ Some c.process = ap (choice u.pick) w ∙ c.is in
         let same = sym (λ i. (if has_no_current (idle i) && true then with_current u (is i) else u).current)
         ∙ ap (λ (v : UnitState). v.current) (settled_unit s a u sound at free) ∙ idle in
@@ -158,8 +158,8 @@ both_none (Some x) (Some y) e =
 abbrev none_of : (ℕ → Option Ready) → Option Ready
 none_of f = ready_by (f 0 ∷ f 1 ∷ f 2 ∷ f 3 ∷ f 4 ∷ f 5 ∷ f 6 ∷ f 7 ∷ [])
 
-each_none : (f : ℕ → Option Ready) (n : ℕ) → n < 8 → none_of f ≡ None → f n ≡ None
-each_none f n lt e =
+each_none : (f : ℕ → Option Ready) (i : ℕ) → i < 8 → none_of f ≡ None → f i ≡ None
+each_none f i lt e =
     let a0 = both_none (f 0) _ e in
     let a1 = both_none (f 1) _ a0.1 in
     let a2 = both_none (f 2) _ a1.1 in
@@ -168,7 +168,7 @@ each_none f n lt e =
     let a5 = both_none (f 5) _ a4.1 in
     let a6 = both_none (f 6) _ a5.1 in
     let a7 = both_none (f 7) _ a6.1 in
-    by_number n lt a0.0 a1.0 a2.0 a3.0 a4.0 a5.0 a6.0 a7.0
+    by_number i lt a0.0 a1.0 a2.0 a3.0 a4.0 a5.0 a6.0 a7.0
   where
     by_number : (m : ℕ) → m < 8 → f 0 ≡ None → f 1 ≡ None → f 2 ≡ None → f 3 ≡ None → f 4 ≡ None → f 5 ≡ None
         → f 6 ≡ None → f 7 ≡ None → f m ≡ None

@@ -31,13 +31,13 @@ reset_ends s p end st on = true≢false (sym on ∙ bus_off (λ x. x.rst) (λ _ 
 -- ---- an arbitration
 
 -- No higher ID is true, where no device above drives anything.
-lower_data : (p : List Row) (n : ℕ)
-    → ((d : ℕ) → d < 8 → (drives p d ≡ none) ⊎ ((d < n) × (drives p d ≡ contender_lines d))) → (bus p).data_bits < 2 ^ n
-lower_data p n each = bus_data_below p n (λ d lt. go d (each d lt))
+lower_data : (p : List Row) (m : ℕ)
+    → ((d : ℕ) → d < 8 → (drives p d ≡ none) ⊎ ((d < m) × (drives p d ≡ contender_lines d))) → (bus p).data_bits < 2 ^ m
+lower_data p m each = bus_data_below p m (λ d lt. go d (each d lt))
   where
-    go : (d : ℕ) → (drives p d ≡ none) ⊎ ((d < n) × (drives p d ≡ contender_lines d)) → (drives p d).data_bits < 2 ^ n
-    go d (inl z) = let w = pow_pos n in let v = ap (λ (x : LineSet). x.data_bits) z in omega arith
-    go d (inr z) = let w = pow_below d n z.0 in let v = ap (λ (x : LineSet). x.data_bits) z.1 in omega arith
+    go : (d : ℕ) → (drives p d ≡ none) ⊎ ((d < m) × (drives p d ≡ contender_lines d)) → (drives p d).data_bits < 2 ^ m
+    go d (inl z) = let w = pow_pos m in let v = ap (λ (x : LineSet). x.data_bits) z in omega arith
+    go d (inr z) = let w = pow_below d m z.0 in let v = ap (λ (x : LineSet). x.data_bits) z.1 in omega arith
 
 none_above : (p : List Row) (d : ℕ) → (bus p).data_bits < 2 ^ (d + 1) → has_id_above (bus p) d ≡ false
 none_above p d lt = let w = mod-le (bus p).data_bits 256 in below (2 ^ (d + 1)) ((bus p).data_bits % 256) (omega arith)
@@ -48,40 +48,40 @@ none_above p d lt = let w = mod-le (bus p).data_bits 256 in below (2 ^ (d + 1)) 
 -- A contender below which all others are is due to win.
 contender_wins : (s : ScenarioValue) (p : List Row) (a : Arbitration) (d : ℕ) → IsEnded s p → Standing s p
     → Arbitrating s p a → d < 8 → IsContender s p a d → (bus p).data_bits < 2 ^ (d + 1) → ⊥
-contender_wins s p a d end st h lt k low =
+contender_wins s p a d end st h lt e low =
     let was : stage p ≡ InArbitration a = stage_is p _ _ _ _ h.stands in
     calm_end s p d end st.devices lt (ap (λ (x : LineSet). x.rst) h.stands.bus_is) (moved _ _
-    (due_in s p d k.lat (contender_lines d) (InArbitration a) st.devices lt k.there h.stands.connection_is was k.drive)
+    (due_in s p d e.lat (contender_lines d) (InArbitration a) st.devices lt e.there h.stands.connection_is was e.drive)
     (record {
       row = _;
       is = ap (λ (q : Bool). due_where (not q)
-          (due_at (own_time p d + ARBITRATION_DELAY + k.lat) (record (contender_lines d) { sel = true })))
+          (due_at (own_time p d + ARBITRATION_DELAY + e.lat) (record (contender_lines d) { sel = true })))
           (none_above p d low);
     }))
 
 -- So none stands below any number.
 no_contender : (s : ScenarioValue) (p : List Row) (a : Arbitration) → IsEnded s p → Standing s p → Arbitrating s p a
-    → (n : ℕ) → ((d : ℕ) → d < 8 → (drives p d ≡ none) ⊎ ((d < n) × IsContender s p a d)) → (d : ℕ) → d < 8
+    → (m : ℕ) → ((d : ℕ) → d < 8 → (drives p d ≡ none) ⊎ ((d < m) × IsContender s p a d)) → (d : ℕ) → d < 8
     → drives p d ≡ none
 no_contender s p a end st h zero each = λ d lt. elim (each d lt) [
   | inl z ↦ z
   | inr z ↦ let w = z.0 in absurd (omega arith)
 ]
-no_contender s p a end st h (suc n) each =
-    no_contender s p a end st h n (λ d lt. elim (each d lt) [
+no_contender s p a end st h (suc m) each =
+    no_contender s p a end st h m (λ d lt. elim (each d lt) [
       | inl z ↦ inl z
-      | inr z ↦ elim (cases_eq d n) [
+      | inr z ↦ elim (cases_eq d m) [
         | inl same ↦ absurd (contender_wins s p a d end st h lt z.1
-            (subst (λ (k : ℕ). (bus p).data_bits < 2 ^ k) (one_more d n same) low))
+            (subst (λ (i : ℕ). (bus p).data_bits < 2 ^ i) (one_more d m same) low))
         | inr ne ↦ let w = z.0 in inr (omega arith, z.1)
       ]
     ])
   where
-    one_more : (d n : ℕ) → d ≡ n → suc n ≡ d + 1
-    one_more d n e = omega arith
+    one_more : (d m : ℕ) → d ≡ m → suc m ≡ d + 1
+    one_more d m e = omega arith
 
-    low : (bus p).data_bits < 2 ^ (suc n)
-    low = lower_data p (suc n) (λ d lt. elim (each d lt) [
+    low : (bus p).data_bits < 2 ^ (suc m)
+    low = lower_data p (suc m) (λ d lt. elim (each d lt) [
       | inl z ↦ inl z
       | inr z ↦ inr (z.0, z.1.drive)
     ])
@@ -113,8 +113,8 @@ starts s p c lat since own b =
     where_some true x e = record { row = x; is = refl }
     where_some false x e = absurd (true≢false (sym e))
 
-    well : (k c : ℕ) → k < 8 → c ≢ k → (nat_lt k 8 && not (k == c)) ≡ true
-    well k c lt ne = grind (arith, nat_tests)
+    well : (m c : ℕ) → m < 8 → c ≢ m → (nat_lt m 8 && not (m == c)) ≡ true
+    well m c lt ne = grind (arith, nat_tests)
 
 pub won_ends : (s : ScenarioValue) (p : List Row) (c t : ℕ) → IsEnded s p → Standing s p → ArbitrationWon s p c t
     → IsBound s p c → ⊥
@@ -133,10 +133,10 @@ calls_end s p c b end st lt on calm sel acts =
     let h = there_by s p c (λ x. x.sel) st lt refl sel in
     calm_end s p c end st.devices lt (ap (λ (x : LineSet). x.rst) on ∙ calm) (acts h.latency h.latency_is)
 
-answered_acts : (m : Bool) (me : Myself) (w : Want) (k t1 t2 t3 : ℕ)
-    → SomeDue (answered_due me w (answered_calling m k t1 t2 t3) t3)
-answered_acts true me w k t1 t2 t3 = record { row = _; is = refl }
-answered_acts false me w k t1 t2 t3 = record { row = _; is = refl }
+answered_acts : (m : Bool) (me : Myself) (w : Want) (i t1 t2 t3 : ℕ)
+    → SomeDue (answered_due me w (answered_calling m i t1 t2 t3) t3)
+answered_acts true me w i t1 t2 t3 = record { row = _; is = refl }
+answered_acts false me w i t1 t2 t3 = record { row = _; is = refl }
 
 -- Where nothing is due while no connection stands, the bus is free.
 pub free_at_end : (s : ScenarioValue) (p : List Row) → IsEnded s p → Standing s p

@@ -95,7 +95,7 @@ shaking_out s p n msg cd true false atn x end st there calm h = go (x == 0) refl
 
     go : (q : Bool) → (x == 0) ≡ q → ⊥
     go true none =
-        let z = subst (λ (k : ℕ). Shaking p n msg cd false true false atn k 0) (zero_of x none) h in
+        let z = subst (λ (m : ℕ). Shaking p n msg cd false true false atn m 0) (zero_of x none) h in
         initiator_end s p n true _ t.latency end st.devices calm z.linked z.phase.begun_is t.latency_is
         (record { row = _; is = asking_initiator_out s p n msg cd atn t.latency z })
     go false some = initiator_end s p n true _ t.latency end st.devices calm h.linked h.phase.begun_is t.latency_is

@@ -36,14 +36,14 @@ joined s (row ∷ p) wants o prompt =
 -- ---- the bus
 
 pub free_when_ended : (s : ScenarioValue) (p : List Row) → Joined s p → IsEnded s p → FreeBus s p
-free_when_ended s p j end = go j.stood.here
+free_when_ended s p f end = go f.stood.here
   where
     go : AnyStage s p → FreeBus s p
-    go (apart h alone) = free_at_end s p end j.stood.standing j.bound.caller alone h
+    go (apart h alone) = free_at_end s p end f.stood.standing f.bound.caller alone h
     go (linked n h) =
         let e = sides_are s p n h in
-        absurd (goes_on s p n end j.stood.standing
-        (ends_there s p n e.0 j.stood.standing e.1 (j.ends n (link_connection s p n h))) (link_calm s p n h) h)
+        absurd (goes_on s p n end f.stood.standing
+        (ends_there s p n e.0 f.stood.standing e.1 (f.ends n (link_connection s p n h))) (link_calm s p n h) h)
 
 -- ---- the rules at the end
 
@@ -51,22 +51,22 @@ one_of : (q a b : Bool) → a ≡ true → b ≡ true → (if q then a else b) �
 one_of true a b e f = e
 one_of false a b e f = f
 
-all_kept : (kept : ℕ → Bool) → ((n : ℕ) → kept n ≡ true) → (rules : List ℕ) → AllByRecursion (λ n. kept n ≡ true) rules
+all_kept : (kept : ℕ → Bool) → ((m : ℕ) → kept m ≡ true) → (rules : List ℕ) → AllByRecursion (λ m. kept m ≡ true) rules
 all_kept kept h [] = tt
-all_kept kept h (n ∷ rules) = (h n, all_kept kept h rules)
+all_kept kept h (m ∷ rules) = (h m, all_kept kept h rules)
 
 -- Any rule at an end at this time, where these hold that set a latest time.
-end_keeps : (v : Seen) (t n : ℕ) → is_in_order v t ≡ true → is_cleared v t ≡ true → is_left v t v.call ≡ true
+end_keeps : (v : Seen) (t m : ℕ) → is_in_order v t ≡ true → is_cleared v t ≡ true → is_left v t v.call ≡ true
     → initiator_released v t ≡ true → target_released v t ≡ true → is_quiet_in_reset v t ≡ true
-    → keeps_at_end n v t ≡ true
-end_keeps v t n order cleared left initiator target quiet =
-    true_by_test (not (stands_in_reset n) && is_reset v) (end_test n v t)
-    (one_of (n == 1) _ _ order
-    (one_of (n == 3) _ _ cleared
-    (one_of (n == 7) _ _ left
-    (one_of (n == 15) _ _ initiator
-    (one_of (n == 16) _ _ target
-    (one_of (n == 28) _ _ quiet refl))))))
+    → keeps_at_end m v t ≡ true
+end_keeps v t m order cleared left initiator target quiet =
+    true_by_test (not (stands_in_reset m) && is_reset v) (end_test m v t)
+    (one_of (m == 1) _ _ order
+    (one_of (m == 3) _ _ cleared
+    (one_of (m == 7) _ _ left
+    (one_of (m == 15) _ _ initiator
+    (one_of (m == 16) _ _ target
+    (one_of (m == 28) _ _ quiet refl))))))
 
 end_kept : (s : ScenarioValue) (p : List Row) → FreeBus s p → KeepsAll (obeys_at_end p (last_time p))
 unfolding seen_with
@@ -81,24 +81,24 @@ end_kept s p h =
     (ap (λ (l : LineSet). l.rst) h.stands.bus_is))) judged_rules
 
 pub lawful_when_ended : (s : ScenarioValue) (p : List Row) → Joined s p → IsEnded s p → IsLawful p (last_time p)
-lawful_when_ended s p j end = (j.stood.standing.lawful, end_kept s p (free_when_ended s p j end))
+lawful_when_ended s p e end = (e.stood.standing.lawful, end_kept s p (free_when_ended s p e end))
 
 -- ---- what is left to do
 
 -- No device of the scenario wants the bus.
 pub unwanted_when_ended : (s : ScenarioValue) (p : List Row) → Joined s p → IsEnded s p → (d lat : ℕ) → d < 8
     → latency_of s d ≡ Some lat → want_time s (run_state s p) d ≡ None
-unwanted_when_ended s p j end d lat lt there = go (want_time s (run_state s p) d) refl
+unwanted_when_ended s p f end d lat lt there = go (want_time s (run_state s p) d) refl
   where
     h : FreeBus s p
-    h = free_when_ended s p j end
+    h = free_when_ended s p f end
 
     here : stage p ≡ OnFreeBus (free_since p)
     here = stage_is p _ _ _ _ h.stands
 
     go : (o : Option ℕ) → want_time s (run_state s p) d ≡ o → want_time s (run_state s p) d ≡ None
     go None e = e
-    go (Some w) e = absurd (calm_end s p d end j.stood.standing.devices lt (ap (λ (l : LineSet). l.rst) h.stands.bus_is)
-        (moved _ _ (free_due_is s p d lat (free_since p) j.stood.standing.devices lt there h.stands.connection_is here
+    go (Some w) e = absurd (calm_end s p d end f.stood.standing.devices lt (ap (λ (l : LineSet). l.rst) h.stands.bus_is)
+        (moved _ _ (free_due_is s p d lat (free_since p) f.stood.standing.devices lt there h.stands.connection_is here
         (h.quiet d lt) ∙ ap (free_due (device_with d lat none (own_time p d)) (free_since p)) e)
         (record { row = _; is = refl })))

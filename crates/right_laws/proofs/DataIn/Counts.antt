@@ -229,11 +229,11 @@ read_begun s p row n w con calm g turned reading = go (process_served s k) refl
         count : run_count s (row ∷ p) n ≡ run_length policy (task_here s j q)
         count = ap (run_length_if policy) (ap (task_if s j) (ap (process_item s) i.served_is ∙ e))
 
-counted_up : (n m : ℕ) → n < m → counted_on n ≤ m
-counted_up n m h = omega (arith, h)
+counted_up : (i m : ℕ) → i < m → counted_on i ≤ m
+counted_up i m h = omega (arith, h)
 
-pub none_asked : (n m : ℕ) → (n == 0) ≡ true → 1 ≤ m → n < m
-none_asked n m e h = let z = Rattle.due_model.specs.bus_base.proofs.Tests.zero_of n e in omega (arith, z, h)
+pub none_asked : (i m : ℕ) → (i == 0) ≡ true → 1 ≤ m → i < m
+none_asked i m e h = let z = Rattle.due_model.specs.bus_base.proofs.Tests.zero_of i e in omega (arith, z, h)
 
 stays_few : (s : ScenarioValue) (p : List Row) (row : Row) (n : Connection) → ReadRow s p row → connection p ≡ Some n
     → (bus p).rst ≡ false → connection (row ∷ p) ≡ Some n → (bus (row ∷ p)).rst ≡ false → (g : GoingRow s p row n)

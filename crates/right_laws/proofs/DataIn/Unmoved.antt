@@ -14,9 +14,9 @@ use proofs.{Given.Crossings.{data_phase}, Ran.{Crossings.{here_goes, known_serve
 use Rattle.trace_laws.specs.book_laws.specs.Traces.{ends}
 
 abbrev pub IsUnmovedServed : ScenarioValue → List Row → Type 0
-IsUnmovedServed s rows = (n : Connection) (p : Process) → connection rows ≡ Some n → (bus rows).rst ≡ false
-    → (instructions s rows).known ≡ false → process_served s (run_state s rows) ≡ Some p
-    → (carried_here (run_state s rows) p.id).moved.bytes ≡ []
+IsUnmovedServed s rows = (n : Connection) (c : Process) → connection rows ≡ Some n → (bus rows).rst ≡ false
+    → (instructions s rows).known ≡ false → process_served s (run_state s rows) ≡ Some c
+    → (carried_here (run_state s rows) c.id).moved.bytes ≡ []
 
 pub unmoved_first : (s : ScenarioValue) → IsUnmovedServed s []
 unmoved_first s n p e = none_some n e

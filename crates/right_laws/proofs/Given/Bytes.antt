@@ -31,18 +31,18 @@ front_of : (bytes all : List ℕ) → bytes ≡ [] → IsFront bytes all
 front_of bytes all e = record { rest = all; all_is = ap (λ (x : List ℕ). x ++ all) e }
 
 -- As a byte of it crosses.
-given_with : (s : ScenarioValue) (k : RunState) (p : Process) (id : ProcId) (byte : ℕ)
-    → GivesNext s k p id byte → GivenIn (array_of s k) p (carried_here k id).moved.bytes
-    → GivenIn (array_of s k) p (area_with (carried_here k id).moved byte).bytes
-given_with s k p id byte w h = inr (record {
+given_with : (s : ScenarioValue) (k : RunState) (c : Process) (id : ProcId) (byte : ℕ)
+    → GivesNext s k c id byte → GivenIn (array_of s k) c (carried_here k id).moved.bytes
+    → GivenIn (array_of s k) c (area_with (carried_here k id).moved byte).bytes
+given_with s k c id byte w h = inr (record {
   good = w.good;
-  front = λ reads. front_with (carried_here k id).moved (reply_now (array_of s k) p).bytes byte (was h reads)
+  front = λ reads. front_with (carried_here k id).moved (reply_now (array_of s k) c).bytes byte (was h reads)
       (w.byte_is reads) (w.active_in reads) (w.within reads);
 })
   where
-    was : GivenIn (array_of s k) p (carried_here k id).moved.bytes → is_writing p ≡ false
-        → IsFront (carried_here k id).moved.bytes (reply_now (array_of s k) p).bytes
-    was (inl e) reads = front_of (carried_here k id).moved.bytes (reply_now (array_of s k) p).bytes e
+    was : GivenIn (array_of s k) c (carried_here k id).moved.bytes → is_writing c ≡ false
+        → IsFront (carried_here k id).moved.bytes (reply_now (array_of s k) c).bytes
+    was (inl e) reads = front_of (carried_here k id).moved.bytes (reply_now (array_of s k) c).bytes e
     was (inr g) reads = g.front reads
 
 -- ---- the bytes that were carried
@@ -136,11 +136,11 @@ given_stays s p row h asked id was q own =
     known : (l : Link) → k.story.link ≡ Some l → (o : Option Item) → l.item ≡ o → As (carried_here j id).moved.bytes
     known l e None z =
         still (λ m y w v. none_some (process id) (sym z ∙ ap (λ (x : Link). x.item) (same_Some l m (sym e ∙ y)) ∙ w))
-    known l e (Some (abort n)) z =
-        still (λ m y w v. absurd (abort_is n (sym z ∙ ap (λ (x : Link). x.item) (same_Some l m (sym e ∙ y)) ∙ w)))
+    known l e (Some (abort u)) z =
+        still (λ m y w v. absurd (abort_is u (sym z ∙ ap (λ (x : Link). x.item) (same_Some l m (sym e ∙ y)) ∙ w)))
       where
-        abort_is : (n : ℕ) → (let o : Option Item = Some (abort n) in o) ≡ Some (process id) → ⊥
-        abort_is n v = absurd cc
+        abort_is : (u : ℕ) → (let o : Option Item = Some (abort u) in o) ≡ Some (process id) → ⊥
+        abort_is u v = absurd cc
     known l e (Some (process x)) z = by_bool (same_id x id)
         (λ v. at l e (z ∙ ap (λ (y : ProcId). Some (process y)) (id_is x id v))) (λ v. still (λ m y w c. wrong
         (sym (self_id id) ∙ ap (is_it id) (sym w ∙ ap (λ (t : Link). t.item) (same_Some m l (sym y ∙ e)) ∙ z) ∙ v)))
@@ -243,31 +243,31 @@ given_next s p row h asked before = each_both (IfOpen Mid b) (IfOpen (HasReplySt
 -- ---- as it runs
 
 -- By the array in which it runs.
-all_given : (a : Array) (p : Process) (reply : Reply) (bytes : List ℕ) → reply ≡ reply_now a p
-    → GivenIn a p bytes → (is_writing p && reply.status == GOOD) ≡ false
-    → (is_writing p ≡ false → length reply.bytes ≤ length bytes) → bytes ≡ moved_bytes p reply
-all_given a p reply bytes same w not_both whole = go (reply.status == GOOD) refl (is_writing p) refl
+all_given : (a : Array) (c : Process) (reply : Reply) (bytes : List ℕ) → reply ≡ reply_now a c
+    → GivenIn a c bytes → (is_writing c && reply.status == GOOD) ≡ false
+    → (is_writing c ≡ false → length reply.bytes ≤ length bytes) → bytes ≡ moved_bytes c reply
+all_given a c reply bytes same w not_both whole = go (reply.status == GOOD) refl (is_writing c) refl
   where
-    none : is_writing p ≡ true → (reply.status == GOOD) ≡ false → GivenIn a p bytes → bytes ≡ []
+    none : is_writing c ≡ true → (reply.status == GOOD) ≡ false → GivenIn a c bytes → bytes ≡ []
     none writes bad (inl e) = e
     none writes bad (inr g) =
         wrong (sym (ap (λ (x : ℕ). x == GOOD) (ap (λ (r : Reply). r.status) same ∙ g.good writes)) ∙ bad)
 
-    front : is_writing p ≡ false → GivenIn a p bytes → IsFront bytes (reply_now a p).bytes
-    front reads (inl e) = front_of bytes (reply_now a p).bytes e
+    front : is_writing c ≡ false → GivenIn a c bytes → IsFront bytes (reply_now a c).bytes
+    front reads (inl e) = front_of bytes (reply_now a c).bytes e
     front reads (inr g) = g.front reads
 
-    go : (x : Bool) → (reply.status == GOOD) ≡ x → (y : Bool) → is_writing p ≡ y → bytes ≡ moved_bytes p reply
-    go false ex true ey = none ey ex w ∙ sym (λ i. if ey i then (if ex i then p.sent else []) else reply.bytes)
+    go : (x : Bool) → (reply.status == GOOD) ≡ x → (y : Bool) → is_writing c ≡ y → bytes ≡ moved_bytes c reply
+    go false ex true ey = none ey ex w ∙ sym (λ i. if ey i then (if ex i then c.sent else []) else reply.bytes)
     go true ex true ey = wrong (sym (λ i. ey i && ex i) ∙ not_both)
     go x ex false ey =
         let f = front ey w in
         front_all bytes f.rest reply.bytes (f.all_is ∙ ap (λ (r : Reply). r.bytes) (sym same)) (whole ey)
-        ∙ sym (λ i. if ey i then (if reply.status == GOOD then p.sent else []) else reply.bytes)
+        ∙ sym (λ i. if ey i then (if reply.status == GOOD then c.sent else []) else reply.bytes)
 
-reply_is : (a : Array) (p : Process) (reply : Reply) (o : Option Reply) → o ≡ Some reply → o ≡ Some (reply_now a p)
-    → reply ≡ reply_now a p
-reply_is a p reply o e f = same_Some reply (reply_now a p) (sym e ∙ f)
+reply_is : (a : Array) (c : Process) (reply : Reply) (o : Option Reply) → o ≡ Some reply → o ≡ Some (reply_now a c)
+    → reply ≡ reply_now a c
+reply_is a c reply o e f = same_Some reply (reply_now a c) (sym e ∙ f)
 
 pub gives_at_run : (s : ScenarioValue) (p : List Row) (row : Row) → HasSeats s → Known s p row
     → GivesAsked s (run_state s p) row → GivenFacts s p → GivesAtRun s (run_state s p) row

@@ -17,28 +17,28 @@ use proofs.Ran.{Crossings.{known_served}, Facts.{Known}}
 
 -- ---- what moves
 
-good_of : (p : Process) (r : Reply) (x : ℕ) → is_writing p ≡ true → x < moved_count p r → r.status ≡ GOOD
-good_of p r x w h =
+good_of : (c : Process) (r : Reply) (x : ℕ) → is_writing c ≡ true → x < moved_count c r → r.status ≡ GOOD
+good_of c r x w h =
     by_bool (r.status == GOOD)
     (λ e. grind (arith, nat_tests))
-    (λ e. none (moved_count p r) (λ i. length (if w i then (if e i then p.sent else []) else r.bytes)) h)
+    (λ e. none (moved_count c r) (λ i. length (if w i then (if e i then c.sent else []) else r.bytes)) h)
   where
-    none : (n : ℕ) → n ≡ 0 → x < n → r.status ≡ GOOD
-    none n e f = absurd omega (arith, e, f)
+    none : (m : ℕ) → m ≡ 0 → x < m → r.status ≡ GOOD
+    none m e f = absurd omega (arith, e, f)
 
-few_of : (p : Process) (r : Reply) → is_writing p ≡ false → moved_count p r ≤ length r.bytes
-few_of p r w = go (r.status == GOOD) (is_writing p) w
+few_of : (c : Process) (r : Reply) → is_writing c ≡ false → moved_count c r ≤ length r.bytes
+few_of c r w = go (r.status == GOOD) (is_writing c) w
   where
-    go : (g b : Bool) → b ≡ false → length (if b then (if g then p.sent else []) else r.bytes) ≤ length r.bytes
+    go : (g b : Bool) → b ≡ false → length (if b then (if g then c.sent else []) else r.bytes) ≤ length r.bytes
     go g true e = wrong e
     go g false e = omega arith
 
 less : (a b c d : ℕ) → a ≡ b → b < c → c ≤ d → a < d
 less a b c d e f g = omega (arith, e, f, g)
 
-reads_in : (io : Bool) (p : Process) → is_directed io (writes_of (Some p)) ≡ true → is_writing p ≡ false → io ≡ true
-reads_in true p e w = refl
-reads_in false p e w = wrong' (sym w ∙ e)
+reads_in : (io : Bool) (c : Process) → is_directed io (writes_of (Some c)) ≡ true → is_writing c ≡ false → io ≡ true
+reads_in true c e w = refl
+reads_in false c e w = wrong' (sym w ∙ e)
 
 -- ---- lines
 

@@ -7,13 +7,13 @@ use Rattle.due_model.specs.array_model.specs.Steps
 
 -- ---- the reply of one that runs
 
-own_waits : (s : ScenarioValue) (t n : ℕ) (waiting : List Process) → AllOwn s t n waiting → Waits (IsOf s) waiting
-own_waits s t n [] h = tt
-own_waits s t n (p ∷ waiting) h = (h.0.is, own_waits s t n waiting h.1)
+own_waits : (s : ScenarioValue) (t m : ℕ) (waiting : List Process) → AllOwn s t m waiting → Waits (IsOf s) waiting
+own_waits s t m [] h = tt
+own_waits s t m (c ∷ waiting) h = (h.0.is, own_waits s t m waiting h.1)
 
-own_runs : (s : ScenarioValue) (t n : ℕ) (o : Option RunningProcess) → IsOwnRunning s t n o → Runs (IsOf s) o
-own_runs s t n None h = tt
-own_runs s t n (Some r) h = h.is
+own_runs : (s : ScenarioValue) (t m : ℕ) (o : Option RunningProcess) → IsOwnRunning s t m o → Runs (IsOf s) o
+own_runs s t m None h = tt
+own_runs s t m (Some r) h = h.is
 
 pub own_units : (s : ScenarioValue) (units : List UnitState) → AllOwnUnits s units → OnUnits (IsOf s) units
 own_units s [] h = tt
@@ -27,8 +27,8 @@ own_guests s [] h = tt
 own_guests s (g ∷ guests) h = (h.0, own_guests s guests h.1)
 
 -- The process that runs is the one of the scenario.
-pub own_running : (s : ScenarioValue) (a : Array) (p : Process) (r : RunningProcess) → IsSound s a
-    → process_of s p.id ≡ Some p → Steps.running_process a p.id ≡ Some r → r.process ≡ p
-own_running s a p r sound own e = same_Some r.process p (sym (running_has (IsOf s) a p.id r
+pub own_running : (s : ScenarioValue) (a : Array) (c : Process) (r : RunningProcess) → IsSound s a
+    → process_of s c.id ≡ Some c → Steps.running_process a c.id ≡ Some r → r.process ≡ c
+own_running s a c r sound own e = same_Some r.process c (sym (running_has (IsOf s) a c.id r
     (record { units = own_units s a.units sound.units; guests = own_guests s a.guests sound.guests }) e)
-    ∙ ap (process_of s) (running_id a p.id r e) ∙ own)
+    ∙ ap (process_of s) (running_id a c.id r e) ∙ own)

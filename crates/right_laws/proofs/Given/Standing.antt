@@ -20,7 +20,7 @@ nothing_own id = record { active_in = omega arith; saved_in = omega arith }
 set_long : (bytes : List ℕ) (at byte : ℕ) → length (slice_set bytes at byte) ≡ length bytes
 set_long [] at byte = refl
 set_long (x ∷ xs) zero byte = refl
-set_long (x ∷ xs) (suc at) byte = ap (λ (n : ℕ). suc n) (set_long xs at byte)
+set_long (x ∷ xs) (suc at) byte = ap (λ (m : ℕ). suc m) (set_long xs at byte)
 
 area_own : (a : Area) (byte : ℕ) → StandsIn a → StandsIn (area_with a byte)
 area_own a byte h = by_bool (nat_lt a.active (length a.bytes))

@@ -18,25 +18,25 @@ use Rattle.due_model.specs.array_model.specs.ArrayHistory as Play
 -- The bytes of a process by the array and by how far it has come, whatever it has carried.
 abbrev task_by : Array → List ProcessProgress → CarriedBytes → Option Process → Option Task
 task_by a made c None = None
-task_by a made c (Some p) =
-    Some (task_with a (progress_in made p.id) p c (reply_now a p) (Play.reply_in a.replies p.id))
+task_by a made c (Some t) =
+    Some (task_with a (progress_in made t.id) t c (reply_now a t) (Play.reply_in a.replies t.id))
 
 abbrev given_by : Array → Option Process → List ℕ
 given_by a None = []
-given_by a (Some p) = (reply_now a p).bytes
+given_by a (Some c) = (reply_now a c).bytes
 
 bytes_same :
-    (policy : Policy) (a b : Array) (m n : List ProcessProgress) (c d : CarriedBytes) (o : Option Process) (x : ℕ)
-    → b ≡ a → n ≡ m
-    → data_byte policy (task_by b n d o) (given_by b o) 0 x ≡ data_byte policy (task_by a m c o) (given_by a o) 0 x
-bytes_same policy a b m n c d None x e f = refl
-bytes_same policy a b m n c d (Some p) x e f =
-    λ i. data_byte policy (task_by (e i) (f i) c (Some p)) (given_by (e i) (Some p)) 0 x
+    (policy : Policy) (a b : Array) (m xs : List ProcessProgress) (c d : CarriedBytes) (o : Option Process) (x : ℕ)
+    → b ≡ a → xs ≡ m
+    → data_byte policy (task_by b xs d o) (given_by b o) 0 x ≡ data_byte policy (task_by a m c o) (given_by a o) 0 x
+bytes_same policy a b m xs c d None x e f = refl
+bytes_same policy a b m xs c d (Some t) x e f =
+    λ i. data_byte policy (task_by (e i) (f i) c (Some t)) (given_by (e i) (Some t)) 0 x
 
-length_same : (policy : Policy) (a b : Array) (m n : List ProcessProgress) (c d : CarriedBytes) (o : Option Process)
-    → b ≡ a → n ≡ m → run_length_if policy (task_by b n d o) ≡ run_length_if policy (task_by a m c o)
-length_same policy a b m n c d None e f = refl
-length_same policy a b m n c d (Some p) e f = λ i. run_length_if policy (task_by (e i) (f i) c (Some p))
+length_same : (policy : Policy) (a b : Array) (m xs : List ProcessProgress) (c d : CarriedBytes) (o : Option Process)
+    → b ≡ a → xs ≡ m → run_length_if policy (task_by b xs d o) ≡ run_length_if policy (task_by a m c o)
+length_same policy a b m xs c d None e f = refl
+length_same policy a b m xs c d (Some t) e f = λ i. run_length_if policy (task_by (e i) (f i) c (Some t))
 
 pub bytes_kept : (s : ScenarioValue) (k j : RunState) (policy : Policy) (x : ℕ)
     → process_served s j ≡ process_served s k → array_of s j ≡ array_of s k → j.progress ≡ k.progress

@@ -65,12 +65,12 @@ pub record DataRow (s : ScenarioValue) (p : List Row) (row : Row) (n : Connectio
 
 same_data : (s : ScenarioValue) (p q : List Row) (n : Connection) → DataKept s p q n
     → (handshakes q).requests ≡ (handshakes p).requests → data_at s q n ≡ data_at s p n
-same_data s p q n k e = k.bytes (handshakes q).requests
+same_data s p q n h e = h.bytes (handshakes q).requests
     ∙ ap (data_byte (policy_of (target_def_of s n.target)) (task_of s (run_state s p)) (given_of s (run_state s p)) 0) e
 
 same_more : (s : ScenarioValue) (p q : List Row) (n : Connection) → DataKept s p q n
     → (handshakes q).requests ≡ (handshakes p).requests → more_at s q n ≡ more_at s p n
-same_more s p q n k e = λ i. nat_lt (e i) (k.long i)
+same_more s p q n h e = λ i. nat_lt (e i) (h.long i)
 
 offered_data :
     (s : ScenarioValue) (p : List Row) (n : Connection) (bsy ack atn : Bool) (x : ℕ) (msg cd req : Bool) (y : ℕ)
@@ -160,7 +160,7 @@ offers s p t n atn x msg cd h b un w =
     offered_by s q n f linked (record {
       first = λ a z u some. ap byte_bits (offered_data s p n false false atn x msg cd false 0 a ∙ sym (same_data s p q n
           (w.kept (ap is_data_in h.stands.bus_is ∙ a) (ap is_data_in linked.stands.bus_is ∙ a) b) same));
-      next = λ a z u pulsed more. wrong (sym un ∙ sym (ap (λ (k : ℕ). k == 0) same) ∙ u);
+      next = λ a z u pulsed more. wrong (sym un ∙ sym (ap (λ (m : ℕ). m == 0) same) ∙ u);
     })
 
 -- REQ is true after it.
@@ -187,12 +187,12 @@ ended s p t n atn msg cd false x y h b un w =
     let e : EndLines = ends false true atn x msg cd false true y in
     let z : ℕ = bits_if (false && (offering_with s p n true e).follows) (offering_with s p n true e).byte in
     offered_by s _ n (ends false true atn x msg cd false false z) (target_moves p n e msg cd false false z t h).linked
-    (record { first = λ a k u some. absurd (no_out msg cd a); next = λ a k u pulsed more. absurd (no_out msg cd a) })
+    (record { first = λ a g u some. absurd (no_out msg cd a); next = λ a g u pulsed more. absurd (no_out msg cd a) })
   where
     no_out : (m c : Bool) → (not m && not c && false) ≡ true → ⊥
-    no_out true c k = wrong' k
-    no_out false true k = wrong' k
-    no_out false false k = wrong' k
+    no_out true c g = wrong' g
+    no_out false true g = wrong' g
+    no_out false false g = wrong' g
 ended s p t n atn msg cd true x y h b un w =
     let e : EndLines = ends false true atn x msg cd true true y in
     let z : ℕ = bits_if (true && (offering_with s p n true e).follows) (offering_with s p n true e).byte in
@@ -200,11 +200,11 @@ ended s p t n atn msg cd true x y h b un w =
     let q : List Row = target_row t n f ∷ p in
     let r = target_in_phase p n e false z t h in
     let linked = (target_moves p n e msg cd true false z t h).linked in
-    let same : (handshakes q).requests ≡ (handshakes p).requests = ap (λ (k : Handshakes). k.requests) r.handshakes_are
+    let same : (handshakes q).requests ≡ (handshakes p).requests = ap (λ (d : Handshakes). d.requests) r.handshakes_are
     ∙ requests_stay p (rises true true) (rises true false) t refl in
     offered_by s q n f linked (record {
-      first = λ a k u some. wrong (sym u ∙ ap (λ (v : ℕ). v == 0) same ∙ un);
-      next = λ a k u pulsed more.
+      first = λ a d u some. wrong (sym u ∙ ap (λ (v : ℕ). v == 0) same ∙ un);
+      next = λ a d u pulsed more.
           let kept = w.kept (ap is_data_in h.stands.bus_is ∙ a) (ap is_data_in linked.stands.bus_is ∙ a) b in
           bits_of (true && (offering_with s p n true e).follows) (offering_with s p n true e).byte
           (follows_data s p n false true atn x msg cd true y a ∙ sym (same_more s p q n kept same) ∙ more)
@@ -270,27 +270,27 @@ left_in : (s : ScenarioValue) (p : List Row) (t : ℕ) (n : Connection) (atn msg
     → may_leave msg cd true atn o ≡ true → DataRow s p (row_of_lines t n.target (lines_by v true l o)) n
     → Linked (row_of_lines t n.target (lines_by v true l o) ∷ p) n f
     → OffersData s (row_of_lines t n.target (lines_by v true l o) ∷ p) n f
-left_in s p t n atn msg cd x y v l None f h own m w k = none_some n
-    (sym (freed_connection p t n (ends false false atn x msg cd true false y) refl h) ∙ k.stands.connection_is)
-left_in s p t n atn msg cd x y v l (Some Phase.DataOut) f h own m w k = elsewhere s _ n f (λ a. wrong' (data_lines
-    (lines_by v true l (Some Phase.DataOut)) f (side_is p t n (lines_by v true l (Some Phase.DataOut)) f k) a))
-left_in s p t n atn msg cd x y v l (Some Phase.Status) f h own m w k = elsewhere s _ n f (λ a. wrong' (data_lines
-    (lines_by v true l (Some Phase.Status)) f (side_is p t n (lines_by v true l (Some Phase.Status)) f k) a))
-left_in s p t n atn msg cd x y v l (Some Phase.Command) f h own m w k = elsewhere s _ n f (λ a. wrong' (data_lines
-    (lines_by v true l (Some Phase.Command)) f (side_is p t n (lines_by v true l (Some Phase.Command)) f k) a))
-left_in s p t n atn msg cd x y v l (Some Phase.MessageOut) f h own m w k = elsewhere s _ n f (λ a. wrong' (data_lines
-    (lines_by v true l (Some Phase.MessageOut)) f (side_is p t n (lines_by v true l (Some Phase.MessageOut)) f k) a))
-left_in s p t n atn msg cd x y v l (Some Phase.MessageIn) f h own m w k = elsewhere s _ n f (λ a. wrong' (data_lines
-    (lines_by v true l (Some Phase.MessageIn)) f (side_is p t n (lines_by v true l (Some Phase.MessageIn)) f k) a))
-left_in s p t n atn msg cd x y v l (Some Phase.DataIn) f h own m w k =
+left_in s p t n atn msg cd x y v l None f h own m w e = none_some n
+    (sym (freed_connection p t n (ends false false atn x msg cd true false y) refl h) ∙ e.stands.connection_is)
+left_in s p t n atn msg cd x y v l (Some Phase.DataOut) f h own m w e = elsewhere s _ n f (λ a. wrong' (data_lines
+    (lines_by v true l (Some Phase.DataOut)) f (side_is p t n (lines_by v true l (Some Phase.DataOut)) f e) a))
+left_in s p t n atn msg cd x y v l (Some Phase.Status) f h own m w e = elsewhere s _ n f (λ a. wrong' (data_lines
+    (lines_by v true l (Some Phase.Status)) f (side_is p t n (lines_by v true l (Some Phase.Status)) f e) a))
+left_in s p t n atn msg cd x y v l (Some Phase.Command) f h own m w e = elsewhere s _ n f (λ a. wrong' (data_lines
+    (lines_by v true l (Some Phase.Command)) f (side_is p t n (lines_by v true l (Some Phase.Command)) f e) a))
+left_in s p t n atn msg cd x y v l (Some Phase.MessageOut) f h own m w e = elsewhere s _ n f (λ a. wrong' (data_lines
+    (lines_by v true l (Some Phase.MessageOut)) f (side_is p t n (lines_by v true l (Some Phase.MessageOut)) f e) a))
+left_in s p t n atn msg cd x y v l (Some Phase.MessageIn) f h own m w e = elsewhere s _ n f (λ a. wrong' (data_lines
+    (lines_by v true l (Some Phase.MessageIn)) f (side_is p t n (lines_by v true l (Some Phase.MessageIn)) f e) a))
+left_in s p t n atn msg cd x y v l (Some Phase.DataIn) f h own m w e =
     let before : is_data_in (bus p) ≡ false = ap is_data_in h.stands.bus_is
     ∙ no_data msg cd (not_first (same_phases msg cd true false false true) _ m) in
     record {
       first = λ a z u some.
-          sym (ap (λ (b : LineSet). b.data_bits) (side_is p t n (lines_by v true l (Some Phase.DataIn)) f k))
+          sym (ap (λ (b : LineSet). b.data_bits) (side_is p t n (lines_by v true l (Some Phase.DataIn)) f e))
           ∙ ap byte_bits
-          (own ∙ w.turned (ap (λ (b : LineSet). b.io) h.stands.bus_is) before (ap is_data_in k.stands.bus_is ∙ a));
-      next = λ a z u pulsed more. wrong (sym (w.fresh before (ap is_data_in k.stands.bus_is ∙ a)) ∙ u);
+          (own ∙ w.turned (ap (λ (b : LineSet). b.io) h.stands.bus_is) before (ap is_data_in e.stands.bus_is ∙ a));
+      next = λ a z u pulsed more. wrong (sym (w.fresh before (ap is_data_in e.stands.bus_is ∙ a)) ∙ u);
     }
 
 -- After one to the target it drives none.
@@ -299,23 +299,23 @@ left_out : (s : ScenarioValue) (p : List Row) (t : ℕ) (n : Connection) (atn ms
     → DataRow s p (row_of_lines t n.target (lines_by v false l o)) n
     → Linked (row_of_lines t n.target (lines_by v false l o) ∷ p) n f
     → OffersData s (row_of_lines t n.target (lines_by v false l o) ∷ p) n f
-left_out s p t n atn msg cd x y v l None f h w k = none_some n
-    (sym (freed_connection p t n (ends false false atn x msg cd false false y) refl h) ∙ k.stands.connection_is)
-left_out s p t n atn msg cd x y v l (Some Phase.DataOut) f h w k = elsewhere s _ n f (λ a. wrong' (data_lines
-    (lines_by v false l (Some Phase.DataOut)) f (side_is p t n (lines_by v false l (Some Phase.DataOut)) f k) a))
-left_out s p t n atn msg cd x y v l (Some Phase.Status) f h w k = elsewhere s _ n f (λ a. wrong' (data_lines
-    (lines_by v false l (Some Phase.Status)) f (side_is p t n (lines_by v false l (Some Phase.Status)) f k) a))
-left_out s p t n atn msg cd x y v l (Some Phase.Command) f h w k = elsewhere s _ n f (λ a. wrong' (data_lines
-    (lines_by v false l (Some Phase.Command)) f (side_is p t n (lines_by v false l (Some Phase.Command)) f k) a))
-left_out s p t n atn msg cd x y v l (Some Phase.MessageOut) f h w k = elsewhere s _ n f (λ a. wrong' (data_lines
-    (lines_by v false l (Some Phase.MessageOut)) f (side_is p t n (lines_by v false l (Some Phase.MessageOut)) f k) a))
-left_out s p t n atn msg cd x y v l (Some Phase.MessageIn) f h w k = elsewhere s _ n f (λ a. wrong' (data_lines
-    (lines_by v false l (Some Phase.MessageIn)) f (side_is p t n (lines_by v false l (Some Phase.MessageIn)) f k) a))
-left_out s p t n atn msg cd x y v l (Some Phase.DataIn) f h w k = record {
+left_out s p t n atn msg cd x y v l None f h w e = none_some n
+    (sym (freed_connection p t n (ends false false atn x msg cd false false y) refl h) ∙ e.stands.connection_is)
+left_out s p t n atn msg cd x y v l (Some Phase.DataOut) f h w e = elsewhere s _ n f (λ a. wrong' (data_lines
+    (lines_by v false l (Some Phase.DataOut)) f (side_is p t n (lines_by v false l (Some Phase.DataOut)) f e) a))
+left_out s p t n atn msg cd x y v l (Some Phase.Status) f h w e = elsewhere s _ n f (λ a. wrong' (data_lines
+    (lines_by v false l (Some Phase.Status)) f (side_is p t n (lines_by v false l (Some Phase.Status)) f e) a))
+left_out s p t n atn msg cd x y v l (Some Phase.Command) f h w e = elsewhere s _ n f (λ a. wrong' (data_lines
+    (lines_by v false l (Some Phase.Command)) f (side_is p t n (lines_by v false l (Some Phase.Command)) f e) a))
+left_out s p t n atn msg cd x y v l (Some Phase.MessageOut) f h w e = elsewhere s _ n f (λ a. wrong' (data_lines
+    (lines_by v false l (Some Phase.MessageOut)) f (side_is p t n (lines_by v false l (Some Phase.MessageOut)) f e) a))
+left_out s p t n atn msg cd x y v l (Some Phase.MessageIn) f h w e = elsewhere s _ n f (λ a. wrong' (data_lines
+    (lines_by v false l (Some Phase.MessageIn)) f (side_is p t n (lines_by v false l (Some Phase.MessageIn)) f e) a))
+left_out s p t n atn msg cd x y v l (Some Phase.DataIn) f h w e = record {
   first = λ a z u some. absurd (zero_is f.given
-      (sym (ap (λ (b : LineSet). b.data_bits) (side_is p t n (lines_by v false l (Some Phase.DataIn)) f k))) some);
+      (sym (ap (λ (b : LineSet). b.data_bits) (side_is p t n (lines_by v false l (Some Phase.DataIn)) f e))) some);
   next = λ a z u pulsed more. wrong
-      (sym (w.fresh (ap is_data_in h.stands.bus_is ∙ no_out msg cd) (ap is_data_in k.stands.bus_is ∙ a)) ∙ u);
+      (sym (w.fresh (ap is_data_in h.stands.bus_is ∙ no_out msg cd) (ap is_data_in e.stands.bus_is ∙ a)) ∙ u);
 }
 
 left : (s : ScenarioValue) (p : List Row) (t : ℕ) (n : Connection) (atn msg cd io : Bool) (x y : ℕ) → AreOfDevices p
@@ -481,13 +481,13 @@ left_crosses :
     {A : Type 0} (s : ScenarioValue) (p : List Row) (t : ℕ) (n : Connection) (e : EndLines) (l : LineSet) (f : EndLines)
     → Linked p n e → l.req ≡ false → Linked (row_of_lines t n.target l ∷ p) n f → Crossing p (row_of_lines t n.target l)
     → A
-left_crosses s p t n e l f h low k w = unrisen p (row_of_lines t n.target l ∷ p) n e f h k w.rose
-    (ap (λ (q : Bool). rises e.req q) (ap (λ (b : LineSet). b.req) (sym k.target ∙ drives_own p t n.target l) ∙ low)
+left_crosses s p t n e l f h low g w = unrisen p (row_of_lines t n.target l ∷ p) n e f h g w.rose
+    (ap (λ (q : Bool). rises e.req q) (ap (λ (b : LineSet). b.req) (sym g.target ∙ drives_own p t n.target l) ∙ low)
     ∙ falls_is e.req)
 
 pub data_crosses : (s : ScenarioValue) (p : List Row) (row : Row) (n : Connection) (f : EndLines) → IsDataOffered s p n
     → LinkRow s p n row → Linked (row ∷ p) n f → Crossing p row → IsDataByte s p row n
-data_crosses s p row n g v link k = go link
+data_crosses s p row n g v link a = go link
   where
     As : Row → Type 0
     As r = Crossing p r → IsDataByte s p r n
@@ -529,7 +529,7 @@ data_crosses s p row n g v link k = go link
         let u : Serving = serving_at s (run_state s p) n.target (phase_of (connected_bus f)) in
         let l : Leaving = phase_leaving u atn (phase_of (connected_bus f)) in
         subst (λ (r : Row). Linked (r ∷ p) n g → As r) (sym e)
-        (λ linked w. left_crosses s p row.time n f (lines_by u io l l.to) g h (left_req u io l l.to) linked w) k
+        (λ linked w. left_crosses s p row.time n f (lines_by u io l l.to) g h (left_req u io l l.to) linked w) a
     go (rows.ends_req_pulse io ack atn x y h b un z e) = subst As (sym e) (λ w. unrisen p _ n _ _ h
         (target_moves p n (ends false ack atn x false false io true y) false false io false y row.time h).linked w.rose
         refl)

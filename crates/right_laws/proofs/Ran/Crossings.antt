@@ -95,10 +95,10 @@ new_here s k row n c id h g served command =
           command (h.placed n g.row_is.connection_is g.calm w.0 (ap (process_item s) served ∙ w.1)));
     }
   where
-    by : (p : Process) (q : Bool) → PlacedIf q h.array p k.exchange.plan k.handshakes (bus_of k).atn Phase.Command
-        → IsUntouched h.array p.id
-    by p true z = z
-    by p false z = z
+    by : (t : Process) (q : Bool) → PlacedIf q h.array t k.exchange.plan k.handshakes (bus_of k).atn Phase.Command
+        → IsUntouched h.array t.id
+    by t true z = z
+    by t false z = z
 
 -- ---- phases by lines
 

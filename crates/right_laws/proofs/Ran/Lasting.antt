@@ -37,9 +37,9 @@ puts f all c id e = ap f (carried_with all c id) ∙ go (same_id c.id id) refl
     go false z = refl
 
 -- A record of the process itself, changed so that it is the same.
-own : {A : Type 0} (f : CarriedBytes → A) (all : List CarriedBytes) (p : ProcId) (c : CarriedBytes) (id : ProcId)
-    → c.id ≡ p → (p ≡ id → f c ≡ f (carried_of all p)) → Lasts f id all (with_carried all c)
-own f all p c id same e =
+own : {A : Type 0} (f : CarriedBytes → A) (all : List CarriedBytes) (d : ProcId) (c : CarriedBytes) (id : ProcId)
+    → c.id ≡ d → (d ≡ id → f c ≡ f (carried_of all d)) → Lasts f id all (with_carried all c)
+own f all d c id same e =
     puts f all c id (λ z. e (sym same ∙ z) ∙ ap (λ (x : ProcId). f (carried_of all x)) (sym same ∙ z))
 
 -- ---- events

@@ -53,21 +53,21 @@ absent_few stored false r = sensed_few r (sense_data (returned_sense false store
 
 -- ---- a unit that is there
 
-read_few : (c : Contents) (u : UnitDef) (lba n : ℕ) → c.count ≡ u.blocks → c.size ≡ u.size
-    → AreWhole c → (nat_lt lba c.count && nat_le (lba + n) c.count) ≡ true
-    → length (bytes_at c lba n) ≤ (if nat_le (lba + n) u.blocks then n * u.size else 0)
-read_few c u lba n count size whole e = subst (λ (q : Bool). length (bytes_at c lba n) ≤ (if q then n * u.size else 0))
-    (sym inside) (few (length (bytes_at c lba n)) (n * u.size) long)
+read_few : (c : Contents) (u : UnitDef) (lba m : ℕ) → c.count ≡ u.blocks → c.size ≡ u.size
+    → AreWhole c → (nat_lt lba c.count && nat_le (lba + m) c.count) ≡ true
+    → length (bytes_at c lba m) ≤ (if nat_le (lba + m) u.blocks then m * u.size else 0)
+read_few c u lba m count size whole e = subst (λ (q : Bool). length (bytes_at c lba m) ≤ (if q then m * u.size else 0))
+    (sym inside) (few (length (bytes_at c lba m)) (m * u.size) long)
   where
     few : (a b : ℕ) → a ≡ b → a ≤ b
     few a b f = omega (arith, f)
 
-    long : length (bytes_at c lba n) ≡ n * u.size
-    long = length_bytes c whole lba n ∙ ap (λ (x : ℕ). n * x) size
+    long : length (bytes_at c lba m) ≡ m * u.size
+    long = length_bytes c whole lba m ∙ ap (λ (x : ℕ). m * x) size
 
-    inside : nat_le (lba + n) u.blocks ≡ true
+    inside : nat_le (lba + m) u.blocks ≡ true
     inside =
-        ap (λ (x : ℕ). nat_le (lba + n) x) (sym count) ∙ (and_parts (nat_lt lba c.count) (nat_le (lba + n) c.count) e).1
+        ap (λ (x : ℕ). nat_le (lba + m) x) (sym count) ∙ (and_parts (nat_lt lba c.count) (nat_le (lba + m) c.count) e).1
 
 -- The unit is the one of this line, and its blocks are whole.
 record MeetsLine (m : CommandContext) (u : UnitDef) : Type 0 where
@@ -99,31 +99,31 @@ execution_few m u cdb sent h =
 
 -- ---- at its unit of the array
 
-pub given_few : (s : ScenarioValue) (a : Array) (p : Process) → AreOfLines s a → HasWhole a
-    → length (execution (context_at a (nexus_of p) (unit_state_at a.units p.target p.unit)) p.cdb p.sent).reply.bytes
-    ≤ most_given (command_of p.cdb) (unit_of s p.target p.unit)
-given_few s a p lines whole = go (unit_of s p.target p.unit) (unit_state_at a.units p.target p.unit)
-    (lines p.target p.unit) (whole p.target p.unit)
+pub given_few : (s : ScenarioValue) (a : Array) (c : Process) → AreOfLines s a → HasWhole a
+    → length (execution (context_at a (nexus_of c) (unit_state_at a.units c.target c.unit)) c.cdb c.sent).reply.bytes
+    ≤ most_given (command_of c.cdb) (unit_of s c.target c.unit)
+given_few s a c lines whole = go (unit_of s c.target c.unit) (unit_state_at a.units c.target c.unit)
+    (lines c.target c.unit) (whole c.target c.unit)
   where
     stored : Option Sense
-    stored = sense_of_nexus a.senses (nexus_of p)
+    stored = sense_of_nexus a.senses (nexus_of c)
 
     attention : Option Sense
-    attention = sense_of_nexus a.attentions (nexus_of p)
+    attention = sense_of_nexus a.attentions (nexus_of c)
 
     absent :
         length (execution (record { present = false; contents = no_contents; stored = stored; attention = attention })
-        p.cdb p.sent).reply.bytes ≤ most_given (command_of p.cdb) None
-    absent = subst (λ (r : Reply). length r.bytes ≤ most_given (command_of p.cdb) None)
-        (sym (replies stored attention no_contents p.cdb p.sent))
-        (absent_few stored (is_opcode p.cdb INQUIRY) (command_of p.cdb))
+        c.cdb c.sent).reply.bytes ≤ most_given (command_of c.cdb) None
+    absent = subst (λ (r : Reply). length r.bytes ≤ most_given (command_of c.cdb) None)
+        (sym (replies stored attention no_contents c.cdb c.sent))
+        (absent_few stored (is_opcode c.cdb INQUIRY) (command_of c.cdb))
 
     go : (o : Option UnitDef) (x : Option UnitState) → IsOfLine o x → AreWhole (contents_of x)
-        → length (execution (context_at a (nexus_of p) x) p.cdb p.sent).reply.bytes ≤ most_given (command_of p.cdb) o
+        → length (execution (context_at a (nexus_of c) x) c.cdb c.sent).reply.bytes ≤ most_given (command_of c.cdb) o
     go None None h w = absent
     go None (Some v) h w = absurd h
     go (Some u) None h w = absurd h
-    go (Some u) (Some v) h w = execution_few (context_at a (nexus_of p) (Some v)) u p.cdb p.sent
+    go (Some u) (Some v) h w = execution_few (context_at a (nexus_of c) (Some v)) u c.cdb c.sent
         (record { count = h.0; size = h.1; whole = w })
 
 -- ---- what it needs

@@ -11,36 +11,36 @@ use Rattle.due_model.specs.array_model.specs.Steps
 
 -- ---- of each process
 
-map_waits : (x q r : RunningProcess → Type 0) → ((p : RunningProcess) → x p → q p → r p) → (waiting : List Process)
+map_waits : (x q r : RunningProcess → Type 0) → ((y : RunningProcess) → x y → q y → r y) → (waiting : List Process)
     → Waits x waiting → Waits q waiting → Waits r waiting
 map_waits x q r f [] h g = tt
-map_waits x q r f (p ∷ waiting) h g = (f (without_reply p) h.0 g.0, map_waits x q r f waiting h.1 g.1)
+map_waits x q r f (c ∷ waiting) h g = (f (without_reply c) h.0 g.0, map_waits x q r f waiting h.1 g.1)
 
-map_runs : (x q r : RunningProcess → Type 0) → ((p : RunningProcess) → x p → q p → r p) → (o : Option RunningProcess)
+map_runs : (x q r : RunningProcess → Type 0) → ((y : RunningProcess) → x y → q y → r y) → (o : Option RunningProcess)
     → Runs x o → Runs q o → Runs r o
 map_runs x q r f None h g = tt
-map_runs x q r f (Some p) h g = f p h g
+map_runs x q r f (Some y) h g = f y h g
 
-map_units : (x q r : RunningProcess → Type 0) → ((p : RunningProcess) → x p → q p → r p) → (units : List UnitState)
+map_units : (x q r : RunningProcess → Type 0) → ((y : RunningProcess) → x y → q y → r y) → (units : List UnitState)
     → OnUnits x units → OnUnits q units → OnUnits r units
 map_units x q r f [] h g = tt
 map_units x q r f (u ∷ units) h g =
     ((map_waits x q r f u.waiting h.0.0 g.0.0, map_runs x q r f u.current h.0.1 g.0.1), map_units x q r f units h.1 g.1)
 
-map_guests : (x q r : RunningProcess → Type 0) → ((p : RunningProcess) → x p → q p → r p)
+map_guests : (x q r : RunningProcess → Type 0) → ((y : RunningProcess) → x y → q y → r y)
     → (guests : List RunningProcess) → OnGuests x guests → OnGuests q guests → OnGuests r guests
 map_guests x q r f [] h g = tt
-map_guests x q r f (p ∷ guests) h g = (f p h.0 g.0, map_guests x q r f guests h.1 g.1)
+map_guests x q r f (y ∷ guests) h g = (f y h.0 g.0, map_guests x q r f guests h.1 g.1)
 
 -- By what holds of each beside.
-pub each_both : (x q r : RunningProcess → Type 0) (a : Array) → ((p : RunningProcess) → x p → q p → r p) → Each x x a
+pub each_both : (x q r : RunningProcess → Type 0) (a : Array) → ((y : RunningProcess) → x y → q y → r y) → Each x x a
     → Each q q a → Each r r a
 each_both x q r a f h g =
     record { units = map_units x q r f a.units h.units g.units; guests = map_guests x q r f a.guests h.guests g.guests }
 
-pub each_map : (q r : RunningProcess → Type 0) (a : Array) → ((p : RunningProcess) → q p → r p) → Each q q a
+pub each_map : (q r : RunningProcess → Type 0) (a : Array) → ((z : RunningProcess) → q z → r z) → Each q q a
     → Each r r a
-each_map q r a f h = each_both q q r a (λ p x y. f p x) h h
+each_map q r a f h = each_both q q r a (λ z x y. f z x) h h
 
 -- What holds of the process that is found.
 guest_has : (q : RunningProcess → Type 0) (guests : List RunningProcess) (id : ProcId) (r : RunningProcess)
@@ -66,7 +66,7 @@ running_has q a id r h e = go (guest_at a.guests id) refl e
 none_waits : (q : RunningProcess → Type 0) (waiting : List Process)
     → ((id : ProcId) → Waits (IsAway id) waiting) → Waits q waiting
 none_waits q [] h = tt
-none_waits q (p ∷ waiting) h = wrong (sym (self_id p.id) ∙ (h p.id).0)
+none_waits q (c ∷ waiting) h = wrong (sym (self_id c.id) ∙ (h c.id).0)
 
 none_runs : (q : RunningProcess → Type 0) (o : Option RunningProcess) → ((id : ProcId) → Runs (IsAway id) o) → Runs q o
 none_runs q None h = tt
@@ -139,14 +139,14 @@ admits s h a (Event.Reset dev) f = tt
 pub open_step : (s : ScenarioValue) (h : ProcId → Type 0) (a b : Array) (e : Event) → IfAccepts h e
     → Steps.step s e a ≡ Some b → OnOpen h a → OnOpen h b
 open_step s h a b e f st all =
-    each_map (IfLeft h a e) (IfOpen h b) b (λ r k none. go r k none) (each_after s (IfLeft h a e) (IfLeft h a e) a b e
-    (admits s h a e f) (each_map (IfOpen h a) (IfLeft h a e) a (λ r k none left. k none) all) st)
+    each_map (IfLeft h a e) (IfOpen h b) b (λ r g none. go r g none) (each_after s (IfLeft h a e) (IfLeft h a e) a b e
+    (admits s h a e f) (each_map (IfOpen h a) (IfLeft h a e) a (λ r g none left. g none) all) st)
   where
     go : (r : RunningProcess) → IfLeft h a e r → reply_in b.replies r.process.id ≡ None → h r.process.id
-    go r k none =
+    go r g none =
         let two = or_parts (replies_to e r.process.id) (is_some (reply_in a.replies r.process.id))
         (sym (listed_on s a b e st r.process.id) ∙ ap is_some none) in
-        k (none_is (reply_in a.replies r.process.id) two.1) two.0
+        g (none_is (reply_in a.replies r.process.id) two.1) two.0
 
 pub open_events : (s : ScenarioValue) (h : ProcId → Type 0) (a b : Array) (shown : List Event)
     → OnEvents (IfAccepts h) shown → array_after_events s (Some a) shown ≡ Some b → OnOpen h a → OnOpen h b

@@ -40,45 +40,45 @@ stands at start long e h = omega arith
 marked : {A : Type 0} (c : CarriedBytes) → is_marked c ≡ false → is_marked c ≡ true → A
 marked c e f = wrong (sym f ∙ e)
 
-reaches_asked : (policy : Policy) (l : Link) (c : CarriedBytes) (p : Plan) (start : ℕ) (content : List ℕ)
-    → IsFilled c.moved content → is_marked c ≡ false → (cause : Cause) → PointersAsked policy l c p start cause
+reaches_asked : (policy : Policy) (l : Link) (c : CarriedBytes) (a : Plan) (start : ℕ) (content : List ℕ)
+    → IsFilled c.moved content → is_marked c ≡ false → (cause : Cause) → PointersAsked policy l c a start cause
     → start + 0 ≤ length c.moved.bytes
-reaches_asked policy l c p start content f m Cause.Selected h =
+reaches_asked policy l c a start content f m Cause.Selected h =
     stands c.moved.active start (length c.moved.bytes) h.here.active f.active_in
-reaches_asked policy l c p start content f m Cause.InMessage h = go h
+reaches_asked policy l c a start content f m Cause.InMessage h = go h
   where
-    go : PointersRefused policy l c p.messages p.next start → start + 0 ≤ length c.moved.bytes
+    go : PointersRefused policy l c a.messages a.next start → start + 0 ≤ length c.moved.bytes
     go (still_calm k) = stands c.moved.active start (length c.moved.bytes) k.here.active f.active_in
     go (restores_again em en u e w) = stands c.moved.saved start (length c.moved.bytes) e f.saved_in
     go (saves_again em en u b e w) = stands c.moved.active start (length c.moved.bytes) e f.active_in
     go (disconnects_again em en e w) = stands c.moved.saved start (length c.moved.bytes) e f.saved_in
     go (closes_again em en e w) = marked c m e
-reaches_asked policy l c p start content f m Cause.InData h =
+reaches_asked policy l c a start content f m Cause.InData h =
     stands c.moved.saved start (length c.moved.bytes) h.1 f.saved_in
-reaches_asked policy l c p start content f m Cause.InStatus h = marked c m h
+reaches_asked policy l c a start content f m Cause.InStatus h = marked c m h
 
-reaches_of : (policy : Policy) (l : Link) (c : CarriedBytes) (p : Plan) (h : Handshakes) (start : ℕ) (content : List ℕ)
-    → IsFilled c.moved content → is_marked c ≡ false → (phase : Phase) → PointersOf policy l c p h start phase
+reaches_of : (policy : Policy) (l : Link) (c : CarriedBytes) (a : Plan) (h : Handshakes) (start : ℕ) (content : List ℕ)
+    → IsFilled c.moved content → is_marked c ≡ false → (phase : Phase) → PointersOf policy l c a h start phase
     → Reaches c h.answers start phase
-reaches_of policy l c p h start content f m Phase.Command k =
-    stands c.moved.active start (length c.moved.bytes) k.here.active f.active_in
-reaches_of policy l c p h start content f m Phase.DataOut k = go (start + h.answers) k.active
+reaches_of policy l c a h start content f m Phase.Command g =
+    stands c.moved.active start (length c.moved.bytes) g.here.active f.active_in
+reaches_of policy l c a h start content f m Phase.DataOut g = go (start + h.answers) g.active
   where
     go : (x : ℕ) → c.moved.active ≡ x → x ≤ length c.moved.bytes
     go x e = subst (λ (y : ℕ). y ≤ length c.moved.bytes) e f.active_in
-reaches_of policy l c p h start content f m Phase.DataIn k =
-    stands c.moved.saved start (length c.moved.bytes) k.saved f.saved_in
-reaches_of policy l c p h start content f m Phase.Status k = marked c m k
-reaches_of policy l c p h start content f m Phase.MessageIn k = go k
+reaches_of policy l c a h start content f m Phase.DataIn g =
+    stands c.moved.saved start (length c.moved.bytes) g.saved f.saved_in
+reaches_of policy l c a h start content f m Phase.Status g = marked c m g
+reaches_of policy l c a h start content f m Phase.MessageIn g = go g
   where
-    go : PointersIn policy l c p.messages p.next h.requests start → start + 0 ≤ length c.moved.bytes
+    go : PointersIn policy l c a.messages a.next h.requests start → start + 0 ≤ length c.moved.bytes
     go (calm w) = stands c.moved.active start (length c.moved.bytes) w.here.active f.active_in
     go (restores em en u e w) = stands c.moved.saved start (length c.moved.bytes) e f.saved_in
     go (saves em en u z e) = stands c.moved.active start (length c.moved.bytes) e f.active_in
     go (saved em en u b z e w) = stands c.moved.active start (length c.moved.bytes) e.active f.active_in
     go (disconnects em en e w) = stands c.moved.saved start (length c.moved.bytes) e f.saved_in
     go (closes em en e w) = marked c m e
-reaches_of policy l c p h start content f m Phase.MessageOut k = reaches_asked policy l c p start content f m p.cause k
+reaches_of policy l c a h start content f m Phase.MessageOut g = reaches_asked policy l c a start content f m a.cause g
 
 -- ---- the first phase is no STATUS
 

@@ -47,7 +47,7 @@ execution_whole m cdb sent h f =
 -- ---- the seats
 
 abbrev pub HasWhole : Array → Type 0
-HasWhole a = (t n : ℕ) → AreWhole (contents_of (unit_state_at a.units t n))
+HasWhole a = (t m : ℕ) → AreWhole (contents_of (unit_state_at a.units t m))
 
 settled_contents : (seat : Seat) → contents_of (settled_seat seat).unit ≡ contents_of seat.unit
 settled_contents seat = go seat.unit
@@ -63,13 +63,13 @@ mapped_contents f (Some u) e = e u
 
 -- The contents of this seat after an event which leaves it so.
 abbrev LeavesSo : Array → ℕ → ℕ → Option Seat → Type 0
-LeavesSo b t n o = (after : Seat) → settled_seat_if o ≡ Some after → AreWhole (contents_of after.unit)
+LeavesSo b t m o = (after : Seat) → settled_seat_if o ≡ Some after → AreWhole (contents_of after.unit)
 
-leaves_none : (b : Array) (t n : ℕ) → LeavesSo b t n None
-leaves_none b t n after e = none_some after e
+leaves_none : (b : Array) (t m : ℕ) → LeavesSo b t m None
+leaves_none b t m after e = none_some after e
 
-leaves_some : (b : Array) (t n : ℕ) (seat : Seat) → AreWhole (contents_of seat.unit) → LeavesSo b t n (Some seat)
-leaves_some b t n seat h after e = subst AreWhole
+leaves_some : (b : Array) (t m : ℕ) (seat : Seat) → AreWhole (contents_of seat.unit) → LeavesSo b t m (Some seat)
+leaves_some b t m seat h after e = subst AreWhole
     (sym (settled_contents seat) ∙ ap (λ (x : Seat). contents_of x.unit) (same_Some (settled_seat seat) after e)) h
 
 kept_whole : (seat : Seat) (drops : Process → Bool) → AreWhole (contents_of seat.unit)
@@ -86,102 +86,102 @@ aborted_whole hosts i AbortKind.Device seat h = kept_whole seat (λ p. true) h
 
 -- ---- a process ends
 
-end_whole : (seat : Seat) (id : ProcId) (status : ℕ) (b : Array) (t n : ℕ) → AreWhole (contents_of seat.unit)
-    → LeavesSo b t n (Seats.seat_after_end id status seat)
-end_whole seat id status b t n h = go (Seats.running_at seat id)
+end_whole : (seat : Seat) (id : ProcId) (status : ℕ) (b : Array) (t m : ℕ) → AreWhole (contents_of seat.unit)
+    → LeavesSo b t m (Seats.seat_after_end id status seat)
+end_whole seat id status b t m h = go (Seats.running_at seat id)
   where
-    stored : (p : Process) (reply : Reply) (x y : Bool)
+    stored : (c : Process) (reply : Reply) (x y : Bool)
         → AreWhole (contents_of (Seats.seat_without (if x then record seat {
-          senses = Seats.with_sense_of seat.senses p.initiator (Some reply.sense);
-          hold = Seats.with_hold_of seat.hold p.initiator true;
+          senses = Seats.with_sense_of seat.senses c.initiator (Some reply.sense);
+          hold = Seats.with_hold_of seat.hold c.initiator true;
         } else if y then record seat {
-          senses = Seats.with_sense_of seat.senses p.initiator None;
-          hold = Seats.with_hold_of seat.hold p.initiator false;
-        } else seat) p.id).unit)
-    stored p reply true y = subst AreWhole (sym (mapped_contents
-        (λ u. Rattle.due_model.specs.array_model.specs.Steps.unit_without u p.id) seat.unit (λ u. refl))) h
-    stored p reply false true = subst AreWhole (sym (mapped_contents
-        (λ u. Rattle.due_model.specs.array_model.specs.Steps.unit_without u p.id) seat.unit (λ u. refl))) h
-    stored p reply false false = subst AreWhole (sym (mapped_contents
-        (λ u. Rattle.due_model.specs.array_model.specs.Steps.unit_without u p.id) seat.unit (λ u. refl))) h
+          senses = Seats.with_sense_of seat.senses c.initiator None;
+          hold = Seats.with_hold_of seat.hold c.initiator false;
+        } else seat) c.id).unit)
+    stored c reply true y = subst AreWhole (sym (mapped_contents
+        (λ u. Rattle.due_model.specs.array_model.specs.Steps.unit_without u c.id) seat.unit (λ u. refl))) h
+    stored c reply false true = subst AreWhole (sym (mapped_contents
+        (λ u. Rattle.due_model.specs.array_model.specs.Steps.unit_without u c.id) seat.unit (λ u. refl))) h
+    stored c reply false false = subst AreWhole (sym (mapped_contents
+        (λ u. Rattle.due_model.specs.array_model.specs.Steps.unit_without u c.id) seat.unit (λ u. refl))) h
 
-    by : (p : Process) (o : Option Reply) → LeavesSo b t n (Seats.seat_after_end_with seat p status o)
-    by p None = leaves_none b t n
-    by p (Some reply) = at (reply.status == status)
+    by : (c : Process) (o : Option Reply) → LeavesSo b t m (Seats.seat_after_end_with seat c status o)
+    by c None = leaves_none b t m
+    by c (Some reply) = at (reply.status == status)
       where
         at : (x : Bool)
-            → LeavesSo b t n (if x then Some (Seats.seat_without (Seats.seat_after_status seat p reply) p.id) else None)
-        at true = leaves_some b t n (Seats.seat_without (Seats.seat_after_status seat p reply) p.id) (stored p reply
-            (reply.status == CHECK_CONDITION) (reply.status == GOOD && is_request_sense (command_of p.cdb)))
-        at false = leaves_none b t n
+            → LeavesSo b t m (if x then Some (Seats.seat_without (Seats.seat_after_status seat c reply) c.id) else None)
+        at true = leaves_some b t m (Seats.seat_without (Seats.seat_after_status seat c reply) c.id) (stored c reply
+            (reply.status == CHECK_CONDITION) (reply.status == GOOD && is_request_sense (command_of c.cdb)))
+        at false = leaves_none b t m
 
-    go : (o : Option RunningProcess) → LeavesSo b t n (Seats.seat_after_end_of seat status o)
-    go None = leaves_none b t n
+    go : (o : Option RunningProcess) → LeavesSo b t m (Seats.seat_after_end_of seat status o)
+    go None = leaves_none b t m
     go (Some r) = by r.process r.reply
 
 -- ---- a process runs
 
-current_own : (s : ScenarioValue) (units : List UnitState) (t n : ℕ) (p : Process) (r : RunningProcess)
-    → AllOwnUnits s units → process_of s p.id ≡ Some p
-    → running_if (Seats.current_of (unit_state_at units t n)) p.id ≡ Some r → r.process ≡ p
-current_own s [] t n p r own is e = none_some r e
-current_own s (u ∷ units) t n p r own is e =
-    go (u.target == t && u.unit == n) e (λ z. current_own s units t n p r own.1 is z)
+current_own : (s : ScenarioValue) (units : List UnitState) (t m : ℕ) (c : Process) (r : RunningProcess)
+    → AllOwnUnits s units → process_of s c.id ≡ Some c
+    → running_if (Seats.current_of (unit_state_at units t m)) c.id ≡ Some r → r.process ≡ c
+current_own s [] t m c r own is e = none_some r e
+current_own s (u ∷ units) t m c r own is e =
+    go (u.target == t && u.unit == m) e (λ z. current_own s units t m c r own.1 is z)
   where
     inner : (o : Option RunningProcess) → (let a : ℕ = u.target in let b : ℕ = u.unit in IsOwnRunning s a b o)
-        → running_if o p.id ≡ Some r → r.process ≡ p
+        → running_if o c.id ≡ Some r → r.process ≡ c
     inner None h z = none_some r z
-    inner (Some x) h z = at (same_id x.process.id p.id) refl z
+    inner (Some x) h z = at (same_id x.process.id c.id) refl z
       where
-        at : (y : Bool) → same_id x.process.id p.id ≡ y → (if y then Some x else None) ≡ Some r → r.process ≡ p
+        at : (y : Bool) → same_id x.process.id c.id ≡ y → (if y then Some x else None) ≡ Some r → r.process ≡ c
         at true f w = ap (λ (v : RunningProcess). v.process) (sym (same_Some x r w))
-            ∙ same_Some x.process p (sym h.is ∙ ap (process_of s) (id_is x.process.id p.id f) ∙ is)
+            ∙ same_Some x.process c (sym h.is ∙ ap (process_of s) (id_is x.process.id c.id f) ∙ is)
         at false f w = none_some r w
 
-    go : (x : Bool) → running_if (Seats.current_of (if x then Some u else unit_state_at units t n)) p.id ≡ Some r
-        → (running_if (Seats.current_of (unit_state_at units t n)) p.id ≡ Some r → r.process ≡ p) → r.process ≡ p
+    go : (x : Bool) → running_if (Seats.current_of (if x then Some u else unit_state_at units t m)) c.id ≡ Some r
+        → (running_if (Seats.current_of (unit_state_at units t m)) c.id ≡ Some r → r.process ≡ c) → r.process ≡ c
     go true z rest = inner u.current own.0.current z
     go false z rest = rest z
 
-pub running_own : (s : ScenarioValue) (a : Array) (p : Process) (r : RunningProcess) (t n : ℕ) → IsSound s a
-    → process_of s p.id ≡ Some p → Seats.running_at (seat_of a t n) p.id ≡ Some r → r.process ≡ p
-running_own s a p r t n sound is e = go (guest_at (Seats.guests_at a.guests t n) p.id) refl e
+pub running_own : (s : ScenarioValue) (a : Array) (c : Process) (r : RunningProcess) (t m : ℕ) → IsSound s a
+    → process_of s c.id ≡ Some c → Seats.running_at (seat_of a t m) c.id ≡ Some r → r.process ≡ c
+running_own s a c r t m sound is e = go (guest_at (Seats.guests_at a.guests t m) c.id) refl e
   where
-    go : (o : Option RunningProcess) → guest_at (Seats.guests_at a.guests t n) p.id ≡ o
-        → (if is_some o then o else running_if (Seats.current_of (unit_state_at a.units t n)) p.id) ≡ Some r
-        → r.process ≡ p
-    go None z w = current_own s a.units t n p r sound.units is w
-    go (Some g) z w = guest_there s a.guests t n p r sound.guests is (z ∙ w)
+    go : (o : Option RunningProcess) → guest_at (Seats.guests_at a.guests t m) c.id ≡ o
+        → (if is_some o then o else running_if (Seats.current_of (unit_state_at a.units t m)) c.id) ≡ Some r
+        → r.process ≡ c
+    go None z w = current_own s a.units t m c r sound.units is w
+    go (Some g) z w = guest_there s a.guests t m c r sound.guests is (z ∙ w)
 
-run_whole : (s : ScenarioValue) (a b : Array) (p : Process) → IsSound s a → process_of s p.id ≡ Some p
-    → AreWhole (execution (context_of (seat_of a p.target p.unit) p.initiator) p.cdb p.sent).contents
-    → LeavesSo b p.target p.unit (Seats.seat_after_run p.id (seat_of a p.target p.unit))
-run_whole s a b p sound is h = go (Seats.running_at seat p.id) refl
+run_whole : (s : ScenarioValue) (a b : Array) (c : Process) → IsSound s a → process_of s c.id ≡ Some c
+    → AreWhole (execution (context_of (seat_of a c.target c.unit) c.initiator) c.cdb c.sent).contents
+    → LeavesSo b c.target c.unit (Seats.seat_after_run c.id (seat_of a c.target c.unit))
+run_whole s a b c sound is h = go (Seats.running_at seat c.id) refl
   where
     seat : Seat
-    seat = seat_of a p.target p.unit
+    seat = seat_of a c.target c.unit
 
     done : (x : Option UnitState)
-        → AreWhole (execution (context_of (record seat { unit = x }) p.initiator) p.cdb p.sent).contents
-        → AreWhole (contents_of (Seats.seat_with_execution (record seat { unit = x }) p
-        (execution (context_of (record seat { unit = x }) p.initiator) p.cdb p.sent)).unit)
+        → AreWhole (execution (context_of (record seat { unit = x }) c.initiator) c.cdb c.sent).contents
+        → AreWhole (contents_of (Seats.seat_with_execution (record seat { unit = x }) c
+        (execution (context_of (record seat { unit = x }) c.initiator) c.cdb c.sent)).unit)
     done None w = λ lba. refl
     done (Some u) w = w
 
-    by : (r : RunningProcess) → r.process ≡ p → (y : Bool)
-        → LeavesSo b p.target p.unit (if y then Some (Seats.seat_with_execution seat r.process
+    by : (r : RunningProcess) → r.process ≡ c → (y : Bool)
+        → LeavesSo b c.target c.unit (if y then Some (Seats.seat_with_execution seat r.process
         (execution (context_of seat r.process.initiator) r.process.cdb r.process.sent)) else None)
-    by r same false = leaves_none b p.target p.unit
-    by r same true = subst (λ (q : Process). LeavesSo b p.target p.unit
+    by r same false = leaves_none b c.target c.unit
+    by r same true = subst (λ (q : Process). LeavesSo b c.target c.unit
         (Some (Seats.seat_with_execution seat q (execution (context_of seat q.initiator) q.cdb q.sent))))
-        (sym same) (leaves_some b p.target p.unit
-        (Seats.seat_with_execution seat p (execution (context_of seat p.initiator) p.cdb p.sent)) (done seat.unit h))
+        (sym same) (leaves_some b c.target c.unit
+        (Seats.seat_with_execution seat c (execution (context_of seat c.initiator) c.cdb c.sent)) (done seat.unit h))
 
-    go : (o : Option RunningProcess) → Seats.running_at seat p.id ≡ o
-        → LeavesSo b p.target p.unit (Seats.seat_after_run_of seat (is_some (guest_at seat.guests p.id)) o)
-    go None e = leaves_none b p.target p.unit
-    go (Some r) e = by r (running_own s a p r p.target p.unit sound is e)
-        (is_none r.reply && (is_some (guest_at seat.guests p.id) || not (Seats.is_any_held seat.hold)))
+    go : (o : Option RunningProcess) → Seats.running_at seat c.id ≡ o
+        → LeavesSo b c.target c.unit (Seats.seat_after_run_of seat (is_some (guest_at seat.guests c.id)) o)
+    go None e = leaves_none b c.target c.unit
+    go (Some r) e = by r (running_own s a c r c.target c.unit sound is e)
+        (is_none r.reply && (is_some (guest_at seat.guests c.id) || not (Seats.is_any_held seat.hold)))
 
 no_unit : {A : Type 0} (u : UnitState) (d : Option UnitDef) → d ≡ None → IsOfLine d (Some u) → A
 no_unit u None e h = absurd h
@@ -191,22 +191,22 @@ no_unit u (Some d) e h = absurd (none_is d e)
     none_is x z = cc
 
 -- What it sends, where it is carried out, are the bytes of the blocks that it writes.
-sent_whole : (s : ScenarioValue) (a : Array) (p : Process) → Obeys s → AreOfLines s a → process_of s p.id ≡ Some p
-    → (execution (context_of (seat_of a p.target p.unit) p.initiator) p.cdb p.sent).reply.status ≡ GOOD
-    → is_write (command_of p.cdb) ≡ true
-    → length p.sent ≡ taken_now (contents_of (unit_state_at a.units p.target p.unit)) p.cdb
-sent_whole s a p o lines is good w =
-    by_bool (has_target s p.target)
-    (λ e. (sends s a p (obeys_fits s o) lines e is (writer_plain s p is w)).bytes good)
-    (λ e. none (unit_state_at a.units p.target p.unit) (lines p.target p.unit) e)
+sent_whole : (s : ScenarioValue) (a : Array) (c : Process) → Obeys s → AreOfLines s a → process_of s c.id ≡ Some c
+    → (execution (context_of (seat_of a c.target c.unit) c.initiator) c.cdb c.sent).reply.status ≡ GOOD
+    → is_write (command_of c.cdb) ≡ true
+    → length c.sent ≡ taken_now (contents_of (unit_state_at a.units c.target c.unit)) c.cdb
+sent_whole s a c o lines is good w =
+    by_bool (has_target s c.target)
+    (λ e. (sends s a c (obeys_fits s o) lines e is (writer_plain s c is w)).bytes good)
+    (λ e. none (unit_state_at a.units c.target c.unit) (lines c.target c.unit) e)
   where
-    none : (x : Option UnitState) → IsOfLine (unit_of s p.target p.unit) x → has_target s p.target ≡ false
-        → length p.sent ≡ taken_now (contents_of x) p.cdb
-    none None h e = none_sent s p o is w e ∙ sym (zero_times (blocks_written 0 (command_of p.cdb)))
+    none : (x : Option UnitState) → IsOfLine (unit_of s c.target c.unit) x → has_target s c.target ≡ false
+        → length c.sent ≡ taken_now (contents_of x) c.cdb
+    none None h e = none_sent s c o is w e ∙ sym (zero_times (blocks_written 0 (command_of c.cdb)))
     none (Some u) h e =
-        by_option (unit_of s p.target p.unit)
-        (λ z. no_unit u (unit_of s p.target p.unit) z h)
-        (λ d z. wrong (sym (unit_targeted s p.target p.unit d o z) ∙ e))
+        by_option (unit_of s c.target c.unit)
+        (λ z. no_unit u (unit_of s c.target c.unit) z h)
+        (λ d z. wrong (sym (unit_targeted s c.target c.unit d o z) ∙ e))
 
 -- ---- an event
 
@@ -243,7 +243,7 @@ known_event s a b e id sound st h = go (process_of s id) refl h
         Rattle.due_model.specs.cdb_codec.specs.declared.sense.TheConstants.ABORTED_COMMAND code 0x00)) o) ≡ Some b
         → is_some x ≡ true
     failed code x z (Some r) w v = sym (ap (λ (y : Option Process). is_some y) z) ∙ running_known s a id r sound w
-    failed code (Some p) z None w v = refl
+    failed code (Some c) z None w v = refl
     failed code None z None w v = none_some b (sym (ap (λ (y : Option Process). Steps.settled_array_if
         (Steps.fail_step_of_new a id (check_condition (Rattle.due_model.specs.array_model.specs.Execution.sense_of
         Rattle.due_model.specs.cdb_codec.specs.declared.sense.TheConstants.ABORTED_COMMAND code 0x00)) y)) z) ∙ v)
@@ -251,7 +251,7 @@ known_event s a b e id sound st h = go (process_of s id) refl h
     go : (x : Option Process) → process_of s id ≡ x → (e ≡ Event.Accept id) ⊎ (e ≡ Event.Refuse id)
         ⊎ (e ≡ Event.Run id) ⊎ ((code : ℕ) × (e ≡ Event.Fail id code)) ⊎ ((status : ℕ) × (e ≡ Event.End id status))
         → is_some (process_of s id) ≡ true
-    go (Some p) z w = ap (λ (y : Option Process). is_some y) z
+    go (Some c) z w = ap (λ (y : Option Process). is_some y) z
     go None z (inl w) = none_some b
         (sym (ap (λ (y : Option Process). Steps.settled_array_if (Steps.accept_step a y)) z) ∙ is (Event.Accept id) w)
     go None z (inr (inl w)) = none_some b
@@ -262,116 +262,116 @@ known_event s a b e id sound st h = go (process_of s id) refl h
         ∙ failed w.0 None z (Steps.running_process a id) refl (is (Event.Fail id w.0) w.1)
     go None z (inr (inr (inr (inr w)))) = ran (λ x o. Steps.end_step x w.0 o) refl (is (Event.End id w.0) w.1)
 
-without_contents : (units : List UnitState) (id : ProcId) (t n : ℕ)
-    → contents_of (unit_state_at (Steps.units_without units id) t n) ≡ contents_of (unit_state_at units t n)
-without_contents [] id t n = refl
-without_contents (u ∷ units) id t n = go (u.target == t && u.unit == n) (without_contents units id t n)
+without_contents : (units : List UnitState) (id : ProcId) (t m : ℕ)
+    → contents_of (unit_state_at (Steps.units_without units id) t m) ≡ contents_of (unit_state_at units t m)
+without_contents [] id t m = refl
+without_contents (u ∷ units) id t m = go (u.target == t && u.unit == m) (without_contents units id t m)
   where
     go : (x : Bool)
-        → contents_of (unit_state_at (Steps.units_without units id) t n) ≡ contents_of (unit_state_at units t n)
-        → contents_of (if x then Some (Steps.unit_without u id) else unit_state_at (Steps.units_without units id) t n)
-        ≡ contents_of (if x then Some u else unit_state_at units t n)
+        → contents_of (unit_state_at (Steps.units_without units id) t m) ≡ contents_of (unit_state_at units t m)
+        → contents_of (if x then Some (Steps.unit_without u id) else unit_state_at (Steps.units_without units id) t m)
+        ≡ contents_of (if x then Some u else unit_state_at units t m)
     go true e = refl
     go false e = e
 
-chosen_contents : (holds : List Nexus) (units : List UnitState) (t n : ℕ)
-    → contents_of (unit_state_at (units_after_choice holds units) t n) ≡ contents_of (unit_state_at units t n)
-chosen_contents holds [] t n = refl
-chosen_contents holds (u ∷ units) t n = go (has_no_current u.current && not (is_held holds u.target u.unit))
-    (choice u.pick u.waiting) (chosen_contents holds units t n)
+chosen_contents : (holds : List Nexus) (units : List UnitState) (t m : ℕ)
+    → contents_of (unit_state_at (units_after_choice holds units) t m) ≡ contents_of (unit_state_at units t m)
+chosen_contents holds [] t m = refl
+chosen_contents holds (u ∷ units) t m = go (has_no_current u.current && not (is_held holds u.target u.unit))
+    (choice u.pick u.waiting) (chosen_contents holds units t m)
   where
     at : (v : UnitState) → v.target ≡ u.target → v.unit ≡ u.unit → v.contents ≡ u.contents
-        → contents_of (unit_state_at (units_after_choice holds units) t n) ≡ contents_of (unit_state_at units t n)
+        → contents_of (unit_state_at (units_after_choice holds units) t m) ≡ contents_of (unit_state_at units t m)
         → contents_of
-        (if v.target == t && v.unit == n then Some v else unit_state_at (units_after_choice holds units) t n)
-        ≡ contents_of (if u.target == t && u.unit == n then Some u else unit_state_at units t n)
+        (if v.target == t && v.unit == m then Some v else unit_state_at (units_after_choice holds units) t m)
+        ≡ contents_of (if u.target == t && u.unit == m then Some u else unit_state_at units t m)
     at v et en ec rest = (λ i. contents_of
-        (if et i == t && en i == n then Some v else unit_state_at (units_after_choice holds units) t n))
-        ∙ by (u.target == t && u.unit == n)
+        (if et i == t && en i == m then Some v else unit_state_at (units_after_choice holds units) t m))
+        ∙ by (u.target == t && u.unit == m)
       where
-        by : (x : Bool) → contents_of (if x then Some v else unit_state_at (units_after_choice holds units) t n)
-            ≡ contents_of (if x then Some u else unit_state_at units t n)
+        by : (x : Bool) → contents_of (if x then Some v else unit_state_at (units_after_choice holds units) t m)
+            ≡ contents_of (if x then Some u else unit_state_at units t m)
         by true = ec
         by false = rest
 
-    go : (x : Bool) (p : Option Process)
-        → contents_of (unit_state_at (units_after_choice holds units) t n) ≡ contents_of (unit_state_at units t n)
-        → (let v : UnitState = if x then with_current u p else u in contents_of
-        (if v.target == t && v.unit == n then Some v else unit_state_at (units_after_choice holds units) t n))
-        ≡ contents_of (if u.target == t && u.unit == n then Some u else unit_state_at units t n)
+    go : (x : Bool) (c : Option Process)
+        → contents_of (unit_state_at (units_after_choice holds units) t m) ≡ contents_of (unit_state_at units t m)
+        → (let v : UnitState = if x then with_current u c else u in contents_of
+        (if v.target == t && v.unit == m then Some v else unit_state_at (units_after_choice holds units) t m))
+        ≡ contents_of (if u.target == t && u.unit == m then Some u else unit_state_at units t m)
     go true None rest = at u refl refl refl rest
-    go true (Some p) rest = at (with_current u (Some p)) refl refl refl rest
-    go false p rest = at u refl refl refl rest
+    go true (Some c) rest = at (with_current u (Some c)) refl refl refl rest
+    go false c rest = at u refl refl refl rest
 
-lost_contents : (a b : Array) (id : ProcId) (t n : ℕ) → Steps.settled_array_if (Steps.loss_step a id) ≡ Some b
-    → contents_of (unit_state_at b.units t n) ≡ contents_of (unit_state_at a.units t n)
-lost_contents a b id t n e = go (Steps.has_ended a id) e
+lost_contents : (a b : Array) (id : ProcId) (t m : ℕ) → Steps.settled_array_if (Steps.loss_step a id) ≡ Some b
+    → contents_of (unit_state_at b.units t m) ≡ contents_of (unit_state_at a.units t m)
+lost_contents a b id t m e = go (Steps.has_ended a id) e
   where
     go : (x : Bool) → Steps.settled_array_if (if x then None else Some (Steps.array_without a id)) ≡ Some b
-        → contents_of (unit_state_at b.units t n) ≡ contents_of (unit_state_at a.units t n)
+        → contents_of (unit_state_at b.units t m) ≡ contents_of (unit_state_at a.units t m)
     go true z = none_some b z
-    go false z = ap (λ (x : Array). contents_of (unit_state_at x.units t n))
+    go false z = ap (λ (x : Array). contents_of (unit_state_at x.units t m))
         (sym (same_Some (settled_array (Steps.array_without a id)) b z))
-        ∙ chosen_contents a.holds (Steps.units_without a.units id) t n ∙ without_contents a.units id t n
+        ∙ chosen_contents a.holds (Steps.units_without a.units id) t m ∙ without_contents a.units id t m
 
 -- At the seat of the process, or at another.
-of_seat : (s : ScenarioValue) (a b : Array) (e : Event) (id : ProcId) (t n : ℕ) → HasSeats s → IsSound s a
-    → step s e a ≡ Some b → Seats.is_elsewhere s e t n ≡ Seats.is_of_other_unit (process_of s id) t n
+of_seat : (s : ScenarioValue) (a b : Array) (e : Event) (id : ProcId) (t m : ℕ) → HasSeats s → IsSound s a
+    → step s e a ≡ Some b → Seats.is_elsewhere s e t m ≡ Seats.is_of_other_unit (process_of s id) t m
     → is_some (process_of s id) ≡ true → HasWhole a
-    → ((p : Process) → process_of s id ≡ Some p → AreWhole (contents_of (unit_state_at b.units p.target p.unit)))
-    → AreWhole (contents_of (unit_state_at b.units t n))
-of_seat s a b e id t n seats sound st place some whole here = by_option (process_of s id)
-    (λ z. wrong' (sym (ap (λ (x : Option Process). is_some x) z) ∙ some)) (λ p z. by_bool (is_of_unit p t n)
-    (λ x. let w = place_of p t n x in subst (λ (y : ℕ). AreWhole (contents_of (unit_state_at b.units y n))) w.0
-    (subst (λ (y : ℕ). AreWhole (contents_of (unit_state_at b.units p.target y))) w.1 (here p z)))
-    (λ x. subst AreWhole (sym (ap (λ (y : Seat). contents_of y.unit) (other_law s a b e t n seats sound
-    (place ∙ ap (λ (o : Option Process). Seats.is_of_other_unit o t n) z ∙ ap not x) st))) (whole t n)))
+    → ((c : Process) → process_of s id ≡ Some c → AreWhole (contents_of (unit_state_at b.units c.target c.unit)))
+    → AreWhole (contents_of (unit_state_at b.units t m))
+of_seat s a b e id t m seats sound st place some whole here = by_option (process_of s id)
+    (λ z. wrong' (sym (ap (λ (x : Option Process). is_some x) z) ∙ some)) (λ c z. by_bool (is_of_unit c t m)
+    (λ x. let w = place_of c t m x in subst (λ (y : ℕ). AreWhole (contents_of (unit_state_at b.units y m))) w.0
+    (subst (λ (y : ℕ). AreWhole (contents_of (unit_state_at b.units c.target y))) w.1 (here c z)))
+    (λ x. subst AreWhole (sym (ap (λ (y : Seat). contents_of y.unit) (other_law s a b e t m seats sound
+    (place ∙ ap (λ (o : Option Process). Seats.is_of_other_unit o t m) z ∙ ap not x) st))) (whole t m)))
 
-left_so : (s : ScenarioValue) (a b : Array) (e : Event) (t n : ℕ) (o : Option Seat)
-    → step s e a ≡ Some b → Seats.seat_if (step s e a) t n ≡ settled_seat_if o → LeavesSo b t n o
-    → AreWhole (contents_of (unit_state_at b.units t n))
-left_so s a b e t n o st law h = h (seat_of b t n) (sym law ∙ ap (λ (x : Option Array). Seats.seat_if x t n) st)
+left_so : (s : ScenarioValue) (a b : Array) (e : Event) (t m : ℕ) (o : Option Seat)
+    → step s e a ≡ Some b → Seats.seat_if (step s e a) t m ≡ settled_seat_if o → LeavesSo b t m o
+    → AreWhole (contents_of (unit_state_at b.units t m))
+left_so s a b e t m o st law h = h (seat_of b t m) (sym law ∙ ap (λ (x : Option Array). Seats.seat_if x t m) st)
 
-same_whole : (s : ScenarioValue) (a b : Array) (t n : ℕ) → HasWhole a → SameContext a b t n 0
-    → AreWhole (contents_of (unit_state_at b.units t n))
-same_whole s a b t n whole e = subst AreWhole (sym (ap (λ (c : CommandContext). c.contents) e)) (whole t n)
+same_whole : (s : ScenarioValue) (a b : Array) (t m : ℕ) → HasWhole a → SameContext a b t m 0
+    → AreWhole (contents_of (unit_state_at b.units t m))
+same_whole s a b t m whole e = subst AreWhole (sym (ap (λ (c : CommandContext). c.contents) e)) (whole t m)
 
-abort_whole : (s : ScenarioValue) (a b : Array) (i to un : ℕ) (what : AbortKind) (t n : ℕ) → HasSeats s → IsSound s a
-    → step s (Event.Aborted i to un what) a ≡ Some b → HasWhole a → AreWhole (contents_of (unit_state_at b.units t n))
-abort_whole s a b i to un what t n seats sound st whole = go what st
+abort_whole : (s : ScenarioValue) (a b : Array) (i to un : ℕ) (what : AbortKind) (t m : ℕ) → HasSeats s → IsSound s a
+    → step s (Event.Aborted i to un what) a ≡ Some b → HasWhole a → AreWhole (contents_of (unit_state_at b.units t m))
+abort_whole s a b i to un what t m seats sound st whole = go what st
   where
     other : (w : AbortKind) → step s (Event.Aborted i to un w) a ≡ Some b
-        → Seats.is_elsewhere s (Event.Aborted i to un w) t n ≡ true → AreWhole (contents_of (unit_state_at b.units t n))
+        → Seats.is_elsewhere s (Event.Aborted i to un w) t m ≡ true → AreWhole (contents_of (unit_state_at b.units t m))
     other w z away = subst AreWhole
-        (sym (ap (λ (y : Seat). contents_of y.unit) (other_law s a b (Event.Aborted i to un w) t n seats sound away z)))
-        (whole t n)
+        (sym (ap (λ (y : Seat). contents_of y.unit) (other_law s a b (Event.Aborted i to un w) t m seats sound away z)))
+        (whole t m)
 
-    here : (w : AbortKind) → step s (Event.Aborted i to un w) a ≡ Some b → (to == t && un == n) ≡ true
-        → AreWhole (contents_of (unit_state_at b.units t n))
+    here : (w : AbortKind) → step s (Event.Aborted i to un w) a ≡ Some b → (to == t && un == m) ≡ true
+        → AreWhole (contents_of (unit_state_at b.units t m))
     here w z place =
-        let two = and_parts (to == t) (un == n) place in
-        subst (λ (y : ℕ). AreWhole (contents_of (unit_state_at b.units y n))) (eqb-true to t two.0)
+        let two = and_parts (to == t) (un == m) place in
+        subst (λ (y : ℕ). AreWhole (contents_of (unit_state_at b.units y m))) (eqb-true to t two.0)
         (subst (λ (y : ℕ). AreWhole (contents_of (unit_state_at b.units to y)))
-        (eqb-true un n two.1) (left_so s a b (Event.Aborted i to un w) to un
+        (eqb-true un m two.1) (left_so s a b (Event.Aborted i to un w) to un
         (Some (Seats.seat_after_aborted s.hosts i w (seat_of a to un))) z (abort_law s a i to un w seats sound)
         (leaves_some b to un (Seats.seat_after_aborted s.hosts i w (seat_of a to un))
         (aborted_whole s.hosts i w (seat_of a to un) (whole to un)))))
 
     placed : (w : AbortKind) → step s (Event.Aborted i to un w) a ≡ Some b
-        → Seats.is_elsewhere s (Event.Aborted i to un w) t n ≡ not (to == t && un == n)
-        → AreWhole (contents_of (unit_state_at b.units t n))
-    placed w z is = by_bool (to == t && un == n) (λ e. here w z e) (λ e. other w z (is ∙ ap not e))
+        → Seats.is_elsewhere s (Event.Aborted i to un w) t m ≡ not (to == t && un == m)
+        → AreWhole (contents_of (unit_state_at b.units t m))
+    placed w z is = by_bool (to == t && un == m) (λ e. here w z e) (λ e. other w z (is ∙ ap not e))
 
     go : (w : AbortKind) → step s (Event.Aborted i to un w) a ≡ Some b
-        → AreWhole (contents_of (unit_state_at b.units t n))
+        → AreWhole (contents_of (unit_state_at b.units t m))
     go AbortKind.All z = placed AbortKind.All z refl
     go (AbortKind.Tag x) z = placed (AbortKind.Tag x) z refl
     go AbortKind.WholeQueue z = placed AbortKind.WholeQueue z refl
     go AbortKind.Device z = by_bool (to == t)
-        (λ e. subst (λ (y : ℕ). AreWhole (contents_of (unit_state_at b.units y n)))
-        (eqb-true to t e) (left_so s a b (Event.Aborted i to un AbortKind.Device) to n
-        (Some (Seats.seat_after_reset s.hosts (seat_of a to n))) z (device_law s a i to un n seats sound) (leaves_some b
-        to n (Seats.seat_after_reset s.hosts (seat_of a to n)) (kept_whole (seat_of a to n) (λ p. true) (whole to n)))))
+        (λ e. subst (λ (y : ℕ). AreWhole (contents_of (unit_state_at b.units y m)))
+        (eqb-true to t e) (left_so s a b (Event.Aborted i to un AbortKind.Device) to m
+        (Some (Seats.seat_after_reset s.hosts (seat_of a to m))) z (device_law s a i to un m seats sound) (leaves_some b
+        to m (Seats.seat_after_reset s.hosts (seat_of a to m)) (kept_whole (seat_of a to m) (λ p. true) (whole to m)))))
         (λ e. other AbortKind.Device z (ap not e))
 
 whole_step : (s : ScenarioValue) (a b : Array) (e : Event) → Obeys s → IsSound s a → AreOfLines s a
@@ -412,39 +412,39 @@ whole_step s a b e o sound lines st whole t n = go e st
 
 -- ---- any history
 
-started_whole : (s : ScenarioValue) (units : List UnitDef) (t n : ℕ) → FitsBus s
-    → ((u : UnitDef) → find (λ (v : UnitDef). v.target == t && v.unit == n) units ≡ Some u → AreFilled u s.fills)
-    → AreWhole (contents_of (unit_state_at (starting_units s units) t n))
-started_whole s [] t n fits f = λ lba. refl
-started_whole s (u ∷ units) t n fits f = go (u.target == t && u.unit == n) refl (λ g. started_whole s units t n fits g)
+started_whole : (s : ScenarioValue) (units : List UnitDef) (t m : ℕ) → FitsBus s
+    → ((u : UnitDef) → find (λ (v : UnitDef). v.target == t && v.unit == m) units ≡ Some u → AreFilled u s.fills)
+    → AreWhole (contents_of (unit_state_at (starting_units s units) t m))
+started_whole s [] t m fits f = λ lba. refl
+started_whole s (u ∷ units) t m fits f = go (u.target == t && u.unit == m) refl (λ g. started_whole s units t m fits g)
   where
-    go : (x : Bool) → (u.target == t && u.unit == n) ≡ x
-        → (((v : UnitDef) → find (λ (w : UnitDef). w.target == t && w.unit == n) units ≡ Some v → AreFilled v s.fills)
-        → AreWhole (contents_of (unit_state_at (starting_units s units) t n)))
-        → AreWhole (contents_of (if x then Some (starting_unit s u) else unit_state_at (starting_units s units) t n))
+    go : (x : Bool) → (u.target == t && u.unit == m) ≡ x
+        → (((v : UnitDef) → find (λ (w : UnitDef). w.target == t && w.unit == m) units ≡ Some v → AreFilled v s.fills)
+        → AreWhole (contents_of (unit_state_at (starting_units s units) t m)))
+        → AreWhole (contents_of (if x then Some (starting_unit s u) else unit_state_at (starting_units s units) t m))
     go true e rest = filled_whole u s.fills (blank_contents u.blocks u.size)
-        (f u (ap (λ (x : Bool). cond x (Some u) (find (λ (v : UnitDef). v.target == t && v.unit == n) units)) e)) refl
+        (f u (ap (λ (x : Bool). cond x (Some u) (find (λ (v : UnitDef). v.target == t && v.unit == m) units)) e)) refl
         (blank_whole u.blocks u.size)
     go false e rest = rest (λ v z. f v
-        (ap (λ (x : Bool). cond x (Some u) (find (λ (w : UnitDef). w.target == t && w.unit == n) units)) e ∙ z))
+        (ap (λ (x : Bool). cond x (Some u) (find (λ (w : UnitDef). w.target == t && w.unit == m) units)) e ∙ z))
 
-found_place : (units : List UnitDef) (t n : ℕ) (u : UnitDef)
-    → find (λ (v : UnitDef). v.target == t && v.unit == n) units ≡ Some u → (u.target ≡ t) × (u.unit ≡ n)
-found_place [] t n u e = no_line u e
+found_place : (units : List UnitDef) (t m : ℕ) (u : UnitDef)
+    → find (λ (v : UnitDef). v.target == t && v.unit == m) units ≡ Some u → (u.target ≡ t) × (u.unit ≡ m)
+found_place [] t m u e = no_line u e
   where
     no_line : {A : Type 0} (x : UnitDef) → (let o : Option UnitDef = None in o) ≡ Some x → A
     no_line x z = absurd cc
-found_place (v ∷ units) t n u e = go (v.target == t && v.unit == n) refl e (λ z. found_place units t n u z)
+found_place (v ∷ units) t m u e = go (v.target == t && v.unit == m) refl e (λ z. found_place units t m u z)
   where
-    go : (x : Bool) → (v.target == t && v.unit == n) ≡ x
-        → cond x (Some v) (find (λ (w : UnitDef). w.target == t && w.unit == n) units) ≡ Some u
-        → (find (λ (w : UnitDef). w.target == t && w.unit == n) units ≡ Some u → (u.target ≡ t) × (u.unit ≡ n))
-        → (u.target ≡ t) × (u.unit ≡ n)
+    go : (x : Bool) → (v.target == t && v.unit == m) ≡ x
+        → cond x (Some v) (find (λ (w : UnitDef). w.target == t && w.unit == m) units) ≡ Some u
+        → (find (λ (w : UnitDef). w.target == t && w.unit == m) units ≡ Some u → (u.target ≡ t) × (u.unit ≡ m))
+        → (u.target ≡ t) × (u.unit ≡ m)
     go true f z rest =
-        let two = and_parts (v.target == t) (v.unit == n) f in
+        let two = and_parts (v.target == t) (v.unit == m) f in
         let same = same_Some v u z in (
           ap (λ (w : UnitDef). w.target) (sym same) ∙ eqb-true v.target t two.0,
-          ap (λ (w : UnitDef). w.unit) (sym same) ∙ eqb-true v.unit n two.1,
+          ap (λ (w : UnitDef). w.unit) (sym same) ∙ eqb-true v.unit m two.1,
         )
     go false f z rest = rest z
 
@@ -460,6 +460,6 @@ whole_always s (event ∷ history) a o e = go (array_after s history) refl e (λ
   where
     go : (x : Option Array) → array_after s history ≡ x → array_step s event x ≡ Some a
         → ((b : Array) → x ≡ Some b → HasWhole b) → HasWhole a
-    go None z k before = none_some a k
-    go (Some b) z k before = whole_step s b a event o (history_sound s history b (seats_are s (obeys_fits s o)) z)
-        (lines_always s history b z) k (before b refl)
+    go None z h before = none_some a h
+    go (Some b) z h before = whole_step s b a event o (history_sound s history b (seats_are s (obeys_fits s o)) z)
+        (lines_always s history b z) h (before b refl)

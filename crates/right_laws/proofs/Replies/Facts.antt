@@ -78,7 +78,7 @@ kind_of a x plan h atn phase none stands placed = go phase placed
     closing m (completes e w) = answered w
     closing m (disconnects t rest o queued) = inr rest
 
-    before : (m : Messages) (n : Next) → PlacedBefore a x m n → HasKind a x
+    before : (m : Messages) (z : Next) → PlacedBefore a x m z → HasKind a x
     before m Next.Command w = untouched w
     before m Next.GoOn w = runs w
     before m Next.Status w = answered w
@@ -112,30 +112,30 @@ pub record IsCurrent (b : Array) (q : Process) : Type 0 where
   pub process_is : running.process ≡ q
   pub unanswered : reply_in b.replies q.id ≡ None
 
-pub guest_there : (s : ScenarioValue) (guests : List RunningProcess) (t n : ℕ) (x : Process) (g : RunningProcess)
-    → AllOwnGuests s guests → process_of s x.id ≡ Some x → guest_at (guests_at guests t n) x.id ≡ Some g → g.process ≡ x
-guest_there s [] t n x g own is e = none_some g e
-guest_there s (y ∷ guests) t n x g own is e =
-    go (is_of_unit y.process t n) (same_id y.process.id x.id) refl e (λ z. guest_there s guests t n x g own.1 is z)
+pub guest_there : (s : ScenarioValue) (guests : List RunningProcess) (t m : ℕ) (x : Process) (g : RunningProcess)
+    → AllOwnGuests s guests → process_of s x.id ≡ Some x → guest_at (guests_at guests t m) x.id ≡ Some g → g.process ≡ x
+guest_there s [] t m x g own is e = none_some g e
+guest_there s (y ∷ guests) t m x g own is e =
+    go (is_of_unit y.process t m) (same_id y.process.id x.id) refl e (λ z. guest_there s guests t m x g own.1 is z)
   where
     go : (q r : Bool) → same_id y.process.id x.id ≡ r
-        → guest_at (if q then y ∷ guests_at guests t n else guests_at guests t n) x.id ≡ Some g
-        → (guest_at (guests_at guests t n) x.id ≡ Some g → g.process ≡ x) → g.process ≡ x
+        → guest_at (if q then y ∷ guests_at guests t m else guests_at guests t m) x.id ≡ Some g
+        → (guest_at (guests_at guests t m) x.id ≡ Some g → g.process ≡ x) → g.process ≡ x
     go false r er z rest = rest z
-    go true false er z rest = rest ((λ i. if sym er i then Some y else guest_at (guests_at guests t n) x.id) ∙ z)
+    go true false er z rest = rest ((λ i. if sym er i then Some y else guest_at (guests_at guests t m) x.id) ∙ z)
     go true true er z rest = ap (λ (r : RunningProcess). r.process)
-        (sym (same_Some y g ((λ i. if sym er i then Some y else guest_at (guests_at guests t n) x.id) ∙ z)))
+        (sym (same_Some y g ((λ i. if sym er i then Some y else guest_at (guests_at guests t m) x.id) ∙ z)))
         ∙ same_Some y.process x (sym own.0 ∙ ap (process_of s) (id_is y.process.id x.id er) ∙ is)
 
-guest_away : (guests : List RunningProcess) (t n : ℕ) (id : ProcId) (g : RunningProcess) → OnGuests (IsAway id) guests
-    → guest_at (guests_at guests t n) id ≡ Some g → ⊥
-guest_away [] t n id g h e = none_some g e
-guest_away (y ∷ guests) t n id g h e = go (is_of_unit y.process t n) e (λ z. guest_away guests t n id g h.1 z)
+guest_away : (guests : List RunningProcess) (t m : ℕ) (id : ProcId) (g : RunningProcess) → OnGuests (IsAway id) guests
+    → guest_at (guests_at guests t m) id ≡ Some g → ⊥
+guest_away [] t m id g h e = none_some g e
+guest_away (y ∷ guests) t m id g h e = go (is_of_unit y.process t m) e (λ z. guest_away guests t m id g h.1 z)
   where
-    go : (q : Bool) → guest_at (if q then y ∷ guests_at guests t n else guests_at guests t n) id ≡ Some g
-        → (guest_at (guests_at guests t n) id ≡ Some g → ⊥) → ⊥
+    go : (q : Bool) → guest_at (if q then y ∷ guests_at guests t m else guests_at guests t m) id ≡ Some g
+        → (guest_at (guests_at guests t m) id ≡ Some g → ⊥) → ⊥
     go false z rest = rest z
-    go true z rest = rest ((λ i. if sym h.0 i then Some y else guest_at (guests_at guests t n) id) ∙ z)
+    go true z rest = rest ((λ i. if sym h.0 i then Some y else guest_at (guests_at guests t m) id) ∙ z)
 
 run_step_same : (s : ScenarioValue) (c b : Array) (x q : Process) → HasSeats s → IsSound s c
     → process_of s x.id ≡ Some x → is_of_unit x q.target q.unit ≡ true → HasKind c x → IsCurrent b q
@@ -168,7 +168,7 @@ run_step_same s c b x q seats sound own place kind w st =
         ⊎ IsCurrentAt (seat_of b x.target x.unit) x.id
         → reply_now b q ≡ reply_now c q
     by (inl e) = by_context c b q (subst (λ (t : ℕ). SameContext c b t q.unit q.initiator) at.0
-        (subst (λ (n : ℕ). SameContext c b x.target n q.initiator) at.1 e))
+        (subst (λ (m : ℕ). SameContext c b x.target m q.initiator) at.1 e))
     by (inr cur) =
         none_some (reply_now c x) (sym w.unanswered ∙ ap (reply_in b.replies) same ∙ run_gives s c b x sound own st)
       where

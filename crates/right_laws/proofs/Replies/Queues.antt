@@ -24,7 +24,7 @@ abbrev pub moved_of : RunState → ProcId → List ℕ
 moved_of k id = (carried_here k id).moved.bytes
 
 abbrev pub IsUnmoved : (ProcId → List ℕ) → Process → Type 0
-IsUnmoved moved p = moved p.id ≡ []
+IsUnmoved moved c = moved c.id ≡ []
 
 abbrev pub IsCleanUnit : (ProcId → List ℕ) → UnitState → Type 0
 IsCleanUnit moved u = AllP (IsUnmoved moved) u.waiting
@@ -33,7 +33,7 @@ abbrev pub CleanFacts : ScenarioValue → List Row → Type 0
 CleanFacts s rows = AllUnits (IsCleanUnit (moved_of (run_state s rows))) (array_of s (run_state s rows)).units
 
 abbrev pub IsNoSense : Process → Type 0
-IsNoSense p = is_request_sense (command_of p.cdb) ≡ false
+IsNoSense c = is_request_sense (command_of c.cdb) ≡ false
 
 abbrev pub SenselessFacts : ScenarioValue → List Row → Type 0
 SenselessFacts s rows = UnitsP IsNoSense (array_of s (run_state s rows)).units
@@ -50,10 +50,10 @@ clean_stays moved = record {
     chosen : (u : UnitState) (holds : List Nexus) → IsCleanUnit moved u → IsCleanUnit moved (unit_after_choice holds u)
     chosen u holds h = go (has_no_current u.current && not (is_held holds u.target u.unit)) (choice u.pick u.waiting)
       where
-        go : (x : Bool) (p : Option Process) → IsCleanUnit moved (if x then with_current u p else u)
+        go : (x : Bool) (t : Option Process) → IsCleanUnit moved (if x then with_current u t else u)
         go true None = h
-        go true (Some p) = without_all (IsUnmoved moved) u.waiting p.id h
-        go false p = h
+        go true (Some t) = without_all (IsUnmoved moved) u.waiting t.id h
+        go false t = h
 
 -- ---- before any row
 
@@ -68,8 +68,8 @@ senseless_empty (u ∷ units) h =
     ((map_all (λ p. ⊥) IsNoSense u.waiting (λ p z. absurd z) h.0.0, run u.current h.0.1), senseless_empty units h.1)
   where
     run : (o : Option RunningProcess) → Runs (λ r. ⊥) o → RunsP IsNoSense o
-    run None k = tt
-    run (Some r) k = absurd k
+    run None e = tt
+    run (Some r) e = absurd e
 
 start_units : (s : ScenarioValue) → AllUnits IsEmptyUnit (settled_array (starting_array s)).units
 start_units s = each_settled IsEmptyUnit (starting_array s) empty_stays (start_empty s s.units)
@@ -108,14 +108,14 @@ senseless_next s p row h was =
 abbrev pub IsNotIn : ProcId → UnitState → Type 0
 IsNotIn id u = AllP (λ p. same_id p.id id ≡ false) u.waiting
 
-own_all : (s : ScenarioValue) (t n : ℕ) (waiting : List Process) → AllOwn s t n waiting → AllP (IsOwn s t n) waiting
-own_all s t n [] h = tt
-own_all s t n (p ∷ waiting) h = (h.0, own_all s t n waiting h.1)
+own_all : (s : ScenarioValue) (t m : ℕ) (waiting : List Process) → AllOwn s t m waiting → AllP (IsOwn s t m) waiting
+own_all s t m [] h = tt
+own_all s t m (c ∷ waiting) h = (h.0, own_all s t m waiting h.1)
 
-both_all : (q r t : Process → Type 0) (waiting : List Process) → ((p : Process) → q p → r p → t p) → AllP q waiting
+both_all : (q r t : Process → Type 0) (waiting : List Process) → ((c : Process) → q c → r c → t c) → AllP q waiting
     → AllP r waiting → AllP t waiting
 both_all q r t [] f h g = tt
-both_all q r t (p ∷ waiting) f h g = (f p h.0 g.0, both_all q r t waiting f h.1 g.1)
+both_all q r t (c ∷ waiting) f h g = (f c h.0 g.0, both_all q r t waiting f h.1 g.1)
 
 own_units : (s : ScenarioValue) (units : List UnitState) → AllOwnUnits s units → AllUnits (IsOwnUnit s) units
 own_units s [] h = tt
@@ -131,16 +131,16 @@ both_units q r t [] f h g = tt
 both_units q r t (u ∷ units) f h g = (f u h.0 g.0, both_units q r t units f h.1 g.1)
 
 -- A process of the scenario that is not of this place, or not of this kind, is another.
-other_by : (s : ScenarioValue) (t n : ℕ) (p x : Process) → IsOwn s t n p → process_of s x.id ≡ Some x
-    → (p ≡ x → ⊥) → same_id p.id x.id ≡ false
-other_by s t n p x own is apart =
-    by_bool (same_id p.id x.id)
-    (λ e. absurd (apart (same_Some p x (sym own.is ∙ ap (process_of s) (id_is p.id x.id e) ∙ is))))
+other_by : (s : ScenarioValue) (t m : ℕ) (c x : Process) → IsOwn s t m c → process_of s x.id ≡ Some x
+    → (c ≡ x → ⊥) → same_id c.id x.id ≡ false
+other_by s t m c x own is apart =
+    by_bool (same_id c.id x.id)
+    (λ e. absurd (apart (same_Some c x (sym own.is ∙ ap (process_of s) (id_is c.id x.id e) ∙ is))))
     (λ e. e)
 
-placed_there : (t n : ℕ) (p : Process) → p.target ≡ t → p.unit ≡ n → (t == p.target && n == p.unit) ≡ true
-placed_there t n p e f =
-    (λ i. sym e i == p.target && sym f i == p.unit) ∙ (λ i. eq_self p.target i && p.unit == p.unit) ∙ eq_self p.unit
+placed_there : (t m : ℕ) (c : Process) → c.target ≡ t → c.unit ≡ m → (t == c.target && m == c.unit) ≡ true
+placed_there t m c e f =
+    (λ i. sym e i == c.target && sym f i == c.unit) ∙ (λ i. eq_self c.target i && c.unit == c.unit) ∙ eq_self c.unit
 
 elsewhere_not : (s : ScenarioValue) (u : UnitState) (x : Process) → process_of s x.id ≡ Some x → IsOwnUnit s u
     → IsElsewhere u x → IsNotIn x.id u
@@ -209,12 +209,12 @@ IsQuiet s p row id = (l : Link) → (run_state s p).story.link ≡ Some l → l.
 abbrev AreQuiet : ScenarioValue → List Row → Row → UnitState → Type 0
 AreQuiet s p row u = AllP (λ q. IsQuiet s p row q.id) u.waiting
 
-every : (q : Process → Type 0) (waiting : List Process) → ((p : Process) → q p) → AllP q waiting
+every : (q : Process → Type 0) (waiting : List Process) → ((c : Process) → q c) → AllP q waiting
 every q [] f = tt
-every q (p ∷ waiting) f = (f p, every q waiting f)
+every q (c ∷ waiting) f = (f c, every q waiting f)
 
 every_unit : (q : Process → Type 0) (units : List UnitState)
-    → ((p : Process) → q p) → AllUnits (λ u. AllP q u.waiting) units
+    → ((c : Process) → q c) → AllUnits (λ u. AllP q u.waiting) units
 every_unit q [] f = tt
 every_unit q (u ∷ units) f = (every q u.waiting f, every_unit q units f)
 
@@ -246,8 +246,8 @@ quiet_units s p row made all h plain written = go d.crosses refl (is_data d.chan
         none_of o never served = every_unit (λ q. IsQuiet s p row q.id) a.units
             (λ q l link item e. absurd (never q.id (sym served ∙ known q.id l link item)))
 
-        abort_not : (n : ℕ) (id : ProcId) → (let o : Option Item = Some (abort n) in o) ≡ Some (process id) → ⊥
-        abort_not n id e = absurd cc
+        abort_not : (v : ℕ) (id : ProcId) → (let o : Option Item = Some (abort v) in o) ≡ Some (process id) → ⊥
+        abort_not v id e = absurd cc
 
         of_process : (id : ProcId) → k.served ≡ Some (process id) → AllUnits (AreQuiet s p row) a.units
         of_process id served = map_units (IsNotIn w.process.id) (AreQuiet s p row) a.units
@@ -289,7 +289,7 @@ quiet_units s p row made all h plain written = go d.crosses refl (is_data d.chan
                 or_id : ProcId → Option Item → ProcId
                 or_id z None = z
                 or_id z (Some (process i)) = i
-                or_id z (Some (abort n)) = z
+                or_id z (Some (abort v)) = z
 
             same : (q : ProcId) (l : Link) → k.story.link ≡ Some l → l.item ≡ Some (process q)
                 → same_id q w.process.id ≡ true
@@ -297,7 +297,7 @@ quiet_units s p row made all h plain written = go d.crosses refl (is_data d.chan
 
         by : (o : Option Item) → k.served ≡ o → AllUnits (AreQuiet s p row) a.units
         by None e = none_of None (λ id z. none_some (process id) z) e
-        by (Some (abort n)) e = none_of (Some (abort n)) (abort_not n) e
+        by (Some (abort v)) e = none_of (Some (abort v)) (abort_not v) e
         by (Some (process id)) e = of_process id e
 
     go : (x : Bool) → d.crosses ≡ x → (y : Bool) → is_data d.change.before ≡ y → AllUnits (AreQuiet s p row) a.units

@@ -62,15 +62,15 @@ pub data Changing (s : ScenarioValue) (k : RunState) (row : Row) (q : Process) :
       → has_run (row_events_by s k.story (row_reading k.story.bus_state row) row) x.id ≡ true → Changing s k row q
   by_end : (x : Process) (status : ℕ) → process_of s x.id ≡ Some x → is_of_unit x q.target q.unit ≡ true
       → IsHereEnd s k row x.id status → Changing s k row q
-  by_abort : (i t n : ℕ) (what : AbortKind)
-      → row_events_by s k.story (row_reading k.story.bus_state row) row ≡ Event.Aborted i t n what ∷ []
-      → is_some (row_reading k.story.bus_state row).next ≡ false → abort_may_change q i t n what ≡ true
+  by_abort : (i t m : ℕ) (what : AbortKind)
+      → row_events_by s k.story (row_reading k.story.bus_state row) row ≡ Event.Aborted i t m what ∷ []
+      → is_some (row_reading k.story.bus_state row).next ≡ false → abort_may_change q i t m what ≡ true
       → Changing s k row q
 
-not_elsewhere : (s : ScenarioValue) (id : ProcId) (t n : ℕ) (x : Process) → process_of s id ≡ Some x
-    → not (is_of_other_unit (process_of s id) t n) ≡ true → is_of_unit x t n ≡ true
-not_elsewhere s id t n x e f =
-    go (is_of_unit x t n) (ap (λ (o : Option Process). not (is_of_other_unit o t n)) (sym e) ∙ f)
+not_elsewhere : (s : ScenarioValue) (id : ProcId) (t m : ℕ) (x : Process) → process_of s id ≡ Some x
+    → not (is_of_other_unit (process_of s id) t m) ≡ true → is_of_unit x t m ≡ true
+not_elsewhere s id t m x e f =
+    go (is_of_unit x t m) (ap (λ (o : Option Process). not (is_of_other_unit o t m)) (sym e) ∙ f)
   where
     go : (q : Bool) → not (not q) ≡ true → q ≡ true
     go true z = refl
@@ -210,26 +210,26 @@ changing s p row h q calm may =
 
 -- ---- an abort drops those whose reply it may change
 
-pub dropped_by : (q : Process) (i t n : ℕ) (what : AbortKind) → abort_may_change q i t n what ≡ true
-    → stays_queued (Event.Aborted i t n what) q ≡ false
-dropped_by q i t n AbortKind.All e = of (i == q.initiator) refl (t == q.target) refl (n == q.unit) refl e
+pub dropped_by : (q : Process) (i t m : ℕ) (what : AbortKind) → abort_may_change q i t m what ≡ true
+    → stays_queued (Event.Aborted i t m what) q ≡ false
+dropped_by q i t m AbortKind.All e = of (i == q.initiator) refl (t == q.target) refl (m == q.unit) refl e
   where
-    of : (x : Bool) → (i == q.initiator) ≡ x → (y : Bool) → (t == q.target) ≡ y → (z : Bool) → (n == q.unit) ≡ z
-        → (x && (y && z)) ≡ true → not (q.initiator == i && (q.target == t && q.unit == n)) ≡ false
+    of : (x : Bool) → (i == q.initiator) ≡ x → (y : Bool) → (t == q.target) ≡ y → (z : Bool) → (m == q.unit) ≡ z
+        → (x && (y && z)) ≡ true → not (q.initiator == i && (q.target == t && q.unit == m)) ≡ false
     of false ex y ey z ez w = wrong' w
     of true ex false ey z ez w = wrong' w
     of true ex true ey false ez w = wrong' w
     of true ex true ey true ez w =
-        λ j. not ((eq_turned q.initiator i ∙ ex) j && ((eq_turned q.target t ∙ ey) j && (eq_turned q.unit n ∙ ez) j))
-dropped_by q i t n (AbortKind.Tag x) e = wrong' e
-dropped_by q i t n AbortKind.WholeQueue e = of (t == q.target) refl (n == q.unit) refl e
+        λ j. not ((eq_turned q.initiator i ∙ ex) j && ((eq_turned q.target t ∙ ey) j && (eq_turned q.unit m ∙ ez) j))
+dropped_by q i t m (AbortKind.Tag x) e = wrong' e
+dropped_by q i t m AbortKind.WholeQueue e = of (t == q.target) refl (m == q.unit) refl e
   where
-    of : (y : Bool) → (t == q.target) ≡ y → (z : Bool) → (n == q.unit) ≡ z → (y && z) ≡ true
-        → not (q.target == t && q.unit == n) ≡ false
+    of : (y : Bool) → (t == q.target) ≡ y → (z : Bool) → (m == q.unit) ≡ z → (y && z) ≡ true
+        → not (q.target == t && q.unit == m) ≡ false
     of false ey z ez w = wrong' w
     of true ey false ez w = wrong' w
-    of true ey true ez w = λ j. not ((eq_turned q.target t ∙ ey) j && (eq_turned q.unit n ∙ ez) j)
-dropped_by q i t n AbortKind.Device e = λ j. not ((eq_turned q.target t ∙ e) j)
+    of true ey true ez w = λ j. not ((eq_turned q.target t ∙ ey) j && (eq_turned q.unit m ∙ ez) j)
+dropped_by q i t m AbortKind.Device e = λ j. not ((eq_turned q.target t ∙ e) j)
 
 -- ---- one that ends is no guest then
 

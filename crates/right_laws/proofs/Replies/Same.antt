@@ -45,13 +45,13 @@ pub same_some : (seat x : Seat) (from : ℕ) → context_of x from ≡ context_o
 same_some seat x from same after e =
     ap (λ (z : Seat). context_of z from) (sym (same_Some (settled_seat x) after e)) ∙ settled_context x from ∙ same
 
-accept_context : (seat : Seat) (p : Process) (from : ℕ) → SameAfter seat from (Seats.seat_after_accept p seat)
-accept_context seat p from = go seat.unit refl
+accept_context : (seat : Seat) (c : Process) (from : ℕ) → SameAfter seat from (Seats.seat_after_accept c seat)
+accept_context seat c from = go seat.unit refl
   where
     queued : (u : UnitState) → seat.unit ≡ Some u → (y : Bool) → SameAfter seat from
-        (if y then Some (record seat { unit = Some (record u { waiting = u.waiting ++ p ∷ [] }) }) else None)
+        (if y then Some (record seat { unit = Some (record u { waiting = u.waiting ++ c ∷ [] }) }) else None)
     queued u e true =
-        same_some seat (record seat { unit = Some (record u { waiting = u.waiting ++ p ∷ [] }) }) from (λ i. record {
+        same_some seat (record seat { unit = Some (record u { waiting = u.waiting ++ c ∷ [] }) }) from (λ i. record {
           present = is_some (sym e i);
           contents = Seats.contents_of (sym e i);
           stored = seat.senses from;
@@ -60,24 +60,24 @@ accept_context seat p from = go seat.unit refl
     queued u e false = same_none seat from
 
     by : (u : UnitState) → seat.unit ≡ Some u → (y : Bool)
-        → SameAfter seat from (if y then Some (Seats.seat_with_guest seat p None) else Seats.seat_with_waiting seat p u)
-    by u e true = same_some seat (Seats.seat_with_guest seat p None) from refl
+        → SameAfter seat from (if y then Some (Seats.seat_with_guest seat c None) else Seats.seat_with_waiting seat c u)
+    by u e true = same_some seat (Seats.seat_with_guest seat c None) from refl
     by u e false = queued u e (nat_lt (process_count u) u.depth)
 
-    go : (x : Option UnitState) → seat.unit ≡ x → SameAfter seat from (Seats.seat_after_accept_at seat p x)
-    go None e = same_some seat (Seats.seat_with_guest seat p None) from refl
-    go (Some u) e = by u e (is_request_sense (command_of p.cdb))
+    go : (x : Option UnitState) → seat.unit ≡ x → SameAfter seat from (Seats.seat_after_accept_at seat c x)
+    go None e = same_some seat (Seats.seat_with_guest seat c None) from refl
+    go (Some u) e = by u e (is_request_sense (command_of c.cdb))
 
-refuse_context : (seat : Seat) (p : Process) (from : ℕ) → SameAfter seat from (Seats.seat_after_refuse p seat)
-refuse_context seat p from = go seat.unit
+refuse_context : (seat : Seat) (c : Process) (from : ℕ) → SameAfter seat from (Seats.seat_after_refuse c seat)
+refuse_context seat c from = go seat.unit
   where
-    by : (y : Bool) → SameAfter seat from (if y then Some (Seats.seat_with_guest seat p (Some queue_full)) else None)
-    by true = same_some seat (Seats.seat_with_guest seat p (Some queue_full)) from refl
+    by : (y : Bool) → SameAfter seat from (if y then Some (Seats.seat_with_guest seat c (Some queue_full)) else None)
+    by true = same_some seat (Seats.seat_with_guest seat c (Some queue_full)) from refl
     by false = same_none seat from
 
-    go : (x : Option UnitState) → SameAfter seat from (Seats.seat_after_refuse_at seat p x)
+    go : (x : Option UnitState) → SameAfter seat from (Seats.seat_after_refuse_at seat c x)
     go None = same_none seat from
-    go (Some u) = by (not (is_request_sense (command_of p.cdb)) && process_count u == u.depth)
+    go (Some u) = by (not (is_request_sense (command_of c.cdb)) && process_count u == u.depth)
 
 replied_context : (seat : Seat) (id : ProcId) (reply : Reply) (from : ℕ)
     → context_of (Seats.seat_with_reply seat id reply) from ≡ context_of seat from
@@ -88,21 +88,21 @@ replied_context seat id reply from = go seat.unit
     go None = refl
     go (Some u) = refl
 
-fail_context : (seat : Seat) (over : Bool) (p : Process) (reply : Reply) (from : ℕ)
-    → SameAfter seat from (Seats.seat_after_failure over p reply seat)
-fail_context seat over p reply from = go (Seats.running_at seat p.id)
+fail_context : (seat : Seat) (over : Bool) (c : Process) (reply : Reply) (from : ℕ)
+    → SameAfter seat from (Seats.seat_after_failure over c reply seat)
+fail_context seat over c reply from = go (Seats.running_at seat c.id)
   where
-    replied : (y : Bool) → SameAfter seat from (if y then Some (Seats.seat_with_reply seat p.id reply) else None)
-    replied true = same_some seat (Seats.seat_with_reply seat p.id reply) from (replied_context seat p.id reply from)
+    replied : (y : Bool) → SameAfter seat from (if y then Some (Seats.seat_with_reply seat c.id reply) else None)
+    replied true = same_some seat (Seats.seat_with_reply seat c.id reply) from (replied_context seat c.id reply from)
     replied false = same_none seat from
 
-    fresh : (y : Bool) → SameAfter seat from (if y then None else Some (Seats.seat_with_guest seat p (Some reply)))
+    fresh : (y : Bool) → SameAfter seat from (if y then None else Some (Seats.seat_with_guest seat c (Some reply)))
     fresh true = same_none seat from
-    fresh false = same_some seat (Seats.seat_with_guest seat p (Some reply)) from refl
+    fresh false = same_some seat (Seats.seat_with_guest seat c (Some reply)) from refl
 
-    go : (o : Option RunningProcess) → SameAfter seat from (Seats.seat_after_failure_of seat over p reply o)
+    go : (o : Option RunningProcess) → SameAfter seat from (Seats.seat_after_failure_of seat over c reply o)
     go (Some r) = replied (is_none r.reply)
-    go None = fresh (Seats.is_waiting_at seat.unit p.id || over)
+    go None = fresh (Seats.is_waiting_at seat.unit c.id || over)
 
 loss_context : (seat : Seat) (over : Bool) (id : ProcId) (from : ℕ)
     → SameAfter seat from (Seats.seat_after_loss over id seat)
@@ -119,62 +119,62 @@ loss_context seat over id from = go over
 
 -- ---- an event of a process
 
-pub place_of : (p : Process) (t n : ℕ) → is_of_unit p t n ≡ true → (p.target ≡ t) × (p.unit ≡ n)
-place_of p t n e =
-    let two = and_parts (p.target == t) (p.unit == n) e in
-    (eqb-true p.target t two.0, eqb-true p.unit n two.1)
+pub place_of : (c : Process) (t m : ℕ) → is_of_unit c t m ≡ true → (c.target ≡ t) × (c.unit ≡ m)
+place_of c t m e =
+    let two = and_parts (c.target == t) (c.unit == m) e in
+    (eqb-true c.target t two.0, eqb-true c.unit m two.1)
 
 -- At this seat.
 abbrev pub SameContext : Array → Array → ℕ → ℕ → ℕ → Type 0
-SameContext a b t n from = context_of (seat_of b t n) from ≡ context_of (seat_of a t n) from
+SameContext a b t m from = context_of (seat_of b t m) from ≡ context_of (seat_of a t m) from
 
-pub elsewhere_context : (s : ScenarioValue) (a b : Array) (e : Event) (t n from : ℕ) → HasSeats s → IsSound s a
-    → Seats.is_elsewhere s e t n ≡ true → step s e a ≡ Some b → SameContext a b t n from
-elsewhere_context s a b e t n from seats sound other st =
-    ap (λ (x : Seat). context_of x from) (other_law s a b e t n seats sound other st)
+pub elsewhere_context : (s : ScenarioValue) (a b : Array) (e : Event) (t m from : ℕ) → HasSeats s → IsSound s a
+    → Seats.is_elsewhere s e t m ≡ true → step s e a ≡ Some b → SameContext a b t m from
+elsewhere_context s a b e t m from seats sound other st =
+    ap (λ (x : Seat). context_of x from) (other_law s a b e t m seats sound other st)
 
 -- Of this unit, or of another.
-pub of_process : (s : ScenarioValue) (a b : Array) (e : Event) (id : ProcId) (t n from : ℕ)
+pub of_process : (s : ScenarioValue) (a b : Array) (e : Event) (id : ProcId) (t m from : ℕ)
     → HasSeats s → IsSound s a → step s e a ≡ Some b
-    → Seats.is_elsewhere s e t n ≡ Seats.is_of_other_unit (process_of s id) t n → is_some (process_of s id) ≡ true
-    → ((p : Process) → process_of s id ≡ Some p → SameContext a b p.target p.unit from) → SameContext a b t n from
-of_process s a b e id t n from seats sound st place some here = by_option
+    → Seats.is_elsewhere s e t m ≡ Seats.is_of_other_unit (process_of s id) t m → is_some (process_of s id) ≡ true
+    → ((c : Process) → process_of s id ≡ Some c → SameContext a b c.target c.unit from) → SameContext a b t m from
+of_process s a b e id t m from seats sound st place some here = by_option
     (process_of s id) (λ z. no_process (process_of s id) z some)
-    (λ p z. by_bool (is_of_unit p t n) (λ x. let w = place_of p t n x in subst (λ (y : ℕ). SameContext a b y n from) w.0
-    (subst (λ (y : ℕ). SameContext a b p.target y from) w.1 (here p z))) (λ x. elsewhere_context s a b e t n from seats
-    sound (place ∙ ap (λ (o : Option Process). Seats.is_of_other_unit o t n) z ∙ ap not x) st))
+    (λ c z. by_bool (is_of_unit c t m) (λ x. let w = place_of c t m x in subst (λ (y : ℕ). SameContext a b y m from) w.0
+    (subst (λ (y : ℕ). SameContext a b c.target y from) w.1 (here c z))) (λ x. elsewhere_context s a b e t m from seats
+    sound (place ∙ ap (λ (o : Option Process). Seats.is_of_other_unit o t m) z ∙ ap not x) st))
 
-pub seat_is : (s : ScenarioValue) (a b : Array) (e : Event) (t n from : ℕ) (o : Option Seat)
-    → step s e a ≡ Some b → seat_if (step s e a) t n ≡ settled_seat_if o → SameAfter (seat_of a t n) from o
-    → context_of (seat_of b t n) from ≡ context_of (seat_of a t n) from
-seat_is s a b e t n from o st law same = same (seat_of b t n) (sym law ∙ ap (λ (x : Option Array). seat_if x t n) st)
+pub seat_is : (s : ScenarioValue) (a b : Array) (e : Event) (t m from : ℕ) (o : Option Seat)
+    → step s e a ≡ Some b → seat_if (step s e a) t m ≡ settled_seat_if o → SameAfter (seat_of a t m) from o
+    → context_of (seat_of b t m) from ≡ context_of (seat_of a t m) from
+seat_is s a b e t m from o st law same = same (seat_of b t m) (sym law ∙ ap (λ (x : Option Array). seat_if x t m) st)
 
-pub accept_at : (s : ScenarioValue) (a b : Array) (id : ProcId) (t n from : ℕ) → HasSeats s → IsSound s a
-    → is_some (process_of s id) ≡ true → step s (Event.Accept id) a ≡ Some b → SameContext a b t n from
-accept_at s a b id t n from seats sound some st = of_process s a b (Event.Accept id) id t n from seats sound st
+pub accept_at : (s : ScenarioValue) (a b : Array) (id : ProcId) (t m from : ℕ) → HasSeats s → IsSound s a
+    → is_some (process_of s id) ≡ true → step s (Event.Accept id) a ≡ Some b → SameContext a b t m from
+accept_at s a b id t m from seats sound some st = of_process s a b (Event.Accept id) id t m from seats sound st
     refl some (λ p z. let same = process_id s id p z in seat_is s a b (Event.Accept p.id) p.target p.unit from
     (Seats.seat_after_accept p (seat_of a p.target p.unit)) (ap (λ (x : ProcId). step s (Event.Accept x) a) same ∙ st)
     (accept_law s a p seats sound (is_own s id p z)) (accept_context (seat_of a p.target p.unit) p from))
 
-pub refuse_at : (s : ScenarioValue) (a b : Array) (id : ProcId) (t n from : ℕ) → HasSeats s → IsSound s a
-    → is_some (process_of s id) ≡ true → step s (Event.Refuse id) a ≡ Some b → SameContext a b t n from
-refuse_at s a b id t n from seats sound some st = of_process s a b (Event.Refuse id) id t n from seats sound st
+pub refuse_at : (s : ScenarioValue) (a b : Array) (id : ProcId) (t m from : ℕ) → HasSeats s → IsSound s a
+    → is_some (process_of s id) ≡ true → step s (Event.Refuse id) a ≡ Some b → SameContext a b t m from
+refuse_at s a b id t m from seats sound some st = of_process s a b (Event.Refuse id) id t m from seats sound st
     refl some (λ p z. let same = process_id s id p z in seat_is s a b (Event.Refuse p.id) p.target p.unit from
     (Seats.seat_after_refuse p (seat_of a p.target p.unit)) (ap (λ (x : ProcId). step s (Event.Refuse x) a) same ∙ st)
     (refuse_law s a p seats sound (is_own s id p z)) (refuse_context (seat_of a p.target p.unit) p from))
 
-pub fail_at : (s : ScenarioValue) (a b : Array) (id : ProcId) (code t n from : ℕ) → HasSeats s → IsSound s a
-    → is_some (process_of s id) ≡ true → step s (Event.Fail id code) a ≡ Some b → SameContext a b t n from
-fail_at s a b id code t n from seats sound some st = of_process s a b (Event.Fail id code) id t n from seats sound
+pub fail_at : (s : ScenarioValue) (a b : Array) (id : ProcId) (code t m from : ℕ) → HasSeats s → IsSound s a
+    → is_some (process_of s id) ≡ true → step s (Event.Fail id code) a ≡ Some b → SameContext a b t m from
+fail_at s a b id code t m from seats sound some st = of_process s a b (Event.Fail id code) id t m from seats sound
     st refl some (λ p z. let same = process_id s id p z in seat_is s a b (Event.Fail p.id code) p.target p.unit from
     (Seats.seat_after_failure (has_ended a p.id) p (check_condition (sense_of ABORTED_COMMAND code 0x00))
     (seat_of a p.target p.unit)) (ap (λ (x : ProcId). step s (Event.Fail x code) a) same ∙ st)
     (fail_law s a p code seats sound (is_own s id p z)) (fail_context (seat_of a p.target p.unit) (has_ended a p.id) p
     (check_condition (sense_of ABORTED_COMMAND code 0x00)) from))
 
-pub loss_at : (s : ScenarioValue) (a b : Array) (id : ProcId) (t n from : ℕ) → HasSeats s → IsSound s a
-    → is_some (process_of s id) ≡ true → step s (Event.Lost id) a ≡ Some b → SameContext a b t n from
-loss_at s a b id t n from seats sound some st = of_process s a b (Event.Lost id) id t n from seats sound st refl some
+pub loss_at : (s : ScenarioValue) (a b : Array) (id : ProcId) (t m from : ℕ) → HasSeats s → IsSound s a
+    → is_some (process_of s id) ≡ true → step s (Event.Lost id) a ≡ Some b → SameContext a b t m from
+loss_at s a b id t m from seats sound some st = of_process s a b (Event.Lost id) id t m from seats sound st refl some
     (λ p z. let same = process_id s id p z in seat_is s a b (Event.Lost p.id) p.target p.unit from
     (Seats.seat_after_loss (has_ended a p.id) p.id (seat_of a p.target p.unit))
     (ap (λ (x : ProcId). step s (Event.Lost x) a) same ∙ st) (loss_law s a p seats sound (is_own s id p z))
@@ -187,7 +187,7 @@ not_none s id e = go (process_of s id) e
   where
     go : (o : Option Process) → is_none o ≡ false → is_some o ≡ true
     go None z = absurd (true≢false z)
-    go (Some p) z = refl
+    go (Some c) z = refl
 
 pub kept_context : (seat : Seat) (drops : Process → Bool) (from : ℕ)
     → context_of (Seats.seat_kept drops seat) from ≡ context_of seat from
@@ -206,42 +206,42 @@ other_context seat i from e = (λ z. record (context_of (Seats.seat_kept (λ p. 
 }) ∙ kept_context seat (λ p. p.initiator == i) from
 
 -- At the unit of the process.
-abort_here : (s : ScenarioValue) (a b : Array) (i t n : ℕ) (what : AbortKind) (q : Process) → HasSeats s → IsSound s a
-    → (t == q.target && n == q.unit) ≡ true → step s (Event.Aborted i t n what) a ≡ Some b → ((seat : Seat)
+abort_here : (s : ScenarioValue) (a b : Array) (i t m : ℕ) (what : AbortKind) (q : Process) → HasSeats s → IsSound s a
+    → (t == q.target && m == q.unit) ≡ true → step s (Event.Aborted i t m what) a ≡ Some b → ((seat : Seat)
     → context_of (Seats.seat_after_aborted s.hosts i what seat) q.initiator ≡ context_of seat q.initiator)
     → reply_now b q ≡ reply_now a q
-abort_here s a b i t n what q seats sound place st same =
-    let two = and_parts (t == q.target) (n == q.unit) place in
-    let here : context_of (seat_of b t n) q.initiator ≡ context_of (seat_of a t n) q.initiator = seat_is s a b
-    (Event.Aborted i t n what) t n q.initiator (Some (Seats.seat_after_aborted s.hosts i what (seat_of a t n))) st
-    (abort_law s a i t n what seats sound) (same_some (seat_of a t n)
-    (Seats.seat_after_aborted s.hosts i what (seat_of a t n)) q.initiator (same (seat_of a t n))) in
+abort_here s a b i t m what q seats sound place st same =
+    let two = and_parts (t == q.target) (m == q.unit) place in
+    let here : context_of (seat_of b t m) q.initiator ≡ context_of (seat_of a t m) q.initiator = seat_is s a b
+    (Event.Aborted i t m what) t m q.initiator (Some (Seats.seat_after_aborted s.hosts i what (seat_of a t m))) st
+    (abort_law s a i t m what seats sound) (same_some (seat_of a t m)
+    (Seats.seat_after_aborted s.hosts i what (seat_of a t m)) q.initiator (same (seat_of a t m))) in
     by_context a b q
     (subst (λ (x : ℕ). context_of (seat_of b x q.unit) q.initiator ≡ context_of (seat_of a x q.unit) q.initiator)
     (eqb-true t q.target two.0)
     (subst (λ (x : ℕ). context_of (seat_of b t x) q.initiator ≡ context_of (seat_of a t x) q.initiator)
-    (eqb-true n q.unit two.1) here))
+    (eqb-true m q.unit two.1) here))
 
-abort_same : (s : ScenarioValue) (a b : Array) (i t n : ℕ) (what : AbortKind) (q : Process) → HasSeats s
-    → IsSound s a → abort_may_change q i t n what ≡ false → step s (Event.Aborted i t n what) a ≡ Some b
+abort_same : (s : ScenarioValue) (a b : Array) (i t m : ℕ) (what : AbortKind) (q : Process) → HasSeats s
+    → IsSound s a → abort_may_change q i t m what ≡ false → step s (Event.Aborted i t m what) a ≡ Some b
     → reply_now b q ≡ reply_now a q
-abort_same s a b i t n AbortKind.WholeQueue q seats sound f st =
-    elsewhere_same s a b (Event.Aborted i t n AbortKind.WholeQueue) q seats sound (ap not f) st
-abort_same s a b i t n AbortKind.Device q seats sound f st =
-    elsewhere_same s a b (Event.Aborted i t n AbortKind.Device) q seats sound (ap not f) st
-abort_same s a b i t n (AbortKind.Tag x) q seats sound f st = by_bool
-    (t == q.target && n == q.unit) (λ e. abort_here s a b i t n (AbortKind.Tag x) q seats sound e st
+abort_same s a b i t m AbortKind.WholeQueue q seats sound f st =
+    elsewhere_same s a b (Event.Aborted i t m AbortKind.WholeQueue) q seats sound (ap not f) st
+abort_same s a b i t m AbortKind.Device q seats sound f st =
+    elsewhere_same s a b (Event.Aborted i t m AbortKind.Device) q seats sound (ap not f) st
+abort_same s a b i t m (AbortKind.Tag x) q seats sound f st = by_bool
+    (t == q.target && m == q.unit) (λ e. abort_here s a b i t m (AbortKind.Tag x) q seats sound e st
     (λ seat. kept_context seat (λ p. p.initiator == i && has_tag p.tag x) q.initiator))
-    (λ e. elsewhere_same s a b (Event.Aborted i t n (AbortKind.Tag x)) q seats sound (ap not e) st)
-abort_same s a b i t n AbortKind.All q seats sound f st =
-    go (i == q.initiator) refl (t == q.target && n == q.unit) refl f
+    (λ e. elsewhere_same s a b (Event.Aborted i t m (AbortKind.Tag x)) q seats sound (ap not e) st)
+abort_same s a b i t m AbortKind.All q seats sound f st =
+    go (i == q.initiator) refl (t == q.target && m == q.unit) refl f
   where
-    go : (x : Bool) → (i == q.initiator) ≡ x → (y : Bool) → (t == q.target && n == q.unit) ≡ y → (x && y) ≡ false
+    go : (x : Bool) → (i == q.initiator) ≡ x → (y : Bool) → (t == q.target && m == q.unit) ≡ y → (x && y) ≡ false
         → reply_now b q ≡ reply_now a q
-    go x ex false ey z = elsewhere_same s a b (Event.Aborted i t n AbortKind.All) q seats sound (ap not ey) st
+    go x ex false ey z = elsewhere_same s a b (Event.Aborted i t m AbortKind.All) q seats sound (ap not ey) st
     go true ex true ey z = absurd (true≢false z)
     go false ex true ey z =
-        abort_here s a b i t n AbortKind.All q seats sound ey st (λ seat. other_context seat i q.initiator ex)
+        abort_here s a b i t m AbortKind.All q seats sound ey st (λ seat. other_context seat i q.initiator ex)
 
 event_same : (s : ScenarioValue) (a b : Array) (e : Event) (q : Process) → HasSeats s → IsSound s a
     → may_change s q e ≡ false → step s e a ≡ Some b → reply_now b q ≡ reply_now a q

@@ -11,18 +11,18 @@ use Rattle.due_model.specs.array_model.specs.Steps
 
 -- ---- at its seat
 
-still_context : (seat : Seat) (p : Process) (done : Execution) (from : ℕ) → done.contents ≡ Seats.contents_of seat.unit
-    → done.reported ≡ false → context_of (Seats.seat_with_execution seat p done) from ≡ context_of seat from
-still_context seat p done from same quiet =
+still_context : (seat : Seat) (c : Process) (done : Execution) (from : ℕ) → done.contents ≡ Seats.contents_of seat.unit
+    → done.reported ≡ false → context_of (Seats.seat_with_execution seat c done) from ≡ context_of seat from
+still_context seat c done from same quiet =
     (λ i. context_of (Seats.seat_with_reply (record seat {
       unit = Seats.unit_mapped (Seats.unit_with_contents (same i)) seat.unit;
-      attentions = if quiet i then Seats.with_sense_of seat.attentions p.initiator None else seat.attentions;
-    }) p.id done.reply) from)
+      attentions = if quiet i then Seats.with_sense_of seat.attentions c.initiator None else seat.attentions;
+    }) c.id done.reply) from)
     ∙ go seat.unit
   where
     go : (x : Option UnitState) → context_of (Seats.seat_with_reply (record seat {
       unit = Seats.unit_mapped (Seats.unit_with_contents (Seats.contents_of x)) x;
-    }) p.id done.reply) from ≡ context_of (record seat { unit = x }) from
+    }) c.id done.reply) from ≡ context_of (record seat { unit = x }) from
     go None = refl
     go (Some u) = refl
 

@@ -43,30 +43,30 @@ end_context seat id status from = go (Seats.running_at seat id)
     without None senses hold i = refl
     without (Some u) senses hold i = refl
 
-    stated : (p : Process) (reply : Reply) (x y : Bool)
+    stated : (c : Process) (reply : Reply) (x y : Bool)
         → SensesOnly seat from (Some (Seats.seat_without (if x then record seat {
-          senses = Seats.with_sense_of seat.senses p.initiator (Some reply.sense);
-          hold = Seats.with_hold_of seat.hold p.initiator true;
+          senses = Seats.with_sense_of seat.senses c.initiator (Some reply.sense);
+          hold = Seats.with_hold_of seat.hold c.initiator true;
         } else if y then record seat {
-          senses = Seats.with_sense_of seat.senses p.initiator None;
-          hold = Seats.with_hold_of seat.hold p.initiator false;
-        } else seat) p.id))
-    stated p reply true y =
-        senses_some seat _ from (without seat.unit (Seats.with_sense_of seat.senses p.initiator (Some reply.sense))
-        (Seats.with_hold_of seat.hold p.initiator true) p.id)
-    stated p reply false true = senses_some seat _ from (without seat.unit
-        (Seats.with_sense_of seat.senses p.initiator None) (Seats.with_hold_of seat.hold p.initiator false) p.id)
-    stated p reply false false = senses_some seat _ from (without seat.unit seat.senses seat.hold p.id)
+          senses = Seats.with_sense_of seat.senses c.initiator None;
+          hold = Seats.with_hold_of seat.hold c.initiator false;
+        } else seat) c.id))
+    stated c reply true y =
+        senses_some seat _ from (without seat.unit (Seats.with_sense_of seat.senses c.initiator (Some reply.sense))
+        (Seats.with_hold_of seat.hold c.initiator true) c.id)
+    stated c reply false true = senses_some seat _ from (without seat.unit
+        (Seats.with_sense_of seat.senses c.initiator None) (Seats.with_hold_of seat.hold c.initiator false) c.id)
+    stated c reply false false = senses_some seat _ from (without seat.unit seat.senses seat.hold c.id)
 
-    ended : (p : Process) (reply : Reply) (x : Bool) → SensesOnly seat from
-        (if x then Some (Seats.seat_without (Seats.seat_after_status seat p reply) p.id) else None)
-    ended p reply true =
-        stated p reply (reply.status == CHECK_CONDITION) (reply.status == GOOD && is_request_sense (command_of p.cdb))
-    ended p reply false = senses_none seat from
+    ended : (c : Process) (reply : Reply) (x : Bool) → SensesOnly seat from
+        (if x then Some (Seats.seat_without (Seats.seat_after_status seat c reply) c.id) else None)
+    ended c reply true =
+        stated c reply (reply.status == CHECK_CONDITION) (reply.status == GOOD && is_request_sense (command_of c.cdb))
+    ended c reply false = senses_none seat from
 
-    with : (p : Process) (o : Option Reply) → SensesOnly seat from (Seats.seat_after_end_with seat p status o)
-    with p None = senses_none seat from
-    with p (Some reply) = ended p reply (reply.status == status)
+    with : (c : Process) (o : Option Reply) → SensesOnly seat from (Seats.seat_after_end_with seat c status o)
+    with c None = senses_none seat from
+    with c (Some reply) = ended c reply (reply.status == status)
 
     go : (o : Option RunningProcess) → SensesOnly seat from (Seats.seat_after_end_of seat status o)
     go None = senses_none seat from
@@ -87,6 +87,6 @@ end_same s a b x q status seats sound own place none st =
     by_sensing a b q ((seat_of b q.target q.unit).senses q.initiator)
     (subst (λ (t : ℕ). context_of (seat_of b t q.unit) q.initiator
     ≡ storing (context_of (seat_of a t q.unit) q.initiator) ((seat_of b t q.unit).senses q.initiator)) at.0
-    (subst (λ (n : ℕ). context_of (seat_of b x.target n) q.initiator
-    ≡ storing (context_of (seat_of a x.target n) q.initiator) ((seat_of b x.target n).senses q.initiator)) at.1 same))
+    (subst (λ (m : ℕ). context_of (seat_of b x.target m) q.initiator
+    ≡ storing (context_of (seat_of a x.target m) q.initiator) ((seat_of b x.target m).senses q.initiator)) at.1 same))
     none

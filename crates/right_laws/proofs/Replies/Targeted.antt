@@ -30,37 +30,37 @@ there_still (t ∷ targets) more dev e = go (t.dev == dev) e (λ z. there_still 
 
 targeted_added : (d z : Progress) (x : Said) → added d x ≡ Ok z → AreTargeted d.scenario → AreTargeted z.scenario
 unfolding added
-targeted_added d z (scsi_line v) e a = subst (λ (p : Progress). AreTargeted p.scenario) (ok_is _ z e) a
+targeted_added d z (scsi_line v) e a = subst (λ (g : Progress). AreTargeted g.scenario) (ok_is _ z e) a
 targeted_added d z (initiator_line f) e a =
     let b = bind_ok (host_def d.scenario f) _ z e in
-    subst (λ (p : Progress). AreTargeted p.scenario) (ok_is _ z b.2) a
+    subst (λ (g : Progress). AreTargeted g.scenario) (ok_is _ z b.2) a
 targeted_added d z (target_line f) e a =
     let b = bind_ok (target_def d.scenario f) _ z e in
-    subst (λ (p : Progress). AreTargeted p.scenario) (ok_is _ z b.2)
+    subst (λ (g : Progress). AreTargeted g.scenario) (ok_is _ z b.2)
     (all_are (λ (u : UnitDef). is_there d.scenario.targets u.target ≡ true)
     (λ (u : UnitDef). is_there (d.scenario.targets ++ b.0 ∷ []) u.target ≡ true) d.scenario.units
     (λ u t. there_still d.scenario.targets b.0 u.target t) a)
 targeted_added d z (unit_line f) e a =
     let b = bind_ok (unit_def d.scenario f) _ z e in
-    subst (λ (p : Progress). AreTargeted p.scenario) (ok_is _ z b.2)
+    subst (λ (g : Progress). AreTargeted g.scenario) (ok_is _ z b.2)
     (all_more (λ (u : UnitDef). is_there d.scenario.targets u.target ≡ true) d.scenario.units b.0 a
     (unit_read d.scenario (unit_line f) b.0 b.1).known)
 targeted_added d z (fill_line f) e a =
     let b = bind_ok (fill_def d.scenario f) _ z e in
-    subst (λ (p : Progress). AreTargeted p.scenario) (ok_is _ z b.2) a
+    subst (λ (g : Progress). AreTargeted g.scenario) (ok_is _ z b.2) a
 targeted_added d z (cmd_line f) e a =
     let b = bind_ok (full_cmd_def d.scenario d.needs f) _ z e in
-    subst (λ (p : Progress). AreTargeted p.scenario) (ok_is _ z b.2) a
+    subst (λ (g : Progress). AreTargeted g.scenario) (ok_is _ z b.2) a
 targeted_added d z (abort_line f) e a =
     let b = bind_ok (abort_def d.scenario f) _ z e in
-    subst (λ (p : Progress). AreTargeted p.scenario) (ok_is _ z b.2) a
+    subst (λ (g : Progress). AreTargeted g.scenario) (ok_is _ z b.2) a
 targeted_added d z (reset_line f) e a =
     let b = bind_ok (reset_def d.scenario f) _ z e in
-    subst (λ (p : Progress). AreTargeted p.scenario) (ok_is _ z b.2) a
+    subst (λ (g : Progress). AreTargeted g.scenario) (ok_is _ z b.2) a
 targeted_added d z (fault_line f) e a =
     let b = bind_ok (fault_def d.scenario f) _ z e in
-    subst (λ (p : Progress). AreTargeted p.scenario) (ok_is _ z b.2) a
-targeted_added d z end_line e a = subst (λ (p : Progress). AreTargeted p.scenario) (ok_is d z e) a
+    subst (λ (g : Progress). AreTargeted g.scenario) (ok_is _ z b.2) a
+targeted_added d z end_line e a = subst (λ (g : Progress). AreTargeted g.scenario) (ok_is d z e) a
 
 -- ---- all lines
 
@@ -70,10 +70,10 @@ targeted_after d z x e a =
     let v = bind_ok (guard 2 (fits_version d.scenario.version x)) _ z e in
     let o = bind_ok (guard 3 (in_order (rank d.last) (rank (kind_of x)))) _ z v.2 in
     let b = bind_ok (added d x) _ z o.2 in
-    subst (λ (p : Progress). AreTargeted p.scenario) (ok_is _ z b.2) (targeted_added d b.0 x b.1 a)
+    subst (λ (g : Progress). AreTargeted g.scenario) (ok_is _ z b.2) (targeted_added d b.0 x b.1 a)
 
 targeted_built : (d z : Progress) (xs : List Said) → built d xs ≡ Ok z → AreTargeted d.scenario → AreTargeted z.scenario
-targeted_built d z [] e a = subst (λ (p : Progress). AreTargeted p.scenario) (ok_is d z e) a
+targeted_built d z [] e a = subst (λ (g : Progress). AreTargeted g.scenario) (ok_is d z e) a
 targeted_built d z (x ∷ xs) e a =
     let b = bind_ok (said_after d x) _ z e in
     targeted_built b.0 z xs b.2 (targeted_after d b.0 x b.1 a)
@@ -85,20 +85,20 @@ are_targeted s o =
 
 -- ---- of the unit that is found
 
-found_targeted : (s : ScenarioValue) (units : List UnitDef) (t n : ℕ) (u : UnitDef)
+found_targeted : (s : ScenarioValue) (units : List UnitDef) (t m : ℕ) (u : UnitDef)
     → AllByRecursion (λ (v : UnitDef). has_target s v.target ≡ true) units
-    → find (λ (v : UnitDef). v.target == t && v.unit == n) units ≡ Some u → has_target s t ≡ true
-found_targeted s [] t n u a e = none_some u e
-found_targeted s (v ∷ units) t n u a e =
-    go (v.target == t && v.unit == n) refl e (λ z. found_targeted s units t n u a.1 z)
+    → find (λ (v : UnitDef). v.target == t && v.unit == m) units ≡ Some u → has_target s t ≡ true
+found_targeted s [] t m u a e = none_some u e
+found_targeted s (v ∷ units) t m u a e =
+    go (v.target == t && v.unit == m) refl e (λ z. found_targeted s units t m u a.1 z)
   where
-    go : (q : Bool) → (v.target == t && v.unit == n) ≡ q
-        → cond q (Some v) (find (λ (w : UnitDef). w.target == t && w.unit == n) units) ≡ Some u
-        → (find (λ (w : UnitDef). w.target == t && w.unit == n) units ≡ Some u → has_target s t ≡ true)
+    go : (q : Bool) → (v.target == t && v.unit == m) ≡ q
+        → cond q (Some v) (find (λ (w : UnitDef). w.target == t && w.unit == m) units) ≡ Some u
+        → (find (λ (w : UnitDef). w.target == t && w.unit == m) units ≡ Some u → has_target s t ≡ true)
         → has_target s t ≡ true
-    go true f z rest = ap (has_target s) (sym (eqb-true v.target t (and_first (v.target == t) (v.unit == n) f))) ∙ a.0
+    go true f z rest = ap (has_target s) (sym (eqb-true v.target t (and_first (v.target == t) (v.unit == m) f))) ∙ a.0
     go false f z rest = rest z
 
-pub unit_targeted : (s : ScenarioValue) (t n : ℕ) (u : UnitDef) → Obeys s → unit_of s t n ≡ Some u
+pub unit_targeted : (s : ScenarioValue) (t m : ℕ) (u : UnitDef) → Obeys s → unit_of s t m ≡ Some u
     → has_target s t ≡ true
-unit_targeted s t n u o e = found_targeted s s.units t n u (are_targeted s o) e
+unit_targeted s t m u o e = found_targeted s s.units t m u (are_targeted s o) e

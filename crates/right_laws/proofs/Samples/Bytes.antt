@@ -78,7 +78,7 @@ samples_of : (s : ScenarioValue) (p : List Row) (n : Connection) (d lat : ℕ) �
     → latency_of s d ≡ Some lat → Crossed p n d → Samples s p n d
 samples_of s p n d lat dv z there (into_initiator f h b here io req ack since) =
     record {
-      below = subst (λ (k : ℕ). k < 8) (sym here) h.initiator_below;
+      below = subst (λ (m : ℕ). m < 8) (sym here) h.initiator_below;
       plain = initiator_plain s p n true f lat;
       due = ap (unreset_due s p) here ∙ initiator_is s p n f true lat dv h b (ap (latency_of s) (sym here) ∙ there)
           ∙ ap (λ (q : Bool). sample_due q (last_time p)
@@ -103,7 +103,7 @@ samples_of s p n d lat dv z there (into_initiator f h b here io req ack since) =
         inr (omega (arith, late, since), of_lines (target_plain s p n true f l) (due_of row) lines e)
 samples_of s p n d lat dv z there (into_target f h b here io bsy ack req since) =
     record {
-      below = subst (λ (k : ℕ). k < 8) (sym here) h.target_below;
+      below = subst (λ (m : ℕ). m < 8) (sym here) h.target_below;
       plain = target_plain s p n true f lat;
       due = ap (unreset_due s p) here ∙ target_is s p n f true lat dv h b (ap (latency_of s) (sym here) ∙ there)
           ∙ ap (λ (q : Bool). sample_due q (last_time p)
@@ -158,7 +158,7 @@ byte_awaits s p n d lat always z there x =
         eq_is a b h = grind (arith, nat_tests)
 
         less : (a b : ℕ) → (a == b) ≡ false → a ≤ b → a < b
-        less a b h k = grind (arith, nat_tests)
+        less a b h f = grind (arith, nat_tests)
 
     takes : (row : Row) → IsLeast (unreset_due s p) 8 row
         → (row.dev ≡ d) ⊎ ((last_time p < row.time) × (is_fault row.kind ≡ false))

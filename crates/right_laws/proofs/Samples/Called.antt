@@ -19,32 +19,32 @@ use Rattle.trace_laws.specs.bus_laws.specs.Stages.{in_connection}
 
 -- ---- the called device samples next
 
-pub ids_await : (s : ScenarioValue) (p : List Row) (m : Bool) (c k t0 t1 t2 x lat : ℕ) → HasShortLatencies s
-    → CalmStanding s p → AwaitsAnswer s p false m c k t0 t1 t2 x → latency_of s k ≡ Some lat
-    → Awaits s p (record { time = since_line (λ z. z.bsy) p + BUS_SETTLE_DELAY + lat; dev = k })
-ids_await s p m c k t0 t1 t2 n lat fits always a there =
+pub ids_await : (s : ScenarioValue) (p : List Row) (m : Bool) (c l t0 t1 t2 x lat : ℕ) → HasShortLatencies s
+    → CalmStanding s p → AwaitsAnswer s p false m c l t0 t1 t2 x → latency_of s l ≡ Some lat
+    → Awaits s p (record { time = since_line (λ z. z.bsy) p + BUS_SETTLE_DELAY + lat; dev = l })
+ids_await s p m c l t0 t1 t2 u lat fits always a there =
     record {
       below = h.called_below;
       struck = λ bit e. due ∙ ap (λ (o : Option ℕ). fault_or time o (due_at time answer_lines)) e;
       takes = λ row least. takes row least;
     }
   where
-    h : Calls s p (awaiting_call false m c k t0 t1 t2) c k (calling_lines m false n) none (calling_lines m false n)
+    h : Calls s p (awaiting_call false m c l t0 t1 t2) c l (calling_lines m false u) none (calling_lines m false u)
     h = a.here
 
     time : ℕ
     time = since_line (λ z. z.bsy) p + BUS_SETTLE_DELAY + lat
 
-    was : stage p ≡ InCalling (awaiting_call false m c k t0 t1 t2)
+    was : stage p ≡ InCalling (awaiting_call false m c l t0 t1 t2)
     was = stage_is p _ _ _ _ h.stands
 
-    due : unreset_due s p k ≡ fault_or (since_line (λ z. z.bsy) p + BUS_SETTLE_DELAY + lat) (flip_at s p lat)
+    due : unreset_due s p l ≡ fault_or (since_line (λ z. z.bsy) p + BUS_SETTLE_DELAY + lat) (flip_at s p lat)
         (due_at (since_line (λ z. z.bsy) p + BUS_SETTLE_DELAY + lat) answer_lines)
-    due = answers_due s p m c k t0 t1 t2 lat always.devices h.called_below there h.stands.connection_is h.apart was
+    due = answers_due s p m c l t0 t1 t2 lat always.devices h.called_below there h.stands.connection_is h.apart was
         h.other
 
-    acts : (row : Row) → row.dev ≡ k → fault_or time (flip_at s p lat) (due_at time answer_lines) ≡ Some (due_of row)
-        → Takes s p row (record { time = time; dev = k })
+    acts : (row : Row) → row.dev ≡ l → fault_or time (flip_at s p lat) (due_at time answer_lines) ≡ Some (due_of row)
+        → Takes s p row (record { time = time; dev = l })
     acts row same e =
         let at = time_at time answer_lines (due_of row) (flip_at s p lat) e in
         record {
@@ -55,26 +55,26 @@ ids_await s p m c k t0 t1 t2 n lat fits always a there =
           plain = λ f. lines_at time answer_lines (due_of row) (flip_at s p lat) f e;
         }
 
-    takes : (row : Row) → IsLeast (unreset_due s p) 8 row → Takes s p row (record { time = time; dev = k })
+    takes : (row : Row) → IsLeast (unreset_due s p) 8 row → Takes s p row (record { time = time; dev = l })
     takes row least =
         let w = is_there s p row.dev (due_of row) least.is_due in
         elim (cases_eq row.dev c) [
           | inl same ↦
-              let z = is_at (t2 + 250000000 + w.0) (record (calling_lines m false n) { data_bits = 0 }) (due_of row)
-              (sym (waits_due s p false m c k t0 t1 t2 w.0 (calling_lines m false n) always.devices h.caller_below
+              let z = is_at (t2 + 250000000 + w.0) (record (calling_lines m false u) { data_bits = 0 }) (due_of row)
+              (sym (waits_due s p false m c l t0 t1 t2 w.0 (calling_lines m false u) always.devices h.caller_below
               (ap (latency_of s) (sym same) ∙ w.1) h.stands.connection_is was h.caller)
               ∙ ap (unreset_due s p) (sym same) ∙ least.is_due) in
               let y = answer_exists time (flip_at s p lat) answer_lines in
-              let v = least.first k h.called_below y.0 (due ∙ y.1.0) in
+              let v = least.first l h.called_below y.0 (due ∙ y.1.0) in
               let at = z.time_is in
               let yt = y.1.1 in
-              let short = fits.latency k lat there in
+              let short = fits.latency l lat there in
               let age = a.bsy_age in
               absurd (omega (arith, v, at, yt, short, age))
-          | inr nc ↦ elim (cases_eq row.dev k) [
+          | inr nc ↦ elim (cases_eq row.dev l) [
             | inl same ↦ acts row same (sym due ∙ ap (unreset_due s p) (sym same) ∙ least.is_due)
             | inr nk ↦ absurd
-                (none_some (due_of row) (sym (aside_due s p false m c k t0 t1 t2 row.dev w.0 always.devices least.inside
+                (none_some (due_of row) (sym (aside_due s p false m c l t0 t1 t2 row.dev w.0 always.devices least.inside
                 w.1 h.stands.connection_is (λ z. nc (sym z)) (λ z. nk (sym z)) was (h.rest row.dev least.inside nc nk))
                 ∙ least.is_due))
           ]
@@ -125,9 +125,9 @@ pub record IdsOn (s : ScenarioValue) (p : List Row) (row : Row) : Type 0 where
       → row.time < a.time
 
 ids_on_by : (s : ScenarioValue) (p : List Row) (row : Row)
-    → ((k : Call) (h : Calling) → call (row ∷ p) ≡ Some k → k.calling ≡ Some h → is_asked h ≡ false)
-    → ((falls (bus p).bsy (bus (row ∷ p)).bsy && (bus (row ∷ p)).sel) ≡ true → (k : Call) (h : Calling)
-    → call (row ∷ p) ≡ Some k → k.calling ≡ Some h → is_some h.answered ≡ true) → IdsOn s p row
+    → ((c : Call) (h : Calling) → call (row ∷ p) ≡ Some c → c.calling ≡ Some h → is_asked h ≡ false)
+    → ((falls (bus p).bsy (bus (row ∷ p)).bsy && (bus (row ∷ p)).sel) ≡ true → (c : Call) (h : Calling)
+    → call (row ∷ p) ≡ Some c → c.calling ≡ Some h → is_some h.answered ≡ true) → IdsOn s p row
 ids_on_by s p row unasked answered =
     record {
       puts = λ xs. go xs (falls (bus p).bsy (bus (row ∷ p)).bsy && (bus (row ∷ p)).sel) refl
@@ -153,11 +153,11 @@ fell true false c e = (refl, e)
 fell false b c e = wrong' e
 
 -- The calling that stood goes on.
-follows_from : (p : List Row) (row : Row) (j : Call) (g : Calling) (k : Call) (h : Calling) → call p ≡ Some j
-    → j.calling ≡ Some g → call (row ∷ p) ≡ Some k → k.calling ≡ Some h → Follows g h
-follows_from p row j g k h ej eg ek eh =
-    let w = call_goes p row k h ek eh in
-    let same : w.was ≡ j = same_Some w.was j (sym w.was_is ∙ ej) in
+follows_from : (p : List Row) (row : Row) (c : Call) (g : Calling) (y : Call) (h : Calling) → call p ≡ Some c
+    → c.calling ≡ Some g → call (row ∷ p) ≡ Some y → y.calling ≡ Some h → Follows g h
+follows_from p row c g y h ej eg ek eh =
+    let w = call_goes p row y h ek eh in
+    let same : w.was ≡ c = same_Some w.was c (sym w.was_is ∙ ej) in
     calling_follows w.was.caller g h (change_of p row) row
     (sym (ap (λ (o : Option Calling). calling_after w.was.caller o (change_of p row) row)
     (ap (λ (x : Call). x.calling) same ∙ eg)) ∙ w.goes)
@@ -172,36 +172,36 @@ pub ids_fresh : (s : ScenarioValue) (p : List Row) (row : Row) → (bus p).sel �
 ids_fresh s p row off = ids_on_by s p row (λ k h ek eh. wrong (sym (call_goes p row k h ek eh).sel ∙ off))
     (λ e k h ek eh. wrong (sym (call_goes p row k h ek eh).sel ∙ off))
 
-ids_answered : (s : ScenarioValue) (p : List Row) (row : Row) (j : Call) (g : Calling) → call p ≡ Some j
-    → j.calling ≡ Some g → is_some g.answered ≡ true → IdsOn s p row
-ids_answered s p row j g ej eg some =
-    let after : (k : Call) (h : Calling) → call (row ∷ p) ≡ Some k → k.calling ≡ Some h → is_some h.answered ≡ true =
-    λ k h ek eh. (follows_from p row j g k h ej eg ek eh).answered some in
-    ids_on_by s p row (λ k h ek eh. answered_unasked h (after k h ek eh)) (λ e. after)
+ids_answered : (s : ScenarioValue) (p : List Row) (row : Row) (c : Call) (g : Calling) → call p ≡ Some c
+    → c.calling ≡ Some g → is_some g.answered ≡ true → IdsOn s p row
+ids_answered s p row c g ej eg some =
+    let after : (x : Call) (h : Calling) → call (row ∷ p) ≡ Some x → x.calling ≡ Some h → is_some h.answered ≡ true =
+    λ x h ek eh. (follows_from p row c g x h ej eg ek eh).answered some in
+    ids_on_by s p row (λ x h ek eh. answered_unasked h (after x h ek eh)) (λ e. after)
 
 -- ---- once a device has won
 
 -- Where SEL is true and BSY false, the caller has released BSY.
-released_stage : (s : ScenarioValue) (q : List Row) (k : Call) (h : Calling) → BusStage s q → (bus q).rst ≡ false
-    → connection q ≡ None → (bus q).bsy ≡ false → call q ≡ Some k → k.calling ≡ Some h → is_some h.released ≡ true
-released_stage s q k h (on_free_bus z) calm alone low ek eh = none_some k (sym z.stands.call_is ∙ ek)
-released_stage s q k h (in_arbitration a z) calm alone low ek eh = none_some k (sym z.stands.call_is ∙ ek)
-released_stage s q k h (after_arbitration c t z) calm alone low ek eh =
-    none_some h (ap (λ (x : Call). x.calling) (same_Some _ k (sym z.stands.call_is ∙ ek)) ∙ eh)
-released_stage s q k h (with_both_ids m c j t0 t e z) calm alone low ek eh =
+released_stage : (s : ScenarioValue) (q : List Row) (y : Call) (h : Calling) → BusStage s q → (bus q).rst ≡ false
+    → connection q ≡ None → (bus q).bsy ≡ false → call q ≡ Some y → y.calling ≡ Some h → is_some h.released ≡ true
+released_stage s q y h (on_free_bus z) calm alone low ek eh = none_some y (sym z.stands.call_is ∙ ek)
+released_stage s q y h (in_arbitration a z) calm alone low ek eh = none_some y (sym z.stands.call_is ∙ ek)
+released_stage s q y h (after_arbitration c t z) calm alone low ek eh =
+    none_some h (ap (λ (x : Call). x.calling) (same_Some _ y (sym z.stands.call_is ∙ ek)) ∙ eh)
+released_stage s q y h (with_both_ids m c j t0 t e z) calm alone low ek eh =
     wrong (sym (ap (λ (l : LineSet). l.bsy) z.stands.bus_is) ∙ low)
-released_stage s q k h (awaiting_answer v m c j t0 t1 t2 x z) calm alone low ek eh = ap
+released_stage s q y h (awaiting_answer v m c j t0 t1 t2 x z) calm alone low ek eh = ap
     (λ (g : Calling). is_some g.released)
-    (sym (same_Some _ h (ap (λ (x : Call). x.calling) (same_Some _ k (sym z.here.stands.call_is ∙ ek)) ∙ eh)))
-released_stage s q k h (after_withdrawal v m c j t0 t1 t2 t3 e z) calm alone low ek eh = ap
+    (sym (same_Some _ h (ap (λ (x : Call). x.calling) (same_Some _ y (sym z.here.stands.call_is ∙ ek)) ∙ eh)))
+released_stage s q y h (after_withdrawal v m c j t0 t1 t2 t3 e z) calm alone low ek eh = ap
     (λ (g : Calling). is_some g.released)
-    (sym (same_Some _ h (ap (λ (x : Call). x.calling) (same_Some _ k (sym z.stands.call_is ∙ ek)) ∙ eh)))
-released_stage s q k h (after_answer m c j t0 t1 t2 t3 x z) calm alone low ek eh =
+    (sym (same_Some _ h (ap (λ (x : Call). x.calling) (same_Some _ y (sym z.stands.call_is ∙ ek)) ∙ eh)))
+released_stage s q y h (after_answer m c j t0 t1 t2 t3 x z) calm alone low ek eh =
     wrong (sym (ap (λ (l : LineSet). l.bsy) z.here.stands.bus_is) ∙ low)
-released_stage s q k h (after_takeover c j t0 t1 t2 t3 t4 x e f z) calm alone low ek eh =
+released_stage s q y h (after_takeover c j t0 t1 t2 t3 t4 x e f z) calm alone low ek eh =
     wrong (sym (ap (λ (l : LineSet). l.bsy) z.here.stands.bus_is) ∙ low)
-released_stage s q k h (in_reset z) calm alone low ek eh = wrong (sym z.reset ∙ calm)
-released_stage s q k h (in_connection n f g z) calm alone low ek eh = absurd (some_none n (sym f ∙ alone))
+released_stage s q y h (in_reset z) calm alone low ek eh = wrong (sym z.reset ∙ calm)
+released_stage s q y h (in_connection n f g z) calm alone low ek eh = absurd (some_none n (sym f ∙ alone))
   where
     some_none : (n : Connection) → Some n ≡ None → ⊥
     some_none n z = absurd cc
@@ -212,112 +212,112 @@ new_unreleased true true a h e z = ap (λ (g : Calling). is_some g.released) (sy
 new_unreleased true false a h e z = none_some h z
 new_unreleased false r a h e z = none_some h z
 
-ids_won : (s : ScenarioValue) (p : List Row) (row : Row) (j : Call) → call p ≡ Some j → j.calling ≡ None
+ids_won : (s : ScenarioValue) (p : List Row) (row : Row) (y : Call) → call p ≡ Some y → y.calling ≡ None
     → BusStage s (row ∷ p) → (bus (row ∷ p)).rst ≡ false → connection (row ∷ p) ≡ None → IdsOn s p row
-ids_won s p row j ej none next calm alone =
-    let new : (k : Call) (h : Calling) → call (row ∷ p) ≡ Some k → k.calling ≡ Some h → is_some h.released ≡ false =
-    λ k h ek eh. let w = call_goes p row k h ek eh in let c : Change = change_of p row in new_unreleased
+ids_won s p row y ej none next calm alone =
+    let new : (z : Call) (h : Calling) → call (row ∷ p) ≡ Some z → z.calling ≡ Some h → is_some h.released ≡ false =
+    λ z h ek eh. let w = call_goes p row z h ek eh in let c : Change = change_of p row in new_unreleased
     (row.dev == w.was.caller) (drives_two_ids w.was.caller c.next) (new_calling w.was.caller c.next row.time) h refl
     (sym (ap (λ (o : Option Calling). calling_after w.was.caller o c row)
-    (ap (λ (x : Call). x.calling) (same_Some w.was j (sym w.was_is ∙ ej)) ∙ none)) ∙ w.goes) in
-    ids_on_by s p row (λ k h ek eh. unreleased_unasked h (new k h ek eh))
-    (λ e k h ek eh. wrong (sym (released_stage s (row ∷ p) k h next calm alone
-    (fell (bus p).bsy (bus (row ∷ p)).bsy (bus (row ∷ p)).sel e).0 ek eh) ∙ new k h ek eh))
+    (ap (λ (x : Call). x.calling) (same_Some w.was y (sym w.was_is ∙ ej)) ∙ none)) ∙ w.goes) in
+    ids_on_by s p row (λ z h ek eh. unreleased_unasked h (new z h ek eh))
+    (λ e z h ek eh. wrong (sym (released_stage s (row ∷ p) z h next calm alone
+    (fell (bus p).bsy (bus (row ∷ p)).bsy (bus (row ∷ p)).sel e).0 ek eh) ∙ new z h ek eh))
 
 -- ---- once both IDs stand
 
-ids_asking : (s : ScenarioValue) (p : List Row) (m : Bool) (c k t0 t1 t : ℕ)
-    → Calls s p (begun_call m c k t0 t1) c k (both_ids m c k) none (both_ids m c k)
-    → IdsOn s p (row_of_lines t c (calling_lines m false (2 ^ c + 2 ^ k + 256)))
-ids_asking s p m c k t0 t1 t h =
-    let n : ℕ = 2 ^ c + 2 ^ k + 256 in
-    let l : LineSet = calling_lines m false n in
+ids_asking : (s : ScenarioValue) (p : List Row) (m : Bool) (c w t0 t1 t : ℕ)
+    → Calls s p (begun_call m c w t0 t1) c w (both_ids m c w) none (both_ids m c w)
+    → IdsOn s p (row_of_lines t c (calling_lines m false (2 ^ c + 2 ^ w + 256)))
+ids_asking s p m c w t0 t1 t h =
+    let u : ℕ = 2 ^ c + 2 ^ w + 256 in
+    let l : LineSet = calling_lines m false u in
     let row : Row = row_of_lines t c l in
     let q : List Row = row ∷ p in
     let own : drives q c ≡ l = drives_own p t c l in
-    let quiet = only_caller s p _ c k _ _ h in
+    let quiet = only_caller s p _ c w _ _ h in
     let rest : (e : ℕ) → e < 8 → e ≢ c → drives q e ≡ none = λ e lt ne. drives_other p t c l e ne ∙ quiet e lt ne in
     let after : bus q ≡ l = bus_one q c h.caller_below rest ∙ own in
-    let goes = stands_after p t c l l (both_ids m c k) l (both_ids m c k) None
-    (Some (begun_call m c k t0 t1)) None h.stands refl after h.caller in
-    let calling : call q ≡ Some (awaiting_call false m c k t0 t1 t) = goes.call_is
-    ∙ (λ i. Some (record (begun_call m c k t0 t1) {
-      calling = if eq_self c i then Some (record (new_calling_at m k t1) {
+    let goes = stands_after p t c l l (both_ids m c w) l (both_ids m c w) None
+    (Some (begun_call m c w t0 t1)) None h.stands refl after h.caller in
+    let calling : call q ≡ Some (awaiting_call false m c w t0 t1 t) = goes.call_is
+    ∙ (λ i. Some (record (begun_call m c w t0 t1) {
+      calling = if eq_self c i then Some (record (new_calling_at m w t1) {
         released = Some t;
-        withdrawn = when (not (ids_not_zero c k i) && ids_not_zero c k i) t None;
-      }) else if c == k then Some (record (new_calling_at m k t1) { struck = false }) else Some (new_calling_at m k t1);
+        withdrawn = when (not (ids_not_zero c w i) && ids_not_zero c w i) t None;
+      }) else if c == w then Some (record (new_calling_at m w t1) { struck = false }) else Some (new_calling_at m w t1);
     })) in
-    let age : since_line (λ y. y.bsy) q ≡ t = since_is (λ y. y.bsy) p row (both_ids m c k) l h.stands.bus_is after in
+    let age : since_line (λ y. y.bsy) q ≡ t = since_is (λ y. y.bsy) p row (both_ids m c w) l h.stands.bus_is after in
     record {
       puts = λ xs.
           (λ i. if falls (h.stands.bus_is i).bsy (after i).bsy && (after i).sel then samples_with_ids s (calling i) t xs
           else xs)
-          ∙ ids_sampled s (latency_of s k) k t xs ∙ (λ i. with_awaited (awaited_ids s (sym age i) (sym calling i)) xs);
-      now = λ a e. later (latency_of s k) k t a ((λ i. awaited_ids s (sym age i) (sym calling i)) ∙ e);
+          ∙ ids_sampled s (latency_of s w) w t xs ∙ (λ i. with_awaited (awaited_ids s (sym age i) (sym calling i)) xs);
+      now = λ a e. later (latency_of s w) w t a ((λ i. awaited_ids s (sym age i) (sym calling i)) ∙ e);
     }
   where
     later : (o : Option ℕ) (dev time : ℕ) (a : Sample) → ids_at o dev time ≡ Some a → time < a.time
     later None dev time a e = none_some a e
     later (Some lat) dev time a e = let z = ap (λ (x : Sample). x.time) (same_Some _ a e) in omega (arith, z)
 
-ids_called : (s : ScenarioValue) (p : List Row) (m : Bool) (c k t0 t1 : ℕ) (row : Row) → CalmStanding s p
-    → Calls s p (begun_call m c k t0 t1) c k (both_ids m c k) none (both_ids m c k) → IsLeast (unreset_due s p) 8 row
+ids_called : (s : ScenarioValue) (p : List Row) (m : Bool) (c l t0 t1 : ℕ) (row : Row) → CalmStanding s p
+    → Calls s p (begun_call m c l t0 t1) c l (both_ids m c l) none (both_ids m c l) → IsLeast (unreset_due s p) 8 row
     → IdsOn s p row
-ids_called s p m c k t0 t1 row always h least =
+ids_called s p m c l t0 t1 row always h least =
     let w = is_there s p row.dev (due_of row) least.is_due in
-    let was : stage p ≡ InCalling (begun_call m c k t0 t1) = stage_is p _ _ _ _ h.stands in
+    let was : stage p ≡ InCalling (begun_call m c l t0 t1) = stage_is p _ _ _ _ h.stands in
     elim (cases_eq row.dev c) [
       | inl same ↦
-          let z = is_at (own_time p c + 90 + w.0) (calling_lines m false (2 ^ c + 2 ^ k + 256))
-          (due_of row) (sym (asks_due s p m c k t0 t1 w.0 (both_ids m c k) always.devices h.caller_below
+          let z = is_at (own_time p c + 90 + w.0) (calling_lines m false (2 ^ c + 2 ^ l + 256))
+          (due_of row) (sym (asks_due s p m c l t0 t1 w.0 (both_ids m c l) always.devices h.caller_below
           (ap (latency_of s) (sym same) ∙ w.1) h.stands.connection_is was h.caller)
           ∙ ap (unreset_due s p) (sym same) ∙ least.is_due) in
-          let e : row ≡ row_of_lines row.time c (calling_lines m false (2 ^ c + 2 ^ k + 256)) =
+          let e : row ≡ row_of_lines row.time c (calling_lines m false (2 ^ c + 2 ^ l + 256)) =
           λ i. record { time = row.time; dev = same i; kind = z.kind_is i } in
-          subst (λ (r : Row). IdsOn s p r) (sym e) (ids_asking s p m c k t0 t1 row.time h)
+          subst (λ (r : Row). IdsOn s p r) (sym e) (ids_asking s p m c l t0 t1 row.time h)
       | inr ne ↦ absurd (none_some (due_of row)
-          (sym (before_due s p m c k t0 t1 row.dev w.0 always.devices least.inside w.1 h.stands.connection_is
-          (λ z. ne (sym z)) was (only_caller s p _ c k _ _ h row.dev least.inside ne)) ∙ least.is_due))
+          (sym (before_due s p m c l t0 t1 row.dev w.0 always.devices least.inside w.1 h.stands.connection_is
+          (λ z. ne (sym z)) was (only_caller s p _ c l _ _ h row.dev least.inside ne)) ∙ least.is_due))
     ]
 
 -- ---- once BSY is false
 
-ids_low : (s : ScenarioValue) (p : List Row) (row : Row) (j : Call) (g : Calling) → call p ≡ Some j → j.calling ≡ Some g
+ids_low : (s : ScenarioValue) (p : List Row) (row : Row) (c : Call) (g : Calling) → call p ≡ Some c → c.calling ≡ Some g
     → (bus p).bsy ≡ false → ((h : Calling) → Follows g h → is_asked h ≡ false) → IdsOn s p row
-ids_low s p row j g ej eg low stuck = ids_on_by s p row (λ k h ek eh. stuck h (follows_from p row j g k h ej eg ek eh))
+ids_low s p row c g ej eg low stuck = ids_on_by s p row (λ k h ek eh. stuck h (follows_from p row c g k h ej eg ek eh))
     (λ e k h ek eh. low_bsy (bus p).bsy (bus (row ∷ p)).bsy (bus (row ∷ p)).sel low e)
 
 -- The called device answers, or a fault strikes it.
-sampled_call : (caller k : ℕ) (g h : Calling) (c : Change) (row : Row) → caller ≢ k → g.called ≡ k → row.dev ≡ k
+sampled_call : (caller m : ℕ) (g h : Calling) (c : Change) (row : Row) → caller ≢ m → g.called ≡ m → row.dev ≡ m
     → calling_after caller (Some g) c row ≡ Some h → called_goes_on g c row ≡ h
-sampled_call caller k g h c row ne ek ed e =
+sampled_call caller m g h c row ne ek ed e =
     let no : (row.dev == caller) ≡ false = ne_eqb row.dev caller (λ z. ne (sym z ∙ ed)) in
     let yes : (row.dev == g.called) ≡ true = ap (λ (x : ℕ). x == g.called) (ed ∙ sym ek) ∙ eq_self g.called in
     same_Some _ h (sym
     (λ i. if no i then Some (caller_goes_on g c row.time) else if yes i then Some (called_goes_on g c row) else Some g)
     ∙ e)
 
-ids_taken : (s : ScenarioValue) (p : List Row) (m : Bool) (c k t0 t1 t2 x lat : ℕ) (row : Row)
-    → HasShortLatencies s → CalmStanding s p → AwaitsAnswer s p false m c k t0 t1 t2 x → latency_of s k ≡ Some lat
+ids_taken : (s : ScenarioValue) (p : List Row) (m : Bool) (c u t0 t1 t2 x lat : ℕ) (row : Row)
+    → HasShortLatencies s → CalmStanding s p → AwaitsAnswer s p false m c u t0 t1 t2 x → latency_of s u ≡ Some lat
     → IsLeast (unreset_due s p) 8 row → IdsOn s p row
-ids_taken s p m c k t0 t1 t2 n lat row fits always a there least = ids_on_by s p row unasked (λ e kk h ek eh. low_bsy
+ids_taken s p m c u t0 t1 t2 b lat row fits always a there least = ids_on_by s p row unasked (λ e kk h ek eh. low_bsy
     (bus p).bsy (bus (row ∷ p)).bsy (bus (row ∷ p)).sel (ap (λ (l : LineSet). l.bsy) a.here.stands.bus_is) e)
   where
     g : Calling
-    g = record (new_calling_at m k t1) { released = Some t2 }
+    g = record (new_calling_at m u t1) { released = Some t2 }
 
     time : ℕ
     time = since_line (λ z. z.bsy) p + BUS_SETTLE_DELAY + lat
 
-    was : stage p ≡ InCalling (awaiting_call false m c k t0 t1 t2)
+    was : stage p ≡ InCalling (awaiting_call false m c u t0 t1 t2)
     was = stage_is p _ _ _ _ a.here.stands
 
-    due : unreset_due s p k ≡ fault_or (since_line (λ z. z.bsy) p + BUS_SETTLE_DELAY + lat) (flip_at s p lat)
+    due : unreset_due s p u ≡ fault_or (since_line (λ z. z.bsy) p + BUS_SETTLE_DELAY + lat) (flip_at s p lat)
         (due_at (since_line (λ z. z.bsy) p + BUS_SETTLE_DELAY + lat) answer_lines)
-    due = answers_due s p m c k t0 t1 t2 lat always.devices a.here.called_below there a.here.stands.connection_is
+    due = answers_due s p m c u t0 t1 t2 lat always.devices a.here.called_below there a.here.stands.connection_is
         a.here.apart was a.here.other
 
-    by_kind : (h : Calling) → called_goes_on g (change_of p row) row ≡ h → row.dev ≡ k
+    by_kind : (h : Calling) → called_goes_on g (change_of p row) row ≡ h → row.dev ≡ u
         → (o : Option ℕ) → fault_or time o (due_at time answer_lines) ≡ Some (due_of row) → is_asked h ≡ false
     by_kind h same here None e =
         let kind = (is_at time answer_lines (due_of row) e).kind_is in
@@ -332,34 +332,34 @@ ids_taken s p m c k t0 t1 t2 n lat row fits always a there least = ids_on_by s p
 
     by_device : (kk : Call) (h : Calling) → GoesOn p row kk h → is_asked h ≡ false
     by_device kk h w =
-        let same : awaiting_call false m c k t0 t1 t2 ≡ w.was = same_Some _ w.was
+        let same : awaiting_call false m c u t0 t1 t2 ≡ w.was = same_Some _ w.was
         (sym a.here.stands.call_is ∙ w.was_is) in
         let goes : calling_after c (Some g) (change_of p row) row ≡ Some h =
         (λ i. calling_after (same i).caller (same i).calling (change_of p row) row) ∙ w.goes in
-        elim (cases_eq row.dev k) [
-          | inl here ↦ by_kind h (sampled_call c k g h (change_of p row) row a.here.apart refl here goes) here
+        elim (cases_eq row.dev u) [
+          | inl here ↦ by_kind h (sampled_call c u g h (change_of p row) row a.here.apart refl here goes) here
               (flip_at s p lat) (sym due ∙ ap (unreset_due s p) (sym here) ∙ least.is_due)
           | inr nk ↦ absurd (nk (dev_is nk))
         ]
       where
-        dev_is : row.dev ≢ k → row.dev ≡ k
+        dev_is : row.dev ≢ u → row.dev ≡ u
         dev_is nk =
             let v = is_there s p row.dev (due_of row) least.is_due in
             elim (cases_eq row.dev c) [
               | inl same ↦
                   let z = is_at (t2 + 250000000 + v.0)
-                  (record (calling_lines m false n) { data_bits = 0 }) (due_of row) (sym
-                  (waits_due s p false m c k t0 t1 t2 v.0 (calling_lines m false n) always.devices a.here.caller_below
+                  (record (calling_lines m false b) { data_bits = 0 }) (due_of row) (sym
+                  (waits_due s p false m c u t0 t1 t2 v.0 (calling_lines m false b) always.devices a.here.caller_below
                   (ap (latency_of s) (sym same) ∙ v.1) a.here.stands.connection_is was a.here.caller)
                   ∙ ap (unreset_due s p) (sym same) ∙ least.is_due) in
                   let y = answer_exists time (flip_at s p lat) answer_lines in
-                  let first = least.first k a.here.called_below y.0 (due ∙ y.1.0) in
+                  let first = least.first u a.here.called_below y.0 (due ∙ y.1.0) in
                   let at = z.time_is in
                   let yt = y.1.1 in
-                  let short = fits.latency k lat there in
+                  let short = fits.latency u lat there in
                   let age = a.bsy_age in
                   absurd (omega (arith, first, at, yt, short, age))
-              | inr nc ↦ absurd (none_some (due_of row) (sym (aside_due s p false m c k t0 t1 t2 row.dev v.0
+              | inr nc ↦ absurd (none_some (due_of row) (sym (aside_due s p false m c u t0 t1 t2 row.dev v.0
                   always.devices least.inside v.1 a.here.stands.connection_is (λ z. nc (sym z)) (λ z. nk (sym z)) was
                   (a.here.rest row.dev least.inside nc nk)) ∙ least.is_due))
             ]
@@ -368,9 +368,9 @@ ids_taken s p m c k t0 t1 t2 n lat row fits always a there least = ids_on_by s p
     unasked kk h ek eh = by_device kk h (call_goes p row kk h ek eh)
 
 -- One that is not there samples nothing.
-ids_absent : (s : ScenarioValue) (p : List Row) (row : Row) (j : Call) (g : Calling) → call p ≡ Some j
-    → j.calling ≡ Some g → (bus p).bsy ≡ false → latency_of s g.called ≡ None → IdsOn s p row
-ids_absent s p row j g ej eg low there =
+ids_absent : (s : ScenarioValue) (p : List Row) (row : Row) (c : Call) (g : Calling) → call p ≡ Some c
+    → c.calling ≡ Some g → (bus p).bsy ≡ false → latency_of s g.called ≡ None → IdsOn s p row
+ids_absent s p row c g ej eg low there =
     record {
       puts = λ xs. go xs (falls (bus p).bsy (bus (row ∷ p)).bsy && (bus (row ∷ p)).sel) refl
           ∙ ap (λ (o : Option Sample). with_awaited o xs) (sym (none (call (row ∷ p)) refl));
@@ -386,18 +386,18 @@ ids_absent s p row j g ej eg low there =
     either true o e = e
     either false o e = refl
 
-    by_calling : (k : Call) → call (row ∷ p) ≡ Some k → (o : Option Calling) → k.calling ≡ o
+    by_calling : (x : Call) → call (row ∷ p) ≡ Some x → (o : Option Calling) → x.calling ≡ o
         → ids_of s (since_line (λ z. z.bsy) (row ∷ p)) o ≡ None
-    by_calling k ek None eh = refl
-    by_calling k ek (Some h) eh =
-        let f = follows_from p row j g k h ej eg ek eh in
+    by_calling x ek None eh = refl
+    by_calling x ek (Some h) eh =
+        let f = follows_from p row c g x h ej eg ek eh in
         either (is_asked h) (ids_at (latency_of s h.called) h.called (since_line (λ z. z.bsy) (row ∷ p))) (ap
         (λ (o : Option ℕ). ids_at o h.called (since_line (λ z. z.bsy) (row ∷ p))) (ap (latency_of s) f.called ∙ there))
 
     none : (o : Option Call) → call (row ∷ p) ≡ o
         → awaited_ids s (since_line (λ z. z.bsy) (row ∷ p)) (call (row ∷ p)) ≡ None
     none None e = ap (awaited_ids s (since_line (λ z. z.bsy) (row ∷ p))) e
-    none (Some k) e = ap (awaited_ids s (since_line (λ z. z.bsy) (row ∷ p))) e ∙ by_calling k e k.calling refl
+    none (Some x) e = ap (awaited_ids s (since_line (λ z. z.bsy) (row ∷ p))) e ∙ by_calling x e x.calling refl
 
 -- ---- any row
 

@@ -19,15 +19,15 @@ use Rattle.trace_laws.specs.bus_laws.specs.Stages.{in_connection}
 
 -- ---- a row of the caller
 
-pub asks_row : (s : ScenarioValue) (p : List Row) (m : Bool) (c k t0 t1 : ℕ) (row : Row) → CalmStanding s p
-    → Calls s p (begun_call m c k t0 t1) c k (both_ids m c k) none (both_ids m c k) → IsLeast (unreset_due s p) 8 row
-    → row.dev ≡ c → row.kind ≡ Drives (calling_lines m false (2 ^ c + 2 ^ k + 256))
-asks_row s p m c k t0 t1 row always h least same =
+pub asks_row : (s : ScenarioValue) (p : List Row) (m : Bool) (c i t0 t1 : ℕ) (row : Row) → CalmStanding s p
+    → Calls s p (begun_call m c i t0 t1) c i (both_ids m c i) none (both_ids m c i) → IsLeast (unreset_due s p) 8 row
+    → row.dev ≡ c → row.kind ≡ Drives (calling_lines m false (2 ^ c + 2 ^ i + 256))
+asks_row s p m c i t0 t1 row always h least same =
     let x : Due = record { time = row.time; kind = row.kind } in
     let w = is_there s p row.dev x least.is_due in
-    let was : stage p ≡ InCalling (begun_call m c k t0 t1) = stage_is p _ _ _ _ h.stands in
-    (is_at (own_time p c + 90 + w.0) (calling_lines m false (2 ^ c + 2 ^ k + 256)) x
-    (sym (asks_due s p m c k t0 t1 w.0 (both_ids m c k) always.devices h.caller_below
+    let was : stage p ≡ InCalling (begun_call m c i t0 t1) = stage_is p _ _ _ _ h.stands in
+    (is_at (own_time p c + 90 + w.0) (calling_lines m false (2 ^ c + 2 ^ i + 256)) x
+    (sym (asks_due s p m c i t0 t1 w.0 (both_ids m c i) always.devices h.caller_below
     (ap (latency_of s) (sym same) ∙ w.1) h.stands.connection_is was h.caller)
     ∙ ap (unreset_due s p) (sym same) ∙ least.is_due)).kind_is
 
@@ -35,39 +35,39 @@ pub record Withdrawn (row : Row) (m : Bool) (t : ℕ) : Type 0 where
   pub late : t + 250000000 ≤ row.time
   pub kind_is : row.kind ≡ Drives (calling_lines m false 0)
 
-pub waits_row : (s : ScenarioValue) (p : List Row) (v m : Bool) (c k t0 t1 t2 n : ℕ) (row : Row) → CalmStanding s p
-    → AwaitsAnswer s p v m c k t0 t1 t2 n → IsLeast (unreset_due s p) 8 row → row.dev ≡ c → Withdrawn row m t2
-waits_row s p v m c k t0 t1 t2 n row always a least same =
+pub waits_row : (s : ScenarioValue) (p : List Row) (v m : Bool) (c i t0 t1 t2 l : ℕ) (row : Row) → CalmStanding s p
+    → AwaitsAnswer s p v m c i t0 t1 t2 l → IsLeast (unreset_due s p) 8 row → row.dev ≡ c → Withdrawn row m t2
+waits_row s p v m c i t0 t1 t2 l row always a least same =
     let h = a.here in
     let x : Due = record { time = row.time; kind = row.kind } in
     let w = is_there s p row.dev x least.is_due in
-    let was : stage p ≡ InCalling (awaiting_call v m c k t0 t1 t2) = stage_is p _ _ _ _ h.stands in
-    let z = is_at (t2 + 250000000 + w.0) (record (calling_lines m false n) { data_bits = 0 }) x
-    (sym (waits_due s p v m c k t0 t1 t2 w.0 (calling_lines m false n) always.devices h.caller_below
+    let was : stage p ≡ InCalling (awaiting_call v m c i t0 t1 t2) = stage_is p _ _ _ _ h.stands in
+    let z = is_at (t2 + 250000000 + w.0) (record (calling_lines m false l) { data_bits = 0 }) x
+    (sym (waits_due s p v m c i t0 t1 t2 w.0 (calling_lines m false l) always.devices h.caller_below
     (ap (latency_of s) (sym same) ∙ w.1) h.stands.connection_is was h.caller)
     ∙ ap (unreset_due s p) (sym same) ∙ least.is_due) in
     record { late = (let u = z.time_is in omega arith); kind_is = z.kind_is }
 
 -- A device that is called, is there and was not struck would have answered by then.
-answers_first : {A : Type 0} (s : ScenarioValue) (p : List Row) (m : Bool) (c k t0 t1 t2 n lat : ℕ) (row : Row)
-    → HasShortLatencies s → CalmStanding s p → AwaitsAnswer s p false m c k t0 t1 t2 n → IsLeast (unreset_due s p) 8 row
-    → latency_of s k ≡ Some lat → t2 + 250000000 ≤ row.time → A
-answers_first s p m c k t0 t1 t2 n lat row fits always a least there late =
+answers_first : {A : Type 0} (s : ScenarioValue) (p : List Row) (m : Bool) (c i t0 t1 t2 l lat : ℕ) (row : Row)
+    → HasShortLatencies s → CalmStanding s p → AwaitsAnswer s p false m c i t0 t1 t2 l → IsLeast (unreset_due s p) 8 row
+    → latency_of s i ≡ Some lat → t2 + 250000000 ≤ row.time → A
+answers_first s p m c i t0 t1 t2 l lat row fits always a least there late =
     let h = a.here in
-    let was : stage p ≡ InCalling (awaiting_call false m c k t0 t1 t2) = stage_is p _ _ _ _ h.stands in
+    let was : stage p ≡ InCalling (awaiting_call false m c i t0 t1 t2) = stage_is p _ _ _ _ h.stands in
     let y = answer_exists ((line_times p).bsy + BUS_SETTLE_DELAY + lat) (flip_at s p lat) answer_lines in
-    let first = least.first k h.called_below y.0
-    (answers_due s p m c k t0 t1 t2 lat always.devices h.called_below there h.stands.connection_is h.apart was h.other
+    let first = least.first i h.called_below y.0
+    (answers_due s p m c i t0 t1 t2 lat always.devices h.called_below there h.stands.connection_is h.apart was h.other
     ∙ y.1.0) in
     let at = y.1.1 in
     let age = a.bsy_age in
-    let short = fits.latency k lat there in
+    let short = fits.latency i lat there in
     absurd (omega (arith, first, at, age, short, late))
 
 -- ---- whom a caller has called in vain was struck
 
 abbrev pub IsStruckOut : ScenarioValue → List Row → Type 0
-IsStruckOut s p = (k : Call) (g : Calling) → call p ≡ Some k → k.calling ≡ Some g → is_some g.answered ≡ false
+IsStruckOut s p = (c : Call) (g : Calling) → call p ≡ Some c → c.calling ≡ Some g → is_some g.answered ≡ false
     → is_some g.withdrawn ≡ true → (lat : ℕ) → latency_of s g.called ≡ Some lat → g.struck ≡ true
 
 next_lines : (p : List Row) (row : Row) (l : LineSet) → row.kind ≡ Drives l → (change_of p row).next ≡ l
@@ -80,30 +80,30 @@ unwithdrawn x c t e none = (λ i. is_some (when (not (c.own.data_bits == 0) && e
     ∙ (λ i. is_some (when (and_false (not (c.own.data_bits == 0)) i) t x.withdrawn)) ∙ none
 
 -- One that was called, answered not and was not struck, and then is withdrawn from, is not there.
-withdrawn_now : {A : Type 0} (s : ScenarioValue) (p : List Row) (row : Row) (k : Call) (x : Calling) (lat : ℕ)
+withdrawn_now : {A : Type 0} (s : ScenarioValue) (p : List Row) (row : Row) (b : Call) (x : Calling) (lat : ℕ)
     → HasShortLatencies s → connection p ≡ None → (bus p).rst ≡ false → CalmStanding s p
-    → IsLeast (unreset_due s p) 8 row → call p ≡ Some k → k.calling ≡ Some x → row.dev ≡ k.caller
+    → IsLeast (unreset_due s p) 8 row → call p ≡ Some b → b.calling ≡ Some x → row.dev ≡ b.caller
     → x.struck ≡ false → is_some x.answered ≡ false → is_some x.withdrawn ≡ false → latency_of s x.called ≡ Some lat
     → is_some (caller_goes_on x (change_of p row) row.time).withdrawn ≡ true → BusStage s p → A
-withdrawn_now s p row k x lat fits alone calm always least ek ex own us un uw there now (on_free_bus h) =
-    none_some k (sym h.stands.call_is ∙ ek)
-withdrawn_now s p row k x lat fits alone calm always least ek ex own us un uw there now (in_arbitration a h) =
-    none_some k (sym h.stands.call_is ∙ ek)
-withdrawn_now s p row k x lat fits alone calm always least ek ex own us un uw there now (after_arbitration c t h) =
-    none_some x (ap (λ (w : Call). w.calling) (same_Some (won_call c t) k (sym h.stands.call_is ∙ ek)) ∙ ex)
-withdrawn_now s p row k x lat fits alone calm always least ek ex own us un uw there now (with_both_ids m c j t0 t z h) =
-    let same = same_Some _ k (sym h.stands.call_is ∙ ek) in
+withdrawn_now s p row b x lat fits alone calm always least ek ex own us un uw there now (on_free_bus h) =
+    none_some b (sym h.stands.call_is ∙ ek)
+withdrawn_now s p row b x lat fits alone calm always least ek ex own us un uw there now (in_arbitration a h) =
+    none_some b (sym h.stands.call_is ∙ ek)
+withdrawn_now s p row b x lat fits alone calm always least ek ex own us un uw there now (after_arbitration c t h) =
+    none_some x (ap (λ (w : Call). w.calling) (same_Some (won_call c t) b (sym h.stands.call_is ∙ ek)) ∙ ex)
+withdrawn_now s p row b x lat fits alone calm always least ek ex own us un uw there now (with_both_ids m c j t0 t z h) =
+    let same = same_Some _ b (sym h.stands.call_is ∙ ek) in
     let caller : row.dev ≡ c = own ∙ ap (λ (w : Call). w.caller) (sym same) in
     let lines = next_lines p row _ (asks_row s p m c j t0 t row always h least caller) in
     wrong (sym now
     ∙ unwithdrawn x (change_of p row) row.time (ap (λ (l : LineSet). l.data_bits == 0) lines ∙ ids_not_zero c j) uw)
-withdrawn_now s p row k x lat fits alone calm always least ek ex own us un uw there now
+withdrawn_now s p row b x lat fits alone calm always least ek ex own us un uw there now
     (awaiting_answer v m c j t0 t1 t2 y a) =
-    let same = same_Some _ k (sym a.here.stands.call_is ∙ ek) in
+    let same = same_Some _ b (sym a.here.stands.call_is ∙ ek) in
     let caller : row.dev ≡ c = own ∙ ap (λ (w : Call). w.caller) (sym same) in
     by v a same caller
   where
-    by : {A : Type 0} (v : Bool) → AwaitsAnswer s p v m c j t0 t1 t2 y → awaiting_call v m c j t0 t1 t2 ≡ k
+    by : {A : Type 0} (v : Bool) → AwaitsAnswer s p v m c j t0 t1 t2 y → awaiting_call v m c j t0 t1 t2 ≡ b
         → row.dev ≡ c → A
     by v a same caller = go v a (same_Some _ x (ap (λ (w : Call). w.calling) same ∙ ex)) caller
       where
@@ -121,18 +121,18 @@ withdrawn_now s p row k x lat fits alone calm always least ek ex own us un uw th
         go false a g caller = answers_first s p m c j t0 t1 t2 y lat row fits always a least
             (ap (λ (w : Calling). latency_of s w.called) g ∙ there)
             (waits_row s p false m c j t0 t1 t2 y row always a least caller).late
-withdrawn_now s p row k x lat fits alone calm always least ek ex own us un uw there now
+withdrawn_now s p row b x lat fits alone calm always least ek ex own us un uw there now
     (after_withdrawal v m c j t0 t1 t2 t3 z h) = wrong (ap (λ (w : Calling). is_some w.withdrawn)
-    (same_Some _ x (ap (λ (w : Call). w.calling) (same_Some _ k (sym h.stands.call_is ∙ ek)) ∙ ex)) ∙ uw)
-withdrawn_now s p row k x lat fits alone calm always least ek ex own us un uw there now
+    (same_Some _ x (ap (λ (w : Call). w.calling) (same_Some _ b (sym h.stands.call_is ∙ ek)) ∙ ex)) ∙ uw)
+withdrawn_now s p row b x lat fits alone calm always least ek ex own us un uw there now
     (after_answer m c j t0 t1 t2 t3 y h) = wrong (ap (λ (w : Calling). is_some w.answered)
-    (same_Some _ x (ap (λ (w : Call). w.calling) (same_Some _ k (sym h.here.stands.call_is ∙ ek)) ∙ ex)) ∙ un)
-withdrawn_now s p row k x lat fits alone calm always least ek ex own us un uw there now
+    (same_Some _ x (ap (λ (w : Call). w.calling) (same_Some _ b (sym h.here.stands.call_is ∙ ek)) ∙ ex)) ∙ un)
+withdrawn_now s p row b x lat fits alone calm always least ek ex own us un uw there now
     (after_takeover c j t0 t1 t2 t3 t4 y z f h) = wrong (ap (λ (w : Calling). is_some w.answered)
-    (same_Some _ x (ap (λ (w : Call). w.calling) (same_Some _ k (sym h.here.stands.call_is ∙ ek)) ∙ ex)) ∙ un)
-withdrawn_now s p row k x lat fits alone calm always least ek ex own us un uw there now (in_reset h) =
+    (same_Some _ x (ap (λ (w : Call). w.calling) (same_Some _ b (sym h.here.stands.call_is ∙ ek)) ∙ ex)) ∙ un)
+withdrawn_now s p row b x lat fits alone calm always least ek ex own us un uw there now (in_reset h) =
     wrong (sym h.reset ∙ calm)
-withdrawn_now s p row k x lat fits alone calm always least ek ex own us un uw there now (in_connection n f g h) =
+withdrawn_now s p row b x lat fits alone calm always least ek ex own us un uw there now (in_connection n f g h) =
     none_some n (sym alone ∙ f)
 
 not_so : (q : Bool) → (q ≡ true → false ≡ true) → q ≡ false

@@ -50,19 +50,19 @@ calling_follows caller g h c row e = go (row.dev == caller) (row.dev == g.called
     go false false z = subst (λ (x : Calling). Follows g x) (same_Some _ h z) (self_follows g)
 
 -- Where a device is called after a row, SEL was true before it, and the call stood.
-pub record GoesOn (p : List Row) (row : Row) (k : Call) (h : Calling) : Type 0 where
+pub record GoesOn (p : List Row) (row : Row) (c : Call) (h : Calling) : Type 0 where
   pub was : Call
   pub was_is : call p ≡ Some was
-  pub caller_is : k.caller ≡ was.caller
+  pub caller_is : c.caller ≡ was.caller
   pub sel : (bus p).sel ≡ true
   pub goes : calling_after was.caller was.calling (change_of p row) row ≡ Some h
 
-pub call_goes : (p : List Row) (row : Row) (k : Call) (h : Calling) → call (row ∷ p) ≡ Some k → k.calling ≡ Some h
-    → GoesOn p row k h
-call_goes p row k h e f = by_bool (bus p).sel (λ before. by_call before (call p) refl (sym (λ i. if not (on i) then None
+pub call_goes : (p : List Row) (row : Row) (c : Call) (h : Calling) → call (row ∷ p) ≡ Some c → c.calling ≡ Some h
+    → GoesOn p row c h
+call_goes p row c h e f = by_bool (bus p).sel (λ before. by_call before (call p) refl (sym (λ i. if not (on i) then None
     else if rises (before i) (on i) then Some (record { caller = row.dev; at = row.time; calling = None })
     else call_goes_on (call p) (change_of p row) row) ∙ e))
-    (λ before. let new : (record { caller = row.dev; at = row.time; calling = None }) ≡ k = same_Some _ k
+    (λ before. let new : (record { caller = row.dev; at = row.time; calling = None }) ≡ c = same_Some _ c
     (sym (λ i. if not (on i) then None else if rises (before i) (on i) then Some (record {
       caller = row.dev;
       at = row.time;
@@ -73,16 +73,16 @@ call_goes p row k h e f = by_bool (bus p).sel (λ before. by_call before (call p
     q = row ∷ p
 
     on : (bus q).sel ≡ true
-    on = sel_of_call q k e
+    on = sel_of_call q c e
 
-    by_call : (bus p).sel ≡ true → (o : Option Call) → call p ≡ o → call_goes_on o (change_of p row) row ≡ Some k
-        → GoesOn p row k h
-    by_call before None none z = none_some k z
-    by_call before (Some j) some z =
-        let same : (record j { calling = calling_after j.caller j.calling (change_of p row) row }) ≡ k = same_Some
-        _ k z in
+    by_call : (bus p).sel ≡ true → (o : Option Call) → call p ≡ o → call_goes_on o (change_of p row) row ≡ Some c
+        → GoesOn p row c h
+    by_call before None none z = none_some c z
+    by_call before (Some y) some z =
+        let same : (record y { calling = calling_after y.caller y.calling (change_of p row) row }) ≡ c = same_Some
+        _ c z in
         record {
-          was = j;
+          was = y;
           was_is = some;
           caller_is = ap (λ (x : Call). x.caller) (sym same);
           sel = before;
@@ -115,20 +115,20 @@ unreleased_unasked h e =
 
 -- None are sampled of such a call, now or later.
 pub ids_none : (s : ScenarioValue) (o : Option Call) (bsy : ℕ)
-    → ((k : Call) (h : Calling) → o ≡ Some k → k.calling ≡ Some h → is_asked h ≡ false) → awaited_ids s bsy o ≡ None
+    → ((c : Call) (h : Calling) → o ≡ Some c → c.calling ≡ Some h → is_asked h ≡ false) → awaited_ids s bsy o ≡ None
 ids_none s None bsy f = refl
-ids_none s (Some k) bsy f = by_option k.calling (λ e. ap (ids_of s bsy) e) (λ h e. ap (ids_of s bsy) e
-    ∙ ap (λ (q : Bool). if q then ids_at (latency_of s h.called) h.called bsy else None) (f k h refl e))
+ids_none s (Some c) bsy f = by_option c.calling (λ e. ap (ids_of s bsy) e) (λ h e. ap (ids_of s bsy) e
+    ∙ ap (λ (q : Bool). if q then ids_at (latency_of s h.called) h.called bsy else None) (f c h refl e))
 
 pub ids_unsampled : (s : ScenarioValue) (o : Option Call) (time : ℕ) (xs : List Sample)
-    → ((k : Call) (h : Calling) → o ≡ Some k → k.calling ≡ Some h → is_some h.answered ≡ true)
+    → ((c : Call) (h : Calling) → o ≡ Some c → c.calling ≡ Some h → is_some h.answered ≡ true)
     → samples_with_ids s o time xs ≡ xs
 ids_unsampled s None time xs f = refl
-ids_unsampled s (Some k) time xs f = by_option k.calling
+ids_unsampled s (Some c) time xs f = by_option c.calling
     (λ e. ap (λ (o : Option Calling). samples_with_ids_of s o time xs) e)
     (λ h e. ap (λ (o : Option Calling). samples_with_ids_of s o time xs) e
     ∙ ap (λ (q : Bool). if q then samples_with_ids_after (latency_of s h.called) h.called time xs else xs)
-    (not_some h.answered (f k h refl e)))
+    (not_some h.answered (f c h refl e)))
 
 abbrev pub with_awaited : Option Sample → List Sample → List Sample
 with_awaited None xs = xs

@@ -91,9 +91,9 @@ left_low : (p : List Row) (n : Connection) (e : EndLines) (t : ℕ) (l : LineSet
 left_low p n e t l on both zero h low other =
     bus_off on both zero (row_of_lines t n.target l ∷ p) (λ d lt. elim (cases_eq d n.target) [
       | inl same ↦
-          ap (λ (k : ℕ). on (drives (row_of_lines t n.target l ∷ p) k)) same ∙ ap on (drives_own p t n.target l) ∙ low
+          ap (λ (m : ℕ). on (drives (row_of_lines t n.target l ∷ p) m)) same ∙ ap on (drives_own p t n.target l) ∙ low
       | inr nt ↦ ap on (drives_other p t n.target l d nt) ∙ (elim (cases_eq d n.initiator) [
-        | inl same ↦ ap (λ (k : ℕ). on (drives p k)) same ∙ ap on h.initiator ∙ other
+        | inl same ↦ ap (λ (m : ℕ). on (drives p m)) same ∙ ap on h.initiator ∙ other
         | inr ni ↦ ap on (h.rest d lt ni nt) ∙ zero
       ])
     ])

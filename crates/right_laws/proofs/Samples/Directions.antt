@@ -16,23 +16,23 @@ IsDirected p b = (n : Connection) → connection p ≡ Some n → (bus p).rst �
 -- ---- the phase lines
 
 -- Where they change with a row they stand since its time; else they stand as they did.
-phase_new : (m n o : Bool) (a b c t : ℕ) → not (m && n && o) ≡ true
-    → t ≤ max (max (if m then a else t) (if n then b else t)) (if o then c else t)
+phase_new : (m q o : Bool) (a b c t : ℕ) → not (m && q && o) ≡ true
+    → t ≤ max (max (if m then a else t) (if q then b else t)) (if o then c else t)
 phase_new true true true a b c t e = wrong' e
 phase_new true true false a b c t e = omega arith
 phase_new true false o a b c t e = omega arith
-phase_new false n o a b c t e = omega arith
+phase_new false q o a b c t e = omega arith
 
-record AllSame (m n o : Bool) : Type 0 where
+record AllSame (m q o : Bool) : Type 0 where
   first : m ≡ true
-  second : n ≡ true
+  second : q ≡ true
   third : o ≡ true
 
-all_same : (m n o : Bool) → not (m && n && o) ≡ false → AllSame m n o
+all_same : (m q o : Bool) → not (m && q && o) ≡ false → AllSame m q o
 all_same true true true e = record { first = refl; second = refl; third = refl }
 all_same true true false e = wrong e
 all_same true false o e = wrong e
-all_same false n o e = wrong e
+all_same false q o e = wrong e
 
 phase_changed : (p : List Row) (row : Row) → changes_phase (change_of p row) ≡ true
     → row.time ≤ phase_time (line_times (row ∷ p))

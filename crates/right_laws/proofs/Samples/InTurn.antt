@@ -135,7 +135,7 @@ no_faults (a ∷ samples) = no_faults samples
 -- Each strike is of a sample.
 abbrev NoStrikeBefore : Sample → List Strike → Type 0
 NoStrikeBefore a [] = ⊤
-NoStrikeBefore a (k ∷ strikes) = (is_sampled_before k.sample a ≡ false) × NoStrikeBefore a strikes
+NoStrikeBefore a (x ∷ strikes) = (is_sampled_before x.sample a ≡ false) × NoStrikeBefore a strikes
 
 strikes_not_before : (a : Sample) (faults : List FaultDef) (samples : List Sample) → NoneBefore a samples
     → NoStrikeBefore a (strikes_in_turn faults samples)
@@ -148,10 +148,10 @@ strikes_not_before a faults (b ∷ samples) w =
     go None r = r
     go (Some bit) r = (w.0, r)
 
-first_strike : (k : Strike) (strikes : List Strike) → NoStrikeBefore k.sample strikes
-    → with_strike k strikes ≡ k ∷ strikes
-first_strike k [] w = refl
-first_strike k (l ∷ strikes) w = λ i. if w.0 i then l ∷ with_strike k strikes else k ∷ l ∷ strikes
+first_strike : (x : Strike) (strikes : List Strike) → NoStrikeBefore x.sample strikes
+    → with_strike x strikes ≡ x ∷ strikes
+first_strike x [] w = refl
+first_strike x (l ∷ strikes) w = λ i. if w.0 i then l ∷ with_strike x strikes else x ∷ l ∷ strikes
 
 pub in_turn : (faults : List FaultDef) (samples : List Sample) → AreOrdered faults → InOrder samples
     → strikes_by faults samples ≡ strikes_in_turn faults samples
@@ -203,14 +203,14 @@ left_on faults (b ∷ samples) a = left_on (left_if faults (flip_of faults b.tim
 
 all_same : (a : Sample) (samples : List Sample) → NoneBefore a samples → AllPrecede a samples
     → a ∷ samples ≡ samples ++ a ∷ []
-all_same a [] n w = refl
-all_same a (b ∷ samples) n w =
+all_same a [] h w = refl
+all_same a (b ∷ samples) h w =
     let same : b ≡ a = is w.0 in
     (λ i. sym same i ∷ b ∷ samples) ∙ (λ i. b ∷ same i ∷ samples)
-    ∙ ap (λ (x : List Sample). b ∷ x) (all_same a samples n.1 w.1)
+    ∙ ap (λ (x : List Sample). b ∷ x) (all_same a samples h.1 w.1)
   where
     is : Precedes b a → b ≡ a
-    is (inl e) = absurd (true_false (sym e ∙ n.0))
+    is (inl e) = absurd (true_false (sym e ∙ h.0))
       where
         true_false : true ≡ false → ⊥
         true_false z = absurd cc
@@ -234,8 +234,8 @@ last_sample a (b ∷ samples) o w = go w.0 (last_sample a samples o.1 w.1)
 
 none_before_last : (b a : Sample) (samples : List Sample) → NoneBefore b samples → Precedes b a
     → NoneBefore b (samples ++ a ∷ [])
-none_before_last b a [] n w = (after_preceding a b w, tt)
-none_before_last b a (c ∷ samples) n w = (n.0, none_before_last b a samples n.1 w)
+none_before_last b a [] e w = (after_preceding a b w, tt)
+none_before_last b a (c ∷ samples) e w = (e.0, none_before_last b a samples e.1 w)
 
 pub in_order_last : (a : Sample) (samples : List Sample) → InOrder samples → AllPrecede a samples
     → InOrder (samples ++ a ∷ [])

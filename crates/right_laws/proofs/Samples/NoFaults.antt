@@ -76,15 +76,15 @@ fault_called : (bsy sel : ℕ) (me : Myself) (flip : Option ℕ) (c : Call) (x :
     → called_due bsy sel me flip c.calling ≡ Some x → is_fault x.kind ≡ true → SamplesIds me.dev (InCalling c)
 fault_called bsy sel me flip c x e f = by_option c.calling (λ ek. wrong'
     (sym (of_lines (loser_release sel me) x (lines_loser sel me) (sym (ap (called_due bsy sel me flip) ek) ∙ e)) ∙ f))
-    (λ k ek. by_called k ek (k.called == me.dev) (is_called k) refl refl (sym (ap (called_due bsy sel me flip) ek) ∙ e))
+    (λ y ek. by_called y ek (y.called == me.dev) (is_called y) refl refl (sym (ap (called_due bsy sel me flip) ek) ∙ e))
   where
-    by_called : (k : Calling) → c.calling ≡ Some k → (q r : Bool) → (k.called == me.dev) ≡ q → is_called k ≡ r
+    by_called : (y : Calling) → c.calling ≡ Some y → (q r : Bool) → (y.called == me.dev) ≡ q → is_called y ≡ r
         → (if not q then loser_release sel me else if r then answer bsy me flip else None) ≡ Some x
         → SamplesIds me.dev (InCalling c)
-    by_called k ek true true eq er z =
-        record { c = c; k = k; stage_is = refl; calling_is = ek; called = eq; asked = er }
-    by_called k ek true false eq er z = absurd (none_some x z)
-    by_called k ek false r eq er z = wrong' (sym (of_lines (loser_release sel me) x (lines_loser sel me) z) ∙ f)
+    by_called y ek true true eq er z =
+        record { c = c; k = y; stage_is = refl; calling_is = ek; called = eq; asked = er }
+    by_called y ek true false eq er z = absurd (none_some x z)
+    by_called y ek false r eq er z = wrong' (sym (of_lines (loser_release sel me) x (lines_loser sel me) z) ∙ f)
 
 fault_linking : (b : LineSet) (bsy sel : ℕ) (me : Myself) (w : Want) (flip : Option ℕ) (g : Stage) (x : Due)
     → link_due_by b bsy sel me w flip g ≡ Some x → is_fault x.kind ≡ true → SamplesIds me.dev g
@@ -116,7 +116,7 @@ stage_calling _ = None
 
 record IsCallOf (p : List Row) (c : Call) : Type 0 where
   call_is : call p ≡ Some c
-  unanswered : (k : Calling) → c.calling ≡ Some k → is_none k.answered ≡ true
+  unanswered : (x : Calling) → c.calling ≡ Some x → is_none x.answered ≡ true
 
 call_of_stage : (p : List Row) (c : Call) → (bus p).rst ≡ false → connection p ≡ None → stage p ≡ InCalling c
     → IsCallOf p c
@@ -126,25 +126,25 @@ call_of_stage p c calm alone e =
     t : ℕ
     t = since_line (λ x. x.rst) p
 
-    same : (k : Call) → (let o : Stage = InCalling k in o) ≡ InCalling c → k ≡ c
-    same k z = same_Some k c (ap stage_calling z)
+    same : (y : Call) → (let o : Stage = InCalling y in o) ≡ InCalling c → y ≡ c
+    same y z = same_Some y c (ap stage_calling z)
 
-    by_answer : (k : Call) (g : Calling) → call p ≡ Some k → k.calling ≡ Some g → (o : Option ℕ) → g.answered ≡ o
-        → answer_stage k g o ≡ InCalling c → IsCallOf p c
-    by_answer k g ek eg None ea z = record {
-      call_is = ek ∙ ap (λ (x : Call). Some x) (same k z);
+    by_answer : (y : Call) (g : Calling) → call p ≡ Some y → y.calling ≡ Some g → (o : Option ℕ) → g.answered ≡ o
+        → answer_stage y g o ≡ InCalling c → IsCallOf p c
+    by_answer y g ek eg None ea z = record {
+      call_is = ek ∙ ap (λ (x : Call). Some x) (same y z);
       unanswered = λ h eh. ap is_none (ap (λ (x : Calling). x.answered)
-          (same_Some h g (sym eh ∙ ap (λ (x : Call). x.calling) (sym (same k z)) ∙ eg)) ∙ ea);
+          (same_Some h g (sym eh ∙ ap (λ (x : Call). x.calling) (sym (same y z)) ∙ eg)) ∙ ea);
     }
-    by_answer k g ek eg (Some a) ea z = none_some c (ap stage_calling z)
+    by_answer y g ek eg (Some a) ea z = none_some c (ap stage_calling z)
 
-    by_calling : (k : Call) → call p ≡ Some k → (o : Option Calling) → k.calling ≡ o → call_stage k o ≡ InCalling c
+    by_calling : (y : Call) → call p ≡ Some y → (o : Option Calling) → y.calling ≡ o → call_stage y o ≡ InCalling c
         → IsCallOf p c
-    by_calling k ek None eo z = record {
-      call_is = ek ∙ ap (λ (x : Call). Some x) (same k z);
-      unanswered = λ h eh. none_some h (sym (ap (λ (x : Call). x.calling) (sym (same k z)) ∙ eo) ∙ eh);
+    by_calling y ek None eo z = record {
+      call_is = ek ∙ ap (λ (x : Call). Some x) (same y z);
+      unanswered = λ h eh. none_some h (sym (ap (λ (x : Call). x.calling) (sym (same y z)) ∙ eo) ∙ eh);
     }
-    by_calling k ek (Some g) eo z = by_answer k g ek eo g.answered refl z
+    by_calling y ek (Some g) eo z = by_answer y g ek eo g.answered refl z
 
     by_arbitration : (o : Option Arbitration) → stage_by false t None None o (free_since p) ≡ InCalling c → IsCallOf p c
     by_arbitration None z = none_some c (ap stage_calling z)
@@ -154,7 +154,7 @@ call_of_stage p c calm alone e =
         → stage_by false t None (call p) (arbitration p) (free_since p) ≡ InCalling c → IsCallOf p c
     by_call None eo z = by_arbitration (arbitration p)
         (sym (ap (λ (x : Option Call). stage_by false t None x (arbitration p) (free_since p)) eo) ∙ z)
-    by_call (Some k) eo z = by_calling k eo k.calling refl
+    by_call (Some y) eo z = by_calling y eo y.calling refl
         (sym (ap (λ (x : Option Call). stage_by false t None x (arbitration p) (free_since p)) eo) ∙ z)
 
 -- ---- so it is awaited

@@ -156,15 +156,15 @@ linked_puts s p row n m h en always least = by (crossing s p row n (link_row s p
     apart_from off e none = puts_apart s p row least.inside off e none
         (ids_fresh s p row (ap (λ (l : LineSet). l.sel) (sides_are s p n h).1.stands.bus_is))
 
-    unput : (k : Connection) → connection (row ∷ p) ≡ Some k → puts_ids p row ≡ false
-    unput k e =
-        let w = still_on p row n k en e in
+    unput : (f : Connection) → connection (row ∷ p) ≡ Some f → puts_ids p row ≡ false
+    unput f e =
+        let w = still_on p row n f en e in
         (λ i. falls (bus p).bsy (w.0 i) && (bus (row ∷ p)).sel)
         ∙ ap (λ (q : Bool). q && (bus (row ∷ p)).sel) (and_false (bus p).bsy)
 
     crossed_by : (d : ℕ) → receiver (row ∷ p) ≡ Some d → Crossed (row ∷ p) n d → HasCrossed (row ∷ p)
-    crossed_by d r x k g ek c er =
-        let w = still_on p row n k en ek in
+    crossed_by d r x f g ek c er =
+        let w = still_on p row n f en ek in
         subst (λ (y : Connection). Crossed (row ∷ p) y g) w.1
         (subst (Crossed (row ∷ p) n) (same_device d g (sym r ∙ er)) x)
       where
@@ -172,8 +172,8 @@ linked_puts s p row n m h en always least = by (crossing s p row n (link_row s p
         same_device a b z = cc
 
     by : Crossing p row n → Puts s p row
-    by (carries_none off none) = by_option (connection (row ∷ p)) (λ e. apart_from off e none) (λ k e. puts_linked s p
-        row k least.inside m.next off e (unput k e) (λ j d ej c er. none_some d (sym none ∙ er)))
+    by (carries_none off none) = by_option (connection (row ∷ p)) (λ e. apart_from off e none) (λ f e. puts_linked s p
+        row f least.inside m.next off e (unput f e) (λ j d ej c er. none_some d (sym none ∙ er)))
     by (carries d off r x) =
         let e = stands_still (row ∷ p) n d x in
         puts_linked s p row n least.inside m.next off e (unput n e) (crossed_by d r x)

@@ -77,7 +77,7 @@ kept_is row a (inl h) = go a.time row.time a.dev row.dev h
 kept_is row a (inr h) = go a.time row.time a.dev row.dev h.0 h.1
   where
     go : (t u d e : ℕ) → t ≡ u → e < d → (nat_lt t u || (t == u && nat_lt e d)) ≡ true
-    go t u d e h k = grind (arith, nat_tests)
+    go t u d e h f = grind (arith, nat_tests)
 
 pub is_kept : (row : Row) (a : Sample) → is_kept_by_reset row a ≡ true → IsKept row.time row.dev a
 is_kept row a z =
@@ -112,7 +112,7 @@ earlier_first (Some w) (Some y) x z e f = go (nat_lt y.time w.time) refl f
     same : w.time ≡ x.time
     same = ap (λ (v : Due). v.time) (same_Some w x e)
 
-    go : (q : Bool) → nat_lt y.time w.time ≡ q → (let n : Option Due = Some (if q then y else w) in n) ≡ Some z
+    go : (q : Bool) → nat_lt y.time w.time ≡ q → (let o : Option Due = Some (if q then y else w) in o) ≡ Some z
         → (z ≡ x) ⊎ (z.time < x.time)
     go true h g =
         let t = ap (λ (v : Due). v.time) (same_Some y z g) in
@@ -159,7 +159,7 @@ comes_from s p row e x dv m lt off r =
           | inr less ↦ later less
         ]
 
-    by_kind : (k : Kind) → row.kind ≡ k → e ≡ row.dev → ComesFrom s p row e x
+    by_kind : (u : Kind) → row.kind ≡ u → e ≡ row.dev → ComesFrom s p row e x
     by_kind (Fault bit) ek same =
         let f : row ≡ row_of_fault row.time row.dev bit = λ i. record { time = row.time; dev = row.dev; kind = ek i } in
         let o : own_of (row ∷ p) e ≡ own_of p e = ap (λ (w : Row). own_of (w ∷ p) e) f
@@ -169,40 +169,40 @@ comes_from s p row e x dv m lt off r =
         ((λ i. reset_due s p (sym same i)) ∙ sym (resets_of_own s p (row ∷ p) e (ap (λ (y : Own). y.released) o)) ∙ r)
         (λ z. no_fault (sym ek ∙ z))
       where
-        no_fault : (let k : Kind = Fault bit in k) ≡ Drives only_rst → ⊥
+        no_fault : (let u : Kind = Fault bit in u) ≡ Drives only_rst → ⊥
         no_fault z = wrong (ap is_fault z)
     by_kind (Drives l) ek same =
         let f : row ≡ row_of_lines row.time row.dev l = λ i. record { time = row.time; dev = row.dev; kind = ek i } in
-        let n : l.rst ≡ false = ap (λ (y : LineSet). y.rst) (sym (drives_own p row.time row.dev l))
+        let c : l.rst ≡ false = ap (λ (y : LineSet). y.rst) (sym (drives_own p row.time row.dev l))
         ∙ (λ i. (drives (sym f i ∷ p) (sym same i)).rst) ∙ off in
         let rel : (own_of (row ∷ p) e).released
         ≡ when (falls (drives p row.dev).rst l.rst) row.time (own_of p row.dev).released =
         (λ i. (own_of (f i ∷ p) (same i)).released) ∙ released_own p row.time row.dev l in
-        go (drives p row.dev).rst refl n rel
+        go (drives p row.dev).rst refl c rel
       where
         go : (q : Bool) → (drives p row.dev).rst ≡ q → l.rst ≡ false → (own_of (row ∷ p) e).released
             ≡ when (falls (drives p row.dev).rst l.rst) row.time (own_of p row.dev).released
             → ComesFrom s p row e x
-        go true a n rel =
+        go true a c rel =
             let z : (own_of (row ∷ p) e).released ≡ Some row.time = rel
-            ∙ (λ i. when (falls (a i) (n i)) row.time (own_of p row.dev).released) in
+            ∙ (λ i. when (falls (a i) (c i)) row.time (own_of p row.dev).released) in
             let w = own_reset_is s (row ∷ p) e x r in
             later (reset_after e row.time s.resets x.time
             (ap (λ (y : Option ℕ). reset_from e y s.resets) (sym z) ∙ w.time_is))
-        go false a n rel =
+        go false a c rel =
             let z : (own_of (row ∷ p) e).released ≡ (own_of p e).released = rel
-            ∙ (λ i. when (falls (a i) (n i)) row.time (own_of p row.dev).released)
+            ∙ (λ i. when (falls (a i) (c i)) row.time (own_of p row.dev).released)
             ∙ ap (λ (y : ℕ). (own_of p y).released) (sym same) in
             by_own a ((λ i. reset_due s p (sym same i)) ∙ sym (resets_of_own s p (row ∷ p) e z) ∙ r)
-            (λ k. wrong (sym (ap (λ (y : Kind). (driven_after y none).rst) (sym ek ∙ k)) ∙ n))
+            (λ u. wrong (sym (ap (λ (y : Kind). (driven_after y none).rst) (sym ek ∙ u)) ∙ c))
 
 pub kept_on : (s : ScenarioValue) (p : List Row) (row : Row) (a : Sample) → AreOfDevices p → IsLeast (due s p) 8 row
     → a.time ≤ row.time → IsKeptOn s p a → IsKeptOn s (row ∷ p) a
-kept_on s p row a dv m le k e lt off x r = go (comes_from s p row e x dv m lt off r)
+kept_on s p row a dv m le g e lt off x r = go (comes_from s p row e x dv m lt off r)
   where
     go : ComesFrom s p row e x → IsKept x.time e a
     go (later h) = inl (omega (arith, h, le))
-    go (stood was z h f) = k e lt was x z
+    go (stood was z h f) = g e lt was x z
 
 pub kept_new : (s : ScenarioValue) (p : List Row) (row : Row) (a : Sample) → AreOfDevices p → IsLeast (due s p) 8 row
     → IsNoLater a row → IsKeptOn s (row ∷ p) a
@@ -239,7 +239,7 @@ IsEven p = (d : ℕ) → d < 8 → (drives p d).bsy ≡ (drives p d).sel
 
 abbrev pub LetsCallsGo : List Row → Type 0
 LetsCallsGo p =
-    (k : Call) (h : Calling) → call p ≡ Some k → k.calling ≡ Some h → is_some h.answered ≡ false → IsLow p ⊎ IsEven p
+    (c : Call) (h : Calling) → call p ≡ Some c → c.calling ≡ Some h → is_some h.answered ≡ false → IsLow p ⊎ IsEven p
 
 -- The row drives no line, or RST alone.
 pub record IsBare (row : Row) : Type 0 where
@@ -271,7 +271,7 @@ low_on : (p : List Row) (row : Row) → IsBare row → ((d : ℕ) → d < 8 → 
     → IsLow (row ∷ p)
 low_on p row b f d lt =
     elim (cases_eq d row.dev) [
-      | inl same ↦ ap (λ (k : ℕ). (drives (row ∷ p) k).bsy) same ∙ ap (λ (l : LineSet). l.bsy) (own_line p row b)
+      | inl same ↦ ap (λ (m : ℕ). (drives (row ∷ p) m).bsy) same ∙ ap (λ (l : LineSet). l.bsy) (own_line p row b)
           ∙ bare_bsy b.lines b.bare
       | inr ne ↦ ap (λ (l : LineSet). l.bsy) (drives-other row p d ne) ∙ f d lt ne
     ]
@@ -280,9 +280,9 @@ even_on : (p : List Row) (row : Row) → IsBare row
     → ((d : ℕ) → d < 8 → d ≢ row.dev → (drives p d).bsy ≡ (drives p d).sel) → IsEven (row ∷ p)
 even_on p row b f d lt =
     elim (cases_eq d row.dev) [
-      | inl same ↦ ap (λ (k : ℕ). (drives (row ∷ p) k).bsy) same
+      | inl same ↦ ap (λ (m : ℕ). (drives (row ∷ p) m).bsy) same
           ∙ ap (λ (l : LineSet). l.bsy) (own_line p row b) ∙ bare_bsy b.lines b.bare
-          ∙ sym (ap (λ (k : ℕ). (drives (row ∷ p) k).sel) same ∙ ap (λ (l : LineSet). l.sel) (own_line p row b)
+          ∙ sym (ap (λ (m : ℕ). (drives (row ∷ p) m).sel) same ∙ ap (λ (l : LineSet). l.sel) (own_line p row b)
           ∙ bare_sel b.lines b.bare)
       | inr ne ↦ ap (λ (l : LineSet). l.bsy) (drives-other row p d ne) ∙ f d lt ne
           ∙ ap (λ (l : LineSet). l.sel) (sym (drives-other row p d ne))
@@ -300,9 +300,9 @@ no_two : {A : Type 0} (q r : Bool) (a h : Calling) → r ≡ false → (if q && 
 no_two q r a h e z =
     none_some h (sym (ap (λ (x : Bool). if x then Some a else None) ((λ i. q && e i) ∙ and_false q)) ∙ z)
 
-called_before : (p : List Row) (row : Row) (k : Call) (h : Calling) → IsBare row → call (row ∷ p) ≡ Some k
-    → k.calling ≡ Some h → is_some h.answered ≡ false → Called p
-called_before p row k h b ek eh un = by_option w.was.calling (λ e. no_two (row.dev == w.was.caller)
+called_before : (p : List Row) (row : Row) (x : Call) (h : Calling) → IsBare row → call (row ∷ p) ≡ Some x
+    → x.calling ≡ Some h → is_some h.answered ≡ false → Called p
+called_before p row x h b ek eh un = by_option w.was.calling (λ e. no_two (row.dev == w.was.caller)
     (drives_two_ids w.was.caller c.next) (new_calling w.was.caller c.next row.time) h
     (ap (drives_two_ids w.was.caller) next ∙ bare_ids w.was.caller b.lines b.bare)
     (sym (ap (λ (o : Option Calling). calling_after w.was.caller o c row) e) ∙ w.goes))
@@ -315,8 +315,8 @@ called_before p row k h b ek eh un = by_option w.was.calling (λ e. no_two (row.
       unanswered = not_unless (is_some g.answered) (is_some h.answered) f.answered un;
     })
   where
-    w : GoesOn p row k h
-    w = call_goes p row k h ek eh
+    w : GoesOn p row x h
+    w = call_goes p row x h ek eh
 
     c : Change
     c = change_of p row
@@ -336,8 +336,8 @@ calls_go p row b u k h ek eh un =
 no_called : {A : Type 0} (p : List Row) → call p ≡ None → Called p → A
 no_called p e w = none_some w.was (sym e ∙ w.was_is)
 
-called_is : (p : List Row) (j : Call) (w : Called p) → call p ≡ Some j → j.calling ≡ Some w.calling
-called_is p j w e = ap (λ (x : Call). x.calling) (same_Some j w.was (sym e ∙ w.was_is)) ∙ w.calling_is
+called_is : (p : List Row) (c : Call) (w : Called p) → call p ≡ Some c → c.calling ≡ Some w.calling
+called_is p c w e = ap (λ (x : Call). x.calling) (same_Some c w.was (sym e ∙ w.was_is)) ∙ w.calling_is
 
 was_answered : {A : Type 0} (g h : Calling) → (let o : Option Calling = Some g in o) ≡ Some h
     → is_some g.answered ≡ true → is_some h.answered ≡ false → A
@@ -383,11 +383,11 @@ pub calls_none : (p : List Row) (row : Row) → IsBare row → call p ≡ None �
 calls_none p row b e k h ek eh un = no_called p e (called_before p row k h b ek eh un)
 
 -- So no IDs are put down.
-below_even : (f : ℕ → LineSet) (n : ℕ) → ((d : ℕ) → d < n → (f d).bsy ≡ (f d).sel)
-    → (union_below f n).bsy ≡ (union_below f n).sel
+below_even : (f : ℕ → LineSet) (m : ℕ) → ((d : ℕ) → d < m → (f d).bsy ≡ (f d).sel)
+    → (union_below f m).bsy ≡ (union_below f m).sel
 unfolding union_below
 below_even f zero h = refl
-below_even f (suc n) h = λ i. below_even f n (λ d lt. h d (omega (arith, lt))) i || h n (omega arith) i
+below_even f (suc m) h = λ i. below_even f m (λ d lt. h d (omega (arith, lt))) i || h m (omega arith) i
 
 fell : (a b c : Bool) → (falls a b && c) ≡ true → (a ≡ true) × (b ≡ false) × (c ≡ true)
 fell true true c e = wrong' e
@@ -409,13 +409,13 @@ no_ids s p row xs b u = go (falls (bus p).bsy (bus (row ∷ p)).bsy && (bus (row
             let w = fell (bus p).bsy (bus (row ∷ p)).bsy (bus (row ∷ p)).sel e in
             wrong (sym w.2 ∙ sym (below_even (drives (row ∷ p)) 8 (even_on p row b (λ d lt ne. f d lt))) ∙ w.1)
 
-    answered : (falls (bus p).bsy (bus (row ∷ p)).bsy && (bus (row ∷ p)).sel) ≡ true → (k : Call) (h : Calling)
-        → call (row ∷ p) ≡ Some k → k.calling ≡ Some h → (q : Bool) → is_some h.answered ≡ q → is_some h.answered ≡ true
-    answered e k h ek eh true un = un
-    answered e k h ek eh false un = absurd (never e (called_before p row k h b ek eh un))
+    answered : (falls (bus p).bsy (bus (row ∷ p)).bsy && (bus (row ∷ p)).sel) ≡ true → (c : Call) (h : Calling)
+        → call (row ∷ p) ≡ Some c → c.calling ≡ Some h → (q : Bool) → is_some h.answered ≡ q → is_some h.answered ≡ true
+    answered e c h ek eh true un = un
+    answered e c h ek eh false un = absurd (never e (called_before p row c h b ek eh un))
 
     go : (q : Bool) → (falls (bus p).bsy (bus (row ∷ p)).bsy && (bus (row ∷ p)).sel) ≡ q
         → (if q then samples_with_ids s (call (row ∷ p)) row.time xs else xs) ≡ xs
     go true e =
-        ids_unsampled s (call (row ∷ p)) row.time xs (λ k h ek eh. answered e k h ek eh (is_some h.answered) refl)
+        ids_unsampled s (call (row ∷ p)) row.time xs (λ c h ek eh. answered e c h ek eh (is_some h.answered) refl)
     go false e = refl

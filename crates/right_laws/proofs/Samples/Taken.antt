@@ -62,7 +62,7 @@ all_kept s p row (b ∷ done) f w = (f b w.0, all_kept s p row done f w.1)
 no_strike : (row : Row) → is_fault row.kind ≡ false → strike_of row row.kind [] ≡ []
 no_strike row e = go row.kind e
   where
-    go : (k : Kind) → is_fault k ≡ false → strike_of row k [] ≡ []
+    go : (x : Kind) → is_fault x ≡ false → strike_of row x [] ≡ []
     go (Drives l) z = refl
     go (Fault bit) z = wrong z
 

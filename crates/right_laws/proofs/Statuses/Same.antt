@@ -25,44 +25,44 @@ pub ready_small : (c : CarriedBytes) → IsReady c → IsSmall c
 ready_small c (inl h) = inl h
 ready_small c (inr h) = inr h.0
 
-pub says_as : (c d : CarriedBytes) (m n : Messages) (x y : Next) → load d ≡ load c → n ≡ m → y ≡ x → StatusSays c m x
-    → StatusSays d n y
-says_as c d m n x y e em en h = record {
+pub says_as : (c d : CarriedBytes) (m v : Messages) (x y : Next) → load d ≡ load c → v ≡ m → y ≡ x → StatusSays c m x
+    → StatusSays d v y
+says_as c d m v x y e em en h = record {
   completes = λ z. one_as c d e (h.completes (sym em ∙ z));
   again = λ z. let w = h.again (sym en ∙ z) in (em ∙ w.0, small_as c d e w.1);
 }
 
-pub asked_as : (c d : CarriedBytes) (p q : Plan) → load d ≡ load c → KeptPlan p q → StatusAsked c p p.cause
+pub asked_as : (c d : CarriedBytes) (l q : Plan) → load d ≡ load c → KeptPlan l q → StatusAsked c l l.cause
     → StatusAsked d q q.cause
-asked_as c d p q e k h = subst (StatusAsked d q) (sym k.cause) (go p.cause h)
+asked_as c d l q e f h = subst (StatusAsked d q) (sym f.cause) (go l.cause h)
   where
-    go : (x : Cause) → StatusAsked c p x → StatusAsked d q x
+    go : (x : Cause) → StatusAsked c l x → StatusAsked d q x
     go Cause.Selected w = tt
-    go Cause.InMessage w = says_as c d p.messages q.messages p.next q.next e k.messages k.next w
+    go Cause.InMessage w = says_as c d l.messages q.messages l.next q.next e f.messages f.next w
     go Cause.InData w = tt
     go Cause.InStatus w = one_as c d e w
 
 -- The row changes nothing of it.
-pub same_by : (c d : CarriedBytes) (p q : Plan) (x y : ℕ) (phase : Phase) → load d ≡ load c → d.status ≡ c.status
-    → KeptPlan p q → ((phase ≡ Phase.Status) ⊎ (phase ≡ Phase.MessageIn) → y ≡ x) → StatusBy c p x phase
+pub same_by : (c d : CarriedBytes) (l q : Plan) (x y : ℕ) (phase : Phase) → load d ≡ load c → d.status ≡ c.status
+    → KeptPlan l q → ((phase ≡ Phase.Status) ⊎ (phase ≡ Phase.MessageIn) → y ≡ x) → StatusBy c l x phase
     → StatusBy d q y phase
-same_by c d p q x y Phase.Status e f k same h = (
-  λ z. ready_as c d f (h.0 (ap (λ (n : ℕ). n == 0) (sym (same (inl refl))) ∙ z)),
-  λ z. one_as c d e (h.1 (ap (λ (n : ℕ). n == 0) (sym (same (inl refl))) ∙ z)),
+same_by c d l q x y Phase.Status e f g same h = (
+  λ z. ready_as c d f (h.0 (ap (λ (m : ℕ). m == 0) (sym (same (inl refl))) ∙ z)),
+  λ z. one_as c d e (h.1 (ap (λ (m : ℕ). m == 0) (sym (same (inl refl))) ∙ z)),
 )
-same_by c d p q x y Phase.MessageIn e f k same h = (
-  says_as c d p.messages q.messages p.next q.next e k.messages k.next h.0,
-  λ z some. ready_as c d f (h.1 (sym k.next ∙ z) (ap (λ (n : ℕ). n == 0) (sym (same (inr refl))) ∙ some)),
+same_by c d l q x y Phase.MessageIn e f g same h = (
+  says_as c d l.messages q.messages l.next q.next e g.messages g.next h.0,
+  λ z some. ready_as c d f (h.1 (sym g.next ∙ z) (ap (λ (m : ℕ). m == 0) (sym (same (inr refl))) ∙ some)),
 )
-same_by c d p q x y Phase.MessageOut e f k same h = asked_as c d p q e k h
-same_by c d p q x y Phase.Command e f k same h = tt
-same_by c d p q x y Phase.DataIn e f k same h = tt
-same_by c d p q x y Phase.DataOut e f k same h = tt
+same_by c d l q x y Phase.MessageOut e f g same h = asked_as c d l q e g h
+same_by c d l q x y Phase.Command e f g same h = tt
+same_by c d l q x y Phase.DataIn e f g same h = tt
+same_by c d l q x y Phase.DataOut e f g same h = tt
 
 -- ---- lines
 
 pub status_lines : (b : LineSet) → phase_of b ≡ Phase.Status → (b.msg ≡ false) × (b.cd ≡ true) × (b.io ≡ true)
-status_lines b e = go b.msg b.cd b.io refl refl refl (ap (λ (p : Phase). is_status_next (Some p)) e)
+status_lines b e = go b.msg b.cd b.io refl refl refl (ap (λ (f : Phase). is_status_next (Some f)) e)
   where
     go : (m d i : Bool) → b.msg ≡ m → b.cd ≡ d → b.io ≡ i
         → is_status_next (Some (if m then (if i then Phase.MessageIn else Phase.MessageOut)

@@ -53,15 +53,15 @@ if_so false a h = tt
 
 -- ---- lists
 
-senses_left : (entries : List (Nexus × Sense)) (n : Nexus) → AllByRecursion IsByteEntry entries
-    → AllByRecursion IsByteEntry (senses_without entries n)
-senses_left [] n a = tt
-senses_left (e ∷ entries) n a = go (same_nexus e.0 n) (senses_left entries n a.1)
+senses_left : (entries : List (Nexus × Sense)) (x : Nexus) → AllByRecursion IsByteEntry entries
+    → AllByRecursion IsByteEntry (senses_without entries x)
+senses_left [] x a = tt
+senses_left (e ∷ entries) x a = go (same_nexus e.0 x) (senses_left entries x a.1)
   where
-    go : (q : Bool) → AllByRecursion IsByteEntry (senses_without entries n)
-        → AllByRecursion IsByteEntry (if q then senses_without entries n else e ∷ senses_without entries n)
-    go true k = k
-    go false k = (a.0, k)
+    go : (q : Bool) → AllByRecursion IsByteEntry (senses_without entries x)
+        → AllByRecursion IsByteEntry (if q then senses_without entries x else e ∷ senses_without entries x)
+    go true h = h
+    go false h = (a.0, h)
 
 senses_kept : (drops : Nexus → Bool) (entries : List (Nexus × Sense)) → AllByRecursion IsByteEntry entries
     → AllByRecursion IsByteEntry (Steps.kept_senses drops entries)
@@ -70,18 +70,18 @@ senses_kept drops (e ∷ entries) a = go (drops e.0) (senses_kept drops entries 
   where
     go : (q : Bool) → AllByRecursion IsByteEntry (Steps.kept_senses drops entries) → AllByRecursion IsByteEntry
         (if q then Steps.kept_senses drops entries else e ∷ Steps.kept_senses drops entries)
-    go true k = k
-    go false k = (a.0, k)
+    go true h = h
+    go false h = (a.0, h)
 
-sense_found : (entries : List (Nexus × Sense)) (n : Nexus) (x : Sense) → AllByRecursion IsByteEntry entries
-    → sense_of_nexus entries n ≡ Some x → IsByteSense x
-sense_found [] n x a e = absurd (none_some x e)
-sense_found (y ∷ entries) n x a e = go (same_nexus y.0 n) (λ z. sense_found entries n x a.1 z) e
+sense_found : (entries : List (Nexus × Sense)) (w : Nexus) (x : Sense) → AllByRecursion IsByteEntry entries
+    → sense_of_nexus entries w ≡ Some x → IsByteSense x
+sense_found [] w x a e = absurd (none_some x e)
+sense_found (y ∷ entries) w x a e = go (same_nexus y.0 w) (λ z. sense_found entries w x a.1 z) e
   where
-    go : (q : Bool) → (sense_of_nexus entries n ≡ Some x → IsByteSense x)
-        → (if q then Some y.1 else sense_of_nexus entries n) ≡ Some x → IsByteSense x
-    go true k z = subst IsByteSense (same_Some y.1 x z) a.0
-    go false k z = k z
+    go : (q : Bool) → (sense_of_nexus entries w ≡ Some x → IsByteSense x)
+        → (if q then Some y.1 else sense_of_nexus entries w) ≡ Some x → IsByteSense x
+    go true f z = subst IsByteSense (same_Some y.1 x z) a.0
+    go false f z = f z
 
 unit_put : (units : List UnitState) (new : UnitState) → AllByRecursion IsByteUnit units → IsByteUnit new
     → AllByRecursion IsByteUnit (with_unit units new)
@@ -90,22 +90,22 @@ unit_put (u ∷ units) new a b = go (u.target == new.target && u.unit == new.uni
   where
     go : (q : Bool) → AllByRecursion IsByteUnit (with_unit units new)
         → AllByRecursion IsByteUnit (if q then new ∷ units else u ∷ with_unit units new)
-    go true k = (b, a.1)
-    go false k = (a.0, k)
+    go true e = (b, a.1)
+    go false e = (a.0, e)
 
 abbrev IsByteUnitIf : Option UnitState → Type 0
 IsByteUnitIf None = Unit {0}
 IsByteUnitIf (Some u) = IsByteUnit u
 
-pub unit_found : (units : List UnitState) (t n : ℕ) → AllByRecursion IsByteUnit units
-    → IsByteUnitIf (unit_state_at units t n)
-unit_found [] t n a = tt
-unit_found (u ∷ units) t n a = go (u.target == t && u.unit == n) (unit_found units t n a.1)
+pub unit_found : (units : List UnitState) (t m : ℕ) → AllByRecursion IsByteUnit units
+    → IsByteUnitIf (unit_state_at units t m)
+unit_found [] t m a = tt
+unit_found (u ∷ units) t m a = go (u.target == t && u.unit == m) (unit_found units t m a.1)
   where
-    go : (q : Bool) → IsByteUnitIf (unit_state_at units t n)
-        → IsByteUnitIf (if q then Some u else unit_state_at units t n)
-    go true k = a.0
-    go false k = k
+    go : (q : Bool) → IsByteUnitIf (unit_state_at units t m)
+        → IsByteUnitIf (if q then Some u else unit_state_at units t m)
+    go true e = a.0
+    go false e = e
 
 -- What holds of a process that runs.
 abbrev HoldsIf : (RunningProcess → Type 0) → Option RunningProcess → Type 0
@@ -118,8 +118,8 @@ guest_holds P [] id a = tt
 guest_holds P (g ∷ guests) id a = go (same_id g.process.id id) (guest_holds P guests id a.1)
   where
     go : (q : Bool) → HoldsIf P (guest_at guests id) → HoldsIf P (if q then Some g else guest_at guests id)
-    go true k = a.0
-    go false k = k
+    go true e = a.0
+    go false e = e
 
 running_holds : (P : RunningProcess → Type 0) (units : List UnitState) (id : ProcId)
     → AllByRecursion (λ (u : UnitState). HoldsIf P u.current) units → HoldsIf P (Steps.running_in units id)
@@ -128,21 +128,21 @@ running_holds P (u ∷ units) id a = go u.current a.0 (running_holds P units id 
   where
     one : (r : RunningProcess) → P r → (q : Bool) → HoldsIf P (Steps.running_in units id) → HoldsIf P
         (if is_some (if q then Some r else None) then (if q then Some r else None) else Steps.running_in units id)
-    one r b true k = b
-    one r b false k = k
+    one r b true e = b
+    one r b false e = e
 
     go : (c : Option RunningProcess) → HoldsIf P c → HoldsIf P (Steps.running_in units id)
         → HoldsIf P (if is_some (Steps.running_if c id) then Steps.running_if c id else Steps.running_in units id)
-    go None b k = k
-    go (Some r) b k = one r b (same_id r.process.id id) k
+    go None b e = e
+    go (Some r) b e = one r b (same_id r.process.id id) e
 
 process_holds : (P : RunningProcess → Type 0) (a : Array) (id : ProcId) → AllByRecursion P a.guests
     → AllByRecursion (λ (u : UnitState). HoldsIf P u.current) a.units → HoldsIf P (Steps.running_process a id)
 process_holds P a id g u = go (guest_at a.guests id) (guest_holds P a.guests id g)
   where
     go : (o : Option RunningProcess) → HoldsIf P o → HoldsIf P (if is_some o then o else Steps.running_in a.units id)
-    go None k = running_holds P a.units id u
-    go (Some r) k = k
+    go None e = running_holds P a.units id u
+    go (Some r) e = e
 
 abbrev pub IsOf : ScenarioValue → RunningProcess → Type 0
 IsOf s r = process_of s r.process.id ≡ Some r.process
@@ -157,8 +157,8 @@ own_currents s [] a = tt
 own_currents s (u ∷ units) a = (go u.current (a.0).current, own_currents s units a.1)
   where
     go : (c : Option RunningProcess) → IsOwnRunning s u.target u.unit c → HoldsIf (IsOf s) c
-    go None k = tt
-    go (Some r) k = k.is
+    go None e = tt
+    go (Some r) e = e.is
 
 byte_currents : (units : List UnitState) → AllByRecursion IsByteUnit units
     → AllByRecursion (λ (u : UnitState). HoldsIf IsByteRunning u.current) units
@@ -166,8 +166,8 @@ byte_currents [] a = tt
 byte_currents (u ∷ units) a = (go u.current (a.0).current, byte_currents units a.1)
   where
     go : (c : Option RunningProcess) → IsByteCurrent c → HoldsIf IsByteRunning c
-    go None k = tt
-    go (Some r) k = k
+    go None e = tt
+    go (Some r) e = e
 
 -- ---- the choice
 
@@ -179,10 +179,10 @@ choices holds (u ∷ units) a = (
   choices holds units a.1,
 )
   where
-    go : (q : Bool) (p : Option Process) → IsByteUnit (if q then with_current u p else u)
+    go : (q : Bool) (c : Option Process) → IsByteUnit (if q then with_current u c else u)
     go true None = a.0
-    go true (Some p) = record { contents = (a.0).contents; current = tt }
-    go false p = a.0
+    go true (Some c) = record { contents = (a.0).contents; current = tt }
+    go false c = a.0
 
 pub settles : (a : Array) → HasBytes a → HasBytes (settled_array a)
 settles a h = record {
@@ -195,11 +195,11 @@ settles a h = record {
 
 -- ---- a command arrives
 
-guests_more : (a : Array) (p : Process) (r : Option Reply) → HasBytes a → HasReplyIf r
-    → HasBytes (Steps.with_guest a p r)
-guests_more a p r h b = record {
+guests_more : (a : Array) (c : Process) (r : Option Reply) → HasBytes a → HasReplyIf r
+    → HasBytes (Steps.with_guest a c r)
+guests_more a c r h b = record {
   units = h.units;
-  guests = all_more IsByteRunning a.guests (record { process = p; reply = r }) h.guests b;
+  guests = all_more IsByteRunning a.guests (record { process = c; reply = r }) h.guests b;
   senses = h.senses;
   attentions = h.attentions;
   replies = h.replies;
@@ -217,18 +217,18 @@ units_with a new h b = record {
 
 accepts : (a : Array) (o : Option Process) → HasBytes a → HasBytesIf (Steps.accept_step a o)
 accepts a None h = tt
-accepts a (Some p) h = at (unit_state_at a.units p.target p.unit) (unit_found a.units p.target p.unit h.units)
+accepts a (Some c) h = at (unit_state_at a.units c.target c.unit) (unit_found a.units c.target c.unit h.units)
   where
     either : (u : UnitState) → IsByteUnit u
-        → (q : Bool) → HasBytesIf (if q then Some (Steps.with_guest a p None) else Steps.queue_step a p u)
-    either u b true = guests_more a p None h tt
+        → (q : Bool) → HasBytesIf (if q then Some (Steps.with_guest a c None) else Steps.queue_step a c u)
+    either u b true = guests_more a c None h tt
     either u b false = if_so (nat_lt (Steps.process_count u) u.depth)
-        (record a { units = with_unit a.units (record u { waiting = u.waiting ++ p ∷ [] }) }) (units_with a
-        (record u { waiting = u.waiting ++ p ∷ [] }) h (record { contents = b.contents; current = b.current }))
+        (record a { units = with_unit a.units (record u { waiting = u.waiting ++ c ∷ [] }) }) (units_with a
+        (record u { waiting = u.waiting ++ c ∷ [] }) h (record { contents = b.contents; current = b.current }))
 
-    at : (x : Option UnitState) → IsByteUnitIf x → HasBytesIf (Steps.accept_step_at a p x)
-    at None b = guests_more a p None h tt
-    at (Some u) b = either u b (is_request_sense (command_of p.cdb))
+    at : (x : Option UnitState) → IsByteUnitIf x → HasBytesIf (Steps.accept_step_at a c x)
+    at None b = guests_more a c None h tt
+    at (Some u) b = either u b (is_request_sense (command_of c.cdb))
 
 full_small : HasByteReply queue_full
 full_small = record { status = omega arith; bytes = tt; sense = (omega arith, omega arith, omega arith) }
@@ -244,14 +244,14 @@ listed a id r h b = record {
 
 refuses : (a : Array) (o : Option Process) → HasBytes a → HasBytesIf (Steps.refuse_step a o)
 refuses a None h = tt
-refuses a (Some p) h = at (unit_state_at a.units p.target p.unit)
+refuses a (Some c) h = at (unit_state_at a.units c.target c.unit)
   where
-    at : (x : Option UnitState) → HasBytesIf (Steps.refuse_step_at a p x)
+    at : (x : Option UnitState) → HasBytesIf (Steps.refuse_step_at a c x)
     at None = tt
-    at (Some u) = if_so (not (is_request_sense (command_of p.cdb)) && Steps.process_count u == u.depth)
-        (Steps.with_listed_reply (Steps.with_guest a p (Some queue_full)) p.id queue_full)
-        (listed (Steps.with_guest a p (Some queue_full)) p.id queue_full
-        (guests_more a p (Some queue_full) h full_small) full_small)
+    at (Some u) = if_so (not (is_request_sense (command_of c.cdb)) && Steps.process_count u == u.depth)
+        (Steps.with_listed_reply (Steps.with_guest a c (Some queue_full)) c.id queue_full)
+        (listed (Steps.with_guest a c (Some queue_full)) c.id queue_full
+        (guests_more a c (Some queue_full) h full_small) full_small)
 
 -- ---- a command runs, fails, ends
 
@@ -262,8 +262,8 @@ guests_replied (g ∷ guests) id r a b = go (same_id g.process.id id) (guests_re
   where
     go : (q : Bool) → AllByRecursion IsByteRunning (Steps.guests_with_reply guests id r) → AllByRecursion IsByteRunning
         (if q then record g { reply = Some r } ∷ guests else g ∷ Steps.guests_with_reply guests id r)
-    go true k = (b, a.1)
-    go false k = (a.0, k)
+    go true e = (b, a.1)
+    go false e = (a.0, e)
 
 units_replied : (units : List UnitState) (id : ProcId) (r : Reply) → AllByRecursion IsByteUnit units → HasByteReply r
     → AllByRecursion IsByteUnit (Steps.units_with_reply units id r)
@@ -273,12 +273,12 @@ units_replied (u ∷ units) id r a b =
   where
     one : (x : RunningProcess) → IsByteRunning x
         → (q : Bool) → IsByteCurrent (if q then Some (record x { reply = Some r }) else Some x)
-    one x k true = b
-    one x k false = k
+    one x e true = b
+    one x e false = e
 
     go : (c : Option RunningProcess) → IsByteCurrent c → IsByteCurrent (Steps.current_with_reply c id r)
-    go None k = tt
-    go (Some x) k = one x k (same_id x.process.id id)
+    go None e = tt
+    go (Some x) e = one x e (same_id x.process.id id)
 
 replied : (a : Array) (id : ProcId) (r : Reply) → HasBytes a → HasByteReply r → HasBytes (Steps.with_reply a id r)
 replied a id r h b = record {
@@ -289,37 +289,37 @@ replied a id r h b = record {
   replies = (b.status, h.replies);
 }
 
-pub context_small : (a : Array) (n : Nexus) (t m : ℕ) → HasBytes a
-    → HasByteContext (Steps.context_at a n (unit_state_at a.units t m))
-context_small a n t m h = go (unit_state_at a.units t m) (unit_found a.units t m h.units)
+pub context_small : (a : Array) (y : Nexus) (t m : ℕ) → HasBytes a
+    → HasByteContext (Steps.context_at a y (unit_state_at a.units t m))
+context_small a y t m h = go (unit_state_at a.units t m) (unit_found a.units t m h.units)
   where
-    go : (x : Option UnitState) → IsByteUnitIf x → HasByteContext (Steps.context_at a n x)
+    go : (x : Option UnitState) → IsByteUnitIf x → HasByteContext (Steps.context_at a y x)
     go None b = record {
       contents = tt;
-      stored = λ x e. sense_found a.senses n x h.senses e;
-      attention = λ x e. sense_found a.attentions n x h.attentions e;
+      stored = λ x e. sense_found a.senses y x h.senses e;
+      attention = λ x e. sense_found a.attentions y x h.attentions e;
     }
     go (Some u) b = record {
       contents = b.contents;
-      stored = λ x e. sense_found a.senses n x h.senses e;
-      attention = λ x e. sense_found a.attentions n x h.attentions e;
+      stored = λ x e. sense_found a.senses y x h.senses e;
+      attention = λ x e. sense_found a.attentions y x h.attentions e;
     }
 
-reported : (a : Array) (q : Bool) (n : Nexus) → HasBytes a → HasBytes (Steps.without_attention a q n)
-reported a true n h = record {
+reported : (a : Array) (q : Bool) (x : Nexus) → HasBytes a → HasBytes (Steps.without_attention a q x)
+reported a true x h = record {
   units = h.units;
   guests = h.guests;
   senses = h.senses;
-  attentions = senses_left a.attentions n h.attentions;
+  attentions = senses_left a.attentions x h.attentions;
   replies = h.replies;
 }
-reported a false n h = h
+reported a false x h = h
 
 contents_put : (a : Array) (x : Option UnitState) (c : Contents) → HasBytes a → IsByteUnitIf x → HoldsBytes c
     → HasBytes (Steps.with_contents a x c)
-contents_put a None c h b k = h
-contents_put a (Some u) c h b k =
-    units_with a (record u { contents = c }) h (record { contents = k; current = b.current })
+contents_put a None c h b e = h
+contents_put a (Some u) c h b e =
+    units_with a (record u { contents = c }) h (record { contents = e; current = b.current })
 
 runs : (a : Array) (guest : Bool) (o : Option RunningProcess) → HasBytes a
     → HoldsIf (λ (r : RunningProcess). AreBytes r.process.sent) o → HasBytesIf (Steps.run_step a guest o)
@@ -341,14 +341,14 @@ fails : (s : ScenarioValue) (a : Array) (id : ProcId) (r : Reply) (o : Option Ru
 fails s a id r (Some x) h b = if_so (is_none x.reply) (Steps.with_reply a id r) (replied a id r h b)
 fails s a id r None h b = go (process_of s id)
   where
-    came : (q : Bool) (p : Process)
-        → HasBytesIf (if q then None else Some (Steps.with_listed_reply (Steps.with_guest a p (Some r)) id r))
-    came true p = tt
-    came false p = listed (Steps.with_guest a p (Some r)) id r (guests_more a p (Some r) h b) b
+    came : (q : Bool) (c : Process)
+        → HasBytesIf (if q then None else Some (Steps.with_listed_reply (Steps.with_guest a c (Some r)) id r))
+    came true c = tt
+    came false c = listed (Steps.with_guest a c (Some r)) id r (guests_more a c (Some r) h b) b
 
     go : (x : Option Process) → HasBytesIf (Steps.fail_step_of_new a id r x)
     go None = tt
-    go (Some p) = came (Steps.is_waiting a.units id || Steps.has_ended a id) p
+    go (Some c) = came (Steps.is_waiting a.units id || Steps.has_ended a id) c
 
 guests_left : (guests : List RunningProcess) (id : ProcId) → AllByRecursion IsByteRunning guests
     → AllByRecursion IsByteRunning (without_guest guests id)
@@ -357,8 +357,8 @@ guests_left (g ∷ guests) id a = go (same_id g.process.id id) (guests_left gues
   where
     go : (q : Bool) → AllByRecursion IsByteRunning (without_guest guests id)
         → AllByRecursion IsByteRunning (if q then without_guest guests id else g ∷ without_guest guests id)
-    go true k = k
-    go false k = (a.0, k)
+    go true e = e
+    go false e = (a.0, e)
 
 units_left : (units : List UnitState) (id : ProcId) → AllByRecursion IsByteUnit units
     → AllByRecursion IsByteUnit (Steps.units_without units id)
@@ -383,27 +383,27 @@ leaves a id h = record {
   replies = h.replies;
 }
 
-status_kept : (a : Array) (p : Process) (r : Reply) → HasBytes a → HasByteReply r → HasBytes (Steps.after_status a p r)
-status_kept a p r h b = go (r.status == CHECK_CONDITION) (r.status == GOOD && is_request_sense (command_of p.cdb))
+status_kept : (a : Array) (c : Process) (r : Reply) → HasBytes a → HasByteReply r → HasBytes (Steps.after_status a c r)
+status_kept a c r h b = go (r.status == CHECK_CONDITION) (r.status == GOOD && is_request_sense (command_of c.cdb))
   where
     go : (x y : Bool) → HasBytes (if x then record a {
-      senses = (nexus_of p, r.sense) ∷ senses_without a.senses (nexus_of p);
-      holds = nexus_of p ∷ nexuses_without a.holds (nexus_of p);
+      senses = (nexus_of c, r.sense) ∷ senses_without a.senses (nexus_of c);
+      holds = nexus_of c ∷ nexuses_without a.holds (nexus_of c);
     } else if y then record a {
-      senses = senses_without a.senses (nexus_of p);
-      holds = nexuses_without a.holds (nexus_of p);
+      senses = senses_without a.senses (nexus_of c);
+      holds = nexuses_without a.holds (nexus_of c);
     } else a)
     go true y = record {
       units = h.units;
       guests = h.guests;
-      senses = (b.sense, senses_left a.senses (nexus_of p) h.senses);
+      senses = (b.sense, senses_left a.senses (nexus_of c) h.senses);
       attentions = h.attentions;
       replies = h.replies;
     }
     go false true = record {
       units = h.units;
       guests = h.guests;
-      senses = senses_left a.senses (nexus_of p) h.senses;
+      senses = senses_left a.senses (nexus_of c) h.senses;
       attentions = h.attentions;
       replies = h.replies;
     }
@@ -415,9 +415,9 @@ ends a status None h b = tt
 ends a status (Some r) h b = go r.reply b
   where
     go : (x : Option Reply) → HasReplyIf x → HasBytesIf (Steps.end_step_with a r.process status x)
-    go None k = tt
-    go (Some y) k = if_so (y.status == status) (Steps.array_without (Steps.after_status a r.process y) r.process.id)
-        (leaves (Steps.after_status a r.process y) r.process.id (status_kept a r.process y h k))
+    go None e = tt
+    go (Some y) e = if_so (y.status == status) (Steps.array_without (Steps.after_status a r.process y) r.process.id)
+        (leaves (Steps.after_status a r.process y) r.process.id (status_kept a r.process y h e))
 
 loses : (a : Array) (id : ProcId) → HasBytes a → HasBytesIf (Steps.loss_step a id)
 loses a id h = go (Steps.has_ended a id)
@@ -435,8 +435,8 @@ guests_kept drops (g ∷ guests) a = go (drops g.process) (guests_kept drops gue
   where
     go : (q : Bool) → AllByRecursion IsByteRunning (Steps.kept_guests drops guests) → AllByRecursion IsByteRunning
         (if q then Steps.kept_guests drops guests else g ∷ Steps.kept_guests drops guests)
-    go true k = k
-    go false k = (a.0, k)
+    go true e = e
+    go false e = (a.0, e)
 
 units_kept : (drops : Process → Bool) (units : List UnitState) → AllByRecursion IsByteUnit units
     → AllByRecursion IsByteUnit (Steps.kept_units drops units)
@@ -445,12 +445,12 @@ units_kept drops (u ∷ units) a =
     (record { contents = (a.0).contents; current = go u.current (a.0).current }, units_kept drops units a.1)
   where
     one : (x : RunningProcess) → IsByteRunning x → (q : Bool) → IsByteCurrent (if q then None else Some x)
-    one x k true = tt
-    one x k false = k
+    one x e true = tt
+    one x e false = e
 
     go : (c : Option RunningProcess) → IsByteCurrent c → IsByteCurrent (Steps.kept_running drops c)
-    go None k = tt
-    go (Some x) k = one x k (drops x.process)
+    go None e = tt
+    go (Some x) e = one x e (drops x.process)
 
 dropped : (a : Array) (drops : Process → Bool) → HasBytes a → HasBytes (Steps.without_dropped a drops)
 dropped a drops h = record {
@@ -461,11 +461,11 @@ dropped a drops h = record {
   replies = h.replies;
 }
 
-of_hosts : (hosts : List HostDef) (t n : ℕ) (a : Array) → HasBytes a → HasBytes (Steps.reset_attentions hosts t n a)
-of_hosts [] t n a h = h
-of_hosts (x ∷ hosts) t n a h =
-    let nexus : Nexus = record { initiator = x.dev; target = t; unit = n } in
-    of_hosts hosts t n (Steps.reset_attention a nexus) (record {
+of_hosts : (hosts : List HostDef) (t m : ℕ) (a : Array) → HasBytes a → HasBytes (Steps.reset_attentions hosts t m a)
+of_hosts [] t m a h = h
+of_hosts (x ∷ hosts) t m a h =
+    let nexus : Nexus = record { initiator = x.dev; target = t; unit = m } in
+    of_hosts hosts t m (Steps.reset_attention a nexus) (record {
       units = h.units;
       guests = h.guests;
       senses = h.senses;
@@ -504,22 +504,22 @@ cleared by (q ∷ lost) a h =
     go true = h
     go false = told (Steps.is_reset_pending (sense_of_nexus a.attentions (nexus_of q)))
 
-aborted : (s : ScenarioValue) (a : Array) (i t n : ℕ) (what : AbortKind) → HasBytes a
-    → HasBytes (Steps.abort_step s a i t n what)
-aborted s a i t n AbortKind.All h =
-    let d = dropped a (λ p. p.initiator == i && Steps.is_of_unit p t n) h in
+aborted : (s : ScenarioValue) (a : Array) (i t m : ℕ) (what : AbortKind) → HasBytes a
+    → HasBytes (Steps.abort_step s a i t m what)
+aborted s a i t m AbortKind.All h =
+    let d = dropped a (λ p. p.initiator == i && Steps.is_of_unit p t m) h in
     record {
       units = d.units;
       guests = d.guests;
-      senses = senses_left a.senses (record { initiator = i; target = t; unit = n }) h.senses;
+      senses = senses_left a.senses (record { initiator = i; target = t; unit = m }) h.senses;
       attentions = d.attentions;
       replies = d.replies;
     }
-aborted s a i t n (AbortKind.Tag tag) h =
-    dropped a (λ p. p.initiator == i && Steps.is_of_unit p t n && Steps.has_tag p.tag tag) h
-aborted s a i t n AbortKind.WholeQueue h = cleared i (Steps.unit_processes (unit_state_at a.units t n))
-    (Steps.without_dropped a (λ p. Steps.is_of_unit p t n)) (dropped a (λ p. Steps.is_of_unit p t n) h)
-aborted s a i t n AbortKind.Device h =
+aborted s a i t m (AbortKind.Tag tag) h =
+    dropped a (λ p. p.initiator == i && Steps.is_of_unit p t m && Steps.has_tag p.tag tag) h
+aborted s a i t m AbortKind.WholeQueue h = cleared i (Steps.unit_processes (unit_state_at a.units t m))
+    (Steps.without_dropped a (λ p. Steps.is_of_unit p t m)) (dropped a (λ p. Steps.is_of_unit p t m) h)
+aborted s a i t m AbortKind.Device h =
     let d = dropped a (λ p. p.target == t) h in
     of_units s.hosts a.units (λ u. u.target == t) (record (Steps.without_dropped a (λ p. p.target == t)) {
       senses = Steps.kept_senses (λ q. q.target == t) a.senses;
@@ -546,7 +546,7 @@ HasByteCode _ = Unit {0}
 
 -- What the processes of a scenario send.
 abbrev pub SendsBytes : ScenarioValue → Type 0
-SendsBytes s = (id : ProcId) (p : Process) → process_of s id ≡ Some p → AreBytes p.sent
+SendsBytes s = (id : ProcId) (c : Process) → process_of s id ≡ Some c → AreBytes c.sent
 
 sends : (s : ScenarioValue) (o : Option RunningProcess) → SendsBytes s → HoldsIf (IsOf s) o
     → HoldsIf (λ (r : RunningProcess). AreBytes r.process.sent) o
@@ -572,8 +572,8 @@ pub step_bytes : (s : ScenarioValue) (a : Array) (event : Event) → SendsBytes 
 step_bytes s a event f u g c h = go (Steps.event_step s a event) (by_event s a event f u g c h)
   where
     go : (o : Option Array) → HasBytesIf o → HasBytesIf (Steps.settled_array_if o)
-    go None k = tt
-    go (Some b) k = settles b k
+    go None e = tt
+    go (Some b) e = settles b e
 
 -- ---- the start
 

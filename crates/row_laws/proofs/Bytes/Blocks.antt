@@ -40,26 +40,26 @@ group_of : (bytes : List ℕ) → is_block bytes ≡ true → has_group_len byte
 group_of [] e = cc
 group_of (b ∷ bytes) e = e
 
-at_number : (commands : List CmdDef) (n : ℕ) (c : CmdDef) → AllByRecursion IsBlock commands
-    → command_at commands n ≡ Some c → IsBlock c
-at_number [] n c a e = cc
+at_number : (commands : List CmdDef) (m : ℕ) (c : CmdDef) → AllByRecursion IsBlock commands
+    → command_at commands m ≡ Some c → IsBlock c
+at_number [] m c a e = cc
 at_number (d ∷ commands) zero c a e = cc
 at_number (d ∷ commands) (suc zero) c a e = subst IsBlock (same_Some d c e) a.0
-at_number (d ∷ commands) (suc (suc n)) c a e = at_number commands (suc n) c a.1 e
+at_number (d ∷ commands) (suc (suc m)) c a e = at_number commands (suc m) c a.1 e
 
-block_of_process : (s : ScenarioValue) (id : ProcId) (p : Process) → AreBlocks s → process_of s id ≡ Some p
-    → has_group_len p.cdb ≡ true
-block_of_process s id p a e = go (command_at s.commands id.command) refl e
+block_of_process : (s : ScenarioValue) (id : ProcId) (t : Process) → AreBlocks s → process_of s id ≡ Some t
+    → has_group_len t.cdb ≡ true
+block_of_process s id t a e = go (command_at s.commands id.command) refl e
   where
     own : (c : CmdDef) (sense : Bool) → IsBlock c
         → has_group_len (process_by s (record { command = id.command; sense = sense }) c).cdb ≡ true
     own c true b = refl
     own c false b = group_of c.cdb b
 
-    go : (c : Option CmdDef) → command_at s.commands id.command ≡ c → process_if s id c ≡ Some p
-        → has_group_len p.cdb ≡ true
+    go : (c : Option CmdDef) → command_at s.commands id.command ≡ c → process_if s id c ≡ Some t
+        → has_group_len t.cdb ≡ true
     go None f g = cc
-    go (Some c) f g = sym (ap (λ (q : Process). has_group_len q.cdb) (same_Some (process_by s id c) p g))
+    go (Some c) f g = sym (ap (λ (q : Process). has_group_len q.cdb) (same_Some (process_by s id c) t g))
         ∙ own c id.sense (at_number s.commands id.command c a f)
 
 -- ---- its bytes
@@ -67,32 +67,32 @@ block_of_process s id p a e = go (command_at s.commands id.command) refl e
 abbrev IsHexLine : CmdDef → Type 0
 IsHexLine c = IsHex c.cdb × IsHexPayload c.payload
 
-line_at : (commands : List CmdDef) (n : ℕ) (c : CmdDef) → AllByRecursion IsHexLine commands
-    → command_at commands n ≡ Some c → IsHexLine c
-line_at [] n c a e = cc
+line_at : (commands : List CmdDef) (m : ℕ) (c : CmdDef) → AllByRecursion IsHexLine commands
+    → command_at commands m ≡ Some c → IsHexLine c
+line_at [] m c a e = cc
 line_at (d ∷ commands) zero c a e = cc
 line_at (d ∷ commands) (suc zero) c a e = subst IsHexLine (same_Some d c e) a.0
-line_at (d ∷ commands) (suc (suc n)) c a e = line_at commands (suc n) c a.1 e
+line_at (d ∷ commands) (suc (suc m)) c a e = line_at commands (suc m) c a.1 e
 
-from_first : (first n : ℕ) → AreBytes (bytes_from first n)
+from_first : (first m : ℕ) → AreBytes (bytes_from first m)
 from_first first zero = tt
-from_first first (suc n) = (omega arith, from_first (first + 1) n)
+from_first first (suc m) = (omega arith, from_first (first + 1) m)
 
-payload_small : (x : Payload) (n : ℕ) → IsHexPayload x → AreBytes (payload_bytes x n)
-payload_small Payload.Nothing n h = tt
-payload_small (Payload.Hex bytes) n h = h.0
-payload_small (Payload.From first) n h = from_first first n
+payload_small : (x : Payload) (m : ℕ) → IsHexPayload x → AreBytes (payload_bytes x m)
+payload_small Payload.Nothing m h = tt
+payload_small (Payload.Hex bytes) m h = h.0
+payload_small (Payload.From first) m h = from_first first m
 
-pub byte_small : (bytes : List ℕ) (n : ℕ) → AreBytes bytes → slice_index_or bytes n 0 < 256
-byte_small [] n h = omega arith
+pub byte_small : (bytes : List ℕ) (m : ℕ) → AreBytes bytes → slice_index_or bytes m 0 < 256
+byte_small [] m h = omega arith
 byte_small (b ∷ bytes) zero h = h.0
-byte_small (b ∷ bytes) (suc n) h = byte_small bytes n h.1
+byte_small (b ∷ bytes) (suc m) h = byte_small bytes m h.1
 
 abbrev pub HasBytes : Process → Type 0
-HasBytes p = AreBytes p.cdb × AreBytes p.sent
+HasBytes c = AreBytes c.cdb × AreBytes c.sent
 
-pub bytes_of_process : (s : ScenarioValue) (id : ProcId) (p : Process) → Obeys s → process_of s id ≡ Some p → HasBytes p
-bytes_of_process s id p o e = go (command_at s.commands id.command) refl e
+pub bytes_of_process : (s : ScenarioValue) (id : ProcId) (t : Process) → Obeys s → process_of s id ≡ Some t → HasBytes t
+bytes_of_process s id t o e = go (command_at s.commands id.command) refl e
   where
     sense : AreBytes sense_block
     sense = (omega arith, (omega arith, (omega arith, (omega arith, (omega arith, (omega arith, tt))))))
@@ -101,30 +101,30 @@ bytes_of_process s id p o e = go (command_at s.commands id.command) refl e
     own c true h = (sense, tt)
     own c false h = (h.0.0, payload_small c.payload (sent_of s c) h.1)
 
-    go : (c : Option CmdDef) → command_at s.commands id.command ≡ c → process_if s id c ≡ Some p → HasBytes p
+    go : (c : Option CmdDef) → command_at s.commands id.command ≡ c → process_if s id c ≡ Some t → HasBytes t
     go None f g = cc
-    go (Some c) f g = subst HasBytes (same_Some (process_by s id c) p g)
+    go (Some c) f g = subst HasBytes (same_Some (process_by s id c) t g)
         (own c id.sense (line_at s.commands id.command c o.commands f))
 
 -- ---- the process of a connection
 
 -- The command of any process that is served has the length of its group; and what a process sends are bytes.
 pub record HasCommands (s : ScenarioValue) : Type 0 where
-  pub group : (k : RunState) (p : Process) → process_served s k ≡ Some p → has_group_len p.cdb ≡ true
-  pub bytes : (k : RunState) (p : Process) → process_here s k ≡ Some p → HasBytes p
+  pub group : (k : RunState) (c : Process) → process_served s k ≡ Some c → has_group_len c.cdb ≡ true
+  pub bytes : (k : RunState) (c : Process) → process_here s k ≡ Some c → HasBytes c
 
 pub commands_are : (s : ScenarioValue) → Obeys s → HasCommands s
-commands_are s o = record { group = λ k p. served k.served p; bytes = λ k p. here (item_of k.story.link) p }
+commands_are s o = record { group = λ k c. served k.served c; bytes = λ k c. here (item_of k.story.link) c }
   where
-    served : (i : Option Item) (p : Process) → process_item s i ≡ Some p → has_group_len p.cdb ≡ true
-    served None p f = cc
-    served (Some (process id)) p f = block_of_process s id p (blocks_of s o) f
-    served (Some (abort n)) p f = cc
+    served : (i : Option Item) (c : Process) → process_item s i ≡ Some c → has_group_len c.cdb ≡ true
+    served None c f = cc
+    served (Some (process id)) c f = block_of_process s id c (blocks_of s o) f
+    served (Some (abort n)) c f = cc
 
-    here : (i : Option Item) (p : Process) → process_item s i ≡ Some p → HasBytes p
-    here None p f = cc
-    here (Some (process id)) p f = bytes_of_process s id p o f
-    here (Some (abort n)) p f = cc
+    here : (i : Option Item) (c : Process) → process_item s i ≡ Some c → HasBytes c
+    here None c f = cc
+    here (Some (process id)) c f = bytes_of_process s id c o f
+    here (Some (abort n)) c f = cc
 
 -- So what the initiator is due to give is a byte, but in MESSAGE OUT.
 pub sends_bytes : (s : ScenarioValue) (k : RunState) (bus : LineSet) (x : Speech) → HasCommands s
@@ -133,7 +133,7 @@ sends_bytes s k bus x h words = go (is_message_out bus) (is_command bus) words
   where
     own : (o : Option Process) → process_here s k ≡ o → AreBytes (sending_by k o).cdb × AreBytes (sending_by k o).sent
     own None e = (tt, tt)
-    own (Some p) e = h.bytes k p e
+    own (Some c) e = h.bytes k c e
 
     o : Sending
     o = sending_of s k

@@ -20,11 +20,11 @@ CodeIf None = Unit {0}
 CodeIf (Some c) = c < 256
 
 abbrev HasCode : CarriedBytes → Type 0
-HasCode k = CodeIf k.failure
+HasCode c = CodeIf c.failure
 
 abbrev HasCodeIf : Option CarriedBytes → Type 0
 HasCodeIf None = Unit {0}
-HasCodeIf (Some k) = HasCode k
+HasCodeIf (Some c) = HasCode c
 
 abbrev LinkHas : Option Link → Type 0
 LinkHas None = Unit {0}
@@ -38,9 +38,9 @@ pub record HasCodes (b : Story) : Type 0 where
 
 at : (all : List CarriedBytes) (id : ProcId) → AllByRecursion HasCode all → HasCodeIf (carried_at all id)
 at [] id a = tt
-at (k ∷ all) id a = one (same_id k.id id) (at all id a.1)
+at (c ∷ all) id a = one (same_id c.id id) (at all id a.1)
   where
-    one : (q : Bool) → HasCodeIf (carried_at all id) → HasCodeIf (if q then Some k else carried_at all id)
+    one : (q : Bool) → HasCodeIf (carried_at all id) → HasCodeIf (if q then Some c else carried_at all id)
     one true z = a.0
     one false z = z
 
@@ -49,15 +49,15 @@ found all id a = go (carried_at all id) (at all id a)
   where
     go : (o : Option CarriedBytes) → HasCodeIf o → HasCode (carried_or_nothing o id)
     go None z = tt
-    go (Some k) z = z
+    go (Some c) z = z
 
-put : (all : List CarriedBytes) (k : CarriedBytes) → AllByRecursion HasCode all → HasCode k
-    → AllByRecursion HasCode (with_carried all k)
-put [] k a b = (b, tt)
-put (l ∷ all) k a b = go (same_id l.id k.id) (put all k a.1 b)
+put : (all : List CarriedBytes) (c : CarriedBytes) → AllByRecursion HasCode all → HasCode c
+    → AllByRecursion HasCode (with_carried all c)
+put [] c a b = (b, tt)
+put (l ∷ all) c a b = go (same_id l.id c.id) (put all c a.1 b)
   where
-    go : (q : Bool) → AllByRecursion HasCode (with_carried all k)
-        → AllByRecursion HasCode (if q then k ∷ all else l ∷ with_carried all k)
+    go : (q : Bool) → AllByRecursion HasCode (with_carried all c)
+        → AllByRecursion HasCode (if q then c ∷ all else l ∷ with_carried all c)
     go true z = (b, a.1)
     go false z = (a.0, z)
 
@@ -71,33 +71,33 @@ of_item b (Some (abort n)) h = tt
 of_queue : (s : ScenarioValue) (b : Story) (o : Option CarriedBytes) (before : LineSet)
     → AllByRecursion HasByteCode (queue_events s b o before)
 of_queue s b None before = tt
-of_queue s b (Some k) before = go (is_command before && is_whole_block k)
+of_queue s b (Some c) before = go (is_command before && is_whole_block c)
   where
-    one : (q : Bool) → HasByteCode (if q then Event.Accept k.id else Event.Refuse k.id)
+    one : (q : Bool) → HasByteCode (if q then Event.Accept c.id else Event.Refuse c.id)
     one true = tt
     one false = tt
 
-    go : (q : Bool) → AllByRecursion HasByteCode (if q then queue_event s b.history k.id ∷ [] else [])
-    go true = (one (is_some (array_after s (Event.Accept k.id ∷ b.history))), tt)
+    go : (q : Bool) → AllByRecursion HasByteCode (if q then queue_event s b.history c.id ∷ [] else [])
+    go true = (one (is_some (array_after s (Event.Accept c.id ∷ b.history))), tt)
     go false = tt
 
 of_status : (o : Option CarriedBytes) (after : LineSet) (arrived : List Event) → HasCodeIf o
     → AllByRecursion HasByteCode arrived → AllByRecursion HasByteCode (status_events o after arrived)
 of_status None after arrived h a = a
-of_status (Some k) after arrived h a =
-    go (is_status_phase after && not k.shown && not k.refused && not (list_any (λ e. is_refuse e) arrived))
+of_status (Some y) after arrived h a =
+    go (is_status_phase after && not y.shown && not y.refused && not (list_any (λ e. is_refuse e) arrived))
   where
-    one : (x : Option ℕ) → CodeIf x → HasByteCode (status_event k.id x)
+    one : (x : Option ℕ) → CodeIf x → HasByteCode (status_event y.id x)
     one None z = tt
     one (Some c) z = z
 
-    go : (q : Bool) → AllByRecursion HasByteCode (if q then status_event k.id k.failure ∷ arrived else arrived)
-    go true = (one k.failure h, a)
+    go : (q : Bool) → AllByRecursion HasByteCode (if q then status_event y.id y.failure ∷ arrived else arrived)
+    go true = (one y.failure h, a)
     go false = a
 
 of_end : (o : Option CarriedBytes) → AllByRecursion HasByteCode (end_events o)
 of_end None = tt
-of_end (Some k) = (tt, tt)
+of_end (Some c) = (tt, tt)
 
 of_abort : (o : Option AbortDef) → AllByRecursion HasByteCode (abort_line_events o)
 of_abort None = tt
@@ -124,15 +124,15 @@ of_link : (s : ScenarioValue) (b : Story) (o : Option Link) (d : RowReading) →
 of_link s b None d h = tt
 of_link s b (Some l) d h = go (is_some d.next) (changes_phase d.change) (is_completion l d.change)
   where
-    k : Option CarriedBytes
-    k = carried_if b l.item
+    x : Option CarriedBytes
+    x = carried_if b l.item
 
     go : (q r t : Bool) → AllByRecursion HasByteCode
-        (if q then (if r then phase_events s b k d.change else if t then end_events k else [])
+        (if q then (if r then phase_events s b x d.change else if t then end_events x else [])
         else bus_free_events s l l.last)
-    go true true t = of_status k d.change.after (queue_events s b k d.change.before) (of_item b l.item h)
-        (of_queue s b k d.change.before)
-    go true false true = of_end k
+    go true true t = of_status x d.change.after (queue_events s b x d.change.before) (of_item b l.item h)
+        (of_queue s b x d.change.before)
+    go true false true = of_end x
     go true false false = tt
     go false r t = of_free s l l.last
 
@@ -148,18 +148,18 @@ row_codes s b d row h = go d.change.after.rst (rises d.change.own.rst d.change.n
 
 -- ---- what an event does
 
-keeps_ends : (drops stops : CmdDef → Bool) (e : Told.Ending) (n : ℕ) (commands : List CmdDef) (b : Story) → HasCodes b
-    → HasCodes (Told.story_with_ends drops stops e n commands b)
-keeps_ends drops stops e n [] b h = h
-keeps_ends drops stops e n (c ∷ commands) b h =
-    keeps_ends drops stops e (n + 1) commands
-    (if is_open b.sent n && drops c then Told.story_with_end b (record { command = n; sense = false }) e
-    else if stops c && list_any (λ k. k == n) b.sent.checks then Told.story_with_over b (sense_item n)
+keeps_ends : (drops stops : CmdDef → Bool) (e : Told.Ending) (m : ℕ) (commands : List CmdDef) (b : Story) → HasCodes b
+    → HasCodes (Told.story_with_ends drops stops e m commands b)
+keeps_ends drops stops e m [] b h = h
+keeps_ends drops stops e m (c ∷ commands) b h =
+    keeps_ends drops stops e (m + 1) commands
+    (if is_open b.sent m && drops c then Told.story_with_end b (record { command = m; sense = false }) e
+    else if stops c && list_any (λ k. k == m) b.sent.checks then Told.story_with_over b (sense_item m)
     else b)
-    (go (is_open b.sent n && drops c) (stops c && list_any (λ k. k == n) b.sent.checks))
+    (go (is_open b.sent m && drops c) (stops c && list_any (λ k. k == m) b.sent.checks))
   where
-    go : (q r : Bool) → HasCodes (if q then Told.story_with_end b (record { command = n; sense = false }) e
-        else if r then Told.story_with_over b (sense_item n) else b)
+    go : (q r : Bool) → HasCodes (if q then Told.story_with_end b (record { command = m; sense = false }) e
+        else if r then Told.story_with_over b (sense_item m) else b)
     go true r = record { carried = h.carried; undo = h.undo }
     go false true = record { carried = h.carried; undo = h.undo }
     go false false = h
@@ -208,17 +208,17 @@ tries s b dev (Some item) h =
     && Rattle.std.specs.Prelude.nat_lt (Rows.retries_of s.hosts dev) (count_item next.sent.tries item)) item
   where
     over : (c : Story) → HasCodes c → (i : Item) → HasCodes (Rows.story_without_answer c i)
-    over c k (process id) = record { carried = k.carried; undo = k.undo }
-    over c k (abort n) = record { carried = k.carried; undo = k.undo }
+    over c e (process id) = record { carried = e.carried; undo = e.undo }
+    over c e (abort n) = record { carried = e.carried; undo = e.undo }
 
     go : (c : Story) → HasCodes c → (q : Bool) (i : Item) → HasCodes (if q then Rows.story_without_answer c i else c)
-    go c k true i = over c k i
-    go c k false i = k
+    go c e true i = over c e i
+    go c e false i = e
 
 callings : (s : ScenarioValue) (b : Story) (dev : ℕ) (o : Option Calling) → HasCodes b
     → HasCodes (Rows.story_after_calling_by s b dev o)
 callings s b dev None h = h
-callings s b dev (Some k) h = go (is_none k.answered && not k.reselects)
+callings s b dev (Some c) h = go (is_none c.answered && not c.reselects)
   where
     go : (q : Bool) → HasCodes (if q then Rows.story_with_try s b dev (aim_of b.aims dev) else b)
     go true = tries s b dev (aim_of b.aims dev) h
@@ -226,7 +226,7 @@ callings s b dev (Some k) h = go (is_none k.answered && not k.reselects)
 
 calls : (s : ScenarioValue) (b : Story) (o : Option Call) → HasCodes b → HasCodes (Rows.story_after_calling s b o)
 calls s b None h = h
-calls s b (Some k) h = callings s b k.caller k.calling h
+calls s b (Some c) h = callings s b c.caller c.calling h
 
 on_free : (s : ScenarioValue) (b : Story) (d : RowReading) (row : Row) → HasCodes b
     → HasCodes (Rows.story_on_free_bus s b d row)
@@ -267,8 +267,8 @@ connects b n h = go n.reselected
 -- ---- in a connection
 
 carries : (b : Story) (o : Option CarriedBytes) → HasCodes b → HasCodeIf o → HasCodes (Rows.story_with_carried b o)
-carries b None h k = h
-carries b (Some x) h k = record { carried = put b.carried x h.carried k; undo = h.undo }
+carries b None h e = h
+carries b (Some x) h e = record { carried = put b.carried x h.carried e; undo = h.undo }
 
 by_out : (b : Story) (l : Link) (o : Option MsgOut) → HasCodes b → HasCodeIf l.undo
     → HasCodes (Rows.story_after_out b l o)
@@ -281,23 +281,23 @@ by_out b l (Some m) h u = carries (record b { link = Some (record l { last = las
     go true = u
     go false = tt
 
-message : (k : CarriedBytes) (m : MsgIn) → HasCode k → HasCode (carried_after_message k m)
-message k MsgIn.RestorePointers h = tt
-message k _ h = h
+message : (c : CarriedBytes) (m : MsgIn) → HasCode c → HasCode (carried_after_message c m)
+message c MsgIn.RestorePointers h = tt
+message c _ h = h
 
 message_if : (o : Option CarriedBytes) (m : MsgIn) → HasCodeIf o → HasCodeIf (Rows.carried_after_message_if o m)
 message_if None m h = tt
-message_if (Some k) m h = message k m h
+message_if (Some c) m h = message c m h
 
 by_name : (s : ScenarioValue) (b : Story) (l next : Link) (m : MsgIn) → HasCodes b
     → HasCodes (Rows.story_after_name s b l next m)
 by_name s b l next m h =
     let c : Story = if is_none l.item then Rows.story_with_restored b next.item else b in
-    let k : HasCodes c = go (is_none l.item) in
+    let e : HasCodes c = go (is_none l.item) in
     let x : Link = record next { last = last_in m; before = l.last; undo = carried_if b l.item } in
     let u = of_item b l.item h in
     carries (record c { link = Some x }) (Rows.carried_after_message_if (carried_if c x.item) m)
-    (record { carried = k.carried; undo = u }) (message_if (carried_if c x.item) m (of_item c x.item k))
+    (record { carried = e.carried; undo = u }) (message_if (carried_if c x.item) m (of_item c x.item e))
   where
     go : (q : Bool) → HasCodes (if q then Rows.story_with_restored b next.item else b)
     go true = restored b next.item h
@@ -308,15 +308,15 @@ by_in : (s : ScenarioValue) (b : Story) (l : Link) (o : Option MsgIn) → HasCod
 by_in s b l None h = h
 by_in s b l (Some m) h = by_name s b l (link_after_name b.sent s.commands l m) m h
 
-byte : (k : CarriedBytes) (x : LineSet) (n : ℕ) → HasCode k → HasCode (carried_after_byte k x n)
-byte k x n h = go (is_command x) (is_data x) (is_status_phase x)
+byte : (c : CarriedBytes) (x : LineSet) (m : ℕ) → HasCode c → HasCode (carried_after_byte c x m)
+byte c x m h = go (is_command x) (is_data x) (is_status_phase x)
   where
-    go : (q r t : Bool) → HasCode (if q then record k {
-      command = Rattle.due_model.specs.story_model.specs.CarriedBytes.area_with k.command n;
-      block = k.block ++ n ∷ [];
-    } else if r then record k { moved = Rattle.due_model.specs.story_model.specs.CarriedBytes.area_with k.moved n }
-        else if t then record k { status = Rattle.due_model.specs.story_model.specs.CarriedBytes.area_with k.status n }
-        else k)
+    go : (q r t : Bool) → HasCode (if q then record c {
+      command = Rattle.due_model.specs.story_model.specs.CarriedBytes.area_with c.command m;
+      block = c.block ++ m ∷ [];
+    } else if r then record c { moved = Rattle.due_model.specs.story_model.specs.CarriedBytes.area_with c.moved m }
+        else if t then record c { status = Rattle.due_model.specs.story_model.specs.CarriedBytes.area_with c.status m }
+        else c)
     go true r t = h
     go false true t = h
     go false false true = h
@@ -324,13 +324,13 @@ byte k x n h = go (is_command x) (is_data x) (is_status_phase x)
 
 byte_if : (o : Option CarriedBytes) (d : RowReading) → HasCodeIf o → HasCodeIf (Rows.carried_after_byte_if o d)
 byte_if None d h = tt
-byte_if (Some k) d h = byte k d.change.before (d.change.after.data_bits % 256) h
+byte_if (Some c) d h = byte c d.change.before (d.change.after.data_bits % 256) h
 
-fault : (k : CarriedBytes) (x : LineSet) → HasCode k → HasCode (carried_after_fault k x)
-fault k x h = go (is_command x) (is_data x) x.io
+fault : (c : CarriedBytes) (x : LineSet) → HasCode c → HasCode (carried_after_fault c x)
+fault c x h = go (is_command x) (is_data x) x.io
   where
-    go : (q r t : Bool) → HasCode (if q then record k { struck = true; failure = Some PARITY_ERROR }
-        else if r then record k { failure = Some (if t then INITIATOR_DETECTED_ERROR else PARITY_ERROR) } else k)
+    go : (q r t : Bool) → HasCode (if q then record c { struck = true; failure = Some PARITY_ERROR }
+        else if r then record c { failure = Some (if t then INITIATOR_DETECTED_ERROR else PARITY_ERROR) } else c)
     go true r t = omega arith
     go false true true = omega arith
     go false true false = omega arith
@@ -338,8 +338,8 @@ fault k x h = go (is_command x) (is_data x) x.io
 
 fault_if : (o : Option CarriedBytes) (c : Option Change) → HasCodeIf o → HasCodeIf (Rows.carried_after_fault_if o c)
 fault_if None c h = tt
-fault_if (Some k) None h = h
-fault_if (Some k) (Some c) h = fault k c.before h
+fault_if (Some x) None h = h
+fault_if (Some x) (Some c) h = fault x c.before h
 
 by_fault : (b : Story) (l : Link) (kind : Kind) → HasCodes b → HasCodes (Rows.story_after_fault b l kind)
 by_fault b l (Drives lines) h = h

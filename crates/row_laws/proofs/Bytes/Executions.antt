@@ -16,14 +16,14 @@ IsByteBlock entry = AreBytes entry.1
 abbrev pub HoldsBytes : Contents → Type 0
 HoldsBytes c = AllByRecursion IsByteBlock c.touched
 
-small_drop : (n : ℕ) (xs : List ℕ) → AreBytes xs → AreBytes (drop n xs)
+small_drop : (m : ℕ) (xs : List ℕ) → AreBytes xs → AreBytes (drop m xs)
 small_drop zero xs a = a
-small_drop (suc n) [] a = tt
-small_drop (suc n) (x ∷ xs) a = small_drop n xs a.1
+small_drop (suc m) [] a = tt
+small_drop (suc m) (x ∷ xs) a = small_drop m xs a.1
 
-zeros : (n : ℕ) → AreBytes (replicate n 0)
+zeros : (m : ℕ) → AreBytes (replicate m 0)
 zeros zero = tt
-zeros (suc n) = (omega arith, zeros n)
+zeros (suc m) = (omega arith, zeros m)
 
 touched_small : (touched : List (ℕ × List ℕ)) (lba : ℕ) (otherwise : List ℕ) → AllByRecursion IsByteBlock touched
     → AreBytes otherwise → AreBytes (touched_block touched lba otherwise)
@@ -32,13 +32,13 @@ touched_small (entry ∷ touched) lba otherwise a b = go (entry.0 == lba) (touch
   where
     go : (q : Bool) → AreBytes (touched_block touched lba otherwise)
         → AreBytes (if q then entry.1 else touched_block touched lba otherwise)
-    go true k = a.0
-    go false k = k
+    go true e = a.0
+    go false e = e
 
-bytes_small : (c : Contents) (lba n : ℕ) → HoldsBytes c → AreBytes (bytes_at c lba n)
+bytes_small : (c : Contents) (lba m : ℕ) → HoldsBytes c → AreBytes (bytes_at c lba m)
 bytes_small c lba zero h = tt
-bytes_small c lba (suc n) h = small_append (block_at c lba) (bytes_at c (lba + 1) n)
-    (touched_small c.touched lba (zero_block c.size) h (zeros c.size)) (bytes_small c (lba + 1) n h)
+bytes_small c lba (suc m) h = small_append (block_at c lba) (bytes_at c (lba + 1) m)
+    (touched_small c.touched lba (zero_block c.size) h (zeros c.size)) (bytes_small c (lba + 1) m h)
 
 with_small : (touched : List (ℕ × List ℕ)) (lba : ℕ) (block : List ℕ) → AllByRecursion IsByteBlock touched
     → AreBytes block → AllByRecursion IsByteBlock (touched_with touched lba block)
@@ -49,18 +49,18 @@ with_small (entry ∷ touched) lba block a b =
     go : (q r : Bool) → AllByRecursion IsByteBlock (touched_with touched lba block)
         → AllByRecursion IsByteBlock (if q then (lba, block) ∷ touched
         else if r then (lba, block) ∷ (entry ∷ touched) else entry ∷ touched_with touched lba block)
-    go true r k = (b, a.1)
-    go false true k = (b, a)
-    go false false k = (a.0, k)
+    go true r e = (b, a.1)
+    go false true e = (b, a)
+    go false false e = (a.0, e)
 
 pub block_small : (c : Contents) (lba : ℕ) (block : List ℕ) → HoldsBytes c → AreBytes block
     → HoldsBytes (with_block c lba block)
 block_small c lba block h b = with_small c.touched lba block h b
 
-written_small : (c : Contents) (lba n : ℕ) (bytes : List ℕ) → HoldsBytes c → AreBytes bytes
-    → HoldsBytes (with_bytes c lba n bytes)
+written_small : (c : Contents) (lba m : ℕ) (bytes : List ℕ) → HoldsBytes c → AreBytes bytes
+    → HoldsBytes (with_bytes c lba m bytes)
 written_small c lba zero bytes h b = h
-written_small c lba (suc n) bytes h b = written_small (with_block c lba (take c.size bytes)) (lba + 1) n
+written_small c lba (suc m) bytes h b = written_small (with_block c lba (take c.size bytes)) (lba + 1) m
     (drop c.size bytes) (block_small c lba (take c.size bytes) h (small_take c.size bytes b))
     (small_drop c.size bytes b)
 
@@ -125,10 +125,10 @@ pub record GivesBytes (e : Execution) : Type 0 where
 replies : (m : CommandContext) (r : Reply) → HasByteContext m → HasByteReply r → GivesBytes (reply_execution m r)
 replies m r h a = record { contents = h.contents; reply = a }
 
-writes : (m : CommandContext) (lba n : ℕ) (sent : List ℕ) → HasByteContext m → AreBytes sent
-    → GivesBytes (write_execution m lba n sent)
-writes m lba n sent h a =
-    record { contents = written_small m.contents lba n sent h.contents a; reply = good_small [] tt }
+writes : (m : CommandContext) (lba i : ℕ) (sent : List ℕ) → HasByteContext m → AreBytes sent
+    → GivesBytes (write_execution m lba i sent)
+writes m lba i sent h a =
+    record { contents = written_small m.contents lba i sent h.contents a; reply = good_small [] tt }
 
 returned : (q : Bool) (o : Option Sense) → ((x : Sense) → o ≡ Some x → IsByteSense x) → IsByteSense (returned_sense q o)
 returned q (Some x) f = f x refl

@@ -42,9 +42,9 @@ one_said m a = record { first = a; second = tt }
 pub all_small : (m : Messages) → HasByteMessages m → AreBytes (bytes_of_messages m)
 all_small m h = small_append (message_bytes m.first) (message_bytes m.second) h.first h.second
 
-pub record HasBytePlan (p : Plan) : Type 0 where
-  pub messages : HasByteMessages p.messages
-  pub offer : (a : Agreement) → p.said.offer ≡ Some a → IsSmallAgreement a
+pub record HasBytePlan (l : Plan) : Type 0 where
+  pub messages : HasByteMessages l.messages
+  pub offer : (a : Agreement) → l.said.offer ≡ Some a → IsSmallAgreement a
 
 -- ---- how a phase is left
 
@@ -88,41 +88,41 @@ said_small_if : (m : Option MsgOut) (x : Said) → ((y : MsgOut) → m ≡ Some 
 said_small_if None x g f = f
 said_small_if (Some m) x g f = said_small m x (g m refl) f
 
-plan_on : (w : Hearing) (l : Leaving) (p : Plan) → ((m : MsgOut) → w.out ≡ Some m → AreBytes (out_bytes m))
-    → SaysBytes l → HasBytePlan p → HasBytePlan (plan_after w l p)
-plan_on w l p g a h = go (changes_phase w.change) w.crosses (w.fault && not w.change.before.io)
+plan_on : (w : Hearing) (l : Leaving) (f : Plan) → ((m : MsgOut) → w.out ≡ Some m → AreBytes (out_bytes m))
+    → SaysBytes l → HasBytePlan f → HasBytePlan (plan_after w l f)
+plan_on w l f g a h = go (changes_phase w.change) w.crosses (w.fault && not w.change.before.io)
   where
     none : (a : Agreement) → (let o : Option Agreement = None in o) ≡ Some a → IsSmallAgreement a
     none a e = absurd (none_some a e)
 
     rest : (q r : Bool) → HasByteMessages
-        (if q then (if r then p.messages else record { first = p.messages.second; second = None }) else p.messages)
+        (if q then (if r then f.messages else record { first = f.messages.second; second = None }) else f.messages)
     rest true true = h.messages
     rest true false = record { first = h.messages.second; second = tt }
     rest false r = h.messages
 
-    phase : (q r : Bool) → HasBytePlan (if q then record (plan_anew p) { messages = l.messages; next = l.next }
-        else if r then plan_in_message_out w p else plan_anew p)
+    phase : (q r : Bool) → HasBytePlan (if q then record (plan_anew f) { messages = l.messages; next = l.next }
+        else if r then plan_in_message_out w f else plan_anew f)
     phase true r = record { messages = a; offer = none }
     phase false true = record {
       messages =
-          rest (is_message_in w.change.before) (nat_lt (w.offered - 1) (length (message_bytes p.messages.first)));
+          rest (is_message_in w.change.before) (nat_lt (w.offered - 1) (length (message_bytes f.messages.first)));
       offer = none;
     }
     phase false false = record { messages = h.messages; offer = none }
 
-    anew : (q : Bool) → HasBytePlan (if q then plan_anew p else p)
+    anew : (q : Bool) → HasBytePlan (if q then plan_anew f else f)
     anew true = record { messages = h.messages; offer = none }
     anew false = h
 
-    byte : (q : Bool) → HasBytePlan (if q then plan_after_message p w.is_last w.out else p)
+    byte : (q : Bool) → HasBytePlan (if q then plan_after_message f w.is_last w.out else f)
     byte true =
         let b = anew w.is_last in
-        record { messages = b.messages; offer = said_small_if w.out (plan_anew_if w.is_last p).said g b.offer }
+        record { messages = b.messages; offer = said_small_if w.out (plan_anew_if w.is_last f).said g b.offer }
     byte false = h
 
     go : (q r t : Bool) → HasBytePlan
-        (if q then plan_in_phase w l p else if r then plan_with_byte w p else if t then struck_plan p else p)
+        (if q then plan_in_phase w l f else if r then plan_with_byte w f else if t then struck_plan f else f)
     go true r t = phase (not (is_message_out w.change.after)) w.begun
     go false true t = byte (is_message_out w.change.before)
     go false false true = record { messages = h.messages; offer = h.offer }
@@ -133,22 +133,22 @@ plan_on w l p g a h = go (changes_phase w.change) w.crosses (w.fault && not w.ch
 abbrev SmallIf : Option Ready → Type 0
 SmallIf x = (r : Ready) → x ≡ Some r → IsSmallProcess r.process
 
-ready_small_in : (s : ScenarioValue) (q : Bool) (t n : ℕ) (c : Option RunningProcess) (time : ℕ) → HasSmallLines s
-    → IsOwnRunning s t n c → SmallIf (ready_in q c time)
-ready_small_in s q t n None time l own r e = absurd (none_some r e)
-ready_small_in s true t n (Some c) time l own r e = absurd (none_some r e)
-ready_small_in s false t n (Some c) time l own r e = subst IsSmallProcess
+ready_small_in : (s : ScenarioValue) (q : Bool) (t m : ℕ) (c : Option RunningProcess) (time : ℕ) → HasSmallLines s
+    → IsOwnRunning s t m c → SmallIf (ready_in q c time)
+ready_small_in s q t m None time l own r e = absurd (none_some r e)
+ready_small_in s true t m (Some c) time l own r e = absurd (none_some r e)
+ready_small_in s false t m (Some c) time l own r e = subst IsSmallProcess
     (ap (λ (x : Ready). x.process) (same_Some (record { time = time; process = c.process }) r e))
     (process_small s c.process.id c.process l own.is)
 
-current_small : (s : ScenarioValue) (units : List UnitState) (t n time : ℕ) (q : Bool) → HasSmallLines s
-    → AllOwnUnits s units → SmallIf (ready_in q (current_of (unit_state_at units t n)) time)
-current_small s [] t n time q l own = λ r e. absurd (none_some r e)
-current_small s (u ∷ units) t n time q l own =
-    go (u.target == t && u.unit == n) (current_small s units t n time q l own.1)
+current_small : (s : ScenarioValue) (units : List UnitState) (t m time : ℕ) (q : Bool) → HasSmallLines s
+    → AllOwnUnits s units → SmallIf (ready_in q (current_of (unit_state_at units t m)) time)
+current_small s [] t m time q l own = λ r e. absurd (none_some r e)
+current_small s (u ∷ units) t m time q l own =
+    go (u.target == t && u.unit == m) (current_small s units t m time q l own.1)
   where
-    go : (x : Bool) → SmallIf (ready_in q (current_of (unit_state_at units t n)) time)
-        → SmallIf (ready_in q (current_of (if x then Some u else unit_state_at units t n)) time)
+    go : (x : Bool) → SmallIf (ready_in q (current_of (unit_state_at units t m)) time)
+        → SmallIf (ready_in q (current_of (if x then Some u else unit_state_at units t m)) time)
     go true more = ready_small_in s q u.target u.unit u.current time l (own.0).current
     go false more = more
 
@@ -162,9 +162,9 @@ ready_small : (s : ScenarioValue) (k : RunState) (target : ℕ) → HasSmallLine
     → SmallIf (ready_of s k target)
 ready_small s k target l own =
     let a = array_of s k in
-    let at : (n : ℕ) → SmallIf (ready_at a k.current_since (seek_of s.targets target) target n) = λ n. current_small
-    s a.units target n (since_of a.units k.current_since target n + seek_of s.targets target)
-    (is_held a.holds target n) l own in
+    let at : (m : ℕ) → SmallIf (ready_at a k.current_since (seek_of s.targets target) target m) = λ m. current_small
+    s a.units target m (since_of a.units k.current_since target m + seek_of s.targets target)
+    (is_held a.holds target m) l own in
     first_small _ _ (at 0)
     (first_small _ _ (at 1) (first_small _ _ (at 2) (first_small _ _ (at 3) (first_small _ _ (at 4)
     (first_small _ _ (at 5) (first_small _ _ (at 6) (first_small _ None (at 7) (λ r e. absurd (none_some r e)))))))))
@@ -268,8 +268,8 @@ keeps_event s event (Some a) f seats c h =
     go (Steps.step s event a) refl (step_bytes s a event f (h.0).units (h.0).guests c h.1)
   where
     go : (o : Option Array) → Steps.step s event a ≡ o → HasBytesIf o → KeepsIf s o
-    go None e k = tt
-    go (Some b) e k = (step_sound s a b event seats h.0 e, k)
+    go None e g = tt
+    go (Some b) e g = (step_sound s a b event seats h.0 e, g)
 
 keeps_events : (s : ScenarioValue) (shown : List Event) (o : Option Array) → SendsBytes s → HasSeats s
     → AllByRecursion HasByteCode shown → KeepsIf s o → KeepsIf s (array_after_events s o shown)
@@ -306,9 +306,9 @@ array_small s (Some a) b h = h.1
 
 -- ---- what the target gives
 
-reply_small : (a : Array) (p : Process) → HasBytes a → AreBytes p.sent → HasByteReply (reply_now a p)
-reply_small a p h b = (gives_bytes (Steps.context_at a (nexus_of p) (unit_state_at a.units p.target p.unit)) p.cdb
-    p.sent (context_small a (nexus_of p) p.target p.unit h) b).reply
+reply_small : (a : Array) (c : Process) → HasBytes a → AreBytes c.sent → HasByteReply (reply_now a c)
+reply_small a c h b = (gives_bytes (Steps.context_at a (nexus_of c) (unit_state_at a.units c.target c.unit)) c.cdb
+    c.sent (context_small a (nexus_of c) c.target c.unit h) b).reply
 
 abbrev StatusIf : Option Reply → Type 0
 StatusIf None = Unit {0}
@@ -320,29 +320,29 @@ listed_small [] id a = tt
 listed_small (e ∷ replies) id a = go (same_id e.0 id) (listed_small replies id a.1)
   where
     go : (q : Bool) → StatusIf (Play.reply_in replies id) → StatusIf (if q then Some e.1 else Play.reply_in replies id)
-    go true k = a.0
-    go false k = k
+    go true h = a.0
+    go false h = h
 
 status_small : (r : Reply) (o : Option Reply) → r.status < 256 → StatusIf o → status_by r o < 256
 status_small r None a b = a
 status_small r (Some x) a b = b
 
-sent_small : (s : ScenarioValue) (i : Option Item) (p : Process) → SendsBytes s → process_item s i ≡ Some p
-    → AreBytes p.sent
-sent_small s None p f e = cc
-sent_small s (Some (process id)) p f e = f id p e
-sent_small s (Some (abort n)) p f e = cc
+sent_small : (s : ScenarioValue) (i : Option Item) (c : Process) → SendsBytes s → process_item s i ≡ Some c
+    → AreBytes c.sent
+sent_small s None c f e = cc
+sent_small s (Some (process id)) c f e = f id c e
+sent_small s (Some (abort n)) c f e = cc
 
 task_small : (s : ScenarioValue) (k : RunState) (o : Option Process) → HasBytes (array_of s k)
-    → ((p : Process) → o ≡ Some p → AreBytes p.sent) → status_byte (task_if s k o) < 256
+    → ((c : Process) → o ≡ Some c → AreBytes c.sent) → status_byte (task_if s k o) < 256
 task_small s k None h f = omega arith
-task_small s k (Some p) h f = status_small (reply_now (array_of s k) p) (Play.reply_in (array_of s k).replies p.id)
-    (reply_small (array_of s k) p h (f p refl)).status (listed_small (array_of s k).replies p.id h.replies)
+task_small s k (Some c) h f = status_small (reply_now (array_of s k) c) (Play.reply_in (array_of s k).replies c.id)
+    (reply_small (array_of s k) c h (f c refl)).status (listed_small (array_of s k).replies c.id h.replies)
 
 given_small : (s : ScenarioValue) (k : RunState) (o : Option Process) → HasBytes (array_of s k)
-    → ((p : Process) → o ≡ Some p → AreBytes p.sent) → AreBytes (given_if s k o)
+    → ((c : Process) → o ≡ Some c → AreBytes c.sent) → AreBytes (given_if s k o)
 given_small s k None h f = tt
-given_small s k (Some p) h f = (reply_small (array_of s k) p h (f p refl)).bytes
+given_small s k (Some c) h f = (reply_small (array_of s k) c h (f c refl)).bytes
 
 data_small : (policy : Policy) (o : Option Task) (given : List ℕ) (more place : ℕ) → AreBytes given
     → data_byte policy o given more place < 256

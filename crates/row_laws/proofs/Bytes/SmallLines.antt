@@ -38,18 +38,18 @@ HasSmallLines s = IsOfAll IsSmallHost IsSmallTarget IsSmallCommand IsSmallAbort 
 
 -- ---- numbers
 
-below : (u : Number) (least most n : ℕ) → within u least most ≡ Ok n → most < 256 → n < 256
-below u least most n e lt = let w = (within_ok u least most n e).2 in omega arith
+below : (u : Number) (least most m : ℕ) → within u least most ≡ Ok m → most < 256 → m < 256
+below u least most m e lt = let w = (within_ok u least most m e).2 in omega arith
 
-in_eight : (u : Number) (n : ℕ) → in_8 u ≡ Ok n → n < 8
-in_eight u n e = let w = (within_ok u 0 7 n e).2 in omega arith
+in_eight : (u : Number) (m : ℕ) → in_8 u ≡ Ok m → m < 8
+in_eight u m e = let w = (within_ok u 0 7 m e).2 in omega arith
 
-period_below : (u : Number) (n : ℕ) → period_in u ≡ Ok n → n < 256
+period_below : (u : Number) (i : ℕ) → period_in u ≡ Ok i → i < 256
 unfolding period_in
-period_below u n e =
-    let a = bind_ok (within u 0 FACTOR_LIMIT) _ n e in
-    let g = bind_ok (guard 4 (a.0 == 0 || nat_le LEAST_FACTOR a.0)) _ n a.2 in
-    subst (λ (m : ℕ). m < 256) (ok_is a.0 n g.2) (below u 0 255 a.0 a.1 (omega arith))
+period_below u i e =
+    let a = bind_ok (within u 0 FACTOR_LIMIT) _ i e in
+    let g = bind_ok (guard 4 (a.0 == 0 || nat_le LEAST_FACTOR a.0)) _ i a.2 in
+    subst (λ (m : ℕ). m < 256) (ok_is a.0 i g.2) (below u 0 255 a.0 a.1 (omega arith))
 
 tag_below : (t : Tag) → tag_in (said_tag t) ≡ Ok t → IsSmallTag t
 unfolding tag_in

@@ -21,23 +21,23 @@ pub small_append : (xs ys : List ℕ) → AreBytes xs → AreBytes ys → AreByt
 small_append [] ys a b = b
 small_append (x ∷ xs) ys a b = (a.0, small_append xs ys a.1 b)
 
-pub small_take : (n : ℕ) (xs : List ℕ) → AreBytes xs → AreBytes (take n xs)
+pub small_take : (m : ℕ) (xs : List ℕ) → AreBytes xs → AreBytes (take m xs)
 small_take zero xs a = tt
-small_take (suc n) [] a = tt
-small_take (suc n) (x ∷ xs) a = (a.0, small_take n xs a.1)
+small_take (suc m) [] a = tt
+small_take (suc m) (x ∷ xs) a = (a.0, small_take m xs a.1)
 
-byte_more : (xs : List ℕ) (n : ℕ) → AreBytes xs → AreBytes (xs ++ n % 256 ∷ [])
-byte_more xs n a = small_append xs (n % 256 ∷ []) a (omega arith, tt)
+byte_more : (xs : List ℕ) (m : ℕ) → AreBytes xs → AreBytes (xs ++ m % 256 ∷ [])
+byte_more xs m a = small_append xs (m % 256 ∷ []) a (omega arith, tt)
 
 -- ---- what is heard
 
-begins_out : (bytes : List ℕ) (m : MsgOut) (n : ℕ) → got_out bytes ≡ Whole m n → Begins msg_out_of bytes m n
+begins_out : (bytes : List ℕ) (m : MsgOut) (i : ℕ) → got_out bytes ≡ Whole m i → Begins msg_out_of bytes m i
 unfolding form_out
-begins_out bytes m n e = (whole form_out 0x06 MsgOut.Abort (omega arith) refl bytes m n).0 e
+begins_out bytes m i e = (whole form_out 0x06 MsgOut.Abort (omega arith) refl bytes m i).0 e
 
-begins_in : (bytes : List ℕ) (m : MsgIn) (n : ℕ) → got_in bytes ≡ Whole m n → Begins msg_in_of bytes m n
+begins_in : (bytes : List ℕ) (m : MsgIn) (i : ℕ) → got_in bytes ≡ Whole m i → Begins msg_in_of bytes m i
 unfolding form_in
-begins_in bytes m n e = (whole form_in 0x02 MsgIn.SavePointer (omega arith) refl bytes m n).0 e
+begins_in bytes m i e = (whole form_in 0x02 MsgIn.SavePointer (omega arith) refl bytes m i).0 e
 
 out_small : (bytes : List ℕ) (g : Got MsgOut) (m : MsgOut) → AreBytes bytes → got_out bytes ≡ g → whole_out g ≡ Some m
     → AreBytes (out_bytes m)
@@ -144,14 +144,14 @@ min_small a b y = grind arith
 
 answer_small : (period offset : ℕ) (a : Agreement) → period < 256 → IsSmallAgreement a
     → IsSmallAgreement (agreement_answer period offset a)
-answer_small period offset a p h = go (period == 0)
+answer_small period offset a e h = go (period == 0)
   where
     go : (q : Bool) → IsSmallAgreement (if q then record { period = a.period; offset = 0 } else record {
       period = max period a.period;
       offset = min offset a.offset;
     })
     go true = (h.0, omega arith)
-    go false = (max_small period a.period p h.0, min_small offset a.offset h.1)
+    go false = (max_small period a.period e h.0, min_small offset a.offset h.1)
 
 host_answer_small : (o : Option HostDef) (a : Agreement)
     → ((h : HostDef) → o ≡ Some h → IsSmallHost h) → IsSmallAgreement a → IsSmallAgreement (host_answer o a)
@@ -176,21 +176,21 @@ target_small s dev t l e = found_holds IsSmallTarget (λ (x : TargetDef). x.dev 
 -- ---- a process
 
 abbrev pub IsSmallProcess : Process → Type 0
-IsSmallProcess p = (p.unit < 8) × IsSmallTag p.tag
+IsSmallProcess c = (c.unit < 8) × IsSmallTag c.tag
 
-small_at : (commands : List CmdDef) (n : ℕ) (c : CmdDef) → AllByRecursion IsSmallCommand commands
-    → command_at commands n ≡ Some c → IsSmallCommand c
-small_at [] n c a e = cc
+small_at : (commands : List CmdDef) (m : ℕ) (c : CmdDef) → AllByRecursion IsSmallCommand commands
+    → command_at commands m ≡ Some c → IsSmallCommand c
+small_at [] m c a e = cc
 small_at (d ∷ commands) zero c a e = cc
 small_at (d ∷ commands) (suc zero) c a e = subst IsSmallCommand (some_command d c e) a.0
   where
     some_command : (x y : CmdDef) → (let o : Option CmdDef = Some x in o) ≡ Some y → x ≡ y
     some_command x y z = cc
-small_at (d ∷ commands) (suc (suc n)) c a e = small_at commands (suc n) c a.1 e
+small_at (d ∷ commands) (suc (suc m)) c a e = small_at commands (suc m) c a.1 e
 
-pub process_small : (s : ScenarioValue) (id : ProcId) (p : Process) → HasSmallLines s → process_of s id ≡ Some p
-    → IsSmallProcess p
-process_small s id p l e = go (command_at s.commands id.command) refl e
+pub process_small : (s : ScenarioValue) (id : ProcId) (t : Process) → HasSmallLines s → process_of s id ≡ Some t
+    → IsSmallProcess t
+process_small s id t l e = go (command_at s.commands id.command) refl e
   where
     own : (c : CmdDef) (q : Bool) → IsSmallCommand c
         → IsSmallProcess (process_by s (record { command = id.command; sense = q }) c)
@@ -200,16 +200,16 @@ process_small s id p l e = go (command_at s.commands id.command) refl e
     some_process : (x y : Process) → (let o : Option Process = Some x in o) ≡ Some y → x ≡ y
     some_process x y z = cc
 
-    go : (c : Option CmdDef) → command_at s.commands id.command ≡ c → process_if s id c ≡ Some p → IsSmallProcess p
+    go : (c : Option CmdDef) → command_at s.commands id.command ≡ c → process_if s id c ≡ Some t → IsSmallProcess t
     go None f g = cc
-    go (Some c) f g = subst IsSmallProcess (some_process (process_by s id c) p g)
+    go (Some c) f g = subst IsSmallProcess (some_process (process_by s id c) t g)
         (own c id.sense (small_at s.commands id.command c l.commands f))
 
 -- ---- the initiator
 
-pub record HasByteWords (p : Speech) : Type 0 where
-  pub words : AreBytes p.words
-  pub asked : IsSmallAgreement p.asked
+pub record HasByteWords (h : Speech) : Type 0 where
+  pub words : AreBytes h.words
+  pub asked : IsSmallAgreement h.asked
 
 tag_small : (t : Tag) → IsSmallTag t → AreBytes (tag_bytes t)
 tag_small Tag.Untagged h = tt
@@ -224,29 +224,29 @@ offer_small true (Some h) f = go (h.offers && nat_lt 0 h.period)
     go true = offer_bytes (record { period = h.period; offset = h.offset }) (f h refl)
     go false = tt
 
-name_small : (q : Bool) (n : ℕ) → n < 8 → AreBytes ((if q then 0xc0 + n else 0x80 + n) ∷ [])
-name_small true n h = (omega arith, tt)
-name_small false n h = (omega arith, tt)
+name_small : (q : Bool) (m : ℕ) → m < 8 → AreBytes ((if q then 0xc0 + m else 0x80 + m) ∷ [])
+name_small true m h = (omega arith, tt)
+name_small false m h = (omega arith, tt)
 
 process_words : (o : Option HostDef) (q : Bool) (x : Option Process) → ((h : HostDef) → o ≡ Some h → IsSmallHost h)
-    → ((p : Process) → x ≡ Some p → IsSmallProcess p) → AreBytes (process_opening o q x)
+    → ((c : Process) → x ≡ Some c → IsSmallProcess c) → AreBytes (process_opening o q x)
 process_words o q None f g = tt
-process_words o q (Some p) f g =
-    let w = g p refl in
-    small_append ((if not p.id.sense then 0xc0 + p.unit else 0x80 + p.unit) ∷ [])
-    (tag_bytes p.tag ++ offer_if q o) (name_small (not p.id.sense) p.unit w.0)
-    (small_append (tag_bytes p.tag) (offer_if q o) (tag_small p.tag w.1) (offer_small q o f))
+process_words o q (Some c) f g =
+    let w = g c refl in
+    small_append ((if not c.id.sense then 0xc0 + c.unit else 0x80 + c.unit) ∷ [])
+    (tag_bytes c.tag ++ offer_if q o) (name_small (not c.id.sense) c.unit w.0)
+    (small_append (tag_bytes c.tag) (offer_if q o) (tag_small c.tag w.1) (offer_small q o f))
 
 kind_small : (w : AbortKind) → IsSmallKind w → AreBytes (abort_bytes w)
 kind_small (AbortKind.Tag n) h = (omega arith, (h, (omega arith, tt)))
 kind_small _ h = (omega arith, tt)
 
-abort_words : (aborts : List AbortDef) (n : ℕ) → AllByRecursion IsSmallAbort aborts
-    → AreBytes (abort_opening (abort_line_at aborts n))
-abort_words [] n a = tt
+abort_words : (aborts : List AbortDef) (m : ℕ) → AllByRecursion IsSmallAbort aborts
+    → AreBytes (abort_opening (abort_line_at aborts m))
+abort_words [] m a = tt
 abort_words (x ∷ aborts) zero a = tt
 abort_words (x ∷ aborts) (suc zero) a = ((name_small false x.unit (a.0).0).0, kind_small x.what (a.0).1)
-abort_words (x ∷ aborts) (suc (suc n)) a = abort_words aborts (suc n) a.1
+abort_words (x ∷ aborts) (suc (suc m)) a = abort_words aborts (suc m) a.1
 
 pub opening_small : (s : ScenarioValue) (dev : ℕ) (q : Bool) (item : Option Item) → HasSmallLines s
     → AreBytes (opening s dev q item)
@@ -267,28 +267,28 @@ request_small a (Some (MsgIn.SimpleTag n)) h f = h
 request_small a (Some (MsgIn.Sdtr x)) h f = let w = f (MsgIn.Sdtr x) refl in (w.1.1.1.0, w.1.1.1.1.0)
 request_small a (Some MsgIn.Reject) h f = h
 
-pub words_on : (o : Option HostDef) (w : Hearing) (p : Speech) → ((h : HostDef) → o ≡ Some h → IsSmallHost h)
-    → ((x : MsgIn) → w.into ≡ Some x → AreBytes (in_bytes x)) → HasByteWords p → HasByteWords (speech_after o w p)
-words_on o w p f g h = go (changes_phase w.change) w.crosses
+pub words_on : (o : Option HostDef) (w : Hearing) (y : Speech) → ((h : HostDef) → o ≡ Some h → IsSmallHost h)
+    → ((x : MsgIn) → w.into ≡ Some x → AreBytes (in_bytes x)) → HasByteWords y → HasByteWords (speech_after o w y)
+words_on o w y f g h = go (changes_phase w.change) w.crosses
   where
-    said : (q r : Bool) → AreBytes (if q then 0x05 ∷ [] else if r then 0x09 ∷ [] else answer_bytes o p.asked)
+    said : (q r : Bool) → AreBytes (if q then 0x05 ∷ [] else if r then 0x09 ∷ [] else answer_bytes o y.asked)
     said true r = (omega arith, tt)
     said false true = (omega arith, tt)
-    said false false = offer_bytes (host_answer o p.asked) (host_answer_small o p.asked f h.asked)
+    said false false = offer_bytes (host_answer o y.asked) (host_answer_small o y.asked f h.asked)
 
     phase : (q : Bool)
-        → HasByteWords (if q then record p { words = words_after o w p.asked; place = 0 } else record p { place = 0 })
+        → HasByteWords (if q then record y { words = words_after o w y.asked; place = 0 } else record y { place = 0 })
     phase true = record { words = said (not (is_message_in w.change.before)) w.struck; asked = h.asked }
     phase false = record { words = h.words; asked = h.asked }
 
     byte :
-        (q : Bool) → HasByteWords (if q then speech_after_byte p else record p { asked = request_after p.asked w.into })
+        (q : Bool) → HasByteWords (if q then speech_after_byte y else record y { asked = request_after y.asked w.into })
     byte true = record { words = h.words; asked = h.asked }
-    byte false = record { words = h.words; asked = request_small p.asked w.into h.asked g }
+    byte false = record { words = h.words; asked = request_small y.asked w.into h.asked g }
 
     go : (q r : Bool)
-        → HasByteWords (if q then Rattle.due_model.specs.dialogue_model.specs.Speaking.speech_in_phase o w p
-        else if r then Rattle.due_model.specs.dialogue_model.specs.Speaking.speech_with_byte w p else p)
+        → HasByteWords (if q then Rattle.due_model.specs.dialogue_model.specs.Speaking.speech_in_phase o w y
+        else if r then Rattle.due_model.specs.dialogue_model.specs.Speaking.speech_with_byte w y else y)
     go true r = phase (is_message_out w.change.after && w.begun)
     go false true = byte (is_message_out w.change.before)
     go false false = h

@@ -5,20 +5,20 @@ use proofs.Names.{◌≡◌, Bool, true, false, not, refl, if◌then◌else◌, 
 use proofs.Names.{plan_in_phase, Hearing, Leaving, Plan}
 
 -- Whether MESSAGE OUT begins, and whether a byte has crossed before.
-pub plan_by : {out begun : Bool} (w : Hearing) (l : Leaving) (p : Plan) → is_message_out w.change.after ≡ out
-    → w.begun ≡ begun → plan_in_phase w l p
-    ≡ (if not out then record (plan_anew p) { messages = l.messages; next = l.next }
-    else if begun then plan_in_message_out w p else plan_anew p)
-plan_by w l p out begun =
-    λ i. if not (out i) then record (plan_anew p) { messages = l.messages; next = l.next }
-    else if begun i then plan_in_message_out w p else plan_anew p
+pub plan_by : {out begun : Bool} (w : Hearing) (l : Leaving) (a : Plan) → is_message_out w.change.after ≡ out
+    → w.begun ≡ begun → plan_in_phase w l a
+    ≡ (if not out then record (plan_anew a) { messages = l.messages; next = l.next }
+    else if begun then plan_in_message_out w a else plan_anew a)
+plan_by w l a out begun =
+    λ i. if not (out i) then record (plan_anew a) { messages = l.messages; next = l.next }
+    else if begun i then plan_in_message_out w a else plan_anew a
 
 -- MESSAGE OUT begins.
-pub plan_out : {begun : Bool} (w : Hearing) (l : Leaving) (p : Plan) → is_message_out w.change.after ≡ true
-    → w.begun ≡ begun → plan_in_phase w l p ≡ (if begun then plan_in_message_out w p else plan_anew p)
-plan_out w l p out begun = plan_by w l p out begun
+pub plan_out : {begun : Bool} (w : Hearing) (l : Leaving) (a : Plan) → is_message_out w.change.after ≡ true
+    → w.begun ≡ begun → plan_in_phase w l a ≡ (if begun then plan_in_message_out w a else plan_anew a)
+plan_out w l a out begun = plan_by w l a out begun
 
 -- Another phase begins: what the last one was left with is planned.
-pub plan_left : (w : Hearing) (l : Leaving) (p : Plan) → is_message_out w.change.after ≡ false
-    → plan_in_phase w l p ≡ record (plan_anew p) { messages = l.messages; next = l.next }
-plan_left w l p other = plan_by w l p other refl
+pub plan_left : (w : Hearing) (l : Leaving) (a : Plan) → is_message_out w.change.after ≡ false
+    → plan_in_phase w l a ≡ record (plan_anew a) { messages = l.messages; next = l.next }
+plan_left w l a other = plan_by w l a other refl

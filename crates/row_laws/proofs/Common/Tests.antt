@@ -52,14 +52,14 @@ all_four a b c d ea eb ec ed = λ i. ea i && eb i && ec i && not (ed i)
 pub plus_one : (a b : ℕ) → a + suc b ≡ a + 1 + b
 plus_one a b = omega arith
 
-pub zero_below : (n : ℕ) → n < 1 → n ≡ 0
-zero_below n e = omega arith
+pub zero_below : (m : ℕ) → m < 1 → m ≡ 0
+zero_below m e = omega arith
 
-pub some_count : (n : ℕ) → (n == 0) ≡ false → 1 ≤ n
-some_count n e = grind (arith, nat_tests)
+pub some_count : (m : ℕ) → (m == 0) ≡ false → 1 ≤ m
+some_count m e = grind (arith, nat_tests)
 
-pub some_zero : {A : Type 0} (n : ℕ) → (n == 0) ≡ false → n ≡ 0 → A
-some_zero n e z = absurd grind (arith, nat_tests)
+pub some_zero : {A : Type 0} (m : ℕ) → (m == 0) ≡ false → m ≡ 0 → A
+some_zero m e z = absurd grind (arith, nat_tests)
 
 pub less_apart : {A : Type 0} (a b : ℕ) → a < b → a ≡ b → A
 less_apart a b lt e = absurd omega (arith, lt, e)
@@ -67,5 +67,5 @@ less_apart a b lt e = absurd omega (arith, lt, e)
 pub mul_assoc : (a b c : ℕ) → a * (b * c) ≡ a * b * c
 mul_assoc a b c = grind arith
 
-pub zero_times : (n : ℕ) → n * 0 ≡ 0
-zero_times n = omega arith
+pub zero_times : (m : ℕ) → m * 0 ≡ 0
+zero_times m = omega arith

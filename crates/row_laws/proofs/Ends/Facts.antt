@@ -67,24 +67,24 @@ by_command s id c h = go id.sense
     go true = h
     go false = h
 
-process_ends : (s : ScenarioValue) (id : ProcId) (p : Process) → FitsBus s → process_of s id ≡ Some p
-    → AreHosts s p.initiator p.target
-process_ends s id p fits e = by_option (command_at s.commands id.command)
-    (λ z. absurd (none_some p (sym (ap (process_if s id) z) ∙ e)))
+process_ends : (s : ScenarioValue) (id : ProcId) (t : Process) → FitsBus s → process_of s id ≡ Some t
+    → AreHosts s t.initiator t.target
+process_ends s id t fits e = by_option (command_at s.commands id.command)
+    (λ z. absurd (none_some t (sym (ap (process_if s id) z) ∙ e)))
     (λ c z. let line = command_fits s id.command c fits z in subst (λ (x : Process). AreHosts s x.initiator x.target)
-    (same_Some (process_by s id c) p (sym (ap (process_if s id) z) ∙ e))
+    (same_Some (process_by s id c) t (sym (ap (process_if s id) z) ∙ e))
     (by_command s id c (line.host_is, line.target_is)))
 
 -- What an initiator calls is none.
-aim_target : (s : ScenarioValue) (aim : Option Item) (n : ℕ) → FitsBus s → target_of s aim ≡ Some n
-    → is_initiator s.hosts n ≡ false
-aim_target s None n fits e = absurd (none_some n e)
-aim_target s (Some (process id)) n fits e =
-    by_option (process_of s id) (λ z. absurd (none_some n (sym (ap target_if z) ∙ e))) (λ p z.
-    ap (is_initiator s.hosts) (sym (same_Some p.target n (sym (ap target_if z) ∙ e))) ∙ (process_ends s id p fits z).1)
-aim_target s (Some (abort k)) n fits e = by_option (abort_line_at s.aborts k)
-    (λ z. absurd (none_some n (sym (ap abort_target z) ∙ e)))
-    (λ a z. ap (is_initiator s.hosts) (sym (same_Some a.target n (sym (ap abort_target z) ∙ e)))
+aim_target : (s : ScenarioValue) (aim : Option Item) (m : ℕ) → FitsBus s → target_of s aim ≡ Some m
+    → is_initiator s.hosts m ≡ false
+aim_target s None m fits e = absurd (none_some m e)
+aim_target s (Some (process id)) m fits e =
+    by_option (process_of s id) (λ z. absurd (none_some m (sym (ap target_if z) ∙ e))) (λ p z.
+    ap (is_initiator s.hosts) (sym (same_Some p.target m (sym (ap target_if z) ∙ e))) ∙ (process_ends s id p fits z).1)
+aim_target s (Some (abort k)) m fits e = by_option (abort_line_at s.aborts k)
+    (λ z. absurd (none_some m (sym (ap abort_target z) ∙ e)))
+    (λ a z. ap (is_initiator s.hosts) (sym (same_Some a.target m (sym (ap abort_target z) ∙ e)))
     ∙ (abort_fits s k a fits z).target_is)
 
 -- ---- a connection begins
@@ -117,15 +117,15 @@ made_ends : (s : ScenarioValue) (p : List Row) (t : ℕ) (n : Connection) → Fi
     → HasDevice s n.target → connection_of (call p) t ≡ Some n → HasEnds s n
 made_ends s p t n fits dv was there e = by_call (call p) refl e
   where
-    by_calling : (k : Call) → call p ≡ Some k → (o : Option Calling) → k.calling ≡ o
-        → connected_of k.caller o t ≡ Some n → HasEnds s n
-    by_calling k ek None _ z = absurd (none_some n z)
-    by_calling k ek (Some x) some z =
-        due_ends s p k.caller t x n fits dv (was k x ek some) (by_answer k.caller x x.answered t n z) there
+    by_calling : (c : Call) → call p ≡ Some c → (o : Option Calling) → c.calling ≡ o
+        → connected_of c.caller o t ≡ Some n → HasEnds s n
+    by_calling c ek None _ z = absurd (none_some n z)
+    by_calling c ek (Some x) some z =
+        due_ends s p c.caller t x n fits dv (was c x ek some) (by_answer c.caller x x.answered t n z) there
 
     by_call : (o : Option Call) → call p ≡ o → connection_of o t ≡ Some n → HasEnds s n
     by_call None _ z = absurd (none_some n z)
-    by_call (Some k) some z = by_calling k some k.calling refl z
+    by_call (Some c) some z = by_calling c some c.calling refl z
 
 -- The target of a connection drives BSY, so it is there.
 drives_none : (p : List Row) (d : ℕ) → drives p d ≡ none → (drives p d).bsy ≡ true → ⊥

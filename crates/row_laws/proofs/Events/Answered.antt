@@ -37,11 +37,11 @@ unit_replied held (Some u) id reply r e = go u.current refl e
     by : (q : RunningProcess) → u.current ≡ Some q
         → (x : Bool) → same_id q.process.id id ≡ x → (if x then Some q else None) ≡ Some r
         → running_if (next_current held id reply (Some u)) id ≡ Some (record r { reply = Some reply })
-    by q z false w k = absurd (none_some r k)
-    by q z true w k =
+    by q z false w h = absurd (none_some r h)
+    by q z true w h =
         ap (λ (c : Option RunningProcess). running_if c id) (stay ∙ after)
         ∙ (λ i. if w i then Some (record q { reply = Some reply }) else None)
-        ∙ ap (λ (y : RunningProcess). Some (record y { reply = Some reply })) (same_Some q r k)
+        ∙ ap (λ (y : RunningProcess). Some (record y { reply = Some reply })) (same_Some q r h)
       where
         given : (if same_id q.process.id id then Some (record q { reply = Some reply }) else Some q)
             ≡ Some (record q { reply = Some reply })
@@ -60,8 +60,8 @@ unit_replied held (Some u) id reply r e = go u.current refl e
 
     go : (c : Option RunningProcess) → u.current ≡ c → running_if c id ≡ Some r
         → running_if (next_current held id reply (Some u)) id ≡ Some (record r { reply = Some reply })
-    go None z k = absurd (none_some r k)
-    go (Some q) z k = by q z (same_id q.process.id id) refl k
+    go None z h = absurd (none_some r h)
+    go (Some q) z h = by q z (same_id q.process.id id) refl h
 
 replied_has : (guests : List RunningProcess) (held : Bool) (o : Option UnitState) (id : ProcId)
     (reply : Reply) (r : RunningProcess) → first (guest_at guests id) (running_if (current_of o) id) ≡ Some r
@@ -70,19 +70,19 @@ replied_has guests held o id reply r e = go (guest_at guests id) refl e
   where
     go : (x : Option RunningProcess) → guest_at guests id ≡ x → first x (running_if (current_of o) id) ≡ Some r
         → HasIt (guests_with_reply guests id reply) (next_current held id reply o) id reply
-    go (Some g) z k =
+    go (Some g) z h =
         let there = guest_replied guests id reply g z in
         record {
           found = record g { reply = Some reply };
           found_is = λ i. first (there i) (running_if (next_current held id reply o) id);
           reply_is = refl;
         }
-    go None z k =
+    go None z h =
         let gone = no_guest_replied guests id reply z in
         record {
           found = record r { reply = Some reply };
           found_is =
-              (λ i. first (gone i) (running_if (next_current held id reply o) id)) ∙ unit_replied held o id reply r k;
+              (λ i. first (gone i) (running_if (next_current held id reply o) id)) ∙ unit_replied held o id reply r h;
           reply_is = refl;
         }
 
@@ -93,21 +93,21 @@ same_current contents (Some u) = refl
 
 -- ---- it runs
 
-pub run_is : (s : ScenarioValue) (a : Array) (p : Process) → MayRun a p → Steps.step s (Event.Run p.id) a
-    ≡ Some (settled_array (Steps.after_execution_at a p (unit_state_at a.units p.target p.unit)))
-run_is s a p h = (λ i. Steps.settled_array_if (Steps.run_step a (is_some (guest_at a.guests p.id)) (h.running_is i)))
+pub run_is : (s : ScenarioValue) (a : Array) (c : Process) → MayRun a c → Steps.step s (Event.Run c.id) a
+    ≡ Some (settled_array (Steps.after_execution_at a c (unit_state_at a.units c.target c.unit)))
+run_is s a c h = (λ i. Steps.settled_array_if (Steps.run_step a (is_some (guest_at a.guests c.id)) (h.running_is i)))
     ∙ (λ i. Steps.settled_array_if
-    (if true && h.free i then Some (Steps.after_execution_at a p (unit_state_at a.units p.target p.unit)) else None))
+    (if true && h.free i then Some (Steps.after_execution_at a c (unit_state_at a.units c.target c.unit)) else None))
 
-pub context_same : (a : Array) (p : Process) → Steps.context_at a (nexus_of p) (unit_state_at a.units p.target p.unit)
-    ≡ Seats.context_of (seat_of a p.target p.unit) p.initiator
-context_same a p = go (unit_state_at a.units p.target p.unit)
+pub context_same : (a : Array) (c : Process) → Steps.context_at a (nexus_of c) (unit_state_at a.units c.target c.unit)
+    ≡ Seats.context_of (seat_of a c.target c.unit) c.initiator
+context_same a c = go (unit_state_at a.units c.target c.unit)
   where
-    go : (u : Option UnitState) → Steps.context_at a (nexus_of p) u ≡ record {
+    go : (u : Option UnitState) → Steps.context_at a (nexus_of c) u ≡ record {
       present = is_some u;
       contents = Seats.contents_of u;
-      stored = (seat_of a p.target p.unit).senses p.initiator;
-      attention = (seat_of a p.target p.unit).attentions p.initiator;
+      stored = (seat_of a c.target c.unit).senses c.initiator;
+      attention = (seat_of a c.target c.unit).attentions c.initiator;
     }
     go None = refl
     go (Some u) = refl
@@ -116,51 +116,51 @@ if_seat : (x : Bool) (b c : Seat) → Some b ≡ settled_seat_if (if x then Some
 if_seat true b c e = same_Some b (settled_seat c) e
 if_seat false b c e = absurd (some_none b e)
 
-pub run_answers : (s : ScenarioValue) (a b : Array) (p : Process) → HasSeats s → IsSound s a
-    → process_of s p.id ≡ Some p → MayRun a p → Steps.step s (Event.Run p.id) a ≡ Some b → IsAnswered b p.id
-run_answers s a b p seats sound e h f = answered
+pub run_answers : (s : ScenarioValue) (a b : Array) (t : Process) → HasSeats s → IsSound s a
+    → process_of s t.id ≡ Some t → MayRun a t → Steps.step s (Event.Run t.id) a ≡ Some b → IsAnswered b t.id
+run_answers s a b t seats sound e h f = answered
   where
     seat : Seat
-    seat = seat_of a p.target p.unit
+    seat = seat_of a t.target t.unit
 
     done : Execution
-    done = execution (Seats.context_of seat p.initiator) p.cdb p.sent
+    done = execution (Seats.context_of seat t.initiator) t.cdb t.sent
 
-    there : running_at seat p.id ≡ Some (without_reply p)
-    there = sym (running_own s a p.id p sound e) ∙ h.running_is
+    there : running_at seat t.id ≡ Some (without_reply t)
+    there = sym (running_own s a t.id t sound e) ∙ h.running_is
 
     ran : Seat
-    ran = Seats.seat_with_execution seat p done
+    ran = Seats.seat_with_execution seat t done
 
-    after : seat_of b p.target p.unit ≡ settled_seat ran
-    after = if_seat (is_some (guest_at seat.guests p.id) || not (Seats.is_any_held seat.hold))
-        (seat_of b p.target p.unit) ran (sym (ap (λ (x : Option Array). seat_if x p.target p.unit) f)
-        ∙ run_law s a p seats sound e ∙ ap (λ (x : Option RunningProcess). settled_seat_if
-        (Seats.seat_after_run_of seat (is_some (guest_at seat.guests p.id)) x)) there)
+    after : seat_of b t.target t.unit ≡ settled_seat ran
+    after = if_seat (is_some (guest_at seat.guests t.id) || not (Seats.is_any_held seat.hold))
+        (seat_of b t.target t.unit) ran (sym (ap (λ (x : Option Array). seat_if x t.target t.unit) f)
+        ∙ run_law s a t seats sound e ∙ ap (λ (x : Option RunningProcess). settled_seat_if
+        (Seats.seat_after_run_of seat (is_some (guest_at seat.guests t.id)) x)) there)
 
-    it : HasIt (settled_seat ran).guests (current_of (settled_seat ran).unit) p.id done.reply
+    it : HasIt (settled_seat ran).guests (current_of (settled_seat ran).unit) t.id done.reply
     it = replied_has seat.guests (Seats.is_any_held ran.hold)
-        (unit_mapped (unit_with_contents done.contents) seat.unit) p.id done.reply (without_reply p)
-        (ap (λ (c : Option RunningProcess). first (guest_at seat.guests p.id) (running_if c p.id))
+        (unit_mapped (unit_with_contents done.contents) seat.unit) t.id done.reply (without_reply t)
+        (ap (λ (c : Option RunningProcess). first (guest_at seat.guests t.id) (running_if c t.id))
         (same_current done.contents seat.unit) ∙ there)
 
-    reply_same : reply_at a p (unit_state_at a.units p.target p.unit) ≡ done.reply
-    reply_same = ap (λ (m : CommandContext). (execution m p.cdb p.sent).reply) (context_same a p)
+    reply_same : reply_at a t (unit_state_at a.units t.target t.unit) ≡ done.reply
+    reply_same = ap (λ (m : CommandContext). (execution m t.cdb t.sent).reply) (context_same a t)
 
-    ran_array : b ≡ settled_array (Steps.after_execution_at a p (unit_state_at a.units p.target p.unit))
-    ran_array = sym (same_Some (settled_array (Steps.after_execution_at a p (unit_state_at a.units p.target p.unit))) b
-        (sym (run_is s a p h) ∙ f))
+    ran_array : b ≡ settled_array (Steps.after_execution_at a t (unit_state_at a.units t.target t.unit))
+    ran_array = sym (same_Some (settled_array (Steps.after_execution_at a t (unit_state_at a.units t.target t.unit))) b
+        (sym (run_is s a t h) ∙ f))
 
-    given : reply_in b.replies p.id ≡ Some done.reply
-    given = (λ i. reply_in (ran_array i).replies p.id) ∙ ap (λ (x : List (ProcId × Reply)). reply_in x p.id)
-        (executed a p (unit_state_at a.units p.target p.unit)).replies
-        ∙ (λ i. if self_id p.id i then Some (reply_same i) else reply_in a.replies p.id)
+    given : reply_in b.replies t.id ≡ Some done.reply
+    given = (λ i. reply_in (ran_array i).replies t.id) ∙ ap (λ (x : List (ProcId × Reply)). reply_in x t.id)
+        (executed a t (unit_state_at a.units t.target t.unit)).replies
+        ∙ (λ i. if self_id t.id i then Some (reply_same i) else reply_in a.replies t.id)
 
-    answered : IsAnswered b p.id
+    answered : IsAnswered b t.id
     answered = record {
       running = it.found;
-      running_is = running_own s b p.id p (step_sound s a b (Event.Run p.id) seats sound f) e
-          ∙ (λ i. running_at (after i) p.id) ∙ it.found_is;
+      running_is = running_own s b t.id t (step_sound s a b (Event.Run t.id) seats sound f) e
+          ∙ (λ i. running_at (after i) t.id) ∙ it.found_is;
       reply = done.reply;
       reply_is = it.reply_is;
       given = given;
@@ -168,58 +168,58 @@ run_answers s a b p seats sound e h f = answered
 
 -- ---- it fails
 
-pub fail_is : (s : ScenarioValue) (a : Array) (p : Process) (code : ℕ) → MayRun a p
-    → Steps.step s (Event.Fail p.id code) a ≡ Some (settled_array (Steps.with_reply a p.id (aborted_reply code)))
-fail_is s a p code h = λ i. Steps.settled_array_if (Steps.fail_step s a p.id (aborted_reply code) (h.running_is i))
+pub fail_is : (s : ScenarioValue) (a : Array) (c : Process) (code : ℕ) → MayRun a c
+    → Steps.step s (Event.Fail c.id code) a ≡ Some (settled_array (Steps.with_reply a c.id (aborted_reply code)))
+fail_is s a c code h = λ i. Steps.settled_array_if (Steps.fail_step s a c.id (aborted_reply code) (h.running_is i))
 
-pub fail_answers : (s : ScenarioValue) (a b : Array) (p : Process) (code : ℕ) → HasSeats s → IsSound s a
-    → process_of s p.id ≡ Some p → MayRun a p → Steps.step s (Event.Fail p.id code) a ≡ Some b → IsAnswered b p.id
-fail_answers s a b p code seats sound e h f = answered
+pub fail_answers : (s : ScenarioValue) (a b : Array) (c : Process) (code : ℕ) → HasSeats s → IsSound s a
+    → process_of s c.id ≡ Some c → MayRun a c → Steps.step s (Event.Fail c.id code) a ≡ Some b → IsAnswered b c.id
+fail_answers s a b c code seats sound e h f = answered
   where
     seat : Seat
-    seat = seat_of a p.target p.unit
+    seat = seat_of a c.target c.unit
 
-    there : running_at seat p.id ≡ Some (without_reply p)
-    there = sym (running_own s a p.id p sound e) ∙ h.running_is
+    there : running_at seat c.id ≡ Some (without_reply c)
+    there = sym (running_own s a c.id c sound e) ∙ h.running_is
 
     failed : Seat
-    failed = Seats.seat_with_reply seat p.id (aborted_reply code)
+    failed = Seats.seat_with_reply seat c.id (aborted_reply code)
 
-    after : seat_of b p.target p.unit ≡ settled_seat failed
-    after = same_Some (seat_of b p.target p.unit) (settled_seat failed)
-        (sym (ap (λ (x : Option Array). seat_if x p.target p.unit) f) ∙ fail_law s a p code seats sound e
+    after : seat_of b c.target c.unit ≡ settled_seat failed
+    after = same_Some (seat_of b c.target c.unit) (settled_seat failed)
+        (sym (ap (λ (x : Option Array). seat_if x c.target c.unit) f) ∙ fail_law s a c code seats sound e
         ∙ ap (λ (x : Option RunningProcess). settled_seat_if
-        (Seats.seat_after_failure_of seat (has_ended a p.id) p (aborted_reply code) x)) there)
+        (Seats.seat_after_failure_of seat (has_ended a c.id) c (aborted_reply code) x)) there)
 
-    it : HasIt (settled_seat failed).guests (current_of (settled_seat failed).unit) p.id (aborted_reply code)
-    it = replied_has seat.guests (Seats.is_any_held seat.hold) seat.unit p.id (aborted_reply code)
-        (without_reply p) there
+    it : HasIt (settled_seat failed).guests (current_of (settled_seat failed).unit) c.id (aborted_reply code)
+    it = replied_has seat.guests (Seats.is_any_held seat.hold) seat.unit c.id (aborted_reply code)
+        (without_reply c) there
 
-    failed_array : b ≡ settled_array (Steps.with_reply a p.id (aborted_reply code))
+    failed_array : b ≡ settled_array (Steps.with_reply a c.id (aborted_reply code))
     failed_array = sym
-        (same_Some (settled_array (Steps.with_reply a p.id (aborted_reply code))) b (sym (fail_is s a p code h) ∙ f))
+        (same_Some (settled_array (Steps.with_reply a c.id (aborted_reply code))) b (sym (fail_is s a c code h) ∙ f))
 
-    answered : IsAnswered b p.id
+    answered : IsAnswered b c.id
     answered = record {
       running = it.found;
-      running_is = running_own s b p.id p (step_sound s a b (Event.Fail p.id code) seats sound f) e
-          ∙ (λ i. running_at (after i) p.id) ∙ it.found_is;
+      running_is = running_own s b c.id c (step_sound s a b (Event.Fail c.id code) seats sound f) e
+          ∙ (λ i. running_at (after i) c.id) ∙ it.found_is;
       reply = aborted_reply code;
       reply_is = it.reply_is;
-      given = (λ i. reply_in (failed_array i).replies p.id)
-          ∙ (λ i. if self_id p.id i then Some (aborted_reply code) else reply_in a.replies p.id);
+      given = (λ i. reply_in (failed_array i).replies c.id)
+          ∙ (λ i. if self_id c.id i then Some (aborted_reply code) else reply_in a.replies c.id);
     }
 
 -- ---- it leaves
 
 waits_away : (waiting : List Process) (id : ProcId) → Waits (IsAway id) (without_process waiting id)
 waits_away [] id = tt
-waits_away (p ∷ waiting) id = go (same_id p.id id) refl (waits_away waiting id)
+waits_away (c ∷ waiting) id = go (same_id c.id id) refl (waits_away waiting id)
   where
-    go : (x : Bool) → same_id p.id id ≡ x → Waits (IsAway id) (without_process waiting id)
-        → Waits (IsAway id) (if x then without_process waiting id else p ∷ without_process waiting id)
-    go true z k = k
-    go false z k = (z, k)
+    go : (x : Bool) → same_id c.id id ≡ x → Waits (IsAway id) (without_process waiting id)
+        → Waits (IsAway id) (if x then without_process waiting id else c ∷ without_process waiting id)
+    go true z e = e
+    go false z e = (z, e)
 
 units_away : (units : List UnitState) (id : ProcId) → OnUnits (IsAway id) (Steps.units_without units id)
 units_away [] id = tt
@@ -240,8 +240,8 @@ guests_away (g ∷ guests) id = go (same_id g.process.id id) refl (guests_away g
   where
     go : (x : Bool) → same_id g.process.id id ≡ x → OnGuests (IsAway id) (without_guest guests id)
         → OnGuests (IsAway id) (if x then without_guest guests id else g ∷ without_guest guests id)
-    go true z k = k
-    go false z k = (z, k)
+    go true z e = e
+    go false z e = (z, e)
 
 -- It stands nowhere, and has ended.
 pub record HasLeft (a : Array) (id : ProcId) : Type 0 where

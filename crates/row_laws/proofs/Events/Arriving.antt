@@ -31,9 +31,9 @@ no_current (u ∷ units) id h =
     ∙ no_current units id h.1
 
 none_waits : (waiting : List Process) (id : ProcId) → Waits (IsAway id) waiting
-    → list_any (λ (p : Process). same_id p.id id) waiting ≡ false
+    → list_any (λ (c : Process). same_id c.id id) waiting ≡ false
 none_waits [] id h = refl
-none_waits (p ∷ waiting) id h =
+none_waits (c ∷ waiting) id h =
     (λ i. h.0 i || list_any (λ (q : Process). same_id q.id id) waiting) ∙ none_waits waiting id h.1
 
 pub not_waiting : (units : List UnitState) (id : ProcId) → OnUnits (IsAway id) units → is_waiting units id ≡ false
@@ -58,108 +58,108 @@ guest_runs : (a : Array) (r : RunningProcess) → OnGuests (IsAway r.process.id)
 guest_runs a r h = λ i. if is_some (guest_new a.guests r h i) then guest_new a.guests r h i
     else running_in (settled_array (Steps.with_guest a r.process r.reply)).units r.process.id
 
-chosen_at : (holds : List Nexus) (u : UnitState) (t n : ℕ)
-    → ((unit_after_choice holds u).target == t && (unit_after_choice holds u).unit == n)
-    ≡ (u.target == t && u.unit == n)
-chosen_at holds u t n = go (has_no_current u.current && not (is_held holds u.target u.unit)) (choice u.pick u.waiting)
+chosen_at : (holds : List Nexus) (u : UnitState) (t m : ℕ)
+    → ((unit_after_choice holds u).target == t && (unit_after_choice holds u).unit == m)
+    ≡ (u.target == t && u.unit == m)
+chosen_at holds u t m = go (has_no_current u.current && not (is_held holds u.target u.unit)) (choice u.pick u.waiting)
   where
-    go : (x : Bool) (p : Option Process)
-        → ((if x then with_current u p else u).target == t && (if x then with_current u p else u).unit == n)
-        ≡ (u.target == t && u.unit == n)
+    go : (x : Bool) (c : Option Process)
+        → ((if x then with_current u c else u).target == t && (if x then with_current u c else u).unit == m)
+        ≡ (u.target == t && u.unit == m)
     go true None = refl
-    go true (Some p) = refl
-    go false p = refl
+    go true (Some c) = refl
+    go false c = refl
 
-no_unit_chosen : (holds : List Nexus) (units : List UnitState) (t n : ℕ) → unit_state_at units t n ≡ None
-    → unit_state_at (units_after_choice holds units) t n ≡ None
-no_unit_chosen holds [] t n e = refl
-no_unit_chosen holds (u ∷ units) t n e = (λ i. if chosen_at holds u t n i then Some (unit_after_choice holds u)
-    else unit_state_at (units_after_choice holds units) t n)
-    ∙ go (u.target == t && u.unit == n) e (λ k. no_unit_chosen holds units t n k)
+no_unit_chosen : (holds : List Nexus) (units : List UnitState) (t m : ℕ) → unit_state_at units t m ≡ None
+    → unit_state_at (units_after_choice holds units) t m ≡ None
+no_unit_chosen holds [] t m e = refl
+no_unit_chosen holds (u ∷ units) t m e = (λ i. if chosen_at holds u t m i then Some (unit_after_choice holds u)
+    else unit_state_at (units_after_choice holds units) t m)
+    ∙ go (u.target == t && u.unit == m) e (λ h. no_unit_chosen holds units t m h)
   where
-    go : (x : Bool) → (if x then Some u else unit_state_at units t n) ≡ None
-        → (unit_state_at units t n ≡ None → unit_state_at (units_after_choice holds units) t n ≡ None)
-        → (if x then Some (unit_after_choice holds u) else unit_state_at (units_after_choice holds units) t n) ≡ None
-    go true k rest = absurd (some_none u k)
-    go false k rest = rest k
+    go : (x : Bool) → (if x then Some u else unit_state_at units t m) ≡ None
+        → (unit_state_at units t m ≡ None → unit_state_at (units_after_choice holds units) t m ≡ None)
+        → (if x then Some (unit_after_choice holds u) else unit_state_at (units_after_choice holds units) t m) ≡ None
+    go true h rest = absurd (some_none u h)
+    go false h rest = rest h
 
-still_outside : (a : Array) (p : Process) → IsOutside a p → IsOutside (settled_array (Steps.with_guest a p None)) p
-still_outside a p (inl e) = inl (no_unit_chosen a.holds a.units p.target p.unit e)
-still_outside a p (inr e) = inr e
+still_outside : (a : Array) (c : Process) → IsOutside a c → IsOutside (settled_array (Steps.with_guest a c None)) c
+still_outside a c (inl e) = inl (no_unit_chosen a.holds a.units c.target c.unit e)
+still_outside a c (inr e) = inr e
 
-pub guest_may_run : (a : Array) (p : Process) → IsOutside a p → IsUntouched a p.id
-    → MayRun (settled_array (Steps.with_guest a p None)) p
-guest_may_run a p out h = record {
-  running_is = guest_runs a (without_reply p) h.away.guests;
-  free = λ i. is_some (guest_new a.guests (without_reply p) h.away.guests i) || not (is_held a.holds p.target p.unit);
+pub guest_may_run : (a : Array) (c : Process) → IsOutside a c → IsUntouched a c.id
+    → MayRun (settled_array (Steps.with_guest a c None)) c
+guest_may_run a c out h = record {
+  running_is = guest_runs a (without_reply c) h.away.guests;
+  free = λ i. is_some (guest_new a.guests (without_reply c) h.away.guests i) || not (is_held a.holds c.target c.unit);
   reply = h.reply;
-  kind = inl (still_outside a p out);
+  kind = inl (still_outside a c out);
 }
 
 -- It is refused, or fails, with this reply.
-pub guest_answered : (a : Array) (p : Process) (reply : Reply) → IsUntouched a p.id
-    → IsAnswered (settled_array (Steps.with_listed_reply (Steps.with_guest a p (Some reply)) p.id reply)) p.id
-guest_answered a p reply h = record {
-  running = record { process = p; reply = Some reply };
-  running_is = λ i. if is_some (guest_new a.guests (record { process = p; reply = Some reply }) h.away.guests i)
-      then guest_new a.guests (record { process = p; reply = Some reply }) h.away.guests i
-      else running_in (settled_array (Steps.with_guest a p (Some reply))).units p.id;
+pub guest_answered : (a : Array) (c : Process) (reply : Reply) → IsUntouched a c.id
+    → IsAnswered (settled_array (Steps.with_listed_reply (Steps.with_guest a c (Some reply)) c.id reply)) c.id
+guest_answered a c reply h = record {
+  running = record { process = c; reply = Some reply };
+  running_is = λ i. if is_some (guest_new a.guests (record { process = c; reply = Some reply }) h.away.guests i)
+      then guest_new a.guests (record { process = c; reply = Some reply }) h.away.guests i
+      else running_in (settled_array (Steps.with_guest a c (Some reply))).units c.id;
   reply = reply;
   reply_is = refl;
-  given = λ i. if self_id p.id i then Some reply else reply_in a.replies p.id;
+  given = λ i. if self_id c.id i then Some reply else reply_in a.replies c.id;
 }
 
 -- ---- it waits, or is current at once
 
 abbrev pub queued : Array → Process → UnitState → Array
-queued a p u = record a { units = with_unit a.units (record u { waiting = u.waiting ++ p ∷ [] }) }
+queued a c u = record a { units = with_unit a.units (record u { waiting = u.waiting ++ c ∷ [] }) }
 
-pub queued_rests : (a : Array) (p : Process) (u : UnitState) → unit_state_at a.units p.target p.unit ≡ Some u
-    → IsUntouched a p.id → IsAtRest (settled_array (queued a p u)) p.id
-queued_rests a p u e h =
-    let given : Option Reply = reply_in a.replies p.id in
-    let over : Bool = has_ended a p.id in
-    let units : OnUnits (IsUnanswered given over p.id) a.units = away_units given over p.id a.units h.away.units in
-    let own = unit_has (IsUnanswered given over p.id) a.units p.target p.unit u e units in
-    let new : UnitState = record u { waiting = u.waiting ++ p ∷ [] } in
-    each_settled (IsUnanswered given over p.id) (IsAway p.id) (queued a p u) (record {
-      units = with_units (IsUnanswered given over p.id) a.units new units
-          (append_waits (IsUnanswered given over p.id) u.waiting p own.0 (λ z. (refl, h.reply, h.open_is)), own.1);
+pub queued_rests : (a : Array) (c : Process) (u : UnitState) → unit_state_at a.units c.target c.unit ≡ Some u
+    → IsUntouched a c.id → IsAtRest (settled_array (queued a c u)) c.id
+queued_rests a c u e h =
+    let given : Option Reply = reply_in a.replies c.id in
+    let over : Bool = has_ended a c.id in
+    let units : OnUnits (IsUnanswered given over c.id) a.units = away_units given over c.id a.units h.away.units in
+    let own = unit_has (IsUnanswered given over c.id) a.units c.target c.unit u e units in
+    let new : UnitState = record u { waiting = u.waiting ++ c ∷ [] } in
+    each_settled (IsUnanswered given over c.id) (IsAway c.id) (queued a c u) (record {
+      units = with_units (IsUnanswered given over c.id) a.units new units
+          (append_waits (IsUnanswered given over c.id) u.waiting c own.0 (λ z. (refl, h.reply, h.open_is)), own.1);
       guests = h.away.guests;
     })
 
-chosen_alone : (pick : Pick) (p : Process) → choice pick (p ∷ []) ≡ Some p
-chosen_alone pick p = go pick (is_head (entry_of p).class) (is_ordered (entry_of p).class)
+chosen_alone : (pick : Pick) (t : Process) → choice pick (t ∷ []) ≡ Some t
+chosen_alone pick t = go pick (is_head (entry_of t).class) (is_ordered (entry_of t).class)
   where
-    go : (k : Pick) (c o : Bool)
-        → process_at_if (p ∷ []) (picked_place k (runnable_by (if c then Some 0 else None) (entry_of p ∷ []))) ≡ Some p
-    go k c o = by k c
+    go : (y : Pick) (c o : Bool)
+        → process_at_if (t ∷ []) (picked_place y (runnable_by (if c then Some 0 else None) (entry_of t ∷ []))) ≡ Some t
+    go y c o = by y c
       where
         ordered : (x : Bool)
-            → (if x then has_none_before [] else not (has_ordered []) && not (is_held_back [] (entry_of p))) ≡ true
+            → (if x then has_none_before [] else not (has_ordered []) && not (is_held_back [] (entry_of t))) ≡ true
         ordered true = refl
         ordered false = refl
 
-        first : (j : Pick) → process_at_if (p ∷ []) (picked_place j (0 ∷ [])) ≡ Some p
+        first : (z : Pick) → process_at_if (t ∷ []) (picked_place z (0 ∷ [])) ≡ Some t
         first Pick.First = refl
         first Pick.Last = refl
 
-        by : (j : Pick) (x : Bool)
-            → process_at_if (p ∷ []) (picked_place j (runnable_by (if x then Some 0 else None) (entry_of p ∷ [])))
-            ≡ Some p
-        by j true = first j
-        by j false = (λ i. process_at_if (p ∷ [])
-            (picked_place j (if ordered (is_ordered (entry_of p).class) i then 0 ∷ [] else [])))
-            ∙ first j
+        by : (z : Pick) (x : Bool)
+            → process_at_if (t ∷ []) (picked_place z (runnable_by (if x then Some 0 else None) (entry_of t ∷ [])))
+            ≡ Some t
+        by z true = first z
+        by z false = (λ i. process_at_if (t ∷ [])
+            (picked_place z (if ordered (is_ordered (entry_of t).class) i then 0 ∷ [] else [])))
+            ∙ first z
 
-made_current : (holds : List Nexus) (u : UnitState) (p : Process) → u.waiting ≡ []
+made_current : (holds : List Nexus) (u : UnitState) (c : Process) → u.waiting ≡ []
     → has_no_current u.current ≡ true → is_held holds u.target u.unit ≡ false
-    → (unit_after_choice holds (record u { waiting = u.waiting ++ p ∷ [] })).current ≡ Some (without_reply p)
-made_current holds u p none idle free =
-    let new : UnitState = record u { waiting = u.waiting ++ p ∷ [] } in
+    → (unit_after_choice holds (record u { waiting = u.waiting ++ c ∷ [] })).current ≡ Some (without_reply c)
+made_current holds u c none idle free =
+    let new : UnitState = record u { waiting = u.waiting ++ c ∷ [] } in
     (λ i. (if idle i && not (free i) then with_current new (choice u.pick new.waiting) else new).current)
-    ∙ (λ i. (with_current new (choice u.pick (none i ++ p ∷ []))).current)
-    ∙ (λ i. (with_current new (chosen_alone u.pick p i)).current)
+    ∙ (λ i. (with_current new (choice u.pick (none i ++ c ∷ []))).current)
+    ∙ (λ i. (with_current new (chosen_alone u.pick c i)).current)
 
 running_new : (holds : List Nexus) (units : List UnitState) (new u : UnitState) (id : ProcId) (r : RunningProcess)
     → OnUnits (IsAway id) units → unit_state_at units new.target new.unit ≡ Some u
@@ -167,129 +167,129 @@ running_new : (holds : List Nexus) (units : List UnitState) (new u : UnitState) 
     → running_in (units_after_choice holds (with_unit units new)) id ≡ Some r
 running_new holds [] new u id r h e f = absurd (none_some u e)
 running_new holds (v ∷ units) new u id r h e f =
-    go (v.target == new.target && v.unit == new.unit) e (λ k. running_new holds units new u id r h.1 k f)
+    go (v.target == new.target && v.unit == new.unit) e (λ g. running_new holds units new u id r h.1 g f)
   where
     go : (x : Bool) → (if x then Some v else unit_state_at units new.target new.unit) ≡ Some u
         → (unit_state_at units new.target new.unit ≡ Some u
         → running_in (units_after_choice holds (with_unit units new)) id ≡ Some r)
         → running_in (units_after_choice holds (if x then new ∷ units else v ∷ with_unit units new)) id ≡ Some r
-    go true k rest = λ i. if is_some (f i) then f i else running_in (units_after_choice holds units) id
-    go false k rest =
+    go true g rest = λ i. if is_some (f i) then f i else running_in (units_after_choice holds units) id
+    go false g rest =
         let none : running_if (unit_after_choice holds v).current id ≡ None = not_current
         (unit_after_choice holds v).current id (chosen (IsAway id) holds v h.0).1 in
         (λ i. if is_some (none i) then none i else running_in (units_after_choice holds (with_unit units new)) id)
-        ∙ rest k
+        ∙ rest g
 
-pub record IsFoundAt (u : UnitState) (t n : ℕ) : Type 0 where
+pub record IsFoundAt (u : UnitState) (t m : ℕ) : Type 0 where
   pub target_is : u.target ≡ t
-  pub unit_is : u.unit ≡ n
+  pub unit_is : u.unit ≡ m
 
-pub found_at : (units : List UnitState) (t n : ℕ) (u : UnitState) → unit_state_at units t n ≡ Some u → IsFoundAt u t n
-found_at [] t n u e = absurd (none_some u e)
-found_at (v ∷ units) t n u e = go (v.target == t && v.unit == n) refl e (λ k. found_at units t n u k)
+pub found_at : (units : List UnitState) (t m : ℕ) (u : UnitState) → unit_state_at units t m ≡ Some u → IsFoundAt u t m
+found_at [] t m u e = absurd (none_some u e)
+found_at (v ∷ units) t m u e = go (v.target == t && v.unit == m) refl e (λ h. found_at units t m u h)
   where
-    go : (x : Bool) → (v.target == t && v.unit == n) ≡ x → (if x then Some v else unit_state_at units t n) ≡ Some u
-        → (unit_state_at units t n ≡ Some u → IsFoundAt u t n) → IsFoundAt u t n
-    go true z k rest = subst (λ (w : UnitState). IsFoundAt w t n) (same_Some v u k) (record {
-      target_is = eqb-true v.target t (and_first (v.target == t) (v.unit == n) z);
-      unit_is = eqb-true v.unit n (and_second (v.target == t) (v.unit == n) z);
+    go : (x : Bool) → (v.target == t && v.unit == m) ≡ x → (if x then Some v else unit_state_at units t m) ≡ Some u
+        → (unit_state_at units t m ≡ Some u → IsFoundAt u t m) → IsFoundAt u t m
+    go true z h rest = subst (λ (w : UnitState). IsFoundAt w t m) (same_Some v u h) (record {
+      target_is = eqb-true v.target t (and_first (v.target == t) (v.unit == m) z);
+      unit_is = eqb-true v.unit m (and_second (v.target == t) (v.unit == m) z);
     })
-    go false z k rest = rest k
+    go false z h rest = rest h
 
-pub at_once_may_run : (a : Array) (p : Process) (u : UnitState) → unit_state_at a.units p.target p.unit ≡ Some u
-    → u.waiting ≡ [] → has_no_current u.current ≡ true → is_held a.holds u.target u.unit ≡ false → IsUntouched a p.id
-    → MayRun (settled_array (queued a p u)) p
-at_once_may_run a p u e none idle free h =
-    let at = found_at a.units p.target p.unit u e in
-    let new : UnitState = record u { waiting = u.waiting ++ p ∷ [] } in
+pub at_once_may_run : (a : Array) (c : Process) (u : UnitState) → unit_state_at a.units c.target c.unit ≡ Some u
+    → u.waiting ≡ [] → has_no_current u.current ≡ true → is_held a.holds u.target u.unit ≡ false → IsUntouched a c.id
+    → MayRun (settled_array (queued a c u)) c
+at_once_may_run a c u e none idle free h =
+    let at = found_at a.units c.target c.unit u e in
+    let new : UnitState = record u { waiting = u.waiting ++ c ∷ [] } in
     let there : unit_state_at a.units u.target u.unit ≡ Some u =
     (λ i. unit_state_at a.units (at.target_is i) (at.unit_is i)) ∙ e in
-    let current : running_if (unit_after_choice a.holds new).current p.id ≡ Some (without_reply p) =
-    (λ i. running_if (made_current a.holds u p none idle free i) p.id)
-    ∙ (λ i. if self_id p.id i then Some (without_reply p) else None) in
-    let runs : running_in (settled_array (queued a p u)).units p.id ≡ Some (without_reply p) = running_new
-    a.holds a.units new u p.id (without_reply p) h.away.units there current in
-    let guest : guest_at a.guests p.id ≡ None = no_guest a.guests p.id h.away.guests in
-    let held : is_held a.holds p.target p.unit ≡ false = (λ i. is_held a.holds (sym at.target_is i) (sym at.unit_is i))
+    let current : running_if (unit_after_choice a.holds new).current c.id ≡ Some (without_reply c) =
+    (λ i. running_if (made_current a.holds u c none idle free i) c.id)
+    ∙ (λ i. if self_id c.id i then Some (without_reply c) else None) in
+    let runs : running_in (settled_array (queued a c u)).units c.id ≡ Some (without_reply c) = running_new
+    a.holds a.units new u c.id (without_reply c) h.away.units there current in
+    let guest : guest_at a.guests c.id ≡ None = no_guest a.guests c.id h.away.guests in
+    let held : is_held a.holds c.target c.unit ≡ false = (λ i. is_held a.holds (sym at.target_is i) (sym at.unit_is i))
     ∙ free in
     record {
       running_is =
-          (λ i. if is_some (guest i) then guest i else running_in (settled_array (queued a p u)).units p.id) ∙ runs;
+          (λ i. if is_some (guest i) then guest i else running_in (settled_array (queued a c u)).units c.id) ∙ runs;
       free = (λ i. is_some (guest i) || not (held i));
       reply = h.reply;
-      kind = inr (queued_rests a p u e h);
+      kind = inr (queued_rests a c u e h);
     }
 
 -- ---- the events
 
-pub data Arrives (a : Array) (p : Process) (b : Array) : Type 0 where
-  as_guest : IsOutside a p → b ≡ settled_array (Steps.with_guest a p None) → Arrives a p b
-  in_queue : (u : UnitState) → unit_state_at a.units p.target p.unit ≡ Some u
-      → is_request_sense (command_of p.cdb) ≡ false → nat_lt (process_count u) u.depth ≡ true
-      → b ≡ settled_array (queued a p u) → Arrives a p b
+pub data Arrives (a : Array) (c : Process) (b : Array) : Type 0 where
+  as_guest : IsOutside a c → b ≡ settled_array (Steps.with_guest a c None) → Arrives a c b
+  in_queue : (u : UnitState) → unit_state_at a.units c.target c.unit ≡ Some u
+      → is_request_sense (command_of c.cdb) ≡ false → nat_lt (process_count u) u.depth ≡ true
+      → b ≡ settled_array (queued a c u) → Arrives a c b
 
-pub arrives : (s : ScenarioValue) (a b : Array) (p : Process) → process_of s p.id ≡ Some p
-    → Steps.step s (Event.Accept p.id) a ≡ Some b → Arrives a p b
-arrives s a b p e f =
-    go (unit_state_at a.units p.target p.unit) refl ((λ i. Steps.settled_array_if (Steps.accept_step a (sym e i))) ∙ f)
+pub arrives : (s : ScenarioValue) (a b : Array) (t : Process) → process_of s t.id ≡ Some t
+    → Steps.step s (Event.Accept t.id) a ≡ Some b → Arrives a t b
+arrives s a b t e f =
+    go (unit_state_at a.units t.target t.unit) refl ((λ i. Steps.settled_array_if (Steps.accept_step a (sym e i))) ∙ f)
   where
     is_it : (c : Array) → Steps.settled_array_if (Some c) ≡ Some b → b ≡ settled_array c
-    is_it c k = sym (same_Some (settled_array c) b k)
+    is_it c h = sym (same_Some (settled_array c) b h)
 
-    go : (u : Option UnitState) → unit_state_at a.units p.target p.unit ≡ u
-        → Steps.settled_array_if (Steps.accept_step_at a p u) ≡ Some b → Arrives a p b
-    go None z k = as_guest (inl z) (is_it (Steps.with_guest a p None) k)
-    go (Some u) z k = senses (is_request_sense (command_of p.cdb)) refl k
+    go : (u : Option UnitState) → unit_state_at a.units t.target t.unit ≡ u
+        → Steps.settled_array_if (Steps.accept_step_at a t u) ≡ Some b → Arrives a t b
+    go None z h = as_guest (inl z) (is_it (Steps.with_guest a t None) h)
+    go (Some u) z h = senses (is_request_sense (command_of t.cdb)) refl h
       where
-        room : (y : Bool) → nat_lt (process_count u) u.depth ≡ y → is_request_sense (command_of p.cdb) ≡ false
-            → Steps.settled_array_if (if y then Some (queued a p u) else None) ≡ Some b → Arrives a p b
-        room true w x l = in_queue u z x w (is_it (queued a p u) l)
+        room : (y : Bool) → nat_lt (process_count u) u.depth ≡ y → is_request_sense (command_of t.cdb) ≡ false
+            → Steps.settled_array_if (if y then Some (queued a t u) else None) ≡ Some b → Arrives a t b
+        room true w x l = in_queue u z x w (is_it (queued a t u) l)
         room false w x l = absurd (none_some b l)
 
-        senses : (x : Bool) → is_request_sense (command_of p.cdb) ≡ x
-            → Steps.settled_array_if (if x then Some (Steps.with_guest a p None) else Steps.queue_step a p u) ≡ Some b
-            → Arrives a p b
-        senses true x l = as_guest (inr x) (is_it (Steps.with_guest a p None) l)
+        senses : (x : Bool) → is_request_sense (command_of t.cdb) ≡ x
+            → Steps.settled_array_if (if x then Some (Steps.with_guest a t None) else Steps.queue_step a t u) ≡ Some b
+            → Arrives a t b
+        senses true x l = as_guest (inr x) (is_it (Steps.with_guest a t None) l)
         senses false x l = room (nat_lt (process_count u) u.depth) refl x l
 
 abbrev pub refused_array : Array → Process → Array
-refused_array a p = settled_array (Steps.with_listed_reply (Steps.with_guest a p (Some queue_full)) p.id queue_full)
+refused_array a c = settled_array (Steps.with_listed_reply (Steps.with_guest a c (Some queue_full)) c.id queue_full)
 
 -- One that is not accepted is refused, for the queue is full then.
-pub refuses : (s : ScenarioValue) (a : Array) (p : Process) → AreWithin a.units → process_of s p.id ≡ Some p
-    → Steps.step s (Event.Accept p.id) a ≡ None → Steps.step s (Event.Refuse p.id) a ≡ Some (refused_array a p)
-refuses s a p within e f = (λ i. Steps.settled_array_if (Steps.refuse_step a (e i))) ∙ go
-    (unit_state_at a.units p.target p.unit) refl ((λ i. Steps.settled_array_if (Steps.accept_step a (sym e i))) ∙ f)
+pub refuses : (s : ScenarioValue) (a : Array) (c : Process) → AreWithin a.units → process_of s c.id ≡ Some c
+    → Steps.step s (Event.Accept c.id) a ≡ None → Steps.step s (Event.Refuse c.id) a ≡ Some (refused_array a c)
+refuses s a c within e f = (λ i. Steps.settled_array_if (Steps.refuse_step a (e i))) ∙ go
+    (unit_state_at a.units c.target c.unit) refl ((λ i. Steps.settled_array_if (Steps.accept_step a (sym e i))) ∙ f)
   where
-    go : (u : Option UnitState) → unit_state_at a.units p.target p.unit ≡ u
-        → Steps.settled_array_if (Steps.accept_step_at a p u) ≡ None
-        → Steps.settled_array_if (Steps.refuse_step_at a p u) ≡ Some (refused_array a p)
-    go None z k = absurd (some_none (settled_array (Steps.with_guest a p None)) k)
-    go (Some u) z k = senses (is_request_sense (command_of p.cdb)) k
+    go : (u : Option UnitState) → unit_state_at a.units c.target c.unit ≡ u
+        → Steps.settled_array_if (Steps.accept_step_at a c u) ≡ None
+        → Steps.settled_array_if (Steps.refuse_step_at a c u) ≡ Some (refused_array a c)
+    go None z h = absurd (some_none (settled_array (Steps.with_guest a c None)) h)
+    go (Some u) z h = senses (is_request_sense (command_of c.cdb)) h
       where
         room : (y : Bool) → nat_lt (process_count u) u.depth ≡ y
-            → Steps.settled_array_if (if y then Some (queued a p u) else None) ≡ None
+            → Steps.settled_array_if (if y then Some (queued a c u) else None) ≡ None
             → (process_count u == u.depth) ≡ true
-        room true w l = absurd (some_none (settled_array (queued a p u)) l)
+        room true w l = absurd (some_none (settled_array (queued a c u)) l)
         room false w l =
-            let most : process_count u ≤ u.depth = unit_within a.units p.target p.unit u z within in
+            let most : process_count u ≤ u.depth = unit_within a.units c.target c.unit u z within in
             grind (arith, nat_tests)
 
         senses : (x : Bool)
-            → Steps.settled_array_if (if x then Some (Steps.with_guest a p None) else Steps.queue_step a p u) ≡ None
+            → Steps.settled_array_if (if x then Some (Steps.with_guest a c None) else Steps.queue_step a c u) ≡ None
             → Steps.settled_array_if (if not x && process_count u == u.depth
-            then Some (Steps.with_listed_reply (Steps.with_guest a p (Some queue_full)) p.id queue_full) else None)
-            ≡ Some (refused_array a p)
-        senses true l = absurd (some_none (settled_array (Steps.with_guest a p None)) l)
+            then Some (Steps.with_listed_reply (Steps.with_guest a c (Some queue_full)) c.id queue_full) else None)
+            ≡ Some (refused_array a c)
+        senses true l = absurd (some_none (settled_array (Steps.with_guest a c None)) l)
         senses false l = λ i. Steps.settled_array_if (if room (nat_lt (process_count u) u.depth) refl l i
-            then Some (Steps.with_listed_reply (Steps.with_guest a p (Some queue_full)) p.id queue_full) else None)
+            then Some (Steps.with_listed_reply (Steps.with_guest a c (Some queue_full)) c.id queue_full) else None)
 
 -- It fails before it has arrived (6.6.19).
-pub fails_new : (s : ScenarioValue) (a : Array) (p : Process) (code : ℕ) → process_of s p.id ≡ Some p
-    → IsUntouched a p.id → Steps.step s (Event.Fail p.id code) a ≡ Some (settled_array
-    (Steps.with_listed_reply (Steps.with_guest a p (Some (aborted_reply code))) p.id (aborted_reply code)))
-fails_new s a p code e h =
-    (λ i. Steps.settled_array_if (Steps.fail_step s a p.id (aborted_reply code) (not_running a p.id h.away i)))
-    ∙ (λ i. Steps.settled_array_if (Steps.fail_step_of_new a p.id (aborted_reply code) (e i)))
-    ∙ (λ i. Steps.settled_array_if (if not_waiting a.units p.id h.away.units i || h.open_is i then None
-    else Some (Steps.with_listed_reply (Steps.with_guest a p (Some (aborted_reply code))) p.id (aborted_reply code))))
+pub fails_new : (s : ScenarioValue) (a : Array) (c : Process) (code : ℕ) → process_of s c.id ≡ Some c
+    → IsUntouched a c.id → Steps.step s (Event.Fail c.id code) a ≡ Some (settled_array
+    (Steps.with_listed_reply (Steps.with_guest a c (Some (aborted_reply code))) c.id (aborted_reply code)))
+fails_new s a c code e h =
+    (λ i. Steps.settled_array_if (Steps.fail_step s a c.id (aborted_reply code) (not_running a c.id h.away i)))
+    ∙ (λ i. Steps.settled_array_if (Steps.fail_step_of_new a c.id (aborted_reply code) (e i)))
+    ∙ (λ i. Steps.settled_array_if (if not_waiting a.units c.id h.away.units i || h.open_is i then None
+    else Some (Steps.with_listed_reply (Steps.with_guest a c (Some (aborted_reply code))) c.id (aborted_reply code))))

@@ -15,9 +15,9 @@ use proofs.Common.Impossible.{none_some}
 abbrev HasNone : List (ProcId × Reply) → ProcId → Type 0
 HasNone replies id = IsNotGood (reply_in replies id)
 
-one_more : (replies : List (ProcId × Reply)) (p id : ProcId) (reply : Reply) → (reply.status == GOOD) ≡ false
-    → HasNone replies id → HasNone ((p, reply) ∷ replies) id
-one_more replies p id reply bad h = go (same_id p id)
+one_more : (replies : List (ProcId × Reply)) (d id : ProcId) (reply : Reply) → (reply.status == GOOD) ≡ false
+    → HasNone replies id → HasNone ((d, reply) ∷ replies) id
+one_more replies d id reply bad h = go (same_id d id)
   where
     go : (q : Bool) → IsNotGood (if q then Some reply else reply_in replies id)
     go true = λ other e. ap (λ (x : Reply). x.status == GOOD) (sym (same_Some reply other e)) ∙ bad
@@ -40,43 +40,43 @@ either a id false x y f g = g
 
 accepts : (a : Array) (id : ProcId) (o : Option Process) → Keeps a id (accept_step a o)
 accepts a id None = none_taken a id
-accepts a id (Some p) = go (unit_state_at a.units p.target p.unit)
+accepts a id (Some c) = go (unit_state_at a.units c.target c.unit)
   where
-    guest : Keeps a id (Some (with_guest a p None))
-    guest = took a (with_guest a p None) id (λ h. h)
+    guest : Keeps a id (Some (with_guest a c None))
+    guest = took a (with_guest a c None) id (λ h. h)
 
-    go : (u : Option UnitState) → Keeps a id (accept_step_at a p u)
+    go : (u : Option UnitState) → Keeps a id (accept_step_at a c u)
     go None = guest
     go (Some u) =
-        let next : Array = record a { units = with_unit a.units (record u { waiting = u.waiting ++ p ∷ [] }) } in
-        either a id (is_request_sense (command_of p.cdb)) (Some (with_guest a p None))
+        let next : Array = record a { units = with_unit a.units (record u { waiting = u.waiting ++ c ∷ [] }) } in
+        either a id (is_request_sense (command_of c.cdb)) (Some (with_guest a c None))
         (if nat_lt (process_count u) u.depth then Some next else None) guest
         (either a id (nat_lt (process_count u) u.depth) (Some next) None (took a next id (λ h. h)) (none_taken a id))
 
 refuses : (a : Array) (id : ProcId) (o : Option Process) → Keeps a id (refuse_step a o)
 refuses a id None = none_taken a id
-refuses a id (Some p) = go (unit_state_at a.units p.target p.unit)
+refuses a id (Some c) = go (unit_state_at a.units c.target c.unit)
   where
     next : Array
-    next = with_listed_reply (with_guest a p (Some queue_full)) p.id queue_full
+    next = with_listed_reply (with_guest a c (Some queue_full)) c.id queue_full
 
-    go : (u : Option UnitState) → Keeps a id (refuse_step_at a p u)
+    go : (u : Option UnitState) → Keeps a id (refuse_step_at a c u)
     go None = none_taken a id
-    go (Some u) = either a id (not (is_request_sense (command_of p.cdb)) && process_count u == u.depth) (Some next) None
-        (took a next id (one_more a.replies p.id id queue_full refl)) (none_taken a id)
+    go (Some u) = either a id (not (is_request_sense (command_of c.cdb)) && process_count u == u.depth) (Some next) None
+        (took a next id (one_more a.replies c.id id queue_full refl)) (none_taken a id)
 
-fails : (s : ScenarioValue) (a : Array) (id p : ProcId) (reply : Reply) → (reply.status == GOOD) ≡ false
-    → (o : Option RunningProcess) → Keeps a id (fail_step s a p reply o)
-fails s a id p reply bad (Some r) = either a id (is_none r.reply) (Some (with_reply a p reply)) None
-    (took a (with_reply a p reply) id (one_more a.replies p id reply bad)) (none_taken a id)
-fails s a id p reply bad None = go (process_of s p)
+fails : (s : ScenarioValue) (a : Array) (id d : ProcId) (reply : Reply) → (reply.status == GOOD) ≡ false
+    → (o : Option RunningProcess) → Keeps a id (fail_step s a d reply o)
+fails s a id d reply bad (Some r) = either a id (is_none r.reply) (Some (with_reply a d reply)) None
+    (took a (with_reply a d reply) id (one_more a.replies d id reply bad)) (none_taken a id)
+fails s a id d reply bad None = go (process_of s d)
   where
-    go : (o : Option Process) → Keeps a id (fail_step_of_new a p reply o)
+    go : (o : Option Process) → Keeps a id (fail_step_of_new a d reply o)
     go None = none_taken a id
     go (Some x) =
-        let next : Array = with_listed_reply (with_guest a x (Some reply)) p reply in
-        either a id (is_waiting a.units p || has_ended a p) None (Some next) (none_taken a id)
-        (took a next id (one_more a.replies p id reply bad))
+        let next : Array = with_listed_reply (with_guest a x (Some reply)) d reply in
+        either a id (is_waiting a.units d || has_ended a d) None (Some next) (none_taken a id)
+        (took a next id (one_more a.replies d id reply bad))
 
 ended : (a : Array) (id : ProcId) (status : ℕ) (o : Option RunningProcess) → Keeps a id (end_step a status o)
 ended a id status None = none_taken a id

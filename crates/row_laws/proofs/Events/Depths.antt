@@ -19,37 +19,37 @@ IsWithin u = process_count u ≤ u.depth
 
 fewer_left : (waiting : List Process) (id : ProcId) → length (without_process waiting id) ≤ length waiting
 fewer_left [] id = omega arith
-fewer_left (p ∷ waiting) id = go (same_id p.id id) (fewer_left waiting id)
+fewer_left (c ∷ waiting) id = go (same_id c.id id) (fewer_left waiting id)
   where
     go : (x : Bool) → length (without_process waiting id) ≤ length waiting
-        → length (if x then without_process waiting id else p ∷ without_process waiting id) ≤ length (p ∷ waiting)
-    go true k = omega arith
-    go false k = omega arith
+        → length (if x then without_process waiting id else c ∷ without_process waiting id) ≤ length (c ∷ waiting)
+    go true e = omega arith
+    go false e = omega arith
 
-one_fewer : (waiting : List Process) (place : ℕ) (p : Process) → process_at waiting place ≡ Some p
-    → length (without_process waiting p.id) < length waiting
-one_fewer [] place p e = absurd (none_some p e)
-one_fewer (w ∷ waiting) zero p e =
-    let same : w ≡ p = same_Some w p e in
-    subst (λ (x : Bool). length (if x then without_process waiting p.id else w ∷ without_process waiting p.id)
-    < length (w ∷ waiting)) (sym ((λ i. same_id (same i).id p.id) ∙ self_id p.id))
-    (let k : length (without_process waiting p.id) ≤ length waiting = fewer_left waiting p.id in omega arith)
-one_fewer (w ∷ waiting) (suc place) p e = go (same_id w.id p.id) (fewer_left waiting p.id) (one_fewer waiting place p e)
+one_fewer : (waiting : List Process) (place : ℕ) (c : Process) → process_at waiting place ≡ Some c
+    → length (without_process waiting c.id) < length waiting
+one_fewer [] place c e = absurd (none_some c e)
+one_fewer (w ∷ waiting) zero c e =
+    let same : w ≡ c = same_Some w c e in
+    subst (λ (x : Bool). length (if x then without_process waiting c.id else w ∷ without_process waiting c.id)
+    < length (w ∷ waiting)) (sym ((λ i. same_id (same i).id c.id) ∙ self_id c.id))
+    (let h : length (without_process waiting c.id) ≤ length waiting = fewer_left waiting c.id in omega arith)
+one_fewer (w ∷ waiting) (suc place) c e = go (same_id w.id c.id) (fewer_left waiting c.id) (one_fewer waiting place c e)
   where
-    go : (x : Bool) → length (without_process waiting p.id) ≤ length waiting
-        → length (without_process waiting p.id) < length waiting
-        → length (if x then without_process waiting p.id else w ∷ without_process waiting p.id) < length (w ∷ waiting)
-    go true k m = omega arith
-    go false k m = omega arith
+    go : (x : Bool) → length (without_process waiting c.id) ≤ length waiting
+        → length (without_process waiting c.id) < length waiting
+        → length (if x then without_process waiting c.id else w ∷ without_process waiting c.id) < length (w ∷ waiting)
+    go true h m = omega arith
+    go false h m = omega arith
 
-chosen_fewer : (u : UnitState) (p : Process) → choice u.pick u.waiting ≡ Some p
-    → length (without_process u.waiting p.id) < length u.waiting
-chosen_fewer u p e = go (chosen_place u.pick (entries_of u.waiting)) e
+chosen_fewer : (u : UnitState) (c : Process) → choice u.pick u.waiting ≡ Some c
+    → length (without_process u.waiting c.id) < length u.waiting
+chosen_fewer u c e = go (chosen_place u.pick (entries_of u.waiting)) e
   where
-    go : (x : Option ℕ) → process_at_if u.waiting x ≡ Some p
-        → length (without_process u.waiting p.id) < length u.waiting
-    go None k = absurd (none_some p k)
-    go (Some place) k = one_fewer u.waiting place p k
+    go : (x : Option ℕ) → process_at_if u.waiting x ≡ Some c
+        → length (without_process u.waiting c.id) < length u.waiting
+    go None h = absurd (none_some c h)
+    go (Some place) h = one_fewer u.waiting place c h
 
 none_counts : (o : Option RunningProcess) → has_no_current o ≡ true → running_count o ≡ 0
 none_counts None e = refl
@@ -59,16 +59,16 @@ chosen_within : (holds : List Nexus) (u : UnitState) → IsWithin u → IsWithin
 chosen_within holds u h =
     go (has_no_current u.current) refl (not (is_held holds u.target u.unit)) (choice u.pick u.waiting) refl
   where
-    go : (x : Bool) → has_no_current u.current ≡ x → (y : Bool) (p : Option Process) → choice u.pick u.waiting ≡ p
-        → IsWithin (if x && y then with_current u p else u)
-    go false f y p z = h
-    go true f false p z = h
+    go : (x : Bool) → has_no_current u.current ≡ x → (y : Bool) (c : Option Process) → choice u.pick u.waiting ≡ c
+        → IsWithin (if x && y then with_current u c else u)
+    go false f y c z = h
+    go true f false c z = h
     go true f true None z = h
-    go true f true (Some p) z =
-        let one : length (without_process u.waiting p.id) < length u.waiting = chosen_fewer u p z in
+    go true f true (Some c) z =
+        let one : length (without_process u.waiting c.id) < length u.waiting = chosen_fewer u c z in
         let two : running_count u.current ≡ 0 = none_counts u.current f in
         let three : length u.waiting + running_count u.current ≤ u.depth = h in
-        let four : length (without_process u.waiting p.id) + 1 ≤ u.depth = omega arith in
+        let four : length (without_process u.waiting c.id) + 1 ≤ u.depth = omega arith in
         four
 
 settled_within : (holds : List Nexus) (units : List UnitState) → AreWithin units
@@ -84,18 +84,18 @@ with_within [] new h g = tt
 with_within (u ∷ units) new h g = go (u.target == new.target && u.unit == new.unit) (with_within units new h.1 g)
   where
     go : (x : Bool) → AreWithin (with_unit units new) → AreWithin (if x then new ∷ units else u ∷ with_unit units new)
-    go true k = (g, h.1)
-    go false k = (h.0, k)
+    go true e = (g, h.1)
+    go false e = (h.0, e)
 
-pub unit_within : (units : List UnitState) (t n : ℕ) (u : UnitState) → unit_state_at units t n ≡ Some u
+pub unit_within : (units : List UnitState) (t m : ℕ) (u : UnitState) → unit_state_at units t m ≡ Some u
     → AreWithin units → process_count u ≤ u.depth
-unit_within [] t n u e h = absurd (none_some u e)
-unit_within (v ∷ units) t n u e h = go (v.target == t && v.unit == n) e (λ k. unit_within units t n u k h.1)
+unit_within [] t m u e h = absurd (none_some u e)
+unit_within (v ∷ units) t m u e h = go (v.target == t && v.unit == m) e (λ f. unit_within units t m u f h.1)
   where
-    go : (x : Bool) → (if x then Some v else unit_state_at units t n) ≡ Some u
-        → (unit_state_at units t n ≡ Some u → IsWithin u) → IsWithin u
-    go true k rest = subst (λ (w : UnitState). IsWithin w) (same_Some v u k) h.0
-    go false k rest = rest k
+    go : (x : Bool) → (if x then Some v else unit_state_at units t m) ≡ Some u
+        → (unit_state_at units t m ≡ Some u → IsWithin u) → IsWithin u
+    go true f rest = subst (λ (w : UnitState). IsWithin w) (same_Some v u f) h.0
+    go false f rest = rest f
 
 replied_count : (o : Option RunningProcess) (id : ProcId) (reply : Reply)
     → running_count (Steps.current_with_reply o id reply) ≡ running_count o
@@ -110,7 +110,7 @@ replied_within : (units : List UnitState) (id : ProcId) (reply : Reply) → AreW
     → AreWithin (Steps.units_with_reply units id reply)
 replied_within [] id reply h = tt
 replied_within (u ∷ units) id reply h = (
-  subst (λ (n : ℕ). length u.waiting + n ≤ u.depth) (sym (replied_count u.current id reply)) h.0,
+  subst (λ (m : ℕ). length u.waiting + m ≤ u.depth) (sym (replied_count u.current id reply)) h.0,
   replied_within units id reply h.1,
 )
 
@@ -119,8 +119,8 @@ fewer_within : (u : UnitState) (waiting : List Process) (o : Option RunningProce
     → running_count o ≤ running_count u.current → IsWithin u → IsWithin (record u { waiting = waiting; current = o })
 fewer_within u waiting o e f h =
     let g : length u.waiting + running_count u.current ≤ u.depth = h in
-    let k : length waiting + running_count o ≤ u.depth = omega arith in
-    k
+    let z : length waiting + running_count o ≤ u.depth = omega arith in
+    z
 
 fewer_runs : (x : Bool) (o : Option RunningProcess) → running_count (if x then None else o) ≤ running_count o
 fewer_runs true o = omega arith
@@ -137,13 +137,13 @@ left_within (u ∷ units) id h = (
 fewer_kept : (drops : Process → Bool) (waiting : List Process)
     → length (Steps.kept_processes drops waiting) ≤ length waiting
 fewer_kept drops [] = omega arith
-fewer_kept drops (p ∷ waiting) = go (drops p) (fewer_kept drops waiting)
+fewer_kept drops (c ∷ waiting) = go (drops c) (fewer_kept drops waiting)
   where
     go : (x : Bool) → length (Steps.kept_processes drops waiting) ≤ length waiting
-        → length (if x then Steps.kept_processes drops waiting else p ∷ Steps.kept_processes drops waiting)
-        ≤ length (p ∷ waiting)
-    go true k = omega arith
-    go false k = omega arith
+        → length (if x then Steps.kept_processes drops waiting else c ∷ Steps.kept_processes drops waiting)
+        ≤ length (c ∷ waiting)
+    go true e = omega arith
+    go false e = omega arith
 
 runs_kept : (drops : Process → Bool) (o : Option RunningProcess)
     → running_count (Steps.kept_running drops o) ≤ running_count o
@@ -172,58 +172,58 @@ within_if : (x : Bool) (a : Array) → (x ≡ true → AreWithin a.units) → If
 within_if true a h = h refl
 within_if false a h = tt
 
-joins : (u : UnitState) (p : Process) → nat_lt (process_count u) u.depth ≡ true
-    → IsWithin (record u { waiting = u.waiting ++ p ∷ [] })
-joins u p e =
-    let one : length (u.waiting ++ p ∷ []) ≡ length u.waiting + 1 = length-append u.waiting (p ∷ []) in
+joins : (u : UnitState) (c : Process) → nat_lt (process_count u) u.depth ≡ true
+    → IsWithin (record u { waiting = u.waiting ++ c ∷ [] })
+joins u c e =
+    let one : length (u.waiting ++ c ∷ []) ≡ length u.waiting + 1 = length-append u.waiting (c ∷ []) in
     let two : length u.waiting + running_count u.current < u.depth = grind (arith, nat_tests) in
-    let three : length (u.waiting ++ p ∷ []) + running_count u.current ≤ u.depth = omega arith in
+    let three : length (u.waiting ++ c ∷ []) + running_count u.current ≤ u.depth = omega arith in
     three
 
 accepted : (a : Array) (o : Option Process) → AreWithin a.units → IfWithin (Steps.accept_step a o)
 accepted a None h = tt
-accepted a (Some p) h = go (unit_state_at a.units p.target p.unit)
+accepted a (Some c) h = go (unit_state_at a.units c.target c.unit)
   where
-    go : (u : Option UnitState) → IfWithin (Steps.accept_step_at a p u)
+    go : (u : Option UnitState) → IfWithin (Steps.accept_step_at a c u)
     go None = h
-    go (Some u) = senses (is_request_sense (command_of p.cdb))
+    go (Some u) = senses (is_request_sense (command_of c.cdb))
       where
-        senses : (x : Bool) → IfWithin (if x then Some (Steps.with_guest a p None) else Steps.queue_step a p u)
+        senses : (x : Bool) → IfWithin (if x then Some (Steps.with_guest a c None) else Steps.queue_step a c u)
         senses true = h
         senses false = within_if (nat_lt (process_count u) u.depth) (record a {
-          units = with_unit a.units (record u { waiting = u.waiting ++ p ∷ [] });
-        }) (λ e. with_within a.units (record u { waiting = u.waiting ++ p ∷ [] }) h (joins u p e))
+          units = with_unit a.units (record u { waiting = u.waiting ++ c ∷ [] });
+        }) (λ e. with_within a.units (record u { waiting = u.waiting ++ c ∷ [] }) h (joins u c e))
 
 refused : (a : Array) (o : Option Process) → AreWithin a.units → IfWithin (Steps.refuse_step a o)
 refused a None h = tt
-refused a (Some p) h = go (unit_state_at a.units p.target p.unit)
+refused a (Some c) h = go (unit_state_at a.units c.target c.unit)
   where
-    go : (u : Option UnitState) → IfWithin (Steps.refuse_step_at a p u)
+    go : (u : Option UnitState) → IfWithin (Steps.refuse_step_at a c u)
     go None = tt
-    go (Some u) = within_if (not (is_request_sense (command_of p.cdb)) && process_count u == u.depth)
-        (Steps.with_listed_reply (Steps.with_guest a p (Some queue_full)) p.id queue_full) (λ e. h)
+    go (Some u) = within_if (not (is_request_sense (command_of c.cdb)) && process_count u == u.depth)
+        (Steps.with_listed_reply (Steps.with_guest a c (Some queue_full)) c.id queue_full) (λ e. h)
 
-executed : (a : Array) (p : Process) → AreWithin a.units
-    → AreWithin (Steps.after_execution_at a p (unit_state_at a.units p.target p.unit)).units
-executed a p h = go (unit_state_at a.units p.target p.unit) refl
+executed : (a : Array) (c : Process) → AreWithin a.units
+    → AreWithin (Steps.after_execution_at a c (unit_state_at a.units c.target c.unit)).units
+executed a c h = go (unit_state_at a.units c.target c.unit) refl
   where
-    inner : (done : Execution) (u : Option UnitState) → unit_state_at a.units p.target p.unit ≡ u
-        → (x : Bool) → AreWithin (Steps.with_contents (Steps.without_attention a x (nexus_of p)) u done.contents).units
+    inner : (done : Execution) (u : Option UnitState) → unit_state_at a.units c.target c.unit ≡ u
+        → (x : Bool) → AreWithin (Steps.with_contents (Steps.without_attention a x (nexus_of c)) u done.contents).units
     inner done None f true = h
     inner done None f false = h
     inner done (Some u) f true =
-        with_within a.units (record u { contents = done.contents }) h (unit_within a.units p.target p.unit u f h)
+        with_within a.units (record u { contents = done.contents }) h (unit_within a.units c.target c.unit u f h)
     inner done (Some u) f false =
-        with_within a.units (record u { contents = done.contents }) h (unit_within a.units p.target p.unit u f h)
+        with_within a.units (record u { contents = done.contents }) h (unit_within a.units c.target c.unit u f h)
 
-    by : (done : Execution) (u : Option UnitState) → unit_state_at a.units p.target p.unit ≡ u
-        → AreWithin (Steps.after_execution a p u done).units
-    by done u f = replied_within (Steps.with_contents (Steps.without_attention a done.reported (nexus_of p)) u
-        done.contents).units p.id done.reply (inner done u f done.reported)
+    by : (done : Execution) (u : Option UnitState) → unit_state_at a.units c.target c.unit ≡ u
+        → AreWithin (Steps.after_execution a c u done).units
+    by done u f = replied_within (Steps.with_contents (Steps.without_attention a done.reported (nexus_of c)) u
+        done.contents).units c.id done.reply (inner done u f done.reported)
 
-    go : (u : Option UnitState) → unit_state_at a.units p.target p.unit ≡ u
-        → AreWithin (Steps.after_execution_at a p u).units
-    go u f = by (execution (Steps.context_at a (nexus_of p) u) p.cdb p.sent) u f
+    go : (u : Option UnitState) → unit_state_at a.units c.target c.unit ≡ u
+        → AreWithin (Steps.after_execution_at a c u).units
+    go u f = by (execution (Steps.context_at a (nexus_of c) u) c.cdb c.sent) u f
 
 run_within : (a : Array) (guest : Bool) (o : Option RunningProcess) → AreWithin a.units
     → IfWithin (Steps.run_step a guest o)
@@ -239,14 +239,14 @@ failed s a id reply (Some r) h =
     within_if (is_none r.reply) (Steps.with_reply a id reply) (λ e. replied_within a.units id reply h)
 failed s a id reply None h = go (process_of s id)
   where
-    by : (p : Process) (x : Bool)
-        → IfWithin (if x then None else Some (Steps.with_listed_reply (Steps.with_guest a p (Some reply)) id reply))
-    by p true = tt
-    by p false = h
+    by : (c : Process) (x : Bool)
+        → IfWithin (if x then None else Some (Steps.with_listed_reply (Steps.with_guest a c (Some reply)) id reply))
+    by c true = tt
+    by c false = h
 
-    go : (p : Option Process) → IfWithin (Steps.fail_step_of_new a id reply p)
+    go : (c : Option Process) → IfWithin (Steps.fail_step_of_new a id reply c)
     go None = tt
-    go (Some p) = by p (Steps.is_waiting a.units id || Steps.has_ended a id)
+    go (Some c) = by c (Steps.is_waiting a.units id || Steps.has_ended a id)
 
 ended : (a : Array) (status : ℕ) (o : Option RunningProcess) → AreWithin a.units → IfWithin (Steps.end_step a status o)
 ended a status None h = tt
@@ -266,22 +266,22 @@ lost a id h = go (Steps.has_ended a id)
     go true = tt
     go false = left_within a.units id h
 
-aborted : (s : ScenarioValue) (a : Array) (i t n : ℕ) (what : AbortKind) → AreWithin a.units
-    → AreWithin (Steps.abort_step s a i t n what).units
-aborted s a i t n AbortKind.All h = dropped_within (λ p. p.initiator == i && is_of_unit p t n) a.units h
-aborted s a i t n (AbortKind.Tag tag) h =
-    dropped_within (λ p. p.initiator == i && is_of_unit p t n && has_tag p.tag tag) a.units h
-aborted s a i t n AbortKind.WholeQueue h =
-    let kept : Array = Steps.without_dropped a (λ p. is_of_unit p t n) in
-    same_within kept (Steps.abort_step s a i t n AbortKind.WholeQueue)
-    (cleared_same i (Steps.unit_processes (unit_state_at a.units t n)) kept)
-    (dropped_within (λ p. is_of_unit p t n) a.units h)
-aborted s a i t n AbortKind.Device h =
+aborted : (s : ScenarioValue) (a : Array) (i t m : ℕ) (what : AbortKind) → AreWithin a.units
+    → AreWithin (Steps.abort_step s a i t m what).units
+aborted s a i t m AbortKind.All h = dropped_within (λ p. p.initiator == i && is_of_unit p t m) a.units h
+aborted s a i t m (AbortKind.Tag tag) h =
+    dropped_within (λ p. p.initiator == i && is_of_unit p t m && has_tag p.tag tag) a.units h
+aborted s a i t m AbortKind.WholeQueue h =
+    let kept : Array = Steps.without_dropped a (λ p. is_of_unit p t m) in
+    same_within kept (Steps.abort_step s a i t m AbortKind.WholeQueue)
+    (cleared_same i (Steps.unit_processes (unit_state_at a.units t m)) kept)
+    (dropped_within (λ p. is_of_unit p t m) a.units h)
+aborted s a i t m AbortKind.Device h =
     let kept : Array = record (Steps.without_dropped a (λ p. p.target == t)) {
       senses = Steps.kept_senses (λ r. r.target == t) a.senses;
       holds = Steps.kept_nexuses (λ r. r.target == t) a.holds;
     } in
-    same_within kept (Steps.abort_step s a i t n AbortKind.Device)
+    same_within kept (Steps.abort_step s a i t m AbortKind.Device)
     (attended_same s.hosts a.units (λ u. u.target == t) kept) (dropped_within (λ p. p.target == t) a.units h)
 
 reset : (s : ScenarioValue) (a : Array) → AreWithin a.units → AreWithin (Steps.reset_step s a).units
@@ -310,9 +310,9 @@ within_after s a b event h e = go (Steps.event_step s a event) (event_within s a
     no_array x z = absurd cc
 
     go : (o : Option Array) → IfWithin o → Steps.settled_array_if o ≡ Some b → AreWithin b.units
-    go None k z = absurd (no_array b z)
-    go (Some c) k z =
-        subst (λ (x : Array). AreWithin x.units) (same_Some (settled_array c) b z) (settled_within c.holds c.units k)
+    go None f z = absurd (no_array b z)
+    go (Some c) f z =
+        subst (λ (x : Array). AreWithin x.units) (same_Some (settled_array c) b z) (settled_within c.holds c.units f)
 
 pub within_at_start : (s : ScenarioValue) → AreWithin (settled_array (starting_array s)).units
 within_at_start s = settled_within [] (starting_units s s.units) (go s.units)

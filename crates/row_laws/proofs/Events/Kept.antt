@@ -15,9 +15,9 @@ Keeps e a b = (id : ProcId) → replies_to e id ≡ false → reply_in b.replies
 same_list : (a b : Array) → b.replies ≡ a.replies → (id : ProcId) → reply_in b.replies id ≡ reply_in a.replies id
 same_list a b e id = ap (λ (x : List (ProcId × Reply)). reply_in x id) e
 
-one_more : (a b : Array) (p : ProcId) (reply : Reply) → b.replies ≡ (p, reply) ∷ a.replies
-    → (id : ProcId) → same_id p id ≡ false → reply_in b.replies id ≡ reply_in a.replies id
-one_more a b p reply e id f = ap (λ (x : List (ProcId × Reply)). reply_in x id) e
+one_more : (a b : Array) (d : ProcId) (reply : Reply) → b.replies ≡ (d, reply) ∷ a.replies
+    → (id : ProcId) → same_id d id ≡ false → reply_in b.replies id ≡ reply_in a.replies id
+one_more a b d reply e id f = ap (λ (x : List (ProcId × Reply)). reply_in x id) e
     ∙ ap (λ (q : Bool). if q then Some reply else reply_in a.replies id) f
 
 kept_on : (s : ScenarioValue) (a b : Array) (e : Event) → step s e a ≡ Some b → Keeps e a b
@@ -66,5 +66,5 @@ events_keep s a (event ∷ shown) b id e none =
     go : ((x : Array) → array_after_events s (Some a) shown ≡ Some x → reply_in x.replies id ≡ reply_in a.replies id)
         → (o : Option Array) → array_after_events s (Some a) shown ≡ o → array_step s event o ≡ Some b
         → reply_in b.replies id ≡ reply_in a.replies id
-    go before None f k = no_array s event b k
-    go before (Some x) f k = kept_on s x b event k id none.0 ∙ before x f
+    go before None f h = no_array s event b h
+    go before (Some x) f h = kept_on s x b event h id none.0 ∙ before x f

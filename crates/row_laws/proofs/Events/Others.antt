@@ -14,11 +14,11 @@ use Rattle.due_model.specs.array_model.specs.Steps
 
 -- ---- the units
 
-pub running_own : (s : ScenarioValue) (a : Array) (id : ProcId) (p : Process) → IsSound s a → process_of s id ≡ Some p
-    → running_process a id ≡ running_at (seat_of a p.target p.unit) id
-running_own s a id p h e =
-    let g = guest_own s a.guests id p h.guests e in
-    let u = running_unit s a.units id p h.units h.apart e in
+pub running_own : (s : ScenarioValue) (a : Array) (id : ProcId) (c : Process) → IsSound s a → process_of s id ≡ Some c
+    → running_process a id ≡ running_at (seat_of a c.target c.unit) id
+running_own s a id c h e =
+    let g = guest_own s a.guests id c h.guests e in
+    let u = running_unit s a.units id c h.units h.apart e in
     λ i. if is_some (g i) then g i else u i
 
 -- ---- An event leaves the processes of which it is not: one that has not arrived has not arrived after it, and one at
@@ -38,9 +38,9 @@ is_of (Event.Reset dev) other = false
 
 -- ---- what is admitted
 
-away_of : (s : ScenarioValue) (id other : ProcId) (p : Process) → process_of s id ≡ Some p → same_id id other ≡ false
-    → same_id p.id other ≡ false
-away_of s id other p e f = ap (λ (x : ProcId). same_id x other) (id_is s id p e) ∙ f
+away_of : (s : ScenarioValue) (id other : ProcId) (c : Process) → process_of s id ≡ Some c → same_id id other ≡ false
+    → same_id c.id other ≡ false
+away_of s id other c e f = ap (λ (x : ProcId). same_id x other) (id_is s id c e) ∙ f
 
 rest_admits : (s : ScenarioValue) (given : Option Reply) (over : Bool) (id other : ProcId) → same_id id other ≡ false
     → Admits s (IsUnanswered given over other) (IsAway other) id
@@ -107,54 +107,54 @@ ends id other a b f e g = record {
 
 accepted : (id : ProcId) (a : Array) (o : Option Process) → IfSame id a (Steps.accept_step a o)
 accepted id a None = tt
-accepted id a (Some p) = go (unit_state_at a.units p.target p.unit)
+accepted id a (Some c) = go (unit_state_at a.units c.target c.unit)
   where
-    go : (u : Option UnitState) → IfSame id a (Steps.accept_step_at a p u)
+    go : (u : Option UnitState) → IfSame id a (Steps.accept_step_at a c u)
     go None = record { reply = refl; ended = refl }
-    go (Some u) = senses (is_request_sense (command_of p.cdb))
+    go (Some u) = senses (is_request_sense (command_of c.cdb))
       where
-        senses : (x : Bool) → IfSame id a (if x then Some (Steps.with_guest a p None) else Steps.queue_step a p u)
+        senses : (x : Bool) → IfSame id a (if x then Some (Steps.with_guest a c None) else Steps.queue_step a c u)
         senses true = record { reply = refl; ended = refl }
         senses false = if_same id a (nat_lt (Steps.process_count u) u.depth) (record a {
-          units = with_unit a.units (record u { waiting = u.waiting ++ p ∷ [] });
+          units = with_unit a.units (record u { waiting = u.waiting ++ c ∷ [] });
         }) (record { reply = refl; ended = refl })
 
 refused : (s : ScenarioValue) (id other : ProcId) (a : Array) → same_id id other ≡ false
     → IfSame other a (Steps.refuse_step a (process_of s id))
 refused s id other a f = go (process_of s id) refl
   where
-    by : (p : Process) → same_id p.id other ≡ false
-        → (u : Option UnitState) → IfSame other a (Steps.refuse_step_at a p u)
-    by p z None = tt
-    by p z (Some u) = if_same other a (not (is_request_sense (command_of p.cdb)) && Steps.process_count u == u.depth)
-        (Steps.with_listed_reply (Steps.with_guest a p (Some queue_full)) p.id queue_full) (replied p.id other a
-        (Steps.with_listed_reply (Steps.with_guest a p (Some queue_full)) p.id queue_full) queue_full z refl refl)
+    by : (c : Process) → same_id c.id other ≡ false
+        → (u : Option UnitState) → IfSame other a (Steps.refuse_step_at a c u)
+    by c z None = tt
+    by c z (Some u) = if_same other a (not (is_request_sense (command_of c.cdb)) && Steps.process_count u == u.depth)
+        (Steps.with_listed_reply (Steps.with_guest a c (Some queue_full)) c.id queue_full) (replied c.id other a
+        (Steps.with_listed_reply (Steps.with_guest a c (Some queue_full)) c.id queue_full) queue_full z refl refl)
 
     go : (o : Option Process) → process_of s id ≡ o → IfSame other a (Steps.refuse_step a o)
     go None e = tt
-    go (Some p) e = by p (away_of s id other p e f) (unit_state_at a.units p.target p.unit)
+    go (Some c) e = by c (away_of s id other c e f) (unit_state_at a.units c.target c.unit)
 
 -- What it answers.
 abbrev pub reply_at : Array → Process → Option UnitState → Reply
-reply_at a p u = (execution (Steps.context_at a (nexus_of p) u) p.cdb p.sent).reply
+reply_at a c u = (execution (Steps.context_at a (nexus_of c) u) c.cdb c.sent).reply
 
-pub record IsExecuted (a : Array) (p : Process) (reply : Reply) (b : Array) : Type 0 where
-  pub replies : b.replies ≡ (p.id, reply) ∷ a.replies
+pub record IsExecuted (a : Array) (c : Process) (reply : Reply) (b : Array) : Type 0 where
+  pub replies : b.replies ≡ (c.id, reply) ∷ a.replies
   pub ended : b.ended ≡ a.ended
   pub holds : b.holds ≡ a.holds
 
-pub executed : (a : Array) (p : Process) (u : Option UnitState)
-    → IsExecuted a p (reply_at a p u) (Steps.after_execution_at a p u)
-executed a p u = by (execution (Steps.context_at a (nexus_of p) u) p.cdb p.sent)
+pub executed : (a : Array) (c : Process) (u : Option UnitState)
+    → IsExecuted a c (reply_at a c u) (Steps.after_execution_at a c u)
+executed a c u = by (execution (Steps.context_at a (nexus_of c) u) c.cdb c.sent)
   where
-    inner : (done : Execution) (x : Bool) (v : Option UnitState) → IsExecuted a p done.reply (Steps.with_reply
-        (Steps.with_contents (Steps.without_attention a x (nexus_of p)) v done.contents) p.id done.reply)
+    inner : (done : Execution) (x : Bool) (v : Option UnitState) → IsExecuted a c done.reply (Steps.with_reply
+        (Steps.with_contents (Steps.without_attention a x (nexus_of c)) v done.contents) c.id done.reply)
     inner done true None = record { replies = refl; ended = refl; holds = refl }
     inner done false None = record { replies = refl; ended = refl; holds = refl }
     inner done true (Some w) = record { replies = refl; ended = refl; holds = refl }
     inner done false (Some w) = record { replies = refl; ended = refl; holds = refl }
 
-    by : (done : Execution) → IsExecuted a p done.reply (Steps.after_execution a p u done)
+    by : (done : Execution) → IsExecuted a c done.reply (Steps.after_execution a c u done)
     by done = inner done done.reported u
 
 run_same : (a : Array) (guest : Bool) (id other : ProcId) → same_id id other ≡ false
@@ -176,15 +176,15 @@ failed s a id other reply (Some r) f = if_same other a (is_none r.reply) (Steps.
     (replied id other a (Steps.with_reply a id reply) reply f refl refl)
 failed s a id other reply None f = go (process_of s id)
   where
-    by : (p : Process) (x : Bool) → IfSame other a
-        (if x then None else Some (Steps.with_listed_reply (Steps.with_guest a p (Some reply)) id reply))
-    by p true = tt
-    by p false =
-        replied id other a (Steps.with_listed_reply (Steps.with_guest a p (Some reply)) id reply) reply f refl refl
+    by : (c : Process) (x : Bool) → IfSame other a
+        (if x then None else Some (Steps.with_listed_reply (Steps.with_guest a c (Some reply)) id reply))
+    by c true = tt
+    by c false =
+        replied id other a (Steps.with_listed_reply (Steps.with_guest a c (Some reply)) id reply) reply f refl refl
 
-    go : (p : Option Process) → IfSame other a (Steps.fail_step_of_new a id reply p)
+    go : (c : Option Process) → IfSame other a (Steps.fail_step_of_new a id reply c)
     go None = tt
-    go (Some p) = by p (Steps.is_waiting a.units id || has_ended a id)
+    go (Some c) = by c (Steps.is_waiting a.units id || has_ended a id)
 
 pub ended : (a : Array) (id other : ProcId) (status : ℕ) → same_id id other ≡ false
     → IfSame other a (Steps.end_step a status (Steps.running_process a id))
@@ -211,18 +211,18 @@ lost a id other f = go (has_ended a id)
     go true = tt
     go false = ends id other a (Steps.array_without a id) f refl refl
 
-aborted : (s : ScenarioValue) (a : Array) (i t n : ℕ) (what : AbortKind) (id : ProcId)
-    → IsSameOf id a (Steps.abort_step s a i t n what)
-aborted s a i t n AbortKind.All id = record { reply = refl; ended = refl }
-aborted s a i t n (AbortKind.Tag tag) id = record { reply = refl; ended = refl }
-aborted s a i t n AbortKind.WholeQueue id =
-    let kept : Array = Steps.without_dropped a (λ p. is_of_unit p t n) in
-    let same = cleared_same i (Steps.unit_processes (unit_state_at a.units t n)) kept in
+aborted : (s : ScenarioValue) (a : Array) (i t m : ℕ) (what : AbortKind) (id : ProcId)
+    → IsSameOf id a (Steps.abort_step s a i t m what)
+aborted s a i t m AbortKind.All id = record { reply = refl; ended = refl }
+aborted s a i t m (AbortKind.Tag tag) id = record { reply = refl; ended = refl }
+aborted s a i t m AbortKind.WholeQueue id =
+    let kept : Array = Steps.without_dropped a (λ p. is_of_unit p t m) in
+    let same = cleared_same i (Steps.unit_processes (unit_state_at a.units t m)) kept in
     record {
       reply = ap (λ (x : List (ProcId × Reply)). reply_in x id) same.replies;
       ended = λ j. has_ended (record a { ended = same.ended j }) id;
     }
-aborted s a i t n AbortKind.Device id =
+aborted s a i t m AbortKind.Device id =
     let kept : Array = record (Steps.without_dropped a (λ p. p.target == t)) {
       senses = Steps.kept_senses (λ r. r.target == t) a.senses;
       holds = Steps.kept_nexuses (λ r. r.target == t) a.holds;
@@ -262,9 +262,9 @@ same_after s a b event other f e = go (Steps.event_step s a event) (event_same s
     no_array x z = absurd cc
 
     go : (o : Option Array) → IfSame other a o → Steps.settled_array_if o ≡ Some b → IsSameOf other a b
-    go None k z = absurd (no_array b z)
-    go (Some c) k z = subst (λ (x : Array). IsSameOf other a x) (same_Some (settled_array c) b z)
-        (record { reply = k.reply; ended = k.ended })
+    go None h z = absurd (no_array b z)
+    go (Some c) h z = subst (λ (x : Array). IsSameOf other a x) (same_Some (settled_array c) b z)
+        (record { reply = h.reply; ended = h.ended })
 
 pub rests_after : (s : ScenarioValue) (a b : Array) (event : Event) (other : ProcId) → is_of event other ≡ false
     → Steps.step s event a ≡ Some b → IsAtRest a other → IsAtRest b other
@@ -303,7 +303,7 @@ untouched_at_start s id = record {
 away_waits : (given : Option Reply) (over : Bool) (id : ProcId) (waiting : List Process) → Waits (IsAway id) waiting
     → Waits (IsUnanswered given over id) waiting
 away_waits given over id [] h = tt
-away_waits given over id (p ∷ waiting) h = (λ z. wrong (sym z ∙ h.0), away_waits given over id waiting h.1)
+away_waits given over id (c ∷ waiting) h = (λ z. wrong (sym z ∙ h.0), away_waits given over id waiting h.1)
 
 away_runs : (given : Option Reply) (over : Bool) (id : ProcId) (o : Option RunningProcess) → Runs (IsAway id) o
     → Runs (IsUnanswered given over id) o

@@ -14,44 +14,44 @@ use Rattle.due_model.specs.array_model.specs.Steps
 
 -- ---- lists
 
-pub append_waits : (q : RunningProcess → Type 0) (waiting : List Process) (p : Process) → Waits q waiting
-    → q (without_reply p) → Waits q (waiting ++ p ∷ [])
-append_waits q [] p h g = (g, tt)
-append_waits q (w ∷ waiting) p h g = (h.0, append_waits q waiting p h.1 g)
+pub append_waits : (q : RunningProcess → Type 0) (waiting : List Process) (c : Process) → Waits q waiting
+    → q (without_reply c) → Waits q (waiting ++ c ∷ [])
+append_waits q [] c h g = (g, tt)
+append_waits q (w ∷ waiting) c h g = (h.0, append_waits q waiting c h.1 g)
 
 pub without_waits : (q : RunningProcess → Type 0) (waiting : List Process) (id : ProcId) → Waits q waiting
     → Waits q (without_process waiting id)
 without_waits q [] id h = tt
-without_waits q (p ∷ waiting) id h = go (same_id p.id id) (without_waits q waiting id h.1)
+without_waits q (c ∷ waiting) id h = go (same_id c.id id) (without_waits q waiting id h.1)
   where
     go : (x : Bool) → Waits q (without_process waiting id)
-        → Waits q (if x then without_process waiting id else p ∷ without_process waiting id)
-    go true k = k
-    go false k = (h.0, k)
+        → Waits q (if x then without_process waiting id else c ∷ without_process waiting id)
+    go true e = e
+    go false e = (h.0, e)
 
 kept_waits : (q : RunningProcess → Type 0) (drops : Process → Bool) (waiting : List Process) → Waits q waiting
     → Waits q (Steps.kept_processes drops waiting)
 kept_waits q drops [] h = tt
-kept_waits q drops (p ∷ waiting) h = go (drops p) (kept_waits q drops waiting h.1)
+kept_waits q drops (c ∷ waiting) h = go (drops c) (kept_waits q drops waiting h.1)
   where
     go : (x : Bool) → Waits q (Steps.kept_processes drops waiting)
-        → Waits q (if x then Steps.kept_processes drops waiting else p ∷ Steps.kept_processes drops waiting)
-    go true k = k
-    go false k = (h.0, k)
+        → Waits q (if x then Steps.kept_processes drops waiting else c ∷ Steps.kept_processes drops waiting)
+    go true e = e
+    go false e = (h.0, e)
 
-at_waits : (q : RunningProcess → Type 0) (waiting : List Process) (place : ℕ) (p : Process) → Waits q waiting
-    → process_at waiting place ≡ Some p → q (without_reply p)
-at_waits q [] place p h e = absurd (none_some p e)
-at_waits q (w ∷ waiting) zero p h e = subst (λ (x : Process). q (without_reply x)) (same_Some w p e) h.0
-at_waits q (w ∷ waiting) (suc place) p h e = at_waits q waiting place p h.1 e
+at_waits : (q : RunningProcess → Type 0) (waiting : List Process) (place : ℕ) (c : Process) → Waits q waiting
+    → process_at waiting place ≡ Some c → q (without_reply c)
+at_waits q [] place c h e = absurd (none_some c e)
+at_waits q (w ∷ waiting) zero c h e = subst (λ (x : Process). q (without_reply x)) (same_Some w c e) h.0
+at_waits q (w ∷ waiting) (suc place) c h e = at_waits q waiting place c h.1 e
 
-choice_waits : (q : RunningProcess → Type 0) (u : UnitState) (p : Process) → Waits q u.waiting
-    → choice u.pick u.waiting ≡ Some p → q (without_reply p)
-choice_waits q u p h e = go (chosen_place u.pick (entries_of u.waiting)) e
+choice_waits : (q : RunningProcess → Type 0) (u : UnitState) (c : Process) → Waits q u.waiting
+    → choice u.pick u.waiting ≡ Some c → q (without_reply c)
+choice_waits q u c h e = go (chosen_place u.pick (entries_of u.waiting)) e
   where
-    go : (x : Option ℕ) → process_at_if u.waiting x ≡ Some p → q (without_reply p)
-    go None k = absurd (none_some p k)
-    go (Some place) k = at_waits q u.waiting place p h k
+    go : (x : Option ℕ) → process_at_if u.waiting x ≡ Some c → q (without_reply c)
+    go None f = absurd (none_some c f)
+    go (Some place) f = at_waits q u.waiting place c h f
 
 pub with_units : (q : RunningProcess → Type 0) (units : List UnitState) (new : UnitState) → OnUnits q units
     → OnUnit q new → OnUnits q (with_unit units new)
@@ -59,23 +59,23 @@ with_units q [] new h g = tt
 with_units q (u ∷ units) new h g = go (u.target == new.target && u.unit == new.unit) (with_units q units new h.1 g)
   where
     go : (x : Bool) → OnUnits q (with_unit units new) → OnUnits q (if x then new ∷ units else u ∷ with_unit units new)
-    go true k = (g, h.1)
-    go false k = (h.0, k)
+    go true e = (g, h.1)
+    go false e = (h.0, e)
 
-pub unit_has : (q : RunningProcess → Type 0) (units : List UnitState) (t n : ℕ) (u : UnitState)
-    → unit_state_at units t n ≡ Some u → OnUnits q units → OnUnit q u
-unit_has q [] t n u e h = absurd (none_some u e)
-unit_has q (v ∷ units) t n u e h = go (v.target == t && v.unit == n) e (λ k. unit_has q units t n u k h.1)
+pub unit_has : (q : RunningProcess → Type 0) (units : List UnitState) (t m : ℕ) (u : UnitState)
+    → unit_state_at units t m ≡ Some u → OnUnits q units → OnUnit q u
+unit_has q [] t m u e h = absurd (none_some u e)
+unit_has q (v ∷ units) t m u e h = go (v.target == t && v.unit == m) e (λ f. unit_has q units t m u f h.1)
   where
-    go : (x : Bool) → (if x then Some v else unit_state_at units t n) ≡ Some u
-        → (unit_state_at units t n ≡ Some u → OnUnit q u) → OnUnit q u
-    go true k rest = subst (λ (w : UnitState). OnUnit q w) (same_Some v u k) h.0
-    go false k rest = rest k
+    go : (x : Bool) → (if x then Some v else unit_state_at units t m) ≡ Some u
+        → (unit_state_at units t m ≡ Some u → OnUnit q u) → OnUnit q u
+    go true f rest = subst (λ (w : UnitState). OnUnit q w) (same_Some v u f) h.0
+    go false f rest = rest f
 
 pub append_guests : (g : RunningProcess → Type 0) (guests : List RunningProcess) (r : RunningProcess)
     → OnGuests g guests → g r → OnGuests g (guests ++ r ∷ [])
-append_guests g [] r h k = (k, tt)
-append_guests g (x ∷ guests) r h k = (h.0, append_guests g guests r h.1 k)
+append_guests g [] r h e = (e, tt)
+append_guests g (x ∷ guests) r h e = (h.0, append_guests g guests r h.1 e)
 
 left_guests : (g : RunningProcess → Type 0) (guests : List RunningProcess) (id : ProcId) → OnGuests g guests
     → OnGuests g (without_guest guests id)
@@ -84,8 +84,8 @@ left_guests g (r ∷ guests) id h = go (same_id r.process.id id) (left_guests g 
   where
     go : (x : Bool) → OnGuests g (without_guest guests id)
         → OnGuests g (if x then without_guest guests id else r ∷ without_guest guests id)
-    go true k = k
-    go false k = (h.0, k)
+    go true e = e
+    go false e = (h.0, e)
 
 kept_guests : (g : RunningProcess → Type 0) (drops : Process → Bool) (guests : List RunningProcess) → OnGuests g guests
     → OnGuests g (Steps.kept_guests drops guests)
@@ -94,8 +94,8 @@ kept_guests g drops (r ∷ guests) h = go (drops r.process) (kept_guests g drops
   where
     go : (x : Bool) → OnGuests g (Steps.kept_guests drops guests)
         → OnGuests g (if x then Steps.kept_guests drops guests else r ∷ Steps.kept_guests drops guests)
-    go true k = k
-    go false k = (h.0, k)
+    go true e = e
+    go false e = (h.0, e)
 
 -- ---- the choice
 
@@ -103,10 +103,10 @@ pub chosen : (q : RunningProcess → Type 0) (holds : List Nexus) (u : UnitState
     → OnUnit q (unit_after_choice holds u)
 chosen q holds u h = go (has_no_current u.current && not (is_held holds u.target u.unit)) (choice u.pick u.waiting) refl
   where
-    go : (x : Bool) (p : Option Process) → choice u.pick u.waiting ≡ p → OnUnit q (if x then with_current u p else u)
+    go : (x : Bool) (c : Option Process) → choice u.pick u.waiting ≡ c → OnUnit q (if x then with_current u c else u)
     go true None z = h
-    go true (Some p) z = (without_waits q u.waiting p.id h.0, choice_waits q u p h.0 z)
-    go false p z = h
+    go true (Some c) z = (without_waits q u.waiting c.id h.0, choice_waits q u c h.0 z)
+    go false c z = h
 
 settled_units : (q : RunningProcess → Type 0) (holds : List Nexus) (units : List UnitState) → OnUnits q units
     → OnUnits q (units_after_choice holds units)
@@ -126,12 +126,12 @@ replied_units q (u ∷ units) id reply f h = ((h.0.0, go u.current h.0.1), repli
   where
     inner : (r : RunningProcess) → q r → (x : Bool) → same_id r.process.id id ≡ x
         → Runs q (if x then Some (record r { reply = Some reply }) else Some r)
-    inner r k true z = f r reply z k
-    inner r k false z = k
+    inner r e true z = f r reply z e
+    inner r e false z = e
 
     go : (x : Option RunningProcess) → Runs q x → Runs q (Steps.current_with_reply x id reply)
-    go None k = tt
-    go (Some r) k = inner r k (same_id r.process.id id) refl
+    go None e = tt
+    go (Some r) e = inner r e (same_id r.process.id id) refl
 
 replied_guests : (g : RunningProcess → Type 0) (guests : List RunningProcess) (id : ProcId) (reply : Reply)
     → KeptAsReplied id g → OnGuests g guests → OnGuests g (Steps.guests_with_reply guests id reply)
@@ -140,8 +140,8 @@ replied_guests g (r ∷ guests) id reply f h = go (same_id r.process.id id) refl
   where
     go : (x : Bool) → same_id r.process.id id ≡ x → OnGuests g (Steps.guests_with_reply guests id reply) → OnGuests g
         (if x then record r { reply = Some reply } ∷ guests else r ∷ Steps.guests_with_reply guests id reply)
-    go true z k = (f r reply z h.0, h.1)
-    go false z k = (h.0, k)
+    go true z e = (f r reply z h.0, h.1)
+    go false z e = (h.0, e)
 
 -- ---- ends and aborts
 
@@ -154,8 +154,8 @@ left_units q (u ∷ units) id h = (
 )
   where
     go : (x : Bool) (o : Option RunningProcess) → Runs q o → Runs q (if x then None else o)
-    go true o k = tt
-    go false o k = k
+    go true o e = tt
+    go false o e = e
 
 dropped_units : (q : RunningProcess → Type 0) (drops : Process → Bool) (units : List UnitState) → OnUnits q units
     → OnUnits q (Steps.kept_units drops units)
@@ -164,12 +164,12 @@ dropped_units q drops (u ∷ units) h =
     ((kept_waits q drops u.waiting h.0.0, go u.current h.0.1), dropped_units q drops units h.1)
   where
     inner : (r : RunningProcess) → q r → (x : Bool) → Runs q (if x then None else Some r)
-    inner r k true = tt
-    inner r k false = k
+    inner r e true = tt
+    inner r e false = e
 
     go : (x : Option RunningProcess) → Runs q x → Runs q (Steps.kept_running drops x)
-    go None k = tt
-    go (Some r) k = inner r k (drops r.process)
+    go None e = tt
+    go (Some r) e = inner r e (drops r.process)
 
 -- ---- what leaves the units and the guests as they are
 
@@ -196,12 +196,12 @@ each_same q g a b same h = record {
   guests = subst (λ (gs : List RunningProcess). OnGuests g gs) (sym same.guests) h.guests;
 }
 
-hosts_same : (hosts : List HostDef) (t n : ℕ) (a : Array) → IsSameIn a (Steps.reset_attentions hosts t n a)
-hosts_same [] t n a = same_in a
-hosts_same (h ∷ hosts) t n a =
-    let next : Array = Steps.reset_attention a (record { initiator = h.dev; target = t; unit = n }) in
-    same_on a next (Steps.reset_attentions hosts t n next)
-    (record { units = refl; guests = refl; replies = refl; ended = refl }) (hosts_same hosts t n next)
+hosts_same : (hosts : List HostDef) (t m : ℕ) (a : Array) → IsSameIn a (Steps.reset_attentions hosts t m a)
+hosts_same [] t m a = same_in a
+hosts_same (h ∷ hosts) t m a =
+    let next : Array = Steps.reset_attention a (record { initiator = h.dev; target = t; unit = m }) in
+    same_on a next (Steps.reset_attentions hosts t m next)
+    (record { units = refl; guests = refl; replies = refl; ended = refl }) (hosts_same hosts t m next)
 
 pub attended_same : (hosts : List HostDef) (units : List UnitState) (is_one : UnitState → Bool) (a : Array)
     → IsSameIn a (Steps.unit_reset_attentions hosts units is_one a)
@@ -218,29 +218,29 @@ attended_same hosts (u ∷ units) is_one a =
 pub cleared_same : (initiator : ℕ) (lost : List Process) (a : Array)
     → IsSameIn a (Steps.cleared_attentions initiator lost a)
 cleared_same initiator [] a = same_in a
-cleared_same initiator (p ∷ lost) a =
-    let next : Array = if p.initiator == initiator then a else Steps.cleared_attention a (nexus_of p) in
+cleared_same initiator (c ∷ lost) a =
+    let next : Array = if c.initiator == initiator then a else Steps.cleared_attention a (nexus_of c) in
     same_on a next (Steps.cleared_attentions initiator lost next)
-    (go (p.initiator == initiator) (Steps.is_reset_pending (sense_of_nexus a.attentions (nexus_of p))))
+    (go (c.initiator == initiator) (Steps.is_reset_pending (sense_of_nexus a.attentions (nexus_of c))))
     (cleared_same initiator lost next)
   where
     go : (x y : Bool) → IsSameIn a (if x then a else (if y then a else record a {
-      attentions = (nexus_of p, commands_cleared) ∷ senses_without a.attentions (nexus_of p);
+      attentions = (nexus_of c, commands_cleared) ∷ senses_without a.attentions (nexus_of c);
     }))
     go true y = same_in a
     go false true = same_in a
     go false false = record { units = refl; guests = refl; replies = refl; ended = refl }
 
-pub status_same : (a : Array) (p : Process) (reply : Reply) → IsSameIn a (Steps.after_status a p reply)
-status_same a p reply =
-    go (reply.status == CHECK_CONDITION) (reply.status == GOOD && is_request_sense (command_of p.cdb))
+pub status_same : (a : Array) (c : Process) (reply : Reply) → IsSameIn a (Steps.after_status a c reply)
+status_same a c reply =
+    go (reply.status == CHECK_CONDITION) (reply.status == GOOD && is_request_sense (command_of c.cdb))
   where
     go : (x y : Bool) → IsSameIn a (if x then record a {
-      senses = (nexus_of p, reply.sense) ∷ senses_without a.senses (nexus_of p);
-      holds = nexus_of p ∷ nexuses_without a.holds (nexus_of p);
+      senses = (nexus_of c, reply.sense) ∷ senses_without a.senses (nexus_of c);
+      holds = nexus_of c ∷ nexuses_without a.holds (nexus_of c);
     } else if y then record a {
-      senses = senses_without a.senses (nexus_of p);
-      holds = nexuses_without a.holds (nexus_of p);
+      senses = senses_without a.senses (nexus_of c);
+      holds = nexuses_without a.holds (nexus_of c);
     } else a)
     go true y = record { units = refl; guests = refl; replies = refl; ended = refl }
     go false true = record { units = refl; guests = refl; replies = refl; ended = refl }
@@ -249,9 +249,9 @@ status_same a p reply =
 -- ---- an event
 
 pub record Admits (s : ScenarioValue) (q g : RunningProcess → Type 0) (id : ProcId) : Type 0 where
-  pub waits : (p : Process) → process_of s id ≡ Some p → q (without_reply p)
-  pub comes : (p : Process) (reply : Option Reply) → process_of s id ≡ Some p
-      → g (record { process = p; reply = reply })
+  pub waits : (c : Process) → process_of s id ≡ Some c → q (without_reply c)
+  pub comes : (c : Process) (reply : Option Reply) → process_of s id ≡ Some c
+      → g (record { process = c; reply = reply })
   pub runs : KeptAsReplied id q
   pub is_guest : KeptAsReplied id g
 
@@ -274,80 +274,80 @@ accepted : (s : ScenarioValue) (q g : RunningProcess → Type 0) (a : Array) (id
     → IfEach q g (Steps.accept_step a (process_of s id))
 accepted s q g a id own h = go (process_of s id) refl
   where
-    guest : (p : Process) → process_of s id ≡ Some p → Each q g (Steps.with_guest a p None)
-    guest p e =
-        record { units = h.units; guests = append_guests g a.guests (without_reply p) h.guests (own.comes p None e) }
+    guest : (c : Process) → process_of s id ≡ Some c → Each q g (Steps.with_guest a c None)
+    guest c e =
+        record { units = h.units; guests = append_guests g a.guests (without_reply c) h.guests (own.comes c None e) }
 
-    by : (p : Process) → process_of s id ≡ Some p → (u : Option UnitState) → unit_state_at a.units p.target p.unit ≡ u
-        → IfEach q g (Steps.accept_step_at a p u)
-    by p e None f = guest p e
-    by p e (Some u) f = senses (is_request_sense (command_of p.cdb))
+    by : (c : Process) → process_of s id ≡ Some c → (u : Option UnitState) → unit_state_at a.units c.target c.unit ≡ u
+        → IfEach q g (Steps.accept_step_at a c u)
+    by c e None f = guest c e
+    by c e (Some u) f = senses (is_request_sense (command_of c.cdb))
       where
-        senses : (x : Bool) → IfEach q g (if x then Some (Steps.with_guest a p None) else Steps.queue_step a p u)
-        senses true = guest p e
+        senses : (x : Bool) → IfEach q g (if x then Some (Steps.with_guest a c None) else Steps.queue_step a c u)
+        senses true = guest c e
         senses false =
-            let k = unit_has q a.units p.target p.unit u f h.units in
+            let k = unit_has q a.units c.target c.unit u f h.units in
             each_if q g (nat_lt (Steps.process_count u) u.depth)
-            (record a { units = with_unit a.units (record u { waiting = u.waiting ++ p ∷ [] }) }) (record {
-              units = with_units q a.units (record u { waiting = u.waiting ++ p ∷ [] }) h.units
-                  (append_waits q u.waiting p k.0 (own.waits p e), k.1);
+            (record a { units = with_unit a.units (record u { waiting = u.waiting ++ c ∷ [] }) }) (record {
+              units = with_units q a.units (record u { waiting = u.waiting ++ c ∷ [] }) h.units
+                  (append_waits q u.waiting c k.0 (own.waits c e), k.1);
               guests = h.guests;
             })
 
-    go : (p : Option Process) → process_of s id ≡ p → IfEach q g (Steps.accept_step a p)
+    go : (c : Option Process) → process_of s id ≡ c → IfEach q g (Steps.accept_step a c)
     go None e = tt
-    go (Some p) e = by p e (unit_state_at a.units p.target p.unit) refl
+    go (Some c) e = by c e (unit_state_at a.units c.target c.unit) refl
 
 refused : (s : ScenarioValue) (q g : RunningProcess → Type 0) (a : Array) (id : ProcId) → Admits s q g id → Each q g a
     → IfEach q g (Steps.refuse_step a (process_of s id))
 refused s q g a id own h = go (process_of s id) refl
   where
-    by : (p : Process) → process_of s id ≡ Some p → (u : Option UnitState) → IfEach q g (Steps.refuse_step_at a p u)
-    by p e None = tt
-    by p e (Some u) = each_if q g (not (is_request_sense (command_of p.cdb)) && Steps.process_count u == u.depth)
-        (Steps.with_listed_reply (Steps.with_guest a p (Some queue_full)) p.id queue_full) (record {
+    by : (c : Process) → process_of s id ≡ Some c → (u : Option UnitState) → IfEach q g (Steps.refuse_step_at a c u)
+    by c e None = tt
+    by c e (Some u) = each_if q g (not (is_request_sense (command_of c.cdb)) && Steps.process_count u == u.depth)
+        (Steps.with_listed_reply (Steps.with_guest a c (Some queue_full)) c.id queue_full) (record {
           units = h.units;
-          guests = append_guests g a.guests (record { process = p; reply = Some queue_full }) h.guests
-              (own.comes p (Some queue_full) e);
+          guests = append_guests g a.guests (record { process = c; reply = Some queue_full }) h.guests
+              (own.comes c (Some queue_full) e);
         })
 
-    go : (p : Option Process) → process_of s id ≡ p → IfEach q g (Steps.refuse_step a p)
+    go : (c : Option Process) → process_of s id ≡ c → IfEach q g (Steps.refuse_step a c)
     go None e = tt
-    go (Some p) e = by p e (unit_state_at a.units p.target p.unit)
+    go (Some c) e = by c e (unit_state_at a.units c.target c.unit)
 
 replied_each : (q g : RunningProcess → Type 0) (a : Array) (id : ProcId) (reply : Reply) → KeptAsReplied id q
     → KeptAsReplied id g → Each q g a → Each q g (Steps.with_reply a id reply)
-replied_each q g a id reply f k h = record {
+replied_each q g a id reply f e h = record {
   units = replied_units q a.units id reply f h.units;
-  guests = replied_guests g a.guests id reply k h.guests;
+  guests = replied_guests g a.guests id reply e h.guests;
 }
 
-executed : (q g : RunningProcess → Type 0) (a : Array) (p : Process) → KeptAsReplied p.id q → KeptAsReplied p.id g
-    → Each q g a → Each q g (Steps.after_execution_at a p (unit_state_at a.units p.target p.unit))
-executed q g a p fq fg h = go (unit_state_at a.units p.target p.unit) refl
+executed : (q g : RunningProcess → Type 0) (a : Array) (c : Process) → KeptAsReplied c.id q → KeptAsReplied c.id g
+    → Each q g a → Each q g (Steps.after_execution_at a c (unit_state_at a.units c.target c.unit))
+executed q g a c fq fg h = go (unit_state_at a.units c.target c.unit) refl
   where
-    inner : (done : Execution) (u : Option UnitState) → unit_state_at a.units p.target p.unit ≡ u
-        → (x : Bool) → Each q g (Steps.with_contents (Steps.without_attention a x (nexus_of p)) u done.contents)
+    inner : (done : Execution) (u : Option UnitState) → unit_state_at a.units c.target c.unit ≡ u
+        → (x : Bool) → Each q g (Steps.with_contents (Steps.without_attention a x (nexus_of c)) u done.contents)
     inner done None f true = record { units = h.units; guests = h.guests }
     inner done None f false = h
     inner done (Some u) f true = record {
       units = with_units q a.units (record u { contents = done.contents }) h.units
-          (unit_has q a.units p.target p.unit u f h.units);
+          (unit_has q a.units c.target c.unit u f h.units);
       guests = h.guests;
     }
     inner done (Some u) f false = record {
       units = with_units q a.units (record u { contents = done.contents }) h.units
-          (unit_has q a.units p.target p.unit u f h.units);
+          (unit_has q a.units c.target c.unit u f h.units);
       guests = h.guests;
     }
 
-    by : (done : Execution) (u : Option UnitState) → unit_state_at a.units p.target p.unit ≡ u
-        → Each q g (Steps.after_execution a p u done)
-    by done u f = replied_each q g (Steps.with_contents (Steps.without_attention a done.reported (nexus_of p)) u
-        done.contents) p.id done.reply fq fg (inner done u f done.reported)
+    by : (done : Execution) (u : Option UnitState) → unit_state_at a.units c.target c.unit ≡ u
+        → Each q g (Steps.after_execution a c u done)
+    by done u f = replied_each q g (Steps.with_contents (Steps.without_attention a done.reported (nexus_of c)) u
+        done.contents) c.id done.reply fq fg (inner done u f done.reported)
 
-    go : (u : Option UnitState) → unit_state_at a.units p.target p.unit ≡ u → Each q g (Steps.after_execution_at a p u)
-    go u f = by (execution (Steps.context_at a (nexus_of p) u) p.cdb p.sent) u f
+    go : (u : Option UnitState) → unit_state_at a.units c.target c.unit ≡ u → Each q g (Steps.after_execution_at a c u)
+    go u f = by (execution (Steps.context_at a (nexus_of c) u) c.cdb c.sent) u f
 
 run_each : (q g : RunningProcess → Type 0) (a : Array) (id : ProcId) → KeptAsReplied id q → KeptAsReplied id g
     → Each q g a → IfEach q g (Steps.run_step a (is_some (guest_at a.guests id)) (Steps.running_process a id))
@@ -369,18 +369,18 @@ failed s q g a id reply (Some r) own h =
     each_if q g (is_none r.reply) (Steps.with_reply a id reply) (replied_each q g a id reply own.runs own.is_guest h)
 failed s q g a id reply None own h = go (process_of s id) refl
   where
-    by : (p : Process) → process_of s id ≡ Some p → (x : Bool)
-        → IfEach q g (if x then None else Some (Steps.with_listed_reply (Steps.with_guest a p (Some reply)) id reply))
-    by p e true = tt
-    by p e false = record {
+    by : (c : Process) → process_of s id ≡ Some c → (x : Bool)
+        → IfEach q g (if x then None else Some (Steps.with_listed_reply (Steps.with_guest a c (Some reply)) id reply))
+    by c e true = tt
+    by c e false = record {
       units = h.units;
       guests =
-          append_guests g a.guests (record { process = p; reply = Some reply }) h.guests (own.comes p (Some reply) e);
+          append_guests g a.guests (record { process = c; reply = Some reply }) h.guests (own.comes c (Some reply) e);
     }
 
-    go : (p : Option Process) → process_of s id ≡ p → IfEach q g (Steps.fail_step_of_new a id reply p)
+    go : (c : Option Process) → process_of s id ≡ c → IfEach q g (Steps.fail_step_of_new a id reply c)
     go None e = tt
-    go (Some p) e = by p e (Steps.is_waiting a.units id || Steps.has_ended a id)
+    go (Some c) e = by c e (Steps.is_waiting a.units id || Steps.has_ended a id)
 
 left : (q g : RunningProcess → Type 0) (a : Array) (id : ProcId) → Each q g a → Each q g (Steps.array_without a id)
 left q g a id h = record { units = left_units q a.units id h.units; guests = left_guests g a.guests id h.guests }
@@ -410,23 +410,23 @@ dropped q g a b drops same h =
     each_same q g (Steps.without_dropped a drops) b same
     (record { units = dropped_units q drops a.units h.units; guests = kept_guests g drops a.guests h.guests })
 
-aborted : (s : ScenarioValue) (q g : RunningProcess → Type 0) (a : Array) (i t n : ℕ) (what : AbortKind) → Each q g a
-    → Each q g (Steps.abort_step s a i t n what)
-aborted s q g a i t n AbortKind.All h = dropped q g a (Steps.abort_step s a i t n AbortKind.All)
-    (λ p. p.initiator == i && is_of_unit p t n) (record { units = refl; guests = refl; replies = refl; ended = refl }) h
-aborted s q g a i t n (AbortKind.Tag tag) h = dropped q g a (Steps.abort_step s a i t n (AbortKind.Tag tag))
-    (λ p. p.initiator == i && is_of_unit p t n && has_tag p.tag tag)
+aborted : (s : ScenarioValue) (q g : RunningProcess → Type 0) (a : Array) (i t m : ℕ) (what : AbortKind) → Each q g a
+    → Each q g (Steps.abort_step s a i t m what)
+aborted s q g a i t m AbortKind.All h = dropped q g a (Steps.abort_step s a i t m AbortKind.All)
+    (λ p. p.initiator == i && is_of_unit p t m) (record { units = refl; guests = refl; replies = refl; ended = refl }) h
+aborted s q g a i t m (AbortKind.Tag tag) h = dropped q g a (Steps.abort_step s a i t m (AbortKind.Tag tag))
+    (λ p. p.initiator == i && is_of_unit p t m && has_tag p.tag tag)
     (record { units = refl; guests = refl; replies = refl; ended = refl }) h
-aborted s q g a i t n AbortKind.WholeQueue h =
-    dropped q g a (Steps.abort_step s a i t n AbortKind.WholeQueue) (λ p. is_of_unit p t n) (cleared_same i
-    (Steps.unit_processes (unit_state_at a.units t n)) (Steps.without_dropped a (λ p. is_of_unit p t n))) h
-aborted s q g a i t n AbortKind.Device h =
+aborted s q g a i t m AbortKind.WholeQueue h =
+    dropped q g a (Steps.abort_step s a i t m AbortKind.WholeQueue) (λ p. is_of_unit p t m) (cleared_same i
+    (Steps.unit_processes (unit_state_at a.units t m)) (Steps.without_dropped a (λ p. is_of_unit p t m))) h
+aborted s q g a i t m AbortKind.Device h =
     let kept : Array = record (Steps.without_dropped a (λ p. p.target == t)) {
       senses = Steps.kept_senses (λ r. r.target == t) a.senses;
       holds = Steps.kept_nexuses (λ r. r.target == t) a.holds;
     } in
-    dropped q g a (Steps.abort_step s a i t n AbortKind.Device) (λ p. p.target == t)
-    (same_on (Steps.without_dropped a (λ p. p.target == t)) kept (Steps.abort_step s a i t n AbortKind.Device) (record {
+    dropped q g a (Steps.abort_step s a i t m AbortKind.Device) (λ p. p.target == t)
+    (same_on (Steps.without_dropped a (λ p. p.target == t)) kept (Steps.abort_step s a i t m AbortKind.Device) (record {
       units = refl;
       guests = refl;
       replies = refl;
@@ -464,5 +464,5 @@ each_after s q g a b event own h e = go (Steps.event_step s a event) (event_each
     no_array x z = absurd cc
 
     go : (o : Option Array) → IfEach q g o → Steps.settled_array_if o ≡ Some b → Each q g b
-    go None k z = absurd (no_array b z)
-    go (Some c) k z = subst (λ (x : Array). Each q g x) (same_Some (settled_array c) b z) (each_settled q g c k)
+    go None f z = absurd (no_array b z)
+    go (Some c) f z = subst (λ (x : Array). Each q g x) (same_Some (settled_array c) b z) (each_settled q g c f)

@@ -15,18 +15,18 @@ use Rattle.due_model.specs.array_model.specs.Steps
 -- ---- the processes that wait, and the current ones
 
 abbrev And : (Process → Type 0) → (Process → Bool) → Process → Type 0
-And q stays p = q p × (stays p ≡ true)
+And q stays c = q c × (stays c ≡ true)
 
-map_all : (q r : Process → Type 0) → ((p : Process) → q p → r p) → (waiting : List Process) → AllP q waiting
+map_all : (q r : Process → Type 0) → ((c : Process) → q c → r c) → (waiting : List Process) → AllP q waiting
     → AllP r waiting
 map_all q r f [] h = tt
-map_all q r f (p ∷ waiting) h = (f p h.0, map_all q r f waiting h.1)
+map_all q r f (c ∷ waiting) h = (f c h.0, map_all q r f waiting h.1)
 
-map_runs : (q r : Process → Type 0) → ((p : Process) → q p → r p) → (x : Option RunningProcess) → RunsP q x → RunsP r x
+map_runs : (q r : Process → Type 0) → ((c : Process) → q c → r c) → (x : Option RunningProcess) → RunsP q x → RunsP r x
 map_runs q r f None h = tt
 map_runs q r f (Some x) h = f x.process h
 
-pub map_units : (q r : Process → Type 0) → ((p : Process) → q p → r p) → (units : List UnitState) → UnitsP q units
+pub map_units : (q r : Process → Type 0) → ((c : Process) → q c → r c) → (units : List UnitState) → UnitsP q units
     → UnitsP r units
 map_units q r f [] h = tt
 map_units q r f (u ∷ units) h =
@@ -35,26 +35,26 @@ map_units q r f (u ∷ units) h =
 -- ---- lists
 
 without_all : (q : Process → Type 0) (waiting : List Process) (id : ProcId) → AllP q waiting
-    → AllP (And q (λ p. not (same_id p.id id))) (without_process waiting id)
+    → AllP (And q (λ c. not (same_id c.id id))) (without_process waiting id)
 without_all q [] id h = tt
-without_all q (p ∷ waiting) id h = go (same_id p.id id) refl (without_all q waiting id h.1)
+without_all q (c ∷ waiting) id h = go (same_id c.id id) refl (without_all q waiting id h.1)
   where
-    go : (x : Bool) → same_id p.id id ≡ x → AllP (And q (λ w. not (same_id w.id id))) (without_process waiting id)
+    go : (x : Bool) → same_id c.id id ≡ x → AllP (And q (λ w. not (same_id w.id id))) (without_process waiting id)
         → AllP (And q (λ w. not (same_id w.id id)))
-        (if x then without_process waiting id else p ∷ without_process waiting id)
-    go true e k = k
-    go false e k = ((h.0, not_from_false (same_id p.id id) e), k)
+        (if x then without_process waiting id else c ∷ without_process waiting id)
+    go true e f = f
+    go false e f = ((h.0, not_from_false (same_id c.id id) e), f)
 
 kept_all : (q : Process → Type 0) (drops : Process → Bool) (waiting : List Process) → AllP q waiting
-    → AllP (And q (λ p. not (drops p))) (Steps.kept_processes drops waiting)
+    → AllP (And q (λ c. not (drops c))) (Steps.kept_processes drops waiting)
 kept_all q drops [] h = tt
-kept_all q drops (p ∷ waiting) h = go (drops p) refl (kept_all q drops waiting h.1)
+kept_all q drops (c ∷ waiting) h = go (drops c) refl (kept_all q drops waiting h.1)
   where
-    go : (x : Bool) → drops p ≡ x → AllP (And q (λ w. not (drops w))) (Steps.kept_processes drops waiting)
+    go : (x : Bool) → drops c ≡ x → AllP (And q (λ w. not (drops w))) (Steps.kept_processes drops waiting)
         → AllP (And q (λ w. not (drops w)))
-        (if x then Steps.kept_processes drops waiting else p ∷ Steps.kept_processes drops waiting)
-    go true e k = k
-    go false e k = ((h.0, not_from_false (drops p) e), k)
+        (if x then Steps.kept_processes drops waiting else c ∷ Steps.kept_processes drops waiting)
+    go true e f = f
+    go false e f = ((h.0, not_from_false (drops c) e), f)
 
 with_units : (q : Process → Type 0) (units : List UnitState) (new : UnitState) → UnitsP q units
     → AllP q new.waiting × RunsP q new.current → UnitsP q (with_unit units new)
@@ -62,19 +62,19 @@ with_units q [] new h g = tt
 with_units q (u ∷ units) new h g = go (u.target == new.target && u.unit == new.unit) (with_units q units new h.1 g)
   where
     go : (x : Bool) → UnitsP q (with_unit units new) → UnitsP q (if x then new ∷ units else u ∷ with_unit units new)
-    go true k = (g, h.1)
-    go false k = (h.0, k)
+    go true e = (g, h.1)
+    go false e = (h.0, e)
 
-pub unit_at : (q : Process → Type 0) (units : List UnitState) (t n : ℕ) (u : UnitState)
-    → unit_state_at units t n ≡ Some u → UnitsP q units → AllP q u.waiting × RunsP q u.current
-unit_at q [] t n u e h = absurd (none_some u e)
-unit_at q (v ∷ units) t n u e h = go (v.target == t && v.unit == n) e (λ k. unit_at q units t n u k h.1)
+pub unit_at : (q : Process → Type 0) (units : List UnitState) (t m : ℕ) (u : UnitState)
+    → unit_state_at units t m ≡ Some u → UnitsP q units → AllP q u.waiting × RunsP q u.current
+unit_at q [] t m u e h = absurd (none_some u e)
+unit_at q (v ∷ units) t m u e h = go (v.target == t && v.unit == m) e (λ f. unit_at q units t m u f h.1)
   where
-    go : (x : Bool) → (if x then Some v else unit_state_at units t n) ≡ Some u
-        → (unit_state_at units t n ≡ Some u → AllP q u.waiting × RunsP q u.current)
+    go : (x : Bool) → (if x then Some v else unit_state_at units t m) ≡ Some u
+        → (unit_state_at units t m ≡ Some u → AllP q u.waiting × RunsP q u.current)
         → AllP q u.waiting × RunsP q u.current
-    go true k rest = subst (λ (w : UnitState). AllP q w.waiting × RunsP q w.current) (same_Some v u k) h.0
-    go false k rest = rest k
+    go true f rest = subst (λ (w : UnitState). AllP q w.waiting × RunsP q w.current) (same_Some v u f) h.0
+    go false f rest = rest f
 
 -- ---- the choice
 
@@ -86,14 +86,14 @@ chosen : (q : Process → Type 0) (holds : List Nexus) (u : UnitState) → AllP 
     → AllP q (unit_after_choice holds u).waiting × RunsP q (unit_after_choice holds u).current
 chosen q holds u h = go (has_no_current u.current && not (is_held holds u.target u.unit)) (choice u.pick u.waiting) refl
   where
-    go : (x : Bool) (p : Option Process) → choice u.pick u.waiting ≡ p
-        → AllP q (if x then with_current u p else u).waiting × RunsP q (if x then with_current u p else u).current
+    go : (x : Bool) (c : Option Process) → choice u.pick u.waiting ≡ c
+        → AllP q (if x then with_current u c else u).waiting × RunsP q (if x then with_current u c else u).current
     go true None z = h
-    go true (Some p) z = (
-      fst_all q (λ w. not (same_id w.id p.id)) (without_process u.waiting p.id) (without_all q u.waiting p.id h.0),
-      choice_all q u p h.0 z,
+    go true (Some c) z = (
+      fst_all q (λ w. not (same_id w.id c.id)) (without_process u.waiting c.id) (without_all q u.waiting c.id h.0),
+      choice_all q u c h.0 z,
     )
-    go false p z = h
+    go false c z = h
 
 pub settled_units : (q : Process → Type 0) (holds : List Nexus) (units : List UnitState) → UnitsP q units
     → UnitsP q (units_after_choice holds units)
@@ -109,12 +109,12 @@ replied_units q (u ∷ units) id reply h = ((h.0.0, go u.current h.0.1), replied
   where
     inner : (r : RunningProcess) → q r.process
         → (x : Bool) → RunsP q (if x then Some (record r { reply = Some reply }) else Some r)
-    inner r k true = k
-    inner r k false = k
+    inner r e true = e
+    inner r e false = e
 
     go : (x : Option RunningProcess) → RunsP q x → RunsP q (Steps.current_with_reply x id reply)
-    go None k = tt
-    go (Some r) k = inner r k (same_id r.process.id id)
+    go None e = tt
+    go (Some r) e = inner r e (same_id r.process.id id)
 
 left_units : (q : Process → Type 0) (units : List UnitState) (id : ProcId) → UnitsP q units
     → UnitsP (And q (λ p. not (same_id p.id id))) (Steps.units_without units id)
@@ -124,13 +124,13 @@ left_units q (u ∷ units) id h = ((without_all q u.waiting id h.0.0, go u.curre
     inner : (r : RunningProcess) → q r.process → (x : Bool) → same_id r.process.id id ≡ x
         → RunsP (And q (λ p. not (same_id p.id id)))
         (if is_some {T = RunningProcess} (if x then Some r else None) then None else Some r)
-    inner r k true e = tt
-    inner r k false e = (k, not_from_false (same_id r.process.id id) e)
+    inner r f true e = tt
+    inner r f false e = (f, not_from_false (same_id r.process.id id) e)
 
     go : (x : Option RunningProcess) → RunsP q x
         → RunsP (And q (λ p. not (same_id p.id id))) (if is_some (Steps.running_if x id) then None else x)
-    go None k = tt
-    go (Some r) k = inner r k (same_id r.process.id id) refl
+    go None f = tt
+    go (Some r) f = inner r f (same_id r.process.id id) refl
 
 dropped_units : (q : Process → Type 0) (drops : Process → Bool) (units : List UnitState) → UnitsP q units
     → UnitsP (And q (λ p. not (drops p))) (Steps.kept_units drops units)
@@ -140,42 +140,42 @@ dropped_units q drops (u ∷ units) h =
   where
     inner : (r : RunningProcess) → q r.process → (x : Bool) → drops r.process ≡ x
         → RunsP (And q (λ p. not (drops p))) (if x then None else Some r)
-    inner r k true e = tt
-    inner r k false e = (k, not_from_false (drops r.process) e)
+    inner r f true e = tt
+    inner r f false e = (f, not_from_false (drops r.process) e)
 
     go : (x : Option RunningProcess) → RunsP q x → RunsP (And q (λ p. not (drops p))) (Steps.kept_running drops x)
-    go None k = tt
-    go (Some r) k = inner r k (drops r.process) refl
+    go None f = tt
+    go (Some r) f = inner r f (drops r.process) refl
 
 -- ---- an event
 
 -- Which processes it drops.
 abbrev pub is_dropped : ℕ → ℕ → ℕ → AbortKind → Process → Bool
-is_dropped i t n AbortKind.All p = p.initiator == i && is_of_unit p t n
-is_dropped i t n (AbortKind.Tag tag) p = p.initiator == i && is_of_unit p t n && has_tag p.tag tag
-is_dropped i t n AbortKind.WholeQueue p = is_of_unit p t n
-is_dropped i t n AbortKind.Device p = p.target == t
+is_dropped i t m AbortKind.All c = c.initiator == i && is_of_unit c t m
+is_dropped i t m (AbortKind.Tag tag) c = c.initiator == i && is_of_unit c t m && has_tag c.tag tag
+is_dropped i t m AbortKind.WholeQueue c = is_of_unit c t m
+is_dropped i t m AbortKind.Device c = c.target == t
 
 abbrev pub stays_queued : Event → Process → Bool
-stays_queued (Event.End id status) p = not (same_id p.id id)
-stays_queued (Event.Lost id) p = not (same_id p.id id)
-stays_queued (Event.Aborted i t n what) p = not (is_dropped i t n what p)
-stays_queued (Event.Reset dev) p = false
-stays_queued _ p = true
+stays_queued (Event.End id status) c = not (same_id c.id id)
+stays_queued (Event.Lost id) c = not (same_id c.id id)
+stays_queued (Event.Aborted i t n what) c = not (is_dropped i t n what c)
+stays_queued (Event.Reset dev) c = false
+stays_queued _ c = true
 
 abbrev IfArray : (Process → Type 0) → Option Array → Type 0
 IfArray q None = ⊤
 IfArray q (Some a) = UnitsP q a.units
 
-aborted_units : (s : ScenarioValue) (q : Process → Type 0) (a : Array) (i t n : ℕ) (what : AbortKind) → UnitsP q a.units
-    → UnitsP (And q (λ p. not (is_dropped i t n what p))) (Steps.abort_step s a i t n what).units
-aborted_units s q a i t n AbortKind.All h = dropped_units q (λ p. p.initiator == i && is_of_unit p t n) a.units h
-aborted_units s q a i t n (AbortKind.Tag tag) h =
-    dropped_units q (λ p. p.initiator == i && is_of_unit p t n && has_tag p.tag tag) a.units h
-aborted_units s q a i t n AbortKind.WholeQueue h = subst (λ (us : List UnitState). UnitsP
-    (And q (λ p. not (is_of_unit p t n))) us) (sym (cleared_units i (Steps.unit_processes (unit_state_at a.units t n))
-    (Steps.without_dropped a (λ p. is_of_unit p t n)))) (dropped_units q (λ p. is_of_unit p t n) a.units h)
-aborted_units s q a i t n AbortKind.Device h = subst
+aborted_units : (s : ScenarioValue) (q : Process → Type 0) (a : Array) (i t m : ℕ) (what : AbortKind) → UnitsP q a.units
+    → UnitsP (And q (λ p. not (is_dropped i t m what p))) (Steps.abort_step s a i t m what).units
+aborted_units s q a i t m AbortKind.All h = dropped_units q (λ p. p.initiator == i && is_of_unit p t m) a.units h
+aborted_units s q a i t m (AbortKind.Tag tag) h =
+    dropped_units q (λ p. p.initiator == i && is_of_unit p t m && has_tag p.tag tag) a.units h
+aborted_units s q a i t m AbortKind.WholeQueue h = subst (λ (us : List UnitState). UnitsP
+    (And q (λ p. not (is_of_unit p t m))) us) (sym (cleared_units i (Steps.unit_processes (unit_state_at a.units t m))
+    (Steps.without_dropped a (λ p. is_of_unit p t m)))) (dropped_units q (λ p. is_of_unit p t m) a.units h)
+aborted_units s q a i t m AbortKind.Device h = subst
     (λ (us : List UnitState). UnitsP (And q (λ p. not (p.target == t))) us)
     (sym (unit_reset_units s.hosts a.units (λ u. u.target == t) (record (Steps.without_dropped a (λ p. p.target == t)) {
       senses = Steps.kept_senses (λ r. r.target == t) a.senses;
@@ -187,37 +187,37 @@ if_units q true a h = h
 if_units q false a h = tt
 
 accepted_units : (s : ScenarioValue) (q : Process → Type 0) (a : Array) (id : ProcId)
-    → ((p : Process) → process_of s id ≡ Some p → is_request_sense (command_of p.cdb) ≡ false → q p) → UnitsP q a.units
+    → ((c : Process) → process_of s id ≡ Some c → is_request_sense (command_of c.cdb) ≡ false → q c) → UnitsP q a.units
     → IfArray q (Steps.accept_step a (process_of s id))
 accepted_units s q a id own h = go (process_of s id) refl
   where
-    by : (p : Process) → process_of s id ≡ Some p → (u : Option UnitState) → unit_state_at a.units p.target p.unit ≡ u
-        → IfArray q (Steps.accept_step_at a p u)
-    by p e None f = h
-    by p e (Some u) f = senses (is_request_sense (command_of p.cdb)) refl
+    by : (c : Process) → process_of s id ≡ Some c → (u : Option UnitState) → unit_state_at a.units c.target c.unit ≡ u
+        → IfArray q (Steps.accept_step_at a c u)
+    by c e None f = h
+    by c e (Some u) f = senses (is_request_sense (command_of c.cdb)) refl
       where
-        senses : (x : Bool) → is_request_sense (command_of p.cdb) ≡ x
-            → IfArray q (if x then Some (Steps.with_guest a p None) else Steps.queue_step a p u)
+        senses : (x : Bool) → is_request_sense (command_of c.cdb) ≡ x
+            → IfArray q (if x then Some (Steps.with_guest a c None) else Steps.queue_step a c u)
         senses true z = h
         senses false z =
-            let k = unit_at q a.units p.target p.unit u f h in
+            let k = unit_at q a.units c.target c.unit u f h in
             if_units q (nat_lt (Steps.process_count u) u.depth)
-            (record a { units = with_unit a.units (record u { waiting = u.waiting ++ p ∷ [] }) }) (with_units q a.units
-            (record u { waiting = u.waiting ++ p ∷ [] }) h (append_all q u.waiting p k.0 (own p e z), k.1))
+            (record a { units = with_unit a.units (record u { waiting = u.waiting ++ c ∷ [] }) }) (with_units q a.units
+            (record u { waiting = u.waiting ++ c ∷ [] }) h (append_all q u.waiting c k.0 (own c e z), k.1))
 
-    go : (p : Option Process) → process_of s id ≡ p → IfArray q (Steps.accept_step a p)
+    go : (c : Option Process) → process_of s id ≡ c → IfArray q (Steps.accept_step a c)
     go None e = tt
-    go (Some p) e = by p e (unit_state_at a.units p.target p.unit) refl
+    go (Some c) e = by c e (unit_state_at a.units c.target c.unit) refl
 
 refused_units : (s : ScenarioValue) (q : Process → Type 0) (a : Array) (o : Option Process) → UnitsP q a.units
     → IfArray q (Steps.refuse_step a o)
 refused_units s q a None h = tt
-refused_units s q a (Some p) h = go (unit_state_at a.units p.target p.unit)
+refused_units s q a (Some c) h = go (unit_state_at a.units c.target c.unit)
   where
-    go : (u : Option UnitState) → IfArray q (Steps.refuse_step_at a p u)
+    go : (u : Option UnitState) → IfArray q (Steps.refuse_step_at a c u)
     go None = tt
-    go (Some u) = if_units q (not (is_request_sense (command_of p.cdb)) && Steps.process_count u == u.depth)
-        (Steps.with_listed_reply (Steps.with_guest a p (Some queue_full)) p.id queue_full) h
+    go (Some u) = if_units q (not (is_request_sense (command_of c.cdb)) && Steps.process_count u == u.depth)
+        (Steps.with_listed_reply (Steps.with_guest a c (Some queue_full)) c.id queue_full) h
 
 run_units : (q : Process → Type 0) (a : Array) (guest : Bool) (o : Option RunningProcess) → UnitsP q a.units
     → IfArray q (Steps.run_step a guest o)
@@ -261,17 +261,17 @@ failed_units s q a id reply (Some r) h =
     if_units q (is_none r.reply) (Steps.with_reply a id reply) (replied_units q a.units id reply h)
 failed_units s q a id reply None h = go (process_of s id)
   where
-    by : (p : Process) (x : Bool)
-        → IfArray q (if x then None else Some (Steps.with_listed_reply (Steps.with_guest a p (Some reply)) id reply))
-    by p true = tt
-    by p false = h
+    by : (c : Process) (x : Bool)
+        → IfArray q (if x then None else Some (Steps.with_listed_reply (Steps.with_guest a c (Some reply)) id reply))
+    by c true = tt
+    by c false = h
 
-    go : (p : Option Process) → IfArray q (Steps.fail_step_of_new a id reply p)
+    go : (c : Option Process) → IfArray q (Steps.fail_step_of_new a id reply c)
     go None = tt
-    go (Some p) = by p (Steps.is_waiting a.units id || Steps.has_ended a id)
+    go (Some c) = by c (Steps.is_waiting a.units id || Steps.has_ended a id)
 
 ended_units : (q : Process → Type 0) (a : Array) (id : ProcId) (status : ℕ) → UnitsP q a.units
-    → IfArray (And q (λ p. not (same_id p.id id))) (Steps.end_step a status (Steps.running_process a id))
+    → IfArray (And q (λ t. not (same_id t.id id))) (Steps.end_step a status (Steps.running_process a id))
 ended_units q a id status h = go (Steps.running_process a id) refl
   where
     pick : (x y : Bool) (b c : Array) → b.units ≡ a.units → c.units ≡ a.units
@@ -280,26 +280,26 @@ ended_units q a id status h = go (Steps.running_process a id) refl
     pick false true b c eb ec = ec
     pick false false b c eb ec = refl
 
-    status_same : (p : Process) (reply : Reply) → (Steps.after_status a p reply).units ≡ a.units
-    status_same p reply = pick (reply.status == CHECK_CONDITION)
-        (reply.status == GOOD && is_request_sense (command_of p.cdb)) (record a {
-          senses = (nexus_of p, reply.sense) ∷ senses_without a.senses (nexus_of p);
-          holds = nexus_of p ∷ nexuses_without a.holds (nexus_of p);
-        }) (record a { senses = senses_without a.senses (nexus_of p); holds = nexuses_without a.holds (nexus_of p) })
+    status_same : (t : Process) (reply : Reply) → (Steps.after_status a t reply).units ≡ a.units
+    status_same t reply = pick (reply.status == CHECK_CONDITION)
+        (reply.status == GOOD && is_request_sense (command_of t.cdb)) (record a {
+          senses = (nexus_of t, reply.sense) ∷ senses_without a.senses (nexus_of t);
+          holds = nexus_of t ∷ nexuses_without a.holds (nexus_of t);
+        }) (record a { senses = senses_without a.senses (nexus_of t); holds = nexuses_without a.holds (nexus_of t) })
         refl refl
 
     by : (r : RunningProcess) → r.process.id ≡ id
-        → (o : Option Reply) → IfArray (And q (λ p. not (same_id p.id id))) (Steps.end_step_with a r.process status o)
+        → (o : Option Reply) → IfArray (And q (λ t. not (same_id t.id id))) (Steps.end_step_with a r.process status o)
     by r e None = tt
-    by r e (Some reply) = if_units (And q (λ p. not (same_id p.id id))) (reply.status == status)
+    by r e (Some reply) = if_units (And q (λ t. not (same_id t.id id))) (reply.status == status)
         (Steps.array_without (Steps.after_status a r.process reply) r.process.id)
-        (subst (λ (x : ProcId). UnitsP (And q (λ p. not (same_id p.id x)))
+        (subst (λ (x : ProcId). UnitsP (And q (λ t. not (same_id t.id x)))
         (Steps.units_without (Steps.after_status a r.process reply).units r.process.id)) e
         (left_units q (Steps.after_status a r.process reply).units r.process.id
         (subst (λ (us : List UnitState). UnitsP q us) (sym (status_same r.process reply)) h)))
 
     go : (o : Option RunningProcess) → Steps.running_process a id ≡ o
-        → IfArray (And q (λ p. not (same_id p.id id))) (Steps.end_step a status o)
+        → IfArray (And q (λ t. not (same_id t.id id))) (Steps.end_step a status o)
     go None e = tt
     go (Some r) e = by r (running_id a id r e) r.reply
 
@@ -321,11 +321,11 @@ plain_if : (q : Process → Type 0) (o : Option Array) → IfArray q o → IfArr
 plain_if q None h = tt
 plain_if q (Some a) h = map_units q (And q (λ p. true)) (λ p x. (x, refl)) a.units h
 
-event_units : (s : ScenarioValue) (q : Process → Type 0) (a : Array) (event : Event) → ((id : ProcId) (p : Process)
-    → event ≡ Event.Accept id → process_of s id ≡ Some p → is_request_sense (command_of p.cdb) ≡ false → q p)
+event_units : (s : ScenarioValue) (q : Process → Type 0) (a : Array) (event : Event) → ((id : ProcId) (c : Process)
+    → event ≡ Event.Accept id → process_of s id ≡ Some c → is_request_sense (command_of c.cdb) ≡ false → q c)
     → UnitsP q a.units → IfArray (And q (stays_queued event)) (Steps.event_step s a event)
 event_units s q a (Event.Accept id) own h =
-    plain_if q (Steps.accept_step a (process_of s id)) (accepted_units s q a id (λ p e z. own id p refl e z) h)
+    plain_if q (Steps.accept_step a (process_of s id)) (accepted_units s q a id (λ c e z. own id c refl e z) h)
 event_units s q a (Event.Refuse id) own h =
     plain_if q (Steps.refuse_step a (process_of s id)) (refused_units s q a (process_of s id) h)
 event_units s q a (Event.Run id) own h = plain_if q (Steps.run_step a (is_some (guest_at a.guests id))
@@ -338,9 +338,9 @@ event_units s q a (Event.Aborted i t n what) own h = aborted_units s q a i t n w
 event_units s q a (Event.Reset dev) own h = reset_units s q a h
 
 -- Of what was in the queues, what stays; and what is accepted.
-pub step_units : (s : ScenarioValue) (q : Process → Type 0) (a b : Array) (event : Event) → ((id : ProcId) (p : Process)
-    → event ≡ Event.Accept id → process_of s id ≡ Some p → is_request_sense (command_of p.cdb) ≡ false → q p)
-    → UnitsP q a.units → Steps.step s event a ≡ Some b → UnitsP (λ p. q p × (stays_queued event p ≡ true)) b.units
+pub step_units : (s : ScenarioValue) (q : Process → Type 0) (a b : Array) (event : Event) → ((id : ProcId) (t : Process)
+    → event ≡ Event.Accept id → process_of s id ≡ Some t → is_request_sense (command_of t.cdb) ≡ false → q t)
+    → UnitsP q a.units → Steps.step s event a ≡ Some b → UnitsP (λ t. q t × (stays_queued event t ≡ true)) b.units
 step_units s q a b event own h e = go (Steps.event_step s a event) (event_units s q a event own h) e
   where
     no_array : (x : Array) → (let y : Option Array = None in y) ≡ Some x → ⊥
@@ -348,6 +348,6 @@ step_units s q a b event own h e = go (Steps.event_step s a event) (event_units 
 
     go : (o : Option Array) → IfArray (And q (stays_queued event)) o → Steps.settled_array_if o ≡ Some b
         → UnitsP (And q (stays_queued event)) b.units
-    go None k z = absurd (no_array b z)
-    go (Some c) k z = subst (λ (x : Array). UnitsP (And q (stays_queued event)) x.units)
-        (same_Some (settled_array c) b z) (settled_units (And q (stays_queued event)) c.holds c.units k)
+    go None f z = absurd (no_array b z)
+    go (Some c) f z = subst (λ (x : Array). UnitsP (And q (stays_queued event)) x.units)
+        (same_Some (settled_array c) b z) (settled_units (And q (stays_queued event)) c.holds c.units f)

@@ -12,27 +12,27 @@ use Rattle.due_model.specs.array_model.specs.Steps
 
 -- ---- it waits
 
-still_waits : (waiting : List Process) (p id : ProcId) → same_id p id ≡ false → waits_in waiting id ≡ true
-    → waits_in (without_process waiting p) id ≡ true
-still_waits [] p id ne e = e
-still_waits (w ∷ waiting) p id ne e =
-    go (same_id w.id p) refl (same_id w.id id) refl e (λ z. still_waits waiting p id ne z)
+still_waits : (waiting : List Process) (d id : ProcId) → same_id d id ≡ false → waits_in waiting id ≡ true
+    → waits_in (without_process waiting d) id ≡ true
+still_waits [] d id ne e = e
+still_waits (w ∷ waiting) d id ne e =
+    go (same_id w.id d) refl (same_id w.id id) refl e (λ z. still_waits waiting d id ne z)
   where
-    go : (x : Bool) → same_id w.id p ≡ x → (y : Bool) → same_id w.id id ≡ y → (y || waits_in waiting id) ≡ true
-        → (waits_in waiting id ≡ true → waits_in (without_process waiting p) id ≡ true)
-        → waits_in (if x then without_process waiting p else w ∷ without_process waiting p) id ≡ true
-    go true z true f h more = wrong (sym f ∙ ap (λ (i : ProcId). same_id i id) (id_is w.id p z) ∙ ne)
+    go : (x : Bool) → same_id w.id d ≡ x → (y : Bool) → same_id w.id id ≡ y → (y || waits_in waiting id) ≡ true
+        → (waits_in waiting id ≡ true → waits_in (without_process waiting d) id ≡ true)
+        → waits_in (if x then without_process waiting d else w ∷ without_process waiting d) id ≡ true
+    go true z true f h more = wrong (sym f ∙ ap (λ (i : ProcId). same_id i id) (id_is w.id d z) ∙ ne)
     go true z false f h more = more h
-    go false z true f h more = or_left (same_id w.id id) (waits_in (without_process waiting p) id) f
-    go false z false f h more = or_right (same_id w.id id) (waits_in (without_process waiting p) id) (more h)
+    go false z true f h more = or_left (same_id w.id id) (waits_in (without_process waiting d) id) f
+    go false z false f h more = or_right (same_id w.id id) (waits_in (without_process waiting d) id) (more h)
 
-pub waits_last : (waiting : List Process) (p : Process) (id : ProcId) → waits_in waiting id ≡ true
-    → waits_in (waiting ++ p ∷ []) id ≡ true
-waits_last [] p id e = wrong (sym e)
-waits_last (w ∷ waiting) p id e = go (same_id w.id id) (λ z. waits_last waiting p id z) e
+pub waits_last : (waiting : List Process) (c : Process) (id : ProcId) → waits_in waiting id ≡ true
+    → waits_in (waiting ++ c ∷ []) id ≡ true
+waits_last [] c id e = wrong (sym e)
+waits_last (w ∷ waiting) c id e = go (same_id w.id id) (λ z. waits_last waiting c id z) e
   where
-    go : (x : Bool) → (waits_in waiting id ≡ true → waits_in (waiting ++ p ∷ []) id ≡ true)
-        → (x || waits_in waiting id) ≡ true → (x || waits_in (waiting ++ p ∷ []) id) ≡ true
+    go : (x : Bool) → (waits_in waiting id ≡ true → waits_in (waiting ++ c ∷ []) id ≡ true)
+        → (x || waits_in waiting id) ≡ true → (x || waits_in (waiting ++ c ∷ []) id) ≡ true
     go true more h = refl
     go false more h = more h
 
@@ -56,17 +56,17 @@ pub chosen_stays : (holds : List Nexus) (u : UnitState) (id : ProcId) → is_in_
 chosen_stays holds u id e =
     go (has_no_current u.current) refl (not (is_held holds u.target u.unit)) (choice u.pick u.waiting)
   where
-    one : (p : Process) → waits_in u.waiting id ≡ true → (y : Bool) → same_id p.id id ≡ y
-        → (waits_in (without_process u.waiting p.id) id || is_some (if y then Some (without_reply p) else None)) ≡ true
-    one p w true z = or_right (waits_in (without_process u.waiting p.id) id) true refl
-    one p w false z = or_left (waits_in (without_process u.waiting p.id) id) false (still_waits u.waiting p.id id z w)
+    one : (c : Process) → waits_in u.waiting id ≡ true → (y : Bool) → same_id c.id id ≡ y
+        → (waits_in (without_process u.waiting c.id) id || is_some (if y then Some (without_reply c) else None)) ≡ true
+    one c w true z = or_right (waits_in (without_process u.waiting c.id) id) true refl
+    one c w false z = or_left (waits_in (without_process u.waiting c.id) id) false (still_waits u.waiting c.id id z w)
 
-    go : (x : Bool) → has_no_current u.current ≡ x → (y : Bool) (p : Option Process)
-        → is_in_queue (if x && y then with_current u p else u) id ≡ true
+    go : (x : Bool) → has_no_current u.current ≡ x → (y : Bool) (c : Option Process)
+        → is_in_queue (if x && y then with_current u c else u) id ≡ true
     go true z true None = e
-    go true z true (Some p) = one p (idle_waits u id z e) (same_id p.id id) refl
-    go true z false p = e
-    go false z y p = e
+    go true z true (Some c) = one c (idle_waits u id z e) (same_id c.id id) refl
+    go true z false c = e
+    go false z y c = e
 
 replied_stays : (u : UnitState) (id i : ProcId) (reply : Reply) → is_in_queue u id ≡ true
     → is_in_queue (record u { current = Steps.current_with_reply u.current i reply }) id ≡ true
@@ -110,28 +110,28 @@ left_stays u id i ne e = either_stays (waits_in u.waiting id) (is_some (running_
 
 -- A test that does not drop the process of this number.
 abbrev pub Spares : ScenarioValue → (Process → Bool) → ProcId → Type 0
-Spares s drops id = (p : Process) → process_of s p.id ≡ Some p → same_id p.id id ≡ true → drops p ≡ false
+Spares s drops id = (c : Process) → process_of s c.id ≡ Some c → same_id c.id id ≡ true → drops c ≡ false
 
-kept_waits : (s : ScenarioValue) (t n : ℕ) (drops : Process → Bool) (waiting : List Process) (id : ProcId)
-    → Spares s drops id → AllOwn s t n waiting → waits_in waiting id ≡ true
+kept_waits : (s : ScenarioValue) (t m : ℕ) (drops : Process → Bool) (waiting : List Process) (id : ProcId)
+    → Spares s drops id → AllOwn s t m waiting → waits_in waiting id ≡ true
     → waits_in (Steps.kept_processes drops waiting) id ≡ true
-kept_waits s t n drops [] id spares own e = e
-kept_waits s t n drops (p ∷ waiting) id spares own e =
-    go (drops p) refl (same_id p.id id) refl e (λ z. kept_waits s t n drops waiting id spares own.1 z)
+kept_waits s t m drops [] id spares own e = e
+kept_waits s t m drops (c ∷ waiting) id spares own e =
+    go (drops c) refl (same_id c.id id) refl e (λ z. kept_waits s t m drops waiting id spares own.1 z)
   where
-    go : (x : Bool) → drops p ≡ x → (y : Bool) → same_id p.id id ≡ y → (y || waits_in waiting id) ≡ true
+    go : (x : Bool) → drops c ≡ x → (y : Bool) → same_id c.id id ≡ y → (y || waits_in waiting id) ≡ true
         → (waits_in waiting id ≡ true → waits_in (Steps.kept_processes drops waiting) id ≡ true)
-        → waits_in (if x then Steps.kept_processes drops waiting else p ∷ Steps.kept_processes drops waiting) id ≡ true
-    go true z true f h more = wrong (sym z ∙ spares p own.0.is f)
+        → waits_in (if x then Steps.kept_processes drops waiting else c ∷ Steps.kept_processes drops waiting) id ≡ true
+    go true z true f h more = wrong (sym z ∙ spares c own.0.is f)
     go true z false f h more = more h
-    go false z true f h more = or_left (same_id p.id id) (waits_in (Steps.kept_processes drops waiting) id) f
-    go false z false f h more = or_right (same_id p.id id) (waits_in (Steps.kept_processes drops waiting) id) (more h)
+    go false z true f h more = or_left (same_id c.id id) (waits_in (Steps.kept_processes drops waiting) id) f
+    go false z false f h more = or_right (same_id c.id id) (waits_in (Steps.kept_processes drops waiting) id) (more h)
 
-kept_runs : (s : ScenarioValue) (t n : ℕ) (drops : Process → Bool) (o : Option RunningProcess) (id : ProcId)
-    → Spares s drops id → IsOwnRunning s t n o → is_some (running_if o id) ≡ true
+kept_runs : (s : ScenarioValue) (t m : ℕ) (drops : Process → Bool) (o : Option RunningProcess) (id : ProcId)
+    → Spares s drops id → IsOwnRunning s t m o → is_some (running_if o id) ≡ true
     → is_some (running_if (Steps.kept_running drops o) id) ≡ true
-kept_runs s t n drops None id spares own e = e
-kept_runs s t n drops (Some r) id spares own e = go (drops r.process) refl (same_id r.process.id id) refl e
+kept_runs s t m drops None id spares own e = e
+kept_runs s t m drops (Some r) id spares own e = go (drops r.process) refl (same_id r.process.id id) refl e
   where
     go : (x : Bool) → drops r.process ≡ x → (y : Bool) → same_id r.process.id id ≡ y
         → is_some (if y then Some r else None) ≡ true → is_some (running_if (if x then None else Some r) id) ≡ true
@@ -204,14 +204,14 @@ with_unit_new (v ∷ units) new u id at e =
 
 -- ---- one that arrives, and one that runs at rest
 
-pub queued_stands : (a : Array) (p : Process) (u : UnitState) → unit_state_at a.units p.target p.unit ≡ Some u
-    → is_queued (settled_array (queued a p u)).units p.id ≡ true
-queued_stands a p u e =
-    let at = found_at a.units p.target p.unit u e in
-    let new : UnitState = record u { waiting = u.waiting ++ p ∷ [] } in
-    chosen_all a.holds (with_unit a.units new) p.id
-    (with_unit_new a.units new u p.id ((λ i. unit_state_at a.units (at.target_is i) (at.unit_is i)) ∙ e)
-    (or_left (waits_in (u.waiting ++ p ∷ []) p.id) (is_some (running_if u.current p.id)) (last_waits u.waiting p)))
+pub queued_stands : (a : Array) (c : Process) (u : UnitState) → unit_state_at a.units c.target c.unit ≡ Some u
+    → is_queued (settled_array (queued a c u)).units c.id ≡ true
+queued_stands a c u e =
+    let at = found_at a.units c.target c.unit u e in
+    let new : UnitState = record u { waiting = u.waiting ++ c ∷ [] } in
+    chosen_all a.holds (with_unit a.units new) c.id
+    (with_unit_new a.units new u c.id ((λ i. unit_state_at a.units (at.target_is i) (at.unit_is i)) ∙ e)
+    (or_left (waits_in (u.waiting ++ c ∷ []) c.id) (is_some (running_if u.current c.id)) (last_waits u.waiting c)))
 
 runs_in : (units : List UnitState) (id : ProcId) (r : RunningProcess) → running_in units id ≡ Some r
     → is_queued units id ≡ true
@@ -226,10 +226,10 @@ runs_in (u ∷ units) id r e = go (running_if u.current id) refl e (λ z. runs_i
     go None f h more = or_right (is_in_queue u id) (is_queued units id) (more h)
 
 -- What is at rest is no guest.
-pub rests_in_queue : (a : Array) (p : Process) → running_process a p.id ≡ Some (without_reply p) → IsAtRest a p.id
-    → is_queued a.units p.id ≡ true
-rests_in_queue a p runs rests = runs_in a.units p.id (without_reply p) (sym own ∙ runs)
+pub rests_in_queue : (a : Array) (c : Process) → running_process a c.id ≡ Some (without_reply c) → IsAtRest a c.id
+    → is_queued a.units c.id ≡ true
+rests_in_queue a c runs rests = runs_in a.units c.id (without_reply c) (sym own ∙ runs)
   where
-    own : running_process a p.id ≡ running_in a.units p.id
-    own = λ i. if is_some (no_guest a.guests p.id rests.guests i) then no_guest a.guests p.id rests.guests i
-        else running_in a.units p.id
+    own : running_process a c.id ≡ running_in a.units c.id
+    own = λ i. if is_some (no_guest a.guests c.id rests.guests i) then no_guest a.guests c.id rests.guests i
+        else running_in a.units c.id

@@ -26,10 +26,10 @@ run_lists a c guest r e = go (is_none r.reply && (guest || not (is_held a.holds 
     next = Steps.after_execution a r.process (unit_state_at a.units r.process.target r.process.unit) done
 
     go : (y : Bool) → (if y then Some next else None) ≡ Some c → ListsOne r.process.id a.replies c.replies
-    go false k = cc
-    go true k = record {
+    go false h = cc
+    go true h = record {
       reply = done.reply;
-      lists = took next c ((r.process.id, done.reply) ∷ a.replies) k
+      lists = took next c ((r.process.id, done.reply) ∷ a.replies) h
           (executed_lists a r.process (unit_state_at a.units r.process.target r.process.unit) done);
     }
 
@@ -38,30 +38,30 @@ run_lists a c guest r e = go (is_none r.reply && (guest || not (is_held a.holds 
 pub current_id : (units : List UnitState) (id : ProcId) (r : RunningProcess) → Steps.running_in units id ≡ Some r
     → r.process.id ≡ id
 current_id [] id r e = cc
-current_id (u ∷ units) id r e = go (λ k. current_id units id r k) u.current e
+current_id (u ∷ units) id r e = go (λ h. current_id units id r h) u.current e
   where
     inner : (Steps.running_in units id ≡ Some r → r.process.id ≡ id)
         → (q : RunningProcess) → (x : Bool) → same_id q.process.id id ≡ x
         → (if is_some (if x then Some q else None) then (if x then Some q else None) else Steps.running_in units id)
         ≡ Some r → r.process.id ≡ id
-    inner later q true z k =
+    inner later q true z h =
         let same : q ≡ r = cc in
         ap (λ (y : RunningProcess). y.process.id) (sym same) ∙ id_is q.process.id id z
-    inner later q false z k = later k
+    inner later q false z h = later h
 
     go : (Steps.running_in units id ≡ Some r → r.process.id ≡ id) → (x : Option RunningProcess)
         → (if is_some (running_if x id) then running_if x id else Steps.running_in units id) ≡ Some r
         → r.process.id ≡ id
-    go later None k = later k
-    go later (Some q) k = inner later q (same_id q.process.id id) refl k
+    go later None h = later h
+    go later (Some q) h = inner later q (same_id q.process.id id) refl h
 
 pub running_id : (a : Array) (id : ProcId) (r : RunningProcess) → running_process a id ≡ Some r → r.process.id ≡ id
 running_id a id r e = go (guest_at a.guests id) refl e
   where
     go : (x : Option RunningProcess) → guest_at a.guests id ≡ x
         → (if is_some x then x else Steps.running_in a.units id) ≡ Some r → r.process.id ≡ id
-    go None z k = current_id a.units id r k
-    go (Some g) z k = guest_id a.guests id r (z ∙ k)
+    go None z h = current_id a.units id r h
+    go (Some g) z h = guest_id a.guests id r (z ∙ h)
 
 -- ---- which process has a reply after it
 
@@ -79,9 +79,9 @@ same_list : (a b : Array) → b.replies ≡ a.replies
     → (id : ProcId) → is_some (reply_in b.replies id) ≡ is_some (reply_in a.replies id)
 same_list a b e id = ap (λ (x : List (ProcId × Reply)). is_some (reply_in x id)) e
 
-one_more : (a b : Array) (p : ProcId) (reply : Reply) → b.replies ≡ (p, reply) ∷ a.replies
-    → (id : ProcId) → is_some (reply_in b.replies id) ≡ (same_id p id || is_some (reply_in a.replies id))
-one_more a b p reply e id = ap (λ (x : List (ProcId × Reply)). is_some (reply_in x id)) e ∙ go (same_id p id)
+one_more : (a b : Array) (d : ProcId) (reply : Reply) → b.replies ≡ (d, reply) ∷ a.replies
+    → (id : ProcId) → is_some (reply_in b.replies id) ≡ (same_id d id || is_some (reply_in a.replies id))
+one_more a b d reply e id = ap (λ (x : List (ProcId × Reply)). is_some (reply_in x id)) e ∙ go (same_id d id)
   where
     go : (q : Bool) → is_some (if q then Some reply else reply_in a.replies id) ≡ (q || is_some (reply_in a.replies id))
     go true = refl
@@ -95,13 +95,13 @@ settles (Some c) b q f e = let same : settled_array c ≡ b = cc in subst q same
 
 pub accepted : (a c : Array) (o : Option Process) → Steps.accept_step a o ≡ Some c → c.replies ≡ a.replies
 accepted a c None e = cc
-accepted a c (Some p) e = accept_lists a c p (unit_state_at a.units p.target p.unit) e
+accepted a c (Some t) e = accept_lists a c t (unit_state_at a.units t.target t.unit) e
 
 pub refused : (s : ScenarioValue) (a c : Array) (id : ProcId) (o : Option Process) → process_of s id ≡ o
     → Steps.refuse_step a o ≡ Some c → c.replies ≡ (id, queue_full) ∷ a.replies
 refused s a c id None f e = cc
-refused s a c id (Some p) f e = refuse_lists a c p (unit_state_at a.units p.target p.unit) e
-    ∙ (λ i. (process_id s id p f i, queue_full) ∷ a.replies)
+refused s a c id (Some t) f e = refuse_lists a c t (unit_state_at a.units t.target t.unit) e
+    ∙ (λ i. (process_id s id t f i, queue_full) ∷ a.replies)
 
 pub ran : (a c : Array) (guest : Bool) (id : ProcId) (o : Option RunningProcess) → running_process a id ≡ o
     → Steps.run_step a guest o ≡ Some c → ListsOne id a.replies c.replies

@@ -22,8 +22,8 @@ pub record StaysSo (q : UnitState → Type 0) : Type 0 where
 
 -- And a command that arrives may wait in its unit.
 abbrev pub MayWait : ScenarioValue → (UnitState → Type 0) → Array → ProcId → Type 0
-MayWait s q a id = (p : Process) (u : UnitState) → process_of s id ≡ Some p
-    → unit_state_at a.units p.target p.unit ≡ Some u → q u → q (record u { waiting = u.waiting ++ p ∷ [] })
+MayWait s q a id = (c : Process) (u : UnitState) → process_of s id ≡ Some c
+    → unit_state_at a.units c.target c.unit ≡ Some u → q u → q (record u { waiting = u.waiting ++ c ∷ [] })
 
 abbrev pub Admits : ScenarioValue → (UnitState → Type 0) → Array → Event → Type 0
 Admits s q a (Event.Accept id) = MayWait s q a id
@@ -37,18 +37,18 @@ with_units q [] new h g = tt
 with_units q (u ∷ units) new h g = go (u.target == new.target && u.unit == new.unit) (with_units q units new h.1 g)
   where
     go : (x : Bool) → AllUnits q (with_unit units new) → AllUnits q (if x then new ∷ units else u ∷ with_unit units new)
-    go true k = (g, h.1)
-    go false k = (h.0, k)
+    go true e = (g, h.1)
+    go false e = (h.0, e)
 
-pub unit_has : (q : UnitState → Type 0) (units : List UnitState) (t n : ℕ) (u : UnitState)
-    → unit_state_at units t n ≡ Some u → AllUnits q units → q u
-unit_has q [] t n u e h = absurd (none_some u e)
-unit_has q (v ∷ units) t n u e h = go (v.target == t && v.unit == n) e (λ k. unit_has q units t n u k h.1)
+pub unit_has : (q : UnitState → Type 0) (units : List UnitState) (t m : ℕ) (u : UnitState)
+    → unit_state_at units t m ≡ Some u → AllUnits q units → q u
+unit_has q [] t m u e h = absurd (none_some u e)
+unit_has q (v ∷ units) t m u e h = go (v.target == t && v.unit == m) e (λ f. unit_has q units t m u f h.1)
   where
-    go : (x : Bool) → (if x then Some v else unit_state_at units t n) ≡ Some u
-        → (unit_state_at units t n ≡ Some u → q u) → q u
-    go true k rest = subst q (same_Some v u k) h.0
-    go false k rest = rest k
+    go : (x : Bool) → (if x then Some v else unit_state_at units t m) ≡ Some u
+        → (unit_state_at units t m ≡ Some u → q u) → q u
+    go true f rest = subst q (same_Some v u f) h.0
+    go false f rest = rest f
 
 settled_units : (q : UnitState → Type 0) (holds : List Nexus) (units : List UnitState) → StaysSo q → AllUnits q units
     → AllUnits q (units_after_choice holds units)
@@ -84,55 +84,55 @@ accepted : (s : ScenarioValue) (q : UnitState → Type 0) (a : Array) (id : Proc
     → AllUnits q a.units → IfAll q (Steps.accept_step a (process_of s id))
 accepted s q a id own h = go (process_of s id) refl
   where
-    by : (p : Process) → process_of s id ≡ Some p → (u : Option UnitState) → unit_state_at a.units p.target p.unit ≡ u
-        → IfAll q (Steps.accept_step_at a p u)
-    by p e None f = h
-    by p e (Some u) f = senses (is_request_sense (command_of p.cdb))
+    by : (c : Process) → process_of s id ≡ Some c → (u : Option UnitState) → unit_state_at a.units c.target c.unit ≡ u
+        → IfAll q (Steps.accept_step_at a c u)
+    by c e None f = h
+    by c e (Some u) f = senses (is_request_sense (command_of c.cdb))
       where
-        senses : (x : Bool) → IfAll q (if x then Some (Steps.with_guest a p None) else Steps.queue_step a p u)
+        senses : (x : Bool) → IfAll q (if x then Some (Steps.with_guest a c None) else Steps.queue_step a c u)
         senses true = h
         senses false = all_if q (nat_lt (Steps.process_count u) u.depth)
-            (record a { units = with_unit a.units (record u { waiting = u.waiting ++ p ∷ [] }) }) (with_units q a.units
-            (record u { waiting = u.waiting ++ p ∷ [] }) h (own p u e f (unit_has q a.units p.target p.unit u f h)))
+            (record a { units = with_unit a.units (record u { waiting = u.waiting ++ c ∷ [] }) }) (with_units q a.units
+            (record u { waiting = u.waiting ++ c ∷ [] }) h (own c u e f (unit_has q a.units c.target c.unit u f h)))
 
-    go : (p : Option Process) → process_of s id ≡ p → IfAll q (Steps.accept_step a p)
+    go : (c : Option Process) → process_of s id ≡ c → IfAll q (Steps.accept_step a c)
     go None e = tt
-    go (Some p) e = by p e (unit_state_at a.units p.target p.unit) refl
+    go (Some c) e = by c e (unit_state_at a.units c.target c.unit) refl
 
 refused : (s : ScenarioValue) (q : UnitState → Type 0) (a : Array) (id : ProcId) → AllUnits q a.units
     → IfAll q (Steps.refuse_step a (process_of s id))
 refused s q a id h = go (process_of s id)
   where
-    by : (p : Process) (u : Option UnitState) → IfAll q (Steps.refuse_step_at a p u)
-    by p None = tt
-    by p (Some u) = all_if q (not (is_request_sense (command_of p.cdb)) && Steps.process_count u == u.depth)
-        (Steps.with_listed_reply (Steps.with_guest a p (Some queue_full)) p.id queue_full) h
+    by : (c : Process) (u : Option UnitState) → IfAll q (Steps.refuse_step_at a c u)
+    by c None = tt
+    by c (Some u) = all_if q (not (is_request_sense (command_of c.cdb)) && Steps.process_count u == u.depth)
+        (Steps.with_listed_reply (Steps.with_guest a c (Some queue_full)) c.id queue_full) h
 
-    go : (p : Option Process) → IfAll q (Steps.refuse_step a p)
+    go : (c : Option Process) → IfAll q (Steps.refuse_step a c)
     go None = tt
-    go (Some p) = by p (unit_state_at a.units p.target p.unit)
+    go (Some c) = by c (unit_state_at a.units c.target c.unit)
 
-executed : (q : UnitState → Type 0) (a : Array) (p : Process) → StaysSo q → AllUnits q a.units
-    → AllUnits q (Steps.after_execution_at a p (unit_state_at a.units p.target p.unit)).units
-executed q a p f h = go (unit_state_at a.units p.target p.unit) refl
+executed : (q : UnitState → Type 0) (a : Array) (c : Process) → StaysSo q → AllUnits q a.units
+    → AllUnits q (Steps.after_execution_at a c (unit_state_at a.units c.target c.unit)).units
+executed q a c f h = go (unit_state_at a.units c.target c.unit) refl
   where
-    inner : (done : Execution) (u : Option UnitState) → unit_state_at a.units p.target p.unit ≡ u
-        → (x : Bool) → AllUnits q (Steps.with_contents (Steps.without_attention a x (nexus_of p)) u done.contents).units
+    inner : (done : Execution) (u : Option UnitState) → unit_state_at a.units c.target c.unit ≡ u
+        → (x : Bool) → AllUnits q (Steps.with_contents (Steps.without_attention a x (nexus_of c)) u done.contents).units
     inner done None e true = h
     inner done None e false = h
     inner done (Some u) e true = with_units q a.units (record u { contents = done.contents }) h
-        (f.contents u done.contents (unit_has q a.units p.target p.unit u e h))
+        (f.contents u done.contents (unit_has q a.units c.target c.unit u e h))
     inner done (Some u) e false = with_units q a.units (record u { contents = done.contents }) h
-        (f.contents u done.contents (unit_has q a.units p.target p.unit u e h))
+        (f.contents u done.contents (unit_has q a.units c.target c.unit u e h))
 
-    by : (done : Execution) (u : Option UnitState) → unit_state_at a.units p.target p.unit ≡ u
-        → AllUnits q (Steps.after_execution a p u done).units
-    by done u e = replied_units q (Steps.with_contents (Steps.without_attention a done.reported (nexus_of p)) u
-        done.contents).units p.id done.reply f (inner done u e done.reported)
+    by : (done : Execution) (u : Option UnitState) → unit_state_at a.units c.target c.unit ≡ u
+        → AllUnits q (Steps.after_execution a c u done).units
+    by done u e = replied_units q (Steps.with_contents (Steps.without_attention a done.reported (nexus_of c)) u
+        done.contents).units c.id done.reply f (inner done u e done.reported)
 
-    go : (u : Option UnitState) → unit_state_at a.units p.target p.unit ≡ u
-        → AllUnits q (Steps.after_execution_at a p u).units
-    go u e = by (execution (Steps.context_at a (nexus_of p) u) p.cdb p.sent) u e
+    go : (u : Option UnitState) → unit_state_at a.units c.target c.unit ≡ u
+        → AllUnits q (Steps.after_execution_at a c u).units
+    go u e = by (execution (Steps.context_at a (nexus_of c) u) c.cdb c.sent) u e
 
 run_all : (q : UnitState → Type 0) (a : Array) (guest : Bool) (o : Option RunningProcess) → StaysSo q
     → AllUnits q a.units → IfAll q (Steps.run_step a guest o)
@@ -149,12 +149,12 @@ failed s q a id reply (Some r) f h =
     all_if q (is_none r.reply) (Steps.with_reply a id reply) (replied_units q a.units id reply f h)
 failed s q a id reply None f h = go (process_of s id)
   where
-    go : (p : Option Process) → IfAll q (Steps.fail_step_of_new a id reply p)
+    go : (c : Option Process) → IfAll q (Steps.fail_step_of_new a id reply c)
     go None = tt
-    go (Some p) = by (Steps.is_waiting a.units id || Steps.has_ended a id)
+    go (Some c) = by (Steps.is_waiting a.units id || Steps.has_ended a id)
       where
         by : (x : Bool)
-            → IfAll q (if x then None else Some (Steps.with_listed_reply (Steps.with_guest a p (Some reply)) id reply))
+            → IfAll q (if x then None else Some (Steps.with_listed_reply (Steps.with_guest a c (Some reply)) id reply))
         by true = tt
         by false = h
 
@@ -182,17 +182,17 @@ dropped : (q : UnitState → Type 0) (a b : Array) (drops : Process → Bool) �
     → b.units ≡ Steps.kept_units drops a.units → AllUnits q a.units → AllUnits q b.units
 dropped q a b drops f same h = subst (λ (x : List UnitState). AllUnits q x) (sym same) (kept_units q drops a.units f h)
 
-aborted : (s : ScenarioValue) (q : UnitState → Type 0) (a : Array) (i t n : ℕ) (what : AbortKind) → StaysSo q
-    → AllUnits q a.units → AllUnits q (Steps.abort_step s a i t n what).units
-aborted s q a i t n AbortKind.All f h =
-    dropped q a (Steps.abort_step s a i t n AbortKind.All) (λ p. p.initiator == i && is_of_unit p t n) f refl h
-aborted s q a i t n (AbortKind.Tag tag) f h = dropped q a (Steps.abort_step s a i t n (AbortKind.Tag tag))
-    (λ p. p.initiator == i && is_of_unit p t n && has_tag p.tag tag) f refl h
-aborted s q a i t n AbortKind.WholeQueue f h =
-    dropped q a (Steps.abort_step s a i t n AbortKind.WholeQueue) (λ p. is_of_unit p t n) f (cleared_units i
-    (Steps.unit_processes (unit_state_at a.units t n)) (Steps.without_dropped a (λ p. is_of_unit p t n))) h
-aborted s q a i t n AbortKind.Device f h = dropped q a
-    (Steps.abort_step s a i t n AbortKind.Device) (λ p. p.target == t) f
+aborted : (s : ScenarioValue) (q : UnitState → Type 0) (a : Array) (i t m : ℕ) (what : AbortKind) → StaysSo q
+    → AllUnits q a.units → AllUnits q (Steps.abort_step s a i t m what).units
+aborted s q a i t m AbortKind.All f h =
+    dropped q a (Steps.abort_step s a i t m AbortKind.All) (λ p. p.initiator == i && is_of_unit p t m) f refl h
+aborted s q a i t m (AbortKind.Tag tag) f h = dropped q a (Steps.abort_step s a i t m (AbortKind.Tag tag))
+    (λ p. p.initiator == i && is_of_unit p t m && has_tag p.tag tag) f refl h
+aborted s q a i t m AbortKind.WholeQueue f h =
+    dropped q a (Steps.abort_step s a i t m AbortKind.WholeQueue) (λ p. is_of_unit p t m) f (cleared_units i
+    (Steps.unit_processes (unit_state_at a.units t m)) (Steps.without_dropped a (λ p. is_of_unit p t m))) h
+aborted s q a i t m AbortKind.Device f h = dropped q a
+    (Steps.abort_step s a i t m AbortKind.Device) (λ p. p.target == t) f
     (unit_reset_units s.hosts a.units (λ u. u.target == t) (record (Steps.without_dropped a (λ p. p.target == t)) {
       senses = Steps.kept_senses (λ r. r.target == t) a.senses;
       holds = Steps.kept_nexuses (λ r. r.target == t) a.holds;
@@ -229,8 +229,8 @@ step_all : (s : ScenarioValue) (q : UnitState → Type 0) (a : Array) (event : E
 step_all s q a event f own h = go (Steps.event_step s a event) (event_all s q a event f own h)
   where
     go : (o : Option Array) → IfAll q o → IfAll q (Steps.settled_array_if o)
-    go None k = tt
-    go (Some b) k = settled_units q b.holds b.units f k
+    go None e = tt
+    go (Some b) e = settled_units q b.holds b.units f e
 
 -- ---- the events of a row: a command arrives with the first of them alone
 
@@ -261,8 +261,8 @@ shown_all s q a (event ∷ (other ∷ shown)) f own h =
     go (array_after_events s (Some a) (other ∷ shown)) (shown_all s q a (other ∷ shown) f own.1 h)
   where
     go : (o : Option Array) → IfAll q o → IfAll q (array_step s event o)
-    go None k = tt
-    go (Some b) k = step_all s q b event f (arrives_none s q b event own.0) k
+    go None e = tt
+    go (Some b) e = step_all s q b event f (arrives_none s q b event own.0) e
 
 -- The array after them.
 pub events_all : (s : ScenarioValue) (q : UnitState → Type 0) (o : Option Array) (shown : List Event)
@@ -273,8 +273,8 @@ events_all s q None shown f own start h =
 events_all s q (Some a) shown f own start h = go (array_after_events s (Some a) shown) (shown_all s q a shown f own h)
   where
     go : (o : Option Array) → IfAll q o → AllUnits q (or_start s o).units
-    go None k = start
-    go (Some b) k = k
+    go None e = start
+    go (Some b) e = e
 
 pub each_settled : (q : UnitState → Type 0) (a : Array) → StaysSo q → AllUnits q a.units
     → AllUnits q (settled_array a).units

@@ -30,15 +30,15 @@ pub record IsDueCall (s : ScenarioValue) (p : List Row) (c : ℕ) (x : Calling) 
   pub host_is : is_initiator s.hosts c ≡ not x.reselects
 
 abbrev pub IsCalled : ScenarioValue → List Row → Type 0
-IsCalled s p = (k : Call) (x : Calling) → call p ≡ Some k → k.calling ≡ Some x → IsDueCall s p k.caller x
+IsCalled s p = (c : Call) (x : Calling) → call p ≡ Some c → c.calling ≡ Some x → IsDueCall s p c.caller x
 
 -- ---- small facts
 
 -- A call stands while SEL is true.
-pub sel_of_call : (p : List Row) (k : Call) → call p ≡ Some k → (bus p).sel ≡ true
-sel_of_call [] k e = absurd (none_some k e)
-sel_of_call (row ∷ rows) k e = by_bool (bus (row ∷ rows)).sel (λ f. f) (λ f. absurd
-    (none_some k (sym (ap (λ (q : Bool). if not q then None else if rises (bus rows).sel q then Some (record {
+pub sel_of_call : (p : List Row) (c : Call) → call p ≡ Some c → (bus p).sel ≡ true
+sel_of_call [] c e = absurd (none_some c e)
+sel_of_call (row ∷ rows) c e = by_bool (bus (row ∷ rows)).sel (λ f. f) (λ f. absurd
+    (none_some c (sym (ap (λ (q : Bool). if not q then None else if rises (bus rows).sel q then Some (record {
       caller = row.dev;
       at = row.time;
       calling = None;
@@ -88,8 +88,8 @@ keeps_all s p row dv lt h alone calm before after =
     ((λ i. rises g.own.bsy g.next.bsy && not (before i)) ∙ and_false (rises g.own.bsy g.next.bsy)) fal
 
 same_callee : (s : ScenarioValue) (p q : List Row) (c : ℕ) → KeepsAll s p q → callee_at s q c ≡ callee_at s p c
-same_callee s p q c k =
-    λ i. if is_initiator s.hosts c then target_of s (aim_of (k.aims i) c) else initiator_if (k.wishes.ready c i)
+same_callee s p q c e =
+    λ i. if is_initiator s.hosts c then target_of s (aim_of (e.aims i) c) else initiator_if (e.wishes.ready c i)
 
 -- ---- the caller drives both IDs
 
@@ -98,34 +98,34 @@ new_by true true a x e = (same_Some a x e, refl)
 new_by true false a x e = absurd (none_some x e)
 new_by false r a x e = absurd (none_some x e)
 
-first_called : (s : ScenarioValue) (p : List Row) (row : Row) (k : Call) (x : Calling) → BusStage s p
-    → (bus p).rst ≡ false → CalmStanding s p → IsLeast (unreset_due s p) 8 row → call p ≡ Some k → k.calling ≡ None
-    → calling_after k.caller None (change_of p row) row ≡ Some x → IsDueCall s p k.caller x
-first_called s p row k x (on_free_bus h) calm always least e none new = absurd (none_some k (sym h.stands.call_is ∙ e))
-first_called s p row k x (in_arbitration a h) calm always least e none new =
-    absurd (none_some k (sym h.stands.call_is ∙ e))
-first_called s p row k x (with_both_ids m c j t0 t z h) calm always least e none new =
-    absurd (none_some _ (sym none ∙ sym (ap (λ (w : Call). w.calling) (same_Some _ k (sym h.stands.call_is ∙ e)))))
-first_called s p row k x (awaiting_answer v m c j t0 t1 t2 y h) calm always least e none new =
-    absurd (none_some _ (sym none ∙ sym (ap (λ (w : Call). w.calling) (same_Some _ k (sym h.here.stands.call_is ∙ e)))))
-first_called s p row k x (after_withdrawal v m c j t0 t1 t2 t3 z h) calm always least e none new =
-    absurd (none_some _ (sym none ∙ sym (ap (λ (w : Call). w.calling) (same_Some _ k (sym h.stands.call_is ∙ e)))))
-first_called s p row k x (after_answer m c j t0 t1 t2 t3 y h) calm always least e none new =
-    absurd (none_some _ (sym none ∙ sym (ap (λ (w : Call). w.calling) (same_Some _ k (sym h.here.stands.call_is ∙ e)))))
-first_called s p row k x (after_takeover c j t0 t1 t2 t3 t4 y z f h) calm always least e none new =
-    absurd (none_some _ (sym none ∙ sym (ap (λ (w : Call). w.calling) (same_Some _ k (sym h.here.stands.call_is ∙ e)))))
-first_called s p row k x (in_reset h) calm always least e none new = wrong (sym h.reset ∙ calm)
-first_called s p row k x (in_connection n f g h) calm always least e none new = by_connection h
+first_called : (s : ScenarioValue) (p : List Row) (row : Row) (d : Call) (x : Calling) → BusStage s p
+    → (bus p).rst ≡ false → CalmStanding s p → IsLeast (unreset_due s p) 8 row → call p ≡ Some d → d.calling ≡ None
+    → calling_after d.caller None (change_of p row) row ≡ Some x → IsDueCall s p d.caller x
+first_called s p row d x (on_free_bus h) calm always least e none new = absurd (none_some d (sym h.stands.call_is ∙ e))
+first_called s p row d x (in_arbitration a h) calm always least e none new =
+    absurd (none_some d (sym h.stands.call_is ∙ e))
+first_called s p row d x (with_both_ids m c j t0 t z h) calm always least e none new =
+    absurd (none_some _ (sym none ∙ sym (ap (λ (w : Call). w.calling) (same_Some _ d (sym h.stands.call_is ∙ e)))))
+first_called s p row d x (awaiting_answer v m c j t0 t1 t2 y h) calm always least e none new =
+    absurd (none_some _ (sym none ∙ sym (ap (λ (w : Call). w.calling) (same_Some _ d (sym h.here.stands.call_is ∙ e)))))
+first_called s p row d x (after_withdrawal v m c j t0 t1 t2 t3 z h) calm always least e none new =
+    absurd (none_some _ (sym none ∙ sym (ap (λ (w : Call). w.calling) (same_Some _ d (sym h.stands.call_is ∙ e)))))
+first_called s p row d x (after_answer m c j t0 t1 t2 t3 y h) calm always least e none new =
+    absurd (none_some _ (sym none ∙ sym (ap (λ (w : Call). w.calling) (same_Some _ d (sym h.here.stands.call_is ∙ e)))))
+first_called s p row d x (after_takeover c j t0 t1 t2 t3 t4 y z f h) calm always least e none new =
+    absurd (none_some _ (sym none ∙ sym (ap (λ (w : Call). w.calling) (same_Some _ d (sym h.here.stands.call_is ∙ e)))))
+first_called s p row d x (in_reset h) calm always least e none new = wrong (sym h.reset ∙ calm)
+first_called s p row d x (in_connection n f g h) calm always least e none new = by_connection h
   where
-    by_connection : BeginsConnection p n → IsDueCall s p k.caller x
-    by_connection (by_selection b) = absurd (none_some k (sym b.linked.stands.call_is ∙ e))
-    by_connection (by_reselection y b) = absurd (none_some k (sym b.linked.stands.call_is ∙ e))
-first_called s p row k x (after_arbitration c t h) calm always least e none new =
-    let same : (won_call c t) ≡ k = same_Some _ k (sym h.stands.call_is ∙ e) in
-    let caller : c ≡ k.caller = ap (λ (w : Call). w.caller) same in
-    let made = new_by (row.dev == k.caller) (drives_two_ids k.caller (change_of p row).next)
-    (new_calling k.caller (change_of p row).next row.time) x new in
-    let dev : row.dev ≡ c = eqb-true row.dev k.caller made.1 ∙ sym caller in
+    by_connection : BeginsConnection p n → IsDueCall s p d.caller x
+    by_connection (by_selection b) = absurd (none_some d (sym b.linked.stands.call_is ∙ e))
+    by_connection (by_reselection y b) = absurd (none_some d (sym b.linked.stands.call_is ∙ e))
+first_called s p row d x (after_arbitration c t h) calm always least e none new =
+    let same : (won_call c t) ≡ d = same_Some _ d (sym h.stands.call_is ∙ e) in
+    let caller : c ≡ d.caller = ap (λ (w : Call). w.caller) same in
+    let made = new_by (row.dev == d.caller) (drives_two_ids d.caller (change_of p row).next)
+    (new_calling d.caller (change_of p row).next row.time) x new in
+    let dev : row.dev ≡ c = eqb-true row.dev d.caller made.1 ∙ sym caller in
     let due : Due = record { time = row.time; kind = row.kind } in
     let w = is_there s p row.dev due least.is_due in
     let at : stage p ≡ InCalling (won_call c t) = stage_is p _ _ _ _ h.stands in
@@ -148,8 +148,8 @@ first_called s p row k x (after_arbitration c t h) calm always least e none new 
 
 due_on : (s : ScenarioValue) (p q : List Row) (c : ℕ) (x y : Calling) → KeepsAll s p q → x.called ≡ y.called
     → x.reselects ≡ y.reselects → IsDueCall s p c x → IsDueCall s q c y
-due_on s p q c x y k ec er d = record {
-  callee_is = same_callee s p q c k ∙ d.callee_is ∙ ap (λ (z : ℕ). Some z) ec;
+due_on s p q c x y e ec er d = record {
+  callee_is = same_callee s p q c e ∙ d.callee_is ∙ ap (λ (z : ℕ). Some z) ec;
   host_is = d.host_is ∙ ap not er;
 }
 
@@ -185,30 +185,30 @@ called_on s p row h alone calm off always least was k x e f =
         else if rises (before i) (on i) then Some (record { caller = row.dev; at = row.time; calling = None })
         else call_goes_on (call p) (change_of p row) row) ∙ e
 
-    by_calling : (bus p).sel ≡ true → (j : Call) → call p ≡ Some j
-        → (record j { calling = calling_after j.caller j.calling (change_of p row) row }) ≡ k
-        → (o : Option Calling) → j.calling ≡ o → IsDueCall s q k.caller x
-    by_calling before j ej same None none =
-        let new : calling_after j.caller None (change_of p row) row ≡ Some x =
-        sym (ap (λ (o : Option Calling). calling_after j.caller o (change_of p row) row) none)
+    by_calling : (bus p).sel ≡ true → (z : Call) → call p ≡ Some z
+        → (record z { calling = calling_after z.caller z.calling (change_of p row) row }) ≡ k
+        → (o : Option Calling) → z.calling ≡ o → IsDueCall s q k.caller x
+    by_calling before z ej same None none =
+        let new : calling_after z.caller None (change_of p row) row ≡ Some x =
+        sym (ap (λ (o : Option Calling). calling_after z.caller o (change_of p row) row) none)
         ∙ ap (λ (c : Call). c.calling) same ∙ f in
         let all = keeps_all s p row always.devices least.inside h alone off before on in
         subst (λ (c : ℕ). IsDueCall s q c x) (ap (λ (c : Call). c.caller) same)
-        (due_on s p q j.caller x x all refl refl (first_called s p row j x h calm always least ej none new))
-    by_calling before j ej same (Some y) some =
-        let goes : calling_after j.caller (Some y) (change_of p row) row ≡ Some x =
-        sym (ap (λ (o : Option Calling). calling_after j.caller o (change_of p row) row) some)
+        (due_on s p q z.caller x x all refl refl (first_called s p row z x h calm always least ej none new))
+    by_calling before z ej same (Some y) some =
+        let goes : calling_after z.caller (Some y) (change_of p row) row ≡ Some x =
+        sym (ap (λ (o : Option Calling). calling_after z.caller o (change_of p row) row) some)
         ∙ ap (λ (c : Call). c.calling) same ∙ f in
         let all = keeps_all s p row always.devices least.inside h alone off before on in
-        let parts = same_calling j.caller y x (change_of p row) row goes in
+        let parts = same_calling z.caller y x (change_of p row) row goes in
         subst (λ (c : ℕ). IsDueCall s q c x) (ap (λ (c : Call). c.caller) same)
-        (due_on s p q j.caller y x all parts.0 parts.1 (was j y ej some))
+        (due_on s p q z.caller y x all parts.0 parts.1 (was z y ej some))
 
     by_call : (bus p).sel ≡ true → (o : Option Call) → call p ≡ o → IsDueCall s q k.caller x
     by_call before None none =
         absurd (none_some k (sym (ap (λ (o : Option Call). call_goes_on o (change_of p row) row) none) ∙ stands before))
-    by_call before (Some j) some = by_calling before j some (same_Some _ k
-        (sym (ap (λ (o : Option Call). call_goes_on o (change_of p row) row) some) ∙ stands before)) j.calling refl
+    by_call before (Some z) some = by_calling before z some (same_Some _ k
+        (sym (ap (λ (o : Option Call). call_goes_on o (change_of p row) row) some) ∙ stands before)) z.calling refl
 
 -- ---- a connection begins
 
@@ -256,12 +256,12 @@ pub made_for : (s : ScenarioValue) (p : List Row) (t : ℕ) (n : Connection) →
     → IsCalled s p → connection_of (call p) t ≡ Some n → IsMadeFor s (run_state s p) n
 made_for s p t n u seats dv was e = by_call (call p) refl e
   where
-    by_calling : (k : Call) → call p ≡ Some k → (o : Option Calling) → k.calling ≡ o
-        → connected_of k.caller o t ≡ Some n → IsMadeFor s (run_state s p) n
-    by_calling k ek None none z = absurd (none_some n z)
-    by_calling k ek (Some x) some z =
-        made_of s p k.caller t x n u (own_units s p seats dv) (was k x ek some) (by_answer k.caller x x.answered t n z)
+    by_calling : (c : Call) → call p ≡ Some c → (o : Option Calling) → c.calling ≡ o
+        → connected_of c.caller o t ≡ Some n → IsMadeFor s (run_state s p) n
+    by_calling c ek None none z = absurd (none_some n z)
+    by_calling c ek (Some x) some z =
+        made_of s p c.caller t x n u (own_units s p seats dv) (was c x ek some) (by_answer c.caller x x.answered t n z)
 
     by_call : (o : Option Call) → call p ≡ o → connection_of o t ≡ Some n → IsMadeFor s (run_state s p) n
     by_call None none z = absurd (none_some n z)
-    by_call (Some k) some z = by_calling k some k.calling refl z
+    by_call (Some c) some z = by_calling c some c.calling refl z

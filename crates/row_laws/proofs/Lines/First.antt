@@ -21,12 +21,12 @@ pub record Made (p : List Row) (row : Row) (n : Connection) : Type 0 where
   pub made : connection_of (call p) row.time ≡ Some n
   pub sel : falls (bus p).sel (bus (row ∷ p)).sel ≡ true
 
-made_by : (q r s : Bool) (o : Option Connection) (n : Connection) → (if q && r && s then o else None) ≡ Some n
+made_by : (q r b : Bool) (o : Option Connection) (n : Connection) → (if q && r && b then o else None) ≡ Some n
     → (o ≡ Some n) × (q ≡ true)
 made_by true true true o n e = (e, refl)
 made_by true true false o n e = absurd (none_some n e)
-made_by true false s o n e = absurd (none_some n e)
-made_by false r s o n e = absurd (none_some n e)
+made_by true false b o n e = absurd (none_some n e)
+made_by false r b o n e = absurd (none_some n e)
 
 pub made_is : (p : List Row) (row : Row) (n : Connection) → connection p ≡ None → connection (row ∷ p) ≡ Some n
     → Made p row n
@@ -39,7 +39,7 @@ made_is p row n alone e =
 pub of_lines : (p : List Row) (row : Row) (n : Connection) → Made p row n → is_fault row.kind ≡ false
 of_lines p row n m = go row.kind refl
   where
-    go : (k : Kind) → row.kind ≡ k → is_fault row.kind ≡ false
+    go : (x : Kind) → row.kind ≡ x → is_fault row.kind ≡ false
     go (Drives l) e = ap is_fault e
     go (Fault bit) e =
         wrong' (sym (no_fall (bus p).sel) ∙ (λ i. falls (bus p).sel (sym (bus-fault row p bit e) i).sel) ∙ m.sel)
@@ -67,7 +67,7 @@ requests_none (row ∷ rows) e = go (λ z. requests_none rows z) row.kind refl
         down true h z = absurd (none_some m (sym z ∙ ap (λ (r : Bool). if r then Some m else None) h))
         down false h z = h
 
-    go : (connection rows ≡ None → (handshakes rows).requests ≡ 0) → (k : Kind) → row.kind ≡ k
+    go : (connection rows ≡ None → (handshakes rows).requests ≡ 0) → (x : Kind) → row.kind ≡ x
         → (handshakes (row ∷ rows)).requests ≡ 0
     go less (Drives l) f = lines (ap is_fault f)
     go less (Fault bit) f = ap (λ (q : Bool).
@@ -125,16 +125,16 @@ lines_at p row c l same kind =
     let r : row ≡ row_of_lines row.time c l = λ i. record { time = row.time; dev = same i; kind = kind i } in
     ap (λ (w : Row). drives (w ∷ p) c) r ∙ drives_own p row.time c l
 
-after_answered : (s : ScenarioValue) (p : List Row) (m : Bool) (c k t0 t1 t2 t3 x : ℕ) (row : Row) (n : Connection)
-    → CalmStanding s p → IsAnswered s p (answered_calling m k t1 t2 t3) c k t0 m false x
+after_answered : (s : ScenarioValue) (p : List Row) (m : Bool) (c i t0 t1 t2 t3 x : ℕ) (row : Row) (n : Connection)
+    → CalmStanding s p → IsAnswered s p (answered_calling m i t1 t2 t3) c i t0 m false x
     → IsLeast (unreset_due s p) 8 row → Made p row n → n.reselected ≡ true → DrivesName s p row n
-after_answered s p true c k t0 t1 t2 t3 x row n always a least made re =
-    let same : connected c (answered_calling true k t1 t2 t3) row.time ≡ n = same_Some _ n
+after_answered s p true c i t0 t1 t2 t3 x row n always a least made re =
+    let same : connected c (answered_calling true i t1 t2 t3) row.time ≡ n = same_Some _ n
     (sym (ap (λ (w : Option Call). connection_of w row.time) a.here.stands.call_is) ∙ made.made) in
     wrong' (ap (λ (w : Connection). w.reselected) same ∙ re)
-after_answered s p false c k t0 t1 t2 t3 x row n always a least made re =
+after_answered s p false c i t0 t1 t2 t3 x row n always a least made re =
     let h = a.here in
-    let g : Calling = answered_calling false k t1 t2 t3 in
+    let g : Calling = answered_calling false i t1 t2 t3 in
     let was : stage p ≡ InAnswer (call_with c t0 g) g t3 = stage_is p _ _ _ _ h.stands in
     elim (cases_eq row.dev c) [
       | inl same ↦
@@ -149,12 +149,12 @@ after_answered s p false c k t0 t1 t2 t3 x row n always a least made re =
           (calling_lines false true x) row always h was least nc)
     ]
 
-after_resumed : (s : ScenarioValue) (p : List Row) (c k t0 t1 t2 t3 t4 x : ℕ) (row : Row) (n : Connection)
-    → CalmStanding s p → IsAnswered s p (resumed_calling k t1 t2 t3 t4) c k t0 false true x
+after_resumed : (s : ScenarioValue) (p : List Row) (c i t0 t1 t2 t3 t4 x : ℕ) (row : Row) (n : Connection)
+    → CalmStanding s p → IsAnswered s p (resumed_calling i t1 t2 t3 t4) c i t0 false true x
     → IsLeast (unreset_due s p) 8 row → Made p row n → DrivesName s p row n
-after_resumed s p c k t0 t1 t2 t3 t4 x row n always a least made =
+after_resumed s p c i t0 t1 t2 t3 t4 x row n always a least made =
     let h = a.here in
-    let g : Calling = resumed_calling k t1 t2 t3 t4 in
+    let g : Calling = resumed_calling i t1 t2 t3 t4 in
     let was : stage p ≡ InAnswer (call_with c t0 g) g t3 = stage_is p _ _ _ _ h.stands in
     let same : connected c g row.time ≡ n = same_Some _ n
     (sym (ap (λ (w : Option Call). connection_of w row.time) h.stands.call_is) ∙ made.made) in

@@ -21,7 +21,7 @@ is_in_message _ = false
 -- Whether a process writes; and whether its data go to the initiator so.
 abbrev pub writes_of : Option Process → Option Bool
 writes_of None = None
-writes_of (Some p) = Some (is_writing p)
+writes_of (Some c) = Some (is_writing c)
 
 abbrev pub is_directed : Bool → Option Bool → Bool
 is_directed io None = false
@@ -73,21 +73,21 @@ data_some _ d some = refl
 
 task_moves : (s : ScenarioValue) (k : RunState) (o : Option Process) → task_writes (task_if s k o) ≡ writes_of o
 task_moves s k None = refl
-task_moves s k (Some p) = refl
+task_moves s k (Some c) = refl
 
 directed_some : (io : Bool) (o : Option Process) → is_directed io (writes_of o) ≡ true → is_some o ≡ true
 directed_some io None e = wrong' (sym (elim io as (λ q. is_directed q None ≡ false) [ true ↦ refl | false ↦ refl ]) ∙ e)
-directed_some io (Some p) e = refl
+directed_some io (Some c) e = refl
 
 -- Of a process that writes the data go to the target.
-pub writes_out : (io : Bool) (p : Process) → is_directed io (writes_of (Some p)) ≡ true → is_writing p ≡ true
+pub writes_out : (io : Bool) (c : Process) → is_directed io (writes_of (Some c)) ≡ true → is_writing c ≡ true
     → io ≡ false
-writes_out true p e w = wrong' (sym (ap not w) ∙ e)
-writes_out false p e w = refl
+writes_out true c e w = wrong' (sym (ap not w) ∙ e)
+writes_out false c e w = refl
 
 some_task : (s : ScenarioValue) (k : RunState) (o : Option Process) → is_some o ≡ true → is_some (task_if s k o) ≡ true
 some_task s k None e = e
-some_task s k (Some p) e = refl
+some_task s k (Some c) e = refl
 
 data_is : (b : LineSet) → is_data b ≡ true → is_data_phase (phase_of b) ≡ true
 data_is b e = go b.msg b.cd b.io e
@@ -147,9 +147,9 @@ no_out_data b e f = go b.msg b.cd b.io e f
     go false c i z g = wrong' z
 
 -- In DATA OUT the process that is served writes.
-pub writes_there : (s : ScenarioValue) (k : RunState) (p : Process) → Planned s k → k.exchange.begun ≡ true
-    → process_served s k ≡ Some p → phase_of (bus_of k) ≡ Phase.DataOut → is_writing p ≡ true
-writes_there s k p h b e f =
+pub writes_there : (s : ScenarioValue) (k : RunState) (c : Process) → Planned s k → k.exchange.begun ≡ true
+    → process_served s k ≡ Some c → phase_of (bus_of k) ≡ Phase.DataOut → is_writing c ≡ true
+writes_there s k c h b e f =
     let w = out_of (bus_of k).msg (bus_of k).cd (bus_of k).io (ap is_data_out f) in
     sym (λ i. is_directed (w.1 i) (writes_of (e i))) ∙ h.serves b w.0
   where
@@ -176,7 +176,7 @@ cause_in b e = go (is_message_in b) b.cd refl e
     go false false f z = wrong' z
 
 less_by : (r a b : ℕ) → 1 ≤ r → r ≤ a + b → a ≤ r - 1 → 1 ≤ b
-less_by r a b h k l = omega arith
+less_by r a b h e l = omega arith
 
 second_some : (o : Option MsgIn) → 1 ≤ length (message_bytes o) → is_some o ≡ true
 second_some None h = absurd (omega arith)
@@ -211,20 +211,20 @@ planned_as s k j eb em ec es e1 e2 e3 h = record {
       ∙ h.repeated (sym eb ∙ b) ((λ i. sym e1 i && sym e2 i && not (sym e3 i)) ∙ o) (ap is_in_message (sym ec) ∙ c);
 }
 
-byte_messages : (w : Hearing) (p : Plan)
-    → ((plan_with_byte w p).messages ≡ p.messages) × ((plan_with_byte w p).cause ≡ p.cause)
-byte_messages w p = go (is_message_out w.change.before) w.is_last
+byte_messages : (w : Hearing) (l : Plan)
+    → ((plan_with_byte w l).messages ≡ l.messages) × ((plan_with_byte w l).cause ≡ l.cause)
+byte_messages w l = go (is_message_out w.change.before) w.is_last
   where
-    go : (q r : Bool) → ((if q then plan_after_message p r w.out else p).messages ≡ p.messages)
-        × ((if q then plan_after_message p r w.out else p).cause ≡ p.cause)
+    go : (q r : Bool) → ((if q then plan_after_message l r w.out else l).messages ≡ l.messages)
+        × ((if q then plan_after_message l r w.out else l).cause ≡ l.cause)
     go true true = (refl, refl)
     go true false = (refl, refl)
     go false r = (refl, refl)
 
-struck_messages : (q : Bool) (p : Plan)
-    → ((if q then struck_plan p else p).messages ≡ p.messages) × ((if q then struck_plan p else p).cause ≡ p.cause)
-struck_messages true p = (refl, refl)
-struck_messages false p = (refl, refl)
+struck_messages : (q : Bool) (l : Plan)
+    → ((if q then struck_plan l else l).messages ≡ l.messages) × ((if q then struck_plan l else l).cause ≡ l.cause)
+struck_messages true l = (refl, refl)
+struck_messages false l = (refl, refl)
 
 pub planned_on : (s : ScenarioValue) (k : RunState) (row : Row) (n : Connection) (c : Change) → IsRowIn k row n c
     → HasPhase k → Gives k → (k.exchange.begun ≡ false → is_in_message k.exchange.plan.cause ≡ false)

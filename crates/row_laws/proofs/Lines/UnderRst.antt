@@ -42,9 +42,9 @@ reset_rule p row e =
 pub drives_next : (p : List Row) (row : Row) → drives (row ∷ p) row.dev ≡ driven_after row.kind (drives p row.dev)
 drives_next p row = go row.kind refl
   where
-    go : (k : Kind) → row.kind ≡ k → drives (row ∷ p) row.dev ≡ driven_after row.kind (drives p row.dev)
-    go (Drives l) e = drives-own row p l e ∙ sym (ap (λ (k : Kind). driven_after k (drives p row.dev)) e)
-    go (Fault bit) e = drives-fault row p bit row.dev e ∙ sym (ap (λ (k : Kind). driven_after k (drives p row.dev)) e)
+    go : (x : Kind) → row.kind ≡ x → drives (row ∷ p) row.dev ≡ driven_after row.kind (drives p row.dev)
+    go (Drives l) e = drives-own row p l e ∙ sym (ap (λ (x : Kind). driven_after x (drives p row.dev)) e)
+    go (Fault bit) e = drives-fault row p bit row.dev e ∙ sym (ap (λ (x : Kind). driven_after x (drives p row.dev)) e)
 
 -- A line that is false on the bus is driven by no device.
 pub line_off : (on : LineSet → Bool) → ((a b : LineSet) → on (union a b) ≡ (on a || on b)) → (p : List Row)
@@ -57,7 +57,7 @@ stays_off : (on : LineSet → Bool) → ((a b : LineSet) → on (union a b) ≡ 
     → on (bus (row ∷ p)) ≡ false
 stays_off on both zero p row e own =
     bus_off on both zero (row ∷ p) (λ d lt. elim (cases_eq d row.dev) [
-      | inl same ↦ ap (λ (k : ℕ). on (drives (row ∷ p) k)) same ∙ own
+      | inl same ↦ ap (λ (m : ℕ). on (drives (row ∷ p) m)) same ∙ own
       | inr ne ↦ ap on (drives-other row p d ne) ∙ line_off on both p e d lt
     ])
 
@@ -156,7 +156,7 @@ quiet_at_end s p row lt obeys u off = or_second (nat_le row.time ((line_times p)
         (λ e. e)
         (λ e.
         wrong (sym u.reset ∙ bus_off (λ x. x.rst) (λ _ _. refl) refl p (λ d ld. elim (cases_eq d row.dev) [
-          | inl same ↦ ap (λ (k : ℕ). (drives p k).rst) same ∙ e
+          | inl same ↦ ap (λ (m : ℕ). (drives p m).rst) same ∙ e
           | inr ne ↦ ap (λ (l : LineSet). l.rst) (sym (drives-other row p d ne)) ∙ off_at (row ∷ p) off d ld
         ])))
 

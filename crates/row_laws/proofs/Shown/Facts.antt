@@ -34,10 +34,10 @@ puts_answer all c e id = ap is_marked (carried_with all c id) ∙ go (same_id c.
 
 -- ---- events
 
-marks : (all : List CarriedBytes) (c : CarriedBytes) (p : ProcId) → c.id ≡ p → is_marked c ≡ true
-    → (id : ProcId) → is_marked (carried_of (with_carried all c) id) ≡ (same_id p id || is_marked (carried_of all id))
-marks all c p same e id = ap is_marked (carried_with all c id)
-    ∙ ap (λ (x : ProcId). is_marked (if same_id x id then c else carried_of all id)) same ∙ go (same_id p id)
+marks : (all : List CarriedBytes) (c : CarriedBytes) (d : ProcId) → c.id ≡ d → is_marked c ≡ true
+    → (id : ProcId) → is_marked (carried_of (with_carried all c) id) ≡ (same_id d id || is_marked (carried_of all id))
+marks all c d same e id = ap is_marked (carried_with all c id)
+    ∙ ap (λ (x : ProcId). is_marked (if same_id x id then c else carried_of all id)) same ∙ go (same_id d id)
   where
     go : (q : Bool) → is_marked (if q then c else carried_of all id) ≡ (q || is_marked (carried_of all id))
     go true = e
@@ -82,8 +82,8 @@ events_agree s a b (e ∷ shown) c st h =
     go : ((x : Array) → array_after_events s a shown ≡ Some x → Agree x (story_after_events s b shown))
         → (o : Option Array) → array_after_events s a shown ≡ o → array_step s e o ≡ Some c
         → Agree c (story_after_event s (story_after_events s b shown) e)
-    go before None f k = absurd (no_array s e c k)
-    go before (Some x) f k = event_agrees s x c (story_after_events s b shown) e k (before x f)
+    go before None f g = absurd (no_array s e c g)
+    go before (Some x) f g = event_agrees s x c (story_after_events s b shown) e g (before x f)
 
 -- ---- what the row changes besides
 
@@ -123,9 +123,9 @@ free_keeps s b d row = keeps b (story_on_free_bus s b d row) (free_carried s b d
 
 -- ---- in a connection
 
-own_answer : (b : Story) (p : ProcId) (c : CarriedBytes) → c.id ≡ p → is_marked c ≡ is_marked (carried_of b.carried p)
+own_answer : (b : Story) (d : ProcId) (c : CarriedBytes) → c.id ≡ d → is_marked c ≡ is_marked (carried_of b.carried d)
     → SameAnswers b.carried (with_carried b.carried c)
-own_answer b p c same e =
+own_answer b d c same e =
     puts_answer b.carried c (e ∙ ap (λ (x : ProcId). is_marked (carried_of b.carried x)) (sym same))
 
 message_answer : (c : CarriedBytes) (m : MsgIn)

@@ -98,16 +98,16 @@ no_flags b (Some (process x)) (Some c) id = put_flags b.carried
         × ((carried_after_fault (carried_of b.carried x) c.before).block ≡ (carried_of b.carried x).block)
     flags = go (is_command c.before) (is_data c.before) (carried_of b.carried x)
       where
-        go : (q r : Bool) (k : CarriedBytes)
-            → ((if q then record k { struck = true; failure = Some PARITY_ERROR } else if r then record k {
+        go : (q r : Bool) (y : CarriedBytes)
+            → ((if q then record y { struck = true; failure = Some PARITY_ERROR } else if r then record y {
               failure = Some (if c.before.io then INITIATOR_DETECTED_ERROR else PARITY_ERROR);
-            } else k).id ≡ k.id)
-            × ((if q then record k { struck = true; failure = Some PARITY_ERROR } else if r then record k {
+            } else y).id ≡ y.id)
+            × ((if q then record y { struck = true; failure = Some PARITY_ERROR } else if r then record y {
               failure = Some (if c.before.io then INITIATOR_DETECTED_ERROR else PARITY_ERROR);
-            } else k).block ≡ k.block)
-        go true r k = (refl, refl)
-        go false true k = (refl, refl)
-        go false false k = (refl, refl)
+            } else y).block ≡ y.block)
+        go true r y = (refl, refl)
+        go false true y = (refl, refl)
+        go false false y = (refl, refl)
 
 pub quiet_block : (s : ScenarioValue) (b : Story) (l : Option Link) (d : RowReading) (row : Row) (id : ProcId)
     → d.crosses ≡ false → block_in (story_in_connection s b l d row) id ≡ block_in b id

@@ -60,11 +60,11 @@ out_counts q none h Unknown c = c
 
 pub byte_out_counts : (q : CommandBytes → Type 0) → q no_command → (d : Dialogue) (byte : ℕ) (last : Bool)
     → Counts q d.heard → Counts q d.at_phase → Counts q (byte_out d byte last).heard
-byte_out_counts q none d byte last h p =
+byte_out_counts q none d byte last h e =
     out_counts q none (fresh_heard d) (got_out (fresh_bytes d ++ byte ∷ [])) (go d.is_last)
   where
     go : (r : Bool) → Counts q (if r then d.at_phase else d.heard)
-    go true = p
+    go true = e
     go false = h
 
 -- Any message but MESSAGE PARITY ERROR takes nothing back.
@@ -87,11 +87,11 @@ out_now q none h (Whole m n) e c = go m e
 pub byte_out_now : (q : CommandBytes → Type 0) → q no_command → (d : Dialogue) (byte : ℕ) (last : Bool)
     → is_refusal (whole_out (got_out (fresh_bytes d ++ byte ∷ []))) ≡ false → q d.heard.now.command
     → q d.at_phase.now.command → q (byte_out d byte last).heard.now.command
-byte_out_now q none d byte last e h p =
+byte_out_now q none d byte last e h f =
     out_now q none (fresh_heard d) (got_out (fresh_bytes d ++ byte ∷ [])) e (go d.is_last)
   where
     go : (r : Bool) → q (if r then d.at_phase else d.heard).now.command
-    go true = p
+    go true = f
     go false = h
 
 -- ---- what is said in MESSAGE OUT
@@ -118,36 +118,36 @@ detects_nothing_back : no_refusals nothing_understood detected_error ≡ true
 unfolding form_out
 detects_nothing_back = refl
 
-said_by : (v : Speech) (p : Plan) (d : Dialogue) (byte : ℕ) → AreWordsHeard v p d
+said_by : (v : Speech) (l : Plan) (d : Dialogue) (byte : ℕ) → AreWordsHeard v l d
     → byte ≡ next_word v → no_refusals nothing_understood v.words ≡ true
     → is_refusal (whole_out (got_out (fresh_bytes d ++ byte ∷ []))) ≡ false
-said_by v p d byte h e none =
+said_by v l d byte h e none =
     let half : fresh_bytes d ≡ (understood nothing_understood h.before).half = ap
     (λ (u : Understanding). u.half) h.anew in
-    let is : byte ≡ h.byte = e ∙ says_byte v p d h in
+    let is : byte ≡ h.byte = e ∙ says_byte v l d h in
     (λ i. is_refusal (whole_out (got_out (half i ++ is i ∷ []))))
     ∙ none_at nothing_understood h.before h.byte h.rest (ap (no_refusals nothing_understood) (sym h.words_are) ∙ none)
 
 -- The answer to a request takes nothing back, and so INITIATOR DETECTED ERROR.
-pub answer_said : (v : Speech) (p : Plan) (d : Dialogue) (byte : ℕ) (h : Option HostDef) (a : Agreement)
-    → AreWordsHeard v p d → byte ≡ next_word v → v.words ≡ answer_bytes h a
+pub answer_said : (v : Speech) (l : Plan) (d : Dialogue) (byte : ℕ) (h : Option HostDef) (a : Agreement)
+    → AreWordsHeard v l d → byte ≡ next_word v → v.words ≡ answer_bytes h a
     → is_refusal (whole_out (got_out (fresh_bytes d ++ byte ∷ []))) ≡ false
-answer_said v p d byte h a heard e w =
-    said_by v p d byte heard e (ap (no_refusals nothing_understood) w ∙ answers_nothing_back h a)
+answer_said v l d byte h a heard e w =
+    said_by v l d byte heard e (ap (no_refusals nothing_understood) w ∙ answers_nothing_back h a)
 
-pub error_said : (v : Speech) (p : Plan) (d : Dialogue) (byte : ℕ) → AreWordsHeard v p d → byte ≡ next_word v
+pub error_said : (v : Speech) (l : Plan) (d : Dialogue) (byte : ℕ) → AreWordsHeard v l d → byte ≡ next_word v
     → v.words ≡ detected_error → is_refusal (whole_out (got_out (fresh_bytes d ++ byte ∷ []))) ≡ false
-error_said v p d byte heard e w =
-    said_by v p d byte heard e (ap (no_refusals nothing_understood) w ∙ detects_nothing_back)
+error_said v l d byte heard e w =
+    said_by v l d byte heard e (ap (no_refusals nothing_understood) w ∙ detects_nothing_back)
 
 nothing_offered : (understood nothing_understood parity_error).said.offer ≡ None
 unfolding form_out
 nothing_offered = refl
 
 -- With MESSAGE PARITY ERROR no offer is heard.
-pub refusal_offers_none : (v : Speech) (p : Plan) (d : Dialogue) → AreWordsHeard v p d → d.is_last ≡ true
-    → v.words ≡ parity_error → p.said.offer ≡ None
-refusal_offers_none v p d h e w = ap (λ (u : Understanding). u.said.offer) (h.last e)
+pub refusal_offers_none : (v : Speech) (l : Plan) (d : Dialogue) → AreWordsHeard v l d → d.is_last ≡ true
+    → v.words ≡ parity_error → l.said.offer ≡ None
+refusal_offers_none v l d h e w = ap (λ (u : Understanding). u.said.offer) (h.last e)
     ∙ ap (λ (x : List ℕ). (understood nothing_understood x).said.offer) w ∙ nothing_offered
 
 -- ---- MESSAGE IN

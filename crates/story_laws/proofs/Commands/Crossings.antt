@@ -22,9 +22,9 @@ small_block block rest cdb e whole =
     let two = length-append block rest in
     omega arith
   where
-    of_len : (g : Option ℕ) (n : ℕ) → ((l : ℕ) → g ≡ Some l → l < 11) → is_len g n ≡ true → n < 11
-    of_len None n small z = wrong' z
-    of_len (Some l) n small z = let lt = small l refl in grind (arith, nat_tests)
+    of_len : (g : Option ℕ) (i : ℕ) → ((l : ℕ) → g ≡ Some l → l < 11) → is_len g i ≡ true → i < 11
+    of_len None i small z = wrong' z
+    of_len (Some l) i small z = let lt = small l refl in grind (arith, nat_tests)
 
     small_len : (first l : ℕ) → group_len first ≡ Some l → l < 11
     small_len first l z = go (nat_lt first 0x20) (nat_lt first 0x40) z
@@ -97,13 +97,13 @@ tests_of b known = go b.msg b.cd b.io known
     go false false true h = refl
     go false false false h = refl
 
-plan_said : (q last : Bool) (m : Option MsgOut) (p : Plan)
-    → ((if q then plan_after_message p last m else p).messages ≡ p.messages)
-    × ((if q then plan_after_message p last m else p).next ≡ p.next)
-    × ((if q then plan_after_message p last m else p).cause ≡ p.cause)
-plan_said true true m p = (refl, refl, refl)
-plan_said true false m p = (refl, refl, refl)
-plan_said false last m p = (refl, refl, refl)
+plan_said : (q last : Bool) (m : Option MsgOut) (l : Plan)
+    → ((if q then plan_after_message l last m else l).messages ≡ l.messages)
+    × ((if q then plan_after_message l last m else l).next ≡ l.next)
+    × ((if q then plan_after_message l last m else l).cause ≡ l.cause)
+plan_said true true m l = (refl, refl, refl)
+plan_said true false m l = (refl, refl, refl)
+plan_said false last m l = (refl, refl, refl)
 
 -- What is asked of a row with which a byte crosses.
 pub record Crosses (s : ScenarioValue) (k : RunState) (n : Connection) (c : Change) : Type 0 where
@@ -153,23 +153,23 @@ cross_keeps s k row n c r ef ep er x w h = record {
     plan : (j.exchange.plan.messages ≡ k.exchange.plan.messages) × (j.exchange.plan.next ≡ k.exchange.plan.next)
         × (j.exchange.plan.cause ≡ k.exchange.plan.cause)
     plan =
-        let p = plan_said (is_message_out c.before) d.is_last reading.out k.exchange.plan in (
-          ap (λ (y : Exchange). y.plan.messages) i.exchange_is ∙ p.0,
-          ap (λ (y : Exchange). y.plan.next) i.exchange_is ∙ p.1,
-          ap (λ (y : Exchange). y.plan.cause) i.exchange_is ∙ p.2,
+        let f = plan_said (is_message_out c.before) d.is_last reading.out k.exchange.plan in (
+          ap (λ (y : Exchange). y.plan.messages) i.exchange_is ∙ f.0,
+          ap (λ (y : Exchange). y.plan.next) i.exchange_is ∙ f.1,
+          ap (λ (y : Exchange). y.plan.cause) i.exchange_is ∙ f.2,
         )
 
     words : j.exchange.speech.words ≡ k.exchange.speech.words
     words = ap (λ (y : Exchange). y.speech.words) i.exchange_is
         ∙ speech_said (is_message_out c.before) reading.into k.exchange.speech
 
-    tests : (p : Phase) → phase_of (bus_of k) ≡ p → record {
+    tests : (f : Phase) → phase_of (bus_of k) ≡ f → record {
       out = is_message_out c.before;
       into = is_message_in c.before;
       command = is_command c.before;
       msg = c.before.msg;
-    } ≡ tests_in p
-    tests p e = ap (λ (b : LineSet). record {
+    } ≡ tests_in f
+    tests f e = ap (λ (b : LineSet). record {
       out = is_message_out b;
       into = is_message_in b;
       command = is_command b;
@@ -194,7 +194,7 @@ cross_keeps s k row n c r ef ep er x w h = record {
         ∙ ap (λ (q : Bool). (if q then record d { heard = heard_with_command d.heard byte; begun = true }
         else record d { begun = true }).heard) ec
 
-    go : (p : Phase) → phase_of (bus_of k) ≡ p → StandsIn s k n (phase_of (bus_of k))
+    go : (f : Phase) → phase_of (bus_of k) ≡ f → StandsIn s k n (phase_of (bus_of k))
         → StandsIn s j n (phase_of (bus_of k))
     go Phase.MessageOut e z =
         let t = tests Phase.MessageOut e in
@@ -218,8 +218,8 @@ cross_keeps s k row n c r ef ep er x w h = record {
           speaks = speaking.heard;
           words_for = speaking.words_for;
         } in
-        subst (λ (p : Phase). StandsIn s j n p) (sym e) (subst (λ (y : Cause). SaysFor s j n y) (sym plan.2) (said_in s
-        k j n l byte (not c.after.atn) k.exchange.plan.cause refl said (subst (λ (p : Phase). StandsIn s k n p) e z)))
+        subst (λ (f : Phase). StandsIn s j n f) (sym e) (subst (λ (y : Cause). SaysFor s j n y) (sym plan.2) (said_in s
+        k j n l byte (not c.after.atn) k.exchange.plan.cause refl said (subst (λ (f : Phase). StandsIn s k n f) e z)))
     go Phase.MessageIn e z =
         let t = tests Phase.MessageIn e in
         let eo = ap (λ (y : PhaseTests). y.out) t in
@@ -240,29 +240,29 @@ cross_keeps s k row n c r ef ep er x w h = record {
           within = g.1;
           given = x.gives.in_message_in x.begun (ap is_message_in r.bus_is ∙ ei);
         } in
-        subst (λ (p : Phase). StandsIn s j n p) (sym e) (subst (λ (y : Next). GivesFor s j n y) (sym plan.1)
-        (given_for s k j n l byte k.exchange.plan.next given (subst (λ (p : Phase). StandsIn s k n p) e z)))
+        subst (λ (f : Phase). StandsIn s j n f) (sym e) (subst (λ (y : Next). GivesFor s j n y) (sym plan.1)
+        (given_for s k j n l byte k.exchange.plan.next given (subst (λ (f : Phase). StandsIn s k n f) e z)))
     go Phase.Command e z =
         let t = tests Phase.Command e in
         let eo = ap (λ (y : PhaseTests). y.out) t in
         let ei = ap (λ (y : PhaseTests). y.into) t in
         let ec = ap (λ (y : PhaseTests). y.command) t in
         let em = ap (λ (y : PhaseTests). y.msg) t in
-        let v : TakesBlock s k n = subst (λ (p : Phase). StandsIn s k n p) e z in
+        let v : TakesBlock s k n = subst (λ (f : Phase). StandsIn s k n f) e z in
         let told = tells s k row n c l _ r er x.knows.link_is
         (crossed_else s k.story l reading (no_out eo) (no_in ei)) in
         let block : (carried_here j v.0.id).block ≡ (carried_here k v.0.id).block ++ byte ∷ [] = told.block_is v.0.id
         ∙ takes_block k.story l reading v.0.id (same_item s k n x.knows v.1.selected ∙ v.0.served_is) ec em in
-        subst (λ (p : Phase). StandsIn s j n p) (sym e)
+        subst (λ (f : Phase). StandsIn s j n f) (sym e)
         (takes_on s k j n byte c.before v i.served_is (by_byte false false eo ei) ec block (x.few v) (w e v))
     go Phase.DataIn e z =
         let t = tests Phase.DataIn e in
-        subst (λ (p : Phase). StandsIn s j n p) (sym e) (subst (λ (y : Heard). IsNoneOrAll y.now.command)
+        subst (λ (f : Phase). StandsIn s j n f) (sym e) (subst (λ (y : Heard). IsNoneOrAll y.now.command)
         (sym (else_heard (ap (λ (y : PhaseTests). y.out) t) (ap (λ (y : PhaseTests). y.into) t)
-        (ap (λ (y : PhaseTests). y.command) t))) (subst (λ (p : Phase). StandsIn s k n p) e z))
+        (ap (λ (y : PhaseTests). y.command) t))) (subst (λ (f : Phase). StandsIn s k n f) e z))
     go Phase.DataOut e z =
         let t = tests Phase.DataOut e in
-        subst (λ (p : Phase). StandsIn s j n p) (sym e) (subst (λ (y : Heard). IsNoneOrAll y.now.command)
+        subst (λ (f : Phase). StandsIn s j n f) (sym e) (subst (λ (y : Heard). IsNoneOrAll y.now.command)
         (sym (else_heard (ap (λ (y : PhaseTests). y.out) t) (ap (λ (y : PhaseTests). y.into) t)
-        (ap (λ (y : PhaseTests). y.command) t))) (subst (λ (p : Phase). StandsIn s k n p) e z))
-    go Phase.Status e z = subst (λ (p : Phase). StandsIn s j n p) (sym e) tt
+        (ap (λ (y : PhaseTests). y.command) t))) (subst (λ (f : Phase). StandsIn s k n f) e z))
+    go Phase.Status e z = subst (λ (f : Phase). StandsIn s j n f) (sym e) tt

@@ -91,7 +91,7 @@ first_keeps s k row n aims b = go n.reselected refl
         record {
           serves = λ z. wrong (sym e ∙ z);
           unbegun = λ z. wrong (sym (begun ∙ e) ∙ z);
-          begun = λ z. subst (λ (p : Phase). StandsIn s j n p) (sym on) (subst (λ (x : Next). GivesFor s j n x)
+          begun = λ z. subst (λ (m : Phase). StandsIn s j n m) (sym on) (subst (λ (x : Next). GivesFor s j n x)
               (sym next) (record { now = counts.0.now; given = λ y. counts.0 }));
         }
     go false e =

@@ -34,7 +34,7 @@ pub heard_all : (s : ScenarioValue) (k : RunState) (n : Connection) → AreUnits
 heard_all s k n u speaks b out phase last over h = record {
   serves = λ ec none.
       let stands : SaysFor s k n Cause.Selected = subst (λ (c : Cause). SaysFor s k n c) ec
-      (subst (λ (p : Phase). StandsIn s k n p) phase (h.begun b)) in
+      (subst (λ (f : Phase). StandsIn s k n f) phase (h.begun b)) in
       let item = h.serves stands.selected in
       by_item item.item item.served_is item.item_is none
       (or_other k.exchange.plan.struck (is_item_named s k.exchange.plan.said k.served) (out_unstruck s k n phase over)
@@ -50,7 +50,7 @@ heard_all s k n u speaks b out phase last over h = record {
     by_item : (item : Item) → k.served ≡ Some item → IsItem s n.initiator item
         → is_some k.exchange.plan.said.aborts ≡ false → is_item_named s k.exchange.plan.said k.served ≡ true
         → Serves s k
-    by_item _ e (is_process id p ep own) none named = record { id = id; served_is = e; process = p; process_is = ep }
+    by_item _ e (is_process id f ep own) none named = record { id = id; served_is = e; process = f; process_is = ep }
     by_item _ e (is_abort x a ea own) none named = absurd (no_kind k.exchange.plan.said.aborts a.what none
         (and_parts (is_unit k.exchange.plan.said.unit a.unit) (is_kind k.exchange.plan.said.aborts a.what)
         (sym (ap (is_item_named s k.exchange.plan.said) e ∙ ap (is_abort_named k.exchange.plan.said) ea) ∙ named)).1)

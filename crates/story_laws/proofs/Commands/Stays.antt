@@ -126,11 +126,11 @@ stands_same s k j n Phase.Status e er w h = tt
 
 -- ---- the row
 
-plan_stays : (q : Bool) (p : Plan)
-    → ((if q then struck_plan p else p).messages ≡ p.messages) × ((if q then struck_plan p else p).next ≡ p.next)
-    × ((if q then struck_plan p else p).cause ≡ p.cause)
-plan_stays true p = (refl, refl, refl)
-plan_stays false p = (refl, refl, refl)
+plan_stays : (q : Bool) (l : Plan)
+    → ((if q then struck_plan l else l).messages ≡ l.messages) × ((if q then struck_plan l else l).next ≡ l.next)
+    × ((if q then struck_plan l else l).cause ≡ l.cause)
+plan_stays true l = (refl, refl, refl)
+plan_stays false l = (refl, refl, refl)
 
 in_io : (b : LineSet) → phase_of b ≡ Phase.MessageIn → b.io ≡ true
 in_io b e = go b.msg b.cd b.io (ap is_in_phase e)

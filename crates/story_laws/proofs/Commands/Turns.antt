@@ -215,20 +215,20 @@ refuses : (s : ScenarioValue) (k j : RunState) (n : Connection) (b : LineSet) (w
     → (is_message_in b ≡ true → k.handshakes.struck ≡ false → k.exchange.plan.next ≡ Next.Command)
     → StandsIn s k n (phase_of b) → SaysFor s j n j.exchange.plan.cause
 refuses s k j n b w eb es eo on known same ed ep ew some within asks h = subst (λ (x : Cause). SaysFor s j n x)
-    (sym (ap (λ (p : Plan). p.cause) ep ∙ ap cause_after eb)) (go (is_message_in b) refl b.cd refl)
+    (sym (ap (λ (l : Plan). l.cause) ep ∙ ap cause_after eb)) (go (is_message_in b) refl b.cd refl)
   where
     in_message : is_message_in b ≡ true → AnswersFor s j n j.exchange.plan.next
     in_message e =
         let before : is_message_in w.change.before ≡ true = ap is_message_in eb ∙ e in
         let messages : j.exchange.plan.messages ≡ from_byte k.exchange.plan.messages (k.handshakes.requests - 1) =
-        ap (λ (p : Plan). p.messages) ep
+        ap (λ (l : Plan). l.messages) ep
         ∙ ap (λ (q : Bool). if q then from_byte k.exchange.plan.messages (w.offered - 1) else k.exchange.plan.messages)
         before ∙ ap (λ (r : ℕ). from_byte k.exchange.plan.messages (r - 1)) eo in
         let words : j.exchange.speech.words
         ≡ (if k.handshakes.struck then parity_error else answer_bytes (host_of s n.initiator) k.exchange.speech.asked) =
         ew ∙ (λ i. if not (before i) then detected_error
         else if es i then parity_error else answer_bytes (host_of s n.initiator) k.exchange.speech.asked) in
-        let next : j.exchange.plan.next ≡ k.exchange.plan.next = ap (λ (p : Plan). p.next) ep in
+        let next : j.exchange.plan.next ≡ k.exchange.plan.next = ap (λ (l : Plan). l.next) ep in
         subst (λ (x : Next). AnswersFor s j n x) (sym next)
         (answers_turn s k j n (host_of s n.initiator) k.exchange.speech.asked k.exchange.plan.next same ed (some e)
         (λ z. messages ∙ whole_again k.exchange.plan.messages k.handshakes.requests z (within e)) words (asks e)

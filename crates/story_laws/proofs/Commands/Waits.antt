@@ -31,8 +31,8 @@ unwhole s p n pr atn false true false y e c f = go (run_state s p).exchange.plan
 
 -- ---- a request is counted
 
-some_more : (n : ℕ) → counted_on n ≡ 0 → n ≡ 0
-some_more n e = absurd omega (arith, e)
+some_more : (m : ℕ) → counted_on m ≡ 0 → m ≡ 0
+some_more m e = absurd omega (arith, e)
 
 none_before : (n : Connection) (c : Change) (t : ℕ) (h : Handshakes) → changes_phase c ≡ false
     → (handshakes_on (Some n) c t h).requests ≡ 0 → h.requests ≡ 0
@@ -55,11 +55,11 @@ unasked_before p row n ec ep e = go row.kind refl
     struck true z = z
     struck false z = z
 
-    go : (k : Kind) → row.kind ≡ k → (handshakes p).requests ≡ 0
+    go : (x : Kind) → row.kind ≡ x → (handshakes p).requests ≡ 0
     go (Drives lines) f = none_before n (change_of p row) row.time (handshakes p) ep
         (sym (λ i. (handshakes_after (is_fault (f i)) (ec i) (change_of p row) row.time (handshakes p)).requests) ∙ e)
-    go (Fault bit) f = struck (change_of p row).before.io (sym (ap (λ (k : Kind).
-        (handshakes_after (is_fault k) (connection (row ∷ p)) (change_of p row) row.time (handshakes p)).requests) f)
+    go (Fault bit) f = struck (change_of p row).before.io (sym (ap (λ (x : Kind).
+        (handshakes_after (is_fault x) (connection (row ∷ p)) (change_of p row) row.time (handshakes p)).requests) f)
         ∙ e)
 
 -- ---- before and after a row

@@ -17,9 +17,9 @@ answer_offers : (h : Option HostDef) (a : Agreement)
 unfolding form_out
 answer_offers h a = refl
 
-offered : (v : Speech) (p : Plan) (d : Dialogue) (h : Option HostDef) (a : Agreement) → AreWordsHeard v p d
-    → d.is_last ≡ true → v.words ≡ answer_bytes h a → is_none p.said.offer ≡ false
-offered v p d h a heard last w = ap (λ (u : Understanding). is_none u.said.offer) (heard.last last)
+offered : (v : Speech) (l : Plan) (d : Dialogue) (h : Option HostDef) (a : Agreement) → AreWordsHeard v l d
+    → d.is_last ≡ true → v.words ≡ answer_bytes h a → is_none l.said.offer ≡ false
+offered v l d h a heard last w = ap (λ (u : Understanding). is_none u.said.offer) (heard.last last)
     ∙ ap (λ (x : List ℕ). is_none (understood nothing_understood x).said.offer) w
     ∙ ap (λ (o : Option Agreement). is_none o) (answer_offers h a)
 
@@ -36,10 +36,10 @@ refused_truly s k n refusing speaks b out over Cause.InMessage (inr (x, a, w)) e
     wrong (sym e ∙ offered k.exchange.speech k.exchange.plan k.story.bus_state.dialogue x a
     (speaks.in_message_out b out).heard (out_over s k n out over) w)
 
-complaining_out : (p : Plan) (x : Phase) → is_complaining p x ≡ true
-    → (x ≡ Phase.MessageOut) × (is_complaint p p.cause ≡ true)
-complaining_out p Phase.MessageOut e = (refl, e)
-complaining_out p _ e = wrong' e
+complaining_out : (l : Plan) (x : Phase) → is_complaining l x ≡ true
+    → (x ≡ Phase.MessageOut) × (is_complaint l l.cause ≡ true)
+complaining_out l Phase.MessageOut e = (refl, e)
+complaining_out l _ e = wrong' e
 
 where_asked : (a b r : Bool) → (a ≡ true → b ≡ true → r ≡ true) → (not (a && b) || r) ≡ true
 where_asked false b r f = refl

@@ -108,15 +108,15 @@ not_out_again c ep e = go c.before.msg c.before.cd c.before.io c.after.msg c.aft
 
 -- ---- what the initiator says stays
 
-plan_said : (q last : Bool) (m : Option MsgOut) (p : Plan)
-    → (if q then plan_after_message p last m else p).cause ≡ p.cause
-plan_said true true m p = refl
-plan_said true false m p = refl
-plan_said false last m p = refl
+plan_said : (q last : Bool) (m : Option MsgOut) (l : Plan)
+    → (if q then plan_after_message l last m else l).cause ≡ l.cause
+plan_said true true m l = refl
+plan_said true false m l = refl
+plan_said false last m l = refl
 
-plan_struck : (q : Bool) (p : Plan) → (if q then struck_plan p else p).cause ≡ p.cause
-plan_struck true p = refl
-plan_struck false p = refl
+plan_struck : (q : Bool) (l : Plan) → (if q then struck_plan l else l).cause ≡ l.cause
+plan_struck true l = refl
+plan_struck false l = refl
 
 pub speech_said : (q : Bool) (m : Option MsgIn) (v : Speech)
     → (if q then speech_after_byte v else speech_after_request v m).words ≡ v.words

@@ -85,10 +85,10 @@ begins_told s p row n b = go n.reselected refl
 
 -- ---- no byte crosses, and no phase is left
 
-plan_stays : (q : Bool) (p : Plan)
-    → ((if q then struck_plan p else p).next ≡ p.next) × ((if q then struck_plan p else p).cause ≡ p.cause)
-plan_stays true p = (refl, refl)
-plan_stays false p = (refl, refl)
+plan_stays : (q : Bool) (l : Plan)
+    → ((if q then struck_plan l else l).next ≡ l.next) × ((if q then struck_plan l else l).cause ≡ l.cause)
+plan_stays true l = (refl, refl)
+plan_stays false l = (refl, refl)
 
 pub stay_told : (s : ScenarioValue) (p : List Row) (row : Row) (n : Connection) (c : Change)
     → IsRowIn (run_state s p) row n c → changes_phase c ≡ false
@@ -125,12 +125,12 @@ stay_told s p row n c r ep er h = subst (λ (x : Instructions). Instructed s j x
 
 -- ---- a byte crosses
 
-plan_said : (q last : Bool) (m : Option MsgOut) (p : Plan)
-    → ((if q then plan_after_message p last m else p).next ≡ p.next)
-    × ((if q then plan_after_message p last m else p).cause ≡ p.cause)
-plan_said true true m p = (refl, refl)
-plan_said true false m p = (refl, refl)
-plan_said false last m p = (refl, refl)
+plan_said : (q last : Bool) (m : Option MsgOut) (l : Plan)
+    → ((if q then plan_after_message l last m else l).next ≡ l.next)
+    × ((if q then plan_after_message l last m else l).cause ≡ l.cause)
+plan_said true true m l = (refl, refl)
+plan_said true false m l = (refl, refl)
+plan_said false last m l = (refl, refl)
 
 -- The lines of COMMAND.
 record CommandLines (b : LineSet) : Type 0 where

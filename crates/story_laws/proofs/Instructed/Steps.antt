@@ -19,16 +19,16 @@ told_with s p row n c now r e =
     λ i. instructions_after (r.connection_is i) (d i).next (hearing_of k row (d i)) k.exchange.plan (instructions s p)
 
 -- No phase is left, and no byte of COMMAND crosses.
-pub told_none : (w : Hearing) (p : Plan) (i : Instructions) → changes_phase w.change ≡ false
-    → (w.crosses && is_command w.change.before) ≡ false → instructions_on w p i ≡ i
-told_none w p i ec ex = go i.known refl w.begun
+pub told_none : (w : Hearing) (l : Plan) (i : Instructions) → changes_phase w.change ≡ false
+    → (w.crosses && is_command w.change.before) ≡ false → instructions_on w l i ≡ i
+told_none w l i ec ex = go i.known refl w.begun
   where
     go : (q : Bool) → i.known ≡ q → (b : Bool) → (if q then i else record {
       opening =
-          if b && changes_phase w.change && is_message_out w.change.before && is_selected p.cause then Some p.said
+          if b && changes_phase w.change && is_message_out w.change.before && is_selected l.cause then Some l.said
           else i.opening;
       block = block_after w i.block;
-      known = b && changes_phase w.change && is_command w.change.before && not p.struck;
+      known = b && changes_phase w.change && is_command w.change.before && not l.struck;
     }) ≡ i
     go true e b = refl
     go false e false = (λ j. record {
@@ -40,11 +40,11 @@ told_none w p i ec ex = go i.known refl w.begun
     }) ∙ (λ j. record { opening = i.opening; block = i.block; known = sym e j })
     go false e true =
         (λ j. record {
-          opening = if ec j && is_message_out w.change.before && is_selected p.cause then Some p.said else i.opening;
+          opening = if ec j && is_message_out w.change.before && is_selected l.cause then Some l.said else i.opening;
           block =
               if ec j then (if is_command w.change.after then [] else i.block)
               else if ex j then i.block ++ w.change.after.data_bits % 256 ∷ [] else i.block;
-          known = ec j && is_command w.change.before && not p.struck;
+          known = ec j && is_command w.change.before && not l.struck;
         })
         ∙ (λ j. record { opening = i.opening; block = i.block; known = sym e j })
 
@@ -52,17 +52,17 @@ told_none w p i ec ex = go i.known refl w.begun
 abbrev pub with_byte : Instructions → ℕ → Instructions
 with_byte i byte = record { opening = i.opening; block = i.block ++ byte ∷ []; known = false }
 
-pub told_byte : (w : Hearing) (p : Plan) (i : Instructions) → changes_phase w.change ≡ false
+pub told_byte : (w : Hearing) (l : Plan) (i : Instructions) → changes_phase w.change ≡ false
     → w.crosses ≡ true → is_command w.change.before ≡ true → i.known ≡ false
-    → instructions_on w p i ≡ with_byte i (w.change.after.data_bits % 256)
-told_byte w p i ec ex em e = (λ j. if e j then i else instructions_with w p i) ∙ go w.begun
+    → instructions_on w l i ≡ with_byte i (w.change.after.data_bits % 256)
+told_byte w l i ec ex em e = (λ j. if e j then i else instructions_with w l i) ∙ go w.begun
   where
     go : (b : Bool) → record {
       opening =
-          if b && changes_phase w.change && is_message_out w.change.before && is_selected p.cause then Some p.said
+          if b && changes_phase w.change && is_message_out w.change.before && is_selected l.cause then Some l.said
           else i.opening;
       block = block_after w i.block;
-      known = b && changes_phase w.change && is_command w.change.before && not p.struck;
+      known = b && changes_phase w.change && is_command w.change.before && not l.struck;
     } ≡ with_byte i (w.change.after.data_bits % 256)
     go false = λ j. record {
       opening = i.opening;
@@ -72,11 +72,11 @@ told_byte w p i ec ex em e = (λ j. if e j then i else instructions_with w p i) 
       known = false;
     }
     go true = λ j. record {
-      opening = if ec j && is_message_out w.change.before && is_selected p.cause then Some p.said else i.opening;
+      opening = if ec j && is_message_out w.change.before && is_selected l.cause then Some l.said else i.opening;
       block =
           if ec j then (if is_command w.change.after then [] else i.block)
           else if ex j && em j then i.block ++ w.change.after.data_bits % 256 ∷ [] else i.block;
-      known = ec j && is_command w.change.before && not p.struck;
+      known = ec j && is_command w.change.before && not l.struck;
     }
 
 -- ---- what the target goes by stays
@@ -91,13 +91,13 @@ pub record SameStage (k j : RunState) : Type 0 where
 opening_same : (k j : RunState) → SameStage k j → is_opening j ≡ is_opening k
 opening_same k j e = λ x. not (e.begun_is x) || is_opening_in (e.phase_is x) (e.cause_is x)
 
-pub known_same : (known : Bool) (p q : Plan) (phase : Phase) → q.next ≡ p.next → q.cause ≡ p.cause
-    → KnownIn known p phase → KnownIn known q phase
-known_same known p q Phase.MessageIn en ec h = subst (λ (x : Next). KnownNext known x) (sym en) h
-known_same known p q Phase.MessageOut en ec h =
-    subst (λ (c : Cause). KnownFor known q.next c) (sym ec) (subst (λ (x : Next). KnownFor known x p.cause) (sym en) h)
-known_same known p q Phase.Status en ec h = tt
-known_same known p q _ en ec h = h
+pub known_same : (known : Bool) (l q : Plan) (phase : Phase) → q.next ≡ l.next → q.cause ≡ l.cause
+    → KnownIn known l phase → KnownIn known q phase
+known_same known l q Phase.MessageIn en ec h = subst (λ (x : Next). KnownNext known x) (sym en) h
+known_same known l q Phase.MessageOut en ec h =
+    subst (λ (c : Cause). KnownFor known q.next c) (sym ec) (subst (λ (x : Next). KnownFor known x l.cause) (sym en) h)
+known_same known l q Phase.Status en ec h = tt
+known_same known l q _ en ec h = h
 
 abbrev serves_before : (s : ScenarioValue) (k j : RunState) → j.served ≡ k.served → Serves s j → Serves s k
 serves_before s k j e v = serves_as s j k (sym e) v

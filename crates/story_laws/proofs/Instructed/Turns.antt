@@ -33,33 +33,33 @@ known_stays : (phase : Phase) (struck : Bool) → known_after true struck phase 
 known_stays Phase.MessageOut struck = refl
 known_stays _ struck = refl
 
-pub told_before : (w : Hearing) (p : Plan) (i : Instructions) → i.known ≡ true → instructions_on w p i ≡ i
-told_before w p i e = λ j. if e j then i else instructions_with w p i
+pub told_before : (w : Hearing) (l : Plan) (i : Instructions) → i.known ≡ true → instructions_on w l i ≡ i
+told_before w l i e = λ j. if e j then i else instructions_with w l i
 
-pub known_turned : (w : Hearing) (p : Plan) (i : Instructions) (phase : Phase) → w.begun ≡ true
+pub known_turned : (w : Hearing) (l : Plan) (i : Instructions) (phase : Phase) → w.begun ≡ true
     → changes_phase w.change ≡ true → is_command w.change.before ≡ is_command_phase phase
-    → (instructions_on w p i).known ≡ known_after i.known p.struck phase
-known_turned w p i phase b ep ec = go i.known refl
+    → (instructions_on w l i).known ≡ known_after i.known l.struck phase
+known_turned w l i phase b ep ec = go i.known refl
   where
-    go : (q : Bool) → i.known ≡ q → (if q then i else instructions_with w p i).known ≡ known_after q p.struck phase
-    go true e = e ∙ sym (known_stays phase p.struck)
-    go false e = (λ j. b j && ep j && ec j && not p.struck) ∙ sym (known_is phase p.struck)
+    go : (q : Bool) → i.known ≡ q → (if q then i else instructions_with w l i).known ≡ known_after q l.struck phase
+    go true e = e ∙ sym (known_stays phase l.struck)
+    go false e = (λ j. b j && ep j && ec j && not l.struck) ∙ sym (known_is phase l.struck)
 
 opens_in : (phase : Phase) (cause : Cause) → is_opening_in phase cause ≡ (is_out_phase phase && is_selected cause)
 opens_in Phase.MessageOut cause = refl
 opens_in _ cause = refl
 
-pub opening_turned : (w : Hearing) (p : Plan) (i : Instructions) (phase : Phase) → w.begun ≡ true
+pub opening_turned : (w : Hearing) (l : Plan) (i : Instructions) (phase : Phase) → w.begun ≡ true
     → changes_phase w.change ≡ true → is_message_out w.change.before ≡ is_out_phase phase → i.known ≡ false
-    → (instructions_on w p i).opening ≡ (if is_opening_in phase p.cause then Some p.said else i.opening)
-opening_turned w p i phase b ep eo e =
-    (λ j. (if e j then i else instructions_with w p i).opening)
-    ∙ (λ j. if b j && ep j && eo j && is_selected p.cause then Some p.said else i.opening)
-    ∙ ap (λ (q : Bool). if q then Some p.said else i.opening) (sym (opens_in phase p.cause))
+    → (instructions_on w l i).opening ≡ (if is_opening_in phase l.cause then Some l.said else i.opening)
+opening_turned w l i phase b ep eo e =
+    (λ j. (if e j then i else instructions_with w l i).opening)
+    ∙ (λ j. if b j && ep j && eo j && is_selected l.cause then Some l.said else i.opening)
+    ∙ ap (λ (q : Bool). if q then Some l.said else i.opening) (sym (opens_in phase l.cause))
 
-pub block_turned : (w : Hearing) (p : Plan) (i : Instructions) → changes_phase w.change ≡ true → i.known ≡ false
-    → (instructions_on w p i).block ≡ (if is_command w.change.after then [] else i.block)
-block_turned w p i ep e = (λ j. (if e j then i else instructions_with w p i).block)
+pub block_turned : (w : Hearing) (l : Plan) (i : Instructions) → changes_phase w.change ≡ true → i.known ≡ false
+    → (instructions_on w l i).block ≡ (if is_command w.change.after then [] else i.block)
+block_turned w l i ep e = (λ j. (if e j then i else instructions_with w l i).block)
     ∙ (λ j. if ep j then (if is_command w.change.after then [] else i.block)
     else if w.crosses && is_command w.change.before then i.block ++ w.change.after.data_bits % 256 ∷ [] else i.block)
 
@@ -72,20 +72,20 @@ enters_known known next q Phase.MessageIn o en h = subst (λ (x : Next). KnownNe
 enters_known known next q Phase.Status o en h = tt
 enters_known known next q _ o en h = h
 
-pub refused_known : (b : LineSet) (known after : Bool) (p q : Plan) → (b.msg ≡ true → b.cd ≡ true) → q.next ≡ p.next
-    → q.cause ≡ cause_after b → after ≡ known_after known p.struck (phase_of b) → KnownIn known p (phase_of b)
+pub refused_known : (b : LineSet) (known after : Bool) (l q : Plan) → (b.msg ≡ true → b.cd ≡ true) → q.next ≡ l.next
+    → q.cause ≡ cause_after b → after ≡ known_after known l.struck (phase_of b) → KnownIn known l (phase_of b)
     → KnownFor after q.next q.cause
-refused_known b known after p q lines en ec ea h =
+refused_known b known after l q lines en ec ea h =
     subst (λ (c : Cause). KnownFor after q.next c) (sym ec) (go b.msg b.cd b.io lines ea h)
   where
     go : (m d i : Bool) → (m ≡ true → d ≡ true)
-        → after ≡ known_after known p.struck (if m then (if i then Phase.MessageIn else Phase.MessageOut)
+        → after ≡ known_after known l.struck (if m then (if i then Phase.MessageIn else Phase.MessageOut)
         else if d then (if i then Phase.Status else Phase.Command) else if i then Phase.DataIn else Phase.DataOut)
-        → KnownIn known p (if m then (if i then Phase.MessageIn else Phase.MessageOut)
+        → KnownIn known l (if m then (if i then Phase.MessageIn else Phase.MessageOut)
         else if d then (if i then Phase.Status else Phase.Command) else if i then Phase.DataIn else Phase.DataOut)
         → KnownFor after q.next (if m && d && i then Cause.InMessage else if d then Cause.InStatus else Cause.InData)
     go true true true z e x =
-        subst (λ (k : Bool). KnownNext k q.next) (sym e) (subst (λ (y : Next). KnownNext known y) (sym en) x)
+        subst (λ (r : Bool). KnownNext r q.next) (sym e) (subst (λ (y : Next). KnownNext known y) (sym en) x)
     go true true false z e x = tt
     go true false i z e x = wrong' (z refl)
     go false true true z e x = tt

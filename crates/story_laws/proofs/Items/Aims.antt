@@ -18,79 +18,79 @@ abbrev pub IsNextIf : ScenarioValue → Sent → ℕ → Option Item → Type 0
 IsNextIf s b dev None = Unit {0}
 IsNextIf s b dev (Some item) = IsNext s b dev item
 
-aborts_are : (s : ScenarioValue) (b : Sent) (dev time n : ℕ) (aborts : List AbortDef)
-    → IsNextIf s b dev (abort_from b dev time n aborts)
-aborts_are s b dev time n [] = tt
-aborts_are s b dev time n (a ∷ aborts) =
-    go (a.host == dev && nat_le a.at time && not (is_done b (abort n))) refl (aborts_are s b dev time (n + 1) aborts)
+aborts_are : (s : ScenarioValue) (b : Sent) (dev time m : ℕ) (aborts : List AbortDef)
+    → IsNextIf s b dev (abort_from b dev time m aborts)
+aborts_are s b dev time m [] = tt
+aborts_are s b dev time m (a ∷ aborts) =
+    go (a.host == dev && nat_le a.at time && not (is_done b (abort m))) refl (aborts_are s b dev time (m + 1) aborts)
   where
-    go : (q : Bool) → (a.host == dev && nat_le a.at time && not (is_done b (abort n))) ≡ q
-        → IsNextIf s b dev (abort_from b dev time (n + 1) aborts)
-        → IsNextIf s b dev (if q then Some (abort n) else abort_from b dev time (n + 1) aborts)
-    go true z rest = is_abort n
-        (not-true (is_done b (abort n)) (and_second (a.host == dev && nat_le a.at time) (not (is_done b (abort n))) z))
+    go : (q : Bool) → (a.host == dev && nat_le a.at time && not (is_done b (abort m))) ≡ q
+        → IsNextIf s b dev (abort_from b dev time (m + 1) aborts)
+        → IsNextIf s b dev (if q then Some (abort m) else abort_from b dev time (m + 1) aborts)
+    go true z rest = is_abort m
+        (not-true (is_done b (abort m)) (and_second (a.host == dev && nat_le a.at time) (not (is_done b (abort m))) z))
     go false z rest = rest
 
-commands_are : (s : ScenarioValue) (b : Sent) (dev time j : ℕ) (commands : List CmdDef)
-    → sense_from s b dev b.checks ≡ None → ((m : ℕ) → command_at commands (suc m) ≡ command_at s.commands (suc (j + m)))
-    → IsNextIf s b dev (command_from s b dev time (suc j) commands)
-commands_are s b dev time j [] none h = tt
-commands_are s b dev time j (c ∷ commands) none h = go (c.host == dev && not (is_done b (command_item (suc j))))
+commands_are : (s : ScenarioValue) (b : Sent) (dev time i : ℕ) (commands : List CmdDef)
+    → sense_from s b dev b.checks ≡ None → ((m : ℕ) → command_at commands (suc m) ≡ command_at s.commands (suc (i + m)))
+    → IsNextIf s b dev (command_from s b dev time (suc i) commands)
+commands_are s b dev time i [] none h = tt
+commands_are s b dev time i (c ∷ commands) none h = go (c.host == dev && not (is_done b (command_item (suc i))))
     (may_send s time (open_from b dev 1 s.commands) c) refl refl
-    (subst (λ (n : ℕ). IsNextIf s b dev (command_from s b dev time n commands)) (one_more j) (commands_are s b dev time
-    (suc j) commands none (λ m. h (suc m) ∙ ap (λ (n : ℕ). command_at s.commands (suc n)) (moved j m))))
+    (subst (λ (l : ℕ). IsNextIf s b dev (command_from s b dev time l commands)) (one_more i) (commands_are s b dev time
+    (suc i) commands none (λ m. h (suc m) ∙ ap (λ (l : ℕ). command_at s.commands (suc l)) (moved i m))))
   where
-    one_more : (n : ℕ) → suc (suc n) ≡ suc n + 1
-    one_more n = omega arith
+    one_more : (l : ℕ) → suc (suc l) ≡ suc l + 1
+    one_more l = omega arith
 
-    moved : (n m : ℕ) → n + suc m ≡ suc n + m
-    moved n m = omega arith
+    moved : (l m : ℕ) → l + suc m ≡ suc l + m
+    moved l m = omega arith
 
-    go : (q r : Bool) → (c.host == dev && not (is_done b (command_item (suc j)))) ≡ q
+    go : (q r : Bool) → (c.host == dev && not (is_done b (command_item (suc i)))) ≡ q
         → may_send s time (open_from b dev 1 s.commands) c ≡ r
-        → IsNextIf s b dev (command_from s b dev time (suc j + 1) commands) → IsNextIf s b dev
-        (if q then if r then Some (command_item (suc j)) else None else command_from s b dev time (suc j + 1) commands)
-    go true true z y rest = is_command (suc j) time c (ap (λ (n : ℕ). command_at s.commands (suc n)) (sym (plus_none j))
-        ∙ sym (h 0)) (eqb-true c.host dev (and_first (c.host == dev) (not (is_done b (command_item (suc j)))) z))
-        (not-true (is_done b (command_item (suc j)))
-        (and_second (c.host == dev) (not (is_done b (command_item (suc j)))) z)) y none
+        → IsNextIf s b dev (command_from s b dev time (suc i + 1) commands) → IsNextIf s b dev
+        (if q then if r then Some (command_item (suc i)) else None else command_from s b dev time (suc i + 1) commands)
+    go true true z y rest = is_command (suc i) time c (ap (λ (l : ℕ). command_at s.commands (suc l)) (sym (plus_none i))
+        ∙ sym (h 0)) (eqb-true c.host dev (and_first (c.host == dev) (not (is_done b (command_item (suc i)))) z))
+        (not-true (is_done b (command_item (suc i)))
+        (and_second (c.host == dev) (not (is_done b (command_item (suc i)))) z)) y none
     go true false z y rest = tt
     go false r z y rest = rest
 
-wider : (n m : ℕ) (checks : List ℕ) → list_any (λ k. k == n) checks ≡ true → list_any (λ k. k == n) (m ∷ checks) ≡ true
-wider n m checks e = ap (λ (q : Bool). (m == n) || q) e ∙ or_true (m == n)
+wider : (i m : ℕ) (checks : List ℕ) → list_any (λ k. k == i) checks ≡ true → list_any (λ k. k == i) (m ∷ checks) ≡ true
+wider i m checks e = ap (λ (q : Bool). (m == i) || q) e ∙ or_true (m == i)
 
 -- Of the first of these checks.
 senses_are : (s : ScenarioValue) (b : Sent) (dev : ℕ) (checks : List ℕ)
-    → ((n : ℕ) → list_any (λ k. k == n) checks ≡ true → list_any (λ k. k == n) b.checks ≡ true)
+    → ((i : ℕ) → list_any (λ k. k == i) checks ≡ true → list_any (λ k. k == i) b.checks ≡ true)
     → IsNextIf s b dev (sense_from s b dev checks)
 senses_are s b dev [] h = tt
-senses_are s b dev (n ∷ checks) h =
-    go (senses_are s b dev checks (λ m z. h m (wider m n checks z))) (command_at s.commands n) refl
+senses_are s b dev (i ∷ checks) h =
+    go (senses_are s b dev checks (λ m z. h m (wider m i checks z))) (command_at s.commands i) refl
   where
-    there : list_any (λ k. k == n) b.checks ≡ true
-    there = h n (ap (λ (q : Bool). q || list_any (λ k. k == n) checks) (eq_self n))
+    there : list_any (λ k. k == i) b.checks ≡ true
+    there = h i (ap (λ (q : Bool). q || list_any (λ k. k == i) checks) (eq_self i))
 
     later : (q : Bool) → IsNextIf s b dev (sense_from s b dev checks)
-        → ((is_of_host (command_at s.commands n) dev && not (is_done b (sense_item n))) ≡ q
-        → q ≡ true → IsNext s b dev (sense_item n))
-        → (is_of_host (command_at s.commands n) dev && not (is_done b (sense_item n))) ≡ q
-        → IsNextIf s b dev (if q then Some (sense_item n) else sense_from s b dev checks)
+        → ((is_of_host (command_at s.commands i) dev && not (is_done b (sense_item i))) ≡ q
+        → q ≡ true → IsNext s b dev (sense_item i))
+        → (is_of_host (command_at s.commands i) dev && not (is_done b (sense_item i))) ≡ q
+        → IsNextIf s b dev (if q then Some (sense_item i) else sense_from s b dev checks)
     later true rest own z = own z refl
     later false rest own z = rest
 
-    go : IsNextIf s b dev (sense_from s b dev checks) → (c : Option CmdDef) → command_at s.commands n ≡ c
+    go : IsNextIf s b dev (sense_from s b dev checks) → (c : Option CmdDef) → command_at s.commands i ≡ c
         → IsNextIf s b dev
-        (if is_of_host (command_at s.commands n) dev && not (is_done b (sense_item n)) then Some (sense_item n)
+        (if is_of_host (command_at s.commands i) dev && not (is_done b (sense_item i)) then Some (sense_item i)
         else sense_from s b dev checks)
     go rest None e = subst (λ (x : Option CmdDef). IsNextIf s b dev
-        (if is_of_host x dev && not (is_done b (sense_item n)) then Some (sense_item n) else sense_from s b dev checks))
+        (if is_of_host x dev && not (is_done b (sense_item i)) then Some (sense_item i) else sense_from s b dev checks))
         (sym e) rest
-    go rest (Some c) e = later (is_of_host (command_at s.commands n) dev && not (is_done b (sense_item n))) rest
-        (λ z y. is_sense n c e (eqb-true c.host dev (sym (ap (λ (x : Option CmdDef). is_of_host x dev) e)
-        ∙ and_first (is_of_host (command_at s.commands n) dev) (not (is_done b (sense_item n))) (z ∙ y))) there
-        (not-true (is_done b (sense_item n))
-        (and_second (is_of_host (command_at s.commands n) dev) (not (is_done b (sense_item n))) (z ∙ y)))) refl
+    go rest (Some c) e = later (is_of_host (command_at s.commands i) dev && not (is_done b (sense_item i))) rest
+        (λ z y. is_sense i c e (eqb-true c.host dev (sym (ap (λ (x : Option CmdDef). is_of_host x dev) e)
+        ∙ and_first (is_of_host (command_at s.commands i) dev) (not (is_done b (sense_item i))) (z ∙ y))) there
+        (not-true (is_done b (sense_item i))
+        (and_second (is_of_host (command_at s.commands i) dev) (not (is_done b (sense_item i))) (z ∙ y)))) refl
 
 either_is : (s : ScenarioValue) (b : Sent) (dev : ℕ) (x y : Option Item) → IsNextIf s b dev x
     → (x ≡ None → IsNextIf s b dev y) → IsNextIf s b dev (or_else x y)
@@ -101,8 +101,8 @@ pub next_is : (s : ScenarioValue) (b : Sent) (dev time : ℕ) → IsNextIf s b d
 next_is s b dev time = either_is s b dev (abort_from b dev time 1 s.aborts)
     (or_else (sense_from s b dev b.checks) (command_from s b dev time 1 s.commands))
     (aborts_are s b dev time 1 s.aborts) (λ _. either_is s b dev (sense_from s b dev b.checks)
-    (command_from s b dev time 1 s.commands) (senses_are s b dev b.checks (λ n z. z)) (λ none. commands_are s b dev time
-    0 s.commands none (λ m. ap (λ (n : ℕ). command_at s.commands (suc n)) (none_more m))))
+    (command_from s b dev time 1 s.commands) (senses_are s b dev b.checks (λ i z. z)) (λ none. commands_are s b dev time
+    0 s.commands none (λ m. ap (λ (i : ℕ). command_at s.commands (suc i)) (none_more m))))
   where
     none_more : (m : ℕ) → m ≡ 0 + m
     none_more m = omega arith
@@ -129,7 +129,7 @@ set_other (a ∷ all) (suc at) (suc dev) x ne = set_other all at dev x (λ e. ne
 next_of : (s : ScenarioValue) (b : Sent) (dev : ℕ) (x : Option Item) (i : Item) → x ≡ Some i → IsNextIf s b dev x
     → IsNext s b dev i
 next_of s b dev None i e h = absurd (none_some i e)
-next_of s b dev (Some j) i e h = subst (λ (y : Item). IsNext s b dev y) (same_Some j i e) h
+next_of s b dev (Some z) i e h = subst (λ (y : Item). IsNext s b dev y) (same_Some z i e) h
 
 -- ---- a row where no connection stands before it and after it
 
@@ -149,12 +149,12 @@ apart_is s p row dv lt alone none calm link =
     let c = change_plain s row p dv lt in
     let off : d.change.after.rst ≡ false = ap (λ (x : Change). x.after.rst) c ∙ calm in
     let next : d.next ≡ None = (λ i. connection_after (pl.connection i) (pl.call i) (c i) row) ∙ none in
-    let n : row_events_by s k.story d row ≡ [] = nothing_shown s k.story d row off link in
+    let e : row_events_by s k.story d row ≡ [] = nothing_shown s k.story d row off link in
     let b : story_by_change s k.story d row ≡ story_on_free_bus s k.story d row = on_free s k.story d row off
     (pl.connection ∙ alone) next in
     record {
-      sent = ap (λ (x : List Event). (run_state_with_events s k row d x).story.sent) n ∙ ap (λ (y : Story). y.sent) b;
-      aims = ap (λ (x : List Event). (run_state_with_events s k row d x).story.aims) n ∙ ap (λ (y : Story). y.aims) b;
+      sent = ap (λ (x : List Event). (run_state_with_events s k row d x).story.sent) e ∙ ap (λ (y : Story). y.sent) b;
+      aims = ap (λ (x : List Event). (run_state_with_events s k row d x).story.aims) e ∙ ap (λ (y : Story). y.aims) b;
     }
 
 record Moves (s : ScenarioValue) (p : List Row) (row : Row) : Type 0 where
@@ -303,7 +303,7 @@ raised_by p row lt off on =
     (λ e. off_on _ _ (was row.dev lt) e)
     (λ e.
     wrong (sym on ∙ bus_off (λ x. x.sel) (λ _ _. refl) refl (row ∷ p) (λ d l. elim (cases_eq d row.dev) [
-      | inl same ↦ ap (λ (n : ℕ). (drives (row ∷ p) n).sel) same ∙ ap (λ (x : LineSet). x.sel) (drives_next p row) ∙ e
+      | inl same ↦ ap (λ (m : ℕ). (drives (row ∷ p) m).sel) same ∙ ap (λ (x : LineSet). x.sel) (drives_next p row) ∙ e
       | inr ne ↦ ap (λ (x : LineSet). x.sel) (drives-other row p d ne) ∙ was d l
     ])))
   where
@@ -311,27 +311,27 @@ raised_by p row lt off on =
     was d l = line_off (λ x. x.sel) (λ _ _. refl) p off d l
 
 -- The call that stands after a row: a new one as SEL rises, or that of before.
-pub data Called (p : List Row) (row : Row) (k : Call) : Type 0 where
-  new : (bus p).sel ≡ false → k.caller ≡ row.dev → Called p row k
-  old : (j : Call) → call p ≡ Some j → k.caller ≡ j.caller → Called p row k
+pub data Called (p : List Row) (row : Row) (c : Call) : Type 0 where
+  new : (bus p).sel ≡ false → c.caller ≡ row.dev → Called p row c
+  old : (h : Call) → call p ≡ Some h → c.caller ≡ h.caller → Called p row c
 
-called_is : (p : List Row) (row : Row) (k : Call) → call (row ∷ p) ≡ Some k → Called p row k
-called_is p row k e = go (bus p).sel refl (call p) refl
+called_is : (p : List Row) (row : Row) (h : Call) → call (row ∷ p) ≡ Some h → Called p row h
+called_is p row h e = go (bus p).sel refl (call p) refl
   where
     on : (bus (row ∷ p)).sel ≡ true
-    on = sel_of_call (row ∷ p) k e
+    on = sel_of_call (row ∷ p) h e
 
     after : (q : Bool) → (bus p).sel ≡ q → (o : Option Call) → call p ≡ o
         → (if rises q true then Some (record { caller = row.dev; at = row.time; calling = None })
-        else call_goes_on o (change_of p row) row) ≡ Some k
+        else call_goes_on o (change_of p row) row) ≡ Some h
     after q f o g = sym (λ i. if not (on i) then None
         else if rises (f i) (on i) then Some (record { caller = row.dev; at = row.time; calling = None })
         else call_goes_on (g i) (change_of p row) row) ∙ e
 
-    go : (q : Bool) → (bus p).sel ≡ q → (o : Option Call) → call p ≡ o → Called p row k
-    go false f o g = new f (sym (ap (λ (c : Call). c.caller) (same_Some _ k (after false f o g))))
-    go true f None g = absurd (none_some k (after true f None g))
-    go true f (Some j) g = old j g (sym (ap (λ (c : Call). c.caller) (same_Some _ k (after true f (Some j) g))))
+    go : (q : Bool) → (bus p).sel ≡ q → (o : Option Call) → call p ≡ o → Called p row h
+    go false f o g = new f (sym (ap (λ (c : Call). c.caller) (same_Some _ h (after false f o g))))
+    go true f None g = absurd (none_some h (after true f None g))
+    go true f (Some x) g = old x g (sym (ap (λ (c : Call). c.caller) (same_Some _ h (after true f (Some x) g))))
 
 low_fall : (a b : Bool) → a ≡ false → falls a b ≡ false
 low_fall a b e = ap (λ (q : Bool). q && not b) e
@@ -351,10 +351,10 @@ fits_contender s p row dv lt alone w h dev a l e on host = elim (arbitrates p ro
     k = run_state s p
 
     own : dev ≡ row.dev → (driven_after row.kind (drives p row.dev)).bsy ≡ true
-    own same = ap (λ (x : LineSet). x.bsy) (sym (drives_next p row)) ∙ ap (λ (n : ℕ). (drives q n).bsy) (sym same) ∙ on
+    own same = ap (λ (x : LineSet). x.bsy) (sym (drives_next p row)) ∙ ap (λ (u : ℕ). (drives q u).bsy) (sym same) ∙ on
 
     at : dev ≡ row.dev → IsAimed s (run_state s q) row.dev → IsAimed s (run_state s q) dev
-    at same g = subst (λ (n : ℕ). IsAimed s (run_state s q) n) (sym same) g
+    at same g = subst (λ (u : ℕ). IsAimed s (run_state s q) u) (sym same) g
 
     by : (bus p).sel ≡ false → ((drives p dev).bsy ≡ true → IsAimed s k dev) → IsAimed s (run_state s q) dev
     by off before =
@@ -369,7 +369,7 @@ fits_contender s p row dv lt alone w h dev a l e on host = elim (arbitrates p ro
         go m same false z = at same (m.own z (own same) off (ap (is_initiator s.hosts) (sym same) ∙ host))
         go m same true z = keeps_aim s k (run_state s q) dev m.sent (ap (λ (v : List (Option Item)). aim_of v dev)
             (m.stays (λ i. rises (z i) (driven_after row.kind (drives p row.dev)).bsy && not (bus p).sel)))
-            (before (ap (λ (n : ℕ). (drives p n).bsy) same ∙ z))
+            (before (ap (λ (u : ℕ). (drives p u).bsy) same ∙ z))
 
     stands : (b : Arbitration) → arbitration p ≡ Some b → IsAimed s (run_state s q) dev
     stands b f = by (no_sel p b f) (λ z. h.contends dev b l f z host)
@@ -406,11 +406,11 @@ fits_caller s p row dv lt alone w rule h c e host = go (called_is p row c e)
     go (new off same) =
         let won = rule.won (raised_by p row lt off on) in
         let own = by_arbitration (arbitration p) refl won.0 won.1 (ap (is_initiator s.hosts) (sym same) ∙ host) in
-        subst (λ (n : ℕ). IsAimed s (run_state s q) n) (sym same) (keeps_aim s k (run_state s q) row.dev m.sent
+        subst (λ (l : ℕ). IsAimed s (run_state s q) l) (sym same) (keeps_aim s k (run_state s q) row.dev m.sent
         (ap (λ (v : List (Option Item)). aim_of v row.dev) (m.stays (low (drives p row.dev).bsy _ won.1))) own)
     go (old j f same) =
         let sel : (bus p).sel ≡ true = sel_of_call p j f in
-        subst (λ (n : ℕ). IsAimed s (run_state s q) n) (sym same)
+        subst (λ (l : ℕ). IsAimed s (run_state s q) l) (sym same)
         (keeps_aim s k (run_state s q) j.caller m.sent (ap (λ (v : List (Option Item)). aim_of v j.caller)
         (m.stays ((λ i. rises (drives p row.dev).bsy (driven_after row.kind (drives p row.dev)).bsy && not (sel i))
         ∙ and_false _))) (h.calls j f (ap (is_initiator s.hosts) (sym same) ∙ host)))

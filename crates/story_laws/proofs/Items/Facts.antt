@@ -46,24 +46,24 @@ pub aimed_next : (s : ScenarioValue) (p : List Row) (row : Row) (n : Connection)
     → IsAimed s (run_state s p) n.initiator
 aimed_next s p row n alone e selects was h = by_call (call p) refl (made_is p row n alone e).made
   where
-    by_calling : (k : Call) → call p ≡ Some k → (o : Option Calling) → k.calling ≡ o
-        → connected_of k.caller o row.time ≡ Some n → IsAimed s (run_state s p) n.initiator
-    by_calling k ek None f z = none_some n z
-    by_calling k ek (Some x) f z = by_answer x.answered z
+    by_calling : (c : Call) → call p ≡ Some c → (o : Option Calling) → c.calling ≡ o
+        → connected_of c.caller o row.time ≡ Some n → IsAimed s (run_state s p) n.initiator
+    by_calling c ek None f z = none_some n z
+    by_calling c ek (Some x) f z = by_answer x.answered z
       where
-        by_answer : (a : Option ℕ) → connected_by k.caller x a row.time ≡ Some n → IsAimed s (run_state s p) n.initiator
+        by_answer : (a : Option ℕ) → connected_by c.caller x a row.time ≡ Some n → IsAimed s (run_state s p) n.initiator
         by_answer None y = none_some n y
         by_answer (Some t) y =
-            let same : connected k.caller x row.time ≡ n = same_Some (connected k.caller x row.time) n y in
+            let same : connected c.caller x row.time ≡ n = same_Some (connected c.caller x row.time) n y in
             let re : x.reselects ≡ false = ap (λ (w : Connection). w.reselected) same ∙ selects in
-            let caller : n.initiator ≡ k.caller = ap (λ (w : Connection). w.initiator) (sym same)
-            ∙ ap (λ (q : Bool). if q then x.called else k.caller) re in
+            let caller : n.initiator ≡ c.caller = ap (λ (w : Connection). w.initiator) (sym same)
+            ∙ ap (λ (q : Bool). if q then x.called else c.caller) re in
             subst (λ (d : ℕ). IsAimed s (run_state s p) d) (sym caller)
-            (h.calls k ek ((was k x ek f).host_is ∙ ap not re))
+            (h.calls c ek ((was c x ek f).host_is ∙ ap not re))
 
     by_call : (o : Option Call) → call p ≡ o → connection_of o row.time ≡ Some n → IsAimed s (run_state s p) n.initiator
     by_call None f z = none_some n z
-    by_call (Some k) f z = by_calling k f k.calling refl z
+    by_call (Some c) f z = by_calling c f c.calling refl z
 
 -- ---- the kinds of rows
 
@@ -123,7 +123,7 @@ rst_raised p row lt off on =
     (λ e. λ i. not (was row.dev lt i) && e i)
     (λ e.
     wrong (sym on ∙ bus_off (λ x. x.rst) (λ _ _. refl) refl (row ∷ p) (λ d l. elim (cases_eq d row.dev) [
-      | inl same ↦ ap (λ (n : ℕ). (drives (row ∷ p) n).rst) same ∙ ap (λ (x : LineSet). x.rst) (drives_next p row) ∙ e
+      | inl same ↦ ap (λ (m : ℕ). (drives (row ∷ p) m).rst) same ∙ ap (λ (x : LineSet). x.rst) (drives_next p row) ∙ e
       | inr ne ↦ ap (λ (x : LineSet). x.rst) (drives-other row p d ne) ∙ was d l
     ])))
   where
@@ -165,7 +165,7 @@ falls_quiet s p row lt obeys h on off = record {
     line : (f : LineSet → Bool) → ((a b : LineSet) → f (union a b) ≡ (f a || f b)) → f none ≡ false → f only_rst ≡ false
         → f (bus p) ≡ false → (d : ℕ) → d < 8 → f (drives (row ∷ p) d) ≡ false
     line f both zero rst e d l = elim (cases_eq d row.dev) [
-      | inl same ↦ ap (λ (n : ℕ). f (drives (row ∷ p) n)) same ∙ ap f (drives_next p row)
+      | inl same ↦ ap (λ (m : ℕ). f (drives (row ∷ p) m)) same ∙ ap f (drives_next p row)
           ∙ off_in f both rst (driven_after row.kind (drives p row.dev)) (drives p row.dev) within
           (line_off f both p e row.dev lt)
       | inr ne ↦ ap f (drives-other row p d ne) ∙ line_off f both p e d l
@@ -180,9 +180,9 @@ plain_is _ e = wrong' e
 -- An automatic REQUEST SENSE that is open then has no other last message than one that tells nothing.
 pub ends_plain : (s : ScenarioValue) (p : List Row) (row : Row) (m : Connection) → AreOfDevices p
     → row.dev < 8 → connection p ≡ Some m → connection (row ∷ p) ≡ None → ConnectionRow s p row m
-    → (l : Link) → TalksBy s (talk_of (run_state s p)) m l → (n : ℕ) → (run_state s p).served ≡ Some (sense_item n)
-    → is_open_sense (run_state s p).story.sent n ≡ true → l.last ≡ plain
-ends_plain s p row m dv lt con gone r l t n sv opens = plain_is l.last (or_first (is_plain l.last) (is_complete l.last)
+    → (l : Link) → TalksBy s (talk_of (run_state s p)) m l → (w : ℕ) → (run_state s p).served ≡ Some (sense_item w)
+    → is_open_sense (run_state s p).story.sent w ≡ true → l.last ≡ plain
+ends_plain s p row m dv lt con gone r l t w sv opens = plain_is l.last (or_first (is_plain l.last) (is_complete l.last)
     (plain_last true l (sym (ap (λ (x : Option Item). last_well (is_sense_item x) l) sv) ∙ t.last) refl).1 incomplete)
   where
     k : RunState
@@ -204,8 +204,8 @@ ends_plain s p row m dv lt con gone r l t n sv opens = plain_is l.last (or_first
         ∙ (λ i. connection_after (g.row_is.connection_is i) k.story.bus_state.call (g.row_is.change_is i) row)
         ∙ ap (λ (q : Bool). if q then Some m else None) g.row_is.stands)
     by_facts (ends_here f) z = elim (t.completes z) [
-      | inl x ↦ elim (t.closes selected z x.here (record { command = n; sense = true }) sv) [
-        | inl y ↦ open_over k.story.sent n opens y
+      | inl x ↦ elim (t.closes selected z x.here (record { command = w; sense = true }) sv) [
+        | inl y ↦ open_over k.story.sent w opens y
         | inr y ↦ elim y [
           | inl a ↦ some_none Phase.MessageOut
               (sym (taken_leaves s k m.target x ∙ ap (λ (q : Bool). if q then Some Phase.MessageOut else None) a)

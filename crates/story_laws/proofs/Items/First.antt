@@ -26,20 +26,20 @@ pub next_unended : (s : ScenarioValue) (b : Sent) (dev : ℕ) (item : Item) → 
 next_unended s b dev item h = (or_parts (has_item b.sent item) (has_item b.over item) (undone s b dev item h)).1
 
 next_checked : (s : ScenarioValue) (b : Sent) (dev : ℕ) (item : Item) → IsNext s b dev item
-    → (n : ℕ) → item ≡ sense_item n → IsChecked s b n
-next_checked s b dev _ (is_abort k z) n e = absurd (no_process e)
+    → (i : ℕ) → item ≡ sense_item i → IsChecked s b i
+next_checked s b dev _ (is_abort k z) i e = absurd (no_process e)
   where
-    no_process : abort k ≡ sense_item n → ⊥
+    no_process : abort k ≡ sense_item i → ⊥
     no_process f = absurd cc
-next_checked s b dev _ (is_sense k c at own there z) n e =
-    let same : k ≡ n = ap (λ (p : ProcId). p.command) (same_process _ _ e) in
+next_checked s b dev _ (is_sense k c at own there z) i e =
+    let same : k ≡ i = ap (λ (d : ProcId). d.command) (same_process _ _ e) in
     record {
       def = c;
       def_is = ap (command_at s.commands) (sym same) ∙ at;
       checked = ap (λ (x : ℕ). list_any (λ m. m == x) b.checks) (sym same) ∙ there;
     }
-next_checked s b dev _ (is_command k time c at own z may none) n e =
-    wrong' (ap (λ (p : ProcId). p.sense) (same_process _ _ e))
+next_checked s b dev _ (is_command k time c at own z may none) i e =
+    wrong' (ap (λ (d : ProcId). d.sense) (same_process _ _ e))
 
 -- ---- the first row
 
@@ -51,13 +51,13 @@ begins_open s k n h next = record {
   queued = λ e r f. ready_queued s k (IsQueued s k.story.sent) n.target r h.queued f;
 }
 
-opened_sense : (b : Sent) (item : Item) (n : ℕ) → is_open_sense (record b { sent = item ∷ b.sent }) n ≡ true
-    → (item ≡ sense_item n) ⊎ (is_open_sense b n ≡ true)
-opened_sense b item n e = elim (or_cases (same_item item (sense_item n)) (has_item b.sent (sense_item n)) (and_first
-    (same_item item (sense_item n) || has_item b.sent (sense_item n)) (not (has_item b.over (sense_item n))) e)) [
-      | inl z ↦ inl (item_is item (sense_item n) z)
-      | inr z ↦ inr ((λ i. z i && not (has_item b.over (sense_item n))) ∙ and_second
-          (same_item item (sense_item n) || has_item b.sent (sense_item n)) (not (has_item b.over (sense_item n))) e)
+opened_sense : (b : Sent) (item : Item) (m : ℕ) → is_open_sense (record b { sent = item ∷ b.sent }) m ≡ true
+    → (item ≡ sense_item m) ⊎ (is_open_sense b m ≡ true)
+opened_sense b item m e = elim (or_cases (same_item item (sense_item m)) (has_item b.sent (sense_item m)) (and_first
+    (same_item item (sense_item m) || has_item b.sent (sense_item m)) (not (has_item b.over (sense_item m))) e)) [
+      | inl z ↦ inl (item_is item (sense_item m) z)
+      | inr z ↦ inr ((λ i. z i && not (has_item b.over (sense_item m))) ∙ and_second
+          (same_item item (sense_item m) || has_item b.sent (sense_item m)) (not (has_item b.over (sense_item m))) e)
     ]
 
 pub items_first : (s : ScenarioValue) (k : RunState) (row : Row) (n : Connection) → Begins s k row n → Items s k

@@ -233,20 +233,20 @@ gives_next s p row n dv pd g here z =
     )
 
 -- The command of the process.
-record NamedCommand (s : ScenarioValue) (p : Process) : Type 0 where
+record NamedCommand (s : ScenarioValue) (c : Process) : Type 0 where
   def : CmdDef
-  def_is : command_at s.commands p.id.command ≡ Some def
-  host : def.host ≡ p.initiator
-  target : def.target ≡ p.target
-  unit : def.unit ≡ p.unit
-  tag : def.tag ≡ p.tag
+  def_is : command_at s.commands c.id.command ≡ Some def
+  host : def.host ≡ c.initiator
+  target : def.target ≡ c.target
+  unit : def.unit ≡ c.unit
+  tag : def.tag ≡ c.tag
 
-named_command : (s : ScenarioValue) (p : Process) → process_of s p.id ≡ Some p → p.id.sense ≡ false → NamedCommand s p
-named_command s p e f = by_option (command_at s.commands p.id.command)
-    (λ z. no_process (sym (ap (λ (x : Option CmdDef). process_if s p.id x) z) ∙ e))
-    (λ c z. let same : process_by s (record { command = p.id.command; sense = false }) c ≡ p = same_Some
-    (process_by s (record { command = p.id.command; sense = false }) c) p
-    ((λ j. process_if s (record { command = p.id.command; sense = sym f j }) (sym z j)) ∙ e) in record {
+named_command : (s : ScenarioValue) (t : Process) → process_of s t.id ≡ Some t → t.id.sense ≡ false → NamedCommand s t
+named_command s t e f = by_option (command_at s.commands t.id.command)
+    (λ z. no_process (sym (ap (λ (x : Option CmdDef). process_if s t.id x) z) ∙ e))
+    (λ c z. let same : process_by s (record { command = t.id.command; sense = false }) c ≡ t = same_Some
+    (process_by s (record { command = t.id.command; sense = false }) c) t
+    ((λ j. process_if s (record { command = t.id.command; sense = sym f j }) (sym z j)) ∙ e) in record {
       def = c;
       def_is = z;
       host = ap (λ (x : Process). x.initiator) same;
@@ -255,7 +255,7 @@ named_command s p e f = by_option (command_at s.commands p.id.command)
       tag = ap (λ (x : Process). x.tag) same;
     })
   where
-    no_process : {A : Type 0} → (let a : Option Process = None in a) ≡ Some p → A
+    no_process : {A : Type 0} → (let a : Option Process = None in a) ≡ Some t → A
     no_process z = absurd cc
 
 clashes_self : (x y tag : Option ℕ) → same_number x tag ≡ true → tag ≡ y → is_tag_clash x y ≡ true
@@ -282,17 +282,17 @@ found_by s k n l w h el ei et opens m is of unit = by m is of unit
     b : Sent
     b = k.story.sent
 
-    p : Process
-    p = w.named
+    c : Process
+    c = w.named
 
-    it : NamedCommand s p
-    it = named_command s p w.is w.command
+    it : NamedCommand s c
+    it = named_command s c w.is w.command
 
-    own : process p.id ≡ command_item p.id.command
-    own = λ i. process (record { command = p.id.command; sense = w.command i })
+    own : process c.id ≡ command_item c.id.command
+    own = λ i. process (record { command = c.id.command; sense = w.command i })
 
-    open_is : is_open b p.id.command ≡ true
-    open_is = λ i. (ap (has_item b.sent) (sym own) ∙ h.served (process p.id) w.served_is) i
+    open_is : is_open b c.id.command ≡ true
+    open_is = λ i. (ap (has_item b.sent) (sym own) ∙ h.served (process c.id) w.served_is) i
         && not ((ap (has_item b.over) (sym own) ∙ opens) i)
 
     senseless : (x : ℕ) → is_open_sense b x ≡ false
@@ -301,29 +301,29 @@ found_by s k n l w h el ei et opens m is of unit = by m is of unit
         (λ z. wrong (sym (ap is_sense_item (sym w.served_is ∙ (h.senses x z).0)) ∙ w.command))
         (λ z. z)
 
-    named : (u : ℕ) (tag : Option ℕ) → u ≡ p.unit
-        → ((x : Option ℕ) → same_number x tag ≡ true → is_tag_clash x (tag_number p.tag) ≡ true)
-        → IsNamed s b l.initiator l.target u tag p.id.command
+    named : (u : ℕ) (tag : Option ℕ) → u ≡ c.unit
+        → ((x : Option ℕ) → same_number x tag ≡ true → is_tag_clash x (tag_number c.tag) ≡ true)
+        → IsNamed s b l.initiator l.target u tag c.id.command
     named u tag eu clash = record {
       def = it.def;
       def_is = it.def_is;
       nexus = (λ i. it.host i == (ei ∙ sym w.initiator_is) i && it.target i == (et ∙ sym w.target_is) i
-          && it.unit i == eu i) ∙ (λ i. eq_self p.initiator i && eq_self p.target i && eq_self p.unit i);
+          && it.unit i == eu i) ∙ (λ i. eq_self c.initiator i && eq_self c.target i && eq_self c.unit i);
       opens = open_is;
       tagged = λ x e. ap (λ (t : Option ℕ). is_tag_clash x t) (ap tag_number it.tag) ∙ clash x e;
       senseless = senseless;
     }
 
-    to : (x : Option Item) → (x ≡ Some (command_item p.id.command)) ⊎ (x ≡ None) → (x ≡ k.served) ⊎ (x ≡ None)
+    to : (x : Option Item) → (x ≡ Some (command_item c.id.command)) ⊎ (x ≡ None) → (x ≡ k.served) ⊎ (x ≡ None)
     to x (inl z) = inl (z ∙ ap (λ (y : Item). Some y) (sym own) ∙ sym w.served_is)
     to x (inr z) = inr z
 
-    by : (m : MsgIn) → is_name m ≡ true → IsNameOf p m → (link_after_name b s.commands l m).unit ≡ p.unit
+    by : (m : MsgIn) → is_name m ≡ true → IsNameOf c m → (link_after_name b s.commands l m).unit ≡ c.unit
         → ((link_after_name b s.commands l m).item ≡ k.served) ⊎ ((link_after_name b s.commands l m).item ≡ None)
-    by (MsgIn.Identify lun) z f u = to _ (named_is s b l.initiator l.target lun None p.id.command h.clash
-        (named lun None u (λ x e. none_clashes x (tag_number p.tag) e)))
-    by (MsgIn.SimpleTag tag) z f u = to _ (named_is s b l.initiator l.target l.unit (Some tag) p.id.command h.clash
-        (named l.unit (Some tag) u (λ x e. clashes_self x (tag_number p.tag) (Some tag) e (sym f))))
+    by (MsgIn.Identify lun) z f u = to _ (named_is s b l.initiator l.target lun None c.id.command h.clash
+        (named lun None u (λ x e. none_clashes x (tag_number c.tag) e)))
+    by (MsgIn.SimpleTag tag) z f u = to _ (named_is s b l.initiator l.target l.unit (Some tag) c.id.command h.clash
+        (named l.unit (Some tag) u (λ x e. clashes_self x (tag_number c.tag) (Some tag) e (sym f))))
     by _ z f u = wrong' z
 
 -- The names that the target gives after a reselection are of the process that is served.

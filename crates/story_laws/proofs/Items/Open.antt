@@ -21,22 +21,22 @@ abbrev or_id : ProcId → Item → ProcId
 or_id id (process p) = p
 or_id id (abort k) = id
 
-pub same_process : (p q : ProcId) → process p ≡ process q → p ≡ q
-same_process p q e = ap (or_id p) e
+pub same_process : (d q : ProcId) → process d ≡ process q → d ≡ q
+same_process d q e = ap (or_id d) e
 
-no_abort : (k : ℕ) (p : ProcId) → abort k ≡ process p → ⊥
-no_abort k p e = absurd cc
+no_abort : (m : ℕ) (d : ProcId) → abort m ≡ process d → ⊥
+no_abort m d e = absurd cc
 
 -- ---- one is sent
 
-pub opened : (b : Sent) (item : Item) (n : ℕ) → is_open (record b { sent = item ∷ b.sent }) n ≡ true
-    → (item ≡ command_item n) ⊎ (is_open b n ≡ true)
-opened b item n e = elim (or_cases (same_item item (command_item n)) (has_item b.sent (command_item n)) (and_first
-    (same_item item (command_item n) || has_item b.sent (command_item n)) (not (has_item b.over (command_item n))) e)) [
-      | inl z ↦ inl (item_is item (command_item n) z)
-      | inr z ↦ inr ((λ i. z i && not (has_item b.over (command_item n)))
-          ∙ and_second (same_item item (command_item n) || has_item b.sent (command_item n))
-          (not (has_item b.over (command_item n))) e)
+pub opened : (b : Sent) (item : Item) (m : ℕ) → is_open (record b { sent = item ∷ b.sent }) m ≡ true
+    → (item ≡ command_item m) ⊎ (is_open b m ≡ true)
+opened b item m e = elim (or_cases (same_item item (command_item m)) (has_item b.sent (command_item m)) (and_first
+    (same_item item (command_item m) || has_item b.sent (command_item m)) (not (has_item b.over (command_item m))) e)) [
+      | inl z ↦ inl (item_is item (command_item m) z)
+      | inr z ↦ inr ((λ i. z i && not (has_item b.over (command_item m)))
+          ∙ and_second (same_item item (command_item m) || has_item b.sent (command_item m))
+          (not (has_item b.over (command_item m))) e)
     ]
 
 clash_back : (c d : CmdDef) → is_clash c d ≡ true → is_clash d c ≡ true
@@ -53,43 +53,43 @@ clash_back c d e =
     by : (x y : Option ℕ) → is_tag_clash x y ≡ true → is_tag_clash y x ≡ true
     by x None z = refl
     by None (Some a) z = refl
-    by (Some a) (Some r) z = ap (λ (k : ℕ). r == k) (eqb-true a r z) ∙ eq_self r
+    by (Some a) (Some r) z = ap (λ (m : ℕ). r == m) (eqb-true a r z) ∙ eq_self r
 
-free_of : (c : CmdDef) (b : Sent) (dev j : ℕ) (commands : List CmdDef)
-    → list_any (λ (d : CmdDef). is_clash c d) (open_from b dev (suc j) commands) ≡ false → (m : ℕ) (d : CmdDef)
-    → command_at commands (suc m) ≡ Some d → d.host ≡ dev → is_open b (suc (j + m)) ≡ true → is_clash c d ≡ false
-free_of c b dev j [] e m d at h o = absurd (none_some d at)
-free_of c b dev j (x ∷ commands) e zero d at h o =
+free_of : (c : CmdDef) (b : Sent) (dev l : ℕ) (commands : List CmdDef)
+    → list_any (λ (d : CmdDef). is_clash c d) (open_from b dev (suc l) commands) ≡ false → (m : ℕ) (d : CmdDef)
+    → command_at commands (suc m) ≡ Some d → d.host ≡ dev → is_open b (suc (l + m)) ≡ true → is_clash c d ≡ false
+free_of c b dev l [] e m d at h o = absurd (none_some d at)
+free_of c b dev l (x ∷ commands) e zero d at h o =
     let same : x ≡ d = same_Some x d at in
-    let now : is_open b (suc j) ≡ true = ap (λ (n : ℕ). is_open b (suc n)) (none_more j) ∙ o in
-    let own : (x.host == dev) ≡ true = ap (λ (k : ℕ). k == dev) (ap (λ (y : CmdDef). y.host) same ∙ h) ∙ eq_self dev in
+    let now : is_open b (suc l) ≡ true = ap (λ (w : ℕ). is_open b (suc w)) (none_more l) ∙ o in
+    let own : (x.host == dev) ≡ true = ap (λ (u : ℕ). u == dev) (ap (λ (y : CmdDef). y.host) same ∙ h) ∙ eq_self dev in
     let all = sym (λ i. list_any (λ (y : CmdDef). is_clash c y)
-    (if own i && now i then x ∷ open_from b dev (suc j + 1) commands else open_from b dev (suc j + 1) commands)) ∙ e in
+    (if own i && now i then x ∷ open_from b dev (suc l + 1) commands else open_from b dev (suc l + 1) commands)) ∙ e in
     ap (is_clash c) (sym same)
-    ∙ (or_parts (is_clash c x) (list_any (λ (y : CmdDef). is_clash c y) (open_from b dev (suc j + 1) commands)) all).0
+    ∙ (or_parts (is_clash c x) (list_any (λ (y : CmdDef). is_clash c y) (open_from b dev (suc l + 1) commands)) all).0
   where
-    none_more : (n : ℕ) → n ≡ n + 0
-    none_more n = omega arith
-free_of c b dev j (x ∷ commands) e (suc m) d at h o = free_of c b dev (suc j) commands
-    (later (x.host == dev && is_open b (suc j)) refl) m d at h (ap (λ (n : ℕ). is_open b (suc n)) (sym (moved j m)) ∙ o)
+    none_more : (w : ℕ) → w ≡ w + 0
+    none_more w = omega arith
+free_of c b dev l (x ∷ commands) e (suc m) d at h o = free_of c b dev (suc l) commands
+    (later (x.host == dev && is_open b (suc l)) refl) m d at h (ap (λ (w : ℕ). is_open b (suc w)) (sym (moved l m)) ∙ o)
   where
-    moved : (n k : ℕ) → n + suc k ≡ suc n + k
-    moved n k = omega arith
+    moved : (w u : ℕ) → w + suc u ≡ suc w + u
+    moved w u = omega arith
 
-    one_more : (n : ℕ) → suc (suc n) ≡ suc n + 1
-    one_more n = omega arith
+    one_more : (w : ℕ) → suc (suc w) ≡ suc w + 1
+    one_more w = omega arith
 
-    later : (q : Bool) → (x.host == dev && is_open b (suc j)) ≡ q
-        → list_any (λ (y : CmdDef). is_clash c y) (open_from b dev (suc (suc j)) commands) ≡ false
-    later q z = ap (λ (n : ℕ). list_any (λ (y : CmdDef). is_clash c y) (open_from b dev n commands)) (one_more j)
+    later : (q : Bool) → (x.host == dev && is_open b (suc l)) ≡ q
+        → list_any (λ (y : CmdDef). is_clash c y) (open_from b dev (suc (suc l)) commands) ≡ false
+    later q z = ap (λ (w : ℕ). list_any (λ (y : CmdDef). is_clash c y) (open_from b dev w commands)) (one_more l)
         ∙ by q (sym (ap (λ (r : Bool). list_any (λ (y : CmdDef). is_clash c y)
-        (if r then x ∷ open_from b dev (suc j + 1) commands else open_from b dev (suc j + 1) commands)) z) ∙ e)
+        (if r then x ∷ open_from b dev (suc l + 1) commands else open_from b dev (suc l + 1) commands)) z) ∙ e)
       where
         by : (r : Bool) → list_any (λ (y : CmdDef). is_clash c y)
-            (if r then x ∷ open_from b dev (suc j + 1) commands else open_from b dev (suc j + 1) commands) ≡ false
-            → list_any (λ (y : CmdDef). is_clash c y) (open_from b dev (suc j + 1) commands) ≡ false
+            (if r then x ∷ open_from b dev (suc l + 1) commands else open_from b dev (suc l + 1) commands) ≡ false
+            → list_any (λ (y : CmdDef). is_clash c y) (open_from b dev (suc l + 1) commands) ≡ false
         by true f = (or_parts (is_clash c x)
-            (list_any (λ (y : CmdDef). is_clash c y) (open_from b dev (suc j + 1) commands)) f).1
+            (list_any (λ (y : CmdDef). is_clash c y) (open_from b dev (suc l + 1) commands)) f).1
         by false f = f
 
 -- A command that may be sent clashes with no open one of its initiator.
@@ -106,19 +106,19 @@ may_free s b dev time c e (suc m) d at h o =
     free_of c b dev 0 s.commands (not-true (list_any (λ (x : CmdDef). is_clash c x) now)
     (and_second (nat_le c.at time && nat_lt (length now) (open_limit_of s.hosts c.host))
     (not (list_any (λ (x : CmdDef). is_clash c x) now)) e)) m d at h
-    (ap (λ (n : ℕ). is_open b (suc n)) (none_more m) ∙ o)
+    (ap (λ (i : ℕ). is_open b (suc i)) (none_more m) ∙ o)
   where
-    none_more : (n : ℕ) → 0 + n ≡ n
-    none_more n = omega arith
+    none_more : (i : ℕ) → 0 + i ≡ i
+    none_more i = omega arith
 
 pub next_free : (s : ScenarioValue) (b : Sent) (dev : ℕ) (item : Item) → IsNext s b dev item
-    → (n : ℕ) → item ≡ command_item n → (c : CmdDef) → command_at s.commands n ≡ Some c → (m : ℕ) (d : CmdDef)
+    → (i : ℕ) → item ≡ command_item i → (c : CmdDef) → command_at s.commands i ≡ Some c → (m : ℕ) (d : CmdDef)
     → command_at s.commands m ≡ Some d → c.host ≡ d.host → is_open b m ≡ true → is_clash c d ≡ false
-next_free s b dev _ (is_abort k z) n e c at m d ad h o = absurd (no_abort k _ e)
-next_free s b dev _ (is_sense k x ex own there z) n e c at m d ad h o =
-    wrong (ap (λ (p : ProcId). p.sense) (same_process _ _ e))
-next_free s b dev _ (is_command k time x ex own z may none) n e c at m d ad h o =
-    let same : k ≡ n = ap (λ (p : ProcId). p.command) (same_process _ _ e) in
+next_free s b dev _ (is_abort k z) i e c at m d ad h o = absurd (no_abort k _ e)
+next_free s b dev _ (is_sense k x ex own there z) i e c at m d ad h o =
+    wrong (ap (λ (a : ProcId). a.sense) (same_process _ _ e))
+next_free s b dev _ (is_command k time x ex own z may none) i e c at m d ad h o =
+    let same : k ≡ i = ap (λ (a : ProcId). a.command) (same_process _ _ e) in
     let it : x ≡ c = same_Some x c (sym ex ∙ ap (command_at s.commands) same ∙ at) in
     ap (λ (y : CmdDef). is_clash y d) (sym it)
     ∙ may_free s b dev time x may m d ad (sym h ∙ ap (λ (y : CmdDef). y.host) (sym it) ∙ own) o
@@ -127,7 +127,7 @@ pub sent_clash : (s : ScenarioValue) (b : Sent) (dev : ℕ) (item : Item) → Is
     → NoClash s (record b { sent = item ∷ b.sent })
 sent_clash s b dev item next h n m c d at ad own on om z = elim (opened b item n on) [
   | inl e ↦ elim (opened b item m om) [
-    | inl f ↦ ap (λ (p : ProcId). p.command) (same_process _ _ (sym e ∙ f))
+    | inl f ↦ ap (λ (i : ProcId). i.command) (same_process _ _ (sym e ∙ f))
     | inr f ↦ wrong (sym z ∙ next_free s b dev item next n e c at m d ad own f)
   ]
   | inr e ↦ elim (opened b item m om) [
@@ -137,9 +137,9 @@ sent_clash s b dev item next h n m c d at ad own on om z = elim (opened b item n
 ]
 
 -- One that is over is open no more.
-pub fewer_clash : (s : ScenarioValue) (a b : Sent) → ((n : ℕ) → is_open b n ≡ true → is_open a n ≡ true) → NoClash s a
+pub fewer_clash : (s : ScenarioValue) (a b : Sent) → ((i : ℕ) → is_open b i ≡ true → is_open a i ≡ true) → NoClash s a
     → NoClash s b
-fewer_clash s a b fewer h n m c d at ad own on om z = h n m c d at ad own (fewer n on) (fewer m om) z
+fewer_clash s a b fewer h i m c d at ad own on om z = h i m c d at ad own (fewer i on) (fewer m om) z
 
 -- ---- what names find
 
@@ -150,7 +150,7 @@ pub record IsNamed (s : ScenarioValue) (b : Sent) (i t u : ℕ) (tag : Option �
   pub nexus : is_of_nexus def i t u ≡ true
   pub opens : is_open b n0 ≡ true
   pub tagged : (x : Option ℕ) → same_number x tag ≡ true → is_tag_clash x (tag_number def.tag) ≡ true
-  pub senseless : (n : ℕ) → is_open_sense b n ≡ false
+  pub senseless : (m : ℕ) → is_open_sense b m ≡ false
 
 host_of_nexus : (c : CmdDef) (i t u : ℕ) → is_of_nexus c i t u ≡ true → c.host ≡ i
 host_of_nexus c i t u e = eqb-true c.host i
@@ -163,51 +163,51 @@ target_of_nexus c i t u e = eqb-true c.target t
 unit_of_nexus : (c : CmdDef) (i t u : ℕ) → is_of_nexus c i t u ≡ true → c.unit ≡ u
 unit_of_nexus c i t u e = eqb-true c.unit u (and_second (c.host == i && c.target == t) (c.unit == u) e)
 
-hit_is : (s : ScenarioValue) (b : Sent) (i t u : ℕ) (tag : Option ℕ) (n0 n : ℕ) (c : CmdDef)
-    → NoClash s b → (w : IsNamed s b i t u tag n0) → command_at s.commands n ≡ Some c
-    → (is_of_nexus c i t u && is_open b n && same_number (tag_number c.tag) tag) ≡ true → n ≡ n0
-hit_is s b i t u tag n0 n c h w at e =
-    let here = and_first (is_of_nexus c i t u && is_open b n) (same_number (tag_number c.tag) tag) e in
-    let nexus = and_first (is_of_nexus c i t u) (is_open b n) here in
+hit_is : (s : ScenarioValue) (b : Sent) (i t u : ℕ) (tag : Option ℕ) (n0 m : ℕ) (c : CmdDef)
+    → NoClash s b → (w : IsNamed s b i t u tag n0) → command_at s.commands m ≡ Some c
+    → (is_of_nexus c i t u && is_open b m && same_number (tag_number c.tag) tag) ≡ true → m ≡ n0
+hit_is s b i t u tag n0 m c h w at e =
+    let here = and_first (is_of_nexus c i t u && is_open b m) (same_number (tag_number c.tag) tag) e in
+    let nexus = and_first (is_of_nexus c i t u) (is_open b m) here in
     let target : c.target ≡ w.def.target = target_of_nexus c i t u nexus ∙ sym (target_of_nexus w.def i t u w.nexus) in
     let unit : c.unit ≡ w.def.unit = unit_of_nexus c i t u nexus ∙ sym (unit_of_nexus w.def i t u w.nexus) in
-    h n n0 c w.def at w.def_is (host_of_nexus c i t u nexus ∙ sym (host_of_nexus w.def i t u w.nexus))
-    (and_second (is_of_nexus c i t u) (is_open b n) here) w.opens
+    h m n0 c w.def at w.def_is (host_of_nexus c i t u nexus ∙ sym (host_of_nexus w.def i t u w.nexus))
+    (and_second (is_of_nexus c i t u) (is_open b m) here) w.opens
     ((λ j. (target j == w.def.target && unit j == w.def.unit) && is_tag_clash (tag_number c.tag) (tag_number w.def.tag))
     ∙ (λ j. (eq_self w.def.target j && eq_self w.def.unit j) && w.tagged (tag_number c.tag)
-    (and_second (is_of_nexus c i t u && is_open b n) (same_number (tag_number c.tag) tag) e) j))
+    (and_second (is_of_nexus c i t u && is_open b m) (same_number (tag_number c.tag) tag) e) j))
 
 named_from : (s : ScenarioValue) (b : Sent) (i t u : ℕ) (tag : Option ℕ) (n0 : ℕ)
-    → NoClash s b → IsNamed s b i t u tag n0 → (j : ℕ) (commands : List CmdDef)
-    → ((m : ℕ) → command_at commands (suc m) ≡ command_at s.commands (suc (j + m)))
-    → (named_item_from b i t u tag (suc j) commands ≡ Some (command_item n0))
-    ⊎ (named_item_from b i t u tag (suc j) commands ≡ None)
-named_from s b i t u tag n0 h w j [] at = inr refl
-named_from s b i t u tag n0 h w j (c ∷ commands) at = go (is_of_nexus c i t u && is_open b (suc j)
-    && same_number (tag_number c.tag) tag) (is_of_nexus c i t u && is_open_sense b (suc j) && same_number None tag) refl
-    ((λ k. is_of_nexus c i t u && w.senseless (suc j) k && same_number None tag)
+    → NoClash s b → IsNamed s b i t u tag n0 → (l : ℕ) (commands : List CmdDef)
+    → ((m : ℕ) → command_at commands (suc m) ≡ command_at s.commands (suc (l + m)))
+    → (named_item_from b i t u tag (suc l) commands ≡ Some (command_item n0))
+    ⊎ (named_item_from b i t u tag (suc l) commands ≡ None)
+named_from s b i t u tag n0 h w l [] at = inr refl
+named_from s b i t u tag n0 h w l (c ∷ commands) at = go (is_of_nexus c i t u && is_open b (suc l)
+    && same_number (tag_number c.tag) tag) (is_of_nexus c i t u && is_open_sense b (suc l) && same_number None tag) refl
+    ((λ k. is_of_nexus c i t u && w.senseless (suc l) k && same_number None tag)
     ∙ none_between (is_of_nexus c i t u) (same_number None tag))
-    (subst (λ (n : ℕ). (named_item_from b i t u tag n commands ≡ Some (command_item n0))
-    ⊎ (named_item_from b i t u tag n commands ≡ None)) (one_more j) (named_from s b i t u tag n0 h w (suc j) commands
-    (λ m. at (suc m) ∙ ap (λ (n : ℕ). command_at s.commands (suc n)) (moved j m))))
+    (subst (λ (v : ℕ). (named_item_from b i t u tag v commands ≡ Some (command_item n0))
+    ⊎ (named_item_from b i t u tag v commands ≡ None)) (one_more l) (named_from s b i t u tag n0 h w (suc l) commands
+    (λ m. at (suc m) ∙ ap (λ (v : ℕ). command_at s.commands (suc v)) (moved l m))))
   where
-    one_more : (n : ℕ) → suc (suc n) ≡ suc n + 1
-    one_more n = omega arith
+    one_more : (v : ℕ) → suc (suc v) ≡ suc v + 1
+    one_more v = omega arith
 
-    moved : (n m : ℕ) → n + suc m ≡ suc n + m
-    moved n m = omega arith
+    moved : (v m : ℕ) → v + suc m ≡ suc v + m
+    moved v m = omega arith
 
-    own : command_at s.commands (suc j) ≡ Some c
-    own = ap (λ (n : ℕ). command_at s.commands (suc n)) (sym (plus_none j)) ∙ sym (at 0)
+    own : command_at s.commands (suc l) ≡ Some c
+    own = ap (λ (v : ℕ). command_at s.commands (suc v)) (sym (plus_none l)) ∙ sym (at 0)
 
-    go : (q r : Bool) → (is_of_nexus c i t u && is_open b (suc j) && same_number (tag_number c.tag) tag) ≡ q → r ≡ false
-        → (named_item_from b i t u tag (suc j + 1) commands ≡ Some (command_item n0))
-        ⊎ (named_item_from b i t u tag (suc j + 1) commands ≡ None)
-        → ((if q then Some (command_item (suc j)) else if r then Some (sense_item (suc j))
-        else named_item_from b i t u tag (suc j + 1) commands) ≡ Some (command_item n0))
-        ⊎ ((if q then Some (command_item (suc j))
-        else if r then Some (sense_item (suc j)) else named_item_from b i t u tag (suc j + 1) commands) ≡ None)
-    go true r z y rest = inl (ap (λ (n : ℕ). Some (command_item n)) (hit_is s b i t u tag n0 (suc j) c h w own z))
+    go : (q r : Bool) → (is_of_nexus c i t u && is_open b (suc l) && same_number (tag_number c.tag) tag) ≡ q → r ≡ false
+        → (named_item_from b i t u tag (suc l + 1) commands ≡ Some (command_item n0))
+        ⊎ (named_item_from b i t u tag (suc l + 1) commands ≡ None)
+        → ((if q then Some (command_item (suc l)) else if r then Some (sense_item (suc l))
+        else named_item_from b i t u tag (suc l + 1) commands) ≡ Some (command_item n0))
+        ⊎ ((if q then Some (command_item (suc l))
+        else if r then Some (sense_item (suc l)) else named_item_from b i t u tag (suc l + 1) commands) ≡ None)
+    go true r z y rest = inl (ap (λ (v : ℕ). Some (command_item v)) (hit_is s b i t u tag n0 (suc l) c h w own z))
     go false true z y rest = wrong y
     go false false z y rest = rest
 
@@ -215,7 +215,7 @@ pub named_is : (s : ScenarioValue) (b : Sent) (i t u : ℕ) (tag : Option ℕ) (
     → IsNamed s b i t u tag n0 → (named_item_from b i t u tag 1 s.commands ≡ Some (command_item n0))
     ⊎ (named_item_from b i t u tag 1 s.commands ≡ None)
 named_is s b i t u tag n0 h w =
-    named_from s b i t u tag n0 h w 0 s.commands (λ m. ap (λ (n : ℕ). command_at s.commands (suc n)) (none_more m))
+    named_from s b i t u tag n0 h w 0 s.commands (λ m. ap (λ (l : ℕ). command_at s.commands (suc l)) (none_more m))
   where
     none_more : (m : ℕ) → m ≡ 0 + m
     none_more m = omega arith

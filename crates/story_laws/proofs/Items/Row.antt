@@ -42,10 +42,10 @@ quiet_events s b (event ∷ shown) h = quiet_event s (story_after_events s b sho
 pub queue_quiet : (s : ScenarioValue) (b : Story) (c : Option CarriedBytes) (before : LineSet)
     → AllQuiet (queue_events s b c before)
 queue_quiet s b None before = tt
-queue_quiet s b (Some k) before =
-    go (is_command before && is_whole_block k) (is_some (array_after s (Event.Accept k.id ∷ b.history)))
+queue_quiet s b (Some x) before =
+    go (is_command before && is_whole_block x) (is_some (array_after s (Event.Accept x.id ∷ b.history)))
   where
-    go : (q r : Bool) → AllQuiet (if q then (if r then Event.Accept k.id else Event.Refuse k.id) ∷ [] else [])
+    go : (q r : Bool) → AllQuiet (if q then (if r then Event.Accept x.id else Event.Refuse x.id) ∷ [] else [])
     go true true = (refl, tt)
     go true false = (refl, tt)
     go false r = tt
@@ -53,10 +53,10 @@ queue_quiet s b (Some k) before =
 pub status_quiet : (c : Option CarriedBytes) (after : LineSet) (arrived : List Event) → AllQuiet arrived
     → AllQuiet (status_events c after arrived)
 status_quiet None after arrived h = h
-status_quiet (Some k) after arrived h =
-    go (is_status_phase after && not k.shown && not k.refused && not (list_any (λ e. is_refuse e) arrived)) k.failure
+status_quiet (Some x) after arrived h =
+    go (is_status_phase after && not x.shown && not x.refused && not (list_any (λ e. is_refuse e) arrived)) x.failure
   where
-    go : (q : Bool) (f : Option ℕ) → AllQuiet (if q then status_event k.id f ∷ arrived else arrived)
+    go : (q : Bool) (f : Option ℕ) → AllQuiet (if q then status_event x.id f ∷ arrived else arrived)
     go true None = (refl, h)
     go true (Some code) = (refl, h)
     go false f = h
@@ -100,8 +100,8 @@ ends_one : (s : ScenarioValue) (b : Story) (x : Story) (item : Option Item) (id 
     → has_item (story_after_events s x (end_events (carried_if b item))).sent.over (process id) ≡ true
 ends_one s b x item id e =
     ap (λ (i : Option Item). has_item (story_after_events s x (end_events (carried_if b i))).sent.over (process id)) e
-    ∙ ap (λ (p : ProcId). has_item (story_after_events s x (end_events (carried_if b (Some (process id))))).sent.over
-    (process p)) (sym (carried_id b.carried id))
+    ∙ ap (λ (d : ProcId). has_item (story_after_events s x (end_events (carried_if b (Some (process id))))).sent.over
+    (process d)) (sym (carried_id b.carried id))
     ∙ ends_over s x (carried_of b.carried id).id (slice_index (carried_of b.carried id).status.bytes 0)
 
 pub over_after : (s : ScenarioValue) (k : RunState) (row : Row) (n : Connection) (c : Change) (now : Bool) (l : Link)

@@ -25,16 +25,16 @@ unsent_before s k row i e =
     (λ z. wrong (sym (sent_grows s k row i z) ∙ e))
     (λ z. z)
 
-pub served_item : (s : ScenarioValue) (o : Option Item) (p : Process) → process_item s o ≡ Some p
-    → o ≡ Some (process p.id)
-served_item s None p e = no_process e
+pub served_item : (s : ScenarioValue) (o : Option Item) (c : Process) → process_item s o ≡ Some c
+    → o ≡ Some (process c.id)
+served_item s None c e = no_process e
   where
-    no_process : {A : Type 0} → (let a : Option Process = None in a) ≡ Some p → A
+    no_process : {A : Type 0} → (let a : Option Process = None in a) ≡ Some c → A
     no_process z = absurd cc
-served_item s (Some (process id)) p e = ap (λ (x : ProcId). Some (process x)) (sym (process_id s id p e))
-served_item s (Some (abort k)) p e = no_process e
+served_item s (Some (process id)) c e = ap (λ (x : ProcId). Some (process x)) (sym (process_id s id c e))
+served_item s (Some (abort k)) c e = no_process e
   where
-    no_process : {A : Type 0} → (let a : Option Process = None in a) ≡ Some p → A
+    no_process : {A : Type 0} → (let a : Option Process = None in a) ≡ Some c → A
     no_process z = absurd cc
 
 pub progress_on : (s : ScenarioValue) (k : RunState) (row : Row) → Items s k
@@ -47,9 +47,9 @@ progress_on s k row h id e = progress_kept s k (row_reading k.story.bus_state ro
     was : has_item k.story.sent.sent (process id) ≡ false
     was = unsent_before s k row (process id) e
 
-    other : (p : Process) → process_served s k ≡ Some p → same_id p.id id ≡ false
-    other p f = by_bool (same_id p.id id) (λ z. wrong (sym (h.served (process p.id) (served_item s k.served p f))
-        ∙ ap (λ (x : ProcId). has_item k.story.sent.sent (process x)) (id_is p.id id z) ∙ was)) (λ z. z)
+    other : (c : Process) → process_served s k ≡ Some c → same_id c.id id ≡ false
+    other c f = by_bool (same_id c.id id) (λ z. wrong (sym (h.served (process c.id) (served_item s k.served c f))
+        ∙ ap (λ (x : ProcId). has_item k.story.sent.sent (process x)) (id_is c.id id z) ∙ was)) (λ z. z)
 
 -- What a row that sends nothing leaves.
 pub record Left (s : ScenarioValue) (k j : RunState) : Type 0 where
@@ -102,11 +102,11 @@ checked_by s k changed shown e h = events_checked s changed shown (subst (λ (x 
 
 -- ---- under RST
 
-pub open_over : {A : Type 0} (b : Sent) (n : ℕ) → is_open_sense b n ≡ true → has_item b.over (sense_item n) ≡ true → A
-open_over {A = A} b n e f = go (has_item b.sent (sense_item n)) (λ i. sym e i)
+pub open_over : {A : Type 0} (b : Sent) (m : ℕ) → is_open_sense b m ≡ true → has_item b.over (sense_item m) ≡ true → A
+open_over {A = A} b m e f = go (has_item b.sent (sense_item m)) (λ i. sym e i)
   where
-    go : (q : Bool) → true ≡ (has_item b.sent (sense_item n) && not (has_item b.over (sense_item n))) → A
-    go q z = wrong (z ∙ (λ i. has_item b.sent (sense_item n) && not (f i)) ∙ and_false (has_item b.sent (sense_item n)))
+    go : (q : Bool) → true ≡ (has_item b.sent (sense_item m) && not (has_item b.over (sense_item m))) → A
+    go q z = wrong (z ∙ (λ i. has_item b.sent (sense_item m) && not (f i)) ∙ and_false (has_item b.sent (sense_item m)))
 
 pub items_reset : (s : ScenarioValue) (k : RunState) (row : Row) → Items s k
     → (row_reading k.story.bus_state row).change.after.rst ≡ true
@@ -260,8 +260,8 @@ freed_none s b l abortive = aborted_none s b l.item
 pub items_end : (s : ScenarioValue) (k : RunState) (row : Row) (m : Connection) (l : Link) → Items s k
     → (row_reading k.story.bus_state row).change.after.rst ≡ false → k.story.bus_state.connection ≡ Some m
     → (row_reading k.story.bus_state row).next ≡ None → k.story.link ≡ Some l
-    → ((n : ℕ) → k.served ≡ Some (sense_item n) → is_open_sense k.story.sent n ≡ true
-    → (l.last ≡ plain) × (l.item ≡ Some (sense_item n))) → Items s (run_state_after s k row)
+    → ((w : ℕ) → k.served ≡ Some (sense_item w) → is_open_sense k.story.sent w ≡ true
+    → (l.last ≡ plain) × (l.item ≡ Some (sense_item w))) → Items s (run_state_after s k row)
 items_end s k row m l h off con next el closes = items_left s k row h (record {
   apart = λ e. (link, (λ x. served_after s k (con x) (next x)));
   grows = grown_by s k changed shown same;
@@ -269,8 +269,8 @@ items_end s k row m l h off con next el closes = items_left s k row h (record {
   queued = by_events s k changed shown same
       (subst (λ (x : List Event). Admits s changed x) (sym is) (freed_none s changed l l.last)) h.queued;
   served = λ i e. none_some i (sym (λ x. served_after s k (con x) (next x)) ∙ e);
-  senses = λ n was e sv rst. let z = closes n sv was in open_over j.story.sent n e (lost n z.0 z.1);
-  talks = λ n e rst. none_some n (sym next ∙ e);
+  senses = λ w was e sv rst. let z = closes w sv was in open_over j.story.sent w e (lost w z.0 z.1);
+  talks = λ w e rst. none_some w (sym next ∙ e);
 })
   where
     d : RowReading
@@ -302,10 +302,10 @@ items_end s k row m l h off con next el closes = items_left s k row h (record {
     link : j.story.link ≡ None
     link = events_link s changed shown ∙ ap (λ (x : Story). x.link) made
 
-    lost : (n : ℕ) → l.last ≡ plain → l.item ≡ Some (sense_item n) → has_item j.story.sent.over (sense_item n) ≡ true
-    lost n e f = ap (λ (x : List Event). has_item (story_after_events s changed x).sent.over (sense_item n))
+    lost : (w : ℕ) → l.last ≡ plain → l.item ≡ Some (sense_item w) → has_item j.story.sent.over (sense_item w) ≡ true
+    lost w e f = ap (λ (x : List Event). has_item (story_after_events s changed x).sent.over (sense_item w))
         (is ∙ ap (bus_free_events s l) e ∙ ap item_loss_events f)
-        ∙ lost_over s changed (record { command = n; sense = true })
+        ∙ lost_over s changed (record { command = w; sense = true })
 
 -- ---- a connection goes on
 
@@ -315,13 +315,13 @@ queue_admits : (s : ScenarioValue) (b x : Story) (c : Option CarriedBytes) (befo
     → (has_item x.sent.sent (process y.id) ≡ true) × (has_item x.sent.over (process y.id) ≡ false))
     → Admits s x (queue_events s b c before)
 queue_admits s b x None before h = tt
-queue_admits s b x (Some k) before h = go (is_command before) refl (is_whole_block k)
+queue_admits s b x (Some v) before h = go (is_command before) refl (is_whole_block v)
   where
-    accepts : (q : Bool) → (has_item x.sent.sent (process k.id) ≡ true) × (has_item x.sent.over (process k.id) ≡ false)
-        → (id : ProcId) → (if q then Event.Accept k.id else Event.Refuse k.id) ≡ Event.Accept id
+    accepts : (q : Bool) → (has_item x.sent.sent (process v.id) ≡ true) × (has_item x.sent.over (process v.id) ≡ false)
+        → (id : ProcId) → (if q then Event.Accept v.id else Event.Refuse v.id) ≡ Event.Accept id
         → (has_item x.sent.sent (process id) ≡ true) × (has_item x.sent.over (process id) ≡ false)
     accepts true w id e = subst (λ (y : ProcId). (has_item x.sent.sent (process y) ≡ true)
-        × (has_item x.sent.over (process y) ≡ false)) (ap (accepted k.id) e) w
+        × (has_item x.sent.over (process y) ≡ false)) (ap (accepted v.id) e) w
       where
         accepted : ProcId → Event → ProcId
         accepted y (Event.Accept z) = z
@@ -329,25 +329,25 @@ queue_admits s b x (Some k) before h = go (is_command before) refl (is_whole_blo
     accepts false w id e = absurd cc
 
     go : (q : Bool) → is_command before ≡ q
-        → (r : Bool) → Admits s x (if q && r then queue_event s b.history k.id ∷ [] else [])
-    go true e true = (accepts (is_some (array_after s (Event.Accept k.id ∷ b.history))) (h e k refl), tt)
+        → (r : Bool) → Admits s x (if q && r then queue_event s b.history v.id ∷ [] else [])
+    go true e true = (accepts (is_some (array_after s (Event.Accept v.id ∷ b.history))) (h e v refl), tt)
     go true e false = tt
     go false e r = tt
 
 status_admits : (s : ScenarioValue) (x : Story) (c : Option CarriedBytes) (after : LineSet) (arrived : List Event)
     → Admits s x arrived → Admits s x (status_events c after arrived)
 status_admits s x None after arrived h = h
-status_admits s x (Some k) after arrived h =
-    go (is_status_phase after && not k.shown && not k.refused && not (list_any (λ e. is_refuse e) arrived)) k.failure
+status_admits s x (Some y) after arrived h =
+    go (is_status_phase after && not y.shown && not y.refused && not (list_any (λ e. is_refuse e) arrived)) y.failure
   where
-    go : (q : Bool) (f : Option ℕ) → Admits s x (if q then status_event k.id f ∷ arrived else arrived)
+    go : (q : Bool) (f : Option ℕ) → Admits s x (if q then status_event y.id f ∷ arrived else arrived)
     go true None = (λ id e. absurd cc, h)
     go true (Some code) = (λ id e. absurd cc, h)
     go false f = h
 
 end_admits : (s : ScenarioValue) (x : Story) (c : Option CarriedBytes) → Admits s x (end_events c)
 end_admits s x None = tt
-end_admits s x (Some k) = (λ id e. absurd cc, tt)
+end_admits s x (Some y) = (λ id e. absurd cc, tt)
 
 -- The process of the link is not over while COMMAND lasts.
 pub items_on : (s : ScenarioValue) (k : RunState) (row : Row) (n : Connection) (c : Change) (l : Link)

@@ -43,8 +43,8 @@ abbrev or_id : ProcId → Option ProcId → ProcId
 or_id x None = x
 or_id x (Some y) = y
 
-its_own : (item : Option Item) (p id : ProcId) → item ≡ Some (process p) → Some p ≡ Some id → item ≡ Some (process id)
-its_own item p id e f = e ∙ ap (λ (x : ProcId). Some (process x)) (ap (or_id p) f)
+its_own : (item : Option Item) (d id : ProcId) → item ≡ Some (process d) → Some d ≡ Some id → item ≡ Some (process id)
+its_own item d id e f = e ∙ ap (λ (x : ProcId). Some (process x)) (ap (or_id d) f)
 
 no_id : (item : Option Item) (id : ProcId) → (let a : Option ProcId = None in a) ≡ Some id → item ≡ Some (process id)
 no_id item id e = absurd cc
@@ -67,13 +67,13 @@ carried_of_item b (Some (process id)) c e = ap (λ (x : ProcId). Some (process x
     or_bytes x None = x
     or_bytes x (Some y) = y
 
-queued_of : (s : ScenarioValue) (history : List Event) (item : Option Item) (p : ProcId) → item ≡ Some (process p)
-    → IsOf item (queue_event s history p)
-queued_of s history item p e = go (is_some (array_after s (Event.Accept p ∷ history)))
+queued_of : (s : ScenarioValue) (history : List Event) (item : Option Item) (d : ProcId) → item ≡ Some (process d)
+    → IsOf item (queue_event s history d)
+queued_of s history item d e = go (is_some (array_after s (Event.Accept d ∷ history)))
   where
-    go : (q : Bool) → IsOf item (if q then Event.Accept p else Event.Refuse p)
-    go true id f = its_own item p id e f
-    go false id f = its_own item p id e f
+    go : (q : Bool) → IsOf item (if q then Event.Accept d else Event.Refuse d)
+    go true id f = its_own item d id e f
+    go false id f = its_own item d id e f
 
 arrived_of : (s : ScenarioValue) (b : Story) (item : Option Item) (c : Option CarriedBytes) (before : LineSet)
     → ((x : CarriedBytes) → c ≡ Some x → item ≡ Some (process x.id)) → AllOf item (queue_events s b c before)
@@ -84,9 +84,9 @@ arrived_of s b item (Some c) before h = go (is_command before && is_whole_block 
     go true = (queued_of s b.history item c.id (h c refl), tt)
     go false = tt
 
-run_of : (item : Option Item) (p : ProcId) (code : Option ℕ) → item ≡ Some (process p) → IsOf item (status_event p code)
-run_of item p None e id f = its_own item p id e f
-run_of item p (Some code) e id f = its_own item p id e f
+run_of : (item : Option Item) (d : ProcId) (code : Option ℕ) → item ≡ Some (process d) → IsOf item (status_event d code)
+run_of item d None e id f = its_own item d id e f
+run_of item d (Some code) e id f = its_own item d id e f
 
 replied_of : (item : Option Item) (c : Option CarriedBytes) (after : LineSet) (arrived : List Event)
     → ((x : CarriedBytes) → c ≡ Some x → item ≡ Some (process x.id)) → AllOf item arrived
@@ -158,46 +158,46 @@ pub self_item : (i : Item) → same_item i i ≡ true
 self_item (process id) = self_id id
 self_item (abort k) = eq_self k
 
-pub more_has : (i j : Item) (items : List Item) → has_item items j ≡ true → has_item (i ∷ items) j ≡ true
-more_has i j items e = ap (λ (q : Bool). same_item i j || q) e ∙ or_true (same_item i j)
+pub more_has : (i x : Item) (items : List Item) → has_item items x ≡ true → has_item (i ∷ items) x ≡ true
+more_has i x items e = ap (λ (q : Bool). same_item i x || q) e ∙ or_true (same_item i x)
 
 pub own_has : (i : Item) (items : List Item) → has_item (i ∷ items) i ≡ true
 own_has i items = ap (λ (q : Bool). q || has_item items i) (self_item i)
 
-pub less_has : (i j : Item) (items : List Item) → has_item (i ∷ items) j ≡ false → has_item items j ≡ false
-less_has i j items e = (or_parts (same_item i j) (has_item items j) e).1
+pub less_has : (i x : Item) (items : List Item) → has_item (i ∷ items) x ≡ false → has_item items x ≡ false
+less_has i x items e = (or_parts (same_item i x) (has_item items x) e).1
 
 -- ---- what names find was sent
 
-find_sent : (b : Sent) (i t u : ℕ) (tag : Option ℕ) (n : ℕ) (commands : List CmdDef) (item : Item)
-    → named_item_from b i t u tag n commands ≡ Some item → has_item b.sent item ≡ true
-find_sent b i t u tag n [] item e = absurd (no_item item e)
+find_sent : (b : Sent) (i t u : ℕ) (tag : Option ℕ) (m : ℕ) (commands : List CmdDef) (item : Item)
+    → named_item_from b i t u tag m commands ≡ Some item → has_item b.sent item ≡ true
+find_sent b i t u tag m [] item e = absurd (no_item item e)
   where
     no_item : (x : Item) → (let a : Option Item = None in a) ≡ Some x → ⊥
     no_item x z = cc
-find_sent b i t u tag n (c ∷ commands) item e =
-    go (is_of_nexus c i t u && is_open b n && same_number (tag_number c.tag) tag) (is_of_nexus c i t u
-    && is_open_sense b n && same_number None tag) refl refl e (λ z. find_sent b i t u tag (n + 1) commands item z)
+find_sent b i t u tag m (c ∷ commands) item e =
+    go (is_of_nexus c i t u && is_open b m && same_number (tag_number c.tag) tag) (is_of_nexus c i t u
+    && is_open_sense b m && same_number None tag) refl refl e (λ z. find_sent b i t u tag (m + 1) commands item z)
   where
     or_item : Item → Option Item → Item
     or_item x None = x
     or_item x (Some y) = y
 
-    go : (q r : Bool) → (is_of_nexus c i t u && is_open b n && same_number (tag_number c.tag) tag) ≡ q
-        → (is_of_nexus c i t u && is_open_sense b n && same_number None tag) ≡ r → (if q then Some (command_item n)
-        else if r then Some (sense_item n) else named_item_from b i t u tag (n + 1) commands) ≡ Some item
-        → (named_item_from b i t u tag (n + 1) commands ≡ Some item → has_item b.sent item ≡ true)
+    go : (q r : Bool) → (is_of_nexus c i t u && is_open b m && same_number (tag_number c.tag) tag) ≡ q
+        → (is_of_nexus c i t u && is_open_sense b m && same_number None tag) ≡ r → (if q then Some (command_item m)
+        else if r then Some (sense_item m) else named_item_from b i t u tag (m + 1) commands) ≡ Some item
+        → (named_item_from b i t u tag (m + 1) commands ≡ Some item → has_item b.sent item ≡ true)
         → has_item b.sent item ≡ true
     go true r x y z rest =
-        let o = and_second (is_of_nexus c i t u) (is_open b n)
-        (and_first (is_of_nexus c i t u && is_open b n) (same_number (tag_number c.tag) tag) x) in
+        let o = and_second (is_of_nexus c i t u) (is_open b m)
+        (and_first (is_of_nexus c i t u && is_open b m) (same_number (tag_number c.tag) tag) x) in
         ap (has_item b.sent) (sym (ap (or_item item) z))
-        ∙ and_first (has_item b.sent (command_item n)) (not (has_item b.over (command_item n))) o
+        ∙ and_first (has_item b.sent (command_item m)) (not (has_item b.over (command_item m))) o
     go false true x y z rest =
-        let o = and_second (is_of_nexus c i t u) (is_open_sense b n)
-        (and_first (is_of_nexus c i t u && is_open_sense b n) (same_number None tag) y) in
+        let o = and_second (is_of_nexus c i t u) (is_open_sense b m)
+        (and_first (is_of_nexus c i t u && is_open_sense b m) (same_number None tag) y) in
         ap (has_item b.sent) (sym (ap (or_item item) z))
-        ∙ and_first (has_item b.sent (sense_item n)) (not (has_item b.over (sense_item n))) o
+        ∙ and_first (has_item b.sent (sense_item m)) (not (has_item b.over (sense_item m))) o
     go false false x y z rest = rest z
 
 -- ---- of a story
@@ -226,17 +226,17 @@ link_here b l e h = h.link l e
 kept_none : (all : List CarriedBytes) (c : CarriedBytes) (id : ProcId) → same_id c.id id ≡ false
     → carried_at all id ≡ None → carried_at (with_carried all c) id ≡ None
 kept_none [] c id ne e = ap (λ (q : Bool). if q then Some c else None) ne
-kept_none (k ∷ all) c id ne e = go (same_id k.id c.id) (same_id k.id id) refl refl e (kept_none all c id ne)
+kept_none (w ∷ all) c id ne e = go (same_id w.id c.id) (same_id w.id id) refl refl e (kept_none all c id ne)
   where
     none_some : {A : Type 0} (x : CarriedBytes) → Some x ≡ None → A
     none_some x z = absurd cc
 
-    go : (q r : Bool) → same_id k.id c.id ≡ q → same_id k.id id ≡ r → (if r then Some k else carried_at all id) ≡ None
+    go : (q r : Bool) → same_id w.id c.id ≡ q → same_id w.id id ≡ r → (if r then Some w else carried_at all id) ≡ None
         → (carried_at all id ≡ None → carried_at (with_carried all c) id ≡ None)
-        → carried_at (if q then c ∷ all else k ∷ with_carried all c) id ≡ None
-    go q true x y z rest = none_some k z
-    go true false x y z rest = ap (λ (p : Bool). if p then Some c else carried_at all id) ne ∙ z
-    go false false x y z rest = ap (λ (p : Bool). if p then Some k else carried_at (with_carried all c) id) y ∙ rest z
+        → carried_at (if q then c ∷ all else w ∷ with_carried all c) id ≡ None
+    go q true x y z rest = none_some w z
+    go true false x y z rest = ap (λ (b : Bool). if b then Some c else carried_at all id) ne ∙ z
+    go false false x y z rest = ap (λ (b : Bool). if b then Some w else carried_at (with_carried all c) id) y ∙ rest z
 
 put : (b : Story) (c : CarriedBytes) → has_item b.sent.sent (process c.id) ≡ true → SentOnly b
     → SentOnly (record b { carried = with_carried b.carried c })
@@ -316,25 +316,25 @@ free_keeps s b d row = go (is_arbitration_entry b d) (falls d.change.before.sel 
             × ((if q then story_without_answer next i else next).link ≡ b.link)
             × ((if q then story_without_answer next i else next).sent.sent ≡ b.sent.sent)
         by true (process id) = (refl, refl, refl)
-        by true (abort k) = (refl, refl, refl)
+        by true (abort c) = (refl, refl, refl)
         by false i = (refl, refl, refl)
 
     called : (call : Option Call) → ((story_after_calling s b call).carried ≡ b.carried)
         × ((story_after_calling s b call).link ≡ b.link) × ((story_after_calling s b call).sent.sent ≡ b.sent.sent)
     called None = (refl, refl, refl)
-    called (Some k) = by k.calling
+    called (Some c) = by c.calling
       where
-        by : (g : Option Calling) → ((story_after_calling_by s b k.caller g).carried ≡ b.carried)
-            × ((story_after_calling_by s b k.caller g).link ≡ b.link)
-            × ((story_after_calling_by s b k.caller g).sent.sent ≡ b.sent.sent)
+        by : (g : Option Calling) → ((story_after_calling_by s b c.caller g).carried ≡ b.carried)
+            × ((story_after_calling_by s b c.caller g).link ≡ b.link)
+            × ((story_after_calling_by s b c.caller g).sent.sent ≡ b.sent.sent)
         by None = (refl, refl, refl)
         by (Some g) = one (is_none g.answered && not g.reselects)
           where
             one : (q : Bool)
-                → ((if q then story_with_try s b k.caller (aim_of b.aims k.caller) else b).carried ≡ b.carried)
-                × ((if q then story_with_try s b k.caller (aim_of b.aims k.caller) else b).link ≡ b.link)
-                × ((if q then story_with_try s b k.caller (aim_of b.aims k.caller) else b).sent.sent ≡ b.sent.sent)
-            one true = tried k.caller (aim_of b.aims k.caller)
+                → ((if q then story_with_try s b c.caller (aim_of b.aims c.caller) else b).carried ≡ b.carried)
+                × ((if q then story_with_try s b c.caller (aim_of b.aims c.caller) else b).link ≡ b.link)
+                × ((if q then story_with_try s b c.caller (aim_of b.aims c.caller) else b).sent.sent ≡ b.sent.sent)
+            one true = tried c.caller (aim_of b.aims c.caller)
             one false = (refl, refl, refl)
 
     go : (q r : Bool)
@@ -377,7 +377,7 @@ begun_only b n h = go n.reselected (aim_of b.aims n.initiator)
 
     own_item : (i : Item) → LinkSent (i ∷ b.sent.sent) (link_of n (Some i))
     own_item i = record {
-      item = λ j e. ap (has_item (i ∷ b.sent.sent)) (sym (ap (or_item i) e)) ∙ own_has i b.sent.sent;
+      item = λ w e. ap (has_item (i ∷ b.sent.sent)) (sym (ap (or_item i) e)) ∙ own_has i b.sent.sent;
       undo = λ c e. no_bytes c e;
     }
       where
@@ -389,15 +389,15 @@ begun_only b n h = go n.reselected (aim_of b.aims n.initiator)
             → has_item (i ∷ b.sent.sent) (process x.id) ≡ true
         no_bytes x z = absurd cc
 
-    there : (i j : Item) → Some i ≡ Some j → has_item (i ∷ b.sent.sent) j ≡ true
-    there i j e = (own_item i).item j e
+    there : (i w : Item) → Some i ≡ Some w → has_item (i ∷ b.sent.sent) w ≡ true
+    there i w e = (own_item i).item w e
 
     go : (q : Bool) (item : Option Item) → SentOnly (if q then record b { link = Some (link_of n None) }
         else story_with_restored (story_with_sent (record b { link = Some (link_of n item) }) item) item)
     go true item = record { carried = h.carried; link = one_link b.sent.sent (link_of n None) (none_item b.sent.sent) }
     go false None = record { carried = h.carried; link = one_link b.sent.sent (link_of n None) (none_item b.sent.sent) }
     go false (Some i) = restored_only (story_with_sent (record b { link = Some (link_of n (Some i)) }) (Some i))
-        (Some i) (λ j e. there i j e) (sent_only (record b { link = Some (link_of n (Some i)) }) i h.carried
+        (Some i) (λ w e. there i w e) (sent_only (record b { link = Some (link_of n (Some i)) }) i h.carried
         (one_link (i ∷ b.sent.sent) (link_of n (Some i)) (own_item i)))
 
 -- ---- in a connection
@@ -465,11 +465,11 @@ in_only s b l (Some m) el h = go (is_none l.item)
     fits = record { item = λ i e. named_sent s b.sent l m g.item i e; undo = λ c e. item_there b l.item g.item c e }
 
     made : (c : Story) → c.sent.sent ≡ b.sent.sent → SentOnly c → SentOnly (story_after_message s c next m)
-    made c same k =
+    made c same z =
         let f : LinkSent c.sent.sent next = subst (λ (x : List Item). LinkSent x next) (sym same) fits in
         put_if (record c { link = Some next }) (carried_after_message_if (carried_if c next.item) m)
         (messages_there c.sent.sent (carried_if c next.item) m (λ x e. item_there c next.item f.item x e))
-        (record { carried = k.carried; link = one_link c.sent.sent next f })
+        (record { carried = z.carried; link = one_link c.sent.sent next f })
 
     go : (q : Bool) → SentOnly (story_after_message s
         (if q then story_with_restored b (link_after_name b.sent s.commands l m).item else b) next m)
@@ -528,8 +528,8 @@ connected_only s b (Some l) d row el h = go d.crosses (is_some d.out) (is_some d
     go true false false = byte_only b l d el h
     go false r t = fault_only b l row.kind el h
 
-pub bus_only : (s : ScenarioValue) (b : Story) (m n : Option Connection) (d : RowReading) (row : Row) → SentOnly b
-    → SentOnly (story_on_bus s b m n d row)
+pub bus_only : (s : ScenarioValue) (b : Story) (m o : Option Connection) (d : RowReading) (row : Row) → SentOnly b
+    → SentOnly (story_on_bus s b m o d row)
 bus_only s b None None d row h = let e = free_keeps s b d row in only_by (story_on_free_bus s b d row) b e.0 e.1 e.2 h
 bus_only s b None (Some n) d row h = begun_only b n h
 bus_only s b (Some m) None d row h = record { carried = h.carried; link = no_links b.sent.sent }
@@ -550,9 +550,9 @@ grown s b d row i e = go d.change.after.rst
             i ≡ true
         by true item = e
         by false None = e
-        by false (Some j) = ap (λ (x : List Item). has_item x i)
-            (restored_sent (story_with_sent (record b { link = Some (link_of n (Some j)) }) (Some j)) (Some j))
-            ∙ more_has j i b.sent.sent e
+        by false (Some y) = ap (λ (x : List Item). has_item x i)
+            (restored_sent (story_with_sent (record b { link = Some (link_of n (Some y)) }) (Some y)) (Some y))
+            ∙ more_has y i b.sent.sent e
 
     carried_sent : (a : Story) (c : Option CarriedBytes) → (story_with_carried a c).sent.sent ≡ a.sent.sent
     carried_sent a None = refl
@@ -562,7 +562,7 @@ grown s b d row i e = go d.change.after.rst
     inside None = refl
     inside (Some l) = ap (λ (x : Sent). x.sent) (inside_sent s b l d row)
 
-    on : (m n : Option Connection) → has_item (story_on_bus s b m n d row).sent.sent i ≡ true
+    on : (m o : Option Connection) → has_item (story_on_bus s b m o d row).sent.sent i ≡ true
     on None None = ap (λ (x : List Item). has_item x i) (free_keeps s b d row).2 ∙ e
     on None (Some n) = begun n
     on (Some m) None = e

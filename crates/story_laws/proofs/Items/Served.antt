@@ -39,14 +39,14 @@ called_target s p t n was e z = by_call (call p) refl e
         else initiator_if (ready_of s (run_state s p) n.initiator)) host)
         ∙ ap (callee_at s p) i ∙ d.callee_is ∙ ap (λ (w : ℕ). Some w) (sym g)
 
-    by_calling : (k : Call) → call p ≡ Some k → (o : Option Calling) → k.calling ≡ o
-        → connected_of k.caller o t ≡ Some n → NamesTarget s p n
-    by_calling k ek None none w = none_some n w
-    by_calling k ek (Some x) some w = named k.caller x (was k x ek some) (by_answer k.caller x x.answered t n w)
+    by_calling : (h : Call) → call p ≡ Some h → (o : Option Calling) → h.calling ≡ o
+        → connected_of h.caller o t ≡ Some n → NamesTarget s p n
+    by_calling h ek None none w = none_some n w
+    by_calling h ek (Some x) some w = named h.caller x (was h x ek some) (by_answer h.caller x x.answered t n w)
 
     by_call : (o : Option Call) → call p ≡ o → connection_of o t ≡ Some n → NamesTarget s p n
     by_call None none w = none_some n w
-    by_call (Some k) some w = by_calling k some k.calling refl w
+    by_call (Some h) some w = by_calling h some h.calling refl w
 
 -- ---- the first row of a connection
 
@@ -115,7 +115,7 @@ served_begins s p row n o prompt was nx alone after calm begun = by_bool n.resel
 frees : (v : Serving) (attention : Bool) (phase : Phase) → phase ≡ Phase.MessageOut → v.plan.cause ≡ Cause.Selected
     → is_some v.plan.said.aborts ≡ true → (phase_leaving v attention phase).to ≡ None
 frees v attention phase e c heard =
-    ap (λ (p : Phase). (phase_leaving v attention p).to) e
+    ap (λ (f : Phase). (phase_leaving v attention f).to) e
     ∙ ap (λ (x : Cause). (Rattle.due_model.specs.dialogue_model.specs.NextPhase.message_out_leaving v x).to) c
     ∙ ap (λ (q : Bool). (if q then bus_free else after_offer v.def v.plan.negotiates v.plan.said.offer).to) heard
 

@@ -45,7 +45,7 @@ first_one q (Some a) (Some b) h g =
 ready_some : (q : Process → Type 0) (a : Array) (times : List ℕ) (seek t : ℕ) → UnitsP q a.units
     → IfReady q (ready_among a times seek t)
 ready_some q a times seek t h =
-    let at : (n : ℕ) → IfReady q (ready_at a times seek t n) = λ n r e. ready_unit q a times seek t n r h e in
+    let at : (m : ℕ) → IfReady q (ready_at a times seek t m) = λ m r e. ready_unit q a times seek t m r h e in
     let none : IfReady q None = λ r e. none_some r e in
     first_one q (ready_at a times seek t 0) _ (at 0)
     (first_one q (ready_at a times seek t 1) _ (at 1)
@@ -74,14 +74,14 @@ Admits s b (event ∷ shown) =
     × (has_item (story_after_events s b shown).sent.over (process id) ≡ false))
     × Admits s b shown
 
-sense_command : (s : ScenarioValue) (id : ProcId) (p : Process) → process_of s id ≡ Some p
-    → is_request_sense (command_of p.cdb) ≡ false → id.sense ≡ false
-sense_command s id p e f = by_option (command_at s.commands id.command)
+sense_command : (s : ScenarioValue) (id : ProcId) (t : Process) → process_of s id ≡ Some t
+    → is_request_sense (command_of t.cdb) ≡ false → id.sense ≡ false
+sense_command s id t e f = by_option (command_at s.commands id.command)
     (λ z. no_process (sym (ap (λ (x : Option CmdDef). process_if s id x) z) ∙ e))
     (λ c z. by id.sense c (ap (λ (x : Process). is_request_sense (command_of x.cdb))
-    (same_Some (process_by s id c) p (sym (ap (λ (x : Option CmdDef). process_if s id x) z) ∙ e)) ∙ f))
+    (same_Some (process_by s id c) t (sym (ap (λ (x : Option CmdDef). process_if s id x) z) ∙ e)) ∙ f))
   where
-    no_process : {A : Type 0} → (let a : Option Process = None in a) ≡ Some p → A
+    no_process : {A : Type 0} → (let a : Option Process = None in a) ≡ Some t → A
     no_process z = absurd cc
 
     by : (q : Bool) (c : CmdDef)
@@ -90,14 +90,14 @@ sense_command s id p e f = by_option (command_at s.commands id.command)
     by true c z = wrong z
     by false c z = refl
 
-accepted_queued : (s : ScenarioValue) (b : Sent) (id : ProcId) (p : Process) → process_of s id ≡ Some p
-    → is_request_sense (command_of p.cdb) ≡ false → has_item b.sent (process id) ≡ true
-    → has_item b.over (process id) ≡ false → IsQueued s b p
-accepted_queued s b id p e f there opens =
-    let same : p.id ≡ id = process_id s id p e in
+accepted_queued : (s : ScenarioValue) (b : Sent) (id : ProcId) (c : Process) → process_of s id ≡ Some c
+    → is_request_sense (command_of c.cdb) ≡ false → has_item b.sent (process id) ≡ true
+    → has_item b.over (process id) ≡ false → IsQueued s b c
+accepted_queued s b id c e f there opens =
+    let same : c.id ≡ id = process_id s id c e in
     record {
       is = ap (process_of s) same ∙ e;
-      command = ap (λ (x : ProcId). x.sense) same ∙ sense_command s id p e f;
+      command = ap (λ (x : ProcId). x.sense) same ∙ sense_command s id c e f;
       sent = ap (λ (x : ProcId). has_item b.sent (process x)) same ∙ there;
       opens = ap (λ (x : ProcId). has_item b.over (process x)) same ∙ opens;
     }
@@ -181,22 +181,22 @@ tried s b dev (Some item) h = go _ item (h item refl)
 
 -- What the caller calls for was not sent.
 pub free_gives : (s : ScenarioValue) (b : Story) (d : RowReading) (row : Row)
-    → ((k : Call) (x : Calling) → b.bus_state.call ≡ Some k → k.calling ≡ Some x → x.reselects ≡ false
-    → (i : Item) → aim_of b.aims k.caller ≡ Some i → has_item b.sent.sent i ≡ false)
+    → ((c : Call) (x : Calling) → b.bus_state.call ≡ Some c → c.calling ≡ Some x → x.reselects ≡ false
+    → (i : Item) → aim_of b.aims c.caller ≡ Some i → has_item b.sent.sent i ≡ false)
     → GivesUp b.sent (story_on_free_bus s b d row).sent
 free_gives s b d row h = go (is_arbitration_entry b d) (falls d.change.before.sel d.change.after.sel)
   where
     called : (call : Option Call) → b.bus_state.call ≡ call → GivesUp b.sent (story_after_calling s b call).sent
     called None e = same_gives b.sent b.sent refl
-    called (Some k) e = by k.calling refl
+    called (Some c) e = by c.calling refl
       where
-        by : (g : Option Calling) → k.calling ≡ g → GivesUp b.sent (story_after_calling_by s b k.caller g).sent
+        by : (g : Option Calling) → c.calling ≡ g → GivesUp b.sent (story_after_calling_by s b c.caller g).sent
         by None f = same_gives b.sent b.sent refl
         by (Some x) f = one (is_none x.answered) x.reselects refl
           where
             one : (q r : Bool) → x.reselects ≡ r
-                → GivesUp b.sent (if q && not r then story_with_try s b k.caller (aim_of b.aims k.caller) else b).sent
-            one true false z = tried s b k.caller (aim_of b.aims k.caller) (λ i y. h k x e f z i y)
+                → GivesUp b.sent (if q && not r then story_with_try s b c.caller (aim_of b.aims c.caller) else b).sent
+            one true false z = tried s b c.caller (aim_of b.aims c.caller) (λ i y. h c x e f z i y)
             one true true z = same_gives b.sent b.sent refl
             one false r z = same_gives b.sent b.sent refl
 
@@ -225,7 +225,7 @@ checked_up b c g h n e = g.grows.over _ (h n (ap (λ (x : List ℕ). list_any (�
 -- Only the process that is served comes on.
 pub progress_kept :
     (s : ScenarioValue) (k : RunState) (d : RowReading) (before after : Option Connection) (l : Leaving) (id : ProcId)
-    → ((p : Process) → process_served s k ≡ Some p → same_id p.id id ≡ false)
+    → ((c : Process) → process_served s k ≡ Some c → same_id c.id id ≡ false)
     → progress_in (progress_after s k d before after l) id ≡ progress_in k.progress id
 progress_kept s k d None after l id h = refl
 progress_kept s k d (Some m) None l id h = refl
@@ -234,5 +234,5 @@ progress_kept s k d (Some m) (Some n) l id h = go (changes_phase d.change && k.e
     go : (q : Bool) (o : Option Process) → process_served s k ≡ o
         → progress_in (if q then progress_by_leaving k o l else k.progress) id ≡ progress_in k.progress id
     go true None e = refl
-    go true (Some p) e = other_kept k.progress p.id id l.done l.counts (h p e)
+    go true (Some c) e = other_kept k.progress c.id id l.done l.counts (h c e)
     go false o e = refl

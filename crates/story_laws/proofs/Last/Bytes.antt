@@ -114,19 +114,19 @@ pub record Given (l : Link) (m : Messages) (next : Next) (count : ℕ) : Type 0 
   pub before : l.before ≡ plain
   pub given : LastGiven l m next count
 
-pub given_on : (l j : Link) (m : Messages) (next : Next) (half : List ℕ) (count byte : ℕ) → OnMessages FitsIn m
+pub given_on : (l u : Link) (m : Messages) (next : Next) (half : List ℕ) (count byte : ℕ) → OnMessages FitsIn m
     → AreGiven (bytes_of_messages m) half count → byte ≡ slice_index_or (bytes_of_messages m) count 0
-    → count < length (bytes_of_messages m) → Hears l j (whole_in (got_in (half ++ byte ∷ []))) → Given l m next count
-    → Given j m next (count + 1)
-given_on l j m next half count byte fit g e lt w h = go h.given
+    → count < length (bytes_of_messages m) → Hears l u (whole_in (got_in (half ++ byte ∷ []))) → Given l m next count
+    → Given u m next (count + 1)
+given_on l u m next half count byte fit g e lt w h = go h.given
   where
     o : Option MsgIn
     o = whole_in (got_in (half ++ byte ∷ []))
 
-    go : LastGiven l m next count → Given j m next (count + 1)
+    go : LastGiven l m next count → Given u m next (count + 1)
     go (still_stays f all last) = by o refl (heard_next IsPlainIn m half count byte fit all g e lt)
       where
-        by : (x : Option MsgIn) → o ≡ x → OnMessage IsPlainIn x → Given j m next (count + 1)
+        by : (x : Option MsgIn) → o ≡ x → OnMessage IsPlainIn x → Given u m next (count + 1)
         by None z none = let v = w.none z in record { before = v.1 ∙ h.before; given = still_stays f all (v.0 ∙ last) }
         by (Some x) z says =
             let v = w.some x z in
@@ -140,8 +140,8 @@ given_on l j m next half count byte fit g e lt w h = go h.given
         ∙ sym (ap (λ (y : Messages). length (bytes_of_messages y)) one ∙ end_length x end) in
         record {
           before = v.1 ∙ last;
-          given = closed f (closes f x one end) all (is_closing j.last (last_in x) v.0 (end_last x end))
-              (completes_one j.last x m one v.0 end);
+          given = closed f (closes f x one end) all (is_closing u.last (last_in x) v.0 (end_last x end))
+              (completes_one u.last x m one v.0 end);
         }
     go (to_save f both (inl zero) last) =
         let is : o ≡ Some MsgIn.SavePointer =
@@ -158,7 +158,7 @@ given_on l j m next half count byte fit g e lt w h = go h.given
           before = v.1 ∙ last;
           given = closed f (saves f both)
               (ap (λ (z : ℕ). z + 1) one ∙ sym (ap (λ (y : Messages). length (bytes_of_messages y)) both)) (inr v.0)
-              (completes_two j.last m both v.0);
+              (completes_two u.last m both v.0);
         }
     go (closed f ends full last told) = less_apart count (length (bytes_of_messages m)) lt full
 
@@ -182,13 +182,13 @@ out_last l _ e b = refl
 
 -- ---- what is said in a phase goes by its plan
 
-pub ends_if : (p q : Plan) → q.cause ≡ p.cause → q.messages ≡ p.messages → q.next ≡ p.next → EndsWellIf p p.cause
+pub ends_if : (l q : Plan) → q.cause ≡ l.cause → q.messages ≡ l.messages → q.next ≡ l.next → EndsWellIf l l.cause
     → EndsWellIf q q.cause
-ends_if p q ec em en h = subst (EndsWellIf q) (sym ec) (go p.cause h)
+ends_if l q ec em en h = subst (EndsWellIf q) (sym ec) (go l.cause h)
   where
-    go : (cause : Cause) → EndsWellIf p cause → EndsWellIf q cause
+    go : (cause : Cause) → EndsWellIf l cause → EndsWellIf q cause
     go Cause.InMessage w =
-        subst (λ (n : Next). EndsWell q.messages n) (sym en) (subst (λ (m : Messages). EndsWell m p.next) (sym em) w)
+        subst (λ (x : Next). EndsWell q.messages x) (sym en) (subst (λ (m : Messages). EndsWell m l.next) (sym em) w)
     go _ w = tt
 
 pub given_as : (l : Link) (m m' : Messages) (next next' : Next) (count count' : ℕ) → m' ≡ m → next' ≡ next

@@ -15,29 +15,29 @@ use proofs.{Talks.OutMessages.{last_is_whole}, Undone.Answers.{same_phase_of}}
 
 -- ---- the plan in a phase
 
-pub record KeptPlan (p q : Plan) : Type 0 where
-  pub cause : q.cause ≡ p.cause
-  pub messages : q.messages ≡ p.messages
-  pub next : q.next ≡ p.next
+pub record KeptPlan (l q : Plan) : Type 0 where
+  pub cause : q.cause ≡ l.cause
+  pub messages : q.messages ≡ l.messages
+  pub next : q.next ≡ l.next
 
-plan_kept : (p : Plan) (now out last fault : Bool) (m : Option MsgOut)
-    → KeptPlan p (if now then (if out then plan_after_message p last m else p) else if fault then struck_plan p else p)
-plan_kept p true true true fault m = record { cause = refl; messages = refl; next = refl }
-plan_kept p true true false fault m = record { cause = refl; messages = refl; next = refl }
-plan_kept p true false last fault m = record { cause = refl; messages = refl; next = refl }
-plan_kept p false out last true m = record { cause = refl; messages = refl; next = refl }
-plan_kept p false out last false m = record { cause = refl; messages = refl; next = refl }
+plan_kept : (l : Plan) (now out last fault : Bool) (m : Option MsgOut)
+    → KeptPlan l (if now then (if out then plan_after_message l last m else l) else if fault then struck_plan l else l)
+plan_kept l true true true fault m = record { cause = refl; messages = refl; next = refl }
+plan_kept l true true false fault m = record { cause = refl; messages = refl; next = refl }
+plan_kept l true false last fault m = record { cause = refl; messages = refl; next = refl }
+plan_kept l false out last true m = record { cause = refl; messages = refl; next = refl }
+plan_kept l false out last false m = record { cause = refl; messages = refl; next = refl }
 
 -- ---- outside the message phases
 
-last_there : (l : Link) (p : Plan) (count : ℕ) (last : Bool) (b : LineSet) → b.msg ≡ false
-    → LastBy l p count last (phase_of b) → l.last ≡ plain
-last_there l p count last b e h = go b.cd b.io
-    (subst (λ (m : Bool). LastBy l p count last (if m then (if b.io then Phase.MessageIn else Phase.MessageOut)
+last_there : (l : Link) (a : Plan) (count : ℕ) (last : Bool) (b : LineSet) → b.msg ≡ false
+    → LastBy l a count last (phase_of b) → l.last ≡ plain
+last_there l a count last b e h = go b.cd b.io
+    (subst (λ (m : Bool). LastBy l a count last (if m then (if b.io then Phase.MessageIn else Phase.MessageOut)
     else if b.cd then (if b.io then Phase.Status else Phase.Command) else if b.io then Phase.DataIn else Phase.DataOut))
     e h)
   where
-    go : (d i : Bool) → LastBy l p count last
+    go : (d i : Bool) → LastBy l a count last
         (if d then (if i then Phase.Status else Phase.Command) else if i then Phase.DataIn else Phase.DataOut)
         → l.last ≡ plain
     go true true w = w
@@ -45,14 +45,14 @@ last_there l p count last b e h = go b.cd b.io
     go false true w = w
     go false false w = w
 
-pub last_here : (l : Link) (p : Plan) (count : ℕ) (last : Bool) (b : LineSet) → b.msg ≡ false → l.last ≡ plain
-    → LastBy l p count last (phase_of b)
-last_here l p count last b e h = subst
-    (λ (m : Bool). LastBy l p count last (if m then (if b.io then Phase.MessageIn else Phase.MessageOut)
+pub last_here : (l : Link) (a : Plan) (count : ℕ) (last : Bool) (b : LineSet) → b.msg ≡ false → l.last ≡ plain
+    → LastBy l a count last (phase_of b)
+last_here l a count last b e h = subst
+    (λ (m : Bool). LastBy l a count last (if m then (if b.io then Phase.MessageIn else Phase.MessageOut)
     else if b.cd then (if b.io then Phase.Status else Phase.Command) else if b.io then Phase.DataIn else Phase.DataOut))
     (sym e) (go b.cd b.io)
   where
-    go : (d i : Bool) → LastBy l p count last
+    go : (d i : Bool) → LastBy l a count last
         (if d then (if i then Phase.Status else Phase.Command) else if i then Phase.DataIn else Phase.DataOut)
     go true true = h
     go true false = h
@@ -124,9 +124,9 @@ still_last s k row n c l m r ep en el em asked h =
     last = ap (λ (d : Dialogue). d.is_last)
         (in_connection s k row n c false false (is_fault row.kind) r ep en refl).dialogue_is
 
-    go : (p : Phase) → phase_of (bus_of k) ≡ p
-        → LastBy l k.exchange.plan k.handshakes.requests k.story.bus_state.dialogue.is_last p
-        → LastBy l j.exchange.plan j.handshakes.requests j.story.bus_state.dialogue.is_last p
+    go : (f : Phase) → phase_of (bus_of k) ≡ f
+        → LastBy l k.exchange.plan k.handshakes.requests k.story.bus_state.dialogue.is_last f
+        → LastBy l j.exchange.plan j.handshakes.requests j.story.bus_state.dialogue.is_last f
     go Phase.MessageOut e w =
         (λ z. w.0 (sym last ∙ z), ends_if k.exchange.plan j.exchange.plan t.plan.cause t.plan.messages t.plan.next w.1)
     go Phase.MessageIn e w = given_as l k.exchange.plan.messages j.exchange.plan.messages k.exchange.plan.next

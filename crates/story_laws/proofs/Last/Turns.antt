@@ -46,8 +46,8 @@ end_front : (x : MsgIn) → SaysEnd x → length (in_bytes x) ≡ 1
 end_front x (inl e) = ap (λ (y : MsgIn). length (in_bytes y)) e
 end_front x (inr e) = ap (λ (y : MsgIn). length (in_bytes y)) e
 
-stays_from : (m : Messages) (n : ℕ) → OnMessages IsPlainIn m → OnMessages IsPlainIn (from_byte m n)
-stays_from m n h = go (nat_lt n (length (message_bytes m.first)))
+stays_from : (m : Messages) (i : ℕ) → OnMessages IsPlainIn m → OnMessages IsPlainIn (from_byte m i)
+stays_from m i h = go (nat_lt i (length (message_bytes m.first)))
   where
     go : (q : Bool) → OnMessages IsPlainIn (if q then m else record { first = m.second; second = None })
     go true = h
@@ -94,11 +94,11 @@ given_plain l m next count (to_close f x one end zero last) e = last
 given_plain l m next count (to_save f both at last) e = last
 given_plain l m next count (closed f ends full last told) e = wrong (sym f ∙ e)
 
-left_plain : (l : Link) (p : Plan) (count : ℕ) (last : Bool) (phase : Phase) → (phase ≡ Phase.MessageOut → last ≡ true)
-    → (phase ≡ Phase.MessageIn → frees_bus p.next ≡ false) → LastBy l p count last phase → l.last ≡ plain
-left_plain l p count last Phase.MessageOut e f h = h.0 (e refl)
-left_plain l p count last Phase.MessageIn e f h = given_plain l p.messages p.next count h (f refl)
-left_plain l p count last _ e f h = h
+left_plain : (l : Link) (a : Plan) (count : ℕ) (last : Bool) (phase : Phase) → (phase ≡ Phase.MessageOut → last ≡ true)
+    → (phase ≡ Phase.MessageIn → frees_bus a.next ≡ false) → LastBy l a count last phase → l.last ≡ plain
+left_plain l a count last Phase.MessageOut e f h = h.0 (e refl)
+left_plain l a count last Phase.MessageIn e f h = given_plain l a.messages a.next count h (f refl)
+left_plain l a count last _ e f h = h
 
 -- ---- a phase is left for another
 

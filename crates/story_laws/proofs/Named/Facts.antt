@@ -23,8 +23,8 @@ named_start s n e calm = absurd (none_some n e)
 
 -- ---- a reselection begins
 
-zero_bytes : {A : Type 0} (n m : ℕ) → 0 < n → m ≡ 0 → m ≡ n → A
-zero_bytes n m lt z e = absurd (omega arith)
+zero_bytes : {A : Type 0} (i m : ℕ) → 0 < i → m ≡ 0 → m ≡ i → A
+zero_bytes i m lt z e = absurd (omega arith)
 
 named_first : (s : ScenarioValue) (p : List Row) (row : Row) (n : Connection) → AreOfDevices p → row.dev < 8
     → Stood s p → NextStood s p row → connection p ≡ None → connection (row ∷ p) ≡ Some n → (bus (row ∷ p)).rst ≡ false
@@ -132,8 +132,8 @@ named_next s p row o prompt was next offers found h n after calm re = go (row_ki
 
 -- ---- what is asked of a row
 
-both_counts : (n m : ℕ) → nat_lt n m ≡ false → n ≤ m → n ≡ m
-both_counts n m e h = grind (arith, nat_tests)
+both_counts : (i m : ℕ) → nat_lt i m ≡ false → i ≤ m → i ≡ m
+both_counts i m e h = grind (arith, nat_tests)
 
 -- In MESSAGE IN with ATN false no byte follows, so all have crossed.
 all_given : (s : ScenarioValue) (k : RunState) (n : Connection) → Gives k → k.exchange.begun ≡ true

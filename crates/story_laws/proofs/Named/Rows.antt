@@ -19,12 +19,12 @@ tag_no_end : (t : Tag) → OnMessage IsNoEnd (tag_named t)
 tag_no_end Tag.Untagged = tt
 tag_no_end _ = refl
 
-names_no_end : (p : Process) (l : Link) (messages : Messages) (count : ℕ) → Names p l messages count
+names_no_end : (c : Process) (l : Link) (messages : Messages) (count : ℕ) → Names c l messages count
     → OnMessages IsNoEnd messages
-names_no_end p l messages count (all e u) =
-    subst (λ (m : Messages). OnMessages IsNoEnd m) (sym e) (refl, tag_no_end p.tag)
-names_no_end p l messages count (tag_alone m em es u) = subst (λ (x : Messages). OnMessages IsNoEnd x) (sym es)
-    (subst (λ (o : Option MsgIn). OnMessage IsNoEnd o) em (tag_no_end p.tag), tt)
+names_no_end c l messages count (all e u) =
+    subst (λ (m : Messages). OnMessages IsNoEnd m) (sym e) (refl, tag_no_end c.tag)
+names_no_end c l messages count (tag_alone m em es u) = subst (λ (x : Messages). OnMessages IsNoEnd x) (sym es)
+    (subst (λ (o : Option MsgIn). OnMessage IsNoEnd o) em (tag_no_end c.tag), tt)
 
 -- ---- lines
 
@@ -45,11 +45,11 @@ in_lines b h e = go b.msg b.cd b.io h e
 
 -- ---- a byte crosses
 
-kept : (q : Bool) (p : Plan)
-    → ((if q then plan_anew p else p).cause ≡ p.cause) × ((if q then plan_anew p else p).messages ≡ p.messages)
-    × ((if q then plan_anew p else p).next ≡ p.next)
-kept true p = (refl, refl, refl)
-kept false p = (refl, refl, refl)
+kept : (q : Bool) (l : Plan)
+    → ((if q then plan_anew l else l).cause ≡ l.cause) × ((if q then plan_anew l else l).messages ≡ l.messages)
+    × ((if q then plan_anew l else l).next ≡ l.next)
+kept true l = (refl, refl, refl)
+kept false l = (refl, refl, refl)
 
 pub crosses_on : (s : ScenarioValue) (k : RunState) (row : Row) (n : Connection) (c : Change) (dev : ℕ) (b' : Sent)
     (o' : Option Link) → GoesOn s k row n c → Gives k → changes_phase c ≡ false → receiver_in n c ≡ Some dev

@@ -12,25 +12,25 @@ use proofs.Named.Story.{after_name, after_byte}
 pub named_as : (s : ScenarioValue) (n : Connection) (b b' : Sent)
     (o o' : Option Link) (x x' : Exchange) (h h' : Handshakes) (v v' : LineSet)
     → b ≡ b' → o ≡ o' → x ≡ x' → h ≡ h' → v ≡ v' → NamedBy s n b' o' x' h' v' → NamedBy s n b o x h v
-named_as s n b b' o o' x x' h h' v v' eb eo ex eh ev k =
+named_as s n b b' o o' x x' h h' v v' eb eo ex eh ev e =
     subst (λ (z : Sent). NamedBy s n z o x h v) (sym eb) (subst (λ (z : Option Link). NamedBy s n b' z x h v) (sym eo)
     (subst (λ (z : Exchange). NamedBy s n b' o' z h v) (sym ex) (subst (λ (z : Handshakes). NamedBy s n b' o' x' z v)
-    (sym eh) (subst (λ (z : LineSet). NamedBy s n b' o' x' h' z) (sym ev) k))))
+    (sym eh) (subst (λ (z : LineSet). NamedBy s n b' o' x' h' z) (sym ev) e))))
 
 pub naming_as : (s : ScenarioValue) (n : Connection) (b b' : Sent) (o' : Option Link)
-    (p : Process) (l l' : Link) (x x' : Exchange) (o : Option Link)
+    (c : Process) (l l' : Link) (x x' : Exchange) (o : Option Link)
     → b' ≡ b → o' ≡ Some l' → l'.initiator ≡ l.initiator → l'.target ≡ l.target → is_complete l'.last ≡ false
-    → is_complete l'.before ≡ false → x'.begun ≡ true → x'.plan.next ≡ x.plan.next → IsNaming s n b o p l x
-    → IsNaming s n b' o' p l' x'
-naming_as s n b b' o' p l l' x x' o eb eo ei et last before begun next k = record {
+    → is_complete l'.before ≡ false → x'.begun ≡ true → x'.plan.next ≡ x.plan.next → IsNaming s n b o c l x
+    → IsNaming s n b' o' c l' x'
+naming_as s n b b' o' c l l' x x' o eb eo ei et last before begun next e = record {
   link_is = eo;
-  initiator_is = ei ∙ k.initiator_is;
-  target_is = et ∙ k.target_is;
+  initiator_is = ei ∙ e.initiator_is;
+  target_is = et ∙ e.target_is;
   begun_is = begun;
-  next_is = next ∙ k.next_is;
+  next_is = next ∙ e.next_is;
   last = last;
   before = before;
-  found = subst (λ (z : Sent). IsFoundBy s n z p) (sym eb) k.found;
+  found = subst (λ (z : Sent). IsFoundBy s n z c) (sym eb) e.found;
 }
 
 -- ---- no byte crosses
@@ -53,12 +53,12 @@ named_still s n b b' o o' x h h' v v' same eo eb count (refused p l k m c names)
 pub named_struck : (s : ScenarioValue) (n : Connection) (b : Sent) (o : Option Link) (x : Exchange)
     (h : Handshakes) (v : LineSet) (io : Bool) → NamedBy s n b o x h v → NamedBy s n b o
     (record { begun = x.begun; speech = x.speech; plan = if true && not io then struck_plan x.plan else x.plan }) h v
-named_struck s n b o x h v true k = k
+named_struck s n b o x h v true f = f
 named_struck s n b o x h v false (known l e i q) = known l e i q
-named_struck s n b o x h v false (said p l k m names heard) = said p l
-    (naming_as s n b b o p l l x (struck x) o refl k.link_is refl refl k.last k.before k.begun_is refl k) m names heard
-named_struck s n b o x h v false (refused p l k m c names) = refused p l
-    (naming_as s n b b o p l l x (struck x) o refl k.link_is refl refl k.last k.before k.begun_is refl k) m c names
+named_struck s n b o x h v false (said p l f m names heard) = said p l
+    (naming_as s n b b o p l l x (struck x) o refl f.link_is refl refl f.last f.before f.begun_is refl f) m names heard
+named_struck s n b o x h v false (refused p l f m c names) = refused p l
+    (naming_as s n b b o p l l x (struck x) o refl f.link_is refl refl f.last f.before f.begun_is refl f) m c names
 
 -- ---- a byte crosses
 

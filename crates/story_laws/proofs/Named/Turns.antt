@@ -68,10 +68,10 @@ no_offer s k n sp m b last (detects e one q) c next = wrong' (sym (ap is_detecte
 
 abbrev goes_in : Option Phase → Bool
 goes_in None = false
-goes_in (Some p) = is_in_phase p
+goes_in (Some f) = is_in_phase f
 
-zero_bytes : {A : Type 0} (n : ℕ) → 0 < n → 0 ≡ n → A
-zero_bytes n lt e = absurd (omega arith)
+zero_bytes : {A : Type 0} (m : ℕ) → 0 < m → 0 ≡ m → A
+zero_bytes m lt e = absurd (omega arith)
 
 turns_on : (s : ScenarioValue) (k : RunState) (row : Row) (n : Connection) (c : Change) (b' : Sent) (o' : Option Link)
     → GoesOn s k row n c → (c.after.msg ≡ true → c.after.cd ≡ true) → Speaks s k n → Gives k → Offers k
@@ -119,12 +119,12 @@ turns_on s k row n c b' o' g there sp gv of ep whereto eb eo h = go h
     left_in : k.exchange.begun ≡ true → is_message_in c.before ≡ true
         → l ≡ phase_leaving (serving_of s k n.target) c.before.atn Phase.MessageIn
     left_in f m = left_is s k n c on f
-        ∙ ap (λ (p : Phase). phase_leaving (serving_of s k n.target) c.before.atn p) (in_phase c.before m)
+        ∙ ap (λ (d : Phase). phase_leaving (serving_of s k n.target) c.before.atn d) (in_phase c.before m)
 
-    refuses : (p : Process) (x : Link) → IsNaming s n k.story.sent k.story.link p x k.exchange
-        → is_message_in c.before ≡ true → Names p x k.exchange.plan.messages k.handshakes.requests → c.before.atn ≡ true
+    refuses : (t : Process) (x : Link) → IsNaming s n k.story.sent k.story.link t x k.exchange
+        → is_message_in c.before ≡ true → Names t x k.exchange.plan.messages k.handshakes.requests → c.before.atn ≡ true
         → NamedBy s n b' o' (still_talk true false false host w l k.exchange) no_handshakes c.after
-    refuses p x nm m names a =
+    refuses t x nm m names a =
         let f = nm.begun_is in
         let e : is_message_out c.after ≡ true = sym (out_by_phase c.after there)
         ∙ ap goes_out (sym (whereto f) ∙ ap (λ (z : Leaving). z.to) (left_in f m)
@@ -151,16 +151,16 @@ turns_on s k row n c b' o' g there sp gv of ep whereto eb eo h = go h
                     if m i then from_byte k.exchange.plan.messages (k.handshakes.requests - 1)
                     else k.exchange.plan.messages;
               } else plan_anew k.exchange.plan;
-        }) (refused p x (naming_as s n k.story.sent b' o' p x x k.exchange next k.story.link
+        }) (refused t x (naming_as s n k.story.sent b' o' t x x k.exchange next k.story.link
         (eb x nm.link_is nm.last) (eo ∙ nm.link_is) refl refl nm.last nm.before refl refl nm) e refl
-        (names_left p x k.exchange.plan.messages k.handshakes.requests some within names))
+        (names_left t x k.exchange.plan.messages k.handshakes.requests some within names))
 
     hears :
-        (p : Process) (x : Link) → IsNaming s n k.story.sent k.story.link p x k.exchange → is_message_in c.before ≡ true
+        (t : Process) (x : Link) → IsNaming s n k.story.sent k.story.link t x k.exchange → is_message_in c.before ≡ true
         → (k.handshakes.requests ≡ length (bytes_of_messages k.exchange.plan.messages) → is_some x.item ≡ true)
         → c.before.atn ≡ false
         → NamedBy s n b' o' (still_talk true false false host w l k.exchange) no_handshakes c.after
-    hears p x nm m heard a =
+    hears t x nm m heard a =
         let f = nm.begun_is in
         let lv = g.leaves turning in
         let all_given = lv.given (ap phase_of on ∙ in_phase c.before m) (ap (λ (z : LineSet). z.atn) on ∙ a) in
@@ -178,11 +178,11 @@ turns_on s k row n c b' o' g there sp gv of ep whereto eb eo h = go h
         other false e f = e
 
     -- MESSAGE OUT is left
-    again : (p : Process) (x : Link) → IsNaming s n k.story.sent k.story.link p x k.exchange
+    again : (t : Process) (x : Link) → IsNaming s n k.story.sent k.story.link t x k.exchange
         → is_message_out c.before ≡ true → k.exchange.plan.cause ≡ Cause.InMessage
-        → Names p x k.exchange.plan.messages 0
+        → Names t x k.exchange.plan.messages 0
         → NamedBy s n b' o' (still_talk true false false host w l k.exchange) no_handshakes c.after
-    again p x nm m cause names =
+    again t x nm m cause names =
         let f = nm.begun_is in
         let here : is_message_out (bus_of k) ≡ true = ap is_message_out on ∙ m in
         let lv = g.leaves turning in
@@ -191,15 +191,15 @@ turns_on s k row n c b' o' g there sp gv of ep whereto eb eo h = go h
         let left : l ≡ message_repetition k.exchange.plan = left_is s k n c on f
         ∙ ap (λ (z : Phase). phase_leaving (serving_of s k n.target) c.before.atn z) (out_phase c.before m)
         ∙ ap (λ (z : Cause). message_out_leaving (serving_of s k n.target) z) cause
-        ∙ refusal_is (serving_of s k n.target) offer (names_first p x k.exchange.plan.messages 0 names) in
+        ∙ refusal_is (serving_of s k n.target) offer (names_first t x k.exchange.plan.messages 0 names) in
         let into : is_message_in c.after ≡ true = in_lines c.after there
         (ap goes_in (sym (whereto f) ∙ ap (λ (z : Leaving). z.to) left)) in
         let next : Exchange = entering k.exchange (record k.exchange.speech { place = 0 }) l.messages l.next in
         is next (entered (not_out c.after into))
-        (said p x (naming_as s n k.story.sent b' o' p x x k.exchange next k.story.link (eb x nm.link_is nm.last)
+        (said t x (naming_as s n k.story.sent b' o' t x x k.exchange next k.story.link (eb x nm.link_is nm.last)
         (eo ∙ nm.link_is) refl refl nm.last nm.before refl (ap (λ (z : Leaving). z.next) left) nm) into
-        (subst (λ (z : Messages). Names p x z 0) (sym (ap (λ (z : Leaving). z.messages) left)) names) (λ z. zero_bytes
-        (length (bytes_of_messages k.exchange.plan.messages)) (names_some p x k.exchange.plan.messages 0 names)
+        (subst (λ (z : Messages). Names t x z 0) (sym (ap (λ (z : Leaving). z.messages) left)) names) (λ z. zero_bytes
+        (length (bytes_of_messages k.exchange.plan.messages)) (names_some t x k.exchange.plan.messages 0 names)
         (z ∙ ap (λ (v : Leaving). length (bytes_of_messages v.messages)) left)))
       where
         not_out : (b : LineSet) → is_message_in b ≡ true → is_message_out b ≡ false
@@ -211,13 +211,13 @@ turns_on s k row n c b' o' g there sp gv of ep whereto eb eo h = go h
             by true false i z = wrong' z
             by false r i z = refl
 
-    by_attention : (p : Process) (x : Link) → IsNaming s n k.story.sent k.story.link p x k.exchange
-        → is_message_in c.before ≡ true → Names p x k.exchange.plan.messages k.handshakes.requests
+    by_attention : (t : Process) (x : Link) → IsNaming s n k.story.sent k.story.link t x k.exchange
+        → is_message_in c.before ≡ true → Names t x k.exchange.plan.messages k.handshakes.requests
         → (k.handshakes.requests ≡ length (bytes_of_messages k.exchange.plan.messages) → is_some x.item ≡ true)
         → (q : Bool) → c.before.atn ≡ q
         → NamedBy s n b' o' (still_talk true false false host w l k.exchange) no_handshakes c.after
-    by_attention p x nm m names heard true a = refuses p x nm m names a
-    by_attention p x nm m names heard false a = hears p x nm m heard a
+    by_attention t x nm m names heard true a = refuses t x nm m names a
+    by_attention t x nm m names heard false a = hears t x nm m heard a
 
     go : NamedBy s n k.story.sent k.story.link k.exchange k.handshakes c.before
         → NamedBy s n b' o' (still_talk true false false host w l k.exchange) no_handshakes c.after

@@ -21,9 +21,9 @@ take_front (x ∷ xs) ys = ap (λ (zs : List ℕ). x ∷ zs) (take_front xs ys)
 -- ---- to the target
 
 abbrev pub IsHeardOnce : MsgOut → Type 0
-IsHeardOnce m = (h : Heard) (n : ℕ) → n < length (out_bytes m) → heard_out h
-    (got_out ((understood nothing_understood (take n (out_bytes m))).half ++ slice_index_or (out_bytes m) n 0 ∷ []))
-    ≡ (if nat_lt (n + 1) (length (out_bytes m)) then h else heard_with_out h (word_out m))
+IsHeardOnce m = (h : Heard) (i : ℕ) → i < length (out_bytes m) → heard_out h
+    (got_out ((understood nothing_understood (take i (out_bytes m))).half ++ slice_index_or (out_bytes m) i 0 ∷ []))
+    ≡ (if nat_lt (i + 1) (length (out_bytes m)) then h else heard_with_out h (word_out m))
 
 pub parity_once : IsHeardOnce MsgOut.ParityError
 unfolding form_out
@@ -45,9 +45,9 @@ answer_once a h (suc (suc (suc (suc zero)))) lt = refl
 answer_once a h (suc (suc (suc (suc (suc n))))) lt = absurd omega (arith, lt)
 
 -- The next byte of it crosses.
-pub says_one_on : (m : MsgOut) (v : Speech) (p : Plan) (d : Dialogue) (byte : ℕ) → IsHeardOnce m → AreWordsHeard v p d
+pub says_one_on : (m : MsgOut) (v : Speech) (l : Plan) (d : Dialogue) (byte : ℕ) → IsHeardOnce m → AreWordsHeard v l d
     → byte ≡ next_word v → SaysOne m v d → SaysOne m (speech_after_byte v) (byte_out d byte (not (attends_with v)))
-says_one_on m v p d byte once h e o = go (attends_with v) refl
+says_one_on m v l d byte once h e o = go (attends_with v) refl
   where
     front : take v.place v.words ≡ h.before
     front = (λ i. take (h.place_is i) (h.words_are i)) ∙ take_front h.before (h.byte ∷ h.rest)
@@ -92,9 +92,9 @@ says_one_on m v p d byte once h e o = go (attends_with v) refl
 -- ---- to the initiator
 
 abbrev pub IsGivenOnce : MsgIn → Type 0
-IsGivenOnce m = (h : Heard) (n : ℕ) → n < length (in_bytes m)
-    → heard_in h (got_in (half_after [] (take n (in_bytes m)) ++ slice_index_or (in_bytes m) n 0 ∷ []))
-    ≡ (if nat_lt (n + 1) (length (in_bytes m)) then h else heard_with_in h (word_in m))
+IsGivenOnce m = (h : Heard) (i : ℕ) → i < length (in_bytes m)
+    → heard_in h (got_in (half_after [] (take i (in_bytes m)) ++ slice_index_or (in_bytes m) i 0 ∷ []))
+    ≡ (if nat_lt (i + 1) (length (in_bytes m)) then h else heard_with_in h (word_in m))
 
 pub reject_once : IsGivenOnce MsgIn.Reject
 unfolding form_in
@@ -114,21 +114,21 @@ request_once a h (suc (suc (suc (suc (suc n))))) lt = absurd omega (arith, lt)
 
 -- ---- MESSAGE IN
 
-rejects_none : (s : Spoken) → s.offer ≡ None → (spoken_with_reject s End.Target).offer ≡ None
-rejects_none s e = go (is_of_other s.offer End.Target) (is_of_other s.answered End.Target)
+rejects_none : (x : Spoken) → x.offer ≡ None → (spoken_with_reject x End.Target).offer ≡ None
+rejects_none x e = go (is_of_other x.offer End.Target) (is_of_other x.answered End.Target)
   where
-    go : (q r : Bool) → (if q then record s { agreement = without_offset s.agreement; offer = None; answered = None }
-        else if r then record s { agreement = without_offset s.agreement; answered = None }
-        else record s { answered = None }).offer ≡ None
+    go : (q r : Bool) → (if q then record x { agreement = without_offset x.agreement; offer = None; answered = None }
+        else if r then record x { agreement = without_offset x.agreement; answered = None }
+        else record x { answered = None }).offer ≡ None
     go true r = refl
     go false true = e
     go false false = e
 
-message_settles : (s : Heard) (m : MsgIn) → IsNoRequest m → s.now.offer ≡ None
-    → (heard_with_in s (word_in m)).now.offer ≡ None
-message_settles s (MsgIn.Sdtr offer) q e = absurd (true≢false q)
-message_settles s MsgIn.Reject q e = rejects_none s.now e
-message_settles s _ q e = e
+message_settles : (h : Heard) (m : MsgIn) → IsNoRequest m → h.now.offer ≡ None
+    → (heard_with_in h (word_in m)).now.offer ≡ None
+message_settles h (MsgIn.Sdtr offer) q e = absurd (true≢false q)
+message_settles h MsgIn.Reject q e = rejects_none h.now e
+message_settles h _ q e = e
 
 -- What it is where a message begins, or one has begun.
 was_open_on : (half : List ℕ) (h : Heard) (count : ℕ) (before : Option End)
@@ -190,11 +190,11 @@ given_once before after m (answers a eb ea em) = subst IsGivenOnce (sym em) (req
 given_once before after m (refuses eb ea em) = subst IsGivenOnce (sym em) reject_once
 given_once before after m (requests a eb ea em) = subst IsGivenOnce (sym em) (request_once a)
 
-last_count : (n m : ℕ) → n < m → nat_lt (n + 1) m ≡ false → n + 1 ≡ m
-last_count n m lt e = grind (arith, nat_tests)
+last_count : (i m : ℕ) → i < m → nat_lt (i + 1) m ≡ false → i + 1 ≡ m
+last_count i m lt e = grind (arith, nat_tests)
 
-next_count : (n m : ℕ) → nat_lt (n + 1) m ≡ true → n + 1 < m
-next_count n m e = grind (arith, nat_tests)
+next_count : (i m : ℕ) → nat_lt (i + 1) m ≡ true → i + 1 < m
+next_count i m e = grind (arith, nat_tests)
 
 -- The next byte of the message that negotiates.
 one_on : (messages : Messages) (next : Next) (d : Dialogue) (count byte : ℕ) (before after : Option End) (m : MsgIn)
@@ -298,20 +298,20 @@ opening_got More h said v e = (v, e)
 opening_got Unknown h said v e = (v, e)
 
 -- As the bytes begin anew, or go on.
-opening_anew : (d : Dialogue) (p : Plan) → d.at_phase.now.offer ≡ None
-    → d.at_phase.void ≡ None → d.heard.void ≡ None → offer_now d ≡ offer_said p.said
-    → ((fresh_heard d).void ≡ None) × ((fresh_heard d).now.offer ≡ offer_said (plan_anew_if d.is_last p).said)
-opening_anew d p ao av v e = go d.is_last
+opening_anew : (d : Dialogue) (l : Plan) → d.at_phase.now.offer ≡ None
+    → d.at_phase.void ≡ None → d.heard.void ≡ None → offer_now d ≡ offer_said l.said
+    → ((fresh_heard d).void ≡ None) × ((fresh_heard d).now.offer ≡ offer_said (plan_anew_if d.is_last l).said)
+opening_anew d l ao av v e = go d.is_last
   where
     go : (q : Bool) → ((if q then d.at_phase else d.heard).void ≡ None)
-        × ((if q then d.at_phase else d.heard).now.offer ≡ offer_said (plan_anew_if q p).said)
+        × ((if q then d.at_phase else d.heard).now.offer ≡ offer_said (plan_anew_if q l).said)
     go true = (av, ao)
     go false = (v, e)
 
-kept : (q : Bool) (p : Plan) → ((plan_anew_if q p).cause ≡ p.cause) × ((plan_anew_if q p).messages ≡ p.messages)
-    × ((plan_anew_if q p).next ≡ p.next)
-kept true p = (refl, refl, refl)
-kept false p = (refl, refl, refl)
+kept : (q : Bool) (l : Plan) → ((plan_anew_if q l).cause ≡ l.cause) × ((plan_anew_if q l).messages ≡ l.messages)
+    × ((plan_anew_if q l).next ≡ l.next)
+kept true l = (refl, refl, refl)
+kept false l = (refl, refl, refl)
 
 pub heard_out_on : (x : Exchange) (d : Dialogue) (byte : ℕ)
     → AreWordsHeard x.speech x.plan d → byte ≡ next_word x.speech → IsHeardOut x d

@@ -40,22 +40,22 @@ heads_plain o l e h = go l.to
 
 asks_none : {v : Serving} {attention : Bool} {phase : Phase} {l : Leaving} → ways.Leaves v attention phase l
     → is_out_phase phase ≡ false → AsksNone l
-asks_none (ways.answers _ _ _) n = wrong n
-asks_none (ways.requests _ _ _ _) n = wrong n
-asks_none (ways.repeats _ _) n = wrong n
-asks_none (ways.rejects _ _ _) n = (refl, tt)
-asks_none (ways.restores _ _ _ _) n = (refl, tt)
-asks_none (ways.restores_status _ _) n = (refl, tt)
-asks_none (ways.queues _ _) n = (refl, tt)
-asks_none (ways.saves _ _ _ _ _) n = (refl, refl)
-asks_none (ways.disconnects _ _ _ _ _) n = (refl, tt)
-asks_none (ways.completes _) n = (refl, tt)
-asks_none _ n = (tt, tt)
+asks_none (ways.answers _ _ _) e = wrong e
+asks_none (ways.requests _ _ _ _) e = wrong e
+asks_none (ways.repeats _ _) e = wrong e
+asks_none (ways.rejects _ _ _) e = (refl, tt)
+asks_none (ways.restores _ _ _ _) e = (refl, tt)
+asks_none (ways.restores_status _ _) e = (refl, tt)
+asks_none (ways.queues _ _) e = (refl, tt)
+asks_none (ways.saves _ _ _ _ _) e = (refl, refl)
+asks_none (ways.disconnects _ _ _ _ _) e = (refl, tt)
+asks_none (ways.completes _) e = (refl, tt)
+asks_none _ e = (tt, tt)
 
 pub heads_none : (v : Serving) (o : Option End) (attention : Bool) (phase : Phase) → is_out_phase phase ≡ false
     → o ≡ None → Heads o (phase_leaving v attention phase)
-heads_none v o attention phase n e =
-    heads_plain o (phase_leaving v attention phase) e (asks_none (ways.leaves v attention phase) n)
+heads_none v o attention phase h e =
+    heads_plain o (phase_leaving v attention phase) e (asks_none (ways.leaves v attention phase) h)
 
 -- ---- MESSAGE IN with ATN true, and the phases that lead to MESSAGE OUT
 
@@ -71,11 +71,11 @@ attends v attention e = (attended (ways.leaves v attention Phase.MessageIn) (ap 
 
 -- Whose request is open after it, by what it was for.
 abbrev IsOpenAfter : Option End → Plan → Cause → Type 0
-IsOpenAfter o p Cause.Selected = o ≡ offer_said p.said
-IsOpenAfter o p Cause.InMessage =
-    (is_some p.said.offer ≡ true → o ≡ None) × (is_some p.said.offer ≡ false → Plans o p.messages p.next)
-IsOpenAfter o p Cause.InData = o ≡ None
-IsOpenAfter o p Cause.InStatus = o ≡ None
+IsOpenAfter o l Cause.Selected = o ≡ offer_said l.said
+IsOpenAfter o l Cause.InMessage =
+    (is_some l.said.offer ≡ true → o ≡ None) × (is_some l.said.offer ≡ false → Plans o l.messages l.next)
+IsOpenAfter o l Cause.InData = o ≡ None
+IsOpenAfter o l Cause.InStatus = o ≡ None
 
 opened : (v : Serving) (o : Option End) (offer : Option Agreement) → ways.IsOpened v → v.plan.said.offer ≡ offer
     → IsOpenAfter o v.plan v.plan.cause → o ≡ (if is_some offer then Some End.Initiator else None)
@@ -125,7 +125,7 @@ pub heads_out : (v : Serving) (x : Exchange) (d : Dialogue) → v.plan ≡ x.pla
     → d.is_last ≡ true → IsHeardOut x d → Heads (offer_now d) (message_out_leaving v v.plan.cause)
 heads_out v x d ep w last h =
     heads v (offer_now d) (ways.leaves v false Phase.MessageOut)
-    (subst (λ (p : Plan). IsOpenAfter (offer_now d) p p.cause) (sym ep) (by h))
+    (subst (λ (l : Plan). IsOpenAfter (offer_now d) l l.cause) (sym ep) (by h))
   where
     detected : (cause : Cause) → is_detected cause ≡ true → offer_now d ≡ None → IsOpenAfter (offer_now d) x.plan cause
     detected Cause.InData e o = o
@@ -134,7 +134,7 @@ heads_out v x d ep w last h =
 
     by : IsHeardOut x d → IsOpenAfter (offer_now d) x.plan x.plan.cause
     by (opens c ao av hv o) = subst (IsOpenAfter (offer_now d) x.plan) (sym c) o
-    by (repeats before c one was p) =
+    by (repeats before c one was l) =
         let offer : offer_now d ≡ before =
         ap (λ (h : Heard). h.now.offer) (one.last last) ∙ ap
         (λ (z : Option Spoken). (void_or_now z d.at_phase.now).offer) was.void_is ∙ was.offer_is in
@@ -142,7 +142,7 @@ heads_out v x d ep w last h =
         ap (λ (z : Said). z.offer) (all_said x d _ w last one.words_are ∙ parity_said) in
         subst (IsOpenAfter (offer_now d) x.plan) (sym c) (
           λ e. wrong' (sym (ap (λ (z : Option Agreement). is_some z) none) ∙ e),
-          λ e. subst (λ (z : Option End). Plans z x.plan.messages x.plan.next) (sym offer) p,
+          λ e. subst (λ (z : Option End). Plans z x.plan.messages x.plan.next) (sym offer) l,
         )
     by (answers_it a c next one o) =
         let offer : offer_now d ≡ None =

@@ -167,7 +167,7 @@ heads_left s k n c eb known f sp lv req o = subst (λ (l : Leaving). Heads (offe
 
     in_it : (phase : Phase) → phase_of c.before ≡ phase → Heads (offer_now d) (phase_leaving v c.before.atn phase)
         → Heads (offer_now d) (phase_leaving v c.before.atn (phase_of c.before))
-    in_it phase e h = subst (λ (p : Phase). Heads (offer_now d) (phase_leaving v c.before.atn p)) (sym e) h
+    in_it phase e h = subst (λ (x : Phase). Heads (offer_now d) (phase_leaving v c.before.atn x)) (sym e) h
 
     here : (phase : Phase) → phase_of c.before ≡ phase → phase_of (bus_of k) ≡ phase
     here phase e = ap phase_of eb ∙ e
@@ -258,7 +258,7 @@ turns_on s k row n c g there sp att ep over whereto o = by k.exchange.begun refl
         let to : (phase_leaving (serving_of s k n.target) c.before.atn Phase.MessageIn).to ≡ Some Phase.MessageOut =
         (λ i. (phase_leaving (serving_of s k n.target) c.before.atn (sym (in_phase c.before m) i)).to)
         ∙ ap (λ (z : Leaving). z.to) (sym (left_is s k n c eb f))
-        ∙ whereto f ∙ ap (λ (p : Phase). Some p) (out_phase c.after e) in
+        ∙ whereto f ∙ ap (λ (r : Phase). Some r) (out_phase c.after e) in
         let z = o.why f m (attends (serving_of s k n.target) c.before.atn to) in
         is (asking k.exchange (if h.struck then parity_error else answer_bytes host k.exchange.speech.asked)
         Cause.InMessage (from_byte k.exchange.plan.messages (h.requests - 1))) (λ i. record {

@@ -62,7 +62,7 @@ settled_in b o messages next h e =
 
 planned_in : (b : LineSet) (o : Option End) (messages : Messages) (next : Next)
     → HeadsTo o (Some (phase_of b)) messages next → is_message_in b ≡ true → Plans o messages next
-planned_in b o messages next h e = subst (λ (p : Phase). HeadsTo o (Some p) messages next) (in_phase b e) h
+planned_in b o messages next h e = subst (λ (f : Phase). HeadsTo o (Some f) messages next) (in_phase b e) h
 
 some_bytes : (before after : Option End) (m : MsgIn) → Negotiates before after m → 0 < length (in_bytes m)
 some_bytes before after m (answers a eb ea em) = subst (λ (z : MsgIn). 0 < length (in_bytes z)) (sym em) (omega arith)
@@ -138,21 +138,21 @@ offers_detect x d b cause messages m c e = in_out (asking x detected_error cause
     no_handshakes b refl m (detects c (one_anew MsgOut.DetectedError (speech_of x.speech detected_error) d refl) e)
 
 -- What is left of the messages of MESSAGE IN.
-from_plain : (m : Messages) (n : ℕ) → OnMessages IsNoRequest m → OnMessages IsNoRequest (from_byte m n)
-from_plain m n h = go (nat_lt n (length (message_bytes m.first)))
+from_plain : (m : Messages) (i : ℕ) → OnMessages IsNoRequest m → OnMessages IsNoRequest (from_byte m i)
+from_plain m i h = go (nat_lt i (length (message_bytes m.first)))
   where
     go : (q : Bool) → OnMessages IsNoRequest (if q then m else record { first = m.second; second = None })
     go true = h
     go false = (h.1, tt)
 
-before_last : (n m : ℕ) → (n == 0) ≡ false → n ≤ m → nat_lt (n - 1) m ≡ true
-before_last n m e h = grind (arith, nat_tests)
+before_last : (i m : ℕ) → (i == 0) ≡ false → i ≤ m → nat_lt (i - 1) m ≡ true
+before_last i m e h = grind (arith, nat_tests)
 
-from_one : (messages : Messages) (m : MsgIn) (n : ℕ) → messages ≡ one_message m → (n == 0) ≡ false
-    → n ≤ length (in_bytes m) → from_byte messages (n - 1) ≡ one_message m
-from_one messages m n e some h = ap (λ (z : Messages). from_byte z (n - 1)) e
+from_one : (messages : Messages) (m : MsgIn) (i : ℕ) → messages ≡ one_message m → (i == 0) ≡ false
+    → i ≤ length (in_bytes m) → from_byte messages (i - 1) ≡ one_message m
+from_one messages m i e some h = ap (λ (z : Messages). from_byte z (i - 1)) e
     ∙ ap (λ (q : Bool). if q then one_message m else record { first = None; second = None })
-    (before_last n (length (in_bytes m)) some h)
+    (before_last i (length (in_bytes m)) some h)
 
 record Left (d : Dialogue) (messages : Messages) (next : Next) : Type 0 where
   before : Option End
@@ -223,7 +223,7 @@ none_open messages next d count (whole before after m (requests a eb ea ex) em e
 
 abbrev pub goes_out : Option Phase → Bool
 goes_out None = false
-goes_out (Some p) = is_out_phase p
+goes_out (Some f) = is_out_phase f
 
 pub unattended : (v : Serving) (attention : Bool) (phase : Phase) (to : Phase) → is_attended phase ≡ true
     → (phase_leaving v attention phase).to ≡ Some to → is_out_phase to ≡ false → attention ≡ false

@@ -58,10 +58,10 @@ first_start s k row n q h =
     (row_reading k.story.bus_state row) (h.connection_is i) (h.next_is i) (leaving_of s k k.story.bus_state.connection))
 
 -- The names of a process end no connection.
-plain_names : (p : Process) → OnMessages IsPlainIn (naming_messages p)
-plain_names p = go p.tag
+plain_names : (c : Process) → OnMessages IsPlainIn (naming_messages c)
+plain_names c = go c.tag
   where
-    go : (t : Tag) → OnMessages IsPlainIn (naming_messages (record p { tag = t }))
+    go : (t : Tag) → OnMessages IsPlainIn (naming_messages (record c { tag = t }))
     go Tag.Untagged = (refl, tt)
     go _ = (refl, refl)
 

@@ -123,62 +123,62 @@ writer_plain s q e w = go (command_at s.commands q.id.command) q.id.sense refl e
         let is : process_by s q.id c ≡ q = same (process_by s q.id c) g in
         let block : sense_block ≡ q.cdb = sym
         (ap (λ (b : Bool). let y : Process = if b then sense_process s q.id c else command_process s q.id c in y.cdb) f)
-        ∙ ap (λ (p : Process). p.cdb) is in
+        ∙ ap (λ (t : Process). t.cdb) is in
         absurd (true≢false (sym w ∙ ap (λ (x : List ℕ). is_write (command_of x)) (sym block) ∙ write_sense))
       where
         same : (x : Process) → (let o : Option Process = Some x in o) ≡ Some q → x ≡ q
         same x z = cc
 
 abbrev reset_step : ℕ → CmdDef → Story → Story
-reset_step n c b =
-    if is_open b.sent n && true then story_with_end b (record { command = n; sense = false }) by_reset
-    else if true && list_any (λ k. k == n) b.sent.checks then story_with_over b (sense_item n)
+reset_step m c b =
+    if is_open b.sent m && true then story_with_end b (record { command = m; sense = false }) by_reset
+    else if true && list_any (λ k. k == m) b.sent.checks then story_with_over b (sense_item m)
     else b
 
-step_sent : (n : ℕ) (c : CmdDef) (b : Story) → (reset_step n c b).sent.sent ≡ b.sent.sent
-step_sent n c b = go (is_open b.sent n && true) (list_any (λ k. k == n) b.sent.checks)
+step_sent : (m : ℕ) (c : CmdDef) (b : Story) → (reset_step m c b).sent.sent ≡ b.sent.sent
+step_sent m c b = go (is_open b.sent m && true) (list_any (λ k. k == m) b.sent.checks)
   where
-    go : (p q : Bool) → (if p then story_with_end b (record { command = n; sense = false }) by_reset
-        else if q then story_with_over b (sense_item n) else b).sent.sent ≡ b.sent.sent
+    go : (r q : Bool) → (if r then story_with_end b (record { command = m; sense = false }) by_reset
+        else if q then story_with_over b (sense_item m) else b).sent.sent ≡ b.sent.sent
     go true q = refl
     go false true = refl
     go false false = refl
 
-step_over : (n : ℕ) (c : CmdDef) (b : Story) → has_item b.sent.sent (command_item n) ≡ true
-    → has_item (reset_step n c b).sent.over (command_item n) ≡ true
-step_over n c b sent = go (has_item b.sent.over (command_item n)) refl (list_any (λ k. k == n) b.sent.checks)
+step_over : (m : ℕ) (c : CmdDef) (b : Story) → has_item b.sent.sent (command_item m) ≡ true
+    → has_item (reset_step m c b).sent.over (command_item m) ≡ true
+step_over m c b sent = go (has_item b.sent.over (command_item m)) refl (list_any (λ k. k == m) b.sent.checks)
   where
-    was : (p q : Bool) → has_item b.sent.over (command_item n) ≡ true
-        → has_item (if p then story_with_end b (record { command = n; sense = false }) by_reset
-        else if q then story_with_over b (sense_item n) else b).sent.over (command_item n) ≡ true
-    was true q e = over_more (command_item n) b.sent.over (command_item n) e
-    was false true e = over_more (sense_item n) b.sent.over (command_item n) e
+    was : (r q : Bool) → has_item b.sent.over (command_item m) ≡ true
+        → has_item (if r then story_with_end b (record { command = m; sense = false }) by_reset
+        else if q then story_with_over b (sense_item m) else b).sent.over (command_item m) ≡ true
+    was true q e = over_more (command_item m) b.sent.over (command_item m) e
+    was false true e = over_more (sense_item m) b.sent.over (command_item m) e
     was false false e = e
 
-    go : (o : Bool) → has_item b.sent.over (command_item n) ≡ o → (q : Bool)
-        → has_item (if (has_item b.sent.sent (command_item n) && not (has_item b.sent.over (command_item n))) && true
-        then story_with_end b (record { command = n; sense = false }) by_reset
-        else if q then story_with_over b (sense_item n) else b).sent.over (command_item n) ≡ true
-    go true e q = was (is_open b.sent n && true) q e
+    go : (o : Bool) → has_item b.sent.over (command_item m) ≡ o → (q : Bool)
+        → has_item (if (has_item b.sent.sent (command_item m) && not (has_item b.sent.over (command_item m))) && true
+        then story_with_end b (record { command = m; sense = false }) by_reset
+        else if q then story_with_over b (sense_item m) else b).sent.over (command_item m) ≡ true
+    go true e q = was (is_open b.sent m && true) q e
     go false e q = (λ i. has_item
-        (if (sent i && not (e i)) && true then story_with_end b (record { command = n; sense = false }) by_reset
-        else if q then story_with_over b (sense_item n) else b).sent.over (command_item n))
-        ∙ over_put b.sent.over (command_item n) (self_id (record { command = n; sense = false }))
+        (if (sent i && not (e i)) && true then story_with_end b (record { command = m; sense = false }) by_reset
+        else if q then story_with_over b (sense_item m) else b).sent.over (command_item m))
+        ∙ over_put b.sent.over (command_item m) (self_id (record { command = m; sense = false }))
 
-pub reset_over : (commands : List CmdDef) (n i m : ℕ) (c : CmdDef) (b : Story) → m ≡ n + i
+pub reset_over : (commands : List CmdDef) (l i m : ℕ) (c : CmdDef) (b : Story) → m ≡ l + i
     → command_at commands (suc i) ≡ Some c → has_item b.sent.sent (command_item m) ≡ true
-    → has_item (story_with_ends (λ c. true) (λ c. true) by_reset n commands b).sent.over (command_item m) ≡ true
-reset_over [] n i m c b e f sent = absurd (none_some f)
+    → has_item (story_with_ends (λ c. true) (λ c. true) by_reset l commands b).sent.over (command_item m) ≡ true
+reset_over [] l i m c b e f sent = absurd (none_some f)
   where
     none_some : (let o : Option CmdDef = None in o) ≡ Some c → ⊥
     none_some z = cc
-reset_over (d ∷ commands) n zero m c b e f sent =
-    let is : m ≡ n = e ∙ plus_none n in
-    ends_over (λ c. true) (λ c. true) by_reset (n + 1) commands (reset_step n d b) (command_item m)
-    (subst (λ (x : ℕ). has_item (reset_step n d b).sent.over (command_item x) ≡ true) (sym is)
-    (step_over n d b (subst (λ (x : ℕ). has_item b.sent.sent (command_item x) ≡ true) is sent)))
-reset_over (d ∷ commands) n (suc i) m c b e f sent = reset_over commands (n + 1) i m c (reset_step n d b)
-    (e ∙ plus_one n i) f (ap (λ (x : List Item). has_item x (command_item m)) (step_sent n d b) ∙ sent)
+reset_over (d ∷ commands) l zero m c b e f sent =
+    let is : m ≡ l = e ∙ plus_none l in
+    ends_over (λ c. true) (λ c. true) by_reset (l + 1) commands (reset_step l d b) (command_item m)
+    (subst (λ (x : ℕ). has_item (reset_step l d b).sent.over (command_item x) ≡ true) (sym is)
+    (step_over l d b (subst (λ (x : ℕ). has_item b.sent.sent (command_item x) ≡ true) is sent)))
+reset_over (d ∷ commands) l (suc i) m c b e f sent = reset_over commands (l + 1) i m c (reset_step l d b)
+    (e ∙ plus_one l i) f (ap (λ (x : List Item). has_item x (command_item m)) (step_sent l d b) ∙ sent)
 
 -- With the row that raises RST a command that was sent is over.
 pub command_over : (s : ScenarioValue) (k : RunState) (row : Row) (id : ProcId) (q : Process)

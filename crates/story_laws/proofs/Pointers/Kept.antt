@@ -17,55 +17,55 @@ active_as a b x e h = ap (λ (y : Area). y.active) e ∙ h
 
 calm_as : (policy : Policy) (l : Link) (c d : CarriedBytes) (m : Messages) (next : Next) (start : ℕ) → SamePointers d c
     → IsCalm policy l c m next start → IsCalm policy l d m next start
-calm_as policy l c d m next start s h =
-    record { here = at_as d.moved c.moved start s.moved h.here; undone = h.undone; plain = h.plain }
+calm_as policy l c d m next start e h =
+    record { here = at_as d.moved c.moved start e.moved h.here; undone = h.undone; plain = h.plain }
 
 in_as : (policy : Policy) (l : Link) (c d : CarriedBytes) (m : Messages) (next : Next) (count start : ℕ)
     → SamePointers d c → PointersIn policy l c m next count start → PointersIn policy l d m next count start
-in_as policy l c d m next count start s (calm h) = calm (calm_as policy l c d m next start s h)
-in_as policy l c d m next count start s (restores em en u e w) =
-    restores em en u (saved_as d.moved c.moved start s.moved e) (go w)
+in_as policy l c d m next count start f (calm h) = calm (calm_as policy l c d m next start f h)
+in_as policy l c d m next count start f (restores em en u e w) =
+    restores em en u (saved_as d.moved c.moved start f.moved e) (go w)
   where
     go : (count ≡ 0) ⊎ ((c.moved.active ≡ start) × OnUndo (λ (u : CarriedBytes). u.moved.saved ≡ start) l.undo)
         → (count ≡ 0) ⊎ ((d.moved.active ≡ start) × OnUndo (λ (u : CarriedBytes). u.moved.saved ≡ start) l.undo)
     go (inl z) = inl z
-    go (inr z) = inr (active_as d.moved c.moved start s.moved z.0, z.1)
-in_as policy l c d m next count start s (saves em en u z e) =
-    saves em en u z (active_as d.moved c.moved start s.moved e)
-in_as policy l c d m next count start s (saved em en u b z e w) =
-    saved em en u b z (at_as d.moved c.moved start s.moved e) w
-in_as policy l c d m next count start s (disconnects em en e w) =
-    disconnects em en (saved_as d.moved c.moved start s.moved e) w
-in_as policy l c d m next count start s (closes em en e w) = closes em en (s.marked e) w
+    go (inr z) = inr (active_as d.moved c.moved start f.moved z.0, z.1)
+in_as policy l c d m next count start f (saves em en u z e) =
+    saves em en u z (active_as d.moved c.moved start f.moved e)
+in_as policy l c d m next count start f (saved em en u b z e w) =
+    saved em en u b z (at_as d.moved c.moved start f.moved e) w
+in_as policy l c d m next count start f (disconnects em en e w) =
+    disconnects em en (saved_as d.moved c.moved start f.moved e) w
+in_as policy l c d m next count start f (closes em en e w) = closes em en (f.marked e) w
 
 refused_as : (policy : Policy) (l : Link) (c d : CarriedBytes) (m : Messages) (next : Next) (start : ℕ)
     → SamePointers d c → PointersRefused policy l c m next start → PointersRefused policy l d m next start
-refused_as policy l c d m next start s (still_calm h) = still_calm (calm_as policy l c d m next start s h)
-refused_as policy l c d m next start s (restores_again em en u e w) =
-    restores_again em en u (saved_as d.moved c.moved start s.moved e) w
-refused_as policy l c d m next start s (saves_again em en u b e w) =
-    saves_again em en u b (active_as d.moved c.moved start s.moved e) w
-refused_as policy l c d m next start s (disconnects_again em en e w) =
-    disconnects_again em en (saved_as d.moved c.moved start s.moved e) w
-refused_as policy l c d m next start s (closes_again em en e w) = closes_again em en (s.marked e) w
+refused_as policy l c d m next start f (still_calm h) = still_calm (calm_as policy l c d m next start f h)
+refused_as policy l c d m next start f (restores_again em en u e w) =
+    restores_again em en u (saved_as d.moved c.moved start f.moved e) w
+refused_as policy l c d m next start f (saves_again em en u b e w) =
+    saves_again em en u b (active_as d.moved c.moved start f.moved e) w
+refused_as policy l c d m next start f (disconnects_again em en e w) =
+    disconnects_again em en (saved_as d.moved c.moved start f.moved e) w
+refused_as policy l c d m next start f (closes_again em en e w) = closes_again em en (f.marked e) w
 
 settled_as : (l : Link) (c d : CarriedBytes) (start : ℕ) → SamePointers d c → IsSettled l c start → IsSettled l d start
-settled_as l c d start s h = record { here = at_as d.moved c.moved start s.moved h.here; undone = h.undone }
+settled_as l c d start e h = record { here = at_as d.moved c.moved start e.moved h.here; undone = h.undone }
 
 pub record SamePlan (a b : Plan) : Type 0 where
   pub messages : a.messages ≡ b.messages
   pub next : a.next ≡ b.next
   pub cause : a.cause ≡ b.cause
 
-asked_as : (policy : Policy) (l : Link) (c d : CarriedBytes) (p q : Plan) (start : ℕ) → SamePointers d c → SamePlan q p
-    → (cause : Cause) → PointersAsked policy l c p start cause → PointersAsked policy l d q start cause
-asked_as policy l c d p q start s e Cause.Selected h = settled_as l c d start s h
-asked_as policy l c d p q start s e Cause.InMessage h = subst
+asked_as : (policy : Policy) (l : Link) (c d : CarriedBytes) (a q : Plan) (start : ℕ) → SamePointers d c → SamePlan q a
+    → (cause : Cause) → PointersAsked policy l c a start cause → PointersAsked policy l d q start cause
+asked_as policy l c d a q start f e Cause.Selected h = settled_as l c d start f h
+asked_as policy l c d a q start f e Cause.InMessage h = subst
     (λ (m : Messages). PointersRefused policy l d m q.next start) (sym e.messages)
-    (subst (λ (n : Next). PointersRefused policy l d p.messages n start) (sym e.next)
-    (refused_as policy l c d p.messages p.next start s h))
-asked_as policy l c d p q start s e Cause.InData h = (h.0, saved_as d.moved c.moved start s.moved h.1)
-asked_as policy l c d p q start s e Cause.InStatus h = s.marked h
+    (subst (λ (x : Next). PointersRefused policy l d a.messages x start) (sym e.next)
+    (refused_as policy l c d a.messages a.next start f h))
+asked_as policy l c d a q start f e Cause.InData h = (h.0, saved_as d.moved c.moved start f.moved h.1)
+asked_as policy l c d a q start f e Cause.InStatus h = f.marked h
 
 -- The bytes of this phase that were asked for, or answered, are as many.
 pub record AreCountedSo (phase : Phase) (h g : Handshakes) : Type 0 where
@@ -77,56 +77,56 @@ pub counted_same : (phase : Phase) (h : Handshakes) → AreCountedSo phase h h
 counted_same phase h = record { said = λ z. refl; given = λ z. refl; sent = λ z. refl }
 
 pub pointers_as :
-    (policy : Policy) (l : Link) (c d : CarriedBytes) (p q : Plan) (h g : Handshakes) (start : ℕ) (phase : Phase)
-    → SamePointers d c → SamePlan q p → AreCountedSo phase h g → PointersOf policy l c p h start phase
+    (policy : Policy) (l : Link) (c d : CarriedBytes) (a q : Plan) (h g : Handshakes) (start : ℕ) (phase : Phase)
+    → SamePointers d c → SamePlan q a → AreCountedSo phase h g → PointersOf policy l c a h start phase
     → PointersOf policy l d q g start phase
-pointers_as policy l c d p q h g start Phase.Command s e r k = settled_as l c d start s k
-pointers_as policy l c d p q h g start Phase.DataOut s e r k = record {
-  plain = k.plain;
+pointers_as policy l c d a q h g start Phase.Command f e r z = settled_as l c d start f z
+pointers_as policy l c d a q h g start Phase.DataOut f e r z = record {
+  plain = z.plain;
   active =
-      active_as d.moved c.moved (start + g.answers) s.moved (k.active ∙ ap (λ (x : ℕ). start + x) (sym (r.sent refl)));
-  saved = saved_as d.moved c.moved start s.moved k.saved;
+      active_as d.moved c.moved (start + g.answers) f.moved (z.active ∙ ap (λ (x : ℕ). start + x) (sym (r.sent refl)));
+  saved = saved_as d.moved c.moved start f.moved z.saved;
 }
-pointers_as policy l c d p q h g start Phase.DataIn s e r k = record {
-  plain = k.plain;
-  active = active_as d.moved c.moved (start + g.requests) s.moved
-      (k.active ∙ ap (λ (x : ℕ). start + x) (sym (r.given refl)));
-  saved = saved_as d.moved c.moved start s.moved k.saved;
+pointers_as policy l c d a q h g start Phase.DataIn f e r z = record {
+  plain = z.plain;
+  active = active_as d.moved c.moved (start + g.requests) f.moved
+      (z.active ∙ ap (λ (x : ℕ). start + x) (sym (r.given refl)));
+  saved = saved_as d.moved c.moved start f.moved z.saved;
 }
-pointers_as policy l c d p q h g start Phase.Status s e r k = s.marked k
-pointers_as policy l c d p q h g start Phase.MessageIn s e r k = subst
+pointers_as policy l c d a q h g start Phase.Status f e r z = f.marked z
+pointers_as policy l c d a q h g start Phase.MessageIn f e r z = subst
     (λ (m : Messages). PointersIn policy l d m q.next g.requests start) (sym e.messages)
-    (subst (λ (n : Next). PointersIn policy l d p.messages n g.requests start) (sym e.next)
-    (subst (λ (x : ℕ). PointersIn policy l d p.messages p.next x start) (sym (r.said refl))
-    (in_as policy l c d p.messages p.next h.requests start s k)))
-pointers_as policy l c d p q h g start Phase.MessageOut s e r k = subst
-    (λ (x : Cause). PointersAsked policy l d q start x) (sym e.cause) (asked_as policy l c d p q start s e p.cause k)
+    (subst (λ (y : Next). PointersIn policy l d a.messages y g.requests start) (sym e.next)
+    (subst (λ (x : ℕ). PointersIn policy l d a.messages a.next x start) (sym (r.said refl))
+    (in_as policy l c d a.messages a.next h.requests start f z)))
+pointers_as policy l c d a q h g start Phase.MessageOut f e r z = subst
+    (λ (x : Cause). PointersAsked policy l d q start x) (sym e.cause) (asked_as policy l c d a q start f e a.cause z)
 
 -- Whether a phase has begun or not.
 pub by_as :
     (policy : Policy) (l : Link) (c d : CarriedBytes) (x y : Exchange) (h g : Handshakes) (b w : LineSet) (start : ℕ)
     → SamePointers d c → SamePlan y.plan x.plan → y.begun ≡ x.begun → phase_of w ≡ phase_of b
     → AreCountedSo (phase_of b) h g → PointersBy policy l c x h b start → PointersBy policy l d y g w start
-by_as policy l c d x y h g b w start s e eb ep r k =
+by_as policy l c d x y h g b w start f e eb ep r v =
     subst (λ (q : Bool). PointersIf q policy l d y.plan g start (phase_of w)) (sym eb)
-    (subst (λ (z : Phase). PointersIf x.begun policy l d y.plan g start z) (sym ep) (go x.begun k))
+    (subst (λ (z : Phase). PointersIf x.begun policy l d y.plan g start z) (sym ep) (go x.begun v))
   where
     go : (q : Bool) → PointersIf q policy l c x.plan h start (phase_of b)
         → PointersIf q policy l d y.plan g start (phase_of b)
-    go true k = pointers_as policy l c d x.plan y.plan h g start (phase_of b) s e r k
-    go false k = settled_as l c d start s k
+    go true v = pointers_as policy l c d x.plan y.plan h g start (phase_of b) f e r v
+    go false v = settled_as l c d start f v
 
 pub unnamed_as : (policy : Policy) (l : Link) (c d : CarriedBytes) (x y : Exchange) (b w : LineSet) (start : ℕ)
     → SamePointers d c → SamePlan y.plan x.plan → y.begun ≡ x.begun → phase_of w ≡ phase_of b
     → IsUnnamed policy l c x b start → IsUnnamed policy l d y w start
-unnamed_as policy l c d x y b w start s e eb ep h = record {
+unnamed_as policy l c d x y b w start f e eb ep h = record {
   begun = eb ∙ h.begun;
   undone = h.undone;
   undisturbed = h.undisturbed;
   next = e.next ∙ h.next;
   plain = subst (λ (m : Messages). Rattle.row_laws.specs.book_laws.specs.Giving.OnMessages
       Rattle.row_laws.specs.DataPointers.IsPlainIn m) (sym e.messages) h.plain;
-  saved = saved_as d.moved c.moved start s.moved h.saved;
+  saved = saved_as d.moved c.moved start f.moved h.saved;
   phase = go h.phase;
 }
   where

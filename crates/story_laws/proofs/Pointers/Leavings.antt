@@ -59,14 +59,14 @@ settled_run : (policy : Policy) (l : Link) (c : CarriedBytes) (start : ℕ) → 
     → IsInRun policy l c 0 start
 settled_run policy l c start u h = record { plain = u; active = h.active ∙ none start; saved = h.saved }
   where
-    none : (n : ℕ) → n ≡ n + 0
-    none n = omega arith
+    none : (m : ℕ) → m ≡ m + 0
+    none m = omega arith
 
 -- ---- by the phase
 
 nameless_calm : (policy : Policy) (l : Link) (c : CarriedBytes) (m : Messages) (next : Next) (start : ℕ)
     → (next ≡ Next.GoOn → ⊥) → OnMessages IsNoName m → IsSettled l c start → PointersIn policy l c m next 0 start
-nameless_calm policy l c m next start n o h = calm (record { here = h.here; undone = h.undone; plain = inr (n, o) })
+nameless_calm policy l c m next start f o h = calm (record { here = h.here; undone = h.undone; plain = inr (f, o) })
 
 command_on : Next.Command ≡ Next.GoOn → ⊥
 command_on e = absurd cc
@@ -77,9 +77,9 @@ free_on e = absurd cc
 said : (policy : Policy) (l : Link) (c : CarriedBytes) (made step : ℕ) (m : MsgIn) (next : Next)
     → (next ≡ Next.GoOn → ⊥) → IsNoName m → IsSettled l c (made * step)
     → EntersBy policy l c made step (message_in_entry (one_message m) next)
-said policy l c made step m next on n h =
+said policy l c made step m next on e h =
     same_start policy l c made step (one_message m) next (Some Phase.MessageIn)
-    (nameless_calm policy l c (one_message m) next (made * step) on (n, tt) h)
+    (nameless_calm policy l c (one_message m) next (made * step) on (e, tt) h)
 
 -- Refused messages come again, or COMMAND follows an answer.
 again : (policy : Policy) (l : Link) (c : CarriedBytes) (m : Messages) (next : Next) (start : ℕ)
@@ -102,21 +102,21 @@ free_command e = absurd cc
 
 refused_settled : (policy : Policy) (l : Link) (c : CarriedBytes) (m : Messages) (next : Next) (start : ℕ)
     → next ≡ Next.Command → PointersRefused policy l c m next start → IsSettled l c start
-refused_settled policy l c m next start n (still_calm h) = record { here = h.here; undone = h.undone }
-refused_settled policy l c m next start n (restores_again em en u e w) = on_command (sym en ∙ n)
-refused_settled policy l c m next start n (saves_again em en u b e w) = free_command (sym en ∙ n)
-refused_settled policy l c m next start n (disconnects_again em en e w) = free_command (sym en ∙ n)
-refused_settled policy l c m next start n (closes_again em en e w) = closing_command next en n
+refused_settled policy l c m next start f (still_calm h) = record { here = h.here; undone = h.undone }
+refused_settled policy l c m next start f (restores_again em en u e w) = on_command (sym en ∙ f)
+refused_settled policy l c m next start f (saves_again em en u b e w) = free_command (sym en ∙ f)
+refused_settled policy l c m next start f (disconnects_again em en e w) = free_command (sym en ∙ f)
+refused_settled policy l c m next start f (closes_again em en e w) = closing_command next en f
 
 -- MESSAGE IN, all of which has crossed.
 in_settled : (policy : Policy) (l : Link) (c : CarriedBytes) (m : Messages) (next : Next) (count start : ℕ)
     → next ≡ Next.Command → PointersIn policy l c m next count start → IsSettled l c start
-in_settled policy l c m next count start n (calm h) = record { here = h.here; undone = h.undone }
-in_settled policy l c m next count start n (restores em en u e w) = on_command (sym en ∙ n)
-in_settled policy l c m next count start n (saves em en u z e) = free_command (sym en ∙ n)
-in_settled policy l c m next count start n (saved em en u b z e w) = free_command (sym en ∙ n)
-in_settled policy l c m next count start n (disconnects em en e w) = free_command (sym en ∙ n)
-in_settled policy l c m next count start n (closes em en e w) = closing_command next en n
+in_settled policy l c m next count start f (calm h) = record { here = h.here; undone = h.undone }
+in_settled policy l c m next count start f (restores em en u e w) = on_command (sym en ∙ f)
+in_settled policy l c m next count start f (saves em en u z e) = free_command (sym en ∙ f)
+in_settled policy l c m next count start f (saved em en u b z e w) = free_command (sym en ∙ f)
+in_settled policy l c m next count start f (disconnects em en e w) = free_command (sym en ∙ f)
+in_settled policy l c m next count start f (closes em en e w) = closing_command next en f
 
 free_go : {A : Type 0} → Next.FreeBus ≡ Next.GoOn → A
 free_go e = absurd cc
@@ -127,32 +127,32 @@ closing_go next (inr z) e = absurd (let bad : Next.FreeBus ≡ Next.GoOn = sym z
 
 in_run : (policy : Policy) (l : Link) (c : CarriedBytes) (m : Messages) (next : Next) (count start : ℕ)
     → (count == 0) ≡ false → next ≡ Next.GoOn → PointersIn policy l c m next count start → IsInRun policy l c 0 start
-in_run policy l c m next count start asked n (calm h) =
-    elim h.plain [ inl z ↦ settled_run policy l c start z.1 h.here | inr z ↦ absurd (z.0 n) ]
-in_run policy l c m next count start asked n (restores em en u e w) = go w
+in_run policy l c m next count start asked f (calm h) =
+    elim h.plain [ inl z ↦ settled_run policy l c start z.1 h.here | inr z ↦ absurd (z.0 f) ]
+in_run policy l c m next count start asked f (restores em en u e w) = go w
   where
     go : (count ≡ 0) ⊎ ((c.moved.active ≡ start) × OnUndo (λ (u : CarriedBytes). u.moved.saved ≡ start) l.undo)
         → IsInRun policy l c 0 start
     go (inl z) = absurd (true≢false (sym (ap (λ (x : ℕ). x == 0) z) ∙ asked))
     go (inr z) = settled_run policy l c start u (record { active = z.0; saved = e })
-in_run policy l c m next count start asked n (saves em en u z e) = free_go (sym en ∙ n)
-in_run policy l c m next count start asked n (saved em en u b z e w) = free_go (sym en ∙ n)
-in_run policy l c m next count start asked n (disconnects em en e w) = free_go (sym en ∙ n)
-in_run policy l c m next count start asked n (closes em en e w) = closing_go next en n
+in_run policy l c m next count start asked f (saves em en u z e) = free_go (sym en ∙ f)
+in_run policy l c m next count start asked f (saved em en u b z e w) = free_go (sym en ∙ f)
+in_run policy l c m next count start asked f (disconnects em en e w) = free_go (sym en ∙ f)
+in_run policy l c m next count start asked f (closes em en e w) = closing_go next en f
 
-no_less : (n m : ℕ) → m ≡ 0 → nat_lt n m ≡ false
-no_less n m e = grind (arith, nat_tests)
+no_less : (i m : ℕ) → m ≡ 0 → nat_lt i m ≡ false
+no_less i m e = grind (arith, nat_tests)
 
 -- The next run begins where the pointers stand at it.
 goes_on : (policy : Policy) (l : Link) (c : CarriedBytes) (step : ℕ) (v : Serving) (h : Handshakes) (t u : Task)
     (writes : Bool) {atn : Bool} {phase : Phase} → ways.GoesOn v atn phase → ways.NextRun v u writes
     → MovesBy policy v h t step phase → (phase ≡ Phase.MessageIn → (h.requests == 0) ≡ false)
     → PointersOf policy l c v.plan h (t.runs * step) phase → IsInRun policy l c 0 (t.runs * step)
-goes_on policy l c step v h t u writes (ways.planned _ e) r w asked k =
-    in_run policy l c v.plan.messages v.plan.next h.requests (t.runs * step) (asked refl) e k
-goes_on policy l c step v h t u writes (ways.at_once _ a) r w asked k =
-    settled_run policy l c (t.runs * step) (inl (w.at_once a)) k.here
-goes_on policy l c step v h t u writes (ways.guest _ a) r w asked k = by (w.guest a)
+goes_on policy l c step v h t u writes (ways.planned _ e) r w asked f =
+    in_run policy l c v.plan.messages v.plan.next h.requests (t.runs * step) (asked refl) e f
+goes_on policy l c step v h t u writes (ways.at_once _ a) r w asked f =
+    settled_run policy l c (t.runs * step) (inl (w.at_once a)) f.here
+goes_on policy l c step v h t u writes (ways.guest _ a) r w asked f = by (w.guest a)
   where
     more : nat_lt t.runs (runs_in_all (policy_of v.def) t) ≡ true
     more =
@@ -160,7 +160,7 @@ goes_on policy l c step v h t u writes (ways.guest _ a) r w asked k = by (w.gues
         (same_Some u t (sym r.task_is ∙ w.task_is)) r.more
 
     by : (is_never policy ≡ true) ⊎ (runs_in_all (policy_of v.def) t ≡ 0) → IsInRun policy l c 0 (t.runs * step)
-    by (inl z) = settled_run policy l c (t.runs * step) (inl z) k.here
+    by (inl z) = settled_run policy l c (t.runs * step) (inl z) f.here
     by (inr z) = absurd (true≢false (sym more ∙ no_less t.runs (runs_in_all (policy_of v.def) t) z))
 
 -- A run is done, and more are left: it ends where the next one begins.
@@ -173,7 +173,7 @@ record RunsOn (policy : Policy) (l : Link) (c : CarriedBytes) (step : ℕ) (def 
 runs_on : (policy : Policy) (l : Link) (c : CarriedBytes) (step : ℕ) (v : Serving) (h : Handshakes) (t u : Task)
     {atn : Bool} {phase : Phase} → ways.IsMoved v atn phase → ways.DoneRun v u true → MovesBy policy v h t step phase
     → PointersOf policy l c v.plan h (t.runs * step) phase → RunsOn policy l c step (policy_of v.def) t.runs
-runs_on policy l c step v h t u m r w k = go m w k
+runs_on policy l c step v h t u m r w e = go m w e
   where
     more : nat_lt (t.runs + 1) (runs_in_all (policy_of v.def) t) ≡ true
     more =
@@ -182,8 +182,8 @@ runs_on policy l c step v h t u m r w k = go m w k
 
     go : {atn : Bool} {x : Phase} → ways.IsMoved v atn x → MovesBy policy v h t step x
         → PointersOf policy l c v.plan h (t.runs * step) x → RunsOn policy l c step (policy_of v.def) t.runs
-    go (ways.given _) w k = record { same = w.cut more; count = h.requests; more = w.given refl more; here = k }
-    go (ways.sent s) w k = record { same = w.cut more; count = h.answers; more = w.sent refl s more; here = k }
+    go (ways.given _) w e = record { same = w.cut more; count = h.requests; more = w.given refl more; here = e }
+    go (ways.sent s) w e = record { same = w.cut more; count = h.answers; more = w.sent refl s more; here = e }
 
 saves_run : (policy : Policy) (l : Link) (c : CarriedBytes) (step : ℕ) (def : Policy) (runs : ℕ)
     → disconnect_messages def ≡ two_messages MsgIn.SavePointer MsgIn.Disconnect
@@ -232,7 +232,7 @@ Leads policy l c made step phase x =
 asked : (policy : Policy) (l : Link) (c : CarriedBytes) (v : Serving) (start : ℕ) (cause : Cause)
     → v.plan.cause ≡ cause → PointersAsked policy l c v.plan start v.plan.cause
     → PointersAsked policy l c v.plan start cause
-asked policy l c v start cause e k = subst (PointersAsked policy l c v.plan start) e k
+asked policy l c v start cause e h = subst (PointersAsked policy l c v.plan start) e h
 
 enter : (policy : Policy) (l : Link) (c : CarriedBytes) (step : ℕ) (v : Serving) (h : Handshakes) (t : Task)
     {atn : Bool} {phase : Phase} {x : Leaving} → ways.Leaves v atn phase x → MovesBy policy v h t step phase
@@ -240,57 +240,57 @@ enter : (policy : Policy) (l : Link) (c : CarriedBytes) (step : ℕ) (v : Servin
     → (phase ≡ Phase.MessageOut → v.plan.cause ≡ Cause.InMessage → is_some v.plan.said.offer ≡ true
     → v.plan.next ≡ Next.Command)
     → PointersOf policy l c v.plan h (t.runs * step) phase → Leads policy l c t.runs step phase x
-enter policy l c step v h t (ways.attended _ ways.in_message _) w some answers k = inl (refl, refl, refl)
-enter policy l c step v h t (ways.attended _ ways.in_data _) w some answers k = inl (refl, refl, refl)
-enter policy l c step v h t (ways.attended _ ways.in_status _) w some answers k = inl (refl, refl, refl)
-enter policy l c step v h t (ways.rejects _ o _) w some answers k =
+enter policy l c step v h t (ways.attended _ ways.in_message _) w some answers f = inl (refl, refl, refl)
+enter policy l c step v h t (ways.attended _ ways.in_data _) w some answers f = inl (refl, refl, refl)
+enter policy l c step v h t (ways.attended _ ways.in_status _) w some answers f = inl (refl, refl, refl)
+enter policy l c step v h t (ways.rejects _ o _) w some answers f =
     inr (said policy l c t.runs step MsgIn.Reject Next.Command command_on refl
-    (asked policy l c v (t.runs * step) Cause.Selected o.cause k))
-enter policy l c step v h t (ways.answers offer o _) w some answers k =
+    (asked policy l c v (t.runs * step) Cause.Selected o.cause f))
+enter policy l c step v h t (ways.answers offer o _) w some answers f =
     inr (said policy l c t.runs step (MsgIn.Sdtr (target_answer v.def offer)) Next.Command command_on refl
-    (asked policy l c v (t.runs * step) Cause.Selected o.cause k))
-enter policy l c step v h t (ways.requests u o _ _) w some answers k =
+    (asked policy l c v (t.runs * step) Cause.Selected o.cause f))
+enter policy l c step v h t (ways.requests u o _ _) w some answers f =
     inr (said policy l c t.runs step (MsgIn.Sdtr (record { period = u.period; offset = u.offset }))
-    Next.Command command_on refl (asked policy l c v (t.runs * step) Cause.Selected o.cause k))
-enter policy l c step v h t (ways.opens o _) w some answers k =
+    Next.Command command_on refl (asked policy l c v (t.runs * step) Cause.Selected o.cause f))
+enter policy l c step v h t (ways.opens o _) w some answers f =
     inr (same_start policy l c t.runs step no_messages Next.FreeBus (Some Phase.Command)
-    (asked policy l c v (t.runs * step) Cause.Selected o.cause k))
-enter policy l c step v h t (ways.is_answered d e) w some answers k =
+    (asked policy l c v (t.runs * step) Cause.Selected o.cause f))
+enter policy l c step v h t (ways.is_answered d e) w some answers f =
     inr (same_start policy l c t.runs step no_messages Next.FreeBus (Some Phase.Command)
     (refused_settled policy l c v.plan.messages v.plan.next (t.runs * step) (answers refl d e)
-    (asked policy l c v (t.runs * step) Cause.InMessage d k)))
-enter policy l c step v h t (ways.repeats _ r) w some answers k =
+    (asked policy l c v (t.runs * step) Cause.InMessage d f)))
+enter policy l c step v h t (ways.repeats _ r) w some answers f =
     inr (same_start policy l c t.runs step v.plan.messages v.plan.next (Some Phase.MessageIn)
     (again policy l c v.plan.messages v.plan.next (t.runs * step)
-    (asked policy l c v (t.runs * step) Cause.InMessage r.cause k)))
-enter policy l c step v h t (ways.restores _ _ _ (ways.command _)) w some answers k =
-    inr (said policy l c t.runs step MsgIn.RestorePointers Next.Command command_on refl k)
-enter policy l c step v h t (ways.restores _ _ _ (ways.data_out _)) w some answers k =
+    (asked policy l c v (t.runs * step) Cause.InMessage r.cause f)))
+enter policy l c step v h t (ways.restores _ _ _ (ways.command _)) w some answers f =
+    inr (said policy l c t.runs step MsgIn.RestorePointers Next.Command command_on refl f)
+enter policy l c step v h t (ways.restores _ _ _ (ways.data_out _)) w some answers f =
     inr (same_start policy l c t.runs step (one_message MsgIn.RestorePointers) Next.GoOn
-    (Some Phase.MessageIn) (restores refl refl k.plain k.saved (inl refl)))
-enter policy l c step v h t (ways.restores _ _ _ (ways.data_in d)) w some answers k =
-    let q = asked policy l c v (t.runs * step) Cause.InData d k in
+    (Some Phase.MessageIn) (restores refl refl f.plain f.saved (inl refl)))
+enter policy l c step v h t (ways.restores _ _ _ (ways.data_in d)) w some answers f =
+    let q = asked policy l c v (t.runs * step) Cause.InData d f in
     inr (same_start policy l c t.runs step (one_message MsgIn.RestorePointers) Next.GoOn
     (Some Phase.MessageIn) (restores refl refl q.0 q.1 (inl refl)))
-enter policy l c step v h t (ways.restores_status _ d) w some answers k =
-    inr (closes (inr refl) (inl refl) (asked policy l c v (t.runs * step) Cause.InStatus d k) (inl refl))
-enter policy l c step v h t (ways.commands _ e) w some answers k =
+enter policy l c step v h t (ways.restores_status _ d) w some answers f =
+    inr (closes (inr refl) (inl refl) (asked policy l c v (t.runs * step) Cause.InStatus d f) (inl refl))
+enter policy l c step v h t (ways.commands _ e) w some answers f =
     inr (same_start policy l c t.runs step no_messages Next.FreeBus (Some Phase.Command)
-    (in_settled policy l c v.plan.messages v.plan.next h.requests (t.runs * step) e k))
-enter policy l c step v h t (ways.reads _ u g r) w some answers k =
+    (in_settled policy l c v.plan.messages v.plan.next h.requests (t.runs * step) e f))
+enter policy l c step v h t (ways.reads _ u g r) w some answers f =
     inr (same_start policy l c t.runs step no_messages Next.FreeBus (Some Phase.DataIn)
-    (goes_on policy l c step v h t u false g r w some k))
-enter policy l c step v h t (ways.writes _ u g r) w some answers k =
+    (goes_on policy l c step v h t u false g r w some f))
+enter policy l c step v h t (ways.writes _ u g r) w some answers f =
     inr (same_start policy l c t.runs step no_messages Next.FreeBus (Some Phase.DataOut)
-    (goes_on policy l c step v h t u true g r w some k))
-enter policy l c step v h t (ways.queues _ _) w some answers k =
-    inr (said policy l c t.runs step MsgIn.Disconnect Next.FreeBus free_on refl k)
-enter policy l c step v h t (ways.saves _ u m r d) w some answers k =
-    inr (saves_run policy l c step (policy_of v.def) t.runs d (runs_on policy l c step v h t u m r w k))
-enter policy l c step v h t (ways.disconnects _ u m r d) w some answers k =
-    inr (disconnects_run policy l c step (policy_of v.def) t.runs d (runs_on policy l c step v h t u m r w k))
-enter policy l c step v h t (ways.completes _) w some answers k = inr (closes (inl refl) (inr refl) k (inl refl))
-enter policy l c step v h t _ w some answers k = inr tt
+    (goes_on policy l c step v h t u true g r w some f))
+enter policy l c step v h t (ways.queues _ _) w some answers f =
+    inr (said policy l c t.runs step MsgIn.Disconnect Next.FreeBus free_on refl f)
+enter policy l c step v h t (ways.saves _ u m r d) w some answers f =
+    inr (saves_run policy l c step (policy_of v.def) t.runs d (runs_on policy l c step v h t u m r w f))
+enter policy l c step v h t (ways.disconnects _ u m r d) w some answers f =
+    inr (disconnects_run policy l c step (policy_of v.def) t.runs d (runs_on policy l c step v h t u m r w f))
+enter policy l c step v h t (ways.completes _) w some answers f = inr (closes (inl refl) (inr refl) f (inl refl))
+enter policy l c step v h t _ w some answers f = inr tt
 
 pub leaves_enter : (policy : Policy) (l : Link) (c : CarriedBytes) (step : ℕ)
     (v : Serving) (h : Handshakes) (t : Task) (atn : Bool) (phase : Phase)
@@ -302,15 +302,15 @@ leaves_enter policy l c step v h t atn phase = enter policy l c step v h t (ways
 
 -- ---- refused messages, before the process is named
 
-pub record IsRepeated (p : Plan) (x : Leaving) (phase : Phase) : Type 0 where
+pub record IsRepeated (l : Plan) (x : Leaving) (phase : Phase) : Type 0 where
   pub phase_is : phase ≡ Phase.MessageIn
-  pub messages : x.messages ≡ p.messages
-  pub next : x.next ≡ p.next
+  pub messages : x.messages ≡ l.messages
+  pub next : x.next ≡ l.next
   pub done : x.done ≡ false
 
-repeated_by : (p : Plan) (phase : Phase) → (message_repetition p).to ≡ Some phase
-    → IsRepeated p (message_repetition p) phase
-repeated_by p phase e =
+repeated_by : (l : Plan) (phase : Phase) → (message_repetition l).to ≡ Some phase
+    → IsRepeated l (message_repetition l) phase
+repeated_by l phase e =
     record { phase_is = sym (same_Some Phase.MessageIn phase e); messages = refl; next = refl; done = refl }
 
 pub refusal_leads : (v : Serving) (phase : Phase) → is_some v.plan.said.offer ≡ false

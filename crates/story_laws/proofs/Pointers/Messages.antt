@@ -46,7 +46,7 @@ pub record IsHeard (m : Messages) (count : ℕ) (into : Option MsgIn) : Type 0 w
 lone : (m : Messages) (count : ℕ) (x : MsgIn) → m ≡ one_message x → is_brief x ≡ true
     → count < length (bytes_of_messages m) → count ≡ 0
 lone m count x e b h =
-    zero_below count (subst (λ (k : ℕ). count < k) (ap (λ (y : Messages). length (bytes_of_messages y)) e ∙ one x b) h)
+    zero_below count (subst (λ (i : ℕ). count < i) (ap (λ (y : Messages). length (bytes_of_messages y)) e ∙ one x b) h)
   where
     one : (y : MsgIn) → is_brief y ≡ true → length (bytes_of_messages (one_message y)) ≡ 1
     one (MsgIn.Identify lun) z = absurd (true≢false (sym z))
@@ -71,10 +71,10 @@ status_heard m count into (inr e) h = inr (lone_heard m count into MsgIn.Restore
 -- ---- a byte of MESSAGE IN
 
 calm_more :
-    (policy : Policy) (l k : Link) (c d : CarriedBytes) (m : Messages) (next : Next) (count start : ℕ) (x : MsgIn)
-    → IsHeard m count (Some x) → k.last ≡ last_in x → k.before ≡ l.last → k.undo ≡ Some c → IsAt d.moved start
-    → IsCalm policy l c m next start → IsCalm policy k d m next start
-calm_more policy l k c d m next count start x heard el eb eu at h = record {
+    (policy : Policy) (l v : Link) (c d : CarriedBytes) (m : Messages) (next : Next) (count start : ℕ) (x : MsgIn)
+    → IsHeard m count (Some x) → v.last ≡ last_in x → v.before ≡ l.last → v.undo ≡ Some c → IsAt d.moved start
+    → IsCalm policy l c m next start → IsCalm policy v d m next start
+calm_more policy l v c d m next count start x heard el eb eu at h = record {
   here = at;
   undone = subst (λ (u : Option CarriedBytes). OnUndo (λ (y : CarriedBytes). IsAt y.moved start) u) (sym eu) h.here;
   plain = go h.plain;
@@ -82,11 +82,11 @@ calm_more policy l k c d m next count start x heard el eb eu at h = record {
   where
     go : ((next ≡ Next.GoOn) × IsUndisturbed policy l × OnMessages IsPlainIn m)
         ⊎ ((next ≡ Next.GoOn → ⊥) × OnMessages IsNoName m)
-        → ((next ≡ Next.GoOn) × IsUndisturbed policy k × OnMessages IsPlainIn m)
+        → ((next ≡ Next.GoOn) × IsUndisturbed policy v × OnMessages IsPlainIn m)
         ⊎ ((next ≡ Next.GoOn → ⊥) × OnMessages IsNoName m)
     go (inl z) = inl (z.0, disturbed z.1, z.2)
       where
-        disturbed : IsUndisturbed policy l → IsUndisturbed policy k
+        disturbed : IsUndisturbed policy l → IsUndisturbed policy v
         disturbed (inl n) = inl n
         disturbed (inr w) = inr (el ∙ heard.plain z.2, eb ∙ w.0)
     go (inr z) = inr z
@@ -111,13 +111,13 @@ in_half policy l c m next count start h (closes em en e w) = go (status_heard m 
 
 -- A message is whole with it, and the initiator knows the process before and after.
 pub in_whole :
-    (policy : Policy) (l k : Link) (c : CarriedBytes) (m : Messages) (next : Next) (count start : ℕ) (x : MsgIn)
-    → IsHeard m count (Some x) → k.last ≡ last_in x → k.before ≡ l.last
-    → k.undo ≡ Some c → PointersIn policy l c m next count start
-    → PointersIn policy k (carried_after_message c x) m next (count + 1) start
-in_whole policy l k c m next count start x h el eb eu (calm q) = calm
-    (calm_more policy l k c (carried_after_message c x) m next count start x h el eb eu (message_at c x start q.here) q)
-in_whole policy l k c m next count start x h el eb eu (restores em en u e w) =
+    (policy : Policy) (l a : Link) (c : CarriedBytes) (m : Messages) (next : Next) (count start : ℕ) (x : MsgIn)
+    → IsHeard m count (Some x) → a.last ≡ last_in x → a.before ≡ l.last
+    → a.undo ≡ Some c → PointersIn policy l c m next count start
+    → PointersIn policy a (carried_after_message c x) m next (count + 1) start
+in_whole policy l a c m next count start x h el eb eu (calm q) = calm
+    (calm_more policy l a c (carried_after_message c x) m next count start x h el eb eu (message_at c x start q.here) q)
+in_whole policy l a c m next count start x h el eb eu (restores em en u e w) =
     let is : x ≡ MsgIn.RestorePointers = same_Some x MsgIn.RestorePointers
     (lone_heard m count (Some x) MsgIn.RestorePointers em refl h) in
     restores em en (disturbed u (el ∙ ap last_in is))
@@ -126,16 +126,16 @@ in_whole policy l k c m next count start x h el eb eu (restores em en u e w) =
       subst (λ (y : Option CarriedBytes). OnUndo (λ (z : CarriedBytes). z.moved.saved ≡ start) y) (sym eu) e,
     ))
   where
-    disturbed : IsUndisturbed policy l → k.last ≡ plain → IsUndisturbed policy k
+    disturbed : IsUndisturbed policy l → a.last ≡ plain → IsUndisturbed policy a
     disturbed (inl n) z = inl n
     disturbed (inr y) z = inr (z, eb ∙ y.0)
-in_whole policy l k c m next count start x h el eb eu (saves em en u z e) =
+in_whole policy l a c m next count start x h el eb eu (saves em en u z e) =
     let is : x ≡ MsgIn.SavePointer = same_Some x MsgIn.SavePointer (first_heard m count (Some x) em z h) in
     saved em en (el ∙ ap last_in is) (eb ∙ u) (ap (λ (y : ℕ). y + 1) z) (record {
       active = ap (λ (y : MsgIn). (carried_after_message c y).moved.active) is ∙ e;
       saved = ap (λ (y : MsgIn). (carried_after_message c y).moved.saved) is ∙ e;
     }) (subst (λ (y : Option CarriedBytes). OnUndo (λ (v : CarriedBytes). v.moved.active ≡ start) y) (sym eu) e)
-in_whole policy l k c m next count start x h el eb eu (saved em en u b z e w) =
+in_whole policy l a c m next count start x h el eb eu (saved em en u b z e w) =
     calm (record {
       here = message_at c x start e;
       undone = subst (λ (y : Option CarriedBytes). OnUndo (λ (v : CarriedBytes). IsAt v.moved start) y) (sym eu) e;
@@ -144,12 +144,12 @@ in_whole policy l k c m next count start x h el eb eu (saved em en u b z e w) =
   where
     not_on : Next.FreeBus ≡ Next.GoOn → ⊥
     not_on g = absurd cc
-in_whole policy l k c m next count start x h el eb eu (disconnects em en e w) =
+in_whole policy l a c m next count start x h el eb eu (disconnects em en e w) =
     let is : x ≡ MsgIn.Disconnect = same_Some x MsgIn.Disconnect
     (lone_heard m count (Some x) MsgIn.Disconnect em refl h) in
     disconnects em en (ap (λ (y : MsgIn). (carried_after_message c y).moved.saved) is ∙ e)
     (inr (subst (λ (y : Option CarriedBytes). OnUndo (λ (v : CarriedBytes). v.moved.saved ≡ start) y) (sym eu) e))
-in_whole policy l k c m next count start x h el eb eu (closes em en e w) = closes em en (message_marked c x ∙ e)
+in_whole policy l a c m next count start x h el eb eu (closes em en e w) = closes em en (message_marked c x ∙ e)
     (inr (subst (λ (y : Option CarriedBytes). OnUndo (λ (v : CarriedBytes). is_marked v ≡ true) y) (sym eu) e))
 
 -- Such a message is a name that finds none.
@@ -165,14 +165,14 @@ no_name : {A : Type 0} (x y : MsgIn) → x ≡ y → is_name y ≡ false → is_
 no_name x y e f g = absurd (true≢false (sym g ∙ ap is_name e ∙ f))
 
 pub in_lost :
-    (policy : Policy) (l k : Link) (c : CarriedBytes) (m : Messages) (next : Next) (count start : ℕ) (x : MsgIn)
-    → IsHeard m count (Some x) → k.last ≡ last_in x → k.before ≡ l.last → k.undo ≡ Some c → is_name x ≡ true
-    → PointersIn policy l c m next count start → IsLost policy k c m next start
-in_lost policy l k c m next count start x h el eb eu named (calm q) = go q.plain
+    (policy : Policy) (l a : Link) (c : CarriedBytes) (m : Messages) (next : Next) (count start : ℕ) (x : MsgIn)
+    → IsHeard m count (Some x) → a.last ≡ last_in x → a.before ≡ l.last → a.undo ≡ Some c → is_name x ≡ true
+    → PointersIn policy l c m next count start → IsLost policy a c m next start
+in_lost policy l a c m next count start x h el eb eu named (calm q) = go q.plain
   where
     go : ((next ≡ Next.GoOn) × IsUndisturbed policy l × OnMessages IsPlainIn m)
         ⊎ ((next ≡ Next.GoOn → ⊥) × OnMessages IsNoName m)
-        → IsLost policy k c m next start
+        → IsLost policy a c m next start
     go (inl z) = record {
       next_is = z.0;
       undisturbed = disturbed z.1;
@@ -182,37 +182,37 @@ in_lost policy l k c m next count start x h el eb eu named (calm q) = go q.plain
           (sym eu) q.here.saved;
     }
       where
-        disturbed : IsUndisturbed policy l → IsUndisturbed policy k
+        disturbed : IsUndisturbed policy l → IsUndisturbed policy a
         disturbed (inl n) = inl n
         disturbed (inr w) = inr (el ∙ h.plain z.2, eb ∙ w.0)
     go (inr z) = absurd (true≢false (sym named ∙ h.nameless z.1))
-in_lost policy l k c m next count start x h el eb eu named (restores em en u e w) = no_name x MsgIn.RestorePointers
+in_lost policy l a c m next count start x h el eb eu named (restores em en u e w) = no_name x MsgIn.RestorePointers
     (same_Some x MsgIn.RestorePointers (lone_heard m count (Some x) MsgIn.RestorePointers em refl h)) refl named
-in_lost policy l k c m next count start x h el eb eu named (saves em en u z e) =
+in_lost policy l a c m next count start x h el eb eu named (saves em en u z e) =
     no_name x MsgIn.SavePointer (same_Some x MsgIn.SavePointer (first_heard m count (Some x) em z h)) refl named
-in_lost policy l k c m next count start x h el eb eu named (saved em en u b z e w) =
+in_lost policy l a c m next count start x h el eb eu named (saved em en u b z e w) =
     no_name x MsgIn.Disconnect (same_Some x MsgIn.Disconnect (h.second z em)) refl named
-in_lost policy l k c m next count start x h el eb eu named (disconnects em en e w) = no_name x MsgIn.Disconnect
+in_lost policy l a c m next count start x h el eb eu named (disconnects em en e w) = no_name x MsgIn.Disconnect
     (same_Some x MsgIn.Disconnect (lone_heard m count (Some x) MsgIn.Disconnect em refl h)) refl named
-in_lost policy l k c m next count start x h el eb eu named (closes em en e w) = go (status_heard m count (Some x) em h)
+in_lost policy l a c m next count start x h el eb eu named (closes em en e w) = go (status_heard m count (Some x) em h)
   where
-    go : (Some x ≡ Some MsgIn.CommandComplete) ⊎ (Some x ≡ Some MsgIn.RestorePointers) → IsLost policy k c m next start
+    go : (Some x ≡ Some MsgIn.CommandComplete) ⊎ (Some x ≡ Some MsgIn.RestorePointers) → IsLost policy a c m next start
     go (inl z) = no_name x MsgIn.CommandComplete (same_Some x MsgIn.CommandComplete z) refl named
     go (inr z) = no_name x MsgIn.RestorePointers (same_Some x MsgIn.RestorePointers z) refl named
 
 -- The initiator knows the process with it.
 pub in_named :
-    (policy : Policy) (l k : Link) (c : CarriedBytes) (m : Messages) (next : Next) (count start : ℕ) (x : MsgIn)
-    → IsHeard m count (Some x) → k.last ≡ last_in x → k.before ≡ l.last → k.undo ≡ None → IsLost policy l c m next start
-    → PointersIn policy k (carried_after_message (with_restored_pointers c) x) m next (count + 1) start
-in_named policy l k c m next count start x h el eb eu q =
+    (policy : Policy) (l z : Link) (c : CarriedBytes) (m : Messages) (next : Next) (count start : ℕ) (x : MsgIn)
+    → IsHeard m count (Some x) → z.last ≡ last_in x → z.before ≡ l.last → z.undo ≡ None → IsLost policy l c m next start
+    → PointersIn policy z (carried_after_message (with_restored_pointers c) x) m next (count + 1) start
+in_named policy l z c m next count start x h el eb eu q =
     calm (record {
       here = message_at (with_restored_pointers c) x start (record { active = q.saved; saved = q.saved });
       undone = subst (λ (y : Option CarriedBytes). OnUndo (λ (v : CarriedBytes). IsAt v.moved start) y) (sym eu) tt;
       plain = inl (q.next_is, disturbed q.undisturbed, q.plain);
     })
   where
-    disturbed : IsUndisturbed policy l → IsUndisturbed policy k
+    disturbed : IsUndisturbed policy l → IsUndisturbed policy z
     disturbed (inl n) = inl n
     disturbed (inr w) = inr (el ∙ h.plain q.plain, eb ∙ w.0)
 
@@ -230,17 +230,17 @@ undone_on q false o c u h = h
 undone_on q true None c u h = h
 undone_on q true (Some v) c u h = u
 
-refusal_plain : (policy : Policy) (l k : Link) (x : MsgOut) → x ≡ MsgOut.ParityError → k.last ≡ last_out x l
-    → k.before ≡ l.before → IsUndisturbed policy l → IsUndisturbed policy k
-refusal_plain policy l k x is el eb (inl n) = inl n
-refusal_plain policy l k x is el eb (inr w) = inr (el ∙ ap (λ (y : MsgOut). last_out y l) is ∙ w.1, eb ∙ w.1)
+refusal_plain : (policy : Policy) (l z : Link) (x : MsgOut) → x ≡ MsgOut.ParityError → z.last ≡ last_out x l
+    → z.before ≡ l.before → IsUndisturbed policy l → IsUndisturbed policy z
+refusal_plain policy l z x is el eb (inl n) = inl n
+refusal_plain policy l z x is el eb (inr w) = inr (el ∙ ap (λ (y : MsgOut). last_out y l) is ∙ w.1, eb ∙ w.1)
 
 -- Where the target answers no request, MESSAGE PARITY ERROR alone is said.
-pub refused_on : (policy : Policy) (l k : Link) (c : CarriedBytes) (m : Messages) (next : Next) (start : ℕ) (x : MsgOut)
-    → ((next ≡ Next.Command) ⊎ (x ≡ MsgOut.ParityError)) → k.last ≡ last_out x l
-    → k.before ≡ l.before → k.undo ≡ l.undo → PointersRefused policy l c m next start
-    → PointersRefused policy k (or_undone (is_parity_error x) l.undo c) m next start
-refused_on policy l k c m next start x is el eb eu (still_calm h) =
+pub refused_on : (policy : Policy) (l a : Link) (c : CarriedBytes) (m : Messages) (next : Next) (start : ℕ) (x : MsgOut)
+    → ((next ≡ Next.Command) ⊎ (x ≡ MsgOut.ParityError)) → a.last ≡ last_out x l
+    → a.before ≡ l.before → a.undo ≡ l.undo → PointersRefused policy l c m next start
+    → PointersRefused policy a (or_undone (is_parity_error x) l.undo c) m next start
+refused_on policy l a c m next start x is el eb eu (still_calm h) =
     still_calm (record {
       here = undone_on (λ (y : CarriedBytes). IsAt y.moved start) (is_parity_error x) l.undo c h.undone h.here;
       undone =
@@ -250,37 +250,37 @@ refused_on policy l k c m next start x is el eb eu (still_calm h) =
   where
     go : ((next ≡ Next.GoOn) × IsUndisturbed policy l × OnMessages IsPlainIn m)
         ⊎ ((next ≡ Next.GoOn → ⊥) × OnMessages IsNoName m) → ((next ≡ Next.Command) ⊎ (x ≡ MsgOut.ParityError))
-        → ((next ≡ Next.GoOn) × IsUndisturbed policy k × OnMessages IsPlainIn m)
+        → ((next ≡ Next.GoOn) × IsUndisturbed policy a × OnMessages IsPlainIn m)
         ⊎ ((next ≡ Next.GoOn → ⊥) × OnMessages IsNoName m)
-    go (inl z) (inr w) = inl (z.0, refusal_plain policy l k x w el eb z.1, z.2)
+    go (inl z) (inr w) = inl (z.0, refusal_plain policy l a x w el eb z.1, z.2)
     go (inl z) (inl w) = absurd (let bad : Next.GoOn ≡ Next.Command = sym z.0 ∙ w in cc)
     go (inr z) w = inr z
-refused_on policy l k c m next start x is el eb eu (restores_again em en u e w) = go is
+refused_on policy l a c m next start x is el eb eu (restores_again em en u e w) = go is
   where
     go : ((next ≡ Next.Command) ⊎ (x ≡ MsgOut.ParityError))
-        → PointersRefused policy k (or_undone (is_parity_error x) l.undo c) m next start
+        → PointersRefused policy a (or_undone (is_parity_error x) l.undo c) m next start
     go (inl z) = absurd (let bad : Next.GoOn ≡ Next.Command = sym en ∙ z in cc)
-    go (inr z) = restores_again em en (refusal_plain policy l k x z el eb u)
+    go (inr z) = restores_again em en (refusal_plain policy l a x z el eb u)
         (undone_on (λ (y : CarriedBytes). y.moved.saved ≡ start) (is_parity_error x) l.undo c w e)
         (subst (λ (y : Option CarriedBytes). OnUndo (λ (v : CarriedBytes). v.moved.saved ≡ start) y) (sym eu) w)
-refused_on policy l k c m next start x is el eb eu (saves_again em en u b e w) = go is
+refused_on policy l a c m next start x is el eb eu (saves_again em en u b e w) = go is
   where
     go : ((next ≡ Next.Command) ⊎ (x ≡ MsgOut.ParityError))
-        → PointersRefused policy k (or_undone (is_parity_error x) l.undo c) m next start
+        → PointersRefused policy a (or_undone (is_parity_error x) l.undo c) m next start
     go (inl z) = absurd (let bad : Next.FreeBus ≡ Next.Command = sym en ∙ z in cc)
     go (inr z) = saves_again em en (el ∙ ap (λ (y : MsgOut). last_out y l) z ∙ b) (eb ∙ b)
         (undone_on (λ (y : CarriedBytes). y.moved.active ≡ start) (is_parity_error x) l.undo c w e)
         (subst (λ (y : Option CarriedBytes). OnUndo (λ (v : CarriedBytes). v.moved.active ≡ start) y) (sym eu) w)
-refused_on policy l k c m next start x is el eb eu (disconnects_again em en e w) = disconnects_again em en
+refused_on policy l a c m next start x is el eb eu (disconnects_again em en e w) = disconnects_again em en
     (undone_on (λ (y : CarriedBytes). y.moved.saved ≡ start) (is_parity_error x) l.undo c w e)
     (subst (λ (y : Option CarriedBytes). OnUndo (λ (v : CarriedBytes). v.moved.saved ≡ start) y) (sym eu) w)
-refused_on policy l k c m next start x is el eb eu (closes_again em en e w) = closes_again em en
+refused_on policy l a c m next start x is el eb eu (closes_again em en e w) = closes_again em en
     (undone_on (λ (y : CarriedBytes). is_marked y ≡ true) (is_parity_error x) l.undo c w e)
     (subst (λ (y : Option CarriedBytes). OnUndo (λ (v : CarriedBytes). is_marked v ≡ true) y) (sym eu) w)
 
-pub settled_on : (l k : Link) (c : CarriedBytes) (start : ℕ) (r : Bool) → k.undo ≡ l.undo → IsSettled l c start
-    → IsSettled k (or_undone r l.undo c) start
-settled_on l k c start r eu h = record {
+pub settled_on : (l x : Link) (c : CarriedBytes) (start : ℕ) (r : Bool) → x.undo ≡ l.undo → IsSettled l c start
+    → IsSettled x (or_undone r l.undo c) start
+settled_on l x c start r eu h = record {
   here = undone_on (λ (y : CarriedBytes). IsAt y.moved start) r l.undo c h.undone h.here;
   undone = subst (λ (y : Option CarriedBytes). OnUndo (λ (v : CarriedBytes). IsAt v.moved start) y) (sym eu) h.undone;
 }
@@ -348,31 +348,31 @@ nil_of (x ∷ before) b rest w e =
     absurd omega (arith, l, m)
 
 -- Words of one byte: that is said, and nothing is half heard before it.
-said_alone : (v : Speech) (p : Plan) (d : Dialogue) (byte w : ℕ) → v.words ≡ w ∷ [] → AreWordsHeard v p d
+said_alone : (v : Speech) (l : Plan) (d : Dialogue) (byte w : ℕ) → v.words ≡ w ∷ [] → AreWordsHeard v l d
     → byte ≡ next_word v → whole_out (got_out (fresh_bytes d ++ byte ∷ [])) ≡ whole_out (got_out ([] ++ w ∷ []))
-said_alone v p d byte w e h eb =
+said_alone v l d byte w e h eb =
     let none = nil_of h.before h.byte h.rest w (sym e ∙ h.words_are) in
     let words : v.words ≡ h.byte ∷ h.rest = h.words_are ∙ ap (λ (x : List ℕ). x ++ h.byte ∷ h.rest) none in
     let is : h.byte ≡ w = ap (λ (x : List ℕ). slice_index_or x 0 0) (sym words ∙ e) in
     let half : fresh_bytes d ≡ [] = ap (λ (u : Understanding). u.half)
     (h.anew ∙ ap (λ (x : List ℕ). understood nothing_understood x) none) in
-    λ i. whole_out (got_out (half i ++ (eb ∙ says_byte v p d h ∙ is) i ∷ []))
+    λ i. whole_out (got_out (half i ++ (eb ∙ says_byte v l d h ∙ is) i ∷ []))
 
-pub refusal_said : (v : Speech) (p : Plan) (d : Dialogue) (byte : ℕ) → v.words ≡ parity_error → AreWordsHeard v p d
+pub refusal_said : (v : Speech) (l : Plan) (d : Dialogue) (byte : ℕ) → v.words ≡ parity_error → AreWordsHeard v l d
     → byte ≡ next_word v → whole_out (got_out (fresh_bytes d ++ byte ∷ [])) ≡ Some MsgOut.ParityError
 unfolding form_out
-refusal_said v p d byte e h eb = said_alone v p d byte 0x09 e h eb
+refusal_said v l d byte e h eb = said_alone v l d byte 0x09 e h eb
 
-pub rejection_said : (v : Speech) (p : Plan) (d : Dialogue) (byte : ℕ) → v.words ≡ detected_error → AreWordsHeard v p d
+pub rejection_said : (v : Speech) (l : Plan) (d : Dialogue) (byte : ℕ) → v.words ≡ detected_error → AreWordsHeard v l d
     → byte ≡ next_word v → whole_out (got_out (fresh_bytes d ++ byte ∷ [])) ≡ Some MsgOut.DetectedError
 unfolding form_out
-rejection_said v p d byte e h eb = said_alone v p d byte 0x05 e h eb
+rejection_said v l d byte e h eb = said_alone v l d byte 0x05 e h eb
 
 -- Once it is said no request was answered.
-pub refusal_offers : (v : Speech) (p : Plan) (d : Dialogue) → v.words ≡ parity_error → AreWordsHeard v p d
-    → d.is_last ≡ true → is_some p.said.offer ≡ false
+pub refusal_offers : (v : Speech) (a : Plan) (d : Dialogue) → v.words ≡ parity_error → AreWordsHeard v a d
+    → d.is_last ≡ true → is_some a.said.offer ≡ false
 unfolding form_out
-refusal_offers v p d e h l =
+refusal_offers v a d e h l =
     ap (λ (u : Understanding). is_some u.said.offer) (h.last l ∙ ap (λ (x : List ℕ). understood nothing_understood x) e)
 
 data_words : (s : ScenarioValue) (n : Connection) (served : Option Item) (x : Exchange)

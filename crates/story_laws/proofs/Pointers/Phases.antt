@@ -60,27 +60,27 @@ data_cause b e = go b.msg b.cd b.io e
 
 -- The plan as it begins.
 abbrev plan_there : Plan → Leaving → Plan
-plan_there p x = record (plan_anew p) { messages = x.messages; next = x.next }
+plan_there l x = record (plan_anew l) { messages = x.messages; next = x.next }
 
-plan_to : (w : Hearing) (x : Leaving) (p : Plan) → is_message_out w.change.after ≡ false
-    → plan_in_phase w x p ≡ plan_there p x
-plan_to w x p e =
-    ap (λ (q : Bool). if not q then plan_there p x else if w.begun then plan_in_message_out w p else plan_anew p) e
+plan_to : (w : Hearing) (x : Leaving) (l : Plan) → is_message_out w.change.after ≡ false
+    → plan_in_phase w x l ≡ plan_there l x
+plan_to w x l e =
+    ap (λ (q : Bool). if not q then plan_there l x else if w.begun then plan_in_message_out w l else plan_anew l) e
 
-plan_out : (w : Hearing) (x : Leaving) (p : Plan) → is_message_out w.change.after ≡ true → w.begun ≡ true
-    → plan_in_phase w x p ≡ plan_in_message_out w p
-plan_out w x p e b = λ i. if not (e i) then plan_there p x else if b i then plan_in_message_out w p else plan_anew p
+plan_out : (w : Hearing) (x : Leaving) (l : Plan) → is_message_out w.change.after ≡ true → w.begun ≡ true
+    → plan_in_phase w x l ≡ plan_in_message_out w l
+plan_out w x l e b = λ i. if not (e i) then plan_there l x else if b i then plan_in_message_out w l else plan_anew l
 
-plan_first : (w : Hearing) (x : Leaving) (p : Plan) → is_message_out w.change.after ≡ true → w.begun ≡ false
-    → plan_in_phase w x p ≡ plan_anew p
-plan_first w x p e b = λ i. if not (e i) then plan_there p x else if b i then plan_in_message_out w p else plan_anew p
+plan_first : (w : Hearing) (x : Leaving) (l : Plan) → is_message_out w.change.after ≡ true → w.begun ≡ false
+    → plan_in_phase w x l ≡ plan_anew l
+plan_first w x l e b = λ i. if not (e i) then plan_there l x else if b i then plan_in_message_out w l else plan_anew l
 
 finish : (s : ScenarioValue) (k j : RunState) (row : Row) (n : Connection)
-    (c : Change) (q : Process) (l : Link) (p : Plan) (start : ℕ) (phase : Phase)
-    → Turned s k j row n c q l → l.item ≡ Some (process q.id) → j.exchange.plan ≡ p → run_start s j q ≡ start
-    → phase_of c.after ≡ phase → PointersOf (run_policy s q) l (carried_here j q.id) p no_handshakes start phase
+    (c : Change) (q : Process) (l : Link) (a : Plan) (start : ℕ) (phase : Phase)
+    → Turned s k j row n c q l → l.item ≡ Some (process q.id) → j.exchange.plan ≡ a → run_start s j q ≡ start
+    → phase_of c.after ≡ phase → PointersOf (run_policy s q) l (carried_here j q.id) a no_handshakes start phase
     → ServedPointers s j q
-finish s k j row n c q l p start phase t own ep es ee h = named l t.link own
+finish s k j row n c q l a start phase t own ep es ee h = named l t.link own
     (subst (λ (x : Bool). PointersIf x (run_policy s q) l (carried_here j q.id) j.exchange.plan j.handshakes
     (run_start s j q) (phase_of (bus_of j))) (sym t.exchange_begun) (subst (λ (x : Phase). PointersOf (run_policy s q) l
     (carried_here j q.id) j.exchange.plan j.handshakes (run_start s j q) x) (sym (ap phase_of t.bus_is ∙ ee)) (subst
@@ -89,16 +89,16 @@ finish s k j row n c q l p start phase t own ep es ee h = named l t.link own
     (sym t.handshakes_is) (subst
     (λ (x : Plan). PointersOf (run_policy s q) l (carried_here j q.id) x no_handshakes start phase) (sym ep) h)))))
 
-same_plan : (p : Plan) → SamePlan p p
-same_plan p = record { messages = refl; next = refl; cause = refl }
+same_plan : (l : Plan) → SamePlan l l
+same_plan l = record { messages = refl; next = refl; cause = refl }
 
 -- What the process carried is the same.
 carried_on : (s : ScenarioValue) (k j : RunState) (row : Row) (n : Connection)
-    (c : Change) (q : Process) (l : Link) (p : Plan) (start : ℕ) (phase : Phase)
-    → Turned s k j row n c q l → PointersOf (run_policy s q) l (carried_here k q.id) p no_handshakes start phase
-    → PointersOf (run_policy s q) l (carried_here j q.id) p no_handshakes start phase
-carried_on s k j row n c q l p start phase t h = pointers_as (run_policy s q) l (carried_here k q.id)
-    (carried_here j q.id) p p no_handshakes no_handshakes start phase t.carried (same_plan p)
+    (c : Change) (q : Process) (l : Link) (a : Plan) (start : ℕ) (phase : Phase)
+    → Turned s k j row n c q l → PointersOf (run_policy s q) l (carried_here k q.id) a no_handshakes start phase
+    → PointersOf (run_policy s q) l (carried_here j q.id) a no_handshakes start phase
+carried_on s k j row n c q l a start phase t h = pointers_as (run_policy s q) l (carried_here k q.id)
+    (carried_here j q.id) a a no_handshakes no_handshakes start phase t.carried (same_plan a)
     (counted_same phase no_handshakes) h
 
 -- ---- the process is named
@@ -118,25 +118,25 @@ enters_phase s k j row n c q l phase t b own known e h = go phase e h
     ends : (y : Phase) → is_out_phase y ≡ false → phase_of c.after ≡ y → PointersOf (run_policy s q) l
         (carried_here j q.id) (plan_there k.exchange.plan (leaving s k n.target)) no_handshakes (start_after s k n q) y
         → ServedPointers s j q
-    ends y z f p = finish s k j row n c q l (plan_there k.exchange.plan (leaving s k n.target))
-        (start_after s k n q) y t own (to y z f) (t.start b) f p
+    ends y z f g = finish s k j row n c q l (plan_there k.exchange.plan (leaving s k n.target))
+        (start_after s k n q) y t own (to y z f) (t.start b) f g
 
     on : (y : Phase) → PointersOf (run_policy s q) l (carried_here k q.id)
         (plan_there k.exchange.plan (leaving s k n.target)) no_handshakes (start_after s k n q) y
         → PointersOf (run_policy s q) l (carried_here j q.id)
         (plan_there k.exchange.plan (leaving s k n.target)) no_handshakes (start_after s k n q) y
-    on y p =
-        carried_on s k j row n c q l (plan_there k.exchange.plan (leaving s k n.target)) (start_after s k n q) y t p
+    on y g =
+        carried_on s k j row n c q l (plan_there k.exchange.plan (leaving s k n.target)) (start_after s k n q) y t g
 
     go : (y : Phase) → phase_of c.after ≡ y → Enters (run_policy s q) l (carried_here k q.id)
         (start_after s k n q) (leaving s k n.target).messages (leaving s k n.target).next (Some y)
         → ServedPointers s j q
-    go Phase.Command f p = ends Phase.Command refl f (on Phase.Command p)
-    go Phase.DataOut f p = ends Phase.DataOut refl f (on Phase.DataOut p)
-    go Phase.DataIn f p = ends Phase.DataIn refl f (on Phase.DataIn p)
-    go Phase.Status f p = ends Phase.Status refl f (t.marked own (status_phase c.after (ap is_status f)))
-    go Phase.MessageIn f p = ends Phase.MessageIn refl f (on Phase.MessageIn p)
-    go Phase.MessageOut f p = absurd p
+    go Phase.Command f g = ends Phase.Command refl f (on Phase.Command g)
+    go Phase.DataOut f g = ends Phase.DataOut refl f (on Phase.DataOut g)
+    go Phase.DataIn f g = ends Phase.DataIn refl f (on Phase.DataIn g)
+    go Phase.Status f g = ends Phase.Status refl f (t.marked own (status_phase c.after (ap is_status f)))
+    go Phase.MessageIn f g = ends Phase.MessageIn refl f (on Phase.MessageIn g)
+    go Phase.MessageOut f g = absurd g
 
 start_stays : (s : ScenarioValue) (k j : RunState) (n : Connection) (q : Process)
     → run_start s j q ≡ start_after s k n q → (leaving s k n.target).done ≡ false → run_start s j q ≡ run_start s k q
@@ -166,14 +166,14 @@ attends_phase s k j row n c q l meets t b own known to done asked phase e attend
     asks : PointersAsked (run_policy s q) l (carried_here k q.id) (plan_in_message_out w k.exchange.plan)
         (run_start s k q) (plan_in_message_out w k.exchange.plan).cause
         → ServedPointers s j q
-    asks p = finish s k j row n c q l (plan_in_message_out w k.exchange.plan)
+    asks g = finish s k j row n c q l (plan_in_message_out w k.exchange.plan)
         (run_start s k q) Phase.MessageOut t own plan (start_stays s k j n q (t.start b) done) to
-        (carried_on s k j row n c q l (plan_in_message_out w k.exchange.plan) (run_start s k q) Phase.MessageOut t p)
+        (carried_on s k j row n c q l (plan_in_message_out w k.exchange.plan) (run_start s k q) Phase.MessageOut t g)
 
     go : (y : Phase) → phase_of (bus_of k) ≡ y → is_attended y ≡ true
         → PointersOf (run_policy s q) l (carried_here k q.id) k.exchange.plan k.handshakes (run_start s k q) y
         → ServedPointers s j q
-    go Phase.MessageIn f z p =
+    go Phase.MessageIn f z g =
         let now : is_message_in (bus_of k) ≡ true = in_cause (bus_of k) (λ m. (meets.of.phase m).0) f in
         let before : is_message_in c.before ≡ true = ap is_message_in (sym r.bus_is) ∙ now in
         let given = meets.gives.in_message_in b now in
@@ -186,14 +186,14 @@ attends_phase s k j row n c q l meets t b own known to done asked phase e attend
         }) (run_start s k q) (if x then Cause.InMessage else if c.before.cd then Cause.InStatus else Cause.InData))
         (sym before) (refused_from (run_policy s q) l (carried_here k q.id) k.exchange.plan.messages
         k.exchange.plan.next k.handshakes.requests (run_start s k q) (asked f) (front_length
-        (bytes_of_messages k.exchange.plan.messages) k.story.bus_state.dialogue.half k.handshakes.requests given) p))
-    go Phase.Status f z p = asks (subst (λ (x : Cause). PointersAsked (run_policy s q) l
+        (bytes_of_messages k.exchange.plan.messages) k.story.bus_state.dialogue.half k.handshakes.requests given) g))
+    go Phase.Status f z g = asks (subst (λ (x : Cause). PointersAsked (run_policy s q) l
         (carried_here k q.id) (plan_in_message_out w k.exchange.plan) (run_start s k q) x)
-        (sym (status_cause c.before (ap is_status (ap phase_of (sym r.bus_is) ∙ f)))) p)
-    go Phase.DataIn f z p = asks (subst (λ (x : Cause). PointersAsked (run_policy s q) l
+        (sym (status_cause c.before (ap is_status (ap phase_of (sym r.bus_is) ∙ f)))) g)
+    go Phase.DataIn f z g = asks (subst (λ (x : Cause). PointersAsked (run_policy s q) l
         (carried_here k q.id) (plan_in_message_out w k.exchange.plan) (run_start s k q) x)
-        (sym (data_cause c.before (ap is_data_in (ap phase_of (sym r.bus_is) ∙ f)))) (p.plain, p.saved))
-    go _ f z p = wrong' z
+        (sym (data_cause c.before (ap is_data_in (ap phase_of (sym r.bus_is) ∙ f)))) (g.plain, g.saved))
+    go _ f z g = wrong' z
 
 -- What was heard of a refusal names no offer.
 no_offer : (s : ScenarioValue) (k : RunState) (row : Row) (n : Connection) (c : Change) (q : Process)
@@ -309,11 +309,11 @@ unnamed_turns s k row n c q l meets t ep el none known to h = go h.phase
     leaving_is x e = ap (λ (y : Bool). leaving_by (serving_of s k n.target) y (bus_of k)) b
         ∙ ap (λ (y : Phase). phase_leaving (serving_of s k n.target) (bus_of k).atn y) e
 
-    made : (p : Plan) → j.exchange.plan ≡ p → run_start s j q ≡ run_start s k q
-        → p.next ≡ Next.GoOn → OnMessages IsPlainIn p.messages
-        → (phase_of c.after ≡ Phase.MessageIn) ⊎ ((phase_of c.after ≡ Phase.MessageOut) × (p.cause ≡ Cause.InMessage))
+    made : (a : Plan) → j.exchange.plan ≡ a → run_start s j q ≡ run_start s k q
+        → a.next ≡ Next.GoOn → OnMessages IsPlainIn a.messages
+        → (phase_of c.after ≡ Phase.MessageIn) ⊎ ((phase_of c.after ≡ Phase.MessageOut) × (a.cause ≡ Cause.InMessage))
         → ServedPointers s j q
-    made p e start next plain phase = unnamed l t.link none (record {
+    made a e start next plain phase = unnamed l t.link none (record {
       begun = t.exchange_begun;
       undone = subst (λ (x : ℕ). OnUndo (λ (u : CarriedBytes). u.moved.saved ≡ x) l.undo) (sym start) h.undone;
       undisturbed = h.undisturbed;
@@ -324,7 +324,7 @@ unnamed_turns s k row n c q l meets t ep el none known to h = go h.phase
     })
       where
         there :
-            (phase_of c.after ≡ Phase.MessageIn) ⊎ ((phase_of c.after ≡ Phase.MessageOut) × (p.cause ≡ Cause.InMessage))
+            (phase_of c.after ≡ Phase.MessageIn) ⊎ ((phase_of c.after ≡ Phase.MessageOut) × (a.cause ≡ Cause.InMessage))
             → (phase_of (bus_of j) ≡ Phase.MessageIn)
             ⊎ ((phase_of (bus_of j) ≡ Phase.MessageOut) × (j.exchange.plan.cause ≡ Cause.InMessage))
         there (inl z) = inl (ap phase_of t.bus_is ∙ z)
@@ -408,11 +408,11 @@ turns_served s k row n c q meets served f ep er ef known to h = go h
     turned l el = turned_is s k row n c q l meets.of.row_is served ep er ef el
 
     go : ServedPointers s k q → ServedPointers s (run_state_after s k row) q
-    go (unnamed l el none p) = unnamed_turns s k row n c q l meets (turned l el) ep el none known (to p.begun) p
-    go (named l el own p) = by k.exchange.begun refl p
+    go (unnamed l el none e) = unnamed_turns s k row n c q l meets (turned l el) ep el none known (to e.begun) e
+    go (named l el own e) = by k.exchange.begun refl e
       where
         by : (b : Bool) → k.exchange.begun ≡ b → PointersIf b (run_policy s q) l
             (carried_here k q.id) k.exchange.plan k.handshakes (run_start s k q) (phase_of (bus_of k))
             → ServedPointers s (run_state_after s k row) q
-        by true b p = named_turns s k row n c q l meets (f b) (turned l el) ep b own known (to b) p
-        by false b p = first_turns s k row n c q l meets (turned l el) ep b own known p
+        by true b e = named_turns s k row n c q l meets (f b) (turned l el) ep b own known (to b) e
+        by false b e = first_turns s k row n c q l meets (turned l el) ep b own known e

@@ -123,14 +123,14 @@ struck_answers false h = refl
 
 -- ---- plans
 
-pub struck_same_plan : (q : Bool) (p : Plan) → SamePlan (if q then struck_plan p else p) p
-struck_same_plan true p = record { messages = refl; next = refl; cause = refl }
-struck_same_plan false p = record { messages = refl; next = refl; cause = refl }
+pub struck_same_plan : (q : Bool) (l : Plan) → SamePlan (if q then struck_plan l else l) l
+struck_same_plan true l = record { messages = refl; next = refl; cause = refl }
+struck_same_plan false l = record { messages = refl; next = refl; cause = refl }
 
-pub byte_same_plan : (w : Hearing) (p : Plan) → SamePlan (plan_with_byte w p) p
-byte_same_plan w p = go (is_message_out w.change.before) w.is_last
+pub byte_same_plan : (w : Hearing) (l : Plan) → SamePlan (plan_with_byte w l) l
+byte_same_plan w l = go (is_message_out w.change.before) w.is_last
   where
-    go : (q r : Bool) → SamePlan (if q then plan_after_message p r w.out else p) p
+    go : (q r : Bool) → SamePlan (if q then plan_after_message l r w.out else l) l
     go true true = record { messages = refl; next = refl; cause = refl }
     go true false = record { messages = refl; next = refl; cause = refl }
     go false r = record { messages = refl; next = refl; cause = refl }

@@ -122,17 +122,17 @@ named_story b item next = if is_none item then story_with_restored b next else b
 abbrev told_link : Story → Link → Link → MsgIn → Link
 told_link b l next m = record next { last = last_in m; before = l.last; undo = carried_if b l.item }
 
-told : (b : Story) (k : Link) (m : MsgIn) (id : ProcId) → k.item ≡ Some (process id) → (s : ScenarioValue)
-    → carried_of (story_after_message s b k m).carried id ≡ carried_after_message (carried_of b.carried id) m
-told b k m id e s = ap (λ (x : Option Item). carried_of
-    (story_with_carried (record b { link = Some k }) (carried_after_message_if (carried_if b x) m)).carried id) e
+told : (b : Story) (l : Link) (m : MsgIn) (id : ProcId) → l.item ≡ Some (process id) → (s : ScenarioValue)
+    → carried_of (story_after_message s b l m).carried id ≡ carried_after_message (carried_of b.carried id) m
+told b l m id e s = ap (λ (x : Option Item). carried_of
+    (story_with_carried (record b { link = Some l }) (carried_after_message_if (carried_if b x) m)).carried id) e
     ∙ put_own b.carried (carried_after_message (carried_of b.carried id) m) id
     (message_id (carried_of b.carried id) m ∙ carried_id b.carried id)
 
-untold : (b : Story) (k : Link) (m : MsgIn) (id : ProcId) → k.item ≡ None
-    → (s : ScenarioValue) → carried_of (story_after_message s b k m).carried id ≡ carried_of b.carried id
-untold b k m id e s = ap (λ (x : Option Item). carried_of
-    (story_with_carried (record b { link = Some k }) (carried_after_message_if (carried_if b x) m)).carried id) e
+untold : (b : Story) (l : Link) (m : MsgIn) (id : ProcId) → l.item ≡ None
+    → (s : ScenarioValue) → carried_of (story_after_message s b l m).carried id ≡ carried_of b.carried id
+untold b l m id e s = ap (λ (x : Option Item). carried_of
+    (story_with_carried (record b { link = Some l }) (carried_after_message_if (carried_if b x) m)).carried id) e
 
 -- The process was known, and still is.
 pub in_known : (s : ScenarioValue) (b : Story) (l : Link) (m : MsgIn) (id : ProcId)

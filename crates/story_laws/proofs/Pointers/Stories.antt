@@ -91,17 +91,17 @@ check_sent b x status = go (not x.sense && status == CHECK_CONDITION)
     go true = refl
     go false = refl
 
-pub ends_over : (drops stops : CmdDef → Bool) (e : Ending) (n : ℕ) (commands : List CmdDef) (b : Story) (x : Item)
-    → has_item b.sent.over x ≡ true → has_item (story_with_ends drops stops e n commands b).sent.over x ≡ true
-ends_over drops stops e n [] b x h = h
-ends_over drops stops e n (c ∷ commands) b x h = ends_over drops stops e
-    (n + 1) commands (story_with_end_if drops stops e n c b) x
-    (go (is_open b.sent n && drops c) (stops c && list_any (λ k. k == n) b.sent.checks))
+pub ends_over : (drops stops : CmdDef → Bool) (e : Ending) (m : ℕ) (commands : List CmdDef) (b : Story) (x : Item)
+    → has_item b.sent.over x ≡ true → has_item (story_with_ends drops stops e m commands b).sent.over x ≡ true
+ends_over drops stops e m [] b x h = h
+ends_over drops stops e m (c ∷ commands) b x h = ends_over drops stops e
+    (m + 1) commands (story_with_end_if drops stops e m c b) x
+    (go (is_open b.sent m && drops c) (stops c && list_any (λ k. k == m) b.sent.checks))
   where
-    go : (q r : Bool) → has_item (if q then story_with_end b (record { command = n; sense = false }) e
-        else if r then story_with_over b (sense_item n) else b).sent.over x ≡ true
-    go true r = over_more (process (record { command = n; sense = false })) b.sent.over x h
-    go false true = over_more (sense_item n) b.sent.over x h
+    go : (q r : Bool) → has_item (if q then story_with_end b (record { command = m; sense = false }) e
+        else if r then story_with_over b (sense_item m) else b).sent.over x ≡ true
+    go true r = over_more (process (record { command = m; sense = false })) b.sent.over x h
+    go false true = over_more (sense_item m) b.sent.over x h
     go false false = h
 
 event_over : (s : ScenarioValue) (b : Story) (event : Event) (x : Item) → has_item b.sent.over x ≡ true
@@ -148,47 +148,47 @@ abbrev arrived_if : ProcId → Bool → Bool → List Event
 arrived_if id q r = if q then (if r then Event.Accept id else Event.Refuse id) ∷ [] else []
 
 abbrev shown_if : CarriedBytes → Bool → List Event → List Event
-shown_if k q arrived = if q then status_event k.id k.failure ∷ arrived else arrived
+shown_if c q arrived = if q then status_event c.id c.failure ∷ arrived else arrived
 
-pub status_marks : (s : ScenarioValue) (b c : Story) (k : CarriedBytes) (id : ProcId) (before after : LineSet)
-    → k.id ≡ id → carried_of c.carried id ≡ k → is_status_phase after ≡ true → is_marked
-    (carried_of (story_after_events s c (status_events (Some k) after (queue_events s b (Some k) before))).carried id)
+pub status_marks : (s : ScenarioValue) (b c : Story) (z : CarriedBytes) (id : ProcId) (before after : LineSet)
+    → z.id ≡ id → carried_of c.carried id ≡ z → is_status_phase after ≡ true → is_marked
+    (carried_of (story_after_events s c (status_events (Some z) after (queue_events s b (Some z) before))).carried id)
     ≡ true
-status_marks s b c k id before after same same_k status = go k.shown k.refused refl refl
-    (is_command before && is_whole_block k) (is_some (array_after s (Event.Accept k.id ∷ b.history)))
+status_marks s b c z id before after same same_k status = go z.shown z.refused refl refl
+    (is_command before && is_whole_block z) (is_some (array_after s (Event.Accept z.id ∷ b.history)))
   where
-    stays : (shown : List Event) → is_marked k ≡ true
+    stays : (shown : List Event) → is_marked z ≡ true
         → is_marked (carried_of (story_after_events s c shown).carried id) ≡ true
     stays shown m = (events_same s c shown id).marked (ap is_marked same_k ∙ m)
 
     new : (shown : List Event)
-        → is_marked (carried_of (story_after_events s c (status_event k.id k.failure ∷ shown)).carried id) ≡ true
+        → is_marked (carried_of (story_after_events s c (status_event z.id z.failure ∷ shown)).carried id) ≡ true
     new shown = subst (λ (x : ProcId). is_marked
-        (carried_of (story_after_event s (story_after_events s c shown) (status_event k.id k.failure)).carried x)
-        ≡ true) same (status_marked s (story_after_events s c shown) k.id k.failure)
+        (carried_of (story_after_event s (story_after_events s c shown) (status_event z.id z.failure)).carried x)
+        ≡ true) same (status_marked s (story_after_events s c shown) z.id z.failure)
 
-    refused : is_marked (carried_of (story_after_events s c (Event.Refuse k.id ∷ [])).carried id) ≡ true
-    refused = subst (λ (x : ProcId). is_marked (carried_of (story_after_event s c (Event.Refuse k.id)).carried x)
-        ≡ true) same (refuse_marks s c k.id)
+    refused : is_marked (carried_of (story_after_events s c (Event.Refuse z.id ∷ [])).carried id) ≡ true
+    refused = subst (λ (x : ProcId). is_marked (carried_of (story_after_event s c (Event.Refuse z.id)).carried x)
+        ≡ true) same (refuse_marks s c z.id)
 
     fresh : (q r : Bool) → is_marked (carried_of (story_after_events s c
-        (shown_if k (not (list_any (λ e. is_refuse e) (arrived_if k.id q r))) (arrived_if k.id q r))).carried id) ≡ true
-    fresh true true = new (Event.Accept k.id ∷ [])
+        (shown_if z (not (list_any (λ e. is_refuse e) (arrived_if z.id q r))) (arrived_if z.id q r))).carried id) ≡ true
+    fresh true true = new (Event.Accept z.id ∷ [])
     fresh true false = refused
     fresh false r = new []
 
-    go : (h f : Bool) → k.shown ≡ h → k.refused ≡ f → (q r : Bool)
-        → is_marked (carried_of (story_after_events s c (shown_if k (is_status_phase after && not k.shown
-        && not k.refused && not (list_any (λ e. is_refuse e) (arrived_if k.id q r))) (arrived_if k.id q r))).carried id)
+    go : (h f : Bool) → z.shown ≡ h → z.refused ≡ f → (q r : Bool)
+        → is_marked (carried_of (story_after_events s c (shown_if z (is_status_phase after && not z.shown
+        && not z.refused && not (list_any (λ e. is_refuse e) (arrived_if z.id q r))) (arrived_if z.id q r))).carried id)
         ≡ true
-    go true f eh ef q r = stays (shown_if k (is_status_phase after && not k.shown && not k.refused
-        && not (list_any (λ e. is_refuse e) (arrived_if k.id q r))) (arrived_if k.id q r))
-        (ap (λ (y : Bool). y || k.refused) eh)
-    go false true eh ef q r = stays (shown_if k (is_status_phase after && not k.shown && not k.refused
-        && not (list_any (λ e. is_refuse e) (arrived_if k.id q r))) (arrived_if k.id q r)) (λ i. eh i || ef i)
+    go true f eh ef q r = stays (shown_if z (is_status_phase after && not z.shown && not z.refused
+        && not (list_any (λ e. is_refuse e) (arrived_if z.id q r))) (arrived_if z.id q r))
+        (ap (λ (y : Bool). y || z.refused) eh)
+    go false true eh ef q r = stays (shown_if z (is_status_phase after && not z.shown && not z.refused
+        && not (list_any (λ e. is_refuse e) (arrived_if z.id q r))) (arrived_if z.id q r)) (λ i. eh i || ef i)
     go false false eh ef q r = (λ i. is_marked (carried_of (story_after_events s c
-        (shown_if k (status i && not (eh i) && not (ef i) && not (list_any (λ e. is_refuse e) (arrived_if k.id q r)))
-        (arrived_if k.id q r))).carried id)) ∙ fresh q r
+        (shown_if z (status i && not (eh i) && not (ef i) && not (list_any (λ e. is_refuse e) (arrived_if z.id q r)))
+        (arrived_if z.id q r))).carried id)) ∙ fresh q r
 
 -- ---- a row of a connection
 

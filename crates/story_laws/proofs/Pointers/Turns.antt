@@ -18,8 +18,8 @@ use proofs.{Pointers.Stories.{events_same, status_marks, story_row}, Talks.Turns
 
 -- ---- ATN is true after MESSAGE IN
 
-below_one : (n : ℕ) → 1 ≤ n → n ≤ 1 → n - 1 ≡ 0
-below_one n h k = omega (arith, h, k)
+below_one : (m : ℕ) → 1 ≤ m → m ≤ 1 → m - 1 ≡ 0
+below_one m h e = omega (arith, h, e)
 
 -- A message alone comes again.
 lone_again : (m : Messages) (x : MsgIn) (count : ℕ) → m ≡ one_message x → length (message_bytes (Some x)) ≡ 1
@@ -31,8 +31,8 @@ lone_again m x count e one all asked within =
     (λ i. from_byte (e i) (below_one count (some_count count asked) few i))
     ∙ (λ i. if nat_lt 0 (one i) then one_message x else record { first = None; second = None }) ∙ sym e
 
-zero_asked : {A : Type 0} (n : ℕ) → n ≡ 0 → (n == 0) ≡ false → A
-zero_asked n z e = absurd (true≢false (sym (ap (λ (x : ℕ). x == 0) z) ∙ e))
+zero_asked : {A : Type 0} (m : ℕ) → m ≡ 0 → (m == 0) ≡ false → A
+zero_asked m z e = absurd (true≢false (sym (ap (λ (x : ℕ). x == 0) z) ∙ e))
 
 pub refused_from : (policy : Policy) (l : Link) (c : CarriedBytes) (m : Messages) (next : Next) (count start : ℕ)
     → (count == 0) ≡ false → count ≤ length (bytes_of_messages m) → PointersIn policy l c m next count start
@@ -76,8 +76,8 @@ pub runs_more : (all : List ProcessProgress) (id : ProcId) (done counts : Bool)
     → (progress_in (progress_with all id done counts) id).runs ≡ (progress_in all id).runs + one_if done
 runs_more all id done counts = go done counts
   where
-    none : (n : ℕ) → n ≡ n + 0
-    none n = omega arith
+    none : (m : ℕ) → m ≡ m + 0
+    none m = omega arith
 
     new : (d r : Bool) → (progress_in (record {
       id = id;
@@ -135,7 +135,7 @@ turned_is s k row n c q l r served ep er ef el = record {
   plan_is = ap (λ (x : Exchange). x.plan) i.exchange_is;
   bus_is = i.bus_is;
   handshakes_is = i.handshakes_is ∙ ap (λ (f : Bool). handshakes_after f (Some n) c row.time k.handshakes) ef
-      ∙ ap (λ (p : Bool). if p then no_handshakes else answered_if (rises c.before.ack c.after.ack) row.time
+      ∙ ap (λ (y : Bool). if y then no_handshakes else answered_if (rises c.before.ack c.after.ack) row.time
       (asked_if (rises c.before.req c.after.req) row.time k.handshakes)) ep;
   carried = same_on (carried_here j q.id)
       (carried_of (story_after_fault k.story l row.kind).carried q.id) (carried_here k q.id)

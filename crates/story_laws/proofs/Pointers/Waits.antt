@@ -85,19 +85,19 @@ free_story s b d row x = go (is_arbitration_entry b d) (falls d.change.before.se
             (if q then story_without_answer (record b { sent = record b.sent { tries = item ∷ b.sent.tries } }) i
             else record b { sent = record b.sent { tries = item ∷ b.sent.tries } }) x
         by true (process id) = record { over = λ e. over_more (process id) b.sent.over x e; carried = refl }
-        by true (abort k) = record { over = λ e. over_more (abort k) b.sent.over x e; carried = refl }
+        by true (abort c) = record { over = λ e. over_more (abort c) b.sent.over x e; carried = refl }
         by false i = record { over = λ e. e; carried = refl }
 
     called : (call : Option Call) → Freed b (story_after_calling s b call) x
     called None = freed_self b x
-    called (Some k) = by k.calling
+    called (Some c) = by c.calling
       where
-        by : (g : Option Calling) → Freed b (story_after_calling_by s b k.caller g) x
+        by : (g : Option Calling) → Freed b (story_after_calling_by s b c.caller g) x
         by None = freed_self b x
         by (Some g) = one (is_none g.answered && not g.reselects)
           where
-            one : (q : Bool) → Freed b (if q then story_with_try s b k.caller (aim_of b.aims k.caller) else b) x
-            one true = tried k.caller (aim_of b.aims k.caller)
+            one : (q : Bool) → Freed b (if q then story_with_try s b c.caller (aim_of b.aims c.caller) else b) x
+            one true = tried c.caller (aim_of b.aims c.caller)
             one false = freed_self b x
 
     go : (q r : Bool)
@@ -106,8 +106,8 @@ free_story s b d row x = go (is_arbitration_entry b d) (falls d.change.before.se
     go false true = called b.bus_state.call
     go false false = freed_self b x
 
-bus_over : (s : ScenarioValue) (b : Story) (m n : Option Connection) (d : RowReading) (row : Row) (x : Item)
-    → has_item b.sent.over x ≡ true → has_item (story_on_bus s b m n d row).sent.over x ≡ true
+bus_over : (s : ScenarioValue) (b : Story) (m o : Option Connection) (d : RowReading) (row : Row) (x : Item)
+    → has_item b.sent.over x ≡ true → has_item (story_on_bus s b m o d row).sent.over x ≡ true
 bus_over s b None None d row x e = (free_story s b d row x).over e
 bus_over s b None (Some n) d row x e = ap (λ (y : List Item). has_item y x) (begun_over b n) ∙ e
 bus_over s b (Some m) None d row x e = e
@@ -147,14 +147,14 @@ progress_other s k row id other = go k.story.bus_state.connection (row_reading k
     served l (Some (abort n)) h = refl
     served l (Some (process x)) h = by (process_of s x) refl
       where
-        by : (p : Option Process) → process_of s x ≡ p
-            → progress_in (progress_by_leaving k p l) id ≡ progress_in k.progress id
+        by : (c : Option Process) → process_of s x ≡ c
+            → progress_in (progress_by_leaving k c l) id ≡ progress_in k.progress id
         by None e = refl
-        by (Some p) e =
-            other_kept k.progress p.id id l.done l.counts (ap (λ (y : ProcId). same_id y id) (id_is s x p e) ∙ h x refl)
+        by (Some c) e =
+            other_kept k.progress c.id id l.done l.counts (ap (λ (y : ProcId). same_id y id) (id_is s x c e) ∙ h x refl)
 
-    go : (m n : Option Connection) (l : Leaving)
-        → progress_in (progress_after s k d m n l) id ≡ progress_in k.progress id
+    go : (m o : Option Connection) (l : Leaving)
+        → progress_in (progress_after s k d m o l) id ≡ progress_in k.progress id
     go None None l = refl
     go None (Some n) l = refl
     go (Some m) None l = refl
@@ -193,10 +193,10 @@ apart_same s k row id h = carried_row s k row id (go h)
     d : RowReading
     d = row_reading k.story.bus_state row
 
-    by : (q : Bool) → (m n : Option Connection) → (q ≡ true) ⊎ ((m ≡ None) × (n ≡ None)) → SameSaved
-        (carried_of (if q then record k.story { link = None } else story_on_bus s k.story m n d row).carried id)
+    by : (q : Bool) → (m y : Option Connection) → (q ≡ true) ⊎ ((m ≡ None) × (y ≡ None)) → SameSaved
+        (carried_of (if q then record k.story { link = None } else story_on_bus s k.story m y d row).carried id)
         (carried_here k id)
-    by true m n z = saved_self (carried_here k id)
+    by true m y z = saved_self (carried_here k id)
     by false None None z = subst (λ (x : List CarriedBytes). SameSaved (carried_of x id) (carried_here k id))
         (sym (free_story s k.story d row (process id)).carried) (saved_self (carried_here k id))
     by false None (Some n) (inl z) = absurd (true≢false (sym z))
@@ -205,11 +205,11 @@ apart_same s k row id h = carried_row s k row id (go h)
         none_some : (x : Connection) → (let o : Option Connection = Some x in o) ≡ None
             → SameSaved (carried_of (story_on_bus s k.story None (Some n) d row).carried id) (carried_here k id)
         none_some x e = absurd cc
-    by false (Some m) n (inl z) = absurd (true≢false (sym z))
-    by false (Some m) n (inr z) = none_some m z.0
+    by false (Some m) y (inl z) = absurd (true≢false (sym z))
+    by false (Some m) y (inr z) = none_some m z.0
       where
         none_some : (x : Connection) → (let o : Option Connection = Some x in o) ≡ None
-            → SameSaved (carried_of (story_on_bus s k.story (Some m) n d row).carried id) (carried_here k id)
+            → SameSaved (carried_of (story_on_bus s k.story (Some m) y d row).carried id) (carried_here k id)
         none_some x e = absurd cc
 
     go : (d.change.after.rst ≡ true) ⊎ ((k.story.bus_state.connection ≡ None) × (d.next ≡ None))

@@ -18,11 +18,11 @@ use proofs.Talks.{OutMessages.{last_is_whole}, Rows.{TalkRow, a_request}, Steps.
 use proofs.Talks.Steps.{in_whole, out_part, out_whole, other_crosses}
 use Rattle.row_laws.specs.ItemTalks.{IsUnnamed}
 
-byte_next : (out last : Bool) (m : Option MsgOut) (p : Plan)
-    → (if out then plan_after_message p last m else p).next ≡ p.next
-byte_next true true m p = refl
-byte_next true false m p = refl
-byte_next false last m p = refl
+byte_next : (out last : Bool) (m : Option MsgOut) (l : Plan)
+    → (if out then plan_after_message l last m else l).next ≡ l.next
+byte_next true true m l = refl
+byte_next true false m l = refl
+byte_next false last m l = refl
 
 pub no_completion : (l : Link) (c : Change) → is_message_in c.before ≡ false → is_completion l c ≡ false
 no_completion l c e = (λ i. rises c.before.ack c.after.ack && e i && is_complete l.last && not c.after.atn)
@@ -254,8 +254,8 @@ in_talk s k row n c l dev g el h ep er ef here m em = go (link_crossed s k row n
     reads : message_in d c true ≡ whole_in (got_in (d.half ++ byte ∷ []))
     reads = λ x. if here x then whole_in (got_in (d.half ++ byte ∷ [])) else None
 
-    named : (p : Process) → IsUnnamed (talk_of k) p → message_in d c true ≡ Some (MsgIn.Identify p.unit)
-    named p v = reads ∙ first_name k.exchange.plan.messages d.half k.handshakes.requests byte p.unit given v.none_asked
+    named : (a : Process) → IsUnnamed (talk_of k) a → message_in d c true ≡ Some (MsgIn.Identify a.unit)
+    named a v = reads ∙ first_name k.exchange.plan.messages d.half k.handshakes.requests byte a.unit given v.none_asked
         v.first v.small next.0
 
     well : PlannedWell (is_sense_item k.served) k.exchange.plan.messages k.exchange.plan.next
@@ -276,15 +276,15 @@ in_talk s k row n c l dev g el h ep er ef here m em = go (link_crossed s k row n
     go (says x e z) = none_some x
         (sym (ap (λ (q : Bool). if q then whole_out (got_out (fresh_bytes d ++ byte ∷ [])) else None) out_none) ∙ e)
     go (stays e f z) =
-        to l z (in_part s (talk_of k) n l c.after j.handshakes.requests w (λ p v. none_some _ (sym f ∙ named p v)) h)
+        to l z (in_part s (talk_of k) n l c.after j.handshakes.requests w (λ a v. none_some _ (sym f ∙ named a v)) h)
     go (hears x e f z) =
         to (heard_link s k.story l x) z
         (in_whole s k.story (talk_of k) n l x c.after j.handshakes.requests w
         (record {
           stays = λ y. heard (NoDisconnect (is_sense_item k.served)) well.disconnect x f y;
           completes = λ y. heard (CompletesAlone k.exchange.plan.messages k.exchange.plan.next) well.complete x f y;
-          names = λ p all. heard (IsNameOf p) all x f;
-          first = λ p v. same_Some x (MsgIn.Identify p.unit) (sym f ∙ named p v);
+          names = λ a all. heard (IsNameOf a) all x f;
+          first = λ a v. same_Some x (MsgIn.Identify a.unit) (sym f ∙ named a v);
         })
         h)
 

@@ -98,18 +98,18 @@ first_sent s k row n h none = record {
 
 -- ---- the talk
 
-names_well : (p : Process) (next : Next) → plans_well false (naming_messages p) next ≡ true
-names_well p next = go p.tag
+names_well : (c : Process) (next : Next) → plans_well false (naming_messages c) next ≡ true
+names_well c next = go c.tag
   where
     go :
-        (t : Tag) → plans_well false (record { first = Some (MsgIn.Identify p.unit); second = tag_named t }) next ≡ true
+        (t : Tag) → plans_well false (record { first = Some (MsgIn.Identify c.unit); second = tag_named t }) next ≡ true
     go Tag.Untagged = refl
     go _ = refl
 
-are_names : (p : Process) → OnMessages (IsNameOf p) (naming_messages p)
-are_names p = (refl, go p.tag refl)
+are_names : (c : Process) → OnMessages (IsNameOf c) (naming_messages c)
+are_names c = (refl, go c.tag refl)
   where
-    go : (t : Tag) → p.tag ≡ t → OnMessage (IsNameOf p) (tag_named t)
+    go : (t : Tag) → c.tag ≡ t → OnMessage (IsNameOf c) (tag_named t)
     go Tag.Untagged e = tt
     go _ e = ap tag_number e
 
@@ -187,33 +187,33 @@ talks_first s k row n g none opens m em = by_bool n.reselected
     reselects : n.reselected ≡ true → TalksBy s (talk_of j) n (link_of n None)
     reselects e =
         let r = g.reselects e in
-        let p : Process = r.ready.process in
-        let q : IsQueued s k.story.sent p = opens.queued e r.ready r.ready_is in
-        let served : j.served ≡ Some (process p.id) = f.served
+        let c : Process = r.ready.process in
+        let q : IsQueued s k.story.sent c = opens.queued e r.ready r.ready_is in
+        let served : j.served ≡ Some (process c.id) = f.served
         ∙ ap (λ (x : Bool). if x then item_if (ready_of s k n.target) else aim_of k.story.aims n.initiator) e
         ∙ ap item_if r.ready_is in
         let plan = ap (λ (x : Exchange). x.plan) made
         ∙ ap (λ (x : Bool). first_plan x (not x && may_negotiate k n (aim_of k.story.aims n.initiator))
         (if x then messages_if (ready_of s k n.target) else no_messages)) e
         ∙ ap (λ (x : Option Ready). first_plan true false (messages_if x)) r.ready_is in
-        let same : r.process ≡ p = same_Some r.process p (sym r.process_is ∙ q.is) in
+        let same : r.process ≡ c = same_Some r.process c (sym r.process_is ∙ q.is) in
         record {
           planned = (λ i. plans_well (is_sense_item (served i)) (plan i).messages (plan i).next)
-              ∙ ap (λ (x : Bool). plans_well x (naming_messages p) Next.GoOn) q.command ∙ names_well p Next.GoOn;
+              ∙ ap (λ (x : Bool). plans_well x (naming_messages c) Next.GoOn) q.command ∙ names_well c Next.GoOn;
           last = fresh_link (is_sense_item j.served) n None;
           completes = λ z. wrong' z;
           over = λ i ei o. wrong (sym o ∙ over_of true e i
-              ∙ ap (has_item k.story.sent.over) (same_Some i (process p.id) (sym ei ∙ served)) ∙ q.opens);
+              ∙ ap (has_item k.story.sent.over) (same_Some i (process c.id) (sym ei ∙ served)) ∙ q.opens);
           closes = λ rs z here id ei. wrong' z;
           selected = λ z. wrong (sym z ∙ ap is_sense_item served ∙ q.command);
           names = λ rs. record {
-            named = p;
+            named = c;
             served_is = served;
             is = q.is;
             command = q.command;
             initiator_is = ap (λ (x : Process). x.initiator) (sym same) ∙ r.initiator_is;
             target_is = ap (λ (x : Process). x.target) (sym same) ∙ r.target_is;
-            messages = subst (λ (x : Messages). OnMessages (IsNameOf p) x) (sym (λ i. (plan i).messages)) (are_names p);
+            messages = subst (λ (x : Messages). OnMessages (IsNameOf c) x) (sym (λ i. (plan i).messages)) (are_names c);
             unit = inr (record {
               here = g.names e;
               begun = ap (λ (x : Exchange). x.begun) made ∙ e;

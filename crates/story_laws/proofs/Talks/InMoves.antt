@@ -24,11 +24,11 @@ pub record InMove (p q : List Row) : Type 0 where
 
 by_ends : (p q : List Row) (n : Connection) (e f : EndLines) → Linked p n e → Linked q n f
     → ((e.req && not e.ack) ≡ false → f.atn ≡ e.atn) → InMove p q
-by_ends p q n e f h k same =
+by_ends p q n e f h g same =
     record {
-      attends = λ z. ap (λ (l : LineSet). l.atn) k.stands.bus_is ∙ same (ap awaits (sym h.stands.bus_is) ∙ z)
+      attends = λ z. ap (λ (l : LineSet). l.atn) g.stands.bus_is ∙ same (ap awaits (sym h.stands.bus_is) ∙ z)
           ∙ sym (ap (λ (l : LineSet). l.atn) h.stands.bus_is);
-      stands = inr (ap (λ (l : LineSet). l.bsy) k.stands.bus_is);
+      stands = inr (ap (λ (l : LineSet). l.bsy) g.stands.bus_is);
     }
 
 not_there : (p q : List Row) (n : Connection) (e : EndLines) → Linked p n e → is_message_in (connected_bus e) ≡ false
@@ -59,7 +59,7 @@ attention_stays p t n e to h off =
     by_bool (bus p).atn (λ z. bus_on (λ l. l.atn) (λ _ _. refl) q n.initiator h.initiator_below
     (ap (λ (l : LineSet). l.atn) (drives-other (row_of_lines t n.target to) p n.initiator h.apart ∙ h.initiator)
     ∙ sym was ∙ z) ∙ sym z) (λ z. bus_off (λ l. l.atn) (λ _ _. refl) refl q (λ d lt. elim (cases_eq d n.target) [
-      | inl same ↦ ap (λ (k : ℕ). (drives q k).atn) same
+      | inl same ↦ ap (λ (m : ℕ). (drives q m).atn) same
           ∙ ap (λ (l : LineSet). l.atn) (drives-own (row_of_lines t n.target to) p to refl) ∙ off
       | inr ne ↦ ap (λ (l : LineSet). l.atn) (drives-other (row_of_lines t n.target to) p d ne)
           ∙ line_off (λ l. l.atn) (λ _ _. refl) p z d lt

@@ -71,22 +71,22 @@ from_well stays m next count h = go (nat_lt count (length (message_bytes m.first
 -- ---- an automatic REQUEST SENSE stays
 
 -- Its command descriptor block.
-sense_cdb : (s : ScenarioValue) (id : ProcId) (p : Process) → process_of s id ≡ Some p → id.sense ≡ true
-    → p.cdb ≡ sense_block
-sense_cdb s id p e f = by_option (command_at s.commands id.command) (λ z. absurd
-    (none_some p (sym (ap (λ (x : Option CmdDef). process_if s id x) z) ∙ e))) (λ c z. sym (ap (λ (x : Process). x.cdb)
-    (same_Some (process_by s id c) p (sym (ap (λ (x : Option CmdDef). process_if s id x) z) ∙ e))) ∙ by id.sense c f)
+sense_cdb : (s : ScenarioValue) (id : ProcId) (t : Process) → process_of s id ≡ Some t → id.sense ≡ true
+    → t.cdb ≡ sense_block
+sense_cdb s id t e f = by_option (command_at s.commands id.command) (λ z. absurd
+    (none_some t (sym (ap (λ (x : Option CmdDef). process_if s id x) z) ∙ e))) (λ c z. sym (ap (λ (x : Process). x.cdb)
+    (same_Some (process_by s id c) t (sym (ap (λ (x : Option CmdDef). process_if s id x) z) ∙ e))) ∙ by id.sense c f)
   where
     by : (q : Bool) (c : CmdDef) → q ≡ true
         → (process_by s (record { command = id.command; sense = q }) c).cdb ≡ sense_block
     by true c z = refl
     by false c z = wrong' z
 
-guest : (a : Array) (policy : Policy) (p : Process) → is_request_sense (command_of p.cdb) ≡ true
-    → is_queued (arrival_if policy a (Some p)) ≡ false
-guest a policy p e =
-    ap (λ (q : Bool). is_queued (arrival_by policy q (room_of a (unit_state_at a.units p.target p.unit)))) e
-    ∙ go (room_of a (unit_state_at a.units p.target p.unit))
+guest : (a : Array) (policy : Policy) (c : Process) → is_request_sense (command_of c.cdb) ≡ true
+    → is_queued (arrival_if policy a (Some c)) ≡ false
+guest a policy c e =
+    ap (λ (q : Bool). is_queued (arrival_by policy q (room_of a (unit_state_at a.units c.target c.unit)))) e
+    ∙ go (room_of a (unit_state_at a.units c.target c.unit))
   where
     go : (r : Option Room) → is_queued (arrival_by policy true r) ≡ false
     go None = refl
@@ -108,26 +108,26 @@ sense_stays s k dev e = record {
   runs = λ t f. runs (process_served s k) own t f;
 }
   where
-    of : (x : Option Item) → is_sense_item x ≡ true → (p : Process) → process_item s x ≡ Some p → p.cdb ≡ sense_block
-    of None y p z = wrong' y
-    of (Some (process id)) y p z = sense_cdb s id p z y
-    of (Some (abort n)) y p z = wrong' y
+    of : (x : Option Item) → is_sense_item x ≡ true → (a : Process) → process_item s x ≡ Some a → a.cdb ≡ sense_block
+    of None y a z = wrong' y
+    of (Some (process id)) y a z = sense_cdb s id a z y
+    of (Some (abort n)) y a z = wrong' y
 
-    own : (p : Process) → process_served s k ≡ Some p → p.cdb ≡ sense_block
-    own p z = of k.served e p z
+    own : (a : Process) → process_served s k ≡ Some a → a.cdb ≡ sense_block
+    own a z = of k.served e a z
 
-    arrives : (o : Option Process) → ((p : Process) → o ≡ Some p → p.cdb ≡ sense_block)
+    arrives : (o : Option Process) → ((a : Process) → o ≡ Some a → a.cdb ≡ sense_block)
         → is_queued (arrival_if (policy_of (target_def_of s dev)) (array_of s k) o) ≡ false
     arrives None f = refl
-    arrives (Some p) f = guest (array_of s k) (policy_of (target_def_of s dev)) p
-        (ap (λ (c : List ℕ). is_request_sense (command_of c)) (f p refl))
+    arrives (Some a) f = guest (array_of s k) (policy_of (target_def_of s dev)) a
+        (ap (λ (c : List ℕ). is_request_sense (command_of c)) (f a refl))
 
-    runs : (o : Option Process) → ((p : Process) → o ≡ Some p → p.cdb ≡ sense_block) → (t : Task)
+    runs : (o : Option Process) → ((a : Process) → o ≡ Some a → a.cdb ≡ sense_block) → (t : Task)
         → task_if s k o ≡ Some t → nat_lt (t.runs + 1) (runs_in_all (policy_of (target_def_of s dev)) t) ≡ false
     runs None f t z = absurd (none_some t z)
-    runs (Some p) f t z =
+    runs (Some a) f t z =
         one_run (policy_of (target_def_of s dev)) t (sym (ap (λ (x : Option Task). (or_task t x).blocks) z)
-        ∙ ap blocks_in (none_named p (ap (λ (c : List ℕ). range_in (command_of c)) (f p refl))))
+        ∙ ap blocks_in (none_named a (ap (λ (c : List ℕ). range_in (command_of c)) (f a refl))))
       where
         or_task : Task → Option Task → Task
         or_task x None = x

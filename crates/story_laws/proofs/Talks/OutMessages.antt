@@ -79,10 +79,10 @@ offer_said true (Some h) = go (h.offers && nat_lt 0 h.period)
     go true = alone_said (MsgOut.Sdtr (record { period = h.period; offset = h.offset })) tt refl
     go false = tt
 
-opening_said : (h : Option HostDef) (negotiates : Bool) (p : Process) → p.unit < 8
-    → AbortNone [] (process_opening h negotiates (Some p))
-opening_said h negotiates p lt = one_said (MsgOut.Identify (not p.id.sense) p.unit) (tag_bytes p.tag
-    ++ offer_if negotiates h) lt refl (tag_said p.tag (offer_if negotiates h) (offer_said negotiates h))
+opening_said : (h : Option HostDef) (negotiates : Bool) (c : Process) → c.unit < 8
+    → AbortNone [] (process_opening h negotiates (Some c))
+opening_said h negotiates c lt = one_said (MsgOut.Identify (not c.id.sense) c.unit) (tag_bytes c.tag
+    ++ offer_if negotiates h) lt refl (tag_said c.tag (offer_if negotiates h) (offer_said negotiates h))
 
 words_said : (s : ScenarioValue) (n : Connection) (id : ProcId) (x : Exchange) (c : Cause) → AreUnits s
     → AreWordsFor s n (Some (process id)) x c → AbortNone [] x.speech.words
@@ -107,9 +107,9 @@ said_at h (x ∷ xs) b ys e = said_at (understood_byte h x) xs b ys e.1
 
 -- ---- a byte crosses
 
-half_is : (v : Speech) (p : Plan) (d : Dialogue) (h : AreWordsHeard v p d)
+half_is : (v : Speech) (l : Plan) (d : Dialogue) (h : AreWordsHeard v l d)
     → fresh_bytes d ≡ (understood nothing_understood h.before).half
-half_is v p d h = ap (λ (x : Understanding). x.half) h.anew
+half_is v l d h = ap (λ (x : Understanding). x.half) h.anew
 
 -- Of a process it makes no abort.
 pub out_is_no_abort : (s : ScenarioValue) (n : Connection) (id : ProcId) (x : Exchange) (d : Dialogue) (byte : ℕ)

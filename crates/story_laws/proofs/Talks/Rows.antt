@@ -52,11 +52,11 @@ requests_after false n c t h ep er = (λ i.
     (if ep i then no_handshakes else answered_if (rises c.before.ack c.after.ack) t (asked_if (er i) t h)).requests)
     ∙ answered_same (rises c.before.ack c.after.ack) t h
 
-still_plan : (fault io : Bool) (p : Plan) → ((if fault && not io then struck_plan p else p).messages ≡ p.messages)
-    × ((if fault && not io then struck_plan p else p).next ≡ p.next)
-still_plan true true p = (refl, refl)
-still_plan true false p = (refl, refl)
-still_plan false io p = (refl, refl)
+still_plan : (fault io : Bool) (l : Plan) → ((if fault && not io then struck_plan l else l).messages ≡ l.messages)
+    × ((if fault && not io then struck_plan l else l).next ≡ l.next)
+still_plan true true l = (refl, refl)
+still_plan true false l = (refl, refl)
+still_plan false io l = (refl, refl)
 
 completion_parts : (l : Link) (c : Change) → is_completion l c ≡ true → Completes l c.before c.after
 completion_parts l c e =

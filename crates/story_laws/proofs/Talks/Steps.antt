@@ -59,15 +59,15 @@ pub record StaysPhase (n : Connection) (l : Link) (t : Talk) (b : LineSet) (requ
   pub quiet : is_message_in t.bus ≡ true → rises t.bus.req b.req ≡ false
 
 -- What names a process goes on to do so where the messages and the unit still do.
-named_as : (s : ScenarioValue) (t u : Talk) (n : Connection) (l m : Link) → u.served ≡ t.served → (k : HasNames s t n l)
-    → OnMessages (IsNameOf k.named) u.messages → (m.unit ≡ k.named.unit) ⊎ IsUnnamed u k.named → HasNames s u n m
-named_as s t u n l m same k messages unit = record {
-  named = k.named;
-  served_is = same ∙ k.served_is;
-  is = k.is;
-  command = k.command;
-  initiator_is = k.initiator_is;
-  target_is = k.target_is;
+named_as : (s : ScenarioValue) (t u : Talk) (n : Connection) (l m : Link) → u.served ≡ t.served → (e : HasNames s t n l)
+    → OnMessages (IsNameOf e.named) u.messages → (m.unit ≡ e.named.unit) ⊎ IsUnnamed u e.named → HasNames s u n m
+named_as s t u n l m same e messages unit = record {
+  named = e.named;
+  served_is = same ∙ e.served_is;
+  is = e.is;
+  command = e.command;
+  initiator_is = e.initiator_is;
+  target_is = e.target_is;
   messages = messages;
   unit = unit;
 }
@@ -79,7 +79,7 @@ pub stays_by :
 stays_by s t n l b requests over w h = record {
   planned = h.planned;
   last = h.last;
-  completes = λ z. elim (h.completes z) [ inl k ↦ inl (taken k) | inr k ↦ inr (w.out_same ∙ k.0, k.1) ];
+  completes = λ z. elim (h.completes z) [ inl g ↦ inl (taken g) | inr g ↦ inr (w.out_same ∙ g.0, g.1) ];
   over = λ i e f. elim (w.over_by i f) [ inl z ↦ ended (h.over i e z) | inr z ↦ completed z ];
   closes = λ rs z here id e. closing rs z (sym w.in_same ∙ here) id e;
   selected = h.selected;
@@ -90,15 +90,15 @@ stays_by s t n l b requests over w h = record {
     u = record t { bus = b; requests = requests; over = over }
 
     taken : IsTaken t → IsTaken u
-    taken k =
-        record { here = w.in_same ∙ k.here; begun = k.begun; next_is = k.next_is; all = w.requests_are k.here ∙ k.all }
+    taken g =
+        record { here = w.in_same ∙ g.here; begun = g.begun; next_is = g.next_is; all = w.requests_are g.here ∙ g.all }
 
     ended : HasEnded t → HasEnded u
-    ended k = record {
-      taken = taken k.taken;
-      calm = w.attends k.taken.here k.answered ∙ k.calm;
-      answered = none_awaits t.bus.req t.bus.ack b.req b.ack k.answered (w.quiet k.taken.here)
-          (w.alternates k.taken.here).ends_answer;
+    ended g = record {
+      taken = taken g.taken;
+      calm = w.attends g.taken.here g.answered ∙ g.calm;
+      answered = none_awaits t.bus.req t.bus.ack b.req b.ack g.answered (w.quiet g.taken.here)
+          (w.alternates g.taken.here).ends_answer;
     }
 
     and_not : (q : Bool) → (q && not true) ≡ false
@@ -107,8 +107,8 @@ stays_by s t n l b requests over w h = record {
 
     completed : Completes l t.bus b → HasEnded u
     completed z = elim (h.completes z.last) [
-      | inl k ↦ record { taken = taken k; calm = z.calm; answered = (λ i. b.req && not (z.answered i)) ∙ and_not b.req }
-      | inr k ↦ not_both t.bus z.here k.0
+      | inl g ↦ record { taken = taken g; calm = z.calm; answered = (λ i. b.req && not (z.answered i)) ∙ and_not b.req }
+      | inr g ↦ not_both t.bus z.here g.0
     ]
 
     closing : n.reselected ≡ false → is_complete l.last ≡ true → is_message_in t.bus ≡ true → (id : ProcId)
@@ -131,7 +131,7 @@ stays_by s t n l b requests over w h = record {
         go false x (inr (inr y)) = wrong (sym y ∙ x)
 
     naming : HasNames s t n l → HasNames s u n l
-    naming k = named_as s t u n l l refl k k.messages (elim k.unit [
+    naming g = named_as s t u n l l refl g g.messages (elim g.unit [
       | inl e ↦ inl e
       | inr v ↦ inr (record {
         here = w.in_same ∙ v.here;
@@ -167,7 +167,7 @@ unended s t n l b requests w h i e f =
 
 -- No message is whole with it.
 pub in_part : (s : ScenarioValue) (t : Talk) (n : Connection) (l : Link) (b : LineSet) (requests : ℕ)
-    → CrossesIn t b requests → ((p : Process) → IsUnnamed t p → ⊥) → TalksBy s t n l
+    → CrossesIn t b requests → ((c : Process) → IsUnnamed t c → ⊥) → TalksBy s t n l
     → TalksBy s (record t { bus = b; requests = requests }) n l
 in_part s t n l b requests w none h = record {
   planned = h.planned;
@@ -180,16 +180,16 @@ in_part s t n l b requests w none h = record {
 }
   where
     naming : HasNames s t n l → HasNames s (record t { bus = b; requests = requests }) n l
-    naming k = named_as s t (record t { bus = b; requests = requests }) n l l refl k k.messages
-        (elim k.unit [ inl e ↦ inl e | inr v ↦ absurd (none k.named v) ])
+    naming g = named_as s t (record t { bus = b; requests = requests }) n l l refl g g.messages
+        (elim g.unit [ inl e ↦ inl e | inr v ↦ absurd (none g.named v) ])
 
 -- A message is whole with it: one of those that are planned.
 pub record HearsWell (t : Talk) (m : MsgIn) : Type 0 where
   pub stays : is_sense_item t.served ≡ true → is_disconnect_in (Some m) ≡ false
   pub completes : is_complete_in (Some m) ≡ true
       → (frees_bus t.next ≡ true) × (length (bytes_of_messages t.messages) ≡ 1)
-  pub names : (p : Process) → OnMessages (IsNameOf p) t.messages → IsNameOf p m
-  pub first : (p : Process) → IsUnnamed t p → m ≡ MsgIn.Identify p.unit
+  pub names : (c : Process) → OnMessages (IsNameOf c) t.messages → IsNameOf c m
+  pub first : (c : Process) → IsUnnamed t c → m ≡ MsgIn.Identify c.unit
 
 complete_is : (m : MsgIn) → is_complete (last_in m) ≡ true → is_complete_in (Some m) ≡ true
 complete_is MsgIn.CommandComplete e = refl
@@ -215,10 +215,10 @@ make_last false l e f = (λ i. not (e i) && true)
 small_count : (a : ℕ) → a < 1 → counted_on a ≡ 1
 small_count a lt = let e : a ≡ 0 = omega (arith, lt) in ap counted_on e
 
-pub heard_unit : (s : ScenarioValue) (b : Sent) (l : Link) (m : MsgIn) (p : Process) → l.unit ≡ p.unit → IsNameOf p m
-    → (link_after_name b s.commands l m).unit ≡ p.unit
-heard_unit s b l (MsgIn.Identify lun) p e f = f
-heard_unit s b l _ p e f = e
+pub heard_unit : (s : ScenarioValue) (b : Sent) (l : Link) (m : MsgIn) (c : Process) → l.unit ≡ c.unit → IsNameOf c m
+    → (link_after_name b s.commands l m).unit ≡ c.unit
+heard_unit s b l (MsgIn.Identify lun) c e f = f
+heard_unit s b l _ c e f = e
 
 pub in_whole :
     (s : ScenarioValue) (story : Story) (t : Talk) (n : Connection) (l : Link) (m : MsgIn) (b : LineSet) (requests : ℕ)
@@ -227,15 +227,15 @@ pub in_whole :
 in_whole s story t n l m b requests w hears h = record {
   planned = h.planned;
   last = make_last (is_sense_item t.served) (heard_link s story l m) before
-      (λ z. let k = plain_last (is_sense_item t.served) l h.last z in
-      (or_first (is_plain l.last) (is_complete l.last) k.1 before, stays_in m (hears.stays z)));
+      (λ z. let g = plain_last (is_sense_item t.served) l h.last z in
+      (or_first (is_plain l.last) (is_complete l.last) g.1 before, stays_in m (hears.stays z)));
   completes = λ z.
-      let k = hears.completes (complete_is m z) in
+      let g = hears.completes (complete_is m z) in
       inl (record {
         here = w.in_same;
         begun = w.begun;
-        next_is = k.0;
-        all = w.requests_are ∙ small_count t.requests (subst (λ (x : ℕ). t.requests < x) k.1 w.more) ∙ sym k.1;
+        next_is = g.0;
+        all = w.requests_are ∙ small_count t.requests (subst (λ (x : ℕ). t.requests < x) g.1 w.more) ∙ sym g.1;
       });
   over = λ i e f. unended s t n l b requests w h i e f;
   closes = λ rs z here id e. inr (inr w.waits);
@@ -247,10 +247,10 @@ in_whole s story t n l m b requests w hears h = record {
     before = incomplete s t n l b requests w h
 
     naming : HasNames s t n l → HasNames s (record t { bus = b; requests = requests }) n (heard_link s story l m)
-    naming k = named_as s t (record t { bus = b; requests = requests }) n l (heard_link s story l m) refl k k.messages
-        (inl (elim k.unit [
-          | inl e ↦ heard_unit s story.sent l m k.named e (hears.names k.named k.messages)
-          | inr v ↦ ap (λ (x : MsgIn). (link_after_name story.sent s.commands l x).unit) (hears.first k.named v)
+    naming g = named_as s t (record t { bus = b; requests = requests }) n l (heard_link s story l m) refl g g.messages
+        (inl (elim g.unit [
+          | inl e ↦ heard_unit s story.sent l m g.named e (hears.names g.named g.messages)
+          | inr v ↦ ap (λ (x : MsgIn). (link_after_name story.sent s.commands l x).unit) (hears.first g.named v)
         ]))
 
 -- ---- a byte of MESSAGE OUT crosses
@@ -262,9 +262,9 @@ out_closed s t n l out h i e f = not_both t.bus (h.over i e f).taken.here out
 out_named : (s : ScenarioValue) (t : Talk) (n : Connection) (l m : Link) (b : LineSet) (requests : ℕ) (last : Bool)
     → is_message_out t.bus ≡ true → m.unit ≡ l.unit → HasNames s t n l
     → HasNames s (record t { bus = b; requests = requests; is_last = last }) n m
-out_named s t n l m b requests last out same k = named_as s t
-    (record t { bus = b; requests = requests; is_last = last }) n l m refl k k.messages
-    (elim k.unit [ inl e ↦ inl (same ∙ e) | inr v ↦ not_both t.bus v.here out ])
+out_named s t n l m b requests last out same h = named_as s t
+    (record t { bus = b; requests = requests; is_last = last }) n l m refl h h.messages
+    (elim h.unit [ inl e ↦ inl (same ∙ e) | inr v ↦ not_both t.bus v.here out ])
 
 -- No message is whole with it; after the last byte one is.
 pub out_part : (s : ScenarioValue) (t : Talk) (n : Connection) (l : Link) (b : LineSet) (requests : ℕ) (last : Bool)
@@ -320,7 +320,7 @@ pub other_crosses : (s : ScenarioValue) (t : Talk) (n : Connection) (l : Link) (
 other_crosses s t n l b requests ein eout ein' h = record {
   planned = h.planned;
   last = h.last;
-  completes = λ z. elim (h.completes z) [ inl k ↦ wrong (sym k.here ∙ ein) | inr k ↦ wrong (sym k.0 ∙ eout) ];
+  completes = λ z. elim (h.completes z) [ inl g ↦ wrong (sym g.here ∙ ein) | inr g ↦ wrong (sym g.0 ∙ eout) ];
   over = λ i e f. wrong (sym (h.over i e f).taken.here ∙ ein);
   closes = λ rs z here id e. wrong (sym here ∙ ein');
   selected = h.selected;
@@ -328,8 +328,8 @@ other_crosses s t n l b requests ein eout ein' h = record {
 }
   where
     naming : HasNames s t n l → HasNames s (record t { bus = b; requests = requests }) n l
-    naming k = named_as s t (record t { bus = b; requests = requests }) n l l refl k k.messages
-        (elim k.unit [ inl e ↦ inl e | inr v ↦ wrong (sym v.here ∙ ein) ])
+    naming g = named_as s t (record t { bus = b; requests = requests }) n l l refl g g.messages
+        (elim g.unit [ inl e ↦ inl e | inr v ↦ wrong (sym v.here ∙ ein) ])
 
 -- ---- the phase changes
 
@@ -337,8 +337,8 @@ pub record TurnsTo (t : Talk) (l : Link) (b : LineSet) (messages : Messages) (ne
   pub planned : plans_well (is_sense_item t.served) messages next ≡ true
   pub taken : IsTaken t → (t.bus.atn ≡ true) × (is_message_out b ≡ true)
   pub said : is_message_out t.bus ≡ true → t.is_last ≡ true
-  pub names : (p : Process) → OnMessages (IsNameOf p) t.messages → OnMessages (IsNameOf p) messages
-  pub named : (p : Process) → IsUnnamed t p → ⊥
+  pub names : (c : Process) → OnMessages (IsNameOf c) t.messages → OnMessages (IsNameOf c) messages
+  pub named : (c : Process) → IsUnnamed t c → ⊥
 
 pub turns_by : (s : ScenarioValue) (t : Talk) (n : Connection) (l : Link) (b : LineSet) (messages : Messages)
     (next : Next) (requests : ℕ) → TurnsTo t l b messages next → TalksBy s t n l → TalksBy s
@@ -347,17 +347,17 @@ turns_by s t n l b messages next requests w h = record {
   planned = w.planned;
   last = h.last;
   completes = λ z. inr (out z, refl);
-  over = λ i e f. let k = h.over i e f in wrong (sym (w.taken k.taken).0 ∙ k.calm);
+  over = λ i e f. let g = h.over i e f in wrong (sym (w.taken g.taken).0 ∙ g.calm);
   closes = λ rs z here id e. not_both b here (out z);
   selected = h.selected;
   names = λ r. naming (h.names r);
 }
   where
     out : is_complete l.last ≡ true → is_message_out b ≡ true
-    out z = elim (h.completes z) [ inl k ↦ (w.taken k).1 | inr k ↦ wrong (sym (w.said k.0) ∙ k.1) ]
+    out z = elim (h.completes z) [ inl g ↦ (w.taken g).1 | inr g ↦ wrong (sym (w.said g.0) ∙ g.1) ]
 
     naming : HasNames s t n l → HasNames s
         (record t { messages = messages; next = next; begun = true; bus = b; requests = requests; is_last = false }) n l
-    naming k = named_as s t
+    naming g = named_as s t
         (record t { messages = messages; next = next; begun = true; bus = b; requests = requests; is_last = false }) n l
-        l refl k (w.names k.named k.messages) (elim k.unit [ inl e ↦ inl e | inr v ↦ absurd (w.named k.named v) ])
+        l refl g (w.names g.named g.messages) (elim g.unit [ inl e ↦ inl e | inr v ↦ absurd (w.named g.named v) ])

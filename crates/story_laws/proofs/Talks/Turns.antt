@@ -15,11 +15,11 @@ use proofs.Talks.{Rows.{TalkRow, stays_talk}, Steps.{TurnsTo, turns_by}}
 
 -- ---- how a phase is left
 
-pub others_named : (p : Process) → IsOfOthers (IsNameOf p)
-others_named p = record { complete = tt; save = tt; restore = tt; disconnect = tt; sdtr = λ a. tt; reject = tt }
+pub others_named : (c : Process) → IsOfOthers (IsNameOf c)
+others_named c = record { complete = tt; save = tt; restore = tt; disconnect = tt; sdtr = λ a. tt; reject = tt }
 
-pub from_named : (q : MsgIn → Type 0) (m : Messages) (n : ℕ) → OnMessages q m → OnMessages q (from_byte m n)
-from_named q m n h = go (nat_lt n (length (message_bytes m.first)))
+pub from_named : (q : MsgIn → Type 0) (m : Messages) (i : ℕ) → OnMessages q m → OnMessages q (from_byte m i)
+from_named q m i h = go (nat_lt i (length (message_bytes m.first)))
   where
     go : (x : Bool) → OnMessages q (if x then m else record { first = m.second; second = None })
     go true = h
@@ -62,30 +62,30 @@ taken_leaves s k dev t =
 
 -- ---- what is planned
 
-turn_planned : (sense : Bool) (w : Hearing) (l : Leaving) (p : Plan)
-    → plans_well sense p.messages p.next ≡ true → plans_well sense l.messages l.next ≡ true
-    → plans_well sense (plan_in_phase w l p).messages (plan_in_phase w l p).next ≡ true
-turn_planned sense w l p was next = go (is_message_out w.change.after) w.begun (is_message_in w.change.before)
+turn_planned : (sense : Bool) (w : Hearing) (l : Leaving) (a : Plan)
+    → plans_well sense a.messages a.next ≡ true → plans_well sense l.messages l.next ≡ true
+    → plans_well sense (plan_in_phase w l a).messages (plan_in_phase w l a).next ≡ true
+turn_planned sense w l a was next = go (is_message_out w.change.after) w.begun (is_message_in w.change.before)
   where
     refused : Bool → Plan
-    refused z = record (plan_anew p) {
+    refused z = record (plan_anew a) {
       cause = cause_after w.change.before;
       messages =
-          if z then from_byte p.messages (w.offered - 1) else p.messages;
+          if z then from_byte a.messages (w.offered - 1) else a.messages;
     }
 
-    go : (q r z : Bool) → plans_well sense (if not q then record (plan_anew p) { messages = l.messages; next = l.next }
-        else if r then refused z else plan_anew p).messages
-        (if not q then record (plan_anew p) { messages = l.messages; next = l.next }
-        else if r then refused z else plan_anew p).next ≡ true
+    go : (q r z : Bool) → plans_well sense (if not q then record (plan_anew a) { messages = l.messages; next = l.next }
+        else if r then refused z else plan_anew a).messages
+        (if not q then record (plan_anew a) { messages = l.messages; next = l.next }
+        else if r then refused z else plan_anew a).next ≡ true
     go false r z = next
-    go true true true = from_well sense p.messages p.next (w.offered - 1) was
+    go true true true = from_well sense a.messages a.next (w.offered - 1) was
     go true true false = was
     go true false z = was
 
-turn_named : (p : Process) (w : Hearing) (l : Leaving) (x : Plan) → OnMessages (IsNameOf p) x.messages
-    → OnMessages (IsNameOf p) l.messages → OnMessages (IsNameOf p) (plan_in_phase w l x).messages
-turn_named p w l x was next = go (is_message_out w.change.after) w.begun (is_message_in w.change.before)
+turn_named : (c : Process) (w : Hearing) (l : Leaving) (x : Plan) → OnMessages (IsNameOf c) x.messages
+    → OnMessages (IsNameOf c) l.messages → OnMessages (IsNameOf c) (plan_in_phase w l x).messages
+turn_named c w l x was next = go (is_message_out w.change.after) w.begun (is_message_in w.change.before)
   where
     refused : Bool → Plan
     refused z = record (plan_anew x) {
@@ -95,10 +95,10 @@ turn_named p w l x was next = go (is_message_out w.change.after) w.begun (is_mes
     }
 
     go : (q r z : Bool)
-        → OnMessages (IsNameOf p) (if not q then record (plan_anew x) { messages = l.messages; next = l.next }
+        → OnMessages (IsNameOf c) (if not q then record (plan_anew x) { messages = l.messages; next = l.next }
         else if r then refused z else plan_anew x).messages
     go false r z = next
-    go true true true = from_named (λ m. IsNameOf p m) x.messages (w.offered - 1) was
+    go true true true = from_named (λ m. IsNameOf c m) x.messages (w.offered - 1) was
     go true true false = was
     go true false z = was
 

@@ -83,18 +83,18 @@ no_item : (a : Option AbortKind) → is_none a ≡ true → a ≡ None
 no_item None e = refl
 no_item (Some x) e = wrong' e
 
-process_none : (s : ScenarioValue) (said : Said) (id : ProcId) (p : Process) → process_of s id ≡ Some p
+process_none : (s : ScenarioValue) (said : Said) (id : ProcId) (c : Process) → process_of s id ≡ Some c
     → is_item_named s said (Some (process id)) ≡ true → said.aborts ≡ None
-process_none s said id p e h = no_item said.aborts (and_parts (is_none said.aborts)
-    (is_unit said.unit p.unit) (and_parts (is_none said.aborts && is_unit said.unit p.unit)
-    (Rattle.due_model.specs.Faithful.same_tag said.tag p.tag) (sym (ap (is_process_named said) e) ∙ h)).0).0
+process_none s said id c e h = no_item said.aborts (and_parts (is_none said.aborts)
+    (is_unit said.unit c.unit) (and_parts (is_none said.aborts && is_unit said.unit c.unit)
+    (Rattle.due_model.specs.Faithful.same_tag said.tag c.tag) (sym (ap (is_process_named said) e) ∙ h)).0).0
 
-pub none_heard : (s : ScenarioValue) (k : RunState) (n : Connection) (id : ProcId) (p : Process)
-    → Speaks s k n → k.served ≡ Some (process id) → process_of s id ≡ Some p → k.exchange.begun ≡ true
+pub none_heard : (s : ScenarioValue) (k : RunState) (n : Connection) (id : ProcId) (t : Process)
+    → Speaks s k n → k.served ≡ Some (process id) → process_of s id ≡ Some t → k.exchange.begun ≡ true
     → is_message_out (bus_of k) ≡ true → k.story.bus_state.dialogue.is_last ≡ true
     → (k.exchange.plan.cause ≡ Cause.Selected → is_item_named s k.exchange.plan.said k.served ≡ true)
     → k.exchange.plan.said.aborts ≡ None
-none_heard s k n id p speaks served of b out last named =
+none_heard s k n id t speaks served of b out last named =
     let w = speaks.in_message_out b out in
     go k.exchange.plan.cause refl w.words_for (w.heard.last last)
   where
@@ -110,7 +110,7 @@ none_heard s k n id p speaks served of b out last named =
         ≡ understood nothing_understood k.exchange.speech.words
         → k.exchange.plan.said.aborts ≡ None
     go _ c (opens e) g =
-        process_none s k.exchange.plan.said id p of (ap (is_item_named s k.exchange.plan.said) (sym served) ∙ named c)
+        process_none s k.exchange.plan.said id t of (ap (is_item_named s k.exchange.plan.said) (sym served) ∙ named c)
     go _ c (refuses e) g = heard parity_error e refused_none g
     go _ c (answers e) g = heard (answer_bytes (host_of s n.initiator) k.exchange.speech.asked) e
         (answered_none (host_of s n.initiator) k.exchange.speech.asked) g

@@ -11,7 +11,7 @@ use proofs.Names.{arrival_if, is_idle_unit, same_kind, same_event, same_events, 
 
 -- ---- a list of events is itself
 
-self_kind : (k : AbortKind) → same_kind k k ≡ true
+self_kind : (a : AbortKind) → same_kind a a ≡ true
 self_kind (AbortKind.Tag n) = eq_self n
 self_kind _ = refl
 
@@ -38,39 +38,39 @@ some_settled : (x : Option Array) → is_some (settled_array_if x) ≡ is_some x
 some_settled None = refl
 some_settled (Some a) = refl
 
-queued : (id : ProcId) (policy : Policy) (a : Array) (p : Process) (u : UnitState)
-    → (if is_some (queue_step a p u) then Event.Accept id else Event.Refuse id) ≡ arrival_event id
+queued : (id : ProcId) (policy : Policy) (a : Array) (c : Process) (u : UnitState)
+    → (if is_some (queue_step a c u) then Event.Accept id else Event.Refuse id) ≡ arrival_event id
     (arrival_in policy (record { full = not (nat_lt (process_count u) u.depth); idle = is_idle_unit a u }))
-queued id policy a p u = go (nat_lt (process_count u) u.depth) (is_never policy && is_idle_unit a u)
+queued id policy a c u = go (nat_lt (process_count u) u.depth) (is_never policy && is_idle_unit a u)
   where
     go : (q r : Bool) → (if is_some (if q then Some (record a {
-      units = with_unit a.units (record u { waiting = u.waiting ++ p ∷ [] });
+      units = with_unit a.units (record u { waiting = u.waiting ++ c ∷ [] });
     }) else None) then Event.Accept id else Event.Refuse id)
         ≡ arrival_event id (if not q then Arrival.Refused else if r then Arrival.AtOnce else Arrival.Queued)
     go true true = refl
     go true false = refl
     go false r = refl
 
-accepts : (id : ProcId) (policy : Policy) (a : Array) (p : Process) (x : Option UnitState)
-    → (if is_some (accept_step_at a p x) then Event.Accept id else Event.Refuse id)
-    ≡ arrival_event id (arrival_by policy (is_request_sense (command_of p.cdb)) (room_of a x))
-accepts id policy a p None = refl
-accepts id policy a p (Some u) = go (is_request_sense (command_of p.cdb))
+accepts : (id : ProcId) (policy : Policy) (a : Array) (c : Process) (x : Option UnitState)
+    → (if is_some (accept_step_at a c x) then Event.Accept id else Event.Refuse id)
+    ≡ arrival_event id (arrival_by policy (is_request_sense (command_of c.cdb)) (room_of a x))
+accepts id policy a c None = refl
+accepts id policy a c (Some u) = go (is_request_sense (command_of c.cdb))
   where
-    go : (q : Bool) → (if is_some (if q then Some (with_guest a p None) else queue_step a p u) then Event.Accept id
+    go : (q : Bool) → (if is_some (if q then Some (with_guest a c None) else queue_step a c u) then Event.Accept id
         else Event.Refuse id) ≡ arrival_event id (if q then Arrival.Guest
         else arrival_in policy (record { full = not (nat_lt (process_count u) u.depth); idle = is_idle_unit a u }))
     go true = refl
-    go false = queued id policy a p u
+    go false = queued id policy a c u
 
-pub arrives : (s : ScenarioValue) (id : ProcId) (policy : Policy) (a : Array) (p : Process) → process_of s id ≡ Some p
+pub arrives : (s : ScenarioValue) (id : ProcId) (policy : Policy) (a : Array) (c : Process) → process_of s id ≡ Some c
     → (if is_some (array_step s (Event.Accept id) (Some a)) then Event.Accept id else Event.Refuse id)
-    ≡ arrival_event id (arrival_if policy a (Some p))
-arrives s id policy a p e =
+    ≡ arrival_event id (arrival_if policy a (Some c))
+arrives s id policy a c e =
     (λ i. if is_some (settled_array_if (accept_step a (e i))) then Event.Accept id else Event.Refuse id)
     ∙ ap (λ (q : Bool). if q then Event.Accept id else Event.Refuse id)
-    (some_settled (accept_step_at a p (unit_state_at a.units p.target p.unit)))
-    ∙ accepts id policy a p (unit_state_at a.units p.target p.unit)
+    (some_settled (accept_step_at a c (unit_state_at a.units c.target c.unit)))
+    ∙ accepts id policy a c (unit_state_at a.units c.target c.unit)
 
 -- ---- the first STATUS phase
 

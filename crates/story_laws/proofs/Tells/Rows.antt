@@ -23,9 +23,9 @@ record HasTask (s : ScenarioValue) (k : RunState) : Type 0 where
   task : Task
   task_is : task_of s k ≡ Some task
 
-has_task : (s : ScenarioValue) (k : RunState) (id : ProcId) (p : Process) → k.served ≡ Some (process id)
-    → process_of s id ≡ Some p → HasTask s k
-has_task s k id p served of = record { task = _; task_is = ap (task_if s k) (ap (process_item s) served ∙ of) }
+has_task : (s : ScenarioValue) (k : RunState) (id : ProcId) (c : Process) → k.served ≡ Some (process id)
+    → process_of s id ≡ Some c → HasTask s k
+has_task s k id c served of = record { task = _; task_is = ap (task_if s k) (ap (process_item s) served ∙ of) }
 
 -- ---- MESSAGE OUT, as it is left
 
@@ -112,12 +112,12 @@ named_of : (s : ScenarioValue) (k : RunState) (n : Connection) (l : Link) → He
     ⊎ ((phase_of (bus_of k) ≡ Phase.MessageIn) × ((bus_of k).atn ≡ true))
 named_of s k n l h e = h.tells.naming (ap item_of h.link_is ∙ e)
 
-group_is : (s : ScenarioValue) (k : RunState) (n : Connection) (l : Link) (id : ProcId) (p : Process)
-    → Here s k n l → k.served ≡ Some (process id) → process_of s id ≡ Some p → phase_of (bus_of k) ≡ Phase.Command
+group_is : (s : ScenarioValue) (k : RunState) (n : Connection) (l : Link) (id : ProcId) (c : Process)
+    → Here s k n l → k.served ≡ Some (process id) → process_of s id ≡ Some c → phase_of (bus_of k) ≡ Phase.Command
     → k.exchange.plan.struck ≡ false → has_group_len (carried_here k id).block ≡ true
-group_is s k n l id p h served of e f =
-    subst (λ (x : ProcId). has_group_len (carried_here k x).block ≡ true) (process_id s id p of)
-    (command_over s k n p (command_is (bus_of k) ∙ ap is_command_phase e) h.over (ap (process_item s) served ∙ of) f)
+group_is s k n l id c h served of e f =
+    subst (λ (x : ProcId). has_group_len (carried_here k x).block ≡ true) (process_id s id c of)
+    (command_over s k n c (command_is (bus_of k) ∙ ap is_command_phase e) h.over (ap (process_item s) served ∙ of) f)
 
 pub turned : (s : ScenarioValue) (k : RunState) (n : Connection) (l : Link) (c : Change)
     → Here s k n l → bus_of k ≡ c.before → (leaving s k n.target).to ≡ Some (phase_of c.after)
@@ -131,19 +131,19 @@ turned s k n l c h on to = go h.tells.served
     row_by : Option Item → List Event
     row_by item = phase_events s k.story (carried_if k.story item) c
 
-    own : (id : ProcId) (p : Process) → k.served ≡ Some (process id) → process_of s id ≡ Some p → item_is_served k n l
+    own : (id : ProcId) (t : Process) → k.served ≡ Some (process id) → process_of s id ≡ Some t → item_is_served k n l
         → events_by k.served ≡ row_by l.item
-    own id p served of (inl same) =
+    own id t served of (inl same) =
         let item : l.item ≡ Some (process id) = same ∙ served in
-        ap events_by served ∙ turn_told s k n c id p h.array on served of h.array_is h.plays h.shown h.begun
-        (h.tells.failure id (ap item_of h.link_is ∙ item)) (group_is s k n l id p h served of) to
+        ap events_by served ∙ turn_told s k n c id t h.array on served of h.array_is h.plays h.shown h.begun
+        (h.tells.failure id (ap item_of h.link_is ∙ item)) (group_is s k n l id t h served of) to
         ∙ ap row_by (sym item)
-    own id p served of (inr none) = ap events_by served
+    own id t served of (inr none) = ap events_by served
         ∙ silent_out (serving_of s k n.target) (bus_of k).atn (phase_of (bus_of k)) id (named_of s k n l h none.1)
         ∙ ap row_by (sym none.1)
 
     go : IsServed s k n → events_by k.served ≡ row_by l.item
-    go (of_process id p served of) = own id p served of h.item_is
+    go (of_process id t served of) = own id t served of h.item_is
     go (of_abort m a served line host target selected alone) = aborting h.item_is
       where
         aborting : item_is_served k n l → events_by k.served ≡ row_by l.item
@@ -168,18 +168,18 @@ ended s k n l h to = go h.tells.served
     by item = same_events (connection_end_events n k.exchange.plan (phase_of (bus_of k)) (id_of item))
         (bus_free_events s l l.last)
 
-    own : (id : ProcId) (p : Process) → k.served ≡ Some (process id) → process_of s id ≡ Some p → item_is_served k n l
+    own : (id : ProcId) (c : Process) → k.served ≡ Some (process id) → process_of s id ≡ Some c → item_is_served k n l
         → by k.served ≡ true
-    own id p served of (inl same) =
-        let task = has_task s k id p served of in
+    own id c served of (inl same) =
+        let task = has_task s k id c served of in
         ap by served ∙ same_lists _ _ (lost_told s v n task.task id l (bus_of k).atn (phase_of (bus_of k)) task.task_is
         (same ∙ served) (λ e. let w = is_heard s k n h.units h.speaks h.begun h.known h.over e in
-        none_heard s k n id p h.speaks served of h.begun w.out w.last w.named) (h.tells.last l h.link_is) stops)
-    own id p served of (inr none) =
+        none_heard s k n id c h.speaks served of h.begun w.out w.last w.named) (h.tells.last l h.link_is) stops)
+    own id c served of (inr none) =
         wrong (sym (never_ends v (bus_of k).atn (phase_of (bus_of k)) (named_of s k n l h none.1)) ∙ stops)
 
     go : IsServed s k n → by k.served ≡ true
-    go (of_process id p served of) = own id p served of h.item_is
+    go (of_process id c served of) = own id c served of h.item_is
     go (of_abort m a served line host target selected alone) = aborting h.item_is
       where
         aborting : item_is_served k n l → by k.served ≡ true

@@ -115,26 +115,26 @@ arrived_told s b c before id plan arrival attention phase e fails h =
     go _ w g = refl
 
 -- What becomes of it as the plain disk array has room.
-queue_told : (s : ScenarioValue) (k : RunState) (dev : ℕ) (id : ProcId) (p : Process) (a : Array)
-    → process_served s k ≡ Some p → process_of s id ≡ Some p
+queue_told : (s : ScenarioValue) (k : RunState) (dev : ℕ) (id : ProcId) (c : Process) (a : Array)
+    → process_served s k ≡ Some c → process_of s id ≡ Some c
     → k.array ≡ Some a → array_after s k.story.history ≡ k.array
     → queue_event s k.story.history id ≡ arrival_event id (arrival_at s k dev Phase.Command)
-queue_told s k dev id p a served of some plays =
+queue_told s k dev id c a served of some plays =
     (λ i. if is_some (array_step s (Event.Accept id) ((plays ∙ some) i)) then Event.Accept id else Event.Refuse id)
-    ∙ arrives s id (policy_of (target_def_of s dev)) a p of
+    ∙ arrives s id (policy_of (target_def_of s dev)) a c of
     ∙ (λ i. arrival_event id (arrival_if (policy_of (target_def_of s dev)) (or_start s (sym some i)) (sym served i)))
 
 -- ---- the phase is left
 
-pub turn_told : (s : ScenarioValue) (k : RunState) (n : Connection) (c : Change) (id : ProcId) (p : Process) (a : Array)
-    → bus_of k ≡ c.before → k.served ≡ Some (process id) → process_of s id ≡ Some p → k.array ≡ Some a
+pub turn_told : (s : ScenarioValue) (k : RunState) (n : Connection) (c : Change) (id : ProcId) (t : Process) (a : Array)
+    → bus_of k ≡ c.before → k.served ≡ Some (process id) → process_of s id ≡ Some t → k.array ≡ Some a
     → array_after s k.story.history ≡ k.array → AreRepliesShown s k → k.exchange.begun ≡ true
     → FailsIn k.exchange.plan (bus_of k).atn (carried_here k id) (phase_of (bus_of k))
     → (phase_of (bus_of k) ≡ Phase.Command → k.exchange.plan.struck ≡ false
     → has_group_len (carried_here k id).block ≡ true) → (leaving s k n.target).to ≡ Some (phase_of c.after)
     → turn_events (serving_of s k n.target) (bus_of k).atn (phase_of (bus_of k)) id
     ≡ phase_events s k.story (Some (carried_here k id)) c
-turn_told s k n c id p a on served of some plays shown begun fails group to =
+turn_told s k n c id t a on served of some plays shown begun fails group to =
     (λ i. newest_with (if status i && not (replied i) then reply_events id v.plan v.arrival phase else [])
     (arrival_events id v.plan v.arrival phase))
     ∙ with_status own (is_status_phase c.after)
@@ -156,7 +156,7 @@ turn_told s k n c id p a on served of some plays shown begun fails group to =
     same : own.id ≡ id
     same = carried_id k.story.carried id
 
-    here : process_served s k ≡ Some p
+    here : process_served s k ≡ Some t
     here = ap (process_item s) served ∙ of
 
     status : is_status_next (phase_leaving v (bus_of k).atn phase).to ≡ is_status_phase c.after
@@ -165,12 +165,12 @@ turn_told s k n c id p a on served of some plays shown begun fails group to =
 
     replied : has_replied (task_of s k) ≡ is_marked own
     replied = ap (λ (o : Option Process). has_replied (task_if s k o)) here
-        ∙ ap (λ (x : ProcId). is_some (reply_in (array_of s k).replies x)) (process_id s id p of) ∙ shown id
+        ∙ ap (λ (x : ProcId). is_some (reply_in (array_of s k).replies x)) (process_id s id t of) ∙ shown id
 
     arrived : queue_events s k.story (Some own) c.before ≡ arrival_events id v.plan v.arrival phase
     arrived = arrived_told s k.story own c.before id v.plan v.arrival (bus_of k).atn phase (ap phase_of (sym on)) fails
         (λ e. (
-          ap (queue_event s k.story.history) same ∙ queue_told s k n.target id p a here of some plays
+          ap (queue_event s k.story.history) same ∙ queue_told s k n.target id t a here of some plays
               ∙ ap (λ (f : Phase). arrival_event id (arrival_at s k n.target f)) (sym e),
           group e,
         ))

@@ -18,16 +18,16 @@ use proofs.Undone.{Answers.{row_undoes, stays_by}, Rows.{IsKeptInside, fits_hear
 pub undo_start : {A : Type 0} (what : CarriedBytes → A) (s : ScenarioValue) → UndoFacts what s []
 undo_start what s n e calm = none_some n e
 
-pub all_by : (fits : Type 0) (p : Plan) (x : ℕ) (phase : Phase) → fits → UndoBy fits p x phase
-all_by fits p x Phase.MessageOut h = asked p.cause
+pub all_by : (fits : Type 0) (l : Plan) (x : ℕ) (phase : Phase) → fits → UndoBy fits l x phase
+all_by fits l x Phase.MessageOut h = asked l.cause
   where
     asked : (cause : Cause) → UndoAsked fits cause
     asked Cause.Selected = h
     asked Cause.InMessage = h
     asked Cause.InData = tt
     asked Cause.InStatus = tt
-all_by fits p x Phase.MessageIn h = inl h
-all_by fits p x _ h = tt
+all_by fits l x Phase.MessageIn h = inl h
+all_by fits l x _ h = tt
 
 undo_begins : {A : Type 0} (what : CarriedBytes → A) (s : ScenarioValue) (p : List Row) (row : Row) (n : Connection)
     → AreOfDevices p → row.dev < 8 → connection p ≡ None → connection (row ∷ p) ≡ Some n → (bus (row ∷ p)).rst ≡ false

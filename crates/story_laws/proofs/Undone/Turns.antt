@@ -91,7 +91,7 @@ turn_keeps what kept s k row n c l t undoes h = record {
     at : (phase : Phase) → phase_of c.after ≡ phase
         → UndoBy (UndoFits what j) j.exchange.plan j.handshakes.requests phase
         → UndoBy (UndoFits what j) j.exchange.plan j.handshakes.requests (phase_of (bus_of j))
-    at phase e w = subst (λ (p : Phase). UndoBy (UndoFits what j) j.exchange.plan j.handshakes.requests p)
+    at phase e w = subst (λ (y : Phase). UndoBy (UndoFits what j) j.exchange.plan j.handshakes.requests y)
         (sym (ap phase_of i.bus_is ∙ e)) w
 
     -- MESSAGE OUT begins
@@ -104,7 +104,7 @@ turn_keeps what kept s k row n c l t undoes h = record {
         ∙ ap (λ (x : Plan). x.cause) (plan_out (hearing_of k row (reading_in k.story.bus_state n c false))
         (leaving s k n.target) k.exchange.plan out b) ∙ (t.speaks.before_all b).cause_is in
         at Phase.MessageOut (out_phase c.after out) (subst (UndoAsked (UndoFits what j)) (sym cause)
-        (quiet (t.idle b) (ap (λ (p : Phase). is_status_next (Some p)) (out_phase c.after out)) (h.unbegun b)))
+        (quiet (t.idle b) (ap (λ (y : Phase). is_status_next (Some y)) (out_phase c.after out)) (h.unbegun b)))
 
     refused : k.exchange.begun ≡ true → phase_of c.after ≡ Phase.MessageOut
         → UndoAsked (UndoFits what j) j.exchange.plan.cause
@@ -122,13 +122,13 @@ turn_keeps what kept s k row n c l t undoes h = record {
             subst (UndoAsked (UndoFits what j))
             (ap (λ (q : Bool). if q then Cause.InMessage else if c.before.cd then Cause.InStatus else Cause.InData)
             (sym f)) (given here
-            (subst (λ (p : Phase). UndoBy (UndoFits what k) k.exchange.plan k.handshakes.requests p) here (h.begun b)))
+            (subst (λ (y : Phase). UndoBy (UndoFits what k) k.exchange.plan k.handshakes.requests y) here (h.begun b)))
           where
             given : phase_of (bus_of k) ≡ Phase.MessageIn
                 → UndoFits what k ⊎ ((k.handshakes.requests ≡ 0) × (is_short k.exchange.plan.messages.first ≡ true))
                 → UndoFits what j
             given here (inl w) = quiet (command_is (bus_of k) ∙ ap is_command_phase here)
-                (ap (λ (p : Phase). is_status_next (Some p)) e) w
+                (ap (λ (y : Phase). is_status_next (Some y)) e) w
             given here (inr w) = wrong (sym (ap (λ (x : ℕ). x == 0) w.0) ∙ leaves.some here)
 
     heard : k.exchange.begun ≡ true → phase_of c.after ≡ Phase.MessageIn
@@ -146,7 +146,7 @@ turn_keeps what kept s k row n c l t undoes h = record {
 
         to : is_to_message_in (phase_leaving v (bus_of k).atn (phase_of (bus_of k))).to ≡ true
         to = ap (λ (x : Leaving). is_to_message_in x.to) (sym leaving_is)
-            ∙ ap is_to_message_in (t.whereto b ∙ ap (λ (p : Phase). Some p) e)
+            ∙ ap is_to_message_in (t.whereto b ∙ ap (λ (y : Phase). Some y) e)
 
         short : (phase_of (bus_of k) ≡ Phase.MessageOut → is_detected k.exchange.plan.cause ≡ true)
             → UndoFits what j ⊎ ((j.handshakes.requests ≡ 0) × (is_short j.exchange.plan.messages.first ≡ true))
@@ -163,10 +163,10 @@ turn_keeps what kept s k row n c l t undoes h = record {
             → UndoFits what j ⊎ ((j.handshakes.requests ≡ 0) × (is_short j.exchange.plan.messages.first ≡ true))
         said here true f = short (λ z. f)
         said here false f = inl (quiet (command_is (bus_of k) ∙ ap is_command_phase here)
-            (ap (λ (p : Phase). is_status_next (Some p)) e) (asked_fits (UndoFits what k) k.exchange.plan.cause f
-            (subst (λ (p : Phase). UndoBy (UndoFits what k) k.exchange.plan k.handshakes.requests p) here (h.begun b))))
+            (ap (λ (y : Phase). is_status_next (Some y)) e) (asked_fits (UndoFits what k) k.exchange.plan.cause f
+            (subst (λ (y : Phase). UndoBy (UndoFits what k) k.exchange.plan k.handshakes.requests y) here (h.begun b))))
 
-        by : (p : Phase) → phase_of (bus_of k) ≡ p
+        by : (y : Phase) → phase_of (bus_of k) ≡ y
             → UndoFits what j ⊎ ((j.handshakes.requests ≡ 0) × (is_short j.exchange.plan.messages.first ≡ true))
         by Phase.MessageOut z = said z (is_detected k.exchange.plan.cause) refl
         by _ z = short (λ w. wrong' (ap is_out (sym z ∙ w)))
@@ -176,7 +176,7 @@ turn_keeps what kept s k row n c l t undoes h = record {
     go false b = first_out b
     go true b = by (phase_of c.after) refl
       where
-        by : (p : Phase) → phase_of c.after ≡ p
+        by : (y : Phase) → phase_of c.after ≡ y
             → UndoBy (UndoFits what j) j.exchange.plan j.handshakes.requests (phase_of (bus_of j))
         by Phase.MessageOut e = at Phase.MessageOut e (refused b e)
         by Phase.MessageIn e = at Phase.MessageIn e (heard b e)

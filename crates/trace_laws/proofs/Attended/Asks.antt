@@ -45,9 +45,9 @@ rests_given a id h r reply e f = go (guest_at a.guests id) refl e
     go None g z = none_some reply (sym (unanswered (reply_in a.replies id) (has_ended a id) a.units id r h.units z) ∙ f)
     go (Some x) g z = absurd (away_guest a.guests id x h.guests g)
 
-runs_given : (a : Array) (p : Process) → RunsOpen a p → HasReplyGiven a p.id
-runs_given a p h r reply e f = none_some reply
-    (ap (λ (y : RunningProcess). y.reply) (same_Some (without_reply p) r (sym h.runs.running_is ∙ e)) ∙ f)
+runs_given : (a : Array) (c : Process) → RunsOpen a c → HasReplyGiven a c.id
+runs_given a c h r reply e f = none_some reply
+    (ap (λ (y : RunningProcess). y.reply) (same_Some (without_reply c) r (sym h.runs.running_is ∙ e)) ∙ f)
 
 answered_given : (a : Array) (id : ProcId) → AnsweredOpen a id → HasReplyGiven a id
 answered_given a id h r reply e f =
@@ -55,32 +55,32 @@ answered_given a id h r reply e f =
     let same : w.running ≡ r = same_Some w.running r (sym w.running_is ∙ e) in
     w.given ∙ sym w.reply_is ∙ ap (λ (y : RunningProcess). y.reply) same ∙ f
 
-before_given : (a : Array) (p : Process) (m : Messages) (next : Next) → PlacedBefore a p m next → HasReplyGiven a p.id
-before_given a p m Next.Command h = rests_given a p.id (untouched_rests a p.id h)
-before_given a p m Next.GoOn h = runs_given a p h
-before_given a p m Next.Status h = answered_given a p.id h
-before_given a p m Next.FreeBus h = go h
+before_given : (a : Array) (c : Process) (m : Messages) (next : Next) → PlacedBefore a c m next → HasReplyGiven a c.id
+before_given a c m Next.Command h = rests_given a c.id (untouched_rests a c.id h)
+before_given a c m Next.GoOn h = runs_given a c h
+before_given a c m Next.Status h = answered_given a c.id h
+before_given a c m Next.FreeBus h = go h
   where
-    go : Closes a p m → HasReplyGiven a p.id
-    go (completes e w) = answered_given a p.id w
-    go (disconnects e w open_is q) = rests_given a p.id w
+    go : Closes a c m → HasReplyGiven a c.id
+    go (completes e w) = answered_given a c.id w
+    go (disconnects e w open_is q) = rests_given a c.id w
 
-asked_given : (a : Array) (p : Process) (plan : Plan) (cause : Cause) → PlacedAsked a p plan cause
-    → HasReplyGiven a p.id
-asked_given a p plan Cause.Selected h = rests_given a p.id (untouched_rests a p.id h)
-asked_given a p plan Cause.InMessage h = before_given a p plan.messages plan.next h
-asked_given a p plan Cause.InData h = runs_given a p h
-asked_given a p plan Cause.InStatus h = answered_given a p.id h
+asked_given : (a : Array) (c : Process) (plan : Plan) (cause : Cause) → PlacedAsked a c plan cause
+    → HasReplyGiven a c.id
+asked_given a c plan Cause.Selected h = rests_given a c.id (untouched_rests a c.id h)
+asked_given a c plan Cause.InMessage h = before_given a c plan.messages plan.next h
+asked_given a c plan Cause.InData h = runs_given a c h
+asked_given a c plan Cause.InStatus h = answered_given a c.id h
 
-placed_given : (a : Array) (p : Process) (plan : Plan) (hs : Handshakes) (atn : Bool) (phase : Phase)
-    → PlacedIn a p plan hs atn phase → HasReplyGiven a p.id
-placed_given a p plan hs atn Phase.MessageOut h = asked_given a p plan plan.cause h
-placed_given a p plan hs atn Phase.Command h = rests_given a p.id (untouched_rests a p.id h)
-placed_given a p plan hs atn Phase.Status h = answered_given a p.id h
-placed_given a p plan hs atn Phase.DataIn h = runs_given a p h
-placed_given a p plan hs atn Phase.DataOut h = runs_given a p h
-placed_given a p plan hs atn Phase.MessageIn h =
-    elim h [ inl w ↦ before_given a p plan.messages plan.next w | inr w ↦ rests_given a p.id w.rests ]
+placed_given : (a : Array) (c : Process) (plan : Plan) (hs : Handshakes) (atn : Bool) (phase : Phase)
+    → PlacedIn a c plan hs atn phase → HasReplyGiven a c.id
+placed_given a c plan hs atn Phase.MessageOut h = asked_given a c plan plan.cause h
+placed_given a c plan hs atn Phase.Command h = rests_given a c.id (untouched_rests a c.id h)
+placed_given a c plan hs atn Phase.Status h = answered_given a c.id h
+placed_given a c plan hs atn Phase.DataIn h = runs_given a c h
+placed_given a c plan hs atn Phase.DataOut h = runs_given a c h
+placed_given a c plan hs atn Phase.MessageIn h =
+    elim h [ inl w ↦ before_given a c plan.messages plan.next w | inr w ↦ rests_given a c.id w.rests ]
 
 pub replies_given : (s : ScenarioValue) (p : List Row) → AreOfDevices p → PlaceFacts s p → RepliesGiven s p
 replies_given s p dv h n id con calm served = subst

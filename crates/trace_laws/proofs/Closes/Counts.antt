@@ -81,24 +81,24 @@ asks_still : (b a : LineSet) → Alternates b a → awaits a ≡ true
     → ((rises b.req a.req ≡ true) ⊎ (awaits b ≡ true)) × (rises b.ack a.ack ≡ false)
 asks_still b a t e = go b.req b.ack a.req a.ack t.asks t.ends_asking t.answers t.ends_answer e
   where
-    go : (r k r' k' : Bool) → (rises r r' ≡ true → not k ≡ true) → (falls r r' ≡ true → k ≡ true)
-        → (rises k k' ≡ true → r ≡ true) → (falls k k' ≡ true → not r ≡ true) → (r' && not k') ≡ true
-        → ((rises r r' ≡ true) ⊎ ((r && not k) ≡ true)) × (rises k k' ≡ false)
+    go : (r q r' k' : Bool) → (rises r r' ≡ true → not q ≡ true) → (falls r r' ≡ true → q ≡ true)
+        → (rises q k' ≡ true → r ≡ true) → (falls q k' ≡ true → not r ≡ true) → (r' && not k') ≡ true
+        → ((rises r r' ≡ true) ⊎ ((r && not q) ≡ true)) × (rises q k' ≡ false)
     go true true true false x y z w e = wrong' (w refl)
     go true false true false x y z w e = (inr refl, refl)
     go false true true false x y z w e = wrong' (x refl)
     go false false true false x y z w e = (inl refl, refl)
-    go r k true true x y z w e = wrong' e
-    go r k false k' x y z w e = wrong' e
+    go r q true true x y z w e = wrong' e
+    go r q false k' x y z w e = wrong' e
 
 -- None awaits it: it was so before, where REQ did not rise; or ACK rose.
 answered_now : (b a : LineSet) → Alternates b a → awaits a ≡ false
     → (rises b.ack a.ack ≡ true) ⊎ ((rises b.req a.req ≡ false) × (awaits b ≡ false))
 answered_now b a t e = go b.req b.ack a.req a.ack t.asks t.ends_asking t.answers t.ends_answer e
   where
-    go : (r k r' k' : Bool) → (rises r r' ≡ true → not k ≡ true) → (falls r r' ≡ true → k ≡ true)
-        → (rises k k' ≡ true → r ≡ true) → (falls k k' ≡ true → not r ≡ true) → (r' && not k') ≡ false
-        → (rises k k' ≡ true) ⊎ ((rises r r' ≡ false) × ((r && not k) ≡ false))
+    go : (r c r' k' : Bool) → (rises r r' ≡ true → not c ≡ true) → (falls r r' ≡ true → c ≡ true)
+        → (rises c k' ≡ true → r ≡ true) → (falls c k' ≡ true → not r ≡ true) → (r' && not k') ≡ false
+        → (rises c k' ≡ true) ⊎ ((rises r r' ≡ false) × ((r && not c) ≡ false))
     go true true r' k' x y z w e = inr ((elim r' as (λ q. rises true q ≡ false) [ true ↦ refl | false ↦ refl ]), refl)
     go true false true true x y z w e = inl refl
     go true false true false x y z w e = wrong e
@@ -144,8 +144,8 @@ asked_for s p n h (when_shaking msg cd io req ack atn x y w) here e on =
 asked_for s p n h (when_pulsing io req ack atn x y w a) here e on =
     wrong' (sym (ap is_message_in w.linked.stands.bus_is) ∙ here)
 
-none_before : (n m : ℕ) → n < m → m ≡ 1 → n ≡ 0
-none_before n m e f = omega (arith, e, f)
+none_before : (i m : ℕ) → i < m → m ≡ 1 → i ≡ 0
+none_before i m e f = omega (arith, e, f)
 
 pub phase_line : (c : Change) → changes_phase c ≡ false → is_message_in c.after ≡ true → is_message_in c.before ≡ true
 phase_line c e z = let w = same_phase_is c e in sym (in_same c.before c.after w) ∙ z

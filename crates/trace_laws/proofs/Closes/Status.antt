@@ -8,11 +8,11 @@ use proofs.Names.{byte_of_phase, reply_now, status_by, task_if, AreAll}
 
 -- The byte of STATUS.
 pub offers_given :
-    (s : ScenarioValue) (k : RunState) (dev : ℕ) (p : Process) (reply : Reply) (m : Messages) (more place : ℕ)
-    → process_served s k ≡ Some p → reply_in (array_of s k).replies p.id ≡ Some reply
+    (s : ScenarioValue) (k : RunState) (dev : ℕ) (c : Process) (reply : Reply) (m : Messages) (more place : ℕ)
+    → process_served s k ≡ Some c → reply_in (array_of s k).replies c.id ≡ Some reply
     → byte_of_phase s k dev Phase.Status m more place ≡ reply.status
-offers_given s k dev p reply m more place served given = ap (λ (x : Option Process). status_byte (task_if s k x)) served
-    ∙ ap (λ (x : Option Reply). status_by (reply_now (array_of s k) p) x) given
+offers_given s k dev c reply m more place served given = ap (λ (x : Option Process). status_byte (task_if s k x)) served
+    ∙ ap (λ (x : Option Reply). status_by (reply_now (array_of s k) c) x) given
 
 set_all : (x : ℕ) (bytes : List ℕ) (at : ℕ) → AreAll x bytes → AreAll x (slice_set bytes at x)
 set_all x [] at h = tt

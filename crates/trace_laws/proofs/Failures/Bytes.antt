@@ -44,10 +44,10 @@ as_before : (before after : List CarriedBytes) → after ≡ before → KeepsFai
 as_before before after e id = subst (λ (x : List CarriedBytes). SameFail (carried_of before id) (carried_of x id))
     (sym e) (same_fail (carried_of before id))
 
-own_marks : (all : List CarriedBytes) (p : ProcId) (d : CarriedBytes) → d.id ≡ (carried_of all p).id
-    → SameFail (carried_of all p) d → KeepsFail all (with_carried all d)
-own_marks all p d e w =
-    puts_fail all d (subst (λ (x : ProcId). SameFail (carried_of all x) d) (sym (e ∙ carried_id all p)) w)
+own_marks : (all : List CarriedBytes) (i : ProcId) (d : CarriedBytes) → d.id ≡ (carried_of all i).id
+    → SameFail (carried_of all i) d → KeepsFail all (with_carried all d)
+own_marks all i d e w =
+    puts_fail all d (subst (λ (x : ProcId). SameFail (carried_of all x) d) (sym (e ∙ carried_id all i)) w)
 
 event_fails : (s : ScenarioValue) (b : Story) (e : Event) → KeepsFail b.carried (story_after_event s b e).carried
 event_fails s b (Event.Accept p) = as_before b.carried b.carried refl
@@ -174,10 +174,10 @@ clear_message c MsgIn.SavePointer h = record { failure = h.failure; struck = h.s
 clear_message c MsgIn.RestorePointers h = record { failure = refl; struck = refl }
 clear_message c _ h = h
 
-put_clear : (all : List CarriedBytes) (c : CarriedBytes) (p id : ProcId) → c.id ≡ p
-    → (IsClear (carried_of all p) → IsClear c) → IsClear (carried_of all id)
+put_clear : (all : List CarriedBytes) (c : CarriedBytes) (d id : ProcId) → c.id ≡ d
+    → (IsClear (carried_of all d) → IsClear c) → IsClear (carried_of all id)
     → IsClear (carried_of (with_carried all c) id)
-put_clear all c p id same f h = subst IsClear (sym (carried_with all c id)) (go (same_id c.id id) refl)
+put_clear all c d id same f h = subst IsClear (sym (carried_with all c id)) (go (same_id c.id id) refl)
   where
     go : (q : Bool) → same_id c.id id ≡ q → IsClear (if q then c else carried_of all id)
     go true z = f (subst (λ (x : ProcId). IsClear (carried_of all x)) (sym (sym same ∙ id_is c.id id z)) h)

@@ -13,10 +13,10 @@ use proofs.Failures.{Bytes.{clear_as, row_carries, byte_fails, in_clear, in_rest
 use proofs.Failures.{Rows.{gives_on}, Steps.{FailRow, count_as}}
 use Rattle.story_laws.proofs.Items.Row.{stays}
 
-by_exchange : (l : Link) (c : CarriedBytes) (p q : Plan) (words others : List ℕ) (count : ℕ) (phase : Phase) → q ≡ p
-    → others ≡ words → FailsBy l c p words count phase → FailsBy l c q others count phase
-by_exchange l c p q words others count phase ep ew h = subst (λ (x : Plan). FailsBy l c x others count phase) (sym ep)
-    (subst (λ (x : List ℕ). FailsBy l c p x count phase) (sym ew) h)
+by_exchange : (l : Link) (c : CarriedBytes) (a q : Plan) (words others : List ℕ) (count : ℕ) (phase : Phase) → q ≡ a
+    → others ≡ words → FailsBy l c a words count phase → FailsBy l c q others count phase
+by_exchange l c a q words others count phase ep ew h = subst (λ (x : Plan). FailsBy l c x others count phase) (sym ep)
+    (subst (λ (x : List ℕ). FailsBy l c a x count phase) (sym ew) h)
 
 pub same_words : (q : Bool) (v : Speech) (m : Option MsgIn)
     → (if q then speech_after_byte v else speech_after_request v m).words ≡ v.words

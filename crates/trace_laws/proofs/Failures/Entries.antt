@@ -35,36 +35,36 @@ answer_kept s k row id undoes h = events_answer s (story_by_change s k.story (ro
 
 -- ---- MESSAGE IN
 
-gives_kept : (l : Link) (c d : CarriedBytes) (p q : Plan) (count : ℕ) (next : Next) → KeptFail c d
-    → q.messages ≡ p.messages → GivesFailure l c p count next → GivesFailure l d q count next
-gives_kept l c d p q count next w e h = go next h
+gives_kept : (l : Link) (c d : CarriedBytes) (a q : Plan) (count : ℕ) (next : Next) → KeptFail c d
+    → q.messages ≡ a.messages → GivesFailure l c a count next → GivesFailure l d q count next
+gives_kept l c d a q count next w e h = go next h
   where
-    one : ClearIn l c p.messages count → ClearIn l d q.messages count
-    one x = subst (λ (m : Messages). ClearIn l d m count) (sym e) (clear_in_as l c d p.messages count w.same x)
+    one : ClearIn l c a.messages count → ClearIn l d q.messages count
+    one x = subst (λ (m : Messages). ClearIn l d m count) (sym e) (clear_in_as l c d a.messages count w.same x)
 
-    go : (x : Next) → GivesFailure l c p count x → GivesFailure l d q count x
+    go : (x : Next) → GivesFailure l c a count x → GivesFailure l d q count x
     go Next.Command z = one z
     go Next.GoOn z = one z
     go Next.Status z = w.answer z
     go Next.FreeBus (inl z) = inl (w.answer z)
     go Next.FreeBus (inr z) = inr (one z)
 
-pub gives_entered : (l : Link) (c d : CarriedBytes) (p q : Plan) (count other : ℕ) (next : Next)
-    → KeptFail c d → q.messages ≡ p.messages → q.next ≡ next → other ≡ count → GivesFailure l c p count next
+pub gives_entered : (l : Link) (c d : CarriedBytes) (a q : Plan) (count other : ℕ) (next : Next)
+    → KeptFail c d → q.messages ≡ a.messages → q.next ≡ next → other ≡ count → GivesFailure l c a count next
     → GivesFailure l d q other q.next
-gives_entered l c d p q count other next w em en ec h = subst (GivesFailure l d q other) (sym en)
-    (subst (λ (x : ℕ). GivesFailure l d q x next) (sym ec) (gives_kept l c d p q count next w em h))
+gives_entered l c d a q count other next w em en ec h = subst (GivesFailure l d q other) (sym en)
+    (subst (λ (x : ℕ). GivesFailure l d q x next) (sym ec) (gives_kept l c d a q count next w em h))
 
 -- ---- COMMAND, data and STATUS
 
 pub sending_entered : (l : Link) (d : CarriedBytes) (q : Plan) (words : List ℕ) (count : ℕ) (phase : Phase)
     → is_sending (Some phase) ≡ true → IsClear d → q.struck ≡ false → FailsBy l d q words count phase
-sending_entered l d q words count Phase.Command e h s =
-    (h.struck ∙ sym s, h.failure ∙ ap (λ (x : Bool). code_if x PARITY_ERROR) (sym s))
-sending_entered l d q words count Phase.DataOut e h s =
-    (h.struck, h.failure ∙ ap (λ (x : Bool). code_if x PARITY_ERROR) (sym s))
-sending_entered l d q words count Phase.DataIn e h s = h.struck
-sending_entered l d q words count _ e h s = wrong' e
+sending_entered l d q words count Phase.Command e h f =
+    (h.struck ∙ sym f, h.failure ∙ ap (λ (x : Bool). code_if x PARITY_ERROR) (sym f))
+sending_entered l d q words count Phase.DataOut e h f =
+    (h.struck, h.failure ∙ ap (λ (x : Bool). code_if x PARITY_ERROR) (sym f))
+sending_entered l d q words count Phase.DataIn e h f = h.struck
+sending_entered l d q words count _ e h f = wrong' e
 
 -- A process that the initiator does not know yet is not left for STATUS.
 pub not_to_status : (v : Serving) (attention : Bool) (phase : Phase)
@@ -79,27 +79,27 @@ not_to_status v attention phase (inr e) =
 
 -- ---- MESSAGE OUT
 
-refuses_when : (l : Link) (c d : CarriedBytes) (p : Plan) (words : List ℕ) (next : Next) → KeptFail c d
-    → RefusesFailure l c p words next → RefusesFailure l d p words next
-refuses_when l c d p words Next.Command w h = clear_out_as l c d p.messages words w.same h
-refuses_when l c d p words Next.GoOn w h = clear_out_as l c d p.messages words w.same h
-refuses_when l c d p words Next.Status w h = w.answer h
-refuses_when l c d p words Next.FreeBus w (inl h) = inl (w.answer h)
-refuses_when l c d p words Next.FreeBus w (inr h) = inr (clear_out_as l c d p.messages words w.same h)
+refuses_when : (l : Link) (c d : CarriedBytes) (a : Plan) (words : List ℕ) (next : Next) → KeptFail c d
+    → RefusesFailure l c a words next → RefusesFailure l d a words next
+refuses_when l c d a words Next.Command w h = clear_out_as l c d a.messages words w.same h
+refuses_when l c d a words Next.GoOn w h = clear_out_as l c d a.messages words w.same h
+refuses_when l c d a words Next.Status w h = w.answer h
+refuses_when l c d a words Next.FreeBus w (inl h) = inl (w.answer h)
+refuses_when l c d a words Next.FreeBus w (inr h) = inr (clear_out_as l c d a.messages words w.same h)
 
 -- From a phase to the initiator, with ATN true.
-pub record Attends (l : Link) (c : CarriedBytes) (p q : Plan) (count : ℕ) (b : LineSet) : Type 0 where
+pub record Attends (l : Link) (c : CarriedBytes) (a q : Plan) (count : ℕ) (b : LineSet) : Type 0 where
   pub cause : q.cause ≡ cause_after b
-  pub next : q.next ≡ p.next
-  pub messages : q.messages ≡ (if is_message_in b then from_byte p.messages (count - 1) else p.messages)
+  pub next : q.next ≡ a.next
+  pub messages : q.messages ≡ (if is_message_in b then from_byte a.messages (count - 1) else a.messages)
   pub lines : b.msg ≡ true → b.cd ≡ true
   pub to_it : is_attended (phase_of b) ≡ true
   pub code : phase_of b ≡ Phase.DataIn → c.failure ≡ Some INITIATOR_DETECTED_ERROR
-  pub given : phase_of b ≡ Phase.MessageIn → ((count == 0) ≡ false) × (count ≤ length (bytes_of_messages p.messages))
+  pub given : phase_of b ≡ Phase.MessageIn → ((count == 0) ≡ false) × (count ≤ length (bytes_of_messages a.messages))
 
-pub out_entered : (l : Link) (c d : CarriedBytes) (p q : Plan) (words others : List ℕ) (count : ℕ) (b : LineSet)
-    → KeptFail c d → Attends l c p q count b → FailsBy l c p words count (phase_of b) → SaysFailure l d q others q.cause
-out_entered l c d p q words others count b w a h =
+pub out_entered : (l : Link) (c d : CarriedBytes) (f q : Plan) (words others : List ℕ) (count : ℕ) (b : LineSet)
+    → KeptFail c d → Attends l c f q count b → FailsBy l c f words count (phase_of b) → SaysFailure l d q others q.cause
+out_entered l c d f q words others count b w a h =
     subst (SaysFailure l d q others) (sym a.cause) (go b.msg b.cd b.io a.lines a.to_it a.code a.given a.messages h)
   where
     go : (m e i : Bool) → (m ≡ true → e ≡ true)
@@ -111,17 +111,17 @@ out_entered l c d p q words others count b w a h =
         ≡ Phase.DataIn → c.failure ≡ Some INITIATOR_DETECTED_ERROR)
         → ((if m then (if i then Phase.MessageIn else Phase.MessageOut)
         else if e then (if i then Phase.Status else Phase.Command) else if i then Phase.DataIn else Phase.DataOut)
-        ≡ Phase.MessageIn → ((count == 0) ≡ false) × (count ≤ length (bytes_of_messages p.messages)))
-        → q.messages ≡ (if m && e && i then from_byte p.messages (count - 1) else p.messages)
-        → FailsBy l c p words count (if m then (if i then Phase.MessageIn else Phase.MessageOut)
+        ≡ Phase.MessageIn → ((count == 0) ≡ false) × (count ≤ length (bytes_of_messages f.messages)))
+        → q.messages ≡ (if m && e && i then from_byte f.messages (count - 1) else f.messages)
+        → FailsBy l c f words count (if m then (if i then Phase.MessageIn else Phase.MessageOut)
         else if e then (if i then Phase.Status else Phase.Command) else if i then Phase.DataIn else Phase.DataOut)
         → SaysFailure l d q others (if m && e && i then Cause.InMessage else if e then Cause.InStatus else Cause.InData)
     go true true true known to code given em x =
         let g = given refl in
-        subst (RefusesFailure l d q others) (sym a.next) (refuses_kept l d (record p {
-          messages = from_byte p.messages (count - 1);
-        }) q others p.next em (refuses_when l c d (record p { messages = from_byte p.messages (count - 1) }) others
-        p.next w (refuses_left l c p count others p.next g.0 g.1 x)))
+        subst (RefusesFailure l d q others) (sym a.next) (refuses_kept l d (record f {
+          messages = from_byte f.messages (count - 1);
+        }) q others f.next em (refuses_when l c d (record f { messages = from_byte f.messages (count - 1) }) others
+        f.next w (refuses_left l c f count others f.next g.0 g.1 x)))
     go true true false known to code given em x = wrong' to
     go true false i known to code given em x = wrong' (known refl)
     go false true true known to code given em x = w.answer x

@@ -30,11 +30,11 @@ tag_restores : (t : Tag) → OnMessage RestoresNone (tag_named t)
 tag_restores Tag.Untagged = tt
 tag_restores _ = refl
 
-names_restore : (p : Process) (l : Link) (m : Messages) (count : ℕ) → Names p l m count → OnMessages RestoresNone m
-names_restore p l m count (all e f) =
-    subst (λ (x : Messages). OnMessages RestoresNone x) (sym e) (refl, tag_restores p.tag)
-names_restore p l m count (tag_alone x e f g) = subst (λ (y : Messages). OnMessages RestoresNone y) (sym f)
-    (subst (OnMessage RestoresNone) e (tag_restores p.tag), tt)
+names_restore : (c : Process) (l : Link) (m : Messages) (count : ℕ) → Names c l m count → OnMessages RestoresNone m
+names_restore c l m count (all e f) =
+    subst (λ (x : Messages). OnMessages RestoresNone x) (sym e) (refl, tag_restores c.tag)
+names_restore c l m count (tag_alone x e f g) = subst (λ (y : Messages). OnMessages RestoresNone y) (sym f)
+    (subst (OnMessage RestoresNone) e (tag_restores c.tag), tt)
 
 -- ---- a row of the connection
 

@@ -24,36 +24,36 @@ clear_given l c m count e (restores f (inl z)) =
     none_given count z (e ∙ ap (λ (x : Messages). length (bytes_of_messages x)) f)
 clear_given l c m count e (restores f (inr h)) = h
 
-before_as : (l : Link) (c : CarriedBytes) (p : Plan) (count : ℕ) (next : Next)
-    → count ≡ length (bytes_of_messages p.messages) → GivesFailure l c p count next → FailsBefore c next
-before_as l c p count Next.Command e h = tt
-before_as l c p count Next.GoOn e h = (clear_given l c p.messages count e h).failure
-before_as l c p count Next.Status e h = h
-before_as l c p count Next.FreeBus e h = tt
+before_as : (l : Link) (c : CarriedBytes) (a : Plan) (count : ℕ) (next : Next)
+    → count ≡ length (bytes_of_messages a.messages) → GivesFailure l c a count next → FailsBefore c next
+before_as l c a count Next.Command e h = tt
+before_as l c a count Next.GoOn e h = (clear_given l c a.messages count e h).failure
+before_as l c a count Next.Status e h = h
+before_as l c a count Next.FreeBus e h = tt
 
-asked_as : (l : Link) (c : CarriedBytes) (p : Plan) (words : List ℕ) (cause : Cause) → SaysFailure l c p words cause
+asked_as : (l : Link) (c : CarriedBytes) (a : Plan) (words : List ℕ) (cause : Cause) → SaysFailure l c a words cause
     → FailsAsked c cause
-asked_as l c p words Cause.InData h = h
-asked_as l c p words _ h = tt
+asked_as l c a words Cause.InData h = h
+asked_as l c a words _ h = tt
 
 pub fails_left :
-    (l : Link) (c : CarriedBytes) (p : Plan) (words : List ℕ) (count : ℕ) (attention : Bool) (phase : Phase)
+    (l : Link) (c : CarriedBytes) (a : Plan) (words : List ℕ) (count : ℕ) (attention : Bool) (phase : Phase)
     → (phase ≡ Phase.DataIn → c.failure ≡ code_if attention INITIATOR_DETECTED_ERROR)
-    → (phase ≡ Phase.MessageIn → attention ≡ false → count ≡ length (bytes_of_messages p.messages))
-    → FailsBy l c p words count phase → FailsIn p attention c phase
-fails_left l c p words count attention Phase.MessageOut code given h = asked_as l c p words p.cause h
-fails_left l c p words count attention Phase.MessageIn code given h =
-    λ off. before_as l c p count p.next (given refl off) h
-fails_left l c p words count attention Phase.Command code given h = h
-fails_left l c p words count attention Phase.DataOut code given h = h.1
-fails_left l c p words count attention Phase.DataIn code given h =
+    → (phase ≡ Phase.MessageIn → attention ≡ false → count ≡ length (bytes_of_messages a.messages))
+    → FailsBy l c a words count phase → FailsIn a attention c phase
+fails_left l c a words count attention Phase.MessageOut code given h = asked_as l c a words a.cause h
+fails_left l c a words count attention Phase.MessageIn code given h =
+    λ off. before_as l c a count a.next (given refl off) h
+fails_left l c a words count attention Phase.Command code given h = h
+fails_left l c a words count attention Phase.DataOut code given h = h.1
+fails_left l c a words count attention Phase.DataIn code given h =
     λ off. code refl ∙ ap (λ (q : Bool). code_if q INITIATOR_DETECTED_ERROR) off
-fails_left l c p words count attention Phase.Status code given h = tt
+fails_left l c a words count attention Phase.Status code given h = tt
 
-pub freed_as : (l : Link) (c : CarriedBytes) (p : Plan) (count : ℕ) → count ≡ length (bytes_of_messages p.messages)
-    → GivesFailure l c p count Next.FreeBus → (is_marked c ≡ true) ⊎ IsClear c
-freed_as l c p count e (inl h) = inl h
-freed_as l c p count e (inr h) = inr (clear_given l c p.messages count e h)
+pub freed_as : (l : Link) (c : CarriedBytes) (a : Plan) (count : ℕ) → count ≡ length (bytes_of_messages a.messages)
+    → GivesFailure l c a count Next.FreeBus → (is_marked c ≡ true) ⊎ IsClear c
+freed_as l c a count e (inl h) = inl h
+freed_as l c a count e (inr h) = inr (clear_given l c a.messages count e h)
 
 -- ---- of a prompt trace
 

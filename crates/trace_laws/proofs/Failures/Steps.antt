@@ -16,11 +16,11 @@ pub record FailRow (s : ScenarioValue) (k : RunState) (row : Row) (n : Connectio
   pub item_is : (l.item ≡ Some (process id)) ⊎ ((l.item ≡ None) × (is_message (phase_of (bus_of k)) ≡ true))
   pub undoes : UndoesAnswers k row
 
-pub count_as : (l : Link) (c : CarriedBytes) (p : Plan) (words : List ℕ) (count other : ℕ) (phase : Phase)
-    → (phase ≡ Phase.MessageIn → other ≡ count) → FailsBy l c p words count phase → FailsBy l c p words other phase
-count_as l c p words count other Phase.MessageIn e h =
-    subst (λ (x : ℕ). FailsBy l c p words x Phase.MessageIn) (sym (e refl)) h
-count_as l c p words count other _ e h = h
+pub count_as : (l : Link) (c : CarriedBytes) (a : Plan) (words : List ℕ) (count other : ℕ) (phase : Phase)
+    → (phase ≡ Phase.MessageIn → other ≡ count) → FailsBy l c a words count phase → FailsBy l c a words other phase
+count_as l c a words count other Phase.MessageIn e h =
+    subst (λ (x : ℕ). FailsBy l c a words x Phase.MessageIn) (sym (e refl)) h
+count_as l c a words count other _ e h = h
 
 line_of : (b : LineSet) → IsLine b.io (phase_of b)
 line_of b = go b.msg b.cd b.io

@@ -214,9 +214,9 @@ turn_fail s k row n c l m id t undoes left em h = subst (λ (x : Link). FailTalk
         → SaysFailure l d j.exchange.plan j.exchange.speech.words j.exchange.plan.cause
     refused_out b e = out_entered l own d k.exchange.plan j.exchange.plan k.exchange.speech.words
         j.exchange.speech.words k.handshakes.requests (bus_of k) kept (record {
-          cause = ap (λ (x : Plan). x.cause) p ∙ ap cause_after (sym t.goes.row_is.bus_is);
-          next = ap (λ (x : Plan). x.next) p;
-          messages = ap (λ (x : Plan). x.messages) p ∙ ap
+          cause = ap (λ (x : Plan). x.cause) f ∙ ap cause_after (sym t.goes.row_is.bus_is);
+          next = ap (λ (x : Plan). x.next) f;
+          messages = ap (λ (x : Plan). x.messages) f ∙ ap
               (λ (x : LineSet). if is_message_in x then from_byte k.exchange.plan.messages (k.handshakes.requests - 1)
               else k.exchange.plan.messages) (sym t.goes.row_is.bus_is);
           lines = known_before;
@@ -228,9 +228,9 @@ turn_fail s k row n c l m id t undoes left em h = subst (λ (x : Link). FailTalk
         out : is_message_out c.after ≡ true
         out = out_lines c.after e t.known
 
-        p : j.exchange.plan
+        f : j.exchange.plan
             ≡ plan_in_message_out (hearing_of k row (reading_in k.story.bus_state n c false)) k.exchange.plan
-        p = out_plan out true b
+        f = out_plan out true b
 
         not_again : is_out_phase (phase_of (bus_of k)) ≡ false
         not_again = by (phase_of (bus_of k)) refl
@@ -248,19 +248,19 @@ turn_fail s k row n c l m id t undoes left em h = subst (λ (x : Link). FailTalk
         → FailsBy l d j.exchange.plan j.exchange.speech.words j.handshakes.requests Phase.MessageIn
     gives b e = gives_entered l own d (record k.exchange.plan { messages = x.messages; next = x.next })
         j.exchange.plan 0 j.handshakes.requests x.next kept
-        (ap (λ (y : Plan). y.messages) p ∙ ap (λ (y : Leaving). y.messages) (leaving_is b))
-        (ap (λ (y : Plan). y.next) p ∙ ap (λ (y : Leaving). y.next) (leaving_is b)) asked
+        (ap (λ (y : Plan). y.messages) g ∙ ap (λ (y : Leaving). y.messages) (leaving_is b))
+        (ap (λ (y : Plan). y.next) g ∙ ap (λ (y : Leaving). y.next) (leaving_is b)) asked
         (gives_left l own v k.exchange.speech.words k.handshakes.requests (bus_of k).atn (phase_of (bus_of k))
         (left b).code (h.begun b) (ap is_to_message_in (to b) ∙ ap (λ (y : Phase). is_to_message_in (Some y)) e))
       where
         x : Leaving
         x = phase_leaving v (bus_of k).atn (phase_of (bus_of k))
 
-        p : j.exchange.plan ≡ record (plan_anew k.exchange.plan) {
+        g : j.exchange.plan ≡ record (plan_anew k.exchange.plan) {
           messages = (leaving s k n.target).messages;
           next = (leaving s k n.target).next;
         }
-        p = else_plan (not_out c.after e)
+        g = else_plan (not_out c.after e)
 
     sends : k.exchange.begun ≡ true → (phase : Phase) → phase_of c.after ≡ phase → is_sending (Some phase) ≡ true
         → is_out_phase phase ≡ false → FailsBy l d j.exchange.plan j.exchange.speech.words j.handshakes.requests phase
@@ -290,7 +290,7 @@ turn_fail s k row n c l m id t undoes left em h = subst (λ (x : Link). FailTalk
     go false b = first_out b
     go true b = by (phase_of c.after) refl
       where
-        by : (p : Phase) → phase_of c.after ≡ p
+        by : (r : Phase) → phase_of c.after ≡ r
             → FailsBy l d j.exchange.plan j.exchange.speech.words j.handshakes.requests (phase_of (bus_of j))
         by Phase.MessageOut e = at Phase.MessageOut e (refused_out b e)
         by Phase.MessageIn e = at Phase.MessageIn e (gives b e)

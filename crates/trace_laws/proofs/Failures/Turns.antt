@@ -12,7 +12,7 @@ use Rattle.story_laws.specs.link_laws.proofs.LeavingWays as ways
 
 -- What is given there, by the messages and by what follows them.
 abbrev pub GivesWith : Link → CarriedBytes → Plan → Leaving → Type 0
-GivesWith l c p x = GivesFailure l c (record p { messages = x.messages; next = x.next }) 0 x.next
+GivesWith l c a x = GivesFailure l c (record a { messages = x.messages; next = x.next }) 0 x.next
 
 -- Nothing has struck it as the opening is over.
 opened : (l : Link) (c : CarriedBytes) (v : Serving) (words : List ℕ) → ways.IsOpened v
@@ -23,9 +23,9 @@ asks : (l : Link) (c : CarriedBytes) (m : Messages) → IsClear c × UndoesClear
 asks l c m (h, u) = clear h (inl u)
 
 -- Nor in a command, or in data, of which no byte was struck.
-unstruck : (c : CarriedBytes) (p : Plan) → p.struck ≡ false → c.struck ≡ false
-    → c.failure ≡ code_if p.struck PARITY_ERROR → IsClear c
-unstruck c p e st h = record { failure = h ∙ ap (λ (q : Bool). code_if q PARITY_ERROR) e; struck = st }
+unstruck : (c : CarriedBytes) (l : Plan) → l.struck ≡ false → c.struck ≡ false
+    → c.failure ≡ code_if l.struck PARITY_ERROR → IsClear c
+unstruck c l e st h = record { failure = h ∙ ap (λ (q : Bool). code_if q PARITY_ERROR) e; struck = st }
 
 ran : (l : Link) (c : CarriedBytes) (v : Serving) (words : List ℕ) (count : ℕ) {attention : Bool} {phase : Phase}
     → ways.IsMoved v attention phase → (phase ≡ Phase.DataIn → c.failure ≡ code_if attention INITIATOR_DETECTED_ERROR)
@@ -34,15 +34,15 @@ ran l c v words count (ways.given a) into h =
     record { failure = into refl ∙ ap (λ (q : Bool). code_if q INITIATOR_DETECTED_ERROR) a; struck = h }
 ran l c v words count (ways.sent e) into h = unstruck c v.plan e h.0 h.1
 
-again : (l : Link) (c : CarriedBytes) (p : Plan) (words : List ℕ) (next : Next) → RefusesFailure l c p words next
-    → GivesFailure l c p 0 next
-again l c p words next h = go next h
+again : (l : Link) (c : CarriedBytes) (a : Plan) (words : List ℕ) (next : Next) → RefusesFailure l c a words next
+    → GivesFailure l c a 0 next
+again l c a words next h = go next h
   where
-    one : ClearOut l c p.messages words → ClearIn l c p.messages 0
+    one : ClearOut l c a.messages words → ClearIn l c a.messages 0
     one (still_clear f u) = clear f (inl u)
     one (restores_again e f) = restores e (inl refl)
 
-    go : (x : Next) → RefusesFailure l c p words x → GivesFailure l c p 0 x
+    go : (x : Next) → RefusesFailure l c a words x → GivesFailure l c a 0 x
     go Next.Command z = one z
     go Next.GoOn z = one z
     go Next.Status z = z
@@ -154,13 +154,13 @@ refused_clear l c m count words some few (restores e (inr h)) =
     restores_again (front_one m count e some few ∙ e) (inr h)
 
 -- Of MESSAGE IN, by what follows it.
-pub refuses_left : (l : Link) (c : CarriedBytes) (p : Plan) (count : ℕ) (words : List ℕ) (next : Next)
-    → (count == 0) ≡ false → count ≤ length (bytes_of_messages p.messages) → GivesFailure l c p count next
-    → RefusesFailure l c (record p { messages = from_byte p.messages (count - 1) }) words next
-refuses_left l c p count words Next.Command some few h = refused_clear l c p.messages count words some few h
-refuses_left l c p count words Next.GoOn some few h = refused_clear l c p.messages count words some few h
-refuses_left l c p count words Next.Status some few h = h
-refuses_left l c p count words Next.FreeBus some few (inl h) = inl h
-refuses_left l c p count words Next.FreeBus some few (inr h) = inr (refused_clear l c p.messages count words some few h)
+pub refuses_left : (l : Link) (c : CarriedBytes) (a : Plan) (count : ℕ) (words : List ℕ) (next : Next)
+    → (count == 0) ≡ false → count ≤ length (bytes_of_messages a.messages) → GivesFailure l c a count next
+    → RefusesFailure l c (record a { messages = from_byte a.messages (count - 1) }) words next
+refuses_left l c a count words Next.Command some few h = refused_clear l c a.messages count words some few h
+refuses_left l c a count words Next.GoOn some few h = refused_clear l c a.messages count words some few h
+refuses_left l c a count words Next.Status some few h = h
+refuses_left l c a count words Next.FreeBus some few (inl h) = inl h
+refuses_left l c a count words Next.FreeBus some few (inr h) = inr (refused_clear l c a.messages count words some few h)
 
 -- ---- to BUS FREE

@@ -18,19 +18,19 @@ use Rattle.story_laws.proofs.Items.Row as rows
 
 -- ---- what is planned stays
 
-pub refuses_kept : (l : Link) (c : CarriedBytes) (p q : Plan) (words : List ℕ) (next : Next) → q.messages ≡ p.messages
-    → RefusesFailure l c p words next → RefusesFailure l c q words next
-refuses_kept l c p q words Next.Command e h = subst (λ (m : Messages). ClearOut l c m words) (sym e) h
-refuses_kept l c p q words Next.GoOn e h = subst (λ (m : Messages). ClearOut l c m words) (sym e) h
-refuses_kept l c p q words Next.Status e h = h
-refuses_kept l c p q words Next.FreeBus e (inl h) = inl h
-refuses_kept l c p q words Next.FreeBus e (inr h) = inr (subst (λ (m : Messages). ClearOut l c m words) (sym e) h)
+pub refuses_kept : (l : Link) (c : CarriedBytes) (a q : Plan) (words : List ℕ) (next : Next) → q.messages ≡ a.messages
+    → RefusesFailure l c a words next → RefusesFailure l c q words next
+refuses_kept l c a q words Next.Command e h = subst (λ (m : Messages). ClearOut l c m words) (sym e) h
+refuses_kept l c a q words Next.GoOn e h = subst (λ (m : Messages). ClearOut l c m words) (sym e) h
+refuses_kept l c a q words Next.Status e h = h
+refuses_kept l c a q words Next.FreeBus e (inl h) = inl h
+refuses_kept l c a q words Next.FreeBus e (inr h) = inr (subst (λ (m : Messages). ClearOut l c m words) (sym e) h)
 
-says_kept : (l : Link) (c : CarriedBytes) (p q : Plan) (words : List ℕ) (cause : Cause) → KeptPlan p q
-    → SaysFailure l c p words cause → SaysFailure l c q words cause
-says_kept l c p q words Cause.InMessage k h =
-    subst (RefusesFailure l c q words) (sym k.next) (refuses_kept l c p q words p.next k.messages h)
-says_kept l c p q words _ k h = h
+says_kept : (l : Link) (c : CarriedBytes) (a q : Plan) (words : List ℕ) (cause : Cause) → KeptPlan a q
+    → SaysFailure l c a words cause → SaysFailure l c q words cause
+says_kept l c a q words Cause.InMessage e h =
+    subst (RefusesFailure l c q words) (sym e.next) (refuses_kept l c a q words a.next e.messages h)
+says_kept l c a q words _ e h = h
 
 -- ---- a byte of MESSAGE OUT
 

@@ -15,62 +15,62 @@ use proofs.{Names.{PlacedIf, PlacedIn, PlacedBefore, RunsOpen, AnsweredOpen, ite
 use proofs.Places.{First.{rest_first, shown_first}, Ready.{MayBeReady, ready_runs}}
 use Rattle.due_model.specs.array_model.proofs.SoundArrays.{id_is}
 
-pub new_heard : (a : Array) (p : Process) → IsUntouched a p.id → is_new a p ≡ true
-new_heard a p h =
-    λ i. not (not_waiting a.units p.id h.away.units i) && is_none (not_running a p.id h.away i) && is_none (h.reply i)
+pub new_heard : (a : Array) (c : Process) → IsUntouched a c.id → is_new a c ≡ true
+new_heard a c h =
+    λ i. not (not_waiting a.units c.id h.away.units i) && is_none (not_running a c.id h.away i) && is_none (h.reply i)
 
 -- ---- Where a process stands in the plain disk array its target hears: in a connection by the phase, and as a
 -- connection begins.
 
 -- ---- by the phase
 
-runs_unanswered : (a : Array) (p : Process) → RunsOpen a p
-    → (is_unanswered (running_process a p.id) ≡ true) × (is_none (reply_in a.replies p.id) ≡ true)
-runs_unanswered a p h = (ap is_unanswered h.runs.running_is, ap (λ (x : Option Reply). is_none x) h.runs.reply)
+runs_unanswered : (a : Array) (c : Process) → RunsOpen a c
+    → (is_unanswered (running_process a c.id) ≡ true) × (is_none (reply_in a.replies c.id) ≡ true)
+runs_unanswered a c h = (ap is_unanswered h.runs.running_is, ap (λ (x : Option Reply). is_none x) h.runs.reply)
 
-given_answered : (a : Array) (p : Process) → AnsweredOpen a p.id
-    → (is_answered (running_process a p.id) ≡ true) × (is_some (reply_in a.replies p.id) ≡ true)
-given_answered a p h = (
+given_answered : (a : Array) (c : Process) → AnsweredOpen a c.id
+    → (is_answered (running_process a c.id) ≡ true) × (is_some (reply_in a.replies c.id) ≡ true)
+given_answered a c h = (
   ap is_answered h.answered.running_is ∙ ap (λ (x : Option Reply). is_some x) h.answered.reply_is,
   ap (λ (x : Option Reply). is_some x) h.answered.given,
 )
 
-before_in : (a : Array) (p : Process) (plan : Plan) (h : Handshakes) (atn : Bool)
-    → PlacedIn a p plan h atn Phase.MessageIn → (frees_bus plan.next ≡ true) ⊎ PlacedBefore a p plan.messages plan.next
-before_in a p plan h atn (inl w) = inr w
-before_in a p plan h atn (inr w) = inl (ap frees_bus w.next_is)
+before_in : (a : Array) (c : Process) (plan : Plan) (h : Handshakes) (atn : Bool)
+    → PlacedIn a c plan h atn Phase.MessageIn → (frees_bus plan.next ≡ true) ⊎ PlacedBefore a c plan.messages plan.next
+before_in a c plan h atn (inl w) = inr w
+before_in a c plan h atn (inr w) = inl (ap frees_bus w.next_is)
 
-placed_in : (a : Array) (p : Process) (plan : Plan) (h : Handshakes) (atn : Bool) (phase : Phase)
-    → PlacedIn a p plan h atn phase → IsPlacedIn a p phase plan.next
-placed_in a p plan h atn Phase.MessageOut w =
+placed_in : (a : Array) (c : Process) (plan : Plan) (h : Handshakes) (atn : Bool) (phase : Phase)
+    → PlacedIn a c plan h atn phase → IsPlacedIn a c phase plan.next
+placed_in a c plan h atn Phase.MessageOut w =
     record { new = λ e. wrong' e; unanswered = λ e. wrong' e; answered = λ e. wrong' e }
-placed_in a p plan h atn Phase.Command w =
-    record { new = λ e. new_heard a p w; unanswered = λ e. wrong' e; answered = λ e. wrong' e }
-placed_in a p plan h atn Phase.Status w =
-    record { new = λ e. wrong' e; unanswered = λ e. wrong' e; answered = λ e. given_answered a p w }
-placed_in a p plan h atn Phase.DataIn w =
-    record { new = λ e. wrong' e; unanswered = λ e. runs_unanswered a p w; answered = λ e. wrong' e }
-placed_in a p plan h atn Phase.DataOut w =
-    record { new = λ e. wrong' e; unanswered = λ e. runs_unanswered a p w; answered = λ e. wrong' e }
-placed_in a p plan h atn Phase.MessageIn w = by plan.next refl (before_in a p plan h atn w)
+placed_in a c plan h atn Phase.Command w =
+    record { new = λ e. new_heard a c w; unanswered = λ e. wrong' e; answered = λ e. wrong' e }
+placed_in a c plan h atn Phase.Status w =
+    record { new = λ e. wrong' e; unanswered = λ e. wrong' e; answered = λ e. given_answered a c w }
+placed_in a c plan h atn Phase.DataIn w =
+    record { new = λ e. wrong' e; unanswered = λ e. runs_unanswered a c w; answered = λ e. wrong' e }
+placed_in a c plan h atn Phase.DataOut w =
+    record { new = λ e. wrong' e; unanswered = λ e. runs_unanswered a c w; answered = λ e. wrong' e }
+placed_in a c plan h atn Phase.MessageIn w = by plan.next refl (before_in a c plan h atn w)
   where
-    by : (x : Next) → plan.next ≡ x → (frees_bus plan.next ≡ true) ⊎ PlacedBefore a p plan.messages plan.next
-        → IsPlacedIn a p Phase.MessageIn plan.next
+    by : (x : Next) → plan.next ≡ x → (frees_bus plan.next ≡ true) ⊎ PlacedBefore a c plan.messages plan.next
+        → IsPlacedIn a c Phase.MessageIn plan.next
     by Next.GoOn e (inl z) = wrong' (sym (ap frees_bus e) ∙ z)
-    by Next.GoOn e (inr z) = subst (λ (x : Next). IsPlacedIn a p Phase.MessageIn x) (sym e) (record {
+    by Next.GoOn e (inr z) = subst (λ (x : Next). IsPlacedIn a c Phase.MessageIn x) (sym e) (record {
       new = λ f. wrong' f;
-      unanswered = λ f. runs_unanswered a p (subst (λ (x : Next). PlacedBefore a p plan.messages x) e z);
+      unanswered = λ f. runs_unanswered a c (subst (λ (x : Next). PlacedBefore a c plan.messages x) e z);
       answered = λ f. wrong' f;
     })
     by Next.Status e (inl z) = wrong' (sym (ap frees_bus e) ∙ z)
-    by Next.Status e (inr z) = subst (λ (x : Next). IsPlacedIn a p Phase.MessageIn x) (sym e) (record {
+    by Next.Status e (inr z) = subst (λ (x : Next). IsPlacedIn a c Phase.MessageIn x) (sym e) (record {
       new = λ f. wrong' f;
       unanswered = λ f. wrong' f;
-      answered = λ f. given_answered a p (subst (λ (x : Next). PlacedBefore a p plan.messages x) e z);
+      answered = λ f. given_answered a c (subst (λ (x : Next). PlacedBefore a c plan.messages x) e z);
     })
-    by Next.Command e z = subst (λ (x : Next). IsPlacedIn a p Phase.MessageIn x) (sym e)
+    by Next.Command e z = subst (λ (x : Next). IsPlacedIn a c Phase.MessageIn x) (sym e)
         (record { new = λ f. wrong' f; unanswered = λ f. wrong' f; answered = λ f. wrong' f })
-    by Next.FreeBus e z = subst (λ (x : Next). IsPlacedIn a p Phase.MessageIn x) (sym e)
+    by Next.FreeBus e z = subst (λ (x : Next). IsPlacedIn a c Phase.MessageIn x) (sym e)
         (record { new = λ f. wrong' f; unanswered = λ f. wrong' f; answered = λ f. wrong' f })
 
 pub places_heard : (s : ScenarioValue) (p : List Row) → AreOfDevices p → PlaceFacts s p → ArePlaced s p

@@ -61,9 +61,9 @@ either_opcode true y e = inl refl
 either_opcode false true e = inr refl
 either_opcode false false e = wrong e
 
-pub outside_runs : (s : ScenarioValue) (k : RunState) (dev : ℕ) (p : Process) → process_served s k ≡ Some p
-    → IsOutside (array_of s k) p → HasOneRun true (serving_of s k dev)
-outside_runs s k dev p served out =
+pub outside_runs : (s : ScenarioValue) (k : RunState) (dev : ℕ) (c : Process) → process_served s k ≡ Some c
+    → IsOutside (array_of s k) c → HasOneRun true (serving_of s k dev)
+outside_runs s k dev c served out =
     λ z t e. subst (λ (x : Task). nat_lt (x.runs + 1) (runs_in_all policy x) ≡ false) (task_is t e) one
   where
     a : Array
@@ -73,7 +73,7 @@ outside_runs s k dev p served out =
     policy = policy_of (serving_of s k dev).def
 
     task : Task
-    task = task_with a (progress_in k.progress p.id) p (carried_here k p.id) (reply_now a p) (reply_in a.replies p.id)
+    task = task_with a (progress_in k.progress c.id) c (carried_here k c.id) (reply_now a c) (reply_in a.replies c.id)
 
     or_task : Task → Option Task → Task
     or_task x None = x
@@ -82,21 +82,21 @@ outside_runs s k dev p served out =
     task_is : (t : Task) → task_of s k ≡ Some t → task ≡ t
     task_is t e = ap (or_task task) (sym (ap (λ (o : Option Process). task_if s k o) served) ∙ e)
 
-    by_range : range_in (command_of p.cdb) ≡ None → nat_lt (task.runs + 1) (runs_in_all policy task) ≡ false
-    by_range e = one_run policy task (ap blocks_in (none_named p e))
+    by_range : range_in (command_of c.cdb) ≡ None → nat_lt (task.runs + 1) (runs_in_all policy task) ≡ false
+    by_range e = one_run policy task (ap blocks_in (none_named c e))
 
-    absent : unit_state_at a.units p.target p.unit ≡ None → (q : Bool) → needs_unit p.cdb ≡ q
+    absent : unit_state_at a.units c.target c.unit ≡ None → (q : Bool) → needs_unit c.cdb ≡ q
         → nat_lt (task.runs + 1) (runs_in_all policy task) ≡ false
-    absent e true f = none_moved policy task (absent_moves a p e f)
-    absent e false f = by (either_opcode (is_opcode p.cdb INQUIRY) (is_request_sense (command_of p.cdb)) f)
+    absent e true f = none_moved policy task (absent_moves a c e f)
+    absent e false f = by (either_opcode (is_opcode c.cdb INQUIRY) (is_request_sense (command_of c.cdb)) f)
       where
-        by : (is_opcode p.cdb INQUIRY ≡ true) ⊎ (is_request_sense (command_of p.cdb) ≡ true)
+        by : (is_opcode c.cdb INQUIRY ≡ true) ⊎ (is_request_sense (command_of c.cdb) ≡ true)
             → nat_lt (task.runs + 1) (runs_in_all policy task) ≡ false
-        by (inl z) = by_range (inquires p.cdb z)
-        by (inr z) = by_range (no_blocks (command_of p.cdb) z)
+        by (inl z) = by_range (inquires c.cdb z)
+        by (inr z) = by_range (no_blocks (command_of c.cdb) z)
 
     one : nat_lt (task.runs + 1) (runs_in_all policy task) ≡ false
-    one = elim out [ inl e ↦ absent e (needs_unit p.cdb) refl | inr e ↦ by_range (no_blocks (command_of p.cdb) e) ]
+    one = elim out [ inl e ↦ absent e (needs_unit c.cdb) refl | inr e ↦ by_range (no_blocks (command_of c.cdb) e) ]
 
 -- ---- What is asked of a row, that the processes stand where they should after it, from what is owed of items, of what
 -- the rows tell and of the last message.

@@ -52,18 +52,18 @@ free_shown s k row l link calm none =
 
 -- ---- of a process
 
-open_before : (a : Array) (p : Process) (m : Messages) (next : Next) → PlacedBefore a p m next
-    → has_ended a p.id ≡ false
-open_before a p m Next.Command h = h.open_is
-open_before a p m Next.GoOn h = h.open_is
-open_before a p m Next.Status h = h.open_is
-open_before a p m Next.FreeBus (completes e h) = h.open_is
-open_before a p m Next.FreeBus (disconnects e h o q) = o
+open_before : (a : Array) (c : Process) (m : Messages) (next : Next) → PlacedBefore a c m next
+    → has_ended a c.id ≡ false
+open_before a c m Next.Command h = h.open_is
+open_before a c m Next.GoOn h = h.open_is
+open_before a c m Next.Status h = h.open_is
+open_before a c m Next.FreeBus (completes e h) = h.open_is
+open_before a c m Next.FreeBus (disconnects e h o q) = o
 
-open_asked : (a : Array) (p : Process) (plan : Plan) (cause : Cause) → PlacedAsked a p plan cause
-    → has_ended a p.id ≡ false
-open_asked a p plan Cause.InMessage h = open_before a p plan.messages plan.next h
-open_asked a p plan _ h = h.open_is
+open_asked : (a : Array) (c : Process) (plan : Plan) (cause : Cause) → PlacedAsked a c plan cause
+    → has_ended a c.id ≡ false
+open_asked a c plan Cause.InMessage h = open_before a c plan.messages plan.next h
+open_asked a c plan _ h = h.open_is
 
 -- Whether or not it is known, by its number.
 all_rest : (s : ScenarioValue) (a b : Array) (id : ProcId) → Passes s a b id
@@ -104,54 +104,54 @@ end_row s k row n l h seats con off begun calm none link item asked = by_served 
     shown = free_shown s k row l link calm none
 
     -- the events of this process
-    made : (p : Process) (b : Array) (xs : List Event) → k.served ≡ Some (process p.id)
+    made : (c : Process) (b : Array) (xs : List Event) → k.served ≡ Some (process c.id)
         → row_events_by s k.story (row_reading k.story.bus_state row) row ≡ xs
-        → array_after_events s (Some a) xs ≡ Some b → Passes s a b p.id → IsAtRest b p.id → HasFreed s k row a
-    made p b xs e f is passes own = record {
+        → array_after_events s (Some a) xs ≡ Some b → Passes s a b c.id → IsAtRest b c.id → HasFreed s k row a
+    made c b xs e f is passes own = record {
       next = b;
       next_is = (λ i. array_after_events s (h.array_is i) (f i)) ∙ is;
       sound = passes.sound;
       within = passes.within;
       untouched =
-          λ id z x. passes.untouched id (other_id p.id id (ap (λ (y : Option Item). is_served_by y id) (sym e) ∙ z)) x;
-      rests = all_rest s a b p.id passes
-          (λ other z. h.rests other (ap (λ (y : Option Item). is_served_by y other) e ∙ served_other p.id other z)) own;
+          λ id z x. passes.untouched id (other_id c.id id (ap (λ (y : Option Item). is_served_by y id) (sym e) ∙ z)) x;
+      rests = all_rest s a b c.id passes
+          (λ other z. h.rests other (ap (λ (y : Option Item). is_served_by y other) e ∙ served_other c.id other z)) own;
     }
 
-    of_process : (p : Process) → k.served ≡ Some (process p.id) → process_served s k ≡ Some p → HasFreed s k row a
-    of_process p e here = by (phase_of (bus_of k)) refl place
+    of_process : (c : Process) → k.served ≡ Some (process c.id) → process_served s k ≡ Some c → HasFreed s k row a
+    of_process c e here = by (phase_of (bus_of k)) refl place
       where
-        place : PlacedIn a p k.exchange.plan k.handshakes (bus_of k).atn (phase_of (bus_of k))
-        place = subst (λ (x : Bool). PlacedIf x a p k.exchange.plan k.handshakes (bus_of k).atn (phase_of (bus_of k)))
-            begun (h.placed n con off p here)
+        place : PlacedIn a c k.exchange.plan k.handshakes (bus_of k).atn (phase_of (bus_of k))
+        place = subst (λ (x : Bool). PlacedIf x a c k.exchange.plan k.handshakes (bus_of k).atn (phase_of (bus_of k)))
+            begun (h.placed n con off c here)
 
         quiet : (l.last ≡ complete) ⊎ (l.last ≡ disconnect)
             → row_events_by s k.story (row_reading k.story.bus_state row) row ≡ []
         quiet (inl z) = shown ∙ ap (bus_free_events s l) z
         quiet (inr z) = shown ∙ ap (bus_free_events s l) z
 
-        stays : phase_of (bus_of k) ≡ Phase.MessageIn → IsAtRest a p.id → HasFreed s k row a
-        stays f r = made p a [] e (quiet (asked.closing p.id e f)) refl (passes_same s a p.id h.sound h.within) r
+        stays : phase_of (bus_of k) ≡ Phase.MessageIn → IsAtRest a c.id → HasFreed s k row a
+        stays f r = made c a [] e (quiet (asked.closing c.id e f)) refl (passes_same s a c.id h.sound h.within) r
 
-        closes : phase_of (bus_of k) ≡ Phase.MessageIn → Closes a p k.exchange.plan.messages → HasFreed s k row a
-        closes f (completes z o) = wrong (sym (asked.taken p.id e f z) ∙ o.open_is)
+        closes : phase_of (bus_of k) ≡ Phase.MessageIn → Closes a c k.exchange.plan.messages → HasFreed s k row a
+        closes f (completes z o) = wrong (sym (asked.taken c.id e f z) ∙ o.open_is)
         closes f (disconnects z r o q) = stays f r
 
-        loses : (phase_of (bus_of k) ≡ Phase.MessageIn → ⊥) → has_ended a p.id ≡ false → HasFreed s k row a
+        loses : (phase_of (bus_of k) ≡ Phase.MessageIn → ⊥) → has_ended a c.id ≡ false → HasFreed s k row a
         loses f o =
-            let b : Array = settled_array (Steps.array_without a p.id) in
-            let is = lost_is s a p.id o in
-            made p b (Event.Lost p.id ∷ []) e
-            (shown ∙ ap (bus_free_events s l) (asked.lost p.id e f) ∙ ap item_loss_events (asked.named p.id e)) is
-            (passes_step s a b (Event.Lost p.id) p.id seats h.sound h.within (λ other z. z) is) (leaves a p.id).rests
+            let b : Array = settled_array (Steps.array_without a c.id) in
+            let is = lost_is s a c.id o in
+            made c b (Event.Lost c.id ∷ []) e
+            (shown ∙ ap (bus_free_events s l) (asked.lost c.id e f) ∙ ap item_loss_events (asked.named c.id e)) is
+            (passes_step s a b (Event.Lost c.id) c.id seats h.sound h.within (λ other z. z) is) (leaves a c.id).rests
 
-        by : (x : Phase) → phase_of (bus_of k) ≡ x → PlacedIn a p k.exchange.plan k.handshakes (bus_of k).atn x
+        by : (x : Phase) → phase_of (bus_of k) ≡ x → PlacedIn a c k.exchange.plan k.handshakes (bus_of k).atn x
             → HasFreed s k row a
         by Phase.MessageIn f (inl z) =
-            closes f (subst (λ (y : Next). PlacedBefore a p k.exchange.plan.messages y) (asked.next p.id e f) z)
+            closes f (subst (λ (y : Next). PlacedBefore a c k.exchange.plan.messages y) (asked.next c.id e f) z)
         by Phase.MessageIn f (inr z) = stays f z.rests
         by Phase.MessageOut f z =
-            loses (λ y. wrong (ap is_out_phase (sym f ∙ y))) (open_asked a p k.exchange.plan k.exchange.plan.cause z)
+            loses (λ y. wrong (ap is_out_phase (sym f ∙ y))) (open_asked a c k.exchange.plan k.exchange.plan.cause z)
         by Phase.Command f z = loses (λ y. wrong (ap is_command_phase (sym f ∙ y))) z.open_is
         by Phase.Status f z = loses (λ y. wrong (ap is_status (sym f ∙ y))) z.open_is
         by Phase.DataIn f z = loses (λ y. wrong (ap is_data_phase (sym f ∙ y))) z.open_is
@@ -226,6 +226,6 @@ end_row s k row n l h seats con off begun calm none link item asked = by_served 
         abort_item : (id : ProcId) → Some (abort m) ≡ Some (process id) → ⊥
         abort_item id z = true≢false (ap is_abort z)
     by_served (Some (process id)) e =
-        let p = h.of_scenario id e in
-        let own : p.0.id ≡ id = id_is s id p.0 p.1 in
-        of_process p.0 (e ∙ ap (λ (y : ProcId). Some (process y)) (sym own)) (ap (process_item s) e ∙ p.1)
+        let c = h.of_scenario id e in
+        let own : c.0.id ≡ id = id_is s id c.0 c.1 in
+        of_process c.0 (e ∙ ap (λ (y : ProcId). Some (process y)) (sym own)) (ap (process_item s) e ∙ c.1)

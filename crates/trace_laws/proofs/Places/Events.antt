@@ -59,72 +59,72 @@ turned_none s a id q sound within h =
 
 -- ---- a process that runs is answered
 
-pub turned_reply : (s : ScenarioValue) (a : Array) (p : Process) (failure : Option ℕ)
-    → HasSeats s → IsSound s a → AreWithin a.units → process_of s p.id ≡ Some p → RunsOpen a p
-    → Turned s a p.id (status_event p.id failure ∷ []) (λ b. AnsweredOpen b p.id)
-turned_reply s a p None seats sound within e h =
-    let b : Array = settled_array (Steps.after_execution_at a p (unit_state_at a.units p.target p.unit)) in
-    let is = run_is s a p h.runs in
-    let same : has_ended b p.id ≡ has_ended a p.id = λ i. has_ended
-    (record a { ended = (executed a p (unit_state_at a.units p.target p.unit)).ended i }) p.id in
+pub turned_reply : (s : ScenarioValue) (a : Array) (c : Process) (failure : Option ℕ)
+    → HasSeats s → IsSound s a → AreWithin a.units → process_of s c.id ≡ Some c → RunsOpen a c
+    → Turned s a c.id (status_event c.id failure ∷ []) (λ b. AnsweredOpen b c.id)
+turned_reply s a c None seats sound within e h =
+    let b : Array = settled_array (Steps.after_execution_at a c (unit_state_at a.units c.target c.unit)) in
+    let is = run_is s a c h.runs in
+    let same : has_ended b c.id ≡ has_ended a c.id = λ i. has_ended
+    (record a { ended = (executed a c (unit_state_at a.units c.target c.unit)).ended i }) c.id in
     record {
       next = b;
       next_is = is;
-      passes = passes_step s a b (Event.Run p.id) p.id seats sound within (λ other f. f) is;
-      holds = record { answered = run_answers s a b p seats sound e h.runs is; open_is = same ∙ h.open_is };
+      passes = passes_step s a b (Event.Run c.id) c.id seats sound within (λ other f. f) is;
+      holds = record { answered = run_answers s a b c seats sound e h.runs is; open_is = same ∙ h.open_is };
     }
-turned_reply s a p (Some code) seats sound within e h =
-    let b : Array = settled_array (Steps.with_reply a p.id (aborted_reply code)) in
-    let is = fail_is s a p code h.runs in
+turned_reply s a c (Some code) seats sound within e h =
+    let b : Array = settled_array (Steps.with_reply a c.id (aborted_reply code)) in
+    let is = fail_is s a c code h.runs in
     record {
       next = b;
       next_is = is;
-      passes = passes_step s a b (Event.Fail p.id code) p.id seats sound within (λ other f. f) is;
-      holds = record { answered = fail_answers s a b p code seats sound e h.runs is; open_is = h.open_is };
+      passes = passes_step s a b (Event.Fail c.id code) c.id seats sound within (λ other f. f) is;
+      holds = record { answered = fail_answers s a b c code seats sound e h.runs is; open_is = h.open_is };
     }
 
 -- One that has not arrived fails.
-pub turned_fails : (s : ScenarioValue) (a : Array) (p : Process) (code : ℕ) → HasSeats s
-    → IsSound s a → AreWithin a.units → process_of s p.id ≡ Some p → IsUntouched a p.id
-    → Turned s a p.id (status_event p.id (Some code) ∷ []) (λ b. AnsweredOpen b p.id)
-turned_fails s a p code seats sound within e h =
+pub turned_fails : (s : ScenarioValue) (a : Array) (c : Process) (code : ℕ) → HasSeats s
+    → IsSound s a → AreWithin a.units → process_of s c.id ≡ Some c → IsUntouched a c.id
+    → Turned s a c.id (status_event c.id (Some code) ∷ []) (λ b. AnsweredOpen b c.id)
+turned_fails s a c code seats sound within e h =
     let b : Array = settled_array
-    (Steps.with_listed_reply (Steps.with_guest a p (Some (aborted_reply code))) p.id (aborted_reply code)) in
-    let is = fails_new s a p code e h in
+    (Steps.with_listed_reply (Steps.with_guest a c (Some (aborted_reply code))) c.id (aborted_reply code)) in
+    let is = fails_new s a c code e h in
     record {
       next = b;
       next_is = is;
-      passes = passes_step s a b (Event.Fail p.id code) p.id seats sound within (λ other f. f) is;
-      holds = record { answered = guest_answered a p (aborted_reply code) h; open_is = h.open_is };
+      passes = passes_step s a b (Event.Fail c.id code) c.id seats sound within (λ other f. f) is;
+      holds = record { answered = guest_answered a c (aborted_reply code) h; open_is = h.open_is };
     }
 
 -- ---- a command arrives
 
 -- As it is planned, so it arrives.
 abbrev pub ArrivesAs : Array → Process → Arrival → Type 0
-ArrivesAs b p Arrival.Refused = AnsweredOpen b p.id
-ArrivesAs b p Arrival.Guest = RunsOpen b p
-ArrivesAs b p Arrival.AtOnce = RunsOpen b p × IsAtRest b p.id
-ArrivesAs b p Arrival.Queued = IsAtRest b p.id × (has_ended b p.id ≡ false) × (is_queued b.units p.id ≡ true)
+ArrivesAs b c Arrival.Refused = AnsweredOpen b c.id
+ArrivesAs b c Arrival.Guest = RunsOpen b c
+ArrivesAs b c Arrival.AtOnce = RunsOpen b c × IsAtRest b c.id
+ArrivesAs b c Arrival.Queued = IsAtRest b c.id × (has_ended b c.id ≡ false) × (is_queued b.units c.id ≡ true)
 
 abbrev pub plan_for : Policy → Array → Process → Arrival
-plan_for policy a p =
-    arrival_by policy (is_request_sense (command_of p.cdb)) (room_of a (unit_state_at a.units p.target p.unit))
+plan_for policy a c =
+    arrival_by policy (is_request_sense (command_of c.cdb)) (room_of a (unit_state_at a.units c.target c.unit))
 
-guest_planned : (policy : Policy) (a : Array) (p : Process) → IsOutside a p → plan_for policy a p ≡ Arrival.Guest
-guest_planned policy a p (inl e) = λ i. arrival_by policy (is_request_sense (command_of p.cdb)) (room_of a (e i))
-guest_planned policy a p (inr e) = (λ i. arrival_by policy (e i) (room_of a (unit_state_at a.units p.target p.unit)))
-    ∙ go (unit_state_at a.units p.target p.unit)
+guest_planned : (policy : Policy) (a : Array) (c : Process) → IsOutside a c → plan_for policy a c ≡ Arrival.Guest
+guest_planned policy a c (inl e) = λ i. arrival_by policy (is_request_sense (command_of c.cdb)) (room_of a (e i))
+guest_planned policy a c (inr e) = (λ i. arrival_by policy (e i) (room_of a (unit_state_at a.units c.target c.unit)))
+    ∙ go (unit_state_at a.units c.target c.unit)
   where
     go : (u : Option UnitState) → arrival_by policy true (room_of a u) ≡ Arrival.Guest
     go None = refl
     go (Some u) = refl
 
-in_queue_planned : (policy : Policy) (a : Array) (p : Process) (u : UnitState) (q : Bool)
-    → unit_state_at a.units p.target p.unit ≡ Some u → is_request_sense (command_of p.cdb) ≡ false
-    → nat_lt (process_count u) u.depth ≡ q → plan_for policy a p ≡ (if not q then Arrival.Refused
+in_queue_planned : (policy : Policy) (a : Array) (c : Process) (u : UnitState) (q : Bool)
+    → unit_state_at a.units c.target c.unit ≡ Some u → is_request_sense (command_of c.cdb) ≡ false
+    → nat_lt (process_count u) u.depth ≡ q → plan_for policy a c ≡ (if not q then Arrival.Refused
     else if is_never policy && is_idle_unit a u then Arrival.AtOnce else Arrival.Queued)
-in_queue_planned policy a p u q e f g = (λ i. arrival_by policy (f i) (room_of a (e i)))
+in_queue_planned policy a c u q e f g = (λ i. arrival_by policy (f i) (room_of a (e i)))
     ∙ (λ i. if not (g i) then Arrival.Refused
     else if is_never policy && is_idle_unit a u then Arrival.AtOnce else Arrival.Queued)
 
@@ -133,90 +133,90 @@ record IsIdle (a : Array) (u : UnitState) : Type 0 where
   none_runs : has_no_current u.current ≡ true
   free : is_held a.holds u.target u.unit ≡ false
 
-no_length : (n : ℕ) → (suc n == 0) ≡ true → ⊥
-no_length n e = let z : suc n ≡ 0 = eqb-true (suc n) 0 e in omega arith
+no_length : (m : ℕ) → (suc m == 0) ≡ true → ⊥
+no_length m e = let z : suc m ≡ 0 = eqb-true (suc m) 0 e in omega arith
 
 idle_is : (a : Array) (u : UnitState) → is_idle_unit a u ≡ true → IsIdle a u
 idle_is a u e = go (has_no_current u.current) refl (is_held a.holds u.target u.unit) refl u.waiting refl e
   where
     go : (x : Bool) → has_no_current u.current ≡ x → (y : Bool) → is_held a.holds u.target u.unit ≡ y
         → (w : List Process) → u.waiting ≡ w → (x && not y && length w == 0) ≡ true → IsIdle a u
-    go true f false g [] h k = record { none_waits = h; none_runs = f; free = g }
-    go true f false g (p ∷ w) h k = absurd (no_length (length w) k)
-    go true f true g w h k = wrong (sym k)
-    go false f y g w h k = wrong (sym k)
+    go true f false g [] h z = record { none_waits = h; none_runs = f; free = g }
+    go true f false g (c ∷ w) h z = absurd (no_length (length w) z)
+    go true f true g w h z = wrong (sym z)
+    go false f y g w h z = wrong (sym z)
 
 -- It is accepted, and planned so.
-pub record Accepted (s : ScenarioValue) (a : Array) (p : Process) (policy : Policy) (b : Array) : Type 0 where
-  pub passes : Passes s a b p.id
-  pub planned : is_refusal (plan_for policy a p) ≡ false
-  pub arrived : ArrivesAs b p (plan_for policy a p)
+pub record Accepted (s : ScenarioValue) (a : Array) (c : Process) (policy : Policy) (b : Array) : Type 0 where
+  pub passes : Passes s a b c.id
+  pub planned : is_refusal (plan_for policy a c) ≡ false
+  pub arrived : ArrivesAs b c (plan_for policy a c)
 
-pub accepts : (s : ScenarioValue) (a b : Array) (p : Process) (policy : Policy) → HasSeats s → IsSound s a
-    → AreWithin a.units → process_of s p.id ≡ Some p → IsUntouched a p.id → Steps.step s (Event.Accept p.id) a ≡ Some b
-    → Accepted s a p policy b
-accepts s a b p policy seats sound within e h f = go (arrives s a b p e f)
+pub accepts : (s : ScenarioValue) (a b : Array) (c : Process) (policy : Policy) → HasSeats s → IsSound s a
+    → AreWithin a.units → process_of s c.id ≡ Some c → IsUntouched a c.id → Steps.step s (Event.Accept c.id) a ≡ Some b
+    → Accepted s a c policy b
+accepts s a b c policy seats sound within e h f = go (arrives s a b c e f)
   where
-    passes : Passes s a b p.id
-    passes = passes_step s a b (Event.Accept p.id) p.id seats sound within (λ other z. z) f
+    passes : Passes s a b c.id
+    passes = passes_step s a b (Event.Accept c.id) c.id seats sound within (λ other z. z) f
 
-    made : (x : Arrival) → plan_for policy a p ≡ x → is_refusal x ≡ false → ArrivesAs b p x → Accepted s a p policy b
-    made x z w k = record {
+    made : (x : Arrival) → plan_for policy a c ≡ x → is_refusal x ≡ false → ArrivesAs b c x → Accepted s a c policy b
+    made x z w g = record {
       passes = passes;
       planned = ap is_refusal z ∙ w;
-      arrived = subst (λ (y : Arrival). ArrivesAs b p y) (sym z) k;
+      arrived = subst (λ (y : Arrival). ArrivesAs b c y) (sym z) g;
     }
 
-    go : Arrives a p b → Accepted s a p policy b
+    go : Arrives a c b → Accepted s a c policy b
     go (as_guest out z) =
-        made Arrival.Guest (guest_planned policy a p out) refl
-        (subst (λ (x : Array). RunsOpen x p) (sym z) (record { runs = guest_may_run a p out h; open_is = h.open_is }))
+        made Arrival.Guest (guest_planned policy a c out) refl
+        (subst (λ (x : Array). RunsOpen x c) (sym z) (record { runs = guest_may_run a c out h; open_is = h.open_is }))
     go (in_queue u at senses room z) = by_bool (is_never policy && is_idle_unit a u)
         (λ w. let i = idle_is a u (and_second (is_never policy) (is_idle_unit a u) w) in
         made Arrival.AtOnce (planned ∙ ap (λ (q : Bool). if q then Arrival.AtOnce else Arrival.Queued) w) refl
-        (subst (λ (x : Array). RunsOpen x p × IsAtRest x p.id) (sym z) (
-          record { runs = at_once_may_run a p u at i.none_waits i.none_runs i.free h; open_is = h.open_is },
-          queued_rests a p u at h,
+        (subst (λ (x : Array). RunsOpen x c × IsAtRest x c.id) (sym z) (
+          record { runs = at_once_may_run a c u at i.none_waits i.none_runs i.free h; open_is = h.open_is },
+          queued_rests a c u at h,
         ))) (λ w. made Arrival.Queued (planned ∙ ap (λ (q : Bool). if q then Arrival.AtOnce else Arrival.Queued) w) refl
-        (subst (λ (x : Array). IsAtRest x p.id × (has_ended x p.id ≡ false) × (is_queued x.units p.id ≡ true)) (sym z)
-        (queued_rests a p u at h, h.open_is, queued_stands a p u at)))
+        (subst (λ (x : Array). IsAtRest x c.id × (has_ended x c.id ≡ false) × (is_queued x.units c.id ≡ true)) (sym z)
+        (queued_rests a c u at h, h.open_is, queued_stands a c u at)))
       where
-        planned : plan_for policy a p ≡ (if is_never policy && is_idle_unit a u then Arrival.AtOnce else Arrival.Queued)
-        planned = in_queue_planned policy a p u true at senses room
+        planned : plan_for policy a c ≡ (if is_never policy && is_idle_unit a u then Arrival.AtOnce else Arrival.Queued)
+        planned = in_queue_planned policy a c u true at senses room
 
 -- It is refused, and planned so.
-pub refusal_planned : (s : ScenarioValue) (a : Array) (p : Process) (policy : Policy) → process_of s p.id ≡ Some p
-    → Steps.step s (Event.Accept p.id) a ≡ None → plan_for policy a p ≡ Arrival.Refused
-refusal_planned s a p policy e f =
-    go (unit_state_at a.units p.target p.unit) refl ((λ i. Steps.settled_array_if (Steps.accept_step a (sym e i))) ∙ f)
+pub refusal_planned : (s : ScenarioValue) (a : Array) (c : Process) (policy : Policy) → process_of s c.id ≡ Some c
+    → Steps.step s (Event.Accept c.id) a ≡ None → plan_for policy a c ≡ Arrival.Refused
+refusal_planned s a c policy e f =
+    go (unit_state_at a.units c.target c.unit) refl ((λ i. Steps.settled_array_if (Steps.accept_step a (sym e i))) ∙ f)
   where
-    go : (u : Option UnitState) → unit_state_at a.units p.target p.unit ≡ u
-        → Steps.settled_array_if (Steps.accept_step_at a p u) ≡ None → plan_for policy a p ≡ Arrival.Refused
-    go None z k = absurd (some_none (settled_array (Steps.with_guest a p None)) k)
-    go (Some u) z k = senses (is_request_sense (command_of p.cdb)) refl k
+    go : (u : Option UnitState) → unit_state_at a.units c.target c.unit ≡ u
+        → Steps.settled_array_if (Steps.accept_step_at a c u) ≡ None → plan_for policy a c ≡ Arrival.Refused
+    go None z h = absurd (some_none (settled_array (Steps.with_guest a c None)) h)
+    go (Some u) z h = senses (is_request_sense (command_of c.cdb)) refl h
       where
-        room : (y : Bool) → nat_lt (process_count u) u.depth ≡ y → is_request_sense (command_of p.cdb) ≡ false
-            → Steps.settled_array_if (if y then Some (queued a p u) else None) ≡ None
-            → plan_for policy a p ≡ Arrival.Refused
-        room true w x l = absurd (some_none (settled_array (queued a p u)) l)
-        room false w x l = in_queue_planned policy a p u false z x w
+        room : (y : Bool) → nat_lt (process_count u) u.depth ≡ y → is_request_sense (command_of c.cdb) ≡ false
+            → Steps.settled_array_if (if y then Some (queued a c u) else None) ≡ None
+            → plan_for policy a c ≡ Arrival.Refused
+        room true w x l = absurd (some_none (settled_array (queued a c u)) l)
+        room false w x l = in_queue_planned policy a c u false z x w
 
-        senses : (x : Bool) → is_request_sense (command_of p.cdb) ≡ x
-            → Steps.settled_array_if (if x then Some (Steps.with_guest a p None) else Steps.queue_step a p u) ≡ None
-            → plan_for policy a p ≡ Arrival.Refused
-        senses true x l = absurd (some_none (settled_array (Steps.with_guest a p None)) l)
+        senses : (x : Bool) → is_request_sense (command_of c.cdb) ≡ x
+            → Steps.settled_array_if (if x then Some (Steps.with_guest a c None) else Steps.queue_step a c u) ≡ None
+            → plan_for policy a c ≡ Arrival.Refused
+        senses true x l = absurd (some_none (settled_array (Steps.with_guest a c None)) l)
         senses false x l = room (nat_lt (process_count u) u.depth) refl x l
 
-pub refused_so : (s : ScenarioValue) (a : Array) (p : Process) → HasSeats s → IsSound s a → AreWithin a.units
-    → process_of s p.id ≡ Some p → IsUntouched a p.id → Steps.step s (Event.Accept p.id) a ≡ None
-    → Turned s a p.id (Event.Refuse p.id ∷ []) (λ b. AnsweredOpen b p.id)
-refused_so s a p seats sound within e h f =
-    let is = refuses s a p within e f in
+pub refused_so : (s : ScenarioValue) (a : Array) (c : Process) → HasSeats s → IsSound s a → AreWithin a.units
+    → process_of s c.id ≡ Some c → IsUntouched a c.id → Steps.step s (Event.Accept c.id) a ≡ None
+    → Turned s a c.id (Event.Refuse c.id ∷ []) (λ b. AnsweredOpen b c.id)
+refused_so s a c seats sound within e h f =
+    let is = refuses s a c within e f in
     record {
-      next = refused_array a p;
+      next = refused_array a c;
       next_is = is;
-      passes = passes_step s a (refused_array a p) (Event.Refuse p.id) p.id seats sound within (λ other z. z) is;
-      holds = record { answered = guest_answered a p _ h; open_is = h.open_is };
+      passes = passes_step s a (refused_array a c) (Event.Refuse c.id) c.id seats sound within (λ other z. z) is;
+      holds = record { answered = guest_answered a c _ h; open_is = h.open_is };
     }
 
 -- ---- the events of a turn

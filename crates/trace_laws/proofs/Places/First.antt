@@ -56,8 +56,8 @@ own_item id items = λ i. self_id id i || has_item items (process id)
 -- ---- a selection
 
 of_item : (s : ScenarioValue) (dev : ℕ) (item : Item) → IsItem s dev item → (id : ProcId) → item ≡ process id
-    → (p : Process) × (process_of s id ≡ Some p)
-of_item s dev (process y) (is_process z p e f) id g = (p, ap (process_of s) (sym (same_process y id g)) ∙ e)
+    → (c : Process) × (process_of s id ≡ Some c)
+of_item s dev (process y) (is_process z c e f) id g = (c, ap (process_of s) (sym (same_process y id g)) ∙ e)
   where
     id_of : Item → ProcId
     id_of (process x) = x
@@ -86,8 +86,8 @@ selected_on s k row n h b link e a = record {
   sent = λ id z. ap (λ (x : List Item). has_item x (process id)) sent
       ∙ ap (λ (x : Item). has_item (x ∷ k.story.sent.sent) (process id)) (item_is id z) ∙ own_item id k.story.sent.sent;
   of_scenario = λ id z. of_item s n.initiator a.item a.item_is id (item_is id z);
-  placed = λ m x y p z. subst (λ (q : Bool). PlacedIf q h.array p j.exchange.plan j.handshakes (bus_of j).atn
-      (phase_of (bus_of j))) (sym (ap (λ (x : Exchange). x.begun) (first_made s k row n f) ∙ e)) (new p z);
+  placed = λ m x y c z. subst (λ (q : Bool). PlacedIf q h.array c j.exchange.plan j.handshakes (bus_of j).atn
+      (phase_of (bus_of j))) (sym (ap (λ (x : Exchange). x.begun) (first_made s k row n f) ∙ e)) (new c z);
 }
   where
     j : RunState
@@ -106,13 +106,13 @@ selected_on s k row n h b link e a = record {
     item_is : (id : ProcId) → j.served ≡ Some (process id) → a.item ≡ process id
     item_is id z = same_Some a.item (process id) (sym served ∙ z)
 
-    new : (p : Process) → process_served s j ≡ Some p → IsUntouched h.array p.id
-    new p z = go a.item refl (ap (process_item s) (sym served) ∙ z)
+    new : (c : Process) → process_served s j ≡ Some c → IsUntouched h.array c.id
+    new c z = go a.item refl (ap (process_item s) (sym served) ∙ z)
       where
-        go : (x : Item) → a.item ≡ x → process_item s (Some x) ≡ Some p → IsUntouched h.array p.id
-        go (process id) y w = subst (λ (v : ProcId). IsUntouched h.array v) (sym (id_is s id p w))
+        go : (x : Item) → a.item ≡ x → process_item s (Some x) ≡ Some c → IsUntouched h.array c.id
+        go (process id) y w = subst (λ (v : ProcId). IsUntouched h.array v) (sym (id_is s id c w))
             (h.unsent id (ap (λ (v : Item). has_item k.story.sent.sent v) (sym y) ∙ a.unsent))
-        go (abort m) y w = none_some p w
+        go (abort m) y w = none_some c w
 
 -- ---- a reselection
 
@@ -135,11 +135,11 @@ reselected_on s k row n h b link e = record {
     ap (λ (x : Item). process_of s (id_of x)) (sym (same_Some (process r.process.id) (process id) (sym served ∙ z)))
         ∙ ready.process_is,
   );
-  placed = λ m x y p z. subst (λ (q : Bool). PlacedIf q h.array p j.exchange.plan j.handshakes
+  placed = λ m x y c z. subst (λ (q : Bool). PlacedIf q h.array c j.exchange.plan j.handshakes
       (bus_of j).atn (phase_of (bus_of j))) (sym (ap (λ (x : Exchange). x.begun) made ∙ e))
-      (subst (λ (q : Phase). PlacedIn h.array p j.exchange.plan j.handshakes (bus_of j).atn q)
-      (sym phase) (inl (subst (λ (q : Next). PlacedBefore h.array p j.exchange.plan.messages q) (sym next)
-      (subst (λ (q : Process). RunsOpen h.array q) (is p z) ready.runs))));
+      (subst (λ (q : Phase). PlacedIn h.array c j.exchange.plan j.handshakes (bus_of j).atn q)
+      (sym phase) (inl (subst (λ (q : Next). PlacedBefore h.array c j.exchange.plan.messages q) (sym next)
+      (subst (λ (q : Process). RunsOpen h.array q) (is c z) ready.runs))));
 }
   where
     j : RunState
@@ -188,5 +188,5 @@ reselected_on s k row n h b link e = record {
         ∙ ap (λ (q : Bool). (first_plan q (not q && may_negotiate k n (aim_of k.story.aims n.initiator))
         (if q then messages_if (ready_of s k n.target) else no_messages)).next) e
 
-    is : (p : Process) → process_served s j ≡ Some p → r.process ≡ p
-    is p z = same_Some r.process p (sym ready.process_is ∙ ap (process_item s) (sym served) ∙ z)
+    is : (c : Process) → process_served s j ≡ Some c → r.process ≡ c
+    is c z = same_Some r.process c (sym ready.process_is ∙ ap (process_item s) (sym served) ∙ z)

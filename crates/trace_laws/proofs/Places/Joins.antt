@@ -15,8 +15,8 @@ use Rattle.due_model.specs.dialogue_model.specs.declared.exchange.Said.{Said}
 
 -- ---- what is sent
 
-on_bus_sent : (s : ScenarioValue) (b : Story) (m n : Option Connection) (d : RowReading) (row : Row)
-    → (m ≡ None → n ≡ None) → (story_on_bus s b m n d row).sent.sent ≡ b.sent.sent
+on_bus_sent : (s : ScenarioValue) (b : Story) (m o : Option Connection) (d : RowReading) (row : Row)
+    → (m ≡ None → o ≡ None) → (story_on_bus s b m o d row).sent.sent ≡ b.sent.sent
 on_bus_sent s b None None d row f = (free_keeps s b d row).2
 on_bus_sent s b None (Some n) d row f = some_none n (f refl)
 on_bus_sent s b (Some m) None d row f = refl

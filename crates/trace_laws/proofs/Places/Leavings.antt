@@ -76,11 +76,11 @@ tasks q (Some t) f free h = h t
 
 recovers : (q : Leaving → Type 0) (def : Option TargetDef) (t : Task) (again over : Leaving) → q again
     → q (record again { counts = true }) → q over → q (recovery def t again over)
-recovers q def t again over h k g = go t.in_hold (nat_lt t.recoveries (recovery_limit def))
+recovers q def t again over h e g = go t.in_hold (nat_lt t.recoveries (recovery_limit def))
   where
     go : (r z : Bool) → q (if r then again else if z then record again { counts = true } else over)
     go true z = h
-    go false true = k
+    go false true = e
     go false false = g
 
 -- ---- data phases
@@ -159,14 +159,14 @@ from_command_next v false = tt
 pub from_opening : (v : Serving) → LeadsNew (message_out_leaving v Cause.Selected)
 from_opening v = go (is_some v.plan.said.aborts) v.plan.said.offer v.plan.negotiates
   where
-    offers : (o : Option Agreement) (n : Bool) → LeadsNew (after_offer v.def n o)
-    offers (Some offer) n = tt
+    offers : (o : Option Agreement) (r : Bool) → LeadsNew (after_offer v.def r o)
+    offers (Some offer) r = tt
     offers None true = elim (request_by v.def) as (λ m. LeadsNew (request_or_command m)) [ None ↦ tt | Some m ↦ tt ]
     offers None false = tt
 
-    go : (q : Bool) (o : Option Agreement) (n : Bool) → LeadsNew (if q then bus_free else after_offer v.def n o)
-    go true o n = tt
-    go false o n = offers o n
+    go : (q : Bool) (o : Option Agreement) (r : Bool) → LeadsNew (if q then bus_free else after_offer v.def r o)
+    go true o r = tt
+    go false o r = offers o r
 
 pub from_detected : (outside : Bool) (v : Serving) → LeadsRunning outside (message_out_leaving v Cause.InData)
 from_detected outside v =

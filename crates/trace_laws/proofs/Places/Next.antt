@@ -119,15 +119,15 @@ apart_on s k row h con none link calm same =
 -- ---- one under RST
 
 -- After a reset no process is in the array.
-dropped_units : (units : List UnitState) (id : ProcId) → OnUnits (IsAway id) (Steps.kept_units (λ p. true) units)
+dropped_units : (units : List UnitState) (id : ProcId) → OnUnits (IsAway id) (Steps.kept_units (λ c. true) units)
 dropped_units [] id = tt
 dropped_units (u ∷ units) id = ((waits u.waiting, runs u.current), dropped_units units id)
   where
-    waits : (waiting : List Process) → Waits (IsAway id) (Steps.kept_processes (λ p. true) waiting)
+    waits : (waiting : List Process) → Waits (IsAway id) (Steps.kept_processes (λ c. true) waiting)
     waits [] = tt
-    waits (p ∷ waiting) = waits waiting
+    waits (c ∷ waiting) = waits waiting
 
-    runs : (o : Option RunningProcess) → Runs (IsAway id) (Steps.kept_running (λ p. true) o)
+    runs : (o : Option RunningProcess) → Runs (IsAway id) (Steps.kept_running (λ c. true) o)
     runs None = tt
     runs (Some r) = tt
 
@@ -213,9 +213,9 @@ reset_on s k row h seats on asked same =
           (λ y. y ≡ Some (process id) → has_item k.story.sent.sent (process id) ≡ true) (λ z. h.sent id z)
           (λ z. none_some (process id) z) e;
       of_scenario = λ id e. by k.story.bus_state.connection (row_reading k.story.bus_state row).next refl refl
-          (λ y. y ≡ Some (process id) → (p : Process) × (process_of s id ≡ Some p)) (λ z. h.of_scenario id z)
+          (λ y. y ≡ Some (process id) → (c : Process) × (process_of s id ≡ Some c)) (λ z. h.of_scenario id z)
           (λ z. none_some (process id) z) e;
-      placed = λ m e f p z. wrong (sym on ∙ f);
+      placed = λ m e f c z. wrong (sym on ∙ f);
     }
   where
     x : HasReset s k row h.array

@@ -22,15 +22,15 @@ record IsCurrent (a : Array) (t : ℕ) (r : Ready) : Type 0 where
 abbrev IfCurrent : Array → ℕ → Option Ready → Type 0
 IfCurrent a t x = (r : Ready) → x ≡ Some r → IsCurrent a t r
 
-ready_current : (a : Array) (times : List ℕ) (seek t n : ℕ) → IfCurrent a t (ready_at a times seek t n)
-ready_current a times seek t n r e = go (unit_state_at a.units t n) refl e
+ready_current : (a : Array) (times : List ℕ) (seek t m : ℕ) → IfCurrent a t (ready_at a times seek t m)
+ready_current a times seek t m r e = go (unit_state_at a.units t m) refl e
   where
-    by : (u : UnitState) → unit_state_at a.units t n ≡ Some u → (c : Option RunningProcess) → u.current ≡ c → (q : Bool)
-        → is_held a.holds t n ≡ q → ready_in q c (since_of a.units times t n + seek) ≡ Some r → IsCurrent a t r
+    by : (u : UnitState) → unit_state_at a.units t m ≡ Some u → (c : Option RunningProcess) → u.current ≡ c → (q : Bool)
+        → is_held a.holds t m ≡ q → ready_in q c (since_of a.units times t m + seek) ≡ Some r → IsCurrent a t r
     by u f None g q h z = none_some r z
     by u f (Some c) g true h z = none_some r z
     by u f (Some c) g false h z = record {
-      number = n;
+      number = m;
       unit = u;
       at = f;
       current = c;
@@ -39,10 +39,10 @@ ready_current a times seek t n r e = go (unit_state_at a.units t n) refl e
       free = h;
     }
 
-    go : (x : Option UnitState) → unit_state_at a.units t n ≡ x
-        → ready_in (is_held a.holds t n) (current_of x) (since_of a.units times t n + seek) ≡ Some r → IsCurrent a t r
+    go : (x : Option UnitState) → unit_state_at a.units t m ≡ x
+        → ready_in (is_held a.holds t m) (current_of x) (since_of a.units times t m + seek) ≡ Some r → IsCurrent a t r
     go None f z = none_some r z
-    go (Some u) f z = by u f u.current refl (is_held a.holds t n) refl z
+    go (Some u) f z = by u f u.current refl (is_held a.holds t m) refl z
 
 first_current : (a : Array) (t : ℕ) (x y : Option Ready) → IfCurrent a t x → IfCurrent a t y
     → IfCurrent a t (first_ready x y)
@@ -53,7 +53,7 @@ first_current a t (Some x) (Some y) h g =
 
 among_current : (a : Array) (times : List ℕ) (seek t : ℕ) → IfCurrent a t (ready_among a times seek t)
 among_current a times seek t =
-    let at : (n : ℕ) → IfCurrent a t (ready_at a times seek t n) = λ n. ready_current a times seek t n in
+    let at : (m : ℕ) → IfCurrent a t (ready_at a times seek t m) = λ m. ready_current a times seek t m in
     let none : IfCurrent a t None = λ r e. none_some r e in
     first_current a t (ready_at a times seek t 0) _ (at 0)
     (first_current a t (ready_at a times seek t 1) _ (at 1)
@@ -70,11 +70,11 @@ record IsFound (units : List UnitState) (id : ProcId) : Type 0 where
   found : RunningProcess
   found_is : running_in units id ≡ Some found
 
-found_current : (units : List UnitState) (t n : ℕ) (u : UnitState) (c : RunningProcess) (id : ProcId)
-    → unit_state_at units t n ≡ Some u → u.current ≡ Some c → same_id c.process.id id ≡ true → IsFound units id
-found_current [] t n u c id e f g = none_some u e
-found_current (v ∷ units) t n u c id e f g =
-    go (v.target == t && v.unit == n) e (λ k. found_current units t n u c id k f g)
+found_current : (units : List UnitState) (t m : ℕ) (u : UnitState) (c : RunningProcess) (id : ProcId)
+    → unit_state_at units t m ≡ Some u → u.current ≡ Some c → same_id c.process.id id ≡ true → IsFound units id
+found_current [] t m u c id e f g = none_some u e
+found_current (v ∷ units) t m u c id e f g =
+    go (v.target == t && v.unit == m) e (λ h. found_current units t m u c id h f g)
   where
     at : v ≡ u → IsFound (v ∷ units) id
     at same =
@@ -82,10 +82,10 @@ found_current (v ∷ units) t n u c id e f g =
         ∙ (λ i. running_if (f i) id) ∙ (λ i. if g i then Some c else None) in
         record { found = c; found_is = λ i. if is_some (it i) then it i else running_in units id }
 
-    go : (x : Bool) → (if x then Some v else unit_state_at units t n) ≡ Some u
-        → (unit_state_at units t n ≡ Some u → IsFound units id) → IsFound (v ∷ units) id
-    go true k rest = at (same_Some v u k)
-    go false k rest = by (running_if v.current id) refl (rest k)
+    go : (x : Bool) → (if x then Some v else unit_state_at units t m) ≡ Some u
+        → (unit_state_at units t m ≡ Some u → IsFound units id) → IsFound (v ∷ units) id
+    go true h rest = at (same_Some v u h)
+    go false h rest = by (running_if v.current id) refl (rest h)
       where
         by : (o : Option RunningProcess) → running_if v.current id ≡ o → IsFound units id → IsFound (v ∷ units) id
         by None z w = record {
@@ -103,14 +103,14 @@ on_running q (u ∷ units) id r h e = go u.current h.0.1 e (λ z. on_running q u
     by : (c : RunningProcess) → q c → (x : Bool)
         → (if is_some {T = RunningProcess} (if x then Some c else None) then (if x then Some c else None)
         else running_in units id) ≡ Some r → (running_in units id ≡ Some r → q r) → q r
-    by c k true z rest = subst q (same_Some c r z) k
-    by c k false z rest = rest z
+    by c f true z rest = subst q (same_Some c r z) f
+    by c f false z rest = rest z
 
     go : (o : Option RunningProcess) → Runs q o
         → (if is_some (running_if o id) then running_if o id else running_in units id) ≡ Some r
         → (running_in units id ≡ Some r → q r) → q r
-    go None k z rest = rest z
-    go (Some c) k z rest = by c k (same_id c.process.id id) z rest
+    go None f z rest = rest z
+    go (Some c) f z rest = by c f (same_id c.process.id id) z rest
 
 -- ---- it may run
 
@@ -127,7 +127,7 @@ ready_runs s a times seek t r sound rests e = go (among_current a times seek t r
     go c = record {
       runs = record {
         runs = record {
-          running_is = (λ i. if is_some (guest i) then guest i else running_in a.units p.id) ∙ found.found_is
+          running_is = (λ i. if is_some (guest i) then guest i else running_in a.units z.id) ∙ found.found_is
               ∙ ap (λ (y : RunningProcess). Some y) is_fresh;
           free = λ i. is_some (guest i) || not (held i);
           reply = none.1;
@@ -139,8 +139,8 @@ ready_runs s a times seek t r sound rests e = go (among_current a times seek t r
       free = held;
     }
       where
-        p : Process
-        p = r.process
+        z : Process
+        z = r.process
 
         own : IsOwnUnit s c.unit
         own = own_found s a.units t c.number c.unit sound.units c.at
@@ -149,35 +149,35 @@ ready_runs s a times seek t r sound rests e = go (among_current a times seek t r
         mine =
             subst (λ (o : Option RunningProcess). IsOwnRunning s c.unit.target c.unit.unit o) c.current_is own.current
 
-        own_is : process_of s p.id ≡ Some p
+        own_is : process_of s z.id ≡ Some z
         own_is = subst (λ (x : Process). process_of s x.id ≡ Some x) c.process_is mine.is
 
-        found : IsFound a.units p.id
-        found = found_current a.units t c.number c.unit c.current p.id c.at c.current_is
-            (ap (λ (x : Process). same_id x.id p.id) c.process_is ∙ self_id p.id)
+        found : IsFound a.units z.id
+        found = found_current a.units t c.number c.unit c.current z.id c.at c.current_is
+            (ap (λ (x : Process). same_id x.id z.id) c.process_is ∙ self_id z.id)
 
-        there : same_id found.found.process.id p.id ≡ true
-        there = running_is a.units p.id found.found found.found_is
+        there : same_id found.found.process.id z.id ≡ true
+        there = running_is a.units z.id found.found found.found_is
 
-        none : (found.found.reply ≡ None) × (reply_in a.replies p.id ≡ None) × (has_ended a p.id ≡ false)
-        none = on_running (IsUnanswered (reply_in a.replies p.id) (has_ended a p.id) p.id) a.units p.id found.found
+        none : (found.found.reply ≡ None) × (reply_in a.replies z.id ≡ None) × (has_ended a z.id ≡ false)
+        none = on_running (IsUnanswered (reply_in a.replies z.id) (has_ended a z.id) z.id) a.units z.id found.found
             rests.units found.found_is there
 
-        same : found.found.process ≡ p
+        same : found.found.process ≡ z
         same =
-            same_Some found.found.process p (sym (current_process s a.units p.id found.found sound.units found.found_is)
-            ∙ ap (process_of s) (id_is found.found.process.id p.id there) ∙ own_is)
+            same_Some found.found.process z (sym (current_process s a.units z.id found.found sound.units found.found_is)
+            ∙ ap (process_of s) (id_is found.found.process.id z.id there) ∙ own_is)
 
-        is_fresh : found.found ≡ without_reply p
+        is_fresh : found.found ≡ without_reply z
         is_fresh = λ i. record { process = same i; reply = none.0 i }
 
-        guest : guest_at a.guests p.id ≡ None
-        guest = no_guest a.guests p.id rests.guests
+        guest : guest_at a.guests z.id ≡ None
+        guest = no_guest a.guests z.id rests.guests
 
         at : IsFoundAt c.unit t c.number
         at = found_at a.units t c.number c.unit c.at
 
-        held : is_held a.holds p.target p.unit ≡ false
+        held : is_held a.holds z.target z.unit ≡ false
         held = (λ i. is_held a.holds
             ((ap (λ (x : Process). x.target) (sym c.process_is) ∙ mine.target_is ∙ at.target_is) i)
             ((ap (λ (x : Process). x.unit) (sym c.process_is) ∙ mine.unit_is ∙ at.unit_is) i))

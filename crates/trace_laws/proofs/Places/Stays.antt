@@ -51,21 +51,21 @@ record SamePlan (a b : Plan) : Type 0 where
   next : b.next ≡ a.next
   cause : b.cause ≡ a.cause
 
-same_plan : (w : Hearing) (l : Leaving) (p : Plan) (now fault : Bool)
-    → SamePlan p (if now then plan_with_byte w p else if fault && not w.change.before.io then struck_plan p else p)
-same_plan w l p true fault = go (is_message_out w.change.before)
+same_plan : (w : Hearing) (l : Leaving) (a : Plan) (now fault : Bool)
+    → SamePlan a (if now then plan_with_byte w a else if fault && not w.change.before.io then struck_plan a else a)
+same_plan w l a true fault = go (is_message_out w.change.before)
   where
     by : (q : Bool)
-        → SamePlan p (record (if q then plan_anew p else p) { said = (plan_after_message p w.is_last w.out).said })
+        → SamePlan a (record (if q then plan_anew a else a) { said = (plan_after_message a w.is_last w.out).said })
     by true = record { messages = refl; next = refl; cause = refl }
     by false = record { messages = refl; next = refl; cause = refl }
 
-    go : (q : Bool) → SamePlan p (if q then plan_after_message p w.is_last w.out else p)
+    go : (q : Bool) → SamePlan a (if q then plan_after_message a w.is_last w.out else a)
     go true = by w.is_last
     go false = record { messages = refl; next = refl; cause = refl }
-same_plan w l p false fault = go (fault && not w.change.before.io)
+same_plan w l a false fault = go (fault && not w.change.before.io)
   where
-    go : (q : Bool) → SamePlan p (if q then struck_plan p else p)
+    go : (q : Bool) → SamePlan a (if q then struck_plan a else a)
     go true = record { messages = refl; next = refl; cause = refl }
     go false = record { messages = refl; next = refl; cause = refl }
 
@@ -85,40 +85,40 @@ answers_after false n c t h e = (λ i. (if e i then no_handshakes
     go false true = refl
     go false false = refl
 
-still_answered : (q : Bool) (n m : ℕ) → m ≡ (if q then counted_on n else n) → (n == 0) ≡ false → (m == 0) ≡ false
-still_answered true n m e f = ap (λ (x : ℕ). x == 0) e ∙ counted_some n
-still_answered false n m e f = ap (λ (x : ℕ). x == 0) e ∙ f
+still_answered : (q : Bool) (i m : ℕ) → m ≡ (if q then counted_on i else i) → (i == 0) ≡ false → (m == 0) ≡ false
+still_answered true i m e f = ap (λ (x : ℕ). x == 0) e ∙ counted_some i
+still_answered false i m e f = ap (λ (x : ℕ). x == 0) e ∙ f
 
 -- ---- the place stays
 
-before_same : (a : Array) (p : Process) (x y : Plan) → SamePlan x y → PlacedBefore a p x.messages x.next
-    → PlacedBefore a p y.messages y.next
-before_same a p x y e h = subst (λ (m : Messages). PlacedBefore a p m y.next) (sym e.messages)
-    (subst (λ (m : Next). PlacedBefore a p x.messages m) (sym e.next) h)
+before_same : (a : Array) (c : Process) (x y : Plan) → SamePlan x y → PlacedBefore a c x.messages x.next
+    → PlacedBefore a c y.messages y.next
+before_same a c x y e h = subst (λ (m : Messages). PlacedBefore a c m y.next) (sym e.messages)
+    (subst (λ (m : Next). PlacedBefore a c x.messages m) (sym e.next) h)
 
-asked_same : (a : Array) (p : Process) (x y : Plan) (cause : Cause) → SamePlan x y → PlacedAsked a p x cause
-    → PlacedAsked a p y cause
-asked_same a p x y Cause.InMessage e h = before_same a p x y e h
-asked_same a p x y _ e h = h
+asked_same : (a : Array) (c : Process) (x y : Plan) (cause : Cause) → SamePlan x y → PlacedAsked a c x cause
+    → PlacedAsked a c y cause
+asked_same a c x y Cause.InMessage e h = before_same a c x y e h
+asked_same a c x y _ e h = h
 
-in_same : (a : Array) (p : Process) (x y : Plan) (h g : Handshakes) (atn atn' : Bool) (phase : Phase)
+in_same : (a : Array) (b : Process) (x y : Plan) (h g : Handshakes) (atn atn' : Bool) (phase : Phase)
     → SamePlan x y → ((h.answers == 0) ≡ false → (g.answers == 0) ≡ false) → (phase ≡ Phase.MessageIn
     → x.messages ≡ one_message MsgIn.CommandComplete → (h.answers == 0) ≡ false → atn ≡ false → atn' ≡ false)
-    → PlacedIn a p x h atn phase → PlacedIn a p y g atn' phase
-in_same a p x y h g atn atn' Phase.MessageOut e f t z =
-    subst (λ (c : Cause). PlacedAsked a p y c) (sym e.cause) (asked_same a p x y x.cause e z)
-in_same a p x y h g atn atn' Phase.MessageIn e f t (inl z) = inl (before_same a p x y e z)
-in_same a p x y h g atn atn' Phase.MessageIn e f t (inr z) = inr (record {
+    → PlacedIn a b x h atn phase → PlacedIn a b y g atn' phase
+in_same a b x y h g atn atn' Phase.MessageOut e f t z =
+    subst (λ (c : Cause). PlacedAsked a b y c) (sym e.cause) (asked_same a b x y x.cause e z)
+in_same a b x y h g atn atn' Phase.MessageIn e f t (inl z) = inl (before_same a b x y e z)
+in_same a b x y h g atn atn' Phase.MessageIn e f t (inr z) = inr (record {
   next_is = e.next ∙ z.next_is;
   messages_are = e.messages ∙ z.messages_are;
   answered = f z.answered;
   attends = t refl z.messages_are z.answered z.attends;
   rests = z.rests;
 })
-in_same a p x y h g atn atn' Phase.Command e f t z = z
-in_same a p x y h g atn atn' Phase.Status e f t z = z
-in_same a p x y h g atn atn' Phase.DataIn e f t z = z
-in_same a p x y h g atn atn' Phase.DataOut e f t z = z
+in_same a b x y h g atn atn' Phase.Command e f t z = z
+in_same a b x y h g atn atn' Phase.Status e f t z = z
+in_same a b x y h g atn atn' Phase.DataIn e f t z = z
+in_same a b x y h g atn atn' Phase.DataOut e f t z = z
 
 -- ---- the row
 
@@ -165,12 +165,12 @@ stay_row s k row n c l now fault h seats g ep en ef drives link item asked = by_
 
     -- where it stands after the row
     after :
-        (b : Array) (p : Process) → PlacedIf k.exchange.begun b p plan j.handshakes c.after.atn (phase_of (bus_of k))
-        → PlacedIf j.exchange.begun b p j.exchange.plan j.handshakes (bus_of j).atn (phase_of (bus_of j))
-    after b p z = subst (λ (x : Exchange). PlacedIf x.begun b p x.plan j.handshakes
+        (b : Array) (u : Process) → PlacedIf k.exchange.begun b u plan j.handshakes c.after.atn (phase_of (bus_of k))
+        → PlacedIf j.exchange.begun b u j.exchange.plan j.handshakes (bus_of j).atn (phase_of (bus_of j))
+    after b u z = subst (λ (x : Exchange). PlacedIf x.begun b u x.plan j.handshakes
         (bus_of j).atn (phase_of (bus_of j))) (sym i.exchange_is)
-        (subst (λ (y : LineSet). PlacedIf k.exchange.begun b p plan j.handshakes y.atn (phase_of y)) (sym i.bus_is)
-        (subst (λ (y : Phase). PlacedIf k.exchange.begun b p plan j.handshakes c.after.atn y) (sym same_phase) z))
+        (subst (λ (y : LineSet). PlacedIf k.exchange.begun b u plan j.handshakes y.atn (phase_of y)) (sym i.bus_is)
+        (subst (λ (y : Phase). PlacedIf k.exchange.begun b u plan j.handshakes c.after.atn y) (sym same_phase) z))
 
     in_lines : phase_of (bus_of k) ≡ Phase.MessageIn → is_message_in c.before ≡ true
     in_lines e =
@@ -187,26 +187,26 @@ stay_row s k row n c l now fault h seats g ep en ef drives link item asked = by_
         lines false false true f z = wrong' (ap is_in_phase z)
         lines false false false f z = wrong' (ap is_in_phase z)
 
-    stays : (b : Array) (p : Process) → (y : Bool) → k.exchange.begun ≡ y
-        → PlacedIf y b p k.exchange.plan k.handshakes (bus_of k).atn (phase_of (bus_of k))
-        → PlacedIf y b p plan j.handshakes c.after.atn (phase_of (bus_of k))
-    stays b p false e z = z
-    stays b p true e z = in_same b p k.exchange.plan plan k.handshakes j.handshakes (bus_of k).atn c.after.atn
+    stays : (b : Array) (u : Process) → (y : Bool) → k.exchange.begun ≡ y
+        → PlacedIf y b u k.exchange.plan k.handshakes (bus_of k).atn (phase_of (bus_of k))
+        → PlacedIf y b u plan j.handshakes c.after.atn (phase_of (bus_of k))
+    stays b u false e z = z
+    stays b u true e z = in_same b u k.exchange.plan plan k.handshakes j.handshakes (bus_of k).atn c.after.atn
         (phase_of (bus_of k)) (same_plan w (leaving s k n.target) k.exchange.plan now fault)
         (still_answered (not fault && rises c.before.ack c.after.ack) k.handshakes.answers j.handshakes.answers answers)
         (λ o m x t. asked.attends (in_lines o) m x (ap (λ (b : LineSet). b.atn) (sym r.bus_is) ∙ t)) z
 
-    quiet : (p : Process) → k.served ≡ Some (process p.id) → process_served s k ≡ Some p
+    quiet : (u : Process) → k.served ≡ Some (process u.id) → process_served s k ≡ Some u
         → row_events_by s k.story (row_reading k.story.bus_state row) row ≡ [] → RowPlaced s k row a
-    quiet p e here none = row_turned s k row a p [] (λ b. PlacedIf k.exchange.begun b p k.exchange.plan k.handshakes
-        (bus_of k).atn (phase_of (bus_of k))) h.array_is e here none (turned_none s a p.id
-        (λ b. PlacedIf k.exchange.begun b p k.exchange.plan k.handshakes (bus_of k).atn (phase_of (bus_of k))) h.sound
-        h.within (h.placed n r.connection_is g.calm p here)) (λ b z. after b p (stays b p k.exchange.begun refl z))
+    quiet u e here none = row_turned s k row a u [] (λ b. PlacedIf k.exchange.begun b u k.exchange.plan k.handshakes
+        (bus_of k).atn (phase_of (bus_of k))) h.array_is e here none (turned_none s a u.id
+        (λ b. PlacedIf k.exchange.begun b u k.exchange.plan k.handshakes (bus_of k).atn (phase_of (bus_of k))) h.sound
+        h.within (h.placed n r.connection_is g.calm u here)) (λ b z. after b u (stays b u k.exchange.begun refl z))
 
     -- the initiator takes COMMAND COMPLETE
-    ends : (p : Process) → k.served ≡ Some (process p.id) → process_served s k ≡ Some p → is_completion l c ≡ true
+    ends : (u : Process) → k.served ≡ Some (process u.id) → process_served s k ≡ Some u → is_completion l c ≡ true
         → l.item ≡ k.served → RowPlaced s k row a
-    ends p e here done it = close place
+    ends u e here done it = close place
       where
         parts : (x y z t : Bool) → (x && y && z && not t) ≡ true → (x ≡ true) × (y ≡ true) × (t ≡ false)
         parts true true true false q = (refl, refl, refl)
@@ -229,61 +229,61 @@ stay_row s k row n c l now fault h seats g ep en ef drives link item asked = by_
             message_line true d o q = refl
             message_line false d o q = wrong' q
 
-        place : PlacedBefore a p k.exchange.plan.messages k.exchange.plan.next
-            ⊎ IsTaken a p k.exchange.plan k.handshakes (bus_of k).atn
-        place = subst (λ (x : Phase). PlacedIn a p k.exchange.plan k.handshakes (bus_of k).atn x) here_in
-            (subst (λ (x : Bool). PlacedIf x a p k.exchange.plan k.handshakes (bus_of k).atn (phase_of (bus_of k)))
-            began (h.placed n r.connection_is g.calm p here))
+        place : PlacedBefore a u k.exchange.plan.messages k.exchange.plan.next
+            ⊎ IsTaken a u k.exchange.plan k.handshakes (bus_of k).atn
+        place = subst (λ (x : Phase). PlacedIn a u k.exchange.plan k.handshakes (bus_of k).atn x) here_in
+            (subst (λ (x : Bool). PlacedIf x a u k.exchange.plan k.handshakes (bus_of k).atn (phase_of (bus_of k)))
+            began (h.placed n r.connection_is g.calm u here))
 
         status : ℕ
-        status = slice_index (carried_here k p.id).status.bytes 0
+        status = slice_index (carried_here k u.id).status.bytes 0
 
-        event_is : row_events_by s k.story (row_reading k.story.bus_state row) row ≡ Event.End p.id status ∷ []
+        event_is : row_events_by s k.story (row_reading k.story.bus_state row) row ≡ Event.End u.id status ∷ []
         event_is =
             shown ∙ ap (λ (q : Bool). if q then end_events (carried_if k.story l.item) else []) done
             ∙ ap (λ (x : Option Item). end_events (carried_if k.story x)) (it ∙ e)
-            ∙ (λ x. Event.End (carried_id k.story.carried p.id x) status ∷ [])
+            ∙ (λ x. Event.End (carried_id k.story.carried u.id x) status ∷ [])
 
-        answered : AnsweredOpen a p.id → RowPlaced s k row a
+        answered : AnsweredOpen a u.id → RowPlaced s k row a
         answered o =
-            let right : (o.answered.reply.status == status) ≡ true = asked.status done p.id o.answered.reply e
-            (ap (λ (x : Array). reply_in x.replies p.id) (ap (or_start s) h.array_is) ∙ o.answered.given) in
+            let right : (o.answered.reply.status == status) ≡ true = asked.status done u.id o.answered.reply e
+            (ap (λ (x : Array). reply_in x.replies u.id) (ap (or_start s) h.array_is) ∙ o.answered.given) in
             let gone : Array = Steps.array_without
-            (Steps.after_status a o.answered.running.process o.answered.reply) p.id in
-            let is = end_is s a p.id status o.answered right in
-            let has = leaves (Steps.after_status a o.answered.running.process o.answered.reply) p.id in
+            (Steps.after_status a o.answered.running.process o.answered.reply) u.id in
+            let is = end_is s a u.id status o.answered right in
+            let has = leaves (Steps.after_status a o.answered.running.process o.answered.reply) u.id in
             let f = drives done in
             let rose : (j.handshakes.answers == 0) ≡ false = ap (λ (x : ℕ). x == 0)
             (answers ∙ (λ x. if not (f x) && how.0 x then counted_on k.handshakes.answers else k.handshakes.answers))
             ∙ counted_some k.handshakes.answers in
             let same = same_plan w (leaving s k n.target) k.exchange.plan now fault in
-            let taken : IsTaken (settled_array gone) p plan j.handshakes c.after.atn = record {
+            let taken : IsTaken (settled_array gone) u plan j.handshakes c.after.atn = record {
               next_is = same.next ∙ asked.next done;
               messages_are = same.messages ∙ asked.messages done;
               answered = rose;
               attends = how.2;
               rests = has.rests;
             } in
-            row_turned s k row a p (Event.End p.id status ∷ [])
-            (λ b. IsTaken b p plan j.handshakes c.after.atn) h.array_is e here event_is (record {
+            row_turned s k row a u (Event.End u.id status ∷ [])
+            (λ b. IsTaken b u plan j.handshakes c.after.atn) h.array_is e here event_is (record {
               next = settled_array gone;
               next_is = is;
-              passes = passes_step s a (settled_array gone) (Event.End p.id status) p.id seats h.sound h.within
+              passes = passes_step s a (settled_array gone) (Event.End u.id status) u.id seats h.sound h.within
                   (λ other q. q) is;
               holds = taken;
             })
-            (λ b z. after b p (subst (λ (x : Bool). PlacedIf x b p plan j.handshakes c.after.atn (phase_of (bus_of k)))
-            (sym began) (subst (λ (x : Phase). PlacedIn b p plan j.handshakes c.after.atn x) (sym here_in) (inr z))))
+            (λ b z. after b u (subst (λ (x : Bool). PlacedIf x b u plan j.handshakes c.after.atn (phase_of (bus_of k)))
+            (sym began) (subst (λ (x : Phase). PlacedIn b u plan j.handshakes c.after.atn x) (sym here_in) (inr z))))
 
-        closes : Closes a p k.exchange.plan.messages → RowPlaced s k row a
+        closes : Closes a u k.exchange.plan.messages → RowPlaced s k row a
         closes (completes z o) = answered o
         closes (disconnects z x y q) =
             wrong (ap (λ (m : Messages). is_complete_in m.first) (sym (asked.messages done)) ∙ z.first)
 
-        close : PlacedBefore a p k.exchange.plan.messages k.exchange.plan.next
-            ⊎ IsTaken a p k.exchange.plan k.handshakes (bus_of k).atn
+        close : PlacedBefore a u k.exchange.plan.messages k.exchange.plan.next
+            ⊎ IsTaken a u k.exchange.plan k.handshakes (bus_of k).atn
             → RowPlaced s k row a
-        close (inl z) = closes (subst (λ (x : Next). PlacedBefore a p k.exchange.plan.messages x) (asked.next done) z)
+        close (inl z) = closes (subst (λ (x : Next). PlacedBefore a u k.exchange.plan.messages x) (asked.next done) z)
         close (inr z) = wrong (sym (asked.once done) ∙ z.answered)
 
     if_none : (q : Bool) (x : Option Item) → l.item ≡ x → carried_if k.story x ≡ None
@@ -291,14 +291,14 @@ stay_row s k row n c l now fault h seats g ep en ef drives link item asked = by_
     if_none true x e f = ap (λ (y : Option Item). end_events (carried_if k.story y)) e ∙ ap end_events f
     if_none false x e f = refl
 
-    of_process : (p : Process) → k.served ≡ Some (process p.id) → process_served s k ≡ Some p → RowPlaced s k row a
-    of_process p e here = by item (is_completion l c) refl
+    of_process : (u : Process) → k.served ≡ Some (process u.id) → process_served s k ≡ Some u → RowPlaced s k row a
+    of_process u e here = by item (is_completion l c) refl
       where
         by : (l.item ≡ k.served) ⊎ (l.item ≡ None) → (q : Bool) → is_completion l c ≡ q → RowPlaced s k row a
-        by (inl z) true f = ends p e here f z
+        by (inl z) true f = ends u e here f z
         by (inl z) false f =
-            quiet p e here (shown ∙ ap (λ (x : Bool). if x then end_events (carried_if k.story l.item) else []) f)
-        by (inr z) q f = quiet p e here (shown ∙ if_none (is_completion l c) None z refl)
+            quiet u e here (shown ∙ ap (λ (x : Bool). if x then end_events (carried_if k.story l.item) else []) f)
+        by (inr z) q f = quiet u e here (shown ∙ if_none (is_completion l c) None z refl)
 
     no_carried : (x : Option Item) → k.served ≡ x → carried_if k.story x ≡ None
         → row_events_by s k.story (row_reading k.story.bus_state row) row ≡ []
@@ -313,6 +313,6 @@ stay_row s k row n c l now fault h seats g ep en ef drives link item asked = by_
     by_served None e = row_none s k row h (no_carried None e refl) (ap (process_item s) e)
     by_served (Some (abort m)) e = row_none s k row h (no_carried (Some (abort m)) e refl) (ap (process_item s) e)
     by_served (Some (process id)) e =
-        let p = h.of_scenario id e in
-        let own : p.0.id ≡ id = id_is s id p.0 p.1 in
-        of_process p.0 (e ∙ ap (λ (y : ProcId). Some (process y)) (sym own)) (ap (process_item s) e ∙ p.1)
+        let u = h.of_scenario id e in
+        let own : u.0.id ≡ id = id_is s id u.0 u.1 in
+        of_process u.0 (e ∙ ap (λ (y : ProcId). Some (process y)) (sym own)) (ap (process_item s) e ∙ u.1)

@@ -95,42 +95,42 @@ pub record IsTurnAsked (s : ScenarioValue) (k : RunState) (n : Connection) (c : 
       → is_some k.exchange.plan.said.offer ≡ true → k.exchange.plan.next ≡ Next.Command
   pub few : phase_of (bus_of k) ≡ Phase.MessageIn → k.exchange.plan.messages ≡ one_message MsgIn.CommandComplete
       → k.handshakes.requests - 1 ≡ 0
-  pub one_run : (p : Process) → process_served s k ≡ Some p → IsOutside (array_of s k) p
+  pub one_run : (t : Process) → process_served s k ≡ Some t → IsOutside (array_of s k) t
       → HasOneRun true (serving_of s k n.target)
   pub history_is : array_after s k.story.history ≡ k.array
 
 -- ---- where the process stands after it
 
 -- MESSAGE OUT follows a phase that has begun.
-pub asked_by : (b : Array) (p : Process) (plan : Plan) (count : ℕ) (m d i : Bool) → (m ≡ true → d ≡ true)
-    → OutOf b p plan count (if m then (if i then Phase.MessageIn else Phase.MessageOut)
+pub asked_by : (b : Array) (c : Process) (plan : Plan) (count : ℕ) (m d i : Bool) → (m ≡ true → d ≡ true)
+    → OutOf b c plan count (if m then (if i then Phase.MessageIn else Phase.MessageOut)
     else if d then (if i then Phase.Status else Phase.Command) else if i then Phase.DataIn else Phase.DataOut)
-    → PlacedAsked b p (record (plan_anew plan) {
+    → PlacedAsked b c (record (plan_anew plan) {
       cause =
           if m && d && i then Cause.InMessage else if d then Cause.InStatus else Cause.InData;
       messages =
           if m && d && i then from_byte plan.messages (count - 1) else plan.messages;
     }) (if m && d && i then Cause.InMessage else if d then Cause.InStatus else Cause.InData)
-asked_by b p plan count true true true f h = h
-asked_by b p plan count true false true f h = wrong' (f refl)
-asked_by b p plan count true d false f h = absurd h
-asked_by b p plan count false true true f h = h
-asked_by b p plan count false true false f h = absurd h
-asked_by b p plan count false false true f h = h
-asked_by b p plan count false false false f h = h
+asked_by b c plan count true true true f h = h
+asked_by b c plan count true false true f h = wrong' (f refl)
+asked_by b c plan count true d false f h = absurd h
+asked_by b c plan count false true true f h = h
+asked_by b c plan count false true false f h = absurd h
+asked_by b c plan count false false true f h = h
+asked_by b c plan count false false false f h = h
 
 pub enters :
-    (b : Array) (p : Process) (w : Hearing) (l : Leaving) (plan : Plan) (h : Handshakes) (atn : Bool) (x : Phase)
+    (b : Array) (c : Process) (w : Hearing) (l : Leaving) (plan : Plan) (h : Handshakes) (atn : Bool) (x : Phase)
     → is_message_out w.change.after ≡ is_out_phase x
-    → (x ≡ Phase.MessageOut → PlacedAsked b p (plan_in_phase w l plan) (plan_in_phase w l plan).cause) → (out : Type 0)
-    → PlacedNext b p l out x → PlacedIn b p (plan_in_phase w l plan) h atn x
-enters b p w l plan h atn Phase.MessageOut m asked out g = asked refl
-enters b p w l plan h atn Phase.MessageIn m asked out g = inl (subst
-    (λ (q : Bool). PlacedBefore b p (if not q then record (plan_anew plan) { messages = l.messages; next = l.next }
+    → (x ≡ Phase.MessageOut → PlacedAsked b c (plan_in_phase w l plan) (plan_in_phase w l plan).cause) → (out : Type 0)
+    → PlacedNext b c l out x → PlacedIn b c (plan_in_phase w l plan) h atn x
+enters b c w l plan h atn Phase.MessageOut m asked out g = asked refl
+enters b c w l plan h atn Phase.MessageIn m asked out g = inl (subst
+    (λ (q : Bool). PlacedBefore b c (if not q then record (plan_anew plan) { messages = l.messages; next = l.next }
     else if w.begun then plan_in_message_out w plan else plan_anew plan).messages
     (if not q then record (plan_anew plan) { messages = l.messages; next = l.next }
     else if w.begun then plan_in_message_out w plan else plan_anew plan).next) (sym m) g)
-enters b p w l plan h atn _ m asked out g = g
+enters b c w l plan h atn _ m asked out g = g
 
 -- ---- the row
 
@@ -142,38 +142,38 @@ pub record RowPlaced (s : ScenarioValue) (k : RunState) (row : Row) (a : Array) 
   pub within : AreWithin next.units
   pub untouched : (id : ProcId) → is_served_by k.served id ≡ false → IsUntouched a id → IsUntouched next id
   pub rests : (id : ProcId) → is_served_by k.served id ≡ false → IsAtRest a id → IsAtRest next id
-  pub placed : (p : Process) → process_served s k ≡ Some p
-      → PlacedIf (run_state_after s k row).exchange.begun next p (run_state_after s k row).exchange.plan
+  pub placed : (c : Process) → process_served s k ≡ Some c
+      → PlacedIf (run_state_after s k row).exchange.begun next c (run_state_after s k row).exchange.plan
       (run_state_after s k row).handshakes (bus_of (run_state_after s k row)).atn
       (phase_of (bus_of (run_state_after s k row)))
 
-pub no_task : (s : ScenarioValue) (k : RunState) (p : Process) → process_served s k ≡ Some p → task_of s k ≡ None → ⊥
-no_task s k p e f = some_none _ (sym (ap (λ (o : Option Process). task_if s k o) e) ∙ f)
+pub no_task : (s : ScenarioValue) (k : RunState) (c : Process) → process_served s k ≡ Some c → task_of s k ≡ None → ⊥
+no_task s k c e f = some_none _ (sym (ap (λ (o : Option Process). task_if s k o) e) ∙ f)
   where
     some_none : (t : Task) → Some t ≡ (let o : Option Task = None in o) → ⊥
     some_none t z = cc
 
 -- It is the process that is served.
-pub served_id : (s : ScenarioValue) (k : RunState) (p : Process) → process_served s k ≡ Some p
-    → (k.served ≡ Some (process p.id)) × (process_of s p.id ≡ Some p)
-served_id s k p e = go k.served refl e
+pub served_id : (s : ScenarioValue) (k : RunState) (c : Process) → process_served s k ≡ Some c
+    → (k.served ≡ Some (process c.id)) × (process_of s c.id ≡ Some c)
+served_id s k c e = go k.served refl e
   where
-    go : (x : Option Item) → k.served ≡ x → process_item s x ≡ Some p
-        → (k.served ≡ Some (process p.id)) × (process_of s p.id ≡ Some p)
-    go None z h = none_some p h
+    go : (x : Option Item) → k.served ≡ x → process_item s x ≡ Some c
+        → (k.served ≡ Some (process c.id)) × (process_of s c.id ≡ Some c)
+    go None z h = none_some c h
     go (Some (process id)) z h =
-        (z ∙ ap (λ (y : ProcId). Some (process y)) (sym (id_is s id p h)), ap (process_of s) (id_is s id p h) ∙ h)
-    go (Some (abort m)) z h = none_some p h
+        (z ∙ ap (λ (y : ProcId). Some (process y)) (sym (id_is s id c h)), ap (process_of s) (id_is s id c h) ∙ h)
+    go (Some (abort m)) z h = none_some c h
 
 -- Of a process that is served, where a phase has begun.
-pub process_turn : (s : ScenarioValue) (k : RunState) (n : Connection) (c : Change) (l : Link) (a : Array) (p : Process)
+pub process_turn : (s : ScenarioValue) (k : RunState) (n : Connection) (c : Change) (l : Link) (a : Array) (d : Process)
     → HasSeats s → HasPlaces s k → k.array ≡ Some a → IsSound s a → AreWithin a.units
-    → PlacedIn a p k.exchange.plan k.handshakes (bus_of k).atn (phase_of (bus_of k))
-    → process_served s k ≡ Some p → bus_of k ≡ c.before → k.exchange.begun ≡ true
+    → PlacedIn a d k.exchange.plan k.handshakes (bus_of k).atn (phase_of (bus_of k))
+    → process_served s k ≡ Some d → bus_of k ≡ c.before → k.exchange.begun ≡ true
     → (leaving s k n.target).to ≡ Some (phase_of c.after) → IsTurnAsked s k n c l
-    → Turned s a p.id (phase_events s k.story (Some (carried_here k p.id)) c) (λ b. PlacedNext b p
-    (leaving s k n.target) (OutOf b p k.exchange.plan k.handshakes.requests (phase_of (bus_of k))) (phase_of c.after))
-process_turn s k n c l a p seats was is sound within place served on begun whereto asked =
+    → Turned s a d.id (phase_events s k.story (Some (carried_here k d.id)) c) (λ b. PlacedNext b d
+    (leaving s k n.target) (OutOf b d k.exchange.plan k.handshakes.requests (phase_of (bus_of k))) (phase_of c.after))
+process_turn s k n c l a d seats was is sound within place served on begun whereto asked =
     by_phase (phase_of (bus_of k)) refl
   where
     v : Serving
@@ -182,23 +182,23 @@ process_turn s k n c l a p seats was is sound within place served on begun where
     atn : Bool
     atn = (bus_of k).atn
 
-    own : (k.served ≡ Some (process p.id)) × (process_of s p.id ≡ Some p)
-    own = served_id s k p served
+    own : (k.served ≡ Some (process d.id)) × (process_of s d.id ≡ Some d)
+    own = served_id s k d served
 
-    tells : TellsOf s k p.id
-    tells = asked.tells begun p.id own.0
+    tells : TellsOf s k d.id
+    tells = asked.tells begun d.id own.0
 
-    st : Standing s a p
+    st : Standing s a d
     st = record { seats = seats; sound = sound; within = within; process_is = own.1 }
 
     array_here : array_of s k ≡ a
     array_here = ap (or_start s) is
 
     marked : Bool
-    marked = (carried_here k p.id).shown || (carried_here k p.id).refused
+    marked = (carried_here k d.id).shown || (carried_here k d.id).refused
 
-    replies : is_some (reply_in a.replies p.id) ≡ marked
-    replies = ap (λ (x : Array). is_some (reply_in x.replies p.id)) (sym array_here) ∙ tells.replies
+    replies : is_some (reply_in a.replies d.id) ≡ marked
+    replies = ap (λ (x : Array). is_some (reply_in x.replies d.id)) (sym array_here) ∙ tells.replies
 
     leaves : leaving s k n.target ≡ phase_leaving v atn (phase_of (bus_of k))
     leaves = ap (λ (q : Bool). leaving_by v q (bus_of k)) begun
@@ -206,64 +206,64 @@ process_turn s k n c l a p seats was is sound within place served on begun where
     to : (phase_leaving v atn (phase_of (bus_of k))).to ≡ Some (phase_of c.after)
     to = ap (λ (x : Leaving). x.to) (sym leaves) ∙ whereto
 
-    left : IsLeft a p v k.handshakes.requests (phase_of (bus_of k))
+    left : IsLeft a d v k.handshakes.requests (phase_of (bus_of k))
     left = record {
-      one_run = λ o. asked.one_run p served (subst (λ (x : Array). IsOutside x p) (sym array_here) o);
+      one_run = λ o. asked.one_run d served (subst (λ (x : Array). IsOutside x d) (sym array_here) o);
       few = asked.few;
       offers = asked.offers;
     }
 
     result : (x : Phase) → phase_of (bus_of k) ≡ x
-        → Turned s a p.id (phase_events s k.story (Some (carried_here k p.id)) c) (λ b. PlacedNext b p
-        (phase_leaving v atn x) (OutOf b p k.exchange.plan k.handshakes.requests x) (phase_of c.after))
-        → Turned s a p.id (phase_events s k.story (Some (carried_here k p.id)) c)
-        (λ b. PlacedNext b p (leaving s k n.target)
-        (OutOf b p k.exchange.plan k.handshakes.requests (phase_of (bus_of k))) (phase_of c.after))
+        → Turned s a d.id (phase_events s k.story (Some (carried_here k d.id)) c) (λ b. PlacedNext b d
+        (phase_leaving v atn x) (OutOf b d k.exchange.plan k.handshakes.requests x) (phase_of c.after))
+        → Turned s a d.id (phase_events s k.story (Some (carried_here k d.id)) c)
+        (λ b. PlacedNext b d (leaving s k n.target)
+        (OutOf b d k.exchange.plan k.handshakes.requests (phase_of (bus_of k))) (phase_of c.after))
     result x e t = subst
-        (λ (y : Leaving). Turned s a p.id (phase_events s k.story (Some (carried_here k p.id)) c) (λ b. PlacedNext b p y
-        (OutOf b p k.exchange.plan k.handshakes.requests (phase_of (bus_of k))) (phase_of c.after))) (sym leaves)
-        (subst (λ (y : Phase). Turned s a p.id (phase_events s k.story (Some (carried_here k p.id)) c) (λ b. PlacedNext
-        b p (phase_leaving v atn y) (OutOf b p k.exchange.plan k.handshakes.requests y) (phase_of c.after))) (sym e) t)
+        (λ (y : Leaving). Turned s a d.id (phase_events s k.story (Some (carried_here k d.id)) c) (λ b. PlacedNext b d y
+        (OutOf b d k.exchange.plan k.handshakes.requests (phase_of (bus_of k))) (phase_of c.after))) (sym leaves)
+        (subst (λ (y : Phase). Turned s a d.id (phase_events s k.story (Some (carried_here k d.id)) c) (λ b. PlacedNext
+        b d (phase_leaving v atn y) (OutOf b d k.exchange.plan k.handshakes.requests y) (phase_of c.after))) (sym e) t)
 
     before : (x : Phase) → phase_of (bus_of k) ≡ x → phase_of c.before ≡ x
     before x e = ap phase_of (sym on) ∙ e
 
-    other : (x : Phase) → phase_of (bus_of k) ≡ x → is_command_phase x ≡ false → Turned s a p.id
-        (phase_events s k.story (Some (carried_here k p.id)) c) (λ b. PlacedNext b p (leaving s k n.target)
-        (OutOf b p k.exchange.plan k.handshakes.requests (phase_of (bus_of k))) (phase_of c.after))
-    other x e f = result x e (subst (λ (y : List Event). Turned s a p.id y (λ b. PlacedNext b p
-        (phase_leaving v atn x) (OutOf b p k.exchange.plan k.handshakes.requests x) (phase_of c.after)))
-        (sym (other_shown s k c p.id (ap is_command_phase (before x e) ∙ f)))
-        (turns s a p v atn k.handshakes (carried_here k p.id).failure marked x
-        (phase_of c.after) st replies (subst (λ (y : Phase). IsLeft a p v k.handshakes.requests y) e left)
+    other : (x : Phase) → phase_of (bus_of k) ≡ x → is_command_phase x ≡ false → Turned s a d.id
+        (phase_events s k.story (Some (carried_here k d.id)) c) (λ b. PlacedNext b d (leaving s k n.target)
+        (OutOf b d k.exchange.plan k.handshakes.requests (phase_of (bus_of k))) (phase_of c.after))
+    other x e f = result x e (subst (λ (y : List Event). Turned s a d.id y (λ b. PlacedNext b d
+        (phase_leaving v atn x) (OutOf b d k.exchange.plan k.handshakes.requests x) (phase_of c.after)))
+        (sym (other_shown s k c d.id (ap is_command_phase (before x e) ∙ f)))
+        (turns s a d v atn k.handshakes (carried_here k d.id).failure marked x
+        (phase_of c.after) st replies (subst (λ (y : Phase). IsLeft a d v k.handshakes.requests y) e left)
         (λ z. true≢false (sym (ap is_command_phase z) ∙ f))
-        (subst (λ (y : Phase). PlacedIn a p k.exchange.plan k.handshakes atn y) e place)
+        (subst (λ (y : Phase). PlacedIn a d k.exchange.plan k.handshakes atn y) e place)
         (ap (λ (y : Phase). (phase_leaving v atn y).to) (sym e) ∙ to)))
 
-    in_command : phase_of (bus_of k) ≡ Phase.Command → Turned s a p.id
-        (phase_events s k.story (Some (carried_here k p.id)) c) (λ b. PlacedNext b p (leaving s k n.target)
-        (OutOf b p k.exchange.plan k.handshakes.requests (phase_of (bus_of k))) (phase_of c.after))
+    in_command : phase_of (bus_of k) ≡ Phase.Command → Turned s a d.id
+        (phase_events s k.story (Some (carried_here k d.id)) c) (λ b. PlacedNext b d (leaving s k n.target)
+        (OutOf b d k.exchange.plan k.handshakes.requests (phase_of (bus_of k))) (phase_of c.after))
     in_command e =
-        let new : IsUntouched a p.id = subst (λ (y : Phase). PlacedIn a p k.exchange.plan k.handshakes atn y) e place in
+        let new : IsUntouched a d.id = subst (λ (y : Phase). PlacedIn a d k.exchange.plan k.handshakes atn y) e place in
         let unmarked : marked ≡ false = sym replies ∙ ap (λ (x : Option Reply). is_some x) new.reply in
-        result Phase.Command e (subst (λ (y : List Event). Turned s a p.id y
-        (λ b. PlacedNext b p (phase_leaving v atn Phase.Command) ⊥ (phase_of c.after)))
-        (sym (command_is_shown s k c p.id (ap is_command_phase (before Phase.Command e)) unmarked))
-        (command_turns s a p v atn k.story.history (carried_here k p.id).failure (is_whole_block (carried_here k p.id))
+        result Phase.Command e (subst (λ (y : List Event). Turned s a d.id y
+        (λ b. PlacedNext b d (phase_leaving v atn Phase.Command) ⊥ (phase_of c.after)))
+        (sym (command_is_shown s k c d.id (ap is_command_phase (before Phase.Command e)) unmarked))
+        (command_turns s a d v atn k.story.history (carried_here k d.id).failure (is_whole_block (carried_here k d.id))
         (phase_of c.after) st new (record {
           policy = policy_of (target_def_of s n.target);
           planned = ap (λ (y : Phase). arrival_at s k n.target y) e
               ∙ (λ i. arrival_if (policy_of (target_def_of s n.target)) (array_here i) (served i));
-          task = no_task s k p served;
+          task = no_task s k d served;
           history_is = asked.history_is ∙ is;
           whole_is = tells.whole e;
           code = tells.code e;
         }) (ap (λ (y : Phase). (phase_leaving v atn y).to) (sym e) ∙ to) (λ z. command_not_out v atn
         (ap (λ (y : Phase). (phase_leaving v atn y).to) (sym e) ∙ to ∙ ap (λ (y : Phase). Some y) z))))
 
-    by_phase : (x : Phase) → phase_of (bus_of k) ≡ x → Turned s a p.id
-        (phase_events s k.story (Some (carried_here k p.id)) c) (λ b. PlacedNext b p (leaving s k n.target)
-        (OutOf b p k.exchange.plan k.handshakes.requests (phase_of (bus_of k))) (phase_of c.after))
+    by_phase : (x : Phase) → phase_of (bus_of k) ≡ x → Turned s a d.id
+        (phase_events s k.story (Some (carried_here k d.id)) c) (λ b. PlacedNext b d (leaving s k n.target)
+        (OutOf b d k.exchange.plan k.handshakes.requests (phase_of (bus_of k))) (phase_of c.after))
     by_phase Phase.Command e = in_command e
     by_phase Phase.MessageOut e = other Phase.MessageOut e refl
     by_phase Phase.MessageIn e = other Phase.MessageIn e refl

@@ -22,25 +22,25 @@ other_id x id e =
 
 -- What a turn leaves, as what a row leaves.
 pub row_turned :
-    (s : ScenarioValue) (k : RunState) (row : Row) (a : Array) (p : Process) (shown : List Event) (q : Array → Type 0)
-    → k.array ≡ Some a → k.served ≡ Some (process p.id) → process_served s k ≡ Some p
-    → row_events_by s k.story (row_reading k.story.bus_state row) row ≡ shown → Turned s a p.id shown q
-    → ((b : Array) → q b → PlacedIf (run_state_after s k row).exchange.begun b p
+    (s : ScenarioValue) (k : RunState) (row : Row) (a : Array) (c : Process) (shown : List Event) (q : Array → Type 0)
+    → k.array ≡ Some a → k.served ≡ Some (process c.id) → process_served s k ≡ Some c
+    → row_events_by s k.story (row_reading k.story.bus_state row) row ≡ shown → Turned s a c.id shown q
+    → ((b : Array) → q b → PlacedIf (run_state_after s k row).exchange.begun b c
     (run_state_after s k row).exchange.plan (run_state_after s k row).handshakes (bus_of (run_state_after s k row)).atn
     (phase_of (bus_of (run_state_after s k row)))) → RowPlaced s k row a
-row_turned s k row a p shown q is served here e t f = record {
+row_turned s k row a c shown q is served here e t f = record {
   next = t.next;
   next_is = (λ i. array_after_events s (is i) (e i)) ∙ t.next_is;
   sound = t.passes.sound;
   within = t.passes.within;
   untouched = λ id z h. t.passes.untouched id
-      (other_id p.id id (ap (λ (x : Option Item). is_served_by x id) (sym served) ∙ z)) h;
+      (other_id c.id id (ap (λ (x : Option Item). is_served_by x id) (sym served) ∙ z)) h;
   rests =
-      λ id z h. t.passes.rests id (other_id p.id id (ap (λ (x : Option Item). is_served_by x id) (sym served) ∙ z)) h;
+      λ id z h. t.passes.rests id (other_id c.id id (ap (λ (x : Option Item). is_served_by x id) (sym served) ∙ z)) h;
   placed = λ y z. subst (λ (x : Process). PlacedIf (run_state_after s k row).exchange.begun t.next x
       (run_state_after s k row).exchange.plan (run_state_after s k row).handshakes
       (bus_of (run_state_after s k row)).atn (phase_of (bus_of (run_state_after s k row))))
-      (same_Some p y (sym here ∙ z)) (f t.next t.holds);
+      (same_Some c y (sym here ∙ z)) (f t.next t.holds);
 }
 
 -- Nothing is shown, and no process is served.
@@ -60,31 +60,31 @@ row_none s k row h e none = record {
 -- ---- the exchange after a turn
 
 -- MESSAGE OUT begins.
-out_asked : (b : Array) (p : Process) (k : RunState) (row : Row) (n : Connection) (c : Change) (l : Leaving)
+out_asked : (b : Array) (t : Process) (k : RunState) (row : Row) (n : Connection) (c : Change) (l : Leaving)
     → (c.before.msg ≡ true → c.before.cd ≡ true) → is_message_out c.after ≡ true
-    → k.exchange.begun ≡ true → OutOf b p k.exchange.plan k.handshakes.requests (phase_of c.before)
-    → PlacedAsked b p (plan_in_phase (hearing_of k row (reading_in k.story.bus_state n c false)) l k.exchange.plan)
+    → k.exchange.begun ≡ true → OutOf b t k.exchange.plan k.handshakes.requests (phase_of c.before)
+    → PlacedAsked b t (plan_in_phase (hearing_of k row (reading_in k.story.bus_state n c false)) l k.exchange.plan)
     (plan_in_phase (hearing_of k row (reading_in k.story.bus_state n c false)) l k.exchange.plan).cause
-out_asked b p k row n c l f m g h =
+out_asked b t k row n c l f m g h =
     let w : Hearing = hearing_of k row (reading_in k.story.bus_state n c false) in
     let x : Plan = plan_in_message_out w k.exchange.plan in
     let is : plan_in_phase w l k.exchange.plan ≡ x =
     λ i. if not (m i) then record (plan_anew k.exchange.plan) { messages = l.messages; next = l.next }
     else if g i then x else plan_anew k.exchange.plan in
-    subst (λ (y : Plan). PlacedAsked b p y y.cause) (sym is)
-    (asked_by b p k.exchange.plan k.handshakes.requests c.before.msg c.before.cd c.before.io f h)
+    subst (λ (y : Plan). PlacedAsked b t y y.cause) (sym is)
+    (asked_by b t k.exchange.plan k.handshakes.requests c.before.msg c.before.cd c.before.io f h)
 
-first_asked : (a : Array) (p : Process) (k : RunState) (row : Row) (n : Connection) (c : Change) (l : Leaving)
+first_asked : (a : Array) (t : Process) (k : RunState) (row : Row) (n : Connection) (c : Change) (l : Leaving)
     → is_message_out c.after ≡ true → k.exchange.begun ≡ false
-    → k.exchange.plan.cause ≡ Cause.Selected → IsUntouched a p.id
-    → PlacedAsked a p (plan_in_phase (hearing_of k row (reading_in k.story.bus_state n c false)) l k.exchange.plan)
+    → k.exchange.plan.cause ≡ Cause.Selected → IsUntouched a t.id
+    → PlacedAsked a t (plan_in_phase (hearing_of k row (reading_in k.story.bus_state n c false)) l k.exchange.plan)
     (plan_in_phase (hearing_of k row (reading_in k.story.bus_state n c false)) l k.exchange.plan).cause
-first_asked a p k row n c l m g cause h =
+first_asked a t k row n c l m g cause h =
     let w : Hearing = hearing_of k row (reading_in k.story.bus_state n c false) in
     let is : plan_in_phase w l k.exchange.plan ≡ plan_anew k.exchange.plan =
     plan_out w l k.exchange.plan m g in
-    subst (λ (y : Plan). PlacedAsked a p y y.cause) (sym is)
-    (subst (λ (y : Cause). PlacedAsked a p (plan_anew k.exchange.plan) y) (sym cause) h)
+    subst (λ (y : Plan). PlacedAsked a t y y.cause) (sym is)
+    (subst (λ (y : Cause). PlacedAsked a t (plan_anew k.exchange.plan) y) (sym cause) h)
 
 -- ---- the row
 
@@ -131,14 +131,14 @@ turn_row s k row n c l h seats g ep none ef link item there whereto asked = by_s
         lines false false false f = refl
 
     -- where it stands after the row
-    after : (b : Array) (p : Process) → PlacedIn b p (plan_in_phase w lv k.exchange.plan)
+    after : (b : Array) (v : Process) → PlacedIn b v (plan_in_phase w lv k.exchange.plan)
         (run_state_after s k row).handshakes c.after.atn (phase_of c.after)
-        → PlacedIf (run_state_after s k row).exchange.begun b p (run_state_after s k row).exchange.plan
+        → PlacedIf (run_state_after s k row).exchange.begun b v (run_state_after s k row).exchange.plan
         (run_state_after s k row).handshakes (bus_of (run_state_after s k row)).atn
         (phase_of (bus_of (run_state_after s k row)))
-    after b p z = subst (λ (x : Exchange). PlacedIf x.begun b p x.plan (run_state_after s k row).handshakes
+    after b v z = subst (λ (x : Exchange). PlacedIf x.begun b v x.plan (run_state_after s k row).handshakes
         (bus_of (run_state_after s k row)).atn (phase_of (bus_of (run_state_after s k row))))
-        (sym i.exchange_is) (subst (λ (y : LineSet). PlacedIn b p (plan_in_phase w lv k.exchange.plan)
+        (sym i.exchange_is) (subst (λ (y : LineSet). PlacedIn b v (plan_in_phase w lv k.exchange.plan)
         (run_state_after s k row).handshakes y.atn (phase_of y)) (sym i.bus_is) z)
 
     before_lines : c.before.msg ≡ true → c.before.cd ≡ true
@@ -148,55 +148,55 @@ turn_row s k row n c l h seats g ep none ef link item there whereto asked = by_s
     goes_out e = out_is ∙ ap is_out_phase e
 
     -- the events of a process, or none where its initiator does not know it yet
-    with_item : (p : Process) → k.served ≡ Some (process p.id) → process_served s k ≡ Some p
-        → (q : Array → Type 0) → Turned s a p.id (phase_events s k.story (Some (carried_here k p.id)) c) q
-        → ((b : Array) → q b → PlacedIf (run_state_after s k row).exchange.begun b p
+    with_item : (v : Process) → k.served ≡ Some (process v.id) → process_served s k ≡ Some v
+        → (q : Array → Type 0) → Turned s a v.id (phase_events s k.story (Some (carried_here k v.id)) c) q
+        → ((b : Array) → q b → PlacedIf (run_state_after s k row).exchange.begun b v
         (run_state_after s k row).exchange.plan (run_state_after s k row).handshakes
         (bus_of (run_state_after s k row)).atn (phase_of (bus_of (run_state_after s k row)))) → RowPlaced s k row a
-    with_item p e here q t f = by item
+    with_item v e here q t f = by item
       where
         by : (l.item ≡ k.served) ⊎ (l.item ≡ None) → RowPlaced s k row a
-        by (inl z) = row_turned s k row a p (phase_events s k.story (Some (carried_here k p.id)) c) q h.array_is e here
+        by (inl z) = row_turned s k row a v (phase_events s k.story (Some (carried_here k v.id)) c) q h.array_is e here
             (shown ∙ ap (λ (x : Option Item). phase_events s k.story (carried_if k.story x) c) (z ∙ e)) t f
         by (inr z) =
             let u = asked.unnamed z in
-            let quiet : phase_events s k.story (Some (carried_here k p.id)) c ≡ [] = other_shown s k c p.id u.1
-            ∙ ap (λ (x : Bool). if x && not ((carried_here k p.id).shown || (carried_here k p.id).refused)
-            then Rattle.due_model.specs.story_model.specs.HistoryEvents.status_event p.id (carried_here k p.id).failure
+            let quiet : phase_events s k.story (Some (carried_here k v.id)) c ≡ [] = other_shown s k c v.id u.1
+            ∙ ap (λ (x : Bool). if x && not ((carried_here k v.id).shown || (carried_here k v.id).refused)
+            then Rattle.due_model.specs.story_model.specs.HistoryEvents.status_event v.id (carried_here k v.id).failure
             ∷ [] else []) u.0 in
-            row_turned s k row a p [] q h.array_is e here
+            row_turned s k row a v [] q h.array_is e here
             (shown ∙ ap (λ (x : Option Item). phase_events s k.story (carried_if k.story x) c) z)
-            (subst (λ (x : List Event). Turned s a p.id x q) quiet t) f
+            (subst (λ (x : List Event). Turned s a v.id x q) quiet t) f
 
-    of_process : (p : Process) → k.served ≡ Some (process p.id) → process_served s k ≡ Some p
+    of_process : (v : Process) → k.served ≡ Some (process v.id) → process_served s k ≡ Some v
         → (y : Bool) → k.exchange.begun ≡ y → RowPlaced s k row a
-    of_process p e here true b =
-        let place : PlacedIn a p k.exchange.plan k.handshakes (bus_of k).atn (phase_of (bus_of k)) = subst
-        (λ (x : Bool). PlacedIf x a p k.exchange.plan k.handshakes (bus_of k).atn (phase_of (bus_of k))) b
-        (h.placed n r.connection_is g.calm p here) in
-        with_item p e here (λ x. PlacedNext x p lv
-        (OutOf x p k.exchange.plan k.handshakes.requests (phase_of (bus_of k))) (phase_of c.after))
-        (process_turn s k n c l a p seats h h.array_is h.sound h.within place here r.bus_is b (whereto b) asked)
-        (λ x z. after x p (enters x p w lv k.exchange.plan (run_state_after s k row).handshakes c.after.atn
-        (phase_of c.after) out_is (λ o. out_asked x p k row n c lv before_lines (goes_out o) b
-        (subst (λ (y : LineSet). OutOf x p k.exchange.plan k.handshakes.requests (phase_of y)) r.bus_is (subst
-        (λ (y : Phase). PlacedNext x p lv (OutOf x p k.exchange.plan k.handshakes.requests (phase_of (bus_of k))) y) o
-        z))) (OutOf x p k.exchange.plan k.handshakes.requests (phase_of (bus_of k))) z))
-    of_process p e here false b =
-        let place : IsUntouched a p.id = subst (λ (x : Bool). PlacedIf x a p k.exchange.plan k.handshakes
-        (bus_of k).atn (phase_of (bus_of k))) b (h.placed n r.connection_is g.calm p here) in
+    of_process v e here true b =
+        let place : PlacedIn a v k.exchange.plan k.handshakes (bus_of k).atn (phase_of (bus_of k)) = subst
+        (λ (x : Bool). PlacedIf x a v k.exchange.plan k.handshakes (bus_of k).atn (phase_of (bus_of k))) b
+        (h.placed n r.connection_is g.calm v here) in
+        with_item v e here (λ x. PlacedNext x v lv
+        (OutOf x v k.exchange.plan k.handshakes.requests (phase_of (bus_of k))) (phase_of c.after))
+        (process_turn s k n c l a v seats h h.array_is h.sound h.within place here r.bus_is b (whereto b) asked)
+        (λ x z. after x v (enters x v w lv k.exchange.plan (run_state_after s k row).handshakes c.after.atn
+        (phase_of c.after) out_is (λ o. out_asked x v k row n c lv before_lines (goes_out o) b
+        (subst (λ (y : LineSet). OutOf x v k.exchange.plan k.handshakes.requests (phase_of y)) r.bus_is (subst
+        (λ (y : Phase). PlacedNext x v lv (OutOf x v k.exchange.plan k.handshakes.requests (phase_of (bus_of k))) y) o
+        z))) (OutOf x v k.exchange.plan k.handshakes.requests (phase_of (bus_of k))) z))
+    of_process v e here false b =
+        let place : IsUntouched a v.id = subst (λ (x : Bool). PlacedIf x a v k.exchange.plan k.handshakes
+        (bus_of k).atn (phase_of (bus_of k))) b (h.placed n r.connection_is g.calm v here) in
         let u = asked.unbegun b in
         let m : is_message_out c.after ≡ true = ap (λ (x : Change). is_message_out x.after) (sym r.change_is)
         ∙ g.first (ap changes_phase r.change_is ∙ ep) b in
         let to : phase_of c.after ≡ Phase.MessageOut = out_phase c.after m in
-        let quiet : phase_events s k.story (Some (carried_here k p.id)) c ≡ [] = other_shown s k c p.id u.0
-        ∙ ap (λ (x : Phase). reply_shown p.id (carried_here k p.id).failure
-        ((carried_here k p.id).shown || (carried_here k p.id).refused) x) to in
-        with_item p e here (λ x. IsUntouched x p.id)
-        (subst (λ (x : List Event). Turned s a p.id x (λ y. IsUntouched y p.id))
-        (sym quiet) (turned_none s a p.id (λ y. IsUntouched y p.id) h.sound h.within place))
-        (λ x z. after x p (subst (λ (y : Phase). PlacedIn x p (plan_in_phase w lv k.exchange.plan)
-        (run_state_after s k row).handshakes c.after.atn y) (sym to) (first_asked x p k row n c lv m b u.1 z)))
+        let quiet : phase_events s k.story (Some (carried_here k v.id)) c ≡ [] = other_shown s k c v.id u.0
+        ∙ ap (λ (x : Phase). reply_shown v.id (carried_here k v.id).failure
+        ((carried_here k v.id).shown || (carried_here k v.id).refused) x) to in
+        with_item v e here (λ x. IsUntouched x v.id)
+        (subst (λ (x : List Event). Turned s a v.id x (λ y. IsUntouched y v.id))
+        (sym quiet) (turned_none s a v.id (λ y. IsUntouched y v.id) h.sound h.within place))
+        (λ x z. after x v (subst (λ (y : Phase). PlacedIn x v (plan_in_phase w lv k.exchange.plan)
+        (run_state_after s k row).handshakes c.after.atn y) (sym to) (first_asked x v k row n c lv m b u.1 z)))
 
     none_shown : (x : Option Item) → k.served ≡ x → carried_if k.story x ≡ None
         → row_events_by s k.story (row_reading k.story.bus_state row) row ≡ []
@@ -212,7 +212,7 @@ turn_row s k row n c l h seats g ep none ef link item there whereto asked = by_s
     by_served None e = row_none s k row h (none_shown None e refl) (ap (process_item s) e)
     by_served (Some (abort m)) e = row_none s k row h (none_shown (Some (abort m)) e refl) (ap (process_item s) e)
     by_served (Some (process id)) e =
-        let p = h.of_scenario id e in
-        let own : p.0.id ≡ id = id_is s id p.0 p.1 in
-        of_process p.0 (e ∙ ap (λ (y : ProcId). Some (process y)) (sym own))
-        (ap (process_item s) e ∙ p.1) k.exchange.begun refl
+        let v = h.of_scenario id e in
+        let own : v.0.id ≡ id = id_is s id v.0 v.1 in
+        of_process v.0 (e ∙ ap (λ (y : ProcId). Some (process y)) (sym own))
+        (ap (process_item s) e ∙ v.1) k.exchange.begun refl

@@ -26,8 +26,8 @@ zero_blocks blocks size moved some e =
     (λ f. wrong (sym (ap (λ (x : ℕ). x == 0) (e ∙ ap (λ (x : ℕ). x * size) (zero_of blocks f) ∙ none size)) ∙ some))
     (λ f. some_count blocks f)
   where
-    none : (n : ℕ) → 0 * n ≡ 0
-    none n = omega arith
+    none : (m : ℕ) → 0 * m ≡ 0
+    none m = omega arith
 
 pub some_run : (policy : Policy) (blocks : ℕ) → HasMost policy → 1 ≤ blocks → 1 ≤ runs_in policy (Some blocks)
 some_run Policy.Never blocks m h = omega arith
@@ -35,11 +35,11 @@ some_run Policy.Command blocks m h = omega arith
 some_run (Policy.Burst most) blocks m h = least ((blocks + (most - 1)) / most) most blocks m h (lt-div-mul-add m)
   where
     least : (q d b : ℕ) → 1 ≤ d → 1 ≤ b → b + (d - 1) < q * d + d → 1 ≤ q
-    least q d b k l e = by_bool (q == 0) (λ f. let zero : q * d ≡ 0 = ap (λ (x : ℕ). x * d) (zero_of q f) ∙ none d in
-        absurd omega (arith, zero, k, l, e)) (λ f. some_count q f)
+    least q d b g l e = by_bool (q == 0) (λ f. let zero : q * d ≡ 0 = ap (λ (x : ℕ). x * d) (zero_of q f) ∙ none d in
+        absurd omega (arith, zero, g, l, e)) (λ f. some_count q f)
       where
-        none : (n : ℕ) → 0 * n ≡ 0
-        none n = omega arith
+        none : (i : ℕ) → 0 * i ≡ 0
+        none i = omega arith
 some_run (Policy.NoSave most) blocks m h =
     elim (nat_le blocks most) as (λ q. 1 ≤ (if q then 1 else 2)) [ true ↦ omega arith | false ↦ omega arith ]
 

@@ -73,7 +73,7 @@ settle_step s p row n bsy atn msg cd io y h (by_fault bit got same) =
     absurd (none_device (receiver p) row.dev h.receiver_is got)
   where
     none_device : (o : Option ℕ) (d : ℕ) → o ≡ None → is_of_device o d ≡ true → ⊥
-    none_device o d e z = let w = sym (ap (λ (k : Option ℕ). is_of_device k d) e) ∙ z in cc
+    none_device o d e z = let w = sym (ap (λ (x : Option ℕ). is_of_device x d) e) ∙ z in cc
 settle_step s p row n true atn msg cd io y h (by_initiator lat there same e) = subst
     (λ (w : Row). PulseStep s p n (change_of p w))
     (sym (row_at row n.initiator ((line_times p).sel + lat) (initiator_side (ends false false atn 0 msg cd io false y))

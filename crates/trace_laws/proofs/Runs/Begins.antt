@@ -21,61 +21,61 @@ use Rattle.story_laws.specs.link_laws.proofs.LeavingWays as ways
 -- ---- the unit
 
 -- Another stands in its place.
-put_there : (units : List UnitState) (t n : ℕ) (u new : UnitState) → new.target ≡ u.target → new.unit ≡ u.unit
-    → unit_state_at units t n ≡ Some u → unit_state_at (with_unit units new) t n ≡ Some new
-put_there [] t n u new et en e = none_some u e
-put_there (v ∷ units) t n u new et en e =
-    go (λ z. put_there units t n u new et en z) (v.target == t && v.unit == n) refl e
+put_there : (units : List UnitState) (t m : ℕ) (u new : UnitState) → new.target ≡ u.target → new.unit ≡ u.unit
+    → unit_state_at units t m ≡ Some u → unit_state_at (with_unit units new) t m ≡ Some new
+put_there [] t m u new et en e = none_some u e
+put_there (v ∷ units) t m u new et en e =
+    go (λ z. put_there units t m u new et en z) (v.target == t && v.unit == m) refl e
   where
-    of : (u.target ≡ t) × (u.unit ≡ n)
-    of = (found_target (v ∷ units) t n u e, found_unit (v ∷ units) t n u e)
+    of : (u.target ≡ t) × (u.unit ≡ m)
+    of = (found_target (v ∷ units) t m u e, found_unit (v ∷ units) t m u e)
 
-    test : (v.target == new.target && v.unit == new.unit) ≡ (v.target == t && v.unit == n)
+    test : (v.target == new.target && v.unit == new.unit) ≡ (v.target == t && v.unit == m)
     test = λ i. v.target == (et ∙ of.0) i && v.unit == (en ∙ of.1) i
 
-    is : (new.target == t && new.unit == n) ≡ true
-    is = (λ i. (et ∙ of.0) i == t && (en ∙ of.1) i == n) ∙ (λ i. eq_self t i && eq_self n i)
+    is : (new.target == t && new.unit == m) ≡ true
+    is = (λ i. (et ∙ of.0) i == t && (en ∙ of.1) i == m) ∙ (λ i. eq_self t i && eq_self m i)
 
-    go : (unit_state_at units t n ≡ Some u → unit_state_at (with_unit units new) t n ≡ Some new) → (q : Bool)
-        → (v.target == t && v.unit == n) ≡ q → (if q then Some v else unit_state_at units t n) ≡ Some u
+    go : (unit_state_at units t m ≡ Some u → unit_state_at (with_unit units new) t m ≡ Some new) → (q : Bool)
+        → (v.target == t && v.unit == m) ≡ q → (if q then Some v else unit_state_at units t m) ≡ Some u
         → unit_state_at (if v.target == new.target && v.unit == new.unit then new ∷ units else v ∷ with_unit units new)
-        t n ≡ Some new
-    go more true f z = (λ i. unit_state_at (if (test ∙ f) i then new ∷ units else v ∷ with_unit units new) t n)
-        ∙ ap (λ (q : Bool). if q then Some new else unit_state_at units t n) is
-    go more false f z = (λ i. unit_state_at (if (test ∙ f) i then new ∷ units else v ∷ with_unit units new) t n)
-        ∙ ap (λ (q : Bool). if q then Some v else unit_state_at (with_unit units new) t n) f ∙ more z
+        t m ≡ Some new
+    go more true f z = (λ i. unit_state_at (if (test ∙ f) i then new ∷ units else v ∷ with_unit units new) t m)
+        ∙ ap (λ (q : Bool). if q then Some new else unit_state_at units t m) is
+    go more false f z = (λ i. unit_state_at (if (test ∙ f) i then new ∷ units else v ∷ with_unit units new) t m)
+        ∙ ap (λ (q : Bool). if q then Some v else unit_state_at (with_unit units new) t m) f ∙ more z
 
 -- ---- the choice of the current process
 
 chosen_contents : (holds : List Nexus) (u : UnitState) → (unit_after_choice holds u).contents ≡ u.contents
 chosen_contents holds u = go (has_no_current u.current && not (is_held holds u.target u.unit)) (choice u.pick u.waiting)
   where
-    go : (q : Bool) (p : Option Process) → (if q then with_current u p else u).contents ≡ u.contents
+    go : (q : Bool) (c : Option Process) → (if q then with_current u c else u).contents ≡ u.contents
     go true None = refl
-    go true (Some p) = refl
-    go false p = refl
+    go true (Some c) = refl
+    go false c = refl
 
 chosen_there :
-    (holds : List Nexus) (units : List UnitState) (t n : ℕ) (u : UnitState) → unit_state_at units t n ≡ Some u
-    → unit_state_at (units_after_choice holds units) t n ≡ Some (unit_after_choice holds u)
-chosen_there holds [] t n u e = none_some u e
-chosen_there holds (v ∷ units) t n u e =
-    go (λ z. chosen_there holds units t n u z) (v.target == t && v.unit == n) refl e
+    (holds : List Nexus) (units : List UnitState) (t m : ℕ) (u : UnitState) → unit_state_at units t m ≡ Some u
+    → unit_state_at (units_after_choice holds units) t m ≡ Some (unit_after_choice holds u)
+chosen_there holds [] t m u e = none_some u e
+chosen_there holds (v ∷ units) t m u e =
+    go (λ z. chosen_there holds units t m u z) (v.target == t && v.unit == m) refl e
   where
-    test : ((unit_after_choice holds v).target == t && (unit_after_choice holds v).unit == n)
-        ≡ (v.target == t && v.unit == n)
-    test = λ i. choice_target holds v i == t && choice_unit holds v i == n
+    test : ((unit_after_choice holds v).target == t && (unit_after_choice holds v).unit == m)
+        ≡ (v.target == t && v.unit == m)
+    test = λ i. choice_target holds v i == t && choice_unit holds v i == m
 
-    go : (unit_state_at units t n ≡ Some u
-        → unit_state_at (units_after_choice holds units) t n ≡ Some (unit_after_choice holds u))
-        → (q : Bool) → (v.target == t && v.unit == n) ≡ q → (if q then Some v else unit_state_at units t n) ≡ Some u
-        → unit_state_at (unit_after_choice holds v ∷ units_after_choice holds units) t n
+    go : (unit_state_at units t m ≡ Some u
+        → unit_state_at (units_after_choice holds units) t m ≡ Some (unit_after_choice holds u))
+        → (q : Bool) → (v.target == t && v.unit == m) ≡ q → (if q then Some v else unit_state_at units t m) ≡ Some u
+        → unit_state_at (unit_after_choice holds v ∷ units_after_choice holds units) t m
         ≡ Some (unit_after_choice holds u)
     go more true f z = (λ i. if (test ∙ f) i then Some (unit_after_choice holds v)
-        else unit_state_at (units_after_choice holds units) t n)
+        else unit_state_at (units_after_choice holds units) t m)
         ∙ ap (λ (x : UnitState). Some (unit_after_choice holds x)) (same_Some v u z)
     go more false f z = (λ i. if (test ∙ f) i then Some (unit_after_choice holds v)
-        else unit_state_at (units_after_choice holds units) t n)
+        else unit_state_at (units_after_choice holds units) t m)
         ∙ more z
 
 -- ---- the command waits
@@ -260,14 +260,14 @@ none_full : (policy : Policy) (r : Room)
     → r.full ≡ false
 none_full policy r h = go r.full (is_never policy && r.idle) h
   where
-    go : (f n : Bool)
-        → ((let a : Arrival = if f then Arrival.Refused else if n then Arrival.AtOnce else Arrival.Queued in a)
+    go : (f q : Bool)
+        → ((let a : Arrival = if f then Arrival.Refused else if q then Arrival.AtOnce else Arrival.Queued in a)
         ≡ Arrival.Guest)
-        ⊎ ((let a : Arrival = if f then Arrival.Refused else if n then Arrival.AtOnce else Arrival.Queued in a)
+        ⊎ ((let a : Arrival = if f then Arrival.Refused else if q then Arrival.AtOnce else Arrival.Queued in a)
         ≡ Arrival.AtOnce) → f ≡ false
-    go true n (inl z) = absurd cc
-    go true n (inr z) = absurd cc
-    go false n z = refl
+    go true q (inl z) = absurd cc
+    go true q (inr z) = absurd cc
+    go false q z = refl
 
 enters_queue : (s : ScenarioValue) (a : Array) (q : Process) (u : UnitState) → process_of s q.id ≡ Some q
     → unit_state_at a.units q.target q.unit ≡ Some u → is_request_sense (command_of q.cdb) ≡ false

@@ -17,25 +17,25 @@ none_to_send : (s : ScenarioValue) (c : CmdDef) → is_write (command_of c.cdb) 
 unfolding sent_of
 none_to_send s c e = λ i. if e i then need_of s c else 0
 
-pub reads_send_none : (s : ScenarioValue) (p : Process) → Obeys s → process_of s p.id ≡ Some p → is_writing p ≡ false
-    → length p.sent ≡ 0
-reads_send_none s p o own reads = go (command_at s.commands p.id.command) refl own
+pub reads_send_none : (s : ScenarioValue) (t : Process) → Obeys s → process_of s t.id ≡ Some t → is_writing t ≡ false
+    → length t.sent ≡ 0
+reads_send_none s t o own reads = go (command_at s.commands t.id.command) refl own
   where
-    at : (c : CmdDef) → command_at s.commands p.id.command ≡ Some c → process_by s p.id c ≡ p
-        → (q : Bool) → p.id.sense ≡ q → length p.sent ≡ 0
+    at : (c : CmdDef) → command_at s.commands t.id.command ≡ Some c → process_by s t.id c ≡ t
+        → (q : Bool) → t.id.sense ≡ q → length t.sent ≡ 0
     at c f made true g =
-        let by : process_by s (record { command = p.id.command; sense = true }) c ≡ p =
-        (λ i. process_by s (record { command = p.id.command; sense = sym g i }) c) ∙ made in
+        let by : process_by s (record { command = t.id.command; sense = true }) c ≡ t =
+        (λ i. process_by s (record { command = t.id.command; sense = sym g i }) c) ∙ made in
         λ i. length (sym by i).sent
     at c f made false g =
-        let by : process_by s (record { command = p.id.command; sense = false }) c ≡ p =
-        (λ i. process_by s (record { command = p.id.command; sense = sym g i }) c) ∙ made in
-        let line : IsCommandLine s c = command_fits s p.id.command c (obeys_fits s o) f in
+        let by : process_by s (record { command = t.id.command; sense = false }) c ≡ t =
+        (λ i. process_by s (record { command = t.id.command; sense = sym g i }) c) ∙ made in
+        let line : IsCommandLine s c = command_fits s t.id.command c (obeys_fits s o) f in
         (λ i. length (sym by i).sent) ∙ line.sent ∙ none_to_send s c ((λ i. is_write (command_of (by i).cdb)) ∙ reads)
 
-    go : (x : Option CmdDef) → command_at s.commands p.id.command ≡ x → process_if s p.id x ≡ Some p → length p.sent ≡ 0
-    go None f k = none_some p k
-    go (Some c) f k = at c f (same_Some (process_by s p.id c) p k) p.id.sense refl
+    go : (x : Option CmdDef) → command_at s.commands t.id.command ≡ x → process_if s t.id x ≡ Some t → length t.sent ≡ 0
+    go None f e = none_some t e
+    go (Some c) f e = at c f (same_Some (process_by s t.id c) t e) t.id.sense refl
 
 -- ---- A process runs as its target leaves a phase for STATUS: it has no reply, no byte that the phase moved to the
 -- target was struck, and the last of its data runs is made, or the phase moves one (6.1.6, 6.6.5, 6.6.6).
@@ -43,26 +43,26 @@ reads_send_none s p o own reads = go (command_at s.commands p.id.command) refl o
 -- ---- the rows show what the ends show
 
 same_run : (e f : Event) → same_event e f ≡ true → is_run f ≡ true → is_run e ≡ true
-same_run e (Event.Run b) s r = go e s
+same_run e (Event.Run b) h r = go e h
   where
     go : (x : Event) → same_event x (Event.Run b) ≡ true → is_run x ≡ true
     go (Event.Run a) z = refl
     go _ z = wrong' z
-same_run e _ s r = wrong' r
+same_run e _ h r = wrong' r
 
 same_runs : (shown others : List Event) → same_events shown others ≡ true → shows_run others ≡ true
     → shows_run shown ≡ true
-same_runs [] [] s r = r
-same_runs [] (f ∷ others) s r = wrong' s
-same_runs (e ∷ shown) [] s r = wrong' r
-same_runs (e ∷ shown) (f ∷ others) s r =
-    let both = and_parts (same_event e f) (same_events shown others) s in
+same_runs [] [] h r = r
+same_runs [] (f ∷ others) h r = wrong' h
+same_runs (e ∷ shown) [] h r = wrong' r
+same_runs (e ∷ shown) (f ∷ others) h r =
+    let both = and_parts (same_event e f) (same_events shown others) h in
     go (λ z. same_runs shown others both.1 z) (is_run f) refl r
   where
     go : (shows_run others ≡ true → shows_run shown ≡ true) → (q : Bool) → is_run f ≡ q → (q || shows_run others) ≡ true
         → (is_run e || shows_run shown) ≡ true
     go rest true g z =
-        λ i. same_run e f (and_parts (same_event e f) (same_events shown others) s).0 g i || shows_run shown
+        λ i. same_run e f (and_parts (same_event e f) (same_events shown others) h).0 g i || shows_run shown
     go rest false g z = or_right (is_run e) (shows_run shown) (rest z)
 
 -- ---- as a phase is left for another

@@ -35,10 +35,10 @@ at_once_never policy senses None e = let bad : Arrival.Guest ≡ Arrival.AtOnce 
 at_once_never policy true (Some r) e = let bad : Arrival.Guest ≡ Arrival.AtOnce = e in absurd cc
 at_once_never policy false (Some r) e = go r.full (is_never policy) r.idle e
   where
-    go : (f n i : Bool)
-        → (let a : Arrival = if f then Arrival.Refused else if n && i then Arrival.AtOnce else Arrival.Queued in a)
-        ≡ Arrival.AtOnce → n ≡ true
-    go true n i z = absurd cc
+    go : (f q i : Bool)
+        → (let a : Arrival = if f then Arrival.Refused else if q && i then Arrival.AtOnce else Arrival.Queued in a)
+        ≡ Arrival.AtOnce → q ≡ true
+    go true q i z = absurd cc
     go false true i z = refl
     go false false i z = absurd cc
 
@@ -49,10 +49,10 @@ guest_none policy senses None e = inr refl
 guest_none policy true (Some r) e = inl refl
 guest_none policy false (Some r) e = go r.full (is_never policy && r.idle) e
   where
-    go : (f n : Bool)
-        → (let a : Arrival = if f then Arrival.Refused else if n then Arrival.AtOnce else Arrival.Queued in a)
+    go : (f q : Bool)
+        → (let a : Arrival = if f then Arrival.Refused else if q then Arrival.AtOnce else Arrival.Queued in a)
         ≡ Arrival.Guest → (false ≡ true) ⊎ (Some r ≡ None)
-    go true n z = absurd cc
+    go true q z = absurd cc
     go false true z = absurd cc
     go false false z = absurd cc
 

@@ -18,7 +18,7 @@ use proofs.{Names.{run_step, writer_plain}, Runs.Parts.{HasMost, RunsFit}}
 abbrev HasMostIn : TargetDef → Type 0
 HasMostIn t = HasMost t.disc
 
-policy_most : (p : Policy) → policy_in (said_policy p) ≡ Ok p → HasMost p
+policy_most : (x : Policy) → policy_in (said_policy x) ≡ Ok x → HasMost x
 unfolding policy_in
 policy_most Policy.Never e = tt
 policy_most Policy.Command e = tt
@@ -54,8 +54,8 @@ found_most dev (t ∷ ts) a = go (t.dev == dev) (found_most dev ts a.1)
   where
     go : (q : Bool) → HasMost (policy_of (find (λ (x : TargetDef). x.dev == dev) ts))
         → HasMost (policy_of (cond q (Some t) (find (λ (x : TargetDef). x.dev == dev) ts)))
-    go true k = a.0
-    go false k = k
+    go true e = a.0
+    go false e = e
 
 pub policies_most : (s : ScenarioValue) (dev : ℕ) → Obeys s → HasMost (policy_of (target_def_of s dev))
 policies_most s dev o = found_most dev s.targets (most_lines s o)
@@ -73,17 +73,17 @@ lines_now s history None e = lines_first s
 lines_now s history (Some a) e = lines_always s history a e
 
 same_size : (o : Option UnitDef) (x y : Option UnitState) → IsOfLine o x → IsOfLine o y → size_of x ≡ size_of y
-same_size None None None h k = refl
-same_size None None (Some v) h k = absurd k
-same_size None (Some u) y h k = absurd h
-same_size (Some d) None y h k = absurd h
-same_size (Some d) (Some u) None h k = absurd k
-same_size (Some d) (Some u) (Some v) h k = h.1 ∙ sym k.1
+same_size None None None h e = refl
+same_size None None (Some v) h e = absurd e
+same_size None (Some u) y h e = absurd h
+same_size (Some d) None y h e = absurd h
+same_size (Some d) (Some u) None h e = absurd e
+same_size (Some d) (Some u) (Some v) h e = h.1 ∙ sym e.1
 
-pub size_is : (s : ScenarioValue) (a : Array) (t n : ℕ) → AreOfLines s a
-    → size_of (unit_state_at a.units t n) ≡ size_of (unit_state_at (starting_array s).units t n)
-size_is s a t n h = same_size (unit_of s t n) (unit_state_at a.units t n) (unit_state_at (starting_array s).units t n)
-    (h t n) (lines_first s t n)
+pub size_is : (s : ScenarioValue) (a : Array) (t m : ℕ) → AreOfLines s a
+    → size_of (unit_state_at a.units t m) ≡ size_of (unit_state_at (starting_array s).units t m)
+size_is s a t m h = same_size (unit_of s t m) (unit_state_at a.units t m) (unit_state_at (starting_array s).units t m)
+    (h t m) (lines_first s t m)
 
 -- ---- a write
 
@@ -117,17 +117,17 @@ none_sent s q o own w e =
     then moved_by (command_of by.line.cdb) (unit_of s by.line.target by.line.unit) else 0) else 0)
     ∙ nothing (is_write (command_of by.line.cdb))
   where
-    nothing : (b : Bool) → (let n : ℕ = if b then 0 else 0 in n) ≡ 0
+    nothing : (b : Bool) → (let m : ℕ = if b then 0 else 0 in m) ≡ 0
     nothing true = refl
     nothing false = refl
 
 -- Of a unit that is not there.
-pub absent_moves : (a : Array) (p : Process) → unit_state_at a.units p.target p.unit ≡ None → needs_unit p.cdb ≡ true
-    → moved_count p (reply_now a p) ≡ 0
-absent_moves a p e f =
-    (λ i. moved_count p (execution (context_at a (nexus_of p) (e i)) p.cdb p.sent).reply)
-    ∙ (λ i. moved_count p (absent_executed (context_at a (nexus_of p) None) p.cdb p.sent f i).reply)
-    ∙ none (is_writing p)
+pub absent_moves : (a : Array) (c : Process) → unit_state_at a.units c.target c.unit ≡ None → needs_unit c.cdb ≡ true
+    → moved_count c (reply_now a c) ≡ 0
+absent_moves a c e f =
+    (λ i. moved_count c (execution (context_at a (nexus_of c) (e i)) c.cdb c.sent).reply)
+    ∙ (λ i. moved_count c (absent_executed (context_at a (nexus_of c) None) c.cdb c.sent f i).reply)
+    ∙ none (is_writing c)
   where
     none : (b : Bool) → (let bytes : List ℕ = if b then [] else [] in length bytes) ≡ 0
     none true = refl

@@ -80,16 +80,16 @@ done_left v attention phase e = by (done_in_data v attention phase e)
         (done_out v attention (ap (λ (x : Phase). (phase_leaving v attention x).done) (sym f) ∙ e))
 
 -- Another run follows it, or STATUS.
-not_below : (n : ℕ) → nat_lt n 0 ≡ true → ⊥
-not_below n e = let l = ltb-true n 0 e in absurd omega (arith, l)
+not_below : (m : ℕ) → nat_lt m 0 ≡ true → ⊥
+not_below m e = let l = ltb-true m 0 e in absurd omega (arith, l)
 
-pub below_all : (policy : Policy) (t : Task) (n : ℕ) → nat_lt n (runs_in_all policy t) ≡ true
-    → n < runs_in policy t.blocks
-below_all policy t n e = go (t.moved == 0) e
+pub below_all : (policy : Policy) (t : Task) (m : ℕ) → nat_lt m (runs_in_all policy t) ≡ true
+    → m < runs_in policy t.blocks
+below_all policy t m e = go (t.moved == 0) e
   where
-    go : (q : Bool) → nat_lt n (if q then 0 else runs_in policy t.blocks) ≡ true → n < runs_in policy t.blocks
-    go true z = absurd (not_below n z)
-    go false z = ltb-true n (runs_in policy t.blocks) z
+    go : (q : Bool) → nat_lt m (if q then 0 else runs_in policy t.blocks) ≡ true → m < runs_in policy t.blocks
+    go true z = absurd (not_below m z)
+    go false z = ltb-true m (runs_in policy t.blocks) z
 
 status_after : (policy : Policy) (t : Task) → nat_lt (t.runs + 1) (runs_in_all policy t) ≡ false
     → (after_run policy t).to ≡ Some Phase.Status

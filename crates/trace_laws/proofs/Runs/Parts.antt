@@ -20,26 +20,26 @@ pub record RunsFit (policy : Policy) (t : Task) : Type 0 where
 
 -- ---- numbers
 
-not_below : (n m : ℕ) → m ≡ 0 → nat_lt n m ≡ true → ⊥
-not_below n m z e = let l = ltb-true n m e in absurd omega (arith, l, z)
+not_below : (i m : ℕ) → m ≡ 0 → nat_lt i m ≡ true → ⊥
+not_below i m z e = let l = ltb-true i m e in absurd omega (arith, l, z)
 
 -- Fewer runs than all leave blocks.
-blocks_left : (n blocks most : ℕ) → 1 ≤ most → n < (blocks + (most - 1)) / most → n * most < blocks
-blocks_left n blocks most h l =
+blocks_left : (m blocks most : ℕ) → 1 ≤ most → m < (blocks + (most - 1)) / most → m * most < blocks
+blocks_left m blocks most h l =
     let all : (blocks + (most - 1)) / most * most ≤ blocks + (most - 1) = div-mul-le_self (blocks + (most - 1)) most in
-    let more : (n + 1) * most ≤ (blocks + (most - 1)) / most * most = times
-    (n + 1) ((blocks + (most - 1)) / most) most (omega (arith, l)) in
-    let split : (n + 1) * most ≡ n * most + most = next n most in
+    let more : (m + 1) * most ≤ (blocks + (most - 1)) / most * most = times
+    (m + 1) ((blocks + (most - 1)) / most) most (omega (arith, l)) in
+    let split : (m + 1) * most ≡ m * most + most = next m most in
     omega (arith, all, more, split, h)
   where
     times : (a b c : ℕ) → a ≤ b → a * c ≤ b * c
-    times a b c k = grind arith
+    times a b c e = grind arith
 
     next : (a c : ℕ) → (a + 1) * c ≡ a * c + c
     next a c = omega arith
 
 times_less : (a b c : ℕ) → a < b → 1 ≤ c → a * c < b * c
-times_less a b c h k = grind arith
+times_less a b c h e = grind arith
 
 size_some : (blocks size moved : ℕ) → 1 ≤ moved → moved ≡ blocks * size → 1 ≤ size
 size_some blocks size moved h e = go size refl
@@ -51,32 +51,32 @@ size_some blocks size moved h e = go size refl
     go (suc z) f = omega (arith, f)
 
 step_some : (a b : ℕ) → 1 ≤ a → 1 ≤ b → 1 ≤ a * b
-step_some a b h k = grind arith
+step_some a b h e = grind arith
 
 -- ---- where a run begins
 
-pub start_is : (policy : Policy) (blocks : Option ℕ) (size moved n : ℕ)
-    → (run_in policy blocks size moved n).start ≡ n * step_in policy blocks size
-start_is policy None size moved n = times_none n
-start_is (Policy.Burst most) (Some blocks) size moved n = refl
-start_is _ (Some blocks) size moved n = times_none n
+pub start_is : (policy : Policy) (blocks : Option ℕ) (size moved m : ℕ)
+    → (run_in policy blocks size moved m).start ≡ m * step_in policy blocks size
+start_is policy None size moved m = times_none m
+start_is (Policy.Burst most) (Some blocks) size moved m = refl
+start_is _ (Some blocks) size moved m = times_none m
 
 -- ---- a run has a byte, and lies in what is moved
 
-part_end : (step moved n : ℕ) → 1 ≤ step → 1 ≤ moved → 1 ≤ (if n == 0 && nat_lt step moved then step else moved)
-part_end step moved n h k =
-    elim (n == 0 && nat_lt step moved) as (λ q. 1 ≤ (if q then step else moved)) [ true ↦ h | false ↦ k ]
+part_end : (step moved m : ℕ) → 1 ≤ step → 1 ≤ moved → 1 ≤ (if m == 0 && nat_lt step moved then step else moved)
+part_end step moved m h e =
+    elim (m == 0 && nat_lt step moved) as (λ q. 1 ≤ (if q then step else moved)) [ true ↦ h | false ↦ e ]
 
-part_within : (step moved n : ℕ) → (if n == 0 && nat_lt step moved then step else moved) ≤ moved
-part_within step moved n = go (n == 0) (nat_lt step moved) refl
+part_within : (step moved m : ℕ) → (if m == 0 && nat_lt step moved then step else moved) ≤ moved
+part_within step moved m = go (m == 0) (nat_lt step moved) refl
   where
-    go : (p q : Bool) → nat_lt step moved ≡ q → (if p && q then step else moved) ≤ moved
+    go : (r q : Bool) → nat_lt step moved ≡ q → (if r && q then step else moved) ≤ moved
     go true true e = let l = ltb-true step moved e in omega (arith, l)
     go true false e = omega arith
     go false q e = omega arith
 
 min_less : (a b c : ℕ) → a < b → a < c → a < min b c
-min_less a b c h k = grind arith
+min_less a b c h e = grind arith
 
 min_within : (b c : ℕ) → min b c ≤ c
 min_within b c = grind arith
@@ -84,39 +84,39 @@ min_within b c = grind arith
 min_first : (b c : ℕ) → b ≤ c → min b c ≡ b
 min_first b c h = grind arith
 
-run_some : (policy : Policy) (blocks size moved n : ℕ) → HasMost policy
-    → 1 ≤ moved → moved ≡ blocks * size → n < runs_in policy (Some blocks)
-    → (run_in policy (Some blocks) size moved n).start < (run_in policy (Some blocks) size moved n).end
-run_some Policy.Never blocks size moved n m h e l = h
-run_some Policy.Command blocks size moved n m h e l = h
-run_some (Policy.Burst most) blocks size moved n m h e l =
+run_some : (policy : Policy) (blocks size moved i : ℕ) → HasMost policy
+    → 1 ≤ moved → moved ≡ blocks * size → i < runs_in policy (Some blocks)
+    → (run_in policy (Some blocks) size moved i).start < (run_in policy (Some blocks) size moved i).end
+run_some Policy.Never blocks size moved i m h e l = h
+run_some Policy.Command blocks size moved i m h e l = h
+run_some (Policy.Burst most) blocks size moved i m h e l =
     let some = step_some most size m (size_some blocks size moved h e) in
-    let left : n * most < blocks = blocks_left n blocks most m l in
-    let less : n * most * size < blocks * size = times_less
-    (n * most) blocks size left (size_some blocks size moved h e) in
-    let start = mul_assoc n most size in
-    min_less (n * (most * size)) (n * (most * size) + most * size) moved (omega (arith, some))
+    let left : i * most < blocks = blocks_left i blocks most m l in
+    let less : i * most * size < blocks * size = times_less
+    (i * most) blocks size left (size_some blocks size moved h e) in
+    let start = mul_assoc i most size in
+    min_less (i * (most * size)) (i * (most * size) + most * size) moved (omega (arith, some))
     (omega (arith, less, start, e))
-run_some (Policy.NoSave most) blocks size moved n m h e l =
-    part_end (most * size) moved n (step_some most size m (size_some blocks size moved h e)) h
+run_some (Policy.NoSave most) blocks size moved i m h e l =
+    part_end (most * size) moved i (step_some most size m (size_some blocks size moved h e)) h
 
-run_within : (policy : Policy) (blocks : Option ℕ) (size moved n : ℕ) → (run_in policy blocks size moved n).end ≤ moved
-run_within policy None size moved n = omega arith
-run_within Policy.Never (Some blocks) size moved n = omega arith
-run_within Policy.Command (Some blocks) size moved n = omega arith
-run_within (Policy.Burst most) (Some blocks) size moved n = min_within (n * (most * size) + most * size) moved
-run_within (Policy.NoSave most) (Some blocks) size moved n = part_within (most * size) moved n
+run_within : (policy : Policy) (blocks : Option ℕ) (size moved m : ℕ) → (run_in policy blocks size moved m).end ≤ moved
+run_within policy None size moved m = omega arith
+run_within Policy.Never (Some blocks) size moved m = omega arith
+run_within Policy.Command (Some blocks) size moved m = omega arith
+run_within (Policy.Burst most) (Some blocks) size moved m = min_within (m * (most * size) + most * size) moved
+run_within (Policy.NoSave most) (Some blocks) size moved m = part_within (most * size) moved m
 
 -- ---- of a task
 
-in_all : (policy : Policy) (t : Task) (n : ℕ) → nat_lt n (runs_in_all policy t) ≡ true
-    → ((t.moved == 0) ≡ false) × (n < runs_in policy t.blocks)
-in_all policy t n e = go (t.moved == 0) refl e
+in_all : (policy : Policy) (t : Task) (m : ℕ) → nat_lt m (runs_in_all policy t) ≡ true
+    → ((t.moved == 0) ≡ false) × (m < runs_in policy t.blocks)
+in_all policy t m e = go (t.moved == 0) refl e
   where
-    go : (q : Bool) → (t.moved == 0) ≡ q → nat_lt n (if q then 0 else runs_in policy t.blocks) ≡ true
-        → ((t.moved == 0) ≡ false) × (n < runs_in policy t.blocks)
-    go true f z = absurd (not_below n 0 refl z)
-    go false f z = (f, ltb-true n (runs_in policy t.blocks) z)
+    go : (q : Bool) → (t.moved == 0) ≡ q → nat_lt m (if q then 0 else runs_in policy t.blocks) ≡ true
+        → ((t.moved == 0) ≡ false) × (m < runs_in policy t.blocks)
+    go true f z = absurd (not_below m 0 refl z)
+    go false f z = (f, ltb-true m (runs_in policy t.blocks) z)
 
 pub has_byte : (policy : Policy) (t : Task) → RunsFit policy t → nat_lt t.runs (runs_in_all policy t) ≡ true
     → 1 ≤ run_length policy t
@@ -142,32 +142,32 @@ byte_within policy t place h =
     let w = run_within policy t.blocks t.size t.moved t.runs in
     less (run_at policy t t.runs).start (run_at policy t t.runs).end place t.moved h w
   where
-    less : (a b p m : ℕ) → p < b - a → b ≤ m → a + p < m
-    less a b p m h k = omega (arith, h, k)
+    less : (a b i m : ℕ) → i < b - a → b ≤ m → a + i < m
+    less a b i m h e = omega (arith, h, e)
 
 -- More runs follow it.
-more_by : (policy : Policy) (blocks size moved n : ℕ) → HasMost policy → 1 ≤ moved → moved ≡ blocks * size
-    → n + 1 < runs_in policy (Some blocks) → MoreRuns policy n (step_in policy (Some blocks) size)
-    ((run_in policy (Some blocks) size moved n).end - (run_in policy (Some blocks) size moved n).start)
-more_by Policy.Never blocks size moved n m h e l = absurd omega (arith, l)
-more_by Policy.Command blocks size moved n m h e l = absurd omega (arith, l)
-more_by (Policy.Burst most) blocks size moved n m h e l =
-    let left : (n + 1) * most < blocks = blocks_left (n + 1) blocks most m l in
-    let less : (n + 1) * most * size < blocks * size = times_less
-    ((n + 1) * most) blocks size left (size_some blocks size moved h e) in
-    let start = mul_assoc (n + 1) most size in
-    let next : (n + 1) * (most * size) ≡ n * (most * size) + most * size = split n (most * size) in
-    let whole : min (n * (most * size) + most * size) moved ≡ n * (most * size) + most * size = min_first
-    (n * (most * size) + most * size) moved (omega (arith, less, start, next, e)) in
-    in_bursts most refl (ap (λ (x : ℕ). n * (most * size) + (x - n * (most * size))) whole
-    ∙ back (n * (most * size)) (most * size) ∙ sym next)
+more_by : (policy : Policy) (blocks size moved i : ℕ) → HasMost policy → 1 ≤ moved → moved ≡ blocks * size
+    → i + 1 < runs_in policy (Some blocks) → MoreRuns policy i (step_in policy (Some blocks) size)
+    ((run_in policy (Some blocks) size moved i).end - (run_in policy (Some blocks) size moved i).start)
+more_by Policy.Never blocks size moved i m h e l = absurd omega (arith, l)
+more_by Policy.Command blocks size moved i m h e l = absurd omega (arith, l)
+more_by (Policy.Burst most) blocks size moved i m h e l =
+    let left : (i + 1) * most < blocks = blocks_left (i + 1) blocks most m l in
+    let less : (i + 1) * most * size < blocks * size = times_less
+    ((i + 1) * most) blocks size left (size_some blocks size moved h e) in
+    let start = mul_assoc (i + 1) most size in
+    let next : (i + 1) * (most * size) ≡ i * (most * size) + most * size = split i (most * size) in
+    let whole : min (i * (most * size) + most * size) moved ≡ i * (most * size) + most * size = min_first
+    (i * (most * size) + most * size) moved (omega (arith, less, start, next, e)) in
+    in_bursts most refl (ap (λ (x : ℕ). i * (most * size) + (x - i * (most * size))) whole
+    ∙ back (i * (most * size)) (most * size) ∙ sym next)
   where
     split : (a c : ℕ) → (a + 1) * c ≡ a * c + c
     split a c = omega arith
 
     back : (a c : ℕ) → a + (a + c - a) ≡ a + c
     back a c = omega arith
-more_by (Policy.NoSave most) blocks size moved n m h e l = from_start most refl refl
+more_by (Policy.NoSave most) blocks size moved i m h e l = from_start most refl refl
 
 pub more_runs : (policy : Policy) (t : Task) → RunsFit policy t → nat_lt (t.runs + 1) (runs_in_all policy t) ≡ true
     → MoreRuns policy t.runs (step_in policy t.blocks t.size) (run_length policy t)

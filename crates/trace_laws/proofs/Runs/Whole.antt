@@ -17,10 +17,10 @@ use proofs.{Runs.Facts.{task_here}, Writes.{Rows.{WriteRow, Around, around}, Wri
 with_rest : (a b : ℕ) → b ≤ a + (b - a)
 with_rest a b = omega arith
 
-all_taken : (blocks most q n : ℕ) → 1 ≤ most → blocks + (most - 1) < q * most + most → q ≤ n + 1
-    → blocks ≤ (n + 1) * most
-all_taken blocks most q n h l k =
-    let grows : q * most ≤ (n + 1) * most = times q (n + 1) most k in
+all_taken : (blocks most q m : ℕ) → 1 ≤ most → blocks + (most - 1) < q * most + most → q ≤ m + 1
+    → blocks ≤ (m + 1) * most
+all_taken blocks most q m h l e =
+    let grows : q * most ≤ (m + 1) * most = times q (m + 1) most e in
     omega (arith, l, grows, h)
   where
     times : (a b c : ℕ) → a ≤ b → a * c ≤ b * c
@@ -37,12 +37,12 @@ min_all b c h = grind arith
 
 -- ---- the run that ends with all
 
-part_all : (most blocks size moved n : ℕ) → moved ≡ blocks * size → (if nat_le blocks most then 1 else 2) ≤ n + 1
-    → (if n == 0 && nat_lt (most * size) moved then most * size else moved) ≡ moved
-part_all most blocks size moved n e l = go (n == 0) refl (nat_lt (most * size) moved) refl
+part_all : (most blocks size moved m : ℕ) → moved ≡ blocks * size → (if nat_le blocks most then 1 else 2) ≤ m + 1
+    → (if m == 0 && nat_lt (most * size) moved then most * size else moved) ≡ moved
+part_all most blocks size moved m e l = go (m == 0) refl (nat_lt (most * size) moved) refl
   where
-    go : (p : Bool) → (n == 0) ≡ p → (q : Bool) → nat_lt (most * size) moved ≡ q
-        → (if p && q then most * size else moved) ≡ moved
+    go : (r : Bool) → (m == 0) ≡ r → (q : Bool) → nat_lt (most * size) moved ≡ q
+        → (if r && q then most * size else moved) ≡ moved
     go false ep q eq = refl
     go true ep false eq = refl
     go true ep true eq =
@@ -52,22 +52,22 @@ part_all most blocks size moved n e l = go (n == 0) refl (nat_lt (most * size) m
         let less = ltb-true (most * size) moved eq in
         absurd omega (arith, fits, less, e))
         (λ er.
-        let two : 2 ≤ n + 1 = subst (λ (x : Bool). (if x then 1 else 2) ≤ n + 1) er l in
-        let none = zero_of n ep in
+        let two : 2 ≤ m + 1 = subst (λ (x : Bool). (if x then 1 else 2) ≤ m + 1) er l in
+        let none = zero_of m ep in
         absurd omega (arith, two, none))
 
-ends_all : (policy : Policy) (blocks size moved n : ℕ) → RunsBlocks policy → moved ≡ blocks * size
-    → runs_in policy (Some blocks) ≤ n + 1 → (run_in policy (Some blocks) size moved n).end ≡ moved
-ends_all Policy.Never blocks size moved n h e l = refl
-ends_all Policy.Command blocks size moved n h e l = refl
-ends_all (Policy.Burst most) blocks size moved n h e l =
-    let taken : blocks ≤ (n + 1) * most = all_taken blocks most
-    ((blocks + (most - 1)) / most) n h (lt-div-mul-add h) l in
-    let up : blocks * size ≤ (n + 1) * most * size = times_up blocks ((n + 1) * most) size taken in
-    let back = mul_assoc (n + 1) most size in
-    let next = one_more n (most * size) in
-    min_all (n * (most * size) + most * size) moved (omega (arith, up, back, next, e))
-ends_all (Policy.NoSave most) blocks size moved n h e l = part_all most blocks size moved n e l
+ends_all : (policy : Policy) (blocks size moved m : ℕ) → RunsBlocks policy → moved ≡ blocks * size
+    → runs_in policy (Some blocks) ≤ m + 1 → (run_in policy (Some blocks) size moved m).end ≡ moved
+ends_all Policy.Never blocks size moved m h e l = refl
+ends_all Policy.Command blocks size moved m h e l = refl
+ends_all (Policy.Burst most) blocks size moved m h e l =
+    let taken : blocks ≤ (m + 1) * most = all_taken blocks most
+    ((blocks + (most - 1)) / most) m h (lt-div-mul-add h) l in
+    let up : blocks * size ≤ (m + 1) * most * size = times_up blocks ((m + 1) * most) size taken in
+    let back = mul_assoc (m + 1) most size in
+    let next = one_more m (most * size) in
+    min_all (m * (most * size) + most * size) moved (omega (arith, up, back, next, e))
+ends_all (Policy.NoSave most) blocks size moved m h e l = part_all most blocks size moved m e l
 
 -- No run follows it.
 pub last_run : (policy : Policy) (t : Task) → MovesInRuns policy t
@@ -89,11 +89,11 @@ last_run policy t m some e = reaches (end m)
         ∙ ends_all policy f.blocks t.size t.moved t.runs f.runs f.moved all
 
 -- Where a run begins does not hang on how much is moved.
-pub start_same : (policy : Policy) (blocks : Option ℕ) (size moved other n : ℕ)
-    → (run_in policy blocks size moved n).start ≡ (run_in policy blocks size other n).start
-start_same policy None size moved other n = refl
-start_same Policy.Never (Some blocks) size moved other n = refl
-start_same _ (Some blocks) size moved other n = refl
+pub start_same : (policy : Policy) (blocks : Option ℕ) (size moved other m : ℕ)
+    → (run_in policy blocks size moved m).start ≡ (run_in policy blocks size other m).start
+start_same policy None size moved other m = refl
+start_same Policy.Never (Some blocks) size moved other m = refl
+start_same _ (Some blocks) size moved other m = refl
 
 -- ---- As DATA OUT is left for STATUS with no byte struck, the process that is served has sent all that it sends.
 

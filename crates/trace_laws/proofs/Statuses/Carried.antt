@@ -33,9 +33,9 @@ puts q all c h w id =
     go false e = h id
 
 -- What is carried of a process takes the place of what was.
-own : (q : ProcId → List ℕ → Type 0) (all : List CarriedBytes) (p : ProcId) (c : CarriedBytes)
-    → c.id ≡ (carried_of all p).id → OnAreas q all → q p c.status.bytes → OnAreas q (with_carried all c)
-own q all p c same h w = puts q all c h (subst (λ (x : ProcId). q x c.status.bytes) (sym (same ∙ carried_id all p)) w)
+own : (q : ProcId → List ℕ → Type 0) (all : List CarriedBytes) (d : ProcId) (c : CarriedBytes)
+    → c.id ≡ (carried_of all d).id → OnAreas q all → q d c.status.bytes → OnAreas q (with_carried all c)
+own q all d c same h w = puts q all c h (subst (λ (x : ProcId). q x c.status.bytes) (sym (same ∙ carried_id all d)) w)
 
 as_before : (q : ProcId → List ℕ → Type 0) (before after : List CarriedBytes) → after ≡ before → OnAreas q before
     → OnAreas q after
@@ -94,18 +94,18 @@ message_on : (q : ProcId → List ℕ → Type 0) (s : ScenarioValue) (b : Story
     → OnAreas q (story_after_message s b l m).carried
 message_on q s b l m h = go l.item
   where
-    same : (c : CarriedBytes) (p : ProcId) → q p c.status.bytes
-        → (x : MsgIn) → ((carried_after_message c x).id ≡ c.id) × q p (carried_after_message c x).status.bytes
-    same c p w MsgIn.SavePointer = (refl, w)
-    same c p w _ = (refl, w)
+    same : (c : CarriedBytes) (d : ProcId) → q d c.status.bytes
+        → (x : MsgIn) → ((carried_after_message c x).id ≡ c.id) × q d (carried_after_message c x).status.bytes
+    same c d w MsgIn.SavePointer = (refl, w)
+    same c d w _ = (refl, w)
 
     go : (item : Option Item) → OnAreas q
         (story_with_carried (record b { link = Some l }) (carried_after_message_if (carried_if b item) m)).carried
     go None = h
     go (Some (abort k)) = h
-    go (Some (process p)) =
-        let w = same (carried_of b.carried p) p (h p) m in
-        own q b.carried p (carried_after_message (carried_of b.carried p) m) w.0 h w.1
+    go (Some (process d)) =
+        let w = same (carried_of b.carried d) d (h d) m in
+        own q b.carried d (carried_after_message (carried_of b.carried d) m) w.0 h w.1
 
 heard_on : (q : ProcId → List ℕ → Type 0) (s : ScenarioValue) (b : Story) (l : Link) (m : MsgIn) → OnAreas q b.carried
     → OnAreas q (story_after_in s b l (Some m)).carried
@@ -123,25 +123,25 @@ heard_on q s b l m h = go (is_none l.item)
     go false = message_on q s b next m h
 
 byte_on : (q : ProcId → List ℕ → Type 0) (b : Story) (l : Link) (d : RowReading) → OnAreas q b.carried
-    → ((p : ProcId) → l.item ≡ Some (process p) → is_status_phase d.change.before ≡ true
-    → q p (area_with (carried_of b.carried p).status (d.change.after.data_bits % 256)).bytes)
+    → ((i : ProcId) → l.item ≡ Some (process i) → is_status_phase d.change.before ≡ true
+    → q i (area_with (carried_of b.carried i).status (d.change.after.data_bits % 256)).bytes)
     → OnAreas q (story_after_byte b l d).carried
 byte_on q b l d h takes = go d.change.before.msg l.item refl
   where
     byte : ℕ
     byte = d.change.after.data_bits % 256
 
-    of : (p : ProcId) (c : CarriedBytes) → q p c.status.bytes
-        → (is_status_phase d.change.before ≡ true → q p (area_with c.status byte).bytes)
+    of : (i : ProcId) (c : CarriedBytes) → q i c.status.bytes
+        → (is_status_phase d.change.before ≡ true → q i (area_with c.status byte).bytes)
         → ((carried_after_byte c d.change.before byte).id ≡ c.id)
-        × q p (carried_after_byte c d.change.before byte).status.bytes
-    of p c w f = by (is_command d.change.before) (is_data d.change.before) (is_status_phase d.change.before) refl
+        × q i (carried_after_byte c d.change.before byte).status.bytes
+    of i c w f = by (is_command d.change.before) (is_data d.change.before) (is_status_phase d.change.before) refl
       where
         by : (x y z : Bool) → is_status_phase d.change.before ≡ z
             → ((if x then record c { command = area_with c.command byte; block = c.block ++ byte ∷ [] }
             else if y then record c { moved = area_with c.moved byte }
             else if z then record c { status = area_with c.status byte } else c).id ≡ c.id)
-            × q p (if x then record c { command = area_with c.command byte; block = c.block ++ byte ∷ [] }
+            × q i (if x then record c { command = area_with c.command byte; block = c.block ++ byte ∷ [] }
             else if y then record c { moved = area_with c.moved byte }
             else if z then record c { status = area_with c.status byte } else c).status.bytes
         by true y z e = (refl, w)
@@ -154,25 +154,25 @@ byte_on q b l d h takes = go d.change.before.msg l.item refl
     go true item e = h
     go false None e = h
     go false (Some (abort k)) e = h
-    go false (Some (process p)) e =
-        let w = of p (carried_of b.carried p) (h p) (takes p e) in
-        own q b.carried p (carried_after_byte (carried_of b.carried p) d.change.before byte) w.0 h w.1
+    go false (Some (process i)) e =
+        let w = of i (carried_of b.carried i) (h i) (takes i e) in
+        own q b.carried i (carried_after_byte (carried_of b.carried i) d.change.before byte) w.0 h w.1
 
 fault_on : (q : ProcId → List ℕ → Type 0) (b : Story) (l : Link) (kind : Kind) → OnAreas q b.carried
     → OnAreas q (story_after_fault b l kind).carried
 fault_on q b l (Drives lines) h = h
 fault_on q b l (Fault bit) h = go l.item b.bus_state.crossed
   where
-    of : (p : ProcId) (c : CarriedBytes) (x : LineSet) → q p c.status.bytes
-        → ((carried_after_fault c x).id ≡ c.id) × q p (carried_after_fault c x).status.bytes
-    of p c x w = by (is_command x) (is_data x)
+    of : (d : ProcId) (c : CarriedBytes) (x : LineSet) → q d c.status.bytes
+        → ((carried_after_fault c x).id ≡ c.id) × q d (carried_after_fault c x).status.bytes
+    of d c x w = by (is_command x) (is_data x)
       where
         code : Option ℕ
         code = Some (if x.io then INITIATOR_DETECTED_ERROR else PARITY_ERROR)
 
         by : (y z : Bool) → ((if y then record c { struck = true; failure = Some PARITY_ERROR }
             else if z then record c { failure = code } else c).id ≡ c.id)
-            × q p (if y then record c { struck = true; failure = Some PARITY_ERROR }
+            × q d (if y then record c { struck = true; failure = Some PARITY_ERROR }
             else if z then record c { failure = code } else c).status.bytes
         by true z = (refl, w)
         by false true = (refl, w)
@@ -182,10 +182,10 @@ fault_on q b l (Fault bit) h = go l.item b.bus_state.crossed
         → OnAreas q (story_with_carried b (carried_after_fault_if (carried_if b item) c)).carried
     go None c = h
     go (Some (abort k)) c = h
-    go (Some (process p)) None = own q b.carried p (carried_of b.carried p) refl h (h p)
-    go (Some (process p)) (Some c) =
-        let w = of p (carried_of b.carried p) c.before (h p) in
-        own q b.carried p (carried_after_fault (carried_of b.carried p) c.before) w.0 h w.1
+    go (Some (process d)) None = own q b.carried d (carried_of b.carried d) refl h (h d)
+    go (Some (process d)) (Some c) =
+        let w = of d (carried_of b.carried d) c.before (h d) in
+        own q b.carried d (carried_after_fault (carried_of b.carried d) c.before) w.0 h w.1
 
 out_on : (q : ProcId → List ℕ → Type 0) (b : Story) (l : Link) (m : MsgOut) → OnAreas q b.carried
     → (is_parity_error m ≡ true → (u : CarriedBytes) → l.undo ≡ Some u → q u.id u.status.bytes)
@@ -204,8 +204,8 @@ out_on q b l m h f = go (is_parity_error m) refl l.undo refl
 -- What is asked of a row of a connection that stands: of a byte of STATUS, and of what MESSAGE PARITY ERROR brings
 -- back.
 pub record Takes (q : ProcId → List ℕ → Type 0) (b : Story) (d : RowReading) (l : Link) : Type 0 where
-  pub status : (p : ProcId) → l.item ≡ Some (process p) → d.crosses ≡ true → is_status_phase d.change.before ≡ true
-      → q p (area_with (carried_of b.carried p).status (d.change.after.data_bits % 256)).bytes
+  pub status : (i : ProcId) → l.item ≡ Some (process i) → d.crosses ≡ true → is_status_phase d.change.before ≡ true
+      → q i (area_with (carried_of b.carried i).status (d.change.after.data_bits % 256)).bytes
   pub undoes : (m : MsgOut) (u : CarriedBytes) → d.out ≡ Some m → is_parity_error m ≡ true → l.undo ≡ Some u
       → q u.id u.status.bytes
 

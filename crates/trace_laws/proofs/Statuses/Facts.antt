@@ -485,9 +485,9 @@ offered_on s p row w n after calm = go (row_kind s p row n w.obeys w.prompt w.wa
 
 -- ---- COMMAND COMPLETE
 
-named_other : (p : Process) (l : Link) (m : Messages) (count : ℕ) → Names p l m count → is_complete_in m.first ≡ false
-named_other p l m count (all e f) = ap (λ (x : Messages). is_complete_in x.first) e
-named_other p l m count (tag_alone x e f g) = ap (λ (y : Messages). is_complete_in y.first) f ∙ tagged p.tag e
+named_other : (c : Process) (l : Link) (m : Messages) (count : ℕ) → Names c l m count → is_complete_in m.first ≡ false
+named_other c l m count (all e f) = ap (λ (x : Messages). is_complete_in x.first) e
+named_other c l m count (tag_alone x e f g) = ap (λ (y : Messages). is_complete_in y.first) f ∙ tagged c.tag e
   where
     tagged : (t : Tag) → tag_named t ≡ Some x → is_complete_in (Some x) ≡ false
     tagged Tag.Untagged z = absurd cc

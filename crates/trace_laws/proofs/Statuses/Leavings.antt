@@ -33,9 +33,9 @@ second_other (Some m) h = go m (ap is_complete h)
     go MsgIn.CommandComplete e = wrong e
     go _ e = refl
 
-alone : (m : Messages) (n : ℕ) → is_complete_in m.second ≡ false → from_byte m n ≡ one_message MsgIn.CommandComplete
+alone : (m : Messages) (i : ℕ) → is_complete_in m.second ≡ false → from_byte m i ≡ one_message MsgIn.CommandComplete
     → m ≡ one_message MsgIn.CommandComplete
-alone m n other = go (nat_lt n (length (message_bytes m.first)))
+alone m i other = go (nat_lt i (length (message_bytes m.first)))
   where
     go : (q : Bool) → (if q then m else record { first = m.second; second = None }) ≡ one_message MsgIn.CommandComplete
         → m ≡ one_message MsgIn.CommandComplete
@@ -47,10 +47,10 @@ ends_alone m next (stays f all) = second_other m.second all.1
 ends_alone m next (closes f x one end) = ap (λ (y : Messages). is_complete_in y.second) one
 ends_alone m next (saves f both) = ap (λ (y : Messages). is_complete_in y.second) both
 
-pub left_alone : (l : Link) (m : Messages) (next : Next) (count n : ℕ) → LastGiven l m next count
-    → from_byte m n ≡ one_message MsgIn.CommandComplete → m ≡ one_message MsgIn.CommandComplete
-left_alone l m next count n (still_stays f all last) = alone m n (second_other m.second all.1)
-left_alone l m next count n (to_close f x one end zero last) =
-    alone m n (ap (λ (y : Messages). is_complete_in y.second) one)
-left_alone l m next count n (to_save f both at last) = alone m n (ap (λ (y : Messages). is_complete_in y.second) both)
-left_alone l m next count n (closed f ends full last told) = alone m n (ends_alone m next ends)
+pub left_alone : (l : Link) (m : Messages) (next : Next) (count i : ℕ) → LastGiven l m next count
+    → from_byte m i ≡ one_message MsgIn.CommandComplete → m ≡ one_message MsgIn.CommandComplete
+left_alone l m next count i (still_stays f all last) = alone m i (second_other m.second all.1)
+left_alone l m next count i (to_close f x one end zero last) =
+    alone m i (ap (λ (y : Messages). is_complete_in y.second) one)
+left_alone l m next count i (to_save f both at last) = alone m i (ap (λ (y : Messages). is_complete_in y.second) both)
+left_alone l m next count i (closed f ends full last told) = alone m i (ends_alone m next ends)

@@ -115,19 +115,19 @@ turn_talk s k row n c l m id t over last em h = subst (λ (x : Link). TalksOf j 
         → CarriesBy l bytes j.exchange.plan j.handshakes.requests Phase.MessageOut
     refuses b e ec em = (kept w.0, undone w.1)
       where
-        p : j.exchange.plan
+        g : j.exchange.plan
             ≡ plan_in_message_out (hearing_of k row (reading_in k.story.bus_state n c false)) k.exchange.plan
-        p = out_plan (out_lines c.after e t.known) true b
+        g = out_plan (out_lines c.after e t.known) true b
 
         lines : is_message_in c.before ≡ true
-        lines = from_in c.before (sym (ap (λ (x : Plan). x.cause) p) ∙ ec)
+        lines = from_in c.before (sym (ap (λ (x : Plan). x.cause) g) ∙ ec)
 
         here : phase_of (bus_of k) ≡ Phase.MessageIn
         here = ap phase_of t.goes.row_is.bus_is ∙ in_phase c.before lines
 
         left : from_byte k.exchange.plan.messages (k.handshakes.requests - 1) ≡ one_message MsgIn.CommandComplete
         left = ap (λ (q : Bool). if q then from_byte k.exchange.plan.messages (k.handshakes.requests - 1)
-            else k.exchange.plan.messages) (sym lines) ∙ sym (ap (λ (x : Plan). x.messages) p) ∙ em
+            else k.exchange.plan.messages) (sym lines) ∙ sym (ap (λ (x : Plan). x.messages) g) ∙ em
 
         w : HasStatus (carried_here k id).status.bytes × ((k.handshakes.requests ≡ 0) ⊎ UndoesStatus l.undo)
         w = was b Phase.MessageIn here (left_alone l k.exchange.plan.messages k.exchange.plan.next k.handshakes.requests

@@ -23,8 +23,8 @@ more_some (b ∷ bytes) byte = suc_some (length (bytes ++ byte ∷ []))
 set_some : (bytes : List ℕ) (at byte : ℕ) → nat_lt at (length bytes) ≡ true → HasStatus (slice_set bytes at byte)
 set_some [] at byte e = absurd (below at e)
   where
-    below : (n : ℕ) → nat_lt n 0 ≡ true → ⊥
-    below n z = grind (arith, nat_tests)
+    below : (m : ℕ) → nat_lt m 0 ≡ true → ⊥
+    below m z = grind (arith, nat_tests)
 set_some (b ∷ bytes) zero byte e = suc_some (length bytes)
 set_some (b ∷ bytes) (suc at) byte e = suc_some (length (slice_set bytes at byte))
 
@@ -78,22 +78,22 @@ quiet k row n c now l r en other m u e = none_some m (sym (out_none k row n c no
 
 -- ---- the phase stays
 
-stays_by : (l : Link) (bytes others : List ℕ) (p q : Plan) (count other : ℕ) (phase : Phase)
-    → (HasStatus bytes → HasStatus others) → KeptPlan p q
-    → (is_attended phase ≡ true → other ≡ count) → CarriesBy l bytes p count phase → CarriesBy l others q other phase
-stays_by l bytes others p q count other Phase.Status f k e h =
+stays_by : (l : Link) (bytes others : List ℕ) (a q : Plan) (count other : ℕ) (phase : Phase)
+    → (HasStatus bytes → HasStatus others) → KeptPlan a q
+    → (is_attended phase ≡ true → other ≡ count) → CarriesBy l bytes a count phase → CarriesBy l others q other phase
+stays_by l bytes others a q count other Phase.Status f g e h =
     λ some. f (h (ap (λ (x : ℕ). x == 0) (sym (e refl)) ∙ some))
-stays_by l bytes others p q count other Phase.MessageIn f k e h = λ m.
-    let w = h (sym k.messages ∙ m) in
+stays_by l bytes others a q count other Phase.MessageIn f g e h = λ m.
+    let w = h (sym g.messages ∙ m) in
     (f w.0, counts w.1)
   where
     counts : (count ≡ 0) ⊎ UndoesStatus l.undo → (other ≡ 0) ⊎ UndoesStatus l.undo
     counts (inl z) = inl (e refl ∙ z)
     counts (inr z) = inr z
-stays_by l bytes others p q count other Phase.MessageOut f k e h = λ ec m.
-    let w = h (sym k.cause ∙ ec) (sym k.messages ∙ m) in
+stays_by l bytes others a q count other Phase.MessageOut f g e h = λ ec m.
+    let w = h (sym g.cause ∙ ec) (sym g.messages ∙ m) in
     (f w.0, w.1)
-stays_by l bytes others p q count other _ f k e h = tt
+stays_by l bytes others a q count other _ f g e h = tt
 
 -- What is said of the process that is served, with this link.
 abbrev pub TalksOf : RunState → Link → ProcId → Type 0

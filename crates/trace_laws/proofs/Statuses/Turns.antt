@@ -17,31 +17,31 @@ use Rattle.due_model.specs.array_model.specs.Steps
 -- ---- the phase that is left
 
 -- Nothing has failed the process, and it may run.
-pub record RunsWell (a : Array) (p : Process) (c : CarriedBytes) : Type 0 where
+pub record RunsWell (a : Array) (t : Process) (c : CarriedBytes) : Type 0 where
   pub failure : c.failure ≡ None
-  pub runs : RunsOpen a p
+  pub runs : RunsOpen a t
 
 next_status : (v : Serving) (attention : Bool) (l : Leaving)
     → is_status_next (if attention then phase_entry Phase.MessageOut else l).to ≡ true → attention ≡ false
 next_status v true l e = wrong' e
 next_status v false l e = refl
 
-before_status : (a : Array) (p : Process) (c : CarriedBytes) (v : Serving) (m : Next) → is_marked c ≡ false
-    → is_status_next (after_messages v m).to ≡ true → FailsBefore c m → PlacedBefore a p v.plan.messages m
-    → RunsWell a p c
-before_status a p c v Next.Command open_is to f h = wrong' to
-before_status a p c v Next.FreeBus open_is to f h = wrong' to
-before_status a p c v Next.Status open_is to f h = wrong (sym f ∙ open_is)
-before_status a p c v Next.GoOn open_is to f h = record { failure = f; runs = h }
+before_status : (a : Array) (t : Process) (c : CarriedBytes) (v : Serving) (m : Next) → is_marked c ≡ false
+    → is_status_next (after_messages v m).to ≡ true → FailsBefore c m → PlacedBefore a t v.plan.messages m
+    → RunsWell a t c
+before_status a t c v Next.Command open_is to f h = wrong' to
+before_status a t c v Next.FreeBus open_is to f h = wrong' to
+before_status a t c v Next.Status open_is to f h = wrong (sym f ∙ open_is)
+before_status a t c v Next.GoOn open_is to f h = record { failure = f; runs = h }
 
 -- STATUS follows a phase to the initiator, of a process that has no answer.
 pub runs_well :
-    (a : Array) (p : Process) (c : CarriedBytes) (v : Serving) (h : Handshakes) (attention : Bool) (b : LineSet)
+    (a : Array) (x : Process) (c : CarriedBytes) (v : Serving) (h : Handshakes) (attention : Bool) (b : LineSet)
     → b.io ≡ true → is_marked c ≡ false → is_status_next (phase_leaving v attention (phase_of b)).to ≡ true
-    → FailsIn v.plan attention c (phase_of b) → PlacedIn a p v.plan h attention (phase_of b) → RunsWell a p c
-runs_well a p c v h attention b io open_is = go b.msg b.cd b.io io
+    → FailsIn v.plan attention c (phase_of b) → PlacedIn a x v.plan h attention (phase_of b) → RunsWell a x c
+runs_well a x c v h attention b io open_is = go b.msg b.cd b.io io
   where
-    taken : IsTaken a p v.plan h attention → is_status_next (after_messages v v.plan.next).to ≡ true → RunsWell a p c
+    taken : IsTaken a x v.plan h attention → is_status_next (after_messages v v.plan.next).to ≡ true → RunsWell a x c
     taken t to = wrong' (sym (ap (λ (m : Next). is_status_next (after_messages v m).to) t.next_is) ∙ to)
 
     go : (m d i : Bool) → i ≡ true
@@ -50,13 +50,13 @@ runs_well a p c v h attention b io open_is = go b.msg b.cd b.io io
         ≡ true
         → FailsIn v.plan attention c (if m then (if i then Phase.MessageIn else Phase.MessageOut)
         else if d then (if i then Phase.Status else Phase.Command) else if i then Phase.DataIn else Phase.DataOut)
-        → PlacedIn a p v.plan h attention (if m then (if i then Phase.MessageIn else Phase.MessageOut)
+        → PlacedIn a x v.plan h attention (if m then (if i then Phase.MessageIn else Phase.MessageOut)
         else if d then (if i then Phase.Status else Phase.Command) else if i then Phase.DataIn else Phase.DataOut)
-        → RunsWell a p c
+        → RunsWell a x c
     go m d false e to f place = wrong' e
     go true d true e to f (inl place) =
         let off = next_status v attention (after_messages v v.plan.next) to in
-        before_status a p c v v.plan.next open_is (sym
+        before_status a x c v v.plan.next open_is (sym
         (ap (λ (q : Bool). is_status_next (if q then phase_entry Phase.MessageOut else after_messages v v.plan.next).to)
         off) ∙ to) (f off) place
     go true d true e to f (inr place) =

@@ -183,34 +183,34 @@ byte_row s k row e (goes_on n c g) = by g.row_is.kind
 -- ---- whose bytes they are
 
 whose_next : (s : ScenarioValue) (p : List Row) (row : Row) → WriteRow s p row
-    → ((t n : ℕ) (id : ProcId) → writer_of (writers s p) t n ≡ Some id → IsWriterOf s t n id) → (t n : ℕ) (id : ProcId)
-    → writer_of (writers s (row ∷ p)) t n ≡ Some id → IsWriterOf s t n id
-whose_next s p row w h t n id e = by_bool (row_reading k.story.bus_state row).crosses
+    → ((t m : ℕ) (id : ProcId) → writer_of (writers s p) t m ≡ Some id → IsWriterOf s t m id) → (t m : ℕ) (id : ProcId)
+    → writer_of (writers s (row ∷ p)) t m ≡ Some id → IsWriterOf s t m id
+whose_next s p row w h t m id e = by_bool (row_reading k.story.bus_state row).crosses
     (λ f. let b = byte_row s k row f w.nx.row_is in adds b (is_data_out (phase_of b.change.before)) refl
-    (process_served s k) refl (ap (λ (all : List Writer). writer_of all t n)
+    (process_served s k) refl (ap (λ (all : List Writer). writer_of all t m)
     (sym (a_byte s p row b.n b.change (is_data_out (phase_of b.change.before)) b.goes.row_is b.reading refl)) ∙ e))
-    (λ f. h t n id (ap (λ (all : List Writer). writer_of all t n) (sym (no_byte s p row f)) ∙ e))
+    (λ f. h t m id (ap (λ (all : List Writer). writer_of all t m) (sym (no_byte s p row f)) ∙ e))
   where
     k : RunState
     k = run_state s p
 
     adds : (b : ByteRow s k row) → (x : Bool) → is_data_out (phase_of b.change.before) ≡ x → (o : Option Process)
-        → process_served s k ≡ o → writer_of (if x then writers_with (writers s p) o else writers s p) t n ≡ Some id
-        → IsWriterOf s t n id
-    adds b false ex o eo f = h t n id f
-    adds b true ex None eo f = h t n id f
-    adds b true ex (Some q) eo f = at (q.target == t && q.unit == n) refl
+        → process_served s k ≡ o → writer_of (if x then writers_with (writers s p) o else writers s p) t m ≡ Some id
+        → IsWriterOf s t m id
+    adds b false ex o eo f = h t m id f
+    adds b true ex None eo f = h t m id f
+    adds b true ex (Some q) eo f = at (q.target == t && q.unit == m) refl
       where
         ar : Around s p row b.n b.change
         ar = around s p row b.n b.change w b.goes
 
-        at : (y : Bool) → (q.target == t && q.unit == n) ≡ y → IsWriterOf s t n id
-        at false g = h t n id (sym (writer_elsewhere (writers s p) q t n g) ∙ f)
+        at : (y : Bool) → (q.target == t && q.unit == m) ≡ y → IsWriterOf s t m id
+        at false g = h t m id (sym (writer_elsewhere (writers s p) q t m g) ∙ f)
         at true g =
-            let both = and_parts (q.target == t) (q.unit == n) g in
+            let both = and_parts (q.target == t) (q.unit == m) g in
             let own = served_id s k.served q eo in
             let same : q.id ≡ id = same_Some q.id id
-            (sym (λ i. if g i then Some q.id else writer_of (writers s p) t n) ∙ f) in
+            (sym (λ i. if g i then Some q.id else writer_of (writers s p) t m) ∙ f) in
             record {
               process = q;
               process_is = ap (process_of s) (sym same) ∙ own.1;
@@ -218,7 +218,7 @@ whose_next s p row w h t n id e = by_bool (row_reading k.story.bus_state row).cr
                   (b.goes.begun (ap (λ (d : RowReading). d.crosses) b.reading)) eo
                   (out_is (bus_of k) (ap (λ (l : LineSet). is_data_out (phase_of l)) b.goes.row_is.bus_is ∙ ex));
               target_is = eqb-true q.target t both.0;
-              unit_is = eqb-true q.unit n both.1;
+              unit_is = eqb-true q.unit m both.1;
             }
 
 -- ---- under RST no process stands in a unit
@@ -328,10 +328,10 @@ units_next s p row w items (inr off) = go w.nx.row_is
 
 -- ---- before the target knows the command
 
-pub known_before : (w : Hearing) (p : Plan) (i : Instructions) → (instructions_on w p i).known ≡ false → i.known ≡ false
-known_before w p i e =
+pub known_before : (w : Hearing) (l : Plan) (i : Instructions) → (instructions_on w l i).known ≡ false → i.known ≡ false
+known_before w l i e =
     by_bool i.known
-    (λ f. wrong (sym (ap (λ (x : Bool). (if x then i else instructions_with w p i).known) f ∙ f) ∙ e))
+    (λ f. wrong (sym (ap (λ (x : Bool). (if x then i else instructions_with w l i).known) f ∙ f) ∙ e))
     (λ f. f)
 
 unrun_next : (s : ScenarioValue) (p : List Row) (row : Row) → Obeys s → IsPrompt s (row ∷ p) → WriteRow s p row

@@ -23,8 +23,8 @@ size_line (Some d) (Some u) h = h.1
 
 -- ---- a run that has a byte
 
-part_none : (step n : ℕ) → (if n == 0 && nat_lt step 0 then step else 0) ≡ 0
-part_none step n = go (nat_lt step 0) refl (n == 0)
+part_none : (step m : ℕ) → (if m == 0 && nat_lt step 0 then step else 0) ≡ 0
+part_none step m = go (nat_lt step 0) refl (m == 0)
   where
     go : (q : Bool) → nat_lt step 0 ≡ q → (r : Bool) → (if r && nat_lt step 0 then step else 0) ≡ 0
     go true e r = absurd grind (arith, nat_tests, e)
@@ -34,12 +34,12 @@ part_none step n = go (nat_lt step 0) refl (n == 0)
 least_none : (a : ℕ) → min a 0 ≡ 0
 least_none a = omega arith
 
-end_none : (policy : Policy) (blocks : Option ℕ) (size n : ℕ) → (run_in policy blocks size 0 n).end ≡ 0
-end_none policy None size n = refl
-end_none Policy.Never (Some blocks) size n = refl
-end_none Policy.Command (Some blocks) size n = refl
-end_none (Policy.Burst most) (Some blocks) size n = least_none (n * (most * size) + most * size)
-end_none (Policy.NoSave most) (Some blocks) size n = part_none (most * size) n
+end_none : (policy : Policy) (blocks : Option ℕ) (size m : ℕ) → (run_in policy blocks size 0 m).end ≡ 0
+end_none policy None size m = refl
+end_none Policy.Never (Some blocks) size m = refl
+end_none Policy.Command (Some blocks) size m = refl
+end_none (Policy.Burst most) (Some blocks) size m = least_none (m * (most * size) + most * size)
+end_none (Policy.NoSave most) (Some blocks) size m = part_none (most * size) m
 
 none_left : (a b : ℕ) → a ≡ 0 → 1 ≤ a - b → ⊥
 none_left a b e h = absurd omega (arith, e, h)
@@ -55,8 +55,8 @@ moves_some policy t h = by_bool (t.moved == 0) (λ e. let none : (run_at policy 
 at_least : (a b : ℕ) → a ≡ b → nat_le b a ≡ true
 at_least a b e = grind (arith, nat_tests, e)
 
-pub some_there : (n : ℕ) → 1 ≤ n → (n == 0) ≡ false
-some_there n h = grind (arith, nat_tests, h)
+pub some_there : (m : ℕ) → 1 ≤ m → (m == 0) ≡ false
+some_there m h = grind (arith, nat_tests, h)
 
 -- ---- all of it
 

@@ -36,15 +36,15 @@ a_byte s p row n c q r d e =
     go true = refl
     go false = refl
 
-pub writer_now : (all : List Writer) (p : Process) → writer_of (writers_with all (Some p)) p.target p.unit ≡ Some p.id
-writer_now all p =
-    (λ i. if eq_self p.target i && p.unit == p.unit then Some p.id else writer_of all p.target p.unit)
-    ∙ (λ i. if eq_self p.unit i then Some p.id else writer_of all p.target p.unit)
+pub writer_now : (all : List Writer) (c : Process) → writer_of (writers_with all (Some c)) c.target c.unit ≡ Some c.id
+writer_now all c =
+    (λ i. if eq_self c.target i && c.unit == c.unit then Some c.id else writer_of all c.target c.unit)
+    ∙ (λ i. if eq_self c.unit i then Some c.id else writer_of all c.target c.unit)
 
-pub writer_elsewhere : (all : List Writer) (p : Process) (target unit : ℕ)
-    → (p.target == target && p.unit == unit) ≡ false
-    → writer_of (writers_with all (Some p)) target unit ≡ writer_of all target unit
-writer_elsewhere all p target unit e = λ i. if e i then Some p.id else writer_of all target unit
+pub writer_elsewhere : (all : List Writer) (c : Process) (target unit : ℕ)
+    → (c.target == target && c.unit == unit) ≡ false
+    → writer_of (writers_with all (Some c)) target unit ≡ writer_of all target unit
+writer_elsewhere all c target unit e = λ i. if e i then Some c.id else writer_of all target unit
 
 -- ---- the runs
 
@@ -109,20 +109,20 @@ start_apart s p seats dv = by_option (run_state s p).array
     (history_sound s (trace_history s p) a seats (sym (run_state_plain s p dv).array ∙ e)).apart)
 
 -- It has no reply, and is no guest.
-pub record RunsThere (a : Array) (p : Process) : Type 0 where
+pub record RunsThere (a : Array) (c : Process) : Type 0 where
   pub running : RunningProcess
-  pub running_is : running_in a.units p.id ≡ Some running
+  pub running_is : running_in a.units c.id ≡ Some running
   pub free : running.reply ≡ None
 
-pub runs_there : (a : Array) (p : Process) → is_unanswered (running_process a p.id) ≡ true
-    → guest_at a.guests p.id ≡ None → RunsThere a p
-runs_there a p e none = go (running_in a.units p.id) refl
-    (sym (λ i. is_unanswered (if is_some (none i) then none i else running_in a.units p.id)) ∙ e)
+pub runs_there : (a : Array) (c : Process) → is_unanswered (running_process a c.id) ≡ true
+    → guest_at a.guests c.id ≡ None → RunsThere a c
+runs_there a c e none = go (running_in a.units c.id) refl
+    (sym (λ i. is_unanswered (if is_some (none i) then none i else running_in a.units c.id)) ∙ e)
   where
     free : (r : RunningProcess) → is_none r.reply ≡ true → r.reply ≡ None
     free r z = is_nothing r.reply z
 
-    go : (o : Option RunningProcess) → running_in a.units p.id ≡ o → is_unanswered o ≡ true → RunsThere a p
+    go : (o : Option RunningProcess) → running_in a.units c.id ≡ o → is_unanswered o ≡ true → RunsThere a c
     go None f z = wrong' z
     go (Some r) f z = record { running = r; running_is = f; free = free r z }
 
@@ -135,20 +135,20 @@ stands_there s p q seats dv own is r =
 -- ---- what moves
 
 -- A byte comes of the process that runs.
-pub byte_moves : (made : List ProcessProgress) (all : List Writer) (p : Process)
-    → Moves made made all (writers_with all (Some p)) p
-byte_moves made all p = record {
+pub byte_moves : (made : List ProcessProgress) (all : List Writer) (c : Process)
+    → Moves made made all (writers_with all (Some c)) c
+byte_moves made all c = record {
   others = λ id ne. refl;
-  elsewhere = λ t n e. writer_elsewhere all p t n e;
-  own = λ some was e. writer_now all p;
-  first = λ some was. writer_now all p;
+  elsewhere = λ t n e. writer_elsewhere all c t n e;
+  own = λ some was e. writer_now all c;
+  first = λ some was. writer_now all c;
 }
 
 -- It makes a run, of which a byte came.
-pub run_moves : (made : List ProcessProgress) (all : List Writer) (p : Process) (counts : Bool)
-    → writer_of all p.target p.unit ≡ Some p.id → Moves made (progress_with made p.id true counts) all all p
-run_moves made all p counts e = record {
-  others = λ id ne. counted_runs made p.id true counts id ne;
+pub run_moves : (made : List ProcessProgress) (all : List Writer) (c : Process) (counts : Bool)
+    → writer_of all c.target c.unit ≡ Some c.id → Moves made (progress_with made c.id true counts) all all c
+run_moves made all c counts e = record {
+  others = λ id ne. counted_runs made c.id true counts id ne;
   elsewhere = λ t n f. refl;
   own = λ some was f. f;
   first = λ some was. e;

@@ -84,7 +84,7 @@ moved_all q r w some = go (r.status == GOOD) refl
   where
     by : (x : Bool) → moved_count q r ≡ length (if x then q.sent else []) → moved_count q r ≡ length q.sent
     by true e = e
-    by false e = wrong (sym (ap (λ (n : ℕ). n == 0) e) ∙ some)
+    by false e = wrong (sym (ap (λ (m : ℕ). m == 0) e) ∙ some)
 
     go : (x : Bool) → (r.status == GOOD) ≡ x → moved_count q r ≡ length q.sent
     go x e = by x (λ i. length (if w i then (if e i then q.sent else []) else r.bytes))

@@ -13,10 +13,10 @@ all_after a (part ∷ xs) ys = all_after (account_after a part) xs ys
 
 -- ---- the name of its process
 
-named_if : (q : Bool) (a b : AccountValue) (n : Name) → a.process.name ≡ n → b.process.name ≡ n
-    → (if q then a else b).process.name ≡ n
-named_if true a b n x y = x
-named_if false a b n x y = y
+named_if : (q : Bool) (a b : AccountValue) (z : Name) → a.process.name ≡ z → b.process.name ≡ z
+    → (if q then a else b).process.name ≡ z
+named_if true a b z x y = x
+named_if false a b z x y = y
 
 pub cdb_name : (a : AccountValue) (bytes : List ℕ) → (with_cdb a bytes).process.name ≡ a.process.name
 cdb_name a [] = refl
@@ -98,8 +98,8 @@ parts_behind list a (part ∷ parts) = ap (λ (x : AccountValue). account_after_
     ∙ parts_behind list (account_after a part) parts
 
 -- The account of a connection: its items stand after those before, and after the one that names it.
-pub account_is : (n : Connection) (p : Process) (parts : List Part) (list : List Item) → account_parts n p parts list
-    ≡ behind (list ++ Item.Connect n.began p.name n.reselected ∷ []) (account_after_all (account_of p []) parts)
-account_is n p parts list = (λ i. account_after_all (record (account_of p []) {
-  items = sym (append-nil (list ++ Item.Connect n.began p.name n.reselected ∷ [])) i;
-}) parts) ∙ parts_behind (list ++ Item.Connect n.began p.name n.reselected ∷ []) (account_of p []) parts
+pub account_is : (n : Connection) (c : Process) (parts : List Part) (list : List Item) → account_parts n c parts list
+    ≡ behind (list ++ Item.Connect n.began c.name n.reselected ∷ []) (account_after_all (account_of c []) parts)
+account_is n c parts list = (λ i. account_after_all (record (account_of c []) {
+  items = sym (append-nil (list ++ Item.Connect n.began c.name n.reselected ∷ [])) i;
+}) parts) ∙ parts_behind (list ++ Item.Connect n.began c.name n.reselected ∷ []) (account_of c []) parts

@@ -53,8 +53,8 @@ out_step a m = item_same a (Item.Out m)
 pub broken_step : (a : AccountValue) → IsSame a (account_after a Part.BrokenOff)
 broken_step a = self_same a a refl
 
-zero_is : (n : ℕ) → n ≡ 0 → (n == 0) ≡ true
-zero_is n e = λ i. e i == 0
+zero_is : (m : ℕ) → m ≡ 0 → (m == 0) ≡ true
+zero_is m e = λ i. e i == 0
 
 restored_step : (a : AccountValue) (c : CarriedBytes) → IsAccountOf a c
     → IsAccountOf (restored a) (with_restored_pointers c)
@@ -193,8 +193,8 @@ refused_step a c h = record {
 
 -- ---- a byte of STATUS
 
-new_bytes : (n byte : ℕ) → bytes_with [] n byte ≡ byte ∷ []
-new_bytes n byte = ap (λ (q : Bool). if q then slice_set [] n byte else byte ∷ []) (nothing_below n)
+new_bytes : (m byte : ℕ) → bytes_with [] m byte ≡ byte ∷ []
+new_bytes m byte = ap (λ (q : Bool). if q then slice_set [] m byte else byte ∷ []) (nothing_below m)
 
 set_first : (x byte : ℕ) (xs : List ℕ) → first_byte (bytes_with (x ∷ xs) 0 byte) ≡ Some byte
 set_first x byte xs = here (nat_lt 0 (length (x ∷ xs))) (grind (arith, nat_tests))
@@ -204,42 +204,42 @@ set_first x byte xs = here (nat_lt 0 (length (x ∷ xs))) (grind (arith, nat_tes
     here true f = refl
     here false f = wrong' f
 
-set_other : (x byte : ℕ) (xs : List ℕ) (n : ℕ) → (n == 0) ≡ false → first_byte (bytes_with (x ∷ xs) n byte) ≡ Some x
+set_other : (x byte : ℕ) (xs : List ℕ) (m : ℕ) → (m == 0) ≡ false → first_byte (bytes_with (x ∷ xs) m byte) ≡ Some x
 set_other x byte xs zero e = wrong e
-set_other x byte xs (suc n) e = here (nat_lt (suc n) (length (x ∷ xs)))
+set_other x byte xs (suc m) e = here (nat_lt (suc m) (length (x ∷ xs)))
   where
-    here : (q : Bool) → first_byte (if q then slice_set (x ∷ xs) (suc n) byte else (x ∷ xs) ++ byte ∷ []) ≡ Some x
+    here : (q : Bool) → first_byte (if q then slice_set (x ∷ xs) (suc m) byte else (x ∷ xs) ++ byte ∷ []) ≡ Some x
     here true = refl
     here false = refl
 
-filled : (x byte : ℕ) (xs : List ℕ) (n : ℕ) → is_nil (bytes_with (x ∷ xs) n byte) ≡ false
+filled : (x byte : ℕ) (xs : List ℕ) (m : ℕ) → is_nil (bytes_with (x ∷ xs) m byte) ≡ false
 filled x byte xs zero = here (nat_lt zero (length (x ∷ xs)))
   where
     here : (q : Bool) → is_nil (if q then slice_set (x ∷ xs) zero byte else (x ∷ xs) ++ byte ∷ []) ≡ false
     here true = refl
     here false = refl
-filled x byte xs (suc n) = here (nat_lt (suc n) (length (x ∷ xs)))
+filled x byte xs (suc m) = here (nat_lt (suc m) (length (x ∷ xs)))
   where
-    here : (q : Bool) → is_nil (if q then slice_set (x ∷ xs) (suc n) byte else (x ∷ xs) ++ byte ∷ []) ≡ false
+    here : (q : Bool) → is_nil (if q then slice_set (x ∷ xs) (suc m) byte else (x ∷ xs) ++ byte ∷ []) ≡ false
     here true = refl
     here false = refl
 
-some_bytes : (bytes : List ℕ) (n byte : ℕ) → is_nil (bytes_with bytes n byte) ≡ false
-some_bytes [] n byte = ap is_nil (new_bytes n byte)
-some_bytes (x ∷ xs) n byte = filled x byte xs n
+some_bytes : (bytes : List ℕ) (m byte : ℕ) → is_nil (bytes_with bytes m byte) ≡ false
+some_bytes [] m byte = ap is_nil (new_bytes m byte)
+some_bytes (x ∷ xs) m byte = filled x byte xs m
 
-status_by : (p : Process) (q : Bool) (active byte : ℕ) (bytes : List ℕ) → q ≡ (active == 0)
-    → p.status ≡ first_byte bytes → (is_nil bytes && not (active == 0)) ≡ false
-    → (if q then record p { status = Some byte } else p).status ≡ first_byte (bytes_with bytes active byte)
-status_by p true active byte [] e z b = ap first_byte (sym (new_bytes active byte))
-status_by p true active byte (x ∷ xs) e z b =
-    sym (ap (λ (n : ℕ). first_byte (bytes_with (x ∷ xs) n byte)) (eqb-true active 0 (sym e)) ∙ set_first x byte xs)
-status_by p false active byte [] e z b = wrong (ap (λ (r : Bool). not r) e ∙ b)
-status_by p false active byte (x ∷ xs) e z b = z ∙ sym (set_other x byte xs active (sym e))
+status_by : (c : Process) (q : Bool) (active byte : ℕ) (bytes : List ℕ) → q ≡ (active == 0)
+    → c.status ≡ first_byte bytes → (is_nil bytes && not (active == 0)) ≡ false
+    → (if q then record c { status = Some byte } else c).status ≡ first_byte (bytes_with bytes active byte)
+status_by c true active byte [] e z b = ap first_byte (sym (new_bytes active byte))
+status_by c true active byte (x ∷ xs) e z b =
+    sym (ap (λ (m : ℕ). first_byte (bytes_with (x ∷ xs) m byte)) (eqb-true active 0 (sym e)) ∙ set_first x byte xs)
+status_by c false active byte [] e z b = wrong (ap (λ (r : Bool). not r) e ∙ b)
+status_by c false active byte (x ∷ xs) e z b = z ∙ sym (set_other x byte xs active (sym e))
 
-shown_stays : (p : Process) (q : Bool) (byte : ℕ) → (if q then record p { status = Some byte } else p).shown ≡ p.shown
-shown_stays p true byte = refl
-shown_stays p false byte = refl
+shown_stays : (c : Process) (q : Bool) (byte : ℕ) → (if q then record c { status = Some byte } else c).shown ≡ c.shown
+shown_stays c true byte = refl
+shown_stays c false byte = refl
 
 -- It is the first where the status pointer is 0.
 pub status_step : (a : AccountValue) (c : CarriedBytes) (byte : ℕ) → IsAccountOf a c

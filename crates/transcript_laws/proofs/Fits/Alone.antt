@@ -22,10 +22,10 @@ record OfOne (c d : CmdDef) : Type 0 where
   host : c.host ≡ d.host
   clash : is_clash c d ≡ true
 
-of_one : (s : ScenarioValue) (n m : ℕ) (c d : CmdDef)
-    → same_nexus (nexus_of (process_by s (command_id n) c)) (nexus_of (process_by s (command_id m) d)) ≡ true
+of_one : (s : ScenarioValue) (l m : ℕ) (c d : CmdDef)
+    → same_nexus (nexus_of (process_by s (command_id l) c)) (nexus_of (process_by s (command_id m) d)) ≡ true
     → OfOne c d
-of_one s n m c d e =
+of_one s l m c d e =
     let ends = and_first (c.host == d.host && c.target == d.target)
     (c.unit == d.unit && same_number (tag_number c.tag) (tag_number d.tag)) e in
     let rest = and_second (c.host == d.host && c.target == d.target)
@@ -46,33 +46,33 @@ none_is true false f = refl
 none_is false r f = refl
 
 -- Of a command of the scenario.
-command_alone : (s : ScenarioValue) (b : Sent) (dev n : ℕ) (c : CmdDef) → IsNext s b dev (command_item n)
-    → command_at s.commands n ≡ Some c → ((m : ℕ) → is_open_sense b m ≡ true → ⊥) → (i : Item)
-    → shares_nexus s b (process_of s (command_id n)) i ≡ false
-command_alone s b dev n c next at senses i =
-    ap (λ (o : Option CmdDef). shares_nexus s b (process_if s (command_id n) o) i) at ∙ go i
+command_alone : (s : ScenarioValue) (b : Sent) (dev l : ℕ) (c : CmdDef) → IsNext s b dev (command_item l)
+    → command_at s.commands l ≡ Some c → ((m : ℕ) → is_open_sense b m ≡ true → ⊥) → (i : Item)
+    → shares_nexus s b (process_of s (command_id l)) i ≡ false
+command_alone s b dev l c next at senses i =
+    ap (λ (o : Option CmdDef). shares_nexus s b (process_if s (command_id l) o) i) at ∙ go i
   where
-    p : Process
-    p = process_by s (command_id n) c
+    y : Process
+    y = process_by s (command_id l) c
 
     by_def : (m : ℕ) (o : Option CmdDef) → command_at s.commands m ≡ o → is_open_in b (command_id m) ≡ true
-        → is_of (nexus_of p) (process_if s (command_id m) o) ≡ true → ⊥
+        → is_of (nexus_of y) (process_if s (command_id m) o) ≡ true → ⊥
     by_def m None e o f = wrong' f
     by_def m (Some d) e o f =
-        let w = of_one s n m c d f in
-        wrong (sym w.clash ∙ next_free s b dev (command_item n) next n refl c at m d e w.host o)
+        let w = of_one s l m c d f in
+        wrong (sym w.clash ∙ next_free s b dev (command_item l) next l refl c at m d e w.host o)
 
     by_sense : (id : ProcId) (q : Bool) → id.sense ≡ q → is_open_in b id ≡ true
-        → is_of (nexus_of p) (process_of s id) ≡ true → ⊥
+        → is_of (nexus_of y) (process_of s id) ≡ true → ⊥
     by_sense id true e o f =
         senses id.command (sym (λ t. is_open_in b (record { command = id.command; sense = e t })) ∙ o)
     by_sense id false e o f = by_def id.command (command_at s.commands id.command) refl
         (sym (λ t. is_open_in b (record { command = id.command; sense = e t })) ∙ o)
-        (sym (λ t. is_of (nexus_of p) (process_of s (record { command = id.command; sense = e t }))) ∙ f)
+        (sym (λ t. is_of (nexus_of y) (process_of s (record { command = id.command; sense = e t }))) ∙ f)
 
-    go : (x : Item) → shares_nexus s b (Some p) x ≡ false
+    go : (x : Item) → shares_nexus s b (Some y) x ≡ false
     go (process id) =
-        none_is (is_open_in b id) (is_of (nexus_of p) (process_of s id)) (λ o f. by_sense id id.sense refl o f)
+        none_is (is_open_in b id) (is_of (nexus_of y) (process_of s id)) (λ o f. by_sense id id.sense refl o f)
     go (abort j) = refl
 
 no_tag : (x : Option ℕ) → same_number None x ≡ true → x ≡ None
@@ -80,9 +80,9 @@ no_tag None e = refl
 no_tag (Some a) e = wrong' e
 
 -- An automatic REQUEST SENSE is untagged: it clashes with all commands of its unit.
-sense_clash : (s : ScenarioValue) (n m : ℕ) (c d : CmdDef)
-    → same_nexus (nexus_of (process_by s (sense_id n) c)) (nexus_of (process_by s (command_id m) d)) ≡ true → OfOne d c
-sense_clash s n m c d e =
+sense_clash : (s : ScenarioValue) (l m : ℕ) (c d : CmdDef)
+    → same_nexus (nexus_of (process_by s (sense_id l) c)) (nexus_of (process_by s (command_id m) d)) ≡ true → OfOne d c
+sense_clash s l m c d e =
     let ends = and_first (c.host == d.host && c.target == d.target)
     (c.unit == d.unit && same_number None (tag_number d.tag)) e in
     let rest = and_second (c.host == d.host && c.target == d.target)
@@ -99,31 +99,31 @@ sense_clash s n m c d e =
           ∙ (λ i. (eq_self d.target i && eq_self d.unit i) && true);
     }
 
-sense_alone : (s : ScenarioValue) (b : Sent) (n : ℕ) (c : CmdDef) → SensesAlone s b
-    → command_at s.commands n ≡ Some c → list_any (λ k. k == n) b.checks ≡ true → is_done b (sense_item n) ≡ false
-    → ((m : ℕ) → is_open_sense b m ≡ true → ⊥) → (i : Item) → shares_nexus s b (process_of s (sense_id n)) i ≡ false
-sense_alone s b n c apart at there due senses i =
-    ap (λ (o : Option CmdDef). shares_nexus s b (process_if s (sense_id n) o) i) at ∙ go i
+sense_alone : (s : ScenarioValue) (b : Sent) (l : ℕ) (c : CmdDef) → SensesAlone s b
+    → command_at s.commands l ≡ Some c → list_any (λ k. k == l) b.checks ≡ true → is_done b (sense_item l) ≡ false
+    → ((m : ℕ) → is_open_sense b m ≡ true → ⊥) → (i : Item) → shares_nexus s b (process_of s (sense_id l)) i ≡ false
+sense_alone s b l c apart at there due senses i =
+    ap (λ (o : Option CmdDef). shares_nexus s b (process_if s (sense_id l) o) i) at ∙ go i
   where
-    p : Process
-    p = process_by s (sense_id n) c
+    y : Process
+    y = process_by s (sense_id l) c
 
     by_def : (m : ℕ) (o : Option CmdDef) → command_at s.commands m ≡ o → is_open_in b (command_id m) ≡ true
-        → is_of (nexus_of p) (process_if s (command_id m) o) ≡ true → ⊥
+        → is_of (nexus_of y) (process_if s (command_id m) o) ≡ true → ⊥
     by_def m None e o f = wrong' f
-    by_def m (Some d) e o f = let w = sense_clash s n m c d f in apart n m c d at e (sym w.host) w.clash there due o
+    by_def m (Some d) e o f = let w = sense_clash s l m c d f in apart l m c d at e (sym w.host) w.clash there due o
 
     by_sense : (id : ProcId) (q : Bool) → id.sense ≡ q → is_open_in b id ≡ true
-        → is_of (nexus_of p) (process_of s id) ≡ true → ⊥
+        → is_of (nexus_of y) (process_of s id) ≡ true → ⊥
     by_sense id true e o f =
         senses id.command (sym (λ t. is_open_in b (record { command = id.command; sense = e t })) ∙ o)
     by_sense id false e o f = by_def id.command (command_at s.commands id.command) refl
         (sym (λ t. is_open_in b (record { command = id.command; sense = e t })) ∙ o)
-        (sym (λ t. is_of (nexus_of p) (process_of s (record { command = id.command; sense = e t }))) ∙ f)
+        (sym (λ t. is_of (nexus_of y) (process_of s (record { command = id.command; sense = e t }))) ∙ f)
 
-    go : (x : Item) → shares_nexus s b (Some p) x ≡ false
+    go : (x : Item) → shares_nexus s b (Some y) x ≡ false
     go (process id) =
-        none_is (is_open_in b id) (is_of (nexus_of p) (process_of s id)) (λ o f. by_sense id id.sense refl o f)
+        none_is (is_open_in b id) (is_of (nexus_of y) (process_of s id)) (λ o f. by_sense id id.sense refl o f)
     go (abort j) = refl
 
 item_alone : (s : ScenarioValue) (b : Story) (dev : ℕ) (item : Item) → IsNext s b.sent dev item

@@ -79,16 +79,16 @@ takes_none s p row n g l dev el er no_out = go l.item refl
     k : RunState
     k = run_state s p
 
-    served : (j : ℕ) → k.served ≡ Some (abort j) → IsServed s k n → is_no_abort (Some (abort j)) ≡ true
-    served j e (of_process id pr f x) = not_both id j (sym f ∙ e)
-    served j e (of_abort m a f x y z none phase) = wrong (sym (ap is_message_out (sym g.going.goes.row_is.bus_is)
+    served : (i : ℕ) → k.served ≡ Some (abort i) → IsServed s k n → is_no_abort (Some (abort i)) ≡ true
+    served i e (of_process id pr f x) = not_both id i (sym f ∙ e)
+    served i e (of_abort m a f x y z none phase) = wrong (sym (ap is_message_out (sym g.going.goes.row_is.bus_is)
         ∙ out_lines (bus_of k) (phase (begun_crossing s p row n g dev er)).0 (λ m. (g.going.goes.phase m).0)) ∙ no_out)
 
     go : (x : Option Item) → l.item ≡ x → is_no_abort x ≡ true
     go None e = refl
     go (Some (process id)) e = refl
-    go (Some (abort j)) e =
-        served j (item_served s k n l (abort j) (knows_before s p row n g) el e) (g.was.facts.served n g.stands g.calm)
+    go (Some (abort i)) e =
+        served i (item_served s k n l (abort i) (knows_before s p row n g) el e) (g.was.facts.served n g.stands g.calm)
 
 -- ---- MESSAGE IN
 

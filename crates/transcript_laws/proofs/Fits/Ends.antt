@@ -73,14 +73,14 @@ record Ending (s : ScenarioValue) (p : List Row) (row : Row) (n : Connection) (o
       (bus_of (run_state s p)).atn (phase_of (bus_of (run_state s p))))
       ≡ false
 
-ending : (s : ScenarioValue) (p : List Row) (row : Row) (n : Connection) (k : OpenedValue) (l : Link) → Obeys s
+ending : (s : ScenarioValue) (p : List Row) (row : Row) (n : Connection) (v : OpenedValue) (l : Link) → Obeys s
     → IsPrompt s (row ∷ p) → connection p ≡ Some n → (bus p).rst ≡ false → (bus (row ∷ p)).rst ≡ false
-    → connection (row ∷ p) ≡ None → (transcribed p).opened ≡ Some k → (run_state s p).story.link ≡ Some l
-    → Ending s p row n k l
-ending s p row n k l o prompt con calm off after there el = by r.facts
+    → connection (row ∷ p) ≡ None → (transcribed p).opened ≡ Some v → (run_state s p).story.link ≡ Some l
+    → Ending s p row n v l
+ending s p row n v l o prompt con calm off after there el = by r.facts
   where
-    st : Standing s p n k
-    st = standing s p n k o prompt.0 con calm there
+    st : Standing s p n v
+    st = standing s p n v o prompt.0 con calm there
 
     was : Whole s p
     was = st.was
@@ -100,7 +100,7 @@ ending s p row n k l o prompt con calm off after there el = by r.facts
     next : (row_reading j.story.bus_state row).next ≡ None
     next = (λ i. connection_after (pl.connection i) (pl.call i) (change i) row) ∙ after
 
-    by : RowFacts s p row n → Ending s p row n k l
+    by : RowFacts s p row n → Ending s p row n v l
     by (stays g) = none_some n (sym next ∙ ap (λ (d : RowReading). d.next)
         (reading_is j row n g.change (is_some (receiver_in n g.change)) g.row_is refl))
     by (ends_here g) =
@@ -113,7 +113,7 @@ ending s p row n k l o prompt con calm off after there el = by r.facts
           there = there;
           link_is = el;
           here = st;
-          all = always s (EndsAll s) o (ends_hold s) p prompt.0 n con calm k there;
+          all = always s (EndsAll s) o (ends_hold s) p prompt.0 n con calm v there;
           stops = g;
           tells = left_tells s p row o prompt was.stood was.facts (fails_as_left s p row o prompt was.stood
               (sent_asks s p row o prompt was.stood was.facts was.sent) was.fails) n
@@ -492,19 +492,19 @@ process_ends s p row n o l id h e =
 
 -- ---- any of them
 
-pub ends_fit : (s : ScenarioValue) (p : List Row) (row : Row) (n : Connection) (k : OpenedValue) (l : Link)
+pub ends_fit : (s : ScenarioValue) (p : List Row) (row : Row) (n : Connection) (v : OpenedValue) (l : Link)
     → Obeys s → IsPrompt s (row ∷ p) → connection p ≡ Some n → (bus p).rst ≡ false → (bus (row ∷ p)).rst ≡ false
-    → connection (row ∷ p) ≡ None → (transcribed p).opened ≡ Some k → (run_state s p).story.link ≡ Some l → fits_end s
-    (run_state s p).story k l (closing_parts k (row_reading (run_state s p).story.bus_state row).change.before
+    → connection (row ∷ p) ≡ None → (transcribed p).opened ≡ Some v → (run_state s p).story.link ≡ Some l → fits_end s
+    (run_state s p).story v l (closing_parts v (row_reading (run_state s p).story.bus_state row).change.before
     (run_state s p).story.bus_state.dialogue.half) l.item ≡ true
-ends_fit s p row n k l o prompt con calm off after there el =
-    (λ i. fits_end s j.story k l (closing_parts k (before i) j.story.bus_state.dialogue.half) l.item) ∙ go l.item refl
+ends_fit s p row n v l o prompt con calm off after there el =
+    (λ i. fits_end s j.story v l (closing_parts v (before i) j.story.bus_state.dialogue.half) l.item) ∙ go l.item refl
   where
     j : RunState
     j = run_state s p
 
-    h : Ending s p row n k l
-    h = ending s p row n k l o prompt con calm off after there el
+    h : Ending s p row n v l
+    h = ending s p row n v l o prompt con calm off after there el
 
     pl : IsPlain s p j
     pl = h.here.was.stood.plain
@@ -515,9 +515,9 @@ ends_fit s p row n k l o prompt con calm off after there el =
         ∙ sym pl.bus
 
     go : (x : Option Item) → l.item ≡ x
-        → fits_end s j.story k l (closing_parts k (bus_of j) j.story.bus_state.dialogue.half) x ≡ true
+        → fits_end s j.story v l (closing_parts v (bus_of j) j.story.bus_state.dialogue.half) x ≡ true
     go None e = wrong (sym
         (never_ends (serving_of s j n.target) (bus_of j).atn (phase_of (bus_of j)) (h.tells.naming (ap item_of el ∙ e)))
         ∙ h.left)
-    go (Some (process id)) e = process_ends s p row n k l id h e
-    go (Some (abort m)) e = abort_ends s p row n k l m h e
+    go (Some (process id)) e = process_ends s p row n v l id h e
+    go (Some (abort m)) e = abort_ends s p row n v l m h e

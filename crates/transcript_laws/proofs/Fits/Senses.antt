@@ -17,11 +17,11 @@ use Rattle.due_model.specs.bus_trace.specs.declared.Row.{Row}
 use Rattle.progress_laws.specs.book_laws.specs.Traces.{apart, ends, goes_on, under_reset}
 
 abbrev is_checked : Sent → ℕ → Bool
-is_checked b n = list_any (λ k. k == n) b.checks
+is_checked b m = list_any (λ k. k == m) b.checks
 
 abbrev pub SensesAlone : ScenarioValue → Sent → Type 0
-SensesAlone s b = (n m : ℕ) (c d : CmdDef) → command_at s.commands n ≡ Some c → command_at s.commands m ≡ Some d
-    → c.host ≡ d.host → is_clash d c ≡ true → list_any (λ k. k == n) b.checks ≡ true → is_done b (sense_item n) ≡ false
+SensesAlone s b = (i m : ℕ) (c d : CmdDef) → command_at s.commands i ≡ Some c → command_at s.commands m ≡ Some d
+    → c.host ≡ d.host → is_clash d c ≡ true → list_any (λ k. k == i) b.checks ≡ true → is_done b (sense_item i) ≡ false
     → is_open b m ≡ true → ⊥
 
 -- ---- of what is sent and over
@@ -29,7 +29,7 @@ SensesAlone s b = (n m : ℕ) (c d : CmdDef) → command_at s.commands n ≡ Som
 -- What is over stays so; and a command that ended with CHECK CONDITION did so before, or was open.
 record Onward (a b : Sent) : Type 0 where
   over : (i : Item) → has_item a.over i ≡ true → has_item b.over i ≡ true
-  checks : (n : ℕ) → is_checked b n ≡ true → (is_checked a n ≡ true) ⊎ (is_open a n ≡ true)
+  checks : (m : ℕ) → is_checked b m ≡ true → (is_checked a m ≡ true) ⊎ (is_open a m ≡ true)
   checked : AreChecked b
 
 not_over : (a b : Sent) (i : Item) → Onward a b → has_item b.over i ≡ false → has_item a.over i ≡ false
@@ -44,16 +44,16 @@ still_open a b sent m h e o =
     && not_grown (has_item a.over (command_item m)) (has_item b.over (command_item m)) (h.over (command_item m)) opens i
 
 -- What is checked is over.
-not_both : (b : Sent) (n : ℕ) → has_item b.over (command_item n) ≡ true → is_open b n ≡ true → ⊥
-not_both b n e o =
-    wrong' (sym (ap not e) ∙ and_second (has_item b.sent (command_item n)) (not (has_item b.over (command_item n))) o)
+not_both : (b : Sent) (m : ℕ) → has_item b.over (command_item m) ≡ true → is_open b m ≡ true → ⊥
+not_both b m e o =
+    wrong' (sym (ap not e) ∙ and_second (has_item b.sent (command_item m)) (not (has_item b.over (command_item m))) o)
 
 -- Both were open.
-both_open : (s : ScenarioValue) (a b : Sent) (n m : ℕ) (c d : CmdDef) → NoClash s a → Onward a b
-    → command_at s.commands n ≡ Some c → command_at s.commands m ≡ Some d → c.host ≡ d.host → is_clash d c ≡ true
-    → is_checked b n ≡ true → is_open a n ≡ true → is_open a m ≡ true → is_open b m ≡ true → ⊥
-both_open s a b n m c d clashes h at ad own clash ch on om o = not_both b m
-    (ap (λ (x : ℕ). has_item b.over (command_item x)) (clashes m n d c ad at (sym own) om on clash) ∙ h.checked n ch) o
+both_open : (s : ScenarioValue) (a b : Sent) (i m : ℕ) (c d : CmdDef) → NoClash s a → Onward a b
+    → command_at s.commands i ≡ Some c → command_at s.commands m ≡ Some d → c.host ≡ d.host → is_clash d c ≡ true
+    → is_checked b i ≡ true → is_open a i ≡ true → is_open a m ≡ true → is_open b m ≡ true → ⊥
+both_open s a b i m c d clashes h at ad own clash ch on om o = not_both b m
+    (ap (λ (x : ℕ). has_item b.over (command_item x)) (clashes m i d c ad at (sym own) om on clash) ∙ h.checked i ch) o
 
 -- Nothing is sent with the row.
 same_alone : (s : ScenarioValue) (a b : Sent) → NoClash s a → Onward a b → b.sent ≡ a.sent → SensesAlone s a
@@ -70,18 +70,18 @@ same_alone s a b clashes h e was n m c d at ad own clash ch due o =
 
 -- As an initiator sends a command it has no REQUEST SENSE to send.
 sent_none : (s : ScenarioValue) (a : Sent) (dev : ℕ) (item : Item) → IsNext s a dev item
-    → (m : ℕ) → item ≡ command_item m → (d : CmdDef) → command_at s.commands m ≡ Some d → (n : ℕ) (c : CmdDef)
-    → command_at s.commands n ≡ Some c → c.host ≡ d.host → is_checked a n ≡ true → is_done a (sense_item n) ≡ false → ⊥
-sent_none s a dev _ (is_abort k z) m e d ad n c at own ch due = no_process e
+    → (m : ℕ) → item ≡ command_item m → (d : CmdDef) → command_at s.commands m ≡ Some d → (i : ℕ) (c : CmdDef)
+    → command_at s.commands i ≡ Some c → c.host ≡ d.host → is_checked a i ≡ true → is_done a (sense_item i) ≡ false → ⊥
+sent_none s a dev _ (is_abort k z) m e d ad i c at own ch due = no_process e
   where
     no_process : abort k ≡ command_item m → ⊥
     no_process f = absurd cc
-sent_none s a dev _ (is_sense k x ex host there z) m e d ad n c at own ch due =
+sent_none s a dev _ (is_sense k x ex host there z) m e d ad i c at own ch due =
     wrong (ap (λ (w : ProcId). w.sense) (same_process _ _ e))
-sent_none s a dev _ (is_command k time x ex host z may none) m e d ad n c at own ch due =
+sent_none s a dev _ (is_command k time x ex host z may none) m e d ad i c at own ch due =
     let it : x ≡ d = same_Some x d
     (sym ex ∙ ap (command_at s.commands) (ap (λ (w : ProcId). w.command) (same_process _ _ e)) ∙ ad) in
-    sense_left s a n c a.checks at due ch
+    sense_left s a i c a.checks at due ch
     (ap (λ (y : ℕ). sense_from s a y a.checks) (own ∙ ap (λ (y : CmdDef). y.host) (sym it) ∙ host) ∙ none)
 
 -- One item is.
@@ -125,20 +125,20 @@ events_checks s b (Event.Reset dev ∷ shown) none =
     ends_checks (λ c. true) (λ c. true) by_reset 1 s.commands (story_after_events s b shown)
     ∙ events_checks s b shown none
 
-end_checks : (s : ScenarioValue) (b : Story) (id : ProcId) (status n : ℕ)
-    → is_checked (story_after_event s b (Event.End id status)).sent n ≡ true
-    → (is_checked b.sent n ≡ true) ⊎ (process id ≡ command_item n)
-end_checks s b id status n e = go id.sense refl (status == CHECK_CONDITION) e
+end_checks : (s : ScenarioValue) (b : Story) (id : ProcId) (status m : ℕ)
+    → is_checked (story_after_event s b (Event.End id status)).sent m ≡ true
+    → (is_checked b.sent m ≡ true) ⊎ (process id ≡ command_item m)
+end_checks s b id status m e = go id.sense refl (status == CHECK_CONDITION) e
   where
     ended : Story
     ended = story_with_end b id (by_status status)
 
     go : (q : Bool) → id.sense ≡ q → (r : Bool) → is_checked
         (if not q && r then record ended { sent = record ended.sent { checks = ended.sent.checks ++ id.command ∷ [] } }
-        else ended).sent n ≡ true → (is_checked b.sent n ≡ true) ⊎ (process id ≡ command_item n)
+        else ended).sent m ≡ true → (is_checked b.sent m ≡ true) ⊎ (process id ≡ command_item m)
     go true z r f = inl f
     go false z false f = inl f
-    go false z true f = elim (in_append n id.command b.sent.checks f) [
+    go false z true f = elim (in_append m id.command b.sent.checks f) [
       | inl x ↦ inl x
       | inr x ↦ inr (λ i. process (record { command = x i; sense = z i }))
     ]
@@ -170,7 +170,7 @@ row_onward : (s : ScenarioValue) (p : List Row) (row : Row) → row.dev < 8
     → Onward (run_state s p).story.sent (run_state s (row ∷ p)).story.sent
 row_onward s p row lt w st checked = record {
   over = λ i z. (events_grow s b shown).over i (change_over s k.story d row i z);
-  checks = λ n e. by_row n e st.row_is;
+  checks = λ l e. by_row l e st.row_is;
   checked = checked;
 }
   where
@@ -189,44 +189,44 @@ row_onward s p row lt w st checked = record {
     same : b.sent.checks ≡ k.story.sent.checks
     same = (changed s k.story d row).checks
 
-    quiet : (n : ℕ) → is_checked (story_after_events s b shown).sent n ≡ true → NoEnds shown
-        → (is_checked k.story.sent n ≡ true) ⊎ (is_open k.story.sent n ≡ true)
-    quiet n e none = inl (ap (λ (x : List ℕ). list_any (λ m. m == n) x) (sym (events_checks s b shown none ∙ same)) ∙ e)
+    quiet : (l : ℕ) → is_checked (story_after_events s b shown).sent l ≡ true → NoEnds shown
+        → (is_checked k.story.sent l ≡ true) ⊎ (is_open k.story.sent l ≡ true)
+    quiet l e none = inl (ap (λ (x : List ℕ). list_any (λ m. m == l) x) (sym (events_checks s b shown none ∙ same)) ∙ e)
 
-    ended : (n : ℕ) (m : Connection) → is_checked (story_after_events s b shown).sent n ≡ true
+    ended : (l : ℕ) (m : Connection) → is_checked (story_after_events s b shown).sent l ≡ true
         → k.story.bus_state.connection ≡ Some m → (bus_of k).rst ≡ false
         → d.change.after.rst ≡ false → (knows : Knows s k m) → Shown k.story knows.link d shown
-        → (is_checked k.story.sent n ≡ true) ⊎ (is_open k.story.sent n ≡ true)
-    ended n m e con calm off knows (no_ends none) = quiet n e none
-    ended n m e con calm off knows (completes c carried done is) =
+        → (is_checked k.story.sent l ≡ true) ⊎ (is_open k.story.sent l ≡ true)
+    ended l m e con calm off knows (no_ends none) = quiet l e none
+    ended l m e con calm off knows (completes c carried done is) =
         let item : knows.link.item ≡ Some (process c.id) = carried_of_item k.story knows.link.item c carried in
         let served : k.served ≡ Some (process c.id) = known_served s k m
         (process c.id) knows (ap (λ (o : Option Link). item_of o) knows.link_is ∙ item) in
         let opens : has_item k.story.sent.over (process c.id) ≡ false = ends_open
         s p row m c.id lt w st con calm off knows done served in
-        elim (end_checks s b c.id (slice_index c.status.bytes 0) n
-        (ap (λ (x : List Event). is_checked (story_after_events s b x).sent n) (sym is) ∙ e)) [
-          | inl old ↦ inl (ap (λ (x : List ℕ). list_any (λ y. y == n) x) (sym same) ∙ old)
+        elim (end_checks s b c.id (slice_index c.status.bytes 0) l
+        (ap (λ (x : List Event). is_checked (story_after_events s b x).sent l) (sym is) ∙ e)) [
+          | inl old ↦ inl (ap (λ (x : List ℕ). list_any (λ y. y == l) x) (sym same) ∙ old)
           | inr own ↦
               inr (λ i. (ap (has_item k.story.sent.sent) (sym own) ∙ w.facts.items.items.served (process c.id) served) i
               && not ((ap (has_item k.story.sent.over) (sym own) ∙ opens) i))
         ]
 
-    linked : (n : ℕ) (m : Connection) → is_checked (story_after_events s b shown).sent n ≡ true
+    linked : (l : ℕ) (m : Connection) → is_checked (story_after_events s b shown).sent l ≡ true
         → k.story.bus_state.connection ≡ Some m → (bus_of k).rst ≡ false → (q : Bool) → d.change.after.rst ≡ q
-        → (is_checked k.story.sent n ≡ true) ⊎ (is_open k.story.sent n ≡ true)
-    linked n m e con calm true on = quiet n e (reset_ends s k.story d row on)
-    linked n m e con calm false off =
+        → (is_checked k.story.sent l ≡ true) ⊎ (is_open k.story.sent l ≡ true)
+    linked l m e con calm true on = quiet l e (reset_ends s k.story d row on)
+    linked l m e con calm false off =
         let knows : Knows s k m = w.stood.books.knows m con calm in
-        ended n m e con calm off knows (row_shown s k.story d row knows.link knows.link_is)
+        ended l m e con calm off knows (row_shown s k.story d row knows.link knows.link_is)
 
-    by_row : (n : ℕ) → is_checked (story_after_events s b shown).sent n ≡ true → RowOf s k row
-        → (is_checked k.story.sent n ≡ true) ⊎ (is_open k.story.sent n ≡ true)
-    by_row n e (apart z f) = quiet n e (quiet_ends s k.story d row (w.facts.items.items.apart z).0)
-    by_row n e (begins m g) = quiet n e (quiet_ends s k.story d row (w.facts.items.items.apart g.first.connection_is).0)
-    by_row n e (goes_on m c g) = linked n m e g.row_is.connection_is g.calm d.change.after.rst refl
-    by_row n e (ends m g) = linked n m e g.connection_is g.calm d.change.after.rst refl
-    by_row n e (under_reset on z) = quiet n e (reset_ends s k.story d row on)
+    by_row : (l : ℕ) → is_checked (story_after_events s b shown).sent l ≡ true → RowOf s k row
+        → (is_checked k.story.sent l ≡ true) ⊎ (is_open k.story.sent l ≡ true)
+    by_row l e (apart z f) = quiet l e (quiet_ends s k.story d row (w.facts.items.items.apart z).0)
+    by_row l e (begins m g) = quiet l e (quiet_ends s k.story d row (w.facts.items.items.apart g.first.connection_is).0)
+    by_row l e (goes_on m c g) = linked l m e g.row_is.connection_is g.calm d.change.after.rst refl
+    by_row l e (ends m g) = linked l m e g.connection_is g.calm d.change.after.rst refl
+    by_row l e (under_reset on z) = quiet l e (reset_ends s k.story d row on)
 
 -- ---- after any rows
 

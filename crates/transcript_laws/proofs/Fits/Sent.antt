@@ -31,8 +31,8 @@ begun_sent b d n alone next = go n.reselected refl (aim_of b.aims n.initiator) r
     go false r (Some item) e = one_more n item alone next r e
         (restored_sent (story_with_sent (record b { link = Some (link_of n (Some item)) }) (Some item)) (Some item))
 
-bus_sent : (s : ScenarioValue) (b : Story) (m n : Option Connection) (d : RowReading) (row : Row)
-    → b.bus_state.connection ≡ m → d.next ≡ n → SentAfter b d (story_on_bus s b m n d row).sent.sent
+bus_sent : (s : ScenarioValue) (b : Story) (m o : Option Connection) (d : RowReading) (row : Row)
+    → b.bus_state.connection ≡ m → d.next ≡ o → SentAfter b d (story_on_bus s b m o d row).sent.sent
 bus_sent s b None None d row em en = as_before (free_keeps s b d row).2
 bus_sent s b None (Some n) d row em en = begun_sent b d n em en
 bus_sent s b (Some m) None d row em en = as_before refl
@@ -88,12 +88,12 @@ pub none_any : (t : Item → Bool) (items : List Item) → ((i : Item) → has_i
 none_any t [] h = refl
 none_any t (i ∷ items) h = λ j. h i (own_has i items) j || none_any t items (λ x e. h x (more_has i x items e)) j
 
-command_ended : (s : ScenarioValue) (b : Story) (n : ℕ)
-    → is_some (process_of s (record { command = n; sense = false })) ≡ true
-    → has_item b.sent.sent (process (record { command = n; sense = false })) ≡ true
-    → has_item (story_after_event s b (Event.Reset 0)).sent.over (process (record { command = n; sense = false }))
+command_ended : (s : ScenarioValue) (b : Story) (l : ℕ)
+    → is_some (process_of s (record { command = l; sense = false })) ≡ true
+    → has_item b.sent.sent (process (record { command = l; sense = false })) ≡ true
+    → has_item (story_after_event s b (Event.Reset 0)).sent.over (process (record { command = l; sense = false }))
     ≡ true
-command_ended s b n known sent = go n (command_at s.commands n) refl known sent
+command_ended s b l known sent = go l (command_at s.commands l) refl known sent
   where
     first : (x : ℕ) → suc x ≡ 1 + x
     first x = omega arith
@@ -108,7 +108,7 @@ command_ended s b n known sent = go n (command_at s.commands n) refl known sent
     go (suc i) (Some c) e f g = reset_over s.commands 1 i (suc i) c b (first i) e g
 
 pub reset_ends : (s : ScenarioValue) (b : Story) → AreChecked b.sent
-    → ((n : ℕ) → has_item b.sent.sent (sense_item n) ≡ true → IsChecked s b.sent n)
+    → ((m : ℕ) → has_item b.sent.sent (sense_item m) ≡ true → IsChecked s b.sent m)
     → ((id : ProcId) → has_item b.sent.sent (process id) ≡ true → is_some (process_of s id) ≡ true)
     → ends_all s b ≡ true
 reset_ends s b checked checks known = ap not (none_any (λ item. is_open_process after item) after.sent closed)

@@ -16,8 +16,8 @@ use Rattle.progress_laws.specs.row_laws.specs.Tells.{of_process, of_abort}
 
 -- ---- items
 
-pub not_both : {A : Type 0} (id : ProcId) (j : ℕ) → (let o : Option Item = Some (process id) in o) ≡ Some (abort j) → A
-not_both id j e = absurd cc
+pub not_both : {A : Type 0} (id : ProcId) (m : ℕ) → (let o : Option Item = Some (process id) in o) ≡ Some (abort m) → A
+not_both id m e = absurd cc
 
 -- The item that the initiator knows is the one that is served.
 pub item_served : (s : ScenarioValue) (k : RunState) (n : Connection) (l : Link) (i : Item) → Knows s k n
@@ -66,9 +66,9 @@ pub record AbortStands (s : ScenarioValue) (p : List Row) (n : Connection) (o : 
   pub bytes : o.bytes ≡ []
 
 abort_stands :
-    (s : ScenarioValue) (p : List Row) (row : Row) (n : Connection) (g : Going s p row n) (o : OpenedValue) (j : ℕ)
-    → OpenedBytes (run_state s p) n o → (run_state s p).served ≡ Some (abort j) → AbortStands s p n o
-abort_stands s p row n g o j h served = go (g.was.facts.served n g.stands g.calm)
+    (s : ScenarioValue) (p : List Row) (row : Row) (n : Connection) (g : Going s p row n) (o : OpenedValue) (i : ℕ)
+    → OpenedBytes (run_state s p) n o → (run_state s p).served ≡ Some (abort i) → AbortStands s p n o
+abort_stands s p row n g o i h served = go (g.was.facts.served n g.stands g.calm)
   where
     k : RunState
     k = run_state s p
@@ -77,7 +77,7 @@ abort_stands s p row n g o j h served = go (g.was.facts.served n g.stands g.calm
     pl = plain_before s p row n g
 
     go : IsServed s k n → AbortStands s p n o
-    go (of_process id pr e f) = not_both id j (sym e ∙ served)
+    go (of_process id pr e f) = not_both id i (sym e ∙ served)
     go (of_abort m a e f x y re phase) = by_bool k.exchange.begun (λ b. let lines = out_only (bus_of k) (phase b).0 in
         record { selected = re; command = lines.command; bytes = h.bytes lines.moves }) (λ b. record {
           selected = re;
@@ -97,26 +97,26 @@ talk_leaves s p row n g o l h el ep = go l.item refl
     c : Change
     c = g.going.change
 
-    after : (j : ℕ) → k.served ≡ Some (abort j) → is_status_phase c.after ≡ false
-    after j served = by (g.now.facts.served n g.after g.calm_after)
+    after : (w : ℕ) → k.served ≡ Some (abort w) → is_status_phase c.after ≡ false
+    after w served = by (g.now.facts.served n g.after g.calm_after)
       where
         i : InConnection s k row n c true (is_some (receiver_in n c)) (is_fault row.kind)
         i = in_connection s k row n c true (is_some (receiver_in n c))
             (is_fault row.kind) g.going.goes.row_is ep refl refl
 
         by : IsServed s (run_state s (row ∷ p)) n → is_status_phase c.after ≡ false
-        by (of_process id pr e f) = not_both id j (sym e ∙ i.served_is ∙ served)
+        by (of_process id pr e f) = not_both id w (sym e ∙ i.served_is ∙ served)
         by (of_abort m a e f x y re phase) = ap is_status_phase (sym i.bus_is)
             ∙ (out_only (bus_of (run_state s (row ∷ p))) (phase (begun_turned s p row n g ep)).0).status
 
     go : (x : Option Item) → l.item ≡ x → leaves_talk o c x ≡ true
     go None e = refl
     go (Some (process id)) e = refl
-    go (Some (abort j)) e =
-        let served = item_served s k n l (abort j) (knows_before s p row n g) el e in
-        let st = abort_stands s p row n g o j h served in
+    go (Some (abort w)) e =
+        let served = item_served s k n l (abort w) (knows_before s p row n g) el e in
+        let st = abort_stands s p row n g o w h served in
         let command : is_command c.before ≡ false = ap is_command (sym g.going.goes.row_is.bus_is) ∙ st.command in
-        λ i. not (command i) && not (after j served i) && is_nil (st.bytes i)
+        λ i. not (command i) && not (after w served i) && is_nil (st.bytes i)
 
 -- ---- a command that arrives
 
@@ -168,16 +168,16 @@ open_by : (s : ScenarioValue) (k : RunState) (n : Connection) (l : Link) → Kno
     → is_open_item k.story l.item ≡ true
 open_by s k n l w el served re sent open_is = go l.item refl
   where
-    abortive : (j : ℕ) → k.served ≡ Some (abort j) → IsServed s k n → is_open_item k.story (Some (abort j)) ≡ true
-    abortive j e (of_process id pr f x) = not_both id j (sym f ∙ e)
-    abortive j e (of_abort m a f x y z none phase) = wrong (sym re ∙ none)
+    abortive : (u : ℕ) → k.served ≡ Some (abort u) → IsServed s k n → is_open_item k.story (Some (abort u)) ≡ true
+    abortive u e (of_process id pr f x) = not_both id u (sym f ∙ e)
+    abortive u e (of_abort m a f x y z none phase) = wrong (sym re ∙ none)
 
     go : (x : Option Item) → l.item ≡ x → is_some x ≡ true → is_open_item k.story x ≡ true
     go None e z = wrong' z
     go (Some (process id)) e z =
         let is = item_served s k n l (process id) w el e in
         λ i. sent (process id) is i && not (open_is (process id) is i)
-    go (Some (abort j)) e z = abortive j (item_served s k n l (abort j) w el e) served
+    go (Some (abort u)) e z = abortive u (item_served s k n l (abort u) w el e) served
 
 -- Outside the message phases a process that was reselected is known.
 pub named_known : (s : ScenarioValue) (k : RunState) (n : Connection) (l : Link) → Named s k n → k.story.link ≡ Some l

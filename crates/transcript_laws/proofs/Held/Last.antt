@@ -93,9 +93,9 @@ gone_held : (o : OpenedValue) (said : List MsgOut)
 gone_held o [] e = absurd (e refl)
 gone_held o (m ∷ said) e = none_held _ said refl
 
-pub over_held : (o : OpenedValue) (s : LineSet) (half : List ℕ)
-    → (phase_over o s half true).held ≡ (if is_message_in s && not (is_nil half) then Some Broken else (spoken o).held)
-over_held o s half = go (is_message_in s && not (is_nil half))
+pub over_held : (o : OpenedValue) (l : LineSet) (half : List ℕ)
+    → (phase_over o l half true).held ≡ (if is_message_in l && not (is_nil half) then Some Broken else (spoken o).held)
+over_held o l half = go (is_message_in l && not (is_nil half))
   where
     go : (q : Bool)
         → (if q then with_in (spoken o) Broken else spoken o).held ≡ (if q then Some Broken else (spoken o).held)

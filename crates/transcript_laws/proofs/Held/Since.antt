@@ -132,20 +132,20 @@ known_process s p row n g o l bytes named el begun here kn = go l.item refl (som
             ∙ served_some (g.was.facts.served n g.stands g.calm)
         by (inr z) = wrong (sym z.0 ∙ sel)
 
-    no_abort : (j : ℕ) → k.served ≡ Some (abort j) → IsServed s k n
-        → is_some (carried_if k.story (Some (abort j))) ≡ true
-    no_abort j e (of_process id pr f x) = not_abort id j (sym f ∙ e)
+    no_abort : (i : ℕ) → k.served ≡ Some (abort i) → IsServed s k n
+        → is_some (carried_if k.story (Some (abort i))) ≡ true
+    no_abort i e (of_process id pr f x) = not_abort id i (sym f ∙ e)
       where
-        not_abort : {A : Type 0} (id : ProcId) (j : ℕ) → (let a : Option Item = Some (process id) in a) ≡ Some (abort j)
+        not_abort : {A : Type 0} (id : ProcId) (i : ℕ) → (let a : Option Item = Some (process id) in a) ≡ Some (abort i)
             → A
-        not_abort id j z = absurd cc
-    no_abort j e (of_abort m a f x y z re phase) =
+        not_abort id i z = absurd cc
+    no_abort i e (of_abort m a f x y z re phase) =
         not_both (bus_of k) here (out_lines (bus_of k) (phase begun).0 (λ q. (g.going.goes.phase q).0))
 
     go : (x : Option Item) → l.item ≡ x → is_some l.item ≡ true → is_some (carried_if k.story x) ≡ true
     go None e z = wrong' (sym (ap (λ y. is_some y) e) ∙ z)
     go (Some (process id)) e z = refl
-    go (Some (abort j)) e z = no_abort j (item_served s k n l (abort j) w el e) (g.was.facts.served n g.stands g.calm)
+    go (Some (abort i)) e z = no_abort i (item_served s k n l (abort i) w el e) (g.was.facts.served n g.stands g.calm)
 
 -- ---- row by row
 

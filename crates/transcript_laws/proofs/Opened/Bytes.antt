@@ -43,8 +43,8 @@ moves_same a b h = λ i. (not (h.msg i) && h.cd i && not (h.io i)) || (not (h.ms
 
 -- ---- a byte crosses
 
-pub turned : (m : OpenedValue) (s : LineSet) → KeepsTalk m (phase_entered m s)
-turned m s = go (is_status_phase s)
+pub turned : (m : OpenedValue) (l : LineSet) → KeepsTalk m (phase_entered m l)
+turned m l = go (is_status_phase l)
   where
     go : (q : Bool) → KeepsTalk m (if q then with_part m StatusPhase else m)
     go true = record { connection = refl; said = refl; bytes = refl; parts = refl; held = refl }

@@ -56,7 +56,7 @@ held_departure : (again : Bool) (parts since : List Part) (m : MsgIn) → are_si
     → (summary_of again no_summary (parts ++ (Part.In m ∷ since))).departure
     ≡ (summary_in again (summary_of again no_summary parts) m).departure
 held_departure again parts since m e =
-    ap (λ (s : Summary). s.departure) (summary_more again parts (Part.In m ∷ since) no_summary)
+    ap (λ (u : Summary). u.departure) (summary_more again parts (Part.In m ∷ since) no_summary)
     ∙ silent_departure again since (summary_in again (summary_of again no_summary parts) m) e
 
 -- COMMAND COMPLETE and DISCONNECT, where no message came after it.
@@ -94,7 +94,7 @@ pub loss_departure : (n : Connection) (parts : List Part) (said : List MsgOut) �
     → (said ≡ [] → ⊥) → (summary_by n (parts ++ out_parts said)).departure ≡ Loss
 loss_departure n parts [] e some = absurd (some refl)
 loss_departure n parts (m ∷ said) e some =
-    ap (λ (s : Summary). s.departure) (summary_more n.reselected parts (out_parts (m ∷ said)) no_summary)
+    ap (λ (u : Summary). u.departure) (summary_more n.reselected parts (out_parts (m ∷ said)) no_summary)
     ∙ loss_stays n.reselected said (summary_out n.reselected (summary_of n.reselected no_summary parts) m)
     (and_second (is_tame m) (are_tame said) e)
     (tame_loss n.reselected (summary_of n.reselected no_summary parts) m (and_first (is_tame m) (are_tame said) e))

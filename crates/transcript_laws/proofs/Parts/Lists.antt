@@ -11,102 +11,102 @@ if_none : (q : Bool) → (if q then [] else held_part None) ≡ []
 if_none true = refl
 if_none false = refl
 
-all_said : (k : OpenedValue) (said : List MsgOut) → (settled (with_all_out k said) false).parts
-    ≡ (k.parts ++ ((if is_void said then [] else held_part k.held) ++ k.since)) ++ out_parts said
-all_said k [] = sym (append-nil (k.parts ++ (held_part k.held ++ k.since)))
-all_said k (m ∷ said) =
-    let l : OpenedValue = with_out k m in
-    let before : List Part = k.parts ++ ((if is_parity_error m then [] else held_part k.held) ++ k.since) in
+all_said : (o : OpenedValue) (said : List MsgOut) → (settled (with_all_out o said) false).parts
+    ≡ (o.parts ++ ((if is_void said then [] else held_part o.held) ++ o.since)) ++ out_parts said
+all_said o [] = sym (append-nil (o.parts ++ (held_part o.held ++ o.since)))
+all_said o (m ∷ said) =
+    let l : OpenedValue = with_out o m in
+    let before : List Part = o.parts ++ ((if is_parity_error m then [] else held_part o.held) ++ o.since) in
     all_said l said
     ∙ (λ i. (before ++ (if_none (is_void said) i ++ Part.Out m ∷ [])) ++ out_parts said)
     ∙ append_assoc before (Part.Out m ∷ []) (out_parts said)
 
 -- Each part that is settled is one so far.
-pub spoken_parts : (k : OpenedValue) → (settled (spoken k) false).parts ≡ parts_now k
-spoken_parts k = all_said (record k { said = [] }) k.said
+pub spoken_parts : (o : OpenedValue) → (settled (spoken o) false).parts ≡ parts_now o
+spoken_parts o = all_said (record o { said = [] }) o.said
 
-pub record Spoken (k l : OpenedValue) : Type 0 where
-  pub connection : l.connection ≡ k.connection
-  pub bytes : l.bytes ≡ k.bytes
-  pub struck : l.struck ≡ k.struck
-  pub said : l.said ≡ k.said
+pub record Spoken (o l : OpenedValue) : Type 0 where
+  pub connection : l.connection ≡ o.connection
+  pub bytes : l.bytes ≡ o.bytes
+  pub struck : l.struck ≡ o.struck
+  pub said : l.said ≡ o.said
 
-all_spoken : (k : OpenedValue) (said : List MsgOut) → Spoken k (with_all_out k said)
-all_spoken k [] = record { connection = refl; bytes = refl; struck = refl; said = refl }
-all_spoken k (m ∷ said) =
-    let h = all_spoken (with_out k m) said in
+all_spoken : (o : OpenedValue) (said : List MsgOut) → Spoken o (with_all_out o said)
+all_spoken o [] = record { connection = refl; bytes = refl; struck = refl; said = refl }
+all_spoken o (m ∷ said) =
+    let h = all_spoken (with_out o m) said in
     record { connection = h.connection; bytes = h.bytes; struck = h.struck; said = h.said }
 
-pub spoken_keeps : (k : OpenedValue) → Spoken (record k { said = [] }) (spoken k)
-spoken_keeps k = all_spoken (record k { said = [] }) k.said
+pub spoken_keeps : (o : OpenedValue) → Spoken (record o { said = [] }) (spoken o)
+spoken_keeps o = all_spoken (record o { said = [] }) o.said
 
 -- ---- what is held after them
 
-pub none_held : (k : OpenedValue) (said : List MsgOut) → k.held ≡ None → (with_all_out k said).held ≡ None
-none_held k [] e = e
-none_held k (m ∷ said) e = none_held (with_out k m) said refl
+pub none_held : (o : OpenedValue) (said : List MsgOut) → o.held ≡ None → (with_all_out o said).held ≡ None
+none_held o [] e = e
+none_held o (m ∷ said) e = none_held (with_out o m) said refl
 
 -- It is what was held before, where nothing is said.
-pub record Holds (k l : OpenedValue) : Type 0 where
-  pub said : k.said ≡ []
-  pub parts : l.parts ≡ k.parts
-  pub held : l.held ≡ k.held
-  pub since : l.since ≡ k.since
+pub record Holds (o l : OpenedValue) : Type 0 where
+  pub said : o.said ≡ []
+  pub parts : l.parts ≡ o.parts
+  pub held : l.held ≡ o.held
+  pub since : l.since ≡ o.since
 
-spoken_by : (k : OpenedValue) (said : List MsgOut) → k.said ≡ said → (m : Incoming)
-    → (with_all_out (record k { said = [] }) said).held ≡ Some m → Holds k (with_all_out (record k { said = [] }) said)
-spoken_by k [] e m held = record { said = e; parts = refl; held = refl; since = refl }
-spoken_by k (x ∷ said) e m held = none_some m (sym (none_held (with_out (record k { said = [] }) x) said refl) ∙ held)
+spoken_by : (o : OpenedValue) (said : List MsgOut) → o.said ≡ said → (m : Incoming)
+    → (with_all_out (record o { said = [] }) said).held ≡ Some m → Holds o (with_all_out (record o { said = [] }) said)
+spoken_by o [] e m held = record { said = e; parts = refl; held = refl; since = refl }
+spoken_by o (x ∷ said) e m held = none_some m (sym (none_held (with_out (record o { said = [] }) x) said refl) ∙ held)
 
-pub spoken_holds : (k : OpenedValue) (m : Incoming) → (spoken k).held ≡ Some m → Holds k (spoken k)
-spoken_holds k m held = spoken_by k k.said refl m held
+pub spoken_holds : (o : OpenedValue) (m : Incoming) → (spoken o).held ≡ Some m → Holds o (spoken o)
+spoken_holds o m held = spoken_by o o.said refl m held
 
 -- ---- as a phase is over
 
 -- A message that is broken off.
 abbrev pub broken_parts : LineSet → List ℕ → List Part
-broken_parts s half = if is_message_in s && not (is_nil half) then Part.BrokenOff ∷ [] else []
+broken_parts l half = if is_message_in l && not (is_nil half) then Part.BrokenOff ∷ [] else []
 
 abbrev left_parts : OpenedValue → List Part
-left_parts k = k.parts ++ (held_part k.held ++ k.since)
+left_parts o = o.parts ++ (held_part o.held ++ o.since)
 
-broken_left : (k : OpenedValue) (q : Bool)
-    → left_parts (if q then with_in k Broken else k) ≡ left_parts k ++ (if q then Part.BrokenOff ∷ [] else [])
-broken_left k true = ap (λ (xs : List Part). left_parts k ++ xs) refl
-broken_left k false = sym (append-nil (left_parts k))
+broken_left : (o : OpenedValue) (q : Bool)
+    → left_parts (if q then with_in o Broken else o) ≡ left_parts o ++ (if q then Part.BrokenOff ∷ [] else [])
+broken_left o true = ap (λ (xs : List Part). left_parts o ++ xs) refl
+broken_left o false = sym (append-nil (left_parts o))
 
-broken_same : (k : OpenedValue) (q : Bool) → Spoken k (if q then with_in k Broken else k)
-broken_same k true = record { connection = refl; bytes = refl; struck = refl; said = refl }
-broken_same k false = record { connection = refl; bytes = refl; struck = refl; said = refl }
+broken_same : (o : OpenedValue) (q : Bool) → Spoken o (if q then with_in o Broken else o)
+broken_same o true = record { connection = refl; bytes = refl; struck = refl; said = refl }
+broken_same o false = record { connection = refl; bytes = refl; struck = refl; said = refl }
 
-phase_left : (k : OpenedValue) (s : LineSet) (left : Bool)
-    → left_parts (with_phase k s left) ≡ left_parts k ++ phase_parts k s left
-phase_left k s left =
-    ap (λ (xs : List Part). k.parts ++ xs) (sym (append_assoc (held_part k.held) k.since (phase_parts k s left)))
-    ∙ sym (append_assoc k.parts (held_part k.held ++ k.since) (phase_parts k s left))
+phase_left : (o : OpenedValue) (l : LineSet) (left : Bool)
+    → left_parts (with_phase o l left) ≡ left_parts o ++ phase_parts o l left
+phase_left o l left =
+    ap (λ (xs : List Part). o.parts ++ xs) (sym (append_assoc (held_part o.held) o.since (phase_parts o l left)))
+    ∙ sym (append_assoc o.parts (held_part o.held ++ o.since) (phase_parts o l left))
 
-same_phase_parts : (k l : OpenedValue) (s : LineSet) (left : Bool) → l.bytes ≡ k.bytes → l.struck ≡ k.struck
-    → phase_parts l s left ≡ phase_parts k s left
-same_phase_parts k l s left bytes struck = λ i. phase_parts (record k { bytes = bytes i; struck = struck i }) s left
+same_phase_parts : (o l : OpenedValue) (b : LineSet) (left : Bool) → l.bytes ≡ o.bytes → l.struck ≡ o.struck
+    → phase_parts l b left ≡ phase_parts o b left
+same_phase_parts o l b left bytes struck = λ i. phase_parts (record o { bytes = bytes i; struck = struck i }) b left
 
-pub over_parts : (k : OpenedValue) (s : LineSet) (half : List ℕ) (left : Bool)
-    → (settled (phase_over k s half left) false).parts ≡ (parts_now k ++ broken_parts s half) ++ phase_parts k s left
-over_parts k s half left =
-    let l : OpenedValue = broken_off (spoken k) s half in
-    let g = spoken_keeps k in
-    let h = broken_same (spoken k) (is_message_in s && not (is_nil half)) in
-    phase_left l s left ∙ (λ i. broken_left (spoken k) (is_message_in s && not (is_nil half)) i
-    ++ same_phase_parts k l s left (h.bytes ∙ g.bytes) (h.struck ∙ g.struck) i)
-    ∙ (λ i. (spoken_parts k i ++ broken_parts s half) ++ phase_parts k s left)
+pub over_parts : (o : OpenedValue) (b : LineSet) (half : List ℕ) (left : Bool)
+    → (settled (phase_over o b half left) false).parts ≡ (parts_now o ++ broken_parts b half) ++ phase_parts o b left
+over_parts o b half left =
+    let l : OpenedValue = broken_off (spoken o) b half in
+    let g = spoken_keeps o in
+    let h = broken_same (spoken o) (is_message_in b && not (is_nil half)) in
+    phase_left l b left ∙ (λ i. broken_left (spoken o) (is_message_in b && not (is_nil half)) i
+    ++ same_phase_parts o l b left (h.bytes ∙ g.bytes) (h.struck ∙ g.struck) i)
+    ∙ (λ i. (spoken_parts o i ++ broken_parts b half) ++ phase_parts o b left)
 
-pub record IsOver (k l : OpenedValue) : Type 0 where
-  pub connection : l.connection ≡ k.connection
+pub record IsOver (o l : OpenedValue) : Type 0 where
+  pub connection : l.connection ≡ o.connection
   pub bytes : l.bytes ≡ []
   pub struck : l.struck ≡ false
   pub said : l.said ≡ []
 
-pub over_keeps : (k : OpenedValue) (s : LineSet) (half : List ℕ) (left : Bool) → IsOver k (phase_over k s half left)
-over_keeps k s half left =
-    let g = spoken_keeps k in
-    let h = broken_same (spoken k) (is_message_in s && not (is_nil half)) in
+pub over_keeps : (o : OpenedValue) (l : LineSet) (half : List ℕ) (left : Bool) → IsOver o (phase_over o l half left)
+over_keeps o l half left =
+    let g = spoken_keeps o in
+    let h = broken_same (spoken o) (is_message_in l && not (is_nil half)) in
     record { connection = h.connection ∙ g.connection; bytes = refl; struck = refl; said = h.said ∙ g.said }

@@ -16,31 +16,31 @@ pub use Rattle.transcript_laws.proofs.Serving.Steps.{account_by}
 
 -- ---- what is carried no longer counts
 
-closing_account : (k : OpenedValue) (s : LineSet) (half : List ℕ) (p : Process)
-    → account_by p (closing_parts k s half) ≡ account_after_all
-    (account_after_all (account_after_all (account_base k p) (out_parts k.said)) (broken_parts s half))
-    (phase_parts k s false)
-closing_account k s half p =
-    let a : AccountValue = account_of p [] in
-    ap (λ (parts : List Part). account_after_all a parts) (over_parts k s half false)
-    ∙ all_after a (parts_now k ++ broken_parts s half) (phase_parts k s false)
-    ∙ ap (λ (x : AccountValue). account_after_all x (phase_parts k s false))
-    (all_after a (parts_now k) (broken_parts s half) ∙ ap
-    (λ (x : AccountValue). account_after_all x (broken_parts s half)) (all_after a (base_parts k) (out_parts k.said)))
+closing_account : (o : OpenedValue) (l : LineSet) (half : List ℕ) (c : Process)
+    → account_by c (closing_parts o l half) ≡ account_after_all
+    (account_after_all (account_after_all (account_base o c) (out_parts o.said)) (broken_parts l half))
+    (phase_parts o l false)
+closing_account o l half c =
+    let a : AccountValue = account_of c [] in
+    ap (λ (parts : List Part). account_after_all a parts) (over_parts o l half false)
+    ∙ all_after a (parts_now o ++ broken_parts l half) (phase_parts o l false)
+    ∙ ap (λ (x : AccountValue). account_after_all x (phase_parts o l false))
+    (all_after a (parts_now o) (broken_parts l half) ∙ ap
+    (λ (x : AccountValue). account_after_all x (broken_parts l half)) (all_after a (base_parts o) (out_parts o.said)))
 
 -- The account is still what the process has carried.
-pub closing_is : (k : OpenedValue) (s : LineSet) (half : List ℕ) (id : ProcId)
-    (now back : CarriedBytes) (conn history : List Event) (was : Bool) (st : Option ℕ) (p : Process)
-    → IsServing k (is_command s) id now back conn history was st → IsAsBegun p was st
-    → IsAccountOf (account_by p (closing_parts k s half)) now
-closing_is k s half id now back conn history was st p h b =
+pub closing_is : (o : OpenedValue) (l : LineSet) (half : List ℕ) (id : ProcId)
+    (now back : CarriedBytes) (conn history : List Event) (was : Bool) (st : Option ℕ) (t : Process)
+    → IsServing o (is_command l) id now back conn history was st → IsAsBegun t was st
+    → IsAccountOf (account_by t (closing_parts o l half)) now
+closing_is o l half id now back conn history was st t h b =
     let c : AccountValue = account_after_all
-    (account_after_all (account_base k p) (out_parts k.said)) (broken_parts s half) in
-    subst (λ (a : AccountValue). IsAccountOf a now) (sym (closing_account k s half p))
-    (phase_account c now (is_command s) (is_data s) (not s.io) k.bytes k.struck false
-    (same_account (with_block (account_base k p) (if is_command s then k.bytes else []) (is_command s && k.struck))
-    (with_block c (if is_command s then k.bytes else []) (is_command s && k.struck)) now (same_block (account_base k p)
-    c (if is_command s then k.bytes else []) (is_command s && k.struck) (spoken_same k s half p)) (h.account p b)))
+    (account_after_all (account_base o t) (out_parts o.said)) (broken_parts l half) in
+    subst (λ (a : AccountValue). IsAccountOf a now) (sym (closing_account o l half t))
+    (phase_account c now (is_command l) (is_data l) (not l.io) o.bytes o.struck false
+    (same_account (with_block (account_base o t) (if is_command l then o.bytes else []) (is_command l && o.struck))
+    (with_block c (if is_command l then o.bytes else []) (is_command l && o.struck)) now (same_block (account_base o t)
+    c (if is_command l then o.bytes else []) (is_command l && o.struck) (spoken_same o l half t)) (h.account t b)))
 
 -- And no event is shown with it.
 left_shown : (refused : List Name) (a : AccountValue) (q r out : Bool) (bytes : List ℕ) (struck : Bool)
@@ -53,25 +53,25 @@ left_shown refused a false true out bytes struck =
     data_shown refused a out bytes ∙ append-nil (shown_items refused a.items)
 left_shown refused a false false out bytes struck = refl
 
-pub closing_shown : (refused : List Name) (k : OpenedValue) (s : LineSet) (half : List ℕ) (p : Process)
-    → shown_items refused (account_by p (closing_parts k s half)).items ≡ shown_items refused (account_base k p).items
-closing_shown refused k s half p =
-    let a : AccountValue = account_after_all (account_base k p) (out_parts k.said) in
-    let c : AccountValue = account_after_all a (broken_parts s half) in
-    ap (λ (x : AccountValue). shown_items refused x.items) (closing_account k s half p)
-    ∙ left_shown refused c (is_command s) (is_data s) (not s.io) k.bytes k.struck
-    ∙ (talk_more refused a (broken_parts s half) (broken_talk (is_message_in s && not (is_nil half)))).shown
+pub closing_shown : (refused : List Name) (o : OpenedValue) (l : LineSet) (half : List ℕ) (t : Process)
+    → shown_items refused (account_by t (closing_parts o l half)).items ≡ shown_items refused (account_base o t).items
+closing_shown refused o l half t =
+    let a : AccountValue = account_after_all (account_base o t) (out_parts o.said) in
+    let c : AccountValue = account_after_all a (broken_parts l half) in
+    ap (λ (x : AccountValue). shown_items refused x.items) (closing_account o l half t)
+    ∙ left_shown refused c (is_command l) (is_data l) (not l.io) o.bytes o.struck
+    ∙ (talk_more refused a (broken_parts l half) (broken_talk (is_message_in l && not (is_nil half)))).shown
     ∙ append-nil (shown_items refused a.items)
-    ∙ (talk_more refused (account_base k p) (out_parts k.said) (outs_talk k.said)).shown
-    ∙ append-nil (shown_items refused (account_base k p).items)
+    ∙ (talk_more refused (account_base o t) (out_parts o.said) (outs_talk o.said)).shown
+    ∙ append-nil (shown_items refused (account_base o t).items)
 
 -- Nor where the connection still stands.
-pub standing_shown : (refused : List Name) (k : OpenedValue) (p : Process)
-    → shown_items refused (account_by p (parts_now k)).items ≡ shown_items refused (account_base k p).items
-standing_shown refused k p = ap (λ (x : AccountValue). shown_items refused x.items)
-    (all_after (account_of p []) (base_parts k) (out_parts k.said))
-    ∙ (talk_more refused (account_base k p) (out_parts k.said) (outs_talk k.said)).shown
-    ∙ append-nil (shown_items refused (account_base k p).items)
+pub standing_shown : (refused : List Name) (o : OpenedValue) (c : Process)
+    → shown_items refused (account_by c (parts_now o)).items ≡ shown_items refused (account_base o c).items
+standing_shown refused o c = ap (λ (x : AccountValue). shown_items refused x.items)
+    (all_after (account_of c []) (base_parts o) (out_parts o.said))
+    ∙ (talk_more refused (account_base o c) (out_parts o.said) (outs_talk o.said)).shown
+    ∙ append-nil (shown_items refused (account_base o c).items)
 
 -- ---- the items of a connection
 
@@ -86,10 +86,10 @@ departure_items name Abortion abort = abort_items name abort
 
 -- What BUS FREE shows.
 abbrev pub leaving_items : Bool → Name → Summary → List Item
-leaving_items free name s = if free then departure_items name s.departure s.abort else []
+leaving_items free name u = if free then departure_items name u.departure u.abort else []
 
 abbrev pub process_for : TranscriberValue → Connection → Summary → Process
-process_for t n s = process_after n.reselected (is_some s.abort) (process_of t.processes (name_of n s)) (name_of n s)
+process_for t n u = process_after n.reselected (is_some u.abort) (process_of t.processes (name_of n u)) (name_of n u)
 
 departed_items : (a : AccountValue) (d : Departure) (abort : Option MsgOut)
     → (departed a d abort).items ≡ a.items ++ departure_items a.process.name d abort
@@ -104,40 +104,40 @@ departed_process a Leave abort = refl
 departed_process a Abortion None = refl
 departed_process a Abortion (Some m) = refl
 
-free_items : (free : Bool) (a : AccountValue) (s : Summary)
-    → (departed_if free a s).items ≡ a.items ++ leaving_items free a.process.name s
-free_items true a s = departed_items a s.departure s.abort
-free_items false a s = sym (append-nil a.items)
+free_items : (free : Bool) (a : AccountValue) (u : Summary)
+    → (departed_if free a u).items ≡ a.items ++ leaving_items free a.process.name u
+free_items true a u = departed_items a u.departure u.abort
+free_items false a u = sym (append-nil a.items)
 
-free_process : (free : Bool) (a : AccountValue) (s : Summary) → (departed_if free a s).process ≡ a.process
-free_process true a s = departed_process a s.departure s.abort
-free_process false a s = refl
+free_process : (free : Bool) (a : AccountValue) (u : Summary) → (departed_if free a u).process ≡ a.process
+free_process true a u = departed_process a u.departure u.abort
+free_process false a u = refl
 
 -- The items that the connection adds.
 abbrev pub connection_items : Connection → Process → List Part → Bool → Summary → List Item
-connection_items n p parts free s =
-    Item.Connect n.began p.name n.reselected ∷ ((account_by p parts).items ++ leaving_items free p.name s)
+connection_items n c parts free u =
+    Item.Connect n.began c.name n.reselected ∷ ((account_by c parts).items ++ leaving_items free c.name u)
 
-all_items : (n : Connection) (p : Process) (parts : List Part) (list : List Item) (free : Bool) (s : Summary)
-    → (departed_if free (account_parts n p parts list) s).items ≡ list ++ connection_items n p parts free s
-all_items n p parts list free s =
-    let c : Item = Item.Connect n.began p.name n.reselected in
-    ap (λ (a : AccountValue). (departed_if free a s).items) (account_is n p parts list)
-    ∙ free_items free (behind (list ++ c ∷ []) (account_by p parts)) s
-    ∙ ap (λ (name : Name). ((list ++ c ∷ []) ++ (account_by p parts).items) ++ leaving_items free name s)
-    (parts_name (account_of p []) parts)
-    ∙ append_assoc (list ++ c ∷ []) (account_by p parts).items (leaving_items free p.name s)
-    ∙ append_assoc list (c ∷ []) ((account_by p parts).items ++ leaving_items free p.name s)
+all_items : (n : Connection) (t : Process) (parts : List Part) (list : List Item) (free : Bool) (u : Summary)
+    → (departed_if free (account_parts n t parts list) u).items ≡ list ++ connection_items n t parts free u
+all_items n t parts list free u =
+    let c : Item = Item.Connect n.began t.name n.reselected in
+    ap (λ (a : AccountValue). (departed_if free a u).items) (account_is n t parts list)
+    ∙ free_items free (behind (list ++ c ∷ []) (account_by t parts)) u
+    ∙ ap (λ (name : Name). ((list ++ c ∷ []) ++ (account_by t parts).items) ++ leaving_items free name u)
+    (parts_name (account_of t []) parts)
+    ∙ append_assoc (list ++ c ∷ []) (account_by t parts).items (leaving_items free t.name u)
+    ∙ append_assoc list (c ∷ []) ((account_by t parts).items ++ leaving_items free t.name u)
 
-pub closed_items : (t : TranscriberValue) (n : Connection) (parts : List Part) (free : Bool) (s : Summary)
-    → (closed_by t n parts free s).items ≡ t.items ++ connection_items n (process_for t n s) parts free s
+pub closed_items : (t : TranscriberValue) (n : Connection) (parts : List Part) (free : Bool) (u : Summary)
+    → (closed_by t n parts free u).items ≡ t.items ++ connection_items n (process_for t n u) parts free u
 unfolding closed_by
-closed_items t n parts free s = all_items n (process_for t n s) parts t.items free s
+closed_items t n parts free u = all_items n (process_for t n u) parts t.items free u
 
-pub closed_processes : (t : TranscriberValue) (n : Connection) (parts : List Part) (free : Bool) (s : Summary)
-    → (closed_by t n parts free s).processes
-    ≡ with_process n.reselected (is_some s.abort) t.processes (account_by (process_for t n s) parts).process
+pub closed_processes : (t : TranscriberValue) (n : Connection) (parts : List Part) (free : Bool) (u : Summary)
+    → (closed_by t n parts free u).processes
+    ≡ with_process n.reselected (is_some u.abort) t.processes (account_by (process_for t n u) parts).process
 unfolding closed_by
-closed_processes t n parts free s = ap (λ (p : Process). with_process n.reselected (is_some s.abort) t.processes p)
-    (free_process free (account_parts n (process_for t n s) parts t.items) s
-    ∙ ap (λ (a : AccountValue). a.process) (account_is n (process_for t n s) parts t.items))
+closed_processes t n parts free u = ap (λ (c : Process). with_process n.reselected (is_some u.abort) t.processes c)
+    (free_process free (account_parts n (process_for t n u) parts t.items) u
+    ∙ ap (λ (a : AccountValue). a.process) (account_is n (process_for t n u) parts t.items))

@@ -14,17 +14,17 @@ use Rattle.due_model.specs.story_model.specs.Items as told
 told_before : (sent more : List told.Item) (names later : List Name) (event : Event) → length names ≡ length sent
     → IsEventSent sent event → items_told (sent ++ more) (names ++ later) event ≡ items_told sent names event
 told_before sent more names later (Event.Accept id) count has =
-    ap (λ (n : Option Name). items_if n (Event.Accept id)) (name_before sent more names later id count has)
+    ap (λ (o : Option Name). items_if o (Event.Accept id)) (name_before sent more names later id count has)
 told_before sent more names later (Event.Refuse id) count has =
-    ap (λ (n : Option Name). items_if n (Event.Refuse id)) (name_before sent more names later id count has)
+    ap (λ (o : Option Name). items_if o (Event.Refuse id)) (name_before sent more names later id count has)
 told_before sent more names later (Event.Run id) count has =
-    ap (λ (n : Option Name). items_if n (Event.Run id)) (name_before sent more names later id count has)
+    ap (λ (o : Option Name). items_if o (Event.Run id)) (name_before sent more names later id count has)
 told_before sent more names later (Event.Fail id code) count has =
-    ap (λ (n : Option Name). items_if n (Event.Fail id code)) (name_before sent more names later id count has)
+    ap (λ (o : Option Name). items_if o (Event.Fail id code)) (name_before sent more names later id count has)
 told_before sent more names later (Event.End id status) count has =
-    ap (λ (n : Option Name). items_if n (Event.End id status)) (name_before sent more names later id count has)
+    ap (λ (o : Option Name). items_if o (Event.End id status)) (name_before sent more names later id count has)
 told_before sent more names later (Event.Lost id) count has =
-    ap (λ (n : Option Name). items_if n (Event.Lost id)) (name_before sent more names later id count has)
+    ap (λ (o : Option Name). items_if o (Event.Lost id)) (name_before sent more names later id count has)
 told_before sent more names later (Event.Aborted host target unit what) count has = refl
 told_before sent more names later (Event.Reset dev) count has = refl
 

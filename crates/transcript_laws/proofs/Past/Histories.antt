@@ -27,7 +27,7 @@ any_reverse t (x ∷ xs) =
 one_listed : (sent : List told.Item) (names : List Name) (event : Event) (id : ProcId) (name : Name)
     → is_refusal id event ≡ true → name_sent sent names id ≡ Some name
     → is_listed (refused_name sent names event) name ≡ true
-one_listed sent names (Event.Refuse x) id name e named = ap (λ (n : Option Name). is_listed (named_if n) name)
+one_listed sent names (Event.Refuse x) id name e named = ap (λ (o : Option Name). is_listed (named_if o) name)
     (ap (λ (y : ProcId). name_sent sent names y) (id_is x id e) ∙ named)
     ∙ ap (λ (q : Bool). q || false) (name_same name)
 one_listed sent names _ id name e named = wrong' e
@@ -54,8 +54,8 @@ abbrev IsOther : List told.Item → List Name → List Event → Name → Type 0
 IsOther sent names list name =
     (x : ProcId) (a : Name) → has_refusal list x ≡ true → name_sent sent names x ≡ Some a → same_name a name ≡ false
 
-unnamed : (n : Option Name) (name : Name) → ((a : Name) → n ≡ Some a → same_name a name ≡ false)
-    → is_listed (named_if n) name ≡ false
+unnamed : (o : Option Name) (name : Name) → ((a : Name) → o ≡ Some a → same_name a name ≡ false)
+    → is_listed (named_if o) name ≡ false
 unnamed None name other = refl
 unnamed (Some a) name other = ap (λ (q : Bool). q || false) (other a refl)
 
@@ -65,7 +65,7 @@ one_unlisted sent names (Event.Refuse x) name other =
     unnamed (name_sent sent names x) name (λ a e. other x a (ap (λ (q : Bool). q || false) (self_id x)) e)
 one_unlisted sent names _ name other = refl
 
-or_left : (p q : Bool) → (p || false) ≡ true → (p || q) ≡ true
+or_left : (r q : Bool) → (r || false) ≡ true → (r || q) ≡ true
 or_left true q e = refl
 or_left false q e = wrong' e
 

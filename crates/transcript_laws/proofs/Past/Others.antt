@@ -9,9 +9,9 @@ use Rattle.bus_transcript.specs.declared.item.Item.{Item}
 use Rattle.due_model.specs.story_model.specs.Items as told
 
 -- That of an abort is the name of no process.
-abort_named : (j : ℕ) (names : List Name) (id : ProcId) → name_sent (told.abort j ∷ []) names id ≡ None
-abort_named j [] id = refl
-abort_named j (n ∷ names) id = refl
+abort_named : (m : ℕ) (names : List Name) (id : ProcId) → name_sent (told.abort m ∷ []) names id ≡ None
+abort_named m [] id = refl
+abort_named m (x ∷ names) id = refl
 
 -- ---- items of no process
 
@@ -43,39 +43,39 @@ openly_past list new sent conn history h known past = subst (λ (xs : List told.
 
 -- ---- a connection with no events of its own
 
-plain_shown : (refused : List Name) (n : Connection) (p : Process) (parts : List Part) (free : Bool) (s : Summary)
-    → shown_items refused (account_by p parts).items ≡ []
-    → shown_items refused (connection_items n p parts free s) ≡ shown_items refused (leaving_items free p.name s)
-plain_shown refused n p parts free s none =
-    shown_append refused (account_by p parts).items (leaving_items free p.name s)
-    ∙ ap (λ (xs : List Item). xs ++ shown_items refused (leaving_items free p.name s)) none
+plain_shown : (refused : List Name) (n : Connection) (c : Process) (parts : List Part) (free : Bool) (u : Summary)
+    → shown_items refused (account_by c parts).items ≡ []
+    → shown_items refused (connection_items n c parts free u) ≡ shown_items refused (leaving_items free c.name u)
+plain_shown refused n c parts free u none =
+    shown_append refused (account_by c parts).items (leaving_items free c.name u)
+    ∙ ap (λ (xs : List Item). xs ++ shown_items refused (leaving_items free c.name u)) none
 
 -- It is cut, or stands, before its process is known.
-pub quiet_past : (n : Connection) (p : Process) (parts : List Part) (s : Summary)
+pub quiet_past : (n : Connection) (c : Process) (parts : List Part) (u : Summary)
     (list : List Item) (sent : List told.Item) (history : List Event)
     → n.reselected ≡ true → ((refused : List Name) (q : Process) → shown_items refused (account_by q parts).items ≡ [])
-    → IsPast list sent history → IsPast (list ++ connection_items n p parts false s) sent history
-quiet_past n p parts s list sent history again none past =
-    openly_past list (connection_items n p parts false s) sent [] history (record {
-      names = connection_names n p parts false s ∙ ap (λ (q : Bool). if q then [] else p.name ∷ []) again;
-      shown = λ refused sent names. plain_shown refused n p parts false s (none refused p);
+    → IsPast list sent history → IsPast (list ++ connection_items n c parts false u) sent history
+quiet_past n c parts u list sent history again none past =
+    openly_past list (connection_items n c parts false u) sent [] history (record {
+      names = connection_names n c parts false u ∙ ap (λ (q : Bool). if q then [] else c.name ∷ []) again;
+      shown = λ refused sent names. plain_shown refused n c parts false u (none refused c);
     }) tt past
 
 -- That of an abort line, with its event as BUS FREE comes.
-pub abort_past : (n : Connection) (p : Process) (parts : List Part) (free : Bool) (s : Summary)
-    (j : ℕ) (conn : List Event) (list : List Item) (sent : List told.Item) (history : List Event)
+pub abort_past : (n : Connection) (c : Process) (parts : List Part) (free : Bool) (u : Summary)
+    (m : ℕ) (conn : List Event) (list : List Item) (sent : List told.Item) (history : List Event)
     → n.reselected ≡ false → ((refused : List Name) (q : Process) → shown_items refused (account_by q parts).items ≡ [])
-    → AreEventsSent (sent ++ told.abort j ∷ []) conn
+    → AreEventsSent (sent ++ told.abort m ∷ []) conn
     → ((refused : List Name) (sent : List told.Item) (names : List Name)
-    → shown_items refused (leaving_items free p.name s) ≡ named_events sent names (reverse conn))
+    → shown_items refused (leaving_items free c.name u) ≡ named_events sent names (reverse conn))
     → IsPast list sent history
-    → IsPast (list ++ connection_items n p parts free s) (sent ++ told.abort j ∷ []) (conn ++ history)
-abort_past n p parts free s j conn list sent history began none known shown past =
-    past_more list (connection_items n p parts free s) sent (told.abort j ∷ []) conn history past (record {
-      count = ap length (connection_names n p parts free s ∙ ap (λ (q : Bool). if q then [] else p.name ∷ []) began);
+    → IsPast (list ++ connection_items n c parts free u) (sent ++ told.abort m ∷ []) (conn ++ history)
+abort_past n c parts free u m conn list sent history began none known shown past =
+    past_more list (connection_items n c parts free u) sent (told.abort m ∷ []) conn history past (record {
+      count = ap length (connection_names n c parts free u ∙ ap (λ (q : Bool). if q then [] else c.name ∷ []) began);
       known = known;
       numbers =
-          λ id name e. none_some name (sym (abort_named j (names_begun (connection_items n p parts free s)) id) ∙ e);
-      shown = λ refused r. plain_shown refused n p parts free s (none refused p) ∙ shown refused
-          (sent ++ told.abort j ∷ []) (names_begun list ++ names_begun (connection_items n p parts free s));
+          λ id name e. none_some name (sym (abort_named m (names_begun (connection_items n c parts free u)) id) ∙ e);
+      shown = λ refused r. plain_shown refused n c parts free u (none refused c) ∙ shown refused
+          (sent ++ told.abort m ∷ []) (names_begun list ++ names_begun (connection_items n c parts free u));
     })

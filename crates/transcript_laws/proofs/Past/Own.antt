@@ -19,17 +19,17 @@ one_named : (sent : List told.Item) (names : List Name) (id : ProcId) (name : Na
     → IsOwnEvent id event → name_sent sent names id ≡ Some name
     → named_events sent names (event ∷ []) ≡ items_named name event ++ []
 one_named sent names id name (Event.Accept x) e named =
-    ap (λ (n : Option Name). items_if n (Event.Accept x) ++ []) (ap (λ (y : ProcId). name_sent sent names y) e ∙ named)
+    ap (λ (o : Option Name). items_if o (Event.Accept x) ++ []) (ap (λ (y : ProcId). name_sent sent names y) e ∙ named)
 one_named sent names id name (Event.Refuse x) e named =
-    ap (λ (n : Option Name). items_if n (Event.Refuse x) ++ []) (ap (λ (y : ProcId). name_sent sent names y) e ∙ named)
+    ap (λ (o : Option Name). items_if o (Event.Refuse x) ++ []) (ap (λ (y : ProcId). name_sent sent names y) e ∙ named)
 one_named sent names id name (Event.Run x) e named =
-    ap (λ (n : Option Name). items_if n (Event.Run x) ++ []) (ap (λ (y : ProcId). name_sent sent names y) e ∙ named)
+    ap (λ (o : Option Name). items_if o (Event.Run x) ++ []) (ap (λ (y : ProcId). name_sent sent names y) e ∙ named)
 one_named sent names id name (Event.Fail x code) e named = ap
-    (λ (n : Option Name). items_if n (Event.Fail x code) ++ []) (ap (λ (y : ProcId). name_sent sent names y) e ∙ named)
+    (λ (o : Option Name). items_if o (Event.Fail x code) ++ []) (ap (λ (y : ProcId). name_sent sent names y) e ∙ named)
 one_named sent names id name (Event.End x status) e named = ap
-    (λ (n : Option Name). items_if n (Event.End x status) ++ []) (ap (λ (y : ProcId). name_sent sent names y) e ∙ named)
+    (λ (o : Option Name). items_if o (Event.End x status) ++ []) (ap (λ (y : ProcId). name_sent sent names y) e ∙ named)
 one_named sent names id name (Event.Lost x) e named =
-    ap (λ (n : Option Name). items_if n (Event.Lost x) ++ []) (ap (λ (y : ProcId). name_sent sent names y) e ∙ named)
+    ap (λ (o : Option Name). items_if o (Event.Lost x) ++ []) (ap (λ (y : ProcId). name_sent sent names y) e ∙ named)
 one_named sent names id name (Event.Aborted host target unit what) e named = absurd e
 one_named sent names id name (Event.Reset dev) e named = absurd e
 
@@ -74,16 +74,16 @@ departure_names name Loss abort = refl
 departure_names name Leave abort = refl
 departure_names name Abortion abort = abort_names name abort
 
-leaving_names : (free : Bool) (name : Name) (s : Summary) → names_begun (leaving_items free name s) ≡ []
-leaving_names true name s = departure_names name s.departure s.abort
-leaving_names false name s = refl
+leaving_names : (free : Bool) (name : Name) (u : Summary) → names_begun (leaving_items free name u) ≡ []
+leaving_names true name u = departure_names name u.departure u.abort
+leaving_names false name u = refl
 
-pub connection_names : (n : Connection) (p : Process) (parts : List Part) (free : Bool) (s : Summary)
-    → names_begun (connection_items n p parts free s) ≡ (if n.reselected then [] else p.name ∷ [])
-connection_names n p parts free s = ap (λ (xs : List Name). (if n.reselected then [] else p.name ∷ []) ++ xs)
-    (names_append (account_by p parts).items (leaving_items free p.name s)
-    ∙ (λ i. parts_names (account_of p []) parts i ++ leaving_names free p.name s i))
-    ∙ append-nil (if n.reselected then [] else p.name ∷ [])
+pub connection_names : (n : Connection) (c : Process) (parts : List Part) (free : Bool) (u : Summary)
+    → names_begun (connection_items n c parts free u) ≡ (if n.reselected then [] else c.name ∷ [])
+connection_names n c parts free u = ap (λ (xs : List Name). (if n.reselected then [] else c.name ∷ []) ++ xs)
+    (names_append (account_by c parts).items (leaving_items free c.name u)
+    ∙ (λ i. parts_names (account_of c []) parts i ++ leaving_names free c.name u i))
+    ∙ append-nil (if n.reselected then [] else c.name ∷ [])
 
 -- ---- it is over
 
@@ -103,48 +103,48 @@ leaves_own id name list more (loses e) = (refl, tt)
 leaves_own id name list more (leaves e) = tt
 
 -- Of a connection of a known process with these parts.
-pub record IsClosing (k : OpenedValue) (commands : Bool) (id : ProcId) (now back : CarriedBytes)
-    (conn history : List Event) (was : Bool) (st : Option ℕ) (n : Connection) (p : Process) (parts : List Part)
-    (free : Bool) (s : Summary) (more : List Event) : Type 0 where
-  pub serving : IsServing k commands id now back conn (conn ++ history) was st
-  pub begun : IsAsBegun p was st
+pub record IsClosing (o : OpenedValue) (commands : Bool) (id : ProcId) (now back : CarriedBytes)
+    (conn history : List Event) (was : Bool) (st : Option ℕ) (n : Connection) (c : Process) (parts : List Part)
+    (free : Bool) (u : Summary) (more : List Event) : Type 0 where
+  pub serving : IsServing o commands id now back conn (conn ++ history) was st
+  pub begun : IsAsBegun c was st
   pub own : AreOwnEvents id conn
   pub shown : (refused : List Name)
-      → shown_items refused (account_by p parts).items ≡ shown_items refused (account_base k p).items
-  pub leaves : Leaves id p.name (leaving_items free p.name s) more
+      → shown_items refused (account_by c parts).items ≡ shown_items refused (account_base o c).items
+  pub leaves : Leaves id c.name (leaving_items free c.name u) more
 
-own_adds : (k : OpenedValue) (commands : Bool) (id : ProcId) (now back : CarriedBytes)
-    (conn history : List Event) (was : Bool) (st : Option ℕ) (n : Connection) (p : Process) (parts : List Part)
-    (free : Bool) (s : Summary) (more : List Event) (sent sending : List told.Item) (names : List Name)
-    → IsClosing k commands id now back conn history was st n p parts free s more
+own_adds : (o : OpenedValue) (commands : Bool) (id : ProcId) (now back : CarriedBytes)
+    (conn history : List Event) (was : Bool) (st : Option ℕ) (n : Connection) (c : Process) (parts : List Part)
+    (free : Bool) (u : Summary) (more : List Event) (sent sending : List told.Item) (names : List Name)
+    → IsClosing o commands id now back conn history was st n c parts free u more
     → has_item (sent ++ sending) (process id) ≡ true
-    → length (names_begun (connection_items n p parts free s)) ≡ length sending → ((x : ProcId) (name : Name)
-    → name_sent sending (names_begun (connection_items n p parts free s)) x ≡ Some name → (name.number == 0) ≡ false)
-    → name_sent (sent ++ sending) (names ++ names_begun (connection_items n p parts free s)) id ≡ Some p.name
-    → Adds sent sending names (connection_items n p parts free s) (more ++ conn) history
-own_adds k commands id now back conn history was st n p parts free s more sent sending names h has count numbers named =
+    → length (names_begun (connection_items n c parts free u)) ≡ length sending → ((x : ProcId) (name : Name)
+    → name_sent sending (names_begun (connection_items n c parts free u)) x ≡ Some name → (name.number == 0) ≡ false)
+    → name_sent (sent ++ sending) (names ++ names_begun (connection_items n c parts free u)) id ≡ Some c.name
+    → Adds sent sending names (connection_items n c parts free u) (more ++ conn) history
+own_adds o commands id now back conn history was st n c parts free u more sent sending names h has count numbers named =
     record {
       count = count;
       known = own_sent (sent ++ sending) id (more ++ conn) has own;
       numbers = numbers;
-      shown = λ refused r. shown_append refused (account_by p parts).items (leaving_items free p.name s)
-          ∙ (λ i. (h.shown refused ∙ h.serving.told refused p h.begun (before refused r)) i
-          ++ leaves_shown refused id p.name (leaving_items free p.name s) more h.leaves i)
-          ∙ sym (conn_append p.name more conn)
-          ∙ sym (own_named (sent ++ sending) (names ++ names_begun (connection_items n p parts free s)) id p.name
+      shown = λ refused r. shown_append refused (account_by c parts).items (leaving_items free c.name u)
+          ∙ (λ i. (h.shown refused ∙ h.serving.told refused c h.begun (before refused r)) i
+          ++ leaves_shown refused id c.name (leaving_items free c.name u) more h.leaves i)
+          ∙ sym (conn_append c.name more conn)
+          ∙ sym (own_named (sent ++ sending) (names ++ names_begun (connection_items n c parts free u)) id c.name
           (reverse (more ++ conn)) (own_reverse id (more ++ conn) own) named);
     }
   where
     own : AreOwnEvents id (more ++ conn)
-    own = own_append id more conn (leaves_own id p.name (leaving_items free p.name s) more h.leaves) h.own
+    own = own_append id more conn (leaves_own id c.name (leaving_items free c.name u) more h.leaves) h.own
 
     before : (refused : List Name) → AreRefused refused (sent ++ sending)
-        (names ++ names_begun (connection_items n p parts free s)) ((more ++ conn) ++ history)
-        → IsRefused refused p.name id (conn ++ history)
-    before refused r = refused_less refused p.name id more (conn ++ history) (record {
-      refusal = λ e. r.refusals id p.name
+        (names ++ names_begun (connection_items n c parts free u)) ((more ++ conn) ++ history)
+        → IsRefused refused c.name id (conn ++ history)
+    before refused r = refused_less refused c.name id more (conn ++ history) (record {
+      refusal = λ e. r.refusals id c.name
           (ap (λ (list : List Event). has_refusal list id) (append_assoc more conn history) ∙ e) named;
-      answer = λ e. r.answers id p.name
+      answer = λ e. r.answers id c.name
           (ap (λ (list : List Event). has_answer list id) (append_assoc more conn history) ∙ e) named;
     })
 
@@ -156,41 +156,41 @@ one_number : (id x : ProcId) (own name : Name) → (own.number == 0) ≡ false
 one_number id x own name number e = go (same_id id x) e
   where
     go : (q : Bool) → (if q then Some own else None) ≡ Some name → (name.number == 0) ≡ false
-    go true f = ap (λ (n : Name). n.number == 0) (sym (same_Some own name f)) ∙ number
+    go true f = ap (λ (y : Name). y.number == 0) (sym (same_Some own name f)) ∙ number
     go false f = none_some name f
 
 -- An initiator began it, for a process that was not sent before.
-pub first_past : (k : OpenedValue) (commands : Bool) (id : ProcId) (now back : CarriedBytes)
-    (conn history : List Event) (was : Bool) (st : Option ℕ) (n : Connection) (p : Process) (parts : List Part)
-    (free : Bool) (s : Summary) (more : List Event) (list : List Item) (sent : List told.Item)
-    → n.reselected ≡ false → has_item sent (process id) ≡ false → (p.name.number == 0) ≡ false
-    → IsClosing k commands id now back conn history was st n p parts free s more → IsPast list sent history
-    → IsPast (list ++ connection_items n p parts free s) (sent ++ process id ∷ []) ((more ++ conn) ++ history)
-first_past k commands id now back conn history was st n p parts free s more list sent began fresh number h past =
-    let names : names_begun (connection_items n p parts free s) ≡ p.name ∷ [] = connection_names n p parts free s
-    ∙ ap (λ (q : Bool). if q then [] else p.name ∷ []) began in
-    past_more list (connection_items n p parts free s) sent (process id ∷ []) (more ++ conn) history past
-    (own_adds k commands id now back conn history was st n p parts free s more sent
+pub first_past : (o : OpenedValue) (commands : Bool) (id : ProcId) (now back : CarriedBytes)
+    (conn history : List Event) (was : Bool) (st : Option ℕ) (n : Connection) (c : Process) (parts : List Part)
+    (free : Bool) (u : Summary) (more : List Event) (list : List Item) (sent : List told.Item)
+    → n.reselected ≡ false → has_item sent (process id) ≡ false → (c.name.number == 0) ≡ false
+    → IsClosing o commands id now back conn history was st n c parts free u more → IsPast list sent history
+    → IsPast (list ++ connection_items n c parts free u) (sent ++ process id ∷ []) ((more ++ conn) ++ history)
+first_past o commands id now back conn history was st n c parts free u more list sent began fresh number h past =
+    let names : names_begun (connection_items n c parts free u) ≡ c.name ∷ [] = connection_names n c parts free u
+    ∙ ap (λ (q : Bool). if q then [] else c.name ∷ []) began in
+    past_more list (connection_items n c parts free u) sent (process id ∷ []) (more ++ conn) history past
+    (own_adds o commands id now back conn history was st n c parts free u more sent
     (process id ∷ []) (names_begun list) h (has_append sent (process id ∷ []) (process id)
     ∙ or_right (has_item sent (process id)) (has_item (process id ∷ []) (process id)) (or_one id))
-    (ap length names) (λ x name e. one_number id x p.name name number
+    (ap length names) (λ x name e. one_number id x c.name name number
     (ap (λ (xs : List Name). name_sent (process id ∷ []) xs x) (sym names) ∙ e))
     (ap (λ (xs : List Name). name_sent (sent ++ process id ∷ []) (names_begun list ++ xs) id) names
-    ∙ name_own sent (names_begun list) p.name id past.count fresh))
+    ∙ name_own sent (names_begun list) c.name id past.count fresh))
 
 -- A target began it, for a process that has this name.
-pub again_past : (k : OpenedValue) (commands : Bool) (id : ProcId) (now back : CarriedBytes)
-    (conn history : List Event) (was : Bool) (st : Option ℕ) (n : Connection) (p : Process) (parts : List Part)
-    (free : Bool) (s : Summary) (more : List Event) (list : List Item) (sent : List told.Item)
-    → n.reselected ≡ true → has_item sent (process id) ≡ true → name_sent sent (names_begun list) id ≡ Some p.name
-    → IsClosing k commands id now back conn history was st n p parts free s more → IsPast list sent history
-    → IsPast (list ++ connection_items n p parts free s) sent ((more ++ conn) ++ history)
-again_past k commands id now back conn history was st n p parts free s more list sent again has named h past =
-    let names : names_begun (connection_items n p parts free s) ≡ [] = connection_names n p parts free s
-    ∙ ap (λ (q : Bool). if q then [] else p.name ∷ []) again in
-    subst (λ (xs : List told.Item). IsPast (list ++ connection_items n p parts free s) xs ((more ++ conn) ++ history))
-    (append-nil sent) (past_more list (connection_items n p parts free s) sent [] (more ++ conn) history past
-    (own_adds k commands id now back conn history was st n p parts free s more sent []
+pub again_past : (o : OpenedValue) (commands : Bool) (id : ProcId) (now back : CarriedBytes)
+    (conn history : List Event) (was : Bool) (st : Option ℕ) (n : Connection) (c : Process) (parts : List Part)
+    (free : Bool) (u : Summary) (more : List Event) (list : List Item) (sent : List told.Item)
+    → n.reselected ≡ true → has_item sent (process id) ≡ true → name_sent sent (names_begun list) id ≡ Some c.name
+    → IsClosing o commands id now back conn history was st n c parts free u more → IsPast list sent history
+    → IsPast (list ++ connection_items n c parts free u) sent ((more ++ conn) ++ history)
+again_past o commands id now back conn history was st n c parts free u more list sent again has named h past =
+    let names : names_begun (connection_items n c parts free u) ≡ [] = connection_names n c parts free u
+    ∙ ap (λ (q : Bool). if q then [] else c.name ∷ []) again in
+    subst (λ (xs : List told.Item). IsPast (list ++ connection_items n c parts free u) xs ((more ++ conn) ++ history))
+    (append-nil sent) (past_more list (connection_items n c parts free u) sent [] (more ++ conn) history past
+    (own_adds o commands id now back conn history was st n c parts free u more sent []
     (names_begun list) h (ap (λ (xs : List told.Item). has_item xs (process id)) (append-nil sent) ∙ has)
     (ap length names) (λ x name e. none_some name e) ((λ i. name_sent (append-nil sent i)
     ((ap (λ (xs : List Name). names_begun list ++ xs) names ∙ append-nil (names_begun list)) i) id) ∙ named)))

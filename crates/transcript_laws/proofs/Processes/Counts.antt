@@ -31,19 +31,19 @@ less_by_one i (x ∷ items) e = go (same_item x i) e (λ z. less_by_one i items 
     go true z rest = omega arith
     go false z rest = let r = rest z in omega (arith, r)
 
-others_stay : (i j : Item) (items : List Item) → same_item i j ≡ false → has_item items j ≡ true
-    → has_item (without i items) j ≡ true
-others_stay i j [] ne e = wrong' e
-others_stay i j (x ∷ items) ne e = go (same_item x i) refl (same_item x j) refl e (λ z. others_stay i j items ne z)
+others_stay : (i w : Item) (items : List Item) → same_item i w ≡ false → has_item items w ≡ true
+    → has_item (without i items) w ≡ true
+others_stay i w [] ne e = wrong' e
+others_stay i w (x ∷ items) ne e = go (same_item x i) refl (same_item x w) refl e (λ z. others_stay i w items ne z)
   where
-    go : (q : Bool) → same_item x i ≡ q → (r : Bool) → same_item x j ≡ r → (same_item x j || has_item items j) ≡ true
-        → (has_item items j ≡ true → has_item (without i items) j ≡ true)
-        → has_item (if q then items else x ∷ without i items) j ≡ true
-    go true f true g z rest = wrong (sym (ap (λ (y : Item). same_item y j) (sym (item_is x i f)) ∙ g) ∙ ne)
-    go true f false g z rest = sym (ap (λ (q : Bool). q || has_item items j) g) ∙ z
-    go false f true g z rest = ap (λ (q : Bool). q || has_item (without i items) j) g
-    go false f false g z rest = ap (λ (q : Bool). q || has_item (without i items) j) g
-        ∙ rest (sym (ap (λ (q : Bool). q || has_item items j) g) ∙ z)
+    go : (q : Bool) → same_item x i ≡ q → (r : Bool) → same_item x w ≡ r → (same_item x w || has_item items w) ≡ true
+        → (has_item items w ≡ true → has_item (without i items) w ≡ true)
+        → has_item (if q then items else x ∷ without i items) w ≡ true
+    go true f true g z rest = wrong (sym (ap (λ (y : Item). same_item y w) (sym (item_is x i f)) ∙ g) ∙ ne)
+    go true f false g z rest = sym (ap (λ (q : Bool). q || has_item items w) g) ∙ z
+    go false f true g z rest = ap (λ (q : Bool). q || has_item (without i items) w) g
+    go false f false g z rest = ap (λ (q : Bool). q || has_item (without i items) w) g
+        ∙ rest (sym (ap (λ (q : Bool). q || has_item items w) g) ∙ z)
 
 pub few_of : (xs ys : List Item) → AreOnce xs → ((i : Item) → has_item xs i ≡ true → has_item ys i ≡ true)
     → length xs ≤ length ys
@@ -62,23 +62,23 @@ few_of (x ∷ xs) ys once within =
 -- ---- all items of a scenario
 
 abbrev items_from : ℕ → List CmdDef → List Item
-items_from n [] = []
-items_from n (c ∷ commands) = command_item n ∷ sense_item n ∷ items_from (n + 1) commands
+items_from m [] = []
+items_from m (c ∷ commands) = command_item m ∷ sense_item m ∷ items_from (m + 1) commands
 
 abbrev aborts_from : ℕ → List AbortDef → List Item
-aborts_from n [] = []
-aborts_from n (a ∷ aborts) = abort n ∷ aborts_from (n + 1) aborts
+aborts_from m [] = []
+aborts_from m (a ∷ aborts) = abort m ∷ aborts_from (m + 1) aborts
 
 abbrev all_items : ScenarioValue → List Item
 all_items s = items_from 1 s.commands ++ aborts_from 1 s.aborts
 
-items_count : (n : ℕ) (commands : List CmdDef) → length (items_from n commands) ≡ length commands + length commands
-items_count n [] = refl
-items_count n (c ∷ commands) = let r = items_count (n + 1) commands in omega (arith, r)
+items_count : (m : ℕ) (commands : List CmdDef) → length (items_from m commands) ≡ length commands + length commands
+items_count m [] = refl
+items_count m (c ∷ commands) = let r = items_count (m + 1) commands in omega (arith, r)
 
-aborts_count : (n : ℕ) (aborts : List AbortDef) → length (aborts_from n aborts) ≡ length aborts
-aborts_count n [] = refl
-aborts_count n (a ∷ aborts) = let r = aborts_count (n + 1) aborts in omega (arith, r)
+aborts_count : (m : ℕ) (aborts : List AbortDef) → length (aborts_from m aborts) ≡ length aborts
+aborts_count m [] = refl
+aborts_count m (a ∷ aborts) = let r = aborts_count (m + 1) aborts in omega (arith, r)
 
 pub all_count : (s : ScenarioValue) → length (all_items s) ≡ length s.commands + length s.commands + length s.aborts
 all_count s = length-append (items_from 1 s.commands) (aborts_from 1 s.aborts)
@@ -86,47 +86,47 @@ all_count s = length-append (items_from 1 s.commands) (aborts_from 1 s.aborts)
 
 -- ---- what is sent is among them
 
-command_there : (commands : List CmdDef) (n i m : ℕ) (c : CmdDef) → m ≡ n + i → command_at commands (suc i) ≡ Some c
-    → (has_item (items_from n commands) (command_item m) ≡ true)
-    × (has_item (items_from n commands) (sense_item m) ≡ true)
-command_there [] n i m c e f = none_some c f
-command_there (d ∷ commands) n zero m c e f =
-    let is : m ≡ n = e ∙ plus_none n in (
-      ap (λ (x : ℕ). has_item (items_from n (d ∷ commands)) (command_item x)) is
-          ∙ own_has (command_item n) (sense_item n ∷ items_from (n + 1) commands),
-      ap (λ (x : ℕ). has_item (items_from n (d ∷ commands)) (sense_item x)) is
-          ∙ more_has (command_item n) (sense_item n) (sense_item n ∷ items_from (n + 1) commands)
-          (own_has (sense_item n) (items_from (n + 1) commands)),
+command_there : (commands : List CmdDef) (l i m : ℕ) (c : CmdDef) → m ≡ l + i → command_at commands (suc i) ≡ Some c
+    → (has_item (items_from l commands) (command_item m) ≡ true)
+    × (has_item (items_from l commands) (sense_item m) ≡ true)
+command_there [] l i m c e f = none_some c f
+command_there (d ∷ commands) l zero m c e f =
+    let is : m ≡ l = e ∙ plus_none l in (
+      ap (λ (x : ℕ). has_item (items_from l (d ∷ commands)) (command_item x)) is
+          ∙ own_has (command_item l) (sense_item l ∷ items_from (l + 1) commands),
+      ap (λ (x : ℕ). has_item (items_from l (d ∷ commands)) (sense_item x)) is
+          ∙ more_has (command_item l) (sense_item l) (sense_item l ∷ items_from (l + 1) commands)
+          (own_has (sense_item l) (items_from (l + 1) commands)),
     )
-command_there (d ∷ commands) n (suc i) m c e f =
-    let r = command_there commands (n + 1) i m c (e ∙ plus_one n i) f in (
-      more_has (command_item n) (command_item m) (sense_item n ∷ items_from (n + 1) commands)
-          (more_has (sense_item n) (command_item m) (items_from (n + 1) commands) r.0),
-      more_has (command_item n) (sense_item m) (sense_item n ∷ items_from (n + 1) commands)
-          (more_has (sense_item n) (sense_item m) (items_from (n + 1) commands) r.1),
+command_there (d ∷ commands) l (suc i) m c e f =
+    let r = command_there commands (l + 1) i m c (e ∙ plus_one l i) f in (
+      more_has (command_item l) (command_item m) (sense_item l ∷ items_from (l + 1) commands)
+          (more_has (sense_item l) (command_item m) (items_from (l + 1) commands) r.0),
+      more_has (command_item l) (sense_item m) (sense_item l ∷ items_from (l + 1) commands)
+          (more_has (sense_item l) (sense_item m) (items_from (l + 1) commands) r.1),
     )
 
-abort_there : (aborts : List AbortDef) (n i m : ℕ) (a : AbortDef) → m ≡ n + i → abort_line_at aborts (suc i) ≡ Some a
-    → has_item (aborts_from n aborts) (abort m) ≡ true
-abort_there [] n i m a e f = none_some a f
-abort_there (d ∷ aborts) n zero m a e f =
-    ap (λ (x : ℕ). has_item (aborts_from n (d ∷ aborts)) (abort x)) (e ∙ plus_none n)
-    ∙ own_has (abort n) (aborts_from (n + 1) aborts)
-abort_there (d ∷ aborts) n (suc i) m a e f =
-    more_has (abort n) (abort m) (aborts_from (n + 1) aborts) (abort_there aborts (n + 1) i m a (e ∙ plus_one n i) f)
+abort_there : (aborts : List AbortDef) (l i m : ℕ) (a : AbortDef) → m ≡ l + i → abort_line_at aborts (suc i) ≡ Some a
+    → has_item (aborts_from l aborts) (abort m) ≡ true
+abort_there [] l i m a e f = none_some a f
+abort_there (d ∷ aborts) l zero m a e f =
+    ap (λ (x : ℕ). has_item (aborts_from l (d ∷ aborts)) (abort x)) (e ∙ plus_none l)
+    ∙ own_has (abort l) (aborts_from (l + 1) aborts)
+abort_there (d ∷ aborts) l (suc i) m a e f =
+    more_has (abort l) (abort m) (aborts_from (l + 1) aborts) (abort_there aborts (l + 1) i m a (e ∙ plus_one l i) f)
 
 suc_is : (i : ℕ) → suc i ≡ 1 + i
 suc_is i = omega arith
 
-process_there : (s : ScenarioValue) (id : ProcId) (p : Process) → process_of s id ≡ Some p
+process_there : (s : ScenarioValue) (id : ProcId) (x : Process) → process_of s id ≡ Some x
     → has_item (all_items s) (process id) ≡ true
-process_there s id p e = has_append (items_from 1 s.commands) (aborts_from 1 s.aborts) (process id)
+process_there s id x e = has_append (items_from 1 s.commands) (aborts_from 1 s.aborts) (process id)
     ∙ or_left _ (has_item (aborts_from 1 s.aborts) (process id))
     (go id.command refl (command_at s.commands id.command) refl id.sense refl e)
   where
     go : (m : ℕ) → id.command ≡ m → (o : Option CmdDef) → command_at s.commands id.command ≡ o → (q : Bool)
-        → id.sense ≡ q → process_if s id o ≡ Some p → has_item (items_from 1 s.commands) (process id) ≡ true
-    go m em None eo q es f = none_some p f
+        → id.sense ≡ q → process_if s id o ≡ Some x → has_item (items_from 1 s.commands) (process id) ≡ true
+    go m em None eo q es f = none_some x f
     go zero em (Some c) eo q es f = none_some c (sym (none_at s.commands) ∙ ap (command_at s.commands) (sym em) ∙ eo)
     go (suc i) em (Some c) eo false es f =
         (λ t. has_item (items_from 1 s.commands) (process (record { command = id.command; sense = es t })))

@@ -28,7 +28,7 @@ kept_later s last sent more names later carried id count has h = record {
 -- Nor does what others carry, and what changes neither the status nor the marks.
 pub kept_carried : (s : ScenarioValue) (last : List (Key × Process)) (sent : List Item)
     (names : List Name) (before after : List CarriedBytes) (id : ProcId)
-    → ((p : Process) → IsKeptOf p (carried_of before id) → IsKeptOf p (carried_of after id))
+    → ((c : Process) → IsKeptOf c (carried_of before id) → IsKeptOf c (carried_of after id))
     → IsKept s last sent names before id → IsKept s last sent names after id
 kept_carried s last sent names before after id same h = record {
   definition = h.definition;
@@ -41,15 +41,15 @@ kept_carried s last sent names before after id same h = record {
 
 -- A process of another nexus is put.
 pub kept_other : (s : ScenarioValue) (last : List (Key × Process)) (sent : List Item)
-    (names : List Name) (carried : List CarriedBytes) (id : ProcId) (p : Process)
-    → ((d : array_of.Process) → array_of.process_of s id ≡ Some d → same_nexus p.name (nexus_of d) ≡ false)
-    → IsKept s last sent names carried id → IsKept s (with_last last p) sent names carried id
-kept_other s last sent names carried id p other h = record {
+    (names : List Name) (carried : List CarriedBytes) (id : ProcId) (c : Process)
+    → ((d : array_of.Process) → array_of.process_of s id ≡ Some d → same_nexus c.name (nexus_of d) ≡ false)
+    → IsKept s last sent names carried id → IsKept s (with_last last c) sent names carried id
+kept_other s last sent names carried id c other h = record {
   definition = h.definition;
   definition_is = h.definition_is;
   process = h.process;
-  last_is = is_last last p (nexus_of h.definition) ∙ ap
-      (λ (q : Bool). if q then Some p else process_of last (nexus_of h.definition)) (other h.definition h.definition_is)
+  last_is = is_last last c (nexus_of h.definition) ∙ ap
+      (λ (q : Bool). if q then Some c else process_of last (nexus_of h.definition)) (other h.definition h.definition_is)
       ∙ h.last_is;
   named = h.named;
   kept = h.kept;
@@ -57,14 +57,14 @@ kept_other s last sent names carried id p other h = record {
 
 -- Its own is put.
 pub kept_own : (s : ScenarioValue) (last : List (Key × Process)) (sent : List Item) (names : List Name)
-    (carried : List CarriedBytes) (id : ProcId) (p : Process) (d : array_of.Process)
-    → array_of.process_of s id ≡ Some d → same_nexus p.name (nexus_of d) ≡ true → name_sent sent names id ≡ Some p.name
-    → IsKeptOf p (carried_of carried id) → IsKept s (with_last last p) sent names carried id
-kept_own s last sent names carried id p d is own named kept = record {
+    (carried : List CarriedBytes) (id : ProcId) (c : Process) (d : array_of.Process)
+    → array_of.process_of s id ≡ Some d → same_nexus c.name (nexus_of d) ≡ true → name_sent sent names id ≡ Some c.name
+    → IsKeptOf c (carried_of carried id) → IsKept s (with_last last c) sent names carried id
+kept_own s last sent names carried id c d is own named kept = record {
   definition = d;
   definition_is = is;
-  process = p;
-  last_is = is_last last p (nexus_of d) ∙ ap (λ (q : Bool). if q then Some p else process_of last (nexus_of d)) own;
+  process = c;
+  last_is = is_last last c (nexus_of d) ∙ ap (λ (q : Bool). if q then Some c else process_of last (nexus_of d)) own;
   named = named;
   kept = kept;
 }

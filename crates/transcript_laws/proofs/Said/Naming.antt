@@ -42,8 +42,8 @@ pub outs_base : (o : OpenedValue) → outs_of (base_parts o) ≡ outs_of o.parts
 outs_base o = outs_append o.parts (held_parts o ++ o.since) ∙ ap (λ (x : List MsgOut). outs_of o.parts ++ x)
     (outs_append (held_parts o) o.since ∙ ap (λ (x : List MsgOut). x ++ outs_of o.since) (outs_held_now o))
   where
-    outs_held_now : (k : OpenedValue) → outs_of (held_parts k) ≡ []
-    outs_held_now k = outs_held (Rattle.transcript_laws.specs.Parts.is_void k.said) k.held
+    outs_held_now : (v : OpenedValue) → outs_of (held_parts v) ≡ []
+    outs_held_now v = outs_held (Rattle.transcript_laws.specs.Parts.is_void v.said) v.held
 
 pub outs_now : (o : OpenedValue) → outs_of (parts_now o) ≡ outs_of (base_parts o) ++ o.said
 outs_now o = outs_append (base_parts o) (out_parts o.said)
@@ -97,23 +97,23 @@ offers_mild true (Some h) = go (h.offers && nat_lt 0 h.period)
 
 -- ---- an opening, and what is said after it
 
-pub record IsOpening (p : Process) (outs : List MsgOut) : Type 0 where
+pub record IsOpening (c : Process) (outs : List MsgOut) : Type 0 where
   pub disc : Bool
   pub rest : List MsgOut
-  pub is : outs ≡ MsgOut.Identify disc p.unit ∷ tag_messages p.tag rest
+  pub is : outs ≡ MsgOut.Identify disc c.unit ∷ tag_messages c.tag rest
   pub mild : are_mild rest ≡ true
 
 tag_more : (tag : Tag) (rest more : List MsgOut) → tag_messages tag rest ++ more ≡ tag_messages tag (rest ++ more)
 tag_more Tag.Untagged rest more = refl
 tag_more _ rest more = refl
 
-pub opening_more : (p : Process) (outs more : List MsgOut) → IsOpening p outs → are_mild more ≡ true
-    → IsOpening p (outs ++ more)
-opening_more p outs more h e = record {
+pub opening_more : (c : Process) (outs more : List MsgOut) → IsOpening c outs → are_mild more ≡ true
+    → IsOpening c (outs ++ more)
+opening_more c outs more h e = record {
   disc = h.disc;
   rest = h.rest ++ more;
   is = ap (λ (x : List MsgOut). x ++ more) h.is
-      ∙ ap (λ (x : List MsgOut). MsgOut.Identify h.disc p.unit ∷ x) (tag_more p.tag h.rest more);
+      ∙ ap (λ (x : List MsgOut). MsgOut.Identify h.disc c.unit ∷ x) (tag_more c.tag h.rest more);
   mild = mild_more h.rest more h.mild e;
 }
 
@@ -121,20 +121,20 @@ tame_tag : (tag : Tag) (rest : List MsgOut) → are_tame rest ≡ true → are_t
 tame_tag Tag.Untagged rest e = e
 tame_tag _ rest e = e
 
-pub opening_tame : (p : Process) (outs : List MsgOut) → IsOpening p outs → are_tame outs ≡ true
-opening_tame p outs h = ap are_tame h.is ∙ tame_tag p.tag h.rest (mild_tame h.rest h.mild)
+pub opening_tame : (c : Process) (outs : List MsgOut) → IsOpening c outs → are_tame outs ≡ true
+opening_tame c outs h = ap are_tame h.is ∙ tame_tag c.tag h.rest (mild_tame h.rest h.mild)
 
 -- ---- the summary of parts, but for its departure, is that of the messages of the initiator
 
 abbrev pub names : Summary → Summary
-names s = record s { departure = Loss }
+names u = record u { departure = Loss }
 
 abbrev pub name_step : Summary → MsgOut → Summary
-name_step s m = record (named s (unit_out m) (tag_out m)) { abort = last_abort s.abort m }
+name_step u m = record (named u (unit_out m) (tag_out m)) { abort = last_abort u.abort m }
 
 abbrev pub name_steps : Summary → List MsgOut → Summary
-name_steps s [] = s
-name_steps s (m ∷ ms) = name_steps (name_step s m) ms
+name_steps u [] = u
+name_steps u (m ∷ ms) = name_steps (name_step u m) ms
 
 named_same : (a : Summary) (u t : Option ℕ) (b : Option MsgOut) (d : Departure)
     → names (record (named a u t) { abort = b; departure = d }) ≡ record (named (names a) u t) { abort = b }
@@ -242,24 +242,24 @@ opening_steps unit (Tag.Head n) disc rest e =
 
 -- ---- they name the process
 
-pub name_by : (s : ScenarioValue) (n : Connection) (parts : List Part) (id : ProcId) (p : Process)
-    → process_of s id ≡ Some p → p.initiator ≡ n.initiator → p.target ≡ n.target
-    → (summary_by n parts).unit ≡ Some p.unit → (summary_by n parts).tag ≡ tag_number p.tag
+pub name_by : (s : ScenarioValue) (n : Connection) (parts : List Part) (id : ProcId) (c : Process)
+    → process_of s id ≡ Some c → c.initiator ≡ n.initiator → c.target ≡ n.target
+    → (summary_by n parts).unit ≡ Some c.unit → (summary_by n parts).tag ≡ tag_number c.tag
     → name_process s n parts id ≡ true
-name_by s n parts id p of initiator target unit tag =
+name_by s n parts id c of initiator target unit tag =
     ap (λ (o : Option Process). is_of (Rattle.bus_transcript.specs.Rows.name_of n (summary_by n parts)) o) of
     ∙ (λ i. (n.initiator == initiator i && n.target == target i)
-    && (same_number (unit i) (Some p.unit) && same_number (tag i) (tag_number p.tag)))
-    ∙ (λ i. (eq_self n.initiator i && eq_self n.target i) && (eq_self p.unit i && number_same (tag_number p.tag) i))
+    && (same_number (unit i) (Some c.unit) && same_number (tag i) (tag_number c.tag)))
+    ∙ (λ i. (eq_self n.initiator i && eq_self n.target i) && (eq_self c.unit i && number_same (tag_number c.tag) i))
 
-pub opening_names : (s : ScenarioValue) (n : Connection) (parts : List Part) (id : ProcId) (p : Process)
-    → n.reselected ≡ false → process_of s id ≡ Some p → p.initiator ≡ n.initiator → p.target ≡ n.target
-    → IsOpening p (outs_of parts) → name_process s n parts id ≡ true
-opening_names s n parts id p sel of initiator target h =
-    let a = opening_steps p.unit p.tag h.disc h.rest h.mild in
+pub opening_names : (s : ScenarioValue) (n : Connection) (parts : List Part) (id : ProcId) (c : Process)
+    → n.reselected ≡ false → process_of s id ≡ Some c → c.initiator ≡ n.initiator → c.target ≡ n.target
+    → IsOpening c (outs_of parts) → name_process s n parts id ≡ true
+opening_names s n parts id c sel of initiator target h =
+    let a = opening_steps c.unit c.tag h.disc h.rest h.mild in
     let is : names (summary_by n parts)
-    ≡ name_steps no_summary (MsgOut.Identify h.disc p.unit ∷ tag_messages p.tag h.rest) =
+    ≡ name_steps no_summary (MsgOut.Identify h.disc c.unit ∷ tag_messages c.tag h.rest) =
     ap (λ (q : Bool). names (summary_of q no_summary parts)) sel
     ∙ names_same parts no_summary ∙ ap (name_steps no_summary) h.is in
-    name_by s n parts id p of initiator target (ap (λ (x : Summary). x.unit) is ∙ a.unit_is)
+    name_by s n parts id c of initiator target (ap (λ (x : Summary). x.unit) is ∙ a.unit_is)
     (ap (λ (x : Summary). x.tag) is ∙ a.tag_is)

@@ -84,13 +84,13 @@ offer_said true (Some h) = go (h.offers && nat_lt 0 h.period)
     go true = said_one (MsgOut.Sdtr (record { period = h.period; offset = h.offset })) tt
     go false = refl
 
-pub process_said : (h : Option HostDef) (negotiates : Bool) (p : Process) → p.unit < 8
-    → said_of [] (process_opening h negotiates (Some p))
-    ≡ MsgOut.Identify (not p.id.sense) p.unit ∷ tag_messages p.tag (offers_if negotiates h)
-process_said h negotiates p lt =
-    said_message (MsgOut.Identify (not p.id.sense) p.unit) lt (tag_bytes p.tag ++ offer_if negotiates h)
-    ∙ ap (λ (x : List MsgOut). MsgOut.Identify (not p.id.sense) p.unit ∷ x)
-    (tag_said p.tag (offer_if negotiates h) ∙ ap (tag_messages p.tag) (offer_said negotiates h))
+pub process_said : (h : Option HostDef) (negotiates : Bool) (c : Process) → c.unit < 8
+    → said_of [] (process_opening h negotiates (Some c))
+    ≡ MsgOut.Identify (not c.id.sense) c.unit ∷ tag_messages c.tag (offers_if negotiates h)
+process_said h negotiates c lt =
+    said_message (MsgOut.Identify (not c.id.sense) c.unit) lt (tag_bytes c.tag ++ offer_if negotiates h)
+    ∙ ap (λ (x : List MsgOut). MsgOut.Identify (not c.id.sense) c.unit ∷ x)
+    (tag_said c.tag (offer_if negotiates h) ∙ ap (tag_messages c.tag) (offer_said negotiates h))
 
 abbrev pub abort_messages : AbortKind → List MsgOut
 abort_messages AbortKind.All = MsgOut.Abort ∷ []
@@ -142,9 +142,9 @@ opening_plain s dev negotiates (Some (process id)) u = go (process_of s id) refl
     go : (o : Option Process) → process_of s id ≡ o
         → is_plain_said (said_of [] (process_opening (host_of s dev) negotiates o)) ≡ true
     go None e = refl
-    go (Some p) e =
-        ap is_plain_said (process_said (host_of s dev) negotiates p (unit_small s id p u e))
-        ∙ plain_tag p.tag (offers_if negotiates (host_of s dev)) (plain_offer negotiates (host_of s dev))
+    go (Some c) e =
+        ap is_plain_said (process_said (host_of s dev) negotiates c (unit_small s id c u e))
+        ∙ plain_tag c.tag (offers_if negotiates (host_of s dev)) (plain_offer negotiates (host_of s dev))
 opening_plain s dev negotiates (Some (abort n)) u = go (abort_line_at s.aborts n) refl
   where
     go : (o : Option AbortDef) → abort_line_at s.aborts n ≡ o → is_plain_said (said_of [] (abort_opening o)) ≡ true

@@ -150,14 +150,14 @@ turn_shown refused a c name id false room false history own marked named h r = r
 turn_shown refused a c name id true true false history own marked named h r = refl
 turn_shown refused a c name id true false false history own marked named h r = refl
 turn_shown refused a c name id false room true history own marked named h r =
-    ap (λ (n : Name). ready refused a.process.shown n) named
+    ap (λ (y : Name). ready refused a.process.shown y) named
     ∙ sym (ready_turn refused a c name id [] (turn_events true c []) history own marked h (turn c [] refl) r)
 turn_shown refused a c name id true true true history own marked named h r =
-    ap (λ (n : Name). Item.Arrive name ∷ ready refused a.process.shown n) named
+    ap (λ (y : Name). Item.Arrive name ∷ ready refused a.process.shown y) named
     ∙ sym (ready_turn refused a c name id (Event.Accept c.id ∷ [])
     (turn_events true c (Event.Accept c.id ∷ [])) history own marked h (turn c (Event.Accept c.id ∷ []) refl) r)
 turn_shown refused a c name id true false true history own marked named h r =
-    ap (λ (n : Name). Item.Arrive name ∷ ready refused a.process.shown n) named
+    ap (λ (y : Name). Item.Arrive name ∷ ready refused a.process.shown y) named
     ∙ ap (λ (list : List Item). Item.Arrive name ∷ list) (ready_none refused a.process.shown name (r.refusal refusing))
     ∙ ap (λ (list : List Event). conn_items name list) (sym (refused_turn c c.id))
   where

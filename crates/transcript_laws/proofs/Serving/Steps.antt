@@ -45,12 +45,12 @@ of_block a c h = record {
 -- ---- the account by its parts
 
 abbrev pub account_by : Process → List Part → AccountValue
-account_by p parts = account_after_all (account_of p []) parts
+account_by c parts = account_after_all (account_of c []) parts
 
-account_one : (k l : OpenedValue) (p : Process) (part : Part) → base_parts l ≡ base_parts k ++ part ∷ []
-    → account_base l p ≡ account_after (account_base k p) part
-account_one k l p part e =
-    ap (λ (parts : List Part). account_by p parts) e ∙ all_after (account_of p []) (base_parts k) (part ∷ [])
+account_one : (o l : OpenedValue) (c : Process) (part : Part) → base_parts l ≡ base_parts o ++ part ∷ []
+    → account_base l c ≡ account_after (account_base o c) part
+account_one o l c part e =
+    ap (λ (parts : List Part). account_by c parts) e ∙ all_after (account_of c []) (base_parts o) (part ∷ [])
 
 -- The events that are told, with one more.
 abbrev pub conn_items : Name → List Event → List Item
@@ -65,17 +65,17 @@ conn_more name event conn =
 
 -- ---- messages to the target
 
-pub said_serves : (k : OpenedValue) (q : Bool) (id : ProcId) (now back : CarriedBytes)
+pub said_serves : (o : OpenedValue) (q : Bool) (id : ProcId) (now back : CarriedBytes)
     (conn history : List Event) (was : Bool) (before : Option ℕ) (said : List MsgOut)
-    → is_void said ≡ is_void k.said → IsServing k q id now back conn history was before
-    → IsServing (record k { said = said }) q id now back conn history was before
-said_serves k q id now back conn history was before said e h = record {
+    → is_void said ≡ is_void o.said → IsServing o q id now back conn history was before
+    → IsServing (record o { said = said }) q id now back conn history was before
+said_serves o q id now back conn history was before said e h = record {
   account = λ p b. subst (λ (parts : List Part). IsAccountOf
-      (with_block (account_by p parts) (if q then k.bytes else []) (q && k.struck)) now) (sym (base_said k said e))
+      (with_block (account_by p parts) (if q then o.bytes else []) (q && o.struck)) now) (sym (base_said o said e))
       (h.account p b);
   void = h.void;
   told =
-      λ refused p b r. ap (λ (parts : List Part). shown_items refused (account_by p parts).items) (base_said k said e)
+      λ refused p b r. ap (λ (parts : List Part). shown_items refused (account_by p parts).items) (base_said o said e)
       ∙ h.told refused p b r;
 }
 
@@ -86,82 +86,82 @@ held_talk false (Some (Whole m)) = refl
 held_talk false (Some Broken) = refl
 
 -- MESSAGE PARITY ERROR.
-pub void_serves : (k : OpenedValue) (id : ProcId) (now back : CarriedBytes) (conn history : List Event)
+pub void_serves : (o : OpenedValue) (id : ProcId) (now back : CarriedBytes) (conn history : List Event)
     (was : Bool) (before : Option ℕ) (said : List MsgOut) (m : Incoming) → is_void said ≡ true
-    → k.held ≡ Some m → k.since ≡ [] → k.bytes ≡ [] → IsServing k false id now back conn history was before
-    → IsServing (record k { said = said }) false id back back conn history was before
-void_serves k id now back conn history was before said m e held none empty h = record {
+    → o.held ≡ Some m → o.since ≡ [] → o.bytes ≡ [] → IsServing o false id now back conn history was before
+    → IsServing (record o { said = said }) false id back back conn history was before
+void_serves o id now back conn history was before said m e held none empty h = record {
   account = λ p b. no_block _ back (subst (λ (parts : List Part). IsAccountOf (account_by p parts) back)
-      (sym (base_void k said e none)) (h.void m p held none empty b));
+      (sym (base_void o said e none)) (h.void m p held none empty b));
   void = h.void;
   told = λ refused p b r. ap (λ (parts : List Part). shown_items refused (account_by p parts).items)
-      (base_void k said e none) ∙ sym (append-nil (shown_items refused (account_by p k.parts).items))
-      ∙ sym (talk_more refused (account_by p k.parts) (held_parts k ++ []) (held_talk (is_void k.said) k.held)).shown
+      (base_void o said e none) ∙ sym (append-nil (shown_items refused (account_by p o.parts).items))
+      ∙ sym (talk_more refused (account_by p o.parts) (held_parts o ++ []) (held_talk (is_void o.said) o.held)).shown
       ∙ ap (λ (a : AccountValue). shown_items refused a.items)
-      (sym (all_after (account_of p []) k.parts (held_parts k ++ [])))
-      ∙ ap (λ (since : List Part). shown_items refused (account_by p (k.parts ++ (held_parts k ++ since))).items)
+      (sym (all_after (account_of p []) o.parts (held_parts o ++ [])))
+      ∙ ap (λ (since : List Part). shown_items refused (account_by p (o.parts ++ (held_parts o ++ since))).items)
       (sym none) ∙ h.told refused p b r;
 }
 
 -- Of a message that was broken off it changes nothing.
-broken_account : (k : OpenedValue) (p : Process) → is_broken k.held ≡ true → k.since ≡ []
-    → account_base k p ≡ account_by p k.parts
-broken_account k p e none =
-    ap (λ (since : List Part). account_by p (k.parts ++ (held_parts k ++ since))) none
-    ∙ all_after (account_of p []) k.parts (held_parts k ++ [])
-    ∙ go (is_void k.said) k.held e
+broken_account : (o : OpenedValue) (c : Process) → is_broken o.held ≡ true → o.since ≡ []
+    → account_base o c ≡ account_by c o.parts
+broken_account o c e none =
+    ap (λ (since : List Part). account_by c (o.parts ++ (held_parts o ++ since))) none
+    ∙ all_after (account_of c []) o.parts (held_parts o ++ [])
+    ∙ go (is_void o.said) o.held e
   where
     go : (q : Bool) (held : Option Incoming) → is_broken held ≡ true
-        → account_after_all (account_by p k.parts) ((if q then [] else held_part held) ++ []) ≡ account_by p k.parts
+        → account_after_all (account_by c o.parts) ((if q then [] else held_part held) ++ []) ≡ account_by c o.parts
     go true held f = refl
     go false None f = wrong (sym f)
     go false (Some (Whole m)) f = wrong (sym f)
     go false (Some Broken) f = refl
 
-pub broken_serves : (k : OpenedValue) (id : ProcId) (now back : CarriedBytes) (conn history : List Event)
+pub broken_serves : (o : OpenedValue) (id : ProcId) (now back : CarriedBytes) (conn history : List Event)
     (was : Bool) (before : Option ℕ) (said : List MsgOut) → is_void said ≡ true
-    → is_broken k.held ≡ true → k.since ≡ [] → IsServing k false id now back conn history was before
-    → IsServing (record k { said = said }) false id now back conn history was before
-broken_serves k id now back conn history was before said e broken none h = record {
+    → is_broken o.held ≡ true → o.since ≡ [] → IsServing o false id now back conn history was before
+    → IsServing (record o { said = said }) false id now back conn history was before
+broken_serves o id now back conn history was before said e broken none h = record {
   account = λ p b. subst (λ (a : AccountValue). IsAccountOf (with_block a [] false) now)
-      (broken_account k p broken none ∙ sym (ap (λ (parts : List Part). account_by p parts) (base_void k said e none)))
+      (broken_account o p broken none ∙ sym (ap (λ (parts : List Part). account_by p parts) (base_void o said e none)))
       (h.account p b);
   void = h.void;
   told = λ refused p b r. ap (λ (a : AccountValue). shown_items refused a.items)
-      (ap (λ (parts : List Part). account_by p parts) (base_void k said e none) ∙ sym (broken_account k p broken none))
+      (ap (λ (parts : List Part). account_by p parts) (base_void o said e none) ∙ sym (broken_account o p broken none))
       ∙ h.told refused p b r;
 }
 
 -- ---- messages to the initiator
 
-pub in_serves : (k : OpenedValue) (id : ProcId) (now back : CarriedBytes) (conn history : List Event) (was : Bool)
-    (before : Option ℕ) (m : MsgIn) → k.said ≡ [] → IsServing k false id now back conn history was before
-    → IsServing (with_in k (Whole m)) false id (carried_after_message now m) now conn history was before
-in_serves k id now back conn history was before m e h = record {
+pub in_serves : (o : OpenedValue) (id : ProcId) (now back : CarriedBytes) (conn history : List Event) (was : Bool)
+    (before : Option ℕ) (m : MsgIn) → o.said ≡ [] → IsServing o false id now back conn history was before
+    → IsServing (with_in o (Whole m)) false id (carried_after_message now m) now conn history was before
+in_serves o id now back conn history was before m e h = record {
   account = λ p b. no_block _ (carried_after_message now m)
       (subst (λ (a : AccountValue). IsAccountOf a (carried_after_message now m))
-      (sym (account_one k (with_in k (Whole m)) p (Part.In m) (base_in k (Whole m) e)))
-      (in_step (account_base k p) m now (of_block (account_base k p) now (h.account p b))));
-  void = λ x p held none empty b. subst (λ (parts : List Part). IsAccountOf (account_by p parts) now) (base_held k e)
-      (of_block (account_base k p) now (h.account p b));
+      (sym (account_one o (with_in o (Whole m)) p (Part.In m) (base_in o (Whole m) e)))
+      (in_step (account_base o p) m now (of_block (account_base o p) now (h.account p b))));
+  void = λ x p held none empty b. subst (λ (parts : List Part). IsAccountOf (account_by p parts) now) (base_held o e)
+      (of_block (account_base o p) now (h.account p b));
   told = λ refused p b r. ap (λ (a : AccountValue). shown_items refused a.items)
-      (account_one k (with_in k (Whole m)) p (Part.In m) (base_in k (Whole m) e))
-      ∙ (part_more refused (account_base k p) (Part.In m)).shown
-      ∙ append-nil (shown_items refused (account_base k p).items) ∙ h.told refused p b r;
+      (account_one o (with_in o (Whole m)) p (Part.In m) (base_in o (Whole m) e))
+      ∙ (part_more refused (account_base o p) (Part.In m)).shown
+      ∙ append-nil (shown_items refused (account_base o p).items) ∙ h.told refused p b r;
 }
 
 -- ---- bytes
 
-pub command_serves : (k : OpenedValue) (id : ProcId) (now back : CarriedBytes)
+pub command_serves : (o : OpenedValue) (id : ProcId) (now back : CarriedBytes)
     (conn history : List Event) (was : Bool) (before : Option ℕ) (byte : ℕ) (area : Area)
-    → IsServing k true id now back conn history was before → IsServing (record k {
-      bytes = k.bytes ++ byte ∷ [];
+    → IsServing o true id now back conn history was before → IsServing (record o {
+      bytes = o.bytes ++ byte ∷ [];
     }) true id (record now { command = area; block = now.block ++ byte ∷ [] }) back conn history was before
-command_serves k id now back conn history was before byte area h = record {
+command_serves o id now back conn history was before byte area h = record {
   account = λ p b.
       let g = h.account p b in
       record {
-        block = sym (append_assoc (account_base k p).block k.bytes (byte ∷ []))
+        block = sym (append_assoc (account_base o p).block o.bytes (byte ∷ []))
             ∙ ap (λ (xs : List ℕ). xs ++ byte ∷ []) g.block;
         struck = g.struck;
         first = g.first;
@@ -170,16 +170,16 @@ command_serves k id now back conn history was before byte area h = record {
         begun = g.begun;
         shown = g.shown;
       };
-  void = λ m p held none empty b. filled k.bytes byte empty;
+  void = λ m p held none empty b. filled o.bytes byte empty;
   told = h.told;
 }
 
-pub data_serves : (k : OpenedValue) (id : ProcId) (now back : CarriedBytes)
+pub data_serves : (o : OpenedValue) (id : ProcId) (now back : CarriedBytes)
     (conn history : List Event) (was : Bool) (before : Option ℕ) (byte : ℕ) (area : Area)
-    → IsServing k false id now back conn history was before → IsServing (record k {
-      bytes = k.bytes ++ byte ∷ [];
+    → IsServing o false id now back conn history was before → IsServing (record o {
+      bytes = o.bytes ++ byte ∷ [];
     }) false id (record now { moved = area }) back conn history was before
-data_serves k id now back conn history was before byte area h = record {
+data_serves o id now back conn history was before byte area h = record {
   account = λ p b.
       let g = h.account p b in
       record {
@@ -191,44 +191,44 @@ data_serves k id now back conn history was before byte area h = record {
         begun = g.begun;
         shown = g.shown;
       };
-  void = λ m p held none empty b. filled k.bytes byte empty;
+  void = λ m p held none empty b. filled o.bytes byte empty;
   told = h.told;
 }
 
-pub status_serves : (k : OpenedValue) (id : ProcId) (now back : CarriedBytes) (conn history : List Event)
-    (was : Bool) (before : Option ℕ) (byte : ℕ) → IsServing k false id now back conn history was before
-    → IsServing (with_part k (Part.Status byte)) false id
+pub status_serves : (o : OpenedValue) (id : ProcId) (now back : CarriedBytes) (conn history : List Event)
+    (was : Bool) (before : Option ℕ) (byte : ℕ) → IsServing o false id now back conn history was before
+    → IsServing (with_part o (Part.Status byte)) false id
     (record now { status = area_with now.status byte }) back conn history was before
-status_serves k id now back conn history was before byte h = record {
+status_serves o id now back conn history was before byte h = record {
   account = λ p b. no_block _ (record now { status = area_with now.status byte })
       (subst (λ (a : AccountValue). IsAccountOf a (record now { status = area_with now.status byte }))
-      (sym (account_one k (with_part k (Part.Status byte)) p (Part.Status byte) (base_more k (Part.Status byte))))
-      (status_step (account_base k p) now byte (of_block (account_base k p) now (h.account p b))));
-  void = λ m p held none empty b. filled k.since (Part.Status byte) none;
+      (sym (account_one o (with_part o (Part.Status byte)) p (Part.Status byte) (base_more o (Part.Status byte))))
+      (status_step (account_base o p) now byte (of_block (account_base o p) now (h.account p b))));
+  void = λ m p held none empty b. filled o.since (Part.Status byte) none;
   told = λ refused p b r. ap (λ (a : AccountValue). shown_items refused a.items)
-      (account_one k (with_part k (Part.Status byte)) p (Part.Status byte) (base_more k (Part.Status byte)))
-      ∙ (part_more refused (account_base k p) (Part.Status byte)).shown
-      ∙ append-nil (shown_items refused (account_base k p).items) ∙ h.told refused p b r;
+      (account_one o (with_part o (Part.Status byte)) p (Part.Status byte) (base_more o (Part.Status byte)))
+      ∙ (part_more refused (account_base o p) (Part.Status byte)).shown
+      ∙ append-nil (shown_items refused (account_base o p).items) ∙ h.told refused p b r;
 }
 
 -- ---- a fault
 
-or_true : (p q : Bool) → (p || (q || true)) ≡ true
+or_true : (r q : Bool) → (r || (q || true)) ≡ true
 or_true true q = refl
 or_true false true = refl
 or_true false false = refl
 
 -- It strikes a byte of COMMAND, or another.
-pub struck_serves : (k : OpenedValue) (id : ProcId) (now back : CarriedBytes) (conn history : List Event) (was : Bool)
-    (before failure : Option ℕ) → IsServing k true id now back conn history was before → IsServing (record k {
-      struck = k.struck || true;
+pub struck_serves : (o : OpenedValue) (id : ProcId) (now back : CarriedBytes) (conn history : List Event) (was : Bool)
+    (before failure : Option ℕ) → IsServing o true id now back conn history was before → IsServing (record o {
+      struck = o.struck || true;
     }) true id (record now { struck = true; failure = failure }) back conn history was before
-struck_serves k id now back conn history was before failure h = record {
+struck_serves o id now back conn history was before failure h = record {
   account = λ p b.
       let g = h.account p b in
       record {
         block = g.block;
-        struck = or_true (account_base k p).struck k.struck;
+        struck = or_true (account_base o p).struck o.struck;
         first = g.first;
         saved = g.saved;
         status = g.status;
@@ -239,12 +239,12 @@ struck_serves k id now back conn history was before failure h = record {
   told = h.told;
 }
 
-pub fault_serves : (k : OpenedValue) (id : ProcId) (now back : CarriedBytes)
+pub fault_serves : (o : OpenedValue) (id : ProcId) (now back : CarriedBytes)
     (conn history : List Event) (was : Bool) (before failure : Option ℕ) (strikes : Bool)
-    → IsServing k false id now back conn history was before → IsServing (record k {
-      struck = k.struck || strikes;
+    → IsServing o false id now back conn history was before → IsServing (record o {
+      struck = o.struck || strikes;
     }) false id (record now { failure = failure }) back conn history was before
-fault_serves k id now back conn history was before failure strikes h = record {
+fault_serves o id now back conn history was before failure strikes h = record {
   account = λ p b.
       let g = h.account p b in
       record {
@@ -266,25 +266,25 @@ ended_status : (bytes : List ℕ) → is_nil bytes ≡ false → first_byte byte
 ended_status [] e = wrong e
 ended_status (b ∷ bytes) e = refl
 
-pub end_serves : (k : OpenedValue) (id : ProcId) (now back : CarriedBytes) (conn history : List Event) (was : Bool)
-    (before : Option ℕ) → is_nil now.status.bytes ≡ false → IsServing k false id now back conn history was before
-    → IsServing (with_part k Part.Completion) false id now back (Event.End id (slice_index now.status.bytes 0) ∷ conn)
+pub end_serves : (o : OpenedValue) (id : ProcId) (now back : CarriedBytes) (conn history : List Event) (was : Bool)
+    (before : Option ℕ) → is_nil now.status.bytes ≡ false → IsServing o false id now back conn history was before
+    → IsServing (with_part o Part.Completion) false id now back (Event.End id (slice_index now.status.bytes 0) ∷ conn)
     (Event.End id (slice_index now.status.bytes 0) ∷ history) was before
-end_serves k id now back conn history was before some h = record {
-  account = λ p b. no_block _ now
-      (subst (λ (a : AccountValue). IsAccountOf a now) (sym (one p)) (same_account (account_base k p)
-      (account_after (account_base k p) Part.Completion) now (completion_step (account_base k p)) (plain p b)));
-  void = λ m p held none empty b. filled k.since Part.Completion none;
-  told = λ refused p b r. ap (λ (a : AccountValue). shown_items refused a.items) (one p)
-      ∙ (part_more refused (account_base k p) Part.Completion).shown
-      ∙ (λ i. h.told refused p b (record { refusal = r.refusal; answer = r.answer }) i ++ Item.End
-      (parts_name (account_of p []) (base_parts k) i) (((plain p b).status ∙ ended_status now.status.bytes some) i)
-      ∷ []) ∙ sym (conn_more p.name (Event.End id (slice_index now.status.bytes 0)) conn);
+end_serves o id now back conn history was before some h = record {
+  account = λ c b. no_block _ now
+      (subst (λ (a : AccountValue). IsAccountOf a now) (sym (one c)) (same_account (account_base o c)
+      (account_after (account_base o c) Part.Completion) now (completion_step (account_base o c)) (plain c b)));
+  void = λ m c held none empty b. filled o.since Part.Completion none;
+  told = λ refused c b r. ap (λ (a : AccountValue). shown_items refused a.items) (one c)
+      ∙ (part_more refused (account_base o c) Part.Completion).shown
+      ∙ (λ i. h.told refused c b (record { refusal = r.refusal; answer = r.answer }) i ++ Item.End
+      (parts_name (account_of c []) (base_parts o) i) (((plain c b).status ∙ ended_status now.status.bytes some) i)
+      ∷ []) ∙ sym (conn_more c.name (Event.End id (slice_index now.status.bytes 0)) conn);
 }
   where
     one :
-        (p : Process) → account_base (with_part k Part.Completion) p ≡ account_after (account_base k p) Part.Completion
-    one p = account_one k (with_part k Part.Completion) p Part.Completion (base_more k Part.Completion)
+        (c : Process) → account_base (with_part o Part.Completion) c ≡ account_after (account_base o c) Part.Completion
+    one c = account_one o (with_part o Part.Completion) c Part.Completion (base_more o Part.Completion)
 
-    plain : (p : Process) → IsAsBegun p was before → IsAccountOf (account_base k p) now
-    plain p b = of_block (account_base k p) now (h.account p b)
+    plain : (c : Process) → IsAsBegun c was before → IsAccountOf (account_base o c) now
+    plain c b = of_block (account_base o c) now (h.account c b)

@@ -43,11 +43,11 @@ all_untouched a was st (part ∷ parts) e h =
     let both = and_parts (is_talk part) (are_talk parts) e in
     all_untouched (account_after a part) was st parts both.1 (part_untouched a was st part both.0 h)
 
-talk_account : (p : Process) (parts : List Part) (was : Bool) (st : Option ℕ) (c : CarriedBytes)
-    → are_talk parts ≡ true → IsAsBegun p was st → IsBlank c → st ≡ first_byte c.status.bytes
-    → (c.refused ≡ false → was ≡ c.shown) → IsAccountOf (account_after_all (account_of p []) parts) c
-talk_account p parts was st c talk b blank status shown =
-    let h = all_untouched (account_of p []) was st parts talk
+talk_account : (t : Process) (parts : List Part) (was : Bool) (st : Option ℕ) (c : CarriedBytes)
+    → are_talk parts ≡ true → IsAsBegun t was st → IsBlank c → st ≡ first_byte c.status.bytes
+    → (c.refused ≡ false → was ≡ c.shown) → IsAccountOf (account_after_all (account_of t []) parts) c
+talk_account t parts was st c talk b blank status shown =
+    let h = all_untouched (account_of t []) was st parts talk
     (record { block = refl; struck = refl; first = refl; shown = b.shown; status = b.status }) in
     record {
       block = h.block ∙ sym blank.block;
@@ -55,7 +55,7 @@ talk_account p parts was st c talk b blank status shown =
       first = h.first ∙ (λ i. sym blank.active i == 0);
       saved = blank.saved;
       status = h.status ∙ status;
-      begun = ap (λ (n : ℕ). is_nil c.status.bytes && not (n == 0)) blank.active ∙ and_false (is_nil c.status.bytes);
+      begun = ap (λ (m : ℕ). is_nil c.status.bytes && not (m == 0)) blank.active ∙ and_false (is_nil c.status.bytes);
       shown = λ e. h.shown ∙ shown e;
     }
 
@@ -76,39 +76,39 @@ talk_first (x ∷ xs) ys e =
 -- ---- the process is known from then on
 
 -- As an initiator begins a connection, or once the names of a reselected process were said.
-pub talk_serves : (k : OpenedValue) (id : ProcId) (now back : CarriedBytes) (history : List Event) (p : Process)
-    → are_talk (base_parts k) ≡ true → IsBlank now → IsKeptOf p now → IsBlank back → IsKeptOf p back
-    → IsServing k false id now back [] history p.shown p.status
-talk_serves k id now back history p talk blank kept blank' kept' = record {
-  account = λ q b. no_block (account_base k q) now
-      (talk_account q (base_parts k) p.shown p.status now talk b blank kept.status kept.shown);
-  void = λ m q held none empty b. talk_account q k.parts p.shown p.status back
-      (talk_first k.parts (held_parts k ++ k.since) talk) b blank' kept'.status kept'.shown;
-  told = λ refused q b r. (talk_more refused (account_of q []) (base_parts k) talk).shown;
+pub talk_serves : (o : OpenedValue) (id : ProcId) (now back : CarriedBytes) (history : List Event) (c : Process)
+    → are_talk (base_parts o) ≡ true → IsBlank now → IsKeptOf c now → IsBlank back → IsKeptOf c back
+    → IsServing o false id now back [] history c.shown c.status
+talk_serves o id now back history c talk blank kept blank' kept' = record {
+  account = λ q b. no_block (account_base o q) now
+      (talk_account q (base_parts o) c.shown c.status now talk b blank kept.status kept.shown);
+  void = λ m q held none empty b. talk_account q o.parts c.shown c.status back
+      (talk_first o.parts (held_parts o ++ o.since) talk) b blank' kept'.status kept'.shown;
+  told = λ refused q b r. (talk_more refused (account_of q []) (base_parts o) talk).shown;
 }
 
 -- ---- messages alone, row by row
 
-pub talk_in : (k : OpenedValue) (m : MsgIn) → k.said ≡ [] → are_talk (base_parts k) ≡ true
-    → are_talk (base_parts (with_in k (Whole m))) ≡ true
-talk_in k m e talk = ap are_talk (base_in k (Whole m) e) ∙ talk_append (base_parts k) (Part.In m ∷ []) talk refl
+pub talk_in : (o : OpenedValue) (m : MsgIn) → o.said ≡ [] → are_talk (base_parts o) ≡ true
+    → are_talk (base_parts (with_in o (Whole m))) ≡ true
+talk_in o m e talk = ap are_talk (base_in o (Whole m) e) ∙ talk_append (base_parts o) (Part.In m ∷ []) talk refl
 
 -- With no COMMAND, no byte of data and no STATUS.
-pub talk_turned : (k : OpenedValue) (s after : LineSet) (half : List ℕ) → is_command s ≡ false
-    → k.bytes ≡ [] → is_status_phase after ≡ false → are_talk (base_parts k) ≡ true
-    → are_talk (base_parts (phase_entered (phase_over k s half true) after)) ≡ true
-talk_turned k s after half no_command empty no_status talk = ap are_talk (base_turned k s after half)
-    ∙ talk_append ((parts_now k ++ broken_parts s half) ++ phase_parts k s true)
+pub talk_turned : (o : OpenedValue) (l after : LineSet) (half : List ℕ) → is_command l ≡ false
+    → o.bytes ≡ [] → is_status_phase after ≡ false → are_talk (base_parts o) ≡ true
+    → are_talk (base_parts (phase_entered (phase_over o l half true) after)) ≡ true
+talk_turned o l after half no_command empty no_status talk = ap are_talk (base_turned o l after half)
+    ∙ talk_append ((parts_now o ++ broken_parts l half) ++ phase_parts o l true)
     (if is_status_phase after then Part.StatusPhase ∷ [] else [])
-    (talk_append (parts_now k ++ broken_parts s half) (phase_parts k s true) (talk_append (parts_now k)
-    (broken_parts s half) (talk_append (base_parts k) (out_parts k.said) talk (outs_talk k.said))
-    (broken_talk (is_message_in s && not (is_nil half)))) (phase_talk (is_data s)))
+    (talk_append (parts_now o ++ broken_parts l half) (phase_parts o l true) (talk_append (parts_now o)
+    (broken_parts l half) (talk_append (base_parts o) (out_parts o.said) talk (outs_talk o.said))
+    (broken_talk (is_message_in l && not (is_nil half)))) (phase_talk (is_data l)))
     (ap (λ (q : Bool). are_talk (if q then Part.StatusPhase ∷ [] else [])) no_status)
   where
-    phase_talk : (r : Bool) → are_talk (if is_command s then Part.Command k.bytes k.struck true ∷ []
-        else if r then data_parts (not s.io) k.bytes else []) ≡ true
+    phase_talk : (r : Bool) → are_talk (if is_command l then Part.Command o.bytes o.struck true ∷ []
+        else if r then data_parts (not l.io) o.bytes else []) ≡ true
     phase_talk true = ap (λ (q : Bool). are_talk
-        (if q then Part.Command k.bytes k.struck true ∷ [] else data_parts (not s.io) k.bytes)) no_command
-        ∙ ap (λ (bytes : List ℕ). are_talk (data_parts (not s.io) bytes)) empty
+        (if q then Part.Command o.bytes o.struck true ∷ [] else data_parts (not l.io) o.bytes)) no_command
+        ∙ ap (λ (bytes : List ℕ). are_talk (data_parts (not l.io) bytes)) empty
     phase_talk false =
-        ap (λ (q : Bool). are_talk (if q then Part.Command k.bytes k.struck true ∷ [] else [])) no_command
+        ap (λ (q : Bool). are_talk (if q then Part.Command o.bytes o.struck true ∷ [] else [])) no_command

@@ -81,73 +81,73 @@ phase_shown refused a c false false out bytes struck h = sym (append-nil (shown_
 
 -- The accounts before the last part, and all of them.
 abbrev pub over_account : OpenedValue → LineSet → List ℕ → Process → AccountValue
-over_account k s half p = account_after_all (account_after_all (account_after_all (account_base k p) (out_parts k.said))
-    (broken_parts s half)) (phase_parts k s true)
+over_account o l half c = account_after_all (account_after_all (account_after_all (account_base o c) (out_parts o.said))
+    (broken_parts l half)) (phase_parts o l true)
 
-pub turned_account : (k : OpenedValue) (s after : LineSet) (half : List ℕ) (p : Process)
-    → account_base (phase_entered (phase_over k s half true) after) p
-    ≡ account_after_all (over_account k s half p) (if is_status_phase after then Part.StatusPhase ∷ [] else [])
-turned_account k s after half p =
-    let a : AccountValue = account_of p [] in
+pub turned_account : (o : OpenedValue) (l after : LineSet) (half : List ℕ) (c : Process)
+    → account_base (phase_entered (phase_over o l half true) after) c
+    ≡ account_after_all (over_account o l half c) (if is_status_phase after then Part.StatusPhase ∷ [] else [])
+turned_account o l after half c =
+    let a : AccountValue = account_of c [] in
     let stat : List Part = if is_status_phase after then Part.StatusPhase ∷ [] else [] in
-    ap (λ (parts : List Part). account_after_all a parts) (base_turned k s after half)
-    ∙ all_after a ((parts_now k ++ broken_parts s half) ++ phase_parts k s true) stat
+    ap (λ (parts : List Part). account_after_all a parts) (base_turned o l after half)
+    ∙ all_after a ((parts_now o ++ broken_parts l half) ++ phase_parts o l true) stat
     ∙ ap (λ (x : AccountValue). account_after_all x stat)
-    (all_after a (parts_now k ++ broken_parts s half) (phase_parts k s true)
-    ∙ ap (λ (x : AccountValue). account_after_all x (phase_parts k s true))
-    (all_after a (parts_now k) (broken_parts s half) ∙ ap
-    (λ (x : AccountValue). account_after_all x (broken_parts s half)) (all_after a (base_parts k) (out_parts k.said))))
+    (all_after a (parts_now o ++ broken_parts l half) (phase_parts o l true)
+    ∙ ap (λ (x : AccountValue). account_after_all x (phase_parts o l true))
+    (all_after a (parts_now o) (broken_parts l half) ∙ ap
+    (λ (x : AccountValue). account_after_all x (broken_parts l half)) (all_after a (base_parts o) (out_parts o.said))))
 
-pub spoken_same : (k : OpenedValue) (s : LineSet) (half : List ℕ) (p : Process) → IsSame (account_base k p)
-    (account_after_all (account_after_all (account_base k p) (out_parts k.said)) (broken_parts s half))
-spoken_same k s half p =
-    let a : AccountValue = account_after_all (account_base k p) (out_parts k.said) in
-    same_on (account_base k p) a (account_after_all a (broken_parts s half)) (outs_same (account_base k p) k.said)
-    (broken_same a (is_message_in s && not (is_nil half)))
+pub spoken_same : (o : OpenedValue) (l : LineSet) (half : List ℕ) (c : Process) → IsSame (account_base o c)
+    (account_after_all (account_after_all (account_base o c) (out_parts o.said)) (broken_parts l half))
+spoken_same o l half c =
+    let a : AccountValue = account_after_all (account_base o c) (out_parts o.said) in
+    same_on (account_base o c) a (account_after_all a (broken_parts l half)) (outs_same (account_base o c) o.said)
+    (broken_same a (is_message_in l && not (is_nil half)))
 
-pub over_is : (k : OpenedValue) (s : LineSet) (half : List ℕ) (p : Process) (c : CarriedBytes)
-    → IsAccountOf (with_block (account_base k p) (if is_command s then k.bytes else []) (is_command s && k.struck)) c
-    → IsAccountOf (over_account k s half p) c
-over_is k s half p c h =
+pub over_is : (o : OpenedValue) (l : LineSet) (half : List ℕ) (t : Process) (c : CarriedBytes)
+    → IsAccountOf (with_block (account_base o t) (if is_command l then o.bytes else []) (is_command l && o.struck)) c
+    → IsAccountOf (over_account o l half t) c
+over_is o l half t c h =
     let b : AccountValue = account_after_all
-    (account_after_all (account_base k p) (out_parts k.said)) (broken_parts s half) in
-    phase_account b c (is_command s) (is_data s) (not s.io) k.bytes k.struck true
-    (same_account (with_block (account_base k p) (if is_command s then k.bytes else []) (is_command s && k.struck))
-    (with_block b (if is_command s then k.bytes else []) (is_command s && k.struck)) c (same_block (account_base k p) b
-    (if is_command s then k.bytes else []) (is_command s && k.struck) (spoken_same k s half p)) h)
+    (account_after_all (account_base o t) (out_parts o.said)) (broken_parts l half) in
+    phase_account b c (is_command l) (is_data l) (not l.io) o.bytes o.struck true
+    (same_account (with_block (account_base o t) (if is_command l then o.bytes else []) (is_command l && o.struck))
+    (with_block b (if is_command l then o.bytes else []) (is_command l && o.struck)) c (same_block (account_base o t) b
+    (if is_command l then o.bytes else []) (is_command l && o.struck) (spoken_same o l half t)) h)
 
-pub over_name : (k : OpenedValue) (s : LineSet) (half : List ℕ) (p : Process)
-    → (over_account k s half p).process.name ≡ p.name
-over_name k s half p =
-    let a : AccountValue = account_after_all (account_base k p) (out_parts k.said) in
-    parts_name (account_after_all a (broken_parts s half)) (phase_parts k s true) ∙ parts_name a (broken_parts s half)
-    ∙ parts_name (account_base k p) (out_parts k.said) ∙ parts_name (account_of p []) (base_parts k)
+pub over_name : (o : OpenedValue) (l : LineSet) (half : List ℕ) (c : Process)
+    → (over_account o l half c).process.name ≡ c.name
+over_name o l half c =
+    let a : AccountValue = account_after_all (account_base o c) (out_parts o.said) in
+    parts_name (account_after_all a (broken_parts l half)) (phase_parts o l true) ∙ parts_name a (broken_parts l half)
+    ∙ parts_name (account_base o c) (out_parts o.said) ∙ parts_name (account_of c []) (base_parts o)
 
-pub over_shown : (k : OpenedValue) (s : LineSet) (half : List ℕ) (p : Process) (c : CarriedBytes) (refused : List Name)
-    → IsAccountOf (with_block (account_base k p) (if is_command s then k.bytes else []) (is_command s && k.struck)) c
-    → shown_items refused (over_account k s half p).items
-    ≡ shown_items refused (account_base k p).items ++ arrival (is_command s && is_whole_block c) p.name
-over_shown k s half p c refused h =
-    let a : AccountValue = account_after_all (account_base k p) (out_parts k.said) in
-    let b : AccountValue = account_after_all a (broken_parts s half) in
-    phase_shown refused b c (is_command s) (is_data s) (not s.io) k.bytes k.struck
-    (same_account (with_block (account_base k p) (if is_command s then k.bytes else []) (is_command s && k.struck))
-    (with_block b (if is_command s then k.bytes else []) (is_command s && k.struck)) c (same_block (account_base k p) b
-    (if is_command s then k.bytes else []) (is_command s && k.struck) (spoken_same k s half p)) h)
-    ∙ (λ i. before i ++ arrival (is_command s && is_whole_block c) (name i))
+pub over_shown : (o : OpenedValue) (l : LineSet) (half : List ℕ) (t : Process) (c : CarriedBytes) (refused : List Name)
+    → IsAccountOf (with_block (account_base o t) (if is_command l then o.bytes else []) (is_command l && o.struck)) c
+    → shown_items refused (over_account o l half t).items
+    ≡ shown_items refused (account_base o t).items ++ arrival (is_command l && is_whole_block c) t.name
+over_shown o l half t c refused h =
+    let a : AccountValue = account_after_all (account_base o t) (out_parts o.said) in
+    let b : AccountValue = account_after_all a (broken_parts l half) in
+    phase_shown refused b c (is_command l) (is_data l) (not l.io) o.bytes o.struck
+    (same_account (with_block (account_base o t) (if is_command l then o.bytes else []) (is_command l && o.struck))
+    (with_block b (if is_command l then o.bytes else []) (is_command l && o.struck)) c (same_block (account_base o t) b
+    (if is_command l then o.bytes else []) (is_command l && o.struck) (spoken_same o l half t)) h)
+    ∙ (λ i. before i ++ arrival (is_command l && is_whole_block c) (name i))
   where
     before : shown_items refused
-        (account_after_all (account_after_all (account_base k p) (out_parts k.said)) (broken_parts s half)).items
-        ≡ shown_items refused (account_base k p).items
-    before = (talk_more refused (account_after_all (account_base k p) (out_parts k.said))
-        (broken_parts s half) (broken_talk (is_message_in s && not (is_nil half)))).shown
-        ∙ append-nil _ ∙ (talk_more refused (account_base k p) (out_parts k.said) (outs_talk k.said)).shown
+        (account_after_all (account_after_all (account_base o t) (out_parts o.said)) (broken_parts l half)).items
+        ≡ shown_items refused (account_base o t).items
+    before = (talk_more refused (account_after_all (account_base o t) (out_parts o.said))
+        (broken_parts l half) (broken_talk (is_message_in l && not (is_nil half)))).shown
+        ∙ append-nil _ ∙ (talk_more refused (account_base o t) (out_parts o.said) (outs_talk o.said)).shown
         ∙ append-nil _
 
     name :
-        (account_after_all (account_after_all (account_base k p) (out_parts k.said)) (broken_parts s half)).process.name
-        ≡ p.name
+        (account_after_all (account_after_all (account_base o t) (out_parts o.said)) (broken_parts l half)).process.name
+        ≡ t.name
     name =
-        parts_name (account_after_all (account_base k p) (out_parts k.said)) (broken_parts s half)
-        ∙ parts_name (account_base k p) (out_parts k.said)
-        ∙ parts_name (account_of p []) (base_parts k)
+        parts_name (account_after_all (account_base o t) (out_parts o.said)) (broken_parts l half)
+        ∙ parts_name (account_base o t) (out_parts o.said)
+        ∙ parts_name (account_of t []) (base_parts o)

@@ -39,18 +39,18 @@ refused_less refused name id shown history r = record {
 -- ---- the bytes of the next phase
 
 -- No byte of it has crossed.
-record IsNew (k : OpenedValue) : Type 0 where
-  bytes : k.bytes ≡ []
-  struck : k.struck ≡ false
+record IsNew (o : OpenedValue) : Type 0 where
+  bytes : o.bytes ≡ []
+  struck : o.struck ≡ false
 
-entered_new : (k : OpenedValue) (q : Bool) → IsNew k → IsNew (if q then with_part k Part.StatusPhase else k)
-entered_new k true h = record { bytes = h.bytes; struck = h.struck }
-entered_new k false h = h
+entered_new : (o : OpenedValue) (q : Bool) → IsNew o → IsNew (if q then with_part o Part.StatusPhase else o)
+entered_new o true h = record { bytes = h.bytes; struck = h.struck }
+entered_new o false h = h
 
-turned_new : (k : OpenedValue) (s after : LineSet) (half : List ℕ)
-    → IsNew (phase_entered (phase_over k s half true) after)
-turned_new k s after half =
-    entered_new (phase_over k s half true) (is_status_phase after) (record { bytes = refl; struck = refl })
+turned_new : (o : OpenedValue) (l after : LineSet) (half : List ℕ)
+    → IsNew (phase_entered (phase_over o l half true) after)
+turned_new o l after half =
+    entered_new (phase_over o l half true) (is_status_phase after) (record { bytes = refl; struck = refl })
 
 none_if : (q : Bool) (bytes : List ℕ) → bytes ≡ [] → (if q then bytes else []) ≡ []
 none_if true bytes e = e
@@ -74,128 +74,128 @@ new_account a c bytes struck e f h = record {
 
 -- ---- what MESSAGE PARITY ERROR would bring back
 
-pub in_no_command : (s : LineSet) → is_message_in s ≡ true → is_command s ≡ false
-in_no_command s e =
-    by_bool s.msg
-    (λ f. ap (λ (q : Bool). not q && s.cd && not s.io) f)
-    (λ f. wrong' (sym (ap (λ (q : Bool). q && s.cd && s.io) f) ∙ e))
+pub in_no_command : (l : LineSet) → is_message_in l ≡ true → is_command l ≡ false
+in_no_command l e =
+    by_bool l.msg
+    (λ f. ap (λ (q : Bool). not q && l.cd && not l.io) f)
+    (λ f. wrong' (sym (ap (λ (q : Bool). q && l.cd && l.io) f) ∙ e))
 
-no_phase_parts : (k : OpenedValue) (s : LineSet)
-    → (is_command s ≡ false → is_data s ≡ false → k.bytes ≡ []) → phase_parts k s true ≡ [] → k.bytes ≡ []
-no_phase_parts k s empty e = go (is_command s) (is_data s) refl refl e
+no_phase_parts : (o : OpenedValue) (l : LineSet)
+    → (is_command l ≡ false → is_data l ≡ false → o.bytes ≡ []) → phase_parts o l true ≡ [] → o.bytes ≡ []
+no_phase_parts o l empty e = go (is_command l) (is_data l) refl refl e
   where
-    go : (q r : Bool) → is_command s ≡ q → is_data s ≡ r
-        → (if q then Part.Command k.bytes k.struck true ∷ [] else if r then data_parts (not s.io) k.bytes else []) ≡ []
-        → k.bytes ≡ []
+    go : (q r : Bool) → is_command l ≡ q → is_data l ≡ r
+        → (if q then Part.Command o.bytes o.struck true ∷ [] else if r then data_parts (not l.io) o.bytes else []) ≡ []
+        → o.bytes ≡ []
     go true r f g z = absurd cc
-    go false true f g z = data_none (not s.io) k.bytes z
+    go false true f g z = data_none (not l.io) o.bytes z
     go false false f g z = empty f g
 
-now_account : (k : OpenedValue) (id : ProcId) (now back : CarriedBytes)
-    (conn history : List Event) (was : Bool) (st : Option ℕ) (q : Bool) (p : Process)
-    → q ≡ false → IsServing k q id now back conn history was st → IsAsBegun p was st
-    → IsAccountOf (account_by p (parts_now k)) now
-now_account k id now back conn history was st q p off h b = subst (λ (a : AccountValue). IsAccountOf a now)
-    (sym (all_after (account_of p []) (base_parts k) (out_parts k.said)))
-    (same_account (account_base k p) (account_after_all (account_base k p) (out_parts k.said)) now
-    (outs_same (account_base k p) k.said) (of_block (account_base k p) now
-    (subst (λ (r : Bool). IsAccountOf (with_block (account_base k p) (if r then k.bytes else []) (r && k.struck)) now)
-    off (h.account p b))))
+now_account : (o : OpenedValue) (id : ProcId) (now back : CarriedBytes)
+    (conn history : List Event) (was : Bool) (st : Option ℕ) (q : Bool) (c : Process)
+    → q ≡ false → IsServing o q id now back conn history was st → IsAsBegun c was st
+    → IsAccountOf (account_by c (parts_now o)) now
+now_account o id now back conn history was st q c off h b = subst (λ (a : AccountValue). IsAccountOf a now)
+    (sym (all_after (account_of c []) (base_parts o) (out_parts o.said)))
+    (same_account (account_base o c) (account_after_all (account_base o c) (out_parts o.said)) now
+    (outs_same (account_base o c) o.said) (of_block (account_base o c) now
+    (subst (λ (r : Bool). IsAccountOf (with_block (account_base o c) (if r then o.bytes else []) (r && o.struck)) now)
+    off (h.account c b))))
 
-pub void_over : (k : OpenedValue) (s : LineSet) (half : List ℕ) (id : ProcId)
+pub void_over : (o : OpenedValue) (l : LineSet) (half : List ℕ) (id : ProcId)
     (now back : CarriedBytes) (conn history : List Event) (was : Bool) (st : Option ℕ) (broken : Bool)
-    → (is_message_in s && not (is_nil half)) ≡ broken → (is_command s ≡ false → is_data s ≡ false → k.bytes ≡ [])
+    → (is_message_in l && not (is_nil half)) ≡ broken → (is_command l ≡ false → is_data l ≡ false → o.bytes ≡ [])
     → (broken ≡ true → (a : AccountValue) → IsAccountOf a now → IsAccountOf a back)
-    → IsServing k (is_command s) id now back conn history was st → (m : Incoming) (p : Process)
-    → (if broken then with_in (spoken k) Broken else spoken k).held ≡ Some m
-    → ((if broken then with_in (spoken k) Broken else spoken k).since
-    ++ phase_parts (if broken then with_in (spoken k) Broken else spoken k) s true) ≡ [] → IsAsBegun p was st
-    → IsAccountOf (account_by p (if broken then with_in (spoken k) Broken else spoken k).parts) back
-void_over k s half id now back conn history was st true e empty same h m p held none b = same refl
-    (account_by p (settled (spoken k) false).parts) (subst (λ (parts : List Part). IsAccountOf (account_by p parts) now)
-    (sym (spoken_parts k)) (now_account k id now back conn history was st (is_command s) p
-    (in_no_command s (and_first (is_message_in s) (not (is_nil half)) e)) h b))
-void_over k s half id now back conn history was st false e empty same h m p held none b =
-    let g = spoken_holds k m held in
-    let g' = spoken_keeps k in
-    let parts = both_none (spoken k).since (phase_parts (spoken k) s true) none in
-    let bytes : k.bytes ≡ [] = sym g'.bytes ∙ no_phase_parts (spoken k) s (λ x y. g'.bytes ∙ empty x y) parts.1 in
-    subst (λ (list : List Part). IsAccountOf (account_by p list) back) (sym g.parts)
-    (h.void m p (sym g.held ∙ held) (sym g.since ∙ parts.0) bytes b)
+    → IsServing o (is_command l) id now back conn history was st → (m : Incoming) (c : Process)
+    → (if broken then with_in (spoken o) Broken else spoken o).held ≡ Some m
+    → ((if broken then with_in (spoken o) Broken else spoken o).since
+    ++ phase_parts (if broken then with_in (spoken o) Broken else spoken o) l true) ≡ [] → IsAsBegun c was st
+    → IsAccountOf (account_by c (if broken then with_in (spoken o) Broken else spoken o).parts) back
+void_over o l half id now back conn history was st true e empty same h m c held none b = same refl
+    (account_by c (settled (spoken o) false).parts) (subst (λ (parts : List Part). IsAccountOf (account_by c parts) now)
+    (sym (spoken_parts o)) (now_account o id now back conn history was st (is_command l) c
+    (in_no_command l (and_first (is_message_in l) (not (is_nil half)) e)) h b))
+void_over o l half id now back conn history was st false e empty same h m c held none b =
+    let g = spoken_holds o m held in
+    let g' = spoken_keeps o in
+    let parts = both_none (spoken o).since (phase_parts (spoken o) l true) none in
+    let bytes : o.bytes ≡ [] = sym g'.bytes ∙ no_phase_parts (spoken o) l (λ x y. g'.bytes ∙ empty x y) parts.1 in
+    subst (λ (list : List Part). IsAccountOf (account_by c list) back) (sym g.parts)
+    (h.void m c (sym g.held ∙ held) (sym g.since ∙ parts.0) bytes b)
 
-pub void_turned : (k : OpenedValue) (s : LineSet) (half : List ℕ) (begins : Bool) (id : ProcId)
+pub void_turned : (o : OpenedValue) (l : LineSet) (half : List ℕ) (begins : Bool) (id : ProcId)
     (now back : CarriedBytes) (conn history : List Event) (was : Bool) (st : Option ℕ)
-    → (is_command s ≡ false → is_data s ≡ false → k.bytes ≡ [])
-    → ((is_message_in s && not (is_nil half)) ≡ true → (a : AccountValue) → IsAccountOf a now → IsAccountOf a back)
-    → IsServing k (is_command s) id now back conn history was st → (m : Incoming) (p : Process)
-    → (if begins then with_part (phase_over k s half true) Part.StatusPhase else phase_over k s half true).held ≡ Some m
-    → (if begins then with_part (phase_over k s half true) Part.StatusPhase else phase_over k s half true).since ≡ []
-    → IsAsBegun p was st → IsAccountOf (account_by p
-    (if begins then with_part (phase_over k s half true) Part.StatusPhase else phase_over k s half true).parts) back
-void_turned k s half true id now back conn history was st empty same h m p held none b =
-    filled (phase_over k s half true).since Part.StatusPhase none
-void_turned k s half false id now back conn history was st empty same h m p held none b = void_over k s half id now back
-    conn history was st (is_message_in s && not (is_nil half)) refl empty same h m p held none b
+    → (is_command l ≡ false → is_data l ≡ false → o.bytes ≡ [])
+    → ((is_message_in l && not (is_nil half)) ≡ true → (a : AccountValue) → IsAccountOf a now → IsAccountOf a back)
+    → IsServing o (is_command l) id now back conn history was st → (m : Incoming) (c : Process)
+    → (if begins then with_part (phase_over o l half true) Part.StatusPhase else phase_over o l half true).held ≡ Some m
+    → (if begins then with_part (phase_over o l half true) Part.StatusPhase else phase_over o l half true).since ≡ []
+    → IsAsBegun c was st → IsAccountOf (account_by c
+    (if begins then with_part (phase_over o l half true) Part.StatusPhase else phase_over o l half true).parts) back
+void_turned o l half true id now back conn history was st empty same h m c held none b =
+    filled (phase_over o l half true).since Part.StatusPhase none
+void_turned o l half false id now back conn history was st empty same h m c held none b = void_over o l half id now back
+    conn history was st (is_message_in l && not (is_nil half)) refl empty same h m c held none b
 
 -- A message that is broken off brings back what holds.
-cut_over : (k : OpenedValue) (s : LineSet) (half : List ℕ) (id : ProcId) (now back : CarriedBytes)
+cut_over : (o : OpenedValue) (l : LineSet) (half : List ℕ) (id : ProcId) (now back : CarriedBytes)
     (conn history : List Event) (was : Bool) (st : Option ℕ) (broken : Bool)
-    → (is_message_in s && not (is_nil half)) ≡ broken → broken ≡ true
-    → IsServing k (is_command s) id now back conn history was st → (p : Process) → IsAsBegun p was st
-    → IsAccountOf (account_by p (if broken then with_in (spoken k) Broken else spoken k).parts) now
-cut_over k s half id now back conn history was st true e cut h p b =
-    subst (λ (parts : List Part). IsAccountOf (account_by p parts) now) (sym (spoken_parts k)) (now_account k id now
-    back conn history was st (is_command s) p (in_no_command s (and_first (is_message_in s) (not (is_nil half)) e)) h b)
-cut_over k s half id now back conn history was st false e cut h p b = wrong' cut
+    → (is_message_in l && not (is_nil half)) ≡ broken → broken ≡ true
+    → IsServing o (is_command l) id now back conn history was st → (c : Process) → IsAsBegun c was st
+    → IsAccountOf (account_by c (if broken then with_in (spoken o) Broken else spoken o).parts) now
+cut_over o l half id now back conn history was st true e cut h c b =
+    subst (λ (parts : List Part). IsAccountOf (account_by c parts) now) (sym (spoken_parts o)) (now_account o id now
+    back conn history was st (is_command l) c (in_no_command l (and_first (is_message_in l) (not (is_nil half)) e)) h b)
+cut_over o l half id now back conn history was st false e cut h c b = wrong' cut
 
-pub cut_turned : (k : OpenedValue) (s : LineSet) (half : List ℕ) (begins : Bool) (id : ProcId) (now back : CarriedBytes)
-    (conn history : List Event) (was : Bool) (st : Option ℕ) → (is_message_in s && not (is_nil half)) ≡ true
-    → IsServing k (is_command s) id now back conn history was st → (m : Incoming) (p : Process)
-    → (if begins then with_part (phase_over k s half true) Part.StatusPhase else phase_over k s half true).held ≡ Some m
-    → (if begins then with_part (phase_over k s half true) Part.StatusPhase else phase_over k s half true).since ≡ []
-    → IsAsBegun p was st → IsAccountOf (account_by p
-    (if begins then with_part (phase_over k s half true) Part.StatusPhase else phase_over k s half true).parts) now
-cut_turned k s half true id now back conn history was st cut h m p held none b =
-    filled (phase_over k s half true).since Part.StatusPhase none
-cut_turned k s half false id now back conn history was st cut h m p held none b =
-    cut_over k s half id now back conn history was st (is_message_in s && not (is_nil half)) refl cut h p b
+pub cut_turned : (o : OpenedValue) (l : LineSet) (half : List ℕ) (begins : Bool) (id : ProcId) (now back : CarriedBytes)
+    (conn history : List Event) (was : Bool) (st : Option ℕ) → (is_message_in l && not (is_nil half)) ≡ true
+    → IsServing o (is_command l) id now back conn history was st → (m : Incoming) (c : Process)
+    → (if begins then with_part (phase_over o l half true) Part.StatusPhase else phase_over o l half true).held ≡ Some m
+    → (if begins then with_part (phase_over o l half true) Part.StatusPhase else phase_over o l half true).since ≡ []
+    → IsAsBegun c was st → IsAccountOf (account_by c
+    (if begins then with_part (phase_over o l half true) Part.StatusPhase else phase_over o l half true).parts) now
+cut_turned o l half true id now back conn history was st cut h m c held none b =
+    filled (phase_over o l half true).since Part.StatusPhase none
+cut_turned o l half false id now back conn history was st cut h m c held none b =
+    cut_over o l half id now back conn history was st (is_message_in l && not (is_nil half)) refl cut h c b
 
 -- ---- the turn
 
 -- What MESSAGE PARITY ERROR would bring back after it.
 abbrev pub IsVoid : OpenedValue → CarriedBytes → Bool → Option ℕ → Type 0
-IsVoid k back was st = (m : Incoming) (p : Process) → k.held ≡ Some m → k.since ≡ [] → IsAsBegun p was st
-    → IsAccountOf (account_by p k.parts) back
+IsVoid o back was st = (m : Incoming) (c : Process) → o.held ≡ Some m → o.since ≡ [] → IsAsBegun c was st
+    → IsAccountOf (account_by c o.parts) back
 
-pub turn_serves : (k : OpenedValue) (s after : LineSet) (half : List ℕ) (id : ProcId) (now before back : CarriedBytes)
+pub turn_serves : (o : OpenedValue) (l after : LineSet) (half : List ℕ) (id : ProcId) (now before back : CarriedBytes)
     (conn history : List Event) (was : Bool) (st : Option ℕ) (room : Bool) → now.id ≡ id
-    → now.refused ≡ has_refusal history id → IsVoid (phase_entered (phase_over k s half true) after) back was st
-    → IsServing k (is_command s) id now before conn history was st
-    → IsServing (phase_entered (phase_over k s half true) after) (is_command after) id (marked_with now
-    (turn_events (is_status_phase after) now (arrivals (is_command s && is_whole_block now) room now.id))) back
-    (turn_events (is_status_phase after) now (arrivals (is_command s && is_whole_block now) room now.id) ++ conn)
-    (turn_events (is_status_phase after) now (arrivals (is_command s && is_whole_block now) room now.id) ++ history) was
+    → now.refused ≡ has_refusal history id → IsVoid (phase_entered (phase_over o l half true) after) back was st
+    → IsServing o (is_command l) id now before conn history was st
+    → IsServing (phase_entered (phase_over o l half true) after) (is_command after) id (marked_with now
+    (turn_events (is_status_phase after) now (arrivals (is_command l && is_whole_block now) room now.id))) back
+    (turn_events (is_status_phase after) now (arrivals (is_command l && is_whole_block now) room now.id) ++ conn)
+    (turn_events (is_status_phase after) now (arrivals (is_command l && is_whole_block now) room now.id) ++ history) was
     st
-turn_serves k s after half id now before back conn history was st room own marked brings h = record {
-  account = λ p b. new_account (account_base (phase_entered (phase_over k s half true) after) p)
-      (marked_with now shown) _ _ (none_if (is_command after) _ (turned_new k s after half).bytes)
-      (and_right (is_command after) _ (turned_new k s after half).struck)
-      (subst (λ (a : AccountValue). IsAccountOf a (marked_with now shown)) (sym (turned_account k s after half p))
-      (turn_account (over_account k s half p) now (is_command s && is_whole_block now) room
-      (is_status_phase after) now.id (over_is k s half p now (h.account p b))));
+turn_serves o l after half id now before back conn history was st room own marked brings h = record {
+  account = λ p b. new_account (account_base (phase_entered (phase_over o l half true) after) p)
+      (marked_with now shown) _ _ (none_if (is_command after) _ (turned_new o l after half).bytes)
+      (and_right (is_command after) _ (turned_new o l after half).struck)
+      (subst (λ (a : AccountValue). IsAccountOf a (marked_with now shown)) (sym (turned_account o l after half p))
+      (turn_account (over_account o l half p) now (is_command l && is_whole_block now) room
+      (is_status_phase after) now.id (over_is o l half p now (h.account p b))));
   void = λ m p held none bytes b. brings m p held none b;
   told = λ refused p b r.
-      let a : AccountValue = over_account k s half p in
+      let a : AccountValue = over_account o l half p in
       let list : List Item = if is_status_phase after then ready refused a.process.shown a.process.name else [] in
-      ap (λ (x : AccountValue). shown_items refused x.items) (turned_account k s after half p)
+      ap (λ (x : AccountValue). shown_items refused x.items) (turned_account o l after half p)
       ∙ status_shown refused a (is_status_phase after)
-      ∙ ap (λ (xs : List Item). xs ++ list) (over_shown k s half p now refused (h.account p b)) ∙ append_assoc
-      (shown_items refused (account_base k p).items) (arrival (is_command s && is_whole_block now) p.name) list
+      ∙ ap (λ (xs : List Item). xs ++ list) (over_shown o l half p now refused (h.account p b)) ∙ append_assoc
+      (shown_items refused (account_base o p).items) (arrival (is_command l && is_whole_block now) p.name) list
       ∙ (λ i. h.told refused p b (refused_less refused p.name id shown history r) i
-      ++ turn_shown refused a now p.name id (is_command s && is_whole_block now) room
-      (is_status_phase after) history own marked (over_name k s half p) (over_is k s half p now (h.account p b)) r i)
+      ++ turn_shown refused a now p.name id (is_command l && is_whole_block now) room
+      (is_status_phase after) history own marked (over_name o l half p) (over_is o l half p now (h.account p b)) r i)
       ∙ sym (conn_append p.name shown conn);
 }
   where
     shown : List Event
-    shown = turn_events (is_status_phase after) now (arrivals (is_command s && is_whole_block now) room now.id)
+    shown = turn_events (is_status_phase after) now (arrivals (is_command l && is_whole_block now) room now.id)

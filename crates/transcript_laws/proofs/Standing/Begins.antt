@@ -87,12 +87,12 @@ again_next s rows row n re g numbered marked h = record {
 
 -- ---- an initiator began it, for an abort
 
-pub abort_next : (s : ScenarioValue) (rows : List Row) (row : Row) (n : Connection) (j : ℕ) → n.reselected ≡ false
-    → aim_of (story s rows).aims n.initiator ≡ Some (abort j) → has_item (story s rows).sent.sent (abort j) ≡ false
+pub abort_next : (s : ScenarioValue) (rows : List Row) (row : Row) (n : Connection) (m : ℕ) → n.reselected ≡ false
+    → aim_of (story s rows).aims n.initiator ≡ Some (abort m) → has_item (story s rows).sent.sent (abort m) ≡ false
     → Begins s rows row n → AreNumbered (transcribed rows).processes (names_begun (transcribed rows).items)
     → ((id : ProcId) → IsMarked (story s rows).history (carried_of (story s rows).carried id))
     → StandsApart s (transcribed rows) (story s rows) → Standing s (row ∷ rows)
-abort_next s rows row n j began aim fresh g numbered marked h = record {
+abort_next s rows row n m began aim fresh g numbered marked h = record {
   numbered = subst (λ (x : TranscriberValue). AreNumbered x.processes (names_begun x.items))
       (sym (change_is s rows row n g)) numbered;
   marked = λ id. subst (λ (x : Story). IsMarked x.history (carried_of x.carried id)) (sym story_is) (marked id);
@@ -101,7 +101,7 @@ abort_next s rows row n j began aim fresh g numbered marked h = record {
       (subst (λ (x : Story). StandsBy s (with_bus (record (transcribed rows) { opened = Some (opened_connection n) })
       row (row_reading (transcribed rows).bus_state row)) x) (sym story_is) (linked (record {
         opened = opened_connection n;
-        link = link_of n (Some (abort j));
+        link = link_of n (Some (abort m));
         opened_is = refl;
         link_is = refl;
         connection_is = g.next;
@@ -110,9 +110,9 @@ abort_next s rows row n j began aim fresh g numbered marked h = record {
         conn = [];
         history_is = refl;
         past = h.past;
-        begun = first (abort j) began refl (reverse-append (abort j ∷ []) b.sent.sent)
-            (has_reverse b.sent.sent (abort j) ∙ fresh);
-        stage = of_abort j began refl refl refl refl (λ id o but. h.kept id o but);
+        begun = first (abort m) began refl (reverse-append (abort m ∷ []) b.sent.sent)
+            (has_reverse b.sent.sent (abort m) ∙ fresh);
+        stage = of_abort m began refl refl refl refl (λ id o but. h.kept id o but);
         bytes = λ e. refl;
         said = λ e. refl;
         crossed = λ c e. no_crossing s rows row n g c e;
@@ -124,15 +124,15 @@ abort_next s rows row n j began aim fresh g numbered marked h = record {
     b = story s rows
 
     story_is : story s (row ∷ rows) ≡ story_with_history (record (story s rows) {
-      link = Some (link_of n (Some (abort j)));
-      sent = record (story s rows).sent { sent = abort j ∷ (story s rows).sent.sent };
+      link = Some (link_of n (Some (abort m)));
+      sent = record (story s rows).sent { sent = abort m ∷ (story s rows).sent.sent };
     }) (bus_state_after (story s rows).bus_state row (row_reading (story s rows).bus_state row)) []
         (story s rows).history
     story_is =
         first_story s (story s rows) row (row_reading (story s rows).bus_state row) n g.off g.alone g.next h.link_is
         ∙ ap (λ (x : Story). story_with_history x
         (bus_state_after (story s rows).bus_state row (row_reading (story s rows).bus_state row)) []
-        (story s rows).history) (sent_story (story s rows) n (abort j) began aim)
+        (story s rows).history) (sent_story (story s rows) n (abort m) began aim)
 
 -- ---- an initiator began it, for a process
 

@@ -97,30 +97,30 @@ marked_on s rows row item marked x = subst (λ (all : List CarriedBytes). IsMark
 -- ---- COMMAND and data
 
 -- With the byte beside those of its phase.
-byte_serves : (s : ScenarioValue) (rows : List Row) (row : Row) (k : OpenedValue)
+byte_serves : (s : ScenarioValue) (rows : List Row) (row : Row) (o : OpenedValue)
     (id : ProcId) (back : CarriedBytes) (conn : List Event) (was : Bool) (st : Option ℕ)
     → BytePhase (story s rows).bus_state.bus → is_status_phase (story s rows).bus_state.bus ≡ false
-    → IsServing k (is_command (story s rows).bus_state.bus) id
+    → IsServing o (is_command (story s rows).bus_state.bus) id
     (carried_of (story s rows).carried id) back conn (story s rows).history was st
-    → IsServing (record k { bytes = k.bytes ++ byte_of s rows row ∷ [] }) (is_command (story s rows).bus_state.bus) id
+    → IsServing (record o { bytes = o.bytes ++ byte_of s rows row ∷ [] }) (is_command (story s rows).bus_state.bus) id
     (with_byte s rows row (carried_of (story s rows).carried id)) back conn (story s rows).history was st
-byte_serves s rows row k id back conn was st (in_command q v) no_status h =
+byte_serves s rows row o id back conn was st (in_command q v) no_status h =
     let now : CarriedBytes = carried_of (story s rows).carried id in
-    let k' : OpenedValue = record k { bytes = k.bytes ++ byte_of s rows row ∷ [] } in
+    let k' : OpenedValue = record o { bytes = o.bytes ++ byte_of s rows row ∷ [] } in
     subst (λ (r : Bool). IsServing k' r id (with_byte s rows row now) back conn (story s rows).history was st)
     (sym q) (subst (λ (x : CarriedBytes). IsServing k' true id x back conn (story s rows).history was st)
-    (sym (command_byte (story s rows).bus_state.bus (byte_of s rows row) now q)) (command_serves k id now back conn
+    (sym (command_byte (story s rows).bus_state.bus (byte_of s rows row) now q)) (command_serves o id now back conn
     (story s rows).history was st (byte_of s rows row) (area_with now.command (byte_of s rows row))
-    (subst (λ (r : Bool). IsServing k r id now back conn (story s rows).history was st) q h)))
-byte_serves s rows row k id back conn was st (in_data q d v) no_status h =
+    (subst (λ (r : Bool). IsServing o r id now back conn (story s rows).history was st) q h)))
+byte_serves s rows row o id back conn was st (in_data q d v) no_status h =
     let now : CarriedBytes = carried_of (story s rows).carried id in
-    let k' : OpenedValue = record k { bytes = k.bytes ++ byte_of s rows row ∷ [] } in
+    let k' : OpenedValue = record o { bytes = o.bytes ++ byte_of s rows row ∷ [] } in
     subst (λ (r : Bool). IsServing k' r id (with_byte s rows row now) back conn (story s rows).history was st)
     (sym q) (subst (λ (x : CarriedBytes). IsServing k' false id x back conn (story s rows).history was st)
-    (sym (data_byte (story s rows).bus_state.bus (byte_of s rows row) now q d)) (data_serves k id now back conn
+    (sym (data_byte (story s rows).bus_state.bus (byte_of s rows row) now q d)) (data_serves o id now back conn
     (story s rows).history was st (byte_of s rows row) (area_with now.moved (byte_of s rows row))
-    (subst (λ (r : Bool). IsServing k r id now back conn (story s rows).history was st) q h)))
-byte_serves s rows row k id back conn was st (in_status q d v) no_status h = wrong (sym v ∙ no_status)
+    (subst (λ (r : Bool). IsServing o r id now back conn (story s rows).history was st) q h)))
+byte_serves s rows row o id back conn was st (in_status q d v) no_status h = wrong (sym v ∙ no_status)
 
 more_stands : (s : ScenarioValue) (rows : List Row) (row : Row) (h : StandsLinked s (transcribed rows) (story s rows))
     → ByteRow s rows row h → BytePhase (story s rows).bus_state.bus

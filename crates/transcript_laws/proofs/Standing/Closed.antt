@@ -16,13 +16,13 @@ use Rattle.bus_transcript.specs.declared.item.Item as item_of
 -- ---- one nexus
 
 pub nexus_same : (a b c : Name) → same_nexus a b ≡ true → same_nexus a c ≡ same_nexus b c
-nexus_same a b c e = sym (by_key a c) ∙ ap (λ (k : Key). is_at (key_cmp k) (key_of c)) (nexus_is a b e) ∙ by_key b c
+nexus_same a b c e = sym (by_key a c) ∙ ap (λ (x : Key). is_at (key_cmp x) (key_of c)) (nexus_is a b e) ∙ by_key b c
 
 -- A process that begins is of the nexus that its connection names.
 pub new_nexus : (aborts : Bool) (o : Option Process) (name c : Name)
     → same_nexus (process_after false aborts o name).name c ≡ same_nexus name c
 new_nexus aborts None name c = refl
-new_nexus aborts (Some p) name c = refl
+new_nexus aborts (Some t) name c = refl
 
 -- ---- the names
 
@@ -87,18 +87,18 @@ closed_opened t n parts free sum = refl
 
 -- The parts of the connection that stands, as it ends with the row.
 abbrev pub parts_left : ScenarioValue → List Row → OpenedValue → List Part
-parts_left s rows k = closing_parts k (story s rows).bus_state.bus (story s rows).bus_state.dialogue.half
+parts_left s rows o = closing_parts o (story s rows).bus_state.bus (story s rows).bus_state.dialogue.half
 
 abbrev pub closed_left : ScenarioValue → List Row → OpenedValue → Bool → TranscriberValue
-closed_left s rows k free =
-    closed_by (transcribed rows) k.connection (parts_left s rows k) free (summary_by k.connection (parts_left s rows k))
+closed_left s rows o free =
+    closed_by (transcribed rows) o.connection (parts_left s rows o) free (summary_by o.connection (parts_left s rows o))
 
-phase_closed : (t : TranscriberValue) (k : OpenedValue) (lines : LineSet) (half : List ℕ) (free : Bool)
-    → closed_with t (settled (phase_over k lines half false) false) free
-    ≡ closed_by t k.connection (closing_parts k lines half) free (summary_by k.connection (closing_parts k lines half))
-phase_closed t k lines half free = λ i. closed_by t
-    ((over_keeps k lines half false).connection i) (closing_parts k lines half) free
-    (summary_by ((over_keeps k lines half false).connection i) (closing_parts k lines half))
+phase_closed : (t : TranscriberValue) (o : OpenedValue) (lines : LineSet) (half : List ℕ) (free : Bool)
+    → closed_with t (settled (phase_over o lines half false) false) free
+    ≡ closed_by t o.connection (closing_parts o lines half) free (summary_by o.connection (closing_parts o lines half))
+phase_closed t o lines half free = λ i. closed_by t
+    ((over_keeps o lines half false).connection i) (closing_parts o lines half) free
+    (summary_by ((over_keeps o lines half false).connection i) (closing_parts o lines half))
 
 pub left_closed : (s : ScenarioValue) (rows : List Row) (row : Row)
     (h : StandsLinked s (transcribed rows) (story s rows)) (free : Bool)

@@ -10,12 +10,12 @@ use proofs.Names.{with_still_row, phase_over, phase_entered, with_row, transcrib
 use proofs.Standing.Linked.{IsOn, change_on, story_quiet, story_on, Makes}
 use Rattle.due_model.specs.story_model.specs.HistoryEvents.{is_completion}
 
-crossing_row : (k : OpenedValue) (w : BusState) (d : RowReading) (kind : Kind) → d.crosses ≡ true
-    → with_row k w d kind ≡ with_crossing k w.dialogue.is_last d
-crossing_row k w d kind e =
-    λ i. if e i then with_crossing k w.dialogue.is_last d
-    else if changes_phase d.change then phase_entered (phase_over k d.change.before w.dialogue.half true) d.change.after
-    else with_still_row k w d.change kind
+crossing_row : (o : OpenedValue) (w : BusState) (d : RowReading) (kind : Kind) → d.crosses ≡ true
+    → with_row o w d kind ≡ with_crossing o w.dialogue.is_last d
+crossing_row o w d kind e =
+    λ i. if e i then with_crossing o w.dialogue.is_last d
+    else if changes_phase d.change then phase_entered (phase_over o d.change.before w.dialogue.half true) d.change.after
+    else with_still_row o w d.change kind
 
 crossing_story : (s : ScenarioValue) (b : Story) (l : Link) (d : RowReading) (row : Row) → d.crosses ≡ true
     → story_in_connection s b (Some l) d row ≡ story_after_crossing s b l d
@@ -33,12 +33,12 @@ pub record Crosses (s : ScenarioValue) (rows : List Row) (row : Row) (l : Link) 
   pub incomplete : is_completion l (row_reading (story s rows).bus_state row).change ≡ false
 
 pub crossing_makes : (s : ScenarioValue) (rows : List Row) (row : Row)
-    (h : StandsLinked s (transcribed rows) (story s rows)) (k : OpenedValue) (c : Story)
+    (h : StandsLinked s (transcribed rows) (story s rows)) (o : OpenedValue) (c : Story)
     → IsOn s rows row h.opened.connection → Crosses s rows row h.link
-    → with_crossing h.opened (story s rows).bus_state.dialogue.is_last (row_reading (story s rows).bus_state row) ≡ k
+    → with_crossing h.opened (story s rows).bus_state.dialogue.is_last (row_reading (story s rows).bus_state row) ≡ o
     → story_after_crossing s (story s rows) h.link (row_reading (story s rows).bus_state row) ≡ c
-    → Makes s rows row k c []
-crossing_makes s rows row h k c on g e f = record {
+    → Makes s rows row o c []
+crossing_makes s rows row h o c on g e f = record {
   transcript_is = change_on s rows row h on ∙ ap (λ (x : OpenedValue). record (transcribed rows) {
     opened = Some x;
   }) (crossing_row h.opened (story s rows).bus_state (row_reading (story s rows).bus_state row) row.kind g.crosses ∙ e);

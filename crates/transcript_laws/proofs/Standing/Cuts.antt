@@ -48,18 +48,18 @@ phase_summary again true r out struck left sum bytes = refl
 phase_summary again false true out struck left sum bytes = data_summary again out sum bytes
 phase_summary again false false out struck left sum bytes = refl
 
-closing_names : (k : OpenedValue) (lines : LineSet) (half : List ℕ)
-    → SameNames (summary_by k.connection (parts_now k)) (summary_by k.connection (closing_parts k lines half))
-closing_names k lines half =
-    let again : Bool = k.connection.reselected in
-    let sum : Summary = summary_by k.connection (parts_now k) in
+closing_names : (o : OpenedValue) (lines : LineSet) (half : List ℕ)
+    → SameNames (summary_by o.connection (parts_now o)) (summary_by o.connection (closing_parts o lines half))
+closing_names o lines half =
+    let again : Bool = o.connection.reselected in
+    let sum : Summary = summary_by o.connection (parts_now o) in
     let g = broken_names again (is_message_in lines && not (is_nil half)) sum in
-    let e : summary_by k.connection (closing_parts k lines half) ≡ summary_of again sum (broken_parts lines half) =
-    ap (λ (parts : List Part). summary_of again no_summary parts) (over_parts k lines half false)
-    ∙ summary_append again no_summary (parts_now k ++ broken_parts lines half) (phase_parts k lines false)
-    ∙ phase_summary again (is_command lines) (is_data lines) (not lines.io) k.struck false
-    (summary_of again no_summary (parts_now k ++ broken_parts lines half)) k.bytes
-    ∙ summary_append again no_summary (parts_now k) (broken_parts lines half) in
+    let e : summary_by o.connection (closing_parts o lines half) ≡ summary_of again sum (broken_parts lines half) =
+    ap (λ (parts : List Part). summary_of again no_summary parts) (over_parts o lines half false)
+    ∙ summary_append again no_summary (parts_now o ++ broken_parts lines half) (phase_parts o lines false)
+    ∙ phase_summary again (is_command lines) (is_data lines) (not lines.io) o.struck false
+    (summary_of again no_summary (parts_now o ++ broken_parts lines half)) o.bytes
+    ∙ summary_append again no_summary (parts_now o) (broken_parts lines half) in
     record {
       unit = ap (λ (x : Summary). x.unit) e ∙ g.unit;
       tag = ap (λ (x : Summary). x.tag) e ∙ g.tag;
@@ -67,17 +67,17 @@ closing_names k lines half =
     }
 
 -- So it is cut where the connection so far is named.
-cut_left : (s : ScenarioValue) (k : OpenedValue) (item : Option Item) (lines : LineSet) (half : List ℕ)
-    → is_named s k item ≡ true → IsCut s k item (closing_parts k lines half)
-cut_left s k item lines half named =
-    let g = stands_cut s k item named in
-    let e = closing_names k lines half in
+cut_left : (s : ScenarioValue) (o : OpenedValue) (item : Option Item) (lines : LineSet) (half : List ℕ)
+    → is_named s o item ≡ true → IsCut s o item (closing_parts o lines half)
+cut_left s o item lines half named =
+    let g = stands_cut s o item named in
+    let e = closing_names o lines half in
     record {
-      shown = λ refused p. closing_shown refused k lines half p;
+      shown = λ refused p. closing_shown refused o lines half p;
       plain = λ id is. ap is_none e.abort ∙ g.plain id is;
       named = λ id is talk. (λ i. is_of (record {
-        initiator = k.connection.initiator;
-        target = k.connection.target;
+        initiator = o.connection.initiator;
+        target = o.connection.target;
         unit = e.unit i;
         tag = e.tag i;
         number = 0;
@@ -126,11 +126,11 @@ pub unlisted : (f : Item → Bool) (list : List Item) (x : ProcId) → not (list
 unlisted f [] x none has = wrong' has
 unlisted f (item ∷ list) x none has = go (same_item item (process x)) refl has none (λ z w. unlisted f list x z w)
   where
-    fails : (p q : Bool) → not (p || q) ≡ true → p ≡ false
+    fails : (r q : Bool) → not (r || q) ≡ true → r ≡ false
     fails true q z = wrong' z
     fails false q z = refl
 
-    second : (p q : Bool) → not (p || q) ≡ true → not q ≡ true
+    second : (r q : Bool) → not (r || q) ≡ true → not q ≡ true
     second true q z = wrong' z
     second false q z = z
 
@@ -138,27 +138,27 @@ unlisted f (item ∷ list) x none has = go (same_item item (process x)) refl has
         → (q || has_item list (process x)) ≡ true → not (f item || list_any f list) ≡ true
         → (not (list_any f list) ≡ true → has_item list (process x) ≡ true → f (process x) ≡ false)
         → f (process x) ≡ false
-    go true e h n rest = ap f (sym (item_is item (process x) e)) ∙ fails (f item) (list_any f list) n
-    go false e h n rest = rest (second (f item) (list_any f list) n) h
+    go true e h g rest = ap f (sym (item_is item (process x) e)) ∙ fails (f item) (list_any f list) g
+    go false e h g rest = rest (second (f item) (list_any f list) g) h
 
 -- What a reset ends is the same whether the link is there.
-ends_same : (drops stops : CmdDef → Bool) (e : Ending) (n : ℕ) (commands : List CmdDef) (b c : Story) → b.sent ≡ c.sent
-    → (story_with_ends drops stops e n commands b).sent ≡ (story_with_ends drops stops e n commands c).sent
-ends_same drops stops e n [] b c h = h
-ends_same drops stops e n (x ∷ commands) b c h =
-    ends_same drops stops e (n + 1) commands (after b) (after c) ((λ i. (after (record b { sent = h i })).sent)
-    ∙ go (is_open c.sent n && drops x) (stops x && list_any (λ k. k == n) c.sent.checks))
+ends_same : (drops stops : CmdDef → Bool) (e : Ending) (m : ℕ) (commands : List CmdDef) (b c : Story) → b.sent ≡ c.sent
+    → (story_with_ends drops stops e m commands b).sent ≡ (story_with_ends drops stops e m commands c).sent
+ends_same drops stops e m [] b c h = h
+ends_same drops stops e m (x ∷ commands) b c h =
+    ends_same drops stops e (m + 1) commands (after b) (after c) ((λ i. (after (record b { sent = h i })).sent)
+    ∙ go (is_open c.sent m && drops x) (stops x && list_any (λ k. k == m) c.sent.checks))
   where
     after : Story → Story
     after a =
-        if is_open a.sent n && drops x then story_with_end a (record { command = n; sense = false }) e
-        else if stops x && list_any (λ k. k == n) a.sent.checks then story_with_over a (sense_item n)
+        if is_open a.sent m && drops x then story_with_end a (record { command = m; sense = false }) e
+        else if stops x && list_any (λ k. k == m) a.sent.checks then story_with_over a (sense_item m)
         else a
 
-    go : (q r : Bool) → (if q then story_with_end (record b { sent = c.sent }) (record { command = n; sense = false }) e
-        else if r then story_with_over (record b { sent = c.sent }) (sense_item n) else record b { sent = c.sent }).sent
-        ≡ (if q then story_with_end c (record { command = n; sense = false }) e
-        else if r then story_with_over c (sense_item n) else c).sent
+    go : (q r : Bool) → (if q then story_with_end (record b { sent = c.sent }) (record { command = m; sense = false }) e
+        else if r then story_with_over (record b { sent = c.sent }) (sense_item m) else record b { sent = c.sent }).sent
+        ≡ (if q then story_with_end c (record { command = m; sense = false }) e
+        else if r then story_with_over c (sense_item m) else c).sent
     go true r = refl
     go false true = refl
     go false false = refl

@@ -14,7 +14,7 @@ use Rattle.bus_transcript.specs.declared.item.Item as item_of
 
 pub zero_number : (o : Option Process) (name : Name) → (process_after false true o name).name.number ≡ 0
 zero_number None name = refl
-zero_number (Some p) name = refl
+zero_number (Some c) name = refl
 
 one_more : (t : TranscriberValue) (n : Connection) (sum : Summary) → n.reselected ≡ false
     → length (names_begun t.items) < 4294967290 → AreNumbered t.processes (names_begun t.items)
@@ -38,23 +38,23 @@ distinct_names s rows less h = go h.stands
     t : TranscriberValue
     t = transcribed rows
 
-    by_kind : (k : OpenedValue) (q : Bool) → k.connection.reselected ≡ q
+    by_kind : (v : OpenedValue) (q : Bool) → v.connection.reselected ≡ q
         → AreDistinct (names_begun (transcribed rows).items ++ (if q then []
-        else (process_for (transcribed rows) k.connection (summary_by k.connection (parts_now k))).name ∷ []))
-    by_kind k true e = subst AreDistinct (sym (append-nil (names_begun (transcribed rows).items))) h.numbered.distinct
-    by_kind k false e =
-        one_more (transcribed rows) k.connection (summary_by k.connection (parts_now k)) e less h.numbered
+        else (process_for (transcribed rows) v.connection (summary_by v.connection (parts_now v))).name ∷ []))
+    by_kind v true e = subst AreDistinct (sym (append-nil (names_begun (transcribed rows).items))) h.numbered.distinct
+    by_kind v false e =
+        one_more (transcribed rows) v.connection (summary_by v.connection (parts_now v)) e less h.numbered
 
-    names : (k : OpenedValue) → names_begun (finished_if (transcribed rows) (Some k)).items
-        ≡ names_begun (transcribed rows).items ++ (if k.connection.reselected then []
-        else (process_for (transcribed rows) k.connection (summary_by k.connection (parts_now k))).name ∷ [])
-    names k =
-        let sum : Summary = summary_by k.connection (parts_now k) in
-        let p : Process = process_for t k.connection sum in
-        ap (λ (list : List item_of.Item). names_begun list) (standing_items t k)
-        ∙ names_append t.items (connection_items k.connection p (parts_now k) false sum)
+    names : (v : OpenedValue) → names_begun (finished_if (transcribed rows) (Some v)).items
+        ≡ names_begun (transcribed rows).items ++ (if v.connection.reselected then []
+        else (process_for (transcribed rows) v.connection (summary_by v.connection (parts_now v))).name ∷ [])
+    names v =
+        let sum : Summary = summary_by v.connection (parts_now v) in
+        let c : Process = process_for t v.connection sum in
+        ap (λ (list : List item_of.Item). names_begun list) (standing_items t v)
+        ∙ names_append t.items (connection_items v.connection c (parts_now v) false sum)
         ∙ ap (λ (list : List Name). names_begun t.items ++ list)
-        (connection_names k.connection p (parts_now k) false sum)
+        (connection_names v.connection c (parts_now v) false sum)
 
     go : StandsBy s (transcribed rows) (story s rows) → AreDistinct (names_begun (transcript_of rows))
     go (apart x) = subst (λ (o : Option OpenedValue). AreDistinct (names_begun (finished_if t o).items))

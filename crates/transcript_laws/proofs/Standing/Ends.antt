@@ -93,7 +93,7 @@ record Ended (s : ScenarioValue) (rows : List Row) (h : StandsLinked s (transcri
   departs : is_departure (summary_by h.opened.connection (parts_left s rows h.opened)).departure h.link.last ≡ true
 
 abbrev sum_left : ScenarioValue → List Row → OpenedValue → Summary
-sum_left s rows k = summary_by k.connection (parts_left s rows k)
+sum_left s rows o = summary_by o.connection (parts_left s rows o)
 
 -- Its events as BUS FREE comes.
 leaves_by : (s : ScenarioValue) (l : Link) (id : ProcId) (name : Name)
@@ -146,8 +146,8 @@ process_over : (s : ScenarioValue) (rows : List Row) (row : Row) (h : StandsLink
     → IsBegun (story s rows) h.opened h.link h.sent → Standing s (row ∷ rows)
 process_over s rows row h id back was st r g is serving events_are others from begun = go from begun
   where
-    k : OpenedValue
-    k = h.opened
+    a : OpenedValue
+    a = h.opened
 
     n : Connection
     n = h.opened.connection
@@ -158,8 +158,8 @@ process_over s rows row h id back was st r g is serving events_are others from b
     sum : Summary
     sum = summary_by h.opened.connection (parts_left s rows h.opened)
 
-    p : Process
-    p = process_for (transcribed rows) h.opened.connection (summary_by h.opened.connection (parts_left s rows h.opened))
+    t : Process
+    t = process_for (transcribed rows) h.opened.connection (summary_by h.opened.connection (parts_left s rows h.opened))
 
     put : Process
     put = (account_by (process_for (transcribed rows) h.opened.connection
@@ -169,7 +169,7 @@ process_over s rows row h id back was st r g is serving events_are others from b
         (summary_by h.opened.connection (parts_left s rows h.opened))) (parts_left s rows h.opened)).process.name
         ≡ (process_for (transcribed rows) h.opened.connection
         (summary_by h.opened.connection (parts_left s rows h.opened))).name
-    put_name = parts_name (account_of p []) parts
+    put_name = parts_name (account_of t []) parts
 
     u : TranscriberValue
     u = closed_left s rows h.opened true
@@ -180,18 +180,18 @@ process_over s rows row h id back was st r g is serving events_are others from b
     c : Story
     c = story_after_events s (record (story s rows) { link = None }) (bus_free_events s h.link h.link.last)
 
-    goes : Leaves id p.name (leaving_items true p.name sum) shown
-    goes = leaves_by s h.link id p.name sum sum.departure h.link.last refl refl g.departs is
+    goes : Leaves id t.name (leaving_items true t.name sum) shown
+    goes = leaves_by s h.link id t.name sum sum.departure h.link.last refl refl g.departs is
 
     order : sent_order c ≡ sent_order (story s rows)
     order = ap (λ (list : List Item). reverse list) (events_sent s (apart_story s rows) shown)
 
     shown_same : (refused : List Name) (q : Process)
-        → shown_items refused (account_by q parts).items ≡ shown_items refused (account_base k q).items
-    shown_same refused q = closing_shown refused k (story s rows).bus_state.bus (story s rows).bus_state.dialogue.half q
+        → shown_items refused (account_by q parts).items ≡ shown_items refused (account_base a q).items
+    shown_same refused q = closing_shown refused a (story s rows).bus_state.bus (story s rows).bus_state.dialogue.half q
 
-    is_closing : IsAsBegun p was st → IsClosing k (is_command (story s rows).bus_state.bus) id
-        (carried_of (story s rows).carried id) back h.conn h.old was st n p parts true sum shown
+    is_closing : IsAsBegun t was st → IsClosing a (is_command (story s rows).bus_state.bus) id
+        (carried_of (story s rows).carried id) back h.conn h.old was st n t parts true sum shown
     is_closing b = closing s (transcribed rows)
         (story s rows) h parts true shown id was st back shown_same goes b serving events_are
 
@@ -209,10 +209,10 @@ process_over s rows row h id back was st r g is serving events_are others from b
       numbered = closed_numbered (transcribed rows) n parts true sum r.less r.numbered;
       openly = free_openly row.time;
       past = past;
-      marked = λ x. leaves_marked id p.name (leaving_items true p.name sum) shown
+      marked = λ x. leaves_marked id t.name (leaving_items true t.name sum) shown
           (story s rows).history (carried_of c.carried x) goes
           (subst (λ (all : List CarriedBytes). IsMarked (story s rows).history (carried_of all x))
-          (sym (leaves_carried s (apart_story s rows) id p.name (leaving_items true p.name sum) shown goes))
+          (sym (leaves_carried s (apart_story s rows) id t.name (leaving_items true t.name sum) shown goes))
           (r.marked x));
       kept = kept_all;
     })
@@ -222,11 +222,11 @@ process_over s rows row h id back was st r g is serving events_are others from b
 
     -- The history, with its events beside those of the connection.
     told : (sent : List Item)
-        → IsPast ((transcribed rows).items ++ connection_items n p parts true sum) sent ((shown ++ h.conn) ++ h.old)
+        → IsPast ((transcribed rows).items ++ connection_items n t parts true sum) sent ((shown ++ h.conn) ++ h.old)
         → IsPast u.items sent (shown ++ (story s rows).history)
     told sent past = subst (λ (list : List item_of.Item). IsPast list sent (shown ++ (story s rows).history))
         (sym (closed_items (transcribed rows) n parts true sum)) (subst
-        (λ (list : List Event). IsPast ((transcribed rows).items ++ connection_items n p parts true sum) sent list)
+        (λ (list : List Event). IsPast ((transcribed rows).items ++ connection_items n t parts true sum) sent list)
         (append_assoc shown h.conn h.old ∙ ap (λ (list : List Event). shown ++ list) (sym h.history_is)) past)
 
     names : List Name
@@ -237,12 +237,12 @@ process_over s rows row h id back was st r g is serving events_are others from b
 
     carried : (x : ProcId) → carried_of (story s rows).carried x ≡ carried_of c.carried x
     carried x = ap (λ (all : List CarriedBytes). carried_of all x)
-        (sym (leaves_carried s (apart_story s rows) id p.name (leaving_items true p.name sum) shown goes))
+        (sym (leaves_carried s (apart_story s rows) id t.name (leaving_items true t.name sum) shown goes))
 
-    account : IsAsBegun p was st → IsKeptOf put (carried_of (story s rows).carried id)
-    account b = account_kept (account_by p parts) (carried_of (story s rows).carried id)
-        (closing_is k (story s rows).bus_state.bus (story s rows).bus_state.dialogue.half id
-        (carried_of (story s rows).carried id) back h.conn (story s rows).history was st p serving b)
+    account : IsAsBegun t was st → IsKeptOf put (carried_of (story s rows).carried id)
+    account b = account_kept (account_by t parts) (carried_of (story s rows).carried id)
+        (closing_is a (story s rows).bus_state.bus (story s rows).bus_state.dialogue.half id
+        (carried_of (story s rows).carried id) back h.conn (story s rows).history was st t serving b)
 
     -- An initiator began it.
     by_first : (item : Item) → n.reselected ≡ false → was ≡ false → st ≡ None → IsAlone s (story s rows) id
@@ -251,21 +251,21 @@ process_over s rows row h id back was st r g is serving events_are others from b
     by_first item began e f alone i ord fresh = over
         (subst (λ (sent : List Item). IsPast u.items sent (shown ++ (story s rows).history))
         (sym sent_is) (told (h.sent ++ process id ∷ [])
-        (first_past k (is_command (story s rows).bus_state.bus) id (carried_of (story s rows).carried id)
-        back h.conn h.old was st n p parts true sum shown (transcribed rows).items h.sent began unsent
+        (first_past a (is_command (story s rows).bus_state.bus) id (carried_of (story s rows).carried id)
+        back h.conn h.old was st n t parts true sum shown (transcribed rows).items h.sent began unsent
         (own_number (transcribed rows) n sum began g.plain) (is_closing begins) h.past)))
         (subst (λ (sent : List Item). AreKept s u c sent no_process) (sym sent_is)
         (put_kept s (transcribed rows) u (story s rows) c (h.sent ++ process id ∷ [])
-        (names ++ p.name ∷ []) id put processes (closed_names (transcribed rows) n parts true sum
-        ∙ ap (λ (q : Bool). names ++ (if q then [] else p.name ∷ [])) began) opens carried (record {
+        (names ++ t.name ∷ []) id put processes (closed_names (transcribed rows) n parts true sum
+        ∙ ap (λ (q : Bool). names ++ (if q then [] else t.name ∷ [])) began) opens carried (record {
           definition = named.definition;
           definition_is = named.definition_is;
           nexus = of_nexus (nexus_of named.definition) ∙ named.nexus;
-          named = name_own h.sent names p.name id h.past.count unsent ∙ ap (λ (x : Name). Some x) (sym put_name);
+          named = name_own h.sent names t.name id h.past.count unsent ∙ ap (λ (x : Name). Some x) (sym put_name);
           kept = account begins;
           others = λ x o but.
               let y = others x o but in
-              kept_later s (transcribed rows).processes h.sent (process id ∷ []) names (p.name ∷ [])
+              kept_later s (transcribed rows).processes h.sent (process id ∷ []) names (t.name ∷ [])
               (story s rows).carried x h.past.count (named_sent h.sent names x y.process.name y.named) y;
           apart = λ x d o but is_d. of_nexus (nexus_of d)
               ∙ nexus_same (name_of n sum) (nexus_of named.definition) (nexus_of d) named.nexus
@@ -281,7 +281,7 @@ process_over s rows row h id back was st r g is serving events_are others from b
         unsent : has_item h.sent (process id) ≡ false
         unsent = ap (λ (x : Item). has_item h.sent x) (sym same) ∙ fresh
 
-        begins : IsAsBegun p was st
+        begins : IsAsBegun t was st
         begins = process_new (transcribed rows) n sum was st began e f
 
         of_nexus : (x : Name) → same_nexus put.name x ≡ same_nexus (name_of n sum) x
@@ -295,12 +295,12 @@ process_over s rows row h id back was st r g is serving events_are others from b
         → IsAsBegun x.process was st → sent_order (story s rows) ≡ h.sent → Standing s (row ∷ rows)
     by_again re x y ord = over
         (subst (λ (sent : List Item). IsPast u.items sent (shown ++ (story s rows).history)) (sym (order ∙ ord))
-        (told h.sent (again_past k (is_command (story s rows).bus_state.bus) id (carried_of (story s rows).carried id)
-        back h.conn h.old was st n p parts true sum shown (transcribed rows).items h.sent re
-        (named_sent h.sent names id p.name called) called (is_closing begins) h.past)))
+        (told h.sent (again_past a (is_command (story s rows).bus_state.bus) id (carried_of (story s rows).carried id)
+        back h.conn h.old was st n t parts true sum shown (transcribed rows).items h.sent re
+        (named_sent h.sent names id t.name called) called (is_closing begins) h.past)))
         (subst (λ (sent : List Item). AreKept s u c sent no_process) (sym (order ∙ ord)) (put_kept s (transcribed rows)
         u (story s rows) c h.sent names id put processes (closed_names (transcribed rows) n parts true sum
-        ∙ ap (λ (q : Bool). names ++ (if q then [] else p.name ∷ [])) re ∙ append-nil names) opens carried (record {
+        ∙ ap (λ (q : Bool). names ++ (if q then [] else t.name ∷ [])) re ∙ append-nil names) opens carried (record {
           definition = x.definition;
           definition_is = x.definition_is;
           nexus = of_nexus;
@@ -310,13 +310,13 @@ process_over s rows row h id back was st r g is serving events_are others from b
           apart = λ z d o but is_d. apart z d o but is_d (same_nexus put.name (nexus_of d)) refl;
         })))
       where
-        own_is : p ≡ x.process
+        own_is : t ≡ x.process
         own_is = process_kept s (transcribed rows) n sum id x.definition x.process re g.named x.definition_is x.last_is
 
-        called : name_sent h.sent (names_begun (transcribed rows).items) id ≡ Some p.name
+        called : name_sent h.sent (names_begun (transcribed rows).items) id ≡ Some t.name
         called = x.named ∙ ap (λ (z : Process). Some z.name) (sym own_is)
 
-        begins : IsAsBegun p was st
+        begins : IsAsBegun t was st
         begins = subst (λ (z : Process). IsAsBegun z was st) (sym own_is) y
 
         same_named : put.name ≡ x.process.name
@@ -354,7 +354,7 @@ process_over s rows row h id back was st r g is serving events_are others from b
 abort_same : (aborts : Bool) (o : Option Process) (name : Name) (m : MsgOut)
     → abort_item (process_after false aborts o name).name m ≡ abort_item name m
 abort_same aborts None name m = refl
-abort_same aborts (Some p) name m = refl
+abort_same aborts (Some c) name m = refl
 
 -- It is that of its line.
 line_is : (n : Connection) (sum : Summary) (m : MsgOut) (a : AbortDef) → is_line n sum (Some m) (Some a) ≡ true
@@ -366,26 +366,26 @@ line_is n sum m a e =
     (optional_is sum.unit (Some a.unit) four.2 i) (kinds_are (kind_of m sum.tag) a.what four.3 i)
 
 -- The summary ends with an abort, and the line is there.
-record Aborts (s : ScenarioValue) (rows : List Row) (h : StandsLinked s (transcribed rows) (story s rows)) (j : ℕ) :
+record Aborts (s : ScenarioValue) (rows : List Row) (h : StandsLinked s (transcribed rows) (story s rows)) (m : ℕ) :
     Type 0 where
   message : MsgOut
   line : AbortDef
   departs : (sum_left s rows h.opened).departure ≡ Abortion
   last : h.link.last ≡ abortive
   message_is : (sum_left s rows h.opened).abort ≡ Some message
-  line_at : abort_line_at s.aborts j ≡ Some line
+  line_at : abort_line_at s.aborts m ≡ Some line
   same : is_line h.opened.connection (sum_left s rows h.opened) (Some message) (Some line) ≡ true
 
 abort_over :
-    (s : ScenarioValue) (rows : List Row) (row : Row) (h : StandsLinked s (transcribed rows) (story s rows)) (j : ℕ)
-    → EndRow s rows row h → Aborts s rows h j → h.opened.connection.reselected ≡ false
-    → h.link.item ≡ Some (abort j) → h.conn ≡ [] → are_talk (base_parts h.opened) ≡ true
+    (s : ScenarioValue) (rows : List Row) (row : Row) (h : StandsLinked s (transcribed rows) (story s rows)) (l : ℕ)
+    → EndRow s rows row h → Aborts s rows h l → h.opened.connection.reselected ≡ false
+    → h.link.item ≡ Some (abort l) → h.conn ≡ [] → are_talk (base_parts h.opened) ≡ true
     → AreKept s (transcribed rows) (story s rows) h.sent no_process → IsBegun (story s rows) h.opened h.link h.sent
     → Standing s (row ∷ rows)
-abort_over s rows row h j r g began is none talk kept_all begun = go begun
+abort_over s rows row h l r g began is none talk kept_all begun = go begun
   where
-    k : OpenedValue
-    k = h.opened
+    v : OpenedValue
+    v = h.opened
 
     n : Connection
     n = h.opened.connection
@@ -396,8 +396,8 @@ abort_over s rows row h j r g began is none talk kept_all begun = go begun
     sum : Summary
     sum = summary_by h.opened.connection (parts_left s rows h.opened)
 
-    p : Process
-    p = process_for (transcribed rows) h.opened.connection (summary_by h.opened.connection (parts_left s rows h.opened))
+    t : Process
+    t = process_for (transcribed rows) h.opened.connection (summary_by h.opened.connection (parts_left s rows h.opened))
 
     put : Process
     put = (account_by (process_for (transcribed rows) h.opened.connection
@@ -432,8 +432,8 @@ abort_over s rows row h j r g began is none talk kept_all begun = go begun
     order : sent_order c ≡ sent_order (story s rows)
     order = ap (λ (list : List Item). reverse list) (events_sent s (apart_story s rows) shown)
 
-    item_is : leaving_items true p.name sum ≡ items.Abort g.line.host g.line.target (Some g.line.unit) g.line.what ∷ []
-    item_is = (λ i. departure_items p.name (g.departs i) (g.message_is i))
+    item_is : leaving_items true t.name sum ≡ items.Abort g.line.host g.line.target (Some g.line.unit) g.line.what ∷ []
+    item_is = (λ i. departure_items t.name (g.departs i) (g.message_is i))
         ∙ (λ i. abort_item (process_after (began i) (is_some sum.abort)
         (process_of (transcribed rows).processes (name_of n sum)) (name_of n sum)).name g.message ∷ [])
         ∙ ap (λ (x : item_of.Item). x ∷ [])
@@ -447,37 +447,37 @@ abort_over s rows row h j r g began is none talk kept_all begun = go begun
     names : List Name
     names = names_begun (transcribed rows).items
 
-    begun_names : names_begun u.items ≡ names_begun (transcribed rows).items ++ p.name ∷ []
+    begun_names : names_begun u.items ≡ names_begun (transcribed rows).items ++ t.name ∷ []
     begun_names = closed_names (transcribed rows) n parts true sum
-        ∙ ap (λ (q : Bool). names ++ (if q then [] else p.name ∷ [])) began
+        ∙ ap (λ (q : Bool). names ++ (if q then [] else t.name ∷ [])) began
 
-    past : IsPast u.items (h.sent ++ abort j ∷ []) (shown ++ (story s rows).history)
-    past = subst (λ (list : List item_of.Item). IsPast list (h.sent ++ abort j ∷ []) (shown ++ (story s rows).history))
+    past : IsPast u.items (h.sent ++ abort l ∷ []) (shown ++ (story s rows).history)
+    past = subst (λ (list : List item_of.Item). IsPast list (h.sent ++ abort l ∷ []) (shown ++ (story s rows).history))
         (sym (closed_items (transcribed rows) n parts true sum))
-        (subst (λ (list : List Event). IsPast ((transcribed rows).items ++ connection_items n p parts true sum)
-        (h.sent ++ abort j ∷ []) (shown ++ list)) (sym (h.history_is ∙ ap (λ (list : List Event). list ++ h.old) none))
-        (abort_past n p parts true sum j shown (transcribed rows).items h.sent h.old began
-        (λ refused q. closing_shown refused k (story s rows).bus_state.bus (story s rows).bus_state.dialogue.half q
-        ∙ (talk_more refused (account_of q []) (base_parts k) talk).shown) (tt, tt)
+        (subst (λ (list : List Event). IsPast ((transcribed rows).items ++ connection_items n t parts true sum)
+        (h.sent ++ abort l ∷ []) (shown ++ list)) (sym (h.history_is ∙ ap (λ (list : List Event). list ++ h.old) none))
+        (abort_past n t parts true sum l shown (transcribed rows).items h.sent h.old began
+        (λ refused q. closing_shown refused v (story s rows).bus_state.bus (story s rows).bus_state.dialogue.half q
+        ∙ (talk_more refused (account_of q []) (base_parts v) talk).shown) (tt, tt)
         (λ refused sent list. ap (λ (xs : List item_of.Item). shown_items refused xs) item_is) h.past))
 
     at_end : (x : ProcId) → is_open_in c.sent x ≡ true
-        → IsKept s u.processes (h.sent ++ abort j ∷ []) (names_begun u.items) c.carried x
+        → IsKept s u.processes (h.sent ++ abort l ∷ []) (names_begun u.items) c.carried x
     at_end x o =
         let y = kept_all x (grown_opens (apart_story s rows) c (events_grow s (apart_story s rows) shown) x o) refl in
         subst (λ (last : List (Key × Process)). IsKept s last
-        (h.sent ++ abort j ∷ []) (names_begun u.items) c.carried x) (sym processes)
-        (subst (λ (list : List Name). IsKept s (transcribed rows).processes (h.sent ++ abort j ∷ []) list c.carried x)
+        (h.sent ++ abort l ∷ []) (names_begun u.items) c.carried x) (sym processes)
+        (subst (λ (list : List Name). IsKept s (transcribed rows).processes (h.sent ++ abort l ∷ []) list c.carried x)
         (sym begun_names) (subst (λ (all : List CarriedBytes). IsKept s (transcribed rows).processes
-        (h.sent ++ abort j ∷ []) (names ++ p.name ∷ []) all x) (sym keeps.0)
-        (kept_later s (transcribed rows).processes h.sent (abort j ∷ []) names (p.name ∷ [])
+        (h.sent ++ abort l ∷ []) (names ++ t.name ∷ []) all x) (sym keeps.0)
+        (kept_later s (transcribed rows).processes h.sent (abort l ∷ []) names (t.name ∷ [])
         (story s rows).carried x h.past.count (named_sent h.sent names x y.process.name y.named) y)))
 
     go : IsBegun (story s rows) h.opened h.link h.sent → Standing s (row ∷ rows)
     go (again re ord) = wrong (sym re ∙ began)
     go (first item began' i ord fresh) =
-        let same : item ≡ abort j = same_Some item (abort j) (sym i ∙ is) in
-        let sent_is : sent_order c ≡ h.sent ++ abort j ∷ [] = order ∙ ord ∙ ap (λ (x : Item). h.sent ++ x ∷ []) same in
+        let same : item ≡ abort l = same_Some item (abort l) (sym i ∙ is) in
+        let sent_is : sent_order c ≡ h.sent ++ abort l ∷ [] = order ∙ ord ∙ ap (λ (x : Item). h.sent ++ x ∷ []) same in
         over_next s rows row u (items.Free row.time ∷ []) c shown (record {
           transcript_is = end_transcript s rows row h r;
           story_is = end_story_is s rows row h shown r shown_is;
@@ -496,57 +496,57 @@ abort_over s rows row h j r g began is none talk kept_all begun = go begun
 -- ---- what stands
 
 aborts_by : (s : ScenarioValue) (rows : List Row) (h : StandsLinked s (transcribed rows) (story s rows))
-    (j : ℕ) (departure : Departure) (last : LastMessage) (o : Option MsgOut) (line : Option AbortDef)
+    (l : ℕ) (departure : Departure) (last : LastMessage) (o : Option MsgOut) (line : Option AbortDef)
     → (sum_left s rows h.opened).departure ≡ departure → h.link.last ≡ last
-    → (sum_left s rows h.opened).abort ≡ o → abort_line_at s.aborts j ≡ line → is_abortion departure last ≡ true
-    → is_line h.opened.connection (sum_left s rows h.opened) o line ≡ true → Aborts s rows h j
-aborts_by s rows h j Abortion abortive (Some m) (Some a) e f i z abortion line =
+    → (sum_left s rows h.opened).abort ≡ o → abort_line_at s.aborts l ≡ line → is_abortion departure last ≡ true
+    → is_line h.opened.connection (sum_left s rows h.opened) o line ≡ true → Aborts s rows h l
+aborts_by s rows h l Abortion abortive (Some m) (Some a) e f i z abortion line =
     record { message = m; line = a; departs = e; last = f; message_is = i; line_at = z; same = line }
-aborts_by s rows h j Abortion abortive None line' e f i z abortion line = wrong' line
-aborts_by s rows h j Abortion abortive (Some m) None e f i z abortion line = wrong' line
-aborts_by s rows h j Loss last o line' e f i z abortion line = wrong' abortion
-aborts_by s rows h j Leave last o line' e f i z abortion line = wrong' abortion
-aborts_by s rows h j Abortion plain o line' e f i z abortion line = wrong' abortion
-aborts_by s rows h j Abortion complete o line' e f i z abortion line = wrong' abortion
-aborts_by s rows h j Abortion disconnect o line' e f i z abortion line = wrong' abortion
+aborts_by s rows h l Abortion abortive None line' e f i z abortion line = wrong' line
+aborts_by s rows h l Abortion abortive (Some m) None e f i z abortion line = wrong' line
+aborts_by s rows h l Loss last o line' e f i z abortion line = wrong' abortion
+aborts_by s rows h l Leave last o line' e f i z abortion line = wrong' abortion
+aborts_by s rows h l Abortion plain o line' e f i z abortion line = wrong' abortion
+aborts_by s rows h l Abortion complete o line' e f i z abortion line = wrong' abortion
+aborts_by s rows h l Abortion disconnect o line' e f i z abortion line = wrong' abortion
 
 pub end_next : (s : ScenarioValue) (rows : List Row) (row : Row) (h : StandsLinked s (transcribed rows) (story s rows))
     → EndRow s rows row h → Standing s (row ∷ rows)
 end_next s rows row h r = go h.stage
   where
-    k : OpenedValue
-    k = h.opened
+    v : OpenedValue
+    v = h.opened
 
     sum : Summary
     sum = summary_by h.opened.connection (parts_left s rows h.opened)
 
     by_item : (o : Option Item) → h.link.item ≡ o → h.opened.connection.reselected ≡ true
         → are_talk (base_parts h.opened) ≡ true → is_command (story s rows).bus_state.bus ≡ false
-        → ((j : ℕ) → h.link.item ≡ Some (abort j) → ⊥)
+        → ((m : ℕ) → h.link.item ≡ Some (abort m) → ⊥)
         → fits_end s (story s rows) h.opened h.link (parts_left s rows h.opened) o ≡ true → Standing s (row ∷ rows)
     by_item None e re talk no_command unaborted f = wrong' f
-    by_item (Some (abort j)) e re talk no_command unaborted f = absurd (unaborted j e)
+    by_item (Some (abort m)) e re talk no_command unaborted f = absurd (unaborted m e)
     by_item (Some (process id)) e re talk no_command unaborted f =
-        let four = four_true (is_none sum.abort) (name_process s k.connection (parts_left s rows k) id)
-        (is_departure sum.departure h.link.last) (is_known k (story s rows).bus_state.bus) f in
+        let four = four_true (is_none sum.abort) (name_process s v.connection (parts_left s rows v) id)
+        (is_departure sum.departure h.link.last) (is_known v (story s rows).bus_state.bus) f in
         wrong' (sym (λ i. not (re i) || not (talk i) || no_command i) ∙ four.3)
 
     go : Stage s (transcribed rows) (story s rows) h.opened h.link h.sent h.conn → Standing s (row ∷ rows)
-    go (of_abort j began is undo none talk kept_all) =
-        let f = sym (ap (λ (o : Option Item). fits_end s (story s rows) k h.link (parts_left s rows k) o) is)
+    go (of_abort m began is undo none talk kept_all) =
+        let f = sym (ap (λ (o : Option Item). fits_end s (story s rows) v h.link (parts_left s rows v) o) is)
         ∙ r.fits in
         let two = and_first (is_abortion sum.departure h.link.last
-        && is_line k.connection sum sum.abort (abort_line_at s.aborts j)) (are_talk (parts_left s rows k)) f in
-        abort_over s rows row h j r (aborts_by s rows h j sum.departure h.link.last sum.abort
-        (abort_line_at s.aborts j) refl refl refl refl (and_first (is_abortion sum.departure h.link.last)
-        (is_line k.connection sum sum.abort (abort_line_at s.aborts j)) two) (and_second
-        (is_abortion sum.departure h.link.last) (is_line k.connection sum sum.abort (abort_line_at s.aborts j)) two))
+        && is_line v.connection sum sum.abort (abort_line_at s.aborts m)) (are_talk (parts_left s rows v)) f in
+        abort_over s rows row h m r (aborts_by s rows h m sum.departure h.link.last sum.abort
+        (abort_line_at s.aborts m) refl refl refl refl (and_first (is_abortion sum.departure h.link.last)
+        (is_line v.connection sum sum.abort (abort_line_at s.aborts m)) two) (and_second
+        (is_abortion sum.departure h.link.last) (is_line v.connection sum sum.abort (abort_line_at s.aborts m)) two))
         began is none talk kept_all h.begun
     go (of_none re none talk no_command no_status unaborted blanks undone kept_all) =
         by_item h.link.item refl re talk no_command unaborted r.fits
     go (of_process id back was st is undone own known serving events_are talks from others) =
-        let four = four_true (is_none sum.abort) (name_process s k.connection (parts_left s rows k) id)
-        (is_departure sum.departure h.link.last) (is_known k (story s rows).bus_state.bus)
-        (sym (ap (λ (o : Option Item). fits_end s (story s rows) k h.link (parts_left s rows k) o) is) ∙ r.fits) in
+        let four = four_true (is_none sum.abort) (name_process s v.connection (parts_left s rows v) id)
+        (is_departure sum.departure h.link.last) (is_known v (story s rows).bus_state.bus)
+        (sym (ap (λ (o : Option Item). fits_end s (story s rows) v h.link (parts_left s rows v) o) is) ∙ r.fits) in
         process_over s rows row h id back was st r
         (record { plain = four.0; named = four.1; departs = four.2 }) is serving events_are others from h.begun

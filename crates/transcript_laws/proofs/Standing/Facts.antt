@@ -84,10 +84,10 @@ begins_next s rows row n h x off con next fits = by_bool n.reselected
 -- ---- a connection goes on
 
 goes_next : (s : ScenarioValue) (rows : List Row) (row : Row) → Standing s rows
-    → (k : StandsLinked s (transcribed rows) (story s rows)) → IsOn s rows row k.opened.connection
-    → fits_on s (story s rows) k.opened k.link (row_reading (story s rows).bus_state row) ≡ true
+    → (y : StandsLinked s (transcribed rows) (story s rows)) → IsOn s rows row y.opened.connection
+    → fits_on s (story s rows) y.opened y.link (row_reading (story s rows).bus_state row) ≡ true
     → Standing s (row ∷ rows)
-goes_next s rows row h k on fits = by_crosses (row_reading (story s rows).bus_state row).crosses
+goes_next s rows row h y on fits = by_crosses (row_reading (story s rows).bus_state row).crosses
     (changes_phase (row_reading (story s rows).bus_state row).change) refl refl fits
   where
     b : Story
@@ -97,24 +97,24 @@ goes_next s rows row h k on fits = by_crosses (row_reading (story s rows).bus_st
     d = row_reading (story s rows).bus_state row
 
     backs : Bool
-    backs = not (is_known k.opened (story s rows).bus_state.bus) || is_some k.link.undo || is_broken k.opened.held
+    backs = not (is_known y.opened (story s rows).bus_state.bus) || is_some y.link.undo || is_broken y.opened.held
 
-    by_phase : Crosses s rows row k.link → (q r : Bool) → is_message_out (story s rows).bus_state.bus ≡ q
-        → is_message_in (story s rows).bus_state.bus ≡ r → (if q then fits_out k.opened
-        (not (is_known k.opened (story s rows).bus_state.bus) || is_some k.link.undo || is_broken k.opened.held)
+    by_phase : Crosses s rows row y.link → (q r : Bool) → is_message_out (story s rows).bus_state.bus ≡ q
+        → is_message_in (story s rows).bus_state.bus ≡ r → (if q then fits_out y.opened
+        (not (is_known y.opened (story s rows).bus_state.bus) || is_some y.link.undo || is_broken y.opened.held)
         (row_reading (story s rows).bus_state row).out (story s rows).bus_state.dialogue.is_last
-        else if r then fits_in s (story s rows) k.opened k.link (row_reading (story s rows).bus_state row).into
-        else not (story s rows).bus_state.bus.msg && is_no_abort k.link.item) ≡ true
+        else if r then fits_in s (story s rows) y.opened y.link (row_reading (story s rows).bus_state row).into
+        else not (story s rows).bus_state.bus.msg && is_no_abort y.link.item) ≡ true
         → Standing s (row ∷ rows)
     by_phase g true r e f z =
-        out_next s rows row k (record { on = on; crossing = g; out = e; numbered = h.numbered; marked = h.marked }) z
+        out_next s rows row y (record { on = on; crossing = g; out = e; numbered = h.numbered; marked = h.marked }) z
     by_phase g false true e f z =
-        in_next s rows row k (record { on = on; crossing = g; into = f; numbered = h.numbered; marked = h.marked }) z
-    by_phase g false false e f z = byte_next s rows row k (record {
+        in_next s rows row y (record { on = on; crossing = g; into = f; numbered = h.numbered; marked = h.marked }) z
+    by_phase g false false e f z = byte_next s rows row y (record {
       on = on;
       crossing = g;
-      msg = not-true b.bus_state.bus.msg (and_first (not b.bus_state.bus.msg) (is_no_abort k.link.item) z);
-      item = and_second (not b.bus_state.bus.msg) (is_no_abort k.link.item) z;
+      msg = not-true b.bus_state.bus.msg (and_first (not b.bus_state.bus.msg) (is_no_abort y.link.item) z);
+      item = and_second (not b.bus_state.bus.msg) (is_no_abort y.link.item) z;
       numbered = h.numbered;
       marked = h.marked;
     })
@@ -122,45 +122,45 @@ goes_next s rows row h k on fits = by_crosses (row_reading (story s rows).bus_st
     by_crosses : (q r : Bool) → (row_reading (story s rows).bus_state row).crosses ≡ q
         → changes_phase (row_reading (story s rows).bus_state row).change ≡ r
         → (if (row_reading (story s rows).bus_state row).crosses
-        then fits_crossing s (story s rows) k.opened k.link (row_reading (story s rows).bus_state row)
+        then fits_crossing s (story s rows) y.opened y.link (row_reading (story s rows).bus_state row)
         else if changes_phase (row_reading (story s rows).bus_state row).change
-        then fits_turn (story s rows) k.opened k.link (row_reading (story s rows).bus_state row).change
-        else fits_still (story s rows) k.opened k.link (row_reading (story s rows).bus_state row).change) ≡ true
+        then fits_turn (story s rows) y.opened y.link (row_reading (story s rows).bus_state row).change
+        else fits_still (story s rows) y.opened y.link (row_reading (story s rows).bus_state row).change) ≡ true
         → Standing s (row ∷ rows)
     by_crosses true r e f z =
-        let fits' : fits_crossing s b k.opened k.link d ≡ true =
-        sym (ap (λ (q : Bool). if q then fits_crossing s b k.opened k.link d
-        else if changes_phase d.change then fits_turn b k.opened k.link d.change
-        else fits_still b k.opened k.link d.change) e) ∙ z in
+        let fits' : fits_crossing s b y.opened y.link d ≡ true =
+        sym (ap (λ (q : Bool). if q then fits_crossing s b y.opened y.link d
+        else if changes_phase d.change then fits_turn b y.opened y.link d.change
+        else fits_still b y.opened y.link d.change) e) ∙ z in
         let last : Bool =
-        if is_message_out b.bus_state.bus then fits_out k.opened backs d.out b.bus_state.dialogue.is_last
-        else if is_message_in b.bus_state.bus then fits_in s b k.opened k.link d.into
-        else not b.bus_state.bus.msg && is_no_abort k.link.item in
-        let two = and_first (not (changes_phase d.change) && not (story_of.is_completion k.link d.change)) last fits' in
+        if is_message_out b.bus_state.bus then fits_out y.opened backs d.out b.bus_state.dialogue.is_last
+        else if is_message_in b.bus_state.bus then fits_in s b y.opened y.link d.into
+        else not b.bus_state.bus.msg && is_no_abort y.link.item in
+        let two = and_first (not (changes_phase d.change) && not (story_of.is_completion y.link d.change)) last fits' in
         by_phase (record {
           crosses = e;
           stays = not-true (changes_phase d.change)
-              (and_first (not (changes_phase d.change)) (not (story_of.is_completion k.link d.change)) two);
-          incomplete = not-true (story_of.is_completion k.link d.change)
-              (and_second (not (changes_phase d.change)) (not (story_of.is_completion k.link d.change)) two);
+              (and_first (not (changes_phase d.change)) (not (story_of.is_completion y.link d.change)) two);
+          incomplete = not-true (story_of.is_completion y.link d.change)
+              (and_second (not (changes_phase d.change)) (not (story_of.is_completion y.link d.change)) two);
         }) (is_message_out b.bus_state.bus) (is_message_in b.bus_state.bus) refl refl
-        (and_second (not (changes_phase d.change) && not (story_of.is_completion k.link d.change)) last fits')
-    by_crosses false true e f z = turn_next s rows row k (record {
+        (and_second (not (changes_phase d.change) && not (story_of.is_completion y.link d.change)) last fits')
+    by_crosses false true e f z = turn_next s rows row y (record {
       on = on;
       crosses = e;
       turns = f;
-      fits = sym (λ i. if e i then fits_crossing s b k.opened k.link d
-          else if f i then fits_turn b k.opened k.link d.change else fits_still b k.opened k.link d.change)
+      fits = sym (λ i. if e i then fits_crossing s b y.opened y.link d
+          else if f i then fits_turn b y.opened y.link d.change else fits_still b y.opened y.link d.change)
           ∙ z;
       numbered = h.numbered;
       marked = h.marked;
     })
-    by_crosses false false e f z = still_next s rows row k (record {
+    by_crosses false false e f z = still_next s rows row y (record {
       on = on;
       crosses = e;
       stays = f;
-      fits = sym (λ i. if e i then fits_crossing s b k.opened k.link d
-          else if f i then fits_turn b k.opened k.link d.change else fits_still b k.opened k.link d.change)
+      fits = sym (λ i. if e i then fits_crossing s b y.opened y.link d
+          else if f i then fits_turn b y.opened y.link d.change else fits_still b y.opened y.link d.change)
           ∙ z;
       numbered = h.numbered;
       marked = h.marked;
@@ -218,53 +218,53 @@ standing_next s rows row fits named less h =
     by_apart x off None (Some n) con next f = begins_next s rows row n h x off con next
         (sym (ap (λ (o : Option Connection). fits_first s b o d.change) next) ∙ f)
 
-    by_linked : (k : StandsLinked s (transcribed rows) (story s rows))
+    by_linked : (g : StandsLinked s (transcribed rows) (story s rows))
         → (row_reading (story s rows).bus_state row).change.after.rst ≡ false
         → (n : Option Connection) → (row_reading (story s rows).bus_state row).next ≡ n → Standing s (row ∷ rows)
-    by_linked k off n next = go n next
+    by_linked g off n next = go n next
       where
-        here : fits_linked s (story s rows) (Some k.opened) (Some k.link)
+        here : fits_linked s (story s rows) (Some g.opened) (Some g.link)
             (row_reading (story s rows).bus_state row) (is_some (row_reading (story s rows).bus_state row).next)
             ≡ true
-        here = sym ((λ i. fits_bus s t b (k.connection_is i) d)
-            ∙ (λ i. fits_linked s b (k.opened_is i) (k.link_is i) d (is_some d.next)))
+        here = sym ((λ i. fits_bus s t b (g.connection_is i) d)
+            ∙ (λ i. fits_linked s b (g.opened_is i) (g.link_is i) d (is_some d.next)))
             ∙ stays off
 
         go : (n : Option Connection) → (row_reading (story s rows).bus_state row).next ≡ n → Standing s (row ∷ rows)
-        go None e = end_next s rows row k (record {
+        go None e = end_next s rows row g (record {
           off = off;
           next = e;
-          fits = sym (ap (λ (o : Option Connection). if is_some o then fits_on s b k.opened k.link d
-              else fits_end s b k.opened k.link (parts_left s rows k.opened) k.link.item) e)
+          fits = sym (ap (λ (o : Option Connection). if is_some o then fits_on s b g.opened g.link d
+              else fits_end s b g.opened g.link (parts_left s rows g.opened) g.link.item) e)
               ∙ here;
           less = less;
           numbered = h.numbered;
           marked = h.marked;
         })
-        go (Some n) e = goes_next s rows row h k (record {
+        go (Some n) e = goes_next s rows row h g (record {
           off = off;
           next = e ∙ ap (λ (x : Connection). Some x)
-              (same_connection b.bus_state row k.opened.connection n k.connection_is e);
-        }) (sym (ap (λ (o : Option Connection). if is_some o then fits_on s b k.opened k.link d
-            else fits_end s b k.opened k.link (parts_left s rows k.opened) k.link.item) e) ∙ here)
+              (same_connection b.bus_state row g.opened.connection n g.connection_is e);
+        }) (sym (ap (λ (o : Option Connection). if is_some o then fits_on s b g.opened g.link d
+            else fits_end s b g.opened g.link (parts_left s rows g.opened) g.link.item) e) ∙ here)
 
     by_rst : (q : Bool) → (row_reading (story s rows).bus_state row).change.after.rst ≡ q
         → StandsBy s (transcribed rows) (story s rows) → Standing s (row ∷ rows)
     by_rst true e (apart x) = reset_next s rows row (record { numbered = h.numbered; marked = h.marked; stands = x }) e
-    by_rst true e (linked k) =
+    by_rst true e (linked g) =
         let both = or_second (is_none t.opened) (rises d.change.own.rst d.change.next.rst && ends_all s b)
-        (resets e) (ap (λ (o : Option OpenedValue). is_none o) k.opened_is) in
-        cut_next s rows row k (record {
+        (resets e) (ap (λ (o : Option OpenedValue). is_none o) g.opened_is) in
+        cut_next s rows row g (record {
           on = e;
           rst = and_first (rises d.change.own.rst d.change.next.rst) (ends_all s b) both;
           over = and_second (rises d.change.own.rst d.change.next.rst) (ends_all s b) both;
-          named = sym (λ i. are_named s (k.opened_is i) (k.link_is i)) ∙ named;
+          named = sym (λ i. are_named s (g.opened_is i) (g.link_is i)) ∙ named;
           less = less;
           numbered = h.numbered;
           marked = h.marked;
         })
     by_rst false e (apart x) = by_apart x e b.bus_state.connection d.next refl refl (stays e)
-    by_rst false e (linked k) = by_linked k e d.next refl
+    by_rst false e (linked g) = by_linked g e d.next refl
 
 -- ---- all rows
 

@@ -25,12 +25,12 @@ pub fault_same : (s : ScenarioValue) (rows : List Row) (row : Row) (bit : ℕ) �
     → (change_by (story s rows).bus_state row).after ≡ (story s rows).bus_state.bus
 fault_same s rows row bit e = same_after (story s rows).bus_state row bit (all_driven s rows) e
 
-same_self : (s : LineSet) (c : Change) → c.before ≡ s → c.after ≡ s → changes_phase c ≡ false
-same_self s c e f = (λ i. changes_phase (record c { before = e i; after = f i })) ∙ go s.msg s.cd s.io
+same_self : (l : LineSet) (c : Change) → c.before ≡ l → c.after ≡ l → changes_phase c ≡ false
+same_self l c e f = (λ i. changes_phase (record c { before = e i; after = f i })) ∙ go l.msg l.cd l.io
   where
     go : (m d i : Bool) → changes_phase (record {
-      before = record s { msg = m; cd = d; io = i };
-      after = record s { msg = m; cd = d; io = i };
+      before = record l { msg = m; cd = d; io = i };
+      after = record l { msg = m; cd = d; io = i };
       own = c.own;
       next = c.next;
     }) ≡ false

@@ -35,7 +35,7 @@ was_open a b id same over e = by_bool (has_item a.sent.over (process id))
     ∙ ap (λ (q : Bool). q && true) (ap (λ (xs : List Item). has_item xs (process id)) (sym same)
     ∙ and_first (has_item b.sent.sent (process id)) (not (has_item b.sent.over (process id))) e))
   where
-    and_none : (p : Bool) → (p && false) ≡ true → true ≡ false
+    and_none : (r : Bool) → (r && false) ≡ true → true ≡ false
     and_none true z = sym z
     and_none false z = sym z
 
@@ -43,16 +43,16 @@ was_open a b id same over e = by_bool (has_item a.sent.over (process id))
 
 call_openly : (call : Option Call) (time : ℕ) → IsOpenly (unanswered_items call time) []
 call_openly None time = record { names = refl; shown = λ refused sent names. refl }
-call_openly (Some k) time = go k.calling
+call_openly (Some h) time = go h.calling
   where
     none : IsOpenly [] []
     none = record { names = refl; shown = λ refused sent names. refl }
 
-    by_answer : (q : Bool) (called : ℕ) → IsOpenly (if q then items.Unanswered time k.caller called ∷ [] else []) []
-    by_answer true called = unanswered_openly time k.caller called
+    by_answer : (q : Bool) (called : ℕ) → IsOpenly (if q then items.Unanswered time h.caller called ∷ [] else []) []
+    by_answer true called = unanswered_openly time h.caller called
     by_answer false called = none
 
-    go : (c : Option Calling) → IsOpenly (unanswered_by k.caller c time) []
+    go : (c : Option Calling) → IsOpenly (unanswered_by h.caller c time) []
     go None = none
     go (Some c) = by_answer (is_none c.answered) c.called
 

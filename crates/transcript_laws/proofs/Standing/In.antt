@@ -29,12 +29,12 @@ known_by false true true v e f = e
 known_by false true false v e f = refl
 
 -- With more parts than before, in the same phase.
-pub known_more : (k k' : OpenedValue) (a b : LineSet) (more : List Part) → k'.connection ≡ k.connection
-    → base_parts k' ≡ base_parts k ++ more → is_command b ≡ is_command a → is_known k a ≡ true → is_known k' b ≡ true
-known_more k k' a b more con base command e = known_by (not k'.connection.reselected)
-    (are_talk (base_parts k)) (are_talk (base_parts k')) (is_command b)
-    ((λ i. not (con i).reselected || not (are_talk (base_parts k)) || command i) ∙ e)
-    (λ talk. talk_first (base_parts k) more (sym (ap are_talk base) ∙ talk))
+pub known_more : (o k' : OpenedValue) (a b : LineSet) (more : List Part) → k'.connection ≡ o.connection
+    → base_parts k' ≡ base_parts o ++ more → is_command b ≡ is_command a → is_known o a ≡ true → is_known k' b ≡ true
+known_more o k' a b more con base command e = known_by (not k'.connection.reselected)
+    (are_talk (base_parts o)) (are_talk (base_parts k')) (is_command b)
+    ((λ i. not (con i).reselected || not (are_talk (base_parts o)) || command i) ∙ e)
+    (λ talk. talk_first (base_parts o) more (sym (ap are_talk base) ∙ talk))
 
 -- ---- the row
 
@@ -127,35 +127,35 @@ same_stands s rows row h c lines marked crossed link sent same = record {
 -- ---- a message
 
 -- What names find is no abort.
-found_process : {A : Type 0} (b : Sent) (i t u : ℕ) (tag : Option ℕ) (n : ℕ) (commands : List CmdDef) (j : ℕ)
-    → named_item_from b i t u tag n commands ≡ Some (abort j) → A
-found_process b i t u tag n [] j e = none_some (abort j) e
-found_process b i t u tag n (c ∷ commands) j e =
-    go (is_of_nexus c i t u && is_open b n && same_number (tag_number c.tag) tag) (is_of_nexus c i t u
-    && is_open_sense b n && same_number None tag) e (λ z. found_process b i t u tag (n + 1) commands j z)
+found_process : {A : Type 0} (b : Sent) (i t u : ℕ) (tag : Option ℕ) (m : ℕ) (commands : List CmdDef) (l : ℕ)
+    → named_item_from b i t u tag m commands ≡ Some (abort l) → A
+found_process b i t u tag m [] l e = none_some (abort l) e
+found_process b i t u tag m (c ∷ commands) l e =
+    go (is_of_nexus c i t u && is_open b m && same_number (tag_number c.tag) tag) (is_of_nexus c i t u
+    && is_open_sense b m && same_number None tag) e (λ z. found_process b i t u tag (m + 1) commands l z)
   where
-    go : {A : Type 0} (q r : Bool) → (if q then Some (command_item n)
-        else if r then Some (sense_item n) else named_item_from b i t u tag (n + 1) commands) ≡ Some (abort j)
-        → (named_item_from b i t u tag (n + 1) commands ≡ Some (abort j) → A) → A
+    go : {A : Type 0} (q r : Bool) → (if q then Some (command_item m)
+        else if r then Some (sense_item m) else named_item_from b i t u tag (m + 1) commands) ≡ Some (abort l)
+        → (named_item_from b i t u tag (m + 1) commands ≡ Some (abort l) → A) → A
     go true r z rest = absurd cc
     go false true z rest = absurd cc
     go false false z rest = rest z
 
-named_abort : (b : Sent) (commands : List CmdDef) (l : Link) (m : MsgIn) (j : ℕ)
-    → (link_after_name b commands l m).item ≡ Some (abort j) → l.item ≡ Some (abort j)
-named_abort b commands l (MsgIn.Identify lun) j e = found_process b l.initiator l.target lun None 1 commands j e
-named_abort b commands l (MsgIn.SimpleTag n) j e = found_process b l.initiator l.target l.unit (Some n) 1 commands j e
-named_abort b commands l _ j e = e
+named_abort : (b : Sent) (commands : List CmdDef) (l : Link) (m : MsgIn) (i : ℕ)
+    → (link_after_name b commands l m).item ≡ Some (abort i) → l.item ≡ Some (abort i)
+named_abort b commands l (MsgIn.Identify lun) i e = found_process b l.initiator l.target lun None 1 commands i e
+named_abort b commands l (MsgIn.SimpleTag n) i e = found_process b l.initiator l.target l.unit (Some n) 1 commands i e
+named_abort b commands l _ i e = e
 
 -- The item that is named is the one before, once its process is known; before that, where both are there.
 item_known : (known : Bool) (was next : Option Item) → names_item known was next ≡ true → known ≡ true → next ≡ was
-item_known true was next e k = sym (item_if_is was next e)
-item_known false was next e k = wrong' k
+item_known true was next e h = sym (item_if_is was next e)
+item_known false was next e h = wrong' h
 
-item_unknown : (known : Bool) (was next : Option Item) (i j : Item) → names_item known was next ≡ true → was ≡ Some i
-    → next ≡ Some j → next ≡ was
-item_unknown true was next i j e f g = sym (item_if_is was next e)
-item_unknown false was next i j e f g = sym (item_if_is was next
+item_unknown : (known : Bool) (was next : Option Item) (i y : Item) → names_item known was next ≡ true → was ≡ Some i
+    → next ≡ Some y → next ≡ was
+item_unknown true was next i y e f g = sym (item_if_is was next e)
+item_unknown false was next i y e f g = sym (item_if_is was next
     (or_second (is_none was || is_none next) (same_item_if was next) e ((λ x. is_none (f x) || is_none (g x)))))
 
 abbrev named_carried : List CarriedBytes → Option Item → Option Item → List CarriedBytes
@@ -238,7 +238,7 @@ undo_process b (Some (abort j)) u P e h = none_some u e
 record Hears (s : ScenarioValue) (rows : List Row) (row : Row) (h : StandsLinked s (transcribed rows) (story s rows))
     (m : MsgIn) (l : Link) (c : Story) : Type 0 where
   names : names_item (is_known h.opened (story s rows).bus_state.bus) h.link.item l.item ≡ true
-  plain : (j : ℕ) → l.item ≡ Some (abort j) → h.link.item ≡ Some (abort j)
+  plain : (i : ℕ) → l.item ≡ Some (abort i) → h.link.item ≡ Some (abort i)
   undo : l.undo ≡ carried_if (story s rows) h.link.item
   link : c.link ≡ Some l
   sent : c.sent ≡ (story s rows).sent
@@ -256,8 +256,8 @@ hears_stage s rows row h m l c r g = go h.stage
     b : Story
     b = story s rows
 
-    k : OpenedValue
-    k = h.opened
+    v : OpenedValue
+    v = h.opened
 
     k' : OpenedValue
     k' = with_in h.opened (Whole m)
@@ -291,44 +291,44 @@ hears_stage s rows row h m l c r g = go h.stage
     go : Stage s (transcribed rows) (story s rows) h.opened h.link h.sent h.conn
         → Stage s (transcript_on rows row (with_in h.opened (Whole m))) (story_on s rows row c [])
         (with_in h.opened (Whole m)) l h.sent h.conn
-    go (of_abort j began is undo none talk kept) = of_abort j began (item_known (is_known k b.bus_state.bus)
-        h.link.item l.item g.names (λ i. not (began i) || not (are_talk (base_parts k)) || is_command b.bus_state.bus)
-        ∙ is) (g.undo ∙ ap (λ (o : Option Item). carried_if b o) is) none (talk_in k m silent talk)
+    go (of_abort j began is undo none talk kept) = of_abort j began (item_known (is_known v b.bus_state.bus)
+        h.link.item l.item g.names (λ i. not (began i) || not (are_talk (base_parts v)) || is_command b.bus_state.bus)
+        ∙ is) (g.undo ∙ ap (λ (o : Option Item). carried_if b o) is) none (talk_in v m silent talk)
         (kept_on s t t' b b' h.sent no_process same (λ x no. alike x) kept)
-    go (of_none re none talk no_command no_status plain blanks undone kept) = of_none re none (talk_in k m silent talk)
+    go (of_none re none talk no_command no_status plain blanks undone kept) = of_none re none (talk_in v m silent talk)
         (lines.command ∙ no_command) (lines.status ∙ no_status) (λ j e. plain j (g.plain j e))
         (λ id e. subst IsBlank (at id) (heard_blank b.history m b.carried h.link.item l.item id r.marked e (λ i f.
-        blanks id (sym (item_unknown (is_known k b.bus_state.bus) h.link.item l.item i (process id) g.names f e) ∙ e))))
+        blanks id (sym (item_unknown (is_known v b.bus_state.bus) h.link.item l.item i (process id) g.names f e) ∙ e))))
         (λ u e. undo_process b h.link.item u (λ x. IsBlank x × AreAlike x (carried_of c.carried x.id)
         × ((id : ProcId) → l.item ≡ Some (process id) → x.id ≡ id)) (sym g.undo ∙ e) (λ id i. (
           blanks id i,
           alike_on _ _ _ (alike id)
               (alike_self _ _ (ap (λ (y : ProcId). carried_of c.carried y) (sym (carried_id b.carried id)))),
           λ y f. carried_id b.carried id ∙ one_process id y (sym i
-              ∙ sym (item_unknown (is_known k b.bus_state.bus) h.link.item l.item (process id) (process y) g.names i f)
+              ∙ sym (item_unknown (is_known v b.bus_state.bus) h.link.item l.item (process id) (process y) g.names i f)
               ∙ f),
         ))) (kept_on s t t' b b' h.sent no_process same (λ x no. alike x) kept)
       where
         one_process : (x y : ProcId) → Some (process x) ≡ Some (process y) → x ≡ y
         one_process x y e = cc
     go (of_process id back was st is undone own known serving events talks from kept) =
-        let next : l.item ≡ Some (process id) = item_known (is_known k b.bus_state.bus) h.link.item l.item g.names known
+        let next : l.item ≡ Some (process id) = item_known (is_known v b.bus_state.bus) h.link.item l.item g.names known
         ∙ is in
         let now : CarriedBytes = carried_of b.carried id in
         of_process id now was st next
         (λ u e. undo_process b h.link.item u (λ x. x ≡ carried_of (story s rows).carried id) (sym g.undo ∙ e)
         (λ y i. ap (λ (z : ProcId). carried_of (story s rows).carried z) (one_process y id (sym i ∙ is))))
-        (carried_id b.carried id) (known_more k k' b.bus_state.bus (row_reading b.bus_state row).change.after
-        (Part.In m ∷ []) refl (base_in k (Whole m) silent) lines.command known)
+        (carried_id b.carried id) (known_more v k' b.bus_state.bus (row_reading b.bus_state row).change.after
+        (Part.In m ∷ []) refl (base_in v (Whole m) silent) lines.command known)
         (subst (λ (q : Bool). IsServing k' q id (carried_of c.carried id) now h.conn (story s rows).history was st)
         (sym (lines.command ∙ only.command))
         (subst (λ (x : CarriedBytes). IsServing k' false id x now h.conn (story s rows).history was st)
         (sym (heard_own m b.carried h.link.item l.item id is next) ∙ at id)
-        (in_serves k id now back h.conn b.history was st m silent (subst (λ (q : Bool). IsServing h.opened q id
+        (in_serves v id now back h.conn b.history was st m silent (subst (λ (q : Bool). IsServing h.opened q id
         (carried_of (story s rows).carried id) back h.conn (story s rows).history was st) only.command serving))))
         events (λ talk. talks
-        (talk_first (base_parts k) (Part.In m ∷ []) (sym (ap are_talk (base_in k (Whole m) silent)) ∙ talk)))
-        (from_on s t t' b b' k k' h.sent id was st same refl from)
+        (talk_first (base_parts v) (Part.In m ∷ []) (sym (ap are_talk (base_in v (Whole m) silent)) ∙ talk)))
+        (from_on s t t' b b' v k' h.sent id was st same refl from)
         (kept_on s t t' b b' h.sent (λ x. same_id x id) same (λ x no. alike x) kept)
       where
         one_process : (x y : ProcId) → Some (process x) ≡ Some (process y) → x ≡ y

@@ -32,11 +32,11 @@ same_lines a b h = record {
 
 -- ---- the transcript
 
-in_change : (t : TranscriberValue) (d : RowReading) (row : Row) (m n : Connection) (k : OpenedValue)
-    → d.change.after.rst ≡ false → t.bus_state.connection ≡ Some m → d.next ≡ Some n → t.opened ≡ Some k
-    → by_change t d row ≡ record t { opened = Some (with_row k t.bus_state d row.kind) }
+in_change : (t : TranscriberValue) (d : RowReading) (row : Row) (m n : Connection) (v : OpenedValue)
+    → d.change.after.rst ≡ false → t.bus_state.connection ≡ Some m → d.next ≡ Some n → t.opened ≡ Some v
+    → by_change t d row ≡ record t { opened = Some (with_row v t.bus_state d row.kind) }
 unfolding by_change
-in_change t d row m n k off con next opened =
+in_change t d row m n v off con next opened =
     (λ i. if off i then under_reset t d row else on_bus t (con i) (next i) d row)
     ∙ ap (λ (o : Option OpenedValue). in_connection t o d row.kind) opened
 
@@ -61,8 +61,8 @@ in_story s b row d m n l off con next link = ap (λ (shown : List Event). story_
 -- ---- both after the row
 
 abbrev pub transcript_on : List Row → Row → OpenedValue → TranscriberValue
-transcript_on rows row k =
-    with_bus (record (transcribed rows) { opened = Some k }) row (row_reading (transcribed rows).bus_state row)
+transcript_on rows row o =
+    with_bus (record (transcribed rows) { opened = Some o }) row (row_reading (transcribed rows).bus_state row)
 
 abbrev pub story_on : ScenarioValue → List Row → Row → Story → List Event → Story
 story_on s rows row c shown = story_with_history c (bus_state_after (story s rows).bus_state row
@@ -84,7 +84,7 @@ change_on s rows row h on =
     ap (λ (d : RowReading). by_change (transcribed rows) d row) same
     ∙ in_change (transcribed rows) (row_reading (story s rows).bus_state row) row h.opened.connection
     h.opened.connection h.opened on.off (w.connection ∙ h.connection_is) on.next h.opened_is
-    ∙ ap (λ (k : OpenedValue). record (transcribed rows) { opened = Some k }) (row_same h.opened
+    ∙ ap (λ (o : OpenedValue). record (transcribed rows) { opened = Some o }) (row_same h.opened
     (transcribed rows).bus_state (story s rows).bus_state (row_reading (story s rows).bus_state row) row.kind w)
 
 pub story_is_on :
@@ -114,51 +114,51 @@ pub grown_opens : (b c : Story) → Grows b.sent c.sent → (x : ProcId) → is_
     → is_open_in b.sent x ≡ true
 grown_opens b c g x o = was_open b c x g.sent g.over o
 
-pub books_on : (s : ScenarioValue) (rows : List Row) (row : Row) (k : OpenedValue) (c : Story) (shown : List Event)
+pub books_on : (s : ScenarioValue) (rows : List Row) (row : Row) (v : OpenedValue) (c : Story) (shown : List Event)
     → Grows (story s rows).sent c.sent
-    → SameBooks (transcribed rows) (transcript_on rows row k) (story s rows) (story_on s rows row c shown)
-books_on s rows row k c shown g =
+    → SameBooks (transcribed rows) (transcript_on rows row v) (story s rows) (story_on s rows row c shown)
+books_on s rows row v c shown g =
     record { processes = refl; names = refl; opens = λ x o. grown_opens (story s rows) c g x o }
 
 -- What the row makes of both.
-pub record Makes (s : ScenarioValue) (rows : List Row) (row : Row) (k : OpenedValue) (c : Story) (shown : List Event) :
+pub record Makes (s : ScenarioValue) (rows : List Row) (row : Row) (o : OpenedValue) (c : Story) (shown : List Event) :
     Type 0 where
   pub transcript_is : by_change (transcribed rows) (row_reading (transcribed rows).bus_state row) row
-      ≡ record (transcribed rows) { opened = Some k }
+      ≡ record (transcribed rows) { opened = Some o }
   pub story_is : story s (row ∷ rows) ≡ story_on s rows row c shown
 
 -- What stands after it.
 pub record Stands (s : ScenarioValue) (rows : List Row) (row : Row)
-    (h : StandsLinked s (transcribed rows) (story s rows)) (k : OpenedValue) (l : Link) (c : Story)
+    (h : StandsLinked s (transcribed rows) (story s rows)) (o : OpenedValue) (l : Link) (c : Story)
     (shown : List Event) : Type 0 where
-  pub connection : k.connection ≡ h.opened.connection
+  pub connection : o.connection ≡ h.opened.connection
   pub link : c.link ≡ Some l
   pub sent : c.sent.sent ≡ (story s rows).sent.sent
   pub item : h.opened.connection.reselected ≡ false → l.item ≡ h.link.item
   pub marked : (x : ProcId) → IsMarked (shown ++ (story s rows).history) (carried_of c.carried x)
-  pub stage : Stage s (transcript_on rows row k) (story_on s rows row c shown) k l h.sent (shown ++ h.conn)
+  pub stage : Stage s (transcript_on rows row o) (story_on s rows row c shown) o l h.sent (shown ++ h.conn)
   pub bytes : (is_command (row_reading (story s rows).bus_state row).change.after
       || is_data (row_reading (story s rows).bus_state row).change.after) ≡ false
-      → k.bytes ≡ []
-  pub said : is_message_out (row_reading (story s rows).bus_state row).change.after ≡ false → k.said ≡ []
+      → o.bytes ≡ []
+  pub said : is_message_out (row_reading (story s rows).bus_state row).change.after ≡ false → o.said ≡ []
   pub crossed : (x : Change) → (if (row_reading (story s rows).bus_state row).crosses
       then Some (row_reading (story s rows).bus_state row).change else None) ≡ Some x
       → is_command x.before ≡ is_command (row_reading (story s rows).bus_state row).change.after
-  pub undone : (u : CarriedBytes) → l.undo ≡ Some u → k.since ≡ [] → IsMarked (shown ++ (story s rows).history) u
+  pub undone : (u : CarriedBytes) → l.undo ≡ Some u → o.since ≡ [] → IsMarked (shown ++ (story s rows).history) u
 
 pub linked_next : (s : ScenarioValue) (rows : List Row) (row : Row)
-    (h : StandsLinked s (transcribed rows) (story s rows)) (k : OpenedValue) (l : Link) (c : Story) (shown : List Event)
+    (h : StandsLinked s (transcribed rows) (story s rows)) (o : OpenedValue) (l : Link) (c : Story) (shown : List Event)
     → AreNumbered (transcribed rows).processes (names_begun (transcribed rows).items)
-    → IsOn s rows row h.opened.connection → Makes s rows row k c shown → Stands s rows row h k l c shown
+    → IsOn s rows row h.opened.connection → Makes s rows row o c shown → Stands s rows row h o l c shown
     → Standing s (row ∷ rows)
-linked_next s rows row h k l c shown numbered on g x = record {
+linked_next s rows row h o l c shown numbered on g x = record {
   numbered =
       subst (λ (z : TranscriberValue). AreNumbered z.processes (names_begun z.items)) (sym g.transcript_is) numbered;
   marked = λ id. subst (λ (z : Story). IsMarked z.history (carried_of z.carried id)) (sym g.story_is) (x.marked id);
   stands = subst (λ (z : TranscriberValue). StandsBy s
       (with_bus z row (row_reading (transcribed rows).bus_state row)) (story s (row ∷ rows))) (sym g.transcript_is)
-      (subst (λ (z : Story). StandsBy s (transcript_on rows row k) z) (sym g.story_is) (linked (record {
-        opened = k;
+      (subst (λ (z : Story). StandsBy s (transcript_on rows row o) z) (sym g.story_is) (linked (record {
+        opened = o;
         link = l;
         opened_is = refl;
         link_is = x.link;
@@ -177,7 +177,7 @@ linked_next s rows row h k l c shown numbered on g x = record {
       })));
 }
   where
-    begun : IsBegun (story s rows) h.opened h.link h.sent → IsBegun (story_on s rows row c shown) k l h.sent
+    begun : IsBegun (story s rows) h.opened h.link h.sent → IsBegun (story_on s rows row c shown) o l h.sent
     begun (first item began is order fresh) = first item (ap (λ (n : Connection). n.reselected) x.connection ∙ began)
         (x.item began ∙ is) (ap (λ (list : List Item). reverse list) x.sent ∙ order) fresh
     begun (again re order) = again (ap (λ (n : Connection). n.reselected) x.connection ∙ re)
@@ -194,9 +194,9 @@ uncrossed s rows row none x e = none_some x
 -- ---- rows with no event
 
 -- What stays of the connection.
-pub record Keeps (t t' : TranscriberValue) (b b' : Story) (k k' : OpenedValue) (l l' : Link) : Type 0 where
+pub record Keeps (t t' : TranscriberValue) (b b' : Story) (o k' : OpenedValue) (l l' : Link) : Type 0 where
   pub same : SameBooks t t' b b'
-  pub connection : k'.connection ≡ k.connection
+  pub connection : k'.connection ≡ o.connection
   pub command : is_command b'.bus_state.bus ≡ is_command b.bus_state.bus
   pub status : is_status_phase b'.bus_state.bus ≡ is_status_phase b.bus_state.bus
   pub item : l'.item ≡ l.item

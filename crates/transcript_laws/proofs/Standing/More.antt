@@ -44,13 +44,13 @@ free_unnamed (Some n) (Some m) time = refl
 
 unanswered_unnamed : (o : Option Call) (time : ℕ) → names_begun (unanswered_items o time) ≡ []
 unanswered_unnamed None time = refl
-unanswered_unnamed (Some k) time = go k.calling
+unanswered_unnamed (Some c) time = go c.calling
   where
-    by : (q : Bool) (called : ℕ) → names_begun (if q then Item.Unanswered time k.caller called ∷ [] else []) ≡ []
+    by : (q : Bool) (called : ℕ) → names_begun (if q then Item.Unanswered time c.caller called ∷ [] else []) ≡ []
     by true called = refl
     by false called = refl
 
-    go : (x : Option Calling) → names_begun (unanswered_by k.caller x time) ≡ []
+    go : (x : Option Calling) → names_begun (unanswered_by c.caller x time) ≡ []
     go None = refl
     go (Some y) = by (is_none y.answered) y.called
 
@@ -75,8 +75,8 @@ closing_more t n parts free sum =
 closed_more : (t : TranscriberValue) (o : Option OpenedValue) (d : RowReading) (free : Bool)
     → HasMore t (closed_if t o d free)
 closed_more t None d free = same_more t t refl
-closed_more t (Some k) d free =
-    let l : OpenedValue = settled (phase_over k d.change.before t.bus_state.dialogue.half false) false in
+closed_more t (Some v) d free =
+    let l : OpenedValue = settled (phase_over v d.change.before t.bus_state.dialogue.half false) false in
     closing_more t l.connection l.parts free (summary_of l.connection.reselected no_summary l.parts)
 
 free_more : (t : TranscriberValue) (q : Bool) (time : ℕ)
@@ -88,10 +88,10 @@ free_more t false time = same_more t t refl
 in_more : (t : TranscriberValue) (o : Option OpenedValue) (d : RowReading) (row : Row)
     → HasMore t (in_connection t o d row.kind)
 in_more t None d row = same_more t t refl
-in_more t (Some k) d row = same_more t _ refl
+in_more t (Some v) d row = same_more t _ refl
 
-bus_more : (t : TranscriberValue) (m n : Option Connection) (d : RowReading) (row : Row)
-    → HasMore t (on_bus t m n d row)
+bus_more : (t : TranscriberValue) (m o : Option Connection) (d : RowReading) (row : Row)
+    → HasMore t (on_bus t m o d row)
 bus_more t None None d row = free_more t (falls d.change.before.sel d.change.after.sel) row.time
 bus_more t None (Some n) d row = same_more t (record t { opened = Some (opened_connection n) }) refl
 bus_more t (Some m) None d row =
@@ -142,7 +142,7 @@ names_end rows = go (transcribed rows).opened
         → length (names_begun (transcribed rows).items) ≤ length (names_begun (finished_if (transcribed rows) o).items)
     go None =
         names_more (transcribed rows).items (transcribed rows).items [] (sym (append-nil (transcribed rows).items))
-    go (Some k) =
-        let l : OpenedValue = settled (spoken k) false in
-        names_more (transcribed rows).items (finished_if (transcribed rows) (Some k)).items _ (closed_items
+    go (Some v) =
+        let l : OpenedValue = settled (spoken v) false in
+        names_more (transcribed rows).items (finished_if (transcribed rows) (Some v)).items _ (closed_items
         (transcribed rows) l.connection l.parts false (summary_of l.connection.reselected no_summary l.parts))

@@ -21,8 +21,8 @@ alike_on a b c h g = record { status = h.status ∙ g.status; refused = h.refuse
 pub alike_turned : (a b : CarriedBytes) → AreAlike a b → AreAlike b a
 alike_turned a b h = record { status = sym h.status; refused = sym h.refused; shown = sym h.shown }
 
-pub alike_kept : (p : Process) (u c : CarriedBytes) → AreAlike u c → IsKeptOf p u → IsKeptOf p c
-alike_kept p u c h g =
+pub alike_kept : (t : Process) (u c : CarriedBytes) → AreAlike u c → IsKeptOf t u → IsKeptOf t c
+alike_kept t u c h g =
     record { status = g.status ∙ ap first_byte h.status; shown = λ e. g.shown (h.refused ∙ e) ∙ h.shown }
 
 -- One that is alike is put.
@@ -76,11 +76,11 @@ kept_on s t t' b b' sent but e alike h = λ x o no.
     }
 
 pub from_on : (s : ScenarioValue) (t t' : TranscriberValue) (b b' : Story)
-    (k k' : OpenedValue) (sent : List Item) (id : ProcId) (was : Bool) (st : Option ℕ)
-    → SameBooks t t' b b' → k'.connection ≡ k.connection → IsFrom s t b k sent id was st
+    (v k' : OpenedValue) (sent : List Item) (id : ProcId) (was : Bool) (st : Option ℕ)
+    → SameBooks t t' b b' → k'.connection ≡ v.connection → IsFrom s t b v sent id was st
     → IsFrom s t' b' k' sent id was st
 unfolding has_on
-from_on s t t' b b' k k' sent id was st e con (anew began f g alone) = anew
+from_on s t t' b b' v k' sent id was st e con (anew began f g alone) = anew
     (ap (λ (n : Connection). n.reselected) con ∙ began) f g (λ x d d' o but i j. alone x d d' (e.opens x o) but i j)
-from_on s t t' b b' k k' sent id was st e con (kept re h begun) = kept (ap (λ (n : Connection). n.reselected) con ∙ re)
+from_on s t t' b b' v k' sent id was st e con (kept re h begun) = kept (ap (λ (n : Connection). n.reselected) con ∙ re)
     (has_on s t t' b b' sent id e h) (record { shown = begun.shown; status = begun.status })

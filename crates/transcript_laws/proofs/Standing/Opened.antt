@@ -15,7 +15,7 @@ closed_none : (t : TranscriberValue) (o : Option OpenedValue) (d : RowReading) (
     → (closed_if t o d free).opened ≡ None
 unfolding closed_by
 closed_none t None d free e = e
-closed_none t (Some k) d free e = refl
+closed_none t (Some v) d free e = refl
 
 reset_none : (t : TranscriberValue) (d : RowReading) (row : Row) → d.change.after.rst ≡ true
     → (by_change t d row).opened ≡ None
@@ -39,12 +39,12 @@ unfolding by_change
 next_opened t d row m n off con next =
     λ i. (if off i then under_reset t d row else on_bus t (con i) (next i) d row).opened
 
-pub row_same : (k : OpenedValue) (w v : BusState) (d : RowReading) (kind : Kind) → IsAlike w v
-    → with_row k w d kind ≡ with_row k v d kind
-row_same k w v d kind h = λ i. if d.crosses then with_crossing k (h.is_last i) d
-    else if changes_phase d.change then phase_entered (phase_over k d.change.before (h.half i) true) d.change.after
-    else if is_completion k (h.half i) d.change then with_part k Completion
-    else with_fault k (is_fault kind && is_some (h.crossed i))
+pub row_same : (o : OpenedValue) (w v : BusState) (d : RowReading) (kind : Kind) → IsAlike w v
+    → with_row o w d kind ≡ with_row o v d kind
+row_same o w v d kind h = λ i. if d.crosses then with_crossing o (h.is_last i) d
+    else if changes_phase d.change then phase_entered (phase_over o d.change.before (h.half i) true) d.change.after
+    else if is_completion o (h.half i) d.change then with_part o Completion
+    else with_fault o (is_fault kind && is_some (h.crossed i))
 
 -- ---- of a story
 
@@ -83,15 +83,15 @@ on_opened s rows row b m n e off con next =
     ∙ ap (λ (d : RowReading). (in_connection (transcribed rows) (transcribed rows).opened d row.kind).opened) same
 
 -- What stands after the row was there before it.
-pub record WasOpened (rows : List Row) (row : Row) (b : Story) (k : OpenedValue) : Type 0 where
+pub record WasOpened (rows : List Row) (row : Row) (b : Story) (o : OpenedValue) : Type 0 where
   pub before : OpenedValue
   pub before_is : (transcribed rows).opened ≡ Some before
-  pub after_is : k ≡ with_row before b.bus_state (row_reading b.bus_state row) row.kind
+  pub after_is : o ≡ with_row before b.bus_state (row_reading b.bus_state row) row.kind
 
-pub was_opened : (s : ScenarioValue) (rows : List Row) (row : Row) (b : Story) (m n : Connection) (k : OpenedValue)
+pub was_opened : (s : ScenarioValue) (rows : List Row) (row : Row) (b : Story) (m n : Connection) (v : OpenedValue)
     → b ≡ story s rows → (row_reading b.bus_state row).change.after.rst ≡ false → b.bus_state.connection ≡ Some m
-    → (row_reading b.bus_state row).next ≡ Some n → (transcribed (row ∷ rows)).opened ≡ Some k → WasOpened rows row b k
-was_opened s rows row b m n k e off con next there = go (transcribed rows).opened refl
+    → (row_reading b.bus_state row).next ≡ Some n → (transcribed (row ∷ rows)).opened ≡ Some v → WasOpened rows row b v
+was_opened s rows row b m n v e off con next there = go (transcribed rows).opened refl
   where
     d : RowReading
     d = row_reading b.bus_state row
@@ -99,13 +99,13 @@ was_opened s rows row b m n k e off con next there = go (transcribed rows).opene
     t : TranscriberValue
     t = transcribed rows
 
-    go : (o : Option OpenedValue) → t.opened ≡ o → WasOpened rows row b k
-    go None f = none_some k (sym (on_opened s rows row b m n e off con next
+    go : (o : Option OpenedValue) → t.opened ≡ o → WasOpened rows row b v
+    go None f = none_some v (sym (on_opened s rows row b m n e off con next
         ∙ ap (λ (o : Option OpenedValue). (in_connection t o d row.kind).opened) f ∙ f) ∙ there)
     go (Some x) f = record {
       before = x;
       before_is = f;
-      after_is = same_Some k (with_row x b.bus_state d row.kind) (sym there ∙ on_opened s rows row b m n e off con next
+      after_is = same_Some v (with_row x b.bus_state d row.kind) (sym there ∙ on_opened s rows row b m n e off con next
           ∙ ap (λ (o : Option OpenedValue). (in_connection t o d row.kind).opened) f
           ∙ ap (λ (y : OpenedValue). Some y) (row_same x t.bus_state b.bus_state d row.kind (alike_to s rows b e)));
     }

@@ -41,7 +41,7 @@ is_nothing : (parts : List Part) → is_empty parts ≡ true → parts ≡ []
 is_nothing [] e = refl
 is_nothing (part ∷ parts) e = wrong' e
 
-pub four_true : (p q r t : Bool) → (p && q && r && t) ≡ true → (p ≡ true) × (q ≡ true) × (r ≡ true) × (t ≡ true)
+pub four_true : (b q r t : Bool) → (b && q && r && t) ≡ true → (b ≡ true) × (q ≡ true) × (r ≡ true) × (t ≡ true)
 four_true true true true t e = (refl, refl, refl, e)
 four_true true true false t e = wrong' e
 four_true true false r t e = wrong' e
@@ -177,21 +177,21 @@ held_talks false (Some (Whole m)) = refl
 held_talks false (Some Broken) = refl
 
 -- The parts before the message that is void are messages where all are.
-before_talk : (k : OpenedValue) → are_talk (base_parts k) ≡ true → are_talk k.parts ≡ true
-before_talk k talk = talk_first k.parts (held_parts k ++ k.since) talk
+before_talk : (o : OpenedValue) → are_talk (base_parts o) ≡ true → are_talk o.parts ≡ true
+before_talk o talk = talk_first o.parts (held_parts o ++ o.since) talk
 
-all_talk : (k : OpenedValue) → k.since ≡ [] → are_talk k.parts ≡ true → are_talk (base_parts k) ≡ true
-all_talk k none talk = talk_append k.parts (held_parts k ++ k.since) talk
-    (talk_append (held_parts k) k.since (held_talks (is_void k.said) k.held) (ap are_talk none))
+all_talk : (o : OpenedValue) → o.since ≡ [] → are_talk o.parts ≡ true → are_talk (base_parts o) ≡ true
+all_talk o none talk = talk_append o.parts (held_parts o ++ o.since) talk
+    (talk_append (held_parts o) o.since (held_talks (is_void o.said) o.held) (ap are_talk none))
 
-same_talk : (k : OpenedValue) → k.since ≡ [] → are_talk k.parts ≡ are_talk (base_parts k)
-same_talk k none = go (are_talk k.parts) (are_talk (base_parts k)) refl refl
+same_talk : (o : OpenedValue) → o.since ≡ [] → are_talk o.parts ≡ are_talk (base_parts o)
+same_talk o none = go (are_talk o.parts) (are_talk (base_parts o)) refl refl
   where
-    go : (q r : Bool) → are_talk k.parts ≡ q → are_talk (base_parts k) ≡ r → q ≡ r
+    go : (q r : Bool) → are_talk o.parts ≡ q → are_talk (base_parts o) ≡ r → q ≡ r
     go true true e f = refl
     go false false e f = refl
-    go true false e f = sym (all_talk k none e) ∙ f
-    go false true e f = sym e ∙ before_talk k f
+    go true false e f = sym (all_talk o none e) ∙ f
+    go false true e f = sym e ∙ before_talk o f
 
 void_stage : (s : ScenarioValue) (rows : List Row) (row : Row) (h : StandsLinked s (transcribed rows) (story s rows))
     (said : List MsgOut) (l : Link) (c : Story) (undo : Option CarriedBytes) → OutRow s rows row h
@@ -206,8 +206,8 @@ void_stage s rows row h said l c undo r v undo_is carried = go h.stage undo undo
     b : Story
     b = story s rows
 
-    k : OpenedValue
-    k = h.opened
+    o : OpenedValue
+    o = h.opened
 
     k' : OpenedValue
     k' = record h.opened { said = said }
@@ -272,7 +272,7 @@ void_stage s rows row h said l c undo r v undo_is carried = go h.stage undo undo
         back h.conn (story s rows).history was st said v.void broken v.since (subst (λ (q : Bool). IsServing h.opened
         q id (carried_of (story s rows).carried id) back h.conn (story s rows).history was st) off serving)))) events
         (λ talk. talks (all_talk h.opened v.since (sym (ap are_talk base) ∙ talk)))
-        (from_on s t t' b b' k k' h.sent id was st same refl from) (kept_on s t t' b b' h.sent (λ x. same_id x id) same
+        (from_on s t t' b b' o k' h.sent id was st same refl from) (kept_on s t t' b b' h.sent (λ x. same_id x id) same
         (λ x no. alike_self _ _ (sym (ap (λ (all : List CarriedBytes). carried_of all x) e))) kept)
     process_stage (Some u) undo e id back was st is undone own known' serving events talks from kept =
         let u_is : u ≡ back = undone u undo in
@@ -287,7 +287,7 @@ void_stage s rows row h said l c undo r v undo_is carried = go h.stage undo undo
         (subst (λ (q : Bool). IsServing h.opened q id (carried_of (story s rows).carried id) back h.conn
         (story s rows).history was st) (out_only (story s rows).bus_state.bus r.out).2 serving)))) events
         (λ talk. talks (all_talk h.opened v.since (sym (ap are_talk base) ∙ talk)))
-        (from_on s t t' b b' k k' h.sent id was st same refl from) (kept_on s t t' b b' h.sent
+        (from_on s t t' b b' o k' h.sent id was st same refl from) (kept_on s t t' b b' h.sent
         (λ x. same_id x id) same (λ x no. alike_self _ _ (sym (ap (λ (all : List CarriedBytes). carried_of all x) e
         ∙ put_other (story s rows).carried u id x (ap (λ (y : CarriedBytes). y.id) u_is ∙ own) (id_turned x id no))))
         kept)
@@ -297,10 +297,10 @@ void_stage s rows row h said l c undo r v undo_is carried = go h.stage undo undo
         → Stage s (transcript_on rows row (record h.opened { said = said })) (story_on s rows row c [])
         (record h.opened { said = said }) l h.sent h.conn
     go (of_abort j began is no_undo none talk kept) undo e f = of_abort j began (v.item ∙ is)
-        (v.undo ∙ no_undo) none (ap are_talk base ∙ before_talk k talk) (kept_on s t t' b b' h.sent no_process same
+        (v.undo ∙ no_undo) none (ap are_talk base ∙ before_talk o talk) (kept_on s t t' b b' h.sent no_process same
         (λ x no. by undo f (λ u i. none_some u (sym no_undo ∙ e ∙ i)) x) kept)
     go (of_none re none talk no_command no_status plain blanks undone kept) undo e f = of_none re none
-        (ap are_talk base ∙ before_talk k talk) (lines.command ∙ no_command) (lines.status ∙ no_status) (λ j i. plain j
+        (ap are_talk base ∙ before_talk o talk) (lines.command ∙ no_command) (lines.status ∙ no_status) (λ j i. plain j
         (sym v.item ∙ i)) (λ id i. blank undo f (λ u z. (undone u (e ∙ z)).0) id (blanks id (sym v.item ∙ i)))
         (λ u i. let g = undone u (sym v.undo ∙ i) in (
           g.0,
@@ -349,8 +349,8 @@ out_next s rows row h r fits = go (row_reading (story s rows).bus_state row).out
     b : Story
     b = story s rows
 
-    k : OpenedValue
-    k = h.opened
+    v : OpenedValue
+    v = h.opened
 
     l : Link
     l = h.link
@@ -369,27 +369,27 @@ out_next s rows row h r fits = go (row_reading (story s rows).bus_state row).out
     }) c r.on r.crossing (with_said_is s rows row h r ∙ ap (λ (x : Option MsgOut). with_said h.opened anew x) e) f
 
     by_parity : (m : MsgOut) (q : Bool) → is_parity_error m ≡ q → d.out ≡ Some m
-        → (if q then says_first anew k.said && is_some k.held && is_empty k.since
-        && (not (is_known k b.bus_state.bus) || is_some l.undo || is_broken k.held) else not (is_void k.said)) ≡ true
+        → (if q then says_first anew v.said && is_some v.held && is_empty v.since
+        && (not (is_known v b.bus_state.bus) || is_some l.undo || is_broken v.held) else not (is_void v.said)) ≡ true
         → Standing s (row ∷ rows)
-    by_parity m false p e f =
+    by_parity m false g e f =
         let c : Story = record b { link = Some (record l { last = last_out m l }) } in
-        linked_next s rows row h (record k { said = (if anew then [] else k.said) ++ m ∷ [] })
+        linked_next s rows row h (record v { said = (if anew then [] else v.said) ++ m ∷ [] })
         (record l { last = last_out m l }) c [] r.numbered r.on (makes (Some m) c e
-        (out_story s b l d m e ∙ ap (λ (q : Bool). story_with_carried c (if q then l.undo else None)) p))
-        (said_stands s rows row h ((if anew then [] else k.said) ++ m ∷ []) (record l { last = last_out m l }) c r
-        (plain_void anew k.said m p (not-true (is_void k.said) f) ∙ sym (not-true (is_void k.said) f)) refl refl refl
+        (out_story s b l d m e ∙ ap (λ (q : Bool). story_with_carried c (if q then l.undo else None)) g))
+        (said_stands s rows row h ((if anew then [] else v.said) ++ m ∷ []) (record l { last = last_out m l }) c r
+        (plain_void anew v.said m g (not-true (is_void v.said) f) ∙ sym (not-true (is_void v.said) f)) refl refl refl
         refl refl)
-    by_parity m true p e f = by_option h.link.undo (λ i. let c : Story = record b { link = Some last } in linked_next
-        s rows row h (record k { said = (if anew then [] else k.said) ++ m ∷ [] }) last c [] r.numbered r.on (makes
-        (Some m) c e (out_story s b l d m e ∙ ap (λ (q : Bool). story_with_carried c (if q then l.undo else None)) p
+    by_parity m true g e f = by_option h.link.undo (λ i. let c : Story = record b { link = Some last } in linked_next
+        s rows row h (record v { said = (if anew then [] else v.said) ++ m ∷ [] }) last c [] r.numbered r.on (makes
+        (Some m) c e (out_story s b l d m e ∙ ap (λ (q : Bool). story_with_carried c (if q then l.undo else None)) g
         ∙ ap (λ (o : Option CarriedBytes). story_with_carried c o) i))
         (by_held h.opened.held refl four.1 c None i refl refl refl))
-        (λ u i. let c : Story = record b { link = Some last } in linked_next s rows row h (record k {
-          said = (if anew then [] else k.said) ++ m ∷ [];
+        (λ u i. let c : Story = record b { link = Some last } in linked_next s rows row h (record v {
+          said = (if anew then [] else v.said) ++ m ∷ [];
         }) last (record c { carried = with_carried b.carried u }) [] r.numbered r.on (makes (Some m) (record c {
           carried = with_carried b.carried u;
-        }) e (out_story s b l d m e ∙ ap (λ (q : Bool). story_with_carried c (if q then l.undo else None)) p
+        }) e (out_story s b l d m e ∙ ap (λ (q : Bool). story_with_carried c (if q then l.undo else None)) g
         ∙ ap (λ (o : Option CarriedBytes). story_with_carried c o) i))
         (by_held h.opened.held refl four.1 (record c { carried = with_carried b.carried u }) (Some u) i refl refl refl))
       where
@@ -407,10 +407,10 @@ out_next s rows row h r fits = go (row_reading (story s rows).bus_state row).out
             → (c : Story) (undo : Option CarriedBytes) → h.link.undo ≡ undo
             → c.carried ≡ undone_in (story s rows).carried undo → c.link ≡ Some last → c.sent ≡ (story s rows).sent
             → Stands s rows row h (record h.opened { said = (if anew then [] else h.opened.said) ++ m ∷ [] }) last c []
-        by_held None i some c undo j carried link sent = wrong' some
-        by_held (Some x) i some c undo j carried link sent =
+        by_held None i some c undo z carried link sent = wrong' some
+        by_held (Some x) i some c undo z carried link sent =
             void_stands s rows row h ((if anew then [] else h.opened.said) ++ m ∷ []) last c undo r (record {
-              void = first_void anew h.opened.said m p four.0;
+              void = first_void anew h.opened.said m g four.0;
               held = x;
               held_is = i;
               since = is_nothing h.opened.since four.2;
@@ -419,14 +419,14 @@ out_next s rows row h r fits = go (row_reading (story s rows).bus_state row).out
               undo = refl;
               link = link;
               sent = sent;
-            }) j carried
+            }) z carried
 
     go : (o : Option MsgOut) → d.out ≡ o → fits_out h.opened
         (not (is_known h.opened (story s rows).bus_state.bus) || is_some h.link.undo || is_broken h.opened.held) o anew
         ≡ true → Standing s (row ∷ rows)
-    go None e f = linked_next s rows row h (record k { said = (if anew then [] else k.said) ++ [] }) l b [] r.numbered
+    go None e f = linked_next s rows row h (record v { said = (if anew then [] else v.said) ++ [] }) l b [] r.numbered
         r.on (makes None b e (message_story s b l d e (no_into b.bus_state row (out_only b.bus_state.bus r.out).0)
-        (out_only b.bus_state.bus r.out).1)) (said_stands s rows row h ((if anew then [] else k.said) ++ []) l b r
-        (silent_void anew k.said (not-true (is_void k.said) f) ∙ sym (not-true (is_void k.said) f)) refl refl h.link_is
+        (out_only b.bus_state.bus r.out).1)) (said_stands s rows row h ((if anew then [] else v.said) ++ []) l b r
+        (silent_void anew v.said (not-true (is_void v.said) f) ∙ sym (not-true (is_void v.said) f)) refl refl h.link_is
         refl refl)
     go (Some m) e f = by_parity m (is_parity_error m) refl e f

@@ -60,37 +60,37 @@ over_next s rows row u more c shown g = record {
 
 -- The process of the connection that is over is put; those of the others have another nexus.
 pub record IsPut (s : ScenarioValue) (t : TranscriberValue) (b : Story) (sent : List Item) (names : List Name)
-    (id : ProcId) (p : Process) : Type 0 where
+    (id : ProcId) (c : Process) : Type 0 where
   pub definition : array_of.Process
   pub definition_is : array_of.process_of s id ≡ Some definition
-  pub nexus : same_nexus p.name (nexus_of definition) ≡ true
-  pub named : name_sent sent names id ≡ Some p.name
-  pub kept : IsKeptOf p (carried_of b.carried id)
+  pub nexus : same_nexus c.name (nexus_of definition) ≡ true
+  pub named : name_sent sent names id ≡ Some c.name
+  pub kept : IsKeptOf c (carried_of b.carried id)
   pub others : (x : ProcId) → is_open_in b.sent x ≡ true → same_id x id ≡ false
       → IsKept s t.processes sent names b.carried x
   pub apart : (x : ProcId) (d : array_of.Process) → is_open_in b.sent x ≡ true → same_id x id ≡ false
-      → array_of.process_of s x ≡ Some d → same_nexus p.name (nexus_of d) ≡ false
+      → array_of.process_of s x ≡ Some d → same_nexus c.name (nexus_of d) ≡ false
 
 pub put_kept : (s : ScenarioValue) (t u : TranscriberValue) (b c : Story) (sent : List Item)
-    (names : List Name) (id : ProcId) (p : Process) → u.processes ≡ with_last t.processes p
+    (names : List Name) (id : ProcId) (z : Process) → u.processes ≡ with_last t.processes z
     → names_begun u.items ≡ names → ((x : ProcId) → is_open_in c.sent x ≡ true → is_open_in b.sent x ≡ true)
-    → ((x : ProcId) → carried_of b.carried x ≡ carried_of c.carried x) → IsPut s t b sent names id p
+    → ((x : ProcId) → carried_of b.carried x ≡ carried_of c.carried x) → IsPut s t b sent names id z
     → AreKept s u c sent no_process
-put_kept s t u b c sent names id p processes begun opens carried g = λ x o no. here x o (same_id x id) refl
+put_kept s t u b c sent names id z processes begun opens carried g = λ x o no. here x o (same_id x id) refl
   where
-    at_end : (x : ProcId) → IsKept s (with_last t.processes p) sent names b.carried x
+    at_end : (x : ProcId) → IsKept s (with_last t.processes z) sent names b.carried x
         → IsKept s u.processes sent (names_begun u.items) c.carried x
-    at_end x k = subst (λ (last : List (Key × Process)). IsKept s last sent (names_begun u.items) c.carried x)
-        (sym processes) (subst (λ (list : List Name). IsKept s (with_last t.processes p) sent list c.carried x)
-        (sym begun) (kept_carried s (with_last t.processes p) sent names b.carried c.carried x
-        (λ q h. subst (λ (y : CarriedBytes). IsKeptOf q y) (carried x) h) k))
+    at_end x f = subst (λ (last : List (Key × Process)). IsKept s last sent (names_begun u.items) c.carried x)
+        (sym processes) (subst (λ (list : List Name). IsKept s (with_last t.processes z) sent list c.carried x)
+        (sym begun) (kept_carried s (with_last t.processes z) sent names b.carried c.carried x
+        (λ q h. subst (λ (y : CarriedBytes). IsKeptOf q y) (carried x) h) f))
 
     here : (x : ProcId) → is_open_in c.sent x ≡ true → (q : Bool) → same_id x id ≡ q
         → IsKept s u.processes sent (names_begun u.items) c.carried x
     here x o true e =
         subst (λ (y : ProcId). IsKept s u.processes sent (names_begun u.items) c.carried y) (sym (id_is x id e)) (at_end
-        id (kept_own s t.processes sent names b.carried id p g.definition g.definition_is g.nexus g.named g.kept))
-    here x o false e = at_end x (kept_other s t.processes sent names b.carried x p (λ d i. g.apart x d (opens x o) e i)
+        id (kept_own s t.processes sent names b.carried id z g.definition g.definition_is g.nexus g.named g.kept))
+    here x o false e = at_end x (kept_other s t.processes sent names b.carried x z (λ d i. g.apart x d (opens x o) e i)
         (g.others x (opens x o) e))
 
 -- ---- the process that a name means

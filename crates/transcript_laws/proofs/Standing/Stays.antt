@@ -45,13 +45,13 @@ still_row : (s : ScenarioValue) (rows : List Row) (row : Row) (h : StandsLinked 
     ≡ with_still_row h.opened (story s rows).bus_state (row_reading (story s rows).bus_state row).change row.kind
 still_row s rows row h r =
     let d : RowReading = row_reading (story s rows).bus_state row in
-    let k : OpenedValue = h.opened in
-    (λ i. if r.crosses i then with_crossing k (story s rows).bus_state.dialogue.is_last d else if changes_phase d.change
-    then phase_entered (phase_over k d.change.before (story s rows).bus_state.dialogue.half true) d.change.after
-    else with_still_row k (story s rows).bus_state d.change row.kind)
+    let o : OpenedValue = h.opened in
+    (λ i. if r.crosses i then with_crossing o (story s rows).bus_state.dialogue.is_last d else if changes_phase d.change
+    then phase_entered (phase_over o d.change.before (story s rows).bus_state.dialogue.half true) d.change.after
+    else with_still_row o (story s rows).bus_state d.change row.kind)
     ∙ (λ i. if r.stays i
-    then phase_entered (phase_over k d.change.before (story s rows).bus_state.dialogue.half true) d.change.after
-    else with_still_row k (story s rows).bus_state d.change row.kind)
+    then phase_entered (phase_over o d.change.before (story s rows).bus_state.dialogue.half true) d.change.after
+    else with_still_row o (story s rows).bus_state d.change row.kind)
 
 still_story : (s : ScenarioValue) (rows : List Row) (row : Row) (h : StandsLinked s (transcribed rows) (story s rows))
     → StillRow s rows row h
@@ -80,15 +80,15 @@ completes s rows row h r =
 
 -- ---- no COMMAND COMPLETE
 
-unstruck : (k : OpenedValue) → with_fault k false ≡ k
-unstruck k = λ i. record k { struck = or_false k.struck i }
+unstruck : (o : OpenedValue) → with_fault o false ≡ o
+unstruck o = λ i. record o { struck = or_false o.struck i }
 
 still_makes : (s : ScenarioValue) (rows : List Row) (row : Row)
-    (h : StandsLinked s (transcribed rows) (story s rows)) (k : OpenedValue) (c : Story)
+    (h : StandsLinked s (transcribed rows) (story s rows)) (o : OpenedValue) (c : Story)
     → StillRow s rows row h → story_of.is_completion h.link (row_reading (story s rows).bus_state row).change ≡ false
-    → with_fault h.opened (is_fault row.kind && is_some (story s rows).bus_state.crossed) ≡ k
-    → story_after_fault (story s rows) h.link row.kind ≡ c → Makes s rows row k c []
-still_makes s rows row h k c r none e f = record {
+    → with_fault h.opened (is_fault row.kind && is_some (story s rows).bus_state.crossed) ≡ o
+    → story_after_fault (story s rows) h.link row.kind ≡ c → Makes s rows row o c []
+still_makes s rows row h o c r none e f = record {
   transcript_is = change_on s rows row h r.on ∙ ap (λ (x : OpenedValue). record (transcribed rows) {
     opened = Some x;
   }) (still_row s rows row h r ∙ ap (λ (q : Bool). if q then with_part h.opened Part.Completion
@@ -135,16 +135,16 @@ other_fault lines c e = (λ i. if e i then record c { struck = true; failure = S
     go true = refl
     go false = refl
 
-strike_serves : (k : OpenedValue) (lines : LineSet) (q : Bool) (id : ProcId)
+strike_serves : (o : OpenedValue) (lines : LineSet) (q : Bool) (id : ProcId)
     (now back : CarriedBytes) (conn history : List Event) (was : Bool) (st : Option ℕ)
-    → is_command lines ≡ q → IsServing k q id now back conn history was st
-    → IsServing (record k { struck = k.struck || true }) q id (after_fault lines now) back conn history was st
-strike_serves k lines true id now back conn history was st e h = subst
-    (λ (x : CarriedBytes). IsServing (record k { struck = k.struck || true }) true id x back conn history was st)
-    (sym (command_fault lines now e)) (struck_serves k id now back conn history was st (Some PARITY_ERROR) h)
-strike_serves k lines false id now back conn history was st e h = subst
-    (λ (x : CarriedBytes). IsServing (record k { struck = k.struck || true }) false id x back conn history was st)
-    (sym (other_fault lines now e)) (fault_serves k id now back conn history was st (failure_of lines now) true h)
+    → is_command lines ≡ q → IsServing o q id now back conn history was st
+    → IsServing (record o { struck = o.struck || true }) q id (after_fault lines now) back conn history was st
+strike_serves o lines true id now back conn history was st e h = subst
+    (λ (x : CarriedBytes). IsServing (record o { struck = o.struck || true }) true id x back conn history was st)
+    (sym (command_fault lines now e)) (struck_serves o id now back conn history was st (Some PARITY_ERROR) h)
+strike_serves o lines false id now back conn history was st e h = subst
+    (λ (x : CarriedBytes). IsServing (record o { struck = o.struck || true }) false id x back conn history was st)
+    (sym (other_fault lines now e)) (fault_serves o id now back conn history was st (failure_of lines now) true h)
 
 abbrev struck_story : ScenarioValue → List Row → Option Item → Change → Story
 struck_story s rows item x =

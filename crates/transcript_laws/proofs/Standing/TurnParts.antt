@@ -13,32 +13,32 @@ use proofs.{Serving.Turns.{both_none}, Standing.Stays.{talk_second}}
 -- ---- the connection with its next phase
 
 abbrev pub turned : OpenedValue → LineSet → LineSet → List ℕ → OpenedValue
-turned k s after half = phase_entered (phase_over k s half true) after
+turned o l after half = phase_entered (phase_over o l half true) after
 
 -- Nothing is said in it, and no byte has crossed.
-pub record IsTurned (k l : OpenedValue) : Type 0 where
-  pub connection : l.connection ≡ k.connection
+pub record IsTurned (o l : OpenedValue) : Type 0 where
+  pub connection : l.connection ≡ o.connection
   pub bytes : l.bytes ≡ []
   pub said : l.said ≡ []
 
-entered : (k l : OpenedValue) (q : Bool) → IsTurned k l → IsTurned k (if q then with_part l Part.StatusPhase else l)
-entered k l true h = record { connection = h.connection; bytes = h.bytes; said = h.said }
-entered k l false h = h
+entered : (o l : OpenedValue) (q : Bool) → IsTurned o l → IsTurned o (if q then with_part l Part.StatusPhase else l)
+entered o l true h = record { connection = h.connection; bytes = h.bytes; said = h.said }
+entered o l false h = h
 
-pub is_turned : (k : OpenedValue) (s after : LineSet) (half : List ℕ) → IsTurned k (turned k s after half)
-is_turned k s after half =
-    let h = over_keeps k s half true in
-    entered k (phase_over k s half true) (is_status_phase after)
+pub is_turned : (o : OpenedValue) (l after : LineSet) (half : List ℕ) → IsTurned o (turned o l after half)
+is_turned o l after half =
+    let h = over_keeps o l half true in
+    entered o (phase_over o l half true) (is_status_phase after)
     (record { connection = h.connection; bytes = h.bytes; said = h.said })
 
 -- ---- where all parts are messages
 
 -- No COMMAND, no STATUS and no byte of data was there.
-pub record IsTalk (k : OpenedValue) (s after : LineSet) : Type 0 where
-  pub base : are_talk (base_parts k) ≡ true
-  pub command : is_command s ≡ false
+pub record IsTalk (o : OpenedValue) (l after : LineSet) : Type 0 where
+  pub base : are_talk (base_parts o) ≡ true
+  pub command : is_command l ≡ false
   pub status : is_status_phase after ≡ false
-  pub bytes : is_data s ≡ true → k.bytes ≡ []
+  pub bytes : is_data l ≡ true → o.bytes ≡ []
 
 no_status_part : (q : Bool) → are_talk (if q then Part.StatusPhase ∷ [] else []) ≡ true → q ≡ false
 no_status_part true e = wrong' e
@@ -58,21 +58,21 @@ no_data_part false true out [] struck e f = refl
 no_data_part false true out (b ∷ bytes) struck e f = wrong' e
 no_data_part false false out bytes struck e f = wrong' f
 
-pub talk_parts : (k : OpenedValue) (s after : LineSet) (half : List ℕ)
-    → are_talk (base_parts (turned k s after half)) ≡ true → IsTalk k s after
-talk_parts k s after half talk =
-    let all = sym (ap are_talk (base_turned k s after half)) ∙ talk in
+pub talk_parts : (o : OpenedValue) (l after : LineSet) (half : List ℕ)
+    → are_talk (base_parts (turned o l after half)) ≡ true → IsTalk o l after
+talk_parts o l after half talk =
+    let all = sym (ap are_talk (base_turned o l after half)) ∙ talk in
     let last = if is_status_phase after then Part.StatusPhase ∷ [] else [] in
-    let two = talk_first ((parts_now k ++ broken_parts s half) ++ phase_parts k s true) last all in
-    let phase = talk_second (parts_now k ++ broken_parts s half) (phase_parts k s true) two in
-    let one = talk_first (parts_now k) (broken_parts s half)
-    (talk_first (parts_now k ++ broken_parts s half) (phase_parts k s true) two) in
+    let two = talk_first ((parts_now o ++ broken_parts l half) ++ phase_parts o l true) last all in
+    let phase = talk_second (parts_now o ++ broken_parts l half) (phase_parts o l true) two in
+    let one = talk_first (parts_now o) (broken_parts l half)
+    (talk_first (parts_now o ++ broken_parts l half) (phase_parts o l true) two) in
     record {
-      base = talk_first (base_parts k) (out_parts k.said) one;
-      command = no_command_part (is_command s) (is_data s) (not s.io) k.bytes k.struck phase;
+      base = talk_first (base_parts o) (out_parts o.said) one;
+      command = no_command_part (is_command l) (is_data l) (not l.io) o.bytes o.struck phase;
       status = no_status_part (is_status_phase after)
-          (talk_second ((parts_now k ++ broken_parts s half) ++ phase_parts k s true) last all);
-      bytes = λ e. no_data_part (is_command s) (is_data s) (not s.io) k.bytes k.struck phase e;
+          (talk_second ((parts_now o ++ broken_parts l half) ++ phase_parts o l true) last all);
+      bytes = λ e. no_data_part (is_command l) (is_data l) (not l.io) o.bytes o.struck phase e;
     }
 
 -- ---- its process is known
@@ -86,13 +86,13 @@ turned_by true true true false a f e = wrong' e
 turned_by true false true q a f e = wrong' (f refl).0
 
 -- It was known before.
-pub known_stays : (k : OpenedValue) (s after : LineSet) (half : List ℕ) → is_known k s ≡ true
-    → is_known (turned k s after half) after ≡ true
-known_stays k s after half e =
-    ap (λ (n : Connection). not n.reselected || not (are_talk (base_parts (turned k s after half))) || is_command after)
-    (is_turned k s after half).connection
-    ∙ turned_by k.connection.reselected (are_talk (base_parts k)) (are_talk (base_parts (turned k s after half)))
-    (is_command s) (is_command after) (λ talk. let g = talk_parts k s after half talk in (g.base, g.command)) e
+pub known_stays : (o : OpenedValue) (l after : LineSet) (half : List ℕ) → is_known o l ≡ true
+    → is_known (turned o l after half) after ≡ true
+known_stays o l after half e =
+    ap (λ (n : Connection). not n.reselected || not (are_talk (base_parts (turned o l after half))) || is_command after)
+    (is_turned o l after half).connection
+    ∙ turned_by o.connection.reselected (are_talk (base_parts o)) (are_talk (base_parts (turned o l after half)))
+    (is_command l) (is_command after) (λ talk. let g = talk_parts o l after half talk in (g.base, g.command)) e
 
 gets_by : (re t' a v z : Bool) → (t' ≡ true → (v ≡ false) × (z ≡ true)) → (a || v || not z) ≡ true
     → (not re || not t' || a) ≡ true
@@ -104,68 +104,68 @@ gets_by true true false false true f e = wrong' e
 gets_by true true false false false f e = wrong' (f refl).1
 
 -- It becomes known with COMMAND, STATUS, or bytes of data.
-pub known_then : (k : OpenedValue) (s after : LineSet) (half : List ℕ)
-    → (is_data s ≡ false → k.bytes ≡ []) → (is_command after || is_status_phase after || not (is_nil k.bytes)) ≡ true
-    → is_known (turned k s after half) after ≡ true
-known_then k s after half empty e =
-    ap (λ (n : Connection). not n.reselected || not (are_talk (base_parts (turned k s after half))) || is_command after)
-    (is_turned k s after half).connection
-    ∙ gets_by k.connection.reselected (are_talk (base_parts (turned k s after half)))
-    (is_command after) (is_status_phase after) (is_nil k.bytes)
-    (λ talk. let g = talk_parts k s after half talk in (g.status, ap is_nil (by_data g (is_data s) refl))) e
+pub known_then : (o : OpenedValue) (l after : LineSet) (half : List ℕ)
+    → (is_data l ≡ false → o.bytes ≡ []) → (is_command after || is_status_phase after || not (is_nil o.bytes)) ≡ true
+    → is_known (turned o l after half) after ≡ true
+known_then o l after half empty e =
+    ap (λ (n : Connection). not n.reselected || not (are_talk (base_parts (turned o l after half))) || is_command after)
+    (is_turned o l after half).connection
+    ∙ gets_by o.connection.reselected (are_talk (base_parts (turned o l after half)))
+    (is_command after) (is_status_phase after) (is_nil o.bytes)
+    (λ talk. let g = talk_parts o l after half talk in (g.status, ap is_nil (by_data g (is_data l) refl))) e
   where
-    by_data : IsTalk k s after → (q : Bool) → is_data s ≡ q → k.bytes ≡ []
+    by_data : IsTalk o l after → (q : Bool) → is_data l ≡ q → o.bytes ≡ []
     by_data g true f = g.bytes f
     by_data g false f = empty f
 
 -- ---- no part came after the last message
 
-entered_since : (k : OpenedValue) (q : Bool) → (if q then with_part k Part.StatusPhase else k).since ≡ []
-    → (q ≡ false) × (k.since ≡ [])
-entered_since k true e = absurd (filled_since k.since e)
+entered_since : (o : OpenedValue) (q : Bool) → (if q then with_part o Part.StatusPhase else o).since ≡ []
+    → (q ≡ false) × (o.since ≡ [])
+entered_since o true e = absurd (filled_since o.since e)
   where
     filled_since : (xs : List Part) → (xs ++ Part.StatusPhase ∷ []) ≡ [] → ⊥
     filled_since [] f = absurd cc
     filled_since (x ∷ xs) f = absurd cc
-entered_since k false e = (refl, e)
+entered_since o false e = (refl, e)
 
 -- Something is said.
-all_since : {A : Type 0} (k : OpenedValue) (m : MsgOut) (said : List MsgOut) → (with_all_out k (m ∷ said)).since ≡ []
+all_since : {A : Type 0} (o : OpenedValue) (m : MsgOut) (said : List MsgOut) → (with_all_out o (m ∷ said)).since ≡ []
     → A
-all_since k m [] e = absurd cc
-all_since k m (x ∷ said) e = all_since (with_out k m) x said e
+all_since o m [] e = absurd cc
+all_since o m (x ∷ said) e = all_since (with_out o m) x said e
 
-spoken_since : (k : OpenedValue) → (spoken k).since ≡ [] → k.since ≡ []
-spoken_since k e = go k.said refl e
+spoken_since : (o : OpenedValue) → (spoken o).since ≡ [] → o.since ≡ []
+spoken_since o e = go o.said refl e
   where
-    go : (said : List MsgOut) → k.said ≡ said → (with_all_out (record k { said = [] }) said).since ≡ [] → k.since ≡ []
+    go : (said : List MsgOut) → o.said ≡ said → (with_all_out (record o { said = [] }) said).since ≡ [] → o.since ≡ []
     go [] f z = z
-    go (m ∷ said) f z = all_since (record k { said = [] }) m said z
+    go (m ∷ said) f z = all_since (record o { said = [] }) m said z
 
-no_phase_command : (k : OpenedValue) (q r out left : Bool)
-    → (if q then Part.Command k.bytes k.struck left ∷ [] else if r then data_parts out k.bytes else []) ≡ [] → q ≡ false
-no_phase_command k true r out left e = absurd cc
-no_phase_command k false r out left e = refl
+no_phase_command : (o : OpenedValue) (q r out left : Bool)
+    → (if q then Part.Command o.bytes o.struck left ∷ [] else if r then data_parts out o.bytes else []) ≡ [] → q ≡ false
+no_phase_command o true r out left e = absurd cc
+no_phase_command o false r out left e = refl
 
-broken_since : (k : OpenedValue) (q : Bool) → (if q then with_in k Broken else k).since ≡ [] → q ≡ false → k.since ≡ []
-broken_since k true e f = wrong f
-broken_since k false e f = e
+broken_since : (o : OpenedValue) (q : Bool) → (if q then with_in o Broken else o).since ≡ [] → q ≡ false → o.since ≡ []
+broken_since o true e f = wrong f
+broken_since o false e f = e
 
-pub record IsQuiet (k : OpenedValue) (s after : LineSet) (half : List ℕ) : Type 0 where
-  pub command : is_command s ≡ false
+pub record IsQuiet (o : OpenedValue) (l after : LineSet) (half : List ℕ) : Type 0 where
+  pub command : is_command l ≡ false
   pub status : is_status_phase after ≡ false
-  pub since : (is_message_in s && not (is_nil half)) ≡ false → k.since ≡ []
+  pub since : (is_message_in l && not (is_nil half)) ≡ false → o.since ≡ []
 
-pub quiet_since : (k : OpenedValue) (s after : LineSet) (half : List ℕ) → (turned k s after half).since ≡ []
-    → IsQuiet k s after half
-quiet_since k s after half e =
-    let one = entered_since (phase_over k s half true) (is_status_phase after) e in
-    let cut : OpenedValue = if is_message_in s && not (is_nil half) then with_in (spoken k) Broken else spoken k in
-    let two = both_none cut.since (phase_parts cut s true) one.1 in
+pub quiet_since : (o : OpenedValue) (l after : LineSet) (half : List ℕ) → (turned o l after half).since ≡ []
+    → IsQuiet o l after half
+quiet_since o l after half e =
+    let one = entered_since (phase_over o l half true) (is_status_phase after) e in
+    let cut : OpenedValue = if is_message_in l && not (is_nil half) then with_in (spoken o) Broken else spoken o in
+    let two = both_none cut.since (phase_parts cut l true) one.1 in
     record {
-      command = no_phase_command cut (is_command s) (is_data s) (not s.io) true two.1;
+      command = no_phase_command cut (is_command l) (is_data l) (not l.io) true two.1;
       status = one.0;
-      since = λ f. spoken_since k (broken_since (spoken k) (is_message_in s && not (is_nil half)) two.0 f);
+      since = λ f. spoken_since o (broken_since (spoken o) (is_message_in l && not (is_nil half)) two.0 f);
     }
 
 -- ---- what is alike
@@ -220,7 +220,7 @@ pub alike_account : (u c : CarriedBytes) (a : AccountValue) → IsSameCarried u 
 alike_account u c a h g = record {
   block = g.block ∙ sym h.block;
   struck = g.struck ∙ sym h.struck;
-  first = g.first ∙ sym (ap (λ (n : ℕ). n == 0) h.active);
+  first = g.first ∙ sym (ap (λ (m : ℕ). m == 0) h.active);
   saved = h.saved ∙ g.saved;
   status = g.status ∙ sym (ap first_byte h.bytes);
   begun = (λ i. is_nil (h.bytes i) && not (h.active i == 0)) ∙ g.begun;

@@ -40,7 +40,7 @@ abbrev half_of : ScenarioValue → List Row → List ℕ
 half_of s rows = (story s rows).bus_state.dialogue.half
 
 abbrev next_of : ScenarioValue → List Row → Row → OpenedValue → OpenedValue
-next_of s rows row k = turned k (story s rows).bus_state.bus (after_of s rows row) (half_of s rows)
+next_of s rows row o = turned o (story s rows).bus_state.bus (after_of s rows row) (half_of s rows)
 
 turn_row : (s : ScenarioValue) (rows : List Row) (row : Row) (h : StandsLinked s (transcribed rows) (story s rows))
     → TurnRow s rows row h
@@ -48,13 +48,13 @@ turn_row : (s : ScenarioValue) (rows : List Row) (row : Row) (h : StandsLinked s
     ≡ next_of s rows row h.opened
 turn_row s rows row h r =
     let d : RowReading = row_reading (story s rows).bus_state row in
-    let k : OpenedValue = h.opened in
-    (λ i. if r.crosses i then with_crossing k (story s rows).bus_state.dialogue.is_last d else if changes_phase d.change
-    then phase_entered (phase_over k d.change.before (story s rows).bus_state.dialogue.half true) d.change.after
-    else with_still_row k (story s rows).bus_state d.change row.kind)
+    let o : OpenedValue = h.opened in
+    (λ i. if r.crosses i then with_crossing o (story s rows).bus_state.dialogue.is_last d else if changes_phase d.change
+    then phase_entered (phase_over o d.change.before (story s rows).bus_state.dialogue.half true) d.change.after
+    else with_still_row o (story s rows).bus_state d.change row.kind)
     ∙ (λ i. if r.turns i
-    then phase_entered (phase_over k d.change.before (story s rows).bus_state.dialogue.half true) d.change.after
-    else with_still_row k (story s rows).bus_state d.change row.kind)
+    then phase_entered (phase_over o d.change.before (story s rows).bus_state.dialogue.half true) d.change.after
+    else with_still_row o (story s rows).bus_state d.change row.kind)
 
 turn_story : (s : ScenarioValue) (rows : List Row) (row : Row) (h : StandsLinked s (transcribed rows) (story s rows))
     → TurnRow s rows row h
@@ -115,7 +115,7 @@ nothing_undone :
 nothing_undone s rows row h r e = implied (is_message_in (story s rows).bus_state.bus && not (is_nil (half_of s rows)))
     (undoes_nothing (story s rows) h.link h.link.undo) (fit_parts s rows row h r).undoes e
 
-three_true : (p q r : Bool) → (not p && not q && r) ≡ true → (p ≡ false) × (q ≡ false) × (r ≡ true)
+three_true : (b q r : Bool) → (not b && not q && r) ≡ true → (b ≡ false) × (q ≡ false) × (r ≡ true)
 three_true true q r e = wrong' e
 three_true false true r e = wrong' e
 three_true false false r e = (refl, refl, e)
@@ -334,7 +334,7 @@ process_next s rows row h id back was st r g =
         (ap (λ (o : Option Item). not (is_command (story s rows).bus_state.bus) || arrives_first (story s rows) o) g.is)
         ∙ (fit_parts s rows row h r).arrives)
       where
-        by : (p q w : Bool) → (p && q) ≡ true → (not p || (not q || not w)) ≡ true → w ≡ false
+        by : (b q w : Bool) → (b && q) ≡ true → (not b || (not q || not w)) ≡ true → w ≡ false
         by true true true x y = wrong' y
         by true true false x y = refl
         by true false w x y = wrong' x
@@ -374,42 +374,42 @@ becomes_known s rows row h r re none talk no_command blanks undone kept_all (Som
     now : CarriedBytes
     now = carried_of (story s rows).carried id
 
-    k : IsKept s (transcribed rows).processes h.sent (names_begun (transcribed rows).items) (story s rows).carried id
-    k = kept_all id opens refl
+    w : IsKept s (transcribed rows).processes h.sent (names_begun (transcribed rows).items) (story s rows).carried id
+    w = kept_all id opens refl
 
     serves : (back : CarriedBytes) → ((u : CarriedBytes) → h.link.undo ≡ Some u → u ≡ back) → back.id ≡ id
-        → IsBlank back → IsKeptOf k.process back → Standing s (row ∷ rows)
+        → IsBlank back → IsKeptOf w.process back → Standing s (row ∷ rows)
     serves back undo own blank kept_back =
-        process_next s rows row h id back k.process.shown k.process.status r (record {
+        process_next s rows row h id back w.process.shown w.process.status r (record {
           is = is;
           undone = undo;
           own = own;
           known = known_then h.opened (story s rows).bus_state.bus (after_of s rows row) (half_of s rows)
               (λ d. h.bytes (λ i. no_command i || d i)) gets;
           serving = subst (λ (list : List Event). IsServing h.opened (is_command (story s rows).bus_state.bus)
-              id now back list (story s rows).history k.process.shown k.process.status) (sym none)
-              (subst (λ (q : Bool). IsServing h.opened q id now back [] (story s rows).history k.process.shown
-              k.process.status) (sym no_command) (talk_serves h.opened id now back (story s rows).history k.process talk
-              (blanks id is) k.kept blank kept_back));
+              id now back list (story s rows).history w.process.shown w.process.status) (sym none)
+              (subst (λ (q : Bool). IsServing h.opened q id now back [] (story s rows).history w.process.shown
+              w.process.status) (sym no_command) (talk_serves h.opened id now back (story s rows).history w.process talk
+              (blanks id is) w.kept blank kept_back));
           events_are = subst (AreOwnEvents id) (sym none) tt;
           talks = λ z. none;
           from = kept re (record {
-            definition = k.definition;
-            definition_is = k.definition_is;
-            process = k.process;
-            last_is = k.last_is;
-            named = k.named;
+            definition = w.definition;
+            definition_is = w.definition_is;
+            process = w.process;
+            last_is = w.last_is;
+            named = w.named;
           }) (record { shown = refl; status = refl });
           others = λ x o but. kept_all x o refl;
         })
 
     go : (o : Option CarriedBytes) → h.link.undo ≡ o → Standing s (row ∷ rows)
-    go None e = serves now (λ u f. none_some u (sym e ∙ f)) (carried_id (story s rows).carried id) (blanks id is) k.kept
+    go None e = serves now (λ u f. none_some u (sym e ∙ f)) (carried_id (story s rows).carried id) (blanks id is) w.kept
     go (Some u) e =
         let g = undone u e in
-        serves u (λ x f. some_is x u (sym f ∙ e)) (g.2 id is) g.0 (alike_kept k.process
+        serves u (λ x f. some_is x u (sym f ∙ e)) (g.2 id is) g.0 (alike_kept w.process
         (carried_of (story s rows).carried id) u (alike_turned u (carried_of (story s rows).carried id)
-        (subst (λ (x : ProcId). AreAlike u (carried_of (story s rows).carried x)) (g.2 id is) g.1)) k.kept)
+        (subst (λ (x : ProcId). AreAlike u (carried_of (story s rows).carried x)) (g.2 id is) g.1)) w.kept)
       where
         some_is : (x y : CarriedBytes) → Some x ≡ Some y → x ≡ y
         some_is x y f = cc
@@ -432,7 +432,7 @@ turn_next s rows row h r = go h.stage
     by_gets : (q : Bool) → gets_known h.opened (row_reading (story s rows).bus_state row).change ≡ q
         → h.opened.connection.reselected ≡ true → h.conn ≡ []
         → are_talk (base_parts h.opened) ≡ true → is_command (story s rows).bus_state.bus ≡ false
-        → is_status_phase (story s rows).bus_state.bus ≡ false → ((j : ℕ) → h.link.item ≡ Some (abort j) → ⊥)
+        → is_status_phase (story s rows).bus_state.bus ≡ false → ((m : ℕ) → h.link.item ≡ Some (abort m) → ⊥)
         → ((x : ProcId) → h.link.item ≡ Some (process x) → IsBlank (carried_of (story s rows).carried x))
         → ((u : CarriedBytes) → h.link.undo ≡ Some u → IsBlank u × AreAlike u (carried_of (story s rows).carried u.id)
         × ((x : ProcId) → h.link.item ≡ Some (process x) → u.id ≡ x))
@@ -454,12 +454,12 @@ turn_next s rows row h r = go h.stage
         (story_on s rows row (story s rows) []) h.sent no_process same (λ x no. alike_self _ _ refl) kept_all))
 
     go : Stage s (transcribed rows) (story s rows) h.opened h.link h.sent h.conn → Standing s (row ∷ rows)
-    go (of_abort j began is undo none talk kept_all) =
+    go (of_abort m began is undo none talk kept_all) =
         let c : Change = (row_reading (story s rows).bus_state row).change in
         let three = three_true (is_command c.before) (is_status_phase c.after) (is_nil h.opened.bytes)
         (sym (ap (λ (o : Option Item). leaves_talk h.opened c o) is) ∙ (fit_parts s rows row h r).talks) in
         quiet_marked s rows row h r three.0 three.1
-        (of_abort j (ap (λ (n : Connection). n.reselected) con ∙ began) is undo none (talk_turned h.opened
+        (of_abort m (ap (λ (n : Connection). n.reselected) con ∙ began) is undo none (talk_turned h.opened
         (story s rows).bus_state.bus c.after (half_of s rows) three.0 (nil_is h.opened.bytes three.2) three.1 talk)
         (kept_on s (transcribed rows) (transcript_on rows row next) (story s rows)
         (story_on s rows row (story s rows) []) h.sent no_process same (λ x no. alike_self _ _ refl) kept_all))

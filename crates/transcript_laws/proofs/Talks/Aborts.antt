@@ -15,7 +15,7 @@ pub record IsUnsaid (o : OpenedValue) : Type 0 where
   pub talk : are_talk (base_parts o) ≡ true
 
 abbrev pub AbortTalk : RunState → OpenedValue → Type 0
-AbortTalk k o = (j : ℕ) → k.served ≡ Some (abort j) → IsUnsaid o
+AbortTalk k o = (m : ℕ) → k.served ≡ Some (abort m) → IsUnsaid o
 
 pub abort_row :
     (s : ScenarioValue) (p : List Row) (row : Row) (n : Connection) (g : Going s p row n) (o after : OpenedValue)

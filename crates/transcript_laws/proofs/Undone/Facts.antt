@@ -76,8 +76,8 @@ brief_half m half count e g = ap is_nil (g.half_is ∙ none_half g.before g.rest
     (last_whole m.second (and_second (is_brief m.first) (is_brief m.second) e))))
 
 -- Those that are left as MESSAGE OUT begins.
-from_undone : (b : Story) (m : Messages) (n : ℕ) → Undone b m → Undone b (from_byte m n)
-from_undone b m n h = go (nat_lt n (length (message_bytes m.first))) h
+from_undone : (b : Story) (m : Messages) (i : ℕ) → Undone b m → Undone b (from_byte m i)
+from_undone b m i h = go (nat_lt i (length (message_bytes m.first))) h
   where
     go : (q : Bool) → Undone b m → Undone b (if q then m else record { first = m.second; second = None })
     go true h = h
