@@ -1,5 +1,4 @@
--- What targets rest on beside what they hear holds after each row of some runs. Written by
--- tools/makers/attended_case.py.
+-- What targets rest on beside what they hear holds after each row of some runs. Written by tools/makers/attended_case.py.
 use Rattle.std.proofs.Common.{◌≡◌, true, [], refl}
 use lib.Count.{ones}
 use Rattle.bus_trace.specs.LineSet.{line_of}
@@ -9,43 +8,7 @@ use Rattle.scenario.specs.Needs.{need_of, sent_of}
 use Rattle.due_model.proofs.Seams.{onto}
 use Rattle.disk_target.specs.Attended.{attended}
 use Rattle.disk_target.proofs.AttendedRuns.{all_attended}
-use Rattle.due_model.proofs.Cases.{absent_unit_due, absent_unit_due_rows, burst_without_tags_due}
-use Rattle.due_model.proofs.Cases.{burst_without_tags_due_rows, command_given_up_due, command_given_up_due_rows}
-use Rattle.due_model.proofs.Cases.{command_struck_twice_due, command_struck_twice_due_rows, complete_struck_due}
-use Rattle.due_model.proofs.Cases.{complete_struck_due_rows, counted_due, counted_due_rows, data_in_given_up_due}
-use Rattle.due_model.proofs.Cases.{data_in_given_up_due_rows, data_out_given_up_due, data_out_given_up_due_rows}
-use Rattle.due_model.proofs.Cases.{delayed_ack_due, delayed_ack_due_rows, device_reset_by_message_due}
-use Rattle.due_model.proofs.Cases.{device_reset_by_message_due_rows, equal_bytes_due, equal_bytes_due_rows}
-use Rattle.due_model.proofs.Cases.{fast_pulses_out_due, fast_pulses_out_due_rows, field_in_a_command_due}
-use Rattle.due_model.proofs.Cases.{field_in_a_command_due_rows, full_queue_due, full_queue_due_rows, given_up_due}
-use Rattle.due_model.proofs.Cases.{given_up_due_rows, held_reselection_due, held_reselection_due_rows}
-use Rattle.due_model.proofs.Cases.{hold_of_a_unit_due, hold_of_a_unit_due_rows, late_entry_due, late_entry_due_rows}
-use Rattle.due_model.proofs.Cases.{lost_due, lost_due_rows, many_pulses_due, many_pulses_due_rows, offset_255_due}
-use Rattle.due_model.proofs.Cases.{offset_255_due_rows, one_pulse_at_a_time_due, one_pulse_at_a_time_due_rows}
-use Rattle.due_model.proofs.Cases.{one_read_due, one_read_due_rows, opening_given_up_due, opening_given_up_due_rows}
-use Rattle.due_model.proofs.Cases.{ordered_process_due, ordered_process_due_rows, overlapping_resets_due}
-use Rattle.due_model.proofs.Cases.{overlapping_resets_due_rows, own_processes_aborted_due}
-use Rattle.due_model.proofs.Cases.{own_processes_aborted_due_rows, pulsed_read_struck_due, pulsed_read_struck_due_rows}
-use Rattle.due_model.proofs.Cases.{pulsed_write_struck_due, pulsed_write_struck_due_rows, pulses_out_due}
-use Rattle.due_model.proofs.Cases.{pulses_out_due_rows, queue_cleared_due, queue_cleared_due_rows, queue_orders_due}
-use Rattle.due_model.proofs.Cases.{queue_orders_due_rows, ready_units_due, ready_units_due_rows}
-use Rattle.due_model.proofs.Cases.{request_of_a_target_struck_due, request_of_a_target_struck_due_rows}
-use Rattle.due_model.proofs.Cases.{requests_of_a_target_due, requests_of_a_target_due_rows, reselected_id_struck_due}
-use Rattle.due_model.proofs.Cases.{reselected_id_struck_due_rows, reset_in_a_data_phase_due}
-use Rattle.due_model.proofs.Cases.{reset_in_a_data_phase_due_rows, reset_in_a_reselection_due}
-use Rattle.due_model.proofs.Cases.{reset_in_a_reselection_due_rows, reset_in_a_selection_due}
-use Rattle.due_model.proofs.Cases.{reset_in_a_selection_due_rows, resets_dropped_due, resets_dropped_due_rows}
-use Rattle.due_model.proofs.Cases.{selected_id_struck_due, selected_id_struck_due_rows, status_given_up_due}
-use Rattle.due_model.proofs.Cases.{status_given_up_due_rows, status_struck_due, status_struck_due_rows}
-use Rattle.due_model.proofs.Cases.{struck_names_due, struck_names_due_rows, tag_aborted_due, tag_aborted_due_rows}
-use Rattle.due_model.proofs.Cases.{tagged_opening_struck_due, tagged_opening_struck_due_rows, text_two_due}
-use Rattle.due_model.proofs.Cases.{text_two_due_rows, three_contenders_due, three_contenders_due_rows}
-use Rattle.due_model.proofs.Cases.{two_acks_in_one_latency_due, two_acks_in_one_latency_due_rows, unanswered_due}
-use Rattle.due_model.proofs.Cases.{unanswered_due_rows, wide_offset_with_lag_due, wide_offset_with_lag_due_rows}
-use Rattle.due_model.proofs.Cases.{called_again_for_sense_due, called_again_for_sense_due_rows, failures_due}
-use Rattle.due_model.proofs.Cases.{failures_due_rows, negotiation_due, negotiation_due_rows}
-use Rattle.due_model.proofs.Cases.{read_whole_after_a_part_due, read_whole_after_a_part_due_rows, two_aborts_due}
-use Rattle.due_model.proofs.Cases.{two_aborts_due_rows}
+use Rattle.due_model.proofs.Cases.{absent_unit_due, absent_unit_due_rows, burst_without_tags_due, burst_without_tags_due_rows, command_given_up_due, command_given_up_due_rows, command_struck_twice_due, command_struck_twice_due_rows, complete_struck_due, complete_struck_due_rows, counted_due, counted_due_rows, data_in_given_up_due, data_in_given_up_due_rows, data_out_given_up_due, data_out_given_up_due_rows, delayed_ack_due, delayed_ack_due_rows, device_reset_by_message_due, device_reset_by_message_due_rows, equal_bytes_due, equal_bytes_due_rows, fast_pulses_out_due, fast_pulses_out_due_rows, field_in_a_command_due, field_in_a_command_due_rows, full_queue_due, full_queue_due_rows, given_up_due, given_up_due_rows, held_reselection_due, held_reselection_due_rows, hold_of_a_unit_due, hold_of_a_unit_due_rows, late_entry_due, late_entry_due_rows, lost_due, lost_due_rows, many_pulses_due, many_pulses_due_rows, offset_255_due, offset_255_due_rows, one_pulse_at_a_time_due, one_pulse_at_a_time_due_rows, one_read_due, one_read_due_rows, opening_given_up_due, opening_given_up_due_rows, ordered_process_due, ordered_process_due_rows, overlapping_resets_due, overlapping_resets_due_rows, own_processes_aborted_due, own_processes_aborted_due_rows, pulsed_read_struck_due, pulsed_read_struck_due_rows, pulsed_write_struck_due, pulsed_write_struck_due_rows, pulses_out_due, pulses_out_due_rows, queue_cleared_due, queue_cleared_due_rows, queue_orders_due, queue_orders_due_rows, ready_units_due, ready_units_due_rows, request_of_a_target_struck_due, request_of_a_target_struck_due_rows, requests_of_a_target_due, requests_of_a_target_due_rows, reselected_id_struck_due, reselected_id_struck_due_rows, reset_in_a_data_phase_due, reset_in_a_data_phase_due_rows, reset_in_a_reselection_due, reset_in_a_reselection_due_rows, reset_in_a_selection_due, reset_in_a_selection_due_rows, resets_dropped_due, resets_dropped_due_rows, selected_id_struck_due, selected_id_struck_due_rows, status_given_up_due, status_given_up_due_rows, status_struck_due, status_struck_due_rows, struck_names_due, struck_names_due_rows, tag_aborted_due, tag_aborted_due_rows, tagged_opening_struck_due, tagged_opening_struck_due_rows, text_two_due, text_two_due_rows, three_contenders_due, three_contenders_due_rows, two_acks_in_one_latency_due, two_acks_in_one_latency_due_rows, unanswered_due, unanswered_due_rows, wide_offset_with_lag_due, wide_offset_with_lag_due_rows, called_again_for_sense_due, called_again_for_sense_due_rows, failures_due, failures_due_rows, negotiation_due, negotiation_due_rows, read_whole_after_a_part_due, read_whole_after_a_part_due_rows, two_aborts_due, two_aborts_due_rows}
 
 absent_unit_due_attended : attended absent_unit_due (onto absent_unit_due_rows []) ≡ true
 unfolding need_of sent_of ones union_below line_of form_out form_in
@@ -83,8 +46,7 @@ delayed_ack_due_attended : attended delayed_ack_due (onto delayed_ack_due_rows [
 unfolding need_of sent_of ones union_below line_of form_out form_in
 delayed_ack_due_attended = all_attended delayed_ack_due delayed_ack_due_rows refl
 
-device_reset_by_message_due_attended : attended device_reset_by_message_due (onto device_reset_by_message_due_rows [])
-    ≡ true
+device_reset_by_message_due_attended : attended device_reset_by_message_due (onto device_reset_by_message_due_rows []) ≡ true
 unfolding need_of sent_of ones union_below line_of form_out form_in
 device_reset_by_message_due_attended = all_attended device_reset_by_message_due device_reset_by_message_due_rows refl
 
@@ -180,11 +142,9 @@ ready_units_due_attended : attended ready_units_due (onto ready_units_due_rows [
 unfolding need_of sent_of ones union_below line_of form_out form_in
 ready_units_due_attended = all_attended ready_units_due ready_units_due_rows refl
 
-request_of_a_target_struck_due_attended :
-    attended request_of_a_target_struck_due (onto request_of_a_target_struck_due_rows []) ≡ true
+request_of_a_target_struck_due_attended : attended request_of_a_target_struck_due (onto request_of_a_target_struck_due_rows []) ≡ true
 unfolding need_of sent_of ones union_below line_of form_out form_in
-request_of_a_target_struck_due_attended =
-    all_attended request_of_a_target_struck_due request_of_a_target_struck_due_rows refl
+request_of_a_target_struck_due_attended = all_attended request_of_a_target_struck_due request_of_a_target_struck_due_rows refl
 
 requests_of_a_target_due_attended : attended requests_of_a_target_due (onto requests_of_a_target_due_rows []) ≡ true
 unfolding need_of sent_of ones union_below line_of form_out form_in
@@ -198,8 +158,7 @@ reset_in_a_data_phase_due_attended : attended reset_in_a_data_phase_due (onto re
 unfolding need_of sent_of ones union_below line_of form_out form_in
 reset_in_a_data_phase_due_attended = all_attended reset_in_a_data_phase_due reset_in_a_data_phase_due_rows refl
 
-reset_in_a_reselection_due_attended : attended reset_in_a_reselection_due (onto reset_in_a_reselection_due_rows [])
-    ≡ true
+reset_in_a_reselection_due_attended : attended reset_in_a_reselection_due (onto reset_in_a_reselection_due_rows []) ≡ true
 unfolding need_of sent_of ones union_below line_of form_out form_in
 reset_in_a_reselection_due_attended = all_attended reset_in_a_reselection_due reset_in_a_reselection_due_rows refl
 
@@ -243,8 +202,7 @@ three_contenders_due_attended : attended three_contenders_due (onto three_conten
 unfolding need_of sent_of ones union_below line_of form_out form_in
 three_contenders_due_attended = all_attended three_contenders_due three_contenders_due_rows refl
 
-two_acks_in_one_latency_due_attended : attended two_acks_in_one_latency_due (onto two_acks_in_one_latency_due_rows [])
-    ≡ true
+two_acks_in_one_latency_due_attended : attended two_acks_in_one_latency_due (onto two_acks_in_one_latency_due_rows []) ≡ true
 unfolding need_of sent_of ones union_below line_of form_out form_in
 two_acks_in_one_latency_due_attended = all_attended two_acks_in_one_latency_due two_acks_in_one_latency_due_rows refl
 
@@ -256,8 +214,7 @@ wide_offset_with_lag_due_attended : attended wide_offset_with_lag_due (onto wide
 unfolding need_of sent_of ones union_below line_of form_out form_in
 wide_offset_with_lag_due_attended = all_attended wide_offset_with_lag_due wide_offset_with_lag_due_rows refl
 
-called_again_for_sense_due_attended : attended called_again_for_sense_due (onto called_again_for_sense_due_rows [])
-    ≡ true
+called_again_for_sense_due_attended : attended called_again_for_sense_due (onto called_again_for_sense_due_rows []) ≡ true
 unfolding need_of sent_of ones union_below line_of form_out form_in
 called_again_for_sense_due_attended = all_attended called_again_for_sense_due called_again_for_sense_due_rows refl
 
@@ -269,8 +226,7 @@ negotiation_due_attended : attended negotiation_due (onto negotiation_due_rows [
 unfolding need_of sent_of ones union_below line_of form_out form_in
 negotiation_due_attended = all_attended negotiation_due negotiation_due_rows refl
 
-read_whole_after_a_part_due_attended : attended read_whole_after_a_part_due (onto read_whole_after_a_part_due_rows [])
-    ≡ true
+read_whole_after_a_part_due_attended : attended read_whole_after_a_part_due (onto read_whole_after_a_part_due_rows []) ≡ true
 unfolding need_of sent_of ones union_below line_of form_out form_in
 read_whole_after_a_part_due_attended = all_attended read_whole_after_a_part_due read_whole_after_a_part_due_rows refl
 
