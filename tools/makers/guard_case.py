@@ -22,7 +22,7 @@ DRIVES = due_case.DEFINITIONS[: due_case.DEFINITIONS.index("-- What a report sho
 
 def main():
     lines = (due_case.HEAD + array_case.HEAD).splitlines()
-    others = (run_lemmas.SHARED + "\n" + shown_case.USES).splitlines() + ["use Rattle.due_model.proofs.Cases.{Shows, shows}"]
+    others = (run_lemmas.SHARED + "\n" + shown_case.USES).splitlines() + ["use Rattle.due_model.proofs.Cases.{Shows, shown}"]
     # The run itself and its history are named by what shows them.
     uses = [line for line in lines if line.startswith("use ") and not line.endswith("Run.{Run, history_of}")]
     rest = [line for line in lines if not line.startswith(("use ", "-- "))]

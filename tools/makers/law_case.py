@@ -41,8 +41,8 @@ record Shows : Type 0 where
   verdict : Verdict
   soundly : Bool
 
-abbrev shows : ScenarioValue → ℕ → Shows
-shows s fuel = record { rows = (run_by_due s fuel).rows; verdict = judged (run_by_due s fuel).rows; soundly = sound s (run_by_due s fuel).rows }
+abbrev shown : ScenarioValue → ℕ → Shows
+shown s fuel = record { rows = (run_by_due s fuel).rows; verdict = judged (run_by_due s fuel).rows; soundly = sound s (run_by_due s fuel).rows }
 """
 
 
@@ -55,7 +55,7 @@ def main():
         out = scn[: -len("scn")] + "out"
         array_case.print_scenario(name, scn)
         array_case.print_rows(name, out)
-        print("%s_shows : shows %s %d ≡ record { rows = reverse %s_rows; verdict = Lawful; soundly = true }" % (name, name, len(array_case.rows(out)) + 1, name))
+        print("%s_shows : shown %s %d ≡ record { rows = reverse %s_rows; verdict = Lawful; soundly = true }" % (name, name, len(array_case.rows(out)) + 1, name))
         print("%s\n%s_shows = refl\n" % (UNFOLDING, name))
 
 

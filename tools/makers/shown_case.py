@@ -20,7 +20,7 @@ use Rattle.due_model.specs.Run.{run_from, run_by_due}"""
 def print_lemma(name, scn):
     """That the run of this scenario, which is so long, shows what its report does."""
     fuel = len(array_case.rows(scn[: -len("scn")] + "out")) + 1
-    print("%s_run : shows (run_by_due %s %d) ≡ %s_shown" % (name, name, fuel, name))
+    print("%s_run : shown (run_by_due %s %d) ≡ %s_shown" % (name, name, fuel, name))
     print("%s least run_from\n%s_run = refl" % (run_lemmas.UNFOLDING, name))
 
 
@@ -30,7 +30,7 @@ def main():
     print("use Rattle.std.proofs.Common.{◌≡◌, refl}")
     print(run_lemmas.SHARED)
     print(USES)
-    print("use Rattle.due_model.proofs.Cases.{shows, %s}" % ", ".join("%s, %s_shown" % (name, name) for name in names))
+    print("use Rattle.due_model.proofs.Cases.{shown, %s}" % ", ".join("%s, %s_shown" % (name, name) for name in names))
     for name, scn in zip(names, sys.argv[1:]):
         print()
         print_lemma(name, scn)

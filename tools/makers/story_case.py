@@ -42,8 +42,8 @@ record Shows : Type 0 where
   ends : List (Option Outcome)
   carried : Bool
 
-abbrev shows : ScenarioValue → Story → List Event → Shows
-shows s b told = record { history = b.history; ends = outcomes s b; carried = all_carried s b told }
+abbrev shown : ScenarioValue → Story → List Event → Shows
+shown s b told = record { history = b.history; ends = outcomes s b; carried = all_carried s b told }
 """
 
 
@@ -73,7 +73,7 @@ def main():
         array_case.print_events(name, parts)
         wanted = items("Some (%s)" % outcome(w) for w in parts["replies"])
         rows = "(story %s (reverse %s_rows)) (reverse %s_events)" % (name, name, name)
-        print("%s_told : shows %s %s ≡ record { history = reverse %s_events; ends = %s; carried = true }" % (name, name, rows, name, wanted))
+        print("%s_told : shown %s %s ≡ record { history = reverse %s_events; ends = %s; carried = true }" % (name, name, rows, name, wanted))
         print("%s\n%s_told = refl\n" % (UNFOLDING, name))
         if s["faults"]:
             print("%s_struck : expected_strikes %s (reverse %s_rows) ≡ row_strikes %s_rows" % (name, name, name, name))

@@ -368,23 +368,26 @@ fills_of_one_target = refl
 
 -- ---- which may run, and which is chosen (6.6.17, 7.8.2)
 
-abbrev waits : ℕ → Class → ℕ → ℕ → Bool → Entry
-waits from class first count writes =
+abbrev waiting_entry : ℕ → Class → ℕ → ℕ → Bool → Entry
+waiting_entry from class first count writes =
     record { id = command 1; from = from; tag = Some 1; class = class; first = first; count = count; writes = writes }
 
 abbrev plain : Class → Entry
-plain class = waits 7 class 0 0 false
+plain class = waiting_entry 7 class 0 0 false
 
 two_reads_of_one_block :
-    chosen_place picks.Last (waits 7 classes.Simple 0 1 false ∷ waits 7 classes.Simple 0 1 false ∷ []) ≡ Some 1
+    chosen_place picks.Last (waiting_entry 7 classes.Simple 0 1 false ∷ waiting_entry 7 classes.Simple 0 1 false ∷ [])
+    ≡ Some 1
 two_reads_of_one_block = refl
 
 no_blocks_before_a_write :
-    chosen_place picks.Last (waits 7 classes.Simple 1 0 true ∷ waits 7 classes.Simple 0 4 false ∷ []) ≡ Some 1
+    chosen_place picks.Last (waiting_entry 7 classes.Simple 1 0 true ∷ waiting_entry 7 classes.Simple 0 4 false ∷ [])
+    ≡ Some 1
 no_blocks_before_a_write = refl
 
 no_blocks_after_a_write :
-    chosen_place picks.Last (waits 7 classes.Simple 0 4 true ∷ waits 7 classes.Simple 1 0 false ∷ []) ≡ Some 1
+    chosen_place picks.Last (waiting_entry 7 classes.Simple 0 4 true ∷ waiting_entry 7 classes.Simple 1 0 false ∷ [])
+    ≡ Some 1
 no_blocks_after_a_write = refl
 
 first_before_an_ordered : may_run (plain classes.Simple ∷ plain classes.Ordered ∷ plain classes.Simple ∷ []) 0 ≡ true
@@ -411,10 +414,12 @@ earlier_head_of_queue = refl
 last_head_of_queue : may_run (plain classes.Simple ∷ plain classes.Head ∷ plain classes.Head ∷ []) 2 ≡ true
 last_head_of_queue = refl
 
-held_back_by_its_initiator : may_run (waits 7 classes.Simple 0 1 true ∷ waits 7 classes.Simple 0 1 false ∷ []) 1 ≡ false
+held_back_by_its_initiator :
+    may_run (waiting_entry 7 classes.Simple 0 1 true ∷ waiting_entry 7 classes.Simple 0 1 false ∷ []) 1 ≡ false
 held_back_by_its_initiator = refl
 
-not_held_back_by_another : may_run (waits 7 classes.Simple 0 1 true ∷ waits 6 classes.Simple 0 1 false ∷ []) 1 ≡ true
+not_held_back_by_another :
+    may_run (waiting_entry 7 classes.Simple 0 1 true ∷ waiting_entry 6 classes.Simple 0 1 false ∷ []) 1 ≡ true
 not_held_back_by_another = refl
 
 no_number_and_one : same_number None (Some 1) ≡ false

@@ -107,8 +107,8 @@ abbrev this : ProcId
 this = record { command = 4; sense = false }
 
 -- It serves no process, so STATUS has no reply to begin.
-abbrev serves_none : Serving
-serves_none = record {
+abbrev serving_none : Serving
+serving_none = record {
   def = None;
   plan = record no_plan { next = nexts.Status };
   task = None;
@@ -116,7 +116,7 @@ serves_none = record {
   arrival = arrivals.Queued;
 }
 
-status_of_no_process : leaving_events serves_none link true true false phases.MessageIn (Some this) ≡ []
+status_of_no_process : leaving_events serving_none link true true false phases.MessageIn (Some this) ≡ []
 status_of_no_process = refl
 
 nothing_is_shown : is_empty [] ≡ true
@@ -260,18 +260,18 @@ phase_begins = refl
 abbrev agreed : ℕ → ℕ → Agreement
 agreed i t = pair 50 8
 
-abbrev agrees : ℕ → Agreement
-agrees lines_after =
+abbrev agreement_at : ℕ → Agreement
+agreement_at lines_after =
     agreed_after (effect (Some link) (Some link) 0x01200 lines_after None) (nothing_spoken (pair 25 4)) agreed 7 3
 
-agreed_before_its_end : agrees 0x01200 ≡ pair 50 8
+agreed_before_its_end : agreement_at 0x01200 ≡ pair 50 8
 agreed_before_its_end = refl
 
-agreed_at_its_end : agrees 0x00000 ≡ pair 25 4
+agreed_at_its_end : agreement_at 0x00000 ≡ pair 25 4
 agreed_at_its_end = refl
 
 -- RST ends all agreements.
-agreed_in_a_reset : agrees 0x20000 ≡ pair 0 0
+agreed_in_a_reset : agreement_at 0x20000 ≡ pair 0 0
 agreed_in_a_reset = refl
 
 -- ---- the initiator answers no REQ before the target has begun a phase

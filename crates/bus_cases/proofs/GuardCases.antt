@@ -26,7 +26,7 @@ use Rattle.due_model.specs.bus_trace.specs.View.{union_below}
 use Rattle.due_model.specs.msg_grammar.specs.Messages.{form_out, form_in}
 use Rattle.due_model.specs.Next.{least}
 use Rattle.due_model.specs.Run.{run_from, run_by_due}
-use Rattle.due_model.proofs.Cases.{Shows, shows}
+use Rattle.due_model.proofs.Cases.{Shows, shown}
 
 abbrev drive : ℕ → ℕ → ℕ → Row
 drive time dev lines = record { time = time; dev = dev; kind = Drives (set_of lines) }
@@ -64,7 +64,7 @@ abort_leaves_the_offer_guard_events = events.Aborted 7 0 0 aborts.All ∷ events
 abbrev pub abort_leaves_the_offer_guard_shown : Shows
 abort_leaves_the_offer_guard_shown = record { rows = reverse abort_leaves_the_offer_guard_rows; history = reverse abort_leaves_the_offer_guard_events; ended = true }
 
-abort_leaves_the_offer_guard_run : shows (run_by_due abort_leaves_the_offer_guard 187) ≡ abort_leaves_the_offer_guard_shown
+abort_leaves_the_offer_guard_run : shown (run_by_due abort_leaves_the_offer_guard 187) ≡ abort_leaves_the_offer_guard_shown
 unfolding need_of sent_of ones union_below line_of form_out form_in least run_from
 abort_leaves_the_offer_guard_run = refl
 
@@ -92,7 +92,7 @@ agreement_of_another_reset_guard_events = events.Accept (command 1) ∷ events.R
 abbrev pub agreement_of_another_reset_guard_shown : Shows
 agreement_of_another_reset_guard_shown = record { rows = reverse agreement_of_another_reset_guard_rows; history = reverse agreement_of_another_reset_guard_events; ended = true }
 
-agreement_of_another_reset_guard_run : shows (run_by_due agreement_of_another_reset_guard 315) ≡ agreement_of_another_reset_guard_shown
+agreement_of_another_reset_guard_run : shown (run_by_due agreement_of_another_reset_guard 315) ≡ agreement_of_another_reset_guard_shown
 unfolding need_of sent_of ones union_below line_of form_out form_in least run_from
 agreement_of_another_reset_guard_run = refl
 
@@ -120,7 +120,7 @@ agreements_of_two_initiators_guard_events = events.Accept (command 1) ∷ events
 abbrev pub agreements_of_two_initiators_guard_shown : Shows
 agreements_of_two_initiators_guard_shown = record { rows = reverse agreements_of_two_initiators_guard_rows; history = reverse agreements_of_two_initiators_guard_events; ended = true }
 
-agreements_of_two_initiators_guard_run : shows (run_by_due agreements_of_two_initiators_guard 471) ≡ agreements_of_two_initiators_guard_shown
+agreements_of_two_initiators_guard_run : shown (run_by_due agreements_of_two_initiators_guard 471) ≡ agreements_of_two_initiators_guard_shown
 unfolding need_of sent_of ones union_below line_of form_out form_in least run_from
 agreements_of_two_initiators_guard_run = refl
 
@@ -148,7 +148,7 @@ all_leaves_other_senses_guard_events = events.Accept (command 1) ∷ events.Run 
 abbrev pub all_leaves_other_senses_guard_shown : Shows
 all_leaves_other_senses_guard_shown = record { rows = reverse all_leaves_other_senses_guard_rows; history = reverse all_leaves_other_senses_guard_events; ended = true }
 
-all_leaves_other_senses_guard_run : shows (run_by_due all_leaves_other_senses_guard 391) ≡ all_leaves_other_senses_guard_shown
+all_leaves_other_senses_guard_run : shown (run_by_due all_leaves_other_senses_guard 391) ≡ all_leaves_other_senses_guard_shown
 unfolding need_of sent_of ones union_below line_of form_out form_in least run_from
 all_leaves_other_senses_guard_run = refl
 
@@ -176,7 +176,7 @@ all_of_one_initiator_at_one_unit_guard_events = events.Accept (command 1) ∷ ev
 abbrev pub all_of_one_initiator_at_one_unit_guard_shown : Shows
 all_of_one_initiator_at_one_unit_guard_shown = record { rows = reverse all_of_one_initiator_at_one_unit_guard_rows; history = reverse all_of_one_initiator_at_one_unit_guard_events; ended = true }
 
-all_of_one_initiator_at_one_unit_guard_run : shows (run_by_due all_of_one_initiator_at_one_unit_guard 265) ≡ all_of_one_initiator_at_one_unit_guard_shown
+all_of_one_initiator_at_one_unit_guard_run : shown (run_by_due all_of_one_initiator_at_one_unit_guard 265) ≡ all_of_one_initiator_at_one_unit_guard_shown
 unfolding need_of sent_of ones union_below line_of form_out form_in least run_from
 all_of_one_initiator_at_one_unit_guard_run = refl
 
@@ -204,7 +204,7 @@ calling_in_vain_leaves_the_offer_guard_events = events.Accept (command 1) ∷ ev
 abbrev pub calling_in_vain_leaves_the_offer_guard_shown : Shows
 calling_in_vain_leaves_the_offer_guard_shown = record { rows = reverse calling_in_vain_leaves_the_offer_guard_rows; history = reverse calling_in_vain_leaves_the_offer_guard_events; ended = true }
 
-calling_in_vain_leaves_the_offer_guard_run : shows (run_by_due calling_in_vain_leaves_the_offer_guard 176) ≡ calling_in_vain_leaves_the_offer_guard_shown
+calling_in_vain_leaves_the_offer_guard_run : shown (run_by_due calling_in_vain_leaves_the_offer_guard 176) ≡ calling_in_vain_leaves_the_offer_guard_shown
 unfolding need_of sent_of ones union_below line_of form_out form_in least run_from
 calling_in_vain_leaves_the_offer_guard_run = refl
 
@@ -232,7 +232,7 @@ device_concerns_each_unit_guard_events = events.Accept (command 1) ∷ events.Ru
 abbrev pub device_concerns_each_unit_guard_shown : Shows
 device_concerns_each_unit_guard_shown = record { rows = reverse device_concerns_each_unit_guard_rows; history = reverse device_concerns_each_unit_guard_events; ended = true }
 
-device_concerns_each_unit_guard_run : shows (run_by_due device_concerns_each_unit_guard 439) ≡ device_concerns_each_unit_guard_shown
+device_concerns_each_unit_guard_run : shown (run_by_due device_concerns_each_unit_guard 439) ≡ device_concerns_each_unit_guard_shown
 unfolding need_of sent_of ones union_below line_of form_out form_in least run_from
 device_concerns_each_unit_guard_run = refl
 
@@ -260,7 +260,7 @@ device_ends_the_hold_of_another_guard_events = events.Accept (command 1) ∷ eve
 abbrev pub device_ends_the_hold_of_another_guard_shown : Shows
 device_ends_the_hold_of_another_guard_shown = record { rows = reverse device_ends_the_hold_of_another_guard_rows; history = reverse device_ends_the_hold_of_another_guard_events; ended = true }
 
-device_ends_the_hold_of_another_guard_run : shows (run_by_due device_ends_the_hold_of_another_guard 387) ≡ device_ends_the_hold_of_another_guard_shown
+device_ends_the_hold_of_another_guard_run : shown (run_by_due device_ends_the_hold_of_another_guard 387) ≡ device_ends_the_hold_of_another_guard_shown
 unfolding need_of sent_of ones union_below line_of form_out form_in least run_from
 device_ends_the_hold_of_another_guard_run = refl
 
@@ -288,7 +288,7 @@ device_leaves_another_target_guard_events = events.Accept (command 1) ∷ events
 abbrev pub device_leaves_another_target_guard_shown : Shows
 device_leaves_another_target_guard_shown = record { rows = reverse device_leaves_another_target_guard_rows; history = reverse device_leaves_another_target_guard_events; ended = true }
 
-device_leaves_another_target_guard_run : shows (run_by_due device_leaves_another_target_guard 279) ≡ device_leaves_another_target_guard_shown
+device_leaves_another_target_guard_run : shown (run_by_due device_leaves_another_target_guard 279) ≡ device_leaves_another_target_guard_shown
 unfolding need_of sent_of ones union_below line_of form_out form_in least run_from
 device_leaves_another_target_guard_run = refl
 
@@ -316,7 +316,7 @@ device_of_one_target_guard_events = events.Accept (command 1) ∷ events.Accept 
 abbrev pub device_of_one_target_guard_shown : Shows
 device_of_one_target_guard_shown = record { rows = reverse device_of_one_target_guard_rows; history = reverse device_of_one_target_guard_events; ended = true }
 
-device_of_one_target_guard_run : shows (run_by_due device_of_one_target_guard 170) ≡ device_of_one_target_guard_shown
+device_of_one_target_guard_run : shown (run_by_due device_of_one_target_guard 170) ≡ device_of_one_target_guard_shown
 unfolding need_of sent_of ones union_below line_of form_out form_in least run_from
 device_of_one_target_guard_run = refl
 
@@ -344,7 +344,7 @@ device_reset_in_text_one_guard_events = events.Aborted 6 0 0 aborts.Device ∷ e
 abbrev pub device_reset_in_text_one_guard_shown : Shows
 device_reset_in_text_one_guard_shown = record { rows = reverse device_reset_in_text_one_guard_rows; history = reverse device_reset_in_text_one_guard_events; ended = true }
 
-device_reset_in_text_one_guard_run : shows (run_by_due device_reset_in_text_one_guard 212) ≡ device_reset_in_text_one_guard_shown
+device_reset_in_text_one_guard_run : shown (run_by_due device_reset_in_text_one_guard 212) ≡ device_reset_in_text_one_guard_shown
 unfolding need_of sent_of ones union_below line_of form_out form_in least run_from
 device_reset_in_text_one_guard_run = refl
 
@@ -372,7 +372,7 @@ device_reset_of_one_target_guard_events = events.Accept (command 1) ∷ events.R
 abbrev pub device_reset_of_one_target_guard_shown : Shows
 device_reset_of_one_target_guard_shown = record { rows = reverse device_reset_of_one_target_guard_rows; history = reverse device_reset_of_one_target_guard_events; ended = true }
 
-device_reset_of_one_target_guard_run : shows (run_by_due device_reset_of_one_target_guard 176) ≡ device_reset_of_one_target_guard_shown
+device_reset_of_one_target_guard_run : shown (run_by_due device_reset_of_one_target_guard 176) ≡ device_reset_of_one_target_guard_shown
 unfolding need_of sent_of ones union_below line_of form_out form_in least run_from
 device_reset_of_one_target_guard_run = refl
 
@@ -400,7 +400,7 @@ disconnect_struck_is_counted_guard_events = events.Accept (command 1) ∷ events
 abbrev pub disconnect_struck_is_counted_guard_shown : Shows
 disconnect_struck_is_counted_guard_shown = record { rows = reverse disconnect_struck_is_counted_guard_rows; history = reverse disconnect_struck_is_counted_guard_events; ended = true }
 
-disconnect_struck_is_counted_guard_run : shows (run_by_due disconnect_struck_is_counted_guard 306) ≡ disconnect_struck_is_counted_guard_shown
+disconnect_struck_is_counted_guard_run : shown (run_by_due disconnect_struck_is_counted_guard 306) ≡ disconnect_struck_is_counted_guard_shown
 unfolding need_of sent_of ones union_below line_of form_out form_in least run_from
 disconnect_struck_is_counted_guard_run = refl
 
@@ -428,7 +428,7 @@ faulty_inquiry_of_no_unit_guard_events = events.Accept (command 1) ∷ events.Ru
 abbrev pub faulty_inquiry_of_no_unit_guard_shown : Shows
 faulty_inquiry_of_no_unit_guard_shown = record { rows = reverse faulty_inquiry_of_no_unit_guard_rows; history = reverse faulty_inquiry_of_no_unit_guard_events; ended = true }
 
-faulty_inquiry_of_no_unit_guard_run : shows (run_by_due faulty_inquiry_of_no_unit_guard 570) ≡ faulty_inquiry_of_no_unit_guard_shown
+faulty_inquiry_of_no_unit_guard_run : shown (run_by_due faulty_inquiry_of_no_unit_guard 570) ≡ faulty_inquiry_of_no_unit_guard_shown
 unfolding need_of sent_of ones union_below line_of form_out form_in least run_from
 faulty_inquiry_of_no_unit_guard_run = refl
 
@@ -456,7 +456,7 @@ faulty_inquiry_with_attention_guard_events = events.Reset 7 ∷ events.Accept (c
 abbrev pub faulty_inquiry_with_attention_guard_shown : Shows
 faulty_inquiry_with_attention_guard_shown = record { rows = reverse faulty_inquiry_with_attention_guard_rows; history = reverse faulty_inquiry_with_attention_guard_events; ended = true }
 
-faulty_inquiry_with_attention_guard_run : shows (run_by_due faulty_inquiry_with_attention_guard 369) ≡ faulty_inquiry_with_attention_guard_shown
+faulty_inquiry_with_attention_guard_run : shown (run_by_due faulty_inquiry_with_attention_guard 369) ≡ faulty_inquiry_with_attention_guard_shown
 unfolding need_of sent_of ones union_below line_of form_out form_in least run_from
 faulty_inquiry_with_attention_guard_run = refl
 
@@ -484,7 +484,7 @@ faulty_sense_with_attention_guard_events = events.Reset 7 ∷ events.Accept (com
 abbrev pub faulty_sense_with_attention_guard_shown : Shows
 faulty_sense_with_attention_guard_shown = record { rows = reverse faulty_sense_with_attention_guard_rows; history = reverse faulty_sense_with_attention_guard_events; ended = true }
 
-faulty_sense_with_attention_guard_run : shows (run_by_due faulty_sense_with_attention_guard 369) ≡ faulty_sense_with_attention_guard_shown
+faulty_sense_with_attention_guard_run : shown (run_by_due faulty_sense_with_attention_guard 369) ≡ faulty_sense_with_attention_guard_shown
 unfolding need_of sent_of ones union_below line_of form_out form_in least run_from
 faulty_sense_with_attention_guard_run = refl
 
@@ -512,7 +512,7 @@ never_behind_a_current_process_guard_events = events.Accept (command 1) ∷ even
 abbrev pub never_behind_a_current_process_guard_shown : Shows
 never_behind_a_current_process_guard_shown = record { rows = reverse never_behind_a_current_process_guard_rows; history = reverse never_behind_a_current_process_guard_events; ended = true }
 
-never_behind_a_current_process_guard_run : shows (run_by_due never_behind_a_current_process_guard 332) ≡ never_behind_a_current_process_guard_shown
+never_behind_a_current_process_guard_run : shown (run_by_due never_behind_a_current_process_guard 332) ≡ never_behind_a_current_process_guard_shown
 unfolding need_of sent_of ones union_below line_of form_out form_in least run_from
 never_behind_a_current_process_guard_run = refl
 
@@ -540,7 +540,7 @@ own_sense_and_device_guard_events = events.Accept (command 1) ∷ events.Run (co
 abbrev pub own_sense_and_device_guard_shown : Shows
 own_sense_and_device_guard_shown = record { rows = reverse own_sense_and_device_guard_rows; history = reverse own_sense_and_device_guard_events; ended = true }
 
-own_sense_and_device_guard_run : shows (run_by_due own_sense_and_device_guard 74) ≡ own_sense_and_device_guard_shown
+own_sense_and_device_guard_run : shown (run_by_due own_sense_and_device_guard 74) ≡ own_sense_and_device_guard_shown
 unfolding need_of sent_of ones union_below line_of form_out form_in least run_from
 own_sense_and_device_guard_run = refl
 
@@ -568,7 +568,7 @@ own_sense_and_queue_guard_events = events.Accept (command 1) ∷ events.Run (com
 abbrev pub own_sense_and_queue_guard_shown : Shows
 own_sense_and_queue_guard_shown = record { rows = reverse own_sense_and_queue_guard_rows; history = reverse own_sense_and_queue_guard_events; ended = true }
 
-own_sense_and_queue_guard_run : shows (run_by_due own_sense_and_queue_guard 202) ≡ own_sense_and_queue_guard_shown
+own_sense_and_queue_guard_run : shown (run_by_due own_sense_and_queue_guard 202) ≡ own_sense_and_queue_guard_shown
 unfolding need_of sent_of ones union_below line_of form_out form_in least run_from
 own_sense_and_queue_guard_run = refl
 
@@ -596,7 +596,7 @@ own_sense_and_tag_guard_events = events.Accept (command 1) ∷ events.Run (comma
 abbrev pub own_sense_and_tag_guard_shown : Shows
 own_sense_and_tag_guard_shown = record { rows = reverse own_sense_and_tag_guard_rows; history = reverse own_sense_and_tag_guard_events; ended = true }
 
-own_sense_and_tag_guard_run : shows (run_by_due own_sense_and_tag_guard 212) ≡ own_sense_and_tag_guard_shown
+own_sense_and_tag_guard_run : shown (run_by_due own_sense_and_tag_guard 212) ≡ own_sense_and_tag_guard_shown
 unfolding need_of sent_of ones union_below line_of form_out form_in least run_from
 own_sense_and_tag_guard_run = refl
 
@@ -624,7 +624,7 @@ pick_of_each_target_guard_events = events.Accept (command 1) ∷ events.Accept (
 abbrev pub pick_of_each_target_guard_shown : Shows
 pick_of_each_target_guard_shown = record { rows = reverse pick_of_each_target_guard_rows; history = reverse pick_of_each_target_guard_events; ended = true }
 
-pick_of_each_target_guard_run : shows (run_by_due pick_of_each_target_guard 274) ≡ pick_of_each_target_guard_shown
+pick_of_each_target_guard_run : shown (run_by_due pick_of_each_target_guard 274) ≡ pick_of_each_target_guard_shown
 unfolding need_of sent_of ones union_below line_of form_out form_in least run_from
 pick_of_each_target_guard_run = refl
 
@@ -652,7 +652,7 @@ queue_of_another_keeps_the_agreement_guard_events = events.Accept (command 1) �
 abbrev pub queue_of_another_keeps_the_agreement_guard_shown : Shows
 queue_of_another_keeps_the_agreement_guard_shown = record { rows = reverse queue_of_another_keeps_the_agreement_guard_rows; history = reverse queue_of_another_keeps_the_agreement_guard_events; ended = true }
 
-queue_of_another_keeps_the_agreement_guard_run : shows (run_by_due queue_of_another_keeps_the_agreement_guard 308) ≡ queue_of_another_keeps_the_agreement_guard_shown
+queue_of_another_keeps_the_agreement_guard_run : shown (run_by_due queue_of_another_keeps_the_agreement_guard 308) ≡ queue_of_another_keeps_the_agreement_guard_shown
 unfolding need_of sent_of ones union_below line_of form_out form_in least run_from
 queue_of_another_keeps_the_agreement_guard_run = refl
 
@@ -680,7 +680,7 @@ ranges_side_by_side_guard_events = events.Accept (command 1) ∷ events.Accept (
 abbrev pub ranges_side_by_side_guard_shown : Shows
 ranges_side_by_side_guard_shown = record { rows = reverse ranges_side_by_side_guard_rows; history = reverse ranges_side_by_side_guard_events; ended = true }
 
-ranges_side_by_side_guard_run : shows (run_by_due ranges_side_by_side_guard 577) ≡ ranges_side_by_side_guard_shown
+ranges_side_by_side_guard_run : shown (run_by_due ranges_side_by_side_guard 577) ≡ ranges_side_by_side_guard_shown
 unfolding need_of sent_of ones union_below line_of form_out form_in least run_from
 ranges_side_by_side_guard_run = refl
 
@@ -708,7 +708,7 @@ read_and_write_conflict_guard_events = events.Accept (command 1) ∷ events.Acce
 abbrev pub read_and_write_conflict_guard_shown : Shows
 read_and_write_conflict_guard_shown = record { rows = reverse read_and_write_conflict_guard_rows; history = reverse read_and_write_conflict_guard_events; ended = true }
 
-read_and_write_conflict_guard_run : shows (run_by_due read_and_write_conflict_guard 641) ≡ read_and_write_conflict_guard_shown
+read_and_write_conflict_guard_run : shown (run_by_due read_and_write_conflict_guard 641) ≡ read_and_write_conflict_guard_shown
 unfolding need_of sent_of ones union_below line_of form_out form_in least run_from
 read_and_write_conflict_guard_run = refl
 
@@ -736,7 +736,7 @@ refused_status_struck_guard_events = events.Accept (command 1) ∷ events.Refuse
 abbrev pub refused_status_struck_guard_shown : Shows
 refused_status_struck_guard_shown = record { rows = reverse refused_status_struck_guard_rows; history = reverse refused_status_struck_guard_events; ended = true }
 
-refused_status_struck_guard_run : shows (run_by_due refused_status_struck_guard 175) ≡ refused_status_struck_guard_shown
+refused_status_struck_guard_run : shown (run_by_due refused_status_struck_guard 175) ≡ refused_status_struck_guard_shown
 unfolding need_of sent_of ones union_below line_of form_out form_in least run_from
 refused_status_struck_guard_run = refl
 
@@ -764,7 +764,7 @@ reset_attention_stays_guard_events = events.Reset 7 ∷ events.Accept (command 1
 abbrev pub reset_attention_stays_guard_shown : Shows
 reset_attention_stays_guard_shown = record { rows = reverse reset_attention_stays_guard_rows; history = reverse reset_attention_stays_guard_events; ended = true }
 
-reset_attention_stays_guard_run : shows (run_by_due reset_attention_stays_guard 300) ≡ reset_attention_stays_guard_shown
+reset_attention_stays_guard_run : shown (run_by_due reset_attention_stays_guard 300) ≡ reset_attention_stays_guard_shown
 unfolding need_of sent_of ones union_below line_of form_out form_in least run_from
 reset_attention_stays_guard_run = refl
 
@@ -792,7 +792,7 @@ reset_in_a_calling_is_no_try_guard_events = events.Reset 0 ∷ events.Accept (co
 abbrev pub reset_in_a_calling_is_no_try_guard_shown : Shows
 reset_in_a_calling_is_no_try_guard_shown = record { rows = reverse reset_in_a_calling_is_no_try_guard_rows; history = reverse reset_in_a_calling_is_no_try_guard_events; ended = true }
 
-reset_in_a_calling_is_no_try_guard_run : shows (run_by_due reset_in_a_calling_is_no_try_guard 191) ≡ reset_in_a_calling_is_no_try_guard_shown
+reset_in_a_calling_is_no_try_guard_run : shown (run_by_due reset_in_a_calling_is_no_try_guard 191) ≡ reset_in_a_calling_is_no_try_guard_shown
 unfolding need_of sent_of ones union_below line_of form_out form_in least run_from
 reset_in_a_calling_is_no_try_guard_run = refl
 
@@ -820,7 +820,7 @@ sense_of_another_and_device_guard_events = events.Accept (command 1) ∷ events.
 abbrev pub sense_of_another_and_device_guard_shown : Shows
 sense_of_another_and_device_guard_shown = record { rows = reverse sense_of_another_and_device_guard_rows; history = reverse sense_of_another_and_device_guard_events; ended = true }
 
-sense_of_another_and_device_guard_run : shows (run_by_due sense_of_another_and_device_guard 76) ≡ sense_of_another_and_device_guard_shown
+sense_of_another_and_device_guard_run : shown (run_by_due sense_of_another_and_device_guard 76) ≡ sense_of_another_and_device_guard_shown
 unfolding need_of sent_of ones union_below line_of form_out form_in least run_from
 sense_of_another_and_device_guard_run = refl
 
@@ -848,6 +848,6 @@ sense_of_another_and_queue_guard_events = events.Accept (command 1) ∷ events.R
 abbrev pub sense_of_another_and_queue_guard_shown : Shows
 sense_of_another_and_queue_guard_shown = record { rows = reverse sense_of_another_and_queue_guard_rows; history = reverse sense_of_another_and_queue_guard_events; ended = true }
 
-sense_of_another_and_queue_guard_run : shows (run_by_due sense_of_another_and_queue_guard 204) ≡ sense_of_another_and_queue_guard_shown
+sense_of_another_and_queue_guard_run : shown (run_by_due sense_of_another_and_queue_guard 204) ≡ sense_of_another_and_queue_guard_shown
 unfolding need_of sent_of ones union_below line_of form_out form_in least run_from
 sense_of_another_and_queue_guard_run = refl

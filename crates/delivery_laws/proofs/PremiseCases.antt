@@ -53,13 +53,13 @@ is_left_so s rows row again = is_leaving rows row
     && is_wrong_phase (is_struck_phase s rows) (run_state s rows).exchange.plan (phase_of (bus rows))
     && left_by s rows row (connection rows) (task_of s (run_state s rows)) again
 
-abbrev lefts : ScenarioValue → List Row → Bool → ℕ
-lefts s [] again = 0
-lefts s (row ∷ rows) again = lefts s rows again + one_if (is_left_so s rows row again)
+abbrev left_count : ScenarioValue → List Row → Bool → ℕ
+left_count s [] again = 0
+left_count s (row ∷ rows) again = left_count s rows again + one_if (is_left_so s rows row again)
 
 -- So many phases were left to try again, and so many to give up.
 abbrev left_told : ScenarioValue → List Row → ℕ → ℕ → Bool
-left_told s rows again given = lefts s rows true == again && lefts s rows false == given
+left_told s rows again given = left_count s rows true == again && left_count s rows false == given
 
 -- COMMAND, twice.
 again_in_command : left_told command_struck_twice_due (onto command_struck_twice_due_rows []) 2 0 ≡ true

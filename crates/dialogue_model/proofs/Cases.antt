@@ -209,8 +209,8 @@ names_an_untagged_one = refl
 
 -- ---- a row, as it tells the two ends: the lines before it and after it
 
-abbrev turns : ℕ → ℕ → Hearing
-turns before after = record {
+abbrev turn : ℕ → ℕ → Hearing
+turn before after = record {
   change = record { before = set_of before; after = set_of after; own = set_of 0x00200; next = set_of 0x00200 };
   crosses = false;
   out = None;
@@ -223,22 +223,22 @@ turns before after = record {
 }
 
 -- A byte crosses in MESSAGE OUT, in MESSAGE IN, and in another phase.
-abbrev says : Bool → Option MsgOut → Hearing
-says is_last m = record (turns 0x16a00 0x1ea00) { crosses = true; out = m; is_last = is_last }
+abbrev word_out : Bool → Option MsgOut → Hearing
+word_out is_last m = record (turn 0x16a00 0x1ea00) { crosses = true; out = m; is_last = is_last }
 
-abbrev tells : Option MsgIn → Hearing
-tells m = record (turns 0x07a00 0x0fa00) { crosses = true; into = m }
+abbrev word_in : Option MsgIn → Hearing
+word_in m = record (turn 0x07a00 0x0fa00) { crosses = true; into = m }
 
-abbrev faults : ℕ → Hearing
-faults lines = record (turns lines lines) { fault = true }
+abbrev fault_on : ℕ → Hearing
+fault_on lines = record (turn lines lines) { fault = true }
 
 -- ---- speech
 
 abbrev speech : ℕ → Speech
 speech place = record { words = 0xc2 ∷ 0x20 ∷ 9 ∷ []; place = place; asked = pair 50 8 }
 
-abbrev hears : Hearing → ℕ → Speech
-hears w place = speech_after (host true 100) w (speech place)
+abbrev speech_hearing : Hearing → ℕ → Speech
+speech_hearing w place = speech_after (host true 100) w (speech place)
 
 second_word : next_word (speech 1) ≡ 0x20
 second_word = refl
@@ -250,45 +250,46 @@ attends_with_all_but_the_last : attends_with (speech 0) ∷ attends_with (speech
     ≡ true ∷ true ∷ false ∷ []
 attends_with_all_but_the_last = refl
 
-speech_goes_on : hears (says false None) 1 ≡ speech 2
+speech_goes_on : speech_hearing (word_out false None) 1 ≡ speech 2
 speech_goes_on = refl
 
-speech_begins_anew : hears (says false None) 2 ≡ speech 0
+speech_begins_anew : speech_hearing (word_out false None) 2 ≡ speech 0
 speech_begins_anew = refl
 
-speech_stays_under_a_fault : hears (faults 0x0ea00) 1 ≡ speech 1
+speech_stays_under_a_fault : speech_hearing (fault_on 0x0ea00) 1 ≡ speech 1
 speech_stays_under_a_fault = refl
 
-speech_hears_a_request : hears (tells (Some (to_initiator.Sdtr (pair 30 4)))) 1
+speech_hears_a_request : speech_hearing (word_in (Some (to_initiator.Sdtr (pair 30 4)))) 1
     ≡ record (speech 1) { asked = pair 30 4 }
 speech_hears_a_request = refl
 
-speech_hears_another : hears (tells (Some to_initiator.Disconnect)) 1 ≡ speech 1
+speech_hears_another : speech_hearing (word_in (Some to_initiator.Disconnect)) 1 ≡ speech 1
 speech_hears_another = refl
 
 -- The opening waits for the first MESSAGE OUT.
-opening_begins : hears (record (turns 0x10200 0x12a00) { begun = false }) 1 ≡ speech 0
+opening_begins : speech_hearing (record (turn 0x10200 0x12a00) { begun = false }) 1 ≡ speech 0
 opening_begins = refl
 
-opening_is_over : hears (turns 0x02a00 0x00a00) 1 ≡ speech 0
+opening_is_over : speech_hearing (turn 0x02a00 0x00a00) 1 ≡ speech 0
 opening_is_over = refl
 
-speaks_of_a_struck_message : hears (record (turns 0x13a00 0x12a00) { struck = true }) 0
+speaks_of_a_struck_message : speech_hearing (record (turn 0x13a00 0x12a00) { struck = true }) 0
     ≡ record (speech 0) { words = 0x09 ∷ [] }
 speaks_of_a_struck_message = refl
 
-speaks_an_answer : hears (turns 0x13a00 0x12a00) 1 ≡ record (speech 0) { words = 0x01 ∷ 0x03 ∷ 0x01 ∷ 100 ∷ 8 ∷ [] }
+speaks_an_answer : speech_hearing (turn 0x13a00 0x12a00) 1
+    ≡ record (speech 0) { words = 0x01 ∷ 0x03 ∷ 0x01 ∷ 100 ∷ 8 ∷ [] }
 speaks_an_answer = refl
 
-speaks_of_struck_data : hears (record (turns 0x11200 0x12a00) { struck = true }) 0
+speaks_of_struck_data : speech_hearing (record (turn 0x11200 0x12a00) { struck = true }) 0
     ≡ record (speech 0) { words = 0x05 ∷ [] }
 speaks_of_struck_data = refl
 
 -- The last byte of the run was well, one before it was not.
-speaks_of_data_struck_before : hears (turns 0x11200 0x12a00) 0 ≡ record (speech 0) { words = 0x05 ∷ [] }
+speaks_of_data_struck_before : speech_hearing (turn 0x11200 0x12a00) 0 ≡ record (speech 0) { words = 0x05 ∷ [] }
 speaks_of_data_struck_before = refl
 
-speaks_of_a_struck_status : hears (record (turns 0x11a00 0x12a00) { struck = true }) 0
+speaks_of_a_struck_status : speech_hearing (record (turn 0x11a00 0x12a00) { struck = true }) 0
     ≡ record (speech 0) { words = 0x05 ∷ [] }
 speaks_of_a_struck_status = refl
 
@@ -311,85 +312,86 @@ leaving to m next = record { to = to; messages = m; next = next; counts = false;
 abbrev free : Leaving
 free = leaving None no_message nexts.FreeBus
 
-abbrev plans : Hearing → Plan → Plan
-plans w p = plan_after w free p
+abbrev plan_hearing : Hearing → Plan → Plan
+plan_hearing w p = plan_after w free p
 
 abbrev tagged : Said
 tagged = record quiet { unit = Some 2; tag = tags.Simple 9 }
 
-hears_identify : plans (says false (Some (to_target.Identify true 2))) silent
+hears_identify : plan_hearing (word_out false (Some (to_target.Identify true 2))) silent
     ≡ plan (record quiet { unit = Some 2 }) no_message nexts.FreeBus
 hears_identify = refl
 
-hears_a_tag :
-    plans (says false (Some (to_target.SimpleTag 9))) (plan (record quiet { unit = Some 2 }) no_message nexts.FreeBus)
+hears_a_tag : plan_hearing (word_out false (Some (to_target.SimpleTag 9)))
+    (plan (record quiet { unit = Some 2 }) no_message nexts.FreeBus)
     ≡ plan tagged no_message nexts.FreeBus
 hears_a_tag = refl
 
-hears_a_head_tag : plans (says false (Some (to_target.HeadTag 9))) silent
+hears_a_head_tag : plan_hearing (word_out false (Some (to_target.HeadTag 9))) silent
     ≡ plan (record quiet { tag = tags.Head 9 }) no_message nexts.FreeBus
 hears_a_head_tag = refl
 
-hears_an_ordered_tag : plans (says false (Some (to_target.OrderedTag 9))) silent
+hears_an_ordered_tag : plan_hearing (word_out false (Some (to_target.OrderedTag 9))) silent
     ≡ plan (record quiet { tag = tags.Ordered 9 }) no_message nexts.FreeBus
 hears_an_ordered_tag = refl
 
-hears_an_offer : plans (says false (Some (to_target.Sdtr (pair 50 8)))) (plan tagged no_message nexts.FreeBus)
+hears_an_offer :
+    plan_hearing (word_out false (Some (to_target.Sdtr (pair 50 8)))) (plan tagged no_message nexts.FreeBus)
     ≡ plan (record tagged { offer = Some (pair 50 8) }) no_message nexts.FreeBus
 hears_an_offer = refl
 
-abbrev hears_abort : MsgOut → Said → Plan
-hears_abort m said = plans (says false (Some m)) (plan said no_message nexts.FreeBus)
+abbrev plan_hearing_abort : MsgOut → Said → Plan
+plan_hearing_abort m said = plan_hearing (word_out false (Some m)) (plan said no_message nexts.FreeBus)
 
-hears_abort_of_all : hears_abort to_target.Abort tagged
+hears_abort_of_all : plan_hearing_abort to_target.Abort tagged
     ≡ plan (record tagged { aborts = Some aborts.All }) no_message nexts.FreeBus
 hears_abort_of_all = refl
 
-hears_abort_of_its_tag : hears_abort to_target.AbortTag tagged
+hears_abort_of_its_tag : plan_hearing_abort to_target.AbortTag tagged
     ≡ plan (record tagged { aborts = Some (aborts.Tag 9) }) no_message nexts.FreeBus
 hears_abort_of_its_tag = refl
 
-hears_abort_of_the_queue : hears_abort to_target.ClearQueue tagged
+hears_abort_of_the_queue : plan_hearing_abort to_target.ClearQueue tagged
     ≡ plan (record tagged { aborts = Some aborts.WholeQueue }) no_message nexts.FreeBus
 hears_abort_of_the_queue = refl
 
-hears_a_device_reset : hears_abort to_target.DeviceReset tagged
+hears_a_device_reset : plan_hearing_abort to_target.DeviceReset tagged
     ≡ plan (record tagged { aborts = Some aborts.Device }) no_message nexts.FreeBus
 hears_a_device_reset = refl
 
-hears_nothing_new : plans (says false (Some to_target.Nop)) (plan tagged no_message nexts.FreeBus)
+hears_nothing_new : plan_hearing (word_out false (Some to_target.Nop)) (plan tagged no_message nexts.FreeBus)
     ≡ plan tagged no_message nexts.FreeBus
 hears_nothing_new = refl
 
-hears_no_whole_message : plans (says false None) (plan tagged no_message nexts.FreeBus)
+hears_no_whole_message : plan_hearing (word_out false None) (plan tagged no_message nexts.FreeBus)
     ≡ plan tagged no_message nexts.FreeBus
 hears_no_whole_message = refl
 
 -- The number of a tag of any kind; 0 where none was named.
-hears_aborts_of_tags : (hears_abort to_target.AbortTag (record quiet { tag = tags.Head 4 })).said.aborts
-    ∷ (hears_abort to_target.AbortTag (record quiet { tag = tags.Ordered 5 })).said.aborts
-    ∷ (hears_abort to_target.AbortTag quiet).said.aborts ∷ []
+hears_aborts_of_tags : (plan_hearing_abort to_target.AbortTag (record quiet { tag = tags.Head 4 })).said.aborts
+    ∷ (plan_hearing_abort to_target.AbortTag (record quiet { tag = tags.Ordered 5 })).said.aborts
+    ∷ (plan_hearing_abort to_target.AbortTag quiet).said.aborts ∷ []
     ≡ Some (aborts.Tag 4) ∷ Some (aborts.Tag 5) ∷ Some (aborts.Tag 0) ∷ []
 hears_aborts_of_tags = refl
 
-hears_nothing_in_message_in : plans (record (tells (Some to_initiator.Disconnect)) {
+hears_nothing_in_message_in : plan_hearing (record (word_in (Some to_initiator.Disconnect)) {
   is_last = true;
   out = Some to_target.Abort;
 }) (plan tagged named nexts.GoOn) ≡ plan tagged named nexts.GoOn
 hears_nothing_in_message_in = refl
 
 -- The byte before crossed with ATN false: all bytes begin anew.
-hears_all_anew : plans (says true (Some (to_target.Identify true 4)))
+hears_all_anew : plan_hearing (word_out true (Some (to_target.Identify true 4)))
     (record (plan tagged no_message nexts.FreeBus) { struck = true })
     ≡ plan (record quiet { unit = Some 4 }) no_message nexts.FreeBus
 hears_all_anew = refl
 
-hears_a_struck_byte : plans (faults 0x0ea00) (plan tagged no_message nexts.FreeBus)
+hears_a_struck_byte : plan_hearing (fault_on 0x0ea00) (plan tagged no_message nexts.FreeBus)
     ≡ record (plan tagged no_message nexts.FreeBus) { struck = true }
 hears_a_struck_byte = refl
 
 -- Of a byte to the initiator it learns by ATN alone.
-other_hears_a_struck_byte : plans (faults 0x05200) silent ≡ silent
+other_hears_a_struck_byte : plan_hearing (fault_on 0x05200) silent ≡ silent
 other_hears_a_struck_byte = refl
 
 -- ---- what the target plans
@@ -403,36 +405,37 @@ plans_no_negotiation = refl
 plans_names : first_plan true true named ≡ record (plan quiet named nexts.GoOn) { negotiates = false }
 plans_names = refl
 
-plans_first_message_out : plans (record (turns 0x10200 0x12a00) { begun = false }) silent ≡ silent
+plans_first_message_out : plan_hearing (record (turn 0x10200 0x12a00) { begun = false }) silent ≡ silent
 plans_first_message_out = refl
 
 plans_messages :
-    plan_after (turns 0x00a00 0x03a00) (leaving (Some phases.MessageIn) (message to_initiator.Disconnect) nexts.FreeBus)
+    plan_after (turn 0x00a00 0x03a00) (leaving (Some phases.MessageIn) (message to_initiator.Disconnect) nexts.FreeBus)
     (record (plan tagged named nexts.GoOn) { struck = true })
     ≡ plan quiet (message to_initiator.Disconnect) nexts.FreeBus
 plans_messages = refl
 
 -- ATN: why it asks for MESSAGE OUT, and the messages from the struck one on. IDENTIFY has one byte, SIMPLE QUEUE TAG
 -- two.
-abbrev asks : ℕ → ℕ → Plan
-asks lines offered = plans (record (turns lines 0x12a00) { offered = offered }) (plan tagged named nexts.GoOn)
+abbrev plan_asking : ℕ → ℕ → Plan
+plan_asking lines offered =
+    plan_hearing (record (turn lines 0x12a00) { offered = offered }) (plan tagged named nexts.GoOn)
 
 abbrev asked_for : Cause → Messages → Plan
 asked_for cause m = record (plan quiet m nexts.GoOn) { cause = cause }
 
-asks_after_the_first_message : asks 0x13a00 1 ≡ asked_for causes.InMessage named
+asks_after_the_first_message : plan_asking 0x13a00 1 ≡ asked_for causes.InMessage named
 asks_after_the_first_message = refl
 
-asks_in_the_second_message : asks 0x13a00 2 ≡ asked_for causes.InMessage (message (to_initiator.SimpleTag 9))
+asks_in_the_second_message : plan_asking 0x13a00 2 ≡ asked_for causes.InMessage (message (to_initiator.SimpleTag 9))
 asks_in_the_second_message = refl
 
-asks_after_the_second_message : asks 0x13a00 3 ≡ asked_for causes.InMessage (message (to_initiator.SimpleTag 9))
+asks_after_the_second_message : plan_asking 0x13a00 3 ≡ asked_for causes.InMessage (message (to_initiator.SimpleTag 9))
 asks_after_the_second_message = refl
 
-asks_after_data : asks 0x11200 2 ≡ asked_for causes.InData named
+asks_after_data : plan_asking 0x11200 2 ≡ asked_for causes.InData named
 asks_after_data = refl
 
-asks_after_status : asks 0x11a00 1 ≡ asked_for causes.InStatus named
+asks_after_status : plan_asking 0x11a00 1 ≡ asked_for causes.InStatus named
 asks_after_status = refl
 
 -- ---- what becomes of a command
@@ -483,48 +486,48 @@ task writes runs = record {
   status = 0;
 }
 
-abbrev reads : Task
-reads = task false 0
+abbrev read_task : Task
+read_task = task false 0
 
 abbrev run : ℕ → ℕ → DataRun
 run start end = record { start = start; end = end }
 
-never_cut : run_at policies.Never reads 0 ≡ run 0 80
+never_cut : run_at policies.Never read_task 0 ≡ run 0 80
 never_cut = refl
 
-not_cut_after_the_command : run_at policies.Command reads 0 ≡ run 0 80
+not_cut_after_the_command : run_at policies.Command read_task 0 ≡ run 0 80
 not_cut_after_the_command = refl
 
-first_burst : run_at (policies.Burst 2) reads 0 ≡ run 0 32
+first_burst : run_at (policies.Burst 2) read_task 0 ≡ run 0 32
 first_burst = refl
 
-second_burst : run_at (policies.Burst 2) reads 1 ≡ run 32 64
+second_burst : run_at (policies.Burst 2) read_task 1 ≡ run 32 64
 second_burst = refl
 
-last_burst_is_shorter : run_at (policies.Burst 2) reads 2 ≡ run 64 80
+last_burst_is_shorter : run_at (policies.Burst 2) read_task 2 ≡ run 64 80
 last_burst_is_shorter = refl
 
-first_part : run_at (policies.NoSave 2) reads 0 ≡ run 0 32
+first_part : run_at (policies.NoSave 2) read_task 0 ≡ run 0 32
 first_part = refl
 
-all_from_the_start : run_at (policies.NoSave 2) reads 1 ≡ run 0 80
+all_from_the_start : run_at (policies.NoSave 2) read_task 1 ≡ run 0 80
 all_from_the_start = refl
 
-all_in_one_part : run_at (policies.NoSave 5) reads 0 ≡ run 0 80
+all_in_one_part : run_at (policies.NoSave 5) read_task 0 ≡ run 0 80
 all_in_one_part = refl
 
-other_commands_are_not_cut : run_at (policies.Burst 2) (record reads { blocks = None; moved = 36 }) 0 ≡ run 0 36
+other_commands_are_not_cut : run_at (policies.Burst 2) (record read_task { blocks = None; moved = 36 }) 0 ≡ run 0 36
 other_commands_are_not_cut = refl
 
 abbrev counts_of : Policy → ℕ
-counts_of policy = runs_in_all policy reads
+counts_of policy = runs_in_all policy read_task
 
 counts_of_runs : counts_of policies.Never ∷ counts_of policies.Command ∷ counts_of (policies.Burst 2)
     ∷ counts_of (policies.Burst 5) ∷ counts_of (policies.NoSave 4) ∷ counts_of (policies.NoSave 5) ∷ []
     ≡ 1 ∷ 1 ∷ 3 ∷ 1 ∷ 2 ∷ 1 ∷ []
 counts_of_runs = refl
 
-no_bytes_no_runs : runs_in_all (policies.Burst 2) (record reads { moved = 0 }) ≡ 0
+no_bytes_no_runs : runs_in_all (policies.Burst 2) (record read_task { moved = 0 }) ≡ 0
 no_bytes_no_runs = refl
 
 length_of_the_last_run : run_length (policies.Burst 2) (task false 2) ≡ 16
@@ -551,29 +554,30 @@ moves_no_more = refl
 moves_to_the_target : next_data_phase policies.Never (task true 0) 0 ≡ phases.DataOut
 moves_to_the_target = refl
 
-moves_nothing_after_the_reply : next_data_phase policies.Never (record reads { replied = true }) 0 ≡ phases.Status
+moves_nothing_after_the_reply : next_data_phase policies.Never (record read_task { replied = true }) 0 ≡ phases.Status
 moves_nothing_after_the_reply = refl
 
 -- ---- how the phases are left
 
-abbrev serves : Option TargetDef → Plan → Task → Serving
-serves def p t = record { def = def; plan = p; task = Some t; given = 21 ∷ 22 ∷ 23 ∷ []; arrival = arrivals.Queued }
+abbrev serving_task : Option TargetDef → Plan → Task → Serving
+serving_task def p t =
+    record { def = def; plan = p; task = Some t; given = 21 ∷ 22 ∷ 23 ∷ []; arrival = arrivals.Queued }
 
 -- With these lines on the bus, by the policy of a burst of two blocks.
 abbrev burst : Option TargetDef
 burst = disk (policies.Burst 2) false 50
 
-abbrev leaves_from : ℕ → Plan → Task → Leaving
-leaves_from lines p t = leaving_by (serves burst p t) true (set_of lines)
+abbrev leaving_from : ℕ → Plan → Task → Leaving
+leaving_from lines p t = leaving_by (serving_task burst p t) true (set_of lines)
 
-abbrev goes : Phase → Leaving
-goes phase = leaving (Some phase) no_message nexts.FreeBus
+abbrev leaving_to : Phase → Leaving
+leaving_to phase = leaving (Some phase) no_message nexts.FreeBus
 
-abbrev tell : Messages → Next → Leaving
-tell m next = leaving (Some phases.MessageIn) m next
+abbrev telling : Messages → Next → Leaving
+telling m next = leaving (Some phases.MessageIn) m next
 
-abbrev tell_counted : Messages → Next → Leaving
-tell_counted m next = record (tell m next) { counts = true }
+abbrev counted_telling : Messages → Next → Leaving
+counted_telling m next = record (telling m next) { counts = true }
 
 -- Two recoveries are the limit.
 abbrev tried : ℕ → Task
@@ -582,64 +586,64 @@ tried n = record (task true 0) { recoveries = n }
 abbrev held : Task
 held = record (tried 2) { in_hold = true }
 
-selected_first : leaving_by (serves burst silent reads) false (set_of 0x10200) ≡ goes phases.MessageOut
+selected_first : leaving_by (serving_task burst silent read_task) false (set_of 0x10200) ≡ leaving_to phases.MessageOut
 selected_first = refl
 
 -- ---- MESSAGE OUT is left after the opening
 
 abbrev opened : Option TargetDef → Said → Leaving
-opened def said = leaving_by (serves def (plan said no_message nexts.FreeBus) reads) true (set_of 0x02a00)
+opened def said = leaving_by (serving_task def (plan said no_message nexts.FreeBus) read_task) true (set_of 0x02a00)
 
-opened_for_a_command : opened burst tagged ≡ goes phases.Command
+opened_for_a_command : opened burst tagged ≡ leaving_to phases.Command
 opened_for_a_command = refl
 
 opened_for_an_abort : opened burst (record tagged { aborts = Some aborts.All; offer = Some (pair 100 4) }) ≡ free
 opened_for_an_abort = refl
 
 opened_with_an_offer : opened burst (record tagged { offer = Some (pair 100 4) })
-    ≡ tell (message (to_initiator.Sdtr (pair 100 4))) nexts.Command
+    ≡ telling (message (to_initiator.Sdtr (pair 100 4))) nexts.Command
 opened_with_an_offer = refl
 
 opened_with_offset_255 : opened burst (record tagged { offer = Some (pair 100 255) })
-    ≡ tell (message to_initiator.Reject) nexts.Command
+    ≡ telling (message to_initiator.Reject) nexts.Command
 opened_with_offset_255 = refl
 
 abbrev beginning : Option TargetDef
 beginning = disk policies.Never true 30
 
-target_begins_to_negotiate : opened beginning tagged ≡ tell (message (to_initiator.Sdtr (pair 30 8))) nexts.Command
+target_begins_to_negotiate : opened beginning tagged ≡ telling (message (to_initiator.Sdtr (pair 30 8))) nexts.Command
 target_begins_to_negotiate = refl
 
 target_answers_in_place_of_it : opened beginning (record tagged { offer = Some (pair 25 4) })
-    ≡ tell (message (to_initiator.Sdtr (pair 30 4))) nexts.Command
+    ≡ telling (message (to_initiator.Sdtr (pair 30 4))) nexts.Command
 target_answers_in_place_of_it = refl
 
 target_may_not_begin :
-    leaving_by (serves beginning (record (plan tagged no_message nexts.FreeBus) { negotiates = false }) reads) true
-    (set_of 0x02a00) ≡ goes phases.Command
+    leaving_by (serving_task beginning (record (plan tagged no_message nexts.FreeBus) { negotiates = false }) read_task)
+    true (set_of 0x02a00) ≡ leaving_to phases.Command
 target_may_not_begin = refl
 
 -- ---- after ATN in MESSAGE IN
 
 abbrev refused : Messages → Task → Leaving
-refused m t = leaves_from 0x02a00 (asked_for causes.InMessage m) t
+refused m t = leaving_from 0x02a00 (asked_for causes.InMessage m) t
 
-answered_request : leaves_from 0x02a00
+answered_request : leaving_from 0x02a00
     (record (plan (record quiet { offer = Some (pair 50 4) }) (message (to_initiator.Sdtr (pair 50 8))) nexts.Command) {
       cause = causes.InMessage;
-    }) (tried 2) ≡ goes phases.Command
+    }) (tried 2) ≡ leaving_to phases.Command
 answered_request = refl
 
 -- The names of a process are sent again without count and limit.
-names_sent_again : refused named (tried 2) ≡ tell named nexts.GoOn
+names_sent_again : refused named (tried 2) ≡ telling named nexts.GoOn
 names_sent_again = refl
 
 tag_sent_again : refused (message (to_initiator.SimpleTag 9)) (tried 0)
-    ≡ tell (message (to_initiator.SimpleTag 9)) nexts.GoOn
+    ≡ telling (message (to_initiator.SimpleTag 9)) nexts.GoOn
 tag_sent_again = refl
 
 message_sent_again : refused (message to_initiator.Disconnect) (tried 1)
-    ≡ tell_counted (message to_initiator.Disconnect) nexts.GoOn
+    ≡ counted_telling (message to_initiator.Disconnect) nexts.GoOn
 message_sent_again = refl
 
 message_given_up : refused (message to_initiator.Disconnect) (tried 2) ≡ free
@@ -649,11 +653,11 @@ no_message_given_up : refused no_message (tried 2) ≡ free
 no_message_given_up = refl
 
 message_sent_again_in_the_hold : refused (message to_initiator.Disconnect) held
-    ≡ tell (message to_initiator.Disconnect) nexts.GoOn
+    ≡ telling (message to_initiator.Disconnect) nexts.GoOn
 message_sent_again_in_the_hold = refl
 
 message_of_no_process :
-    leaving_by (record (serves burst (asked_for causes.InMessage (message to_initiator.Disconnect)) reads) {
+    leaving_by (record (serving_task burst (asked_for causes.InMessage (message to_initiator.Disconnect)) read_task) {
       task = None;
     }) true (set_of 0x02a00) ≡ free
 message_of_no_process = refl
@@ -661,85 +665,85 @@ message_of_no_process = refl
 -- ---- after ATN in DATA IN and STATUS
 
 abbrev restored : Next → Leaving
-restored next = tell (message to_initiator.RestorePointers) next
+restored next = telling (message to_initiator.RestorePointers) next
 
 abbrev restored_counted : Next → Leaving
-restored_counted next = tell_counted (message to_initiator.RestorePointers) next
+restored_counted next = counted_telling (message to_initiator.RestorePointers) next
 
-data_again : leaves_from 0x02a00 (asked_for causes.InData no_message) (tried 1) ≡ restored_counted nexts.GoOn
+data_again : leaving_from 0x02a00 (asked_for causes.InData no_message) (tried 1) ≡ restored_counted nexts.GoOn
 data_again = refl
 
-data_given_up : leaves_from 0x02a00 (asked_for causes.InData no_message) (tried 2) ≡ goes phases.Status
+data_given_up : leaving_from 0x02a00 (asked_for causes.InData no_message) (tried 2) ≡ leaving_to phases.Status
 data_given_up = refl
 
-data_again_in_the_hold : leaves_from 0x02a00 (asked_for causes.InData no_message) held ≡ restored nexts.GoOn
+data_again_in_the_hold : leaving_from 0x02a00 (asked_for causes.InData no_message) held ≡ restored nexts.GoOn
 data_again_in_the_hold = refl
 
-status_again : leaves_from 0x02a00 (asked_for causes.InStatus no_message) (tried 1) ≡ restored_counted nexts.Status
+status_again : leaving_from 0x02a00 (asked_for causes.InStatus no_message) (tried 1) ≡ restored_counted nexts.Status
 status_again = refl
 
-status_given_up : leaves_from 0x02a00 (asked_for causes.InStatus no_message) (tried 2) ≡ free
+status_given_up : leaving_from 0x02a00 (asked_for causes.InStatus no_message) (tried 2) ≡ free
 status_given_up = refl
 
-status_again_in_the_hold : leaves_from 0x02a00 (asked_for causes.InStatus no_message) held ≡ restored nexts.Status
+status_again_in_the_hold : leaving_from 0x02a00 (asked_for causes.InStatus no_message) held ≡ restored nexts.Status
 status_again_in_the_hold = refl
 
 -- ---- MESSAGE IN is left
 
 abbrev told : ℕ → Next → Task → Leaving
-told lines next t = leaves_from lines (plan quiet named next) t
+told lines next t = leaving_from lines (plan quiet named next) t
 
-told_before_command : told 0x03a00 nexts.Command reads ≡ goes phases.Command
+told_before_command : told 0x03a00 nexts.Command read_task ≡ leaving_to phases.Command
 told_before_command = refl
 
-told_before_status : told 0x03a00 nexts.Status reads ≡ goes phases.Status
+told_before_status : told 0x03a00 nexts.Status read_task ≡ leaving_to phases.Status
 told_before_status = refl
 
-told_before_data : told 0x03a00 nexts.GoOn (task false 2) ≡ goes phases.DataIn
+told_before_data : told 0x03a00 nexts.GoOn (task false 2) ≡ leaving_to phases.DataIn
 told_before_data = refl
 
-told_before_data_out : told 0x03a00 nexts.GoOn (task true 2) ≡ goes phases.DataOut
+told_before_data_out : told 0x03a00 nexts.GoOn (task true 2) ≡ leaving_to phases.DataOut
 told_before_data_out = refl
 
-told_after_data : told 0x03a00 nexts.GoOn (task true 3) ≡ goes phases.Status
+told_after_data : told 0x03a00 nexts.GoOn (task true 3) ≡ leaving_to phases.Status
 told_after_data = refl
 
-told_at_the_end : told 0x03a00 nexts.FreeBus reads ≡ free
+told_at_the_end : told 0x03a00 nexts.FreeBus read_task ≡ free
 told_at_the_end = refl
 
-told_with_attention : told 0x13a00 nexts.FreeBus reads ≡ goes phases.MessageOut
+told_with_attention : told 0x13a00 nexts.FreeBus read_task ≡ leaving_to phases.MessageOut
 told_with_attention = refl
 
 -- ---- COMMAND is left
 
 abbrev commanded : Bool → Arrival → Task → Leaving
 commanded struck arrival t =
-    leaving_by (record (serves burst (record (plan tagged no_message nexts.FreeBus) { struck = struck }) t) {
+    leaving_by (record (serving_task burst (record (plan tagged no_message nexts.FreeBus) { struck = struck }) t) {
       arrival = arrival;
     }) true (set_of 0x10a00)
 
 command_again : commanded true arrivals.Queued (tried 1) ≡ restored_counted nexts.Command
 command_again = refl
 
-command_given_up : commanded true arrivals.Queued (tried 2) ≡ goes phases.Status
+command_given_up : commanded true arrivals.Queued (tried 2) ≡ leaving_to phases.Status
 command_given_up = refl
 
 command_again_in_the_hold : commanded true arrivals.Queued held ≡ restored nexts.Command
 command_again_in_the_hold = refl
 
-command_refused : commanded false arrivals.Refused reads ≡ goes phases.Status
+command_refused : commanded false arrivals.Refused read_task ≡ leaving_to phases.Status
 command_refused = refl
 
-guest_goes_on : commanded false arrivals.Guest reads ≡ goes phases.DataIn
+guest_goes_on : commanded false arrivals.Guest read_task ≡ leaving_to phases.DataIn
 guest_goes_on = refl
 
-guest_has_its_reply : commanded false arrivals.Guest (record reads { replied = true }) ≡ goes phases.Status
+guest_has_its_reply : commanded false arrivals.Guest (record read_task { replied = true }) ≡ leaving_to phases.Status
 guest_has_its_reply = refl
 
-command_runs_at_once : commanded false arrivals.AtOnce (task true 0) ≡ goes phases.DataOut
+command_runs_at_once : commanded false arrivals.AtOnce (task true 0) ≡ leaving_to phases.DataOut
 command_runs_at_once = refl
 
-command_waits : commanded false arrivals.Queued reads ≡ tell (message to_initiator.Disconnect) nexts.FreeBus
+command_waits : commanded false arrivals.Queued read_task ≡ telling (message to_initiator.Disconnect) nexts.FreeBus
 command_waits = refl
 
 -- ---- a data phase is left
@@ -747,48 +751,49 @@ command_waits = refl
 abbrev ran : Leaving → Leaving
 ran l = record l { done = true }
 
-run_before_another : leaves_from 0x01200 silent (task false 1)
-    ≡ ran (tell (messages to_initiator.SavePointer to_initiator.Disconnect) nexts.FreeBus)
+run_before_another : leaving_from 0x01200 silent (task false 1)
+    ≡ ran (telling (messages to_initiator.SavePointer to_initiator.Disconnect) nexts.FreeBus)
 run_before_another = refl
 
-last_run : leaves_from 0x01200 silent (task false 2) ≡ ran (goes phases.Status)
+last_run : leaving_from 0x01200 silent (task false 2) ≡ ran (leaving_to phases.Status)
 last_run = refl
 
-run_with_attention : leaves_from 0x11200 silent (task false 1) ≡ goes phases.MessageOut
+run_with_attention : leaving_from 0x11200 silent (task false 1) ≡ leaving_to phases.MessageOut
 run_with_attention = refl
 
-part_before_all : leaving_by (serves (disk (policies.NoSave 2) false 50) silent reads) true (set_of 0x01200)
-    ≡ ran (tell (message to_initiator.Disconnect) nexts.FreeBus)
+part_before_all : leaving_by (serving_task (disk (policies.NoSave 2) false 50) silent read_task) true (set_of 0x01200)
+    ≡ ran (telling (message to_initiator.Disconnect) nexts.FreeBus)
 part_before_all = refl
 
-run_to_the_target : leaves_from 0x00200 silent (task true 1)
-    ≡ ran (tell (messages to_initiator.SavePointer to_initiator.Disconnect) nexts.FreeBus)
+run_to_the_target : leaving_from 0x00200 silent (task true 1)
+    ≡ ran (telling (messages to_initiator.SavePointer to_initiator.Disconnect) nexts.FreeBus)
 run_to_the_target = refl
 
-last_run_to_the_target : leaves_from 0x10200 silent (task true 2) ≡ ran (goes phases.Status)
+last_run_to_the_target : leaving_from 0x10200 silent (task true 2) ≡ ran (leaving_to phases.Status)
 last_run_to_the_target = refl
 
-struck_run_again : leaves_from 0x00200 (record silent { struck = true }) (tried 1) ≡ restored_counted nexts.GoOn
+struck_run_again : leaving_from 0x00200 (record silent { struck = true }) (tried 1) ≡ restored_counted nexts.GoOn
 struck_run_again = refl
 
-struck_run_given_up : leaves_from 0x00200 (record silent { struck = true }) (tried 2) ≡ goes phases.Status
+struck_run_given_up : leaving_from 0x00200 (record silent { struck = true }) (tried 2) ≡ leaving_to phases.Status
 struck_run_given_up = refl
 
-struck_run_again_in_the_hold : leaves_from 0x00200 (record silent { struck = true }) held ≡ restored nexts.GoOn
+struck_run_again_in_the_hold : leaving_from 0x00200 (record silent { struck = true }) held ≡ restored nexts.GoOn
 struck_run_again_in_the_hold = refl
 
 -- ---- STATUS is left
 
-status_before_the_end : leaves_from 0x01a00 silent reads ≡ tell (message to_initiator.CommandComplete) nexts.FreeBus
+status_before_the_end : leaving_from 0x01a00 silent read_task
+    ≡ telling (message to_initiator.CommandComplete) nexts.FreeBus
 status_before_the_end = refl
 
-status_with_attention : leaves_from 0x11a00 silent reads ≡ goes phases.MessageOut
+status_with_attention : leaving_from 0x11a00 silent read_task ≡ leaving_to phases.MessageOut
 status_with_attention = refl
 
 -- ---- the bytes that the target gives: a burst of one byte, of the three bytes 21, 22, 23
 
 abbrev bytewise : Plan → Task → Serving
-bytewise p t = serves (disk (policies.Burst 1) false 50) p t
+bytewise p t = serving_task (disk (policies.Burst 1) false 50) p t
 
 abbrev three : ℕ → Task
 three runs = record (task false runs) { moved = 3; blocks = Some 3; size = 1; status = 2 }
@@ -808,11 +813,12 @@ gives_a_byte_of_its_run = refl
 gives_a_byte_of_the_run_after : phase_byte (bytewise silent (three 1)) phases.DataIn named 1 0 ≡ 23
 gives_a_byte_of_the_run_after = refl
 
-gives_a_byte_at_a_place : phase_byte (serves (disk policies.Never false 50) silent (three 0)) phases.DataIn named 0 2
-    ≡ 23
+gives_a_byte_at_a_place :
+    phase_byte (serving_task (disk policies.Never false 50) silent (three 0)) phases.DataIn named 0 2 ≡ 23
 gives_a_byte_at_a_place = refl
 
-gives_all_again : phase_byte (serves (disk (policies.NoSave 1) false 50) silent (three 1)) phases.DataIn named 0 1 ≡ 22
+gives_all_again : phase_byte (serving_task (disk (policies.NoSave 1) false 50) silent (three 1)) phases.DataIn named 0 1
+    ≡ 22
 gives_all_again = refl
 
 gives_nothing_in_command : phase_byte (bytewise silent (three 1)) phases.Command named 0 0 ≡ 0
@@ -824,51 +830,52 @@ abbrev rose : ℕ → ℕ → Handshakes
 rose requests answers = record no_handshakes { requests = requests; answers = answers }
 
 abbrev follows : Plan → Task → Handshakes → Bool → Phase → Bool
-follows p t r attention phase = follows_in (serves burst p t) r attention phase
+follows p t r attention phase = follows_in (serving_task burst p t) r attention phase
 
-first_byte_follows : follows silent reads (rose 1 0) false phases.MessageOut ≡ true
+first_byte_follows : follows silent read_task (rose 1 0) false phases.MessageOut ≡ true
 first_byte_follows = refl
 
-follows_with_attention : follows silent reads (rose 1 1) true phases.MessageOut ≡ true
+follows_with_attention : follows silent read_task (rose 1 1) true phases.MessageOut ≡ true
 follows_with_attention = refl
 
-follows_a_struck_byte : follows (record silent { struck = true }) reads (rose 1 1) false phases.MessageOut ≡ true
+follows_a_struck_byte : follows (record silent { struck = true }) read_task (rose 1 1) false phases.MessageOut ≡ true
 follows_a_struck_byte = refl
 
-none_follows_the_last : follows silent reads (rose 1 1) false phases.MessageOut ≡ false
+none_follows_the_last : follows silent read_task (rose 1 1) false phases.MessageOut ≡ false
 none_follows_the_last = refl
 
 -- Three bytes of names.
-third_name_byte_follows : follows (plan quiet named nexts.GoOn) reads (rose 2 2) false phases.MessageIn ≡ true
+third_name_byte_follows : follows (plan quiet named nexts.GoOn) read_task (rose 2 2) false phases.MessageIn ≡ true
 third_name_byte_follows = refl
 
-no_fourth_name_byte : follows (plan quiet named nexts.GoOn) reads (rose 3 3) false phases.MessageIn ≡ false
+no_fourth_name_byte : follows (plan quiet named nexts.GoOn) read_task (rose 3 3) false phases.MessageIn ≡ false
 no_fourth_name_byte = refl
 
-first_message_with_attention : follows (plan quiet named nexts.GoOn) reads (rose 0 0) true phases.MessageIn ≡ true
+first_message_with_attention : follows (plan quiet named nexts.GoOn) read_task (rose 0 0) true phases.MessageIn ≡ true
 first_message_with_attention = refl
 
-message_ends_with_attention : follows (plan quiet named nexts.GoOn) reads (rose 1 1) true phases.MessageIn ≡ false
+message_ends_with_attention : follows (plan quiet named nexts.GoOn) read_task (rose 1 1) true phases.MessageIn ≡ false
 message_ends_with_attention = refl
 
-block_goes_on : follows silent (record reads { whole = false }) (rose 5 5) false phases.Command ≡ true
+block_goes_on : follows silent (record read_task { whole = false }) (rose 5 5) false phases.Command ≡ true
 block_goes_on = refl
 
-has_whole_block : follows silent reads (rose 6 6) false phases.Command ≡ false
+has_whole_block : follows silent read_task (rose 6 6) false phases.Command ≡ false
 has_whole_block = refl
 
 block_is_struck :
-    follows (record silent { struck = true }) (record reads { whole = false }) (rose 5 5) false phases.Command ≡ false
+    follows (record silent { struck = true }) (record read_task { whole = false }) (rose 5 5) false phases.Command
+    ≡ false
 block_is_struck = refl
 
-one_status_byte :
-    follows silent reads (rose 0 0) false phases.Status ∷ follows silent reads (rose 1 1) false phases.Status ∷ []
+one_status_byte : follows silent read_task (rose 0 0) false phases.Status
+    ∷ follows silent read_task (rose 1 1) false phases.Status ∷ []
     ≡ true ∷ false ∷ []
 one_status_byte = refl
 
 -- A run of 32 bytes: to the initiator by REQ, to the target by ACK.
-run_to_the_initiator_goes_on :
-    follows silent reads (rose 31 30) true phases.DataIn ∷ follows silent reads (rose 32 31) true phases.DataIn ∷ []
+run_to_the_initiator_goes_on : follows silent read_task (rose 31 30) true phases.DataIn
+    ∷ follows silent read_task (rose 32 31) true phases.DataIn ∷ []
     ≡ true ∷ false ∷ []
 run_to_the_initiator_goes_on = refl
 
@@ -894,25 +901,25 @@ idle_gives_nothing = refl
 abbrev lines_to : Bool → Leaving → Task → Option Phase → ℕ
 lines_to io l t phase = number_of (lines_by (bytewise silent t) io l phase)
 
-leaves_to_the_status_byte : lines_to true (ran (goes phases.Status)) (three 2) (Some phases.Status) ≡ 0x01a02
+leaves_to_the_status_byte : lines_to true (ran (leaving_to phases.Status)) (three 2) (Some phases.Status) ≡ 0x01a02
 unfolding ones
 leaves_to_the_status_byte = refl
 
 leaves_to_a_message :
-    lines_to true (tell (message to_initiator.CommandComplete) nexts.FreeBus) (three 2) (Some phases.MessageIn)
+    lines_to true (telling (message to_initiator.CommandComplete) nexts.FreeBus) (three 2) (Some phases.MessageIn)
     ≡ 0x03b00
 unfolding ones
 leaves_to_a_message = refl
 
 -- RESTORE POINTERS, and the second run, of byte 22 (16 in hexadecimal digits).
-leaves_to_data : lines_to true (goes phases.DataIn) (three 1) (Some phases.DataIn) ≡ 0x01216
+leaves_to_data : lines_to true (leaving_to phases.DataIn) (three 1) (Some phases.DataIn) ≡ 0x01216
 unfolding ones
 leaves_to_data = refl
 
-leaves_from_the_initiators_byte : lines_to false (goes phases.Status) (three 2) (Some phases.Status) ≡ 0x01a00
+leaves_from_the_initiators_byte : lines_to false (leaving_to phases.Status) (three 2) (Some phases.Status) ≡ 0x01a00
 leaves_from_the_initiators_byte = refl
 
-leaves_to_the_initiators_byte : lines_to true (goes phases.Command) (three 2) (Some phases.Command) ≡ 0x00a00
+leaves_to_the_initiators_byte : lines_to true (leaving_to phases.Command) (three 2) (Some phases.Command) ≡ 0x00a00
 leaves_to_the_initiators_byte = refl
 
 leaves_the_bus : lines_to true free (three 2) None ≡ 0x00000

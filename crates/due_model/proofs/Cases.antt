@@ -27,8 +27,8 @@ pub record Shows : Type 0 where
   pub history : List Event
   pub ended : Bool
 
-abbrev pub shows : Run → Shows
-shows r = record { rows = r.rows; history = history_of r; ended = r.ended }
+abbrev pub shown : Run → Shows
+shown r = record { rows = r.rows; history = history_of r; ended = r.ended }
 
 abbrev command : ℕ → ProcId
 command n = record { command = n; sense = false }

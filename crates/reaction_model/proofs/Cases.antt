@@ -38,106 +38,107 @@ abbrev me : ℕ → ℕ → Myself
 me lines since = record { dev = 3; latency = 7; own = set_of lines; since = since }
 
 -- It wants the bus since this time, of device 5, as an initiator or as a target.
-abbrev wants_of : Bool → Option ℕ → Option ℕ → Want
-wants_of reselects since callee = record { since = since; callee = callee; reselects = reselects; first = 0x82 }
+abbrev want_of : Bool → Option ℕ → Option ℕ → Want
+want_of reselects since callee = record { since = since; callee = callee; reselects = reselects; first = 0x82 }
 
-abbrev wants : Option ℕ → Want
-wants since = wants_of false since (Some 5)
+abbrev want : Option ℕ → Want
+want since = want_of false since (Some 5)
 
 -- Lines that stood as they do since times of which none is another one.
-abbrev ages : LineTimes
-ages = record { bsy = 11; sel = 12; msg = 13; cd = 14; io = 15; req = 16; ack = 17; atn = 18; rst = 19 }
+abbrev distinct_times : LineTimes
+distinct_times = record { bsy = 11; sel = 12; msg = 13; cd = 14; io = 15; req = 16; ack = 17; atn = 18; rst = 19 }
 
-abbrev sees : ℕ → LineTimes → Stage → Sight
-sees lines a s = record { bus = set_of lines; ages = a; stage = s }
+abbrev sight_of : ℕ → LineTimes → Stage → Sight
+sight_of lines a s = record { bus = set_of lines; ages = a; stage = s }
 
 -- What it is due to do on its way to a connection.
-abbrev links : ℕ → LineTimes → Stage → Myself → Want → Option Due
-links lines a s m w = link_due (sees lines a s) m w None
+abbrev linking_due : ℕ → LineTimes → Stage → Myself → Want → Option Due
+linking_due lines a s m w = link_due (sight_of lines a s) m w None
 
 -- ---- the free bus: a bus settle delay and a bus free delay
 
-enters_after_free : links 0x00000 ages (OnFreeBus 5000) (me 0x00000 0) (wants (Some 100))
+enters_after_free : linking_due 0x00000 distinct_times (OnFreeBus 5000) (me 0x00000 0) (want (Some 100))
     ≡ row (5000 + 1200 + 7) 0x00208
 enters_after_free = refl
 
-enters_when_it_wants : links 0x00000 ages (OnFreeBus 5000) (me 0x00000 0) (wants (Some 7000)) ≡ row (7000 + 7) 0x00208
+enters_when_it_wants : linking_due 0x00000 distinct_times (OnFreeBus 5000) (me 0x00000 0) (want (Some 7000))
+    ≡ row (7000 + 7) 0x00208
 enters_when_it_wants = refl
 
-wants_nothing : links 0x00000 ages (OnFreeBus 5000) (me 0x00000 0) (wants None) ≡ None
+wants_nothing : linking_due 0x00000 distinct_times (OnFreeBus 5000) (me 0x00000 0) (want None) ≡ None
 wants_nothing = refl
 
 -- ---- arbitration: a bus set delay, an arbitration delay
 
 -- The bus was free since 5000, the first entry was at 6200.
-abbrev arbitrates : ℕ → ℕ → Option ℕ → Option Due
-arbitrates lines own since =
-    links lines ages (InArbitration (record { free = 5000; first = 6200 })) (me own 6207) (wants since)
+abbrev arbitration_due : ℕ → ℕ → Option ℕ → Option Due
+arbitration_due lines own since =
+    linking_due lines distinct_times (InArbitration (record { free = 5000; first = 6200 })) (me own 6207) (want since)
 
-enters_with_the_others : arbitrates 0x00280 0x00000 (Some 100) ≡ row (5000 + 1200 + 7) 0x00208
+enters_with_the_others : arbitration_due 0x00280 0x00000 (Some 100) ≡ row (5000 + 1200 + 7) 0x00208
 enters_with_the_others = refl
 
-enters_at_the_bus_set_delay : arbitrates 0x00280 0x00000 (Some 7993) ≡ row (6200 + 1800) 0x00208
+enters_at_the_bus_set_delay : arbitration_due 0x00280 0x00000 (Some 7993) ≡ row (6200 + 1800) 0x00208
 enters_at_the_bus_set_delay = refl
 
-enters_no_later : arbitrates 0x00280 0x00000 (Some 7994) ≡ None
+enters_no_later : arbitration_due 0x00280 0x00000 (Some 7994) ≡ None
 enters_no_later = refl
 
-does_not_enter : arbitrates 0x00280 0x00000 None ≡ None
+does_not_enter : arbitration_due 0x00280 0x00000 None ≡ None
 does_not_enter = refl
 
-wins_over_lower : arbitrates 0x0020d 0x00208 (Some 100) ≡ row (6207 + 2400 + 7) 0x00608
+wins_over_lower : arbitration_due 0x0020d 0x00208 (Some 100) ≡ row (6207 + 2400 + 7) 0x00608
 wins_over_lower = refl
 
-loses_to_the_next : arbitrates 0x00218 0x00208 (Some 100) ≡ None
+loses_to_the_next : arbitration_due 0x00218 0x00208 (Some 100) ≡ None
 loses_to_the_next = refl
 
-loses_to_the_highest : arbitrates 0x00288 0x00208 (Some 100) ≡ None
+loses_to_the_highest : arbitration_due 0x00288 0x00208 (Some 100) ≡ None
 loses_to_the_highest = refl
 
 -- ---- the loser
 
-abbrev calls_by : ℕ → Option Calling → Stage
-calls_by caller c = InCalling (record { caller = caller; at = 9000; calling = c })
+abbrev calling_by : ℕ → Option Calling → Stage
+calling_by caller c = InCalling (record { caller = caller; at = 9000; calling = c })
 
 abbrev sel_at_9000 : LineTimes
-sel_at_9000 = record ages { sel = 9000 }
+sel_at_9000 = record distinct_times { sel = 9000 }
 
-loser_releases : links 0x00688 sel_at_9000 (calls_by 7 None) (me 0x00208 6207) (wants (Some 100))
+loser_releases : linking_due 0x00688 sel_at_9000 (calling_by 7 None) (me 0x00208 6207) (want (Some 100))
     ≡ row (9000 + 7) 0x00000
 loser_releases = refl
 
-drives_nothing : links 0x00680 sel_at_9000 (calls_by 7 None) (me 0x00000 9007) (wants (Some 100)) ≡ None
+drives_nothing : linking_due 0x00680 sel_at_9000 (calling_by 7 None) (me 0x00000 9007) (want (Some 100)) ≡ None
 drives_nothing = refl
 
 -- ---- the caller: a bus clear delay and a bus settle delay, two deskew delays
 
 abbrev quiet : Want → Option Due
-quiet w = links 0x00608 sel_at_9000 (calls_by 3 None) (me 0x00608 9000) w
+quiet w = linking_due 0x00608 sel_at_9000 (calling_by 3 None) (me 0x00608 9000) w
 
 -- An initiator with ATN, a target with I/O.
-calls_a_target : quiet (wants_of false (Some 100) (Some 5)) ≡ row (9000 + 1200 + 7) 0x10728
+calls_a_target : quiet (want_of false (Some 100) (Some 5)) ≡ row (9000 + 1200 + 7) 0x10728
 calls_a_target = refl
 
-calls_an_initiator : quiet (wants_of true (Some 100) (Some 5)) ≡ row (9000 + 1200 + 7) 0x01728
+calls_an_initiator : quiet (want_of true (Some 100) (Some 5)) ≡ row (9000 + 1200 + 7) 0x01728
 calls_an_initiator = refl
 
-calls_the_highest : quiet (wants_of false (Some 100) (Some 7)) ≡ row (9000 + 1200 + 7) 0x10788
+calls_the_highest : quiet (want_of false (Some 100) (Some 7)) ≡ row (9000 + 1200 + 7) 0x10788
 calls_the_highest = refl
 
-calls_no_one : quiet (wants_of false (Some 100) None) ≡ None
+calls_no_one : quiet (want_of false (Some 100) None) ≡ None
 calls_no_one = refl
 
-calls_not_itself : quiet (wants_of false (Some 100) (Some 3)) ≡ None
+calls_not_itself : quiet (want_of false (Some 100) (Some 3)) ≡ None
 calls_not_itself = refl
 
-calls_no_ninth : quiet (wants_of false (Some 100) (Some 8)) ≡ None
+calls_no_ninth : quiet (want_of false (Some 100) (Some 8)) ≡ None
 calls_no_ninth = refl
 
 abbrev calling : ℕ → Bool → Option ℕ → Calling
-calling called reselects released = record {
+calling called answered_reselection released = record {
   called = called;
-  reselects = reselects;
+  reselects = answered_reselection;
   at = 10207;
   released = released;
   withdrawn = None;
@@ -146,19 +147,19 @@ calling called reselects released = record {
   struck = false;
 }
 
-releases_bsy : links 0x10728 ages (calls_by 3 (Some (calling 5 false None))) (me 0x10728 10207) (wants None)
+releases_bsy :
+    linking_due 0x10728 distinct_times (calling_by 3 (Some (calling 5 false None))) (me 0x10728 10207) (want None)
     ≡ row (10207 + 90 + 7) 0x10528
 releases_bsy = refl
 
 -- A selection time-out delay; a selection abort time and two deskew delays.
-withdraws_the_ids :
-    links 0x10528 ages (calls_by 3 (Some (calling 5 false (Some 10304)))) (me 0x10528 10304) (wants None)
+withdraws_the_ids : linking_due 0x10528 distinct_times
+    (calling_by 3 (Some (calling 5 false (Some 10304)))) (me 0x10528 10304) (want None)
     ≡ row (10304 + 250000000 + 7) 0x10400
 withdraws_the_ids = refl
 
-gives_it_up :
-    links 0x10400 ages (calls_by 3 (Some (record (calling 5 false (Some 10304)) { withdrawn = Some 250010311 })))
-    (me 0x10400 250010311) (wants None)
+gives_it_up : linking_due 0x10400 distinct_times (calling_by 3
+    (Some (record (calling 5 false (Some 10304)) { withdrawn = Some 250010311 }))) (me 0x10400 250010311) (want None)
     ≡ row (250010311 + 200090 + 7) 0x00000
 gives_it_up = refl
 
@@ -166,8 +167,8 @@ gives_it_up = refl
 
 -- Device 7 released BSY at 11990, another one at 12000.
 abbrev called : Calling → ℕ → Option ℕ → Option Due
-called c own flip = link_due (sees 0x10588 (record ages { bsy = 12000; sel = 9000 }) (calls_by 7 (Some c)))
-    (me own 6207) (wants None) flip
+called c own flip = link_due (sight_of 0x10588 (record distinct_times { bsy = 12000; sel = 9000 })
+    (calling_by 7 (Some c))) (me own 6207) (want None) flip
 
 answers_the_call : called (calling 3 false (Some 11990)) 0x00000 None ≡ row (12000 + 400 + 7) 0x00200
 answers_the_call = refl
@@ -193,7 +194,8 @@ call_of_another = refl
 lost_before_the_call : called (calling 2 false (Some 11990)) 0x00208 None ≡ row (9000 + 7) 0x00000
 lost_before_the_call = refl
 
-sampled_when : sample_time (sees 0x10588 (record ages { bsy = 12000 }) (OnFreeBus 0)) (me 0x00000 0) ≡ 12000 + 400 + 7
+sampled_when : sample_time (sight_of 0x10588 (record distinct_times { bsy = 12000 }) (OnFreeBus 0)) (me 0x00000 0)
+    ≡ 12000 + 400 + 7
 sampled_when = refl
 
 -- ---- the answer: two deskew delays
@@ -201,48 +203,52 @@ sampled_when = refl
 abbrev answer_to : ℕ → Calling → Stage
 answer_to caller c = InAnswer (record { caller = caller; at = 9000; calling = Some c }) c 12407
 
-abbrev selects : Calling
-selects = record (calling 5 false (Some 10304)) { answered = Some 12407 }
+abbrev answered_selection : Calling
+answered_selection = record (calling 5 false (Some 10304)) { answered = Some 12407 }
 
-abbrev reselects : Calling
-reselects = record (calling 5 true (Some 10304)) { answered = Some 12407 }
+abbrev answered_reselection : Calling
+answered_reselection = record (calling 5 true (Some 10304)) { answered = Some 12407 }
 
-selection_ends : links 0x10728 ages (answer_to 3 selects) (me 0x10528 10304) (wants None) ≡ row (12407 + 90 + 7) 0x10000
+selection_ends : linking_due 0x10728 distinct_times (answer_to 3 answered_selection) (me 0x10528 10304) (want None)
+    ≡ row (12407 + 90 + 7) 0x10000
 selection_ends = refl
 
-target_drives_bsy : links 0x01728 ages (answer_to 3 reselects) (me 0x01528 10304) (wants_of true None (Some 5))
+target_drives_bsy : linking_due 0x01728 distinct_times
+    (answer_to 3 answered_reselection) (me 0x01528 10304) (want_of true None (Some 5))
     ≡ row (12407 + 7) 0x01728
 target_drives_bsy = refl
 
 -- IDENTIFY of unit 2 is 82, with parity.
-reselection_ends : links 0x01728 ages (answer_to 3 (record reselects { resumed = Some 12414 }))
-    (me 0x01728 12414) (wants_of true None (Some 5))
+reselection_ends : linking_due 0x01728 distinct_times
+    (answer_to 3 (record answered_reselection { resumed = Some 12414 })) (me 0x01728 12414) (want_of true None (Some 5))
     ≡ row (12414 + 90 + 7) 0x03b82
 unfolding ones
 reselection_ends = refl
 
-answered_and_waits : links 0x10788 ages (answer_to 7 (record selects { called = 3 })) (me 0x00200 12407) (wants None)
+answered_and_waits : linking_due 0x10788 distinct_times
+    (answer_to 7 (record answered_selection { called = 3 })) (me 0x00200 12407) (want None)
     ≡ None
 answered_and_waits = refl
 
-lost_before_the_answer : links 0x107a8 sel_at_9000 (answer_to 7 selects) (me 0x00208 6207) (wants None)
+lost_before_the_answer : linking_due 0x107a8 sel_at_9000 (answer_to 7 answered_selection) (me 0x00208 6207) (want None)
     ≡ row (9000 + 7) 0x00000
 lost_before_the_answer = refl
 
 -- ---- a connection
 
-abbrev connects : Stage
-connects = InConnection (record { initiator = 7; target = 0; began = 100; reselected = false })
+abbrev connected_stage : Stage
+connected_stage = InConnection (record { initiator = 7; target = 0; began = 100; reselected = false })
 
-stands_aside : links 0x00a00 ages connects (me 0x00000 0) (wants (Some 100)) ≡ None
+stands_aside : linking_due 0x00a00 distinct_times connected_stage (me 0x00000 0) (want (Some 100)) ≡ None
 stands_aside = refl
 
 -- ---- RST: a reset hold time
 
-clears_under_rst : links 0x20a00 ages (InReset 20000) (me 0x00a00 15000) (wants (Some 100)) ≡ row (20000 + 7) 0x00000
+clears_under_rst : linking_due 0x20a00 distinct_times (InReset 20000) (me 0x00a00 15000) (want (Some 100))
+    ≡ row (20000 + 7) 0x00000
 clears_under_rst = refl
 
-waits_under_rst : links 0x20000 ages (InReset 20000) (me 0x00000 20007) (wants (Some 100)) ≡ None
+waits_under_rst : linking_due 0x20000 distinct_times (InReset 20000) (me 0x00000 20007) (want (Some 100)) ≡ None
 waits_under_rst = refl
 
 -- A reset has no latency, and goes before what is due then or later.
@@ -276,24 +282,26 @@ pace pulsed = record {
 }
 
 -- A further byte 55, with parity, or none.
-abbrev offers : Bool → Offering
-offers follows = record { byte = 0x55; follows = follows; to = set_of 0x01a00; wait = 0 }
+abbrev offering : Bool → Offering
+offering follows = record { byte = 0x55; follows = follows; to = set_of 0x01a00; wait = 0 }
 
-abbrev gives : Bool → Bool → Answering
-gives attends speaks = record { byte = 0x12; attends = attends; speaks = speaks; raised = 40000 }
+abbrev answering_hand : Bool → Bool → Answering
+answering_hand attends speaks = record { byte = 0x12; attends = attends; speaks = speaks; raised = 40000 }
 
 abbrev target : ℕ → LineTimes → Handshakes → ℕ → Offering → Option Due
-target lines a b own g = hand_due true 0 None (sees lines a connects) b (me own 30000) (pace false) (Target g)
+target lines a b own g =
+    hand_due true 0 None (sight_of lines a connected_stage) b (me own 30000) (pace false) (Target g)
 
 abbrev initiator : ℕ → LineTimes → Handshakes → ℕ → Answering → Option Due
-initiator lines a b own g = hand_due true 0 None (sees lines a connects) b (me own 30000) (pace false) (Initiator g)
+initiator lines a b own g =
+    hand_due true 0 None (sight_of lines a connected_stage) b (me own 30000) (pace false) (Initiator g)
 
 abbrev some : Handshakes
 some = record no_handshakes { requests = 1; answers = 1 }
 
 -- A fault strikes the byte that crossed in the last row, without latency.
-fault_strikes_a_byte : hand_due true 30020 (Some 4) (sees 0x0c212 ages connects) some
-    (me 0x04a00 30000) (pace false) (Target (offers true))
+fault_strikes_a_byte : hand_due true 30020 (Some 4) (sight_of 0x0c212 distinct_times connected_stage) some
+    (me 0x04a00 30000) (pace false) (Target (offering true))
     ≡ Some (record { time = 30020; kind = Fault 4 })
 fault_strikes_a_byte = refl
 
@@ -308,174 +316,185 @@ not_sampled = refl
 
 -- ---- a connection begins
 
-begins_message_out : hand_due false 0 None (sees 0x10200 (record ages { sel = 31000 }) connects) no_handshakes
-    (me 0x00200 30000) (pace true) (Target (offers true))
+begins_message_out : hand_due false 0 None (sight_of 0x10200 (record distinct_times { sel = 31000 }) connected_stage)
+    no_handshakes (me 0x00200 30000) (pace true) (Target (offering true))
     ≡ row (31000 + 7) 0x02a00
 begins_message_out = refl
 
-selected_waits : hand_due false 0 None (sees 0x10200 (record ages { sel = 31000 }) connects) no_handshakes
-    (me 0x10000 30000) (pace true) (Initiator (gives true false))
+selected_waits : hand_due false 0 None (sight_of 0x10200 (record distinct_times { sel = 31000 }) connected_stage)
+    no_handshakes (me 0x10000 30000) (pace true) (Initiator (answering_hand true false))
     ≡ None
 selected_waits = refl
 
-lets_bsy_go : initiator 0x03b82 (record ages { sel = 31000 }) no_handshakes 0x00200 (gives false false)
+lets_bsy_go :
+    initiator 0x03b82 (record distinct_times { sel = 31000 }) no_handshakes 0x00200 (answering_hand false false)
     ≡ row (31000 + 7) 0x00000
 lets_bsy_go = refl
 
 -- What it still drives of a pulsed phase it releases a hold time after it raised ACK.
-owed_release : initiator 0x01a00 ages no_handshakes 0x00112 (gives false false) ≡ row (40000 + 100 + 7) 0x00000
+owed_release : initiator 0x01a00 distinct_times no_handshakes 0x00112 (answering_hand false false)
+    ≡ row (40000 + 100 + 7) 0x00000
 owed_release = refl
 
 -- ---- the target, byte by byte: the first byte
 
 abbrev command_at_20000 : LineTimes
-command_at_20000 = record ages { cd = 20000 }
+command_at_20000 = record distinct_times { cd = 20000 }
 
 abbrev turned_at_20000 : LineTimes
-turned_at_20000 = record ages { io = 20000; cd = 20000 }
+turned_at_20000 = record distinct_times { io = 20000; cd = 20000 }
 
-first_req_of_command : target 0x00a00 command_at_20000 no_handshakes 0x00a00 (offers true)
+first_req_of_command : target 0x00a00 command_at_20000 no_handshakes 0x00a00 (offering true)
     ≡ row (20000 + 400 + 7) 0x04a00
 first_req_of_command = refl
 
-first_req_of_message_out : target 0x02a00 (record ages { msg = 20000 }) no_handshakes 0x02a00 (offers true)
+first_req_of_message_out : target 0x02a00 (record distinct_times { msg = 20000 }) no_handshakes 0x02a00 (offering true)
     ≡ row (20000 + 400 + 7) 0x06a00
 first_req_of_message_out = refl
 
-first_byte_after_the_turn : target 0x01a00 turned_at_20000 no_handshakes 0x01a00 (offers true)
+first_byte_after_the_turn : target 0x01a00 turned_at_20000 no_handshakes 0x01a00 (offering true)
     ≡ row (20000 + 800 + 7) 0x01b55
 unfolding ones
 first_byte_after_the_turn = refl
 
-first_req_after_the_turn : target 0x01b55 turned_at_20000 no_handshakes 0x01b55 (offers true)
+first_req_after_the_turn : target 0x01b55 turned_at_20000 no_handshakes 0x01b55 (offering true)
     ≡ row (30000 + 55 + 7) 0x05b55
 first_req_after_the_turn = refl
 
 -- I/O was true before, or has turned to false.
-first_req_with_io : target 0x01b55 command_at_20000 no_handshakes 0x01b55 (offers true) ≡ row (20000 + 400 + 7) 0x05b55
+first_req_with_io : target 0x01b55 command_at_20000 no_handshakes 0x01b55 (offering true)
+    ≡ row (20000 + 400 + 7) 0x05b55
 first_req_with_io = refl
 
-first_req_turned_back : target 0x00a00 turned_at_20000 no_handshakes 0x00a00 (offers true)
+first_req_turned_back : target 0x00a00 turned_at_20000 no_handshakes 0x00a00 (offering true)
     ≡ row (20000 + 400 + 7) 0x04a00
 first_req_turned_back = refl
 
 -- ---- the target, byte by byte: REQ falls, and rises again
 
 abbrev acked_at_30100 : LineTimes
-acked_at_30100 = record ages { ack = 30100 }
+acked_at_30100 = record distinct_times { ack = 30100 }
 
-waits_for_ack : target 0x05b55 ages some 0x05b55 (offers true) ≡ None
+waits_for_ack : target 0x05b55 distinct_times some 0x05b55 (offering true) ≡ None
 waits_for_ack = refl
 
-req_falls_with_a_byte : target 0x0db00 acked_at_30100 some 0x05b00 (offers true) ≡ row (30100 + 7) 0x01b55
+req_falls_with_a_byte : target 0x0db00 acked_at_30100 some 0x05b00 (offering true) ≡ row (30100 + 7) 0x01b55
 unfolding ones
 req_falls_with_a_byte = refl
 
-req_falls_with_none : target 0x0db00 acked_at_30100 some 0x05b00 (offers false) ≡ row (30100 + 7) 0x01a00
+req_falls_with_none : target 0x0db00 acked_at_30100 some 0x05b00 (offering false) ≡ row (30100 + 7) 0x01a00
 req_falls_with_none = refl
 
-req_falls_to_the_target : target 0x0cb12 acked_at_30100 some 0x04a00 (offers true) ≡ row (30100 + 7) 0x00a00
+req_falls_to_the_target : target 0x0cb12 acked_at_30100 some 0x04a00 (offering true) ≡ row (30100 + 7) 0x00a00
 req_falls_to_the_target = refl
 
-waits_for_no_ack : target 0x09b55 acked_at_30100 some 0x01b55 (offers true) ≡ None
+waits_for_no_ack : target 0x09b55 acked_at_30100 some 0x01b55 (offering true) ≡ None
 waits_for_no_ack = refl
 
-next_req_to_the_target : target 0x00a00 (record ages { ack = 30010 }) some 0x00a00 (offers true)
+next_req_to_the_target : target 0x00a00 (record distinct_times { ack = 30010 }) some 0x00a00 (offering true)
     ≡ row (30010 + 7) 0x04a00
 next_req_to_the_target = refl
 
-next_req_after_the_byte : target 0x01b55 (record ages { ack = 30010 }) some 0x01b55 (offers true)
+next_req_after_the_byte : target 0x01b55 (record distinct_times { ack = 30010 }) some 0x01b55 (offering true)
     ≡ row (30000 + 55 + 7) 0x05b55
 next_req_after_the_byte = refl
 
-next_req_after_ack : target 0x01b55 (record ages { ack = 30060 }) some 0x01b55 (offers true) ≡ row (30060 + 7) 0x05b55
+next_req_after_ack : target 0x01b55 (record distinct_times { ack = 30060 }) some 0x01b55 (offering true)
+    ≡ row (30060 + 7) 0x05b55
 next_req_after_ack = refl
 
-leaves_on_ack_false : target 0x01200 acked_at_30100 some 0x01200 (offers false) ≡ row (30100 + 7) 0x01a00
+leaves_on_ack_false : target 0x01200 acked_at_30100 some 0x01200 (offering false) ≡ row (30100 + 7) 0x01a00
 leaves_on_ack_false = refl
 
-leaves_after_the_seek : target 0x00a00 acked_at_30100 some 0x00a00 (record (offers false) { wait = 5000 })
+leaves_after_the_seek : target 0x00a00 acked_at_30100 some 0x00a00 (record (offering false) { wait = 5000 })
     ≡ row (30100 + 5000 + 7) 0x01a00
 leaves_after_the_seek = refl
 
 -- ---- the initiator, byte by byte: a byte to it
 
 abbrev asked_at_31000 : LineTimes
-asked_at_31000 = record ages { req = 31000 }
+asked_at_31000 = record distinct_times { req = 31000 }
 
-waits_for_req : initiator 0x01b55 ages some 0x00000 (gives true true) ≡ None
+waits_for_req : initiator 0x01b55 distinct_times some 0x00000 (answering_hand true true) ≡ None
 waits_for_req = refl
 
-takes_a_byte : initiator 0x05b55 asked_at_31000 some 0x00000 (gives true false) ≡ row (31000 + 7) 0x08000
+takes_a_byte : initiator 0x05b55 asked_at_31000 some 0x00000 (answering_hand true false) ≡ row (31000 + 7) 0x08000
 takes_a_byte = refl
 
-takes_a_struck_byte : initiator 0x05b55 asked_at_31000 (record some { struck = true }) 0x00000 (gives false false)
+takes_a_struck_byte :
+    initiator 0x05b55 asked_at_31000 (record some { struck = true }) 0x00000 (answering_hand false false)
     ≡ row (31000 + 7) 0x18000
 takes_a_struck_byte = refl
 
-takes_a_request : initiator 0x07b55 asked_at_31000 some 0x00000 (gives false true) ≡ row (31000 + 7) 0x18000
+takes_a_request : initiator 0x07b55 asked_at_31000 some 0x00000 (answering_hand false true) ≡ row (31000 + 7) 0x18000
 takes_a_request = refl
 
-takes_with_attention : initiator 0x15b55 asked_at_31000 some 0x10000 (gives false false) ≡ row (31000 + 7) 0x18000
+takes_with_attention : initiator 0x15b55 asked_at_31000 some 0x10000 (answering_hand false false)
+    ≡ row (31000 + 7) 0x18000
 takes_with_attention = refl
 
-waits_for_no_req : initiator 0x0db55 asked_at_31000 some 0x08000 (gives false false) ≡ None
+waits_for_no_req : initiator 0x0db55 asked_at_31000 some 0x08000 (answering_hand false false) ≡ None
 waits_for_no_req = refl
 
-ack_falls : initiator 0x08a12 (record ages { req = 31010; ack = 30000; atn = 30000 }) some 0x08112 (gives false false)
-    ≡ row (31010 + 7) 0x00000
+ack_falls : initiator 0x08a12 (record distinct_times { req = 31010; ack = 30000; atn = 30000 }) some 0x08112
+    (answering_hand false false) ≡ row (31010 + 7) 0x00000
 ack_falls = refl
 
 -- ATN fell with this ACK.
-ack_falls_without_attention :
-    initiator 0x09b55 (record ages { req = 30050; ack = 30000; atn = 30000 }) some 0x08000 (gives false false)
+ack_falls_without_attention : initiator 0x09b55
+    (record distinct_times { req = 30050; ack = 30000; atn = 30000 }) some 0x08000 (answering_hand false false)
     ≡ row (30050 + 7) 0x00000
 ack_falls_without_attention = refl
 
 -- ATN rose with this ACK: two deskew delays, and REQ false.
-delayed_ack : initiator 0x19b55 (record ages { req = 30050; ack = 30000; atn = 30000 }) some 0x18000 (gives false false)
-    ≡ row (30000 + 90 + 7) 0x10000
+delayed_ack : initiator 0x19b55 (record distinct_times { req = 30050; ack = 30000; atn = 30000 }) some 0x18000
+    (answering_hand false false) ≡ row (30000 + 90 + 7) 0x10000
 delayed_ack = refl
 
-delayed_ack_and_req :
-    initiator 0x19b55 (record ages { req = 30100; ack = 30000; atn = 30000 }) some 0x18000 (gives false false)
+delayed_ack_and_req : initiator 0x19b55
+    (record distinct_times { req = 30100; ack = 30000; atn = 30000 }) some 0x18000 (answering_hand false false)
     ≡ row (30100 + 7) 0x10000
 delayed_ack_and_req = refl
 
-ack_with_older_attention :
-    initiator 0x19b55 (record ages { req = 30050; ack = 30000; atn = 29999 }) some 0x18000 (gives false false)
+ack_with_older_attention : initiator 0x19b55
+    (record distinct_times { req = 30050; ack = 30000; atn = 29999 }) some 0x18000 (answering_hand false false)
     ≡ row (30050 + 7) 0x10000
 ack_with_older_attention = refl
 
 -- ---- the initiator, byte by byte: a byte from it
 
-drives_a_command_byte : initiator 0x04a00 asked_at_31000 some 0x00000 (gives true false) ≡ row (31000 + 7) 0x00112
+drives_a_command_byte : initiator 0x04a00 asked_at_31000 some 0x00000 (answering_hand true false)
+    ≡ row (31000 + 7) 0x00112
 unfolding ones
 drives_a_command_byte = refl
 
-attends_while_a_byte_follows : initiator 0x06a00 asked_at_31000 some 0x00000 (gives true false)
+attends_while_a_byte_follows : initiator 0x06a00 asked_at_31000 some 0x00000 (answering_hand true false)
     ≡ row (31000 + 7) 0x10112
 unfolding ones
 attends_while_a_byte_follows = refl
 
-last_byte_negates_attention : initiator 0x16a00 asked_at_31000 some 0x10000 (gives false false)
+last_byte_negates_attention : initiator 0x16a00 asked_at_31000 some 0x10000 (answering_hand false false)
     ≡ row (31000 + 7) 0x00112
 unfolding ones
 last_byte_negates_attention = refl
 
-attention_stays_in_command : initiator 0x14a00 asked_at_31000 some 0x10000 (gives false false) ≡ row (31000 + 7) 0x10112
+attention_stays_in_command : initiator 0x14a00 asked_at_31000 some 0x10000 (answering_hand false false)
+    ≡ row (31000 + 7) 0x10112
 unfolding ones
 attention_stays_in_command = refl
 
-set_up_before_ack : initiator 0x04b12 (record ages { req = 29990; atn = 30000 }) some 0x00112 (gives false false)
+set_up_before_ack :
+    initiator 0x04b12 (record distinct_times { req = 29990; atn = 30000 }) some 0x00112 (answering_hand false false)
     ≡ row (30000 + 55 + 7) 0x08112
 set_up_before_ack = refl
 
-ack_after_attention : initiator 0x06b12 (record ages { req = 29990; atn = 30000 }) some 0x00112 (gives false false)
+ack_after_attention :
+    initiator 0x06b12 (record distinct_times { req = 29990; atn = 30000 }) some 0x00112 (answering_hand false false)
     ≡ row (30000 + 90 + 7) 0x08112
 ack_after_attention = refl
 
-ack_after_older_attention : initiator 0x16b12 (record ages { req = 29990; atn = 29960 }) some 0x10112 (gives true false)
+ack_after_older_attention :
+    initiator 0x16b12 (record distinct_times { req = 29990; atn = 29960 }) some 0x10112 (answering_hand true false)
     ≡ row (30000 + 55 + 7) 0x18112
 ack_after_older_attention = refl
 
@@ -488,8 +507,8 @@ abbrev struck_request : ℕ → Request
 struck_request time = record { time = time; struck = true }
 
 -- REQ rose four times, last at 50000, ACK three times, last at 49900; these wait for their answers.
-abbrev pulses : List Request → Handshakes
-pulses waiting = record {
+abbrev pulsed_handshakes : List Request → Handshakes
+pulsed_handshakes waiting = record {
   requests = 4;
   answers = 3;
   last_req = 50000;
@@ -501,41 +520,46 @@ pulses waiting = record {
 }
 
 abbrev pulsing : ℕ → LineTimes → Handshakes → ℕ → Offering → Option Due
-pulsing lines a b own g = hand_due true 0 None (sees lines a connects) b (me own 50030) (pace true) (Target g)
+pulsing lines a b own g =
+    hand_due true 0 None (sight_of lines a connected_stage) b (me own 50030) (pace true) (Target g)
 
-req_pulse_ends : pulsing 0x05355 (record ages { req = 50000 }) (pulses (request 50000 ∷ [])) 0x05355 (offers true)
+req_pulse_ends : pulsing 0x05355 (record distinct_times { req = 50000 })
+    (pulsed_handshakes (request 50000 ∷ [])) 0x05355 (offering true)
     ≡ row (50000 + 80 + 7) 0x01355
 req_pulse_ends = refl
 
-first_req_pulse : pulsing 0x00200 command_at_20000 no_handshakes 0x00200 (offers true) ≡ row (20000 + 400 + 7) 0x04200
+first_req_pulse : pulsing 0x00200 command_at_20000 no_handshakes 0x00200 (offering true) ≡ row (20000 + 400 + 7) 0x04200
 first_req_pulse = refl
 
-first_byte_of_pulses : pulsing 0x01200 turned_at_20000 no_handshakes 0x01200 (offers true)
+first_byte_of_pulses : pulsing 0x01200 turned_at_20000 no_handshakes 0x01200 (offering true)
     ≡ row (20000 + 800 + 7) 0x01355
 unfolding ones
 first_byte_of_pulses = refl
 
 -- The byte changes at the end of its hold time, after the last one to none.
-byte_changes : pulsing 0x01200 (record ages { req = 50087 }) (pulses (request 50000 ∷ [])) 0x01300 (offers true)
+byte_changes : pulsing 0x01200 (record distinct_times { req = 50087 })
+    (pulsed_handshakes (request 50000 ∷ [])) 0x01300 (offering true)
     ≡ row (50000 + 100 + 7) 0x01355
 unfolding ones
 byte_changes = refl
 
-last_byte_is_held : pulsing 0x01200 (record ages { req = 50087 }) (pulses (request 50000 ∷ [])) 0x01355 (offers false)
+last_byte_is_held : pulsing 0x01200 (record distinct_times { req = 50087 })
+    (pulsed_handshakes (request 50000 ∷ [])) 0x01355 (offering false)
     ≡ row (50000 + 100 + 7) 0x01200
 last_byte_is_held = refl
 
 -- No pulse is answered yet.
-second_req_pulse : pulsing 0x00200 (record ages { req = 50087 })
-    (record (pulses (request 50000 ∷ [])) { requests = 1; answers = 0; last_ack = 0 }) 0x00200 (offers true)
+second_req_pulse : pulsing 0x00200 (record distinct_times {
+  req = 50087;
+}) (record (pulsed_handshakes (request 50000 ∷ [])) { requests = 1; answers = 0; last_ack = 0 }) 0x00200 (offering true)
     ≡ row (50000 + 260 + 7) 0x04200
 second_req_pulse = refl
 
 -- The next pulse: a period after the last one, a negation period after its end, a set-up time after the byte. An equal
 -- byte counts as driven at the end of the hold time and the latency.
 abbrev after_pulse : Pace → ℕ → ℕ → Option Due
-after_pulse p lines fell = hand_due true 0 None (sees lines (record ages { req = fell }) connects)
-    (pulses (request 50000 ∷ [])) (me lines 50030) p (Target (offers true))
+after_pulse p lines fell = hand_due true 0 None (sight_of lines (record distinct_times { req = fell }) connected_stage)
+    (pulsed_handshakes (request 50000 ∷ [])) (me lines 50030) p (Target (offering true))
 
 pulse_after_a_period : after_pulse (pace true) 0x01355 50087 ≡ row (50000 + 260 + 7) 0x05355
 unfolding ones
@@ -557,115 +581,122 @@ pulse_to_the_target : after_pulse (record (pace true) {
 pulse_to_the_target = refl
 
 -- The offset is 2.
-pulses_fill_the_offset :
-    pulsing 0x00200 (record ages { req = 50087 }) (pulses (request 49800 ∷ request 50000 ∷ [])) 0x00200 (offers true)
+pulses_fill_the_offset : pulsing 0x00200 (record distinct_times { req = 50087 })
+    (pulsed_handshakes (request 49800 ∷ request 50000 ∷ [])) 0x00200 (offering true)
     ≡ None
 pulses_fill_the_offset = refl
 
 -- Room is since the first ACK after the REQ that filled the offset, and was before where none filled it.
-room_since_the_first_ack : pulsing 0x00200 (record ages { req = 50087; ack = 52080 })
-    (record (pulses (request 50000 ∷ [])) { reach = 2; relieved = Some 51000; last_ack = 52000 }) 0x00200 (offers true)
-    ≡ row (51000 + 7) 0x04200
+room_since_the_first_ack : pulsing 0x00200 (record distinct_times { req = 50087; ack = 52080 })
+    (record (pulsed_handshakes (request 50000 ∷ [])) { reach = 2; relieved = Some 51000; last_ack = 52000 }) 0x00200
+    (offering true) ≡ row (51000 + 7) 0x04200
 room_since_the_first_ack = refl
 
-room_was_before : pulsing 0x00200 (record ages { req = 50087; ack = 52080 })
-    (record (pulses (request 50000 ∷ [])) { reach = 1; relieved = Some 51000; last_ack = 52000 }) 0x00200 (offers true)
-    ≡ row (50000 + 260 + 7) 0x04200
+room_was_before : pulsing 0x00200 (record distinct_times { req = 50087; ack = 52080 })
+    (record (pulsed_handshakes (request 50000 ∷ [])) { reach = 1; relieved = Some 51000; last_ack = 52000 }) 0x00200
+    (offering true) ≡ row (50000 + 260 + 7) 0x04200
 room_was_before = refl
 
 -- The phase is left once all pulses are answered, ACK is false, and the last byte has been held.
-leaves_when_held : pulsing 0x01200 (record ages { req = 50087; ack = 50090 }) (pulses []) 0x01200 (offers false)
+leaves_when_held :
+    pulsing 0x01200 (record distinct_times { req = 50087; ack = 50090 }) (pulsed_handshakes []) 0x01200 (offering false)
     ≡ row (50000 + 100 + 7) 0x01a00
 leaves_when_held = refl
 
-leaves_when_ack_is_false : pulsing 0x01200 (record ages { req = 50087; ack = 50200 }) (pulses []) 0x01200 (offers false)
+leaves_when_ack_is_false :
+    pulsing 0x01200 (record distinct_times { req = 50087; ack = 50200 }) (pulsed_handshakes []) 0x01200 (offering false)
     ≡ row (50200 + 7) 0x01a00
 leaves_when_ack_is_false = refl
 
 -- The last byte to the target is held from ACK on.
-leaves_when_held_by_the_initiator : pulsing 0x00200 (record ages { req = 50087; ack = 50510 })
-    (record (pulses []) { last_ack = 50430 }) 0x00200 (offers false)
+leaves_when_held_by_the_initiator : pulsing 0x00200 (record distinct_times { req = 50087; ack = 50510 })
+    (record (pulsed_handshakes []) { last_ack = 50430 }) 0x00200 (offering false)
     ≡ row (50430 + 100 + 7) 0x01a00
 leaves_when_held_by_the_initiator = refl
 
-stays_while_unanswered :
-    pulsing 0x01200 (record ages { req = 50087; ack = 50200 }) (pulses (request 50000 ∷ [])) 0x01200 (offers false)
+stays_while_unanswered : pulsing 0x01200 (record distinct_times { req = 50087; ack = 50200 })
+    (pulsed_handshakes (request 50000 ∷ [])) 0x01200 (offering false)
     ≡ None
 stays_while_unanswered = refl
 
-stays_while_ack_is_true : pulsing 0x09200 (record ages { req = 50087; ack = 50200 }) (pulses []) 0x01200 (offers false)
+stays_while_ack_is_true :
+    pulsing 0x09200 (record distinct_times { req = 50087; ack = 50200 }) (pulsed_handshakes []) 0x01200 (offering false)
     ≡ None
 stays_while_ack_is_true = refl
 
 -- ---- the initiator, by pulses
 
 abbrev answering : ℕ → LineTimes → Handshakes → ℕ → Option Due
-answering lines a b own =
-    hand_due true 0 None (sees lines a connects) b (me own 30000) (pace true) (Initiator (gives false false))
+answering lines a b own = hand_due true 0 None (sight_of lines a connected_stage) b (me own 30000) (pace true)
+    (Initiator (answering_hand false false))
 
-ack_pulse_ends : answering 0x08212 (record ages { ack = 50000; atn = 40000 }) (pulses []) 0x08112
+ack_pulse_ends : answering 0x08212 (record distinct_times { ack = 50000; atn = 40000 }) (pulsed_handshakes []) 0x08112
     ≡ row (50000 + 80 + 7) 0x00112
 ack_pulse_ends = refl
 
 -- ATN rose with it: two deskew delays, if that is longer.
-ack_pulse_with_attention : answering 0x19200 (record ages { ack = 50000; atn = 50000 }) (pulses []) 0x18000
+ack_pulse_with_attention :
+    answering 0x19200 (record distinct_times { ack = 50000; atn = 50000 }) (pulsed_handshakes []) 0x18000
     ≡ row (50000 + 90 + 7) 0x10000
 ack_pulse_with_attention = refl
 
-long_ack_pulse_with_attention : hand_due true 0 None (sees 0x19200 (record ages { ack = 50000; atn = 50000 }) connects)
-    (pulses []) (me 0x18000 50000) (record (pace true) {
+long_ack_pulse_with_attention :
+    hand_due true 0 None (sight_of 0x19200 (record distinct_times { ack = 50000; atn = 50000 }) connected_stage)
+    (pulsed_handshakes []) (me 0x18000 50000) (record (pace true) {
       times = record { period = 260; assertion = 91; negation = 95; set_up = 55; hold = 100 };
-    }) (Initiator (gives false false))
+    }) (Initiator (answering_hand false false))
     ≡ row (50000 + 91 + 7) 0x10000
 long_ack_pulse_with_attention = refl
 
 -- An ACK pulse begins its lag after the oldest REQ pulse, a period after the last, a negation period after its end.
-ack_pulse_after_the_lag :
-    answering 0x01255 (record ages { ack = 49980 }) (pulses (request 50000 ∷ request 50200 ∷ [])) 0x00000
+ack_pulse_after_the_lag : answering 0x01255 (record distinct_times { ack = 49980 })
+    (pulsed_handshakes (request 50000 ∷ request 50200 ∷ [])) 0x00000
     ≡ row (50000 + 300 + 7) 0x08000
 ack_pulse_after_the_lag = refl
 
-ack_pulse_after_a_period :
-    answering 0x01255 (record ages { ack = 49980 }) (record (pulses (request 49500 ∷ [])) { last_ack = 49900 }) 0x00000
+ack_pulse_after_a_period : answering 0x01255 (record distinct_times { ack = 49980 })
+    (record (pulsed_handshakes (request 49500 ∷ [])) { last_ack = 49900 }) 0x00000
     ≡ row (49900 + 260 + 7) 0x08000
 ack_pulse_after_a_period = refl
 
-ack_pulse_after_the_negation :
-    answering 0x01255 (record ages { ack = 50070 }) (record (pulses (request 49500 ∷ [])) { last_ack = 49900 }) 0x00000
+ack_pulse_after_the_negation : answering 0x01255 (record distinct_times { ack = 50070 })
+    (record (pulsed_handshakes (request 49500 ∷ [])) { last_ack = 49900 }) 0x00000
     ≡ row (50070 + 95 + 7) 0x08000
 ack_pulse_after_the_negation = refl
 
 -- Nothing was answered in this phase.
-first_ack_pulse : answering 0x01255 (record ages { ack = 49980 })
-    (record (pulses (request 49500 ∷ [])) { answers = 0; last_ack = 0 }) 0x00000
+first_ack_pulse : answering 0x01255 (record distinct_times { ack = 49980 })
+    (record (pulsed_handshakes (request 49500 ∷ [])) { answers = 0; last_ack = 0 }) 0x00000
     ≡ row (49500 + 300 + 7) 0x08000
 first_ack_pulse = refl
 
 -- With ATN where the byte of the oldest was struck.
-ack_pulse_of_a_struck_byte :
-    answering 0x01255 (record ages { ack = 49980 }) (pulses (struck_request 50000 ∷ request 50200 ∷ [])) 0x00000
+ack_pulse_of_a_struck_byte : answering 0x01255 (record distinct_times { ack = 49980 })
+    (pulsed_handshakes (struck_request 50000 ∷ request 50200 ∷ [])) 0x00000
     ≡ row (50000 + 300 + 7) 0x18000
 ack_pulse_of_a_struck_byte = refl
 
-ack_pulse_before_a_struck_byte : answering 0x01255 (record ages { ack = 49980 })
-    (record (pulses (request 50000 ∷ struck_request 50200 ∷ [])) { struck = true }) 0x00000
+ack_pulse_before_a_struck_byte : answering 0x01255 (record distinct_times { ack = 49980 })
+    (record (pulsed_handshakes (request 50000 ∷ struck_request 50200 ∷ [])) { struck = true }) 0x00000
     ≡ row (50000 + 300 + 7) 0x08000
 ack_pulse_before_a_struck_byte = refl
 
 -- It drives its byte 12 at the rise of REQ, and not before the end of the hold time of the one before: it raised ACK
 -- last at 40000.
-byte_on_a_pulse : answering 0x04200 (record ages { ack = 40080 }) (pulses (request 50000 ∷ [])) 0x00000
+byte_on_a_pulse :
+    answering 0x04200 (record distinct_times { ack = 40080 }) (pulsed_handshakes (request 50000 ∷ [])) 0x00000
     ≡ row (50000 + 7) 0x00112
 unfolding ones
 byte_on_a_pulse = refl
 
-byte_after_the_hold : answering 0x04200 (record ages { ack = 40080 }) (pulses (request 40050 ∷ [])) 0x00155
+byte_after_the_hold :
+    answering 0x04200 (record distinct_times { ack = 40080 }) (pulsed_handshakes (request 40050 ∷ [])) 0x00155
     ≡ row (40000 + 100 + 7) 0x00112
 unfolding ones
 byte_after_the_hold = refl
 
-byte_on_the_first_pulse :
-    answering 0x04200 (record ages { ack = 40080 }) (record (pulses (request 40050 ∷ [])) { answers = 0 }) 0x00000
+byte_on_the_first_pulse : answering 0x04200 (record distinct_times { ack = 40080 })
+    (record (pulsed_handshakes (request 40050 ∷ [])) { answers = 0 }) 0x00000
     ≡ row (40050 + 7) 0x00112
 unfolding ones
 byte_on_the_first_pulse = refl
@@ -675,32 +706,35 @@ abbrev without_lag : Pace
 without_lag = record (pace true) { lag = 0 }
 
 ack_pulse_after_the_set_up :
-    hand_due true 0 None (sees 0x00312 (record ages { ack = 40080 }) connects) (record (pulses (request 50000 ∷ [])) {
+    hand_due true 0 None (sight_of 0x00312 (record distinct_times { ack = 40080 }) connected_stage)
+    (record (pulsed_handshakes (request 50000 ∷ [])) {
       last_ack = 40000;
-    }) (me 0x00112 50007) without_lag (Initiator (gives false false))
+    }) (me 0x00112 50007) without_lag (Initiator (answering_hand false false))
     ≡ row ((50000 + 7) + 55 + 7) 0x08112
 unfolding ones
 ack_pulse_after_the_set_up = refl
 
-ack_pulse_after_an_equal_byte : hand_due true 0 None (sees 0x00312 (record ages { ack = 40080 }) connects)
-    (record (pulses (request 40050 ∷ [])) { last_ack = 40000 }) (me 0x00112 30000) (record without_lag {
+ack_pulse_after_an_equal_byte :
+    hand_due true 0 None (sight_of 0x00312 (record distinct_times { ack = 40080 }) connected_stage)
+    (record (pulsed_handshakes (request 40050 ∷ [])) { last_ack = 40000 }) (me 0x00112 30000) (record without_lag {
       times = record { period = 100; assertion = 30; negation = 30; set_up = 55; hold = 100 };
-    }) (Initiator (gives false false))
+    }) (Initiator (answering_hand false false))
     ≡ row ((40000 + 100 + 7) + 55 + 7) 0x08112
 unfolding ones
 ack_pulse_after_an_equal_byte = refl
 
-ack_pulse_of_a_byte_after_the_lag :
-    answering 0x00312 (record ages { ack = 40080 }) (record (pulses (request 50000 ∷ [])) { last_ack = 40000 }) 0x00112
+ack_pulse_of_a_byte_after_the_lag : answering 0x00312 (record distinct_times { ack = 40080 })
+    (record (pulsed_handshakes (request 50000 ∷ [])) { last_ack = 40000 }) 0x00112
     ≡ row (50000 + 300 + 7) 0x08112
 unfolding ones
 ack_pulse_of_a_byte_after_the_lag = refl
 
 -- Where no REQ pulse is unanswered it releases its byte at the end of the hold time.
-byte_released : answering 0x00312 (record ages { ack = 40080 }) (pulses []) 0x00112 ≡ row (40000 + 100 + 7) 0x00000
+byte_released : answering 0x00312 (record distinct_times { ack = 40080 }) (pulsed_handshakes []) 0x00112
+    ≡ row (40000 + 100 + 7) 0x00000
 byte_released = refl
 
-nothing_to_release : answering 0x00200 (record ages { ack = 40080 }) (pulses []) 0x00000 ≡ None
+nothing_to_release : answering 0x00200 (record distinct_times { ack = 40080 }) (pulsed_handshakes []) 0x00000 ≡ None
 nothing_to_release = refl
 
 -- ---- what is seen of a bus on which device 0 has reselected device 7
@@ -715,11 +749,11 @@ connected = drive 5380 7 0x00000 ∷ drive 5380 0 0x03a80 ∷ drive 5290 0 0x017
 abbrev acked : List Row
 acked = drive 5790 7 0x18000 ∷ record { time = 5790; dev = 7; kind = Fault 3 } ∷ drive 5780 0 0x07a80 ∷ connected
 
-seen_at_the_start : sight [] ≡ sees 0x00000 no_times (OnFreeBus 0)
+seen_at_the_start : sight [] ≡ sight_of 0x00000 no_times (OnFreeBus 0)
 unfolding union_below
 seen_at_the_start = refl
 
-seen_in_the_connection : sight connected ≡ sees 0x03a80
+seen_in_the_connection : sight connected ≡ sight_of 0x03a80
     (record { bsy = 5290; sel = 5380; msg = 5380; cd = 5380; io = 4800; req = 0; ack = 0; atn = 0; rst = 0 })
     (InConnection (record { initiator = 7; target = 0; began = 5380; reselected = true }))
 unfolding union_below ones
@@ -736,30 +770,31 @@ unfolding union_below
 lines_stand_under_rst = refl
 
 -- A row that changes one line after another, at 70.
-abbrev changes : ℕ → ℕ → LineTimes
-changes before after = times_after ages (set_of before) (set_of after) 70
+abbrev change_times : ℕ → ℕ → LineTimes
+change_times before after = times_after distinct_times (set_of before) (set_of after) 70
 
-changes_every_line : changes 0x00000 0x3fe00
+changes_every_line : change_times 0x00000 0x3fe00
     ≡ record { bsy = 70; sel = 70; msg = 70; cd = 70; io = 70; req = 70; ack = 70; atn = 70; rst = 70 }
 changes_every_line = refl
 
-changes_every_line_back : changes 0x3fe00 0x00000
+changes_every_line_back : change_times 0x3fe00 0x00000
     ≡ record { bsy = 70; sel = 70; msg = 70; cd = 70; io = 70; req = 70; ack = 70; atn = 70; rst = 70 }
 changes_every_line_back = refl
 
-changes_data_alone : changes 0x3feff 0x3fe00 ≡ ages
+changes_data_alone : change_times 0x3feff 0x3fe00 ≡ distinct_times
 changes_data_alone = refl
 
-changes_every_second_line : changes 0x00a00 0x2a800 ≡ record ages { bsy = 70; msg = 70; ack = 70; rst = 70 }
+changes_every_second_line : change_times 0x00a00 0x2a800
+    ≡ record distinct_times { bsy = 70; msg = 70; ack = 70; rst = 70 }
 changes_every_second_line = refl
 
-changes_the_others : changes 0x05400 0x10000 ≡ record ages { sel = 70; io = 70; req = 70; atn = 70 }
+changes_the_others : change_times 0x05400 0x10000 ≡ record distinct_times { sel = 70; io = 70; req = 70; atn = 70 }
 changes_the_others = refl
 
 -- The last of the three phase lines; of BSY, SEL and RST.
 abbrev last_of : ℕ → ℕ → ℕ → LineTimes
 last_of first second third =
-    record ages { msg = first; cd = second; io = third; bsy = first; sel = second; rst = third }
+    record distinct_times { msg = first; cd = second; io = third; bsy = first; sel = second; rst = third }
 
 phase_lines_stand : phase_time (last_of 70 60 50) ∷ phase_time (last_of 60 70 50) ∷ phase_time (last_of 50 60 70) ∷ []
     ≡ 70 ∷ 70 ∷ 70 ∷ []

@@ -37,8 +37,8 @@ record Shows : Type 0 where
   ends : List (Option Outcome)
   carried : Bool
 
-abbrev shows : ScenarioValue → Story → List Event → Shows
-shows s b told = record { history = b.history; ends = outcomes s b; carried = all_carried s b told }
+abbrev shown : ScenarioValue → Story → List Event → Shows
+shown s b told = record { history = b.history; ends = outcomes s b; carried = all_carried s b told }
 
 abbrev command : ℕ → ProcId
 command n = record { command = n; sense = false }
@@ -67,7 +67,7 @@ aborts_and_resets_run_rows = drive 2389 6 0x00240 ∷ drive 4889 6 0x00640 ∷ d
 abbrev aborts_and_resets_run_events : List Event
 aborts_and_resets_run_events = events.Reset 3 ∷ events.Accept (command 5) ∷ events.Accept (command 1) ∷ events.Refuse (command 3) ∷ events.End (command 3) 40 ∷ events.Aborted 2 0 5 aborts.All ∷ events.Run (command 5) ∷ events.End (command 5) 2 ∷ events.Accept (sense 5) ∷ events.Run (sense 5) ∷ events.Reset 7 ∷ events.Accept (command 4) ∷ events.Aborted 1 0 5 aborts.Device ∷ events.Reset 3 ∷ []
 
-aborts_and_resets_run_told : shows aborts_and_resets_run (story aborts_and_resets_run (reverse aborts_and_resets_run_rows)) (reverse aborts_and_resets_run_events) ≡ record { history = reverse aborts_and_resets_run_events; ends = Some (ended_reset) ∷ Some (ended_reset) ∷ Some (ended_full) ∷ Some (ended_aborted) ∷ Some (ended_check None) ∷ []; carried = true }
+aborts_and_resets_run_told : shown aborts_and_resets_run (story aborts_and_resets_run (reverse aborts_and_resets_run_rows)) (reverse aborts_and_resets_run_events) ≡ record { history = reverse aborts_and_resets_run_events; ends = Some (ended_reset) ∷ Some (ended_reset) ∷ Some (ended_full) ∷ Some (ended_aborted) ∷ Some (ended_check None) ∷ []; carried = true }
 unfolding need_of sent_of ones union_below line_of form_out form_in
 aborts_and_resets_run_told = refl
 
@@ -92,7 +92,7 @@ all_run_rows = drive 1200 6 0x00240 ∷ drive 3600 6 0x00640 ∷ drive 4800 6 0x
 abbrev all_run_events : List Event
 all_run_events = events.Accept (command 1) ∷ events.Run (command 1) ∷ events.End (command 1) 2 ∷ events.Aborted 6 0 0 aborts.All ∷ events.Accept (command 2) ∷ events.Run (command 2) ∷ events.End (command 2) 0 ∷ events.Accept (command 3) ∷ events.Run (command 3) ∷ events.End (command 3) 0 ∷ []
 
-all_run_told : shows all_run (story all_run (reverse all_run_rows)) (reverse all_run_events) ≡ record { history = reverse all_run_events; ends = Some (ended_check None) ∷ Some (ended_good ([])) ∷ Some (ended_good (112 ∷ 0 ∷ 0 ∷ 0 ∷ 0 ∷ 0 ∷ 0 ∷ 10 ∷ 0 ∷ 0 ∷ 0 ∷ 0 ∷ 0 ∷ 0 ∷ 0 ∷ 0 ∷ 0 ∷ 0 ∷ [])) ∷ []; carried = true }
+all_run_told : shown all_run (story all_run (reverse all_run_rows)) (reverse all_run_events) ≡ record { history = reverse all_run_events; ends = Some (ended_check None) ∷ Some (ended_good ([])) ∷ Some (ended_good (112 ∷ 0 ∷ 0 ∷ 0 ∷ 0 ∷ 0 ∷ 0 ∷ 10 ∷ 0 ∷ 0 ∷ 0 ∷ 0 ∷ 0 ∷ 0 ∷ 0 ∷ 0 ∷ 0 ∷ 0 ∷ [])) ∷ []; carried = true }
 unfolding need_of sent_of ones union_below line_of form_out form_in
 all_run_told = refl
 
@@ -117,7 +117,7 @@ called_again_for_sense_run_rows = drive 1200 7 0x00280 ∷ drive 3600 7 0x00680 
 abbrev called_again_for_sense_run_events : List Event
 called_again_for_sense_run_events = events.Accept (command 1) ∷ events.Run (command 1) ∷ events.End (command 1) 2 ∷ events.Accept (sense 1) ∷ events.Run (sense 1) ∷ events.End (sense 1) 0 ∷ []
 
-called_again_for_sense_run_told : shows called_again_for_sense_run (story called_again_for_sense_run (reverse called_again_for_sense_run_rows)) (reverse called_again_for_sense_run_events) ≡ record { history = reverse called_again_for_sense_run_events; ends = Some (ended_check (Some (record { key = 5; asc = 33; ascq = 0 }))) ∷ []; carried = true }
+called_again_for_sense_run_told : shown called_again_for_sense_run (story called_again_for_sense_run (reverse called_again_for_sense_run_rows)) (reverse called_again_for_sense_run_events) ≡ record { history = reverse called_again_for_sense_run_events; ends = Some (ended_check (Some (record { key = 5; asc = 33; ascq = 0 }))) ∷ []; carried = true }
 unfolding need_of sent_of ones union_below line_of form_out form_in
 called_again_for_sense_run_told = refl
 
@@ -146,7 +146,7 @@ capacity_of_the_largest_run_rows = drive 1200 7 0x00280 ∷ drive 3600 7 0x00680
 abbrev capacity_of_the_largest_run_events : List Event
 capacity_of_the_largest_run_events = events.Accept (command 1) ∷ events.Run (command 1) ∷ events.End (command 1) 0 ∷ []
 
-capacity_of_the_largest_run_told : shows capacity_of_the_largest_run (story capacity_of_the_largest_run (reverse capacity_of_the_largest_run_rows)) (reverse capacity_of_the_largest_run_events) ≡ record { history = reverse capacity_of_the_largest_run_events; ends = Some (ended_good (255 ∷ 255 ∷ 255 ∷ 255 ∷ 0 ∷ 0 ∷ 2 ∷ 0 ∷ [])) ∷ []; carried = true }
+capacity_of_the_largest_run_told : shown capacity_of_the_largest_run (story capacity_of_the_largest_run (reverse capacity_of_the_largest_run_rows)) (reverse capacity_of_the_largest_run_events) ≡ record { history = reverse capacity_of_the_largest_run_events; ends = Some (ended_good (255 ∷ 255 ∷ 255 ∷ 255 ∷ 0 ∷ 0 ∷ 2 ∷ 0 ∷ [])) ∷ []; carried = true }
 unfolding need_of sent_of ones union_below line_of form_out form_in
 capacity_of_the_largest_run_told = refl
 
@@ -171,7 +171,7 @@ checks_run_rows = drive 1200 7 0x00280 ∷ drive 1200 6 0x00240 ∷ drive 3600 7
 abbrev checks_run_events : List Event
 checks_run_events = events.Accept (command 1) ∷ events.Accept (command 2) ∷ events.Run (command 1) ∷ events.End (command 1) 2 ∷ events.Accept (sense 1) ∷ events.Run (sense 1) ∷ events.End (sense 1) 0 ∷ events.Run (command 2) ∷ events.End (command 2) 0 ∷ []
 
-checks_run_told : shows checks_run (story checks_run (reverse checks_run_rows)) (reverse checks_run_events) ≡ record { history = reverse checks_run_events; ends = Some (ended_check (Some (record { key = 5; asc = 33; ascq = 0 }))) ∷ Some (ended_good ([])) ∷ []; carried = true }
+checks_run_told : shown checks_run (story checks_run (reverse checks_run_rows)) (reverse checks_run_events) ≡ record { history = reverse checks_run_events; ends = Some (ended_check (Some (record { key = 5; asc = 33; ascq = 0 }))) ∷ Some (ended_good ([])) ∷ []; carried = true }
 unfolding need_of sent_of ones union_below line_of form_out form_in
 checks_run_told = refl
 
@@ -196,7 +196,7 @@ conflicts_run_rows = drive 1200 7 0x00280 ∷ drive 1200 6 0x00240 ∷ drive 360
 abbrev conflicts_run_events : List Event
 conflicts_run_events = events.Accept (command 1) ∷ events.Accept (command 2) ∷ events.Accept (command 3) ∷ events.Accept (command 4) ∷ events.Run (command 1) ∷ events.End (command 1) 0 ∷ events.Run (command 4) ∷ events.End (command 4) 0 ∷ events.Run (command 2) ∷ events.End (command 2) 0 ∷ events.Run (command 3) ∷ events.End (command 3) 0 ∷ []
 
-conflicts_run_told : shows conflicts_run (story conflicts_run (reverse conflicts_run_rows)) (reverse conflicts_run_events) ≡ record { history = reverse conflicts_run_events; ends = Some (ended_good ([])) ∷ Some (ended_good ([])) ∷ Some (ended_good ([])) ∷ Some (ended_good ([])) ∷ []; carried = true }
+conflicts_run_told : shown conflicts_run (story conflicts_run (reverse conflicts_run_rows)) (reverse conflicts_run_events) ≡ record { history = reverse conflicts_run_events; ends = Some (ended_good ([])) ∷ Some (ended_good ([])) ∷ Some (ended_good ([])) ∷ Some (ended_good ([])) ∷ []; carried = true }
 unfolding need_of sent_of ones union_below line_of form_out form_in
 conflicts_run_told = refl
 
@@ -221,7 +221,7 @@ failures_run_rows = drive 24181 3 0x00208 ∷ drive 26681 3 0x00608 ∷ drive 27
 abbrev failures_run_events : List Event
 failures_run_events = events.Fail (command 1) 71 ∷ events.End (command 1) 2 ∷ events.Reset 0 ∷ events.Fail (command 2) 71 ∷ events.End (command 2) 2 ∷ events.Accept (sense 2) ∷ events.Reset 1 ∷ events.Aborted 3 0 0 aborts.WholeQueue ∷ events.Aborted 3 1 4 (aborts.Tag 255) ∷ events.Accept (command 3) ∷ events.Run (command 3) ∷ events.End (command 3) 2 ∷ events.Accept (sense 3) ∷ events.Run (sense 3) ∷ events.End (sense 3) 0 ∷ []
 
-failures_run_told : shows failures_run (story failures_run (reverse failures_run_rows)) (reverse failures_run_events) ≡ record { history = reverse failures_run_events; ends = Some (ended_check None) ∷ Some (ended_check None) ∷ Some (ended_check (Some (record { key = 6; asc = 41; ascq = 0 }))) ∷ []; carried = true }
+failures_run_told : shown failures_run (story failures_run (reverse failures_run_rows)) (reverse failures_run_events) ≡ record { history = reverse failures_run_events; ends = Some (ended_check None) ∷ Some (ended_check None) ∷ Some (ended_check (Some (record { key = 6; asc = 41; ascq = 0 }))) ∷ []; carried = true }
 unfolding need_of sent_of ones union_below line_of form_out form_in
 failures_run_told = refl
 
@@ -250,7 +250,7 @@ full_run_rows = drive 1200 7 0x00280 ∷ drive 1200 6 0x00240 ∷ drive 3600 7 0
 abbrev full_run_events : List Event
 full_run_events = events.Accept (command 1) ∷ events.Accept (command 2) ∷ events.Accept (command 3) ∷ events.Refuse (command 4) ∷ events.End (command 4) 40 ∷ events.Accept (command 7) ∷ events.Run (command 7) ∷ events.End (command 7) 0 ∷ events.Accept (command 5) ∷ events.Refuse (command 6) ∷ events.End (command 6) 40 ∷ events.Aborted 6 0 0 (aborts.Tag 2) ∷ events.Run (command 1) ∷ events.End (command 1) 0 ∷ events.Run (command 5) ∷ events.End (command 5) 0 ∷ events.Run (command 3) ∷ events.End (command 3) 0 ∷ events.Aborted 6 0 1 aborts.Device ∷ []
 
-full_run_told : shows full_run (story full_run (reverse full_run_rows)) (reverse full_run_events) ≡ record { history = reverse full_run_events; ends = Some (ended_good ([])) ∷ Some (ended_aborted) ∷ Some (ended_good ([])) ∷ Some (ended_full) ∷ Some (ended_good ([])) ∷ Some (ended_full) ∷ Some (ended_good (112 ∷ 0 ∷ 0 ∷ 0 ∷ [])) ∷ []; carried = true }
+full_run_told : shown full_run (story full_run (reverse full_run_rows)) (reverse full_run_events) ≡ record { history = reverse full_run_events; ends = Some (ended_good ([])) ∷ Some (ended_aborted) ∷ Some (ended_good ([])) ∷ Some (ended_full) ∷ Some (ended_good ([])) ∷ Some (ended_full) ∷ Some (ended_good (112 ∷ 0 ∷ 0 ∷ 0 ∷ [])) ∷ []; carried = true }
 unfolding need_of sent_of ones union_below line_of form_out form_in
 full_run_told = refl
 
@@ -275,7 +275,7 @@ heads_run_rows = drive 1200 7 0x00280 ∷ drive 3600 7 0x00680 ∷ drive 4800 7 
 abbrev heads_run_events : List Event
 heads_run_events = events.Accept (command 1) ∷ events.Accept (command 2) ∷ events.Accept (command 3) ∷ events.Accept (command 4) ∷ events.Accept (command 5) ∷ events.Accept (command 6) ∷ events.Run (command 1) ∷ events.End (command 1) 0 ∷ events.Run (command 6) ∷ events.End (command 6) 0 ∷ events.Run (command 5) ∷ events.End (command 5) 0 ∷ events.Run (command 2) ∷ events.End (command 2) 0 ∷ events.Run (command 3) ∷ events.End (command 3) 0 ∷ events.Run (command 4) ∷ events.End (command 4) 0 ∷ []
 
-heads_run_told : shows heads_run (story heads_run (reverse heads_run_rows)) (reverse heads_run_events) ≡ record { history = reverse heads_run_events; ends = Some (ended_good ([])) ∷ Some (ended_good ([])) ∷ Some (ended_good ([])) ∷ Some (ended_good ([])) ∷ Some (ended_good ([])) ∷ Some (ended_good ([])) ∷ []; carried = true }
+heads_run_told : shown heads_run (story heads_run (reverse heads_run_rows)) (reverse heads_run_events) ≡ record { history = reverse heads_run_events; ends = Some (ended_good ([])) ∷ Some (ended_good ([])) ∷ Some (ended_good ([])) ∷ Some (ended_good ([])) ∷ Some (ended_good ([])) ∷ Some (ended_good ([])) ∷ []; carried = true }
 unfolding need_of sent_of ones union_below line_of form_out form_in
 heads_run_told = refl
 
@@ -300,7 +300,7 @@ held_run_rows = drive 1200 6 0x00240 ∷ drive 3600 6 0x00640 ∷ drive 4800 6 0
 abbrev held_run_events : List Event
 held_run_events = events.Accept (command 1) ∷ events.Accept (command 2) ∷ events.Run (command 1) ∷ events.End (command 1) 2 ∷ events.Accept (command 3) ∷ events.Accept (sense 1) ∷ events.Run (sense 1) ∷ events.End (sense 1) 0 ∷ events.Run (command 3) ∷ events.End (command 3) 0 ∷ events.Run (command 2) ∷ events.End (command 2) 0 ∷ []
 
-held_run_told : shows held_run (story held_run (reverse held_run_rows)) (reverse held_run_events) ≡ record { history = reverse held_run_events; ends = Some (ended_check (Some (record { key = 5; asc = 33; ascq = 0 }))) ∷ Some (ended_good ([])) ∷ Some (ended_good ([])) ∷ []; carried = true }
+held_run_told : shown held_run (story held_run (reverse held_run_rows)) (reverse held_run_events) ≡ record { history = reverse held_run_events; ends = Some (ended_check (Some (record { key = 5; asc = 33; ascq = 0 }))) ∷ Some (ended_good ([])) ∷ Some (ended_good ([])) ∷ []; carried = true }
 unfolding need_of sent_of ones union_below line_of form_out form_in
 held_run_told = refl
 
@@ -325,7 +325,7 @@ last_block_written_run_rows = drive 1200 7 0x00280 ∷ drive 3600 7 0x00680 ∷ 
 abbrev last_block_written_run_events : List Event
 last_block_written_run_events = events.Accept (command 1) ∷ events.Run (command 1) ∷ events.End (command 1) 0 ∷ []
 
-last_block_written_run_told : shows last_block_written_run (story last_block_written_run (reverse last_block_written_run_rows)) (reverse last_block_written_run_events) ≡ record { history = reverse last_block_written_run_events; ends = Some (ended_good ([])) ∷ []; carried = true }
+last_block_written_run_told : shown last_block_written_run (story last_block_written_run (reverse last_block_written_run_rows)) (reverse last_block_written_run_events) ≡ record { history = reverse last_block_written_run_events; ends = Some (ended_good ([])) ∷ []; carried = true }
 unfolding need_of sent_of ones union_below line_of form_out form_in
 last_block_written_run_told = refl
 
@@ -350,7 +350,7 @@ mixed_tags_run_rows = drive 1200 7 0x00280 ∷ drive 3600 7 0x00680 ∷ drive 48
 abbrev mixed_tags_run_events : List Event
 mixed_tags_run_events = events.Accept (command 1) ∷ events.Accept (command 2) ∷ events.Accept (command 3) ∷ events.Accept (command 4) ∷ events.Accept (command 5) ∷ events.Accept (command 6) ∷ events.Run (command 1) ∷ events.End (command 1) 0 ∷ events.Run (command 4) ∷ events.End (command 4) 0 ∷ events.Run (command 3) ∷ events.End (command 3) 0 ∷ events.Run (command 2) ∷ events.End (command 2) 0 ∷ events.Run (command 5) ∷ events.End (command 5) 0 ∷ events.Run (command 6) ∷ events.End (command 6) 0 ∷ []
 
-mixed_tags_run_told : shows mixed_tags_run (story mixed_tags_run (reverse mixed_tags_run_rows)) (reverse mixed_tags_run_events) ≡ record { history = reverse mixed_tags_run_events; ends = Some (ended_good ([])) ∷ Some (ended_good ([])) ∷ Some (ended_good ([])) ∷ Some (ended_good ([])) ∷ Some (ended_good ([])) ∷ Some (ended_good ([])) ∷ []; carried = true }
+mixed_tags_run_told : shown mixed_tags_run (story mixed_tags_run (reverse mixed_tags_run_rows)) (reverse mixed_tags_run_events) ≡ record { history = reverse mixed_tags_run_events; ends = Some (ended_good ([])) ∷ Some (ended_good ([])) ∷ Some (ended_good ([])) ∷ Some (ended_good ([])) ∷ Some (ended_good ([])) ∷ Some (ended_good ([])) ∷ []; carried = true }
 unfolding need_of sent_of ones union_below line_of form_out form_in
 mixed_tags_run_told = refl
 
@@ -375,7 +375,7 @@ negotiation_run_rows = drive 1200 7 0x00280 ∷ drive 3600 7 0x00680 ∷ drive 4
 abbrev negotiation_run_events : List Event
 negotiation_run_events = events.Accept (command 1) ∷ events.Run (command 1) ∷ events.End (command 1) 0 ∷ []
 
-negotiation_run_told : shows negotiation_run (story negotiation_run (reverse negotiation_run_rows)) (reverse negotiation_run_events) ≡ record { history = reverse negotiation_run_events; ends = Some (ended_good (0 ∷ 1 ∷ 2 ∷ 3 ∷ 4 ∷ 5 ∷ 6 ∷ 7 ∷ 8 ∷ 9 ∷ 10 ∷ 11 ∷ 12 ∷ 13 ∷ 14 ∷ 15 ∷ [])) ∷ []; carried = true }
+negotiation_run_told : shown negotiation_run (story negotiation_run (reverse negotiation_run_rows)) (reverse negotiation_run_events) ≡ record { history = reverse negotiation_run_events; ends = Some (ended_good (0 ∷ 1 ∷ 2 ∷ 3 ∷ 4 ∷ 5 ∷ 6 ∷ 7 ∷ 8 ∷ 9 ∷ 10 ∷ 11 ∷ 12 ∷ 13 ∷ 14 ∷ 15 ∷ [])) ∷ []; carried = true }
 unfolding need_of sent_of ones union_below line_of form_out form_in
 negotiation_run_told = refl
 
@@ -404,7 +404,7 @@ order_run_rows = drive 1200 7 0x00280 ∷ drive 3600 7 0x00680 ∷ drive 4800 7 
 abbrev order_run_events : List Event
 order_run_events = events.Accept (command 1) ∷ events.Accept (command 2) ∷ events.Accept (command 3) ∷ events.Accept (command 4) ∷ events.Run (command 1) ∷ events.End (command 1) 0 ∷ events.Run (command 2) ∷ events.End (command 2) 0 ∷ events.Run (command 3) ∷ events.End (command 3) 0 ∷ events.Run (command 4) ∷ events.End (command 4) 0 ∷ []
 
-order_run_told : shows order_run (story order_run (reverse order_run_rows)) (reverse order_run_events) ≡ record { history = reverse order_run_events; ends = Some (ended_good ([])) ∷ Some (ended_good ([])) ∷ Some (ended_good ([])) ∷ Some (ended_good (0 ∷ 0 ∷ 0 ∷ 0 ∷ 0 ∷ 0 ∷ 0 ∷ 0 ∷ 0 ∷ 0 ∷ 0 ∷ 0 ∷ 0 ∷ 0 ∷ 0 ∷ 0 ∷ [])) ∷ []; carried = true }
+order_run_told : shown order_run (story order_run (reverse order_run_rows)) (reverse order_run_events) ≡ record { history = reverse order_run_events; ends = Some (ended_good ([])) ∷ Some (ended_good ([])) ∷ Some (ended_good ([])) ∷ Some (ended_good (0 ∷ 0 ∷ 0 ∷ 0 ∷ 0 ∷ 0 ∷ 0 ∷ 0 ∷ 0 ∷ 0 ∷ 0 ∷ 0 ∷ 0 ∷ 0 ∷ 0 ∷ 0 ∷ [])) ∷ []; carried = true }
 unfolding need_of sent_of ones union_below line_of form_out form_in
 order_run_told = refl
 
@@ -429,7 +429,7 @@ queue_run_rows = drive 1200 7 0x00280 ∷ drive 1200 6 0x00240 ∷ drive 3600 7 
 abbrev queue_run_events : List Event
 queue_run_events = events.Accept (command 1) ∷ events.Accept (command 2) ∷ events.Aborted 7 0 0 aborts.WholeQueue ∷ events.Accept (command 3) ∷ events.Accept (command 4) ∷ events.Run (command 3) ∷ events.End (command 3) 0 ∷ events.Accept (command 5) ∷ events.Run (command 4) ∷ events.End (command 4) 0 ∷ events.Accept (command 6) ∷ events.Run (command 5) ∷ events.End (command 5) 2 ∷ events.Accept (sense 5) ∷ events.Run (sense 5) ∷ events.End (sense 5) 0 ∷ events.Run (command 6) ∷ events.End (command 6) 0 ∷ []
 
-queue_run_told : shows queue_run (story queue_run (reverse queue_run_rows)) (reverse queue_run_events) ≡ record { history = reverse queue_run_events; ends = Some (ended_aborted) ∷ Some (ended_aborted) ∷ Some (ended_good ([])) ∷ Some (ended_good (0 ∷ 0 ∷ 2 ∷ 2 ∷ 31 ∷ 0 ∷ 0 ∷ 18 ∷ 66 ∷ 85 ∷ 83 ∷ 77 ∷ 79 ∷ 68 ∷ 69 ∷ 76 ∷ 83 ∷ 73 ∷ 77 ∷ 85 ∷ 76 ∷ 65 ∷ 84 ∷ 69 ∷ 68 ∷ 32 ∷ 68 ∷ 73 ∷ 83 ∷ 75 ∷ 32 ∷ 32 ∷ 48 ∷ 48 ∷ 48 ∷ 49 ∷ [])) ∷ Some (ended_check (Some (record { key = 6; asc = 47; ascq = 0 }))) ∷ Some (ended_good ([])) ∷ []; carried = true }
+queue_run_told : shown queue_run (story queue_run (reverse queue_run_rows)) (reverse queue_run_events) ≡ record { history = reverse queue_run_events; ends = Some (ended_aborted) ∷ Some (ended_aborted) ∷ Some (ended_good ([])) ∷ Some (ended_good (0 ∷ 0 ∷ 2 ∷ 2 ∷ 31 ∷ 0 ∷ 0 ∷ 18 ∷ 66 ∷ 85 ∷ 83 ∷ 77 ∷ 79 ∷ 68 ∷ 69 ∷ 76 ∷ 83 ∷ 73 ∷ 77 ∷ 85 ∷ 76 ∷ 65 ∷ 84 ∷ 69 ∷ 68 ∷ 32 ∷ 68 ∷ 73 ∷ 83 ∷ 75 ∷ 32 ∷ 32 ∷ 48 ∷ 48 ∷ 48 ∷ 49 ∷ [])) ∷ Some (ended_check (Some (record { key = 6; asc = 47; ascq = 0 }))) ∷ Some (ended_good ([])) ∷ []; carried = true }
 unfolding need_of sent_of ones union_below line_of form_out form_in
 queue_run_told = refl
 
@@ -454,7 +454,7 @@ range_past_the_last_run_rows = drive 1200 7 0x00280 ∷ drive 3600 7 0x00680 ∷
 abbrev range_past_the_last_run_events : List Event
 range_past_the_last_run_events = events.Accept (command 1) ∷ events.Run (command 1) ∷ events.End (command 1) 2 ∷ events.Accept (sense 1) ∷ events.Run (sense 1) ∷ events.End (sense 1) 0 ∷ []
 
-range_past_the_last_run_told : shows range_past_the_last_run (story range_past_the_last_run (reverse range_past_the_last_run_rows)) (reverse range_past_the_last_run_events) ≡ record { history = reverse range_past_the_last_run_events; ends = Some (ended_check (Some (record { key = 5; asc = 33; ascq = 0 }))) ∷ []; carried = true }
+range_past_the_last_run_told : shown range_past_the_last_run (story range_past_the_last_run (reverse range_past_the_last_run_rows)) (reverse range_past_the_last_run_events) ≡ record { history = reverse range_past_the_last_run_events; ends = Some (ended_check (Some (record { key = 5; asc = 33; ascq = 0 }))) ∷ []; carried = true }
 unfolding need_of sent_of ones union_below line_of form_out form_in
 range_past_the_last_run_told = refl
 
@@ -479,7 +479,7 @@ read_whole_after_a_part_run_rows = drive 1200 7 0x00280 ∷ drive 3600 7 0x00680
 abbrev read_whole_after_a_part_run_events : List Event
 read_whole_after_a_part_run_events = events.Accept (command 1) ∷ events.Run (command 1) ∷ events.End (command 1) 0 ∷ []
 
-read_whole_after_a_part_run_told : shows read_whole_after_a_part_run (story read_whole_after_a_part_run (reverse read_whole_after_a_part_run_rows)) (reverse read_whole_after_a_part_run_events) ≡ record { history = reverse read_whole_after_a_part_run_events; ends = Some (ended_good ([])) ∷ []; carried = true }
+read_whole_after_a_part_run_told : shown read_whole_after_a_part_run (story read_whole_after_a_part_run (reverse read_whole_after_a_part_run_rows)) (reverse read_whole_after_a_part_run_events) ≡ record { history = reverse read_whole_after_a_part_run_events; ends = Some (ended_good ([])) ∷ []; carried = true }
 unfolding need_of sent_of ones union_below line_of form_out form_in
 read_whole_after_a_part_run_told = refl
 
@@ -504,7 +504,7 @@ refusals_run_rows = drive 1200 7 0x00280 ∷ drive 1200 4 0x00210 ∷ drive 1300
 abbrev refusals_run_events : List Event
 refusals_run_events = events.Accept (command 1) ∷ events.Refuse (command 2) ∷ events.End (command 2) 40 ∷ events.Refuse (command 4) ∷ events.End (command 4) 40 ∷ events.Refuse (command 3) ∷ events.End (command 3) 40 ∷ events.Run (command 1) ∷ events.End (command 1) 2 ∷ events.Accept (sense 1) ∷ events.Run (sense 1) ∷ events.End (sense 1) 0 ∷ events.Accept (command 5) ∷ events.Run (command 5) ∷ events.End (command 5) 2 ∷ events.Accept (sense 5) ∷ events.Run (sense 5) ∷ events.End (sense 5) 0 ∷ []
 
-refusals_run_told : shows refusals_run (story refusals_run (reverse refusals_run_rows)) (reverse refusals_run_events) ≡ record { history = reverse refusals_run_events; ends = Some (ended_check (Some (record { key = 5; asc = 36; ascq = 0 }))) ∷ Some (ended_full) ∷ Some (ended_full) ∷ Some (ended_full) ∷ Some (ended_check (Some (record { key = 5; asc = 36; ascq = 0 }))) ∷ []; carried = true }
+refusals_run_told : shown refusals_run (story refusals_run (reverse refusals_run_rows)) (reverse refusals_run_events) ≡ record { history = reverse refusals_run_events; ends = Some (ended_check (Some (record { key = 5; asc = 36; ascq = 0 }))) ∷ Some (ended_full) ∷ Some (ended_full) ∷ Some (ended_full) ∷ Some (ended_check (Some (record { key = 5; asc = 36; ascq = 0 }))) ∷ []; carried = true }
 unfolding need_of sent_of ones union_below line_of form_out form_in
 refusals_run_told = refl
 
@@ -529,7 +529,7 @@ reset_run_rows = drive 1000 7 0x20000 ∷ drive 26000 7 0x00000 ∷ drive 50000 
 abbrev reset_run_events : List Event
 reset_run_events = events.Reset 7 ∷ events.Accept (command 1) ∷ events.Run (command 1) ∷ events.End (command 1) 2 ∷ events.Accept (sense 1) ∷ events.Run (sense 1) ∷ events.End (sense 1) 0 ∷ events.Accept (command 2) ∷ events.Run (command 2) ∷ events.End (command 2) 0 ∷ events.Accept (command 3) ∷ events.Run (command 3) ∷ events.End (command 3) 0 ∷ []
 
-reset_run_told : shows reset_run (story reset_run (reverse reset_run_rows)) (reverse reset_run_events) ≡ record { history = reverse reset_run_events; ends = Some (ended_check (Some (record { key = 6; asc = 41; ascq = 0 }))) ∷ Some (ended_good ([])) ∷ Some (ended_good (0 ∷ 0 ∷ 0 ∷ 1 ∷ 0 ∷ 0 ∷ 0 ∷ 16 ∷ [])) ∷ []; carried = true }
+reset_run_told : shown reset_run (story reset_run (reverse reset_run_rows)) (reverse reset_run_events) ≡ record { history = reverse reset_run_events; ends = Some (ended_check (Some (record { key = 6; asc = 41; ascq = 0 }))) ∷ Some (ended_good ([])) ∷ Some (ended_good (0 ∷ 0 ∷ 0 ∷ 1 ∷ 0 ∷ 0 ∷ 0 ∷ 16 ∷ [])) ∷ []; carried = true }
 unfolding need_of sent_of ones union_below line_of form_out form_in
 reset_run_told = refl
 
@@ -554,7 +554,7 @@ resets_with_queues_run_rows = drive 1200 5 0x00220 ∷ drive 1200 4 0x00210 ∷ 
 abbrev resets_with_queues_run_events : List Event
 resets_with_queues_run_events = events.Accept (command 2) ∷ events.Refuse (command 3) ∷ events.End (command 3) 40 ∷ events.Refuse (command 1) ∷ events.End (command 1) 40 ∷ events.Reset 5 ∷ events.Aborted 7 1 6 aborts.Device ∷ events.Accept (command 4) ∷ events.Accept (command 5) ∷ events.Aborted 5 1 3 aborts.All ∷ events.Aborted 5 1 6 aborts.WholeQueue ∷ events.Run (command 5) ∷ events.End (command 5) 2 ∷ events.Accept (sense 5) ∷ events.Run (sense 5) ∷ events.End (sense 5) 0 ∷ []
 
-resets_with_queues_run_told : shows resets_with_queues_run (story resets_with_queues_run (reverse resets_with_queues_run_rows)) (reverse resets_with_queues_run_events) ≡ record { history = reverse resets_with_queues_run_events; ends = Some (ended_full) ∷ Some (ended_reset) ∷ Some (ended_full) ∷ Some (ended_aborted) ∷ Some (ended_check (Some (record { key = 6; asc = 41; ascq = 0 }))) ∷ []; carried = true }
+resets_with_queues_run_told : shown resets_with_queues_run (story resets_with_queues_run (reverse resets_with_queues_run_rows)) (reverse resets_with_queues_run_events) ≡ record { history = reverse resets_with_queues_run_events; ends = Some (ended_full) ∷ Some (ended_reset) ∷ Some (ended_full) ∷ Some (ended_aborted) ∷ Some (ended_check (Some (record { key = 6; asc = 41; ascq = 0 }))) ∷ []; carried = true }
 unfolding need_of sent_of ones union_below line_of form_out form_in
 resets_with_queues_run_told = refl
 
@@ -583,7 +583,7 @@ sense_cut_run_rows = drive 1200 7 0x00280 ∷ drive 3600 7 0x00680 ∷ drive 480
 abbrev sense_cut_run_events : List Event
 sense_cut_run_events = events.Accept (command 1) ∷ events.Run (command 1) ∷ events.End (command 1) 2 ∷ events.Accept (sense 1) ∷ events.Run (sense 1) ∷ events.Reset 7 ∷ []
 
-sense_cut_run_told : shows sense_cut_run (story sense_cut_run (reverse sense_cut_run_rows)) (reverse sense_cut_run_events) ≡ record { history = reverse sense_cut_run_events; ends = Some (ended_check None) ∷ []; carried = true }
+sense_cut_run_told : shown sense_cut_run (story sense_cut_run (reverse sense_cut_run_rows)) (reverse sense_cut_run_events) ≡ record { history = reverse sense_cut_run_events; ends = Some (ended_check None) ∷ []; carried = true }
 unfolding need_of sent_of ones union_below line_of form_out form_in
 sense_cut_run_told = refl
 
@@ -608,7 +608,7 @@ senses_run_rows = drive 1200 7 0x00280 ∷ drive 3600 7 0x00680 ∷ drive 4800 7
 abbrev senses_run_events : List Event
 senses_run_events = events.Accept (command 1) ∷ events.Run (command 1) ∷ events.End (command 1) 2 ∷ events.Accept (sense 1) ∷ events.Run (sense 1) ∷ events.End (sense 1) 0 ∷ events.Accept (command 2) ∷ events.Run (command 2) ∷ events.End (command 2) 0 ∷ events.Accept (command 3) ∷ events.Run (command 3) ∷ events.End (command 3) 0 ∷ events.Accept (command 4) ∷ events.Run (command 4) ∷ events.End (command 4) 0 ∷ events.Accept (command 5) ∷ events.Run (command 5) ∷ events.End (command 5) 2 ∷ events.Accept (sense 5) ∷ events.Run (sense 5) ∷ events.End (sense 5) 0 ∷ events.Accept (command 6) ∷ events.Run (command 6) ∷ events.End (command 6) 2 ∷ events.Accept (sense 6) ∷ events.Run (sense 6) ∷ events.End (sense 6) 0 ∷ []
 
-senses_run_told : shows senses_run (story senses_run (reverse senses_run_rows)) (reverse senses_run_events) ≡ record { history = reverse senses_run_events; ends = Some (ended_check (Some (record { key = 5; asc = 33; ascq = 0 }))) ∷ Some (ended_good (112 ∷ 0 ∷ 0 ∷ 0 ∷ 0 ∷ 0 ∷ 0 ∷ 10 ∷ 0 ∷ 0 ∷ 0 ∷ 0 ∷ 0 ∷ 0 ∷ 0 ∷ 0 ∷ 0 ∷ 0 ∷ [])) ∷ Some (ended_good ([])) ∷ Some (ended_good (0 ∷ 0 ∷ 0 ∷ 0 ∷ 0 ∷ 0 ∷ 0 ∷ 0 ∷ 0 ∷ 0 ∷ 0 ∷ 0 ∷ 0 ∷ 0 ∷ 0 ∷ 0 ∷ 160 ∷ 161 ∷ 162 ∷ 163 ∷ 164 ∷ 165 ∷ 166 ∷ 167 ∷ 168 ∷ 169 ∷ 170 ∷ 171 ∷ 172 ∷ 173 ∷ 174 ∷ 175 ∷ 176 ∷ 177 ∷ 178 ∷ 179 ∷ 180 ∷ 181 ∷ 182 ∷ 183 ∷ 184 ∷ 185 ∷ 186 ∷ 187 ∷ 188 ∷ 189 ∷ 190 ∷ 191 ∷ [])) ∷ Some (ended_check (Some (record { key = 5; asc = 32; ascq = 0 }))) ∷ Some (ended_check (Some (record { key = 5; asc = 33; ascq = 0 }))) ∷ []; carried = true }
+senses_run_told : shown senses_run (story senses_run (reverse senses_run_rows)) (reverse senses_run_events) ≡ record { history = reverse senses_run_events; ends = Some (ended_check (Some (record { key = 5; asc = 33; ascq = 0 }))) ∷ Some (ended_good (112 ∷ 0 ∷ 0 ∷ 0 ∷ 0 ∷ 0 ∷ 0 ∷ 10 ∷ 0 ∷ 0 ∷ 0 ∷ 0 ∷ 0 ∷ 0 ∷ 0 ∷ 0 ∷ 0 ∷ 0 ∷ [])) ∷ Some (ended_good ([])) ∷ Some (ended_good (0 ∷ 0 ∷ 0 ∷ 0 ∷ 0 ∷ 0 ∷ 0 ∷ 0 ∷ 0 ∷ 0 ∷ 0 ∷ 0 ∷ 0 ∷ 0 ∷ 0 ∷ 0 ∷ 160 ∷ 161 ∷ 162 ∷ 163 ∷ 164 ∷ 165 ∷ 166 ∷ 167 ∷ 168 ∷ 169 ∷ 170 ∷ 171 ∷ 172 ∷ 173 ∷ 174 ∷ 175 ∷ 176 ∷ 177 ∷ 178 ∷ 179 ∷ 180 ∷ 181 ∷ 182 ∷ 183 ∷ 184 ∷ 185 ∷ 186 ∷ 187 ∷ 188 ∷ 189 ∷ 190 ∷ 191 ∷ [])) ∷ Some (ended_check (Some (record { key = 5; asc = 32; ascq = 0 }))) ∷ Some (ended_check (Some (record { key = 5; asc = 33; ascq = 0 }))) ∷ []; carried = true }
 unfolding need_of sent_of ones union_below line_of form_out form_in
 senses_run_told = refl
 
@@ -633,7 +633,7 @@ struck_command_run_rows = drive 60532 6 0x00240 ∷ drive 62993 6 0x00640 ∷ dr
 abbrev struck_command_run_events : List Event
 struck_command_run_events = events.Fail (command 1) 71 ∷ events.End (command 1) 2 ∷ events.Accept (sense 1) ∷ events.Run (sense 1) ∷ events.End (sense 1) 0 ∷ events.Accept (command 2) ∷ events.Reset 5 ∷ []
 
-struck_command_run_told : shows struck_command_run (story struck_command_run (reverse struck_command_run_rows)) (reverse struck_command_run_events) ≡ record { history = reverse struck_command_run_events; ends = Some (ended_check (Some (record { key = 11; asc = 71; ascq = 0 }))) ∷ Some (ended_reset) ∷ []; carried = true }
+struck_command_run_told : shown struck_command_run (story struck_command_run (reverse struck_command_run_rows)) (reverse struck_command_run_events) ≡ record { history = reverse struck_command_run_events; ends = Some (ended_check (Some (record { key = 11; asc = 71; ascq = 0 }))) ∷ Some (ended_reset) ∷ []; carried = true }
 unfolding need_of sent_of ones union_below line_of form_out form_in
 struck_command_run_told = refl
 
@@ -662,7 +662,7 @@ struck_complete_run_rows = drive 1200 7 0x00280 ∷ drive 3600 7 0x00680 ∷ dri
 abbrev struck_complete_run_events : List Event
 struck_complete_run_events = events.Accept (command 1) ∷ events.Run (command 1) ∷ events.End (command 1) 0 ∷ []
 
-struck_complete_run_told : shows struck_complete_run (story struck_complete_run (reverse struck_complete_run_rows)) (reverse struck_complete_run_events) ≡ record { history = reverse struck_complete_run_events; ends = Some (ended_good (0 ∷ 1 ∷ 2 ∷ 3 ∷ 4 ∷ 5 ∷ 6 ∷ 7 ∷ 8 ∷ 9 ∷ 10 ∷ 11 ∷ 12 ∷ 13 ∷ 14 ∷ 15 ∷ [])) ∷ []; carried = true }
+struck_complete_run_told : shown struck_complete_run (story struck_complete_run (reverse struck_complete_run_rows)) (reverse struck_complete_run_events) ≡ record { history = reverse struck_complete_run_events; ends = Some (ended_good (0 ∷ 1 ∷ 2 ∷ 3 ∷ 4 ∷ 5 ∷ 6 ∷ 7 ∷ 8 ∷ 9 ∷ 10 ∷ 11 ∷ 12 ∷ 13 ∷ 14 ∷ 15 ∷ [])) ∷ []; carried = true }
 unfolding need_of sent_of ones union_below line_of form_out form_in
 struck_complete_run_told = refl
 
@@ -691,7 +691,7 @@ struck_data_run_rows = drive 1200 7 0x00280 ∷ drive 3600 7 0x00680 ∷ drive 4
 abbrev struck_data_run_events : List Event
 struck_data_run_events = events.Accept (command 1) ∷ events.Run (command 1) ∷ events.End (command 1) 0 ∷ []
 
-struck_data_run_told : shows struck_data_run (story struck_data_run (reverse struck_data_run_rows)) (reverse struck_data_run_events) ≡ record { history = reverse struck_data_run_events; ends = Some (ended_good (0 ∷ 1 ∷ 2 ∷ 3 ∷ 4 ∷ 5 ∷ 6 ∷ 7 ∷ 8 ∷ 9 ∷ 10 ∷ 11 ∷ 12 ∷ 13 ∷ 14 ∷ 15 ∷ [])) ∷ []; carried = true }
+struck_data_run_told : shown struck_data_run (story struck_data_run (reverse struck_data_run_rows)) (reverse struck_data_run_events) ≡ record { history = reverse struck_data_run_events; ends = Some (ended_good (0 ∷ 1 ∷ 2 ∷ 3 ∷ 4 ∷ 5 ∷ 6 ∷ 7 ∷ 8 ∷ 9 ∷ 10 ∷ 11 ∷ 12 ∷ 13 ∷ 14 ∷ 15 ∷ [])) ∷ []; carried = true }
 unfolding need_of sent_of ones union_below line_of form_out form_in
 struck_data_run_told = refl
 
@@ -720,7 +720,7 @@ struck_disconnect_run_rows = drive 1200 7 0x00280 ∷ drive 3600 7 0x00680 ∷ d
 abbrev struck_disconnect_run_events : List Event
 struck_disconnect_run_events = events.Accept (command 1) ∷ events.Lost (command 1) ∷ []
 
-struck_disconnect_run_told : shows struck_disconnect_run (story struck_disconnect_run (reverse struck_disconnect_run_rows)) (reverse struck_disconnect_run_events) ≡ record { history = reverse struck_disconnect_run_events; ends = Some (ended_lost) ∷ []; carried = true }
+struck_disconnect_run_told : shown struck_disconnect_run (story struck_disconnect_run (reverse struck_disconnect_run_rows)) (reverse struck_disconnect_run_events) ≡ record { history = reverse struck_disconnect_run_events; ends = Some (ended_lost) ∷ []; carried = true }
 unfolding need_of sent_of ones union_below line_of form_out form_in
 struck_disconnect_run_told = refl
 
@@ -749,7 +749,7 @@ struck_save_run_rows = drive 1200 7 0x00280 ∷ drive 3600 7 0x00680 ∷ drive 4
 abbrev struck_save_run_events : List Event
 struck_save_run_events = events.Accept (command 1) ∷ events.Run (command 1) ∷ events.End (command 1) 0 ∷ []
 
-struck_save_run_told : shows struck_save_run (story struck_save_run (reverse struck_save_run_rows)) (reverse struck_save_run_events) ≡ record { history = reverse struck_save_run_events; ends = Some (ended_good ([])) ∷ []; carried = true }
+struck_save_run_told : shown struck_save_run (story struck_save_run (reverse struck_save_run_rows)) (reverse struck_save_run_events) ≡ record { history = reverse struck_save_run_events; ends = Some (ended_good ([])) ∷ []; carried = true }
 unfolding need_of sent_of ones union_below line_of form_out form_in
 struck_save_run_told = refl
 
@@ -778,7 +778,7 @@ two_aborts_run_rows = drive 89108 3 0x00208 ∷ drive 91508 3 0x00608 ∷ drive 
 abbrev two_aborts_run_events : List Event
 two_aborts_run_events = events.Accept (command 1) ∷ events.Run (command 1) ∷ events.End (command 1) 2 ∷ events.Aborted 3 1 2 (aborts.Tag 2) ∷ events.Aborted 3 4 7 aborts.Device ∷ events.Accept (sense 1) ∷ events.Run (sense 1) ∷ events.End (sense 1) 0 ∷ []
 
-two_aborts_run_told : shows two_aborts_run (story two_aborts_run (reverse two_aborts_run_rows)) (reverse two_aborts_run_events) ≡ record { history = reverse two_aborts_run_events; ends = Some (ended_check (Some (record { key = 5; asc = 33; ascq = 0 }))) ∷ []; carried = true }
+two_aborts_run_told : shown two_aborts_run (story two_aborts_run (reverse two_aborts_run_rows)) (reverse two_aborts_run_events) ≡ record { history = reverse two_aborts_run_events; ends = Some (ended_check (Some (record { key = 5; asc = 33; ascq = 0 }))) ∷ []; carried = true }
 unfolding need_of sent_of ones union_below line_of form_out form_in
 two_aborts_run_told = refl
 
@@ -807,7 +807,7 @@ unanswered_by_struck_ids_run_rows = drive 1200 7 0x00280 ∷ drive 3600 7 0x0068
 abbrev unanswered_by_struck_ids_run_events : List Event
 unanswered_by_struck_ids_run_events = events.Accept (command 1) ∷ events.Run (command 1) ∷ events.End (command 1) 0 ∷ []
 
-unanswered_by_struck_ids_run_told : shows unanswered_by_struck_ids_run (story unanswered_by_struck_ids_run (reverse unanswered_by_struck_ids_run_rows)) (reverse unanswered_by_struck_ids_run_events) ≡ record { history = reverse unanswered_by_struck_ids_run_events; ends = Some (ended_good (0 ∷ 1 ∷ 2 ∷ 3 ∷ 4 ∷ 5 ∷ 6 ∷ 7 ∷ 8 ∷ 9 ∷ 10 ∷ 11 ∷ 12 ∷ 13 ∷ 14 ∷ 15 ∷ [])) ∷ []; carried = true }
+unanswered_by_struck_ids_run_told : shown unanswered_by_struck_ids_run (story unanswered_by_struck_ids_run (reverse unanswered_by_struck_ids_run_rows)) (reverse unanswered_by_struck_ids_run_events) ≡ record { history = reverse unanswered_by_struck_ids_run_events; ends = Some (ended_good (0 ∷ 1 ∷ 2 ∷ 3 ∷ 4 ∷ 5 ∷ 6 ∷ 7 ∷ 8 ∷ 9 ∷ 10 ∷ 11 ∷ 12 ∷ 13 ∷ 14 ∷ 15 ∷ [])) ∷ []; carried = true }
 unfolding need_of sent_of ones union_below line_of form_out form_in
 unanswered_by_struck_ids_run_told = refl
 
@@ -836,6 +836,6 @@ write_in_bursts_run_rows = drive 1200 7 0x00280 ∷ drive 3600 7 0x00680 ∷ dri
 abbrev write_in_bursts_run_events : List Event
 write_in_bursts_run_events = events.Accept (command 1) ∷ events.Run (command 1) ∷ events.End (command 1) 0 ∷ []
 
-write_in_bursts_run_told : shows write_in_bursts_run (story write_in_bursts_run (reverse write_in_bursts_run_rows)) (reverse write_in_bursts_run_events) ≡ record { history = reverse write_in_bursts_run_events; ends = Some (ended_good ([])) ∷ []; carried = true }
+write_in_bursts_run_told : shown write_in_bursts_run (story write_in_bursts_run (reverse write_in_bursts_run_rows)) (reverse write_in_bursts_run_events) ≡ record { history = reverse write_in_bursts_run_events; ends = Some (ended_good ([])) ∷ []; carried = true }
 unfolding need_of sent_of ones union_below line_of form_out form_in
 write_in_bursts_run_told = refl

@@ -134,24 +134,24 @@ cut_line piece bytes h =
 
 -- ---- what they tell
 
-abbrev tells : Cut → Told
-tells c = (stepped (state_of c.lines) c.rest).1
+abbrev told_by_cut : Cut → Told
+told_by_cut c = (stepped (state_of c.lines) c.rest).1
 
 pub told_line : (piece bytes : List ℕ) → HasFeed piece
     → told_of bytes piece ≡ (stepped (state_of (cut_of bytes).lines) ((cut_of bytes).rest ++ text_of piece)).1
 told_line [] bytes h = absurd (omega arith)
 told_line (b ∷ piece) bytes h = step (b == 10) refl (told_line piece (b ∷ bytes)) where
   step : (q : Bool) → (b == 10) ≡ q
-      → (HasFeed piece → told_of (b ∷ bytes) piece ≡ tells (cut_with (b ∷ bytes) (text_of piece)))
-      → told_of bytes (b ∷ piece) ≡ tells (cut_with bytes (text_of (b ∷ piece)))
+      → (HasFeed piece → told_of (b ∷ bytes) piece ≡ told_by_cut (cut_with (b ∷ bytes) (text_of piece)))
+      → told_of bytes (b ∷ piece) ≡ told_by_cut (cut_with bytes (text_of (b ∷ piece)))
   step true e ih =
-      let one : told_of bytes (b ∷ piece) ≡ tells (cut_of bytes) = rw e refl in
+      let one : told_of bytes (b ∷ piece) ≡ told_by_cut (cut_of bytes) = rw e refl in
       one ∙ ap (λ (l : List ℕ). (stepped (state_of (cut_of bytes).lines) l).1) (sym (append-nil (cut_of bytes).rest))
-      ∙ ap (λ (l : List ℕ). tells (cut_with bytes l)) (sym (text_none b piece e))
+      ∙ ap (λ (l : List ℕ). told_by_cut (cut_with bytes l)) (sym (text_none b piece e))
   step false e ih =
       let one : told_of bytes (b ∷ piece) ≡ told_of (b ∷ bytes) piece = rw e refl in
-      one ∙ ih (feed_on b piece e h) ∙ ap tells (with_more b bytes (text_of piece) e)
-      ∙ ap (λ (l : List ℕ). tells (cut_with bytes l)) (sym (text_on b piece e))
+      one ∙ ih (feed_on b piece e h) ∙ ap told_by_cut (with_more b bytes (text_of piece) e)
+      ∙ ap (λ (l : List ℕ). told_by_cut (cut_with bytes l)) (sym (text_on b piece e))
 
 pub told_part : (piece bytes : List ℕ) → length piece ≤ prefix_len is_inner piece
     → told_of bytes piece ≡ quiet (state_of (cut_of bytes).lines)

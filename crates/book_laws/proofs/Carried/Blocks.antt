@@ -45,14 +45,14 @@ same_self (x ∷ xs) = ap (λ (q : Bool). q && same_bytes xs xs) (eq_self x) ∙
 
 -- ---- rule 26: the bytes of COMMAND that the rules count are those of the block
 
-abbrev pub counts : List ℕ → CommandBytes
-counts block = record { first = slice_index block 0; count = length block }
+abbrev pub counted_block : List ℕ → CommandBytes
+counted_block block = record { first = slice_index block 0; count = length block }
 
 counted_small : (i m : ℕ) → i < 1000 → m ≡ i + 1 → counted_on i ≡ m
 counted_small i m lt e = omega (arith, lt, e)
 
 pub counts_on : (block : List ℕ) (byte : ℕ) → length block < 1000
-    → command_on (counts block) byte ≡ counts (block ++ byte ∷ [])
+    → command_on (counted_block block) byte ≡ counted_block (block ++ byte ∷ [])
 counts_on [] byte lt = refl
 counts_on (b ∷ block) byte lt =
     let v = length-append block (byte ∷ []) in
@@ -69,7 +69,7 @@ below_len None i m e lt = e
 below_len (Some l) i m e lt = grind (arith, nat_tests)
 
 pub may_follow : (block : List ℕ) (byte : ℕ) (ys cdb : List ℕ) → block ++ byte ∷ ys ≡ cdb → has_group_len cdb ≡ true
-    → may_take (counts block) byte ≡ true
+    → may_take (counted_block block) byte ≡ true
 may_follow [] byte ys cdb e whole =
     some_len (group_len byte) (length cdb) ((λ i. is_len (group_len (slice_index (e i) 0)) (length cdb)) ∙ whole)
 may_follow (b ∷ block) byte ys cdb e whole =
@@ -84,7 +84,7 @@ same_len : (g : Option ℕ) (m : ℕ) → is_len g m ≡ true → is_same_length
 same_len None m e = e
 same_len (Some l) m e = grind (arith, nat_tests)
 
-pub none_or_all : (block : List ℕ) → has_group_len block ≡ true → is_none_or_all (counts block) ≡ true
+pub none_or_all : (block : List ℕ) → has_group_len block ≡ true → is_none_or_all (counted_block block) ≡ true
 none_or_all [] whole = refl
 none_or_all (b ∷ block) whole =
     ap (λ (q : Bool). q || is_same_length (length (b ∷ block)) (group_len b)) (suc_some (length block))

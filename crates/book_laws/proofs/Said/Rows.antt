@@ -28,8 +28,8 @@ out_same a b h = λ i. h.msg i && h.cd i && not (h.io i)
 
 -- ---- lines change, or a byte is struck
 
-abbrev stays : Exchange → Exchange
-stays x = record { begun = x.begun; speech = x.speech; plan = x.plan }
+abbrev said_part : Exchange → Exchange
+said_part x = record { begun = x.begun; speech = x.speech; plan = x.plan }
 
 stays_on : (s : ScenarioValue) (n : Connection) (v : Option Item) (x : Exchange) (d : Dialogue) (a b : LineSet)
     → SamePhase a b → SpeaksBy s n v x d a → SpeaksBy s n v x d b

@@ -22,7 +22,7 @@ use proofs.{Named.Facts.{named_again}, Opened.Rows.{Holds, always}, Parts.{Base.
 use proofs.Parts.Ends.{are_silent, ends_told, summary_more, leave_departure, loss_departure, closing_now}
 use proofs.Said.Facts.{SaidNames, OutNames, unsaid, told, IsOpened, mild_said, names_hold, opening_words}
 use proofs.Said.Naming.{outs_of, outs_now, mild_tame, IsOpening, opening_more, opening_tame, no_abort, opening_names}
-use proofs.Said.{Naming.{names, name_steps, names_same}, Out.{abort_messages, abort_said}, Words.{said_of}}
+use proofs.Said.{Naming.{naming_part, name_steps, names_same}, Out.{abort_messages, abort_said}, Words.{said_of}}
 use proofs.{Serving.TurnSteps.{outs_talk}, Talks.{Aborts.{AbortTalk, abort_row}, Again.{AgainTalk, again_start}}}
 use proofs.Talks.{Again.{again_row, no_name}, Named.{talk_more}}
 use Rattle.due_model.specs.array_model.specs.Processes.{Process}
@@ -243,8 +243,8 @@ abort_ends s p row n o l m h e = by h.here.served
         outs : outs_of (parts_now o) ≡ MsgOut.Identify false a.unit ∷ abort_messages a.what
         outs = outs_now o ∙ (λ i. (h.all.unopened m served).outs i ++ said_is i)
 
-        named : names sum ≡ name_steps no_summary (MsgOut.Identify false a.unit ∷ abort_messages a.what)
-        named = ap (λ (q : Bool). names (summary_of q no_summary (parts_now o))) sel
+        named : naming_part sum ≡ name_steps no_summary (MsgOut.Identify false a.unit ∷ abort_messages a.what)
+        named = ap (λ (q : Bool). naming_part (summary_of q no_summary (parts_now o))) sel
             ∙ names_same (parts_now o) no_summary ∙ ap (name_steps no_summary) outs
 
         line_told : TellsAbort a.unit a.what sum

@@ -126,8 +126,8 @@ opening_tame c outs h = ap are_tame h.is ∙ tame_tag c.tag h.rest (mild_tame h.
 
 -- ---- the summary of parts, but for its departure, is that of the messages of the initiator
 
-abbrev pub names : Summary → Summary
-names u = record u { departure = Loss }
+abbrev pub naming_part : Summary → Summary
+naming_part u = record u { departure = Loss }
 
 abbrev pub name_step : Summary → MsgOut → Summary
 name_step u m = record (named u (unit_out m) (tag_out m)) { abort = last_abort u.abort m }
@@ -137,19 +137,19 @@ name_steps u [] = u
 name_steps u (m ∷ ms) = name_steps (name_step u m) ms
 
 named_same : (a : Summary) (u t : Option ℕ) (b : Option MsgOut) (d : Departure)
-    → names (record (named a u t) { abort = b; departure = d }) ≡ record (named (names a) u t) { abort = b }
+    → naming_part (record (named a u t) { abort = b; departure = d }) ≡ record (named (naming_part a) u t) { abort = b }
 named_same a u t b d = go (is_none a.unit) a.awaits_tag
   where
-    go : (x y : Bool) → names (record (if x then record a { unit = u; awaits_tag = is_some u }
+    go : (x y : Bool) → naming_part (record (if x then record a { unit = u; awaits_tag = is_some u }
         else if y then record a { tag = t; awaits_tag = false } else a) { abort = b; departure = d })
-        ≡ record (if x then record (names a) { unit = u; awaits_tag = is_some u }
-        else if y then record (names a) { tag = t; awaits_tag = false } else names a) { abort = b }
+        ≡ record (if x then record (naming_part a) { unit = u; awaits_tag = is_some u }
+        else if y then record (naming_part a) { tag = t; awaits_tag = false } else naming_part a) { abort = b }
     go true y = refl
     go false true = refl
     go false false = refl
 
 pub names_same : (parts : List Part) (a : Summary)
-    → names (summary_of false a parts) ≡ name_steps (names a) (outs_of parts)
+    → naming_part (summary_of false a parts) ≡ name_steps (naming_part a) (outs_of parts)
 names_same [] a = refl
 names_same (Part.Out m ∷ parts) a = names_same parts (summary_out false a m)
     ∙ ap (λ (x : Summary). name_steps x (outs_of parts))
@@ -257,9 +257,9 @@ pub opening_names : (s : ScenarioValue) (n : Connection) (parts : List Part) (id
     → IsOpening c (outs_of parts) → name_process s n parts id ≡ true
 opening_names s n parts id c sel of initiator target h =
     let a = opening_steps c.unit c.tag h.disc h.rest h.mild in
-    let is : names (summary_by n parts)
+    let is : naming_part (summary_by n parts)
     ≡ name_steps no_summary (MsgOut.Identify h.disc c.unit ∷ tag_messages c.tag h.rest) =
-    ap (λ (q : Bool). names (summary_of q no_summary parts)) sel
+    ap (λ (q : Bool). naming_part (summary_of q no_summary parts)) sel
     ∙ names_same parts no_summary ∙ ap (name_steps no_summary) h.is in
     name_by s n parts id c of initiator target (ap (λ (x : Summary). x.unit) is ∙ a.unit_is)
     (ap (λ (x : Summary). x.tag) is ∙ a.tag_is)
