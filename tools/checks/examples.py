@@ -22,12 +22,16 @@ KINDS = {
 }
 # A trace whose second device enters the arbitration a nanosecond too late, and what is refused, with the line and the status of each.
 BROKEN = b"trace 1\n1200 7 00280\n3001 6 00240\nend 3001\n"
+# A scenario with a tape, which does not run yet.
+TAPED = b"scsi 3\ntarget 0 latency 0 retries 2 disc never pick first seek 0 sync 0 0 begins no\ntape 0 0 objects 2 size 16 depth 1\nend\n"
 USAGE = b"usage: scsibus run [--short|--transcript] | judge | make SEED N | transcript | vcd | unvcd\n"
 REFUSALS = [
     ([], b"", USAGE, 1),
     (["walk"], b"", USAGE, 1),
     (["run", "--long"], b"", USAGE, 1),
     (["run"], b"scenario 1\nhost 8\n", b"scenario line 1 reason 2\n", 2),
+    (["run"], TAPED, b"not built\n", 9),
+    (["run", "--short"], TAPED, b"not built\n", 9),
     (["judge"], BROKEN, b"broken 2 4\n", 6),
     (["transcript"], BROKEN, b"broken 2 4\n", 6),
     (["judge"], b"trace 1\nend\n", b"trace line 2\n", 7),

@@ -47,6 +47,7 @@ TRANSCRIPTS = sorted(str(path) for path in (ROOT / "tools" / "transcript_cases")
 MAKES = sorted(str(path) for path in (ROOT / "tools" / "make_cases").glob("*.scsi"))
 SMALL = sorted(str(path) for path in (ROOT / "tools" / "run_cases").glob("*.scn"))
 GUARDS = sorted(str(path) for path in (ROOT / "tools" / "guard_cases").glob("*.scn"))
+TAPES = sorted(str(path) for path in (ROOT / "tools" / "tape_cases").glob("*.scn"))
 LAWS = sorted(str(path) for path in (ROOT / "tools" / "law_cases").glob("*.scn"))
 # Runs at the limit of the faults that a command bears, below and above it; and runs with each outcome.
 LIMITS = [

@@ -23,6 +23,7 @@ use Rattle.bus_base.specs.declared.events.Pick.TheVariants as picks
 use Rattle.scenario.specs.declared.value.FillDef.{FillDef}
 use Rattle.scenario.specs.declared.value.UnitDef.{UnitDef}
 use Rattle.scenario.specs.declared.value.Policy.TheVariants as policies
+use Rattle.scenario.specs.declared.value.Load.TheVariants as loads
 use Rattle.scenario.specs.declared.value.Tag.TheVariants as tags
 use Rattle.scenario.specs.declared.value.Payload.TheVariants as payloads
 use Rattle.scenario.specs.Value.{ScenarioValue}
@@ -81,7 +82,7 @@ def what(words):
 
 
 def scenario(path):
-    s = {k: [] for k in ("hosts", "targets", "units", "fills", "commands", "aborts", "resets", "faults")}
+    s = {k: [] for k in ("hosts", "targets", "units", "fills", "tapes", "loads", "commands", "aborts", "resets", "faults")}
     version = 0
     for line in open(path):
         w = line.split()
@@ -100,6 +101,11 @@ def scenario(path):
             s["units"].append(record(target=w[1], unit=w[2], blocks=w[4], size=w[6], depth=w[8]))
         elif w[0] == "fill":
             s["fills"].append(record(target=w[1], unit=w[2], lba=w[3], bytes=octets(w[4])))
+        elif w[0] == "tape":
+            s["tapes"].append(record(target=w[1], unit=w[2], objects=w[4], size=w[6], depth=w[8]))
+        elif w[0] == "load":
+            held = "loads.Mark" if w[3] == "mark" else "loads.Block " + octets(w[3])
+            s["loads"].append(record(target=w[1], unit=w[2], what=held))
         elif w[0] == "cmd":
             t, rest = tag(w[6:])
             payload = "payloads.Nothing"
@@ -141,6 +147,22 @@ def report(path):
     return parts
 
 
+def sense(words):
+    """The sense that a line of the replies shows, by its words after CHECK: key and codes, and of a tape marks and residue."""
+    key, asc, ascq = bytes.fromhex(words[0])
+    if len(words) == 1:
+        return "sense_of %d %d %d" % (key, asc, ascq)
+    return record(key=key, asc=asc, ascq=ascq, marks=int(words[1], 16), residue="Some %s" % words[2])
+
+
+def sense_data(words):
+    """The sense data of the same, in hexadecimal."""
+    key, asc, ascq = bytes.fromhex(words[0])
+    if len(words) == 1:
+        return "7000%02x000000000a00000000%02x%02x00000000" % (key, asc, ascq)
+    return "f000%02x%08x0a00000000%02x%02x00000000" % (int(words[1], 16) | key, int(words[2]), asc, ascq)
+
+
 def replies(parts):
     """The replies that the report shows, by process."""
     out = []
@@ -152,10 +174,8 @@ def replies(parts):
         elif w[2] == "QFULL":
             out.append(("command %s" % n, "queue_full"))
         elif w[2] == "CHECK" and w[3] != "none":
-            key, asc, ascq = bytes.fromhex(w[3])
-            out.append(("command %s" % n, "check_condition (sense_of %d %d %d)" % (key, asc, ascq)))
-            data = "7000%02x000000000a00000000%02x%02x00000000" % (key, asc, ascq)
-            out.append(("sense %s" % n, "good %s" % octets(data)))
+            out.append(("command %s" % n, "check_condition (%s)" % sense(w[3:])))
+            out.append(("sense %s" % n, "good %s" % octets(sense_data(w[3:]))))
     return out
 
 

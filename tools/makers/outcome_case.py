@@ -41,8 +41,7 @@ def outcome(words):
         return "(ended_good %s)" % (array_case.octets(words[1]) if len(words) > 1 else "[]")
     if words[1] == "none":
         return "(ended_check None)"
-    key, asc, ascq = (str(byte) for byte in bytes.fromhex(words[1]))
-    return "(ended_check (Some (%s)))" % array_case.record(key=key, asc=asc, ascq=ascq)
+    return "(ended_check (Some (%s)))" % array_case.sense(words[1:])
 
 
 def main():

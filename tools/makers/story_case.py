@@ -54,8 +54,7 @@ def outcome(w):
     if w[2] == "CHECK" and w[3] == "none":
         return "ended_check None"
     if w[2] == "CHECK":
-        key, asc, ascq = bytes.fromhex(w[3])
-        return "ended_check (Some (%s))" % array_case.record(key=key, asc=asc, ascq=ascq)
+        return "ended_check (Some (%s))" % array_case.sense(w[3:])
     return {"QFULL": "ended_full", "SELTIMEOUT": "ended_unanswered", "LOST": "ended_lost", "RESET": "ended_reset", "ABORTED": "ended_aborted"}[w[2]]
 
 

@@ -15,7 +15,10 @@ use Rattle.cdb_codec.specs.declared.command.CdbFault.{CdbFault}
 use Rattle.cdb_codec.specs.declared.command.CdbFault.TheVariants as faults
 use Rattle.cdb_codec.specs.Cdb.{command_of}
 use Rattle.cdb_codec.specs.Blocks.{blocks_moved}
-use Rattle.cdb_codec.specs.Replies.{sense_data, inquiry_data, capacity_data}
+-- REQUEST SENSE without fault. A tape reads the same blocks as such (`readings_agree` of `cdb_codec`), so it serves at
+-- each unit.
+pub use Rattle.cdb_codec.specs.Kinds.{is_request_sense}
+use Rattle.cdb_codec.specs.Replies.{plain_sense, sense_data, inquiry_data, capacity_data}
 use Rattle.array_model.specs.Contents.{Contents, bytes_at, with_bytes}
 
 -- Status, the bytes that come back, and with CHECK CONDITION the sense.
@@ -25,7 +28,7 @@ pub record Reply : Type 0 where
   pub sense : Sense
 
 abbrev pub sense_of : ℕ → ℕ → ℕ → Sense
-sense_of key asc ascq = record { key = key; asc = asc; ascq = ascq }
+sense_of key asc ascq = plain_sense key asc ascq
 
 abbrev pub no_sense : Sense
 no_sense = sense_of NO_SENSE NO_ADDITIONAL_SENSE 0x00
@@ -83,18 +86,6 @@ pub record Execution : Type 0 where
 
 abbrev pub is_opcode : List ℕ → ℕ → Bool
 is_opcode cdb code = not (length cdb == 0) && slice_index cdb 0 == code
-
--- REQUEST SENSE without fault.
-abbrev pub is_request_sense : Result Command CdbFault → Bool
-is_request_sense (Ok (commands.RequestSense room)) = true
-is_request_sense (Ok commands.TestUnitReady) = false
-is_request_sense (Ok (commands.Read6 lba count)) = false
-is_request_sense (Ok (commands.Write6 lba count)) = false
-is_request_sense (Ok (commands.Inquiry room)) = false
-is_request_sense (Ok commands.ReadCapacity) = false
-is_request_sense (Ok (commands.Read10 lba count)) = false
-is_request_sense (Ok (commands.Write10 lba count)) = false
-is_request_sense (Err fault) = false
 
 -- INQUIRY ignores an absent unit and an attention; REQUEST SENSE ignores an attention, and without fault an absent
 -- unit.

@@ -10,13 +10,23 @@ use Rattle.book_laws.specs.RowTests.{keep_books}
 use Rattle.due_model.specs.bus_trace.specs.LineSet.{set_of}
 use Rattle.due_model.specs.bus_trace.specs.declared.Row.{Row}
 use Rattle.due_model.specs.bus_trace.specs.declared.Kind.TheVariants.{Drives, Fault}
-use Rattle.std.proofs.Common.{ℕ, ◌≡◌, true, false, List, [], ◌∷◌, refl}
+use Rattle.std.proofs.Common.{ℕ, ◌≡◌, Bool, true, false, List, [], ◌∷◌, reverse, refl}
+use Rattle.std.specs.Prelude.{Option, Some, None}
+use Rattle.due_model.specs.bus_base.specs.declared.ProcId.{ProcId}
 use Rattle.due_model.specs.bus_base.specs.declared.AbortKind.TheVariants as aborts
+use Rattle.due_model.specs.bus_base.specs.declared.Event.{Event}
+use Rattle.due_model.specs.bus_base.specs.declared.Event.TheVariants as events
 use Rattle.due_model.specs.bus_base.specs.declared.events.Pick.TheVariants as picks
+use Rattle.due_model.specs.scenario.specs.declared.value.FillDef.{FillDef}
+use Rattle.due_model.specs.scenario.specs.declared.value.UnitDef.{UnitDef}
 use Rattle.due_model.specs.scenario.specs.declared.value.Policy.TheVariants as policies
+use Rattle.due_model.specs.scenario.specs.declared.value.Load.TheVariants as loads
 use Rattle.due_model.specs.scenario.specs.declared.value.Tag.TheVariants as tags
 use Rattle.due_model.specs.scenario.specs.declared.value.Payload.TheVariants as payloads
 use Rattle.due_model.specs.scenario.specs.Value.{ScenarioValue}
+use Rattle.due_model.specs.array_model.specs.Contents.{Contents, starting_contents, printed_blocks}
+use Rattle.due_model.specs.array_model.specs.Execution.{Reply, good, check_condition, queue_full, sense_of}
+use Rattle.due_model.specs.array_model.specs.ArrayHistory.{array_after, disks_of, reply_of}
 
 abbrev drive : ℕ → ℕ → ℕ → Row
 drive time dev lines = record { time = time; dev = dev; kind = Drives (set_of lines) }
@@ -33,6 +43,8 @@ aborts_and_resets_story = record {
   targets = record { dev = 0; latency = 100; retries = 1; disc = policies.NoSave 3; pick = picks.First; seek = 20000; period = 50; offset = 8; begins = false } ∷ [];
   units = record { target = 0; unit = 5; blocks = 8; size = 16; depth = 2 } ∷ [];
   fills = record { target = 0; unit = 5; lba = 0; bytes = (0 ∷ 60 ∷ 0 ∷ 73 ∷ 57 ∷ 198 ∷ 0 ∷ 0 ∷ 226 ∷ 78 ∷ 52 ∷ 120 ∷ 160 ∷ 163 ∷ 155 ∷ 140 ∷ []) } ∷ record { target = 0; unit = 5; lba = 1; bytes = (0 ∷ 0 ∷ 0 ∷ 169 ∷ 199 ∷ 0 ∷ 162 ∷ 204 ∷ 0 ∷ 153 ∷ 40 ∷ 0 ∷ 0 ∷ 145 ∷ 0 ∷ 190 ∷ []) } ∷ record { target = 0; unit = 5; lba = 2; bytes = (88 ∷ 0 ∷ 51 ∷ 210 ∷ 0 ∷ 0 ∷ 163 ∷ 95 ∷ 126 ∷ 110 ∷ 0 ∷ 162 ∷ 40 ∷ 0 ∷ 51 ∷ 163 ∷ []) } ∷ record { target = 0; unit = 5; lba = 5; bytes = (233 ∷ 224 ∷ 0 ∷ 109 ∷ 60 ∷ 83 ∷ 255 ∷ 0 ∷ 0 ∷ 0 ∷ 9 ∷ 240 ∷ 23 ∷ 145 ∷ 0 ∷ 0 ∷ []) } ∷ record { target = 0; unit = 5; lba = 7; bytes = (145 ∷ 237 ∷ 47 ∷ 0 ∷ 142 ∷ 249 ∷ 143 ∷ 0 ∷ 26 ∷ 70 ∷ 0 ∷ 43 ∷ 0 ∷ 0 ∷ 0 ∷ 163 ∷ []) } ∷ [];
+  tapes = [];
+  loads = [];
   commands = record { host = 4; target = 0; unit = 5; at = 11481; tag = tags.Simple 255; cdb = (8 ∷ 0 ∷ 0 ∷ 3 ∷ 1 ∷ 0 ∷ []); payload = payloads.Nothing } ∷ record { host = 6; target = 0; unit = 5; at = 2289; tag = tags.Simple 1; cdb = (4 ∷ 0 ∷ 0 ∷ 0 ∷ 0 ∷ 0 ∷ []); payload = payloads.Nothing } ∷ record { host = 4; target = 0; unit = 5; at = 3238; tag = tags.Simple 2; cdb = (10 ∷ 0 ∷ 0 ∷ 6 ∷ 1 ∷ 0 ∷ []); payload = payloads.Hex (255 ∷ 0 ∷ 0 ∷ 79 ∷ 0 ∷ 145 ∷ 78 ∷ 0 ∷ 0 ∷ 255 ∷ 153 ∷ 201 ∷ 0 ∷ 0 ∷ 255 ∷ 255 ∷ []) } ∷ record { host = 4; target = 0; unit = 5; at = 13442; tag = tags.Untagged; cdb = (18 ∷ 0 ∷ 0 ∷ 0 ∷ 5 ∷ 0 ∷ []); payload = payloads.Nothing } ∷ record { host = 6; target = 0; unit = 5; at = 8041; tag = tags.Untagged; cdb = (40 ∷ 24 ∷ 0 ∷ 0 ∷ 0 ∷ 7 ∷ 0 ∷ 0 ∷ 1 ∷ 0 ∷ []); payload = payloads.Nothing } ∷ [];
   aborts = record { host = 1; target = 0; unit = 5; at = 105264; what = aborts.Device } ∷ record { host = 2; target = 0; unit = 5; at = 35104; what = aborts.All } ∷ [];
   resets = record { dev = 7; at = 114704 } ∷ record { dev = 3; at = 10145 } ∷ record { dev = 3; at = 182069 } ∷ [];
@@ -55,6 +67,8 @@ all_story = record {
   targets = record { dev = 0; latency = 0; retries = 2; disc = policies.Command; pick = picks.First; seek = 0; period = 0; offset = 0; begins = false } ∷ [];
   units = record { target = 0; unit = 0; blocks = 4; size = 16; depth = 8 } ∷ [];
   fills = [];
+  tapes = [];
+  loads = [];
   commands = record { host = 6; target = 0; unit = 0; at = 0; tag = tags.Untagged; cdb = (8 ∷ 0 ∷ 0 ∷ 9 ∷ 1 ∷ 0 ∷ []); payload = payloads.Nothing } ∷ record { host = 7; target = 0; unit = 0; at = 40000; tag = tags.Simple 2; cdb = (10 ∷ 0 ∷ 0 ∷ 1 ∷ 1 ∷ 0 ∷ []); payload = payloads.From 16 } ∷ record { host = 6; target = 0; unit = 0; at = 60000; tag = tags.Untagged; cdb = (3 ∷ 0 ∷ 0 ∷ 0 ∷ 18 ∷ 0 ∷ []); payload = payloads.Nothing } ∷ [];
   aborts = record { host = 6; target = 0; unit = 0; at = 14000; what = aborts.All } ∷ [];
   resets = [];
@@ -77,6 +91,8 @@ capacity_of_the_largest_story = record {
   targets = record { dev = 0; latency = 0; retries = 2; disc = policies.Never; pick = picks.First; seek = 0; period = 0; offset = 0; begins = false } ∷ [];
   units = record { target = 0; unit = 0; blocks = 4294967296; size = 512; depth = 1 } ∷ [];
   fills = [];
+  tapes = [];
+  loads = [];
   commands = record { host = 7; target = 0; unit = 0; at = 0; tag = tags.Untagged; cdb = (37 ∷ 0 ∷ 0 ∷ 0 ∷ 0 ∷ 0 ∷ 0 ∷ 0 ∷ 0 ∷ 0 ∷ []); payload = payloads.Nothing } ∷ [];
   aborts = [];
   resets = [];
@@ -99,6 +115,8 @@ checks_story = record {
   targets = record { dev = 0; latency = 0; retries = 2; disc = policies.Command; pick = picks.Last; seek = 1000000; period = 0; offset = 0; begins = false } ∷ [];
   units = record { target = 0; unit = 0; blocks = 1; size = 16; depth = 6 } ∷ [];
   fills = [];
+  tapes = [];
+  loads = [];
   commands = record { host = 7; target = 0; unit = 0; at = 0; tag = tags.Simple 0; cdb = (8 ∷ 0 ∷ 0 ∷ 1 ∷ 1 ∷ 0 ∷ []); payload = payloads.Nothing } ∷ record { host = 6; target = 0; unit = 0; at = 0; tag = tags.Simple 0; cdb = (0 ∷ 0 ∷ 0 ∷ 0 ∷ 0 ∷ 0 ∷ []); payload = payloads.Nothing } ∷ [];
   aborts = [];
   resets = [];
@@ -121,6 +139,8 @@ conflicts_story = record {
   targets = record { dev = 0; latency = 0; retries = 2; disc = policies.Command; pick = picks.Last; seek = 1000000; period = 0; offset = 0; begins = false } ∷ [];
   units = record { target = 0; unit = 0; blocks = 1; size = 16; depth = 6 } ∷ [];
   fills = [];
+  tapes = [];
+  loads = [];
   commands = record { host = 7; target = 0; unit = 0; at = 0; tag = tags.Simple 0; cdb = (0 ∷ 0 ∷ 0 ∷ 0 ∷ 0 ∷ 0 ∷ []); payload = payloads.Nothing } ∷ record { host = 7; target = 0; unit = 0; at = 0; tag = tags.Simple 1; cdb = (10 ∷ 0 ∷ 0 ∷ 0 ∷ 1 ∷ 0 ∷ []); payload = payloads.From 32 } ∷ record { host = 7; target = 0; unit = 0; at = 0; tag = tags.Simple 2; cdb = (10 ∷ 0 ∷ 0 ∷ 0 ∷ 1 ∷ 0 ∷ []); payload = payloads.From 64 } ∷ record { host = 6; target = 0; unit = 0; at = 0; tag = tags.Simple 0; cdb = (10 ∷ 0 ∷ 0 ∷ 0 ∷ 1 ∷ 0 ∷ []); payload = payloads.From 96 } ∷ [];
   aborts = [];
   resets = [];
@@ -143,6 +163,8 @@ full_story = record {
   targets = record { dev = 0; latency = 0; retries = 2; disc = policies.Command; pick = picks.First; seek = 1000000; period = 0; offset = 0; begins = false } ∷ [];
   units = record { target = 0; unit = 0; blocks = 2; size = 16; depth = 3 } ∷ record { target = 0; unit = 1; blocks = 2; size = 16; depth = 1 } ∷ [];
   fills = [];
+  tapes = [];
+  loads = [];
   commands = record { host = 7; target = 0; unit = 0; at = 0; tag = tags.Simple 1; cdb = (10 ∷ 0 ∷ 0 ∷ 1 ∷ 1 ∷ 0 ∷ []); payload = payloads.From 16 } ∷ record { host = 6; target = 0; unit = 0; at = 0; tag = tags.Simple 2; cdb = (10 ∷ 0 ∷ 0 ∷ 1 ∷ 1 ∷ 0 ∷ []); payload = payloads.From 32 } ∷ record { host = 6; target = 0; unit = 0; at = 0; tag = tags.Simple 9; cdb = (10 ∷ 0 ∷ 0 ∷ 0 ∷ 1 ∷ 0 ∷ []); payload = payloads.From 80 } ∷ record { host = 7; target = 0; unit = 0; at = 50000; tag = tags.Head 3; cdb = (10 ∷ 0 ∷ 0 ∷ 0 ∷ 1 ∷ 0 ∷ []); payload = payloads.From 48 } ∷ record { host = 6; target = 0; unit = 1; at = 100000; tag = tags.Ordered 4; cdb = (10 ∷ 0 ∷ 0 ∷ 0 ∷ 1 ∷ 0 ∷ []); payload = payloads.From 64 } ∷ record { host = 6; target = 0; unit = 1; at = 100000; tag = tags.Simple 5; cdb = (18 ∷ 0 ∷ 0 ∷ 0 ∷ 36 ∷ 0 ∷ []); payload = payloads.Nothing } ∷ record { host = 7; target = 0; unit = 1; at = 100000; tag = tags.Untagged; cdb = (3 ∷ 0 ∷ 0 ∷ 0 ∷ 4 ∷ 0 ∷ []); payload = payloads.Nothing } ∷ [];
   aborts = record { host = 6; target = 0; unit = 0; at = 150000; what = (aborts.Tag 2) } ∷ record { host = 6; target = 0; unit = 1; at = 3000000; what = aborts.Device } ∷ [];
   resets = [];
@@ -165,6 +187,8 @@ heads_story = record {
   targets = record { dev = 0; latency = 0; retries = 2; disc = policies.Command; pick = picks.First; seek = 1000000; period = 0; offset = 0; begins = false } ∷ [];
   units = record { target = 0; unit = 0; blocks = 1; size = 16; depth = 6 } ∷ [];
   fills = [];
+  tapes = [];
+  loads = [];
   commands = record { host = 7; target = 0; unit = 0; at = 0; tag = tags.Simple 0; cdb = (0 ∷ 0 ∷ 0 ∷ 0 ∷ 0 ∷ 0 ∷ []); payload = payloads.Nothing } ∷ record { host = 7; target = 0; unit = 0; at = 0; tag = tags.Simple 1; cdb = (0 ∷ 0 ∷ 0 ∷ 0 ∷ 0 ∷ 0 ∷ []); payload = payloads.Nothing } ∷ record { host = 7; target = 0; unit = 0; at = 0; tag = tags.Ordered 2; cdb = (0 ∷ 0 ∷ 0 ∷ 0 ∷ 0 ∷ 0 ∷ []); payload = payloads.Nothing } ∷ record { host = 7; target = 0; unit = 0; at = 0; tag = tags.Simple 3; cdb = (0 ∷ 0 ∷ 0 ∷ 0 ∷ 0 ∷ 0 ∷ []); payload = payloads.Nothing } ∷ record { host = 7; target = 0; unit = 0; at = 0; tag = tags.Head 4; cdb = (0 ∷ 0 ∷ 0 ∷ 0 ∷ 0 ∷ 0 ∷ []); payload = payloads.Nothing } ∷ record { host = 7; target = 0; unit = 0; at = 0; tag = tags.Head 5; cdb = (0 ∷ 0 ∷ 0 ∷ 0 ∷ 0 ∷ 0 ∷ []); payload = payloads.Nothing } ∷ [];
   aborts = [];
   resets = [];
@@ -187,6 +211,8 @@ held_story = record {
   targets = record { dev = 0; latency = 0; retries = 2; disc = policies.Command; pick = picks.Last; seek = 60000; period = 0; offset = 0; begins = false } ∷ [];
   units = record { target = 0; unit = 0; blocks = 4; size = 16; depth = 8 } ∷ [];
   fills = [];
+  tapes = [];
+  loads = [];
   commands = record { host = 6; target = 0; unit = 0; at = 0; tag = tags.Simple 1; cdb = (8 ∷ 0 ∷ 0 ∷ 9 ∷ 1 ∷ 0 ∷ []); payload = payloads.Nothing } ∷ record { host = 7; target = 0; unit = 0; at = 5000; tag = tags.Simple 2; cdb = (10 ∷ 0 ∷ 0 ∷ 1 ∷ 1 ∷ 0 ∷ []); payload = payloads.From 16 } ∷ record { host = 7; target = 0; unit = 0; at = 74000; tag = tags.Simple 3; cdb = (10 ∷ 0 ∷ 0 ∷ 2 ∷ 1 ∷ 0 ∷ []); payload = payloads.From 32 } ∷ [];
   aborts = [];
   resets = [];
@@ -209,6 +235,8 @@ last_block_written_story = record {
   targets = record { dev = 0; latency = 0; retries = 2; disc = policies.Never; pick = picks.First; seek = 0; period = 0; offset = 0; begins = false } ∷ [];
   units = record { target = 0; unit = 0; blocks = 4294967296; size = 512; depth = 1 } ∷ [];
   fills = [];
+  tapes = [];
+  loads = [];
   commands = record { host = 7; target = 0; unit = 0; at = 0; tag = tags.Untagged; cdb = (42 ∷ 0 ∷ 255 ∷ 255 ∷ 255 ∷ 255 ∷ 0 ∷ 0 ∷ 1 ∷ 0 ∷ []); payload = payloads.From 0 } ∷ [];
   aborts = [];
   resets = [];
@@ -231,6 +259,8 @@ mixed_tags_story = record {
   targets = record { dev = 0; latency = 0; retries = 2; disc = policies.Command; pick = picks.First; seek = 1000000; period = 0; offset = 0; begins = false } ∷ [];
   units = record { target = 0; unit = 0; blocks = 1; size = 16; depth = 6 } ∷ [];
   fills = [];
+  tapes = [];
+  loads = [];
   commands = record { host = 7; target = 0; unit = 0; at = 0; tag = tags.Simple 0; cdb = (0 ∷ 0 ∷ 0 ∷ 0 ∷ 0 ∷ 0 ∷ []); payload = payloads.Nothing } ∷ record { host = 7; target = 0; unit = 0; at = 0; tag = tags.Simple 1; cdb = (0 ∷ 0 ∷ 0 ∷ 0 ∷ 0 ∷ 0 ∷ []); payload = payloads.Nothing } ∷ record { host = 7; target = 0; unit = 0; at = 0; tag = tags.Head 2; cdb = (0 ∷ 0 ∷ 0 ∷ 0 ∷ 0 ∷ 0 ∷ []); payload = payloads.Nothing } ∷ record { host = 7; target = 0; unit = 0; at = 0; tag = tags.Head 3; cdb = (0 ∷ 0 ∷ 0 ∷ 0 ∷ 0 ∷ 0 ∷ []); payload = payloads.Nothing } ∷ record { host = 7; target = 0; unit = 0; at = 0; tag = tags.Simple 4; cdb = (0 ∷ 0 ∷ 0 ∷ 0 ∷ 0 ∷ 0 ∷ []); payload = payloads.Nothing } ∷ record { host = 7; target = 0; unit = 0; at = 0; tag = tags.Ordered 5; cdb = (0 ∷ 0 ∷ 0 ∷ 0 ∷ 0 ∷ 0 ∷ []); payload = payloads.Nothing } ∷ [];
   aborts = [];
   resets = [];
@@ -253,6 +283,8 @@ order_story = record {
   targets = record { dev = 0; latency = 0; retries = 2; disc = policies.Command; pick = picks.Last; seek = 100000; period = 0; offset = 0; begins = false } ∷ [];
   units = record { target = 0; unit = 0; blocks = 4; size = 16; depth = 8 } ∷ [];
   fills = record { target = 0; unit = 0; lba = 0; bytes = (0 ∷ 1 ∷ 2 ∷ 3 ∷ 4 ∷ 5 ∷ 6 ∷ 7 ∷ 8 ∷ 9 ∷ 10 ∷ 11 ∷ 12 ∷ 13 ∷ 14 ∷ 15 ∷ []) } ∷ [];
+  tapes = [];
+  loads = [];
   commands = record { host = 7; target = 0; unit = 0; at = 0; tag = tags.Simple 1; cdb = (10 ∷ 0 ∷ 0 ∷ 1 ∷ 1 ∷ 0 ∷ []); payload = payloads.From 16 } ∷ record { host = 7; target = 0; unit = 0; at = 0; tag = tags.Simple 2; cdb = (10 ∷ 0 ∷ 0 ∷ 2 ∷ 1 ∷ 0 ∷ []); payload = payloads.From 32 } ∷ record { host = 7; target = 0; unit = 0; at = 0; tag = tags.Ordered 3; cdb = (10 ∷ 0 ∷ 0 ∷ 1 ∷ 1 ∷ 0 ∷ []); payload = payloads.From 48 } ∷ record { host = 7; target = 0; unit = 0; at = 0; tag = tags.Simple 4; cdb = (8 ∷ 0 ∷ 0 ∷ 3 ∷ 1 ∷ 0 ∷ []); payload = payloads.Nothing } ∷ [];
   aborts = [];
   resets = [];
@@ -275,6 +307,8 @@ queue_story = record {
   targets = record { dev = 0; latency = 0; retries = 2; disc = policies.Command; pick = picks.First; seek = 1000000; period = 0; offset = 0; begins = false } ∷ [];
   units = record { target = 0; unit = 0; blocks = 2; size = 16; depth = 8 } ∷ [];
   fills = [];
+  tapes = [];
+  loads = [];
   commands = record { host = 7; target = 0; unit = 0; at = 0; tag = tags.Simple 1; cdb = (10 ∷ 0 ∷ 0 ∷ 1 ∷ 1 ∷ 0 ∷ []); payload = payloads.From 16 } ∷ record { host = 6; target = 0; unit = 0; at = 0; tag = tags.Simple 2; cdb = (10 ∷ 0 ∷ 0 ∷ 1 ∷ 1 ∷ 0 ∷ []); payload = payloads.From 32 } ∷ record { host = 7; target = 0; unit = 0; at = 100000; tag = tags.Simple 3; cdb = (10 ∷ 0 ∷ 0 ∷ 0 ∷ 1 ∷ 0 ∷ []); payload = payloads.From 48 } ∷ record { host = 6; target = 0; unit = 0; at = 100000; tag = tags.Simple 4; cdb = (18 ∷ 0 ∷ 0 ∷ 0 ∷ 36 ∷ 0 ∷ []); payload = payloads.Nothing } ∷ record { host = 6; target = 0; unit = 0; at = 2000000; tag = tags.Simple 5; cdb = (10 ∷ 0 ∷ 0 ∷ 0 ∷ 1 ∷ 0 ∷ []); payload = payloads.From 64 } ∷ record { host = 6; target = 0; unit = 0; at = 3000000; tag = tags.Simple 6; cdb = (0 ∷ 0 ∷ 0 ∷ 0 ∷ 0 ∷ 0 ∷ []); payload = payloads.Nothing } ∷ [];
   aborts = record { host = 7; target = 0; unit = 0; at = 50000; what = aborts.WholeQueue } ∷ [];
   resets = [];
@@ -297,6 +331,8 @@ range_past_the_last_story = record {
   targets = record { dev = 0; latency = 0; retries = 2; disc = policies.Never; pick = picks.First; seek = 0; period = 0; offset = 0; begins = false } ∷ [];
   units = record { target = 0; unit = 0; blocks = 4294967296; size = 512; depth = 1 } ∷ [];
   fills = [];
+  tapes = [];
+  loads = [];
   commands = record { host = 7; target = 0; unit = 0; at = 0; tag = tags.Untagged; cdb = (40 ∷ 0 ∷ 255 ∷ 255 ∷ 255 ∷ 255 ∷ 0 ∷ 0 ∷ 2 ∷ 0 ∷ []); payload = payloads.Nothing } ∷ [];
   aborts = [];
   resets = [];
@@ -319,6 +355,8 @@ refusals_story = record {
   targets = record { dev = 1; latency = 100; retries = 16; disc = policies.NoSave 1; pick = picks.Last; seek = 3000; period = 0; offset = 0; begins = false } ∷ [];
   units = record { target = 1; unit = 4; blocks = 1; size = 16; depth = 1 } ∷ [];
   fills = [];
+  tapes = [];
+  loads = [];
   commands = record { host = 7; target = 1; unit = 4; at = 0; tag = tags.Ordered 255; cdb = (3 ∷ 2 ∷ 0 ∷ 0 ∷ 18 ∷ 0 ∷ []); payload = payloads.Nothing } ∷ record { host = 6; target = 1; unit = 4; at = 0; tag = tags.Simple 1; cdb = (8 ∷ 0 ∷ 0 ∷ 0 ∷ 1 ∷ 0 ∷ []); payload = payloads.Nothing } ∷ record { host = 4; target = 1; unit = 4; at = 0; tag = tags.Simple 2; cdb = (10 ∷ 0 ∷ 0 ∷ 0 ∷ 1 ∷ 0 ∷ []); payload = payloads.From 47 } ∷ record { host = 6; target = 1; unit = 4; at = 0; tag = tags.Head 0; cdb = (0 ∷ 0 ∷ 0 ∷ 0 ∷ 0 ∷ 0 ∷ []); payload = payloads.Nothing } ∷ record { host = 7; target = 1; unit = 4; at = 0; tag = tags.Simple 4; cdb = (18 ∷ 2 ∷ 0 ∷ 0 ∷ 36 ∷ 0 ∷ []); payload = payloads.Nothing } ∷ [];
   aborts = [];
   resets = [];
@@ -341,6 +379,8 @@ reset_story = record {
   targets = record { dev = 0; latency = 0; retries = 2; disc = policies.Command; pick = picks.First; seek = 0; period = 0; offset = 0; begins = false } ∷ [];
   units = record { target = 0; unit = 0; blocks = 2; size = 16; depth = 2 } ∷ [];
   fills = [];
+  tapes = [];
+  loads = [];
   commands = record { host = 7; target = 0; unit = 0; at = 50000; tag = tags.Untagged; cdb = (10 ∷ 0 ∷ 0 ∷ 1 ∷ 1 ∷ 0 ∷ []); payload = payloads.From 16 } ∷ record { host = 7; target = 0; unit = 0; at = 90000; tag = tags.Untagged; cdb = (10 ∷ 0 ∷ 0 ∷ 1 ∷ 1 ∷ 0 ∷ []); payload = payloads.From 32 } ∷ record { host = 7; target = 0; unit = 0; at = 130000; tag = tags.Untagged; cdb = (37 ∷ 0 ∷ 0 ∷ 0 ∷ 0 ∷ 0 ∷ 0 ∷ 0 ∷ 0 ∷ 0 ∷ []); payload = payloads.Nothing } ∷ [];
   aborts = [];
   resets = record { dev = 7; at = 1000 } ∷ [];
@@ -363,6 +403,8 @@ resets_with_queues_story = record {
   targets = record { dev = 1; latency = 100; retries = 5; disc = policies.Burst 3; pick = picks.Last; seek = 100000; period = 0; offset = 0; begins = false } ∷ [];
   units = record { target = 1; unit = 3; blocks = 2; size = 32; depth = 4 } ∷ record { target = 1; unit = 6; blocks = 8; size = 32; depth = 1 } ∷ [];
   fills = record { target = 1; unit = 3; lba = 0; bytes = (0 ∷ 95 ∷ 226 ∷ 188 ∷ 68 ∷ 113 ∷ 249 ∷ 0 ∷ 0 ∷ 139 ∷ 0 ∷ 163 ∷ 186 ∷ 247 ∷ 0 ∷ 0 ∷ 106 ∷ 11 ∷ 92 ∷ 0 ∷ 0 ∷ 253 ∷ 153 ∷ 90 ∷ 184 ∷ 0 ∷ 0 ∷ 0 ∷ 18 ∷ 0 ∷ 130 ∷ 120 ∷ []) } ∷ record { target = 1; unit = 6; lba = 0; bytes = (114 ∷ 0 ∷ 167 ∷ 0 ∷ 86 ∷ 0 ∷ 130 ∷ 101 ∷ 63 ∷ 220 ∷ 0 ∷ 204 ∷ 181 ∷ 36 ∷ 0 ∷ 0 ∷ 0 ∷ 118 ∷ 186 ∷ 38 ∷ 0 ∷ 106 ∷ 167 ∷ 154 ∷ 15 ∷ 95 ∷ 177 ∷ 78 ∷ 31 ∷ 126 ∷ 49 ∷ 0 ∷ []) } ∷ record { target = 1; unit = 6; lba = 7; bytes = (0 ∷ 231 ∷ 0 ∷ 0 ∷ 0 ∷ 0 ∷ 127 ∷ 190 ∷ 0 ∷ 225 ∷ 29 ∷ 125 ∷ 0 ∷ 245 ∷ 87 ∷ 151 ∷ 0 ∷ 0 ∷ 23 ∷ 187 ∷ 112 ∷ 0 ∷ 4 ∷ 138 ∷ 0 ∷ 221 ∷ 167 ∷ 253 ∷ 99 ∷ 67 ∷ 229 ∷ 144 ∷ []) } ∷ [];
+  tapes = [];
+  loads = [];
   commands = record { host = 4; target = 1; unit = 6; at = 0; tag = tags.Untagged; cdb = (8 ∷ 0 ∷ 0 ∷ 4 ∷ 2 ∷ 0 ∷ []); payload = payloads.Nothing } ∷ record { host = 7; target = 1; unit = 6; at = 0; tag = tags.Head 1; cdb = (10 ∷ 0 ∷ 0 ∷ 4 ∷ 1 ∷ 0 ∷ []); payload = payloads.From 138 } ∷ record { host = 5; target = 1; unit = 6; at = 0; tag = tags.Simple 2; cdb = (0 ∷ 0 ∷ 0 ∷ 0 ∷ 0 ∷ 0 ∷ []); payload = payloads.Nothing } ∷ record { host = 7; target = 1; unit = 6; at = 0; tag = tags.Untagged; cdb = (10 ∷ 0 ∷ 0 ∷ 5 ∷ 2 ∷ 0 ∷ []); payload = payloads.From 137 } ∷ record { host = 7; target = 1; unit = 3; at = 0; tag = tags.Simple 1; cdb = (8 ∷ 0 ∷ 0 ∷ 1 ∷ 1 ∷ 0 ∷ []); payload = payloads.Nothing } ∷ [];
   aborts = record { host = 5; target = 1; unit = 3; at = 301040; what = aborts.All } ∷ record { host = 7; target = 1; unit = 6; at = 120728; what = aborts.Device } ∷ record { host = 5; target = 1; unit = 6; at = 314639; what = aborts.WholeQueue } ∷ [];
   resets = record { dev = 5; at = 120745 } ∷ [];
@@ -385,6 +427,8 @@ sense_cut_story = record {
   targets = record { dev = 0; latency = 0; retries = 0; disc = policies.Never; pick = picks.First; seek = 0; period = 0; offset = 0; begins = false } ∷ [];
   units = record { target = 0; unit = 0; blocks = 1; size = 16; depth = 1 } ∷ [];
   fills = [];
+  tapes = [];
+  loads = [];
   commands = record { host = 7; target = 0; unit = 0; at = 0; tag = tags.Untagged; cdb = (4 ∷ 0 ∷ 0 ∷ 0 ∷ 0 ∷ 0 ∷ []); payload = payloads.Nothing } ∷ [];
   aborts = [];
   resets = record { dev = 7; at = 16745 } ∷ [];
@@ -407,6 +451,8 @@ senses_story = record {
   targets = record { dev = 0; latency = 0; retries = 2; disc = policies.Never; pick = picks.First; seek = 0; period = 0; offset = 0; begins = false } ∷ [];
   units = record { target = 0; unit = 0; blocks = 255; size = 16; depth = 1 } ∷ [];
   fills = [];
+  tapes = [];
+  loads = [];
   commands = record { host = 7; target = 0; unit = 0; at = 0; tag = tags.Untagged; cdb = (8 ∷ 0 ∷ 1 ∷ 255 ∷ 1 ∷ 0 ∷ []); payload = payloads.Nothing } ∷ record { host = 7; target = 0; unit = 0; at = 0; tag = tags.Untagged; cdb = (3 ∷ 0 ∷ 0 ∷ 0 ∷ 18 ∷ 0 ∷ []); payload = payloads.Nothing } ∷ record { host = 7; target = 0; unit = 0; at = 0; tag = tags.Untagged; cdb = (10 ∷ 0 ∷ 0 ∷ 1 ∷ 2 ∷ 0 ∷ []); payload = payloads.From 160 } ∷ record { host = 7; target = 0; unit = 0; at = 0; tag = tags.Untagged; cdb = (40 ∷ 0 ∷ 0 ∷ 0 ∷ 0 ∷ 0 ∷ 0 ∷ 0 ∷ 3 ∷ 0 ∷ []); payload = payloads.Nothing } ∷ record { host = 7; target = 0; unit = 0; at = 0; tag = tags.Untagged; cdb = (11 ∷ 0 ∷ 0 ∷ 0 ∷ 0 ∷ 0 ∷ []); payload = payloads.Nothing } ∷ record { host = 7; target = 0; unit = 0; at = 0; tag = tags.Untagged; cdb = (8 ∷ 0 ∷ 0 ∷ 0 ∷ 0 ∷ 0 ∷ []); payload = payloads.Nothing } ∷ [];
   aborts = [];
   resets = [];
@@ -429,6 +475,8 @@ struck_command_story = record {
   targets = record { dev = 7; latency = 89; retries = 0; disc = policies.Burst 1; pick = picks.First; seek = 0; period = 80; offset = 1; begins = false } ∷ [];
   units = record { target = 7; unit = 2; blocks = 8; size = 16; depth = 2 } ∷ record { target = 7; unit = 4; blocks = 2; size = 16; depth = 4 } ∷ [];
   fills = record { target = 7; unit = 2; lba = 1; bytes = (200 ∷ 177 ∷ 54 ∷ 81 ∷ 158 ∷ 0 ∷ 0 ∷ 179 ∷ 36 ∷ 78 ∷ 216 ∷ 227 ∷ 192 ∷ 49 ∷ 106 ∷ 0 ∷ []) } ∷ record { target = 7; unit = 2; lba = 2; bytes = (40 ∷ 34 ∷ 194 ∷ 65 ∷ 92 ∷ 0 ∷ 181 ∷ 0 ∷ 56 ∷ 77 ∷ 172 ∷ 0 ∷ 224 ∷ 0 ∷ 162 ∷ 220 ∷ []) } ∷ record { target = 7; unit = 2; lba = 5; bytes = (0 ∷ 0 ∷ 238 ∷ 0 ∷ 0 ∷ 208 ∷ 56 ∷ 0 ∷ 173 ∷ 80 ∷ 126 ∷ 134 ∷ 0 ∷ 232 ∷ 0 ∷ 34 ∷ []) } ∷ record { target = 7; unit = 2; lba = 6; bytes = (250 ∷ 0 ∷ 199 ∷ 72 ∷ 195 ∷ 59 ∷ 0 ∷ 0 ∷ 198 ∷ 0 ∷ 68 ∷ 0 ∷ 40 ∷ 251 ∷ 96 ∷ 98 ∷ []) } ∷ record { target = 7; unit = 4; lba = 0; bytes = (0 ∷ 204 ∷ 0 ∷ 0 ∷ 182 ∷ 0 ∷ 0 ∷ 0 ∷ 227 ∷ 144 ∷ 160 ∷ 0 ∷ 0 ∷ 199 ∷ 0 ∷ 0 ∷ []) } ∷ record { target = 7; unit = 4; lba = 1; bytes = (122 ∷ 226 ∷ 0 ∷ 72 ∷ 79 ∷ 204 ∷ 0 ∷ 136 ∷ 105 ∷ 0 ∷ 0 ∷ 62 ∷ 108 ∷ 133 ∷ 175 ∷ 0 ∷ []) } ∷ [];
+  tapes = [];
+  loads = [];
   commands = record { host = 6; target = 7; unit = 4; at = 60471; tag = tags.Untagged; cdb = (17 ∷ 0 ∷ 0 ∷ 0 ∷ 0 ∷ 0 ∷ []); payload = payloads.Nothing } ∷ record { host = 2; target = 7; unit = 2; at = 80321; tag = tags.Head 1; cdb = (10 ∷ 0 ∷ 0 ∷ 2 ∷ 2 ∷ 0 ∷ []); payload = payloads.From 27 } ∷ [];
   aborts = [];
   resets = record { dev = 5; at = 111836 } ∷ [];
@@ -451,6 +499,8 @@ struck_complete_story = record {
   targets = record { dev = 0; latency = 0; retries = 2; disc = policies.Never; pick = picks.First; seek = 0; period = 0; offset = 0; begins = false } ∷ [];
   units = record { target = 0; unit = 0; blocks = 1; size = 16; depth = 1 } ∷ [];
   fills = record { target = 0; unit = 0; lba = 0; bytes = (0 ∷ 1 ∷ 2 ∷ 3 ∷ 4 ∷ 5 ∷ 6 ∷ 7 ∷ 8 ∷ 9 ∷ 10 ∷ 11 ∷ 12 ∷ 13 ∷ 14 ∷ 15 ∷ []) } ∷ [];
+  tapes = [];
+  loads = [];
   commands = record { host = 7; target = 0; unit = 0; at = 0; tag = tags.Untagged; cdb = (8 ∷ 0 ∷ 0 ∷ 0 ∷ 1 ∷ 0 ∷ []); payload = payloads.Nothing } ∷ [];
   aborts = [];
   resets = [];
@@ -473,6 +523,8 @@ struck_data_story = record {
   targets = record { dev = 0; latency = 0; retries = 2; disc = policies.Never; pick = picks.First; seek = 0; period = 0; offset = 0; begins = false } ∷ [];
   units = record { target = 0; unit = 0; blocks = 1; size = 16; depth = 1 } ∷ [];
   fills = record { target = 0; unit = 0; lba = 0; bytes = (0 ∷ 1 ∷ 2 ∷ 3 ∷ 4 ∷ 5 ∷ 6 ∷ 7 ∷ 8 ∷ 9 ∷ 10 ∷ 11 ∷ 12 ∷ 13 ∷ 14 ∷ 15 ∷ []) } ∷ [];
+  tapes = [];
+  loads = [];
   commands = record { host = 7; target = 0; unit = 0; at = 0; tag = tags.Untagged; cdb = (8 ∷ 0 ∷ 0 ∷ 0 ∷ 1 ∷ 0 ∷ []); payload = payloads.Nothing } ∷ [];
   aborts = [];
   resets = [];
@@ -495,6 +547,8 @@ struck_disconnect_story = record {
   targets = record { dev = 0; latency = 0; retries = 0; disc = policies.Command; pick = picks.First; seek = 0; period = 0; offset = 0; begins = false } ∷ [];
   units = record { target = 0; unit = 0; blocks = 1; size = 16; depth = 1 } ∷ [];
   fills = record { target = 0; unit = 0; lba = 0; bytes = (0 ∷ 1 ∷ 2 ∷ 3 ∷ 4 ∷ 5 ∷ 6 ∷ 7 ∷ 8 ∷ 9 ∷ 10 ∷ 11 ∷ 12 ∷ 13 ∷ 14 ∷ 15 ∷ []) } ∷ [];
+  tapes = [];
+  loads = [];
   commands = record { host = 7; target = 0; unit = 0; at = 0; tag = tags.Simple 1; cdb = (8 ∷ 0 ∷ 0 ∷ 0 ∷ 1 ∷ 0 ∷ []); payload = payloads.Nothing } ∷ [];
   aborts = [];
   resets = [];
@@ -517,6 +571,8 @@ struck_save_story = record {
   targets = record { dev = 0; latency = 0; retries = 2; disc = policies.Burst 1; pick = picks.First; seek = 0; period = 0; offset = 0; begins = false } ∷ [];
   units = record { target = 0; unit = 0; blocks = 4; size = 16; depth = 1 } ∷ [];
   fills = [];
+  tapes = [];
+  loads = [];
   commands = record { host = 7; target = 0; unit = 0; at = 0; tag = tags.Simple 1; cdb = (10 ∷ 0 ∷ 0 ∷ 0 ∷ 4 ∷ 0 ∷ []); payload = payloads.From 0 } ∷ [];
   aborts = [];
   resets = [];
@@ -539,6 +595,8 @@ unanswered_by_struck_ids_story = record {
   targets = record { dev = 0; latency = 0; retries = 2; disc = policies.Never; pick = picks.First; seek = 0; period = 0; offset = 0; begins = false } ∷ [];
   units = record { target = 0; unit = 0; blocks = 1; size = 16; depth = 1 } ∷ [];
   fills = record { target = 0; unit = 0; lba = 0; bytes = (0 ∷ 1 ∷ 2 ∷ 3 ∷ 4 ∷ 5 ∷ 6 ∷ 7 ∷ 8 ∷ 9 ∷ 10 ∷ 11 ∷ 12 ∷ 13 ∷ 14 ∷ 15 ∷ []) } ∷ [];
+  tapes = [];
+  loads = [];
   commands = record { host = 7; target = 0; unit = 0; at = 0; tag = tags.Untagged; cdb = (8 ∷ 0 ∷ 0 ∷ 0 ∷ 1 ∷ 0 ∷ []); payload = payloads.Nothing } ∷ [];
   aborts = [];
   resets = [];
@@ -561,6 +619,8 @@ write_in_bursts_story = record {
   targets = record { dev = 0; latency = 0; retries = 2; disc = policies.Burst 1; pick = picks.First; seek = 0; period = 0; offset = 0; begins = false } ∷ [];
   units = record { target = 0; unit = 0; blocks = 4; size = 16; depth = 1 } ∷ [];
   fills = [];
+  tapes = [];
+  loads = [];
   commands = record { host = 7; target = 0; unit = 0; at = 0; tag = tags.Simple 1; cdb = (10 ∷ 0 ∷ 0 ∷ 0 ∷ 4 ∷ 0 ∷ []); payload = payloads.From 0 } ∷ [];
   aborts = [];
   resets = [];

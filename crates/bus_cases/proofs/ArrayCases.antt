@@ -81,6 +81,8 @@ disks = record {
     lba = 3;
     bytes = (0 ∷ 0 ∷ 0 ∷ 0 ∷ 0 ∷ 0 ∷ 0 ∷ 0 ∷ 0 ∷ 0 ∷ 0 ∷ 0 ∷ 0 ∷ 0 ∷ 0 ∷ 0 ∷ []);
   } ∷ [];
+  tapes = [];
+  loads = [];
   commands =
       line 7 0 0 (tags.Simple 1) test_unit_ready
       ∷ line 6 0 0 (tags.Simple 1) test_unit_ready

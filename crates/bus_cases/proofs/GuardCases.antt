@@ -14,6 +14,7 @@ use Rattle.due_model.specs.bus_base.specs.declared.events.Pick.TheVariants as pi
 use Rattle.due_model.specs.scenario.specs.declared.value.FillDef.{FillDef}
 use Rattle.due_model.specs.scenario.specs.declared.value.UnitDef.{UnitDef}
 use Rattle.due_model.specs.scenario.specs.declared.value.Policy.TheVariants as policies
+use Rattle.due_model.specs.scenario.specs.declared.value.Load.TheVariants as loads
 use Rattle.due_model.specs.scenario.specs.declared.value.Tag.TheVariants as tags
 use Rattle.due_model.specs.scenario.specs.declared.value.Payload.TheVariants as payloads
 use Rattle.due_model.specs.scenario.specs.Value.{ScenarioValue}
@@ -49,6 +50,8 @@ abort_leaves_the_offer_guard = record {
   targets = record { dev = 0; latency = 0; retries = 2; disc = policies.Never; pick = picks.First; seek = 0; period = 50; offset = 8; begins = false } ∷ [];
   units = record { target = 0; unit = 0; blocks = 1; size = 16; depth = 4 } ∷ [];
   fills = [];
+  tapes = [];
+  loads = [];
   commands = record { host = 7; target = 0; unit = 0; at = 20000; tag = tags.Untagged; cdb = (8 ∷ 0 ∷ 0 ∷ 0 ∷ 1 ∷ 0 ∷ []); payload = payloads.Nothing } ∷ [];
   aborts = record { host = 7; target = 0; unit = 0; at = 0; what = aborts.All } ∷ [];
   resets = [];
@@ -77,6 +80,8 @@ agreement_of_another_reset_guard = record {
   targets = record { dev = 0; latency = 0; retries = 2; disc = policies.Never; pick = picks.First; seek = 0; period = 50; offset = 8; begins = false } ∷ [];
   units = record { target = 0; unit = 0; blocks = 1; size = 16; depth = 4 } ∷ [];
   fills = [];
+  tapes = [];
+  loads = [];
   commands = record { host = 6; target = 0; unit = 0; at = 0; tag = tags.Untagged; cdb = (8 ∷ 0 ∷ 0 ∷ 0 ∷ 1 ∷ 0 ∷ []); payload = payloads.Nothing } ∷ record { host = 6; target = 0; unit = 0; at = 100000; tag = tags.Untagged; cdb = (3 ∷ 0 ∷ 0 ∷ 0 ∷ 18 ∷ 0 ∷ []); payload = payloads.Nothing } ∷ [];
   aborts = record { host = 7; target = 0; unit = 0; at = 50000; what = aborts.Device } ∷ [];
   resets = [];
@@ -105,6 +110,8 @@ agreements_of_two_initiators_guard = record {
   targets = record { dev = 0; latency = 0; retries = 2; disc = policies.Never; pick = picks.First; seek = 0; period = 50; offset = 8; begins = false } ∷ [];
   units = record { target = 0; unit = 0; blocks = 1; size = 16; depth = 4 } ∷ [];
   fills = [];
+  tapes = [];
+  loads = [];
   commands = record { host = 7; target = 0; unit = 0; at = 0; tag = tags.Untagged; cdb = (8 ∷ 0 ∷ 0 ∷ 0 ∷ 1 ∷ 0 ∷ []); payload = payloads.Nothing } ∷ record { host = 6; target = 0; unit = 0; at = 0; tag = tags.Untagged; cdb = (8 ∷ 0 ∷ 0 ∷ 0 ∷ 1 ∷ 0 ∷ []); payload = payloads.Nothing } ∷ record { host = 7; target = 0; unit = 0; at = 30000; tag = tags.Untagged; cdb = (3 ∷ 0 ∷ 0 ∷ 0 ∷ 18 ∷ 0 ∷ []); payload = payloads.Nothing } ∷ [];
   aborts = [];
   resets = [];
@@ -133,6 +140,8 @@ all_leaves_other_senses_guard = record {
   targets = record { dev = 0; latency = 0; retries = 2; disc = policies.Never; pick = picks.First; seek = 0; period = 0; offset = 0; begins = false } ∷ [];
   units = record { target = 0; unit = 0; blocks = 1; size = 16; depth = 4 } ∷ record { target = 0; unit = 1; blocks = 1; size = 16; depth = 4 } ∷ [];
   fills = [];
+  tapes = [];
+  loads = [];
   commands = record { host = 6; target = 0; unit = 0; at = 0; tag = tags.Untagged; cdb = (8 ∷ 0 ∷ 0 ∷ 1 ∷ 1 ∷ 0 ∷ []); payload = payloads.Nothing } ∷ record { host = 7; target = 0; unit = 1; at = 6000; tag = tags.Untagged; cdb = (8 ∷ 0 ∷ 0 ∷ 1 ∷ 1 ∷ 0 ∷ []); payload = payloads.Nothing } ∷ [];
   aborts = record { host = 7; target = 0; unit = 0; at = 12000; what = aborts.All } ∷ [];
   resets = [];
@@ -161,6 +170,8 @@ all_of_one_initiator_at_one_unit_guard = record {
   targets = record { dev = 0; latency = 0; retries = 2; disc = policies.Command; pick = picks.First; seek = 60000; period = 0; offset = 0; begins = false } ∷ [];
   units = record { target = 0; unit = 0; blocks = 1; size = 16; depth = 4 } ∷ record { target = 0; unit = 1; blocks = 1; size = 16; depth = 4 } ∷ [];
   fills = [];
+  tapes = [];
+  loads = [];
   commands = record { host = 7; target = 0; unit = 0; at = 0; tag = tags.Simple 1; cdb = (0 ∷ 0 ∷ 0 ∷ 0 ∷ 0 ∷ 0 ∷ []); payload = payloads.Nothing } ∷ record { host = 6; target = 0; unit = 0; at = 0; tag = tags.Simple 1; cdb = (0 ∷ 0 ∷ 0 ∷ 0 ∷ 0 ∷ 0 ∷ []); payload = payloads.Nothing } ∷ record { host = 7; target = 0; unit = 1; at = 0; tag = tags.Simple 1; cdb = (0 ∷ 0 ∷ 0 ∷ 0 ∷ 0 ∷ 0 ∷ []); payload = payloads.Nothing } ∷ [];
   aborts = record { host = 7; target = 0; unit = 0; at = 20000; what = aborts.All } ∷ [];
   resets = [];
@@ -189,6 +200,8 @@ calling_in_vain_leaves_the_offer_guard = record {
   targets = record { dev = 0; latency = 0; retries = 2; disc = policies.Never; pick = picks.First; seek = 0; period = 50; offset = 8; begins = false } ∷ [];
   units = record { target = 0; unit = 0; blocks = 1; size = 16; depth = 4 } ∷ [];
   fills = [];
+  tapes = [];
+  loads = [];
   commands = record { host = 7; target = 0; unit = 0; at = 0; tag = tags.Untagged; cdb = (8 ∷ 0 ∷ 0 ∷ 0 ∷ 1 ∷ 0 ∷ []); payload = payloads.Nothing } ∷ [];
   aborts = [];
   resets = [];
@@ -217,6 +230,8 @@ device_concerns_each_unit_guard = record {
   targets = record { dev = 0; latency = 0; retries = 2; disc = policies.Never; pick = picks.First; seek = 0; period = 0; offset = 0; begins = false } ∷ [];
   units = record { target = 0; unit = 0; blocks = 1; size = 16; depth = 4 } ∷ record { target = 0; unit = 1; blocks = 1; size = 16; depth = 4 } ∷ [];
   fills = [];
+  tapes = [];
+  loads = [];
   commands = record { host = 6; target = 0; unit = 1; at = 0; tag = tags.Untagged; cdb = (8 ∷ 0 ∷ 0 ∷ 1 ∷ 1 ∷ 0 ∷ []); payload = payloads.Nothing } ∷ record { host = 7; target = 0; unit = 1; at = 6000; tag = tags.Untagged; cdb = (0 ∷ 0 ∷ 0 ∷ 0 ∷ 0 ∷ 0 ∷ []); payload = payloads.Nothing } ∷ record { host = 7; target = 0; unit = 1; at = 30000; tag = tags.Untagged; cdb = (0 ∷ 0 ∷ 0 ∷ 0 ∷ 0 ∷ 0 ∷ []); payload = payloads.Nothing } ∷ record { host = 6; target = 0; unit = 1; at = 60000; tag = tags.Untagged; cdb = (3 ∷ 0 ∷ 0 ∷ 0 ∷ 18 ∷ 0 ∷ []); payload = payloads.Nothing } ∷ [];
   aborts = record { host = 7; target = 0; unit = 0; at = 10000; what = aborts.Device } ∷ [];
   resets = [];
@@ -245,6 +260,8 @@ device_ends_the_hold_of_another_guard = record {
   targets = record { dev = 0; latency = 0; retries = 2; disc = policies.Never; pick = picks.First; seek = 0; period = 0; offset = 0; begins = false } ∷ [];
   units = record { target = 0; unit = 0; blocks = 1; size = 16; depth = 4 } ∷ [];
   fills = [];
+  tapes = [];
+  loads = [];
   commands = record { host = 6; target = 0; unit = 0; at = 0; tag = tags.Untagged; cdb = (8 ∷ 0 ∷ 0 ∷ 1 ∷ 1 ∷ 0 ∷ []); payload = payloads.Nothing } ∷ record { host = 7; target = 0; unit = 0; at = 30000; tag = tags.Untagged; cdb = (0 ∷ 0 ∷ 0 ∷ 0 ∷ 0 ∷ 0 ∷ []); payload = payloads.Nothing } ∷ record { host = 6; target = 0; unit = 0; at = 60000; tag = tags.Untagged; cdb = (3 ∷ 0 ∷ 0 ∷ 0 ∷ 18 ∷ 0 ∷ []); payload = payloads.Nothing } ∷ [];
   aborts = record { host = 7; target = 0; unit = 0; at = 5000; what = aborts.Device } ∷ [];
   resets = [];
@@ -273,6 +290,8 @@ device_leaves_another_target_guard = record {
   targets = record { dev = 0; latency = 0; retries = 2; disc = policies.Never; pick = picks.First; seek = 0; period = 0; offset = 0; begins = false } ∷ record { dev = 1; latency = 0; retries = 2; disc = policies.Never; pick = picks.First; seek = 0; period = 0; offset = 0; begins = false } ∷ [];
   units = record { target = 0; unit = 0; blocks = 1; size = 16; depth = 4 } ∷ record { target = 1; unit = 0; blocks = 1; size = 16; depth = 4 } ∷ [];
   fills = [];
+  tapes = [];
+  loads = [];
   commands = record { host = 6; target = 1; unit = 0; at = 0; tag = tags.Untagged; cdb = (8 ∷ 0 ∷ 0 ∷ 1 ∷ 1 ∷ 0 ∷ []); payload = payloads.Nothing } ∷ record { host = 7; target = 1; unit = 0; at = 6000; tag = tags.Untagged; cdb = (0 ∷ 0 ∷ 0 ∷ 0 ∷ 0 ∷ 0 ∷ []); payload = payloads.Nothing } ∷ [];
   aborts = record { host = 7; target = 0; unit = 0; at = 5000; what = aborts.Device } ∷ [];
   resets = [];
@@ -301,6 +320,8 @@ device_of_one_target_guard = record {
   targets = record { dev = 0; latency = 0; retries = 2; disc = policies.Command; pick = picks.First; seek = 60000; period = 0; offset = 0; begins = false } ∷ record { dev = 1; latency = 0; retries = 2; disc = policies.Command; pick = picks.First; seek = 60000; period = 0; offset = 0; begins = false } ∷ [];
   units = record { target = 0; unit = 0; blocks = 1; size = 16; depth = 4 } ∷ record { target = 1; unit = 0; blocks = 1; size = 16; depth = 4 } ∷ [];
   fills = [];
+  tapes = [];
+  loads = [];
   commands = record { host = 7; target = 0; unit = 0; at = 0; tag = tags.Simple 1; cdb = (0 ∷ 0 ∷ 0 ∷ 0 ∷ 0 ∷ 0 ∷ []); payload = payloads.Nothing } ∷ record { host = 7; target = 1; unit = 0; at = 0; tag = tags.Simple 1; cdb = (0 ∷ 0 ∷ 0 ∷ 0 ∷ 0 ∷ 0 ∷ []); payload = payloads.Nothing } ∷ [];
   aborts = record { host = 6; target = 0; unit = 0; at = 20000; what = aborts.Device } ∷ [];
   resets = [];
@@ -329,6 +350,8 @@ device_reset_in_text_one_guard = record {
   targets = record { dev = 0; latency = 0; retries = 2; disc = policies.Never; pick = picks.First; seek = 0; period = 50; offset = 8; begins = false } ∷ record { dev = 1; latency = 0; retries = 2; disc = policies.Never; pick = picks.First; seek = 0; period = 50; offset = 8; begins = false } ∷ [];
   units = record { target = 0; unit = 0; blocks = 1; size = 16; depth = 1 } ∷ record { target = 1; unit = 0; blocks = 1; size = 16; depth = 1 } ∷ [];
   fills = [];
+  tapes = [];
+  loads = [];
   commands = record { host = 7; target = 0; unit = 0; at = 50000; tag = tags.Untagged; cdb = (18 ∷ 0 ∷ 0 ∷ 0 ∷ 4 ∷ 0 ∷ []); payload = payloads.Nothing } ∷ record { host = 7; target = 1; unit = 0; at = 50000; tag = tags.Untagged; cdb = (18 ∷ 0 ∷ 0 ∷ 0 ∷ 4 ∷ 0 ∷ []); payload = payloads.Nothing } ∷ [];
   aborts = record { host = 6; target = 0; unit = 0; at = 0; what = aborts.Device } ∷ [];
   resets = [];
@@ -357,6 +380,8 @@ device_reset_of_one_target_guard = record {
   targets = record { dev = 0; latency = 0; retries = 2; disc = policies.Never; pick = picks.First; seek = 0; period = 50; offset = 8; begins = false } ∷ record { dev = 1; latency = 0; retries = 2; disc = policies.Never; pick = picks.First; seek = 0; period = 50; offset = 8; begins = false } ∷ [];
   units = record { target = 0; unit = 0; blocks = 1; size = 16; depth = 1 } ∷ record { target = 1; unit = 0; blocks = 1; size = 16; depth = 1 } ∷ [];
   fills = [];
+  tapes = [];
+  loads = [];
   commands = record { host = 7; target = 1; unit = 0; at = 0; tag = tags.Untagged; cdb = (0 ∷ 0 ∷ 0 ∷ 0 ∷ 0 ∷ 0 ∷ []); payload = payloads.Nothing } ∷ record { host = 7; target = 1; unit = 0; at = 50000; tag = tags.Untagged; cdb = (0 ∷ 0 ∷ 0 ∷ 0 ∷ 0 ∷ 0 ∷ []); payload = payloads.Nothing } ∷ [];
   aborts = record { host = 7; target = 0; unit = 0; at = 20000; what = aborts.Device } ∷ [];
   resets = [];
@@ -385,6 +410,8 @@ disconnect_struck_is_counted_guard = record {
   targets = record { dev = 0; latency = 0; retries = 1; disc = policies.Command; pick = picks.First; seek = 20000; period = 0; offset = 0; begins = false } ∷ [];
   units = record { target = 0; unit = 0; blocks = 1; size = 16; depth = 4 } ∷ [];
   fills = [];
+  tapes = [];
+  loads = [];
   commands = record { host = 7; target = 0; unit = 0; at = 0; tag = tags.Simple 1; cdb = (8 ∷ 0 ∷ 0 ∷ 0 ∷ 1 ∷ 0 ∷ []); payload = payloads.Nothing } ∷ [];
   aborts = [];
   resets = [];
@@ -413,6 +440,8 @@ faulty_inquiry_of_no_unit_guard = record {
   targets = record { dev = 0; latency = 0; retries = 2; disc = policies.Never; pick = picks.First; seek = 0; period = 0; offset = 0; begins = false } ∷ [];
   units = record { target = 0; unit = 0; blocks = 1; size = 16; depth = 4 } ∷ [];
   fills = [];
+  tapes = [];
+  loads = [];
   commands = record { host = 7; target = 0; unit = 3; at = 0; tag = tags.Untagged; cdb = (18 ∷ 0 ∷ 0 ∷ 0 ∷ 36 ∷ 1 ∷ []); payload = payloads.Nothing } ∷ record { host = 7; target = 0; unit = 3; at = 0; tag = tags.Untagged; cdb = (3 ∷ 0 ∷ 0 ∷ 0 ∷ 18 ∷ 1 ∷ []); payload = payloads.Nothing } ∷ record { host = 7; target = 0; unit = 0; at = 0; tag = tags.Untagged; cdb = (40 ∷ 0 ∷ 0 ∷ 0 ∷ 0 ∷ 1 ∷ 0 ∷ 0 ∷ 0 ∷ 0 ∷ []); payload = payloads.Nothing } ∷ [];
   aborts = [];
   resets = [];
@@ -441,6 +470,8 @@ faulty_inquiry_with_attention_guard = record {
   targets = record { dev = 0; latency = 0; retries = 2; disc = policies.Never; pick = picks.First; seek = 0; period = 0; offset = 0; begins = false } ∷ [];
   units = record { target = 0; unit = 0; blocks = 1; size = 16; depth = 4 } ∷ [];
   fills = [];
+  tapes = [];
+  loads = [];
   commands = record { host = 7; target = 0; unit = 0; at = 60000; tag = tags.Untagged; cdb = (18 ∷ 0 ∷ 0 ∷ 0 ∷ 36 ∷ 1 ∷ []); payload = payloads.Nothing } ∷ record { host = 7; target = 0; unit = 0; at = 60000; tag = tags.Untagged; cdb = (0 ∷ 0 ∷ 0 ∷ 0 ∷ 0 ∷ 0 ∷ []); payload = payloads.Nothing } ∷ [];
   aborts = [];
   resets = record { dev = 7; at = 1000 } ∷ [];
@@ -469,6 +500,8 @@ faulty_sense_with_attention_guard = record {
   targets = record { dev = 0; latency = 0; retries = 2; disc = policies.Never; pick = picks.First; seek = 0; period = 0; offset = 0; begins = false } ∷ [];
   units = record { target = 0; unit = 0; blocks = 1; size = 16; depth = 4 } ∷ [];
   fills = [];
+  tapes = [];
+  loads = [];
   commands = record { host = 7; target = 0; unit = 0; at = 60000; tag = tags.Untagged; cdb = (3 ∷ 0 ∷ 0 ∷ 0 ∷ 18 ∷ 1 ∷ []); payload = payloads.Nothing } ∷ record { host = 7; target = 0; unit = 0; at = 60000; tag = tags.Untagged; cdb = (0 ∷ 0 ∷ 0 ∷ 0 ∷ 0 ∷ 0 ∷ []); payload = payloads.Nothing } ∷ [];
   aborts = [];
   resets = record { dev = 7; at = 1000 } ∷ [];
@@ -497,6 +530,8 @@ never_behind_a_current_process_guard = record {
   targets = record { dev = 0; latency = 0; retries = 2; disc = policies.Never; pick = picks.First; seek = 9000; period = 0; offset = 0; begins = false } ∷ [];
   units = record { target = 0; unit = 0; blocks = 1; size = 16; depth = 4 } ∷ [];
   fills = [];
+  tapes = [];
+  loads = [];
   commands = record { host = 6; target = 0; unit = 0; at = 0; tag = tags.Untagged; cdb = (8 ∷ 0 ∷ 0 ∷ 9 ∷ 1 ∷ 0 ∷ []); payload = payloads.Nothing } ∷ record { host = 7; target = 0; unit = 0; at = 5000; tag = tags.Untagged; cdb = (0 ∷ 0 ∷ 0 ∷ 0 ∷ 0 ∷ 0 ∷ []); payload = payloads.Nothing } ∷ record { host = 6; target = 0; unit = 0; at = 0; tag = tags.Untagged; cdb = (0 ∷ 0 ∷ 0 ∷ 0 ∷ 0 ∷ 0 ∷ []); payload = payloads.Nothing } ∷ [];
   aborts = [];
   resets = [];
@@ -525,6 +560,8 @@ own_sense_and_device_guard = record {
   targets = record { dev = 0; latency = 0; retries = 2; disc = policies.Never; pick = picks.First; seek = 0; period = 0; offset = 0; begins = false } ∷ [];
   units = record { target = 0; unit = 0; blocks = 1; size = 16; depth = 4 } ∷ [];
   fills = [];
+  tapes = [];
+  loads = [];
   commands = record { host = 7; target = 0; unit = 0; at = 0; tag = tags.Untagged; cdb = (8 ∷ 0 ∷ 0 ∷ 1 ∷ 1 ∷ 0 ∷ []); payload = payloads.Nothing } ∷ [];
   aborts = record { host = 7; target = 0; unit = 0; at = 5000; what = aborts.Device } ∷ [];
   resets = [];
@@ -553,6 +590,8 @@ own_sense_and_queue_guard = record {
   targets = record { dev = 0; latency = 0; retries = 2; disc = policies.Never; pick = picks.First; seek = 0; period = 0; offset = 0; begins = false } ∷ [];
   units = record { target = 0; unit = 0; blocks = 1; size = 16; depth = 4 } ∷ [];
   fills = [];
+  tapes = [];
+  loads = [];
   commands = record { host = 7; target = 0; unit = 0; at = 0; tag = tags.Untagged; cdb = (8 ∷ 0 ∷ 0 ∷ 1 ∷ 1 ∷ 0 ∷ []); payload = payloads.Nothing } ∷ [];
   aborts = record { host = 7; target = 0; unit = 0; at = 5000; what = aborts.WholeQueue } ∷ [];
   resets = [];
@@ -581,6 +620,8 @@ own_sense_and_tag_guard = record {
   targets = record { dev = 0; latency = 0; retries = 2; disc = policies.Never; pick = picks.First; seek = 0; period = 0; offset = 0; begins = false } ∷ [];
   units = record { target = 0; unit = 0; blocks = 1; size = 16; depth = 4 } ∷ [];
   fills = [];
+  tapes = [];
+  loads = [];
   commands = record { host = 7; target = 0; unit = 0; at = 0; tag = tags.Untagged; cdb = (8 ∷ 0 ∷ 0 ∷ 1 ∷ 1 ∷ 0 ∷ []); payload = payloads.Nothing } ∷ [];
   aborts = record { host = 7; target = 0; unit = 0; at = 5000; what = (aborts.Tag 5) } ∷ [];
   resets = [];
@@ -609,6 +650,8 @@ pick_of_each_target_guard = record {
   targets = record { dev = 0; latency = 0; retries = 2; disc = policies.Command; pick = picks.First; seek = 20000; period = 0; offset = 0; begins = false } ∷ record { dev = 1; latency = 0; retries = 2; disc = policies.Command; pick = picks.Last; seek = 60000; period = 0; offset = 0; begins = false } ∷ [];
   units = record { target = 1; unit = 0; blocks = 1; size = 16; depth = 8 } ∷ [];
   fills = [];
+  tapes = [];
+  loads = [];
   commands = record { host = 7; target = 1; unit = 0; at = 0; tag = tags.Simple 1; cdb = (0 ∷ 0 ∷ 0 ∷ 0 ∷ 0 ∷ 0 ∷ []); payload = payloads.Nothing } ∷ record { host = 7; target = 1; unit = 0; at = 0; tag = tags.Simple 2; cdb = (0 ∷ 0 ∷ 0 ∷ 0 ∷ 0 ∷ 0 ∷ []); payload = payloads.Nothing } ∷ record { host = 7; target = 1; unit = 0; at = 0; tag = tags.Simple 3; cdb = (0 ∷ 0 ∷ 0 ∷ 0 ∷ 0 ∷ 0 ∷ []); payload = payloads.Nothing } ∷ [];
   aborts = [];
   resets = [];
@@ -637,6 +680,8 @@ queue_of_another_keeps_the_agreement_guard = record {
   targets = record { dev = 0; latency = 0; retries = 2; disc = policies.Never; pick = picks.First; seek = 0; period = 50; offset = 8; begins = false } ∷ [];
   units = record { target = 0; unit = 0; blocks = 1; size = 16; depth = 4 } ∷ [];
   fills = [];
+  tapes = [];
+  loads = [];
   commands = record { host = 6; target = 0; unit = 0; at = 0; tag = tags.Untagged; cdb = (8 ∷ 0 ∷ 0 ∷ 0 ∷ 1 ∷ 0 ∷ []); payload = payloads.Nothing } ∷ record { host = 6; target = 0; unit = 0; at = 100000; tag = tags.Untagged; cdb = (8 ∷ 0 ∷ 0 ∷ 0 ∷ 1 ∷ 0 ∷ []); payload = payloads.Nothing } ∷ [];
   aborts = record { host = 7; target = 0; unit = 0; at = 50000; what = aborts.WholeQueue } ∷ [];
   resets = [];
@@ -665,6 +710,8 @@ ranges_side_by_side_guard = record {
   targets = record { dev = 0; latency = 0; retries = 2; disc = policies.Command; pick = picks.Last; seek = 1000000; period = 0; offset = 0; begins = false } ∷ [];
   units = record { target = 0; unit = 0; blocks = 4; size = 16; depth = 4 } ∷ [];
   fills = [];
+  tapes = [];
+  loads = [];
   commands = record { host = 7; target = 0; unit = 0; at = 0; tag = tags.Simple 0; cdb = (0 ∷ 0 ∷ 0 ∷ 0 ∷ 0 ∷ 0 ∷ []); payload = payloads.Nothing } ∷ record { host = 7; target = 0; unit = 0; at = 0; tag = tags.Simple 1; cdb = (10 ∷ 0 ∷ 0 ∷ 1 ∷ 1 ∷ 0 ∷ []); payload = payloads.From 32 } ∷ record { host = 7; target = 0; unit = 0; at = 0; tag = tags.Simple 2; cdb = (8 ∷ 0 ∷ 0 ∷ 0 ∷ 1 ∷ 0 ∷ []); payload = payloads.Nothing } ∷ record { host = 7; target = 0; unit = 0; at = 0; tag = tags.Simple 3; cdb = (8 ∷ 0 ∷ 0 ∷ 2 ∷ 1 ∷ 0 ∷ []); payload = payloads.Nothing } ∷ [];
   aborts = [];
   resets = [];
@@ -693,6 +740,8 @@ read_and_write_conflict_guard = record {
   targets = record { dev = 0; latency = 0; retries = 2; disc = policies.Command; pick = picks.Last; seek = 1000000; period = 0; offset = 0; begins = false } ∷ [];
   units = record { target = 0; unit = 0; blocks = 4; size = 16; depth = 4 } ∷ [];
   fills = [];
+  tapes = [];
+  loads = [];
   commands = record { host = 7; target = 0; unit = 0; at = 0; tag = tags.Simple 0; cdb = (0 ∷ 0 ∷ 0 ∷ 0 ∷ 0 ∷ 0 ∷ []); payload = payloads.Nothing } ∷ record { host = 7; target = 0; unit = 0; at = 0; tag = tags.Simple 1; cdb = (8 ∷ 0 ∷ 0 ∷ 0 ∷ 2 ∷ 0 ∷ []); payload = payloads.Nothing } ∷ record { host = 7; target = 0; unit = 0; at = 0; tag = tags.Simple 2; cdb = (10 ∷ 0 ∷ 0 ∷ 1 ∷ 1 ∷ 0 ∷ []); payload = payloads.From 32 } ∷ record { host = 7; target = 0; unit = 0; at = 0; tag = tags.Simple 3; cdb = (8 ∷ 0 ∷ 0 ∷ 1 ∷ 1 ∷ 0 ∷ []); payload = payloads.Nothing } ∷ [];
   aborts = [];
   resets = [];
@@ -721,6 +770,8 @@ refused_status_struck_guard = record {
   targets = record { dev = 5; latency = 0; retries = 2; disc = policies.Command; pick = picks.First; seek = 40000; period = 0; offset = 0; begins = false } ∷ [];
   units = record { target = 5; unit = 0; blocks = 1; size = 16; depth = 1 } ∷ [];
   fills = [];
+  tapes = [];
+  loads = [];
   commands = record { host = 7; target = 5; unit = 0; at = 0; tag = tags.Simple 1; cdb = (0 ∷ 0 ∷ 0 ∷ 0 ∷ 0 ∷ 0 ∷ []); payload = payloads.Nothing } ∷ record { host = 7; target = 5; unit = 0; at = 0; tag = tags.Simple 2; cdb = (0 ∷ 0 ∷ 0 ∷ 0 ∷ 0 ∷ 0 ∷ []); payload = payloads.Nothing } ∷ [];
   aborts = [];
   resets = [];
@@ -749,6 +800,8 @@ reset_attention_stays_guard = record {
   targets = record { dev = 0; latency = 0; retries = 2; disc = policies.Command; pick = picks.First; seek = 1000000; period = 0; offset = 0; begins = false } ∷ [];
   units = record { target = 0; unit = 0; blocks = 4; size = 16; depth = 4 } ∷ [];
   fills = [];
+  tapes = [];
+  loads = [];
   commands = record { host = 6; target = 0; unit = 0; at = 60000; tag = tags.Simple 1; cdb = (0 ∷ 0 ∷ 0 ∷ 0 ∷ 0 ∷ 0 ∷ []); payload = payloads.Nothing } ∷ record { host = 6; target = 0; unit = 0; at = 300000; tag = tags.Simple 2; cdb = (0 ∷ 0 ∷ 0 ∷ 0 ∷ 0 ∷ 0 ∷ []); payload = payloads.Nothing } ∷ [];
   aborts = record { host = 7; target = 0; unit = 0; at = 100000; what = aborts.WholeQueue } ∷ [];
   resets = record { dev = 7; at = 1000 } ∷ [];
@@ -777,6 +830,8 @@ reset_in_a_calling_is_no_try_guard = record {
   targets = record { dev = 0; latency = 0; retries = 2; disc = policies.Never; pick = picks.First; seek = 0; period = 0; offset = 0; begins = false } ∷ [];
   units = record { target = 0; unit = 0; blocks = 1; size = 16; depth = 1 } ∷ [];
   fills = [];
+  tapes = [];
+  loads = [];
   commands = record { host = 7; target = 0; unit = 0; at = 0; tag = tags.Untagged; cdb = (0 ∷ 0 ∷ 0 ∷ 0 ∷ 0 ∷ 0 ∷ []); payload = payloads.Nothing } ∷ [];
   aborts = [];
   resets = record { dev = 0; at = 5000 } ∷ [];
@@ -805,6 +860,8 @@ sense_of_another_and_device_guard = record {
   targets = record { dev = 0; latency = 0; retries = 2; disc = policies.Never; pick = picks.First; seek = 0; period = 0; offset = 0; begins = false } ∷ [];
   units = record { target = 0; unit = 0; blocks = 1; size = 16; depth = 4 } ∷ [];
   fills = [];
+  tapes = [];
+  loads = [];
   commands = record { host = 6; target = 0; unit = 0; at = 0; tag = tags.Untagged; cdb = (8 ∷ 0 ∷ 0 ∷ 1 ∷ 1 ∷ 0 ∷ []); payload = payloads.Nothing } ∷ [];
   aborts = record { host = 7; target = 0; unit = 0; at = 5000; what = aborts.Device } ∷ [];
   resets = [];
@@ -833,6 +890,8 @@ sense_of_another_and_queue_guard = record {
   targets = record { dev = 0; latency = 0; retries = 2; disc = policies.Never; pick = picks.First; seek = 0; period = 0; offset = 0; begins = false } ∷ [];
   units = record { target = 0; unit = 0; blocks = 1; size = 16; depth = 4 } ∷ [];
   fills = [];
+  tapes = [];
+  loads = [];
   commands = record { host = 6; target = 0; unit = 0; at = 0; tag = tags.Untagged; cdb = (8 ∷ 0 ∷ 0 ∷ 1 ∷ 1 ∷ 0 ∷ []); payload = payloads.Nothing } ∷ [];
   aborts = record { host = 7; target = 0; unit = 0; at = 5000; what = aborts.WholeQueue } ∷ [];
   resets = [];

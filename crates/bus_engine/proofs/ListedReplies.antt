@@ -105,10 +105,10 @@ has_room s a p c by o lines whole at there =
     let target : p.target ≡ c.target = by.target ∙ ap (λ (x : CmdDef). x.target) same in
     let unit : p.unit ≡ c.unit = by.unit ∙ ap (λ (x : CmdDef). x.unit) same in
     let cdb : p.cdb ≡ c.cdb = by.cdb ∙ ap (λ (x : CmdDef). x.cdb) same in
-    room_there s c (length (reply_at a p (unit_state_at a.units p.target p.unit)).bytes) there
+    room_there s c (length (reply_at a p (unit_state_at a.units p.target p.unit)).bytes) o.tapes there
     (command_fits s p.id.command c (obeys_fits s o) at).need
     (subst (λ (n : ℕ). length (reply_at a p (unit_state_at a.units p.target p.unit)).bytes ≤ n)
-    (λ i. most_given (command_of (cdb i)) (unit_of s (target i) (unit i))) (given_few s a p lines whole))
+    (λ i. most_given (command_of (cdb i)) (unit_of s (target i) (unit i))) (given_few s a p o.tapes lines whole))
 
 ran : (s : ScenarioValue) (h : List Event) (a c : Array) (id : ProcId) (guest : Bool) (o : Option RunningProcess)
     → Obeys s → IsAlong s a → Steps.running_process a id ≡ o → Steps.run_step a guest o ≡ Some c

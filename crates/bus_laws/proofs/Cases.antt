@@ -12,13 +12,24 @@ use Rattle.due_model.specs.Next.{least}
 use Rattle.due_model.specs.Run.{run_from, run_by_due}
 use Rattle.due_model.specs.Sound.{sound}
 use Rattle.std.proofs.Common.{ℕ, ◌≡◌, Bool, true, false, List, [], ◌∷◌, reverse, refl}
+use Rattle.std.specs.Prelude.{Option, Some, None}
 use lib.Count.{ones}
+use Rattle.due_model.specs.bus_base.specs.declared.ProcId.{ProcId}
+use Rattle.due_model.specs.bus_base.specs.declared.AbortKind.TheVariants as aborts
+use Rattle.due_model.specs.bus_base.specs.declared.Event.{Event}
+use Rattle.due_model.specs.bus_base.specs.declared.Event.TheVariants as events
 use Rattle.due_model.specs.bus_base.specs.declared.events.Pick.TheVariants as picks
+use Rattle.due_model.specs.scenario.specs.declared.value.FillDef.{FillDef}
+use Rattle.due_model.specs.scenario.specs.declared.value.UnitDef.{UnitDef}
 use Rattle.due_model.specs.scenario.specs.declared.value.Policy.TheVariants as policies
+use Rattle.due_model.specs.scenario.specs.declared.value.Load.TheVariants as loads
 use Rattle.due_model.specs.scenario.specs.declared.value.Tag.TheVariants as tags
 use Rattle.due_model.specs.scenario.specs.declared.value.Payload.TheVariants as payloads
 use Rattle.due_model.specs.scenario.specs.Value.{ScenarioValue}
 use Rattle.due_model.specs.scenario.specs.Needs.{need_of, sent_of}
+use Rattle.due_model.specs.array_model.specs.Contents.{Contents, starting_contents, printed_blocks}
+use Rattle.due_model.specs.array_model.specs.Execution.{Reply, good, check_condition, queue_full, sense_of}
+use Rattle.due_model.specs.array_model.specs.ArrayHistory.{array_after, disks_of, reply_of}
 
 abbrev drive : ℕ → ℕ → ℕ → Row
 drive time dev lines = record { time = time; dev = dev; kind = Drives (set_of lines) }
@@ -44,6 +55,8 @@ ids_struck_in_both_directions_law = record {
   targets = record { dev = 2; latency = 80; retries = 2; disc = policies.Command; pick = picks.First; seek = 5000; period = 0; offset = 0; begins = false } ∷ [];
   units = record { target = 2; unit = 0; blocks = 1; size = 16; depth = 1 } ∷ [];
   fills = [];
+  tapes = [];
+  loads = [];
   commands = record { host = 7; target = 2; unit = 0; at = 0; tag = tags.Untagged; cdb = (0 ∷ 0 ∷ 0 ∷ 0 ∷ 0 ∷ 0 ∷ []); payload = payloads.Nothing } ∷ [];
   aborts = [];
   resets = [];
@@ -66,6 +79,8 @@ resets_before_a_connection_law = record {
   targets = record { dev = 0; latency = 100; retries = 1; disc = policies.Never; pick = picks.First; seek = 0; period = 0; offset = 0; begins = false } ∷ [];
   units = record { target = 0; unit = 0; blocks = 1; size = 16; depth = 1 } ∷ [];
   fills = [];
+  tapes = [];
+  loads = [];
   commands = record { host = 7; target = 3; unit = 0; at = 0; tag = tags.Untagged; cdb = (0 ∷ 0 ∷ 0 ∷ 0 ∷ 0 ∷ 0 ∷ []); payload = payloads.Nothing } ∷ record { host = 6; target = 0; unit = 0; at = 0; tag = tags.Untagged; cdb = (0 ∷ 0 ∷ 0 ∷ 0 ∷ 0 ∷ 0 ∷ []); payload = payloads.Nothing } ∷ [];
   aborts = [];
   resets = record { dev = 0; at = 1230 } ∷ record { dev = 7; at = 1240 } ∷ record { dev = 6; at = 29000 } ∷ record { dev = 0; at = 54100 } ∷ record { dev = 7; at = 60000 } ∷ [];
@@ -88,6 +103,8 @@ seven_contenders_law = record {
   targets = [];
   units = [];
   fills = [];
+  tapes = [];
+  loads = [];
   commands = record { host = 7; target = 0; unit = 0; at = 2990; tag = tags.Untagged; cdb = (0 ∷ 0 ∷ 0 ∷ 0 ∷ 0 ∷ 0 ∷ []); payload = payloads.Nothing } ∷ record { host = 6; target = 0; unit = 0; at = 1200; tag = tags.Untagged; cdb = (0 ∷ 0 ∷ 0 ∷ 0 ∷ 0 ∷ 0 ∷ []); payload = payloads.Nothing } ∷ record { host = 5; target = 0; unit = 0; at = 0; tag = tags.Untagged; cdb = (0 ∷ 0 ∷ 0 ∷ 0 ∷ 0 ∷ 0 ∷ []); payload = payloads.Nothing } ∷ record { host = 4; target = 0; unit = 0; at = 2900; tag = tags.Untagged; cdb = (0 ∷ 0 ∷ 0 ∷ 0 ∷ 0 ∷ 0 ∷ []); payload = payloads.Nothing } ∷ record { host = 3; target = 0; unit = 0; at = 2999; tag = tags.Untagged; cdb = (0 ∷ 0 ∷ 0 ∷ 0 ∷ 0 ∷ 0 ∷ []); payload = payloads.Nothing } ∷ record { host = 2; target = 0; unit = 0; at = 3001; tag = tags.Untagged; cdb = (0 ∷ 0 ∷ 0 ∷ 0 ∷ 0 ∷ 0 ∷ []); payload = payloads.Nothing } ∷ record { host = 1; target = 0; unit = 0; at = 1500; tag = tags.Untagged; cdb = (0 ∷ 0 ∷ 0 ∷ 0 ∷ 0 ∷ 0 ∷ []); payload = payloads.Nothing } ∷ [];
   aborts = [];
   resets = [];

@@ -32,6 +32,11 @@ const ROOM: usize = 8192;
 /// A scenario in which nothing happens, and its report.
 const NOTHING: &'static str = "scsi 1\n# nothing happens\n\nend\n";
 
+/// A scenario with a tape.
+const TAPED: &'static str =
+    "scsi 3\ntarget 0 latency 0 retries 2 disc never pick first seek 0 sync 0 0 begins no\n\
+    tape 0 0 objects 2 size 16 depth 1\nload 0 0 mark\nend\n";
+
 const NOTHING_HAPPENED: &'static str = "trace 1\nend 0\nhistory\nreplies\nblocks\ndone\n";
 
 /// A trace, its dump, and a dump of one line with a clock beside the device.
@@ -99,7 +104,7 @@ fn ends_with_each_status(rt: HostRuntime) -> Result<(), NoMemory> {
         "usage: scsibus run [--short|--transcript] | judge | make SEED N | transcript | vcd | unvcd\n";
     let run: &'static [&'static str] = &["run"];
     let judge: &'static [&'static str] = &["judge"];
-    let cases: [Case; 29] = [
+    let cases: [Case; 31] = [
         (run, PLAIN.0, NEVER, NEVER, Status::Done, PLAIN.1),
         (run, BLANK.0, NEVER, NEVER, Status::Done, BLANK.1),
         (run, LOW.0, NEVER, NEVER, Status::Done, LOW.1),
@@ -125,6 +130,8 @@ fn ends_with_each_status(rt: HostRuntime) -> Result<(), NoMemory> {
         ),
         (run, NOTHING, NEVER, NEVER, Status::Done, NOTHING_HAPPENED),
         (run, NOTHING, NEVER, 1, Status::Write, ""),
+        (run, TAPED, NEVER, NEVER, Status::NotBuilt, "not built\n"),
+        (run, TAPED, NEVER, 1, Status::NotBuilt, ""),
         (run, PLAIN.0, 3, NEVER, Status::Read, "read fault\n"),
         (run, PLAIN.0, NEVER, 1, Status::Write, ""),
         (&["walk"], PLAIN.0, NEVER, 1, Status::Words, ""),
@@ -325,6 +332,7 @@ fn has_exit_statuses(rt: HostRuntime) {
         (Status::Memory, 5),
         (Status::Broken, 6),
         (Status::BadTrace, 7),
+        (Status::NotBuilt, 9),
         (Status::BadDump, 10),
     ];
     for (status, code) in codes {

@@ -18,13 +18,14 @@ use Rattle.cdb_codec.specs.Cdb.{ten_bytes, cdb_bytes, has_group_len, are_zero, w
 use Rattle.cdb_codec.specs.Cdb.{without_ignored, command_of}
 
 -- a test that lets a value through holds, and the value is the result
-let_through : (t : Bool) (r : Result Command CdbFault) (f : CdbFault) (c : Command) → cond t r (Err f) ≡ Ok c
+pub let_through : {A : Type 0} (t : Bool) (r : Result A CdbFault) (f : CdbFault) (c : A) → cond t r (Err f) ≡ Ok c
     → (t ≡ true) × (r ≡ Ok c)
 let_through true r f c e = (refl, e)
 let_through false r f c e = absurd cc
 
 -- a test that would stop a value does not hold
-not_stopped : (t : Bool) (f : CdbFault) (r : Result Command CdbFault) (c : Command) → cond t (Err f) r ≡ Ok c → r ≡ Ok c
+pub not_stopped : {A : Type 0} (t : Bool) (f : CdbFault) (r : Result A CdbFault) (c : A) → cond t (Err f) r ≡ Ok c
+    → r ≡ Ok c
 not_stopped true f r c e = absurd cc
 not_stopped false f r c e = e
 
@@ -34,7 +35,7 @@ zeros_from : (x : ℕ) (t : Bool) (xs : List ℕ)
 zeros_from x true xs e more h = (grind (arith, nat_tests), more h)
 zeros_from x false xs e more h = absurd cc
 
-zeros : (xs : List ℕ) → are_zero xs ≡ true → AllByRecursion (λ b. b ≡ 0) xs
+pub zeros : (xs : List ℕ) → are_zero xs ≡ true → AllByRecursion (λ b. b ≡ 0) xs
 zeros [] h = tt
 zeros (x ∷ xs) h = zeros_from x (x == 0x00) xs refl (zeros xs) h
 

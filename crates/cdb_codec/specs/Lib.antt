@@ -2,3 +2,6 @@ pub mod Operations
 pub mod Cdb
 pub mod Blocks
 pub mod Replies
+pub mod TapeOperations
+pub mod TapeCdb
+pub mod Kinds

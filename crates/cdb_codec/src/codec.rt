@@ -89,8 +89,8 @@ pub fn from_cdb(bytes: &[u8]) -> Result<Command, CdbFault>
     read_fields(operation, bytes)
 }
 
-// Whether there are as many bytes as the group of the first one has.
-fn has_group_len(bytes: &[u8]) -> bool
+/// Whether there are as many bytes as the group of the first one has.
+pub fn has_group_len(bytes: &[u8]) -> bool
     requires { 0 < length bytes.now }
     ensures { result ≡ has_group_len bytes.now }
 {

@@ -1,4 +1,5 @@
 //! Commands, what is wrong with a block, and sense.
+ghost use Rattle.std.specs.Prelude.{◌≡◌};
 
 /// A command that a target carries out. Blocks are those of the logical unit, the first of them 0.
 #[derive(Clone, Copy, PartialEq, Eq, Debug)]
@@ -36,7 +37,7 @@ pub enum CdbFault {
     Field,
 }
 
-/// Sense: why a command failed (clause 8.2.14).
+/// Sense: why a command ended with CHECK CONDITION, and how far a tape came (clause 8.2.14).
 #[derive(Clone, Copy, PartialEq, Eq, Debug)]
 pub struct Sense {
     /// The sense key, below 16.
@@ -45,4 +46,30 @@ pub struct Sense {
     pub asc: u8,
     /// The qualifier of the additional sense code.
     pub ascq: u8,
+    /// What a tape met, by the two high bits of a byte: [`FILEMARK`], [`END_OF_MEDIUM`], or 0 for neither, as
+    /// at a disk.
+    ///
+    /// [`FILEMARK`]: crate::FILEMARK
+    /// [`END_OF_MEDIUM`]: crate::END_OF_MEDIUM
+    pub marks: u8,
+    /// How many of the blocks or filemarks that a command of a tape named it did not move over or write, the
+    /// information of the sense data; `None` where they are not valid, as at a disk.
+    pub residue: Option<u32>,
+}
+
+impl Sense {
+    ghost use Rattle.cdb_codec.specs.Replies.{plain_sense};
+
+    /// A sense that names no marks and no residue, as each of a disk is.
+    pub fn plain(key: u8, asc: u8, ascq: u8) -> Sense
+        ensures { result ≡ plain_sense key asc ascq }
+    {
+        Sense {
+            key,
+            asc,
+            ascq,
+            marks: 0x00,
+            residue: None,
+        }
+    }
 }

@@ -38,8 +38,8 @@ fn where_zero(spare: &[u8], command: Command) -> Result<Command, CdbFault>
     }
 }
 
-// Whether each byte is 0.
-fn are_zero(spare: &[u8]) -> bool
+/// Whether each byte is 0.
+pub fn are_zero(spare: &[u8]) -> bool
     ensures { result ≡ are_zero spare.now }
 {
     spare.iter().all(|byte| *byte == 0)
@@ -54,8 +54,8 @@ fn test_unit_ready(bytes: &[u8]) -> Result<Command, CdbFault>
     where_zero(&spare, Command::TestUnitReady)
 }
 
-// What no field names where byte 4 says how many bytes there is room for.
-fn spare_room(bytes: &[u8]) -> [u8; 4]
+/// What no field names where byte 4 says how many bytes there is room for.
+pub fn spare_room(bytes: &[u8]) -> [u8; 4]
     requires { length bytes.now ≡ 6 }
     ensures { result ≡ spare_room bytes.now }
 {

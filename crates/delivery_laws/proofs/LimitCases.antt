@@ -10,12 +10,23 @@ use Rattle.due_model.specs.bus_trace.specs.LineSet.{set_of}
 use Rattle.due_model.specs.bus_trace.specs.declared.Row.{Row}
 use Rattle.due_model.specs.bus_trace.specs.declared.Kind.TheVariants.{Drives, Fault}
 use Rattle.delivery_laws.proofs.Limits.{delivers, limit_told}
-use Rattle.std.proofs.Common.{ℕ, ◌≡◌, true, false, List, [], ◌∷◌, refl}
+use Rattle.std.proofs.Common.{ℕ, ◌≡◌, Bool, true, false, List, [], ◌∷◌, reverse, refl}
+use Rattle.std.specs.Prelude.{Option, Some, None}
+use Rattle.due_model.specs.bus_base.specs.declared.ProcId.{ProcId}
+use Rattle.due_model.specs.bus_base.specs.declared.AbortKind.TheVariants as aborts
+use Rattle.due_model.specs.bus_base.specs.declared.Event.{Event}
+use Rattle.due_model.specs.bus_base.specs.declared.Event.TheVariants as events
 use Rattle.due_model.specs.bus_base.specs.declared.events.Pick.TheVariants as picks
+use Rattle.due_model.specs.scenario.specs.declared.value.FillDef.{FillDef}
+use Rattle.due_model.specs.scenario.specs.declared.value.UnitDef.{UnitDef}
 use Rattle.due_model.specs.scenario.specs.declared.value.Policy.TheVariants as policies
+use Rattle.due_model.specs.scenario.specs.declared.value.Load.TheVariants as loads
 use Rattle.due_model.specs.scenario.specs.declared.value.Tag.TheVariants as tags
 use Rattle.due_model.specs.scenario.specs.declared.value.Payload.TheVariants as payloads
 use Rattle.due_model.specs.scenario.specs.Value.{ScenarioValue}
+use Rattle.due_model.specs.array_model.specs.Contents.{Contents, starting_contents, printed_blocks}
+use Rattle.due_model.specs.array_model.specs.Execution.{Reply, good, check_condition, queue_full, sense_of}
+use Rattle.due_model.specs.array_model.specs.ArrayHistory.{array_after, disks_of, reply_of}
 use Rattle.due_model.proofs.Cases.{command_struck_twice_due, command_struck_twice_due_rows, request_of_a_target_struck_due, request_of_a_target_struck_due_rows, pulsed_read_struck_due, pulsed_read_struck_due_rows, pulsed_write_struck_due, pulsed_write_struck_due_rows, selected_id_struck_due, selected_id_struck_due_rows, tagged_opening_struck_due, tagged_opening_struck_due_rows, command_given_up_due, command_given_up_due_rows, data_in_given_up_due, data_in_given_up_due_rows, lost_due, lost_due_rows, status_given_up_due, status_given_up_due_rows, given_up_due, given_up_due_rows, status_struck_due, status_struck_due_rows, opening_given_up_due, opening_given_up_due_rows, complete_struck_due, complete_struck_due_rows}
 
 abbrev drive : ℕ → ℕ → ℕ → Row
@@ -153,6 +164,8 @@ absent_target_limit = record {
   targets = record { dev = 1; latency = 0; retries = 3; disc = policies.Never; pick = picks.First; seek = 0; period = 0; offset = 0; begins = false } ∷ [];
   units = record { target = 1; unit = 0; blocks = 1; size = 16; depth = 1 } ∷ [];
   fills = [];
+  tapes = [];
+  loads = [];
   commands = record { host = 7; target = 0; unit = 0; at = 0; tag = tags.Untagged; cdb = (18 ∷ 0 ∷ 0 ∷ 0 ∷ 3 ∷ 0 ∷ []); payload = payloads.Nothing } ∷ [];
   aborts = [];
   resets = [];
@@ -175,6 +188,8 @@ data_out_twice_limit = record {
   targets = record { dev = 6; latency = 0; retries = 1; disc = policies.Never; pick = picks.First; seek = 0; period = 0; offset = 0; begins = false } ∷ [];
   units = record { target = 6; unit = 2; blocks = 1; size = 16; depth = 1 } ∷ [];
   fills = [];
+  tapes = [];
+  loads = [];
   commands = record { host = 3; target = 6; unit = 2; at = 0; tag = tags.Untagged; cdb = (10 ∷ 0 ∷ 0 ∷ 0 ∷ 1 ∷ 0 ∷ []); payload = payloads.From 48 } ∷ [];
   aborts = [];
   resets = [];
@@ -201,6 +216,8 @@ disconnect_once_limit = record {
   targets = record { dev = 0; latency = 0; retries = 1; disc = policies.Command; pick = picks.First; seek = 0; period = 0; offset = 0; begins = false } ∷ [];
   units = record { target = 0; unit = 0; blocks = 1; size = 16; depth = 1 } ∷ [];
   fills = [];
+  tapes = [];
+  loads = [];
   commands = record { host = 7; target = 0; unit = 0; at = 0; tag = tags.Simple 1; cdb = (0 ∷ 0 ∷ 0 ∷ 0 ∷ 0 ∷ 0 ∷ []); payload = payloads.Nothing } ∷ [];
   aborts = [];
   resets = [];
@@ -227,6 +244,8 @@ disconnect_twice_limit = record {
   targets = record { dev = 0; latency = 0; retries = 1; disc = policies.Command; pick = picks.First; seek = 0; period = 0; offset = 0; begins = false } ∷ [];
   units = record { target = 0; unit = 0; blocks = 1; size = 16; depth = 1 } ∷ [];
   fills = [];
+  tapes = [];
+  loads = [];
   commands = record { host = 7; target = 0; unit = 0; at = 0; tag = tags.Simple 1; cdb = (0 ∷ 0 ∷ 0 ∷ 0 ∷ 0 ∷ 0 ∷ []); payload = payloads.Nothing } ∷ [];
   aborts = [];
   resets = [];
@@ -253,6 +272,8 @@ ids_and_data_limit = record {
   targets = record { dev = 1; latency = 0; retries = 3; disc = policies.Never; pick = picks.First; seek = 0; period = 0; offset = 0; begins = false } ∷ [];
   units = record { target = 1; unit = 0; blocks = 1; size = 16; depth = 1 } ∷ [];
   fills = [];
+  tapes = [];
+  loads = [];
   commands = record { host = 7; target = 1; unit = 0; at = 0; tag = tags.Untagged; cdb = (18 ∷ 0 ∷ 0 ∷ 0 ∷ 3 ∷ 0 ∷ []); payload = payloads.Nothing } ∷ [];
   aborts = [];
   resets = [];
@@ -279,6 +300,8 @@ ids_twice_limit = record {
   targets = record { dev = 0; latency = 26; retries = 2; disc = policies.Never; pick = picks.First; seek = 0; period = 0; offset = 0; begins = false } ∷ [];
   units = record { target = 0; unit = 0; blocks = 1; size = 16; depth = 1 } ∷ [];
   fills = [];
+  tapes = [];
+  loads = [];
   commands = record { host = 7; target = 0; unit = 0; at = 0; tag = tags.Untagged; cdb = (0 ∷ 0 ∷ 0 ∷ 0 ∷ 0 ∷ 0 ∷ []); payload = payloads.Nothing } ∷ [];
   aborts = [];
   resets = [];
@@ -305,6 +328,8 @@ status_once_limit = record {
   targets = record { dev = 0; latency = 90; retries = 1; disc = policies.Never; pick = picks.First; seek = 0; period = 0; offset = 0; begins = false } ∷ [];
   units = record { target = 0; unit = 0; blocks = 1; size = 16; depth = 1 } ∷ [];
   fills = [];
+  tapes = [];
+  loads = [];
   commands = record { host = 6; target = 0; unit = 0; at = 0; tag = tags.Untagged; cdb = (0 ∷ 0 ∷ 0 ∷ 0 ∷ 0 ∷ 0 ∷ []); payload = payloads.Nothing } ∷ [];
   aborts = [];
   resets = [];

@@ -3,8 +3,8 @@
 use Rattle.delivery_laws.proofs
 use proofs.Names.{ℕ, suc, zero, ◌≡◌, ◌+◌, Bool, true, false, not, ◌&&◌, ◌||◌, ◌∙◌, List, [], ◌∷◌, Option, Some, None}
 use proofs.Names.{sym, ap, subst, arith, and_from, same_Some, ◌==◌, nat_le, and_first, and_second, plus_none, Row}
-use proofs.Names.{Sense, QUEUE_FULL, ScenarioValue, AbortDef, CmdDef, ResetDef, command_at, same_bool, command_id}
-use proofs.Names.{Outcome, ended_aborted, ended_check, ended_full, ended_good, ended_lost, ended_reset}
+use proofs.Names.{Sense, QUEUE_FULL, ScenarioValue, AbortDef, CmdDef, ResetDef, same_number, command_at, same_bool}
+use proofs.Names.{command_id, Outcome, ended_aborted, ended_check, ended_full, ended_good, ended_lost, ended_reset}
 use proofs.Names.{ended_unanswered, is_roomy, is_valid, outcome_of, story, trace_history, is_good, was_refused}
 use proofs.Names.{none_some, plus_one, IsDelivered, command_faults, fault_limit, first_ending, first_outcome}
 use proofs.Names.{is_by_status, is_full, is_tried_out, is_unanswered}
@@ -33,7 +33,8 @@ limit_told s rows m faults limit good = limit_told_of s rows m faults limit good
 -- ---- its outcome
 
 abbrev same_sense : Sense → Sense → Bool
-same_sense a b = a.key == b.key && (a.asc == b.asc && a.ascq == b.ascq)
+same_sense a b = a.key == b.key
+    && (a.asc == b.asc && (a.ascq == b.ascq && (a.marks == b.marks && same_number a.residue b.residue)))
 
 abbrev same_bytes : List ℕ → List ℕ → Bool
 same_bytes [] [] = true

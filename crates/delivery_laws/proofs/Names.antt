@@ -26,12 +26,15 @@ pub use bus_trace.declared.{connection.Connection.{Connection}, selection.{Call.
 unfoldable pub use bus_trace.{LineSet.{line_of}, View.{union_below}}
 use Rattle.due_model.specs.bus_lines.specs as bus_lines
 pub use bus_lines.Handshakes.{Handshakes}
+use Rattle.due_model.specs.cdb_codec.proofs as cdb_codec_proofs
+pub use cdb_codec_proofs.Senses.{sense_reads_back}
 use Rattle.due_model.specs.cdb_codec.specs as cdb_codec
 pub use cdb_codec.{Cdb.{are_zero, command_of, has_group_len, sized_of, spare_room}, Operations.{operation_of}}
-pub use cdb_codec.declared.{Sense.{Sense}, command.{CdbFault.{CdbFault}, Command.{Command}}}
-pub use cdb_codec.declared.operation.{Operation.{Operation}, TheConstants.{INQUIRY, REQUEST_SENSE}}
-pub use cdb_codec.declared.sense.TheConstants.{ABORTED_COMMAND, INITIATOR_DETECTED_ERROR}
-pub use cdb_codec.declared.status.TheConstants.{CHECK_CONDITION, GOOD, QUEUE_FULL}
+pub use cdb_codec.{Replies.{FitsSense, sense_data}, declared.{Sense.{Sense}, command.CdbFault.{CdbFault}}}
+pub use cdb_codec.declared.{command.Command.{Command}, operation.{Operation.{Operation}, TheConstants.{INQUIRY}}}
+pub use cdb_codec.declared.{operation.TheConstants.{REQUEST_SENSE}, sense.TheConstants.{ABORTED_COMMAND}}
+pub use cdb_codec.declared.{sense.TheConstants.{INITIATOR_DETECTED_ERROR}, status.TheConstants.{CHECK_CONDITION, GOOD}}
+pub use cdb_codec.declared.status.TheConstants.{QUEUE_FULL}
 use Rattle.due_model.specs.msg_grammar.specs as msg_grammar
 unfoldable pub use msg_grammar.Messages.{form_in, form_out}
 use Rattle.due_model.specs.bus_phases.specs as bus_phases
@@ -43,13 +46,13 @@ pub use bus_rules.Reset.{only_rst}
 use Rattle.due_model.specs.scenario.proofs as scenario_proofs
 pub use scenario_proofs.Steps.{bind_ok, guard_ok, ok_is}
 use Rattle.due_model.specs.scenario.specs as scenario
-pub use scenario.Forms.{Said, abort_line, cmd_line, end_line, fault_line, fill_line, initiator_line, reset_line}
-pub use scenario.{Forms.{scsi_line, target_line, unit_line}, Lookups.{has_device, has_host, has_target, unit_of}}
-pub use scenario.Reading.{Progress, abort_def, fault_def, fill_def, fits_version, full_cmd_def, guard, has_abort_room}
-pub use scenario.Reading.{host_def, in_8, in_order, kind_of, nothing, rank, target_def, time_in, unit_def}
-pub use scenario.{Value.{ScenarioValue}, Writing.{Obeys, built, saids}, declared.value.AbortDef.{AbortDef}}
-pub use scenario.declared.value.{CmdDef.{CmdDef}, HostDef.{HostDef}, ResetDef.{ResetDef}, TargetDef.{TargetDef}}
-pub use scenario.declared.value.UnitDef.{UnitDef}
+pub use scenario.Forms.{Said, abort_line, cmd_line, end_line, fault_line, fill_line, initiator_line, load_line}
+pub use scenario.{Forms.{reset_line, scsi_line, tape_line, target_line, unit_line}, Lookups.{has_device, has_host}}
+pub use scenario.{Lookups.{has_target, unit_of}, Reading.{Progress, abort_def, fault_def, fill_def, fits_version}}
+pub use scenario.Reading.{full_cmd_def, guard, has_abort_room, host_def, in_8, in_order, kind_of, load_def, nothing}
+pub use scenario.{Reading.{rank, tape_def, target_def, time_in, unit_def}, Value.{ScenarioValue}, Writing.{Obeys}}
+pub use scenario.{Writing.{built, saids}, declared.value.{AbortDef.{AbortDef}, CmdDef.{CmdDef}, HostDef.{HostDef}}}
+pub use scenario.declared.value.{ResetDef.{ResetDef}, TargetDef.{TargetDef}, UnitDef.{UnitDef}}
 unfoldable pub use scenario.{Needs.{need_of, sent_of}, Reading.{added, reset_def, said_after}}
 use Rattle.due_model.specs.array_model.proofs as array_model_proofs
 pub use array_model_proofs.ArrayReplies.{abort_lists, end_lists, fail_lists, loss_lists, reset_lists, took}
@@ -62,8 +65,8 @@ use Rattle.due_model.specs.array_model.specs as array_model
 pub use array_model.{ArrayHistory.{array_after, array_step, reply_in, reply_of}, Execution.{CommandContext, Execution}}
 pub use array_model.Execution.{Reply, aborted_reply, check_condition, commands_cleared, execution, is_good_range}
 pub use array_model.Execution.{is_opcode, is_request_sense, needs_unit, queue_full, range_of, returned_sense, sense_of}
-pub use array_model.{Execution.{unit_not_supported}, Order.{choice, without_process}, Processes.{Process, command_at}}
-pub use array_model.Processes.{process_by, process_if, process_of, same_bool, same_id, sense_block}
+pub use array_model.{Execution.{unit_not_supported}, Order.{choice, same_number, without_process}, Processes.{Process}}
+pub use array_model.Processes.{command_at, process_by, process_if, process_of, same_bool, same_id, sense_block}
 pub use array_model.{Seats.{is_initiator}, SoundArray.{HasSeats, IsSound}, Steps.{accept_step, accept_step_at}}
 pub use array_model.Steps.{event_step, process_count, queue_step, running_process, settled_array_if, with_guest}
 pub use array_model.Units.{Array, Nexus, RunningProcess, UnitState, guest_at, has_no_current, is_held, nexus_of}
@@ -129,7 +132,7 @@ pub use scsi_device_proofs.LineReads.{reset_by}
 use Rattle.progress_laws.specs.scsi_device.specs as scsi_device
 pub use scsi_device.{Lines.{FitsBus, IsHostLine, IsTargetLine}, Writes.{writers}}
 use Rattle.progress_laws.specs.target_units.proofs as target_units_proofs
-pub use target_units_proofs.Rooms.{lines_always}
+pub use target_units_proofs.Rooms.{lines_always, unit_of_line}
 use Rattle.progress_laws.specs.target_units.specs as target_units
 pub use target_units.Rooms.{AreOfLines, IsOfLine}
 use Rattle.target_course.proofs as target_course_proofs
@@ -161,13 +164,14 @@ pub use link_laws_proofs.Traces.{link_calm}
 use Rattle.progress_laws.specs.link_laws.specs as link_laws
 pub use link_laws.{Books.{KeepsBooksIn}, LinkStages.{AnyStage, linked}}
 use Rattle.progress_laws.specs.row_laws.proofs as row_laws_proofs
-pub use row_laws_proofs.Common.{Impossible.{none_some}, PhaseLines.{command_phase}, PlanWays.{plan_left}}
-pub use row_laws_proofs.{Common.Tests.{plus_one}, Events.{Arriving.{no_guest, not_running}, Others.{executed}}}
-pub use row_laws_proofs.Events.{Others.{reply_at}, Replies.{accepted, refused, running_id, settles}, Units.{MayWait}}
-pub use row_laws_proofs.Events.{Units.{StaysSo, each_settled, events_all, unit_has}, Writers.{append_all, kept_all}}
-pub use row_laws_proofs.{Events.Writers.{without_all}, Lines.Called.{IsDueCall, sel_of_call}}
-pub use row_laws_proofs.Lines.{Connections.{connection_row}, Crossings.{RowFacts, ends_here, stays}, Joint.{NextStood}}
-pub use row_laws_proofs.Lines.Joint.{Stood}
+pub use row_laws_proofs.Bytes.{Arrays.{HasByteCode, SendsBytes, StoredFit, stored_fit}, Codes.{row_codes}}
+pub use row_laws_proofs.{Bytes.Facts.{Keeps, KeepsIf, keeps, keeps_events, sends_bytes}, Common.Impossible.{none_some}}
+pub use row_laws_proofs.Common.{PhaseLines.{command_phase}, PlanWays.{plan_left}, Tests.{plus_one}}
+pub use row_laws_proofs.Events.{Arriving.{no_guest, not_running}, Others.{executed, reply_at}, Replies.{accepted}}
+pub use row_laws_proofs.Events.{Replies.{refused, running_id, settles}, Units.{MayWait, StaysSo, each_settled}}
+pub use row_laws_proofs.Events.{Units.{events_all, unit_has}, Writers.{append_all, kept_all, without_all}}
+pub use row_laws_proofs.Lines.{Called.{IsDueCall, sel_of_call}, Connections.{connection_row}, Crossings.{RowFacts}}
+pub use row_laws_proofs.Lines.{Crossings.{ends_here, stays}, Joint.{NextStood, Stood}}
 use Rattle.progress_laws.specs.row_laws.specs as row_laws
 pub use row_laws.{DataPointers.{is_marked}, ItemFacts.{AllP, AreChecked, IsChecked, IsNext, IsQueued, Items, RunsP}}
 pub use row_laws.{ItemFacts.{UnitsP, is_abort, is_sense}, Places.{AnsweredOpen, Closes, IsAtRest, IsAway, IsTaken}}

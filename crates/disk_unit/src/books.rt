@@ -253,6 +253,8 @@ const RESET: Sense = Sense {
     key: UNIT_ATTENTION,
     asc: RESET_OCCURRED,
     ascq: 0x00,
+    marks: 0x00,
+    residue: None,
 };
 
 // Each other initiator that has a command in the queue is told that it is cleared.
@@ -279,11 +281,7 @@ fn after_clear(told: bool, attention: Option<Sense>) -> Option<Sense>
     ensures { result ≡ attention_if_told told attention }
 {
     if told && !is_reset_pending(attention) {
-        Some(Sense {
-            key: UNIT_ATTENTION,
-            asc: COMMANDS_CLEARED,
-            ascq: 0x00,
-        })
+        Some(Sense::plain(UNIT_ATTENTION, COMMANDS_CLEARED, 0x00))
     } else {
         attention
     }

@@ -5,7 +5,7 @@ ghost use Rattle.cdb_codec.specs.declared.status.TheConstants.{GOOD as GOOD_STAT
 ghost use Rattle.cdb_codec.specs.Blocks.{blocks_moved as blocks_of};
 ghost use Rattle.array_model.specs.scenario.specs.Needs.{is_write as writes_by};
 ghost use Rattle.array_model.specs.Contents.{bytes_at, with_bytes};
-ghost use Rattle.cdb_codec.specs.Replies.{capacity_data};
+ghost use Rattle.cdb_codec.specs.Replies.{plain_sense, capacity_data};
 ghost use Rattle.array_model.specs.Execution.{Reply, is_good_range, range_of, command_execution, cdb_execution, range_execution, check_condition, good};
 ghost use Rattle.array_model.specs.Order.{range_in, first_in, count_in};
 ghost use Rattle.disk_unit.specs.Plans.{plan_of};
@@ -132,15 +132,11 @@ fn blocks_to_write(command: &Command) -> u32
 
 // A command that is not carried out.
 fn refusal(asc: u8) -> Plan
-    ensures { result ≡ plan_of (check_condition (record { key = 0x05; asc = asc; ascq = 0x00 })) 0 }
+    ensures { result ≡ plan_of (check_condition (plain_sense 0x05 asc 0x00)) 0 }
 {
     Plan {
         status: CHECK_CONDITION,
-        sense: Some(Sense {
-            key: ILLEGAL_REQUEST,
-            asc,
-            ascq: 0x00,
-        }),
+        sense: Some(Sense::plain(ILLEGAL_REQUEST, asc, 0x00)),
         in_len: 0,
         out_len: 0,
     }
@@ -167,6 +163,8 @@ const NO_SENSE_AT_ALL: Sense = Sense {
     key: NO_SENSE,
     asc: NO_ADDITIONAL_SENSE,
     ascq: 0x00,
+    marks: 0x00,
+    residue: None,
 };
 
 // The bytes that a command without fault gives.

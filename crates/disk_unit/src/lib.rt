@@ -25,7 +25,7 @@ mod sparse;
 mod transfer;
 mod unit;
 
-pub use blocks::Blocks;
+pub use blocks::{Blocks, copy_from};
 pub use dense::DenseBlocks;
 pub use disk::DiskMedium;
 pub use laws::{disks_execute_as_the_array, units_are_seats, units_keep_what_seats_keep};

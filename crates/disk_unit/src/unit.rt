@@ -119,11 +119,7 @@ pub fn aborted_reply(code: u8) -> Reply
     Reply {
         status: CHECK_CONDITION,
         len: 0,
-        sense: Some(Sense {
-            key: ABORTED_COMMAND,
-            asc: code,
-            ascq: 0x00,
-        }),
+        sense: Some(Sense::plain(ABORTED_COMMAND, code, 0x00)),
     }
 }
 
@@ -422,11 +418,7 @@ impl<M: Medium> Unit<M> {
     {
         match self.books.sense(dev) {
             Some(sense) => sense,
-            None => Sense {
-                key: NO_SENSE,
-                asc: NO_ADDITIONAL_SENSE,
-                ascq: 0x00,
-            },
+            None => Sense::plain(NO_SENSE, NO_ADDITIONAL_SENSE, 0x00),
         }
     }
 

@@ -4,16 +4,25 @@ use Rattle.bus_rules.specs.bus_trace.specs.LineSet.{set_of}
 use Rattle.bus_rules.specs.bus_trace.specs.declared.Row.{Row}
 use Rattle.bus_rules.specs.bus_trace.specs.declared.Kind.TheVariants.{Drives, Fault}
 use Rattle.due_model.specs.Run.{Run, history_of}
-use Rattle.std.proofs.Common.{ℕ, Bool, true, false, List, [], ◌∷◌, reverse}
+use Rattle.std.proofs.Common.{ℕ, ◌≡◌, Bool, true, false, List, [], ◌∷◌, reverse, refl}
+use Rattle.std.specs.Prelude.{Option, Some, None}
+use lib.Count.{ones}
 use Rattle.bus_rules.specs.bus_base.specs.declared.ProcId.{ProcId}
 use Rattle.bus_rules.specs.bus_base.specs.declared.AbortKind.TheVariants as aborts
 use Rattle.bus_rules.specs.bus_base.specs.declared.Event.{Event}
 use Rattle.bus_rules.specs.bus_base.specs.declared.Event.TheVariants as events
 use Rattle.bus_rules.specs.bus_base.specs.declared.events.Pick.TheVariants as picks
+use Rattle.dialogue_model.specs.scenario.specs.declared.value.FillDef.{FillDef}
+use Rattle.dialogue_model.specs.scenario.specs.declared.value.UnitDef.{UnitDef}
 use Rattle.dialogue_model.specs.scenario.specs.declared.value.Policy.TheVariants as policies
+use Rattle.dialogue_model.specs.scenario.specs.declared.value.Load.TheVariants as loads
 use Rattle.dialogue_model.specs.scenario.specs.declared.value.Tag.TheVariants as tags
 use Rattle.dialogue_model.specs.scenario.specs.declared.value.Payload.TheVariants as payloads
 use Rattle.dialogue_model.specs.scenario.specs.Value.{ScenarioValue}
+use Rattle.dialogue_model.specs.scenario.specs.Needs.{need_of, sent_of}
+use Rattle.dialogue_model.specs.array_model.specs.Contents.{Contents, starting_contents, printed_blocks}
+use Rattle.dialogue_model.specs.array_model.specs.Execution.{Reply, good, check_condition, queue_full, sense_of}
+use Rattle.dialogue_model.specs.array_model.specs.ArrayHistory.{array_after, disks_of, reply_of}
 
 abbrev drive : ℕ → ℕ → ℕ → Row
 drive time dev lines = record { time = time; dev = dev; kind = Drives (set_of lines) }
@@ -45,6 +54,8 @@ absent_unit_due = record {
   targets = record { dev = 0; latency = 29; retries = 2; disc = policies.Command; pick = picks.First; seek = 800; period = 0; offset = 0; begins = false } ∷ [];
   units = record { target = 0; unit = 0; blocks = 1; size = 16; depth = 1 } ∷ [];
   fills = [];
+  tapes = [];
+  loads = [];
   commands = record { host = 7; target = 0; unit = 3; at = 0; tag = tags.Untagged; cdb = (18 ∷ 0 ∷ 0 ∷ 0 ∷ 1 ∷ 0 ∷ []); payload = payloads.Nothing } ∷ record { host = 7; target = 0; unit = 3; at = 0; tag = tags.Simple 3; cdb = (3 ∷ 0 ∷ 0 ∷ 0 ∷ 3 ∷ 0 ∷ []); payload = payloads.Nothing } ∷ [];
   aborts = [];
   resets = [];
@@ -69,6 +80,8 @@ burst_without_tags_due = record {
   targets = record { dev = 6; latency = 3; retries = 2; disc = policies.Burst 1; pick = picks.First; seek = 0; period = 60; offset = 2; begins = false } ∷ [];
   units = record { target = 6; unit = 0; blocks = 2; size = 16; depth = 1 } ∷ [];
   fills = record { target = 6; unit = 0; lba = 0; bytes = (16 ∷ 17 ∷ 18 ∷ 19 ∷ 20 ∷ 21 ∷ 22 ∷ 23 ∷ 24 ∷ 25 ∷ 26 ∷ 27 ∷ 28 ∷ 29 ∷ 30 ∷ 31 ∷ []) } ∷ [];
+  tapes = [];
+  loads = [];
   commands = record { host = 7; target = 6; unit = 0; at = 0; tag = tags.Untagged; cdb = (8 ∷ 0 ∷ 0 ∷ 0 ∷ 2 ∷ 0 ∷ []); payload = payloads.Nothing } ∷ [];
   aborts = [];
   resets = [];
@@ -93,6 +106,8 @@ command_given_up_due = record {
   targets = record { dev = 3; latency = 8; retries = 0; disc = policies.Command; pick = picks.First; seek = 0; period = 0; offset = 0; begins = false } ∷ [];
   units = record { target = 3; unit = 0; blocks = 1; size = 16; depth = 1 } ∷ [];
   fills = [];
+  tapes = [];
+  loads = [];
   commands = record { host = 5; target = 3; unit = 0; at = 0; tag = tags.Ordered 9; cdb = (0 ∷ 0 ∷ 0 ∷ 0 ∷ 0 ∷ 0 ∷ []); payload = payloads.Nothing } ∷ [];
   aborts = [];
   resets = [];
@@ -117,6 +132,8 @@ command_struck_twice_due = record {
   targets = record { dev = 3; latency = 30; retries = 2; disc = policies.Never; pick = picks.First; seek = 0; period = 0; offset = 0; begins = false } ∷ [];
   units = record { target = 3; unit = 0; blocks = 1; size = 16; depth = 1 } ∷ [];
   fills = [];
+  tapes = [];
+  loads = [];
   commands = record { host = 6; target = 3; unit = 0; at = 0; tag = tags.Untagged; cdb = (37 ∷ 0 ∷ 0 ∷ 0 ∷ 0 ∷ 0 ∷ 0 ∷ 0 ∷ 0 ∷ 0 ∷ []); payload = payloads.Nothing } ∷ [];
   aborts = [];
   resets = [];
@@ -141,6 +158,8 @@ complete_struck_due = record {
   targets = record { dev = 4; latency = 60; retries = 3; disc = policies.Never; pick = picks.First; seek = 0; period = 0; offset = 0; begins = false } ∷ [];
   units = record { target = 4; unit = 7; blocks = 1; size = 16; depth = 1 } ∷ [];
   fills = [];
+  tapes = [];
+  loads = [];
   commands = record { host = 2; target = 4; unit = 7; at = 0; tag = tags.Head 255; cdb = (0 ∷ 0 ∷ 0 ∷ 0 ∷ 0 ∷ 0 ∷ []); payload = payloads.Nothing } ∷ [];
   aborts = [];
   resets = [];
@@ -165,6 +184,8 @@ counted_due = record {
   targets = record { dev = 0; latency = 10; retries = 1; disc = policies.Never; pick = picks.First; seek = 0; period = 0; offset = 0; begins = false } ∷ [];
   units = record { target = 0; unit = 0; blocks = 1; size = 16; depth = 1 } ∷ [];
   fills = [];
+  tapes = [];
+  loads = [];
   commands = record { host = 7; target = 0; unit = 0; at = 0; tag = tags.Untagged; cdb = (0 ∷ 0 ∷ 0 ∷ 0 ∷ 0 ∷ 0 ∷ []); payload = payloads.Nothing } ∷ record { host = 7; target = 0; unit = 0; at = 0; tag = tags.Untagged; cdb = (18 ∷ 0 ∷ 0 ∷ 0 ∷ 1 ∷ 0 ∷ []); payload = payloads.Nothing } ∷ [];
   aborts = [];
   resets = [];
@@ -189,6 +210,8 @@ data_in_given_up_due = record {
   targets = record { dev = 4; latency = 0; retries = 0; disc = policies.Never; pick = picks.First; seek = 0; period = 0; offset = 0; begins = false } ∷ [];
   units = record { target = 4; unit = 0; blocks = 1; size = 16; depth = 1 } ∷ [];
   fills = [];
+  tapes = [];
+  loads = [];
   commands = record { host = 7; target = 4; unit = 0; at = 0; tag = tags.Untagged; cdb = (18 ∷ 0 ∷ 0 ∷ 0 ∷ 2 ∷ 0 ∷ []); payload = payloads.Nothing } ∷ [];
   aborts = [];
   resets = [];
@@ -213,6 +236,8 @@ data_out_given_up_due = record {
   targets = record { dev = 7; latency = 35; retries = 0; disc = policies.Never; pick = picks.First; seek = 0; period = 50; offset = 4; begins = false } ∷ [];
   units = record { target = 7; unit = 0; blocks = 1; size = 16; depth = 1 } ∷ [];
   fills = [];
+  tapes = [];
+  loads = [];
   commands = record { host = 0; target = 7; unit = 0; at = 0; tag = tags.Untagged; cdb = (10 ∷ 0 ∷ 0 ∷ 0 ∷ 1 ∷ 0 ∷ []); payload = payloads.From 248 } ∷ [];
   aborts = [];
   resets = record { dev = 7; at = 20000 } ∷ [];
@@ -237,6 +262,8 @@ delayed_ack_due = record {
   targets = record { dev = 0; latency = 95; retries = 3; disc = policies.Never; pick = picks.First; seek = 500; period = 0; offset = 0; begins = false } ∷ [];
   units = record { target = 0; unit = 0; blocks = 1; size = 16; depth = 1 } ∷ [];
   fills = [];
+  tapes = [];
+  loads = [];
   commands = record { host = 7; target = 0; unit = 0; at = 0; tag = tags.Untagged; cdb = (18 ∷ 0 ∷ 0 ∷ 0 ∷ 4 ∷ 0 ∷ []); payload = payloads.Nothing } ∷ [];
   aborts = [];
   resets = [];
@@ -261,6 +288,8 @@ device_reset_by_message_due = record {
   targets = record { dev = 0; latency = 50; retries = 2; disc = policies.Command; pick = picks.Last; seek = 70000; period = 40; offset = 8; begins = false } ∷ [];
   units = record { target = 0; unit = 1; blocks = 1; size = 16; depth = 1 } ∷ [];
   fills = [];
+  tapes = [];
+  loads = [];
   commands = record { host = 7; target = 0; unit = 1; at = 0; tag = tags.Untagged; cdb = (0 ∷ 0 ∷ 0 ∷ 0 ∷ 0 ∷ 0 ∷ []); payload = payloads.Nothing } ∷ record { host = 7; target = 0; unit = 1; at = 30000; tag = tags.Untagged; cdb = (18 ∷ 0 ∷ 0 ∷ 0 ∷ 5 ∷ 0 ∷ []); payload = payloads.Nothing } ∷ [];
   aborts = record { host = 7; target = 0; unit = 1; at = 15000; what = aborts.Device } ∷ [];
   resets = [];
@@ -285,6 +314,8 @@ equal_bytes_due = record {
   targets = record { dev = 1; latency = 0; retries = 2; disc = policies.Never; pick = picks.First; seek = 0; period = 50; offset = 8; begins = false } ∷ record { dev = 0; latency = 60; retries = 2; disc = policies.Never; pick = picks.First; seek = 0; period = 30; offset = 1; begins = false } ∷ [];
   units = record { target = 1; unit = 0; blocks = 1; size = 16; depth = 1 } ∷ record { target = 0; unit = 0; blocks = 1; size = 16; depth = 1 } ∷ [];
   fills = [];
+  tapes = [];
+  loads = [];
   commands = record { host = 7; target = 0; unit = 0; at = 0; tag = tags.Untagged; cdb = (10 ∷ 0 ∷ 0 ∷ 0 ∷ 1 ∷ 0 ∷ []); payload = payloads.Hex (7 ∷ 7 ∷ 7 ∷ 7 ∷ 7 ∷ 0 ∷ 0 ∷ 255 ∷ 255 ∷ 1 ∷ 1 ∷ 254 ∷ 2 ∷ 2 ∷ 2 ∷ 3 ∷ []) } ∷ record { host = 7; target = 1; unit = 0; at = 0; tag = tags.Untagged; cdb = (10 ∷ 0 ∷ 0 ∷ 0 ∷ 1 ∷ 0 ∷ []); payload = payloads.From 14 } ∷ [];
   aborts = [];
   resets = [];
@@ -309,6 +340,8 @@ fast_pulses_out_due = record {
   targets = record { dev = 4; latency = 0; retries = 2; disc = policies.Never; pick = picks.First; seek = 0; period = 25; offset = 5; begins = false } ∷ [];
   units = record { target = 4; unit = 0; blocks = 1; size = 16; depth = 1 } ∷ [];
   fills = [];
+  tapes = [];
+  loads = [];
   commands = record { host = 7; target = 4; unit = 0; at = 0; tag = tags.Untagged; cdb = (10 ∷ 0 ∷ 0 ∷ 0 ∷ 1 ∷ 0 ∷ []); payload = payloads.Hex (0 ∷ 1 ∷ 2 ∷ 3 ∷ 4 ∷ 5 ∷ 6 ∷ 7 ∷ 7 ∷ 8 ∷ 8 ∷ 8 ∷ 9 ∷ 10 ∷ 11 ∷ 255 ∷ []) } ∷ [];
   aborts = [];
   resets = [];
@@ -333,6 +366,8 @@ field_in_a_command_due = record {
   targets = record { dev = 1; latency = 100; retries = 2; disc = policies.Never; pick = picks.First; seek = 2500; period = 255; offset = 254; begins = false } ∷ [];
   units = record { target = 1; unit = 0; blocks = 1; size = 16; depth = 1 } ∷ [];
   fills = [];
+  tapes = [];
+  loads = [];
   commands = record { host = 0; target = 1; unit = 0; at = 0; tag = tags.Untagged; cdb = (0 ∷ 0 ∷ 0 ∷ 0 ∷ 0 ∷ 1 ∷ []); payload = payloads.Nothing } ∷ [];
   aborts = [];
   resets = [];
@@ -357,6 +392,8 @@ full_queue_due = record {
   targets = record { dev = 5; latency = 27; retries = 2; disc = policies.Command; pick = picks.First; seek = 40000; period = 0; offset = 0; begins = false } ∷ [];
   units = record { target = 5; unit = 0; blocks = 1; size = 16; depth = 1 } ∷ [];
   fills = [];
+  tapes = [];
+  loads = [];
   commands = record { host = 7; target = 5; unit = 0; at = 0; tag = tags.Simple 1; cdb = (0 ∷ 0 ∷ 0 ∷ 0 ∷ 0 ∷ 0 ∷ []); payload = payloads.Nothing } ∷ record { host = 7; target = 5; unit = 0; at = 0; tag = tags.Simple 2; cdb = (0 ∷ 0 ∷ 0 ∷ 0 ∷ 0 ∷ 0 ∷ []); payload = payloads.Nothing } ∷ [];
   aborts = [];
   resets = [];
@@ -381,6 +418,8 @@ given_up_due = record {
   targets = record { dev = 0; latency = 12; retries = 0; disc = policies.Never; pick = picks.First; seek = 0; period = 0; offset = 0; begins = false } ∷ [];
   units = record { target = 0; unit = 0; blocks = 1; size = 16; depth = 1 } ∷ [];
   fills = [];
+  tapes = [];
+  loads = [];
   commands = record { host = 7; target = 0; unit = 0; at = 0; tag = tags.Untagged; cdb = (10 ∷ 0 ∷ 0 ∷ 0 ∷ 1 ∷ 0 ∷ []); payload = payloads.From 16 } ∷ record { host = 7; target = 0; unit = 0; at = 0; tag = tags.Untagged; cdb = (18 ∷ 0 ∷ 0 ∷ 0 ∷ 3 ∷ 0 ∷ []); payload = payloads.Nothing } ∷ record { host = 7; target = 0; unit = 0; at = 0; tag = tags.Untagged; cdb = (0 ∷ 0 ∷ 0 ∷ 0 ∷ 0 ∷ 0 ∷ []); payload = payloads.Nothing } ∷ [];
   aborts = [];
   resets = [];
@@ -405,6 +444,8 @@ held_reselection_due = record {
   targets = record { dev = 7; latency = 0; retries = 0; disc = policies.Command; pick = picks.First; seek = 10000; period = 0; offset = 0; begins = false } ∷ [];
   units = record { target = 7; unit = 0; blocks = 1; size = 16; depth = 2 } ∷ [];
   fills = [];
+  tapes = [];
+  loads = [];
   commands = record { host = 6; target = 7; unit = 0; at = 0; tag = tags.Simple 1; cdb = (8 ∷ 0 ∷ 0 ∷ 1 ∷ 1 ∷ 0 ∷ []); payload = payloads.Nothing } ∷ record { host = 6; target = 7; unit = 0; at = 0; tag = tags.Simple 2; cdb = (0 ∷ 0 ∷ 0 ∷ 0 ∷ 0 ∷ 0 ∷ []); payload = payloads.Nothing } ∷ [];
   aborts = [];
   resets = [];
@@ -429,6 +470,8 @@ hold_of_a_unit_due = record {
   targets = record { dev = 7; latency = 10; retries = 2; disc = policies.Command; pick = picks.First; seek = 1500; period = 0; offset = 0; begins = false } ∷ [];
   units = record { target = 7; unit = 0; blocks = 1; size = 16; depth = 2 } ∷ [];
   fills = [];
+  tapes = [];
+  loads = [];
   commands = record { host = 6; target = 7; unit = 0; at = 0; tag = tags.Untagged; cdb = (1 ∷ 0 ∷ 0 ∷ 0 ∷ 0 ∷ 0 ∷ []); payload = payloads.Nothing } ∷ record { host = 5; target = 7; unit = 0; at = 0; tag = tags.Untagged; cdb = (0 ∷ 0 ∷ 0 ∷ 0 ∷ 0 ∷ 0 ∷ []); payload = payloads.Nothing } ∷ [];
   aborts = [];
   resets = [];
@@ -453,6 +496,8 @@ late_entry_due = record {
   targets = record { dev = 0; latency = 20; retries = 2; disc = policies.Never; pick = picks.First; seek = 0; period = 0; offset = 0; begins = false } ∷ [];
   units = record { target = 0; unit = 0; blocks = 1; size = 16; depth = 1 } ∷ [];
   fills = [];
+  tapes = [];
+  loads = [];
   commands = record { host = 7; target = 0; unit = 0; at = 0; tag = tags.Untagged; cdb = (0 ∷ 0 ∷ 0 ∷ 0 ∷ 0 ∷ 0 ∷ []); payload = payloads.Nothing } ∷ record { host = 6; target = 0; unit = 0; at = 3000; tag = tags.Untagged; cdb = (0 ∷ 0 ∷ 0 ∷ 0 ∷ 0 ∷ 0 ∷ []); payload = payloads.Nothing } ∷ record { host = 5; target = 0; unit = 0; at = 3000; tag = tags.Untagged; cdb = (0 ∷ 0 ∷ 0 ∷ 0 ∷ 0 ∷ 0 ∷ []); payload = payloads.Nothing } ∷ [];
   aborts = [];
   resets = [];
@@ -477,6 +522,8 @@ lost_due = record {
   targets = record { dev = 0; latency = 0; retries = 1; disc = policies.Never; pick = picks.First; seek = 0; period = 0; offset = 0; begins = false } ∷ [];
   units = record { target = 0; unit = 0; blocks = 1; size = 16; depth = 1 } ∷ [];
   fills = record { target = 0; unit = 0; lba = 0; bytes = (0 ∷ 1 ∷ 2 ∷ 3 ∷ 4 ∷ 5 ∷ 6 ∷ 7 ∷ 8 ∷ 9 ∷ 10 ∷ 11 ∷ 12 ∷ 13 ∷ 14 ∷ 15 ∷ []) } ∷ [];
+  tapes = [];
+  loads = [];
   commands = record { host = 7; target = 0; unit = 0; at = 0; tag = tags.Untagged; cdb = (8 ∷ 0 ∷ 0 ∷ 0 ∷ 1 ∷ 0 ∷ []); payload = payloads.Nothing } ∷ [];
   aborts = [];
   resets = [];
@@ -501,6 +548,8 @@ many_pulses_due = record {
   targets = record { dev = 7; latency = 0; retries = 0; disc = policies.Command; pick = picks.Last; seek = 0; period = 25; offset = 254; begins = false } ∷ [];
   units = record { target = 7; unit = 5; blocks = 8; size = 16; depth = 16 } ∷ [];
   fills = record { target = 7; unit = 5; lba = 4; bytes = (97 ∷ 0 ∷ 233 ∷ 29 ∷ 253 ∷ 41 ∷ 0 ∷ 104 ∷ 179 ∷ 65 ∷ 100 ∷ 28 ∷ 0 ∷ 87 ∷ 178 ∷ 234 ∷ []) } ∷ record { target = 7; unit = 5; lba = 5; bytes = (110 ∷ 58 ∷ 88 ∷ 137 ∷ 0 ∷ 148 ∷ 86 ∷ 215 ∷ 30 ∷ 0 ∷ 0 ∷ 121 ∷ 0 ∷ 174 ∷ 0 ∷ 26 ∷ []) } ∷ record { target = 7; unit = 5; lba = 6; bytes = (28 ∷ 114 ∷ 247 ∷ 42 ∷ 229 ∷ 89 ∷ 32 ∷ 173 ∷ 0 ∷ 243 ∷ 60 ∷ 82 ∷ 0 ∷ 0 ∷ 173 ∷ 0 ∷ []) } ∷ record { target = 7; unit = 5; lba = 7; bytes = (100 ∷ 6 ∷ 101 ∷ 229 ∷ 111 ∷ 124 ∷ 211 ∷ 0 ∷ 79 ∷ 0 ∷ 0 ∷ 0 ∷ 93 ∷ 0 ∷ 238 ∷ 146 ∷ []) } ∷ [];
+  tapes = [];
+  loads = [];
   commands = record { host = 4; target = 7; unit = 3; at = 0; tag = tags.Simple 255; cdb = (10 ∷ 0 ∷ 0 ∷ 0 ∷ 2 ∷ 0 ∷ []); payload = payloads.Nothing } ∷ record { host = 4; target = 7; unit = 0; at = 0; tag = tags.Head 255; cdb = (10 ∷ 0 ∷ 0 ∷ 0 ∷ 1 ∷ 0 ∷ []); payload = payloads.Nothing } ∷ [];
   aborts = record { host = 4; target = 7; unit = 5; at = 36905; what = (aborts.Tag 2) } ∷ record { host = 4; target = 7; unit = 5; at = 8031; what = aborts.All } ∷ record { host = 4; target = 7; unit = 5; at = 52880; what = aborts.Device } ∷ [];
   resets = [];
@@ -525,6 +574,8 @@ offset_255_due = record {
   targets = record { dev = 3; latency = 70; retries = 0; disc = policies.Command; pick = picks.Last; seek = 200; period = 80; offset = 16; begins = false } ∷ record { dev = 4; latency = 0; retries = 0; disc = policies.Never; pick = picks.Last; seek = 1000; period = 0; offset = 5; begins = false } ∷ [];
   units = record { target = 3; unit = 0; blocks = 1; size = 16; depth = 2 } ∷ [];
   fills = [];
+  tapes = [];
+  loads = [];
   commands = record { host = 7; target = 3; unit = 0; at = 0; tag = tags.Untagged; cdb = (3 ∷ 0 ∷ 0 ∷ 0 ∷ 4 ∷ 0 ∷ []); payload = payloads.Nothing } ∷ record { host = 5; target = 4; unit = 7; at = 0; tag = tags.Untagged; cdb = (18 ∷ 0 ∷ 0 ∷ 0 ∷ 5 ∷ 0 ∷ []); payload = payloads.Nothing } ∷ [];
   aborts = [];
   resets = [];
@@ -549,6 +600,8 @@ one_pulse_at_a_time_due = record {
   targets = record { dev = 5; latency = 4; retries = 2; disc = policies.Never; pick = picks.First; seek = 0; period = 50; offset = 200; begins = false } ∷ [];
   units = record { target = 5; unit = 0; blocks = 1; size = 16; depth = 1 } ∷ [];
   fills = record { target = 5; unit = 0; lba = 0; bytes = (0 ∷ 0 ∷ 1 ∷ 2 ∷ 3 ∷ 4 ∷ 5 ∷ 6 ∷ 7 ∷ 8 ∷ 9 ∷ 10 ∷ 11 ∷ 12 ∷ 13 ∷ 255 ∷ []) } ∷ [];
+  tapes = [];
+  loads = [];
   commands = record { host = 6; target = 5; unit = 0; at = 0; tag = tags.Untagged; cdb = (40 ∷ 0 ∷ 0 ∷ 0 ∷ 0 ∷ 0 ∷ 0 ∷ 0 ∷ 1 ∷ 0 ∷ []); payload = payloads.Nothing } ∷ [];
   aborts = [];
   resets = [];
@@ -573,6 +626,8 @@ one_read_due = record {
   targets = record { dev = 0; latency = 0; retries = 2; disc = policies.Never; pick = picks.First; seek = 0; period = 0; offset = 0; begins = false } ∷ [];
   units = record { target = 0; unit = 0; blocks = 1; size = 16; depth = 1 } ∷ [];
   fills = record { target = 0; unit = 0; lba = 0; bytes = (0 ∷ 1 ∷ 2 ∷ 3 ∷ 4 ∷ 5 ∷ 6 ∷ 7 ∷ 8 ∷ 9 ∷ 10 ∷ 11 ∷ 12 ∷ 13 ∷ 14 ∷ 15 ∷ []) } ∷ [];
+  tapes = [];
+  loads = [];
   commands = record { host = 7; target = 0; unit = 0; at = 0; tag = tags.Untagged; cdb = (8 ∷ 0 ∷ 0 ∷ 0 ∷ 1 ∷ 0 ∷ []); payload = payloads.Nothing } ∷ [];
   aborts = [];
   resets = [];
@@ -597,6 +652,8 @@ opening_given_up_due = record {
   targets = record { dev = 1; latency = 5; retries = 1; disc = policies.Never; pick = picks.First; seek = 0; period = 50; offset = 8; begins = false } ∷ [];
   units = record { target = 1; unit = 0; blocks = 1; size = 16; depth = 1 } ∷ [];
   fills = [];
+  tapes = [];
+  loads = [];
   commands = record { host = 6; target = 1; unit = 0; at = 0; tag = tags.Untagged; cdb = (0 ∷ 0 ∷ 0 ∷ 0 ∷ 0 ∷ 0 ∷ []); payload = payloads.Nothing } ∷ [];
   aborts = [];
   resets = [];
@@ -621,6 +678,8 @@ ordered_process_due = record {
   targets = record { dev = 4; latency = 0; retries = 2; disc = policies.Command; pick = picks.Last; seek = 25000; period = 0; offset = 0; begins = false } ∷ [];
   units = record { target = 4; unit = 2; blocks = 1; size = 16; depth = 4 } ∷ [];
   fills = [];
+  tapes = [];
+  loads = [];
   commands = record { host = 3; target = 4; unit = 2; at = 0; tag = tags.Untagged; cdb = (0 ∷ 0 ∷ 0 ∷ 0 ∷ 0 ∷ 0 ∷ []); payload = payloads.Nothing } ∷ record { host = 3; target = 4; unit = 2; at = 0; tag = tags.Ordered 2; cdb = (0 ∷ 0 ∷ 0 ∷ 0 ∷ 0 ∷ 0 ∷ []); payload = payloads.Nothing } ∷ record { host = 3; target = 4; unit = 2; at = 0; tag = tags.Simple 3; cdb = (0 ∷ 0 ∷ 0 ∷ 0 ∷ 0 ∷ 0 ∷ []); payload = payloads.Nothing } ∷ [];
   aborts = [];
   resets = [];
@@ -645,6 +704,8 @@ overlapping_resets_due = record {
   targets = record { dev = 1; latency = 100; retries = 2; disc = policies.Never; pick = picks.First; seek = 0; period = 50; offset = 8; begins = false } ∷ [];
   units = record { target = 1; unit = 0; blocks = 1; size = 16; depth = 1 } ∷ [];
   fills = [];
+  tapes = [];
+  loads = [];
   commands = record { host = 7; target = 1; unit = 0; at = 0; tag = tags.Untagged; cdb = (0 ∷ 0 ∷ 0 ∷ 0 ∷ 0 ∷ 0 ∷ []); payload = payloads.Nothing } ∷ record { host = 3; target = 1; unit = 0; at = 40000; tag = tags.Untagged; cdb = (18 ∷ 0 ∷ 0 ∷ 0 ∷ 3 ∷ 0 ∷ []); payload = payloads.Nothing } ∷ [];
   aborts = [];
   resets = record { dev = 7; at = 6100 } ∷ record { dev = 3; at = 20000 } ∷ record { dev = 1; at = 45000 } ∷ [];
@@ -669,6 +730,8 @@ own_processes_aborted_due = record {
   targets = record { dev = 2; latency = 6; retries = 2; disc = policies.Command; pick = picks.First; seek = 50000; period = 0; offset = 0; begins = false } ∷ [];
   units = record { target = 2; unit = 6; blocks = 1; size = 16; depth = 2 } ∷ [];
   fills = [];
+  tapes = [];
+  loads = [];
   commands = record { host = 7; target = 2; unit = 6; at = 0; tag = tags.Untagged; cdb = (0 ∷ 0 ∷ 0 ∷ 0 ∷ 0 ∷ 0 ∷ []); payload = payloads.Nothing } ∷ record { host = 5; target = 2; unit = 6; at = 0; tag = tags.Untagged; cdb = (0 ∷ 0 ∷ 0 ∷ 0 ∷ 0 ∷ 0 ∷ []); payload = payloads.Nothing } ∷ [];
   aborts = record { host = 7; target = 2; unit = 6; at = 18000; what = aborts.All } ∷ [];
   resets = [];
@@ -693,6 +756,8 @@ pulsed_read_struck_due = record {
   targets = record { dev = 1; latency = 9; retries = 1; disc = policies.Never; pick = picks.First; seek = 0; period = 60; offset = 4; begins = false } ∷ [];
   units = record { target = 1; unit = 0; blocks = 2; size = 16; depth = 1 } ∷ [];
   fills = record { target = 1; unit = 0; lba = 1; bytes = (0 ∷ 255 ∷ 0 ∷ 255 ∷ 85 ∷ 85 ∷ 170 ∷ 170 ∷ 0 ∷ 0 ∷ 0 ∷ 0 ∷ 1 ∷ 2 ∷ 3 ∷ 4 ∷ []) } ∷ [];
+  tapes = [];
+  loads = [];
   commands = record { host = 7; target = 1; unit = 0; at = 0; tag = tags.Untagged; cdb = (8 ∷ 0 ∷ 0 ∷ 1 ∷ 1 ∷ 0 ∷ []); payload = payloads.Nothing } ∷ [];
   aborts = [];
   resets = [];
@@ -717,6 +782,8 @@ pulsed_write_struck_due = record {
   targets = record { dev = 6; latency = 15; retries = 1; disc = policies.Never; pick = picks.First; seek = 0; period = 50; offset = 8; begins = false } ∷ [];
   units = record { target = 6; unit = 2; blocks = 1; size = 16; depth = 1 } ∷ [];
   fills = [];
+  tapes = [];
+  loads = [];
   commands = record { host = 3; target = 6; unit = 2; at = 0; tag = tags.Simple 0; cdb = (10 ∷ 0 ∷ 0 ∷ 0 ∷ 1 ∷ 0 ∷ []); payload = payloads.Hex (0 ∷ 255 ∷ 0 ∷ 0 ∷ 255 ∷ 255 ∷ 1 ∷ 1 ∷ 1 ∷ 1 ∷ 127 ∷ 127 ∷ 128 ∷ 128 ∷ 254 ∷ 1 ∷ []) } ∷ [];
   aborts = [];
   resets = [];
@@ -741,6 +808,8 @@ pulses_out_due = record {
   targets = record { dev = 0; latency = 60; retries = 2; disc = policies.Never; pick = picks.First; seek = 0; period = 50; offset = 8; begins = false } ∷ [];
   units = record { target = 0; unit = 0; blocks = 1; size = 16; depth = 1 } ∷ [];
   fills = [];
+  tapes = [];
+  loads = [];
   commands = record { host = 7; target = 0; unit = 0; at = 0; tag = tags.Untagged; cdb = (10 ∷ 0 ∷ 0 ∷ 0 ∷ 1 ∷ 0 ∷ []); payload = payloads.Hex (0 ∷ 0 ∷ 0 ∷ 1 ∷ 1 ∷ 1 ∷ 1 ∷ 2 ∷ 2 ∷ 2 ∷ 255 ∷ 255 ∷ 0 ∷ 0 ∷ 255 ∷ 0 ∷ []) } ∷ [];
   aborts = [];
   resets = [];
@@ -765,6 +834,8 @@ queue_cleared_due = record {
   targets = record { dev = 0; latency = 1; retries = 2; disc = policies.Command; pick = picks.First; seek = 90000; period = 0; offset = 0; begins = false } ∷ [];
   units = record { target = 0; unit = 0; blocks = 1; size = 16; depth = 4 } ∷ [];
   fills = [];
+  tapes = [];
+  loads = [];
   commands = record { host = 6; target = 0; unit = 0; at = 0; tag = tags.Untagged; cdb = (0 ∷ 0 ∷ 0 ∷ 0 ∷ 0 ∷ 0 ∷ []); payload = payloads.Nothing } ∷ record { host = 6; target = 0; unit = 0; at = 30000; tag = tags.Untagged; cdb = (0 ∷ 0 ∷ 0 ∷ 0 ∷ 0 ∷ 0 ∷ []); payload = payloads.Nothing } ∷ [];
   aborts = record { host = 7; target = 0; unit = 0; at = 12000; what = aborts.WholeQueue } ∷ [];
   resets = [];
@@ -789,6 +860,8 @@ queue_orders_due = record {
   targets = record { dev = 0; latency = 0; retries = 2; disc = policies.Command; pick = picks.Last; seek = 20000; period = 0; offset = 0; begins = false } ∷ [];
   units = record { target = 0; unit = 0; blocks = 1; size = 16; depth = 4 } ∷ [];
   fills = [];
+  tapes = [];
+  loads = [];
   commands = record { host = 7; target = 0; unit = 0; at = 0; tag = tags.Simple 1; cdb = (0 ∷ 0 ∷ 0 ∷ 0 ∷ 0 ∷ 0 ∷ []); payload = payloads.Nothing } ∷ record { host = 7; target = 0; unit = 0; at = 0; tag = tags.Simple 2; cdb = (0 ∷ 0 ∷ 0 ∷ 0 ∷ 0 ∷ 0 ∷ []); payload = payloads.Nothing } ∷ record { host = 7; target = 0; unit = 0; at = 0; tag = tags.Head 4; cdb = (0 ∷ 0 ∷ 0 ∷ 0 ∷ 0 ∷ 0 ∷ []); payload = payloads.Nothing } ∷ [];
   aborts = [];
   resets = [];
@@ -813,6 +886,8 @@ ready_units_due = record {
   targets = record { dev = 2; latency = 40; retries = 2; disc = policies.Command; pick = picks.First; seek = 0; period = 0; offset = 0; begins = false } ∷ record { dev = 1; latency = 0; retries = 2; disc = policies.Command; pick = picks.First; seek = 3000; period = 0; offset = 0; begins = false } ∷ [];
   units = record { target = 2; unit = 0; blocks = 1; size = 16; depth = 2 } ∷ record { target = 2; unit = 5; blocks = 1; size = 16; depth = 2 } ∷ record { target = 1; unit = 3; blocks = 1; size = 16; depth = 2 } ∷ [];
   fills = [];
+  tapes = [];
+  loads = [];
   commands = record { host = 7; target = 2; unit = 5; at = 0; tag = tags.Simple 1; cdb = (0 ∷ 0 ∷ 0 ∷ 0 ∷ 0 ∷ 0 ∷ []); payload = payloads.Nothing } ∷ record { host = 7; target = 2; unit = 0; at = 0; tag = tags.Simple 2; cdb = (0 ∷ 0 ∷ 0 ∷ 0 ∷ 0 ∷ 0 ∷ []); payload = payloads.Nothing } ∷ record { host = 7; target = 1; unit = 3; at = 0; tag = tags.Simple 3; cdb = (0 ∷ 0 ∷ 0 ∷ 0 ∷ 0 ∷ 0 ∷ []); payload = payloads.Nothing } ∷ [];
   aborts = [];
   resets = [];
@@ -837,6 +912,8 @@ request_of_a_target_struck_due = record {
   targets = record { dev = 2; latency = 17; retries = 2; disc = policies.Never; pick = picks.First; seek = 0; period = 25; offset = 3; begins = true } ∷ [];
   units = record { target = 2; unit = 0; blocks = 1; size = 16; depth = 1 } ∷ [];
   fills = [];
+  tapes = [];
+  loads = [];
   commands = record { host = 5; target = 2; unit = 0; at = 0; tag = tags.Untagged; cdb = (18 ∷ 0 ∷ 0 ∷ 0 ∷ 6 ∷ 0 ∷ []); payload = payloads.Nothing } ∷ [];
   aborts = [];
   resets = [];
@@ -861,6 +938,8 @@ requests_of_a_target_due = record {
   targets = record { dev = 0; latency = 44; retries = 2; disc = policies.Never; pick = picks.First; seek = 0; period = 27; offset = 6; begins = true } ∷ [];
   units = record { target = 0; unit = 0; blocks = 1; size = 16; depth = 1 } ∷ [];
   fills = record { target = 0; unit = 0; lba = 0; bytes = (128 ∷ 255 ∷ 127 ∷ 0 ∷ 0 ∷ 0 ∷ 0 ∷ 255 ∷ 1 ∷ 254 ∷ 85 ∷ 170 ∷ 51 ∷ 51 ∷ 51 ∷ 51 ∷ []) } ∷ [];
+  tapes = [];
+  loads = [];
   commands = record { host = 1; target = 0; unit = 0; at = 0; tag = tags.Untagged; cdb = (8 ∷ 0 ∷ 0 ∷ 0 ∷ 1 ∷ 0 ∷ []); payload = payloads.Nothing } ∷ [];
   aborts = [];
   resets = [];
@@ -885,6 +964,8 @@ reselected_id_struck_due = record {
   targets = record { dev = 6; latency = 11; retries = 1; disc = policies.Command; pick = picks.First; seek = 5000; period = 0; offset = 0; begins = false } ∷ [];
   units = record { target = 6; unit = 4; blocks = 1; size = 16; depth = 1 } ∷ [];
   fills = [];
+  tapes = [];
+  loads = [];
   commands = record { host = 1; target = 6; unit = 4; at = 0; tag = tags.Untagged; cdb = (0 ∷ 0 ∷ 0 ∷ 0 ∷ 0 ∷ 0 ∷ []); payload = payloads.Nothing } ∷ [];
   aborts = [];
   resets = [];
@@ -909,6 +990,8 @@ reset_in_a_data_phase_due = record {
   targets = record { dev = 6; latency = 7; retries = 2; disc = policies.Never; pick = picks.First; seek = 0; period = 30; offset = 2; begins = false } ∷ [];
   units = record { target = 6; unit = 0; blocks = 1; size = 16; depth = 1 } ∷ [];
   fills = [];
+  tapes = [];
+  loads = [];
   commands = record { host = 2; target = 6; unit = 0; at = 0; tag = tags.Untagged; cdb = (10 ∷ 0 ∷ 0 ∷ 0 ∷ 1 ∷ 0 ∷ []); payload = payloads.From 128 } ∷ record { host = 2; target = 6; unit = 0; at = 20000; tag = tags.Untagged; cdb = (18 ∷ 0 ∷ 0 ∷ 0 ∷ 7 ∷ 0 ∷ []); payload = payloads.Nothing } ∷ [];
   aborts = [];
   resets = record { dev = 2; at = 10400 } ∷ [];
@@ -933,6 +1016,8 @@ reset_in_a_reselection_due = record {
   targets = record { dev = 2; latency = 16; retries = 2; disc = policies.Command; pick = picks.First; seek = 4000; period = 0; offset = 0; begins = false } ∷ [];
   units = record { target = 2; unit = 0; blocks = 1; size = 16; depth = 1 } ∷ [];
   fills = [];
+  tapes = [];
+  loads = [];
   commands = record { host = 7; target = 2; unit = 0; at = 0; tag = tags.Untagged; cdb = (0 ∷ 0 ∷ 0 ∷ 0 ∷ 0 ∷ 0 ∷ []); payload = payloads.Nothing } ∷ [];
   aborts = [];
   resets = record { dev = 7; at = 15000 } ∷ [];
@@ -957,6 +1042,8 @@ reset_in_a_selection_due = record {
   targets = record { dev = 4; latency = 77; retries = 2; disc = policies.Never; pick = picks.First; seek = 0; period = 0; offset = 0; begins = false } ∷ [];
   units = record { target = 4; unit = 0; blocks = 1; size = 16; depth = 1 } ∷ [];
   fills = [];
+  tapes = [];
+  loads = [];
   commands = record { host = 5; target = 4; unit = 0; at = 0; tag = tags.Untagged; cdb = (0 ∷ 0 ∷ 0 ∷ 0 ∷ 0 ∷ 0 ∷ []); payload = payloads.Nothing } ∷ record { host = 5; target = 4; unit = 0; at = 20000; tag = tags.Untagged; cdb = (0 ∷ 0 ∷ 0 ∷ 0 ∷ 0 ∷ 0 ∷ []); payload = payloads.Nothing } ∷ [];
   aborts = [];
   resets = record { dev = 4; at = 4890 } ∷ [];
@@ -981,6 +1068,8 @@ resets_dropped_due = record {
   targets = record { dev = 1; latency = 5; retries = 2; disc = policies.Never; pick = picks.First; seek = 0; period = 50; offset = 8; begins = false } ∷ [];
   units = record { target = 1; unit = 0; blocks = 1; size = 16; depth = 1 } ∷ [];
   fills = [];
+  tapes = [];
+  loads = [];
   commands = record { host = 7; target = 1; unit = 0; at = 0; tag = tags.Untagged; cdb = (0 ∷ 0 ∷ 0 ∷ 0 ∷ 0 ∷ 0 ∷ []); payload = payloads.Nothing } ∷ [];
   aborts = [];
   resets = record { dev = 1; at = 7000 } ∷ record { dev = 1; at = 32005 } ∷ record { dev = 7; at = 20000 } ∷ record { dev = 1; at = 30000 } ∷ [];
@@ -1005,6 +1094,8 @@ selected_id_struck_due = record {
   targets = record { dev = 0; latency = 26; retries = 2; disc = policies.Never; pick = picks.First; seek = 0; period = 0; offset = 0; begins = false } ∷ [];
   units = record { target = 0; unit = 0; blocks = 1; size = 16; depth = 1 } ∷ [];
   fills = [];
+  tapes = [];
+  loads = [];
   commands = record { host = 7; target = 0; unit = 0; at = 0; tag = tags.Untagged; cdb = (0 ∷ 0 ∷ 0 ∷ 0 ∷ 0 ∷ 0 ∷ []); payload = payloads.Nothing } ∷ [];
   aborts = [];
   resets = [];
@@ -1029,6 +1120,8 @@ status_given_up_due = record {
   targets = record { dev = 0; latency = 90; retries = 1; disc = policies.Never; pick = picks.First; seek = 0; period = 0; offset = 0; begins = false } ∷ [];
   units = record { target = 0; unit = 0; blocks = 1; size = 16; depth = 1 } ∷ [];
   fills = [];
+  tapes = [];
+  loads = [];
   commands = record { host = 6; target = 0; unit = 0; at = 0; tag = tags.Untagged; cdb = (0 ∷ 0 ∷ 0 ∷ 0 ∷ 0 ∷ 0 ∷ []); payload = payloads.Nothing } ∷ [];
   aborts = [];
   resets = [];
@@ -1053,6 +1146,8 @@ status_struck_due = record {
   targets = record { dev = 5; latency = 0; retries = 2; disc = policies.Never; pick = picks.First; seek = 300; period = 0; offset = 0; begins = false } ∷ [];
   units = record { target = 5; unit = 0; blocks = 1; size = 16; depth = 1 } ∷ [];
   fills = [];
+  tapes = [];
+  loads = [];
   commands = record { host = 4; target = 5; unit = 0; at = 0; tag = tags.Untagged; cdb = (0 ∷ 0 ∷ 0 ∷ 0 ∷ 0 ∷ 0 ∷ []); payload = payloads.Nothing } ∷ [];
   aborts = [];
   resets = [];
@@ -1077,6 +1172,8 @@ struck_names_due = record {
   targets = record { dev = 0; latency = 10; retries = 0; disc = policies.Command; pick = picks.First; seek = 700; period = 0; offset = 0; begins = false } ∷ [];
   units = record { target = 0; unit = 3; blocks = 1; size = 16; depth = 1 } ∷ [];
   fills = [];
+  tapes = [];
+  loads = [];
   commands = record { host = 7; target = 0; unit = 3; at = 0; tag = tags.Simple 9; cdb = (8 ∷ 0 ∷ 0 ∷ 1 ∷ 1 ∷ 0 ∷ []); payload = payloads.Nothing } ∷ [];
   aborts = [];
   resets = [];
@@ -1101,6 +1198,8 @@ tag_aborted_due = record {
   targets = record { dev = 3; latency = 14; retries = 2; disc = policies.Command; pick = picks.First; seek = 60000; period = 0; offset = 0; begins = false } ∷ [];
   units = record { target = 3; unit = 0; blocks = 1; size = 16; depth = 2 } ∷ [];
   fills = [];
+  tapes = [];
+  loads = [];
   commands = record { host = 7; target = 3; unit = 0; at = 0; tag = tags.Simple 5; cdb = (0 ∷ 0 ∷ 0 ∷ 0 ∷ 0 ∷ 0 ∷ []); payload = payloads.Nothing } ∷ record { host = 7; target = 3; unit = 0; at = 0; tag = tags.Simple 6; cdb = (0 ∷ 0 ∷ 0 ∷ 0 ∷ 0 ∷ 0 ∷ []); payload = payloads.Nothing } ∷ [];
   aborts = record { host = 7; target = 3; unit = 0; at = 20000; what = (aborts.Tag 5) } ∷ [];
   resets = [];
@@ -1125,6 +1224,8 @@ tagged_opening_struck_due = record {
   targets = record { dev = 2; latency = 25; retries = 2; disc = policies.Never; pick = picks.First; seek = 0; period = 0; offset = 0; begins = false } ∷ [];
   units = record { target = 2; unit = 1; blocks = 1; size = 16; depth = 2 } ∷ [];
   fills = [];
+  tapes = [];
+  loads = [];
   commands = record { host = 5; target = 2; unit = 1; at = 0; tag = tags.Ordered 77; cdb = (0 ∷ 0 ∷ 0 ∷ 0 ∷ 0 ∷ 0 ∷ []); payload = payloads.Nothing } ∷ [];
   aborts = [];
   resets = [];
@@ -1149,6 +1250,8 @@ text_two_due = record {
   targets = record { dev = 1; latency = 5; retries = 2; disc = policies.Burst 1; pick = picks.Last; seek = 1000; period = 30; offset = 8; begins = true } ∷ [];
   units = record { target = 1; unit = 4; blocks = 2; size = 16; depth = 2 } ∷ [];
   fills = record { target = 1; unit = 4; lba = 1; bytes = (255 ∷ 0 ∷ 0 ∷ 0 ∷ 255 ∷ 0 ∷ 0 ∷ 0 ∷ 255 ∷ 0 ∷ 0 ∷ 0 ∷ 255 ∷ 0 ∷ 0 ∷ 0 ∷ []) } ∷ [];
+  tapes = [];
+  loads = [];
   commands = record { host = 6; target = 1; unit = 4; at = 0; tag = tags.Untagged; cdb = (0 ∷ 0 ∷ 0 ∷ 0 ∷ 0 ∷ 0 ∷ []); payload = payloads.Nothing } ∷ record { host = 6; target = 1; unit = 4; at = 35000; tag = tags.Simple 3; cdb = (8 ∷ 0 ∷ 0 ∷ 0 ∷ 2 ∷ 0 ∷ []); payload = payloads.Nothing } ∷ record { host = 6; target = 1; unit = 4; at = 35000; tag = tags.Simple 4; cdb = (8 ∷ 0 ∷ 0 ∷ 0 ∷ 2 ∷ 0 ∷ []); payload = payloads.Nothing } ∷ [];
   aborts = [];
   resets = record { dev = 1; at = 9000 } ∷ [];
@@ -1173,6 +1276,8 @@ three_contenders_due = record {
   targets = record { dev = 3; latency = 0; retries = 2; disc = policies.Never; pick = picks.First; seek = 0; period = 0; offset = 0; begins = false } ∷ [];
   units = record { target = 3; unit = 0; blocks = 1; size = 16; depth = 1 } ∷ [];
   fills = [];
+  tapes = [];
+  loads = [];
   commands = record { host = 2; target = 3; unit = 0; at = 0; tag = tags.Untagged; cdb = (0 ∷ 0 ∷ 0 ∷ 0 ∷ 0 ∷ 0 ∷ []); payload = payloads.Nothing } ∷ record { host = 7; target = 3; unit = 0; at = 0; tag = tags.Untagged; cdb = (0 ∷ 0 ∷ 0 ∷ 0 ∷ 0 ∷ 0 ∷ []); payload = payloads.Nothing } ∷ record { host = 4; target = 3; unit = 0; at = 0; tag = tags.Simple 1; cdb = (0 ∷ 0 ∷ 0 ∷ 0 ∷ 0 ∷ 0 ∷ []); payload = payloads.Nothing } ∷ [];
   aborts = [];
   resets = [];
@@ -1197,6 +1302,8 @@ two_acks_in_one_latency_due = record {
   targets = record { dev = 0; latency = 100; retries = 2; disc = policies.Never; pick = picks.First; seek = 0; period = 25; offset = 2; begins = false } ∷ [];
   units = record { target = 0; unit = 0; blocks = 1; size = 16; depth = 1 } ∷ [];
   fills = [];
+  tapes = [];
+  loads = [];
   commands = record { host = 7; target = 0; unit = 0; at = 0; tag = tags.Untagged; cdb = (18 ∷ 0 ∷ 0 ∷ 0 ∷ 8 ∷ 0 ∷ []); payload = payloads.Nothing } ∷ [];
   aborts = [];
   resets = [];
@@ -1221,6 +1328,8 @@ unanswered_due = record {
   targets = record { dev = 0; latency = 2; retries = 2; disc = policies.Never; pick = picks.First; seek = 0; period = 0; offset = 0; begins = false } ∷ [];
   units = record { target = 0; unit = 0; blocks = 1; size = 16; depth = 1 } ∷ [];
   fills = [];
+  tapes = [];
+  loads = [];
   commands = record { host = 7; target = 3; unit = 0; at = 0; tag = tags.Untagged; cdb = (0 ∷ 0 ∷ 0 ∷ 0 ∷ 0 ∷ 0 ∷ []); payload = payloads.Nothing } ∷ record { host = 7; target = 0; unit = 0; at = 0; tag = tags.Untagged; cdb = (0 ∷ 0 ∷ 0 ∷ 0 ∷ 0 ∷ 0 ∷ []); payload = payloads.Nothing } ∷ [];
   aborts = record { host = 7; target = 4; unit = 0; at = 100; what = aborts.WholeQueue } ∷ [];
   resets = [];
@@ -1245,6 +1354,8 @@ wide_offset_with_lag_due = record {
   targets = record { dev = 1; latency = 2; retries = 2; disc = policies.Never; pick = picks.First; seek = 0; period = 26; offset = 10; begins = false } ∷ [];
   units = record { target = 1; unit = 0; blocks = 1; size = 16; depth = 1 } ∷ [];
   fills = record { target = 1; unit = 0; lba = 0; bytes = (255 ∷ 238 ∷ 221 ∷ 204 ∷ 187 ∷ 170 ∷ 153 ∷ 136 ∷ 119 ∷ 102 ∷ 85 ∷ 68 ∷ 51 ∷ 34 ∷ 17 ∷ 0 ∷ []) } ∷ [];
+  tapes = [];
+  loads = [];
   commands = record { host = 3; target = 1; unit = 0; at = 0; tag = tags.Untagged; cdb = (8 ∷ 0 ∷ 0 ∷ 0 ∷ 1 ∷ 0 ∷ []); payload = payloads.Nothing } ∷ [];
   aborts = [];
   resets = [];
@@ -1269,6 +1380,8 @@ called_again_for_sense_due = record {
   targets = record { dev = 0; latency = 2; retries = 2; disc = policies.Never; pick = picks.First; seek = 0; period = 0; offset = 0; begins = false } ∷ [];
   units = record { target = 0; unit = 0; blocks = 1; size = 16; depth = 1 } ∷ [];
   fills = [];
+  tapes = [];
+  loads = [];
   commands = record { host = 7; target = 0; unit = 0; at = 0; tag = tags.Untagged; cdb = (8 ∷ 0 ∷ 0 ∷ 1 ∷ 1 ∷ 0 ∷ []); payload = payloads.Nothing } ∷ [];
   aborts = [];
   resets = [];
@@ -1293,6 +1406,8 @@ failures_due = record {
   targets = record { dev = 0; latency = 0; retries = 0; disc = policies.Never; pick = picks.Last; seek = 0; period = 50; offset = 8; begins = false } ∷ record { dev = 1; latency = 100; retries = 0; disc = policies.Never; pick = picks.Last; seek = 0; period = 49; offset = 8; begins = false } ∷ [];
   units = record { target = 0; unit = 0; blocks = 1; size = 32; depth = 4 } ∷ record { target = 0; unit = 6; blocks = 1; size = 32; depth = 16 } ∷ record { target = 1; unit = 4; blocks = 1; size = 32; depth = 2 } ∷ record { target = 1; unit = 7; blocks = 2; size = 32; depth = 4 } ∷ [];
   fills = record { target = 0; unit = 0; lba = 0; bytes = (243 ∷ 0 ∷ 92 ∷ 0 ∷ 50 ∷ 24 ∷ 195 ∷ 87 ∷ 111 ∷ 0 ∷ 136 ∷ 94 ∷ 0 ∷ 84 ∷ 86 ∷ 63 ∷ 217 ∷ 1 ∷ 0 ∷ 0 ∷ 148 ∷ 118 ∷ 0 ∷ 133 ∷ 226 ∷ 222 ∷ 23 ∷ 169 ∷ 0 ∷ 109 ∷ 154 ∷ 187 ∷ []) } ∷ record { target = 1; unit = 4; lba = 0; bytes = (15 ∷ 0 ∷ 64 ∷ 0 ∷ 166 ∷ 0 ∷ 91 ∷ 210 ∷ 118 ∷ 172 ∷ 124 ∷ 0 ∷ 201 ∷ 188 ∷ 63 ∷ 212 ∷ 0 ∷ 13 ∷ 124 ∷ 188 ∷ 31 ∷ 0 ∷ 0 ∷ 131 ∷ 158 ∷ 0 ∷ 157 ∷ 0 ∷ 101 ∷ 238 ∷ 166 ∷ 0 ∷ []) } ∷ record { target = 1; unit = 7; lba = 0; bytes = (0 ∷ 0 ∷ 143 ∷ 218 ∷ 64 ∷ 47 ∷ 0 ∷ 177 ∷ 0 ∷ 165 ∷ 167 ∷ 0 ∷ 230 ∷ 88 ∷ 0 ∷ 103 ∷ 0 ∷ 0 ∷ 206 ∷ 35 ∷ 0 ∷ 94 ∷ 0 ∷ 217 ∷ 54 ∷ 0 ∷ 244 ∷ 75 ∷ 233 ∷ 39 ∷ 0 ∷ 0 ∷ []) } ∷ record { target = 1; unit = 7; lba = 1; bytes = (216 ∷ 235 ∷ 0 ∷ 0 ∷ 45 ∷ 0 ∷ 66 ∷ 149 ∷ 0 ∷ 0 ∷ 0 ∷ 203 ∷ 69 ∷ 42 ∷ 9 ∷ 82 ∷ 0 ∷ 204 ∷ 24 ∷ 168 ∷ 5 ∷ 0 ∷ 192 ∷ 82 ∷ 0 ∷ 18 ∷ 139 ∷ 67 ∷ 0 ∷ 52 ∷ 0 ∷ 98 ∷ []) } ∷ [];
+  tapes = [];
+  loads = [];
   commands = record { host = 3; target = 1; unit = 7; at = 24081; tag = tags.Ordered 0; cdb = (10 ∷ 0 ∷ 0 ∷ 0 ∷ 2 ∷ 0 ∷ []); payload = payloads.From 227 } ∷ record { host = 3; target = 1; unit = 7; at = 19892; tag = tags.Untagged; cdb = (42 ∷ 8 ∷ 0 ∷ 0 ∷ 0 ∷ 0 ∷ 0 ∷ 0 ∷ 2 ∷ 0 ∷ []); payload = payloads.From 197 } ∷ record { host = 3; target = 0; unit = 0; at = 37; tag = tags.Simple 255; cdb = (10 ∷ 0 ∷ 0 ∷ 0 ∷ 1 ∷ 0 ∷ []); payload = payloads.From 192 } ∷ [];
   aborts = record { host = 3; target = 0; unit = 0; at = 83587; what = aborts.WholeQueue } ∷ record { host = 3; target = 0; unit = 0; at = 133964; what = aborts.WholeQueue } ∷ record { host = 3; target = 1; unit = 4; at = 83662; what = (aborts.Tag 255) } ∷ [];
   resets = record { dev = 1; at = 94094 } ∷ record { dev = 0; at = 40497 } ∷ record { dev = 0; at = 52332 } ∷ [];
@@ -1317,6 +1432,8 @@ negotiation_due = record {
   targets = record { dev = 0; latency = 0; retries = 2; disc = policies.Never; pick = picks.First; seek = 0; period = 50; offset = 8; begins = false } ∷ [];
   units = record { target = 0; unit = 0; blocks = 1; size = 16; depth = 1 } ∷ [];
   fills = record { target = 0; unit = 0; lba = 0; bytes = (0 ∷ 1 ∷ 2 ∷ 3 ∷ 4 ∷ 5 ∷ 6 ∷ 7 ∷ 8 ∷ 9 ∷ 10 ∷ 11 ∷ 12 ∷ 13 ∷ 14 ∷ 15 ∷ []) } ∷ [];
+  tapes = [];
+  loads = [];
   commands = record { host = 7; target = 0; unit = 0; at = 0; tag = tags.Untagged; cdb = (8 ∷ 0 ∷ 0 ∷ 0 ∷ 1 ∷ 0 ∷ []); payload = payloads.Nothing } ∷ [];
   aborts = [];
   resets = [];
@@ -1341,6 +1458,8 @@ read_whole_after_a_part_due = record {
   targets = record { dev = 0; latency = 0; retries = 2; disc = policies.NoSave 1; pick = picks.First; seek = 0; period = 0; offset = 0; begins = false } ∷ [];
   units = record { target = 0; unit = 0; blocks = 2; size = 16; depth = 1 } ∷ [];
   fills = [];
+  tapes = [];
+  loads = [];
   commands = record { host = 7; target = 0; unit = 0; at = 0; tag = tags.Untagged; cdb = (10 ∷ 0 ∷ 0 ∷ 0 ∷ 2 ∷ 0 ∷ []); payload = payloads.From 0 } ∷ [];
   aborts = [];
   resets = [];
@@ -1365,6 +1484,8 @@ two_aborts_due = record {
   targets = record { dev = 1; latency = 20; retries = 5; disc = policies.NoSave 2; pick = picks.First; seek = 100000; period = 25; offset = 16; begins = false } ∷ record { dev = 7; latency = 0; retries = 5; disc = policies.NoSave 2; pick = picks.First; seek = 0; period = 50; offset = 16; begins = false } ∷ record { dev = 5; latency = 10; retries = 2; disc = policies.Command; pick = picks.First; seek = 100000; period = 50; offset = 254; begins = false } ∷ record { dev = 4; latency = 0; retries = 1; disc = policies.Never; pick = picks.First; seek = 0; period = 25; offset = 16; begins = false } ∷ [];
   units = record { target = 1; unit = 5; blocks = 4; size = 32; depth = 2 } ∷ record { target = 7; unit = 0; blocks = 8; size = 32; depth = 4 } ∷ record { target = 7; unit = 1; blocks = 1; size = 32; depth = 2 } ∷ record { target = 5; unit = 1; blocks = 4; size = 32; depth = 4 } ∷ record { target = 4; unit = 7; blocks = 8; size = 32; depth = 4 } ∷ [];
   fills = record { target = 1; unit = 5; lba = 0; bytes = (0 ∷ 135 ∷ 0 ∷ 0 ∷ 168 ∷ 140 ∷ 105 ∷ 253 ∷ 144 ∷ 0 ∷ 0 ∷ 91 ∷ 50 ∷ 16 ∷ 0 ∷ 0 ∷ 0 ∷ 24 ∷ 99 ∷ 0 ∷ 151 ∷ 242 ∷ 176 ∷ 89 ∷ 0 ∷ 51 ∷ 0 ∷ 0 ∷ 1 ∷ 203 ∷ 52 ∷ 60 ∷ []) } ∷ record { target = 1; unit = 5; lba = 1; bytes = (255 ∷ 0 ∷ 0 ∷ 16 ∷ 0 ∷ 198 ∷ 167 ∷ 0 ∷ 142 ∷ 163 ∷ 73 ∷ 154 ∷ 164 ∷ 32 ∷ 0 ∷ 0 ∷ 0 ∷ 0 ∷ 245 ∷ 0 ∷ 203 ∷ 216 ∷ 0 ∷ 197 ∷ 0 ∷ 77 ∷ 0 ∷ 0 ∷ 8 ∷ 215 ∷ 0 ∷ 91 ∷ []) } ∷ record { target = 1; unit = 5; lba = 2; bytes = (0 ∷ 0 ∷ 147 ∷ 233 ∷ 154 ∷ 0 ∷ 0 ∷ 175 ∷ 0 ∷ 0 ∷ 89 ∷ 24 ∷ 86 ∷ 249 ∷ 0 ∷ 0 ∷ 141 ∷ 0 ∷ 8 ∷ 244 ∷ 0 ∷ 78 ∷ 185 ∷ 0 ∷ 0 ∷ 0 ∷ 19 ∷ 141 ∷ 170 ∷ 148 ∷ 213 ∷ 162 ∷ []) } ∷ record { target = 1; unit = 5; lba = 3; bytes = (167 ∷ 0 ∷ 34 ∷ 188 ∷ 0 ∷ 48 ∷ 85 ∷ 236 ∷ 204 ∷ 105 ∷ 0 ∷ 247 ∷ 128 ∷ 205 ∷ 110 ∷ 0 ∷ 196 ∷ 0 ∷ 78 ∷ 222 ∷ 0 ∷ 0 ∷ 0 ∷ 36 ∷ 119 ∷ 0 ∷ 0 ∷ 41 ∷ 0 ∷ 0 ∷ 0 ∷ 190 ∷ []) } ∷ record { target = 7; unit = 0; lba = 0; bytes = (92 ∷ 12 ∷ 249 ∷ 53 ∷ 0 ∷ 235 ∷ 0 ∷ 223 ∷ 114 ∷ 0 ∷ 0 ∷ 3 ∷ 117 ∷ 223 ∷ 48 ∷ 0 ∷ 32 ∷ 24 ∷ 200 ∷ 176 ∷ 0 ∷ 0 ∷ 244 ∷ 0 ∷ 61 ∷ 81 ∷ 0 ∷ 62 ∷ 0 ∷ 0 ∷ 0 ∷ 230 ∷ []) } ∷ record { target = 7; unit = 0; lba = 3; bytes = (135 ∷ 94 ∷ 0 ∷ 0 ∷ 0 ∷ 0 ∷ 143 ∷ 242 ∷ 106 ∷ 43 ∷ 194 ∷ 220 ∷ 0 ∷ 0 ∷ 0 ∷ 0 ∷ 102 ∷ 0 ∷ 97 ∷ 58 ∷ 121 ∷ 0 ∷ 0 ∷ 238 ∷ 0 ∷ 116 ∷ 51 ∷ 59 ∷ 44 ∷ 217 ∷ 160 ∷ 28 ∷ []) } ∷ record { target = 7; unit = 0; lba = 4; bytes = (113 ∷ 72 ∷ 21 ∷ 34 ∷ 0 ∷ 44 ∷ 154 ∷ 137 ∷ 246 ∷ 244 ∷ 0 ∷ 155 ∷ 132 ∷ 0 ∷ 200 ∷ 134 ∷ 82 ∷ 165 ∷ 0 ∷ 0 ∷ 196 ∷ 24 ∷ 0 ∷ 192 ∷ 159 ∷ 0 ∷ 0 ∷ 36 ∷ 184 ∷ 234 ∷ 55 ∷ 0 ∷ []) } ∷ record { target = 7; unit = 0; lba = 5; bytes = (0 ∷ 0 ∷ 98 ∷ 0 ∷ 174 ∷ 188 ∷ 0 ∷ 243 ∷ 0 ∷ 0 ∷ 0 ∷ 0 ∷ 107 ∷ 33 ∷ 0 ∷ 12 ∷ 236 ∷ 0 ∷ 6 ∷ 93 ∷ 195 ∷ 70 ∷ 112 ∷ 73 ∷ 242 ∷ 2 ∷ 51 ∷ 229 ∷ 160 ∷ 0 ∷ 33 ∷ 68 ∷ []) } ∷ record { target = 7; unit = 0; lba = 6; bytes = (91 ∷ 0 ∷ 145 ∷ 0 ∷ 0 ∷ 0 ∷ 56 ∷ 0 ∷ 0 ∷ 136 ∷ 113 ∷ 22 ∷ 0 ∷ 69 ∷ 0 ∷ 0 ∷ 0 ∷ 32 ∷ 167 ∷ 0 ∷ 34 ∷ 0 ∷ 132 ∷ 16 ∷ 0 ∷ 45 ∷ 0 ∷ 123 ∷ 0 ∷ 22 ∷ 0 ∷ 45 ∷ []) } ∷ record { target = 5; unit = 1; lba = 3; bytes = (0 ∷ 83 ∷ 0 ∷ 0 ∷ 0 ∷ 114 ∷ 226 ∷ 40 ∷ 0 ∷ 48 ∷ 111 ∷ 0 ∷ 233 ∷ 91 ∷ 35 ∷ 53 ∷ 239 ∷ 0 ∷ 0 ∷ 0 ∷ 0 ∷ 189 ∷ 0 ∷ 105 ∷ 191 ∷ 194 ∷ 0 ∷ 0 ∷ 146 ∷ 68 ∷ 112 ∷ 0 ∷ []) } ∷ record { target = 4; unit = 7; lba = 0; bytes = (0 ∷ 0 ∷ 0 ∷ 0 ∷ 85 ∷ 136 ∷ 163 ∷ 96 ∷ 0 ∷ 249 ∷ 249 ∷ 52 ∷ 86 ∷ 0 ∷ 179 ∷ 214 ∷ 201 ∷ 0 ∷ 0 ∷ 0 ∷ 240 ∷ 36 ∷ 61 ∷ 0 ∷ 0 ∷ 230 ∷ 0 ∷ 187 ∷ 86 ∷ 0 ∷ 204 ∷ 7 ∷ []) } ∷ record { target = 4; unit = 7; lba = 1; bytes = (0 ∷ 63 ∷ 91 ∷ 16 ∷ 241 ∷ 0 ∷ 140 ∷ 132 ∷ 76 ∷ 0 ∷ 0 ∷ 8 ∷ 0 ∷ 222 ∷ 0 ∷ 0 ∷ 125 ∷ 0 ∷ 252 ∷ 228 ∷ 0 ∷ 0 ∷ 248 ∷ 50 ∷ 0 ∷ 0 ∷ 140 ∷ 114 ∷ 42 ∷ 0 ∷ 218 ∷ 30 ∷ []) } ∷ record { target = 4; unit = 7; lba = 2; bytes = (155 ∷ 91 ∷ 0 ∷ 0 ∷ 229 ∷ 241 ∷ 170 ∷ 7 ∷ 142 ∷ 0 ∷ 177 ∷ 0 ∷ 0 ∷ 134 ∷ 226 ∷ 60 ∷ 0 ∷ 17 ∷ 0 ∷ 54 ∷ 0 ∷ 35 ∷ 75 ∷ 69 ∷ 0 ∷ 0 ∷ 62 ∷ 46 ∷ 114 ∷ 0 ∷ 0 ∷ 0 ∷ []) } ∷ record { target = 4; unit = 7; lba = 3; bytes = (60 ∷ 196 ∷ 109 ∷ 40 ∷ 0 ∷ 122 ∷ 68 ∷ 0 ∷ 29 ∷ 178 ∷ 0 ∷ 0 ∷ 0 ∷ 44 ∷ 0 ∷ 0 ∷ 244 ∷ 155 ∷ 167 ∷ 6 ∷ 200 ∷ 88 ∷ 0 ∷ 118 ∷ 0 ∷ 230 ∷ 215 ∷ 65 ∷ 0 ∷ 0 ∷ 231 ∷ 117 ∷ []) } ∷ record { target = 4; unit = 7; lba = 5; bytes = (154 ∷ 58 ∷ 0 ∷ 117 ∷ 0 ∷ 0 ∷ 139 ∷ 205 ∷ 0 ∷ 0 ∷ 0 ∷ 163 ∷ 180 ∷ 67 ∷ 41 ∷ 0 ∷ 0 ∷ 30 ∷ 45 ∷ 69 ∷ 158 ∷ 232 ∷ 0 ∷ 150 ∷ 251 ∷ 184 ∷ 0 ∷ 23 ∷ 202 ∷ 135 ∷ 42 ∷ 19 ∷ []) } ∷ record { target = 4; unit = 7; lba = 6; bytes = (170 ∷ 0 ∷ 0 ∷ 20 ∷ 90 ∷ 177 ∷ 94 ∷ 139 ∷ 92 ∷ 223 ∷ 0 ∷ 0 ∷ 0 ∷ 144 ∷ 37 ∷ 92 ∷ 74 ∷ 0 ∷ 166 ∷ 0 ∷ 137 ∷ 103 ∷ 0 ∷ 66 ∷ 215 ∷ 249 ∷ 216 ∷ 0 ∷ 0 ∷ 0 ∷ 0 ∷ 124 ∷ []) } ∷ [];
+  tapes = [];
+  loads = [];
   commands = record { host = 3; target = 7; unit = 0; at = 89108; tag = tags.Simple 255; cdb = (8 ∷ 2 ∷ 0 ∷ 0 ∷ 1 ∷ 0 ∷ []); payload = payloads.Nothing } ∷ [];
   aborts = record { host = 3; target = 1; unit = 2; at = 103123; what = (aborts.Tag 2) } ∷ record { host = 3; target = 4; unit = 7; at = 111568; what = aborts.Device } ∷ [];
   resets = [];

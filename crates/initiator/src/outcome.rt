@@ -1,5 +1,5 @@
 //! The outcome of a command of an initiator's own (ANSI X3.131-1994, 7.3 and 8.2.14).
-ghost use Rattle.std.specs.Prelude.{ℕ, ◌≡◌, List, true, slice_index};
+ghost use Rattle.std.specs.Prelude.{ℕ, ◌≡◌, List, true};
 ghost use Rattle.scenario.specs.Value.{ScenarioValue};
 ghost use Rattle.story_model.specs.Outcomes.{sense_in};
 ghost use Rattle.story_model.specs.Story.{Story};
@@ -8,30 +8,17 @@ ghost use Rattle.initiator.specs.Outcomes.{is_settled_by, is_settled, outcome_by
 
 use crate::endings::{CommandEnd, Ending};
 use bus_base::Octets;
-use cdb_codec::{GOOD, QUEUE_FULL, Sense};
+use cdb_codec::{GOOD, QUEUE_FULL, Sense, sense_of_data};
 use run_record::Outcome;
 
-fn byte_at(bytes: &[u8], place: usize) -> u8
-    ensures { result ≡ slice_index bytes.now place }
-{
-    match bytes.get(place) {
-        None => 0,
-        Some(byte) => *byte,
-    }
-}
-
-// Sense data name the key in byte 2, and the code and its qualifier in bytes 12 and 13 (8.2.14).
+// The sense that the bytes of sense data name, if any came (8.2.14).
 fn sense_in(bytes: &[u8]) -> Option<Sense>
     ensures { result ≡ sense_in bytes.now }
 {
     if bytes.is_empty() {
         return None;
     }
-    Some(Sense {
-        key: byte_at(bytes, 2),
-        asc: byte_at(bytes, 12),
-        ascq: byte_at(bytes, 13),
-    })
+    Some(sense_of_data(bytes))
 }
 
 fn is_settled_by(ending: Ending, sensed: bool, over: bool) -> bool

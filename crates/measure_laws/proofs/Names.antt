@@ -47,17 +47,17 @@ pub use bus_phases.declared.{dialogue.Dialogue.{Dialogue}, spoken.CommandBytes.{
 use Rattle.due_model.specs.bus_rules.specs as bus_rules
 pub use bus_rules.{Order.{is_of_device}, Reset.{only_rst}, Rules.{broken_rule}}
 use Rattle.due_model.specs.scenario.proofs as scenario_proofs
-pub use scenario_proofs.{Obeying.{all_needs, each_need}, Steps.{bind_ok, guard_ok, ok_is}}
+pub use scenario_proofs.{Obeying.{all_needs, each_need}, Steps.{bind_ok, guard_ok, ok_is}, TapeNeeds.{plain_need}}
 use Rattle.due_model.specs.scenario.specs as scenario
-pub use scenario.Forms.{Said, abort_line, cmd_line, end_line, fault_line, fill_line, initiator_line, reset_line}
-pub use scenario.{Forms.{scsi_line, target_line, unit_line}, Lookups.{has_device, has_target, unit_of}}
-pub use scenario.{Needs.{block_bytes, is_write, moved, moved_by}, Reading.{Progress, abort_def, fill_def, fits_version}}
-pub use scenario.Reading.{full_cmd_def, guard, has_abort_room, host_def, in_8, in_order, kind_of, nothing, rank}
-pub use scenario.{Reading.{target_def, time_in, unit_def, within}, Value.{ScenarioValue}, Writing.{Obeys, built, saids}}
-pub use scenario.declared.value.{AbortDef.{AbortDef}, CmdDef.{CmdDef}, FaultDef.{FaultDef}, HostDef.{HostDef}}
-pub use scenario.declared.value.{Policy.{Policy}, ResetDef.{ResetDef}, Tag.{Tag}, TargetDef.{TargetDef}}
-pub use scenario.declared.value.UnitDef.{UnitDef}
-unfoldable pub use scenario.{Needs.{need_of, sent_of}, Reading.{added, fault_def, reset_def, said_after}}
+pub use scenario.Forms.{Said, abort_line, cmd_line, end_line, fault_line, fill_line, initiator_line, load_line}
+pub use scenario.{Forms.{reset_line, scsi_line, tape_line, target_line, unit_line}, Lookups.{has_device, has_target}}
+pub use scenario.{Lookups.{unit_of}, Needs.{block_bytes, is_write, moved, moved_by, need_of}, Reading.{Progress}}
+pub use scenario.Reading.{abort_def, fill_def, fits_version, full_cmd_def, guard, has_abort_room, host_def, in_8}
+pub use scenario.Reading.{in_order, kind_of, load_def, nothing, rank, tape_def, target_def, time_in, unit_def, within}
+pub use scenario.{Value.{ScenarioValue}, Writing.{Obeys, built, saids}, declared.value.AbortDef.{AbortDef}}
+pub use scenario.declared.value.{CmdDef.{CmdDef}, FaultDef.{FaultDef}, HostDef.{HostDef}, Policy.{Policy}}
+pub use scenario.declared.value.{ResetDef.{ResetDef}, Tag.{Tag}, TargetDef.{TargetDef}, UnitDef.{UnitDef}}
+unfoldable pub use scenario.{Needs.{sent_of}, Reading.{added, fault_def, reset_def, said_after}}
 use Rattle.due_model.specs.array_model.proofs as array_model_proofs
 pub use array_model_proofs.{ExecutionFacts.{good_range}, NamedBlocks.{at_disk, is_disk}, SeatLookups.{none_at}}
 pub use array_model_proofs.SeatReplies.{id_self}
@@ -122,7 +122,7 @@ pub use scsi_device_proofs.{FitLines.{command_fits, obeys_fits}, LineReads.{faul
 use Rattle.progress_laws.specs.scsi_device.specs as scsi_device
 pub use scsi_device.Lines.{FitsBus, IsCommandLine, IsHostLine}
 use Rattle.progress_laws.specs.target_units.proofs as target_units_proofs
-pub use target_units_proofs.Rooms.{IsByLine, by_line}
+pub use target_units_proofs.Rooms.{IsByLine, by_line, unit_of_line}
 use Rattle.progress_laws.specs.target_units.specs as target_units
 pub use target_units.Rooms.{AreOfLines, IsOfLine}
 use Rattle.progress_laws.specs.book_laws.proofs as book_laws_proofs

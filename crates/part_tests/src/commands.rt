@@ -1,8 +1,9 @@
 //! Tests of `cdb_codec`: every operation code, length and bit, and the bytes of what a target returns.
 
 use cdb_codec::{
-    CdbFault, Command, Sense, blocks_moved, capacity_bytes, from_cdb, group_len, inquiry_bytes,
-    sense_bytes, to_cdb,
+    CdbFault, Command, END_OF_MEDIUM, FILEMARK, SPACE_BLOCKS, Sense, TapeCommand, blocks_moved,
+    capacity_bytes, from_cdb, group_len, inquiry_bytes, read_sense, sense_bytes, tape_cdb,
+    tape_inquiry_bytes, to_cdb,
 };
 use std::test::Fail;
 
@@ -174,7 +175,9 @@ fn lays_out_replies(rt: HostRuntime) {
             *b"\x70\0\x05\0\0\0\0\x0a\0\0\0\0\x24\x01\0\0\0\0",
         ),
     ] {
-        assert!(rt; sense_bytes(&Sense { key, asc, ascq }) == bytes);
+        let sense = Sense::plain(key, asc, ascq);
+        assert!(rt; sense_bytes(&sense) == bytes);
+        assert!(rt; read_sense(&bytes) == sense);
     }
     let disk =
         *b"\x00\x00\x02\x02\x1f\x00\x00\x12\x42\x55\x53\x4d\x4f\x44\x45\x4c\x53\x49\x4d\x55\x4c\x41\x54\x45\x44\x20\x44\x49\x53\x4b\x20\x20\x30\x30\x30\x31";
@@ -184,4 +187,84 @@ fn lays_out_replies(rt: HostRuntime) {
     assert!(rt; absent[1..] == disk[1..]);
     assert!(rt; capacity_bytes(0, 16) == [0, 0, 0, 0, 0, 0, 0, 16]);
     assert!(rt; capacity_bytes(0x0102_0304, 512) == [1, 2, 3, 4, 0, 0, 2, 0]);
+}
+
+#[test]
+fn reads_commands_of_a_tape(rt: HostRuntime) {
+    let cases: [(&[u8], Result<TapeCommand, CdbFault>); 12] = [
+        (&[0x00, 0, 0, 0, 0, 0], Ok(TapeCommand::TestUnitReady)),
+        (&[0x01, 0xe1, 0, 0, 0, 0], Ok(TapeCommand::Rewind)),
+        (
+            &[0x03, 0, 0, 0, 0x12, 0],
+            Ok(TapeCommand::RequestSense { room: 0x12 }),
+        ),
+        (
+            &[0x08, 0x01, 0x12, 0x34, 0x56, 0],
+            Ok(TapeCommand::Read { count: 0x12_3456 }),
+        ),
+        (
+            &[0x0a, 0x01, 0, 0, 0x02, 0],
+            Ok(TapeCommand::Write { count: 2 }),
+        ),
+        (
+            &[0x10, 0x01, 0, 0x01, 0, 0],
+            Ok(TapeCommand::Filemarks { count: 0x100 }),
+        ),
+        (
+            &[0x11, 0, 0xff, 0xff, 0xfe, 0],
+            Ok(TapeCommand::Space {
+                code: SPACE_BLOCKS,
+                count: -2,
+            }),
+        ),
+        (
+            &[0x12, 0, 0, 0, 0x24, 0],
+            Ok(TapeCommand::Inquiry { room: 0x24 }),
+        ),
+        // Blocks of any length, a code of SPACE that is none of ours, a block cut off, and a command of a disk.
+        (&[0x08, 0, 0, 0, 0x01, 0], Err(CdbFault::Field)),
+        (&[0x11, 0x02, 0, 0, 0x01, 0], Err(CdbFault::Field)),
+        (&[0x08, 0x01, 0, 0, 0x01], Err(CdbFault::Length)),
+        (&[0x25, 0, 0, 0, 0, 0, 0, 0, 0, 0], Err(CdbFault::Opcode)),
+    ];
+    for (bytes, command) in cases {
+        assert!(rt; tape_cdb(bytes) == command);
+    }
+}
+
+#[test]
+fn reads_sense_of_a_tape(rt: HostRuntime) {
+    // A filemark that stood three blocks before the last one asked for, and no room for 70,000 blocks.
+    for (key, ascq, marks, residue, bytes) in [
+        (
+            0,
+            0x01,
+            FILEMARK,
+            3,
+            *b"\xf0\0\x80\0\0\0\x03\x0a\0\0\0\0\0\x01\0\0\0\0",
+        ),
+        (
+            0x0d,
+            0x02,
+            END_OF_MEDIUM,
+            70000,
+            *b"\xf0\0\x4d\0\x01\x11\x70\x0a\0\0\0\0\0\x02\0\0\0\0",
+        ),
+    ] {
+        let sense = Sense {
+            key,
+            asc: 0,
+            ascq,
+            marks,
+            residue: Some(residue),
+        };
+        assert!(rt; sense_bytes(&sense) == bytes);
+        assert!(rt; read_sense(&bytes) == sense);
+    }
+    // Information that is not valid is none, and the bits beside the marks are passed over.
+    let sense = read_sense(b"\x70\0\x38\0\0\0\x03\x0a\0\0\0\0\0\x05\0\0\0\0");
+    assert!(rt; sense == Sense::plain(0x08, 0, 0x05));
+    let tape =
+        *b"\x01\x80\x02\x02\x1f\x00\x00\x12\x42\x55\x53\x4d\x4f\x44\x45\x4c\x53\x49\x4d\x55\x4c\x41\x54\x45\x44\x20\x54\x41\x50\x45\x20\x20\x30\x30\x30\x31";
+    assert!(rt; tape_inquiry_bytes() == tape);
 }

@@ -46,13 +46,13 @@ unfoldable pub use bus_rules.Seen.{seen_with}
 use Rattle.due_model.specs.scenario.proofs as scenario_proofs
 pub use scenario_proofs.Steps.{bind_ok, guard_ok, ok_is, within_ok}
 use Rattle.due_model.specs.scenario.specs as scenario
-pub use scenario.Forms.{Said, abort_line, cmd_line, end_line, fault_line, fill_line, initiator_line, reset_line}
-pub use scenario.{Forms.{scsi_line, target_line, unit_line}, Lookups.{has_device, has_target, unit_of}}
-pub use scenario.Reading.{Progress, abort_def, fault_def, fill_def, fits_version, full_cmd_def, guard, in_8, in_order}
-pub use scenario.Reading.{kind_of, nothing, period_in, rank, reset_def, size_in, target_def, within}
-pub use scenario.{Value.{ScenarioValue}, Writing.{Obeys, built, saids}, declared.bounds.TheConstants.{BLOCK_LIMIT}}
-pub use scenario.declared.bounds.TheConstants.{DEPTH_LIMIT, HOST_OFFSET_LIMIT, LAG_LIMIT, LATENCY_LIMIT, OPEN_LIMIT}
-pub use scenario.declared.{bounds.TheConstants.{RETRY_LIMIT}, value.{AbortDef.{AbortDef}, CmdDef.{CmdDef}}}
+pub use scenario.Forms.{Said, abort_line, cmd_line, end_line, fault_line, fill_line, initiator_line, load_line}
+pub use scenario.{Forms.{reset_line, scsi_line, tape_line, target_line, unit_line}, Lookups.{has_device, has_target}}
+pub use scenario.{Lookups.{unit_of}, Reading.{Progress, abort_def, fault_def, fill_def, fits_version, full_cmd_def}}
+pub use scenario.Reading.{guard, in_8, in_order, kind_of, load_def, nothing, period_in, rank, reset_def, size_in}
+pub use scenario.{Reading.{tape_def, target_def, within}, Value.{ScenarioValue}, Writing.{Obeys, built, saids}}
+pub use scenario.declared.bounds.TheConstants.{BLOCK_LIMIT, DEPTH_LIMIT, HOST_OFFSET_LIMIT, LAG_LIMIT, LATENCY_LIMIT}
+pub use scenario.declared.{bounds.TheConstants.{OPEN_LIMIT, RETRY_LIMIT}, value.{AbortDef.{AbortDef}, CmdDef.{CmdDef}}}
 pub use scenario.declared.value.{HostDef.{HostDef}, TargetDef.{TargetDef}, UnitDef.{UnitDef}}
 unfoldable pub use scenario.{Needs.{need_of, sent_of}, Reading.{added, host_def, said_after, unit_def}}
 use Rattle.due_model.specs.array_model.proofs as array_model_proofs

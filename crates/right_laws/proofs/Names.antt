@@ -56,16 +56,16 @@ pub use bus_rules_proofs.First.{row_none}
 use Rattle.due_model.specs.bus_rules.specs as bus_rules
 pub use bus_rules.{Order.{is_of_device}, Reset.{only_rst}, Rules.{broken_rule}}
 use Rattle.due_model.specs.scenario.proofs as scenario_proofs
-pub use scenario_proofs.Steps.{bind_ok, ok_is}
+pub use scenario_proofs.{Steps.{bind_ok, ok_is}, TapeNeeds.{plain_need}, UnitLines.{plain_unit}}
 use Rattle.due_model.specs.scenario.specs as scenario
-pub use scenario.Forms.{Said, abort_line, cmd_line, end_line, fault_line, fill_line, initiator_line, reset_line}
-pub use scenario.{Forms.{scsi_line, target_line, unit_line}, Lookups.{has_target, unit_of}, Needs.{is_write, moved_by}}
-pub use scenario.Reading.{Progress, abort_def, fault_def, fill_def, fits_version, full_cmd_def, guard, host_def}
-pub use scenario.{Reading.{in_order, kind_of, nothing, rank, reset_def, target_def, unit_def}, Value.{ScenarioValue}}
-pub use scenario.{Writing.{Obeys, built, saids}, declared.value.{AbortDef.{AbortDef}, CmdDef.{CmdDef}}}
-pub use scenario.declared.value.{FaultDef.{FaultDef}, FillDef.{FillDef}, HostDef.{HostDef}, Policy.{Policy}}
-pub use scenario.declared.value.{TargetDef.{TargetDef}, UnitDef.{UnitDef}}
-unfoldable pub use scenario.{Needs.{need_of}, Reading.{added, said_after}}
+pub use scenario.Forms.{Said, abort_line, cmd_line, end_line, fault_line, fill_line, initiator_line, load_line}
+pub use scenario.{Forms.{reset_line, scsi_line, tape_line, target_line, unit_line}, Lookups.{has_target, unit_of}}
+pub use scenario.{Needs.{is_write, moved_by, need_of}, Reading.{Progress, abort_def, fault_def, fill_def, fits_version}}
+pub use scenario.Reading.{full_cmd_def, guard, host_def, in_order, kind_of, load_def, nothing, rank, reset_def}
+pub use scenario.{Reading.{tape_def, target_def, unit_def}, Value.{ScenarioValue}, Writing.{Obeys, built, saids}}
+pub use scenario.declared.value.{AbortDef.{AbortDef}, CmdDef.{CmdDef}, FaultDef.{FaultDef}, FillDef.{FillDef}}
+pub use scenario.declared.value.{HostDef.{HostDef}, Policy.{Policy}, TargetDef.{TargetDef}, UnitDef.{UnitDef}}
+unfoldable pub use scenario.Reading.{added, said_after}
 use Rattle.due_model.specs.array_model.proofs as array_model_proofs
 pub use array_model_proofs.{ArrayReplies.{end_lists, loss_lists}, Executed.{of_all, storing}}
 pub use array_model_proofs.ExecutionFacts.{read_gives, sense_block_of, sense_executed, stored_apart, undone, whole_kept}
@@ -160,7 +160,8 @@ pub use scsi_device.{Heard.{Instructions, instructions, instructions_after}, Lin
 pub use scsi_device.Writes.{block_size, is_data_out, is_of_size, start_of_run, writers}
 use Rattle.trace_laws.specs.target_units.proofs as target_units_proofs
 pub use target_units_proofs.{AbsentReplies.{replies}, ReplySteps.{accept_same, run_replies}, Rooms.{lines_always}}
-pub use target_units_proofs.{Rooms.{sends}, Starts.{line_filled, start_settled}, UnitTellings.{context_same}}
+pub use target_units_proofs.{Rooms.{sends, unit_of_line}, Starts.{line_filled, start_settled}}
+pub use target_units_proofs.UnitTellings.{context_same}
 use Rattle.trace_laws.specs.target_units.specs as target_units
 pub use target_units.{Absent.{absent_reply_by, data_or_refusal, inquiry_room, sense_room}, Fillings.{AreFilled}}
 pub use target_units.Rooms.{AreOfLines, IsOfLine}

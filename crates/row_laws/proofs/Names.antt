@@ -34,11 +34,13 @@ pub use bus_lines.{Handshakes.{newest_struck_if, no_handshakes}, Stage.{stage}, 
 pub use bus_lines.declared.stage.Stage.TheVariants.{InAnswer, InCalling}
 use Rattle.text_words.specs as text_words
 pub use text_words.{Spelling.{AreBytes}, Words.{Number}}
+use Rattle.due_model.specs.cdb_codec.proofs as cdb_codec_proofs
+pub use cdb_codec_proofs.Senses.{data_are_bytes, plain_fits}
 use Rattle.due_model.specs.cdb_codec.specs as cdb_codec
-pub use cdb_codec.{Blocks.{blocks_moved}, Cdb.{command_of, has_group_len}, Replies.{capacity_data, inquiry_data}}
-pub use cdb_codec.{Replies.{sense_data}, declared.command.{CdbFault.{CdbFault}, Command.{Command}, Sense.{Sense}}}
-pub use cdb_codec.declared.{replies.TheConstants.{INQUIRY_LEN, SENSE_LEN}, sense.TheConstants.{ABORTED_COMMAND}}
-pub use cdb_codec.declared.sense.TheConstants.{INITIATOR_DETECTED_ERROR, PARITY_ERROR}
+pub use cdb_codec.{Blocks.{blocks_moved}, Cdb.{command_of, has_group_len}, Replies.{FitsSense, capacity_data}}
+pub use cdb_codec.{Replies.{inquiry_data, sense_data}, declared.command.{CdbFault.{CdbFault}, Command.{Command}}}
+pub use cdb_codec.declared.{command.Sense.{Sense}, replies.TheConstants.{INQUIRY_LEN, SENSE_LEN}}
+pub use cdb_codec.declared.sense.TheConstants.{ABORTED_COMMAND, INITIATOR_DETECTED_ERROR, PARITY_ERROR}
 pub use cdb_codec.declared.status.TheConstants.{CHECK_CONDITION, GOOD}
 use Rattle.due_model.specs.msg_grammar.proofs as msg_grammar_proofs
 pub use msg_grammar_proofs.{Exact.{whole}, Spells.{in_one, out_one}}
@@ -58,13 +60,14 @@ unfoldable pub use bus_rules.Seen.{seen_with}
 use Rattle.due_model.specs.scenario.proofs as scenario_proofs
 pub use scenario_proofs.Steps.{bind_ok, guard_ok, ok_is, read_tag, read_what, within_ok}
 use Rattle.due_model.specs.scenario.specs as scenario
-pub use scenario.Forms.{CmdSaid, Said, abort_line, cmd_line, end_line, fault_line, fill_line, initiator_line}
-pub use scenario.{Forms.{reset_line, scsi_line, target_line, unit_line}, Lookups.{has_device}, Reading.{Progress}}
-pub use scenario.Reading.{are_ends, fault_def, fill_def, fits_version, guard, has_abort_room, has_room, in_8, in_order}
-pub use scenario.Reading.{is_block, is_payload, kind_of, nothing, policy_in, rank, reset_def, time_in, unit_def, within}
-pub use scenario.{Value.{ScenarioValue}, Writing.{IsHex, IsHexPayload, Obeys, built, said_tag, said_what, saids}}
-pub use scenario.declared.bounds.TheConstants.{FACTOR_LIMIT, HOST_OFFSET_LIMIT, LAG_LIMIT, LATENCY_LIMIT, LEAST_FACTOR}
-pub use scenario.declared.bounds.TheConstants.{OPEN_LIMIT, RETRY_LIMIT, SEEK_LIMIT, TAG_LIMIT, TARGET_OFFSET_LIMIT}
+pub use scenario.Forms.{CmdSaid, Said, abort_line, cmd_line, end_line, fault_line, fill_line, initiator_line, load_line}
+pub use scenario.{Forms.{reset_line, scsi_line, tape_line, target_line, unit_line}, Lookups.{has_device}}
+pub use scenario.Reading.{Progress, are_ends, fault_def, fill_def, fits_version, guard, has_abort_room, has_room, in_8}
+pub use scenario.Reading.{in_order, is_block, is_payload, kind_of, load_def, nothing, policy_in, rank, reset_def}
+pub use scenario.{Reading.{tape_def, time_in, unit_def, within}, Value.{ScenarioValue}, Writing.{IsHex, IsHexPayload}}
+pub use scenario.{Writing.{Obeys, built, said_tag, said_what, saids}, declared.bounds.TheConstants.{FACTOR_LIMIT}}
+pub use scenario.declared.bounds.TheConstants.{HOST_OFFSET_LIMIT, LAG_LIMIT, LATENCY_LIMIT, LEAST_FACTOR, OPEN_LIMIT}
+pub use scenario.declared.bounds.TheConstants.{RETRY_LIMIT, SEEK_LIMIT, TAG_LIMIT, TARGET_OFFSET_LIMIT}
 pub use scenario.declared.value.{AbortDef.{AbortDef}, CmdDef.{CmdDef}, FillDef.{FillDef}, HostDef.{HostDef}}
 pub use scenario.declared.value.{Payload.{Payload}, Policy.{Policy}, Tag.{Tag}, TargetDef.{TargetDef}}
 pub use scenario.declared.value.UnitDef.{UnitDef}

@@ -18,16 +18,17 @@ use Rattle.scenario.specs.declared.form.TagForm.{TagForm}
 use Rattle.scenario.specs.declared.form.TagForm.TheVariants as tags
 use Rattle.scenario.specs.declared.form.WhatForm.{WhatForm}
 use Rattle.scenario.specs.declared.form.WhatForm.TheVariants as whats
-use Rattle.scenario.specs.Parts.{PayloadSaid, no_bytes, these_bytes, bytes_from}
-use Rattle.scenario.specs.Forms.{Said, scsi_line, initiator_line, target_line, unit_line, fill_line, cmd_line}
-use Rattle.scenario.specs.Forms.{abort_line, reset_line, fault_line, end_line}
+use Rattle.scenario.specs.Parts.{PayloadSaid, no_bytes, these_bytes, bytes_from, ObjectSaid, block_object, mark_object}
+use Rattle.scenario.specs.Forms.{Said, scsi_line, initiator_line, target_line, unit_line, fill_line, tape_line}
+use Rattle.scenario.specs.Forms.{load_line, cmd_line, abort_line, reset_line, fault_line, end_line}
 use Rattle.scenario.specs.Reading.{Progress, is_printable, line_after, said_after, read_from, and_then, is_end}
 use Rattle.scenario.specs.Reading.{is_skipped, ◌>>=◌}
 use Rattle.scenario.specs.Writing.{numbered, flag_text, scsi_text, policy_text, pick_text, tag_text, payload_text}
 use Rattle.scenario.specs.Writing.{what_text, host_sync_text, initiator_text, target_seek_text, target_disc_text}
 use Rattle.scenario.specs.Writing.{target_text, unit_text, fill_text, cmd_tag_text, cmd_text, abort_text, reset_text}
-use Rattle.scenario.specs.Writing.{fault_text, said_text, said_line, built}
+use Rattle.scenario.specs.Writing.{fault_text, object_text, tape_text, load_text, said_text, said_line, built}
 use Rattle.scenario.proofs.PartsAgain.{IsSmall, IsSmallPolicy, IsSmallTag, IsSpelledPayload, IsSmallWhat}
+use Rattle.scenario.proofs.PartsAgain.{IsSpelledObject}
 use Rattle.scenario.proofs.FormsAgain.{IsSpelled, form_again}
 use Rattle.text_words.proofs.FirstFeed.{ended_line}
 
@@ -83,6 +84,10 @@ tag_prints (tags.Simple n) h = numbered_prints (codes "simple ") n refl h
 tag_prints (tags.Ordered n) h = numbered_prints (codes "ordered ") n refl h
 tag_prints (tags.Head n) h = numbered_prints (codes "head ") n refl h
 
+object_prints : (o : ObjectSaid) → IsSpelledObject o → Prints (object_text o)
+object_prints (block_object bytes) h = hex_text_prints bytes h.0
+object_prints mark_object h = refl
+
 payload_prints : (p : PayloadSaid) → IsSpelledPayload p → Prints (payload_text p)
 payload_prints no_bytes h = refl
 payload_prints (these_bytes bytes) h = join (codes "out hex ") (hex_text bytes) refl (hex_text_prints bytes h.0)
@@ -95,14 +100,15 @@ what_prints whats.Queue h = refl
 what_prints whats.Device h = refl
 
 scsi_prints : (v : ℕ) → Prints (scsi_text v)
-scsi_prints v = go (v == 2) where
-  go : (q : Bool) → Prints (cond q (codes "scsi 2") (codes "scsi 1"))
-  go true = refl
-  go false = refl
+scsi_prints v = go (v == 3) (v == 2) where
+  go : (p q : Bool) → Prints (cond p (codes "scsi 3") (cond q (codes "scsi 2") (codes "scsi 1")))
+  go true q = refl
+  go false true = refl
+  go false false = refl
 
 pub said_prints : (x : Said) → IsSpelled x → list_all is_printable (said_text x) ≡ true
-unfolding initiator_text host_sync_text target_text target_disc_text target_seek_text unit_text fill_text cmd_text
-    cmd_tag_text abort_text reset_text fault_text
+unfolding initiator_text host_sync_text target_text target_disc_text target_seek_text unit_text fill_text tape_text
+    load_text cmd_text cmd_tag_text abort_text reset_text fault_text
 said_prints (scsi_line v) h = scsi_prints v
 said_prints (initiator_line f) h =
     let r7 : List ℕ = flag_text (codes " offers ") f.offers in
@@ -172,6 +178,26 @@ said_prints (fill_line f) h =
     let r1 : List ℕ = numbered (codes " ") f.unit ++ r2 in
     let p1 : Prints r1 = join (numbered (codes " ") f.unit) r2 (numbered_prints (codes " ") f.unit refl h.1) p2 in
     join (numbered (codes "fill ") f.target) r1 (numbered_prints (codes "fill ") f.target refl h.0) p1
+said_prints (tape_line f) h =
+    let r4 : List ℕ = numbered (codes " depth ") f.depth in
+    let p4 : Prints r4 = numbered_prints (codes " depth ") f.depth refl h.4 in
+    let r3 : List ℕ = numbered (codes " size ") f.size ++ r4 in
+    let p3 : Prints r3 = join (numbered (codes " size ") f.size) r4
+    (numbered_prints (codes " size ") f.size refl h.3) p4 in
+    let r2 : List ℕ = numbered (codes " objects ") f.objects ++ r3 in
+    let p2 : Prints r2 = join (numbered (codes " objects ") f.objects) r3
+    (numbered_prints (codes " objects ") f.objects refl h.2) p3 in
+    let r1 : List ℕ = numbered (codes " ") f.unit ++ r2 in
+    let p1 : Prints r1 = join (numbered (codes " ") f.unit) r2 (numbered_prints (codes " ") f.unit refl h.1) p2 in
+    join (numbered (codes "tape ") f.target) r1 (numbered_prints (codes "tape ") f.target refl h.0) p1
+said_prints (load_line f) h =
+    let r3 : List ℕ = object_text f.what in
+    let p3 : Prints r3 = object_prints f.what h.2 in
+    let r2 : List ℕ = codes " " ++ r3 in
+    let p2 : Prints r2 = p3 in
+    let r1 : List ℕ = numbered (codes " ") f.unit ++ r2 in
+    let p1 : Prints r1 = join (numbered (codes " ") f.unit) r2 (numbered_prints (codes " ") f.unit refl h.1) p2 in
+    join (numbered (codes "load ") f.target) r1 (numbered_prints (codes "load ") f.target refl h.0) p1
 said_prints (cmd_line c) h =
     let r9 : List ℕ = payload_text c.payload in
     let p9 : Prints r9 = payload_prints c.payload h.7 in
@@ -232,19 +258,22 @@ line_again [] rest h = refl
 line_again (b ∷ text) rest h = line_step b text rest (is_printable b) refl (line_again text rest) h
 
 scsi_not_skipped : (v : ℕ) → is_skipped (scsi_text v) ≡ false
-scsi_not_skipped v = go (v == 2) where
-  go : (q : Bool) → is_skipped (cond q (codes "scsi 2") (codes "scsi 1")) ≡ false
-  go true = refl
-  go false = refl
+scsi_not_skipped v = go (v == 3) (v == 2) where
+  go : (p q : Bool) → is_skipped (cond p (codes "scsi 3") (cond q (codes "scsi 2") (codes "scsi 1"))) ≡ false
+  go true q = refl
+  go false true = refl
+  go false false = refl
 
 not_skipped : (x : Said) → is_skipped (said_text x) ≡ false
-unfolding initiator_text host_sync_text target_text target_disc_text target_seek_text unit_text fill_text cmd_text
-    cmd_tag_text abort_text reset_text fault_text
+unfolding initiator_text host_sync_text target_text target_disc_text target_seek_text unit_text fill_text tape_text
+    load_text cmd_text cmd_tag_text abort_text reset_text fault_text
 not_skipped (scsi_line v) = scsi_not_skipped v
 not_skipped (initiator_line f) = refl
 not_skipped (target_line f) = refl
 not_skipped (unit_line f) = refl
 not_skipped (fill_line f) = refl
+not_skipped (tape_line f) = refl
+not_skipped (load_line f) = refl
 not_skipped (cmd_line f) = refl
 not_skipped (abort_line f) = refl
 not_skipped (reset_line f) = refl

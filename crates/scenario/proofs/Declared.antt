@@ -2,13 +2,16 @@
 use Rattle.std.proofs.Common.{◌≡◌, ℕ, ◌-◌, ◌^◌, Bool, true, false, not, cond, length, Option, Some, None, Ok, refl, sym}
 use Rattle.std.proofs.Common.{ap, subst, ◌∙◌, arith}
 use Rattle.std.specs.Prelude.{nat_lt, ◌==◌, ◌||◌, is_some}
+use Rattle.std.proofs.lemmas.Bool.Decides.{nat_tests}
 use Rattle.scenario.specs.declared.bounds.TheConstants.{TIME_LIMIT, LATENCY_LIMIT, OPEN_LIMIT, RETRY_LIMIT}
 use Rattle.scenario.specs.declared.bounds.TheConstants.{HOST_OFFSET_LIMIT, TARGET_OFFSET_LIMIT, LAG_LIMIT, SEEK_LIMIT}
-use Rattle.scenario.specs.declared.bounds.TheConstants.{BLOCK_LIMIT, DEPTH_LIMIT, FAULT_LIMIT}
+use Rattle.scenario.specs.declared.bounds.TheConstants.{BLOCK_LIMIT, DEPTH_LIMIT, FAULT_LIMIT, OBJECT_LIMIT}
 use Rattle.scenario.specs.declared.value.HostDef.{HostDef}
 use Rattle.scenario.specs.declared.value.TargetDef.{TargetDef}
 use Rattle.scenario.specs.declared.value.UnitDef.{UnitDef}
 use Rattle.scenario.specs.declared.value.FillDef.{FillDef}
+use Rattle.scenario.specs.declared.value.TapeDef.{TapeDef}
+use Rattle.scenario.specs.declared.value.LoadDef.{LoadDef}
 use Rattle.scenario.specs.declared.value.CmdDef.{CmdDef}
 use Rattle.scenario.specs.declared.value.AbortDef.{AbortDef}
 use Rattle.scenario.specs.declared.value.ResetDef.{ResetDef}
@@ -16,41 +19,44 @@ use Rattle.scenario.specs.declared.value.FaultDef.{FaultDef}
 use Rattle.scenario.specs.declared.form.HostForm.{HostForm}
 use Rattle.scenario.specs.declared.form.TargetForm.{TargetForm}
 use Rattle.scenario.specs.declared.form.UnitForm.{UnitForm}
+use Rattle.scenario.specs.declared.form.TapeForm.{TapeForm}
 use Rattle.scenario.specs.declared.form.AbortForm.{AbortForm}
 use Rattle.scenario.specs.declared.form.ResetForm.{ResetForm}
 use Rattle.scenario.specs.declared.form.FaultForm.{FaultForm}
 use Rattle.scenario.specs.Value.{ScenarioValue}
-use Rattle.scenario.specs.Lookups.{has_target, has_device, unit_of, has_fill}
+use Rattle.scenario.specs.Lookups.{has_target, has_device, unit_of, tape_of, has_fill, loads_at}
 use Rattle.scenario.specs.Needs.{need_of, sent_of}
-use Rattle.scenario.specs.Parts.{PayloadSaid, no_bytes, these_bytes, bytes_from}
-use Rattle.scenario.specs.Forms.{Said, FillSaid, CmdSaid, initiator_line, target_line, unit_line, fill_line, cmd_line}
-use Rattle.scenario.specs.Forms.{abort_line, reset_line, fault_line}
+use Rattle.scenario.specs.Parts.{PayloadSaid, no_bytes, these_bytes, bytes_from, ObjectSaid, block_object, mark_object}
+use Rattle.scenario.specs.Forms.{Said, FillSaid, LoadSaid, CmdSaid, initiator_line, target_line, unit_line, fill_line}
+use Rattle.scenario.specs.Forms.{tape_line, load_line, cmd_line, abort_line, reset_line, fault_line}
 use Rattle.scenario.specs.Reading.{guard, within, in_8, time_in, period_in, size_in, policy_in, tag_in, what_in}
 use Rattle.scenario.specs.Reading.{is_block, answer_or, host_def, target_def, unit_def, found, is_block_of, fill_def}
 use Rattle.scenario.specs.Reading.{are_ends, payload_of, cmd_def, is_payload, has_room, full_cmd_def, has_abort_room}
-use Rattle.scenario.specs.Reading.{abort_def, reset_def, fault_def, fits_flag}
+use Rattle.scenario.specs.Reading.{abort_def, reset_def, fault_def, fits_flag, tape_def, load_of, fits_tape, load_def}
 use Rattle.scenario.specs.Writing.{said_flag, said_host, said_target, said_unit, said_fill, said_payload, said_cmd}
-use Rattle.scenario.specs.Writing.{said_abort, said_reset, said_fault, IsHex}
-use Rattle.scenario.proofs.PartsAgain.{IsSpelledPayload}
-use Rattle.scenario.proofs.FormsAgain.{IsSpelled}
+use Rattle.scenario.specs.Writing.{said_abort, said_reset, said_fault, said_tape, said_object, said_load, IsHex}
+use Rattle.scenario.proofs.PartsAgain.{IsSpelledObject, IsSpelledPayload}
+use Rattle.scenario.proofs.FormsAgain.{IsVersion, IsSpelled}
 use Rattle.scenario.proofs.Steps.{bind_ok, ok_is, read_within, read_period, read_size, read_policy, read_tag, read_what}
 
--- In text 1 and 2, YN that fits is the one that is written.
-flag_again : (version : ℕ) (otherwise : Bool) (o : Option Bool) → (version == 1 || version == 2) ≡ true
+-- In each version, YN that fits is the one that is written.
+flag_again : (version : ℕ) (otherwise : Bool) (o : Option Bool) → IsVersion version
     → fits_flag version o ≡ true → said_flag version (answer_or otherwise o) ≡ o
-flag_again version otherwise None v f = go (version == 2) f where
-  go : (q : Bool) → not q ≡ true → cond q (Some otherwise) None ≡ None
-  go true e = absurd cc
-  go false e = refl
-flag_again version otherwise (Some answer) v f = go (version == 1) (version == 2) v f where
-  go : (p q : Bool) → (p || q) ≡ true → not p ≡ true → cond q (Some answer) None ≡ Some answer
-  go true q e g = absurd cc
-  go false true e g = refl
-  go false false e g = absurd cc
+flag_again version otherwise None v f = go (version == 1) refl (version == 2) refl (version == 3) refl v f where
+  go : (p : Bool) → (version == 1) ≡ p → (q : Bool) → (version == 2) ≡ q → (r : Bool) → (version == 3) ≡ r
+      → (p || (q || r)) ≡ true → nat_lt version 2 ≡ true → cond p None (Some otherwise) ≡ None
+  go true a q b r c e g = refl
+  go false a true b r c e g = absurd (grind (arith, nat_tests))
+  go false a false b true c e g = absurd (grind (arith, nat_tests))
+  go false a false b false c e g = absurd cc
+flag_again version otherwise (Some answer) v f = go (version == 1) f where
+  go : (p : Bool) → not p ≡ true → cond p None (Some answer) ≡ Some answer
+  go true g = absurd cc
+  go false g = refl
 
--- The same, where YN stands in text 2 alone.
+-- The same, where YN stands in all texts but text 1.
 pub record IsFlagged (version : ℕ) (x y : Said) : Type 0 where
-  pub same : (version == 1 || version == 2) ≡ true → x ≡ y
+  pub same : IsVersion version → x ≡ y
   pub spelled : IsSpelled y
 
 -- What is declared by a line that is spelled says that line.
@@ -170,6 +176,54 @@ fill_declared s f def hex e =
       same = ap said_fill (sym (ok_is _ def h.2)) ∙ (λ i. fill_line
           (record { target = sym ra.same i; unit = sym rb.same i; lba = sym rc.same i; bytes = f.bytes }));
       spelled = (ra.small, rb.small, rc.small, hex.0, hex.1);
+    }
+
+pub tape_declared : (s : ScenarioValue) (f : TapeForm) (def : TapeDef) → tape_def s f ≡ Ok def
+    → IsDeclared (said_tape def) (tape_line f)
+unfolding tape_def
+tape_declared s f def e =
+    let a = bind_ok (in_8 f.target) _ def e in
+    let b = bind_ok (in_8 f.unit) _ def a.2 in
+    let c = bind_ok (within f.objects 1 OBJECT_LIMIT) _ def b.2 in
+    let d = bind_ok (size_in f.size) _ def c.2 in
+    let q = bind_ok (within f.depth 1 DEPTH_LIMIT) _ def d.2 in
+    let g = bind_ok (guard 5 (not (is_some (unit_of s a.0 b.0)))) _ def q.2 in
+    let h = bind_ok (guard 6 (has_target s a.0)) _ def g.2 in
+    let ra = read_within f.target 0 7 a.0 a.1 (omega arith) in
+    let rb = read_within f.unit 0 7 b.0 b.1 (omega arith) in
+    let rc = read_within f.objects 1 OBJECT_LIMIT c.0 c.1 (omega arith) in
+    let rd = read_size f.size d.0 d.1 in
+    let rq = read_within f.depth 1 DEPTH_LIMIT q.0 q.1 (omega arith) in
+    record {
+      same = ap said_tape (sym (ok_is _ def h.2)) ∙ (λ i. tape_line (record {
+        target = sym ra.same i;
+        unit = sym rb.same i;
+        objects = sym rc.same i;
+        size = sym rd.same i;
+        depth = sym rq.same i;
+      }));
+      spelled = (ra.small, rb.small, rc.small, rd.small, rq.small);
+    }
+
+object_again : (o : ObjectSaid) → said_object (load_of o) ≡ o
+object_again (block_object bytes) = refl
+object_again mark_object = refl
+
+pub load_declared : (s : ScenarioValue) (f : LoadSaid) (def : LoadDef) → IsSpelledObject f.what → load_def s f ≡ Ok def
+    → IsDeclared (said_load def) (load_line f)
+unfolding load_def
+load_declared s f def what e =
+    let a = bind_ok (in_8 f.target) _ def e in
+    let b = bind_ok (in_8 f.unit) _ def a.2 in
+    let u = bind_ok (found (tape_of s a.0 b.0)) _ def b.2 in
+    let h = bind_ok (guard 7 (fits_tape u.0 (loads_at s.loads a.0 b.0) (load_of f.what))) _ def u.2 in
+    let ra = read_within f.target 0 7 a.0 a.1 (omega arith) in
+    let rb = read_within f.unit 0 7 b.0 b.1 (omega arith) in
+    let ro = object_again f.what in
+    record {
+      same = ap said_load (sym (ok_is _ def h.2))
+          ∙ (λ i. load_line (record { target = sym ra.same i; unit = sym rb.same i; what = ro i }));
+      spelled = (ra.small, rb.small, what);
     }
 
 payload_again : (p : PayloadSaid) → said_payload (payload_of p) ≡ p

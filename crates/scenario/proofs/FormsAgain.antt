@@ -8,25 +8,28 @@ use Rattle.text_words.proofs.Again.{after_same, hex_again, bytes_again}
 use Rattle.scenario.specs.declared.form.HostForm.{HostForm}
 use Rattle.scenario.specs.declared.form.TargetForm.{TargetForm}
 use Rattle.scenario.specs.declared.form.UnitForm.{UnitForm}
+use Rattle.scenario.specs.declared.form.TapeForm.{TapeForm}
 use Rattle.scenario.specs.declared.form.AbortForm.{AbortForm}
 use Rattle.scenario.specs.declared.form.ResetForm.{ResetForm}
 use Rattle.scenario.specs.declared.form.FaultForm.{FaultForm}
 use Rattle.scenario.specs.Parts.{or, numbered_at, exactly_at}
-use Rattle.scenario.specs.Forms.{Said, FillSaid, CmdSaid, scsi_line, initiator_line, target_line, unit_line, fill_line}
-use Rattle.scenario.specs.Forms.{cmd_line, abort_line, reset_line, fault_line, end_line, scsi_at, initiator_at}
+use Rattle.scenario.specs.Forms.{Said, FillSaid, LoadSaid, CmdSaid, scsi_line, initiator_line, target_line, unit_line}
+use Rattle.scenario.specs.Forms.{fill_line, tape_line, load_line, tape_at, load_at, cmd_line, abort_line, reset_line}
+use Rattle.scenario.specs.Forms.{fault_line, end_line, scsi_at, initiator_at}
 use Rattle.scenario.specs.Forms.{target_at, unit_at, fill_at, cmd_at, abort_at, reset_at, fault_at, end_at, form_of}
-use Rattle.scenario.specs.Writing.{numbered, flag_text, policy_text, pick_text, tag_text, payload_text, what_text}
+use Rattle.scenario.specs.Writing.{numbered, flag_text, policy_text, pick_text, tag_text, object_text, payload_text}
+use Rattle.scenario.specs.Writing.{what_text, tape_text, load_text}
 use Rattle.scenario.specs.Writing.{host_sync_text, initiator_text, target_seek_text, target_disc_text, target_text}
 use Rattle.scenario.specs.Writing.{unit_text, fill_text, cmd_tag_text, cmd_text, abort_text, reset_text, fault_text}
 use Rattle.scenario.specs.Writing.{said_text}
 use Rattle.scenario.proofs.PartsAgain.{IsSmall, IsSmallPolicy, IsSmallTag, IsSpelledPayload, IsSmallWhat}
 use Rattle.scenario.proofs.PartsAgain.{numbered_again, numbered_last, offers_again, begins_again, offers_ends}
 use Rattle.scenario.proofs.PartsAgain.{begins_ends, policy_again, pick_again, tag_again, hex_last, payload_again}
-use Rattle.scenario.proofs.PartsAgain.{what_again}
+use Rattle.scenario.proofs.PartsAgain.{what_again, IsSpelledObject, object_again}
 
--- Its version is 1 or 2.
+-- Its version is 1, 2 or 3.
 abbrev pub IsVersion : ℕ → Type 0
-IsVersion v = (v == 1 || v == 2) ≡ true
+IsVersion v = (v == 1 || (v == 2 || v == 3)) ≡ true
 
 -- What has a spelling.
 abbrev pub IsSpelled : Said → Type 0
@@ -37,6 +40,8 @@ IsSpelled (target_line f) = IsSmall f.device × IsSmall f.latency × IsSmall f.r
     × IsSmall f.seek × IsSmall f.period × IsSmall f.offset
 IsSpelled (unit_line f) = IsSmall f.target × IsSmall f.unit × IsSmall f.blocks × IsSmall f.size × IsSmall f.depth
 IsSpelled (fill_line f) = IsSmall f.target × IsSmall f.unit × IsSmall f.lba × AreBytes f.bytes × (0 < length f.bytes)
+IsSpelled (tape_line f) = IsSmall f.target × IsSmall f.unit × IsSmall f.objects × IsSmall f.size × IsSmall f.depth
+IsSpelled (load_line f) = IsSmall f.target × IsSmall f.unit × IsSpelledObject f.what
 IsSpelled (cmd_line c) = IsSmall c.host × IsSmall c.target × IsSmall c.unit × IsSmall c.at × IsSmallTag c.tag
     × AreBytes c.cdb × (0 < length c.cdb) × IsSpelledPayload c.payload
 IsSpelled (abort_line f) = IsSmall f.host × IsSmall f.target × IsSmall f.unit × IsSmall f.at × IsSmallWhat f.what
@@ -122,6 +127,34 @@ fill_again f h =
       bytes_again f.bytes h.3,
     ) refl
 
+tape_again : (f : TapeForm) → IsSpelled (tape_line f) → tape_at (tape_text f) ≡ Some (tape_line f)
+unfolding tape_at tape_text
+tape_again f h =
+    let r4 : List ℕ = numbered (codes " depth ") f.depth in
+    let r3 : List ℕ = numbered (codes " size ") f.size ++ r4 in
+    let r2 : List ℕ = numbered (codes " objects ") f.objects ++ r3 in
+    let r1 : List ℕ = numbered (codes " ") f.unit ++ r2 in
+    rw (
+      numbered_again (codes "tape ") f.target r1 h.0 refl,
+      numbered_again (codes " ") f.unit r2 h.1 refl,
+      numbered_again (codes " objects ") f.objects r3 h.2 refl,
+      numbered_again (codes " size ") f.size r4 h.3 refl,
+      numbered_last (codes " depth ") f.depth h.4,
+    ) refl
+
+load_again : (f : LoadSaid) → IsSpelled (load_line f) → load_at (load_text f) ≡ Some (load_line f)
+unfolding load_at load_text
+load_again f h =
+    let r3 : List ℕ = object_text f.what in
+    let r2 : List ℕ = codes " " ++ r3 in
+    let r1 : List ℕ = numbered (codes " ") f.unit ++ r2 in
+    rw (
+      numbered_again (codes "load ") f.target r1 h.0 refl,
+      numbered_again (codes " ") f.unit r2 h.1 refl,
+      after_same (codes " ") r3,
+      object_again f.what h.2,
+    ) refl
+
 cmd_again : (c : CmdSaid) → IsSpelled (cmd_line c) → cmd_at (cmd_text c) ≡ Some (cmd_line c)
 unfolding cmd_at cmd_text cmd_tag_text
 cmd_again c h =
@@ -183,29 +216,40 @@ scsi_2 : form_of (codes "scsi 2") ≡ Some (scsi_line 2)
 unfolding scsi_at exactly_at after
 scsi_2 = refl
 
-is_version : (v : ℕ) → IsVersion v → (v ≡ 1) ⊎ (v ≡ 2)
-is_version v h = go (v == 1) refl (v == 2) refl h where
-  go : (p : Bool) → (v == 1) ≡ p → (q : Bool) → (v == 2) ≡ q → (p || q) ≡ true → (v ≡ 1) ⊎ (v ≡ 2)
-  go true e q f g = inl (grind (arith, e))
-  go false e true f g = inr (grind (arith, f))
-  go false e false f g = absurd cc
+scsi_3 : form_of (codes "scsi 3") ≡ Some (scsi_line 3)
+unfolding scsi_at exactly_at after
+scsi_3 = refl
+
+is_version : (v : ℕ) → IsVersion v → (v ≡ 1) ⊎ ((v ≡ 2) ⊎ (v ≡ 3))
+is_version v h = go (v == 1) refl (v == 2) refl (v == 3) refl h where
+  go : (p : Bool) → (v == 1) ≡ p → (q : Bool) → (v == 2) ≡ q → (r : Bool) → (v == 3) ≡ r → (p || (q || r)) ≡ true
+      → (v ≡ 1) ⊎ ((v ≡ 2) ⊎ (v ≡ 3))
+  go true e q f r g h = inl (grind (arith, e))
+  go false e true f r g h = inr (inl (grind (arith, f)))
+  go false e false f true g h = inr (inr (grind (arith, g)))
+  go false e false f false g h = absurd cc
 
 scsi_again : (v : ℕ) → IsVersion v → form_of (said_text (scsi_line v)) ≡ Some (scsi_line v)
 scsi_again v h = elim (is_version v h) [
   | inl e ↦ subst (λ (w : ℕ). form_of (said_text (scsi_line w)) ≡ Some (scsi_line w)) (sym e) scsi_1
-  | inr e ↦ subst (λ (w : ℕ). form_of (said_text (scsi_line w)) ≡ Some (scsi_line w)) (sym e) scsi_2
+  | inr f ↦ elim f [
+    | inl e ↦ subst (λ (w : ℕ). form_of (said_text (scsi_line w)) ≡ Some (scsi_line w)) (sym e) scsi_2
+    | inr e ↦ subst (λ (w : ℕ). form_of (said_text (scsi_line w)) ≡ Some (scsi_line w)) (sym e) scsi_3
+  ]
 ]
 
 -- What has a spelling is read from it.
 pub form_again : (x : Said) → IsSpelled x → form_of (said_text x) ≡ Some x
-unfolding after numbered_at exactly_at scsi_at initiator_at target_at unit_at fill_at cmd_at abort_at reset_at fault_at
-    end_at initiator_text host_sync_text target_text target_disc_text target_seek_text unit_text fill_text cmd_text
-    cmd_tag_text abort_text reset_text fault_text
+unfolding after numbered_at exactly_at scsi_at initiator_at target_at unit_at fill_at tape_at load_at cmd_at abort_at
+    reset_at fault_at end_at initiator_text host_sync_text target_text target_disc_text target_seek_text unit_text
+    fill_text tape_text load_text cmd_text cmd_tag_text abort_text reset_text fault_text
 form_again (scsi_line v) h = scsi_again v h
 form_again (initiator_line f) h = ap (λ (o : Option Said). or (or o None) None) (initiator_again f h)
 form_again (target_line f) h = ap (λ (o : Option Said). or (or o None) None) (target_again f h)
 form_again (unit_line f) h = ap (λ (o : Option Said). or (or o None) None) (unit_again f h)
-form_again (fill_line f) h = ap (λ (o : Option Said). or o None) (fill_again f h)
+form_again (fill_line f) h = ap (λ (o : Option Said). or (or o None) None) (fill_again f h)
+form_again (tape_line f) h = ap (λ (o : Option Said). or (or o None) None) (tape_again f h)
+form_again (load_line f) h = ap (λ (o : Option Said). or o None) (load_again f h)
 form_again (cmd_line f) h = ap (λ (o : Option Said). or o None) (cmd_again f h)
 form_again (abort_line f) h = ap (λ (o : Option Said). or o None) (abort_again f h)
 form_again (reset_line f) h = ap (λ (o : Option Said). or o None) (reset_again f h)

@@ -1,6 +1,7 @@
--- A block more in the set of the fills.
-use Rattle.std.proofs.Common.{◌≡◌, ℕ, Bool, true, false, ◌||◌, ◌&&◌, List, [], ◌∷◌, ◌++◌, refl, sym, ap, ◌∙◌}
-use Rattle.std.specs.Prelude.{◌==◌}
+-- A block more in the set of the fills, and the counts of the loads at the start.
+use Rattle.std.proofs.Common.{◌≡◌, ℕ, ◌+◌, ◌*◌, Bool, true, false, ◌||◌, ◌&&◌, List, [], ◌∷◌, ◌++◌, refl, sym, ap, ◌∙◌}
+use Rattle.std.proofs.Common.{arith}
+use Rattle.std.specs.Prelude.{◌==◌, replicate}
 use Rattle.std.specs.List.{list_any}
 use Rattle.std.specs.BTreeSet.{insert_key}
 use Rattle.std.specs.declared.cmp.Ordering.{Ordering}
@@ -9,7 +10,10 @@ use Rattle.std.specs.Ordering.{match_ordering, ordering_then, nat_cmp}
 use Rattle.std.proofs.lemmas.Map.Lookups.{CmpEqualImpliesEq, exact_pairs, exact_unsigned}
 use Rattle.std.proofs.lemmas.List.Folds.{list_any-append}
 use Rattle.scenario.specs.declared.value.FillDef.{FillDef as Fill}
-use Rattle.scenario.specs.Lookups.{has_fill}
+use Rattle.std.proofs.lemmas.List.{get_or-replicate}
+use Rattle.scenario.specs.Value.{ScenarioValue, nothing_said}
+use Rattle.scenario.specs.Index.{IsCountOf}
+use Rattle.scenario.specs.Lookups.{has_fill, loads_at}
 use Rattle.bus_base.proofs.Tests.{or_swapped}
 
 again : (b c : Bool) → (b || c) ≡ (b || (b || c))
@@ -51,3 +55,8 @@ pub has-push : (fills : List Fill) (f : Fill) (t u l : ℕ)
     → has_fill (fills ++ f ∷ []) t u l ≡ (((f.target == t && f.unit == u) && f.lba == l) || has_fill fills t u l)
 has-push fills f t u l = list_any-append (λ (g : Fill). (g.target == t && g.unit == u) && g.lba == l) fills (f ∷ [])
     ∙ sym (or_last ((f.target == t && f.unit == u) && f.lba == l) (has_fill fills t u l))
+
+-- No tape has an object before the first line.
+pub none_loaded : (s : ScenarioValue) → s ≡ nothing_said → IsCountOf (replicate 64 0) s.loads
+none_loaded s e = λ t u target unit. get_or-replicate 64 (t * 8 + u) 0 0 (omega arith)
+    ∙ sym (ap (λ (v : ScenarioValue). loads_at v.loads t u) e)

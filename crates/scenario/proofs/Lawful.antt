@@ -7,6 +7,10 @@ use Rattle.scenario.specs.declared.value.HostDef.{HostDef}
 use Rattle.scenario.specs.declared.value.TargetDef.{TargetDef}
 use Rattle.scenario.specs.declared.value.UnitDef.{UnitDef}
 use Rattle.scenario.specs.declared.value.FillDef.{FillDef}
+use Rattle.scenario.specs.declared.value.TapeDef.{TapeDef}
+use Rattle.scenario.specs.declared.value.Load.{Load}
+use Rattle.scenario.specs.declared.value.Load.TheVariants as loads
+use Rattle.scenario.specs.declared.value.LoadDef.{LoadDef}
 use Rattle.scenario.specs.declared.value.Payload.{Payload}
 use Rattle.scenario.specs.declared.value.Payload.TheVariants as payloads
 use Rattle.scenario.specs.declared.value.CmdDef.{CmdDef}
@@ -14,29 +18,32 @@ use Rattle.scenario.specs.declared.value.AbortDef.{AbortDef}
 use Rattle.scenario.specs.declared.value.ResetDef.{ResetDef}
 use Rattle.scenario.specs.declared.value.FaultDef.{FaultDef}
 use Rattle.scenario.specs.Value.{ScenarioValue}
-use Rattle.scenario.specs.Forms.{Said, scsi_line, initiator_line, target_line, unit_line, fill_line, cmd_line}
-use Rattle.scenario.specs.Forms.{abort_line, reset_line, fault_line, end_line}
+use Rattle.scenario.specs.Forms.{Said, scsi_line, initiator_line, target_line, unit_line, fill_line, tape_line}
+use Rattle.scenario.specs.Forms.{load_line, cmd_line, abort_line, reset_line, fault_line, end_line}
 use Rattle.scenario.specs.Reading.{Progress, guard, host_def, target_def, unit_def, fill_def, full_cmd_def, abort_def}
+use Rattle.scenario.specs.Reading.{tape_def, load_def}
 use Rattle.scenario.specs.Reading.{reset_def, fault_def, fits_version, added, said_after, in_order, rank, kind_of}
 use Rattle.scenario.specs.Reading.{nothing, scenario_of, is_end}
-use Rattle.scenario.specs.Writing.{saids, body_of, events_of, text_of, built, Obeys, IsHex, IsHexPayload, said_payload}
-use Rattle.scenario.specs.Writing.{said_host, said_target, said_unit, said_fill, said_cmd, said_abort, said_reset}
-use Rattle.scenario.specs.Writing.{said_fault}
+use Rattle.scenario.specs.Writing.{saids, body_of, events_of, text_of, built, ObeysText, IsHex, IsHexPayload}
+use Rattle.scenario.specs.Writing.{said_payload, said_host, said_target, said_unit, said_fill, said_cmd, said_abort}
+use Rattle.scenario.specs.Writing.{said_reset, said_fault, said_tape, said_object, said_load, IsHexLoad}
 use Rattle.scenario.proofs.FormsAgain.{IsVersion, IsSpelled}
-use Rattle.scenario.proofs.PartsAgain.{IsSpelledPayload}
+use Rattle.scenario.proofs.PartsAgain.{IsSpelledObject, IsSpelledPayload}
 use Rattle.scenario.proofs.Again.{AreSpelled, text_again}
 use Rattle.scenario.proofs.Steps.{bind_ok, ok_is, guard_ok}
 use Rattle.scenario.proofs.Declared.{host_declared, target_declared, unit_declared, fill_declared, full_cmd_declared}
-use Rattle.scenario.proofs.Declared.{abort_declared, reset_declared, fault_declared}
+use Rattle.scenario.proofs.Declared.{tape_declared, load_declared, abort_declared, reset_declared, fault_declared}
 
 -- What a line tells can be spelled, but for its numbers.
 abbrev pub CanSay : Said → Type 0
 CanSay (scsi_line v) = IsVersion v
 CanSay (fill_line f) = IsHex f.bytes
+CanSay (load_line f) = IsSpelledObject f.what
 CanSay (cmd_line c) = IsHex c.cdb × IsSpelledPayload c.payload
 CanSay (initiator_line f) = Unit {0}
 CanSay (target_line f) = Unit {0}
 CanSay (unit_line f) = Unit {0}
+CanSay (tape_line f) = Unit {0}
 CanSay (abort_line f) = Unit {0}
 CanSay (reset_line f) = Unit {0}
 CanSay (fault_line f) = Unit {0}
@@ -58,6 +65,12 @@ spelled_added d e (unit_line x) f h ok =
 spelled_added d e (fill_line x) f h ok =
     let a = bind_ok (fill_def d.scenario x) _ e ok in
     (fill_declared d.scenario x a.0 h a.1).spelled
+spelled_added d e (tape_line x) f h ok =
+    let a = bind_ok (tape_def d.scenario x) _ e ok in
+    (tape_declared d.scenario x a.0 a.1).spelled
+spelled_added d e (load_line x) f h ok =
+    let a = bind_ok (load_def d.scenario x) _ e ok in
+    (load_declared d.scenario x a.0 h a.1).spelled
 spelled_added d e (cmd_line x) f h ok =
     let a = bind_ok (full_cmd_def d.scenario d.needs x) _ e ok in
     (full_cmd_declared d.scenario d.needs x a.0 h.0 h.1 a.1).spelled
@@ -127,6 +140,18 @@ fills_can : (xs : List FillDef) → AllByRecursion (λ f. IsHex f.bytes) xs → 
 fills_can [] h = tt
 fills_can (x ∷ xs) h = (h.0, fills_can xs h.1)
 
+tapes_can : (xs : List TapeDef) → AllByRecursion CanSay (map said_tape xs)
+tapes_can [] = tt
+tapes_can (x ∷ xs) = (tt, tapes_can xs)
+
+load_can : (l : Load) → IsHexLoad l → IsSpelledObject (said_object l)
+load_can (loads.Block bytes) h = h
+load_can loads.Mark h = tt
+
+loads_can : (xs : List LoadDef) → AllByRecursion (λ l. IsHexLoad l.what) xs → AllByRecursion CanSay (map said_load xs)
+loads_can [] h = tt
+loads_can (x ∷ xs) h = (load_can x.what h.0, loads_can xs h.1)
+
 payload_can : (p : Payload) → IsHexPayload p → IsSpelledPayload (said_payload p)
 payload_can payloads.Nothing h = tt
 payload_can (payloads.Hex bytes) h = h
@@ -149,7 +174,7 @@ faults_can : (xs : List FaultDef) → AllByRecursion CanSay (map said_fault xs)
 faults_can [] = tt
 faults_can (x ∷ xs) = (tt, faults_can xs)
 
-saids_can : (s : ScenarioValue) → Obeys s → AllByRecursion CanSay (saids s)
+saids_can : (s : ScenarioValue) → ObeysText s → AllByRecursion CanSay (saids s)
 saids_can s h =
     let events : AllByRecursion CanSay (events_of s) = append_all CanSay (map said_cmd s.commands) _
     (cmds_can s.commands h.commands) (append_all CanSay (map said_abort s.aborts) _ (aborts_can s.aborts)
@@ -157,10 +182,11 @@ saids_can s h =
     let body : AllByRecursion CanSay (body_of s) = append_all CanSay (map (said_host s.version) s.hosts) _
     (hosts_can s.version s.hosts) (append_all CanSay (map (said_target s.version) s.targets) _
     (targets_can s.version s.targets) (append_all CanSay (map said_unit s.units) _ (units_can s.units)
-    (append_all CanSay (map said_fill s.fills) _ (fills_can s.fills h.fills) events))) in
+    (append_all CanSay (map said_fill s.fills) _ (fills_can s.fills h.fills) (append_all CanSay (map said_tape s.tapes)
+    _ (tapes_can s.tapes) (append_all CanSay (map said_load s.loads) _ (loads_can s.loads h.loads) events))))) in
     (h.version, append_all CanSay (body_of s) (end_line ∷ []) body (tt, tt))
 
-pub read_back : (s : ScenarioValue) → Obeys s → scenario_of (text_of s) ≡ Ok s
+pub read_back : (s : ScenarioValue) → ObeysText s → scenario_of (text_of s) ≡ Ok s
 read_back s h =
     let b = bind_ok (built nothing (saids s)) (λ (d : Progress). Ok d.scenario) s h.lawful in
     let spelled = are_spelled (saids s) nothing b.0 (saids_can s h) b.1 in

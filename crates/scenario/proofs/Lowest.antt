@@ -11,10 +11,9 @@ use Rattle.scenario.specs.declared.bounds.TheConstants.{TIME_LIMIT, LATENCY_LIMI
 use Rattle.scenario.specs.declared.bounds.TheConstants.{LEAST_FACTOR, FACTOR_LIMIT, HOST_OFFSET_LIMIT}
 use Rattle.scenario.specs.declared.bounds.TheConstants.{TARGET_OFFSET_LIMIT, TAG_LIMIT, LAG_LIMIT, SEEK_LIMIT}
 use Rattle.scenario.specs.declared.bounds.TheConstants.{BURST_LIMIT, BLOCK_LIMIT, LEAST_SIZE, SIZE_LIMIT, DEPTH_LIMIT}
-use Rattle.scenario.specs.declared.bounds.TheConstants.{FAULT_LIMIT}
+use Rattle.scenario.specs.declared.bounds.TheConstants.{FAULT_LIMIT, OBJECT_LIMIT}
 use Rattle.scenario.specs.declared.value.Policy.{Policy}
 use Rattle.scenario.specs.declared.value.Policy.TheVariants as policies
-use Rattle.scenario.specs.declared.value.UnitDef.{UnitDef}
 use Rattle.scenario.specs.declared.form.PolicyForm.{PolicyForm}
 use Rattle.scenario.specs.declared.form.PolicyForm.TheVariants as policy_forms
 use Rattle.scenario.specs.declared.form.TagForm.{TagForm}
@@ -24,17 +23,19 @@ use Rattle.scenario.specs.declared.form.WhatForm.TheVariants as whats
 use Rattle.scenario.specs.declared.value.CmdDef.{CmdDef}
 use Rattle.scenario.specs.declared.value.Tag.TheVariants as tags
 use Rattle.scenario.specs.Value.{ScenarioValue}
-use Rattle.scenario.specs.Lookups.{has_target, has_device, unit_of, has_fill}
+use Rattle.scenario.specs.Lookups.{has_target, has_device, unit_of, tape_of, has_fill, loads_at}
 use Rattle.scenario.specs.Needs.{need_of, sent_of}
-use Rattle.scenario.specs.Forms.{Said, CmdSaid, scsi_line, initiator_line, target_line, unit_line, fill_line, cmd_line}
-use Rattle.scenario.specs.Forms.{abort_line, reset_line, fault_line, end_line, form_of}
+use Rattle.scenario.specs.Forms.{Said, CmdSaid, scsi_line, initiator_line, target_line, unit_line, fill_line}
+use Rattle.scenario.specs.Forms.{tape_line, load_line, cmd_line, abort_line, reset_line, fault_line, end_line, form_of}
 use Rattle.scenario.specs.Reading.{Progress, ◌>>=◌, guard, within, period_in, is_size, size_in, policy_in, tag_in}
 use Rattle.scenario.specs.Reading.{what_in, is_block, found, is_block_of, are_ends, payload_of, is_payload, has_room}
 use Rattle.scenario.specs.Reading.{has_abort_room, host_def, target_def, unit_def, fill_def, cmd_def, full_cmd_def}
+use Rattle.scenario.specs.Reading.{tape_def, load_of, fits_tape, load_def}
 use Rattle.scenario.specs.Reading.{abort_def, reset_def, fault_def, added, said_after, line_after, formed, fits_version}
 use Rattle.scenario.specs.Reading.{in_order, rank, kind_of, is_printable, is_skipped}
 use Rattle.scenario.specs.Reasons.{is_in, value, is_period, is_block_size, is_policy, is_tag, is_what, tag_value}
-use Rattle.scenario.specs.Reasons.{cmd_value, keeps_limits, is_block_in, reason_added, reason_said, reason_formed}
+use Rattle.scenario.specs.Reasons.{cmd_value, keeps_limits, fits_on, is_block_in, reason_added, reason_said}
+use Rattle.scenario.specs.Reasons.{reason_formed}
 use Rattle.scenario.specs.Reasons.{reason_of, refused}
 
 -- ---- Bool
@@ -105,8 +106,8 @@ refused_then : {A B : Type 0} (r : Result A ℕ) (f : A → B) (x : Option ℕ) 
 refused_then (Ok y) f x h = h
 refused_then (Err r) f x h = h
 
-refused_found : {A : Type 0} (o : Option UnitDef) (f : UnitDef → Result A ℕ) (t : Option UnitDef → Bool)
-    → ((u : UnitDef) → refused (f u) ≡ cond (not (t (Some u))) (Some 7) None)
+refused_found : {A B : Type 0} (o : Option A) (f : A → Result B ℕ) (t : Option A → Bool)
+    → ((u : A) → refused (f u) ≡ cond (not (t (Some u))) (Some 7) None)
     → refused (found o >>= f) ≡ cond (is_none o) (Some 6) (cond (not (t o)) (Some 7) None)
 refused_found None f t h = refl
 refused_found (Some u) f t h = h u
@@ -207,7 +208,8 @@ lowest_cmd d c = refused_then (full_cmd_def d.scenario d.needs c) _ _
     (refused_guard 8 (has_room d.scenario d.needs (need_of d.scenario (cmd_value c))) _ None refl)))
 
 lowest_added : (d : Progress) (x : Said) → refused (added d x) ≡ reason_added d x
-unfolding added reason_added host_def target_def unit_def fill_def cmd_def full_cmd_def abort_def reset_def fault_def
+unfolding added reason_added host_def target_def unit_def fill_def tape_def load_def cmd_def full_cmd_def abort_def
+    reset_def fault_def
 lowest_added d (scsi_line v) = refl
 lowest_added d (initiator_line f) = refused_then (host_def d.scenario f) _ _
     (step _ _ _ _ _ _ (within_is f.device 0 7) (step _ _ _ _ _ _ (within_is f.latency 0 LATENCY_LIMIT)
@@ -228,6 +230,15 @@ lowest_added d (fill_line f) = refused_then (fill_def d.scenario f) _ _ (step _ 
     (refused_not 5 (has_fill d.scenario.fills (value f.target) (value f.unit) (value f.lba)) _ _
     (refused_found (unit_of d.scenario (value f.target) (value f.unit)) _ (λ o. is_block_in o (value f.lba) f.bytes)
     (λ u. refused_guard 7 (is_block_of u (value f.lba) f.bytes) _ None refl))))))
+lowest_added d (tape_line f) = refused_then (tape_def d.scenario f) _ _ (step _ _ _ _ _ _ (within_is f.target 0 7)
+    (step _ _ _ _ _ _ (within_is f.unit 0 7) (step _ _ _ _ _ _ (within_is f.objects 1 OBJECT_LIMIT) (step _ _ _ _ _ _
+    (size_is f.size) (last _ _ _ _ _ (within_is f.depth 1 DEPTH_LIMIT) (refused_not 5 (is_some (unit_of d.scenario
+    (value f.target) (value f.unit))) _ _ (refused_guard 6 (has_target d.scenario (value f.target)) _ None refl)))))))
+lowest_added d (load_line f) = refused_then (load_def d.scenario f) _ _ (step _ _ _ _ _ _ (within_is f.target 0 7)
+    (last _ _ _ _ _ (within_is f.unit 0 7) (refused_found (tape_of d.scenario (value f.target) (value f.unit)) _
+    (λ o. fits_on o (loads_at d.scenario.loads (value f.target) (value f.unit)) (load_of f.what))
+    (λ t. refused_guard 7 (fits_tape t (loads_at d.scenario.loads (value f.target) (value f.unit)) (load_of f.what)) _
+    None refl))))
 lowest_added d (cmd_line c) = lowest_cmd d c
 lowest_added d (abort_line f) = refused_then (abort_def d.scenario f) _ _ (step _ _ _ _ _ _
     (within_is f.host 0 7) (step _ _ _ _ _ _ (within_is f.target 0 7) (step _ _ _ _ _ _ (within_is f.unit 0 7)

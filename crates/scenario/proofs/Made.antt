@@ -193,7 +193,7 @@ needs_few seed (suc n) =
     let need = need_made seed n (suc n) (spread seed (suc n)) (spread_small seed (suc n)) in
     omega (arith, before, need)
 
-cmd_order : (n : ℕ) → in_order (rank (last_after n)) 6 ≡ true
+cmd_order : (n : ℕ) → in_order (rank (last_after n)) 8 ≡ true
 unfolding last_after
 cmd_order zero = refl
 cmd_order (suc n) = refl
@@ -203,7 +203,7 @@ cmd_after : (seed n : ℕ) → n < COMMAND_LIMIT
 unfolding said_after added last_after needs_after
 cmd_after seed n room =
     let few = needs_few seed n in
-    bound (guard 3 (in_order (rank (last_after n)) 6)) tt _ _ (ap (guard 3) (cmd_order n))
+    bound (guard 3 (in_order (rank (last_after n)) 8)) tt _ _ (ap (guard 3) (cmd_order n))
     (bound (full_cmd_def (made seed n) (needs_after seed n) (cmd_form (made_command seed (suc n)))
     >>= λ def. Ok (record (so_far seed n) {
       scenario = record (made seed n) { commands = made_commands seed n ++ def ∷ [] };
@@ -223,7 +223,7 @@ commands_after seed (suc n) h =
     ∙ bound (said_after (so_far seed n) (said_cmd (made_command seed (suc n)))) (so_far seed (suc n)) _ _
     (cmd_after seed n (omega arith)) refl
 
-end_order : (n : ℕ) → in_order (rank (last_after n)) 10 ≡ true
+end_order : (n : ℕ) → in_order (rank (last_after n)) 12 ≡ true
 unfolding last_after
 end_order zero = refl
 end_order (suc n) = refl
@@ -231,7 +231,7 @@ end_order (suc n) = refl
 end_after : (seed n : ℕ) → said_after (so_far seed n) end_line ≡ Ok (record (so_far seed n) { last = kinds.End })
 unfolding said_after added
 end_after seed n =
-    bound (guard 3 (in_order (rank (last_after n)) 10)) tt _ _ (ap (guard 3) (end_order n)) refl
+    bound (guard 3 (in_order (rank (last_after n)) 12)) tt _ _ (ap (guard 3) (end_order n)) refl
 
 rest_after : (seed n : ℕ) → n ≤ COMMAND_LIMIT
     → built (so_far seed 0) ((map said_cmd (made_commands seed n) ++ []) ++ end_line ∷ [])
@@ -374,9 +374,13 @@ commands_hex seed (suc n) =
 
 pub made_obeys : (seed n : ℕ) → n ≤ COMMAND_LIMIT → Obeys (made seed n)
 made_obeys seed n h = record {
-  version = refl;
-  lawful = ap told_scenario (all_after seed n ∙ rest_after seed n h);
-  fills = tt;
-  commands = commands_hex seed n;
-  limit = text_len seed n h;
+  text = record {
+    version = refl;
+    lawful = ap told_scenario (all_after seed n ∙ rest_after seed n h);
+    fills = tt;
+    loads = tt;
+    commands = commands_hex seed n;
+    limit = text_len seed n h;
+  };
+  tapes = refl;
 }

@@ -15,6 +15,10 @@ use Rattle.scenario.specs.declared.value.HostDef.{HostDef}
 use Rattle.scenario.specs.declared.value.TargetDef.{TargetDef}
 use Rattle.scenario.specs.declared.value.UnitDef.{UnitDef}
 use Rattle.scenario.specs.declared.value.FillDef.{FillDef}
+use Rattle.scenario.specs.declared.value.TapeDef.{TapeDef}
+use Rattle.scenario.specs.declared.value.Load.{Load}
+use Rattle.scenario.specs.declared.value.Load.TheVariants as loads
+use Rattle.scenario.specs.declared.value.LoadDef.{LoadDef}
 use Rattle.scenario.specs.declared.value.CmdDef.{CmdDef}
 use Rattle.scenario.specs.declared.value.AbortDef.{AbortDef}
 use Rattle.scenario.specs.declared.value.ResetDef.{ResetDef}
@@ -26,20 +30,23 @@ use Rattle.scenario.specs.declared.kind.Kind.TheVariants as kinds
 use Rattle.scenario.specs.declared.fault.Bad.{Bad}
 use Rattle.scenario.specs.Value.{ScenarioValue, nothing_said}
 use Rattle.scenario.specs.Needs.{need_of, sent_of}
-use Rattle.scenario.specs.Forms.{Said, scsi_line, initiator_line, target_line, unit_line, fill_line, cmd_line}
+use Rattle.scenario.specs.Forms.{Said, scsi_line, initiator_line, target_line, unit_line, fill_line, tape_line}
+use Rattle.scenario.specs.Forms.{load_line, cmd_line}
 use Rattle.scenario.specs.Forms.{abort_line, reset_line, fault_line, end_line, form_of}
-use Rattle.scenario.specs.Reading.{Progress, ◌>>=◌, guard, host_def, target_def, unit_def, fill_def, cmd_def}
+use Rattle.scenario.specs.Reading.{Progress, ◌>>=◌, guard, host_def, target_def, unit_def, fill_def, tape_def}
+use Rattle.scenario.specs.Reading.{load_def, cmd_def}
 use Rattle.scenario.specs.Reading.{is_payload, has_room, full_cmd_def, abort_def, reset_def, fault_def, with_scenario}
 use Rattle.scenario.specs.Reading.{added, said_after, fits_version, line_after, formed, is_printable, is_skipped}
 use Rattle.scenario.specs.Reading.{in_order, rank, kind_of, nothing, scenario_of, read_from, and_then, is_end, Answers}
-use Rattle.scenario.specs.Writing.{saids, body_of, events_of, text_of, built, told_scenario, Obeys, IsHex, IsHexPayload}
+use Rattle.scenario.specs.Writing.{saids, body_of, events_of, text_of, built, told_scenario, ObeysText, IsHex}
+use Rattle.scenario.specs.Writing.{IsHexLoad, IsHexPayload, said_tape, said_object, said_load}
 use Rattle.scenario.specs.Writing.{said_payload, said_host, said_target, said_unit, said_fill, said_cmd, said_abort}
 use Rattle.scenario.specs.Writing.{said_reset, said_fault, said_line, said_text}
-use Rattle.scenario.proofs.PartsAgain.{IsSpelledPayload}
+use Rattle.scenario.proofs.PartsAgain.{IsSpelledObject, IsSpelledPayload}
 use Rattle.scenario.proofs.FormsAgain.{IsVersion}
 use Rattle.scenario.proofs.Steps.{bind_ok, ok_is, guard_ok}
 use Rattle.scenario.proofs.Declared.{host_declared, target_declared, unit_declared, fill_declared, full_cmd_declared}
-use Rattle.scenario.proofs.Declared.{abort_declared, reset_declared, fault_declared}
+use Rattle.scenario.proofs.Declared.{tape_declared, load_declared, abort_declared, reset_declared, fault_declared}
 use Rattle.scenario.proofs.Lawful.{CanSay, taken, spelled_after, append_all, read_back}
 use Rattle.scenario.proofs.Only.{form_only}
 use Rattle.bus_base.proofs.Tests.{all_with}
@@ -52,6 +59,8 @@ saids_at kinds.Initiator s = scsi_line s.version ∷ body_of s
 saids_at kinds.Target s = scsi_line s.version ∷ body_of s
 saids_at kinds.Unit s = scsi_line s.version ∷ body_of s
 saids_at kinds.Fill s = scsi_line s.version ∷ body_of s
+saids_at kinds.Tape s = scsi_line s.version ∷ body_of s
+saids_at kinds.Load s = scsi_line s.version ∷ body_of s
 saids_at kinds.Cmd s = scsi_line s.version ∷ body_of s
 saids_at kinds.Abort s = scsi_line s.version ∷ body_of s
 saids_at kinds.Reset s = scsi_line s.version ∷ body_of s
@@ -64,10 +73,12 @@ pub record AreEmpty (r : ℕ) (s : ScenarioValue) : Type 0 where
   targets : r < 3 → s.targets ≡ []
   units : r < 4 → s.units ≡ []
   fills : r < 5 → s.fills ≡ []
-  commands : r < 6 → s.commands ≡ []
-  aborts : r < 7 → s.aborts ≡ []
-  resets : r < 8 → s.resets ≡ []
-  faults : r < 9 → s.faults ≡ []
+  tapes : r < 6 → s.tapes ≡ []
+  loads : r < 7 → s.loads ≡ []
+  commands : r < 8 → s.commands ≡ []
+  aborts : r < 9 → s.aborts ≡ []
+  resets : r < 10 → s.resets ≡ []
+  faults : r < 11 → s.faults ≡ []
 
 -- The commands need what was counted, each and all within the limits.
 pub record HasNeeds (d : Progress) : Type 0 where
@@ -92,6 +103,8 @@ middle kinds.Initiator s r lt o = refl
 middle kinds.Target s r lt o = refl
 middle kinds.Unit s r lt o = refl
 middle kinds.Fill s r lt o = refl
+middle kinds.Tape s r lt o = refl
+middle kinds.Load s r lt o = refl
 middle kinds.Cmd s r lt o = refl
 middle kinds.Abort s r lt o = refl
 middle kinds.Reset s r lt o = refl
@@ -106,6 +119,8 @@ first kinds.Initiator s o = absurd cc
 first kinds.Target s o = absurd cc
 first kinds.Unit s o = absurd cc
 first kinds.Fill s o = absurd cc
+first kinds.Tape s o = absurd cc
+first kinds.Load s o = absurd cc
 first kinds.Cmd s o = absurd cc
 first kinds.Abort s o = absurd cc
 first kinds.Reset s o = absurd cc
@@ -114,62 +129,91 @@ first kinds.End s o = absurd cc
 
 rises : (last next : ℕ) → 1 < next → in_order last next ≡ true → (0 < last) × (last ≤ next)
 rises last next lt o = go (last == 0) refl o where
-  go : (q : Bool) → (last == 0) ≡ q → cond q (next == 1) ((nat_lt 1 next && nat_le last next) && nat_lt last 10) ≡ true
+  go : (q : Bool) → (last == 0) ≡ q → cond q (next == 1) ((nat_lt 1 next && nat_le last next) && nat_lt last 12) ≡ true
       → (0 < last) × (last ≤ next)
   go true e h = absurd (grind (arith, nat_tests))
   go false e h = (grind (arith, nat_tests), grind (arith, nat_tests))
 
-abbrev body : ℕ → List HostDef → List TargetDef → List UnitDef → List FillDef → List CmdDef → List AbortDef
-    → List ResetDef → List FaultDef → List Said
-body v hs ts us fs cs bs rs xs = map (said_host v) hs ++ (map (said_target v) ts ++ (map said_unit us
-    ++ (map said_fill fs ++ (map said_cmd cs ++ (map said_abort bs ++ (map said_reset rs ++ (map said_fault xs)))))))
+abbrev body : ℕ → List HostDef → List TargetDef → List UnitDef → List FillDef → List TapeDef → List LoadDef
+    → List CmdDef → List AbortDef → List ResetDef → List FaultDef → List Said
+body v hs ts us fs ps ls cs bs rs xs = map (said_host v) hs
+    ++ (map (said_target v) ts ++ (map said_unit us ++ (map said_fill fs ++ (map said_tape ps
+    ++ (map said_load ls ++ (map said_cmd cs ++ (map said_abort bs ++ (map said_reset rs ++ (map said_fault xs)))))))))
 
-hosts_end : (v : ℕ) (hs : List HostDef) (ts : List TargetDef) (us : List UnitDef) (fs : List FillDef)
-    (cs : List CmdDef) (bs : List AbortDef) (rs : List ResetDef) (xs : List FaultDef) (d : HostDef)
-    → ts ≡ [] → us ≡ [] → fs ≡ [] → cs ≡ [] → bs ≡ [] → rs ≡ [] → xs ≡ []
-    → body v (hs ++ d ∷ []) ts us fs cs bs rs xs ≡ body v hs ts us fs cs bs rs xs ++ said_host v d ∷ []
-hosts_end v hs ts us fs cs bs rs xs d ets eus efs ecs ebs ers exs =
-    rw (ets, eus, efs, ecs, ebs, ers, exs) (simp (map-append, append-nil, append_assoc))
+hosts_end :
+    (v : ℕ) (hs : List HostDef) (ts : List TargetDef) (us : List UnitDef) (fs : List FillDef) (ps : List TapeDef)
+    (ls : List LoadDef) (cs : List CmdDef) (bs : List AbortDef) (rs : List ResetDef) (xs : List FaultDef) (d : HostDef)
+    → ts ≡ [] → us ≡ [] → fs ≡ [] → ps ≡ [] → ls ≡ [] → cs ≡ [] → bs ≡ [] → rs ≡ [] → xs ≡ []
+    → body v (hs ++ d ∷ []) ts us fs ps ls cs bs rs xs ≡ body v hs ts us fs ps ls cs bs rs xs ++ said_host v d ∷ []
+hosts_end v hs ts us fs ps ls cs bs rs xs d ets eus efs eps els ecs ebs ers exs =
+    rw (ets, eus, efs, eps, els, ecs, ebs, ers, exs) (simp (map-append, append-nil))
 
 targets_end : (v : ℕ) (hs : List HostDef) (ts : List TargetDef) (us : List UnitDef) (fs : List FillDef)
-    (cs : List CmdDef) (bs : List AbortDef) (rs : List ResetDef) (xs : List FaultDef) (d : TargetDef)
-    → us ≡ [] → fs ≡ [] → cs ≡ [] → bs ≡ [] → rs ≡ [] → xs ≡ []
-    → body v hs (ts ++ d ∷ []) us fs cs bs rs xs ≡ body v hs ts us fs cs bs rs xs ++ said_target v d ∷ []
-targets_end v hs ts us fs cs bs rs xs d eus efs ecs ebs ers exs =
-    rw (eus, efs, ecs, ebs, ers, exs) (simp (map-append, append-nil, append_assoc))
+    (ps : List TapeDef) (ls : List LoadDef) (cs : List CmdDef) (bs : List AbortDef) (rs : List ResetDef)
+    (xs : List FaultDef) (d : TargetDef) → us ≡ [] → fs ≡ [] → ps ≡ [] → ls ≡ [] → cs ≡ [] → bs ≡ [] → rs ≡ [] → xs ≡ []
+    → body v hs (ts ++ d ∷ []) us fs ps ls cs bs rs xs ≡ body v hs ts us fs ps ls cs bs rs xs ++ said_target v d ∷ []
+targets_end v hs ts us fs ps ls cs bs rs xs d eus efs eps els ecs ebs ers exs =
+    rw (eus, efs, eps, els, ecs, ebs, ers, exs) (simp (map-append, append-nil, append_assoc))
 
-units_end : (v : ℕ) (hs : List HostDef) (ts : List TargetDef) (us : List UnitDef) (fs : List FillDef)
-    (cs : List CmdDef) (bs : List AbortDef) (rs : List ResetDef) (xs : List FaultDef) (d : UnitDef)
-    → fs ≡ [] → cs ≡ [] → bs ≡ [] → rs ≡ [] → xs ≡ []
-    → body v hs ts (us ++ d ∷ []) fs cs bs rs xs ≡ body v hs ts us fs cs bs rs xs ++ said_unit d ∷ []
-units_end v hs ts us fs cs bs rs xs d efs ecs ebs ers exs =
-    rw (efs, ecs, ebs, ers, exs) (simp (map-append, append-nil, append_assoc))
+units_end :
+    (v : ℕ) (hs : List HostDef) (ts : List TargetDef) (us : List UnitDef) (fs : List FillDef) (ps : List TapeDef)
+    (ls : List LoadDef) (cs : List CmdDef) (bs : List AbortDef) (rs : List ResetDef) (xs : List FaultDef) (d : UnitDef)
+    → fs ≡ [] → ps ≡ [] → ls ≡ [] → cs ≡ [] → bs ≡ [] → rs ≡ [] → xs ≡ []
+    → body v hs ts (us ++ d ∷ []) fs ps ls cs bs rs xs ≡ body v hs ts us fs ps ls cs bs rs xs ++ said_unit d ∷ []
+units_end v hs ts us fs ps ls cs bs rs xs d efs eps els ecs ebs ers exs =
+    rw (efs, eps, els, ecs, ebs, ers, exs) (simp (map-append, append-nil, append_assoc))
 
-fills_end : (v : ℕ) (hs : List HostDef) (ts : List TargetDef) (us : List UnitDef) (fs : List FillDef) (cs : List CmdDef)
-    (bs : List AbortDef) (rs : List ResetDef) (xs : List FaultDef) (d : FillDef) → cs ≡ [] → bs ≡ [] → rs ≡ [] → xs ≡ []
-    → body v hs ts us (fs ++ d ∷ []) cs bs rs xs ≡ body v hs ts us fs cs bs rs xs ++ said_fill d ∷ []
-fills_end v hs ts us fs cs bs rs xs d ecs ebs ers exs =
+fills_end :
+    (v : ℕ) (hs : List HostDef) (ts : List TargetDef) (us : List UnitDef) (fs : List FillDef) (ps : List TapeDef)
+    (ls : List LoadDef) (cs : List CmdDef) (bs : List AbortDef) (rs : List ResetDef) (xs : List FaultDef) (d : FillDef)
+    → ps ≡ [] → ls ≡ [] → cs ≡ [] → bs ≡ [] → rs ≡ [] → xs ≡ []
+    → body v hs ts us (fs ++ d ∷ []) ps ls cs bs rs xs ≡ body v hs ts us fs ps ls cs bs rs xs ++ said_fill d ∷ []
+fills_end v hs ts us fs ps ls cs bs rs xs d eps els ecs ebs ers exs =
+    rw (eps, els, ecs, ebs, ers, exs) (simp (map-append, append-nil, append_assoc))
+
+tapes_end :
+    (v : ℕ) (hs : List HostDef) (ts : List TargetDef) (us : List UnitDef) (fs : List FillDef) (ps : List TapeDef)
+    (ls : List LoadDef) (cs : List CmdDef) (bs : List AbortDef) (rs : List ResetDef) (xs : List FaultDef) (d : TapeDef)
+    → ls ≡ [] → cs ≡ [] → bs ≡ [] → rs ≡ [] → xs ≡ []
+    → body v hs ts us fs (ps ++ d ∷ []) ls cs bs rs xs ≡ body v hs ts us fs ps ls cs bs rs xs ++ said_tape d ∷ []
+tapes_end v hs ts us fs ps ls cs bs rs xs d els ecs ebs ers exs =
+    rw (els, ecs, ebs, ers, exs) (simp (map-append, append-nil, append_assoc))
+
+loads_end :
+    (v : ℕ) (hs : List HostDef) (ts : List TargetDef) (us : List UnitDef) (fs : List FillDef) (ps : List TapeDef)
+    (ls : List LoadDef) (cs : List CmdDef) (bs : List AbortDef) (rs : List ResetDef) (xs : List FaultDef) (d : LoadDef)
+    → cs ≡ [] → bs ≡ [] → rs ≡ [] → xs ≡ []
+    → body v hs ts us fs ps (ls ++ d ∷ []) cs bs rs xs ≡ body v hs ts us fs ps ls cs bs rs xs ++ said_load d ∷ []
+loads_end v hs ts us fs ps ls cs bs rs xs d ecs ebs ers exs =
     rw (ecs, ebs, ers, exs) (simp (map-append, append-nil, append_assoc))
 
-commands_end : (v : ℕ) (hs : List HostDef) (ts : List TargetDef) (us : List UnitDef) (fs : List FillDef)
-    (cs : List CmdDef) (bs : List AbortDef) (rs : List ResetDef) (xs : List FaultDef) (d : CmdDef) → bs ≡ [] → rs ≡ []
-    → xs ≡ [] → body v hs ts us fs (cs ++ d ∷ []) bs rs xs ≡ body v hs ts us fs cs bs rs xs ++ said_cmd d ∷ []
-commands_end v hs ts us fs cs bs rs xs d ebs ers exs = rw (ebs, ers, exs) (simp (map-append, append-nil, append_assoc))
+commands_end :
+    (v : ℕ) (hs : List HostDef) (ts : List TargetDef) (us : List UnitDef) (fs : List FillDef) (ps : List TapeDef)
+    (ls : List LoadDef) (cs : List CmdDef) (bs : List AbortDef) (rs : List ResetDef) (xs : List FaultDef) (d : CmdDef)
+    → bs ≡ [] → rs ≡ [] → xs ≡ []
+    → body v hs ts us fs ps ls (cs ++ d ∷ []) bs rs xs ≡ body v hs ts us fs ps ls cs bs rs xs ++ said_cmd d ∷ []
+commands_end v hs ts us fs ps ls cs bs rs xs d ebs ers exs =
+    rw (ebs, ers, exs) (simp (map-append, append-nil, append_assoc))
 
-aborts_end : (v : ℕ) (hs : List HostDef) (ts : List TargetDef) (us : List UnitDef) (fs : List FillDef)
-    (cs : List CmdDef) (bs : List AbortDef) (rs : List ResetDef) (xs : List FaultDef) (d : AbortDef) → rs ≡ [] → xs ≡ []
-    → body v hs ts us fs cs (bs ++ d ∷ []) rs xs ≡ body v hs ts us fs cs bs rs xs ++ said_abort d ∷ []
-aborts_end v hs ts us fs cs bs rs xs d ers exs = rw (ers, exs) (simp (map-append, append-nil, append_assoc))
+aborts_end :
+    (v : ℕ) (hs : List HostDef) (ts : List TargetDef) (us : List UnitDef) (fs : List FillDef) (ps : List TapeDef)
+    (ls : List LoadDef) (cs : List CmdDef) (bs : List AbortDef) (rs : List ResetDef) (xs : List FaultDef) (d : AbortDef)
+    → rs ≡ [] → xs ≡ []
+    → body v hs ts us fs ps ls cs (bs ++ d ∷ []) rs xs ≡ body v hs ts us fs ps ls cs bs rs xs ++ said_abort d ∷ []
+aborts_end v hs ts us fs ps ls cs bs rs xs d ers exs = rw (ers, exs) (simp (map-append, append-nil, append_assoc))
 
-resets_end : (v : ℕ) (hs : List HostDef) (ts : List TargetDef) (us : List UnitDef) (fs : List FillDef)
-    (cs : List CmdDef) (bs : List AbortDef) (rs : List ResetDef) (xs : List FaultDef) (d : ResetDef)
-    → xs ≡ [] → body v hs ts us fs cs bs (rs ++ d ∷ []) xs ≡ body v hs ts us fs cs bs rs xs ++ said_reset d ∷ []
-resets_end v hs ts us fs cs bs rs xs d exs = rw exs (simp (map-append, append-nil, append_assoc))
+resets_end :
+    (v : ℕ) (hs : List HostDef) (ts : List TargetDef) (us : List UnitDef) (fs : List FillDef) (ps : List TapeDef)
+    (ls : List LoadDef) (cs : List CmdDef) (bs : List AbortDef) (rs : List ResetDef) (xs : List FaultDef) (d : ResetDef)
+    → xs ≡ []
+    → body v hs ts us fs ps ls cs bs (rs ++ d ∷ []) xs ≡ body v hs ts us fs ps ls cs bs rs xs ++ said_reset d ∷ []
+resets_end v hs ts us fs ps ls cs bs rs xs d exs = rw exs (simp (map-append, append-nil, append_assoc))
 
-faults_end : (v : ℕ) (hs : List HostDef) (ts : List TargetDef) (us : List UnitDef) (fs : List FillDef)
-    (cs : List CmdDef) (bs : List AbortDef) (rs : List ResetDef) (xs : List FaultDef) (d : FaultDef)
-    → body v hs ts us fs cs bs rs (xs ++ d ∷ []) ≡ body v hs ts us fs cs bs rs xs ++ said_fault d ∷ []
-faults_end v hs ts us fs cs bs rs xs d = (simp (map-append, append-nil, append_assoc))
+faults_end :
+    (v : ℕ) (hs : List HostDef) (ts : List TargetDef) (us : List UnitDef) (fs : List FillDef) (ps : List TapeDef)
+    (ls : List LoadDef) (cs : List CmdDef) (bs : List AbortDef) (rs : List ResetDef) (xs : List FaultDef) (d : FaultDef)
+    → body v hs ts us fs ps ls cs bs rs (xs ++ d ∷ []) ≡ body v hs ts us fs ps ls cs bs rs xs ++ said_fault d ∷ []
+faults_end v hs ts us fs ps ls cs bs rs xs d = (simp (map-append, append_assoc))
 
 -- A line more: what the lines say then, and what is still empty.
 record IsNext (k : Kind) (s t : ScenarioValue) (x : Said) : Type 0 where
@@ -189,8 +233,9 @@ next_initiator k s x def kind m version order is =
     let le = up.1 in
     let key = middle k s 2 (omega arith) order in
     let added : body_of (record s { hosts = s.hosts ++ def ∷ [] }) ≡ body_of s ++ said_host s.version def ∷ [] =
-    hosts_end s.version s.hosts s.targets s.units s.fills s.commands s.aborts s.resets s.faults def
-    (m.targets (omega arith)) (m.units (omega arith)) (m.fills (omega arith)) (m.commands (omega arith))
+    hosts_end s.version s.hosts s.targets s.units s.fills s.tapes s.loads s.commands s.aborts s.resets s.faults def
+    (m.targets (omega arith)) (m.units (omega arith)) (m.fills (omega arith))
+    (m.tapes (omega arith)) (m.loads (omega arith)) (m.commands (omega arith))
     (m.aborts (omega arith)) (m.resets (omega arith)) (m.faults (omega arith)) in
     record {
       same = ap (λ (n : Kind). saids_at n (record s { hosts = s.hosts ++ def ∷ [] })) kind
@@ -200,6 +245,8 @@ next_initiator k s x def kind m version order is =
         targets = λ h. m.targets (omega arith);
         units = λ h. m.units (omega arith);
         fills = λ h. m.fills (omega arith);
+        tapes = λ h. m.tapes (omega arith);
+        loads = λ h. m.loads (omega arith);
         commands = λ h. m.commands (omega arith);
         aborts = λ h. m.aborts (omega arith);
         resets = λ h. m.resets (omega arith);
@@ -217,9 +264,9 @@ next_target k s x def kind m version order is =
     let le = up.1 in
     let key = middle k s 3 (omega arith) order in
     let added : body_of (record s { targets = s.targets ++ def ∷ [] }) ≡ body_of s ++ said_target s.version def ∷ [] =
-    targets_end s.version s.hosts s.targets s.units s.fills s.commands s.aborts s.resets s.faults def
-    (m.units (omega arith)) (m.fills (omega arith)) (m.commands (omega arith))
-    (m.aborts (omega arith)) (m.resets (omega arith)) (m.faults (omega arith)) in
+    targets_end s.version s.hosts s.targets s.units s.fills s.tapes s.loads s.commands s.aborts s.resets s.faults def
+    (m.units (omega arith)) (m.fills (omega arith)) (m.tapes (omega arith)) (m.loads (omega arith))
+    (m.commands (omega arith)) (m.aborts (omega arith)) (m.resets (omega arith)) (m.faults (omega arith)) in
     record {
       same = ap (λ (n : Kind). saids_at n (record s { targets = s.targets ++ def ∷ [] })) kind
           ∙ (ap (λ (ys : List Said). scsi_line s.version ∷ ys) added ∙ (λ i. sym key i ++ is i ∷ []));
@@ -229,6 +276,8 @@ next_target k s x def kind m version order is =
             targets = λ h. absurd (omega arith);
             units = λ h. m.units (omega arith);
             fills = λ h. m.fills (omega arith);
+            tapes = λ h. m.tapes (omega arith);
+            loads = λ h. m.loads (omega arith);
             commands = λ h. m.commands (omega arith);
             aborts = λ h. m.aborts (omega arith);
             resets = λ h. m.resets (omega arith);
@@ -246,8 +295,9 @@ next_unit k s x def kind m version order is =
     let le = up.1 in
     let key = middle k s 4 (omega arith) order in
     let added : body_of (record s { units = s.units ++ def ∷ [] }) ≡ body_of s ++ said_unit def ∷ [] = units_end
-    s.version s.hosts s.targets s.units s.fills s.commands s.aborts s.resets s.faults def (m.fills (omega arith))
-    (m.commands (omega arith)) (m.aborts (omega arith)) (m.resets (omega arith)) (m.faults (omega arith)) in
+    s.version s.hosts s.targets s.units s.fills s.tapes s.loads s.commands s.aborts s.resets s.faults def
+    (m.fills (omega arith)) (m.tapes (omega arith)) (m.loads (omega arith)) (m.commands (omega arith))
+    (m.aborts (omega arith)) (m.resets (omega arith)) (m.faults (omega arith)) in
     record {
       same = ap (λ (n : Kind). saids_at n (record s { units = s.units ++ def ∷ [] })) kind
           ∙ (ap (λ (ys : List Said). scsi_line s.version ∷ ys) added ∙ (λ i. sym key i ++ is i ∷ []));
@@ -256,6 +306,8 @@ next_unit k s x def kind m version order is =
         targets = λ h. absurd (omega arith);
         units = λ h. absurd (omega arith);
         fills = λ h. m.fills (omega arith);
+        tapes = λ h. m.tapes (omega arith);
+        loads = λ h. m.loads (omega arith);
         commands = λ h. m.commands (omega arith);
         aborts = λ h. m.aborts (omega arith);
         resets = λ h. m.resets (omega arith);
@@ -273,8 +325,9 @@ next_fill k s x def kind m version order is =
     let le = up.1 in
     let key = middle k s 5 (omega arith) order in
     let added : body_of (record s { fills = s.fills ++ def ∷ [] }) ≡ body_of s ++ said_fill def ∷ [] = fills_end
-    s.version s.hosts s.targets s.units s.fills s.commands s.aborts s.resets s.faults def
-    (m.commands (omega arith)) (m.aborts (omega arith)) (m.resets (omega arith)) (m.faults (omega arith)) in
+    s.version s.hosts s.targets s.units s.fills s.tapes s.loads s.commands s.aborts s.resets s.faults def
+    (m.tapes (omega arith)) (m.loads (omega arith)) (m.commands (omega arith))
+    (m.aborts (omega arith)) (m.resets (omega arith)) (m.faults (omega arith)) in
     record {
       same = ap (λ (n : Kind). saids_at n (record s { fills = s.fills ++ def ∷ [] })) kind
           ∙ (ap (λ (ys : List Said). scsi_line s.version ∷ ys) added ∙ (λ i. sym key i ++ is i ∷ []));
@@ -283,6 +336,67 @@ next_fill k s x def kind m version order is =
         targets = λ h. absurd (omega arith);
         units = λ h. absurd (omega arith);
         fills = λ h. absurd (omega arith);
+        tapes = λ h. m.tapes (omega arith);
+        loads = λ h. m.loads (omega arith);
+        commands = λ h. m.commands (omega arith);
+        aborts = λ h. m.aborts (omega arith);
+        resets = λ h. m.resets (omega arith);
+        faults = λ h. m.faults (omega arith);
+      });
+      version = λ h. version low;
+    }
+
+next_tape : (k : Kind) (s : ScenarioValue) (x : Said) (def : TapeDef) → kind_of x ≡ kinds.Tape
+    → AreEmpty (rank k) s → (0 < rank k → IsVersion s.version) → in_order (rank k) 6 ≡ true → said_tape def ≡ x
+    → IsNext k s (record s { tapes = s.tapes ++ def ∷ [] }) x
+next_tape k s x def kind m version order is =
+    let up = rises (rank k) 6 (omega arith) order in
+    let low = up.0 in
+    let le = up.1 in
+    let key = middle k s 6 (omega arith) order in
+    let added : body_of (record s { tapes = s.tapes ++ def ∷ [] }) ≡ body_of s ++ said_tape def ∷ [] = tapes_end
+    s.version s.hosts s.targets s.units s.fills s.tapes s.loads s.commands s.aborts s.resets s.faults def
+    (m.loads (omega arith)) (m.commands (omega arith)) (m.aborts (omega arith))
+    (m.resets (omega arith)) (m.faults (omega arith)) in
+    record {
+      same = ap (λ (n : Kind). saids_at n (record s { tapes = s.tapes ++ def ∷ [] })) kind
+          ∙ (ap (λ (ys : List Said). scsi_line s.version ∷ ys) added ∙ (λ i. sym key i ++ is i ∷ []));
+      empties = subst (λ (n : Kind). AreEmpty (rank n) (record s { tapes = s.tapes ++ def ∷ [] })) (sym kind) (record {
+        hosts = λ h. absurd (omega arith);
+        targets = λ h. absurd (omega arith);
+        units = λ h. absurd (omega arith);
+        fills = λ h. absurd (omega arith);
+        tapes = λ h. absurd (omega arith);
+        loads = λ h. m.loads (omega arith);
+        commands = λ h. m.commands (omega arith);
+        aborts = λ h. m.aborts (omega arith);
+        resets = λ h. m.resets (omega arith);
+        faults = λ h. m.faults (omega arith);
+      });
+      version = λ h. version low;
+    }
+
+next_load : (k : Kind) (s : ScenarioValue) (x : Said) (def : LoadDef) → kind_of x ≡ kinds.Load
+    → AreEmpty (rank k) s → (0 < rank k → IsVersion s.version) → in_order (rank k) 7 ≡ true → said_load def ≡ x
+    → IsNext k s (record s { loads = s.loads ++ def ∷ [] }) x
+next_load k s x def kind m version order is =
+    let up = rises (rank k) 7 (omega arith) order in
+    let low = up.0 in
+    let le = up.1 in
+    let key = middle k s 7 (omega arith) order in
+    let added : body_of (record s { loads = s.loads ++ def ∷ [] }) ≡ body_of s ++ said_load def ∷ [] = loads_end
+    s.version s.hosts s.targets s.units s.fills s.tapes s.loads s.commands s.aborts s.resets s.faults def
+    (m.commands (omega arith)) (m.aborts (omega arith)) (m.resets (omega arith)) (m.faults (omega arith)) in
+    record {
+      same = ap (λ (n : Kind). saids_at n (record s { loads = s.loads ++ def ∷ [] })) kind
+          ∙ (ap (λ (ys : List Said). scsi_line s.version ∷ ys) added ∙ (λ i. sym key i ++ is i ∷ []));
+      empties = subst (λ (n : Kind). AreEmpty (rank n) (record s { loads = s.loads ++ def ∷ [] })) (sym kind) (record {
+        hosts = λ h. absurd (omega arith);
+        targets = λ h. absurd (omega arith);
+        units = λ h. absurd (omega arith);
+        fills = λ h. absurd (omega arith);
+        tapes = λ h. absurd (omega arith);
+        loads = λ h. absurd (omega arith);
         commands = λ h. m.commands (omega arith);
         aborts = λ h. m.aborts (omega arith);
         resets = λ h. m.resets (omega arith);
@@ -292,15 +406,15 @@ next_fill k s x def kind m version order is =
     }
 
 next_cmd : (k : Kind) (s : ScenarioValue) (x : Said) (def : CmdDef) → kind_of x ≡ kinds.Cmd
-    → AreEmpty (rank k) s → (0 < rank k → IsVersion s.version) → in_order (rank k) 6 ≡ true → said_cmd def ≡ x
+    → AreEmpty (rank k) s → (0 < rank k → IsVersion s.version) → in_order (rank k) 8 ≡ true → said_cmd def ≡ x
     → IsNext k s (record s { commands = s.commands ++ def ∷ [] }) x
 next_cmd k s x def kind m version order is =
-    let up = rises (rank k) 6 (omega arith) order in
+    let up = rises (rank k) 8 (omega arith) order in
     let low = up.0 in
     let le = up.1 in
-    let key = middle k s 6 (omega arith) order in
+    let key = middle k s 8 (omega arith) order in
     let added : body_of (record s { commands = s.commands ++ def ∷ [] }) ≡ body_of s ++ said_cmd def ∷ [] = commands_end
-    s.version s.hosts s.targets s.units s.fills s.commands s.aborts s.resets s.faults def
+    s.version s.hosts s.targets s.units s.fills s.tapes s.loads s.commands s.aborts s.resets s.faults def
     (m.aborts (omega arith)) (m.resets (omega arith)) (m.faults (omega arith)) in
     record {
       same = ap (λ (n : Kind). saids_at n (record s { commands = s.commands ++ def ∷ [] })) kind
@@ -311,6 +425,8 @@ next_cmd k s x def kind m version order is =
             targets = λ h. absurd (omega arith);
             units = λ h. absurd (omega arith);
             fills = λ h. absurd (omega arith);
+            tapes = λ h. absurd (omega arith);
+            loads = λ h. absurd (omega arith);
             commands = λ h. absurd (omega arith);
             aborts = λ h. m.aborts (omega arith);
             resets = λ h. m.resets (omega arith);
@@ -320,15 +436,15 @@ next_cmd k s x def kind m version order is =
     }
 
 next_abort : (k : Kind) (s : ScenarioValue) (x : Said) (def : AbortDef) → kind_of x ≡ kinds.Abort
-    → AreEmpty (rank k) s → (0 < rank k → IsVersion s.version) → in_order (rank k) 7 ≡ true → said_abort def ≡ x
+    → AreEmpty (rank k) s → (0 < rank k → IsVersion s.version) → in_order (rank k) 9 ≡ true → said_abort def ≡ x
     → IsNext k s (record s { aborts = s.aborts ++ def ∷ [] }) x
 next_abort k s x def kind m version order is =
-    let up = rises (rank k) 7 (omega arith) order in
+    let up = rises (rank k) 9 (omega arith) order in
     let low = up.0 in
     let le = up.1 in
-    let key = middle k s 7 (omega arith) order in
+    let key = middle k s 9 (omega arith) order in
     let added : body_of (record s { aborts = s.aborts ++ def ∷ [] }) ≡ body_of s ++ said_abort def ∷ [] = aborts_end
-    s.version s.hosts s.targets s.units s.fills s.commands s.aborts s.resets s.faults def
+    s.version s.hosts s.targets s.units s.fills s.tapes s.loads s.commands s.aborts s.resets s.faults def
     (m.resets (omega arith)) (m.faults (omega arith)) in
     record {
       same = ap (λ (n : Kind). saids_at n (record s { aborts = s.aborts ++ def ∷ [] })) kind
@@ -339,6 +455,8 @@ next_abort k s x def kind m version order is =
             targets = λ h. absurd (omega arith);
             units = λ h. absurd (omega arith);
             fills = λ h. absurd (omega arith);
+            tapes = λ h. absurd (omega arith);
+            loads = λ h. absurd (omega arith);
             commands = λ h. absurd (omega arith);
             aborts = λ h. absurd (omega arith);
             resets = λ h. m.resets (omega arith);
@@ -348,15 +466,16 @@ next_abort k s x def kind m version order is =
     }
 
 next_reset : (k : Kind) (s : ScenarioValue) (x : Said) (def : ResetDef) → kind_of x ≡ kinds.Reset
-    → AreEmpty (rank k) s → (0 < rank k → IsVersion s.version) → in_order (rank k) 8 ≡ true → said_reset def ≡ x
+    → AreEmpty (rank k) s → (0 < rank k → IsVersion s.version) → in_order (rank k) 10 ≡ true → said_reset def ≡ x
     → IsNext k s (record s { resets = s.resets ++ def ∷ [] }) x
 next_reset k s x def kind m version order is =
-    let up = rises (rank k) 8 (omega arith) order in
+    let up = rises (rank k) 10 (omega arith) order in
     let low = up.0 in
     let le = up.1 in
-    let key = middle k s 8 (omega arith) order in
+    let key = middle k s 10 (omega arith) order in
     let added : body_of (record s { resets = s.resets ++ def ∷ [] }) ≡ body_of s ++ said_reset def ∷ [] = resets_end
-    s.version s.hosts s.targets s.units s.fills s.commands s.aborts s.resets s.faults def (m.faults (omega arith)) in
+    s.version s.hosts s.targets s.units s.fills s.tapes s.loads s.commands s.aborts s.resets s.faults def
+    (m.faults (omega arith)) in
     record {
       same = ap (λ (n : Kind). saids_at n (record s { resets = s.resets ++ def ∷ [] })) kind
           ∙ (ap (λ (ys : List Said). scsi_line s.version ∷ ys) added ∙ (λ i. sym key i ++ is i ∷ []));
@@ -366,6 +485,8 @@ next_reset k s x def kind m version order is =
             targets = λ h. absurd (omega arith);
             units = λ h. absurd (omega arith);
             fills = λ h. absurd (omega arith);
+            tapes = λ h. absurd (omega arith);
+            loads = λ h. absurd (omega arith);
             commands = λ h. absurd (omega arith);
             aborts = λ h. absurd (omega arith);
             resets = λ h. absurd (omega arith);
@@ -375,15 +496,15 @@ next_reset k s x def kind m version order is =
     }
 
 next_fault : (k : Kind) (s : ScenarioValue) (x : Said) (def : FaultDef) → kind_of x ≡ kinds.Fault
-    → AreEmpty (rank k) s → (0 < rank k → IsVersion s.version) → in_order (rank k) 9 ≡ true → said_fault def ≡ x
+    → AreEmpty (rank k) s → (0 < rank k → IsVersion s.version) → in_order (rank k) 11 ≡ true → said_fault def ≡ x
     → IsNext k s (record s { faults = s.faults ++ def ∷ [] }) x
 next_fault k s x def kind m version order is =
-    let up = rises (rank k) 9 (omega arith) order in
+    let up = rises (rank k) 11 (omega arith) order in
     let low = up.0 in
     let le = up.1 in
-    let key = middle k s 9 (omega arith) order in
+    let key = middle k s 11 (omega arith) order in
     let added : body_of (record s { faults = s.faults ++ def ∷ [] }) ≡ body_of s ++ said_fault def ∷ [] = faults_end
-    s.version s.hosts s.targets s.units s.fills s.commands s.aborts s.resets s.faults def in
+    s.version s.hosts s.targets s.units s.fills s.tapes s.loads s.commands s.aborts s.resets s.faults def in
     record {
       same = ap (λ (n : Kind). saids_at n (record s { faults = s.faults ++ def ∷ [] })) kind
           ∙ (ap (λ (ys : List Said). scsi_line s.version ∷ ys) added ∙ (λ i. sym key i ++ is i ∷ []));
@@ -393,6 +514,8 @@ next_fault k s x def kind m version order is =
             targets = λ h. absurd (omega arith);
             units = λ h. absurd (omega arith);
             fills = λ h. absurd (omega arith);
+            tapes = λ h. absurd (omega arith);
+            loads = λ h. absurd (omega arith);
             commands = λ h. absurd (omega arith);
             aborts = λ h. absurd (omega arith);
             resets = λ h. absurd (omega arith);
@@ -417,6 +540,8 @@ next_added d f (scsi_line v) law fits order can e =
         targets = λ h. refl;
         units = λ h. refl;
         fills = λ h. refl;
+        tapes = λ h. refl;
+        loads = λ h. refl;
         commands = λ h. refl;
         aborts = λ h. refl;
         resets = λ h. refl;
@@ -444,6 +569,14 @@ next_added d f (fill_line x) law fits order can e =
     let a = bind_ok (fill_def d.scenario x) _ f e in
     subst (λ (p : Progress). IsNext d.last d.scenario p.scenario (fill_line x)) (ok_is _ f a.2) (next_fill d.last
     d.scenario (fill_line x) a.0 refl law.empties law.version order (fill_declared d.scenario x a.0 can a.1).same)
+next_added d f (tape_line x) law fits order can e =
+    let a = bind_ok (tape_def d.scenario x) _ f e in
+    subst (λ (p : Progress). IsNext d.last d.scenario p.scenario (tape_line x)) (ok_is _ f a.2) (next_tape d.last
+    d.scenario (tape_line x) a.0 refl law.empties law.version order (tape_declared d.scenario x a.0 a.1).same)
+next_added d f (load_line x) law fits order can e =
+    let a = bind_ok (load_def d.scenario x) _ f e in
+    subst (λ (p : Progress). IsNext d.last d.scenario p.scenario (load_line x)) (ok_is _ f a.2) (next_load d.last
+    d.scenario (load_line x) a.0 refl law.empties law.version order (load_declared d.scenario x a.0 can a.1).same)
 next_added d f (cmd_line x) law fits order can e =
     let a = bind_ok (full_cmd_def d.scenario d.needs x) _ f e in
     subst (λ (p : Progress). IsNext d.last d.scenario p.scenario (cmd_line x)) (ok_is _ f a.2)
@@ -462,9 +595,9 @@ next_added d f (fault_line x) law fits order can e =
     subst (λ (p : Progress). IsNext d.last d.scenario p.scenario (fault_line x)) (ok_is _ f a.2) (next_fault d.last
     d.scenario (fault_line x) a.0 refl law.empties law.version order (fault_declared d.scenario x a.0 a.1).same)
 next_added d f end_line law fits order can e =
-    let up = rises (rank d.last) 10 (omega arith) order in
+    let up = rises (rank d.last) 12 (omega arith) order in
     let low = up.0 in
-    let key = middle d.last d.scenario 10 (omega arith) order in
+    let key = middle d.last d.scenario 12 (omega arith) order in
     subst (λ (p : Progress). IsNext d.last d.scenario p.scenario end_line) (ok_is d f e) (record {
       same = sym (ap (λ (ys : List Said). ys ++ end_line ∷ []) key);
       empties = record {
@@ -472,6 +605,8 @@ next_added d f end_line law fits order can e =
         targets = λ h. absurd (omega arith);
         units = λ h. absurd (omega arith);
         fills = λ h. absurd (omega arith);
+        tapes = λ h. absurd (omega arith);
+        loads = λ h. absurd (omega arith);
         commands = λ h. absurd (omega arith);
         aborts = λ h. absurd (omega arith);
         resets = λ h. absurd (omega arith);
@@ -535,6 +670,16 @@ needs_added d f (fill_line x) law order e =
     let n = law.needs in
     let a = bind_ok (fill_def d.scenario x) _ f e in
     subst HasNeeds (ok_is _ f a.2) (record { each = n.each; total = n.total; bound = n.bound })
+needs_added d f (tape_line x) law order e =
+    let le = (rises (rank d.last) 6 (omega arith) order).1 in
+    let none = law.empties.commands (omega arith) in
+    let a = bind_ok (tape_def d.scenario x) _ f e in
+    subst HasNeeds (ok_is _ f a.2)
+    (no_needs d (record d.scenario { tapes = d.scenario.tapes ++ a.0 ∷ [] }) none none law.needs)
+needs_added d f (load_line x) law order e =
+    let n = law.needs in
+    let a = bind_ok (load_def d.scenario x) _ f e in
+    subst HasNeeds (ok_is _ f a.2) (record { each = n.each; total = n.total; bound = n.bound })
 needs_added d f (cmd_line x) law order e =
     let a = bind_ok (full_cmd_def d.scenario d.needs x) _ f e in
     let b = bind_ok (cmd_def d.scenario x) _ a.0 a.1 in
@@ -579,6 +724,8 @@ rank_some (initiator_line f) = omega arith
 rank_some (target_line f) = omega arith
 rank_some (unit_line f) = omega arith
 rank_some (fill_line f) = omega arith
+rank_some (tape_line f) = omega arith
+rank_some (load_line f) = omega arith
 rank_some (cmd_line f) = omega arith
 rank_some (abort_line f) = omega arith
 rank_some (reset_line f) = omega arith
@@ -696,6 +843,8 @@ done kinds.Initiator v s needs n limit law le e = absurd cc
 done kinds.Target v s needs n limit law le e = absurd cc
 done kinds.Unit v s needs n limit law le e = absurd cc
 done kinds.Fill v s needs n limit law le e = absurd cc
+done kinds.Tape v s needs n limit law le e = absurd cc
+done kinds.Load v s needs n limit law le e = absurd cc
 done kinds.Cmd v s needs n limit law le e = absurd cc
 done kinds.Abort v s needs n limit law le e = absurd cc
 done kinds.Reset v s needs n limit law le e = absurd cc
@@ -738,6 +887,14 @@ fills_hex : (fs : List FillDef) → AllByRecursion CanSay (map said_fill fs) →
 fills_hex [] h = tt
 fills_hex (f ∷ fs) h = (h.0, fills_hex fs h.1)
 
+load_hex : (l : Load) → IsSpelledObject (said_object l) → IsHexLoad l
+load_hex (loads.Block bytes) h = h
+load_hex loads.Mark h = tt
+
+loads_hex : (ls : List LoadDef) → AllByRecursion CanSay (map said_load ls) → AllByRecursion (λ l. IsHexLoad l.what) ls
+loads_hex [] h = tt
+loads_hex (l ∷ ls) h = (load_hex l.what h.0, loads_hex ls h.1)
+
 payload_hex : (p : Payload) → IsSpelledPayload (said_payload p) → IsHexPayload p
 payload_hex payloads.Nothing h = tt
 payload_hex (payloads.Hex bytes) h = h
@@ -763,6 +920,8 @@ start = record {
     targets = λ h. refl;
     units = λ h. refl;
     fills = λ h. refl;
+    tapes = λ h. refl;
+    loads = λ h. refl;
     commands = λ h. refl;
     aborts = λ h. refl;
     resets = λ h. refl;
@@ -772,38 +931,42 @@ start = record {
   version = λ h. absurd (omega arith);
 }
 
-pub read_obeys : (bytes : List ℕ) (s : ScenarioValue) → scenario_of bytes ≡ Ok s → Obeys s
+pub read_obeys : (bytes : List ℕ) (s : ScenarioValue) → scenario_of bytes ≡ Ok s → ObeysText s
 read_obeys bytes s e =
     let p = limit_ok (ltb LIMIT (length bytes)) (read_from nothing 0 (lines_of bytes)) s e in
     let short : length bytes ≤ LIMIT = ltb-false _ _ p.0 in
     let d = reads (lines_of bytes) nothing 0 s LIMIT start (omega (arith, sizes_lines bytes)) p.1 in
     let all : AllByRecursion CanSay (body_of s) = all_left CanSay (body_of s) (end_line ∷ []) (d.can).1 in
-    let after_units : AllByRecursion CanSay (map said_fill s.fills ++ events_of s) = all_right CanSay
+    let after_units : AllByRecursion CanSay
+    (map said_fill s.fills ++ (map said_tape s.tapes ++ (map said_load s.loads ++ events_of s))) = all_right CanSay
     (map said_unit s.units) _ (all_right CanSay (map (said_target s.version) s.targets) _
     (all_right CanSay (map (said_host s.version) s.hosts) _ all)) in
+    let after_tapes : AllByRecursion CanSay (map said_load s.loads ++ events_of s) = all_right CanSay
+    (map said_tape s.tapes) _ (all_right CanSay (map said_fill s.fills) _ after_units) in
     record {
       version = d.version;
       lawful = ap told_scenario d.lawful ∙ ap (λ (t : ScenarioValue). Ok t) d.is;
-      fills = fills_hex s.fills (all_left CanSay (map said_fill s.fills) (events_of s) after_units);
+      fills = fills_hex s.fills (all_left CanSay (map said_fill s.fills) _ after_units);
+      loads = loads_hex s.loads (all_left CanSay (map said_load s.loads) (events_of s) after_tapes);
       commands = cmds_hex s.commands (all_left CanSay (map said_cmd s.commands) _
-          (all_right CanSay (map said_fill s.fills) (events_of s) after_units));
+          (all_right CanSay (map said_load s.loads) (events_of s) after_tapes));
       limit = d.size;
     }
 
 pub answer_obeys : (bytes : List ℕ) (r : Result ScenarioValue Bad) → Answers r (scenario_of bytes)
-    → IfOk r (λ s. Obeys s)
+    → IfOk r (λ s. ObeysText s)
 answer_obeys bytes (Ok s) e = read_obeys bytes s e
 answer_obeys bytes (Err b) e = tt
 
 -- The lines of a scenario that obeys the rules are read.
-again : (s : ScenarioValue) → Obeys s → IsDone s LIMIT
+again : (s : ScenarioValue) → ObeysText s → IsDone s LIMIT
 again s h =
     let p = limit_ok (ltb LIMIT (length (text_of s))) (read_from nothing 0 (lines_of (text_of s))) s (read_back s h) in
     let limit = h.limit in
     reads (lines_of (text_of s)) nothing 0 s LIMIT start (omega (arith, sizes_lines (text_of s))) p.1
 
-pub each_need : (s : ScenarioValue) → Obeys s → AllByRecursion (λ c. need_of s c ≤ NEED_LIMIT) s.commands
+pub each_need : (s : ScenarioValue) → ObeysText s → AllByRecursion (λ c. need_of s c ≤ NEED_LIMIT) s.commands
 each_need s h = (again s h).each
 
-pub all_needs : (s : ScenarioValue) → Obeys s → sum_by (need_of s) s.commands ≤ NEEDS_LIMIT
+pub all_needs : (s : ScenarioValue) → ObeysText s → sum_by (need_of s) s.commands ≤ NEEDS_LIMIT
 all_needs s h = (again s h).all

@@ -21,16 +21,19 @@ use Rattle.scenario.specs.declared.form.WhatForm.TheVariants as whats
 use Rattle.scenario.specs.declared.form.TargetForm.{TargetForm}
 use Rattle.scenario.specs.Parts.{or, numbered_at, made, plain, exactly_at, yes_no_at, flag_at, policy_at, pick_at}
 use Rattle.scenario.specs.Parts.{tag_at, PayloadSaid, no_bytes, these_bytes, bytes_from, nothing_at, hex_at, from_at}
-use Rattle.scenario.specs.Parts.{payload_at, what_tag_at, what_at}
-use Rattle.scenario.specs.Forms.{Said, scsi_line, initiator_line, target_line, unit_line, fill_line, cmd_line}
-use Rattle.scenario.specs.Forms.{abort_line, reset_line, fault_line, end_line, scsi_at, initiator_at, target_at}
+use Rattle.scenario.specs.Parts.{payload_at, what_tag_at, what_at, ObjectSaid, block_object, mark_object, mark_at}
+use Rattle.scenario.specs.Parts.{block_at, object_at}
+use Rattle.scenario.specs.Forms.{Said, scsi_line, initiator_line, target_line, unit_line, fill_line, tape_line}
+use Rattle.scenario.specs.Forms.{load_line, tape_at, load_at, cmd_line, abort_line, reset_line, fault_line, end_line}
+use Rattle.scenario.specs.Forms.{scsi_at, initiator_at, target_at}
 use Rattle.scenario.specs.Forms.{unit_at, fill_at, cmd_at, abort_at, reset_at, fault_at, end_at, declared_at}
 use Rattle.scenario.specs.Forms.{happens_at, form_of}
 use Rattle.scenario.specs.Writing.{numbered, yes_no_text, flag_text, policy_text, pick_text, tag_text, payload_text}
 use Rattle.scenario.specs.Writing.{what_text, host_sync_text, initiator_text, target_seek_text, target_disc_text}
 use Rattle.scenario.specs.Writing.{target_text, unit_text, fill_text, cmd_tag_text, cmd_text, abort_text, reset_text}
-use Rattle.scenario.specs.Writing.{fault_text, said_text, IsHex}
+use Rattle.scenario.specs.Writing.{fault_text, object_text, tape_text, load_text, said_text, IsHex}
 use Rattle.scenario.proofs.PartsAgain.{IsSmall, IsSmallPolicy, IsSmallTag, IsSpelledPayload, IsSmallWhat}
+use Rattle.scenario.proofs.PartsAgain.{IsSpelledObject}
 use Rattle.scenario.proofs.FormsAgain.{IsSpelled}
 use Rattle.scenario.proofs.Lawful.{CanSay}
 
@@ -198,6 +201,25 @@ hex_end bytes digits rest e end =
       text = q.0 ∙ (ap (λ (t : List ℕ). digits ++ t) end ∙ (append-nil digits ∙ q.2));
     }
 
+-- What is loaded.
+record IsObjectRead (bytes : List ℕ) (o : ObjectSaid) : Type 0 where
+  can : IsSpelledObject o
+  text : bytes ≡ object_text o
+
+object_only : (bytes : List ℕ) (o : ObjectSaid) → object_at bytes ≡ Some o → IsObjectRead bytes o
+unfolding object_at mark_at block_at
+object_only bytes o e = elim (or_some (mark_at bytes) _ o e) [
+  | inl a ↦
+      let q = word_only (codes "mark") bytes mark_object o a in
+      subst (IsObjectRead bytes) q.0 (record { can = tt; text = q.1 })
+  | inr a ↦
+      let d = bind_some (hex_digits_at bytes) _ o a in
+      let w = bind_some (is_whole (d.0).1) _ o d.2 in
+      let x = hex_end bytes (d.0).0 (d.0).1 d.1 (whole_only (d.0).1 w.1) in
+      subst (IsObjectRead bytes) (some_is (block_object (bytes_of (d.0).0)) o w.2)
+      (record { can = x.hex; text = x.text })
+]
+
 -- What is sent.
 record IsPayloadRead (bytes : List ℕ) (p : PayloadSaid) : Type 0 where
   can : IsSpelledPayload p
@@ -274,9 +296,14 @@ scsi_only line x e = elim (or_some (exactly_at (codes "scsi 1") line >>= λ _. S
   | inl a ↦
       let q = word_only (codes "scsi 1") line (scsi_line 1) x a in
       subst (IsRead line) q.0 (record { can = refl; text = λ h. q.1 })
-  | inr a ↦
-      let q = word_only (codes "scsi 2") line (scsi_line 2) x a in
-      subst (IsRead line) q.0 (record { can = refl; text = λ h. q.1 })
+  | inr f ↦ elim (or_some (exactly_at (codes "scsi 2") line >>= λ _. Some (scsi_line 2)) _ x f) [
+    | inl a ↦
+        let q = word_only (codes "scsi 2") line (scsi_line 2) x a in
+        subst (IsRead line) q.0 (record { can = refl; text = λ h. q.1 })
+    | inr a ↦
+        let q = word_only (codes "scsi 3") line (scsi_line 3) x a in
+        subst (IsRead line) q.0 (record { can = refl; text = λ h. q.1 })
+  ]
 ]
 
 end_only : (line : List ℕ) (x : Said) → end_at line ≡ Some x → IsRead line x
@@ -431,6 +458,52 @@ fill_only line x e =
           t0;
     })
 
+tape_only : (line : List ℕ) (x : Said) → tape_at line ≡ Some x → IsRead line x
+unfolding tape_at tape_text
+tape_only line x e =
+    let a = bind_some (numbered_at (codes "tape ") line) _ x e in
+    let b = bind_some (numbered_at (codes " ") (a.0).1) _ x a.2 in
+    let c = bind_some (numbered_at (codes " objects ") (b.0).1) _ x b.2 in
+    let d = bind_some (numbered_at (codes " size ") (c.0).1) _ x c.2 in
+    let q = bind_some (numbered_at (codes " depth ") (d.0).1) _ x d.2 in
+    let done = bind_some (is_whole (q.0).1) _ x q.2 in
+    let end = whole_only (q.0).1 done.1 in
+    subst (IsRead line) (some_is
+    (tape_line (record { target = (a.0).0; unit = (b.0).0; objects = (c.0).0; size = (d.0).0; depth = (q.0).0 })) x
+    done.2) (record {
+      can = tt;
+      text = λ h.
+          let t4 = numbered_end (codes " depth ") (d.0).1 (q.0).0 (q.0).1 q.1 end h.4 in
+          let t3 = numbered_only (codes " size ") (c.0).1 (d.0).0 (d.0).1 d.1 h.3
+          ∙ ap (λ (t : List ℕ). numbered (codes " size ") (d.0).0 ++ t) t4 in
+          let t2 = numbered_only (codes " objects ") (b.0).1 (c.0).0 (c.0).1 c.1 h.2
+          ∙ ap (λ (t : List ℕ). numbered (codes " objects ") (c.0).0 ++ t) t3 in
+          let t1 = numbered_only (codes " ") (a.0).1 (b.0).0 (b.0).1 b.1 h.1
+          ∙ ap (λ (t : List ℕ). numbered (codes " ") (b.0).0 ++ t) t2 in
+          let t0 = numbered_only (codes "tape ") line (a.0).0 (a.0).1 a.1 h.0
+          ∙ ap (λ (t : List ℕ). numbered (codes "tape ") (a.0).0 ++ t) t1 in
+          t0;
+    })
+
+load_only : (line : List ℕ) (x : Said) → load_at line ≡ Some x → IsRead line x
+unfolding load_at load_text
+load_only line x e =
+    let a = bind_some (numbered_at (codes "load ") line) _ x e in
+    let b = bind_some (numbered_at (codes " ") (a.0).1) _ x a.2 in
+    let k = bind_some (after (codes " ") (b.0).1) _ x b.2 in
+    let y = bind_some (object_at k.0) _ x k.2 in
+    let what = object_only k.0 y.0 y.1 in
+    subst (IsRead line) (some_is (load_line (record { target = (a.0).0; unit = (b.0).0; what = y.0 })) x y.2) (record {
+      can = what.can;
+      text = λ h.
+          let t2 = after_only (codes " ") (b.0).1 k.0 k.1 ∙ ap (λ (t : List ℕ). codes " " ++ t) what.text in
+          let t1 = numbered_only (codes " ") (a.0).1 (b.0).0 (b.0).1 b.1 h.1
+          ∙ ap (λ (t : List ℕ). numbered (codes " ") (b.0).0 ++ t) t2 in
+          let t0 = numbered_only (codes "load ") line (a.0).0 (a.0).1 a.1 h.0
+          ∙ ap (λ (t : List ℕ). numbered (codes "load ") (a.0).0 ++ t) t1 in
+          t0;
+    })
+
 cmd_only : (line : List ℕ) (x : Said) → cmd_at line ≡ Some x → IsRead line x
 unfolding cmd_at cmd_text cmd_tag_text
 cmd_only line x e =
@@ -542,7 +615,13 @@ declared_only line x e = elim (or_some (scsi_at line) _ x e) [
       | inl h ↦ target_only line x h
       | inr f2 ↦ elim (or_some (unit_at line) _ x f2) [
         | inl h ↦ unit_only line x h
-        | inr f3 ↦ fill_only line x f3
+        | inr f3 ↦ elim (or_some (fill_at line) _ x f3) [
+          | inl h ↦ fill_only line x h
+          | inr f4 ↦ elim (or_some (tape_at line) _ x f4) [
+            | inl h ↦ tape_only line x h
+            | inr f5 ↦ load_only line x f5
+          ]
+        ]
       ]
     ]
   ]

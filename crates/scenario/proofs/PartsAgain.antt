@@ -1,13 +1,15 @@
 -- What is written is read again: the parts of a line.
-use Rattle.std.proofs.Common.{◌≡◌, ℕ, ◌^◌, ◌<◌, Bool, true, false, List, [], ◌∷◌, ◌++◌, length, Option, Some, None}
+use Rattle.std.proofs.Common.{◌≡◌, ℕ, ◌^◌, ◌/◌, ◌%◌, ◌<◌, Bool, true, false, ◌&&◌, List, [], ◌∷◌, ◌++◌, length, Option}
+use Rattle.std.proofs.Common.{Some, None}
 use Rattle.std.proofs.Common.{refl, sym, ap, ◌∙◌, arith, append_assoc}
-use Rattle.std.specs.Prelude.{codes}
+use Rattle.std.specs.Prelude.{codes, nat_eq}
+use Rattle.std.proofs.lemmas.Bool.Decides.{nat_tests}
 use Rattle.std.proofs.lemmas.List.{append-nil}
 use Rattle.bus_base.specs.declared.events.Pick.{Pick}
 use Rattle.bus_base.specs.declared.events.Pick.TheVariants as picks
-use Rattle.text_words.specs.Words.{Number, after, number_at, hex_digits_at, hex_array_at, ◌>>=◌}
-use Rattle.text_words.specs.Spelling.{hex_text, byte_text, number_text, AreBytes, EndsNumber}
-use Rattle.text_words.proofs.Again.{after_same, number_again, hex_again, hex_array_again, bytes_again}
+use Rattle.text_words.specs.Words.{Number, after, number_at, hex_digits_at, hex_array_at, is_hex, ◌>>=◌}
+use Rattle.text_words.specs.Spelling.{hex_digit, hex_text, byte_text, number_text, AreBytes, EndsNumber}
+use Rattle.text_words.proofs.Again.{after_same, number_again, hex_again, hex_passes, hex_array_again, bytes_again}
 use Rattle.scenario.specs.declared.form.PolicyForm.{PolicyForm}
 use Rattle.scenario.specs.declared.form.PolicyForm.TheVariants as policies
 use Rattle.scenario.specs.declared.form.TagForm.{TagForm}
@@ -16,8 +18,10 @@ use Rattle.scenario.specs.declared.form.WhatForm.{WhatForm}
 use Rattle.scenario.specs.declared.form.WhatForm.TheVariants as whats
 use Rattle.scenario.specs.Parts.{numbered_at, exactly_at, yes_no_at, flag_at, policy_at, pick_at, tag_at, PayloadSaid}
 use Rattle.scenario.specs.Parts.{no_bytes, these_bytes, bytes_from, nothing_at, hex_at, from_at, payload_at}
-use Rattle.scenario.specs.Parts.{what_tag_at, what_at}
-use Rattle.scenario.specs.Writing.{numbered, flag_text, policy_text, pick_text, tag_text, payload_text, what_text}
+use Rattle.scenario.specs.Parts.{what_tag_at, what_at, ObjectSaid, block_object, mark_object, mark_at, block_at}
+use Rattle.scenario.specs.Parts.{object_at}
+use Rattle.scenario.specs.Writing.{numbered, flag_text, policy_text, pick_text, tag_text, object_text, payload_text}
+use Rattle.scenario.specs.Writing.{what_text}
 
 -- The number has a spelling.
 abbrev pub IsSmall : Number → Type 0
@@ -118,11 +122,47 @@ tag_again (tags.Ordered n) rest h e = rw (simple_ordered n rest, numbered_again 
 tag_again (tags.Head n) rest h e =
     rw (simple_head n rest, ordered_head n rest, numbered_again (codes "head ") n rest h e) refl
 
--- ---- BYTES
+-- ---- HEX
 
 pub hex_last : (bytes : List ℕ) → AreBytes bytes → 0 < length bytes
     → hex_digits_at (hex_text bytes) ≡ Some (hex_text bytes, [])
 hex_last bytes h some = ap hex_digits_at (sym (append-nil (hex_text bytes))) ∙ hex_again bytes [] h some refl
+
+-- ---- OBJECT
+
+abbrev pub IsSpelledObject : ObjectSaid → Type 0
+IsSpelledObject (block_object bytes) = AreBytes bytes × (0 < length bytes)
+IsSpelledObject mark_object = Unit {0}
+
+first_passes : (p q : Bool) → (p && q) ≡ true → p ≡ true
+first_passes true q h = refl
+first_passes false q h = absurd cc
+
+-- No digit begins `mark`.
+digit_unmarked : (digit : ℕ) (rest : List ℕ) → is_hex digit ≡ true → mark_at (digit ∷ rest) ≡ None
+unfolding mark_at exactly_at after
+digit_unmarked digit rest h = let other : nat_eq digit 109 ≡ false = grind (arith, nat_tests) in rw other refl
+
+hex_unmarked : (bytes : List ℕ) → AreBytes bytes → 0 < length bytes → mark_at (hex_text bytes) ≡ None
+hex_unmarked [] h some = absurd (omega arith)
+hex_unmarked (b ∷ bytes) h some = digit_unmarked (hex_digit (b / 16)) (hex_digit (b % 16) ∷ hex_text bytes)
+    (first_passes (is_hex (hex_digit (b / 16))) _ (hex_passes (b ∷ bytes) h))
+
+block_again : (bytes : List ℕ) → AreBytes bytes → 0 < length bytes
+    → block_at (hex_text bytes) ≡ Some (block_object bytes)
+unfolding block_at
+block_again bytes h some = rw (hex_last bytes h some, bytes_again bytes h) refl
+
+mark_again : object_at (codes "mark") ≡ Some mark_object
+unfolding object_at mark_at exactly_at after
+mark_again = refl
+
+pub object_again : (o : ObjectSaid) → IsSpelledObject o → object_at (object_text o) ≡ Some o
+unfolding object_at
+object_again mark_object h = mark_again
+object_again (block_object bytes) h = rw (hex_unmarked bytes h.0 h.1, block_again bytes h.0 h.1) refl
+
+-- ---- BYTES
 
 abbrev pub IsSpelledPayload : PayloadSaid → Type 0
 IsSpelledPayload no_bytes = Unit {0}

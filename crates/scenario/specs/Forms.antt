@@ -7,13 +7,15 @@ use Rattle.scenario.specs.declared.form.HostForm.{HostForm}
 use Rattle.scenario.specs.declared.form.TargetForm.{TargetForm}
 use Rattle.scenario.specs.declared.form.UnitForm.{UnitForm}
 use Rattle.scenario.specs.declared.form.FillForm.{FillForm}
+use Rattle.scenario.specs.declared.form.TapeForm.{TapeForm}
+use Rattle.scenario.specs.declared.form.LoadForm.{LoadForm}
 use Rattle.scenario.specs.declared.form.CmdForm.{CmdForm}
 use Rattle.scenario.specs.declared.form.AbortForm.{AbortForm}
 use Rattle.scenario.specs.declared.form.ResetForm.{ResetForm}
 use Rattle.scenario.specs.declared.form.FaultForm.{FaultForm}
 use Rattle.scenario.specs.declared.form.TagForm.{TagForm}
 use Rattle.scenario.specs.Parts.{or, numbered_at, exactly_at, flag_at, policy_at, pick_at, tag_at, PayloadSaid}
-use Rattle.scenario.specs.Parts.{payload_said, payload_at, what_at}
+use Rattle.scenario.specs.Parts.{payload_said, payload_at, what_at, ObjectSaid, object_said, object_at}
 
 -- What a fill's line says.
 pub record FillSaid : Type 0 where
@@ -21,6 +23,12 @@ pub record FillSaid : Type 0 where
   pub unit : Number
   pub lba : Number
   pub bytes : List ℕ
+
+-- What a load's line says.
+pub record LoadSaid : Type 0 where
+  pub target : Number
+  pub unit : Number
+  pub what : ObjectSaid
 
 -- What a command's line says.
 pub record CmdSaid : Type 0 where
@@ -39,6 +47,8 @@ pub data Said : Type 0 where
   target_line : TargetForm → Said
   unit_line : UnitForm → Said
   fill_line : FillSaid → Said
+  tape_line : TapeForm → Said
+  load_line : LoadSaid → Said
   cmd_line : CmdSaid → Said
   abort_line : AbortForm → Said
   reset_line : ResetForm → Said
@@ -48,6 +58,10 @@ pub data Said : Type 0 where
 -- What the program's form of a fill says.
 abbrev pub fill_said : FillForm → FillSaid
 fill_said f = record { target = f.target; unit = f.unit; lba = f.lba; bytes = bytes_of f.digits.now }
+
+-- What the program's form of a load says.
+abbrev pub load_said : LoadForm → LoadSaid
+load_said f = record { target = f.target; unit = f.unit; what = object_said f.what }
 
 -- What the program's form of a command says.
 abbrev pub cmd_said : CmdForm → CmdSaid
@@ -68,18 +82,21 @@ said (forms.Initiator f) = initiator_line f
 said (forms.Target f) = target_line f
 said (forms.Unit f) = unit_line f
 said (forms.Fill f) = fill_line (fill_said f)
+said (forms.Tape f) = tape_line f
+said (forms.Load f) = load_line (load_said f)
 said (forms.Cmd f) = cmd_line (cmd_said f)
 said (forms.Abort f) = abort_line f
 said (forms.Reset f) = reset_line f
 said (forms.Fault f) = fault_line f
 said forms.End = end_line
 
--- scsi 1, scsi 2
+-- scsi 1, scsi 2, scsi 3
 unfoldable pub scsi_at : List ℕ → Option Said
 scsi_at line = or (exactly_at (codes "scsi 1") line >>= λ _. Some (scsi_line 1))
-    (exactly_at (codes "scsi 2") line >>= λ _. Some (scsi_line 2))
+    (or (exactly_at (codes "scsi 2") line >>= λ _. Some (scsi_line 2))
+    (exactly_at (codes "scsi 3") line >>= λ _. Some (scsi_line 3)))
 
--- initiator D latency L open N retries R sync P O lag G, and in text 2 also: offers YN
+-- initiator D latency L open N retries R sync P O lag G, and in texts 2 and 3 also: offers YN
 unfoldable pub initiator_at : List ℕ → Option Said
 initiator_at line = do
   device ← numbered_at (codes "initiator ") line
@@ -101,7 +118,7 @@ initiator_at line = do
     offers = offers;
   }))
 
--- target D latency L retries R disc POLICY pick PICK seek S sync P O, and in text 2 also: begins YN
+-- target D latency L retries R disc POLICY pick PICK seek S sync P O, and in texts 2 and 3 also: begins YN
 unfoldable pub target_at : List ℕ → Option Said
 target_at line = do
   device ← numbered_at (codes "target ") line
@@ -148,6 +165,26 @@ fill_at line = do
   hex ← hex_digits_at a
   done ← is_whole hex.1
   Some (fill_line (record { target = target.0; unit = unit.0; lba = lba.0; bytes = bytes_of hex.0 }))
+
+-- tape T U objects N size B depth Q
+unfoldable pub tape_at : List ℕ → Option Said
+tape_at line = do
+  target ← numbered_at (codes "tape ") line
+  unit ← numbered_at (codes " ") target.1
+  objects ← numbered_at (codes " objects ") unit.1
+  size ← numbered_at (codes " size ") objects.1
+  depth ← numbered_at (codes " depth ") size.1
+  done ← is_whole depth.1
+  Some (tape_line (record { target = target.0; unit = unit.0; objects = objects.0; size = size.0; depth = depth.0 }))
+
+-- load T U OBJECT
+unfoldable pub load_at : List ℕ → Option Said
+load_at line = do
+  target ← numbered_at (codes "load ") line
+  unit ← numbered_at (codes " ") target.1
+  a ← after (codes " ") unit.1
+  what ← object_at a
+  Some (load_line (record { target = target.0; unit = unit.0; what = what }))
 
 -- cmd I T U at NS TAG cdb HEX BYTES
 unfoldable pub cmd_at : List ℕ → Option Said
@@ -205,13 +242,13 @@ end_at line = exactly_at (codes "end") line >>= λ _. Some end_line
 
 -- The lines that declare what is there.
 abbrev pub declared_at : List ℕ → Option Said
-declared_at line = or (scsi_at line) (or (initiator_at line) (or (target_at line) (or (unit_at line) (fill_at line))))
+declared_at line = or (scsi_at line) (or (initiator_at line) (or (target_at line) (or (unit_at line)
+    (or (fill_at line) (or (tape_at line) (load_at line))))))
 
 -- The lines that say what happens, and the last line.
 abbrev pub happens_at : List ℕ → Option Said
 happens_at line = or (cmd_at line) (or (abort_at line) (or (reset_at line) (or (fault_at line) (end_at line))))
 
--- What a line says by the forms of text 1 and text 2. They differ in their first words, so at most
--- one fits.
+-- What a line says by the forms of texts 1, 2 and 3. They differ in their first words, so at most one fits.
 abbrev pub form_of : List ℕ → Option Said
 form_of line = or (declared_at line) (happens_at line)

@@ -11,6 +11,8 @@ use Rattle.scenario.specs.declared.form.PayloadForm.{PayloadForm}
 use Rattle.scenario.specs.declared.form.PayloadForm.TheVariants as payloads
 use Rattle.scenario.specs.declared.form.WhatForm.{WhatForm}
 use Rattle.scenario.specs.declared.form.WhatForm.TheVariants as whats
+use Rattle.scenario.specs.declared.form.ObjectForm.{ObjectForm}
+use Rattle.scenario.specs.declared.form.ObjectForm.TheVariants as objects
 
 -- The first of two readings that fits.
 abbrev pub or : {A : Type 0} → Option A → Option A → Option A
@@ -38,7 +40,7 @@ unfoldable pub yes_no_at : List ℕ → Option Bool
 yes_no_at bytes =
     or (exactly_at (codes "yes") bytes >>= λ _. Some true) (exactly_at (codes "no") bytes >>= λ _. Some false)
 
--- The end of an initiator's or target's line: the text and YN in text 2, nothing in text 1.
+-- The end of an initiator's or target's line: the text and YN in texts 2 and 3, nothing in text 1.
 unfoldable pub flag_at : List ℕ → List ℕ → Option (Option Bool)
 flag_at text [] = Some None
 flag_at text (b ∷ bytes) = after text (b ∷ bytes) >>= λ rest. yes_no_at rest >>= λ says. Some (Some says)
@@ -62,6 +64,31 @@ tag_at bytes =
     (or (made tags.Simple (numbered_at (codes "simple ") bytes))
     (or (made tags.Ordered (numbered_at (codes "ordered ") bytes))
     (made tags.Head (numbered_at (codes "head ") bytes))))
+
+-- What a load's line says of the object: a block of these bytes, or a filemark.
+pub data ObjectSaid : Type 0 where
+  block_object : List ℕ → ObjectSaid
+  mark_object : ObjectSaid
+
+-- What the program's form of an object says.
+abbrev pub object_said : ObjectForm → ObjectSaid
+object_said (objects.Block digits) = block_object (bytes_of digits.now)
+object_said objects.Mark = mark_object
+
+-- OBJECT `mark`.
+unfoldable pub mark_at : List ℕ → Option ObjectSaid
+mark_at bytes = exactly_at (codes "mark") bytes >>= λ _. Some mark_object
+
+-- OBJECT HEX.
+unfoldable pub block_at : List ℕ → Option ObjectSaid
+block_at bytes = do
+  hex ← hex_digits_at bytes
+  done ← is_whole hex.1
+  Some (block_object (bytes_of hex.0))
+
+-- OBJECT, at the end of a line: `mark` or HEX.
+unfoldable pub object_at : List ℕ → Option ObjectSaid
+object_at bytes = or (mark_at bytes) (block_at bytes)
 
 -- What a command's line says of the bytes that its initiator sends: none, these, or as many as are
 -- needed from this one on.

@@ -12,13 +12,17 @@ use Rattle.scenario.specs.declared.bounds.TheConstants.{LEAST_FACTOR, FACTOR_LIM
 use Rattle.scenario.specs.declared.bounds.TheConstants.{TARGET_OFFSET_LIMIT, TAG_LIMIT, LAG_LIMIT, SEEK_LIMIT}
 use Rattle.scenario.specs.declared.bounds.TheConstants.{BURST_LIMIT, BLOCK_LIMIT, LEAST_SIZE, SIZE_LIMIT, DEPTH_LIMIT}
 use Rattle.scenario.specs.declared.bounds.TheConstants.{COMMAND_LIMIT, NEED_LIMIT, NEEDS_LIMIT, ABORT_LIMIT}
-use Rattle.scenario.specs.declared.bounds.TheConstants.{FAULT_LIMIT}
+use Rattle.scenario.specs.declared.bounds.TheConstants.{FAULT_LIMIT, OBJECT_LIMIT}
 use Rattle.scenario.specs.declared.value.HostDef.{HostDef}
 use Rattle.scenario.specs.declared.value.Policy.{Policy}
 use Rattle.scenario.specs.declared.value.Policy.TheVariants as policies
 use Rattle.scenario.specs.declared.value.TargetDef.{TargetDef}
 use Rattle.scenario.specs.declared.value.UnitDef.{UnitDef}
 use Rattle.scenario.specs.declared.value.FillDef.{FillDef}
+use Rattle.scenario.specs.declared.value.TapeDef.{TapeDef}
+use Rattle.scenario.specs.declared.value.Load.{Load}
+use Rattle.scenario.specs.declared.value.Load.TheVariants as loads
+use Rattle.scenario.specs.declared.value.LoadDef.{LoadDef}
 use Rattle.scenario.specs.declared.value.Tag.{Tag}
 use Rattle.scenario.specs.declared.value.Tag.TheVariants as tags
 use Rattle.scenario.specs.declared.value.Payload.{Payload}
@@ -36,6 +40,7 @@ use Rattle.scenario.specs.declared.form.PolicyForm.{PolicyForm}
 use Rattle.scenario.specs.declared.form.PolicyForm.TheVariants as policy_forms
 use Rattle.scenario.specs.declared.form.TargetForm.{TargetForm}
 use Rattle.scenario.specs.declared.form.UnitForm.{UnitForm}
+use Rattle.scenario.specs.declared.form.TapeForm.{TapeForm}
 use Rattle.scenario.specs.declared.form.TagForm.{TagForm}
 use Rattle.scenario.specs.declared.form.TagForm.TheVariants as tag_forms
 use Rattle.scenario.specs.declared.form.WhatForm.{WhatForm}
@@ -46,11 +51,12 @@ use Rattle.scenario.specs.declared.form.FaultForm.{FaultForm}
 use Rattle.scenario.specs.declared.kind.Kind.{Kind}
 use Rattle.scenario.specs.declared.kind.Kind.TheVariants as kinds
 use Rattle.scenario.specs.Value.{ScenarioValue, nothing_said}
-use Rattle.scenario.specs.Lookups.{has_host, has_target, has_device, unit_of, has_fill}
+use Rattle.scenario.specs.Lookups.{has_host, has_target, has_device, unit_of, tape_of, has_fill, loads_at}
 use Rattle.scenario.specs.Needs.{need_of, sent_of}
-use Rattle.scenario.specs.Parts.{PayloadSaid, no_bytes, these_bytes, bytes_from}
-use Rattle.scenario.specs.Forms.{Said, FillSaid, CmdSaid, scsi_line, initiator_line, target_line, unit_line, fill_line}
-use Rattle.scenario.specs.Forms.{cmd_line, abort_line, reset_line, fault_line, end_line, form_of}
+use Rattle.scenario.specs.Parts.{PayloadSaid, no_bytes, these_bytes, bytes_from, ObjectSaid, block_object, mark_object}
+use Rattle.scenario.specs.Forms.{Said, FillSaid, LoadSaid, CmdSaid, scsi_line, initiator_line, target_line, unit_line}
+use Rattle.scenario.specs.Forms.{fill_line, tape_line, load_line, cmd_line, abort_line, reset_line, fault_line}
+use Rattle.scenario.specs.Forms.{end_line, form_of}
 
 -- The next step is taken only where this one has no reason.
 infixl 10 ◌>>=◌
@@ -196,8 +202,8 @@ unit_def s f = do
   known ← guard 6 (has_target s target)
   Ok (record { target = target; unit = unit; blocks = blocks; size = size; depth = depth })
 
--- The unit, which must be declared.
-abbrev pub found : Option UnitDef → Result UnitDef ℕ
+-- The unit or the tape, which must be declared.
+abbrev pub found : {A : Type 0} → Option A → Result A ℕ
 found None = Err 6
 found (Some u) = Ok u
 
@@ -215,6 +221,41 @@ fill_def s f = do
   def ← found (unit_of s target unit)
   done ← guard 7 (is_block_of def lba f.bytes)
   Ok (record { target = target; unit = unit; lba = lba; bytes = f.bytes })
+
+-- A tape of a target.
+unfoldable pub tape_def : ScenarioValue → TapeForm → Result TapeDef ℕ
+tape_def s f = do
+  target ← in_8 f.target
+  unit ← in_8 f.unit
+  objects ← within f.objects 1 OBJECT_LIMIT
+  size ← size_in f.size
+  depth ← within f.depth 1 DEPTH_LIMIT
+  new ← guard 5 (not (is_some (unit_of s target unit)))
+  known ← guard 6 (has_target s target)
+  Ok (record { target = target; unit = unit; objects = objects; size = size; depth = depth })
+
+-- What is loaded.
+abbrev pub load_of : ObjectSaid → Load
+load_of (block_object bytes) = loads.Block bytes
+load_of mark_object = loads.Mark
+
+-- The object is a filemark, or one block of the tape.
+abbrev pub is_object_of : TapeDef → Load → Bool
+is_object_of t (loads.Block bytes) = length bytes == t.size
+is_object_of t loads.Mark = true
+
+-- The object fits on the tape, on which this many stand.
+abbrev pub fits_tape : TapeDef → ℕ → Load → Bool
+fits_tape t n what = is_object_of t what && nat_lt n t.objects
+
+-- One object more on a tape.
+unfoldable pub load_def : ScenarioValue → LoadSaid → Result LoadDef ℕ
+load_def s f = do
+  target ← in_8 f.target
+  unit ← in_8 f.unit
+  tape ← found (tape_of s target unit)
+  done ← guard 7 (fits_tape tape (loads_at s.loads target unit) (load_of f.what))
+  Ok (record { target = target; unit = unit; what = load_of f.what })
 
 -- The initiator is one, and the target, which need not be declared, is none.
 abbrev pub are_ends : ScenarioValue → ℕ → ℕ → Bool
@@ -314,11 +355,13 @@ rank kinds.Initiator = 2
 rank kinds.Target = 3
 rank kinds.Unit = 4
 rank kinds.Fill = 5
-rank kinds.Cmd = 6
-rank kinds.Abort = 7
-rank kinds.Reset = 8
-rank kinds.Fault = 9
-rank kinds.End = 10
+rank kinds.Tape = 6
+rank kinds.Load = 7
+rank kinds.Cmd = 8
+rank kinds.Abort = 9
+rank kinds.Reset = 10
+rank kinds.Fault = 11
+rank kinds.End = 12
 
 -- The kind of a line.
 abbrev pub kind_of : Said → Kind
@@ -327,6 +370,8 @@ kind_of (initiator_line f) = kinds.Initiator
 kind_of (target_line f) = kinds.Target
 kind_of (unit_line f) = kinds.Unit
 kind_of (fill_line f) = kinds.Fill
+kind_of (tape_line f) = kinds.Tape
+kind_of (load_line f) = kinds.Load
 kind_of (cmd_line f) = kinds.Cmd
 kind_of (abort_line f) = kinds.Abort
 kind_of (reset_line f) = kinds.Reset
@@ -336,17 +381,21 @@ kind_of end_line = kinds.End
 -- The first line is a `scsi` line; then the kinds stand in their order, `scsi` and `end` once, and
 -- nothing after `end`.
 abbrev pub in_order : ℕ → ℕ → Bool
-in_order last next = if last == 0 then next == 1 else (nat_lt 1 next && nat_le last next) && nat_lt last 10
+in_order last next = if last == 0 then next == 1 else (nat_lt 1 next && nat_le last next) && nat_lt last 12
 
 -- The last line was `end`.
 abbrev pub is_end : Kind → Bool
-is_end kind = rank kind == 10
+is_end kind = rank kind == 12
 
--- The end of an initiator's or target's line is of this version: text 2 has YN there, text 1 nothing.
+-- The end of an initiator's or target's line is of this version: texts 2 and 3 have YN there, text 1 nothing.
 -- Before the first line no version is known, and each is right.
 abbrev pub fits_flag : ℕ → Option Bool → Bool
-fits_flag version None = not (version == 2)
+fits_flag version None = nat_lt version 2
 fits_flag version (Some answer) = not (version == 1)
+
+-- Tapes and loads stand in text 3 alone.
+abbrev pub has_tapes : ℕ → Bool
+has_tapes version = version == 0 || version == 3
 
 -- The line is of this version.
 abbrev pub fits_version : ℕ → Said → Bool
@@ -355,6 +404,8 @@ fits_version version (initiator_line f) = fits_flag version f.offers
 fits_version version (target_line f) = fits_flag version f.begins
 fits_version version (unit_line f) = true
 fits_version version (fill_line f) = true
+fits_version version (tape_line f) = has_tapes version
+fits_version version (load_line f) = has_tapes version
 fits_version version (cmd_line f) = true
 fits_version version (abort_line f) = true
 fits_version version (reset_line f) = true
@@ -377,6 +428,10 @@ added d (unit_line f) =
     unit_def d.scenario f >>= λ def. Ok (with_scenario d (record d.scenario { units = d.scenario.units ++ def ∷ [] }))
 added d (fill_line f) =
     fill_def d.scenario f >>= λ def. Ok (with_scenario d (record d.scenario { fills = d.scenario.fills ++ def ∷ [] }))
+added d (tape_line f) =
+    tape_def d.scenario f >>= λ def. Ok (with_scenario d (record d.scenario { tapes = d.scenario.tapes ++ def ∷ [] }))
+added d (load_line f) =
+    load_def d.scenario f >>= λ def. Ok (with_scenario d (record d.scenario { loads = d.scenario.loads ++ def ∷ [] }))
 added d (cmd_line f) = full_cmd_def d.scenario d.needs f >>= λ def. Ok (record d {
   scenario = record d.scenario { commands = d.scenario.commands ++ def ∷ [] };
   needs = d.needs + need_of d.scenario def;

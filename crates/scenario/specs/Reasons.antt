@@ -8,10 +8,12 @@ use Rattle.scenario.specs.declared.bounds.TheConstants.{TIME_LIMIT, LATENCY_LIMI
 use Rattle.scenario.specs.declared.bounds.TheConstants.{LEAST_FACTOR, FACTOR_LIMIT, HOST_OFFSET_LIMIT}
 use Rattle.scenario.specs.declared.bounds.TheConstants.{TARGET_OFFSET_LIMIT, TAG_LIMIT, LAG_LIMIT, SEEK_LIMIT}
 use Rattle.scenario.specs.declared.bounds.TheConstants.{BURST_LIMIT, BLOCK_LIMIT, LEAST_SIZE, SIZE_LIMIT, DEPTH_LIMIT}
-use Rattle.scenario.specs.declared.bounds.TheConstants.{FAULT_LIMIT}
+use Rattle.scenario.specs.declared.bounds.TheConstants.{FAULT_LIMIT, OBJECT_LIMIT}
 use Rattle.scenario.specs.declared.value.Tag.{Tag}
 use Rattle.scenario.specs.declared.value.Tag.TheVariants as tags
 use Rattle.scenario.specs.declared.value.UnitDef.{UnitDef}
+use Rattle.scenario.specs.declared.value.TapeDef.{TapeDef}
+use Rattle.scenario.specs.declared.value.Load.{Load}
 use Rattle.scenario.specs.declared.value.CmdDef.{CmdDef}
 use Rattle.scenario.specs.declared.form.PolicyForm.{PolicyForm}
 use Rattle.scenario.specs.declared.form.PolicyForm.TheVariants as policies
@@ -20,11 +22,12 @@ use Rattle.scenario.specs.declared.form.TagForm.TheVariants as tag_forms
 use Rattle.scenario.specs.declared.form.WhatForm.{WhatForm}
 use Rattle.scenario.specs.declared.form.WhatForm.TheVariants as whats
 use Rattle.scenario.specs.Value.{ScenarioValue}
-use Rattle.scenario.specs.Lookups.{has_target, has_device, unit_of, has_fill}
+use Rattle.scenario.specs.Lookups.{has_target, has_device, unit_of, tape_of, has_fill, loads_at}
 use Rattle.scenario.specs.Needs.{need_of, sent_of}
-use Rattle.scenario.specs.Forms.{Said, CmdSaid, scsi_line, initiator_line, target_line, unit_line, fill_line, cmd_line}
-use Rattle.scenario.specs.Forms.{abort_line, reset_line, fault_line, end_line, form_of}
-use Rattle.scenario.specs.Reading.{Progress, is_size, is_block, is_block_of, are_ends, payload_of, is_payload, has_room}
+use Rattle.scenario.specs.Forms.{Said, CmdSaid, scsi_line, initiator_line, target_line, unit_line, fill_line}
+use Rattle.scenario.specs.Forms.{tape_line, load_line, cmd_line, abort_line, reset_line, fault_line, end_line, form_of}
+use Rattle.scenario.specs.Reading.{Progress, is_size, is_block, is_block_of, load_of, fits_tape, are_ends, payload_of}
+use Rattle.scenario.specs.Reading.{is_payload, has_room}
 use Rattle.scenario.specs.Reading.{has_abort_room, rank, kind_of, in_order, fits_version, is_printable, is_skipped}
 
 -- A number from `least` to `most`.
@@ -109,6 +112,9 @@ keeps_limits (target_line f) = is_device f.device
 keeps_limits (unit_line f) = is_device f.target
     && (is_device f.unit && (is_in f.blocks 1 BLOCK_LIMIT && (is_block_size f.size && is_in f.depth 1 DEPTH_LIMIT)))
 keeps_limits (fill_line f) = is_device f.target && (is_device f.unit && is_in f.lba 0 (2 ^ 64 - 1))
+keeps_limits (tape_line f) = is_device f.target
+    && (is_device f.unit && (is_in f.objects 1 OBJECT_LIMIT && (is_block_size f.size && is_in f.depth 1 DEPTH_LIMIT)))
+keeps_limits (load_line f) = is_device f.target && is_device f.unit
 keeps_limits (cmd_line c) =
     is_device c.host && (is_device c.target && (is_device c.unit && (is_time c.at && (is_tag c.tag && is_block c.cdb))))
 keeps_limits (abort_line f) =
@@ -122,12 +128,14 @@ keeps_limits end_line = true
 abbrev pub breaks_limits : Said → Bool
 breaks_limits x = not (keeps_limits x)
 
--- Reason 5: a device, unit or block that stood before.
+-- Reason 5: a device, unit, tape or block that stood before.
 abbrev pub repeats : ScenarioValue → Said → Bool
 repeats s (initiator_line f) = has_device s (value f.device)
 repeats s (target_line f) = has_device s (value f.device)
 repeats s (unit_line f) = is_some (unit_of s (value f.target) (value f.unit))
 repeats s (fill_line f) = has_fill s.fills (value f.target) (value f.unit) (value f.lba)
+repeats s (tape_line f) = is_some (unit_of s (value f.target) (value f.unit))
+repeats s (load_line f) = false
 repeats s (scsi_line v) = false
 repeats s (cmd_line c) = false
 repeats s (abort_line f) = false
@@ -135,11 +143,13 @@ repeats s (reset_line f) = false
 repeats s (fault_line f) = false
 repeats s end_line = false
 
--- Reason 6: an initiator, target, device or unit that was not declared, or an initiator where a
+-- Reason 6: an initiator, target, device, unit or tape that was not declared, or an initiator where a
 -- target must stand.
 abbrev pub lacks : ScenarioValue → Said → Bool
 lacks s (unit_line f) = not (has_target s (value f.target))
 lacks s (fill_line f) = is_none (unit_of s (value f.target) (value f.unit))
+lacks s (tape_line f) = not (has_target s (value f.target))
+lacks s (load_line f) = is_none (tape_of s (value f.target) (value f.unit))
 lacks s (cmd_line c) = not (are_ends s (value c.host) (value c.target))
 lacks s (abort_line f) = not (are_ends s (value f.host) (value f.target))
 lacks s (reset_line f) = not (has_device s (value f.device))
@@ -154,14 +164,23 @@ abbrev pub is_block_in : Option UnitDef → ℕ → List ℕ → Bool
 is_block_in None lba bytes = false
 is_block_in (Some u) lba bytes = is_block_of u lba bytes
 
--- Reason 7: a fill that is not one block or outside its unit, or `out` against the need.
+-- The object fits on a tape that is there, and on which this many stand.
+abbrev pub fits_on : Option TapeDef → ℕ → Load → Bool
+fits_on None n what = false
+fits_on (Some t) n what = fits_tape t n what
+
+-- Reason 7: a fill that is not one block or outside its unit, a load that is not one block or past the end of
+-- its tape, or `out` against the need.
 abbrev pub misfits : ScenarioValue → Said → Bool
 misfits s (fill_line f) = not (is_block_in (unit_of s (value f.target) (value f.unit)) (value f.lba) f.bytes)
+misfits s (load_line f) = not (fits_on (tape_of s (value f.target) (value f.unit))
+    (loads_at s.loads (value f.target) (value f.unit)) (load_of f.what))
 misfits s (cmd_line c) = not (is_payload (sent_of s (cmd_value c)) (payload_of c.payload))
 misfits s (scsi_line v) = false
 misfits s (initiator_line f) = false
 misfits s (target_line f) = false
 misfits s (unit_line f) = false
+misfits s (tape_line f) = false
 misfits s (abort_line f) = false
 misfits s (reset_line f) = false
 misfits s (fault_line f) = false
@@ -179,6 +198,8 @@ is_too_much d (initiator_line f) = false
 is_too_much d (target_line f) = false
 is_too_much d (unit_line f) = false
 is_too_much d (fill_line f) = false
+is_too_much d (tape_line f) = false
+is_too_much d (load_line f) = false
 is_too_much d end_line = false
 
 -- The lowest of the reasons 4 to 8.
@@ -190,7 +211,7 @@ reason_added d x =
     else (if misfits d.scenario x then Some 7
     else (if is_too_much d x then Some 8 else None))))
 
--- The lowest reason of a line that has a form. Reason 2: it is of the other version.
+-- The lowest reason of a line that has a form. Reason 2: it is of another version.
 unfoldable pub reason_said : Progress → Said → Option ℕ
 reason_said d x =
     if not (fits_version d.scenario.version x) then Some 2

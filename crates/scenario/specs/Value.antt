@@ -4,6 +4,8 @@ use Rattle.scenario.specs.declared.value.HostDef.{HostDef}
 use Rattle.scenario.specs.declared.value.TargetDef.{TargetDef}
 use Rattle.scenario.specs.declared.value.UnitDef.{UnitDef}
 use Rattle.scenario.specs.declared.value.FillDef.{FillDef}
+use Rattle.scenario.specs.declared.value.TapeDef.{TapeDef}
+use Rattle.scenario.specs.declared.value.LoadDef.{LoadDef}
 use Rattle.scenario.specs.declared.value.CmdDef.{CmdDef}
 use Rattle.scenario.specs.declared.value.AbortDef.{AbortDef}
 use Rattle.scenario.specs.declared.value.ResetDef.{ResetDef}
@@ -16,6 +18,8 @@ pub record ScenarioValue : Type 0 where
   pub targets : List TargetDef
   pub units : List UnitDef
   pub fills : List FillDef
+  pub tapes : List TapeDef
+  pub loads : List LoadDef
   pub commands : List CmdDef
   pub aborts : List AbortDef
   pub resets : List ResetDef
@@ -29,6 +33,8 @@ nothing_said = record {
   targets = [];
   units = [];
   fills = [];
+  tapes = [];
+  loads = [];
   commands = [];
   aborts = [];
   resets = [];

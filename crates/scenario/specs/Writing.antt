@@ -15,6 +15,10 @@ use Rattle.scenario.specs.declared.value.Policy.TheVariants as policies
 use Rattle.scenario.specs.declared.value.TargetDef.{TargetDef}
 use Rattle.scenario.specs.declared.value.UnitDef.{UnitDef}
 use Rattle.scenario.specs.declared.value.FillDef.{FillDef}
+use Rattle.scenario.specs.declared.value.TapeDef.{TapeDef}
+use Rattle.scenario.specs.declared.value.Load.{Load}
+use Rattle.scenario.specs.declared.value.Load.TheVariants as loads
+use Rattle.scenario.specs.declared.value.LoadDef.{LoadDef}
 use Rattle.scenario.specs.declared.value.Tag.{Tag}
 use Rattle.scenario.specs.declared.value.Tag.TheVariants as tags
 use Rattle.scenario.specs.declared.value.Payload.{Payload}
@@ -28,6 +32,7 @@ use Rattle.scenario.specs.declared.form.PolicyForm.{PolicyForm}
 use Rattle.scenario.specs.declared.form.PolicyForm.TheVariants as policy_forms
 use Rattle.scenario.specs.declared.form.TargetForm.{TargetForm}
 use Rattle.scenario.specs.declared.form.UnitForm.{UnitForm}
+use Rattle.scenario.specs.declared.form.TapeForm.{TapeForm}
 use Rattle.scenario.specs.declared.form.TagForm.{TagForm}
 use Rattle.scenario.specs.declared.form.TagForm.TheVariants as tag_forms
 use Rattle.scenario.specs.declared.form.WhatForm.{WhatForm}
@@ -36,9 +41,10 @@ use Rattle.scenario.specs.declared.form.AbortForm.{AbortForm}
 use Rattle.scenario.specs.declared.form.ResetForm.{ResetForm}
 use Rattle.scenario.specs.declared.form.FaultForm.{FaultForm}
 use Rattle.scenario.specs.Value.{ScenarioValue}
-use Rattle.scenario.specs.Parts.{PayloadSaid, no_bytes, these_bytes, bytes_from}
-use Rattle.scenario.specs.Forms.{Said, FillSaid, CmdSaid, scsi_line, initiator_line, target_line, unit_line, fill_line}
-use Rattle.scenario.specs.Forms.{cmd_line, abort_line, reset_line, fault_line, end_line}
+use Rattle.scenario.specs.Parts.{PayloadSaid, no_bytes, these_bytes, bytes_from, ObjectSaid, block_object, mark_object}
+use Rattle.scenario.specs.Forms.{Said, FillSaid, LoadSaid, CmdSaid, scsi_line, initiator_line, target_line, unit_line}
+use Rattle.scenario.specs.Forms.{fill_line, tape_line, load_line, cmd_line, abort_line, reset_line, fault_line}
+use Rattle.scenario.specs.Forms.{end_line}
 use Rattle.scenario.specs.Reading.{Progress, ◌>>=◌, said_after, nothing}
 
 -- ---- The spelling of a line.
@@ -59,7 +65,8 @@ flag_text text (Some answer) = text ++ yes_no_text answer
 
 -- The line that tells the version.
 abbrev pub scsi_text : ℕ → List ℕ
-scsi_text version = if version == 2 then codes "scsi 2" else codes "scsi 1"
+scsi_text version =
+    if version == 3 then codes "scsi 3" else (if version == 2 then codes "scsi 2" else codes "scsi 1")
 
 -- POLICY.
 abbrev pub policy_text : PolicyForm → List ℕ
@@ -79,6 +86,11 @@ tag_text tag_forms.Untagged = codes "untagged"
 tag_text (tag_forms.Simple n) = numbered (codes "simple ") n
 tag_text (tag_forms.Ordered n) = numbered (codes "ordered ") n
 tag_text (tag_forms.Head n) = numbered (codes "head ") n
+
+-- OBJECT.
+abbrev pub object_text : ObjectSaid → List ℕ
+object_text (block_object bytes) = hex_text bytes
+object_text mark_object = codes "mark"
 
 -- BYTES.
 abbrev pub payload_text : PayloadSaid → List ℕ
@@ -128,6 +140,17 @@ unfoldable pub fill_text : FillSaid → List ℕ
 fill_text f = numbered (codes "fill ") f.target
     ++ (numbered (codes " ") f.unit ++ (numbered (codes " ") f.lba ++ (codes " " ++ hex_text f.bytes)))
 
+-- The line of a tape.
+unfoldable pub tape_text : TapeForm → List ℕ
+tape_text f = numbered (codes "tape ") f.target
+    ++ (numbered (codes " ") f.unit ++ (numbered (codes " objects ") f.objects
+    ++ (numbered (codes " size ") f.size ++ numbered (codes " depth ") f.depth)))
+
+-- The line of a load.
+unfoldable pub load_text : LoadSaid → List ℕ
+load_text f =
+    numbered (codes "load ") f.target ++ (numbered (codes " ") f.unit ++ (codes " " ++ object_text f.what))
+
 -- The line of a command, from its tag on.
 unfoldable pub cmd_tag_text : CmdSaid → List ℕ
 cmd_tag_text c =
@@ -158,6 +181,8 @@ said_text (initiator_line f) = initiator_text f
 said_text (target_line f) = target_text f
 said_text (unit_line f) = unit_text f
 said_text (fill_line f) = fill_text f
+said_text (tape_line f) = tape_text f
+said_text (load_line f) = load_text f
 said_text (cmd_line f) = cmd_text f
 said_text (abort_line f) = abort_text f
 said_text (reset_line f) = reset_text f
@@ -170,9 +195,9 @@ said_line x = said_text x ++ 10 ∷ []
 
 -- ---- What the lines of a scenario say.
 
--- YN stands in text 2 alone.
+-- YN, which text 1 has not.
 abbrev pub said_flag : ℕ → Bool → Option Bool
-said_flag version answer = if version == 2 then Some answer else None
+said_flag version answer = if version == 1 then None else Some answer
 
 -- An initiator.
 abbrev pub host_form : ℕ → HostDef → HostForm
@@ -227,6 +252,28 @@ said_unit u = unit_line (record {
 -- A fill.
 abbrev pub said_fill : FillDef → Said
 said_fill f = fill_line (record { target = Some f.target; unit = Some f.unit; lba = Some f.lba; bytes = f.bytes })
+
+-- A tape.
+abbrev pub said_tape : TapeDef → Said
+said_tape t = tape_line (record {
+  target = Some t.target;
+  unit = Some t.unit;
+  objects = Some t.objects;
+  size = Some t.size;
+  depth = Some t.depth;
+})
+
+-- What is loaded.
+abbrev pub said_object : Load → ObjectSaid
+said_object (loads.Block bytes) = block_object bytes
+said_object loads.Mark = mark_object
+
+-- A load.
+abbrev pub load_form : LoadDef → LoadSaid
+load_form l = record { target = Some l.target; unit = Some l.unit; what = said_object l.what }
+
+abbrev pub said_load : LoadDef → Said
+said_load l = load_line (load_form l)
 
 -- A tag.
 abbrev pub said_tag : Tag → TagForm
@@ -284,7 +331,8 @@ events_of s =
 -- What the lines between the first and the last say, in their order.
 abbrev pub body_of : ScenarioValue → List Said
 body_of s = map (said_host s.version) s.hosts
-    ++ (map (said_target s.version) s.targets ++ (map said_unit s.units ++ (map said_fill s.fills ++ events_of s)))
+    ++ (map (said_target s.version) s.targets ++ (map said_unit s.units ++ (map said_fill s.fills
+    ++ (map said_tape s.tapes ++ (map said_load s.loads ++ events_of s)))))
 
 -- What the lines of a scenario say.
 abbrev pub saids : ScenarioValue → List Said
@@ -309,17 +357,29 @@ told_scenario read = read >>= λ d. Ok d.scenario
 abbrev pub IsHex : List ℕ → Type 0
 IsHex bytes = AreBytes bytes × (0 < length bytes)
 
+-- What is loaded can be told.
+abbrev pub IsHexLoad : Load → Type 0
+IsHexLoad (loads.Block bytes) = IsHex bytes
+IsHexLoad loads.Mark = Unit {0}
+
 -- What is sent can be told.
 abbrev pub IsHexPayload : Payload → Type 0
 IsHexPayload payloads.Nothing = Unit {0}
 IsHexPayload (payloads.Hex bytes) = IsHex bytes
 IsHexPayload (payloads.From b) = b < 256
 
--- The scenario obeys the rules: its version is 1 or 2, none of its lines has a reason, and together
--- they say it again; its bytes are bytes, and its text is within the limit.
-pub record Obeys (s : ScenarioValue) : Type 0 where
-  pub version : (s.version == 1 || s.version == 2) ≡ true
+-- The scenario obeys the rules of its text: its version is 1, 2 or 3, none of its lines has a reason, and together
+-- they say it again; its bytes are bytes, and its text is within the limit. So it is read and printed.
+pub record ObeysText (s : ScenarioValue) : Type 0 where
+  pub version : (s.version == 1 || (s.version == 2 || s.version == 3)) ≡ true
   pub lawful : told_scenario (built nothing (saids s)) ≡ Ok s
   pub fills : AllByRecursion (λ f. IsHex f.bytes) s.fills
+  pub loads : AllByRecursion (λ l. IsHexLoad l.what) s.loads
   pub commands : AllByRecursion (λ c. IsHex c.cdb × IsHexPayload c.payload) s.commands
   pub limit : length (text_of s) ≤ LIMIT
+
+-- It obeys them, and has no tape; then it has no load either (`loads_are_for_tapes`). So it runs, which a tape does not
+-- yet: once it does, the rules of a text are enough.
+pub record Obeys (s : ScenarioValue) : Type 0 where
+  pub text : ObeysText s
+  pub tapes : s.tapes ≡ []

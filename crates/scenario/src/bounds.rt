@@ -49,6 +49,9 @@ pub const LEAST_SIZE: u32 = 16;
 /// The largest size of a block, in bytes.
 pub const SIZE_LIMIT: u32 = 2048;
 
+/// The most objects of a tape: its blocks and filemarks together.
+pub const OBJECT_LIMIT: u32 = 65_536;
+
 /// The most commands that the queue of a unit holds.
 pub const DEPTH_LIMIT: u32 = 256;
 

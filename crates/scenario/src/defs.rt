@@ -1,29 +1,32 @@
 //! What each kind of line declares, with its reasons in rising order.
 ghost use Rattle.std.specs.Prelude.{◌≡◌, ◌≤◌, ◌<◌, ◌-◌, ◌+◌, ◌^◌, true, IfOk};
-ghost use Rattle.scenario.specs.Forms.{fill_said, cmd_said};
-ghost use Rattle.scenario.specs.Parts.{payload_said};
+ghost use Rattle.scenario.specs.Forms.{fill_said, load_said, cmd_said};
+ghost use Rattle.scenario.specs.Parts.{object_said, payload_said};
 ghost use Rattle.scenario.specs.Needs.{need_of};
 ghost use Rattle.scenario.specs.declared.bounds.TheConstants.{NEEDS_LIMIT};
-ghost use Rattle.scenario.specs.Lookups.{has_device, unit_of};
-ghost use Rattle.scenario.specs.Index.{IsIndexOf};
-ghost use Rattle.scenario.specs.Reading.{Gives, host_def, target_def, unit_def, found, is_block_of, fill_def, are_ends, payload_of, cmd_def, full_cmd_def, has_abort_room, abort_def, reset_def, fault_def};
+ghost use Rattle.scenario.specs.Lookups.{has_device, unit_of, tape_of, loads_at};
+ghost use Rattle.scenario.specs.Index.{IsIndexOf, IsCountOf};
+ghost use Rattle.scenario.specs.Reading.{Gives, host_def, target_def, unit_def, found, is_block_of, fill_def, tape_def, load_of, is_object_of, fits_tape, load_def, are_ends, payload_of, cmd_def, full_cmd_def, has_abort_room, abort_def, reset_def, fault_def};
 
 use crate::bounds::{
     ABORT_LIMIT, BLOCK_LIMIT, DEPTH_LIMIT, FAULT_LIMIT, HOST_OFFSET_LIMIT, LAG_LIMIT,
-    LATENCY_LIMIT, OPEN_LIMIT, RETRY_LIMIT, SEEK_LIMIT, TARGET_OFFSET_LIMIT,
+    LATENCY_LIMIT, OBJECT_LIMIT, OPEN_LIMIT, RETRY_LIMIT, SEEK_LIMIT, TARGET_OFFSET_LIMIT,
 };
 use crate::fault::Refusal;
 use crate::form::{
-    AbortForm, CmdForm, FaultForm, FillForm, HostForm, PayloadForm, ResetForm, TargetForm, UnitForm,
+    AbortForm, CmdForm, FaultForm, FillForm, HostForm, LoadForm, ObjectForm, PayloadForm,
+    ResetForm, TapeForm, TargetForm, UnitForm,
 };
-use crate::index::is_filled;
+use crate::index::{is_filled, loads_at};
 use crate::limits::{
     answer_or, byte, decoded, in_8, is_block, period_in, policy_in, require, size_in, small,
     tag_in, time_in, what_in, within,
 };
+use crate::lookup::tape_line;
 use crate::needs::{has_room, is_payload, need_of, sent_of};
 use crate::value::{
-    AbortDef, CmdDef, FaultDef, FillDef, HostDef, Payload, ResetDef, Scenario, TargetDef, UnitDef,
+    AbortDef, CmdDef, FaultDef, FillDef, HostDef, Load, LoadDef, Payload, ResetDef, Scenario,
+    TapeDef, TargetDef, UnitDef,
 };
 use bus_base::Octets;
 use std::alloc::{AllocError, Global};
@@ -149,6 +152,87 @@ pub(crate) fn fill_def(
         lba: lba as u32,
         bytes: Octets::new(bytes),
     })
+}
+
+/// A tape.
+#[tactic(auto, unfolding(crate::specs::Reading::tape_def))]
+pub(crate) fn tape_def(scenario: &Scenario, form: TapeForm) -> Result<TapeDef, Refusal>
+    ensures { Gives (λ def. def) result (tape_def scenario.now form) }
+{
+    let target = in_8(form.target)?;
+    let unit = in_8(form.unit)?;
+    let objects = small(form.objects, 1, OBJECT_LIMIT)?;
+    let size = size_in(form.size)?;
+    let depth = small(form.depth, 1, DEPTH_LIMIT)?;
+    require(5, scenario.unit(target, unit).is_none())?;
+    require(6, scenario.has_target(target))?;
+    Ok(TapeDef {
+        target,
+        unit,
+        objects,
+        size,
+        depth,
+    })
+}
+
+fn found_tape(scenario: &Scenario, target: u8, unit: u8) -> Result<TapeDef, Refusal>
+    ensures { Gives (λ def. def) result (found (tape_of scenario.now target unit)) }
+{
+    match tape_line(&scenario.tapes, target, unit) {
+        Some(def) => Ok(def),
+        None => Err(Refusal::Reason(6)),
+    }
+}
+
+fn load_of(alloc: Global, form: ObjectForm<'_>) -> Result<Load, AllocError>
+    ensures { IfOk result (λ what. what ≡ load_of (object_said form.entry)) }
+{
+    match form {
+        ObjectForm::Block(digits) => {
+            let bytes = decoded(alloc, digits)?;
+            Ok(Load::Block(Octets::new(bytes)))
+        }
+        ObjectForm::Mark => Ok(Load::Mark),
+    }
+}
+
+// Whether the object is a filemark, or one block of the tape.
+fn is_object_of(tape: &TapeDef, what: &Load) -> bool
+    ensures { result ≡ is_object_of tape.now what.now }
+{
+    match what {
+        Load::Block(bytes) => bytes.as_slice().len() as u64 == u64::from(tape.size),
+        Load::Mark => true,
+    }
+}
+
+// Whether the object fits on the tape, on which `count` stand.
+fn fits_tape(tape: &TapeDef, count: u32, what: &Load) -> bool
+    ensures exact { result ≡ fits_tape tape.now count what.now }
+    ensures room { result ≡ true → count < 2 ^ 32 - 1 }
+{
+    is_object_of(tape, what) && count < tape.objects
+}
+
+/// One object more on a tape. `loaded` tells how many stand on each.
+#[tactic(auto, unfolding(crate::specs::Reading::load_def))]
+pub(crate) fn load_def(
+    alloc: Global,
+    scenario: &Scenario,
+    loaded: &[u32; 64],
+    form: LoadForm<'_>,
+) -> Result<LoadDef, Refusal>
+    requires { IsCountOf loaded.now scenario.now.loads }
+    ensures exact { Gives (λ def. def) result (load_def scenario.now (load_said form.entry)) }
+    ensures place { IfOk result (λ def. (def.target < 8) × (def.unit < 8)) }
+    ensures room { IfOk result (λ def. loads_at scenario.now.loads def.target def.unit < 2 ^ 32 - 1) }
+{
+    let target = in_8(form.target)?;
+    let unit = in_8(form.unit)?;
+    let tape = found_tape(scenario, target, unit)?;
+    let what = load_of(alloc, form.what)?;
+    require(7, fits_tape(&tape, loads_at(loaded, target, unit), &what))?;
+    Ok(LoadDef { target, unit, what })
 }
 
 fn payload_of(alloc: Global, form: PayloadForm<'_>) -> Result<Payload, AllocError>

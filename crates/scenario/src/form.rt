@@ -1,13 +1,13 @@
 //! What a line says, apart from what stands before it.
 ghost use Rattle.std.specs.Prelude.{◌≡◌};
 ghost use Rattle.text_words.specs.Words.{Sees};
-ghost use Rattle.scenario.specs.Parts.{numbered_at, exactly_at, yes_no_at, flag_at, policy_at, pick_at, tag_at, nothing_at, hex_at, from_at, payload_at, payload_said, what_tag_at, what_at};
-ghost use Rattle.scenario.specs.Forms.{said, scsi_at, initiator_at, target_at, unit_at, fill_at, cmd_at, abort_at, reset_at, fault_at, end_at, declared_at, happens_at, form_of};
+ghost use Rattle.scenario.specs.Parts.{numbered_at, exactly_at, yes_no_at, flag_at, policy_at, pick_at, tag_at, mark_at, block_at, object_at, object_said, nothing_at, hex_at, from_at, payload_at, payload_said, what_tag_at, what_at};
+ghost use Rattle.scenario.specs.Forms.{said, scsi_at, initiator_at, target_at, unit_at, fill_at, tape_at, load_at, cmd_at, abort_at, reset_at, fault_at, end_at, declared_at, happens_at, form_of};
 
 use bus_base::Pick;
 use text_words::{Number, after, hex_array, hex_digits, number, whole};
 
-/// What an initiator's line says. In text 2 it tells whether the initiator offers, in text 1 not.
+/// What an initiator's line says. In text 1 it does not tell whether the initiator offers.
 #[derive(Clone, Copy)]
 pub(crate) struct HostForm {
     pub device: Number,
@@ -29,7 +29,7 @@ pub(crate) enum PolicyForm {
     NoSave(Number),
 }
 
-/// What a target's line says. In text 2 it tells whether the target begins, in text 1 not.
+/// What a target's line says. In text 1 it does not tell whether the target begins.
 #[derive(Clone, Copy)]
 pub(crate) struct TargetForm {
     pub device: Number,
@@ -60,6 +60,31 @@ pub(crate) struct FillForm<'a> {
     pub unit: Number,
     pub lba: Number,
     pub digits: &'a [u8],
+}
+
+/// What a tape's line says.
+#[derive(Clone, Copy)]
+pub(crate) struct TapeForm {
+    pub target: Number,
+    pub unit: Number,
+    pub objects: Number,
+    pub size: Number,
+    pub depth: Number,
+}
+
+/// The object that a load's line names; the bytes of a block as hexadecimal digits.
+#[derive(Clone, Copy)]
+pub(crate) enum ObjectForm<'a> {
+    Block(&'a [u8]),
+    Mark,
+}
+
+/// What a load's line says.
+#[derive(Clone, Copy)]
+pub(crate) struct LoadForm<'a> {
+    pub target: Number,
+    pub unit: Number,
+    pub what: ObjectForm<'a>,
 }
 
 /// The queueing that a command's line names.
@@ -132,6 +157,8 @@ pub(crate) enum Form<'a> {
     Target(TargetForm),
     Unit(UnitForm),
     Fill(FillForm<'a>),
+    Tape(TapeForm),
+    Load(LoadForm<'a>),
     Cmd(CmdForm<'a>),
     Abort(AbortForm),
     Reset(ResetForm),
@@ -168,7 +195,7 @@ fn yes_no(bytes: &[u8]) -> Option<bool>
     Some(false)
 }
 
-// What a line of text 2 says after `text`, and `None` within where the line is over, as in text 1.
+// What a line of texts 2 and 3 says after `text`, and `None` within where the line is over, as in text 1.
 #[tactic(auto, unfolding(crate::specs::Parts::flag_at))]
 fn flag(text: &[u8], bytes: &[u8]) -> Option<Option<bool>>
     ensures { result ≡ flag_at text.now bytes.now }
@@ -188,8 +215,11 @@ fn scsi_form(line: &[u8]) -> Option<Form<'_>>
     if let Some(()) = exactly(b"scsi 1", line) {
         return Some(Form::Scsi(1));
     }
-    exactly(b"scsi 2", line)?;
-    Some(Form::Scsi(2))
+    if let Some(()) = exactly(b"scsi 2", line) {
+        return Some(Form::Scsi(2));
+    }
+    exactly(b"scsi 3", line)?;
+    Some(Form::Scsi(3))
 }
 
 #[tactic(auto, unfolding(crate::specs::Forms::initiator_at))]
@@ -307,6 +337,63 @@ fn fill_form(line: &[u8]) -> Option<Form<'_>>
         lba,
         digits,
     }))
+}
+
+#[tactic(auto, unfolding(crate::specs::Forms::tape_at))]
+fn tape_form(line: &[u8]) -> Option<Form<'_>>
+    ensures { Sees said result (tape_at line.now) }
+{
+    let (target, rest) = numbered(b"tape ", line)?;
+    let (unit, rest) = numbered(b" ", rest)?;
+    let (objects, rest) = numbered(b" objects ", rest)?;
+    let (size, rest) = numbered(b" size ", rest)?;
+    let (depth, rest) = numbered(b" depth ", rest)?;
+    whole(rest)?;
+    Some(Form::Tape(TapeForm {
+        target,
+        unit,
+        objects,
+        size,
+        depth,
+    }))
+}
+
+#[tactic(auto, unfolding(crate::specs::Parts::mark_at))]
+fn mark(bytes: &[u8]) -> Option<ObjectForm<'_>>
+    ensures { Sees object_said result (mark_at bytes.now) }
+{
+    exactly(b"mark", bytes)?;
+    Some(ObjectForm::Mark)
+}
+
+#[tactic(auto, unfolding(crate::specs::Parts::block_at))]
+fn block(bytes: &[u8]) -> Option<ObjectForm<'_>>
+    ensures { Sees object_said result (block_at bytes.now) }
+{
+    let (digits, rest) = hex_digits(bytes)?;
+    whole(rest)?;
+    Some(ObjectForm::Block(digits))
+}
+
+#[tactic(auto, unfolding(crate::specs::Parts::object_at))]
+fn object(bytes: &[u8]) -> Option<ObjectForm<'_>>
+    ensures { Sees object_said result (object_at bytes.now) }
+{
+    if let Some(what) = mark(bytes) {
+        return Some(what);
+    }
+    block(bytes)
+}
+
+#[tactic(auto, unfolding(crate::specs::Forms::load_at))]
+fn load_form(line: &[u8]) -> Option<Form<'_>>
+    ensures { Sees said result (load_at line.now) }
+{
+    let (target, rest) = numbered(b"load ", line)?;
+    let (unit, rest) = numbered(b" ", rest)?;
+    let rest = after(b" ", rest)?;
+    let what = object(rest)?;
+    Some(Form::Load(LoadForm { target, unit, what }))
 }
 
 #[tactic(auto, unfolding(crate::specs::Parts::tag_at))]
@@ -480,7 +567,13 @@ fn declared_form(line: &[u8]) -> Option<Form<'_>>
     if let Some(form) = unit_form(line) {
         return Some(form);
     }
-    fill_form(line)
+    if let Some(form) = fill_form(line) {
+        return Some(form);
+    }
+    if let Some(form) = tape_form(line) {
+        return Some(form);
+    }
+    load_form(line)
 }
 
 // The lines that say what happens, and the last line.

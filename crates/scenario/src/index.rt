@@ -1,10 +1,12 @@
-//! The blocks that were filled, in a set, so that each fill is looked up in logarithmic time.
-ghost use Rattle.std.specs.Prelude.{◌≡◌, ◌∷◌, [], ◌++◌, List, OnOk};
+//! The blocks that were filled, in a set, and how many objects were loaded on each tape, so that no line is compared
+//! with all those before it.
+ghost use Rattle.std.specs.Prelude.{◌≡◌, ◌<◌, ◌+◌, ◌-◌, ◌*◌, ◌^◌, ◌∷◌, [], ◌++◌, List, OnOk};
 ghost use Rattle.scenario.specs.declared.value.FillDef.{FillDef};
-ghost use Rattle.scenario.specs.Lookups.{has_fill};
-ghost use Rattle.scenario.specs.Index.{IsIndexOf};
+ghost use Rattle.scenario.specs.declared.value.LoadDef.{LoadDef};
+ghost use Rattle.scenario.specs.Lookups.{has_fill, loads_at};
+ghost use Rattle.scenario.specs.Index.{IsIndexOf, IsCountOf};
 
-use crate::value::{FillDef, Scenario};
+use crate::value::{FillDef, LoadDef, Scenario};
 use std::alloc::AllocError;
 use std::collections::BTreeSet;
 
@@ -32,5 +34,42 @@ pub(crate) fn add_fill(
 {
     blocks.insert(block_of(&def))?;
     scenario.add_fill(def)?;
+    Ok(())
+}
+
+// Where the count of a unit stands.
+fn place(target: u8, unit: u8) -> usize
+    requires target { target < 8 }
+    requires unit { unit < 8 }
+    ensures exact { result ≡ target * 8 + unit }
+    ensures inside { result < 64 }
+{
+    usize::from(target) * 8 + usize::from(unit)
+}
+
+/// How many objects were loaded there.
+pub(crate) fn loads_at(loaded: &[u32; 64], target: u8, unit: u8) -> u32
+    requires target { target < 8 }
+    requires unit { unit < 8 }
+    ensures { (loads : List LoadDef) → IsCountOf loaded.now loads → result ≡ loads_at loads target unit }
+{
+    loaded[place(target, unit)]
+}
+
+/// One object more.
+pub(crate) fn add_load(
+    scenario: &mut Scenario,
+    loaded: &mut [u32; 64],
+    def: LoadDef,
+) -> Result<(), AllocError>
+    requires target { def.target < 8 }
+    requires unit { def.unit < 8 }
+    requires count { IsCountOf loaded.old scenario.old.loads }
+    requires room { loads_at scenario.old.loads def.target def.unit < 2 ^ 32 - 1 }
+    ensures added { OnOk result (scenario.new ≡ record scenario.old { loads = scenario.old.loads ++ def ∷ [] }) }
+    ensures count { OnOk result (IsCountOf loaded.new scenario.new.loads) }
+{
+    loaded[place(def.target, def.unit)] += 1;
+    scenario.add_load(def)?;
     Ok(())
 }

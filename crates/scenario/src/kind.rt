@@ -1,7 +1,7 @@
 //! The order of kinds.
 ghost use Rattle.std.specs.Prelude.{◌≡◌};
 ghost use Rattle.scenario.specs.Forms.{said};
-ghost use Rattle.scenario.specs.Reading.{rank, kind_of, in_order, is_end, fits_flag, fits_version};
+ghost use Rattle.scenario.specs.Reading.{rank, kind_of, in_order, is_end, fits_flag, has_tapes, fits_version};
 
 use crate::form::Form;
 
@@ -14,6 +14,8 @@ pub(crate) enum Kind {
     Target,
     Unit,
     Fill,
+    Tape,
+    Load,
     Cmd,
     Abort,
     Reset,
@@ -31,11 +33,13 @@ fn rank(kind: Kind) -> u8
         Kind::Target => 3,
         Kind::Unit => 4,
         Kind::Fill => 5,
-        Kind::Cmd => 6,
-        Kind::Abort => 7,
-        Kind::Reset => 8,
-        Kind::Fault => 9,
-        Kind::End => 10,
+        Kind::Tape => 6,
+        Kind::Load => 7,
+        Kind::Cmd => 8,
+        Kind::Abort => 9,
+        Kind::Reset => 10,
+        Kind::Fault => 11,
+        Kind::End => 12,
     }
 }
 
@@ -48,7 +52,7 @@ pub(crate) fn in_order(last: Kind, next: Kind) -> bool
     if last == 0 {
         next == 1
     } else {
-        1 < next && last <= next && last < 10
+        1 < next && last <= next && last < 12
     }
 }
 
@@ -56,7 +60,7 @@ pub(crate) fn in_order(last: Kind, next: Kind) -> bool
 pub(crate) fn is_end(kind: Kind) -> bool
     ensures { result ≡ is_end kind }
 {
-    rank(kind) == 10
+    rank(kind) == 12
 }
 
 /// The kind of a line.
@@ -69,6 +73,8 @@ pub(crate) fn kind_of(form: Form<'_>) -> Kind
         Form::Target(_) => Kind::Target,
         Form::Unit(_) => Kind::Unit,
         Form::Fill(_) => Kind::Fill,
+        Form::Tape(_) => Kind::Tape,
+        Form::Load(_) => Kind::Load,
         Form::Cmd(_) => Kind::Cmd,
         Form::Abort(_) => Kind::Abort,
         Form::Reset(_) => Kind::Reset,
@@ -81,9 +87,16 @@ fn fits_flag(version: u8, says: Option<bool>) -> bool
     ensures { result ≡ fits_flag version says }
 {
     match says {
-        None => version != 2,
+        None => version < 2,
         Some(_) => version != 1,
     }
+}
+
+// Tapes and loads stand in text 3 alone.
+fn has_tapes(version: u8) -> bool
+    ensures { result ≡ has_tapes version }
+{
+    version == 0 || version == 3
 }
 
 /// Whether the line has a form of this version, 0 being none yet.
@@ -96,6 +109,8 @@ pub(crate) fn fits_version(version: u8, form: Form<'_>) -> bool
         Form::Target(form) => fits_flag(version, form.begins),
         Form::Unit(_) => true,
         Form::Fill(_) => true,
+        Form::Tape(_) => has_tapes(version),
+        Form::Load(_) => has_tapes(version),
         Form::Cmd(_) => true,
         Form::Abort(_) => true,
         Form::Reset(_) => true,

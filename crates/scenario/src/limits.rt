@@ -39,7 +39,8 @@ pub(crate) fn within(number: Number, least: u64, most: u64) -> Result<u64, Refus
 
 /// A device or a unit.
 pub(crate) fn in_8(number: Number) -> Result<u8, Refusal>
-    ensures { Gives (λ n. n) result (in_8 number) }
+    ensures exact { Gives (λ n. n) result (in_8 number) }
+    ensures bound { IfOk result (λ n. n < 8) }
 {
     let n = within(number, 0, 7)?;
     Ok(n as u8)

@@ -173,6 +173,8 @@ pub fn make(alloc: Global, seed: u64, n: u32) -> Result<Scenario, NoMemory>
         targets,
         units,
         fills: Vec::new(alloc),
+        tapes: Vec::new(alloc),
+        loads: Vec::new(alloc),
         commands,
         aborts: Vec::new(alloc),
         resets: Vec::new(alloc),

@@ -1,11 +1,14 @@
 //! What a command needs.
 ghost use Rattle.std.specs.Prelude.{◌≡◌, ◌-◌, ◌^◌, min, length};
-ghost use Rattle.scenario.specs.Needs.{block_bytes, capacity_len, moved, moved_by, need_of, is_write, sent_of, sent_count};
+ghost use Rattle.scenario.specs.Needs.{block_bytes, capacity_len, moved, moved_by, counted_bytes, tape_moved, tape_moved_by, need_at, need_of, is_write, sent_of, sent_count};
 ghost use Rattle.scenario.specs.Reading.{is_payload, has_room};
 
 use crate::bounds::{COMMAND_LIMIT, NEED_LIMIT, NEEDS_LIMIT};
 use crate::value::{CmdDef, Payload, Scenario, UnitDef};
-use cdb_codec::{CAPACITY_LEN, CdbFault, Command, INQUIRY_LEN, SENSE_LEN, blocks_moved, from_cdb};
+use cdb_codec::{
+    CAPACITY_LEN, CdbFault, Command, INQUIRY_LEN, SENSE_LEN, TapeCommand, blocks_moved, from_cdb,
+    tape_cdb,
+};
 
 fn block_bytes(unit: Option<UnitDef>, lba: u32, count: u32) -> u64
     ensures { result ≡ block_bytes unit lba count }
@@ -55,6 +58,50 @@ fn moved_by(command: Result<Command, CdbFault>, unit: Option<UnitDef>) -> u64
     }
 }
 
+// The bytes of so many blocks of a tape.
+fn counted_bytes(unit: Option<UnitDef>, count: u32) -> u64
+    ensures { result ≡ counted_bytes unit count }
+{
+    match unit {
+        None => 0,
+        Some(unit) => u64::from(count) * u64::from(unit.size),
+    }
+}
+
+fn tape_moved(command: &TapeCommand, unit: Option<UnitDef>) -> u64
+    ensures { result ≡ tape_moved command.now unit }
+{
+    match command {
+        TapeCommand::TestUnitReady => 0,
+        TapeCommand::Rewind => 0,
+        TapeCommand::RequestSense { room } => u64::from(*room).min(SENSE_LEN as u64),
+        TapeCommand::Read { count } => counted_bytes(unit, *count),
+        TapeCommand::Write { count } => counted_bytes(unit, *count),
+        TapeCommand::Inquiry { room } => u64::from(*room).min(INQUIRY_LEN as u64),
+        TapeCommand::Filemarks { count: _ } => 0,
+        TapeCommand::Space { code: _, count: _ } => 0,
+    }
+}
+
+fn tape_moved_by(command: Result<TapeCommand, CdbFault>, unit: Option<UnitDef>) -> u64
+    ensures { result ≡ tape_moved_by command unit }
+{
+    match command {
+        Ok(command) => tape_moved(&command, unit),
+        Err(_) => 0,
+    }
+}
+
+fn need_at(is_tape: bool, cdb: &[u8], unit: Option<UnitDef>) -> u64
+    ensures { result ≡ need_at is_tape cdb.now unit }
+{
+    if is_tape {
+        tape_moved_by(tape_cdb(cdb), unit)
+    } else {
+        moved_by(from_cdb(cdb), unit)
+    }
+}
+
 /// How many bytes the command needs.
 #[tactic(auto, unfolding(crate::specs::Needs::need_of))]
 pub(crate) fn need_of(scenario: &Scenario, command: &CmdDef) -> u64
@@ -62,7 +109,8 @@ pub(crate) fn need_of(scenario: &Scenario, command: &CmdDef) -> u64
 {
     if scenario.has_target(command.target) {
         let unit = scenario.unit(command.target, command.unit);
-        moved_by(from_cdb(command.cdb.as_slice()), unit)
+        let is_tape = scenario.is_tape(command.target, command.unit);
+        need_at(is_tape, command.cdb.as_slice(), unit)
     } else {
         0
     }
@@ -112,9 +160,9 @@ pub(crate) fn has_room(scenario: &Scenario, needs: u32, need: u64) -> bool
 }
 
 /// How many bytes a command of the scenario needs: those that its block moves. It is none where the
-/// block has a fault, the target or unit is absent, or the unit has not all of the blocks; REQUEST
-/// SENSE and INQUIRY need theirs at an absent unit too. A number that does not fit is told as the
-/// highest, which comes only for a scenario that breaks the rules.
+/// block has a fault, the target or unit is absent, or a disk has not all of the blocks; REQUEST
+/// SENSE and INQUIRY need theirs at an absent unit too. At a tape it is what READ and WRITE count, of which less may
+/// move. A number that does not fit is told as the highest, which comes only for a scenario that breaks the rules.
 pub fn need(s: &Scenario, c: &CmdDef) -> u32
     ensures { result ≡ min (need_of s.now c.now) (2 ^ 32 - 1) }
 {

@@ -2,9 +2,9 @@
 ghost use Rattle.std.specs.Prelude.{◌≡◌, ◌∷◌, [], ◌++◌, ◌==◌, ◌&&◌, OnOk};
 ghost use Rattle.std.specs.List.{find, list_any};
 ghost use Rattle.scenario.specs.Value.{nothing_said};
-ghost use Rattle.scenario.specs.Lookups.{has_host, has_target, unit_of};
+ghost use Rattle.scenario.specs.Lookups.{has_host, has_target, unit_of, is_tape};
 
-use crate::lookup::unit_line;
+use crate::lookup::{tape_line, unit_or_tape};
 use bus_base::{AbortKind, Octets, Pick};
 use std::alloc::{AllocError, Global};
 use std::marker::Model;
@@ -68,7 +68,7 @@ pub struct TargetDef {
     pub begins: bool,
 }
 
-/// A logical unit.
+/// A logical unit that is a disk.
 #[derive(Clone, Copy, Debug, PartialEq, Eq)]
 pub struct UnitDef {
     /// Its target.
@@ -94,6 +94,41 @@ pub struct FillDef {
     pub lba: u32,
     /// Its bytes, as many as a block of the unit has.
     pub bytes: Octets,
+}
+
+/// A logical unit that is a tape with blocks of one size.
+#[derive(Clone, Copy, Debug, PartialEq, Eq)]
+pub struct TapeDef {
+    /// Its target.
+    pub target: u8,
+    /// Its number, 0 to 7; no disk of the target has it.
+    pub unit: u8,
+    /// How many objects it has room for, blocks and filemarks together, 1 to 65,536.
+    pub objects: u32,
+    /// How many bytes a block has: a power of two, 16 to 2048.
+    pub size: u32,
+    /// How many commands its queue holds, 1 to 256.
+    pub depth: u32,
+}
+
+/// An object of a tape.
+#[derive(Debug, Drop)]
+pub enum Load {
+    /// A block of these bytes, as many as a block of the tape has.
+    Block(Octets),
+    /// A filemark.
+    Mark,
+}
+
+/// One object more that a tape holds at the start, after those of the loads before it.
+#[derive(Debug, Drop)]
+pub struct LoadDef {
+    /// The target.
+    pub target: u8,
+    /// The unit, a tape.
+    pub unit: u8,
+    /// The object.
+    pub what: Load,
 }
 
 /// How a command is queued, with its tag.
@@ -175,16 +210,20 @@ pub struct FaultDef {
 /// What a bus has on it and what happens there.
 #[derive(Debug, Drop)]
 pub struct Scenario {
-    /// The version of its text, 1 or 2.
+    /// The version of its text, 1, 2 or 3. Text 1 tells neither who offers nor who begins, and text 3 alone has tapes.
     pub version: u8,
     /// The initiators.
     pub hosts: Vec<HostDef>,
     /// The targets.
     pub targets: Vec<TargetDef>,
-    /// The logical units.
+    /// The disks.
     pub units: Vec<UnitDef>,
     /// The blocks that hold other bytes than 0 at the start.
     pub fills: Vec<FillDef>,
+    /// The tapes.
+    pub tapes: Vec<TapeDef>,
+    /// The objects that tapes hold at the start, those of each tape in their order.
+    pub loads: Vec<LoadDef>,
     /// The commands.
     pub commands: Vec<CmdDef>,
     /// The abort messages.
@@ -206,6 +245,8 @@ impl Model for Scenario {
       targets = a.targets.items;
       units = a.units.items;
       fills = a.fills.items;
+      tapes = a.tapes.items;
+      loads = a.loads.items;
       commands = a.commands.items;
       aborts = a.aborts.items;
       resets = a.resets.items;
@@ -224,6 +265,8 @@ impl Scenario {
             targets: Vec::new(alloc),
             units: Vec::new(alloc),
             fills: Vec::new(alloc),
+            tapes: Vec::new(alloc),
+            loads: Vec::new(alloc),
             commands: Vec::new(alloc),
             aborts: Vec::new(alloc),
             resets: Vec::new(alloc),
@@ -249,7 +292,14 @@ impl Scenario {
     pub(crate) fn unit(&self, target: u8, unit: u8) -> Option<UnitDef>
         ensures { result ≡ unit_of self.now target unit }
     {
-        unit_line(&self.units, target, unit)
+        unit_or_tape(&self.units, &self.tapes, target, unit)
+    }
+
+    /// Whether the unit of this number of this target is a tape.
+    pub(crate) fn is_tape(&self, target: u8, unit: u8) -> bool
+        ensures { result ≡ is_tape self.now target unit }
+    {
+        tape_line(&self.tapes, target, unit).is_some()
     }
 
     pub(crate) fn set_version(&mut self, version: u8)
@@ -283,6 +333,20 @@ impl Scenario {
         ensures { OnOk result (self.new ≡ record self.old { fills = self.old.fills ++ def ∷ [] }) }
     {
         self.fills.push(def)?;
+        Ok(())
+    }
+
+    pub(crate) fn add_tape(&mut self, def: TapeDef) -> Result<(), AllocError>
+        ensures { OnOk result (self.new ≡ record self.old { tapes = self.old.tapes ++ def ∷ [] }) }
+    {
+        self.tapes.push(def)?;
+        Ok(())
+    }
+
+    pub(crate) fn add_load(&mut self, def: LoadDef) -> Result<(), AllocError>
+        ensures { OnOk result (self.new ≡ record self.old { loads = self.old.loads ++ def ∷ [] }) }
+    {
+        self.loads.push(def)?;
         Ok(())
     }
 

@@ -2,11 +2,11 @@
 ghost use Rattle.std.specs.Prelude.{◌≡◌, ◌++◌, ◌∷◌, [], OnOk, IfOk, map, codes, decimal};
 ghost use Rattle.std.specs.List.{flat_map};
 ghost use Rattle.text_words.specs.Spelling.{hex_text};
-ghost use Rattle.scenario.specs.Writing.{scsi_text, yes_no_text, flag_text, policy_text, pick_text, tag_text, payload_text, what_text, host_sync_text, target_seek_text, target_disc_text, cmd_tag_text, said_line, said_flag, host_form, target_form, cmd_form, events_of, body_of, said_host, said_policy, said_target, said_unit, said_fill, said_tag, said_payload, said_cmd, said_what, said_abort, said_reset, said_fault, text_of};
+ghost use Rattle.scenario.specs.Writing.{scsi_text, yes_no_text, flag_text, policy_text, pick_text, tag_text, object_text, payload_text, what_text, host_sync_text, target_seek_text, target_disc_text, cmd_tag_text, said_line, said_flag, host_form, target_form, cmd_form, events_of, body_of, said_host, said_policy, said_target, said_unit, said_fill, said_tape, said_object, said_load, said_tag, said_payload, said_cmd, said_what, said_abort, said_reset, said_fault, text_of};
 
 use crate::value::{
-    AbortDef, CmdDef, FaultDef, FillDef, HostDef, Payload, Policy, ResetDef, Scenario, Tag,
-    TargetDef, UnitDef,
+    AbortDef, CmdDef, FaultDef, FillDef, HostDef, Load, LoadDef, Payload, Policy, ResetDef,
+    Scenario, Tag, TapeDef, TargetDef, UnitDef,
 };
 use bus_base::{AbortKind, NoMemory, Pick};
 use std::alloc::{AllocError, Global};
@@ -41,7 +41,7 @@ fn put_hex(out: &mut Vec<u8>, bytes: &[u8]) -> Result<(), AllocError>
 fn put_flag(out: &mut Vec<u8>, text: &[u8], version: u8, answer: bool) -> Result<(), AllocError>
     ensures { OnOk result (out.new.items ≡ out.old.items ++ flag_text text.now (said_flag version answer)) }
 {
-    if version == 2 {
+    if version != 1 {
         put(out, text)?;
         put(
             out,
@@ -58,7 +58,9 @@ fn put_flag(out: &mut Vec<u8>, text: &[u8], version: u8, answer: bool) -> Result
 fn put_scsi(out: &mut Vec<u8>, version: u8) -> Result<(), AllocError>
     ensures { OnOk result (out.new.items ≡ out.old.items ++ (scsi_text version ++ 10 ∷ [])) }
 {
-    if version == 2 {
+    if version == 3 {
+        put(out, b"scsi 3\n")
+    } else if version == 2 {
         put(out, b"scsi 2\n")
     } else {
         put(out, b"scsi 1\n")
@@ -180,6 +182,38 @@ fn put_fill(alloc: Global, out: &mut Vec<u8>, def: &FillDef) -> Result<(), Alloc
     put_number(alloc, out, b" ", u64::from(def.lba))?;
     put(out, b" ")?;
     put_hex(out, def.bytes.as_slice())?;
+    put(out, b"\n")
+}
+
+#[tactic(auto, unfolding(crate::specs::Writing::tape_text))]
+fn put_tape(alloc: Global, out: &mut Vec<u8>, def: &TapeDef) -> Result<(), AllocError>
+    ensures { OnOk result (out.new.items ≡ out.old.items ++ said_line (said_tape def.now)) }
+{
+    put_number(alloc, out, b"tape ", u64::from(def.target))?;
+    put_number(alloc, out, b" ", u64::from(def.unit))?;
+    put_number(alloc, out, b" objects ", u64::from(def.objects))?;
+    put_number(alloc, out, b" size ", u64::from(def.size))?;
+    put_number(alloc, out, b" depth ", u64::from(def.depth))?;
+    put(out, b"\n")
+}
+
+fn put_object(out: &mut Vec<u8>, what: &Load) -> Result<(), AllocError>
+    ensures { OnOk result (out.new.items ≡ out.old.items ++ object_text (said_object what.now)) }
+{
+    match what {
+        Load::Block(bytes) => put_hex(out, bytes.as_slice()),
+        Load::Mark => put(out, b"mark"),
+    }
+}
+
+#[tactic(auto, unfolding(crate::specs::Writing::load_text))]
+fn put_load(alloc: Global, out: &mut Vec<u8>, def: &LoadDef) -> Result<(), AllocError>
+    ensures { OnOk result (out.new.items ≡ out.old.items ++ said_line (said_load def.now)) }
+{
+    put_number(alloc, out, b"load ", u64::from(def.target))?;
+    put_number(alloc, out, b" ", u64::from(def.unit))?;
+    put(out, b" ")?;
+    put_object(out, &def.what)?;
     put(out, b"\n")
 }
 
@@ -322,6 +356,24 @@ fn put_fills(alloc: Global, out: &mut Vec<u8>, defs: &[FillDef]) -> Result<(), A
     Ok(())
 }
 
+fn put_tapes(alloc: Global, out: &mut Vec<u8>, defs: &[TapeDef]) -> Result<(), AllocError>
+    ensures { OnOk result (out.new.items ≡ out.old.items ++ flat_map said_line (map said_tape defs.now)) }
+{
+    for def in defs {
+        put_tape(alloc, out, def)?;
+    }
+    Ok(())
+}
+
+fn put_loads(alloc: Global, out: &mut Vec<u8>, defs: &[LoadDef]) -> Result<(), AllocError>
+    ensures { OnOk result (out.new.items ≡ out.old.items ++ flat_map said_line (map said_load defs.now)) }
+{
+    for def in defs {
+        put_load(alloc, out, def)?;
+    }
+    Ok(())
+}
+
 fn put_cmds(alloc: Global, out: &mut Vec<u8>, defs: &[CmdDef]) -> Result<(), AllocError>
     ensures { OnOk result (out.new.items ≡ out.old.items ++ flat_map said_line (map said_cmd defs.now)) }
 {
@@ -376,6 +428,8 @@ fn put_body(alloc: Global, out: &mut Vec<u8>, s: &Scenario) -> Result<(), AllocE
     put_targets(alloc, out, s.version, &s.targets)?;
     put_units(alloc, out, &s.units)?;
     put_fills(alloc, out, &s.fills)?;
+    put_tapes(alloc, out, &s.tapes)?;
+    put_loads(alloc, out, &s.loads)?;
     put_events(alloc, out, s)
 }
 

@@ -7,6 +7,7 @@ use Rattle.bus_base.specs.declared.ProcId.{ProcId}
 use Rattle.scenario.specs.declared.value.HostDef.{HostDef}
 use Rattle.scenario.specs.declared.value.TargetDef.{TargetDef}
 use Rattle.scenario.specs.declared.value.UnitDef.{UnitDef}
+use Rattle.scenario.specs.declared.value.FillDef.{FillDef}
 use Rattle.scenario.specs.declared.value.CmdDef.{CmdDef}
 use Rattle.scenario.specs.declared.value.AbortDef.{AbortDef}
 use Rattle.scenario.specs.declared.value.Payload.{Payload}
@@ -15,7 +16,9 @@ use Rattle.scenario.specs.Value.{ScenarioValue}
 use Rattle.scenario.specs.Lookups.{unit_of}
 use Rattle.scenario.specs.Needs.{need_of, sent_of}
 use Rattle.scenario.specs.Reading.{is_payload}
+use Rattle.scenario.specs.Reasons.{is_block_in}
 use Rattle.scenario.specs.Writing.{Obeys, IsHex, IsHexPayload}
+use Rattle.scenario.proofs.UnitLines.{plain_unit, disk_is}
 use Rattle.due_model.specs.array_model.specs.Processes.{Process, process_by, process_if, command_at, command_process}
 use Rattle.due_model.specs.array_model.specs.Processes.{payload_bytes, bytes_from, sense_process}
 use Rattle.due_model.specs.array_model.specs.Units.{starting_unit, starting_units, unit_state_at}
@@ -141,7 +144,7 @@ unit_line s u w e = record {
   most_size = w.limits.most_size;
   some_depth = w.limits.some_depth;
   most_depth = w.limits.most_depth;
-  unit_is = e;
+  unit_is = disk_is s u.target u.unit u e;
   starts = starts_found s s.units u.target u.unit u e;
   no_host = w.no_host;
 }
@@ -196,10 +199,13 @@ obeys_fits s o =
       units = all_both (IsUnitFit s.hosts) (λ (u : UnitDef). unit_at s.units u.target u.unit ≡ Some u)
           (IsUnitLine s) s.units (λ u w e. unit_line s u w e) a.units a.units_once;
       apart = starts_apart s s.units a.units_apart;
-      fills = a.fills;
+      fills = all_are (λ (f : FillDef). is_block_in (unit_at s.units f.target f.unit) f.lba f.bytes ≡ true)
+          (λ (f : FillDef). is_block_in (unit_of s f.target f.unit) f.lba f.bytes ≡ true) s.fills
+          (λ f w. (λ i. is_block_in (plain_unit s f.target f.unit o.tapes i) f.lba f.bytes) ∙ w) a.fills;
+      tapes = o.tapes;
       commands = all_both (λ (c : CmdDef). IsCommandFit s.hosts (sent_of s c) (need_of s c) c)
           (λ (c : CmdDef). IsHex c.cdb × IsHexPayload c.payload) (IsCommandLine s) s.commands
-          (λ c w h. command_line s c w h) a.commands o.commands;
+          (λ c w h. command_line s c w h) a.commands o.text.commands;
       aborts = all_are (IsAbortFit s.hosts) (IsAbortLine s) s.aborts (λ b w. abort_line s b w) a.aborts;
       resets = a.resets;
       faults = a.faults;
@@ -254,9 +260,10 @@ target_fits s dev t f e = (
 pub unit_fits : (s : ScenarioValue) (target unit : ℕ) (u : UnitDef) → FitsBus s → unit_of s target unit ≡ Some u
     → IsUnitLine s u × (u.target ≡ target) × (u.unit ≡ unit)
 unit_fits s target unit u f e =
+    let there : unit_at s.units target unit ≡ Some u = sym (plain_unit s target unit f.tapes) ∙ e in
     let both = and_parts (u.target == target) (u.unit == unit)
-    (found_passes (λ (x : UnitDef). x.target == target && x.unit == unit) s.units u e) in (
-      found_holds (IsUnitLine s) (λ (x : UnitDef). x.target == target && x.unit == unit) s.units u f.units e,
+    (found_passes (λ (x : UnitDef). x.target == target && x.unit == unit) s.units u there) in (
+      found_holds (IsUnitLine s) (λ (x : UnitDef). x.target == target && x.unit == unit) s.units u f.units there,
       eqb-true u.target target both.0,
       eqb-true u.unit unit both.1,
     )

@@ -1,24 +1,24 @@
 -- What holds of all lines of a scenario that obeys the rules of its text.
-use Rattle.std.proofs.Common.{true, ◌≡◌, ◌≤◌, List, [], ◌∷◌, Ok, refl, subst, arith}
+use Rattle.std.proofs.Common.{true, ◌≡◌, ◌≤◌, List, [], ◌∷◌, Ok, refl, sym, subst, ◌∙◌, arith}
 use Rattle.scenario.specs.declared.value.FillDef.{FillDef}
 use Rattle.scenario.specs.declared.value.ResetDef.{ResetDef}
 use Rattle.scenario.specs.declared.value.FaultDef.{FaultDef}
 use Rattle.scenario.specs.Value.{ScenarioValue}
-use Rattle.scenario.specs.Lookups.{unit_of}
 use Rattle.scenario.specs.Needs.{need_of, sent_of}
 use Rattle.scenario.specs.Reasons.{is_block_in}
-use Rattle.scenario.specs.Forms.{Said, scsi_line, initiator_line, target_line, unit_line, fill_line, cmd_line}
-use Rattle.scenario.specs.Forms.{abort_line, reset_line, fault_line, end_line}
-use Rattle.scenario.specs.Reading.{Progress, guard, host_def, target_def, unit_def, fill_def, full_cmd_def, abort_def}
-use Rattle.scenario.specs.Reading.{reset_def, fault_def, added, said_after, fits_version, in_order, rank, kind_of}
-use Rattle.scenario.specs.Reading.{nothing}
+use Rattle.scenario.specs.Forms.{Said, scsi_line, initiator_line, target_line, unit_line, fill_line, tape_line}
+use Rattle.scenario.specs.Forms.{load_line, cmd_line, abort_line, reset_line, fault_line, end_line}
+use Rattle.scenario.specs.Reading.{Progress, guard, host_def, target_def, unit_def, fill_def, tape_def, load_def}
+use Rattle.scenario.specs.Reading.{full_cmd_def, abort_def, reset_def, fault_def, added, said_after, fits_version}
+use Rattle.scenario.specs.Reading.{in_order, rank, kind_of, nothing}
 use Rattle.scenario.specs.Writing.{saids, built, Obeys}
 use Rattle.scenario.proofs.Steps.{bind_ok, ok_is, guard_ok}
+use Rattle.scenario.proofs.UnitLines.{plain_unit}
 use Rattle.scsi_device.proofs.Finds.{all_more}
 use Rattle.scsi_device.proofs.LineReads.{host_read, target_read, unit_read, fill_read, full_cmd_read, abort_read}
 use Rattle.scsi_device.proofs.LineReads.{reset_read, fault_read}
-use Rattle.scsi_device.proofs.LinesSoFar.{AreFit, AreLater, no_sooner, still, with_host, with_target, with_unit}
-use Rattle.scsi_device.proofs.LinesSoFar.{with_command, with_abort}
+use Rattle.scsi_device.proofs.LinesSoFar.{unit_at, AreFit, AreLater, no_sooner, still, with_host, with_target}
+use Rattle.scsi_device.proofs.LinesSoFar.{with_unit, with_tape, with_command, with_abort}
 
 -- ---- any line more
 
@@ -55,8 +55,11 @@ fit_added d z (unit_line f) e a l =
     (with_unit d.scenario b.0 a l (unit_read d.scenario (unit_line f) b.0 b.1))
 fit_added d z (fill_line f) e a l =
     let b = bind_ok (fill_def d.scenario f) _ z e in
-    let r = all_more (λ (x : FillDef). is_block_in (unit_of d.scenario x.target x.unit) x.lba x.bytes ≡ true)
-    d.scenario.fills b.0 a.fills (fill_read d.scenario (fill_line f) b.0 b.1) in
+    let later : AreLater 5 d.scenario = l in
+    let plain = plain_unit d.scenario (b.0).target (b.0).unit (later.tapes (omega arith)) in
+    let r = all_more (λ (x : FillDef). is_block_in (unit_at d.scenario.units x.target x.unit) x.lba x.bytes ≡ true)
+    d.scenario.fills b.0 a.fills
+    ((λ i. is_block_in (sym plain i) (b.0).lba (b.0).bytes) ∙ fill_read d.scenario (fill_line f) b.0 b.1) in
     subst (λ (p : Progress). AreFit p.scenario) (ok_is _ z b.2) (record {
       hosts = a.hosts;
       hosts_once = a.hosts_once;
@@ -66,6 +69,27 @@ fit_added d z (fill_line f) e a l =
       units_once = a.units_once;
       units_apart = a.units_apart;
       fills = r;
+      commands = a.commands;
+      aborts = a.aborts;
+      resets = a.resets;
+      faults = a.faults;
+      few_commands = a.few_commands;
+      few_aborts = a.few_aborts;
+    })
+fit_added d z (tape_line f) e a l =
+    let b = bind_ok (tape_def d.scenario f) _ z e in
+    subst (λ (p : Progress). AreFit p.scenario) (ok_is _ z b.2) (with_tape d.scenario b.0 a l)
+fit_added d z (load_line f) e a l =
+    let b = bind_ok (load_def d.scenario f) _ z e in
+    subst (λ (p : Progress). AreFit p.scenario) (ok_is _ z b.2) (record {
+      hosts = a.hosts;
+      hosts_once = a.hosts_once;
+      targets = a.targets;
+      targets_once = a.targets_once;
+      units = a.units;
+      units_once = a.units_once;
+      units_apart = a.units_apart;
+      fills = a.fills;
       commands = a.commands;
       aborts = a.aborts;
       resets = a.resets;
@@ -126,18 +150,31 @@ fit_added d z end_line e a l = subst (λ (p : Progress). AreFit p.scenario) (ok_
 later_added : (d z : Progress) (x : Said) → added d x ≡ Ok z → AreLater (rank (kind_of x)) d.scenario
     → AreLater (rank (kind_of x)) z.scenario
 unfolding added
-later_added d z (scsi_line v) e l = subst (λ (p : Progress). AreLater 1 p.scenario) (ok_is _ z e)
-    (record { targets = l.targets; units = l.units; fills = l.fills; commands = l.commands; aborts = l.aborts })
+later_added d z (scsi_line v) e l = subst (λ (p : Progress). AreLater 1 p.scenario) (ok_is _ z e) (record {
+  targets = l.targets;
+  units = l.units;
+  fills = l.fills;
+  tapes = l.tapes;
+  commands = l.commands;
+  aborts = l.aborts;
+})
 later_added d z (initiator_line f) e l =
     let b = bind_ok (host_def d.scenario f) _ z e in
-    subst (λ (p : Progress). AreLater 2 p.scenario) (ok_is _ z b.2)
-    (record { targets = l.targets; units = l.units; fills = l.fills; commands = l.commands; aborts = l.aborts })
+    subst (λ (p : Progress). AreLater 2 p.scenario) (ok_is _ z b.2) (record {
+      targets = l.targets;
+      units = l.units;
+      fills = l.fills;
+      tapes = l.tapes;
+      commands = l.commands;
+      aborts = l.aborts;
+    })
 later_added d z (target_line f) e l =
     let b = bind_ok (target_def d.scenario f) _ z e in
     subst (λ (p : Progress). AreLater 3 p.scenario) (ok_is _ z b.2) (record {
       targets = λ w. absurd (omega arith);
       units = l.units;
       fills = l.fills;
+      tapes = l.tapes;
       commands = l.commands;
       aborts = l.aborts;
     })
@@ -147,6 +184,7 @@ later_added d z (unit_line f) e l =
       targets = λ w. absurd (omega arith);
       units = λ w. absurd (omega arith);
       fills = l.fills;
+      tapes = l.tapes;
       commands = l.commands;
       aborts = l.aborts;
     })
@@ -156,36 +194,71 @@ later_added d z (fill_line f) e l =
       targets = l.targets;
       units = l.units;
       fills = λ w. absurd (omega arith);
+      tapes = l.tapes;
+      commands = l.commands;
+      aborts = l.aborts;
+    })
+later_added d z (tape_line f) e l =
+    let b = bind_ok (tape_def d.scenario f) _ z e in
+    subst (λ (p : Progress). AreLater 6 p.scenario) (ok_is _ z b.2) (record {
+      targets = l.targets;
+      units = l.units;
+      fills = l.fills;
+      tapes = λ w. absurd (omega arith);
+      commands = l.commands;
+      aborts = l.aborts;
+    })
+later_added d z (load_line f) e l =
+    let b = bind_ok (load_def d.scenario f) _ z e in
+    subst (λ (p : Progress). AreLater 7 p.scenario) (ok_is _ z b.2) (record {
+      targets = l.targets;
+      units = l.units;
+      fills = l.fills;
+      tapes = l.tapes;
       commands = l.commands;
       aborts = l.aborts;
     })
 later_added d z (cmd_line f) e l =
     let b = bind_ok (full_cmd_def d.scenario d.needs f) _ z e in
-    subst (λ (p : Progress). AreLater 6 p.scenario) (ok_is _ z b.2) (record {
+    subst (λ (p : Progress). AreLater 8 p.scenario) (ok_is _ z b.2) (record {
       targets = l.targets;
       units = l.units;
       fills = l.fills;
+      tapes = l.tapes;
       commands = λ w. absurd (omega arith);
       aborts = l.aborts;
     })
 later_added d z (abort_line f) e l =
     let b = bind_ok (abort_def d.scenario f) _ z e in
-    subst (λ (p : Progress). AreLater 7 p.scenario) (ok_is _ z b.2) (record {
+    subst (λ (p : Progress). AreLater 9 p.scenario) (ok_is _ z b.2) (record {
       targets = l.targets;
       units = l.units;
       fills = l.fills;
+      tapes = l.tapes;
       commands = l.commands;
       aborts = λ w. absurd (omega arith);
     })
 later_added d z (reset_line f) e l =
     let b = bind_ok (reset_def d.scenario f) _ z e in
-    subst (λ (p : Progress). AreLater 8 p.scenario) (ok_is _ z b.2)
-    (record { targets = l.targets; units = l.units; fills = l.fills; commands = l.commands; aborts = l.aborts })
+    subst (λ (p : Progress). AreLater 10 p.scenario) (ok_is _ z b.2) (record {
+      targets = l.targets;
+      units = l.units;
+      fills = l.fills;
+      tapes = l.tapes;
+      commands = l.commands;
+      aborts = l.aborts;
+    })
 later_added d z (fault_line f) e l =
     let b = bind_ok (fault_def d.scenario f) _ z e in
-    subst (λ (p : Progress). AreLater 9 p.scenario) (ok_is _ z b.2)
-    (record { targets = l.targets; units = l.units; fills = l.fills; commands = l.commands; aborts = l.aborts })
-later_added d z end_line e l = subst (λ (p : Progress). AreLater 10 p.scenario) (ok_is d z e) l
+    subst (λ (p : Progress). AreLater 11 p.scenario) (ok_is _ z b.2) (record {
+      targets = l.targets;
+      units = l.units;
+      fills = l.fills;
+      tapes = l.tapes;
+      commands = l.commands;
+      aborts = l.aborts;
+    })
+later_added d z end_line e l = subst (λ (p : Progress). AreLater 12 p.scenario) (ok_is d z e) l
 
 -- ---- all lines
 
@@ -226,11 +299,17 @@ fit_nothing = record {
     few_commands = omega arith;
     few_aborts = omega arith;
   };
-  later =
-      record { targets = λ w. refl; units = λ w. refl; fills = λ w. refl; commands = λ w. refl; aborts = λ w. refl };
+  later = record {
+    targets = λ w. refl;
+    units = λ w. refl;
+    fills = λ w. refl;
+    tapes = λ w. refl;
+    commands = λ w. refl;
+    aborts = λ w. refl;
+  };
 }
 
 pub obeys_fit : (s : ScenarioValue) → Obeys s → AreFit s
 obeys_fit s o =
-    let b = bind_ok (built nothing (saids s)) _ s o.lawful in
+    let b = bind_ok (built nothing (saids s)) _ s o.text.lawful in
     subst AreFit (ok_is b.0.scenario s b.2) (fit_built nothing b.0 (saids s) b.1 fit_nothing).fit

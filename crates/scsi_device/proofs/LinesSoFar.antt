@@ -1,6 +1,6 @@
 -- What holds of the lines of a scenario so far, each after those before it.
 use Rattle.std.proofs.Common.{ℕ, ◌≡◌, ◌≤◌, ◌<◌, Bool, true, false, cond, not, ◌||◌, ◌&&◌, List, [], ◌∷◌, ◌++◌, length}
-use Rattle.std.proofs.Common.{Option, Some, None, refl, subst, arith, length-append}
+use Rattle.std.proofs.Common.{Option, Some, None, refl, sym, subst, ◌∙◌, arith, length-append}
 use Rattle.std.specs.Prelude.{◌==◌, nat_lt, nat_le}
 use Rattle.std.specs.List.{find, list_any, AllByRecursion}
 use Rattle.std.proofs.lemmas.Bool.Decides.{nat_tests}
@@ -8,6 +8,7 @@ use Rattle.scenario.specs.declared.value.HostDef.{HostDef}
 use Rattle.scenario.specs.declared.value.TargetDef.{TargetDef}
 use Rattle.scenario.specs.declared.value.UnitDef.{UnitDef}
 use Rattle.scenario.specs.declared.value.FillDef.{FillDef}
+use Rattle.scenario.specs.declared.value.TapeDef.{TapeDef}
 use Rattle.scenario.specs.declared.value.CmdDef.{CmdDef}
 use Rattle.scenario.specs.declared.value.AbortDef.{AbortDef}
 use Rattle.scenario.specs.declared.value.ResetDef.{ResetDef}
@@ -17,6 +18,7 @@ use Rattle.scenario.specs.Lookups.{has_host, has_target, has_device}
 use Rattle.scenario.specs.Needs.{need_of, sent_of}
 use Rattle.scenario.specs.Reasons.{is_block_in}
 use Rattle.scenario.specs.Reading.{is_payload, has_room, has_abort_room, in_order}
+use Rattle.scenario.proofs.UnitLines.{plain_unit}
 use Rattle.scsi_device.proofs.Finds.{all_more, all_are, all_of_none, find_kept, find_new, find_not, find_none}
 use Rattle.scsi_device.proofs.Finds.{find_rest}
 use Rattle.scsi_device.proofs.LineReads.{IsHostWithin, IsTargetWithin, IsUnitWithin, IsCommandWithin, IsAbortWithin}
@@ -85,12 +87,13 @@ pub record AreLater (r : ℕ) (s : ScenarioValue) : Type 0 where
   pub targets : r < 3 → s.targets ≡ []
   pub units : r < 4 → s.units ≡ []
   pub fills : r < 5 → s.fills ≡ []
-  pub commands : r < 6 → s.commands ≡ []
-  pub aborts : r < 7 → s.aborts ≡ []
+  pub tapes : r < 6 → s.tapes ≡ []
+  pub commands : r < 8 → s.commands ≡ []
+  pub aborts : r < 9 → s.aborts ≡ []
 
 pub no_sooner : (last next : ℕ) → in_order last next ≡ true → last ≤ next
 no_sooner last next e = go (last == 0) refl e where
-  go : (q : Bool) → (last == 0) ≡ q → cond q (next == 1) ((nat_lt 1 next && nat_le last next) && nat_lt last 10) ≡ true
+  go : (q : Bool) → (last == 0) ≡ q → cond q (next == 1) ((nat_lt 1 next && nat_le last next) && nat_lt last 12) ≡ true
       → last ≤ next
   go true a h = grind (arith, nat_tests)
   go false a h = grind (arith, nat_tests)
@@ -100,6 +103,7 @@ still s r q a le = record {
   targets = λ z. a.targets (omega arith);
   units = λ z. a.units (omega arith);
   fills = λ z. a.fills (omega arith);
+  tapes = λ z. a.tapes (omega arith);
   commands = λ z. a.commands (omega arith);
   aborts = λ z. a.aborts (omega arith);
 }
@@ -192,10 +196,12 @@ apart_more (v ∷ units) u a e =
       apart_more units u a.1 r.1,
     )
 
--- A unit comes before commands, too.
+-- A unit comes before tapes and commands.
 pub with_unit : (s : ScenarioValue) (u : UnitDef) → AreFit s → AreLater 4 s → IsUnitRead s u
     → AreFit (record s { units = s.units ++ u ∷ [] })
 with_unit s u a l r =
+    let new : unit_at s.units u.target u.unit ≡ None =
+    sym (plain_unit s u.target u.unit (l.tapes (omega arith))) ∙ r.new in
     let us : List UnitDef = s.units ++ u ∷ [] in
     let z : ScenarioValue = record s { units = us } in
     record {
@@ -209,11 +215,34 @@ with_unit s u a l r =
           (all_are (λ (g : UnitDef). unit_at s.units g.target g.unit ≡ Some g)
           (λ (g : UnitDef). unit_at us g.target g.unit ≡ Some g) s.units
           (λ g e. find_kept (λ (x : UnitDef). x.target == g.target && x.unit == g.unit) s.units u g e) a.units_once)
-          (find_new (λ (x : UnitDef). x.target == u.target && x.unit == u.unit) s.units u r.new
+          (find_new (λ (x : UnitDef). x.target == u.target && x.unit == u.unit) s.units u new
           (unit_itself u.target u.unit));
-      units_apart = apart_more s.units u a.units_apart r.new;
+      units_apart = apart_more s.units u a.units_apart new;
       fills = all_of_none (λ (f : FillDef). is_block_in (unit_at us f.target f.unit) f.lba f.bytes ≡ true) s.fills
           (l.fills (omega arith));
+      commands = all_of_none (λ (c : CmdDef). IsCommandFit s.hosts (sent_of z c) (need_of z c) c) s.commands
+          (l.commands (omega arith));
+      aborts = a.aborts;
+      resets = a.resets;
+      faults = a.faults;
+      few_commands = a.few_commands;
+      few_aborts = a.few_aborts;
+    }
+
+-- A tape comes before commands, too.
+pub with_tape : (s : ScenarioValue) (t : TapeDef) → AreFit s → AreLater 6 s
+    → AreFit (record s { tapes = s.tapes ++ t ∷ [] })
+with_tape s t a l =
+    let z : ScenarioValue = record s { tapes = s.tapes ++ t ∷ [] } in
+    record {
+      hosts = a.hosts;
+      hosts_once = a.hosts_once;
+      targets = a.targets;
+      targets_once = a.targets_once;
+      units = a.units;
+      units_once = a.units_once;
+      units_apart = a.units_apart;
+      fills = a.fills;
       commands = all_of_none (λ (c : CmdDef). IsCommandFit s.hosts (sent_of z c) (need_of z c) c) s.commands
           (l.commands (omega arith));
       aborts = a.aborts;

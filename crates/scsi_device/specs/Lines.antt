@@ -1,5 +1,5 @@
 -- What a scenario that obeys the rules of its text says of its devices, units, commands and aborts.
-use Rattle.std.specs.Prelude.{ℕ, ◌≡◌, ◌≤◌, ◌<◌, true, false, length, Some, None}
+use Rattle.std.specs.Prelude.{ℕ, ◌≡◌, ◌≤◌, ◌<◌, true, false, [], length, Some, None}
 use Rattle.std.specs.List.{AllByRecursion}
 use Rattle.text_words.specs.Spelling.{AreBytes}
 use Rattle.scenario.specs.declared.value.HostDef.{HostDef}
@@ -79,13 +79,15 @@ pub record IsAbortLine (s : ScenarioValue) (a : AbortDef) : Type 0 where
   pub target_is : is_initiator s.hosts a.target ≡ false
   pub time : a.at ≤ 1000000000000
 
--- Beside what each line says: units stand once, a fill is of a block of its unit, and commands and aborts are few.
+-- Beside what each line says: units stand once, a fill is of a block of its unit, there is no tape, and commands and
+-- aborts are few.
 pub record FitsBus (s : ScenarioValue) : Type 0 where
   pub hosts : AllByRecursion (λ h. IsHostLine s h) s.hosts
   pub targets : AllByRecursion (λ t. IsTargetLine s t) s.targets
   pub units : AllByRecursion (λ u. IsUnitLine s u) s.units
   pub apart : AreApart (starting_units s s.units)
   pub fills : AllByRecursion (λ (f : FillDef). is_block_in (unit_of s f.target f.unit) f.lba f.bytes ≡ true) s.fills
+  pub tapes : s.tapes ≡ []
   pub commands : AllByRecursion (λ c. IsCommandLine s c) s.commands
   pub aborts : AllByRecursion (λ a. IsAbortLine s a) s.aborts
   pub resets : AllByRecursion (λ (r : ResetDef). r.at ≤ 1000000000000) s.resets

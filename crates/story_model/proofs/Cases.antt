@@ -7,7 +7,7 @@ use Rattle.bus_phases.specs.bus_trace.specs.declared.Kind.TheVariants.{Drives, F
 use Rattle.bus_phases.specs.msg_grammar.specs.Messages.{form_out, form_in}
 use Rattle.story_model.specs.Story.{Story}
 use Rattle.story_model.specs.TraceHistory.{story}
-use Rattle.story_model.specs.Outcomes.{Outcome, outcomes, ended_good, ended_check, ended_full, ended_lost, ended_reset, ended_aborted}
+use Rattle.story_model.specs.Outcomes.{Outcome, outcomes, ended_good, ended_check, ended_full, ended_unanswered, ended_lost, ended_reset, ended_aborted}
 use Rattle.story_model.specs.Right.{all_carried}
 use Rattle.story_model.specs.Samples.{expected_strikes, row_strikes}
 use Rattle.std.proofs.Common.{ℕ, ◌≡◌, Bool, true, false, List, [], ◌∷◌, reverse, refl}
@@ -18,11 +18,17 @@ use Rattle.bus_phases.specs.bus_base.specs.declared.AbortKind.TheVariants as abo
 use Rattle.bus_phases.specs.bus_base.specs.declared.Event.{Event}
 use Rattle.bus_phases.specs.bus_base.specs.declared.Event.TheVariants as events
 use Rattle.bus_phases.specs.bus_base.specs.declared.events.Pick.TheVariants as picks
+use Rattle.array_model.specs.scenario.specs.declared.value.FillDef.{FillDef}
+use Rattle.array_model.specs.scenario.specs.declared.value.UnitDef.{UnitDef}
 use Rattle.array_model.specs.scenario.specs.declared.value.Policy.TheVariants as policies
+use Rattle.array_model.specs.scenario.specs.declared.value.Load.TheVariants as loads
 use Rattle.array_model.specs.scenario.specs.declared.value.Tag.TheVariants as tags
 use Rattle.array_model.specs.scenario.specs.declared.value.Payload.TheVariants as payloads
 use Rattle.array_model.specs.scenario.specs.Value.{ScenarioValue}
 use Rattle.array_model.specs.scenario.specs.Needs.{need_of, sent_of}
+use Rattle.array_model.specs.Contents.{Contents, starting_contents, printed_blocks}
+use Rattle.array_model.specs.Execution.{Reply, good, check_condition, queue_full, sense_of}
+use Rattle.array_model.specs.ArrayHistory.{array_after, disks_of, reply_of}
 
 abbrev drive : ℕ → ℕ → ℕ → Row
 drive time dev lines = record { time = time; dev = dev; kind = Drives (set_of lines) }
@@ -55,6 +61,8 @@ aborts_and_resets_run = record {
   targets = record { dev = 0; latency = 100; retries = 1; disc = policies.NoSave 3; pick = picks.First; seek = 20000; period = 50; offset = 8; begins = false } ∷ [];
   units = record { target = 0; unit = 5; blocks = 8; size = 16; depth = 2 } ∷ [];
   fills = record { target = 0; unit = 5; lba = 0; bytes = (0 ∷ 60 ∷ 0 ∷ 73 ∷ 57 ∷ 198 ∷ 0 ∷ 0 ∷ 226 ∷ 78 ∷ 52 ∷ 120 ∷ 160 ∷ 163 ∷ 155 ∷ 140 ∷ []) } ∷ record { target = 0; unit = 5; lba = 1; bytes = (0 ∷ 0 ∷ 0 ∷ 169 ∷ 199 ∷ 0 ∷ 162 ∷ 204 ∷ 0 ∷ 153 ∷ 40 ∷ 0 ∷ 0 ∷ 145 ∷ 0 ∷ 190 ∷ []) } ∷ record { target = 0; unit = 5; lba = 2; bytes = (88 ∷ 0 ∷ 51 ∷ 210 ∷ 0 ∷ 0 ∷ 163 ∷ 95 ∷ 126 ∷ 110 ∷ 0 ∷ 162 ∷ 40 ∷ 0 ∷ 51 ∷ 163 ∷ []) } ∷ record { target = 0; unit = 5; lba = 5; bytes = (233 ∷ 224 ∷ 0 ∷ 109 ∷ 60 ∷ 83 ∷ 255 ∷ 0 ∷ 0 ∷ 0 ∷ 9 ∷ 240 ∷ 23 ∷ 145 ∷ 0 ∷ 0 ∷ []) } ∷ record { target = 0; unit = 5; lba = 7; bytes = (145 ∷ 237 ∷ 47 ∷ 0 ∷ 142 ∷ 249 ∷ 143 ∷ 0 ∷ 26 ∷ 70 ∷ 0 ∷ 43 ∷ 0 ∷ 0 ∷ 0 ∷ 163 ∷ []) } ∷ [];
+  tapes = [];
+  loads = [];
   commands = record { host = 4; target = 0; unit = 5; at = 11481; tag = tags.Simple 255; cdb = (8 ∷ 0 ∷ 0 ∷ 3 ∷ 1 ∷ 0 ∷ []); payload = payloads.Nothing } ∷ record { host = 6; target = 0; unit = 5; at = 2289; tag = tags.Simple 1; cdb = (4 ∷ 0 ∷ 0 ∷ 0 ∷ 0 ∷ 0 ∷ []); payload = payloads.Nothing } ∷ record { host = 4; target = 0; unit = 5; at = 3238; tag = tags.Simple 2; cdb = (10 ∷ 0 ∷ 0 ∷ 6 ∷ 1 ∷ 0 ∷ []); payload = payloads.Hex (255 ∷ 0 ∷ 0 ∷ 79 ∷ 0 ∷ 145 ∷ 78 ∷ 0 ∷ 0 ∷ 255 ∷ 153 ∷ 201 ∷ 0 ∷ 0 ∷ 255 ∷ 255 ∷ []) } ∷ record { host = 4; target = 0; unit = 5; at = 13442; tag = tags.Untagged; cdb = (18 ∷ 0 ∷ 0 ∷ 0 ∷ 5 ∷ 0 ∷ []); payload = payloads.Nothing } ∷ record { host = 6; target = 0; unit = 5; at = 8041; tag = tags.Untagged; cdb = (40 ∷ 24 ∷ 0 ∷ 0 ∷ 0 ∷ 7 ∷ 0 ∷ 0 ∷ 1 ∷ 0 ∷ []); payload = payloads.Nothing } ∷ [];
   aborts = record { host = 1; target = 0; unit = 5; at = 105264; what = aborts.Device } ∷ record { host = 2; target = 0; unit = 5; at = 35104; what = aborts.All } ∷ [];
   resets = record { dev = 7; at = 114704 } ∷ record { dev = 3; at = 10145 } ∷ record { dev = 3; at = 182069 } ∷ [];
@@ -80,6 +88,8 @@ all_run = record {
   targets = record { dev = 0; latency = 0; retries = 2; disc = policies.Command; pick = picks.First; seek = 0; period = 0; offset = 0; begins = false } ∷ [];
   units = record { target = 0; unit = 0; blocks = 4; size = 16; depth = 8 } ∷ [];
   fills = [];
+  tapes = [];
+  loads = [];
   commands = record { host = 6; target = 0; unit = 0; at = 0; tag = tags.Untagged; cdb = (8 ∷ 0 ∷ 0 ∷ 9 ∷ 1 ∷ 0 ∷ []); payload = payloads.Nothing } ∷ record { host = 7; target = 0; unit = 0; at = 40000; tag = tags.Simple 2; cdb = (10 ∷ 0 ∷ 0 ∷ 1 ∷ 1 ∷ 0 ∷ []); payload = payloads.From 16 } ∷ record { host = 6; target = 0; unit = 0; at = 60000; tag = tags.Untagged; cdb = (3 ∷ 0 ∷ 0 ∷ 0 ∷ 18 ∷ 0 ∷ []); payload = payloads.Nothing } ∷ [];
   aborts = record { host = 6; target = 0; unit = 0; at = 14000; what = aborts.All } ∷ [];
   resets = [];
@@ -105,6 +115,8 @@ called_again_for_sense_run = record {
   targets = record { dev = 0; latency = 2; retries = 2; disc = policies.Never; pick = picks.First; seek = 0; period = 0; offset = 0; begins = false } ∷ [];
   units = record { target = 0; unit = 0; blocks = 1; size = 16; depth = 1 } ∷ [];
   fills = [];
+  tapes = [];
+  loads = [];
   commands = record { host = 7; target = 0; unit = 0; at = 0; tag = tags.Untagged; cdb = (8 ∷ 0 ∷ 0 ∷ 1 ∷ 1 ∷ 0 ∷ []); payload = payloads.Nothing } ∷ [];
   aborts = [];
   resets = [];
@@ -117,7 +129,7 @@ called_again_for_sense_run_rows = drive 1200 7 0x00280 ∷ drive 3600 7 0x00680 
 abbrev called_again_for_sense_run_events : List Event
 called_again_for_sense_run_events = events.Accept (command 1) ∷ events.Run (command 1) ∷ events.End (command 1) 2 ∷ events.Accept (sense 1) ∷ events.Run (sense 1) ∷ events.End (sense 1) 0 ∷ []
 
-called_again_for_sense_run_told : shown called_again_for_sense_run (story called_again_for_sense_run (reverse called_again_for_sense_run_rows)) (reverse called_again_for_sense_run_events) ≡ record { history = reverse called_again_for_sense_run_events; ends = Some (ended_check (Some (record { key = 5; asc = 33; ascq = 0 }))) ∷ []; carried = true }
+called_again_for_sense_run_told : shown called_again_for_sense_run (story called_again_for_sense_run (reverse called_again_for_sense_run_rows)) (reverse called_again_for_sense_run_events) ≡ record { history = reverse called_again_for_sense_run_events; ends = Some (ended_check (Some (sense_of 5 33 0))) ∷ []; carried = true }
 unfolding need_of sent_of ones union_below line_of form_out form_in
 called_again_for_sense_run_told = refl
 
@@ -134,6 +146,8 @@ capacity_of_the_largest_run = record {
   targets = record { dev = 0; latency = 0; retries = 2; disc = policies.Never; pick = picks.First; seek = 0; period = 0; offset = 0; begins = false } ∷ [];
   units = record { target = 0; unit = 0; blocks = 4294967296; size = 512; depth = 1 } ∷ [];
   fills = [];
+  tapes = [];
+  loads = [];
   commands = record { host = 7; target = 0; unit = 0; at = 0; tag = tags.Untagged; cdb = (37 ∷ 0 ∷ 0 ∷ 0 ∷ 0 ∷ 0 ∷ 0 ∷ 0 ∷ 0 ∷ 0 ∷ []); payload = payloads.Nothing } ∷ [];
   aborts = [];
   resets = [];
@@ -159,6 +173,8 @@ checks_run = record {
   targets = record { dev = 0; latency = 0; retries = 2; disc = policies.Command; pick = picks.Last; seek = 1000000; period = 0; offset = 0; begins = false } ∷ [];
   units = record { target = 0; unit = 0; blocks = 1; size = 16; depth = 6 } ∷ [];
   fills = [];
+  tapes = [];
+  loads = [];
   commands = record { host = 7; target = 0; unit = 0; at = 0; tag = tags.Simple 0; cdb = (8 ∷ 0 ∷ 0 ∷ 1 ∷ 1 ∷ 0 ∷ []); payload = payloads.Nothing } ∷ record { host = 6; target = 0; unit = 0; at = 0; tag = tags.Simple 0; cdb = (0 ∷ 0 ∷ 0 ∷ 0 ∷ 0 ∷ 0 ∷ []); payload = payloads.Nothing } ∷ [];
   aborts = [];
   resets = [];
@@ -171,7 +187,7 @@ checks_run_rows = drive 1200 7 0x00280 ∷ drive 1200 6 0x00240 ∷ drive 3600 7
 abbrev checks_run_events : List Event
 checks_run_events = events.Accept (command 1) ∷ events.Accept (command 2) ∷ events.Run (command 1) ∷ events.End (command 1) 2 ∷ events.Accept (sense 1) ∷ events.Run (sense 1) ∷ events.End (sense 1) 0 ∷ events.Run (command 2) ∷ events.End (command 2) 0 ∷ []
 
-checks_run_told : shown checks_run (story checks_run (reverse checks_run_rows)) (reverse checks_run_events) ≡ record { history = reverse checks_run_events; ends = Some (ended_check (Some (record { key = 5; asc = 33; ascq = 0 }))) ∷ Some (ended_good ([])) ∷ []; carried = true }
+checks_run_told : shown checks_run (story checks_run (reverse checks_run_rows)) (reverse checks_run_events) ≡ record { history = reverse checks_run_events; ends = Some (ended_check (Some (sense_of 5 33 0))) ∷ Some (ended_good ([])) ∷ []; carried = true }
 unfolding need_of sent_of ones union_below line_of form_out form_in
 checks_run_told = refl
 
@@ -184,6 +200,8 @@ conflicts_run = record {
   targets = record { dev = 0; latency = 0; retries = 2; disc = policies.Command; pick = picks.Last; seek = 1000000; period = 0; offset = 0; begins = false } ∷ [];
   units = record { target = 0; unit = 0; blocks = 1; size = 16; depth = 6 } ∷ [];
   fills = [];
+  tapes = [];
+  loads = [];
   commands = record { host = 7; target = 0; unit = 0; at = 0; tag = tags.Simple 0; cdb = (0 ∷ 0 ∷ 0 ∷ 0 ∷ 0 ∷ 0 ∷ []); payload = payloads.Nothing } ∷ record { host = 7; target = 0; unit = 0; at = 0; tag = tags.Simple 1; cdb = (10 ∷ 0 ∷ 0 ∷ 0 ∷ 1 ∷ 0 ∷ []); payload = payloads.From 32 } ∷ record { host = 7; target = 0; unit = 0; at = 0; tag = tags.Simple 2; cdb = (10 ∷ 0 ∷ 0 ∷ 0 ∷ 1 ∷ 0 ∷ []); payload = payloads.From 64 } ∷ record { host = 6; target = 0; unit = 0; at = 0; tag = tags.Simple 0; cdb = (10 ∷ 0 ∷ 0 ∷ 0 ∷ 1 ∷ 0 ∷ []); payload = payloads.From 96 } ∷ [];
   aborts = [];
   resets = [];
@@ -209,6 +227,8 @@ failures_run = record {
   targets = record { dev = 0; latency = 0; retries = 0; disc = policies.Never; pick = picks.Last; seek = 0; period = 50; offset = 8; begins = false } ∷ record { dev = 1; latency = 100; retries = 0; disc = policies.Never; pick = picks.Last; seek = 0; period = 49; offset = 8; begins = false } ∷ [];
   units = record { target = 0; unit = 0; blocks = 1; size = 32; depth = 4 } ∷ record { target = 0; unit = 6; blocks = 1; size = 32; depth = 16 } ∷ record { target = 1; unit = 4; blocks = 1; size = 32; depth = 2 } ∷ record { target = 1; unit = 7; blocks = 2; size = 32; depth = 4 } ∷ [];
   fills = record { target = 0; unit = 0; lba = 0; bytes = (243 ∷ 0 ∷ 92 ∷ 0 ∷ 50 ∷ 24 ∷ 195 ∷ 87 ∷ 111 ∷ 0 ∷ 136 ∷ 94 ∷ 0 ∷ 84 ∷ 86 ∷ 63 ∷ 217 ∷ 1 ∷ 0 ∷ 0 ∷ 148 ∷ 118 ∷ 0 ∷ 133 ∷ 226 ∷ 222 ∷ 23 ∷ 169 ∷ 0 ∷ 109 ∷ 154 ∷ 187 ∷ []) } ∷ record { target = 1; unit = 4; lba = 0; bytes = (15 ∷ 0 ∷ 64 ∷ 0 ∷ 166 ∷ 0 ∷ 91 ∷ 210 ∷ 118 ∷ 172 ∷ 124 ∷ 0 ∷ 201 ∷ 188 ∷ 63 ∷ 212 ∷ 0 ∷ 13 ∷ 124 ∷ 188 ∷ 31 ∷ 0 ∷ 0 ∷ 131 ∷ 158 ∷ 0 ∷ 157 ∷ 0 ∷ 101 ∷ 238 ∷ 166 ∷ 0 ∷ []) } ∷ record { target = 1; unit = 7; lba = 0; bytes = (0 ∷ 0 ∷ 143 ∷ 218 ∷ 64 ∷ 47 ∷ 0 ∷ 177 ∷ 0 ∷ 165 ∷ 167 ∷ 0 ∷ 230 ∷ 88 ∷ 0 ∷ 103 ∷ 0 ∷ 0 ∷ 206 ∷ 35 ∷ 0 ∷ 94 ∷ 0 ∷ 217 ∷ 54 ∷ 0 ∷ 244 ∷ 75 ∷ 233 ∷ 39 ∷ 0 ∷ 0 ∷ []) } ∷ record { target = 1; unit = 7; lba = 1; bytes = (216 ∷ 235 ∷ 0 ∷ 0 ∷ 45 ∷ 0 ∷ 66 ∷ 149 ∷ 0 ∷ 0 ∷ 0 ∷ 203 ∷ 69 ∷ 42 ∷ 9 ∷ 82 ∷ 0 ∷ 204 ∷ 24 ∷ 168 ∷ 5 ∷ 0 ∷ 192 ∷ 82 ∷ 0 ∷ 18 ∷ 139 ∷ 67 ∷ 0 ∷ 52 ∷ 0 ∷ 98 ∷ []) } ∷ [];
+  tapes = [];
+  loads = [];
   commands = record { host = 3; target = 1; unit = 7; at = 24081; tag = tags.Ordered 0; cdb = (10 ∷ 0 ∷ 0 ∷ 0 ∷ 2 ∷ 0 ∷ []); payload = payloads.From 227 } ∷ record { host = 3; target = 1; unit = 7; at = 19892; tag = tags.Untagged; cdb = (42 ∷ 8 ∷ 0 ∷ 0 ∷ 0 ∷ 0 ∷ 0 ∷ 0 ∷ 2 ∷ 0 ∷ []); payload = payloads.From 197 } ∷ record { host = 3; target = 0; unit = 0; at = 37; tag = tags.Simple 255; cdb = (10 ∷ 0 ∷ 0 ∷ 0 ∷ 1 ∷ 0 ∷ []); payload = payloads.From 192 } ∷ [];
   aborts = record { host = 3; target = 0; unit = 0; at = 83587; what = aborts.WholeQueue } ∷ record { host = 3; target = 0; unit = 0; at = 133964; what = aborts.WholeQueue } ∷ record { host = 3; target = 1; unit = 4; at = 83662; what = (aborts.Tag 255) } ∷ [];
   resets = record { dev = 1; at = 94094 } ∷ record { dev = 0; at = 40497 } ∷ record { dev = 0; at = 52332 } ∷ [];
@@ -221,7 +241,7 @@ failures_run_rows = drive 24181 3 0x00208 ∷ drive 26681 3 0x00608 ∷ drive 27
 abbrev failures_run_events : List Event
 failures_run_events = events.Fail (command 1) 71 ∷ events.End (command 1) 2 ∷ events.Reset 0 ∷ events.Fail (command 2) 71 ∷ events.End (command 2) 2 ∷ events.Accept (sense 2) ∷ events.Reset 1 ∷ events.Aborted 3 0 0 aborts.WholeQueue ∷ events.Aborted 3 1 4 (aborts.Tag 255) ∷ events.Accept (command 3) ∷ events.Run (command 3) ∷ events.End (command 3) 2 ∷ events.Accept (sense 3) ∷ events.Run (sense 3) ∷ events.End (sense 3) 0 ∷ []
 
-failures_run_told : shown failures_run (story failures_run (reverse failures_run_rows)) (reverse failures_run_events) ≡ record { history = reverse failures_run_events; ends = Some (ended_check None) ∷ Some (ended_check None) ∷ Some (ended_check (Some (record { key = 6; asc = 41; ascq = 0 }))) ∷ []; carried = true }
+failures_run_told : shown failures_run (story failures_run (reverse failures_run_rows)) (reverse failures_run_events) ≡ record { history = reverse failures_run_events; ends = Some (ended_check None) ∷ Some (ended_check None) ∷ Some (ended_check (Some (sense_of 6 41 0))) ∷ []; carried = true }
 unfolding need_of sent_of ones union_below line_of form_out form_in
 failures_run_told = refl
 
@@ -238,6 +258,8 @@ full_run = record {
   targets = record { dev = 0; latency = 0; retries = 2; disc = policies.Command; pick = picks.First; seek = 1000000; period = 0; offset = 0; begins = false } ∷ [];
   units = record { target = 0; unit = 0; blocks = 2; size = 16; depth = 3 } ∷ record { target = 0; unit = 1; blocks = 2; size = 16; depth = 1 } ∷ [];
   fills = [];
+  tapes = [];
+  loads = [];
   commands = record { host = 7; target = 0; unit = 0; at = 0; tag = tags.Simple 1; cdb = (10 ∷ 0 ∷ 0 ∷ 1 ∷ 1 ∷ 0 ∷ []); payload = payloads.From 16 } ∷ record { host = 6; target = 0; unit = 0; at = 0; tag = tags.Simple 2; cdb = (10 ∷ 0 ∷ 0 ∷ 1 ∷ 1 ∷ 0 ∷ []); payload = payloads.From 32 } ∷ record { host = 6; target = 0; unit = 0; at = 0; tag = tags.Simple 9; cdb = (10 ∷ 0 ∷ 0 ∷ 0 ∷ 1 ∷ 0 ∷ []); payload = payloads.From 80 } ∷ record { host = 7; target = 0; unit = 0; at = 50000; tag = tags.Head 3; cdb = (10 ∷ 0 ∷ 0 ∷ 0 ∷ 1 ∷ 0 ∷ []); payload = payloads.From 48 } ∷ record { host = 6; target = 0; unit = 1; at = 100000; tag = tags.Ordered 4; cdb = (10 ∷ 0 ∷ 0 ∷ 0 ∷ 1 ∷ 0 ∷ []); payload = payloads.From 64 } ∷ record { host = 6; target = 0; unit = 1; at = 100000; tag = tags.Simple 5; cdb = (18 ∷ 0 ∷ 0 ∷ 0 ∷ 36 ∷ 0 ∷ []); payload = payloads.Nothing } ∷ record { host = 7; target = 0; unit = 1; at = 100000; tag = tags.Untagged; cdb = (3 ∷ 0 ∷ 0 ∷ 0 ∷ 4 ∷ 0 ∷ []); payload = payloads.Nothing } ∷ [];
   aborts = record { host = 6; target = 0; unit = 0; at = 150000; what = (aborts.Tag 2) } ∷ record { host = 6; target = 0; unit = 1; at = 3000000; what = aborts.Device } ∷ [];
   resets = [];
@@ -263,6 +285,8 @@ heads_run = record {
   targets = record { dev = 0; latency = 0; retries = 2; disc = policies.Command; pick = picks.First; seek = 1000000; period = 0; offset = 0; begins = false } ∷ [];
   units = record { target = 0; unit = 0; blocks = 1; size = 16; depth = 6 } ∷ [];
   fills = [];
+  tapes = [];
+  loads = [];
   commands = record { host = 7; target = 0; unit = 0; at = 0; tag = tags.Simple 0; cdb = (0 ∷ 0 ∷ 0 ∷ 0 ∷ 0 ∷ 0 ∷ []); payload = payloads.Nothing } ∷ record { host = 7; target = 0; unit = 0; at = 0; tag = tags.Simple 1; cdb = (0 ∷ 0 ∷ 0 ∷ 0 ∷ 0 ∷ 0 ∷ []); payload = payloads.Nothing } ∷ record { host = 7; target = 0; unit = 0; at = 0; tag = tags.Ordered 2; cdb = (0 ∷ 0 ∷ 0 ∷ 0 ∷ 0 ∷ 0 ∷ []); payload = payloads.Nothing } ∷ record { host = 7; target = 0; unit = 0; at = 0; tag = tags.Simple 3; cdb = (0 ∷ 0 ∷ 0 ∷ 0 ∷ 0 ∷ 0 ∷ []); payload = payloads.Nothing } ∷ record { host = 7; target = 0; unit = 0; at = 0; tag = tags.Head 4; cdb = (0 ∷ 0 ∷ 0 ∷ 0 ∷ 0 ∷ 0 ∷ []); payload = payloads.Nothing } ∷ record { host = 7; target = 0; unit = 0; at = 0; tag = tags.Head 5; cdb = (0 ∷ 0 ∷ 0 ∷ 0 ∷ 0 ∷ 0 ∷ []); payload = payloads.Nothing } ∷ [];
   aborts = [];
   resets = [];
@@ -288,6 +312,8 @@ held_run = record {
   targets = record { dev = 0; latency = 0; retries = 2; disc = policies.Command; pick = picks.Last; seek = 60000; period = 0; offset = 0; begins = false } ∷ [];
   units = record { target = 0; unit = 0; blocks = 4; size = 16; depth = 8 } ∷ [];
   fills = [];
+  tapes = [];
+  loads = [];
   commands = record { host = 6; target = 0; unit = 0; at = 0; tag = tags.Simple 1; cdb = (8 ∷ 0 ∷ 0 ∷ 9 ∷ 1 ∷ 0 ∷ []); payload = payloads.Nothing } ∷ record { host = 7; target = 0; unit = 0; at = 5000; tag = tags.Simple 2; cdb = (10 ∷ 0 ∷ 0 ∷ 1 ∷ 1 ∷ 0 ∷ []); payload = payloads.From 16 } ∷ record { host = 7; target = 0; unit = 0; at = 74000; tag = tags.Simple 3; cdb = (10 ∷ 0 ∷ 0 ∷ 2 ∷ 1 ∷ 0 ∷ []); payload = payloads.From 32 } ∷ [];
   aborts = [];
   resets = [];
@@ -300,7 +326,7 @@ held_run_rows = drive 1200 6 0x00240 ∷ drive 3600 6 0x00640 ∷ drive 4800 6 0
 abbrev held_run_events : List Event
 held_run_events = events.Accept (command 1) ∷ events.Accept (command 2) ∷ events.Run (command 1) ∷ events.End (command 1) 2 ∷ events.Accept (command 3) ∷ events.Accept (sense 1) ∷ events.Run (sense 1) ∷ events.End (sense 1) 0 ∷ events.Run (command 3) ∷ events.End (command 3) 0 ∷ events.Run (command 2) ∷ events.End (command 2) 0 ∷ []
 
-held_run_told : shown held_run (story held_run (reverse held_run_rows)) (reverse held_run_events) ≡ record { history = reverse held_run_events; ends = Some (ended_check (Some (record { key = 5; asc = 33; ascq = 0 }))) ∷ Some (ended_good ([])) ∷ Some (ended_good ([])) ∷ []; carried = true }
+held_run_told : shown held_run (story held_run (reverse held_run_rows)) (reverse held_run_events) ≡ record { history = reverse held_run_events; ends = Some (ended_check (Some (sense_of 5 33 0))) ∷ Some (ended_good ([])) ∷ Some (ended_good ([])) ∷ []; carried = true }
 unfolding need_of sent_of ones union_below line_of form_out form_in
 held_run_told = refl
 
@@ -313,6 +339,8 @@ last_block_written_run = record {
   targets = record { dev = 0; latency = 0; retries = 2; disc = policies.Never; pick = picks.First; seek = 0; period = 0; offset = 0; begins = false } ∷ [];
   units = record { target = 0; unit = 0; blocks = 4294967296; size = 512; depth = 1 } ∷ [];
   fills = [];
+  tapes = [];
+  loads = [];
   commands = record { host = 7; target = 0; unit = 0; at = 0; tag = tags.Untagged; cdb = (42 ∷ 0 ∷ 255 ∷ 255 ∷ 255 ∷ 255 ∷ 0 ∷ 0 ∷ 1 ∷ 0 ∷ []); payload = payloads.From 0 } ∷ [];
   aborts = [];
   resets = [];
@@ -338,6 +366,8 @@ mixed_tags_run = record {
   targets = record { dev = 0; latency = 0; retries = 2; disc = policies.Command; pick = picks.First; seek = 1000000; period = 0; offset = 0; begins = false } ∷ [];
   units = record { target = 0; unit = 0; blocks = 1; size = 16; depth = 6 } ∷ [];
   fills = [];
+  tapes = [];
+  loads = [];
   commands = record { host = 7; target = 0; unit = 0; at = 0; tag = tags.Simple 0; cdb = (0 ∷ 0 ∷ 0 ∷ 0 ∷ 0 ∷ 0 ∷ []); payload = payloads.Nothing } ∷ record { host = 7; target = 0; unit = 0; at = 0; tag = tags.Simple 1; cdb = (0 ∷ 0 ∷ 0 ∷ 0 ∷ 0 ∷ 0 ∷ []); payload = payloads.Nothing } ∷ record { host = 7; target = 0; unit = 0; at = 0; tag = tags.Head 2; cdb = (0 ∷ 0 ∷ 0 ∷ 0 ∷ 0 ∷ 0 ∷ []); payload = payloads.Nothing } ∷ record { host = 7; target = 0; unit = 0; at = 0; tag = tags.Head 3; cdb = (0 ∷ 0 ∷ 0 ∷ 0 ∷ 0 ∷ 0 ∷ []); payload = payloads.Nothing } ∷ record { host = 7; target = 0; unit = 0; at = 0; tag = tags.Simple 4; cdb = (0 ∷ 0 ∷ 0 ∷ 0 ∷ 0 ∷ 0 ∷ []); payload = payloads.Nothing } ∷ record { host = 7; target = 0; unit = 0; at = 0; tag = tags.Ordered 5; cdb = (0 ∷ 0 ∷ 0 ∷ 0 ∷ 0 ∷ 0 ∷ []); payload = payloads.Nothing } ∷ [];
   aborts = [];
   resets = [];
@@ -363,6 +393,8 @@ negotiation_run = record {
   targets = record { dev = 0; latency = 0; retries = 2; disc = policies.Never; pick = picks.First; seek = 0; period = 50; offset = 8; begins = false } ∷ [];
   units = record { target = 0; unit = 0; blocks = 1; size = 16; depth = 1 } ∷ [];
   fills = record { target = 0; unit = 0; lba = 0; bytes = (0 ∷ 1 ∷ 2 ∷ 3 ∷ 4 ∷ 5 ∷ 6 ∷ 7 ∷ 8 ∷ 9 ∷ 10 ∷ 11 ∷ 12 ∷ 13 ∷ 14 ∷ 15 ∷ []) } ∷ [];
+  tapes = [];
+  loads = [];
   commands = record { host = 7; target = 0; unit = 0; at = 0; tag = tags.Untagged; cdb = (8 ∷ 0 ∷ 0 ∷ 0 ∷ 1 ∷ 0 ∷ []); payload = payloads.Nothing } ∷ [];
   aborts = [];
   resets = [];
@@ -392,6 +424,8 @@ order_run = record {
   targets = record { dev = 0; latency = 0; retries = 2; disc = policies.Command; pick = picks.Last; seek = 100000; period = 0; offset = 0; begins = false } ∷ [];
   units = record { target = 0; unit = 0; blocks = 4; size = 16; depth = 8 } ∷ [];
   fills = record { target = 0; unit = 0; lba = 0; bytes = (0 ∷ 1 ∷ 2 ∷ 3 ∷ 4 ∷ 5 ∷ 6 ∷ 7 ∷ 8 ∷ 9 ∷ 10 ∷ 11 ∷ 12 ∷ 13 ∷ 14 ∷ 15 ∷ []) } ∷ [];
+  tapes = [];
+  loads = [];
   commands = record { host = 7; target = 0; unit = 0; at = 0; tag = tags.Simple 1; cdb = (10 ∷ 0 ∷ 0 ∷ 1 ∷ 1 ∷ 0 ∷ []); payload = payloads.From 16 } ∷ record { host = 7; target = 0; unit = 0; at = 0; tag = tags.Simple 2; cdb = (10 ∷ 0 ∷ 0 ∷ 2 ∷ 1 ∷ 0 ∷ []); payload = payloads.From 32 } ∷ record { host = 7; target = 0; unit = 0; at = 0; tag = tags.Ordered 3; cdb = (10 ∷ 0 ∷ 0 ∷ 1 ∷ 1 ∷ 0 ∷ []); payload = payloads.From 48 } ∷ record { host = 7; target = 0; unit = 0; at = 0; tag = tags.Simple 4; cdb = (8 ∷ 0 ∷ 0 ∷ 3 ∷ 1 ∷ 0 ∷ []); payload = payloads.Nothing } ∷ [];
   aborts = [];
   resets = [];
@@ -417,6 +451,8 @@ queue_run = record {
   targets = record { dev = 0; latency = 0; retries = 2; disc = policies.Command; pick = picks.First; seek = 1000000; period = 0; offset = 0; begins = false } ∷ [];
   units = record { target = 0; unit = 0; blocks = 2; size = 16; depth = 8 } ∷ [];
   fills = [];
+  tapes = [];
+  loads = [];
   commands = record { host = 7; target = 0; unit = 0; at = 0; tag = tags.Simple 1; cdb = (10 ∷ 0 ∷ 0 ∷ 1 ∷ 1 ∷ 0 ∷ []); payload = payloads.From 16 } ∷ record { host = 6; target = 0; unit = 0; at = 0; tag = tags.Simple 2; cdb = (10 ∷ 0 ∷ 0 ∷ 1 ∷ 1 ∷ 0 ∷ []); payload = payloads.From 32 } ∷ record { host = 7; target = 0; unit = 0; at = 100000; tag = tags.Simple 3; cdb = (10 ∷ 0 ∷ 0 ∷ 0 ∷ 1 ∷ 0 ∷ []); payload = payloads.From 48 } ∷ record { host = 6; target = 0; unit = 0; at = 100000; tag = tags.Simple 4; cdb = (18 ∷ 0 ∷ 0 ∷ 0 ∷ 36 ∷ 0 ∷ []); payload = payloads.Nothing } ∷ record { host = 6; target = 0; unit = 0; at = 2000000; tag = tags.Simple 5; cdb = (10 ∷ 0 ∷ 0 ∷ 0 ∷ 1 ∷ 0 ∷ []); payload = payloads.From 64 } ∷ record { host = 6; target = 0; unit = 0; at = 3000000; tag = tags.Simple 6; cdb = (0 ∷ 0 ∷ 0 ∷ 0 ∷ 0 ∷ 0 ∷ []); payload = payloads.Nothing } ∷ [];
   aborts = record { host = 7; target = 0; unit = 0; at = 50000; what = aborts.WholeQueue } ∷ [];
   resets = [];
@@ -429,7 +465,7 @@ queue_run_rows = drive 1200 7 0x00280 ∷ drive 1200 6 0x00240 ∷ drive 3600 7 
 abbrev queue_run_events : List Event
 queue_run_events = events.Accept (command 1) ∷ events.Accept (command 2) ∷ events.Aborted 7 0 0 aborts.WholeQueue ∷ events.Accept (command 3) ∷ events.Accept (command 4) ∷ events.Run (command 3) ∷ events.End (command 3) 0 ∷ events.Accept (command 5) ∷ events.Run (command 4) ∷ events.End (command 4) 0 ∷ events.Accept (command 6) ∷ events.Run (command 5) ∷ events.End (command 5) 2 ∷ events.Accept (sense 5) ∷ events.Run (sense 5) ∷ events.End (sense 5) 0 ∷ events.Run (command 6) ∷ events.End (command 6) 0 ∷ []
 
-queue_run_told : shown queue_run (story queue_run (reverse queue_run_rows)) (reverse queue_run_events) ≡ record { history = reverse queue_run_events; ends = Some (ended_aborted) ∷ Some (ended_aborted) ∷ Some (ended_good ([])) ∷ Some (ended_good (0 ∷ 0 ∷ 2 ∷ 2 ∷ 31 ∷ 0 ∷ 0 ∷ 18 ∷ 66 ∷ 85 ∷ 83 ∷ 77 ∷ 79 ∷ 68 ∷ 69 ∷ 76 ∷ 83 ∷ 73 ∷ 77 ∷ 85 ∷ 76 ∷ 65 ∷ 84 ∷ 69 ∷ 68 ∷ 32 ∷ 68 ∷ 73 ∷ 83 ∷ 75 ∷ 32 ∷ 32 ∷ 48 ∷ 48 ∷ 48 ∷ 49 ∷ [])) ∷ Some (ended_check (Some (record { key = 6; asc = 47; ascq = 0 }))) ∷ Some (ended_good ([])) ∷ []; carried = true }
+queue_run_told : shown queue_run (story queue_run (reverse queue_run_rows)) (reverse queue_run_events) ≡ record { history = reverse queue_run_events; ends = Some (ended_aborted) ∷ Some (ended_aborted) ∷ Some (ended_good ([])) ∷ Some (ended_good (0 ∷ 0 ∷ 2 ∷ 2 ∷ 31 ∷ 0 ∷ 0 ∷ 18 ∷ 66 ∷ 85 ∷ 83 ∷ 77 ∷ 79 ∷ 68 ∷ 69 ∷ 76 ∷ 83 ∷ 73 ∷ 77 ∷ 85 ∷ 76 ∷ 65 ∷ 84 ∷ 69 ∷ 68 ∷ 32 ∷ 68 ∷ 73 ∷ 83 ∷ 75 ∷ 32 ∷ 32 ∷ 48 ∷ 48 ∷ 48 ∷ 49 ∷ [])) ∷ Some (ended_check (Some (sense_of 6 47 0))) ∷ Some (ended_good ([])) ∷ []; carried = true }
 unfolding need_of sent_of ones union_below line_of form_out form_in
 queue_run_told = refl
 
@@ -442,6 +478,8 @@ range_past_the_last_run = record {
   targets = record { dev = 0; latency = 0; retries = 2; disc = policies.Never; pick = picks.First; seek = 0; period = 0; offset = 0; begins = false } ∷ [];
   units = record { target = 0; unit = 0; blocks = 4294967296; size = 512; depth = 1 } ∷ [];
   fills = [];
+  tapes = [];
+  loads = [];
   commands = record { host = 7; target = 0; unit = 0; at = 0; tag = tags.Untagged; cdb = (40 ∷ 0 ∷ 255 ∷ 255 ∷ 255 ∷ 255 ∷ 0 ∷ 0 ∷ 2 ∷ 0 ∷ []); payload = payloads.Nothing } ∷ [];
   aborts = [];
   resets = [];
@@ -454,7 +492,7 @@ range_past_the_last_run_rows = drive 1200 7 0x00280 ∷ drive 3600 7 0x00680 ∷
 abbrev range_past_the_last_run_events : List Event
 range_past_the_last_run_events = events.Accept (command 1) ∷ events.Run (command 1) ∷ events.End (command 1) 2 ∷ events.Accept (sense 1) ∷ events.Run (sense 1) ∷ events.End (sense 1) 0 ∷ []
 
-range_past_the_last_run_told : shown range_past_the_last_run (story range_past_the_last_run (reverse range_past_the_last_run_rows)) (reverse range_past_the_last_run_events) ≡ record { history = reverse range_past_the_last_run_events; ends = Some (ended_check (Some (record { key = 5; asc = 33; ascq = 0 }))) ∷ []; carried = true }
+range_past_the_last_run_told : shown range_past_the_last_run (story range_past_the_last_run (reverse range_past_the_last_run_rows)) (reverse range_past_the_last_run_events) ≡ record { history = reverse range_past_the_last_run_events; ends = Some (ended_check (Some (sense_of 5 33 0))) ∷ []; carried = true }
 unfolding need_of sent_of ones union_below line_of form_out form_in
 range_past_the_last_run_told = refl
 
@@ -467,6 +505,8 @@ read_whole_after_a_part_run = record {
   targets = record { dev = 0; latency = 0; retries = 2; disc = policies.NoSave 1; pick = picks.First; seek = 0; period = 0; offset = 0; begins = false } ∷ [];
   units = record { target = 0; unit = 0; blocks = 2; size = 16; depth = 1 } ∷ [];
   fills = [];
+  tapes = [];
+  loads = [];
   commands = record { host = 7; target = 0; unit = 0; at = 0; tag = tags.Untagged; cdb = (10 ∷ 0 ∷ 0 ∷ 0 ∷ 2 ∷ 0 ∷ []); payload = payloads.From 0 } ∷ [];
   aborts = [];
   resets = [];
@@ -492,6 +532,8 @@ refusals_run = record {
   targets = record { dev = 1; latency = 100; retries = 16; disc = policies.NoSave 1; pick = picks.Last; seek = 3000; period = 0; offset = 0; begins = false } ∷ [];
   units = record { target = 1; unit = 4; blocks = 1; size = 16; depth = 1 } ∷ [];
   fills = [];
+  tapes = [];
+  loads = [];
   commands = record { host = 7; target = 1; unit = 4; at = 0; tag = tags.Ordered 255; cdb = (3 ∷ 2 ∷ 0 ∷ 0 ∷ 18 ∷ 0 ∷ []); payload = payloads.Nothing } ∷ record { host = 6; target = 1; unit = 4; at = 0; tag = tags.Simple 1; cdb = (8 ∷ 0 ∷ 0 ∷ 0 ∷ 1 ∷ 0 ∷ []); payload = payloads.Nothing } ∷ record { host = 4; target = 1; unit = 4; at = 0; tag = tags.Simple 2; cdb = (10 ∷ 0 ∷ 0 ∷ 0 ∷ 1 ∷ 0 ∷ []); payload = payloads.From 47 } ∷ record { host = 6; target = 1; unit = 4; at = 0; tag = tags.Head 0; cdb = (0 ∷ 0 ∷ 0 ∷ 0 ∷ 0 ∷ 0 ∷ []); payload = payloads.Nothing } ∷ record { host = 7; target = 1; unit = 4; at = 0; tag = tags.Simple 4; cdb = (18 ∷ 2 ∷ 0 ∷ 0 ∷ 36 ∷ 0 ∷ []); payload = payloads.Nothing } ∷ [];
   aborts = [];
   resets = [];
@@ -504,7 +546,7 @@ refusals_run_rows = drive 1200 7 0x00280 ∷ drive 1200 4 0x00210 ∷ drive 1300
 abbrev refusals_run_events : List Event
 refusals_run_events = events.Accept (command 1) ∷ events.Refuse (command 2) ∷ events.End (command 2) 40 ∷ events.Refuse (command 4) ∷ events.End (command 4) 40 ∷ events.Refuse (command 3) ∷ events.End (command 3) 40 ∷ events.Run (command 1) ∷ events.End (command 1) 2 ∷ events.Accept (sense 1) ∷ events.Run (sense 1) ∷ events.End (sense 1) 0 ∷ events.Accept (command 5) ∷ events.Run (command 5) ∷ events.End (command 5) 2 ∷ events.Accept (sense 5) ∷ events.Run (sense 5) ∷ events.End (sense 5) 0 ∷ []
 
-refusals_run_told : shown refusals_run (story refusals_run (reverse refusals_run_rows)) (reverse refusals_run_events) ≡ record { history = reverse refusals_run_events; ends = Some (ended_check (Some (record { key = 5; asc = 36; ascq = 0 }))) ∷ Some (ended_full) ∷ Some (ended_full) ∷ Some (ended_full) ∷ Some (ended_check (Some (record { key = 5; asc = 36; ascq = 0 }))) ∷ []; carried = true }
+refusals_run_told : shown refusals_run (story refusals_run (reverse refusals_run_rows)) (reverse refusals_run_events) ≡ record { history = reverse refusals_run_events; ends = Some (ended_check (Some (sense_of 5 36 0))) ∷ Some (ended_full) ∷ Some (ended_full) ∷ Some (ended_full) ∷ Some (ended_check (Some (sense_of 5 36 0))) ∷ []; carried = true }
 unfolding need_of sent_of ones union_below line_of form_out form_in
 refusals_run_told = refl
 
@@ -517,6 +559,8 @@ reset_run = record {
   targets = record { dev = 0; latency = 0; retries = 2; disc = policies.Command; pick = picks.First; seek = 0; period = 0; offset = 0; begins = false } ∷ [];
   units = record { target = 0; unit = 0; blocks = 2; size = 16; depth = 2 } ∷ [];
   fills = [];
+  tapes = [];
+  loads = [];
   commands = record { host = 7; target = 0; unit = 0; at = 50000; tag = tags.Untagged; cdb = (10 ∷ 0 ∷ 0 ∷ 1 ∷ 1 ∷ 0 ∷ []); payload = payloads.From 16 } ∷ record { host = 7; target = 0; unit = 0; at = 90000; tag = tags.Untagged; cdb = (10 ∷ 0 ∷ 0 ∷ 1 ∷ 1 ∷ 0 ∷ []); payload = payloads.From 32 } ∷ record { host = 7; target = 0; unit = 0; at = 130000; tag = tags.Untagged; cdb = (37 ∷ 0 ∷ 0 ∷ 0 ∷ 0 ∷ 0 ∷ 0 ∷ 0 ∷ 0 ∷ 0 ∷ []); payload = payloads.Nothing } ∷ [];
   aborts = [];
   resets = record { dev = 7; at = 1000 } ∷ [];
@@ -529,7 +573,7 @@ reset_run_rows = drive 1000 7 0x20000 ∷ drive 26000 7 0x00000 ∷ drive 50000 
 abbrev reset_run_events : List Event
 reset_run_events = events.Reset 7 ∷ events.Accept (command 1) ∷ events.Run (command 1) ∷ events.End (command 1) 2 ∷ events.Accept (sense 1) ∷ events.Run (sense 1) ∷ events.End (sense 1) 0 ∷ events.Accept (command 2) ∷ events.Run (command 2) ∷ events.End (command 2) 0 ∷ events.Accept (command 3) ∷ events.Run (command 3) ∷ events.End (command 3) 0 ∷ []
 
-reset_run_told : shown reset_run (story reset_run (reverse reset_run_rows)) (reverse reset_run_events) ≡ record { history = reverse reset_run_events; ends = Some (ended_check (Some (record { key = 6; asc = 41; ascq = 0 }))) ∷ Some (ended_good ([])) ∷ Some (ended_good (0 ∷ 0 ∷ 0 ∷ 1 ∷ 0 ∷ 0 ∷ 0 ∷ 16 ∷ [])) ∷ []; carried = true }
+reset_run_told : shown reset_run (story reset_run (reverse reset_run_rows)) (reverse reset_run_events) ≡ record { history = reverse reset_run_events; ends = Some (ended_check (Some (sense_of 6 41 0))) ∷ Some (ended_good ([])) ∷ Some (ended_good (0 ∷ 0 ∷ 0 ∷ 1 ∷ 0 ∷ 0 ∷ 0 ∷ 16 ∷ [])) ∷ []; carried = true }
 unfolding need_of sent_of ones union_below line_of form_out form_in
 reset_run_told = refl
 
@@ -542,6 +586,8 @@ resets_with_queues_run = record {
   targets = record { dev = 1; latency = 100; retries = 5; disc = policies.Burst 3; pick = picks.Last; seek = 100000; period = 0; offset = 0; begins = false } ∷ [];
   units = record { target = 1; unit = 3; blocks = 2; size = 32; depth = 4 } ∷ record { target = 1; unit = 6; blocks = 8; size = 32; depth = 1 } ∷ [];
   fills = record { target = 1; unit = 3; lba = 0; bytes = (0 ∷ 95 ∷ 226 ∷ 188 ∷ 68 ∷ 113 ∷ 249 ∷ 0 ∷ 0 ∷ 139 ∷ 0 ∷ 163 ∷ 186 ∷ 247 ∷ 0 ∷ 0 ∷ 106 ∷ 11 ∷ 92 ∷ 0 ∷ 0 ∷ 253 ∷ 153 ∷ 90 ∷ 184 ∷ 0 ∷ 0 ∷ 0 ∷ 18 ∷ 0 ∷ 130 ∷ 120 ∷ []) } ∷ record { target = 1; unit = 6; lba = 0; bytes = (114 ∷ 0 ∷ 167 ∷ 0 ∷ 86 ∷ 0 ∷ 130 ∷ 101 ∷ 63 ∷ 220 ∷ 0 ∷ 204 ∷ 181 ∷ 36 ∷ 0 ∷ 0 ∷ 0 ∷ 118 ∷ 186 ∷ 38 ∷ 0 ∷ 106 ∷ 167 ∷ 154 ∷ 15 ∷ 95 ∷ 177 ∷ 78 ∷ 31 ∷ 126 ∷ 49 ∷ 0 ∷ []) } ∷ record { target = 1; unit = 6; lba = 7; bytes = (0 ∷ 231 ∷ 0 ∷ 0 ∷ 0 ∷ 0 ∷ 127 ∷ 190 ∷ 0 ∷ 225 ∷ 29 ∷ 125 ∷ 0 ∷ 245 ∷ 87 ∷ 151 ∷ 0 ∷ 0 ∷ 23 ∷ 187 ∷ 112 ∷ 0 ∷ 4 ∷ 138 ∷ 0 ∷ 221 ∷ 167 ∷ 253 ∷ 99 ∷ 67 ∷ 229 ∷ 144 ∷ []) } ∷ [];
+  tapes = [];
+  loads = [];
   commands = record { host = 4; target = 1; unit = 6; at = 0; tag = tags.Untagged; cdb = (8 ∷ 0 ∷ 0 ∷ 4 ∷ 2 ∷ 0 ∷ []); payload = payloads.Nothing } ∷ record { host = 7; target = 1; unit = 6; at = 0; tag = tags.Head 1; cdb = (10 ∷ 0 ∷ 0 ∷ 4 ∷ 1 ∷ 0 ∷ []); payload = payloads.From 138 } ∷ record { host = 5; target = 1; unit = 6; at = 0; tag = tags.Simple 2; cdb = (0 ∷ 0 ∷ 0 ∷ 0 ∷ 0 ∷ 0 ∷ []); payload = payloads.Nothing } ∷ record { host = 7; target = 1; unit = 6; at = 0; tag = tags.Untagged; cdb = (10 ∷ 0 ∷ 0 ∷ 5 ∷ 2 ∷ 0 ∷ []); payload = payloads.From 137 } ∷ record { host = 7; target = 1; unit = 3; at = 0; tag = tags.Simple 1; cdb = (8 ∷ 0 ∷ 0 ∷ 1 ∷ 1 ∷ 0 ∷ []); payload = payloads.Nothing } ∷ [];
   aborts = record { host = 5; target = 1; unit = 3; at = 301040; what = aborts.All } ∷ record { host = 7; target = 1; unit = 6; at = 120728; what = aborts.Device } ∷ record { host = 5; target = 1; unit = 6; at = 314639; what = aborts.WholeQueue } ∷ [];
   resets = record { dev = 5; at = 120745 } ∷ [];
@@ -554,7 +600,7 @@ resets_with_queues_run_rows = drive 1200 5 0x00220 ∷ drive 1200 4 0x00210 ∷ 
 abbrev resets_with_queues_run_events : List Event
 resets_with_queues_run_events = events.Accept (command 2) ∷ events.Refuse (command 3) ∷ events.End (command 3) 40 ∷ events.Refuse (command 1) ∷ events.End (command 1) 40 ∷ events.Reset 5 ∷ events.Aborted 7 1 6 aborts.Device ∷ events.Accept (command 4) ∷ events.Accept (command 5) ∷ events.Aborted 5 1 3 aborts.All ∷ events.Aborted 5 1 6 aborts.WholeQueue ∷ events.Run (command 5) ∷ events.End (command 5) 2 ∷ events.Accept (sense 5) ∷ events.Run (sense 5) ∷ events.End (sense 5) 0 ∷ []
 
-resets_with_queues_run_told : shown resets_with_queues_run (story resets_with_queues_run (reverse resets_with_queues_run_rows)) (reverse resets_with_queues_run_events) ≡ record { history = reverse resets_with_queues_run_events; ends = Some (ended_full) ∷ Some (ended_reset) ∷ Some (ended_full) ∷ Some (ended_aborted) ∷ Some (ended_check (Some (record { key = 6; asc = 41; ascq = 0 }))) ∷ []; carried = true }
+resets_with_queues_run_told : shown resets_with_queues_run (story resets_with_queues_run (reverse resets_with_queues_run_rows)) (reverse resets_with_queues_run_events) ≡ record { history = reverse resets_with_queues_run_events; ends = Some (ended_full) ∷ Some (ended_reset) ∷ Some (ended_full) ∷ Some (ended_aborted) ∷ Some (ended_check (Some (sense_of 6 41 0))) ∷ []; carried = true }
 unfolding need_of sent_of ones union_below line_of form_out form_in
 resets_with_queues_run_told = refl
 
@@ -571,6 +617,8 @@ sense_cut_run = record {
   targets = record { dev = 0; latency = 0; retries = 0; disc = policies.Never; pick = picks.First; seek = 0; period = 0; offset = 0; begins = false } ∷ [];
   units = record { target = 0; unit = 0; blocks = 1; size = 16; depth = 1 } ∷ [];
   fills = [];
+  tapes = [];
+  loads = [];
   commands = record { host = 7; target = 0; unit = 0; at = 0; tag = tags.Untagged; cdb = (4 ∷ 0 ∷ 0 ∷ 0 ∷ 0 ∷ 0 ∷ []); payload = payloads.Nothing } ∷ [];
   aborts = [];
   resets = record { dev = 7; at = 16745 } ∷ [];
@@ -596,6 +644,8 @@ senses_run = record {
   targets = record { dev = 0; latency = 0; retries = 2; disc = policies.Never; pick = picks.First; seek = 0; period = 0; offset = 0; begins = false } ∷ [];
   units = record { target = 0; unit = 0; blocks = 255; size = 16; depth = 1 } ∷ [];
   fills = [];
+  tapes = [];
+  loads = [];
   commands = record { host = 7; target = 0; unit = 0; at = 0; tag = tags.Untagged; cdb = (8 ∷ 0 ∷ 1 ∷ 255 ∷ 1 ∷ 0 ∷ []); payload = payloads.Nothing } ∷ record { host = 7; target = 0; unit = 0; at = 0; tag = tags.Untagged; cdb = (3 ∷ 0 ∷ 0 ∷ 0 ∷ 18 ∷ 0 ∷ []); payload = payloads.Nothing } ∷ record { host = 7; target = 0; unit = 0; at = 0; tag = tags.Untagged; cdb = (10 ∷ 0 ∷ 0 ∷ 1 ∷ 2 ∷ 0 ∷ []); payload = payloads.From 160 } ∷ record { host = 7; target = 0; unit = 0; at = 0; tag = tags.Untagged; cdb = (40 ∷ 0 ∷ 0 ∷ 0 ∷ 0 ∷ 0 ∷ 0 ∷ 0 ∷ 3 ∷ 0 ∷ []); payload = payloads.Nothing } ∷ record { host = 7; target = 0; unit = 0; at = 0; tag = tags.Untagged; cdb = (11 ∷ 0 ∷ 0 ∷ 0 ∷ 0 ∷ 0 ∷ []); payload = payloads.Nothing } ∷ record { host = 7; target = 0; unit = 0; at = 0; tag = tags.Untagged; cdb = (8 ∷ 0 ∷ 0 ∷ 0 ∷ 0 ∷ 0 ∷ []); payload = payloads.Nothing } ∷ [];
   aborts = [];
   resets = [];
@@ -608,7 +658,7 @@ senses_run_rows = drive 1200 7 0x00280 ∷ drive 3600 7 0x00680 ∷ drive 4800 7
 abbrev senses_run_events : List Event
 senses_run_events = events.Accept (command 1) ∷ events.Run (command 1) ∷ events.End (command 1) 2 ∷ events.Accept (sense 1) ∷ events.Run (sense 1) ∷ events.End (sense 1) 0 ∷ events.Accept (command 2) ∷ events.Run (command 2) ∷ events.End (command 2) 0 ∷ events.Accept (command 3) ∷ events.Run (command 3) ∷ events.End (command 3) 0 ∷ events.Accept (command 4) ∷ events.Run (command 4) ∷ events.End (command 4) 0 ∷ events.Accept (command 5) ∷ events.Run (command 5) ∷ events.End (command 5) 2 ∷ events.Accept (sense 5) ∷ events.Run (sense 5) ∷ events.End (sense 5) 0 ∷ events.Accept (command 6) ∷ events.Run (command 6) ∷ events.End (command 6) 2 ∷ events.Accept (sense 6) ∷ events.Run (sense 6) ∷ events.End (sense 6) 0 ∷ []
 
-senses_run_told : shown senses_run (story senses_run (reverse senses_run_rows)) (reverse senses_run_events) ≡ record { history = reverse senses_run_events; ends = Some (ended_check (Some (record { key = 5; asc = 33; ascq = 0 }))) ∷ Some (ended_good (112 ∷ 0 ∷ 0 ∷ 0 ∷ 0 ∷ 0 ∷ 0 ∷ 10 ∷ 0 ∷ 0 ∷ 0 ∷ 0 ∷ 0 ∷ 0 ∷ 0 ∷ 0 ∷ 0 ∷ 0 ∷ [])) ∷ Some (ended_good ([])) ∷ Some (ended_good (0 ∷ 0 ∷ 0 ∷ 0 ∷ 0 ∷ 0 ∷ 0 ∷ 0 ∷ 0 ∷ 0 ∷ 0 ∷ 0 ∷ 0 ∷ 0 ∷ 0 ∷ 0 ∷ 160 ∷ 161 ∷ 162 ∷ 163 ∷ 164 ∷ 165 ∷ 166 ∷ 167 ∷ 168 ∷ 169 ∷ 170 ∷ 171 ∷ 172 ∷ 173 ∷ 174 ∷ 175 ∷ 176 ∷ 177 ∷ 178 ∷ 179 ∷ 180 ∷ 181 ∷ 182 ∷ 183 ∷ 184 ∷ 185 ∷ 186 ∷ 187 ∷ 188 ∷ 189 ∷ 190 ∷ 191 ∷ [])) ∷ Some (ended_check (Some (record { key = 5; asc = 32; ascq = 0 }))) ∷ Some (ended_check (Some (record { key = 5; asc = 33; ascq = 0 }))) ∷ []; carried = true }
+senses_run_told : shown senses_run (story senses_run (reverse senses_run_rows)) (reverse senses_run_events) ≡ record { history = reverse senses_run_events; ends = Some (ended_check (Some (sense_of 5 33 0))) ∷ Some (ended_good (112 ∷ 0 ∷ 0 ∷ 0 ∷ 0 ∷ 0 ∷ 0 ∷ 10 ∷ 0 ∷ 0 ∷ 0 ∷ 0 ∷ 0 ∷ 0 ∷ 0 ∷ 0 ∷ 0 ∷ 0 ∷ [])) ∷ Some (ended_good ([])) ∷ Some (ended_good (0 ∷ 0 ∷ 0 ∷ 0 ∷ 0 ∷ 0 ∷ 0 ∷ 0 ∷ 0 ∷ 0 ∷ 0 ∷ 0 ∷ 0 ∷ 0 ∷ 0 ∷ 0 ∷ 160 ∷ 161 ∷ 162 ∷ 163 ∷ 164 ∷ 165 ∷ 166 ∷ 167 ∷ 168 ∷ 169 ∷ 170 ∷ 171 ∷ 172 ∷ 173 ∷ 174 ∷ 175 ∷ 176 ∷ 177 ∷ 178 ∷ 179 ∷ 180 ∷ 181 ∷ 182 ∷ 183 ∷ 184 ∷ 185 ∷ 186 ∷ 187 ∷ 188 ∷ 189 ∷ 190 ∷ 191 ∷ [])) ∷ Some (ended_check (Some (sense_of 5 32 0))) ∷ Some (ended_check (Some (sense_of 5 33 0))) ∷ []; carried = true }
 unfolding need_of sent_of ones union_below line_of form_out form_in
 senses_run_told = refl
 
@@ -621,6 +671,8 @@ struck_command_run = record {
   targets = record { dev = 7; latency = 89; retries = 0; disc = policies.Burst 1; pick = picks.First; seek = 0; period = 80; offset = 1; begins = false } ∷ [];
   units = record { target = 7; unit = 2; blocks = 8; size = 16; depth = 2 } ∷ record { target = 7; unit = 4; blocks = 2; size = 16; depth = 4 } ∷ [];
   fills = record { target = 7; unit = 2; lba = 1; bytes = (200 ∷ 177 ∷ 54 ∷ 81 ∷ 158 ∷ 0 ∷ 0 ∷ 179 ∷ 36 ∷ 78 ∷ 216 ∷ 227 ∷ 192 ∷ 49 ∷ 106 ∷ 0 ∷ []) } ∷ record { target = 7; unit = 2; lba = 2; bytes = (40 ∷ 34 ∷ 194 ∷ 65 ∷ 92 ∷ 0 ∷ 181 ∷ 0 ∷ 56 ∷ 77 ∷ 172 ∷ 0 ∷ 224 ∷ 0 ∷ 162 ∷ 220 ∷ []) } ∷ record { target = 7; unit = 2; lba = 5; bytes = (0 ∷ 0 ∷ 238 ∷ 0 ∷ 0 ∷ 208 ∷ 56 ∷ 0 ∷ 173 ∷ 80 ∷ 126 ∷ 134 ∷ 0 ∷ 232 ∷ 0 ∷ 34 ∷ []) } ∷ record { target = 7; unit = 2; lba = 6; bytes = (250 ∷ 0 ∷ 199 ∷ 72 ∷ 195 ∷ 59 ∷ 0 ∷ 0 ∷ 198 ∷ 0 ∷ 68 ∷ 0 ∷ 40 ∷ 251 ∷ 96 ∷ 98 ∷ []) } ∷ record { target = 7; unit = 4; lba = 0; bytes = (0 ∷ 204 ∷ 0 ∷ 0 ∷ 182 ∷ 0 ∷ 0 ∷ 0 ∷ 227 ∷ 144 ∷ 160 ∷ 0 ∷ 0 ∷ 199 ∷ 0 ∷ 0 ∷ []) } ∷ record { target = 7; unit = 4; lba = 1; bytes = (122 ∷ 226 ∷ 0 ∷ 72 ∷ 79 ∷ 204 ∷ 0 ∷ 136 ∷ 105 ∷ 0 ∷ 0 ∷ 62 ∷ 108 ∷ 133 ∷ 175 ∷ 0 ∷ []) } ∷ [];
+  tapes = [];
+  loads = [];
   commands = record { host = 6; target = 7; unit = 4; at = 60471; tag = tags.Untagged; cdb = (17 ∷ 0 ∷ 0 ∷ 0 ∷ 0 ∷ 0 ∷ []); payload = payloads.Nothing } ∷ record { host = 2; target = 7; unit = 2; at = 80321; tag = tags.Head 1; cdb = (10 ∷ 0 ∷ 0 ∷ 2 ∷ 2 ∷ 0 ∷ []); payload = payloads.From 27 } ∷ [];
   aborts = [];
   resets = record { dev = 5; at = 111836 } ∷ [];
@@ -633,7 +685,7 @@ struck_command_run_rows = drive 60532 6 0x00240 ∷ drive 62993 6 0x00640 ∷ dr
 abbrev struck_command_run_events : List Event
 struck_command_run_events = events.Fail (command 1) 71 ∷ events.End (command 1) 2 ∷ events.Accept (sense 1) ∷ events.Run (sense 1) ∷ events.End (sense 1) 0 ∷ events.Accept (command 2) ∷ events.Reset 5 ∷ []
 
-struck_command_run_told : shown struck_command_run (story struck_command_run (reverse struck_command_run_rows)) (reverse struck_command_run_events) ≡ record { history = reverse struck_command_run_events; ends = Some (ended_check (Some (record { key = 11; asc = 71; ascq = 0 }))) ∷ Some (ended_reset) ∷ []; carried = true }
+struck_command_run_told : shown struck_command_run (story struck_command_run (reverse struck_command_run_rows)) (reverse struck_command_run_events) ≡ record { history = reverse struck_command_run_events; ends = Some (ended_check (Some (sense_of 11 71 0))) ∷ Some (ended_reset) ∷ []; carried = true }
 unfolding need_of sent_of ones union_below line_of form_out form_in
 struck_command_run_told = refl
 
@@ -650,6 +702,8 @@ struck_complete_run = record {
   targets = record { dev = 0; latency = 0; retries = 2; disc = policies.Never; pick = picks.First; seek = 0; period = 0; offset = 0; begins = false } ∷ [];
   units = record { target = 0; unit = 0; blocks = 1; size = 16; depth = 1 } ∷ [];
   fills = record { target = 0; unit = 0; lba = 0; bytes = (0 ∷ 1 ∷ 2 ∷ 3 ∷ 4 ∷ 5 ∷ 6 ∷ 7 ∷ 8 ∷ 9 ∷ 10 ∷ 11 ∷ 12 ∷ 13 ∷ 14 ∷ 15 ∷ []) } ∷ [];
+  tapes = [];
+  loads = [];
   commands = record { host = 7; target = 0; unit = 0; at = 0; tag = tags.Untagged; cdb = (8 ∷ 0 ∷ 0 ∷ 0 ∷ 1 ∷ 0 ∷ []); payload = payloads.Nothing } ∷ [];
   aborts = [];
   resets = [];
@@ -679,6 +733,8 @@ struck_data_run = record {
   targets = record { dev = 0; latency = 0; retries = 2; disc = policies.Never; pick = picks.First; seek = 0; period = 0; offset = 0; begins = false } ∷ [];
   units = record { target = 0; unit = 0; blocks = 1; size = 16; depth = 1 } ∷ [];
   fills = record { target = 0; unit = 0; lba = 0; bytes = (0 ∷ 1 ∷ 2 ∷ 3 ∷ 4 ∷ 5 ∷ 6 ∷ 7 ∷ 8 ∷ 9 ∷ 10 ∷ 11 ∷ 12 ∷ 13 ∷ 14 ∷ 15 ∷ []) } ∷ [];
+  tapes = [];
+  loads = [];
   commands = record { host = 7; target = 0; unit = 0; at = 0; tag = tags.Untagged; cdb = (8 ∷ 0 ∷ 0 ∷ 0 ∷ 1 ∷ 0 ∷ []); payload = payloads.Nothing } ∷ [];
   aborts = [];
   resets = [];
@@ -708,6 +764,8 @@ struck_disconnect_run = record {
   targets = record { dev = 0; latency = 0; retries = 0; disc = policies.Command; pick = picks.First; seek = 0; period = 0; offset = 0; begins = false } ∷ [];
   units = record { target = 0; unit = 0; blocks = 1; size = 16; depth = 1 } ∷ [];
   fills = record { target = 0; unit = 0; lba = 0; bytes = (0 ∷ 1 ∷ 2 ∷ 3 ∷ 4 ∷ 5 ∷ 6 ∷ 7 ∷ 8 ∷ 9 ∷ 10 ∷ 11 ∷ 12 ∷ 13 ∷ 14 ∷ 15 ∷ []) } ∷ [];
+  tapes = [];
+  loads = [];
   commands = record { host = 7; target = 0; unit = 0; at = 0; tag = tags.Simple 1; cdb = (8 ∷ 0 ∷ 0 ∷ 0 ∷ 1 ∷ 0 ∷ []); payload = payloads.Nothing } ∷ [];
   aborts = [];
   resets = [];
@@ -737,6 +795,8 @@ struck_save_run = record {
   targets = record { dev = 0; latency = 0; retries = 2; disc = policies.Burst 1; pick = picks.First; seek = 0; period = 0; offset = 0; begins = false } ∷ [];
   units = record { target = 0; unit = 0; blocks = 4; size = 16; depth = 1 } ∷ [];
   fills = [];
+  tapes = [];
+  loads = [];
   commands = record { host = 7; target = 0; unit = 0; at = 0; tag = tags.Simple 1; cdb = (10 ∷ 0 ∷ 0 ∷ 0 ∷ 4 ∷ 0 ∷ []); payload = payloads.From 0 } ∷ [];
   aborts = [];
   resets = [];
@@ -766,6 +826,8 @@ two_aborts_run = record {
   targets = record { dev = 1; latency = 20; retries = 5; disc = policies.NoSave 2; pick = picks.First; seek = 100000; period = 25; offset = 16; begins = false } ∷ record { dev = 7; latency = 0; retries = 5; disc = policies.NoSave 2; pick = picks.First; seek = 0; period = 50; offset = 16; begins = false } ∷ record { dev = 5; latency = 10; retries = 2; disc = policies.Command; pick = picks.First; seek = 100000; period = 50; offset = 254; begins = false } ∷ record { dev = 4; latency = 0; retries = 1; disc = policies.Never; pick = picks.First; seek = 0; period = 25; offset = 16; begins = false } ∷ [];
   units = record { target = 1; unit = 5; blocks = 4; size = 32; depth = 2 } ∷ record { target = 7; unit = 0; blocks = 8; size = 32; depth = 4 } ∷ record { target = 7; unit = 1; blocks = 1; size = 32; depth = 2 } ∷ record { target = 5; unit = 1; blocks = 4; size = 32; depth = 4 } ∷ record { target = 4; unit = 7; blocks = 8; size = 32; depth = 4 } ∷ [];
   fills = record { target = 1; unit = 5; lba = 0; bytes = (0 ∷ 135 ∷ 0 ∷ 0 ∷ 168 ∷ 140 ∷ 105 ∷ 253 ∷ 144 ∷ 0 ∷ 0 ∷ 91 ∷ 50 ∷ 16 ∷ 0 ∷ 0 ∷ 0 ∷ 24 ∷ 99 ∷ 0 ∷ 151 ∷ 242 ∷ 176 ∷ 89 ∷ 0 ∷ 51 ∷ 0 ∷ 0 ∷ 1 ∷ 203 ∷ 52 ∷ 60 ∷ []) } ∷ record { target = 1; unit = 5; lba = 1; bytes = (255 ∷ 0 ∷ 0 ∷ 16 ∷ 0 ∷ 198 ∷ 167 ∷ 0 ∷ 142 ∷ 163 ∷ 73 ∷ 154 ∷ 164 ∷ 32 ∷ 0 ∷ 0 ∷ 0 ∷ 0 ∷ 245 ∷ 0 ∷ 203 ∷ 216 ∷ 0 ∷ 197 ∷ 0 ∷ 77 ∷ 0 ∷ 0 ∷ 8 ∷ 215 ∷ 0 ∷ 91 ∷ []) } ∷ record { target = 1; unit = 5; lba = 2; bytes = (0 ∷ 0 ∷ 147 ∷ 233 ∷ 154 ∷ 0 ∷ 0 ∷ 175 ∷ 0 ∷ 0 ∷ 89 ∷ 24 ∷ 86 ∷ 249 ∷ 0 ∷ 0 ∷ 141 ∷ 0 ∷ 8 ∷ 244 ∷ 0 ∷ 78 ∷ 185 ∷ 0 ∷ 0 ∷ 0 ∷ 19 ∷ 141 ∷ 170 ∷ 148 ∷ 213 ∷ 162 ∷ []) } ∷ record { target = 1; unit = 5; lba = 3; bytes = (167 ∷ 0 ∷ 34 ∷ 188 ∷ 0 ∷ 48 ∷ 85 ∷ 236 ∷ 204 ∷ 105 ∷ 0 ∷ 247 ∷ 128 ∷ 205 ∷ 110 ∷ 0 ∷ 196 ∷ 0 ∷ 78 ∷ 222 ∷ 0 ∷ 0 ∷ 0 ∷ 36 ∷ 119 ∷ 0 ∷ 0 ∷ 41 ∷ 0 ∷ 0 ∷ 0 ∷ 190 ∷ []) } ∷ record { target = 7; unit = 0; lba = 0; bytes = (92 ∷ 12 ∷ 249 ∷ 53 ∷ 0 ∷ 235 ∷ 0 ∷ 223 ∷ 114 ∷ 0 ∷ 0 ∷ 3 ∷ 117 ∷ 223 ∷ 48 ∷ 0 ∷ 32 ∷ 24 ∷ 200 ∷ 176 ∷ 0 ∷ 0 ∷ 244 ∷ 0 ∷ 61 ∷ 81 ∷ 0 ∷ 62 ∷ 0 ∷ 0 ∷ 0 ∷ 230 ∷ []) } ∷ record { target = 7; unit = 0; lba = 3; bytes = (135 ∷ 94 ∷ 0 ∷ 0 ∷ 0 ∷ 0 ∷ 143 ∷ 242 ∷ 106 ∷ 43 ∷ 194 ∷ 220 ∷ 0 ∷ 0 ∷ 0 ∷ 0 ∷ 102 ∷ 0 ∷ 97 ∷ 58 ∷ 121 ∷ 0 ∷ 0 ∷ 238 ∷ 0 ∷ 116 ∷ 51 ∷ 59 ∷ 44 ∷ 217 ∷ 160 ∷ 28 ∷ []) } ∷ record { target = 7; unit = 0; lba = 4; bytes = (113 ∷ 72 ∷ 21 ∷ 34 ∷ 0 ∷ 44 ∷ 154 ∷ 137 ∷ 246 ∷ 244 ∷ 0 ∷ 155 ∷ 132 ∷ 0 ∷ 200 ∷ 134 ∷ 82 ∷ 165 ∷ 0 ∷ 0 ∷ 196 ∷ 24 ∷ 0 ∷ 192 ∷ 159 ∷ 0 ∷ 0 ∷ 36 ∷ 184 ∷ 234 ∷ 55 ∷ 0 ∷ []) } ∷ record { target = 7; unit = 0; lba = 5; bytes = (0 ∷ 0 ∷ 98 ∷ 0 ∷ 174 ∷ 188 ∷ 0 ∷ 243 ∷ 0 ∷ 0 ∷ 0 ∷ 0 ∷ 107 ∷ 33 ∷ 0 ∷ 12 ∷ 236 ∷ 0 ∷ 6 ∷ 93 ∷ 195 ∷ 70 ∷ 112 ∷ 73 ∷ 242 ∷ 2 ∷ 51 ∷ 229 ∷ 160 ∷ 0 ∷ 33 ∷ 68 ∷ []) } ∷ record { target = 7; unit = 0; lba = 6; bytes = (91 ∷ 0 ∷ 145 ∷ 0 ∷ 0 ∷ 0 ∷ 56 ∷ 0 ∷ 0 ∷ 136 ∷ 113 ∷ 22 ∷ 0 ∷ 69 ∷ 0 ∷ 0 ∷ 0 ∷ 32 ∷ 167 ∷ 0 ∷ 34 ∷ 0 ∷ 132 ∷ 16 ∷ 0 ∷ 45 ∷ 0 ∷ 123 ∷ 0 ∷ 22 ∷ 0 ∷ 45 ∷ []) } ∷ record { target = 5; unit = 1; lba = 3; bytes = (0 ∷ 83 ∷ 0 ∷ 0 ∷ 0 ∷ 114 ∷ 226 ∷ 40 ∷ 0 ∷ 48 ∷ 111 ∷ 0 ∷ 233 ∷ 91 ∷ 35 ∷ 53 ∷ 239 ∷ 0 ∷ 0 ∷ 0 ∷ 0 ∷ 189 ∷ 0 ∷ 105 ∷ 191 ∷ 194 ∷ 0 ∷ 0 ∷ 146 ∷ 68 ∷ 112 ∷ 0 ∷ []) } ∷ record { target = 4; unit = 7; lba = 0; bytes = (0 ∷ 0 ∷ 0 ∷ 0 ∷ 85 ∷ 136 ∷ 163 ∷ 96 ∷ 0 ∷ 249 ∷ 249 ∷ 52 ∷ 86 ∷ 0 ∷ 179 ∷ 214 ∷ 201 ∷ 0 ∷ 0 ∷ 0 ∷ 240 ∷ 36 ∷ 61 ∷ 0 ∷ 0 ∷ 230 ∷ 0 ∷ 187 ∷ 86 ∷ 0 ∷ 204 ∷ 7 ∷ []) } ∷ record { target = 4; unit = 7; lba = 1; bytes = (0 ∷ 63 ∷ 91 ∷ 16 ∷ 241 ∷ 0 ∷ 140 ∷ 132 ∷ 76 ∷ 0 ∷ 0 ∷ 8 ∷ 0 ∷ 222 ∷ 0 ∷ 0 ∷ 125 ∷ 0 ∷ 252 ∷ 228 ∷ 0 ∷ 0 ∷ 248 ∷ 50 ∷ 0 ∷ 0 ∷ 140 ∷ 114 ∷ 42 ∷ 0 ∷ 218 ∷ 30 ∷ []) } ∷ record { target = 4; unit = 7; lba = 2; bytes = (155 ∷ 91 ∷ 0 ∷ 0 ∷ 229 ∷ 241 ∷ 170 ∷ 7 ∷ 142 ∷ 0 ∷ 177 ∷ 0 ∷ 0 ∷ 134 ∷ 226 ∷ 60 ∷ 0 ∷ 17 ∷ 0 ∷ 54 ∷ 0 ∷ 35 ∷ 75 ∷ 69 ∷ 0 ∷ 0 ∷ 62 ∷ 46 ∷ 114 ∷ 0 ∷ 0 ∷ 0 ∷ []) } ∷ record { target = 4; unit = 7; lba = 3; bytes = (60 ∷ 196 ∷ 109 ∷ 40 ∷ 0 ∷ 122 ∷ 68 ∷ 0 ∷ 29 ∷ 178 ∷ 0 ∷ 0 ∷ 0 ∷ 44 ∷ 0 ∷ 0 ∷ 244 ∷ 155 ∷ 167 ∷ 6 ∷ 200 ∷ 88 ∷ 0 ∷ 118 ∷ 0 ∷ 230 ∷ 215 ∷ 65 ∷ 0 ∷ 0 ∷ 231 ∷ 117 ∷ []) } ∷ record { target = 4; unit = 7; lba = 5; bytes = (154 ∷ 58 ∷ 0 ∷ 117 ∷ 0 ∷ 0 ∷ 139 ∷ 205 ∷ 0 ∷ 0 ∷ 0 ∷ 163 ∷ 180 ∷ 67 ∷ 41 ∷ 0 ∷ 0 ∷ 30 ∷ 45 ∷ 69 ∷ 158 ∷ 232 ∷ 0 ∷ 150 ∷ 251 ∷ 184 ∷ 0 ∷ 23 ∷ 202 ∷ 135 ∷ 42 ∷ 19 ∷ []) } ∷ record { target = 4; unit = 7; lba = 6; bytes = (170 ∷ 0 ∷ 0 ∷ 20 ∷ 90 ∷ 177 ∷ 94 ∷ 139 ∷ 92 ∷ 223 ∷ 0 ∷ 0 ∷ 0 ∷ 144 ∷ 37 ∷ 92 ∷ 74 ∷ 0 ∷ 166 ∷ 0 ∷ 137 ∷ 103 ∷ 0 ∷ 66 ∷ 215 ∷ 249 ∷ 216 ∷ 0 ∷ 0 ∷ 0 ∷ 0 ∷ 124 ∷ []) } ∷ [];
+  tapes = [];
+  loads = [];
   commands = record { host = 3; target = 7; unit = 0; at = 89108; tag = tags.Simple 255; cdb = (8 ∷ 2 ∷ 0 ∷ 0 ∷ 1 ∷ 0 ∷ []); payload = payloads.Nothing } ∷ [];
   aborts = record { host = 3; target = 1; unit = 2; at = 103123; what = (aborts.Tag 2) } ∷ record { host = 3; target = 4; unit = 7; at = 111568; what = aborts.Device } ∷ [];
   resets = [];
@@ -778,7 +840,7 @@ two_aborts_run_rows = drive 89108 3 0x00208 ∷ drive 91508 3 0x00608 ∷ drive 
 abbrev two_aborts_run_events : List Event
 two_aborts_run_events = events.Accept (command 1) ∷ events.Run (command 1) ∷ events.End (command 1) 2 ∷ events.Aborted 3 1 2 (aborts.Tag 2) ∷ events.Aborted 3 4 7 aborts.Device ∷ events.Accept (sense 1) ∷ events.Run (sense 1) ∷ events.End (sense 1) 0 ∷ []
 
-two_aborts_run_told : shown two_aborts_run (story two_aborts_run (reverse two_aborts_run_rows)) (reverse two_aborts_run_events) ≡ record { history = reverse two_aborts_run_events; ends = Some (ended_check (Some (record { key = 5; asc = 33; ascq = 0 }))) ∷ []; carried = true }
+two_aborts_run_told : shown two_aborts_run (story two_aborts_run (reverse two_aborts_run_rows)) (reverse two_aborts_run_events) ≡ record { history = reverse two_aborts_run_events; ends = Some (ended_check (Some (sense_of 5 33 0))) ∷ []; carried = true }
 unfolding need_of sent_of ones union_below line_of form_out form_in
 two_aborts_run_told = refl
 
@@ -795,6 +857,8 @@ unanswered_by_struck_ids_run = record {
   targets = record { dev = 0; latency = 0; retries = 2; disc = policies.Never; pick = picks.First; seek = 0; period = 0; offset = 0; begins = false } ∷ [];
   units = record { target = 0; unit = 0; blocks = 1; size = 16; depth = 1 } ∷ [];
   fills = record { target = 0; unit = 0; lba = 0; bytes = (0 ∷ 1 ∷ 2 ∷ 3 ∷ 4 ∷ 5 ∷ 6 ∷ 7 ∷ 8 ∷ 9 ∷ 10 ∷ 11 ∷ 12 ∷ 13 ∷ 14 ∷ 15 ∷ []) } ∷ [];
+  tapes = [];
+  loads = [];
   commands = record { host = 7; target = 0; unit = 0; at = 0; tag = tags.Untagged; cdb = (8 ∷ 0 ∷ 0 ∷ 0 ∷ 1 ∷ 0 ∷ []); payload = payloads.Nothing } ∷ [];
   aborts = [];
   resets = [];
@@ -824,6 +888,8 @@ write_in_bursts_run = record {
   targets = record { dev = 0; latency = 0; retries = 2; disc = policies.Burst 1; pick = picks.First; seek = 0; period = 0; offset = 0; begins = false } ∷ [];
   units = record { target = 0; unit = 0; blocks = 4; size = 16; depth = 1 } ∷ [];
   fills = [];
+  tapes = [];
+  loads = [];
   commands = record { host = 7; target = 0; unit = 0; at = 0; tag = tags.Simple 1; cdb = (10 ∷ 0 ∷ 0 ∷ 0 ∷ 4 ∷ 0 ∷ []); payload = payloads.From 0 } ∷ [];
   aborts = [];
   resets = [];

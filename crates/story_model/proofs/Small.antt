@@ -48,6 +48,8 @@ with_policy policy faults resets depth = record {
   } ∷ [];
   units = record { target = 0; unit = 0; blocks = 8; size = 16; depth = depth } ∷ [];
   fills = [];
+  tapes = [];
+  loads = [];
   commands = read 0 ∷ [];
   aborts = [];
   resets = resets;

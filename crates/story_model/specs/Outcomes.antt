@@ -1,6 +1,6 @@
 -- How each command ended, as its initiator knows it; and which commands and scenarios must end well.
-use Rattle.std.specs.Prelude.{ℕ, ◌+◌, Bool, true, false, not, ◌&&◌, ◌||◌, ◌==◌, List, [], ◌∷◌, slice_index, Option}
-use Rattle.std.specs.Prelude.{Some, None, Result, Ok, Err, nat_le, if◌then◌else◌}
+use Rattle.std.specs.Prelude.{ℕ, ◌+◌, Bool, true, false, not, ◌&&◌, ◌||◌, ◌==◌, List, [], ◌∷◌, Option, Some, None}
+use Rattle.std.specs.Prelude.{Result, Ok, Err, nat_le, if◌then◌else◌}
 use Rattle.std.specs.List.{list_any}
 use Rattle.bus_phases.specs.bus_base.specs.declared.ProcId.{ProcId}
 use Rattle.bus_phases.specs.bus_base.specs.declared.Event.{Event}
@@ -11,6 +11,7 @@ use Rattle.array_model.specs.cdb_codec.specs.declared.status.TheConstants.{GOOD,
 use Rattle.array_model.specs.cdb_codec.specs.declared.command.Command.{Command}
 use Rattle.array_model.specs.cdb_codec.specs.declared.command.CdbFault.{CdbFault}
 use Rattle.array_model.specs.cdb_codec.specs.Cdb.{command_of}
+use Rattle.array_model.specs.cdb_codec.specs.Replies.{sense_of_data}
 use Rattle.array_model.specs.scenario.specs.declared.value.HostDef.{HostDef}
 use Rattle.array_model.specs.scenario.specs.declared.value.UnitDef.{UnitDef}
 use Rattle.array_model.specs.scenario.specs.declared.value.CmdDef.{CmdDef}
@@ -40,11 +41,10 @@ is_end_of id _ = false
 abbrev pub has_end : List Event → ProcId → Bool
 has_end history id = list_any (λ e. is_end_of id e) history
 
--- Sense data name the key in byte 2, and the code and its qualifier in bytes 12 and 13 (8.2.14).
+-- The sense that the bytes of sense data name, if any came (8.2.14).
 abbrev pub sense_in : List ℕ → Option Sense
 sense_in [] = None
-sense_in (b ∷ bytes) = Some
-    (record { key = slice_index (b ∷ bytes) 2; asc = slice_index (b ∷ bytes) 12; ascq = slice_index (b ∷ bytes) 13 })
+sense_in (b ∷ bytes) = Some (sense_of_data (b ∷ bytes))
 
 abbrev pub reply_bytes_if : Option Reply → List ℕ
 reply_bytes_if None = []

@@ -14,9 +14,11 @@ use Rattle.cdb_codec.specs.declared.status.TheConstants.{GOOD}
 use Rattle.scenario.specs.declared.value.CmdDef.{CmdDef}
 use Rattle.scenario.specs.declared.value.FillDef.{FillDef}
 use Rattle.scenario.specs.declared.value.UnitDef.{UnitDef}
-use Rattle.scenario.specs.Lookups.{has_target, unit_of}
+use Rattle.scenario.specs.Lookups.{has_target, unit_of, disk_of as disk_line}
 use Rattle.scenario.specs.Needs.{is_write, moved_by, need_of, sent_of}
 use Rattle.scenario.specs.Value.{ScenarioValue}
+use Rattle.scenario.proofs.UnitLines.{plain_unit}
+use Rattle.scenario.proofs.TapeNeeds.{plain_need}
 use Rattle.array_model.specs.ArrayHistory.{array_after, array_step, reply_in}
 use Rattle.array_model.specs.Contents.{Contents, blank_contents, filled_contents, starting_contents, with_block}
 use Rattle.array_model.specs.Execution.{Reply, execution, is_request_sense, queue_full}
@@ -61,7 +63,7 @@ line_after o (u ∷ us) (v ∷ vs) t n h k = subst (λ (x : Option UnitState). I
     go x false m more = more m
 
 pub lines_after : (s : ScenarioValue) (a b : Array) → IsLater a b → AreOfLines s a → AreOfLines s b
-lines_after s a b later h = λ t n. line_after (unit_of s t n) a.units b.units t n later.units (h t n)
+lines_after s a b later h = λ t n. line_after (disk_line s t n) a.units b.units t n later.units (h t n)
 
 filled_extent : (u : UnitDef) (fills : List FillDef) (c : Contents) → HasSameExtent c (filled_contents u fills c)
 filled_extent u [] c = extent_self c
@@ -103,6 +105,12 @@ lines_always s (event ∷ history) a e = go (array_after s history) e (λ b f. l
         → ((b : Array) → x ≡ Some b → AreOfLines s b) → AreOfLines s a
     go None k before = cc
     go (Some b) k before = lines_after s b a (step_later s b a event k) (before b refl)
+
+-- Without tapes each unit is of its line.
+pub unit_of_line : (s : ScenarioValue) (a : Array) → s.tapes ≡ [] → AreOfLines s a → (t n : ℕ)
+    → IsOfLine (unit_of s t n) (unit_state_at a.units t n)
+unit_of_line s a plain h t n =
+    subst (λ (o : Option UnitDef). IsOfLine o (unit_state_at a.units t n)) (sym (plain_unit s t n plain)) (h t n)
 
 -- ---- the blocks that are left
 
@@ -225,11 +233,13 @@ sends_none (Ok commands.ReadCapacity) = refl
 sends_none (Ok (commands.Read10 lba count)) = refl
 sends_none (Ok (commands.Write10 lba count)) = refl
 
-sent_is : (s : ScenarioValue) (c : CmdDef) → has_target s c.target ≡ true
+sent_is : (s : ScenarioValue) (c : CmdDef) → s.tapes ≡ [] → has_target s c.target ≡ true
     → sent_of s c ≡ (if is_write (command_of c.cdb) then moved_by (command_of c.cdb) (unit_of s c.target c.unit) else 0)
-unfolding sent_of need_of
-sent_is s c t = λ i. if is_write (command_of c.cdb)
-    then (if t i then moved_by (command_of c.cdb) (unit_of s c.target c.unit) else 0) else 0
+unfolding sent_of
+sent_is s c plain t =
+    let need : need_of s c ≡ moved_by (command_of c.cdb) (unit_of s c.target c.unit) = plain_need s c plain
+    ∙ (λ i. if t i then moved_by (command_of c.cdb) (unit_of s c.target c.unit) else 0) in
+    λ i. if is_write (command_of c.cdb) then need i else 0
 
 -- The bytes that it sends, where it is carried out, are those that it takes; and they are few.
 pub record Sends (a : Array) (p : Process) : Type 0 where
@@ -246,11 +256,12 @@ sends s a p fits lines target is plain =
     let length_is : length p.sent ≡ sent_of s by.line = (λ i. length (by.sent i)) ∙ line.sent in
     let moved : sent_of s by.line
     ≡ (if is_write (command_of p.cdb) then moved_by (command_of p.cdb) (unit_of s p.target p.unit) else 0) =
-    sent_is s by.line declared ∙ (λ i. if is_write (command_of (sym by.cdb i))
+    sent_is s by.line fits.tapes declared ∙ (λ i. if is_write (command_of (sym by.cdb i))
     then moved_by (command_of (sym by.cdb i)) (unit_of s (sym by.target i) (sym by.unit i)) else 0) in
     record {
       bytes = λ good. length_is ∙ moved
-          ∙ go (unit_of s p.target p.unit) (unit_state_at a.units p.target p.unit) refl (lines p.target p.unit) good;
+          ∙ go (unit_of s p.target p.unit) (unit_state_at a.units p.target p.unit) refl
+          (unit_of_line s a fits.tapes lines p.target p.unit) good;
       few = process_few s p.id p fits is;
     }
   where
@@ -307,7 +318,7 @@ pub among : (s : ScenarioValue) (a : Array) (dev n : ℕ) (p : Process) (new : L
     + blocks_left_at new (unit_of s dev n) s.commands ≤ blocks_left_at a.replies (unit_of s dev n) s.commands
 among s a dev n p new r fits lines own plain unanswered more answered =
     let by : IsByLine s p = by_line s p own.is plain in
-    go by (unit_of s dev n) refl (unit_state_at a.units dev n) (lines dev n)
+    go by (unit_of s dev n) refl (unit_state_at a.units dev n) (unit_of_line s a fits.tapes lines dev n)
   where
     id_is : p.id ≡ record { command = p.id.command; sense = false }
     id_is = λ i. record { command = p.id.command; sense = plain i }

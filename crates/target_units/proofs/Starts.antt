@@ -23,7 +23,7 @@ use Rattle.target_units.proofs.AbsentSteps.{starts}
 use Rattle.std.specs.List.{find, AllByRecursion}
 use Rattle.std.proofs.lemmas.Bool.Decides.{nat_tests}
 use Rattle.scenario.specs.declared.value.TargetDef.{TargetDef}
-use Rattle.scenario.specs.Lookups.{unit_of}
+use Rattle.scenario.specs.Lookups.{unit_of, disk_of}
 use Rattle.scenario.specs.Reading.{is_block_of}
 use Rattle.scenario.specs.Reasons.{is_block_in}
 use Rattle.due_model.specs.Defs.{target_def_of}
@@ -143,7 +143,7 @@ picked (x ∷ targets) dev t e = go (x.dev == dev) e (λ k. picked targets dev t
 pub pick_is : (s : ScenarioValue) (t : TargetDef) → target_def_of s t.dev ≡ Some t → t.pick ≡ pick_of s.targets t.dev
 pick_is s t e = picked s.targets t.dev t e
 
-pub absent_at : (s : ScenarioValue) (dev n : ℕ) → unit_of s dev n ≡ None
+pub absent_at : (s : ScenarioValue) (dev n : ℕ) → disk_of s dev n ≡ None
     → IsAbsentAt (seat_of (starting_array s) dev n) nothing_kept
 absent_at s dev n e = starts s dev n (starts_none s s.units dev n e)
 

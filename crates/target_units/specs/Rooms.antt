@@ -5,7 +5,7 @@ use Rattle.bus_base.specs.declared.ProcId.{ProcId}
 use Rattle.cdb_codec.specs.declared.status.TheConstants.{GOOD}
 use Rattle.scenario.specs.declared.value.CmdDef.{CmdDef}
 use Rattle.scenario.specs.declared.value.UnitDef.{UnitDef}
-use Rattle.scenario.specs.Lookups.{unit_of}
+use Rattle.scenario.specs.Lookups.{disk_of}
 use Rattle.scenario.specs.Value.{ScenarioValue}
 use Rattle.array_model.specs.ArrayHistory.{reply_in}
 use Rattle.array_model.specs.Execution.{Reply, execution}
@@ -41,8 +41,9 @@ IsOfLine None (Some v) = ⊥
 IsOfLine (Some u) None = ⊥
 IsOfLine (Some u) (Some v) = (v.contents.count ≡ u.blocks) × (v.contents.size ≡ u.size)
 
+-- The array has no tapes yet, so its units are of the lines of disks.
 abbrev pub AreOfLines : ScenarioValue → Array → Type 0
-AreOfLines s a = (target unit : ℕ) → IsOfLine (unit_of s target unit) (unit_state_at a.units target unit)
+AreOfLines s a = (target unit : ℕ) → IsOfLine (disk_of s target unit) (unit_state_at a.units target unit)
 
 -- ---- a process that runs
 

@@ -40,11 +40,7 @@ impl Model for AbsentUnit {
 fn refused(asc: u8) -> Sense
     ensures { result ≡ sense_of 0x05 asc 0x00 }
 {
-    Sense {
-        key: ILLEGAL_REQUEST,
-        asc,
-        ascq: 0x00,
-    }
+    Sense::plain(ILLEGAL_REQUEST, asc, 0x00)
 }
 
 // How a command ends that gives so many bytes at most, as far as there is room, or else is refused.

@@ -93,11 +93,7 @@ fn reply_of_failure(fails: bool, reply: Option<Reply>, code: u8) -> Option<Reply
         Some(Reply {
             status: CHECK_CONDITION,
             len: 0,
-            sense: Some(Sense {
-                key: ABORTED_COMMAND,
-                asc: code,
-                ascq: 0x00,
-            }),
+            sense: Some(Sense::plain(ABORTED_COMMAND, code, 0x00)),
         })
     } else {
         reply

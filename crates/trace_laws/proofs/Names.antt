@@ -50,11 +50,11 @@ pub use bus_rules.{Order.{is_of_device}, Reset.{only_rst}, Rules.{broken_rule}}
 use Rattle.due_model.specs.scenario.proofs as scenario_proofs
 pub use scenario_proofs.Steps.{bind_ok, ok_is, read_policy, within_ok}
 use Rattle.due_model.specs.scenario.specs as scenario
-pub use scenario.{Forms.{Said, target_line}, Lookups.{has_device, has_target, unit_of}, Needs.{is_write, moved_by}}
-pub use scenario.{Reading.{guard, in_8, period_in, within}, Value.{ScenarioValue}, Writing.{Obeys, said_policy}}
-pub use scenario.declared.bounds.TheConstants.{BURST_LIMIT, LATENCY_LIMIT, RETRY_LIMIT, SEEK_LIMIT, TARGET_OFFSET_LIMIT}
-pub use scenario.declared.value.{AbortDef.{AbortDef}, CmdDef.{CmdDef}, Policy.{Policy}, Tag.{Tag}}
-pub use scenario.declared.value.{TargetDef.{TargetDef}, UnitDef.{UnitDef}}
+pub use scenario.{Forms.{Said, target_line}, Lookups.{disk_of, has_device, has_target, is_tape, unit_of}}
+pub use scenario.{Needs.{is_write, need_at}, Reading.{guard, in_8, period_in, within}, Value.{ScenarioValue}}
+pub use scenario.{Writing.{Obeys, said_policy}, declared.bounds.TheConstants.{BURST_LIMIT, LATENCY_LIMIT, RETRY_LIMIT}}
+pub use scenario.declared.{bounds.TheConstants.{SEEK_LIMIT, TARGET_OFFSET_LIMIT}, value.AbortDef.{AbortDef}}
+pub use scenario.declared.value.{CmdDef.{CmdDef}, Policy.{Policy}, Tag.{Tag}, TargetDef.{TargetDef}, UnitDef.{UnitDef}}
 unfoldable pub use scenario.{Needs.{need_of, sent_of}, Reading.{policy_in, target_def}}
 use Rattle.due_model.specs.array_model.proofs as array_model_proofs
 pub use array_model_proofs.{Executed.{absent_executed}, ExecutionFacts.{good_range}, NamedBlocks.{named_either}}
@@ -149,7 +149,7 @@ pub use scsi_device.Writes.{is_data_out, is_next_byte, is_whole_run, is_writer, 
 pub use scsi_device.Writes.{is_written_in, is_written_on, is_written_run, start_of_run, writer_of, writers}
 pub use scsi_device.Writes.{writers_with, written}
 use Rattle.target_units.proofs as target_units_proofs
-pub use target_units_proofs.{Rooms.{by_line, lines_always, lines_start, sends}, Sendings.{written_named}}
+pub use target_units_proofs.{Rooms.{by_line, lines_always, lines_start, sends, unit_of_line}, Sendings.{written_named}}
 pub use target_units_proofs.{Starts.{start_settled}, UnitTimes.{running_is}}
 use Rattle.target_units.specs as target_units
 pub use target_units.Rooms.{AreOfLines, IsOfLine}

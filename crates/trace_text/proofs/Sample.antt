@@ -1,13 +1,16 @@
--- The texts, computed on a small run: two rows, two events, a reply and a block.
-use Rattle.std.proofs.Common.{◌≡◌, [], ◌∷◌, true, false, refl}
+-- The texts, computed on a small run: two rows, two events, a reply and a block; and replies with senses.
+use Rattle.std.proofs.Common.{◌≡◌, List, [], ◌∷◌, true, false, Some, None, refl}
 use Rattle.std.specs.Prelude.{codes, Ok, Err}
 use Rattle.std.specs.Fmt.{digits}
 use Rattle.bus_trace.specs.LineSet.{set_of}
 use Rattle.bus_trace.specs.declared.Kind.TheVariants.{Drives, Fault}
 use Rattle.bus_base.specs.declared.Event.TheVariants.{Accept, End}
-use Rattle.run_record.specs.declared.outcome.Outcome.TheVariants.{Good}
+use Rattle.run_record.specs.declared.outcome.Outcome.{Outcome}
+use Rattle.run_record.specs.declared.outcome.Outcome.TheVariants.{Good, Check}
 use Rattle.run_record.specs.Value.{RunValue}
+use Rattle.cdb_codec.specs.Replies.{plain_sense}
 use Rattle.text_words.specs.Words.{after, number_at}
+use Rattle.trace_text.specs.ReplyText.{replies_text}
 use Rattle.trace_text.specs.ReportText.{report_text}
 use Rattle.trace_text.specs.Lines.{row_at, end_at}
 use Rattle.trace_text.specs.Whole.{trace_of}
@@ -26,6 +29,17 @@ report_of_sample : report_text ((3, 0) ∷ []) sample ≡ codes
     "trace 1\n4800 7 1078a\n7055 0 f8\nend 7055\nhistory\naccept 1\nend 12S 02\nreplies\ncmd 1 GOOD 0aff\nblocks\nblock 3 0 4294967295 01a2\ndone\n"
 unfolding digits
 report_of_sample = refl
+
+-- a sense of a disk, two of a tape that met a filemark and the end of data, and none
+abbrev checked : List Outcome
+checked = Check (Some (plain_sense 0x05 0x24 0x00))
+    ∷ Check (Some (record { key = 0x00; asc = 0x00; ascq = 0x01; marks = 0x80; residue = Some 4094 }))
+    ∷ Check (Some (record { key = 0x08; asc = 0x00; ascq = 0x05; marks = 0x00; residue = Some 1 })) ∷ Check None ∷ []
+
+text_of_checked : replies_text 9 checked ≡ codes
+    "cmd 9 CHECK 052400\ncmd 10 CHECK 000001 80 4094\ncmd 11 CHECK 080005 00 1\ncmd 12 CHECK none\n"
+unfolding digits
+text_of_checked = refl
 
 -- the front of the report read as a trace, and two texts that break the form
 trace_of_report : trace_of (codes "trace 1\n4800 7 1078a\n7055 0 f8\nend 7055\nhistory\naccept 1\nend")

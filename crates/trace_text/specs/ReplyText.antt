@@ -10,10 +10,15 @@ abbrev pub bytes_text : List ℕ → List ℕ
 bytes_text [] = []
 bytes_text (byte ∷ bytes) = 32 ∷ [] ++ hex_text (byte ∷ bytes)
 
--- key and codes of the sense that came
+-- the marks and the residue, where there is one: what a tape met, and how many it did not move over or write
+abbrev pub residue_text : ℕ → Option ℕ → List ℕ
+residue_text marks None = []
+residue_text marks (Some residue) = 32 ∷ [] ++ (byte_text marks ++ (32 ∷ [] ++ decimal residue))
+
+-- key, codes and residue of the sense that came
 abbrev pub sense_text : Option Sense → List ℕ
 sense_text None = codes "none"
-sense_text (Some s) = byte_text s.key ++ (byte_text s.asc ++ byte_text s.ascq)
+sense_text (Some s) = byte_text s.key ++ (byte_text s.asc ++ (byte_text s.ascq ++ residue_text s.marks s.residue))
 
 abbrev pub outcome_text : Outcome → List ℕ
 outcome_text (outcomes.Good bytes) = codes "GOOD" ++ bytes_text bytes

@@ -1,11 +1,11 @@
 //! The part of a report with the replies.
-ghost use Rattle.trace_text.specs.ReplyText.{bytes_text, sense_text, outcome_text, reply_text, replies_text};
+ghost use Rattle.trace_text.specs.ReplyText.{bytes_text, residue_text, sense_text, outcome_text, reply_text, replies_text};
 ghost use Rattle.text_pages.specs.Pages.{Prints};
 
 use bus_base::Sink;
 use cdb_codec::Sense;
 use run_record::Outcome;
-use text_pages::{Page, put, put_byte, put_hex, put_spaced};
+use text_pages::{Page, put, put_byte, put_hex, put_number, put_spaced};
 
 // The bytes that came in, if any did.
 fn put_bytes<K: Sink>(out: &mut K, page: &mut Page, bytes: &[u8])
@@ -18,6 +18,21 @@ fn put_bytes<K: Sink>(out: &mut K, page: &mut Page, bytes: &[u8])
     put_hex(out, page, bytes);
 }
 
+// What a tape met, and how many it did not move over or write, if it tells.
+fn put_residue<K: Sink>(out: &mut K, page: &mut Page, marks: u8, residue: Option<u32>)
+    ensures { Prints K.written K.faults out.old out.new page.old page.new (residue_text marks residue) }
+{
+    match residue {
+        None => {}
+        Some(residue) => {
+            put(out, page, b" ");
+            put_byte(out, page, marks);
+            put(out, page, b" ");
+            put_number(out, page, residue as u64)
+        }
+    }
+}
+
 fn put_sense<K: Sink>(out: &mut K, page: &mut Page, sense: Option<Sense>)
     ensures { Prints K.written K.faults out.old out.new page.old page.new (sense_text sense) }
 {
@@ -26,7 +41,8 @@ fn put_sense<K: Sink>(out: &mut K, page: &mut Page, sense: Option<Sense>)
         Some(sense) => {
             put_byte(out, page, sense.key);
             put_byte(out, page, sense.asc);
-            put_byte(out, page, sense.ascq)
+            put_byte(out, page, sense.ascq);
+            put_residue(out, page, sense.marks, sense.residue)
         }
     }
 }

@@ -8,8 +8,8 @@ use proofs.Names.{CmdDef, UnitDef, Passes, absent_executed, faulty_executed, out
 use proofs.Names.{sense_opcode, CommandContext, Reply, check_condition, execution, is_good_range, is_opcode}
 use proofs.Names.{is_request_sense, needs_unit, range_of, unit_not_supported, command_at, process_by, process_if, Array}
 use proofs.Names.{Nexus, UnitState, nexus_of, unit_state_at, command_id, fits_unit, is_sound_command, is_valid}
-use proofs.Names.{lines_always, AreOfLines, IsOfLine, none_some, HasRun, checked_sense, fault_sense, is_calm_event}
-use proofs.Replies.Valid.{calm_context, fair_after}
+use proofs.Names.{unit_of_line, lines_always, AreOfLines, IsOfLine, none_some, HasRun, checked_sense, fault_sense}
+use proofs.{Names.{is_calm_event}, Replies.Valid.{calm_context, fair_after}}
 use Rattle.due_model.specs.array_model.specs.Steps
 
 -- ---- the checks
@@ -51,11 +51,12 @@ wrong_block c m sent there calm range = go (command_of c.cdb) refl
     go (Err f) e = (λ i. (faulty_executed m c.cdb sent f passes e i).reply) ∙ by_fault f
 
 pub invalid_answers : (s : ScenarioValue) (a : Array) (q : Nexus) (c : CmdDef) (sent : List ℕ)
-    → AreOfLines s a → a.attentions ≡ [] → has_target s c.target ≡ true → is_valid s c ≡ false
+    → s.tapes ≡ [] → AreOfLines s a → a.attentions ≡ [] → has_target s c.target ≡ true → is_valid s c ≡ false
     → (execution (Steps.context_at a q (unit_state_at a.units c.target c.unit)) c.cdb sent).reply
     ≡ check_condition (checked_sense s c)
-invalid_answers s a q c sent lines calm there invalid =
-    by (unit_of s c.target c.unit) refl (unit_state_at a.units c.target c.unit) (lines c.target c.unit)
+invalid_answers s a q c sent plain lines calm there invalid =
+    by (unit_of s c.target c.unit) refl (unit_state_at a.units c.target c.unit)
+    (unit_of_line s a plain lines c.target c.unit)
   where
     bad : (d : Option UnitDef) → unit_of s c.target c.unit ≡ d → (y : Command) → command_of c.cdb ≡ Ok y
         → IsUnsound d c.cdb y
@@ -109,7 +110,7 @@ pub invalid_ran : (s : ScenarioValue) (h : List Event) (m : ℕ) (c : CmdDef) (r
 invalid_ran s h m c reply o calm at there invalid w = w.reply_is ∙ (λ i. (execution
     (Steps.context_at w.array (nexus_of w.process) (unit_state_at w.array.units (sym same i).target (sym same i).unit))
     (sym same i).cdb w.process.sent).reply)
-    ∙ invalid_answers s w.array (nexus_of w.process) c w.process.sent
+    ∙ invalid_answers s w.array (nexus_of w.process) c w.process.sent o.tapes
     (lines_always s w.earlier w.array w.array_is) quiet there invalid
   where
     same : process_by s (command_id m) c ≡ w.process

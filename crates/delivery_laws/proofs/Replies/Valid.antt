@@ -13,8 +13,8 @@ use proofs.Names.{is_opcode, is_request_sense, needs_unit, queue_full, range_of,
 use proofs.Names.{process_of, process_if, process_by, same_id, IsSound, Array, Nexus, RunningProcess, UnitState}
 use proofs.Names.{guest_at, is_held, nexus_of, nexuses_without, sense_of_nexus, senses_without, settled_array}
 use proofs.Names.{unit_state_at, with_unit, command_id, fits_unit, is_sound_command, is_valid, obeys_fits, seats_are}
-use proofs.Names.{lines_always, AreOfLines, IsOfLine, id_is, self_id, none_some, executed, reply_at, accepted, refused}
-use proofs.Names.{settles, running_id, running_own, is_given_up_by, is_calm_event}
+use proofs.Names.{unit_of_line, lines_always, AreOfLines, IsOfLine, id_is, self_id, none_some, executed, reply_at}
+use proofs.Names.{accepted, refused, settles, running_id, running_own, is_given_up_by, is_calm_event}
 use Rattle.due_model.specs.array_model.specs.Steps
 
 -- ---- what a command without fault answers, where no attention stands and its range is good
@@ -113,9 +113,9 @@ answers_anywhere a q u cdb sent c calm is apart range = run_good (Steps.context_
     (range (Steps.context_at a q u).contents.count)
 
 valid_answers : (s : ScenarioValue) (a : Array) (q : Nexus) (c : CmdDef) (sent : List ℕ)
-    → AreOfLines s a → a.attentions ≡ [] → is_valid s c ≡ true
+    → s.tapes ≡ [] → AreOfLines s a → a.attentions ≡ [] → is_valid s c ≡ true
     → (execution (Steps.context_at a q (unit_state_at a.units c.target c.unit)) c.cdb sent).reply.status ≡ GOOD
-valid_answers s a q c sent lines calm valid =
+valid_answers s a q c sent plain lines calm valid =
     go (command_of c.cdb) refl (and_second (has_target s c.target) (is_sound_command s c (command_of c.cdb)) valid)
   where
     u : Option UnitState
@@ -139,7 +139,8 @@ valid_answers s a q c sent lines calm valid =
 
     by_unit : (z : Command) → command_of c.cdb ≡ Ok z → fits_unit (unit_of s c.target c.unit) z ≡ true → Good
     by_unit z is e =
-        let w = fit_unit s c (unit_of s c.target c.unit) u z (lines c.target c.unit) is e in
+        let w = fit_unit s c (unit_of s c.target c.unit) u z
+        (unit_of_line s a plain lines c.target c.unit) is e in
         answers_by_unit a q u c.cdb sent z calm is w.0 w.1
 
     either : (z : Command) → command_of c.cdb ≡ Ok z → (x y : Bool) → is_opcode c.cdb INQUIRY ≡ x
@@ -194,6 +195,7 @@ one_more s h e replies after id reply is own g = subst (λ (x : List (ProcId × 
 
 record IsAlong (s : ScenarioValue) (a : Array) : Type 0 where
   sound : IsSound s a
+  plain : s.tapes ≡ []
   lines : AreOfLines s a
   calm : a.attentions ≡ []
 
@@ -219,7 +221,7 @@ ran s h a c id guest (Some r) is f e g =
         let cdb : d.cdb ≡ r.process.cdb = ap (λ (x : Process). x.cdb) by in
         (λ i. (execution (Steps.context_at a (nexus_of r.process) (unit_state_at a.units (sym target i) (sym unit i)))
         (sym cdb i) r.process.sent).reply.status)
-        ∙ valid_answers s a (nexus_of r.process) d r.process.sent is.lines is.calm valid
+        ∙ valid_answers s a (nexus_of r.process) d r.process.sent is.plain is.lines is.calm valid
 
     go : (x : Bool) → (if x then Some (Steps.after_execution_at a r.process u) else None) ≡ Some c
         → AreFair s (Event.Run id ∷ h) c.replies
@@ -389,6 +391,7 @@ fair_after s (x ∷ h) a o calm e = go (λ b z. fair_after s h b o
         record {
           replies = step_fair s h b a x (record {
             sound = history_sound s h b (seats_are s (obeys_fits s o)) z;
+            plain = o.tapes;
             lines = lines_always s h b z;
             calm = was.calm;
           }) now st was.replies;

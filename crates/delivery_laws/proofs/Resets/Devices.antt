@@ -2,12 +2,12 @@
 use Rattle.delivery_laws.proofs
 use proofs.Names.{ℕ, ◌≡◌, Bool, true, false, ◌||◌, List, [], ◌∷◌, ◌++◌, Option, Some, None, Ok, cond, refl, subst, inl}
 use proofs.Names.{inr, cases_Bool, AllByRecursion, find, list_any, ◌==◌, is_some, wrong', either_stays, bind_ok, ok_is}
-use proofs.Names.{guard_ok, Said, scsi_line, initiator_line, target_line, unit_line, fill_line, cmd_line, abort_line}
-use proofs.Names.{reset_line, fault_line, end_line, has_device, has_host, has_target, need_of, sent_of, Progress, guard}
-use proofs.Names.{in_8, time_in, has_abort_room, host_def, target_def, unit_def, fill_def, full_cmd_def, abort_def}
-use proofs.Names.{reset_def, fault_def, added, said_after, fits_version, in_order, rank, kind_of, nothing}
-use proofs.Names.{ScenarioValue, saids, built, Obeys, HostDef, ResetDef, TargetDef, host_latency, latency_of}
-use proofs.Names.{target_latency, all_more, reset_by}
+use proofs.Names.{guard_ok, tape_line, load_line, Said, scsi_line, initiator_line, target_line, unit_line, fill_line}
+use proofs.Names.{cmd_line, abort_line, reset_line, fault_line, end_line, has_device, has_host, has_target, need_of}
+use proofs.Names.{sent_of, tape_def, load_def, Progress, guard, in_8, time_in, has_abort_room, host_def, target_def}
+use proofs.Names.{unit_def, fill_def, full_cmd_def, abort_def, reset_def, fault_def, added, said_after, fits_version}
+use proofs.Names.{in_order, rank, kind_of, nothing, ScenarioValue, saids, built, Obeys, HostDef, ResetDef, TargetDef}
+use proofs.Names.{host_latency, latency_of, target_latency, all_more, reset_by}
 
 abbrev Has : ScenarioValue → ResetDef → Type 0
 Has s r = has_device s r.dev ≡ true
@@ -59,6 +59,12 @@ there_added d z (unit_line f) e w =
 there_added d z (fill_line f) e w =
     let b = bind_ok (fill_def d.scenario f) _ z e in
     subst (λ (y : Progress). AreThere y.scenario) (ok_is _ z b.2) w
+there_added d z (tape_line f) e w =
+    let b = bind_ok (tape_def d.scenario f) _ z e in
+    subst (λ (y : Progress). AreThere y.scenario) (ok_is _ z b.2) w
+there_added d z (load_line f) e w =
+    let b = bind_ok (load_def d.scenario f) _ z e in
+    subst (λ (y : Progress). AreThere y.scenario) (ok_is _ z b.2) w
 there_added d z (cmd_line f) e w =
     let b = bind_ok (full_cmd_def d.scenario d.needs f) _ z e in
     subst (λ (y : Progress). AreThere y.scenario) (ok_is _ z b.2) w
@@ -92,7 +98,7 @@ there_built d z (x ∷ xs) e w =
 
 pub resets_there : (s : ScenarioValue) → Obeys s → AreThere s
 resets_there s o =
-    let b = bind_ok (built nothing (saids s)) _ s o.lawful in
+    let b = bind_ok (built nothing (saids s)) _ s o.text.lawful in
     subst AreThere (ok_is b.0.scenario s b.2) (there_built nothing b.0 (saids s) b.1 tt)
 
 -- ---- so it has a latency

@@ -3,17 +3,18 @@
 use Rattle.delivery_laws.proofs
 use proofs.Names.{inl, inr, ℕ, ◌≡◌, ◌⊎◌, Bool, true, false, not, ◌&&◌, ◌||◌, ◌∙◌, List, [], ◌∷◌, ◌++◌, Option, Some}
 use proofs.Names.{None, refl, sym, ap, subst, eqb-true, cases_Bool, same_Some, list_any, if◌then◌else◌, ◌==◌, is_none}
-use proofs.Names.{is_some, nat_lt, ⊤, wrong, wrong', AbortKind, Event, ProcId, command_of, Sense, ABORTED_COMMAND}
-use proofs.Names.{CHECK_CONDITION, GOOD, ScenarioValue, CmdDef, HostDef, sense_fetched, same_nexus_is, sense_put_at}
-use proofs.Names.{senses_without_at, reply_in, CommandContext, Execution, Reply, check_condition, commands_cleared}
-use proofs.Names.{execution, is_request_sense, queue_full, returned_sense, sense_of, Process, command_at, process_of}
-use proofs.Names.{same_id, sense_block, IsSound, running_process, Array, Nexus, RunningProcess, UnitState, guest_at}
-use proofs.Names.{is_held, nexus_of, nexuses_without, same_nexus, sense_of_nexus, senses_without, unit_state_at}
-use proofs.Names.{with_unit, ends_checks, Sent, command_id, has_item, process, sense_id, sense_item, sense_in, Ending}
-use proofs.Names.{Story, by_abort, by_reset, by_status, is_aborted, is_sense_stopped, story_after_event, story_with_end}
-use proofs.Names.{story_with_ends, id_is, self_nexus, none_some, reply_at, running_id, AreChecked, ends_over}
-use proofs.Names.{ends_senses, events_grow, in_append, sense_cdb, debt_before, is_checked, is_not_over, same_debt}
-use proofs.Names.{OfCommand, of_command, running_own, nexus_at, Debts, IsDebt, PaysWell, is_owed, nexus_of_command}
+use proofs.Names.{is_some, nat_lt, ⊤, wrong, wrong', AbortKind, Event, ProcId, sense_reads_back, command_of, FitsSense}
+use proofs.Names.{sense_data, Sense, ABORTED_COMMAND, CHECK_CONDITION, GOOD, ScenarioValue, CmdDef, HostDef}
+use proofs.Names.{sense_fetched, same_nexus_is, sense_put_at, senses_without_at, reply_in, CommandContext, Execution}
+use proofs.Names.{Reply, check_condition, commands_cleared, execution, is_request_sense, queue_full, returned_sense}
+use proofs.Names.{sense_of, Process, command_at, process_of, same_id, sense_block, IsSound, running_process, Array}
+use proofs.Names.{Nexus, RunningProcess, UnitState, guest_at, is_held, nexus_of, nexuses_without, same_nexus}
+use proofs.Names.{sense_of_nexus, senses_without, unit_state_at, with_unit, ends_checks, Sent, command_id, has_item}
+use proofs.Names.{process, sense_id, sense_item, sense_in, Ending, Story, by_abort, by_reset, by_status, is_aborted}
+use proofs.Names.{is_sense_stopped, story_after_event, story_with_end, story_with_ends, id_is, self_nexus, StoredFit}
+use proofs.Names.{none_some, reply_at, running_id, AreChecked, ends_over, ends_senses, events_grow, in_append}
+use proofs.Names.{sense_cdb, debt_before, is_checked, is_not_over, same_debt, OfCommand, of_command, running_own}
+use proofs.Names.{nexus_at, Debts, IsDebt, PaysWell, is_owed, nexus_of_command}
 use Rattle.due_model.specs.array_model.specs.Steps
 
 -- ---- what is kept
@@ -267,10 +268,12 @@ command_more s b senses replies id x none plain h =
 
 -- ---- what an automatic REQUEST SENSE brings
 
-sense_brought : (m : CommandContext) (sent : List ℕ) (x : Sense) → m.stored ≡ Some x
+sense_brought : (m : CommandContext) (sent : List ℕ) (x : Sense) → m.stored ≡ Some x → FitsSense x
     → sense_in (execution m sense_block sent).reply.bytes ≡ Some x
-sense_brought m sent x e =
-    (λ i. sense_in (sense_fetched m sent i).reply.bytes) ∙ (λ i. Some (returned_sense m.present (e i)))
+sense_brought m sent x e fits =
+    (λ i. sense_in (sense_fetched m sent i).reply.bytes)
+    ∙ (λ i. sense_in (sense_data (returned_sense m.present (e i))))
+    ∙ ap (λ (y : Sense). Some y) (sense_reads_back x fits)
 
 context_stored : (a : Array) (q : Nexus) (u : Option UnitState)
     → (Steps.context_at a q u).stored ≡ sense_of_nexus a.senses q
@@ -278,10 +281,10 @@ context_stored a q None = refl
 context_stored a q (Some u) = refl
 
 ran : (s : ScenarioValue) (b : Sent) (a : Array) (id : ProcId) (r : RunningProcess) → IsSound s a
-    → Tells b a (Event.Run id) → running_process a id ≡ Some r → OwnSenses s b a.senses a.replies
+    → Tells b a (Event.Run id) → StoredFit a.senses → running_process a id ≡ Some r → OwnSenses s b a.senses a.replies
     → OwnSenses s b a.senses
     ((r.process.id, reply_at a r.process (unit_state_at a.units r.process.target r.process.unit)) ∷ a.replies)
-ran s b a id r sound tells e h = one_more s b a.senses a.replies r.process.id (reply_at a c u) none new h
+ran s b a id r sound tells fit e h = one_more s b a.senses a.replies r.process.id (reply_at a c u) none new h
   where
     c : Process
     c = r.process
@@ -324,7 +327,7 @@ ran s b a id r sound tells e h = one_more s b a.senses a.replies r.process.id (r
           sense_is = (λ i. sense_in
               (execution (Steps.context_at a (nexus_of c) u) (sense_cdb s id c fetches is i) c.sent).reply.bytes)
               ∙ sense_brought (Steps.context_at a (nexus_of c) u) c.sent w.reply.sense
-              (context_stored a (nexus_of c) u ∙ w.stored);
+              (context_stored a (nexus_of c) u ∙ w.stored) (fit (nexus_of c) w.reply.sense w.stored);
         }
 
 -- ---- what is stored elsewhere stays
@@ -589,33 +592,37 @@ refused_plain s id c is e =
     elim (cases_Bool id.sense) [ inl f ↦ wrong (sym ((of_command s id c is).fetches f) ∙ e) | inr f ↦ f ]
 
 event_own : (s : ScenarioValue) (b : Story) (a : Array) (event : Event) → IsSound s a → AreChecked b.sent
-    → Debts s b.sent a.holds → PaysWell s b.sent event → Tells b.sent a event → OwnSenses s b.sent a.senses a.replies
+    → Debts s b.sent a.holds → PaysWell s b.sent event → Tells b.sent a event → StoredFit a.senses
+    → OwnSenses s b.sent a.senses a.replies
     → IfBooks (OwnSenses s (story_after_event s b event).sent) (Steps.event_step s a event)
-event_own s b a (Event.Accept id) sound checked debts well tells h = accepted (OwnSenses s b.sent) a (process_of s id) h
-event_own s b a (Event.Refuse id) sound checked debts well tells h = refused (OwnSenses s b.sent) a (process_of s id)
-    (λ c e f. let own : c.id ≡ id = sym (process_own c e) in command_more s b.sent a.senses a.replies c.id queue_full
+event_own s b a (Event.Accept id) sound checked debts well tells fit h =
+    accepted (OwnSenses s b.sent) a (process_of s id) h
+event_own s b a (Event.Refuse id) sound checked debts well tells fit h =
+    refused (OwnSenses s b.sent) a (process_of s id) (λ c e f. let own : c.id ≡ id = sym (process_own c e) in
+    command_more s b.sent a.senses a.replies c.id queue_full
     (ap (reply_in a.replies) own ∙ tells) (ap (λ (x : ProcId). x.sense) own ∙ refused_plain s id c e f) h)
   where
     process_own : (c : Process) → process_of s id ≡ Some c → id ≡ c.id
     process_own c e = sym (Rattle.due_model.specs.array_model.proofs.SoundArrays.id_is s id c e)
-event_own s b a (Event.Run id) sound checked debts well tells h = run (OwnSenses s b.sent) a
-    (is_some (guest_at a.guests id)) (running_process a id) (λ r e. ran s b.sent a id r sound tells e h)
-event_own s b a (Event.Fail id code) sound checked debts well tells h =
+event_own s b a (Event.Run id) sound checked debts well tells fit h = run (OwnSenses s b.sent) a
+    (is_some (guest_at a.guests id)) (running_process a id) (λ r e. ran s b.sent a id r sound tells fit e h)
+event_own s b a (Event.Fail id code) sound checked debts well tells fit h =
     failed (OwnSenses s b.sent) s a id (check_condition (sense_of ABORTED_COMMAND code 0x00)) (running_process a id)
     (command_more s b.sent a.senses a.replies id (check_condition (sense_of ABORTED_COMMAND code 0x00)) tells well h)
-event_own s b a (Event.End id status) sound checked debts well tells h =
+event_own s b a (Event.End id status) sound checked debts well tells fit h =
     ends_own s b a id status sound debts well tells h
-event_own s b a (Event.Lost id) sound checked debts well tells h = lost
+event_own s b a (Event.Lost id) sound checked debts well tells fit h = lost
     (OwnSenses s (story_after_event s b (Event.Lost id)).sent) a id
     (fewer_owned s b.sent (story_after_event s b (Event.Lost id)).sent a.senses a.replies
     (λ n q d. same_debt s b.sent (story_after_event s b (Event.Lost id)).sent n q refl
     (λ m z. (events_grow s b (Event.Lost id ∷ [])).over (sense_item m) z) d) h)
-event_own s b a (Event.Aborted i t n what) sound checked debts well tells h = aborted s b a i t n what checked h
-event_own s b a (Event.Reset dev) sound checked debts well tells h = reset s b a dev checked h
+event_own s b a (Event.Aborted i t n what) sound checked debts well tells fit h = aborted s b a i t n what checked h
+event_own s b a (Event.Reset dev) sound checked debts well tells fit h = reset s b a dev checked h
 
 pub step_own : (s : ScenarioValue) (b : Story) (a d : Array) (event : Event) → IsSound s a → AreChecked b.sent
-    → Debts s b.sent a.holds → PaysWell s b.sent event → Tells b.sent a event → OwnSenses s b.sent a.senses a.replies
+    → Debts s b.sent a.holds → PaysWell s b.sent event → Tells b.sent a event → StoredFit a.senses
+    → OwnSenses s b.sent a.senses a.replies
     → Steps.step s event a ≡ Some d → OwnSenses s (story_after_event s b event).sent d.senses d.replies
-step_own s b a d event sound checked debts well tells h e = subst (IfBooks
+step_own s b a d event sound checked debts well tells fit h e = subst (IfBooks
     (OwnSenses s (story_after_event s b event).sent)) e (settled (OwnSenses s (story_after_event s b event).sent)
-    (Steps.event_step s a event) (event_own s b a event sound checked debts well tells h))
+    (Steps.event_step s a event) (event_own s b a event sound checked debts well tells fit h))

@@ -2,25 +2,26 @@
 -- SENSE brings it (7.6, 8.2.14).
 use Rattle.delivery_laws.proofs
 use proofs.Names.{inl, inr, ℕ, ◌≡◌, ◌⊎◌, ◌<◌, Bool, true, false, not, ◌&&◌, ◌||◌, ◌∙◌, List, [], ◌∷◌, Option, Some}
-use proofs.Names.{None, refl, sym, ap, subst, and_parts, same_Some, list_any, if◌then◌else◌, ◌==◌, is_some, ⊤, wrong}
-use proofs.Names.{wrong', Event, ProcId, rises, changes_phase, is_command, connection, connection_after, Row, Change}
-use proofs.Names.{Connection, Handshakes, ScenarioValue, Obeys, AbortDef, array_after, array_step, reply_in, Reply}
-use proofs.Names.{Process, process_of, same_id, HasSeats, IsSound, running_process, Array, RunningProcess, guest_at}
-use proofs.Names.{without_reply, RowReading, row_reading, CarriedBytes, is_status_phase, is_whole_block, abort_line_at}
-use proofs.Names.{abort_line_events, bus_free_events, carried_if, end_events, is_completion, is_refuse}
-use proofs.Names.{item_abort_events, item_loss_events, link_events, phase_events, row_events_by, status_event}
-use proofs.Names.{status_events, Item, Sent, abort, command_item, has_item, process, LastMessage, Link, abortive}
-use proofs.Names.{complete, disconnect, plain, Story, story_after_event, story_after_events, story_by_change, phase_of}
-use proofs.Names.{Cause, Messages, Next, Phase, Plan, run_state_plain, IsPrompt, IsPlain, RunState, array_of, bus_of}
-use proofs.Names.{carried_here, or_start, process_item, array_after_events, run_state, served_after, obeys_fits}
-use proofs.Names.{seats_are, self_id, is_in_phase, apart, ends, change_plain, least_is, none_some, not_running}
-use proofs.Names.{no_guest, accepted, running_id, settles, NextStood, is_marked, IsChecked, AnsweredOpen, Closes}
-use proofs.Names.{IsAtRest, IsAway, IsTaken, IsUnanswered, IsUntouched, OnGuests, PlacedAsked, PlacedBefore, PlacedIf}
-use proofs.Names.{PlacedIn, RunsOpen, completes, disconnects, items_open, events_grow, carried_of_item, change_over}
-use proofs.Names.{on_running, Whole, standing_next, whole, AllPay, Paid, events_pay, Indebted, indebted, row_pays}
-use proofs.Names.{sense_is, senses_same, same_debt, same_debts, changed, Debts, is_owed, GoesSo, here_goes}
-use proofs.{Names.{known_served, none_is}, Queues.Facts.{Arriving, arriving}, Senses.Events.{IfBooks, OwnSenses, Tells}}
-use proofs.Senses.Events.{fewer_owned, step_own}
+use proofs.Names.{None, refl, sym, ap, subst, and_parts, same_Some, list_any, AllByRecursion, if◌then◌else◌, ◌==◌}
+use proofs.Names.{is_some, ⊤, wrong, wrong', Event, ProcId, rises, changes_phase, is_command, connection}
+use proofs.Names.{connection_after, Row, Change, Connection, Handshakes, ScenarioValue, Obeys, AbortDef, array_after}
+use proofs.Names.{array_step, reply_in, Reply, Process, process_of, same_id, HasSeats, IsSound, running_process, Array}
+use proofs.Names.{RunningProcess, guest_at, without_reply, RowReading, row_reading, CarriedBytes, is_status_phase}
+use proofs.Names.{is_whole_block, abort_line_at, abort_line_events, bus_free_events, carried_if, end_events}
+use proofs.Names.{is_completion, is_refuse, item_abort_events, item_loss_events, link_events, phase_events}
+use proofs.Names.{row_events_by, status_event, status_events, Item, Sent, abort, command_item, has_item, process}
+use proofs.Names.{LastMessage, Link, abortive, complete, disconnect, plain, Story, story_after_event}
+use proofs.Names.{story_after_events, story_by_change, phase_of, Cause, Messages, Next, Phase, Plan, run_state_plain}
+use proofs.Names.{IsPrompt, IsPlain, RunState, array_of, bus_of, carried_here, or_start, process_item}
+use proofs.Names.{array_after_events, run_state, served_after, obeys_fits, seats_are, self_id, is_in_phase, apart, ends}
+use proofs.Names.{change_plain, least_is, HasByteCode, SendsBytes, stored_fit, row_codes, Keeps, KeepsIf, keeps}
+use proofs.Names.{keeps_events, sends_bytes, none_some, not_running, no_guest, accepted, running_id, settles, NextStood}
+use proofs.Names.{is_marked, IsChecked, AnsweredOpen, Closes, IsAtRest, IsAway, IsTaken, IsUnanswered, IsUntouched}
+use proofs.Names.{OnGuests, PlacedAsked, PlacedBefore, PlacedIf, PlacedIn, RunsOpen, completes, disconnects, items_open}
+use proofs.Names.{events_grow, carried_of_item, change_over, on_running, Whole, standing_next, whole, AllPay, Paid}
+use proofs.Names.{events_pay, Indebted, indebted, row_pays, sense_is, senses_same, same_debt, same_debts, changed}
+use proofs.{Names.{Debts, is_owed, GoesSo, here_goes, known_served, none_is}, Queues.Facts.{Arriving, arriving}}
+use proofs.Senses.Events.{IfBooks, OwnSenses, Tells, fewer_owned, step_own}
 use Rattle.due_model.specs.array_model.proofs.SoundArrays.{id_is}
 use Rattle.due_model.specs.array_model.specs.Steps
 
@@ -32,25 +33,29 @@ AllTell s b o (event ∷ shown) =
     ((a : Array) → array_after_events s o shown ≡ Some a → Tells (story_after_events s b shown).sent a event)
     × AllTell s b o shown
 
-events_own : (s : ScenarioValue) (b : Story) (o : Option Array) (shown : List Event) → HasSeats s
-    → AllPay s b shown → AllTell s b o shown → Paid s b o → IfBooks (OwnSenses s b.sent) o
+events_own : (s : ScenarioValue) (b : Story) (o : Option Array) (shown : List Event) → HasSeats s → SendsBytes s
+    → AllByRecursion HasByteCode shown → AllPay s b shown → AllTell s b o shown → Paid s b o → KeepsIf s o
+    → IfBooks (OwnSenses s b.sent) o
     → IfBooks (OwnSenses s (story_after_events s b shown).sent) (array_after_events s o shown)
-events_own s b o [] seats well tell paid h = h
-events_own s b o (event ∷ shown) seats well tell paid h = go (array_after_events s o shown) refl
-    (events_pay s b o shown seats well.1 paid) (events_own s b o shown seats well.1 tell.1 paid h)
+events_own s b o [] seats sends codes well tell paid kept h = h
+events_own s b o (event ∷ shown) seats sends codes well tell paid kept h = go (array_after_events s o shown) refl
+    (events_pay s b o shown seats well.1 paid) (keeps_events s shown o sends seats codes.1 kept)
+    (events_own s b o shown seats sends codes.1 well.1 tell.1 paid kept h)
   where
     was : Story
     was = story_after_events s b shown
 
-    go : (x : Option Array) → array_after_events s o shown ≡ x → Paid s was x → IfBooks (OwnSenses s was.sent) x
+    go : (x : Option Array) → array_after_events s o shown ≡ x → Paid s was x → KeepsIf s x
+        → IfBooks (OwnSenses s was.sent) x
         → IfBooks (OwnSenses s (story_after_event s was event).sent) (array_step s event x)
-    go None e f w = tt
-    go (Some a) e f w = by (Steps.step s event a) refl
+    go None e f g w = tt
+    go (Some a) e f g w = by (Steps.step s event a) refl
       where
         by : (x : Option Array) → Steps.step s event a ≡ x
             → IfBooks (OwnSenses s (story_after_event s was event).sent) x
         by None z = tt
-        by (Some d) z = step_own s was a d event (f.sound a refl) f.checked (f.debts a refl) well.0 (tell.0 a e) w z
+        by (Some d) z = step_own s was a d event (f.sound a refl) f.checked (f.debts a refl) well.0 (tell.0 a e)
+            (stored_fit a g.1) w z
 
 -- ---- a process that ends has the reply that is listed
 
@@ -394,6 +399,15 @@ own_next s p row o prompt h = subst (λ (x : Array). OwnSenses s j.story.sent x.
     w : Whole s p
     w = due.whole
 
+    seats : HasSeats s
+    seats = seats_are s (obeys_fits s o)
+
+    sends : SendsBytes s
+    sends = sends_bytes s o
+
+    keep : Keeps s k
+    keep = keeps s p o sends seats
+
     v : Coming s p row
     v = record {
       lt = (least_is s p row prompt.1).inside;
@@ -431,8 +445,9 @@ own_next s p row o prompt h = subst (λ (x : Array). OwnSenses s j.story.sent x.
         (λ n q x. same_debt s k.story.sent b.sent n q checks (λ m z. senses_same s k.story d row m ∙ z) x) h
 
     now : OwnSenses s j.story.sent v.next.places.array.senses v.next.places.array.replies
-    now = subst (IfBooks (OwnSenses s j.story.sent)) v.next.places.array_is (events_own s b k.array shown
-        (seats_are s (obeys_fits s o)) (row_pays s p row v.lt v.was v.next v.stood due.books) (row_tells s p row v) paid
+    now = subst (IfBooks (OwnSenses s j.story.sent)) v.next.places.array_is (events_own s b k.array shown seats sends
+        (row_codes s k.story d row keep.codes) (row_pays s p row v.lt v.was v.next v.stood due.books)
+        (row_tells s p row v) paid keep.array
         (subst (IfBooks (OwnSenses s b.sent)) (ap (λ (x : Array). Some x) before_is ∙ sym w.places.array_is) start))
 
 pub all_own : (s : ScenarioValue) (p : List Row) → Obeys s → IsPrompt s p → AreOwn s p

@@ -1,17 +1,18 @@
 -- The measure at the start has 32 bits: the commands of a scenario need at most 1,048,576 bytes in all, and resets and
 -- faults are few.
 use Rattle.measure_laws.proofs
-use proofs.Names.{ℕ, zero, suc, ◌≡◌, ◌≤◌, ◌<◌, Bool, true, false, List, [], ◌∷◌, length, refl, subst, arith, Option}
-use proofs.Names.{Some, None, Result, Ok, Err, length-append, max, nat_tests, sum_by-cons, div_below, AllByRecursion}
-use proofs.Names.{find, sum_by, ◌++◌, ◌+◌, ◌-◌, ◌*◌, ◌/◌, ◌==◌, if◌then◌else◌, nat_le, nat_lt, command_of, CdbFault}
-use proofs.Names.{Command, all_needs, each_need, bind_ok, guard_ok, ok_is, Said, scsi_line, initiator_line, target_line}
-use proofs.Names.{unit_line, fill_line, cmd_line, abort_line, reset_line, fault_line, end_line, has_device, has_target}
-use proofs.Names.{unit_of, block_bytes, moved, moved_by, need_of, Progress, abort_def, added, fault_def, fill_def}
-use proofs.Names.{fits_version, full_cmd_def, guard, has_abort_room, host_def, in_8, in_order, kind_of, nothing, rank}
-use proofs.Names.{reset_def, said_after, target_def, time_in, unit_def, within, ScenarioValue, Obeys, built, saids}
-use proofs.Names.{AbortDef, CmdDef, FaultDef, Policy, ResetDef, TargetDef, UnitDef, range_of, data_runs, longest_need}
-use proofs.Names.{runs_at, runs_by, runs_of, runs_over, retries_of, first_run_state, obeys_fits, fault_by, reset_by}
-use proofs.Names.{FitsBus, some_count, aborts_left, bytes_after, commands_left, resets_left, measure, for_fault}
+use proofs.Names.{ℕ, zero, suc, ◌≡◌, ◌≤◌, ◌<◌, Bool, true, false, List, [], ◌∷◌, length, refl, sym, subst, arith}
+use proofs.Names.{Option, Some, None, Result, Ok, Err, length-append, max, nat_tests, sum_by-cons, div_below}
+use proofs.Names.{AllByRecursion, find, sum_by, ◌++◌, ◌+◌, ◌-◌, ◌*◌, ◌/◌, ◌==◌, if◌then◌else◌, nat_le, nat_lt}
+use proofs.Names.{command_of, CdbFault, Command, all_needs, each_need, bind_ok, guard_ok, ok_is, plain_need, tape_line}
+use proofs.Names.{load_line, Said, scsi_line, initiator_line, target_line, unit_line, fill_line, cmd_line, abort_line}
+use proofs.Names.{reset_line, fault_line, end_line, has_device, has_target, unit_of, block_bytes, moved, moved_by}
+use proofs.Names.{need_of, tape_def, load_def, Progress, abort_def, added, fault_def, fill_def, fits_version}
+use proofs.Names.{full_cmd_def, guard, has_abort_room, host_def, in_8, in_order, kind_of, nothing, rank, reset_def}
+use proofs.Names.{said_after, target_def, time_in, unit_def, within, ScenarioValue, Obeys, built, saids, AbortDef}
+use proofs.Names.{CmdDef, FaultDef, Policy, ResetDef, TargetDef, UnitDef, range_of, data_runs, longest_need, runs_at}
+use proofs.Names.{runs_by, runs_of, runs_over, retries_of, first_run_state, obeys_fits, fault_by, reset_by, FitsBus}
+use proofs.Names.{some_count, aborts_left, bytes_after, commands_left, resets_left, measure, for_fault}
 use proofs.Budget.Start.{all_faults, few_bytes, few_retries, start_resets}
 use Rattle.due_model.specs.cdb_codec.specs.declared.command.Command.TheVariants as commands
 
@@ -59,9 +60,8 @@ runs_of_few policy (commands.Read10 lba count) u h = runs_by_few policy _ _ h (s
 runs_of_few policy (commands.Write10 lba count) u h = runs_by_few policy _ _ h (some_blocks u lba count h)
 runs_of_few policy _ u h = omega arith
 
-pub few_runs : (s : ScenarioValue) (c : CmdDef) → data_runs s c ≤ 2 * need_of s c
-unfolding need_of
-few_runs s c = go (need_of s c == 0) refl
+pub few_runs : (s : ScenarioValue) (c : CmdDef) → s.tapes ≡ [] → data_runs s c ≤ 2 * need_of s c
+few_runs s c plain = go (need_of s c == 0) refl
   where
     by : (t : TargetDef) (r : Result Command CdbFault) → 1 ≤ moved_by r (unit_of s c.target c.unit)
         → runs_of t.disc r ≤ 2 * moved_by r (unit_of s c.target c.unit)
@@ -79,7 +79,9 @@ few_runs s c = go (need_of s c == 0) refl
         → (if q then 0 else runs_at (find (λ (t : TargetDef). t.dev == c.target) s.targets) c) ≤ 2 * need_of s c
     go true e = omega arith
     go false e =
-        at (find (λ (t : TargetDef). t.dev == c.target) s.targets) (has_target s c.target) (some_count (need_of s c) e)
+        let line : Option TargetDef = find (λ (t : TargetDef). t.dev == c.target) s.targets in
+        subst (λ (n : ℕ). 1 ≤ n → runs_at line c ≤ 2 * n) (sym (plain_need s c plain)) (at line (has_target s c.target))
+        (some_count (need_of s c) e)
 
 -- ---- resets and faults are few
 
@@ -131,6 +133,12 @@ few_added d z (unit_line f) e a =
 few_added d z (fill_line f) e a =
     let b = bind_ok (fill_def d.scenario f) _ z e in
     subst (λ (g : Progress). FewLines g.scenario) (ok_is _ z b.2) (record { resets = a.resets; faults = a.faults })
+few_added d z (tape_line f) e a =
+    let b = bind_ok (tape_def d.scenario f) _ z e in
+    subst (λ (g : Progress). FewLines g.scenario) (ok_is _ z b.2) (record { resets = a.resets; faults = a.faults })
+few_added d z (load_line f) e a =
+    let b = bind_ok (load_def d.scenario f) _ z e in
+    subst (λ (g : Progress). FewLines g.scenario) (ok_is _ z b.2) (record { resets = a.resets; faults = a.faults })
 few_added d z (cmd_line f) e a =
     let b = bind_ok (full_cmd_def d.scenario d.needs f) _ z e in
     subst (λ (g : Progress). FewLines g.scenario) (ok_is _ z b.2) (record { resets = a.resets; faults = a.faults })
@@ -166,7 +174,7 @@ few_built d z (x ∷ xs) e a = let b = bind_ok (said_after d x) _ z e in few_bui
 
 pub obeys_few : (s : ScenarioValue) → Obeys s → FewLines s
 obeys_few s o =
-    let b = bind_ok (built nothing (saids s)) _ s o.lawful in
+    let b = bind_ok (built nothing (saids s)) _ s o.text.lawful in
     subst FewLines (ok_is b.0.scenario s b.2)
     (few_built nothing b.0 (saids s) b.1 (record { resets = omega arith; faults = omega arith }))
 
@@ -182,7 +190,7 @@ small_commands s m [] f = omega arith
 small_commands s m (c ∷ commands) f =
     let rest = small_commands s (m + 1) commands f in
     let one = one_command (retries_of s.hosts c.host) (data_runs s c) (bytes_after s c 0)
-    (need_of s c) (few_retries s s.hosts c.host f.hosts) (few_bytes s c) (few_runs s c) in
+    (need_of s c) (few_retries s s.hosts c.host f.hosts) (few_bytes s c) (few_runs s c f.tapes) in
     let total = sum_by-cons (need_of s) c commands in
     omega arith
 
@@ -214,7 +222,7 @@ pub small_start : (s : ScenarioValue) → Obeys s → measure s [] < 4294967295
 small_start s o =
     let f = obeys_fits s o in
     let few = obeys_few s o in
-    let long = longest s s.commands (each_need s o) in
+    let long = longest s s.commands (each_need s o.text) in
     let fault : for_fault s ≤ 525440 = omega arith in
     let same = all_faults s.faults in
     let count : length (first_run_state s).faults ≤ 64 = let w = few.faults in omega arith in
@@ -223,7 +231,7 @@ small_start s o =
     sum_small (commands_left s (first_run_state s) 1 s.commands) (length s.commands)
     (sum_by (need_of s) s.commands) (aborts_left s (first_run_state s).story.sent 1 s.aborts) (length s.aborts)
     (resets_left (first_run_state s) s.resets) (length s.resets) (for_fault s * length (first_run_state s).faults)
-    (small_commands s 1 s.commands f) f.few_commands (all_needs s o) (small_aborts s 1 s.aborts f) f.few_aborts
+    (small_commands s 1 s.commands f) f.few_commands (all_needs s o.text) (small_aborts s 1 s.aborts f) f.few_aborts
     (start_resets (first_run_state s) s.resets) few.resets faults
   where
     product : (a b : ℕ) → a ≤ 525440 → b ≤ 64 → a * b ≤ 525440 * 64

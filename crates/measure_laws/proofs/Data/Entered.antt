@@ -13,13 +13,13 @@ use proofs.Names.{runs_in_all, Serving, bus_free, phase_entry, phase_leaving, ph
 use proofs.Names.{after_messages, run_length_if, Leaving, Next, Phase, Task, run_state_plain, target_def_of}
 use proofs.Names.{progress_in, IsPrompt, IsPlain, RunState, array_of, bus_of, process_item, process_served, run_state}
 use proofs.Names.{leaving, serving_of, blocks_in, is_writing, moved_count, reply_now, size_of, task_if, task_of}
-use proofs.Names.{command_fits, obeys_fits, IsCommandLine, IsByLine, by_line, AreOfLines, IsOfLine, Knows, none_some}
-use proofs.Names.{in_phase, by_bool, zero_below, TalksBy, frees_bus, talk_of, over_after, enters_run, task_here}
-use proofs.Names.{lines_now, served_id, Whole, enters_read, read_books, whole_now, given_few, most_given, need_is}
-use proofs.Names.{HasWhole, bytes_after, future_left, is_in_data, open_left, range_if, resets_left, serves_item}
-use proofs.{Names.{size_if, sense_bytes_left}, Connections.BeginFalls.{calm_resets}, Data.Bytes.{blocks_of, length_of}}
-use proofs.Data.{Bytes.{run_bytes}, Commands.{command_turn_falls}, Needs.{target_there}, Turns.{data_turn_falls}}
-use proofs.{Data.Turns.{run_of}, Lines.{Futures.{future_falls, open_of}, Lowers.{lowers_same}}}
+use proofs.Names.{command_fits, obeys_fits, IsCommandLine, unit_of_line, IsByLine, by_line, AreOfLines, IsOfLine, Knows}
+use proofs.Names.{none_some, in_phase, by_bool, zero_below, TalksBy, frees_bus, talk_of, over_after, enters_run}
+use proofs.Names.{task_here, lines_now, served_id, Whole, enters_read, read_books, whole_now, given_few, most_given}
+use proofs.Names.{need_is, HasWhole, bytes_after, future_left, is_in_data, open_left, range_if, resets_left}
+use proofs.{Names.{serves_item, size_if, sense_bytes_left}, Connections.BeginFalls.{calm_resets}}
+use proofs.Data.{Bytes.{blocks_of, length_of, run_bytes}, Commands.{command_turn_falls}, Needs.{target_there}}
+use proofs.{Data.Turns.{data_turn_falls, run_of}, Lines.{Futures.{future_falls, open_of}, Lowers.{lowers_same}}}
 use proofs.{Phases.Falls.{FallsWith}, Turns.{Edges.{leaving_turn}, Falls.{TurnRow, turn_in, turn_kind, turn_runs}}}
 use proofs.Turns.Leavings.{FallsDataEntered, LeavingRow}
 
@@ -101,7 +101,8 @@ moved_few : (s : ScenarioValue) (a : Array) (q : Process) (line : IsByLine s q) 
 moved_few s a q line o lines whole there = counted_few ((reply_now a q).status == GOOD) (is_writing q) q.sent
     (reply_now a q).bytes (need_of s line.line) (chain (length q.sent) (sent_of s line.line)
     (need_of s line.line) (ap (λ (x : List ℕ). length x) line.sent ∙ fits.sent) (sent_few s line.line))
-    (λ reads. subst (λ (x : ℕ). length (reply_now a q).bytes ≤ x) (need reads) (given_few s a q lines whole))
+    (λ reads. subst (λ (x : ℕ). length (reply_now a q).bytes ≤ x) (need reads)
+    (given_few s a q o.tapes lines whole))
   where
     fits : IsCommandLine s line.line
     fits = command_fits s q.id.command line.line (obeys_fits s o) line.is
@@ -113,7 +114,7 @@ moved_few s a q line o lines whole there = counted_few ((reply_now a q).status =
     need reads =
         (λ i. if reads i then 0 else moved_by (command_of q.cdb) (unit_of s q.target q.unit))
         ∙ (λ i. moved_by (command_of (line.cdb i)) (unit_of s (line.target i) (line.unit i)))
-        ∙ sym (need_is s line.line (ap (has_target s) (sym line.target) ∙ there))
+        ∙ sym (need_is s line.line o.tapes (ap (has_target s) (sym line.target) ∙ there))
 
 -- ---- a run of an automatic REQUEST SENSE
 
@@ -128,12 +129,12 @@ sense_cdb s q own sense = go (command_at s.commands q.id.command) own
         λ i. if sense i then sense_process s q.id c else command_process s q.id c in
         ap (λ (x : Process). x.cdb) (sym made ∙ by)
 
-sense_few : (s : ScenarioValue) (a : Array) (q : Process) → q.cdb ≡ sense_block → AreOfLines s a → HasWhole a
-    → moved_count q (reply_now a q) ≤ 18
-sense_few s a q e lines whole = counted ((reply_now a q).status == GOOD) (is_writing q) q.sent
+sense_few : (s : ScenarioValue) (a : Array) (q : Process) → s.tapes ≡ [] → q.cdb ≡ sense_block → AreOfLines s a
+    → HasWhole a → moved_count q (reply_now a q) ≤ 18
+sense_few s a q plain e lines whole = counted ((reply_now a q).status == GOOD) (is_writing q) q.sent
     (reply_now a q).bytes (ap (λ (x : List ℕ). is_write (command_of x)) e)
     (subst (λ (x : List ℕ). length (reply_now a q).bytes ≤ most_given (command_of x) (unit_of s q.target q.unit)) e
-    (given_few s a q lines whole))
+    (given_few s a q plain lines whole))
   where
     counted : (good writes : Bool) (sent given : List ℕ) → writes ≡ false → length given ≤ 18
         → length (if writes then (if good then sent else []) else given) ≤ 18
@@ -382,7 +383,8 @@ falls s p row n r from into = go (process_served s k) refl
 
                 size_is : size ≡ of_unit
                 size_is = size_same (unit_of s q.target q.unit) (unit_state_at (array_of s j).units q.target q.unit)
-                    (lines q.target q.unit) ∙ (λ i. size_if (unit_of s (line.target i) (line.unit i)))
+                    (unit_of_line s (array_of s j) o.tapes lines q.target q.unit)
+                    ∙ (λ i. size_if (unit_of s (line.target i) (line.unit i)))
 
                 run : run_of s j n ≡ length_of (run_in of_line blocks of_unit moved made)
                 run = run_is ∙ (λ i. length_of (run_in (policy_is i) (blocks_are i) (size_is i) moved (made_is i)))
@@ -401,7 +403,7 @@ falls s p row n r from into = go (process_served s k) refl
                 ∙ ap (λ (x : List ℕ). blocks_in (range_in (command_of x))) cdb
 
             few : moved ≤ 18
-            few = sense_few s (array_of s j) q cdb lines whole
+            few = sense_few s (array_of s j) q o.tapes cdb lines whole
 
             run : run_of s j n ≤ 18
             run = chain (run_of s j n) moved (run_is

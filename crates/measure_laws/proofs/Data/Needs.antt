@@ -8,9 +8,9 @@ use proofs.Names.{moved_by, need_of, ScenarioValue, Obeys, CmdDef, Policy, Targe
 use proofs.Names.{is_disk, array_after, Contents, execution, is_good_range, range_of, range_in, range_named, Process}
 use proofs.Names.{command_process, process_by, process_if, process_of, sense_process, command_at, context_at, Array}
 use proofs.Names.{UnitState, nexus_of, unit_state_at, data_runs, runs_at, runs_of, runs_over, policy_of, runs_in}
-use proofs.Names.{target_def_of, RunState, array_of, blocks_in, is_writing, moved_count, reply_now, size_of, IsByLine}
-use proofs.Names.{IsOfLine, none_some, some_zero, zero_times, by_bool, task_here, FitsRuns, fits_runs, lines_now}
-use proofs.{Names.{named_by, fits_reads, moved_good, need_is}, Data.Leavings.{HasMore}}
+use proofs.Names.{target_def_of, RunState, array_of, blocks_in, is_writing, moved_count, reply_now, size_of}
+use proofs.Names.{unit_of_line, IsByLine, IsOfLine, none_some, some_zero, zero_times, by_bool, task_here, FitsRuns}
+use proofs.{Names.{fits_runs, lines_now, named_by, fits_reads, moved_good, need_is}, Data.Leavings.{HasMore}}
 
 -- ---- an automatic REQUEST SENSE moves no blocks
 
@@ -77,10 +77,10 @@ pub need_moved : (s : ScenarioValue) (k : RunState) (q : Process) (h : IsByLine 
     → blocks_in (range_named q) ≡ Some blocks → (moved_count q (reply_now (array_of s k) q) == 0) ≡ false
     → need_of s h.line ≡ moved_count q (reply_now (array_of s k) q)
 need_moved s k q h blocks o is own there named some =
-    need_is s h.line (ap (has_target s) (sym h.target) ∙ target_there s q.target there)
+    need_is s h.line o.tapes (ap (has_target s) (sym h.target) ∙ target_there s q.target there)
     ∙ (λ i. moved_by (command_of (sym h.cdb i)) (unit_of s (sym h.target i) (sym h.unit i)))
     ∙ go (unit_of s q.target q.unit) (unit_state_at a.units q.target q.unit) refl
-    (lines_now s k.story.history k.array (sym is) q.target q.unit)
+    (unit_of_line s a o.tapes (lines_now s k.story.history k.array (sym is)) q.target q.unit)
   where
     a : Array
     a = array_of s k

@@ -3,14 +3,14 @@
 use Rattle.progress_laws.proofs
 use proofs.Names.{ℕ, ◌≡◌, ◌<◌, Bool, true, false, not, ◌∙◌, List, [], ◌∷◌, ◌++◌, Option, Some, None, Ok, refl, sym, ap}
 use proofs.Names.{subst, arith, ◌||◌, AllByRecursion, find, list_any, if◌then◌else◌, ◌==◌, is_some, cond, wrong'}
-use proofs.Names.{bind_ok, guard_ok, ok_is, within_ok, Said, scsi_line, initiator_line, target_line, unit_line}
-use proofs.Names.{fill_line, cmd_line, abort_line, reset_line, fault_line, end_line, has_device, has_target, unit_of}
-use proofs.Names.{need_of, sent_of, Progress, guard, within, in_8, period_in, size_in, host_def, target_def, unit_def}
-use proofs.Names.{fill_def, full_cmd_def, abort_def, reset_def, fault_def, added, said_after, fits_version, in_order}
-use proofs.Names.{rank, kind_of, nothing, ScenarioValue, saids, built, Obeys, LATENCY_LIMIT, OPEN_LIMIT, RETRY_LIMIT}
-use proofs.Names.{HOST_OFFSET_LIMIT, LAG_LIMIT, BLOCK_LIMIT, DEPTH_LIMIT, HostDef, TargetDef, UnitDef, is_initiator}
-use proofs.Names.{open_limit_of, host_latency, target_latency, all_are, all_more, host_by, unit_by, HasDevice, Any}
-use proofs.{Names.{each_line, host_found}, Quiet.Connections.{host_there}}
+use proofs.Names.{bind_ok, guard_ok, ok_is, within_ok, tape_line, load_line, Said, scsi_line, initiator_line}
+use proofs.Names.{target_line, unit_line, fill_line, cmd_line, abort_line, reset_line, fault_line, end_line, has_device}
+use proofs.Names.{has_target, unit_of, need_of, sent_of, tape_def, load_def, Progress, guard, within, in_8, period_in}
+use proofs.Names.{size_in, host_def, target_def, unit_def, fill_def, full_cmd_def, abort_def, reset_def, fault_def}
+use proofs.Names.{added, said_after, fits_version, in_order, rank, kind_of, nothing, ScenarioValue, saids, built, Obeys}
+use proofs.Names.{LATENCY_LIMIT, OPEN_LIMIT, RETRY_LIMIT, HOST_OFFSET_LIMIT, LAG_LIMIT, BLOCK_LIMIT, DEPTH_LIMIT}
+use proofs.Names.{HostDef, TargetDef, UnitDef, is_initiator, open_limit_of, host_latency, target_latency, all_are}
+use proofs.{Names.{all_more, host_by, unit_by, HasDevice, Any, each_line, host_found}, Quiet.Connections.{host_there}}
 
 abbrev pub HasOpen : HostDef → Type 0
 HasOpen h = 0 < h.most
@@ -103,6 +103,12 @@ targets_added d z (unit_line f) e a =
 targets_added d z (fill_line f) e a =
     let b = bind_ok (fill_def d.scenario f) _ z e in
     subst AreTargetsIn (ok_is _ z b.2) a
+targets_added d z (tape_line f) e a =
+    let b = bind_ok (tape_def d.scenario f) _ z e in
+    subst AreTargetsIn (ok_is _ z b.2) a
+targets_added d z (load_line f) e a =
+    let b = bind_ok (load_def d.scenario f) _ z e in
+    subst AreTargetsIn (ok_is _ z b.2) a
 targets_added d z (cmd_line f) e a =
     let b = bind_ok (full_cmd_def d.scenario d.needs f) _ z e in
     subst AreTargetsIn (ok_is _ z b.2) a
@@ -134,7 +140,7 @@ targets_built d z (x ∷ xs) e a =
 
 pub are_of_targets : (s : ScenarioValue) → Obeys s → AreOfTargets s
 are_of_targets s o =
-    let b = bind_ok (built nothing (saids s)) _ s o.lawful in
+    let b = bind_ok (built nothing (saids s)) _ s o.text.lawful in
     subst AreOfTargets (ok_is b.0.scenario s b.2) (targets_built nothing b.0 (saids s) b.1 tt)
 
 -- ---- devices that are there

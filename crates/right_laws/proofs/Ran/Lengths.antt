@@ -1,14 +1,14 @@
 -- A command gives no more bytes than it moves at the line of its unit, and a write gives none (7.3, 8.2, 9.2).
 use Rattle.right_laws.proofs
-use proofs.Names.{ℕ, ◌≡◌, ◌≤◌, ◌+◌, ◌*◌, ◌-◌, Bool, true, false, ◌&&◌, ◌∙◌, List, length, take, Option, Some, None}
+use proofs.Names.{ℕ, ◌≡◌, ◌≤◌, ◌+◌, ◌*◌, ◌-◌, Bool, true, false, ◌&&◌, ◌∙◌, List, [], length, take, Option, Some, None}
 use proofs.Names.{Result, Ok, Err, sym, ap, subst, arith, and_parts, length-take, if◌then◌else◌, min, nat_le, nat_lt}
 use proofs.Names.{blocks_moved, command_of, inquiry_data, sense_data, Sense, CdbFault, Command, INQUIRY, INQUIRY_LEN}
-use proofs.Names.{SENSE_LEN, has_target, unit_of, is_write, moved_by, need_of, ScenarioValue, CmdDef, UnitDef, of_all}
-use proofs.Names.{AreWhole, Contents, bytes_at, no_contents, CommandContext, Reply, command_execution, execution}
-use proofs.Names.{invalid_field, is_good_range, is_opcode, range_of, returned_sense, unit_not_supported, Process}
-use proofs.Names.{contents_of, context_at, Array, UnitState, nexus_of, sense_of_nexus, unit_state_at, length_bytes}
-use proofs.Names.{replies, absent_reply_by, data_or_refusal, inquiry_room, sense_room, AreOfLines, IsOfLine}
-use proofs.Replies.Blocks.{HasWhole}
+use proofs.Names.{SENSE_LEN, plain_need, has_target, unit_of, is_write, moved_by, need_of, ScenarioValue, CmdDef}
+use proofs.Names.{UnitDef, of_all, AreWhole, Contents, bytes_at, no_contents, CommandContext, Reply, command_execution}
+use proofs.Names.{execution, invalid_field, is_good_range, is_opcode, range_of, returned_sense, unit_not_supported}
+use proofs.Names.{Process, contents_of, context_at, Array, UnitState, nexus_of, sense_of_nexus, unit_state_at}
+use proofs.Names.{length_bytes, replies, unit_of_line, absent_reply_by, data_or_refusal, inquiry_room, sense_room}
+use proofs.{Names.{AreOfLines, IsOfLine}, Replies.Blocks.{HasWhole}}
 
 -- What a command may give at the line of its unit.
 abbrev pub most_given : Result Command CdbFault → Option UnitDef → ℕ
@@ -99,11 +99,11 @@ execution_few m u cdb sent h =
 
 -- ---- at its unit of the array
 
-pub given_few : (s : ScenarioValue) (a : Array) (c : Process) → AreOfLines s a → HasWhole a
+pub given_few : (s : ScenarioValue) (a : Array) (c : Process) → s.tapes ≡ [] → AreOfLines s a → HasWhole a
     → length (execution (context_at a (nexus_of c) (unit_state_at a.units c.target c.unit)) c.cdb c.sent).reply.bytes
     ≤ most_given (command_of c.cdb) (unit_of s c.target c.unit)
-given_few s a c lines whole = go (unit_of s c.target c.unit) (unit_state_at a.units c.target c.unit)
-    (lines c.target c.unit) (whole c.target c.unit)
+given_few s a c plain lines whole = go (unit_of s c.target c.unit) (unit_state_at a.units c.target c.unit)
+    (unit_of_line s a plain lines c.target c.unit) (whole c.target c.unit)
   where
     stored : Option Sense
     stored = sense_of_nexus a.senses (nexus_of c)
@@ -129,7 +129,7 @@ given_few s a c lines whole = go (unit_of s c.target c.unit) (unit_state_at a.un
 -- ---- what it needs
 
 -- By the line of its unit, where its target is one of the scenario.
-pub need_is : (s : ScenarioValue) (c : CmdDef) → has_target s c.target ≡ true
+pub need_is : (s : ScenarioValue) (c : CmdDef) → s.tapes ≡ [] → has_target s c.target ≡ true
     → need_of s c ≡ moved_by (command_of c.cdb) (unit_of s c.target c.unit)
-unfolding need_of
-need_is s c t = λ i. if t i then moved_by (command_of c.cdb) (unit_of s c.target c.unit) else 0
+need_is s c plain t =
+    plain_need s c plain ∙ (λ i. if t i then moved_by (command_of c.cdb) (unit_of s c.target c.unit) else 0)

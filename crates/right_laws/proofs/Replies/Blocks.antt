@@ -4,19 +4,19 @@ use Rattle.right_laws.proofs
 use proofs.Names.{ℕ, ◌≡◌, ◌⊎◌, inl, inr, cond, ◌-◌, ◌*◌, Bool, true, false, not, ◌&&◌, ◌||◌, ◌==◌, ◌∙◌, List, [], ◌∷◌}
 use proofs.Names.{length, Option, Some, None, refl, sym, ap, subst, eqb-true, and_parts, same_Some, find, if◌then◌else◌}
 use proofs.Names.{is_none, is_some, wrong, wrong', AbortKind, Event, ProcId, command_of, GOOD, CHECK_CONDITION}
-use proofs.Names.{has_target, unit_of, is_write, ScenarioValue, Obeys, FillDef, HostDef, UnitDef, whole_kept}
-use proofs.Names.{choice_keeps, abort_law, device_law, end_law, other_law, reset_law, run_law, history_sound, is_own}
-use proofs.Names.{AreWhole, blank_whole, block_whole, array_after, array_step, Contents, filled_contents, with_block}
-use proofs.Names.{blank_contents, CommandContext, Execution, Reply, check_condition, execution, is_request_sense}
-use proofs.Names.{choice, Process, process_of, same_id, Seat, contents_of, context_of, seat_of, settled_seat}
-use proofs.Names.{settled_seat_if, AllOwnUnits, HasSeats, IsOwnRunning, IsSound, is_of_unit, running_if, step, Array}
-use proofs.Names.{Nexus, RunningProcess, UnitState, guest_at, has_no_current, is_held, settled_array, starting_array}
-use proofs.Names.{starting_unit, starting_units, unit_state_at, units_after_choice, with_current, blocks_written}
-use proofs.Names.{taken_now, obeys_fits, seats_are, FitsBus, lines_always, sends, line_filled, start_settled, AreFilled}
-use proofs.Names.{AreOfLines, IsOfLine, process_id, id_is, IsOf, none_some, zero_times, by_bool, by_option, running_id}
-use proofs.{Names.{writer_plain, none_sent}, Given.Replies.{own_guests, own_units}, Ran.Open.{running_has}}
-use proofs.Replies.{Facts.{guest_there}, Same.{SameContext, accept_at, fail_at, place_of, refuse_at}}
-use proofs.Replies.Targeted.{unit_targeted}
+use proofs.Names.{plain_unit, has_target, unit_of, is_write, ScenarioValue, Obeys, FillDef, HostDef, UnitDef}
+use proofs.Names.{whole_kept, choice_keeps, abort_law, device_law, end_law, other_law, reset_law, run_law}
+use proofs.Names.{history_sound, is_own, AreWhole, blank_whole, block_whole, array_after, array_step, Contents}
+use proofs.Names.{filled_contents, with_block, blank_contents, CommandContext, Execution, Reply, check_condition}
+use proofs.Names.{execution, is_request_sense, choice, Process, process_of, same_id, Seat, contents_of, context_of}
+use proofs.Names.{seat_of, settled_seat, settled_seat_if, AllOwnUnits, HasSeats, IsOwnRunning, IsSound, is_of_unit}
+use proofs.Names.{running_if, step, Array, Nexus, RunningProcess, UnitState, guest_at, has_no_current, is_held}
+use proofs.Names.{settled_array, starting_array, starting_unit, starting_units, unit_state_at, units_after_choice}
+use proofs.Names.{with_current, blocks_written, taken_now, obeys_fits, seats_are, FitsBus, unit_of_line, lines_always}
+use proofs.Names.{sends, line_filled, start_settled, AreFilled, AreOfLines, IsOfLine, process_id, id_is, IsOf}
+use proofs.Names.{none_some, zero_times, by_bool, by_option, running_id, writer_plain, none_sent}
+use proofs.{Given.Replies.{own_guests, own_units}, Ran.Open.{running_has}, Replies.Facts.{guest_there}}
+use proofs.Replies.{Same.{SameContext, accept_at, fail_at, place_of, refuse_at}, Targeted.{unit_targeted}}
 use Rattle.due_model.specs.array_model.specs.Seats
 use Rattle.due_model.specs.array_model.specs.Steps
 
@@ -198,7 +198,7 @@ sent_whole : (s : ScenarioValue) (a : Array) (c : Process) → Obeys s → AreOf
 sent_whole s a c o lines is good w =
     by_bool (has_target s c.target)
     (λ e. (sends s a c (obeys_fits s o) lines e is (writer_plain s c is w)).bytes good)
-    (λ e. none (unit_state_at a.units c.target c.unit) (lines c.target c.unit) e)
+    (λ e. none (unit_state_at a.units c.target c.unit) (unit_of_line s a o.tapes lines c.target c.unit) e)
   where
     none : (x : Option UnitState) → IsOfLine (unit_of s c.target c.unit) x → has_target s c.target ≡ false
         → length c.sent ≡ taken_now (contents_of x) c.cdb
@@ -450,7 +450,7 @@ found_place (v ∷ units) t m u e = go (v.target == t && v.unit == m) refl e (λ
 
 pub whole_start : (s : ScenarioValue) → Obeys s → HasWhole (starting_array s)
 whole_start s o t n = started_whole s s.units t n (obeys_fits s o) (λ u e. let w = found_place s.units t n u e in
-    line_filled s u (obeys_fits s o) ((λ i. unit_of s (w.0 i) (w.1 i)) ∙ e))
+    line_filled s u (obeys_fits s o) ((λ i. unit_of s (w.0 i) (w.1 i)) ∙ plain_unit s t n o.tapes ∙ e))
 
 pub whole_always : (s : ScenarioValue) (history : List Event) (a : Array) → Obeys s → array_after s history ≡ Some a
     → HasWhole a

@@ -1,12 +1,12 @@
 -- The target of each unit of a scenario that obeys the rules of its text is a target of it.
 use Rattle.right_laws.proofs
 use proofs.Names.{ℕ, ◌≡◌, Bool, true, false, cond, ◌||◌, ◌∙◌, List, [], ◌∷◌, ◌++◌, Some, Ok, refl, sym, ap, subst, ◌==◌}
-use proofs.Names.{◌&&◌, true≢false, eqb-true, AllByRecursion, find, list_any, and_first, bind_ok, ok_is, Said}
-use proofs.Names.{scsi_line, initiator_line, target_line, unit_line, fill_line, cmd_line, abort_line, reset_line}
-use proofs.Names.{fault_line, end_line, has_target, unit_of, Progress, guard, host_def, target_def, unit_def, fill_def}
-use proofs.Names.{full_cmd_def, abort_def, reset_def, fault_def, added, said_after, fits_version, in_order, rank}
-use proofs.Names.{kind_of, nothing, ScenarioValue, saids, built, Obeys, TargetDef, UnitDef, all_are, all_more}
-use proofs.Names.{unit_read, none_some}
+use proofs.Names.{◌&&◌, true≢false, eqb-true, AllByRecursion, find, list_any, and_first, bind_ok, ok_is, plain_unit}
+use proofs.Names.{tape_line, load_line, Said, scsi_line, initiator_line, target_line, unit_line, fill_line, cmd_line}
+use proofs.Names.{abort_line, reset_line, fault_line, end_line, has_target, unit_of, tape_def, load_def, Progress}
+use proofs.Names.{guard, host_def, target_def, unit_def, fill_def, full_cmd_def, abort_def, reset_def, fault_def, added}
+use proofs.Names.{said_after, fits_version, in_order, rank, kind_of, nothing, ScenarioValue, saids, built, Obeys}
+use proofs.Names.{TargetDef, UnitDef, all_are, all_more, unit_read, none_some}
 
 -- Lines of targets, of which one is of this device.
 abbrev pub is_there : List TargetDef → ℕ → Bool
@@ -48,6 +48,12 @@ targeted_added d z (unit_line f) e a =
 targeted_added d z (fill_line f) e a =
     let b = bind_ok (fill_def d.scenario f) _ z e in
     subst (λ (g : Progress). AreTargeted g.scenario) (ok_is _ z b.2) a
+targeted_added d z (tape_line f) e a =
+    let b = bind_ok (tape_def d.scenario f) _ z e in
+    subst (λ (g : Progress). AreTargeted g.scenario) (ok_is _ z b.2) a
+targeted_added d z (load_line f) e a =
+    let b = bind_ok (load_def d.scenario f) _ z e in
+    subst (λ (g : Progress). AreTargeted g.scenario) (ok_is _ z b.2) a
 targeted_added d z (cmd_line f) e a =
     let b = bind_ok (full_cmd_def d.scenario d.needs f) _ z e in
     subst (λ (g : Progress). AreTargeted g.scenario) (ok_is _ z b.2) a
@@ -80,7 +86,7 @@ targeted_built d z (x ∷ xs) e a =
 
 pub are_targeted : (s : ScenarioValue) → Obeys s → AreTargeted s
 are_targeted s o =
-    let b = bind_ok (built nothing (saids s)) _ s o.lawful in
+    let b = bind_ok (built nothing (saids s)) _ s o.text.lawful in
     subst AreTargeted (ok_is b.0.scenario s b.2) (targeted_built nothing b.0 (saids s) b.1 tt)
 
 -- ---- of the unit that is found
@@ -101,4 +107,5 @@ found_targeted s (v ∷ units) t m u a e =
 
 pub unit_targeted : (s : ScenarioValue) (t m : ℕ) (u : UnitDef) → Obeys s → unit_of s t m ≡ Some u
     → has_target s t ≡ true
-unit_targeted s t m u o e = found_targeted s s.units t m u (are_targeted s o) e
+unit_targeted s t m u o e =
+    found_targeted s s.units t m u (are_targeted s o) (sym (plain_unit s t m o.tapes) ∙ e)

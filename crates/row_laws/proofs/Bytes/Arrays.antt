@@ -1,15 +1,15 @@
--- The plain disk array holds and gives bytes after any events whose codes are bytes.
+-- The plain disk array holds and gives bytes, and senses that fit sense data, after any events whose codes are bytes.
 use Rattle.row_laws.proofs
 use proofs.Names.{ℕ, ◌≡◌, ◌<◌, Bool, true, false, not, ◌&&◌, ◌||◌, List, [], ◌∷◌, ◌++◌, Option, Some, None, subst}
 use proofs.Names.{arith, ◌==◌, same_Some, AllByRecursion, if◌then◌else◌, is_some, is_none, nat_lt, AbortKind, Event}
-use proofs.Names.{ProcId, AreBytes, command_of, Sense, ABORTED_COMMAND, GOOD, CHECK_CONDITION, ScenarioValue, FillDef}
-use proofs.Names.{HostDef, UnitDef, Contents, filled_contents, blank_contents, with_block, Reply, Execution, execution}
-use proofs.Names.{is_request_sense, check_condition, queue_full, sense_of, commands_cleared, choice, Process}
+use proofs.Names.{ProcId, AreBytes, command_of, FitsSense, Sense, ABORTED_COMMAND, GOOD, CHECK_CONDITION, ScenarioValue}
+use proofs.Names.{FillDef, HostDef, UnitDef, Contents, filled_contents, blank_contents, with_block, Reply, Execution}
+use proofs.Names.{execution, is_request_sense, check_condition, queue_full, sense_of, commands_cleared, choice, Process}
 use proofs.Names.{process_of, same_id, IsOwnRunning, AllOwnUnits, AllOwnGuests, RunningProcess, UnitState, Nexus, Array}
 use proofs.Names.{same_nexus, sense_of_nexus, senses_without, nexuses_without, is_held, unit_state_at, with_unit}
 use proofs.Names.{guest_at, without_guest, with_current, has_no_current, units_after_choice, settled_array}
 use proofs.{Names.{starting_array, starting_units, nexus_of, all_more}, Bytes.Executions.{HoldsBytes, block_small}}
-use proofs.Bytes.Executions.{IsByteSense, HasByteReply, check_small, HasByteContext, gives_bytes}
+use proofs.Bytes.Executions.{HasByteReply, code_fits, check_small, HasByteContext, gives_bytes}
 use proofs.Common.Impossible.{none_some}
 use Rattle.due_model.specs.array_model.specs.Steps
 
@@ -31,7 +31,7 @@ pub record IsByteUnit (u : UnitState) : Type 0 where
   pub current : IsByteCurrent u.current
 
 abbrev IsByteEntry : (Nexus × Sense) → Type 0
-IsByteEntry e = IsByteSense e.1
+IsByteEntry e = FitsSense e.1
 
 abbrev pub IsByteListed : (ProcId × Reply) → Type 0
 IsByteListed e = (e.1).status < 256
@@ -74,14 +74,21 @@ senses_kept drops (e ∷ entries) a = go (drops e.0) (senses_kept drops entries 
     go false h = (a.0, h)
 
 sense_found : (entries : List (Nexus × Sense)) (w : Nexus) (x : Sense) → AllByRecursion IsByteEntry entries
-    → sense_of_nexus entries w ≡ Some x → IsByteSense x
+    → sense_of_nexus entries w ≡ Some x → FitsSense x
 sense_found [] w x a e = absurd (none_some x e)
 sense_found (y ∷ entries) w x a e = go (same_nexus y.0 w) (λ z. sense_found entries w x a.1 z) e
   where
-    go : (q : Bool) → (sense_of_nexus entries w ≡ Some x → IsByteSense x)
-        → (if q then Some y.1 else sense_of_nexus entries w) ≡ Some x → IsByteSense x
-    go true f z = subst IsByteSense (same_Some y.1 x z) a.0
+    go : (q : Bool) → (sense_of_nexus entries w ≡ Some x → FitsSense x)
+        → (if q then Some y.1 else sense_of_nexus entries w) ≡ Some x → FitsSense x
+    go true f z = subst FitsSense (same_Some y.1 x z) a.0
     go false f z = f z
+
+-- Each sense that is stored fits sense data.
+abbrev pub StoredFit : List (Nexus × Sense) → Type 0
+StoredFit entries = (w : Nexus) (x : Sense) → sense_of_nexus entries w ≡ Some x → FitsSense x
+
+pub stored_fit : (a : Array) → HasBytes a → StoredFit a.senses
+stored_fit a h w x e = sense_found a.senses w x h.senses e
 
 unit_put : (units : List UnitState) (new : UnitState) → AllByRecursion IsByteUnit units → IsByteUnit new
     → AllByRecursion IsByteUnit (with_unit units new)
@@ -231,7 +238,8 @@ accepts a (Some c) h = at (unit_state_at a.units c.target c.unit) (unit_found a.
     at (Some u) b = either u b (is_request_sense (command_of c.cdb))
 
 full_small : HasByteReply queue_full
-full_small = record { status = omega arith; bytes = tt; sense = (omega arith, omega arith, omega arith) }
+full_small =
+    record { status = omega arith; bytes = tt; sense = code_fits 0x00 0x00 (omega arith) (omega arith) }
 
 listed : (a : Array) (id : ProcId) (r : Reply) → HasBytes a → HasByteReply r → HasBytes (Steps.with_listed_reply a id r)
 listed a id r h b = record {
@@ -469,7 +477,8 @@ of_hosts (x ∷ hosts) t m a h =
       units = h.units;
       guests = h.guests;
       senses = h.senses;
-      attentions = ((omega arith, omega arith, omega arith), senses_left a.attentions nexus h.attentions);
+      attentions =
+          (code_fits 0x06 0x29 (omega arith) (omega arith), senses_left a.attentions nexus h.attentions);
       replies = h.replies;
     })
 
@@ -496,7 +505,8 @@ cleared by (q ∷ lost) a h =
       units = h.units;
       guests = h.guests;
       senses = h.senses;
-      attentions = ((omega arith, omega arith, omega arith), senses_left a.attentions (nexus_of q) h.attentions);
+      attentions =
+          (code_fits 0x06 0x2f (omega arith) (omega arith), senses_left a.attentions (nexus_of q) h.attentions);
       replies = h.replies;
     }
 
@@ -560,7 +570,8 @@ by_event s a (Event.Refuse id) f u g c h = refuses a (process_of s id) h
 by_event s a (Event.Run id) f u g c h = runs a (is_some (guest_at a.guests id)) (Steps.running_process a id) h (sends s
     (Steps.running_process a id) f (process_holds (IsOf s) a id (own_guests s a.guests g) (own_currents s a.units u)))
 by_event s a (Event.Fail id code) f u g c h = fails s a id (check_condition (sense_of ABORTED_COMMAND code 0x00))
-    (Steps.running_process a id) h (check_small (sense_of ABORTED_COMMAND code 0x00) (omega arith, c, omega arith))
+    (Steps.running_process a id) h
+    (check_small (sense_of ABORTED_COMMAND code 0x00) (code_fits ABORTED_COMMAND code (omega arith) c))
 by_event s a (Event.End id status) f u g c h = ends a status (Steps.running_process a id) h
     (process_holds IsByteRunning a id h.guests (byte_currents a.units h.units))
 by_event s a (Event.Lost id) f u g c h = loses a id h

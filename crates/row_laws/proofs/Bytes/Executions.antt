@@ -1,12 +1,14 @@
--- What a command gives are bytes, where the blocks of its unit and what it sends are bytes.
+-- What a command gives are bytes, and its sense fits sense data, where the blocks of its unit and what it sends are
+-- bytes.
 use Rattle.row_laws.proofs
 use proofs.Names.{ℕ, zero, suc, ◌≡◌, ◌<◌, ◌+◌, Bool, true, false, ◌&&◌, List, [], ◌∷◌, take, replicate, Option, Some}
 use proofs.Names.{None, refl, arith, ◌==◌, nat_tests, AllByRecursion, list_all, ◌-◌, drop, if◌then◌else◌, min, nat_lt}
-use proofs.Names.{AreBytes, blocks_moved, sense_data, inquiry_data, capacity_data, CdbFault, Command, Sense, SENSE_LEN}
-use proofs.Names.{INQUIRY_LEN, of_all, sense_of_fault, IsRefused, absent, faulty, outside, Contents, zero_block}
-use proofs.Names.{touched_block, block_at, touched_with, with_block, bytes_at, with_bytes, Reply, CommandContext}
-use proofs.Names.{Execution, good, check_condition, returned_sense, reply_execution, write_execution, command_execution}
-use proofs.{Names.{execution}, Bytes.Spoken.{small_append, small_take}}
+use proofs.Names.{AreBytes, plain_fits, data_are_bytes, blocks_moved, sense_data, inquiry_data, capacity_data}
+use proofs.Names.{FitsSense, CdbFault, Command, Sense, SENSE_LEN, INQUIRY_LEN, of_all, sense_of_fault, IsRefused}
+use proofs.Names.{absent, faulty, outside, Contents, zero_block, touched_block, block_at, touched_with, with_block}
+use proofs.Names.{bytes_at, with_bytes, Reply, CommandContext, Execution, good, check_condition, returned_sense}
+use proofs.Names.{reply_execution, write_execution, command_execution, execution, sense_of}
+use proofs.Bytes.Spoken.{small_append, small_take}
 
 -- ---- blocks
 
@@ -66,18 +68,22 @@ written_small c lba (suc m) bytes h b = written_small (with_block c lba (take c.
 
 -- ---- replies
 
-abbrev pub IsByteSense : Sense → Type 0
-IsByteSense x = (x.key < 256) × (x.asc < 256) × (x.ascq < 256)
-
 pub record HasByteReply (r : Reply) : Type 0 where
   pub status : r.status < 256
   pub bytes : AreBytes r.bytes
-  pub sense : IsByteSense r.sense
+  pub sense : FitsSense r.sense
+
+-- A sense of this key and code, as a disk gives.
+pub code_fits : (key asc : ℕ) → key < 16 → asc < 256 → FitsSense (sense_of key asc 0x00)
+code_fits key asc h k = plain_fits key asc 0x00 h k (omega arith)
+
+nothing_fits : FitsSense (sense_of 0x00 0x00 0x00)
+nothing_fits = code_fits 0x00 0x00 (omega arith) (omega arith)
 
 pub good_small : (bytes : List ℕ) → AreBytes bytes → HasByteReply (good bytes)
-good_small bytes a = record { status = omega arith; bytes = a; sense = (omega arith, omega arith, omega arith) }
+good_small bytes a = record { status = omega arith; bytes = a; sense = nothing_fits }
 
-pub check_small : (x : Sense) → IsByteSense x → HasByteReply (check_condition x)
+pub check_small : (x : Sense) → FitsSense x → HasByteReply (check_condition x)
 check_small x h = record { status = omega arith; bytes = tt; sense = h }
 
 tested : (xs : List ℕ) → list_all (λ (b : ℕ). nat_lt b 256) xs ≡ true → AreBytes xs
@@ -96,15 +102,6 @@ inquiry_small : (q : Bool) → AreBytes (inquiry_data q)
 inquiry_small true = tested (inquiry_data true) refl
 inquiry_small false = tested (inquiry_data false) refl
 
-sense_small : (x : Sense) → IsByteSense x → AreBytes (sense_data x)
-sense_small x h = small_append (0x70 ∷ 0x00 ∷ []) (x.key ∷ 0x00 ∷ 0x00 ∷ 0x00 ∷ 0x00 ∷ 0x0a ∷ 0x00 ∷ 0x00 ∷ 0x00 ∷ 0x00
-    ∷ x.asc ∷ x.ascq ∷ 0x00 ∷ 0x00 ∷ 0x00 ∷ 0x00 ∷ []) (tested (0x70 ∷ 0x00 ∷ []) refl) (
-      h.0,
-      small_append (0x00 ∷ 0x00 ∷ 0x00 ∷ 0x00 ∷ 0x0a ∷ 0x00 ∷ 0x00 ∷ 0x00 ∷ 0x00 ∷ []) (x.asc ∷ x.ascq ∷ 0x00 ∷ 0x00
-          ∷ 0x00 ∷ 0x00 ∷ []) (tested (0x00 ∷ 0x00 ∷ 0x00 ∷ 0x00 ∷ 0x0a ∷ 0x00 ∷ 0x00 ∷ 0x00 ∷ 0x00 ∷ []) refl)
-          (h.1, (h.2, tested (0x00 ∷ 0x00 ∷ 0x00 ∷ 0x00 ∷ []) refl)),
-    )
-
 capacity_small : (last size : ℕ) → AreBytes (capacity_data last size)
 capacity_small last size = (
   omega arith,
@@ -115,8 +112,8 @@ capacity_small last size = (
 
 pub record HasByteContext (m : CommandContext) : Type 0 where
   pub contents : HoldsBytes m.contents
-  pub stored : (x : Sense) → m.stored ≡ Some x → IsByteSense x
-  pub attention : (x : Sense) → m.attention ≡ Some x → IsByteSense x
+  pub stored : (x : Sense) → m.stored ≡ Some x → FitsSense x
+  pub attention : (x : Sense) → m.attention ≡ Some x → FitsSense x
 
 pub record GivesBytes (e : Execution) : Type 0 where
   pub contents : HoldsBytes e.contents
@@ -130,10 +127,10 @@ writes : (m : CommandContext) (lba i : ℕ) (sent : List ℕ) → HasByteContext
 writes m lba i sent h a =
     record { contents = written_small m.contents lba i sent h.contents a; reply = good_small [] tt }
 
-returned : (q : Bool) (o : Option Sense) → ((x : Sense) → o ≡ Some x → IsByteSense x) → IsByteSense (returned_sense q o)
+returned : (q : Bool) (o : Option Sense) → ((x : Sense) → o ≡ Some x → FitsSense x) → FitsSense (returned_sense q o)
 returned q (Some x) f = f x refl
-returned true None f = (omega arith, omega arith, omega arith)
-returned false None f = (omega arith, omega arith, omega arith)
+returned true None f = nothing_fits
+returned false None f = code_fits 0x05 0x25 (omega arith) (omega arith)
 
 gives : (m : CommandContext) (c : Command) (sent : List ℕ) → HasByteContext m → AreBytes sent
     → GivesBytes (command_execution m c sent)
@@ -142,7 +139,7 @@ gives m (Command.RequestSense room) sent h a =
     let given = sense_data (returned_sense m.present m.stored) in
     let n = min room SENSE_LEN in
     replies m (good (take n given)) h (good_small (take n given)
-    (small_take n given (sense_small (returned_sense m.present m.stored) (returned m.present m.stored h.stored))))
+    (small_take n given (data_are_bytes (returned_sense m.present m.stored) (returned m.present m.stored h.stored))))
 gives m (Command.Read6 lba count) sent h a =
     let n = blocks_moved (Command.Read6 lba count) in
     replies m (good (bytes_at m.contents lba n)) h
@@ -159,7 +156,7 @@ gives m (Command.Read10 lba count) sent h a = replies m (good (bytes_at m.conten
     (good_small (bytes_at m.contents lba count) (bytes_small m.contents lba count h.contents))
 gives m (Command.Write10 lba count) sent h a = writes m lba count sent h a
 
-checks : (m : CommandContext) (x : Sense) → HasByteContext m → IsByteSense x
+checks : (m : CommandContext) (x : Sense) → HasByteContext m → FitsSense x
     → GivesBytes (reply_execution m (check_condition x))
 checks m x h a = replies m (check_condition x) h (check_small x a)
 
@@ -171,12 +168,12 @@ gives_bytes m cdb sent h a = of_all m cdb sent GivesBytes (record {
   disk_is = λ c is g. gives m c sent h a;
 })
   where
-    of_fault : (fault : CdbFault) → IsByteSense (sense_of_fault fault)
-    of_fault CdbFault.Opcode = (omega arith, omega arith, omega arith)
-    of_fault CdbFault.Length = (omega arith, omega arith, omega arith)
-    of_fault CdbFault.Field = (omega arith, omega arith, omega arith)
+    of_fault : (fault : CdbFault) → FitsSense (sense_of_fault fault)
+    of_fault CdbFault.Opcode = code_fits 0x05 0x20 (omega arith) (omega arith)
+    of_fault CdbFault.Length = code_fits 0x05 0x24 (omega arith) (omega arith)
+    of_fault CdbFault.Field = code_fits 0x05 0x24 (omega arith) (omega arith)
 
-    refused_small : (sense : Sense) → IsRefused m cdb sense → IsByteSense sense
-    refused_small _ (absent e) = (omega arith, omega arith, omega arith)
+    refused_small : (sense : Sense) → IsRefused m cdb sense → FitsSense sense
+    refused_small _ (absent e) = code_fits 0x05 0x25 (omega arith) (omega arith)
     refused_small _ (faulty fault p e) = of_fault fault
-    refused_small _ (outside c p e g) = (omega arith, omega arith, omega arith)
+    refused_small _ (outside c p e g) = code_fits 0x05 0x21 (omega arith) (omega arith)

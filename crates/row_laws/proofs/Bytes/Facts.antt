@@ -257,7 +257,7 @@ speaks_bytes s (row ∷ p) hs seats dv =
 
 -- ---- the array, row by row
 
-abbrev KeepsIf : ScenarioValue → Option Array → Type 0
+abbrev pub KeepsIf : ScenarioValue → Option Array → Type 0
 KeepsIf s None = Unit {0}
 KeepsIf s (Some a) = IsSound s a × HasBytes a
 
@@ -271,15 +271,15 @@ keeps_event s event (Some a) f seats c h =
     go None e g = tt
     go (Some b) e g = (step_sound s a b event seats h.0 e, g)
 
-keeps_events : (s : ScenarioValue) (shown : List Event) (o : Option Array) → SendsBytes s → HasSeats s
+pub keeps_events : (s : ScenarioValue) (shown : List Event) (o : Option Array) → SendsBytes s → HasSeats s
     → AllByRecursion HasByteCode shown → KeepsIf s o → KeepsIf s (array_after_events s o shown)
 keeps_events s [] o f seats c h = h
 keeps_events s (event ∷ shown) o f seats c h =
     keeps_event s event (array_after_events s o shown) f seats c.0 (keeps_events s shown o f seats c.1 h)
 
-record Keeps (s : ScenarioValue) (k : RunState) : Type 0 where
-  array : KeepsIf s k.array
-  codes : HasCodes k.story
+pub record Keeps (s : ScenarioValue) (k : RunState) : Type 0 where
+  pub array : KeepsIf s k.array
+  pub codes : HasCodes k.story
 
 keeps_row : (s : ScenarioValue) (k : RunState) (row : Row) → SendsBytes s → HasSeats s → Keeps s k
     → Keeps s (run_state_after s k row)
@@ -291,9 +291,12 @@ keeps_row s k row f seats h = record {
 
 fills_small : (s : ScenarioValue) → Obeys s → AllByRecursion (λ (f : FillDef). AreBytes f.bytes) s.fills
 fills_small s o =
-    all_are (λ (f : FillDef). IsHex f.bytes) (λ (f : FillDef). AreBytes f.bytes) s.fills (λ f h. h.0) o.fills
+    all_are (λ (f : FillDef). IsHex f.bytes) (λ (f : FillDef). AreBytes f.bytes) s.fills (λ f h. h.0) o.text.fills
 
-keeps : (s : ScenarioValue) (p : List Row) → Obeys s → SendsBytes s → HasSeats s → Keeps s (run_state s p)
+pub sends_bytes : (s : ScenarioValue) → Obeys s → SendsBytes s
+sends_bytes s o id c e = (bytes_of_process s id c o e).1
+
+pub keeps : (s : ScenarioValue) (p : List Row) → Obeys s → SendsBytes s → HasSeats s → Keeps s (run_state s p)
 keeps s [] o f seats = record {
   array = (start_sound s seats, settles (starting_array s) (start_bytes s (fills_small s o)));
   codes = no_codes;
@@ -362,7 +365,7 @@ pub byte_values : (s : ScenarioValue) (p : List Row) (n : Connection) → Obeys 
     → HasByteValues s (run_state s p) n
 byte_values s p n o seats dv =
     let k = run_state s p in
-    let f : SendsBytes s = λ id q e. (bytes_of_process s id q o e).1 in
+    let f : SendsBytes s = sends_bytes s o in
     let l = small_lines s o in
     let says = speaks_bytes s p l seats dv in
     let array = array_small s k.array o (keeps s p o f seats).array in

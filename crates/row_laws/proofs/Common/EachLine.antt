@@ -1,12 +1,12 @@
 -- What holds of each line of a kind as it is read holds of all lines of a scenario that obeys the rules of its text: of
 -- initiators and targets, commands and aborts.
 use Rattle.row_laws.proofs
-use proofs.Names.{ℕ, ◌≡◌, List, [], ◌∷◌, Ok, subst, AllByRecursion, ⊤, bind_ok, ok_is, CmdSaid, scsi_line}
-use proofs.Names.{initiator_line, target_line, unit_line, fill_line, cmd_line, abort_line, reset_line, fault_line}
-use proofs.Names.{end_line, Said, need_of, sent_of, Progress, guard, is_payload, has_room, host_def, target_def}
-use proofs.Names.{unit_def, fill_def, cmd_def, full_cmd_def, abort_def, reset_def, fault_def, added, said_after}
-use proofs.Names.{fits_version, in_order, rank, kind_of, nothing, ScenarioValue, saids, built, Obeys, AbortDef, CmdDef}
-use proofs.Names.{HostDef, TargetDef, all_more, host_by, target_by, abort_by}
+use proofs.Names.{ℕ, ◌≡◌, List, [], ◌∷◌, Ok, subst, AllByRecursion, ⊤, bind_ok, ok_is, tape_line, load_line, CmdSaid}
+use proofs.Names.{scsi_line, initiator_line, target_line, unit_line, fill_line, cmd_line, abort_line, reset_line}
+use proofs.Names.{fault_line, end_line, Said, need_of, sent_of, tape_def, load_def, Progress, guard, is_payload}
+use proofs.Names.{has_room, host_def, target_def, unit_def, fill_def, cmd_def, full_cmd_def, abort_def, reset_def}
+use proofs.Names.{fault_def, added, said_after, fits_version, in_order, rank, kind_of, nothing, ScenarioValue, saids}
+use proofs.Names.{built, Obeys, AbortDef, CmdDef, HostDef, TargetDef, all_more, host_by, target_by, abort_by}
 
 abbrev pub Any : {A : Type 0} → A → Type 0
 Any x = ⊤
@@ -67,6 +67,14 @@ each_added h t c a read d z (fill_line f) e w =
     let b = bind_ok (fill_def d.scenario f) _ z e in
     subst (λ (y : Progress). IsOfAll h t c a y.scenario) (ok_is _ z b.2)
     (record { hosts = w.hosts; targets = w.targets; commands = w.commands; aborts = w.aborts })
+each_added h t c a read d z (tape_line f) e w =
+    let b = bind_ok (tape_def d.scenario f) _ z e in
+    subst (λ (y : Progress). IsOfAll h t c a y.scenario) (ok_is _ z b.2)
+    (record { hosts = w.hosts; targets = w.targets; commands = w.commands; aborts = w.aborts })
+each_added h t c a read d z (load_line f) e w =
+    let b = bind_ok (load_def d.scenario f) _ z e in
+    subst (λ (y : Progress). IsOfAll h t c a y.scenario) (ok_is _ z b.2)
+    (record { hosts = w.hosts; targets = w.targets; commands = w.commands; aborts = w.aborts })
 each_added h t c a read d z (cmd_line f) e w =
     let b = bind_ok (full_cmd_def d.scenario d.needs f) _ z e in
     subst (λ (y : Progress). IsOfAll h t c a y.scenario) (ok_is _ z b.2) (record {
@@ -116,6 +124,6 @@ each_built h t c a read d z (x ∷ xs) e w =
 pub each_line : (h : HostDef → Type 0) (t : TargetDef → Type 0) (c : CmdDef → Type 0) (a : AbortDef → Type 0)
     → IsOfEach h t c a → (s : ScenarioValue) → Obeys s → IsOfAll h t c a s
 each_line h t c a read s o =
-    let b = bind_ok (built nothing (saids s)) _ s o.lawful in
+    let b = bind_ok (built nothing (saids s)) _ s o.text.lawful in
     subst (IsOfAll h t c a) (ok_is b.0.scenario s b.2) (each_built h t c a read nothing b.0 (saids s) b.1
     (record { hosts = tt; targets = tt; commands = tt; aborts = tt }))

@@ -3,9 +3,9 @@ use Rattle.trace_laws.proofs
 use proofs.Names.{ℕ, ◌≡◌, Bool, true, false, cond, List, [], ◌∷◌, Some, Ok, sym, ap, subst, ◌∙◌, ◌*◌, length, Option}
 use proofs.Names.{None, Result, Err, refl, true≢false, ◌==◌, not, inl, inr, eqb-true, same_Some, AllByRecursion, find}
 use proofs.Names.{if◌then◌else◌, Event, command_of, CdbFault, Command, GOOD, bind_ok, ok_is, within_ok, read_policy}
-use proofs.Names.{target_line, Said, has_device, has_target, unit_of, is_write, moved_by, need_of, sent_of, guard}
-use proofs.Names.{within, in_8, period_in, policy_in, target_def, ScenarioValue, said_policy, Obeys, LATENCY_LIMIT}
-use proofs.Names.{RETRY_LIMIT, TARGET_OFFSET_LIMIT, SEEK_LIMIT, BURST_LIMIT, Policy, TargetDef, UnitDef}
+use proofs.Names.{target_line, Said, disk_of, is_tape, has_device, has_target, unit_of, need_at, is_write, need_of}
+use proofs.Names.{sent_of, guard, within, in_8, period_in, policy_in, target_def, ScenarioValue, said_policy, Obeys}
+use proofs.Names.{LATENCY_LIMIT, RETRY_LIMIT, TARGET_OFFSET_LIMIT, SEEK_LIMIT, BURST_LIMIT, Policy, TargetDef, UnitDef}
 use proofs.Names.{absent_executed, good_range, named_either, array_after, reply_in, execution, needs_unit, range_in}
 use proofs.Names.{count_in, range_named, Process, process_of, contents_of, context_of, seat_of, context_at, Array}
 use proofs.Names.{UnitState, nexus_of, unit_state_at, starting_array, blocks_written, taken_now, policy_of, Task}
@@ -82,7 +82,7 @@ same_size (Some d) (Some u) (Some v) h e = h.1 ∙ sym e.1
 
 pub size_is : (s : ScenarioValue) (a : Array) (t m : ℕ) → AreOfLines s a
     → size_of (unit_state_at a.units t m) ≡ size_of (unit_state_at (starting_array s).units t m)
-size_is s a t m h = same_size (unit_of s t m) (unit_state_at a.units t m) (unit_state_at (starting_array s).units t m)
+size_is s a t m h = same_size (disk_of s t m) (unit_state_at a.units t m) (unit_state_at (starting_array s).units t m)
     (h t m) (lines_first s t m)
 
 -- ---- a write
@@ -114,7 +114,8 @@ none_sent s q o own w e =
     let line : IsCommandLine s by.line = command_fits s q.id.command by.line (obeys_fits s o) by.is in
     ap (λ (x : List ℕ). length x) by.sent ∙ line.sent
     ∙ (λ i. if is_write (command_of by.line.cdb) then (if (ap (has_target s) (sym by.target) ∙ e) i
-    then moved_by (command_of by.line.cdb) (unit_of s by.line.target by.line.unit) else 0) else 0)
+    then need_at (is_tape s by.line.target by.line.unit) by.line.cdb (unit_of s by.line.target by.line.unit)
+    else 0) else 0)
     ∙ nothing (is_write (command_of by.line.cdb))
   where
     nothing : (b : Bool) → (let m : ℕ = if b then 0 else 0 in m) ≡ 0

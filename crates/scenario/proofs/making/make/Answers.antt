@@ -12,9 +12,11 @@ returns-clause-obeys c =
       targets = (c.in_ok-targets.ensures.items ∙ c.targets.ensures) i;
       units = (c.in_ok-units.ensures.items ∙ (λ j. c.unit.ensures j ∷ c.unit-2.ensures j ∷ c.unit-3.ensures j ∷ [])) i;
       fills = c.new.ensures.items i;
+      tapes = c.new-2.ensures.items i;
+      loads = c.new-3.ensures.items i;
       commands = c.in_ok-commands.ensures i;
-      aborts = c.new-2.ensures.items i;
-      resets = c.new-3.ensures.items i;
-      faults = c.new-4.ensures.items i;
+      aborts = c.new-4.ensures.items i;
+      resets = c.new-5.ensures.items i;
+      faults = c.new-6.ensures.items i;
     } in
     subst Obeys (sym exact) (made_obeys c.args.seed c.args.n c.requires)

@@ -10,6 +10,7 @@ loop-rest-preserved c = (
   goes_on _ _ _ _ _ _ _ c.loop-rest.invariant.0 c.first_line-line.ensures.exact c.first_line-line.ensures.shorter
       c.in-Ok.ensures.after,
   c.in-Ok.ensures.index,
+  c.in-Ok.ensures.count,
 )
 
 pub returns-then-is_end : goal.returns-then-is_end

@@ -5,4 +5,5 @@ use Rattle.trace_text.proofs.replies_part.put_sense.Goals as goal
 
 pub returns-in-Some : goal.returns-in-Some
 returns-in-Some g c = put_as _ (and_then c.put_byte.ensures
-    (and_then c.put_byte-in-Some.ensures c.put_byte-in-Some-2.ensures)) (λ j. sense_text (sym c.in-Some.is j))
+    (and_then c.put_byte-in-Some.ensures (and_then c.put_byte-in-Some-2.ensures c.put_residue.ensures)))
+    (λ j. sense_text (sym c.in-Some.is j))

@@ -1,8 +1,9 @@
 use Rattle.std.proofs.Common.{ℕ, ◌≡◌, ◌≤◌, ◌∙◌, List, Option, Some, None, sym, subst, arith}
 use Rattle.scenario.specs.declared.value.FillDef.{FillDef}
 use Rattle.scenario.specs.declared.value.UnitDef.{UnitDef}
-use Rattle.scenario.specs.Lookups.{unit_of}
+use Rattle.scenario.specs.Lookups.{unit_of, disk_of}
 use Rattle.scenario.specs.Value.{ScenarioValue}
+use Rattle.scenario.proofs.UnitLines.{plain_unit}
 use Rattle.array_model.specs.Seats.{seat_of}
 use Rattle.array_model.specs.Units.{starting_array, pick_of}
 use Rattle.scsi_device.proofs.FitLines.{unit_fits}
@@ -15,9 +16,9 @@ pub new-requires-clause-some : goal.new-requires-clause-some
 new-requires-clause-some c =
     let s : ScenarioValue = c.args.scenario.now in
     let dev : ℕ = c.args.def.now.dev in
-    let found : unit_of s dev c.args.number ≡ Some c.in-Some.line = found_line s.units
-    c.as_slice.result.now dev c.args.number (Some c.in-Some.line) c.unit_line.result c.unit_line.ensures
-    (c.as_slice.ensures.value ∙ (λ i. (c.scenario.view_is i).units)) c.in-Some.is in
+    let found : unit_of s dev c.args.number ≡ Some c.in-Some.line = plain_unit s dev c.args.number c.requires.fits.tapes
+    ∙ found_line s.units c.as_slice.result.now dev c.args.number (Some c.in-Some.line) c.unit_line.result
+    c.unit_line.ensures (c.as_slice.ensures.value ∙ (λ i. (c.scenario.view_is i).units)) c.in-Some.is in
     let line = unit_fits s dev c.args.number c.in-Some.line c.requires.fits found in
     line.0.some_blocks
 
@@ -25,9 +26,9 @@ pub new-requires-clause-most : goal.new-requires-clause-most
 new-requires-clause-most c =
     let s : ScenarioValue = c.args.scenario.now in
     let dev : ℕ = c.args.def.now.dev in
-    let found : unit_of s dev c.args.number ≡ Some c.in-Some.line = found_line s.units
-    c.as_slice.result.now dev c.args.number (Some c.in-Some.line) c.unit_line.result c.unit_line.ensures
-    (c.as_slice.ensures.value ∙ (λ i. (c.scenario.view_is i).units)) c.in-Some.is in
+    let found : unit_of s dev c.args.number ≡ Some c.in-Some.line = plain_unit s dev c.args.number c.requires.fits.tapes
+    ∙ found_line s.units c.as_slice.result.now dev c.args.number (Some c.in-Some.line) c.unit_line.result
+    c.unit_line.ensures (c.as_slice.ensures.value ∙ (λ i. (c.scenario.view_is i).units)) c.in-Some.is in
     let line = unit_fits s dev c.args.number c.in-Some.line c.requires.fits found in
     line.0.most_blocks
 
@@ -35,9 +36,9 @@ pub new-requires-clause-least_size : goal.new-requires-clause-least_size
 new-requires-clause-least_size c =
     let s : ScenarioValue = c.args.scenario.now in
     let dev : ℕ = c.args.def.now.dev in
-    let found : unit_of s dev c.args.number ≡ Some c.in-Some.line = found_line s.units
-    c.as_slice.result.now dev c.args.number (Some c.in-Some.line) c.unit_line.result c.unit_line.ensures
-    (c.as_slice.ensures.value ∙ (λ i. (c.scenario.view_is i).units)) c.in-Some.is in
+    let found : unit_of s dev c.args.number ≡ Some c.in-Some.line = plain_unit s dev c.args.number c.requires.fits.tapes
+    ∙ found_line s.units c.as_slice.result.now dev c.args.number (Some c.in-Some.line) c.unit_line.result
+    c.unit_line.ensures (c.as_slice.ensures.value ∙ (λ i. (c.scenario.view_is i).units)) c.in-Some.is in
     let line = unit_fits s dev c.args.number c.in-Some.line c.requires.fits found in
     line.0.least_size
 
@@ -45,9 +46,9 @@ pub new-requires-clause-most_size : goal.new-requires-clause-most_size
 new-requires-clause-most_size c =
     let s : ScenarioValue = c.args.scenario.now in
     let dev : ℕ = c.args.def.now.dev in
-    let found : unit_of s dev c.args.number ≡ Some c.in-Some.line = found_line s.units
-    c.as_slice.result.now dev c.args.number (Some c.in-Some.line) c.unit_line.result c.unit_line.ensures
-    (c.as_slice.ensures.value ∙ (λ i. (c.scenario.view_is i).units)) c.in-Some.is in
+    let found : unit_of s dev c.args.number ≡ Some c.in-Some.line = plain_unit s dev c.args.number c.requires.fits.tapes
+    ∙ found_line s.units c.as_slice.result.now dev c.args.number (Some c.in-Some.line) c.unit_line.result
+    c.unit_line.ensures (c.as_slice.ensures.value ∙ (λ i. (c.scenario.view_is i).units)) c.in-Some.is in
     let line = unit_fits s dev c.args.number c.in-Some.line c.requires.fits found in
     line.0.most_size
 
@@ -55,9 +56,9 @@ pub new-requires-clause-filled : goal.new-requires-clause-filled
 new-requires-clause-filled c =
     let s : ScenarioValue = c.args.scenario.now in
     let dev : ℕ = c.args.def.now.dev in
-    let found : unit_of s dev c.args.number ≡ Some c.in-Some.line = found_line s.units
-    c.as_slice.result.now dev c.args.number (Some c.in-Some.line) c.unit_line.result c.unit_line.ensures
-    (c.as_slice.ensures.value ∙ (λ i. (c.scenario.view_is i).units)) c.in-Some.is in
+    let found : unit_of s dev c.args.number ≡ Some c.in-Some.line = plain_unit s dev c.args.number c.requires.fits.tapes
+    ∙ found_line s.units c.as_slice.result.now dev c.args.number (Some c.in-Some.line) c.unit_line.result
+    c.unit_line.ensures (c.as_slice.ensures.value ∙ (λ i. (c.scenario.view_is i).units)) c.in-Some.is in
     let line = unit_fits s dev c.args.number c.in-Some.line c.requires.fits found in
     subst (λ (fills : List FillDef). AreFilled c.in-Some.line fills)
     (sym (c.as_slice-fills.ensures.value ∙ (λ i. (c.scenario.view_is i).fills)))
@@ -67,9 +68,9 @@ pub returns-in_ok-seated-in-Some-clause-start : goal.returns-in_ok-seated-in-Som
 returns-in_ok-seated-in-Some-clause-start c =
     let s : ScenarioValue = c.args.scenario.now in
     let dev : ℕ = c.args.def.now.dev in
-    let found : unit_of s dev c.args.number ≡ Some c.in-Some.line = found_line s.units
-    c.as_slice.result.now dev c.args.number (Some c.in-Some.line) c.unit_line.result c.unit_line.ensures
-    (c.as_slice.ensures.value ∙ (λ i. (c.scenario.view_is i).units)) c.in-Some.is in
+    let found : unit_of s dev c.args.number ≡ Some c.in-Some.line = plain_unit s dev c.args.number c.requires.fits.tapes
+    ∙ found_line s.units c.as_slice.result.now dev c.args.number (Some c.in-Some.line) c.unit_line.result
+    c.unit_line.ensures (c.as_slice.ensures.value ∙ (λ i. (c.scenario.view_is i).units)) c.in-Some.is in
     let line = unit_fits s dev c.args.number c.in-Some.line c.requires.fits found in
     seated_place s c.in-Some.line.target c.in-Some.line.unit dev
     c.args.number c.in_ok-seated-in-Some.seated line.1 line.2
@@ -80,9 +81,9 @@ pub returns-in_ok-seated-in-Some-clause-spare : goal.returns-in_ok-seated-in-Som
 returns-in_ok-seated-in-Some-clause-spare c =
     let s : ScenarioValue = c.args.scenario.now in
     let dev : ℕ = c.args.def.now.dev in
-    let found : unit_of s dev c.args.number ≡ Some c.in-Some.line = found_line s.units
-    c.as_slice.result.now dev c.args.number (Some c.in-Some.line) c.unit_line.result c.unit_line.ensures
-    (c.as_slice.ensures.value ∙ (λ i. (c.scenario.view_is i).units)) c.in-Some.is in
+    let found : unit_of s dev c.args.number ≡ Some c.in-Some.line = plain_unit s dev c.args.number c.requires.fits.tapes
+    ∙ found_line s.units c.as_slice.result.now dev c.args.number (Some c.in-Some.line) c.unit_line.result
+    c.unit_line.ensures (c.as_slice.ensures.value ∙ (λ i. (c.scenario.view_is i).units)) c.in-Some.is in
     let line = unit_fits s dev c.args.number c.in-Some.line c.requires.fits found in
     subst (λ (n : ℕ). n ≤ c.in_ok-seated-in-Some.seated.spare)
     (λ i. blocks_at (sym found i) ((c.as_slice-commands.ensures.value ∙ (λ j. (c.scenario.view_is j).commands)) i))
@@ -92,7 +93,7 @@ pub returns-in-None-clause-start : goal.returns-in-None-clause-start
 returns-in-None-clause-start c =
     let s : ScenarioValue = c.args.scenario.now in
     let dev : ℕ = c.args.def.now.dev in
-    let none : unit_of s dev c.args.number ≡ None = found_line s.units
+    let none : disk_of s dev c.args.number ≡ None = found_line s.units
     c.as_slice.result.now dev c.args.number None c.unit_line.result c.unit_line.ensures
     (c.as_slice.ensures.value ∙ (λ i. (c.scenario.view_is i).units)) c.in-None.is in
     subst (λ (v : AbsentState). IsAbsentAt (seat_of (starting_array s) dev c.args.number) v) (sym c.new-in-None.ensures)
@@ -102,7 +103,8 @@ pub returns-in-None-clause-spare : goal.returns-in-None-clause-spare
 returns-in-None-clause-spare c =
     let s : ScenarioValue = c.args.scenario.now in
     let dev : ℕ = c.args.def.now.dev in
-    let none : unit_of s dev c.args.number ≡ None = found_line s.units
+    let none : disk_of s dev c.args.number ≡ None = found_line s.units
     c.as_slice.result.now dev c.args.number None c.unit_line.result c.unit_line.ensures
     (c.as_slice.ensures.value ∙ (λ i. (c.scenario.view_is i).units)) c.in-None.is in
-    subst (λ (o : Option UnitDef). blocks_at o s.commands ≤ 0) (sym none) (omega arith)
+    subst (λ (o : Option UnitDef). blocks_at o s.commands ≤ 0)
+    (sym (plain_unit s dev c.args.number c.requires.fits.tapes ∙ none)) (omega arith)

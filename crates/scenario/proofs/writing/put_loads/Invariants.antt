@@ -1,0 +1,7 @@
+use Rattle.std.proofs.Common.{◌≡◌, ◌++◌, take, map}
+use Rattle.std.specs.List.{flat_map}
+use Rattle.scenario.specs.Writing.{said_line, said_load}
+use Rattle.scenario.proofs.writing.put_loads.Given as goal
+
+abbrev pub invariant-loop-def : goal.invariant-loop-def
+invariant-loop-def l = l.out.items ≡ l.initial.out.items ++ flat_map said_line (map said_load (take l.def-index l.defs))
