@@ -7,10 +7,11 @@ use Rattle.scenario.specs.Value.{ScenarioValue}
 use Rattle.due_model.specs.story_model.specs.Outcomes.{ending_of, has_end, outcome_of}
 use Rattle.due_model.specs.story_model.specs.Story.{Story}
 use Rattle.due_model.specs.story_model.specs.Items.{sense_id, command_id}
-use Rattle.initiator.specs.declared.endings.CommandEnd.{CommandEnd}
-use Rattle.initiator.specs.declared.endings.Ending.{Ending}
-use Rattle.initiator.specs.declared.endings.Ending.TheVariants.{Status, Loss, Reset, Abort, Unanswered}
-use Rattle.initiator.specs.Endings.{IsEndOf, told_ending_if}
+use Rattle.initiator.specs.initiator_books.specs.declared.endings.CommandEnd.{CommandEnd}
+use Rattle.initiator.specs.initiator_books.specs.declared.endings.Ending.{Ending}
+use Rattle.initiator.specs.initiator_books.specs.declared.endings.Ending.TheVariants.{Status, Loss, Reset, Abort}
+use Rattle.initiator.specs.initiator_books.specs.declared.endings.Ending.TheVariants.{Unanswered}
+use Rattle.initiator.specs.initiator_books.specs.Endings.{IsEndOf, told_ending_if}
 use Rattle.initiator.specs.Outcomes as own
 use Rattle.initiator.specs.Outcomes.{are_replies, is_reply_of, settled_outcome}
 use Rattle.bus_engine.specs.Answers.{is_settled, is_good, is_reply, is_answered, sense_is_over, received_bytes}

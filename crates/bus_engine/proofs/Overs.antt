@@ -17,10 +17,10 @@ use Rattle.due_model.specs.story_model.specs.Items.{sense_id, command_id}
 use Rattle.due_model.specs.Defs.{host_of, target_def_of}
 use Rattle.due_model.specs.RunState.{array_of}
 use Rattle.due_model.specs.RunSteps.{run_state}
-use Rattle.initiator.specs.Books.{my_book}
-use Rattle.initiator.specs.Endings.{AreEndingsOf, end_at}
+use Rattle.initiator.specs.initiator_books.specs.Books.{my_book}
+use Rattle.initiator.specs.initiator_books.specs.Endings.{AreEndingsOf, end_at}
 use Rattle.initiator.specs.Hosts.{HostValue}
-use Rattle.initiator.specs.Openings.{mine_at}
+use Rattle.initiator.specs.initiator_books.specs.Openings.{mine_at}
 use Rattle.initiator.specs.Outcomes.{is_sense_over}
 use Rattle.initiator.specs.Received.{BufferPairValue, no_buffers, empty_buffer, pair_at, received_taken, undoes_no_byte}
 use Rattle.delivery_laws.specs.target_units.specs.Units.{UnitsState, AreUnitsOf}

@@ -21,9 +21,9 @@ use Rattle.delivery_laws.specs.row_laws.specs.ItemFacts.{Items}
 use Rattle.delivery_laws.specs.row_laws.proofs.Common.Impossible.{none_some}
 use Rattle.delivery_laws.specs.row_laws.proofs.Common.Tests.{plus_one}
 use Rattle.delivery_laws.specs.progress_laws.proofs.Outcomes.Answered.{AreUnwanted, sense_wanted}
-use Rattle.initiator.specs.declared.mine.Mine.{Mine}
-use Rattle.initiator.specs.Mines.{mine_of, mines_of}
-use Rattle.initiator.specs.Openings.{mine_at}
+use Rattle.initiator.specs.initiator_books.specs.declared.mine.Mine.{Mine}
+use Rattle.initiator.specs.initiator_books.specs.Mines.{mine_of, mines_of}
+use Rattle.initiator.specs.initiator_books.specs.Openings.{mine_at}
 use Rattle.initiator.specs.Outcomes.{is_sense_over}
 use Rattle.delivery_laws.proofs.Replies.Senses.{is_known}
 use Rattle.delivery_laws.proofs.Senses.Stopped.{is_check}

@@ -9,8 +9,8 @@ use Rattle.due_model.specs.story_model.specs.Outcomes.{ending_of, has_end}
 use Rattle.due_model.specs.story_model.specs.Story.{Ending, by_status, by_loss, by_reset, by_abort, unanswered, Story}
 use Rattle.due_model.specs.story_model.specs.Items.{sense_id, command_id}
 use Rattle.due_model.specs.RunSteps.{run_state}
-use Rattle.initiator.specs.Books.{my_book}
-use Rattle.initiator.specs.Openings.{mine_at}
+use Rattle.initiator.specs.initiator_books.specs.Books.{my_book}
+use Rattle.initiator.specs.initiator_books.specs.Openings.{mine_at}
 use Rattle.initiator.specs.Outcomes.{is_reply_of, is_sense_over}
 use Rattle.initiator.specs.Received.{moved_of, room_of, undoes_no_byte}
 

@@ -9,8 +9,8 @@ use Rattle.due_model.specs.story_model.specs.Items.{sense_id, command_id}
 use Rattle.due_model.specs.Defs.{target_def_of}
 use Rattle.due_model.specs.RunState.{array_of}
 use Rattle.due_model.specs.RunSteps.{run_state}
-use Rattle.initiator.specs.Books.{my_book}
-use Rattle.initiator.specs.Endings.{AreEndingsOf}
+use Rattle.initiator.specs.initiator_books.specs.Books.{my_book}
+use Rattle.initiator.specs.initiator_books.specs.Endings.{AreEndingsOf}
 use Rattle.initiator.specs.Hosts.{HostValue}
 use Rattle.initiator.specs.Received.{IsBufferOf, moved_of, room_of, buffer_at, undoes_no_byte}
 use Rattle.delivery_laws.specs.target_units.specs.Units.{UnitsState, AreUnitsOf}

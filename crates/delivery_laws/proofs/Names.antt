@@ -210,9 +210,9 @@ pub use right_laws_proofs.{Samples.Resets.{lets_go, raises, reacts, resets}, Sta
 pub use right_laws_proofs.Statuses.Facts.{status_next, status_start}
 use Rattle.right_laws.specs as right_laws
 pub use right_laws.{Loads.{UndoLoadFacts}, Open.{OnEvents}, Runs.{HasEnded}, StatusBytes.{StatusFacts}}
-use Rattle.initiator.proofs as initiator_proofs
-pub use initiator_proofs.StoryEnds.{AreEnded, are_ended, change_keeps, ended_if, ending_after, event_ends, events_keep}
-pub use initiator_proofs.StoryEnds.{unended_connection, unended_linked, with_ending_at}
+use Rattle.initiator.specs.initiator_books.proofs as initiator_books_proofs
+pub use initiator_books_proofs.StoryEnds.{AreEnded, are_ended, change_keeps, ended_if, ending_after, event_ends}
+pub use initiator_books_proofs.StoryEnds.{events_keep, unended_connection, unended_linked, with_ending_at}
 use Rattle.initiator.specs as initiator
 pub use initiator.Causes.{has_bus_reset, has_command_abort, has_loss, has_sense_abort, has_sense_stop, has_status}
 pub use initiator.Causes.{is_bus_reset, is_command_abort, is_loss_of, is_sense_abort, is_status_of}

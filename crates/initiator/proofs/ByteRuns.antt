@@ -2,7 +2,7 @@
 use Rattle.std.proofs.Common.{ℕ, suc, ◌≡◌, ◌+◌, ◌-◌, ◌<◌, ◌∙◌, List, [], ◌∷◌, ◌++◌, refl, sym, arith}
 use Rattle.std.specs.Prelude.{◌%◌}
 use Rattle.std.proofs.lemmas.List.{append_assoc}
-use Rattle.array_model.specs.Processes.{bytes_from}
+use Rattle.due_model.specs.array_model.specs.Processes.{bytes_from}
 
 pub one_byte_more : (xs all : List ℕ) (first i n byte : ℕ) → i < n → byte ≡ (first + i) % 256
     → xs ++ bytes_from (first + i) (n - i) ≡ all → (xs ++ byte ∷ []) ++ bytes_from (first + (i + 1)) (n - (i + 1)) ≡ all

@@ -14,7 +14,7 @@ use Rattle.scenario.specs.declared.value.CmdDef.{CmdDef}
 use Rattle.scenario.specs.declared.value.Payload.TheVariants as payloads
 use Rattle.scenario.specs.declared.value.Tag.TheVariants as tags
 use Rattle.scenario.specs.Value.{ScenarioValue}
-use Rattle.array_model.specs.Processes.{command_at, same_bool}
+use Rattle.due_model.specs.array_model.specs.Processes.{command_at, same_bool}
 use Rattle.story_model.specs.Items.{command_item, sense_item, has_item, is_open, sense_id, command_id}
 use Rattle.story_model.specs.Outcomes.{ending_of, has_end}
 use Rattle.story_model.specs.Story.{Story, Ending, by_status, by_loss, by_abort, by_reset, unanswered, story_with_over}
@@ -22,7 +22,7 @@ use Rattle.story_model.specs.Story.{story_with_end, story_with_ends, is_aborted,
 use Rattle.story_model.specs.Story.{story_after_events, story_with_end_if}
 use Rattle.initiator.specs.Causes.{has_status, has_loss, has_bus_reset, has_command_abort, has_sense_abort}
 use Rattle.initiator.specs.Causes.{has_sense_stop}
-use Rattle.initiator.proofs.StoryEnds.{ended_if, drops_if, ending_after, AreEnded, event_ends, events_keep}
+use Rattle.initiator_books.proofs.StoryEnds.{ended_if, drops_if, ending_after, AreEnded, event_ends, events_keep}
 
 -- ---- the cause of an ending
 

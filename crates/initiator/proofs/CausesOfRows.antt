@@ -15,7 +15,7 @@ use Rattle.bus_trace.specs.Changes.{rises, falls}
 use Rattle.scenario.specs.declared.value.CmdDef.{CmdDef}
 use Rattle.scenario.specs.declared.value.HostDef.{HostDef}
 use Rattle.scenario.specs.Value.{ScenarioValue}
-use Rattle.array_model.specs.Processes.{command_at, same_bool}
+use Rattle.due_model.specs.array_model.specs.Processes.{command_at, same_bool}
 use Rattle.story_model.specs.BusState.{RowReading, row_reading}
 use Rattle.story_model.specs.Items.{Item, process, abort, command_item, sense_item, has_item, count_item, is_of_host}
 use Rattle.story_model.specs.Items.{sense_id, command_id}
@@ -30,14 +30,14 @@ use Rattle.story_model.specs.TraceHistory.{story_by_change}
 use Rattle.due_model.specs.Plain.{AreOfDevices}
 use Rattle.due_model.specs.RunSteps.{run_state, events_of_row}
 use Rattle.initiator.specs.Causes.{has_status, has_loss, has_bus_reset, has_command_abort, has_sense_stop}
-use Rattle.initiator.specs.Wishes.{IsItemIf, AreAims}
+use Rattle.initiator_books.specs.Wishes.{IsItemIf, AreAims}
 use Rattle.initiator.proofs.CausesOfEvents.{has_cause_if, has_sense_cause, shown_causes, shown_stops, events_tries}
 use Rattle.initiator.proofs.OwnedLinks.{aim_own}
-use Rattle.initiator.proofs.StoryEnds.{first_of, ended_if, drops_if, ending_after, with_ending_at, AreEnded, IsUnended}
-use Rattle.initiator.proofs.StoryEnds.{event_ends, events_keep, unended_connection, unended_linked, change_keeps}
-use Rattle.initiator.proofs.StoryEnds.{are_ended}
-use Rattle.initiator.proofs.Wishes.{kept_connected}
-use Rattle.initiator.proofs.WishRows.{aims_are}
+use Rattle.initiator_books.proofs.StoryEnds.{first_of, ended_if, drops_if, ending_after, with_ending_at, AreEnded}
+use Rattle.initiator_books.proofs.StoryEnds.{IsUnended, event_ends, events_keep, unended_connection, unended_linked}
+use Rattle.initiator_books.proofs.StoryEnds.{change_keeps, are_ended}
+use Rattle.initiator_books.proofs.Wishes.{kept_connected}
+use Rattle.initiator_books.proofs.WishRows.{aims_are}
 use Rattle.bus_base.proofs.Tests.{or_other}
 
 -- ---- a row before its events

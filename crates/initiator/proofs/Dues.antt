@@ -30,7 +30,7 @@ use Rattle.due_model.specs.PlainDue.{IsThere, IsLinked, under_reset, initiator_r
 use Rattle.reaction_model.specs.declared.ends.Answering.{Answering}
 use Rattle.reaction_model.specs.declared.ends.Pace.{Pace}
 use Rattle.due_model.specs.Sights.{sending_of}
-use Rattle.scsi_device.specs.Told.{told, pace_of, first_fault, flip_by, AreFlips}
+use Rattle.initiator_books.specs.scsi_device.specs.Told.{told, pace_of, first_fault, flip_by, AreFlips}
 use Rattle.initiator.specs.States.{InitiatorState, IsOwnConnection, IsInitiatorOf, IsHostOf, IsNoTarget}
 use Rattle.initiator.specs.Dues.{answering_of_host, myself_by, want_by, link_by, hand_by, calm_by, initiator_next}
 use Rattle.due_model.specs.bus_rules.specs.Order.{is_of_device}

@@ -11,8 +11,8 @@ use Rattle.scenario.specs.Value.{ScenarioValue}
 use Rattle.story_model.specs.Links.{Link}
 use Rattle.story_model.specs.TraceHistory.{aim_of, retries_of}
 use Rattle.scenario.specs.declared.value.HostDef.{HostDef}
-use Rattle.scsi_device.specs.Lines.{IsHostLine}
-use Rattle.initiator.specs.Intents.{IntentValue, IsInitiator, IsIntentOf}
+use Rattle.initiator_books.specs.scsi_device.specs.Lines.{IsHostLine}
+use Rattle.initiator_books.specs.Intents.{IntentValue, IsInitiator, IsIntentOf}
 use Rattle.due_model.specs.Defs.{opening}
 use Rattle.due_model.specs.LastingState.{has_negotiated}
 use Rattle.due_model.specs.RunState.{RunState, item_of}
@@ -20,21 +20,21 @@ use Rattle.due_model.specs.RunSteps.{run_state, is_for_process, may_negotiate}
 use Rattle.due_model.specs.Sights.{sending_of}
 use Rattle.due_model.specs.Telling.{id_of}
 use Rattle.scenario.specs.declared.value.CmdDef.{CmdDef}
-use Rattle.array_model.specs.Processes.{command_at}
-use Rattle.array_model.specs.Seats.{is_initiator as is_host}
+use Rattle.due_model.specs.array_model.specs.Processes.{command_at}
+use Rattle.due_model.specs.array_model.specs.Seats.{is_initiator as is_host}
 use Rattle.due_model.specs.dialogue_model.specs.Sending.{byte_to_send}
 use Rattle.due_model.specs.Plain.{AreOfDevices, IsPlain}
-use Rattle.scsi_device.specs.Lines.{IsCommandLine}
+use Rattle.initiator_books.specs.scsi_device.specs.Lines.{IsCommandLine}
 use Rattle.initiator.specs.Hosts.{HostValue, IsHostAfter, HasHeard}
-use Rattle.scsi_device.specs.Itself.{ItselfValue, IsItselfOf}
-use Rattle.initiator.specs.declared.endings.CommandEnd.{CommandEnd}
-use Rattle.initiator.specs.Endings.{AreEndingsOf}
+use Rattle.initiator_books.specs.scsi_device.specs.Itself.{ItselfValue, IsItselfOf}
+use Rattle.initiator_books.specs.declared.endings.CommandEnd.{CommandEnd}
+use Rattle.initiator_books.specs.Endings.{AreEndingsOf}
 use Rattle.initiator.specs.OwnBytes.{own_bytes, sending_from}
-use Rattle.initiator.specs.Wishes.{IsItemIf}
+use Rattle.initiator_books.specs.Wishes.{IsItemIf}
 use Rattle.initiator.proofs.OwnedLinks.{IsOwnedIf}
 use Rattle.initiator.proofs.Sendings.{sendings_are}
 use Rattle.initiator.proofs.TransferRows.{process_is, pointers_are, link_owned, own_is}
-use Rattle.initiator.specs.OwnLinks.{own_link}
+use Rattle.initiator_books.specs.OwnLinks.{own_link}
 use Rattle.initiator.specs.Speeches.{first_words}
 use Rattle.initiator.specs.States.{IsOwnConnection, AreSameBytes}
 use Rattle.initiator.specs.Transfers.{active_of, active_at, process_of_link}

@@ -1,37 +1,19 @@
 mod Dues
-mod Ends
-mod EndingRows
 mod CausesOfEvents
 mod CausesOfRows
 mod OutcomeReplies
-pub mod StoryEnds
-mod Books
-mod BookSteps
-mod Foreign
-mod Intents
-mod Loops
-mod Mines
 pub mod NoUnits
-mod FirstWords
 mod Parts
-mod Queues
 mod Speeches
-mod Wishes
 mod NegotiationRows
-mod WishRows
 mod Sendings
 mod Hosts
 mod ByteRuns
-mod HeldSteps
 mod OwnedLinks
 mod TransferSteps
 mod TransferRows
 mod MovedBytes
 mod ReceivedRows
-mod OwnCommands
-mod KeptCommands
-mod PastEndings
-mod CheckQueues
 mod Still
 mod Waiting
 mod Unasked

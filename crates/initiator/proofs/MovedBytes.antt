@@ -20,7 +20,7 @@ use Rattle.msg_grammar.specs.declared.message.MsgOut.{MsgOut}
 use Rattle.msg_grammar.specs.declared.message.MsgIn.{MsgIn}
 use Rattle.msg_grammar.specs.declared.message.MsgIn.TheVariants as to_initiator
 use Rattle.scenario.specs.Value.{ScenarioValue}
-use Rattle.array_model.specs.Processes.{same_id}
+use Rattle.due_model.specs.array_model.specs.Processes.{same_id}
 use Rattle.bus_phases.specs.declared.dialogue.Dialogue.{Dialogue}
 use Rattle.story_model.specs.BusState.{RowReading, row_reading, change_by, message_out, message_in, whole_out, whole_in}
 use Rattle.msg_grammar.specs.Messages.{got_out, got_in}
@@ -47,7 +47,7 @@ use Rattle.bus_base.proofs.Tests.{length_more}
 use Rattle.story_model.proofs.StorySteps.{byte_link, out_link, events_link, sent_carried, free_carried, message_id}
 use Rattle.story_model.proofs.StorySteps.{free_link, fault_link, ends_carried}
 use Rattle.story_model.proofs.SameBytes.{bytes_are}
-use Rattle.array_model.proofs.SeatLookups.{same_id_is}
+use Rattle.due_model.specs.array_model.proofs.SeatLookups.{same_id_is}
 
 -- ---- no pointer stands past the bytes
 

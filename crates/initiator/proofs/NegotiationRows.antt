@@ -22,7 +22,8 @@ use Rattle.due_model.specs.LastingState.{Negotiated, none_negotiated, has_negoti
 use Rattle.due_model.specs.LastingState.{negotiated_after_event, negotiated_after}
 use Rattle.initiator.specs.Negotiations.{NegotiationsValue, no_negotiations, had_in, had_by_connection, had_after_abort}
 use Rattle.initiator.specs.Negotiations.{had_after_event, had_after_events, negotiations_after, HasHad}
-use Rattle.initiator.specs.Negotiations.{IsNegotiationsOf, aims_at_process}
+use Rattle.initiator_books.specs.Intents.{aims_at_process}
+use Rattle.initiator.specs.Negotiations.{IsNegotiationsOf}
 use Rattle.bus_base.proofs.Tests.{put_at}
 use Rattle.due_model.proofs.NegotiatedPairs.{with_pair, pairs_gone}
 

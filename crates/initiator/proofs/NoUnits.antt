@@ -15,33 +15,36 @@ use Rattle.cdb_codec.specs.declared.sense.TheConstants.{ABORTED_COMMAND}
 use Rattle.cdb_codec.specs.Cdb.{command_of}
 use Rattle.scenario.specs.declared.value.UnitDef.{UnitDef}
 use Rattle.scenario.specs.Value.{ScenarioValue}
-use Rattle.array_model.specs.Processes.{Process, process_of}
-use Rattle.array_model.specs.Contents.{Contents}
-use Rattle.array_model.specs.Execution.{Reply, Execution, execution, is_request_sense, check_condition, queue_full}
-use Rattle.array_model.specs.Execution.{sense_of}
-use Rattle.array_model.specs.Units.{RunningProcess, UnitState, Nexus, Array, nexuses_without, is_held, unit_state_at}
-use Rattle.array_model.specs.Units.{with_unit, guest_at, nexus_of, units_after_choice, starting_units}
-use Rattle.array_model.specs.Steps.{process_count, with_guest, with_listed_reply, queue_step, accept_step_at}
-use Rattle.array_model.specs.Steps.{accept_step, refuse_step_at, refuse_step, context_at, with_contents}
-use Rattle.array_model.specs.Steps.{without_attention, units_with_reply, with_reply, running_process, after_execution}
-use Rattle.array_model.specs.Steps.{after_execution_at, run_step, is_waiting, has_ended, fail_step_of_new, fail_step}
-use Rattle.array_model.specs.Steps.{units_without, array_without, after_status, end_step_with, end_step, loss_step}
-use Rattle.array_model.specs.Steps.{kept_units, is_of_unit, has_tag, without_dropped, unit_processes, kept_nexuses}
-use Rattle.array_model.specs.Steps.{kept_senses, abort_step, reset_step, event_step, settled_array_if}
-use Rattle.array_model.specs.ArrayHistory.{array_step}
+use Rattle.due_model.specs.array_model.specs.Processes.{Process, process_of}
+use Rattle.due_model.specs.array_model.specs.Contents.{Contents}
+use Rattle.due_model.specs.array_model.specs.Execution.{Reply, Execution, execution, is_request_sense, check_condition}
+use Rattle.due_model.specs.array_model.specs.Execution.{queue_full, sense_of}
+use Rattle.due_model.specs.array_model.specs.Units.{RunningProcess, UnitState, Nexus, Array, nexuses_without, is_held}
+use Rattle.due_model.specs.array_model.specs.Units.{unit_state_at}
+use Rattle.due_model.specs.array_model.specs.Units.{with_unit, guest_at, nexus_of, units_after_choice, starting_units}
+use Rattle.due_model.specs.array_model.specs.Steps.{process_count, with_guest, with_listed_reply, queue_step}
+use Rattle.due_model.specs.array_model.specs.Steps.{accept_step_at, accept_step, refuse_step_at, refuse_step}
+use Rattle.due_model.specs.array_model.specs.Steps.{context_at, with_contents, without_attention, units_with_reply}
+use Rattle.due_model.specs.array_model.specs.Steps.{with_reply, running_process, after_execution, after_execution_at}
+use Rattle.due_model.specs.array_model.specs.Steps.{run_step, is_waiting, has_ended, fail_step_of_new, fail_step}
+use Rattle.due_model.specs.array_model.specs.Steps.{units_without, array_without, after_status, end_step_with, end_step}
+use Rattle.due_model.specs.array_model.specs.Steps.{loss_step, kept_units, is_of_unit, has_tag, without_dropped}
+use Rattle.due_model.specs.array_model.specs.Steps.{unit_processes, kept_nexuses, kept_senses, abort_step, reset_step}
+use Rattle.due_model.specs.array_model.specs.Steps.{event_step, settled_array_if}
+use Rattle.due_model.specs.array_model.specs.ArrayHistory.{array_step}
 use Rattle.story_model.specs.HistoryEvents.{row_events_by}
 use Rattle.story_model.specs.BusState.{row_reading}
 use Rattle.due_model.specs.RunState.{or_start, array_of, RunState}
 use Rattle.due_model.specs.RunSteps.{array_after_events, run_state}
 use Rattle.due_model.specs.Wants.{since_of, seek_of, ready_among, ready_of}
 use Rattle.due_model.specs.dialogue_model.specs.Wants.{Ready, ready_in, ready_by}
-use Rattle.scsi_device.specs.NoUnits.{has_unit, HasNoUnit}
+use Rattle.initiator_books.specs.scsi_device.specs.NoUnits.{has_unit, HasNoUnit}
 use Rattle.initiator.specs.States.{IsNoTarget}
 use Rattle.bus_base.proofs.Tests.{and_first, or_none_first, or_none_second}
-use Rattle.array_model.proofs.SeatEvents.{status_units}
-use Rattle.array_model.proofs.SeatSteps.{choice_target}
-use Rattle.array_model.specs.Seats.{current_of}
-use Rattle.array_model.proofs.ArrayUnits.{cleared_units, unit_reset_units}
+use Rattle.due_model.specs.array_model.proofs.SeatEvents.{status_units}
+use Rattle.due_model.specs.array_model.proofs.SeatSteps.{choice_target}
+use Rattle.due_model.specs.array_model.specs.Seats.{current_of}
+use Rattle.due_model.specs.array_model.proofs.ArrayUnits.{cleared_units, unit_reset_units}
 
 -- ---- the units of a device
 

@@ -9,11 +9,11 @@ use Rattle.story_model.specs.Outcomes.{ending_of}
 use Rattle.story_model.specs.Story.{Story}
 use Rattle.story_model.specs.Items.{sense_id, command_id}
 use Rattle.story_model.proofs.SameBytes.{bytes_are}
-use Rattle.initiator.specs.declared.endings.CommandEnd.{CommandEnd}
-use Rattle.initiator.specs.declared.endings.Ending.{Ending}
-use Rattle.initiator.specs.declared.endings.Ending.TheVariants as ends
+use Rattle.initiator_books.specs.declared.endings.CommandEnd.{CommandEnd}
+use Rattle.initiator_books.specs.declared.endings.Ending.{Ending}
+use Rattle.initiator_books.specs.declared.endings.Ending.TheVariants as ends
 use Rattle.run_record.specs.declared.outcome.Outcome.TheVariants as outcomes
-use Rattle.initiator.specs.Endings.{told_ending_if, IsEndOf}
+use Rattle.initiator_books.specs.Endings.{told_ending_if, IsEndOf}
 use Rattle.initiator.specs.Outcomes as own
 use Rattle.initiator.specs.Outcomes.{is_settled, told_outcome_if, is_good, is_reply_of, are_replies, settled_outcome}
 use Rattle.initiator.specs.Outcomes.{outcome_after}

@@ -18,8 +18,8 @@ use Rattle.msg_grammar.specs.declared.message.MsgIn.TheVariants as to_initiator
 use Rattle.cdb_codec.specs.declared.status.TheConstants.{CHECK_CONDITION}
 use Rattle.scenario.specs.declared.value.CmdDef.{CmdDef}
 use Rattle.scenario.specs.Value.{ScenarioValue}
-use Rattle.array_model.specs.Processes.{command_at}
-use Rattle.array_model.specs.Order.{same_number, tag_number}
+use Rattle.due_model.specs.array_model.specs.Processes.{command_at}
+use Rattle.due_model.specs.array_model.specs.Order.{same_number, tag_number}
 use Rattle.story_model.specs.BusState.{RowReading, row_reading}
 use Rattle.story_model.specs.Items.{Item, process, abort, Sent, command_item, sense_item, is_open, is_of_host}
 use Rattle.story_model.specs.Links.{Link, link_of, last_out, last_in, is_open_sense, named_item_from, link_after_name}
@@ -35,10 +35,10 @@ use Rattle.story_model.specs.TraceHistory.{story_after_in, story_after_byte, sto
 use Rattle.story_model.specs.TraceHistory.{story_in_connection, story_on_bus, story_by_change}
 use Rattle.due_model.specs.RunSteps.{run_state, events_of_row}
 use Rattle.due_model.specs.Plain.{AreOfDevices}
-use Rattle.initiator.specs.Wishes.{IsItemIf, AreAims}
+use Rattle.initiator_books.specs.Wishes.{IsItemIf, AreAims}
 use Rattle.story_model.proofs.CarriedLists.{carried_id}
-use Rattle.initiator.proofs.WishRows.{aims_are}
-use Rattle.initiator.proofs.Mines.{step}
+use Rattle.initiator_books.proofs.WishRows.{aims_are}
+use Rattle.initiator_books.proofs.Mines.{step}
 use Rattle.story_model.proofs.StorySteps.{restored_link, sent_link, byte_link, out_link, events_link, carried_link}
 use Rattle.story_model.proofs.StorySteps.{event_link, fault_link}
 

@@ -14,9 +14,9 @@ use Rattle.due_model.specs.Sights.{sending_of}
 use Rattle.due_model.specs.RunSteps.{run_state}
 use Rattle.due_model.specs.Plain.{AreOfDevices}
 use Rattle.initiator.specs.States.{AreSameBytes, IsOwnConnection, IsInitiatorOf, state_by}
-use Rattle.scsi_device.specs.Itself.{ItselfValue, IsItselfOf}
-use Rattle.initiator.specs.Intents.{IntentValue, IsIntentOf}
-use Rattle.initiator.proofs.Intents.{wants_since, callee_told}
+use Rattle.initiator_books.specs.scsi_device.specs.Itself.{ItselfValue, IsItselfOf}
+use Rattle.initiator_books.specs.Intents.{IntentValue, IsIntentOf}
+use Rattle.initiator_books.proofs.Intents.{wants_since, callee_told}
 
 pub parts_are : (s : ScenarioValue) (rows : List Row) (h : HostDef)
     (v : ItselfValue) (w : IntentValue) (speech : Speech) (sending : Sending)

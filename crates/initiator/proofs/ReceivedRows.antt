@@ -17,7 +17,7 @@ use Rattle.cdb_codec.specs.declared.replies.TheConstants.{SENSE_LEN}
 use Rattle.scenario.specs.Needs.{need_of, is_write}
 use Rattle.scenario.specs.declared.value.CmdDef.{CmdDef}
 use Rattle.scenario.specs.Value.{ScenarioValue}
-use Rattle.array_model.specs.Processes.{command_at, same_bool, same_id}
+use Rattle.due_model.specs.array_model.specs.Processes.{command_at, same_bool, same_id}
 use Rattle.story_model.specs.BusState.{row_reading}
 use Rattle.story_model.specs.CarriedBytes.{Area, CarriedBytes, bytes_with, carried_of}
 use Rattle.story_model.specs.Items.{Item, process, abort, is_of_host}
@@ -29,20 +29,20 @@ use Rattle.due_model.specs.RunState.{item_of}
 use Rattle.due_model.specs.RunSteps.{run_state}
 use Rattle.due_model.specs.Sights.{hearing_of}
 use Rattle.due_model.specs.Telling.{id_of}
-use Rattle.initiator.specs.OwnLinks.{own_link}
+use Rattle.initiator_books.specs.OwnLinks.{own_link}
 use Rattle.initiator.specs.Received.{BufferValue, empty_buffer, buffer_with, BufferPairValue, no_buffers, half_of}
 use Rattle.initiator.specs.Received.{pair_with, pair_at, buffer_at, received_with, data_room, room_of, buffers_if_own}
 use Rattle.initiator.specs.Received.{buffers_of_commands, nothing_received, brings_data, received_after, moved_of}
 use Rattle.initiator.specs.Received.{IsBufferOf, AreReceived, undone_by, has_bytes_of, undoes_no_byte}
 use Rattle.initiator.specs.Transfers.{active_of}
-use Rattle.initiator.specs.Wishes.{IsItemIf}
+use Rattle.initiator_books.specs.Wishes.{IsItemIf}
 use Rattle.initiator.proofs.MovedBytes.{IsPlaced, brought, brings, reading_of, placed_are, row_moves}
 use Rattle.initiator.proofs.OwnedLinks.{IsOwnedIf, IsOwnedOn, links_are}
 use Rattle.bus_base.proofs.Tests.{and_first, length_more}
-use Rattle.initiator.proofs.EndingRows.{one_host}
-use Rattle.initiator.proofs.StoryEnds.{no_first}
-use Rattle.array_model.proofs.SeatLookups.{same_id_is}
-use Rattle.initiator.proofs.HeldSteps.{in_range}
+use Rattle.initiator_books.proofs.EndingRows.{one_host}
+use Rattle.initiator_books.proofs.StoryEnds.{no_first}
+use Rattle.due_model.specs.array_model.proofs.SeatLookups.{same_id_is}
+use Rattle.initiator_books.proofs.HeldSteps.{in_range}
 
 -- ---- a buffer
 

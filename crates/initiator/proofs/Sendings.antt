@@ -9,23 +9,23 @@ use Rattle.bus_trace.specs.Phases.{is_message_out, is_command}
 use Rattle.scenario.specs.declared.value.CmdDef.{CmdDef}
 use Rattle.scenario.specs.Needs.{sent_of, sent_count}
 use Rattle.scenario.specs.Value.{ScenarioValue}
-use Rattle.array_model.specs.Processes.{payload_bytes, command_at, command_process, sense_block, process_by, process_if}
-use Rattle.array_model.specs.Processes.{sense_process}
-use Rattle.array_model.proofs.SeatLookups.{never_first}
+use Rattle.due_model.specs.array_model.specs.Processes.{payload_bytes, command_at, command_process, sense_block}
+use Rattle.due_model.specs.array_model.specs.Processes.{process_by, process_if, sense_process}
+use Rattle.due_model.specs.array_model.proofs.SeatLookups.{never_first}
 use Rattle.story_model.specs.Items.{Item, process, abort, is_of_host}
 use Rattle.due_model.specs.dialogue_model.specs.Exchange.{Speech, next_word}
 use Rattle.due_model.specs.dialogue_model.specs.Sending.{byte_to_send}
 use Rattle.due_model.specs.RunState.{RunState, process_item, carried_here}
 use Rattle.due_model.specs.Sights.{sending_by}
 use Rattle.due_model.specs.Telling.{id_of}
-use Rattle.scsi_device.specs.Lines.{IsCommandLine}
-use Rattle.scsi_device.proofs.Places.{held_place}
-use Rattle.scsi_device.proofs.SentBytes.{sent_few}
+use Rattle.initiator_books.specs.scsi_device.specs.Lines.{IsCommandLine}
+use Rattle.initiator_books.specs.scsi_device.proofs.Places.{held_place}
+use Rattle.initiator_books.specs.scsi_device.proofs.SentBytes.{sent_few}
 use Rattle.initiator.specs.OwnBytes.{CommandBytesValue, no_bytes, sense_bytes, bytes_of_command, bytes_if_own}
 use Rattle.initiator.specs.OwnBytes.{bytes_of_commands, own_bytes, sending_from}
 use Rattle.initiator.specs.States.{AreSameBytes}
 use Rattle.initiator.specs.Transfers.{active_of}
-use Rattle.initiator.specs.Wishes.{IsItemIf}
+use Rattle.initiator_books.specs.Wishes.{IsItemIf}
 
 -- ---- the bytes of a command of its own
 

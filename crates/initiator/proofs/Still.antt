@@ -21,22 +21,22 @@ use Rattle.due_model.specs.RunState.{item_of}
 use Rattle.due_model.specs.RunSteps.{run_state, events_of_row}
 use Rattle.due_model.specs.Sights.{hearing_of}
 use Rattle.due_model.specs.Telling.{id_of}
-use Rattle.initiator.specs.declared.endings.CommandEnd.{CommandEnd}
-use Rattle.initiator.specs.declared.mine.Mine.{Mine}
-use Rattle.initiator.specs.declared.mine.OwnItem.{OwnItem}
-use Rattle.initiator.specs.declared.own_link.OwnLink.{OwnLink}
-use Rattle.initiator.specs.Books.{my_book}
-use Rattle.initiator.specs.Endings.{AreEndingsOf}
+use Rattle.initiator_books.specs.declared.endings.CommandEnd.{CommandEnd}
+use Rattle.initiator_books.specs.declared.mine.Mine.{Mine}
+use Rattle.initiator_books.specs.declared.mine.OwnItem.{OwnItem}
+use Rattle.initiator_books.specs.declared.own_link.OwnLink.{OwnLink}
+use Rattle.initiator_books.specs.Books.{my_book}
+use Rattle.initiator_books.specs.Endings.{AreEndingsOf}
 use Rattle.initiator.specs.Hosts.{HostValue, IsHostAfter, HasHeard, hears_nothing}
-use Rattle.initiator.specs.Intents.{IntentValue, IsIntentOf}
-use Rattle.initiator.specs.Negotiations.{aims_at_process}
-use Rattle.initiator.specs.OwnLinks.{own_link}
+use Rattle.initiator_books.specs.Intents.{IntentValue, IsIntentOf}
+use Rattle.initiator_books.specs.Intents.{aims_at_process}
+use Rattle.initiator_books.specs.OwnLinks.{own_link}
 use Rattle.initiator.specs.Received.{BufferPairValue, AreReceived, received_after}
 use Rattle.initiator.specs.Speeches.{speech_by, IsSpeechOf, IsOpeningOf}
 use Rattle.initiator.specs.Transfers.{TransfersValue, transfers_after, transfers_after_crossing, transfers_in_link}
 use Rattle.initiator.specs.Transfers.{transfers_on_bus, IsTransfersOf}
-use Rattle.scsi_device.specs.Itself.{ItselfValue, IsItselfOf}
-use Rattle.initiator.proofs.EndingRows.{endings_stay}
+use Rattle.initiator_books.specs.scsi_device.specs.Itself.{ItselfValue, IsItselfOf}
+use Rattle.initiator_books.proofs.EndingRows.{endings_stay}
 use Rattle.initiator.proofs.Hosts.{host_goes_on}
 use Rattle.initiator.proofs.NegotiationRows.{negotiations_go_on}
 use Rattle.initiator.proofs.ReceivedRows.{quiet, received_goes_on}

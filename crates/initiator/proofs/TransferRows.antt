@@ -18,7 +18,7 @@ use Rattle.msg_grammar.specs.declared.message.MsgOut.{MsgOut}
 use Rattle.msg_grammar.specs.declared.message.MsgIn.{MsgIn}
 use Rattle.cdb_codec.specs.declared.status.TheConstants.{CHECK_CONDITION}
 use Rattle.scenario.specs.Value.{ScenarioValue}
-use Rattle.array_model.specs.Processes.{command_at}
+use Rattle.due_model.specs.array_model.specs.Processes.{command_at}
 use Rattle.story_model.specs.BusState.{RowReading, row_reading}
 use Rattle.story_model.specs.Items.{Item, process, abort, is_of_host}
 use Rattle.story_model.specs.Links.{Link, link_of, last_out, last_in, link_after_name}
@@ -42,29 +42,29 @@ use Rattle.due_model.specs.RunSteps.{run_state, events_of_row}
 use Rattle.due_model.specs.Sights.{hearing_of}
 use Rattle.due_model.specs.Plain.{IsPlain, AreOfDevices}
 use Rattle.due_model.specs.Telling.{id_of, initiator_events}
-use Rattle.initiator.specs.declared.mine.Mine.{Mine}
-use Rattle.initiator.specs.declared.mine.OwnItem.{OwnItem}
-use Rattle.initiator.specs.declared.mine.OwnItem.TheVariants as own
-use Rattle.initiator.specs.declared.held.HeldPair.{HeldPair}
-use Rattle.initiator.specs.declared.own_link.LastMessage.{LastMessage}
-use Rattle.initiator.specs.declared.own_link.LastMessage.TheVariants as latest
-use Rattle.initiator.specs.declared.own_link.OwnLink.{OwnLink}
-use Rattle.initiator.specs.Books.{BookValue, my_book, item_if}
-use Rattle.initiator.specs.Mines.{mines_of}
-use Rattle.initiator.specs.Wishes.{IsItemIf, AreAims}
+use Rattle.initiator_books.specs.declared.mine.Mine.{Mine}
+use Rattle.initiator_books.specs.declared.mine.OwnItem.{OwnItem}
+use Rattle.initiator_books.specs.declared.mine.OwnItem.TheVariants as own
+use Rattle.initiator_books.specs.declared.held.HeldPair.{HeldPair}
+use Rattle.initiator_books.specs.declared.own_link.LastMessage.{LastMessage}
+use Rattle.initiator_books.specs.declared.own_link.LastMessage.TheVariants as latest
+use Rattle.initiator_books.specs.declared.own_link.OwnLink.{OwnLink}
+use Rattle.initiator_books.specs.Books.{BookValue, my_book, item_if}
+use Rattle.initiator_books.specs.Mines.{mines_of}
+use Rattle.initiator_books.specs.Wishes.{IsItemIf, AreAims}
 use Rattle.initiator.specs.States.{IsOwnConnection}
-use Rattle.initiator.specs.HeldPointers.{restored_if, AreHeldOf}
-use Rattle.initiator.specs.OwnLinks.{process_in, new_link, last_of, IsLinkIf, own_link}
+use Rattle.initiator_books.specs.HeldPointers.{restored_if, AreHeldOf}
+use Rattle.initiator_books.specs.OwnLinks.{process_in, new_link, last_of, IsLinkIf, own_link}
 use Rattle.initiator.specs.Transfers.{TransfersValue, transfers_begun, transfers_in_link, transfers_after_crossing}
 use Rattle.initiator.specs.Transfers.{transfers_on_bus, transfers_after, process_of_link, active_at, is_last_complete}
 use Rattle.initiator.specs.Transfers.{takes_complete, end_of, completion_in, IsTransfersOf, no_transfers, active_of}
-use Rattle.initiator.proofs.Foreign.{not_both}
+use Rattle.initiator_books.proofs.Foreign.{not_both}
 use Rattle.story_model.proofs.CarriedLists.{carried_id}
-use Rattle.initiator.proofs.HeldSteps.{held_apart, held_stays, held_starts}
+use Rattle.initiator_books.proofs.HeldSteps.{held_apart, held_stays, held_starts}
 use Rattle.initiator.proofs.OwnedLinks.{IsCarriedOf, IsOwned, IsOwnedIf, IsOwnedOn, carried_own, named, begun_link}
 use Rattle.initiator.proofs.OwnedLinks.{aim_own, same_connection, ends_left, end_left, links_are}
 use Rattle.initiator.proofs.TransferSteps.{IsGoneOn, restored_held, byte_id, fault_held, linked, connected_goes_on}
-use Rattle.initiator.proofs.WishRows.{aims_are}
+use Rattle.initiator_books.proofs.WishRows.{aims_are}
 use Rattle.story_model.proofs.StorySteps.{events_link, sent_carried, calling_carried, free_carried, message_id}
 
 -- ---- a connection of its own begins

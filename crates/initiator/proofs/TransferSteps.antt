@@ -13,8 +13,8 @@ use Rattle.msg_grammar.specs.declared.message.MsgIn.{MsgIn}
 use Rattle.msg_grammar.specs.declared.message.MsgIn.TheVariants as to_initiator
 use Rattle.scenario.specs.declared.value.CmdDef.{CmdDef}
 use Rattle.scenario.specs.Value.{ScenarioValue}
-use Rattle.array_model.specs.Processes.{command_at}
-use Rattle.array_model.specs.Order.{same_number, tag_number}
+use Rattle.due_model.specs.array_model.specs.Processes.{command_at}
+use Rattle.due_model.specs.array_model.specs.Order.{same_number, tag_number}
 use Rattle.story_model.specs.BusState.{RowReading}
 use Rattle.story_model.specs.Items.{Item, process, abort, Sent, command_item, sense_item, is_open, is_of_host}
 use Rattle.story_model.specs.Links.{Link, last_out, last_in, is_open_sense, named_item_from, link_after_name}
@@ -27,25 +27,25 @@ use Rattle.story_model.specs.TraceHistory.{story_after_out, story_after_message,
 use Rattle.story_model.specs.TraceHistory.{story_after_byte, story_after_fault, story_after_crossing}
 use Rattle.story_model.specs.TraceHistory.{story_in_connection}
 use Rattle.due_model.specs.Wants.{own_command, own_commands}
-use Rattle.initiator.specs.declared.mine.Mine.{Mine}
-use Rattle.initiator.specs.declared.mine.OwnItem.{OwnItem}
-use Rattle.initiator.specs.declared.mine.OwnItem.TheVariants as own
-use Rattle.initiator.specs.declared.held.HeldPair.{HeldPair}
-use Rattle.initiator.specs.declared.own_link.Undo.{Undo}
-use Rattle.initiator.specs.declared.own_link.OwnLink.{OwnLink}
-use Rattle.initiator.specs.Mines.{mine_of, mines_of}
-use Rattle.initiator.specs.Books.{item_if}
-use Rattle.initiator.specs.Wishes.{IsItemIf}
-use Rattle.initiator.specs.HeldPointers.{restored_if, message_if, byte_if, AreHeldOf}
-use Rattle.initiator.specs.OwnLinks.{process_in, named_in, link_with_name, last_after_out, last_after_in, undo_of}
-use Rattle.initiator.specs.OwnLinks.{undone, last_of, IsUndoIf, IsLinkOf, IsLinkIf}
+use Rattle.initiator_books.specs.declared.mine.Mine.{Mine}
+use Rattle.initiator_books.specs.declared.mine.OwnItem.{OwnItem}
+use Rattle.initiator_books.specs.declared.mine.OwnItem.TheVariants as own
+use Rattle.initiator_books.specs.declared.held.HeldPair.{HeldPair}
+use Rattle.initiator_books.specs.declared.own_link.Undo.{Undo}
+use Rattle.initiator_books.specs.declared.own_link.OwnLink.{OwnLink}
+use Rattle.initiator_books.specs.Mines.{mine_of, mines_of}
+use Rattle.initiator_books.specs.Books.{item_if}
+use Rattle.initiator_books.specs.Wishes.{IsItemIf}
+use Rattle.initiator_books.specs.HeldPointers.{restored_if, message_if, byte_if, AreHeldOf}
+use Rattle.initiator_books.specs.OwnLinks.{process_in, named_in, link_with_name, last_after_out, last_after_in, undo_of}
+use Rattle.initiator_books.specs.OwnLinks.{undone, last_of, IsUndoIf, IsLinkOf, IsLinkIf}
 use Rattle.initiator.specs.Transfers.{TransfersValue, transfers_after_out, transfers_after_name, transfers_after_byte}
 use Rattle.initiator.specs.Transfers.{transfers_after_crossing, transfers_in_link}
 use Rattle.due_model.specs.dialogue_model.specs.declared.exchange.Hearing.{Hearing}
 use Rattle.story_model.proofs.CarriedLists.{carried_id}
-use Rattle.initiator.proofs.HeldSteps.{held_restore, held_message, held_byte, held_fault, held_on, held_stays}
+use Rattle.initiator_books.proofs.HeldSteps.{held_restore, held_message, held_byte, held_fault, held_on, held_stays}
 use Rattle.initiator.proofs.OwnedLinks.{IsCarriedOf, IsOwned, IsOwnedIf, IsNamed, named, name_link}
-use Rattle.initiator.proofs.Mines.{mines_from}
+use Rattle.initiator_books.proofs.Mines.{mines_from}
 use Rattle.story_model.proofs.StorySteps.{out_link, message_id, fault_link}
 
 -- ---- the process that a target names

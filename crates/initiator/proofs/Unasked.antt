@@ -14,7 +14,7 @@ use Rattle.reaction_model.specs.Initiator.{received_byte_ack, received_byte_puls
 use Rattle.reaction_model.specs.Target.{byte_bits}
 use Rattle.scenario.specs.declared.value.FaultDef.{FaultDef}
 use Rattle.scenario.specs.declared.value.HostDef.{HostDef}
-use Rattle.scsi_device.specs.Told.{Told, at_no_stage}
+use Rattle.initiator_books.specs.scsi_device.specs.Told.{Told, at_no_stage}
 use Rattle.initiator.specs.Dues.{calm_by, connected_by, drives_byte, link_by, stands_calm, with_byte_if}
 use Rattle.initiator.specs.States.{InitiatorState}
 

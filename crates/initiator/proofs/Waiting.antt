@@ -8,7 +8,7 @@ use Rattle.reaction_model.specs.Ends.{bsy_release}
 use Rattle.reaction_model.specs.Initiator.{ack_negation, byte_release, initiator_byte, initiator_pulse}
 use Rattle.reaction_model.specs.Initiator.{received_byte_ack, sent_byte_ack}
 use Rattle.scenario.specs.declared.value.HostDef.{HostDef}
-use Rattle.scsi_device.specs.Told.{Told, pace_of}
+use Rattle.initiator_books.specs.scsi_device.specs.Told.{Told, pace_of}
 use Rattle.initiator.specs.Dues.{answering_of_host, myself_by, plain_by}
 use Rattle.initiator.specs.States.{InitiatorState}
 use Rattle.initiator.specs.Waits.{agree, waits}

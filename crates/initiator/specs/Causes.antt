@@ -5,7 +5,7 @@ use Rattle.bus_base.specs.declared.ProcId.{ProcId}
 use Rattle.bus_base.specs.declared.Event.{Event}
 use Rattle.bus_base.specs.declared.Event.TheVariants as events
 use Rattle.scenario.specs.declared.value.CmdDef.{CmdDef}
-use Rattle.array_model.specs.Processes.{same_id}
+use Rattle.due_model.specs.array_model.specs.Processes.{same_id}
 use Rattle.story_model.specs.Story.{is_aborted, is_sense_stopped}
 use Rattle.story_model.specs.Items.{sense_id}
 

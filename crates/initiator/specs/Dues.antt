@@ -12,7 +12,7 @@ use Rattle.reaction_model.specs.Linking.{link_due, sample_time}
 use Rattle.reaction_model.specs.Ends as hand
 use Rattle.reaction_model.specs.Reset.{with_reset}
 use Rattle.due_model.specs.dialogue_model.specs.Ends.{answering_by}
-use Rattle.scsi_device.specs.Told.{Told, pace_of, flip_by}
+use Rattle.initiator_books.specs.scsi_device.specs.Told.{Told, pace_of, flip_by}
 use Rattle.initiator.specs.States.{InitiatorState}
 use Rattle.due_model.specs.bus_rules.specs.Order.{is_of_device}
 

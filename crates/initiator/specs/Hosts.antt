@@ -2,8 +2,8 @@
 use Rattle.std.specs.Prelude.{ℕ, ◌≡◌, ◌==◌, ◌&&◌, ◌||◌, not, Bool, true, false, List, ◌∷◌, Option, Some, None}
 use Rattle.std.specs.List.{list_all}
 use Rattle.due_model.specs.RunSteps.{run_state}
-use Rattle.initiator.specs.declared.mine.MyAbort.{MyAbort}
-use Rattle.initiator.specs.Mines.{my_aborts}
+use Rattle.initiator_books.specs.declared.mine.MyAbort.{MyAbort}
+use Rattle.initiator_books.specs.Mines.{my_aborts}
 use Rattle.bus_trace.specs.declared.Row.{Row}
 use Rattle.bus_trace.specs.declared.connection.Connection.{Connection}
 use Rattle.bus_trace.specs.Phases.{changes_phase}
@@ -12,12 +12,12 @@ use Rattle.due_model.specs.dialogue_model.specs.declared.exchange.Hearing.{Heari
 use Rattle.scenario.specs.declared.value.HostDef.{HostDef}
 use Rattle.scenario.specs.Value.{ScenarioValue}
 use Rattle.due_model.specs.dialogue_model.specs.Exchange as exchange
-use Rattle.scsi_device.specs.Itself.{ItselfValue, IsItselfOf}
-use Rattle.scsi_device.specs.Lines.{IsHostLine}
-use Rattle.initiator.specs.declared.endings.CommandEnd.{CommandEnd}
-use Rattle.initiator.specs.Endings.{AreEndingsOf}
+use Rattle.initiator_books.specs.scsi_device.specs.Itself.{ItselfValue, IsItselfOf}
+use Rattle.initiator_books.specs.scsi_device.specs.Lines.{IsHostLine}
+use Rattle.initiator_books.specs.declared.endings.CommandEnd.{CommandEnd}
+use Rattle.initiator_books.specs.Endings.{AreEndingsOf}
 use Rattle.initiator.specs.Received.{BufferPairValue, AreReceived, undoes_no_byte}
-use Rattle.initiator.specs.Intents.{IntentValue, IsIntentOf}
+use Rattle.initiator_books.specs.Intents.{IntentValue, IsIntentOf}
 use Rattle.initiator.specs.Negotiations.{NegotiationsValue, IsNegotiationsOf}
 use Rattle.initiator.specs.OwnBytes.{CommandBytesValue, own_bytes}
 use Rattle.initiator.specs.Speeches.{IsSpeechOf}

@@ -1,21 +1,13 @@
-pub mod Mines
-pub mod Books
-pub mod Commands
-pub mod Checks
-pub mod Wishes
 pub mod Negotiations
-pub mod Openings
-pub mod Intents
-pub mod HeldPointers
-pub mod OwnLinks
 pub mod Speeches
 pub mod States
 pub mod Dues
 pub mod Transfers
 pub mod OwnBytes
-pub mod Endings
 pub mod Outcomes
 pub mod Received
 pub mod Hosts
 pub mod Causes
 pub mod Waits
+-- Handed on to the crates above that list this one and not these.
+pub use Rattle.initiator_books

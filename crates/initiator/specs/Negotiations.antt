@@ -8,9 +8,8 @@ use Rattle.bus_base.specs.declared.Event.TheVariants as events
 use Rattle.bus_trace.specs.declared.Row.{Row}
 use Rattle.bus_trace.specs.declared.connection.Connection.{Connection}
 use Rattle.scenario.specs.Value.{ScenarioValue}
-use Rattle.story_model.specs.TraceHistory.{aim_of}
 use Rattle.due_model.specs.LastingState.{Negotiated, has_negotiated}
-use Rattle.due_model.specs.RunSteps.{run_state, is_for_process}
+use Rattle.due_model.specs.RunSteps.{run_state}
 
 pub record NegotiationsValue : Type 0 where
   pub dev : ℕ
@@ -70,7 +69,3 @@ pub record HasHad (m : Negotiated) (v : NegotiationsValue) : Type 0 where
 pub record IsNegotiationsOf (s : ScenarioValue) (rows : List Row) (v : NegotiationsValue) : Type 0 where
   pub version_is : v.version ≡ s.version
   pub kept : HasHad (run_state s rows).negotiated v
-
--- What the initiator last entered arbitration for is a process.
-abbrev pub aims_at_process : ScenarioValue → List Row → ℕ → Bool
-aims_at_process s rows dev = is_for_process (aim_of (run_state s rows).story.aims dev)

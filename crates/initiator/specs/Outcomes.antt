@@ -10,10 +10,10 @@ use Rattle.story_model.specs.Outcomes.{ended_aborted, sense_in, reply_bytes, out
 use Rattle.story_model.specs.Right.{same_bytes}
 use Rattle.story_model.specs.Story.{Story}
 use Rattle.story_model.specs.Items.{sense_id, command_id}
-use Rattle.initiator.specs.declared.mine.Mine.{Mine}
-use Rattle.initiator.specs.declared.endings.CommandEnd.{CommandEnd}
-use Rattle.initiator.specs.declared.endings.Ending.{Ending}
-use Rattle.initiator.specs.declared.endings.Ending.TheVariants as ends
+use Rattle.initiator_books.specs.declared.mine.Mine.{Mine}
+use Rattle.initiator_books.specs.declared.endings.CommandEnd.{CommandEnd}
+use Rattle.initiator_books.specs.declared.endings.Ending.{Ending}
+use Rattle.initiator_books.specs.declared.endings.Ending.TheVariants as ends
 use Rattle.run_record.specs.declared.outcome.Outcome.{Outcome}
 use Rattle.run_record.specs.declared.outcome.Outcome.TheVariants as outcomes
 

@@ -4,8 +4,8 @@ use Rattle.bus_base.specs.declared.ProcId.{ProcId}
 use Rattle.scenario.specs.declared.value.CmdDef.{CmdDef}
 use Rattle.scenario.specs.Needs.{sent_count}
 use Rattle.scenario.specs.Value.{ScenarioValue}
-use Rattle.array_model.specs.Processes.{payload_bytes, sense_block}
-use Rattle.io_pointers.specs.declared.pointers.Place.{Place}
+use Rattle.due_model.specs.array_model.specs.Processes.{payload_bytes, sense_block}
+use Rattle.initiator_books.specs.io_pointers.specs.declared.pointers.Place.{Place}
 use Rattle.due_model.specs.dialogue_model.specs.Sending.{Sending}
 
 pub record CommandBytesValue : Type 0 where

@@ -12,7 +12,7 @@ use Rattle.msg_grammar.specs.declared.message.MsgOut.{MsgOut}
 use Rattle.scenario.specs.declared.value.CmdDef.{CmdDef}
 use Rattle.scenario.specs.Needs.{need_of, is_write}
 use Rattle.scenario.specs.Value.{ScenarioValue}
-use Rattle.array_model.specs.Processes.{command_at}
+use Rattle.due_model.specs.array_model.specs.Processes.{command_at}
 use Rattle.story_model.specs.BusState.{row_reading}
 use Rattle.story_model.specs.CarriedBytes.{Area, CarriedBytes, carried_of}
 use Rattle.story_model.specs.Links.{Link}

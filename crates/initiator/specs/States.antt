@@ -16,11 +16,11 @@ use Rattle.due_model.specs.Sights.{sending_of}
 use Rattle.due_model.specs.RunSteps.{run_state}
 use Rattle.due_model.specs.Due.{reset_from}
 use Rattle.initiator.specs.declared.due.Knowledge.{Knowledge}
-use Rattle.scsi_device.specs.Itself.{ItselfValue}
-use Rattle.initiator.specs.Intents.{IntentValue}
+use Rattle.initiator_books.specs.scsi_device.specs.Itself.{ItselfValue}
+use Rattle.initiator_books.specs.Intents.{IntentValue}
 use Rattle.initiator.specs.OwnBytes.{CommandBytesValue, sending_from}
 use Rattle.initiator.specs.Transfers.{TransfersValue, process_of_link, active_at}
-use Rattle.array_model.specs.Seats.{is_initiator}
+use Rattle.due_model.specs.array_model.specs.Seats.{is_initiator}
 
 -- ---- what it knows itself
 

@@ -14,20 +14,21 @@ use Rattle.msg_grammar.specs.declared.message.MsgOut.{MsgOut}
 use Rattle.msg_grammar.specs.declared.message.MsgIn.{MsgIn}
 use Rattle.scenario.specs.Value.{ScenarioValue}
 use Rattle.story_model.specs.TraceHistory.{is_parity_error}
-use Rattle.io_pointers.specs.declared.pointers.Place.{Place}
-use Rattle.io_pointers.specs.Pointers.{pointers_of, at_start}
+use Rattle.initiator_books.specs.io_pointers.specs.declared.pointers.Place.{Place}
+use Rattle.initiator_books.specs.io_pointers.specs.Pointers.{pointers_of, at_start}
 use Rattle.due_model.specs.dialogue_model.specs.declared.exchange.Hearing.{Hearing}
 use Rattle.due_model.specs.RunState.{RunState, carried_here}
 use Rattle.due_model.specs.RunSteps.{run_state}
-use Rattle.initiator.specs.declared.mine.Mine.{Mine}
-use Rattle.initiator.specs.declared.mine.OwnItem.{OwnItem}
-use Rattle.initiator.specs.declared.held.HeldPair.{HeldPair}
-use Rattle.initiator.specs.declared.own_link.LastMessage.{LastMessage}
-use Rattle.initiator.specs.declared.own_link.LastMessage.TheVariants as latest
-use Rattle.initiator.specs.declared.own_link.OwnLink.{OwnLink}
-use Rattle.initiator.specs.HeldPointers.{capped_place, no_pair, held_at, restored_if, message_if, byte_if, AreHeldOf}
-use Rattle.initiator.specs.OwnLinks.{process_in, link_with_name, last_after_out, last_after_in, new_link, undo_of}
-use Rattle.initiator.specs.OwnLinks.{undone, IsLinkIf, own_link}
+use Rattle.initiator_books.specs.declared.mine.Mine.{Mine}
+use Rattle.initiator_books.specs.declared.mine.OwnItem.{OwnItem}
+use Rattle.initiator_books.specs.declared.held.HeldPair.{HeldPair}
+use Rattle.initiator_books.specs.declared.own_link.LastMessage.{LastMessage}
+use Rattle.initiator_books.specs.declared.own_link.LastMessage.TheVariants as latest
+use Rattle.initiator_books.specs.declared.own_link.OwnLink.{OwnLink}
+use Rattle.initiator_books.specs.HeldPointers.{capped_place, no_pair, held_at, restored_if, message_if, byte_if}
+use Rattle.initiator_books.specs.HeldPointers.{AreHeldOf}
+use Rattle.initiator_books.specs.OwnLinks.{process_in, link_with_name, last_after_out, last_after_in, new_link, undo_of}
+use Rattle.initiator_books.specs.OwnLinks.{undone, IsLinkIf, own_link}
 
 pub record TransfersValue : Type 0 where
   pub dev : ℕ

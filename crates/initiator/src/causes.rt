@@ -3,7 +3,7 @@ ghost use Rattle.std.specs.Prelude.{ℕ, ◌≡◌, true, false, nat_lt, List, O
 ghost use Rattle.bus_trace.specs.declared.Row.{Row};
 ghost use Rattle.scenario.specs.declared.value.CmdDef.{CmdDef};
 ghost use Rattle.scenario.specs.Value.{ScenarioValue};
-ghost use Rattle.array_model.specs.Processes.{command_at};
+ghost use Rattle.due_model.specs.array_model.specs.Processes.{command_at};
 ghost use Rattle.story_model.specs.Items.{command_item, sense_item, has_item, count_item, sense_id, command_id};
 ghost use Rattle.story_model.specs.Outcomes.{ending_of, has_end};
 ghost use Rattle.story_model.specs.Story.{by_status, by_loss, by_reset, by_abort, unanswered};

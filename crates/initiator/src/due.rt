@@ -16,7 +16,7 @@ ghost use Rattle.due_model.specs.dialogue_model.specs.Sending.{byte_to_send};
 ghost use Rattle.due_model.specs.Next.{due};
 ghost use Rattle.due_model.specs.Plain.{AreOfDevices};
 ghost use Rattle.due_model.specs.RunSteps.{run_state};
-ghost use Rattle.scsi_device.specs.Told.{told, first_fault};
+ghost use Rattle.initiator_books.specs.scsi_device.specs.Told.{told, first_fault};
 ghost use Rattle.scenario.specs.declared.value.FaultDef.{FaultDef};
 ghost use Rattle.initiator.specs.OwnBytes.{sending_from};
 ghost use Rattle.initiator.specs.States.{state_known, IsInitiatorOf, IsHostOf, IsNoTarget};
@@ -34,10 +34,10 @@ use bus_trace::{Connection, Lines, is_command, is_message_out};
 use connect::{due_with_reset, link_due, sample_time};
 use due_model::the_dialogue_model::Observer;
 use handshake::initiator_due;
-use io_pointers::Place;
+use initiator_books::the_io_pointers::Place;
+use initiator_books::the_scsi_device::{OwnTimes, flip, is_pulsed, lines_seen, pace, sampled};
 use reaction_model::{Answering, Due, Myself, Want};
 use scenario::{FaultDef, HostDef};
-use scsi_device::{OwnTimes, flip, is_pulsed, lines_seen, pace, sampled};
 
 /// What an initiator knows itself.
 #[derive(Clone, Copy)]

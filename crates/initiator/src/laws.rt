@@ -11,11 +11,11 @@ ghost use Rattle.due_model.specs.Wants.{ready_of};
 ghost use Rattle.due_model.specs.dialogue_model.specs.Exchange.{Speech};
 ghost use Rattle.due_model.specs.dialogue_model.specs.Sending.{Sending};
 ghost use Rattle.due_model.specs.Sights.{sending_of};
-ghost use Rattle.scsi_device.specs.Itself.{ItselfValue, IsItselfOf};
-ghost use Rattle.initiator.specs.Intents.{IntentValue, IsIntentOf};
-ghost use Rattle.scsi_device.specs.Told.{told, first_fault};
+ghost use Rattle.initiator_books.specs.scsi_device.specs.Itself.{ItselfValue, IsItselfOf};
+ghost use Rattle.initiator_books.specs.Intents.{IntentValue, IsIntentOf};
+ghost use Rattle.initiator_books.specs.scsi_device.specs.Told.{told, first_fault};
 ghost use Rattle.initiator.specs.States.{AreSameBytes, InitiatorState, IsOwnConnection, IsInitiatorOf, IsHostOf, IsNoTarget, state_by};
-ghost use Rattle.scsi_device.specs.NoUnits.{HasNoUnit};
+ghost use Rattle.initiator_books.specs.scsi_device.specs.NoUnits.{HasNoUnit};
 ghost use Rattle.initiator.specs.Dues.{initiator_next};
 ghost use Rattle.initiator.specs.Speeches.{first_words, speech_at};
 ghost use Rattle.bus_trace.specs.declared.connection.Connection.{Connection};
@@ -26,7 +26,7 @@ ghost use Rattle.due_model.specs.dialogue_model.specs.Hearing.{hearing};
 ghost use Rattle.due_model.specs.Defs.{host_of};
 
 use due_model::{end_reactions_are_due, hearings_are_plain, kept_is_plain};
-use scsi_device::devices_know_enough;
+use initiator_books::the_scsi_device::devices_know_enough;
 
 /// What is due of an initiator is what it does next by what all devices are told, by what it knows itself, and by the
 /// first fault that has not struck yet.

@@ -5,54 +5,43 @@
 //! and what it does next is `Host::due`, which changes nothing. A run asks that alone; `Host::step`, what it does by a
 //! clock, serves a caller with devices of his own, and here only tests call it.
 //!
-//! It has parts, each of which goes on by every row: [`Itself`](scsi_device::Itself), when it made its own rows and
-//! drives RST next; [`Intent`], which commands, automatic REQUEST SENSE and aborts of its own are sent and over, and so
-//! since when it wants the bus, for what, and whom it calls; [`Negotiations`], with which targets it may still
-//! negotiate; [`Speech`], what it says in MESSAGE OUT; [`Transfers`], the pointers and the status of its own processes,
-//! and to which of them its connection belongs; [`Endings`] and [`Received`], how each of its commands ended, and the
-//! data that came. `specs/Hosts.antt` puts the parts together, and each has a file of its own there;
-//! `specs/States.antt` and `Dues.antt` say what it does next by what it knows. Stands on `scsi_device`, `due_model`,
-//! `dialogue_model`, `io_pointers`, `connect` and `handshake`.
+//! It has parts, each of which goes on by every row: `Itself` of `scsi_device`, when it made its own rows and drives
+//! RST next; [`Intent`], which commands, automatic REQUEST SENSE and aborts of its own are sent and over, and so since
+//! when it wants the bus, for what, and whom it calls; [`Negotiations`], with which targets it may still negotiate;
+//! [`Speech`], what it says in MESSAGE OUT; [`Transfers`], the pointers and the status of its own processes, and to
+//! which of them its connection belongs; [`Endings`] and [`Received`], how each of its commands ended, and the data
+//! that came. `Intent` and `Endings`, and what `Transfers` keeps, stand in `initiator_books`. `specs/Hosts.antt` puts
+//! the parts together, and each has a file of its own there; `specs/States.antt` and `Dues.antt` say what it does next
+//! by what it knows. Stands on `initiator_books`, `scsi_device`, `due_model`, `dialogue_model`, `io_pointers`,
+//! `connect` and `handshake`.
 //!
 //! Public contract: after any rows of the eight devices, lawful or not, a `Host` that was told of each of them knows
 //! what these make known (`IsHostAfter`), and what it does next is exactly what is due of it (`Host::due`). No call but
 //! `new` takes memory.
 #![tactic(auto)]
 
-mod book;
 mod causes;
-mod checks;
-mod choice;
-mod commands;
 mod due;
-mod endings;
-mod held;
 mod host;
-mod intent;
 mod laws;
-mod marks;
-mod mine;
 mod negotiations;
-mod openings;
 mod outcome;
 mod own_bytes;
-mod own_link;
 mod received;
 mod speech;
 mod transfers;
-mod wish;
 
 pub use causes::endings_have_causes;
 pub use due::{Knowledge, initiator_next};
-pub use endings::{CommandEnd, Ending, Endings};
 pub use host::Host;
-pub use intent::Intent;
+pub use initiator_books::{
+    CommandEnd, Ending, Endings, Intent, Mine, MyAbort, OwnItem, Words, abort_opening,
+    process_opening,
+};
 pub use laws::{
     dues_are_of_initiators, initiators_are_their_parts, initiators_have_no_unit, speeches_are_heard,
 };
-pub use mine::{Mine, MyAbort, OwnItem};
 pub use negotiations::Negotiations;
-pub use openings::{Words, abort_opening, process_opening};
 pub use outcome::{command_outcome, is_settled};
 pub use received::Received;
 pub use run_record::Outcome;

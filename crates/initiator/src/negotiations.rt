@@ -6,7 +6,8 @@ ghost use Rattle.scenario.specs.Value.{ScenarioValue};
 ghost use Rattle.due_model.specs.LastingState.{has_negotiated};
 ghost use Rattle.due_model.specs.Plain.{AreOfDevices};
 ghost use Rattle.due_model.specs.RunSteps.{run_state, events_of_row};
-ghost use Rattle.initiator.specs.Negotiations.{no_negotiations, had_by_connection, had_after_event, had_after_events, negotiations_after, IsNegotiationsOf, aims_at_process};
+ghost use Rattle.initiator.specs.Negotiations.{no_negotiations, had_by_connection, had_after_event, had_after_events, negotiations_after, IsNegotiationsOf};
+ghost use Rattle.initiator_books.specs.Intents.{aims_at_process};
 
 use bus_base::{AbortKind, Dev, Event};
 use bus_trace::{Connection, ScsiId};

@@ -3,12 +3,12 @@ ghost use Rattle.std.specs.Prelude.{ℕ, ◌≡◌, List, true};
 ghost use Rattle.scenario.specs.Value.{ScenarioValue};
 ghost use Rattle.story_model.specs.Outcomes.{sense_in};
 ghost use Rattle.story_model.specs.Story.{Story};
-ghost use Rattle.initiator.specs.Endings.{IsEndOf};
+ghost use Rattle.initiator_books.specs.Endings.{IsEndOf};
 ghost use Rattle.initiator.specs.Outcomes.{is_settled_by, is_settled, outcome_by_status, outcome_by, outcome_after, told_outcome_if, are_replies, settled_outcome};
 
-use crate::endings::{CommandEnd, Ending};
 use bus_base::Octets;
 use cdb_codec::{GOOD, QUEUE_FULL, Sense, sense_of_data};
+use initiator_books::{CommandEnd, Ending};
 use run_record::Outcome;
 
 // The sense that the bytes of sense data name, if any came (8.2.14).

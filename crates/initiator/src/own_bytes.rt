@@ -1,7 +1,7 @@
 // The bytes that an initiator sends of its own commands.
 ghost use Rattle.std.specs.Prelude.{◌≡◌, ◌-◌, ◌^◌, min, ◌∷◌, [], slice_index_or, IfOk};
 ghost use Rattle.scenario.specs.Needs.{sent_of, is_write, sent_count};
-ghost use Rattle.array_model.specs.Processes.{bytes_from, payload_bytes, sense_block};
+ghost use Rattle.due_model.specs.array_model.specs.Processes.{bytes_from, payload_bytes, sense_block};
 ghost use Rattle.initiator.specs.OwnBytes.{no_bytes, sense_bytes, bytes_of_command, bytes_if_own, bytes_of_commands, own_bytes, bytes_of};
 
 use bus_base::{Dev, NoMemory, ProcId};

@@ -4,13 +4,13 @@ ghost use Rattle.bus_trace.specs.declared.Row.{Row};
 ghost use Rattle.bus_trace.specs.Terms.{connection as connection_after};
 ghost use Rattle.scenario.specs.declared.value.CmdDef.{CmdDef};
 ghost use Rattle.scenario.specs.Value.{ScenarioValue};
-ghost use Rattle.array_model.specs.Processes.{command_at};
+ghost use Rattle.due_model.specs.array_model.specs.Processes.{command_at};
 ghost use Rattle.due_model.specs.dialogue_model.specs.Hearing.{hearing as hearing_in};
 ghost use Rattle.due_model.specs.Plain.{AreOfDevices};
 ghost use Rattle.due_model.specs.RunState.{item_of};
 ghost use Rattle.due_model.specs.RunSteps.{run_state};
 ghost use Rattle.due_model.specs.Telling.{id_of};
-ghost use Rattle.initiator.specs.OwnLinks.{own_link};
+ghost use Rattle.initiator_books.specs.OwnLinks.{own_link};
 ghost use Rattle.initiator.specs.Transfers.{active_of, IsTransfersOf};
 ghost use Rattle.initiator.specs.Received.{empty_buffer, buffer_with, no_buffers, half_of, pair_with, pair_at, buffer_at, received_with, received_taken, data_room, room_of, buffers_if_own, nothing_received, brings_data, received_after, moved_of, AreReceived, undoes_no_byte};
 

@@ -11,14 +11,14 @@ ghost use Rattle.due_model.specs.dialogue_model.specs.Exchange.{no_speech, next_
 ghost use Rattle.due_model.specs.dialogue_model.specs.Words.{host_answer};
 ghost use Rattle.due_model.specs.dialogue_model.specs.Speaking.{words_after, speech_in_phase, speech_with_byte, speech_after};
 
-use crate::openings::Words;
 use arrayvec::ArrayVec;
 use bus_trace::{Agreement, Connection, changes_phase, is_message_in, is_message_out};
 use due_model::the_dialogue_model::Hearing;
 use due_model::{hearings_are_plain, kept_is_plain};
+use initiator_books::Words;
+use initiator_books::the_scsi_device::agreement_answer;
 use msg_grammar::{MsgIn, MsgOut, encode_out};
 use scenario::HostDef;
-use scsi_device::agreement_answer;
 use std::marker::Model;
 
 /// What the initiator says in MESSAGE OUT, the place of its next byte, and what the target has last asked for by a

@@ -12,21 +12,21 @@ ghost use Rattle.due_model.specs.Plain.{AreOfDevices};
 ghost use Rattle.due_model.specs.RunState.{item_of};
 ghost use Rattle.due_model.specs.RunSteps.{run_state};
 ghost use Rattle.due_model.specs.Telling.{id_of, initiator_events};
-ghost use Rattle.initiator.specs.Books.{my_book, item_if};
+ghost use Rattle.initiator_books.specs.Books.{my_book, item_if};
 ghost use Rattle.initiator.specs.States.{IsOwnConnection};
-ghost use Rattle.initiator.specs.HeldPointers.{restored_if};
-ghost use Rattle.initiator.specs.OwnLinks.{process_in, undone, own_link};
+ghost use Rattle.initiator_books.specs.HeldPointers.{restored_if};
+ghost use Rattle.initiator_books.specs.OwnLinks.{process_in, undone, own_link};
 ghost use Rattle.initiator.specs.Transfers.{transfers_begun, transfers_after_out, transfers_after_name, transfers_after_in, transfers_after_byte, transfers_after_crossing, transfers_in_link, transfers_on_bus, transfers_after, process_of_link, active_at, is_last_complete, takes_complete, end_of, completion_in, IsTransfersOf, no_transfers, active_of};
 
-use crate::book::Book;
-use crate::held::{HeldPair, carry, hear, held_at, restore};
-use crate::mine::OwnItem;
-use crate::own_link::{LastMessage, OwnLink, bring_back, process_in, undo_of};
 use bus_base::{Dev, Event, NoMemory, ProcId};
 use bus_trace::{Change, Connection, is_message_in, rises};
 use due_model::the_dialogue_model::Hearing;
 use due_model::{hearings_are_plain, kept_is_plain};
-use io_pointers::{Place, Pointers};
+use initiator_books::the_io_pointers::{Place, Pointers};
+use initiator_books::{
+    Book, HeldPair, LastMessage, OwnItem, OwnLink, bring_back, carry_held, hear_held, held_at,
+    process_in, restore_held, undo_of,
+};
 use msg_grammar::{MsgIn, MsgOut};
 use scenario::Scenario;
 use std::alloc::Global;
@@ -171,7 +171,7 @@ impl Transfers {
         if connection.reselected {
             self.link = Some(OwnLink::new(connection.target.get(), None));
         } else {
-            restore(self.held.as_mut_slice(), process_in(aim));
+            restore_held(self.held.as_mut_slice(), process_in(aim));
             self.link = Some(OwnLink::new(connection.target.get(), aim));
         }
     }
@@ -199,7 +199,7 @@ impl Transfers {
         } }
     {
         if link.item.is_none() {
-            restore(self.held.as_mut_slice(), process_in(next.item));
+            restore_held(self.held.as_mut_slice(), process_in(next.item));
         }
     }
 
@@ -208,7 +208,7 @@ impl Transfers {
     {
         let undo = undo_of(self.held.as_slice(), process_in(link.item));
         self.restore_named(link, next);
-        hear(self.held.as_mut_slice(), process_in(next.item), message);
+        hear_held(self.held.as_mut_slice(), process_in(next.item), message);
         self.link = Some(next.after_in(message, link.last, undo));
     }
 
@@ -223,7 +223,7 @@ impl Transfers {
     {
         if !change.before.msg() {
             let process = process_in(link.item);
-            carry(
+            carry_held(
                 self.held.as_mut_slice(),
                 process,
                 change.before,

@@ -17,7 +17,7 @@ use proofs.Names.{calls_in_vain, event_ending, events_ending, first_ending, firs
 use proofs.{Names.{is_unheard, is_unheard_call, was_sent}, Callings.Facts.{connection_tries, events_tries}}
 use proofs.Callings.Facts.{next_of_vain, try_tried}
 use Rattle.progress_laws.specs.row_laws.specs.ItemFacts.{is_command}
-use Rattle.initiator.proofs.StoryEnds as ends
+use Rattle.initiator.specs.initiator_books.proofs.StoryEnds as ends
 
 -- ---- an event
 

@@ -6,7 +6,7 @@ use Rattle.bus_lines.specs.Timely.{IsTimely}
 use Rattle.reaction_model.specs.Ends as hand
 use Rattle.reaction_model.specs.Sight.{sight}
 use Rattle.due_model.specs.dialogue_model.specs.Hearing.{begun}
-use Rattle.scsi_device.specs.Told.{Told, told, pace_of}
+use Rattle.initiator_books.specs.scsi_device.specs.Told.{Told, told, pace_of}
 use Rattle.initiator.specs.States.{InitiatorState, state_known}
 use Rattle.initiator.specs.Dues.{answering_of_host, drives_byte, myself_by, with_byte_if}
 use Rattle.initiator.proofs.Unasked.{any_byte, any_stage}

@@ -3,7 +3,7 @@ use Rattle.std.specs.Prelude.{if◌then◌else◌}
 use Rattle.std.proofs.lemmas.Bool.{eq-eqb, ne_eqb}
 use Rattle.bus_trace.specs.Trace.{bus}
 use Rattle.bus_trace.specs.Terms.{connection}
-use Rattle.scsi_device.specs.Told.{Told, told}
+use Rattle.initiator_books.specs.scsi_device.specs.Told.{Told, told}
 use Rattle.initiator.specs.States.{InitiatorState, state_known}
 use Rattle.initiator.specs.Dues.{hand_by}
 use Rattle.initiator.proofs.Unasked.{calm_in, calm_is}

@@ -1,5 +1,5 @@
 use Rattle.std.proofs.Common.{◌∙◌, sym, Some}
-use Rattle.scsi_device.specs.Told.{told}
+use Rattle.initiator_books.specs.scsi_device.specs.Told.{told}
 use Rattle.initiator.specs.States.{state_known}
 use Rattle.initiator.specs.Waits.{waits}
 use Rattle.initiator.proofs.Waiting.{plain_is}

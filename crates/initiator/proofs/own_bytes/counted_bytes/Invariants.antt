@@ -1,5 +1,5 @@
 use Rattle.std.specs.Prelude.{◌≡◌, ◌+◌, ◌-◌, ◌++◌, ◌%◌}
-use Rattle.array_model.specs.Processes.{bytes_from}
+use Rattle.due_model.specs.array_model.specs.Processes.{bytes_from}
 use Rattle.initiator.proofs.own_bytes.counted_bytes.Given as goal
 
 abbrev pub invariant-loop : goal.invariant-loop

@@ -3,7 +3,7 @@ use Rattle.bus_trace.specs.Terms.{connection}
 use Rattle.due_model.specs.RunState.{item_of}
 use Rattle.due_model.specs.RunSteps.{run_state}
 use Rattle.due_model.specs.Telling.{id_of}
-use Rattle.initiator.specs.OwnLinks.{own_link}
+use Rattle.initiator_books.specs.OwnLinks.{own_link}
 use Rattle.initiator.specs.Transfers.{active_of}
 use Rattle.initiator.specs.Received.{BufferPairValue, AreReceived}
 use Rattle.initiator.proofs.ReceivedRows.{quiet, received_goes_on}

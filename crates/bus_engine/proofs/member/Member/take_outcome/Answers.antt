@@ -1,8 +1,8 @@
 use Rattle.std.proofs.Common.{◌∙◌}
 use Rattle.std.proofs.lemmas.Bool.{eq-eqb}
 use Rattle.due_model.specs.RunSteps.{run_state}
-use Rattle.initiator.specs.Endings.{end_at}
-use Rattle.initiator.specs.Openings.{mine_at}
+use Rattle.initiator.specs.initiator_books.specs.Endings.{end_at}
+use Rattle.initiator.specs.initiator_books.specs.Openings.{mine_at}
 use Rattle.initiator.specs.Outcomes.{is_sense_over}
 use Rattle.bus_engine.proofs.HeldAnswers.{outcome_is}
 use Rattle.bus_engine.proofs.Overs.{initiator_over, target_over, taken_is_answered, host_goes_on, no_initiator}

@@ -4,7 +4,7 @@ use Rattle.story_model.specs.BusState.{row_reading}
 use Rattle.due_model.specs.RunSteps.{run_state}
 use Rattle.due_model.specs.Telling.{initiator_events}
 use Rattle.initiator.specs.Hosts.{HostValue, IsHostAfter}
-use Rattle.initiator.specs.OwnLinks.{own_link}
+use Rattle.initiator_books.specs.OwnLinks.{own_link}
 use Rattle.initiator.specs.States.{IsOwnConnection}
 use Rattle.initiator.proofs.host.Host.completion.Goals as goal
 

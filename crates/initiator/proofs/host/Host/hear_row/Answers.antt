@@ -1,6 +1,6 @@
 use Rattle.std.proofs.Common.{ℕ, ◌∷◌, ◌∙◌, sym, subst}
 use Rattle.initiator.specs.Hosts.{HostValue, IsHostAfter}
-use Rattle.initiator.specs.Negotiations.{aims_at_process}
+use Rattle.initiator_books.specs.Intents.{aims_at_process}
 use Rattle.initiator.specs.Received.{AreReceived}
 use Rattle.initiator.specs.Speeches.{IsOpeningOf}
 use Rattle.initiator.proofs.host.Host.hear_row.Goals as goal

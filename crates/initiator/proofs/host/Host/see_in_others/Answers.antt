@@ -5,7 +5,7 @@ use Rattle.due_model.specs.dialogue_model.specs.Hearing.{hearing}
 use Rattle.initiator.specs.Hosts.{HostValue, IsHostAfter}
 use Rattle.initiator.proofs.Hosts.{is_initiator}
 use Rattle.initiator.proofs.Still.{linked_goes_on, still_heard, others_tell_nothing}
-use Rattle.scsi_device.proofs.OwnRows.{others_rows}
+use Rattle.initiator_books.specs.scsi_device.proofs.OwnRows.{others_rows}
 use Rattle.initiator.proofs.host.Host.see_in_others.Goals as goal
 
 pub returns-clause-trace : goal.returns-clause-trace

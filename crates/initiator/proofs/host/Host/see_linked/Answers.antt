@@ -1,7 +1,7 @@
 use Rattle.std.proofs.Common.{◌≡◌, ◌∷◌, ◌∙◌, sym, subst}
-use Rattle.scsi_device.specs.Itself.{ItselfValue, IsItselfOf}
+use Rattle.initiator_books.specs.scsi_device.specs.Itself.{ItselfValue, IsItselfOf}
 use Rattle.initiator.specs.Hosts.{HostValue, HasHeard}
-use Rattle.initiator.specs.Intents.{IntentValue, IsIntentOf}
+use Rattle.initiator_books.specs.Intents.{IntentValue, IsIntentOf}
 use Rattle.initiator.proofs.Hosts.{is_initiator}
 use Rattle.initiator.proofs.Still.{linked_goes_on}
 use Rattle.initiator.proofs.host.Host.see_linked.Goals as goal

@@ -2,15 +2,15 @@ use Rattle.std.proofs.Common.{ℕ, ◌≡◌, ◌∷◌, ◌∙◌, ap, sym, sub
 use Rattle.std.specs.Prelude.{take}
 use Rattle.due_model.specs.RunSteps.{run_state}
 use Rattle.story_model.specs.TraceHistory.{aim_of}
-use Rattle.scsi_device.specs.Itself.{ItselfValue, IsItselfOf}
-use Rattle.initiator.specs.declared.endings.CommandEnd.{CommandEnd}
-use Rattle.initiator.specs.declared.mine.OwnItem.{OwnItem}
+use Rattle.initiator_books.specs.scsi_device.specs.Itself.{ItselfValue, IsItselfOf}
+use Rattle.initiator_books.specs.declared.endings.CommandEnd.{CommandEnd}
+use Rattle.initiator_books.specs.declared.mine.OwnItem.{OwnItem}
 use Rattle.scenario.specs.declared.value.HostDef.{HostDef}
-use Rattle.initiator.specs.Books.{item_if, my_book}
-use Rattle.initiator.specs.Commands.{all_past}
-use Rattle.initiator.specs.Endings.{AreEndingsOf}
+use Rattle.initiator_books.specs.Books.{item_if, my_book}
+use Rattle.initiator_books.specs.Commands.{all_past}
+use Rattle.initiator_books.specs.Endings.{AreEndingsOf}
 use Rattle.initiator.specs.Hosts.{HostValue, IsHostAfter, HasHeard}
-use Rattle.initiator.specs.Intents.{IntentValue, IsIntentOf}
+use Rattle.initiator_books.specs.Intents.{IntentValue, IsIntentOf}
 use Rattle.initiator.proofs.Hosts.{is_initiator, host_goes_on}
 use Rattle.initiator.proofs.host.Host.see_news.Goals as goal
 

@@ -1,9 +1,0 @@
-use Rattle.std.specs.Prelude.{◌≡◌, ◌≤◌, drop, length}
-use Rattle.initiator.specs.Wishes.{book_after_events}
-use Rattle.initiator.proofs.book.Book.see_all.Given as goal
-
-abbrev pub invariant-loop-left : goal.invariant-loop-left
-invariant-loop-left l = (l.self ≡ book_after_events l.initial.self (drop l.left l.shown)) × (l.left ≤ length l.shown)
-
-abbrev pub decreases-loop-left : goal.decreases-loop-left
-decreases-loop-left l = l.left

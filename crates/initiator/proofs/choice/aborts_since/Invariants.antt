@@ -1,7 +1,0 @@
-use Rattle.std.specs.Prelude.{◌≡◌, drop}
-use Rattle.reaction_model.specs.Reactions.{sooner_time}
-use Rattle.initiator.specs.Mines.{my_aborts_since}
-use Rattle.initiator.proofs.choice.aborts_since.Given as goal
-
-abbrev pub invariant-loop-abort : goal.invariant-loop-abort
-invariant-loop-abort l = sooner_time l.since (my_aborts_since (drop l.abort-index l.aborts)) ≡ my_aborts_since l.aborts

@@ -1,9 +1,0 @@
-use Rattle.std.specs.Prelude.{◌≡◌, ◌++◌, map, take, drop}
-use Rattle.initiator.specs.declared.mine.MyAbort.{MyAbort}
-use Rattle.initiator.specs.Books.{abort_tried_at}
-use Rattle.initiator.proofs.marks.all_aborts_tried.Given as goal
-
-abbrev pub invariant-loop-abort : goal.invariant-loop-abort
-invariant-loop-abort l = l.aborts
-    ≡ map (λ (m : MyAbort). abort_tried_at l.number m) (take l.abort-index l.initial.aborts)
-    ++ drop l.abort-index l.initial.aborts

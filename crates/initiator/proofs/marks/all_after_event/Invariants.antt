@@ -1,8 +1,0 @@
-use Rattle.std.specs.Prelude.{◌≡◌, ◌++◌, map, take, drop}
-use Rattle.initiator.specs.declared.mine.Mine.{Mine}
-use Rattle.initiator.specs.Mines.{mine_after_event}
-use Rattle.initiator.proofs.marks.all_after_event.Given as goal
-
-abbrev pub invariant-loop-mine : goal.invariant-loop-mine
-invariant-loop-mine l = l.mines ≡ map (λ (m : Mine). mine_after_event l.event m) (take l.mine-index l.initial.mines)
-    ++ drop l.mine-index l.initial.mines

@@ -1,8 +1,0 @@
-use Rattle.std.specs.Prelude.{◌≡◌, ◌++◌, map, take, drop}
-use Rattle.initiator.specs.declared.mine.MyAbort.{MyAbort}
-use Rattle.initiator.specs.Books.{done_at}
-use Rattle.initiator.proofs.marks.all_done.Given as goal
-
-abbrev pub invariant-loop-abort : goal.invariant-loop-abort
-invariant-loop-abort l = l.aborts ≡ map (λ (m : MyAbort). done_at l.number m) (take l.abort-index l.initial.aborts)
-    ++ drop l.abort-index l.initial.aborts

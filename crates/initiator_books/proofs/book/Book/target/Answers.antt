@@ -1,0 +1,15 @@
+use Rattle.std.proofs.Common.{◌∙◌, ap, sym}
+use Rattle.initiator_books.specs.Books.{BookValue}
+use Rattle.initiator_books.specs.Wishes.{target_in}
+use Rattle.initiator_books.proofs.OwnCommands.{target_if, target_told}
+use Rattle.initiator_books.proofs.book.Book.target.Goals as goal
+
+pub returns-in-None : goal.returns-in-None
+returns-in-None c =
+    (λ i. target_if (c.in-None.ensures.value i)) ∙ sym (target_told c.self.inside.commands.mines c.args.number)
+    ∙ ap (λ (v : BookValue). target_in v.mines c.args.number) c.self.view_is
+
+pub returns-in-Some : goal.returns-in-Some
+returns-in-Some c =
+    (λ i. target_if (c.in-Some.ensures.value i)) ∙ sym (target_told c.self.inside.commands.mines c.args.number)
+    ∙ ap (λ (v : BookValue). target_in v.mines c.args.number) c.self.view_is

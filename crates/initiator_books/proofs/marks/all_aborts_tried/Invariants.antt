@@ -1,0 +1,9 @@
+use Rattle.std.specs.Prelude.{◌≡◌, ◌++◌, map, take, drop}
+use Rattle.initiator_books.specs.declared.mine.MyAbort.{MyAbort}
+use Rattle.initiator_books.specs.Books.{abort_tried_at}
+use Rattle.initiator_books.proofs.marks.all_aborts_tried.Given as goal
+
+abbrev pub invariant-loop-abort : goal.invariant-loop-abort
+invariant-loop-abort l = l.aborts
+    ≡ map (λ (m : MyAbort). abort_tried_at l.number m) (take l.abort-index l.initial.aborts)
+    ++ drop l.abort-index l.initial.aborts
