@@ -93,6 +93,7 @@ planned d u p r c k q fits h = record {
       let t = h.told s rows n f able sources replies ends own calm from in
       record { state = t.state; outlook = t.outlook };
   count = h.count;
+  taken = h.taken;
   serving = λ given i. record (h.serving given i) { plan = q };
   fits = fits;
 }

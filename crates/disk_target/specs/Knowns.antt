@@ -23,7 +23,7 @@ use Rattle.target_course.specs.Servings.{serving_with}
 use Rattle.target_course.specs.Shown.{shown_list}
 use Rattle.target_course.specs.States.{IsOwnConnection}
 use Rattle.target_course.specs.declared.course.Name.{Name}
-use Rattle.target_course.specs.target_units.specs.Units.{UnitsState, AreUnitsOf, reply_at, unit_in}
+use Rattle.target_course.specs.target_units.specs.Units.{UnitsState, AreUnitsOf, reply_at, taken_by, unit_in}
 use Rattle.disk_target.specs.declared.known.Known.{Known}
 use Rattle.disk_target.specs.declared.turn.Turn.{Turn}
 use Rattle.disk_target.specs.Targets.{IsServable}
@@ -49,6 +49,7 @@ pub record IsKnownBy (d : TargetDef) (units : UnitsState) (progress : ProgressVa
       → ((p : Process) → process_served s (run_state s rows) ≡ Some p → HasEnds n p) → IsOwnConnection rows d.dev n
       → (bus rows).rst ≡ false → n.initiator ≡ k.from → AreToldOf s rows c k.state
   pub count : k.state.plan.in_len ≡ length (reply_at (unit_in units.units k.unit) k.from c.block).bytes
+  pub taken : k.state.plan.out_len ≡ taken_by (unit_in units.units k.unit) k.from c.block
   pub serving : (given : List ℕ) → serving_with k.serving given ≡ serving_by d c k.state given
   pub fits : AreFit k.serving.plan.messages
 

@@ -12,11 +12,12 @@ use Rattle.scenario.specs.declared.value.TargetDef.{TargetDef}
 use Rattle.scenario.specs.Needs.{is_write}
 use Rattle.scenario.specs.Value.{ScenarioValue}
 use Rattle.array_model.specs.Processes.{Process}
+use Rattle.array_model.specs.Seats.{context_of, seat_of}
 use Rattle.due_model.specs.dialogue_model.specs.declared.exchange.Hearing.{Hearing}
 use Rattle.due_model.specs.dialogue_model.specs.Hearing.{begun, hearing}
 use Rattle.due_model.specs.dialogue_model.specs.NextPhase.{leaving_by, phase_of}
 use Rattle.due_model.specs.Plain.{AreOfDevices}
-use Rattle.due_model.specs.RunState.{process_served}
+use Rattle.due_model.specs.RunState.{array_of, process_served}
 use Rattle.due_model.specs.RunSteps.{run_state, events_of_row}
 use Rattle.due_model.specs.Tasks.{given_of}
 use Rattle.target_course.specs.scsi_device.specs.Heard.{is_opening_in}
@@ -30,6 +31,7 @@ use Rattle.target_course.specs.Replies.{IsOutlookAt}
 use Rattle.target_course.specs.Shown.{shown_list}
 use Rattle.target_course.specs.States.{IsOwnConnection}
 use Rattle.target_course.specs.declared.course.ProcessState.{ProcessState}
+use Rattle.target_course.specs.target_units.specs.Seated.{taken_in}
 use Rattle.disk_target.specs.declared.turn.Abort.{Abort}
 use Rattle.disk_target.specs.declared.turn.Sent.{Sent}
 use Rattle.disk_target.specs.declared.turn.Turn.{Turn}
@@ -91,6 +93,8 @@ pub record IsTurnIn (s : ScenarioValue) (rows : List Row) (row : Row) (d : Targe
   pub unit_is : (p : Process) → process_served s (run_state s rows) ≡ Some p → c.named ≡ Some (name_of p)
       → t.unit ≡ p.unit
   pub plan_is : t.plan ≡ state.plan
+  pub taken : (p : Process) → process_served s (run_state s rows) ≡ Some p → c.named ≡ Some (name_of p) → t.plan.out_len
+      ≡ taken_in (context_of (seat_of (array_of s (run_state s rows)) p.target p.unit) p.initiator) c.block
 
 abbrev pub IsTurnIf : ScenarioValue → List Row → Row → TargetDef → Option CourseState → Turn → Type 0
 IsTurnIf s rows row d None t = (n : Connection) → IsOwnConnection rows d.dev n → (bus rows).rst ≡ true

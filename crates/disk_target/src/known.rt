@@ -11,7 +11,7 @@ ghost use Rattle.target_course.specs.Courses.{IsStateOf, IsOutlookOf};
 ghost use Rattle.target_course.specs.Progress.{is_phase_left};
 ghost use Rattle.target_course.specs.Shown.{shown_list};
 ghost use Rattle.target_course.specs.target_units.specs.Seated.{reply_told};
-ghost use Rattle.target_course.specs.target_units.specs.Units.{reply_at, unit_in};
+ghost use Rattle.target_course.specs.target_units.specs.Units.{reply_at, taken_by, unit_in};
 ghost use Rattle.disk_target.specs.Knowns.{AreSourcesOf, IsKnownBy, IsKnownIf, IsQuiet, IsStill, hears_message, knows_command, refreshed};
 
 use crate::bytes::{status_in, unit_named};
@@ -62,6 +62,7 @@ fn state_of(
         → is_initiator s.hosts from ≡ true → p.target ≡ d.dev → p.unit ≡ unit → p.initiator ≡ from
         → p.cdb ≡ course.now.block → process_of s p.id ≡ Some p → IsOutlookOf s (run_state s rows) p result }
     ensures count { result.plan.in_len ≡ length (reply_at (unit_in units.now.units unit) from course.now.block).bytes }
+    ensures taken { result.plan.out_len ≡ taken_by (unit_in units.now.units unit) from course.now.block }
 {
     let counts = progress.counts(course.id());
     let size = units.block_size(unit) as u64;

@@ -1,6 +1,6 @@
 -- What a unit tells is what its seat has.
-use Rattle.std.proofs.Common.{ℕ, ◌≡◌, ◌<◌, ◌+◌, ◌-◌, ◌^◌, ◌∙◌, Bool, true, false, List, [], refl, sym, length, take}
-use Rattle.std.proofs.Common.{min, Option, Some, None, drop, ◌≤◌}
+use Rattle.std.proofs.Common.{ℕ, ◌≡◌, ◌<◌, ◌+◌, ◌-◌, ◌*◌, ◌^◌, ◌∙◌, Bool, true, false, List, [], refl, sym, length}
+use Rattle.std.proofs.Common.{take, min, Option, Some, None, drop, ◌≤◌}
 use Rattle.std.specs.Prelude.{if◌then◌else◌, ◌&&◌, ◌==◌, not, nat_lt, is_some, slice_index_or}
 use Rattle.std.proofs.Math.Nat.{min-eq_left}
 use Rattle.std.proofs.lemmas.List.{length-take}
@@ -13,14 +13,14 @@ use Rattle.cdb_codec.specs.Replies.{sense_data}
 use Rattle.scenario.specs.declared.value.HostDef.{HostDef}
 use Rattle.array_model.specs.Contents.{Contents}
 use Rattle.array_model.specs.Execution.{Reply, execution, check_condition, is_request_sense, heeds_attention, no_sense}
-use Rattle.array_model.specs.Execution.{returned_sense}
+use Rattle.array_model.specs.Execution.{CommandContext, needs_unit, returned_sense}
 use Rattle.array_model.specs.Units.{RunningProcess, UnitState, has_no_current}
 use Rattle.array_model.specs.Steps.{process_count, running_count}
 use Rattle.array_model.specs.Seats.{Seat}
 use Rattle.due_model.specs.dialogue_model.specs.Wants.{ready_in}
 use Rattle.tag_queue.specs.Queue.{is_held}
 use Rattle.disk_unit.specs.Books.{UnitBooks, sense_or_none}
-use Rattle.disk_unit.specs.Disk.{disk_reply, disk_context, taken_now}
+use Rattle.disk_unit.specs.Disk.{blocks_written, disk_reply, disk_context, taken_now}
 use Rattle.disk_unit.specs.LiveCommands.{LiveCommand, HasLive, IsCurrentOf, queued_of}
 use Rattle.disk_unit.specs.Plans.{plan_of}
 use Rattle.disk_unit.specs.Units.{is_reported, reply_with, plan_for}
@@ -30,8 +30,9 @@ use Rattle.disk_unit.proofs.LiveCommands.{entry_found, block_found, room_is}
 use Rattle.target_units.specs.Readies.{ready_unit}
 use Rattle.target_units.specs.Seated.{SeatedState, IsAtSeat, IsSince, seated_context, running_entry, running_block}
 use Rattle.target_units.specs.Seated.{current_reply, entry_under, current_entry, block_under, ready_by_entry, room_by}
-use Rattle.target_units.specs.Seated.{room_at}
+use Rattle.target_units.specs.Seated.{room_at, taken_in}
 use Rattle.disk_unit.proofs.Replies.{take_part}
+use Rattle.array_model.proofs.Executed.{absent_executed, reported_executed}
 use Rattle.array_model.proofs.OperationCodes.{heeds_none}
 use Rattle.array_model.proofs.ExecutionFacts.{IsSenseBlock, sense_block_of, sense_executed, sent_apart}
 use Rattle.array_model.specs.Seats
@@ -171,11 +172,9 @@ sense_plan c stored attention cdb out f = (λ i. plan_of (unchanged attention cd
 
 pub planned : (c : Contents) (stored attention : Option Sense) (cdb : List ℕ) (taken : ℕ) (plan : Plan)
     → plan ≡ plan_for attention cdb (disk_reply c cdb) taken
-    → plan ≡ plan_of (execution (unit_context c stored attention) cdb []).reply plan.out_len
-planned c stored attention cdb taken plan h =
-    h
-    ∙ go (is_request_sense (command_of cdb)) refl
-    ∙ (λ i. plan_of (execution (unit_context c stored attention) cdb []).reply (sym h i).out_len)
+    → plan ≡ plan_of (execution (unit_context c stored attention) cdb []).reply
+    (if is_reported attention cdb then 0 else taken)
+planned c stored attention cdb taken plan h = h ∙ go (is_request_sense (command_of cdb)) refl
   where
     out : ℕ
     out = if is_reported attention cdb then 0 else taken
@@ -203,13 +202,17 @@ context_is hosts seat time v from lt host h = (λ i. record {
 
 pub plan_seen :
     (hosts : List HostDef) (seat : Seat) (time : ℕ) (v : SeatedState) (from : ℕ) (cdb sent : List ℕ) (plan : Plan)
-    → from < 8 → plan ≡ plan_of (execution (seated_context v from) cdb []).reply plan.out_len
+    → from < 8
+    → plan ≡ plan_of (execution (seated_context v from) cdb []).reply (taken_in (seated_context v from) cdb)
     → IsAtSeat hosts seat time v → Seats.is_initiator hosts from ≡ true
-    → plan ≡ plan_of (execution (Seats.context_of seat from) cdb sent).reply plan.out_len
+    → plan ≡ plan_of (execution (Seats.context_of seat from) cdb sent).reply (taken_in (Seats.context_of seat from) cdb)
 plan_seen hosts seat time v from cdb sent plan lt e h host =
+    let same : seated_context v from ≡ Seats.context_of seat from = sym
+    (context_is hosts seat time v from lt host h) in
     e
-    ∙ (λ i. plan_of (execution (sym (context_is hosts seat time v from lt host h) i) cdb []).reply plan.out_len)
-    ∙ (λ i. plan_of (sent_apart (Seats.context_of seat from) cdb [] sent i) plan.out_len)
+    ∙ (λ i. plan_of (execution (same i) cdb []).reply (taken_in (same i) cdb))
+    ∙ (λ i. plan_of (sent_apart (Seats.context_of seat from) cdb [] sent i)
+    (taken_in (Seats.context_of seat from) cdb))
 
 -- One that would report an attention would not end GOOD.
 pub reported_bad : (attention : Option Sense) (cdb : List ℕ) (reply : Reply) → is_reported attention cdb ≡ true
@@ -219,20 +222,40 @@ reported_bad (Some a) cdb reply f e =
     let bad : CHECK_CONDITION ≡ GOOD = (λ i. (if sym f i then check_condition a else reply).status) ∙ e in
     omega (arith, bad)
 
--- What it would take, where it would end GOOD.
-pub taken_seen : (c : Contents) (attention : Option Sense) (cdb : List ℕ) (plan : Plan)
-    → plan ≡ plan_for attention cdb (disk_reply c cdb) (taken_now c cdb) → plan.status ≡ GOOD
-    → plan.out_len ≡ taken_now c cdb
-taken_seen c attention cdb plan h good = go (is_reported attention cdb) refl
+-- One that reports an attention does not end GOOD.
+reported_fails : (m : CommandContext) (cdb sent : List ℕ) (attention : Option Sense) → m.attention ≡ attention
+    → is_reported attention cdb ≡ true → (execution m cdb sent).reply.status ≡ GOOD → ⊥
+reported_fails m cdb sent None e f good = cc
+reported_fails m cdb sent (Some a) e f good = go (not m.present && needs_unit cdb) refl
   where
-    go : (y : Bool) → is_reported attention cdb ≡ y → plan.out_len ≡ taken_now c cdb
-    go true f = absurd (reported_bad attention cdb (disk_reply c cdb) f ((λ i. (sym h i).status) ∙ good))
-    go false f = (λ i. (h i).out_len) ∙ (λ i. if f i then 0 else taken_now c cdb)
+    go : (y : Bool) → (not m.present && needs_unit cdb) ≡ y → ⊥
+    go true k =
+        let bad : CHECK_CONDITION ≡ GOOD = (λ i. (sym (absent_executed m cdb sent k) i).reply.status) ∙ good in
+        omega (arith, bad)
+    go false k =
+        let bad : CHECK_CONDITION ≡ GOOD = (λ i. (sym (reported_executed m cdb sent a k e f) i).reply.status) ∙ good in
+        omega (arith, bad)
 
-pub contents_seen : (hosts : List HostDef) (seat : Seat) (time : ℕ) (v : SeatedState) → IsAtSeat hosts seat time v
-    → v.contents ≡ Seats.contents_of seat.unit
-contents_seen hosts seat time v h =
-    sym h.2.kept.contents ∙ (λ i. Seats.contents_of (sym h.2.kept.there i))
+-- What it takes, where it would end GOOD.
+pub taken_good : (m : CommandContext) (cdb sent : List ℕ) → (execution m cdb sent).reply.status ≡ GOOD
+    → taken_in m cdb ≡ taken_now m.contents cdb
+taken_good m cdb sent good = go (is_reported m.attention cdb) refl
+  where
+    go : (y : Bool) → is_reported m.attention cdb ≡ y → taken_in m cdb ≡ taken_now m.contents cdb
+    go true f = absurd (reported_fails m cdb sent m.attention refl f good)
+    go false f = λ i. if f i then 0 else taken_now m.contents cdb
+
+-- At a unit that is not there nothing is taken.
+pub none_taken : (seat : Seat) (from : ℕ) (cdb : List ℕ) → seat.unit ≡ None
+    → 0 ≡ taken_in (Seats.context_of seat from) cdb
+none_taken seat from cdb none = go (is_reported (seat.attentions from) cdb)
+  where
+    nothing : 0 ≡ blocks_written 0 (command_of cdb) * 0
+    nothing = omega arith
+
+    go : (y : Bool) → 0 ≡ (if y then 0 else taken_now (Seats.contents_of seat.unit) cdb)
+    go true = refl
+    go false = nothing ∙ (λ i. taken_now (Seats.contents_of (sym none i)) cdb)
 
 -- ---- the bytes that it would give
 

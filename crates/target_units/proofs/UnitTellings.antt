@@ -1,6 +1,7 @@
 -- What the units of a target tell is what the array has.
-use Rattle.std.proofs.Common.{ℕ, ◌≡◌, ◌+◌, Bool, true, false, List, [], ◌∷◌, ◌∙◌, refl, sym, Option, Some, None}
+use Rattle.std.proofs.Common.{ℕ, ◌≡◌, ◌<◌, ◌+◌, Bool, true, false, List, [], ◌∷◌, ◌∙◌, refl, sym, Option, Some, None}
 use Rattle.std.specs.Prelude.{if◌then◌else◌, is_some}
+use Rattle.scenario.specs.declared.value.HostDef.{HostDef}
 use Rattle.scenario.specs.Value.{ScenarioValue}
 use Rattle.array_model.specs.Execution.{execution}
 use Rattle.array_model.specs.Processes.{Process}
@@ -13,8 +14,11 @@ use Rattle.due_model.specs.dialogue_model.specs.Wants as wants
 use Rattle.due_model.specs.Wants as due
 use Rattle.due_model.specs.Tasks.{room_of, size_of, reply_now}
 use Rattle.target_units.specs.Readies.{ready_unit}
-use Rattle.target_units.specs.Seated.{room_at}
-use Rattle.target_units.specs.Units.{room_if, first_unit, is_before}
+use Rattle.target_units.specs.declared.logical.LogicalUnit.{LogicalUnit}
+use Rattle.target_units.specs.declared.logical.LogicalUnit.TheVariants as kinds
+use Rattle.target_units.specs.Seated.{room_at, taken_in}
+use Rattle.target_units.specs.Units.{IsUnitOf, room_if, first_unit, is_before, taken_by}
+use Rattle.target_units.proofs.Tellings.{context_is, none_taken}
 use Rattle.array_model.proofs.SeatSteps.{held_at}
 use Rattle.array_model.proofs.SeatLookups.{found_target, found_unit}
 use Rattle.array_model.proofs.SeatOwn.{own_found}
@@ -122,3 +126,11 @@ pub reply_same : (a : Array) (dev n from : ℕ) (cdb : List ℕ) (p : Process)
 reply_same a dev n from cdb p target unit initiator block = (λ i.
     (execution (Seats.context_of (seat_of a (sym target i) (sym unit i)) (sym initiator i)) (sym block i) p.sent).reply)
     ∙ (λ i. (execution (sym (context_same a p.target p.unit p.initiator) i) p.cdb p.sent).reply)
+
+-- What a command would take.
+pub taken_seen : (hosts : List HostDef) (seat : Seat) (time : ℕ) (u : LogicalUnit) (from : ℕ) (cdb : List ℕ)
+    → from < 8 → Seats.is_initiator hosts from ≡ true → IsUnitOf hosts seat time u
+    → taken_by u from cdb ≡ taken_in (Seats.context_of seat from) cdb
+taken_seen hosts seat time (kinds.There v) from cdb lt host h =
+    λ i. taken_in (sym (context_is hosts seat time v from lt host h) i) cdb
+taken_seen hosts seat time (kinds.Absent v) from cdb lt host h = none_taken seat from cdb h.none

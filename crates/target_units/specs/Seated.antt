@@ -253,6 +253,11 @@ seated_context v from = record {
   attention = slice_index_or v.books.attentions from None;
 }
 
+-- How many bytes a command takes that meets this unit: those of the blocks that it writes, and none where it reports an
+-- attention in their place.
+abbrev pub taken_in : CommandContext → List ℕ → ℕ
+taken_in m cdb = if is_reported m.attention cdb then 0 else taken_now m.contents cdb
+
 abbrev pub entry_under : List Queued → Option ℕ → Option Entry
 entry_under arrived None = None
 entry_under arrived (Some key) = entry_at arrived key

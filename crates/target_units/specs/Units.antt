@@ -8,7 +8,8 @@ use Rattle.scenario.specs.declared.value.HostDef.{HostDef}
 use Rattle.scenario.specs.Lookups.{has_target, unit_of}
 use Rattle.scenario.specs.Value.{ScenarioValue}
 use Rattle.scsi_device.specs.Lines.{FitsBus}
-use Rattle.array_model.specs.Seats.{Seat, seat_of}
+use Rattle.array_model.specs.Processes.{Process}
+use Rattle.array_model.specs.Seats.{Seat, context_of, seat_of}
 use Rattle.array_model.specs.SoundArray.{HasSeats, IsSound}
 use Rattle.array_model.specs.Steps.{step}
 use Rattle.array_model.specs.Execution.{Reply, execution}
@@ -25,6 +26,7 @@ use Rattle.target_units.specs.declared.logical.LogicalUnit.TheVariants as kinds
 use Rattle.target_units.specs.Absent.{IsAbsentAt, nothing_kept, absent_reply}
 use Rattle.target_units.specs.Rooms.{AreOfLines, blocks_left_at}
 use Rattle.target_units.specs.Seated.{SeatedState, IsAtSeat, current_id, settled, with_books, room_at, seated_context}
+use Rattle.target_units.specs.Seated.{taken_in}
 
 pub record UnitsState : Type 0 where
   pub dev : ℕ
@@ -111,6 +113,14 @@ room_if held (Some u) = Some (room_at held u)
 abbrev pub reply_at : LogicalUnit → ℕ → List ℕ → Reply
 reply_at (kinds.There v) from cdb = (execution (seated_context v from) cdb []).reply
 reply_at (kinds.Absent v) from cdb = absent_reply v from cdb
+
+-- How many bytes it would take, here and at the unit of the array.
+abbrev pub taken_by : LogicalUnit → ℕ → List ℕ → ℕ
+taken_by (kinds.There v) from cdb = taken_in (seated_context v from) cdb
+taken_by (kinds.Absent v) from cdb = 0
+
+abbrev pub taken_of : Array → Process → ℕ
+taken_of a p = taken_in (context_of (seat_of a p.target p.unit) p.initiator) p.cdb
 
 -- No time of theirs is past the last one, with the seek time.
 abbrev pub AreEarly : Array → List ℕ → ℕ → ℕ → Type 0

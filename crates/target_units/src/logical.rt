@@ -2,7 +2,6 @@
 ghost use Rattle.std.specs.Prelude.{◌≡◌, ◌<◌, ◌≤◌, ◌+◌, ◌^◌, ℕ, Bool, true, List, length, Option, Some, None, is_some, take, drop, ◌==◌, ◌&&◌, IfOk};
 ghost use Rattle.std.specs.List.{find};
 ghost use Rattle.cdb_codec.specs.Cdb.{command_of};
-ghost use Rattle.cdb_codec.specs.declared.status.TheConstants.{GOOD};
 ghost use Rattle.scenario.specs.declared.value.HostDef.{HostDef};
 ghost use Rattle.scenario.specs.declared.value.UnitDef.{UnitDef as UnitLine};
 ghost use Rattle.scenario.specs.Lookups.{unit_of};
@@ -13,15 +12,15 @@ ghost use Rattle.array_model.specs.Processes.{Process};
 ghost use Rattle.array_model.specs.Units.{RunningProcess, guest_at, starting_array};
 ghost use Rattle.array_model.specs.Seats.{Seat, seat_of, settled_seat, seat_after_accept, seat_after_refuse, seat_after_run, seat_after_failure, seat_after_end, seat_after_loss, seat_after_aborted, current_of, running_at, context_of, contents_of, is_any_held, is_initiator};
 ghost use Rattle.due_model.specs.dialogue_model.specs.Wants.{ready_in};
-ghost use Rattle.disk_unit.specs.Disk.{cost_by, kind_of, taken_now};
+ghost use Rattle.disk_unit.specs.Disk.{cost_by, kind_of};
 ghost use Rattle.disk_unit.specs.Units.{told_of};
 ghost use Rattle.disk_unit.specs.Plans.{plan_of};
 ghost use Rattle.disk_unit.specs.declared.unit.Accepted.TheVariants as accepted;
-ghost use Rattle.target_units.specs.Seated.{seat_time, running_id, running_entry, running_block, current_reply, IsProcess, IsNew, HasSent, IsSensing};
+ghost use Rattle.target_units.specs.Seated.{seat_time, running_id, running_entry, running_block, current_reply, IsProcess, IsNew, HasSent, IsSensing, taken_in};
 ghost use Rattle.target_units.specs.Readies.{ready_unit};
 ghost use Rattle.target_units.specs.Rooms.{HasRoomFor};
 ghost use Rattle.target_units.specs.Fillings.{blocks_at};
-ghost use Rattle.target_units.specs.Units.{IsUnitOf, reply_at, room_if, spare_of, unit_after_reset, no_unit, contents_in, contents_handed};
+ghost use Rattle.target_units.specs.Units.{IsUnitOf, reply_at, taken_by, room_if, spare_of, unit_after_reset, no_unit, contents_in, contents_handed};
 
 use crate::absent::AbsentUnit;
 use crate::ready::Ready;
@@ -167,14 +166,11 @@ impl LogicalUnit {
     /// How a command of an initiator would end if it ran now, whether or not it has arrived.
     pub fn plan(&self, from: Dev, cdb: &[u8]) -> Plan
         requires device { from < 8 }
-        ensures exact { result ≡ plan_of (reply_at self.now from cdb.now) result.out_len }
+        ensures exact { result ≡ plan_of (reply_at self.now from cdb.now) (taken_by self.now from cdb.now) }
         ensures seat { (hosts : List HostDef) (seat : Seat) (time : ℕ) (sent : List ℕ)
             → IsUnitOf hosts seat time self.now → is_initiator hosts from ≡ true
-            → result ≡ plan_of (execution (context_of seat from) cdb.now sent).reply result.out_len }
-        ensures taken { (hosts : List HostDef) (seat : Seat) (time : ℕ) (sent : List ℕ)
-            → IsUnitOf hosts seat time self.now → is_initiator hosts from ≡ true
-            → (execution (context_of seat from) cdb.now sent).reply.status ≡ GOOD
-            → result.out_len ≡ taken_now (contents_of seat.unit) cdb.now }
+            → result ≡ plan_of (execution (context_of seat from) cdb.now sent).reply
+            (taken_in (context_of seat from) cdb.now) }
     {
         match self {
             LogicalUnit::There(seated) => seated.plan(from, cdb),

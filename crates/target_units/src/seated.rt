@@ -1,7 +1,6 @@
 //! A logical unit of a target, at its seat of the plain disk array.
 ghost use Rattle.std.specs.Prelude.{◌≡◌, ◌<◌, ◌≤◌, ◌+◌, ◌-◌, ◌*◌, ◌^◌, min, ◌&&◌, ◌==◌, [], slice_index_or, ℕ, Bool, true, false, List, length, Option, Some, None, is_some, if◌then◌else◌, IfSome, IfOk, nat_le, take, drop};
 ghost use Rattle.cdb_codec.specs.Cdb.{command_of};
-ghost use Rattle.cdb_codec.specs.declared.status.TheConstants.{GOOD as GOOD_STATUS};
 ghost use Rattle.scenario.specs.declared.value.HostDef.{HostDef};
 ghost use Rattle.array_model.specs.Execution.{Reply as ArrayReply, execution, heeds_attention, is_request_sense, queue_full, aborted_reply};
 ghost use Rattle.array_model.specs.Processes.{Process, same_id, same_bool};
@@ -18,7 +17,7 @@ ghost use Rattle.disk_unit.specs.declared.unit.Accepted.TheVariants as accepted;
 ghost use Rattle.target_units.specs.Fillings.{IsFresh, AreFilled, blocks_by_all as blocks_of_all};
 ghost use Rattle.scenario.specs.Value.{ScenarioValue};
 ghost use Rattle.target_units.specs.Rooms.{HasRoomFor};
-ghost use Rattle.target_units.specs.Seated.{SeatedState, IsAtSeat, seat_time, taken_at, running_id, running_entry, running_block, current_reply, current_id, is_same_process, reply_kept, since_after, settled, with_books, IsProcess, IsNew, IsArrived, can_run, IsRun, IsRunLive, HasSent, IsSensing, state_after_failure, state_after_end, state_after_loss, books_after_guest, IsCut, seated_context, current_entry, block_under, entry_from, ready_by_entry, room_by, room_at};
+ghost use Rattle.target_units.specs.Seated.{SeatedState, IsAtSeat, seat_time, taken_at, running_id, running_entry, running_block, current_reply, current_id, is_same_process, reply_kept, since_after, settled, with_books, IsProcess, IsNew, IsArrived, can_run, IsRun, IsRunLive, HasSent, IsSensing, state_after_failure, state_after_end, state_after_loss, books_after_guest, IsCut, seated_context, taken_in, current_entry, block_under, entry_from, ready_by_entry, room_by, room_at};
 
 use crate::fillings::{blocks_by_all, blocks_in_all, fill, fill_count};
 use crate::parts::{copy_part, is_sense};
@@ -579,14 +578,12 @@ impl SeatedUnit {
     /// How a command of an initiator would end if it ran now, whether or not it has arrived.
     pub fn plan(&self, from: Dev, cdb: &[u8]) -> Plan
         requires device { from < 8 }
-        ensures exact { result ≡ plan_of (execution (seated_context self.now from) cdb.now []).reply result.out_len }
+        ensures exact { result ≡ plan_of (execution (seated_context self.now from) cdb.now []).reply
+            (taken_in (seated_context self.now from) cdb.now) }
         ensures seat { (hosts : List HostDef) (seat : Seat) (time : ℕ) (sent : List ℕ)
             → IsAtSeat hosts seat time self.now → is_initiator hosts from ≡ true
-            → result ≡ plan_of (execution (context_of seat from) cdb.now sent).reply result.out_len }
-        ensures taken { (hosts : List HostDef) (seat : Seat) (time : ℕ) (sent : List ℕ)
-            → IsAtSeat hosts seat time self.now → is_initiator hosts from ≡ true
-            → (execution (context_of seat from) cdb.now sent).reply.status ≡ GOOD_STATUS
-            → result.out_len ≡ taken_now (contents_of seat.unit) cdb.now }
+            → result ≡ plan_of (execution (context_of seat from) cdb.now sent).reply
+            (taken_in (context_of seat from) cdb.now) }
     {
         self.plan_now(from, cdb)
     }

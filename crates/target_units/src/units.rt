@@ -21,7 +21,7 @@ ghost use Rattle.disk_unit.specs.Plans.{plan_of};
 ghost use Rattle.disk_unit.specs.Units.{told_of};
 ghost use Rattle.disk_unit.specs.declared.unit.Accepted.TheVariants as accepted;
 ghost use Rattle.target_units.specs.Seated.{IsProcess, IsNew, HasSent, IsSensing, running_id, running_entry, running_block, current_reply};
-ghost use Rattle.target_units.specs.Units.{IsUnitOf, AreUnitsOf, AreUnitsAfter, AreEarly, IsStep, unit_in, unit_after_reset, is_of_one, first_unit, reply_at, spare_of, no_unit, contents_in, contents_handed, state_contents, is_before as is_before_unit};
+ghost use Rattle.target_units.specs.Units.{IsUnitOf, AreUnitsOf, AreUnitsAfter, AreEarly, IsStep, unit_in, unit_after_reset, is_of_one, first_unit, reply_at, taken_by, taken_of, spare_of, no_unit, contents_in, contents_handed, state_contents, is_before as is_before_unit};
 ghost use Rattle.target_units.specs.Fillings.{blocks_at};
 ghost use Rattle.target_units.specs.Readies.{ready_unit};
 ghost use Rattle.due_model.specs.Wants.{ready_at, ready_among};
@@ -178,11 +178,12 @@ impl Units {
     pub fn plan(&self, unit: u8, from: Dev, cdb: &[u8]) -> Plan
         requires unit { unit < 8 }
         requires device { from < 8 }
-        ensures exact { result ≡ plan_of (reply_at (unit_in self.now.units unit) from cdb.now) result.out_len }
+        ensures exact { result ≡ plan_of (reply_at (unit_in self.now.units unit) from cdb.now)
+            (taken_by (unit_in self.now.units unit) from cdb.now) }
         ensures array { (s : ScenarioValue) (a : Array) (times : List ℕ) (p : Process)
             → AreUnitsOf s a times self.now.dev self.now.units → is_initiator s.hosts from ≡ true
             → p.target ≡ self.now.dev → p.unit ≡ unit → p.initiator ≡ from → p.cdb ≡ cdb.now
-            → result ≡ plan_of (reply_now a p) result.out_len }
+            → result ≡ plan_of (reply_now a p) (taken_of a p) }
         ensures taken { (s : ScenarioValue) (a : Array) (times : List ℕ) (p : Process)
             → AreUnitsOf s a times self.now.dev self.now.units → is_initiator s.hosts from ≡ true
             → p.target ≡ self.now.dev → p.unit ≡ unit → p.initiator ≡ from → p.cdb ≡ cdb.now

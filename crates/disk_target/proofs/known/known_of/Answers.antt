@@ -32,6 +32,7 @@ returns-clause-known c = record {
         (served_of s rows p is);
   };
   count = c.state_of-state.ensures.count;
+  taken = c.state_of-state.ensures.taken;
   serving = c.serving-serving.ensures.exact;
   fits = c.serving-serving.ensures.fits;
 }

@@ -9,6 +9,7 @@ use Rattle.due_model.specs.LastingState.{progress_in}
 use Rattle.due_model.specs.RunState.{array_of}
 use Rattle.due_model.specs.RunSteps.{run_state}
 use Rattle.due_model.specs.Tasks.{reply_now, room_of, size_of}
+use Rattle.disk_unit.specs.Plans.{plan_of}
 use Rattle.disk_target.specs.Bytes.{status_in}
 use Rattle.disk_target.proofs.Telling.{status_told}
 use Rattle.disk_target.proofs.known.state_of.Goals as goal
@@ -40,7 +41,7 @@ returns-clause-outlook c = λ s rows d p h host target unit from cdb is.
     let block = cdb ∙ sym c.block.ensures.value in
     let plan = c.plan-plan.ensures.array s a k.current_since p h.units_are host units unit from block in
     record {
-      plan = plan;
+      plan = plan ∙ (λ i. plan_of (reply_now a p) (sym plan i).out_len);
       sent = λ writes good.
           c.plan-plan.ensures.taken s a k.current_since p h.units_are host units unit from block is writes
           (eqb-true (reply_now a p).status GOOD ((λ i. (sym plan i).status == GOOD) ∙ good));

@@ -3,7 +3,7 @@ use Rattle.bus_base.specs.declared.Event.TheVariants as events
 use Rattle.bus_base.specs.declared.ProcId.{ProcId}
 use Rattle.array_model.specs.Seats.{seat_of, is_initiator}
 use Rattle.array_model.specs.Units.{guest_at}
-use Rattle.target_course.specs.target_units.specs.Units.{IsStep}
+use Rattle.target_course.specs.target_units.specs.Units.{IsStep, taken_of}
 use Rattle.disk_target.specs.declared.standing.Standing.{Standing}
 use Rattle.disk_target.specs.Standings.{IsServed, IsStanding, is_guest}
 use Rattle.disk_target.specs.Processes.{ProcessesState, AreProcessesAt}
@@ -24,6 +24,6 @@ returns-clause-array c = λ s a b times p served h stood block st.
     ProcessEvents.made s a b times c.args.now p n dev _ c.run.ensures.dev (c.run.ensures.guest s a b times p at.guest
     g.units k.own k.id_is (subst (λ (x : ProcId). guest_at (seat_of a dev n).guests x ≡ Some at.guest) k.id_is at.at)
     (ProcessEvents.guest_sense s a b p dev n it.reply st k.own at) step) (ProcessEvents.guest_ran s a
-    b p dev n c.plan-plan.result.out_len it.reply c.plan-plan.result c.planned_reply.result st k.own at
+    b p dev n (taken_of a p) it.reply c.plan-plan.result c.planned_reply.result st k.own at
     (c.plan-plan.ensures.array s a times p g.units (subst (λ (x : ℕ). is_initiator s.hosts x ≡ true) k.from_is k.host)
     k.own.target_is k.own.unit_is k.from_is block) c.planned_reply.ensures)

@@ -3,13 +3,19 @@ use Rattle.bus_trace.specs.declared.Row.{Row}
 use Rattle.bus_trace.specs.declared.connection.Connection.{Connection}
 use Rattle.std.specs.Prelude.{is_some}
 use Rattle.bus_trace.specs.Terms.{connection}
+use Rattle.std.proofs.lemmas.Bool.{eqb-true}
 use Rattle.array_model.specs.Processes.{Process}
+use Rattle.array_model.specs.Seats.{context_of, is_initiator, seat_of}
 use Rattle.array_model.specs.ArrayHistory.{shows_run}
 use Rattle.due_model.specs.dialogue_model.specs.NextPhase.{leaving_by}
-use Rattle.due_model.specs.RunState.{process_served}
+use Rattle.due_model.specs.RunState.{array_of, process_served}
 use Rattle.due_model.specs.RunSteps.{run_state}
 use Rattle.due_model.specs.Tasks.{given_of}
+use Rattle.due_model.specs.Wants.{since_of}
 use Rattle.target_course.specs.Courses.{CourseState, IsCourse, IsCourseOf, AreToldOf, events_of_target, name_of}
+use Rattle.target_course.specs.target_units.specs.Seated.{taken_in}
+use Rattle.target_course.specs.target_units.specs.Units.{unit_in}
+use Rattle.target_course.specs.target_units.proofs.UnitTellings.{taken_seen}
 use Rattle.disk_target.specs.Targets.{IsCourseIf}
 use Rattle.disk_target.specs.declared.turn.Turn.{Turn}
 use Rattle.disk_target.specs.Turns.{IsTurnIf, IsTurnIn, is_opening_by}
@@ -69,6 +75,21 @@ returns-clause-trace c = λ s rows row fits o devices tied time h own calm cours
       from_is = sym from;
       unit_is = unit;
       plan_is = refl;
+      taken = λ r is named.
+          let line = line_of_process s r.id r (λ m y e. c.scenarios_fit_the_bus.ensures.commands s m y fits e)
+          (served_of s rows r is) in
+          let ends = here.ends_are r is in
+          let a = array_of s (run_state s rows) in
+          let units = c.args.self.now.units in
+          let k = c.args.known.now in
+          let dev : units.dev ≡ r.target = h.units_dev ∙ sym (ends.target ∙ eqb-true n.target d.dev own.own) in
+          let number : k.unit ≡ r.unit = y.named (name_of r) named line.unit in
+          let host : k.from ≡ r.initiator = sym (ends.initiator ∙ from) in
+          y.taken
+          ∙ taken_seen s.hosts (seat_of a units.dev k.unit)
+          (since_of a.units (run_state s rows).current_since units.dev k.unit) (unit_in units.units k.unit) k.from
+          x.block y.device ((λ i. is_initiator s.hosts (host i)) ∙ line.host) (h.units_are.each k.unit y.unit)
+          ∙ (λ i. taken_in (context_of (seat_of a (dev i) (number i)) (host i)) x.block);
     } in
     record {
       course = subst (λ (y : Option CourseState). IsTurnIf s rows row d y it) (sym course_is) (λ m own' calm'. subst
