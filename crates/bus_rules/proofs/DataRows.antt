@@ -1073,10 +1073,18 @@ stands_is rows v k w h =
     }
 
 -- the test, by what it was asked
+pub passes_is : (rows : List Row) (row : Row) (t : Running)
+    → IsTermsOf rows t → (before after own next : LineSet) (passed : Bool)
+    → record { before = before; after = after; own = own; next = next } ≡ change_of rows row → passed ≡ passes
+    (standing_at (drives rows) t.view t.course) (record { before = before; after = after; own = own; next = next }) row
+    → passed ≡ passes (standing_after rows) (change_of rows row) row
+passes_is rows row t h before after own next passed ec ep =
+    ep ∙ (λ i. passes (stands_is rows t.view t.course h.view h.course i) (ec i) row)
+
 pub passing : (rows : List Row) (row : Row) (t : Running)
     → IsTermsOf rows t → (before after own next : LineSet) (passed : Bool)
     → record { before = before; after = after; own = own; next = next } ≡ change_of rows row → passed ≡ passes
     (standing_at (drives rows) t.view t.course) (record { before = before; after = after; own = own; next = next }) row
     → passed ≡ true → passes (standing_after rows) (change_of rows row) row ≡ true
 passing rows row t h before after own next passed ec ep e =
-    sym (λ i. passes (stands_is rows t.view t.course h.view h.course i) (ec i) row) ∙ (sym ep ∙ e)
+    sym (passes_is rows row t h before after own next passed ec ep) ∙ e

@@ -3,7 +3,7 @@
 //! Any words say some terms: what is out of range is cut to its range. What is saved and read back is the same. Rows
 //! are judged on the words as they stand: each reads and writes those that it needs, and no other form is made of
 //! them.
-ghost use Rattle.std.specs.Prelude.{true, ◌≡◌, ◌<◌, ◌∷◌, List};
+ghost use Rattle.std.specs.Prelude.{true, false, ◌≡◌, ◌<◌, ◌∷◌, List, None};
 ghost use Rattle.bus_trace.specs.declared.Row.{Row};
 ghost use Rattle.bus_trace.specs.Changes.{change_of};
 ghost use Rattle.bus_rules.specs.DataRows.{standing_after, passes};
@@ -181,14 +181,18 @@ impl SavedTerms {
         transfer_lines(&mut self.view, row, change.next, change.after);
     }
 
-    /// One row more: the lowest rule that it breaks. Its time may be any, also before that of the last row. Most rows
-    /// change few words.
+    /// One row more where it passes the short test, so that it breaks no rule, and whether it does. Most rows do, and
+    /// change few words. Any other changes nothing, and is for [`SavedTerms::judge`].
     #[inline(always)]
-    pub fn judge(&mut self, row: &Row) -> Option<RuleNo>
+    pub fn pass(&mut self, row: &Row) -> bool
         requires { row.now.dev < 8 }
-        ensures kept { (rows : List Row) → IsTermsOf rows (terms_in self.old)
+        ensures exact { (rows : List Row) → IsTermsOf rows (terms_in self.old)
+            → result ≡ passes (standing_after rows) (change_of rows row.now) row.now }
+        ensures kept { (rows : List Row) → IsTermsOf rows (terms_in self.old) → result ≡ true
             → IsTermsOf (row.now ∷ rows) (terms_in self.new) }
-        ensures broken { (rows : List Row) → IsTermsOf rows (terms_in self.old) → result ≡ broken_rule rows row.now }
+        ensures lawful { (rows : List Row) → IsTermsOf rows (terms_in self.old) → result ≡ true
+            → broken_rule rows row.now ≡ None }
+        ensures other { result ≡ false → self.new ≡ self.old }
     {
         let own = self.drives(row.dev);
         let next = row.kind.driven_after(own);
@@ -200,16 +204,14 @@ impl SavedTerms {
         };
         if passes(self, &change, row) {
             self.transfer(&change, row);
-            return None;
+            return true;
         }
-        // A copy, so that no row that passes has to stand in memory.
-        let row = *row;
-        self.judge_by_rules(&row)
+        false
     }
 
-    // The same with no short test before it.
+    /// One row more, by the rules: the lowest that it breaks. Its time may be any, also before that of the last row.
     #[inline(never)]
-    fn judge_by_rules(&mut self, row: &Row) -> Option<RuleNo>
+    pub fn judge(&mut self, row: &Row) -> Option<RuleNo>
         requires { row.now.dev < 8 }
         ensures kept { (rows : List Row) → IsTermsOf rows (terms_in self.old)
             → IsTermsOf (row.now ∷ rows) (terms_in self.new) }

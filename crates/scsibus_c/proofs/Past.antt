@@ -1,6 +1,6 @@
 -- The rows so far, as the judge sees them.
-use Rattle.std.proofs.Common.{ap, refl, ◌≡◌, ◌<◌, ◌≤◌, ◌+◌, ◌∙◌, ℕ, false, List, [], ◌∷◌, ◌++◌, None, length, get_or}
-use Rattle.std.proofs.Common.{take, reverse, map, arith}
+use Rattle.std.proofs.Common.{ap, refl, ◌≡◌, ◌<◌, ◌≤◌, ◌+◌, ◌∙◌, ℕ, Bool, true, false, not, List, [], ◌∷◌, ◌++◌, None}
+use Rattle.std.proofs.Common.{length, get_or, take, reverse, map, arith}
 use Rattle.std.specs.List.{position, position_or_len}
 use Rattle.std.proofs.lemmas.List.Sums.{fails_before_first}
 use Rattle.std.proofs.lemmas.Grind.{take_at_read, common_steps}
@@ -8,7 +8,7 @@ use Rattle.std.proofs.lemmas.Bool.Decides.{nat_tests}
 use Rattle.std.proofs.lemmas.List.{reverse-append, length-map, length-reverse, length-take-le, length-append}
 use Rattle.bus_trace.specs.declared.rows.Row.{Row}
 use Rattle.scsibus_c.specs.declared.rows.ScsibusRow.{ScsibusRow}
-use Rattle.scsibus_c.specs.Rows.{row_of, rows_after, is_off}
+use Rattle.scsibus_c.specs.Rows.{row_of, rows_after, is_row, is_off}
 
 -- one row more
 pub one_more
@@ -35,6 +35,12 @@ alone past [] d least below = absurd (omega arith)
 alone past (x ∷ []) d least below = refl
 alone past (x ∷ y ∷ xs) d least below = absurd (omega arith)
 
+pub none_alone : (xs : List ScsibusRow) (d : ScsibusRow) → 1 ≤ length xs → length xs < 2
+    → is_row (get_or xs 0 d) ≡ true → position is_off xs ≡ None
+none_alone [] d least below e = absurd (omega arith)
+none_alone (x ∷ []) d least below e = ap (λ (b : Bool). position (λ (y : ScsibusRow). not b) (x ∷ [])) e
+none_alone (x ∷ y ∷ xs) d least below e = absurd (omega arith)
+
 -- each of them is in range
 none_off : (xs : List ScsibusRow) (i : ℕ) (d : ScsibusRow) → position is_off xs ≡ None → i < length xs
     → is_off (get_or xs i d) ≡ false
@@ -42,7 +48,7 @@ none_off xs i d none h =
     let beyond : length xs ≤ position_or_len is_off xs = grind (arith, common_steps) in
     fails_before_first is_off xs i d (omega arith)
 
-of_device : (r : ScsibusRow) → is_off r ≡ false → r.dev < 8
+pub of_device : (r : ScsibusRow) → is_off r ≡ false → r.dev < 8
 of_device r e = grind (arith, nat_tests, common_steps)
 
 pub all_of_device : (xs : List ScsibusRow) (i : ℕ) (d : ScsibusRow) → position is_off xs ≡ None → i < length xs

@@ -1,15 +1,15 @@
 //! A judge in memory of the caller.
-ghost use Rattle.std.specs.Prelude.{◌≡◌, ◌≢◌, ◌<◌, ◌+◌, ◌^◌, None, [], List, length};
+ghost use Rattle.std.specs.Prelude.{true, false, ◌≡◌, ◌≢◌, ◌<◌, ◌+◌, ◌^◌, ◌∷◌, None, [], List, length};
 ghost use Rattle.std.specs.List.{position};
 ghost use Rattle.bus_trace.specs.declared.Row.{Row};
 ghost use Rattle.bus_rules.specs.Rules.{judged, judged_whole};
 ghost use Rattle.trace_checker.specs.Judging.{IsJudgeOf};
 ghost use Rattle.trace_checker.specs.Saved.{judge_in};
-ghost use Rattle.scsibus_c.specs.Rows.{is_off, rows_after, told, answer, off_at};
+ghost use Rattle.scsibus_c.specs.Rows.{is_off, row_of, rows_after, told, answer, off_at};
 ghost use Rattle.scsibus_c.specs.States.{IsStateOf, IsForeign, taken, foreign};
-ghost use Rattle.scsibus_c.specs.declared.judge.TheConstants.{SIZE, VERSION};
+ghost use Rattle.scsibus_c.specs.declared.judge.TheConstants.{FORM, SIZE, VERSION};
 
-use crate::rows::{ScsibusRow, ScsibusVerdict, first_off, row_of, told};
+use crate::rows::{ScsibusRow, ScsibusVerdict, first_off, is_row, row_of, told};
 use trace_checker::{Judge, SavedJudge};
 
 /// What a judge in memory of the caller begins with: the letters "scsibus" and the number of this form, so that other
@@ -65,7 +65,42 @@ fn take(judge: &mut Judge, rows: &[ScsibusRow])
     }
 }
 
-// A judge in words takes these rows there.
+// A judge in words takes this row there, where it passes the short test, as most rows of a long trace do; and whether
+// it does.
+#[inline(always)]
+fn pass(judge: &mut SavedJudge, row: &ScsibusRow) -> bool
+    requires { row.now.dev < 8 }
+    ensures kept { (past : List Row) → IsJudgeOf past (judge_in judge.old) → length past < 2 ^ 63 → result ≡ true
+        → IsJudgeOf (row_of row.now ∷ past) (judge_in judge.new) }
+    ensures other { result ≡ false → judge.new ≡ judge.old }
+{
+    row.kind == 0 && judge.pass(&row_of(row))
+}
+
+// It takes this row by the rules. A function of its own, so that no row that passes has to be kept for it.
+#[inline(never)]
+fn take_by_rules(judge: &mut SavedJudge, row: &ScsibusRow)
+    requires { row.now.dev < 8 }
+    ensures { (past : List Row) → IsJudgeOf past (judge_in judge.old) → length past < 2 ^ 63
+        → IsJudgeOf (row_of row.now ∷ past) (judge_in judge.new) }
+{
+    judge.feed(&row_of(row));
+}
+
+// It takes this row.
+#[inline(always)]
+fn take_one(judge: &mut SavedJudge, row: &ScsibusRow)
+    requires { row.now.dev < 8 }
+    ensures { (past : List Row) → IsJudgeOf past (judge_in judge.old) → length past < 2 ^ 63
+        → IsJudgeOf (row_of row.now ∷ past) (judge_in judge.new) }
+{
+    if pass(judge, row) {
+        return;
+    }
+    take_by_rules(judge, row);
+}
+
+// It takes these rows.
 #[inline(never)]
 fn take_few(judge: &mut SavedJudge, rows: &[ScsibusRow])
     requires { position is_off rows.now ≡ None }
@@ -73,7 +108,7 @@ fn take_few(judge: &mut SavedJudge, rows: &[ScsibusRow])
         → IsJudgeOf (rows_after past rows.now) (judge_in judge.new) }
 {
     for row in rows {
-        judge.feed(&row_of(row));
+        take_one(judge, row);
     }
 }
 
@@ -96,7 +131,8 @@ fn take_in_words(judge: &mut SavedJudge, rows: &[ScsibusRow])
         → IsJudgeOf (rows_after past rows.now) (judge_in judge.new) }
 {
     if let [row] = rows {
-        judge.feed(&row_of(row));
+        // One row alone that comes here did not pass.
+        take_by_rules(judge, row);
     } else if rows.len() <= FEW {
         take_few(judge, rows);
     } else {
@@ -137,13 +173,24 @@ pub extern "C" fn scsibus_judge_start(state: &mut ScsibusJudge)
     };
 }
 
-/// The judge takes these rows: the verdict on all rows so far. Where one of them is out of range it takes none.
-#[unsafe(no_mangle)]
-pub extern "C" fn scsibus_judge_feed(
-    state: &mut ScsibusJudge,
-    rows: &[ScsibusRow],
-    verdict: &mut ScsibusVerdict,
-)
+// One row a call is the usual: whether there is one alone, in range, that passes the short test. Then it is taken.
+#[inline(always)]
+fn pass_alone(state: &mut ScsibusJudge, rows: &[ScsibusRow]) -> bool
+    ensures form { result ≡ true → state.old.form ≡ FORM }
+    ensures in_range { result ≡ true → position is_off rows.now ≡ None }
+    ensures kept { (past : List Row) → IsStateOf past state.old → length past + length rows.now < 2 ^ 63 → result ≡ true
+        → IsStateOf (rows_after past rows.now) state.new }
+    ensures other { result ≡ false → state.new ≡ state.old }
+{
+    if let [row] = rows {
+        return state.form == FORM && is_row(row) && pass(&mut state.judge, row);
+    }
+    false
+}
+
+// The judge takes these rows, however many and of whatever kind.
+#[inline(never)]
+fn feed_any(state: &mut ScsibusJudge, rows: &[ScsibusRow], verdict: &mut ScsibusVerdict)
     ensures kept { (past : List Row) → IsStateOf past state.old → length past + length rows.now < 2 ^ 63
         → IsStateOf (taken (position is_off rows.now) past rows.now) state.new }
     ensures verdict { (past : List Row) → IsStateOf past state.old → length past + length rows.now < 2 ^ 63
@@ -160,6 +207,26 @@ pub extern "C" fn scsibus_judge_feed(
             take_in_words(&mut state.judge, rows);
             *verdict = told(state.judge.verdict());
         }
+    }
+}
+
+/// The judge takes these rows: the verdict on all rows so far. Where one of them is out of range it takes none.
+#[unsafe(no_mangle)]
+pub extern "C" fn scsibus_judge_feed(
+    state: &mut ScsibusJudge,
+    rows: &[ScsibusRow],
+    verdict: &mut ScsibusVerdict,
+)
+    ensures kept { (past : List Row) → IsStateOf past state.old → length past + length rows.now < 2 ^ 63
+        → IsStateOf (taken (position is_off rows.now) past rows.now) state.new }
+    ensures verdict { (past : List Row) → IsStateOf past state.old → length past + length rows.now < 2 ^ 63
+        → verdict.new ≡ answer (position is_off rows.now) (judged (rows_after past rows.now)) }
+    ensures foreign { IsForeign state.old → (state.new ≡ state.old) × (verdict.new ≡ foreign) }
+{
+    if pass_alone(state, rows) {
+        *verdict = told(state.judge.verdict());
+    } else {
+        feed_any(state, rows, verdict);
     }
 }
 

@@ -33,7 +33,8 @@ pub struct ScsibusVerdict {
     pub rule: u64,
 }
 
-fn is_row(row: &ScsibusRow) -> bool
+/// Whether a row is in range.
+pub fn is_row(row: &ScsibusRow) -> bool
     ensures { result ≡ is_row row.now }
 {
     let has_value = if row.kind == 0 {
@@ -50,7 +51,7 @@ pub fn first_off(rows: &[ScsibusRow]) -> Option<usize>
     ensures within { IfSome result (λ at. at < length rows.now) }
     ensures few { length rows.now < 2 ^ 63 }
 {
-    // One row a call is the usual.
+    // One row alone.
     if let [row] = rows {
         return if is_row(row) { None } else { Some(0) };
     }

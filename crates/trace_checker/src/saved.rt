@@ -1,8 +1,10 @@
 //! The judge as plain words, which can be copied, written to a file and read back. Any words say some judge.
 //!
 //! Rows are judged on these words as they stand.
-ghost use Rattle.std.specs.Prelude.{◌≡◌, ◌<◌, ◌∷◌, ◌^◌, List, length};
+ghost use Rattle.std.specs.Prelude.{true, false, ◌≡◌, ◌<◌, ◌∷◌, ◌^◌, List, length};
 ghost use Rattle.bus_trace.specs.declared.Row.{Row};
+ghost use Rattle.bus_trace.specs.Changes.{change_of};
+ghost use Rattle.bus_rules.specs.DataRows.{standing_after, passes};
 ghost use Rattle.bus_rules.specs.Rules.{judged};
 
 use crate::{Verdict, joined};
@@ -80,8 +82,25 @@ impl SavedJudge {
         self.verdict.get()
     }
 
-    /// Takes one row more. Most rows change few words, and need no other form of the judge.
+    /// Takes one row more where it passes the short test of `bus_rules`, so that it breaks no rule, and tells whether
+    /// it did. Most rows do. Any other changes nothing, and is for [`SavedJudge::feed`].
     #[inline(always)]
+    pub fn pass(&mut self, row: &Row) -> bool
+        requires { row.now.dev < 8 }
+        ensures exact { (rows : List Row) → IsJudgeOf rows (judge_in self.old)
+            → result ≡ passes (standing_after rows) (change_of rows row.now) row.now }
+        ensures kept { (rows : List Row) → IsJudgeOf rows (judge_in self.old) → length rows < 2 ^ 63 → result ≡ true
+            → IsJudgeOf (row.now ∷ rows) (judge_in self.new) }
+        ensures other { result ≡ false → self.new ≡ self.old }
+    {
+        if self.terms.pass(row) {
+            self.count = self.count.saturating_add(1);
+            return true;
+        }
+        false
+    }
+
+    /// Takes one row more, by the rules.
     pub fn feed(&mut self, row: &Row)
         requires { row.now.dev < 8 }
         ensures { (rows : List Row) → IsJudgeOf rows (judge_in self.old) → length rows < 2 ^ 63

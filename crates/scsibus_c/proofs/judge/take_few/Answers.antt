@@ -1,4 +1,4 @@
-use Rattle.std.proofs.Common.{◌≡◌, ◌<◌, ◌+◌, ◌∙◌, ◌∷◌, ap, ℕ, List, length, take, sym, subst, arith}
+use Rattle.std.proofs.Common.{◌≡◌, ◌<◌, ◌+◌, ℕ, List, length, take, sym, subst, arith}
 use Rattle.std.proofs.lemmas.List.{take_all}
 use Rattle.trace_checker.specs.Judging.{IsJudgeOf}
 use Rattle.trace_checker.specs.Saved.{judge_in}
@@ -8,9 +8,8 @@ use Rattle.scsibus_c.specs.Rows.{rows_after}
 use Rattle.scsibus_c.proofs.Past.{one_more, as_many_so_far, all_of_device}
 use Rattle.scsibus_c.proofs.judge.take_few.Goals as goal
 
-pub feed-requires : goal.feed-requires
-feed-requires c = subst (λ (r : Row). r.dev < 8) (sym c.row_of.ensures)
-    (all_of_device c.args.rows.now c.loop-row.row-index _ c.requires c.loop-row-test.true)
+pub take_one-requires : goal.take_one-requires
+take_one-requires c = all_of_device c.args.rows.now c.loop-row.row-index _ c.requires c.loop-row-test.true
 
 pub loop-row-preserved : goal.loop-row-preserved
 loop-row-preserved c = λ past is few.
@@ -19,9 +18,8 @@ loop-row-preserved c = λ past is few.
     let seen : List Row = rows_after past (take i xs) in
     let inside : i < length xs = c.loop-row-test.true in
     let many : length seen ≡ i + length past = as_many_so_far past xs i (omega arith) in
-    let kept = c.feed.ensures seen (c.loop-row.invariant past is few) (omega arith) in
-    subst (λ (ps : List Row). IsJudgeOf ps (judge_in c.feed.new.self))
-    (sym (one_more past xs i _ inside ∙ ap (λ (r : Row). r ∷ seen) (sym c.row_of.ensures))) kept
+    let kept = c.take_one.ensures seen (c.loop-row.invariant past is few) (omega arith) in
+    subst (λ (ps : List Row). IsJudgeOf ps (judge_in c.take_one.new.judge)) (sym (one_more past xs i _ inside)) kept
 
 pub returns : goal.returns
 returns c = λ past is few.

@@ -1,15 +1,9 @@
 use Rattle.std.proofs.Common.{◌≡◌, ◌+◌, ◌∙◌, false, refl, sym, ap, ℕ, length, arith}
 use Rattle.std.specs.Prelude.{Option, Some, None, is_some}
 use Rattle.std.proofs.lemmas.Grind.{common_steps}
-use Rattle.bus_rules.specs.declared.verdict.Verdict.{Verdict}
-use Rattle.bus_rules.specs.declared.verdict.Verdict.TheVariants.{Lawful, Broken}
 use Rattle.bus_rules.specs.Rules.{judged, verdict_of, if_lawful}
+use Rattle.trace_checker.proofs.Verdicts.{stays}
 use Rattle.trace_checker.proofs.saved.SavedJudge.feed.Goals as goal
-
--- a row that breaks no rule leaves the verdict
-stays : (v : Verdict) → if_lawful v Lawful ≡ v
-stays Lawful = refl
-stays (Broken place rule) = refl
 
 none_is : (o : Option ℕ) → is_some o ≡ false → o ≡ None
 none_is None e = refl
