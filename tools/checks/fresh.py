@@ -75,6 +75,7 @@ OUTCOMES = (
 MADE = {
     "crates/bus_cases/proofs/RuleCases.antt": (["tools/makers/rule_cases.py"], "tools/rule_cases.txt"),
     "crates/array_model/proofs/Stories.antt": (["tools/makers/array_case.py"] + CASES, None),
+    "crates/tape_unit/proofs/Cases.antt": (["tools/makers/tape_case.py"] + TAPES, None),
     "crates/story_model/proofs/Cases.antt": (["tools/makers/story_case.py"] + CASES, None),
     "crates/due_model/proofs/Cases.antt": (["tools/makers/due_case.py"] + RUNS, None),
     "crates/due_model/proofs/RunCases.antt": (["tools/makers/shown_case.py"] + NEAR, None),

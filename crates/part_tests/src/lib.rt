@@ -44,6 +44,8 @@ mod row_stores;
 #[cfg(test)]
 mod scenario_texts;
 #[cfg(test)]
+mod tapes;
+#[cfg(test)]
 mod targets;
 #[cfg(test)]
 mod units;

@@ -1,0 +1,4 @@
+pub mod Reels
+pub mod Execution
+pub mod Tape
+pub mod Stored
