@@ -1,5 +1,5 @@
 -- The replies of the processes that run, after each event of a history.
-use Rattle.std.proofs.Common.{ℕ, ◌≡◌, Bool, true, false, List, [], ◌∷◌, ◌++◌, ◌∙◌, refl, sym, ap, subst, Option, Some}
+use Rattle.std.proofs.Common.{ℕ, ◌≡◌, Bool, true, false, List, [], ◌∷◌, ◌++◌, ◌∙◌, refl, sym, subst, Option, Some}
 use Rattle.std.proofs.Common.{None}
 use Rattle.std.specs.Prelude.{if◌then◌else◌, not, ◌&&◌, ◌||◌, ◌==◌, is_some, is_none, nat_lt}
 use Rattle.std.proofs.lemmas.Bool.{eqb-true}
@@ -12,9 +12,9 @@ use Rattle.cdb_codec.specs.declared.sense.TheConstants.{ABORTED_COMMAND}
 use Rattle.cdb_codec.specs.declared.status.TheConstants.{GOOD, CHECK_CONDITION}
 use Rattle.cdb_codec.specs.Cdb.{command_of}
 use Rattle.scenario.specs.declared.value.HostDef.{HostDef}
+use Rattle.scenario.specs.Lookups.{units_of}
 use Rattle.scenario.specs.Value.{ScenarioValue}
 use Rattle.array_model.specs.ArrayHistory.{reply_in}
-use Rattle.array_model.specs.Contents.{Contents}
 use Rattle.array_model.specs.Execution.{Reply, Execution, execution, is_request_sense, queue_full, check_condition}
 use Rattle.array_model.specs.Execution.{sense_of}
 use Rattle.array_model.specs.Processes.{Process, process_of, same_id}
@@ -540,13 +540,13 @@ start_seat s t n = record {
 }
   where
     go : (id : ProcId) (x : Option UnitState)
-        → unit_state_at (Rattle.array_model.specs.Units.starting_units s s.units) t n ≡ x
+        → unit_state_at (Rattle.array_model.specs.Units.starting_units s (units_of s)) t n ≡ x
         → running_if (Seats.current_of x) id ≡ None
     go id None f = refl
-    go id (Some u) f = λ i. running_if ((start_empty s s.units t n u f).1 i) id
+    go id (Some u) f = λ i. running_if ((start_empty s (units_of s) t n u f).1 i) id
 
     nobody : (id : ProcId) → Seats.running_at (seat_of (starting_array s) t n) id ≡ None
-    nobody id = go id (unit_state_at (Rattle.array_model.specs.Units.starting_units s s.units) t n) refl
+    nobody id = go id (unit_state_at (Rattle.array_model.specs.Units.starting_units s (units_of s)) t n) refl
 
 pub starts : (s : ScenarioValue) → HaveReplies (settled_array (starting_array s))
 starts s = λ t n. subst (λ (q : Seat). HasReplies [] q) (sym (seat_settled (starting_array s) t n tt))

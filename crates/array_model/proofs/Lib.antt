@@ -1,7 +1,11 @@
 mod Stories
+mod TapeStories
 pub mod Touched
 pub mod WholeBlocks
 pub mod NamedBlocks
+pub mod TapeReplies
+pub mod TapeObjects
+pub mod TapeCounts
 pub mod OperationCodes
 pub mod Executed
 pub mod ExecutionFacts
@@ -16,3 +20,5 @@ pub mod SeatLaws
 pub mod ArrayReplies
 pub mod SeatContexts
 pub mod ArrayUnits
+pub mod UnitContents
+pub mod UnitKinds

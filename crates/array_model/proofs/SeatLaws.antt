@@ -1,6 +1,6 @@
 -- Each event at a seat, with the choice that follows it.
-use Rattle.std.proofs.Common.{ℕ, ◌≡◌, Bool, true, false, ◌∙◌, refl, sym, ap, Option, Some, None}
-use Rattle.std.specs.Prelude.{not, ◌&&◌, ◌==◌, is_some}
+use Rattle.std.proofs.Common.{ℕ, ◌≡◌, true, false, ◌∙◌, refl, sym, ap, Option, Some, None}
+use Rattle.std.specs.Prelude.{◌&&◌, ◌==◌, is_some}
 use Rattle.bus_base.specs.declared.AbortKind.{AbortKind}
 use Rattle.bus_base.specs.declared.AbortKind.TheVariants as aborts
 use Rattle.bus_base.specs.declared.Event.{Event}

@@ -10,7 +10,6 @@ use Rattle.cdb_codec.specs.Cdb.{command_of}
 use Rattle.scenario.specs.declared.value.HostDef.{HostDef}
 use Rattle.scenario.specs.Value.{ScenarioValue}
 use Rattle.array_model.specs.ArrayHistory.{reply_in}
-use Rattle.array_model.specs.Contents.{Contents}
 use Rattle.array_model.specs.Execution.{Reply, execution, is_request_sense, queue_full}
 use Rattle.array_model.specs.Processes.{Process, process_of, same_id}
 use Rattle.array_model.specs.Order.{choice, process_at, process_at_if, chosen_place, entries_of, without_process}

@@ -12,6 +12,7 @@ use Rattle.cdb_codec.specs.Cdb.{command_of}
 use Rattle.scenario.specs.declared.value.CmdDef.{CmdDef}
 use Rattle.scenario.specs.declared.value.HostDef.{HostDef}
 use Rattle.scenario.specs.declared.value.UnitDef.{UnitDef}
+use Rattle.scenario.specs.Lookups.{units_of}
 use Rattle.scenario.specs.Value.{ScenarioValue}
 use Rattle.array_model.specs.Contents.{Contents}
 use Rattle.array_model.specs.Processes.{Process, process_of, process_by, process_if, command_at, command_process}
@@ -631,7 +632,7 @@ start_units s (u ∷ units) = (record { waiting = tt; current = tt }, start_unit
 
 pub start_sound : (s : ScenarioValue) → HasSeats s → IsSound s (settled_array (starting_array s))
 start_sound s f = settle_sound s (starting_array s)
-    (record { units = start_units s s.units; guests = tt; holds = tt; apart = f.apart })
+    (record { units = start_units s (units_of s); guests = tt; holds = tt; apart = f.apart })
 
 pub history_sound : (s : ScenarioValue) (history : List Event) (a : Array) → HasSeats s → array_after s history ≡ Some a
     → IsSound s a

@@ -26,6 +26,11 @@ bytes_extent (suc n) c lba bytes = extent_more c (with_block c lba (take c.size 
       size = refl;
     }) (bytes_extent n (with_block c lba (take c.size bytes)) (lba + 1) (drop c.size bytes))
 
+-- A reel stays as it is.
+pub bytes_reel : (n : ℕ) (c : Contents) (lba : ℕ) (bytes : List ℕ) → (with_bytes c lba n bytes).reel ≡ c.reel
+bytes_reel zero c lba bytes = refl
+bytes_reel (suc n) c lba bytes = bytes_reel n (with_block c lba (take c.size bytes)) (lba + 1) (drop c.size bytes)
+
 -- ---- each block has as many bytes as the unit's blocks have
 
 abbrev pub AreWhole : Contents → Type 0

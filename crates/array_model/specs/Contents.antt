@@ -1,19 +1,30 @@
--- The blocks of a unit, and its fills.
+-- What a unit holds: the blocks of a disk with its fills, or what stands on a tape with its loads.
 use Rattle.std.specs.Prelude.{ℕ, zero, suc, ◌+◌, ◌==◌, Bool, ◌&&◌, List, [], ◌∷◌, ◌++◌, take, drop, replicate, nat_lt}
-use Rattle.std.specs.Prelude.{if◌then◌else◌}
+use Rattle.std.specs.Prelude.{Option, Some, None, is_some, if◌then◌else◌}
 use Rattle.std.specs.List.{list_all}
 use Rattle.scenario.specs.declared.value.UnitDef.{UnitDef}
 use Rattle.scenario.specs.declared.value.FillDef.{FillDef}
+use Rattle.scenario.specs.declared.value.LoadDef.{LoadDef}
+use Rattle.scenario.specs.declared.value.Load.{Load}
+use Rattle.scenario.specs.declared.value.Load.TheVariants as loads
+use Rattle.array_model.specs.Reels as reels
+use Rattle.array_model.specs.Reels.{Object, Reel}
 
 -- How many blocks there are, of how many bytes each, and the touched ones with their numbers, the lowest first. Any
--- other block is zero.
+-- other block is zero. Of a tape, how many objects it has room for, of how many bytes a block is, and its reel; it has
+-- no numbered blocks.
 pub record Contents : Type 0 where
   pub count : ℕ
   pub size : ℕ
   pub touched : List (ℕ × List ℕ)
+  pub reel : Option Reel
+
+-- It is a tape.
+abbrev pub is_reeled : Contents → Bool
+is_reeled c = is_some c.reel
 
 abbrev pub blank_contents : ℕ → ℕ → Contents
-blank_contents count size = record { count = count; size = size; touched = [] }
+blank_contents count size = record { count = count; size = size; touched = []; reel = None }
 
 abbrev pub no_contents : Contents
 no_contents = blank_contents 0 0
@@ -62,6 +73,23 @@ filled_contents u (f ∷ fills) c =
 
 abbrev pub starting_contents : UnitDef → List FillDef → Contents
 starting_contents u fills = filled_contents u fills (blank_contents u.blocks u.size)
+
+-- ---- the start of a tape: at the beginning, with its loads
+
+abbrev pub object_of : Load → Object
+object_of (loads.Block bytes) = reels.block bytes
+object_of loads.Mark = reels.filemark
+
+abbrev pub loaded_objects : UnitDef → List LoadDef → List Object
+loaded_objects u [] = []
+loaded_objects u (l ∷ defs) =
+    if l.target == u.target && l.unit == u.unit then object_of l.what ∷ loaded_objects u defs
+    else loaded_objects u defs
+
+abbrev pub loaded_contents : UnitDef → List LoadDef → Contents
+loaded_contents u defs = record (blank_contents u.blocks u.size) {
+  reel = Some (record { objects = loaded_objects u defs; position = 0 });
+}
 
 -- ---- the blocks that are not all zero, with their numbers, the lowest first
 

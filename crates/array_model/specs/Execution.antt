@@ -4,11 +4,6 @@ use Rattle.std.specs.Prelude.{Option, Some, None, Result, Ok, Err, nat_le, nat_l
 use Rattle.cdb_codec.specs.declared.Sense.{Sense}
 use Rattle.cdb_codec.specs.declared.operation.TheConstants.{REQUEST_SENSE, INQUIRY}
 use Rattle.cdb_codec.specs.declared.replies.TheConstants.{SENSE_LEN, INQUIRY_LEN}
-use Rattle.cdb_codec.specs.declared.sense.TheConstants.{NO_SENSE, ILLEGAL_REQUEST, UNIT_ATTENTION, ABORTED_COMMAND}
-use Rattle.cdb_codec.specs.declared.sense.TheConstants.{NO_ADDITIONAL_SENSE, INVALID_OPERATION_CODE, BLOCK_OUT_OF_RANGE}
-use Rattle.cdb_codec.specs.declared.sense.TheConstants.{INVALID_FIELD, UNIT_NOT_SUPPORTED, RESET_OCCURRED}
-use Rattle.cdb_codec.specs.declared.sense.TheConstants.{COMMANDS_CLEARED}
-use Rattle.cdb_codec.specs.declared.status.TheConstants.{GOOD, CHECK_CONDITION, QUEUE_FULL}
 use Rattle.cdb_codec.specs.declared.command.Command.{Command}
 use Rattle.cdb_codec.specs.declared.command.Command.TheVariants as commands
 use Rattle.cdb_codec.specs.declared.command.CdbFault.{CdbFault}
@@ -18,52 +13,14 @@ use Rattle.cdb_codec.specs.Blocks.{blocks_moved}
 -- REQUEST SENSE without fault. A tape reads the same blocks as such (`readings_agree` of `cdb_codec`), so it serves at
 -- each unit.
 pub use Rattle.cdb_codec.specs.Kinds.{is_request_sense}
-use Rattle.cdb_codec.specs.Replies.{plain_sense, sense_data, inquiry_data, capacity_data}
+use Rattle.cdb_codec.specs.Replies.{sense_data, inquiry_data, capacity_data}
+use Rattle.cdb_codec.specs.TapeCdb.{tape_command_of}
 use Rattle.array_model.specs.Contents.{Contents, bytes_at, with_bytes}
-
--- Status, the bytes that come back, and with CHECK CONDITION the sense.
-pub record Reply : Type 0 where
-  pub status : ℕ
-  pub bytes : List ℕ
-  pub sense : Sense
-
-abbrev pub sense_of : ℕ → ℕ → ℕ → Sense
-sense_of key asc ascq = plain_sense key asc ascq
-
-abbrev pub no_sense : Sense
-no_sense = sense_of NO_SENSE NO_ADDITIONAL_SENSE 0x00
-
-abbrev pub good : List ℕ → Reply
-good bytes = record { status = GOOD; bytes = bytes; sense = no_sense }
-
-abbrev pub check_condition : Sense → Reply
-check_condition sense = record { status = CHECK_CONDITION; bytes = []; sense = sense }
-
-abbrev pub queue_full : Reply
-queue_full = record { status = QUEUE_FULL; bytes = []; sense = no_sense }
-
--- The reply of a command that its target aborted, with this additional sense code (8.2.14.3).
-abbrev pub aborted_reply : ℕ → Reply
-aborted_reply code = check_condition (sense_of ABORTED_COMMAND code 0x00)
-
--- The senses of our checks (8.2.14.3).
-abbrev pub invalid_opcode : Sense
-invalid_opcode = sense_of ILLEGAL_REQUEST INVALID_OPERATION_CODE 0x00
-
-abbrev pub block_out_of_range : Sense
-block_out_of_range = sense_of ILLEGAL_REQUEST BLOCK_OUT_OF_RANGE 0x00
-
-abbrev pub invalid_field : Sense
-invalid_field = sense_of ILLEGAL_REQUEST INVALID_FIELD 0x00
-
-abbrev pub unit_not_supported : Sense
-unit_not_supported = sense_of ILLEGAL_REQUEST UNIT_NOT_SUPPORTED 0x00
-
-abbrev pub reset_occurred : Sense
-reset_occurred = sense_of UNIT_ATTENTION RESET_OCCURRED 0x00
-
-abbrev pub commands_cleared : Sense
-commands_cleared = sense_of UNIT_ATTENTION COMMANDS_CLEARED 0x00
+use Rattle.array_model.specs.Reels.{Reel}
+pub use Rattle.array_model.specs.Replies.{Reply, sense_of, no_sense, good, check_condition, queue_full, aborted_reply}
+pub use Rattle.array_model.specs.Replies.{invalid_opcode, block_out_of_range, invalid_field, unit_not_supported}
+pub use Rattle.array_model.specs.Replies.{reset_occurred, commands_cleared}
+use Rattle.array_model.specs.TapeExecution.{Tape, TapeExecution, tape_cdb_execution}
 
 -- ---- the unit that a command meets
 
@@ -81,8 +38,8 @@ pub record Execution : Type 0 where
   pub reported : Bool
   pub reply : Reply
 
--- ---- the checks, in their order: the unit is absent, an attention is pending, the operation code, a field, the
--- range of blocks
+-- ---- the checks, in their order: the unit is absent, an attention is pending, the operation code, a field, and at a
+-- disk the range of blocks
 
 abbrev pub is_opcode : List ℕ → ℕ → Bool
 is_opcode cdb code = not (length cdb == 0) && slice_index cdb 0 == code
@@ -151,11 +108,31 @@ cdb_execution m (Err faults.Opcode) sent = reply_execution m (check_condition in
 cdb_execution m (Err faults.Length) sent = reply_execution m (check_condition invalid_field)
 cdb_execution m (Err faults.Field) sent = reply_execution m (check_condition invalid_field)
 
+-- ---- a disk or a tape
+
+-- The tape that stands in the contents, of which this is the reel.
+abbrev pub tape_in : Contents → Reel → Tape
+tape_in c r = record { capacity = c.count; size = c.size; reel = r }
+
+abbrev pub tape_contents : Tape → Contents
+tape_contents t = record { count = t.capacity; size = t.size; touched = []; reel = Some t.reel }
+
+-- With what a tape made of its reel.
+abbrev pub reel_execution : CommandContext → TapeExecution → Execution
+reel_execution m x =
+    record { contents = record m.contents { reel = Some x.reel }; reported = false; reply = x.reply }
+
+-- An absent unit is as a disk.
+abbrev pub unit_execution : CommandContext → Option Reel → List ℕ → List ℕ → Execution
+unit_execution m None cdb sent = cdb_execution m (command_of cdb) sent
+unit_execution m (Some r) cdb sent = reel_execution m
+    (tape_cdb_execution (tape_in m.contents r) (returned_sense m.present m.stored) (tape_command_of cdb) sent)
+
 abbrev pub attention_execution : CommandContext → Option Sense → List ℕ → List ℕ → Execution
-attention_execution m None cdb sent = cdb_execution m (command_of cdb) sent
+attention_execution m None cdb sent = unit_execution m m.contents.reel cdb sent
 attention_execution m (Some attention) cdb sent =
     if heeds_attention cdb then record { contents = m.contents; reported = true; reply = check_condition attention }
-    else cdb_execution m (command_of cdb) sent
+    else unit_execution m m.contents.reel cdb sent
 
 -- What a command does at the unit that it meets, with the bytes that it sends.
 abbrev pub execution : CommandContext → List ℕ → List ℕ → Execution

@@ -1,6 +1,10 @@
 pub mod Processes
 pub mod Contents
 pub mod PlainBlocks
+pub mod Replies
+pub mod Reels
+pub mod TapeExecution
+pub mod Tapes
 pub mod Execution
 pub mod Order
 pub mod Units

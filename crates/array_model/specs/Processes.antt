@@ -10,6 +10,7 @@ use Rattle.scenario.specs.declared.value.Tag.TheVariants as tags
 use Rattle.scenario.specs.declared.value.Payload.{Payload}
 use Rattle.scenario.specs.declared.value.Payload.TheVariants as payloads
 use Rattle.scenario.specs.Value.{ScenarioValue}
+use Rattle.scenario.specs.Lookups.{is_tape}
 use Rattle.scenario.specs.Needs.{sent_of}
 
 -- A command on its way: who sent it where, how it is tagged, its command descriptor block, and the bytes that it
@@ -46,9 +47,9 @@ command_at (c ∷ commands) (suc (suc n)) = command_at commands (suc n)
 abbrev pub sense_block : List ℕ
 sense_block = REQUEST_SENSE ∷ 0x00 ∷ 0x00 ∷ 0x00 ∷ SENSE_LEN ∷ 0x00 ∷ []
 
--- Every unit of a scenario is a disk, and no disk is serial.
+-- A tape is serial, a disk is not.
 abbrev pub is_serial : ScenarioValue → CmdDef → Bool
-is_serial s c = false
+is_serial s c = is_tape s c.target c.unit
 
 abbrev pub sense_process : ScenarioValue → ProcId → CmdDef → Process
 sense_process s id c = record {

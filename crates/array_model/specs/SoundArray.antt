@@ -2,6 +2,7 @@
 use Rattle.std.specs.Prelude.{ℕ, ◌<◌, ◌≡◌, List, [], ◌∷◌, Option, Some, None}
 use Rattle.bus_base.specs.declared.ProcId.{ProcId}
 use Rattle.scenario.specs.Value.{ScenarioValue}
+use Rattle.scenario.specs.Lookups.{units_of}
 use Rattle.array_model.specs.Processes.{Process, process_of}
 use Rattle.array_model.specs.Units.{RunningProcess, UnitState, Nexus, Array, unit_state_at, starting_units}
 use Rattle.array_model.specs.Seats.{seat_of, settled_seat}
@@ -53,4 +54,4 @@ pub record IsSound (s : ScenarioValue) (a : Array) : Type 0 where
 -- A scenario whose commands are of initiators 0 to 7, and whose units stand once.
 pub record HasSeats (s : ScenarioValue) : Type 0 where
   pub initiators : (id : ProcId) (p : Process) → process_of s id ≡ Some p → p.initiator < 8
-  pub apart : AreApart (starting_units s s.units)
+  pub apart : AreApart (starting_units s (units_of s))

@@ -8,8 +8,9 @@ use Rattle.cdb_codec.specs.declared.Sense.{Sense}
 use Rattle.scenario.specs.declared.value.TargetDef.{TargetDef}
 use Rattle.scenario.specs.declared.value.UnitDef.{UnitDef}
 use Rattle.scenario.specs.Value.{ScenarioValue}
+use Rattle.scenario.specs.Lookups.{is_tape, units_of}
 use Rattle.array_model.specs.Processes.{Process, same_id}
-use Rattle.array_model.specs.Contents.{Contents, starting_contents}
+use Rattle.array_model.specs.Contents.{Contents, starting_contents, loaded_contents}
 use Rattle.array_model.specs.Execution.{Reply}
 use Rattle.array_model.specs.Order.{choice, without_process}
 
@@ -126,13 +127,18 @@ abbrev pub pick_of : List TargetDef → ℕ → Pick
 pick_of [] target = picks.First
 pick_of (t ∷ targets) target = if t.dev == target then t.pick else pick_of targets target
 
+-- A tape stands among the lines as a unit that has its objects as blocks.
+abbrev pub contents_at_start : ScenarioValue → UnitDef → Contents
+contents_at_start s u =
+    if is_tape s u.target u.unit then loaded_contents u s.loads else starting_contents u s.fills
+
 abbrev pub starting_unit : ScenarioValue → UnitDef → UnitState
 starting_unit s u = record {
   target = u.target;
   unit = u.unit;
   depth = u.depth;
   pick = pick_of s.targets u.target;
-  contents = starting_contents u s.fills;
+  contents = contents_at_start s u;
   waiting = [];
   current = None;
 }
@@ -143,7 +149,7 @@ starting_units s (u ∷ units) = starting_unit s u ∷ starting_units s units
 
 abbrev pub starting_array : ScenarioValue → Array
 starting_array s = record {
-  units = starting_units s s.units;
+  units = starting_units s (units_of s);
   guests = [];
   senses = [];
   holds = [];

@@ -4,13 +4,15 @@
 //! has its state, `specs/Execution.antt` what one command does at one unit, `specs/Order.antt` which waiting
 //! command may run, on what a queue keeps of it (`Entry`), `specs/Steps.antt` what each event of a history does,
 //! `specs/ArrayHistory.antt` a whole history, and `specs/Seats.antt` what an event leaves of one unit, there or
-//! not. It stands on `scenario`, `cdb_codec` and `bus_base`. There is no code here but for `Entry`, [`tag_number`] and
-//! [`same_id`], and for laws: each is the contract of a function that does nothing.
+//! not. A unit is a disk or a tape: `specs/Reels.antt` and `specs/TapeExecution.antt` have what a tape's commands do.
+//! It stands on `scenario`, `cdb_codec` and `bus_base`. There is no code here but for `Entry`, [`tag_number`],
+//! [`same_id`] and the types of a [`Walk`], and for laws: each is the contract of a function that does nothing.
 #![tactic(auto)]
 
 mod entries;
 mod plain;
 mod seats;
+mod walk;
 
 ghost use Rattle.std.specs.Prelude.{◌≡◌, List, [], ◌∷◌, Some, None};
 ghost use Rattle.bus_base.specs.declared.Event.{Event};
@@ -24,8 +26,9 @@ pub use entries::{Entry, same_id, tag_number};
 pub use plain::contents_are_plain_blocks;
 pub use seats::{
     aborts_change_their_seat, arrays_are_sound, other_seats_stay, processes_change_their_seat,
-    replies_are_of_those_that_run,
+    replies_are_of_those_that_run, units_keep_their_kind,
 };
+pub use walk::{Stop, Walk};
 
 /// A history of one event more is played as the history, and then the step of that event; and where a step was not
 /// allowed no later one is.

@@ -6,9 +6,11 @@ ghost use Rattle.bus_base.specs.declared.Event.{Event};
 ghost use Rattle.bus_base.specs.declared.Event.TheVariants as events;
 ghost use Rattle.cdb_codec.specs.declared.sense.TheConstants.{ABORTED_COMMAND};
 ghost use Rattle.scenario.specs.Value.{ScenarioValue};
+ghost use Rattle.scenario.specs.Lookups.{is_tape};
+ghost use Rattle.array_model.specs.Contents.{is_reeled};
 ghost use Rattle.array_model.specs.Processes.{Process, process_of};
 ghost use Rattle.array_model.specs.Execution.{check_condition, sense_of};
-ghost use Rattle.array_model.specs.Units.{Array, starting_array, settled_array};
+ghost use Rattle.array_model.specs.Units.{Array, UnitState, starting_array, settled_array, unit_state_at};
 ghost use Rattle.array_model.specs.Steps.{step, has_ended};
 ghost use Rattle.array_model.specs.ArrayHistory.{array_after};
 ghost use Rattle.array_model.specs.Seats.{seat_of, seat_if, settled_seat, settled_seat_if, seat_after_accept, seat_after_refuse, seat_after_run, seat_after_failure, seat_after_end, seat_after_loss, seat_after_aborted, seat_after_reset, is_elsewhere};
@@ -83,4 +85,12 @@ pub fn replies_are_of_those_that_run()
     ensures start { (s : ScenarioValue) → HaveReplies (settled_array (starting_array s)) }
     ensures goes_on { (s : ScenarioValue) (a b : Array) (event : Event) → HasSeats s → IsSound s a
         → ArrivesOnce s a event → step s event a ≡ Some b → HaveReplies a → HaveReplies b }
+{}
+
+/// After every history that is allowed a unit is a tape exactly where its line is that of a tape, whatever commands,
+/// aborts and resets there were.
+pub fn units_keep_their_kind()
+    ensures { (s : ScenarioValue) (history : List Event) (a : Array) (target unit : ℕ) (u : UnitState)
+        → array_after s history ≡ Some a → unit_state_at a.units target unit ≡ Some u
+        → is_reeled u.contents ≡ is_tape s target unit }
 {}

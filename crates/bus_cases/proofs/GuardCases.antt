@@ -521,6 +521,36 @@ faulty_sense_with_attention_guard_run : shown (run_by_due faulty_sense_with_atte
 unfolding need_of sent_of ones union_below line_of form_out form_in least run_from
 faulty_sense_with_attention_guard_run = refl
 
+-- ---- loads_of_three_tapes_guard
+
+abbrev pub loads_of_three_tapes_guard : ScenarioValue
+loads_of_three_tapes_guard = record {
+  version = 3;
+  hosts = record { dev = 7; latency = 0; most = 1; retries = 2; period = 0; offset = 0; lag = 0; offers = true } ∷ [];
+  targets = record { dev = 0; latency = 0; retries = 2; disc = policies.Never; pick = picks.First; seek = 0; period = 0; offset = 0; begins = false } ∷ record { dev = 1; latency = 0; retries = 2; disc = policies.Never; pick = picks.First; seek = 0; period = 0; offset = 0; begins = false } ∷ [];
+  units = [];
+  fills = [];
+  tapes = record { target = 0; unit = 0; objects = 2; size = 16; depth = 1 } ∷ record { target = 0; unit = 1; objects = 2; size = 16; depth = 1 } ∷ record { target = 1; unit = 0; objects = 2; size = 16; depth = 1 } ∷ [];
+  loads = record { target = 0; unit = 1; what = loads.Block (66 ∷ 66 ∷ 66 ∷ 66 ∷ 66 ∷ 66 ∷ 66 ∷ 66 ∷ 66 ∷ 66 ∷ 66 ∷ 66 ∷ 66 ∷ 66 ∷ 66 ∷ 66 ∷ []) } ∷ record { target = 1; unit = 0; what = loads.Block (67 ∷ 67 ∷ 67 ∷ 67 ∷ 67 ∷ 67 ∷ 67 ∷ 67 ∷ 67 ∷ 67 ∷ 67 ∷ 67 ∷ 67 ∷ 67 ∷ 67 ∷ 67 ∷ []) } ∷ record { target = 0; unit = 0; what = loads.Block (65 ∷ 65 ∷ 65 ∷ 65 ∷ 65 ∷ 65 ∷ 65 ∷ 65 ∷ 65 ∷ 65 ∷ 65 ∷ 65 ∷ 65 ∷ 65 ∷ 65 ∷ 65 ∷ []) } ∷ [];
+  commands = record { host = 7; target = 0; unit = 0; at = 0; tag = tags.Untagged; cdb = (8 ∷ 1 ∷ 0 ∷ 0 ∷ 1 ∷ 0 ∷ []); payload = payloads.Nothing } ∷ record { host = 7; target = 0; unit = 1; at = 0; tag = tags.Untagged; cdb = (8 ∷ 1 ∷ 0 ∷ 0 ∷ 1 ∷ 0 ∷ []); payload = payloads.Nothing } ∷ record { host = 7; target = 1; unit = 0; at = 0; tag = tags.Untagged; cdb = (8 ∷ 1 ∷ 0 ∷ 0 ∷ 1 ∷ 0 ∷ []); payload = payloads.Nothing } ∷ [];
+  aborts = [];
+  resets = [];
+  faults = [];
+}
+
+abbrev pub loads_of_three_tapes_guard_rows : List Row
+loads_of_three_tapes_guard_rows = drive 1200 7 0x00280 ∷ drive 3600 7 0x00680 ∷ drive 4800 7 0x10781 ∷ drive 4890 7 0x10581 ∷ drive 5290 0 0x00200 ∷ drive 5380 7 0x10000 ∷ drive 5380 0 0x02a00 ∷ drive 5780 0 0x06a00 ∷ drive 5780 7 0x001c0 ∷ drive 5870 7 0x081c0 ∷ drive 5870 0 0x02a00 ∷ drive 5870 7 0x00000 ∷ drive 5870 0 0x00a00 ∷ drive 6270 0 0x04a00 ∷ drive 6270 7 0x00008 ∷ drive 6325 7 0x08008 ∷ drive 6325 0 0x00a00 ∷ drive 6325 7 0x00000 ∷ drive 6325 0 0x04a00 ∷ drive 6325 7 0x00001 ∷ drive 6380 7 0x08001 ∷ drive 6380 0 0x00a00 ∷ drive 6380 7 0x00000 ∷ drive 6380 0 0x04a00 ∷ drive 6380 7 0x00100 ∷ drive 6435 7 0x08100 ∷ drive 6435 0 0x00a00 ∷ drive 6435 7 0x00000 ∷ drive 6435 0 0x04a00 ∷ drive 6435 7 0x00100 ∷ drive 6490 7 0x08100 ∷ drive 6490 0 0x00a00 ∷ drive 6490 7 0x00000 ∷ drive 6490 0 0x04a00 ∷ drive 6490 7 0x00001 ∷ drive 6545 7 0x08001 ∷ drive 6545 0 0x00a00 ∷ drive 6545 7 0x00000 ∷ drive 6545 0 0x04a00 ∷ drive 6545 7 0x00100 ∷ drive 6600 7 0x08100 ∷ drive 6600 0 0x00a00 ∷ drive 6600 7 0x00000 ∷ drive 6600 0 0x01200 ∷ drive 7400 0 0x01341 ∷ drive 7455 0 0x05341 ∷ drive 7455 7 0x08000 ∷ drive 7455 0 0x01341 ∷ drive 7455 7 0x00000 ∷ drive 7510 0 0x05341 ∷ drive 7510 7 0x08000 ∷ drive 7510 0 0x01341 ∷ drive 7510 7 0x00000 ∷ drive 7565 0 0x05341 ∷ drive 7565 7 0x08000 ∷ drive 7565 0 0x01341 ∷ drive 7565 7 0x00000 ∷ drive 7620 0 0x05341 ∷ drive 7620 7 0x08000 ∷ drive 7620 0 0x01341 ∷ drive 7620 7 0x00000 ∷ drive 7675 0 0x05341 ∷ drive 7675 7 0x08000 ∷ drive 7675 0 0x01341 ∷ drive 7675 7 0x00000 ∷ drive 7730 0 0x05341 ∷ drive 7730 7 0x08000 ∷ drive 7730 0 0x01341 ∷ drive 7730 7 0x00000 ∷ drive 7785 0 0x05341 ∷ drive 7785 7 0x08000 ∷ drive 7785 0 0x01341 ∷ drive 7785 7 0x00000 ∷ drive 7840 0 0x05341 ∷ drive 7840 7 0x08000 ∷ drive 7840 0 0x01341 ∷ drive 7840 7 0x00000 ∷ drive 7895 0 0x05341 ∷ drive 7895 7 0x08000 ∷ drive 7895 0 0x01341 ∷ drive 7895 7 0x00000 ∷ drive 7950 0 0x05341 ∷ drive 7950 7 0x08000 ∷ drive 7950 0 0x01341 ∷ drive 7950 7 0x00000 ∷ drive 8005 0 0x05341 ∷ drive 8005 7 0x08000 ∷ drive 8005 0 0x01341 ∷ drive 8005 7 0x00000 ∷ drive 8060 0 0x05341 ∷ drive 8060 7 0x08000 ∷ drive 8060 0 0x01341 ∷ drive 8060 7 0x00000 ∷ drive 8115 0 0x05341 ∷ drive 8115 7 0x08000 ∷ drive 8115 0 0x01341 ∷ drive 8115 7 0x00000 ∷ drive 8170 0 0x05341 ∷ drive 8170 7 0x08000 ∷ drive 8170 0 0x01341 ∷ drive 8170 7 0x00000 ∷ drive 8225 0 0x05341 ∷ drive 8225 7 0x08000 ∷ drive 8225 0 0x01341 ∷ drive 8225 7 0x00000 ∷ drive 8280 0 0x05341 ∷ drive 8280 7 0x08000 ∷ drive 8280 0 0x01200 ∷ drive 8280 7 0x00000 ∷ drive 8280 0 0x01b00 ∷ drive 8680 0 0x05b00 ∷ drive 8680 7 0x08000 ∷ drive 8680 0 0x01a00 ∷ drive 8680 7 0x00000 ∷ drive 8680 0 0x03b00 ∷ drive 9080 0 0x07b00 ∷ drive 9080 7 0x08000 ∷ drive 9080 0 0x03a00 ∷ drive 9080 7 0x00000 ∷ drive 9080 0 0x00000 ∷ drive 10280 7 0x00280 ∷ drive 12680 7 0x00680 ∷ drive 13880 7 0x10781 ∷ drive 13970 7 0x10581 ∷ drive 14370 0 0x00200 ∷ drive 14460 7 0x10000 ∷ drive 14460 0 0x02a00 ∷ drive 14860 0 0x06a00 ∷ drive 14860 7 0x000c1 ∷ drive 14950 7 0x080c1 ∷ drive 14950 0 0x02a00 ∷ drive 14950 7 0x00000 ∷ drive 14950 0 0x00a00 ∷ drive 15350 0 0x04a00 ∷ drive 15350 7 0x00008 ∷ drive 15405 7 0x08008 ∷ drive 15405 0 0x00a00 ∷ drive 15405 7 0x00000 ∷ drive 15405 0 0x04a00 ∷ drive 15405 7 0x00001 ∷ drive 15460 7 0x08001 ∷ drive 15460 0 0x00a00 ∷ drive 15460 7 0x00000 ∷ drive 15460 0 0x04a00 ∷ drive 15460 7 0x00100 ∷ drive 15515 7 0x08100 ∷ drive 15515 0 0x00a00 ∷ drive 15515 7 0x00000 ∷ drive 15515 0 0x04a00 ∷ drive 15515 7 0x00100 ∷ drive 15570 7 0x08100 ∷ drive 15570 0 0x00a00 ∷ drive 15570 7 0x00000 ∷ drive 15570 0 0x04a00 ∷ drive 15570 7 0x00001 ∷ drive 15625 7 0x08001 ∷ drive 15625 0 0x00a00 ∷ drive 15625 7 0x00000 ∷ drive 15625 0 0x04a00 ∷ drive 15625 7 0x00100 ∷ drive 15680 7 0x08100 ∷ drive 15680 0 0x00a00 ∷ drive 15680 7 0x00000 ∷ drive 15680 0 0x01200 ∷ drive 16480 0 0x01342 ∷ drive 16535 0 0x05342 ∷ drive 16535 7 0x08000 ∷ drive 16535 0 0x01342 ∷ drive 16535 7 0x00000 ∷ drive 16590 0 0x05342 ∷ drive 16590 7 0x08000 ∷ drive 16590 0 0x01342 ∷ drive 16590 7 0x00000 ∷ drive 16645 0 0x05342 ∷ drive 16645 7 0x08000 ∷ drive 16645 0 0x01342 ∷ drive 16645 7 0x00000 ∷ drive 16700 0 0x05342 ∷ drive 16700 7 0x08000 ∷ drive 16700 0 0x01342 ∷ drive 16700 7 0x00000 ∷ drive 16755 0 0x05342 ∷ drive 16755 7 0x08000 ∷ drive 16755 0 0x01342 ∷ drive 16755 7 0x00000 ∷ drive 16810 0 0x05342 ∷ drive 16810 7 0x08000 ∷ drive 16810 0 0x01342 ∷ drive 16810 7 0x00000 ∷ drive 16865 0 0x05342 ∷ drive 16865 7 0x08000 ∷ drive 16865 0 0x01342 ∷ drive 16865 7 0x00000 ∷ drive 16920 0 0x05342 ∷ drive 16920 7 0x08000 ∷ drive 16920 0 0x01342 ∷ drive 16920 7 0x00000 ∷ drive 16975 0 0x05342 ∷ drive 16975 7 0x08000 ∷ drive 16975 0 0x01342 ∷ drive 16975 7 0x00000 ∷ drive 17030 0 0x05342 ∷ drive 17030 7 0x08000 ∷ drive 17030 0 0x01342 ∷ drive 17030 7 0x00000 ∷ drive 17085 0 0x05342 ∷ drive 17085 7 0x08000 ∷ drive 17085 0 0x01342 ∷ drive 17085 7 0x00000 ∷ drive 17140 0 0x05342 ∷ drive 17140 7 0x08000 ∷ drive 17140 0 0x01342 ∷ drive 17140 7 0x00000 ∷ drive 17195 0 0x05342 ∷ drive 17195 7 0x08000 ∷ drive 17195 0 0x01342 ∷ drive 17195 7 0x00000 ∷ drive 17250 0 0x05342 ∷ drive 17250 7 0x08000 ∷ drive 17250 0 0x01342 ∷ drive 17250 7 0x00000 ∷ drive 17305 0 0x05342 ∷ drive 17305 7 0x08000 ∷ drive 17305 0 0x01342 ∷ drive 17305 7 0x00000 ∷ drive 17360 0 0x05342 ∷ drive 17360 7 0x08000 ∷ drive 17360 0 0x01200 ∷ drive 17360 7 0x00000 ∷ drive 17360 0 0x01b00 ∷ drive 17760 0 0x05b00 ∷ drive 17760 7 0x08000 ∷ drive 17760 0 0x01a00 ∷ drive 17760 7 0x00000 ∷ drive 17760 0 0x03b00 ∷ drive 18160 0 0x07b00 ∷ drive 18160 7 0x08000 ∷ drive 18160 0 0x03a00 ∷ drive 18160 7 0x00000 ∷ drive 18160 0 0x00000 ∷ drive 19360 7 0x00280 ∷ drive 21760 7 0x00680 ∷ drive 22960 7 0x10782 ∷ drive 23050 7 0x10582 ∷ drive 23450 1 0x00200 ∷ drive 23540 7 0x10000 ∷ drive 23540 1 0x02a00 ∷ drive 23940 1 0x06a00 ∷ drive 23940 7 0x001c0 ∷ drive 24030 7 0x081c0 ∷ drive 24030 1 0x02a00 ∷ drive 24030 7 0x00000 ∷ drive 24030 1 0x00a00 ∷ drive 24430 1 0x04a00 ∷ drive 24430 7 0x00008 ∷ drive 24485 7 0x08008 ∷ drive 24485 1 0x00a00 ∷ drive 24485 7 0x00000 ∷ drive 24485 1 0x04a00 ∷ drive 24485 7 0x00001 ∷ drive 24540 7 0x08001 ∷ drive 24540 1 0x00a00 ∷ drive 24540 7 0x00000 ∷ drive 24540 1 0x04a00 ∷ drive 24540 7 0x00100 ∷ drive 24595 7 0x08100 ∷ drive 24595 1 0x00a00 ∷ drive 24595 7 0x00000 ∷ drive 24595 1 0x04a00 ∷ drive 24595 7 0x00100 ∷ drive 24650 7 0x08100 ∷ drive 24650 1 0x00a00 ∷ drive 24650 7 0x00000 ∷ drive 24650 1 0x04a00 ∷ drive 24650 7 0x00001 ∷ drive 24705 7 0x08001 ∷ drive 24705 1 0x00a00 ∷ drive 24705 7 0x00000 ∷ drive 24705 1 0x04a00 ∷ drive 24705 7 0x00100 ∷ drive 24760 7 0x08100 ∷ drive 24760 1 0x00a00 ∷ drive 24760 7 0x00000 ∷ drive 24760 1 0x01200 ∷ drive 25560 1 0x01243 ∷ drive 25615 1 0x05243 ∷ drive 25615 7 0x08000 ∷ drive 25615 1 0x01243 ∷ drive 25615 7 0x00000 ∷ drive 25670 1 0x05243 ∷ drive 25670 7 0x08000 ∷ drive 25670 1 0x01243 ∷ drive 25670 7 0x00000 ∷ drive 25725 1 0x05243 ∷ drive 25725 7 0x08000 ∷ drive 25725 1 0x01243 ∷ drive 25725 7 0x00000 ∷ drive 25780 1 0x05243 ∷ drive 25780 7 0x08000 ∷ drive 25780 1 0x01243 ∷ drive 25780 7 0x00000 ∷ drive 25835 1 0x05243 ∷ drive 25835 7 0x08000 ∷ drive 25835 1 0x01243 ∷ drive 25835 7 0x00000 ∷ drive 25890 1 0x05243 ∷ drive 25890 7 0x08000 ∷ drive 25890 1 0x01243 ∷ drive 25890 7 0x00000 ∷ drive 25945 1 0x05243 ∷ drive 25945 7 0x08000 ∷ drive 25945 1 0x01243 ∷ drive 25945 7 0x00000 ∷ drive 26000 1 0x05243 ∷ drive 26000 7 0x08000 ∷ drive 26000 1 0x01243 ∷ drive 26000 7 0x00000 ∷ drive 26055 1 0x05243 ∷ drive 26055 7 0x08000 ∷ drive 26055 1 0x01243 ∷ drive 26055 7 0x00000 ∷ drive 26110 1 0x05243 ∷ drive 26110 7 0x08000 ∷ drive 26110 1 0x01243 ∷ drive 26110 7 0x00000 ∷ drive 26165 1 0x05243 ∷ drive 26165 7 0x08000 ∷ drive 26165 1 0x01243 ∷ drive 26165 7 0x00000 ∷ drive 26220 1 0x05243 ∷ drive 26220 7 0x08000 ∷ drive 26220 1 0x01243 ∷ drive 26220 7 0x00000 ∷ drive 26275 1 0x05243 ∷ drive 26275 7 0x08000 ∷ drive 26275 1 0x01243 ∷ drive 26275 7 0x00000 ∷ drive 26330 1 0x05243 ∷ drive 26330 7 0x08000 ∷ drive 26330 1 0x01243 ∷ drive 26330 7 0x00000 ∷ drive 26385 1 0x05243 ∷ drive 26385 7 0x08000 ∷ drive 26385 1 0x01243 ∷ drive 26385 7 0x00000 ∷ drive 26440 1 0x05243 ∷ drive 26440 7 0x08000 ∷ drive 26440 1 0x01200 ∷ drive 26440 7 0x00000 ∷ drive 26440 1 0x01b00 ∷ drive 26840 1 0x05b00 ∷ drive 26840 7 0x08000 ∷ drive 26840 1 0x01a00 ∷ drive 26840 7 0x00000 ∷ drive 26840 1 0x03b00 ∷ drive 27240 1 0x07b00 ∷ drive 27240 7 0x08000 ∷ drive 27240 1 0x03a00 ∷ drive 27240 7 0x00000 ∷ drive 27240 1 0x00000 ∷ []
+
+abbrev loads_of_three_tapes_guard_events : List Event
+loads_of_three_tapes_guard_events = events.Accept (command 1) ∷ events.Run (command 1) ∷ events.End (command 1) 0 ∷ events.Accept (command 2) ∷ events.Run (command 2) ∷ events.End (command 2) 0 ∷ events.Accept (command 3) ∷ events.Run (command 3) ∷ events.End (command 3) 0 ∷ []
+
+abbrev pub loads_of_three_tapes_guard_shown : Shows
+loads_of_three_tapes_guard_shown = record { rows = reverse loads_of_three_tapes_guard_rows; history = reverse loads_of_three_tapes_guard_events; ended = true }
+
+loads_of_three_tapes_guard_run : shown (run_by_due loads_of_three_tapes_guard 361) ≡ loads_of_three_tapes_guard_shown
+unfolding need_of sent_of ones union_below line_of form_out form_in least run_from
+loads_of_three_tapes_guard_run = refl
+
 -- ---- never_behind_a_current_process_guard
 
 abbrev pub never_behind_a_current_process_guard : ScenarioValue

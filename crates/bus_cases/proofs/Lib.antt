@@ -7,3 +7,4 @@ mod RuleCases
 mod RunCases
 mod SeamCases
 mod StoryCases
+mod TapeRuns

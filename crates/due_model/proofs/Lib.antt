@@ -1,4 +1,5 @@
 pub mod Cases
+pub mod TapeCases
 mod Hearings
 mod Items
 pub mod Leasts

@@ -26,7 +26,7 @@ unfolding need_of sent_of ones union_below line_of form_out form_in seen_with
 resets_dropped_right = record {
   lawful = (whole_lawful (reverse resets_dropped_due_rows) (last_time (reverse resets_dropped_due_rows))).0 refl;
   quiet = refl;
-  told = record { told = refl; permitted = refl; blocks = refl; replies = refl; carried = refl };
+  told = record { told = refl; permitted = refl; blocks = refl; reels = refl; replies = refl; carried = refl };
   answered = refl;
   faults = refl;
 }

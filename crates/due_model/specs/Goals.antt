@@ -7,7 +7,7 @@ use Rattle.bus_rules.specs.bus_trace.specs.declared.Row.{Row}
 use Rattle.bus_rules.specs.Lawful.{IsLawful}
 use Rattle.dialogue_model.specs.scenario.specs.Value.{ScenarioValue}
 use Rattle.dialogue_model.specs.scenario.specs.Writing.{Obeys}
-use Rattle.dialogue_model.specs.array_model.specs.ArrayHistory.{array_after, disks_of}
+use Rattle.dialogue_model.specs.array_model.specs.ArrayHistory.{array_after, disks_of, tapes_of}
 use Rattle.dialogue_model.specs.story_model.specs.TraceHistory.{story, trace_history}
 use Rattle.dialogue_model.specs.story_model.specs.Outcomes.{Outcome, ended_good, outcomes}
 use Rattle.dialogue_model.specs.story_model.specs.Right.{Right}
@@ -24,7 +24,7 @@ pub record IsRight (s : ScenarioValue) (rows : List Row) : Type 0 where
   pub lawful : IsLawful rows (last_time rows)
   pub quiet : bus rows ≡ none
   pub told : Right s (reverse rows) (reverse (trace_history s rows)) (outcomes s (story s rows))
-      (disks_of (array_after s (trace_history s rows)))
+      (disks_of (array_after s (trace_history s rows))) (tapes_of (array_after s (trace_history s rows)))
   pub answered : list_all (λ (o : Option Outcome). is_some o) (outcomes s (story s rows)) ≡ true
   pub faults : expected_strikes s rows ≡ row_strikes (reverse rows)
 

@@ -7,6 +7,7 @@ use Rattle.bus_rules.specs.bus_trace.specs.declared.connection.Connection.{Conne
 use Rattle.bus_rules.specs.bus_trace.specs.Terms.{is_fault, arbitration_after}
 use Rattle.bus_rules.specs.bus_trace.specs.Phases.{changes_phase}
 use Rattle.dialogue_model.specs.scenario.specs.Value.{ScenarioValue}
+use Rattle.dialogue_model.specs.scenario.specs.Lookups.{units_of}
 use Rattle.dialogue_model.specs.array_model.specs.Processes.{Process, same_id}
 use Rattle.dialogue_model.specs.array_model.specs.Units.{RunningProcess, UnitState, Array}
 use Rattle.dialogue_model.specs.array_model.specs.ArrayHistory as Play
@@ -39,7 +40,7 @@ abbrev pub first_run_state : ScenarioValue → RunState
 first_run_state s = record {
   story = empty_story;
   array = Play.array_after s [];
-  current_since = replicate (length s.units) 0;
+  current_since = replicate (length (units_of s)) 0;
   last = 0;
   ages = no_times;
   owns = replicate 8 idle_device;

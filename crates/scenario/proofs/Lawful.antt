@@ -24,7 +24,7 @@ use Rattle.scenario.specs.Reading.{Progress, guard, host_def, target_def, unit_d
 use Rattle.scenario.specs.Reading.{tape_def, load_def}
 use Rattle.scenario.specs.Reading.{reset_def, fault_def, fits_version, added, said_after, in_order, rank, kind_of}
 use Rattle.scenario.specs.Reading.{nothing, scenario_of, is_end}
-use Rattle.scenario.specs.Writing.{saids, body_of, events_of, text_of, built, ObeysText, IsHex, IsHexPayload}
+use Rattle.scenario.specs.Writing.{saids, body_of, events_of, text_of, built, Obeys, IsHex, IsHexPayload}
 use Rattle.scenario.specs.Writing.{said_payload, said_host, said_target, said_unit, said_fill, said_cmd, said_abort}
 use Rattle.scenario.specs.Writing.{said_reset, said_fault, said_tape, said_object, said_load, IsHexLoad}
 use Rattle.scenario.proofs.FormsAgain.{IsVersion, IsSpelled}
@@ -174,7 +174,7 @@ faults_can : (xs : List FaultDef) → AllByRecursion CanSay (map said_fault xs)
 faults_can [] = tt
 faults_can (x ∷ xs) = (tt, faults_can xs)
 
-saids_can : (s : ScenarioValue) → ObeysText s → AllByRecursion CanSay (saids s)
+saids_can : (s : ScenarioValue) → Obeys s → AllByRecursion CanSay (saids s)
 saids_can s h =
     let events : AllByRecursion CanSay (events_of s) = append_all CanSay (map said_cmd s.commands) _
     (cmds_can s.commands h.commands) (append_all CanSay (map said_abort s.aborts) _ (aborts_can s.aborts)
@@ -186,7 +186,7 @@ saids_can s h =
     _ (tapes_can s.tapes) (append_all CanSay (map said_load s.loads) _ (loads_can s.loads h.loads) events))))) in
     (h.version, append_all CanSay (body_of s) (end_line ∷ []) body (tt, tt))
 
-pub read_back : (s : ScenarioValue) → ObeysText s → scenario_of (text_of s) ≡ Ok s
+pub read_back : (s : ScenarioValue) → Obeys s → scenario_of (text_of s) ≡ Ok s
 read_back s h =
     let b = bind_ok (built nothing (saids s)) (λ (d : Progress). Ok d.scenario) s h.lawful in
     let spelled = are_spelled (saids s) nothing b.0 (saids_can s h) b.1 in

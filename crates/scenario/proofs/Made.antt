@@ -374,13 +374,10 @@ commands_hex seed (suc n) =
 
 pub made_obeys : (seed n : ℕ) → n ≤ COMMAND_LIMIT → Obeys (made seed n)
 made_obeys seed n h = record {
-  text = record {
-    version = refl;
-    lawful = ap told_scenario (all_after seed n ∙ rest_after seed n h);
-    fills = tt;
-    loads = tt;
-    commands = commands_hex seed n;
-    limit = text_len seed n h;
-  };
-  tapes = refl;
+  version = refl;
+  lawful = ap told_scenario (all_after seed n ∙ rest_after seed n h);
+  fills = tt;
+  loads = tt;
+  commands = commands_hex seed n;
+  limit = text_len seed n h;
 }

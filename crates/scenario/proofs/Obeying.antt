@@ -38,7 +38,7 @@ use Rattle.scenario.specs.Reading.{load_def, cmd_def}
 use Rattle.scenario.specs.Reading.{is_payload, has_room, full_cmd_def, abort_def, reset_def, fault_def, with_scenario}
 use Rattle.scenario.specs.Reading.{added, said_after, fits_version, line_after, formed, is_printable, is_skipped}
 use Rattle.scenario.specs.Reading.{in_order, rank, kind_of, nothing, scenario_of, read_from, and_then, is_end, Answers}
-use Rattle.scenario.specs.Writing.{saids, body_of, events_of, text_of, built, told_scenario, ObeysText, IsHex}
+use Rattle.scenario.specs.Writing.{saids, body_of, events_of, text_of, built, told_scenario, Obeys, IsHex}
 use Rattle.scenario.specs.Writing.{IsHexLoad, IsHexPayload, said_tape, said_object, said_load}
 use Rattle.scenario.specs.Writing.{said_payload, said_host, said_target, said_unit, said_fill, said_cmd, said_abort}
 use Rattle.scenario.specs.Writing.{said_reset, said_fault, said_line, said_text}
@@ -931,7 +931,7 @@ start = record {
   version = λ h. absurd (omega arith);
 }
 
-pub read_obeys : (bytes : List ℕ) (s : ScenarioValue) → scenario_of bytes ≡ Ok s → ObeysText s
+pub read_obeys : (bytes : List ℕ) (s : ScenarioValue) → scenario_of bytes ≡ Ok s → Obeys s
 read_obeys bytes s e =
     let p = limit_ok (ltb LIMIT (length bytes)) (read_from nothing 0 (lines_of bytes)) s e in
     let short : length bytes ≤ LIMIT = ltb-false _ _ p.0 in
@@ -954,19 +954,19 @@ read_obeys bytes s e =
     }
 
 pub answer_obeys : (bytes : List ℕ) (r : Result ScenarioValue Bad) → Answers r (scenario_of bytes)
-    → IfOk r (λ s. ObeysText s)
+    → IfOk r (λ s. Obeys s)
 answer_obeys bytes (Ok s) e = read_obeys bytes s e
 answer_obeys bytes (Err b) e = tt
 
 -- The lines of a scenario that obeys the rules are read.
-again : (s : ScenarioValue) → ObeysText s → IsDone s LIMIT
+again : (s : ScenarioValue) → Obeys s → IsDone s LIMIT
 again s h =
     let p = limit_ok (ltb LIMIT (length (text_of s))) (read_from nothing 0 (lines_of (text_of s))) s (read_back s h) in
     let limit = h.limit in
     reads (lines_of (text_of s)) nothing 0 s LIMIT start (omega (arith, sizes_lines (text_of s))) p.1
 
-pub each_need : (s : ScenarioValue) → ObeysText s → AllByRecursion (λ c. need_of s c ≤ NEED_LIMIT) s.commands
+pub each_need : (s : ScenarioValue) → Obeys s → AllByRecursion (λ c. need_of s c ≤ NEED_LIMIT) s.commands
 each_need s h = (again s h).each
 
-pub all_needs : (s : ScenarioValue) → ObeysText s → sum_by (need_of s) s.commands ≤ NEEDS_LIMIT
+pub all_needs : (s : ScenarioValue) → Obeys s → sum_by (need_of s) s.commands ≤ NEEDS_LIMIT
 all_needs s h = (again s h).all

@@ -6,13 +6,13 @@ use Rattle.std.proofs.lemmas.Bool.Decides.{nat_tests}
 use Rattle.scenario.specs.declared.value.TapeDef.{TapeDef}
 use Rattle.scenario.specs.declared.value.LoadDef.{LoadDef}
 use Rattle.scenario.specs.Value.{ScenarioValue}
-use Rattle.scenario.specs.Lookups.{tape_of, has_tape}
+use Rattle.scenario.specs.Lookups.{tape_of}
 use Rattle.scenario.specs.Needs.{need_of, sent_of}
 use Rattle.scenario.specs.Forms.{Said, LoadSaid, scsi_line, initiator_line, target_line, unit_line, fill_line}
 use Rattle.scenario.specs.Forms.{tape_line, load_line, cmd_line, abort_line, reset_line, fault_line, end_line}
 use Rattle.scenario.specs.Reading.{Progress, found, in_8, host_def, target_def, unit_def, fill_def, tape_def, load_def}
 use Rattle.scenario.specs.Reading.{full_cmd_def, abort_def, reset_def, fault_def, added, said_after, nothing}
-use Rattle.scenario.specs.Writing.{saids, built, ObeysText, Obeys}
+use Rattle.scenario.specs.Writing.{saids, built, Obeys}
 use Rattle.scenario.proofs.Steps.{bind_ok, ok_is}
 use Rattle.scenario.proofs.Lawful.{taken}
 
@@ -87,20 +87,7 @@ all_for_tapes d z (x ∷ xs) e h =
     (for_tapes d t.before x t.step h) in
     all_for_tapes b.0 z xs b.2 one
 
-pub no_loads : (s : ScenarioValue) → ObeysText s → s.tapes ≡ [] → s.loads ≡ []
+pub no_loads : (s : ScenarioValue) → Obeys s → s.tapes ≡ [] → s.loads ≡ []
 no_loads s o =
     let b = bind_ok (built nothing (saids s)) _ s o.lawful in
     subst AreForTapes (ok_is (b.0).scenario s b.2) (all_for_tapes nothing b.0 (saids s) b.1 (λ none. refl))
-
--- ---- a scenario without tapes
-
-some_count : (n : ℕ) → not (suc n == 0) ≡ false → ⊥
-some_count n e = grind (arith, nat_tests, e)
-
-no_tapes : (tapes : List TapeDef) → not (length tapes == 0) ≡ false → tapes ≡ []
-no_tapes [] e = refl
-no_tapes (t ∷ tapes) e = absurd (some_count (length tapes) e)
-
--- Where this is the answer whether it has one, and it is no, it obeys all that laws ask for.
-pub obeys_without : (s : ScenarioValue) (answer : Bool) → answer ≡ has_tape s → ObeysText s → answer ≡ false → Obeys s
-obeys_without s answer is text e = record { text = text; tapes = no_tapes s.tapes (sym is ∙ e) }

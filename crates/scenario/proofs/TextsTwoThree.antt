@@ -22,7 +22,7 @@ use Rattle.scenario.specs.Reading.{tape_def, load_def, cmd_def, full_cmd_def, ab
 use Rattle.scenario.specs.Reading.{said_after, fits_version, kind_of, nothing}
 use Rattle.scenario.specs.Writing.{scsi_text, host_form, said_host, target_form, said_target, said_unit, said_fill}
 use Rattle.scenario.specs.Writing.{said_tape, said_load, said_cmd, said_abort, said_reset, said_fault, said_line}
-use Rattle.scenario.specs.Writing.{events_of, body_of, saids, text_of, built, told_scenario, ObeysText}
+use Rattle.scenario.specs.Writing.{events_of, body_of, saids, text_of, built, told_scenario, Obeys}
 use Rattle.scenario.proofs.FormsAgain.{IsVersion}
 use Rattle.scenario.proofs.Steps.{bind_ok, ok_is}
 use Rattle.scenario.proofs.Lawful.{taken, append_all}
@@ -209,7 +209,7 @@ text_length v p s =
 -- ---- both texts
 
 pub obeys_as : (v w : ℕ) → (v == 1) ≡ false → (w == 1) ≡ false → IsVersion w → (s : ScenarioValue) → s.tapes ≡ []
-    → ObeysText (record s { version = v }) → ObeysText (record s { version = w })
+    → Obeys (record s { version = v }) → Obeys (record s { version = w })
 obeys_as v w p q version s tapes h =
     let loads : s.loads ≡ [] = no_loads (record s { version = v }) h tapes in
     let b = bind_ok (built nothing (saids (record s { version = v }))) (λ (d : Progress). Ok d.scenario)

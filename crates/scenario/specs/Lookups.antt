@@ -1,5 +1,5 @@
 -- What was declared.
-use Rattle.std.specs.Prelude.{ℕ, Bool, not, ◌==◌, ◌&&◌, ◌||◌, List, ◌++◌, length, map, Option, is_some}
+use Rattle.std.specs.Prelude.{ℕ, Bool, ◌==◌, ◌&&◌, ◌||◌, List, ◌++◌, map, Option, is_some}
 use Rattle.std.specs.List.{find, list_any, count_by}
 use Rattle.scenario.specs.declared.value.HostDef.{HostDef}
 use Rattle.scenario.specs.declared.value.TargetDef.{TargetDef}
@@ -44,10 +44,6 @@ tape_of s target unit = find (λ (t : TapeDef). t.target == target && t.unit == 
 -- The unit of this number of this target is a tape.
 abbrev pub is_tape : ScenarioValue → ℕ → ℕ → Bool
 is_tape s target unit = is_some (tape_of s target unit)
-
--- It has a tape.
-abbrev pub has_tape : ScenarioValue → Bool
-has_tape s = not (length s.tapes == 0)
 
 -- One of these fills is of this block.
 abbrev pub has_fill : List FillDef → ℕ → ℕ → ℕ → Bool

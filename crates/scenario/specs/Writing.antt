@@ -370,16 +370,10 @@ IsHexPayload (payloads.From b) = b < 256
 
 -- The scenario obeys the rules of its text: its version is 1, 2 or 3, none of its lines has a reason, and together
 -- they say it again; its bytes are bytes, and its text is within the limit. So it is read and printed.
-pub record ObeysText (s : ScenarioValue) : Type 0 where
+pub record Obeys (s : ScenarioValue) : Type 0 where
   pub version : (s.version == 1 || (s.version == 2 || s.version == 3)) ≡ true
   pub lawful : told_scenario (built nothing (saids s)) ≡ Ok s
   pub fills : AllByRecursion (λ f. IsHex f.bytes) s.fills
   pub loads : AllByRecursion (λ l. IsHexLoad l.what) s.loads
   pub commands : AllByRecursion (λ c. IsHex c.cdb × IsHexPayload c.payload) s.commands
   pub limit : length (text_of s) ≤ LIMIT
-
--- It obeys them, and has no tape; then it has no load either (`loads_are_for_tapes`). So it runs, which a tape does not
--- yet: once it does, the rules of a text are enough.
-pub record Obeys (s : ScenarioValue) : Type 0 where
-  pub text : ObeysText s
-  pub tapes : s.tapes ≡ []

@@ -7,11 +7,11 @@
 //!
 //! Public contract: [`read`] gives the scenario that the bytes say, or the first line with a reason
 //! and the lowest reason there, for every list of bytes, and only want of memory is free; what is
-//! read obeys the rules, and runs where it has no tape ([`has_tape`]). [`print`] gives the one spelling of a
-//! scenario, and reading it gives that scenario back ([`reads_back`]). [`make`] gives the scenario of a number, which
-//! obeys the rules. [`need`] tells how many bytes a command moves. The definitions stand in specs/: `Forms` and `Parts`
-//! (what a line says), `Reading` (line after line), `Reasons` (each reason as a test, of which the lowest is told),
-//! `Needs`, `Writing` (the spelling, and the rules), and `Making` (the scenario of a number).
+//! read obeys the rules. [`print`] gives the one spelling of a scenario, and reading it gives that scenario back
+//! ([`reads_back`]). [`make`] gives the scenario of a number, which obeys the rules. [`need`] tells how many bytes a
+//! command moves. The definitions stand in specs/: `Forms` and `Parts` (what a line says), `Reading` (line after line),
+//! `Reasons` (each reason as a test, of which the lowest is told), `Needs`, `Writing` (the spelling, and the rules),
+//! and `Making` (the scenario of a number).
 #![tactic(auto)]
 
 mod bounds;
@@ -37,7 +37,7 @@ pub use laws::{
     loads_are_for_tapes, needs_are_bounded, reads_back, tapes_alone_are_new, tapes_take_writes,
     tells_lowest,
 };
-pub use lookup::{has_tape, host_line, tape_line, tape_unit, target_line, unit_line, unit_or_tape};
+pub use lookup::{host_line, tape_line, tape_unit, target_line, unit_line, unit_or_tape};
 pub use making::make;
 pub use needs::{is_write, need, sent_count};
 pub use reading::read;

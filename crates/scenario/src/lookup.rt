@@ -1,13 +1,12 @@
 //! The line of an initiator, of a target, of a unit and of a tape.
-ghost use Rattle.std.specs.Prelude.{◌≡◌, ◌==◌, ◌&&◌, ◌++◌, false, map};
+ghost use Rattle.std.specs.Prelude.{◌≡◌, ◌==◌, ◌&&◌, ◌++◌, map};
 ghost use Rattle.std.specs.Option.{option_or, option_map};
 ghost use Rattle.std.specs.List.{find};
 ghost use Rattle.scenario.specs.declared.value.UnitDef.{UnitDef};
 ghost use Rattle.scenario.specs.declared.value.TapeDef.{TapeDef};
-ghost use Rattle.scenario.specs.Lookups.{tape_unit, has_tape};
-ghost use Rattle.scenario.specs.Writing.{ObeysText, Obeys};
+ghost use Rattle.scenario.specs.Lookups.{tape_unit};
 
-use crate::value::{HostDef, Scenario, TapeDef, TargetDef, UnitDef};
+use crate::value::{HostDef, TapeDef, TargetDef, UnitDef};
 use bus_base::Dev;
 
 /// The line of an initiator, where these have one.
@@ -92,12 +91,4 @@ pub fn unit_or_tape(units: &[UnitDef], tapes: &[TapeDef], target: u8, unit: u8) 
         unit_line(units, target, unit),
         tape_line(tapes, target, unit),
     )
-}
-
-/// Whether a scenario has a tape. One that obeys the rules of its text runs where it has none, and so far only there.
-pub fn has_tape(scenario: &Scenario) -> bool
-    ensures exact { result ≡ has_tape scenario.now }
-    ensures runs { ObeysText scenario.now → result ≡ false → Obeys scenario.now }
-{
-    !scenario.tapes.as_slice().is_empty()
 }

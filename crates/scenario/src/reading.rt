@@ -1,6 +1,6 @@
 //! From a text to a scenario.
 ghost use Rattle.std.specs.Prelude.{◌≡◌, IfOk};
-ghost use Rattle.scenario.specs.Writing.{ObeysText};
+ghost use Rattle.scenario.specs.Writing.{Obeys};
 ghost use Rattle.scenario.specs.Reading.{scenario_of, told, Answers};
 
 use crate::bounds::LIMIT;
@@ -25,7 +25,7 @@ pub fn read(alloc: Global, bytes: &[u8]) -> Result<Scenario, Bad>
     // Which it is.
     ensures exact { Answers result (scenario_of bytes.now) }
     // What is read obeys the rules, so what is printed of it reads back.
-    ensures obeys { IfOk result (λ s. ObeysText s) }
+    ensures obeys { IfOk result (λ s. Obeys s) }
 {
     read_lines(alloc, bytes)
 }

@@ -1,4 +1,5 @@
 mod Cases
+mod TapeCases
 mod Small
 pub mod StorySteps
 pub mod CarriedLists

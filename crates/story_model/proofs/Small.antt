@@ -1,4 +1,5 @@
--- The budget, valid commands and room, computed on scenarios of one read of five blocks; and an agreement.
+-- The budget, valid commands and room, computed on scenarios of one read of five blocks, and at a tape; and an
+-- agreement.
 use Rattle.std.proofs.Common.{ℕ, ◌≡◌, true, false, List, [], ◌∷◌, reverse, refl}
 use lib.Count.{ones}
 use Rattle.bus_phases.specs.bus_base.specs.declared.events.Pick.TheVariants as picks
@@ -16,7 +17,7 @@ use Rattle.bus_phases.specs.bus_trace.specs.View.{union_below}
 use Rattle.bus_phases.specs.msg_grammar.specs.Messages.{form_out, form_in}
 use Rattle.story_model.specs.CurrentAgreement.{current_agreement}
 use Rattle.story_model.proofs.Cases.{negotiation_run_rows}
-use Rattle.story_model.specs.Budget.{budget}
+use Rattle.story_model.specs.Budget.{budget, data_runs}
 use Rattle.story_model.specs.Outcomes.{is_valid, is_roomy}
 
 -- READ(6) of five blocks from this one on.
@@ -92,6 +93,43 @@ room_for_two = refl
 
 room_for_one : is_roomy (with_policy policies.Never [] [] 1) ≡ false
 room_for_one = refl
+
+-- ---- beside a tape
+
+abbrev beside_a_tape : ℕ → ScenarioValue
+beside_a_tape depth = record (with_policy (policies.Burst 2) [] [] 2) {
+  version = 3;
+  tapes = record { target = 0; unit = 1; objects = 4; size = 16; depth = depth } ∷ [];
+}
+
+abbrev at_tape : List ℕ → CmdDef
+at_tape cdb =
+    record { host = 7; target = 0; unit = 1; at = 0; tag = tags.Untagged; cdb = cdb; payload = payloads.Nothing }
+
+-- It ends GOOD wherever the tape stands.
+rewind : is_valid (beside_a_tape 2) (at_tape (1 ∷ 0 ∷ 0 ∷ 0 ∷ 0 ∷ 0 ∷ [])) ≡ true
+unfolding ones
+rewind = refl
+
+-- It may meet a filemark.
+tape_read : is_valid (beside_a_tape 2) (at_tape (8 ∷ 1 ∷ 0 ∷ 0 ∷ 1 ∷ 0 ∷ [])) ≡ false
+unfolding ones
+tape_read = refl
+
+beside_it : is_valid (beside_a_tape 2) (read 3) ≡ true
+unfolding ones
+beside_it = refl
+
+tape_has_room : is_roomy (beside_a_tape 2) ≡ true
+tape_has_room = refl
+
+tape_is_full : is_roomy (beside_a_tape 1) ≡ false
+tape_is_full = refl
+
+-- One run moves all, whatever the policy.
+one_run_at_tape : data_runs (beside_a_tape 2) (at_tape (8 ∷ 1 ∷ 0 ∷ 0 ∷ 3 ∷ 0 ∷ [])) ≡ 1
+unfolding need_of ones
+one_run_at_tape = refl
 
 -- A struck answer is sent again; factor 50 and offset 8 are agreed on.
 agreed_on : current_agreement (reverse negotiation_run_rows) 7 0 ≡ record { period = 50; offset = 8 }

@@ -11,6 +11,7 @@ use Rattle.array_model.specs.scenario.specs.declared.value.Policy.{Policy}
 use Rattle.array_model.specs.scenario.specs.declared.value.Policy.TheVariants as policies
 use Rattle.array_model.specs.scenario.specs.Value.{ScenarioValue}
 use Rattle.array_model.specs.scenario.specs.Needs.{need_of}
+use Rattle.array_model.specs.scenario.specs.Lookups.{is_tape}
 use Rattle.array_model.specs.Execution.{range_of}
 
 -- ---- data runs: how often a command may come back to move data, by the policy of its target
@@ -35,9 +36,12 @@ abbrev pub runs_at : Option TargetDef → CmdDef → ℕ
 runs_at None c = 0
 runs_at (Some t) c = runs_of t.disc (command_of c.cdb)
 
--- A command that needs no bytes has no run.
+-- A command that needs no bytes has no run, and one of a tape has one whatever the policy.
 abbrev pub data_runs : ScenarioValue → CmdDef → ℕ
-data_runs s c = if need_of s c == 0 then 0 else runs_at (find (λ (t : TargetDef). t.dev == c.target) s.targets) c
+data_runs s c =
+    if need_of s c == 0 then 0
+    else if is_tape s c.target c.unit then 1
+    else runs_at (find (λ (t : TargetDef). t.dev == c.target) s.targets) c
 
 -- ---- the sums
 

@@ -10,13 +10,16 @@ use Rattle.array_model.specs.cdb_codec.specs.declared.operation.TheConstants.{RE
 use Rattle.array_model.specs.cdb_codec.specs.declared.status.TheConstants.{GOOD, QUEUE_FULL}
 use Rattle.array_model.specs.cdb_codec.specs.declared.command.Command.{Command}
 use Rattle.array_model.specs.cdb_codec.specs.declared.command.CdbFault.{CdbFault}
+use Rattle.array_model.specs.cdb_codec.specs.declared.tape_command.TapeCommand.{TapeCommand}
+use Rattle.array_model.specs.cdb_codec.specs.declared.tape_command.TapeCommand.TheVariants as tapes
 use Rattle.array_model.specs.cdb_codec.specs.Cdb.{command_of}
+use Rattle.array_model.specs.cdb_codec.specs.TapeCdb.{tape_command_of}
 use Rattle.array_model.specs.cdb_codec.specs.Replies.{sense_of_data}
 use Rattle.array_model.specs.scenario.specs.declared.value.HostDef.{HostDef}
 use Rattle.array_model.specs.scenario.specs.declared.value.UnitDef.{UnitDef}
 use Rattle.array_model.specs.scenario.specs.declared.value.CmdDef.{CmdDef}
 use Rattle.array_model.specs.scenario.specs.Value.{ScenarioValue}
-use Rattle.array_model.specs.scenario.specs.Lookups.{has_target, unit_of}
+use Rattle.array_model.specs.scenario.specs.Lookups.{has_target, unit_of, units_of, is_tape}
 use Rattle.array_model.specs.Processes.{same_id}
 use Rattle.array_model.specs.Execution.{Reply, is_opcode, range_of, is_good_range}
 use Rattle.array_model.specs.ArrayHistory.{array_after, reply_of}
@@ -101,10 +104,20 @@ is_sound_command s c (Err fault) = false
 is_sound_command s c (Ok k) =
     is_opcode c.cdb INQUIRY || is_opcode c.cdb REQUEST_SENSE || fits_unit (unit_of s c.target c.unit) k
 
+-- What ends GOOD wherever a tape stands.
+abbrev pub is_plain_at_tape : Result TapeCommand CdbFault → Bool
+is_plain_at_tape (Ok tapes.TestUnitReady) = true
+is_plain_at_tape (Ok tapes.Rewind) = true
+is_plain_at_tape (Ok (tapes.RequestSense room)) = true
+is_plain_at_tape (Ok (tapes.Inquiry room)) = true
+is_plain_at_tape _ = false
+
 -- Its target is there; its command descriptor block has no fault; and its unit is there and its range is good, or it
--- is INQUIRY or REQUEST SENSE.
+-- is INQUIRY or REQUEST SENSE. At a tape it is TEST UNIT READY, INQUIRY, REQUEST SENSE or REWIND.
 abbrev pub is_valid : ScenarioValue → CmdDef → Bool
-is_valid s c = has_target s c.target && is_sound_command s c (command_of c.cdb)
+is_valid s c = has_target s c.target
+    && (if is_tape s c.target c.unit then is_plain_at_tape (tape_command_of c.cdb)
+    else is_sound_command s c (command_of c.cdb))
 
 abbrev pub most_open : List HostDef → ℕ
 most_open [] = 0
@@ -112,4 +125,4 @@ most_open (h ∷ hosts) = h.most + most_open hosts
 
 -- Every queue has room for all that the initiators may have open at once.
 abbrev pub is_roomy : ScenarioValue → Bool
-is_roomy s = not (list_any (λ (u : UnitDef). not (nat_le (most_open s.hosts) u.depth)) s.units)
+is_roomy s = not (list_any (λ (u : UnitDef). not (nat_le (most_open s.hosts) u.depth)) (units_of s))

@@ -1,6 +1,6 @@
--- A trace, its history, the outcomes and the blocks belong together: the history is what the rows tell, the plain disk
--- array permits it and holds these blocks, the outcomes follow, and each command that ran and ended carried exactly its
--- own bytes.
+-- A trace, its history, the outcomes, the blocks and the tapes belong together: the history is what the rows tell, the
+-- plain disk array permits it and holds these blocks and tapes, the outcomes follow, and each command that ran and
+-- ended carried exactly its own bytes.
 use Rattle.std.specs.Prelude.{ℕ, ◌≡◌, Bool, true, false, not, ◌&&◌, ◌||◌, ◌==◌, List, [], ◌∷◌, reverse, Option, Some}
 use Rattle.std.specs.Prelude.{None, is_some, if◌then◌else◌}
 use Rattle.std.specs.List.{list_any}
@@ -15,7 +15,7 @@ use Rattle.array_model.specs.scenario.specs.Needs.{is_write}
 use Rattle.array_model.specs.Processes.{Process, process_of, same_id}
 use Rattle.array_model.specs.Contents.{Contents}
 use Rattle.array_model.specs.Execution.{Reply}
-use Rattle.array_model.specs.ArrayHistory.{array_after, disks_of, reply_of}
+use Rattle.array_model.specs.ArrayHistory.{array_after, disks_of, tapes_of, reply_of}
 use Rattle.story_model.specs.CarriedBytes.{CarriedBytes, carried_of}
 use Rattle.story_model.specs.Story.{Story}
 use Rattle.story_model.specs.TraceHistory.{story}
@@ -61,9 +61,11 @@ all_carried s b (e ∷ history) = is_carried s b e && all_carried s b history
 -- ---- all of it
 
 pub record Right (s : ScenarioValue) (rows : List Row) (history : List Event) (ended : List (Option Outcome))
-    (disks : List Contents) : Type 0 where
+    (disks tapes : List Contents) : Type 0 where
   pub told : (story s (reverse rows)).history ≡ reverse history
   pub permitted : is_some (array_after s (reverse history)) ≡ true
   pub blocks : disks_of (array_after s (reverse history)) ≡ disks
+  -- the objects of each, and where it stands
+  pub reels : tapes_of (array_after s (reverse history)) ≡ tapes
   pub replies : outcomes s (story s (reverse rows)) ≡ ended
   pub carried : all_carried s (story s (reverse rows)) (reverse history) ≡ true
