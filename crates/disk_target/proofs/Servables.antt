@@ -6,6 +6,7 @@ use Rattle.std.specs.List.{AllByRecursion}
 use Rattle.bus_base.specs.declared.Event.{Event}
 use Rattle.bus_trace.specs.declared.Row.{Row}
 use Rattle.scenario.specs.declared.value.TargetDef.{TargetDef}
+use Rattle.scenario.specs.Lookups.{units_of}
 use Rattle.scenario.specs.Value.{ScenarioValue}
 use Rattle.array_model.specs.Units.{Array, UnitState}
 use Rattle.due_model.specs.RunState.{RunState, array_of, or_start}
@@ -42,7 +43,7 @@ row_before s k (e ∷ shown) a time h lt =
 
 rows_before : (s : ScenarioValue) (rows : List Row) → AllByRecursion (λ (row : Row). row.time < 2 ^ 62) rows
     → AreBefore (run_state s rows).current_since
-rows_before s [] h = none_before (length s.units)
+rows_before s [] h = none_before (length (units_of s))
 rows_before s (row ∷ rows) h =
     let k : RunState = run_state s rows in
     row_before s k (events_of_row s rows row) (array_after_events s k.array (events_of_row s rows row)) row.time

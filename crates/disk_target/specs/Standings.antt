@@ -15,7 +15,6 @@ use Rattle.target_course.specs.target_units.specs.Seated.{IsProcess, reply_told}
 use Rattle.disk_target.specs.declared.standing.Served.{Served}
 use Rattle.disk_target.specs.declared.standing.Standing.{Standing}
 use Rattle.disk_target.specs.declared.standing.Standing.TheVariants as standings
-use Rattle.array_model.proofs.NamedBlocks.{is_disk}
 
 -- ---- a process as its target knows it
 
@@ -39,7 +38,6 @@ words_of s dev p v h block = record {
   tag_is = h.tag_is;
   class_is = h.class_is;
   cdb_is = block;
-  disk = is_disk s p h.own.is;
 }
 
 -- ---- at its unit

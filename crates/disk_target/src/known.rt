@@ -71,6 +71,7 @@ fn state_of(
         in_hold: units.holds(unit, from),
         runs: counts.runs,
         recoveries: counts.recoveries,
+        serial: units.is_serial(unit),
         size,
         room: units.room(unit),
         plan,

@@ -13,7 +13,7 @@ ghost use Rattle.disk_unit.specs.Units.{told_of, planned_reply};
 ghost use Rattle.target_course.specs.target_units.specs.Seated.{HasSent};
 ghost use Rattle.target_course.specs.target_units.specs.Units.{UnitsState, AreUnitsOf, AreUnitsAfter, IsStep, is_of_one, unit_in, spare_of};
 ghost use Rattle.target_course.specs.target_units.specs.Fillings.{blocks_at};
-ghost use Rattle.scenario.specs.Lookups.{unit_of};
+ghost use Rattle.scenario.specs.Lookups.{unit_of, units_of};
 ghost use Rattle.scenario.specs.Writing.{Obeys};
 ghost use Rattle.bus_trace.specs.declared.Row.{Row};
 ghost use Rattle.due_model.specs.Allowed.{allowed};
@@ -394,11 +394,10 @@ impl Processes {
         ensures dev { IfOk result (λ made. made.units.dev ≡ def.now.dev) }
         ensures seek { IfOk result (λ made. made.units.seek ≡ def.now.seek) }
         ensures start { IfOk result (λ made. AreUnitsOf scenario.now
-            (settled_array (starting_array scenario.now)) (replicate (length scenario.now.units) 0) def.now.dev
+            (settled_array (starting_array scenario.now)) (replicate (length (units_of scenario.now)) 0) def.now.dev
             made.units.units) }
         ensures spare { IfOk result (λ made. (n : ℕ) → n < 8
-            → blocks_at (unit_of scenario.now def.now.dev n) scenario.now.commands
-            ≤ spare_of (unit_in made.units.units n)) }
+            → blocks_at scenario.now (unit_of scenario.now def.now.dev n) ≤ spare_of (unit_in made.units.units n)) }
         ensures standing { IfOk result (λ made. made.standing ≡ Nowhere) }
     {
         let units = Units::of(alloc, scenario, def)?;

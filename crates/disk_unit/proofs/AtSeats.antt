@@ -9,12 +9,12 @@ use Rattle.cdb_codec.specs.Cdb.{command_of}
 use Rattle.array_model.specs.scenario.specs.declared.value.HostDef.{HostDef}
 use Rattle.array_model.specs.scenario.specs.declared.value.UnitDef.{UnitDef}
 use Rattle.array_model.specs.scenario.specs.Value.{ScenarioValue}
-use Rattle.array_model.specs.Contents.{Contents, starting_contents}
+use Rattle.array_model.specs.Contents.{Contents}
 use Rattle.array_model.specs.Execution.{Reply, Execution, execution, is_request_sense, queue_full}
 use Rattle.array_model.specs.Order.{entry_of, choice, without_process}
 use Rattle.array_model.specs.Processes.{Process, same_id}
 use Rattle.array_model.specs.Units.{UnitState, RunningProcess, with_current, has_no_current, guest_at, starting_unit}
-use Rattle.array_model.specs.Units.{starting_array}
+use Rattle.array_model.specs.Units.{contents_at_start, starting_array}
 use Rattle.array_model.specs.Steps.{process_count, unit_without, running_if, unit_processes, has_tag}
 use Rattle.array_model.specs.Seats
 use Rattle.array_model.specs.Seats.{Seat, seat_of, unit_with_choice, unit_with_reply, unit_with_contents, unit_kept}
@@ -23,7 +23,7 @@ use Rattle.tag_queue.specs.declared.those.Those.TheVariants as those
 use Rattle.disk_unit.specs.Books
 use Rattle.disk_unit.specs.Books.{UnitBooks, IsCleared, block_at, attention_at, initiator_at, initiator_of}
 use Rattle.disk_unit.specs.Plans.{sense_if}
-use Rattle.disk_unit.specs.Disk.{disk_execution, disk_reply}
+use Rattle.disk_unit.specs.Held.{held_execution, held_reply}
 use Rattle.disk_unit.specs.Units.{is_reported, reply_with, books_if_reported}
 use Rattle.disk_unit.specs.Keeping.{IsKeptAt, books_after_status}
 use Rattle.disk_unit.specs.LiveCommands.{LiveCommand, HasLive, IsCurrentOf, process_under, has_process, live_but}
@@ -230,9 +230,9 @@ pub ran : (hosts : List HostDef) (l : List LiveCommand) (c : Contents) (u : Unit
     → p.initiator < 8 → Seats.is_initiator hosts p.initiator ≡ true → is_request_sense (command_of p.cdb) ≡ false
     → (block_at b key ≡ p.cdb) × (execution (Seats.context_of seat p.initiator) p.cdb p.sent ≡ record {
       contents =
-          if is_reported (attention_at b key) (block_at b key) then c else (disk_execution c p.cdb p.sent).contents;
+          if is_reported (attention_at b key) (block_at b key) then c else (held_execution c p.cdb p.sent).contents;
       reported = is_reported (attention_at b key) (block_at b key);
-      reply = reply_with (attention_at b key) (block_at b key) (disk_reply c (block_at b key));
+      reply = reply_with (attention_at b key) (block_at b key) (held_reply c (block_at b key));
     })
 ran hosts l c u seat b key p h k lt host f =
     let block : block_at b key ≡ p.cdb = live.block_found b.blocks l key p h.commands.blocks k in
@@ -252,9 +252,9 @@ ran hosts l c u seat b key p h k lt host f =
         attention = sym attention i;
       }) p.cdb p.sent) ∙ executed c (seat.senses p.initiator) (attention_at b key) p.cdb p.sent f ∙ (λ i. record {
         contents =
-            if is_reported (attention_at b key) (sym block i) then c else (disk_execution c p.cdb p.sent).contents;
+            if is_reported (attention_at b key) (sym block i) then c else (held_execution c p.cdb p.sent).contents;
         reported = is_reported (attention_at b key) (sym block i);
-        reply = reply_with (attention_at b key) (sym block i) (disk_reply c (sym block i));
+        reply = reply_with (attention_at b key) (sym block i) (held_reply c (sym block i));
       }),
     )
 
@@ -462,7 +462,7 @@ guest_lost hosts l c u seat b id h f = record {
 
 pub started : (s : ScenarioValue) (d : UnitDef) (target unit keys : ℕ) (blocks : List (List ℕ))
     → (seat_of (starting_array s) target unit).unit ≡ Some (starting_unit s d)
-    → IsUnitAt s.hosts [] (starting_contents d s.fills) (starting_unit s d) (seat_of (starting_array s) target unit)
+    → IsUnitAt s.hosts [] (contents_at_start s d) (starting_unit s d) (seat_of (starting_array s) target unit)
     (Books.empty_books d.depth keys blocks)
 started s d target unit keys blocks h = record {
   there = h;

@@ -7,4 +7,5 @@ pub mod Executions
 pub mod LiveCommands
 pub mod Keeping
 pub mod AtSeats
+pub mod TapeFacts
 pub mod MediumFacts

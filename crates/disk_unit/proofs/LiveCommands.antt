@@ -9,6 +9,7 @@ use Rattle.std.proofs.lemmas.List.{get_or-set_same, get_or-set_other}
 use Rattle.bus_base.specs.declared.ProcId.{ProcId}
 use Rattle.bus_base.proofs.Tests.{eq_self}
 use Rattle.array_model.specs.declared.entries.Entry.{Entry}
+use Rattle.array_model.specs.Contents.{Contents, is_reeled}
 use Rattle.array_model.specs.Processes.{Process, same_id}
 use Rattle.array_model.specs.Order.{entry_of, tag_number, entries_of, chosen_place, process_at, process_at_if}
 use Rattle.array_model.specs.Order.{without_process, same_number}
@@ -16,6 +17,7 @@ use Rattle.array_model.specs.Units.{RunningProcess, UnitState, with_current}
 use Rattle.array_model.specs.scenario.specs.declared.value.Tag.{Tag}
 use Rattle.array_model.specs.scenario.specs.declared.value.Tag.TheVariants as tags
 use Rattle.array_model.specs.Execution.{Reply}
+use Rattle.array_model.specs.Reels.{Reel}
 use Rattle.array_model.specs.Steps.{running_if, running_count, process_count, current_with_reply, unit_without}
 use Rattle.array_model.specs.Steps.{kept_processes, kept_running, processes_of, unit_processes, has_tag}
 use Rattle.array_model.specs.Seats.{unit_with_choice, unit_with_reply, unit_kept, is_told as is_told_at}
@@ -33,7 +35,7 @@ use Rattle.array_model.proofs.SeatReplies.{id_self}
 use Rattle.array_model.specs.Order.{class_of, count_in, first_in, range_in}
 use Rattle.cdb_codec.specs.Cdb.{command_of}
 use Rattle.array_model.specs.scenario.specs.Needs.{is_write}
-use Rattle.disk_unit.specs.Disk.{disk_extent}
+use Rattle.disk_unit.specs.Held.{extent_by, held_extent, kind_with}
 use Rattle.disk_unit.specs.Units.{entry_with}
 
 -- ---- tests
@@ -76,17 +78,27 @@ process_found (x ∷ live) key p h = go (x.key == key) h (λ k. process_found li
         λ i. if same i then true else has_process live p.id
     go false k more = later (same_id x.process.id p.id) (more k)
 
-pub entry_at_disk : (p : Process) → p.serial ≡ false
-    → entry_with p.id p.initiator (tag_number p.tag) (class_of p.tag) (disk_extent p.cdb) ≡ entry_of p
-entry_at_disk p e = λ i. record {
-  id = p.id;
-  from = p.initiator;
-  tag = tag_number p.tag;
-  class = class_of p.tag;
-  first = first_in (if sym e i then Some (0, 1) else range_in (command_of p.cdb));
-  count = count_in (if sym e i then Some (0, 1) else range_in (command_of p.cdb));
-  writes = sym e i || is_write (command_of p.cdb);
-}
+-- What the queue keeps of a command is what the array orders it by: at a disk the blocks that it names, and at a tape
+-- one that is the same for all.
+pub entry_held : (p : Process) (c : Contents) → p.serial ≡ is_reeled c
+    → entry_with p.id p.initiator (tag_number p.tag) (class_of p.tag) (held_extent c p.cdb) ≡ entry_of p
+entry_held p c e = go c.reel e
+  where
+    kept : Bool → Entry
+    kept serial = record {
+      id = p.id;
+      from = p.initiator;
+      tag = tag_number p.tag;
+      class = class_of p.tag;
+      first = first_in (if serial then Some (0, 1) else range_in (command_of p.cdb));
+      count = count_in (if serial then Some (0, 1) else range_in (command_of p.cdb));
+      writes = serial || is_write (command_of p.cdb);
+    }
+
+    go : (r : Option Reel) → p.serial ≡ is_some r → entry_with p.id p.initiator
+        (tag_number p.tag) (class_of p.tag) (extent_by (kind_with r c.count) p.cdb) ≡ kept p.serial
+    go None k = λ i. kept (sym k i)
+    go (Some r) k = λ i. kept (sym k i)
 
 pub entry_found : (live : List LiveCommand) (key : ℕ) (p : Process) → process_under live key ≡ Some p
     → entry_at (queued_of live) key ≡ Some (entry_of p)

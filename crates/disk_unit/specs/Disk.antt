@@ -8,7 +8,6 @@ use Rattle.cdb_codec.specs.Blocks.{blocks_moved}
 use Rattle.cdb_codec.specs.declared.command.CdbFault.{CdbFault}
 use Rattle.cdb_codec.specs.Cdb.{command_of}
 use Rattle.array_model.specs.scenario.specs.Needs.{is_write}
-use Rattle.array_model.specs.scenario.specs.declared.value.UnitDef.{UnitDef}
 use Rattle.array_model.specs.Contents.{Contents}
 use Rattle.array_model.specs.Execution.{Reply, CommandContext, Execution, cdb_execution, command_execution, range_of}
 use Rattle.array_model.specs.Execution.{is_good_range}
@@ -66,24 +65,3 @@ written_if blocks command = if is_good_range blocks (range_of command) then writ
 abbrev pub blocks_written : ℕ → Result Command CdbFault → ℕ
 blocks_written blocks (Ok command) = written_if blocks command
 blocks_written blocks (Err fault) = 0
-
--- ---- what a command may write, whatever the unit holds, and what it takes if it runs now
-
--- What a unit is: a disk of so many blocks.
-pub data UnitKind : Type 0 where
-  disk_of : (blocks : ℕ) → UnitKind
-
-abbrev pub kind_of : Contents → UnitKind
-kind_of c = disk_of c.count
-
--- As its line says.
-abbrev pub kind_by : UnitDef → UnitKind
-kind_by u = disk_of u.blocks
-
--- How many blocks it writes at most, for which there has to be memory.
-abbrev pub cost_by : UnitKind → List ℕ → ℕ
-cost_by (disk_of blocks) cdb = blocks_written blocks (command_of cdb)
-
--- How many bytes: those of the blocks that it writes.
-abbrev pub taken_now : Contents → List ℕ → ℕ
-taken_now c cdb = blocks_written c.count (command_of cdb) * c.size

@@ -1,5 +1,6 @@
 pub mod Plans
 pub mod Disk
+pub mod Held
 pub mod Sparse
 pub mod Dense
 pub mod Books

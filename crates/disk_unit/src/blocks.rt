@@ -1,12 +1,12 @@
 //! What keeps the blocks of a disk.
-ghost use Rattle.std.specs.Prelude.{◌≡◌, ℕ, ◌+◌, ◌<◌, ◌≤◌, length, take, drop, OnOk, OnErr};
+ghost use Rattle.std.specs.Prelude.{◌≡◌, ℕ, ◌+◌, ◌<◌, ◌≤◌, length, take, drop, None, OnOk, OnErr};
 ghost use Rattle.array_model.specs.Contents.{Contents, block_at, with_block};
 
 use bus_base::NoMemory;
 
 /// The blocks of a disk, all of one size.
 pub trait Blocks {
-    // How many blocks there are, of how many bytes, and the bytes of each.
+    // How many blocks there are, of how many bytes, and the bytes of each. They are those of no tape.
     ghost contents: { Self → Contents };
 
     // How many blocks that were not written yet may be written without memory.
@@ -16,7 +16,8 @@ pub trait Blocks {
     fn count(&self) -> u64
         ensures exact { result ≡ (contents self.now).count }
         ensures some { 1 ≤ (contents self.now).count }
-        ensures most { (contents self.now).count ≤ 4294967296 };
+        ensures most { (contents self.now).count ≤ 4294967296 }
+        ensures disk { (contents self.now).reel ≡ None };
 
     /// How many bytes a block has.
     fn size(&self) -> usize

@@ -16,14 +16,19 @@ pub struct DenseBlocks {
 }
 
 impl Model for DenseBlocks {
-    ghost use Rattle.std.specs.Prelude.{◌≡◌, ◌*◌, ◌≤◌, length};
+    ghost use Rattle.std.specs.Prelude.{◌≡◌, ◌*◌, ◌≤◌, length, None};
     ghost use Rattle.array_model.specs.Contents.{Contents};
 
     ghost Value = { Contents };
 
     ghost use Rattle.disk_unit.specs.Dense.{blocks_in};
 
-    ghost view = { λ d. record { count = d.count; size = d.size; touched = blocks_in d.size 0 d.count d.bytes.items } };
+    ghost view = { λ d. record {
+      count = d.count;
+      size = d.size;
+      touched = blocks_in d.size 0 d.count d.bytes.items;
+      reel = None;
+    } };
 
     ghost invariant = { λ d. (length d.bytes.items
         ≡ d.count * d.size) × (d.count ≤ 4294967296) × (d.size ≤ 2048) × (1 ≤ d.count) × (1 ≤ d.size) };

@@ -9,7 +9,7 @@ ghost use Rattle.cdb_codec.specs.Replies.{plain_sense, capacity_data};
 ghost use Rattle.array_model.specs.Execution.{Reply, is_good_range, range_of, command_execution, cdb_execution, range_execution, check_condition, good};
 ghost use Rattle.array_model.specs.Order.{range_in, first_in, count_in};
 ghost use Rattle.disk_unit.specs.Plans.{plan_of};
-ghost use Rattle.disk_unit.specs.Disk.{disk_context, disk_execution, disk_reply, is_changed, cost_by, kind_of, taken_now, disk_extent, written_of, bytes_in, command_reply, written_if};
+ghost use Rattle.disk_unit.specs.Disk.{disk_context, disk_execution, disk_reply, is_changed, blocks_written, disk_extent, written_of, bytes_in, command_reply, written_if};
 
 use super::blocks::{Blocks, copy_from};
 use super::media::{Extent, Medium, Plan};
@@ -362,9 +362,10 @@ impl<B: Blocks> Medium for DiskMedium<B> {
 
     ghost reply_to = { λ m cdb. disk_reply (B.contents m.blocks) cdb };
 
-    ghost taken_by = { λ m cdb. taken_now (B.contents m.blocks) cdb };
+    ghost taken_by = { λ m cdb. blocks_written (B.contents m.blocks).count (command_of cdb)
+        * (B.contents m.blocks).size };
 
-    ghost written_by = { λ m cdb. cost_by (kind_of (B.contents m.blocks)) cdb };
+    ghost written_by = { λ m cdb. blocks_written (B.contents m.blocks).count (command_of cdb) };
 
     ghost named_by = { λ m cdb. disk_extent cdb };
 

@@ -5,13 +5,15 @@ ghost use Rattle.bus_base.specs.declared.ProcId.{ProcId};
 ghost use Rattle.bus_base.specs.declared.events.Pick.{Pick};
 ghost use Rattle.cdb_codec.specs.declared.Sense.{Sense};
 ghost use Rattle.cdb_codec.specs.Cdb.{command_of};
-ghost use Rattle.array_model.specs.Contents.{Contents, starting_contents};
-ghost use Rattle.array_model.specs.Execution.{Execution, Reply, execution, is_request_sense, queue_full};
+ghost use Rattle.array_model.specs.Contents.{Contents, is_reeled};
+ghost use Rattle.array_model.specs.Execution.{Execution, Reply, execution, is_request_sense, queue_full, tape_contents};
 ghost use Rattle.array_model.specs.Order.{entry_of, tag_number, class_of};
 ghost use Rattle.array_model.specs.Processes.{Process};
 ghost use Rattle.array_model.specs.Seats.{Seat, seat_of, settled_seat, is_any_held, seat_with_guest, seat_with_reply, seat_with_execution, seat_without, seat_after_status, seat_after_abort, seat_after_abort_tag, seat_after_clear_queue, seat_after_reset, seat_after_accept, seat_after_refuse, seat_after_run, seat_after_failure, seat_after_end, seat_after_loss, seat_after_aborted, running_at, context_of, is_initiator, unit_with_choice, unit_with_reply, unit_with_contents, unit_kept, is_told as is_told_at};
 ghost use Rattle.array_model.specs.Steps.{unit_processes, unit_without, has_tag};
-ghost use Rattle.array_model.specs.Units.{UnitState, starting_array, starting_unit, guest_at};
+ghost use Rattle.array_model.specs.TapeExecution.{Tape};
+ghost use Rattle.array_model.specs.Tapes.{tape_after, tape_done};
+ghost use Rattle.array_model.specs.Units.{UnitState, contents_at_start, starting_array, starting_unit, guest_at};
 ghost use Rattle.array_model.specs.declared.entries.Entry.{Entry};
 ghost use Rattle.array_model.specs.scenario.specs.Value.{ScenarioValue};
 ghost use Rattle.array_model.specs.scenario.specs.declared.value.HostDef.{HostDef};
@@ -20,22 +22,32 @@ ghost use Rattle.tag_queue.specs.Queue.{is_held, has_key};
 ghost use Rattle.tag_queue.specs.declared.those.Those.TheVariants as those;
 ghost use Rattle.disk_unit.specs.AtSeats.{IsUnitAt};
 ghost use Rattle.disk_unit.specs.Books.{UnitBooks, IsCleared, is_told, block_at, attention_at, initiator_at, books_after_end, empty_books, books_with, books_after_choice, books_without, books_after_abort, books_after_abort_tag, books_after_reset};
-ghost use Rattle.disk_unit.specs.Disk.{disk_execution, disk_reply, disk_extent};
+ghost use Rattle.disk_unit.specs.Disk.{disk_execution};
+ghost use Rattle.disk_unit.specs.Held.{held_execution, held_reply, held_extent};
 ghost use Rattle.disk_unit.specs.Keeping.{IsKeptAt, books_after_status};
 ghost use Rattle.disk_unit.specs.LiveCommands.{LiveCommand, has_process, process_under, live_but, has_this_key, is_one_of};
 ghost use Rattle.disk_unit.specs.Plans.{sense_if};
 ghost use Rattle.disk_unit.specs.Units.{entry_with, books_if_reported, is_reported, reply_with};
 
-/// At a disk a command that waits in a queue does what the plain disk array says: it reports an attention and changes
-/// nothing, or has the reply and the new contents that the disk alone gives it.
-pub fn disks_execute_as_the_array()
-    ensures { (c : Contents) (stored attention : Option Sense) (cdb sent : List ℕ)
+/// At a disk or a tape a command that waits in a queue does what the plain disk array says: it reports an attention and
+/// changes nothing, or has the reply and the new contents that the disk or the tape alone gives it (`array`). Those of
+/// a disk come of its blocks (`disk`), and those of a tape of its reel (`tape`).
+pub fn units_execute_as_the_array()
+    ensures array { (c : Contents) (stored attention : Option Sense) (cdb sent : List ℕ)
         → is_request_sense (command_of cdb) ≡ false
         → execution (record { present = true; contents = c; stored = stored; attention = attention }) cdb sent
         ≡ record {
-          contents = if is_reported attention cdb then c else (disk_execution c cdb sent).contents;
+          contents = if is_reported attention cdb then c else (held_execution c cdb sent).contents;
           reported = is_reported attention cdb;
-          reply = reply_with attention cdb (disk_reply c cdb);
+          reply = reply_with attention cdb (held_reply c cdb);
+        } }
+    ensures disk { (c : Contents) (cdb sent : List ℕ) → c.reel ≡ None
+        → held_execution c cdb sent ≡ disk_execution c cdb sent }
+    ensures tape { (t : Tape) (cdb sent : List ℕ) → held_execution (tape_contents t) cdb sent
+        ≡ record {
+          contents = tape_contents (tape_after t cdb sent);
+          reported = false;
+          reply = (tape_done t cdb sent).reply;
         } }
 {}
 
@@ -85,23 +97,23 @@ pub fn units_keep_what_seats_keep()
         → is_held b.queue.hold ≡ is_any_held seat.hold }
 {}
 
-/// A unit at its seat of the plain disk array goes on as the seat does: where its live commands, what it keeps for
-/// each initiator and its contents are those of the seat (`IsUnitAt`), they are so after each event. What a queue
-/// keeps of a command at a disk is what the array orders commands by (`entry`). A command that is queued is the last
-/// one that waits, and is refused exactly where the array refuses it (`accept`, `refuse`); the choice is that of the
-/// array, while no initiator stands in the hold (`choice`); a run reads the attention and the command descriptor
-/// block that the array reads, and executes as it does (`run`, `execution`); a failure leaves the unit (`failure`); a
-/// command that ends stores its sense and leaves (`end`), one that is lost leaves (`loss`); aborts and resets take
-/// away the commands that they name, what is kept, and tell whom they should (`abort`, `abort_tag`, `clear_queue`,
-/// `reset`). A REQUEST SENSE, which stands outside the queue, comes, ends or is lost without the queue (`guest`,
-/// `guest_end`, `guest_loss`). (ANSI X3.131-1994, 6.6.17, 7.5, 7.6, 7.8 and 7.9)
+/// A unit at its seat of the plain disk array goes on as the seat does: where its live commands, what it keeps for each
+/// initiator and its contents are those of the seat (`IsUnitAt`), they are so after each event. What a queue keeps of a
+/// command is what the array orders commands by, which at a tape is one and the same block for all (`entry`). A command
+/// that is queued is the last one that waits, and is refused exactly where the array refuses it (`accept`, `refuse`);
+/// the choice is that of the array, while no initiator stands in the hold (`choice`); a run reads the attention and the
+/// command descriptor block that the array reads, and executes as it does (`run`, `execution`); a failure leaves the
+/// unit (`failure`); a command that ends stores its sense and leaves (`end`), one that is lost leaves (`loss`); aborts
+/// and resets take away the commands that they name, what is kept, and tell whom they should (`abort`, `abort_tag`,
+/// `clear_queue`, `reset`). A REQUEST SENSE, which stands outside the queue, comes, ends or is lost without the queue
+/// (`guest`, `guest_end`, `guest_loss`). (ANSI X3.131-1994, 6.6.17, 7.5, 7.6, 7.8 and 7.9)
 pub fn units_are_seats()
     ensures start { (s : ScenarioValue) (d : UnitDef) (target unit keys : ℕ) (blocks : List (List ℕ))
         → (seat_of (starting_array s) target unit).unit ≡ Some (starting_unit s d)
-        → IsUnitAt s.hosts [] (starting_contents d s.fills) (starting_unit s d) (seat_of (starting_array s) target unit)
+        → IsUnitAt s.hosts [] (contents_at_start s d) (starting_unit s d) (seat_of (starting_array s) target unit)
         (empty_books d.depth keys blocks) }
-    ensures entry { (p : Process) → p.serial ≡ false
-        → entry_with p.id p.initiator (tag_number p.tag) (class_of p.tag) (disk_extent p.cdb) ≡ entry_of p }
+    ensures entry { (p : Process) (c : Contents) → p.serial ≡ is_reeled c
+        → entry_with p.id p.initiator (tag_number p.tag) (class_of p.tag) (held_extent c p.cdb) ≡ entry_of p }
     ensures accept { (hosts : List HostDef) (live : List LiveCommand) (c : Contents) (u : UnitState) (seat : Seat)
         (b : UnitBooks) (key : ℕ) (p : Process) → IsUnitAt hosts live c u seat b
         → is_request_sense (command_of p.cdb) ≡ false → length b.queue.arrived < b.queue.depth
@@ -125,9 +137,9 @@ pub fn units_are_seats()
         → p.initiator < 8 → is_initiator hosts p.initiator ≡ true → is_request_sense (command_of p.cdb) ≡ false
         → (block_at b key ≡ p.cdb) × (execution (context_of seat p.initiator) p.cdb p.sent ≡ record {
           contents = if is_reported (attention_at b key) (block_at b key) then c
-              else (disk_execution c p.cdb p.sent).contents;
+              else (held_execution c p.cdb p.sent).contents;
           reported = is_reported (attention_at b key) (block_at b key);
-          reply = reply_with (attention_at b key) (block_at b key) (disk_reply c (block_at b key));
+          reply = reply_with (attention_at b key) (block_at b key) (held_reply c (block_at b key));
         }) }
     ensures run { (hosts : List HostDef) (live : List LiveCommand) (c : Contents) (u : UnitState) (seat : Seat)
         (b : UnitBooks) (key : ℕ) (p : Process) → IsUnitAt hosts live c u seat b → process_under live key ≡ Some p

@@ -9,9 +9,9 @@
 //! the hold, and for each initiator a sense and an attention.
 //!
 //! Public contract: the traits `Blocks` and `Medium`, which all kinds meet: a read gives the block of the contents, a
-//! write changes that block alone, and a disk answers as the plain disk array does (`disks_execute_as_the_array`);
-//! each call of a unit is exact on what it keeps (`specs/Books.antt`), and is the step of its seat of the plain disk
-//! array (`units_are_seats`). No call but `new` and `reserve` takes memory.
+//! write changes that block alone, and a disk or a tape answers as the plain disk array does
+//! (`units_execute_as_the_array`); each call of a unit is exact on what it keeps (`specs/Books.antt`), and is the step
+//! of its seat of the plain disk array (`units_are_seats`). No call but `new` and `reserve` takes memory.
 #![tactic(auto)]
 
 mod blocks;
@@ -28,7 +28,7 @@ mod unit;
 pub use blocks::{Blocks, copy_from};
 pub use dense::DenseBlocks;
 pub use disk::DiskMedium;
-pub use laws::{disks_execute_as_the_array, units_are_seats, units_keep_what_seats_keep};
+pub use laws::{units_are_seats, units_execute_as_the_array, units_keep_what_seats_keep};
 pub use media::{Extent, Medium, Plan};
 pub use sparse::SparseBlocks;
 pub use unit::{Accepted, Reply, Unit, aborted_reply, heeds_attention, planned_reply, refusal};

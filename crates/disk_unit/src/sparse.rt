@@ -24,7 +24,7 @@ pub struct SparseBlocks {
 }
 
 impl Model for SparseBlocks {
-    ghost use Rattle.std.specs.Prelude.{vec_capacity, length};
+    ghost use Rattle.std.specs.Prelude.{vec_capacity, length, None};
     ghost use Rattle.disk_unit.specs.Sparse.{Store};
 
     ghost Value = { Store };
@@ -32,7 +32,12 @@ impl Model for SparseBlocks {
     ghost use Rattle.disk_unit.specs.Sparse.{touched_of, IsSparse};
 
     ghost view = { λ s. record {
-      contents = record { count = s.count; size = s.size; touched = touched_of s.numbers.items s.blocks.items };
+      contents = record {
+        count = s.count;
+        size = s.size;
+        touched = touched_of s.numbers.items s.blocks.items;
+        reel = None;
+      };
       spare = length s.pool.items;
     } };
 

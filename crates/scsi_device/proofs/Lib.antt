@@ -4,6 +4,7 @@ pub mod OwnRows
 mod Dues
 pub mod Finds
 pub mod LineReads
+mod LoadLines
 pub mod LinesSoFar
 pub mod LinesBuilt
 pub mod FitLines

@@ -7,25 +7,27 @@ use Rattle.due_model.specs.cdb_codec.specs.Cdb.{is_len}
 use Rattle.text_words.specs.Words.{Number}
 use Rattle.scenario.specs.declared.bounds.TheConstants.{LATENCY_LIMIT, OPEN_LIMIT, RETRY_LIMIT, HOST_OFFSET_LIMIT}
 use Rattle.scenario.specs.declared.bounds.TheConstants.{TARGET_OFFSET_LIMIT, LAG_LIMIT, SEEK_LIMIT, BLOCK_LIMIT}
-use Rattle.scenario.specs.declared.bounds.TheConstants.{LEAST_SIZE, SIZE_LIMIT, DEPTH_LIMIT, FAULT_LIMIT}
+use Rattle.scenario.specs.declared.bounds.TheConstants.{LEAST_SIZE, SIZE_LIMIT, DEPTH_LIMIT, OBJECT_LIMIT, FAULT_LIMIT}
 use Rattle.scenario.specs.declared.value.HostDef.{HostDef}
 use Rattle.scenario.specs.declared.value.TargetDef.{TargetDef}
 use Rattle.scenario.specs.declared.value.UnitDef.{UnitDef}
 use Rattle.scenario.specs.declared.value.FillDef.{FillDef}
+use Rattle.scenario.specs.declared.value.TapeDef.{TapeDef}
+use Rattle.scenario.specs.declared.value.LoadDef.{LoadDef}
 use Rattle.scenario.specs.declared.value.CmdDef.{CmdDef}
 use Rattle.scenario.specs.declared.value.AbortDef.{AbortDef}
 use Rattle.scenario.specs.declared.value.ResetDef.{ResetDef}
 use Rattle.scenario.specs.declared.value.FaultDef.{FaultDef}
 use Rattle.scenario.specs.Value.{ScenarioValue}
-use Rattle.scenario.specs.Lookups.{has_target, has_device, unit_of, has_fill}
+use Rattle.scenario.specs.Lookups.{has_target, has_device, unit_of, tape_of, has_fill, loads_at}
 use Rattle.scenario.specs.Needs.{need_of, sent_of}
-use Rattle.scenario.specs.Forms.{Said, CmdSaid, initiator_line, target_line, unit_line, fill_line, abort_line}
-use Rattle.scenario.specs.Forms.{reset_line, fault_line}
+use Rattle.scenario.specs.Forms.{Said, CmdSaid, initiator_line, target_line, unit_line, fill_line, tape_line}
+use Rattle.scenario.specs.Forms.{load_line, abort_line, reset_line, fault_line}
 use Rattle.scenario.specs.Reasons.{is_block_in}
 use Rattle.scenario.specs.Reading.{guard, found, is_block_of, fill_def, within, in_8, period_in, policy_in, time_in}
 use Rattle.scenario.specs.Reading.{tag_in, what_in, size_in, is_size, is_block, are_ends, is_payload, has_room}
-use Rattle.scenario.specs.Reading.{has_abort_room, host_def, target_def, unit_def, cmd_def, full_cmd_def, abort_def}
-use Rattle.scenario.specs.Reading.{reset_def, fault_def}
+use Rattle.scenario.specs.Reading.{has_abort_room, host_def, target_def, unit_def, tape_def, load_of, fits_tape}
+use Rattle.scenario.specs.Reading.{load_def, cmd_def, full_cmd_def, abort_def, reset_def, fault_def}
 use Rattle.scenario.proofs.Steps.{bind_ok, ok_is, guard_ok, within_ok}
 use Rattle.scsi_device.proofs.Finds.{none_is}
 use Rattle.std.proofs.lemmas.Bool.{not-true}
@@ -54,6 +56,16 @@ pub record IsUnitWithin (u : UnitDef) : Type 0 where
   pub most_size : u.size ≤ 2048
   pub some_depth : 1 ≤ u.depth
   pub most_depth : u.depth ≤ 256
+
+pub record IsTapeWithin (t : TapeDef) : Type 0 where
+  pub target : t.target < 8
+  pub unit : t.unit < 8
+  pub some_objects : 1 ≤ t.objects
+  pub most_objects : t.objects ≤ 65536
+  pub least_size : 16 ≤ t.size
+  pub most_size : t.size ≤ 2048
+  pub some_depth : 1 ≤ t.depth
+  pub most_depth : t.depth ≤ 256
 
 pub record IsCommandWithin (c : CmdDef) : Type 0 where
   pub host : c.host < 8
@@ -188,6 +200,47 @@ unit_read s (unit_line f) u e =
     })
 unit_read s _ u e = absurd cc
 
+-- A tape is new, too, and its target is known.
+pub record IsTapeRead (s : ScenarioValue) (t : TapeDef) : Type 0 where
+  pub limits : IsTapeWithin t
+  pub new : unit_of s t.target t.unit ≡ None
+  pub known : has_target s t.target ≡ true
+
+abbrev pub tape_by : ScenarioValue → Said → Result TapeDef ℕ
+tape_by s (tape_line f) = tape_def s f
+tape_by s _ = Err 0
+
+pub tape_read : (s : ScenarioValue) (x : Said) (t : TapeDef) → tape_by s x ≡ Ok t → IsTapeRead s t
+unfolding tape_def
+tape_read s (tape_line f) t e =
+    let b1 = bind_ok (in_8 f.target) _ t e in
+    let b2 = bind_ok (in_8 f.unit) _ t b1.2 in
+    let b3 = bind_ok (within f.objects 1 OBJECT_LIMIT) _ t b2.2 in
+    let b4 = bind_ok (size_in f.size) _ t b3.2 in
+    let b5 = bind_ok (within f.depth 1 DEPTH_LIMIT) _ t b4.2 in
+    let b6 = bind_ok (guard 5 (not (is_some (unit_of s b1.0 b2.0)))) _ t b5.2 in
+    let b7 = bind_ok (guard 6 (has_target s b1.0)) _ t b6.2 in
+    let w1 = within_of f.target 0 7 b1.0 b1.1 in
+    let w2 = within_of f.unit 0 7 b2.0 b2.1 in
+    let w3 = within_of f.objects 1 65536 b3.0 b3.1 in
+    let w4 = size_within f.size b4.0 b4.1 in
+    let w5 = within_of f.depth 1 256 b5.0 b5.1 in
+    subst (IsTapeRead s) (ok_is _ t b7.2) (record {
+      limits = record {
+        target = let w = w1.1 in omega arith;
+        unit = let w = w2.1 in omega arith;
+        some_objects = w3.0;
+        most_objects = w3.1;
+        least_size = w4.0;
+        most_size = w4.1;
+        some_depth = w5.0;
+        most_depth = w5.1;
+      };
+      new = none_is (unit_of s b1.0 b2.0) (not-true _ (guard_ok 5 _ b6.0 b6.1));
+      known = guard_ok 6 _ b7.0 b7.1;
+    })
+tape_read s _ t e = absurd cc
+
 -- A command is of an initiator, and goes to a device that is none.
 pub record IsCommandRead (s : ScenarioValue) (c : CmdDef) : Type 0 where
   pub limits : IsCommandWithin c
@@ -276,7 +329,7 @@ abbrev pub fill_by : ScenarioValue → Said → Result FillDef ℕ
 fill_by s (fill_line f) = fill_def s f
 fill_by s _ = Err 0
 
-found_is : (o : Option UnitDef) (u : UnitDef) → found o ≡ Ok u → o ≡ Some u
+found_is : {X : Type 0} (o : Option X) (u : X) → found o ≡ Ok u → o ≡ Some u
 found_is None u e = absurd cc
 found_is (Some v) u e = cc
 
@@ -294,6 +347,30 @@ fill_read s (fill_line f) d e =
     subst (λ (x : FillDef). is_block_in (unit_of s x.target x.unit) x.lba x.bytes ≡ true) (ok_is _ d b6.2)
     ((λ i. is_block_in (found_is (unit_of s b1.0 b2.0) b5.0 b5.1 i) b3.0 f.bytes) ∙ guard_ok 7 _ b6.0 b6.1)
 fill_read s _ d e = absurd cc
+
+-- A load is of an object that fits on its tape, after those that stand there.
+pub record IsLoadRead (s : ScenarioValue) (l : LoadDef) : Type 0 where
+  pub tape : TapeDef
+  pub there : tape_of s l.target l.unit ≡ Some tape
+  pub fits : fits_tape tape (loads_at s.loads l.target l.unit) l.what ≡ true
+
+abbrev pub load_by : ScenarioValue → Said → Result LoadDef ℕ
+load_by s (load_line f) = load_def s f
+load_by s _ = Err 0
+
+pub load_read : (s : ScenarioValue) (x : Said) (l : LoadDef) → load_by s x ≡ Ok l → IsLoadRead s l
+unfolding load_def
+load_read s (load_line f) l e =
+    let b1 = bind_ok (in_8 f.target) _ l e in
+    let b2 = bind_ok (in_8 f.unit) _ l b1.2 in
+    let b3 = bind_ok (found (tape_of s b1.0 b2.0)) _ l b2.2 in
+    let b4 = bind_ok (guard 7 (fits_tape b3.0 (loads_at s.loads b1.0 b2.0) (load_of f.what))) _ l b3.2 in
+    subst (IsLoadRead s) (ok_is _ l b4.2) (record {
+      tape = b3.0;
+      there = found_is (tape_of s b1.0 b2.0) b3.0 b3.1;
+      fits = guard_ok 7 _ b4.0 b4.1;
+    })
+load_read s _ l e = absurd cc
 
 abbrev pub reset_by : ScenarioValue → Said → Result ResetDef ℕ
 reset_by s (reset_line f) = reset_def s f

@@ -15,10 +15,10 @@ use Rattle.scenario.specs.Writing.{saids, built, Obeys}
 use Rattle.scenario.proofs.Steps.{bind_ok, ok_is, guard_ok}
 use Rattle.scenario.proofs.UnitLines.{plain_unit}
 use Rattle.scsi_device.proofs.Finds.{all_more}
-use Rattle.scsi_device.proofs.LineReads.{host_read, target_read, unit_read, fill_read, full_cmd_read, abort_read}
-use Rattle.scsi_device.proofs.LineReads.{reset_read, fault_read}
+use Rattle.scsi_device.proofs.LineReads.{host_read, target_read, unit_read, fill_read, tape_read, load_read}
+use Rattle.scsi_device.proofs.LineReads.{full_cmd_read, abort_read, reset_read, fault_read}
 use Rattle.scsi_device.proofs.LinesSoFar.{unit_at, AreFit, AreLater, no_sooner, still, with_host, with_target}
-use Rattle.scsi_device.proofs.LinesSoFar.{with_unit, with_tape, with_command, with_abort}
+use Rattle.scsi_device.proofs.LinesSoFar.{with_unit, with_tape, with_load, with_command, with_abort}
 
 -- ---- any line more
 
@@ -32,8 +32,12 @@ fit_added d z (scsi_line v) e a l = subst (λ (p : Progress). AreFit p.scenario)
   targets_once = a.targets_once;
   units = a.units;
   units_once = a.units_once;
+  tapes = a.tapes;
+  tapes_once = a.tapes_once;
+  tapes_new = a.tapes_new;
   units_apart = a.units_apart;
   fills = a.fills;
+  loads = a.loads;
   commands = a.commands;
   aborts = a.aborts;
   resets = a.resets;
@@ -67,8 +71,12 @@ fit_added d z (fill_line f) e a l =
       targets_once = a.targets_once;
       units = a.units;
       units_once = a.units_once;
+      tapes = a.tapes;
+      tapes_once = a.tapes_once;
+      tapes_new = a.tapes_new;
       units_apart = a.units_apart;
       fills = r;
+      loads = a.loads;
       commands = a.commands;
       aborts = a.aborts;
       resets = a.resets;
@@ -78,25 +86,12 @@ fit_added d z (fill_line f) e a l =
     })
 fit_added d z (tape_line f) e a l =
     let b = bind_ok (tape_def d.scenario f) _ z e in
-    subst (λ (p : Progress). AreFit p.scenario) (ok_is _ z b.2) (with_tape d.scenario b.0 a l)
+    subst (λ (p : Progress). AreFit p.scenario) (ok_is _ z b.2)
+    (with_tape d.scenario b.0 a l (tape_read d.scenario (tape_line f) b.0 b.1))
 fit_added d z (load_line f) e a l =
     let b = bind_ok (load_def d.scenario f) _ z e in
-    subst (λ (p : Progress). AreFit p.scenario) (ok_is _ z b.2) (record {
-      hosts = a.hosts;
-      hosts_once = a.hosts_once;
-      targets = a.targets;
-      targets_once = a.targets_once;
-      units = a.units;
-      units_once = a.units_once;
-      units_apart = a.units_apart;
-      fills = a.fills;
-      commands = a.commands;
-      aborts = a.aborts;
-      resets = a.resets;
-      faults = a.faults;
-      few_commands = a.few_commands;
-      few_aborts = a.few_aborts;
-    })
+    subst (λ (p : Progress). AreFit p.scenario) (ok_is _ z b.2)
+    (with_load d.scenario b.0 a (load_read d.scenario (load_line f) b.0 b.1))
 fit_added d z (cmd_line f) e a l =
     let b = bind_ok (full_cmd_def d.scenario d.needs f) _ z e in
     subst (λ (p : Progress). AreFit p.scenario) (ok_is _ z b.2)
@@ -116,8 +111,12 @@ fit_added d z (reset_line f) e a l =
       targets_once = a.targets_once;
       units = a.units;
       units_once = a.units_once;
+      tapes = a.tapes;
+      tapes_once = a.tapes_once;
+      tapes_new = a.tapes_new;
       units_apart = a.units_apart;
       fills = a.fills;
+      loads = a.loads;
       commands = a.commands;
       aborts = a.aborts;
       resets = r;
@@ -136,8 +135,12 @@ fit_added d z (fault_line f) e a l =
       targets_once = a.targets_once;
       units = a.units;
       units_once = a.units_once;
+      tapes = a.tapes;
+      tapes_once = a.tapes_once;
+      tapes_new = a.tapes_new;
       units_apart = a.units_apart;
       fills = a.fills;
+      loads = a.loads;
       commands = a.commands;
       aborts = a.aborts;
       resets = a.resets;
@@ -155,6 +158,7 @@ later_added d z (scsi_line v) e l = subst (λ (p : Progress). AreLater 1 p.scena
   units = l.units;
   fills = l.fills;
   tapes = l.tapes;
+  loads = l.loads;
   commands = l.commands;
   aborts = l.aborts;
 })
@@ -165,6 +169,7 @@ later_added d z (initiator_line f) e l =
       units = l.units;
       fills = l.fills;
       tapes = l.tapes;
+      loads = l.loads;
       commands = l.commands;
       aborts = l.aborts;
     })
@@ -175,6 +180,7 @@ later_added d z (target_line f) e l =
       units = l.units;
       fills = l.fills;
       tapes = l.tapes;
+      loads = l.loads;
       commands = l.commands;
       aborts = l.aborts;
     })
@@ -185,6 +191,7 @@ later_added d z (unit_line f) e l =
       units = λ w. absurd (omega arith);
       fills = l.fills;
       tapes = l.tapes;
+      loads = l.loads;
       commands = l.commands;
       aborts = l.aborts;
     })
@@ -195,6 +202,7 @@ later_added d z (fill_line f) e l =
       units = l.units;
       fills = λ w. absurd (omega arith);
       tapes = l.tapes;
+      loads = l.loads;
       commands = l.commands;
       aborts = l.aborts;
     })
@@ -205,6 +213,7 @@ later_added d z (tape_line f) e l =
       units = l.units;
       fills = l.fills;
       tapes = λ w. absurd (omega arith);
+      loads = l.loads;
       commands = l.commands;
       aborts = l.aborts;
     })
@@ -215,6 +224,7 @@ later_added d z (load_line f) e l =
       units = l.units;
       fills = l.fills;
       tapes = l.tapes;
+      loads = λ w. absurd (omega arith);
       commands = l.commands;
       aborts = l.aborts;
     })
@@ -225,6 +235,7 @@ later_added d z (cmd_line f) e l =
       units = l.units;
       fills = l.fills;
       tapes = l.tapes;
+      loads = l.loads;
       commands = λ w. absurd (omega arith);
       aborts = l.aborts;
     })
@@ -235,6 +246,7 @@ later_added d z (abort_line f) e l =
       units = l.units;
       fills = l.fills;
       tapes = l.tapes;
+      loads = l.loads;
       commands = l.commands;
       aborts = λ w. absurd (omega arith);
     })
@@ -245,6 +257,7 @@ later_added d z (reset_line f) e l =
       units = l.units;
       fills = l.fills;
       tapes = l.tapes;
+      loads = l.loads;
       commands = l.commands;
       aborts = l.aborts;
     })
@@ -255,6 +268,7 @@ later_added d z (fault_line f) e l =
       units = l.units;
       fills = l.fills;
       tapes = l.tapes;
+      loads = l.loads;
       commands = l.commands;
       aborts = l.aborts;
     })
@@ -290,8 +304,12 @@ fit_nothing = record {
     targets_once = tt;
     units = tt;
     units_once = tt;
+    tapes = tt;
+    tapes_once = tt;
+    tapes_new = tt;
     units_apart = tt;
     fills = tt;
+    loads = tt;
     commands = tt;
     aborts = tt;
     resets = tt;
@@ -304,6 +322,7 @@ fit_nothing = record {
     units = λ w. refl;
     fills = λ w. refl;
     tapes = λ w. refl;
+    loads = λ w. refl;
     commands = λ w. refl;
     aborts = λ w. refl;
   };
@@ -311,5 +330,5 @@ fit_nothing = record {
 
 pub obeys_fit : (s : ScenarioValue) → Obeys s → AreFit s
 obeys_fit s o =
-    let b = bind_ok (built nothing (saids s)) _ s o.text.lawful in
+    let b = bind_ok (built nothing (saids s)) _ s o.lawful in
     subst AreFit (ok_is b.0.scenario s b.2) (fit_built nothing b.0 (saids s) b.1 fit_nothing).fit

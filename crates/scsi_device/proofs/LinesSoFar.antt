@@ -1,30 +1,37 @@
 -- What holds of the lines of a scenario so far, each after those before it.
-use Rattle.std.proofs.Common.{ℕ, ◌≡◌, ◌≤◌, ◌<◌, Bool, true, false, cond, not, ◌||◌, ◌&&◌, List, [], ◌∷◌, ◌++◌, length}
-use Rattle.std.proofs.Common.{Option, Some, None, refl, sym, subst, ◌∙◌, arith, length-append}
+use Rattle.std.proofs.Common.{ℕ, ◌≡◌, ◌≤◌, ◌<◌, Bool, true, false, cond, not, ◌||◌, ◌&&◌, List, [], ◌∷◌, ◌++◌, map}
+use Rattle.std.proofs.Common.{length, Option, Some, None, refl, sym, ap, subst, ◌∙◌, arith, length-append, append_assoc}
 use Rattle.std.specs.Prelude.{◌==◌, nat_lt, nat_le}
 use Rattle.std.specs.List.{find, list_any, AllByRecursion}
+use Rattle.std.specs.Option.{option_or, option_map}
 use Rattle.std.proofs.lemmas.Bool.Decides.{nat_tests}
+use Rattle.std.proofs.lemmas.List.{map_push}
 use Rattle.scenario.specs.declared.value.HostDef.{HostDef}
 use Rattle.scenario.specs.declared.value.TargetDef.{TargetDef}
 use Rattle.scenario.specs.declared.value.UnitDef.{UnitDef}
 use Rattle.scenario.specs.declared.value.FillDef.{FillDef}
 use Rattle.scenario.specs.declared.value.TapeDef.{TapeDef}
+use Rattle.scenario.specs.declared.value.LoadDef.{LoadDef}
 use Rattle.scenario.specs.declared.value.CmdDef.{CmdDef}
 use Rattle.scenario.specs.declared.value.AbortDef.{AbortDef}
 use Rattle.scenario.specs.declared.value.ResetDef.{ResetDef}
 use Rattle.scenario.specs.declared.value.FaultDef.{FaultDef}
 use Rattle.scenario.specs.Value.{ScenarioValue}
-use Rattle.scenario.specs.Lookups.{has_host, has_target, has_device}
+use Rattle.scenario.specs.Lookups.{has_host, has_target, has_device, tape_unit, units_of, unit_of, disk_of, tape_of}
+use Rattle.scenario.specs.Lookups.{loads_at}
 use Rattle.scenario.specs.Needs.{need_of, sent_of}
 use Rattle.scenario.specs.Reasons.{is_block_in}
-use Rattle.scenario.specs.Reading.{is_payload, has_room, has_abort_room, in_order}
-use Rattle.scenario.proofs.UnitLines.{plain_unit}
-use Rattle.scsi_device.proofs.Finds.{all_more, all_are, all_of_none, find_kept, find_new, find_not, find_none}
-use Rattle.scsi_device.proofs.Finds.{find_rest}
-use Rattle.scsi_device.proofs.LineReads.{IsHostWithin, IsTargetWithin, IsUnitWithin, IsCommandWithin, IsAbortWithin}
-use Rattle.scsi_device.proofs.LineReads.{IsUnitRead, IsFullCommandRead, IsAbortRead}
+use Rattle.scenario.specs.Reading.{is_payload, has_room, has_abort_room, in_order, fits_tape}
+use Rattle.scenario.proofs.UnitLines.{plain_units, plain_unit, unit_is}
+use Rattle.scsi_device.proofs.Finds.{some_is, all_more, all_are, all_both, all_of_none, find_kept, find_new, find_not}
+use Rattle.scsi_device.proofs.Finds.{find_none, find_rest}
+use Rattle.scsi_device.proofs.LineReads.{IsHostWithin, IsTargetWithin, IsUnitWithin, IsTapeWithin, IsCommandWithin}
+use Rattle.scsi_device.proofs.LineReads.{IsAbortWithin, IsUnitRead, IsTapeRead, IsLoadRead, IsFullCommandRead}
+use Rattle.scsi_device.proofs.LineReads.{IsAbortRead}
+use Rattle.scsi_device.proofs.LoadLines.{IsLoaded, loaded_with, none_loaded}
 use Rattle.std.proofs.lemmas.Bool.{not-true, eqb-true, and_parts, or_parts}
 use Rattle.bus_base.proofs.Tests.{eq_self}
+use Rattle.due_model.specs.array_model.specs.Contents.{loaded_objects}
 use Rattle.due_model.specs.array_model.specs.Seats.{is_initiator}
 
 -- ---- lines beside others
@@ -38,6 +45,9 @@ target_at targets dev = find (λ (t : TargetDef). t.dev == dev) targets
 abbrev pub unit_at : List UnitDef → ℕ → ℕ → Option UnitDef
 unit_at units target unit = find (λ (u : UnitDef). u.target == target && u.unit == unit) units
 
+abbrev pub tape_at : List TapeDef → ℕ → ℕ → Option TapeDef
+tape_at tapes target unit = find (λ (t : TapeDef). t.target == target && t.unit == unit) tapes
+
 pub record IsTargetFit (hosts : List HostDef) (t : TargetDef) : Type 0 where
   pub limits : IsTargetWithin t
   pub no_host : is_initiator hosts t.dev ≡ false
@@ -45,6 +55,10 @@ pub record IsTargetFit (hosts : List HostDef) (t : TargetDef) : Type 0 where
 pub record IsUnitFit (hosts : List HostDef) (u : UnitDef) : Type 0 where
   pub limits : IsUnitWithin u
   pub no_host : is_initiator hosts u.target ≡ false
+
+pub record IsTapeFit (hosts : List HostDef) (t : TapeDef) : Type 0 where
+  pub limits : IsTapeWithin t
+  pub no_host : is_initiator hosts t.target ≡ false
 
 pub record IsCommandFit (hosts : List HostDef) (sent need : ℕ) (c : CmdDef) : Type 0 where
   pub limits : IsCommandWithin c
@@ -63,7 +77,7 @@ abbrev pub AreUnitsApart : List UnitDef → Type 0
 AreUnitsApart [] = Unit {0}
 AreUnitsApart (u ∷ units) = (unit_at units u.target u.unit ≡ None) × AreUnitsApart units
 
--- Each device and each unit is the one of its line.
+-- Each device and each unit is the one of its line, and a tape stands where no disk does.
 pub record AreFit (s : ScenarioValue) : Type 0 where
   pub hosts : AllByRecursion IsHostWithin s.hosts
   pub hosts_once : AllByRecursion (λ h. host_at s.hosts h.dev ≡ Some h) s.hosts
@@ -71,9 +85,13 @@ pub record AreFit (s : ScenarioValue) : Type 0 where
   pub targets_once : AllByRecursion (λ t. target_at s.targets t.dev ≡ Some t) s.targets
   pub units : AllByRecursion (IsUnitFit s.hosts) s.units
   pub units_once : AllByRecursion (λ u. unit_at s.units u.target u.unit ≡ Some u) s.units
-  pub units_apart : AreUnitsApart s.units
+  pub tapes : AllByRecursion (IsTapeFit s.hosts) s.tapes
+  pub tapes_once : AllByRecursion (λ t. tape_at s.tapes t.target t.unit ≡ Some t) s.tapes
+  pub tapes_new : AllByRecursion (λ t. unit_at s.units t.target t.unit ≡ None) s.tapes
+  pub units_apart : AreUnitsApart (units_of s)
   pub fills : AllByRecursion (λ (f : FillDef). is_block_in (unit_at s.units f.target f.unit) f.lba f.bytes ≡ true)
       s.fills
+  pub loads : AllByRecursion (λ t. IsLoaded t (loaded_objects (tape_unit t) s.loads)) s.tapes
   pub commands : AllByRecursion (λ c. IsCommandFit s.hosts (sent_of s c) (need_of s c) c) s.commands
   pub aborts : AllByRecursion (IsAbortFit s.hosts) s.aborts
   pub resets : AllByRecursion (λ (r : ResetDef). r.at ≤ 1000000000000) s.resets
@@ -88,6 +106,7 @@ pub record AreLater (r : ℕ) (s : ScenarioValue) : Type 0 where
   pub units : r < 4 → s.units ≡ []
   pub fills : r < 5 → s.fills ≡ []
   pub tapes : r < 6 → s.tapes ≡ []
+  pub loads : r < 7 → s.loads ≡ []
   pub commands : r < 8 → s.commands ≡ []
   pub aborts : r < 9 → s.aborts ≡ []
 
@@ -104,6 +123,7 @@ still s r q a le = record {
   units = λ z. a.units (omega arith);
   fills = λ z. a.fills (omega arith);
   tapes = λ z. a.tapes (omega arith);
+  loads = λ z. a.loads (omega arith);
   commands = λ z. a.commands (omega arith);
   aborts = λ z. a.aborts (omega arith);
 }
@@ -128,8 +148,12 @@ with_host s h a l r =
       targets_once = a.targets_once;
       units = all_of_none (IsUnitFit hs) s.units (l.units (omega arith));
       units_once = a.units_once;
+      tapes = all_of_none (IsTapeFit hs) s.tapes (l.tapes (omega arith));
+      tapes_once = a.tapes_once;
+      tapes_new = a.tapes_new;
       units_apart = a.units_apart;
       fills = a.fills;
+      loads = a.loads;
       commands = all_of_none (λ (c : CmdDef). IsCommandFit hs (sent_of s c) (need_of s c) c) s.commands
           (l.commands (omega arith));
       aborts = all_of_none (IsAbortFit hs) s.aborts (l.aborts (omega arith));
@@ -157,8 +181,12 @@ with_target s t a l r =
           (find_none (λ (x : TargetDef). x.dev == t.dev) s.targets new.1) (eq_self t.dev));
       units = a.units;
       units_once = a.units_once;
+      tapes = a.tapes;
+      tapes_once = a.tapes_once;
+      tapes_new = a.tapes_new;
       units_apart = a.units_apart;
       fills = a.fills;
+      loads = a.loads;
       commands = all_of_none (λ (c : CmdDef). IsCommandFit s.hosts (sent_of z c) (need_of z c) c) s.commands
           (l.commands (omega arith));
       aborts = a.aborts;
@@ -200,8 +228,8 @@ apart_more (v ∷ units) u a e =
 pub with_unit : (s : ScenarioValue) (u : UnitDef) → AreFit s → AreLater 4 s → IsUnitRead s u
     → AreFit (record s { units = s.units ++ u ∷ [] })
 with_unit s u a l r =
-    let new : unit_at s.units u.target u.unit ≡ None =
-    sym (plain_unit s u.target u.unit (l.tapes (omega arith))) ∙ r.new in
+    let plain : s.tapes ≡ [] = l.tapes (omega arith) in
+    let new : unit_at s.units u.target u.unit ≡ None = sym (plain_unit s u.target u.unit plain) ∙ r.new in
     let us : List UnitDef = s.units ++ u ∷ [] in
     let z : ScenarioValue = record s { units = us } in
     record {
@@ -217,9 +245,14 @@ with_unit s u a l r =
           (λ g e. find_kept (λ (x : UnitDef). x.target == g.target && x.unit == g.unit) s.units u g e) a.units_once)
           (find_new (λ (x : UnitDef). x.target == u.target && x.unit == u.unit) s.units u new
           (unit_itself u.target u.unit));
-      units_apart = apart_more s.units u a.units_apart new;
+      tapes = a.tapes;
+      tapes_once = a.tapes_once;
+      tapes_new = all_of_none (λ (t : TapeDef). unit_at us t.target t.unit ≡ None) s.tapes plain;
+      units_apart = subst AreUnitsApart (sym (plain_units z plain))
+          (apart_more s.units u (subst AreUnitsApart (plain_units s plain) a.units_apart) new);
       fills = all_of_none (λ (f : FillDef). is_block_in (unit_at us f.target f.unit) f.lba f.bytes ≡ true) s.fills
           (l.fills (omega arith));
+      loads = a.loads;
       commands = all_of_none (λ (c : CmdDef). IsCommandFit s.hosts (sent_of z c) (need_of z c) c) s.commands
           (l.commands (omega arith));
       aborts = a.aborts;
@@ -229,11 +262,29 @@ with_unit s u a l r =
       few_aborts = a.few_aborts;
     }
 
--- A tape comes before commands, too.
-pub with_tape : (s : ScenarioValue) (t : TapeDef) → AreFit s → AreLater 6 s
+-- Where no unit is, there is neither a disk nor a tape.
+none_of_both : (s : ScenarioValue) (target unit : ℕ) → unit_of s target unit ≡ None
+    → (disk_of s target unit ≡ None) × (tape_of s target unit ≡ None)
+none_of_both s target unit e = go (disk_of s target unit) (tape_of s target unit) (sym (unit_is s target unit) ∙ e)
+  where
+    go : (disk : Option UnitDef) (tape : Option TapeDef) → option_or disk (option_map tape_unit tape) ≡ None
+        → (disk ≡ None) × (tape ≡ None)
+    go None None z = (refl, refl)
+    go None (Some t) z = absurd cc
+    go (Some u) tape z = absurd cc
+
+tapes_more : (units : List UnitDef) (tapes : List TapeDef) (t : TapeDef)
+    → units ++ map tape_unit (tapes ++ t ∷ []) ≡ (units ++ map tape_unit tapes) ++ tape_unit t ∷ []
+tapes_more units tapes t = ap (λ (us : List UnitDef). units ++ us) (map_push tape_unit tapes t)
+    ∙ sym (append_assoc units (map tape_unit tapes) (tape_unit t ∷ []))
+
+-- A tape comes before loads and commands.
+pub with_tape : (s : ScenarioValue) (t : TapeDef) → AreFit s → AreLater 6 s → IsTapeRead s t
     → AreFit (record s { tapes = s.tapes ++ t ∷ [] })
-with_tape s t a l =
-    let z : ScenarioValue = record s { tapes = s.tapes ++ t ∷ [] } in
+with_tape s t a l r =
+    let new = none_of_both s t.target t.unit r.new in
+    let ts : List TapeDef = s.tapes ++ t ∷ [] in
+    let z : ScenarioValue = record s { tapes = ts } in
     record {
       hosts = a.hosts;
       hosts_once = a.hosts_once;
@@ -241,8 +292,20 @@ with_tape s t a l =
       targets_once = a.targets_once;
       units = a.units;
       units_once = a.units_once;
-      units_apart = a.units_apart;
+      tapes = all_more (IsTapeFit s.hosts) s.tapes t a.tapes
+          (record { limits = r.limits; no_host = of_target s.hosts s.targets t.target a.targets r.known });
+      tapes_once = all_more (λ (g : TapeDef). tape_at ts g.target g.unit ≡ Some g) s.tapes t
+          (all_are (λ (g : TapeDef). tape_at s.tapes g.target g.unit ≡ Some g)
+          (λ (g : TapeDef). tape_at ts g.target g.unit ≡ Some g) s.tapes
+          (λ g e. find_kept (λ (x : TapeDef). x.target == g.target && x.unit == g.unit) s.tapes t g e) a.tapes_once)
+          (find_new (λ (x : TapeDef). x.target == t.target && x.unit == t.unit) s.tapes t new.1
+          (unit_itself t.target t.unit));
+      tapes_new = all_more (λ (g : TapeDef). unit_at s.units g.target g.unit ≡ None) s.tapes t a.tapes_new new.0;
+      units_apart = subst AreUnitsApart (sym (tapes_more s.units s.tapes t))
+          (apart_more (units_of s) (tape_unit t) a.units_apart r.new);
       fills = a.fills;
+      loads = all_more (λ (g : TapeDef). IsLoaded g (loaded_objects (tape_unit g) s.loads)) s.tapes t a.loads
+          (none_loaded t s.loads (l.loads (omega arith)));
       commands = all_of_none (λ (c : CmdDef). IsCommandFit s.hosts (sent_of z c) (need_of z c) c) s.commands
           (l.commands (omega arith));
       aborts = a.aborts;
@@ -251,6 +314,43 @@ with_tape s t a l =
       few_commands = a.few_commands;
       few_aborts = a.few_aborts;
     }
+
+-- The tape of a load is the one of its line.
+load_fits : (s : ScenarioValue) (l : LoadDef) (t : TapeDef) → IsLoadRead s l → tape_at s.tapes t.target t.unit ≡ Some t
+    → (l.target == t.target && l.unit == t.unit) ≡ true → fits_tape t (loads_at s.loads t.target t.unit) l.what ≡ true
+load_fits s l t r once e =
+    let both = and_parts (l.target == t.target) (l.unit == t.unit) e in
+    let target : t.target ≡ l.target = sym (eqb-true l.target t.target both.0) in
+    let unit : t.unit ≡ l.unit = sym (eqb-true l.unit t.unit both.1) in
+    let same : t ≡ r.tape = some_is t r.tape (sym once ∙ (λ i. tape_of s (target i) (unit i)) ∙ r.there) in
+    (λ i. fits_tape (same i) (loads_at s.loads (target i) (unit i)) l.what) ∙ r.fits
+
+pub with_load : (s : ScenarioValue) (l : LoadDef) → AreFit s → IsLoadRead s l
+    → AreFit (record s { loads = s.loads ++ l ∷ [] })
+unfolding need_of sent_of
+with_load s l a r = record {
+  hosts = a.hosts;
+  hosts_once = a.hosts_once;
+  targets = a.targets;
+  targets_once = a.targets_once;
+  units = a.units;
+  units_once = a.units_once;
+  tapes = a.tapes;
+  tapes_once = a.tapes_once;
+  tapes_new = a.tapes_new;
+  units_apart = a.units_apart;
+  fills = a.fills;
+  loads = all_both (λ (t : TapeDef). tape_at s.tapes t.target t.unit ≡ Some t)
+      (λ (t : TapeDef). IsLoaded t (loaded_objects (tape_unit t) s.loads))
+      (λ (t : TapeDef). IsLoaded t (loaded_objects (tape_unit t) (s.loads ++ l ∷ []))) s.tapes
+      (λ t once b. loaded_with t s.loads l b (λ e. load_fits s l t r once e)) a.tapes_once a.loads;
+  commands = a.commands;
+  aborts = a.aborts;
+  resets = a.resets;
+  faults = a.faults;
+  few_commands = a.few_commands;
+  few_aborts = a.few_aborts;
+}
 
 ends_are : (q r : Bool) → (q && not r) ≡ true → (q ≡ true) × (r ≡ false)
 ends_are q r e = let w = and_parts q (not r) e in (w.0, not-true r w.1)
@@ -277,8 +377,12 @@ with_command s needs c a r =
       targets_once = a.targets_once;
       units = a.units;
       units_once = a.units_once;
+      tapes = a.tapes;
+      tapes_once = a.tapes_once;
+      tapes_new = a.tapes_new;
       units_apart = a.units_apart;
       fills = a.fills;
+      loads = a.loads;
       commands = all_more (λ (d : CmdDef). IsCommandFit s.hosts (sent_of s d) (need_of s d) d) s.commands c a.commands
           (record { limits = r.is.limits; host_is = ends.0; target_is = ends.1; sends = r.sends; room = room.1 });
       aborts = a.aborts;
@@ -300,8 +404,12 @@ with_abort s b a r =
       targets_once = a.targets_once;
       units = a.units;
       units_once = a.units_once;
+      tapes = a.tapes;
+      tapes_once = a.tapes_once;
+      tapes_new = a.tapes_new;
       units_apart = a.units_apart;
       fills = a.fills;
+      loads = a.loads;
       commands = a.commands;
       aborts = all_more (IsAbortFit s.hosts) s.aborts b a.aborts
           (record { limits = r.limits; host_is = ends.0; target_is = ends.1 });

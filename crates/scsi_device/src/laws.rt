@@ -10,9 +10,10 @@ ghost use Rattle.scenario.specs.declared.value.AbortDef.{AbortDef};
 ghost use Rattle.scenario.specs.declared.value.CmdDef.{CmdDef};
 ghost use Rattle.scenario.specs.declared.value.FaultDef.{FaultDef};
 ghost use Rattle.scenario.specs.declared.value.HostDef.{HostDef};
+ghost use Rattle.scenario.specs.declared.value.TapeDef.{TapeDef};
 ghost use Rattle.scenario.specs.declared.value.TargetDef.{TargetDef};
 ghost use Rattle.scenario.specs.declared.value.UnitDef.{UnitDef};
-ghost use Rattle.scenario.specs.Lookups.{unit_of};
+ghost use Rattle.scenario.specs.Lookups.{disk_of, tape_of, unit_of};
 ghost use Rattle.scenario.specs.Value.{ScenarioValue};
 ghost use Rattle.scenario.specs.Writing.{Obeys};
 ghost use Rattle.due_model.specs.array_model.specs.Processes.{command_at};
@@ -25,7 +26,8 @@ ghost use Rattle.due_model.specs.RunState.{RunState};
 ghost use Rattle.due_model.specs.RunSteps.{run_state};
 ghost use Rattle.due_model.specs.Sights.{flip_of};
 ghost use Rattle.due_model.specs.Wants.{item_want_time};
-ghost use Rattle.scsi_device.specs.Lines.{IsHostLine, IsTargetLine, IsUnitLine, IsCommandLine, IsAbortLine, FitsBus, AreUnits};
+ghost use Rattle.scsi_device.specs.Lines.{IsHostLine, IsTargetLine, IsUnitLine, IsTapeLine, IsLogicalUnit, IsCommandLine};
+ghost use Rattle.scsi_device.specs.Lines.{IsAbortLine, FitsBus, AreUnits};
 ghost use Rattle.scsi_device.specs.Told.{first_fault, flip_by};
 
 /// Of all faults that have not struck yet a device needs the first (`faults`); the receiver of the byte of the last row
@@ -41,9 +43,10 @@ pub fn devices_know_enough()
 
 /// What a scenario that obeys the rules of its text says of its devices, units, commands and aborts (`lines`): so its
 /// commands are of initiators 0 to 7 and its units stand once (`seats`), units are 0 to 7 (`units`), each command and
-/// each abort is that of its line, by its number (`commands`, `aborts`), and so is each device and each unit that is
-/// found (`found_hosts`, `found_targets`, `found_units`). Before 2^63 ns lies since when an initiator wants the bus,
-/// after whatever rows, and when a device drives RST next (`times`).
+/// each abort is that of its line, by its number (`commands`, `aborts`), and so is each device, each disk, each tape
+/// and each unit that is found (`found_hosts`, `found_targets`, `found_disks`, `found_tapes`, `found_units`). Before
+/// 2^63 ns lies since when an initiator wants the bus, after whatever rows, and when a device drives RST next
+/// (`times`).
 pub fn scenarios_fit_the_bus()
     ensures lines { (s : ScenarioValue) → Obeys s → FitsBus s }
     ensures seats { (s : ScenarioValue) → FitsBus s → HasSeats s }
@@ -56,8 +59,12 @@ pub fn scenarios_fit_the_bus()
         → IsHostLine s h × (h.dev ≡ dev) }
     ensures found_targets { (s : ScenarioValue) (dev : ℕ) (t : TargetDef) → FitsBus s → target_def_of s dev ≡ Some t
         → IsTargetLine s t × (t.dev ≡ dev) }
+    ensures found_disks { (s : ScenarioValue) (target unit : ℕ) (u : UnitDef) → FitsBus s
+        → disk_of s target unit ≡ Some u → IsUnitLine s u × (u.target ≡ target) × (u.unit ≡ unit) }
+    ensures found_tapes { (s : ScenarioValue) (target unit : ℕ) (t : TapeDef) → FitsBus s
+        → tape_of s target unit ≡ Some t → IsTapeLine s t × (t.target ≡ target) × (t.unit ≡ unit) }
     ensures found_units { (s : ScenarioValue) (target unit : ℕ) (u : UnitDef) → FitsBus s
-        → unit_of s target unit ≡ Some u → IsUnitLine s u × (u.target ≡ target) × (u.unit ≡ unit) }
+        → unit_of s target unit ≡ Some u → IsLogicalUnit s u × (u.target ≡ target) × (u.unit ≡ unit) }
     ensures times { (s : ScenarioValue) (rows : List Row) (dev : ℕ) (released : Option ℕ) → FitsBus s
         → IsBefore (2 ^ 63) (item_want_time s (run_state s rows).story.sent dev)
         × IsBefore (2 ^ 63) (reset_from dev released s.resets) }

@@ -7,13 +7,13 @@ use Rattle.std.proofs.lemmas.List.{take-append-drop, take-append-le, drop-append
 use Rattle.std.proofs.lemmas.List.{length-take, length-reverse}
 use Rattle.std.proofs.Math.Nat.{suc-mul, mul-le-mul_right, mul-le-mul_left}
 use Rattle.disk_unit.specs.Plans.{plan_of}
-use Rattle.tape_unit.specs.declared.walk.Stop.{Stop}
-use Rattle.tape_unit.specs.declared.walk.Stop.TheVariants as stops
-use Rattle.tape_unit.specs.Reels.{Object, block, filemark, Reel, filemarks_in, way_from, over_blocks, bytes_of}
-use Rattle.tape_unit.specs.Reels.{bytes_from, bytes_ahead}
-use Rattle.tape_unit.specs.Reels.{AreWhole}
-use Rattle.tape_unit.specs.declared.walk.Walk.{Walk}
-use Rattle.tape_unit.specs.Execution.{Tape, stop_reply, read_execution}
+use Rattle.array_model.specs.declared.walk.Stop.{Stop}
+use Rattle.array_model.specs.declared.walk.Stop.TheVariants as stops
+use Rattle.array_model.specs.Reels.{Object, block, filemark, Reel, filemarks_in, way_from, over_blocks, bytes_of}
+use Rattle.array_model.specs.Reels.{bytes_from, bytes_ahead}
+use Rattle.array_model.specs.Reels.{AreWhole}
+use Rattle.array_model.specs.declared.walk.Walk.{Walk}
+use Rattle.array_model.specs.TapeExecution.{Tape, stop_reply, read_execution}
 use Rattle.tape_unit.specs.Tape.{stop_plan}
 
 -- ---- how many there are

@@ -1,7 +1,7 @@
 mod Ahead
 mod Cases
+pub mod Drives
 mod StoredObjects
 mod StoredTapes
-mod TapeFacts
 mod Walks
 mod Written

@@ -9,8 +9,9 @@ use Rattle.std.proofs.lemmas.List.{take-append-drop}
 use Rattle.std.proofs.Math.Nat.{suc-mul, add-mul, mul-le-mul_right}
 use Rattle.std.specs.Prelude.{if◌then◌else◌}
 use Rattle.tape_unit.specs.declared.stored.StoredObject.{StoredObject}
-use Rattle.tape_unit.specs.Reels.{Object, block, filemark, filemarks_in, way, blocks_of, filemarks, block_at, bytes_of}
-use Rattle.tape_unit.specs.Reels.{AreWhole}
+use Rattle.array_model.specs.Reels.{Object, block, filemark, filemarks_in, way, blocks_of, filemarks, block_at}
+use Rattle.array_model.specs.Reels.{bytes_of}
+use Rattle.array_model.specs.Reels.{AreWhole}
 use Rattle.tape_unit.specs.Stored.{marks_in, seen, blocks_in, objects_of, AreCounted, block_entries, filemark_entries}
 
 -- ---- filemarks, and how many there are

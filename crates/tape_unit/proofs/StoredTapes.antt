@@ -5,7 +5,7 @@ use Rattle.std.specs.Prelude.{◌/◌}
 use Rattle.std.proofs.lemmas.List.{length-append, length-take-le, length-drop}
 use Rattle.std.proofs.Math.Nat.{add-mul, mul-le-mul_right, mul-div_cancel}
 use Rattle.tape_unit.specs.declared.stored.StoredObject.{StoredObject}
-use Rattle.tape_unit.specs.Reels.{Object, bytes_from}
+use Rattle.array_model.specs.Reels.{Object, bytes_from}
 use Rattle.tape_unit.specs.Stored.{Store, IsStored, AreCounted, blocks_in, block_entries, filemark_entries, objects_of}
 use Rattle.tape_unit.proofs.StoredObjects.{blocks_few, blocks_append, blocks_split, entry_blocks, entry_filemarks}
 use Rattle.tape_unit.proofs.StoredObjects.{length_block_entries}

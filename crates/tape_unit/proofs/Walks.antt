@@ -3,11 +3,11 @@ use Rattle.std.proofs.Common.{ℕ, zero, suc, ◌≡◌, ◌+◌, ◌-◌, ◌<�
 use Rattle.std.proofs.Common.{ap, arith}
 use Rattle.std.proofs.Common.{length, drop, get_or, reverse}
 use Rattle.std.proofs.lemmas.List.{drop_more, drop_all, get_or-reverse, length-reverse}
-use Rattle.tape_unit.specs.declared.walk.Walk.{Walk}
-use Rattle.tape_unit.specs.declared.walk.Stop.{Stop}
-use Rattle.tape_unit.specs.declared.walk.Stop.TheVariants as stops
+use Rattle.array_model.specs.declared.walk.Walk.{Walk}
+use Rattle.array_model.specs.declared.walk.Stop.{Stop}
+use Rattle.array_model.specs.declared.walk.Stop.TheVariants as stops
 use Rattle.tape_unit.specs.declared.stored.StoredObject.{StoredObject}
-use Rattle.tape_unit.specs.Reels.{over_blocks, over_filemarks, stopped, moved_one, passed_one}
+use Rattle.array_model.specs.Reels.{over_blocks, over_filemarks, stopped, moved_one, passed_one}
 use Rattle.tape_unit.specs.Stored.{marks_in, seen}
 
 -- ---- which objects are filemarks

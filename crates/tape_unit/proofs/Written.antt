@@ -3,8 +3,8 @@ use Rattle.std.proofs.Common.{ℕ, ◌≡◌, ◌+◌, ◌-◌, ◌≤◌, true,
 use Rattle.std.proofs.Common.{length, take}
 use Rattle.std.specs.Prelude.{◌==◌, if◌then◌else◌}
 use Rattle.std.proofs.lemmas.List.{length-append, length-take-le}
-use Rattle.tape_unit.specs.Reels.{Object, Reel, blocks_of, filemarks}
-use Rattle.tape_unit.specs.Execution.{has_room, written_reel, with_reel}
+use Rattle.array_model.specs.Reels.{Object, Reel, blocks_of, filemarks}
+use Rattle.array_model.specs.TapeExecution.{has_room, written_reel, with_reel}
 use Rattle.tape_unit.specs.Tape.{at, cut, with_objects}
 use Rattle.tape_unit.specs.Stored.{Store, with_tape, with_blocks}
 

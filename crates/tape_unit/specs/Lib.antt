@@ -1,4 +1,3 @@
-pub mod Reels
-pub mod Execution
 pub mod Tape
 pub mod Stored
+pub mod Drives

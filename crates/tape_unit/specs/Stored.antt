@@ -4,8 +4,8 @@ use Rattle.std.specs.Prelude.{◌≡◌, ℕ, zero, suc, ◌+◌, ◌-◌, ◌*�
 use Rattle.std.specs.Prelude.{take, drop, reverse, if◌then◌else◌}
 use Rattle.cdb_codec.specs.TapeCdb.{tape_command_of}
 use Rattle.tape_unit.specs.declared.stored.StoredObject.{StoredObject}
-use Rattle.tape_unit.specs.Reels.{Object, block, filemark, blocks_of}
-use Rattle.tape_unit.specs.Execution.{Tape}
+use Rattle.array_model.specs.Reels.{Object, block, filemark, blocks_of}
+use Rattle.array_model.specs.TapeExecution.{Tape}
 use Rattle.tape_unit.specs.Tape.{with_objects, tape_after, blocks_taken}
 
 -- What a user sees: the tape, and how many blocks may still be added.

@@ -3,13 +3,13 @@ ghost use Rattle.std.specs.Prelude.{◌≡◌, Ok, Some, None, true, ◌+◌, �
 ghost use Rattle.cdb_codec.specs.declared.status.TheConstants.{GOOD as GOOD_STATUS};
 ghost use Rattle.array_model.specs.Execution.{no_sense};
 ghost use Rattle.disk_unit.specs.Plans.{plan_of};
-ghost use Rattle.tape_unit.specs.Execution.{edge_detected, end_of_medium_detected, has_room as is_room, is_forward, read_execution, space_execution, write_reply, written_reel, tape_execution, with_reel};
-ghost use Rattle.tape_unit.specs.Reels.{over_blocks, way_from, blocks_of, filemarks, position_after};
+ghost use Rattle.array_model.specs.TapeExecution.{edge_detected, end_of_medium_detected, has_room as is_room, is_forward, read_execution, space_execution, write_reply, written_reel, tape_execution, with_reel};
+ghost use Rattle.array_model.specs.Reels.{over_blocks, way_from, blocks_of, filemarks, position_after};
 ghost use Rattle.tape_unit.specs.Tape.{at, stop_plan, blocks_written, blocks_taken, is_walk, tape_reply};
 ghost use Rattle.tape_unit.specs.Stored.{with_tape};
 
 use super::tape::TapeMedium;
-use super::walk::Stop;
+use array_model::Stop;
 use cdb_codec::{
     BEGINNING_OF_MEDIUM_DETECTED, BLANK_CHECK, CHECK_CONDITION, END_OF_DATA_DETECTED,
     END_OF_MEDIUM, END_OF_MEDIUM_DETECTED, FILEMARK, FILEMARK_DETECTED, GOOD, INQUIRY_LEN,

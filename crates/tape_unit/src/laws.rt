@@ -1,7 +1,7 @@
 //! What a unit of a target rests on of its medium, of a tape.
 ghost use Rattle.std.specs.Prelude.{◌≡◌, ℕ, ◌*◌, true, false, List};
 ghost use Rattle.cdb_codec.specs.TapeCdb.{tape_command_of};
-ghost use Rattle.tape_unit.specs.Execution.{Tape};
+ghost use Rattle.array_model.specs.TapeExecution.{Tape};
 ghost use Rattle.tape_unit.specs.Tape.{tape_after, tape_done, tape_reply, is_changed, is_carried_out, blocks_written, taken_now};
 
 /// Of every tape and every command block: the tape stays where the command does not make it new; what was sent comes

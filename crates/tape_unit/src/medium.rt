@@ -26,6 +26,16 @@ fn refusal(asc: u8) -> Plan
     }
 }
 
+/// How many blocks a command writes at a tape at most, whatever that holds.
+pub fn tape_cost(cdb: &[u8]) -> u64
+    ensures { result ≡ cost_of cdb.now }
+{
+    match tape_cdb(cdb) {
+        Ok(command) => u64::from(blocks_to_write(&command)),
+        Err(_) => 0,
+    }
+}
+
 impl Medium for TapeMedium {
     ghost spare_blocks = { λ m. m.spare };
 
@@ -48,10 +58,7 @@ impl Medium for TapeMedium {
     }
 
     fn cost(&self, cdb: &[u8]) -> u64 {
-        match tape_cdb(cdb) {
-            Ok(command) => u64::from(blocks_to_write(&command)),
-            Err(_) => 0,
-        }
+        tape_cost(cdb)
     }
 
     fn plan(&self, cdb: &[u8]) -> Plan {

@@ -1,11 +1,12 @@
 //! A tape, and what its commands are made of.
 ghost use Rattle.std.specs.Prelude.{◌≡◌, ℕ, ◌+◌, ◌-◌, ◌*◌, ◌<◌, ◌≤◌, [], ◌∷◌, ◌++◌, List, None, Some, IfOk, MatchOption, length, take, drop, vec_len, vec_capacity};
-ghost use Rattle.tape_unit.specs.Reels.{block, filemarks, blocks_of, block_at, bytes_from, way_from, AreWhole, over_blocks as blocks_passed, over_filemarks as filemarks_passed};
+ghost use Rattle.array_model.specs.Reels.{block, filemarks, blocks_of, block_at, bytes_from, way_from, AreWhole, over_blocks as blocks_passed, over_filemarks as filemarks_passed};
 ghost use Rattle.tape_unit.specs.Tape.{blank_tape, at, cut, with_objects};
 ghost use Rattle.tape_unit.specs.Stored.{Store, seen, with_tape, with_blocks, block_entries, filemark_entries};
 
 use super::stored::{StoredObject, add_blocks, add_bytes, add_filemarks, bytes_before, part};
-use super::walk::{Walk, over_blocks, over_filemarks};
+use super::walk::{over_blocks, over_filemarks};
+use array_model::Walk;
 use bus_base::NoMemory;
 use disk_unit::copy_from;
 use std::alloc::Global;

@@ -1,31 +1,10 @@
 //! Walks over what stands on a tape (clauses 10.2.4 and 10.2.12).
 ghost use Rattle.std.specs.Prelude.{◌≡◌, ◌<◌, ◌≤◌, false, length, slice_index_or};
-ghost use Rattle.tape_unit.specs.Reels.{over_blocks, over_filemarks};
+ghost use Rattle.array_model.specs.Reels.{over_blocks, over_filemarks};
 ghost use Rattle.tape_unit.specs.Stored.{seen};
 
 use super::stored::StoredObject;
-
-/// Where a walk stops.
-#[derive(Clone, Copy, Debug, PartialEq, Eq)]
-pub enum Stop {
-    /// It moved over as many as it was to.
-    Count,
-    /// At a filemark, which it passed.
-    Filemark,
-    /// At the end of data, or at the beginning where it went backward.
-    Edge,
-}
-
-/// A walk over blocks or filemarks.
-#[derive(Clone, Copy, Debug, PartialEq, Eq)]
-pub struct Walk {
-    /// How many it moved over of those that count.
-    pub moved: u32,
-    /// How many objects it passed.
-    pub passed: u32,
-    /// Where it stopped.
-    pub stop: Stop,
-}
+use array_model::{Stop, Walk};
 
 // Whether the object at this place is a filemark, counted from the side where the walk begins.
 fn is_filemark_at(objects: &[StoredObject], forward: bool, place: u32) -> bool

@@ -1,5 +1,5 @@
 -- What a target decides by its course means the same as what the rows have it decide by.
-use Rattle.std.proofs.Common.{ℕ, ◌≡◌, ◌∙◌, ◌≤◌, ◌==◌, Bool, true, false, List, [], ◌∷◌, refl, sym, ap, length, take}
+use Rattle.std.proofs.Common.{ℕ, ◌≡◌, ◌∙◌, ◌≤◌, ◌==◌, Bool, true, false, List, [], ◌∷◌, refl, sym, length, take}
 use Rattle.std.proofs.Common.{Option, Some, None, ◌⊎◌, inl, inr}
 use Rattle.std.specs.Prelude.{if◌then◌else◌, not, ◌&&◌, ◌||◌, nat_lt, is_some, is_none, min, slice_index}
 use Rattle.std.proofs.lemmas.Bool.{eqb-true, and_parts, not-true}
@@ -20,7 +20,6 @@ use Rattle.scenario.specs.declared.value.Tag.TheVariants as tags
 use Rattle.scenario.specs.declared.value.TargetDef.{TargetDef}
 use Rattle.scenario.specs.Value.{ScenarioValue}
 use Rattle.bus_base.specs.declared.AbortKind.{AbortKind}
-use Rattle.array_model.proofs.NamedBlocks.{at_disk, is_disk}
 use Rattle.array_model.proofs.SoundArrays
 use Rattle.array_model.specs.ArrayHistory.{reply_in}
 use Rattle.array_model.specs.Execution.{Reply, is_request_sense}
@@ -371,22 +370,15 @@ moved_is a p f writes w e l out =
     go false true z = refl
     go g false z = l
 
--- Its unit is a disk.
-served_disk : (s : ScenarioValue) (served : Option Item) (p : Process) → process_item s served ≡ Some p
-    → p.serial ≡ false
-served_disk s None p e = cc
-served_disk s (Some (abort n)) p e = cc
-served_disk s (Some (process id)) p e = is_disk s p (SoundArrays.is_own s id p e)
-
 command_is : (s : ScenarioValue) (k : RunState) (p : Process) (c : CourseState) (f : ProcessState) (t : Task)
-    → c.block ≡ p.cdb → IsStateOf s k p f → IsOutlookOf s k p f → p.serial ≡ false → t.writes ≡ is_writing p
+    → c.block ≡ p.cdb → IsStateOf s k p f → IsOutlookOf s k p f → t.writes ≡ is_writing p
     → t.moved ≡ moved_count p (reply_now (array_of s k) p) → t.blocks ≡ blocks_in (range_named p) → t.size ≡ f.size
     → IsSameCommand (task_by c f) t
-command_is s k p c f t b st o disk w m r z = record {
+command_is s k p c f t b st o w m r z = record {
   writes = writes ∙ sym w;
   moved = moved_is (array_of s k) p f (is_write (command_of c.block)) writes (λ i. (o.plan i).status)
       (λ i. (o.plan i).in_len) o.sent ∙ sym m;
-  blocks = (λ i. blocks_in (range_in (command_of (b i)))) ∙ ap blocks_in (sym (at_disk p disk)) ∙ sym r;
+  blocks = (λ i. blocks_in (if st.serial i then None else range_in (command_of (b i)))) ∙ sym r;
   size = sym z;
 }
   where
@@ -585,8 +577,8 @@ courses_agree s rows n d c f front begun line course told = record {
             by_need (inr z) none = let never : true ≡ false = sym (v.gives z) ∙ none in cc
 
             known_command : c.block ≡ p.cdb → IsSameCommand (task_by c f) (real p)
-            known_command b = command_is s k p c f (real p) b st (told.outlook p v.is v.id v.named b)
-                (served_disk s k.served p v.is) refl refl refl (sym st.size)
+            known_command b = command_is s k p c f (real p) b st (told.outlook p v.is v.id v.named b) refl refl refl
+                (sym st.size)
 
             command_of_need : (moves_data phase plan.next ≡ true) ⊎ (arrives leaves phase plan (real p).whole ≡ true)
                 → IsSameCommand (task_by c f) (real p)

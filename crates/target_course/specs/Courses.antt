@@ -135,7 +135,7 @@ abbrev pub task_by : CourseState → ProcessState → Task
 task_by c f = record {
   writes = is_write (command_of c.block);
   moved = moved_by f.plan (is_write (command_of c.block));
-  blocks = blocks_in (range_in (command_of c.block));
+  blocks = blocks_in (if f.serial then None else range_in (command_of c.block));
   size = f.size;
   runs = f.runs;
   recoveries = f.recoveries;
@@ -206,6 +206,7 @@ pub record IsStateOf (s : ScenarioValue) (k : RunState) (p : Process) (f : Proce
   pub in_hold : f.in_hold ≡ in_hold (array_of s k).holds (nexus_of p)
   pub runs : f.runs ≡ (progress_in k.progress p.id).runs
   pub recoveries : f.recoveries ≡ (progress_in k.progress p.id).recoveries
+  pub serial : f.serial ≡ p.serial
   pub size : f.size ≡ size_of (unit_state_at (array_of s k).units p.target p.unit)
   pub room : f.room ≡ room_of (array_of s k) (unit_state_at (array_of s k).units p.target p.unit)
   pub reply : f.reply ≡ status_if (reply_in (array_of s k).replies p.id)

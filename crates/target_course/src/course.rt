@@ -7,7 +7,7 @@ ghost use Rattle.bus_trace.specs.Terms.{connection as connection_after};
 ghost use Rattle.bus_trace.specs.Trace.{bus};
 ghost use Rattle.scenario.specs.Value.{ScenarioValue};
 ghost use Rattle.scenario.specs.declared.value.TargetDef.{TargetDef};
-ghost use Rattle.array_model.specs.Order.{class_of, tag_number};
+ghost use Rattle.array_model.specs.Order.{class_of, range_in, tag_number};
 ghost use Rattle.due_model.specs.dialogue_model.specs.Exchange.{no_messages};
 ghost use Rattle.due_model.specs.dialogue_model.specs.Hearing.{begun, hearing as hearing_in};
 ghost use Rattle.due_model.specs.dialogue_model.specs.NextPhase.{leaving_by};
@@ -19,7 +19,7 @@ ghost use Rattle.due_model.specs.Plain.{AreOfDevices};
 ghost use Rattle.due_model.specs.RunState.{item_of};
 ghost use Rattle.due_model.specs.RunSteps.{run_state};
 ghost use Rattle.due_model.specs.Sights.{serving_of};
-ghost use Rattle.due_model.specs.Tasks.{given_of};
+ghost use Rattle.due_model.specs.Tasks.{blocks_in, given_of};
 ghost use Rattle.due_model.specs.Wants.{ready_of};
 ghost use Rattle.target_units.specs.scsi_device.specs.Heard.{heard, leaves_opening, leaves_command};
 ghost use Rattle.target_course.specs.Fits.{AreFit};
@@ -38,7 +38,7 @@ use array_model::tag_number;
 use arrayvec::ArrayVec;
 use bus_base::{Class, ProcId};
 use bus_trace::{Connection, changes_phase, is_command, is_message_out};
-use cdb_codec::{GOOD, from_cdb};
+use cdb_codec::{CdbFault, Command, GOOD, from_cdb};
 use due_model::the_dialogue_model::{Cause, Hearing, Leaving, Messages, Plan, Room, Said, Task};
 use due_model::{hearings_are_plain, kept_is_plain};
 use msg_grammar::MsgIn;
@@ -65,6 +65,8 @@ pub struct ProcessState {
     pub runs: u64,
     /// How many recoveries were counted for it.
     pub recoveries: u64,
+    /// Whether its commands name no blocks, as those of a tape.
+    pub serial: bool,
     /// The bytes of a block of the unit.
     pub size: u64,
     /// The queue of the unit, where the unit is there.
@@ -172,6 +174,13 @@ fn moved_by(plan: &disk_unit::Plan, writes: bool) -> u64
     } else {
         0
     }
+}
+
+// How many blocks it names, at a unit that is serial or not.
+fn blocks_at(serial: bool, command: &Result<Command, CdbFault>) -> Option<u32>
+    ensures { result ≡ blocks_in (if serial then None else range_in command.now) }
+{
+    if serial { None } else { blocks_named(command) }
 }
 
 fn status_known(plan: &disk_unit::Plan, reply: Option<u8>) -> u8
@@ -347,7 +356,7 @@ impl Course {
         Task {
             writes,
             moved: moved_by(&state.plan, writes),
-            blocks: blocks_named(&command),
+            blocks: blocks_at(state.serial, &command),
             size: state.size,
             runs: state.runs,
             recoveries: state.recoveries,

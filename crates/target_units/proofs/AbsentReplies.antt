@@ -27,10 +27,10 @@ use Rattle.array_model.specs.Seats
 
 -- ---- the reply
 
-pub replies : (stored attention : Option Sense) (c : Contents) (cdb sent : List ℕ)
+pub replies : (stored attention : Option Sense) (c : Contents) → c.reel ≡ None → (cdb sent : List ℕ)
     → (execution (record { present = false; contents = c; stored = stored; attention = attention }) cdb sent).reply
     ≡ absent_reply_by stored (is_opcode cdb INQUIRY) (command_of cdb)
-replies stored attention c cdb sent = go (is_opcode cdb INQUIRY) refl
+replies stored attention c plain cdb sent = go (is_opcode cdb INQUIRY) refl
   where
     m : CommandContext
     m = record { present = false; contents = c; stored = stored; attention = attention }
@@ -44,7 +44,7 @@ replies stored attention c cdb sent = go (is_opcode cdb INQUIRY) refl
     inquired : is_opcode cdb INQUIRY ≡ true → (r : Result Command CdbFault) → command_of cdb ≡ r
         → is_inquiry_or_faulty r ≡ true → (execution m cdb sent).reply ≡ absent_reply_by stored true r
     inquired e (Ok (commands.Inquiry room)) f k =
-        λ i. (carried_executed m cdb sent (commands.Inquiry room) (passes e) f refl i).reply
+        λ i. (carried_executed m cdb sent (commands.Inquiry room) plain (passes e) f refl i).reply
     inquired e (Ok commands.TestUnitReady) f k = cc
     inquired e (Ok (commands.RequestSense room)) f k = cc
     inquired e (Ok (commands.Read6 lba count)) f k = cc
@@ -53,8 +53,8 @@ replies stored attention c cdb sent = go (is_opcode cdb INQUIRY) refl
     inquired e (Ok (commands.Read10 lba count)) f k = cc
     inquired e (Ok (commands.Write10 lba count)) f k = cc
     inquired e (Err faults.Opcode) f k = cc
-    inquired e (Err faults.Length) f k = λ i. (faulty_executed m cdb sent faults.Length (passes e) f i).reply
-    inquired e (Err faults.Field) f k = λ i. (faulty_executed m cdb sent faults.Field (passes e) f i).reply
+    inquired e (Err faults.Length) f k = λ i. (faulty_executed m cdb sent faults.Length plain (passes e) f i).reply
+    inquired e (Err faults.Field) f k = λ i. (faulty_executed m cdb sent faults.Field plain (passes e) f i).reply
 
     refused : is_opcode cdb INQUIRY ≡ false → (r : Result Command CdbFault) → command_of cdb ≡ r
         → is_request_sense r ≡ false → (execution m cdb sent).reply ≡ check_condition unit_not_supported
@@ -134,7 +134,7 @@ no_part v from cdb at (x ∷ into) e none h = absurd (bad (sense_room (command_o
 pub reply_seen : (seat : Seat) (v : AbsentState) (from : ℕ) (cdb sent : List ℕ) → from < 8 → IsAbsentAt seat v
     → absent_reply v from cdb ≡ (execution (Seats.context_of seat from) cdb sent).reply
 reply_seen seat v from cdb sent lt h =
-    sym (replies (slice_index_or v.senses from None) (seat.attentions from) no_contents cdb sent)
+    sym (replies (slice_index_or v.senses from None) (seat.attentions from) no_contents refl cdb sent)
     ∙ (λ i. (execution (record {
       present = is_some (sym h.none i);
       contents = Seats.contents_of (sym h.none i);

@@ -5,6 +5,7 @@ pub mod AbsentSteps
 pub mod Tellings
 pub mod UnitTimes
 pub mod Rooms
+mod Loading
 pub mod Arrivals
 pub mod UnitSteps
 pub mod UnitRuns

@@ -13,7 +13,7 @@ use Rattle.cdb_codec.specs.declared.status.TheConstants.{GOOD, CHECK_CONDITION}
 use Rattle.cdb_codec.specs.Cdb.{command_of}
 use Rattle.scenario.specs.declared.value.HostDef.{HostDef}
 use Rattle.array_model.specs.declared.entries.Entry.{Entry}
-use Rattle.array_model.specs.Contents.{Contents}
+use Rattle.array_model.specs.Contents.{Contents, is_reeled}
 use Rattle.array_model.specs.Execution.{Reply, Execution, execution, check_condition}
 use Rattle.array_model.specs.Execution.{is_request_sense, queue_full, aborted_reply}
 use Rattle.array_model.specs.Order.{entry_of, choice}
@@ -29,8 +29,8 @@ use Rattle.disk_unit.specs.AtSeats.{IsUnitAt}
 use Rattle.disk_unit.specs.Books.{UnitBooks, block_at, attention_at, initiator_at, books_with, books_after_choice}
 use Rattle.disk_unit.specs.Books.{books_after_end, books_without, books_after_abort, books_after_abort_tag}
 use Rattle.disk_unit.specs.Books.{books_after_reset}
-use Rattle.disk_unit.specs.Disk.{cost_by, kind_of, taken_now, disk_execution, disk_reply, disk_extent, is_carried_out}
-use Rattle.disk_unit.specs.Disk.{is_changed}
+use Rattle.disk_unit.specs.Held.{cost_by, kind_of, taken_now, held_execution, held_reply, held_extent}
+use Rattle.disk_unit.specs.Held.{is_held_carried_out, is_held_changed}
 use Rattle.disk_unit.specs.Keeping.{books_after_status}
 use Rattle.disk_unit.specs.LiveCommands.{LiveCommand, HasLive, IsCurrentOf, process_under, has_process, queued_of}
 use Rattle.disk_unit.specs.LiveCommands.{live_but, has_this_key, is_one_of}
@@ -39,10 +39,10 @@ use Rattle.disk_unit.specs.Units.{IsAborted, is_reported, reply_with, entry_with
 use Rattle.disk_unit.specs.Units.{unit_reply}
 use Rattle.disk_unit.specs.declared.unit.Accepted.{Accepted}
 use Rattle.disk_unit.specs.declared.unit.Reply.{Reply as UnitReply}
-use Rattle.disk_unit.proofs.LiveCommands.{entry_at_disk, process_found, room_is}
+use Rattle.disk_unit.proofs.LiveCommands.{entry_held, process_found, room_is}
 use Rattle.disk_unit.proofs.MediumFacts.{contents_stay, none_taken, sent_unseen}
 use Rattle.due_model.specs.RunSteps.{is_same_running}
-use Rattle.target_units.specs.Rooms.{HasRoomFor}
+use Rattle.target_units.specs.Rooms.{HasRoomFor, IsOfKind}
 use Rattle.target_units.specs.Seated.{SeatedState, IsSeated, IsAtSeat, IsSince, current_reply, reply_told, current_id}
 use Rattle.target_units.specs.Seated.{running_id, is_same_process, seat_time, settled, since_after, reply_kept}
 use Rattle.target_units.specs.Seated.{with_books, AreQueued, IsProcess, IsNew, IsArrived, IsRun, IsRunLive, can_run}
@@ -222,39 +222,56 @@ arrives hosts seat after time now v w p (accepted.Queued key) h lt new e a =
     }) h.2.queued (record { sense = a.0; below = lt; host = new.host; no_guest = new.no_guest })) h.2.pick
     (is_reply h.1.current v.reply h.2.reply) refl)
 
-entry_is : (p : Process) (id : ProcId) (from : ℕ) (tag : Option ℕ) (class : Class) (cdb : List ℕ)
-    → IsProcess p id from tag class cdb → entry_with id from tag class (disk_extent cdb) ≡ entry_of p
-entry_is p id from tag class cdb h = (λ i. entry_with (sym h.id_is i) (sym h.from_is i)
-    (sym h.tag_is i) (sym h.class_is i) (disk_extent (sym h.cdb_is i)))
-    ∙ entry_at_disk p h.disk
+entry_is : (c : Contents) (p : Process) (id : ProcId) (from : ℕ) (tag : Option ℕ) (class : Class) (cdb : List ℕ)
+    → IsProcess p id from tag class cdb → p.serial ≡ is_reeled c
+    → entry_with id from tag class (held_extent c cdb) ≡ entry_of p
+entry_is c p id from tag class cdb h kind = (λ i. entry_with (sym h.id_is i) (sym h.from_is i)
+    (sym h.tag_is i) (sym h.class_is i) (held_extent c (sym h.cdb_is i)))
+    ∙ entry_held p c kind
+
+own_block : (v w : SeatedState) (entry : Entry) (p : Process) (id : ProcId) (from : ℕ)
+    (tag : Option ℕ) (class : Class) (cdb : List ℕ) (result : Accepted)
+    → IsProcess p id from tag class cdb → IsArrived v entry cdb result w → IsArrived v entry p.cdb result w
+own_block v w entry p id from tag class cdb result h a =
+    subst (λ (x : List ℕ). IsArrived v entry x result w) (sym h.cdb_is) a
 
 own_words : (v w : SeatedState) (p : Process) (id : ProcId) (from : ℕ)
     (tag : Option ℕ) (class : Class) (cdb : List ℕ) (result : Accepted)
-    → IsProcess p id from tag class cdb → IsArrived v (entry_with id from tag class (disk_extent cdb)) cdb result w
+    → IsProcess p id from tag class cdb → p.serial ≡ is_reeled v.contents
+    → IsArrived v (entry_with id from tag class (held_extent v.contents cdb)) cdb result w
     → IsArrived v (entry_of p) p.cdb result w
-own_words v w p id from tag class cdb result h a =
-    subst (λ (x : List ℕ). IsArrived v (entry_of p) x result w) (sym h.cdb_is)
-    (subst (λ (x : Entry). IsArrived v x cdb result w) (entry_is p id from tag class cdb h) a)
+own_words v w p id from tag class cdb result h kind a =
+    own_block v w (entry_of p) p id from tag class cdb result h
+    (subst (λ (x : Entry). IsArrived v x cdb result w) (entry_is v.contents p id from tag class cdb h kind) a)
+
+-- The unit of this seat is a tape exactly where the process is serial.
+kind_held : (hosts : List HostDef) (seat : Seat) (time : ℕ) (v : SeatedState) (p : Process)
+    → IsAtSeat hosts seat time v → IsOfKind p.serial seat.unit → p.serial ≡ is_reeled v.contents
+kind_held hosts seat time v p h kind =
+    let there : is_reeled h.1.contents ≡ p.serial =
+    subst (λ (x : Option UnitState). IsOfKind p.serial x) h.2.kept.there kind in
+    sym there ∙ (λ i. is_reeled (h.2.kept.contents i))
 
 pub accepts : (hosts : List HostDef) (seat after : Seat) (time now : ℕ) (v w : SeatedState) (p : Process)
     (id : ProcId) (from : ℕ) (tag : Option ℕ) (class : Class) (cdb : List ℕ) (result : Accepted)
-    → from < 8 → IsArrived v (entry_with id from tag class (disk_extent cdb)) cdb result w → IsAtSeat hosts seat time v
-    → IsProcess p id from tag class cdb → IsNew hosts seat p → Seats.seat_after_accept p seat ≡ Some after
+    → from < 8 → IsArrived v (entry_with id from tag class (held_extent v.contents cdb)) cdb result w
+    → IsAtSeat hosts seat time v → IsProcess p id from tag class cdb → IsOfKind p.serial seat.unit → IsNew hosts seat p
+    → Seats.seat_after_accept p seat ≡ Some after
     → AtAfter hosts seat after time now (settled (current_id v.books) now w)
-accepts hosts seat after time now v w p id from tag class cdb result lt a h words new e = arrives
+accepts hosts seat after time now v w p id from tag class cdb result lt a h words kind new e = arrives
     hosts seat after time now v w p result h (subst (λ (n : ℕ). n < 8) (sym words.from_is) lt) new e
-    (own_words v w p id from tag class cdb result words a)
+    (own_words v w p id from tag class cdb result words (kind_held hosts seat time v p h kind) a)
 
-pub refuses : (hosts : List HostDef) (seat : Seat) (time now : ℕ) (v w : SeatedState) (p : Process)
+pub refuses : (hosts : List HostDef) (seat : Seat) (time now : ℕ) (v w : SeatedState) (entry : Entry) (p : Process)
     (id : ProcId) (from : ℕ) (tag : Option ℕ) (class : Class) (cdb : List ℕ) (result : Accepted)
-    → IsArrived v (entry_with id from tag class (disk_extent cdb)) cdb result w → IsAtSeat hosts seat time v
+    → IsArrived v entry cdb result w → IsAtSeat hosts seat time v
     → IsProcess p id from tag class cdb → IsNew hosts seat p → result ≡ accepted.Full
     → (Seats.seat_after_accept p seat ≡ None)
     × (Seats.seat_after_refuse p seat ≡ Some (Seats.seat_with_guest seat p (Some queue_full)))
     × AtAfter hosts seat (Seats.seat_with_guest seat p (Some queue_full)) time now (settled (current_id v.books) now w)
-refuses hosts seat time now v w p id from tag class cdb result a h words new full =
-    let x : IsArrived v (entry_of p) p.cdb accepted.Full w = subst (λ (r : Accepted). IsArrived v
-    (entry_of p) p.cdb r w) full (own_words v w p id from tag class cdb result words a) in
+refuses hosts seat time now v w entry p id from tag class cdb result a h words new full =
+    let x : IsArrived v entry p.cdb accepted.Full w = subst (λ (r : Accepted). IsArrived v entry p.cdb r w) full
+    (own_block v w entry p id from tag class cdb result words a) in
     let steps = seats.refused hosts h.0 v.contents h.1 seat v.books p h.2.kept x.0 x.1 in
     let fresh : has_process h.0 p.id ≡ false = new_is hosts h.0 v.contents h.1 seat v.books p h.2.kept new in (
       steps.0,
@@ -264,12 +281,13 @@ refuses hosts seat time now v w p id from tag class cdb result a h words new ful
     )
 
 -- Where the array refuses it the queue is full.
-pub refused_full : (hosts : List HostDef) (seat after : Seat) (time : ℕ) (v w : SeatedState) (p : Process)
+pub refused_full :
+    (hosts : List HostDef) (seat after : Seat) (time : ℕ) (v w : SeatedState) (entry : Entry) (p : Process)
     (id : ProcId) (from : ℕ) (tag : Option ℕ) (class : Class) (cdb : List ℕ) (result : Accepted)
-    → IsArrived v (entry_with id from tag class (disk_extent cdb)) cdb result w → IsAtSeat hosts seat time v
+    → IsArrived v entry cdb result w → IsAtSeat hosts seat time v
     → IsProcess p id from tag class cdb → Seats.seat_after_refuse p seat ≡ Some after → result ≡ accepted.Full
-refused_full hosts seat after time v w p id from tag class cdb result a h words e = go result
-    (own_words v w p id from tag class cdb result words a) (full_at (not (is_request_sense (command_of p.cdb)))
+refused_full hosts seat after time v w entry p id from tag class cdb result a h words e = go result
+    (own_block v w entry p id from tag class cdb result words a) (full_at (not (is_request_sense (command_of p.cdb)))
     (process_count h.1 == h.1.depth) ((λ i. Seats.seat_after_refuse_at seat p (sym h.2.kept.there i)) ∙ e))
   where
     full_at :
@@ -279,7 +297,7 @@ refused_full hosts seat after time v w p id from tag class cdb result a h words 
     full_at true false k = some_none after k
     full_at false z k = some_none after k
 
-    go : (r : Accepted) → IsArrived v (entry_of p) p.cdb r w
+    go : (r : Accepted) → IsArrived v entry p.cdb r w
         → (not (is_request_sense (command_of p.cdb)) ≡ true) × ((process_count h.1 == h.1.depth) ≡ true)
         → r ≡ accepted.Full
     go accepted.Full k full = refl
@@ -716,24 +734,24 @@ unreported None cdb reply h = refl
 unreported (Some a) cdb reply h = λ i. if h i then check_condition a else reply
 
 contents_same : (c : Contents) (attention : Option Sense) (block cdb sent own : List ℕ)
-    → block ≡ cdb → ((reply_with attention block (disk_reply c block)).status ≡ GOOD → sent ≡ own)
-    → (if is_reported attention block then c else (disk_execution c cdb own).contents)
-    ≡ (if is_reported attention block then c else (disk_execution c block sent).contents)
+    → block ≡ cdb → ((reply_with attention block (held_reply c block)).status ≡ GOOD → sent ≡ own)
+    → (if is_reported attention block then c else (held_execution c cdb own).contents)
+    ≡ (if is_reported attention block then c else (held_execution c block sent).contents)
 contents_same c attention block cdb sent own b h = go (is_reported attention block) refl
   where
-    carried : (z : Bool) → is_carried_out c block ≡ z → is_reported attention block ≡ false
-        → (disk_execution c cdb own).contents ≡ (disk_execution c block sent).contents
+    carried : (z : Bool) → is_held_carried_out c block ≡ z → is_reported attention block ≡ false
+        → (held_execution c cdb own).contents ≡ (held_execution c block sent).contents
     carried true k f =
-        let status : (disk_reply c block).status ≡ GOOD = eqb-true (disk_reply c block).status GOOD k in
-        let same : sent ≡ own = h ((λ i. (unreported attention block (disk_reply c block) f i).status) ∙ status) in
-        λ i. (disk_execution c (sym b i) (sym same i)).contents
+        let status : (held_reply c block).status ≡ GOOD = eqb-true (held_reply c block).status GOOD k in
+        let same : sent ≡ own = h ((λ i. (unreported attention block (held_reply c block) f i).status) ∙ status) in
+        λ i. (held_execution c (sym b i) (sym same i)).contents
     carried false k f =
-        (λ i. (disk_execution c (sym b i) own).contents) ∙ sent_unseen c block own sent k
+        (λ i. (held_execution c (sym b i) own).contents) ∙ sent_unseen c block own sent k
 
-    go : (y : Bool) → is_reported attention block ≡ y → (if y then c else (disk_execution c cdb own).contents)
-        ≡ (if y then c else (disk_execution c block sent).contents)
+    go : (y : Bool) → is_reported attention block ≡ y → (if y then c else (held_execution c cdb own).contents)
+        ≡ (if y then c else (held_execution c block sent).contents)
     go true f = refl
-    go false f = carried (is_carried_out c block) refl f
+    go false f = carried (is_held_carried_out c block) refl f
 
 unit_given :
     (hosts : List HostDef) (l : List LiveCommand) (u : UnitState) (seat : Seat) (c d : Contents) (b e : UnitBooks)
@@ -786,7 +804,7 @@ running : (hosts : List HostDef) (seat : Seat) (time : ℕ) (v w : SeatedState)
 running hosts seat time v w p key sent h under q sending r =
     let x = seats.ran hosts h.0 v.contents h.1 seat v.books key p h.2.kept under q.below q.host q.sense in
     let done : Execution = done_at seat p in
-    let reply : done.reply ≡ unit_reply v.books key (disk_reply v.contents (block_at v.books key)) =
+    let reply : done.reply ≡ unit_reply v.books key (held_reply v.contents (block_at v.books key)) =
     λ i. (x.1 i).reply in
     let contents : w.contents ≡ done.contents = r.contents
     ∙ sym (contents_same v.contents (attention_at v.books key) (block_at v.books key) p.cdb sent p.sent x.0
@@ -837,15 +855,15 @@ may_run hosts seat time v p key sent h under q sending room =
     takes = λ i. taken_now (contents i) (sym block i)
 
     status : (done_at seat p).reply.status ≡ (reply_with (attention_at v.books key) (block_at v.books key)
-        (disk_reply v.contents (block_at v.books key))).status
+        (held_reply v.contents (block_at v.books key))).status
     status = λ i. ((seats.ran hosts h.0 v.contents h.1 seat v.books key p h.2.kept under q.below q.host q.sense).1
         i).reply.status
 
     plainly : is_reported (attention_at v.books key) (block_at v.books key) ≡ false
-        → reply_with (attention_at v.books key) (block_at v.books key) (disk_reply v.contents (block_at v.books key))
-        ≡ disk_reply v.contents (block_at v.books key)
+        → reply_with (attention_at v.books key) (block_at v.books key) (held_reply v.contents (block_at v.books key))
+        ≡ held_reply v.contents (block_at v.books key)
     plainly f =
-        unreported (attention_at v.books key) (block_at v.books key) (disk_reply v.contents (block_at v.books key)) f
+        unreported (attention_at v.books key) (block_at v.books key) (held_reply v.contents (block_at v.books key)) f
 
     -- Nothing is taken, and it is not carried out.
     nothing : taken_at v key ≡ 0 → ((done_at seat p).reply.status ≡ GOOD → ⊥) → MayRun seat v key p sent
@@ -856,14 +874,14 @@ may_run hosts seat time v p key sent h under q sending room =
     }
 
     carried : is_reported (attention_at v.books key) (block_at v.books key) ≡ false
-        → (y : Bool) → is_carried_out v.contents (block_at v.books key) ≡ y → MayRun seat v key p sent
+        → (y : Bool) → is_held_carried_out v.contents (block_at v.books key) ≡ y → MayRun seat v key p sent
     carried f false k = nothing ((λ i. if f i then 0 else taken_now v.contents (block_at v.books key))
         ∙ none_taken v.contents (block_at v.books key) k) (λ good.
-        let plain : (disk_reply v.contents (block_at v.books key)).status ≡ GOOD = (λ i. (sym (plainly f) i).status)
+        let plain : (held_reply v.contents (block_at v.books key)).status ≡ GOOD = (λ i. (sym (plainly f) i).status)
         ∙ sym status ∙ good in let bad : true ≡ false = (λ i. sym plain i == GOOD) ∙ k in cc)
     carried f true k =
         let good : (done_at seat p).reply.status ≡ GOOD = status ∙ (λ i. (plainly f i).status)
-        ∙ eqb-true (disk_reply v.contents (block_at v.books key)).status GOOD k in
+        ∙ eqb-true (held_reply v.contents (block_at v.books key)).status GOOD k in
         let same : sent ≡ p.sent = sending good in
         let taken : taken_at v key ≡ length sent = (λ i. if f i then 0 else taken_now v.contents (block_at v.books key))
         ∙ sym takes ∙ sym (room.bytes good) ∙ (λ i. length (sym same i)) in
@@ -876,8 +894,8 @@ may_run hosts seat time v p key sent h under q sending room =
     by : (y : Bool) → is_reported (attention_at v.books key) (block_at v.books key) ≡ y → MayRun seat v key p sent
     by true f = nothing (λ i. if f i then 0 else taken_now v.contents (block_at v.books key))
         (λ good. reported_bad (attention_at v.books key) (block_at v.books key)
-        (disk_reply v.contents (block_at v.books key)) f (sym status ∙ good))
-    by false f = carried f (is_carried_out v.contents (block_at v.books key)) refl
+        (held_reply v.contents (block_at v.books key)) f (sym status ∙ good))
+    by false f = carried f (is_held_carried_out v.contents (block_at v.books key)) refl
 
 pub runs : (hosts : List HostDef) (seat after : Seat) (time now : ℕ) (v w : SeatedState)
     (id : ProcId) (p : Process) (sent : List ℕ) (result : Option UnitReply)
@@ -1025,13 +1043,13 @@ guest_runs hosts seat after time now v w id r sent result ran h g sense e =
 
 -- What the call of the unit tells of the contents.
 pub contents_after : (c d : Contents) (block sent : List ℕ) (reported : Bool)
-    → (reported ≡ true → d ≡ c) → (is_changed c block ≡ false → d ≡ c)
-    → (reported ≡ false → is_changed c block ≡ true → d ≡ (disk_execution c block sent).contents)
-    → d ≡ (if reported then c else (disk_execution c block sent).contents)
+    → (reported ≡ true → d ≡ c) → (is_held_changed c block ≡ false → d ≡ c)
+    → (reported ≡ false → is_held_changed c block ≡ true → d ≡ (held_execution c block sent).contents)
+    → d ≡ (if reported then c else (held_execution c block sent).contents)
 contents_after c d block sent true f g h = f refl
-contents_after c d block sent false f g h = go (is_changed c block) refl
+contents_after c d block sent false f g h = go (is_held_changed c block) refl
   where
-    go : (y : Bool) → is_changed c block ≡ y → d ≡ (disk_execution c block sent).contents
+    go : (y : Bool) → is_held_changed c block ≡ y → d ≡ (held_execution c block sent).contents
     go true e = h refl e
     go false e = g e ∙ sym (contents_stay c block sent e)
 

@@ -1,7 +1,7 @@
 -- What a write of a scenario sends.
 use Rattle.std.proofs.Common.{ℕ, ◌≡◌, ◌*◌, true, false, length, ◌∙◌, refl, sym, arith, Option, Some, None, Result, Ok}
 use Rattle.std.proofs.Common.{Err}
-use Rattle.std.specs.Prelude.{if◌then◌else◌, is_some}
+use Rattle.std.specs.Prelude.{if◌then◌else◌}
 use Rattle.cdb_codec.specs.Cdb.{command_of}
 use Rattle.cdb_codec.specs.declared.command.Command.{Command}
 use Rattle.cdb_codec.specs.declared.command.CdbFault.{CdbFault}
@@ -16,10 +16,13 @@ use Rattle.array_model.specs.Processes.{Process, process_of}
 use Rattle.array_model.specs.Seats.{seat_of, contents_of, context_of}
 use Rattle.array_model.specs.Units.{Array, UnitState, unit_state_at}
 use Rattle.due_model.specs.Tasks.{reply_now, size_of}
-use Rattle.disk_unit.specs.Disk.{blocks_written, taken_now, written_of}
+use Rattle.disk_unit.specs.Disk.{blocks_written, written_of}
+use Rattle.disk_unit.specs.Held.{taken_now, taken_with}
 use Rattle.scsi_device.specs.Lines.{FitsBus}
-use Rattle.target_units.specs.Rooms.{AreOfLines}
-use Rattle.target_units.proofs.Rooms.{plain_id, sends}
+use Rattle.scsi_device.proofs.Finds.{none_is}
+use Rattle.target_units.specs.Rooms.{AreOfKinds, AreOfLines}
+use Rattle.target_units.proofs.Rooms.{plain_id, reeled_at, sends}
+use Rattle.array_model.proofs.NamedBlocks.{serial_is}
 use Rattle.array_model.proofs.ExecutionFacts.{good_range}
 use Rattle.target_units.proofs.UnitTellings.{reply_same}
 use Rattle.cdb_codec.specs.declared.command.Command.TheVariants as commands
@@ -49,21 +52,29 @@ written_named c (Ok command) k good =
 
 -- It sends the bytes that it takes.
 pub taken_sent : (s : ScenarioValue) (a : Array) (p : Process) → FitsBus s
-    → AreOfLines s a → has_target s p.target ≡ true → process_of s p.id ≡ Some p
+    → AreOfLines s a → AreOfKinds s a → has_target s p.target ≡ true → process_of s p.id ≡ Some p
     → is_write (command_of p.cdb) ≡ true → (reply_now a p).status ≡ GOOD
     → taken_now (contents_of (unit_state_at a.units p.target p.unit)) p.cdb ≡ length p.sent
-taken_sent s a p fits lines target is writes good =
-    sym ((sends s a p fits lines target is (write_id s p is writes)).bytes
+taken_sent s a p fits lines kinds target is writes good =
+    sym ((sends s a p fits lines kinds target is (write_id s p is writes)).bytes
     ((λ i. (reply_same a p.target p.unit p.initiator p.cdb p refl refl refl refl i).status) ∙ good))
 
-pub named : (s : ScenarioValue) (a : Array) (p : Process) → FitsBus s → AreOfLines s a → has_target s p.target ≡ true
-    → process_of s p.id ≡ Some p → is_write (command_of p.cdb) ≡ true → (reply_now a p).status ≡ GOOD
+-- At a disk those of the blocks that it names.
+pub named : (s : ScenarioValue) (a : Array) (p : Process) → FitsBus s → AreOfLines s a → AreOfKinds s a
+    → has_target s p.target ≡ true → process_of s p.id ≡ Some p → p.serial ≡ false
+    → is_write (command_of p.cdb) ≡ true → (reply_now a p).status ≡ GOOD
     → count_in (range_in (command_of p.cdb)) * size_of (unit_state_at a.units p.target p.unit) ≡ length p.sent
-named s a p fits lines target is writes good =
+named s a p fits lines kinds target is disk writes good =
     go (unit_state_at a.units p.target p.unit) refl
   where
-    all : taken_now (contents_of (unit_state_at a.units p.target p.unit)) p.cdb ≡ length p.sent
-    all = taken_sent s a p fits lines target is writes good
+    plain : (contents_of (unit_state_at a.units p.target p.unit)).reel ≡ None
+    plain = none_is (contents_of (unit_state_at a.units p.target p.unit)).reel
+        (reeled_at s a p.target p.unit lines kinds ∙ sym (serial_is s p is) ∙ disk)
+
+    all : blocks_written (contents_of (unit_state_at a.units p.target p.unit)).count (command_of p.cdb)
+        * (contents_of (unit_state_at a.units p.target p.unit)).size ≡ length p.sent
+    all = (λ i. taken_with (sym plain i) (contents_of (unit_state_at a.units p.target p.unit)) p.cdb)
+        ∙ taken_sent s a p fits lines kinds target is writes good
 
     status : (execution (context_of (seat_of a p.target p.unit) p.initiator) p.cdb p.sent).reply.status ≡ GOOD
     status = (λ i. (reply_same a p.target p.unit p.initiator p.cdb p refl refl refl refl i).status) ∙ good
@@ -77,11 +88,10 @@ named s a p fits lines target is writes good =
         let nothing : count * 0 ≡ blocks * 0 = omega arith in
         (λ i. count * size_of (f i)) ∙ nothing ∙ (λ i. blocks * (contents_of (sym f i)).size) ∙ all
     go (Some v) f =
-        let there : is_some (unit_state_at a.units p.target p.unit) ≡ true = λ i. is_some (f i) in
         let count : blocks_written (contents_of (unit_state_at a.units p.target p.unit)).count (command_of p.cdb)
         ≡ count_in (range_in (command_of p.cdb)) = written_named
-        (contents_of (unit_state_at a.units p.target p.unit)) (command_of p.cdb) writes
-        (λ command e. good_range (context_of (seat_of a p.target p.unit) p.initiator) p.cdb p.sent command e status) in
+        (contents_of (unit_state_at a.units p.target p.unit)) (command_of p.cdb) writes (λ command e.
+        good_range (context_of (seat_of a p.target p.unit) p.initiator) p.cdb p.sent command plain e status) in
         (λ i. sym count i * size_of (f i))
         ∙ (λ i. blocks_written (contents_of (unit_state_at a.units p.target p.unit)).count (command_of p.cdb)
         * (contents_of (sym f i)).size) ∙ all

@@ -20,7 +20,8 @@ use Rattle.array_model.specs.Seats.{Seat}
 use Rattle.due_model.specs.dialogue_model.specs.Wants.{ready_in}
 use Rattle.tag_queue.specs.Queue.{is_held}
 use Rattle.disk_unit.specs.Books.{UnitBooks, sense_or_none}
-use Rattle.disk_unit.specs.Disk.{blocks_written, disk_reply, disk_context, taken_now}
+use Rattle.disk_unit.specs.Disk.{blocks_written, disk_context}
+use Rattle.disk_unit.specs.Held.{held_reply, taken_now}
 use Rattle.disk_unit.specs.LiveCommands.{LiveCommand, HasLive, IsCurrentOf, queued_of}
 use Rattle.disk_unit.specs.Plans.{plan_of}
 use Rattle.disk_unit.specs.Units.{is_reported, reply_with, plan_for}
@@ -154,9 +155,9 @@ unchanged (Some a) cdb reply h = λ i. if h i then check_condition a else reply
 
 -- A REQUEST SENSE gives as many bytes, whatever sense is stored.
 sense_plan : (c : Contents) (stored attention : Option Sense) (cdb : List ℕ) (out : ℕ)
-    → is_request_sense (command_of cdb) ≡ true → plan_of (reply_with attention cdb (disk_reply c cdb)) out
+    → is_request_sense (command_of cdb) ≡ true → plan_of (reply_with attention cdb (held_reply c cdb)) out
     ≡ plan_of (execution (unit_context c stored attention) cdb []).reply out
-sense_plan c stored attention cdb out f = (λ i. plan_of (unchanged attention cdb (disk_reply c cdb) none i) out)
+sense_plan c stored attention cdb out f = (λ i. plan_of (unchanged attention cdb (held_reply c cdb) none i) out)
     ∙ (λ i. plan_of (sense_executed (disk_context c) cdb [] k i).reply out) ∙ (λ i. record {
       status = GOOD;
       sense = None;
@@ -171,7 +172,7 @@ sense_plan c stored attention cdb out f = (λ i. plan_of (unchanged attention cd
     k = sense_block_of cdb f
 
 pub planned : (c : Contents) (stored attention : Option Sense) (cdb : List ℕ) (taken : ℕ) (plan : Plan)
-    → plan ≡ plan_for attention cdb (disk_reply c cdb) taken
+    → plan ≡ plan_for attention cdb (held_reply c cdb) taken
     → plan ≡ plan_of (execution (unit_context c stored attention) cdb []).reply
     (if is_reported attention cdb then 0 else taken)
 planned c stored attention cdb taken plan h = h ∙ go (is_request_sense (command_of cdb)) refl
@@ -180,7 +181,7 @@ planned c stored attention cdb taken plan h = h ∙ go (is_request_sense (comman
     out = if is_reported attention cdb then 0 else taken
 
     go : (y : Bool) → is_request_sense (command_of cdb) ≡ y
-        → plan_of (reply_with attention cdb (disk_reply c cdb)) out
+        → plan_of (reply_with attention cdb (held_reply c cdb)) out
         ≡ plan_of (execution (unit_context c stored attention) cdb []).reply out
     go true f = sense_plan c stored attention cdb out f
     go false f = λ i. plan_of (sym (executed c stored attention cdb [] f) i).reply out
@@ -260,7 +261,7 @@ none_taken seat from cdb none = go (is_reported (seat.attentions from) cdb)
 -- ---- the bytes that it would give
 
 pub plain_bytes : (c : Contents) (stored attention : Option Sense) (cdb : List ℕ)
-    → is_request_sense (command_of cdb) ≡ false → (reply_with attention cdb (disk_reply c cdb)).bytes
+    → is_request_sense (command_of cdb) ≡ false → (reply_with attention cdb (held_reply c cdb)).bytes
     ≡ (execution (unit_context c stored attention) cdb []).reply.bytes
 plain_bytes c stored attention cdb f = λ i. (sym (executed c stored attention cdb [] f) i).reply.bytes
 

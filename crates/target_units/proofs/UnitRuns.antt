@@ -13,7 +13,7 @@ use Rattle.array_model.specs.Seats.{Seat, seat_of, contents_of, current_of, runn
 use Rattle.array_model.specs.SoundArray.{IsOwn}
 use Rattle.array_model.specs.Steps.{running_if}
 use Rattle.array_model.specs.Units.{Array, RunningProcess, guest_at}
-use Rattle.disk_unit.specs.Disk.{cost_by, kind_of}
+use Rattle.disk_unit.specs.Held.{cost_by, kind_of}
 use Rattle.target_units.specs.declared.logical.LogicalUnit.{LogicalUnit}
 use Rattle.target_units.specs.declared.logical.LogicalUnit.TheVariants as kinds
 use Rattle.target_units.specs.Rooms.{blocks_left_at, HasRoomFor}
@@ -55,26 +55,26 @@ runs_first s a dev n time u p own at none running unanswered = record {
 pub room_seen :
     (s : ScenarioValue) (a : Array) (times : List ℕ) (dev n : ℕ) (units inside : List LogicalUnit) (d : LogicalUnit)
     → n < 8 → AreUnitsOf s a times dev units → inside ≡ units
-    → blocks_left_at a.replies (unit_of s dev n) s.commands ≤ spare_of (get_or inside n d)
+    → blocks_left_at a.replies s (unit_of s dev n) ≤ spare_of (get_or inside n d)
 room_seen s a times dev n units inside d lt h same = subst
-    (λ (z : LogicalUnit). blocks_left_at a.replies (unit_of s dev n) s.commands ≤ spare_of z)
+    (λ (z : LogicalUnit). blocks_left_at a.replies s (unit_of s dev n) ≤ spare_of z)
     (place_is units inside n d (get_or inside n d) h.eight lt same refl) (h.room.left n lt)
 
 pub room_for : (s : ScenarioValue) (a : Array) (dev n : ℕ) (units : List LogicalUnit) (u : LogicalUnit) (p : Process)
     → HaveRoom s a dev units → IsOwn s dev n p → RunsFirst a p
-    → blocks_left_at a.replies (unit_of s dev n) s.commands ≤ spare_of u → HasRoomFor (seat_of a dev n) p (spare_of u)
+    → blocks_left_at a.replies s (unit_of s dev n) ≤ spare_of u → HasRoomFor (seat_of a dev n) p (spare_of u)
 room_for s a dev n units u p room own first left =
-    has_room s a dev n (spare_of u) p room.fits room.lines room.target left own first.plain first.unanswered
+    has_room s a dev n (spare_of u) p room.fits room.lines room.kinds room.target left own first.plain first.unanswered
 
 -- Afterwards there is memory for the blocks of the others.
 pub room_after :
     (s : ScenarioValue) (a b : Array) (dev n : ℕ) (units : List LogicalUnit) (u w : LogicalUnit) (p : Process)
     → IsStep s (events.Run p.id) a b → HaveRoom s a dev units → IsOwn s dev n p → RunsFirst a p
     → spare_of u ≤ spare_of w + cost_by (kind_of (contents_of (seat_of a dev n).unit)) p.cdb
-    → blocks_left_at a.replies (unit_of s dev n) s.commands ≤ spare_of u
-    → blocks_left_at b.replies (unit_of s dev n) s.commands ≤ spare_of w
+    → blocks_left_at a.replies s (unit_of s dev n) ≤ spare_of u
+    → blocks_left_at b.replies s (unit_of s dev n) ≤ spare_of w
 room_after s a b dev n units u w p st room own first lowered left =
     let answered = run_answered s a b p.id st.step_is in
-    let one = among s a dev n p b.replies answered.0 room.fits room.lines own first.plain first.unanswered
+    let one = among s a dev n p b.replies answered.0 room.fits room.lines room.kinds own first.plain first.unanswered
     (later s (events.Run p.id) a b st).replies answered.1 in
     omega (arith, one, lowered, left)

@@ -34,7 +34,7 @@ use Rattle.target_units.specs.Units.{IsUnitOf, AreUnitsOf, AreUnitsAfter, IsStep
 use Rattle.target_units.specs.Units.{no_unit, contents_in, state_contents, spare_of, HaveRoom}
 use Rattle.target_units.proofs.AbsentSteps as absent
 use Rattle.target_units.proofs.SeatSteps.{resets}
-use Rattle.target_units.proofs.Rooms.{left_at_less, lines_after}
+use Rattle.target_units.proofs.Rooms.{kinds_after, left_at_less, lines_after}
 use Rattle.target_units.proofs.UnitTimes.{AreSame, IsLater, step_later, none_after, times_after, since_after}
 use Rattle.bus_base.proofs.Tests.{and_false}
 
@@ -111,20 +111,21 @@ elsewhere_unit s event a b times now dev n u st timed o h =
 -- ---- the memory for what is still written
 
 pub left_kept : (s : ScenarioValue) (event : Event) (a b : Array) (dev n m : ℕ)
-    → IsStep s event a b → blocks_left_at a.replies (unit_of s dev n) s.commands ≤ m
-    → blocks_left_at b.replies (unit_of s dev n) s.commands ≤ m
+    → IsStep s event a b → blocks_left_at a.replies s (unit_of s dev n) ≤ m
+    → blocks_left_at b.replies s (unit_of s dev n) ≤ m
 left_kept s event a b dev n m st k =
-    let less = left_at_less a.replies b.replies (later s event a b st).replies (unit_of s dev n) s.commands in
+    let less = left_at_less a.replies b.replies (later s event a b st).replies s (unit_of s dev n) in
     omega (arith, less, k)
 
 room_goes : (s : ScenarioValue) (event : Event) (a b : Array) (dev : ℕ) (units last : List LogicalUnit)
     → IsStep s event a b → HaveRoom s a dev units
-    → ((n : ℕ) → n < 8 → blocks_left_at b.replies (unit_of s dev n) s.commands ≤ spare_of (unit_in last n))
+    → ((n : ℕ) → n < 8 → blocks_left_at b.replies s (unit_of s dev n) ≤ spare_of (unit_in last n))
     → HaveRoom s b dev last
 room_goes s event a b dev units last st room left = record {
   fits = room.fits;
   target = room.target;
   lines = lines_after s a b (later s event a b st) room.lines;
+  kinds = kinds_after s a b (later s event a b st) room.kinds;
   left = left;
 }
 
@@ -151,7 +152,7 @@ pub one_goes : (s : ScenarioValue) (event : Event) (a b : Array) (times : List �
     (now dev n : ℕ) (units : List LogicalUnit) (x : LogicalUnit) → n < 8 → IsStep s event a b
     → AreUnitsOf s a times dev units → ((m : ℕ) → (n == m) ≡ false → is_elsewhere s event dev m ≡ true)
     → IsUnitOf s.hosts (seat_of b dev n) (since_of b.units (current_times_after a.units b.units times now) dev n) x
-    → blocks_left_at b.replies (unit_of s dev n) s.commands ≤ spare_of x
+    → blocks_left_at b.replies s (unit_of s dev n) ≤ spare_of x
     → AreUnitsAfter s a b times now dev (set units n x)
 one_goes s event a b times now dev n units x lt st h o k left = record {
   timed = timed_after s event a b times now st h.timed;
@@ -161,18 +162,18 @@ one_goes s event a b times now dev n units x lt st h o k left = record {
 }
   where
     room_of : (m : ℕ) → m < 8 → (y : Bool) → (n == m) ≡ y
-        → blocks_left_at b.replies (unit_of s dev m) s.commands ≤ spare_of (unit_in (set units n x) m)
+        → blocks_left_at b.replies s (unit_of s dev m) ≤ spare_of (unit_in (set units n x) m)
     room_of m below true e =
         let same : n ≡ m = eqb-true n m e in
         let here : get_or (set units n x) n no_unit ≡ x = get_or-set_same units n x no_unit
         (omega (arith, h.eight, lt)) in
-        subst (λ (j : ℕ). blocks_left_at b.replies (unit_of s dev j) s.commands ≤ spare_of (unit_in (set units n x) j))
-        same (subst (λ (z : LogicalUnit). blocks_left_at b.replies (unit_of s dev n) s.commands ≤ spare_of z)
+        subst (λ (j : ℕ). blocks_left_at b.replies s (unit_of s dev j) ≤ spare_of (unit_in (set units n x) j))
+        same (subst (λ (z : LogicalUnit). blocks_left_at b.replies s (unit_of s dev n) ≤ spare_of z)
         (sym here) left)
     room_of m below false e =
         let there : get_or (set units n x) m no_unit ≡ get_or units m no_unit = get_or-set_other units n m x no_unit
         (λ f. eqb-false n m e (sym f)) in
-        subst (λ (z : LogicalUnit). blocks_left_at b.replies (unit_of s dev m) s.commands ≤ spare_of z) (sym there)
+        subst (λ (z : LogicalUnit). blocks_left_at b.replies s (unit_of s dev m) ≤ spare_of z) (sym there)
         (left_kept s event a b dev m (spare_of (unit_in units m)) st (h.room.left m below))
 
     go : (m : ℕ) → m < 8 → (y : Bool) → (n == m) ≡ y
@@ -284,11 +285,11 @@ pub one_set : (s : ScenarioValue) (event : Event) (a b : Array) (times : List �
     → ((after : Seat) → x ≡ Some after → IsUnitOf s.hosts (seat_of a dev n) (since_of a.units times dev n) u
     → IsUnitOf s.hosts (settled_seat after)
     (seat_time (seat_of a dev n) (settled_seat after) (since_of a.units times dev n) now) w)
-    → (blocks_left_at a.replies (unit_of s dev n) s.commands ≤ spare_of u
-    → blocks_left_at b.replies (unit_of s dev n) s.commands ≤ spare_of w) → AreUnitsAfter s a b times now dev last
+    → (blocks_left_at a.replies s (unit_of s dev n) ≤ spare_of u
+    → blocks_left_at b.replies s (unit_of s dev n) ≤ spare_of w) → AreUnitsAfter s a b times now dev last
 one_set s event a b times now dev n units inside last d u w x lt st h o same is last_is left f room =
-    let before : blocks_left_at a.replies (unit_of s dev n) s.commands ≤ spare_of u = subst
-    (λ (z : LogicalUnit). blocks_left_at a.replies (unit_of s dev n) s.commands ≤ spare_of z)
+    let before : blocks_left_at a.replies s (unit_of s dev n) ≤ spare_of u = subst
+    (λ (z : LogicalUnit). blocks_left_at a.replies s (unit_of s dev n) ≤ spare_of z)
     (place_is units inside n d u h.eight lt same is) (h.room.left n lt) in
     let old : IsUnitOf s.hosts (seat_of a dev n) (since_of a.units times dev n) u = subst
     (λ (z : LogicalUnit). IsUnitOf s.hosts (seat_of a dev n) (since_of a.units times dev n) z)
@@ -303,8 +304,8 @@ one_set s event a b times now dev n units inside last d u w x lt st h o same is 
 
 -- An event but a run takes none of its memory.
 pub spare_stays : (s : ScenarioValue) (event : Event) (a b : Array) (dev n : ℕ) (u w : LogicalUnit)
-    → IsStep s event a b → spare_of w ≡ spare_of u → blocks_left_at a.replies (unit_of s dev n) s.commands ≤ spare_of u
-    → blocks_left_at b.replies (unit_of s dev n) s.commands ≤ spare_of w
+    → IsStep s event a b → spare_of w ≡ spare_of u → blocks_left_at a.replies s (unit_of s dev n) ≤ spare_of u
+    → blocks_left_at b.replies s (unit_of s dev n) ≤ spare_of w
 spare_stays s event a b dev n u w st same k = left_kept s event a b dev n (spare_of w) st (omega (arith, same, k))
 
 -- ---- aborts and resets

@@ -1,5 +1,5 @@
--- The units of the array stand in one order, with as many blocks of as many bytes, and their times beside them; and
--- what was replied stays so.
+-- The units of the array stand in one order, each of its kind, with as many blocks of as many bytes, and their times
+-- beside them; and what was replied stays so.
 use Rattle.std.proofs.Common.{ℕ, ◌≡◌, ◌+◌, suc, Bool, true, false, List, [], ◌∷◌, ◌++◌, ◌∙◌, refl, sym, ap, subst}
 use Rattle.std.proofs.Common.{length, Option, Some, None}
 use Rattle.std.specs.Prelude.{if◌then◌else◌, ◌&&◌, ◌||◌, ◌==◌, not, is_some, is_none, nat_lt}
@@ -13,9 +13,9 @@ use Rattle.cdb_codec.specs.Cdb.{command_of}
 use Rattle.scenario.specs.declared.value.HostDef.{HostDef}
 use Rattle.scenario.specs.Value.{ScenarioValue}
 use Rattle.array_model.specs.ArrayHistory.{reply_in}
-use Rattle.array_model.specs.Contents.{Contents}
-use Rattle.array_model.specs.Execution.{Reply, Execution, execution, is_request_sense, check_condition, sense_of}
-use Rattle.array_model.specs.Execution.{queue_full, commands_cleared}
+use Rattle.array_model.specs.Contents.{Contents, is_reeled}
+use Rattle.array_model.specs.Execution.{Reply, CommandContext, Execution, execution, is_request_sense, check_condition}
+use Rattle.array_model.specs.Execution.{sense_of, queue_full, commands_cleared}
 use Rattle.array_model.specs.Order.{choice}
 use Rattle.array_model.specs.Processes.{Process, process_of, same_id}
 use Rattle.array_model.specs.Units.{RunningProcess, UnitState, Nexus, Array, is_held, unit_state_at, with_unit}
@@ -29,11 +29,22 @@ use Rattle.array_model.proofs.SeatReplies.{found_id}
 use Rattle.due_model.specs.Wants.{since_of}
 use Rattle.due_model.specs.RunSteps.{is_same_running, current_times_after}
 use Rattle.scsi_device.proofs.Finds.{none_some}
-use Rattle.array_model.proofs.ExecutionFacts.{extent_kept}
-use Rattle.array_model.proofs.WholeBlocks.{HasSameExtent, extent_self, extent_more}
+use Rattle.array_model.proofs.ExecutionFacts.{extent_kept, kind_kept}
 use Rattle.bus_base.specs.declared.AbortKind.TheVariants as aborts
 use Rattle.bus_base.specs.declared.Event.TheVariants as events
 use Rattle.array_model.specs.Steps
+
+-- As many blocks, of as many bytes, of a unit of the same kind.
+pub record IsLike (a b : Contents) : Type 0 where
+  pub count : b.count ≡ a.count
+  pub size : b.size ≡ a.size
+  pub kind : is_reeled b ≡ is_reeled a
+
+pub like_self : (c : Contents) → IsLike c c
+like_self c = record { count = refl; size = refl; kind = refl }
+
+pub like_more : (a b c : Contents) → IsLike a b → IsLike b c → IsLike a c
+like_more a b c h k = record { count = k.count ∙ h.count; size = k.size ∙ h.size; kind = k.kind ∙ h.kind }
 
 -- The same targets and numbers, in one order.
 abbrev pub AreSame : List UnitState → List UnitState → Type 0
@@ -41,11 +52,11 @@ AreSame [] [] = Unit {0}
 AreSame [] (v ∷ after) = ⊥
 AreSame (u ∷ before) [] = ⊥
 AreSame (u ∷ before) (v ∷ after) =
-    (v.target ≡ u.target) × (v.unit ≡ u.unit) × HasSameExtent u.contents v.contents × AreSame before after
+    (v.target ≡ u.target) × (v.unit ≡ u.unit) × IsLike u.contents v.contents × AreSame before after
 
 same_self : (us : List UnitState) → AreSame us us
 same_self [] = tt
-same_self (u ∷ us) = (refl, refl, extent_self u.contents, same_self us)
+same_self (u ∷ us) = (refl, refl, like_self u.contents, same_self us)
 
 same_more : (us vs ws : List UnitState) → AreSame us vs → AreSame vs ws → AreSame us ws
 same_more [] [] [] h k = tt
@@ -54,7 +65,7 @@ same_more [] (v ∷ vs) ws h k = absurd h
 same_more (u ∷ us) [] ws h k = absurd h
 same_more (u ∷ us) (v ∷ vs) [] h k = absurd k
 same_more (u ∷ us) (v ∷ vs) (w ∷ ws) h k =
-    (k.0 ∙ h.0, k.1 ∙ h.1, extent_more u.contents v.contents w.contents h.2 k.2, same_more us vs ws h.3 k.3)
+    (k.0 ∙ h.0, k.1 ∙ h.1, like_more u.contents v.contents w.contents h.2 k.2, same_more us vs ws h.3 k.3)
 
 -- Whatever has no reply afterwards had none before.
 abbrev pub HasMore : List (ProcId × Reply) → List (ProcId × Reply) → Type 0
@@ -96,19 +107,19 @@ later_more a b c h k = record {
 
 same_replied : (us : List UnitState) (id : ProcId) (reply : Reply) → AreSame us (Steps.units_with_reply us id reply)
 same_replied [] id reply = tt
-same_replied (u ∷ us) id reply = (refl, refl, extent_self u.contents, same_replied us id reply)
+same_replied (u ∷ us) id reply = (refl, refl, like_self u.contents, same_replied us id reply)
 
 same_without : (us : List UnitState) (id : ProcId) → AreSame us (Steps.units_without us id)
 same_without [] id = tt
-same_without (u ∷ us) id = (refl, refl, extent_self u.contents, same_without us id)
+same_without (u ∷ us) id = (refl, refl, like_self u.contents, same_without us id)
 
 same_kept : (drops : Process → Bool) (us : List UnitState) → AreSame us (Steps.kept_units drops us)
 same_kept drops [] = tt
-same_kept drops (u ∷ us) = (refl, refl, extent_self u.contents, same_kept drops us)
+same_kept drops (u ∷ us) = (refl, refl, like_self u.contents, same_kept drops us)
 
 -- A unit takes the place of the one of its target and number.
 same_with : (us : List UnitState) (old new : UnitState) → unit_state_at us new.target new.unit ≡ Some old
-    → HasSameExtent old.contents new.contents → AreSame us (with_unit us new)
+    → IsLike old.contents new.contents → AreSame us (with_unit us new)
 same_with [] old new found h = tt
 same_with (u ∷ us) old new found h =
     go (u.target == new.target) refl (u.unit == new.unit) refl found (λ k. same_with us old new k h)
@@ -121,11 +132,11 @@ same_with (u ∷ us) old new found h =
         let same : u ≡ old = cc in (
           sym (eqb-true u.target new.target e),
           sym (eqb-true u.unit new.unit f),
-          subst (λ (o : UnitState). HasSameExtent o.contents new.contents) (sym same) h,
+          subst (λ (o : UnitState). IsLike o.contents new.contents) (sym same) h,
           same_self us,
         )
-    go true e false f k more = (refl, refl, extent_self u.contents, more k)
-    go false e z f k more = (refl, refl, extent_self u.contents, more k)
+    go true e false f k more = (refl, refl, like_self u.contents, more k)
+    go false e z f k more = (refl, refl, like_self u.contents, more k)
 
 -- The unit that stands at a place is of that place.
 pub place_found : (us : List UnitState) (t n : ℕ) (u : UnitState) → unit_state_at us t n ≡ Some u
@@ -139,9 +150,9 @@ same_chosen holds (u ∷ us) = go (has_no_current u.current && not (is_held hold
   where
     go : (y : Bool) (p : Option Process) → AreSame us (units_after_choice holds us)
         → AreSame (u ∷ us) ((if y then with_current u p else u) ∷ units_after_choice holds us)
-    go true None more = (refl, refl, extent_self u.contents, more)
-    go true (Some p) more = (refl, refl, extent_self u.contents, more)
-    go false p more = (refl, refl, extent_self u.contents, more)
+    go true None more = (refl, refl, like_self u.contents, more)
+    go true (Some p) more = (refl, refl, like_self u.contents, more)
+    go false p more = (refl, refl, like_self u.contents, more)
 
 -- ---- senses, holds and attentions are no part of them
 
@@ -231,7 +242,7 @@ accepted a x (Some p) e = at (unit_state_at a.units p.target p.unit) refl e
             let new : UnitState = record u { waiting = u.waiting ++ p ∷ [] } in
             let next : Array = record a { units = with_unit a.units new } in
             by_array a next x (with_same a (with_unit a.units new)
-            (same_with a.units u new (place_found a.units p.target p.unit u f) (extent_self u.contents)) next refl refl)
+            (same_with a.units u new (place_found a.units p.target p.unit u f) (like_self u.contents)) next refl refl)
             m
         room false m = absurd (none_some x m)
 
@@ -258,7 +269,7 @@ refused a x (Some p) e = at (unit_state_at a.units p.target p.unit) e
 
 -- What a command did takes the place of the contents of its unit.
 contents_later : (a : Array) (p : Process) (reported : Bool) (u : Option UnitState) (c : Contents)
-    → unit_state_at a.units p.target p.unit ≡ u → ((v : UnitState) → u ≡ Some v → HasSameExtent v.contents c)
+    → unit_state_at a.units p.target p.unit ≡ u → ((v : UnitState) → u ≡ Some v → IsLike v.contents c)
     → IsLater a (Steps.with_contents (Steps.without_attention a reported (nexus_of p)) u c)
 contents_later a p true None c f h =
     with_same a a.units (same_self a.units) (Steps.without_attention a true (nexus_of p)) refl refl
@@ -280,13 +291,14 @@ executed : (a : Array) (p : Process) → IsLater a (Steps.after_execution_at a p
 executed a p = go (unit_state_at a.units p.target p.unit) refl
   where
     extent : (u : Option UnitState) (v : UnitState) → u ≡ Some v
-        → HasSameExtent v.contents (execution (Steps.context_at a (nexus_of p) u) p.cdb p.sent).contents
+        → IsLike v.contents (execution (Steps.context_at a (nexus_of p) u) p.cdb p.sent).contents
     extent None v e = cc
     extent (Some u) v e =
         let same : u ≡ v = cc in
-        subst (λ (z : UnitState). HasSameExtent z.contents
-        (execution (Steps.context_at a (nexus_of p) (Some u)) p.cdb p.sent).contents) same
-        (extent_kept (Steps.context_at a (nexus_of p) (Some u)) p.cdb p.sent)
+        let m : CommandContext = Steps.context_at a (nexus_of p) (Some u) in
+        let kept = extent_kept m p.cdb p.sent in
+        subst (λ (z : UnitState). IsLike z.contents (execution m p.cdb p.sent).contents) same
+        (record { count = kept.count; size = kept.size; kind = kind_kept m p.cdb p.sent })
 
     go : (u : Option UnitState) → unit_state_at a.units p.target p.unit ≡ u → IsLater a (Steps.after_execution_at a p u)
     go u f =

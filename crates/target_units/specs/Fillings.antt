@@ -5,9 +5,10 @@ use Rattle.bus_base.specs.declared.events.Pick.{Pick}
 use Rattle.scenario.specs.declared.value.CmdDef.{CmdDef}
 use Rattle.scenario.specs.declared.value.FillDef.{FillDef}
 use Rattle.scenario.specs.declared.value.UnitDef.{UnitDef}
-use Rattle.array_model.specs.Contents.{starting_contents}
+use Rattle.scenario.specs.Value.{ScenarioValue}
+use Rattle.array_model.specs.Contents.{Contents}
 use Rattle.disk_unit.specs.Books.{empty_books}
-use Rattle.disk_unit.specs.Disk.{cost_by, kind_by}
+use Rattle.disk_unit.specs.Held.{UnitKind, cost_by, kind_by}
 use Rattle.target_units.specs.Seated.{SeatedState}
 
 abbrev pub is_filled_by : UnitDef → FillDef → Bool
@@ -23,23 +24,24 @@ abbrev pub fill_count : UnitDef → List FillDef → ℕ
 fill_count u [] = 0
 fill_count u (f ∷ fills) = if is_filled_by u f then suc (fill_count u fills) else fill_count u fills
 
--- How many blocks a command writes at the unit at most.
-abbrev pub blocks_by : UnitDef → CmdDef → ℕ
-blocks_by u c = if c.target == u.target && c.unit == u.unit then cost_by (kind_by u) c.cdb else 0
+-- How many blocks a command writes at most at the unit, which is of this kind.
+abbrev pub blocks_by : UnitKind → UnitDef → CmdDef → ℕ
+blocks_by kind u c = if c.target == u.target && c.unit == u.unit then cost_by kind c.cdb else 0
 
-abbrev pub blocks_by_all : UnitDef → List CmdDef → ℕ
-blocks_by_all u [] = 0
-blocks_by_all u (c ∷ commands) = blocks_by u c + blocks_by_all u commands
+abbrev pub blocks_by_all : UnitKind → UnitDef → List CmdDef → ℕ
+blocks_by_all kind u [] = 0
+blocks_by_all kind u (c ∷ commands) = blocks_by kind u c + blocks_by_all kind u commands
 
--- The same where the unit need not be there.
-abbrev pub blocks_at : Option UnitDef → List CmdDef → ℕ
-blocks_at None commands = 0
-blocks_at (Some u) commands = blocks_by_all u commands
+-- The same of the commands of a scenario, at a unit of the kind that its line says, where it need not be there.
+abbrev pub blocks_at : ScenarioValue → Option UnitDef → ℕ
+blocks_at s None = 0
+blocks_at s (Some u) = blocks_by_all (kind_by s u) u s.commands
 
--- A unit before any event, with memory for so many blocks more that are written for the first time.
-pub record IsFresh (u : UnitDef) (pick : Pick) (fills : List FillDef) (written : ℕ) (v : SeatedState) : Type 0 where
+-- A unit before any event, with these contents, and with memory for so many blocks more that are written for the first
+-- time.
+pub record IsFresh (u : UnitDef) (pick : Pick) (c : Contents) (written : ℕ) (v : SeatedState) : Type 0 where
   pub books : v.books ≡ empty_books u.depth v.books.queue.keys v.books.blocks
-  pub contents : v.contents ≡ starting_contents u fills
+  pub contents : v.contents ≡ c
   pub spare : written ≤ v.spare
   pub pick_is : v.pick ≡ pick
   pub reply : v.reply ≡ None

@@ -5,14 +5,15 @@ use Rattle.bus_base.specs.declared.ProcId.{ProcId}
 use Rattle.cdb_codec.specs.declared.status.TheConstants.{GOOD}
 use Rattle.scenario.specs.declared.value.CmdDef.{CmdDef}
 use Rattle.scenario.specs.declared.value.UnitDef.{UnitDef}
-use Rattle.scenario.specs.Lookups.{disk_of}
+use Rattle.scenario.specs.Lookups.{is_tape, unit_of}
 use Rattle.scenario.specs.Value.{ScenarioValue}
 use Rattle.array_model.specs.ArrayHistory.{reply_in}
+use Rattle.array_model.specs.Contents.{is_reeled}
 use Rattle.array_model.specs.Execution.{Reply, execution}
 use Rattle.array_model.specs.Processes.{Process}
 use Rattle.array_model.specs.Seats.{Seat, contents_of, context_of}
 use Rattle.array_model.specs.Units.{Array, UnitState, unit_state_at}
-use Rattle.disk_unit.specs.Disk.{cost_by, kind_of, taken_now}
+use Rattle.disk_unit.specs.Held.{UnitKind, cost_by, kind_by, kind_of, taken_now}
 use Rattle.target_units.specs.Fillings.{blocks_by}
 
 -- ---- the blocks that commands may still write
@@ -21,17 +22,17 @@ use Rattle.target_units.specs.Fillings.{blocks_by}
 abbrev pub is_unanswered : List (ProcId × Reply) → ℕ → Bool
 is_unanswered replies n = is_none (reply_in replies (record { command = n; sense = false }))
 
--- How many blocks these commands write at the unit at most, the first of which has this number, but for those that have
--- a reply.
-abbrev pub blocks_left : List (ProcId × Reply) → UnitDef → ℕ → List CmdDef → ℕ
-blocks_left replies u n [] = 0
-blocks_left replies u n (c ∷ commands) =
-    (if is_unanswered replies n then blocks_by u c else 0) + blocks_left replies u (suc n) commands
+-- How many blocks these commands write at most at the unit, which is of this kind; the first of them has this number,
+-- and those that have a reply write none any more.
+abbrev pub blocks_left : List (ProcId × Reply) → UnitKind → UnitDef → ℕ → List CmdDef → ℕ
+blocks_left replies kind u n [] = 0
+blocks_left replies kind u n (c ∷ commands) =
+    (if is_unanswered replies n then blocks_by kind u c else 0) + blocks_left replies kind u (suc n) commands
 
 -- The same of the commands of a scenario, which are counted from 1, where the unit need not be there.
-abbrev pub blocks_left_at : List (ProcId × Reply) → Option UnitDef → List CmdDef → ℕ
-blocks_left_at replies None commands = 0
-blocks_left_at replies (Some u) commands = blocks_left replies u 1 commands
+abbrev pub blocks_left_at : List (ProcId × Reply) → ScenarioValue → Option UnitDef → ℕ
+blocks_left_at replies s None = 0
+blocks_left_at replies s (Some u) = blocks_left replies (kind_by s u) u 1 s.commands
 
 -- ---- the blocks of a unit are those of its line
 
@@ -41,9 +42,17 @@ IsOfLine None (Some v) = ⊥
 IsOfLine (Some u) None = ⊥
 IsOfLine (Some u) (Some v) = (v.contents.count ≡ u.blocks) × (v.contents.size ≡ u.size)
 
--- The array has no tapes yet, so its units are of the lines of disks.
+-- A tape's objects count as blocks.
 abbrev pub AreOfLines : ScenarioValue → Array → Type 0
-AreOfLines s a = (target unit : ℕ) → IsOfLine (disk_of s target unit) (unit_state_at a.units target unit)
+AreOfLines s a = (target unit : ℕ) → IsOfLine (unit_of s target unit) (unit_state_at a.units target unit)
+
+-- A unit has a reel exactly where its line is that of a tape.
+abbrev pub IsOfKind : Bool → Option UnitState → Type 0
+IsOfKind tape None = Unit {0}
+IsOfKind tape (Some v) = is_reeled v.contents ≡ tape
+
+abbrev pub AreOfKinds : ScenarioValue → Array → Type 0
+AreOfKinds s a = (target unit : ℕ) → IsOfKind (is_tape s target unit) (unit_state_at a.units target unit)
 
 -- ---- a process that runs
 

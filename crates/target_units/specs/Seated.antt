@@ -21,7 +21,7 @@ use Rattle.tag_queue.specs.Queue.{Queued, has_key, entry_at, is_held}
 use Rattle.disk_unit.specs.AtSeats.{IsUnitAt}
 use Rattle.disk_unit.specs.Books.{UnitBooks, block_at, attention_at, initiator_at, books_with, books_after_choice}
 use Rattle.disk_unit.specs.Books.{books_after_end, books_without, books_with_sense, books_without_sense}
-use Rattle.disk_unit.specs.Disk.{disk_execution, disk_reply, cost_by, kind_of, taken_now}
+use Rattle.disk_unit.specs.Held.{held_execution, held_reply, cost_by, kind_of, taken_now}
 use Rattle.disk_unit.specs.LiveCommands.{LiveCommand}
 use Rattle.disk_unit.specs.Units.{IsAborted, is_reported, bytes_taken, books_if_reported, unit_reply, told_of}
 use Rattle.disk_unit.specs.declared.unit.Accepted.{Accepted}
@@ -142,8 +142,6 @@ pub record IsProcess (p : Process) (id : ProcId) (from : ℕ) (tag : Option ℕ)
   pub tag_is : tag_number p.tag ≡ tag
   pub class_is : class_of p.tag ≡ class
   pub cdb_is : p.cdb ≡ cdb
-  -- its unit is a disk
-  pub disk : p.serial ≡ false
 
 -- A process of an initiator of the scenario that is neither in the queue of the seat nor outside it.
 pub record IsNew (hosts : List HostDef) (seat : Seat) (p : Process) : Type 0 where
@@ -183,9 +181,9 @@ is_reported_at b key = is_reported (attention_at b key) (block_at b key)
 pub record IsRun (v : SeatedState) (key : ℕ) (sent : List ℕ) (new : SeatedState) : Type 0 where
   pub books : new.books ≡ books_if_reported v.books (is_reported_at v.books key) (initiator_at v.books key)
   pub contents : new.contents ≡ (if is_reported_at v.books key then v.contents
-      else (disk_execution v.contents (block_at v.books key) sent).contents)
+      else (held_execution v.contents (block_at v.books key) sent).contents)
   pub pick : new.pick ≡ v.pick
-  pub reply : new.reply ≡ Some (told_of (unit_reply v.books key (disk_reply v.contents (block_at v.books key))))
+  pub reply : new.reply ≡ Some (told_of (unit_reply v.books key (held_reply v.contents (block_at v.books key))))
   pub since : new.since ≡ v.since
   pub spare : v.spare ≤ new.spare + cost_at v key
 

@@ -17,14 +17,15 @@ use Rattle.array_model.specs.Units.{Array, UnitState}
 use Rattle.due_model.specs.dialogue_model.specs.declared.exchange.Room.{Room}
 use Rattle.array_model.specs.Contents.{Contents}
 use Rattle.disk_unit.specs.Books.{books_after_reset}
-use Rattle.disk_unit.specs.Sparse.{Store}
+use Rattle.tape_unit.specs.declared.drive.Drive.{Drive}
+use Rattle.tape_unit.specs.Drives.{drive_contents}
 use Rattle.due_model.specs.Wants.{since_of}
 use Rattle.due_model.specs.RunSteps.{current_times_after}
 use Rattle.target_units.specs.declared.ready.Ready.{Ready}
 use Rattle.target_units.specs.declared.logical.LogicalUnit.{LogicalUnit}
 use Rattle.target_units.specs.declared.logical.LogicalUnit.TheVariants as kinds
 use Rattle.target_units.specs.Absent.{IsAbsentAt, nothing_kept, absent_reply}
-use Rattle.target_units.specs.Rooms.{AreOfLines, blocks_left_at}
+use Rattle.target_units.specs.Rooms.{AreOfKinds, AreOfLines, blocks_left_at}
 use Rattle.target_units.specs.Seated.{SeatedState, IsAtSeat, current_id, settled, with_books, room_at, seated_context}
 use Rattle.target_units.specs.Seated.{taken_in}
 
@@ -55,7 +56,8 @@ pub record HaveRoom (s : ScenarioValue) (a : Array) (dev : ℕ) (units : List Lo
   pub fits : FitsBus s
   pub target : has_target s dev ≡ true
   pub lines : AreOfLines s a
-  pub left : (n : ℕ) → n < 8 → blocks_left_at a.replies (unit_of s dev n) s.commands ≤ spare_of (unit_in units n)
+  pub kinds : AreOfKinds s a
+  pub left : (n : ℕ) → n < 8 → blocks_left_at a.replies s (unit_of s dev n) ≤ spare_of (unit_in units n)
 
 -- These are the units of this target, whose current processes are that since these times, which stand beside the units
 -- of the array.
@@ -126,7 +128,7 @@ taken_of a p = taken_in (context_of (seat_of a p.target p.unit) p.initiator) p.c
 abbrev pub AreEarly : Array → List ℕ → ℕ → ℕ → Type 0
 AreEarly a times dev seek = (n : ℕ) → n < 8 → since_of a.units times dev n + seek < 2 ^ 64
 
--- ---- the blocks that are handed out
+-- ---- what is handed out
 
 abbrev pub no_unit : LogicalUnit
 no_unit = kinds.Absent nothing_kept
@@ -140,6 +142,6 @@ abbrev pub state_contents : Option UnitState → Option Contents
 state_contents None = None
 state_contents (Some u) = Some u.contents
 
-abbrev pub contents_handed : Option Store → Option Contents
+abbrev pub contents_handed : Option Drive → Option Contents
 contents_handed None = None
-contents_handed (Some blocks) = Some blocks.contents
+contents_handed (Some drive) = Some (drive_contents drive)

@@ -1,6 +1,7 @@
-//! What a unit holds at the start, and the memory that its commands need.
+//! What a disk holds at the start, and the memory that its commands need.
 ghost use Rattle.std.specs.Prelude.{◌≡◌, ◌+◌, ◌-◌, ◌^◌, ◌≤◌, ◌==◌, ◌&&◌, true, [], ◌∷◌, min, if◌then◌else◌, IfOk};
 ghost use Rattle.array_model.specs.Contents.{blank_contents, with_block, filled_contents};
+ghost use Rattle.disk_unit.specs.Held.{disk_of};
 ghost use Rattle.target_units.specs.Fillings.{is_filled_by, AreFilled, fill_count as fills_of, blocks_by, blocks_by_all as blocks_of_all};
 
 use bus_base::NoMemory;
@@ -29,7 +30,7 @@ pub fn fill_count(def: &UnitDef, fills: &[FillDef]) -> usize
 // How many blocks a command writes at this unit, over whose blank blocks this disk stands.
 fn blocks_by(disk: &DiskMedium<SparseBlocks>, def: &UnitDef, command: &CmdDef) -> u64
     requires blank { disk.now.blocks.contents ≡ blank_contents def.now.blocks def.now.size }
-    ensures { result ≡ blocks_by def.now command.now }
+    ensures { result ≡ blocks_by (disk_of def.now.blocks) def.now command.now }
 {
     if command.target == def.target && command.unit == def.unit {
         disk.cost(command.cdb.as_slice())
@@ -41,7 +42,7 @@ fn blocks_by(disk: &DiskMedium<SparseBlocks>, def: &UnitDef, command: &CmdDef) -
 /// How many blocks the commands write at this unit at most, over whose blank blocks this disk stands.
 pub fn blocks_by_all(disk: &DiskMedium<SparseBlocks>, def: &UnitDef, commands: &[CmdDef]) -> u64
     requires blank { disk.now.blocks.contents ≡ blank_contents def.now.blocks def.now.size }
-    ensures { result ≡ min (blocks_of_all def.now commands.now) (2 ^ 64 - 1) }
+    ensures { result ≡ min (blocks_of_all (disk_of def.now.blocks) def.now commands.now) (2 ^ 64 - 1) }
 {
     let mut blocks: u64 = 0;
     for command in commands {
@@ -50,7 +51,7 @@ pub fn blocks_by_all(disk: &DiskMedium<SparseBlocks>, def: &UnitDef, commands: &
     blocks
 }
 
-/// So many blocks together, unless they are more than a disk can have.
+/// So many blocks together, unless they are more than a unit can have.
 pub fn blocks_in_all(filled: usize, written: u64) -> Result<usize, NoMemory>
     ensures sum { IfOk result (λ blocks. blocks ≡ filled + written) }
     ensures most { IfOk result (λ blocks. blocks ≤ 4294967296) }

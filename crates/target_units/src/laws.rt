@@ -1,5 +1,5 @@
 //! What the units of a target rest on, and what they are of the plain disk array.
-ghost use Rattle.std.specs.Prelude.{◌≡◌, ◌<◌, ◌≤◌, ◌*◌, ℕ, true, List, length, Some};
+ghost use Rattle.std.specs.Prelude.{◌≡◌, ◌<◌, ◌≤◌, ◌*◌, ℕ, true, false, List, length, Some};
 ghost use Rattle.bus_base.specs.declared.Event.{Event};
 ghost use Rattle.bus_base.specs.declared.Event.TheVariants as events;
 ghost use Rattle.bus_base.specs.declared.ProcId.{ProcId};
@@ -17,11 +17,12 @@ ghost use Rattle.array_model.specs.Steps.{step};
 ghost use Rattle.array_model.specs.Units.{Array, unit_state_at};
 ghost use Rattle.scsi_device.specs.Lines.{FitsBus};
 ghost use Rattle.target_units.specs.Units.{AreUnitsOf, AreUnitsAfter, IsStep, unit_in, contents_in, state_contents};
-ghost use Rattle.target_units.specs.Rooms.{AreOfLines};
+ghost use Rattle.target_units.specs.Rooms.{AreOfKinds, AreOfLines};
 ghost use Rattle.target_units.specs.declared.logical.LogicalUnit.{LogicalUnit};
 ghost use Rattle.due_model.specs.Tasks.{size_of, reply_now};
 
-/// What the units hold that are there, before their blocks are handed out, is what the units of the array hold.
+/// What the units hold that are there, before their disks and tapes are handed out, is what the units of the array
+/// hold.
 pub fn units_hold_their_blocks()
     ensures { (s : ScenarioValue) (a : Array) (times : List ℕ) (dev n : ℕ) (units : List LogicalUnit)
         → AreUnitsOf s a times dev units → n < 8
@@ -29,16 +30,21 @@ pub fn units_hold_their_blocks()
 {}
 
 /// The array has of each unit as many blocks, of as many bytes, as its line says, after every history that is allowed
-/// (`always`) and after each step (`goes_on`). So a write whose reply would be GOOD names blocks of as many bytes as
-/// its process sends (`sends`), which are few (`few`).
+/// (`always`) and after each step (`goes_on`); and a unit is a tape exactly where its line is that of one
+/// (`kinds_always`, `kinds_go_on`). So a write at a disk whose reply would be GOOD names blocks of as many bytes as its
+/// process sends (`sends`), which are few (`few`).
 pub fn units_are_of_their_lines()
     ensures always { (s : ScenarioValue) (history : List Event) (a : Array) → array_after s history ≡ Some a
         → AreOfLines s a }
     ensures goes_on { (s : ScenarioValue) (a b : Array) (event : Event) → AreOfLines s a → step s event a ≡ Some b
         → AreOfLines s b }
+    ensures kinds_always { (s : ScenarioValue) (history : List Event) (a : Array) → array_after s history ≡ Some a
+        → AreOfKinds s a }
+    ensures kinds_go_on { (s : ScenarioValue) (a b : Array) (event : Event) → AreOfKinds s a
+        → step s event a ≡ Some b → AreOfKinds s b }
     ensures sends { (s : ScenarioValue) (a : Array) (p : Process) (def : TargetDef) → FitsBus s → AreOfLines s a
-        → target_def_of s p.target ≡ Some def → process_of s p.id ≡ Some p → is_write (command_of p.cdb) ≡ true
-        → (reply_now a p).status ≡ GOOD
+        → AreOfKinds s a → target_def_of s p.target ≡ Some def → process_of s p.id ≡ Some p → p.serial ≡ false
+        → is_write (command_of p.cdb) ≡ true → (reply_now a p).status ≡ GOOD
         → count_in (range_in (command_of p.cdb)) * size_of (unit_state_at a.units p.target p.unit) ≡ length p.sent }
     ensures few { (s : ScenarioValue) (p : Process) → FitsBus s → process_of s p.id ≡ Some p
         → length p.sent ≤ 65536 }

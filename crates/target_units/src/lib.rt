@@ -1,19 +1,20 @@
 //! The logical units of a target, each at its seat of the plain disk array (ANSI X3.131-1994, clauses 7 to 9).
 //!
 //! [`Units`] are the eight of a target: a [`LogicalUnit`] is there, a [`SeatedUnit`] with its queue, its hold and its
-//! blocks, or it is not, an [`AbsentUnit`], which keeps senses and a hold all the same. [`Ready`] is the unit whose
-//! current process is ready for a reselection. Stands on `disk_unit`, `tag_queue`, `scsi_device` and the definitions of
-//! `array_model` and `due_model`.
+//! disk or tape, or it is not, an [`AbsentUnit`], which keeps senses and a hold all the same. [`Ready`] is the unit
+//! whose current process is ready for a reselection. Stands on `disk_unit`, `tape_unit`, `tag_queue`, `scsi_device` and
+//! the definitions of `array_model` and `due_model`.
 //!
 //! Public contract: where each unit stands at its seat (`specs/Units.antt`, `AreUnitsOf`), as it does before any event,
 //! it does so after every event that the array permits, with the choice that follows it; and what it tells is that of
-//! the array. Only `new` and `of` take memory, and it is enough for the blocks of all commands that have no reply yet
-//! (`specs/Rooms.antt`). At the end the blocks of each unit are handed out.
+//! the array. Only `new`, `tape` and `of` take memory, and it is enough for the blocks of all commands that have no
+//! reply yet (`specs/Rooms.antt`). At the end the disk or tape of each unit is handed out.
 #![tactic(auto)]
 
 mod absent;
 mod fillings;
 mod laws;
+mod loads;
 mod logical;
 mod parts;
 mod ready;

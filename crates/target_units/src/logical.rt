@@ -4,7 +4,8 @@ ghost use Rattle.std.specs.List.{find};
 ghost use Rattle.cdb_codec.specs.Cdb.{command_of};
 ghost use Rattle.scenario.specs.declared.value.HostDef.{HostDef};
 ghost use Rattle.scenario.specs.declared.value.UnitDef.{UnitDef as UnitLine};
-ghost use Rattle.scenario.specs.Lookups.{unit_of};
+ghost use Rattle.scenario.specs.Lookups.{disk_of, unit_of};
+ghost use Rattle.array_model.specs.Contents.{is_reeled};
 ghost use Rattle.scsi_device.specs.Lines.{FitsBus};
 ghost use Rattle.due_model.specs.Defs.{target_def_of};
 ghost use Rattle.array_model.specs.Execution.{Reply as ArrayReply, execution, is_request_sense, queue_full, aborted_reply};
@@ -12,13 +13,13 @@ ghost use Rattle.array_model.specs.Processes.{Process};
 ghost use Rattle.array_model.specs.Units.{RunningProcess, guest_at, starting_array};
 ghost use Rattle.array_model.specs.Seats.{Seat, seat_of, settled_seat, seat_after_accept, seat_after_refuse, seat_after_run, seat_after_failure, seat_after_end, seat_after_loss, seat_after_aborted, current_of, running_at, context_of, contents_of, is_any_held, is_initiator};
 ghost use Rattle.due_model.specs.dialogue_model.specs.Wants.{ready_in};
-ghost use Rattle.disk_unit.specs.Disk.{cost_by, kind_of};
+ghost use Rattle.disk_unit.specs.Held.{cost_by, kind_of};
 ghost use Rattle.disk_unit.specs.Units.{told_of};
 ghost use Rattle.disk_unit.specs.Plans.{plan_of};
 ghost use Rattle.disk_unit.specs.declared.unit.Accepted.TheVariants as accepted;
 ghost use Rattle.target_units.specs.Seated.{seat_time, running_id, running_entry, running_block, current_reply, IsProcess, IsNew, HasSent, IsSensing, taken_in};
 ghost use Rattle.target_units.specs.Readies.{ready_unit};
-ghost use Rattle.target_units.specs.Rooms.{HasRoomFor};
+ghost use Rattle.target_units.specs.Rooms.{HasRoomFor, IsOfKind};
 ghost use Rattle.target_units.specs.Fillings.{blocks_at};
 ghost use Rattle.target_units.specs.Units.{IsUnitOf, reply_at, taken_by, room_if, spare_of, unit_after_reset, no_unit, contents_in, contents_handed};
 
@@ -26,12 +27,13 @@ use crate::absent::AbsentUnit;
 use crate::ready::Ready;
 use crate::seated::SeatedUnit;
 use bus_base::{AbortKind, Class, Dev, NoMemory, Ns, ProcId};
-use disk_unit::{Accepted, Plan, Reply, SparseBlocks};
+use disk_unit::{Accepted, Plan, Reply};
 use due_model::the_dialogue_model::Room;
-use scenario::{Scenario, TargetDef, UnitDef, unit_line};
+use scenario::{Scenario, TapeDef, TargetDef, UnitDef, tape_line, unit_line};
 use std::alloc::Global;
 use std::mem::replace;
 use tag_queue::Entry;
+use tape_unit::Drive;
 
 /// A logical unit of a target.
 #[derive(Drop)]
@@ -55,7 +57,7 @@ impl LogicalUnit {
         requires target { target_def_of scenario.now def.now.dev ≡ Some def.now }
         ensures start { IfOk result (λ made. IsUnitOf scenario.now.hosts
             (seat_of (starting_array scenario.now) def.now.dev number) 0 made) }
-        ensures spare { IfOk result (λ made. blocks_at (unit_of scenario.now def.now.dev number) scenario.now.commands
+        ensures spare { IfOk result (λ made. blocks_at scenario.now (unit_of scenario.now def.now.dev number)
             ≤ spare_of made) }
     {
         match unit_line(scenario.units.as_slice(), def.dev, number) {
@@ -63,6 +65,32 @@ impl LogicalUnit {
                 let fills = scenario.fills.as_slice();
                 let commands = scenario.commands.as_slice();
                 let seated = SeatedUnit::new(alloc, &line, def.pick, fills, commands)?;
+                Ok(LogicalUnit::There(seated))
+            }
+            None => LogicalUnit::of_tape(alloc, scenario, def, number),
+        }
+    }
+
+    // The same where the scenario has no line of a disk of this number.
+    fn of_tape(
+        alloc: Global,
+        scenario: &Scenario,
+        def: &TargetDef,
+        number: u8,
+    ) -> Result<LogicalUnit, NoMemory>
+        requires fits { FitsBus scenario.now }
+        requires target { target_def_of scenario.now def.now.dev ≡ Some def.now }
+        requires no_disk { disk_of scenario.now def.now.dev number ≡ None }
+        ensures start { IfOk result (λ made. IsUnitOf scenario.now.hosts
+            (seat_of (starting_array scenario.now) def.now.dev number) 0 made) }
+        ensures spare { IfOk result (λ made. blocks_at scenario.now (unit_of scenario.now def.now.dev number)
+            ≤ spare_of made) }
+    {
+        match tape_line(scenario.tapes.as_slice(), def.dev, number) {
+            Some(line) => {
+                let loads = scenario.loads.as_slice();
+                let commands = scenario.commands.as_slice();
+                let seated = SeatedUnit::tape(alloc, &line, def.pick, loads, commands)?;
                 Ok(LogicalUnit::There(seated))
             }
             None => Ok(LogicalUnit::Absent(AbsentUnit::new())),
@@ -125,6 +153,17 @@ impl LogicalUnit {
         match self {
             LogicalUnit::There(seated) => seated.block_size(),
             LogicalUnit::Absent(_) => 0,
+        }
+    }
+
+    /// Whether it is a tape, so that its commands conflict with one another.
+    pub fn is_serial(&self) -> bool
+        ensures { (hosts : List HostDef) (seat : Seat) (time : ℕ) → IsUnitOf hosts seat time self.now
+            → result ≡ is_reeled (contents_of seat.unit) }
+    {
+        match self {
+            LogicalUnit::There(seated) => seated.is_serial(),
+            LogicalUnit::Absent(_) => false,
         }
     }
 
@@ -211,8 +250,8 @@ impl LogicalUnit {
         requires device { from < 8 }
         requires most { length cdb.now ≤ 10 }
         ensures accepts { (hosts : List HostDef) (seat after : Seat) (time : ℕ) (p : Process)
-            → IsUnitOf hosts seat time self.old → IsProcess p id from tag class cdb.now → IsNew hosts seat p
-            → seat_after_accept p seat ≡ Some after
+            → IsUnitOf hosts seat time self.old → IsProcess p id from tag class cdb.now
+            → IsOfKind p.serial seat.unit → IsNew hosts seat p → seat_after_accept p seat ≡ Some after
             → IsUnitOf hosts (settled_seat after) (seat_time seat (settled_seat after) time now) self.new }
         ensures refused { (hosts : List HostDef) (seat after : Seat) (time : ℕ) (p : Process)
             → IsUnitOf hosts seat time self.old → IsProcess p id from tag class cdb.now
@@ -338,13 +377,13 @@ impl LogicalUnit {
         }
     }
 
-    /// Hands out its blocks, where it is there, and leaves a unit in its place that is not.
-    pub fn take_blocks(&mut self) -> Option<SparseBlocks>
+    /// Hands out its disk or tape, where it is there, and leaves a unit in its place that is not.
+    pub fn take_drive(&mut self) -> Option<Drive>
         ensures exact { contents_handed result ≡ contents_in self.old }
         ensures left { self.new ≡ no_unit }
     {
         match replace(self, LogicalUnit::Absent(AbsentUnit::new())) {
-            LogicalUnit::There(seated) => Some(seated.into_blocks()),
+            LogicalUnit::There(seated) => Some(seated.into_drive()),
             LogicalUnit::Absent(_) => None,
         }
     }

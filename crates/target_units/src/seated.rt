@@ -12,45 +12,52 @@ ghost use Rattle.tag_queue.specs.Queue.{has_key, key_of_process, is_held};
 ghost use Rattle.disk_unit.specs.Books.{books_after_end, books_without, books_after_reset, initiator_at};
 ghost use Rattle.disk_unit.specs.Units.{told_of, entry_with, plan_for};
 ghost use Rattle.disk_unit.specs.Plans.{plan_of};
-ghost use Rattle.disk_unit.specs.Disk.{disk_extent, disk_reply, cost_by, kind_of, taken_now};
+ghost use Rattle.disk_unit.specs.Held.{a_tape, disk_of, held_extent, held_reply, cost_by, kind_of, taken_now};
 ghost use Rattle.disk_unit.specs.declared.unit.Accepted.TheVariants as accepted;
-ghost use Rattle.target_units.specs.Fillings.{IsFresh, AreFilled, blocks_by_all as blocks_of_all};
+ghost use Rattle.scenario.specs.Lookups.{is_tape, tape_unit};
 ghost use Rattle.scenario.specs.Value.{ScenarioValue};
-ghost use Rattle.target_units.specs.Rooms.{HasRoomFor};
+ghost use Rattle.array_model.specs.Contents.{is_reeled, loaded_contents, starting_contents};
+ghost use Rattle.tape_unit.specs.Drives.{drive_contents, drive_spare};
+ghost use Rattle.target_units.specs.Fillings.{IsFresh, AreFilled, blocks_by_all as blocks_of_all};
+ghost use Rattle.target_units.specs.Loads.{AreLoaded};
+ghost use Rattle.target_units.specs.Rooms.{HasRoomFor, IsOfKind};
 ghost use Rattle.target_units.specs.Seated.{SeatedState, IsAtSeat, seat_time, taken_at, running_id, running_entry, running_block, current_reply, current_id, is_same_process, reply_kept, since_after, settled, with_books, IsProcess, IsNew, IsArrived, can_run, IsRun, IsRunLive, HasSent, IsSensing, state_after_failure, state_after_end, state_after_loss, books_after_guest, IsCut, seated_context, taken_in, current_entry, block_under, entry_from, ready_by_entry, room_by, room_at};
 
 use crate::fillings::{blocks_by_all, blocks_in_all, fill, fill_count};
+use crate::loads::{blocks_on, load};
 use crate::parts::{copy_part, is_sense};
 use crate::ready::Ready;
 use array_model::same_id;
 use bus_base::{AbortKind, Class, Dev, NoMemory, Ns, Pick, ProcId};
 use cdb_codec::{ABORTED_COMMAND, CHECK_CONDITION, GOOD, Sense, sense_bytes};
-use disk_unit::{Accepted, Blocks, DiskMedium, Plan, Reply, SparseBlocks, Unit};
+use disk_unit::{Accepted, Blocks, DiskMedium, Medium, Plan, Reply, SparseBlocks, Unit};
 use due_model::the_dialogue_model::Room;
-use scenario::{CmdDef, FillDef, UnitDef};
+use scenario::{CmdDef, FillDef, LoadDef, TapeDef, UnitDef};
 use std::alloc::Global;
 use std::marker::Model;
 use tag_queue::{Entry, Key};
+use tape_unit::{Drive, TapeMedium};
 
-/// A logical unit of a target: a disk with its queue, the reply of its current process once that has one, and since
-/// when this is the current one.
+/// A logical unit of a target: a disk or a tape with its queue, the reply of its current process once that has one, and
+/// since when this is the current one.
 #[derive(Drop)]
 pub struct SeatedUnit {
-    unit: Unit<DiskMedium<SparseBlocks>>,
+    unit: Unit<Drive>,
     pick: Pick,
     reply: Option<Reply>,
     since: Ns,
 }
 
 impl Model for SeatedUnit {
+    ghost use Rattle.tape_unit.specs.Drives.{drive_contents, drive_spare};
     ghost use Rattle.target_units.specs.Seated.{SeatedState};
 
     ghost Value = { SeatedState };
 
     ghost view = { λ u. record {
       books = u.unit.books;
-      contents = u.unit.medium.blocks.contents;
-      spare = u.unit.medium.blocks.spare;
+      contents = drive_contents u.unit.medium;
+      spare = drive_spare u.unit.medium;
       pick = u.pick;
       reply = u.reply;
       since = u.since;
@@ -114,7 +121,7 @@ fn ready_unless(held: bool, unit: u8, time: Ns, initiator: Dev) -> Option<Ready>
 }
 
 impl SeatedUnit {
-    /// The unit of this line of a scenario, with these fills, and with memory for the blocks that these commands write.
+    /// The disk of this line of a scenario, with these fills, and with memory for the blocks that these commands write.
     /// It takes all the memory that it ever has.
     pub fn new(
         alloc: Global,
@@ -128,8 +135,10 @@ impl SeatedUnit {
         requires least_size { 16 ≤ def.now.size }
         requires most_size { def.now.size ≤ 2048 }
         requires filled { AreFilled def.now fills.now }
-        ensures fresh { IfOk result (λ made. IsFresh def.now pick fills.now (blocks_of_all def.now commands.now) made) }
-        ensures seat { (s : ScenarioValue) → s.fills ≡ fills.now → pick ≡ pick_of s.targets def.now.target
+        ensures fresh { IfOk result (λ made. IsFresh def.now pick (starting_contents def.now fills.now)
+            (blocks_of_all (disk_of def.now.blocks) def.now commands.now) made) }
+        ensures seat { (s : ScenarioValue) → s.fills ≡ fills.now → is_tape s def.now.target def.now.unit ≡ false
+            → pick ≡ pick_of s.targets def.now.target
             → (seat_of (starting_array s) def.now.target def.now.unit).unit ≡ Some (starting_unit s def.now)
             → IfOk result (λ made. IsAtSeat s.hosts
             (seat_of (starting_array s) def.now.target def.now.unit) 0 made) }
@@ -149,14 +158,70 @@ impl SeatedUnit {
         requires least_size { 16 ≤ def.now.size }
         requires most_size { def.now.size ≤ 2048 }
         requires filled { AreFilled def.now fills.now }
-        ensures { IfOk result (λ made. IsFresh def.now pick fills.now (blocks_of_all def.now commands.now) made) }
+        ensures { IfOk result (λ made. IsFresh def.now pick (starting_contents def.now fills.now)
+            (blocks_of_all (disk_of def.now.blocks) def.now commands.now) made) }
     {
         let blank = DiskMedium::new(SparseBlocks::new(alloc, def.blocks, def.size as usize)?);
         let written = blocks_by_all(&blank, def, commands);
         let mut blocks = blank.into_blocks();
         blocks.reserve(blocks_in_all(fill_count(def, fills), written)?)?;
         fill(&mut blocks, def, fills);
-        let unit = Unit::new(alloc, DiskMedium::new(blocks), def.depth as usize)?;
+        let drive = Drive::Disk(DiskMedium::new(blocks));
+        let unit = Unit::new(alloc, drive, def.depth as usize)?;
+        Ok(SeatedUnit {
+            unit,
+            pick,
+            reply: None,
+            since: 0,
+        })
+    }
+
+    /// The tape of this line of a scenario, at its beginning, with these loads on it, and with memory for the blocks
+    /// that these commands write. It takes all the memory that it ever has.
+    pub fn tape(
+        alloc: Global,
+        def: &TapeDef,
+        pick: Pick,
+        loads: &[LoadDef],
+        commands: &[CmdDef],
+    ) -> Result<SeatedUnit, NoMemory>
+        requires some { 1 ≤ def.now.objects }
+        requires most { def.now.objects ≤ 65536 }
+        requires least_size { 16 ≤ def.now.size }
+        requires most_size { def.now.size ≤ 2048 }
+        requires loaded { AreLoaded def.now loads.now }
+        ensures fresh { IfOk result (λ made. IsFresh (tape_unit def.now) pick
+            (loaded_contents (tape_unit def.now) loads.now)
+            (blocks_of_all a_tape (tape_unit def.now) commands.now) made) }
+        ensures seat { (s : ScenarioValue) → s.loads ≡ loads.now → is_tape s def.now.target def.now.unit ≡ true
+            → pick ≡ pick_of s.targets def.now.target
+            → (seat_of (starting_array s) def.now.target def.now.unit).unit
+            ≡ Some (starting_unit s (tape_unit def.now)) → IfOk result (λ made. IsAtSeat s.hosts
+            (seat_of (starting_array s) def.now.target def.now.unit) 0 made) }
+    {
+        SeatedUnit::fresh_tape(alloc, def, pick, loads, commands)
+    }
+
+    fn fresh_tape(
+        alloc: Global,
+        def: &TapeDef,
+        pick: Pick,
+        loads: &[LoadDef],
+        commands: &[CmdDef],
+    ) -> Result<SeatedUnit, NoMemory>
+        requires some { 1 ≤ def.now.objects }
+        requires most { def.now.objects ≤ 65536 }
+        requires least_size { 16 ≤ def.now.size }
+        requires most_size { def.now.size ≤ 2048 }
+        requires loaded { AreLoaded def.now loads.now }
+        ensures { IfOk result (λ made. IsFresh (tape_unit def.now) pick (loaded_contents (tape_unit def.now) loads.now)
+            (blocks_of_all a_tape (tape_unit def.now) commands.now) made) }
+    {
+        let blocks = blocks_on(def, loads, commands)?;
+        let size = def.size as usize;
+        let mut tape = TapeMedium::new(alloc, def.objects, size, def.objects, blocks)?;
+        load(&mut tape, def, loads);
+        let unit = Unit::new(alloc, Drive::Tape(tape), def.depth as usize)?;
         Ok(SeatedUnit {
             unit,
             pick,
@@ -209,7 +274,8 @@ impl SeatedUnit {
     ) -> Accepted
         requires device { from < 8 }
         requires most { length cdb.now ≤ 10 }
-        ensures { IsArrived self.old (entry_with id from tag class (disk_extent cdb.now)) cdb.now result self.new }
+        ensures { IsArrived self.old (entry_with id from tag class (held_extent self.old.contents cdb.now)) cdb.now
+            result self.new }
     {
         self.unit.accept(id, from, tag, class, cdb)
     }
@@ -228,11 +294,11 @@ impl SeatedUnit {
         requires device { from < 8 }
         requires most { length cdb.now ≤ 10 }
         ensures exact { (arrived : SeatedState) × IsArrived self.old
-            (entry_with id from tag class (disk_extent cdb.now)) cdb.now result arrived
+            (entry_with id from tag class (held_extent self.old.contents cdb.now)) cdb.now result arrived
             × (self.new ≡ settled (current_id self.old.books) now arrived) }
         ensures accepts { (hosts : List HostDef) (seat after : Seat) (time : ℕ) (p : Process)
-            → IsAtSeat hosts seat time self.old → IsProcess p id from tag class cdb.now → IsNew hosts seat p
-            → seat_after_accept p seat ≡ Some after
+            → IsAtSeat hosts seat time self.old → IsProcess p id from tag class cdb.now
+            → IsOfKind p.serial seat.unit → IsNew hosts seat p → seat_after_accept p seat ≡ Some after
             → IsAtSeat hosts (settled_seat after) (seat_time seat (settled_seat after) time now) self.new }
         ensures refused { (hosts : List HostDef) (seat after : Seat) (time : ℕ) (p : Process)
             → IsAtSeat hosts seat time self.old → IsProcess p id from tag class cdb.now
@@ -258,7 +324,7 @@ impl SeatedUnit {
         ensures { result ≡ can_run self.now key sent }
     {
         self.unit.plan(key).out_len as usize <= sent
-            && self.unit.cost(key) <= self.unit.medium().blocks().spare()
+            && self.unit.cost(key) <= self.unit.medium().spare()
     }
 
     fn run_key(&mut self, key: Key, sent: &[u8]) -> Reply
@@ -284,10 +350,10 @@ impl SeatedUnit {
         Some(self.run_key(key, sent))
     }
 
-    /// The current process runs at `now`, in ns, with the bytes that it sent: its attention is reported, or the disk
-    /// changes as its command says, with as many of them as that takes. Returns its reply; `None`, with the disk as it
-    /// was, where it is not in the queue, or sent fewer bytes than its command takes, or the blocks that it writes have
-    /// no memory. A process outside the queue changes nothing as it runs.
+    /// The current process runs at `now`, in ns, with the bytes that it sent: its attention is reported, or the disk or
+    /// tape changes as its command says, with as many of them as that takes. Returns its reply; `None`, with the disk
+    /// or tape as it was, where it is not in the queue, or sent fewer bytes than its command takes, or the blocks that
+    /// it writes have no memory. A process outside the queue changes nothing as it runs.
     pub fn run(&mut self, id: ProcId, sent: &[u8], now: Ns) -> Option<Reply>
         ensures exact { (ran : SeatedState) × IsRunLive self.old sent.now
             (key_of_process self.old.books.queue.arrived id) result ran
@@ -463,14 +529,24 @@ impl SeatedUnit {
         ensures seat { (hosts : List HostDef) (seat : Seat) (time : ℕ) → IsAtSeat hosts seat time self.now
             → result ≡ (contents_of seat.unit).size }
     {
-        self.unit.medium().blocks().size()
+        self.unit.medium().size()
     }
 
-    /// Its blocks, handed out.
-    pub fn into_blocks(self) -> SparseBlocks
-        ensures { result ≡ record { contents = self.contents; spare = self.spare } }
+    /// Whether it is a tape, so that its commands conflict with one another.
+    pub fn is_serial(&self) -> bool
+        ensures exact { result ≡ is_reeled self.now.contents }
+        ensures seat { (hosts : List HostDef) (seat : Seat) (time : ℕ) → IsAtSeat hosts seat time self.now
+            → result ≡ is_reeled (contents_of seat.unit) }
     {
-        self.unit.into_medium().into_blocks()
+        self.unit.medium().is_tape()
+    }
+
+    /// Its disk or tape, handed out.
+    pub fn into_drive(self) -> Drive
+        ensures contents { drive_contents result ≡ self.contents }
+        ensures spare { drive_spare result ≡ self.spare }
+    {
+        self.unit.into_medium()
     }
 
     fn room_now(&self) -> Room
@@ -570,7 +646,7 @@ impl SeatedUnit {
     fn plan_now(&self, from: Dev, cdb: &[u8]) -> Plan
         requires device { from < 8 }
         ensures { result ≡ plan_for (slice_index_or self.now.books.attentions from None) cdb.now
-            (disk_reply self.now.contents cdb.now) (taken_now self.now.contents cdb.now) }
+            (held_reply self.now.contents cdb.now) (taken_now self.now.contents cdb.now) }
     {
         self.unit.plan_for(from, cdb)
     }

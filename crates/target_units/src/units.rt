@@ -4,7 +4,7 @@ ghost use Rattle.bus_base.specs.declared.AbortKind.TheVariants as aborts;
 ghost use Rattle.bus_base.specs.declared.Event.TheVariants as events;
 ghost use Rattle.cdb_codec.specs.Cdb.{command_of};
 ghost use Rattle.cdb_codec.specs.declared.status.TheConstants.{GOOD};
-ghost use Rattle.scenario.specs.Lookups.{has_target, unit_of};
+ghost use Rattle.scenario.specs.Lookups.{has_target, is_tape, unit_of, units_of};
 ghost use Rattle.scenario.specs.Needs.{is_write};
 ghost use Rattle.scenario.specs.Value.{ScenarioValue};
 ghost use Rattle.scenario.specs.Writing.{Obeys};
@@ -30,13 +30,14 @@ ghost use Rattle.due_model.specs.Tasks.{room_of, size_of, reply_now};
 use crate::logical::LogicalUnit;
 use crate::ready::Ready;
 use bus_base::{AbortKind, Class, Dev, NoMemory, Ns, ProcId};
-use disk_unit::{Accepted, Plan, Reply, SparseBlocks};
+use disk_unit::{Accepted, Plan, Reply};
 use due_model::the_dialogue_model::Room;
 use scenario::{Scenario, TargetDef};
 use scsi_device::scenarios_fit_the_bus;
 use std::alloc::Global;
 use std::marker::Model;
 use tag_queue::Entry;
+use tape_unit::Drive;
 
 /// The logical units of a target, by number.
 #[derive(Drop)]
@@ -98,8 +99,8 @@ impl Units {
         ensures exact { result ≡ record { dev = dev; seek = seek; units = units } }
         ensures start { (s : ScenarioValue) → FitsBus s → has_target s dev ≡ true
             → ((n : ℕ) → n < 8 → IsUnitOf s.hosts (seat_of (starting_array s) dev n) 0 (unit_in units n))
-            → ((n : ℕ) → n < 8 → blocks_at (unit_of s dev n) s.commands ≤ spare_of (unit_in units n))
-            → AreUnitsOf s (settled_array (starting_array s)) (replicate (length s.units) 0) dev result.units }
+            → ((n : ℕ) → n < 8 → blocks_at s (unit_of s dev n) ≤ spare_of (unit_in units n))
+            → AreUnitsOf s (settled_array (starting_array s)) (replicate (length (units_of s)) 0) dev result.units }
     {
         are_eight(&units);
         Units { dev, seek, units }
@@ -113,11 +114,10 @@ impl Units {
         ensures dev { IfOk result (λ made. made.dev ≡ def.now.dev) }
         ensures seek { IfOk result (λ made. made.seek ≡ def.now.seek) }
         ensures start { IfOk result (λ made. AreUnitsOf scenario.now
-            (settled_array (starting_array scenario.now)) (replicate (length scenario.now.units) 0) def.now.dev
+            (settled_array (starting_array scenario.now)) (replicate (length (units_of scenario.now)) 0) def.now.dev
             made.units) }
         ensures spare { IfOk result (λ made. (n : ℕ) → n < 8
-            → blocks_at (unit_of scenario.now def.now.dev n) scenario.now.commands
-            ≤ spare_of (unit_in made.units n)) }
+            → blocks_at scenario.now (unit_of scenario.now def.now.dev n) ≤ spare_of (unit_in made.units n)) }
     {
         scenarios_fit_the_bus();
         let units = [
@@ -151,6 +151,15 @@ impl Units {
             → result ≡ size_of (unit_state_at a.units self.now.dev unit) }
     {
         self.units[unit as usize].block_size()
+    }
+
+    /// Whether a unit is a tape, so that its commands conflict with one another and name no blocks.
+    pub fn is_serial(&self, unit: u8) -> bool
+        requires unit { unit < 8 }
+        ensures { (s : ScenarioValue) (a : Array) (times : List ℕ)
+            → AreUnitsOf s a times self.now.dev self.now.units → result ≡ is_tape s self.now.dev unit }
+    {
+        self.units[unit as usize].is_serial()
     }
 
     /// The queue of a unit that is there: whether it is full, and whether the unit is idle.
@@ -442,9 +451,9 @@ impl Units {
         self.clear(now);
     }
 
-    /// Hands out the blocks of a unit, where it is there, and leaves one in its place that is not. The other units
-    /// stay as they were.
-    pub fn take_blocks(&mut self, unit: u8) -> Option<SparseBlocks>
+    /// Hands out the disk or tape of a unit, where it is there, and leaves one in its place that is not. The other
+    /// units stay as they were.
+    pub fn take_drive(&mut self, unit: u8) -> Option<Drive>
         requires unit { unit < 8 }
         ensures exact { contents_handed result ≡ contents_in (unit_in self.old.units unit) }
         ensures array { (s : ScenarioValue) (a : Array) (times : List ℕ)
@@ -456,6 +465,6 @@ impl Units {
         ensures dev { self.new.dev ≡ self.old.dev }
         ensures seek { self.new.seek ≡ self.old.seek }
     {
-        self.units[unit as usize].take_blocks()
+        self.units[unit as usize].take_drive()
     }
 }

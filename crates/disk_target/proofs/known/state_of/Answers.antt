@@ -1,6 +1,8 @@
 use Rattle.std.proofs.Common.{◌∙◌, ◌==◌, sym}
 use Rattle.std.proofs.lemmas.Bool.{eqb-true}
 use Rattle.cdb_codec.specs.declared.status.TheConstants.{GOOD}
+use Rattle.scenario.specs.Lookups.{is_tape}
+use Rattle.array_model.proofs.NamedBlocks.{serial_is}
 use Rattle.array_model.specs.Processes.{process_of}
 use Rattle.array_model.specs.ArrayHistory.{reply_in}
 use Rattle.array_model.specs.Seats.{in_hold, nexus_at}
@@ -26,6 +28,8 @@ returns-clause-state c = λ s rows d p h few is id target unit from reply.
           ∙ (λ i. in_hold a.holds (nexus_at (sym units i) (sym unit i) (sym from i)));
       runs = counts.runs ∙ (λ i. (progress_in k.progress ((c.id.ensures ∙ id) i)).runs);
       recoveries = counts.recoveries ∙ (λ i. (progress_in k.progress ((c.id.ensures ∙ id) i)).recoveries);
+      serial = c.is_serial.ensures s a k.current_since h.units_are ∙ (λ i. is_tape s (sym units i) (sym unit i))
+          ∙ sym (serial_is s p ((λ i. process_of s (sym id i)) ∙ is));
       size = c.block_size-size.ensures s a k.current_since h.units_are
           ∙ (λ i. size_of (unit_state_at a.units (sym units i) (sym unit i)));
       room = c.room.ensures s a k.current_since h.sound h.units_are

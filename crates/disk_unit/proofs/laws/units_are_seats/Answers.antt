@@ -2,14 +2,14 @@ use Rattle.disk_unit.proofs.AtSeats.{started, accepted, refused, guest, chosen, 
 use Rattle.disk_unit.proofs.AtSeats.{ended, end_step, lost, guest_ended, guest_lost, aborted, tag_aborted, cleared}
 use Rattle.disk_unit.proofs.AtSeats.{reset}
 use Rattle.std.proofs.Common.{refl}
-use Rattle.disk_unit.proofs.LiveCommands.{entry_at_disk}
+use Rattle.disk_unit.proofs.LiveCommands.{entry_held}
 use Rattle.disk_unit.proofs.laws.units_are_seats.Goals as goal
 
 pub returns-clause-start : goal.returns-clause-start
 returns-clause-start c = started
 
 pub returns-clause-entry : goal.returns-clause-entry
-returns-clause-entry c = entry_at_disk
+returns-clause-entry c = entry_held
 
 pub returns-clause-accept : goal.returns-clause-accept
 returns-clause-accept c = accepted

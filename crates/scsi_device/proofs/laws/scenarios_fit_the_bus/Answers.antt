@@ -1,7 +1,7 @@
 use Rattle.std.proofs.Common.{◌^◌, arith}
 use Rattle.due_model.specs.RunSteps.{run_state}
 use Rattle.scsi_device.proofs.FitLines.{obeys_fits, seats_are, units_are, command_fits, abort_fits, host_fits}
-use Rattle.scsi_device.proofs.FitLines.{target_fits, unit_fits}
+use Rattle.scsi_device.proofs.FitLines.{target_fits, disk_fits, tape_fits, unit_fits}
 use Rattle.scsi_device.proofs.WantTimes.{wants_before, next_reset_before}
 use Rattle.scsi_device.proofs.laws.scenarios_fit_the_bus.Goals as goal
 
@@ -25,6 +25,12 @@ returns-clause-found_hosts c = λ s dev h f e. host_fits s dev h f e
 
 pub returns-clause-found_targets : goal.returns-clause-found_targets
 returns-clause-found_targets c = λ s dev t f e. target_fits s dev t f e
+
+pub returns-clause-found_disks : goal.returns-clause-found_disks
+returns-clause-found_disks c = λ s target unit u f e. disk_fits s target unit u f e
+
+pub returns-clause-found_tapes : goal.returns-clause-found_tapes
+returns-clause-found_tapes c = λ s target unit t f e. tape_fits s target unit t f e
 
 pub returns-clause-found_units : goal.returns-clause-found_units
 returns-clause-found_units c = λ s target unit u f e. unit_fits s target unit u f e

@@ -1,5 +1,5 @@
 use Rattle.std.proofs.Common.{◌∙◌, ◌≤◌, true, arith}
-use Rattle.tape_unit.specs.Reels.{way_from}
+use Rattle.array_model.specs.Reels.{way_from}
 use Rattle.tape_unit.proofs.Ahead.{bytes_few, moved_within, length_ahead, plan_of_read}
 use Rattle.tape_unit.proofs.commands.read_plan.Goals as goal
 

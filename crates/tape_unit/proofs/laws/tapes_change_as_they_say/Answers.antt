@@ -1,4 +1,4 @@
-use Rattle.tape_unit.proofs.TapeFacts.{contents_stay, sent_unseen, sent_apart, none_taken, all_taken}
+use Rattle.disk_unit.proofs.TapeFacts.{contents_stay, sent_unseen, sent_apart, none_taken, all_taken}
 use Rattle.tape_unit.proofs.laws.tapes_change_as_they_say.Goals as goal
 
 pub returns-clause-stays : goal.returns-clause-stays

@@ -1,5 +1,5 @@
 use Rattle.std.proofs.Common.{◌-◌, ◌≡◌, ◌≤◌, length}
-use Rattle.tape_unit.specs.Reels.{over_filemarks}
+use Rattle.array_model.specs.Reels.{over_filemarks}
 use Rattle.tape_unit.specs.Stored.{seen}
 use Rattle.tape_unit.proofs.Walks.{filemarks_left}
 use Rattle.tape_unit.proofs.walk.over_filemarks.Given as goal

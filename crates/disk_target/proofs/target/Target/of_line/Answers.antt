@@ -1,5 +1,6 @@
 use Rattle.std.proofs.Common.{ℕ, [], arith, refl, sym, subst, length}
 use Rattle.std.specs.Prelude.{replicate}
+use Rattle.scenario.specs.Lookups.{units_of}
 use Rattle.array_model.specs.Units.{settled_array, starting_array}
 use Rattle.target_course.specs.target_units.specs.Units.{AreUnitsOf}
 use Rattle.target_course.specs.scsi_device.proofs.Finds.{none_some}
@@ -18,7 +19,7 @@ returns-clause-trace c = λ fits line. record {
     gathered_dev = λ i. (c.in_ok-gathered.ensures.exact i).dev;
     itself_is = c.in_ok-itself.ensures.trace;
     units_are = subst (λ (dev : ℕ). AreUnitsOf c.args.scenario.now (settled_array (starting_array c.args.scenario.now))
-        (replicate (length c.args.scenario.now.units) 0) dev c.in_ok-processes.processes.units.units)
+        (replicate (length (units_of c.args.scenario.now)) 0) dev c.in_ok-processes.processes.units.units)
         (sym c.in_ok-processes.ensures.dev) c.in_ok-processes.ensures.start;
     sound = c.arrays_are_sound.ensures.always c.args.scenario.now [] (settled_array
         (starting_array c.args.scenario.now)) (c.scenarios_fit_the_bus.ensures.seats c.args.scenario.now fits) refl;

@@ -1,4 +1,4 @@
-use Rattle.std.proofs.Common.{◌≡◌, ◌<◌, ◌≤◌, ◌+◌, ◌-◌, ◌*◌, ℕ, List, length, sym, ap, subst, ◌∙◌, arith}
+use Rattle.std.proofs.Common.{◌≡◌, ◌<◌, ◌≤◌, ◌+◌, ◌-◌, ◌*◌, ℕ, List, None, length, sym, ap, subst, ◌∙◌, arith}
 use Rattle.std.specs.Vec.{with_items}
 use Rattle.std.proofs.lemmas.List.{with_items_is}
 use Rattle.std.proofs.lemmas.Grind.{common_steps}
@@ -38,5 +38,5 @@ returns-clause-written c =
     ap (blocks_in s.size 0 s.count) items
     ∙ write_dense s.size 0 s.count s.bytes.items c.args.from.now c.args.lba within c.self.invariant.0 fits
     ∙ ap (λ (k : ℕ). touched_with (blocks_in s.size 0 s.count s.bytes.items) k c.args.from.now) first in
-    (λ i. record { count = s.count; size = s.size; touched = touched i })
+    (λ i. record { count = s.count; size = s.size; touched = touched i; reel = None })
     ∙ ap (λ (k : Contents). with_block k c.args.lba c.args.from.now) c.self.view_is

@@ -1,4 +1,4 @@
-use Rattle.std.proofs.Common.{◌≡◌, ◌<◌, ℕ, List, true, false, length, set, sym, ap, subst, ◌∙◌, arith}
+use Rattle.std.proofs.Common.{◌≡◌, ◌<◌, ℕ, List, None, true, false, length, set, sym, ap, subst, ◌∙◌, arith}
 use Rattle.std.specs.List.{insert}
 use Rattle.std.specs.Global.{Vec}
 use Rattle.std.specs.Vec.{vec_capacity}
@@ -92,7 +92,7 @@ returns-then-is_at-clause-written c =
     ap (touched_of s.numbers.items) (written.2 ∙ ap (λ (k : ℕ). set s.blocks.items k written.0) place)
     ∙ write_found s.numbers.items s.blocks.items c.args.lba written.0 c.self.invariant.paired at
     ∙ ap (touched_with (touched_of s.numbers.items s.blocks.items) c.args.lba) written.1 in
-    (λ i. record { count = s.count; size = s.size; touched = touched i })
+    (λ i. record { count = s.count; size = s.size; touched = touched i; reel = None })
     ∙ ap (λ (t : Store). with_block t.contents c.args.lba c.args.from.now) c.self.view_is
 
 pub returns-in-Some-clause-written : goal.returns-in-Some-clause-written
@@ -113,5 +113,5 @@ returns-in-Some-clause-written c =
     (λ i. touched_of (numbers i) (blocks i))
     ∙ write_absent s.numbers.items s.blocks.items c.args.lba c.with_bytes.result c.self.invariant.paired at
     ∙ ap (touched_with (touched_of s.numbers.items s.blocks.items) c.args.lba) c.with_bytes.ensures in
-    (λ i. record { count = s.count; size = s.size; touched = touched i })
+    (λ i. record { count = s.count; size = s.size; touched = touched i; reel = None })
     ∙ ap (λ (t : Store). with_block t.contents c.args.lba c.args.from.now) c.self.view_is

@@ -8,8 +8,8 @@ use Rattle.target_units.proofs.UnitSteps.{seated_after}
 use Rattle.target_units.proofs.logical.LogicalUnit.accept.Goals as goal
 
 pub returns-in-There-clause-accepts : goal.returns-in-There-clause-accepts
-returns-in-There-clause-accepts c = λ hosts seat after time p h words new e. c.accept.ensures.accepts hosts seat after
-    time p (subst (λ (u : LogicalUnit). IsUnitOf hosts seat time u) c.in-There.is h) words new e
+returns-in-There-clause-accepts c = λ hosts seat after time p h words kind new e. c.accept.ensures.accepts
+    hosts seat after time p (subst (λ (u : LogicalUnit). IsUnitOf hosts seat time u) c.in-There.is h) words kind new e
 
 pub returns-in-There-clause-refuses : goal.returns-in-There-clause-refuses
 returns-in-There-clause-refuses c = λ hosts seat after time p h words new e.

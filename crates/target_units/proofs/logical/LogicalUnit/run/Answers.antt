@@ -1,7 +1,7 @@
 use Rattle.std.proofs.Common.{ℕ, ◌∙◌, ◌≤◌, ◌+◌, subst, sym}
 use Rattle.array_model.specs.Seats.{contents_of, running_at}
 use Rattle.array_model.specs.Units.{guest_at}
-use Rattle.disk_unit.specs.Disk.{cost_by, kind_of}
+use Rattle.disk_unit.specs.Held.{cost_by, kind_of}
 use Rattle.target_units.specs.Rooms.{HasRoomFor}
 use Rattle.std.specs.Prelude.{is_some}
 use Rattle.target_units.specs.declared.logical.LogicalUnit.{LogicalUnit}

@@ -7,15 +7,15 @@ use Rattle.target_units.proofs.SeatSteps.{by_state, accepts, refuses, refused_fu
 use Rattle.target_units.proofs.seated.SeatedUnit.accept.Goals as goal
 
 pub returns-clause-accepts : goal.returns-clause-accepts
-returns-clause-accepts c = λ hosts seat after time p h words new e. by_state hosts seat after time c.args.now _ _
+returns-clause-accepts c = λ hosts seat after time p h words kind new e. by_state hosts seat after time c.args.now _ _
     (c.settle.ensures ∙ (λ i. settled (c.current_process-before.ensures i) c.args.now c.arrive-accepted.new.self))
     (accepts hosts seat after time c.args.now c.args.self.now c.arrive-accepted.new.self p c.args.id c.args.from
     c.args.tag c.args.class c.args.cdb.now c.arrive-accepted.result c.requires.device c.arrive-accepted.ensures h words
-    new e)
+    kind new e)
 
 pub returns-clause-refuses : goal.returns-clause-refuses
 returns-clause-refuses c = λ hosts seat time p h words new full.
-    let x = refuses hosts seat time c.args.now c.args.self.now c.arrive-accepted.new.self p c.args.id c.args.from
+    let x = refuses hosts seat time c.args.now c.args.self.now c.arrive-accepted.new.self _ p c.args.id c.args.from
     c.args.tag c.args.class c.args.cdb.now c.arrive-accepted.result c.arrive-accepted.ensures h words new full in (
       x.0,
       x.1,
@@ -25,7 +25,7 @@ returns-clause-refuses c = λ hosts seat time p h words new full.
 
 pub returns-clause-refused : goal.returns-clause-refused
 returns-clause-refused c = λ hosts seat after time p h words e. refused_full hosts seat after time c.args.self.now
-    c.arrive-accepted.new.self p c.args.id c.args.from c.args.tag c.args.class c.args.cdb.now c.arrive-accepted.result
+    c.arrive-accepted.new.self _ p c.args.id c.args.from c.args.tag c.args.class c.args.cdb.now c.arrive-accepted.result
     c.arrive-accepted.ensures h words e
 
 pub returns-clause-spare : goal.returns-clause-spare

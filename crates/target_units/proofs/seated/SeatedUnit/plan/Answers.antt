@@ -1,6 +1,6 @@
 use Rattle.std.proofs.Common.{None}
 use Rattle.std.specs.Prelude.{slice_index_or}
-use Rattle.disk_unit.specs.Disk.{taken_now}
+use Rattle.disk_unit.specs.Held.{taken_now}
 use Rattle.target_units.proofs.Tellings.{planned, plan_seen}
 use Rattle.target_units.proofs.seated.SeatedUnit.plan.Goals as goal
 

@@ -1,6 +1,6 @@
 use Rattle.std.proofs.Common.{ℕ, ◌∙◌, ◌≤◌, ◌+◌, subst, sym}
 use Rattle.array_model.specs.Seats.{contents_of}
-use Rattle.disk_unit.specs.Disk.{cost_by, kind_of}
+use Rattle.disk_unit.specs.Held.{cost_by, kind_of}
 use Rattle.target_units.specs.Seated.{settled}
 use Rattle.target_units.proofs.SeatSteps.{by_state, runs, guest_runs}
 use Rattle.target_units.proofs.seated.SeatedUnit.run.Goals as goal

@@ -5,6 +5,7 @@ use Rattle.due_model.specs.Wants.{since_of}
 use Rattle.array_model.specs.Seats.{seat_of}
 use Rattle.array_model.specs.Steps.{step}
 use Rattle.target_units.specs.Units.{IsStep}
+use Rattle.target_units.proofs.Rooms.{kind_at}
 use Rattle.target_units.proofs.UnitSteps.{one_set, spare_stays, other_place, accept_left, refuse_left, unit_seen}
 use Rattle.target_units.proofs.UnitSteps.{accept_none}
 use Rattle.target_units.proofs.units.Units.accept.Goals as goal
@@ -21,7 +22,8 @@ returns-clause-array c = λ s a b times p h own words new st.
     (get_or c.self.inside.units n c.index-self-unit.result) c.accept.new.self _ c.requires.unit step h
     (λ m e. other_place s p dev n m own e) same_units refl refl (accept_left s a b p dev n step own)
     (λ after e k. c.accept.ensures.accepts s.hosts (seat_of a dev n) after
-    (since_of a.units times dev n) p k words new e) (spare_stays s (events.Accept p.id) a b dev n
+    (since_of a.units times dev n) p k words (kind_at s a dev n p h.room.kinds own) new e)
+    (spare_stays s (events.Accept p.id) a b dev n
     (get_or c.self.inside.units n c.index-self-unit.result) c.accept.new.self step c.accept.ensures.spare)
 
 pub returns-clause-refuses : goal.returns-clause-refuses

@@ -23,7 +23,7 @@ returns-clause-start c =
     c.in_ok-of-7.field-0 c.in_ok-of-8.field-0 c.in_ok-of.ensures.start c.in_ok-of-2.ensures.start
     c.in_ok-of-3.ensures.start c.in_ok-of-4.ensures.start c.in_ok-of-5.ensures.start
     c.in_ok-of-6.ensures.start c.in_ok-of-7.ensures.start c.in_ok-of-8.ensures.start)
-    (eight_units (λ k u. blocks_at (unit_of s dev k) s.commands ≤ spare_of u) c.in_ok-of.field-0 c.in_ok-of-2.field-0
+    (eight_units (λ k u. blocks_at s (unit_of s dev k) ≤ spare_of u) c.in_ok-of.field-0 c.in_ok-of-2.field-0
     c.in_ok-of-3.field-0 c.in_ok-of-4.field-0 c.in_ok-of-5.field-0 c.in_ok-of-6.field-0 c.in_ok-of-7.field-0
     c.in_ok-of-8.field-0 c.in_ok-of.ensures.spare c.in_ok-of-2.ensures.spare c.in_ok-of-3.ensures.spare
     c.in_ok-of-4.ensures.spare c.in_ok-of-5.ensures.spare c.in_ok-of-6.ensures.spare c.in_ok-of-7.ensures.spare
@@ -32,8 +32,8 @@ returns-clause-start c =
 pub returns-clause-spare : goal.returns-clause-spare
 returns-clause-spare c = λ n lt.
     let s : ScenarioValue = c.args.scenario.now in
-    subst (λ (x : UnitsState). blocks_at (unit_of s c.args.def.now.dev n) s.commands ≤ spare_of (unit_in x.units n))
-    (sym c.new.ensures.exact) (eight_units (λ k u. blocks_at (unit_of s c.args.def.now.dev k) s.commands ≤ spare_of u)
+    subst (λ (x : UnitsState). blocks_at s (unit_of s c.args.def.now.dev n) ≤ spare_of (unit_in x.units n))
+    (sym c.new.ensures.exact) (eight_units (λ k u. blocks_at s (unit_of s c.args.def.now.dev k) ≤ spare_of u)
     c.in_ok-of.field-0 c.in_ok-of-2.field-0 c.in_ok-of-3.field-0 c.in_ok-of-4.field-0 c.in_ok-of-5.field-0
     c.in_ok-of-6.field-0 c.in_ok-of-7.field-0 c.in_ok-of-8.field-0 c.in_ok-of.ensures.spare c.in_ok-of-2.ensures.spare
     c.in_ok-of-3.ensures.spare c.in_ok-of-4.ensures.spare c.in_ok-of-5.ensures.spare c.in_ok-of-6.ensures.spare

@@ -28,4 +28,5 @@ returns-clause-taken c = λ s a times p h host target unit from cdb is writes go
     (λ i. (returns-clause-array c s a times p h host target unit from cdb i).out_len)
     ∙ taken_good (context_of (seat_of a p.target p.unit) p.initiator) p.cdb p.sent
     ((λ i. (reply_same a p.target p.unit p.initiator p.cdb p refl refl refl refl i).status) ∙ good)
-    ∙ taken_sent s a p h.room.fits h.room.lines ((λ i. has_target s (target i)) ∙ h.room.target) is writes good
+    ∙ taken_sent s a p h.room.fits h.room.lines h.room.kinds ((λ i. has_target s (target i)) ∙ h.room.target) is writes
+    good

@@ -10,10 +10,10 @@ use Rattle.cdb_codec.specs.declared.tape_command.TapeCommand.{TapeCommand}
 use Rattle.cdb_codec.specs.declared.tape_command.TapeCommand.TheVariants as tapes
 use Rattle.cdb_codec.specs.TapeCdb.{tape_command_of}
 use Rattle.array_model.specs.Execution.{Reply, no_sense}
-use Rattle.tape_unit.specs.Reels.{Object, blocks_of, filemarks}
-use Rattle.tape_unit.specs.Execution.{Tape, with_reel, has_room, write_reply, written_reel, tape_cdb_execution}
-use Rattle.tape_unit.specs.Tape.{tape_after, tape_done, tape_reply, is_walk, is_changed, is_carried_out, blocks_written}
-use Rattle.tape_unit.specs.Tape.{blocks_taken, taken_now}
+use Rattle.array_model.specs.Reels.{Object, blocks_of, filemarks}
+use Rattle.array_model.specs.TapeExecution.{Tape, with_reel, has_room, write_reply, written_reel, tape_cdb_execution}
+use Rattle.array_model.specs.Tapes.{tape_after, tape_done, tape_reply, is_walk, is_changed, is_carried_out}
+use Rattle.array_model.specs.Tapes.{blocks_written, blocks_taken, taken_now}
 
 abbrev Read : Type 0
 Read = Result TapeCommand CdbFault
@@ -117,7 +117,8 @@ pub none_taken : (t : Tape) (cdb : List ℕ) → is_carried_out t cdb ≡ false 
 none_taken t cdb h =
     let nothing : 0 * t.size ≡ 0 = omega arith in (λ i. none t (tape_command_of cdb) h i * t.size) ∙ nothing
 
-written : (t : Tape) (n : ℕ) → ((write_reply t n).status == GOOD) ≡ true → (if has_room t n then n else 0) ≡ n
+-- A write that ends GOOD takes all its blocks.
+pub written : (t : Tape) (n : ℕ) → ((write_reply t n).status == GOOD) ≡ true → (if has_room t n then n else 0) ≡ n
 written t n h =
     elim (cases_Bool (has_room t n)) [
       | inl r ↦ rw r refl
