@@ -45,8 +45,9 @@ pub use bus_rules.Messages.{is_below, is_none_or_all, is_opening, is_same_length
 pub use bus_rules.{Messages.{leaves_message_well, may_take, opens_well, same_bool, settles_offers}, Seen.{seen}}
 unfoldable pub use bus_rules.Seen.{seen_with}
 use Rattle.due_model.specs.scenario.specs as scenario
-pub use scenario.{Value.{ScenarioValue}, declared.value.{AbortDef.{AbortDef}, CmdDef.{CmdDef}, HostDef.{HostDef}}}
-pub use scenario.declared.value.{Policy.{Policy}, Tag.{Tag}, TargetDef.{TargetDef}, UnitDef.{UnitDef}}
+pub use scenario.{Lookups.{units_of}, Value.{ScenarioValue}, declared.value.{AbortDef.{AbortDef}, CmdDef.{CmdDef}}}
+pub use scenario.declared.value.{HostDef.{HostDef}, Policy.{Policy}, Tag.{Tag}, TargetDef.{TargetDef}}
+pub use scenario.declared.value.UnitDef.{UnitDef}
 unfoldable pub use scenario.Needs.{need_of, sent_of}
 use Rattle.due_model.specs.array_model.proofs as array_model_proofs
 pub use array_model_proofs.{ExecutionFacts.{not_aborted, status_known}, SeatLookups.{same_bool_is, same_id_is}}

@@ -67,8 +67,8 @@ pub use bus_rules.{Seen.{others_drive, others_in_call, seen, target_data}, Selec
 pub use bus_rules.declared.seen.Seen.{Seen}
 unfoldable pub use bus_rules.Seen.{seen_with}
 use Rattle.due_model.specs.scenario.specs as scenario
-pub use scenario.{Value.{ScenarioValue}, Writing.{Obeys}, declared.value.{HostDef.{HostDef}, ResetDef.{ResetDef}}}
-pub use scenario.declared.value.TargetDef.{TargetDef}
+pub use scenario.{Lookups.{units_of}, Value.{ScenarioValue}, Writing.{Obeys}, declared.value.HostDef.{HostDef}}
+pub use scenario.declared.value.{ResetDef.{ResetDef}, TargetDef.{TargetDef}}
 use Rattle.due_model.specs.array_model.specs as array_model
 pub use array_model.{Seats.{current_of, is_initiator}, Units.{Array, RunningProcess, UnitState, is_held, unit_state_at}}
 use Rattle.due_model.specs.story_model.proofs as story_model_proofs

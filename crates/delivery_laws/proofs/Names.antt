@@ -30,11 +30,11 @@ use Rattle.due_model.specs.cdb_codec.proofs as cdb_codec_proofs
 pub use cdb_codec_proofs.Senses.{sense_reads_back}
 use Rattle.due_model.specs.cdb_codec.specs as cdb_codec
 pub use cdb_codec.{Cdb.{are_zero, command_of, has_group_len, sized_of, spare_room}, Operations.{operation_of}}
-pub use cdb_codec.{Replies.{FitsSense, sense_data}, declared.{Sense.{Sense}, command.CdbFault.{CdbFault}}}
-pub use cdb_codec.declared.{command.Command.{Command}, operation.{Operation.{Operation}, TheConstants.{INQUIRY}}}
-pub use cdb_codec.declared.{operation.TheConstants.{REQUEST_SENSE}, sense.TheConstants.{ABORTED_COMMAND}}
+pub use cdb_codec.{Replies.{FitsSense, sense_data}, TapeCdb.{tape_command_of}, declared.Sense.{Sense}}
+pub use cdb_codec.declared.{command.{CdbFault.{CdbFault}, Command.{Command}}, operation.Operation.{Operation}}
+pub use cdb_codec.declared.{operation.TheConstants.{INQUIRY, REQUEST_SENSE}, sense.TheConstants.{ABORTED_COMMAND}}
 pub use cdb_codec.declared.{sense.TheConstants.{INITIATOR_DETECTED_ERROR}, status.TheConstants.{CHECK_CONDITION, GOOD}}
-pub use cdb_codec.declared.status.TheConstants.{QUEUE_FULL}
+pub use cdb_codec.declared.{status.TheConstants.{QUEUE_FULL}, tape_command.TapeCommand.{TapeCommand}}
 use Rattle.due_model.specs.msg_grammar.specs as msg_grammar
 unfoldable pub use msg_grammar.Messages.{form_in, form_out}
 use Rattle.due_model.specs.bus_phases.specs as bus_phases
@@ -48,16 +48,17 @@ pub use scenario_proofs.Steps.{bind_ok, guard_ok, ok_is}
 use Rattle.due_model.specs.scenario.specs as scenario
 pub use scenario.Forms.{Said, abort_line, cmd_line, end_line, fault_line, fill_line, initiator_line, load_line}
 pub use scenario.{Forms.{reset_line, scsi_line, tape_line, target_line, unit_line}, Lookups.{has_device, has_host}}
-pub use scenario.{Lookups.{has_target, unit_of}, Reading.{Progress, abort_def, fault_def, fill_def, fits_version}}
-pub use scenario.Reading.{full_cmd_def, guard, has_abort_room, host_def, in_8, in_order, kind_of, load_def, nothing}
-pub use scenario.{Reading.{rank, tape_def, target_def, time_in, unit_def}, Value.{ScenarioValue}, Writing.{Obeys}}
-pub use scenario.{Writing.{built, saids}, declared.value.{AbortDef.{AbortDef}, CmdDef.{CmdDef}, HostDef.{HostDef}}}
-pub use scenario.declared.value.{ResetDef.{ResetDef}, TargetDef.{TargetDef}, UnitDef.{UnitDef}}
+pub use scenario.{Lookups.{has_target, is_tape, unit_of, units_of}, Reading.{Progress, abort_def, fault_def, fill_def}}
+pub use scenario.Reading.{fits_version, full_cmd_def, guard, has_abort_room, host_def, in_8, in_order, kind_of}
+pub use scenario.{Reading.{load_def, nothing, rank, tape_def, target_def, time_in, unit_def}, Value.{ScenarioValue}}
+pub use scenario.{Writing.{Obeys, built, saids}, declared.value.{AbortDef.{AbortDef}, CmdDef.{CmdDef}}}
+pub use scenario.declared.value.{HostDef.{HostDef}, ResetDef.{ResetDef}, TargetDef.{TargetDef}, UnitDef.{UnitDef}}
 unfoldable pub use scenario.{Needs.{need_of, sent_of}, Reading.{added, reset_def, said_after}}
 use Rattle.due_model.specs.array_model.proofs as array_model_proofs
 pub use array_model_proofs.ArrayReplies.{abort_lists, end_lists, fail_lists, loss_lists, reset_lists, took}
-pub use array_model_proofs.Executed.{Passes, absent_executed, carried_executed, faulty_executed, outside_executed}
-pub use array_model_proofs.{Executed.{sense_of_fault}, ExecutionFacts.{command_good, sense_fetched, status_known}}
+pub use array_model_proofs.Executed.{Passes, absent_executed, carried_executed, faulty_executed, on_tape}
+pub use array_model_proofs.Executed.{outside_executed, sense_of_fault, tape_executed, tape_faulty_executed}
+pub use array_model_proofs.ExecutionFacts.{command_good, sense_fetched, status_known}
 pub use array_model_proofs.OperationCodes.{inquiry_command, is_inquiry_or_faulty, sense_opcode}
 pub use array_model_proofs.{SeatLookups.{same_nexus_is, sense_put_at, senses_without_at}, SeatReplies.{id_turned}}
 pub use array_model_proofs.SoundArrays.{history_sound}
@@ -67,11 +68,12 @@ pub use array_model.Execution.{Reply, aborted_reply, check_condition, commands_c
 pub use array_model.Execution.{is_opcode, is_request_sense, needs_unit, queue_full, range_of, returned_sense, sense_of}
 pub use array_model.{Execution.{unit_not_supported}, Order.{choice, same_number, without_process}, Processes.{Process}}
 pub use array_model.Processes.{command_at, process_by, process_if, process_of, same_bool, same_id, sense_block}
-pub use array_model.{Seats.{is_initiator}, SoundArray.{HasSeats, IsSound}, Steps.{accept_step, accept_step_at}}
-pub use array_model.Steps.{event_step, process_count, queue_step, running_process, settled_array_if, with_guest}
-pub use array_model.Units.{Array, Nexus, RunningProcess, UnitState, guest_at, has_no_current, is_held, nexus_of}
-pub use array_model.Units.{nexuses_without, same_nexus, sense_of_nexus, senses_without, settled_array, starting_array}
-pub use array_model.Units.{starting_units, unit_after_choice, unit_state_at, with_current, with_unit, without_reply}
+pub use array_model.{Reels.{Reel}, Seats.{is_initiator}, SoundArray.{HasSeats, IsSound}, Steps.{accept_step}}
+pub use array_model.Steps.{accept_step_at, event_step, process_count, queue_step, running_process, settled_array_if}
+pub use array_model.{Steps.{with_guest}, Units.{Array, Nexus, RunningProcess, UnitState, guest_at, has_no_current}}
+pub use array_model.Units.{is_held, nexus_of, nexuses_without, same_nexus, sense_of_nexus, senses_without}
+pub use array_model.Units.{settled_array, starting_array, starting_units, unit_after_choice, unit_state_at}
+pub use array_model.Units.{with_current, with_unit, without_reply}
 use Rattle.due_model.specs.story_model.proofs as story_model_proofs
 pub use story_model_proofs.{CarriedLists.{carried_id}, StorySteps.{ends_checks, events_aims, restored_aims, sent_aims}}
 use Rattle.due_model.specs.story_model.specs as story_model
@@ -83,12 +85,12 @@ pub use story_model.Items.{Item, Sent, abort, command_id, command_item, count_it
 pub use story_model.Items.{may_send, open_from, open_limit_of, process, same_item, sense_id, sense_item}
 pub use story_model.{Links.{LastMessage, Link, abortive, complete, disconnect, link_of, plain}, Outcomes.{Outcome}}
 pub use story_model.Outcomes.{ended_aborted, ended_check, ended_full, ended_good, ended_lost, ended_reset}
-pub use story_model.Outcomes.{ended_unanswered, ending_of, fits_unit, has_end, is_end_of, is_roomy, is_sound_command}
-pub use story_model.Outcomes.{is_valid, most_open, outcome_by_status, outcome_if, outcome_of, outcomes, outcomes_from}
-pub use story_model.{Outcomes.{reply_bytes, reply_bytes_if, sense_in, sense_of_end}, Samples.{host_latency, latency_of}}
-pub use story_model.{Samples.{target_latency}, Story.{Ending, Story, by_abort, by_loss, by_reset, by_status}}
-pub use story_model.Story.{is_aborted, is_sense_stopped, story_after_event, story_after_events, story_with_end}
-pub use story_model.Story.{story_with_end_if, story_with_ends, story_with_over, unanswered, with_check}
+pub use story_model.Outcomes.{ended_unanswered, ending_of, fits_unit, has_end, is_end_of, is_plain_at_tape, is_roomy}
+pub use story_model.Outcomes.{is_sound_command, is_valid, most_open, outcome_by_status, outcome_if, outcome_of}
+pub use story_model.Outcomes.{outcomes, outcomes_from, reply_bytes, reply_bytes_if, sense_in, sense_of_end}
+pub use story_model.{Samples.{host_latency, latency_of, target_latency}, Story.{Ending, Story, by_abort, by_loss}}
+pub use story_model.Story.{by_reset, by_status, is_aborted, is_sense_stopped, story_after_event, story_after_events}
+pub use story_model.Story.{story_with_end, story_with_end_if, story_with_ends, story_with_over, unanswered, with_check}
 pub use story_model.TraceHistory.{aim_of, is_arbitration_entry, retries_of, row_events, story, story_after_calling}
 pub use story_model.TraceHistory.{story_after_calling_by, story_after_connection, story_by_change, story_on_bus}
 pub use story_model.TraceHistory.{story_on_free_bus, story_with_aim, story_with_restored, story_with_sent}
@@ -132,9 +134,9 @@ pub use scsi_device_proofs.LineReads.{reset_by}
 use Rattle.progress_laws.specs.scsi_device.specs as scsi_device
 pub use scsi_device.{Lines.{FitsBus, IsHostLine, IsTargetLine}, Writes.{writers}}
 use Rattle.progress_laws.specs.target_units.proofs as target_units_proofs
-pub use target_units_proofs.Rooms.{lines_always, unit_of_line}
+pub use target_units_proofs.Rooms.{kinds_always, lines_always, none_tape}
 use Rattle.progress_laws.specs.target_units.specs as target_units
-pub use target_units.Rooms.{AreOfLines, IsOfLine}
+pub use target_units.Rooms.{AreOfKinds, AreOfLines, IsOfKind, IsOfLine}
 use Rattle.target_course.proofs as target_course_proofs
 pub use target_course_proofs.ServedEnds.{ends_are}
 use Rattle.progress_laws.specs.book_laws.proofs as book_laws_proofs
@@ -166,7 +168,7 @@ pub use link_laws.{Books.{KeepsBooksIn}, LinkStages.{AnyStage, linked}}
 use Rattle.progress_laws.specs.row_laws.proofs as row_laws_proofs
 pub use row_laws_proofs.Bytes.{Arrays.{HasByteCode, SendsBytes, StoredFit, stored_fit}, Codes.{row_codes}}
 pub use row_laws_proofs.{Bytes.Facts.{Keeps, KeepsIf, keeps, keeps_events, sends_bytes}, Common.Impossible.{none_some}}
-pub use row_laws_proofs.Common.{PhaseLines.{command_phase}, PlanWays.{plan_left}, Tests.{plus_one}}
+pub use row_laws_proofs.Common.{PhaseLines.{command_phase}, PlanWays.{plan_left}, Tests.{by_bool, by_option, plus_one}}
 pub use row_laws_proofs.Events.{Arriving.{no_guest, not_running}, Others.{executed, reply_at}, Replies.{accepted}}
 pub use row_laws_proofs.Events.{Replies.{refused, running_id, settles}, Units.{MayWait, StaysSo, each_settled}}
 pub use row_laws_proofs.Events.{Units.{events_all, unit_has}, Writers.{append_all, kept_all, without_all}}
@@ -193,12 +195,11 @@ pub use trace_laws.Statuses.{IsStatusIn, IsStatusOf}
 use Rattle.progress_laws.proofs as progress_laws_proofs
 pub use progress_laws_proofs.{Callees.First.{WantsAreItems}, Debts.Events.{AllPay, Paid, events_pay}}
 pub use progress_laws_proofs.Debts.{Facts.{Indebted, indebted, row_pays}, Next.{sense_is, senses_same}}
-pub use progress_laws_proofs.Debts.{Senses.{sense_cdb}, Steps.{debt_before, is_checked, is_not_over, same_debt}}
-pub use progress_laws_proofs.{Debts.Steps.{same_debts}, Outcomes.Answered.{AreUnwanted, sense_wanted}}
-pub use progress_laws_proofs.{Outcomes.Seats.{target_there}, Owed.Events.{OfCommand, of_command, running_own}}
-pub use progress_laws_proofs.{Owed.{Rows.{Holds, changed}, Steps.{nexus_at}}, Queues.Rows.{WasOpen, before, fewer_open}}
-pub use progress_laws_proofs.{Queues.Rows.{open_before}, Quiet.Facts.{Joined, free_when_ended, joined}}
-pub use progress_laws_proofs.Quiet.Facts.{unwanted_when_ended}
+pub use progress_laws_proofs.Debts.{Senses.{sense_cdb}, Steps.{debt_before, is_not_over, same_debt, same_debts}}
+pub use progress_laws_proofs.Outcomes.{Answered.{AreUnwanted, sense_wanted}, Seats.{target_there}}
+pub use progress_laws_proofs.Owed.{Events.{OfCommand, of_command, running_own}, Rows.{Holds, changed}, Steps.{nexus_at}}
+pub use progress_laws_proofs.{Queues.Rows.{WasOpen, before, fewer_open, open_before}, Quiet.Facts.{Joined}}
+pub use progress_laws_proofs.Quiet.Facts.{free_when_ended, joined, unwanted_when_ended}
 use Rattle.progress_laws.specs as progress_laws
 pub use progress_laws.Debts.{Debts, IsDebt, PaysWell, is_owed, nexus_of_command}
 use Rattle.right_laws.proofs as right_laws_proofs
@@ -219,12 +220,13 @@ pub use initiator.Causes.{is_bus_reset, is_command_abort, is_loss_of, is_sense_a
 use Rattle.delivery_laws.specs as delivery_laws
 pub use delivery_laws.Delivery.{HasRun, IsDelivered, IsGiven, IsOwnSense, RanSo, calling_faults, checked_sense}
 pub use delivery_laws.Delivery.{command_faults, failed, fault_limit, fault_sense, is_call_for, is_calling_fault}
-pub use delivery_laws.Delivery.{is_calm_event, is_for_item, is_given_up_by, is_selecting, limit_with, ran}
-pub use delivery_laws.Endings.{HasReplyOf, arrive_by_room, arrives_by_room, calls_in_vain, ending_outcome_if}
-pub use delivery_laws.Endings.{event_ending, events_ending, first_ending, first_of, first_outcome, is_by_status}
-pub use delivery_laws.Endings.{is_end_in_vain, is_full, is_sense_stop, is_tried_out, is_unanswered, is_unheard}
-pub use delivery_laws.Endings.{is_unheard_call, own_sense_of, sense_if, status_outcome, was_sense_stopped, was_sent}
-pub use delivery_laws.{Openings.{opening_since, opening_with, plan_at}, Recoveries.{IsLeaving, free_unless}}
-pub use delivery_laws.Recoveries.{is_named_again, is_tried_again, phase_after, phase_after_wrong, status_unless}
-pub use delivery_laws.Resets.{are_lines, are_releases, began_reset, begins_reset, ends_reset, has_line, has_reset}
-pub use delivery_laws.Resets.{is_line_of, is_release, is_reset_over, is_reset_row}
+pub use delivery_laws.Delivery.{is_calm_event, is_checked, is_for_item, is_given_up_by, is_selecting, is_tape_fault}
+pub use delivery_laws.{Delivery.{limit_with, ran, tape_fault_sense}, Endings.{HasReplyOf, arrive_by_room}}
+pub use delivery_laws.Endings.{arrives_by_room, calls_in_vain, ending_outcome_if, event_ending, events_ending}
+pub use delivery_laws.Endings.{first_ending, first_of, first_outcome, is_by_status, is_end_in_vain, is_full}
+pub use delivery_laws.Endings.{is_sense_stop, is_tried_out, is_unanswered, is_unheard, is_unheard_call, own_sense_of}
+pub use delivery_laws.{Endings.{sense_if, status_outcome, was_sense_stopped, was_sent}, Openings.{opening_since}}
+pub use delivery_laws.{Openings.{opening_with, plan_at}, Recoveries.{IsLeaving, free_unless, is_named_again}}
+pub use delivery_laws.{Recoveries.{is_tried_again, phase_after, phase_after_wrong, status_unless}, Resets.{are_lines}}
+pub use delivery_laws.Resets.{are_releases, began_reset, begins_reset, ends_reset, has_line, has_reset, is_line_of}
+pub use delivery_laws.Resets.{is_release, is_reset_over, is_reset_row}

@@ -14,9 +14,9 @@ use proofs.Names.{field_in_a_command_due, field_in_a_command_due_rows, lost_due,
 use proofs.Names.{offset_255_due_rows, tag_aborted_due, tag_aborted_due_rows, pulsed_read_struck_due}
 use proofs.Names.{pulsed_read_struck_due_rows, pulsed_write_struck_due, pulsed_write_struck_due_rows, status_struck_due}
 use proofs.Names.{status_struck_due_rows, struck_names_due, struck_names_due_rows, onto, target_def_of, run_state}
-use proofs.Names.{task_of, has_event, is_struck_phase, is_wrong_phase, arrive_by_room, was_sense_stopped, opening_since}
-use proofs.{Names.{plan_at, is_tried_again, phase_after, phase_after_wrong}, LimitCases.{absent_target_limit}}
-use proofs.LimitCases.{data_out_twice_limit, data_out_twice_limit_rows, disconnect_twice_limit}
+use proofs.Names.{task_of, has_event, is_struck_phase, is_wrong_phase, is_checked, arrive_by_room, was_sense_stopped}
+use proofs.Names.{opening_since, plan_at, is_tried_again, phase_after, phase_after_wrong}
+use proofs.LimitCases.{absent_target_limit, data_out_twice_limit, data_out_twice_limit_rows, disconnect_twice_limit}
 use proofs.{LimitCases.{disconnect_twice_limit_rows}, Limits.{has_no_abort, has_no_reset}}
 use lib.Count.{ones}
 
@@ -113,7 +113,7 @@ is_calm s = has_no_reset s.resets && has_no_abort s.aborts
 
 abbrev is_wrong_if : ScenarioValue → Option CmdDef → Bool
 is_wrong_if s None = false
-is_wrong_if s (Some c) = is_roomy s && (has_target s c.target && not (is_valid s c))
+is_wrong_if s (Some c) = is_roomy s && (has_target s c.target && is_checked s c)
 
 abbrev is_away_if : ScenarioValue → Option CmdDef → Bool
 is_away_if s None = false

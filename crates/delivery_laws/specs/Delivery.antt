@@ -16,11 +16,14 @@ use Rattle.due_model.specs.scenario.specs.Writing.{Obeys}
 use Rattle.due_model.specs.array_model.specs.ArrayHistory.{array_after, reply_of}
 use Rattle.due_model.specs.array_model.specs.Execution.{Reply, aborted_reply, block_out_of_range, execution}
 use Rattle.due_model.specs.array_model.specs.Execution.{invalid_field}
-use Rattle.due_model.specs.array_model.specs.Execution.{invalid_opcode, needs_unit, queue_full, unit_not_supported}
+use Rattle.due_model.specs.array_model.specs.Execution.{invalid_opcode, needs_unit, no_sense, queue_full}
+use Rattle.due_model.specs.array_model.specs.Execution.{unit_not_supported}
 use Rattle.due_model.specs.array_model.specs.Processes.{Process, command_at, process_of, same_id}
 use Rattle.due_model.specs.array_model.specs.Steps.{context_at}
 use Rattle.due_model.specs.array_model.specs.Units.{Array, nexus_of, unit_state_at}
 use Rattle.due_model.specs.cdb_codec.specs.Cdb.{command_of}
+use Rattle.due_model.specs.cdb_codec.specs.TapeCdb.{tape_command_of}
+use Rattle.due_model.specs.cdb_codec.specs.declared.tape_command.TapeCommand.{TapeCommand}
 use Rattle.due_model.specs.cdb_codec.specs.declared.command.CdbFault.{CdbFault}
 use Rattle.due_model.specs.cdb_codec.specs.declared.command.CdbFault.TheVariants as faults
 use Rattle.due_model.specs.cdb_codec.specs.declared.command.Command.{Command}
@@ -29,7 +32,8 @@ use Rattle.due_model.specs.cdb_codec.specs.declared.sense.TheConstants.{ABORTED_
 use Rattle.due_model.specs.cdb_codec.specs.declared.status.TheConstants.{CHECK_CONDITION}
 use Rattle.due_model.specs.story_model.specs.Items.{Item, same_item, command_id, command_item}
 use Rattle.due_model.specs.story_model.specs.Outcomes.{ending_of, ended_aborted, ended_check, ended_full, ended_lost}
-use Rattle.due_model.specs.story_model.specs.Outcomes.{ended_reset, ended_unanswered, is_valid, is_roomy, outcome_of}
+use Rattle.due_model.specs.story_model.specs.Outcomes.{ended_reset, ended_unanswered, is_sound_command, is_valid}
+use Rattle.due_model.specs.story_model.specs.Outcomes.{is_roomy, outcome_of}
 use Rattle.due_model.specs.story_model.specs.Story.{by_status}
 use Rattle.due_model.specs.story_model.specs.TraceHistory.{aim_of, retries_of, story, trace_history}
 use Rattle.due_model.specs.dialogue_model.specs.PhaseBytes.{one_if}
@@ -42,7 +46,7 @@ use Rattle.progress_laws.specs.book_laws.specs.FullQueues.{has_event, was_refuse
 use Rattle.progress_laws.specs.book_laws.specs.Strikes.{has_strike}
 use Rattle.progress_laws.specs.book_laws.specs.WrongParity.{fault_rows}
 use Rattle.initiator.specs.Causes.{has_bus_reset, has_command_abort, has_sense_stop}
-use Rattle.due_model.specs.scenario.specs.Lookups.{has_target, unit_of}
+use Rattle.due_model.specs.scenario.specs.Lookups.{has_target, is_tape, unit_of}
 
 -- ---- the faults of a command
 
@@ -189,7 +193,7 @@ pub record AreOwnSenses (s : ScenarioValue) (rows : List Row) : Type 0 where
   pub ran : (m : ℕ) (sense : Sense) → outcome_of s (story s rows) m ≡ Some (ended_check (Some sense))
       → (sense.key == ABORTED_COMMAND) ≡ false → RanSo s (trace_history s rows) m sense
 
--- ---- what a command that is not valid answers
+-- ---- what a command answers with which something is wrong
 
 abbrev pub fault_sense : Result Command CdbFault → Sense
 fault_sense (Err faults.Opcode) = invalid_opcode
@@ -197,21 +201,40 @@ fault_sense (Err faults.Length) = invalid_field
 fault_sense (Err faults.Field) = invalid_field
 fault_sense (Ok command) = block_out_of_range
 
--- The sense of what is wrong with it first: its unit is absent, or its operation code or a field is none, or it goes
--- past the last block.
+-- Of a tape's reading of the block. One without fault has none.
+abbrev pub tape_fault_sense : Result TapeCommand CdbFault → Sense
+tape_fault_sense (Err faults.Opcode) = invalid_opcode
+tape_fault_sense (Err faults.Length) = invalid_field
+tape_fault_sense (Err faults.Field) = invalid_field
+tape_fault_sense (Ok command) = no_sense
+
+abbrev pub is_tape_fault : Result TapeCommand CdbFault → Bool
+is_tape_fault (Ok command) = false
+is_tape_fault (Err fault) = true
+
+-- Something is wrong with it wherever it stands: at a disk or an absent unit it is not valid, and at a tape its block
+-- has a fault.
+abbrev pub is_checked : ScenarioValue → CmdDef → Bool
+is_checked s c =
+    if is_tape s c.target c.unit then is_tape_fault (tape_command_of c.cdb)
+    else not (is_sound_command s c (command_of c.cdb))
+
+-- The sense of what is wrong with it first: its unit is absent, or its operation code or a field is none, or at a disk
+-- it goes past the last block.
 abbrev pub checked_sense : ScenarioValue → CmdDef → Sense
 checked_sense s c =
     if not (is_some (unit_of s c.target c.unit)) && needs_unit c.cdb then unit_not_supported
+    else if is_tape s c.target c.unit then tape_fault_sense (tape_command_of c.cdb)
     else fault_sense (command_of c.cdb)
 
 -- Of a trace that has ended, in a scenario without resets and aborts: a command whose target is absent ends unanswered;
--- and where queues have room, one that is not valid ends with CHECK CONDITION and this sense, if no more faults struck
--- it than it bears.
+-- and where queues have room, one with which something is wrong ends with CHECK CONDITION and this sense, if no more
+-- faults struck it than it bears.
 pub record AreChecked (s : ScenarioValue) (rows : List Row) : Type 0 where
   pub unheard : (m : ℕ) (c : CmdDef) → command_at s.commands m ≡ Some c → has_target s c.target ≡ false
       → outcome_of s (story s rows) m ≡ Some ended_unanswered
   pub checked : (m : ℕ) (c : CmdDef) → is_roomy s ≡ true → command_at s.commands m ≡ Some c
-      → has_target s c.target ≡ true → is_valid s c ≡ false → nat_le (command_faults s rows m) (fault_limit s c) ≡ true
+      → has_target s c.target ≡ true → is_checked s c ≡ true → nat_le (command_faults s rows m) (fault_limit s c) ≡ true
       → outcome_of s (story s rows) m ≡ Some (ended_check (Some (checked_sense s c)))
 
 -- ---- how a command ends that ran with CHECK CONDITION

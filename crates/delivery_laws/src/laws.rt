@@ -1,6 +1,6 @@
 // Laws of prompt traces, each named by the contract of a function that does nothing.
 
-ghost use Rattle.std.specs.Prelude.{ℕ, ◌≡◌, ◌≤◌, ◌⊎◌, length, nat_le, nat_lt, true, false, List, [], Some};
+ghost use Rattle.std.specs.Prelude.{ℕ, ◌≡◌, ◌≤◌, ◌⊎◌, length, nat_le, nat_lt, not, true, false, List, [], Some};
 ghost use Rattle.due_model.specs.bus_trace.specs.declared.Row.{Row};
 ghost use Rattle.due_model.specs.bus_base.specs.declared.Event.TheVariants as events;
 ghost use Rattle.due_model.specs.Goals.{EndsRight, is_good};
@@ -22,12 +22,12 @@ ghost use Rattle.due_model.specs.story_model.specs.Items.{command_id, command_it
 ghost use Rattle.due_model.specs.story_model.specs.Outcomes.{ending_of, is_roomy, is_valid, outcome_of};
 ghost use Rattle.due_model.specs.story_model.specs.Story.{unanswered};
 ghost use Rattle.due_model.specs.story_model.specs.TraceHistory.{retries_of, story, trace_history};
-ghost use Rattle.due_model.specs.scenario.specs.Lookups.{has_target};
+ghost use Rattle.due_model.specs.scenario.specs.Lookups.{has_target, is_tape};
 ghost use Rattle.delivery_laws.specs.Endings.{AreExact, arrive_by_room};
 ghost use Rattle.delivery_laws.specs.Openings.{AreAnsweredOffers, AreOfferReplies, AreOpenings};
 ghost use Rattle.delivery_laws.specs.Recoveries.{AreRecoveries};
 ghost use Rattle.delivery_laws.specs.Delivery.{AreAnswered, AreCaused, AreChecked, AreOwnSenses, AreStoppedSenses, Delivers, HasRun, IsGiven};
-ghost use Rattle.delivery_laws.specs.Delivery.{calling_faults, command_faults, fault_limit, is_calm_event, is_given_up_by};
+ghost use Rattle.delivery_laws.specs.Delivery.{calling_faults, command_faults, fault_limit, is_calm_event, is_checked, is_given_up_by};
 ghost use Rattle.delivery_laws.specs.Resets.{are_lines, are_releases, has_line};
 ghost use Rattle.due_model.specs.scenario.specs.declared.value.ResetDef.{ResetDef};
 ghost use Rattle.std.specs.List.{list_all};
@@ -157,10 +157,18 @@ pub fn senses_are_their_own()
     replies_have_causes();
 }
 
+/// At a disk, and where there is no unit, something is wrong with just the commands that are not valid.
+pub fn disks_check_what_is_not_valid()
+    ensures { (s : ScenarioValue) (c : CmdDef) → is_tape s c.target c.unit ≡ false → has_target s c.target ≡ true
+        → is_checked s c ≡ not (is_valid s c) }
+{}
+
 /// In a scenario without resets and aborts, at the end of a prompt trace: a command whose target is absent ended
-/// unanswered; and where each queue has room for all commands that the initiators may have open at once, one that is
-/// not valid, and that no more faults struck than it bears, ended with CHECK CONDITION and the sense of what is wrong
-/// with it first.
+/// unanswered; and where each queue has room for all commands that the initiators may have open at once, one with which
+/// something is wrong, and that no more faults struck than it bears, ended with CHECK CONDITION and the sense of what
+/// is wrong with it first. At a disk or an absent unit that is each that is not valid
+/// (`disks_check_what_is_not_valid`), and at a tape each whose block has a fault: any other may end GOOD there, by what
+/// stands on the tape.
 pub fn invalid_commands_are_checked()
     ensures { (s : ScenarioValue) (rows : List Row) → Obeys s → s.resets ≡ [] → s.aborts ≡ [] → IsPrompt s rows
         → IsEnded s rows → AreChecked s rows }

@@ -7,12 +7,12 @@
 mod laws;
 
 pub use laws::{
-    arrivals_are_by_room, calm_scenarios_have_calm_histories, ended_traces_are_right,
-    invalid_commands_are_checked, open_commands_are_within_limits, openings_are_said,
-    outcomes_are_exact, outcomes_have_causes, recoveries_are_due, replies_are_given, replies_last,
-    resets_are_by_lines, roomy_scenarios_refuse_nothing, senseless_checks_were_stopped,
-    senses_are_their_own, unanswered_commands_were_struck, unrefused_commands_are_delivered,
-    valid_commands_are_delivered, valid_commands_run_good,
+    arrivals_are_by_room, calm_scenarios_have_calm_histories, disks_check_what_is_not_valid,
+    ended_traces_are_right, invalid_commands_are_checked, open_commands_are_within_limits,
+    openings_are_said, outcomes_are_exact, outcomes_have_causes, recoveries_are_due,
+    replies_are_given, replies_last, resets_are_by_lines, roomy_scenarios_refuse_nothing,
+    senseless_checks_were_stopped, senses_are_their_own, unanswered_commands_were_struck,
+    unrefused_commands_are_delivered, valid_commands_are_delivered, valid_commands_run_good,
 };
 
 // Handed on to the crates above that list this one and not these.

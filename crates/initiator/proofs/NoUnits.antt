@@ -14,6 +14,7 @@ use Rattle.cdb_codec.specs.declared.status.TheConstants.{GOOD, CHECK_CONDITION}
 use Rattle.cdb_codec.specs.declared.sense.TheConstants.{ABORTED_COMMAND}
 use Rattle.cdb_codec.specs.Cdb.{command_of}
 use Rattle.scenario.specs.declared.value.UnitDef.{UnitDef}
+use Rattle.scenario.specs.Lookups.{units_of}
 use Rattle.scenario.specs.Value.{ScenarioValue}
 use Rattle.due_model.specs.array_model.specs.Processes.{Process, process_of}
 use Rattle.due_model.specs.array_model.specs.Contents.{Contents}
@@ -268,7 +269,8 @@ history_targets s a (event ∷ shown) dev h =
 
 run_targets_are : (s : ScenarioValue) (rows : List Row) (dev : ℕ) → HasNoUnit s dev
     → has_unit_state_if (run_state s rows).array dev ≡ false
-run_targets_are s [] dev h = choice_targets [] (starting_units s s.units) dev ∙ starting_targets s s.units dev ∙ h
+run_targets_are s [] dev h =
+    choice_targets [] (starting_units s (units_of s)) dev ∙ starting_targets s (units_of s) dev ∙ h
 run_targets_are s (row ∷ rows) dev h =
     let k : RunState = run_state s rows in
     history_targets s k.array (row_events_by s k.story (row_reading k.story.bus_state row) row) dev
@@ -276,7 +278,7 @@ run_targets_are s (row ∷ rows) dev h =
 
 array_targets : (s : ScenarioValue) (a : Option Array) (dev : ℕ) → HasNoUnit s dev → has_unit_state_if a dev ≡ false
     → has_unit_state (or_start s a).units dev ≡ false
-array_targets s None dev n h = starting_targets s s.units dev ∙ n
+array_targets s None dev n h = starting_targets s (units_of s) dev ∙ n
 array_targets s (Some a) dev n h = h
 
 -- ---- so no process is ready there

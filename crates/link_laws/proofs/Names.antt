@@ -9,12 +9,12 @@ pub use std_proofs.lemmas.{Bool.Decides.{nat_tests}, List.{length-append, length
 pub use std_proofs.lemmas.Option.{none-some, same_Some}
 use Rattle.std.specs as std
 pub use std.{Int.{Bits.{or_self, or_zero_r}, RustNames.{bit_or}}, List.{AllByRecursion}, Prelude.{if◌then◌else◌}}
-pub use std.Prelude.{is_none, is_some, max, min, nat_le, nat_lt, slice_index_or}
+pub use std.Prelude.{is_some, map, max, min, nat_le, nat_lt, slice_index_or}
 use Rattle.due_model.specs.bus_base.proofs as bus_base_proofs
 pub use bus_base_proofs.Tests.{and_false, eq_self, implication_parts, implied, next_some, none_number, or_false}
 pub use bus_base_proofs.Tests.{or_true, wrong', zero_of}
 use Rattle.due_model.specs.bus_base.specs as bus_base
-pub use bus_base.{Faults.{counted_on}, declared.{AbortKind.{AbortKind}, Event.{Event}, ProcId.{ProcId}}}
+pub use bus_base.{Faults.{counted_on}, declared.Event.{Event}}
 use Rattle.due_model.specs.bus_trace.proofs as bus_trace_proofs
 pub use bus_trace_proofs.{Ages.{since_le}, Buses.{bus_none, bus_two}, OneRow.{drives-fault}, Sets.{same_self}}
 use Rattle.due_model.specs.bus_trace.specs as bus_trace
@@ -36,9 +36,9 @@ pub use bus_lines.Handshakes.{handshakes_after, is_struck, newest_struck, newest
 pub use bus_lines.{Handshakes.{or_now, or_zero, room_by, time_of, with_last_struck}, Stage.{stage}}
 pub use bus_lines.declared.{handshakes.Request.{Request}, stage.Stage.TheVariants.{InConnection, OnFreeBus}}
 use Rattle.due_model.specs.cdb_codec.specs as cdb_codec
-pub use cdb_codec.{Blocks.{blocks_moved}, Cdb.{command_of}, Replies.{capacity_data, inquiry_data, sense_data}}
-pub use cdb_codec.declared.{Sense.{Sense}, command.Command.{Command}, replies.TheConstants.{INQUIRY_LEN, SENSE_LEN}}
-pub use cdb_codec.declared.{sense.TheConstants.{ABORTED_COMMAND}, status.TheConstants.{CHECK_CONDITION, GOOD}}
+pub use cdb_codec.{Blocks.{blocks_moved}, Replies.{capacity_data, inquiry_data, sense_data}, declared.Sense.{Sense}}
+pub use cdb_codec.declared.{command.Command.{Command}, replies.TheConstants.{INQUIRY_LEN, SENSE_LEN}}
+pub use cdb_codec.declared.{status.TheConstants.{GOOD}, tape_command.TapeCommand.{TapeCommand}}
 use Rattle.due_model.specs.msg_grammar.specs as msg_grammar
 pub use msg_grammar.declared.message.MsgIn.{MsgIn}
 use Rattle.due_model.specs.bus_phases.specs as bus_phases
@@ -57,19 +57,21 @@ pub use bus_rules.{Seen.{initiator_data, initiator_of, others_in_call, seen, tar
 pub use bus_rules.{Transfer.{is_after}, declared.seen.Seen.{Seen}}
 unfoldable pub use bus_rules.Seen.{seen_with}
 use Rattle.due_model.specs.scenario.specs as scenario
-pub use scenario.{Lookups.{unit_of}, Reasons.{is_block_in}, Value.{ScenarioValue}, declared.value.FillDef.{FillDef}}
-pub use scenario.declared.value.{HostDef.{HostDef}, Policy.{Policy}, TargetDef.{TargetDef}, UnitDef.{UnitDef}}
+pub use scenario.{Lookups.{tape_unit, unit_of}, Reasons.{is_block_in}, Value.{ScenarioValue}}
+pub use scenario.declared.value.{FillDef.{FillDef}, Policy.{Policy}, TapeDef.{TapeDef}, TargetDef.{TargetDef}}
+pub use scenario.declared.value.UnitDef.{UnitDef}
 use Rattle.due_model.specs.array_model.proofs as array_model_proofs
-pub use array_model_proofs.Executed.{of_all}
+pub use array_model_proofs.{Executed.{of_all, on_tape}, ExecutionFacts.{IsShortReel, tape_short}}
+pub use array_model_proofs.{TapeObjects.{AreShort}, UnitContents.{AreAt, AreAtIf, IsAtIf, IsKept, settles, step_keeps}}
+pub use array_model_proofs.UnitContents.{unit_found}
 use Rattle.due_model.specs.array_model.specs as array_model
-pub use array_model.Contents.{Contents, blank_contents, block_at, bytes_at, filled_contents, no_contents, touched_block}
-pub use array_model.{Contents.{touched_with, with_block, with_bytes, zero_block}, Execution.{CommandContext, Execution}}
-pub use array_model.Execution.{Reply, check_condition, command_execution, commands_cleared, execution, good}
-pub use array_model.Execution.{is_good_range, is_request_sense, queue_full, range_of, reply_execution, returned_sense}
-pub use array_model.{Execution.{sense_of, write_execution}, Order.{choice}, Processes.{Process, process_of}}
-pub use array_model.Units.{Array, Nexus, RunningProcess, UnitState, guest_at, has_no_current, is_held, nexus_of}
-pub use array_model.Units.{nexuses_without, sense_of_nexus, senses_without, settled_array, starting_array}
-pub use array_model.Units.{starting_units, unit_state_at, units_after_choice, with_current, with_unit}
+pub use array_model.Contents.{Contents, blank_contents, block_at, bytes_at, filled_contents, loaded_contents}
+pub use array_model.Contents.{loaded_objects, no_contents, starting_contents, touched_block, touched_with, with_block}
+pub use array_model.{Contents.{with_bytes, zero_block}, Execution.{CommandContext, Execution, Reply, check_condition}}
+pub use array_model.Execution.{command_execution, execution, good, is_good_range, range_of, reply_execution}
+pub use array_model.{Execution.{returned_sense, write_execution}, Processes.{Process}, Reels.{AreWhole, Object, Reel}}
+pub use array_model.Units.{Array, Nexus, UnitState, nexus_of, settled_array, starting_array, starting_units}
+pub use array_model.Units.{unit_state_at}
 use Rattle.due_model.specs.story_model.proofs as story_model_proofs
 pub use story_model_proofs.StorySteps.{events_link}
 use Rattle.due_model.specs.story_model.specs as story_model
@@ -112,7 +114,7 @@ pub use due_model.{Tasks.{task_with}, Wants.{want_time}, Wishes.{IsStill, Wishes
 use Rattle.bus_laws.specs.scsi_device.proofs as scsi_device_proofs
 pub use scsi_device_proofs.{FitLines.{obeys_fits, unit_fits}, SentBytes.{process_few}}
 use Rattle.bus_laws.specs.scsi_device.specs as scsi_device
-pub use scsi_device.Lines.{FitsBus, IsUnitLine}
+pub use scsi_device.Lines.{FitsBus, IsTapeLine, IsUnitLine}
 use Rattle.bus_laws.proofs as bus_laws_proofs
 pub use bus_laws_proofs.Lines.{Apart.{change_plain}, Rows.{change_is, drives_other, drives_own, fault_change}}
 pub use bus_laws_proofs.Lines.Rows.{own_time_fault, own_time_other, own_time_own, since_is, stage_is, stands_after}

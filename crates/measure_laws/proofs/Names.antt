@@ -47,20 +47,22 @@ pub use bus_phases.declared.{dialogue.Dialogue.{Dialogue}, spoken.CommandBytes.{
 use Rattle.due_model.specs.bus_rules.specs as bus_rules
 pub use bus_rules.{Order.{is_of_device}, Reset.{only_rst}, Rules.{broken_rule}}
 use Rattle.due_model.specs.scenario.proofs as scenario_proofs
-pub use scenario_proofs.{Obeying.{all_needs, each_need}, Steps.{bind_ok, guard_ok, ok_is}, TapeNeeds.{plain_need}}
+pub use scenario_proofs.{Obeying.{all_needs, each_need}, Steps.{bind_ok, guard_ok, ok_is}, TapeNeeds.{need_is}}
+pub use scenario_proofs.TapeNeeds.{plain_need}
 use Rattle.due_model.specs.scenario.specs as scenario
 pub use scenario.Forms.{Said, abort_line, cmd_line, end_line, fault_line, fill_line, initiator_line, load_line}
 pub use scenario.{Forms.{reset_line, scsi_line, tape_line, target_line, unit_line}, Lookups.{has_device, has_target}}
-pub use scenario.{Lookups.{unit_of}, Needs.{block_bytes, is_write, moved, moved_by, need_of}, Reading.{Progress}}
-pub use scenario.Reading.{abort_def, fill_def, fits_version, full_cmd_def, guard, has_abort_room, host_def, in_8}
-pub use scenario.Reading.{in_order, kind_of, load_def, nothing, rank, tape_def, target_def, time_in, unit_def, within}
-pub use scenario.{Value.{ScenarioValue}, Writing.{Obeys, built, saids}, declared.value.AbortDef.{AbortDef}}
-pub use scenario.declared.value.{CmdDef.{CmdDef}, FaultDef.{FaultDef}, HostDef.{HostDef}, Policy.{Policy}}
-pub use scenario.declared.value.{ResetDef.{ResetDef}, Tag.{Tag}, TargetDef.{TargetDef}, UnitDef.{UnitDef}}
-unfoldable pub use scenario.{Needs.{sent_of}, Reading.{added, fault_def, reset_def, said_after}}
+pub use scenario.{Lookups.{is_tape, unit_of}, Needs.{block_bytes, is_write, moved, moved_by, need_at}}
+pub use scenario.Reading.{Progress, abort_def, fill_def, fits_version, full_cmd_def, guard, has_abort_room, host_def}
+pub use scenario.Reading.{in_8, in_order, kind_of, load_def, nothing, rank, tape_def, target_def, time_in, unit_def}
+pub use scenario.{Reading.{within}, Value.{ScenarioValue}, Writing.{Obeys, built, saids}}
+pub use scenario.declared.value.{AbortDef.{AbortDef}, CmdDef.{CmdDef}, FaultDef.{FaultDef}, HostDef.{HostDef}}
+pub use scenario.declared.value.{Policy.{Policy}, ResetDef.{ResetDef}, Tag.{Tag}, TargetDef.{TargetDef}}
+pub use scenario.declared.value.UnitDef.{UnitDef}
+unfoldable pub use scenario.{Needs.{need_of, sent_of}, Reading.{added, fault_def, reset_def, said_after}}
 use Rattle.due_model.specs.array_model.proofs as array_model_proofs
-pub use array_model_proofs.{ExecutionFacts.{good_range}, NamedBlocks.{at_disk, is_disk}, SeatLookups.{none_at}}
-pub use array_model_proofs.SeatReplies.{id_self}
+pub use array_model_proofs.{ExecutionFacts.{good_range}, NamedBlocks.{at_disk, none_named, serial_is}}
+pub use array_model_proofs.{SeatLookups.{none_at}, SeatReplies.{id_self}}
 use Rattle.due_model.specs.array_model.specs as array_model
 pub use array_model.{ArrayHistory.{array_after}, Contents.{Contents}, Execution.{execution, is_good_range, range_of}}
 pub use array_model.{Order.{range_in, range_named}, Processes.{Process, command_at, command_process, process_by}}
@@ -122,9 +124,9 @@ pub use scsi_device_proofs.{FitLines.{command_fits, obeys_fits}, LineReads.{faul
 use Rattle.progress_laws.specs.scsi_device.specs as scsi_device
 pub use scsi_device.Lines.{FitsBus, IsCommandLine, IsHostLine}
 use Rattle.progress_laws.specs.target_units.proofs as target_units_proofs
-pub use target_units_proofs.Rooms.{IsByLine, by_line, unit_of_line}
+pub use target_units_proofs.Rooms.{IsByLine, by_line}
 use Rattle.progress_laws.specs.target_units.specs as target_units
-pub use target_units.Rooms.{AreOfLines, IsOfLine}
+pub use target_units.Rooms.{AreOfKinds, AreOfLines, IsOfLine}
 use Rattle.progress_laws.specs.book_laws.proofs as book_laws_proofs
 pub use book_laws_proofs.{Carried.Blocks.{follows_block}, Common.InConnection.{InConnection, in_connection, reading_is}}
 pub use book_laws_proofs.{Common.InConnection.{same_phase_is}, Items.Facts.{aims_are}, Reactions.{out_over}}
@@ -206,20 +208,21 @@ use Rattle.progress_laws.specs.trace_laws.proofs as trace_laws_proofs
 pub use trace_laws_proofs.{Closes.Ends.{EndsHere, ends_low, ends_row, lost_by, lost_in}, Places.EndTells.{EndTold}}
 pub use trace_laws_proofs.{Places.{EndTells.{end_told}, Ends.{free_shown}}, Runs.Begins.{enters_run}}
 pub use trace_laws_proofs.Runs.{Counts.{handshakes_begin, or_left}, Done.{counted_runs, done_in_data, same_runs}}
-pub use trace_laws_proofs.Runs.{Facts.{task_here}, Fits.{FitsRuns, fits_runs, lines_now, named_by}, Rows.{served_id}}
-pub use trace_laws_proofs.{Runs.Steps.{pulsed_as}, Whole.{Whole, standing_next, steps, whole}}
+pub use trace_laws_proofs.Runs.{Facts.{task_here}, Fits.{FitsRuns, disk_named, fits_runs, kinds_now, lines_now}}
+pub use trace_laws_proofs.{Runs.{Fits.{named_by, plain_contents}, Rows.{served_id}, Steps.{pulsed_as}}, Whole.{Whole}}
+pub use trace_laws_proofs.Whole.{standing_next, steps, whole}
 use Rattle.progress_laws.proofs as progress_laws_proofs
 pub use progress_laws_proofs.Debts.{Next.{ends_open, known_served}, Rows.{NoEnds, Shown, completes, no_ends, row_shown}}
 pub use progress_laws_proofs.{Outcomes.Seats.{initiator_there}, Owed.Rows.{changed}, Queues.Over.{all_over}}
 use Rattle.right_laws.proofs as right_laws_proofs
 pub use right_laws_proofs.DataIn.{Entries.{enters_read}, Facts.{ReadBooks, read_books}, Runs.{fits_reads, moved_good}}
-pub use right_laws_proofs.{DataIn.Runs.{whole_now}, Offers.Steps.{is_data_in}, Ran.Lengths.{given_few, most_given}}
-pub use right_laws_proofs.{Ran.Lengths.{need_is}, Replies.Blocks.{HasWhole}, Samples.Callings.{struck_out}}
+pub use right_laws_proofs.{DataIn.Runs.{plain_here, whole_now}, Offers.Steps.{is_data_in}, Ran.Lengths.{given_few}}
+pub use right_laws_proofs.{Ran.Lengths.{most_given}, Replies.Blocks.{HasWhole}, Samples.Callings.{struck_out}}
 pub use right_laws_proofs.Samples.{Ends.{initiator_lines, target_lines}, Moments.{apart_of}, NoFaults.{of_lines}}
 use Rattle.measure_laws.specs as measure_laws
 pub use measure_laws.Future.{abort_left, aborts_left, awaits_reset, bytes_after, bytes_over, command_left}
-pub use measure_laws.Future.{commands_left, cut_bytes, future_left, is_in_data, one_where, open_left, range_if}
-pub use measure_laws.{Future.{resets_left, sense_left, serves_item, size_if, unsent_left}, Measure.{Falls}}
+pub use measure_laws.Future.{commands_left, cut_bytes, future_left, is_in_data, one_where, open_left, range_at}
+pub use measure_laws.{Future.{range_if, resets_left, sense_left, serves_item, size_if, unsent_left}, Measure.{Falls}}
 pub use measure_laws.{Measure.{StartsWithin, connection_if, measure, measure_by}, Turns.{after_next, after_refused}}
 pub use measure_laws.Turns.{after_words, bytes_if_begun, connection_left, disconnects, has_first_byte, has_next_byte}
 pub use measure_laws.Turns.{is_asked, is_disconnect, is_driven, phase_left, phases_in, phases_left, repeated}

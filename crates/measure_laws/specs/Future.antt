@@ -11,7 +11,7 @@ use Rattle.due_model.specs.scenario.specs.declared.value.Policy.{Policy}
 use Rattle.due_model.specs.scenario.specs.declared.value.Policy.TheVariants as policies
 use Rattle.due_model.specs.scenario.specs.declared.value.ResetDef.{ResetDef}
 use Rattle.due_model.specs.scenario.specs.declared.value.UnitDef.{UnitDef}
-use Rattle.due_model.specs.scenario.specs.Lookups.{unit_of}
+use Rattle.due_model.specs.scenario.specs.Lookups.{is_tape, unit_of}
 use Rattle.due_model.specs.scenario.specs.Needs.{need_of}
 use Rattle.due_model.specs.scenario.specs.Value.{ScenarioValue}
 use Rattle.due_model.specs.array_model.specs.Execution.{range_of}
@@ -48,12 +48,16 @@ abbrev pub range_if : Result Command CdbFault → Option (ℕ × ℕ)
 range_if (Ok k) = range_of k
 range_if (Err fault) = None
 
+-- None at a tape.
+abbrev pub range_at : ScenarioValue → CmdDef → Option (ℕ × ℕ)
+range_at s c = if is_tape s c.target c.unit then None else range_if (command_of c.cdb)
+
 abbrev pub size_if : Option UnitDef → ℕ
 size_if None = 0
 size_if (Some u) = u.size
 
 abbrev pub bytes_after : ScenarioValue → CmdDef → ℕ → ℕ
-bytes_after s c made = bytes_over (policy_of (target_def_of s c.target)) (range_if (command_of c.cdb))
+bytes_after s c made = bytes_over (policy_of (target_def_of s c.target)) (range_at s c)
     (size_if (unit_of s c.target c.unit)) (need_of s c) made
 
 -- ---- a command, the n-th

@@ -7,7 +7,7 @@ pub use std_proofs.{Common.{◌≢◌, ◌≤◌, ◌⊎◌}, Math.Nat.{mod-le},
 pub use std_proofs.lemmas.Bool.{eqb-true, le-leb, not-true, or_cases, or_from, or_left, or_parts, or_right, true≢false}
 pub use std_proofs.lemmas.{Bool.Decides.{nat_tests}, Nat.{pow_below, pow_pos}, Option.{none-some, same_Some}}
 use Rattle.std.specs as std
-pub use std.{List.{AllByRecursion, find, list_all, list_any}, Prelude.{cond, if◌then◌else◌, is_none, is_some, max}}
+pub use std.{List.{AllByRecursion, find, list_all, list_any}, Prelude.{cond, if◌then◌else◌, is_none, is_some, map, max}}
 pub use std.Prelude.{nat_le, nat_lt, slice_index, slice_set, ⊤, ◌==◌}
 use Rattle.due_model.specs.bus_base.proofs as bus_base_proofs
 pub use bus_base_proofs.Tests.{and_false, and_first, and_more, and_second, and_true, either_stays, eq_self, implied}
@@ -48,12 +48,13 @@ pub use scenario_proofs.Steps.{bind_ok, guard_ok, ok_is, within_ok}
 use Rattle.due_model.specs.scenario.specs as scenario
 pub use scenario.Forms.{Said, abort_line, cmd_line, end_line, fault_line, fill_line, initiator_line, load_line}
 pub use scenario.{Forms.{reset_line, scsi_line, tape_line, target_line, unit_line}, Lookups.{has_device, has_target}}
-pub use scenario.{Lookups.{unit_of}, Reading.{Progress, abort_def, fault_def, fill_def, fits_version, full_cmd_def}}
-pub use scenario.Reading.{guard, in_8, in_order, kind_of, load_def, nothing, period_in, rank, reset_def, size_in}
-pub use scenario.{Reading.{tape_def, target_def, within}, Value.{ScenarioValue}, Writing.{Obeys, built, saids}}
-pub use scenario.declared.bounds.TheConstants.{BLOCK_LIMIT, DEPTH_LIMIT, HOST_OFFSET_LIMIT, LAG_LIMIT, LATENCY_LIMIT}
-pub use scenario.declared.{bounds.TheConstants.{OPEN_LIMIT, RETRY_LIMIT}, value.{AbortDef.{AbortDef}, CmdDef.{CmdDef}}}
-pub use scenario.declared.value.{HostDef.{HostDef}, TargetDef.{TargetDef}, UnitDef.{UnitDef}}
+pub use scenario.{Lookups.{tape_unit, unit_of, units_of}, Reading.{Progress, abort_def, fault_def, fill_def}}
+pub use scenario.Reading.{fits_version, full_cmd_def, guard, in_8, in_order, kind_of, load_def, nothing, period_in}
+pub use scenario.{Reading.{rank, reset_def, size_in, tape_def, target_def, within}, Value.{ScenarioValue}}
+pub use scenario.{Writing.{Obeys, built, saids}, declared.bounds.TheConstants.{BLOCK_LIMIT, DEPTH_LIMIT}}
+pub use scenario.declared.bounds.TheConstants.{HOST_OFFSET_LIMIT, LAG_LIMIT, LATENCY_LIMIT, OPEN_LIMIT, RETRY_LIMIT}
+pub use scenario.declared.value.{AbortDef.{AbortDef}, CmdDef.{CmdDef}, HostDef.{HostDef}, TapeDef.{TapeDef}}
+pub use scenario.declared.value.{TargetDef.{TargetDef}, UnitDef.{UnitDef}}
 unfoldable pub use scenario.{Needs.{need_of, sent_of}, Reading.{added, host_def, said_after, unit_def}}
 use Rattle.due_model.specs.array_model.proofs as array_model_proofs
 pub use array_model_proofs.ArrayReplies.{abort_lists, end_lists, fail_lists, loss_lists, reset_lists, took}
@@ -115,8 +116,8 @@ pub use due_model.{Telling.{is_true_telling, same_event, telling}, Wants.{abort_
 pub use due_model.Wants.{own_aborts, own_command, own_commands, ready_among, ready_at, ready_of, ready_time, seek_of}
 pub use due_model.Wants.{since_of, target_if, target_of, want_time}
 use Rattle.trace_laws.specs.scsi_device.proofs as scsi_device_proofs
-pub use scsi_device_proofs.{Finds.{all_are, all_more}, FitLines.{abort_fits, command_fits, obeys_fits, seats_are}}
-pub use scsi_device_proofs.{FitLines.{units_are}, LineReads.{host_by, unit_by}}
+pub use scsi_device_proofs.{Finds.{all_are, all_more}, FitLines.{abort_fits, command_fits, each_unit, obeys_fits}}
+pub use scsi_device_proofs.{FitLines.{seats_are, units_are}, LineReads.{host_by, tape_read, unit_by}}
 use Rattle.trace_laws.specs.scsi_device.specs as scsi_device
 pub use scsi_device.Lines.{FitsBus, IsCommandLine}
 use Rattle.trace_laws.specs.target_units.proofs as target_units_proofs

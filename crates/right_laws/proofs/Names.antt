@@ -10,7 +10,7 @@ pub use std_proofs.lemmas.{Bool.Decides.{nat_tests}, List.{length-take, reverse-
 pub use std_proofs.lemmas.Option.{same_Some}
 use Rattle.std.specs as std
 pub use std.{Int.RustNames.{bit_or, count_ones}, List.{AllByRecursion, find, list_any}, Prelude.{if◌then◌else◌}}
-pub use std.Prelude.{is_none, is_some, min, nat_le, nat_lt, reverse, slice_index, slice_index_or, slice_set, ⊤}
+pub use std.Prelude.{is_none, is_some, map, min, nat_le, nat_lt, reverse, slice_index, slice_index_or, slice_set, ⊤}
 use Rattle.due_model.specs.bus_base.proofs as bus_base_proofs
 pub use bus_base_proofs.Tests.{all_three, and_false, and_first, eq_self, eq_turned, middle, none_number, not_first}
 pub use bus_base_proofs.Tests.{nothing_below, plus_none, wrong, wrong', zero_of}
@@ -39,12 +39,15 @@ use Rattle.due_model.specs.bus_lines.specs as bus_lines
 pub use bus_lines.Handshakes.{Handshakes, answered_if, asked_if, handshakes, handshakes_after, newest_struck_if}
 pub use bus_lines.{Handshakes.{no_handshakes}, Stage.{answer_stage, call_stage, stage, stage_by}}
 pub use bus_lines.declared.stage.Stage.{Stage, TheVariants.{InAnswer, InArbitration, InCalling, InReset, OnFreeBus}}
+use Rattle.due_model.specs.cdb_codec.proofs as cdb_codec_proofs
+pub use cdb_codec_proofs.Readings.{writes_alike}
 use Rattle.due_model.specs.cdb_codec.specs as cdb_codec
 pub use cdb_codec.{Blocks.{blocks_moved}, Cdb.{command_of, has_group_len}, Replies.{inquiry_data, sense_data}}
-pub use cdb_codec.declared.{Sense.{Sense}, command.{CdbFault.{CdbFault}, Command.{Command}}}
-pub use cdb_codec.declared.{operation.TheConstants.{INQUIRY}, replies.TheConstants.{INQUIRY_LEN, SENSE_LEN}}
-pub use cdb_codec.declared.sense.TheConstants.{ABORTED_COMMAND, INITIATOR_DETECTED_ERROR, PARITY_ERROR}
-pub use cdb_codec.declared.status.TheConstants.{CHECK_CONDITION, GOOD}
+pub use cdb_codec.{TapeCdb.{tape_command_of}, declared.{Sense.{Sense}, command.CdbFault.{CdbFault}}}
+pub use cdb_codec.declared.{command.Command.{Command}, operation.TheConstants.{INQUIRY}}
+pub use cdb_codec.declared.{replies.TheConstants.{INQUIRY_LEN, SENSE_LEN}, sense.TheConstants.{ABORTED_COMMAND}}
+pub use cdb_codec.declared.sense.TheConstants.{INITIATOR_DETECTED_ERROR, PARITY_ERROR}
+pub use cdb_codec.declared.{status.TheConstants.{CHECK_CONDITION, GOOD}, tape_command.TapeCommand.{TapeCommand}}
 use Rattle.due_model.specs.msg_grammar.specs as msg_grammar
 pub use msg_grammar.{Messages.{got_in, got_out}, declared.message.{MsgIn.{MsgIn}, MsgOut.{MsgOut}}}
 unfoldable pub use msg_grammar.Messages.{form_in}
@@ -59,34 +62,39 @@ use Rattle.due_model.specs.scenario.proofs as scenario_proofs
 pub use scenario_proofs.{Steps.{bind_ok, ok_is}, TapeNeeds.{plain_need}, UnitLines.{plain_unit}}
 use Rattle.due_model.specs.scenario.specs as scenario
 pub use scenario.Forms.{Said, abort_line, cmd_line, end_line, fault_line, fill_line, initiator_line, load_line}
-pub use scenario.{Forms.{reset_line, scsi_line, tape_line, target_line, unit_line}, Lookups.{has_target, unit_of}}
-pub use scenario.{Needs.{is_write, moved_by, need_of}, Reading.{Progress, abort_def, fault_def, fill_def, fits_version}}
-pub use scenario.Reading.{full_cmd_def, guard, host_def, in_order, kind_of, load_def, nothing, rank, reset_def}
-pub use scenario.{Reading.{tape_def, target_def, unit_def}, Value.{ScenarioValue}, Writing.{Obeys, built, saids}}
+pub use scenario.{Forms.{reset_line, scsi_line, tape_line, target_line, unit_line}, Lookups.{has_target, is_tape}}
+pub use scenario.{Lookups.{tape_of, tape_unit, unit_of, units_of}, Needs.{is_write, moved_by, need_at, need_of}}
+pub use scenario.{Needs.{tape_moved_by}, Reading.{Progress, abort_def, fault_def, fill_def, fits_version, full_cmd_def}}
+pub use scenario.Reading.{guard, host_def, in_order, kind_of, load_def, nothing, rank, reset_def, tape_def, target_def}
+pub use scenario.{Reading.{unit_def}, Value.{ScenarioValue}, Writing.{Obeys, built, saids}}
 pub use scenario.declared.value.{AbortDef.{AbortDef}, CmdDef.{CmdDef}, FaultDef.{FaultDef}, FillDef.{FillDef}}
-pub use scenario.declared.value.{HostDef.{HostDef}, Policy.{Policy}, TargetDef.{TargetDef}, UnitDef.{UnitDef}}
+pub use scenario.declared.value.{HostDef.{HostDef}, Policy.{Policy}, TapeDef.{TapeDef}, TargetDef.{TargetDef}}
+pub use scenario.declared.value.UnitDef.{UnitDef}
 unfoldable pub use scenario.Reading.{added, said_after}
 use Rattle.due_model.specs.array_model.proofs as array_model_proofs
-pub use array_model_proofs.{ArrayReplies.{end_lists, loss_lists}, Executed.{of_all, storing}}
-pub use array_model_proofs.ExecutionFacts.{read_gives, sense_block_of, sense_executed, stored_apart, undone, whole_kept}
+pub use array_model_proofs.{ArrayReplies.{end_lists, loss_lists}, Executed.{of_all, on_tape, storing}}
+pub use array_model_proofs.ExecutionFacts.{HasWholeReel, IsWholeReel, read_gives, reel_whole, sense_block_of}
+pub use array_model_proofs.ExecutionFacts.{sense_executed, stored_apart, tape_few, undone, whole_kept}
 pub use array_model_proofs.{SeatContexts.{choice_keeps, settled_context}, SeatLaws.{abort_law, accept_law, device_law}}
 pub use array_model_proofs.SeatLaws.{end_law, fail_law, loss_law, other_law, refuse_law, reset_law, run_law}
-pub use array_model_proofs.{SoundArrays.{history_sound, is_own, step_sound}, WholeBlocks.{AreWhole, blank_whole}}
-pub use array_model_proofs.WholeBlocks.{block_whole}
+pub use array_model_proofs.{SoundArrays.{history_sound, is_own, step_sound}, TapeObjects.{most_at_tape}}
+pub use array_model_proofs.{UnitKinds.{filled_reel}, WholeBlocks.{AreWhole, blank_whole, block_whole}}
 use Rattle.due_model.specs.array_model.specs as array_model
-pub use array_model.ArrayHistory.{array_after, array_step, disks_of, reply_in, reply_of, shows_run}
-pub use array_model.Contents.{Contents, blank_contents, bytes_at, filled_contents, no_contents, with_block}
-pub use array_model.Execution.{CommandContext, Execution, Reply, check_condition, command_execution, execution}
-pub use array_model.Execution.{invalid_field, is_good_range, is_opcode, is_request_sense, queue_full, range_of}
-pub use array_model.{Execution.{returned_sense, sense_of, unit_not_supported}, Order.{choice, range_in, range_named}}
-pub use array_model.{Processes.{Process, process_of, same_id}, Seats.{Seat, contents_of, context_of, current_of}}
-pub use array_model.Seats.{guests_at, is_of_other_unit, seat_if, seat_of, settled_seat, settled_seat_if}
+pub use array_model.ArrayHistory.{array_after, array_step, disks_of, reply_in, reply_of, shows_run, tapes_of}
+pub use array_model.Contents.{Contents, blank_contents, bytes_at, filled_contents, is_reeled, loaded_contents}
+pub use array_model.{Contents.{loaded_objects, no_contents, starting_contents, with_block}, Execution.{CommandContext}}
+pub use array_model.Execution.{Execution, Reply, check_condition, command_execution, execution, good, invalid_field}
+pub use array_model.Execution.{is_good_range, is_opcode, is_request_sense, queue_full, range_of, returned_sense}
+pub use array_model.{Execution.{sense_of, tape_in, unit_not_supported}, Order.{choice, range_in, range_named}}
+pub use array_model.{Processes.{Process, process_of, same_id}, Reels.{Reel}, Seats.{Seat, contents_of, context_of}}
+pub use array_model.Seats.{current_of, guests_at, is_of_other_unit, seat_if, seat_of, settled_seat, settled_seat_if}
 pub use array_model.SoundArray.{AllOwn, AllOwnGuests, AllOwnUnits, AreApart, HasSeats, IsOwn, IsOwnRunning, IsOwnUnit}
 pub use array_model.{SoundArray.{IsSound}, Steps.{context_at, has_ended, has_tag, is_of_unit, process_count}}
-pub use array_model.{Steps.{running_if, step}, Units.{Array, Nexus, RunningProcess, UnitState, guest_at}}
-pub use array_model.Units.{has_no_current, is_held, nexus_of, sense_of_nexus, settled_array, starting_array}
-pub use array_model.Units.{starting_unit, starting_units, unit_after_choice, unit_state_at, units_after_choice}
-pub use array_model.Units.{with_current, without_reply}
+pub use array_model.{Steps.{running_if, step}, TapeExecution.{Tape, end_of_medium_detected, has_room, write_reply}}
+pub use array_model.{Tapes.{blocks_taken}, Units.{Array, Nexus, RunningProcess, UnitState, guest_at, has_no_current}}
+pub use array_model.Units.{is_held, nexus_of, sense_of_nexus, settled_array, starting_array, starting_unit}
+pub use array_model.Units.{starting_units, unit_after_choice, unit_state_at, units_after_choice, with_current}
+pub use array_model.Units.{without_reply}
 use Rattle.due_model.specs.story_model.proofs as story_model_proofs
 pub use story_model_proofs.{CarriedLists.{carried_id, carried_with}, StorySteps.{check_carried, ends_carried}}
 pub use story_model_proofs.StorySteps.{free_carried, message_id}
@@ -116,7 +124,7 @@ pub use story_model.TraceHistory.{story_with_sent, trace_history}
 use Rattle.disk_unit.proofs as disk_unit_proofs
 pub use disk_unit_proofs.Parts.{length_bytes}
 use Rattle.disk_unit.specs as disk_unit
-pub use disk_unit.Disk.{blocks_written, taken_now}
+pub use disk_unit.{Disk.{blocks_written}, Held.{taken_now, taken_with}}
 use Rattle.due_model.specs.reaction_model.specs as reaction_model
 pub use reaction_model.Calling.{answer, answer_due, answered_due, bsy_takeover, called_due, caller_due, calling_abort}
 pub use reaction_model.Calling.{calling_start, is_called, loser_release, reselection_end, selection_end, unanswered_due}
@@ -154,17 +162,18 @@ pub use due_model.Sights.{flip_of, hearing_of, leaving, offering_of, serving_at,
 pub use due_model.Tasks.{blocks_in, given_if, given_of, is_writing, moved_count, reply_now, size_of, task_if, task_of}
 pub use due_model.{Tasks.{task_with}, Telling.{is_true_telling, telling}, Wants.{ready_of}}
 use Rattle.trace_laws.specs.scsi_device.proofs as scsi_device_proofs
-pub use scsi_device_proofs.{Finds.{all_are, all_more}, FitLines.{obeys_fits, seats_are}, LineReads.{unit_read}}
+pub use scsi_device_proofs.{Finds.{all_are, all_more}, FitLines.{each_unit, obeys_fits, seats_are}}
+pub use scsi_device_proofs.LineReads.{tape_read, unit_read}
 use Rattle.trace_laws.specs.scsi_device.specs as scsi_device
-pub use scsi_device.{Heard.{Instructions, instructions, instructions_after}, Lines.{FitsBus}, Writes.{Writer}}
-pub use scsi_device.Writes.{block_size, is_data_out, is_of_size, start_of_run, writers}
+pub use scsi_device.{Heard.{Instructions, instructions, instructions_after}, Lines.{FitsBus, IsTapeLine}}
+pub use scsi_device.Writes.{Writer, block_size, is_data_out, is_of_size, start_of_run, writers}
 use Rattle.trace_laws.specs.target_units.proofs as target_units_proofs
-pub use target_units_proofs.{AbsentReplies.{replies}, ReplySteps.{accept_same, run_replies}, Rooms.{lines_always}}
-pub use target_units_proofs.{Rooms.{sends, unit_of_line}, Starts.{line_filled, start_settled}}
+pub use target_units_proofs.{AbsentReplies.{replies}, ReplySteps.{accept_same, run_replies}, Rooms.{kinds_always}}
+pub use target_units_proofs.{Rooms.{lines_always, none_tape, sends}, Starts.{line_filled, start_settled}}
 pub use target_units_proofs.UnitTellings.{context_same}
 use Rattle.trace_laws.specs.target_units.specs as target_units
 pub use target_units.{Absent.{absent_reply_by, data_or_refusal, inquiry_room, sense_room}, Fillings.{AreFilled}}
-pub use target_units.Rooms.{AreOfLines, IsOfLine}
+pub use target_units.Rooms.{AreOfKinds, AreOfLines, IsOfKind, IsOfLine}
 use Rattle.trace_laws.specs.book_laws.proofs as book_laws_proofs
 pub use book_laws_proofs.Carried.{Areas.{puts}, Blocks.{block_is_all}, Commands.{own_of}, Facts.{process_id}}
 pub use book_laws_proofs.{Carried.Steps.{IsKept, no_link, row_carried}, Common.InConnection.{InConnection, dialogue_by}}
@@ -258,12 +267,12 @@ pub use trace_laws_proofs.Runs.{AllSent.{moves_runs, some_total}, Asks.{out_step
 pub use trace_laws_proofs.Runs.{Begun.{no_more}, Counts.{handshakes_begin, or_left}, Data.{crossing_stands}}
 pub use trace_laws_proofs.Runs.Events.{RunsFrom, RunsInPhase, answered, moved_all, reads, run_turn, runs_from, writes}
 pub use trace_laws_proofs.Runs.Facts.{LinesOf, active_is, crossing_begun, kind_next, lines_of, raised_rst, task_here}
-pub use trace_laws_proofs.Runs.{Facts.{turns_by}, Fits.{FitsRuns, fits_runs, lines_now, named_by, none_sent}}
-pub use trace_laws_proofs.Runs.{Fits.{policies_most, size_is}, Left.{left_next, left_start}, Parts.{RunsFit}}
-pub use trace_laws_proofs.Runs.{Parts.{byte_within, has_byte, start_is}, Rows.{runs_first, served_id}, Whole.{last_run}}
-pub use trace_laws_proofs.{Sent.Stays.{is_in_next}, Whole.{Whole, row_attendance, standing_next, whole}}
-pub use trace_laws_proofs.Writes.{Arrivals.{ArrivesNow, arrives_first}, Facts.{known_before}, Premises.{write_premises}}
-pub use trace_laws_proofs.Writes.Turns.{progress_turns}
+pub use trace_laws_proofs.Runs.{Facts.{turns_by}, Fits.{FitsRuns, disk_named, fits_runs, kinds_now, lines_now}}
+pub use trace_laws_proofs.Runs.{Fits.{named_by, none_sent, plain_contents, policies_most, size_is}, Left.{left_next}}
+pub use trace_laws_proofs.Runs.{Left.{left_start}, Parts.{RunsFit, byte_within, has_byte, start_is}, Rows.{runs_first}}
+pub use trace_laws_proofs.{Runs.{Rows.{served_id}, Whole.{last_run}}, Sent.Stays.{is_in_next}, Whole.{Whole}}
+pub use trace_laws_proofs.{Whole.{row_attendance, standing_next, whole}, Writes.Arrivals.{ArrivesNow, arrives_first}}
+pub use trace_laws_proofs.Writes.{Facts.{known_before}, Premises.{write_premises}, Turns.{progress_turns}}
 use Rattle.trace_laws.specs as trace_laws
 pub use trace_laws.RunsLeft.{HasRunLeft, RunsLeftOf, run_total}
 use Rattle.right_laws.specs as right_laws

@@ -38,10 +38,10 @@ use Rattle.due_model.specs.cdb_codec.proofs as cdb_codec_proofs
 pub use cdb_codec_proofs.Senses.{data_are_bytes, plain_fits}
 use Rattle.due_model.specs.cdb_codec.specs as cdb_codec
 pub use cdb_codec.{Blocks.{blocks_moved}, Cdb.{command_of, has_group_len}, Replies.{FitsSense, capacity_data}}
-pub use cdb_codec.{Replies.{inquiry_data, sense_data}, declared.command.{CdbFault.{CdbFault}, Command.{Command}}}
-pub use cdb_codec.declared.{command.Sense.{Sense}, replies.TheConstants.{INQUIRY_LEN, SENSE_LEN}}
+pub use cdb_codec.{Replies.{inquiry_data, sense_data}, TapeCdb.{tape_command_of}, declared.command.CdbFault.{CdbFault}}
+pub use cdb_codec.declared.{command.{Command.{Command}, Sense.{Sense}}, replies.TheConstants.{INQUIRY_LEN, SENSE_LEN}}
 pub use cdb_codec.declared.sense.TheConstants.{ABORTED_COMMAND, INITIATOR_DETECTED_ERROR, PARITY_ERROR}
-pub use cdb_codec.declared.status.TheConstants.{CHECK_CONDITION, GOOD}
+pub use cdb_codec.declared.{status.TheConstants.{CHECK_CONDITION, GOOD}, tape_command.TapeCommand.{TapeCommand}}
 use Rattle.due_model.specs.msg_grammar.proofs as msg_grammar_proofs
 pub use msg_grammar_proofs.{Exact.{whole}, Spells.{in_one, out_one}}
 use Rattle.due_model.specs.msg_grammar.specs as msg_grammar
@@ -61,47 +61,49 @@ use Rattle.due_model.specs.scenario.proofs as scenario_proofs
 pub use scenario_proofs.Steps.{bind_ok, guard_ok, ok_is, read_tag, read_what, within_ok}
 use Rattle.due_model.specs.scenario.specs as scenario
 pub use scenario.Forms.{CmdSaid, Said, abort_line, cmd_line, end_line, fault_line, fill_line, initiator_line, load_line}
-pub use scenario.{Forms.{reset_line, scsi_line, tape_line, target_line, unit_line}, Lookups.{has_device}}
-pub use scenario.Reading.{Progress, are_ends, fault_def, fill_def, fits_version, guard, has_abort_room, has_room, in_8}
-pub use scenario.Reading.{in_order, is_block, is_payload, kind_of, load_def, nothing, policy_in, rank, reset_def}
-pub use scenario.{Reading.{tape_def, time_in, unit_def, within}, Value.{ScenarioValue}, Writing.{IsHex, IsHexPayload}}
-pub use scenario.{Writing.{Obeys, built, said_tag, said_what, saids}, declared.bounds.TheConstants.{FACTOR_LIMIT}}
-pub use scenario.declared.bounds.TheConstants.{HOST_OFFSET_LIMIT, LAG_LIMIT, LATENCY_LIMIT, LEAST_FACTOR, OPEN_LIMIT}
-pub use scenario.declared.bounds.TheConstants.{RETRY_LIMIT, SEEK_LIMIT, TAG_LIMIT, TARGET_OFFSET_LIMIT}
+pub use scenario.{Forms.{reset_line, scsi_line, tape_line, target_line, unit_line}, Lookups.{has_device, is_tape}}
+pub use scenario.{Lookups.{units_of}, Reading.{Progress, are_ends, fault_def, fill_def, fits_version, guard}}
+pub use scenario.Reading.{has_abort_room, has_room, in_8, in_order, is_block, is_payload, kind_of, load_def, nothing}
+pub use scenario.{Reading.{policy_in, rank, reset_def, tape_def, time_in, unit_def, within}, Value.{ScenarioValue}}
+pub use scenario.Writing.{IsHex, IsHexLoad, IsHexPayload, Obeys, built, said_tag, said_what, saids}
+pub use scenario.declared.bounds.TheConstants.{FACTOR_LIMIT, HOST_OFFSET_LIMIT, LAG_LIMIT, LATENCY_LIMIT, LEAST_FACTOR}
+pub use scenario.declared.bounds.TheConstants.{OPEN_LIMIT, RETRY_LIMIT, SEEK_LIMIT, TAG_LIMIT, TARGET_OFFSET_LIMIT}
 pub use scenario.declared.value.{AbortDef.{AbortDef}, CmdDef.{CmdDef}, FillDef.{FillDef}, HostDef.{HostDef}}
-pub use scenario.declared.value.{Payload.{Payload}, Policy.{Policy}, Tag.{Tag}, TargetDef.{TargetDef}}
-pub use scenario.declared.value.UnitDef.{UnitDef}
+pub use scenario.declared.value.{Load.{Load}, LoadDef.{LoadDef}, Payload.{Payload}, Policy.{Policy}, Tag.{Tag}}
+pub use scenario.declared.value.{TargetDef.{TargetDef}, UnitDef.{UnitDef}}
 unfoldable pub use scenario.{Needs.{need_of, sent_of}, Reading.{abort_def, added, cmd_def, full_cmd_def, host_def}}
 unfoldable pub use scenario.Reading.{period_in, said_after, tag_in, target_def, what_in}
 use Rattle.due_model.specs.array_model.proofs as array_model_proofs
 pub use array_model_proofs.ArrayReplies.{abort_lists, accept_lists, end_lists, executed_lists, fail_lists, loss_lists}
 pub use array_model_proofs.{ArrayReplies.{refuse_lists, reset_lists, took}, ArrayUnits.{cleared_units}}
-pub use array_model_proofs.{ArrayUnits.{unit_reset_units}, Executed.{IsRefused, absent, faulty, of_all, outside}}
-pub use array_model_proofs.{Executed.{sense_of_fault}, SeatEvents.{status_units}, SeatLaws.{fail_law, run_law}}
-pub use array_model_proofs.{SeatOwn.{guest_own, running_unit}, SeatReplies.{first, guest_id, guest_replied, last_waits}}
-pub use array_model_proofs.{SeatReplies.{no_guest_replied}, SoundArrays.{history_sound, start_sound, start_units}}
-pub use array_model_proofs.SoundArrays.{step_sound}
+pub use array_model_proofs.{ArrayUnits.{unit_reset_units}, Executed.{IsRefused, absent, faulty, faulty_at_tape, of_all}}
+pub use array_model_proofs.{Executed.{on_tape, outside, sense_of_fault}, ExecutionFacts.{tape_bytes, tape_fits}}
+pub use array_model_proofs.{SeatEvents.{status_units}, SeatLaws.{fail_law, run_law}, SeatOwn.{guest_own, running_unit}}
+pub use array_model_proofs.SeatReplies.{first, guest_id, guest_replied, last_waits, no_guest_replied}
+pub use array_model_proofs.{SoundArrays.{history_sound, start_sound, start_units, step_sound}, TapeObjects.{AreOfBytes}}
+pub use array_model_proofs.{TapeObjects.{IsOfBytes}, TapeReplies.{tape_known}}
 use Rattle.due_model.specs.array_model.specs as array_model
 pub use array_model.{ArrayHistory.{array_after, array_step, reply_in}, Contents.{Contents, blank_contents, block_at}}
-pub use array_model.Contents.{bytes_at, filled_contents, touched_block, touched_with, with_block, with_bytes}
-pub use array_model.{Contents.{zero_block}, Execution.{CommandContext, Execution, Reply, aborted_reply}}
-pub use array_model.Execution.{check_condition, command_execution, commands_cleared, execution, good, is_request_sense}
-pub use array_model.{Execution.{queue_full, reply_execution, returned_sense, sense_of, write_execution}, Order.{choice}}
-pub use array_model.Order.{chosen_place, entries_of, entry_of, has_none_before, has_ordered, is_head, is_held_back}
-pub use array_model.Order.{is_ordered, picked_place, process_at, process_at_if, runnable_by, without_process}
-pub use array_model.Processes.{Process, bytes_from, command_at, command_process, payload_bytes, process_by, process_if}
-pub use array_model.{Processes.{process_of, same_id, sense_block, sense_process}, Seats.{Seat, current_of}}
-pub use array_model.Seats.{is_initiator, running_at, seat_if, seat_of, settled_seat, settled_seat_if, unit_mapped}
-pub use array_model.{Seats.{unit_with_choice, unit_with_contents, unit_with_reply, waits_in}, SoundArray.{AllOwn}}
-pub use array_model.SoundArray.{AllOwnGuests, AllOwnUnits, AreApart, HasSeats, IsOwn, IsOwnRunning, IsOwnUnit, IsSound}
-pub use array_model.Steps.{accept_step, accept_step_at, after_status, array_without, end_step, end_step_with, fail_step}
-pub use array_model.Steps.{fail_step_of_new, guests_with_reply, has_ended, has_tag, is_of_unit, is_waiting}
-pub use array_model.Steps.{process_count, refuse_step, refuse_step_at, running_count, running_if, running_in}
-pub use array_model.Steps.{running_process, settled_array_if, step, with_guest, with_listed_reply, with_reply}
-pub use array_model.Units.{Array, Nexus, RunningProcess, UnitState, guest_at, has_no_current, is_held, nexus_of}
-pub use array_model.Units.{nexuses_without, same_nexus, sense_of_nexus, senses_without, settled_array, starting_array}
-pub use array_model.Units.{starting_units, unit_after_choice, unit_state_at, units_after_choice, with_current}
-pub use array_model.Units.{with_unit, without_guest, without_reply}
+pub use array_model.Contents.{bytes_at, filled_contents, loaded_contents, loaded_objects, object_of, starting_contents}
+pub use array_model.Contents.{touched_block, touched_with, with_block, with_bytes, zero_block}
+pub use array_model.Execution.{CommandContext, Execution, Reply, aborted_reply, check_condition, command_execution}
+pub use array_model.Execution.{commands_cleared, execution, good, is_request_sense, queue_full, reply_execution}
+pub use array_model.{Execution.{returned_sense, sense_of, tape_in, write_execution}, Order.{choice, chosen_place}}
+pub use array_model.Order.{entries_of, entry_of, has_none_before, has_ordered, is_head, is_held_back, is_ordered}
+pub use array_model.{Order.{picked_place, process_at, process_at_if, runnable_by, without_process}, Processes.{Process}}
+pub use array_model.Processes.{bytes_from, command_at, command_process, payload_bytes, process_by, process_if}
+pub use array_model.{Processes.{process_of, same_id, sense_block, sense_process}, Reels.{Reel}, Seats.{Seat}}
+pub use array_model.Seats.{current_of, is_initiator, running_at, seat_if, seat_of, settled_seat, settled_seat_if}
+pub use array_model.Seats.{unit_mapped, unit_with_choice, unit_with_contents, unit_with_reply, waits_in}
+pub use array_model.SoundArray.{AllOwn, AllOwnGuests, AllOwnUnits, AreApart, HasSeats, IsOwn, IsOwnRunning, IsOwnUnit}
+pub use array_model.{SoundArray.{IsSound}, Steps.{accept_step, accept_step_at, after_status, array_without, end_step}}
+pub use array_model.Steps.{end_step_with, fail_step, fail_step_of_new, guests_with_reply, has_ended, has_tag}
+pub use array_model.Steps.{is_of_unit, is_waiting, process_count, refuse_step, refuse_step_at, running_count}
+pub use array_model.Steps.{running_if, running_in, running_process, settled_array_if, step, with_guest}
+pub use array_model.{Steps.{with_listed_reply, with_reply}, Units.{Array, Nexus, RunningProcess, UnitState, guest_at}}
+pub use array_model.Units.{has_no_current, is_held, nexus_of, nexuses_without, same_nexus, sense_of_nexus}
+pub use array_model.Units.{senses_without, settled_array, starting_array, starting_units, unit_after_choice}
+pub use array_model.Units.{unit_state_at, units_after_choice, with_current, with_unit, without_guest, without_reply}
 use Rattle.due_model.specs.story_model.proofs as story_model_proofs
 pub use story_model_proofs.{CarriedLists.{carried_id, carried_with}, StorySteps.{check_carried, ends_carried}}
 pub use story_model_proofs.StorySteps.{free_carried}

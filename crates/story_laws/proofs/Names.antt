@@ -57,9 +57,9 @@ pub use bus_rules.{Messages.{is_none_or_all, is_unknown, may_take, settles_offer
 pub use bus_rules.{Rules.{broken_rule, judged_rules}, Seen.{seen}, declared.seen.Seen.{Seen}}
 unfoldable pub use bus_rules.Seen.{seen_with}
 use Rattle.due_model.specs.scenario.specs as scenario
-pub use scenario.{Needs.{is_write}, Value.{ScenarioValue}, Writing.{Obeys}, declared.value.AbortDef.{AbortDef}}
-pub use scenario.declared.value.{CmdDef.{CmdDef}, HostDef.{HostDef}, Policy.{Policy}, Tag.{Tag}, TargetDef.{TargetDef}}
-pub use scenario.declared.value.UnitDef.{UnitDef}
+pub use scenario.{Lookups.{units_of}, Needs.{is_write}, Value.{ScenarioValue}, Writing.{Obeys}}
+pub use scenario.declared.value.{AbortDef.{AbortDef}, CmdDef.{CmdDef}, HostDef.{HostDef}, Policy.{Policy}, Tag.{Tag}}
+pub use scenario.declared.value.{TargetDef.{TargetDef}, UnitDef.{UnitDef}}
 use Rattle.due_model.specs.array_model.proofs as array_model_proofs
 pub use array_model_proofs.{NamedBlocks.{none_named}, SeatLookups.{none_at, number_same}, SeatReplies.{id_turned}}
 use Rattle.due_model.specs.array_model.specs as array_model

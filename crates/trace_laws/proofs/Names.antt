@@ -50,7 +50,7 @@ pub use bus_rules.{Order.{is_of_device}, Reset.{only_rst}, Rules.{broken_rule}}
 use Rattle.due_model.specs.scenario.proofs as scenario_proofs
 pub use scenario_proofs.Steps.{bind_ok, ok_is, read_policy, within_ok}
 use Rattle.due_model.specs.scenario.specs as scenario
-pub use scenario.{Forms.{Said, target_line}, Lookups.{disk_of, has_device, has_target, is_tape, unit_of}}
+pub use scenario.{Forms.{Said, target_line}, Lookups.{has_device, has_target, is_tape, unit_of, units_of}}
 pub use scenario.{Needs.{is_write, need_at}, Reading.{guard, in_8, period_in, within}, Value.{ScenarioValue}}
 pub use scenario.{Writing.{Obeys, said_policy}, declared.bounds.TheConstants.{BURST_LIMIT, LATENCY_LIMIT, RETRY_LIMIT}}
 pub use scenario.declared.{bounds.TheConstants.{SEEK_LIMIT, TARGET_OFFSET_LIMIT}, value.AbortDef.{AbortDef}}
@@ -58,21 +58,22 @@ pub use scenario.declared.value.{CmdDef.{CmdDef}, Policy.{Policy}, Tag.{Tag}, Ta
 unfoldable pub use scenario.{Needs.{need_of, sent_of}, Reading.{policy_in, target_def}}
 use Rattle.due_model.specs.array_model.proofs as array_model_proofs
 pub use array_model_proofs.{Executed.{absent_executed}, ExecutionFacts.{good_range}, NamedBlocks.{named_either}}
-pub use array_model_proofs.{NamedBlocks.{none_named}, OperationCodes.{write_needs}, SeatLookups.{found_target}}
-pub use array_model_proofs.{SeatLookups.{found_unit}, SeatOwn.{own_found}, SeatSteps.{choice_target, choice_unit}}
-pub use array_model_proofs.SoundArrays.{current_process, history_sound, is_own, start_sound, step_sound}
+pub use array_model_proofs.{NamedBlocks.{none_named, serial_is}, OperationCodes.{write_needs}}
+pub use array_model_proofs.{SeatLookups.{found_target, found_unit}, SeatOwn.{own_found}, SeatSteps.{choice_target}}
+pub use array_model_proofs.{SeatSteps.{choice_unit}, SoundArrays.{current_process, history_sound, is_own, start_sound}}
+pub use array_model_proofs.SoundArrays.{step_sound}
 use Rattle.due_model.specs.array_model.specs as array_model
 pub use array_model.{ArrayHistory.{array_after, array_step, is_run, reply_in, shows_run}, Contents.{Contents}}
 pub use array_model.Execution.{CommandContext, Reply, aborted_reply, execution, is_opcode, is_request_sense, needs_unit}
 pub use array_model.{Order.{choice, count_in, range_in, range_named}, Processes.{Process, command_at, process_by}}
-pub use array_model.{Processes.{process_if, process_of, same_id}, Seats.{contents_of, context_of, current_of}}
-pub use array_model.{Seats.{is_initiator, seat_of}, SoundArray.{AllOwnUnits, AreApart, HasSeats, IsOwn, IsOwnRunning}}
-pub use array_model.{SoundArray.{IsOwnUnit, IsSound}, Steps.{accept_step, accept_step_at, after_status, array_without}}
-pub use array_model.Steps.{context_at, end_step, end_step_with, has_ended, is_waiting, process_count, queue_step}
-pub use array_model.{Steps.{running_if, running_in, running_process, settled_array_if, step, with_guest}, Units.{Array}}
-pub use array_model.Units.{Nexus, RunningProcess, UnitState, guest_at, has_no_current, is_held, nexus_of, settled_array}
-pub use array_model.Units.{starting_array, unit_after_choice, unit_state_at, units_after_choice, with_current}
-pub use array_model.Units.{with_unit, without_reply}
+pub use array_model.{Processes.{process_if, process_of, same_id}, Reels.{Reel}, Seats.{contents_of, context_of}}
+pub use array_model.{Seats.{current_of, is_initiator, seat_of}, SoundArray.{AllOwnUnits, AreApart, HasSeats, IsOwn}}
+pub use array_model.{SoundArray.{IsOwnRunning, IsOwnUnit, IsSound}, Steps.{accept_step, accept_step_at, after_status}}
+pub use array_model.Steps.{array_without, context_at, end_step, end_step_with, has_ended, is_waiting, process_count}
+pub use array_model.Steps.{queue_step, running_if, running_in, running_process, settled_array_if, step, with_guest}
+pub use array_model.Units.{Array, Nexus, RunningProcess, UnitState, guest_at, has_no_current, is_held, nexus_of}
+pub use array_model.Units.{settled_array, starting_array, unit_after_choice, unit_state_at, units_after_choice}
+pub use array_model.Units.{with_current, with_unit, without_reply}
 use Rattle.due_model.specs.story_model.proofs as story_model_proofs
 pub use story_model_proofs.{CarriedLists.{carried_id, carried_with}, StorySteps.{byte_link, carried_link}}
 pub use story_model_proofs.StorySteps.{check_carried, ends_carried, events_link, events_sent, fault_link, free_carried}
@@ -95,7 +96,7 @@ pub use story_model.TraceHistory.{story_after_in, story_after_message, story_aft
 pub use story_model.TraceHistory.{story_in_connection, story_on_bus, story_on_free_bus, story_with_carried}
 pub use story_model.TraceHistory.{story_with_restored, story_with_sent, trace_history}
 use Rattle.disk_unit.specs as disk_unit
-pub use disk_unit.Disk.{blocks_written, taken_now}
+pub use disk_unit.{Disk.{blocks_written}, Held.{taken_now, taken_with}}
 use Rattle.due_model.specs.reaction_model.specs as reaction_model
 pub use reaction_model.{Linking.{bus_clear}, Reactions.{due_at, earlier_due}, declared.due.Due.{Due}}
 use Rattle.due_model.specs.dialogue_model.proofs as dialogue_model_proofs
@@ -149,10 +150,10 @@ pub use scsi_device.Writes.{is_data_out, is_next_byte, is_whole_run, is_writer, 
 pub use scsi_device.Writes.{is_written_in, is_written_on, is_written_run, start_of_run, writer_of, writers}
 pub use scsi_device.Writes.{writers_with, written}
 use Rattle.target_units.proofs as target_units_proofs
-pub use target_units_proofs.{Rooms.{by_line, lines_always, lines_start, sends, unit_of_line}, Sendings.{written_named}}
-pub use target_units_proofs.{Starts.{start_settled}, UnitTimes.{running_is}}
+pub use target_units_proofs.Rooms.{by_line, kinds_always, kinds_start, lines_always, lines_start, sends}
+pub use target_units_proofs.{Sendings.{written_named}, Starts.{start_settled}, UnitTimes.{running_is}}
 use Rattle.target_units.specs as target_units
-pub use target_units.Rooms.{AreOfLines, IsOfLine}
+pub use target_units.Rooms.{AreOfKinds, AreOfLines, IsOfKind, IsOfLine}
 use Rattle.story_laws.specs.book_laws.proofs as book_laws_proofs
 pub use book_laws_proofs.{Carried.{Commands.{block_own}, Facts.{process_id}}, Common.InConnection.{InConnection}}
 pub use book_laws_proofs.Common.InConnection.{SamePhase, dialogue_by, in_connection, reading_is, same_phase_is}

@@ -3,13 +3,14 @@ use Rattle.book_laws.proofs
 use proofs.Names.{ℕ, ◌≡◌, Bool, true, false, List, [], ◌∷◌, ◌++◌, ◌∙◌, refl, sym, subst, Option, Some, None, not, ◌&&◌}
 use proofs.Names.{◌||◌, inl, inr, ◌⊎◌, eqb-true, and_parts, and_from, or_right, or_left, cases_Bool, if◌then◌else◌}
 use proofs.Names.{◌==◌, is_some, is_none, nat_lt, eq_self, AbortKind, Event, ProcId, command_of, Sense, ABORTED_COMMAND}
-use proofs.Names.{GOOD, CHECK_CONDITION, QUEUE_FULL, ScenarioValue, HostDef, UnitDef, not_aborted, status_known}
-use proofs.Names.{same_id_is, id_self, id_is, array_step, array_after, reply_in, Contents, Reply, Execution}
-use proofs.Names.{CommandContext, execution, is_request_sense, queue_full, commands_cleared, aborted_reply, choice}
-use proofs.Names.{Process, process_of, same_id, RunningProcess, UnitState, Nexus, Array, same_nexus, sense_of_nexus}
-use proofs.Names.{senses_without, nexuses_without, is_held, unit_state_at, with_unit, guest_at, without_guest}
-use proofs.Names.{with_current, has_no_current, units_after_choice, settled_array, starting_array, starting_units}
-use proofs.Names.{nexus_of, same_event, has_event, is_refused_at, was_refused, finds_full_queue, has_cause}
+use proofs.Names.{GOOD, CHECK_CONDITION, QUEUE_FULL, units_of, ScenarioValue, HostDef, UnitDef, not_aborted}
+use proofs.Names.{status_known, same_id_is, id_self, id_is, array_step, array_after, reply_in, Contents, Reply}
+use proofs.Names.{Execution, CommandContext, execution, is_request_sense, queue_full, commands_cleared, aborted_reply}
+use proofs.Names.{choice, Process, process_of, same_id, RunningProcess, UnitState, Nexus, Array, same_nexus}
+use proofs.Names.{sense_of_nexus, senses_without, nexuses_without, is_held, unit_state_at, with_unit, guest_at}
+use proofs.Names.{without_guest, with_current, has_no_current, units_after_choice, settled_array, starting_array}
+use proofs.Names.{starting_units, nexus_of, same_event, has_event, is_refused_at, was_refused, finds_full_queue}
+use proofs.Names.{has_cause}
 use Rattle.due_model.specs.array_model.specs.Steps
 
 -- ---- one of several
@@ -581,7 +582,7 @@ units_start s (u ∷ units) = (tt, units_start s units)
 
 caused_after : (s : ScenarioValue) (h : List Event) → IsCausedIf s h (array_after s h)
 caused_after s [] = settled s [] (starting_array s)
-    (record { units = units_start s s.units; guests = tt; replies = tt; attentions = tt })
+    (record { units = units_start s (units_of s); guests = tt; replies = tt; attentions = tt })
 caused_after s (e ∷ h) = go (array_after s h) refl (caused_after s h)
   where
     go : (x : Option Array) → array_after s h ≡ x → IsCausedIf s h x → IsCausedIf s (e ∷ h) (array_step s e x)

@@ -6,9 +6,9 @@ use proofs.Names.{line_of, data_of, arbitration, call, connection, free_since, d
 use proofs.Names.{line_times, driven_at, AreTimesBefore, Kind, Drives, Fault, Row, Arbitration, Change, Connection}
 use proofs.Names.{Call, Calling, timely, ComeBefore, BusViewValue, IsBusViewOf, effect, handshakes, stage, stage_by}
 use proofs.Names.{call_stage, answer_stage, IsBefore, IsCallingBefore, IsCallBefore, IsConnectionBefore}
-use proofs.Names.{IsArbitrationBefore, IsStageBefore, AreHandshakesBefore, IsTimely, ScenarioValue, UnitState, Array}
-use proofs.Names.{row_reading, row_events_by, Own, own_of, own_next, RunState, or_start, run_state, current_times_after}
-use proofs.Names.{current_times_if, is_same_running, array_after_events, since_of}
+use proofs.Names.{IsArbitrationBefore, IsStageBefore, AreHandshakesBefore, IsTimely, units_of, ScenarioValue, UnitState}
+use proofs.Names.{Array, row_reading, row_events_by, Own, own_of, own_next, RunState, or_start, run_state}
+use proofs.Names.{current_times_after, current_times_if, is_same_running, array_after_events, since_of}
 
 -- ---- the bus
 
@@ -165,7 +165,7 @@ times_if end s k (event ∷ shown) a time t h =
 
 pub current_before : (end : ℕ) → 0 < end → (s : ScenarioValue) (rows : List Row) → ComeBefore end rows
     → AreNumbersBefore end (run_state s rows).current_since
-current_before end some s [] h = zeros_before end (length s.units) some
+current_before end some s [] h = zeros_before end (length (units_of s)) some
 current_before end some s (row ∷ rows) h =
     let k = run_state s rows in
     let shown = row_events_by s k.story (row_reading k.story.bus_state row) row in

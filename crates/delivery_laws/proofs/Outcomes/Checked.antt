@@ -11,11 +11,11 @@ use proofs.Names.{unanswered, retries_of, story, recovery_limit, prompt_plain, t
 use proofs.Names.{RunState, array_of, run_state, same_event, has_event, fault_rows, Whole, whole, WantsAreItems}
 use proofs.Names.{all_joined, has_bus_reset, has_loss, has_sense_abort, has_sense_stop, has_status, is_bus_reset}
 use proofs.Names.{is_command_abort, is_loss_of, is_sense_abort, is_status_of, HasRun, IsGiven, IsOwnSense}
-use proofs.Names.{calling_faults, checked_sense, command_faults, failed, fault_limit, is_calm_event, ran}
+use proofs.Names.{calling_faults, checked_sense, command_faults, failed, fault_limit, is_calm_event, ran, is_checked}
 use proofs.Callings.{Facts.{unanswered_struck}, Unheard.{about_there, has_about, is_about, no_sense_lost}}
 use proofs.Outcomes.Delivered.{AreOutcomes, Borne, HaveCauses, IsLimited, IsLostAbove, abort_uncalm, any_to, borne}
 use proofs.Outcomes.Delivered.{loss_is_event, none_calm, not_above, not_unheard, reset_uncalm, some_outcome}
-use proofs.Replies.{Ends.{HasReply, all_ended, end_found, end_reply}, Given.{all_given}, Invalid.{invalid_ran}}
+use proofs.Replies.{Ends.{HasReply, all_ended, end_found, end_reply}, Given.{all_given}, Invalid.{checked_ran}}
 use proofs.{Replies.Lasting.{ran_lasts}, Resets.Calm.{calm_history}, Senses.Facts.{own_plays, own_sense}}
 use proofs.Senses.Stopped.{AreStopped, sense_stopped}
 use Rattle.delivery_laws.specs.Delivery.{refused}
@@ -83,13 +83,13 @@ unheard s p m c laws t at away = ap (λ (b : Story). outcome_of s b m) (sym (pro
         none_calm (is_command_abort c) (abort_uncalm c) k.story.history (calm_of s p t) (laws.causes.abort s p m c at e)
     go (Some unanswered) e some = refl
 
--- ---- it is not valid
+-- ---- something is wrong with it
 
 -- What is asked of it.
 pub record IsWrong (s : ScenarioValue) (p : List Row) (m : ℕ) (c : CmdDef) : Type 0 where
   pub at : command_at s.commands m ≡ Some c
   pub there : has_target s c.target ≡ true
-  pub invalid : is_valid s c ≡ false
+  pub checked : is_checked s c ≡ true
   pub bears : nat_le (command_faults s p m) (fault_limit s c) ≡ true
   pub unrefused : has_event (run_state s p).story.history (Event.Refuse (command_id m)) ≡ false
 
@@ -114,7 +114,7 @@ wrong_reply s p m c reply laws t h e =
     k = run_state s p
 
     by : IsGiven s k.story.history (command_id m) reply → reply ≡ check_condition (checked_sense s c)
-    by (ran w) = invalid_ran s k.story.history m c reply t.obeys (calm_of s p t) h.at h.there h.invalid w
+    by (ran w) = checked_ran s k.story.history m c reply t.obeys (calm_of s p t) h.at h.checked w
     by (failed code f g) = no_more s p m c h (laws.limited s p (process_by s (command_id m) c) code t.obeys t.prompt
         (ap (process_if s (command_id m)) h.at) f)
     by (refused f g) = wrong (sym f ∙ h.unrefused)

@@ -3,17 +3,18 @@
 use Rattle.delivery_laws.proofs
 use proofs.Names.{ℕ, zero, suc, ◌≡◌, ◌⊎◌, inl, inr, ◌≤◌, ◌+◌, Bool, true, false, ◌&&◌, ◌||◌, ◌∙◌, List, [], ◌∷◌, Option}
 use proofs.Names.{Some, None, refl, sym, ap, subst, arith, min-le_left, min-le_right, and_parts, or_left, or_right}
-use proofs.Names.{and_from, cases_Bool, nat_tests, list_all, list_any, ◌==◌, is_some, nat_lt, nat_le, and_first}
-use proofs.Names.{eq_self, plus_none, wrong, wrong', Event, ProcId, Row, command_of, GOOD, has_target, ScenarioValue}
-use proofs.Names.{Obeys, CmdDef, TargetDef, array_after, reply_in, Reply, Process, command_at, process_by, process_if}
-use proofs.Names.{process_of, same_id, Array, command_id, command_item, Outcome, ending_of, is_valid, is_sound_command}
-use proofs.Names.{outcome_by_status, outcome_if, outcome_of, outcomes, outcomes_from, Ending, Story, by_abort, by_loss}
-use proofs.Names.{by_reset, by_status, unanswered, retries_of, story, recovery_limit, prompt_plain, target_def_of}
-use proofs.Names.{is_good, IsPrompt, IsEnded, IsPlain, RunState, array_of, or_start, run_state, same_event, has_event}
-use proofs.Names.{fault_rows, has_more_faults, none_some, plus_one, Whole, whole, all_joined, has_status, has_loss}
-use proofs.Names.{has_bus_reset, has_command_abort, is_bus_reset, is_command_abort, is_loss_of, calling_faults}
-use proofs.{Names.{command_faults, fault_limit, is_calm_event, is_given_up_by, limit_with}, Callings.Facts.{AreTried}}
-use proofs.{Replies.Ends.{HasReply, all_ended, end_found, end_reply}, Resets.Devices.{any_found}}
+use proofs.Names.{and_from, cases_Bool, nat_tests, list_all, list_any, ◌==◌, is_some, nat_lt, nat_le, if◌then◌else◌}
+use proofs.Names.{and_first, eq_self, plus_none, wrong, wrong', Event, ProcId, Row, command_of, tape_command_of, GOOD}
+use proofs.Names.{has_target, is_tape, ScenarioValue, Obeys, CmdDef, TargetDef, array_after, reply_in, Reply, Process}
+use proofs.Names.{command_at, process_by, process_if, process_of, same_id, Array, command_id, command_item, Outcome}
+use proofs.Names.{ending_of, is_valid, is_sound_command, outcome_by_status, outcome_if, outcome_of, outcomes}
+use proofs.Names.{outcomes_from, is_plain_at_tape, Ending, Story, by_abort, by_loss, by_reset, by_status, unanswered}
+use proofs.Names.{retries_of, story, recovery_limit, prompt_plain, target_def_of, is_good, IsPrompt, IsEnded, IsPlain}
+use proofs.Names.{RunState, array_of, or_start, run_state, same_event, has_event, fault_rows, has_more_faults}
+use proofs.Names.{none_some, plus_one, Whole, whole, all_joined, has_status, has_loss, has_bus_reset, has_command_abort}
+use proofs.Names.{is_bus_reset, is_command_abort, is_loss_of, calling_faults, command_faults, fault_limit}
+use proofs.{Names.{is_calm_event, is_given_up_by, limit_with}, Callings.Facts.{AreTried}, Replies.Ends.{HasReply}}
+use proofs.{Replies.Ends.{all_ended, end_found, end_reply}, Resets.Devices.{any_found}}
 
 -- ---- events
 
@@ -276,7 +277,8 @@ delivered s p m c laws causes limited lost all o resets aborts prompt end at val
       prompt = prompt;
       at = at;
       valid = valid;
-      there = and_first (has_target s c.target) (is_sound_command s c (command_of c.cdb)) valid;
+      there = and_first (has_target s c.target) (if is_tape s c.target c.unit
+          then is_plain_at_tape (tape_command_of c.cdb) else is_sound_command s c (command_of c.cdb)) valid;
       bears = bears;
       unrefused = unrefused;
     }

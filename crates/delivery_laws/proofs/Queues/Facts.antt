@@ -3,8 +3,8 @@ use Rattle.delivery_laws.proofs
 use proofs.Names.{ℕ, suc, ◌≡◌, ◌≤◌, ◌+◌, Bool, true, false, not, ◌&&◌, ◌∙◌, List, [], ◌∷◌, ◌++◌, Option, Some, None}
 use proofs.Names.{refl, sym, ap, subst, length, arith, inl, inr, and_from, not-true, or_parts, not-false, cases_Bool}
 use proofs.Names.{nat_tests, same_Some, list_any, if◌then◌else◌, ◌==◌, is_some, nat_lt, nat_le, and_first, and_second}
-use proofs.Names.{wrong, wrong', Event, ProcId, LineSet, is_command, Row, Change, command_of, ScenarioValue, Obeys}
-use proofs.Names.{CmdDef, UnitDef, id_turned, array_after, array_step, is_request_sense, choice, without_process}
+use proofs.Names.{wrong, wrong', Event, ProcId, LineSet, is_command, Row, Change, command_of, units_of, ScenarioValue}
+use proofs.Names.{Obeys, CmdDef, UnitDef, id_turned, array_after, array_step, is_request_sense, choice, without_process}
 use proofs.Names.{Process, process_of, same_id, is_initiator, Array, Nexus, RunningProcess, UnitState, has_no_current}
 use proofs.Names.{is_held, starting_array, starting_units, unit_after_choice, unit_state_at, with_current, with_unit}
 use proofs.Names.{carried_id, RowReading, row_reading, CarriedBytes, carried_if, row_events_by, Item, Sent, process}
@@ -170,8 +170,8 @@ roomy_next : (s : ScenarioValue) (p : List Row) (row : Row) → Obeys s → IsPr
     → AllUnits (IsRoomy (most_open s.hosts)) (array_of s (run_state s (row ∷ p))).units
 roomy_next s p row o prompt roomy was = events_all s (IsRoomy (most_open s.hosts)) k.array
     (row_events_by s k.story d row) (roomy_stays (most_open s.hosts)) (arrives_first s k.story d row
-    (MayWait s (IsRoomy (most_open s.hosts)) (array_of s k)) waits) (roomy_start s (most_open s.hosts) s.units
-    (not-true (list_any (λ (u : UnitDef). not (nat_le (most_open s.hosts) u.depth)) s.units) roomy)) was
+    (MayWait s (IsRoomy (most_open s.hosts)) (array_of s k)) waits) (roomy_start s (most_open s.hosts) (units_of s)
+    (not-true (list_any (λ (u : UnitDef). not (nat_le (most_open s.hosts) u.depth)) (units_of s)) roomy)) was
   where
     k : RunState
     k = run_state s p
@@ -204,8 +204,8 @@ roomy_next s p row o prompt roomy was = events_all s (IsRoomy (most_open s.hosts
 pub all_roomy : (s : ScenarioValue) (p : List Row) → Obeys s → IsPrompt s p → is_roomy s ≡ true
     → AllUnits (IsRoomy (most_open s.hosts)) (array_of s (run_state s p)).units
 all_roomy s [] o prompt roomy = each_settled (IsRoomy (most_open s.hosts)) (starting_array s)
-    (roomy_stays (most_open s.hosts)) (roomy_start s (most_open s.hosts) s.units
-    (not-true (list_any (λ (u : UnitDef). not (nat_le (most_open s.hosts) u.depth)) s.units) roomy))
+    (roomy_stays (most_open s.hosts)) (roomy_start s (most_open s.hosts) (units_of s)
+    (not-true (list_any (λ (u : UnitDef). not (nat_le (most_open s.hosts) u.depth)) (units_of s)) roomy))
 all_roomy s (row ∷ p) o prompt roomy = roomy_next s p row o prompt roomy (all_roomy s p o prompt.0 roomy)
 
 -- ---- there is room for it

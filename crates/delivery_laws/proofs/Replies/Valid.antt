@@ -5,24 +5,26 @@ use proofs.Names.{ℕ, ◌≡◌, ◌⊎◌, inl, inr, Bool, true, false, not, �
 use proofs.Names.{None, Result, Ok, Err, length, refl, sym, ap, subst, eqb-true, or_left, or_right, and_right}
 use proofs.Names.{same_Some, list_all, list_any, if◌then◌else◌, ◌==◌, is_none, is_some, nat_lt, slice_index, ⊤, wrong'}
 use proofs.Names.{and_first, and_second, Event, ProcId, command_of, sized_of, has_group_len, are_zero, spare_room}
-use proofs.Names.{operation_of, CdbFault, Command, Operation, INQUIRY, REQUEST_SENSE, ABORTED_COMMAND, CHECK_CONDITION}
-use proofs.Names.{GOOD, has_target, unit_of, ScenarioValue, Obeys, CmdDef, UnitDef, fail_lists, loss_lists, took}
-use proofs.Names.{end_lists, carried_executed, command_good, inquiry_command, is_inquiry_or_faulty, history_sound}
-use proofs.Names.{array_after, array_step, reply_in, CommandContext, Reply, check_condition, execution, is_good_range}
-use proofs.Names.{is_opcode, is_request_sense, needs_unit, queue_full, range_of, sense_of, Process, command_at}
-use proofs.Names.{process_of, process_if, process_by, same_id, IsSound, Array, Nexus, RunningProcess, UnitState}
-use proofs.Names.{guest_at, is_held, nexus_of, nexuses_without, sense_of_nexus, senses_without, settled_array}
-use proofs.Names.{unit_state_at, with_unit, command_id, fits_unit, is_sound_command, is_valid, obeys_fits, seats_are}
-use proofs.Names.{unit_of_line, lines_always, AreOfLines, IsOfLine, id_is, self_id, none_some, executed, reply_at}
-use proofs.Names.{accepted, refused, settles, running_id, running_own, is_given_up_by, is_calm_event}
+use proofs.Names.{operation_of, tape_command_of, CdbFault, Command, Operation, INQUIRY, REQUEST_SENSE, ABORTED_COMMAND}
+use proofs.Names.{CHECK_CONDITION, GOOD, TapeCommand, has_target, unit_of, is_tape, ScenarioValue, Obeys, CmdDef}
+use proofs.Names.{UnitDef, fail_lists, loss_lists, took, end_lists, carried_executed, Passes, on_tape, tape_executed}
+use proofs.Names.{command_good, inquiry_command, is_inquiry_or_faulty, history_sound, array_after, array_step, reply_in}
+use proofs.Names.{CommandContext, Reply, check_condition, execution, is_good_range, is_opcode, is_request_sense}
+use proofs.Names.{needs_unit, queue_full, range_of, sense_of, Process, command_at, process_of, process_if, process_by}
+use proofs.Names.{same_id, Reel, IsSound, Array, Nexus, RunningProcess, UnitState, guest_at, is_held, nexus_of}
+use proofs.Names.{nexuses_without, sense_of_nexus, senses_without, settled_array, unit_state_at, with_unit, command_id}
+use proofs.Names.{fits_unit, is_sound_command, is_valid, is_plain_at_tape, obeys_fits, seats_are, lines_always}
+use proofs.Names.{kinds_always, none_tape, AreOfLines, IsOfLine, AreOfKinds, IsOfKind, id_is, self_id, none_some}
+use proofs.Names.{by_bool, by_option, executed, reply_at, accepted, refused, settles, running_id, running_own}
+use proofs.Names.{is_given_up_by, is_calm_event}
 use Rattle.due_model.specs.array_model.specs.Steps
 
 -- ---- what a command without fault answers, where no attention stands and its range is good
 
-run_good : (m : CommandContext) (cdb sent : List ℕ) (c : Command) → (not m.present && needs_unit cdb) ≡ false
-    → m.attention ≡ None → command_of cdb ≡ Ok c → is_good_range m.contents.count (range_of c) ≡ true
-    → (execution m cdb sent).reply.status ≡ GOOD
-run_good m cdb sent c there calm is range = (λ i. (carried_executed m cdb sent c
+run_good : (m : CommandContext) (cdb sent : List ℕ) (c : Command) → m.contents.reel ≡ None
+    → (not m.present && needs_unit cdb) ≡ false → m.attention ≡ None → command_of cdb ≡ Ok c
+    → is_good_range m.contents.count (range_of c) ≡ true → (execution m cdb sent).reply.status ≡ GOOD
+run_good m cdb sent c disk there calm is range = (λ i. (carried_executed m cdb sent c disk
     (record { there = there; calm = λ sense a. none_some sense (sym calm ∙ a) }) is range i).reply.status)
     ∙ command_good m c sent
 
@@ -98,25 +100,96 @@ present_is a q None = refl
 present_is a q (Some u) = refl
 
 answers_by_unit : (a : Array) (q : Nexus) (u : Option UnitState) (cdb sent : List ℕ) (c : Command)
-    → a.attentions ≡ [] → command_of cdb ≡ Ok c → is_some u ≡ true
+    → (Steps.context_at a q u).contents.reel ≡ None → a.attentions ≡ [] → command_of cdb ≡ Ok c → is_some u ≡ true
     → ((v : UnitState) → u ≡ Some v → is_good_range v.contents.count (range_of c) ≡ true)
     → (execution (Steps.context_at a q u) cdb sent).reply.status ≡ GOOD
-answers_by_unit a q None cdb sent c calm is some range = wrong' some
-answers_by_unit a q (Some u) cdb sent c calm is some range =
-    run_good (Steps.context_at a q (Some u)) cdb sent c refl (calm_context a q (Some u) calm) is (range u refl)
+answers_by_unit a q None cdb sent c disk calm is some range = wrong' some
+answers_by_unit a q (Some u) cdb sent c disk calm is some range =
+    run_good (Steps.context_at a q (Some u)) cdb sent c disk refl (calm_context a q (Some u) calm) is (range u refl)
 
-answers_anywhere : (a : Array) (q : Nexus) (u : Option UnitState) (cdb sent : List ℕ) (c : Command) → a.attentions ≡ []
-    → command_of cdb ≡ Ok c → needs_unit cdb ≡ false → ((m : ℕ) → is_good_range m (range_of c) ≡ true)
+answers_anywhere : (a : Array) (q : Nexus) (u : Option UnitState) (cdb sent : List ℕ) (c : Command)
+    → (Steps.context_at a q u).contents.reel ≡ None → a.attentions ≡ [] → command_of cdb ≡ Ok c
+    → needs_unit cdb ≡ false → ((m : ℕ) → is_good_range m (range_of c) ≡ true)
     → (execution (Steps.context_at a q u) cdb sent).reply.status ≡ GOOD
-answers_anywhere a q u cdb sent c calm is apart range = run_good (Steps.context_at a q u) cdb sent c
+answers_anywhere a q u cdb sent c disk calm is apart range = run_good (Steps.context_at a q u) cdb sent c disk
     (and_right (not (Steps.context_at a q u).present) (needs_unit cdb) apart) (calm_context a q u calm) is
     (range (Steps.context_at a q u).contents.count)
 
-valid_answers : (s : ScenarioValue) (a : Array) (q : Nexus) (c : CmdDef) (sent : List ℕ)
-    → s.tapes ≡ [] → AreOfLines s a → a.attentions ≡ [] → is_valid s c ≡ true
+no_reel : (o : Option Reel) → is_some o ≡ false → o ≡ None
+no_reel None e = refl
+no_reel (Some r) e = wrong' (sym e)
+
+-- What stands at the place of a command that is at no tape.
+pub plain_place : (s : ScenarioValue) (a : Array) (q : Nexus) (t m : ℕ) → AreOfKinds s a → is_tape s t m ≡ false
+    → (Steps.context_at a q (unit_state_at a.units t m)).contents.reel ≡ None
+plain_place s a q t m kinds disk = go (unit_state_at a.units t m) (kinds t m)
+  where
+    go : (u : Option UnitState) → IsOfKind (is_tape s t m) u → (Steps.context_at a q u).contents.reel ≡ None
+    go None k = refl
+    go (Some v) k = no_reel v.contents.reel (k ∙ disk)
+
+-- And of one that is at a tape.
+pub record IsTapeAt (a : Array) (q : Nexus) (t m : ℕ) : Type 0 where
+  pub state : UnitState
+  pub state_is : unit_state_at a.units t m ≡ Some state
+  pub reel : Reel
+  pub reel_is : state.contents.reel ≡ Some reel
+
+pub tape_place : (s : ScenarioValue) (a : Array) (q : Nexus) (t m : ℕ) → AreOfLines s a → AreOfKinds s a
+    → is_tape s t m ≡ true → IsTapeAt a q t m
+tape_place s a q t m lines kinds tape = go (unit_state_at a.units t m) refl (lines t m) (kinds t m)
+  where
+    on : (v : UnitState) → unit_state_at a.units t m ≡ Some v → (o : Option Reel) → v.contents.reel ≡ o
+        → is_some o ≡ true → IsTapeAt a q t m
+    on v e None d z = wrong' z
+    on v e (Some r) d z = record { state = v; state_is = e; reel = r; reel_is = d }
+
+    go : (u : Option UnitState) → unit_state_at a.units t m ≡ u → IsOfLine (unit_of s t m) u
+        → IsOfKind (is_tape s t m) u → IsTapeAt a q t m
+    go None e l k = by_option (unit_of s t m) (λ z. wrong' (sym (none_tape s t m z) ∙ tape))
+        (λ d z. absurd (subst (λ (o : Option UnitDef). IsOfLine o None) z l))
+    go (Some v) e l k = on v e v.contents.reel refl (k ∙ tape)
+
+-- A tape carries these out wherever it stands.
+plain_good : (m : CommandContext) (r : Reel) (c : TapeCommand) (sent : List ℕ) → is_plain_at_tape (Ok c) ≡ true
+    → (on_tape m r c sent).reply.status ≡ GOOD
+plain_good m r TapeCommand.TestUnitReady sent e = refl
+plain_good m r TapeCommand.Rewind sent e = refl
+plain_good m r (TapeCommand.RequestSense room) sent e = refl
+plain_good m r (TapeCommand.Inquiry room) sent e = refl
+plain_good m r _ sent e = wrong' e
+
+tape_answers : (s : ScenarioValue) (a : Array) (q : Nexus) (c : CmdDef) (sent : List ℕ) → AreOfLines s a
+    → AreOfKinds s a → a.attentions ≡ [] → is_tape s c.target c.unit ≡ true
+    → is_plain_at_tape (tape_command_of c.cdb) ≡ true
     → (execution (Steps.context_at a q (unit_state_at a.units c.target c.unit)) c.cdb sent).reply.status ≡ GOOD
-valid_answers s a q c sent plain lines calm valid =
-    go (command_of c.cdb) refl (and_second (has_target s c.target) (is_sound_command s c (command_of c.cdb)) valid)
+tape_answers s a q c sent lines kinds calm tape plain =
+    (λ i. (execution (Steps.context_at a q (w.state_is i)) c.cdb sent).reply.status)
+    ∙ by (tape_command_of c.cdb) refl plain
+  where
+    w : IsTapeAt a q c.target c.unit
+    w = tape_place s a q c.target c.unit lines kinds tape
+
+    m : CommandContext
+    m = Steps.context_at a q (Some w.state)
+
+    passes : Passes m c.cdb
+    passes = record {
+      there = refl;
+      calm = λ sense z. none_some sense (sym (calm_context a q (Some w.state) calm) ∙ z);
+    }
+
+    by : (x : Result TapeCommand CdbFault) → tape_command_of c.cdb ≡ x → is_plain_at_tape x ≡ true
+        → (execution m c.cdb sent).reply.status ≡ GOOD
+    by (Ok k) is e = (λ i. (tape_executed m c.cdb sent w.reel k w.reel_is passes is i).reply.status)
+        ∙ plain_good m w.reel k sent e
+    by (Err fault) is e = wrong' e
+
+disk_answers : (s : ScenarioValue) (a : Array) (q : Nexus) (c : CmdDef) (sent : List ℕ) → AreOfLines s a
+    → (Steps.context_at a q (unit_state_at a.units c.target c.unit)).contents.reel ≡ None → a.attentions ≡ []
+    → is_sound_command s c (command_of c.cdb) ≡ true
+    → (execution (Steps.context_at a q (unit_state_at a.units c.target c.unit)) c.cdb sent).reply.status ≡ GOOD
+disk_answers s a q c sent lines disk calm sound = go (command_of c.cdb) refl sound
   where
     u : Option UnitState
     u = unit_state_at a.units c.target c.unit
@@ -126,7 +199,7 @@ valid_answers s a q c sent plain lines calm valid =
 
     by_inquiry : (z : Command) → command_of c.cdb ≡ Ok z → is_opcode c.cdb INQUIRY ≡ true → Good
     by_inquiry z is e =
-        answers_anywhere a q u c.cdb sent z calm is (λ i. not (e i) && not (is_request_sense (command_of c.cdb)))
+        answers_anywhere a q u c.cdb sent z disk calm is (λ i. not (e i) && not (is_request_sense (command_of c.cdb)))
         (λ n. inquiry_range n z ((λ i. is_inquiry_or_faulty (sym is i)) ∙ inquiry_command c.cdb e))
 
     by_sense : (z : Command) → command_of c.cdb ≡ Ok z → is_opcode c.cdb REQUEST_SENSE ≡ true → Good
@@ -134,14 +207,13 @@ valid_answers s a q c sent plain lines calm valid =
         let known : is_sense_or_faulty (Ok z) ≡ true = (λ i. is_sense_or_faulty (sym is i)) ∙ sense_command c.cdb e in
         let senses : is_request_sense (command_of c.cdb) ≡ true = (λ i. is_request_sense (is i))
         ∙ (sense_range 0 z known).1 in
-        answers_anywhere a q u c.cdb sent z calm is (and_right (not (is_opcode c.cdb INQUIRY))
+        answers_anywhere a q u c.cdb sent z disk calm is (and_right (not (is_opcode c.cdb INQUIRY))
         (not (is_request_sense (command_of c.cdb))) (ap not senses)) (λ n. (sense_range n z known).0)
 
     by_unit : (z : Command) → command_of c.cdb ≡ Ok z → fits_unit (unit_of s c.target c.unit) z ≡ true → Good
     by_unit z is e =
-        let w = fit_unit s c (unit_of s c.target c.unit) u z
-        (unit_of_line s a plain lines c.target c.unit) is e in
-        answers_by_unit a q u c.cdb sent z calm is w.0 w.1
+        let w = fit_unit s c (unit_of s c.target c.unit) u z (lines c.target c.unit) is e in
+        answers_by_unit a q u c.cdb sent z disk calm is w.0 w.1
 
     either : (z : Command) → command_of c.cdb ≡ Ok z → (x y : Bool) → is_opcode c.cdb INQUIRY ≡ x
         → is_opcode c.cdb REQUEST_SENSE ≡ y → (x || y || fits_unit (unit_of s c.target c.unit) z) ≡ true → Good
@@ -152,6 +224,20 @@ valid_answers s a q c sent plain lines calm valid =
     go : (r : Result Command CdbFault) → command_of c.cdb ≡ r → is_sound_command s c r ≡ true → Good
     go (Ok z) is e = either z is (is_opcode c.cdb INQUIRY) (is_opcode c.cdb REQUEST_SENSE) refl refl e
     go (Err fault) is e = wrong' e
+
+valid_answers : (s : ScenarioValue) (a : Array) (q : Nexus) (c : CmdDef) (sent : List ℕ) → AreOfLines s a
+    → AreOfKinds s a → a.attentions ≡ [] → is_valid s c ≡ true
+    → (execution (Steps.context_at a q (unit_state_at a.units c.target c.unit)) c.cdb sent).reply.status ≡ GOOD
+valid_answers s a q c sent lines kinds calm valid = by_bool (is_tape s c.target c.unit)
+    (λ tape. tape_answers s a q c sent lines kinds calm tape ((λ i. if sym tape i
+    then is_plain_at_tape (tape_command_of c.cdb) else is_sound_command s c (command_of c.cdb)) ∙ sound))
+    (λ disk. disk_answers s a q c sent lines (plain_place s a q c.target c.unit kinds disk) calm ((λ i. if sym disk i
+    then is_plain_at_tape (tape_command_of c.cdb) else is_sound_command s c (command_of c.cdb)) ∙ sound))
+  where
+    sound : (if is_tape s c.target c.unit then is_plain_at_tape (tape_command_of c.cdb)
+        else is_sound_command s c (command_of c.cdb)) ≡ true
+    sound = and_second (has_target s c.target) (if is_tape s c.target c.unit
+        then is_plain_at_tape (tape_command_of c.cdb) else is_sound_command s c (command_of c.cdb)) valid
 
 -- ---- the replies that are listed
 
@@ -195,8 +281,8 @@ one_more s h e replies after id reply is own g = subst (λ (x : List (ProcId × 
 
 record IsAlong (s : ScenarioValue) (a : Array) : Type 0 where
   sound : IsSound s a
-  plain : s.tapes ≡ []
   lines : AreOfLines s a
+  kinds : AreOfKinds s a
   calm : a.attentions ≡ []
 
 ran : (s : ScenarioValue) (h : List Event) (a c : Array) (id : ProcId) (guest : Bool) (o : Option RunningProcess)
@@ -221,7 +307,7 @@ ran s h a c id guest (Some r) is f e g =
         let cdb : d.cdb ≡ r.process.cdb = ap (λ (x : Process). x.cdb) by in
         (λ i. (execution (Steps.context_at a (nexus_of r.process) (unit_state_at a.units (sym target i) (sym unit i)))
         (sym cdb i) r.process.sent).reply.status)
-        ∙ valid_answers s a (nexus_of r.process) d r.process.sent is.plain is.lines is.calm valid
+        ∙ valid_answers s a (nexus_of r.process) d r.process.sent is.lines is.kinds is.calm valid
 
     go : (x : Bool) → (if x then Some (Steps.after_execution_at a r.process u) else None) ≡ Some c
         → AreFair s (Event.Run id ∷ h) c.replies
@@ -391,8 +477,8 @@ fair_after s (x ∷ h) a o calm e = go (λ b z. fair_after s h b o
         record {
           replies = step_fair s h b a x (record {
             sound = history_sound s h b (seats_are s (obeys_fits s o)) z;
-            plain = o.tapes;
             lines = lines_always s h b z;
+            kinds = kinds_always s h b z;
             calm = was.calm;
           }) now st was.replies;
           calm = calm_step s b a x now st was.calm;

@@ -98,7 +98,7 @@ there_built d z (x ∷ xs) e w =
 
 pub resets_there : (s : ScenarioValue) → Obeys s → AreThere s
 resets_there s o =
-    let b = bind_ok (built nothing (saids s)) _ s o.text.lawful in
+    let b = bind_ok (built nothing (saids s)) _ s o.lawful in
     subst AreThere (ok_is b.0.scenario s b.2) (there_built nothing b.0 (saids s) b.1 tt)
 
 -- ---- so it has a latency

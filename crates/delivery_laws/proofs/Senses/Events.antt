@@ -13,8 +13,9 @@ use proofs.Names.{sense_of_nexus, senses_without, unit_state_at, with_unit, ends
 use proofs.Names.{process, sense_id, sense_item, sense_in, Ending, Story, by_abort, by_reset, by_status, is_aborted}
 use proofs.Names.{is_sense_stopped, story_after_event, story_with_end, story_with_ends, id_is, self_nexus, StoredFit}
 use proofs.Names.{none_some, reply_at, running_id, AreChecked, ends_over, ends_senses, events_grow, in_append}
-use proofs.Names.{sense_cdb, debt_before, is_checked, is_not_over, same_debt, OfCommand, of_command, running_own}
-use proofs.Names.{nexus_at, Debts, IsDebt, PaysWell, is_owed, nexus_of_command}
+use proofs.Names.{sense_cdb, debt_before, is_not_over, same_debt, OfCommand, of_command, running_own, nexus_at, Debts}
+use proofs.Names.{IsDebt, PaysWell, is_owed, nexus_of_command}
+use Rattle.progress_laws.proofs.Debts.Steps.{is_checked}
 use Rattle.due_model.specs.array_model.specs.Steps
 
 -- ---- what is kept

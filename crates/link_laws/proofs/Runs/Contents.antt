@@ -1,31 +1,37 @@
 -- What the logical units hold stays within the limits of a scenario, whatever events there are; so a command gives few
 -- bytes.
 use Rattle.link_laws.proofs
-use proofs.Names.{ℕ, zero, suc, ◌≡◌, ◌≤◌, ◌+◌, ◌*◌, ◌-◌, ◌^◌, Bool, true, false, not, ◌&&◌, ◌||◌, List, [], ◌∷◌, ◌++◌}
-use proofs.Names.{length, take, drop, Option, Some, None, refl, arith, ◌==◌, inl, inr, and_parts, cases_Bool, nat_tests}
-use proofs.Names.{length-append, length-replicate, length-take, AllByRecursion, if◌then◌else◌, min, nat_le, nat_lt}
-use proofs.Names.{is_some, is_none, AbortKind, Event, ProcId, blocks_moved, command_of, sense_data, inquiry_data}
-use proofs.Names.{capacity_data, Sense, Command, SENSE_LEN, INQUIRY_LEN, ABORTED_COMMAND, GOOD, CHECK_CONDITION}
-use proofs.Names.{unit_of, is_block_in, ScenarioValue, FillDef, HostDef, UnitDef, of_all, Contents, no_contents}
-use proofs.Names.{zero_block, touched_block, block_at, touched_with, with_block, bytes_at, with_bytes, blank_contents}
-use proofs.Names.{filled_contents, Reply, CommandContext, Execution, good, check_condition, queue_full, sense_of}
-use proofs.Names.{range_of, is_good_range, returned_sense, reply_execution, write_execution, command_execution}
-use proofs.Names.{execution, commands_cleared, is_request_sense, choice, Process, process_of, RunningProcess, UnitState}
-use proofs.Names.{Nexus, Array, unit_state_at, with_unit, guest_at, with_current, has_no_current, is_held}
-use proofs.Names.{units_after_choice, settled_array, starting_array, starting_units, nexus_of, sense_of_nexus}
-use proofs.Names.{senses_without, nexuses_without, unit_fits, FitsBus, IsUnitLine}
+use proofs.Names.{ℕ, zero, suc, ◌≡◌, ◌≤◌, ◌+◌, ◌*◌, ◌-◌, ◌^◌, Bool, true, false, ◌&&◌, List, [], ◌∷◌, ◌++◌, length}
+use proofs.Names.{take, drop, Option, Some, None, arith, ◌==◌, refl, inl, inr, subst, sym, and_parts, cases_Bool}
+use proofs.Names.{nat_tests, length-append, length-replicate, length-take, AllByRecursion, if◌then◌else◌, min, nat_le}
+use proofs.Names.{nat_lt, is_some, map, Event, blocks_moved, sense_data, inquiry_data, capacity_data, Sense, Command}
+use proofs.Names.{SENSE_LEN, INQUIRY_LEN, TapeCommand, unit_of, tape_unit, is_block_in, ScenarioValue, FillDef, TapeDef}
+use proofs.Names.{UnitDef, of_all, on_tape, IsShortReel, tape_short, AreShort, AreAt, AreAtIf, IsAtIf, IsKept, settles}
+use proofs.Names.{step_keeps, unit_found, Contents, no_contents, zero_block, touched_block, block_at, touched_with}
+use proofs.Names.{with_block, bytes_at, with_bytes, blank_contents, filled_contents, loaded_contents, loaded_objects}
+use proofs.Names.{starting_contents, Reply, CommandContext, Execution, good, check_condition, range_of, is_good_range}
+use proofs.Names.{returned_sense, reply_execution, write_execution, command_execution, execution, AreWhole, Object}
+use proofs.Names.{Reel, Nexus, UnitState, Array, unit_state_at, settled_array, starting_array, starting_units}
+use proofs.Names.{unit_fits, FitsBus, IsUnitLine, IsTapeLine}
 use Rattle.due_model.specs.array_model.specs.ArrayHistory as Play
+use Rattle.due_model.specs.array_model.specs.Reels as reels
 use Rattle.due_model.specs.array_model.specs.Steps
 
--- ---- blocks: at most 2^32 of at most 2048 bytes
+-- ---- blocks: at most 2^32 of at most 2048 bytes; of a tape at most 2^16
 
 abbrev IsShortBlock : (ℕ × List ℕ) → Type 0
 IsShortBlock entry = length entry.1 ≤ 2048
+
+-- A tape has few objects, and short ones.
+abbrev IsShortTape : ℕ → Option Reel → Type 0
+IsShortTape count None = Unit {0}
+IsShortTape count (Some r) = (count ≤ 65536) × IsShortReel count 2048 r
 
 pub record HasShortBlocks (c : Contents) : Type 0 where
   pub count : c.count ≤ 2 ^ 32
   pub size : c.size ≤ 2048
   pub touched : AllByRecursion IsShortBlock c.touched
+  pub reel : IsShortTape c.count c.reel
 
 touched_short : (touched : List (ℕ × List ℕ)) (lba : ℕ) (otherwise : List ℕ) → AllByRecursion IsShortBlock touched
     → length otherwise ≤ 2048 → length (touched_block touched lba otherwise) ≤ 2048
@@ -64,7 +70,7 @@ with_short (entry ∷ touched) lba block a b =
 block_put : (c : Contents) (lba : ℕ) (block : List ℕ) → HasShortBlocks c → length block ≤ 2048
     → HasShortBlocks (with_block c lba block)
 block_put c lba block h b =
-    record { count = h.count; size = h.size; touched = with_short c.touched lba block h.touched b }
+    record { count = h.count; size = h.size; touched = with_short c.touched lba block h.touched b; reel = h.reel }
 
 taken_short : (m : ℕ) (xs : List ℕ) → length (take m xs) ≤ m
 taken_short m xs = let long = length-take m xs in omega (arith, long)
@@ -78,7 +84,7 @@ bytes_put c lba (suc m) bytes h =
     (block_put c lba (take c.size bytes) h (omega (arith, few, size)))
 
 none_short : HasShortBlocks no_contents
-none_short = record { count = omega arith; size = omega arith; touched = tt }
+none_short = record { count = omega arith; size = omega arith; touched = tt; reel = tt }
 
 -- ---- a command gives at most 2^43 bytes
 
@@ -131,250 +137,54 @@ gives m Command.ReadCapacity sent h e =
 gives m (Command.Read10 lba count) sent h e = reads m lba count h e
 gives m (Command.Write10 lba count) sent h e = writes m lba count sent h
 
+at_tape : (m : CommandContext) (r : Reel) (c : TapeCommand) (sent : List ℕ) → m.contents.reel ≡ Some r
+    → HasShortBlocks m.contents → GivesFew (on_tape m r c sent)
+at_tape m r c sent d h =
+    let tape : (m.contents.count ≤ 65536) × IsShortReel m.contents.count 2048 r =
+    subst (IsShortTape m.contents.count) d h.reel in
+    let given = tape_short m r c sent 2048 h.size tape.1 in
+    let few = tape.0 in
+    let objects = tape.1.few in
+    let bytes = given.bytes in
+    record {
+      contents = record { count = h.count; size = h.size; touched = h.touched; reel = (few, given.reel) };
+      bytes = omega (arith, few, objects, bytes);
+    }
+
 pub gives_few : (m : CommandContext) (cdb sent : List ℕ) → HasShortBlocks m.contents → GivesFew (execution m cdb sent)
 gives_few m cdb sent h = of_all m cdb sent GivesFew (record {
   refused_is = λ sense k. checks m sense h;
   reported_is = λ sense a. record { contents = h; bytes = omega arith };
-  disk_is = λ c is g. gives m c sent h g;
+  disk_is = λ c d is g. gives m c sent h g;
+  tape_is = λ r c d is. at_tape m r c sent d h;
 })
 
 -- ---- the units of the array
 
-abbrev IsShortUnit : UnitState → Type 0
-IsShortUnit u = HasShortBlocks u.contents
+abbrev IsShort : ℕ → ℕ → Contents → Type 0
+IsShort target unit c = HasShortBlocks c
+
+short_kept : IsKept IsShort
+short_kept = record { runs = λ m cdb sent target unit h. (gives_few m cdb sent h).contents }
 
 abbrev pub HasShortUnits : Array → Type 0
-HasShortUnits a = AllByRecursion IsShortUnit a.units
+HasShortUnits a = AreAt IsShort a.units
 
 abbrev pub HasShortUnitsIf : Option Array → Type 0
-HasShortUnitsIf None = Unit {0}
-HasShortUnitsIf (Some a) = HasShortUnits a
+HasShortUnitsIf o = AreAtIf IsShort o
 
-if_so : (q : Bool) (a : Array) → HasShortUnits a → HasShortUnitsIf (if q then Some a else None)
-if_so true a h = h
-if_so false a h = tt
-
-unit_put : (units : List UnitState) (new : UnitState) → AllByRecursion IsShortUnit units → IsShortUnit new
-    → AllByRecursion IsShortUnit (with_unit units new)
-unit_put [] new a b = tt
-unit_put (u ∷ units) new a b =
-    elim (cases_Bool (u.target == new.target && u.unit == new.unit)) [
-      | inl e ↦ rw e (b, a.1)
-      | inr e ↦ rw e (a.0, (unit_put units new a.1 b))
-    ]
-
-abbrev IsShortUnitIf : Option UnitState → Type 0
-IsShortUnitIf None = Unit {0}
-IsShortUnitIf (Some u) = IsShortUnit u
-
-unit_found : (units : List UnitState) (t m : ℕ) → AllByRecursion IsShortUnit units
-    → IsShortUnitIf (unit_state_at units t m)
-unit_found [] t m a = tt
-unit_found (u ∷ units) t m a =
-    elim (cases_Bool (u.target == t && u.unit == m)) [ inl e ↦ rw e a.0 | inr e ↦ rw e (unit_found units t m a.1) ]
-
-pub context_short : (a : Array) (x : Nexus) (o : Option UnitState) → IsShortUnitIf o
+context_short : (a : Array) (x : Nexus) (o : Option UnitState) → IsAtIf IsShort o
     → HasShortBlocks (Steps.context_at a x o).contents
-context_short a x None b = none_short
-context_short a x (Some u) b = b
+context_short a x None h = none_short
+context_short a x (Some u) h = h
 
 pub context_at_short : (a : Array) (x : Nexus) (t m : ℕ) → HasShortUnits a
     → HasShortBlocks (Steps.context_at a x (unit_state_at a.units t m)).contents
-context_at_short a x t m h = context_short a x (unit_state_at a.units t m) (unit_found a.units t m h)
-
--- ---- the choice
-
-choices : (holds : List Nexus) (units : List UnitState) → AllByRecursion IsShortUnit units
-    → AllByRecursion IsShortUnit (units_after_choice holds units)
-choices holds [] a = tt
-choices holds (u ∷ units) a = (
-  go (has_no_current u.current && not (is_held holds u.target u.unit)) (choice u.pick u.waiting),
-  choices holds units a.1,
-)
-  where
-    go : (q : Bool) (o : Option Process) → IsShortUnit (if q then with_current u o else u)
-    go true None = a.0
-    go _ _ = a.0
-
-settles : (a : Array) → HasShortUnits a → HasShortUnits (settled_array a)
-settles a h = choices a.holds a.units h
-
--- ---- a command arrives
-
-accepts : (a : Array) (o : Option Process) → HasShortUnits a → HasShortUnitsIf (Steps.accept_step a o)
-accepts a None h = tt
-accepts a (Some c) h = at (unit_state_at a.units c.target c.unit) (unit_found a.units c.target c.unit h)
-  where
-    either : (u : UnitState) → IsShortUnit u
-        → (q : Bool) → HasShortUnitsIf (if q then Some (Steps.with_guest a c None) else Steps.queue_step a c u)
-    either u b true = h
-    either u b false = if_so (nat_lt (Steps.process_count u) u.depth) (record a {
-      units = with_unit a.units (record u { waiting = u.waiting ++ c ∷ [] });
-    }) (unit_put a.units (record u { waiting = u.waiting ++ c ∷ [] }) h b)
-
-    at : (x : Option UnitState) → IsShortUnitIf x → HasShortUnitsIf (Steps.accept_step_at a c x)
-    at None b = h
-    at (Some u) b = either u b (is_request_sense (command_of c.cdb))
-
-refuses : (a : Array) (o : Option Process) → HasShortUnits a → HasShortUnitsIf (Steps.refuse_step a o)
-refuses a None h = tt
-refuses a (Some c) h = at (unit_state_at a.units c.target c.unit)
-  where
-    at : (x : Option UnitState) → HasShortUnitsIf (Steps.refuse_step_at a c x)
-    at None = tt
-    at (Some u) = if_so (not (is_request_sense (command_of c.cdb)) && Steps.process_count u == u.depth)
-        (Steps.with_listed_reply (Steps.with_guest a c (Some queue_full)) c.id queue_full) h
-
--- ---- a command runs, fails, ends
-
-units_replied : (units : List UnitState) (id : ProcId) (r : Reply) → AllByRecursion IsShortUnit units
-    → AllByRecursion IsShortUnit (Steps.units_with_reply units id r)
-units_replied [] id r a = tt
-units_replied (u ∷ units) id r a = (a.0, units_replied units id r a.1)
-
-reported : (a : Array) (q : Bool) (x : Nexus) → HasShortUnits a → HasShortUnits (Steps.without_attention a q x)
-reported a true x h = h
-reported a false x h = h
-
-contents_put : (a : Array) (x : Option UnitState) (c : Contents) → HasShortUnits a → HasShortBlocks c
-    → HasShortUnits (Steps.with_contents a x c)
-contents_put a None c h e = h
-contents_put a (Some u) c h e = unit_put a.units (record u { contents = c }) h e
-
-runs : (a : Array) (guest : Bool) (o : Option RunningProcess) → HasShortUnits a
-    → HasShortUnitsIf (Steps.run_step a guest o)
-runs a guest None h = tt
-runs a guest (Some r) h =
-    let u : Option UnitState = unit_state_at a.units r.process.target r.process.unit in
-    let x : Nexus = nexus_of r.process in
-    let done : Execution = execution (Steps.context_at a x u) r.process.cdb r.process.sent in
-    let after : Array = Steps.with_contents (Steps.without_attention a done.reported x) u done.contents in
-    let e = gives_few (Steps.context_at a x u) r.process.cdb r.process.sent
-    (context_at_short a x r.process.target r.process.unit h) in
-    if_so (is_none r.reply && (guest || not (is_held a.holds r.process.target r.process.unit)))
-    (Steps.after_execution_at a r.process u) (units_replied after.units r.process.id done.reply (contents_put
-    (Steps.without_attention a done.reported x) u done.contents (reported a done.reported x h) e.contents))
-
-fails : (s : ScenarioValue) (a : Array) (id : ProcId) (r : Reply) (o : Option RunningProcess) → HasShortUnits a
-    → HasShortUnitsIf (Steps.fail_step s a id r o)
-fails s a id r (Some x) h = if_so (is_none x.reply) (Steps.with_reply a id r) (units_replied a.units id r h)
-fails s a id r None h = go (process_of s id)
-  where
-    came : (q : Bool) (c : Process)
-        → HasShortUnitsIf (if q then None else Some (Steps.with_listed_reply (Steps.with_guest a c (Some r)) id r))
-    came true c = tt
-    came false c = h
-
-    go : (x : Option Process) → HasShortUnitsIf (Steps.fail_step_of_new a id r x)
-    go None = tt
-    go (Some c) = came (Steps.is_waiting a.units id || Steps.has_ended a id) c
-
-units_left : (units : List UnitState) (id : ProcId) → AllByRecursion IsShortUnit units
-    → AllByRecursion IsShortUnit (Steps.units_without units id)
-units_left [] id a = tt
-units_left (u ∷ units) id a = (a.0, units_left units id a.1)
-
-status_kept : (a : Array) (c : Process) (r : Reply) → HasShortUnits a → HasShortUnits (Steps.after_status a c r)
-status_kept a c r h = go (r.status == CHECK_CONDITION) (r.status == GOOD && is_request_sense (command_of c.cdb))
-  where
-    z : Nexus
-    z = nexus_of c
-
-    go : (x y : Bool) → HasShortUnits
-        (if x then record a { senses = (z, r.sense) ∷ senses_without a.senses z; holds = z ∷ nexuses_without a.holds z }
-        else if y then record a { senses = senses_without a.senses z; holds = nexuses_without a.holds z } else a)
-    go true y = h
-    go false true = h
-    go false false = h
-
-ends : (a : Array) (status : ℕ) (o : Option RunningProcess) → HasShortUnits a
-    → HasShortUnitsIf (Steps.end_step a status o)
-ends a status None h = tt
-ends a status (Some r) h = go r.reply
-  where
-    go : (x : Option Reply) → HasShortUnitsIf (Steps.end_step_with a r.process status x)
-    go None = tt
-    go (Some y) = if_so (y.status == status) (Steps.array_without (Steps.after_status a r.process y) r.process.id)
-        (units_left (Steps.after_status a r.process y).units r.process.id (status_kept a r.process y h))
-
-loses : (a : Array) (id : ProcId) → HasShortUnits a → HasShortUnitsIf (Steps.loss_step a id)
-loses a id h = elim (cases_Bool (Steps.has_ended a id)) [ inl e ↦ rw e tt | inr e ↦ rw e (units_left a.units id h) ]
-
--- ---- aborts and resets
-
-units_kept : (drops : Process → Bool) (units : List UnitState) → AllByRecursion IsShortUnit units
-    → AllByRecursion IsShortUnit (Steps.kept_units drops units)
-units_kept drops [] a = tt
-units_kept drops (u ∷ units) a = (a.0, units_kept drops units a.1)
-
-of_hosts : (hosts : List HostDef) (t m : ℕ) (a : Array) → HasShortUnits a
-    → HasShortUnits (Steps.reset_attentions hosts t m a)
-of_hosts [] t m a h = h
-of_hosts (x ∷ hosts) t m a h =
-    of_hosts hosts t m (Steps.reset_attention a (record { initiator = x.dev; target = t; unit = m })) h
-
-of_units : (hosts : List HostDef) (units : List UnitState) (is_one : UnitState → Bool) (a : Array) → HasShortUnits a
-    → HasShortUnits (Steps.unit_reset_attentions hosts units is_one a)
-of_units hosts [] is_one a h = h
-of_units hosts (u ∷ units) is_one a h =
-    of_units hosts units is_one (if is_one u then Steps.reset_attentions hosts u.target u.unit a else a) (go (is_one u))
-  where
-    go : (q : Bool) → HasShortUnits (if q then Steps.reset_attentions hosts u.target u.unit a else a)
-    go true = of_hosts hosts u.target u.unit a h
-    go false = h
-
-cleared : (by : ℕ) (lost : List Process) (a : Array) → HasShortUnits a
-    → HasShortUnits (Steps.cleared_attentions by lost a)
-cleared by [] a h = h
-cleared by (q ∷ lost) a h = cleared by lost (if q.initiator == by then a else Steps.cleared_attention a (nexus_of q))
-    (go (q.initiator == by) (Steps.is_reset_pending (sense_of_nexus a.attentions (nexus_of q))))
-  where
-    go : (x y : Bool) → HasShortUnits (if x then a else if y then a else record a {
-      attentions = (nexus_of q, commands_cleared) ∷ senses_without a.attentions (nexus_of q);
-    })
-    go true y = h
-    go false true = h
-    go false false = h
-
-aborted : (s : ScenarioValue) (a : Array) (i t m : ℕ) (what : AbortKind) → HasShortUnits a
-    → HasShortUnits (Steps.abort_step s a i t m what)
-aborted s a i t m AbortKind.All h = units_kept (λ p. p.initiator == i && Steps.is_of_unit p t m) a.units h
-aborted s a i t m (AbortKind.Tag tag) h =
-    units_kept (λ p. p.initiator == i && Steps.is_of_unit p t m && Steps.has_tag p.tag tag) a.units h
-aborted s a i t m AbortKind.WholeQueue h = cleared i (Steps.unit_processes (unit_state_at a.units t m))
-    (Steps.without_dropped a (λ p. Steps.is_of_unit p t m)) (units_kept (λ p. Steps.is_of_unit p t m) a.units h)
-aborted s a i t m AbortKind.Device h =
-    of_units s.hosts a.units (λ u. u.target == t) (record (Steps.without_dropped a (λ p. p.target == t)) {
-      senses = Steps.kept_senses (λ q. q.target == t) a.senses;
-      holds = Steps.kept_nexuses (λ q. q.target == t) a.holds;
-    }) (units_kept (λ p. p.target == t) a.units h)
-
-resets : (s : ScenarioValue) (a : Array) → HasShortUnits a → HasShortUnits (Steps.reset_step s a)
-resets s a h = of_units s.hosts a.units (λ u. true)
-    (record (Steps.without_dropped a (λ p. true)) { senses = []; holds = [] }) (units_kept (λ p. true) a.units h)
-
--- ---- any event
-
-by_event : (s : ScenarioValue) (a : Array) (event : Event) → HasShortUnits a
-    → HasShortUnitsIf (Steps.event_step s a event)
-by_event s a (Event.Accept id) h = accepts a (process_of s id) h
-by_event s a (Event.Refuse id) h = refuses a (process_of s id) h
-by_event s a (Event.Run id) h = runs a (is_some (guest_at a.guests id)) (Steps.running_process a id) h
-by_event s a (Event.Fail id code) h =
-    fails s a id (check_condition (sense_of ABORTED_COMMAND code 0x00)) (Steps.running_process a id) h
-by_event s a (Event.End id status) h = ends a status (Steps.running_process a id) h
-by_event s a (Event.Lost id) h = loses a id h
-by_event s a (Event.Aborted i t n what) h = aborted s a i t n what h
-by_event s a (Event.Reset dev) h = resets s a h
-
-settles_if : (o : Option Array) → HasShortUnitsIf o → HasShortUnitsIf (Steps.settled_array_if o)
-settles_if None h = tt
-settles_if (Some a) h = settles a h
+context_at_short a x t m h = context_short a x (unit_state_at a.units t m) (unit_found IsShort a.units t m h)
 
 pub event_short : (s : ScenarioValue) (event : Event) (o : Option Array) → HasShortUnitsIf o
     → HasShortUnitsIf (Play.array_step s event o)
-event_short s event None h = tt
-event_short s event (Some a) h = settles_if (Steps.event_step s a event) (by_event s a event h)
+event_short s event o h = step_keeps IsShort short_kept s event o h
 
 -- ---- the start
 
@@ -403,18 +213,50 @@ filled s u (f ∷ fills) c fits a h = filled s u fills
     go true = block_put c f.lba f.bytes h (fill_short s f fits a.0)
     go false = h
 
-started : (s : ScenarioValue) (units : List UnitDef) → FitsBus s
-    → AllByRecursion (λ (u : UnitDef). IsUnitLine s u) units → AllByRecursion IsShortUnit (starting_units s units)
-started s [] fits a = tt
-started s (u ∷ units) fits a =
-    let count = (a.0).most_blocks in (
-      filled s u s.fills (blank_contents u.blocks u.size) fits fits.fills
-          (record { count = omega (arith, count); size = (a.0).most_size; touched = tt }),
-      started s units fits a.1,
+whole_short : (size : ℕ) (objects : List Object) → size ≤ 2048 → AreWhole size objects → AreShort 2048 objects
+whole_short size [] few h = tt
+whole_short size (reels.block bytes ∷ objects) few h =
+    let long = h.0 in (omega (arith, long, few), whole_short size objects few h.1)
+whole_short size (reels.filemark ∷ objects) few h = (tt, whole_short size objects few h.1)
+
+disks_start : (s : ScenarioValue) (units more : List UnitDef) → FitsBus s
+    → AllByRecursion (λ (u : UnitDef). IsUnitLine s u) units → AreAt IsShort (starting_units s more)
+    → AreAt IsShort (starting_units s (units ++ more))
+disks_start s [] more fits a h = h
+disks_start s (u ∷ units) more fits a h =
+    let count = (a.0).most_blocks in
+    let blank : HasShortBlocks (blank_contents u.blocks u.size) =
+    record { count = omega (arith, count); size = (a.0).most_size; touched = tt; reel = tt } in (
+      subst (λ (q : Bool). HasShortBlocks (if q then loaded_contents u s.loads else starting_contents u s.fills))
+          (sym (a.0).is_disk) (filled s u s.fills (blank_contents u.blocks u.size) fits fits.fills blank),
+      disks_start s units more fits a.1 h,
+    )
+
+tapes_start : (s : ScenarioValue) (tapes : List TapeDef) → AllByRecursion (λ (t : TapeDef). IsTapeLine s t) tapes
+    → AreAt IsShort (starting_units s (map tape_unit tapes))
+tapes_start s [] a = tt
+tapes_start s (t ∷ tapes) a =
+    let u : UnitDef = tape_unit t in
+    let objects = (a.0).most_objects in
+    let loaded : HasShortBlocks (loaded_contents u s.loads) = record {
+      count = omega (arith, objects);
+      size = (a.0).most_size;
+      touched = tt;
+      reel = (
+        objects,
+        record {
+          few = (a.0).few;
+          short = whole_short t.size (loaded_objects u s.loads) (a.0).most_size (a.0).whole;
+        },
+      );
+    } in (
+      subst (λ (o : Option TapeDef). HasShortBlocks
+          (if is_some o then loaded_contents u s.loads else starting_contents u s.fills)) (sym (a.0).tape_is) loaded,
+      tapes_start s tapes a.1,
     )
 
 pub start_short : (s : ScenarioValue) → FitsBus s → HasShortUnits (starting_array s)
-start_short s fits = started s s.units fits fits.units
+start_short s fits = disks_start s s.units (map tape_unit s.tapes) fits fits.units (tapes_start s s.tapes fits.tapes)
 
 pub settled_start_short : (s : ScenarioValue) → FitsBus s → HasShortUnits (settled_array (starting_array s))
-settled_start_short s fits = settles (starting_array s) (start_short s fits)
+settled_start_short s fits = settles IsShort (starting_array s) (start_short s fits)

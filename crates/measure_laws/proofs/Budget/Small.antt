@@ -6,13 +6,13 @@ use proofs.Names.{Option, Some, None, Result, Ok, Err, length-append, max, nat_t
 use proofs.Names.{AllByRecursion, find, sum_by, ◌++◌, ◌+◌, ◌-◌, ◌*◌, ◌/◌, ◌==◌, if◌then◌else◌, nat_le, nat_lt}
 use proofs.Names.{command_of, CdbFault, Command, all_needs, each_need, bind_ok, guard_ok, ok_is, plain_need, tape_line}
 use proofs.Names.{load_line, Said, scsi_line, initiator_line, target_line, unit_line, fill_line, cmd_line, abort_line}
-use proofs.Names.{reset_line, fault_line, end_line, has_device, has_target, unit_of, block_bytes, moved, moved_by}
-use proofs.Names.{need_of, tape_def, load_def, Progress, abort_def, added, fault_def, fill_def, fits_version}
-use proofs.Names.{full_cmd_def, guard, has_abort_room, host_def, in_8, in_order, kind_of, nothing, rank, reset_def}
-use proofs.Names.{said_after, target_def, time_in, unit_def, within, ScenarioValue, Obeys, built, saids, AbortDef}
-use proofs.Names.{CmdDef, FaultDef, Policy, ResetDef, TargetDef, UnitDef, range_of, data_runs, longest_need, runs_at}
-use proofs.Names.{runs_by, runs_of, runs_over, retries_of, first_run_state, obeys_fits, fault_by, reset_by, FitsBus}
-use proofs.Names.{some_count, aborts_left, bytes_after, commands_left, resets_left, measure, for_fault}
+use proofs.Names.{reset_line, fault_line, end_line, has_device, has_target, unit_of, is_tape, block_bytes, moved}
+use proofs.Names.{moved_by, need_of, need_at, tape_def, load_def, Progress, abort_def, added, fault_def, fill_def}
+use proofs.Names.{fits_version, full_cmd_def, guard, has_abort_room, host_def, in_8, in_order, kind_of, nothing, rank}
+use proofs.Names.{reset_def, said_after, target_def, time_in, unit_def, within, ScenarioValue, Obeys, built, saids}
+use proofs.Names.{AbortDef, CmdDef, FaultDef, Policy, ResetDef, TargetDef, UnitDef, range_of, data_runs, longest_need}
+use proofs.Names.{runs_at, runs_by, runs_of, runs_over, retries_of, first_run_state, obeys_fits, fault_by, reset_by}
+use proofs.Names.{FitsBus, some_count, aborts_left, bytes_after, commands_left, resets_left, measure, for_fault}
 use proofs.Budget.Start.{all_faults, few_bytes, few_retries, start_resets}
 use Rattle.due_model.specs.cdb_codec.specs.declared.command.Command.TheVariants as commands
 
@@ -60,28 +60,40 @@ runs_of_few policy (commands.Read10 lba count) u h = runs_by_few policy _ _ h (s
 runs_of_few policy (commands.Write10 lba count) u h = runs_by_few policy _ _ h (some_blocks u lba count h)
 runs_of_few policy _ u h = omega arith
 
-pub few_runs : (s : ScenarioValue) (c : CmdDef) → s.tapes ≡ [] → data_runs s c ≤ 2 * need_of s c
-few_runs s c plain = go (need_of s c == 0) refl
+pub few_runs : (s : ScenarioValue) (c : CmdDef) → data_runs s c ≤ 2 * need_of s c
+unfolding need_of
+few_runs s c = go (need_of s c == 0) refl
   where
     by : (t : TargetDef) (r : Result Command CdbFault) → 1 ≤ moved_by r (unit_of s c.target c.unit)
         → runs_of t.disc r ≤ 2 * moved_by r (unit_of s c.target c.unit)
     by t (Ok k) h = runs_of_few t.disc k (unit_of s c.target c.unit) h
     by t (Err fault) h = omega arith
 
-    at : (o : Option TargetDef) (q : Bool)
-        → 1 ≤ (if q then moved_by (command_of c.cdb) (unit_of s c.target c.unit) else 0)
-        → runs_at o c ≤ 2 * (if q then moved_by (command_of c.cdb) (unit_of s c.target c.unit) else 0)
-    at None q h = omega arith
-    at (Some t) true h = by t (command_of c.cdb) h
-    at (Some t) false h = absurd (omega arith)
+    line : Option TargetDef
+    line = find (λ (t : TargetDef). t.dev == c.target) s.targets
+
+    -- At a disk.
+    at : (o : Option TargetDef) → 1 ≤ moved_by (command_of c.cdb) (unit_of s c.target c.unit)
+        → runs_at o c ≤ 2 * moved_by (command_of c.cdb) (unit_of s c.target c.unit)
+    at None h = omega arith
+    at (Some t) h = by t (command_of c.cdb) h
+
+    -- At a tape there is one run.
+    one : (n : ℕ) → 1 ≤ n → 1 ≤ 2 * n
+    one n h = omega (arith, h)
+
+    kind : (tape there : Bool)
+        → 1 ≤ (if there then need_at tape c.cdb (unit_of s c.target c.unit) else 0)
+        → (if tape then 1 else runs_at line c)
+        ≤ 2 * (if there then need_at tape c.cdb (unit_of s c.target c.unit) else 0)
+    kind true true h = one (need_at true c.cdb (unit_of s c.target c.unit)) h
+    kind false true h = at line h
+    kind tape false h = absurd (omega arith)
 
     go : (q : Bool) → (need_of s c == 0) ≡ q
-        → (if q then 0 else runs_at (find (λ (t : TargetDef). t.dev == c.target) s.targets) c) ≤ 2 * need_of s c
+        → (if q then 0 else if is_tape s c.target c.unit then 1 else runs_at line c) ≤ 2 * need_of s c
     go true e = omega arith
-    go false e =
-        let line : Option TargetDef = find (λ (t : TargetDef). t.dev == c.target) s.targets in
-        subst (λ (n : ℕ). 1 ≤ n → runs_at line c ≤ 2 * n) (sym (plain_need s c plain)) (at line (has_target s c.target))
-        (some_count (need_of s c) e)
+    go false e = kind (is_tape s c.target c.unit) (has_target s c.target) (some_count (need_of s c) e)
 
 -- ---- resets and faults are few
 
@@ -174,7 +186,7 @@ few_built d z (x ∷ xs) e a = let b = bind_ok (said_after d x) _ z e in few_bui
 
 pub obeys_few : (s : ScenarioValue) → Obeys s → FewLines s
 obeys_few s o =
-    let b = bind_ok (built nothing (saids s)) _ s o.text.lawful in
+    let b = bind_ok (built nothing (saids s)) _ s o.lawful in
     subst FewLines (ok_is b.0.scenario s b.2)
     (few_built nothing b.0 (saids s) b.1 (record { resets = omega arith; faults = omega arith }))
 
@@ -190,7 +202,7 @@ small_commands s m [] f = omega arith
 small_commands s m (c ∷ commands) f =
     let rest = small_commands s (m + 1) commands f in
     let one = one_command (retries_of s.hosts c.host) (data_runs s c) (bytes_after s c 0)
-    (need_of s c) (few_retries s s.hosts c.host f.hosts) (few_bytes s c) (few_runs s c f.tapes) in
+    (need_of s c) (few_retries s s.hosts c.host f.hosts) (few_bytes s c) (few_runs s c) in
     let total = sum_by-cons (need_of s) c commands in
     omega arith
 
@@ -222,7 +234,7 @@ pub small_start : (s : ScenarioValue) → Obeys s → measure s [] < 4294967295
 small_start s o =
     let f = obeys_fits s o in
     let few = obeys_few s o in
-    let long = longest s s.commands (each_need s o.text) in
+    let long = longest s s.commands (each_need s o) in
     let fault : for_fault s ≤ 525440 = omega arith in
     let same = all_faults s.faults in
     let count : length (first_run_state s).faults ≤ 64 = let w = few.faults in omega arith in
@@ -231,7 +243,7 @@ small_start s o =
     sum_small (commands_left s (first_run_state s) 1 s.commands) (length s.commands)
     (sum_by (need_of s) s.commands) (aborts_left s (first_run_state s).story.sent 1 s.aborts) (length s.aborts)
     (resets_left (first_run_state s) s.resets) (length s.resets) (for_fault s * length (first_run_state s).faults)
-    (small_commands s 1 s.commands f) f.few_commands (all_needs s o.text) (small_aborts s 1 s.aborts f) f.few_aborts
+    (small_commands s 1 s.commands f) f.few_commands (all_needs s o) (small_aborts s 1 s.aborts f) f.few_aborts
     (start_resets (first_run_state s) s.resets) few.resets faults
   where
     product : (a b : ℕ) → a ≤ 525440 → b ≤ 64 → a * b ≤ 525440 * 64

@@ -4,24 +4,25 @@ use Rattle.measure_laws.proofs
 use proofs.Names.{inl, inr, ℕ, ◌≡◌, ◌≤◌, ◌<◌, ◌⊎◌, ◌∙◌, Bool, true, false, ◌&&◌, List, ◌∷◌, length, Option, Some, None}
 use proofs.Names.{Result, Ok, Err, refl, sym, ap, subst, arith, [], ltb-true, same_Some, ◌+◌, ◌*◌, ◌-◌, not, ◌==◌, drop}
 use proofs.Names.{if◌then◌else◌, is_some, nat_lt, and_false, wrong, wrong', plus_none, ProcId, LineSet, changes_phase}
-use proofs.Names.{is_data, connection, bus, Row, Change, Connection, command_of, CdbFault, Command, GOOD, has_target}
-use proofs.Names.{unit_of, is_write, moved_by, need_of, sent_of, ScenarioValue, Obeys, CmdDef, Policy, UnitDef, at_disk}
-use proofs.Names.{is_disk, array_after, range_of, range_in, range_named, Process, command_at, command_process}
-use proofs.Names.{process_by, process_if, process_of, same_bool, sense_block, sense_process, Array, UnitState}
-use proofs.Names.{unit_state_at, Item, command_id, command_item, has_item, process, Story, policy_of, run_in, runs_in}
-use proofs.Names.{runs_in_all, Serving, bus_free, phase_entry, phase_leaving, phase_of, unless_attention}
-use proofs.Names.{after_messages, run_length_if, Leaving, Next, Phase, Task, run_state_plain, target_def_of}
-use proofs.Names.{progress_in, IsPrompt, IsPlain, RunState, array_of, bus_of, process_item, process_served, run_state}
-use proofs.Names.{leaving, serving_of, blocks_in, is_writing, moved_count, reply_now, size_of, task_if, task_of}
-use proofs.Names.{command_fits, obeys_fits, IsCommandLine, unit_of_line, IsByLine, by_line, AreOfLines, IsOfLine, Knows}
-use proofs.Names.{none_some, in_phase, by_bool, zero_below, TalksBy, frees_bus, talk_of, over_after, enters_run}
-use proofs.Names.{task_here, lines_now, served_id, Whole, enters_read, read_books, whole_now, given_few, most_given}
-use proofs.Names.{need_is, HasWhole, bytes_after, future_left, is_in_data, open_left, range_if, resets_left}
-use proofs.{Names.{serves_item, size_if, sense_bytes_left}, Connections.BeginFalls.{calm_resets}}
-use proofs.Data.{Bytes.{blocks_of, length_of, run_bytes}, Commands.{command_turn_falls}, Needs.{target_there}}
-use proofs.{Data.Turns.{data_turn_falls, run_of}, Lines.{Futures.{future_falls, open_of}, Lowers.{lowers_same}}}
-use proofs.{Phases.Falls.{FallsWith}, Turns.{Edges.{leaving_turn}, Falls.{TurnRow, turn_in, turn_kind, turn_runs}}}
-use proofs.Turns.Leavings.{FallsDataEntered, LeavingRow}
+use proofs.Names.{is_data, connection, bus, Row, Change, Connection, command_of, CdbFault, Command, GOOD, need_is}
+use proofs.Names.{has_target, unit_of, is_tape, is_write, moved_by, need_of, sent_of, need_at, ScenarioValue, Obeys}
+use proofs.Names.{CmdDef, Policy, UnitDef, none_named, serial_is, array_after, range_of, range_in, range_named, Process}
+use proofs.Names.{command_at, command_process, process_by, process_if, process_of, same_bool, sense_block}
+use proofs.Names.{sense_process, Array, UnitState, unit_state_at, Item, command_id, command_item, has_item, process}
+use proofs.Names.{Story, policy_of, run_in, runs_in, runs_in_all, Serving, bus_free, phase_entry, phase_leaving}
+use proofs.Names.{phase_of, unless_attention, after_messages, run_length_if, Leaving, Next, Phase, Task}
+use proofs.Names.{run_state_plain, target_def_of, progress_in, IsPrompt, IsPlain, RunState, array_of, bus_of}
+use proofs.Names.{process_item, process_served, run_state, leaving, serving_of, blocks_in, is_writing, moved_count}
+use proofs.Names.{reply_now, size_of, task_if, task_of, command_fits, obeys_fits, IsCommandLine, IsByLine, by_line}
+use proofs.Names.{AreOfLines, IsOfLine, AreOfKinds, Knows, none_some, in_phase, by_bool, zero_below, TalksBy, frees_bus}
+use proofs.Names.{talk_of, over_after, enters_run, task_here, lines_now, kinds_now, served_id, Whole, enters_read}
+use proofs.Names.{read_books, whole_now, given_few, most_given, HasWhole, bytes_after, future_left, is_in_data}
+use proofs.Names.{open_left, range_if, resets_left, serves_item, size_if, range_at, sense_bytes_left}
+use proofs.{Connections.BeginFalls.{calm_resets}, Data.Bytes.{blocks_of, length_of, run_bytes}}
+use proofs.Data.{Commands.{command_turn_falls}, Needs.{target_there}, Turns.{data_turn_falls, run_of}}
+use proofs.{Lines.{Futures.{future_falls, open_of}, Lowers.{lowers_same}}, Phases.Falls.{FallsWith}}
+use proofs.Turns.{Edges.{leaving_turn}, Falls.{TurnRow, turn_in, turn_kind, turn_runs}, Leavings.{FallsDataEntered}}
+use proofs.Turns.Leavings.{LeavingRow}
 
 -- ---- how DATA is entered
 
@@ -75,6 +76,21 @@ blocks_same : (r : Result Command CdbFault) → blocks_in (range_in r) ≡ block
 blocks_same (Err fault) = refl
 blocks_same (Ok c) = elim (range_of c) as (λ o. blocks_in o ≡ blocks_of o) [ None ↦ refl | Some range ↦ refl ]
 
+-- As its command's line says.
+blocks_at : (s : ScenarioValue) (q : Process) (line : IsByLine s q) → process_of s q.id ≡ Some q
+    → blocks_in (range_named q) ≡ blocks_of (range_at s line.line)
+blocks_at s q line own =
+    (λ i. blocks_in (if serial i then None else range_in (command_of (line.cdb i))))
+    ∙ by (is_tape s line.line.target line.line.unit)
+  where
+    serial : q.serial ≡ is_tape s line.line.target line.line.unit
+    serial = serial_is s q own ∙ (λ i. is_tape s (line.target i) (line.unit i))
+
+    by : (tape : Bool) → blocks_in (if tape then None else range_in (command_of line.line.cdb))
+        ≡ blocks_of (if tape then None else range_if (command_of line.line.cdb))
+    by true = refl
+    by false = blocks_same (command_of line.line.cdb)
+
 size_same : (o : Option UnitDef) (x : Option UnitState) → IsOfLine o x → size_of x ≡ size_if o
 size_same None None h = refl
 size_same None (Some v) h = absurd h
@@ -96,13 +112,13 @@ counted_few true true sent given most h g = h
 counted_few false true sent given most h g = omega arith
 counted_few good false sent given most h g = g refl
 
-moved_few : (s : ScenarioValue) (a : Array) (q : Process) (line : IsByLine s q) → Obeys s → AreOfLines s a → HasWhole a
-    → has_target s q.target ≡ true → moved_count q (reply_now a q) ≤ need_of s line.line
-moved_few s a q line o lines whole there = counted_few ((reply_now a q).status == GOOD) (is_writing q) q.sent
+moved_few : (s : ScenarioValue) (a : Array) (q : Process) (line : IsByLine s q) → Obeys s → AreOfLines s a
+    → AreOfKinds s a → HasWhole a → has_target s q.target ≡ true → moved_count q (reply_now a q) ≤ need_of s line.line
+moved_few s a q line o lines kinds whole there = counted_few ((reply_now a q).status == GOOD) (is_writing q) q.sent
     (reply_now a q).bytes (need_of s line.line) (chain (length q.sent) (sent_of s line.line)
     (need_of s line.line) (ap (λ (x : List ℕ). length x) line.sent ∙ fits.sent) (sent_few s line.line))
     (λ reads. subst (λ (x : ℕ). length (reply_now a q).bytes ≤ x) (need reads)
-    (given_few s a q o.tapes lines whole))
+    (given_few s a q lines kinds whole))
   where
     fits : IsCommandLine s line.line
     fits = command_fits s q.id.command line.line (obeys_fits s o) line.is
@@ -110,11 +126,12 @@ moved_few s a q line o lines whole there = counted_few ((reply_now a q).status =
     chain : (a b c : ℕ) → a ≡ b → b ≤ c → a ≤ c
     chain a b c e h = omega (arith, e, h)
 
-    need : is_writing q ≡ false → most_given (command_of q.cdb) (unit_of s q.target q.unit) ≡ need_of s line.line
-    need reads =
-        (λ i. if reads i then 0 else moved_by (command_of q.cdb) (unit_of s q.target q.unit))
-        ∙ (λ i. moved_by (command_of (line.cdb i)) (unit_of s (line.target i) (line.unit i)))
-        ∙ sym (need_is s line.line o.tapes (ap (has_target s) (sym line.target) ∙ there))
+    need : is_writing q ≡ false
+        → most_given (is_tape s q.target q.unit) q.cdb (unit_of s q.target q.unit) ≡ need_of s line.line
+    need reads = (λ i. if reads i then 0 else need_at (is_tape s q.target q.unit) q.cdb (unit_of s q.target q.unit))
+        ∙ (λ i. need_at (is_tape s (line.target i) (line.unit i))
+        (line.cdb i) (unit_of s (line.target i) (line.unit i)))
+        ∙ sym (need_is s line.line (ap (has_target s) (sym line.target) ∙ there))
 
 -- ---- a run of an automatic REQUEST SENSE
 
@@ -129,13 +146,23 @@ sense_cdb s q own sense = go (command_at s.commands q.id.command) own
         λ i. if sense i then sense_process s q.id c else command_process s q.id c in
         ap (λ (x : Process). x.cdb) (sym made ∙ by)
 
-sense_few : (s : ScenarioValue) (a : Array) (q : Process) → s.tapes ≡ [] → q.cdb ≡ sense_block → AreOfLines s a
+sense_few : (s : ScenarioValue) (a : Array) (q : Process) → q.cdb ≡ sense_block → AreOfLines s a → AreOfKinds s a
     → HasWhole a → moved_count q (reply_now a q) ≤ 18
-sense_few s a q plain e lines whole = counted ((reply_now a q).status == GOOD) (is_writing q) q.sent
+sense_few s a q e lines kinds whole = counted ((reply_now a q).status == GOOD) (is_writing q) q.sent
     (reply_now a q).bytes (ap (λ (x : List ℕ). is_write (command_of x)) e)
-    (subst (λ (x : List ℕ). length (reply_now a q).bytes ≤ most_given (command_of x) (unit_of s q.target q.unit)) e
-    (given_few s a q plain lines whole))
+    (subst (λ (x : ℕ). length (reply_now a q).bytes ≤ x)
+    (ap (λ (x : List ℕ). most_given tape x line) e ∙ most tape line) (given_few s a q lines kinds whole))
   where
+    tape : Bool
+    tape = is_tape s q.target q.unit
+
+    line : Option UnitDef
+    line = unit_of s q.target q.unit
+
+    most : (x : Bool) (o : Option UnitDef) → most_given x sense_block o ≡ 18
+    most true o = refl
+    most false o = refl
+
     counted : (good writes : Bool) (sent given : List ℕ) → writes ≡ false → length given ≤ 18
         → length (if writes then (if good then sent else []) else given) ≤ 18
     counted good true sent given z h = wrong z
@@ -318,6 +345,9 @@ falls s p row n r from into = go (process_served s k) refl
         lines : AreOfLines s (array_of s j)
         lines = lines_now s j.story.history j.array (sym is_j)
 
+        kinds : AreOfKinds s (array_of s j)
+        kinds = kinds_now s j.story.history j.array (sym is_j)
+
         whole : HasWhole (array_of s j)
         whole = whole_now s j.story.history j.array o (sym is_j)
 
@@ -350,12 +380,12 @@ falls s p row n r from into = go (process_served s k) refl
                 begun_is from_is into (served ∙ ap (λ (x : ProcId). Some (process x)) id_is) line.is
                 (ap (λ (x : ProcId). has_item k.story.sent.sent (process x)) (sym id_is)
                 ∙ h.was.places.sent q.id served)
-                (opens (command_item m) (served ∙ ap (λ (x : ProcId). Some (process x)) id_is))
-                (replaced (run_of s j n) (length_of (run_in of_line blocks of_unit moved made))
-                (bytes_after s line.line (made + 1)) (bytes_after s line.line made) run
-                (run_bytes of_line (range_if (command_of line.line.cdb)) of_unit (need_of s line.line) moved made
-                (moved_few s (array_of s j) q line o lines whole there) (subst (λ (x : ℕ). x < runs_in of_line blocks)
-                made_is (subst (λ (x : Policy). (progress_in k.progress q.id).runs < runs_in x blocks) policy_is
+                (opens (command_item m) (served ∙ ap (λ (x : ProcId). Some (process x)) id_is)) (replaced (run_of s j n)
+                (length_of (run_in of_line blocks of_unit moved made)) (bytes_after s line.line (made + 1))
+                (bytes_after s line.line made) run (run_bytes of_line (range_at s line.line) of_unit
+                (need_of s line.line) moved made (moved_few s (array_of s j) q line o lines kinds whole there)
+                (subst (λ (x : ℕ). x < runs_in of_line blocks) made_is
+                (subst (λ (x : Policy). (progress_in k.progress q.id).runs < runs_in x blocks) policy_is
                 (subst (λ (x : Option ℕ). (progress_in k.progress q.id).runs < runs_in policy x) blocks_are more)))))
               where
                 made : ℕ
@@ -371,19 +401,17 @@ falls s p row n r from into = go (process_served s k) refl
                 policy_is = ap (λ (x : ℕ). policy_of (target_def_of s x)) (sym target ∙ line.target)
 
                 blocks : Option ℕ
-                blocks = blocks_of (range_if (command_of line.line.cdb))
+                blocks = blocks_of (range_at s line.line)
 
                 blocks_are : blocks_in (range_named q) ≡ blocks
-                blocks_are = ap blocks_in (at_disk q (is_disk s q own))
-                    ∙ ap (λ (x : List ℕ). blocks_in (range_in (command_of x))) line.cdb
-                    ∙ blocks_same (command_of line.line.cdb)
+                blocks_are = blocks_at s q line own
 
                 of_unit : ℕ
                 of_unit = size_if (unit_of s line.line.target line.line.unit)
 
                 size_is : size ≡ of_unit
                 size_is = size_same (unit_of s q.target q.unit) (unit_state_at (array_of s j).units q.target q.unit)
-                    (unit_of_line s (array_of s j) o.tapes lines q.target q.unit)
+                    (lines q.target q.unit)
                     ∙ (λ i. size_if (unit_of s (line.target i) (line.unit i)))
 
                 run : run_of s j n ≡ length_of (run_in of_line blocks of_unit moved made)
@@ -399,11 +427,10 @@ falls s p row n r from into = go (process_served s k) refl
             cdb = sense_cdb s q own sense
 
             none : blocks_in (range_named q) ≡ None
-            none = ap blocks_in (at_disk q (is_disk s q own))
-                ∙ ap (λ (x : List ℕ). blocks_in (range_in (command_of x))) cdb
+            none = ap blocks_in (none_named q (ap (λ (x : List ℕ). range_in (command_of x)) cdb))
 
             few : moved ≤ 18
-            few = sense_few s (array_of s j) q o.tapes cdb lines whole
+            few = sense_few s (array_of s j) q cdb lines kinds whole
 
             run : run_of s j n ≤ 18
             run = chain (run_of s j n) moved (run_is

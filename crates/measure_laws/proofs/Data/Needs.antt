@@ -3,14 +3,15 @@
 use Rattle.measure_laws.proofs
 use proofs.Names.{ℕ, ◌≡◌, ◌<◌, ◌∙◌, Bool, true, false, ◌&&◌, List, [], ◌∷◌, Option, Some, None, Result, Ok, Err, refl}
 use proofs.Names.{sym, ap, arith, and_parts, same_Some, find, list_any, ◌+◌, ◌*◌, ◌||◌, ◌==◌, if◌then◌else◌, is_some}
-use proofs.Names.{nat_le, nat_lt, wrong', blocks_moved, command_of, CdbFault, Command, GOOD, has_target, unit_of}
-use proofs.Names.{moved_by, need_of, ScenarioValue, Obeys, CmdDef, Policy, TargetDef, UnitDef, good_range, at_disk}
-use proofs.Names.{is_disk, array_after, Contents, execution, is_good_range, range_of, range_in, range_named, Process}
-use proofs.Names.{command_process, process_by, process_if, process_of, sense_process, command_at, context_at, Array}
-use proofs.Names.{UnitState, nexus_of, unit_state_at, data_runs, runs_at, runs_of, runs_over, policy_of, runs_in}
-use proofs.Names.{target_def_of, RunState, array_of, blocks_in, is_writing, moved_count, reply_now, size_of}
-use proofs.Names.{unit_of_line, IsByLine, IsOfLine, none_some, some_zero, zero_times, by_bool, task_here, FitsRuns}
-use proofs.{Names.{fits_runs, lines_now, named_by, fits_reads, moved_good, need_is}, Data.Leavings.{HasMore}}
+use proofs.Names.{nat_le, nat_lt, wrong', blocks_moved, command_of, CdbFault, Command, GOOD, need_is, has_target}
+use proofs.Names.{unit_of, is_tape, moved_by, need_of, need_at, ScenarioValue, Obeys, CmdDef, Policy, TargetDef}
+use proofs.Names.{UnitDef, good_range, at_disk, none_named, serial_is, array_after, Contents, execution, is_good_range}
+use proofs.Names.{range_of, range_in, range_named, Process, command_process, process_by, process_if, process_of}
+use proofs.Names.{sense_process, command_at, context_at, Array, UnitState, nexus_of, unit_state_at, data_runs, runs_at}
+use proofs.Names.{runs_of, runs_over, policy_of, runs_in, target_def_of, RunState, array_of, blocks_in, is_writing}
+use proofs.Names.{moved_count, reply_now, size_of, IsByLine, IsOfLine, AreOfKinds, none_some, some_zero, zero_times}
+use proofs.Names.{by_bool, task_here, FitsRuns, fits_runs, lines_now, named_by, disk_named, kinds_now, plain_contents}
+use proofs.{Names.{plain_here, fits_reads, moved_good}, Data.Leavings.{HasMore}}
 
 -- ---- an automatic REQUEST SENSE moves no blocks
 
@@ -20,8 +21,9 @@ sense_moves_none s q own e = go (command_at s.commands q.id.command) own
   where
     go : (o : Option CmdDef) → process_if s q.id o ≡ Some q → blocks_in (range_named q) ≡ None
     go None z = none_some q z
-    go (Some c) z = ap (λ (t : Process). blocks_in (range_named t)) (sym (same_Some (process_by s q.id c) q z)
-        ∙ ap (λ (b : Bool). if b then sense_process s q.id c else command_process s q.id c) e)
+    go (Some c) z = ap blocks_in (none_named q (ap (λ (t : Process). range_in (command_of t.cdb))
+        (sym (same_Some (process_by s q.id c) q z)
+        ∙ ap (λ (b : Bool). if b then sense_process s q.id c else command_process s q.id c) e)))
 
 -- ---- what a read or a write of blocks needs, where it is carried out
 
@@ -77,16 +79,27 @@ pub need_moved : (s : ScenarioValue) (k : RunState) (q : Process) (h : IsByLine 
     → blocks_in (range_named q) ≡ Some blocks → (moved_count q (reply_now (array_of s k) q) == 0) ≡ false
     → need_of s h.line ≡ moved_count q (reply_now (array_of s k) q)
 need_moved s k q h blocks o is own there named some =
-    need_is s h.line o.tapes (ap (has_target s) (sym h.target) ∙ target_there s q.target there)
-    ∙ (λ i. moved_by (command_of (sym h.cdb i)) (unit_of s (sym h.target i) (sym h.unit i)))
+    need_is s h.line (ap (has_target s) (sym h.target) ∙ target_there s q.target there)
+    ∙ (λ i. need_at (is_tape s (sym h.target i) (sym h.unit i)) (sym h.cdb i) (unit_of s (sym h.target i)
+    (sym h.unit i)))
+    ∙ (λ i. need_at (no_tape i) q.cdb (unit_of s q.target q.unit))
     ∙ go (unit_of s q.target q.unit) (unit_state_at a.units q.target q.unit) refl
-    (unit_of_line s a o.tapes (lines_now s k.story.history k.array (sym is)) q.target q.unit)
+    (lines_now s k.story.history k.array (sym is) q.target q.unit)
   where
     a : Array
     a = array_of s k
 
+    kinds : AreOfKinds s a
+    kinds = kinds_now s k.story.history k.array (sym is)
+
+    disk : q.serial ≡ false
+    disk = disk_named q blocks named
+
+    no_tape : is_tape s q.target q.unit ≡ false
+    no_tape = sym (serial_is s q own) ∙ disk
+
     fits : FitsRuns s k q (task_here s k q)
-    fits = by_bool (is_writing q) (λ e. fits_runs s k q o is own e) (λ e. fits_reads s k q o is e)
+    fits = by_bool (is_writing q) (λ e. fits_runs s k q o is own e) (λ e. fits_reads s k q o is own e)
 
     all : moved_count q (reply_now a q) ≡ blocks * size_of (unit_state_at a.units q.target q.unit)
     all = fits.fit.moved blocks named some
@@ -99,9 +112,10 @@ need_moved s k q h blocks o is own there named some =
     go (Some u) (Some v) e l =
         let good : (execution (context_at a (nexus_of q) (Some v)) q.cdb q.sent).reply.status ≡ GOOD =
         ap (λ (x : Option UnitState). (execution (context_at a (nexus_of q) x) q.cdb q.sent).reply.status) (sym e)
-        ∙ moved_good a q some in
+        ∙ moved_good a q (plain_here s a q kinds own disk) some in
         blocks_needed (command_of q.cdb) u v.contents blocks (named_by q blocks named) l.0 l.1
-        (λ c f. good_range (context_at a (nexus_of q) (Some v)) q.cdb q.sent c f good)
+        (λ c f. good_range (context_at a (nexus_of q) (Some v)) q.cdb q.sent c
+        (plain_contents s a q v kinds own disk e) f good)
         ∙ ap (λ (x : Option UnitState). blocks * size_of x) (sym e) ∙ sym all
 
 -- ---- its runs are those that are set aside
@@ -113,10 +127,12 @@ runs_same policy (Ok k) blocks e =
     elim (range_of k) as (λ o. runs_over policy o ≡ runs_in policy (blocks_in o)) [ None ↦ refl | Some range ↦ refl ]
 
 runs_set_aside : (s : ScenarioValue) (c : CmdDef) (blocks : ℕ) → (need_of s c == 0) ≡ false
-    → is_some (target_def_of s c.target) ≡ true → blocks_in (range_in (command_of c.cdb)) ≡ Some blocks
+    → is_tape s c.target c.unit ≡ false → is_some (target_def_of s c.target) ≡ true
+    → blocks_in (range_in (command_of c.cdb)) ≡ Some blocks
     → data_runs s c ≡ runs_in (policy_of (target_def_of s c.target)) (blocks_in (range_in (command_of c.cdb)))
-runs_set_aside s c blocks some there e =
-    (λ i. if some i then 0 else runs_at (target_def_of s c.target) c) ∙ go (target_def_of s c.target) there
+runs_set_aside s c blocks some disk there e =
+    (λ i. if some i then 0 else if disk i then 1 else runs_at (target_def_of s c.target) c)
+    ∙ go (target_def_of s c.target) there
   where
     go : (o : Option TargetDef) → is_some o ≡ true
         → runs_at o c ≡ runs_in (policy_of o) (blocks_in (range_in (command_of c.cdb)))
@@ -132,13 +148,18 @@ runs_left s k q h o is own there m = less (task_here s k q).runs
     needed : (need_of s h.line == 0) ≡ false
     needed = ap (λ (x : ℕ). x == 0) (need_moved s k q h m.blocks o is own there m.blocks_are m.moves) ∙ m.moves
 
+    disk : q.serial ≡ false
+    disk = disk_named q m.blocks m.blocks_are
+
     all : data_runs s h.line ≡ runs_in (policy_of (target_def_of s q.target)) (blocks_in (range_named q))
-    all = runs_set_aside s h.line m.blocks needed (ap (λ (x : ℕ). is_some (target_def_of s x)) (sym h.target) ∙ there)
+    all = runs_set_aside s h.line m.blocks needed
+        ((λ i. is_tape s (sym h.target i) (sym h.unit i)) ∙ sym (serial_is s q own) ∙ disk)
+        (ap (λ (x : ℕ). is_some (target_def_of s x)) (sym h.target) ∙ there)
         (ap (λ (x : List ℕ). blocks_in (range_in (command_of x))) (sym h.cdb) ∙ named_by q m.blocks m.blocks_are)
         ∙ (λ i. runs_in (policy_of (target_def_of s (sym h.target i)))
         (blocks_in (range_in (command_of (sym h.cdb i)))))
         ∙ ap (λ (x : Option (ℕ × ℕ)). runs_in (policy_of (target_def_of s q.target)) (blocks_in x))
-        (sym (at_disk q (is_disk s q own)))
+        (sym (at_disk q disk))
 
     less : (l x y : ℕ) → l + 1 < x → y ≡ x → l < y
     less l x y f e = omega (arith, f, e)

@@ -2,15 +2,16 @@
 -- are of targets that are there.
 use Rattle.progress_laws.proofs
 use proofs.Names.{ℕ, ◌≡◌, ◌<◌, Bool, true, false, not, ◌∙◌, List, [], ◌∷◌, ◌++◌, Option, Some, None, Ok, refl, sym, ap}
-use proofs.Names.{subst, arith, ◌||◌, AllByRecursion, find, list_any, if◌then◌else◌, ◌==◌, is_some, cond, wrong'}
+use proofs.Names.{subst, arith, ◌||◌, AllByRecursion, find, list_any, if◌then◌else◌, ◌==◌, is_some, cond, map, wrong'}
 use proofs.Names.{bind_ok, guard_ok, ok_is, within_ok, tape_line, load_line, Said, scsi_line, initiator_line}
 use proofs.Names.{target_line, unit_line, fill_line, cmd_line, abort_line, reset_line, fault_line, end_line, has_device}
-use proofs.Names.{has_target, unit_of, need_of, sent_of, tape_def, load_def, Progress, guard, within, in_8, period_in}
-use proofs.Names.{size_in, host_def, target_def, unit_def, fill_def, full_cmd_def, abort_def, reset_def, fault_def}
-use proofs.Names.{added, said_after, fits_version, in_order, rank, kind_of, nothing, ScenarioValue, saids, built, Obeys}
-use proofs.Names.{LATENCY_LIMIT, OPEN_LIMIT, RETRY_LIMIT, HOST_OFFSET_LIMIT, LAG_LIMIT, BLOCK_LIMIT, DEPTH_LIMIT}
-use proofs.Names.{HostDef, TargetDef, UnitDef, is_initiator, open_limit_of, host_latency, target_latency, all_are}
-use proofs.{Names.{all_more, host_by, unit_by, HasDevice, Any, each_line, host_found}, Quiet.Connections.{host_there}}
+use proofs.Names.{has_target, unit_of, tape_unit, units_of, need_of, sent_of, tape_def, load_def, Progress, guard}
+use proofs.Names.{within, in_8, period_in, size_in, host_def, target_def, unit_def, fill_def, full_cmd_def, abort_def}
+use proofs.Names.{reset_def, fault_def, added, said_after, fits_version, in_order, rank, kind_of, nothing}
+use proofs.Names.{ScenarioValue, saids, built, Obeys, LATENCY_LIMIT, OPEN_LIMIT, RETRY_LIMIT, HOST_OFFSET_LIMIT}
+use proofs.Names.{LAG_LIMIT, BLOCK_LIMIT, DEPTH_LIMIT, HostDef, TapeDef, TargetDef, UnitDef, is_initiator}
+use proofs.Names.{open_limit_of, host_latency, target_latency, all_are, all_more, each_unit, host_by, tape_read}
+use proofs.{Names.{unit_by, HasDevice, Any, each_line, host_found}, Quiet.Connections.{host_there}}
 
 abbrev pub HasOpen : HostDef → Type 0
 HasOpen h = 0 < h.most
@@ -57,7 +58,14 @@ abbrev pub IsOfTarget : List TargetDef → UnitDef → Type 0
 IsOfTarget targets u = list_any (λ (t : TargetDef). t.dev == u.target) targets ≡ true
 
 abbrev pub AreOfTargets : ScenarioValue → Type 0
-AreOfTargets s = AllByRecursion (IsOfTarget s.targets) s.units
+AreOfTargets s = AllByRecursion (IsOfTarget s.targets) (units_of s)
+
+-- As the lines are read, the disks and the tapes.
+abbrev IsTapeOf : List TargetDef → TapeDef → Type 0
+IsTapeOf targets t = IsOfTarget targets (tape_unit t)
+
+abbrev AreRead : ScenarioValue → Type 0
+AreRead s = AllByRecursion (IsOfTarget s.targets) s.units × AllByRecursion (IsTapeOf s.targets) s.tapes
 
 unit_target : (s : ScenarioValue) (x : Said) (u : UnitDef) → unit_by s x ≡ Ok u → IsOfTarget s.targets u
 unfolding unit_def
@@ -83,7 +91,7 @@ still_any f (x ∷ targets) t e = go (f x) (λ z. still_any f targets t z) e
     go false more z = more z
 
 abbrev AreTargetsIn : Progress → Type 0
-AreTargetsIn d = AreOfTargets d.scenario
+AreTargetsIn d = AreRead d.scenario
 
 targets_added : (d z : Progress) (x : Said) → added d x ≡ Ok z → AreTargetsIn d → AreTargetsIn z
 unfolding added need_of sent_of
@@ -94,18 +102,28 @@ targets_added d z (initiator_line f) e a =
 targets_added d z (target_line f) e a =
     let b = bind_ok (target_def d.scenario f) _ z e in
     let ts : List TargetDef = d.scenario.targets ++ b.0 ∷ [] in
-    subst AreTargetsIn (ok_is _ z b.2) (all_are (IsOfTarget d.scenario.targets) (IsOfTarget ts) d.scenario.units
-    (λ u w. still_any (λ (t : TargetDef). t.dev == u.target) d.scenario.targets b.0 w) a)
+    subst AreTargetsIn (ok_is _ z b.2) (
+      all_are (IsOfTarget d.scenario.targets) (IsOfTarget ts) d.scenario.units
+          (λ u w. still_any (λ (t : TargetDef). t.dev == u.target) d.scenario.targets b.0 w) a.0,
+      all_are (IsTapeOf d.scenario.targets) (IsTapeOf ts) d.scenario.tapes
+          (λ x w. still_any (λ (t : TargetDef). t.dev == x.target) d.scenario.targets b.0 w) a.1,
+    )
 targets_added d z (unit_line f) e a =
     let b = bind_ok (unit_def d.scenario f) _ z e in
-    subst AreTargetsIn (ok_is _ z b.2)
-    (all_more (IsOfTarget d.scenario.targets) d.scenario.units b.0 a (unit_target d.scenario (unit_line f) b.0 b.1))
+    subst AreTargetsIn (ok_is _ z b.2) (
+      all_more (IsOfTarget d.scenario.targets) d.scenario.units b.0 a.0 (unit_target d.scenario (unit_line f) b.0 b.1),
+      a.1,
+    )
 targets_added d z (fill_line f) e a =
     let b = bind_ok (fill_def d.scenario f) _ z e in
     subst AreTargetsIn (ok_is _ z b.2) a
 targets_added d z (tape_line f) e a =
     let b = bind_ok (tape_def d.scenario f) _ z e in
-    subst AreTargetsIn (ok_is _ z b.2) a
+    subst AreTargetsIn (ok_is _ z b.2) (
+      a.0,
+      all_more (IsTapeOf d.scenario.targets) d.scenario.tapes b.0 a.1
+          (tape_read d.scenario (tape_line f) b.0 b.1).known,
+    )
 targets_added d z (load_line f) e a =
     let b = bind_ok (load_def d.scenario f) _ z e in
     subst AreTargetsIn (ok_is _ z b.2) a
@@ -140,8 +158,15 @@ targets_built d z (x ∷ xs) e a =
 
 pub are_of_targets : (s : ScenarioValue) → Obeys s → AreOfTargets s
 are_of_targets s o =
-    let b = bind_ok (built nothing (saids s)) _ s o.text.lawful in
-    subst AreOfTargets (ok_is b.0.scenario s b.2) (targets_built nothing b.0 (saids s) b.1 tt)
+    let b = bind_ok (built nothing (saids s)) _ s o.lawful in
+    let read : AreRead s = subst AreRead (ok_is b.0.scenario s b.2)
+    (targets_built nothing b.0 (saids s) b.1 (tt, tt)) in
+    each_unit (IsOfTarget s.targets) s read.0 (mapped s.tapes read.1)
+  where
+    mapped : (tapes : List TapeDef) → AllByRecursion (IsTapeOf s.targets) tapes
+        → AllByRecursion (IsOfTarget s.targets) (map tape_unit tapes)
+    mapped [] a = tt
+    mapped (t ∷ tapes) a = (a.0, mapped tapes a.1)
 
 -- ---- devices that are there
 

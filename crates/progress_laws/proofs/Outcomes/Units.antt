@@ -2,13 +2,13 @@
 use Rattle.progress_laws.proofs
 use proofs.Names.{ℕ, ◌≡◌, Bool, true, false, not, ◌&&◌, ◌||◌, ◌∙◌, List, [], ◌∷◌, ◌++◌, Option, Some, None, refl, sym}
 use proofs.Names.{ap, subst, eqb-true, AllByRecursion, if◌then◌else◌, ◌==◌, is_none, is_some, nat_lt, ⊤, and_first}
-use proofs.Names.{AbortKind, Event, ProcId, Row, command_of, ABORTED_COMMAND, GOOD, CHECK_CONDITION, ScenarioValue}
-use proofs.Names.{Obeys, UnitDef, unit_reset_units, cleared_units, choice_target, array_step, Execution, Reply}
-use proofs.Names.{check_condition, execution, is_request_sense, sense_of, Process, process_of, has_tag, is_of_unit}
-use proofs.Names.{Array, Nexus, RunningProcess, UnitState, guest_at, is_held, nexus_of, nexuses_without, senses_without}
-use proofs.Names.{starting_array, starting_units, unit_state_at, units_after_choice, with_unit, row_reading}
-use proofs.Names.{row_events_by, RunState, array_of, or_start, array_after_events, run_state, HasDevice, AllUnits}
-use proofs.Outcomes.Seats.{IsOfTarget, are_of_targets, target_there}
+use proofs.Names.{AbortKind, Event, ProcId, Row, command_of, ABORTED_COMMAND, GOOD, CHECK_CONDITION, units_of}
+use proofs.Names.{ScenarioValue, Obeys, UnitDef, unit_reset_units, cleared_units, choice_target, array_step, Execution}
+use proofs.Names.{Reply, check_condition, execution, is_request_sense, sense_of, Process, process_of, has_tag}
+use proofs.Names.{is_of_unit, Array, Nexus, RunningProcess, UnitState, guest_at, is_held, nexus_of, nexuses_without}
+use proofs.Names.{senses_without, starting_array, starting_units, unit_state_at, units_after_choice, with_unit}
+use proofs.Names.{row_reading, row_events_by, RunState, array_of, or_start, array_after_events, run_state, HasDevice}
+use proofs.{Names.{AllUnits}, Outcomes.Seats.{IsOfTarget, are_of_targets, target_there}}
 use Rattle.due_model.specs.array_model.specs.Steps
 
 abbrev pub targets : List UnitState → List ℕ
@@ -214,4 +214,4 @@ each_there s (u ∷ units) h = (h.0, each_there s units h.1)
 pub targets_there : (s : ScenarioValue) (p : List Row) → Obeys s
     → AllUnits (λ u. HasDevice s u.target) (array_of s (run_state s p)).units
 targets_there s p o = each_there s (array_of s (run_state s p)).units
-    (subst (AllThere s) (sym (targets_kept s p)) (start_there s s.units (are_of_targets s o)))
+    (subst (AllThere s) (sym (targets_kept s p)) (start_there s (units_of s) (are_of_targets s o)))

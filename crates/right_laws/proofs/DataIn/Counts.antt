@@ -15,11 +15,12 @@ use proofs.Names.{in_connection, reading_is, same_phase_is, requests_rise, reque
 use proofs.Names.{still, strikes, crosses, turns, least_is, BeginsConnection, by_reselection, by_selection, run_count}
 use proofs.Names.{none_some, by_bool, GoingRow, RowKindOf, begins_now, connection_row, goes_now, going_row, row_kind}
 use proofs.Names.{IsFirst, runs_more, IsServedWell, RunsBy, same_length, no_more, handshakes_begin, or_left, task_here}
-use proofs.Names.{FitsRuns, lines_now, size_is, RunsFit, has_byte, progress_turns, any_may_change, may_change, OnEvents}
-use proofs.{DataIn.{Entries.{EntersRead, enters_read}, Runs.{fits_reads}}, Given.Crossings.{req_rises}}
-use proofs.Offers.{Facts.{DataOfferFacts, data_in_carries, data_no_out, data_parts, to_data}, Rows.{kept_row}}
-use proofs.{Offers.Steps.{is_data_in}, Ran.{Crossings.{here_goes, known_served}, Facts.{Known, apart_of, here_is}}}
-use proofs.{Ran.{Facts.{steps_of, then_is}, Shown.{IsArrival, ShownAs, row_shown}}, Replies.Same.{events_same}}
+use proofs.Names.{FitsRuns, lines_now, size_is, RunsFit, has_byte, served_id, progress_turns, any_may_change}
+use proofs.{Names.{may_change, OnEvents}, DataIn.{Entries.{EntersRead, enters_read}, Runs.{fits_reads}}}
+use proofs.{Given.Crossings.{req_rises}, Offers.Facts.{DataOfferFacts, data_in_carries, data_no_out, data_parts}}
+use proofs.{Offers.{Facts.{to_data}, Rows.{kept_row}, Steps.{is_data_in}}, Ran.Crossings.{here_goes, known_served}}
+use proofs.Ran.{Facts.{Known, apart_of, here_is, steps_of, then_is}, Shown.{IsArrival, ShownAs, row_shown}}
+use proofs.Replies.Same.{events_same}
 
 abbrev pub IsReader : Process → Type 0
 IsReader q = is_writing q ≡ false
@@ -195,7 +196,7 @@ read_begun s p row n w con calm g turned reading = go (process_served s k) refl
         is_j = pl2.array ∙ ap (λ (x : Story). array_after s x.history) (sym pl2.story)
 
         f : FitsRuns s k q (task_here s k q)
-        f = fits_reads s k q w.obeys is_k reads
+        f = fits_reads s k q w.obeys is_k (served_id s k.served q e).1 reads
 
         fit : RunsFit policy (task_here s k q)
         fit = subst (λ (x : ℕ). RunsFit (policy_of (target_def_of s x)) (task_here s k q)) well.target_is f.fit

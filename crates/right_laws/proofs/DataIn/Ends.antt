@@ -12,7 +12,7 @@ use proofs.Names.{process_item, process_served, array_after_events, run_state, s
 use proofs.Names.{is_true_telling, telling, policy_for, change_plain, least_is, by_bool, writes_there, frees_bus}
 use proofs.Names.{AnsweredOpen, IsTaken, PlacedBefore, PlacedIf, PlacedIn, IsServedWell, moves_runs, some_total}
 use proofs.Names.{RunsFrom, RunsInPhase, answered, moved_all, reads, run_turn, runs_from, writes, LinesOf, active_is}
-use proofs.Names.{lines_of, task_here, FitsRuns, RunsFit, last_run, Whole, HasRunLeft, RunsLeftOf, run_total}
+use proofs.Names.{lines_of, task_here, FitsRuns, RunsFit, served_id, last_run, Whole, HasRunLeft, RunsLeftOf, run_total}
 use proofs.{Names.{PointsAtEnd}, DataIn.{Counts.{IsReader, ReadRow}, Pointers.{read_done}, Runs.{fits_reads}}}
 use proofs.{Given.Sent.{runs_so}, Ran.{Crossings.{GoesSo, here_goes, known_served}, Open.{none_is}, Sent.{answer_of}}}
 use proofs.Ran.Shown.{IsAnswer, RunsAs, runs_alone, runs_arrived, row_runs}
@@ -142,7 +142,8 @@ points_at_end s p row w was next left q reply is reading =
 
         f : FitsRuns s k q t
         f = fits_reads s k q w.obeys
-            (was.stood.plain.array ∙ ap (λ (x : Story). array_after s x.history) (sym was.stood.plain.story)) reading
+            (was.stood.plain.array ∙ ap (λ (x : Story). array_after s x.history) (sym was.stood.plain.story))
+            (served_id s k.served q served_is).1 reading
 
         policy : policy_of (target_def_of s n.target) ≡ policy_for s q
         policy = ap (λ (x : ℕ). policy_of (target_def_of s x)) (sym well.target_is)

@@ -11,8 +11,8 @@ use proofs.Names.{target_def_of, IsPlain, RunState, bus_of, carried_here, run_st
 use proofs.Names.{task_of, obeys_fits, IsOver, change_plain, least_is, runs_are_short, run_count, by_bool}
 use proofs.Names.{connection_row, RowFacts, ends_here, writes_there, IsServedAnew, ItemFacts, OfferFacts, command_over}
 use proofs.Names.{pulses_here, IsServedWell, RunsBy, crossing_stands, active_is, crossing_begun, kind_next, raised_rst}
-use proofs.{Names.{task_here, turns_by, FitsRuns, runs_first, PointsAtCrossing}, DataIn.Counts.{IsReader, IsRunCounted}}
-use proofs.{DataIn.{Counts.{ReadRow, none_asked}, Runs.{fits_reads}}, Given.Crossings.{req_rises}}
+use proofs.{Names.{task_here, turns_by, FitsRuns, runs_first, served_id, PointsAtCrossing}, DataIn.Counts.{IsReader}}
+use proofs.{DataIn.{Counts.{IsRunCounted, ReadRow, none_asked}, Runs.{fits_reads}}, Given.Crossings.{req_rises}}
 use proofs.{Offers.{Facts.{data_in_carries}, Steps.{is_data_in}}, Ran.Facts.{Known}}
 use Rattle.trace_laws.specs.row_laws.proofs.Lines.Crossings.{stays}
 
@@ -123,8 +123,9 @@ pointers_next s p row w asked =
     kind_next IsReader s p row w.obeys w.prompt h.was h.next asked.offers (record {
       anew = asked.anew;
       stops = stops;
-      turns = λ n q con calm off after b ep served reads to. turns_by s k n q (fits_reads s k q w.obeys
-          (pl.array ∙ ap (λ (x : Story). array_after s x.history) (sym pl.story)) reads) served to
+      turns = λ n q con calm off after b ep served reads to. turns_by s k n q
+          (fits_reads s k q w.obeys (pl.array ∙ ap (λ (x : Story). array_after s x.history) (sym pl.story))
+          (served_id s k.served q served).1 reads) served to
           (λ e struck. wrong (sym (writes_there s k q (h.was.planned n con calm) (pl.begun ∙ b) served e) ∙ reads))
           (λ e. read_done s p row n w con calm off after b ep (task_here s k q) (ap (task_if s k) served) e);
       few = λ n q con calm served reads b phase. wrong
@@ -209,7 +210,8 @@ points_at s p row w n q t con served task reads crosses phase = record {
     well = w.pointers.served n q con g.goes.calm served reads
 
     f : FitsRuns s k q (task_here s k q)
-    f = fits_reads s k q w.obeys (pl.array ∙ ap (λ (x : Story). array_after s x.history) (sym pl.story)) reads
+    f = fits_reads s k q w.obeys (pl.array ∙ ap (λ (x : Story). array_after s x.history) (sym pl.story))
+        (served_id s k.served q served).1 reads
 
     here : is_data_in (bus p) ≡ true
     here = ap is_data_in (sym pl.bus) ∙ in_data (bus_of k) phase

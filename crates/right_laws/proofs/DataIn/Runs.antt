@@ -3,10 +3,11 @@ use Rattle.right_laws.proofs
 use proofs.Names.{ℕ, ◌≡◌, ◌*◌, Bool, true, false, ◌==◌, ◌∙◌, List, length, Option, Some, None, Result, Ok, Err, refl}
 use proofs.Names.{sym, ap, subst, [], eqb-true, same_Some, if◌then◌else◌, wrong, Event, blocks_moved, command_of}
 use proofs.Names.{CdbFault, Command, GOOD, is_write, ScenarioValue, Obeys, read_gives, undone, array_after, bytes_at}
-use proofs.Names.{CommandContext, command_execution, execution, range_in, range_named, Process, contents_of, context_at}
-use proofs.Names.{Array, UnitState, nexus_of, unit_state_at, length_bytes, RunState, array_of, or_start, blocks_in}
-use proofs.Names.{is_writing, moved_count, reply_now, size_of, policy_for, step_in, task_here, policies_most, FitsRuns}
-use proofs.{Names.{lines_now, size_is, named_by}, Replies.Blocks.{HasWhole, whole_always, whole_start}}
+use proofs.Names.{CommandContext, command_execution, execution, range_in, range_named, Process, process_of, contents_of}
+use proofs.Names.{context_at, Array, UnitState, nexus_of, unit_state_at, length_bytes, RunState, array_of, or_start}
+use proofs.Names.{blocks_in, is_writing, moved_count, reply_now, size_of, AreOfKinds, policy_for, step_in, task_here}
+use proofs.Names.{policies_most, FitsRuns, lines_now, size_is, named_by, disk_named, kinds_now, plain_contents}
+use proofs.Replies.Blocks.{HasWhole, whole_always, whole_start}
 
 -- ---- the bytes of a read
 
@@ -45,10 +46,14 @@ is_read (Ok (Command.Write10 lba count)) blocks w e = wrong w
 
 -- ---- what it moves
 
--- What moves some bytes ends GOOD, at a disk.
-pub moved_good : (a : Array) (q : Process) → (moved_count q (reply_now a q) == 0) ≡ false
+-- Its unit is a disk, or absent.
+abbrev pub IsPlainAt : Array → Process → Type 0
+IsPlainAt a q = (context_at a (nexus_of q) (unit_state_at a.units q.target q.unit)).contents.reel ≡ None
+
+-- What moves some bytes there ends GOOD.
+pub moved_good : (a : Array) (q : Process) → IsPlainAt a q → (moved_count q (reply_now a q) == 0) ≡ false
     → (reply_now a q).status ≡ GOOD
-moved_good a q some = go ((reply_now a q).status == GOOD) refl
+moved_good a q plain some = go ((reply_now a q).status == GOOD) refl
   where
     either : (b : Bool) → (let bytes : List ℕ = if b then [] else [] in length bytes) ≡ 0
     either true = refl
@@ -57,18 +62,18 @@ moved_good a q some = go ((reply_now a q).status == GOOD) refl
     none : ((reply_now a q).status == GOOD) ≡ false → moved_count q (reply_now a q) ≡ 0
     none e =
         let m : CommandContext = context_at a (nexus_of q) (unit_state_at a.units q.target q.unit) in
-        (λ i. length (if is_writing q then (if e i then q.sent else []) else (undone m q.cdb q.sent e).bytes i))
+        (λ i. length (if is_writing q then (if e i then q.sent else []) else (undone m q.cdb q.sent plain e).bytes i))
         ∙ either (is_writing q)
 
     go : (g : Bool) → ((reply_now a q).status == GOOD) ≡ g → (reply_now a q).status ≡ GOOD
     go true e = eqb-true (reply_now a q).status GOOD e
     go false e = wrong (sym (ap (λ (x : ℕ). x == 0) (none e)) ∙ some)
 
-moved_reads : (a : Array) (q : Process) (blocks : ℕ) → HasWhole a → is_writing q ≡ false
+moved_reads : (a : Array) (q : Process) (blocks : ℕ) → HasWhole a → IsPlainAt a q → is_writing q ≡ false
     → blocks_in (range_in (command_of q.cdb)) ≡ Some blocks → (moved_count q (reply_now a q) == 0) ≡ false
     → moved_count q (reply_now a q) ≡ blocks * size_of (unit_state_at a.units q.target q.unit)
-moved_reads a q blocks whole reads is some =
-    moved ∙ at (unit_state_at a.units q.target q.unit) refl (moved_good a q some)
+moved_reads a q blocks whole plain reads is some =
+    moved ∙ at (unit_state_at a.units q.target q.unit) refl (moved_good a q plain some)
   where
     moved : moved_count q (reply_now a q) ≡ length (reply_now a q).bytes
     moved =
@@ -81,13 +86,24 @@ moved_reads a q blocks whole reads is some =
         → (execution (context_at a (nexus_of q) x) q.cdb q.sent).reply.status ≡ GOOD
         → length (execution (context_at a (nexus_of q) x) q.cdb q.sent).reply.bytes ≡ blocks * size_of x
     at None e good = ap (λ (b : List ℕ). length b) (read_gives (context_at a (nexus_of q) None) q.cdb
-        q.sent r.command r.lba blocks r.command_is (r.gives (context_at a (nexus_of q) None) q.sent) good)
+        q.sent r.command r.lba blocks refl r.command_is (r.gives (context_at a (nexus_of q) None) q.sent) good)
         ∙ length_bytes (contents_of None) (λ lba. refl) r.lba blocks
     at (Some u) e good = ap (λ (b : List ℕ). length b) (read_gives (context_at a (nexus_of q) (Some u)) q.cdb
-        q.sent r.command r.lba blocks r.command_is (r.gives (context_at a (nexus_of q) (Some u)) q.sent) good)
+        q.sent r.command r.lba blocks ((λ i. (context_at a (nexus_of q) (sym e i)).contents.reel) ∙ plain) r.command_is
+        (r.gives (context_at a (nexus_of q) (Some u)) q.sent) good)
         ∙ length_bytes u.contents (subst (λ (x : Option UnitState). (lba : ℕ)
         → length (Rattle.due_model.specs.array_model.specs.Contents.block_at (contents_of x) lba)
-        ≡ (contents_of x).size) e (whole q.target q.unit)) r.lba blocks
+        ≡ (contents_of x).size) e (whole q.target q.unit).blocks) r.lba blocks
+
+-- A process that is not serial is at such a unit.
+pub plain_here : (s : ScenarioValue) (a : Array) (q : Process) → AreOfKinds s a → process_of s q.id ≡ Some q
+    → q.serial ≡ false → IsPlainAt a q
+plain_here s a q kinds own disk = go (unit_state_at a.units q.target q.unit) refl
+  where
+    go : (x : Option UnitState) → unit_state_at a.units q.target q.unit ≡ x
+        → (context_at a (nexus_of q) x).contents.reel ≡ None
+    go None e = refl
+    go (Some u) e = plain_contents s a q u kinds own disk e
 
 pub whole_now : (s : ScenarioValue) (history : List Event) (o : Option Array) → Obeys s → array_after s history ≡ o
     → HasWhole (or_start s o)
@@ -95,10 +111,11 @@ whole_now s history None o e = whole_start s o
 whole_now s history (Some a) o e = whole_always s history a o e
 
 pub fits_reads : (s : ScenarioValue) (k : RunState) (q : Process) → Obeys s → k.array ≡ array_after s k.story.history
-    → is_writing q ≡ false → FitsRuns s k q (task_here s k q)
-fits_reads s k q o e reads = record {
+    → process_of s q.id ≡ Some q → is_writing q ≡ false → FitsRuns s k q (task_here s k q)
+fits_reads s k q o e own reads = record {
   fit = record {
-    moved = λ blocks is some. moved_reads (array_of s k) q blocks (whole_now s k.story.history k.array o (sym e)) reads
+    moved = λ blocks is some. moved_reads (array_of s k) q blocks (whole_now s k.story.history k.array o (sym e))
+        (plain_here s (array_of s k) q (kinds_now s k.story.history k.array (sym e)) own (disk_named q blocks is)) reads
         (named_by q blocks is) some;
     most = policies_most s q.target o;
   };

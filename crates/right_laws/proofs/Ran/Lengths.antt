@@ -1,18 +1,24 @@
 -- A command gives no more bytes than it moves at the line of its unit, and a write gives none (7.3, 8.2, 9.2).
 use Rattle.right_laws.proofs
 use proofs.Names.{ℕ, ◌≡◌, ◌≤◌, ◌+◌, ◌*◌, ◌-◌, Bool, true, false, ◌&&◌, ◌∙◌, List, [], length, take, Option, Some, None}
-use proofs.Names.{Result, Ok, Err, sym, ap, subst, arith, and_parts, length-take, if◌then◌else◌, min, nat_le, nat_lt}
-use proofs.Names.{blocks_moved, command_of, inquiry_data, sense_data, Sense, CdbFault, Command, INQUIRY, INQUIRY_LEN}
-use proofs.Names.{SENSE_LEN, plain_need, has_target, unit_of, is_write, moved_by, need_of, ScenarioValue, CmdDef}
-use proofs.Names.{UnitDef, of_all, AreWhole, Contents, bytes_at, no_contents, CommandContext, Reply, command_execution}
-use proofs.Names.{execution, invalid_field, is_good_range, is_opcode, range_of, returned_sense, unit_not_supported}
-use proofs.Names.{Process, contents_of, context_at, Array, UnitState, nexus_of, sense_of_nexus, unit_state_at}
-use proofs.Names.{length_bytes, replies, unit_of_line, absent_reply_by, data_or_refusal, inquiry_room, sense_room}
-use proofs.{Names.{AreOfLines, IsOfLine}, Replies.Blocks.{HasWhole}}
+use proofs.Names.{Result, Ok, Err, refl, sym, ap, subst, arith, and_parts, length-take, if◌then◌else◌, min, nat_le}
+use proofs.Names.{nat_lt, is_some, writes_alike, blocks_moved, command_of, inquiry_data, sense_data, tape_command_of}
+use proofs.Names.{Sense, CdbFault, Command, INQUIRY, INQUIRY_LEN, SENSE_LEN, TapeCommand, plain_need, has_target}
+use proofs.Names.{unit_of, is_tape, is_write, moved_by, need_of, need_at, tape_moved_by, ScenarioValue, CmdDef, UnitDef}
+use proofs.Names.{of_all, on_tape, HasWholeReel, tape_few, most_at_tape, AreWhole, Contents, bytes_at, no_contents}
+use proofs.Names.{is_reeled, CommandContext, Reply, command_execution, execution, invalid_field, is_good_range}
+use proofs.Names.{is_opcode, range_of, returned_sense, unit_not_supported, Process, Reel, contents_of, context_at}
+use proofs.Names.{Array, UnitState, nexus_of, sense_of_nexus, unit_state_at, length_bytes, replies, none_tape}
+use proofs.Names.{absent_reply_by, data_or_refusal, inquiry_room, sense_room, AreOfLines, IsOfLine, AreOfKinds}
+use proofs.{Names.{IsOfKind}, Replies.Blocks.{HasWhole, HasWholeBlocks}}
 
--- What a command may give at the line of its unit.
-abbrev pub most_given : Result Command CdbFault → Option UnitDef → ℕ
-most_given r o = if is_write r then 0 else moved_by r o
+-- What a command may give at the line of its unit, a tape, or a disk or none.
+abbrev pub most_given : Bool → List ℕ → Option UnitDef → ℕ
+most_given tape cdb o = if is_write (command_of cdb) then 0 else need_at tape cdb o
+
+-- As a disk reads the block.
+abbrev disk_most : Result Command CdbFault → Option UnitDef → ℕ
+disk_most r o = if is_write r then 0 else moved_by r o
 
 pub none_few : (most : ℕ) → 0 ≤ most
 none_few most = omega arith
@@ -23,7 +29,7 @@ data_few room most bytes = let long = length-take (min room most) bytes in omega
 -- ---- a unit that is absent
 
 inquired_few : (r : Result Command CdbFault) (bytes : List ℕ) (sense : Sense)
-    → length (data_or_refusal (inquiry_room r) INQUIRY_LEN bytes sense).bytes ≤ most_given r None
+    → length (data_or_refusal (inquiry_room r) INQUIRY_LEN bytes sense).bytes ≤ disk_most r None
 inquired_few (Ok (Command.Inquiry room)) bytes sense = data_few room INQUIRY_LEN bytes
 inquired_few (Ok Command.TestUnitReady) bytes sense = none_few 0
 inquired_few (Ok (Command.RequestSense room)) bytes sense = none_few (min room SENSE_LEN)
@@ -35,7 +41,7 @@ inquired_few (Ok (Command.Write10 lba count)) bytes sense = none_few 0
 inquired_few (Err fault) bytes sense = none_few 0
 
 sensed_few : (r : Result Command CdbFault) (bytes : List ℕ) (sense : Sense)
-    → length (data_or_refusal (sense_room r) SENSE_LEN bytes sense).bytes ≤ most_given r None
+    → length (data_or_refusal (sense_room r) SENSE_LEN bytes sense).bytes ≤ disk_most r None
 sensed_few (Ok (Command.RequestSense room)) bytes sense = data_few room SENSE_LEN bytes
 sensed_few (Ok Command.TestUnitReady) bytes sense = none_few 0
 sensed_few (Ok (Command.Inquiry room)) bytes sense = none_few (min room INQUIRY_LEN)
@@ -47,7 +53,7 @@ sensed_few (Ok (Command.Write10 lba count)) bytes sense = none_few 0
 sensed_few (Err fault) bytes sense = none_few 0
 
 absent_few : (stored : Option Sense) (inquires : Bool) (r : Result Command CdbFault)
-    → length (absent_reply_by stored inquires r).bytes ≤ most_given r None
+    → length (absent_reply_by stored inquires r).bytes ≤ disk_most r None
 absent_few stored true r = inquired_few r (inquiry_data false) invalid_field
 absent_few stored false r = sensed_few r (sense_data (returned_sense false stored)) unit_not_supported
 
@@ -70,14 +76,21 @@ read_few c u lba m count size whole e = subst (λ (q : Bool). length (bytes_at c
         ap (λ (x : ℕ). nat_le (lba + m) x) (sym count) ∙ (and_parts (nat_lt lba c.count) (nat_le (lba + m) c.count) e).1
 
 -- The unit is the one of this line, and its blocks are whole.
-record MeetsLine (m : CommandContext) (u : UnitDef) : Type 0 where
+record MeetsLine (m : CommandContext) (u : UnitDef) (tape : Bool) : Type 0 where
   count : m.contents.count ≡ u.blocks
   size : m.contents.size ≡ u.size
   whole : AreWhole m.contents
+  reel : HasWholeReel m.contents
+  kind : is_reeled m.contents ≡ tape
 
-command_few : (m : CommandContext) (u : UnitDef) (c : Command) (sent : List ℕ)
-    → MeetsLine m u → is_good_range m.contents.count (range_of c) ≡ true
-    → length (command_execution m c sent).reply.bytes ≤ most_given (Ok c) (Some u)
+-- A tape reads a write where a disk does, and gives at most what it needs.
+tape_most : (cdb : List ℕ) (c : TapeCommand) (u : UnitDef) → tape_command_of cdb ≡ Ok c
+    → most_given true cdb (Some u) ≡ most_at_tape c u
+tape_most cdb c u is = λ i. if writes_alike cdb c is i then 0 else tape_moved_by (is i) (Some u)
+
+command_few : (m : CommandContext) (u : UnitDef) {tape : Bool} (c : Command) (sent : List ℕ)
+    → MeetsLine m u tape → is_good_range m.contents.count (range_of c) ≡ true
+    → length (command_execution m c sent).reply.bytes ≤ disk_most (Ok c) (Some u)
 command_few m u (Command.RequestSense room) sent h e =
     data_few room SENSE_LEN (sense_data (returned_sense m.present m.stored))
 command_few m u (Command.Read6 lba count) sent h e =
@@ -87,23 +100,33 @@ command_few m u Command.ReadCapacity sent h e = omega arith
 command_few m u (Command.Read10 lba count) sent h e = read_few m.contents u lba count h.count h.size h.whole e
 command_few m u _ sent h e = none_few 0
 
-execution_few : (m : CommandContext) (u : UnitDef) (cdb sent : List ℕ) → MeetsLine m u
-    → length (execution m cdb sent).reply.bytes ≤ most_given (command_of cdb) (Some u)
-execution_few m u cdb sent h =
-    of_all m cdb sent (λ x. length x.reply.bytes ≤ most_given (command_of cdb) (Some u)) (record {
-      refused_is = λ sense k. none_few (most_given (command_of cdb) (Some u));
-      reported_is = λ sense a. none_few (most_given (command_of cdb) (Some u));
-      disk_is = λ c is g. subst (λ (r : Result Command CdbFault). length (command_execution m c sent).reply.bytes
-          ≤ most_given r (Some u)) (sym is) (command_few m u c sent h g);
+execution_few : (m : CommandContext) (u : UnitDef) (tape : Bool) (cdb sent : List ℕ) → MeetsLine m u tape
+    → length (execution m cdb sent).reply.bytes ≤ most_given tape cdb (Some u)
+execution_few m u tape cdb sent h =
+    of_all m cdb sent (λ x. length x.reply.bytes ≤ most_given tape cdb (Some u)) (record {
+      refused_is = λ sense k. none_few (most_given tape cdb (Some u));
+      reported_is = λ sense a. none_few (most_given tape cdb (Some u));
+      disk_is = λ c d is g. subst (λ (x : ℕ). length (command_execution m c sent).reply.bytes ≤ x) (sym
+          ((λ i. most_given (kind d i) cdb (Some u)) ∙ ap (λ (r : Result Command CdbFault). disk_most r (Some u)) is))
+          (command_few m u c sent h g);
+      tape_is = λ r c d is. subst (λ (x : ℕ). length (on_tape m r c sent).reply.bytes ≤ x)
+          (sym ((λ i. most_given (reel d i) cdb (Some u)) ∙ tape_most cdb c u is))
+          (tape_few m r c sent u d h.size h.reel);
     })
+  where
+    kind : m.contents.reel ≡ None → tape ≡ false
+    kind d = sym h.kind ∙ ap (λ (o : Option Reel). is_some o) d
+
+    reel : {r : Reel} → m.contents.reel ≡ Some r → tape ≡ true
+    reel d = sym h.kind ∙ ap (λ (o : Option Reel). is_some o) d
 
 -- ---- at its unit of the array
 
-pub given_few : (s : ScenarioValue) (a : Array) (c : Process) → s.tapes ≡ [] → AreOfLines s a → HasWhole a
+pub given_few : (s : ScenarioValue) (a : Array) (c : Process) → AreOfLines s a → AreOfKinds s a → HasWhole a
     → length (execution (context_at a (nexus_of c) (unit_state_at a.units c.target c.unit)) c.cdb c.sent).reply.bytes
-    ≤ most_given (command_of c.cdb) (unit_of s c.target c.unit)
-given_few s a c plain lines whole = go (unit_of s c.target c.unit) (unit_state_at a.units c.target c.unit)
-    (unit_of_line s a plain lines c.target c.unit) (whole c.target c.unit)
+    ≤ most_given (is_tape s c.target c.unit) c.cdb (unit_of s c.target c.unit)
+given_few s a c lines kinds whole = go (unit_of s c.target c.unit) refl (unit_state_at a.units c.target c.unit)
+    (lines c.target c.unit) (kinds c.target c.unit) (whole c.target c.unit)
   where
     stored : Option Sense
     stored = sense_of_nexus a.senses (nexus_of c)
@@ -113,23 +136,19 @@ given_few s a c plain lines whole = go (unit_of s c.target c.unit) (unit_state_a
 
     absent :
         length (execution (record { present = false; contents = no_contents; stored = stored; attention = attention })
-        c.cdb c.sent).reply.bytes ≤ most_given (command_of c.cdb) None
-    absent = subst (λ (r : Reply). length r.bytes ≤ most_given (command_of c.cdb) None)
-        (sym (replies stored attention no_contents c.cdb c.sent))
+        c.cdb c.sent).reply.bytes ≤ disk_most (command_of c.cdb) None
+    absent = subst (λ (r : Reply). length r.bytes ≤ disk_most (command_of c.cdb) None)
+        (sym (replies stored attention no_contents refl c.cdb c.sent))
         (absent_few stored (is_opcode c.cdb INQUIRY) (command_of c.cdb))
 
-    go : (o : Option UnitDef) (x : Option UnitState) → IsOfLine o x → AreWhole (contents_of x)
-        → length (execution (context_at a (nexus_of c) x) c.cdb c.sent).reply.bytes ≤ most_given (command_of c.cdb) o
-    go None None h w = absent
-    go None (Some v) h w = absurd h
-    go (Some u) None h w = absurd h
-    go (Some u) (Some v) h w = execution_few (context_at a (nexus_of c) (Some v)) u c.cdb c.sent
-        (record { count = h.0; size = h.1; whole = w })
-
--- ---- what it needs
-
--- By the line of its unit, where its target is one of the scenario.
-pub need_is : (s : ScenarioValue) (c : CmdDef) → s.tapes ≡ [] → has_target s c.target ≡ true
-    → need_of s c ≡ moved_by (command_of c.cdb) (unit_of s c.target c.unit)
-need_is s c plain t =
-    plain_need s c plain ∙ (λ i. if t i then moved_by (command_of c.cdb) (unit_of s c.target c.unit) else 0)
+    go : (o : Option UnitDef) → unit_of s c.target c.unit ≡ o → (x : Option UnitState) → IsOfLine o x
+        → IsOfKind (is_tape s c.target c.unit) x → HasWholeBlocks (contents_of x)
+        → length (execution (context_at a (nexus_of c) x) c.cdb c.sent).reply.bytes
+        ≤ most_given (is_tape s c.target c.unit) c.cdb o
+    go None e None h k w =
+        subst (λ (tape : Bool). length (execution (context_at a (nexus_of c) None) c.cdb c.sent).reply.bytes
+        ≤ most_given tape c.cdb None) (sym (none_tape s c.target c.unit e)) absent
+    go None e (Some v) h k w = absurd h
+    go (Some u) e None h k w = absurd h
+    go (Some u) e (Some v) h k w = execution_few (context_at a (nexus_of c) (Some v)) u (is_tape s c.target c.unit)
+        c.cdb c.sent (record { count = h.0; size = h.1; whole = w.blocks; reel = w.reel; kind = k })

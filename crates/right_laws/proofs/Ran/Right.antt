@@ -2,11 +2,11 @@
 -- moves and its status; so the trace, its history, the outcomes and the blocks belong together.
 use Rattle.right_laws.proofs
 use proofs.Names.{◌≡◌, true, ◌∙◌, List, [], ◌∷◌, Option, sym, ap, subst, reverse-reverse, reverse, is_some, Event, Row}
-use proofs.Names.{ScenarioValue, Obeys, array_after, disks_of, Array, outcomes, all_carried, Right, Story, story}
-use proofs.Names.{trace_history, IsPrompt, IsPlain, or_start, run_state, Stood, NextStood, PlaceFacts, AreRepliesShown}
-use proofs.Names.{DataFacts, TellFacts, Whole, standing_next, whole, AllMove, UndoLoadFacts, BlockFacts, RightFacts}
-use proofs.{Names.{StatusFacts}, Offers.Facts.{DataOfferFacts, offer_start, offer_next}, Ran.Blocks.{block_start}}
-use proofs.Ran.{Blocks.{block_next}, Carried.{events_carried}, Facts.{Known, right_start, right_next}}
+use proofs.Names.{ScenarioValue, Obeys, array_after, disks_of, tapes_of, Array, outcomes, all_carried, Right, Story}
+use proofs.Names.{story, trace_history, IsPrompt, IsPlain, or_start, run_state, Stood, NextStood, PlaceFacts}
+use proofs.Names.{AreRepliesShown, DataFacts, TellFacts, Whole, standing_next, whole, AllMove, UndoLoadFacts}
+use proofs.{Names.{BlockFacts, RightFacts, StatusFacts}, Offers.Facts.{DataOfferFacts, offer_start, offer_next}}
+use proofs.Ran.{Blocks.{block_start, block_next}, Carried.{events_carried}, Facts.{Known, right_start, right_next}}
 use proofs.{Ran.{Sent.{moves_at_run}, Undone.{load_start, load_next}}, Statuses.Facts.{status_start, status_next}}
 use proofs.Statuses.Facts.{status_at_end}
 
@@ -87,7 +87,7 @@ carried_rows s p o prompt h moves =
 
 pub right_rows : (s : ScenarioValue) (p : List Row) → Obeys s → IsPrompt s p → AreJoined s p → AllMove s p
     → Right s (reverse p) (reverse (trace_history s p)) (outcomes s (story s p))
-    (disks_of (array_after s (trace_history s p)))
+    (disks_of (array_after s (trace_history s p))) (tapes_of (array_after s (trace_history s p)))
 right_rows s p o prompt h moves =
     let rows = reverse-reverse p in
     let history = reverse-reverse (trace_history s p) in
@@ -98,6 +98,7 @@ right_rows s p o prompt h moves =
       permitted =
           ap (λ (x : List Event). is_some (array_after s x)) history ∙ ap is_some (sym pl.array ∙ now.places.array_is);
       blocks = ap (λ (x : List Event). disks_of (array_after s x)) history;
+      reels = ap (λ (x : List Event). tapes_of (array_after s x)) history;
       replies = ap (λ (x : List Row). outcomes s (story s x)) rows;
       carried = (λ i. all_carried s (story s (rows i)) (history i)) ∙ carried_rows s p o prompt h moves;
     }

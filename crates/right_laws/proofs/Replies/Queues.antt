@@ -2,19 +2,19 @@
 use Rattle.right_laws.proofs
 use proofs.Names.{ℕ, ◌≡◌, ◌⊎◌, inl, inr, Bool, true, false, not, ◌&&◌, ◌==◌, ◌∙◌, List, [], ◌∷◌, Option, Some, None}
 use proofs.Names.{refl, sym, ap, subst, same_Some, if◌then◌else◌, is_some, wrong, wrong', eq_self, Event, ProcId}
-use proofs.Names.{is_data, Row, Change, command_of, ScenarioValue, array_step, is_request_sense, choice, Process}
-use proofs.Names.{process_of, same_id, IsOwn, AllOwn, IsOwnUnit, AllOwnUnits, IsSound, RunningProcess, without_reply}
-use proofs.Names.{UnitState, Nexus, Array, unit_state_at, guest_at, is_held, has_no_current, with_current}
-use proofs.Names.{unit_after_choice, starting_array, settled_array, carried_id, RowReading, row_reading, CarriedBytes}
-use proofs.Names.{carried_if, row_events_by, Item, process, abort, Link, phase_of, Phase, ProcessProgress, RunState}
-use proofs.Names.{array_of, bus_of, carried_here, run_state, array_after_events, Writer, process_id, id_is, self_id}
-use proofs.Names.{none_some, by_bool, step_units, MayWait, StaysSo, each_settled, events_all, HoldsIt, IsElsewhere}
-use proofs.Names.{Stands, append_all, empty_stays, kept_all, map_all, map_units, none_at, stands_each, start_empty}
-use proofs.Names.{without_all, AllP, RunsP, UnitsP, Runs, MayRun, RunsOpen, PlacedIn, AllUnits, IsEmptyUnit, IsOther}
-use proofs.{Names.{IsWrittenUnit, away_guest, ArrivesNow, arrives_first, NoneAtArrival}, Given.Bytes.{moved_stays}}
-use proofs.{Given.Bytes.{no_data_in_command}, Ran.Crossings.{GoesSo, InBytes, IsPlaced, byte_phase, crossing_goes}}
-use proofs.Ran.{Crossings.{in_command, in_data, in_status, known_served, placed_here}, Facts.{Known, here_is, steps_of}}
-use proofs.Ran.Facts.{then_is}
+use proofs.Names.{is_data, Row, Change, command_of, units_of, ScenarioValue, array_step, is_request_sense, choice}
+use proofs.Names.{Process, process_of, same_id, IsOwn, AllOwn, IsOwnUnit, AllOwnUnits, IsSound, RunningProcess}
+use proofs.Names.{without_reply, UnitState, Nexus, Array, unit_state_at, guest_at, is_held, has_no_current}
+use proofs.Names.{with_current, unit_after_choice, starting_array, settled_array, carried_id, RowReading, row_reading}
+use proofs.Names.{CarriedBytes, carried_if, row_events_by, Item, process, abort, Link, phase_of, Phase, ProcessProgress}
+use proofs.Names.{RunState, array_of, bus_of, carried_here, run_state, array_after_events, Writer, process_id, id_is}
+use proofs.Names.{self_id, none_some, by_bool, step_units, MayWait, StaysSo, each_settled, events_all, HoldsIt}
+use proofs.Names.{IsElsewhere, Stands, append_all, empty_stays, kept_all, map_all, map_units, none_at, stands_each}
+use proofs.Names.{start_empty, without_all, AllP, RunsP, UnitsP, Runs, MayRun, RunsOpen, PlacedIn, AllUnits}
+use proofs.Names.{IsEmptyUnit, IsOther, IsWrittenUnit, away_guest, ArrivesNow, arrives_first, NoneAtArrival}
+use proofs.{Given.Bytes.{moved_stays, no_data_in_command}, Ran.Crossings.{GoesSo, InBytes, IsPlaced, byte_phase}}
+use proofs.Ran.{Crossings.{crossing_goes, in_command, in_data, in_status, known_served, placed_here}, Facts.{Known}}
+use proofs.Ran.Facts.{here_is, steps_of, then_is}
 use Rattle.due_model.specs.array_model.specs.Steps
 use Rattle.trace_laws.specs.row_laws.proofs.Events.Queued
 
@@ -72,7 +72,7 @@ senseless_empty (u ∷ units) h =
     run (Some r) e = absurd e
 
 start_units : (s : ScenarioValue) → AllUnits IsEmptyUnit (settled_array (starting_array s)).units
-start_units s = each_settled IsEmptyUnit (starting_array s) empty_stays (start_empty s s.units)
+start_units s = each_settled IsEmptyUnit (starting_array s) empty_stays (start_empty s (units_of s))
 
 pub clean_start : (s : ScenarioValue) → CleanFacts s []
 clean_start s = clean_empty (moved_of (run_state s [])) (settled_array (starting_array s)).units (start_units s)
@@ -314,7 +314,7 @@ pub clean_next :
 clean_next s p row made all h arrives plain written was =
     events_all s (IsCleanUnit (moved_of j)) k.array (row_events_by s k.story d row) (clean_stays (moved_of j))
     (arrives_first s k.story d row (MayWait s (IsCleanUnit (moved_of j)) (array_of s k)) waits)
-    (clean_empty (moved_of j) (starting_array s).units (start_empty s s.units))
+    (clean_empty (moved_of j) (starting_array s).units (start_empty s (units_of s)))
     (subst (λ (x : Array). AllUnits (IsCleanUnit (moved_of j)) x.units) (sym (here_is s p row h)) rows)
   where
     k : RunState

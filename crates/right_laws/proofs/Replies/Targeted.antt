@@ -1,19 +1,25 @@
 -- The target of each unit of a scenario that obeys the rules of its text is a target of it.
 use Rattle.right_laws.proofs
 use proofs.Names.{ℕ, ◌≡◌, Bool, true, false, cond, ◌||◌, ◌∙◌, List, [], ◌∷◌, ◌++◌, Some, Ok, refl, sym, ap, subst, ◌==◌}
-use proofs.Names.{◌&&◌, true≢false, eqb-true, AllByRecursion, find, list_any, and_first, bind_ok, ok_is, plain_unit}
-use proofs.Names.{tape_line, load_line, Said, scsi_line, initiator_line, target_line, unit_line, fill_line, cmd_line}
-use proofs.Names.{abort_line, reset_line, fault_line, end_line, has_target, unit_of, tape_def, load_def, Progress}
-use proofs.Names.{guard, host_def, target_def, unit_def, fill_def, full_cmd_def, abort_def, reset_def, fault_def, added}
-use proofs.Names.{said_after, fits_version, in_order, rank, kind_of, nothing, ScenarioValue, saids, built, Obeys}
-use proofs.Names.{TargetDef, UnitDef, all_are, all_more, unit_read, none_some}
+use proofs.Names.{◌&&◌, true≢false, eqb-true, AllByRecursion, find, list_any, map, and_first, bind_ok, ok_is, tape_line}
+use proofs.Names.{load_line, Said, scsi_line, initiator_line, target_line, unit_line, fill_line, cmd_line, abort_line}
+use proofs.Names.{reset_line, fault_line, end_line, has_target, unit_of, tape_unit, units_of, tape_def, load_def}
+use proofs.Names.{Progress, guard, host_def, target_def, unit_def, fill_def, full_cmd_def, abort_def, reset_def}
+use proofs.Names.{fault_def, added, said_after, fits_version, in_order, rank, kind_of, nothing, ScenarioValue, saids}
+use proofs.Names.{built, Obeys, TapeDef, TargetDef, UnitDef, all_are, all_more, each_unit, unit_read, tape_read}
+use proofs.Names.{none_some}
 
 -- Lines of targets, of which one is of this device.
 abbrev pub is_there : List TargetDef → ℕ → Bool
 is_there targets dev = list_any (λ (t : TargetDef). t.dev == dev) targets
 
+-- The disks and the tapes of these lines.
+abbrev AreThere : List TargetDef → List UnitDef → List TapeDef → Type 0
+AreThere targets units tapes = AllByRecursion (λ (u : UnitDef). is_there targets u.target ≡ true) units
+    × AllByRecursion (λ (t : TapeDef). is_there targets t.target ≡ true) tapes
+
 abbrev pub AreTargeted : ScenarioValue → Type 0
-AreTargeted s = AllByRecursion (λ (u : UnitDef). has_target s u.target ≡ true) s.units
+AreTargeted s = AreThere s.targets s.units s.tapes
 
 there_still : (targets : List TargetDef) (more : TargetDef) (dev : ℕ) → is_there targets dev ≡ true
     → is_there (targets ++ more ∷ []) dev ≡ true
@@ -36,21 +42,31 @@ targeted_added d z (initiator_line f) e a =
     subst (λ (g : Progress). AreTargeted g.scenario) (ok_is _ z b.2) a
 targeted_added d z (target_line f) e a =
     let b = bind_ok (target_def d.scenario f) _ z e in
-    subst (λ (g : Progress). AreTargeted g.scenario) (ok_is _ z b.2)
-    (all_are (λ (u : UnitDef). is_there d.scenario.targets u.target ≡ true)
-    (λ (u : UnitDef). is_there (d.scenario.targets ++ b.0 ∷ []) u.target ≡ true) d.scenario.units
-    (λ u t. there_still d.scenario.targets b.0 u.target t) a)
+    subst (λ (g : Progress). AreTargeted g.scenario) (ok_is _ z b.2) (
+      all_are (λ (u : UnitDef). is_there d.scenario.targets u.target ≡ true)
+          (λ (u : UnitDef). is_there (d.scenario.targets ++ b.0 ∷ []) u.target ≡ true) d.scenario.units
+          (λ u t. there_still d.scenario.targets b.0 u.target t) a.0,
+      all_are (λ (x : TapeDef). is_there d.scenario.targets x.target ≡ true)
+          (λ (x : TapeDef). is_there (d.scenario.targets ++ b.0 ∷ []) x.target ≡ true) d.scenario.tapes
+          (λ x t. there_still d.scenario.targets b.0 x.target t) a.1,
+    )
 targeted_added d z (unit_line f) e a =
     let b = bind_ok (unit_def d.scenario f) _ z e in
-    subst (λ (g : Progress). AreTargeted g.scenario) (ok_is _ z b.2)
-    (all_more (λ (u : UnitDef). is_there d.scenario.targets u.target ≡ true) d.scenario.units b.0 a
-    (unit_read d.scenario (unit_line f) b.0 b.1).known)
+    subst (λ (g : Progress). AreTargeted g.scenario) (ok_is _ z b.2) (
+      all_more (λ (u : UnitDef). is_there d.scenario.targets u.target ≡ true) d.scenario.units b.0 a.0
+          (unit_read d.scenario (unit_line f) b.0 b.1).known,
+      a.1,
+    )
 targeted_added d z (fill_line f) e a =
     let b = bind_ok (fill_def d.scenario f) _ z e in
     subst (λ (g : Progress). AreTargeted g.scenario) (ok_is _ z b.2) a
 targeted_added d z (tape_line f) e a =
     let b = bind_ok (tape_def d.scenario f) _ z e in
-    subst (λ (g : Progress). AreTargeted g.scenario) (ok_is _ z b.2) a
+    subst (λ (g : Progress). AreTargeted g.scenario) (ok_is _ z b.2) (
+      a.0,
+      all_more (λ (x : TapeDef). is_there d.scenario.targets x.target ≡ true) d.scenario.tapes b.0 a.1
+          (tape_read d.scenario (tape_line f) b.0 b.1).known,
+    )
 targeted_added d z (load_line f) e a =
     let b = bind_ok (load_def d.scenario f) _ z e in
     subst (λ (g : Progress). AreTargeted g.scenario) (ok_is _ z b.2) a
@@ -86,8 +102,18 @@ targeted_built d z (x ∷ xs) e a =
 
 pub are_targeted : (s : ScenarioValue) → Obeys s → AreTargeted s
 are_targeted s o =
-    let b = bind_ok (built nothing (saids s)) _ s o.text.lawful in
-    subst AreTargeted (ok_is b.0.scenario s b.2) (targeted_built nothing b.0 (saids s) b.1 tt)
+    let b = bind_ok (built nothing (saids s)) _ s o.lawful in
+    subst AreTargeted (ok_is b.0.scenario s b.2) (targeted_built nothing b.0 (saids s) b.1 (tt, tt))
+
+pub units_targeted : (s : ScenarioValue) → Obeys s
+    → AllByRecursion (λ (u : UnitDef). has_target s u.target ≡ true) (units_of s)
+units_targeted s o = each_unit (λ (u : UnitDef). has_target s u.target ≡ true) s (are_targeted s o).0
+    (mapped s.tapes (are_targeted s o).1)
+  where
+    mapped : (tapes : List TapeDef) → AllByRecursion (λ (t : TapeDef). has_target s t.target ≡ true) tapes
+        → AllByRecursion (λ (u : UnitDef). has_target s u.target ≡ true) (map tape_unit tapes)
+    mapped [] a = tt
+    mapped (t ∷ tapes) a = (a.0, mapped tapes a.1)
 
 -- ---- of the unit that is found
 
@@ -107,5 +133,4 @@ found_targeted s (v ∷ units) t m u a e =
 
 pub unit_targeted : (s : ScenarioValue) (t m : ℕ) (u : UnitDef) → Obeys s → unit_of s t m ≡ Some u
     → has_target s t ≡ true
-unit_targeted s t m u o e =
-    found_targeted s s.units t m u (are_targeted s o) (sym (plain_unit s t m o.tapes) ∙ e)
+unit_targeted s t m u o e = found_targeted s (units_of s) t m u (units_targeted s o) e

@@ -2,15 +2,16 @@
 use Rattle.row_laws.proofs
 use proofs.Names.{ℕ, ◌≡◌, ◌<◌, Bool, true, false, not, ◌&&◌, ◌||◌, List, [], ◌∷◌, ◌++◌, Option, Some, None, subst}
 use proofs.Names.{arith, ◌==◌, same_Some, AllByRecursion, if◌then◌else◌, is_some, is_none, nat_lt, AbortKind, Event}
-use proofs.Names.{ProcId, AreBytes, command_of, FitsSense, Sense, ABORTED_COMMAND, GOOD, CHECK_CONDITION, ScenarioValue}
-use proofs.Names.{FillDef, HostDef, UnitDef, Contents, filled_contents, blank_contents, with_block, Reply, Execution}
-use proofs.Names.{execution, is_request_sense, check_condition, queue_full, sense_of, commands_cleared, choice, Process}
-use proofs.Names.{process_of, same_id, IsOwnRunning, AllOwnUnits, AllOwnGuests, RunningProcess, UnitState, Nexus, Array}
-use proofs.Names.{same_nexus, sense_of_nexus, senses_without, nexuses_without, is_held, unit_state_at, with_unit}
-use proofs.Names.{guest_at, without_guest, with_current, has_no_current, units_after_choice, settled_array}
-use proofs.{Names.{starting_array, starting_units, nexus_of, all_more}, Bytes.Executions.{HoldsBytes, block_small}}
-use proofs.Bytes.Executions.{HasByteReply, code_fits, check_small, HasByteContext, gives_bytes}
-use proofs.Common.Impossible.{none_some}
+use proofs.Names.{ProcId, AreBytes, command_of, FitsSense, Sense, ABORTED_COMMAND, GOOD, CHECK_CONDITION, is_tape}
+use proofs.Names.{units_of, ScenarioValue, FillDef, HostDef, Load, LoadDef, UnitDef, AreOfBytes, IsOfBytes}
+use proofs.Names.{loaded_contents, loaded_objects, object_of, starting_contents, Contents, filled_contents}
+use proofs.Names.{blank_contents, with_block, Reply, Execution, execution, is_request_sense, check_condition}
+use proofs.Names.{queue_full, sense_of, commands_cleared, choice, Process, process_of, same_id, IsOwnRunning}
+use proofs.Names.{AllOwnUnits, AllOwnGuests, RunningProcess, UnitState, Nexus, Array, same_nexus, sense_of_nexus}
+use proofs.Names.{senses_without, nexuses_without, is_held, unit_state_at, with_unit, guest_at, without_guest}
+use proofs.Names.{with_current, has_no_current, units_after_choice, settled_array, starting_array, starting_units}
+use proofs.{Names.{nexus_of, all_more}, Bytes.Executions.{HoldsBytes, block_small, HasByteReply, code_fits}}
+use proofs.{Bytes.Executions.{check_small, HasByteContext, gives_bytes}, Common.Impossible.{none_some}}
 use Rattle.due_model.specs.array_model.specs.Steps
 
 -- ---- what is kept
@@ -303,7 +304,7 @@ context_small a y t m h = go (unit_state_at a.units t m) (unit_found a.units t m
   where
     go : (x : Option UnitState) → IsByteUnitIf x → HasByteContext (Steps.context_at a y x)
     go None b = record {
-      contents = tt;
+      contents = record { touched = tt; reel = tt };
       stored = λ x e. sense_found a.senses y x h.senses e;
       attention = λ x e. sense_found a.attentions y x h.attentions e;
     }
@@ -330,13 +331,14 @@ contents_put a (Some u) c h b e =
     units_with a (record u { contents = c }) h (record { contents = e; current = b.current })
 
 runs : (a : Array) (guest : Bool) (o : Option RunningProcess) → HasBytes a
-    → HoldsIf (λ (r : RunningProcess). AreBytes r.process.sent) o → HasBytesIf (Steps.run_step a guest o)
+    → HoldsIf (λ (r : RunningProcess). AreBytes r.process.cdb × AreBytes r.process.sent) o
+    → HasBytesIf (Steps.run_step a guest o)
 runs a guest None h b = tt
 runs a guest (Some r) h b =
     let u : Option UnitState = unit_state_at a.units r.process.target r.process.unit in
     let done : Execution = execution (Steps.context_at a (nexus_of r.process) u) r.process.cdb r.process.sent in
     let e = gives_bytes (Steps.context_at a (nexus_of r.process) u) r.process.cdb r.process.sent
-    (context_small a (nexus_of r.process) r.process.target r.process.unit h) b in
+    (context_small a (nexus_of r.process) r.process.target r.process.unit h) b.0 b.1 in
     if_so (is_none r.reply && (guest || not (is_held a.holds r.process.target r.process.unit)))
     (Steps.after_execution_at a r.process u)
     (replied (Steps.with_contents (Steps.without_attention a done.reported (nexus_of r.process)) u done.contents)
@@ -554,12 +556,12 @@ abbrev pub HasByteCode : Event → Type 0
 HasByteCode (Event.Fail id code) = code < 256
 HasByteCode _ = Unit {0}
 
--- What the processes of a scenario send.
+-- The processes of a scenario send bytes: their command descriptor block, and what goes with it.
 abbrev pub SendsBytes : ScenarioValue → Type 0
-SendsBytes s = (id : ProcId) (c : Process) → process_of s id ≡ Some c → AreBytes c.sent
+SendsBytes s = (id : ProcId) (c : Process) → process_of s id ≡ Some c → AreBytes c.cdb × AreBytes c.sent
 
 sends : (s : ScenarioValue) (o : Option RunningProcess) → SendsBytes s → HoldsIf (IsOf s) o
-    → HoldsIf (λ (r : RunningProcess). AreBytes r.process.sent) o
+    → HoldsIf (λ (r : RunningProcess). AreBytes r.process.cdb × AreBytes r.process.sent) o
 sends s None f b = tt
 sends s (Some r) f b = f r.process.id r.process b
 
@@ -599,12 +601,36 @@ filled u (f ∷ fills) c a h = filled u fills
     go true = block_small c f.lba f.bytes h a.0
     go false = h
 
+-- What is loaded.
+abbrev pub IsByteLoad : Load → Type 0
+IsByteLoad (Load.Block bytes) = AreBytes bytes
+IsByteLoad Load.Mark = Unit {0}
+
+object_small : (what : Load) → IsByteLoad what → IsOfBytes (object_of what)
+object_small (Load.Block bytes) a = a
+object_small Load.Mark a = tt
+
+loaded : (u : UnitDef) (defs : List LoadDef) → AllByRecursion (λ (l : LoadDef). IsByteLoad l.what) defs
+    → AreOfBytes (loaded_objects u defs)
+loaded u [] a = tt
+loaded u (l ∷ defs) a = go (l.target == u.target && l.unit == u.unit) (loaded u defs a.1)
+  where
+    go : (q : Bool) → AreOfBytes (loaded_objects u defs)
+        → AreOfBytes (if q then object_of l.what ∷ loaded_objects u defs else loaded_objects u defs)
+    go true h = (object_small l.what a.0, h)
+    go false h = h
+
 started : (s : ScenarioValue) (units : List UnitDef) → AllByRecursion (λ (f : FillDef). AreBytes f.bytes) s.fills
-    → AllByRecursion IsByteUnit (starting_units s units)
-started s [] a = tt
-started s (u ∷ units) a =
-    (record { contents = filled u s.fills (blank_contents u.blocks u.size) a tt; current = tt }, started s units a)
+    → AllByRecursion (λ (l : LoadDef). IsByteLoad l.what) s.loads → AllByRecursion IsByteUnit (starting_units s units)
+started s [] a b = tt
+started s (u ∷ units) a b =
+    (record { contents = go (is_tape s u.target u.unit); current = tt }, started s units a b)
+  where
+    go : (q : Bool) → HoldsBytes (if q then loaded_contents u s.loads else starting_contents u s.fills)
+    go true = record { touched = tt; reel = loaded u s.loads b }
+    go false = filled u s.fills (blank_contents u.blocks u.size) a (record { touched = tt; reel = tt })
 
 pub start_bytes : (s : ScenarioValue) → AllByRecursion (λ (f : FillDef). AreBytes f.bytes) s.fills
-    → HasBytes (starting_array s)
-start_bytes s a = record { units = started s s.units a; guests = tt; senses = tt; attentions = tt; replies = tt }
+    → AllByRecursion (λ (l : LoadDef). IsByteLoad l.what) s.loads → HasBytes (starting_array s)
+start_bytes s a b =
+    record { units = started s (units_of s) a b; guests = tt; senses = tt; attentions = tt; replies = tt }

@@ -104,7 +104,7 @@ bytes_of_process s id t o e = go (command_at s.commands id.command) refl e
     go : (c : Option CmdDef) → command_at s.commands id.command ≡ c → process_if s id c ≡ Some t → HasBytes t
     go None f g = cc
     go (Some c) f g = subst HasBytes (same_Some (process_by s id c) t g)
-        (own c id.sense (line_at s.commands id.command c o.text.commands f))
+        (own c id.sense (line_at s.commands id.command c o.commands f))
 
 -- ---- the process of a connection
 

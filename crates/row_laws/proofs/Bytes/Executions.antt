@@ -1,22 +1,29 @@
--- What a command gives are bytes, and its sense fits sense data, where the blocks of its unit and what it sends are
--- bytes.
+-- What a command gives are bytes, and its sense fits sense data, where its block, what it sends, and the blocks of its
+-- unit or what stands on the tape are bytes.
 use Rattle.row_laws.proofs
-use proofs.Names.{ℕ, zero, suc, ◌≡◌, ◌<◌, ◌+◌, Bool, true, false, ◌&&◌, List, [], ◌∷◌, take, replicate, Option, Some}
-use proofs.Names.{None, refl, arith, ◌==◌, nat_tests, AllByRecursion, list_all, ◌-◌, drop, if◌then◌else◌, min, nat_lt}
-use proofs.Names.{AreBytes, plain_fits, data_are_bytes, blocks_moved, sense_data, inquiry_data, capacity_data}
-use proofs.Names.{FitsSense, CdbFault, Command, Sense, SENSE_LEN, INQUIRY_LEN, of_all, sense_of_fault, IsRefused}
-use proofs.Names.{absent, faulty, outside, Contents, zero_block, touched_block, block_at, touched_with, with_block}
-use proofs.Names.{bytes_at, with_bytes, Reply, CommandContext, Execution, good, check_condition, returned_sense}
-use proofs.Names.{reply_execution, write_execution, command_execution, execution, sense_of}
-use proofs.Bytes.Spoken.{small_append, small_take}
+use proofs.Names.{Ok, ◌⊎◌, inl, inr, subst, ℕ, zero, suc, ◌≡◌, ◌<◌, ◌+◌, Bool, true, false, ◌&&◌, List, [], ◌∷◌, take}
+use proofs.Names.{replicate, Option, Some, None, refl, arith, ◌==◌, nat_tests, AllByRecursion, list_all, ◌-◌, drop}
+use proofs.Names.{if◌then◌else◌, min, nat_lt, AreBytes, plain_fits, data_are_bytes, blocks_moved, sense_data}
+use proofs.Names.{inquiry_data, capacity_data, FitsSense, tape_command_of, CdbFault, Command, Sense, SENSE_LEN}
+use proofs.Names.{INQUIRY_LEN, CHECK_CONDITION, GOOD, TapeCommand, faulty_at_tape, on_tape, of_all, sense_of_fault}
+use proofs.Names.{IsRefused, absent, faulty, outside, tape_bytes, tape_fits, AreOfBytes, tape_known, Contents}
+use proofs.Names.{zero_block, touched_block, block_at, touched_with, with_block, bytes_at, with_bytes, tape_in, Reply}
+use proofs.Names.{CommandContext, Execution, good, check_condition, returned_sense, reply_execution, write_execution}
+use proofs.{Names.{command_execution, execution, sense_of, Reel}, Bytes.Spoken.{small_append, small_take}}
 
 -- ---- blocks
 
 abbrev pub IsByteBlock : (ℕ × List ℕ) → Type 0
 IsByteBlock entry = AreBytes entry.1
 
-abbrev pub HoldsBytes : Contents → Type 0
-HoldsBytes c = AllByRecursion IsByteBlock c.touched
+abbrev pub IsByteReel : Option Reel → Type 0
+IsByteReel None = Unit {0}
+IsByteReel (Some r) = AreOfBytes r.objects
+
+-- The blocks of a disk, and those on a tape.
+pub record HoldsBytes (c : Contents) : Type 0 where
+  pub touched : AllByRecursion IsByteBlock c.touched
+  pub reel : IsByteReel c.reel
 
 small_drop : (m : ℕ) (xs : List ℕ) → AreBytes xs → AreBytes (drop m xs)
 small_drop zero xs a = a
@@ -40,7 +47,7 @@ touched_small (entry ∷ touched) lba otherwise a b = go (entry.0 == lba) (touch
 bytes_small : (c : Contents) (lba m : ℕ) → HoldsBytes c → AreBytes (bytes_at c lba m)
 bytes_small c lba zero h = tt
 bytes_small c lba (suc m) h = small_append (block_at c lba) (bytes_at c (lba + 1) m)
-    (touched_small c.touched lba (zero_block c.size) h (zeros c.size)) (bytes_small c (lba + 1) m h)
+    (touched_small c.touched lba (zero_block c.size) h.touched (zeros c.size)) (bytes_small c (lba + 1) m h)
 
 with_small : (touched : List (ℕ × List ℕ)) (lba : ℕ) (block : List ℕ) → AllByRecursion IsByteBlock touched
     → AreBytes block → AllByRecursion IsByteBlock (touched_with touched lba block)
@@ -57,7 +64,7 @@ with_small (entry ∷ touched) lba block a b =
 
 pub block_small : (c : Contents) (lba : ℕ) (block : List ℕ) → HoldsBytes c → AreBytes block
     → HoldsBytes (with_block c lba block)
-block_small c lba block h b = with_small c.touched lba block h b
+block_small c lba block h b = record { touched = with_small c.touched lba block h.touched b; reel = h.reel }
 
 written_small : (c : Contents) (lba m : ℕ) (bytes : List ℕ) → HoldsBytes c → AreBytes bytes
     → HoldsBytes (with_bytes c lba m bytes)
@@ -160,12 +167,35 @@ checks : (m : CommandContext) (x : Sense) → HasByteContext m → FitsSense x
     → GivesBytes (reply_execution m (check_condition x))
 checks m x h a = replies m (check_condition x) h (check_small x a)
 
-pub gives_bytes : (m : CommandContext) (cdb sent : List ℕ) → HasByteContext m → AreBytes sent
+-- ---- at a tape
+
+known_small : (n : ℕ) → (n ≡ GOOD) ⊎ (n ≡ CHECK_CONDITION) → n < 256
+known_small n (inl e) = omega (arith, e)
+known_small n (inr e) = omega (arith, e)
+
+on_tape_small : (m : CommandContext) (r : Reel) (c : TapeCommand) (cdb sent : List ℕ) → m.contents.reel ≡ Some r
+    → tape_command_of cdb ≡ Ok c → HasByteContext m → AreBytes cdb → AreBytes sent → GivesBytes (on_tape m r c sent)
+on_tape_small m r c cdb sent d is h b a =
+    let given = tape_bytes m r c sent (subst IsByteReel d h.contents.reel) (returned m.present m.stored h.stored) a in
+    record {
+      contents = record { touched = h.contents.touched; reel = given.objects };
+      reply = record {
+        status = known_small (on_tape m r c sent).reply.status
+            (tape_known (tape_in m.contents r) (returned_sense m.present m.stored) c sent);
+        bytes = given.bytes;
+        sense = tape_fits m r c cdb sent b is;
+      };
+    }
+
+-- ---- any command
+
+pub gives_bytes : (m : CommandContext) (cdb sent : List ℕ) → HasByteContext m → AreBytes cdb → AreBytes sent
     → GivesBytes (execution m cdb sent)
-gives_bytes m cdb sent h a = of_all m cdb sent GivesBytes (record {
+gives_bytes m cdb sent h b a = of_all m cdb sent GivesBytes (record {
   refused_is = λ sense k. checks m sense h (refused_small sense k);
   reported_is = λ sense e. record { contents = h.contents; reply = check_small sense (h.attention sense e) };
-  disk_is = λ c is g. gives m c sent h a;
+  disk_is = λ c d is g. gives m c sent h a;
+  tape_is = λ r c d is. on_tape_small m r c cdb sent d is h b a;
 })
   where
     of_fault : (fault : CdbFault) → FitsSense (sense_of_fault fault)
@@ -175,5 +205,6 @@ gives_bytes m cdb sent h a = of_all m cdb sent GivesBytes (record {
 
     refused_small : (sense : Sense) → IsRefused m cdb sense → FitsSense sense
     refused_small _ (absent e) = code_fits 0x05 0x25 (omega arith) (omega arith)
-    refused_small _ (faulty fault p e) = of_fault fault
-    refused_small _ (outside c p e g) = code_fits 0x05 0x21 (omega arith) (omega arith)
+    refused_small _ (faulty fault d p e) = of_fault fault
+    refused_small _ (outside c d p e g) = code_fits 0x05 0x21 (omega arith) (omega arith)
+    refused_small _ (faulty_at_tape r fault d p e) = of_fault fault

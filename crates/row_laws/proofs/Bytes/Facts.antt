@@ -3,25 +3,25 @@ use Rattle.row_laws.proofs
 use proofs.Names.{ℕ, ◌≡◌, ◌+◌, Bool, true, false, not, ◌&&◌, List, [], ◌∷◌, length, Option, Some, None, refl, ap, subst}
 use proofs.Names.{arith, ◌<◌, ◌==◌, same_Some, AllByRecursion, ◌-◌, if◌then◌else◌, nat_lt, Event, ProcId, LineSet}
 use proofs.Names.{changes_phase, is_message_out, is_message_in, Row, Agreement, Connection, AreBytes, out_bytes}
-use proofs.Names.{in_bytes, MsgIn, MsgOut, ScenarioValue, IsHex, Obeys, FillDef, Policy, Tag, TargetDef, step_sound}
-use proofs.Names.{start_sound, Reply, Process, same_id, current_of, IsOwnRunning, AllOwnUnits, HasSeats, IsSound}
-use proofs.Names.{RunningProcess, UnitState, unit_state_at, is_held, Array, starting_array, nexus_of, RowReading}
-use proofs.Names.{row_reading, row_events_by, Item, process, abort, aim_of, policy_of, run_at, message_bytes}
-use proofs.Names.{bytes_of_messages, no_messages, one_message, said_with, said_with_if, plan_anew, plan_anew_if}
-use proofs.Names.{plan_after_message, struck_plan, Serving, phase_of, leaving_by, status_byte, data_byte, phase_byte}
-use proofs.Names.{one_if, first_plan, plan_after, plan_in_phase, plan_in_message_out, plan_with_byte, Ready, ready_in}
-use proofs.Names.{is_ready_before, first_ready, target_answer, tag_named, Hearing, Leaving, Messages, Phase, Plan, Task}
-use proofs.Names.{host_of, AreOfDevices, RunState, array_of, bus_of, or_start, process_item, process_served, run_state}
-use proofs.Names.{run_state_after, exchange_after, leaving_of, may_negotiate, messages_if, array_after_events}
-use proofs.Names.{serving_of, hearing_of, leaving, reply_now, status_by, task_if, given_if, since_of, seek_of, ready_at}
-use proofs.{Names.{ready_of, all_are, HasByteValues}, Bytes.Arrays.{HasBytes, HasBytesIf, HasByteCode, SendsBytes}}
-use proofs.Bytes.{Arrays.{IsByteListed, settles, step_bytes, start_bytes, context_small}, Blocks.{bytes_of_process}}
-use proofs.Bytes.{Blocks.{byte_small}, Codes.{HasCodes, row_codes, codes_on, no_codes}, Executions.{HasByteReply}}
-use proofs.Bytes.{Executions.{gives_bytes}, SmallLines.{IsSmallTag, IsSmallTarget, HasSmallLines, small_lines}}
-use proofs.Bytes.Spoken.{small_append, HasByteHalves, halves_after, told_out, told_in, IsSmallAgreement}
-use proofs.Bytes.Spoken.{target_answer_small, host_small, target_small, IsSmallProcess, process_small, HasByteWords}
-use proofs.{Bytes.Spoken.{opening_small, words_on, offer_bytes}, Common.Impossible.{none_some}}
-use proofs.Lines.Called.{own_units}
+use proofs.Names.{in_bytes, MsgIn, MsgOut, ScenarioValue, IsHexLoad, IsHex, Obeys, FillDef, Load, LoadDef, Policy, Tag}
+use proofs.Names.{TargetDef, step_sound, start_sound, Reply, Process, same_id, current_of, IsOwnRunning, AllOwnUnits}
+use proofs.Names.{HasSeats, IsSound, RunningProcess, UnitState, unit_state_at, is_held, Array, starting_array, nexus_of}
+use proofs.Names.{RowReading, row_reading, row_events_by, Item, process, abort, aim_of, policy_of, run_at}
+use proofs.Names.{message_bytes, bytes_of_messages, no_messages, one_message, said_with, said_with_if, plan_anew}
+use proofs.Names.{plan_anew_if, plan_after_message, struck_plan, Serving, phase_of, leaving_by, status_byte, data_byte}
+use proofs.Names.{phase_byte, one_if, first_plan, plan_after, plan_in_phase, plan_in_message_out, plan_with_byte, Ready}
+use proofs.Names.{ready_in, is_ready_before, first_ready, target_answer, tag_named, Hearing, Leaving, Messages, Phase}
+use proofs.Names.{Plan, Task, host_of, AreOfDevices, RunState, array_of, bus_of, or_start, process_item, process_served}
+use proofs.Names.{run_state, run_state_after, exchange_after, leaving_of, may_negotiate, messages_if}
+use proofs.Names.{array_after_events, serving_of, hearing_of, leaving, reply_now, status_by, task_if, given_if}
+use proofs.{Names.{since_of, seek_of, ready_at, ready_of, all_are, HasByteValues}, Bytes.Arrays.{IsByteLoad, HasBytes}}
+use proofs.Bytes.Arrays.{HasBytesIf, HasByteCode, SendsBytes, IsByteListed, settles, step_bytes, start_bytes}
+use proofs.Bytes.{Arrays.{context_small}, Blocks.{bytes_of_process, byte_small}, Codes.{HasCodes, row_codes, codes_on}}
+use proofs.Bytes.{Codes.{no_codes}, Executions.{HasByteReply, gives_bytes}, SmallLines.{IsSmallTag, IsSmallTarget}}
+use proofs.Bytes.{SmallLines.{HasSmallLines, small_lines}, Spoken.{small_append, HasByteHalves, halves_after, told_out}}
+use proofs.Bytes.Spoken.{told_in, IsSmallAgreement, target_answer_small, host_small, target_small, IsSmallProcess}
+use proofs.Bytes.Spoken.{process_small, HasByteWords, opening_small, words_on, offer_bytes}
+use proofs.{Common.Impossible.{none_some}, Lines.Called.{own_units}}
 use Rattle.due_model.specs.dialogue_model.specs.declared.exchange.Said.{Said}
 use Rattle.link_laws.proofs.LeavingWays as ways
 use Rattle.due_model.specs.array_model.specs.ArrayHistory as Play
@@ -291,27 +291,35 @@ keeps_row s k row f seats h = record {
 
 fills_small : (s : ScenarioValue) → Obeys s → AllByRecursion (λ (f : FillDef). AreBytes f.bytes) s.fills
 fills_small s o =
-    all_are (λ (f : FillDef). IsHex f.bytes) (λ (f : FillDef). AreBytes f.bytes) s.fills (λ f h. h.0) o.text.fills
+    all_are (λ (f : FillDef). IsHex f.bytes) (λ (f : FillDef). AreBytes f.bytes) s.fills (λ f h. h.0) o.fills
+
+load_small : (what : Load) → IsHexLoad what → IsByteLoad what
+load_small (Load.Block bytes) h = h.0
+load_small Load.Mark h = tt
+
+loads_small : (s : ScenarioValue) → Obeys s → AllByRecursion (λ (l : LoadDef). IsByteLoad l.what) s.loads
+loads_small s o = all_are (λ (l : LoadDef). IsHexLoad l.what) (λ (l : LoadDef). IsByteLoad l.what) s.loads
+    (λ l h. load_small l.what h) o.loads
 
 pub sends_bytes : (s : ScenarioValue) → Obeys s → SendsBytes s
-sends_bytes s o id c e = (bytes_of_process s id c o e).1
+sends_bytes s o id c e = bytes_of_process s id c o e
 
 pub keeps : (s : ScenarioValue) (p : List Row) → Obeys s → SendsBytes s → HasSeats s → Keeps s (run_state s p)
 keeps s [] o f seats = record {
-  array = (start_sound s seats, settles (starting_array s) (start_bytes s (fills_small s o)));
+  array = (start_sound s seats, settles (starting_array s) (start_bytes s (fills_small s o) (loads_small s o)));
   codes = no_codes;
 }
 keeps s (row ∷ p) o f seats = keeps_row s (run_state s p) row f seats (keeps s p o f seats)
 
 array_small : (s : ScenarioValue) (o : Option Array) → Obeys s → KeepsIf s o → HasBytes (or_start s o)
-array_small s None b h = start_bytes s (fills_small s b)
+array_small s None b h = start_bytes s (fills_small s b) (loads_small s b)
 array_small s (Some a) b h = h.1
 
 -- ---- what the target gives
 
-reply_small : (a : Array) (c : Process) → HasBytes a → AreBytes c.sent → HasByteReply (reply_now a c)
+reply_small : (a : Array) (c : Process) → HasBytes a → AreBytes c.cdb × AreBytes c.sent → HasByteReply (reply_now a c)
 reply_small a c h b = (gives_bytes (Steps.context_at a (nexus_of c) (unit_state_at a.units c.target c.unit)) c.cdb
-    c.sent (context_small a (nexus_of c) c.target c.unit h) b).reply
+    c.sent (context_small a (nexus_of c) c.target c.unit h) b.0 b.1).reply
 
 abbrev StatusIf : Option Reply → Type 0
 StatusIf None = Unit {0}
@@ -331,19 +339,19 @@ status_small r None a b = a
 status_small r (Some x) a b = b
 
 sent_small : (s : ScenarioValue) (i : Option Item) (c : Process) → SendsBytes s → process_item s i ≡ Some c
-    → AreBytes c.sent
+    → AreBytes c.cdb × AreBytes c.sent
 sent_small s None c f e = cc
 sent_small s (Some (process id)) c f e = f id c e
 sent_small s (Some (abort n)) c f e = cc
 
 task_small : (s : ScenarioValue) (k : RunState) (o : Option Process) → HasBytes (array_of s k)
-    → ((c : Process) → o ≡ Some c → AreBytes c.sent) → status_byte (task_if s k o) < 256
+    → ((c : Process) → o ≡ Some c → AreBytes c.cdb × AreBytes c.sent) → status_byte (task_if s k o) < 256
 task_small s k None h f = omega arith
 task_small s k (Some c) h f = status_small (reply_now (array_of s k) c) (Play.reply_in (array_of s k).replies c.id)
     (reply_small (array_of s k) c h (f c refl)).status (listed_small (array_of s k).replies c.id h.replies)
 
 given_small : (s : ScenarioValue) (k : RunState) (o : Option Process) → HasBytes (array_of s k)
-    → ((c : Process) → o ≡ Some c → AreBytes c.sent) → AreBytes (given_if s k o)
+    → ((c : Process) → o ≡ Some c → AreBytes c.cdb × AreBytes c.sent) → AreBytes (given_if s k o)
 given_small s k None h f = tt
 given_small s k (Some c) h f = (reply_small (array_of s k) c h (f c refl)).bytes
 
@@ -369,7 +377,8 @@ byte_values s p n o seats dv =
     let l = small_lines s o in
     let says = speaks_bytes s p l seats dv in
     let array = array_small s k.array o (keeps s p o f seats).array in
-    let sent : (q : Process) → process_served s k ≡ Some q → AreBytes q.sent = λ q e. sent_small s k.served q f e in
+    let sent : (q : Process) → process_served s k ≡ Some q → AreBytes q.cdb × AreBytes q.sent =
+    λ q e. sent_small s k.served q f e in
     let status = task_small s k (process_served s k) array sent in
     let given = given_small s k (process_served s k) array sent in
     record {

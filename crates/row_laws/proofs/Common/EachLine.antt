@@ -124,6 +124,6 @@ each_built h t c a read d z (x ∷ xs) e w =
 pub each_line : (h : HostDef → Type 0) (t : TargetDef → Type 0) (c : CmdDef → Type 0) (a : AbortDef → Type 0)
     → IsOfEach h t c a → (s : ScenarioValue) → Obeys s → IsOfAll h t c a s
 each_line h t c a read s o =
-    let b = bind_ok (built nothing (saids s)) _ s o.text.lawful in
+    let b = bind_ok (built nothing (saids s)) _ s o.lawful in
     subst (IsOfAll h t c a) (ok_is b.0.scenario s b.2) (each_built h t c a read nothing b.0 (saids s) b.1
     (record { hosts = tt; targets = tt; commands = tt; aborts = tt }))

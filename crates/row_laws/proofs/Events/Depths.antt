@@ -3,13 +3,13 @@ use Rattle.row_laws.proofs
 use proofs.Names.{ℕ, zero, suc, ◌≡◌, ◌≤◌, ◌<◌, ◌+◌, Bool, true, false, not, ◌&&◌, ◌||◌, ◌==◌, ◌∙◌, List, [], ◌∷◌, ◌++◌}
 use proofs.Names.{length, length-append, Option, Some, None, refl, sym, subst, arith, true≢false, nat_tests, same_Some}
 use proofs.Names.{if◌then◌else◌, is_some, is_none, nat_lt, ⊤, AbortKind, Event, ProcId, command_of, ABORTED_COMMAND}
-use proofs.Names.{ScenarioValue, UnitDef, Reply, Execution, execution, is_request_sense, check_condition, queue_full}
-use proofs.Names.{sense_of, without_process, choice, chosen_place, entries_of, process_at, process_at_if, Process}
-use proofs.Names.{process_of, same_id, process_count, running_count, is_of_unit, has_tag, RunningProcess, UnitState}
-use proofs.Names.{Nexus, Array, is_held, unit_state_at, with_unit, guest_at, nexus_of, has_no_current, with_current}
-use proofs.Names.{unit_after_choice, units_after_choice, settled_array, starting_array, starting_units, self_id}
-use proofs.{Names.{AreWithin}, Common.Impossible.{none_some}, Events.Processes.{IsSameIn, status_same, attended_same}}
-use proofs.Events.Processes.{cleared_same}
+use proofs.Names.{units_of, ScenarioValue, UnitDef, Reply, Execution, execution, is_request_sense, check_condition}
+use proofs.Names.{queue_full, sense_of, without_process, choice, chosen_place, entries_of, process_at, process_at_if}
+use proofs.Names.{Process, process_of, same_id, process_count, running_count, is_of_unit, has_tag, RunningProcess}
+use proofs.Names.{UnitState, Nexus, Array, is_held, unit_state_at, with_unit, guest_at, nexus_of, has_no_current}
+use proofs.Names.{with_current, unit_after_choice, units_after_choice, settled_array, starting_array, starting_units}
+use proofs.{Names.{self_id, AreWithin}, Common.Impossible.{none_some}, Events.Processes.{IsSameIn, status_same}}
+use proofs.Events.Processes.{attended_same, cleared_same}
 use Rattle.due_model.specs.array_model.specs.Steps
 
 -- ---- one unit
@@ -315,7 +315,7 @@ within_after s a b event h e = go (Steps.event_step s a event) (event_within s a
         subst (λ (x : Array). AreWithin x.units) (same_Some (settled_array c) b z) (settled_within c.holds c.units f)
 
 pub within_at_start : (s : ScenarioValue) → AreWithin (settled_array (starting_array s)).units
-within_at_start s = settled_within [] (starting_units s s.units) (go s.units)
+within_at_start s = settled_within [] (starting_units s (units_of s)) (go (units_of s))
   where
     go : (units : List UnitDef) → AreWithin (starting_units s units)
     go [] = tt

@@ -2,13 +2,13 @@
 use Rattle.row_laws.proofs
 use proofs.Names.{◌≡◌, Some, ℕ, Bool, true, false, not, ◌&&◌, ◌||◌, ◌==◌, ◌∙◌, List, [], ◌∷◌, ◌++◌, Option, None, refl}
 use proofs.Names.{sym, ap, subst, same_Some, if◌then◌else◌, is_some, is_none, nat_lt, ⊤, wrong, AbortKind, Event}
-use proofs.Names.{ProcId, command_of, ABORTED_COMMAND, ScenarioValue, UnitDef, running_unit, guest_own, reply_in, Reply}
-use proofs.Names.{Execution, execution, is_request_sense, check_condition, queue_full, sense_of, Process, process_of}
-use proofs.Names.{same_id, seat_of, running_at, IsSound, running_process, has_ended, is_of_unit, Array, RunningProcess}
-use proofs.Names.{UnitState, is_held, unit_state_at, with_unit, guest_at, nexus_of, settled_array, starting_array}
-use proofs.Names.{starting_units, id_is as ids_are, IsAway, IsUnanswered, Waits, Runs, OnUnits, Each, IsAtRest}
-use proofs.{Names.{IsUntouched}, Events.Processes.{AdmitsEvent, Admits, status_same, attended_same, cleared_same}}
-use proofs.Events.{Processes.{each_after, each_settled}, Replies.{running_id}}
+use proofs.Names.{ProcId, command_of, ABORTED_COMMAND, units_of, ScenarioValue, UnitDef, running_unit, guest_own}
+use proofs.Names.{reply_in, Reply, Execution, execution, is_request_sense, check_condition, queue_full, sense_of}
+use proofs.Names.{Process, process_of, same_id, seat_of, running_at, IsSound, running_process, has_ended, is_of_unit}
+use proofs.Names.{Array, RunningProcess, UnitState, is_held, unit_state_at, with_unit, guest_at, nexus_of}
+use proofs.Names.{settled_array, starting_array, starting_units, id_is as ids_are, IsAway, IsUnanswered, Waits, Runs}
+use proofs.{Names.{OnUnits, Each, IsAtRest, IsUntouched}, Events.Processes.{AdmitsEvent, Admits, status_same}}
+use proofs.Events.{Processes.{attended_same, cleared_same, each_after, each_settled}, Replies.{running_id}}
 use Rattle.due_model.specs.array_model.proofs.SoundArrays.{id_is}
 use Rattle.due_model.specs.array_model.specs.Steps
 
@@ -290,7 +290,8 @@ untouched_after s a b event other f e h =
 
 pub untouched_at_start : (s : ScenarioValue) (id : ProcId) → IsUntouched (settled_array (starting_array s)) id
 untouched_at_start s id = record {
-  away = each_settled (IsAway id) (IsAway id) (starting_array s) (record { units = go s.units; guests = tt });
+  away = each_settled (IsAway id) (IsAway id) (starting_array s)
+      (record { units = go (units_of s); guests = tt });
   reply = refl;
   open_is = refl;
 }

@@ -4,15 +4,15 @@ use proofs.Names.{ℕ, ◌≡◌, ◌<◌, Bool, true, false, not, ◌&&◌, ◌
 use proofs.Names.{ap, subst, eqb-true, same_Some, if◌then◌else◌, wrong, and_false, change_of, rises, falls, LineSet}
 use proofs.Names.{call, call_goes_on, calling_after, caller_goes_on, called_goes_on, new_calling, other_id}
 use proofs.Names.{drives_two_ids, arbitration, connection, connection_of, connected, connected_by, connected_of, bus}
-use proofs.Names.{drives, driven_after, Kind, Row, Change, Connection, Call, Calling, stage, InCalling, ScenarioValue}
-use proofs.Names.{history_sound, start_units, is_initiator, AllOwnUnits, HasSeats, Array, latency_of, aim_of}
-use proofs.Names.{trace_history, Due, run_state_plain, IsLeast, AreOfDevices, RunState, array_of, or_start, run_state}
-use proofs.Names.{callee, target_of, initiator_if, AreUnits, selects_for, reselects_by, IsAimedAt, IsReadyFor, KeepsAll}
-use proofs.Names.{still_keeps, is_call, stage_is, calls_due, is_calling, is_there, both_ids, won_call, BeginsConnection}
-use proofs.Names.{by_selection, by_reselection, own_time, unreset_due, BusStage, on_free_bus, in_arbitration}
-use proofs.Names.{after_arbitration, with_both_ids, awaiting_answer, after_withdrawal, after_answer, after_takeover}
-use proofs.{Names.{in_reset, CalmStanding}, Common.{Impossible.{none_some}, Tests.{not_not, falls_true, by_bool}}}
-use proofs.Common.Tests.{by_option}
+use proofs.Names.{drives, driven_after, Kind, Row, Change, Connection, Call, Calling, stage, InCalling, units_of}
+use proofs.Names.{ScenarioValue, history_sound, start_units, is_initiator, AllOwnUnits, HasSeats, Array, latency_of}
+use proofs.Names.{aim_of, trace_history, Due, run_state_plain, IsLeast, AreOfDevices, RunState, array_of, or_start}
+use proofs.Names.{run_state, callee, target_of, initiator_if, AreUnits, selects_for, reselects_by, IsAimedAt}
+use proofs.Names.{IsReadyFor, KeepsAll, still_keeps, is_call, stage_is, calls_due, is_calling, is_there, both_ids}
+use proofs.Names.{won_call, BeginsConnection, by_selection, by_reselection, own_time, unreset_due, BusStage}
+use proofs.Names.{on_free_bus, in_arbitration, after_arbitration, with_both_ids, awaiting_answer, after_withdrawal}
+use proofs.{Names.{after_answer, after_takeover, in_reset, CalmStanding}, Common.Impossible.{none_some}}
+use proofs.Common.Tests.{not_not, falls_true, by_bool, by_option}
 use Rattle.link_laws.specs.bus_laws.specs.Stages.{in_connection}
 
 -- A connection is made for the item of its initiator, or the process that its target has ready: the caller called the
@@ -215,7 +215,7 @@ called_on s p row h alone calm off always least was k x e f =
 pub own_units : (s : ScenarioValue) (p : List Row) → HasSeats s → AreOfDevices p
     → AllOwnUnits s (array_of s (run_state s p)).units
 own_units s p seats dv = by_option (run_state s p).array
-    (λ e. subst (λ (o : Option Array). AllOwnUnits s (or_start s o).units) (sym e) (start_units s s.units))
+    (λ e. subst (λ (o : Option Array). AllOwnUnits s (or_start s o).units) (sym e) (start_units s (units_of s)))
     (λ a e. subst (λ (o : Option Array). AllOwnUnits s (or_start s o).units) (sym e)
     (history_sound s (trace_history s p) a seats (sym (run_state_plain s p dv).array ∙ e)).units)
 

@@ -4,14 +4,14 @@ use proofs.Names.{inl, inr, ℕ, ◌≡◌, ◌<◌, Bool, true, false, not, ◌
 use proofs.Names.{refl, sym, ap, subst, cases_eq, same_Some, if◌then◌else◌, wrong, wrong', or_true, bus_off}
 use proofs.Names.{drives-other, same_set-eq, change_of, rises, is_within, implies, LineSet, union, none, is_message_in}
 use proofs.Names.{arbitration, call, connection, connection_of, connected, connected_of, connected_by, connection_after}
-use proofs.Names.{bus, drives, driven_after, Row, Connection, Call, Calling, only_rst, broken_rule, ScenarioValue}
-use proofs.Names.{starting_units, row_reading, is_complete, Item, sense_item, Link, LastMessage, plain, is_open_sense}
-use proofs.Names.{Phase, run_state_plain, AreOfDevices, IsPlain, RunState, array_of, run_state, out_over, Begins, RowOf}
-use proofs.Names.{row_apart, begins, goes_on, under_reset, change_plain, BusStage, LinkStage, when_selected}
-use proofs.Names.{when_settling, when_turning, when_offering, when_shaking, when_pulsing, none_some, some_none}
-use proofs.Names.{or_first, by_bool, settled_units, IsCalled, ConnectionRow, RowFacts, stays, ends_here, made_is}
-use proofs.Names.{quiet_sel, under_rst, reset_rule, line_off, quiet_at_end, drives_next, IsAimed, AimsFit, UnitsP}
-use proofs.Names.{IsQueued, ItemFacts, is_sense_item, awaits, is_plain, talk_of, TalksBy, last_well}
+use proofs.Names.{bus, drives, driven_after, Row, Connection, Call, Calling, only_rst, broken_rule, units_of}
+use proofs.Names.{ScenarioValue, starting_units, row_reading, is_complete, Item, sense_item, Link, LastMessage, plain}
+use proofs.Names.{is_open_sense, Phase, run_state_plain, AreOfDevices, IsPlain, RunState, array_of, run_state, out_over}
+use proofs.Names.{Begins, RowOf, row_apart, begins, goes_on, under_reset, change_plain, BusStage, LinkStage}
+use proofs.Names.{when_selected, when_settling, when_turning, when_offering, when_shaking, when_pulsing, none_some}
+use proofs.Names.{some_none, or_first, by_bool, settled_units, IsCalled, ConnectionRow, RowFacts, stays, ends_here}
+use proofs.Names.{made_is, quiet_sel, under_rst, reset_rule, line_off, quiet_at_end, drives_next, IsAimed, AimsFit}
+use proofs.Names.{UnitsP, IsQueued, ItemFacts, is_sense_item, awaits, is_plain, talk_of, TalksBy, last_well}
 use proofs.{Items.{Rows.{open_over}, Sent.{only_are}, Steps.{start_queued}}, Talks.InMoves.{in_move}}
 use proofs.Talks.{Steps.{plain_last}, Turns.{taken_leaves}}
 use Rattle.row_laws.specs.book_laws.specs.Traces.{ends}
@@ -36,8 +36,8 @@ items_start s = record {
 }
   where
     start : UnitsP (IsQueued s (run_state s []).story.sent) (array_of s (run_state s [])).units
-    start = settled_units (IsQueued s (run_state s []).story.sent) [] (starting_units s s.units)
-        (start_queued (IsQueued s (run_state s []).story.sent) s s.units)
+    start = settled_units (IsQueued s (run_state s []).story.sent) [] (starting_units s (units_of s))
+        (start_queued (IsQueued s (run_state s []).story.sent) s (units_of s))
 
 -- ---- a selection is made for what is next
 

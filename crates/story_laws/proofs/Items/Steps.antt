@@ -2,7 +2,7 @@
 use Rattle.story_laws.proofs
 use proofs.Names.{ℕ, ◌≡◌, ◌+◌, Bool, true, false, not, ◌&&◌, ◌||◌, ◌==◌, ◌∙◌, List, [], ◌∷◌, Option, Some, None, refl}
 use proofs.Names.{sym, ap, subst, same_Some, list_any, if◌then◌else◌, is_none, ⊤, wrong, Event, ProcId, falls}
-use proofs.Names.{changes_phase, Row, Connection, Call, Calling, command_of, ScenarioValue, CmdDef, UnitDef}
+use proofs.Names.{changes_phase, Row, Connection, Call, Calling, command_of, units_of, ScenarioValue, CmdDef, UnitDef}
 use proofs.Names.{is_request_sense, Process, process_of, process_if, process_by, command_at, same_id, current_of}
 use proofs.Names.{RunningProcess, UnitState, Array, unit_state_at, is_held, starting_units, RowReading, Item, process}
 use proofs.Names.{abort, same_item, has_item, Sent, Story, story_after_event, story_after_events, aim_of}
@@ -113,7 +113,7 @@ queued_on s b a (event ∷ shown) h q = go (array_after_events s a shown) refl (
 
     next : (x : Array) (y : Option Array) → Steps.step s event x ≡ y → UnitsP (IsQueued s was.sent) x.units
         → UnitsP (IsQueued s (story_after_event s was event).sent) (or_start s y).units
-    next x None e g = start_queued (IsQueued s (story_after_event s was event).sent) s s.units
+    next x None e g = start_queued (IsQueued s (story_after_event s was event).sent) s (units_of s)
     next x (Some y) e g = map_units (λ p. IsQueued s was.sent p × (stays_queued event p ≡ true))
         (IsQueued s (story_after_event s was event).sent)
         (λ p z. still_queued s was event p z.0 z.1) y.units (step_units s (IsQueued s was.sent) x y event
@@ -121,7 +121,7 @@ queued_on s b a (event ∷ shown) h q = go (array_after_events s a shown) refl (
 
     go : (x : Option Array) → array_after_events s a shown ≡ x → UnitsP (IsQueued s was.sent) (or_start s x).units
         → UnitsP (IsQueued s (story_after_event s was event).sent) (or_start s (Play.array_step s event x)).units
-    go None e g = start_queued (IsQueued s (story_after_event s was event).sent) s s.units
+    go None e g = start_queued (IsQueued s (story_after_event s was event).sent) s (units_of s)
     go (Some x) e g = next x (Steps.step s event x) refl g
 
 -- Other items may be sent and over meanwhile.

@@ -2,18 +2,19 @@
 use Rattle.trace_laws.proofs
 use proofs.Names.{ℕ, ◌≡◌, Bool, true, false, cond, List, [], ◌∷◌, Some, Ok, sym, ap, subst, ◌∙◌, ◌*◌, length, Option}
 use proofs.Names.{None, Result, Err, refl, true≢false, ◌==◌, not, inl, inr, eqb-true, same_Some, AllByRecursion, find}
-use proofs.Names.{if◌then◌else◌, Event, command_of, CdbFault, Command, GOOD, bind_ok, ok_is, within_ok, read_policy}
-use proofs.Names.{target_line, Said, disk_of, is_tape, has_device, has_target, unit_of, need_at, is_write, need_of}
+use proofs.Names.{if◌then◌else◌, is_some, Event, command_of, CdbFault, Command, GOOD, bind_ok, ok_is, within_ok}
+use proofs.Names.{read_policy, target_line, Said, is_tape, has_device, has_target, unit_of, need_at, is_write, need_of}
 use proofs.Names.{sent_of, guard, within, in_8, period_in, policy_in, target_def, ScenarioValue, said_policy, Obeys}
 use proofs.Names.{LATENCY_LIMIT, RETRY_LIMIT, TARGET_OFFSET_LIMIT, SEEK_LIMIT, BURST_LIMIT, Policy, TargetDef, UnitDef}
-use proofs.Names.{absent_executed, good_range, named_either, array_after, reply_in, execution, needs_unit, range_in}
-use proofs.Names.{count_in, range_named, Process, process_of, contents_of, context_of, seat_of, context_at, Array}
-use proofs.Names.{UnitState, nexus_of, unit_state_at, starting_array, blocks_written, taken_now, policy_of, Task}
-use proofs.Names.{target_def_of, progress_in, RunState, or_start, array_of, carried_here, is_writing, size_of}
-use proofs.Names.{blocks_in, reply_now, moved_count, task_with, obeys_fits, command_fits, target_by, IsCommandLine}
-use proofs.Names.{by_line, lines_always, lines_start, sends, written_named, start_settled, IsOfLine, AreOfLines}
-use proofs.Names.{policy_for, Any, each_line, none_some, zero_times, by_bool, by_option, context_same, step_in}
-use proofs.{Names.{run_step, writer_plain}, Runs.Parts.{HasMost, RunsFit}}
+use proofs.Names.{absent_executed, good_range, named_either, serial_is, array_after, reply_in, execution, needs_unit}
+use proofs.Names.{range_in, count_in, range_named, Process, process_of, Reel, contents_of, context_of, seat_of}
+use proofs.Names.{context_at, Array, UnitState, nexus_of, unit_state_at, starting_array, blocks_written, taken_now}
+use proofs.Names.{taken_with, policy_of, Task, target_def_of, progress_in, RunState, or_start, array_of, carried_here}
+use proofs.Names.{is_writing, size_of, blocks_in, reply_now, moved_count, task_with, obeys_fits, command_fits}
+use proofs.Names.{target_by, IsCommandLine, by_line, lines_always, lines_start, sends, kinds_always, kinds_start}
+use proofs.Names.{written_named, start_settled, IsOfLine, AreOfLines, AreOfKinds, IsOfKind, policy_for, Any, each_line}
+use proofs.Names.{none_some, zero_times, by_bool, by_option, context_same, step_in, run_step, writer_plain}
+use proofs.Runs.Parts.{HasMost, RunsFit}
 
 abbrev HasMostIn : TargetDef → Type 0
 HasMostIn t = HasMost t.disc
@@ -72,6 +73,29 @@ pub lines_now : (s : ScenarioValue) (history : List Event) (o : Option Array) �
 lines_now s history None e = lines_first s
 lines_now s history (Some a) e = lines_always s history a e
 
+-- ---- a unit has a reel just where its line is that of a tape
+
+pub kinds_now : (s : ScenarioValue) (history : List Event) (o : Option Array) → array_after s history ≡ o
+    → AreOfKinds s (or_start s o)
+kinds_now s history None e = subst (λ (a : Array). AreOfKinds s a) (start_settled s) (kinds_start s)
+kinds_now s history (Some a) e = kinds_always s history a e
+
+no_reel : (o : Option Reel) → is_some o ≡ false → o ≡ None
+no_reel None e = refl
+no_reel (Some r) e = absurd (true≢false e)
+
+-- One whose blocks are named is at a disk.
+pub disk_named : (q : Process) (blocks : ℕ) → blocks_in (range_named q) ≡ Some blocks → q.serial ≡ false
+disk_named q blocks e = by_bool q.serial
+    (λ serial. none_some blocks (sym (λ i. blocks_in (if serial i then None else range_in (command_of q.cdb))) ∙ e))
+    (λ disk. disk)
+
+pub plain_contents : (s : ScenarioValue) (a : Array) (q : Process) (u : UnitState) → AreOfKinds s a
+    → process_of s q.id ≡ Some q → q.serial ≡ false → unit_state_at a.units q.target q.unit ≡ Some u
+    → u.contents.reel ≡ None
+plain_contents s a q u kinds own disk e = no_reel u.contents.reel
+    (subst (IsOfKind (is_tape s q.target q.unit)) e (kinds q.target q.unit) ∙ sym (serial_is s q own) ∙ disk)
+
 same_size : (o : Option UnitDef) (x y : Option UnitState) → IsOfLine o x → IsOfLine o y → size_of x ≡ size_of y
 same_size None None None h e = refl
 same_size None None (Some v) h e = absurd e
@@ -82,7 +106,7 @@ same_size (Some d) (Some u) (Some v) h e = h.1 ∙ sym e.1
 
 pub size_is : (s : ScenarioValue) (a : Array) (t m : ℕ) → AreOfLines s a
     → size_of (unit_state_at a.units t m) ≡ size_of (unit_state_at (starting_array s).units t m)
-size_is s a t m h = same_size (disk_of s t m) (unit_state_at a.units t m) (unit_state_at (starting_array s).units t m)
+size_is s a t m h = same_size (unit_of s t m) (unit_state_at a.units t m) (unit_state_at (starting_array s).units t m)
     (h t m) (lines_first s t m)
 
 -- ---- a write
@@ -135,10 +159,11 @@ absent_moves a c e f =
     none false = refl
 
 -- The bytes that it moves, where it would be carried out now.
-moved_all : (s : ScenarioValue) (a : Array) (q : Process) → Obeys s → AreOfLines s a → process_of s q.id ≡ Some q
-    → is_writing q ≡ true → (moved_count q (reply_now a q) == 0) ≡ false → moved_count q (reply_now a q)
+moved_all : (s : ScenarioValue) (a : Array) (q : Process) → Obeys s → AreOfLines s a → AreOfKinds s a
+    → process_of s q.id ≡ Some q → q.serial ≡ false → is_writing q ≡ true → (moved_count q (reply_now a q) == 0) ≡ false
+    → moved_count q (reply_now a q)
     ≡ count_in (range_in (command_of q.cdb)) * size_of (unit_state_at a.units q.target q.unit)
-moved_all s a q o lines own w some =
+moved_all s a q o lines kinds own disk w some =
     by_bool ((reply_now a q).status == GOOD)
     (λ e.
     by_bool (has_target s q.target)
@@ -162,15 +187,20 @@ moved_all s a q o lines own w some =
         ∙ ap (λ (y : Option UnitState). count_in (range_in (command_of q.cdb)) * size_of y) (sym e)) (λ u e.
         let written : blocks_written u.contents.count (command_of q.cdb) ≡ count_in (range_in (command_of q.cdb)) =
         written_named u.contents (command_of q.cdb) w (λ x f. good_range (context_at a (nexus_of q) (Some u)) q.cdb
-        q.sent x f ((λ i. (execution (context_at a (nexus_of q) (sym e i)) q.cdb q.sent).reply.status) ∙ good)) in all
-        ∙ ap (λ (y : Option UnitState). taken_now (contents_of y) q.cdb) e ∙ ap (λ (y : ℕ). y * u.contents.size) written
+        q.sent x (plain u e) f ((λ i. (execution (context_at a (nexus_of q) (sym e i)) q.cdb q.sent).reply.status)
+        ∙ good)) in all
+        ∙ ap (λ (y : Option UnitState). taken_now (contents_of y) q.cdb) e
+        ∙ (λ i. taken_with (plain u e i) u.contents q.cdb) ∙ ap (λ (y : ℕ). y * u.contents.size) written
         ∙ ap (λ (y : Option UnitState). count_in (range_in (command_of q.cdb)) * size_of y) (sym e))
       where
+        plain : (u : UnitState) → unit_state_at a.units q.target q.unit ≡ Some u → u.contents.reel ≡ None
+        plain u e = plain_contents s a q u kinds own disk e
+
         status : (execution (context_of (seat_of a q.target q.unit) q.initiator) q.cdb q.sent).reply.status ≡ GOOD
         status = (λ i. (execution (sym (context_same a q) i) q.cdb q.sent).reply.status) ∙ good
 
         all : length q.sent ≡ taken_now (contents_of (unit_state_at a.units q.target q.unit)) q.cdb
-        all = (sends s a q (obeys_fits s o) lines there own (writer_plain s q own w)).bytes status
+        all = (sends s a q (obeys_fits s o) lines kinds there own (writer_plain s q own w)).bytes status
 
 -- Its runs fit what it moves, and step by the blocks of its unit.
 pub record FitsRuns (s : ScenarioValue) (k : RunState) (q : Process) (t : Task) : Type 0 where
@@ -183,9 +213,10 @@ pub fits_runs : (s : ScenarioValue) (k : RunState) (q : Process) → Obeys s
     (reply_now (array_of s k) q) (reply_in (array_of s k).replies q.id))
 fits_runs s k q o e own w =
     let lines = lines_now s k.story.history k.array (sym e) in
+    let kinds = kinds_now s k.story.history k.array (sym e) in
     record {
       fit = record {
-        moved = λ blocks e some. moved_all s (array_of s k) q o lines own w some
+        moved = λ blocks e some. moved_all s (array_of s k) q o lines kinds own (disk_named q blocks e) w some
             ∙ ap (λ (x : ℕ). x * size_of (unit_state_at (array_of s k).units q.target q.unit))
             (same_Some (count_in (range_in (command_of q.cdb))) blocks
             (sym (blocks_named (command_of q.cdb) w) ∙ named_by q blocks e));

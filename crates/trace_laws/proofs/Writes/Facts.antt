@@ -5,10 +5,10 @@ use proofs.Names.{ℕ, ◌≡◌, Bool, true, false, ◌==◌, ◌∙◌, List, 
 use proofs.Names.{◌&&◌, [], subst, and_parts, eqb-true, same_Some, if◌then◌else◌, is_some, wrong, wrong', Event, ProcId}
 use proofs.Names.{rises, change_of, LineSet, changes_phase, is_fault, receiver_in, receiver_of, bus, Row, Change}
 use proofs.Names.{Connection, Handshakes, no_handshakes, handshakes_on, handshakes_after, answered_if, asked_if}
-use proofs.Names.{newest_struck_if, ScenarioValue, Obeys, Process, process_of, Array, starting_array, settled_array}
-use proofs.Names.{RowReading, row_reading, CarriedBytes, row_events_by, link_events, process, has_item, Link, aim_of}
-use proofs.Names.{Exchange, phase_of, Hearing, Phase, Plan, run_state_plain, ProcessProgress, progress_in, IsPrompt}
-use proofs.Names.{IsPlain, RunState, bus_of, process_item, array_of, or_start, process_served, run_state}
+use proofs.Names.{newest_struck_if, units_of, ScenarioValue, Obeys, Process, process_of, Array, starting_array}
+use proofs.Names.{settled_array, RowReading, row_reading, CarriedBytes, row_events_by, link_events, process, has_item}
+use proofs.Names.{Link, aim_of, Exchange, phase_of, Hearing, Phase, Plan, run_state_plain, ProcessProgress, progress_in}
+use proofs.Names.{IsPrompt, IsPlain, RunState, bus_of, process_item, array_of, or_start, process_served, run_state}
 use proofs.Names.{exchange_after, first_exchange, leaving_of, array_after_events, served_after, item_if, hearing_of}
 use proofs.Names.{ready_of, obeys_fits, seats_are, no_input, is_message, Instructions, instructions, instructions_after}
 use proofs.Names.{instructions_on, instructions_with, Writer, writer_of, writers, writers_with, is_data_out}
@@ -139,7 +139,7 @@ writes_start s = record {
 }
   where
     start : AllUnits IsEmptyUnit (settled_array (starting_array s)).units
-    start = each_settled IsEmptyUnit (starting_array s) empty_stays (start_empty s s.units)
+    start = each_settled IsEmptyUnit (starting_array s) empty_stays (start_empty s (units_of s))
 
     written : AllUnits (IsWrittenUnit [] []) (settled_array (starting_array s)).units
     written = empty_written [] [] (settled_array (starting_array s)).units start
@@ -249,12 +249,12 @@ reset_next s p row w h on = by_bool (rises d.change.own.rst d.change.next.rst)
 
     cleared :
         (o : Option Array) → AllUnits IsEmptyUnit (or_start s (array_after_events s o (Event.Reset row.dev ∷ []))).units
-    cleared None = start_empty s s.units
+    cleared None = start_empty s (units_of s)
     cleared (Some a) = by (Steps.step s (Event.Reset row.dev) a)
         (reset_all s IsEmptyUnit a row.dev empty_stays (dropped_empty a.units))
       where
         by : (o : Option Array) → IfAll IsEmptyUnit o → AllUnits IsEmptyUnit (or_start s o).units
-        by None z = start_empty s s.units
+        by None z = start_empty s (units_of s)
         by (Some b) z = z
 
     before : rises d.change.own.rst d.change.next.rst ≡ false → (bus p).rst ≡ true
@@ -282,7 +282,7 @@ after_events s p row own h =
     let d = row_reading k.story.bus_state row in
     events_all s (IsWrittenUnit made all) k.array (row_events_by s k.story d row) (written_stays made all)
     (arrives_first s k.story d row (MayWait s (IsWrittenUnit made all) (array_of s k)) own)
-    (empty_written made all (starting_array s).units (start_empty s s.units)) h
+    (empty_written made all (starting_array s).units (start_empty s (units_of s))) h
 
 units_next : (s : ScenarioValue) (p : List Row) (row : Row) → WriteRow s p row → ItemFacts s p
     → AllUnits IsEmptyUnit (array_of s (run_state s (row ∷ p))).units ⊎ ((bus (row ∷ p)).rst ≡ false)

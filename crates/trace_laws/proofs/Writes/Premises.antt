@@ -8,10 +8,10 @@ use proofs.Names.{Connection, command_of, unit_of, ScenarioValue, Obeys, Policy,
 use proofs.Names.{Process, UnitState, guest_at, unit_state_at, policy_of, run_at, run_in, run_length, begun, phase_of}
 use proofs.Names.{run_length_if, Phase, Task, target_def_of, progress_in, IsPrompt, RunState, array_of, or_start}
 use proofs.Names.{bus_of, carried_here, process_served, run_state, is_writing, reply_now, size_of, task_if, task_of}
-use proofs.Names.{task_with, moved_count, block_size, is_data_out, unit_of_line, AreOfLines, IsOfLine, by_bool}
-use proofs.Names.{no_guest, Stood, is_directed, writes_of, IsAtRest, IsOutside, PlaceFacts, PlacedIf, RunsOpen}
-use proofs.{Names.{IsAnsweredWhole, WritesAsked, DataFacts, ResetFacts}, Heard.Places.{places_heard}}
-use proofs.Runs.{Asks.{answers_all}, Facts.{write_no_sense}, Fits.{lines_now, absent_moves}}
+use proofs.Names.{task_with, moved_count, block_size, is_data_out, AreOfLines, IsOfLine, by_bool, no_guest, Stood}
+use proofs.Names.{is_directed, writes_of, IsAtRest, IsOutside, PlaceFacts, PlacedIf, RunsOpen, IsAnsweredWhole}
+use proofs.{Names.{WritesAsked, DataFacts, ResetFacts}, Heard.Places.{places_heard}, Runs.Asks.{answers_all}}
+use proofs.Runs.{Facts.{write_no_sense}, Fits.{lines_now, absent_moves}}
 
 -- ---- the size of a block
 
@@ -68,7 +68,7 @@ write_premises s p row o prompt was h facts resets = record {
   resets = resets.reads;
   sizes = λ q served. ap (λ (x : ℕ). x == block_size (unit_of s q.target q.unit)) (size_line
       (unit_of s q.target q.unit) (unit_state_at (array_of s k).units q.target q.unit)
-      (unit_of_line s (array_of s k) o.tapes lines q.target q.unit))
+      (lines q.target q.unit))
       ∙ eq_self (block_size (unit_of s q.target q.unit));
   answered =
       λ n q t con calm off after b ep phase struck served task. whole n q t con calm off after b ep phase served task;

@@ -22,10 +22,10 @@ returns c = λ s rows o resets aborts prompt end.
     let t : IsCalmTrace s rows = record { obeys = o; resets = resets; aborts = aborts; prompt = prompt; end = end } in
     record {
       unheard = λ n k at away. unheard s rows n k laws t at away;
-      checked = λ n k roomy at there invalid bears. wrong_outcome s rows n k laws t (record {
+      checked = λ n k roomy at there checked bears. wrong_outcome s rows n k laws t (record {
         at = at;
         there = there;
-        invalid = invalid;
+        checked = checked;
         bears = bears;
         unrefused = c.roomy_scenarios_refuse_nothing.ensures s rows (command_id n) o roomy prompt;
       });
