@@ -35,7 +35,6 @@ extern "C" {
 #define SCSIBUS_NO_MEMORY 5u  /* malloc or realloc gave none: the text is `no memory` */
 #define SCSIBUS_BROKEN 6u     /* the trace breaks a rule: the text names the row and the rule */
 #define SCSIBUS_NO_TRACE 7u   /* the input is no trace: the text names the line */
-#define SCSIBUS_NOT_BUILT 9u  /* the scenario has a tape, and tapes do not run yet: the text is `not built` */
 #define SCSIBUS_NO_DUMP 10u   /* the input is no value change dump: the text names the line */
 
 /* What a call answers. */

@@ -13,7 +13,7 @@ use Rattle.bus_cli.specs.Judging.{verdict_of, verdict_on, TellsVerdict}
 use Rattle.bus_cli.specs.Vcd.{SaysTrace, VcdSays, VcdTells}
 use Rattle.bus_cli.specs.declared.status.Status.{Status}
 use Rattle.bus_cli.specs.declared.status.Status.TheVariants.{Done, Words, Refused, Read, Write, Memory, Broken}
-use Rattle.bus_cli.specs.declared.status.Status.TheVariants.{BadTrace, NotBuilt, BadDump}
+use Rattle.bus_cli.specs.declared.status.Status.TheVariants.{BadTrace, BadDump}
 use Rattle.bus_cli.proofs.TooLong.{map_some, IsLong}
 use Rattle.bus_cli.proofs.Judged.{too_long}
 
@@ -32,7 +32,6 @@ with_memory Write bytes h = h
 with_memory Memory bytes h = tt
 with_memory Broken bytes h = h
 with_memory BadTrace bytes h = h
-with_memory NotBuilt bytes h = h
 with_memory BadDump bytes h = h
 
 pub told_of : (status : Status) (bytes : List ℕ) (rows : List Row) (end : ℕ) → trace_of bytes ≡ Ok (rows, end)
@@ -58,7 +57,6 @@ says_of Refused bytes rows end w is tells says = elim says [ ]
 says_of Read bytes rows end w is tells says = elim says [ ]
 says_of Memory bytes rows end w is tells says = elim says [ ]
 says_of BadTrace bytes rows end w is tells says = elim says [ ]
-says_of NotBuilt bytes rows end w is tells says = elim says [ ]
 says_of BadDump bytes rows end w is tells says = elim says [ ]
 
 -- of any trace, where nothing is told of the bytes
@@ -72,7 +70,6 @@ says_any Refused rows end w says = elim says [ ]
 says_any Read rows end w says = elim says [ ]
 says_any Memory rows end w says = elim says [ ]
 says_any BadTrace rows end w says = elim says [ ]
-says_any NotBuilt rows end w says = elim says [ ]
 says_any BadDump rows end w says = elim says [ ]
 
 says_input : (status : Status) (input : Option (List ℕ)) (rows : List Row) (end : ℕ) (w : Writing)

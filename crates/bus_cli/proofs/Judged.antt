@@ -21,7 +21,7 @@ use Rattle.bus_base.specs.declared.reading.Cut.{Cut}
 use Rattle.bus_base.specs.declared.reading.Cut.TheVariants.{TooLong, Fault}
 use Rattle.bus_cli.specs.declared.status.Status.{Status}
 use Rattle.bus_cli.specs.declared.status.Status.TheVariants.{Done, Words, Refused, Read, Write, Memory, Broken}
-use Rattle.bus_cli.specs.declared.status.Status.TheVariants.{BadTrace, NotBuilt, BadDump}
+use Rattle.bus_cli.specs.declared.status.Status.TheVariants.{BadTrace, BadDump}
 use Rattle.bus_base.proofs.ReadSoFar.{HasRead, read_more, beyond}
 use Rattle.trace_text.proofs.KeptRows.{short_is}
 use Rattle.bus_cli.proofs.TooLong.{map_some, first_of}
@@ -81,7 +81,6 @@ of_input Words None v w same says = says
 of_input Read None v w same says = says
 of_input Memory None v w same says = says
 of_input Refused None v w same says = says
-of_input NotBuilt None v w same says = says
 of_input BadDump None v w same says = says
 
 verdict_told : (input left : Option (List ℕ)) (v : Result Verdict ℕ) → HearsAll input left (Ok v)

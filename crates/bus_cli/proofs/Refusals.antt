@@ -17,7 +17,7 @@ use Rattle.bus_cli.specs.Running.{RunSays, RunTells, IsReport}
 use Rattle.bus_cli.specs.declared.words.Extent.{Extent}
 use Rattle.bus_cli.specs.declared.status.Status.{Status}
 use Rattle.bus_cli.specs.declared.status.Status.TheVariants.{Done, Words, Refused, Read, Write, Memory, Broken}
-use Rattle.bus_cli.specs.declared.status.Status.TheVariants.{BadTrace, NotBuilt, BadDump}
+use Rattle.bus_cli.specs.declared.status.Status.TheVariants.{BadTrace, BadDump}
 
 -- ---- a text that is too long
 
@@ -79,7 +79,6 @@ of_input extent Done None bytes w same says = (says.0, report_of_any extent byte
 of_input extent Write None bytes w same says = (says.0, report_of_any extent bytes says.0 says.1, says.2)
 of_input extent Broken None bytes w same says = elim says [ ]
 of_input extent BadTrace None bytes w same says = elim says [ ]
-of_input extent NotBuilt None bytes w same says = says
 of_input extent BadDump None bytes w same says = elim says [ ]
 of_input extent Refused None bytes w same says = (says.0, says.1, tt, says.3)
 of_input extent Words None bytes w same says = says

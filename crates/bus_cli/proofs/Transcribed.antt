@@ -14,7 +14,7 @@ use Rattle.bus_cli.specs.Texts.{SaysText, TellsText}
 use Rattle.bus_cli.specs.Transcripts.{text_of_rows, SaysTranscript, TranscriptSays, TellsTrace}
 use Rattle.bus_cli.specs.declared.status.Status.{Status}
 use Rattle.bus_cli.specs.declared.status.Status.TheVariants.{Done, Words, Refused, Read, Write, Memory, Broken}
-use Rattle.bus_cli.specs.declared.status.Status.TheVariants.{BadTrace, NotBuilt, BadDump}
+use Rattle.bus_cli.specs.declared.status.Status.TheVariants.{BadTrace, BadDump}
 use Rattle.bus_cli.proofs.TooLong.{map_some, IsLong}
 use Rattle.bus_cli.proofs.Judged.{too_long}
 use Rattle.bus_cli.proofs.Dumped.{verdict_is, told_of}
@@ -31,7 +31,6 @@ told_lawful Refused verdict is tells = elim tells [ ]
 told_lawful Read verdict is tells = elim tells [ ]
 told_lawful Broken verdict is tells = elim tells [ ]
 told_lawful BadTrace verdict is tells = elim tells [ ]
-told_lawful NotBuilt verdict is tells = elim tells [ ]
 told_lawful BadDump verdict is tells = elim tells [ ]
 
 says_lawful : (status : Status) (rows : List Row) (end : ℕ) (w : Writing) → SaysText status (text_of_rows rows) w
@@ -44,7 +43,6 @@ says_lawful Refused rows end w says = elim says [ ]
 says_lawful Read rows end w says = elim says [ ]
 says_lawful Broken rows end w says = elim says [ ]
 says_lawful BadTrace rows end w says = elim says [ ]
-says_lawful NotBuilt rows end w says = elim says [ ]
 says_lawful BadDump rows end w says = elim says [ ]
 
 pub said_lawful : (status : Status) (rows : List Row) (end : ℕ) (old written : Option (List ℕ)) (f g : ℕ)
@@ -66,7 +64,6 @@ told_trace Write bytes rows end is tells = told_of Write bytes rows end is tells
 told_trace Memory bytes rows end is tells = tt
 told_trace Broken bytes rows end is tells = told_of Broken bytes rows end is tells
 told_trace BadTrace bytes rows end is tells = told_of BadTrace bytes rows end is tells
-told_trace NotBuilt bytes rows end is tells = elim tells [ ]
 told_trace BadDump bytes rows end is tells = elim tells [ ]
 
 says_of : (status : Status) (bytes : List ℕ) (rows : List Row) (end : ℕ) (w : Writing) → trace_of bytes ≡ Ok (rows, end)
@@ -87,7 +84,6 @@ says_of Words bytes rows end w is tells says = elim says [ ]
 says_of Refused bytes rows end w is tells says = elim says [ ]
 says_of Read bytes rows end w is tells says = elim says [ ]
 says_of BadTrace bytes rows end w is tells says = elim says [ ]
-says_of NotBuilt bytes rows end w is tells says = elim says [ ]
 says_of BadDump bytes rows end w is tells says = elim says [ ]
 
 -- of any trace, where nothing is told of the bytes
@@ -101,7 +97,6 @@ says_any Words rows end w says = elim says [ ]
 says_any Refused rows end w says = elim says [ ]
 says_any Read rows end w says = elim says [ ]
 says_any BadTrace rows end w says = elim says [ ]
-says_any NotBuilt rows end w says = elim says [ ]
 says_any BadDump rows end w says = elim says [ ]
 
 says_input : (status : Status) (input : Option (List ℕ)) (rows : List Row) (end : ℕ) (w : Writing)

@@ -25,7 +25,7 @@ use Rattle.bus_cli.specs.Lines.{Writing, writing, SaysLine, dump_line}
 use Rattle.bus_cli.specs.Unvcd.{dump_on, SaysRead, UnvcdSays, TellsRead, UnvcdTells, TakesDump}
 use Rattle.bus_cli.specs.declared.status.Status.{Status}
 use Rattle.bus_cli.specs.declared.status.Status.TheVariants.{Done, Words, Refused, Read, Write, Memory, Broken}
-use Rattle.bus_cli.specs.declared.status.Status.TheVariants.{BadTrace, NotBuilt, BadDump}
+use Rattle.bus_cli.specs.declared.status.Status.TheVariants.{BadTrace, BadDump}
 use Rattle.bus_cli.proofs.TooLong.{map_some, first_of}
 use Rattle.bus_cli.proofs.AllRead.{all_read}
 
@@ -94,7 +94,6 @@ of_any Memory read w says = says
 of_any Refused read w says = elim says [ ]
 of_any Broken read w says = elim says [ ]
 of_any BadTrace read w says = elim says [ ]
-of_any NotBuilt read w says = elim says [ ]
 
 of_input : (status : Status) (input left : Option (List ℕ)) (r : VcdReader) (w : Writing) → TakesDump input left (Ok r)
     → SaysRead status (Some (read_of r)) w → UnvcdSays status input w

@@ -19,7 +19,7 @@ use Rattle.bus_cli.specs.Running.{run_text, RunSays}
 use Rattle.bus_cli.specs.declared.words.Extent.{Extent}
 use Rattle.bus_cli.specs.declared.status.Status.{Status}
 use Rattle.bus_cli.specs.declared.status.Status.TheVariants.{Done, Words, Refused, Read, Write, Memory, Broken}
-use Rattle.bus_cli.specs.declared.status.Status.TheVariants.{BadTrace, NotBuilt, BadDump}
+use Rattle.bus_cli.specs.declared.status.Status.TheVariants.{BadTrace, BadDump}
 
 says_of : (text : Result (Unit {0}) Failed) (old written : Option (List ℕ)) (bytes : List ℕ) (f g : ℕ)
     → WritesAll old written bytes text
@@ -58,7 +58,6 @@ says_run_by extent Refused bytes s run w is made says = elim says [ ]
 says_run_by extent Read bytes s run w is made says = elim says [ ]
 says_run_by extent Broken bytes s run w is made says = elim says [ ]
 says_run_by extent BadTrace bytes s run w is made says = elim says [ ]
-says_run_by extent NotBuilt bytes s run w is made says = elim says [ ]
 says_run_by extent BadDump bytes s run w is made says = elim says [ ]
 
 pub says_run : (extent : Extent) (status : Status) (bytes : List ℕ) (s : ScenarioValue) (run : RunValue)

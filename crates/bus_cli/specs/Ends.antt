@@ -15,7 +15,7 @@ use Rattle.bus_cli.specs.Transcripts.{TranscriptSays}
 use Rattle.bus_cli.specs.Unvcd.{UnvcdSays, UnvcdTells, dump_on, dump_status}
 use Rattle.bus_cli.specs.declared.status.Status.{Status}
 use Rattle.bus_cli.specs.declared.status.Status.TheVariants.{Done, Words, Refused, Read, Write, Memory, Broken}
-use Rattle.bus_cli.specs.declared.status.Status.TheVariants.{BadTrace, NotBuilt, BadDump}
+use Rattle.bus_cli.specs.declared.status.Status.TheVariants.{BadTrace, BadDump}
 use Rattle.bus_cli.specs.declared.words.Word.{Word}
 use Rattle.bus_cli.specs.declared.words.Word.TheVariants as words
 
@@ -29,7 +29,6 @@ code_of Write = 4
 code_of Memory = 5
 code_of Broken = 6
 code_of BadTrace = 7
-code_of NotBuilt = 9
 code_of BadDump = 10
 
 -- what the words of the program ask
@@ -65,7 +64,6 @@ abbrev pub Reads : ℕ → Status → List ℕ → Option (List ℕ) → Type 0
 Reads limit Done bytes left = left ≡ Some []
 Reads limit Write bytes left = left ≡ Some []
 Reads limit Broken bytes left = left ≡ Some []
-Reads limit NotBuilt bytes left = left ≡ Some []
 Reads limit Refused bytes left = ReadsOut limit bytes left
 Reads limit BadTrace bytes left = ReadsOut limit bytes left
 Reads limit BadDump bytes left = ReadsOut limit bytes left

@@ -13,7 +13,7 @@ use Rattle.bus_cli.specs.Lines.{usage_line, fault_line, lawful_line, broken_line
 use Rattle.bus_cli.specs.Lines.{SaysLine}
 use Rattle.bus_cli.specs.declared.status.Status.{Status}
 use Rattle.bus_cli.specs.declared.status.Status.TheVariants.{Done, Words, Refused, Read, Write, Memory, Broken}
-use Rattle.bus_cli.specs.declared.status.Status.TheVariants.{BadTrace, NotBuilt, BadDump}
+use Rattle.bus_cli.specs.declared.status.Status.TheVariants.{BadTrace, BadDump}
 
 -- what is judged of a text that was read
 abbrev pub verdict_of : Result (List Row × ℕ) ℕ → Result Verdict ℕ
@@ -44,7 +44,6 @@ SaysVerdict Words told w = SaysLine usage_line w
 SaysVerdict Read told w = SaysLine fault_line w
 SaysVerdict Memory told w = ⊥
 SaysVerdict Refused told w = ⊥
-SaysVerdict NotBuilt told w = ⊥
 SaysVerdict BadDump told w = ⊥
 
 -- the same, by the bytes that the input had left
@@ -62,7 +61,6 @@ TellsVerdict Words verdict = Unit {0}
 TellsVerdict Read verdict = Unit {0}
 TellsVerdict Memory verdict = ⊥
 TellsVerdict Refused verdict = ⊥
-TellsVerdict NotBuilt verdict = ⊥
 TellsVerdict BadDump verdict = ⊥
 
 -- what the status says of the input's bytes

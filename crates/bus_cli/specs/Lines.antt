@@ -11,9 +11,6 @@ fault_line = codes "read fault\n"
 abbrev pub memory_line : List ℕ
 memory_line = codes "no memory\n"
 
-abbrev pub unbuilt_line : List ℕ
-unbuilt_line = codes "not built\n"
-
 abbrev pub lawful_line : List ℕ
 lawful_line = codes "lawful\n"
 

@@ -5,7 +5,7 @@ use Rattle.scenario.specs.Making.{made}
 use Rattle.bus_cli.specs.Lines.{memory_line, Writing, Adds, AddsFront, SaysLine}
 use Rattle.bus_cli.specs.declared.status.Status.{Status}
 use Rattle.bus_cli.specs.declared.status.Status.TheVariants.{Done, Words, Refused, Read, Write, Memory, Broken}
-use Rattle.bus_cli.specs.declared.status.Status.TheVariants.{BadTrace, NotBuilt, BadDump}
+use Rattle.bus_cli.specs.declared.status.Status.TheVariants.{BadTrace, BadDump}
 
 -- What was written with this status: the text of the scenario of this number, or with Write a front of it; or the
 -- status' own line.
@@ -18,7 +18,6 @@ MakeSays seed n Refused w = ⊥
 MakeSays seed n Read w = ⊥
 MakeSays seed n Broken w = ⊥
 MakeSays seed n BadTrace w = ⊥
-MakeSays seed n NotBuilt w = ⊥
 MakeSays seed n BadDump w = ⊥
 
 -- the statuses with which it ends
@@ -31,5 +30,4 @@ MakeTells Refused = ⊥
 MakeTells Read = ⊥
 MakeTells Broken = ⊥
 MakeTells BadTrace = ⊥
-MakeTells NotBuilt = ⊥
 MakeTells BadDump = ⊥

@@ -1,6 +1,5 @@
 -- The word `run`: what each status says of the input, and what is written.
-use Rattle.std.specs.Prelude.{ℕ, ◌≡◌, ◌≤◌, ◌+◌, Bool, true, false, List, Option, Some, None, Result, Ok, Err}
-use Rattle.scenario.specs.Lookups.{has_tape}
+use Rattle.std.specs.Prelude.{ℕ, ◌≡◌, ◌≤◌, ◌+◌, List, Option, Some, None, Result, Ok, Err}
 use Rattle.scenario.specs.Value.{ScenarioValue}
 use Rattle.scenario.specs.Reading.{scenario_of}
 use Rattle.story_model.specs.Budget.{budget}
@@ -11,11 +10,10 @@ use Rattle.trace_text.specs.ShortText.{short_text}
 use Rattle.bus_cli.specs.Transcripts.{text_of_rows}
 use Rattle.bus_cli.specs.declared.words.Extent.{Extent}
 use Rattle.bus_cli.specs.declared.words.Extent.TheVariants.{Whole, Short, Transcript}
-use Rattle.bus_cli.specs.Lines.{usage_line, fault_line, memory_line, unbuilt_line, refusal_line, Writing, Adds}
-use Rattle.bus_cli.specs.Lines.{AddsFront, SaysLine}
+use Rattle.bus_cli.specs.Lines.{usage_line, fault_line, memory_line, refusal_line, Writing, Adds, AddsFront, SaysLine}
 use Rattle.bus_cli.specs.declared.status.Status.{Status}
 use Rattle.bus_cli.specs.declared.status.Status.TheVariants.{Done, Words, Refused, Read, Write, Memory, Broken}
-use Rattle.bus_cli.specs.declared.status.Status.TheVariants.{BadTrace, NotBuilt, BadDump}
+use Rattle.bus_cli.specs.declared.status.Status.TheVariants.{BadTrace, BadDump}
 
 -- the scenario that the input says; where nothing is told of the bytes, any
 abbrev pub IsSaid : Option (List ℕ) → ScenarioValue → Type 0
@@ -48,24 +46,14 @@ RunSays extent Refused input w =
     (line : ℕ) × (reason : ℕ) × IsRefused input line reason × SaysLine (refusal_line line reason) w
 RunSays extent Read input w = SaysLine fault_line w
 RunSays extent Memory input w = SaysLine memory_line w
-RunSays extent NotBuilt input w = SaysLine unbuilt_line w
 RunSays extent Broken input w = ⊥
 RunSays extent BadTrace input w = ⊥
 RunSays extent BadDump input w = ⊥
 
--- These bytes are a text of this scenario, and it runs: it has no tape.
-abbrev pub Asks : List ℕ → ScenarioValue → Type 0
-Asks bytes s = (scenario_of bytes ≡ Ok s) × (has_tape s ≡ false)
-
--- These bytes are a text of a scenario that does not run yet: it has a tape.
-abbrev pub AsksMore : List ℕ → Type 0
-AsksMore bytes = (s : ScenarioValue) × (scenario_of bytes ≡ Ok s) × (has_tape s ≡ true)
-
 -- what the status says of the input's bytes
 abbrev pub RunTells : Status → List ℕ → Type 0
-RunTells Done bytes = (s : ScenarioValue) × Asks bytes s
-RunTells Write bytes = (s : ScenarioValue) × Asks bytes s
-RunTells NotBuilt bytes = AsksMore bytes
+RunTells Done bytes = (s : ScenarioValue) × (scenario_of bytes ≡ Ok s)
+RunTells Write bytes = (s : ScenarioValue) × (scenario_of bytes ≡ Ok s)
 RunTells Refused bytes = (line : ℕ) × (reason : ℕ) × (scenario_of bytes ≡ Err (line, reason))
 RunTells Words bytes = Unit {0}
 RunTells Read bytes = Unit {0}
@@ -74,13 +62,9 @@ RunTells Broken bytes = ⊥
 RunTells BadTrace bytes = ⊥
 RunTells BadDump bytes = ⊥
 
--- the status that a scenario asks for, which has a tape or has none
-abbrev pub tape_status : Bool → Status
-tape_status true = NotBuilt
-tape_status false = Done
-
+-- the status that a scenario asks for
 abbrev pub scenario_status : Result ScenarioValue (ℕ × ℕ) → Status
-scenario_status (Ok s) = tape_status (has_tape s)
+scenario_status (Ok s) = Done
 scenario_status (Err reason) = Refused
 
 -- The steps that a run takes: at most those of its budget. What is no scenario takes none.

@@ -12,7 +12,7 @@ use Rattle.bus_cli.specs.Judging.{verdict_on, IsVerdict, TellsVerdict}
 use Rattle.bus_cli.specs.Vcd.{IsLawful}
 use Rattle.bus_cli.specs.declared.status.Status.{Status}
 use Rattle.bus_cli.specs.declared.status.Status.TheVariants.{Done, Words, Refused, Read, Write, Memory, Broken}
-use Rattle.bus_cli.specs.declared.status.Status.TheVariants.{BadTrace, NotBuilt, BadDump}
+use Rattle.bus_cli.specs.declared.status.Status.TheVariants.{BadTrace, BadDump}
 
 -- the text of the transcript of these rows, the oldest first
 abbrev pub text_of_rows : List Row → List ℕ
@@ -46,7 +46,6 @@ TranscriptSays Words input w = SaysLine usage_line w
 TranscriptSays Read input w = SaysLine fault_line w
 TranscriptSays Memory input w = SaysLine memory_line w
 TranscriptSays Refused input w = ⊥
-TranscriptSays NotBuilt input w = ⊥
 TranscriptSays BadDump input w = ⊥
 
 -- what the status says of the verdict on a trace: memory may be wanting

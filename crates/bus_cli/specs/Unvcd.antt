@@ -12,7 +12,7 @@ use Rattle.vcd_text.specs.Reading.{read_of, vcd_of}
 use Rattle.bus_cli.specs.Lines.{usage_line, fault_line, memory_line, dump_line, Writing, Adds, AddsFront, SaysLine}
 use Rattle.bus_cli.specs.declared.status.Status.{Status}
 use Rattle.bus_cli.specs.declared.status.Status.TheVariants.{Done, Words, Refused, Read, Write, Memory, Broken}
-use Rattle.bus_cli.specs.declared.status.Status.TheVariants.{BadTrace, NotBuilt, BadDump}
+use Rattle.bus_cli.specs.declared.status.Status.TheVariants.{BadTrace, BadDump}
 
 -- The rows and the end of the dump that these bytes are, or the line of the first token that breaks its form; line 0
 -- where there are more than 1,073,741,824 bytes.
@@ -36,7 +36,6 @@ SaysRead Read told w = SaysLine fault_line w
 SaysRead Memory told w = SaysLine memory_line w
 SaysRead Broken told w = ⊥
 SaysRead BadTrace told w = ⊥
-SaysRead NotBuilt told w = ⊥
 SaysRead Refused told w = ⊥
 
 -- the same, by the bytes that the input had left
@@ -53,7 +52,6 @@ TellsRead Read read = Unit {0}
 TellsRead Memory read = Unit {0}
 TellsRead Broken read = ⊥
 TellsRead BadTrace read = ⊥
-TellsRead NotBuilt read = ⊥
 TellsRead Refused read = ⊥
 
 abbrev pub UnvcdTells : Status → List ℕ → Type 0

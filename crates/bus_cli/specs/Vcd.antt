@@ -12,7 +12,7 @@ use Rattle.bus_cli.specs.Lines.{SaysLine}
 use Rattle.bus_cli.specs.Judging.{verdict_on, IsVerdict, JudgeTells}
 use Rattle.bus_cli.specs.declared.status.Status.{Status}
 use Rattle.bus_cli.specs.declared.status.Status.TheVariants.{Done, Words, Refused, Read, Write, Memory, Broken}
-use Rattle.bus_cli.specs.declared.status.Status.TheVariants.{BadTrace, NotBuilt, BadDump}
+use Rattle.bus_cli.specs.declared.status.Status.TheVariants.{BadTrace, BadDump}
 
 -- these bytes say these rows and this end, and the trace is lawful
 abbrev pub IsLawful : List ℕ → List Row → ℕ → Type 0
@@ -49,7 +49,6 @@ VcdSays Words input w = SaysLine usage_line w
 VcdSays Read input w = SaysLine fault_line w
 VcdSays Memory input w = SaysLine memory_line w
 VcdSays Refused input w = ⊥
-VcdSays NotBuilt input w = ⊥
 VcdSays BadDump input w = ⊥
 
 -- what the status says of the input's bytes: what it says with the word `judge`

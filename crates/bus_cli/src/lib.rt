@@ -8,13 +8,12 @@
 //! and `undumping` the word `unvcd`. The words `transcript` and `vcd` judge a trace before they write, so its rows are
 //! kept (`kept`), in a few bytes each, and then judged (`verdict`).
 //!
-//! It stands on `text_words` for numbers, on `scenario` for the text of scenarios and for which of them are run, on
-//! `bus_engine` for their runs, on `trace_text` for the texts of reports and traces, on `row_store` for rows that are
-//! kept, on `bus_rules` and `trace_checker` for the verdict on a trace, on `bus_transcript` for transcripts, on
-//! `vcd_text` for dumps, and on `bus_base` for input and output. Its contract: each status has its cause, and what is
-//! written is exactly what the bytes of the input ask for; with good words and no fault the status is the one that they
-//! ask for, or there was no memory. What `vcd` writes of a lawful trace without a fault `unvcd` reads again
-//! ([`lawful_dumps_read_back`]).
+//! It stands on `text_words` for numbers, on `scenario` for the text of scenarios, on `bus_engine` for their runs, on
+//! `trace_text` for the texts of reports and traces, on `row_store` for rows that are kept, on `bus_rules` and
+//! `trace_checker` for the verdict on a trace, on `bus_transcript` for transcripts, on `vcd_text` for dumps, and on
+//! `bus_base` for input and output. Its contract: each status has its cause, and what is written is exactly what the
+//! bytes of the input ask for; with good words and no fault the status is the one that they ask for, or there was no
+//! memory. What `vcd` writes of a lawful trace without a fault `unvcd` reads again ([`lawful_dumps_read_back`]).
 #![tactic(auto)]
 
 mod answers;

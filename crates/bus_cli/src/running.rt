@@ -20,7 +20,7 @@ use crate::words::Extent;
 use bus_base::{ReadEnd, Sink, Source, Steps, read_all};
 use bus_engine::Run;
 use bus_transcript::{print_transcript, transcribe_run};
-use scenario::{Bad, LIMIT, Scenario, has_tape, read};
+use scenario::{Bad, LIMIT, Scenario, read};
 use std::alloc::Global;
 use std::sync::ledger::Ledger;
 use trace_text::{report, short_report};
@@ -50,6 +50,7 @@ fn write_run<K: Sink>(
 ) -> Status
     requires replies { length run.now.replies ≡ length scenario.now.commands }
     requires disks { length run.now.disks ≡ length scenario.now.units }
+    requires tapes { length run.now.tapes ≡ length scenario.now.tapes }
     requires rows { AllByRecursion IsOfDevice run.now.rows }
     ensures write { result ≡ Status.Write → HasRisen (K.faults out.old) (K.faults out.new) }
     ensures form { TellsText result }
@@ -64,7 +65,7 @@ fn write_run<K: Sink>(
     }
 }
 
-// Runs the scenario that these bytes say, where it has no tape.
+// Runs the scenario that these bytes say.
 fn run_bytes<K: Sink, L: Ledger>(
     alloc: Global,
     extent: Extent,
@@ -91,10 +92,6 @@ fn run_bytes<K: Sink, L: Ledger>(
             return Status::Memory;
         }
     };
-    if has_tape(&scenario) {
-        say(out, b"not built\n");
-        return Status::NotBuilt;
-    }
     let Ok(run) = bus_engine::run(alloc, &scenario, steps) else {
         say(out, b"no memory\n");
         return Status::Memory;
@@ -103,7 +100,6 @@ fn run_bytes<K: Sink, L: Ledger>(
 }
 
 /// Reads the input, runs the scenario that it says, and writes the report of the run, the short one, or its transcript.
-/// A scenario with a tape does not run yet.
 pub fn run<S: Source, K: Sink, L: Ledger>(
     alloc: Global,
     extent: Extent,

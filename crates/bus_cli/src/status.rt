@@ -22,8 +22,6 @@ pub enum Status {
     Broken = 6,
     /// The input is no trace text: the line tells its first line that breaks the form.
     BadTrace = 7,
-    /// The input is a scenario with a tape, and tapes do not run yet.
-    NotBuilt = 9,
     /// The input is no value change dump: the line tells the line of the first token that breaks its form.
     BadDump = 10,
 }
@@ -42,7 +40,6 @@ impl Status {
             Status::Memory => 5,
             Status::Broken => 6,
             Status::BadTrace => 7,
-            Status::NotBuilt => 9,
             Status::BadDump => 10,
         }
     }

@@ -27,9 +27,9 @@ use std::sync::ledger::Ledger;
 /// the trace that it says, and writes the verdict in one line. With `transcript` it judges as with `judge`, and
 /// writes the transcript of a trace that is lawful; with `vcd` likewise its value change dump. With `unvcd` it
 /// reads a value change dump of as many bytes, and writes the text of its trace. A refusal writes its one line to
-/// `out` instead, and so does `run` where the scenario has a tape: tapes do not run yet. Where a line cannot be
-/// written the status stays; but what was asked for ends with `Write` where it cannot be written, and so does the
-/// answer `lawful`. A run counts in `steps` each time that it asks a device, at most as many as its budget has.
+/// `out` instead. Where a line cannot be written the status stays; but what was asked for ends with `Write` where
+/// it cannot be written, and so does the answer `lawful`. A run counts in `steps` each time that it asks a device,
+/// at most as many as its budget has.
 ///
 /// The words are looked at first, then the input is read, then it is read as a scenario, a trace or a dump, then
 /// the scenario is run, or the trace is judged; the first refusal is the answer. Want of memory can come at any

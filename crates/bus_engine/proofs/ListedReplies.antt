@@ -9,11 +9,10 @@ use Rattle.std.proofs.lemmas.Option.{same_Some}
 use Rattle.bus_base.specs.declared.Event.{Event}
 use Rattle.bus_base.specs.declared.ProcId.{ProcId}
 use Rattle.bus_base.proofs.Tests.{wrong'}
-use Rattle.cdb_codec.specs.Cdb.{command_of}
 use Rattle.cdb_codec.specs.declared.replies.TheConstants.{SENSE_LEN}
 use Rattle.cdb_codec.specs.declared.sense.TheConstants.{ABORTED_COMMAND}
 use Rattle.cdb_codec.specs.declared.status.TheConstants.{GOOD}
-use Rattle.scenario.specs.Lookups.{has_target, unit_of}
+use Rattle.scenario.specs.Lookups.{has_target, is_tape, unit_of}
 use Rattle.scenario.specs.Value.{ScenarioValue}
 use Rattle.scenario.specs.Writing.{Obeys}
 use Rattle.scenario.specs.declared.value.CmdDef.{CmdDef}
@@ -33,8 +32,8 @@ use Rattle.delivery_laws.specs.progress_laws.proofs.Debts.Senses.{sense_cdb}
 use Rattle.delivery_laws.specs.progress_laws.proofs.Owed.Events.{running_own}
 use Rattle.delivery_laws.specs.right_laws.proofs.Replies.Blocks.{HasWhole, whole_always}
 use Rattle.delivery_laws.specs.scsi_device.proofs.FitLines.{command_fits, obeys_fits, seats_are}
-use Rattle.delivery_laws.specs.target_units.specs.Rooms.{AreOfLines}
-use Rattle.delivery_laws.specs.target_units.proofs.Rooms.{IsByLine, by_line, lines_always}
+use Rattle.delivery_laws.specs.target_units.specs.Rooms.{AreOfLines, AreOfKinds}
+use Rattle.delivery_laws.specs.target_units.proofs.Rooms.{IsByLine, by_line, lines_always, kinds_always}
 use Rattle.initiator.specs.Received.{data_room}
 use Rattle.delivery_laws.specs.right_laws.proofs.Ran.Lengths.{given_few, most_given, none_few}
 use Rattle.bus_engine.proofs.ReplyRooms.{room_there}
@@ -94,21 +93,23 @@ one_more s h e replies after id reply is own g =
 record IsAlong (s : ScenarioValue) (a : Array) : Type 0 where
   sound : IsSound s a
   lines : AreOfLines s a
+  kinds : AreOfKinds s a
   whole : HasWhole a
 
 -- The initiator of a command that runs has room for what it gives.
-has_room : (s : ScenarioValue) (a : Array) (p : Process) (c : CmdDef) → IsByLine s p → Obeys s
-    → AreOfLines s a → HasWhole a → command_at s.commands p.id.command ≡ Some c → has_target s c.target ≡ true
+has_room : (s : ScenarioValue) (a : Array) (p : Process) (c : CmdDef) → IsByLine s p → Obeys s → AreOfLines s a
+    → AreOfKinds s a → HasWhole a → command_at s.commands p.id.command ≡ Some c → has_target s c.target ≡ true
     → length (reply_at a p (unit_state_at a.units p.target p.unit)).bytes ≤ data_room s c
-has_room s a p c by o lines whole at there =
+has_room s a p c by o lines kinds whole at there =
     let same : by.line ≡ c = same_Some by.line c (sym by.is ∙ at) in
     let target : p.target ≡ c.target = by.target ∙ ap (λ (x : CmdDef). x.target) same in
     let unit : p.unit ≡ c.unit = by.unit ∙ ap (λ (x : CmdDef). x.unit) same in
     let cdb : p.cdb ≡ c.cdb = by.cdb ∙ ap (λ (x : CmdDef). x.cdb) same in
-    room_there s c (length (reply_at a p (unit_state_at a.units p.target p.unit)).bytes) o.tapes there
+    room_there s c (length (reply_at a p (unit_state_at a.units p.target p.unit)).bytes) there
     (command_fits s p.id.command c (obeys_fits s o) at).need
     (subst (λ (n : ℕ). length (reply_at a p (unit_state_at a.units p.target p.unit)).bytes ≤ n)
-    (λ i. most_given (command_of (cdb i)) (unit_of s (target i) (unit i))) (given_few s a p o.tapes lines whole))
+    (λ i. most_given (is_tape s (target i) (unit i)) (cdb i) (unit_of s (target i) (unit i)))
+    (given_few s a p lines kinds whole))
 
 ran : (s : ScenarioValue) (h : List Event) (a c : Array) (id : ProcId) (guest : Bool) (o : Option RunningProcess)
     → Obeys s → IsAlong s a → Steps.running_process a id ≡ o → Steps.run_step a guest o ≡ Some c
@@ -134,7 +135,8 @@ ran s h a c id guest (Some r) o is f e g =
 
     room : r.process.id.sense ≡ false → (c : CmdDef) → command_at s.commands r.process.id.command ≡ Some c
         → has_target s c.target ≡ true → length (reply_at a r.process u).bytes ≤ data_room s c
-    room plain c at there = has_room s a r.process c (by_line s r.process process_is plain) o is.lines is.whole at there
+    room plain c at there =
+        has_room s a r.process c (by_line s r.process process_is plain) o is.lines is.kinds is.whole at there
 
     go : (x : Bool) → (if x then Some (Steps.after_execution_at a r.process u) else None) ≡ Some c
         → AreGiven s (events.Run id ∷ h) c.replies
@@ -212,6 +214,7 @@ given_after s (e ∷ h) o = go (array_after s h) refl (given_after s h o)
     go (Some a) z g = by a (record {
       sound = history_sound s h a (seats_are s (obeys_fits s o)) z;
       lines = lines_always s h a z;
+      kinds = kinds_always s h a z;
       whole = whole_always s h a o z;
     }) g (Steps.step s e a) refl
 

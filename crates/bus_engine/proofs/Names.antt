@@ -12,6 +12,7 @@ use Rattle.cdb_codec.specs.Cdb.{command_of}
 use Rattle.cdb_codec.specs.declared.status.TheConstants.{GOOD, CHECK_CONDITION}
 use Rattle.cdb_codec.specs.declared.sense.TheConstants.{ABORTED_COMMAND}
 use Rattle.scenario.specs.declared.value.UnitDef.{UnitDef}
+use Rattle.scenario.specs.Lookups.{units_of}
 use Rattle.scenario.specs.Value.{ScenarioValue}
 use Rattle.array_model.specs.Contents.{Contents}
 use Rattle.array_model.specs.Execution.{Reply, Execution, execution, is_request_sense, queue_full, check_condition}
@@ -246,12 +247,12 @@ starting_names s [] = refl
 starting_names s (u ∷ units) = ap (λ (l : List (ℕ × ℕ)). (u.target, u.unit) ∷ l) (starting_names s units)
 
 pub history_names : (s : ScenarioValue) (history : List Event) (a : Array) → array_after s history ≡ Some a
-    → names a.units ≡ line_names s.units
+    → names a.units ≡ line_names (units_of s)
 history_names s [] a e = ap (λ (y : Array). names y.units) (sym (some_is (settled_array (starting_array s)) a e))
-    ∙ choice_names (starting_array s).holds (starting_units s s.units) ∙ starting_names s s.units
+    ∙ choice_names (starting_array s).holds (starting_units s (units_of s)) ∙ starting_names s (units_of s)
 history_names s (event ∷ history) a e = go (array_after s history) (history_names s history) e
   where
-    go : (o : Option Array) → ((b : Array) → o ≡ Some b → names b.units ≡ line_names s.units)
-        → array_step s event o ≡ Some a → names a.units ≡ line_names s.units
+    go : (o : Option Array) → ((b : Array) → o ≡ Some b → names b.units ≡ line_names (units_of s))
+        → array_step s event o ≡ Some a → names a.units ≡ line_names (units_of s)
     go None k e = absurd (none_some a e)
     go (Some b) k e = step_names s event b a e ∙ k b refl

@@ -6,10 +6,10 @@ use Rattle.std.proofs.lemmas.Bool.{and_from, true≢false}
 use Rattle.scenario.specs.declared.value.TargetDef.{TargetDef}
 use Rattle.scenario.specs.declared.value.UnitDef.{UnitDef}
 use Rattle.scenario.specs.Value.{ScenarioValue}
-use Rattle.scenario.specs.Lookups.{has_target}
+use Rattle.scenario.specs.Lookups.{has_target, units_of}
 use Rattle.scenario.specs.Writing.{Obeys}
 use Rattle.due_model.specs.Defs.{target_def_of}
-use Rattle.delivery_laws.specs.right_laws.proofs.Replies.Targeted.{is_there, are_targeted}
+use Rattle.delivery_laws.specs.right_laws.proofs.Replies.Targeted.{is_there, units_targeted}
 use Rattle.bus_engine.specs.Disks.{have_targets}
 
 there_found : (targets : List TargetDef) (dev : ℕ) → is_there targets dev ≡ true
@@ -30,4 +30,4 @@ all_found s [] a = refl
 all_found s (u ∷ units) a = and_from _ _ (there_found s.targets u.target a.0) (all_found s units a.1)
 
 pub lawful_have_targets : (s : ScenarioValue) → Obeys s → have_targets s ≡ true
-lawful_have_targets s o = all_found s s.units (are_targeted s o)
+lawful_have_targets s o = all_found s (units_of s) (units_targeted s o)

@@ -6,7 +6,7 @@ use Rattle.bus_trace.specs.LineSet.{none}
 use Rattle.bus_trace.specs.Trace.{bus, last_time}
 use Rattle.due_model.specs.bus_rules.specs.Lawful.{IsLawful}
 use Rattle.scenario.specs.Value.{ScenarioValue}
-use Rattle.array_model.specs.ArrayHistory.{array_after, disks_of}
+use Rattle.array_model.specs.ArrayHistory.{array_after, disks_of, tapes_of}
 use Rattle.due_model.specs.story_model.specs.Budget.{budget}
 use Rattle.due_model.specs.story_model.specs.Outcomes as told
 use Rattle.due_model.specs.story_model.specs.Outcomes.{outcomes}
@@ -36,18 +36,19 @@ abbrev pub rows_of : RunValue → List Row
 rows_of run = reverse run.rows
 
 -- The run of a scenario: its rows are the prompt trace, after which nothing is due, its history is what they tell,
--- which the plain disk array permits, each reply is the outcome that they tell, and its disks hold what the array holds
--- after that history; the rows and the end obey every rule of the bus, the fault rows are those of the scenario, and no
--- line is true at the end. Each process that ran and ended carried just its own bytes. The transcript of the rows has
--- the events of that history, with the names of processes in place of numbers. Each command has its outcome. Where
--- queues have room and there is no reset and no abort, each valid command that no more faults struck than it bears
--- ended GOOD, and each that is not valid with the sense of what is wrong with it first; every other outcome has its
--- cause, each failure the fault row of a byte, and each complaint of an initiator a struck byte of that phase; the
--- sense with which a command ended is that of its own reply, and only where its automatic REQUEST SENSE was stopped is
--- it without; and RST began by the reset lines alone. Each outcome is exactly that of the first row that ended the
--- command, and of its reply; each command was refused exactly where it found a full queue; each phase with wrong parity
--- was left to try again, or to give up, by the target's limit; what an initiator said first was its opening, an offer
--- was answered, and no request for synchronous transfer was open in COMMAND, data and STATUS.
+-- which the plain disk array permits, each reply is the outcome that they tell, and its disks and tapes hold what the
+-- array holds after that history; the rows and the end obey every rule of the bus, the fault rows are those of the
+-- scenario, and no line is true at the end. Each process that ran and ended carried just its own bytes. The transcript
+-- of the rows has the events of that history, with the names of processes in place of numbers. Each command has its
+-- outcome. Where queues have room and there is no reset and no abort, each valid command that no more faults struck
+-- than it bears ended GOOD, and each with which something is wrong whatever its unit holds with the sense of what is
+-- wrong with it first; every other outcome has its cause, each failure the fault row of a byte, and each complaint of
+-- an initiator a struck byte of that phase; the sense with which a command ended is that of its own reply, and only
+-- where its automatic REQUEST SENSE was stopped is it without; and RST began by the reset lines alone. Each outcome is
+-- exactly that of the first row that ended the command, and of its reply; each command was refused exactly where it
+-- found a full queue; each phase with wrong parity was left to try again, or to give up, by the target's limit; what
+-- an initiator said first was its opening, an offer was answered, and no request for synchronous transfer was open in
+-- COMMAND, data and STATUS.
 pub record IsPromptRun (s : ScenarioValue) (run : RunValue) : Type 0 where
   pub prompt : IsPrompt s (rows_of run)
   pub lawful : IsLawful (rows_of run) run.end
@@ -59,6 +60,7 @@ pub record IsPromptRun (s : ScenarioValue) (run : RunValue) : Type 0 where
   pub carried : all_carried s (story s (rows_of run)) (trace_history s (rows_of run)) ≡ true
   pub replies : map told_reply run.replies ≡ outcomes s (story s (rows_of run))
   pub disks : run.disks ≡ disks_of (array_after s (trace_history s (rows_of run)))
+  pub tapes : run.tapes ≡ tapes_of (array_after s (trace_history s (rows_of run)))
   pub transcript : TellsHistory s (rows_of run)
   pub answered : list_all (λ (o : Option told.Outcome). is_some o) (outcomes s (story s (rows_of run))) ≡ true
   pub delivered : IsDelivered s (rows_of run)
@@ -79,7 +81,7 @@ pub record IsPromptRun (s : ScenarioValue) (run : RunValue) : Type 0 where
 
 -- Each row is of one of the eight devices and comes before 2^62 ns, the end is the time of the last, the rows are fewer
 -- than an eighth of the budget, as each asks the eight devices, and fewer than 2^32 - 1, and there are as many replies
--- as commands and as many disks as units.
+-- as commands, as many disks as units and as many tapes as lines of tapes.
 pub record IsRunOf (s : ScenarioValue) (run : RunValue) : Type 0 where
   pub told : IsPromptRun s run
   pub devices : AreOfDevices run.rows
@@ -89,3 +91,4 @@ pub record IsRunOf (s : ScenarioValue) (run : RunValue) : Type 0 where
   pub small : length run.rows < 2 ^ 32 - 1
   pub answered : length run.replies ≡ length s.commands
   pub stored : length run.disks ≡ length s.units
+  pub reeled : length run.tapes ≡ length s.tapes

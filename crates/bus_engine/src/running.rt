@@ -5,7 +5,7 @@ ghost use Rattle.bus_trace.specs.declared.Row.{Row as TraceRow};
 ghost use Rattle.bus_trace.specs.Trace.{last_time};
 ghost use Rattle.scenario.specs.Value.{ScenarioValue};
 ghost use Rattle.scenario.specs.Writing.{Obeys};
-ghost use Rattle.array_model.specs.ArrayHistory.{array_after, disks_of};
+ghost use Rattle.array_model.specs.ArrayHistory.{array_after, disks_of, tapes_of};
 ghost use Rattle.array_model.specs.SoundArray.{HasSeats};
 ghost use Rattle.due_model.specs.story_model.specs.Budget.{budget};
 ghost use Rattle.due_model.specs.story_model.specs.Outcomes.{outcomes};
@@ -14,15 +14,15 @@ ghost use Rattle.due_model.specs.Allowed.{allowed};
 ghost use Rattle.due_model.specs.Plain.{IsPlain};
 ghost use Rattle.due_model.specs.RunSteps.{run_state};
 ghost use Rattle.delivery_laws.specs.scsi_device.specs.Lines.{FitsBus};
-ghost use Rattle.run_record.specs.Value.{held_by};
+ghost use Rattle.run_record.specs.Value.{held_by, reeled_by};
 ghost use Rattle.bus_run.specs.Places.{AreIn};
 ghost use Rattle.bus_engine.specs.Answers.{are_answered};
 ghost use Rattle.bus_engine.specs.Members.{IsMember};
 ghost use Rattle.bus_engine.specs.Over.{AreOver};
-ghost use Rattle.bus_engine.specs.Disks.{IsWithin, have_targets};
+ghost use Rattle.bus_engine.specs.Disks.{IsWithin, IsTapeWithin, have_targets};
 ghost use Rattle.bus_engine.specs.Runs.{told_reply, IsRunOf};
 
-use crate::finishing::{disks, replies, units_by_target};
+use crate::finishing::{Media, media_by_line, replies, units_by_target};
 use crate::laws::prompt_traces_tie_devices;
 use crate::member::{Member, runs_end};
 use crate::places::member_places;
@@ -40,34 +40,37 @@ use delivery_laws::{
 };
 use disk_target::the_scsi_device::scenarios_fit_the_bus;
 use disk_target::the_target_units::units_hold_their_blocks;
-use disk_unit::SparseBlocks;
 use due_model::{kept_is_plain, wants_are_items};
 use initiator::endings_have_causes;
 use measure_laws::runs_stay_within_budget;
 use run_record::Run;
-use scenario::{Scenario, UnitDef};
+use scenario::{Scenario, TapeDef, UnitDef};
 use std::alloc::Global;
 use std::sync::ledger::Ledger;
 use transcript_laws::transcripts_follow_prompt_traces;
 
-// The blocks of the units of these targets, in the order of their lines.
-fn disks_in(
+// What the units of these targets hold, in the order of their lines.
+fn media_in(
     alloc: Global,
     units: &[UnitDef],
+    lines: &[TapeDef],
     places: &mut [Option<Member>],
-) -> Result<Vec<SparseBlocks>, NoMemory>
+) -> Result<Media, NoMemory>
     requires lines { AllByRecursion IsWithin units.now }
+    requires tape_lines { AllByRecursion IsTapeWithin lines.now }
     requires eight { length places.old ≡ 8 }
-    ensures count { IfOk result (λ disks. length disks.items ≡ length units.now) }
+    ensures count { IfOk result (λ media. length media.disks.items ≡ length units.now) }
+    ensures tape_count { IfOk result (λ media. length media.tapes.items ≡ length lines.now) }
     ensures held { (s : ScenarioValue) (rows : List TraceRow) (first : ℕ) → FitsBus s → units.now ≡ s.units
-        → HasSeats s → IsPlain s rows (run_state s rows) → allowed s rows ≡ true → have_targets s ≡ true
-        → AreOver s rows first places.old
-        → IfOk result (λ disks. map held_by disks.items ≡ disks_of (array_after s (trace_history s rows))) }
+        → lines.now ≡ s.tapes → HasSeats s → IsPlain s rows (run_state s rows) → allowed s rows ≡ true
+        → have_targets s ≡ true → AreOver s rows first places.old
+        → IfOk result (λ media. (map held_by media.disks.items ≡ disks_of (array_after s (trace_history s rows)))
+        × (map reeled_by media.tapes.items ≡ tapes_of (array_after s (trace_history s rows)))) }
 {
     arrays_are_sound();
     units_hold_their_blocks();
     let mut of_target = units_by_target(alloc, places)?;
-    disks(alloc, units, of_target.as_mut_slice())
+    media_by_line(alloc, units, lines, of_target.as_mut_slice())
 }
 
 // What these devices leave, which were told of these rows.
@@ -84,6 +87,7 @@ fn finish(
     ensures end { IfOk result (λ run. run.end ≡ last_time (reverse trace.rows)) }
     ensures answered { IfOk result (λ run. length run.replies ≡ length scenario.now.commands) }
     ensures stored { IfOk result (λ run. length run.disks ≡ length scenario.now.units) }
+    ensures reeled { IfOk result (λ run. length run.tapes ≡ length scenario.now.tapes) }
     ensures replies { (rows : List TraceRow) → AreIn IsMember scenario.now rows places.old
         → are_answered scenario.now rows ≡ true
         → IfOk result (λ run. map told_reply run.replies
@@ -92,18 +96,28 @@ fn finish(
         → allowed scenario.now rows ≡ true
         → AreIn IsMember scenario.now rows places.old
         → IfOk result (λ run. run.disks ≡ disks_of (array_after scenario.now (trace_history scenario.now rows))) }
+    ensures tapes { (rows : List TraceRow) → IsPlain scenario.now rows (run_state scenario.now rows)
+        → allowed scenario.now rows ≡ true
+        → AreIn IsMember scenario.now rows places.old
+        → IfOk result (λ run. run.tapes ≡ tapes_of (array_after scenario.now (trace_history scenario.now rows))) }
 {
     scenarios_fit_the_bus();
     runs_end();
     let replies = replies(alloc, scenario.commands.as_slice(), places)?;
-    let disks = disks_in(alloc, scenario.units.as_slice(), places)?;
+    let media = media_in(
+        alloc,
+        scenario.units.as_slice(),
+        scenario.tapes.as_slice(),
+        places,
+    )?;
     let end = trace.rows.last_time();
     Ok(Run {
         rows: trace.rows,
         end,
         history: trace.history,
         replies,
-        disks,
+        disks: media.disks,
+        tapes: media.tapes,
     })
 }
 

@@ -14,7 +14,7 @@ use bus_trace::{Kind, Row};
 use cdb_codec::GOOD;
 use dialogue_model::Observer;
 use initiator::{Host, Outcome};
-use scenario::{HostDef, has_tape, host_line, read};
+use scenario::{HostDef, host_line, read};
 use std::alloc::Global;
 use std::process::Abort;
 use tagged::TAGGED;
@@ -53,9 +53,6 @@ fn host_in(alloc: Global, text: &[u8]) -> Option<Host> {
     let Ok(scenario) = read(alloc, text) else {
         return None;
     };
-    if has_tape(&scenario) {
-        return None;
-    }
     if !has_host(scenario.hosts.as_slice(), INITIATOR) {
         return None;
     }

@@ -7,7 +7,7 @@ use bitflags::Flags;
 use bus_base::{AbortKind, Event, Failed, MemSink, NoMemory, Octets, ProcId};
 use bus_trace::{Kind, Lines, Row};
 use disk_unit::{Blocks, SparseBlocks};
-use run_record::{Outcome, RowStore, Run};
+use run_record::{Outcome, RowStore, Run, TapeMedium};
 use scenario::read;
 use std::alloc::Global;
 use std::test::Fail;
@@ -107,10 +107,11 @@ fn takes_pieces(rt: HostRuntime) {
     assert!(rt; reader.finish() == Err(5));
 }
 
-const SCENARIO: &str = "scsi 1
-initiator 7 latency 0 open 1 retries 2 sync 0 0 lag 0
-target 0 latency 0 retries 2 disc never pick first seek 0 sync 0 0
+const SCENARIO: &str = "scsi 3
+initiator 7 latency 0 open 1 retries 2 sync 0 0 lag 0 offers yes
+target 0 latency 0 retries 2 disc never pick first seek 0 sync 0 0 begins no
 unit 0 3 blocks 3 size 16 depth 1
+tape 0 4 objects 4 size 16 depth 1
 cmd 7 0 3 at 0 untagged cdb 080000010100 none
 end
 ";
@@ -126,14 +127,18 @@ replies
 cmd 1 GOOD f7
 blocks
 block 0 3 1 30313233343536373839616263646566
+tape 0 4 0
+object 0 4 0 mark
+object 0 4 1 30313233343536373839616263646566
 done
 ";
 
-// Two rows, two events, a reply, and a disk of which one block is shown.
+// Two rows, two events, a reply, a disk of which one block is shown, and a tape at its beginning.
 fn sample_run(alloc: Global) -> Result<Run, NoMemory>
     ensures rows { IfOk result (λ run. AllByRecursion IsOfDevice run.rows) }
     ensures replies { IfOk result (λ run. length run.replies ≡ 1) }
     ensures disks { IfOk result (λ run. length run.disks ≡ 1) }
+    ensures tapes { IfOk result (λ run. length run.tapes ≡ 1) }
 {
     let driven = Row {
         time: 4800,
@@ -164,12 +169,18 @@ fn sample_run(alloc: Global) -> Result<Run, NoMemory>
     disk.write_block(0, &[0; 16]);
     let mut disks = Vec::new(alloc);
     disks.push(disk)?;
+    let mut tape = TapeMedium::new(alloc, 4, 16, 4, 1)?;
+    tape.load_mark();
+    tape.load_block(b"0123456789abcdef");
+    let mut tapes = Vec::new(alloc);
+    tapes.push(tape)?;
     Ok(Run {
         rows,
         end: 7055,
         history,
         replies,
         disks,
+        tapes,
     })
 }
 
@@ -179,8 +190,8 @@ fn prints_reports(rt: HostRuntime) -> Result<(), NoMemory> {
     let Ok(scenario) = read(rt.alloc(), SCENARIO.as_bytes()) else {
         panic!(rt; "the scenario is not read");
     };
-    if scenario.units.len() != 1 || scenario.commands.len() != 1 {
-        panic!(rt; "the scenario has other units or commands");
+    if scenario.units.len() != 1 || scenario.commands.len() != 1 || scenario.tapes.len() != 1 {
+        panic!(rt; "the scenario has other units, tapes or commands");
     }
     // Calls are numbered from 1, and each but the last takes `most` bytes.
     for most in [1usize, 3, 64] {

@@ -32,10 +32,13 @@ const ROOM: usize = 8192;
 /// A scenario in which nothing happens, and its report.
 const NOTHING: &'static str = "scsi 1\n# nothing happens\n\nend\n";
 
-/// A scenario with a tape.
+/// A scenario with a tape, and its report.
 const TAPED: &'static str =
     "scsi 3\ntarget 0 latency 0 retries 2 disc never pick first seek 0 sync 0 0 begins no\n\
     tape 0 0 objects 2 size 16 depth 1\nload 0 0 mark\nend\n";
+
+const TAPE_LEFT: &'static str =
+    "trace 1\nend 0\nhistory\nreplies\nblocks\ntape 0 0 0\nobject 0 0 0 mark\ndone\n";
 
 const NOTHING_HAPPENED: &'static str = "trace 1\nend 0\nhistory\nreplies\nblocks\ndone\n";
 
@@ -130,8 +133,8 @@ fn ends_with_each_status(rt: HostRuntime) -> Result<(), NoMemory> {
         ),
         (run, NOTHING, NEVER, NEVER, Status::Done, NOTHING_HAPPENED),
         (run, NOTHING, NEVER, 1, Status::Write, ""),
-        (run, TAPED, NEVER, NEVER, Status::NotBuilt, "not built\n"),
-        (run, TAPED, NEVER, 1, Status::NotBuilt, ""),
+        (run, TAPED, NEVER, NEVER, Status::Done, TAPE_LEFT),
+        (run, TAPED, NEVER, 1, Status::Write, ""),
         (run, PLAIN.0, 3, NEVER, Status::Read, "read fault\n"),
         (run, PLAIN.0, NEVER, 1, Status::Write, ""),
         (&["walk"], PLAIN.0, NEVER, 1, Status::Words, ""),
@@ -332,7 +335,6 @@ fn has_exit_statuses(rt: HostRuntime) {
         (Status::Memory, 5),
         (Status::Broken, 6),
         (Status::BadTrace, 7),
-        (Status::NotBuilt, 9),
         (Status::BadDump, 10),
     ];
     for (status, code) in codes {

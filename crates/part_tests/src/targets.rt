@@ -12,7 +12,7 @@ use bus_trace::{Kind, Row};
 use cdb_codec::GOOD;
 use dialogue_model::Observer;
 use disk_target::Target;
-use scenario::{TargetDef, has_tape, read, target_line};
+use scenario::{TargetDef, read, target_line};
 use std::alloc::Global;
 use std::process::Abort;
 
@@ -189,9 +189,6 @@ fn target_in(alloc: Global, text: &[u8]) -> Option<Target> {
     let Ok(scenario) = read(alloc, text) else {
         return None;
     };
-    if has_tape(&scenario) {
-        return None;
-    }
     if !has_target(scenario.targets.as_slice(), TARGET) {
         return None;
     }

@@ -4,6 +4,7 @@ use bus_base::{Event, Ns};
 use disk_unit::SparseBlocks;
 use row_store::RowStore;
 use std::marker::Model;
+use tape_unit::TapeMedium;
 
 /// What a run made. Contracts see it as a record of lists.
 #[derive(Drop)]
@@ -18,11 +19,13 @@ pub struct Run {
     pub replies: Vec<Outcome>,
     /// What each disk holds at the end, in the order of the units.
     pub disks: Vec<SparseBlocks>,
+    /// What stands on each tape at the end, and its position, in the order of the tapes.
+    pub tapes: Vec<TapeMedium>,
 }
 
 impl Model for Run {
     ghost use Rattle.std.specs.Prelude.{map};
-    ghost use Rattle.run_record.specs.Value.{RunValue, held_by};
+    ghost use Rattle.run_record.specs.Value.{RunValue, held_by, reeled_by};
 
     ghost Value = { RunValue };
 
@@ -32,5 +35,6 @@ impl Model for Run {
       history = a.history.items;
       replies = a.replies.items;
       disks = map held_by a.disks.items;
+      tapes = map reeled_by a.tapes.items;
     } };
 }

@@ -11,6 +11,7 @@ pub mod Shown
 pub mod RowFront
 pub mod Taken
 mod TouchedBlocks
+mod Reeled
 pub mod PiecesLeft
 pub mod Devices
 pub mod KeptRows

@@ -1,4 +1,4 @@
--- The texts, computed on a small run: two rows, two events, a reply and a block; and replies with senses.
+-- The texts, computed on a small run: two rows, two events, a reply, a block and a tape; and replies with senses.
 use Rattle.std.proofs.Common.{◌≡◌, List, [], ◌∷◌, true, false, Some, None, refl}
 use Rattle.std.specs.Prelude.{codes, Ok, Err}
 use Rattle.std.specs.Fmt.{digits}
@@ -9,6 +9,8 @@ use Rattle.run_record.specs.declared.outcome.Outcome.{Outcome}
 use Rattle.run_record.specs.declared.outcome.Outcome.TheVariants.{Good, Check}
 use Rattle.run_record.specs.Value.{RunValue}
 use Rattle.cdb_codec.specs.Replies.{plain_sense}
+use Rattle.array_model.specs.Reels.{block, filemark, blank_reel}
+use Rattle.array_model.specs.Execution.{tape_contents}
 use Rattle.text_words.specs.Words.{after, number_at}
 use Rattle.trace_text.specs.ReplyText.{replies_text}
 use Rattle.trace_text.specs.ReportText.{report_text}
@@ -22,11 +24,21 @@ sample = record {
   end = 7055;
   history = Accept (record { command = 1; sense = false }) ∷ End (record { command = 12; sense = true }) 2 ∷ [];
   replies = Good (0x0a ∷ 0xff ∷ []) ∷ [];
-  disks = record { count = 4294967296; size = 2; touched = (0, 0 ∷ 0 ∷ []) ∷ (4294967295, 1 ∷ 0xa2 ∷ []) ∷ [] } ∷ [];
+  disks = record {
+    count = 4294967296;
+    size = 2;
+    touched = (0, 0 ∷ 0 ∷ []) ∷ (4294967295, 1 ∷ 0xa2 ∷ []) ∷ [];
+    reel = None;
+  } ∷ [];
+  tapes = tape_contents (record {
+    capacity = 12;
+    size = 2;
+    reel = record { objects = block (0x41 ∷ 0 ∷ []) ∷ filemark ∷ block (0 ∷ 0 ∷ []) ∷ []; position = 2 };
+  }) ∷ tape_contents (record { capacity = 1; size = 2; reel = blank_reel }) ∷ [];
 }
 
-report_of_sample : report_text ((3, 0) ∷ []) sample ≡ codes
-    "trace 1\n4800 7 1078a\n7055 0 f8\nend 7055\nhistory\naccept 1\nend 12S 02\nreplies\ncmd 1 GOOD 0aff\nblocks\nblock 3 0 4294967295 01a2\ndone\n"
+report_of_sample : report_text ((3, 0) ∷ []) ((3, 1) ∷ (4, 0) ∷ []) sample ≡ codes
+    "trace 1\n4800 7 1078a\n7055 0 f8\nend 7055\nhistory\naccept 1\nend 12S 02\nreplies\ncmd 1 GOOD 0aff\nblocks\nblock 3 0 4294967295 01a2\ntape 3 1 2\nobject 3 1 0 4100\nobject 3 1 1 mark\nobject 3 1 2 0000\ntape 4 0 0\ndone\n"
 unfolding digits
 report_of_sample = refl
 

@@ -15,6 +15,7 @@ use Rattle.trace_text.specs.RowText.{row_text, trace_text}
 use Rattle.trace_text.specs.EventText.{event_text}
 use Rattle.trace_text.specs.ReplyText.{replies_text}
 use Rattle.trace_text.specs.BlockText.{disks_text}
+use Rattle.trace_text.specs.TapeText.{tapes_text}
 use Rattle.trace_text.specs.ReportText.{report_text}
 use Rattle.trace_text.specs.Readable.{IsTraceRow}
 use Rattle.trace_text.specs.Lines.{stage_after, row_told, moved, stepped, state_of}
@@ -212,8 +213,10 @@ followed_again rows end rest fit lt few =
     says_all rows end (trace_text rows end ++ (codes "history\n" ++ rest)) few past.rows
     (λ i. end_told (past.state i) (cut_of (onto [] text)).rest)
 
-pub report_again : (units : List (ℕ × ℕ)) (run : RunValue) → AllByRecursion IsTraceRow run.rows → run.end < 2 ^ 63
-    → length (report_text units run) ≤ TRACE_LIMIT → trace_of (report_text units run) ≡ Ok (run.rows, run.end)
-report_again units run fit lt few =
+pub report_again : (units tapes : List (ℕ × ℕ)) (run : RunValue) → AllByRecursion IsTraceRow run.rows
+    → run.end < 2 ^ 63 → length (report_text units tapes run) ≤ TRACE_LIMIT
+    → trace_of (report_text units tapes run) ≡ Ok (run.rows, run.end)
+report_again units tapes run fit lt few =
     followed_again run.rows run.end (flat_map event_text run.history ++ (codes "replies\n"
-    ++ (replies_text 1 run.replies ++ (codes "blocks\n" ++ (disks_text units run.disks ++ codes "done\n"))))) fit lt few
+    ++ (replies_text 1 run.replies ++ (codes "blocks\n" ++ (disks_text units run.disks
+    ++ (tapes_text tapes run.tapes ++ codes "done\n")))))) fit lt few

@@ -3,6 +3,7 @@ pub mod Readable
 pub mod EventText
 pub mod ReplyText
 pub mod BlockText
+pub mod TapeText
 pub mod ReportText
 pub mod ShortText
 pub mod Lines

@@ -21,8 +21,9 @@ pub fn traces_read_back()
 
 /// The report of a run says the rows and the end of the run.
 pub fn reports_read_back()
-    ensures { (units : List (ℕ × ℕ)) (run : RunValue) → AllByRecursion IsTraceRow run.rows → run.end < 2 ^ 63
-        → length (report_text units run) ≤ TRACE_LIMIT → trace_of (report_text units run) ≡ Ok (run.rows, run.end) }
+    ensures { (units tapes : List (ℕ × ℕ)) (run : RunValue) → AllByRecursion IsTraceRow run.rows → run.end < 2 ^ 63
+        → length (report_text units tapes run) ≤ TRACE_LIMIT
+        → trace_of (report_text units tapes run) ≡ Ok (run.rows, run.end) }
 {}
 
 /// A text that is read says rows that a trace can hold, and an end below 2^63.

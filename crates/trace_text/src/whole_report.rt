@@ -10,6 +10,7 @@ ghost use Rattle.bus_trace.specs.OfTrace.{IsOfDevice};
 use crate::blocks_part::put_disks;
 use crate::history_part::put_history;
 use crate::replies_part::put_replies;
+use crate::tapes_part::put_tapes;
 use crate::trace_part::put_trace;
 use bus_base::{Failed, Sink};
 use run_record::Run;
@@ -18,6 +19,7 @@ use text_pages::{Page, flush, is_failed, new_page, put};
 
 fn put_report<K: Sink>(out: &mut K, page: &mut Page, s: &Scenario, run: &Run)
     requires disks { length run.now.disks ≡ length s.now.units }
+    requires tapes { length run.now.tapes ≡ length s.now.tapes }
     requires rows { AllByRecursion IsOfDevice run.now.rows }
     ensures { Prints K.written K.faults out.old out.new page.old page.new (report_of s.now run.now) }
 {
@@ -28,6 +30,7 @@ fn put_report<K: Sink>(out: &mut K, page: &mut Page, s: &Scenario, run: &Run)
     put_replies(out, page, &run.replies);
     put(out, page, b"blocks\n");
     put_disks(out, page, &s.units, &run.disks);
+    put_tapes(out, page, &s.tapes, &run.tapes);
     put(out, page, b"done\n");
 }
 
@@ -40,6 +43,7 @@ fn put_report<K: Sink>(out: &mut K, page: &mut Page, s: &Scenario, run: &Run)
 pub fn report<K: Sink>(s: &Scenario, run: &Run, out: &mut K) -> Result<(), Failed>
     requires replies { length run.now.replies ≡ length s.now.commands }
     requires disks { length run.now.disks ≡ length s.now.units }
+    requires tapes { length run.now.tapes ≡ length s.now.tapes }
     requires rows { AllByRecursion IsOfDevice run.now.rows }
     ensures whole { WritesAll (K.written out.old) (K.written out.new) (report_of s.now run.now) result }
     ensures failed { OnErr result (HasRisen (K.faults out.old) (K.faults out.new)) }

@@ -6,12 +6,12 @@ use bus_cli::Status;
 
 #[test]
 fn runs_small_scenarios(rt: HostRuntime) -> Result<(), NoMemory> {
-    for (seed, scenario, report) in SMALL_RUNS {
+    for (name, scenario, report) in SMALL_RUNS {
         let mut out = MemSink::new(rt.alloc(), ROOM, ROOM, &[NEVER])?;
         let mut input = MemSource::new(rt.alloc(), scenario.as_bytes(), ROOM, &[NEVER])?;
         let ended = ended(rt.alloc(), &["run"], &mut input, &mut out)?;
-        assert!(rt; ended == Status::Done, "seed {seed}");
-        assert!(rt; out.bytes() == report.as_bytes(), "seed {seed}");
+        assert!(rt; ended == Status::Done, "{name}");
+        assert!(rt; out.bytes() == report.as_bytes(), "{name}");
     }
     Ok(())
 }

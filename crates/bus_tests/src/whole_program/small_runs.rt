@@ -1,9 +1,9 @@
-//! Small random scenarios, each with its report from an independent simulator. Written by tools/makers/run_case.py.
+//! Small scenarios, each with its report from an independent simulator. Written by tools/makers/run_case.py.
 
-/// Its seed, the scenario, and the report of its run.
-pub const SMALL_RUNS: [(u32, &str, &str); 30] = [
+/// Its name, the scenario, and the report of its run.
+pub const SMALL_RUNS: [(&str, &str, &str); 32] = [
     (
-        35,
+        "seed_0035",
         "scsi 2
 initiator 2 latency 7 open 3 retries 2 sync 25 5 lag 3000 offers yes
 initiator 5 latency 12 open 3 retries 0 sync 0 0 lag 0 offers yes
@@ -81,7 +81,7 @@ done
 ",
     ),
     (
-        71,
+        "seed_0071",
         "scsi 2
 initiator 0 latency 7 open 2 retries 3 sync 0 0 lag 25 offers yes
 target 5 latency 0 retries 0 disc nosave 2 pick last seek 0 sync 0 0 begins yes
@@ -184,7 +184,7 @@ done
 ",
     ),
     (
-        352,
+        "seed_0352",
         "scsi 2
 initiator 2 latency 27 open 3 retries 0 sync 0 0 lag 0 offers yes
 target 7 latency 0 retries 0 disc nosave 2 pick last seek 0 sync 50 0 begins no
@@ -300,7 +300,7 @@ done
 ",
     ),
     (
-        354,
+        "seed_0354",
         "scsi 1
 initiator 3 latency 29 open 4 retries 3 sync 0 0 lag 292
 target 6 latency 36 retries 1 disc burst 1 pick last seek 80811 sync 75 3
@@ -486,7 +486,7 @@ done
 ",
     ),
     (
-        442,
+        "seed_0442",
         "scsi 2
 initiator 7 latency 97 open 2 retries 2 sync 50 2 lag 183 offers no
 initiator 4 latency 0 open 4 retries 2 sync 0 0 lag 0 offers yes
@@ -560,7 +560,7 @@ done
 ",
     ),
     (
-        498,
+        "seed_0498",
         "scsi 2
 initiator 6 latency 61 open 3 retries 1 sync 230 15 lag 462 offers yes
 initiator 4 latency 99 open 2 retries 0 sync 128 255 lag 564 offers yes
@@ -632,7 +632,7 @@ done
 ",
     ),
     (
-        505,
+        "seed_0505",
         "scsi 1
 initiator 4 latency 100 open 1 retries 2 sync 60 255 lag 25
 initiator 6 latency 0 open 1 retries 0 sync 0 0 lag 0
@@ -730,7 +730,7 @@ done
 ",
     ),
     (
-        557,
+        "seed_0557",
         "scsi 1
 initiator 1 latency 0 open 4 retries 0 sync 0 0 lag 25
 initiator 5 latency 16 open 1 retries 2 sync 75 255 lag 0
@@ -843,7 +843,7 @@ done
 ",
     ),
     (
-        780,
+        "seed_0780",
         "scsi 1
 initiator 5 latency 15 open 1 retries 0 sync 25 1 lag 0
 target 1 latency 48 retries 1 disc nosave 1 pick last seek 1000 sync 0 0
@@ -911,7 +911,7 @@ done
 ",
     ),
     (
-        864,
+        "seed_0864",
         "scsi 2
 initiator 7 latency 44 open 3 retries 2 sync 0 0 lag 0 offers no
 target 1 latency 25 retries 3 disc nosave 2 pick first seek 0 sync 0 0 begins no
@@ -978,7 +978,7 @@ done
 ",
     ),
     (
-        1003,
+        "seed_1003",
         "scsi 2
 initiator 5 latency 100 open 1 retries 2 sync 25 3 lag 3000 offers no
 initiator 1 latency 0 open 2 retries 3 sync 49 255 lag 0 offers yes
@@ -1048,7 +1048,7 @@ done
 ",
     ),
     (
-        1144,
+        "seed_1144",
         "scsi 2
 initiator 7 latency 100 open 2 retries 1 sync 25 15 lag 0 offers no
 target 1 latency 35 retries 2 disc burst 2 pick first seek 49343 sync 25 5 begins no
@@ -1224,7 +1224,7 @@ done
 ",
     ),
     (
-        1188,
+        "seed_1188",
         "scsi 1
 initiator 7 latency 0 open 1 retries 1 sync 0 0 lag 0
 initiator 3 latency 6 open 2 retries 2 sync 0 0 lag 25
@@ -1312,7 +1312,7 @@ done
 ",
     ),
     (
-        1217,
+        "seed_1217",
         "scsi 1
 initiator 2 latency 17 open 1 retries 0 sync 25 1 lag 3000
 target 3 latency 100 retries 0 disc burst 1 pick last seek 0 sync 50 15
@@ -1379,7 +1379,7 @@ done
 ",
     ),
     (
-        1393,
+        "seed_1393",
         "scsi 2
 initiator 5 latency 0 open 4 retries 1 sync 75 15 lag 3000 offers no
 initiator 2 latency 100 open 2 retries 1 sync 50 1 lag 200 offers no
@@ -1467,7 +1467,7 @@ done
 ",
     ),
     (
-        1543,
+        "seed_1543",
         "scsi 1
 initiator 6 latency 0 open 2 retries 2 sync 0 0 lag 3000
 initiator 4 latency 9 open 1 retries 2 sync 32 3 lag 0
@@ -1553,7 +1553,7 @@ done
 ",
     ),
     (
-        1687,
+        "seed_1687",
         "scsi 2
 initiator 1 latency 0 open 3 retries 0 sync 50 15 lag 25 offers no
 target 6 latency 23 retries 3 disc never pick last seek 0 sync 50 5 begins no
@@ -1664,7 +1664,7 @@ done
 ",
     ),
     (
-        1697,
+        "seed_1697",
         "scsi 2
 initiator 7 latency 100 open 2 retries 0 sync 60 1 lag 0 offers yes
 target 1 latency 0 retries 0 disc never pick first seek 79743 sync 0 0 begins yes
@@ -1753,7 +1753,7 @@ done
 ",
     ),
     (
-        1785,
+        "seed_1785",
         "scsi 1
 initiator 2 latency 0 open 4 retries 0 sync 50 3 lag 0
 target 1 latency 0 retries 2 disc nosave 1 pick last seek 1000 sync 0 0
@@ -1832,7 +1832,7 @@ done
 ",
     ),
     (
-        1929,
+        "seed_1929",
         "scsi 1
 initiator 5 latency 3 open 3 retries 0 sync 0 0 lag 0
 target 3 latency 90 retries 0 disc burst 1 pick first seek 0 sync 49 8
@@ -1911,7 +1911,7 @@ done
 ",
     ),
     (
-        2054,
+        "seed_2054",
         "scsi 1
 initiator 1 latency 0 open 3 retries 0 sync 60 3 lag 0
 target 6 latency 0 retries 2 disc never pick first seek 0 sync 30 254
@@ -1978,7 +1978,7 @@ done
 ",
     ),
     (
-        2222,
+        "seed_2222",
         "scsi 1
 initiator 4 latency 10 open 3 retries 0 sync 49 3 lag 25
 target 2 latency 0 retries 0 disc burst 2 pick first seek 0 sync 0 0
@@ -2097,7 +2097,7 @@ done
 ",
     ),
     (
-        2309,
+        "seed_2309",
         "scsi 2
 initiator 5 latency 76 open 2 retries 2 sync 0 0 lag 25 offers yes
 initiator 2 latency 0 open 1 retries 1 sync 0 0 lag 3000 offers no
@@ -2168,7 +2168,7 @@ done
 ",
     ),
     (
-        2347,
+        "seed_2347",
         "scsi 1
 initiator 4 latency 44 open 2 retries 3 sync 0 0 lag 436
 target 2 latency 0 retries 3 disc never pick last seek 0 sync 25 1
@@ -2258,7 +2258,7 @@ done
 ",
     ),
     (
-        2416,
+        "seed_2416",
         "scsi 2
 initiator 7 latency 0 open 3 retries 3 sync 50 15 lag 25 offers yes
 initiator 1 latency 98 open 3 retries 3 sync 30 15 lag 50 offers no
@@ -2372,7 +2372,7 @@ done
 ",
     ),
     (
-        2567,
+        "seed_2567",
         "scsi 2
 initiator 5 latency 10 open 4 retries 3 sync 33 3 lag 0 offers no
 target 0 latency 39 retries 2 disc nosave 1 pick last seek 67757 sync 0 0 begins no
@@ -2473,7 +2473,7 @@ done
 ",
     ),
     (
-        2625,
+        "seed_2625",
         "scsi 1
 initiator 3 latency 100 open 3 retries 1 sync 50 1 lag 220
 initiator 0 latency 100 open 1 retries 2 sync 0 0 lag 3000
@@ -2555,7 +2555,7 @@ done
 ",
     ),
     (
-        2635,
+        "seed_2635",
         "scsi 1
 initiator 6 latency 0 open 3 retries 1 sync 0 0 lag 0
 initiator 7 latency 100 open 4 retries 1 sync 0 0 lag 0
@@ -2620,7 +2620,7 @@ done
 ",
     ),
     (
-        2934,
+        "seed_2934",
         "scsi 2
 initiator 5 latency 0 open 1 retries 1 sync 0 0 lag 25 offers no
 initiator 6 latency 0 open 4 retries 1 sync 0 0 lag 0 offers yes
@@ -2747,7 +2747,7 @@ done
 ",
     ),
     (
-        8810,
+        "seed_8810",
         "scsi 2
 initiator 2 latency 0 open 1 retries 2 sync 50 15 lag 0 offers no
 initiator 6 latency 0 open 4 retries 3 sync 0 0 lag 3000 offers no
@@ -2950,6 +2950,576 @@ cmd 1 GOOD
 cmd 2 QFULL
 blocks
 block 0 5 1 8000ff4d8080ff808effff8000802680
+done
+",
+    ),
+    (
+        "check_by_pulses",
+        "scsi 3
+initiator 7 latency 0 open 1 retries 2 sync 50 8 lag 0 offers yes
+target 0 latency 0 retries 2 disc never pick first seek 0 sync 50 8 begins no
+tape 0 0 objects 4 size 16 depth 1
+load 0 0 41414141414141414141414141414141
+load 0 0 mark
+cmd 7 0 0 at 0 untagged cdb 080100000200 none
+end
+",
+        "trace 1
+1200 7 00280
+3600 7 00680
+4800 7 10781
+4890 7 10581
+5290 0 00200
+5380 7 10000
+5380 0 02a00
+5780 0 06a00
+5780 7 101c0
+5835 7 181c0
+5835 0 02a00
+5835 7 10000
+5835 0 06a00
+5835 7 10001
+5890 7 18001
+5890 0 02a00
+5890 7 10000
+5890 0 06a00
+5890 7 10103
+5945 7 18103
+5945 0 02a00
+5945 7 10000
+5945 0 06a00
+5945 7 10001
+6000 7 18001
+6000 0 02a00
+6000 7 10000
+6000 0 06a00
+6000 7 10032
+6055 7 18032
+6055 0 02a00
+6055 7 10000
+6055 0 06a00
+6055 7 00008
+6145 7 08008
+6145 0 02a00
+6145 7 00000
+6145 0 03a00
+6945 0 03a01
+7000 0 07a01
+7000 7 08000
+7000 0 03b03
+7000 7 00000
+7055 0 07b03
+7055 7 08000
+7055 0 03a01
+7055 7 00000
+7110 0 07a01
+7110 7 08000
+7110 0 03a32
+7110 7 00000
+7165 0 07a32
+7165 7 08000
+7165 0 03a08
+7165 7 00000
+7220 0 07a08
+7220 7 08000
+7220 0 03a00
+7220 7 00000
+7220 0 00a00
+7620 0 04a00
+7620 7 00008
+7675 7 08008
+7675 0 00a00
+7675 7 00000
+7675 0 04a00
+7675 7 00001
+7730 7 08001
+7730 0 00a00
+7730 7 00000
+7730 0 04a00
+7730 7 00100
+7785 7 08100
+7785 0 00a00
+7785 7 00000
+7785 0 04a00
+7785 7 00100
+7840 7 08100
+7840 0 00a00
+7840 7 00000
+7840 0 04a00
+7840 7 00002
+7895 7 08002
+7895 0 00a00
+7895 7 00000
+7895 0 04a00
+7895 7 00100
+7950 7 08100
+7950 0 00a00
+7950 7 00000
+7950 0 01200
+8750 0 01341
+8805 0 05341
+8805 7 08000
+8895 7 00000
+8895 0 01341
+9005 0 05341
+9005 7 08000
+9095 7 00000
+9095 0 01341
+9205 0 05341
+9205 7 08000
+9295 7 00000
+9295 0 01341
+9405 0 05341
+9405 7 08000
+9495 7 00000
+9495 0 01341
+9605 0 05341
+9605 7 08000
+9695 7 00000
+9695 0 01341
+9805 0 05341
+9805 7 08000
+9895 7 00000
+9895 0 01341
+10005 0 05341
+10005 7 08000
+10095 7 00000
+10095 0 01341
+10205 0 05341
+10205 7 08000
+10295 7 00000
+10295 0 01341
+10405 0 05341
+10405 7 08000
+10495 7 00000
+10495 0 01341
+10605 0 05341
+10605 7 08000
+10695 7 00000
+10695 0 01341
+10805 0 05341
+10805 7 08000
+10895 7 00000
+10895 0 01341
+11005 0 05341
+11005 7 08000
+11095 7 00000
+11095 0 01341
+11205 0 05341
+11205 7 08000
+11295 7 00000
+11295 0 01341
+11405 0 05341
+11405 7 08000
+11495 7 00000
+11495 0 01341
+11605 0 05341
+11605 7 08000
+11695 7 00000
+11695 0 01341
+11805 0 05341
+11805 7 08000
+11895 7 00000
+11895 0 01341
+11905 0 01200
+11905 0 01a02
+12305 0 05a02
+12305 7 08000
+12305 0 01a00
+12305 7 00000
+12305 0 03b00
+12705 0 07b00
+12705 7 08000
+12705 0 03a00
+12705 7 00000
+12705 0 00000
+13905 7 00280
+16305 7 00680
+17505 7 10781
+17595 7 10581
+17995 0 00200
+18085 7 10000
+18085 0 02a00
+18485 0 06a00
+18485 7 00080
+18575 7 08080
+18575 0 02a00
+18575 7 00000
+18575 0 00a00
+18975 0 04a00
+18975 7 00103
+19030 7 08103
+19030 0 00a00
+19030 7 00000
+19030 0 04a00
+19030 7 00100
+19085 7 08100
+19085 0 00a00
+19085 7 00000
+19085 0 04a00
+19085 7 00100
+19140 7 08100
+19140 0 00a00
+19140 7 00000
+19140 0 04a00
+19140 7 00100
+19195 7 08100
+19195 0 00a00
+19195 7 00000
+19195 0 04a00
+19195 7 00112
+19250 7 08112
+19250 0 00a00
+19250 7 00000
+19250 0 04a00
+19250 7 00100
+19305 7 08100
+19305 0 00a00
+19305 7 00000
+19305 0 01200
+20105 0 013f0
+20160 0 053f0
+20160 7 08000
+20250 7 00000
+20250 0 013f0
+20260 0 01300
+20360 0 05300
+20360 7 08000
+20450 7 00000
+20450 0 01300
+20460 0 01280
+20560 0 05280
+20560 7 08000
+20650 7 00000
+20650 0 01280
+20660 0 01300
+20760 0 05300
+20760 7 08000
+20850 7 00000
+20850 0 01300
+20960 0 05300
+20960 7 08000
+21050 7 00000
+21050 0 01300
+21160 0 05300
+21160 7 08000
+21250 7 00000
+21250 0 01300
+21260 0 01201
+21360 0 05201
+21360 7 08000
+21450 7 00000
+21450 0 01201
+21460 0 0130a
+21560 0 0530a
+21560 7 08000
+21650 7 00000
+21650 0 0130a
+21660 0 01300
+21760 0 05300
+21760 7 08000
+21850 7 00000
+21850 0 01300
+21960 0 05300
+21960 7 08000
+22050 7 00000
+22050 0 01300
+22160 0 05300
+22160 7 08000
+22250 7 00000
+22250 0 01300
+22360 0 05300
+22360 7 08000
+22450 7 00000
+22450 0 01300
+22560 0 05300
+22560 7 08000
+22650 7 00000
+22650 0 01300
+22660 0 01201
+22760 0 05201
+22760 7 08000
+22850 7 00000
+22850 0 01201
+22860 0 01300
+22960 0 05300
+22960 7 08000
+23050 7 00000
+23050 0 01300
+23160 0 05300
+23160 7 08000
+23250 7 00000
+23250 0 01300
+23360 0 05300
+23360 7 08000
+23450 7 00000
+23450 0 01300
+23560 0 05300
+23560 7 08000
+23650 7 00000
+23650 0 01300
+23660 0 01200
+23660 0 01b00
+24060 0 05b00
+24060 7 08000
+24060 0 01a00
+24060 7 00000
+24060 0 03b00
+24460 0 07b00
+24460 7 08000
+24460 0 03a00
+24460 7 00000
+24460 0 00000
+end 24460
+history
+accept 1
+run 1
+end 1 02
+accept 1S
+run 1S
+end 1S 00
+replies
+cmd 1 CHECK 000001 80 1
+blocks
+tape 0 0 2
+object 0 0 0 41414141414141414141414141414141
+object 0 0 1 mark
+done
+",
+    ),
+    (
+        "check_without_sense",
+        "scsi 3
+initiator 7 latency 0 open 1 retries 2 sync 0 0 lag 0 offers yes
+target 0 latency 0 retries 2 disc never pick first seek 0 sync 0 0 begins no
+tape 0 0 objects 12 size 16 depth 1
+load 0 0 41414141414141414141414141414141
+load 0 0 42424242424242424242424242424242
+load 0 0 mark
+load 0 0 43434343434343434343434343434343
+load 0 0 mark
+load 0 0 mark
+load 0 0 44444444444444444444444444444444
+cmd 7 0 0 at 0 untagged cdb 110000000900 none
+cmd 7 0 0 at 0 untagged cdb 080100000100 none
+abort 7 0 0 at 5000 all
+end
+",
+        "trace 1
+1200 7 00280
+3600 7 00680
+4800 7 10781
+4890 7 10581
+5290 0 00200
+5380 7 10000
+5380 0 02a00
+5780 0 06a00
+5780 7 001c0
+5870 7 081c0
+5870 0 02a00
+5870 7 00000
+5870 0 00a00
+6270 0 04a00
+6270 7 00111
+6325 7 08111
+6325 0 00a00
+6325 7 00000
+6325 0 04a00
+6325 7 00100
+6380 7 08100
+6380 0 00a00
+6380 7 00000
+6380 0 04a00
+6380 7 00100
+6435 7 08100
+6435 0 00a00
+6435 7 00000
+6435 0 04a00
+6435 7 00100
+6490 7 08100
+6490 0 00a00
+6490 7 00000
+6490 0 04a00
+6490 7 00109
+6545 7 08109
+6545 0 00a00
+6545 7 00000
+6545 0 04a00
+6545 7 00100
+6600 7 08100
+6600 0 00a00
+6600 7 00000
+6600 0 01a00
+7400 0 01a02
+7455 0 05a02
+7455 7 08000
+7455 0 01a00
+7455 7 00000
+7455 0 03b00
+7855 0 07b00
+7855 7 08000
+7855 0 03a00
+7855 7 00000
+7855 0 00000
+9055 7 00280
+11455 7 00680
+12655 7 10781
+12745 7 10581
+13145 0 00200
+13235 7 10000
+13235 0 02a00
+13635 0 06a00
+13635 7 10080
+13690 7 18080
+13690 0 02a00
+13690 7 10000
+13690 0 06a00
+13690 7 00106
+13780 7 08106
+13780 0 02a00
+13780 7 00000
+13780 0 00000
+14980 7 00280
+17380 7 00680
+18580 7 10781
+18670 7 10581
+19070 0 00200
+19160 7 10000
+19160 0 02a00
+19560 0 06a00
+19560 7 001c0
+19650 7 081c0
+19650 0 02a00
+19650 7 00000
+19650 0 00a00
+20050 0 04a00
+20050 7 00008
+20105 7 08008
+20105 0 00a00
+20105 7 00000
+20105 0 04a00
+20105 7 00001
+20160 7 08001
+20160 0 00a00
+20160 7 00000
+20160 0 04a00
+20160 7 00100
+20215 7 08100
+20215 0 00a00
+20215 7 00000
+20215 0 04a00
+20215 7 00100
+20270 7 08100
+20270 0 00a00
+20270 7 00000
+20270 0 04a00
+20270 7 00001
+20325 7 08001
+20325 0 00a00
+20325 7 00000
+20325 0 04a00
+20325 7 00100
+20380 7 08100
+20380 0 00a00
+20380 7 00000
+20380 0 01200
+21180 0 01243
+21235 0 05243
+21235 7 08000
+21235 0 01243
+21235 7 00000
+21290 0 05243
+21290 7 08000
+21290 0 01243
+21290 7 00000
+21345 0 05243
+21345 7 08000
+21345 0 01243
+21345 7 00000
+21400 0 05243
+21400 7 08000
+21400 0 01243
+21400 7 00000
+21455 0 05243
+21455 7 08000
+21455 0 01243
+21455 7 00000
+21510 0 05243
+21510 7 08000
+21510 0 01243
+21510 7 00000
+21565 0 05243
+21565 7 08000
+21565 0 01243
+21565 7 00000
+21620 0 05243
+21620 7 08000
+21620 0 01243
+21620 7 00000
+21675 0 05243
+21675 7 08000
+21675 0 01243
+21675 7 00000
+21730 0 05243
+21730 7 08000
+21730 0 01243
+21730 7 00000
+21785 0 05243
+21785 7 08000
+21785 0 01243
+21785 7 00000
+21840 0 05243
+21840 7 08000
+21840 0 01243
+21840 7 00000
+21895 0 05243
+21895 7 08000
+21895 0 01243
+21895 7 00000
+21950 0 05243
+21950 7 08000
+21950 0 01243
+21950 7 00000
+22005 0 05243
+22005 7 08000
+22005 0 01243
+22005 7 00000
+22060 0 05243
+22060 7 08000
+22060 0 01200
+22060 7 00000
+22060 0 01b00
+22460 0 05b00
+22460 7 08000
+22460 0 01a00
+22460 7 00000
+22460 0 03b00
+22860 0 07b00
+22860 7 08000
+22860 0 03a00
+22860 7 00000
+22860 0 00000
+end 22860
+history
+accept 1
+run 1
+end 1 02
+abort 7 0 0 all
+accept 2
+run 2
+end 2 00
+replies
+cmd 1 CHECK none
+cmd 2 GOOD 43434343434343434343434343434343
+blocks
+tape 0 0 4
+object 0 0 0 41414141414141414141414141414141
+object 0 0 1 42424242424242424242424242424242
+object 0 0 2 mark
+object 0 0 3 43434343434343434343434343434343
+object 0 0 4 mark
+object 0 0 5 mark
+object 0 0 6 44444444444444444444444444444444
 done
 ",
     ),

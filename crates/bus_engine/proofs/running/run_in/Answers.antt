@@ -8,7 +8,7 @@ use Rattle.bus_trace.specs.declared.Row.{Row}
 use Rattle.bus_trace.specs.LineSet.{none}
 use Rattle.bus_trace.specs.Trace.{bus, last_time}
 use Rattle.due_model.specs.bus_rules.specs.Lawful.{IsLawful}
-use Rattle.array_model.specs.ArrayHistory.{array_after, disks_of}
+use Rattle.array_model.specs.ArrayHistory.{array_after, disks_of, tapes_of}
 use Rattle.scenario.specs.Value.{ScenarioValue}
 use Rattle.due_model.specs.story_model.specs.Budget.{budget}
 use Rattle.due_model.specs.story_model.specs.Outcomes.{outcomes}
@@ -80,6 +80,9 @@ returns-clause-exact g c = λ at.
             disks = c.in_ok-finish.ensures.disks all plain
                 (c.rows_tie_devices.ensures.allowed s all (h all prompt few)) places
                 ∙ ap (λ (l : List Row). disks_of (array_after s (trace_history s (reverse l)))) (sym r);
+            tapes = c.in_ok-finish.ensures.tapes all plain
+                (c.rows_tie_devices.ensures.allowed s all (h all prompt few)) places
+                ∙ ap (λ (l : List Row). tapes_of (array_after s (trace_history s (reverse l)))) (sym r);
             transcript = subst (λ (l : List Row). TellsHistory s (reverse l)) (sym r)
                 (c.transcripts_follow_prompt_traces.ensures s all c.requires.lawful prompt);
             answered =
@@ -131,6 +134,7 @@ returns-clause-exact g c = λ at.
       small = subst (λ (l : List Row). length l < 2 ^ 32 - 1) (sym r) (omega (arith, small, length-reverse items));
       answered = c.in_ok-finish.ensures.answered;
       stored = c.in_ok-finish.ensures.stored;
+      reeled = c.in_ok-finish.ensures.reeled;
     }
 
 pub returns-clause-steps : goal.returns-clause-steps

@@ -1,7 +1,7 @@
 use Rattle.std.proofs.Common.{◌≡◌, ◌++◌, length, arith}
 use Rattle.std.specs.Prelude.{codes, map}
 use Rattle.std.proofs.lemmas.Grind.{common_steps}
-use Rattle.run_record.specs.Value.{RunValue, held_by}
+use Rattle.run_record.specs.Value.{RunValue, held_by, reeled_by}
 use Rattle.trace_text.specs.ShortText.{count_text, endings_text, short_text}
 use Rattle.text_pages.proofs.Putting.{and_then, put_as}
 use Rattle.trace_text.proofs.short_form.put_short.Goals as goal
@@ -17,6 +17,7 @@ returns g c =
       history = c.run.inside.history.items;
       replies = c.run.inside.replies.items;
       disks = map held_by c.run.inside.disks.items;
+      tapes = map reeled_by c.run.inside.tapes.items;
     } in
     put_as _ (put_as (short_text view) parts (λ j. codes "short 1\n" ++ (count_text (codes "rows") (rows j)
     ++ (count_text (codes "end") c.run.inside.end ++ endings_text (c.deref.ensures.value j)))))
