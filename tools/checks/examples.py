@@ -5,7 +5,8 @@
 
 PROGRAM is the one that the gate has proved and built, crates/scsibus/out/scsibus, where no other is named. The gate itself runs the program
 on one input; here each word stands with each status that an input can ask for, so that a program which hands on its first word alone, or
-always ends with 0, is found. Each file of examples/ that the program can write is what it writes. Ends with status 1 where one differs.
+always ends with 0, is found. Each file of examples/ that the program can write is what it writes, and so is each report of tools/tape_cases and
+tools/tape_runs, which an independent simulator of the bus wrote. Ends with status 1 where one differs.
 """
 import pathlib
 import subprocess
@@ -13,6 +14,8 @@ import sys
 
 ROOT = pathlib.Path(__file__).resolve().parent.parent.parent
 EXAMPLES = ROOT / "examples"
+# Scenarios, each with its report beside it.
+REPORTS = sorted((ROOT / "tools").glob("tape_*/*.scn"))
 # The words by which each kind of file is written, and the kind of file that is read.
 KINDS = {
     ".out": (["run"], ".scsi"),
@@ -22,16 +25,12 @@ KINDS = {
 }
 # A trace whose second device enters the arbitration a nanosecond too late, and what is refused, with the line and the status of each.
 BROKEN = b"trace 1\n1200 7 00280\n3001 6 00240\nend 3001\n"
-# A scenario with a tape, which does not run yet.
-TAPED = b"scsi 3\ntarget 0 latency 0 retries 2 disc never pick first seek 0 sync 0 0 begins no\ntape 0 0 objects 2 size 16 depth 1\nend\n"
 USAGE = b"usage: scsibus run [--short|--transcript] | judge | make SEED N | transcript | vcd | unvcd\n"
 REFUSALS = [
     ([], b"", USAGE, 1),
     (["walk"], b"", USAGE, 1),
     (["run", "--long"], b"", USAGE, 1),
     (["run"], b"scenario 1\nhost 8\n", b"scenario line 1 reason 2\n", 2),
-    (["run"], TAPED, b"not built\n", 9),
-    (["run", "--short"], TAPED, b"not built\n", 9),
     (["judge"], BROKEN, b"broken 2 4\n", 6),
     (["transcript"], BROKEN, b"broken 2 4\n", 6),
     (["judge"], b"trace 1\nend\n", b"trace line 2\n", 7),
@@ -55,6 +54,10 @@ def main(words):
         if got != wanted:
             wrong.append(f"{what}: status {got[1]} in place of {wanted[1]}" if got[1] != wanted[1] else f"{what}: other bytes")
 
+    for path in REPORTS:
+        report = path.with_suffix(".out").read_bytes()
+        compare(path.name, written(program, ["run"], path.read_bytes()), (report, 0))
+        compare(f"{path.stem}.out, judged", written(program, ["judge"], report), (b"lawful\n", 0))
     for path in sorted(EXAMPLES.iterdir()):
         if path.suffix in KINDS:
             asked, kind = KINDS[path.suffix]

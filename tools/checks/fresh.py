@@ -41,6 +41,14 @@ DEBTS = [
     )
 ]
 STORIES = [path for path in CASES if path not in RUNS]
+# Whole runs with tapes, as rows.
+TAPE_RUNS = [str(ROOT / "tools" / "tape_cases" / "room_known_late.scn")] + [
+    str(ROOT / "tools" / "tape_runs" / (name + ".scn"))
+    for name in (
+        "check_by_pulses", "check_without_sense", "length_changed_by_another", "lost_after_run", "read_given_up", "reset_in_data",
+        "tag_aborted",
+    )
+]
 DUMPS = sorted(str(path) for path in (ROOT / "tools" / "dump_cases").glob("*.out"))
 TOLD = [path for path in CASES if pathlib.Path(path).with_suffix(".transcript").exists()]
 TRANSCRIPTS = sorted(str(path) for path in (ROOT / "tools" / "transcript_cases").glob("*.out"))
@@ -48,6 +56,22 @@ MAKES = sorted(str(path) for path in (ROOT / "tools" / "make_cases").glob("*.scs
 SMALL = sorted(str(path) for path in (ROOT / "tools" / "run_cases").glob("*.scn"))
 GUARDS = sorted(str(path) for path in (ROOT / "tools" / "guard_cases").glob("*.scn"))
 TAPES = sorted(str(path) for path in (ROOT / "tools" / "tape_cases").glob("*.scn"))
+# Histories with tapes, played on the plain disk array.
+REELS = [
+    str(ROOT / "tools" / "tape_cases" / (name + ".scn"))
+    for name in ("end_of_medium", "full_tape", "space_over_blocks", "space_over_filemarks")
+] + [
+    str(ROOT / "tools" / "tape_runs" / (name + ".scn"))
+    for name in (
+        "attention_kept", "beside_a_disk", "conflict_picked_last", "device_reset", "hold", "inquiry_and_absent_unit", "queue_cleared",
+        "tag_aborted",
+    )
+]
+# Whole reports among the tests: small ones, with a CHECK CONDITION and data, by handshakes and by pulses.
+TAPE_REPORTS = [
+    str(ROOT / "tools" / "tape_runs" / (name + ".scn"))
+    for name in ("check_by_pulses", "check_without_sense")
+]
 LAWS = sorted(str(path) for path in (ROOT / "tools" / "law_cases").glob("*.scn"))
 # Runs at the limit of the faults that a command bears, below and above it; and runs with each outcome.
 LIMITS = [
@@ -75,8 +99,12 @@ OUTCOMES = (
 MADE = {
     "crates/bus_cases/proofs/RuleCases.antt": (["tools/makers/rule_cases.py"], "tools/rule_cases.txt"),
     "crates/array_model/proofs/Stories.antt": (["tools/makers/array_case.py"] + CASES, None),
+    "crates/array_model/proofs/TapeStories.antt": (["tools/makers/array_case.py"] + REELS, None),
     "crates/tape_unit/proofs/Cases.antt": (["tools/makers/tape_case.py"] + TAPES, None),
     "crates/story_model/proofs/Cases.antt": (["tools/makers/story_case.py"] + CASES, None),
+    "crates/story_model/proofs/TapeCases.antt": (["tools/makers/story_case.py"] + TAPE_RUNS, None),
+    "crates/due_model/proofs/TapeCases.antt": (["tools/makers/due_case.py"] + TAPE_RUNS, None),
+    "crates/bus_cases/proofs/TapeRuns.antt": (["tools/makers/shown_case.py"] + TAPE_RUNS, None),
     "crates/due_model/proofs/Cases.antt": (["tools/makers/due_case.py"] + RUNS, None),
     "crates/due_model/proofs/RunCases.antt": (["tools/makers/shown_case.py"] + NEAR, None),
     "crates/due_model/proofs/SeamCases.antt": (["tools/makers/seam_case.py", "Cases"] + NEAR, None),
@@ -101,7 +129,7 @@ MADE = {
     "crates/bus_transcript/proofs/ToldCases.antt": (["tools/makers/told_case.py"] + TOLD, None),
     "crates/transcript_laws/proofs/FitCases.antt": (["tools/makers/fit_case.py"] + TOLD, None),
     "crates/scenario/proofs/MadeCases.antt": (["tools/makers/make_case.py"] + MAKES, None),
-    "crates/bus_tests/src/whole_program/small_runs.rt": (["tools/makers/run_case.py"] + SMALL, None),
+    "crates/bus_tests/src/whole_program/small_runs.rt": (["tools/makers/run_case.py"] + SMALL + TAPE_REPORTS, None),
     "crates/sync_nego/proofs/Cases.antt": (["tools/makers/nego_case.py"], None),
 }
 USE = re.compile(r"^use ([\w.]+)\.\{(.*)\}$")

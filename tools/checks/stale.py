@@ -14,12 +14,12 @@ import sys
 
 ROOT = pathlib.Path(__file__).resolve().parent.parent.parent
 STALE = re.compile(r"\b(so far|will say|not yet|no contract yet|to be written|for now|at present|TODO|coming soon)\b", re.I)
-# What such words say rightly: of a moment in a trace, a text or a call, of what ./prove keeps, and of tapes, which do not run.
+# What such words say rightly: of a moment in a trace, a text or a call, and of what ./prove keeps.
 WANTED = (
     "rows so far", "made so far", "items so far", "bytes of COMMAND so far", "calls so far", "not yet handed out", "messages so far", "MESSAGE OUT phase so far",
     "connection so far", "carried so far", "said so far", "processes so far", "read so far", "scenario so far", "counts so far", "put so far",
     "void so far", "parts so far", "reach so far", "written so far", "account of a connection of this process so far", "message so far",
-    "open or not yet sent", "again (b), or not yet", "which a tape does not yet",
+    "open or not yet sent", "again (b), or not yet",
 )
 PAGES = [ROOT / "README.md", ROOT / "CONTRIBUTING.md", *sorted((ROOT / "docs").glob("*.md")), *sorted((ROOT / "examples").glob("*.md"))]
 MOST = 200

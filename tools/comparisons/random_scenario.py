@@ -29,7 +29,7 @@ def initiator(rng, version, dev):
     line = "initiator %d latency %d open %d retries %d sync %s lag %d" % (
         dev, latency(rng), rng.randint(1, 4), rng.choice((0, 1, 2, 2, 3)), agreement(rng, 255),
         rng.choice((0, 0, 25, rng.randint(0, 600), 3000)))
-    return line + (" offers %s" % rng.choice(("yes", "yes", "no")) if version == 2 else "")
+    return line + (" offers %s" % rng.choice(("yes", "yes", "no")) if version >= 2 else "")
 
 
 def target(rng, version, dev):
@@ -37,7 +37,7 @@ def target(rng, version, dev):
     line = "target %d latency %d retries %d disc %s pick %s seek %d sync %s" % (
         dev, latency(rng), rng.choice((0, 1, 2, 2, 3)), policy, rng.choice(("first", "last")),
         rng.choice((0, 0, 1000, rng.randint(0, 90000))), agreement(rng, 254))
-    return line + (" begins %s" % rng.choice(("yes", "no")) if version == 2 else "")
+    return line + (" begins %s" % rng.choice(("yes", "no")) if version >= 2 else "")
 
 
 def tag(rng):

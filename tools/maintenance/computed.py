@@ -43,10 +43,14 @@ BINARY = {"||": (30, "r"), "&&": (35, "r"), "==": (50, "n"), "++": (65, "l"), "+
 BUILT = {
     "not": 1, "nat_lt": 2, "nat_le": 2, "is_some": 1, "is_none": 1, "length": 1, "take": 2, "drop": 2, "replicate": 2, "max": 2, "min": 2, "suc": 1,
     "codes": 1, "slice_index": 2, "slice_index_or": 3, "slice_get": 2, "slice_set": 3, "list_any": 2, "list_all": 2, "find": 2, "reverse": 1, "map": 2, "flat_map": 2,
+    "nat_abs": 1, "twos_complement": 2,
     "big_number": 2, "big_bytes": 2, "bit_or": 2, "bit_and": 2, "bit_at": 2, "count_ones": 1, "option_map": 2, "filter": 2, "option_and_then": 2,
 }
+# Arguments that are computed only where they are wanted, by the place among the others: as many filemarks as a command counts, for which there is
+# no room.
+LATE = {("array_model", "TapeExecution", "write_execution"): {2}, ("array_model", "TapeExecution", "written_reel"): {2}}
 COMPARISONS = {"nat_lt", "nat_le", "is_some", "is_none", "list_any", "list_all"}
-VARIANTS = {"Some": 1, "None": 0, "Ok": 1, "Err": 1}
+VARIANTS = {"Some": 1, "None": 0, "Ok": 1, "Err": 1, "pos": 1, "negsuc": 1}
 RUNTIME = r"""
 'use strict';
 const NIL = {t: '[]'}, NONE = {t: 'None'};
@@ -80,6 +84,8 @@ const std_bit_at = (n, k) => Math.floor(n / Math.pow(2, k)) % 2;
 const std_count_ones = n => { let c = 0; while (n > 0) { c += n % 2; n = Math.floor(n / 2); } return c; };
 const std_big_number = (n, l) => { let r = 0; while (n > 0 && l !== NIL) { r = r * 256 + l._0; l = l._1; n--; } return r; };
 const std_big_bytes = (n, x) => { const a = []; for (let i = n - 1; i >= 0; i--) a.push(Math.floor(x / Math.pow(256, i)) % 256); return onto(a, NIL); };
+const std_nat_abs = z => z.t === 'pos' ? z._0 : z._0 + 1;
+const std_twos_complement = (n, x) => { const all = Math.pow(256, n); return x * 2 < all ? {t: 'pos', _0: x} : {t: 'negsuc', _0: all - x - 1}; };
 const op_join = (a, b) => a === NIL ? b : onto(array(a), b);
 const op_minus = (a, b) => a < b ? 0 : a - b;
 const op_div = (a, b) => b === 0 ? 0 : Math.floor(a / b), op_rem = (a, b) => b === 0 ? a : a % b;
@@ -340,7 +346,7 @@ class Module:
     def read(self):
         for at, item in self.items():
             words = item.split(None, 3)
-            if words[0] == "use" or words[:2] == ["pub", "use"]:
+            if words[0] == "use" or words[:2] == ["pub", "use"] or words[:3] == ["unfoldable", "pub", "use"]:
                 self.read_use(item)
             elif words[0] in ("mod", "unfolding", "ruleset") or words[:2] == ["pub", "mod"]:
                 pass
@@ -369,18 +375,38 @@ class Module:
 
     def read_use(self, item):
         item = " ".join(item.split())
-        match = re.match(r"(?:pub )?use ([^\s{]+?)(?:\.\{(.*)\}| as (\S+))?$", item)
+        match = re.match(r"(?:unfoldable )?(?:pub )?use ([^\s{]+?)(?:\.\{(.*)\}| as (\S+))?$", item)
         if not match:
             return
-        place = match.group(1).split(".")
+        place = self.home(match.group(1).split("."))
         if match.group(3):
             self.aliases[match.group(3)] = place
         elif match.group(2) is not None:
-            for name in match.group(2).split(","):
-                name, _, other = name.strip().partition(" as ")
+            self.take_names(place, match.group(2), "pub use " in item)
+
+    def home(self, place):
+        """The place of a name that a crate has for itself (`proofs.Names`), or for another crate (`use .. as ..`)."""
+        if place[0] == "proofs":
+            return ["Rattle", self.crate] + place
+        return self.aliases[place[0]] + place[1:] if place[0] in self.aliases else place
+
+    def take_names(self, place, text, is_handed):
+        """The names between two braces, where braces may stand again."""
+        depth, part = 0, ""
+        for sign in text + ",":
+            depth += (sign == "{") - (sign == "}")
+            if sign != "," or depth:
+                part += sign
+                continue
+            head, braced, inner = part.strip().partition(".{")
+            if braced:
+                self.take_names(place + head.split("."), inner[:-1], is_handed)
+            elif head:
+                name, _, other = head.partition(" as ")
                 self.imports[other or name] = (place, name)
-                if item.startswith("pub "):
+                if is_handed:
                     self.handed.append(other or name)
+            part = ""
 
 
 class Tree:
@@ -667,7 +693,12 @@ class Writer:
             return self.called("std_" + found[1], BUILT[found[1]], given)
         definition = found[1]
         self.want(definition)
+        late = self.late(definition)
+        given = ["()=>%s" % ("(%s)" % code if code.startswith("{") else code) if i in late else code for i, code in enumerate(given)]
         return self.called(definition.code_name(), self.arity(definition), given)
+
+    def late(self, definition):
+        return LATE.get((definition.module.crate, definition.module.path, definition.name), set())
 
     def arity(self, definition):
         if definition.arity is None:
@@ -776,7 +807,7 @@ class Writer:
                 parser.take()
                 tests, names = [], {}
                 for i in range(arity):
-                    self.matching(self.pattern(parser), "a%d" % i, module, tests, names)
+                    self.matching(self.pattern(parser), "a%d%s" % (i, "()" if i in self.late(definition) else ""), module, tests, names)
                 parser.take("=")
                 node = self.body(parser, definition)
                 lines.append("%sreturn %s;" % ("if(%s)" % "&&".join(tests) if tests else "", self.wrapped(node, module, names)))

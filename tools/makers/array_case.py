@@ -4,8 +4,10 @@
     tools/makers/array_case.py tools/cases/*.scn > crates/array_model/proofs/Stories.antt
 
 Beside each NAME.scn stands its report NAME.out, which comes from outside this repository. The lemmas say that the
-history of the report, played from the scenario, is allowed and leaves the blocks of the report; that the replies are
-those which the report shows; and that a command which met a full queue may not enter it.
+history of the report, played from the scenario, is allowed and leaves the blocks of the report, and the objects and the
+position of each tape; that the replies are those which the report shows; and that a command which met a full queue may not
+enter it. Of a reply that ends with CHECK CONDITION at a tape the report shows the sense alone: its bytes are those that
+cross, which tools/makers/story_case.py compares.
 """
 import pathlib
 import sys
@@ -47,6 +49,20 @@ printed (c ∷ disks) = printed_blocks c ∷ printed disks
 abbrev started : List UnitDef → List FillDef → List Contents
 started [] fills = []
 started (u ∷ units) fills = starting_contents u fills ∷ started units fills
+"""
+
+# For scenarios with tapes.
+TAPES_HEAD = """use Rattle.cdb_codec.specs.declared.Sense.{Sense}
+use Rattle.cdb_codec.specs.declared.status.TheConstants.{CHECK_CONDITION}
+use Rattle.array_model.specs.Reels.{block, filemark}
+use Rattle.array_model.specs.ArrayHistory.{tapes_of}
+"""
+
+TAPES = """\
+-- The sense of a reply that ends with CHECK CONDITION.
+abbrev check_in : Option Reply → Option Sense
+check_in None = None
+check_in (Some reply) = if reply.status == CHECK_CONDITION then Some reply.sense else None
 """
 
 
@@ -163,6 +179,33 @@ def sense_data(words):
     return "f000%02x%08x0a00000000%02x%02x00000000" % (int(words[1], 16) | key, int(words[2]), asc, ascq)
 
 
+def at_tapes(s_lines):
+    """The commands of a scenario that are at a tape."""
+    tapes, commands, n = set(), set(), 0
+    for line in open(s_lines):
+        w = line.split()
+        if w and w[0] == "tape":
+            tapes.add((w[1], w[2]))
+        elif w and w[0] == "cmd":
+            n += 1
+            if (w[2], w[3]) in tapes:
+                commands.add(str(n))
+    return commands
+
+
+def tapes(scn, parts):
+    """What the report says that its tapes hold, in their order."""
+    out = []
+    for line in open(scn):
+        w = line.split()
+        if w and w[0] == "tape":
+            position = [x[3] for x in parts["blocks"] if x[:3] == ["tape", w[1], w[2]]][0]
+            objects = ["filemark" if x[4] == "mark" else "block %s" % octets(x[4]) for x in parts["blocks"] if x[:3] == ["object", w[1], w[2]]]
+            reel = record(objects="(%s)" % items(objects), position=position)
+            out.append(record(count=w[4], size=w[6], touched="[]", reel="Some (%s)" % reel))
+    return out
+
+
 def replies(parts):
     """The replies that the report shows, by process."""
     out = []
@@ -226,11 +269,20 @@ def case(name, scn, out):
     print_scenario(name, scn)
     parts = report(out)
     print_events(name, parts)
-    fills = [record(target=w[1], unit=w[2], lba=w[3], bytes=octets(w[4])) for w in parts["blocks"]]
+    fills = [record(target=w[1], unit=w[2], lba=w[3], bytes=octets(w[4])) for w in parts["blocks"] if w[0] == "block"]
+    at_tape = at_tapes(scn)
     unfolding = "unfolding need_of sent_of ones"
     print("%s_blocks : printed (disks_of (array_after %s (reverse %s_events))) ≡ printed (started %s.units (%s))" % (name, name, name, name, items(fills)))
     print("%s\n%s_blocks = refl\n" % (unfolding, name))
+    held = tapes(scn, parts)
+    if held:
+        print("%s_tapes : tapes_of (array_after %s (reverse %s_events)) ≡ %s" % (name, name, name, items(held)))
+        print("%s\n%s_tapes = refl\n" % (unfolding, name))
     for k, (who, wanted) in enumerate(replies(parts), 1):
+        if wanted.startswith("check_condition") and who.split()[1] in at_tape:
+            print("%s_reply_%d : check_in (reply_of (array_after %s (reverse %s_events)) (%s)) ≡ Some %s" % (name, k, name, name, who, wanted[len("check_condition "):]))
+            print("%s\n%s_reply_%d = refl\n" % (unfolding, name, k))
+            continue
         print("%s_reply_%d : reply_of (array_after %s (reverse %s_events)) (%s) ≡ Some (%s)" % (name, k, name, name, who, wanted))
         print("%s\n%s_reply_%d = refl\n" % (unfolding, name, k))
 
@@ -243,7 +295,12 @@ def case(name, scn, out):
 
 
 def main():
-    print(HEAD)
+    has_tapes = any(at_tapes(scn) for scn in sys.argv[1:])
+    if has_tapes:
+        print(HEAD.replace("{Option, Some, None}", "{Option, Some, None, ◌==◌, if◌then◌else◌}").replace("use lib.", TAPES_HEAD + "use lib.", 1))
+        print(TAPES)
+    else:
+        print(HEAD)
     print(DISKS)
     for scn in sys.argv[1:]:
         name = pathlib.Path(scn).stem

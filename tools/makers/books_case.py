@@ -80,7 +80,8 @@ def main():
         return print_whole(head, test, paths)
     names = [array_case.name_of(scn, "_due") for scn in paths]
     print(head)
-    print("use Rattle.due_model.proofs.Cases.{%s}" % ", ".join("%s, %s_rows" % (name, name) for name in names))
+    file = "TapeCases" if any(array_case.at_tapes(scn) for scn in paths) else "Cases"
+    print("use Rattle.due_model.proofs.%s.{%s}" % (file, ", ".join("%s, %s_rows" % (name, name) for name in names)))
     for name in names:
         print_lemma(name, test)
 

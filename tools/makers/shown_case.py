@@ -11,6 +11,9 @@ import sys
 import array_case
 import run_lemmas
 
+# Where tools/makers/due_case.py wrote the runs: those with tapes apart.
+FILE = "TapeCases" if any(array_case.at_tapes(scn) for scn in sys.argv[1:]) else "Cases"
+
 COMMENT = """-- Whole runs, computed from their scenarios by what is due, are those of the reports. Written by tools/makers/shown_case.py."""
 
 USES = """use Rattle.due_model.specs.Next.{least}
@@ -30,7 +33,7 @@ def main():
     print("use Rattle.std.proofs.Common.{◌≡◌, refl}")
     print(run_lemmas.SHARED)
     print(USES)
-    print("use Rattle.due_model.proofs.Cases.{shown, %s}" % ", ".join("%s, %s_shown" % (name, name) for name in names))
+    print("use Rattle.due_model.proofs.%s.{shown, %s}" % (FILE, ", ".join("%s, %s_shown" % (name, name) for name in names)))
     for name, scn in zip(names, sys.argv[1:]):
         print()
         print_lemma(name, scn)

@@ -23,8 +23,8 @@ use Rattle.cdb_codec.specs.declared.Sense.{Sense}
 use Rattle.cdb_codec.specs.declared.status.TheConstants.{CHECK_CONDITION}
 use Rattle.cdb_codec.specs.Replies.{plain_sense, sense_data}
 use Rattle.array_model.specs.Execution.{Reply, good}
-use Rattle.tape_unit.specs.Reels.{Object, block, filemark}
-use Rattle.tape_unit.specs.Execution.{Tape, check_after}
+use Rattle.array_model.specs.Reels.{Object, block, filemark}
+use Rattle.array_model.specs.TapeExecution.{Tape, check_after}
 use Rattle.tape_unit.specs.Tape.{blank_tape, with_objects, tape_after, tape_reply, is_changed, taken_now}
 
 -- A command and the bytes that it sends.
