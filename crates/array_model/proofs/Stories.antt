@@ -1,7 +1,7 @@
 -- Histories of whole runs, played on the plain disk array and computed: the blocks and the replies are those of
 -- the reports, which an independent simulator printed. Written by tools/makers/array_case.py.
-use Rattle.std.proofs.Common.{ℕ, ◌≡◌, Bool, true, false, List, [], ◌∷◌, reverse, refl}
-use Rattle.std.specs.Prelude.{Option, Some, None}
+use Rattle.std.proofs.Common.{ℕ, ◌≡◌, true, false, List, [], ◌∷◌, reverse, refl}
+use Rattle.std.specs.Prelude.{Some, None}
 use lib.Count.{ones}
 use Rattle.bus_base.specs.declared.ProcId.{ProcId}
 use Rattle.bus_base.specs.declared.AbortKind.TheVariants as aborts
@@ -17,7 +17,7 @@ use Rattle.scenario.specs.declared.value.Payload.TheVariants as payloads
 use Rattle.scenario.specs.Value.{ScenarioValue}
 use Rattle.scenario.specs.Needs.{need_of, sent_of}
 use Rattle.array_model.specs.Contents.{Contents, starting_contents, printed_blocks}
-use Rattle.array_model.specs.Execution.{Reply, good, check_condition, queue_full, sense_of}
+use Rattle.array_model.specs.Execution.{good, check_condition, queue_full, sense_of}
 use Rattle.array_model.specs.ArrayHistory.{array_after, disks_of, reply_of}
 
 abbrev command : ℕ → ProcId

@@ -3,7 +3,6 @@ use Rattle.std.proofs.Common.{arith, ℕ, ◌≡◌, ◌<◌, ◌+◌, ◌^◌, 
 use Rattle.std.proofs.Common.{Some, None}
 use Rattle.std.specs.Prelude.{if◌then◌else◌}
 use Rattle.array_model.specs.Seats as Seats
-use Rattle.array_model.specs.Seats.{seat_of}
 use Rattle.array_model.specs.SoundArray.{IsSound}
 use Rattle.array_model.specs.Units.{RunningProcess, UnitState, Array, unit_state_at, is_held}
 use Rattle.scenario.specs.Value.{ScenarioValue}

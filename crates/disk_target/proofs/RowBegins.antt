@@ -1,5 +1,5 @@
 -- A connection of a target begins.
-use Rattle.std.proofs.Common.{ℕ, ◌≡◌, ◌<◌, ◌+◌, ◌∙◌, arith, Bool, true, false, List, ◌∷◌, refl, sym, subst, Option}
+use Rattle.std.proofs.Common.{ℕ, ◌≡◌, ◌<◌, ◌+◌, ◌∙◌, Bool, true, false, List, ◌∷◌, refl, sym, subst, Option}
 use Rattle.std.proofs.Common.{Some, None, ◌⊎◌, inl, inr}
 use Rattle.std.specs.Prelude.{if◌then◌else◌, ◌&&◌, is_none}
 use Rattle.std.proofs.lemmas.Bool.{and_parts, eqb-true}

@@ -1,6 +1,5 @@
 -- What the target of a connection knows of the process that it serves, and of the queue of its unit.
 use Rattle.std.specs.Prelude.{ℕ, Bool, not, ◌&&◌, ◌==◌, List, [], length, Option, Some, None, is_some, nat_lt}
-use Rattle.std.specs.Prelude.{if◌then◌else◌}
 use Rattle.std.specs.List.{list_any}
 use Rattle.bus_rules.specs.cdb_codec.specs.Cdb.{has_group_len, command_of}
 use Rattle.dialogue_model.specs.scenario.specs.Needs.{is_write}

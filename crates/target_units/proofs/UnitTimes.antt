@@ -1,6 +1,6 @@
 -- The units of the array stand in one order, each of its kind, with as many blocks of as many bytes, and their times
 -- beside them; and what was replied stays so.
-use Rattle.std.proofs.Common.{ℕ, ◌≡◌, ◌+◌, suc, Bool, true, false, List, [], ◌∷◌, ◌++◌, ◌∙◌, refl, sym, ap, subst}
+use Rattle.std.proofs.Common.{ℕ, ◌≡◌, suc, Bool, true, false, List, [], ◌∷◌, ◌++◌, ◌∙◌, refl, sym, ap, subst}
 use Rattle.std.proofs.Common.{length, Option, Some, None}
 use Rattle.std.specs.Prelude.{if◌then◌else◌, ◌&&◌, ◌||◌, ◌==◌, not, is_some, is_none, nat_lt}
 use Rattle.std.proofs.lemmas.Bool.{eqb-true}

@@ -1,9 +1,9 @@
 -- A row with which a phase begins, and those up to its first REQ.
 use Rattle.link_laws.proofs
-use proofs.Names.{ℕ, ◌≡◌, ◌≤◌, ◌<◌, ◌+◌, Bool, true, false, not, ◌&&◌, ◌||◌, ◌==◌, ◌∙◌, List, ◌∷◌, Option, None, refl}
-use proofs.Names.{sym, ap, arith, inl, inr, cases_Bool, nat_tests, if◌then◌else◌, max, or_false, eq_self, rises, falls}
-use proofs.Names.{implies, data_of, same, changes_phase, receiver, last_time, since, newer_line, line_times, phase_time}
-use proofs.Names.{Row, Change, Connection, LineTimes, handshakes, no_handshakes, pulses, no_pulses, duty, duty_left}
+use proofs.Names.{ℕ, ◌≡◌, ◌≤◌, ◌<◌, ◌+◌, Bool, true, false, not, ◌&&◌, ◌||◌, ◌==◌, ◌∙◌, List, ◌∷◌, None, refl, sym, ap}
+use proofs.Names.{arith, inl, inr, cases_Bool, nat_tests, if◌then◌else◌, max, or_false, eq_self, rises, falls, implies}
+use proofs.Names.{data_of, same, changes_phase, receiver, last_time, since, newer_line, line_times, phase_time, Row}
+use proofs.Names.{Change, Connection, LineTimes, handshakes, no_handshakes, pulses, no_pulses, duty, duty_left}
 use proofs.Names.{duty_if_held, turned, is_attention_held, Duty, ScenarioValue, begun, EndLines, initiator_side}
 use proofs.Names.{target_side, connected_bus, Linked, BeginsSelected, ends_selected, change_to, CalmStanding}
 use proofs.Names.{KeepsBooksIn, when_settling, ends, fits_duty, is_owed_out, InPhase, HasTurned, Settling, Turning}

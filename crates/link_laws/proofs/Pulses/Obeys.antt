@@ -2,8 +2,8 @@
 use Rattle.link_laws.proofs
 use proofs.Names.{ℕ, ◌≡◌, ◌≢◌, ◌≤◌, ◌+◌, Bool, true, false, not, None, sym, arith, ◌==◌, ◌||◌, ne_eqb, true≢false}
 use proofs.Names.{nat_tests, or_zero_r, or_self, nat_le, nat_lt, is_some, eq_self, times_of, implies, Connection}
-use proofs.{Names.{TURN_DELAY, is_after, ends}, Lines.{Edges.{frees_bus}, Obeys.{target_breaks, initiator_breaks}}}
-use proofs.Lines.{Obeys.{same_phases, MayAsk}, Seen.{Around}}
+use proofs.{Names.{TURN_DELAY, is_after, ends}, Lines.Obeys.{target_breaks, initiator_breaks, same_phases, MayAsk}}
+use proofs.Lines.Seen.{Around}
 
 -- REQ rises a period after the last pulse, a negation period after its end, and while there is room.
 pub record MayPulse (v : Around) (n : Connection) (io : Bool) (t : ℕ) : Type 0 where
