@@ -43,7 +43,7 @@ BINARY = {"||": (30, "r"), "&&": (35, "r"), "==": (50, "n"), "++": (65, "l"), "+
 BUILT = {
     "not": 1, "nat_lt": 2, "nat_le": 2, "is_some": 1, "is_none": 1, "length": 1, "take": 2, "drop": 2, "replicate": 2, "max": 2, "min": 2, "suc": 1,
     "codes": 1, "slice_index": 2, "slice_index_or": 3, "slice_get": 2, "slice_set": 3, "list_any": 2, "list_all": 2, "find": 2, "reverse": 1, "map": 2, "flat_map": 2,
-    "nat_abs": 1, "twos_complement": 2,
+    "nat_abs": 1, "twos_complement": 2, "decimal": 1,
     "big_number": 2, "big_bytes": 2, "bit_or": 2, "bit_and": 2, "bit_at": 2, "count_ones": 1, "option_map": 2, "filter": 2, "option_and_then": 2,
 }
 # Arguments that are computed only where they are wanted, by the place among the others: as many filemarks as a command counts, for which there is
@@ -73,6 +73,7 @@ const std_list_any = (f, l) => { while (l !== NIL) { if (f(l._0)) return true; l
 const std_list_all = (f, l) => { while (l !== NIL) { if (!f(l._0)) return false; l = l._1; } return true; };
 const std_find = (f, l) => { while (l !== NIL) { if (f(l._0)) return some(l._0); l = l._1; } return NONE; };
 const std_codes = s => onto([...s].map(c => c.codePointAt(0)), NIL);
+const std_decimal = n => std_codes(String(n));
 const std_filter = (f, l) => onto(array(l).filter(x => f(x)), NIL);
 const std_reverse = l => { let r = NIL; while (l !== NIL) { r = cons(l._0, r); l = l._1; } return r; };
 const std_map = (f, l) => onto(array(l).map(x => f(x)), NIL);

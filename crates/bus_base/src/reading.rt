@@ -10,6 +10,8 @@ ghost use Rattle.bus_base.specs.declared.reading.ReadEnd.TheVariants.{NoMemory a
 use super::failures::Failed;
 use super::input::Source;
 use std::alloc::{AllocError, Global};
+use std::error::Error;
+use std::fmt;
 
 /// How many bytes the buffer holds through which a source is read.
 pub const BUFFER: usize = 65_536;
@@ -22,6 +24,22 @@ pub enum Cut {
     /// A read failed.
     Fault,
 }
+
+impl fmt::Display for Cut {
+    ghost use Rattle.std.specs.Prelude.{Some};
+    ghost use Rattle.bus_base.specs.ReadingText.{cut_text};
+
+    ghost output = { λ e. Some (cut_text e) };
+
+    fn fmt<W: fmt::Write>(&self, f: &mut fmt::Formatter<W>) -> fmt::Result {
+        match self {
+            Cut::TooLong => f.write_str("more bytes than the limit"),
+            Cut::Fault => f.write_str("a read failed"),
+        }
+    }
+}
+
+impl Error for Cut {}
 
 impl From<Failed> for Cut {
     ghost from_gives = { λ _ e. e ≡ cuts.Fault };
@@ -41,6 +59,23 @@ pub enum ReadEnd {
     /// There was no memory left.
     NoMemory,
 }
+
+impl fmt::Display for ReadEnd {
+    ghost use Rattle.std.specs.Prelude.{Some};
+    ghost use Rattle.bus_base.specs.ReadingText.{read_end_text};
+
+    ghost output = { λ e. Some (read_end_text e) };
+
+    fn fmt<W: fmt::Write>(&self, f: &mut fmt::Formatter<W>) -> fmt::Result {
+        match self {
+            ReadEnd::TooLong => f.write_str("more bytes than the limit"),
+            ReadEnd::Fault => f.write_str("a read failed"),
+            ReadEnd::NoMemory => f.write_str("no memory"),
+        }
+    }
+}
+
+impl Error for ReadEnd {}
 
 impl From<Cut> for ReadEnd {
     ghost from_gives = { λ cut e. e ≡ end_of cut };

@@ -7,6 +7,7 @@ pub mod Connected
 pub mod Transfer
 pub mod Messages
 pub mod Rules
+pub mod VerdictText
 pub mod Judging
 pub mod Lawful
 pub mod DataRows

@@ -1,5 +1,6 @@
 pub mod Operations
 pub mod Cdb
+pub mod FaultText
 pub mod Blocks
 pub mod Replies
 pub mod TapeOperations

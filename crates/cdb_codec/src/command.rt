@@ -1,6 +1,9 @@
 //! Commands, what is wrong with a block, and sense.
 ghost use Rattle.std.specs.Prelude.{◌≡◌};
 
+use std::error::Error;
+use std::fmt;
+
 /// A command that a target carries out. Blocks are those of the logical unit, the first of them 0.
 #[derive(Clone, Copy, PartialEq, Eq, Debug)]
 pub enum Command {
@@ -36,6 +39,23 @@ pub enum CdbFault {
     /// A bit or byte that no field names is not 0, or control is not.
     Field,
 }
+
+impl fmt::Display for CdbFault {
+    ghost use Rattle.std.specs.Prelude.{Some};
+    ghost use Rattle.cdb_codec.specs.FaultText.{cdb_fault_text};
+
+    ghost output = { λ fault. Some (cdb_fault_text fault) };
+
+    fn fmt<W: fmt::Write>(&self, f: &mut fmt::Formatter<W>) -> fmt::Result {
+        match self {
+            CdbFault::Opcode => f.write_str("no operation code that is known"),
+            CdbFault::Length => f.write_str("not as many bytes as the operation code's group has"),
+            CdbFault::Field => f.write_str("a bit that must be 0 is not"),
+        }
+    }
+}
+
+impl Error for CdbFault {}
 
 /// Sense: why a command ended with CHECK CONDITION, and how far a tape came (clause 8.2.14).
 #[derive(Clone, Copy, PartialEq, Eq, Debug)]

@@ -18,6 +18,8 @@ mod driven_rows;
 #[cfg(test)]
 mod dumps;
 #[cfg(test)]
+mod error_texts;
+#[cfg(test)]
 mod hands;
 #[cfg(test)]
 mod host_pointers;

@@ -8,6 +8,7 @@ pub mod Index
 pub mod Seen
 pub mod Writing
 pub mod Reasons
+pub mod ReasonText
 pub mod Making
 -- Handed on to the crates above that list this one and not these.
 pub use Rattle.bus_base

@@ -2,9 +2,12 @@
 ghost use Rattle.std.specs.Prelude.{◌≡◌};
 ghost use Rattle.scenario.specs.declared.fault.Refusal.TheVariants.{Memory};
 
+use crate::reasons::meaning;
 use std::alloc::{AllocError, AllocFailed};
+use std::error::Error;
+use std::fmt;
 
-/// Why a text is no scenario.
+/// Why a text is no scenario. It prints as its line, its reason, and what the reason means.
 #[derive(Clone, Copy, Debug, PartialEq, Eq)]
 pub enum Bad {
     /// The first line with a reason, the first line of a text being 1, and its lowest reason, 1 to 8.
@@ -13,6 +16,25 @@ pub enum Bad {
     /// Memory ran out.
     NoMemory,
 }
+
+impl fmt::Display for Bad {
+    ghost use Rattle.std.specs.Prelude.{Some};
+    ghost use Rattle.scenario.specs.ReasonText.{bad_text};
+
+    ghost output = { λ e. Some (bad_text e) };
+
+    fn fmt<W: fmt::Write>(&self, f: &mut fmt::Formatter<W>) -> fmt::Result {
+        match *self {
+            Bad::At { line, reason } => {
+                let meaning = meaning(reason);
+                write!(f, "line {line}, reason {reason}: {meaning}")
+            }
+            Bad::NoMemory => f.write_str("no memory"),
+        }
+    }
+}
+
+impl Error for Bad {}
 
 /// What is wrong with one line.
 #[derive(Drop)]

@@ -11,7 +11,7 @@
 //! ([`reads_back`]). [`make`] gives the scenario of a number, which obeys the rules. [`need`] tells how many bytes a
 //! command moves. The definitions stand in specs/: `Forms` and `Parts` (what a line says), `Reading` (line after line),
 //! `Reasons` (each reason as a test, of which the lowest is told), `Needs`, `Writing` (the spelling, and the rules),
-//! and `Making` (the scenario of a number).
+//! `Making` (the scenario of a number), and `ReasonText` (what a refusal prints).
 #![tactic(auto)]
 
 mod bounds;
@@ -27,6 +27,7 @@ mod lookup;
 mod making;
 mod needs;
 mod reading;
+mod reasons;
 mod value;
 mod writing;
 

@@ -13,11 +13,25 @@ use array_model::{Dev, Entry, Pick, ProcId};
 use bus_base::NoMemory;
 use slab::Slab;
 use std::alloc::Global;
+use std::error::Error;
+use std::fmt;
 use std::marker::Model;
 
 /// The queue is at its depth.
 #[derive(Clone, Copy, Debug, PartialEq, Eq)]
 pub struct Full;
+
+impl fmt::Display for Full {
+    ghost use Rattle.std.specs.Prelude.{Some, codes};
+
+    ghost output = { λ _. Some (codes "the queue is at its depth") };
+
+    fn fmt<W: fmt::Write>(&self, f: &mut fmt::Formatter<W>) -> fmt::Result {
+        f.write_str("the queue is at its depth")
+    }
+}
+
+impl Error for Full {}
 
 /// The commands of a logical unit that wait or are current, and the initiators that stand in its hold.
 #[derive(Drop)]

@@ -10,3 +10,4 @@ pub mod Lines
 pub mod Pieces
 pub mod Bytes
 pub mod Whole
+pub mod BadText

@@ -10,6 +10,8 @@ use crate::limit::LIMIT;
 use bus_base::Ns;
 use row_store::RowStore;
 use std::alloc::Global;
+use std::error::Error;
+use std::fmt;
 
 /// What a trace text says.
 #[derive(Drop)]
@@ -29,6 +31,28 @@ pub enum TraceBad {
     /// Memory ran out.
     NoMemory,
 }
+
+impl fmt::Display for TraceBad {
+    ghost use Rattle.std.specs.Prelude.{Some};
+    ghost use Rattle.trace_text.specs.BadText.{trace_bad_text};
+
+    ghost output = { λ e. Some (trace_bad_text e) };
+
+    fn fmt<W: fmt::Write>(&self, f: &mut fmt::Formatter<W>) -> fmt::Result {
+        match *self {
+            TraceBad::At { line } => {
+                if line == 0 {
+                    f.write_str("a text of more than 1,073,741,824 bytes")
+                } else {
+                    write!(f, "line {line} breaks the form of a trace")
+                }
+            }
+            TraceBad::NoMemory => f.write_str("no memory"),
+        }
+    }
+}
+
+impl Error for TraceBad {}
 
 /// The trace that the text says, or its first line that breaks the form.
 pub fn read_trace(alloc: Global, bytes: &[u8]) -> Result<Trace, TraceBad>

@@ -5,5 +5,6 @@ pub mod Codes
 pub mod KeptDigits
 pub mod Steps
 pub mod Reading
+pub mod BadText
 pub mod Kept
 pub mod Readable

@@ -9,6 +9,8 @@ use crate::reader::VcdReader;
 use bus_base::Ns;
 use row_store::RowStore;
 use std::alloc::{AllocError, Global};
+use std::error::Error;
+use std::fmt;
 
 /// What a dump says.
 #[derive(Drop)]
@@ -28,6 +30,22 @@ pub enum VcdBad {
     /// Memory ran out.
     NoMemory,
 }
+
+impl fmt::Display for VcdBad {
+    ghost use Rattle.std.specs.Prelude.{Some};
+    ghost use Rattle.vcd_text.specs.BadText.{vcd_bad_text};
+
+    ghost output = { λ e. Some (vcd_bad_text e) };
+
+    fn fmt<W: fmt::Write>(&self, f: &mut fmt::Formatter<W>) -> fmt::Result {
+        match *self {
+            VcdBad::At { line } => write!(f, "line {line} breaks the form of a dump"),
+            VcdBad::NoMemory => f.write_str("no memory"),
+        }
+    }
+}
+
+impl Error for VcdBad {}
 
 impl From<AllocError> for VcdBad {
     ghost from_gives = { λ _ e. e ≡ NoMemory };
