@@ -165,6 +165,27 @@ fn run_in<L: Ledger>(
 /// # Errors
 ///
 /// Only where memory ran out.
+///
+/// # Examples
+///
+/// With `read` of `scenario`; `L` is the ledger of `blank`, as [`Steps::new`] asks:
+///
+/// ```rust
+/// let text = "scsi 1\n\
+///     initiator 7 latency 0 open 1 retries 2 sync 0 0 lag 0\n\
+///     target 0 latency 0 retries 2 disc never pick first seek 0 sync 0 0\n\
+///     unit 0 0 blocks 1 size 16 depth 1\n\
+///     fill 0 0 0 000102030405060708090a0b0c0d0e0f\n\
+///     cmd 7 0 0 at 0 untagged cdb 080000000100 none\n\
+///     end\n";
+/// let Ok(scenario) = read(alloc, text.as_bytes()) else {
+///     panic!(rt; "it is a scenario");
+/// };
+/// let mut steps = Steps::<L>::new(blank);
+/// let run = bus_engine::run(alloc, &scenario, &mut steps)?;
+/// assert!(rt; run.rows.len() == 120);
+/// assert!(rt; run.end == 9080);
+/// ```
 pub fn run<L: Ledger>(
     alloc: Global,
     scenario: &Scenario,

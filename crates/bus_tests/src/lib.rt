@@ -8,6 +8,8 @@
 #![tactic(auto)]
 
 #[cfg(test)]
+mod doc_examples;
+#[cfg(test)]
 mod hosts;
 #[cfg(test)]
 mod trace_texts;

@@ -415,6 +415,22 @@ fn transcript(alloc: Global, rows: &RowStore) -> Result<Transcript, NoMemory>
 /// # Errors
 ///
 /// `NoMemory` where there was no memory left.
+///
+/// # Examples
+///
+/// With `read_trace` of `trace_text`, and `MemSink` of `bus_base`:
+///
+/// ```rust
+/// // Device 2 resets the bus, for a reset hold time.
+/// let text = "trace 1\n8855 2 20000\n33855 2 00000\nend 33855\n";
+/// let Ok(trace) = read_trace(rt.alloc(), text.as_bytes()) else {
+///     panic!(rt; "it is a trace");
+/// };
+/// let transcript = transcribe(rt.alloc(), &trace.rows, trace.end)?;
+/// let mut out = MemSink::new(rt.alloc(), 64, 64, &[])?;
+/// assert!(rt; print_transcript(&transcript, &mut out) == Ok(()));
+/// assert!(rt; out.bytes() == b"transcript 1\nreset 2\ndone\n".as_slice());
+/// ```
 pub fn transcribe(alloc: Global, rows: &RowStore, end: Ns) -> Result<Transcript, NoMemory>
     requires { AllByRecursion IsOfDevice rows.now }
     ensures { IfOk result (λ transcript. transcript.items.items ≡ transcript_of (reverse rows.now)) }

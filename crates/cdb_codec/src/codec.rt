@@ -73,6 +73,17 @@ fn ten_bytes(code: u8, lba: u32, count: u16) -> ArrayVec<u8, 10>
 /// The command that a block says, or the first fault that applies: an operation code that is none of
 /// ours, a length that is not its group's, a bit that must be 0. No bytes at all have no operation
 /// code to look at: they are a fault of length.
+///
+/// # Examples
+///
+/// ```rust
+/// // READ(6) of one block, block 0.
+/// let command = Command::Read6 { lba: 0, count: 1 };
+/// assert!(rt; from_cdb(&[0x08, 0, 0, 0, 1, 0]) == Ok(command));
+/// // A byte is missing; MODE SELECT(6) is no command that is known.
+/// assert!(rt; from_cdb(&[0x08, 0, 0, 0, 1]) == Err(CdbFault::Length));
+/// assert!(rt; from_cdb(&[0x15, 0, 0, 0, 0, 0]) == Err(CdbFault::Opcode));
+/// ```
 pub fn from_cdb(bytes: &[u8]) -> Result<Command, CdbFault>
     ensures exact { result ≡ command_of bytes.now }
     ensures fits { IfOk result FitsCdb }

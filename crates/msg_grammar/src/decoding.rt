@@ -10,6 +10,19 @@ use crate::message::{Got, MsgIn, MsgOut};
 use bus_trace::Agreement;
 
 /// The message to the target that the bytes begin with.
+///
+/// # Examples
+///
+/// ```rust
+/// let identify = MsgOut::Identify {
+///     disc: false,
+///     lun: 3,
+/// };
+/// assert!(rt; decode_out(&[0x83, 0x20, 9]) == Got::Whole(identify, 1));
+/// // A queue tag message is whole with its tag.
+/// assert!(rt; decode_out(&[0x20]) == Got::More);
+/// assert!(rt; decode_out(&[0x20, 9]) == Got::Whole(MsgOut::SimpleTag(9), 2));
+/// ```
 #[tactic(auto, unfolding(crate::specs::Messages::form_out))]
 pub fn decode_out(bytes: &[u8]) -> Got<MsgOut>
     ensures exact { result ≡ got_out bytes.now }
@@ -48,6 +61,14 @@ pub fn decode_out(bytes: &[u8]) -> Got<MsgOut>
 }
 
 /// The message to the initiator that the bytes begin with.
+///
+/// # Examples
+///
+/// ```rust
+/// assert!(rt; decode_in(&[0x85]) == Got::Whole(MsgIn::Identify { lun: 5 }, 1));
+/// // BUS DEVICE RESET goes to the target alone.
+/// assert!(rt; decode_in(&[0x0c]) == Got::Unknown);
+/// ```
 #[tactic(auto, unfolding(crate::specs::Messages::form_in))]
 pub fn decode_in(bytes: &[u8]) -> Got<MsgIn>
     ensures exact { result ≡ got_in bytes.now }

@@ -14,6 +14,8 @@ mod commands;
 #[cfg(test)]
 mod disks;
 #[cfg(test)]
+mod doc_examples;
+#[cfg(test)]
 mod driven_rows;
 #[cfg(test)]
 mod dumps;

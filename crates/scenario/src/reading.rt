@@ -21,6 +21,21 @@ fn told(refusal: Refusal, line: u32) -> Bad
 }
 
 /// The scenario that the text says, or its first line with a reason and the lowest reason there.
+///
+/// # Examples
+///
+/// ```rust
+/// let text = "scsi 1\ninitiator 7 latency 0 open 1 retries 2 sync 0 0 lag 0\nend\n";
+/// let Ok(scenario) = read(rt.alloc(), text.as_bytes()) else {
+///     panic!(rt; "it is a scenario");
+/// };
+/// assert!(rt; scenario.hosts.len() == 1);
+/// // There is no text 4, so the line has none of the forms.
+/// let Err(bad) = read(rt.alloc(), b"scsi 4\nend\n") else {
+///     panic!(rt; "it is none");
+/// };
+/// assert!(rt; bad == Bad::At { line: 1, reason: 2 });
+/// ```
 pub fn read(alloc: Global, bytes: &[u8]) -> Result<Scenario, Bad>
     // Which it is.
     ensures exact { Answers result (scenario_of bytes.now) }

@@ -19,6 +19,25 @@ pub use bus_trace::{Kind, Lines, Row};
 pub use saved::{SavedJudge, SavedVerdict};
 
 /// A judge of the rows of a trace so far.
+///
+/// # Examples
+///
+/// With the trait `bitflags::Flags`, by which [`Lines`] are made of their bits:
+///
+/// ```rust
+/// let mut judge = Judge::new();
+/// // Device 7 enters an arbitration as soon as it may.
+/// let mut row = Row {
+///     time: 1200,
+///     dev: 7,
+///     kind: Kind::Drives(Lines::from_bits_retain(0x280)),
+/// };
+/// assert!(rt; judge.feed(&row) == Verdict::Lawful);
+/// // At 1300 it drives what it drove already.
+/// row.time = 1300;
+/// assert!(rt; judge.feed(&row) == Verdict::Broken { row: 2, rule: 2 });
+/// assert!(rt; judge.finish(1300) == Verdict::Broken { row: 2, rule: 2 });
+/// ```
 #[derive(Drop)]
 pub struct Judge {
     terms: Terms,
