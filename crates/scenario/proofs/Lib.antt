@@ -1,5 +1,6 @@
 pub mod Reader
 pub mod Insert
+pub mod HexDigits
 pub mod TapeNeeds
 pub mod UnitLines
 pub mod PartsAgain

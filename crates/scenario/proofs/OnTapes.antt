@@ -1,8 +1,6 @@
 -- A load is for a tape, so where there is no tape there is no load.
-use Rattle.std.proofs.Common.{ℕ, suc, ◌≡◌, Bool, false, not, List, [], ◌∷◌, ◌++◌, length, Option, Some, None, Ok}
-use Rattle.std.proofs.Common.{refl, sym, ap, subst, ◌∙◌, arith}
-use Rattle.std.specs.Prelude.{◌==◌}
-use Rattle.std.proofs.lemmas.Bool.Decides.{nat_tests}
+use Rattle.std.proofs.Common.{◌≡◌, List, [], ◌∷◌, ◌++◌, Option, Some, None, Ok}
+use Rattle.std.proofs.Common.{refl, ap, subst}
 use Rattle.scenario.specs.declared.value.TapeDef.{TapeDef}
 use Rattle.scenario.specs.declared.value.LoadDef.{LoadDef}
 use Rattle.scenario.specs.Value.{ScenarioValue}

@@ -133,11 +133,12 @@ fn is_block_of(unit: &UnitDef, lba: u64, bytes: &[u8]) -> bool
 pub(crate) fn fill_def(
     alloc: Global,
     scenario: &Scenario,
-    blocks: &BTreeSet<((u8, u8), u64)>,
+    blocks: &BTreeSet<u64>,
     form: FillForm<'_>,
 ) -> Result<FillDef, Refusal>
     requires { IsIndexOf blocks.now scenario.now.fills }
-    ensures { Gives (λ def. def) result (fill_def scenario.now (fill_said form.entry)) }
+    ensures exact { Gives (λ def. def) result (fill_def scenario.now (fill_said form.entry)) }
+    ensures place { IfOk result (λ def. (def.target < 8) × (def.unit < 8)) }
 {
     let target = in_8(form.target)?;
     let unit = in_8(form.unit)?;

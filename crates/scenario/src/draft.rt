@@ -26,8 +26,8 @@ pub(crate) struct Draft {
     pub last: Kind,
     /// How many bytes the commands need.
     pub needs: u32,
-    /// The blocks of the fills.
-    pub blocks: BTreeSet<((u8, u8), u64)>,
+    /// The numbers of the blocks of the fills.
+    pub blocks: BTreeSet<u64>,
     /// How many objects the loads put on the tape of each target and number.
     pub loaded: [u32; 64],
 }

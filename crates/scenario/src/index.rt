@@ -1,43 +1,17 @@
 //! The blocks that were filled, in a set, and how many objects were loaded on each tape, so that no line is compared
 //! with all those before it.
-ghost use Rattle.std.specs.Prelude.{◌≡◌, ◌<◌, ◌+◌, ◌-◌, ◌*◌, ◌^◌, ◌∷◌, [], ◌++◌, List, OnOk};
+ghost use Rattle.std.specs.Prelude.{◌≡◌, ◌==◌, ◌<◌, ◌+◌, ◌-◌, ◌*◌, ◌^◌, ◌∷◌, [], ◌++◌, List, OnOk};
+ghost use Rattle.std.specs.List.{list_any};
 ghost use Rattle.scenario.specs.declared.value.FillDef.{FillDef};
 ghost use Rattle.scenario.specs.declared.value.LoadDef.{LoadDef};
 ghost use Rattle.scenario.specs.Lookups.{has_fill, loads_at};
-ghost use Rattle.scenario.specs.Index.{IsIndexOf, IsCountOf};
+ghost use Rattle.scenario.specs.Index.{block_number, IsIndexOf, IsCountOf};
 
 use crate::value::{FillDef, LoadDef, Scenario};
 use std::alloc::AllocError;
 use std::collections::BTreeSet;
 
-/// Whether the block was filled.
-pub(crate) fn is_filled(blocks: &BTreeSet<((u8, u8), u64)>, target: u8, unit: u8, lba: u64) -> bool
-    ensures { (fills : List FillDef) → IsIndexOf blocks.now fills → result ≡ has_fill fills target unit lba }
-{
-    blocks.contains(&((target, unit), lba))
-}
-
-fn block_of(def: &FillDef) -> ((u8, u8), u64)
-    ensures { result ≡ ((def.now.target, def.now.unit), def.now.lba) }
-{
-    ((def.target, def.unit), u64::from(def.lba))
-}
-
-/// One fill more.
-pub(crate) fn add_fill(
-    scenario: &mut Scenario,
-    blocks: &mut BTreeSet<((u8, u8), u64)>,
-    def: FillDef,
-) -> Result<(), AllocError>
-    ensures added { OnOk result (scenario.new ≡ record scenario.old { fills = scenario.old.fills ++ def ∷ [] }) }
-    ensures index { OnOk result (IsIndexOf blocks.old scenario.old.fills → IsIndexOf blocks.new scenario.new.fills) }
-{
-    blocks.insert(block_of(&def))?;
-    scenario.add_fill(def)?;
-    Ok(())
-}
-
-// Where the count of a unit stands.
+// Where a unit stands among all units.
 fn place(target: u8, unit: u8) -> usize
     requires target { target < 8 }
     requires unit { unit < 8 }
@@ -45,6 +19,54 @@ fn place(target: u8, unit: u8) -> usize
     ensures inside { result < 64 }
 {
     usize::from(target) * 8 + usize::from(unit)
+}
+
+// The number of a block among those of all units, of which each has 2^32.
+fn block_number(target: u8, unit: u8, lba: u32) -> u64
+    requires target { target < 8 }
+    requires unit { unit < 8 }
+    ensures exact { result ≡ block_number target unit lba }
+    ensures low { lba < 2 ^ 32 }
+{
+    place(target, unit) as u64 * (1 << 32) + u64::from(lba)
+}
+
+// Whether the set has the number. Most texts fill blocks in rising order, and the greatest number tells then.
+fn has_number(blocks: &BTreeSet<u64>, number: u64) -> bool
+    ensures { result ≡ list_any (λ k. k == number) blocks.now.keys }
+{
+    match blocks.last() {
+        Some(last) if *last < number => false,
+        _ => blocks.contains(&number),
+    }
+}
+
+/// Whether the block was filled.
+pub(crate) fn is_filled(blocks: &BTreeSet<u64>, target: u8, unit: u8, lba: u64) -> bool
+    requires target { target < 8 }
+    requires unit { unit < 8 }
+    ensures { (fills : List FillDef) → IsIndexOf blocks.now fills → result ≡ has_fill fills target unit lba }
+{
+    if lba > u64::from(u32::MAX) {
+        return false;
+    }
+    has_number(blocks, block_number(target, unit, lba as u32))
+}
+
+/// One fill more.
+pub(crate) fn add_fill(
+    scenario: &mut Scenario,
+    blocks: &mut BTreeSet<u64>,
+    def: FillDef,
+) -> Result<(), AllocError>
+    requires target { def.target < 8 }
+    requires unit { def.unit < 8 }
+    ensures added { OnOk result (scenario.new ≡ record scenario.old { fills = scenario.old.fills ++ def ∷ [] }) }
+    ensures index { OnOk result (IsIndexOf blocks.old scenario.old.fills → IsIndexOf blocks.new scenario.new.fills) }
+{
+    blocks.insert(block_number(def.target, def.unit, def.lba))?;
+    scenario.add_fill(def)?;
+    Ok(())
 }
 
 /// How many objects were loaded there.

@@ -13,7 +13,7 @@ use crate::value::{Policy, Tag};
 use bus_base::AbortKind;
 use cdb_codec::group_len;
 use std::alloc::{AllocError, Global};
-use text_words::{Number, hex_value};
+use text_words::{Number, decode};
 
 /// Refuses what does not hold, for this reason.
 pub(crate) fn require(reason: u8, holds: bool) -> Result<(), Refusal>
@@ -179,20 +179,27 @@ pub(crate) fn answer_or(otherwise: bool, said: Option<bool>) -> bool
 pub(crate) fn decoded(alloc: Global, digits: &[u8]) -> Result<Vec<u8>, AllocError>
     ensures { IfOk result (λ v. v.items ≡ bytes_of digits.now) }
 {
-    let mut bytes = Vec::new(alloc);
-    let mut rest = digits;
-    while let [high, low, others @ ..] = rest {
-        bytes.push(hex_value(*high) * 16 + hex_value(*low))?;
-        rest = others;
-    }
+    let len = digits.len() / 2;
+    let mut bytes = vec![in alloc; 0; len]?;
+    decode(&digits[..len * 2], &mut bytes);
     Ok(bytes)
 }
 
-/// Whether each byte is one of 20 to 7e.
+fn is_printable(byte: u8) -> bool
+    ensures { result ≡ is_printable byte }
+{
+    0x20 <= byte && byte <= 0x7e
+}
+
+/// Whether each byte is one of 20 to 7e. It looks at all of them, so that the compiler can take many at once.
 pub(crate) fn are_printable(text: &[u8]) -> bool
     ensures { result ≡ list_all is_printable text.now }
 {
-    text.iter().all(|b| 0x20 <= *b && *b <= 0x7e)
+    let mut are = true;
+    for byte in text {
+        are &= is_printable(*byte);
+    }
+    are
 }
 
 /// Whether the line answer_or nothing.

@@ -1,11 +1,15 @@
 -- The first line of a text.
-use Rattle.std.proofs.Common.{◌≡◌, ℕ, suc, ◌+◌, ◌-◌, ◌<◌, ◌≤◌, Bool, true, false, cond, ltb, List, [], ◌∷◌, Some, None}
-use Rattle.std.proofs.Common.{refl, sym, subst, ap, take_all, ◌∙◌, arith, drop, length, take}
+use Rattle.std.proofs.Common.{◌≡◌, ℕ, suc, ◌+◌, ◌-◌, ◌<◌, ◌≤◌, Bool, true, false, cond, ltb, List, [], ◌∷◌, Option}
+use Rattle.std.proofs.Common.{Some, None}
+use Rattle.std.proofs.Common.{refl, sym, subst, ap, take_all, ◌∙◌, arith, drop, get_or, length, take}
 use Rattle.std.specs.Prelude.{◌==◌}
 use Rattle.std.specs.List.{position_or_len, position}
 use Rattle.std.proofs.lemmas.Option.{cond_some}
-use Rattle.std.proofs.lemmas.Bool.{ltb-true, ltb-false}
+use Rattle.std.proofs.lemmas.Bool.{ltb-true, ltb-false, lt-ltb}
 use Rattle.std.proofs.lemmas.List.{length-drop}
+use Rattle.std.proofs.lemmas.List.Sums.{position_or_len_is}
+use Rattle.std.specs.Prelude.{IfSome}
+use Rattle.memchr.specs.Find.{IsFirstByte, is_byte}
 use Rattle.text_words.specs.Lines.{Line, lines_of, onto}
 
 abbrev pub feed_at : List ℕ → ℕ
@@ -73,3 +77,32 @@ last_unfed bs some none = line_without_feed bs (not_found (ltb (feed_at bs) (len
       → length bs ≤ feed_at bs
   not_found true e n = absurd cc
   not_found false e n = ltb-false _ _ e
+
+false_unless : (b : Bool) → ¬ (b ≡ true) → b ≡ false
+false_unless true isnt = absurd (isnt refl)
+false_unless false isnt = refl
+
+found_none : (bs : List ℕ) → feed_at bs ≡ length bs → None ≡ position (λ b. b == 10) bs
+found_none bs e =
+    sym (ap (λ (q : Bool). cond q (Some (feed_at bs)) None) (none_below (ltb (feed_at bs) (length bs)) refl))
+  where
+    none_below : (q : Bool) → ltb (feed_at bs) (length bs) ≡ q → q ≡ false
+    none_below true low = let lt = ltb-true _ _ low in absurd (omega arith)
+    none_below false low = refl
+
+found_some : (bs : List ℕ) (at : ℕ) → feed_at bs ≡ at → at < length bs → Some at ≡ position (λ b. b == 10) bs
+found_some bs at e lt =
+    sym (ap (λ (q : Bool). cond q (Some (feed_at bs)) None) (lt-ltb (feed_at bs) (length bs) (omega arith)) ∙ ap Some e)
+
+-- A search for the first line feed finds its position.
+pub first_feed : (bs : List ℕ) (r : Option ℕ) → IsFirstByte (is_byte 10) bs r → r ≡ position (λ b. b == 10) bs
+first_feed bs None nowhere =
+    found_none bs (position_or_len_is (λ b. b == 10) bs (length bs) 0 (omega arith)
+    (λ k lt. false_unless (get_or bs k 0 == 10) (nowhere k (omega arith) lt)) (λ lt. absurd (omega arith)))
+first_feed bs (Some k) h =
+    found_some bs k (position_or_len_is (λ b. b == 10) bs k 0 (omega (arith, h.0.high))
+    (λ i lt. false_unless (get_or bs i 0 == 10) (h.0.before i (omega arith) lt)) (λ lt. h.1)) h.0.high
+
+pub feed_within : (bs : List ℕ) (r : Option ℕ) → IsFirstByte (is_byte 10) bs r → IfSome r (λ at. at < length bs)
+feed_within bs None nowhere = tt
+feed_within bs (Some k) h = h.0.high

@@ -3,6 +3,8 @@ ghost use Rattle.std.specs.Prelude.{◌≡◌, ◌<◌, ◌∷◌, ◌==◌, len
 ghost use Rattle.std.specs.List.{position};
 ghost use Rattle.text_words.specs.Lines.{lines_of};
 
+use memchr::memchr;
+
 /// The first line of a text, and what follows it.
 #[derive(Clone, Copy)]
 pub struct FirstLine<'a> {
@@ -19,7 +21,7 @@ pub fn feed_at(bytes: &[u8]) -> Option<usize>
     ensures exact { result ≡ position (λ b. b == 10) bytes.now }
     ensures within { IfSome result (λ at. at < length bytes.now) }
 {
-    bytes.iter().position(|b| *b == b'\n')
+    memchr(b'\n', bytes)
 }
 
 /// The first line of a text that is not empty: up to its line feed, or all of it where there is none.

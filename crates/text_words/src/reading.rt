@@ -135,7 +135,7 @@ pub fn digit(bytes: &[u8]) -> Option<(u8, &[u8])>
 pub fn is_hex_digit(byte: u8) -> bool
     ensures { result ≡ is_hex byte }
 {
-    byte.is_ascii_digit() || (b'a' <= byte && byte <= b'f')
+    hex_or_16(byte) < 16
 }
 
 fn hex_len(bytes: &[u8]) -> usize
