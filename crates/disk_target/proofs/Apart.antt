@@ -1,5 +1,5 @@
--- A target in a connection of others, and what does not count in a connection of its own.
-use Rattle.std.proofs.Common.{ℕ, ◌≡◌, ◌∙◌, ◌==◌, true, false, List, ◌∷◌, sym, Option, Some, None}
+-- A target in a connection of others and in one of its own, and what it does by the connection that stands.
+use Rattle.std.proofs.Common.{ℕ, ◌≡◌, ◌∙◌, ◌==◌, Bool, true, false, List, ◌∷◌, refl, sym, Option, Some, None}
 use Rattle.std.specs.Prelude.{not}
 use Rattle.std.proofs.lemmas.Bool.{and_parts, not-true}
 use Rattle.bus_trace.specs.declared.Row.{Row}
@@ -9,13 +9,12 @@ use Rattle.bus_trace.specs.Terms.{connection}
 use Rattle.bus_trace.specs.Trace.{bus}
 use Rattle.scenario.specs.declared.value.FaultDef.{FaultDef}
 use Rattle.scenario.specs.declared.value.TargetDef.{TargetDef}
-use Rattle.reaction_model.specs.Reset.{with_reset}
+use Rattle.reaction_model.specs.declared.due.Due.{Due}
 use Rattle.target_course.specs.scsi_device.proofs.Finds.{some_is}
-use Rattle.target_course.specs.scsi_device.specs.Told.{told}
-use Rattle.target_course.specs.Dues.{calm_by, myself_by, target_next}
+use Rattle.target_course.specs.scsi_device.specs.Told.{Told}
+use Rattle.target_course.specs.Dues.{calm_by, connected_by, link_by}
 use Rattle.target_course.specs.States.{IsOwnConnection, TargetState}
-use Rattle.target_course.specs.target_units.specs.declared.ready.Ready.{Ready}
-use Rattle.disk_target.specs.Bytes.{IsOthers, StandsInOwn, are_own}
+use Rattle.disk_target.specs.Bytes.{IsOthers, StandsInOwn, are_own, stands_calm}
 
 -- In a connection of others it stands in none of its own.
 pub never_own : (rows : List Row) (dev : ℕ) (m x : Connection) → IsOthers rows dev m → IsOwnConnection rows dev x → ⊥
@@ -39,14 +38,19 @@ in_own rows row dev (Some m) (Some n) was is e =
 in_own rows row dev (Some m) None was is e = absurd cc
 in_own rows row dev None p was is e = absurd cc
 
--- In a connection it does not count which unit is ready.
-pub ready_any :
-    (rows : List Row) (d : TargetDef) (f : Option FaultDef) (i : TargetState) (ready : Option Ready) (n : Connection)
-    → connection rows ≡ Some n → (bus rows).rst ≡ false
-    → target_next d (told rows d.dev) f i ≡ target_next d (told rows d.dev) f (record i { ready = ready })
-ready_any rows d f i ready n stands calm =
-    let y : TargetState = record i { ready = ready } in
-    (λ j. with_reset (myself_by d (told rows d.dev) i) i.own.rst i.reset
-    (calm_by d (told rows d.dev) f i (calm j) (stands j)))
-    ∙ (λ j. with_reset (myself_by d (told rows d.dev) y) y.own.rst y.reset
-    (calm_by d (told rows d.dev) f y (sym calm j) (sym stands j)))
+-- ---- by the connection that stands while RST is false
+
+pub calm_at : (rst : Bool) (o : Option Connection) (n : Connection) → stands_calm rst o ≡ Some n
+    → (o ≡ Some n) × (rst ≡ false)
+calm_at true o n e = absurd cc
+calm_at false o n e = (e, refl)
+
+abbrev pub calm_in : TargetDef → Told → Option FaultDef → TargetState → Option Connection → Option Due
+calm_in d t f i None = link_by d t f i
+calm_in d t f i (Some n) = connected_by d t f i n
+
+pub calm_is : (d : TargetDef) (t : Told) (f : Option FaultDef) (i : TargetState) (rst : Bool) (n : Option Connection)
+    → calm_in d t f i (stands_calm rst n) ≡ calm_by d t f i rst n
+calm_is d t f i true n = refl
+calm_is d t f i false None = refl
+calm_is d t f i false (Some n) = refl

@@ -4,12 +4,12 @@ use Rattle.std.specs.Prelude.{not, ◌&&◌, ◌==◌, if◌then◌else◌}
 use Rattle.reaction_model.specs.declared.due.Myself.{Myself}
 use Rattle.reaction_model.specs.declared.ends.Offering.{Offering}
 use Rattle.reaction_model.specs.declared.ends.Pace.{Pace}
-use Rattle.reaction_model.specs.Ends.{message_out_start, target_due}
+use Rattle.reaction_model.specs.Ends.{message_out_start}
 use Rattle.reaction_model.specs.Target.{bits_if, byte_change, first_req, pulse_turn, req_negation, req_pulse_end}
 use Rattle.reaction_model.specs.Target.{target_pulse, target_turn}
 use Rattle.scenario.specs.declared.value.TargetDef.{TargetDef}
 use Rattle.target_course.specs.scsi_device.specs.Told.{Told, pace_of}
-use Rattle.target_course.specs.Dues.{myself_by, offering_of_target, plain_by}
+use Rattle.target_course.specs.Dues.{due_of_offering, myself_by, offering_of_target, plain_by}
 use Rattle.target_course.specs.States.{TargetState}
 use Rattle.disk_target.specs.Waits.{drives_pulse, is_in_pulse, is_waiting, waits}
 
@@ -41,19 +41,16 @@ waiting_is d t i e = go t.begun p.pulsed t.lines.req t.sight.bus.ack e
     go false pulsed true false x = absurd cc
     go false pulsed false true x = absurd cc
 
--- And where it drives a REQ pulse it ends that, as with any other offering.
-pub pulse_ends : (d : TargetDef) (t : Told) (i : TargetState) (g : Offering) → is_in_pulse t ≡ true
-    → target_due t.begun t.sight t.handshakes (myself_by d t i) (pace_of t None) g ≡ plain_by d t i
-pulse_ends d t i g e = go t.lines.req t.begun p.pulsed e
+-- And where it drives a REQ pulse it ends that, whichever of two offerings it has.
+pub pulse_ends : (d : TargetDef) (t : Told) (i : TargetState) (g h : Offering) → is_in_pulse t ≡ true
+    → due_of_offering d t i (pace_of t None) g ≡ due_of_offering d t i (pace_of t None) h
+pulse_ends d t i g h e = go t.lines.req t.begun p.pulsed e
   where
     p : Pace
     p = pace_of t None
 
     me : Myself
     me = myself_by d t i
-
-    h : Offering
-    h = offering_of_target t i
 
     go : (req begun pulsed : Bool) → drives_pulse req begun pulsed ≡ true
         → (if not begun then message_out_start t.sight me else if pulsed then (if req then req_pulse_end t.sight me p

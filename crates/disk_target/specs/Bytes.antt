@@ -1,26 +1,16 @@
--- What a target decides by in a connection of its own, with the bytes that its process gives.
+-- When the process of a connection gives bytes, and whose a connection is.
 use Rattle.std.specs.Prelude.{ℕ, ◌≡◌, ◌==◌, if◌then◌else◌, ◌&&◌, not, Bool, true, false, List, ◌∷◌, Option, Some, None}
 use Rattle.bus_trace.specs.declared.Row.{Row}
 use Rattle.bus_trace.specs.declared.changes.Change.{Change}
 use Rattle.bus_trace.specs.declared.connection.Connection.{Connection}
 use Rattle.bus_trace.specs.Terms.{connection}
 use Rattle.bus_trace.specs.Trace.{bus}
-use Rattle.bus_lines.specs.Handshakes.{handshakes}
-use Rattle.scenario.specs.declared.value.TargetDef.{TargetDef}
-use Rattle.scenario.specs.Value.{ScenarioValue}
 use Rattle.disk_unit.specs.declared.unit.Reply.{Reply}
 use Rattle.due_model.specs.dialogue_model.specs.declared.exchange.Next.{Next}
 use Rattle.due_model.specs.dialogue_model.specs.declared.exchange.Phase.{Phase}
 use Rattle.due_model.specs.dialogue_model.specs.declared.exchange.Phase.TheVariants as phases
-use Rattle.due_model.specs.dialogue_model.specs.Hearing.{begun}
-use Rattle.due_model.specs.dialogue_model.specs.NextPhase.{leaving_by}
-use Rattle.due_model.specs.RunSteps.{run_state}
-use Rattle.due_model.specs.Sights.{serving_of}
 use Rattle.target_course.specs.scsi_device.specs.Heard.{goes_on}
-use Rattle.target_course.specs.Servings.{serving_with, AreBytesOf}
-use Rattle.target_course.specs.States.{AreAlikeIn, IsOwnConnection, offering_in}
-use Rattle.target_course.specs.declared.serving.DataBytes.{DataBytes}
-use Rattle.target_course.specs.declared.serving.Serving.{Serving}
+use Rattle.target_course.specs.States.{IsOwnConnection}
 
 -- The status of a reply.
 abbrev pub status_in : Option Reply → Option ℕ
@@ -47,15 +37,15 @@ abbrev pub own_in : Option Connection → Bool → ℕ → Option Connection
 own_in None rst dev = None
 own_in (Some n) rst dev = if (n.target == dev) && not rst then Some n else None
 
+-- The connection that stands, while RST is false.
+abbrev pub stands_calm : Bool → Option Connection → Option Connection
+stands_calm rst n = if rst then None else n
+
 -- A connection of others, while RST is false.
 pub record IsOthers (rows : List Row) (dev : ℕ) (n : Connection) : Type 0 where
   pub stands : connection rows ≡ Some n
   pub away : (n.target == dev) ≡ false
   pub calm : (bus rows).rst ≡ false
-
-abbrev pub IsOthersIf : List Row → ℕ → Option Connection → Type 0
-IsOthersIf rows dev None = Unit {0}
-IsOthersIf rows dev (Some n) = IsOthers rows dev n
 
 -- A connection of its own stood before a row, while RST was false, and one stands after it.
 abbrev pub are_own : Option Connection → Option Connection → Change → ℕ → Bool
@@ -69,12 +59,3 @@ pub record StandsInOwn (rows : List Row) (row : Row) (dev : ℕ) : Type 0 where
   pub own : IsOwnConnection rows dev before
   pub calm : (bus rows).rst ≡ false
   pub stands : connection (row ∷ rows) ≡ Some after
-
--- By this and these bytes it does what the rows have it do.
-pub record DecidesAs (s : ScenarioValue) (rows : List Row) (t : TargetDef) (v : Serving) (b : DataBytes) : Type 0 where
-  pub given : List ℕ
-  pub bytes_are : AreBytesOf (serving_with v given) (leaving_by (serving_with v given) (begun rows) (bus rows))
-      (handshakes rows).requests b
-  pub alike : (n : Connection) → IsOwnConnection rows t.dev n → (bus rows).rst ≡ false
-      → AreAlikeIn rows t.dev (offering_in rows (serving_with v given))
-      (offering_in rows (serving_of s (run_state s rows) t.dev))

@@ -1,4 +1,4 @@
-//! What a target decides by, and the bytes that its process gives.
+//! When the process of a connection gives bytes, and whose a connection is.
 ghost use Rattle.std.specs.Prelude.{◌≡◌, ◌<◌, ◌&&◌, ◌∷◌, true, List, Some};
 ghost use Rattle.bus_trace.specs.declared.Row.{Row};
 ghost use Rattle.bus_trace.specs.Terms.{connection};
@@ -10,7 +10,7 @@ ghost use Rattle.due_model.specs.dialogue_model.specs.Observer.{IsObserverOf};
 ghost use Rattle.target_course.specs.Courses.{name_of};
 ghost use Rattle.target_course.specs.States.{IsReadyWithin};
 ghost use Rattle.target_course.specs.declared.course.Name.{Name as NameValue};
-ghost use Rattle.disk_target.specs.Bytes.{status_in, gives_data, own_in, are_own, IsOwnIf, IsOthersIf, StandsInOwn};
+ghost use Rattle.disk_target.specs.Bytes.{status_in, gives_data, own_in, are_own, IsOwnIf, StandsInOwn};
 
 use bus_base::Dev;
 use bus_lines::BusView;
@@ -18,16 +18,7 @@ use bus_trace::{Change, Connection};
 use disk_unit::Reply;
 use due_model::the_dialogue_model::{Next, Observer, Phase};
 use target_course::the_target_units::Ready;
-use target_course::{Course, DataBytes, Serving, phase_of};
-
-/// What a target decides by in a connection of its own, with the bytes that its process gives.
-#[derive(Clone, Copy)]
-pub struct Decision {
-    /// What it decides by.
-    pub serving: Serving,
-    /// The bytes.
-    pub bytes: DataBytes,
-}
+use target_course::{Course, phase_of};
 
 /// The status of a reply.
 pub fn status_in(reply: Option<Reply>) -> Option<u8>
@@ -91,16 +82,6 @@ pub fn own_before(view: &BusView, dev: Dev) -> Option<Connection>
     }
 }
 
-/// The connection that stands, where this is not its target and RST is false.
-pub fn other_connection(view: &BusView, dev: Dev) -> Option<Connection>
-    ensures { (rows : List Row) → IsBusViewOf rows view.now → IsOthersIf rows dev result }
-{
-    match view.connection() {
-        Some(connection) if connection.target.get() != dev && !view.bus().rst() => Some(connection),
-        _ => None,
-    }
-}
-
 // These connections stood before a row that changed this, and stand after it.
 fn are_own(
     before: &Option<Connection>,
@@ -146,11 +127,4 @@ pub fn bounded(ready: Option<Ready>) -> Option<Ready>
         Some(ready) if ready.time < 1 << 63 && ready.unit < 8 => Some(ready),
         _ => None,
     }
-}
-
-/// No bytes.
-pub fn no_bytes() -> DataBytes
-    ensures { result ≡ record { next = 0; first = 0 } }
-{
-    DataBytes { next: 0, first: 0 }
 }

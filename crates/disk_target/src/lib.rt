@@ -3,12 +3,17 @@
 //! A [`Target`] puts together what `target_course` and `target_units` keep for it: its own rows, its logical units, how
 //! far its processes have come, with whom it has negotiated, which bytes came of its present writes, and, in a
 //! connection of its own, what it has heard in that ([`Course`](target_course::Course)) with the reply of the process
-//! that it serves. It asks its units what they tell of that process, and for the two bytes of data that it may drive
-//! next, and so says what it does next and when, and which events it shows with a row. What it decides by in a
-//! connection of its own it keeps (`specs/Knowns.antt`), and makes it anew only with a row that changes more of it than
-//! the plan. [`Processes`] keeps the units with the [`Standing`] of the process of the connection: whether that stands
-//! in the queue of its unit, or outside it with a reply of its own. Stands on `target_course`, `target_units`,
-//! `disk_unit`, `scsi_device` and the definitions of `array_model` and `due_model`.
+//! that it serves. It asks its units what they tell of that process, and for the byte of data that it may drive next,
+//! and so says what it does next and when, and which events it shows with a row. What it decides by in a connection of
+//! its own it keeps (`specs/Knowns.antt`), and makes it anew only with a row that changes more of it than the plan.
+//! [`Processes`] keeps the units with the [`Standing`] of the process of the connection: whether that stands in the
+//! queue of its unit, or outside it with a reply of its own. Stands on `target_course`, `target_units`, `disk_unit`,
+//! `scsi_device`, on the reactions of `connect` and `handshake`, and on the definitions of `array_model` and
+//! `due_model`.
+//!
+//! What it does next goes by layers: a reset of its own before all else (`Target::due`), then the connection that
+//! stands, if RST is false (`calm_due`), and in one of its own REQ and ACK (`plain_due`), by what it has to do in the
+//! phase (`offering`).
 //!
 //! A run asks what is due of it (`Target::due`). `Target::step`, what it does by a clock, serves a caller with devices
 //! of his own, and nothing here calls it.
@@ -22,9 +27,8 @@
 #![tactic(auto)]
 
 mod bytes;
+mod due;
 mod known;
-mod others;
-mod own;
 mod processes;
 mod standing;
 mod target;

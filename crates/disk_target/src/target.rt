@@ -7,6 +7,8 @@ ghost use Rattle.bus_trace.specs.Terms.{connection};
 ghost use Rattle.bus_trace.specs.Trace.{bus};
 ghost use Rattle.bus_lines.specs.BusView.{IsBusViewOf};
 ghost use Rattle.bus_lines.specs.Timely.{IsTimely};
+ghost use Rattle.handshake.specs.Bounds.{IsReady};
+ghost use Rattle.connect.specs.Ready as link;
 ghost use Rattle.cdb_codec.specs.declared.status.TheConstants.{GOOD};
 ghost use Rattle.scenario.specs.declared.value.TargetDef.{TargetDef};
 ghost use Rattle.scenario.specs.Value.{ScenarioValue};
@@ -25,35 +27,36 @@ ghost use Rattle.due_model.specs.RunState.{array_of, item_of};
 ghost use Rattle.due_model.specs.RunSteps.{run_state, events_of_row};
 ghost use Rattle.due_model.specs.Sights.{serving_of};
 ghost use Rattle.due_model.specs.Tasks.{size_of, reply_now, is_writing};
+ghost use Rattle.due_model.specs.Wants.{ready_of};
 ghost use Rattle.target_course.specs.scsi_device.specs.Acts.{act_of};
 ghost use Rattle.target_course.specs.scsi_device.specs.Heard.{heard};
 ghost use Rattle.target_course.specs.scsi_device.specs.Itself.{IsItselfOf};
 ghost use Rattle.target_course.specs.scsi_device.specs.Lines.{FitsBus, IsTargetLine};
 ghost use Rattle.target_course.specs.scsi_device.specs.Told.{told, pace_of, first_fault};
 ghost use Rattle.target_course.specs.Courses.{events_of_target, id_known, AreToldOf, IsCourseOf, IsLabelOf, IsStateOf, IsOutlookOf};
+ghost use Rattle.target_course.specs.Dues.{calm_by, myself_by};
 ghost use Rattle.target_course.specs.Fits.{AreFit};
 ghost use Rattle.target_course.specs.target_units.specs.Seated.{reply_told};
 ghost use Rattle.target_course.specs.Servings.{byte_if};
 ghost use Rattle.target_course.specs.Shown.{shown_list};
-ghost use Rattle.target_course.specs.States.{AreAlikeIn, IsNoInitiator, IsOwnConnection, offering_in};
+ghost use Rattle.target_course.specs.States.{TargetState, AreAlikeIn, IsNoInitiator, IsOwnConnection, IsReadyWithin, offering_in};
+ghost use Rattle.target_course.specs.target_units.specs.Readies.{ready_unit};
 ghost use Rattle.target_course.specs.target_units.specs.Units.{AreUnitsOf, reply_at, unit_in};
 ghost use Rattle.target_course.specs.declared.course.Name.{Name as NameValue};
-ghost use Rattle.disk_target.specs.Bytes.{DecidesAs, IsOthers, IsOwnIf, StandsInOwn};
+ghost use Rattle.disk_target.specs.Bytes.{IsOthers, IsOwnIf, StandsInOwn};
 ghost use Rattle.disk_target.specs.Needs.{DrivesAs, GivesAs, LeavesAs};
 ghost use Rattle.disk_target.specs.Knowns.{IsKnownBy, IsKnownIf, IsQuiet, knows_command};
 ghost use Rattle.disk_target.specs.Targets.{AreInTime, AreTied, IsCourseIf, IsServable, IsTargetAfter, KnowsRows};
 ghost use Rattle.disk_target.specs.Turns.{IsSentIf, IsSentOf, IsTurnOf};
-ghost use Rattle.disk_target.specs.Waits.{DoesAs};
+ghost use Rattle.disk_target.specs.Waits.{DoesAlike, DoesAs, KnowsAll};
 
 use crate::bytes::{
-    Decision, bounded, connection_before, gives_now, no_bytes, other_connection, own_before,
-    own_connection, stands_in_own,
+    bounded, connection_before, gives_now, own_before, own_connection, stands_in_own,
+};
+use crate::due::{
+    calm_connection, goes_on_in, going_on, is_driven, is_in_pulse, is_waiting, link_due_of, myself,
 };
 use crate::known::{Known, is_quiet, is_still, known_of, see_known};
-use crate::others::next_in_others;
-use crate::own::{
-    goes_on_in, going_on, is_driven, is_in_pulse, is_waiting, next_in_own, pulse_end_due,
-};
 use crate::processes::{Processes, units_stay_by_row};
 use crate::turn::{
     Sent, Turn, course_of, is_opening, no_turn, process_known, reply_seen, see_beginning,
@@ -63,19 +66,22 @@ use array_model::arrays_are_sound;
 use bus_base::{Dev, Event, NoMemory, Ns, ProcId};
 use bus_lines::BusView;
 use bus_trace::{Connection, Row, lines_on_the_bus, rows_change_one_device};
+use connect::due_with_reset;
 use disk_unit::Reply;
-use due_model::the_dialogue_model::{Arrival, Hearing, Observer};
+use due_model::the_dialogue_model::{Hearing, Observer};
 use due_model::{hearings_are_plain, kept_is_plain};
-use reaction_model::{Due, Offering};
+use handshake::target_due;
+use reaction_model::{Due, Myself, Offering};
 use scenario::{FaultDef, Scenario, TargetDef, target_line};
 use std::alloc::Global;
 use std::marker::Model;
-use target_course::the_scsi_device::{Act, Itself, pace, scenarios_fit_the_bus};
-use target_course::the_target_units::Units;
+use target_course::the_scsi_device::{
+    Act, Itself, lines_seen, pace, sampled, scenarios_fit_the_bus,
+};
+use target_course::the_target_units::{Ready, Units};
 use target_course::{
-    Course, Gathered, Knowledge, Negotiated, Progress, Serving, Shown, brings_byte,
-    due_of_offering, follows_by, leaving_by, lines_by, no_plan, phase_byte, phase_of, place_in_run,
-    process_byte_place, seek_before, target_next,
+    Course, Gathered, Negotiated, Progress, Shown, brings_byte, dues_are_of_targets, follows_by,
+    leaving_by, lines_by, phase_byte, phase_of, place_in_run, process_byte_place, seek_before,
 };
 
 /// A target of a scenario.
@@ -207,27 +213,20 @@ impl Target {
 
     // The byte at a place of those that the command would give, which are so many: of its present run, or with `done`
     // of the run after that.
-    fn run_byte(
-        &self,
-        unit: u8,
-        from: Dev,
-        cdb: &[u8],
-        count: u32,
-        serving: &Serving,
-        done: bool,
-        place: u64,
-    ) -> u8
-        requires unit { unit < 8 }
-        requires device { from < 8 }
-        requires count { count ≡ length (reply_at (unit_in self.now.units.units unit) from cdb.now).bytes }
+    fn run_byte(&self, course: &Course, known: &Known, count: u32, done: bool, place: u64) -> u8
+        requires unit { known.now.unit < 8 }
+        requires device { known.now.from < 8 }
+        requires count { count
+            ≡ length (reply_at (unit_in self.now.units.units known.now.unit) known.now.from course.now.block).bytes }
         ensures { (s : ScenarioValue) (a : Array) (times : List ℕ) (p : Process)
-            → AreUnitsOf s a times self.now.units.dev self.now.units.units → is_initiator s.hosts from ≡ true
-            → p.target ≡ self.now.units.dev → p.unit ≡ unit → p.initiator ≡ from → p.cdb ≡ cdb.now
-            → count ≡ length (reply_now a p).bytes → result
-            ≡ data_byte serving.now.def.disc serving.now.task (reply_now a p).bytes (one_if done) place }
+            → AreUnitsOf s a times self.now.units.dev self.now.units.units → is_initiator s.hosts known.now.from ≡ true
+            → p.target ≡ self.now.units.dev → p.unit ≡ known.now.unit → p.initiator ≡ known.now.from
+            → p.cdb ≡ course.now.block → count ≡ length (reply_now a p).bytes → result
+            ≡ data_byte known.now.serving.def.disc known.now.serving.task (reply_now a p).bytes (one_if done) place }
     {
+        let serving = &known.serving;
         let at = process_byte_place(serving.def.disc, &serving.task, done, place);
-        self.byte_at(unit, from, cdb, count, at)
+        self.byte_at(known.unit, known.from, course.block(), count, at)
     }
 
     // The same, where the phase that stands gives data; else 0.
@@ -250,17 +249,7 @@ impl Target {
         scenarios_fit_the_bus();
         kept_is_plain();
         if gives_now(observer, course) {
-            let count = known.state.plan.in_len;
-            let serving = &known.serving;
-            self.run_byte(
-                known.unit,
-                known.from,
-                course.block(),
-                count,
-                serving,
-                done,
-                place,
-            )
+            self.run_byte(course, known, known.state.plan.in_len, done, place)
         } else {
             0
         }
@@ -317,9 +306,9 @@ impl Target {
         }
     }
 
-    // What it has to do in the phase, as far as what it does next tells: which byte follows, or how it leaves the
-    // phase.
-    fn offering(
+    // What it has to do in the phase, as far as what it does next tells, by what it knows in this connection of its
+    // own: which byte follows, or how it leaves the phase.
+    fn offering_by(
         &self,
         observer: &Observer,
         course: &Course,
@@ -350,151 +339,123 @@ impl Target {
         }
     }
 
-    // By REQ and ACK in a connection of its own, by what it knows in it.
-    fn plain_by(&self, observer: &Observer, course: &Course, known: &Known) -> Option<Due>
-        requires timely { IsTimely (2 ^ 63) observer.now.view }
-        requires known { IsKnownBy self.now.def self.now.units self.now.progress self.now.reply course.now known.now }
-        ensures { (s : ScenarioValue) (rows : List Row) (n : Connection) → FitsBus s
-            → IsObserverOf rows observer.now → AreOfDevices rows → heard s rows ≡ true
-            → IsServable s rows self.now.def → KnowsRows s rows self.now
-            → IsCourseOf s rows self.now.def.dev course.now → IsOwnConnection rows self.now.def.dev n
-            → (bus rows).rst ≡ false → n.initiator ≡ known.now.from
-            → DoesAs s rows self.now.def self.now.itself.own result }
-    {
-        let pace = pace(observer, 0);
-        let offering = self.offering(observer, course, known, pace.pulsed);
-        due_of_offering(observer, &self.def, &self.itself, &pace, &offering)
-    }
-
     // The same, with this initiator.
-    fn plain_in(&self, observer: &Observer, from: Dev, course: &Course) -> Option<Due>
-        requires timely { IsTimely (2 ^ 63) observer.now.view }
+    fn offering_in(
+        &self,
+        observer: &Observer,
+        from: Dev,
+        course: &Course,
+        pulsed: bool,
+    ) -> Offering
         requires device { from < 8 }
         requires course { self.now.course ≡ Some course.now }
-        ensures { (s : ScenarioValue) (rows : List Row) (n : Connection) → FitsBus s
+        ensures trace { (s : ScenarioValue) (rows : List Row) (n : Connection) → FitsBus s
             → IsObserverOf rows observer.now → AreOfDevices rows → heard s rows ≡ true
             → IsServable s rows self.now.def → KnowsRows s rows self.now
             → IsCourseOf s rows self.now.def.dev course.now → IsOwnConnection rows self.now.def.dev n
-            → (bus rows).rst ≡ false → n.initiator ≡ from → DoesAs s rows self.now.def self.now.itself.own result }
+            → (bus rows).rst ≡ false → n.initiator ≡ from
+            → pulsed ≡ (pace_of (told rows 0) None).pulsed → AreAlikeIn rows self.now.def.dev result
+            (offering_in rows (serving_of s (run_state s rows) self.now.def.dev)) }
+        ensures wait { result.wait < 2 ^ 62 }
     {
         match &self.known {
-            Some(known) if known.from == from => self.plain_by(observer, course, known),
-            _ => self.plain_by(observer, course, &self.known_anew(from, course)),
+            Some(known) if known.from == from => self.offering_by(observer, course, known, pulsed),
+            _ => self.offering_by(observer, course, &self.known_anew(from, course), pulsed),
         }
     }
 
-    // The same. While it waits for ACK to follow REQ it does nothing, and it ends each pulse, whatever it has to do.
-    fn plain(&self, observer: &Observer, from: Dev) -> Option<Due>
+    // What it has to do in the phase, in a connection of its own with this initiator. It ends each pulse, whatever that
+    // is.
+    fn offering(&self, observer: &Observer, from: Dev, pulsed: bool) -> Offering
+        requires device { from < 8 }
+        ensures trace { (s : ScenarioValue) (rows : List Row) (n : Connection) → FitsBus s
+            → IsObserverOf rows observer.now → AreOfDevices rows → heard s rows ≡ true
+            → IsServable s rows self.now.def → KnowsRows s rows self.now
+            → IsOwnConnection rows self.now.def.dev n → (bus rows).rst ≡ false → n.initiator ≡ from
+            → pulsed ≡ (pace_of (told rows 0) None).pulsed → DoesAlike rows self.now.def result
+            (offering_in rows (serving_of s (run_state s rows) self.now.def.dev)) }
+        ensures wait { result.wait < 2 ^ 62 }
+    {
+        if is_in_pulse(observer, self.def.dev) {
+            return going_on(0, false);
+        }
+        match &self.course {
+            None => going_on(0, false),
+            Some(course) => self.offering_in(observer, from, course, pulsed),
+        }
+    }
+
+    // By REQ and ACK, in a connection of its own with this initiator, where it takes no fault. While it waits for ACK
+    // to follow REQ it does nothing, whatever it has to do.
+    fn plain_due(&self, observer: &Observer, me: &Myself, from: Dev) -> Option<Due>
         requires timely { IsTimely (2 ^ 63) observer.now.view }
+        requires ready { IsReady me.now }
         requires device { from < 8 }
         ensures { (s : ScenarioValue) (rows : List Row) (n : Connection) → FitsBus s
             → IsObserverOf rows observer.now → AreOfDevices rows → heard s rows ≡ true
             → IsServable s rows self.now.def → KnowsRows s rows self.now
-            → IsOwnConnection rows self.now.def.dev n
-            → (bus rows).rst ≡ false → n.initiator ≡ from → DoesAs s rows self.now.def self.now.itself.own result }
+            → IsOwnConnection rows self.now.def.dev n → (bus rows).rst ≡ false → n.initiator ≡ from
+            → DoesAs s rows self.now.def me.now result }
     {
         if is_waiting(observer, self.def.dev) {
             return None;
         }
-        if is_in_pulse(observer, self.def.dev) {
-            return pulse_end_due(observer, &self.itself, &self.def);
-        }
-        match &self.course {
-            None => None,
-            Some(course) => self.plain_in(observer, from, course),
-        }
+        let view = observer.view();
+        let pace = pace(observer, 0);
+        let offering = self.offering(observer, from, pace.pulsed);
+        target_due(
+            observer.begun(),
+            &lines_seen(view),
+            view.handshakes(),
+            me,
+            &pace,
+            &offering,
+        )
     }
 
-    // Where no connection of its own stands.
-    fn no_decision(&self) -> Decision
-        ensures def { result.serving.def ≡ self.now.def }
-        ensures fits { AreFit result.serving.plan.messages }
-        ensures trace { (s : ScenarioValue) (rows : List Row)
-            → ((n : Connection) → IsOwnConnection rows self.now.def.dev n → (bus rows).rst ≡ true)
-            → DecidesAs s rows self.now.def result.serving result.bytes }
+    // The unit that is ready first.
+    fn ready(&self) -> Option<Ready>
+        ensures within { IsReadyWithin result }
+        ensures trace { (s : ScenarioValue) (rows : List Row) → IsServable s rows self.now.def
+            → KnowsRows s rows self.now → result ≡ ready_unit (ready_of s (run_state s rows) self.now.def.dev) }
     {
-        let serving = Serving {
-            def: self.def,
-            plan: no_plan(),
-            task: None,
-            arrival: Arrival::Queued,
-        };
-        Decision {
-            serving,
-            bytes: no_bytes(),
-        }
+        bounded(self.processes.units().ready())
     }
 
-    // On its way to a connection, and while RST is true.
-    fn due_outside(&self, observer: &Observer, fault: Option<FaultDef>) -> Option<Due>
+    // Without a reset of its own: in a connection of its own by REQ and ACK, in one of others nothing, and else what it
+    // does on its way to one.
+    fn calm_due(&self, observer: &Observer, me: &Myself, fault: Option<FaultDef>) -> Option<Due>
         requires timely { IsTimely (2 ^ 63) observer.now.view }
-        ensures { (s : ScenarioValue) (rows : List Row) → FitsBus s → IsObserverOf rows observer.now
-            → AreOfDevices rows → IsNoInitiator rows self.now.def.dev
-            → IsServable s rows self.now.def → KnowsRows s rows self.now
-            → ((n : Connection) → IsOwnConnection rows self.now.def.dev n → (bus rows).rst ≡ true)
-            → fault ≡ first_fault (run_state s rows).faults → result ≡ due s rows self.now.def.dev }
+        requires ready { IsReady me.now }
+        requires linkable { link.IsReady me.now }
+        ensures { (s : ScenarioValue) (rows : List Row) (i : TargetState) → FitsBus s → IsObserverOf rows observer.now
+            → AreOfDevices rows → heard s rows ≡ true → IsServable s rows self.now.def → KnowsRows s rows self.now
+            → me.now ≡ myself_by self.now.def (told rows self.now.def.dev) i → KnowsAll s rows self.now.def.dev i
+            → result ≡ calm_by self.now.def (told rows self.now.def.dev) fault i (bus rows).rst (connection rows) }
     {
-        let decision = self.no_decision();
-        let known = Knowledge {
-            itself: &self.itself,
-            ready: bounded(self.processes.units().ready()),
-            serving: decision.serving,
-            bytes: decision.bytes,
-        };
-        target_next(observer, &known, fault)
-    }
-
-    // In a connection of its own with this initiator.
-    fn due_inside(&self, observer: &Observer, from: Dev, fault: Option<FaultDef>) -> Option<Due>
-        requires timely { IsTimely (2 ^ 63) observer.now.view }
-        requires device { from < 8 }
-        ensures { (s : ScenarioValue) (rows : List Row) (n : Connection) → FitsBus s → IsObserverOf rows observer.now
-            → AreOfDevices rows → IsNoInitiator rows self.now.def.dev → heard s rows ≡ true
-            → IsServable s rows self.now.def → KnowsRows s rows self.now
-            → IsOwnConnection rows self.now.def.dev n → (bus rows).rst ≡ false → n.initiator ≡ from
-            → fault ≡ first_fault (run_state s rows).faults → result ≡ due s rows self.now.def.dev }
-    {
-        let plain = self.plain(observer, from);
-        next_in_own(observer, &self.itself, &self.def, fault, plain)
-    }
-
-    // In a connection of its own or outside all.
-    fn due_of_own(&self, observer: &Observer, fault: Option<FaultDef>) -> Option<Due>
-        requires timely { IsTimely (2 ^ 63) observer.now.view }
-        ensures { (s : ScenarioValue) (rows : List Row) → FitsBus s → IsObserverOf rows observer.now
-            → AreOfDevices rows → IsNoInitiator rows self.now.def.dev → heard s rows ≡ true
-            → IsServable s rows self.now.def → KnowsRows s rows self.now
-            → fault ≡ first_fault (run_state s rows).faults → result ≡ due s rows self.now.def.dev }
-    {
-        match own_connection(observer.view(), self.def.dev) {
-            None => self.due_outside(observer, fault),
-            Some(connection) => self.due_inside(observer, connection.initiator.get(), fault),
-        }
-    }
-
-    // By what it knows.
-    fn due_known(&self, observer: &Observer, fault: Option<FaultDef>) -> Option<Due>
-        requires timely { IsTimely (2 ^ 63) observer.now.view }
-        ensures { (s : ScenarioValue) (rows : List Row) → FitsBus s → IsObserverOf rows observer.now
-            → AreOfDevices rows → IsNoInitiator rows self.now.def.dev → heard s rows ≡ true
-            → IsServable s rows self.now.def → KnowsRows s rows self.now
-            → fault ≡ first_fault (run_state s rows).faults → result ≡ due s rows self.now.def.dev }
-    {
-        match other_connection(observer.view(), self.def.dev) {
-            None => self.due_of_own(observer, fault),
-            Some(_) => next_in_others(observer, &self.itself, &self.def),
+        match calm_connection(observer.view()) {
+            Some(connection) if connection.target.get() == self.def.dev => {
+                let from = connection.initiator.get();
+                let plain = self.plain_due(observer, me, from);
+                sampled(observer, self.def.dev, fault, plain)
+            }
+            Some(_) => None,
+            None => link_due_of(observer, me, self.ready(), fault),
         }
     }
 
     /// What it does next, and when, in ns, by the first fault that has not struck yet: exactly what is due of it after
-    /// the rows that it was told of. It changes nothing.
+    /// the rows that it was told of. It changes nothing. A reset of its own goes before all else, then RST of others.
     pub fn due(&self, observer: &Observer, fault: Option<FaultDef>) -> Option<Due>
         requires timely { IsTimely (2 ^ 63) observer.now.view }
         ensures { (s : ScenarioValue) (rows : List Row) → FitsBus s → IsObserverOf rows observer.now
             → AreOfDevices rows → IsTargetAfter s rows self.now
             → fault ≡ first_fault (run_state s rows).faults → result ≡ due s rows self.now.def.dev }
     {
-        self.due_known(observer, fault)
+        dues_are_of_targets();
+        let me = myself(&self.def, &self.itself, observer.view());
+        let calm = self.calm_due(observer, &me, fault);
+        due_with_reset(&me, self.itself.own().rst(), self.itself.reset(), calm)
     }
 
     /// What it does at this moment, in ns: the row that is due by then, or when its next one is. It changes nothing. A

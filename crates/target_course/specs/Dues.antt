@@ -1,8 +1,6 @@
 -- What a target does next, and when, by what all devices are told and by what it knows itself.
-use Rattle.std.specs.Prelude.{ℕ, List, ◌+◌, ◌==◌, Bool, true, false, Option, Some, None, if◌then◌else◌}
-use Rattle.bus_trace.specs.declared.Row.{Row}
+use Rattle.std.specs.Prelude.{◌+◌, ◌==◌, Bool, true, false, Option, Some, None, if◌then◌else◌}
 use Rattle.bus_trace.specs.declared.connection.Connection.{Connection}
-use Rattle.bus_lines.specs.Handshakes.{handshakes}
 use Rattle.scenario.specs.declared.value.FaultDef.{FaultDef}
 use Rattle.scenario.specs.declared.value.TargetDef.{TargetDef}
 use Rattle.reaction_model.specs.declared.due.Due.{Due}
@@ -13,14 +11,10 @@ use Rattle.reaction_model.specs.declared.ends.Pace.{Pace}
 use Rattle.reaction_model.specs.Linking.{link_due, sample_time}
 use Rattle.reaction_model.specs.Ends as hand
 use Rattle.reaction_model.specs.Reset.{with_reset}
-use Rattle.due_model.specs.dialogue_model.specs.declared.exchange.Leaving.{Leaving}
-use Rattle.due_model.specs.dialogue_model.specs.NextPhase.{leaving_by}
 use Rattle.due_model.specs.dialogue_model.specs.Ends.{offering_by}
 use Rattle.target_units.specs.declared.ready.Ready.{Ready}
-use Rattle.target_course.specs.declared.knowledge.Knowledge.{Knowledge}
-use Rattle.target_course.specs.Servings.{serving_with, AreBytesOf}
-use Rattle.target_units.specs.scsi_device.specs.Told.{Told, told, pace_of, flip_by}
-use Rattle.target_course.specs.States.{TargetState, state_of}
+use Rattle.target_units.specs.scsi_device.specs.Told.{Told, pace_of, flip_by}
+use Rattle.target_course.specs.States.{TargetState}
 use Rattle.due_model.specs.bus_rules.specs.Order.{is_of_device}
 
 abbrev pub myself_by : TargetDef → Told → TargetState → Myself
@@ -39,9 +33,6 @@ link_by d t f i =
     link_due t.sight (myself_by d t i) (want_of_ready i.ready) (flip_by f (sample_time t.sight (myself_by d t i)))
 
 -- In a connection of its own (6.1.5, 6.2.1); in one of others it does nothing. A target has no lag.
-abbrev pub leaving_of_target : Told → TargetState → Leaving
-leaving_of_target t i = leaving_by i.serving t.begun t.sight.bus
-
 abbrev pub offering_of_target : Told → TargetState → Offering
 offering_of_target t i = offering_by i.serving t.begun (pace_of t None).pulsed t.sight.bus t.handshakes
 
@@ -68,9 +59,3 @@ calm_by d t f i false (Some n) = connected_by d t f i n
 -- A reset of its own goes before all that (6.2.2).
 abbrev pub target_next : TargetDef → Told → Option FaultDef → TargetState → Option Due
 target_next d t f i = with_reset (myself_by d t i) i.own.rst i.reset (calm_by d t f i t.sight.bus.rst t.connection)
-
--- ---- the bytes that its process gives, which it has of these after these rows
-
-abbrev pub HasBytesOf : List Row → Knowledge → List ℕ → Type 0
-HasBytesOf rows k given = AreBytesOf (serving_with k.serving given)
-    (leaving_of_target (told rows k.serving.def.dev) (state_of k given)) (handshakes rows).requests k.bytes

@@ -1,5 +1,5 @@
 -- What a target knows beside what all devices are told.
-use Rattle.std.specs.Prelude.{ℕ, ◌≡◌, ◌<◌, ◌≤◌, ◌^◌, ◌==◌, true, false, List, Option, Some, None}
+use Rattle.std.specs.Prelude.{ℕ, ◌≡◌, ◌<◌, ◌^◌, ◌==◌, true, false, List, Option, Some, None}
 use Rattle.bus_trace.specs.Terms.{connection}
 use Rattle.bus_trace.specs.declared.Row.{Row}
 use Rattle.bus_trace.specs.declared.connection.Connection.{Connection}
@@ -21,9 +21,6 @@ use Rattle.due_model.specs.RunSteps.{run_state}
 use Rattle.due_model.specs.Due.{reset_from}
 use Rattle.target_units.specs.Readies.{ready_unit}
 use Rattle.target_units.specs.declared.ready.Ready.{Ready}
-use Rattle.target_course.specs.declared.knowledge.Knowledge.{Knowledge}
-use Rattle.target_course.specs.Fits.{AreFit}
-use Rattle.target_course.specs.Servings.{serving_with}
 use Rattle.array_model.specs.Seats.{is_initiator}
 
 -- ---- what it knows itself
@@ -36,14 +33,6 @@ pub record TargetState : Type 0 where
   pub ready : Option Ready
   -- in a connection of its own: what it decides by
   pub serving : next_phase.Serving
-
-abbrev pub state_of : Knowledge → List ℕ → TargetState
-state_of k given = record {
-  own = k.itself.now.own;
-  reset = k.itself.now.reset;
-  ready = k.ready;
-  serving = serving_with k.serving given;
-}
 
 -- A connection stands of which it is the target.
 pub record IsOwnConnection (rows : List Row) (dev : ℕ) (n : Connection) : Type 0 where
@@ -82,14 +71,8 @@ pub record IsTargetLine (s : ScenarioValue) (t : TargetDef) : Type 0 where
 pub record IsNoInitiator (rows : List Row) (dev : ℕ) : Type 0 where
   pub not_calling : (n : Connection) → connection rows ≡ Some n → (n.initiator == dev) ≡ false
 
--- ---- bounds: a device of the bus, with a latency of at most 100 ns, at times below 2 ^ 63, and logical units below 8
+-- ---- bounds: ready before 2 ^ 63, at one of eight logical units
 
 abbrev pub IsReadyWithin : Option Ready → Type 0
 IsReadyWithin None = Unit {0}
 IsReadyWithin (Some r) = (r.time < 2 ^ 63) × (r.unit < 8)
-
-pub record IsWithin (k : Knowledge) : Type 0 where
-  pub below : k.serving.def.dev < 8
-  pub latency : k.serving.def.latency ≤ 100
-  pub ready : IsReadyWithin k.ready
-  pub fits : AreFit k.serving.plan.messages

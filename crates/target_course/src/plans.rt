@@ -31,8 +31,8 @@ fn nothing_heard() -> Said
     }
 }
 
-/// The plan outside any connection.
-pub fn no_plan() -> Plan
+// The plan outside any connection.
+fn no_plan() -> Plan
     ensures { result ≡ no_plan }
 {
     Plan {

@@ -16,12 +16,3 @@ pub struct Serving {
     /// What becomes of its command, where this is COMMAND.
     pub arrival: Arrival,
 }
-
-/// The bytes that the target has from its unit for DATA IN, which the process gives.
-#[derive(Clone, Copy)]
-pub struct DataBytes {
-    /// The one after those that it has given in this phase.
-    pub next: u8,
-    /// The first one of the run that begins as it leaves the phase.
-    pub first: u8,
-}

@@ -47,7 +47,7 @@ returns-then-gives_now c = λ s rows n fits o d e able h course own calm from.
           ((λ i. is_initiator s.hosts (sym (ends.initiator ∙ from) i)) ∙ line.host)
           (ends.target ∙ eqb-true n.target v.def.dev own.own ∙ sym h.units_dev)
           (sym (x.named (name_of p) knows.named line.unit))
-          (ends.initiator ∙ from) (sym knows.block ∙ sym c.block.ensures.value) (λ i. (outlook.plan i).in_len);
+          (ends.initiator ∙ from) (sym knows.block) (λ i. (outlook.plan i).in_len);
       alike = subst (λ (bytes : List ℕ). AreAlikeIn rows v.def.dev
           (offering_in rows (serving_with c.args.known.now.serving bytes))
           (offering_in rows (serving_of s (run_state s rows) v.def.dev)))

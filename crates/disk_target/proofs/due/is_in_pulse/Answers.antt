@@ -1,6 +1,6 @@
 use Rattle.std.proofs.Common.{◌∙◌, None}
 use Rattle.disk_target.specs.Waits.{drives_pulse}
-use Rattle.disk_target.proofs.own.is_in_pulse.Goals as goal
+use Rattle.disk_target.proofs.due.is_in_pulse.Goals as goal
 
 pub returns : goal.returns
 returns c = λ rows o.
