@@ -39,32 +39,41 @@ pub struct Known {
     pub serving: Serving,
 }
 
+/// From what a target decides in a connection of its own, beside what it has heard in it.
+#[derive(Clone, Copy)]
+pub struct Sources<'a> {
+    /// Its line of the scenario.
+    pub def: &'a TargetDef,
+    /// Its units.
+    pub units: &'a Units,
+    /// How far its processes have come.
+    pub progress: &'a Progress,
+    /// The reply of the process that it serves.
+    pub reply: Option<Reply>,
+}
+
 // What the units and the counts of a target tell of the process of this course, which is of this unit and of this
-// initiator, and has this reply.
-fn state_of(
-    units: &Units,
-    progress: &Progress,
-    reply: Option<Reply>,
-    unit: u8,
-    from: Dev,
-    course: &Course,
-) -> ProcessState
+// initiator.
+fn state_of(sources: &Sources<'_>, unit: u8, from: Dev, course: &Course) -> ProcessState
     requires unit { unit < 8 }
     requires device { from < 8 }
     ensures state { (s : ScenarioValue) (rows : List Row) (d : TargetDef) (p : Process)
-        → AreSourcesOf s rows d units.now progress.now
+        → AreSourcesOf s rows d sources.now.units.now sources.now.progress.now
         → length rows < 2 ^ 64 → process_of s course.now.id ≡ Some p → course.now.id ≡ p.id
         → p.target ≡ d.dev → p.unit ≡ unit → p.initiator ≡ from
-        → reply ≡ reply_told (reply_in (array_of s (run_state s rows)).replies p.id)
+        → sources.now.reply ≡ reply_told (reply_in (array_of s (run_state s rows)).replies p.id)
         → IsStateOf s (run_state s rows) p result }
     ensures outlook { (s : ScenarioValue) (rows : List Row) (d : TargetDef) (p : Process)
-        → AreSourcesOf s rows d units.now progress.now
+        → AreSourcesOf s rows d sources.now.units.now sources.now.progress.now
         → is_initiator s.hosts from ≡ true → p.target ≡ d.dev → p.unit ≡ unit → p.initiator ≡ from
         → p.cdb ≡ course.now.block → process_of s p.id ≡ Some p → IsOutlookOf s (run_state s rows) p result }
-    ensures count { result.plan.in_len ≡ length (reply_at (unit_in units.now.units unit) from course.now.block).bytes }
-    ensures taken { result.plan.out_len ≡ taken_by (unit_in units.now.units unit) from course.now.block }
+    ensures count { result.plan.in_len
+        ≡ length (reply_at (unit_in sources.now.units.now.units unit) from course.now.block).bytes }
+    ensures taken { result.plan.out_len
+        ≡ taken_by (unit_in sources.now.units.now.units unit) from course.now.block }
 {
-    let counts = progress.counts(course.id());
+    let units = sources.units;
+    let counts = sources.progress.counts(course.id());
     let size = units.block_size(unit) as u64;
     let plan = units.plan(unit, from, course.block());
     ProcessState {
@@ -75,28 +84,21 @@ fn state_of(
         size,
         room: units.room(unit),
         plan,
-        reply: status_in(reply),
+        reply: status_in(sources.reply),
     }
 }
 
-/// What a target of this line, with these units, counts and reply, decides by in a connection of its own with this
-/// initiator, in which it has heard this.
-pub fn known_of(
-    def: &TargetDef,
-    units: &Units,
-    progress: &Progress,
-    reply: Option<Reply>,
-    from: Dev,
-    course: &Course,
-) -> Known
+/// What a target decides by in a connection of its own with this initiator, in which it has heard this.
+pub fn known_of(sources: &Sources<'_>, from: Dev, course: &Course) -> Known
     requires device { from < 8 }
     ensures from { result.from ≡ from }
-    ensures known { IsKnownBy def.now units.now progress.now reply course.now result }
+    ensures known { IsKnownBy sources.now.def.now sources.now.units.now sources.now.progress.now sources.now.reply
+        course.now result }
 {
     scenarios_fit_the_bus();
     let unit = unit_named(course);
-    let state = state_of(units, progress, reply, unit, from, course);
-    let serving = course.serving(def, &state);
+    let state = state_of(sources, unit, from, course);
+    let serving = course.serving(sources.def, &state);
     Known {
         unit,
         from,
@@ -171,24 +173,17 @@ fn refresh(known: &mut Option<Known>, course: &Option<Course>)
 
 // In a connection of its own, with this initiator.
 fn known_if(
-    def: &TargetDef,
-    units: &Units,
-    progress: &Progress,
-    reply: Option<Reply>,
+    sources: &Sources<'_>,
     course: &Option<Course>,
     own: Option<Connection>,
 ) -> Option<Known>
-    ensures { IsKnownIf def.now units.now progress.now reply course.now result }
+    ensures { IsKnownIf sources.now.def.now sources.now.units.now sources.now.progress.now sources.now.reply course.now
+        result }
 {
     match (own, course) {
-        (Some(connection), Some(course)) => Some(known_of(
-            def,
-            units,
-            progress,
-            reply,
-            connection.initiator.get(),
-            course,
-        )),
+        (Some(connection), Some(course)) => {
+            Some(known_of(sources, connection.initiator.get(), course))
+        }
         _ => None,
     }
 }
@@ -198,20 +193,18 @@ fn known_if(
 pub fn see_known(
     known: &mut Option<Known>,
     still: bool,
-    def: &TargetDef,
-    units: &Units,
-    progress: &Progress,
-    reply: Option<Reply>,
+    sources: &Sources<'_>,
     course: &Option<Course>,
     own: Option<Connection>,
 )
-    requires still { still ≡ true
-        → IsKnownIf def.now units.now progress.now reply course.now (refreshed known.old course.now) }
-    ensures { IsKnownIf def.now units.now progress.now reply course.now known.new }
+    requires still { still ≡ true → IsKnownIf sources.now.def.now sources.now.units.now sources.now.progress.now
+        sources.now.reply course.now (refreshed known.old course.now) }
+    ensures { IsKnownIf sources.now.def.now sources.now.units.now sources.now.progress.now sources.now.reply course.now
+        known.new }
 {
     if still {
         refresh(known, course);
     } else {
-        *known = known_if(def, units, progress, reply, course, own);
+        *known = known_if(sources, course, own);
     }
 }

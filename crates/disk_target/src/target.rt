@@ -56,7 +56,7 @@ use crate::bytes::{
 use crate::due::{
     calm_connection, goes_on_in, going_on, is_driven, is_in_pulse, is_waiting, link_due_of, myself,
 };
-use crate::known::{Known, is_quiet, is_still, known_of, see_known};
+use crate::known::{Known, Sources, is_quiet, is_still, known_of, see_known};
 use crate::processes::{Processes, units_stay_by_row};
 use crate::turn::{
     Sent, Turn, course_of, is_opening, no_turn, process_known, reply_seen, see_beginning,
@@ -179,14 +179,13 @@ impl Target {
         ensures from { result.from ≡ from }
         ensures known { IsKnownBy self.now.def self.now.units self.now.progress self.now.reply course.now result }
     {
-        known_of(
-            &self.def,
-            self.processes.units(),
-            &self.progress,
-            self.reply,
-            from,
-            course,
-        )
+        let sources = Sources {
+            def: &self.def,
+            units: self.processes.units(),
+            progress: &self.progress,
+            reply: self.reply,
+        };
+        known_of(&sources, from, course)
     }
 
     // The byte at a place of those that a command would give, which are so many.
@@ -820,13 +819,16 @@ impl Target {
         );
         self.itself.see(view, row);
         self.answers = view.handshakes().answers();
+        let sources = Sources {
+            def: &self.def,
+            units: self.processes.units(),
+            progress: &self.progress,
+            reply: self.reply,
+        };
         see_known(
             &mut self.known,
             still,
-            &self.def,
-            self.processes.units(),
-            &self.progress,
-            self.reply,
+            &sources,
             &self.course,
             own_connection(view, self.def.dev),
         );

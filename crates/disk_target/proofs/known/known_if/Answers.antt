@@ -6,5 +6,6 @@ use Rattle.disk_target.proofs.known.known_if.Goals as goal
 
 pub returns-in-Some-Some : goal.returns-in-Some-Some
 returns-in-Some-Some c =
-    λ x e. subst (λ (y : CourseState). IsKnownBy c.args.def.now c.args.units.now c.args.progress.now c.args.reply y
-    c.known_of.result) (some_is _ _ (sym c.in-Some-Some.is-1 ∙ e)) c.known_of.ensures.known
+    let x = c.args.sources.now in
+    λ y e. subst (λ (z : CourseState). IsKnownBy x.def.now x.units.now x.progress.now x.reply z c.known_of.result)
+    (some_is _ _ (sym c.in-Some-Some.is-1 ∙ e)) c.known_of.ensures.known

@@ -17,17 +17,17 @@ returns-clause-known c = record {
         let e = ends p is in
         let line = line_of_process s p.id p
         (λ m d x. c.scenarios_fit_the_bus.ensures.commands s m d fits x) (served_of s rows p is) in
-        c.state_of-state.ensures.state s rows c.args.def.now p h able.few ((λ i. process_of s (id i))
-        ∙ served_of s rows p is) id (e.target ∙ eqb-true n.target c.args.def.now.dev own.own)
+        c.state_of-state.ensures.state s rows c.args.sources.now.def.now p h able.few ((λ i. process_of s (id i))
+        ∙ served_of s rows p is) id (e.target ∙ eqb-true n.target c.args.sources.now.def.now.dev own.own)
         (sym (c.unit_named-unit.ensures.named (name_of p) name line.unit)) (e.initiator ∙ from)
         (replies n p own calm is);
     outlook = λ p is id name block.
         let e = ends p is in
         let line = line_of_process s p.id p
         (λ m d x. c.scenarios_fit_the_bus.ensures.commands s m d fits x) (served_of s rows p is) in
-        c.state_of-state.ensures.outlook s rows c.args.def.now p h
+        c.state_of-state.ensures.outlook s rows c.args.sources.now.def.now p h
         ((λ i. is_initiator s.hosts (sym (e.initiator ∙ from) i)) ∙ line.host)
-        (e.target ∙ eqb-true n.target c.args.def.now.dev own.own)
+        (e.target ∙ eqb-true n.target c.args.sources.now.def.now.dev own.own)
         (sym (c.unit_named-unit.ensures.named (name_of p) name line.unit)) (e.initiator ∙ from) (sym block)
         (served_of s rows p is);
   };
