@@ -59,7 +59,7 @@ use crate::due::{
 use crate::known::{Known, Sources, is_quiet, is_still, known_of, see_known};
 use crate::processes::{Processes, units_stay_by_row};
 use crate::turn::{
-    Sent, Turn, course_of, is_opening, no_turn, process_known, reply_seen, see_beginning,
+    RowEvents, Sent, Turn, course_of, is_opening, no_turn, process_known, reply_seen, see_beginning,
     see_course, see_events, see_sent,
 };
 use array_model::arrays_are_sound;
@@ -768,14 +768,17 @@ impl Target {
             &self.course,
             shown,
         );
+        let events = RowEvents {
+            shown,
+            time: row.time,
+        };
         see_events(
             &mut self.processes,
             &self.gathered,
             &turn,
             own_before(view, self.def.dev),
             &self.course,
-            shown,
-            row.time,
+            &events,
         );
         see_beginning(
             &mut self.processes,

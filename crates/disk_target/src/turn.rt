@@ -209,23 +209,31 @@ fn served<'a>(gathered: &'a Gathered, turn: &Turn, course: &'a Course, name: &Na
     }
 }
 
+/// The events that a row shows, and its time.
+#[derive(Clone, Copy)]
+pub struct RowEvents<'a> {
+    /// The events, the newest first.
+    pub shown: &'a [Event],
+    /// The time, in ns.
+    pub time: Ns,
+}
+
 // The events that a row shows of the process of a connection.
 fn see_served(
     processes: &mut Processes,
     gathered: &Gathered,
     turn: &Turn,
     course: &Course,
-    shown: &[Event],
-    now: Ns,
+    events: &RowEvents<'_>,
 )
     requires unit { turn.now.unit < 8 }
     requires device { turn.now.from < 8 }
     ensures trace { (s : ScenarioValue) (rows : List Row) (row : Row) (d : TargetDef) (n : ConnectionValue)
-        → IsRowFor s rows row d (Some course.now) turn.now gathered.now shown.now now
-        → IsOwnConnection rows d.dev n → (bus rows).rst ≡ false → is_reset shown.now ≡ false
-        → abort_of shown.now ≡ None → turn.now.opening ≡ false
+        → IsRowFor s rows row d (Some course.now) turn.now gathered.now events.now.shown.now events.now.time
+        → IsOwnConnection rows d.dev n → (bus rows).rst ≡ false → is_reset events.now.shown.now ≡ false
+        → abort_of events.now.shown.now ≡ None → turn.now.opening ≡ false
         → AreAttendedOf s rows d.dev processes.old → AreAttendedOn s rows row d.dev processes.new }
-    ensures nothing { shown.now ≡ [] → processes.new ≡ processes.old }
+    ensures nothing { events.now.shown.now ≡ [] → processes.new ≡ processes.old }
     ensures dev { processes.new.units.dev ≡ processes.old.units.dev }
     ensures seek { processes.new.units.seek ≡ processes.old.units.seek }
 {
@@ -236,7 +244,7 @@ fn see_served(
         None => {}
         Some(name) => {
             let served = served(gathered, turn, course, &name);
-            processes.see(shown, &served, now);
+            processes.see(events.shown, &served, events.time);
         }
     }
 }
@@ -288,61 +296,59 @@ fn see_own(
     gathered: &Gathered,
     turn: &Turn,
     course: &Course,
-    shown: &[Event],
-    now: Ns,
+    events: &RowEvents<'_>,
 )
     requires unit { turn.now.unit < 8 }
     requires device { turn.now.from < 8 }
     ensures trace { (s : ScenarioValue) (rows : List Row) (row : Row) (d : TargetDef) (n : ConnectionValue)
-        → IsRowFor s rows row d (Some course.now) turn.now gathered.now shown.now now
-        → IsOwnConnection rows d.dev n → (bus rows).rst ≡ false → is_reset shown.now ≡ false
+        → IsRowFor s rows row d (Some course.now) turn.now gathered.now events.now.shown.now events.now.time
+        → IsOwnConnection rows d.dev n → (bus rows).rst ≡ false → is_reset events.now.shown.now ≡ false
         → AreAttendedOf s rows d.dev processes.old → AreAttendedOn s rows row d.dev processes.new }
-    ensures nothing { shown.now ≡ [] → processes.new ≡ processes.old }
+    ensures nothing { events.now.shown.now ≡ [] → processes.new ≡ processes.old }
     ensures dev { processes.new.units.dev ≡ processes.old.units.dev }
     ensures seek { processes.new.units.seek ≡ processes.old.units.seek }
 {
     kept_is_plain();
     hearings_are_plain();
     scenarios_fit_the_bus();
-    match abort_if(event_at(shown, 0)) {
-        Some(abort) => see_abort(processes, &abort, now),
+    match abort_if(event_at(events.shown, 0)) {
+        Some(abort) => see_abort(processes, &abort, events.time),
         None if turn.opening => {}
-        None => see_served(processes, gathered, turn, course, shown, now),
+        None => see_served(processes, gathered, turn, course, events),
     }
 }
 
-/// The events that a row shows, the newest first, at `now`, in ns: a reset; and in a connection of this target, which
-/// stood before the row, an abort at one of its units, or those of the process that it serves. False where a unit could
-/// not take one of them.
+/// The events that a row shows: a reset; and in a connection of this target, which stood before the row, an abort at
+/// one of its units, or those of the process that it serves.
 pub fn see_events(
     processes: &mut Processes,
     gathered: &Gathered,
     turn: &Turn,
     before: Option<Connection>,
     course: &Option<Course>,
-    shown: &[Event],
-    now: Ns,
+    events: &RowEvents<'_>,
 )
     requires unit { turn.now.unit < 8 }
     requires device { turn.now.from < 8 }
     ensures trace { (s : ScenarioValue) (rows : List Row) (row : Row) (d : TargetDef)
-        → IsRowFor s rows row d course.now turn.now gathered.now shown.now now → IsOwnIf rows d.dev before
+        → IsRowFor s rows row d course.now turn.now gathered.now events.now.shown.now events.now.time
+        → IsOwnIf rows d.dev before
         → AreAttendedOf s rows d.dev processes.old → AreAttendedOn s rows row d.dev processes.new }
-    ensures nothing { shown.now ≡ [] → processes.new ≡ processes.old }
+    ensures nothing { events.now.shown.now ≡ [] → processes.new ≡ processes.old }
     ensures dev { processes.new.units.dev ≡ processes.old.units.dev }
     ensures seek { processes.new.units.seek ≡ processes.old.units.seek }
 {
     kept_is_plain();
     scenarios_fit_the_bus();
-    if is_reset_if(event_at(shown, 0)) {
-        processes.reset(now);
+    if is_reset_if(event_at(events.shown, 0)) {
+        processes.reset(events.time);
         return;
     }
     match before {
         None => {}
         Some(_) => match course {
             None => {}
-            Some(course) => see_own(processes, gathered, turn, course, shown, now),
+            Some(course) => see_own(processes, gathered, turn, course, events),
         },
     }
 }

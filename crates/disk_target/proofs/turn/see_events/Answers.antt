@@ -33,8 +33,9 @@ pub returns-in-Some-course-clause-trace : goal.returns-in-Some-course-clause-tra
 returns-in-Some-course-clause-trace c = λ s rows row d h before att.
     let it = subst (λ (x : Option Connection). IsOwnIf rows d.dev x) c.in-Some.is before in
     let none = sym (c.is_reset_if.ensures ∙ (λ i. is_reset_if (c.event_at.ensures i))) ∙ c.if-is_reset_if.false in
+    let e = c.args.events.now in
     c.see_own.ensures.trace s rows row d c.in-Some.field-0 (subst (λ (x : Option CourseState). IsRowFor s rows row d x
-    c.args.turn.now c.args.gathered.now c.args.shown.now c.args.now) c.in-Some-course.is h) it.0 it.1 none att
+    c.args.turn.now c.args.gathered.now e.shown.now e.time) c.in-Some-course.is h) it.0 it.1 none att
 
 pub returns-then-is_reset_if-clause-nothing : goal.returns-then-is_reset_if-clause-nothing
 returns-then-is_reset_if-clause-nothing c = λ e.
