@@ -31,7 +31,6 @@ ghost use Rattle.target_course.specs.Courses.{name_in, naming, tag_message, cour
 use crate::arrivals::arrival_by;
 use crate::commands::{blocks_named, is_request_sense, is_whole, is_write};
 use crate::events::{Shown, leaving_shown, nothing_shown};
-use crate::next_phase::phase_of;
 use crate::plans::{first_plan, no_messages, plan_after};
 use crate::serving::Serving;
 use array_model::tag_number;
@@ -426,14 +425,11 @@ impl Course {
             ≡ course_events self.now (serving_with serving.now given) connection.now hearing.now after }
     {
         if changes_phase(&hearing.change) || after.is_none() {
-            let before = hearing.change.before;
             leaving_shown(
                 serving,
                 connection,
-                hearing.begun,
+                hearing,
                 after.is_some(),
-                before.atn(),
-                phase_of(before),
                 self.id_known(),
             )
         } else {

@@ -1,16 +1,16 @@
 //! The events that the target of a connection shows as it leaves a phase.
 ghost use Rattle.std.specs.Prelude.{ℕ, ◌≡◌, ◌&&◌, not, List, [], ◌∷◌, Some, if◌then◌else◌};
-ghost use Rattle.due_model.specs.dialogue_model.specs.NextPhase.{phase_leaving};
+ghost use Rattle.due_model.specs.dialogue_model.specs.NextPhase.{phase_leaving, phase_of};
 ghost use Rattle.due_model.specs.dialogue_model.specs.Events.{arrival_event, arrival_events, detected_events, arrival_run_events, reply_events, is_status_next, has_replied, newest_with, turn_events, turn_events_if, unit_or_0, abort_events, loss_events, after_opening_events, connection_end_events, leaving_events, event_if};
 ghost use Rattle.target_course.specs.Servings.{serving_with};
 ghost use Rattle.target_course.specs.Shown.{shown_list};
 
-use crate::next_phase::phase_leaving;
+use crate::next_phase::{phase_leaving, phase_of};
 use crate::serving::Serving;
 use bus_base::{AbortKind, Event, ProcId};
 use bus_trace::Connection;
 use cdb_codec::{INITIATOR_DETECTED_ERROR, PARITY_ERROR};
-use due_model::the_dialogue_model::{Arrival, Cause, Phase, Plan, Said, Task};
+use due_model::the_dialogue_model::{Arrival, Cause, Hearing, Phase, Plan, Said, Task};
 
 /// What a row shows: nothing, one event, or two in this order.
 #[derive(Clone, Copy)]
@@ -188,26 +188,26 @@ fn connection_end(connection: &Connection, plan: &Plan, phase: Phase, id: Option
     }
 }
 
-/// What the target of a connection shows with the row that leaves this phase, where it serves this process: that a
-/// command arrived, that it runs or fails with its reply, that it is lost, or what was aborted. `begun` says that a
-/// phase has begun in the connection, `stands` that the connection stands after the row.
+/// What the target of a connection shows with a row that told this and leaves the phase before it, where it serves this
+/// process: that a command arrived, that it runs or fails with its reply, that it is lost, or what was aborted.
+/// `stands` says that the connection stands after the row.
 pub fn leaving_shown(
     serving: &Serving,
     connection: &Connection,
-    begun: bool,
+    hearing: &Hearing,
     stands: bool,
-    attention: bool,
-    phase: Phase,
     id: Option<ProcId>,
 ) -> Shown
-    ensures { (given : List ℕ)
-        → shown_list result ≡ leaving_events
-        (serving_with serving.now given) connection.now begun stands attention phase id }
+    ensures { (given : List ℕ) → shown_list result
+        ≡ leaving_events (serving_with serving.now given) connection.now hearing.now.begun stands
+        hearing.now.change.before.atn (phase_of hearing.now.change.before) id }
 {
-    if !begun {
+    let before = hearing.change.before;
+    let phase = phase_of(before);
+    if !hearing.begun {
         nothing_shown()
     } else if stands {
-        turn_shown_if(serving, attention, phase, id)
+        turn_shown_if(serving, before.atn(), phase, id)
     } else {
         connection_end(connection, &serving.plan, phase, id)
     }
