@@ -19,7 +19,7 @@ ghost use Rattle.due_model.specs.Defs.{host_of, opening};
 use crate::book::Book;
 use crate::mine::OwnItem;
 use crate::openings::{Words, item_opening};
-use crate::wish::{Wish, is_entry};
+use crate::wish::{Caller, Wish, is_entry};
 use bus_base::{Dev, Event, NoMemory, Ns};
 use bus_lines::{BusView, RowEffect, see_call};
 use bus_trace::{Call, Change, Connection, Row, falls};
@@ -165,17 +165,12 @@ impl Intent {
             then target_by self.new.wish.book self.new.wish.aim else self.old.callee) }
     {
         if is_news(&effect.change, effect.before, effect.after, shown) {
-            self.wish.see(
-                self.dev,
-                self.retries,
-                self.call,
-                &effect.change,
-                effect.before,
-                effect.after,
-                row.dev,
-                row.time,
-                shown,
-            );
+            let caller = Caller {
+                dev: self.dev,
+                retries: self.retries,
+                call: self.call,
+            };
+            self.wish.see(&caller, effect, row, shown);
             self.since = self.wish.book().since();
             self.callee = self.wish.book().target_by(self.wish.aim());
         }

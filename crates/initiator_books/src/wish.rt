@@ -7,10 +7,22 @@ ghost use Rattle.initiator_books.specs.Wishes.{command_tried, abort_tried, book_
 use crate::book::Book;
 use crate::mine::OwnItem;
 use bus_base::{Dev, Event, NoMemory, Ns, ProcId};
-use bus_trace::{Call, Calling, Change, Connection, falls, rises};
+use bus_lines::RowEffect;
+use bus_trace::{Call, Calling, Change, Connection, Row, falls, rises};
 use scenario::Scenario;
 use std::alloc::Global;
 use std::marker::Model;
+
+/// An initiator as it calls, with the call that stands, of any device.
+#[derive(Clone, Copy)]
+pub struct Caller {
+    /// Its ID.
+    pub dev: Dev,
+    /// How often it tries again.
+    pub retries: u8,
+    /// The call.
+    pub call: Option<Call>,
+}
 
 /// What an initiator wants of the bus.
 #[derive(Drop)]
@@ -142,22 +154,17 @@ impl Wish {
         }
     }
 
-    fn on_free_bus(
-        &mut self,
-        dev: Dev,
-        retries: u8,
-        call: Option<Call>,
-        change: &Change,
-        before: Option<Connection>,
-        row_dev: Dev,
-        time: Ns,
-    )
-        ensures { self.new ≡ wish_on_free_bus dev retries call self.old change.now before row_dev time }
+    fn on_free_bus(&mut self, caller: &Caller, effect: &RowEffect, row: &Row)
+        ensures { self.new ≡ wish_on_free_bus caller.now.dev caller.now.retries caller.now.call self.old
+            effect.now.change effect.now.before row.now.dev row.now.time }
     {
-        if is_entry(change, before) {
-            self.enter(dev, row_dev, time);
-        } else if falls(change.before.sel(), change.after.sel()) && is_call_in_vain(dev, call) {
-            self.try_again(retries);
+        let change = &effect.change;
+        if is_entry(change, effect.before) {
+            self.enter(caller.dev, row.dev, row.time);
+        } else if falls(change.before.sel(), change.after.sel())
+            && is_call_in_vain(caller.dev, caller.call)
+        {
+            self.try_again(caller.retries);
         }
     }
 
@@ -169,62 +176,32 @@ impl Wish {
         }
     }
 
-    fn on_bus(
-        &mut self,
-        dev: Dev,
-        retries: u8,
-        call: Option<Call>,
-        change: &Change,
-        before: Option<Connection>,
-        after: Option<Connection>,
-        row_dev: Dev,
-        time: Ns,
-    )
-        ensures { self.new ≡ wish_on_bus dev retries call self.old change.now before after row_dev time }
+    fn on_bus(&mut self, caller: &Caller, effect: &RowEffect, row: &Row)
+        ensures { self.new ≡ wish_on_bus caller.now.dev caller.now.retries caller.now.call self.old effect.now.change
+            effect.now.before effect.now.after row.now.dev row.now.time }
     {
-        match (before, after) {
-            (None, None) => self.on_free_bus(dev, retries, call, change, before, row_dev, time),
-            (None, Some(connection)) => self.after_connection(dev, connection),
+        match (effect.before, effect.after) {
+            (None, None) => self.on_free_bus(caller, effect, row),
+            (None, Some(connection)) => self.after_connection(caller.dev, connection),
             (Some(_), _) => {}
         }
     }
 
-    fn by_change(
-        &mut self,
-        dev: Dev,
-        retries: u8,
-        call: Option<Call>,
-        change: &Change,
-        before: Option<Connection>,
-        after: Option<Connection>,
-        row_dev: Dev,
-        time: Ns,
-    )
-        ensures { self.new ≡ wish_by_change dev retries call self.old change.now before after row_dev time }
+    fn by_change(&mut self, caller: &Caller, effect: &RowEffect, row: &Row)
+        ensures { self.new ≡ wish_by_change caller.now.dev caller.now.retries caller.now.call self.old
+            effect.now.change effect.now.before effect.now.after row.now.dev row.now.time }
     {
-        if !change.after.rst() {
-            self.on_bus(dev, retries, call, change, before, after, row_dev, time);
+        if !effect.change.after.rst() {
+            self.on_bus(caller, effect, row);
         }
     }
 
-    /// A row of a device, of this time, in ns, which changed this, and before and after which these connections stood;
-    /// `call` is the call that stood before it, and `shown` are the events that it shows, the newest first. `dev` is
-    /// the initiator, and `retries` how often it tries again.
-    pub fn see(
-        &mut self,
-        dev: Dev,
-        retries: u8,
-        call: Option<Call>,
-        change: &Change,
-        before: Option<Connection>,
-        after: Option<Connection>,
-        row_dev: Dev,
-        time: Ns,
-        shown: &[Event],
-    )
-        ensures { self.new ≡ wish_after dev retries call self.old change.now before after row_dev time shown.now }
+    /// A row that did this, and shows these events, the newest first; the call of `caller` is that before it.
+    pub fn see(&mut self, caller: &Caller, effect: &RowEffect, row: &Row, shown: &[Event])
+        ensures { self.new ≡ wish_after caller.now.dev caller.now.retries caller.now.call self.old effect.now.change
+            effect.now.before effect.now.after row.now.dev row.now.time shown.now }
     {
-        self.by_change(dev, retries, call, change, before, after, row_dev, time);
+        self.by_change(caller, effect, row);
         self.book.see_all(shown);
     }
 }
