@@ -13,7 +13,7 @@ use crate::caller::{answered_due, caller_due};
 use crate::free_bus::{arbitration_due, free_due};
 use bus_base::Ns;
 use bus_lines::{BusView, Stage};
-use bus_trace::{BUS_SETTLE_DELAY, Call, Calling, Lines};
+use bus_trace::{BUS_SETTLE_DELAY, Call, Calling, LineTimes, Lines};
 use reaction_model::{Due, Myself, Want, due_at};
 
 fn calling_due(
@@ -61,25 +61,24 @@ fn answer_due(
 fn link_due_by(
     stage: Stage,
     bus: Lines,
-    bsy: Ns,
-    sel: Ns,
+    times: &LineTimes,
     me: &Myself,
     want: &Want,
     flip: Option<u8>,
 ) -> Option<Due>
     requires stage { IsStageBefore time_limit stage }
-    requires bsy { bsy < time_limit }
-    requires sel { sel < time_limit }
+    requires bsy { times.now.bsy < time_limit }
+    requires sel { times.now.sel < time_limit }
     requires ready { IsReady me.now }
     requires since { IsBefore time_limit want.now.since }
-    ensures { result ≡ link_due_by bus bsy sel me.now want.now flip stage }
+    ensures { result ≡ link_due_by bus times.now.bsy times.now.sel me.now want.now flip stage }
 {
     match stage {
         Stage::OnFreeBus(free) => free_due(me, free, want.since),
         Stage::InArbitration(arbitration) => arbitration_due(me, bus, arbitration, want.since),
-        Stage::InCalling(call) => { calling_due(me, want, bsy, sel, flip, &call) }
+        Stage::InCalling(call) => calling_due(me, want, times.bsy, times.sel, flip, &call),
         Stage::InAnswer(call, calling, answered) => {
-            answer_due(me, want, sel, &call, &calling, answered)
+            answer_due(me, want, times.sel, &call, &calling, answered)
         }
         Stage::InConnection(_) => None,
         Stage::InReset(since) => release(me, since),
@@ -98,15 +97,8 @@ pub fn link_due(view: &BusView, me: &Myself, want: &Want, flip: Option<u8>) -> O
 {
     let lines = view.lines();
     let stage = view.stage();
-    link_due_by(
-        stage,
-        lines.bus(),
-        lines.times().bsy,
-        lines.times().sel,
-        me,
-        want,
-        flip,
-    )
+    let times = lines.times();
+    link_due_by(stage, lines.bus(), &times, me, want, flip)
 }
 
 /// When a device samples the IDs, in ns, where it is called: a bus settle delay and its latency after BSY became false
