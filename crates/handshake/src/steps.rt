@@ -198,7 +198,6 @@ fn with_byte_count(state: &EndState, into: bool, account: &Handshakes) -> EndSta
 fn hand_after(
     into: bool,
     view: &BusView,
-    seen: &Sight,
     state: &EndState,
     now: Ns,
     flip: Option<u8>,
@@ -208,12 +207,12 @@ fn hand_after(
     requires bounded { steps.IsBounded state.now }
     requires now { now < 2 ^ 63 }
     requires flip { ForSome flip (λ bit. bit ≤ 8) }
-    ensures exact { (rows : List Row) → IsBusViewOf rows view.now → seen.now ≡ sight rows →
+    ensures exact { (rows : List Row) → IsBusViewOf rows view.now →
         result ≡ steps.hand_after into rows state.now now flip due }
     ensures bounded { steps.IsBounded result.next }
 {
     let account = view.handshakes();
-    let idle = is_idle(seen, account, &state.pace, now);
+    let idle = is_idle(&sight_of(view), account, &state.pace, now);
     let crossed = untold_crossing(into, state.byte_count, flip, view);
     hand_by(
         with_byte_count(state, into, account),
@@ -285,7 +284,7 @@ pub fn initiator_hand(
 {
     let seen = sight_of(view);
     let due = initiator_next(view, &seen, state, offered);
-    hand_after(into, view, &seen, state, now, flip, due)
+    hand_after(into, view, state, now, flip, due)
 }
 
 /// A step of the target. `into` says whether the phase is to the initiator.
@@ -307,5 +306,5 @@ pub fn target_hand(
 {
     let seen = sight_of(view);
     let due = target_next(view, &seen, state, offered);
-    hand_after(into, view, &seen, state, now, flip, due)
+    hand_after(into, view, state, now, flip, due)
 }
