@@ -88,28 +88,37 @@ fn is_of_device(one: Option<Dev>, dev: Dev) -> bool
     }
 }
 
+// A row of which devices are told.
+#[derive(Clone, Copy)]
+struct News<'a> {
+    row: &'a Row,
+    // The process of the connection that stands after it, as its initiator knows it.
+    label: ProcId,
+    // The events that it shows, the newest first.
+    shown: &'a [Event],
+}
+
 // The device in the place of this ID is told of a row, unless it is the one that was told of it first.
 fn see_unless<D: Device>(
     places: &mut [Option<D>],
     one: Option<Dev>,
     dev: Dev,
     observer: &Observer,
-    row: &Row,
-    label: ProcId,
-    shown: &[Event],
+    news: &News<'_>,
 )
     requires eight { length places.old ≡ 8 }
     requires place { dev < 8 }
-    requires device { row.now.dev < 8 }
+    requires device { news.now.row.now.dev < 8 }
     requires timely { IsTimely (2 ^ 63) observer.now.view }
-    ensures { (s : ScenarioValue) (rows : List Row) → AreSeen s (row.now ∷ rows) observer.now
-        → shown.now ≡ events_shown s rows row.now
-        → ((n : Connection) → connection (row.now ∷ rows) ≡ Some n → label ≡ process_known s (row.now ∷ rows))
-        → AreKnownBut D.IsOf s rows row.now dev one places.old
-        → AreKnownBut D.IsOf s rows row.now (dev + 1) one places.new }
+    ensures { (s : ScenarioValue) (rows : List Row) → AreSeen s (news.now.row.now ∷ rows) observer.now
+        → news.now.shown.now ≡ events_shown s rows news.now.row.now
+        → ((n : Connection) → connection (news.now.row.now ∷ rows) ≡ Some n
+        → news.now.label ≡ process_known s (news.now.row.now ∷ rows))
+        → AreKnownBut D.IsOf s rows news.now.row.now dev one places.old
+        → AreKnownBut D.IsOf s rows news.now.row.now (dev + 1) one places.new }
 {
     if !is_of_device(one, dev) {
-        see_in(places, dev, observer, row, label, shown);
+        see_in(places, dev, observer, news.row, news.label, news.shown);
     }
 }
 
@@ -118,20 +127,20 @@ fn see_others<D: Device>(
     places: &mut [Option<D>],
     one: Option<Dev>,
     observer: &Observer,
-    row: &Row,
-    label: ProcId,
-    shown: &[Event],
+    news: &News<'_>,
 )
     requires eight { length places.old ≡ 8 }
-    requires device { row.now.dev < 8 }
+    requires device { news.now.row.now.dev < 8 }
     requires timely { IsTimely (2 ^ 63) observer.now.view }
-    ensures { (s : ScenarioValue) (rows : List Row) → AreSeen s (row.now ∷ rows) observer.now
-        → shown.now ≡ events_shown s rows row.now
-        → ((n : Connection) → connection (row.now ∷ rows) ≡ Some n → label ≡ process_known s (row.now ∷ rows))
-        → AreKnownBut D.IsOf s rows row.now 0 one places.old → AreIn D.IsOf s (row.now ∷ rows) places.new }
+    ensures { (s : ScenarioValue) (rows : List Row) → AreSeen s (news.now.row.now ∷ rows) observer.now
+        → news.now.shown.now ≡ events_shown s rows news.now.row.now
+        → ((n : Connection) → connection (news.now.row.now ∷ rows) ≡ Some n
+        → news.now.label ≡ process_known s (news.now.row.now ∷ rows))
+        → AreKnownBut D.IsOf s rows news.now.row.now 0 one places.old
+        → AreIn D.IsOf s (news.now.row.now ∷ rows) places.new }
 {
     for dev in 0..8 {
-        see_unless(places, one, dev, observer, row, label, shown);
+        see_unless(places, one, dev, observer, news);
     }
 }
 
@@ -205,11 +214,16 @@ fn see_any<D: Device>(places: &mut [Option<D>], observer: &Observer, row: &Row, 
         → AreIn D.IsOf s rows places.old → AreIn D.IsOf s (row.now ∷ rows) places.new }
 {
     match observer.view().connection() {
-        None => see_others(places, None, observer, row, no_process(), shown),
+        None => {
+            let label = no_process();
+            let news = News { row, label, shown };
+            see_others(places, None, observer, &news);
+        }
         Some(ends) => {
             let label = see_initiator(places, &ends, observer, row, shown);
+            let news = News { row, label, shown };
             let first = ends.initiator.get();
-            see_others(places, Some(first), observer, row, label, shown);
+            see_others(places, Some(first), observer, &news);
         }
     }
 }

@@ -11,7 +11,9 @@ use Rattle.bus_run.proofs.telling.see_others.Given as goal
 
 abbrev pub invariant-loop-dev : goal.invariant-loop-dev
 invariant-loop-dev g l =
-    (s : ScenarioValue) (rows : List Row) → AreSeen s (l.row ∷ rows) l.observer → l.shown ≡ events_shown s rows l.row
-    → ((n : Connection) → connection (l.row ∷ rows) ≡ Some n → l.label ≡ process_known s (l.row ∷ rows))
-    → AreKnownBut g.D.Device.IsOf s rows l.row 0 l.one l.initial.places
-    → AreKnownBut g.D.Device.IsOf s rows l.row l.dev l.one l.places
+    (s : ScenarioValue) (rows : List Row) → AreSeen s (l.news.row.now ∷ rows) l.observer
+    → l.news.shown.now ≡ events_shown s rows l.news.row.now
+    → ((n : Connection) → connection (l.news.row.now ∷ rows) ≡ Some n
+    → l.news.label ≡ process_known s (l.news.row.now ∷ rows))
+    → AreKnownBut g.D.Device.IsOf s rows l.news.row.now 0 l.one l.initial.places
+    → AreKnownBut g.D.Device.IsOf s rows l.news.row.now l.dev l.one l.places
