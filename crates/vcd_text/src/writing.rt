@@ -171,27 +171,27 @@ fn put_later<K: Sink>(
     );
 }
 
-// The change of a device, after the time where that is above the last that was written; and the last then.
+// The change of the device of a row to these lines, after its time where that is above the last that was written; and
+// the last then.
 fn put_change<K: Sink>(
     out: &mut K,
     page: &mut Page,
     upper: &mut UpperDigits,
     last: Ns,
-    time: Ns,
-    dev: Dev,
+    row: &Row,
     lines: u32,
 ) -> Ns
-    requires { dev < 8 }
+    requires { row.now.dev < 8 }
     ensures text { Prints K.written K.faults out.old out.new page.old page.new
-        (time_text last time ++ value_text dev lines) }
-    ensures last { result ≡ later last time }
+        (time_text last row.now.time ++ value_text row.now.dev lines) }
+    ensures last { result ≡ later last row.now.time }
 {
-    if last >= time {
-        put(out, page, &value_line(dev, lines));
+    if last >= row.time {
+        put(out, page, &value_line(row.dev, lines));
         return last;
     }
-    put_later(out, page, upper, time, dev, lines);
-    time
+    put_later(out, page, upper, row.time, row.dev, lines);
+    row.time
 }
 
 // What a row writes after this time, and the last time then.
@@ -208,7 +208,7 @@ fn put_row<K: Sink>(
     ensures last { result ≡ time_after last row.now.time row.now.kind }
 {
     match row.kind {
-        Kind::Drives(lines) => put_change(out, page, upper, last, row.time, row.dev, lines.bits()),
+        Kind::Drives(lines) => put_change(out, page, upper, last, row, lines.bits()),
         Kind::Fault(_) => last,
     }
 }

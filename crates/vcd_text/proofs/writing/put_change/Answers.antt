@@ -4,14 +4,16 @@ use Rattle.vcd_text.specs.DumpText.{value_text}
 use Rattle.vcd_text.proofs.Written.{time_shown, time_hidden}
 use Rattle.vcd_text.proofs.writing.put_change.Goals as goal
 
-pub returns-then-last-time-clause-text : goal.returns-then-last-time-clause-text
-returns-then-last-time-clause-text g c =
-    let line = value_text c.args.dev c.args.lines in
+pub returns-then-last-row-clause-text : goal.returns-then-last-row-clause-text
+returns-then-last-row-clause-text g c =
+    let row = c.args.row.now in
+    let line = value_text row.dev c.args.lines in
     put_as _ c.put.ensures (c.value_line.ensures
-    ∙ ap (λ (text : List ℕ). text ++ line) (time_hidden c.args.last c.args.time (omega (arith, c.if-last-time.true))))
+    ∙ ap (λ (text : List ℕ). text ++ line) (time_hidden c.args.last row.time (omega (arith, c.if-last-row.true))))
 
 pub returns-clause-text : goal.returns-clause-text
 returns-clause-text g c =
-    let line = value_text c.args.dev c.args.lines in
+    let row = c.args.row.now in
+    let line = value_text row.dev c.args.lines in
     put_as _ c.put_later.ensures
-    (ap (λ (text : List ℕ). text ++ line) (time_shown c.args.last c.args.time (omega (arith, c.if-last-time.false))))
+    (ap (λ (text : List ℕ). text ++ line) (time_shown c.args.last row.time (omega (arith, c.if-last-row.false))))
