@@ -15,7 +15,7 @@ use Rattle.due_model.specs.RunSteps.{array_after_events}
 use Rattle.target_course.specs.target_units.specs.Units.{IsStep}
 use Rattle.disk_target.specs.declared.standing.Standing.{Standing}
 use Rattle.disk_target.specs.declared.standing.Standing.TheVariants as standings
-use Rattle.disk_target.specs.declared.standing.Served.{Served}
+use Rattle.target_course.specs.target_units.specs.declared.served.Served.{Served}
 use Rattle.disk_target.specs.Standings.{HasBlock}
 use Rattle.disk_target.specs.Processes.{ProcessesState, AreProcessesAt, AreProcessesAfter, AreSettledAt, IsOwnEvent}
 use Rattle.disk_target.specs.Processes.{AreOwnEvents, times_of_events}

@@ -46,7 +46,7 @@ use Rattle.disk_target.specs.Attended.{are_in, are_known_ends}
 use Rattle.disk_target.specs.Processes.{AreOwnEvents}
 use Rattle.disk_target.specs.Standings.{HasBlock, IsNoGuest, IsStanding}
 use Rattle.disk_target.specs.Turns.{abort_of}
-use Rattle.disk_target.specs.declared.standing.Served.{Served}
+use Rattle.target_course.specs.target_units.specs.declared.served.Served.{Served}
 use Rattle.disk_target.specs.declared.standing.Standing.{Standing}
 use Rattle.disk_target.specs.declared.standing.Standing.TheVariants as standings
 use Rattle.disk_target.proofs.Beginnings.{new_nowhere}

@@ -17,7 +17,7 @@ use Rattle.target_course.specs.target_units.specs.Seated.{HasSent}
 use Rattle.target_course.specs.target_units.specs.Units.{UnitsState, AreUnitsOf, IsStep}
 use Rattle.disk_target.specs.declared.standing.Standing.{Standing}
 use Rattle.disk_target.specs.declared.standing.Standing.TheVariants as standings
-use Rattle.disk_target.specs.declared.standing.Served.{Served}
+use Rattle.target_course.specs.target_units.specs.declared.served.Served.{Served}
 use Rattle.disk_target.specs.Standings.{IsStanding, HasBlock, is_guest}
 
 pub record ProcessesState : Type 0 where

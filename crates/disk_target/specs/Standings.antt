@@ -12,7 +12,7 @@ use Rattle.array_model.specs.Steps.{running_if}
 use Rattle.array_model.specs.Units.{RunningProcess, UnitState, guest_at}
 use Rattle.disk_unit.specs.declared.unit.Reply.{Reply}
 use Rattle.target_course.specs.target_units.specs.Seated.{IsProcess, reply_told}
-use Rattle.disk_target.specs.declared.standing.Served.{Served}
+use Rattle.target_course.specs.target_units.specs.declared.served.Served.{Served}
 use Rattle.disk_target.specs.declared.standing.Standing.{Standing}
 use Rattle.disk_target.specs.declared.standing.Standing.TheVariants as standings
 

@@ -35,8 +35,9 @@ mod target;
 mod turn;
 
 pub use processes::{Processes, units_stay_by_row};
-pub use standing::{Served, Standing};
+pub use standing::Standing;
 pub use target::Target;
+pub use target_course::the_target_units::Served;
 
 // Handed on to the crates above that list this one and not these.
 pub use target_course as the_target_course;

@@ -28,7 +28,7 @@ ghost use Rattle.disk_target.specs.Processes.{AreProcessesAt, AreProcessesAfter,
 ghost use Rattle.disk_target.specs.declared.standing.Standing.{Standing as StandingValue};
 ghost use Rattle.disk_target.specs.declared.standing.Standing.TheVariants.{Nowhere, Guest};
 
-use crate::standing::{Served, Standing};
+use crate::standing::Standing;
 use bus_base::{AbortKind, Dev, Event, NoMemory, Ns, ProcId};
 use cdb_codec::{Command, from_cdb};
 use disk_unit::{Accepted, Plan, Reply, aborted_reply, planned_reply, refusal};
@@ -36,7 +36,7 @@ use due_model::the_dialogue_model::Room;
 use scenario::{Scenario, TargetDef};
 use std::alloc::Global;
 use std::marker::Model;
-use target_course::the_target_units::Units;
+use target_course::the_target_units::{Served, Units};
 
 /// The units of a target, and where the process of its connection stands.
 #[derive(Drop)]
@@ -144,15 +144,7 @@ impl Processes {
         ensures seek { self.new.units.seek ≡ self.old.units.seek }
     {
         let outside = is_outside(self.units.room(served.unit), served.cdb);
-        self.units.accept(
-            served.unit,
-            served.id,
-            served.from,
-            served.tag,
-            served.class,
-            served.cdb,
-            now,
-        );
+        self.units.accept(served, now);
         self.standing = standing_on_arrival(outside);
     }
 
@@ -168,15 +160,7 @@ impl Processes {
         ensures dev { self.new.units.dev ≡ self.old.units.dev }
         ensures seek { self.new.units.seek ≡ self.old.units.seek }
     {
-        self.units.accept(
-            served.unit,
-            served.id,
-            served.from,
-            served.tag,
-            served.class,
-            served.cdb,
-            now,
-        );
+        self.units.accept(served, now);
         self.standing = Standing::Guest(Some(refusal()));
     }
 

@@ -1,5 +1,4 @@
 //! The process of a connection, as its target knows it.
-use bus_base::{Class, Dev, ProcId};
 use disk_unit::Reply;
 
 /// What the process of a connection is to its target.
@@ -11,23 +10,4 @@ pub enum Standing {
     Queued,
     /// It stands outside the queue, with its reply once it has one (7.5).
     Guest(Option<Reply>),
-}
-
-/// A process, as its target knows it.
-#[derive(Clone, Copy)]
-pub struct Served<'a> {
-    /// Its logical unit.
-    pub unit: u8,
-    /// Its number.
-    pub id: ProcId,
-    /// Its initiator.
-    pub from: Dev,
-    /// The number of its queue tag message.
-    pub tag: Option<u8>,
-    /// How it is queued.
-    pub class: Class,
-    /// The command descriptor block.
-    pub cdb: &'a [u8],
-    /// The bytes that it sent.
-    pub sent: &'a [u8],
 }

@@ -31,7 +31,6 @@ ghost use Rattle.disk_target.specs.Targets.{AreTied, IsCourseIf, IsStandingOf};
 ghost use Rattle.disk_target.specs.Turns.{abort_if, abort_of, count_sent, is_opening_by, is_reset, is_reset_if, AreAttendedOf, AreAttendedOn, GathersOn, IsSentIf, IsRowFor, IsTurnIf, IsTurnOf, IsTurnShown};
 
 use crate::processes::{Processes, event_at};
-use crate::standing::Served;
 use bus_base::{AbortKind, Dev, Event, Ns, ProcId};
 use bus_trace::{Connection, rows_change_one_device};
 use cdb_codec::from_cdb;
@@ -40,6 +39,7 @@ use due_model::the_dialogue_model::{Cause, Hearing, Leaving, Messages, Next, Pha
 use due_model::{hearings_are_plain, kept_is_plain};
 use tag_queue::Entry;
 use target_course::the_scsi_device::scenarios_fit_the_bus;
+use target_course::the_target_units::Served;
 use target_course::{
     Course, Gathered, Name, Shown, is_write, phase_of, replies_come_later, reply_after,
 };

@@ -29,6 +29,7 @@ use Rattle.disk_unit.specs.declared.unit.Accepted.TheVariants as accepted
 use Rattle.disk_unit.specs.declared.unit.Reply.{Reply as UnitReply}
 use Rattle.due_model.specs.dialogue_model.specs.declared.exchange.Room.{Room}
 use Rattle.target_units.specs.declared.ready.Ready.{Ready}
+use Rattle.target_units.specs.declared.served.Served.{Served}
 use Rattle.due_model.specs.RunSteps.{is_same_running}
 
 pub record SeatedState : Type 0 where
@@ -142,6 +143,10 @@ pub record IsProcess (p : Process) (id : ProcId) (from : ℕ) (tag : Option ℕ)
   pub tag_is : tag_number p.tag ≡ tag
   pub class_is : class_of p.tag ≡ class
   pub cdb_is : p.cdb ≡ cdb
+
+-- It knows the process so.
+abbrev pub IsKnownAs : Process → Served → Type 0
+IsKnownAs p x = IsProcess p x.id x.from x.tag x.class x.cdb.now
 
 -- A process of an initiator of the scenario that is neither in the queue of the seat nor outside it.
 pub record IsNew (hosts : List HostDef) (seat : Seat) (p : Process) : Type 0 where

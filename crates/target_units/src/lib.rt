@@ -2,8 +2,8 @@
 //!
 //! [`Units`] are the eight of a target: a [`LogicalUnit`] is there, a [`SeatedUnit`] with its queue, its hold and its
 //! disk or tape, or it is not, an [`AbsentUnit`], which keeps senses and a hold all the same. [`Ready`] is the unit
-//! whose current process is ready for a reselection. Stands on `disk_unit`, `tape_unit`, `tag_queue`, `scsi_device` and
-//! the definitions of `array_model` and `due_model`.
+//! whose current process is ready for a reselection, and [`Served`] a process as its target knows it. Stands on
+//! `disk_unit`, `tape_unit`, `tag_queue`, `scsi_device` and the definitions of `array_model` and `due_model`.
 //!
 //! Public contract: where each unit stands at its seat (`specs/Units.antt`, `AreUnitsOf`), as it does before any event,
 //! it does so after every event that the array permits, with the choice that follows it; and what it tells is that of
@@ -19,6 +19,7 @@ mod logical;
 mod parts;
 mod ready;
 mod seated;
+mod served;
 mod units;
 
 pub use absent::AbsentUnit;
@@ -28,6 +29,7 @@ pub use laws::{
 pub use logical::LogicalUnit;
 pub use ready::Ready;
 pub use seated::SeatedUnit;
+pub use served::Served;
 pub use units::Units;
 
 // Handed on to the crates above that list this one and not these.

@@ -17,7 +17,7 @@ ghost use Rattle.disk_unit.specs.Held.{cost_by, kind_of};
 ghost use Rattle.disk_unit.specs.Units.{told_of};
 ghost use Rattle.disk_unit.specs.Plans.{plan_of};
 ghost use Rattle.disk_unit.specs.declared.unit.Accepted.TheVariants as accepted;
-ghost use Rattle.target_units.specs.Seated.{seat_time, running_id, running_entry, running_block, current_reply, IsProcess, IsNew, HasSent, IsSensing, taken_in};
+ghost use Rattle.target_units.specs.Seated.{seat_time, running_id, running_entry, running_block, current_reply, IsKnownAs, IsNew, HasSent, IsSensing, taken_in};
 ghost use Rattle.target_units.specs.Readies.{ready_unit};
 ghost use Rattle.target_units.specs.Rooms.{HasRoomFor, IsOfKind};
 ghost use Rattle.target_units.specs.Fillings.{blocks_at};
@@ -26,7 +26,8 @@ ghost use Rattle.target_units.specs.Units.{IsUnitOf, reply_at, taken_by, room_if
 use crate::absent::AbsentUnit;
 use crate::ready::Ready;
 use crate::seated::SeatedUnit;
-use bus_base::{AbortKind, Class, Dev, NoMemory, Ns, ProcId};
+use crate::served::Served;
+use bus_base::{AbortKind, Dev, NoMemory, Ns, ProcId};
 use disk_unit::{Accepted, Plan, Reply};
 use due_model::the_dialogue_model::Room;
 use scenario::{Scenario, TapeDef, TargetDef, UnitDef, tape_line, unit_line};
@@ -238,35 +239,27 @@ impl LogicalUnit {
 impl LogicalUnit {
     /// The command of a process arrives at `now`, in ns (`SeatedUnit::accept`). At a unit that is not there it runs at
     /// once, outside every queue.
-    pub fn accept(
-        &mut self,
-        id: ProcId,
-        from: Dev,
-        tag: Option<u8>,
-        class: Class,
-        cdb: &[u8],
-        now: Ns,
-    ) -> Accepted
-        requires device { from < 8 }
-        requires most { length cdb.now ≤ 10 }
+    pub fn accept(&mut self, served: &Served<'_>, now: Ns) -> Accepted
+        requires device { served.now.from < 8 }
+        requires most { length served.now.cdb.now ≤ 10 }
         ensures accepts { (hosts : List HostDef) (seat after : Seat) (time : ℕ) (p : Process)
-            → IsUnitOf hosts seat time self.old → IsProcess p id from tag class cdb.now
+            → IsUnitOf hosts seat time self.old → IsKnownAs p served.now
             → IsOfKind p.serial seat.unit → IsNew hosts seat p → seat_after_accept p seat ≡ Some after
             → IsUnitOf hosts (settled_seat after) (seat_time seat (settled_seat after) time now) self.new }
         ensures refused { (hosts : List HostDef) (seat after : Seat) (time : ℕ) (p : Process)
-            → IsUnitOf hosts seat time self.old → IsProcess p id from tag class cdb.now
+            → IsUnitOf hosts seat time self.old → IsKnownAs p served.now
             → seat_after_refuse p seat ≡ Some after → result ≡ accepted.Full }
         ensures refuses { (hosts : List HostDef) (seat after : Seat) (time : ℕ) (p : Process)
-            → IsUnitOf hosts seat time self.old → IsProcess p id from tag class cdb.now → IsNew hosts seat p
+            → IsUnitOf hosts seat time self.old → IsKnownAs p served.now → IsNew hosts seat p
             → seat_after_refuse p seat ≡ Some after
             → IsUnitOf hosts (settled_seat after) (seat_time seat (settled_seat after) time now) self.new }
         ensures full { (hosts : List HostDef) (seat : Seat) (time : ℕ) (p : Process)
-            → IsUnitOf hosts seat time self.old → IsProcess p id from tag class cdb.now → IsNew hosts seat p
+            → IsUnitOf hosts seat time self.old → IsKnownAs p served.now → IsNew hosts seat p
             → result ≡ accepted.Full → seat_after_accept p seat ≡ None }
         ensures spare { spare_of self.new ≡ spare_of self.old }
     {
         match self {
-            LogicalUnit::There(seated) => seated.accept(id, from, tag, class, cdb, now),
+            LogicalUnit::There(seated) => seated.accept(served, now),
             LogicalUnit::Absent(_) => Accepted::AtOnce,
         }
     }

@@ -21,12 +21,13 @@ ghost use Rattle.tape_unit.specs.Drives.{drive_contents, drive_spare};
 ghost use Rattle.target_units.specs.Fillings.{IsFresh, AreFilled, blocks_by_all as blocks_of_all};
 ghost use Rattle.target_units.specs.Loads.{AreLoaded};
 ghost use Rattle.target_units.specs.Rooms.{HasRoomFor, IsOfKind};
-ghost use Rattle.target_units.specs.Seated.{SeatedState, IsAtSeat, seat_time, taken_at, running_id, running_entry, running_block, current_reply, current_id, is_same_process, reply_kept, since_after, settled, with_books, IsProcess, IsNew, IsArrived, can_run, IsRun, IsRunLive, HasSent, IsSensing, state_after_failure, state_after_end, state_after_loss, books_after_guest, IsCut, seated_context, taken_in, current_entry, block_under, entry_from, ready_by_entry, room_by, room_at};
+ghost use Rattle.target_units.specs.Seated.{SeatedState, IsAtSeat, seat_time, taken_at, running_id, running_entry, running_block, current_reply, current_id, is_same_process, reply_kept, since_after, settled, with_books, IsKnownAs, IsNew, IsArrived, can_run, IsRun, IsRunLive, HasSent, IsSensing, state_after_failure, state_after_end, state_after_loss, books_after_guest, IsCut, seated_context, taken_in, current_entry, block_under, entry_from, ready_by_entry, room_by, room_at};
 
 use crate::fillings::{blocks_by_all, blocks_in_all, fill, fill_count};
 use crate::loads::{blocks_on, load};
 use crate::parts::{copy_part, is_sense};
 use crate::ready::Ready;
+use crate::served::Served;
 use array_model::same_id;
 use bus_base::{AbortKind, Class, Dev, NoMemory, Ns, Pick, ProcId};
 use cdb_codec::{ABORTED_COMMAND, CHECK_CONDITION, GOOD, Sense, sense_bytes};
@@ -282,29 +283,22 @@ impl SeatedUnit {
 
     /// The command of a process arrives at `now`, in ns, from an initiator: it waits as the last one, or is a REQUEST
     /// SENSE that runs at once outside the queue, or the queue is full and refuses it.
-    pub fn accept(
-        &mut self,
-        id: ProcId,
-        from: Dev,
-        tag: Option<u8>,
-        class: Class,
-        cdb: &[u8],
-        now: Ns,
-    ) -> Accepted
-        requires device { from < 8 }
-        requires most { length cdb.now ≤ 10 }
+    pub fn accept(&mut self, served: &Served<'_>, now: Ns) -> Accepted
+        requires device { served.now.from < 8 }
+        requires most { length served.now.cdb.now ≤ 10 }
         ensures exact { (arrived : SeatedState) × IsArrived self.old
-            (entry_with id from tag class (held_extent self.old.contents cdb.now)) cdb.now result arrived
+            (entry_with served.now.id served.now.from served.now.tag served.now.class
+            (held_extent self.old.contents served.now.cdb.now)) served.now.cdb.now result arrived
             × (self.new ≡ settled (current_id self.old.books) now arrived) }
         ensures accepts { (hosts : List HostDef) (seat after : Seat) (time : ℕ) (p : Process)
-            → IsAtSeat hosts seat time self.old → IsProcess p id from tag class cdb.now
+            → IsAtSeat hosts seat time self.old → IsKnownAs p served.now
             → IsOfKind p.serial seat.unit → IsNew hosts seat p → seat_after_accept p seat ≡ Some after
             → IsAtSeat hosts (settled_seat after) (seat_time seat (settled_seat after) time now) self.new }
         ensures refused { (hosts : List HostDef) (seat after : Seat) (time : ℕ) (p : Process)
-            → IsAtSeat hosts seat time self.old → IsProcess p id from tag class cdb.now
+            → IsAtSeat hosts seat time self.old → IsKnownAs p served.now
             → seat_after_refuse p seat ≡ Some after → result ≡ accepted.Full }
         ensures refuses { (hosts : List HostDef) (seat : Seat) (time : ℕ) (p : Process)
-            → IsAtSeat hosts seat time self.old → IsProcess p id from tag class cdb.now → IsNew hosts seat p
+            → IsAtSeat hosts seat time self.old → IsKnownAs p served.now → IsNew hosts seat p
             → result ≡ accepted.Full → (seat_after_accept p seat ≡ None)
             × (seat_after_refuse p seat ≡ Some (seat_with_guest seat p (Some queue_full)))
             × IsAtSeat hosts (settled_seat (seat_with_guest seat p (Some queue_full)))
@@ -312,7 +306,13 @@ impl SeatedUnit {
         ensures spare { self.new.spare ≡ self.old.spare }
     {
         let before = self.current_process();
-        let accepted = self.arrive(id, from, tag, class, cdb);
+        let accepted = self.arrive(
+            served.id,
+            served.from,
+            served.tag,
+            served.class,
+            served.cdb,
+        );
         self.settle(before, now);
         accepted
     }

@@ -20,7 +20,7 @@ ghost use Rattle.scsi_device.specs.Lines.{FitsBus};
 ghost use Rattle.disk_unit.specs.Plans.{plan_of};
 ghost use Rattle.disk_unit.specs.Units.{told_of};
 ghost use Rattle.disk_unit.specs.declared.unit.Accepted.TheVariants as accepted;
-ghost use Rattle.target_units.specs.Seated.{IsProcess, IsNew, HasSent, IsSensing, running_id, running_entry, running_block, current_reply};
+ghost use Rattle.target_units.specs.Seated.{IsKnownAs, IsNew, HasSent, IsSensing, running_id, running_entry, running_block, current_reply};
 ghost use Rattle.target_units.specs.Units.{IsUnitOf, AreUnitsOf, AreUnitsAfter, AreEarly, IsStep, unit_in, unit_after_reset, is_of_one, first_unit, reply_at, taken_by, taken_of, spare_of, no_unit, contents_in, contents_handed, state_contents, is_before as is_before_unit};
 ghost use Rattle.target_units.specs.Fillings.{blocks_at};
 ghost use Rattle.target_units.specs.Readies.{ready_unit};
@@ -29,7 +29,8 @@ ghost use Rattle.due_model.specs.Tasks.{room_of, size_of, reply_now};
 
 use crate::logical::LogicalUnit;
 use crate::ready::Ready;
-use bus_base::{AbortKind, Class, Dev, NoMemory, Ns, ProcId};
+use crate::served::Served;
+use bus_base::{AbortKind, Dev, NoMemory, Ns, ProcId};
 use disk_unit::{Accepted, Plan, Reply};
 use due_model::the_dialogue_model::Room;
 use scenario::{Scenario, TargetDef};
@@ -302,38 +303,30 @@ impl Units {
     }
 
     /// The command of a process arrives at `now`, in ns (`LogicalUnit::accept`).
-    pub fn accept(
-        &mut self,
-        unit: u8,
-        id: ProcId,
-        from: Dev,
-        tag: Option<u8>,
-        class: Class,
-        cdb: &[u8],
-        now: Ns,
-    ) -> Accepted
-        requires unit { unit < 8 }
-        requires device { from < 8 }
-        requires most { length cdb.now ≤ 10 }
+    pub fn accept(&mut self, served: &Served<'_>, now: Ns) -> Accepted
+        requires unit { served.now.unit < 8 }
+        requires device { served.now.from < 8 }
+        requires most { length served.now.cdb.now ≤ 10 }
         ensures array { (s : ScenarioValue) (a b : Array) (times : List ℕ) (p : Process)
-            → AreUnitsOf s a times self.old.dev self.old.units → IsOwn s self.old.dev unit p
-            → IsProcess p id from tag class cdb.now → IsNew s.hosts (seat_of a self.old.dev unit) p
-            → IsStep s (events.Accept id) a b → AreUnitsAfter s a b times now self.old.dev self.new.units }
+            → AreUnitsOf s a times self.old.dev self.old.units → IsOwn s self.old.dev served.now.unit p
+            → IsKnownAs p served.now → IsNew s.hosts (seat_of a self.old.dev served.now.unit) p
+            → IsStep s (events.Accept served.now.id) a b → AreUnitsAfter s a b times now self.old.dev self.new.units }
         ensures full { (s : ScenarioValue) (a : Array) (times : List ℕ) (p : Process)
-            → AreUnitsOf s a times self.old.dev self.old.units → IsOwn s self.old.dev unit p
-            → IsProcess p id from tag class cdb.now → IsNew s.hosts (seat_of a self.old.dev unit) p
-            → HasSeats s → IsSound s a → result ≡ accepted.Full → step s (events.Accept id) a ≡ None }
+            → AreUnitsOf s a times self.old.dev self.old.units → IsOwn s self.old.dev served.now.unit p
+            → IsKnownAs p served.now → IsNew s.hosts (seat_of a self.old.dev served.now.unit) p
+            → HasSeats s → IsSound s a → result ≡ accepted.Full → step s (events.Accept served.now.id) a ≡ None }
         ensures refused { (s : ScenarioValue) (a b : Array) (times : List ℕ) (p : Process)
-            → AreUnitsOf s a times self.old.dev self.old.units → IsOwn s self.old.dev unit p
-            → IsProcess p id from tag class cdb.now → IsStep s (events.Refuse id) a b → result ≡ accepted.Full }
+            → AreUnitsOf s a times self.old.dev self.old.units → IsOwn s self.old.dev served.now.unit p
+            → IsKnownAs p served.now → IsStep s (events.Refuse served.now.id) a b → result ≡ accepted.Full }
         ensures refuses { (s : ScenarioValue) (a b : Array) (times : List ℕ) (p : Process)
-            → AreUnitsOf s a times self.old.dev self.old.units → IsOwn s self.old.dev unit p
-            → IsProcess p id from tag class cdb.now → IsNew s.hosts (seat_of a self.old.dev unit) p
-            → IsStep s (events.Refuse id) a b → AreUnitsAfter s a b times now self.old.dev self.new.units }
+            → AreUnitsOf s a times self.old.dev self.old.units → IsOwn s self.old.dev served.now.unit p
+            → IsKnownAs p served.now → IsNew s.hosts (seat_of a self.old.dev served.now.unit) p
+            → IsStep s (events.Refuse served.now.id) a b → AreUnitsAfter s a b times now self.old.dev self.new.units }
         ensures dev { self.new.dev ≡ self.old.dev }
         ensures seek { self.new.seek ≡ self.old.seek }
     {
-        self.units[unit as usize].accept(id, from, tag, class, cdb, now)
+        let unit = served.unit;
+        self.units[unit as usize].accept(served, now)
     }
 
     /// A process runs at `now`, in ns, with the bytes that it sent (`LogicalUnit::run`). A process of the queue whose

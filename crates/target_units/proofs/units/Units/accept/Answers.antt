@@ -13,7 +13,7 @@ use Rattle.target_units.proofs.units.Units.accept.Goals as goal
 pub returns-clause-array : goal.returns-clause-array
 returns-clause-array c = λ s a b times p h own words new st.
     let dev : ℕ = c.args.self.now.dev in
-    let n : ℕ = c.args.unit in
+    let n : ℕ = c.args.served.now.unit in
     let same_units : c.self.inside.units ≡ c.args.self.now.units = λ i. (c.self.view_is i).units in
     let step : IsStep s (events.Accept p.id) a b = subst
     (λ (k : ProcId). IsStep s (events.Accept k) a b) (sym words.id_is) st in
@@ -29,7 +29,7 @@ returns-clause-array c = λ s a b times p h own words new st.
 pub returns-clause-refuses : goal.returns-clause-refuses
 returns-clause-refuses c = λ s a b times p h own words new st.
     let dev : ℕ = c.args.self.now.dev in
-    let n : ℕ = c.args.unit in
+    let n : ℕ = c.args.served.now.unit in
     let same_units : c.self.inside.units ≡ c.args.self.now.units = λ i. (c.self.view_is i).units in
     let step : IsStep s (events.Refuse p.id) a b = subst
     (λ (k : ProcId). IsStep s (events.Refuse k) a b) (sym words.id_is) st in
@@ -44,7 +44,7 @@ returns-clause-refuses c = λ s a b times p h own words new st.
 pub returns-clause-full : goal.returns-clause-full
 returns-clause-full c = λ s a times p h own words new seats sound full.
     let dev : ℕ = c.args.self.now.dev in
-    let n : ℕ = c.args.unit in
+    let n : ℕ = c.args.served.now.unit in
     let seen = unit_seen s a times dev n c.args.self.now.units c.self.inside.units
     c.index-self-unit.result c.requires.unit h (λ i. (c.self.view_is i).units) in
     (λ i. step s (events.Accept (sym words.id_is i)) a) ∙ accept_none s a p dev n seats sound own
@@ -53,7 +53,7 @@ returns-clause-full c = λ s a times p h own words new seats sound full.
 pub returns-clause-refused : goal.returns-clause-refused
 returns-clause-refused c = λ s a b times p h own words st.
     let dev : ℕ = c.args.self.now.dev in
-    let n : ℕ = c.args.unit in
+    let n : ℕ = c.args.served.now.unit in
     let seen = unit_seen s a times dev n c.args.self.now.units c.self.inside.units
     c.index-self-unit.result c.requires.unit h (λ i. (c.self.view_is i).units) in
     let step : IsStep s (events.Refuse p.id) a b = subst
