@@ -59,8 +59,8 @@ use crate::due::{
 use crate::known::{Known, Sources, is_quiet, is_still, known_of, see_known};
 use crate::processes::{Processes, units_stay_by_row};
 use crate::turn::{
-    RowEvents, Sent, Turn, course_of, is_opening, no_turn, process_known, reply_seen, see_beginning,
-    see_course, see_events, see_sent,
+    RowEvents, Sent, Turn, course_of, is_opening, no_turn, process_known, reply_seen,
+    see_beginning, see_course, see_events, see_sent,
 };
 use array_model::arrays_are_sound;
 use bus_base::{Dev, Event, NoMemory, Ns, ProcId};
@@ -339,13 +339,7 @@ impl Target {
     }
 
     // The same, with this initiator.
-    fn offering_in(
-        &self,
-        observer: &Observer,
-        from: Dev,
-        course: &Course,
-        pulsed: bool,
-    ) -> Offering
+    fn offering_in(&self, observer: &Observer, from: Dev, course: &Course, pulsed: bool) -> Offering
         requires device { from < 8 }
         requires course { self.now.course ≡ Some course.now }
         ensures trace { (s : ScenarioValue) (rows : List Row) (n : Connection) → FitsBus s

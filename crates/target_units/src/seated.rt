@@ -306,13 +306,7 @@ impl SeatedUnit {
         ensures spare { self.new.spare ≡ self.old.spare }
     {
         let before = self.current_process();
-        let accepted = self.arrive(
-            served.id,
-            served.from,
-            served.tag,
-            served.class,
-            served.cdb,
-        );
+        let accepted = self.arrive(served.id, served.from, served.tag, served.class, served.cdb);
         self.settle(before, now);
         accepted
     }
